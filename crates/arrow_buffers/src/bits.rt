@@ -1,4 +1,4 @@
-ghost use Rattle.std.specs.Prelude.{◌≡◌};
+ghost use Rattle.std.specs.Prelude.{◌≡◌, IfOk};
 ghost use Rattle.arrow_buffers.specs.Bits.{bits_of, validity_of, flag_of};
 
 use crate::BufferFault;
@@ -29,7 +29,8 @@ impl<'a> Bits<'a> {
     /// one bit a row, and `nulls` is not looked at.
     #[tactic(auto, unfolding(crate::specs::Bits::validity_of, crate::specs::Bits::bits_of))]
     pub fn validity(bytes: &'a [u8], rows: u64, nulls: i64) -> Result<Bits<'a>, BufferFault>
-        ensures { result ≡ validity_of bytes.now rows nulls }
+        ensures exact { result ≡ validity_of bytes.now rows nulls }
+        ensures view { IfOk result (λ b. b ≡ record { bytes = bytes.now; rows = rows }) }
     {
         if bytes.is_empty() {
             if nulls > 0 {
@@ -43,7 +44,8 @@ impl<'a> Bits<'a> {
     /// The values of a boolean column: `Short` where there is less than one bit a row.
     #[tactic(auto, unfolding(crate::specs::Bits::bits_of))]
     pub fn values(bytes: &'a [u8], rows: u64) -> Result<Bits<'a>, BufferFault>
-        ensures { result ≡ bits_of bytes.now rows }
+        ensures exact { result ≡ bits_of bytes.now rows }
+        ensures view { IfOk result (λ b. b ≡ record { bytes = bytes.now; rows = rows }) }
     {
         if (bytes.len() as u128) * 8 < u128::from(rows) {
             return Err(BufferFault::Short);

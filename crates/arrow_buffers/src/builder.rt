@@ -63,7 +63,8 @@ impl ColumnBuilder {
 
     /// Adds a cell behind the others; `None` is null. The cell has the column's width, and the
     /// values of all cells stay below 2^31 bytes together. Takes amortised constant time for each
-    /// byte of the cell. After want of memory the column is as before.
+    /// byte of the cell. After want of memory, which a row that Arrow could not count is answered
+    /// as, the column is as before.
     pub fn push(&mut self, cell: Option<&[u8]>) -> Result<(), AllocError>
         requires width { ForSome (option_copied cell) (HasWidth self.old.width) }
         requires room { cells_len self.old.cells + cell_len (option_copied cell) < 2 ^ 31 }

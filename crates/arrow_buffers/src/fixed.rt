@@ -1,4 +1,4 @@
-ghost use Rattle.std.specs.Prelude.{◌≡◌, ◌≤◌};
+ghost use Rattle.std.specs.Prelude.{◌≡◌, ◌≤◌, IfOk};
 ghost use Rattle.std.specs.Option.{option_copied};
 ghost use Rattle.arrow_buffers.specs.Fixed.{fixed_of, part_of};
 
@@ -30,7 +30,8 @@ impl<'a> Fixed<'a> {
     #[tactic(auto, unfolding(crate::specs::Fixed::fixed_of))]
     pub fn new(bytes: &'a [u8], width: u32, rows: u64) -> Result<Fixed<'a>, BufferFault>
         requires { 1 ≤ width }
-        ensures { result ≡ fixed_of bytes.now width rows }
+        ensures exact { result ≡ fixed_of bytes.now width rows }
+        ensures view { IfOk result (λ f. f ≡ record { bytes = bytes.now; width = width; rows = rows }) }
     {
         if (bytes.len() as u128) < u128::from(rows) * u128::from(width) {
             return Err(BufferFault::Short);

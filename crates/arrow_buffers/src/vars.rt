@@ -1,4 +1,4 @@
-ghost use Rattle.std.specs.Prelude.{◌≡◌, IsOk};
+ghost use Rattle.std.specs.Prelude.{◌≡◌, IfOk, IsOk};
 ghost use Rattle.std.specs.Option.{option_copied};
 ghost use Rattle.std.specs.Str.{is_utf8};
 ghost use Rattle.arrow_buffers.specs.Vars.{vars_of, span_of, is_text_at, utf8_check};
@@ -33,7 +33,8 @@ impl<'a> Vars<'a> {
     /// the one before, or past the values. It reads each offset once.
     #[tactic(auto, unfolding(crate::specs::Vars::vars_of))]
     pub fn new(offsets: &'a [u8], values: &'a [u8], rows: u64) -> Result<Vars<'a>, BufferFault>
-        ensures { result ≡ vars_of offsets.now values.now rows }
+        ensures exact { result ≡ vars_of offsets.now values.now rows }
+        ensures view { IfOk result (λ v. v ≡ record { offsets = offsets.now; values = values.now; rows = rows }) }
     {
         offsets::check(offsets, values, 1, rows)?;
         Ok(Vars {
