@@ -1,0 +1,106 @@
+-- A column without cells, and one that ends.
+use Rattle.std.proofs.Common.{◌≡◌, ℕ, ◌+◌, ◌*◌, ◌<◌, ◌≤◌, ◌==◌, ◌&&◌, if◌then◌else◌, Bool, true, false, pos, List, [], length, is_none, Option, Some, None, Ok, get_or, refl, sym, ap, inl, inr, arith}
+use Rattle.std.proofs.lemmas.Bool.{cases_eq, cond-true, cond-false, eq-eqb, ne_eqb, le-ltb, and_right}
+use Rattle.std.proofs.lemmas.List.Sums.{get_or-le-sum_by}
+use Rattle.arrow_buffers.specs.declared.width.Width.{Width}
+use Rattle.arrow_buffers.specs.declared.width.Width.TheVariants.{Bit, Fixed, Var}
+use Rattle.arrow_buffers.specs.Bits.{is_valid, bits_of, validity_of}
+use Rattle.arrow_buffers.specs.Fixed.{fixed_of}
+use Rattle.arrow_buffers.specs.Offsets.{offset_at, is_fine, offsets_check}
+use Rattle.arrow_buffers.specs.Vars.{vars_of}
+use Rattle.arrow_buffers.specs.Packed.{IsPacked}
+use Rattle.arrow_buffers.specs.Columns.{HasNoFault, cell_at, cells_of, offsets_len, value_at, values_len}
+use Rattle.arrow_buffers.specs.Building.{ended, ended_offsets, cells_so_far, HasSpans, HasValues, IsBuilt}
+use Rattle.arrow_buffers.proofs.BitPlaces.{bit_at-past}
+use Rattle.arrow_buffers.proofs.Placing.{length-ended, offset_at-end}
+use Rattle.arrow_buffers.proofs.Growing.{get_or-cells_of, length-cells_of, nulls-le, same-below}
+
+-- no bits
+packed-none : IsPacked 0 []
+packed-none = record { len = refl; spare = λ k _. bit_at-past [] k (omega arith) }
+
+-- no rows, and the one offset
+spans-none : HasSpans 1 0 [] []
+spans-none = record {
+  offsets_len = refl;
+  whole = refl;
+  fits = omega arith;
+  fine = let first : offset_at (ended 1 [] []) 0 ≡ 0 = offset_at-end [] 0 0 refl (omega arith) in ap (λ (o : ℕ). is_fine 0 o 1 0) first;
+}
+
+values-none : (width : Width) → HasValues width 0 [] []
+values-none Bit = (refl, packed-none)
+values-none (Fixed width) = (refl, omega arith)
+values-none Var = spans-none
+
+lengths-none : (width : Width) → 0 ≡ values_len width []
+lengths-none Bit = refl
+lengths-none (Fixed width) = omega arith
+lengths-none Var = refl
+
+pub built-none : (width : Width) → IsBuilt width 0 0 [] [] []
+unfolding cells_of
+built-none width = record {
+  few = omega arith;
+  bitmap = packed-none;
+  stored = values-none width;
+  lengths = lengths-none width;
+  counted = refl;
+}
+
+-- a cell that is not counted as null is valid
+valid-from : (valid : Bool) (value : List ℕ) → (if is_none (if valid then Some value else None) then 1 else 0) ≤ 0 → valid ≡ true
+valid-from true value none = refl
+valid-from false value none = absurd (omega arith)
+
+-- without nulls the bitmap may be left out
+pub reads-needed : (width : Width) (rows nulls : ℕ) (bitmap offsets values : List ℕ) → IsBuilt width rows nulls bitmap offsets values → cells_of width (if nulls == 0 then [] else bitmap) (ended_offsets width offsets values) values rows ≡ cells_so_far width bitmap offsets values rows
+unfolding cells_of
+reads-needed width rows nulls bitmap offsets values built =
+    let ended = ended_offsets width offsets values in
+    let cells = cells_so_far width bitmap offsets values rows in
+    let cell : ℕ → Option (List ℕ) = cell_at width bitmap ended values in
+    let weight : Option (List ℕ) → ℕ = λ c. if is_none c then 1 else 0 in
+    elim (cases_eq nulls 0) [
+      | inl none ↦
+          let all : (k : ℕ) → k < rows → cell_at width [] ended values k ≡ cell k =
+          λ k below.
+          let count = length-cells_of width bitmap ended values rows in
+          let is = get_or-cells_of width bitmap ended values rows k None below in
+          let one = get_or-le-sum_by weight cells k None (omega arith) in
+          let counted = built.counted in
+          let none_at : weight (get_or cells k None) ≤ 0 = omega arith in
+          let light : weight (cell k) ≤ 0 = rw is at none_at in
+          let valid : is_valid bitmap k ≡ true = valid-from (is_valid bitmap k) (value_at width ended values k) light in
+          ap (λ (v : Bool). if v then Some (value_at width ended values k) else None) (sym valid) in
+          rw (cond-true (nulls == 0) [] bitmap (eq-eqb nulls 0 none)) (same-below (cell_at width [] ended values) cell rows None all)
+      | inr some ↦ rw (cond-false (nulls == 0) [] bitmap (ne_eqb nulls 0 some)) refl
+    ]
+
+pub bitmap-needed : (width : Width) (rows nulls : ℕ) (bitmap offsets values : List ℕ) → IsBuilt width rows nulls bitmap offsets values → validity_of (if nulls == 0 then [] else bitmap) rows (pos nulls) ≡ Ok (record { bytes = if nulls == 0 then [] else bitmap; rows = rows })
+unfolding validity_of bits_of
+bitmap-needed width rows nulls bitmap offsets values built =
+    let le = nulls-le width rows nulls bitmap offsets values built in
+    let len = built.bitmap.len in
+    elim (cases_eq nulls 0) [
+      | inl none ↦ rw none refl
+      | inr some ↦ rw (ne_eqb nulls 0 some, ne_eqb (length bitmap) 0 (omega arith), le-ltb (length bitmap * 8) rows (omega arith)) refl
+    ]
+
+-- no fault stands in what is stored
+pub no-fault : (width : Width) (rows : ℕ) (offsets values : List ℕ) → HasValues width rows offsets values → HasNoFault width (ended_offsets width offsets values) values rows
+unfolding bits_of fixed_of vars_of offsets_check
+no-fault Bit rows offsets values has = let len = has.1.len in rw (le-ltb (length values * 8) rows (omega arith)) refl
+no-fault (Fixed width) rows offsets values has = rw (le-ltb (length values) (rows * width) (omega (arith, has.1))) refl
+no-fault Var rows offsets values has =
+    let all = ended 1 offsets values in
+    let was = has.offsets_len in
+    let len : length all ≡ 4 * (rows + 1) = omega (arith, length-ended 1 offsets values) in
+    let some : (rows == 0 && length all == 0) ≡ false = and_right (rows == 0) (length all == 0) (ne_eqb (length all) 0 (omega arith)) in
+    rw (some, le-ltb (length all) (4 * (rows + 1)) (omega arith), has.fine) refl
+
+pub offsets_len-ended : (width : Width) (rows : ℕ) (offsets values : List ℕ) → HasValues width rows offsets values → length (ended_offsets width offsets values) ≡ offsets_len width rows
+offsets_len-ended Bit rows offsets values has = ap length has.0
+offsets_len-ended (Fixed width) rows offsets values has = ap length has.0
+offsets_len-ended Var rows offsets values has =
+    let len = has.offsets_len in omega (arith, length-ended 1 offsets values)

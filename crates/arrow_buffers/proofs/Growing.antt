@@ -1,0 +1,81 @@
+-- One more cell: the column with it.
+use Rattle.std.proofs.Common.{◌≡◌, ℕ, ◌+◌, ◌^◌, ◌<◌, ◌≤◌, ◌==◌, if◌then◌else◌, Bool, true, List, [], ◌∷◌, ◌++◌, length, get_or, map, is_some, is_none, Option, Some, None, refl, sym, ap, ◌∙◌, arith}
+use Rattle.std.specs.List.{range_with_len}
+use Rattle.std.specs.Option.{ForSome}
+use Rattle.std.proofs.lemmas.Bool.{cond-true, cond-false, eq-eqb, ne_eqb}
+use Rattle.std.proofs.lemmas.List.FromFn.{fill_by_all, length-map-range_with_len, get_or-map-range_with_len, map-range_with_len_more}
+use Rattle.std.proofs.lemmas.List.Sums.{count_by-le-length, sum_by_push}
+use Rattle.arrow_buffers.specs.declared.width.Width.{Width}
+use Rattle.arrow_buffers.specs.Bits.{bit_at, is_valid}
+use Rattle.arrow_buffers.specs.Packed.{IsPacked, PushesBit}
+use Rattle.arrow_buffers.specs.Columns.{cell_at, cells_of, value_at}
+use Rattle.arrow_buffers.specs.Building.{ended_offsets, cells_so_far, IsBuilt, PushesValue}
+
+-- two lists that are made alike
+pub same-below : {X : Type 0} (f g : ℕ → X) (n : ℕ) (d : X) → ((k : ℕ) → k < n → f k ≡ g k) → map f (range_with_len 0 n) ≡ map g (range_with_len 0 n)
+same-below f g n d each =
+    fill_by_all g (map f (range_with_len 0 n)) n d (length-map-range_with_len f 0 n) (λ k below. get_or-map-range_with_len f 0 n k k d below (omega arith) ∙ each k below)
+
+one-more : {X : Type 0} (f g : ℕ → X) (n : ℕ) (x : X) → ((k : ℕ) → k < n → f k ≡ g k) → f n ≡ x → map f (range_with_len 0 (n + 1)) ≡ map g (range_with_len 0 n) ++ x ∷ []
+one-more f g n x each here =
+    map-range_with_len_more f 0 n n (omega arith) ∙ ap (λ xs. xs ++ f n ∷ []) (same-below f g n x each) ∙ ap (λ y. map g (range_with_len 0 n) ++ y ∷ []) here
+
+-- there is a cell for each row
+pub length-cells_of : (width : Width) (validity offsets values : List ℕ) (rows : ℕ) → length (cells_of width validity offsets values rows) ≡ rows
+unfolding cells_of
+length-cells_of width validity offsets values rows =
+    length-map-range_with_len (cell_at width validity offsets values) 0 rows
+
+pub get_or-cells_of : (width : Width) (validity offsets values : List ℕ) (rows row : ℕ) (d : Option (List ℕ)) → row < rows → get_or (cells_of width validity offsets values rows) row d ≡ cell_at width validity offsets values row
+unfolding cells_of
+get_or-cells_of width validity offsets values rows row d below =
+    get_or-map-range_with_len (cell_at width validity offsets values) 0 rows row row d below (omega arith)
+
+-- a bitmap with a bit for each row says which rows are valid
+pub is_valid-bit : (rows k : ℕ) (bytes : List ℕ) → IsPacked rows bytes → k < rows → is_valid bytes k ≡ bit_at bytes k
+is_valid-bit rows k bytes packed below =
+    let len = packed.len in cond-false (length bytes == 0) true (bit_at bytes k) (ne_eqb (length bytes) 0 (omega arith))
+
+-- a cell by its two parts
+cell_by : Bool → List ℕ → Option (List ℕ)
+cell_by valid value = if valid then Some value else None
+
+cell-there : (cell : Option (List ℕ)) (valid : Bool) (value : List ℕ) → valid ≡ is_some cell → ForSome cell (λ v. value ≡ v) → cell_by valid value ≡ cell
+unfolding cell_by
+cell-there None valid value is same = rw is refl
+cell-there (Some v) valid value is same = rw (is, same v refl) refl
+
+pub cells-next : (width : Width) (rows : ℕ) (cell : Option (List ℕ)) (bitmap offsets values new_bitmap new_offsets new_values : List ℕ) → IsPacked rows bitmap → PushesBit rows (is_some cell) bitmap new_bitmap → PushesValue width rows cell offsets values new_offsets new_values → cells_so_far width new_bitmap new_offsets new_values (rows + 1) ≡ cells_so_far width bitmap offsets values rows ++ cell ∷ []
+unfolding cell_by cells_of
+cells-next width rows cell bitmap offsets values new_bitmap new_offsets new_values packed bit value =
+    let old : ℕ → Option (List ℕ) = cell_at width bitmap (ended_offsets width offsets values) values in
+    let new : ℕ → Option (List ℕ) = cell_at width new_bitmap (ended_offsets width new_offsets new_values) new_values in
+    let before : (k : ℕ) → k < rows → new k ≡ old k =
+    λ k below.
+    let is : is_valid new_bitmap k ≡ is_valid bitmap k =
+    is_valid-bit (rows + 1) k new_bitmap bit.packed (omega arith) ∙ bit.bits k ∙ cond-false (k == rows) (is_some cell) (bit_at bitmap k) (ne_eqb k rows (omega arith)) ∙ sym (is_valid-bit rows k bitmap packed below) in
+    ap (λ (v : Bool). cell_by v (value_at width (ended_offsets width new_offsets new_values) new_values k)) is ∙ ap (cell_by (is_valid bitmap k)) (value.before k below) in
+    let is : is_valid new_bitmap rows ≡ is_some cell =
+    is_valid-bit (rows + 1) rows new_bitmap bit.packed (omega arith) ∙ bit.bits rows ∙ cond-true (rows == rows) (is_some cell) (bit_at bitmap rows) (eq-eqb rows rows refl) in
+    one-more new old rows cell before (cell-there cell (is_valid new_bitmap rows) (value_at width (ended_offsets width new_offsets new_values) new_values rows) is value.there)
+
+pub built-next : (width : Width) (rows nulls : ℕ) (cell : Option (List ℕ)) (bitmap offsets values new_bitmap new_offsets new_values : List ℕ) → rows + 1 < 2 ^ 63 → IsBuilt width rows nulls bitmap offsets values → PushesBit rows (is_some cell) bitmap new_bitmap → PushesValue width rows cell offsets values new_offsets new_values → IsBuilt width (rows + 1) (nulls + (if is_none cell then 1 else 0)) new_bitmap new_offsets new_values
+built-next width rows nulls cell bitmap offsets values new_bitmap new_offsets new_values few built bit value =
+    let next = cells-next width rows cell bitmap offsets values new_bitmap new_offsets new_values built.bitmap bit value in
+    let cells = cells_so_far width bitmap offsets values rows in
+    let count = length-cells_of width bitmap (ended_offsets width offsets values) values rows in
+    record {
+      few = few;
+      bitmap = bit.packed;
+      stored = value.stored;
+      lengths = rw next (value.grown cells count built.lengths);
+      counted = rw (next, sum_by_push (λ c. if is_none c then 1 else 0) cells cell) (ap (λ n. n + (if is_none cell then 1 else 0)) built.counted);
+    }
+
+-- no more nulls than rows
+pub nulls-le : (width : Width) (rows nulls : ℕ) (bitmap offsets values : List ℕ) → IsBuilt width rows nulls bitmap offsets values → nulls ≤ rows
+nulls-le width rows nulls bitmap offsets values built =
+    let cells = cells_so_far width bitmap offsets values rows in
+    let count = length-cells_of width bitmap (ended_offsets width offsets values) values rows in
+    let is = built.counted in
+    omega (arith, count_by-le-length is_none cells)

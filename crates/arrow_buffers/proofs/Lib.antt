@@ -1,0 +1,10 @@
+pub mod BitPlaces
+pub mod CellLaws
+pub mod EachBelow
+pub mod Ending
+pub mod Faults
+pub mod Growing
+pub mod Joining
+pub mod Placing
+pub mod Pushing
+pub mod Spans

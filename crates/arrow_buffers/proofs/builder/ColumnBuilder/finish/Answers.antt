@@ -1,0 +1,33 @@
+use Rattle.std.proofs.Common.{sym}
+use Rattle.arrow_buffers.specs.Building.{ended_offsets}
+use Rattle.arrow_buffers.proofs.Ending.{reads-needed, bitmap-needed, no-fault, offsets_len-ended}
+use Rattle.arrow_buffers.proofs.Growing.{length-cells_of}
+use Rattle.arrow_buffers.proofs.builder.ColumnBuilder.finish.Goals as goal
+
+pub returns-clause-rows : goal.returns-clause-rows
+returns-clause-rows c =
+    let b = c.self.inside in
+    rw (← c.self.view_is) (sym (length-cells_of b.width b.validity.items (ended_offsets b.width b.offsets.items b.values.items) b.values.items b.rows))
+
+pub returns-clause-reads : goal.returns-clause-reads
+returns-clause-reads c =
+    let b = c.self.inside in
+    let reads = reads-needed b.width b.rows b.nulls b.validity.items b.offsets.items b.values.items c.self.invariant in
+    rw (← c.self.view_is, c.needed_bitmap-validity.ensures, c.in_ok-offsets.ensures, c.as_slice.ensures.value) reads
+
+pub returns-clause-bitmap : goal.returns-clause-bitmap
+returns-clause-bitmap c =
+    let b = c.self.inside in
+    rw c.needed_bitmap-validity.ensures (bitmap-needed b.width b.rows b.nulls b.validity.items b.offsets.items b.values.items c.self.invariant)
+
+pub returns-clause-no_fault : goal.returns-clause-no_fault
+returns-clause-no_fault c =
+    let b = c.self.inside in
+    let none = no-fault b.width b.rows b.offsets.items b.values.items c.self.invariant.stored in
+    rw (← c.self.view_is, c.in_ok-offsets.ensures, c.as_slice.ensures.value) none
+
+pub returns-clause-offsets_len : goal.returns-clause-offsets_len
+returns-clause-offsets_len c =
+    let b = c.self.inside in
+    let len = offsets_len-ended b.width b.rows b.offsets.items b.values.items c.self.invariant.stored in
+    rw (← c.self.view_is, c.in_ok-offsets.ensures, c.as_slice.ensures.value) len

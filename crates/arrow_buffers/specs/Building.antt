@@ -1,0 +1,58 @@
+-- What a column has in hand while it grows: its buffers but for the last offset.
+use Rattle.std.specs.Prelude.{◌≡◌, ℕ, ◌+◌, ◌*◌, ◌/◌, ◌%◌, ◌^◌, ◌<◌, ⊤, true, is_none, count_by, List, [], ◌∷◌, ◌++◌, length, Option}
+use Rattle.std.specs.Option.{ForSome}
+use Rattle.arrow_buffers.specs.declared.width.Width.{Width}
+use Rattle.arrow_buffers.specs.declared.width.Width.TheVariants.{Bit, Fixed, Var}
+use Rattle.arrow_buffers.specs.Below.{all_below}
+use Rattle.arrow_buffers.specs.Offsets.{is_fine_at, offset_bytes}
+use Rattle.arrow_buffers.specs.Packed.{IsPacked}
+use Rattle.arrow_buffers.specs.Columns.{cells_of, value_at, values_len}
+
+-- the offsets with one more, which counts the elements so far
+abbrev pub ended : ℕ → List ℕ → List ℕ → List ℕ
+ended element offsets values = offsets ++ offset_bytes (length values / element)
+
+-- the offsets as they are when the column ends here
+abbrev pub ended_offsets : Width → List ℕ → List ℕ → List ℕ
+ended_offsets Bit offsets values = offsets
+ended_offsets (Fixed width) offsets values = offsets
+ended_offsets Var offsets values = ended 1 offsets values
+
+-- the offsets of so many rows, each fine, into whole elements
+pub record HasSpans (element rows : ℕ) (offsets values : List ℕ) : Type 0 where
+  pub offsets_len : length offsets ≡ 4 * rows
+  pub whole : length values % element ≡ 0
+  pub fits : length values < 2 ^ 31
+  pub fine : all_below (is_fine_at element (ended element offsets values) values) (rows + 1) ≡ true
+
+-- the buffers have a value for each of so many rows
+abbrev pub HasValues : Width → ℕ → List ℕ → List ℕ → Type 0
+HasValues Bit rows offsets values = (offsets ≡ []) × IsPacked rows values
+HasValues (Fixed width) rows offsets values = (offsets ≡ []) × (length values ≡ rows * width)
+HasValues Var rows offsets values = HasSpans 1 rows offsets values
+
+-- offsets can count so many bytes, where there are offsets
+abbrev pub OffsetsFit : Width → ℕ → Type 0
+OffsetsFit Bit len = ⊤
+OffsetsFit (Fixed width) len = ⊤
+OffsetsFit Var len = len < 2 ^ 31
+
+-- one more value behind those of so many rows, which are as they were
+pub record PushesValue (width : Width) (rows : ℕ) (cell : Option (List ℕ)) (offsets values new_offsets new_values : List ℕ) : Type 0 where
+  pub stored : HasValues width (rows + 1) new_offsets new_values
+  pub before : (k : ℕ) → k < rows → value_at width (ended_offsets width new_offsets new_values) new_values k ≡ value_at width (ended_offsets width offsets values) values k
+  pub there : ForSome cell (λ value. value_at width (ended_offsets width new_offsets new_values) new_values rows ≡ value)
+  pub grown : (cells : List (Option (List ℕ))) → length cells ≡ rows → length values ≡ values_len width cells → length new_values ≡ values_len width (cells ++ cell ∷ [])
+
+-- the cells so far
+abbrev pub cells_so_far : Width → List ℕ → List ℕ → List ℕ → ℕ → List (Option (List ℕ))
+cells_so_far width validity offsets values rows =
+    cells_of width validity (ended_offsets width offsets values) values rows
+
+-- all of them together
+pub record IsBuilt (width : Width) (rows nulls : ℕ) (validity offsets values : List ℕ) : Type 0 where
+  pub few : rows < 2 ^ 63
+  pub bitmap : IsPacked rows validity
+  pub stored : HasValues width rows offsets values
+  pub lengths : length values ≡ values_len width (cells_so_far width validity offsets values rows)
+  pub counted : nulls ≡ count_by is_none (cells_so_far width validity offsets values rows)

@@ -1,0 +1,75 @@
+-- A column of cells, and how they stand in its buffers (Arrow columnar format, "Physical memory
+-- layout").
+use Rattle.std.specs.Prelude.{◌≡◌, ℕ, ◌+◌, ◌*◌, ◌/◌, ◌<◌, ◌==◌, Bool, false, ⊤, if◌then◌else◌, List, [], ◌∷◌, length, map, sum_by, slice_index, Option, Some, None, Ok}
+use Rattle.std.specs.List.{range_with_len}
+use Rattle.arrow_buffers.specs.declared.width.Width.{Width}
+use Rattle.arrow_buffers.specs.declared.width.Width.TheVariants.{Bit, Fixed, Var}
+use Rattle.arrow_buffers.specs.Bits.{bit_at, is_valid, bits_of}
+use Rattle.arrow_buffers.specs.Fixed.{part_at, fixed_of}
+use Rattle.arrow_buffers.specs.Offsets.{span_at}
+use Rattle.arrow_buffers.specs.Vars.{vars_of}
+
+-- the cells of a column in the order of its rows; null is None
+pub record ColumnIn : Type 0 where
+  pub width : Width
+  pub cells : List (Option (List ℕ))
+
+-- a value has the column's width: for bits it is one byte, 0 or 1
+abbrev pub HasWidth : Width → List ℕ → Type 0
+HasWidth Bit value = (length value ≡ 1) × (slice_index value 0 < 2)
+HasWidth (Fixed width) value = length value ≡ width
+HasWidth Var value = ⊤
+
+-- the bytes of a cell, and of all cells that are not null
+abbrev pub cell_len : Option (List ℕ) → ℕ
+cell_len None = 0
+cell_len (Some value) = length value
+
+abbrev pub cells_len : List (Option (List ℕ)) → ℕ
+cells_len cells = sum_by cell_len cells
+
+-- whether a value is the bit 1
+abbrev pub is_one : Option (List ℕ) → Bool
+is_one None = false
+is_one (Some value) = slice_index value 0 == 1
+
+-- the byte that a bit is given as
+abbrev pub bit_byte : Bool → List ℕ
+bit_byte bit = (if bit then 1 else 0) ∷ []
+
+-- a row's value by its place in the buffers
+abbrev pub value_at : Width → List ℕ → List ℕ → ℕ → List ℕ
+value_at Bit offsets values row = bit_byte (bit_at values row)
+value_at (Fixed width) offsets values row = part_at width values row
+value_at Var offsets values row = span_at 1 offsets values row
+
+-- a row's cell: null where its bit in the validity bitmap is 0
+abbrev pub cell_at : Width → List ℕ → List ℕ → List ℕ → ℕ → Option (List ℕ)
+cell_at width validity offsets values row =
+    if is_valid validity row then Some (value_at width offsets values row) else None
+
+-- the cells that the buffers of so many rows read as
+unfoldable pub cells_of : Width → List ℕ → List ℕ → List ℕ → ℕ → List (Option (List ℕ))
+cells_of width validity offsets values rows = map (cell_at width validity offsets values) (range_with_len 0 rows)
+
+-- no fault stands in the offsets and values of so many rows
+abbrev pub HasNoFault : Width → List ℕ → List ℕ → ℕ → Type 0
+HasNoFault Bit offsets values rows = bits_of values rows ≡ Ok (record { bytes = values; rows = rows })
+HasNoFault (Fixed width) offsets values rows =
+    fixed_of values width rows ≡ Ok (record { bytes = values; width = width; rows = rows })
+HasNoFault Var offsets values rows =
+    vars_of offsets values rows ≡ Ok (record { offsets = offsets; values = values; rows = rows })
+
+-- how long the buffers of a column are: the bitmap is left out where nothing is null
+abbrev pub validity_len : ℕ → ℕ → ℕ
+validity_len nulls rows = if nulls == 0 then 0 else (rows + 7) / 8
+
+abbrev pub offsets_len : Width → ℕ → ℕ
+offsets_len Bit rows = 0
+offsets_len (Fixed width) rows = 0
+offsets_len Var rows = 4 * (rows + 1)
+
+abbrev pub values_len : Width → List (Option (List ℕ)) → ℕ
+values_len Bit cells = (length cells + 7) / 8
+values_len (Fixed width) cells = length cells * width
+values_len Var cells = cells_len cells

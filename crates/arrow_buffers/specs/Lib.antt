@@ -1,0 +1,8 @@
+pub mod Below
+pub mod Bits
+pub mod Building
+pub mod Columns
+pub mod Fixed
+pub mod Offsets
+pub mod Packed
+pub mod Vars

@@ -1,0 +1,184 @@
+ghost use Rattle.std.specs.Prelude.{◌≡◌, ◌+◌, ◌^◌, ◌<◌, ◌==◌, if◌then◌else◌, [], ◌∷◌, ◌++◌, length, count_by, is_none, pos, Ok, IfOk, OnOk, OnErr};
+ghost use Rattle.std.specs.Option.{ForSome, option_copied};
+ghost use Rattle.arrow_buffers.specs.Bits.{validity_of};
+ghost use Rattle.arrow_buffers.specs.Columns.{HasWidth, HasNoFault, cell_len, cells_len, cells_of, is_one, validity_len, offsets_len, values_len};
+ghost use Rattle.arrow_buffers.specs.Building.{HasValues, OffsetsFit, PushesValue, ended_offsets};
+
+use crate::Width;
+use crate::packing::{push_bit, push_offset, push_part, push_span};
+use std::alloc::{AllocError, Global};
+use std::marker::Model;
+
+/// The most rows of a column: Arrow counts them in signed numbers of 64 bits.
+const MAX_ROWS: u64 = i64::MAX as u64;
+
+/// The buffers of a column, and what its node says of them.
+#[derive(Debug, Drop)]
+pub struct Buffers {
+    pub rows: u64,
+    pub nulls: u64,
+    pub validity: Vec<u8>,
+    pub offsets: Vec<u8>,
+    pub values: Vec<u8>,
+}
+
+/// A column that grows cell by cell.
+#[derive(Debug, Drop)]
+pub struct ColumnBuilder {
+    width: Width,
+    rows: u64,
+    nulls: u64,
+    validity: Vec<u8>,
+    /// Where each value begins. The end of the last is only known when the column ends.
+    offsets: Vec<u8>,
+    values: Vec<u8>,
+}
+
+impl Model for ColumnBuilder {
+    ghost use Rattle.arrow_buffers.specs.Columns.{ColumnIn};
+    ghost use Rattle.arrow_buffers.specs.Building.{IsBuilt, cells_so_far};
+
+    ghost Value = { ColumnIn };
+
+    ghost view = { λ b. record { width = b.width; cells = cells_so_far b.width b.validity.items b.offsets.items b.values.items b.rows } };
+
+    ghost invariant = { λ b. IsBuilt b.width b.rows b.nulls b.validity.items b.offsets.items b.values.items };
+}
+
+impl ColumnBuilder {
+    /// A column without cells.
+    #[tactic(auto, unfolding(crate::specs::Columns::cells_of))]
+    pub fn new(alloc: Global, width: Width) -> ColumnBuilder
+        ensures { result ≡ record { width = width; cells = [] } }
+    {
+        ColumnBuilder {
+            width,
+            rows: 0,
+            nulls: 0,
+            validity: Vec::new(alloc),
+            offsets: Vec::new(alloc),
+            values: Vec::new(alloc),
+        }
+    }
+
+    /// Adds a cell behind the others; `None` is null. The cell has the column's width, and the
+    /// values of all cells stay below 2^31 bytes together. Takes amortised constant time for each
+    /// byte of the cell. After want of memory, which a row that Arrow could not count is answered
+    /// as, the column is as before.
+    pub fn push(&mut self, cell: Option<&[u8]>) -> Result<(), AllocError>
+        requires width { ForSome (option_copied cell) (HasWidth self.old.width) }
+        requires room { cells_len self.old.cells + cell_len (option_copied cell) < 2 ^ 31 }
+        ensures ok { OnOk result (self.new ≡ record { width = self.old.width; cells = self.old.cells ++ option_copied cell.entry ∷ [] }) }
+        ensures err { OnErr result (self.new ≡ self.old) }
+    {
+        if self.rows == MAX_ROWS {
+            return Err(AllocError);
+        }
+        self.validity.reserve(1)?;
+        push_value(
+            self.width,
+            self.rows,
+            cell,
+            &mut self.offsets,
+            &mut self.values,
+        )?;
+        push_bit(&mut self.validity, self.rows, cell.is_some());
+        self.rows += 1;
+        self.nulls += u64::from(cell.is_none());
+        Ok(())
+    }
+
+    /// The buffers of the column. Where no cell is null the bitmap is left out; without rows there
+    /// still is one offset. What stands for a null among the values is left open.
+    pub fn finish(self) -> Result<Buffers, AllocError>
+        ensures rows { IfOk result (λ b. b.rows ≡ length self.cells) }
+        ensures few { IfOk result (λ b. b.rows < 2 ^ 63) }
+        ensures nulls { IfOk result (λ b. b.nulls ≡ count_by is_none self.cells) }
+
+        // They read as the cells, and have no fault.
+        ensures reads { IfOk result (λ b. cells_of self.width b.validity.items b.offsets.items b.values.items b.rows ≡ self.cells) }
+        ensures bitmap { IfOk result (λ b. validity_of b.validity.items b.rows (pos b.nulls) ≡ Ok (record { bytes = b.validity.items; rows = b.rows })) }
+        ensures no_fault { IfOk result (λ b. HasNoFault self.width b.offsets.items b.values.items b.rows) }
+
+        ensures validity_len { IfOk result (λ b. length b.validity.items ≡ validity_len b.nulls b.rows) }
+        ensures offsets_len { IfOk result (λ b. length b.offsets.items ≡ offsets_len self.width b.rows) }
+        ensures values_len { IfOk result (λ b. length b.values.items ≡ values_len self.width self.cells) }
+    {
+        let ColumnBuilder {
+            width,
+            rows,
+            nulls,
+            validity,
+            offsets,
+            values,
+        } = self;
+        let offsets = end_offsets(width, offsets, values.as_slice())?;
+        let validity = needed_bitmap(validity, nulls);
+        Ok(Buffers {
+            rows,
+            nulls,
+            validity,
+            offsets,
+            values,
+        })
+    }
+}
+
+/// Puts a value behind those of the first `rows`.
+fn push_value(
+    width: Width,
+    rows: u64,
+    cell: Option<&[u8]>,
+    offsets: &mut Vec<u8>,
+    values: &mut Vec<u8>,
+) -> Result<(), AllocError>
+    requires stored { HasValues width rows offsets.old.items values.old.items }
+    requires width { ForSome (option_copied cell) (HasWidth width) }
+    requires room { OffsetsFit width (length values.old.items + cell_len (option_copied cell)) }
+    ensures ok { OnOk result (PushesValue width rows (option_copied cell.entry) offsets.old.items values.old.items offsets.new.items values.new.items) }
+    ensures err { OnErr result ((offsets.new.items ≡ offsets.old.items) × (values.new.items ≡ values.old.items)) }
+{
+    match width {
+        Width::Bit => {
+            values.reserve(1)?;
+            push_bit(values, rows, is_one(cell));
+            Ok(())
+        }
+        Width::Fixed(width) => push_part(values, width, cell),
+        Width::Var => push_span(offsets, values, 1, cell),
+    }
+}
+
+/// Whether a value is the bit 1.
+fn is_one(cell: Option<&[u8]>) -> bool
+    ensures { result ≡ is_one (option_copied cell.entry) }
+{
+    match cell {
+        Some([bit, ..]) => *bit == 1,
+        _ => false,
+    }
+}
+
+/// The offsets with the last one behind them, where there are offsets.
+fn end_offsets(width: Width, mut offsets: Vec<u8>, values: &[u8]) -> Result<Vec<u8>, AllocError>
+    requires { OffsetsFit width (length values.now) }
+    ensures { IfOk result (λ v. v.items ≡ ended_offsets width offsets.items values.now) }
+{
+    match width {
+        Width::Bit | Width::Fixed(_) => Ok(offsets),
+        Width::Var => {
+            push_offset(&mut offsets, 1, values.len())?;
+            Ok(offsets)
+        }
+    }
+}
+
+/// The bitmap, without its bytes where nothing is null.
+fn needed_bitmap(mut validity: Vec<u8>, nulls: u64) -> Vec<u8>
+    ensures { result.items ≡ (if nulls == 0 then [] else validity.items) }
+{
+    if nulls == 0 {
+        validity.clear();
+    }
+    validity
+}

@@ -1,0 +1,22 @@
+//! The buffers of an Arrow column: validity bitmaps, offsets and values, read in place and written.
+#![tactic(auto)]
+
+mod bits;
+mod builder;
+mod fault;
+mod fixed;
+pub mod laws;
+mod offsets;
+mod packing;
+mod vars;
+mod width;
+
+pub use bits::Bits;
+pub use builder::{Buffers, ColumnBuilder};
+pub use fault::BufferFault;
+pub use fixed::Fixed;
+pub use vars::Vars;
+pub use width::Width;
+
+#[cfg(test)]
+mod tests;

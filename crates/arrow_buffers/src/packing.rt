@@ -1,0 +1,74 @@
+//! Parts of buffers that grow: bits, offsets and values behind those that are there.
+
+ghost use Rattle.std.specs.Prelude.{◌≡◌, ◌+◌, ◌/◌, ◌^◌, ◌<◌, ◌≤◌, [], ◌++◌, length, vec_len, vec_capacity, OnOk, OnErr, IsOk, unwrap_or, replicate};
+ghost use Rattle.std.specs.Option.{option_copied};
+ghost use Rattle.arrow_buffers.specs.Offsets.{offset_bytes};
+ghost use Rattle.arrow_buffers.specs.Packed.{IsPacked, PushesBit};
+
+use byteorder::{ByteOrder, LittleEndian};
+use std::alloc::AllocError;
+
+/// Puts a bit behind the first `count`. There is room for one more byte.
+pub(crate) fn push_bit(bytes: &mut Vec<u8>, count: u64, bit: bool)
+    requires packed { IsPacked count bytes.old.items }
+    requires room { vec_len bytes.old < vec_capacity bytes.old }
+    ensures { PushesBit count bit bytes.old.items bytes.new.items }
+{
+    let place = count % 8;
+    if place == 0 {
+        bytes.push_reserved(u8::from(bit));
+    } else if bit {
+        let last = bytes.len() - 1;
+        bytes[last] |= 1 << place;
+    }
+}
+
+/// Puts the offset of what follows `len` bytes of elements behind the others.
+#[tactic(auto, unfolding(crate::specs::Offsets::offset_bytes))]
+pub(crate) fn push_offset(offsets: &mut Vec<u8>, element: u32, len: usize) -> Result<(), AllocError>
+    requires some { 1 ≤ element }
+    requires fits { len / element < 2 ^ 32 }
+    ensures ok { OnOk result (offsets.new.items ≡ offsets.old.items ++ offset_bytes (len / element)) }
+    ensures err { OnErr result (offsets.new.items ≡ offsets.old.items) }
+    ensures room { vec_len offsets.old + 4 ≤ vec_capacity offsets.old → IsOk result }
+{
+    let mut bytes = [0; 4];
+    LittleEndian::write_u32(&mut bytes, (len / element as usize) as u32);
+    offsets.extend_from_slice(&bytes)
+}
+
+/// Puts a value of one width behind the others: zeros where it is null.
+pub(crate) fn push_part(
+    values: &mut Vec<u8>,
+    width: u32,
+    cell: Option<&[u8]>,
+) -> Result<(), AllocError>
+    ensures ok { OnOk result (values.new.items ≡ values.old.items ++ unwrap_or (option_copied cell.entry) (replicate width 0)) }
+    ensures err { OnErr result (values.new.items ≡ values.old.items) }
+{
+    match cell {
+        Some(part) => values.extend_from_slice(part),
+        None => values.resize(values.len() + width as usize, 0),
+    }
+}
+
+/// Puts a value behind the others, and its offset, which counts elements: nothing where it is null.
+pub(crate) fn push_span(
+    offsets: &mut Vec<u8>,
+    values: &mut Vec<u8>,
+    element: u32,
+    cell: Option<&[u8]>,
+) -> Result<(), AllocError>
+    requires some { 1 ≤ element }
+    requires fits { length values.old.items / element < 2 ^ 32 }
+    ensures ok { OnOk result ((offsets.new.items ≡ offsets.old.items ++ offset_bytes (length values.old.items / element))
+        × (values.new.items ≡ values.old.items ++ unwrap_or (option_copied cell.entry) [])) }
+    ensures err { OnErr result ((offsets.new.items ≡ offsets.old.items) × (values.new.items ≡ values.old.items)) }
+{
+    let start = values.len();
+    offsets.reserve(4)?;
+    if let Some(part) = cell {
+        values.extend_from_slice(part)?;
+    }
+    push_offset(offsets, element, start)
+}
