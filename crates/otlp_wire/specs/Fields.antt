@@ -1,10 +1,11 @@
 -- The one reading of bytes.
 use Rattle.std.specs.Prelude.{◌≡◌, ◌<◌, ℕ, length, List, [], ◌∷◌, ◌++◌, Option, Some, None, Result, MatchOption, MatchResult}
+use Rattle.std.proofs.Common.{subst}
 use Rattle.otlp_wire.specs.declared.parts.WireError.{WireError}
 use Rattle.otlp_wire.specs.declared.parts.Field.{Field}
 use Rattle.otlp_wire.specs.Wire.{Entry, entry, IsField}
 use Rattle.otlp_wire.specs.Reading.{Begins, Faults, Reads, Spells}
-use Rattle.otlp_wire.specs.lemmas.Readings.{some_reading, one_reading, joined}
+use Rattle.otlp_wire.specs.lemmas.Readings.{some_reading, one_reading, joined, part_len, part_within}
 
 -- the fields of the longest front of the bytes that spells fields
 pub fields_of : List ℕ → List Entry
@@ -41,3 +42,8 @@ TakesFirst old result new = MatchOption result
     (λ r. MatchResult r
     (λ f. (fields_of old ≡ entry f ∷ fields_of new) × (end_of old ≡ end_of new))
     (λ e. (fields_of old ≡ []) × (end_of old ≡ Some e) × (new ≡ [])))
+
+-- a field that occurs holds fewer bytes than the whole has
+pub part_is_shorter : (bytes : List ℕ) (f : Entry) (before after : List Entry) → fields_of bytes ≡ before ++ f ∷ after → part_len f.value < length bytes
+part_is_shorter bytes f before after is =
+    part_within bytes f before after (end_of bytes) (subst (λ (fs : List Entry). Reads bytes fs (end_of bytes)) is (fields_of-reads bytes))

@@ -1,8 +1,7 @@
 //! The fields of bytes, from left to right.
 
-ghost use Rattle.std.specs.Prelude.{◌≡◌, ◌<◌, ◌↔◌, ⊤, [], ◌++◌, length, IfOk, IfErr, IfSome, OnSome, IsNone};
-ghost use Rattle.std.specs.Iterator.{at_most, MakesProgress};
-ghost use Rattle.otlp_wire.specs.Varint.{IsVarint};
+ghost use Rattle.std.specs.Prelude.{◌≡◌, ◌<◌, ◌++◌, length, IfOk, IfErr};
+ghost use Rattle.std.specs.Iterator.{at_most};
 ghost use Rattle.otlp_wire.specs.Wire as spec;
 ghost use Rattle.otlp_wire.specs.Wire.{entry, value_of, IsField, IsValue};
 ghost use Rattle.otlp_wire.specs.Reading.{Begins, ValueFaults, Faults};
@@ -38,21 +37,14 @@ impl<'a> Fields<'a> {
 }
 
 impl<'a> Iterator for Fields<'a> {
+    type Item = Result<Field<'a>, WireError>;
+
     ghost next_gives = { TakesFirst };
 
     ghost remaining = { λ s. at_most (length s) };
 
-    type Item = Result<Field<'a>, WireError>;
-
     #[inline]
-    fn next(&mut self) -> Option<Result<Field<'a>, WireError>>
-        ensures steps { TakesFirst self.old result self.new }
-        ensures goes { MakesProgress (λ _. ⊤) (λ s. at_most (length s)) self.old result self.new }
-        ensures end { IsNone result ↔ (self.old ≡ []) }
-        ensures field { IfSome result (λ r. IfOk r (λ f. Begins (λ front. IsField front (entry f)) self.old self.new)) }
-        ensures shorter { OnSome result (length self.new < length self.old) }
-        ensures fault { IfSome result (λ r. IfErr r (λ e. Faults self.old e × (self.new ≡ []))) }
-    {
+    fn next(&mut self) -> Option<Result<Field<'a>, WireError>> {
         if self.rest.is_empty() {
             return None;
         }

@@ -2,7 +2,7 @@
 use Rattle.std.proofs.Common.{◌≡◌, ℕ, zero, suc, ◌<◌, ◌≤◌, List, [], ◌∷◌, ◌++◌, length, append_assoc, Option, Some, None, Result, Ok, Err, refl, sym, ap, ◌∙◌, subst, arith}
 use Rattle.std.proofs.lemmas.List.{length-append}
 use Rattle.otlp_wire.specs.declared.parts.WireError.{WireError}
-use Rattle.otlp_wire.specs.Wire.{Entry, IsField}
+use Rattle.otlp_wire.specs.Wire.{FieldValue, Varint, Fixed64, Bytes, Fixed32, Entry, IsValue, IsField}
 use Rattle.otlp_wire.specs.Reading.{Begins, Faults, Reads, Spells}
 use Rattle.otlp_wire.specs.lemmas.Values.{field_ok, field_err, FieldIs, some_field, field_long}
 
@@ -86,3 +86,26 @@ joined front rest [] gs end spells reads = subst (λ (f : List ℕ). Reads (f ++
 joined front rest (f ∷ fs) gs end spells reads =
     let b = spells.1 in
     (spells.0 ++ rest, (b.0, ap (λ p. p ++ rest) b.1 ∙ append_assoc b.0 spells.0 rest, b.2), joined spells.0 rest fs gs end spells.2 reads)
+
+-- how many bytes a value holds
+abbrev pub part_len : FieldValue → ℕ
+part_len (Bytes part) = length part
+part_len value = 0
+
+field_within : (front : List ℕ) (f : Entry) → IsField front f → part_len f.value < length front
+field_within front f h = go f.value h.value h.is_value (rw h.whole (omega (arith, length-append h.tag h.value, h.is_tag.size)))
+  where
+    go : (v : FieldValue) (value : List ℕ) → IsValue value v → length value < length front → part_len v < length front
+    go (Varint n) value is less = omega arith
+    go (Fixed64 n) value is less = omega arith
+    go (Fixed32 n) value is less = omega arith
+    go (Bytes part) value is less = (let split = is.2 in omega (arith, ap length split, length-append is.0 part))
+
+-- the bytes in a value are fewer than those of the whole
+pub part_within : (bytes : List ℕ) (f : Entry) (before after : List Entry) (end : Option WireError)
+    → Reads bytes (before ++ f ∷ after) end → part_len f.value < length bytes
+part_within bytes f [] after end reads =
+    let b = reads.1 in
+    rw b.1 (omega (arith, length-append b.0 reads.0, field_within b.0 f b.2))
+part_within bytes f (g ∷ before) after end reads =
+    omega (arith, shorter bytes reads.0 g reads.1, part_within reads.0 f before after end reads.2)

@@ -1,0 +1,11 @@
+//! The messages of OTLP and OTAP as a table, and what every reader and writer of them shares: the
+//! defects that a message can have, and the canonical spelling.
+#![tactic(auto)]
+
+mod checking;
+mod messages;
+mod table;
+
+pub use checking::{LEVELS, check, is_text};
+pub use messages::{Defect, Kind, Message, Row};
+pub use table::{MARKS, row_of};
