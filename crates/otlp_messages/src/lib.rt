@@ -2,10 +2,13 @@
 //! defects that a message can have, and the canonical spelling.
 #![tactic(auto)]
 
+mod backward;
 mod checking;
 mod messages;
+mod rows;
 mod table;
 
+pub use backward::Backward;
 pub use checking::{LEVELS, check, is_text};
 pub use messages::{Defect, Kind, Message, Row};
 pub use table::{MARKS, row_of};
