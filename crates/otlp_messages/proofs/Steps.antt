@@ -21,7 +21,7 @@ use Rattle.otlp_messages.specs.Defects.{wire_type_of, HasType, PartFaults, Value
 use Rattle.otlp_messages.specs.Fine.{FinePart, FineValue, StandsIn, ValueStands, Checked}
 
 -- how many of the fields have the mark
-abbrev marked : Message → ℕ → List Entry → ℕ
+abbrev pub marked : Message → ℕ → List Entry → ℕ
 marked message k fs = count_by (λ f. mark_of message f.number == k) fs
 
 pub count-append : (p : Entry → Bool) (xs ys : List Entry) → count_by p (xs ++ ys) ≡ count_by p xs + count_by p ys

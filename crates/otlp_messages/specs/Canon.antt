@@ -1,12 +1,15 @@
 -- The canonical spelling of a message: its fields by ascending number, each in its shortest spelling,
 -- and none that holds its default.
-use Rattle.std.specs.Prelude.{◌≡◌, ℕ, zero, suc, ◌<◌, ◌^◌, List, [], ◌∷◌, ◌++◌, length, map, ◌==◌, ◌&&◌, ◌||◌, nat_lt, nat_le, if◌then◌else◌, Bool, true, false, ℤ}
+use Rattle.std.specs.Prelude.{◌≡◌, ℕ, ◌<◌, ◌≤◌, ◌^◌, List, [], ◌∷◌, ◌++◌, length, map, ◌==◌, ◌&&◌, ◌||◌, not, nat_lt, if◌then◌else◌, Bool, true, ℤ, ⊤, ◌⊎◌}
 use Rattle.std.specs.List.{flat_map, AllByRecursion, list_all}
 use Rattle.std.specs.Int.{w64, cast_unsigned}
 use Rattle.otlp_messages.specs.declared.messages.Message.{Message}
 use Rattle.otlp_wire.specs.Wire.{FieldValue, Varint, Fixed64, Bytes, Fixed32, Entry, Fits, spelling}
 use Rattle.otlp_messages.specs.Table.{kind_of, mark_of}
+use Rattle.otlp_wire.specs.Fields.{fields_of}
+use Rattle.otlp_messages.specs.Defects.{IsFine}
 use Rattle.otlp_messages.specs.Fine.{FineValue}
+use Rattle.otlp_messages.specs.Rows.{only}
 
 -- the values of one field number, in order
 pub record Filled : Type 0 where
@@ -54,3 +57,32 @@ bytes_row (byte ∷ bytes) = Bytes (byte ∷ bytes) ∷ []
 -- the canonical spellings of messages that occur any number of times
 abbrev pub many_row : List (List ℕ) → List FieldValue
 many_row parts = map (λ part. Bytes part) parts
+
+-- the numbers of the rows ascend, are field numbers, and no two rows share a mark
+abbrev pub apart : Message → Filled → Filled → Bool
+apart m r s = nat_lt r.number s.number && (mark_of m r.number == 0 || not (mark_of m r.number == mark_of m s.number))
+
+abbrev pub laid_out : Message → List Filled → Bool
+laid_out m [] = true
+laid_out m (r ∷ rows) = nat_lt 0 r.number && nat_lt r.number (2 ^ 29) && list_all (apart m r) rows && laid_out m rows
+
+-- bytes that a length can tell; it follows for each part from the length of the whole
+abbrev pub IsShort : FieldValue → Type 0
+IsShort (Bytes part) = length part < 2 ^ 64
+IsShort value = ⊤
+
+-- no defect stands in the values of the row
+pub record RowFits (m : Message) (levels : ℕ) (r : Filled) : Type 0 where
+  pub few : (mark_of m r.number ≡ 0) ⊎ (length r.values ≤ 1)
+  pub fine : AllByRecursion (λ v. IsShort v → Fits v × FineValue (kind_of m r.number) levels v) r.values
+
+-- the values of the row with this number
+abbrev pub values_at : ℕ → List Filled → List FieldValue
+values_at n [] = []
+values_at n (r ∷ rows) = if r.number == n then r.values else values_at n rows
+
+-- what the rows spell is read as the rows, and no defect stands in it
+pub record IsReadBack (m : Message) (levels : ℕ) (rows : List Filled) : Type 0 where
+  pub fine : IsFine m levels (canon rows)
+  pub fields : fields_of (canon rows) ≡ entries rows
+  pub only : (n : ℕ) → only n (fields_of (canon rows)) ≡ values_at n rows

@@ -4,11 +4,13 @@
 
 mod backward;
 mod checking;
+mod laws;
 mod messages;
 mod rows;
 mod table;
 
 pub use backward::Backward;
 pub use checking::{LEVELS, check, is_text};
+pub use laws::rows_are_read;
 pub use messages::{Defect, Kind, Message, Row};
 pub use table::{MARKS, row_of};
