@@ -1,0 +1,6 @@
+pub mod Cuts
+pub mod Deciding
+pub mod Known
+pub mod OneCapture
+pub mod SomeCapture
+pub mod Stepping
