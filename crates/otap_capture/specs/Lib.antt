@@ -1,3 +1,4 @@
+pub mod Batch
 pub mod Capture
 pub mod Cutting
 pub mod Inside

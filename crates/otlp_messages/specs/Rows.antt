@@ -55,3 +55,9 @@ embedded_in read old value = old
 abbrev pub many_in : {A : Type 0} → (List ℕ → A) → List A → FieldValue → List A
 many_in read old (Bytes part) = old ++ read part ∷ []
 many_in read old value = old
+
+-- the messages among the values, in order
+abbrev pub parts_of : List FieldValue → List (List ℕ)
+parts_of [] = []
+parts_of (Bytes part ∷ values) = part ∷ parts_of values
+parts_of (value ∷ values) = parts_of values

@@ -7,10 +7,12 @@ mod checking;
 mod laws;
 mod messages;
 mod rows;
+mod single;
 mod table;
 
 pub use backward::Backward;
 pub use checking::{LEVELS, check, is_text};
 pub use laws::rows_are_read;
 pub use messages::{Defect, Kind, Message, Row};
+pub use single::{bytes_of, int32_of, int64_of};
 pub use table::{MARKS, row_of};
