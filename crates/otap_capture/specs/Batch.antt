@@ -1,9 +1,9 @@
 -- What a batch message says (BatchArrowRecords of the OpenTelemetry Arrow Protocol).
-use Rattle.std.specs.Prelude.{◌≡◌, ℕ, List, [], ◌∷◌, ◌++◌, length, map, ℤ, pos, IsUtf8, FitsSigned}
+use Rattle.std.specs.Prelude.{◌≡◌, ℕ, List, [], ◌∷◌, ◌++◌, length, map, ⊤, ℤ, pos, IsUtf8, FitsSigned}
 use Rattle.std.specs.List.{AllByRecursion}
 use Rattle.std.specs.Int.{w32, w64}
 use Rattle.otlp_wire.specs.Fields.{fields_of}
-use Rattle.otlp_messages.specs.declared.messages.Message.TheVariants.{BatchArrowRecords}
+use Rattle.otlp_messages.specs.declared.messages.Message.TheVariants.{BatchArrowRecords, ArrowPayload}
 use Rattle.otlp_messages.specs.declared.messages.Defect.{Defect}
 use Rattle.otlp_messages.specs.declared.messages.Defect.TheVariants as defects
 use Rattle.otlp_messages.specs.declared.checking.TheConstants.{LEVELS}
@@ -52,6 +52,17 @@ defect_of BadMessage = defects.BadMessage
 defect_of Repeated = defects.Repeated
 defect_of BadUtf8 = defects.BadUtf8
 
+-- the defects that can stand in a batch message
+abbrev pub IsOfBatch : Defect → Type 0
+IsOfBatch defects.BadMessage = ⊤
+IsOfBatch defects.Repeated = ⊤
+IsOfBatch defects.BadUtf8 = ⊤
+IsOfBatch defect = ⊥
+
 -- a defect stands in the bytes, read as a batch message
 abbrev pub RefusesBatch : List ℕ → BatchRefusal → Type 0
 RefusesBatch bytes refusal = Stands BatchArrowRecords LEVELS bytes (defect_of refusal)
+
+-- no defect stands in the payloads of the bytes
+abbrev pub HasFinePayloads : List ℕ → Type 0
+HasFinePayloads bytes = AllByRecursion (IsFine ArrowPayload LEVELS) (parts_of (only 2 (fields_of bytes)))

@@ -1,4 +1,5 @@
 pub mod Batch
+pub mod BatchInside
 pub mod Capture
 pub mod Cutting
 pub mod Inside

@@ -1,5 +1,5 @@
 -- What the fields of a number say: their values from the left, each over what was read before.
-use Rattle.std.specs.Prelude.{◌≡◌, ℕ, ◌%◌, ◌^◌, List, [], ◌∷◌, ◌++◌, map, filter, fold, ◌==◌, if◌then◌else◌, Bool, not, ℤ}
+use Rattle.std.specs.Prelude.{◌≡◌, ℕ, ◌%◌, ◌^◌, List, [], ◌∷◌, ◌++◌, map, filter, fold, ◌==◌, if◌then◌else◌, Option, Some, None, Bool, not, ℤ}
 use Rattle.std.specs.Int.{w32, w64, cast_signed}
 use Rattle.otlp_wire.specs.Wire.{FieldValue, Varint, Fixed64, Bytes, Fixed32, Entry}
 use Rattle.otlp_wire.specs.Fields.{fields_of}
@@ -61,3 +61,11 @@ abbrev pub parts_of : List FieldValue → List (List ℕ)
 parts_of [] = []
 parts_of (Bytes part ∷ values) = part ∷ parts_of values
 parts_of (value ∷ values) = parts_of values
+
+-- the message in a field, where the field has this number
+abbrev pub part_in : FieldValue → Option (List ℕ)
+part_in (Bytes part) = Some part
+part_in value = None
+
+abbrev pub part_at : ℕ → Entry → Option (List ℕ)
+part_at n f = if f.number == n then part_in f.value else None

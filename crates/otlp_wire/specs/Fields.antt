@@ -1,6 +1,6 @@
 -- The one reading of bytes.
 use Rattle.std.specs.Prelude.{◌≡◌, ◌<◌, ℕ, length, List, [], ◌∷◌, ◌++◌, Option, Some, None, Result, MatchOption, MatchResult}
-use Rattle.std.proofs.Common.{subst}
+use Rattle.std.proofs.Common.{refl, subst}
 use Rattle.otlp_wire.specs.declared.parts.WireError.{WireError}
 use Rattle.otlp_wire.specs.declared.parts.Field.{Field}
 use Rattle.otlp_wire.specs.Wire.{Entry, entry, IsField}
@@ -31,14 +31,17 @@ first_fault old e some fault = fields_of-only old [] (Some e) (some, fault)
 pub no_field : (old : List ℕ) → old ≡ [] → (fields_of old ≡ []) × (end_of old ≡ None)
 no_field old none = fields_of-only old [] None none
 
+pub fields_of_nothing : fields_of [] ≡ []
+fields_of_nothing = (no_field [] refl).0
+
 pub fields_of-joined : (front rest : List ℕ) (fs : List Entry) → Spells front fs → (fields_of (front ++ rest) ≡ fs ++ fields_of rest) × (end_of (front ++ rest) ≡ end_of rest)
 fields_of-joined front rest fs spells =
     fields_of-only (front ++ rest) (fs ++ fields_of rest) (end_of rest) (joined front rest fs (fields_of rest) (end_of rest) spells (fields_of-reads rest))
 
--- one call takes the first field off, or comes to the end, or to the error, behind which nothing is left
+-- one call takes the first field off, or comes to the end or to the error, behind which nothing is left
 abbrev pub TakesFirst : List ℕ → Option (Result Field WireError) → List ℕ → Type 0
 TakesFirst old result new = MatchOption result
-    ((fields_of old ≡ []) × (end_of old ≡ None))
+    ((fields_of old ≡ []) × (end_of old ≡ None) × (new ≡ []))
     (λ r. MatchResult r
     (λ f. (fields_of old ≡ entry f ∷ fields_of new) × (end_of old ≡ end_of new))
     (λ e. (fields_of old ≡ []) × (end_of old ≡ Some e) × (new ≡ [])))

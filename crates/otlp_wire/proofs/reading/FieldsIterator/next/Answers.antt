@@ -6,7 +6,8 @@ use Rattle.otlp_wire.proofs.reading.FieldsIterator.next.Goals as goal
 pub returns-then-is_empty-clause-steps : goal.returns-then-is_empty-clause-steps
 returns-then-is_empty-clause-steps c =
     let none : c.self.inside.rest.now ≡ [] = grind (arith, common_steps) in
-    rw (← c.self.view_is) (no_field _ none)
+    let last = no_field _ none in
+    rw (← c.self.view_is) (last.0, last.1, none)
 
 pub returns-in-Ok-clause-steps : goal.returns-in-Ok-clause-steps
 returns-in-Ok-clause-steps c = rw (← c.self.view_is) (first_field _ _ _ c.in-Ok.ensures.ok)
