@@ -1,5 +1,6 @@
 pub mod Batch
 pub mod BatchInside
+pub mod BatchWriting
 pub mod Capture
 pub mod Cutting
 pub mod Inside
