@@ -1,3 +1,4 @@
+pub mod Adapters
 pub mod Capture
 pub mod Cutting
 pub mod Inside
