@@ -1,4 +1,6 @@
 pub mod Adapters
+pub mod Batch
+pub mod BatchInside
 pub mod Capture
 pub mod Cutting
 pub mod Inside

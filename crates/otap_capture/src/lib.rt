@@ -2,6 +2,7 @@
 #![tactic(auto)]
 
 mod adapters;
+mod batch;
 mod frame;
 mod frames;
 mod laws;
@@ -11,6 +12,7 @@ mod steady;
 mod writing;
 
 pub use adapters::{ReadSource, WriteSink};
+pub use batch::{Batch, BatchRefusal, Payload, Payloads, read_batch};
 pub use frame::{Damage, Frame, FramesRefusal, MAX_CAPTURE, MAX_FRAME, Step, Why};
 pub use frames::Frames;
 pub use laws::{one_capture, some_capture, written_is_read};
