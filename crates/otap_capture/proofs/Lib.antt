@@ -1,5 +1,6 @@
 pub mod Cuts
 pub mod Deciding
+pub mod Framing
 pub mod Known
 pub mod OneCapture
 pub mod SomeCapture

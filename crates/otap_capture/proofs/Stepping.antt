@@ -13,6 +13,7 @@ use Rattle.otap_capture.specs.Capture.{EndsAt}
 use Rattle.otap_capture.specs.Cutting.{Cuts, CutsFrame, CutsEnd, Fills, IsDecided, ReadsOn, ReadEnds}
 use Rattle.otap_capture.specs.Reading.{Reading, ahead, GoesOn, TakesFrame, ComesToEnd, end_step}
 use Rattle.otap_capture.proofs.Deciding.{ends_more}
+use Rattle.otap_capture.proofs.Framing.{frame_length}
 use Rattle.otap_capture.proofs.Known.{Keeps-trans}
 
 -- what is taken from the source moves to what is kept
@@ -73,6 +74,7 @@ module _ (old mid new : Reading) (left left' : Option (List ℕ))
     begins = rw (← fills.handed) cut.begins;
     taken = Keeps-Consumes _ _ _ cut.front fills.same (rw cut.complete (ahead_cut mid.complete mid.kept cut.front new.kept left' cut.kept));
     handed = cut.handed ∙ ap (λ n. n + length cut.front) fills.handed;
+    further = let long = frame_length cut.front cut.frame cut.is_frame in let at = cut.handed in let before = fills.handed in omega arith;
     shown = cut.shown;
     goes_on = cut.ended ∙ fills.ended ∙ open_end;
   }

@@ -1,3 +1,4 @@
+pub mod Adapters
 pub mod Batch
 pub mod BatchInside
 pub mod BatchWriting

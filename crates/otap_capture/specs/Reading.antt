@@ -43,6 +43,7 @@ pub record TakesFrame (old new : Reading) (before after : Option (List ℕ)) : T
   pub begins : old.handed < MAX_CAPTURE
   pub taken : Consumes before after front
   pub handed : new.handed ≡ old.handed + length front
+  pub further : old.handed + 5 ≤ new.handed
   pub shown : new.frame ≡ Some frame
   pub goes_on : new.ended ≡ None
 

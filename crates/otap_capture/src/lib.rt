@@ -24,3 +24,6 @@ pub use memory::{MemorySink, MemorySource};
 pub use outside::{ReadFailed, Sink, SinkRefusal, Source, write_whole};
 pub use steady::{SteadySink, SteadySource};
 pub use writing::{write_frame, write_reset};
+
+#[cfg(test)]
+mod tests;
