@@ -1,0 +1,11 @@
+pub mod Adapters
+pub mod Batch
+pub mod BatchInside
+pub mod BatchWriting
+pub mod Capture
+pub mod Cutting
+pub mod Inside
+pub mod Memory
+pub mod Outside
+pub mod Reading
+pub mod Writing
