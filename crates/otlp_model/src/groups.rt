@@ -1,6 +1,13 @@
+ghost use Rattle.otlp_model.specs.Weight.{weight_of_resource, weight_of_scope, weight_of_scope_group, weight_of_resource_group};
+ghost use Rattle.otlp_model.specs.Real.{IsRealResource, IsRealScope, IsRealScopeGroup, IsRealResourceGroup};
+ghost use Rattle.otlp_model.specs.Profile.{IsProfileResource, IsProfileScope, IsProfileScopeGroup, IsProfileResourceGroup};
+
+use crate::limits::sum_capped;
 use crate::list::Items;
+use crate::profile::{Profiled, all_profile};
 use crate::text::Text;
 use crate::value::Pair;
+use crate::weights::{Weighed, pairs_weight, parts_weight};
 
 /// What telemetry comes from (OTLP `Resource`, with the schema url of its `ResourceSpans`, `ResourceLogs` or
 /// `ResourceMetrics`).
@@ -34,4 +41,86 @@ pub struct ScopeGroup<I> {
 pub struct ResourceGroup<I> {
     pub resource: Resource,
     pub scopes: Items<ScopeGroup<I>>,
+}
+
+impl Weighed for Resource {
+    ghost weight_of = { weight_of_resource };
+
+    ghost is_real = { IsRealResource };
+
+    fn weight(&self) -> u64 {
+        let _dropped = self.dropped;
+        sum_capped(&[
+            self.schema_url.weight(),
+            pairs_weight(self.pairs.as_slice()),
+        ])
+    }
+}
+
+impl Weighed for Scope {
+    ghost weight_of = { weight_of_scope };
+
+    ghost is_real = { IsRealScope };
+
+    fn weight(&self) -> u64 {
+        let _dropped = self.dropped;
+        sum_capped(&[
+            self.schema_url.weight(),
+            self.name.weight(),
+            self.version.weight(),
+            pairs_weight(self.pairs.as_slice()),
+        ])
+    }
+}
+
+impl<I: Weighed> Weighed for ScopeGroup<I> {
+    ghost weight_of = { weight_of_scope_group I.weight_of };
+
+    ghost is_real = { IsRealScopeGroup I.is_real };
+
+    fn weight(&self) -> u64 {
+        sum_capped(&[self.scope.weight(), parts_weight(self.items.as_slice())])
+    }
+}
+
+impl<I: Weighed> Weighed for ResourceGroup<I> {
+    ghost weight_of = { weight_of_resource_group I.weight_of };
+
+    ghost is_real = { IsRealResourceGroup I.is_real };
+
+    fn weight(&self) -> u64 {
+        sum_capped(&[self.resource.weight(), parts_weight(self.scopes.as_slice())])
+    }
+}
+
+impl Profiled for Resource {
+    ghost within = { IsProfileResource };
+
+    fn is_profile(&self) -> bool {
+        all_profile(&self.pairs)
+    }
+}
+
+impl Profiled for Scope {
+    ghost within = { IsProfileScope };
+
+    fn is_profile(&self) -> bool {
+        all_profile(&self.pairs)
+    }
+}
+
+impl<I: Profiled> Profiled for ScopeGroup<I> {
+    ghost within = { IsProfileScopeGroup I.within };
+
+    fn is_profile(&self) -> bool {
+        self.scope.is_profile() && all_profile(&self.items)
+    }
+}
+
+impl<I: Profiled> Profiled for ResourceGroup<I> {
+    ghost within = { IsProfileResourceGroup I.within };
+
+    fn is_profile(&self) -> bool {
+        self.resource.is_profile() && all_profile(&self.scopes)
+    }
 }

@@ -1,4 +1,4 @@
-ghost use Rattle.std.specs.Prelude.{◌≡◌, ◌+◌, ◌^◌, min};
+ghost use Rattle.std.specs.Prelude.{◌≡◌, ◌+◌, ◌^◌, min, sum};
 
 /// How many main items (spans, log records or metrics) a request may have.
 pub const MAX_ITEMS: u64 = 65_536;
@@ -17,4 +17,15 @@ pub fn add_capped(a: u64, b: u64) -> u64
     ensures { result ≡ min (a + b) (2 ^ 63) }
 {
     a.saturating_add(b).min(CAP)
+}
+
+/// The sum of all, or `CAP` where it is larger.
+pub fn sum_capped(weights: &[u64]) -> u64
+    ensures { result ≡ min (sum weights.now) (2 ^ 63) }
+{
+    let mut total = 0;
+    for weight in weights {
+        total = add_capped(total, *weight);
+    }
+    total
 }

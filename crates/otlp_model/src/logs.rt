@@ -1,7 +1,14 @@
+ghost use Rattle.otlp_model.specs.Weight.{weight_of_log_record};
+ghost use Rattle.otlp_model.specs.Real.{IsRealLogRecord};
+ghost use Rattle.otlp_model.specs.Profile.{IsProfileLogRecord};
+
+use crate::limits::sum_capped;
 use crate::list::Items;
 use crate::octets::Octets;
+use crate::profile::{Profiled, all_profile};
 use crate::text::Text;
 use crate::value::{Pair, Value};
+use crate::weights::{Weighed, pairs_weight, value_weight};
 
 /// A log record (OTLP `LogRecord`). Times are nanoseconds since the Unix epoch.
 #[derive(Debug, Drop)]
@@ -16,4 +23,36 @@ pub struct LogRecord {
     pub flags: u32,
     pub trace_id: Octets,
     pub span_id: Octets,
+}
+
+impl Weighed for LogRecord {
+    ghost weight_of = { weight_of_log_record };
+
+    ghost is_real = { IsRealLogRecord };
+
+    fn weight(&self) -> u64 {
+        let _time = self.time;
+        let _observed = self.observed;
+        let _severity = self.severity;
+        let _dropped = self.dropped;
+        let _flags = self.flags;
+        sum_capped(&[
+            self.severity_text.weight(),
+            self.trace_id.weight(),
+            self.span_id.weight(),
+            value_weight(&self.body),
+            pairs_weight(self.pairs.as_slice()),
+        ])
+    }
+}
+
+impl Profiled for LogRecord {
+    ghost within = { IsProfileLogRecord };
+
+    fn is_profile(&self) -> bool {
+        self.trace_id.is_trace_id()
+            && self.span_id.is_span_id()
+            && self.body.is_profile()
+            && all_profile(&self.pairs)
+    }
 }

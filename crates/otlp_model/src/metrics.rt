@@ -1,7 +1,15 @@
+ghost use Rattle.std.specs.Prelude.{IsTrue};
+ghost use Rattle.otlp_model.specs.Weight.{weight_of_exemplar, weight_of_point, weight_of_shape, weight_of_metric};
+ghost use Rattle.otlp_model.specs.Real.{is_real_number, IsRealExemplar, IsRealPoint, IsRealShape, IsRealMetric};
+ghost use Rattle.otlp_model.specs.Profile.{IsProfileExemplar, IsProfilePoint, IsProfileShape, IsProfileMetric};
+
+use crate::limits::sum_capped;
 use crate::list::Items;
 use crate::octets::Octets;
+use crate::profile::{Profiled, all_profile};
 use crate::text::Text;
 use crate::value::Pair;
+use crate::weights::{Weighed, pairs_weight, parts_weight};
 
 /// A metric (OTLP `Metric`).
 #[derive(Debug, Drop)]
@@ -51,4 +59,128 @@ pub struct Exemplar {
     pub span_id: Octets,
     pub trace_id: Octets,
     pub pairs: Items<Pair>,
+}
+
+impl Weighed for Number {
+    ghost weight_of = { λ _. 0 };
+
+    ghost is_real = { λ number. IsTrue (is_real_number number) };
+
+    fn weight(&self) -> u64 {
+        match self {
+            Number::Missing => {}
+            Number::Int(number) => {
+                let _number = *number;
+            }
+            Number::Double(bits) => {
+                let _bits = *bits;
+            }
+        }
+        0
+    }
+}
+
+impl Weighed for Exemplar {
+    ghost weight_of = { weight_of_exemplar };
+
+    ghost is_real = { IsRealExemplar };
+
+    fn weight(&self) -> u64 {
+        let _time = self.time;
+        sum_capped(&[
+            self.value.weight(),
+            self.span_id.weight(),
+            self.trace_id.weight(),
+            pairs_weight(self.pairs.as_slice()),
+        ])
+    }
+}
+
+impl Weighed for Point {
+    ghost weight_of = { weight_of_point };
+
+    ghost is_real = { IsRealPoint };
+
+    fn weight(&self) -> u64 {
+        let _start = self.start;
+        let _time = self.time;
+        let _flags = self.flags;
+        sum_capped(&[
+            self.value.weight(),
+            pairs_weight(self.pairs.as_slice()),
+            parts_weight(self.exemplars.as_slice()),
+        ])
+    }
+}
+
+impl Weighed for Shape {
+    ghost weight_of = { weight_of_shape };
+
+    ghost is_real = { IsRealShape };
+
+    fn weight(&self) -> u64 {
+        match self {
+            Shape::Empty => 0,
+            Shape::Gauge(points) => parts_weight(points.as_slice()),
+            Shape::Sum {
+                points,
+                temporality,
+                ..
+            } => {
+                let _temporality = *temporality;
+                parts_weight(points.as_slice())
+            }
+        }
+    }
+}
+
+impl Weighed for Metric {
+    ghost weight_of = { weight_of_metric };
+
+    ghost is_real = { IsRealMetric };
+
+    fn weight(&self) -> u64 {
+        sum_capped(&[
+            self.name.weight(),
+            self.description.weight(),
+            self.unit.weight(),
+            self.shape.weight(),
+        ])
+    }
+}
+
+impl Profiled for Exemplar {
+    ghost within = { IsProfileExemplar };
+
+    fn is_profile(&self) -> bool {
+        self.trace_id.is_trace_id() && self.span_id.is_span_id() && all_profile(&self.pairs)
+    }
+}
+
+impl Profiled for Point {
+    ghost within = { IsProfilePoint };
+
+    fn is_profile(&self) -> bool {
+        all_profile(&self.pairs) && all_profile(&self.exemplars)
+    }
+}
+
+impl Profiled for Shape {
+    ghost within = { IsProfileShape };
+
+    fn is_profile(&self) -> bool {
+        match self {
+            Shape::Empty => true,
+            Shape::Gauge(points) => all_profile(points),
+            Shape::Sum { points, .. } => all_profile(points),
+        }
+    }
+}
+
+impl Profiled for Metric {
+    ghost within = { IsProfileMetric };
+
+    fn is_profile(&self) -> bool {
+        self.shape.is_profile()
+    }
 }

@@ -1,3 +1,4 @@
+ghost use Rattle.otlp_model.specs.Bytes.{is_real_octets};
 ghost use Rattle.std.specs.Prelude.{◌≡◌, [], ◌∷◌, ◌++◌, ◌<◌, ◌^◌, ◌↔◌, length, IsTrue, IfOk, OnOk, OnErr, All};
 
 use std::alloc::{AllocError, Global};
@@ -52,6 +53,16 @@ impl Octets {
     {
         let bytes = self.bytes.as_slice();
         bytes
+    }
+
+    /// What the bytes weigh: 1 each.
+    #[tactic(auto, using(crate::proofs::RealBytes::real_octets))]
+    pub(crate) fn weight(&self) -> u64
+        ensures weight { result ≡ length self.now }
+        ensures real { IsTrue (is_real_octets self.now) }
+        ensures fits { length self.now < 2 ^ 63 }
+    {
+        self.as_slice().len() as u64
     }
 
     /// Appends the byte. Where no memory is found the bytes are as before.

@@ -1,8 +1,17 @@
+ghost use Rattle.std.specs.Prelude.{◌≡◌, ◌^◌, ◌↔◌, min, length, IsTrue};
+ghost use Rattle.otlp_model.specs.Telemetry.{telemetry};
+ghost use Rattle.otlp_model.specs.Weight.{weight_of};
+ghost use Rattle.otlp_model.specs.Real.{IsReal};
+ghost use Rattle.otlp_model.specs.Profile.{IsProfile};
+
+use crate::counts::item_count;
 use crate::groups::ResourceGroup;
 use crate::list::Items;
 use crate::logs::LogRecord;
 use crate::metrics::Metric;
+use crate::profile::all_profile;
 use crate::spans::Span;
+use crate::weights::parts_weight;
 
 /// The kinds of telemetry.
 #[derive(Clone, Copy, Debug, PartialEq, Eq)]
@@ -19,4 +28,44 @@ pub enum Request {
     Traces(Items<ResourceGroup<Span>>),
     Logs(Items<ResourceGroup<LogRecord>>),
     Metrics(Items<ResourceGroup<Metric>>),
+}
+
+/// How many items the request has (spans, log records or metrics), or `CAP` where there are more.
+pub fn items(request: &Request) -> u64
+    ensures { result ≡ min (length (telemetry request.now)) (2 ^ 63) }
+{
+    match request {
+        Request::Traces(groups) => item_count(groups.as_slice()),
+        Request::Logs(groups) => item_count(groups.as_slice()),
+        Request::Metrics(groups) => item_count(groups.as_slice()),
+    }
+}
+
+/// What the request weighs, or `CAP` where that is more: the bytes of its texts and byte strings, and 32 for each
+/// resource group, scope group, item, event, link, point, exemplar, pair, and member of an array or a key-value list.
+///
+/// The walk also tells a proof that the request is one that a program can hold: its texts are UTF-8 and its numbers
+/// fit their types. Linear in the request; it recurses as `depth` does.
+pub fn weight(request: &Request) -> u64
+    ensures weight { result ≡ min (weight_of request.now) (2 ^ 63) }
+    ensures real { IsReal request.now }
+{
+    match request {
+        Request::Traces(groups) => parts_weight(groups.as_slice()),
+        Request::Logs(groups) => parts_weight(groups.as_slice()),
+        Request::Metrics(groups) => parts_weight(groups.as_slice()),
+    }
+}
+
+/// Whether trace ids have 0 or 16 bytes, span ids 0 or 8, and values are at most `MAX_DEPTH` deep.
+///
+/// Linear in the request; it recurses as `depth` does.
+pub fn is_profile(request: &Request) -> bool
+    ensures { IsTrue result ↔ IsProfile request.now }
+{
+    match request {
+        Request::Traces(groups) => all_profile(groups),
+        Request::Logs(groups) => all_profile(groups),
+        Request::Metrics(groups) => all_profile(groups),
+    }
 }

@@ -1,7 +1,14 @@
+ghost use Rattle.otlp_model.specs.Weight.{weight_of_event, weight_of_link, weight_of_span};
+ghost use Rattle.otlp_model.specs.Real.{IsRealEvent, IsRealLink, IsRealSpan};
+ghost use Rattle.otlp_model.specs.Profile.{IsProfileEvent, IsProfileLink, IsProfileSpan};
+
+use crate::limits::sum_capped;
 use crate::list::Items;
 use crate::octets::Octets;
+use crate::profile::{Profiled, all_profile};
 use crate::text::Text;
 use crate::value::Pair;
+use crate::weights::{Weighed, pairs_weight, parts_weight};
 
 /// A span (OTLP `Span`). Times are nanoseconds since the Unix epoch.
 #[derive(Debug, Drop)]
@@ -43,4 +50,90 @@ pub struct Link {
     pub flags: u32,
     pub pairs: Items<Pair>,
     pub dropped: u32,
+}
+
+impl Weighed for Event {
+    ghost weight_of = { weight_of_event };
+
+    ghost is_real = { IsRealEvent };
+
+    fn weight(&self) -> u64 {
+        let _time = self.time;
+        let _dropped = self.dropped;
+        sum_capped(&[self.name.weight(), pairs_weight(self.pairs.as_slice())])
+    }
+}
+
+impl Weighed for Link {
+    ghost weight_of = { weight_of_link };
+
+    ghost is_real = { IsRealLink };
+
+    fn weight(&self) -> u64 {
+        let _flags = self.flags;
+        let _dropped = self.dropped;
+        sum_capped(&[
+            self.trace_id.weight(),
+            self.span_id.weight(),
+            self.trace_state.weight(),
+            pairs_weight(self.pairs.as_slice()),
+        ])
+    }
+}
+
+impl Weighed for Span {
+    ghost weight_of = { weight_of_span };
+
+    ghost is_real = { IsRealSpan };
+
+    fn weight(&self) -> u64 {
+        let _kind = self.kind;
+        let _start = self.start;
+        let _end = self.end;
+        let _flags = self.flags;
+        let _dropped_pairs = self.dropped_pairs;
+        let _dropped_events = self.dropped_events;
+        let _dropped_links = self.dropped_links;
+        let _status_code = self.status_code;
+        sum_capped(&[
+            self.trace_id.weight(),
+            self.span_id.weight(),
+            self.parent_span_id.weight(),
+            self.trace_state.weight(),
+            self.name.weight(),
+            self.status_message.weight(),
+            pairs_weight(self.pairs.as_slice()),
+            parts_weight(self.events.as_slice()),
+            parts_weight(self.links.as_slice()),
+        ])
+    }
+}
+
+impl Profiled for Event {
+    ghost within = { IsProfileEvent };
+
+    fn is_profile(&self) -> bool {
+        all_profile(&self.pairs)
+    }
+}
+
+impl Profiled for Link {
+    ghost within = { IsProfileLink };
+
+    fn is_profile(&self) -> bool {
+        self.trace_id.is_trace_id() && self.span_id.is_span_id() && all_profile(&self.pairs)
+    }
+}
+
+impl Profiled for Span {
+    ghost within = { IsProfileSpan };
+
+    fn is_profile(&self) -> bool {
+        self.trace_id.is_trace_id()
+            && self.span_id.is_span_id()
+            && self.parent_span_id.is_span_id()
+            && all_profile(&self.pairs)
+            && all_profile(&self.events)
+            && all_profile(&self.links)
+    }
 }

@@ -1,5 +1,6 @@
 ghost use Rattle.std.specs.Prelude.{◌≡◌, [], ◌∷◌, ◌++◌, ◌<◌, ◌^◌, ◌↔◌, length, IsTrue, IfOk, OnOk, OnErr, IsUtf8, encode_utf8};
 ghost use Rattle.std.specs.Option.{SomeIff};
+ghost use Rattle.otlp_model.specs.Bytes.{is_real_text};
 
 use std::alloc::{AllocError, Global};
 use std::marker::Model;
@@ -84,6 +85,16 @@ impl Text {
         ensures utf8 { IsUtf8 self.now }
     {
         self.text.as_str().as_bytes()
+    }
+
+    /// What the text weighs: its bytes.
+    #[tactic(auto, using(crate::proofs::RealBytes::real_text))]
+    pub(crate) fn weight(&self) -> u64
+        ensures weight { result ≡ length self.now }
+        ensures real { IsTrue (is_real_text self.now) }
+        ensures fits { length self.now < 2 ^ 63 }
+    {
+        self.as_slice().len() as u64
     }
 
     /// Appends the UTF-8 bytes of the letter. Where no memory is found the text is as before.
