@@ -2,6 +2,7 @@
 use Rattle.std.specs.Prelude.{ℕ, ◌≤◌, ◌==◌, ◌||◌, Bool, length, List, IsTrue}
 use Rattle.otlp_model.specs.Each.{Each}
 use Rattle.otlp_model.specs.Depth.{depth_of}
+use Rattle.otlp_model.specs.declared.limits.TheConstants.{MAX_DEPTH}
 use Rattle.otlp_model.specs.declared.value.Value.{Value}
 use Rattle.otlp_model.specs.declared.value.Pair.{Pair}
 use Rattle.otlp_model.specs.declared.groups.Resource.{Resource}
@@ -31,7 +32,7 @@ abbrev pub IsSpanId : List ℕ → Type 0
 IsSpanId id = IsTrue (is_id 8 id)
 
 abbrev pub IsProfileValue : Value → Type 0
-IsProfileValue value = depth_of value ≤ 32
+IsProfileValue value = depth_of value ≤ MAX_DEPTH
 
 abbrev pub IsProfilePair : Pair → Type 0
 IsProfilePair pair = IsProfileValue pair.value

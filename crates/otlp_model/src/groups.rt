@@ -1,10 +1,12 @@
 ghost use Rattle.otlp_model.specs.Weight.{weight_of_resource, weight_of_scope, weight_of_scope_group, weight_of_resource_group};
 ghost use Rattle.otlp_model.specs.Real.{IsRealResource, IsRealScope, IsRealScopeGroup, IsRealResourceGroup};
 ghost use Rattle.otlp_model.specs.Profile.{IsProfileResource, IsProfileScope, IsProfileScopeGroup, IsProfileResourceGroup};
+ghost use Rattle.otlp_model.specs.Same.{SameResource, SameScope};
 
 use crate::limits::sum_capped;
 use crate::list::Items;
 use crate::profile::{Profiled, all_profile};
+use crate::sameness::{Alike, same_pairs};
 use crate::text::Text;
 use crate::value::Pair;
 use crate::weights::{Weighed, pairs_weight, parts_weight};
@@ -122,5 +124,27 @@ impl<I: Profiled> Profiled for ResourceGroup<I> {
 
     fn is_profile(&self) -> bool {
         self.resource.is_profile() && all_profile(&self.scopes)
+    }
+}
+
+impl Alike for Resource {
+    ghost alike = { SameResource };
+
+    fn is_same(&self, other: &Self) -> bool {
+        self.schema_url.as_slice() == other.schema_url.as_slice()
+            && self.dropped == other.dropped
+            && same_pairs(self.pairs.as_slice(), other.pairs.as_slice())
+    }
+}
+
+impl Alike for Scope {
+    ghost alike = { SameScope };
+
+    fn is_same(&self, other: &Self) -> bool {
+        self.schema_url.as_slice() == other.schema_url.as_slice()
+            && self.name.as_slice() == other.name.as_slice()
+            && self.version.as_slice() == other.version.as_slice()
+            && self.dropped == other.dropped
+            && same_pairs(self.pairs.as_slice(), other.pairs.as_slice())
     }
 }

@@ -4,7 +4,7 @@ ghost use Rattle.std.specs.Prelude.{◌≡◌, ◌+◌, ◌^◌, min, sum};
 pub const MAX_ITEMS: u64 = 65_536;
 
 /// How much a request may weigh.
-pub const MAX_WEIGHT: u64 = 1 << 26;
+pub const MAX_TREE_WEIGHT: u64 = 1 << 26;
 
 /// How deep a value may be.
 pub const MAX_DEPTH: u64 = 32;

@@ -1,11 +1,13 @@
 ghost use Rattle.otlp_model.specs.Weight.{weight_of_log_record};
 ghost use Rattle.otlp_model.specs.Real.{IsRealLogRecord};
 ghost use Rattle.otlp_model.specs.Profile.{IsProfileLogRecord};
+ghost use Rattle.otlp_model.specs.Same.{SameLogRecord};
 
 use crate::limits::sum_capped;
 use crate::list::Items;
 use crate::octets::Octets;
 use crate::profile::{Profiled, all_profile};
+use crate::sameness::{Alike, same_pairs, same_value};
 use crate::text::Text;
 use crate::value::{Pair, Value};
 use crate::weights::{Weighed, pairs_weight, value_weight};
@@ -54,5 +56,22 @@ impl Profiled for LogRecord {
             && self.span_id.is_span_id()
             && self.body.is_profile()
             && all_profile(&self.pairs)
+    }
+}
+
+impl Alike for LogRecord {
+    ghost alike = { SameLogRecord };
+
+    fn is_same(&self, other: &Self) -> bool {
+        self.time == other.time
+            && self.observed == other.observed
+            && self.severity == other.severity
+            && self.severity_text.as_slice() == other.severity_text.as_slice()
+            && same_value(&self.body, &other.body)
+            && same_pairs(self.pairs.as_slice(), other.pairs.as_slice())
+            && self.dropped == other.dropped
+            && self.flags == other.flags
+            && self.trace_id.as_slice() == other.trace_id.as_slice()
+            && self.span_id.as_slice() == other.span_id.as_slice()
     }
 }

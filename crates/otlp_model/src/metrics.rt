@@ -2,11 +2,13 @@ ghost use Rattle.std.specs.Prelude.{IsTrue};
 ghost use Rattle.otlp_model.specs.Weight.{weight_of_exemplar, weight_of_point, weight_of_shape, weight_of_metric};
 ghost use Rattle.otlp_model.specs.Real.{is_real_number, IsRealExemplar, IsRealPoint, IsRealShape, IsRealMetric};
 ghost use Rattle.otlp_model.specs.Profile.{IsProfileExemplar, IsProfilePoint, IsProfileShape, IsProfileMetric};
+ghost use Rattle.otlp_model.specs.Same.{SameExemplar, SamePoint, SameShape, SameMetric};
 
 use crate::limits::sum_capped;
 use crate::list::Items;
 use crate::octets::Octets;
 use crate::profile::{Profiled, all_profile};
+use crate::sameness::{Alike, each_same, same_pairs};
 use crate::text::Text;
 use crate::value::Pair;
 use crate::weights::{Weighed, pairs_weight, parts_weight};
@@ -33,7 +35,7 @@ pub enum Shape {
 }
 
 /// A measured number; a double is its 64 bits (the oneof `value` of OTLP `NumberDataPoint` and `Exemplar`).
-#[derive(Debug, Drop)]
+#[derive(Clone, Copy, Debug, PartialEq, Eq)]
 pub enum Number {
     Missing,
     Int(i64),
@@ -182,5 +184,65 @@ impl Profiled for Metric {
 
     fn is_profile(&self) -> bool {
         self.shape.is_profile()
+    }
+}
+
+impl Alike for Exemplar {
+    ghost alike = { SameExemplar };
+
+    fn is_same(&self, other: &Self) -> bool {
+        self.time == other.time
+            && self.value == other.value
+            && self.span_id.as_slice() == other.span_id.as_slice()
+            && self.trace_id.as_slice() == other.trace_id.as_slice()
+            && same_pairs(self.pairs.as_slice(), other.pairs.as_slice())
+    }
+}
+
+impl Alike for Point {
+    ghost alike = { SamePoint };
+
+    fn is_same(&self, other: &Self) -> bool {
+        self.start == other.start
+            && self.time == other.time
+            && self.value == other.value
+            && self.flags == other.flags
+            && same_pairs(self.pairs.as_slice(), other.pairs.as_slice())
+            && each_same(self.exemplars.as_slice(), other.exemplars.as_slice())
+    }
+}
+
+impl Alike for Shape {
+    ghost alike = { SameShape };
+
+    fn is_same(&self, other: &Self) -> bool {
+        match (self, other) {
+            (Shape::Empty, Shape::Empty) => true,
+            (Shape::Gauge(xs), Shape::Gauge(ys)) => each_same(xs.as_slice(), ys.as_slice()),
+            (
+                Shape::Sum {
+                    points: xs,
+                    temporality: t,
+                    monotonic: m,
+                },
+                Shape::Sum {
+                    points: ys,
+                    temporality: u,
+                    monotonic: n,
+                },
+            ) => each_same(xs.as_slice(), ys.as_slice()) && t == u && m == n,
+            _ => false,
+        }
+    }
+}
+
+impl Alike for Metric {
+    ghost alike = { SameMetric };
+
+    fn is_same(&self, other: &Self) -> bool {
+        self.name.as_slice() == other.name.as_slice()
+            && self.description.as_slice() == other.description.as_slice()
+            && self.unit.as_slice() == other.unit.as_slice()
+            && self.shape.is_same(&other.shape)
     }
 }

@@ -3,6 +3,7 @@ ghost use Rattle.otlp_model.specs.Telemetry.{telemetry};
 ghost use Rattle.otlp_model.specs.Weight.{weight_of};
 ghost use Rattle.otlp_model.specs.Real.{IsReal};
 ghost use Rattle.otlp_model.specs.Profile.{IsProfile};
+ghost use Rattle.otlp_model.specs.Same.{Same};
 
 use crate::counts::item_count;
 use crate::groups::ResourceGroup;
@@ -11,6 +12,7 @@ use crate::logs::LogRecord;
 use crate::metrics::Metric;
 use crate::profile::all_profile;
 use crate::spans::Span;
+use crate::walk::same_groups;
 use crate::weights::parts_weight;
 
 /// The kinds of telemetry.
@@ -67,5 +69,22 @@ pub fn is_profile(request: &Request) -> bool
         Request::Traces(groups) => all_profile(groups),
         Request::Logs(groups) => all_profile(groups),
         Request::Metrics(groups) => all_profile(groups),
+    }
+}
+
+/// Whether both requests denote the same telemetry: the same items in order over all groups, each with the same resource
+/// and scope. Lists of attributes are compared by how often each pair occurs, everything else in order; groups without
+/// items don't count. Requests of different signals denote the same exactly where neither has items.
+///
+/// It takes no memory. Linear in both requests as far as lists of attributes stand in the same order; what is left of a
+/// list behind the first difference is counted, in a comparison for each two of its pairs. It recurses as `depth` does.
+pub fn same(a: &Request, b: &Request) -> bool
+    ensures { IsTrue result ↔ Same a.now b.now }
+{
+    match (a, b) {
+        (Request::Traces(x), Request::Traces(y)) => same_groups(x.as_slice(), y.as_slice()),
+        (Request::Logs(x), Request::Logs(y)) => same_groups(x.as_slice(), y.as_slice()),
+        (Request::Metrics(x), Request::Metrics(y)) => same_groups(x.as_slice(), y.as_slice()),
+        _ => items(a) == 0 && items(b) == 0,
     }
 }

@@ -1,11 +1,13 @@
 ghost use Rattle.otlp_model.specs.Weight.{weight_of_event, weight_of_link, weight_of_span};
 ghost use Rattle.otlp_model.specs.Real.{IsRealEvent, IsRealLink, IsRealSpan};
 ghost use Rattle.otlp_model.specs.Profile.{IsProfileEvent, IsProfileLink, IsProfileSpan};
+ghost use Rattle.otlp_model.specs.Same.{SameEvent, SameLink, SameSpan};
 
 use crate::limits::sum_capped;
 use crate::list::Items;
 use crate::octets::Octets;
 use crate::profile::{Profiled, all_profile};
+use crate::sameness::{Alike, each_same, same_pairs};
 use crate::text::Text;
 use crate::value::Pair;
 use crate::weights::{Weighed, pairs_weight, parts_weight};
@@ -135,5 +137,53 @@ impl Profiled for Span {
             && all_profile(&self.pairs)
             && all_profile(&self.events)
             && all_profile(&self.links)
+    }
+}
+
+impl Alike for Event {
+    ghost alike = { SameEvent };
+
+    fn is_same(&self, other: &Self) -> bool {
+        self.time == other.time
+            && self.name.as_slice() == other.name.as_slice()
+            && same_pairs(self.pairs.as_slice(), other.pairs.as_slice())
+            && self.dropped == other.dropped
+    }
+}
+
+impl Alike for Link {
+    ghost alike = { SameLink };
+
+    fn is_same(&self, other: &Self) -> bool {
+        self.trace_id.as_slice() == other.trace_id.as_slice()
+            && self.span_id.as_slice() == other.span_id.as_slice()
+            && self.trace_state.as_slice() == other.trace_state.as_slice()
+            && self.flags == other.flags
+            && same_pairs(self.pairs.as_slice(), other.pairs.as_slice())
+            && self.dropped == other.dropped
+    }
+}
+
+impl Alike for Span {
+    ghost alike = { SameSpan };
+
+    fn is_same(&self, other: &Self) -> bool {
+        self.trace_id.as_slice() == other.trace_id.as_slice()
+            && self.span_id.as_slice() == other.span_id.as_slice()
+            && self.parent_span_id.as_slice() == other.parent_span_id.as_slice()
+            && self.trace_state.as_slice() == other.trace_state.as_slice()
+            && self.name.as_slice() == other.name.as_slice()
+            && self.kind == other.kind
+            && self.start == other.start
+            && self.end == other.end
+            && self.flags == other.flags
+            && same_pairs(self.pairs.as_slice(), other.pairs.as_slice())
+            && self.dropped_pairs == other.dropped_pairs
+            && each_same(self.events.as_slice(), other.events.as_slice())
+            && self.dropped_events == other.dropped_events
+            && each_same(self.links.as_slice(), other.links.as_slice())
+            && self.dropped_links == other.dropped_links
+            && self.status_code == other.status_code
+            && self.status_message.as_slice() == other.status_message.as_slice()
     }
 }
