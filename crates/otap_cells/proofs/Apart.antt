@@ -1,0 +1,83 @@
+-- What tells the columns of a table apart.
+use Rattle.std.proofs.Common.{◌≡◌, ℕ, zero, suc, ◌<◌, ◌^◌, Bool, true, false, not, ◌&&◌, ◌||◌, List, [], ◌∷◌, length, get_or, map, refl, sym, ◌∙◌, ap, arith, lit<}
+use Rattle.std.proofs.lemmas.List.{length-map, get_or-map}
+use Rattle.std.proofs.lemmas.Slice.Eq.{bytes_eq-Decides}
+use Rattle.otap_cells.specs.declared.profile.Base.TheVariants as base
+use Rattle.std.specs.List.{list_any}
+use Rattle.std.specs.Str.{bytes_eq}
+use Rattle.otap_cells.specs.declared.payload.Kind.{Kind}
+use Rattle.otap_cells.specs.declared.payload.Kind.TheVariants.{ResourceAttrs, ScopeAttrs, Metrics, NumberPoints, NumberPointAttrs, NumberExemplars, NumberExemplarAttrs, Logs, LogAttrs, Spans, SpanAttrs, SpanEvents, SpanLinks, EventAttrs, LinkAttrs}
+use Rattle.otap_cells.specs.Columns.{plain, columns_of, width_of, name_at, attrs, deep_attrs, metrics, number_points, number_exemplars, logs, spans, span_events, span_links}
+
+-- no name stands twice
+abbrev all_apart : List (List ℕ) → Bool
+all_apart [] = true
+all_apart (name ∷ names) = not (list_any (bytes_eq name) names) && all_apart names
+
+names_apart : (kind : Kind) → all_apart (map (λ column. column.name) (columns_of kind)) ≡ true
+unfolding attrs deep_attrs metrics number_points number_exemplars logs spans span_events span_links
+names_apart ResourceAttrs = refl
+names_apart ScopeAttrs = refl
+names_apart Metrics = refl
+names_apart NumberPoints = refl
+names_apart NumberPointAttrs = refl
+names_apart NumberExemplars = refl
+names_apart NumberExemplarAttrs = refl
+names_apart Logs = refl
+names_apart LogAttrs = refl
+names_apart Spans = refl
+names_apart SpanAttrs = refl
+names_apart SpanEvents = refl
+names_apart SpanLinks = refl
+names_apart EventAttrs = refl
+names_apart LinkAttrs = refl
+
+or_parts : (a b : Bool) → (a || b) ≡ false → (a ≡ false) × (b ≡ false)
+or_parts true b h = cc
+or_parts false b h = (refl, h)
+
+and_parts : (a b : Bool) → (not a && b) ≡ true → (a ≡ false) × (b ≡ true)
+and_parts true b h = cc
+and_parts false b h = (refl, h)
+
+-- no later name is the first one
+not_later : (name : List ℕ) (names : List (List ℕ)) (place : ℕ) → place < length names → list_any (bytes_eq name) names ≡ false → name ≡ get_or names place [] → ⊥
+not_later name [] place within none same = absurd (omega arith)
+not_later name (other ∷ names) zero within none same =
+    let differs = (or_parts (bytes_eq name other) (list_any (bytes_eq name) names) none).0 in
+    let equal = (bytes_eq-Decides name other).1 same in cc
+not_later name (other ∷ names) (suc place) within none same =
+    not_later name names place (omega arith) (or_parts (bytes_eq name other) (list_any (bytes_eq name) names) none).1 same
+
+apart_at : (names : List (List ℕ)) (a b : ℕ) → all_apart names ≡ true → a < length names → b < length names → get_or names a [] ≡ get_or names b [] → a ≡ b
+apart_at [] a b apart in_a in_b same = absurd (omega arith)
+apart_at (name ∷ names) zero zero apart in_a in_b same = refl
+apart_at (name ∷ names) zero (suc b) apart in_a in_b same = absurd (not_later name names b (omega arith) (and_parts (list_any (bytes_eq name) names) (all_apart names) apart).0 same)
+apart_at (name ∷ names) (suc a) zero apart in_a in_b same = absurd (not_later name names a (omega arith) (and_parts (list_any (bytes_eq name) names) (all_apart names) apart).0 (sym same))
+apart_at (name ∷ names) (suc a) (suc b) apart in_a in_b same = ap suc (apart_at names a b (and_parts (list_any (bytes_eq name) names) (all_apart names) apart).1 (omega arith) (omega arith) same)
+
+pub same_names : (kind : Kind) (a b : ℕ) → a < width_of kind → b < width_of kind → name_at kind a ≡ name_at kind b → a ≡ b
+same_names kind a b in_a in_b same =
+    let long = length-map (columns_of kind) (λ column. column.name) in
+    let name = get_or-map (λ column. column.name) (columns_of kind) in
+    apart_at (map (λ column. column.name) (columns_of kind)) a b (names_apart kind) (omega arith) (omega arith)
+    (name a (plain [] base.Binary) [] in_a ∙ same ∙ sym (name b (plain [] base.Binary) [] in_b))
+
+-- a place fits 32 bits
+pub narrow : (kind : Kind) → width_of kind < 2 ^ 32
+unfolding attrs deep_attrs metrics number_points number_exemplars logs spans span_events span_links
+narrow ResourceAttrs = lit< tt
+narrow ScopeAttrs = lit< tt
+narrow Metrics = lit< tt
+narrow NumberPoints = lit< tt
+narrow NumberPointAttrs = lit< tt
+narrow NumberExemplars = lit< tt
+narrow NumberExemplarAttrs = lit< tt
+narrow Logs = lit< tt
+narrow LogAttrs = lit< tt
+narrow Spans = lit< tt
+narrow SpanAttrs = lit< tt
+narrow SpanEvents = lit< tt
+narrow SpanLinks = lit< tt
+narrow EventAttrs = lit< tt
+narrow LinkAttrs = lit< tt

@@ -1,0 +1,71 @@
+-- Rows that are filled cell by cell.
+use Rattle.std.proofs.Common.{◌≡◌, ℕ, zero, suc, ◌+◌, ◌-◌, ◌<◌, ◌≤◌, List, [], ◌∷◌, ◌++◌, length, get_or, take, set, replicate, refl, sym, ◌∙◌, ap, arith, length-append, length-take-le, append_assoc, append-nil}
+use Rattle.std.proofs.Math.Seq.{set-append_seam, get_or-append_seam}
+use Rattle.std.proofs.lemmas.List.{take_all, take_more, set-append_right}
+use Rattle.otap_cells.specs.Cells.{Cell, null, IsCellOf}
+use Rattle.otap_cells.specs.declared.payload.Kind.{Kind}
+use Rattle.otap_cells.specs.Columns.{ColumnSpec, width_of}
+use Rattle.otap_cells.specs.Tables.{Table, IsRow, null_row, with_cell}
+
+-- the last row is the one that was added
+pub with_cell-push : (column : ℕ) (x : Cell) (before : List (List Cell)) (row : List Cell) → with_cell column x (before ++ row ∷ []) ≡ before ++ set row column x ∷ []
+unfolding with_cell
+with_cell-push column x before row =
+    let last : length (before ++ row ∷ []) - 1 ≡ length before = omega (arith, length-append before (row ∷ [])) in
+    ap (λ place. set (before ++ row ∷ []) place (set (get_or (before ++ row ∷ []) place []) column x)) last
+    ∙ ap (λ found. set (before ++ row ∷ []) (length before) (set found column x)) (get_or-append_seam before row [] [])
+    ∙ set-append_seam before row [] (set row column x)
+
+-- a row whose first cells are written
+abbrev pub filled : List Cell → ℕ → List Cell
+filled cells count = take count cells ++ replicate (length cells - count) null
+
+pub filled_more : (cells : List Cell) (count : ℕ) → count < length cells → set (filled cells count) count (get_or cells count null) ≡ filled cells (count + 1)
+filled_more cells count within =
+    let long : length (take count cells) ≡ count = length-take-le count cells (omega arith) in
+    let left : length cells - count ≡ suc (length cells - (count + 1)) = omega arith in
+    let none : count - count ≡ 0 = omega arith in
+    set-append_right (take count cells) (replicate (length cells - count) null) count count (get_or cells count null) long (omega arith)
+    ∙ ap (λ n. take count cells ++ set (replicate n null) (count - count) (get_or cells count null)) left
+    ∙ ap (λ n. take count cells ++ set (replicate (suc (length cells - (count + 1))) null) n (get_or cells count null)) none
+    ∙ sym (append_assoc (take count cells) (get_or cells count null ∷ []) (replicate (length cells - (count + 1)) null))
+    ∙ ap (λ front. front ++ replicate (length cells - (count + 1)) null) (sym (take_more cells count null within))
+
+-- a row of the columns is as long as they are, and each of its cells is of its column's base
+pub length-IsRow : (columns : List ColumnSpec) (cells : List Cell) → IsRow columns cells → length cells ≡ length columns
+length-IsRow [] [] fits = refl
+length-IsRow [] (cell ∷ cells) fits = absurd fits
+length-IsRow (column ∷ columns) [] fits = absurd fits
+length-IsRow (column ∷ columns) (cell ∷ cells) fits = ap suc (length-IsRow columns cells fits.1)
+
+pub IsRow-at : (columns : List ColumnSpec) (cells : List Cell) (place : ℕ) (d : ColumnSpec) → IsRow columns cells → IsCellOf (get_or columns place d).base (get_or cells place null)
+IsRow-at [] [] place d fits = tt
+IsRow-at [] (cell ∷ cells) place d fits = absurd fits
+IsRow-at (column ∷ columns) [] place d fits = absurd fits
+IsRow-at (column ∷ columns) (cell ∷ cells) zero d fits = fits.0
+IsRow-at (column ∷ columns) (cell ∷ cells) (suc place) d fits = IsRow-at columns cells place d fits.1
+
+-- a row that was added, cell by cell
+pub fill_begins : (old new : Table) (cells : List Cell) → new ≡ record old { rows = old.rows ++ null_row old.kind ∷ [] } → length cells ≡ width_of old.kind
+    → (new.kind ≡ old.kind) × (new.rows ≡ old.rows ++ filled cells 0 ∷ [])
+fill_begins old new cells is long =
+    let all : width_of old.kind ≡ length cells - 0 = omega arith in
+    (ap (λ t. t.kind) is, ap (λ t. t.rows) is ∙ ap (λ n. old.rows ++ replicate n null ∷ []) all)
+
+pub fill_goes_on : (old new : Table) (kind : Kind) (before : List (List Cell)) (cells : List Cell) (column : ℕ) (x : Cell)
+    → old.kind ≡ kind → old.rows ≡ before ++ filled cells column ∷ [] → column < length cells → x ≡ get_or cells column null
+    → new ≡ record old { rows = with_cell column x old.rows } → (new.kind ≡ kind) × (new.rows ≡ before ++ filled cells (column + 1) ∷ [])
+fill_goes_on old new kind before cells column x same so_far within here is = (
+  ap (λ t. t.kind) is ∙ same,
+  ap (λ t. t.rows) is ∙ ap (with_cell column x) so_far ∙ with_cell-push column x before (filled cells column)
+      ∙ ap (λ row. before ++ row ∷ []) (ap (set (filled cells column) column) here ∙ filled_more cells column within),
+)
+
+pub fill_ends : (t : Table) (kind : Kind) (before : List (List Cell)) (cells : List Cell) (column : ℕ)
+    → t.kind ≡ kind → t.rows ≡ before ++ filled cells column ∷ [] → length cells ≤ column → t ≡ record { kind = kind; rows = before ++ cells ∷ [] }
+fill_ends t kind before cells column same so_far all =
+    let none : length cells - column ≡ 0 = omega arith in
+    let whole : filled cells column ≡ cells
+    = ap (λ front. front ++ replicate (length cells - column) null) (take_all column cells all)
+    ∙ ap (λ n. cells ++ replicate n null) none ∙ append-nil cells in
+    λ i. record { kind = same i; rows = (so_far ∙ ap (λ row. before ++ row ∷ []) whole) i }

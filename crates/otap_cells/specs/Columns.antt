@@ -1,0 +1,187 @@
+-- The columns of each table (OpenTelemetry Arrow data model; names, types and codings are this gateway's profile).
+use Rattle.std.specs.Prelude.{ℕ, Bool, true, false, List, [], ◌∷◌, ◌++◌, length, codes, Option, None, if◌then◌else◌, ◌==◌}
+use Rattle.std.specs.List.{slice_index_or, list_any, join_with_byte, position_from}
+use Rattle.std.specs.Str.{bytes_eq}
+use Rattle.otap_cells.specs.declared.payload.Kind.{Kind}
+use Rattle.otap_cells.specs.declared.payload.Kind.TheVariants.{ResourceAttrs, ScopeAttrs, Metrics, NumberPoints, NumberPointAttrs, NumberExemplars, NumberExemplarAttrs, Logs, LogAttrs, Spans, SpanAttrs, SpanEvents, SpanLinks, EventAttrs, LinkAttrs}
+use Rattle.otap_cells.specs.declared.profile.Base.{Base}
+use Rattle.otap_cells.specs.declared.profile.Base.TheVariants as base
+use Rattle.otap_cells.specs.declared.profile.Coding.{Coding}
+use Rattle.otap_cells.specs.declared.profile.Coding.TheVariants as coding
+use Rattle.otap_cells.specs.declared.profile.Column.{Column}
+
+-- a column: its dotted name, what its cells hold, whether it is written as a dictionary, how its ids are stored
+pub record ColumnSpec : Type 0 where
+  pub name : List ℕ
+  pub base : Base
+  pub dictionary : Bool
+  pub coding : Coding
+
+-- the column that the program's table has
+abbrev pub described : Column → ColumnSpec
+described c = record { name = c.name.now; base = c.base; dictionary = c.dictionary; coding = c.coding }
+
+-- the four sorts of lines in the tables below
+abbrev pub plain : List ℕ → Base → ColumnSpec
+plain name holds = record { name = name; base = holds; dictionary = false; coding = coding.Plain }
+
+abbrev pub dictionary : List ℕ → Base → ColumnSpec
+dictionary name holds = record { name = name; base = holds; dictionary = true; coding = coding.Plain }
+
+abbrev pub delta : List ℕ → Base → ColumnSpec
+delta name holds = record { name = name; base = holds; dictionary = false; coding = coding.Delta }
+
+abbrev pub run : List ℕ → Base → ColumnSpec
+run name holds = record { name = name; base = holds; dictionary = false; coding = coding.Run }
+
+-- the columns at the front of each main table: the item's own id, its resource and its scope
+abbrev pub common : List ColumnSpec
+common = delta (codes "id") base.U16
+    ∷ delta (codes "resource.id") base.U16
+    ∷ dictionary (codes "resource.schema_url") base.Utf8
+    ∷ plain (codes "resource.dropped_attributes_count") base.U32
+    ∷ delta (codes "scope.id") base.U16
+    ∷ dictionary (codes "scope.name") base.Utf8
+    ∷ dictionary (codes "scope.version") base.Utf8
+    ∷ plain (codes "scope.dropped_attributes_count") base.U32
+    ∷ dictionary (codes "schema_url") base.Utf8 ∷ []
+
+-- log records
+unfoldable pub logs : List ColumnSpec
+logs = common ++ (plain (codes "time_unix_nano") base.Timestamp
+    ∷ plain (codes "observed_time_unix_nano") base.Timestamp
+    ∷ plain (codes "trace_id") base.Fixed16
+    ∷ plain (codes "span_id") base.Fixed8
+    ∷ dictionary (codes "severity_number") base.I32
+    ∷ dictionary (codes "severity_text") base.Utf8
+    ∷ plain (codes "body.type") base.U8
+    ∷ plain (codes "body.str") base.Utf8
+    ∷ plain (codes "body.int") base.I64
+    ∷ plain (codes "body.double") base.Double
+    ∷ plain (codes "body.bool") base.Bool
+    ∷ plain (codes "body.bytes") base.Binary
+    ∷ plain (codes "body.ser") base.Binary
+    ∷ plain (codes "dropped_attributes_count") base.U32
+    ∷ plain (codes "flags") base.U32 ∷ [])
+
+-- spans
+unfoldable pub spans : List ColumnSpec
+spans = common ++ (plain (codes "start_time_unix_nano") base.Timestamp
+    ∷ dictionary (codes "duration_time_unix_nano") base.Duration
+    ∷ plain (codes "trace_id") base.Fixed16
+    ∷ plain (codes "span_id") base.Fixed8
+    ∷ dictionary (codes "trace_state") base.Utf8
+    ∷ plain (codes "parent_span_id") base.Fixed8
+    ∷ dictionary (codes "name") base.Utf8
+    ∷ dictionary (codes "kind") base.I32
+    ∷ plain (codes "dropped_attributes_count") base.U32
+    ∷ plain (codes "dropped_events_count") base.U32
+    ∷ plain (codes "dropped_links_count") base.U32
+    ∷ dictionary (codes "status.code") base.I32
+    ∷ dictionary (codes "status.status_message") base.Utf8
+    ∷ plain (codes "flags") base.U32 ∷ [])
+
+-- metrics
+unfoldable pub metrics : List ColumnSpec
+metrics = common ++ (plain (codes "metric_type") base.U8
+    ∷ dictionary (codes "name") base.Utf8
+    ∷ dictionary (codes "description") base.Utf8
+    ∷ dictionary (codes "unit") base.Utf8
+    ∷ dictionary (codes "aggregation_temporality") base.I32
+    ∷ plain (codes "is_monotonic") base.Bool ∷ [])
+
+-- attributes, by the width of their parents' ids
+abbrev pub attributes : Base → List ColumnSpec
+attributes parent = run (codes "parent_id") parent
+    ∷ dictionary (codes "key") base.Utf8
+    ∷ plain (codes "type") base.U8
+    ∷ dictionary (codes "str") base.Utf8
+    ∷ dictionary (codes "int") base.I64
+    ∷ plain (codes "double") base.Double
+    ∷ plain (codes "bool") base.Bool
+    ∷ dictionary (codes "bytes") base.Binary
+    ∷ dictionary (codes "ser") base.Binary ∷ []
+
+-- events of spans
+unfoldable pub span_events : List ColumnSpec
+span_events = delta (codes "id") base.U32
+    ∷ run (codes "parent_id") base.U16
+    ∷ plain (codes "time_unix_nano") base.Timestamp
+    ∷ dictionary (codes "name") base.Utf8
+    ∷ plain (codes "dropped_attributes_count") base.U32 ∷ []
+
+-- links of spans
+unfoldable pub span_links : List ColumnSpec
+span_links = delta (codes "id") base.U32
+    ∷ run (codes "parent_id") base.U16
+    ∷ plain (codes "trace_id") base.Fixed16
+    ∷ plain (codes "span_id") base.Fixed8
+    ∷ dictionary (codes "trace_state") base.Utf8
+    ∷ plain (codes "dropped_attributes_count") base.U32
+    ∷ plain (codes "flags") base.U32 ∷ []
+
+-- points of gauges and sums
+unfoldable pub number_points : List ColumnSpec
+number_points = delta (codes "id") base.U32
+    ∷ delta (codes "parent_id") base.U16
+    ∷ plain (codes "start_time_unix_nano") base.Timestamp
+    ∷ plain (codes "time_unix_nano") base.Timestamp
+    ∷ plain (codes "int_value") base.I64
+    ∷ plain (codes "double_value") base.Double
+    ∷ plain (codes "flags") base.U32 ∷ []
+
+-- exemplars of these points
+unfoldable pub number_exemplars : List ColumnSpec
+number_exemplars = delta (codes "id") base.U32
+    ∷ delta (codes "parent_id") base.U32
+    ∷ plain (codes "time_unix_nano") base.Timestamp
+    ∷ plain (codes "int_value") base.I64
+    ∷ plain (codes "double_value") base.Double
+    ∷ plain (codes "span_id") base.Fixed8
+    ∷ plain (codes "trace_id") base.Fixed16 ∷ []
+
+-- attributes of resources, scopes, log records and spans
+unfoldable pub attrs : List ColumnSpec
+attrs = attributes base.U16
+
+-- attributes of points, exemplars, events and links
+unfoldable pub deep_attrs : List ColumnSpec
+deep_attrs = attributes base.U32
+
+-- the columns of each kind's tables, in their order
+abbrev pub columns_of : Kind → List ColumnSpec
+columns_of ResourceAttrs = attrs
+columns_of ScopeAttrs = attrs
+columns_of Metrics = metrics
+columns_of NumberPoints = number_points
+columns_of NumberPointAttrs = deep_attrs
+columns_of NumberExemplars = number_exemplars
+columns_of NumberExemplarAttrs = deep_attrs
+columns_of Logs = logs
+columns_of LogAttrs = attrs
+columns_of Spans = spans
+columns_of SpanAttrs = attrs
+columns_of SpanEvents = span_events
+columns_of SpanLinks = span_links
+columns_of EventAttrs = deep_attrs
+columns_of LinkAttrs = deep_attrs
+
+-- how many columns a kind has
+abbrev pub width_of : Kind → ℕ
+width_of kind = length (columns_of kind)
+
+-- what the cells of a column hold
+abbrev pub base_at : Kind → ℕ → Base
+base_at kind column = (slice_index_or (columns_of kind) column (plain [] base.Binary)).base
+
+-- the dotted name of a column
+abbrev pub name_at : Kind → ℕ → List ℕ
+name_at kind column = (slice_index_or (columns_of kind) column (plain [] base.Binary)).name
+
+-- a name that holds a dot
+abbrev pub has_dot : List ℕ → Bool
+has_dot name = list_any (λ byte. byte == 46) name
+
+-- the first column with this path of names, joined by dots; a name that holds a dot is on no path
+abbrev pub place_of : List ColumnSpec → List (List ℕ) → Option ℕ
+place_of columns path = if list_any has_dot path then None else position_from (λ column. bytes_eq (join_with_byte 46 path) column.name) 0 columns

@@ -1,0 +1,9 @@
+pub mod Bases
+pub mod Cells
+pub mod Columns
+pub mod Kept
+pub mod Payload
+pub mod Places
+pub mod Sets
+pub mod Tables
+pub mod Weights

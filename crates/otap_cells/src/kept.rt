@@ -1,0 +1,99 @@
+ghost use Rattle.std.specs.Prelude.{◌≡◌, [], ◌++◌, ◌+◌, ◌-◌, ◌<◌, ◌≤◌, ◌^◌, ℕ, length, replicate, slice_set, OnOk, OnErr, IfOk};
+ghost use Rattle.std.specs.List.{slice_index_or};
+ghost use Rattle.otap_cells.specs.Cells.{seen, null, bytes_in};
+ghost use Rattle.otap_cells.specs.Kept.{cell_of, reach};
+
+use crate::view::CellView;
+use std::alloc::{AllocError, Global};
+use std::marker::Model;
+
+// A cell as a column keeps it; `Bytes` names a part of the column's bytes.
+#[derive(Clone, Copy, Debug)]
+pub enum Slot {
+    Null,
+    Num(i64),
+    Bits(u64),
+    Flag(bool),
+    Bytes { from: usize, len: usize },
+}
+
+// The cells of one column, from the first row to the last one that was set.
+#[derive(Debug, Drop)]
+pub struct Cells {
+    slots: Vec<Slot>,
+    bytes: Vec<u8>,
+}
+
+impl Model for Cells {
+    ghost use Rattle.std.specs.Prelude.{ℕ, ◌≤◌, List, length, map, All};
+    ghost use Rattle.otap_cells.specs.Cells.{Cell};
+
+    ghost Value = { List Cell };
+
+    ghost use Rattle.otap_cells.specs.Kept.{cell_of, reach};
+
+    ghost view = { λ a. map (cell_of a.bytes.items) a.slots.items };
+
+    ghost invariant = { λ a. All (λ slot. reach slot ≤ length a.bytes.items) a.slots.items };
+}
+
+impl Cells {
+    pub fn new(alloc: Global) -> Cells
+        ensures { result ≡ [] }
+    {
+        Cells {
+            slots: Vec::new(alloc),
+            bytes: Vec::new(alloc),
+        }
+    }
+
+    // The cell of a row, null behind the last one.
+    pub fn get(&self, row: usize) -> CellView<'_>
+        ensures { seen result ≡ slice_index_or self.now row null }
+    {
+        if row >= self.slots.len() {
+            return CellView::Null;
+        }
+        match self.slots[row] {
+            Slot::Null => CellView::Null,
+            Slot::Num(number) => CellView::Num(number),
+            Slot::Bits(bits) => CellView::Bits(bits),
+            Slot::Flag(flag) => CellView::Flag(flag),
+            Slot::Bytes { from, len } => CellView::Bytes(&self.bytes[from..from + len]),
+        }
+    }
+
+    // Writes the cell of a row that no cell stands behind. The bytes of a cell that stood there keep their room.
+    pub fn set(&mut self, row: usize, cell: CellView<'_>) -> Result<(), AllocError>
+        requires last { length self.old ≤ row + 1 }
+        requires room { row + 1 < 2 ^ 64 }
+        ensures ok { OnOk result (self.new ≡ slice_set (self.old ++ replicate (row + 1 - length self.old) null) row (seen cell.entry)) }
+        ensures err { OnErr result (self.new ≡ self.old) }
+    {
+        let slot = keep(&mut self.bytes, cell)?;
+        self.slots.resize(row + 1, Slot::Null)?;
+        self.slots[row] = slot;
+        Ok(())
+    }
+}
+
+// The slot of a cell, whose bytes come behind those that are kept.
+fn keep(kept: &mut Vec<u8>, cell: CellView<'_>) -> Result<Slot, AllocError>
+    ensures ok { OnOk result (kept.new.items ≡ kept.old.items ++ bytes_in (seen cell.entry)) }
+    ensures err { OnErr result (kept.new.items ≡ kept.old.items) }
+    ensures value { IfOk result (λ slot. cell_of kept.new.items slot ≡ seen cell.entry) }
+    ensures within { IfOk result (λ slot. reach slot ≤ length kept.new.items) }
+{
+    match cell {
+        CellView::Null => Ok(Slot::Null),
+        CellView::Num(number) => Ok(Slot::Num(number)),
+        CellView::Bits(bits) => Ok(Slot::Bits(bits)),
+        CellView::Flag(flag) => Ok(Slot::Flag(flag)),
+        CellView::Bytes(part) => {
+            let from = kept.len();
+            kept.extend_from_slice(part)?;
+            let len = part.len();
+            Ok(Slot::Bytes { from, len })
+        }
+    }
+}

@@ -1,0 +1,153 @@
+ghost use Rattle.std.specs.Prelude.{◌≡◌, ◌++◌, ◌∷◌, [], ◌<◌, ◌≤◌, ◌+◌, ◌^◌, ℕ, length, map, take, OnOk, OnErr, IfOk};
+ghost use Rattle.std.specs.List.{slice_index_or};
+ghost use Rattle.otap_cells.specs.Cells.{Cell, seen, null, IsCellOf};
+ghost use Rattle.otap_cells.specs.Columns.{columns_of, base_at, width_of};
+ghost use Rattle.otap_cells.specs.Tables.{Table, IsTable, IsRow, cell_in, null_row, with_cell};
+
+use crate::kept::Cells;
+use crate::payload::Kind;
+use crate::profile::columns;
+use crate::rows::Rows;
+use crate::view::CellView;
+use std::alloc::{AllocError, Global};
+use std::marker::Model;
+
+/// A table that is built row by row. Contracts see it as its kind and its rows.
+///
+/// The cells are kept column by column. A column takes room only up to the last row in which it was set.
+#[derive(Debug, Drop)]
+pub struct LogicalTable {
+    alloc: Global,
+    kind: Kind,
+    rows: u64,
+    columns: Vec<Cells>,
+}
+
+impl Model for LogicalTable {
+    ghost use Rattle.otap_cells.specs.Tables.{Table, table_by, by_columns};
+    ghost use Rattle.otap_cells.specs.Kept.{IsKept};
+
+    ghost Value = { Table };
+
+    ghost view = { λ a. table_by a.kind a.rows (by_columns a.columns.items) };
+
+    ghost invariant = { λ a. IsKept a.kind a.rows a.columns.items };
+}
+
+impl LogicalTable {
+    /// The table of a kind that has no rows.
+    #[tactic(auto, unfolding(crate::specs::Tables::table_by))]
+    pub fn new(alloc: Global, kind: Kind) -> LogicalTable
+        ensures { result ≡ record { kind = kind; rows = [] } }
+    {
+        LogicalTable {
+            alloc,
+            kind,
+            rows: 0,
+            columns: Vec::new(alloc),
+        }
+    }
+
+    /// Appends a row in which every cell is null, in constant time. A table of 2^64 - 1 rows has no room for another one.
+    pub fn push_row(&mut self) -> Result<(), AllocError>
+        ensures ok { OnOk result (self.new ≡ record self.old { rows = self.old.rows ++ null_row self.old.kind ∷ [] }) }
+        ensures err { OnErr result (self.new ≡ self.old) }
+        ensures kind { self.new.kind ≡ self.old.kind }
+        ensures count { OnOk result (length self.new.rows ≡ length self.old.rows + 1) }
+    {
+        if self.rows == u64::MAX {
+            return Err(AllocError);
+        }
+        widen(self.alloc, &mut self.columns, columns(self.kind).len())?;
+        self.rows += 1;
+        Ok(())
+    }
+
+    /// Writes a cell of the last row, in amortised constant time and the time to copy its bytes. Where the cell had bytes
+    /// before, they keep their room.
+    pub fn set(&mut self, column: u32, cell: CellView<'_>) -> Result<(), AllocError>
+        requires column { column < width_of self.old.kind }
+        requires row { 0 < length self.old.rows }
+        requires base { IsCellOf (base_at self.old.kind column) (seen cell) }
+        ensures ok { OnOk result (self.new ≡ record self.old { rows = with_cell column (seen cell.entry) self.old.rows }) }
+        ensures err { OnErr result (self.new ≡ self.old) }
+        ensures kind { self.new.kind ≡ self.old.kind }
+        ensures count { length self.new.rows ≡ length self.old.rows }
+    {
+        let row = (self.rows - 1) as usize;
+        self.columns[column as usize].set(row, cell)?;
+        Ok(())
+    }
+}
+
+impl LogicalTable {
+    /// Appends a row of these cells, one for each column. After want of memory the former rows stand first; whether a
+    /// row stands behind them isn't told.
+    pub fn push_cells(&mut self, cells: &[CellView<'_>]) -> Result<(), AllocError>
+        requires { IsRow (columns_of self.old.kind) (map seen cells.now) }
+        ensures ok { OnOk result (self.new ≡ record self.old { rows = self.old.rows ++ map seen cells.now ∷ [] }) }
+        ensures err { OnErr result (take (length self.old.rows) self.new.rows ≡ self.old.rows) }
+        ensures kind { self.new.kind ≡ self.old.kind }
+    {
+        self.push_row()?;
+        'cells: for column in 0..cells.len() {
+            self.set(column as u32, cells[column])?;
+        }
+        Ok(())
+    }
+
+    /// A copy of any rows.
+    pub fn copy_of<R: Rows>(alloc: Global, rows: &R) -> Result<LogicalTable, AllocError>
+        ensures { IfOk result (λ table. table ≡ R.table rows.now) }
+    {
+        let mut table = LogicalTable::new(alloc, rows.kind());
+        'rows: for row in 0..rows.rows() {
+            table.copy_row(rows, row)?;
+        }
+        Ok(table)
+    }
+
+    // Appends a copy of a row.
+    fn copy_row<R: Rows>(&mut self, rows: &R, row: u64) -> Result<(), AllocError>
+        requires kind { self.old.kind ≡ (R.table rows.now).kind }
+        requires sound { IsTable (R.table rows.now) }
+        requires row { row < length (R.table rows.now).rows }
+        ensures ok { OnOk result (self.new ≡ record self.old { rows = self.old.rows ++ slice_index_or (R.table rows.now).rows row [] ∷ [] }) }
+    {
+        self.push_row()?;
+        'cells: for column in 0..columns(rows.kind()).len() {
+            self.set(column as u32, rows.cell(column as u32, row))?;
+        }
+        Ok(())
+    }
+}
+
+impl Rows for LogicalTable {
+    ghost table = { λ t. t };
+
+    fn kind(&self) -> Kind {
+        self.kind
+    }
+
+    fn rows(&self) -> u64 {
+        self.rows
+    }
+
+    fn cell(&self, column: u32, row: u64) -> CellView<'_> {
+        self.columns[column as usize].get(row as usize)
+    }
+}
+
+// Adds columns without cells until there are so many.
+fn widen(alloc: Global, columns: &mut Vec<Cells>, width: usize) -> Result<(), AllocError>
+    requires { length columns.old.items ≤ width }
+    ensures ok { OnOk result (length columns.new.items ≡ width) }
+    ensures grows { length columns.old.items ≤ length columns.new.items }
+    ensures few { length columns.new.items ≤ width }
+    ensures same { (column : ℕ) → slice_index_or columns.new.items column [] ≡ slice_index_or columns.old.items column [] }
+{
+    'columns: while columns.len() < width {
+        columns.push(Cells::new(alloc))?;
+    }
+    Ok(())
+}

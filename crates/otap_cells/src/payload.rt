@@ -1,0 +1,116 @@
+ghost use Rattle.std.specs.Prelude.{◌≡◌, pos};
+ghost use Rattle.otap_cells.specs.Payload.{number_of, kinds_of, main_of, kind_numbered};
+
+use otlp_model::Signal;
+
+/// A payload type: which table a payload of a batch carries.
+#[derive(Clone, Copy, Debug, PartialEq, Eq)]
+pub enum Kind {
+    /// The attributes of resources, in every signal.
+    ResourceAttrs,
+    /// The attributes of instrumentation scopes, in every signal.
+    ScopeAttrs,
+    /// The main table of metrics.
+    Metrics,
+    NumberPoints,
+    NumberPointAttrs,
+    NumberExemplars,
+    NumberExemplarAttrs,
+    /// The main table of logs: the log records.
+    Logs,
+    LogAttrs,
+    /// The main table of traces.
+    Spans,
+    SpanAttrs,
+    SpanEvents,
+    SpanLinks,
+    EventAttrs,
+    LinkAttrs,
+}
+
+impl Kind {
+    /// The number of the payload type in a batch message (OpenTelemetry Arrow Protocol, `ArrowPayloadType`).
+    pub fn number(self) -> i32
+        ensures { result ≡ pos (number_of self) }
+    {
+        match self {
+            Kind::ResourceAttrs => 1,
+            Kind::ScopeAttrs => 2,
+            Kind::Metrics => 10,
+            Kind::NumberPoints => 11,
+            Kind::NumberPointAttrs => 15,
+            Kind::NumberExemplars => 19,
+            Kind::NumberExemplarAttrs => 22,
+            Kind::Logs => 30,
+            Kind::LogAttrs => 31,
+            Kind::Spans => 40,
+            Kind::SpanAttrs => 41,
+            Kind::SpanEvents => 42,
+            Kind::SpanLinks => 43,
+            Kind::EventAttrs => 44,
+            Kind::LinkAttrs => 45,
+        }
+    }
+}
+
+static TRACES: [Kind; 8] = [
+    Kind::Spans,
+    Kind::ResourceAttrs,
+    Kind::ScopeAttrs,
+    Kind::SpanAttrs,
+    Kind::SpanEvents,
+    Kind::SpanLinks,
+    Kind::EventAttrs,
+    Kind::LinkAttrs,
+];
+
+static LOGS: [Kind; 4] = [
+    Kind::Logs,
+    Kind::ResourceAttrs,
+    Kind::ScopeAttrs,
+    Kind::LogAttrs,
+];
+
+static METRICS: [Kind; 7] = [
+    Kind::Metrics,
+    Kind::ResourceAttrs,
+    Kind::ScopeAttrs,
+    Kind::NumberPoints,
+    Kind::NumberPointAttrs,
+    Kind::NumberExemplars,
+    Kind::NumberExemplarAttrs,
+];
+
+/// The kinds of a signal: its main table first, then the others by ascending number.
+pub fn kinds(signal: Signal) -> &'static [Kind]
+    ensures { result.now ≡ kinds_of signal }
+{
+    match signal {
+        Signal::Traces => &TRACES,
+        Signal::Logs => &LOGS,
+        Signal::Metrics => &METRICS,
+    }
+}
+
+/// The main table of a signal: its spans, log records or metrics.
+pub fn main_of(signal: Signal) -> Kind
+    ensures { result ≡ main_of signal }
+{
+    match signal {
+        Signal::Traces => Kind::Spans,
+        Signal::Logs => Kind::Logs,
+        Signal::Metrics => Kind::Metrics,
+    }
+}
+
+/// The kind of the signal that has the number, or `None` where the signal has no such payload type.
+pub fn table_of(signal: Signal, kind: i32) -> Option<Kind>
+    ensures { result ≡ kind_numbered signal kind }
+{
+    'kinds: for known in kinds(signal) {
+        if known.number() == kind {
+            return Some(*known);
+        }
+    }
+    None
+}

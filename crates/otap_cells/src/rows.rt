@@ -1,0 +1,29 @@
+ghost use Rattle.std.specs.Prelude.{◌≡◌, ◌<◌, length};
+ghost use Rattle.otap_cells.specs.Cells.{seen, IsCellOf};
+ghost use Rattle.otap_cells.specs.Columns.{base_at, width_of};
+ghost use Rattle.otap_cells.specs.Tables.{Table, IsTable, cell_in};
+
+use crate::payload::Kind;
+use crate::view::CellView;
+
+/// The rows of a table, wherever they are kept.
+pub trait Rows {
+    // The table that these rows are.
+    ghost table: { Self → Table };
+
+    /// The kind whose columns the rows have.
+    fn kind(&self) -> Kind
+        ensures { result ≡ (table self.now).kind };
+
+    /// How many rows there are.
+    fn rows(&self) -> u64
+        ensures count { result ≡ length (table self.now).rows }
+        ensures sound { IsTable (table self.now) };
+
+    /// The cell of a row in a column, in constant time.
+    fn cell(&self, column: u32, row: u64) -> CellView<'_>
+        requires column { column < width_of (table self.now).kind }
+        requires row { row < length (table self.now).rows }
+        ensures value { seen result ≡ cell_in (table self.now).rows column row }
+        ensures fits { IsCellOf (base_at (table self.now).kind column) (seen result) };
+}

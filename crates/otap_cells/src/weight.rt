@@ -1,0 +1,63 @@
+ghost use Rattle.std.specs.Prelude.{◌≡◌, ◌<◌, ◌^◌, ◌*◌, ◌+◌, length, map, min, sum_by};
+ghost use Rattle.otap_cells.specs.Cells.{seen};
+ghost use Rattle.otap_cells.specs.Columns.{width_of};
+ghost use Rattle.otap_cells.specs.Tables.{Table, column_in};
+ghost use Rattle.otap_cells.specs.Sets.{tables_in};
+ghost use Rattle.otap_cells.specs.Weights.{cell_weight, weight_of_table, weight_of_tables};
+
+use crate::profile::{base_of, columns};
+use crate::rows::Rows;
+use crate::sets::TableSet;
+use crate::view::CellView;
+use otlp_model::{CAP, add_capped};
+
+/// How much the tables of a batch may weigh.
+pub const MAX_ROW_WEIGHT: u64 = 1 << 26;
+
+/// The row weight of a set of tables, or `CAP` where it is larger: 32 for each row, and the bytes of each text,
+/// binary and fixed cell that isn't null. Visits each of these cells once.
+pub fn row_weight<R: Rows>(set: &TableSet<R>) -> u64
+    ensures { result ≡ min (weight_of_tables (tables_in R.table set.now.tables.items)) (2 ^ 63) }
+{
+    let mut total = 0;
+    'tables: for (_, rows) in &set.tables {
+        total = add_capped(total, table_weight(rows));
+    }
+    total
+}
+
+fn table_weight<R: Rows>(rows: &R) -> u64
+    ensures { result ≡ min (weight_of_table (R.table rows.now)) (2 ^ 63) }
+{
+    let width = columns(rows.kind()).len();
+    let mut total = rows.rows().saturating_mul(32).min(CAP);
+    'columns: for column in 0..width {
+        total = add_capped(total, column_weight(rows, column as u32));
+    }
+    total
+}
+
+// The bytes of a column's cells. A column of another base isn't visited.
+fn column_weight<R: Rows>(rows: &R, column: u32) -> u64
+    requires { column < width_of (R.table rows.now).kind }
+    ensures { result ≡ min (sum_by cell_weight (column_in (R.table rows.now).rows column)) (2 ^ 63) }
+{
+    let count = rows.rows();
+    if !base_of(rows.kind(), column).has_bytes() {
+        return 0;
+    }
+    let mut total = 0;
+    'rows: for row in 0..count {
+        total = add_capped(total, bytes_of(rows.cell(column, row)));
+    }
+    total
+}
+
+fn bytes_of(cell: CellView<'_>) -> u64
+    ensures { result ≡ cell_weight (seen cell.entry) }
+{
+    match cell {
+        CellView::Bytes(part) => part.len() as u64,
+        CellView::Null | CellView::Num(_) | CellView::Bits(_) | CellView::Flag(_) => 0,
+    }
+}

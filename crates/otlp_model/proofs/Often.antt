@@ -1,0 +1,127 @@
+-- How often pairs occur.
+use Rattle.std.proofs.Common.{◌≡◌, ℕ, ◌+◌, ◌-◌, length, List, [], ◌∷◌, ◌++◌, take, drop, Bool, true, false, cond, refl, sym, ◌∙◌, ap, subst, inl, inr, arith}
+use Rattle.std.specs.Prelude.{◌↔◌, ◌⊎◌, IsTrue}
+use Rattle.std.specs.List.{All, slice_index_or}
+use Rattle.std.specs.List.Sorted.{IsPermutation}
+use Rattle.std.proofs.lemmas.Bool.{eqb-true, eq-eqb, false≢true, and_parts, and_from, cases_Bool}
+use Rattle.std.proofs.lemmas.List.{take-append-drop, take_rest}
+use Rattle.std.proofs.lemmas.List.Elements.{All-head, All-tail}
+use Rattle.std.proofs.lemmas.List.Sorted.{sum_by-IsPermutation}
+use Rattle.std.proofs.lemmas.List.Sums.{sum_by-cons, sum_by-append}
+use base.Stored.{Gv, gnil, gnum, gcons}
+use Rattle.otlp_model.specs.Each.{Each}
+use Rattle.otlp_model.specs.Equal.{code_is, pair_is}
+use Rattle.otlp_model.specs.Same.{occurrences, SameOften}
+use Rattle.otlp_model.specs.declared.value.Pair.{Pair}
+use Rattle.otlp_model.specs.contracts.value.Pair as contract
+
+code_is_true : (a b : Gv) → code_is a b ≡ true → a ≡ b
+code_is_true gnil gnil h = refl
+code_is_true gnil (gnum n) h = absurd (false≢true h)
+code_is_true gnil (gcons c d) h = absurd (false≢true h)
+code_is_true (gnum m) gnil h = absurd (false≢true h)
+code_is_true (gnum m) (gnum n) h = ap gnum (eqb-true m n h)
+code_is_true (gnum m) (gcons c d) h = absurd (false≢true h)
+code_is_true (gcons a b) gnil h = absurd (false≢true h)
+code_is_true (gcons a b) (gnum n) h = absurd (false≢true h)
+code_is_true (gcons a b) (gcons c d) h =
+    let parts = and_parts (code_is a c) (code_is b d) h in
+    let first : a ≡ c = code_is_true a c parts.0 in
+    let second : b ≡ d = code_is_true b d parts.1 in
+    cc
+
+code_is_itself : (a : Gv) → code_is a a ≡ true
+code_is_itself gnil = refl
+code_is_itself (gnum n) = eq-eqb n n refl
+code_is_itself (gcons a b) = and_from _ _ (code_is_itself a) (code_is_itself b)
+
+pub pair_same : (p q : Pair) → pair_is p q ≡ true → p ≡ q
+unfolding pair_is
+pair_same p q h = contract.the_row.coded.inj p q (code_is_true _ _ h)
+
+pub pair_is_itself : (p q : Pair) → p ≡ q → pair_is p q ≡ true
+unfolding pair_is
+pair_is_itself p q e = subst (λ x. code_is (contract.the_row.coded.code p) (contract.the_row.coded.code x) ≡ true) e (code_is_itself (contract.the_row.coded.code p))
+
+-- an answer that says whether two pairs are the same is the test
+pub pair_is_told : (r : Bool) (p q : Pair) → ((r ≡ true) ↔ (p ≡ q)) → r ≡ pair_is p q
+pair_is_told true p q h = sym (pair_is_itself p q (h.0 refl))
+pair_is_told false p q h = by (pair_is p q) (λ e. h.1 (pair_same p q e)) where
+  by : (b : Bool) → (b ≡ true → false ≡ true) → false ≡ b
+  by true f = f refl
+  by false f = refl
+
+pub occurrences-cons : (p x : Pair) (xs : List Pair) → occurrences p (x ∷ xs) ≡ cond (pair_is p x) 1 0 + occurrences p xs
+unfolding occurrences
+occurrences-cons p x xs = sum_by-cons (λ y. cond (pair_is p y) 1 0) x xs
+
+pub occurrences-append : (p : Pair) (xs ys : List Pair) → occurrences p (xs ++ ys) ≡ occurrences p xs + occurrences p ys
+unfolding occurrences
+occurrences-append p xs ys = sum_by-append (λ y. cond (pair_is p y) 1 0) xs ys
+
+-- two numbers of each pair that agree at the pairs of a list agree at a pair that occurs in it
+agree : (F G : Pair → ℕ) (p : Pair) (xs : List Pair) → All (λ x. F x ≡ G x) xs → (occurrences p xs ≡ 0) ⊎ (F p ≡ G p)
+unfolding occurrences
+agree F G p [] all = inl refl
+agree F G p (x ∷ xs) all = split (cases_Bool (pair_is p x)) (agree F G p xs (All-tail (λ y. F y ≡ G y) x xs all)) where
+  split : ((pair_is p x ≡ true) ⊎ (pair_is p x ≡ false)) → ((occurrences p xs ≡ 0) ⊎ (F p ≡ G p)) → (occurrences p (x ∷ xs) ≡ 0) ⊎ (F p ≡ G p)
+  split (inl hit) others = inr (subst (λ y. F y ≡ G y) (sym (pair_same p x hit)) (All-head (λ y. F y ≡ G y) x xs all))
+  split (inr miss) (inr e) = inr e
+  split (inr miss) (inl none) = inl (occurrences-cons p x xs ∙ (rw (miss, none) refl))
+
+pub same_often : (xs ys : List Pair) → Each (λ p. occurrences p xs ≡ occurrences p ys) xs
+    → Each (λ p. occurrences p xs ≡ occurrences p ys) ys → SameOften xs ys
+same_often xs ys in_xs in_ys = record {
+  each = λ p.
+      by p (agree (λ q. occurrences q xs) (λ q. occurrences q ys) p xs in_xs.at)
+      (agree (λ q. occurrences q xs) (λ q. occurrences q ys) p ys in_ys.at);
+} where
+  by : (p : Pair) → (occurrences p xs ≡ 0) ⊎ (occurrences p xs ≡ occurrences p ys)
+      → (occurrences p ys ≡ 0) ⊎ (occurrences p xs ≡ occurrences p ys) → occurrences p xs ≡ occurrences p ys
+  by p (inr e) _ = e
+  by p (inl a) (inr e) = e
+  by p (inl a) (inl b) = a ∙ sym b
+
+pub each_as_often : (xs ys wanted : List Pair) → SameOften xs ys → Each (λ p. occurrences p xs ≡ occurrences p ys) wanted
+each_as_often xs ys wanted same = record { at = λ k d h. same.each (slice_index_or wanted k d) }
+
+-- a common front doesn't count
+same_behind : (n : ℕ) (xs ys : List Pair) → take n xs ≡ take n ys → SameOften (drop n xs) (drop n ys) → SameOften xs ys
+same_behind n xs ys front same = record {
+  each = λ p.
+      let a = occurrences-append p (take n xs) (drop n xs) in
+      let b = occurrences-append p (take n ys) (drop n ys) in
+      let e = same.each p in
+      let f = ap (occurrences p) front in
+      let g = ap (occurrences p) (take-append-drop n xs) in
+      let h = ap (occurrences p) (take-append-drop n ys) in
+      omega arith;
+}
+
+same_without : (n : ℕ) (xs ys : List Pair) → take n xs ≡ take n ys → SameOften xs ys → SameOften (drop n xs) (drop n ys)
+same_without n xs ys front same = record {
+  each = λ p.
+      let a = occurrences-append p (take n xs) (drop n xs) in
+      let b = occurrences-append p (take n ys) (drop n ys) in
+      let e = same.each p in
+      let f = ap (occurrences p) front in
+      let g = ap (occurrences p) (take-append-drop n xs) in
+      let h = ap (occurrences p) (take-append-drop n ys) in
+      omega arith;
+}
+
+-- an answer about what stands behind a common front is one about the whole
+pub same_front : (n : ℕ) (xs ys : List Pair) (r : Bool) → take n xs ≡ take n ys
+    → (IsTrue r ↔ SameOften (take (length xs - n) (drop n xs)) (take (length ys - n) (drop n ys))) → IsTrue r ↔ SameOften xs ys
+same_front n xs ys r front told =
+    let left = take_rest xs n in
+    let right = take_rest ys n in
+    let rest : IsTrue r ↔ SameOften (drop n xs) (drop n ys) =
+    subst (λ l. IsTrue r ↔ SameOften l (drop n ys)) left
+    (subst (λ l. IsTrue r ↔ SameOften (take (length xs - n) (drop n xs)) l) right told) in
+    (λ h. same_behind n xs ys front (rest.0 h), λ h. rest.1 (same_without n xs ys front h))
+
+-- the order of pairs doesn't count
+pub same_often_reordered : (xs ys : List Pair) → IsPermutation xs ys → SameOften xs ys
+unfolding occurrences
+same_often_reordered xs ys h = record { each = λ p. sym (sum_by-IsPermutation (λ y. cond (pair_is p y) 1 0) xs ys h) }

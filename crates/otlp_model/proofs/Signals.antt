@@ -1,0 +1,113 @@
+-- Requests of one signal and of two.
+use Rattle.std.proofs.Common.{◌≡◌, ℕ, ◌^◌, min, List, [], ◌∷◌, length, map, refl, sym, arith}
+use Rattle.std.specs.Prelude.{◌↔◌, IsTrue, Bool}
+use Rattle.std.specs.List.{AllZip}
+use Rattle.otlp_model.specs.Telemetry.{Entry, Item, span, log_record, metric, entry, told, entries_of, telemetry}
+use Rattle.otlp_model.specs.Same.{SameItem, SameSpan, SameLogRecord, SameMetric, SameEntry, Same}
+use Rattle.otlp_model.specs.declared.groups.ResourceGroup.{ResourceGroup}
+use Rattle.otlp_model.specs.declared.spans.Span.{Span}
+use Rattle.otlp_model.specs.declared.logs.LogRecord.{LogRecord}
+use Rattle.otlp_model.specs.declared.metrics.Metric.{Metric}
+use Rattle.otlp_model.specs.declared.request.Request.{Request}
+use Rattle.otlp_model.specs.declared.request.Request.TheVariants.{Traces, Logs, Metrics}
+
+-- entries of one kind tell the same as items of any kind exactly where they do as such
+module _ {I : Type 0} (kind : I → Item) (SameOne : I → I → Type 0) where
+  pub kept : ((x y : I) → SameOne x y → SameItem (kind x) (kind y)) → (xs ys : List (Entry I))
+      → AllZip (SameEntry SameOne) xs ys → AllZip (SameEntry SameItem) (map (told kind) xs) (map (told kind) ys)
+  kept f [] [] h = tt
+  kept f [] (y ∷ ys) h = absurd h
+  kept f (x ∷ xs) [] h = absurd h
+  kept f (x ∷ xs) (y ∷ ys) h =
+      (record { resource = h.0.resource; scope = h.0.scope; item = f x.item y.item h.0.item }, kept f xs ys h.1)
+
+  pub kept_back : ((x y : I) → SameItem (kind x) (kind y) → SameOne x y) → (xs ys : List (Entry I))
+      → AllZip (SameEntry SameItem) (map (told kind) xs) (map (told kind) ys) → AllZip (SameEntry SameOne) xs ys
+  kept_back f [] [] h = tt
+  kept_back f [] (y ∷ ys) h = absurd h
+  kept_back f (x ∷ xs) [] h = absurd h
+  kept_back f (x ∷ xs) (y ∷ ys) h =
+      (record { resource = h.0.resource; scope = h.0.scope; item = f x.item y.item h.0.item }, kept_back f xs ys h.1)
+
+pub same_traces : (a b : Request) (x y xs ys : List (ResourceGroup Span)) (r : Bool) → a ≡ Traces x → b ≡ Traces y → xs ≡ x → ys ≡ y
+    → (IsTrue r ↔ AllZip (SameEntry SameSpan) (entries_of xs) (entries_of ys)) → IsTrue r ↔ Same a b
+same_traces a b x y xs ys r ax by' xx yy h = rw (ax, by', ← xx, ← yy)
+    (λ t. kept span SameSpan (λ p q e. e) _ _ (h.0 t), λ s. h.1 (kept_back span SameSpan (λ p q e. e) _ _ s))
+
+pub same_logs : (a b : Request) (x y xs ys : List (ResourceGroup LogRecord)) (r : Bool) → a ≡ Logs x → b ≡ Logs y → xs ≡ x → ys ≡ y
+    → (IsTrue r ↔ AllZip (SameEntry SameLogRecord) (entries_of xs) (entries_of ys)) → IsTrue r ↔ Same a b
+same_logs a b x y xs ys r ax by' xx yy h = rw (ax, by', ← xx, ← yy)
+    (λ t. kept log_record SameLogRecord (λ p q e. e) _ _ (h.0 t), λ s. h.1 (kept_back log_record SameLogRecord (λ p q e. e) _ _ s))
+
+pub same_metrics : (a b : Request) (x y xs ys : List (ResourceGroup Metric)) (r : Bool) → a ≡ Metrics x → b ≡ Metrics y → xs ≡ x → ys ≡ y
+    → (IsTrue r ↔ AllZip (SameEntry SameMetric) (entries_of xs) (entries_of ys)) → IsTrue r ↔ Same a b
+same_metrics a b x y xs ys r ax by' xx yy h = rw (ax, by', ← xx, ← yy)
+    (λ t. kept metric SameMetric (λ p q e. e) _ _ (h.0 t), λ s. h.1 (kept_back metric SameMetric (λ p q e. e) _ _ s))
+
+-- entries of two kinds tell the same only where there are none
+unlike : {I J : Type 0} (kind : I → Item) (other : J → Item) → ((x : I) (y : J) → SameItem (kind x) (other y) → ⊥)
+    → (xs : List (Entry I)) (ys : List (Entry J)) → AllZip (SameEntry SameItem) (map (told kind) xs) (map (told other) ys)
+    → (length (map (told kind) xs) ≡ 0) × (length (map (told other) ys) ≡ 0)
+unlike kind other f [] [] h = (refl, refl)
+unlike kind other f [] (y ∷ ys) h = absurd h
+unlike kind other f (x ∷ xs) [] h = absurd h
+unlike kind other f (x ∷ xs) (y ∷ ys) h = absurd (f x.item y.item h.0.item)
+
+-- both requests are of one signal
+abbrev pub AreAlike : Request → Request → Type 0
+AreAlike (Traces x) (Traces y) = Unit {0}
+AreAlike (Logs x) (Logs y) = Unit {0}
+AreAlike (Metrics x) (Metrics y) = Unit {0}
+AreAlike _ _ = ⊥
+
+pub same_unlike : (a b : Request) → (AreAlike a b → ⊥) → Same a b → (length (telemetry a) ≡ 0) × (length (telemetry b) ≡ 0)
+same_unlike (Traces x) (Traces y) d h = absurd (d tt)
+same_unlike (Traces x) (Logs y) d h = unlike span log_record (λ p q e. e) (entries_of x) (entries_of y) h
+same_unlike (Traces x) (Metrics y) d h = unlike span metric (λ p q e. e) (entries_of x) (entries_of y) h
+same_unlike (Logs x) (Traces y) d h = unlike log_record span (λ p q e. e) (entries_of x) (entries_of y) h
+same_unlike (Logs x) (Logs y) d h = absurd (d tt)
+same_unlike (Logs x) (Metrics y) d h = unlike log_record metric (λ p q e. e) (entries_of x) (entries_of y) h
+same_unlike (Metrics x) (Traces y) d h = unlike metric span (λ p q e. e) (entries_of x) (entries_of y) h
+same_unlike (Metrics x) (Logs y) d h = unlike metric log_record (λ p q e. e) (entries_of x) (entries_of y) h
+same_unlike (Metrics x) (Metrics y) d h = absurd (d tt)
+
+-- requests without items tell the same
+none_told : (xs ys : List (Entry Item)) → length xs ≡ 0 → length ys ≡ 0 → AllZip (SameEntry SameItem) xs ys
+none_told [] [] a b = tt
+none_told [] (y ∷ ys) a b = absurd (omega arith)
+none_told (x ∷ xs) ys a b = absurd (omega arith)
+
+pub same_empty : (a b : Request) → length (telemetry a) ≡ 0 → length (telemetry b) ≡ 0 → Same a b
+same_empty a b e f = none_told (telemetry a) (telemetry b) e f
+
+pub unlike_traces : (a b : Request) (x : List (ResourceGroup Span)) → a ≡ Traces x
+    → ((y : List (ResourceGroup Span)) → b ≡ Traces y → ⊥) → AreAlike a b → ⊥
+unlike_traces (Traces x') (Traces y) x e d h = d y refl
+unlike_traces (Traces x') (Logs y) x e d h = h
+unlike_traces (Traces x') (Metrics y) x e d h = h
+unlike_traces (Logs x') b x e d h = cc
+unlike_traces (Metrics x') b x e d h = cc
+
+pub unlike_logs : (a b : Request) (x : List (ResourceGroup LogRecord)) → a ≡ Logs x
+    → ((y : List (ResourceGroup LogRecord)) → b ≡ Logs y → ⊥) → AreAlike a b → ⊥
+unlike_logs (Logs x') (Logs y) x e d h = d y refl
+unlike_logs (Logs x') (Traces y) x e d h = h
+unlike_logs (Logs x') (Metrics y) x e d h = h
+unlike_logs (Traces x') b x e d h = cc
+unlike_logs (Metrics x') b x e d h = cc
+
+pub unlike_metrics : (a b : Request) (x : List (ResourceGroup Metric)) → a ≡ Metrics x
+    → ((y : List (ResourceGroup Metric)) → b ≡ Metrics y → ⊥) → AreAlike a b → ⊥
+unlike_metrics (Metrics x') (Metrics y) x e d h = d y refl
+unlike_metrics (Metrics x') (Traces y) x e d h = h
+unlike_metrics (Metrics x') (Logs y) x e d h = h
+unlike_metrics (Traces x') b x e d h = cc
+unlike_metrics (Logs x') b x e d h = cc
+
+-- two requests of unlike signals whose items were counted
+pub same_counted : (a b : Request) (m n : ℕ) → m ≡ min (length (telemetry a)) (2 ^ 63) → n ≡ min (length (telemetry b)) (2 ^ 63)
+    → (AreAlike a b → ⊥) → ((m ≡ 0) × (n ≡ 0)) ↔ Same a b
+same_counted a b m n counted_a counted_b differ = (
+  λ h. same_empty a b (omega (arith, counted_a, h.0)) (omega (arith, counted_b, h.1)),
+  λ s. let none = same_unlike a b differ s in (omega (arith, counted_a, none.0), omega (arith, counted_b, none.1)),
+)

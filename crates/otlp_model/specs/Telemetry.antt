@@ -1,0 +1,45 @@
+-- What a request tells: its items in order, each with its resource and its scope.
+use Rattle.std.specs.Prelude.{List, map}
+use Rattle.std.specs.List.{flat_map}
+use Rattle.otlp_model.specs.declared.groups.Resource.{Resource}
+use Rattle.otlp_model.specs.declared.groups.Scope.{Scope}
+use Rattle.otlp_model.specs.declared.groups.ScopeGroup.{ScopeGroup}
+use Rattle.otlp_model.specs.declared.groups.ResourceGroup.{ResourceGroup}
+use Rattle.otlp_model.specs.declared.spans.Span.{Span}
+use Rattle.otlp_model.specs.declared.logs.LogRecord.{LogRecord}
+use Rattle.otlp_model.specs.declared.metrics.Metric.{Metric}
+use Rattle.otlp_model.specs.declared.request.Request.{Request}
+use Rattle.otlp_model.specs.declared.request.Request.TheVariants.{Traces, Logs, Metrics}
+
+-- an item with what it comes from
+pub record Entry (I : Type 0) : Type 0 where
+  pub resource : Resource
+  pub scope : Scope
+  pub item : I
+
+abbrev pub entry : {I : Type 0} → Resource → Scope → I → Entry I
+entry resource scope item = record { resource = resource; scope = scope; item = item }
+
+abbrev pub entries_of_scope_group : {I : Type 0} → Resource → ScopeGroup I → List (Entry I)
+entries_of_scope_group resource group = map (entry resource group.scope) group.items
+
+abbrev pub entries_of_group : {I : Type 0} → ResourceGroup I → List (Entry I)
+entries_of_group group = flat_map (entries_of_scope_group group.resource) group.scopes
+
+abbrev pub entries_of : {I : Type 0} → List (ResourceGroup I) → List (Entry I)
+entries_of groups = flat_map entries_of_group groups
+
+-- an item of any signal
+pub data Item : Type 0 where
+  span : Span → Item
+  log_record : LogRecord → Item
+  metric : Metric → Item
+
+abbrev pub told : {I : Type 0} → (I → Item) → Entry I → Entry Item
+told kind e = entry e.resource e.scope (kind e.item)
+
+-- all items of the request in order, over all groups
+abbrev pub telemetry : Request → List (Entry Item)
+telemetry (Traces groups) = map (told span) (entries_of groups)
+telemetry (Logs groups) = map (told log_record) (entries_of groups)
+telemetry (Metrics groups) = map (told metric) (entries_of groups)

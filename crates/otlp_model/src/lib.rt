@@ -1,0 +1,32 @@
+//! Telemetry as values: requests of traces, logs and metrics, what they weigh, and which of them tell the same.
+#![tactic(auto)]
+
+mod counts;
+mod depths;
+mod groups;
+mod limits;
+mod list;
+mod logs;
+mod metrics;
+mod octets;
+mod profile;
+mod request;
+mod sameness;
+mod spans;
+mod text;
+mod value;
+mod walk;
+mod weights;
+
+pub use depths::depth;
+pub use groups::{Resource, ResourceGroup, Scope, ScopeGroup};
+pub use limits::{CAP, MAX_DEPTH, MAX_ITEMS, MAX_TREE_WEIGHT, add_capped};
+pub use list::Items;
+pub use logs::LogRecord;
+pub use metrics::{Exemplar, Metric, Number, Point, Shape};
+pub use octets::Octets;
+pub use request::{Request, Signal, is_profile, items, same, weight};
+pub use spans::{Event, Link, Span};
+pub use text::Text;
+pub use value::{Pair, Value};
+pub use weights::value_weight;

@@ -1,0 +1,31 @@
+ghost use Rattle.std.specs.Prelude.{◌≡◌, ◌+◌, ◌^◌, min, sum};
+
+/// How many main items (spans, log records or metrics) a request may have.
+pub const MAX_ITEMS: u64 = 65_536;
+
+/// How much a request may weigh.
+pub const MAX_TREE_WEIGHT: u64 = 1 << 26;
+
+/// How deep a value may be.
+pub const MAX_DEPTH: u64 = 32;
+
+/// What a count answers where its number is larger.
+pub const CAP: u64 = 1 << 63;
+
+/// The sum, or `CAP` where it is larger.
+pub fn add_capped(a: u64, b: u64) -> u64
+    ensures { result ≡ min (a + b) (2 ^ 63) }
+{
+    a.saturating_add(b).min(CAP)
+}
+
+/// The sum of all, or `CAP` where it is larger.
+pub fn sum_capped(weights: &[u64]) -> u64
+    ensures { result ≡ min (sum weights.now) (2 ^ 63) }
+{
+    let mut total = 0;
+    for weight in weights {
+        total = add_capped(total, *weight);
+    }
+    total
+}

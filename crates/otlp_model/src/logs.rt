@@ -1,0 +1,77 @@
+ghost use Rattle.otlp_model.specs.Weight.{weight_of_log_record};
+ghost use Rattle.otlp_model.specs.Real.{IsRealLogRecord};
+ghost use Rattle.otlp_model.specs.Profile.{IsProfileLogRecord};
+ghost use Rattle.otlp_model.specs.Same.{SameLogRecord};
+
+use crate::limits::sum_capped;
+use crate::list::Items;
+use crate::octets::Octets;
+use crate::profile::{Profiled, all_profile};
+use crate::sameness::{Alike, same_pairs, same_value};
+use crate::text::Text;
+use crate::value::{Pair, Value};
+use crate::weights::{Weighed, pairs_weight, value_weight};
+
+/// A log record (OTLP `LogRecord`). Times are nanoseconds since the Unix epoch.
+#[derive(Debug, Drop)]
+pub struct LogRecord {
+    pub time: u64,
+    pub observed: u64,
+    pub severity: i32,
+    pub severity_text: Text,
+    pub body: Value,
+    pub pairs: Items<Pair>,
+    pub dropped: u32,
+    pub flags: u32,
+    pub trace_id: Octets,
+    pub span_id: Octets,
+}
+
+impl Weighed for LogRecord {
+    ghost weight_of = { weight_of_log_record };
+
+    ghost is_real = { IsRealLogRecord };
+
+    fn weight(&self) -> u64 {
+        let _time = self.time;
+        let _observed = self.observed;
+        let _severity = self.severity;
+        let _dropped = self.dropped;
+        let _flags = self.flags;
+        sum_capped(&[
+            self.severity_text.weight(),
+            self.trace_id.weight(),
+            self.span_id.weight(),
+            value_weight(&self.body),
+            pairs_weight(self.pairs.as_slice()),
+        ])
+    }
+}
+
+impl Profiled for LogRecord {
+    ghost within = { IsProfileLogRecord };
+
+    fn is_profile(&self) -> bool {
+        self.trace_id.is_trace_id()
+            && self.span_id.is_span_id()
+            && self.body.is_profile()
+            && all_profile(&self.pairs)
+    }
+}
+
+impl Alike for LogRecord {
+    ghost alike = { SameLogRecord };
+
+    fn is_same(&self, other: &Self) -> bool {
+        self.time == other.time
+            && self.observed == other.observed
+            && self.severity == other.severity
+            && self.severity_text.as_slice() == other.severity_text.as_slice()
+            && same_value(&self.body, &other.body)
+            && same_pairs(self.pairs.as_slice(), other.pairs.as_slice())
+            && self.dropped == other.dropped
+            && self.flags == other.flags
+            && self.trace_id.as_slice() == other.trace_id.as_slice()
+            && self.span_id.as_slice() == other.span_id.as_slice()
+    }
+}

@@ -1,0 +1,88 @@
+ghost use Rattle.std.specs.Prelude.{◌≡◌, ℕ, ◌^◌, min, IsTrue};
+ghost use Rattle.std.specs.List.{list_all};
+ghost use Rattle.otlp_model.specs.Each.{Each};
+ghost use Rattle.otlp_model.specs.Weight.{weight_of_value, weight_of_pair, total};
+ghost use Rattle.otlp_model.specs.Real.{is_real_value, are_real_pairs};
+
+use crate::limits::add_capped;
+use crate::value::{Pair, Value};
+
+/// What each part of a request weighs, beside its texts and byte strings.
+const PART: u64 = 32;
+
+/// The weight of a value, or `CAP` where it is larger: the bytes of its texts, byte strings and keys, and 32 for each
+/// member of an array or a key-value list.
+///
+/// It recurses once for each level, as `depth` does.
+#[cycle(weight)]
+#[tactic(auto, using(crate::proofs::Levels::weight_of_array, crate::proofs::Levels::weight_of_map, crate::proofs::Levels::real_array, crate::proofs::Levels::real_map))]
+pub fn value_weight(value: &Value) -> u64
+    ensures weight { result ≡ min (weight_of_value value.now) (2 ^ 63) }
+    ensures real { IsTrue (is_real_value value.now) }
+{
+    match value {
+        Value::Empty | Value::Bool(_) => 0,
+        Value::Int(number) => {
+            let _number = *number;
+            0
+        }
+        Value::Double(bits) => {
+            let _bits = *bits;
+            0
+        }
+        Value::Str(text) => text.weight(),
+        Value::Bytes(octets) => octets.weight(),
+        Value::Array(members) => members_weight(members.as_slice()),
+        Value::Map(pairs) => pairs_weight(pairs.as_slice()),
+    }
+}
+
+/// The weight of the members of an array, with 32 for each.
+#[cycle(weight)]
+fn members_weight(members: &[Value]) -> u64
+    ensures weight { result ≡ min (total weight_of_value members.now) (2 ^ 63) }
+    ensures real { IsTrue (list_all is_real_value members.now) }
+{
+    let mut weight = 0;
+    for member in members {
+        weight = add_capped(weight, add_capped(PART, value_weight(member)));
+    }
+    weight
+}
+
+/// The weight of a list of pairs, with 32 for each.
+#[cycle(weight)]
+pub(crate) fn pairs_weight(pairs: &[Pair]) -> u64
+    ensures weight { result ≡ min (total weight_of_pair pairs.now) (2 ^ 63) }
+    ensures real { IsTrue (are_real_pairs pairs.now) }
+{
+    let mut weight = 0;
+    for pair in pairs {
+        let own = add_capped(pair.key.weight(), value_weight(&pair.value));
+        weight = add_capped(weight, add_capped(PART, own));
+    }
+    weight
+}
+
+/// A part of a request that weighs: an item, an event, a link, a point, an exemplar or a group.
+pub(crate) trait Weighed {
+    ghost weight_of: { Self → ℕ };
+
+    ghost is_real: { Self → Type 0 };
+
+    fn weight(&self) -> u64
+        ensures weight { result ≡ min (weight_of self.now) (2 ^ 63) }
+        ensures real { is_real self.now };
+}
+
+/// The weight of some parts, with 32 for each.
+pub(crate) fn parts_weight<P: Weighed>(parts: &[P]) -> u64
+    ensures weight { result ≡ min (total P.weight_of parts.now) (2 ^ 63) }
+    ensures real { Each P.is_real parts.now }
+{
+    let mut weight = 0;
+    for part in parts {
+        weight = add_capped(weight, add_capped(PART, part.weight()));
+    }
+    weight
+}
