@@ -26,4 +26,6 @@ pub use steady::{SteadySink, SteadySource};
 pub use writing::{write_frame, write_reset};
 
 #[cfg(test)]
+mod batch_tests;
+#[cfg(test)]
 mod tests;
