@@ -29,10 +29,13 @@ canon_payload_is schema_id kind bytes = ap (λ s. canon_row 1 (bytes_row schema_
 payload_read : (p : PayloadContent) → IsRealPayload p → length (canon_payload p) < 2 ^ 64 → IsReadBack ArrowPayload LEVELS (payload_rows p)
 unfolding canon_payload
 payload_read p real small =
-    rows_read ArrowPayload LEVELS (payload_rows p) refl
-        (part_fits ArrowPayload LEVELS 1 p.schema_id (λ _. real.schema_id),
-        (signed_fits ArrowPayload LEVELS 2 p.kind refl (wider p.kind real.kind),
-        (part_fits ArrowPayload LEVELS 3 p.bytes (λ _. tt), tt))) small
+    rows_read ArrowPayload LEVELS (payload_rows p) refl (
+      part_fits ArrowPayload LEVELS 1 p.schema_id (λ _. real.schema_id),
+      (
+        signed_fits ArrowPayload LEVELS 2 p.kind refl (wider p.kind real.kind),
+        (part_fits ArrowPayload LEVELS 3 p.bytes (λ _. tt), tt),
+      ),
+    ) small
 
 payload_fine : (p : PayloadContent) → IsRealPayload p → length (canon_payload p) < 2 ^ 64 → IsFine ArrowPayload LEVELS (canon_payload p)
 unfolding canon_payload
@@ -62,16 +65,17 @@ pub batch_back : (b : BatchContent) → IsRealBatch b → length (canon_batch b)
 unfolding canon_batch
 batch_back b real small =
     let parts = map canon_payload b.payloads in
-    let read = rows_read BatchArrowRecords LEVELS (batch_rows b) refl
-        (signed_fits BatchArrowRecords LEVELS 1 b.id refl real.id,
-        (many_fits BatchArrowRecords LEVELS 2 parts refl (all_fine b.payloads real.payloads), tt)) small in
+    let read = rows_read BatchArrowRecords LEVELS (batch_rows b) refl (
+      signed_fits BatchArrowRecords LEVELS 1 b.id refl real.id,
+      (many_fits BatchArrowRecords LEVELS 2 parts refl (all_fine b.payloads real.payloads), tt),
+    ) small in
     let size = length-append (canon_row 1 (signed_row b.id)) (canon_row 2 (many_row parts) ++ []) in
     let last = append-nil (canon_row 2 (many_row parts)) in
     let parts_small = short_parts 2 parts (omega (arith, size, ap length last)) in
     let id : said 1 int64_in (pos 0) (canon (batch_rows b)) ≡ b.id = ap (fold int64_in (pos 0)) (read.only 1) ∙ int64_back b.id real.id in
     let payloads : payloads_in (canon (batch_rows b)) ≡ b.payloads =
-        ap (λ vs. map payload_in (parts_of vs)) (read.only 2) ∙ ap (map payload_in) (parts_of-many_row parts)
-        ∙ map-back payload_in canon_payload b.payloads (all_back b.payloads real.payloads parts_small) in
+    ap (λ vs. map payload_in (parts_of vs)) (read.only 2) ∙ ap (map payload_in) (parts_of-many_row parts)
+    ∙ map-back payload_in canon_payload b.payloads (all_back b.payloads real.payloads parts_small) in
     let same : batch_in (canon (batch_rows b)) ≡ b = λ i. record { id = id i; payloads = payloads i } in
     (read.fine, sym same)
 
@@ -118,9 +122,9 @@ canon_more b p =
     let rows = canon_row 2 (many_row (map canon_payload b.payloads)) in
     let last = canon_row 2 (Bytes (canon_payload p) ∷ []) in
     let values : many_row (map canon_payload (b.payloads ++ p ∷ [])) ≡ many_row (map canon_payload b.payloads) ++ Bytes (canon_payload p) ∷ [] =
-        ap many_row (map-append canon_payload b.payloads (p ∷ [])) ∙ map-append (λ part. Bytes part) (map canon_payload b.payloads) (canon_payload p ∷ []) in
+    ap many_row (map-append canon_payload b.payloads (p ∷ [])) ∙ map-append (λ part. Bytes part) (map canon_payload b.payloads) (canon_payload p ∷ []) in
     let more : canon_row 2 (many_row (map canon_payload (b.payloads ++ p ∷ []))) ≡ rows ++ last =
-        ap (canon_row 2) values ∙ flat_map-append (λ v. spelling (record { number = 2; value = v })) (many_row (map canon_payload b.payloads)) (Bytes (canon_payload p) ∷ []) in
+    ap (canon_row 2) values ∙ flat_map-append (λ v. spelling (record { number = 2; value = v })) (many_row (map canon_payload b.payloads)) (Bytes (canon_payload p) ∷ []) in
     append_assoc front (rows ++ []) last ∙ ap (λ s. front ++ (s ++ last)) (append-nil rows)
     ∙ ap (λ s. front ++ s) (sym (append-nil (rows ++ last)) ∙ ap (λ s. s ++ []) (sym more))
 
@@ -129,4 +133,4 @@ pub written_more : (old bytes : List ℕ) (b : BatchContent) (p : PayloadContent
 written_more old bytes b p h real is small =
     let reals = subst IsRealBatch h.read h.real in
     written bytes (with_payload b p) (record { id = reals.id; payloads = AllByRecursion-append IsRealPayload b.payloads (p ∷ []) reals.payloads (real, tt) })
-        (is ∙ ap (λ s. s ++ canon_row 2 (Bytes (canon_payload p) ∷ [])) (h.canonical ∙ ap canon_batch h.read) ∙ canon_more b p) small
+    (is ∙ ap (λ s. s ++ canon_row 2 (Bytes (canon_payload p) ∷ [])) (h.canonical ∙ ap canon_batch h.read) ∙ canon_more b p) small

@@ -32,7 +32,8 @@ abbrev pub payload_in : List ℕ → PayloadContent
 payload_in part = record {
   schema_id = said 1 bytes_in [] part;
   kind = said 2 int32_in (pos 0) part;
-  bytes = said 3 bytes_in [] part }
+  bytes = said 3 bytes_in [] part;
+}
 
 -- the payloads, in order
 abbrev pub payloads_in : List ℕ → List PayloadContent

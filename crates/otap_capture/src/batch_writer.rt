@@ -1,7 +1,6 @@
 //! Writes batch messages of the OpenTelemetry Arrow Protocol.
 
 ghost use Rattle.std.specs.Prelude.{◌≡◌, ℕ, ◌+◌, ◌<◌, ◌≤◌, ◌∷◌, [], ◌++◌, length, vec_len, vec_capacity, IfOk, OnOk, OnErr};
-ghost use Rattle.otlp_wire.specs.Varint.{varint};
 ghost use Rattle.otlp_wire.specs.Wire.{IsNumber, Bytes};
 ghost use Rattle.otlp_messages.specs.Canon.{canon_row, bytes_row, signed_row};
 ghost use Rattle.otap_capture.specs.Batch.{canon_payload, canon_batch};
@@ -61,7 +60,12 @@ impl BatchWriter {
 }
 
 /// Appends a payload as a field of a batch.
-fn put_payload(to: &mut Vec<u8>, schema_id: &[u8], kind: i32, bytes: &[u8]) -> Result<(), AllocError>
+fn put_payload(
+    to: &mut Vec<u8>,
+    schema_id: &[u8],
+    kind: i32,
+    bytes: &[u8],
+) -> Result<(), AllocError>
     ensures ok { OnOk result (to.new.items ≡ to.old.items
         ++ canon_row 2 (Bytes (canon_payload (record { schema_id = schema_id.now; kind = kind; bytes = bytes.now })) ∷ [])) }
     ensures err { OnErr result (to.new.items ≡ to.old.items) }

@@ -1,4 +1,4 @@
-//! What the gateway reads and writes: sources and sinks of bytes, and the frames of a capture.
+//! What the gateway reads and writes: sources and sinks of bytes, the frames of a capture, and batch messages.
 #![tactic(auto)]
 
 mod adapters;
@@ -25,5 +25,7 @@ pub use outside::{ReadFailed, Sink, SinkRefusal, Source, write_whole};
 pub use steady::{SteadySink, SteadySource};
 pub use writing::{write_frame, write_reset};
 
+#[cfg(test)]
+mod batch_tests;
 #[cfg(test)]
 mod tests;

@@ -1,21 +1,20 @@
 -- Rows that are written are the fields that are read.
-use Rattle.std.proofs.Common.{◌≡◌, ◌≢◌, ℕ, zero, suc, ◌+◌, ◌*◌, ◌^◌, ◌<◌, ◌≤◌, List, [], ◌∷◌, ◌++◌, length, append_assoc, append-nil, Bool, true, false, cond, Option, Some, None, count_by, refl, sym, ap, ◌∙◌, subst, arith, inl, inr, ◌⊎◌}
-use Rattle.std.specs.Prelude.{map, filter, fold, ◌==◌, ◌&&◌, ◌||◌, not, nat_lt, ⊤}
+use Rattle.std.proofs.Common.{◌≡◌, ℕ, ◌+◌, ◌*◌, ◌^◌, ◌<◌, ◌≤◌, List, [], ◌∷◌, ◌++◌, length, append-nil, Bool, true, false, Option, None, refl, sym, ap, ◌∙◌, subst, arith, inl, inr, ◌⊎◌}
+use Rattle.std.specs.Prelude.{map, filter, ◌==◌, ◌&&◌, ◌||◌, not, nat_lt}
 use Rattle.std.specs.List.{flat_map, list_all, AllByRecursion}
 use Rattle.std.proofs.lemmas.Grind.{flat_map-append}
-use Rattle.std.proofs.lemmas.Bool.{cases_eq, cases_Bool, false≢true, true≢false, ne_eqb, eq-eqb, ltb-true}
+use Rattle.std.proofs.lemmas.Bool.{cases_eq, false≢true, ne_eqb, eq-eqb, ltb-true}
 use Rattle.std.proofs.lemmas.List.{length-append}
 use Rattle.std.proofs.lemmas.List.Elements.{filter-append}
 use Rattle.std.proofs.lemmas.List.{map-append}
 use Rattle.otlp_messages.specs.declared.messages.Message.{Message}
 use Rattle.otlp_wire.specs.declared.parts.WireError.{WireError}
-use Rattle.otlp_wire.specs.Wire.{FieldValue, Varint, Fixed64, Bytes, Fixed32, Entry, IsNumber, Fits, IsField, spelling, value_spelling}
+use Rattle.otlp_wire.specs.Wire.{FieldValue, Varint, Fixed64, Bytes, Fixed32, Entry, IsNumber, Fits, spelling}
 use Rattle.otlp_wire.specs.Varint.{varint}
 use Rattle.otlp_wire.specs.Reading.{Reads, Spells}
-use Rattle.otlp_wire.specs.Fields.{fields_of, end_of, fields_of-only}
+use Rattle.otlp_wire.specs.Fields.{fields_of-only}
 use Rattle.otlp_wire.proofs.Written.{is_field}
 use Rattle.otlp_messages.specs.Table.{kind_of, mark_of}
-use Rattle.otlp_messages.specs.Defects.{IsFine}
 use Rattle.otlp_messages.specs.Fine.{FineValue}
 use Rattle.otlp_messages.specs.Rows.{only}
 use Rattle.otlp_messages.specs.Canon.{Filled, entries_of, entries, canon_row, canon, apart, laid_out, IsShort, RowFits, values_at, IsReadBack}
@@ -85,10 +84,11 @@ other_mark m r s k is above h = go (mark_of m r.number) (mark_of m s.number) is 
     go : (a b : ℕ) → a ≡ k → (a == 0 || not (a == b)) ≡ true → (b == k) ≡ false
     go a b same test =
         elim (cases_eq b k) [
-            inl hit ↦ (let one : a ≡ b = same ∙ sym hit in
-                       let some : (a == 0) ≡ false = ne_eqb a 0 (omega (arith, same)) in
-                       absurd (false≢true (rw (some, eq-eqb a b one) at test)))
-          | inr miss ↦ ne_eqb b k miss ]
+          | inl hit ↦ (let one : a ≡ b = same ∙ sym hit in
+              let some : (a == 0) ≡ false = ne_eqb a 0 (omega (arith, same)) in
+              absurd (false≢true (rw (some, eq-eqb a b one) at test)))
+          | inr miss ↦ ne_eqb b k miss
+        ]
 
 none_marked : (m : Message) (k : ℕ) (r : Filled) (rows : List Filled) → mark_of m r.number ≡ k → 0 < k → list_all (apart m r) rows ≡ true → marked m k (entries rows) ≡ 0
 none_marked m k r [] is above h = refl
@@ -106,8 +106,9 @@ one_marked m l k (r ∷ rows) above laid fit =
     let h = laid_first m r rows laid in
     let sum = marked-entries m k r rows in
     elim (cases_eq (mark_of m r.number) k) [
-        inl same ↦ one (omega (arith, marked_all m k r.number r.values (eq-eqb (mark_of m r.number) k same))) (none_marked m k r rows same above h.apart_from) same fit.0.few
-      | inr other ↦ omega (arith, sum, marked_row m k r.number r.values (ne_eqb (mark_of m r.number) k other), one_marked m l k rows above h.others fit.1) ]
+      | inl same ↦ one (omega (arith, marked_all m k r.number r.values (eq-eqb (mark_of m r.number) k same))) (none_marked m k r rows same above h.apart_from) same fit.0.few
+      | inr other ↦ omega (arith, sum, marked_row m k r.number r.values (ne_eqb (mark_of m r.number) k other), one_marked m l k rows above h.others fit.1)
+    ]
   where
     one : marked m k (entries_of r) ≡ length r.values → marked m k (entries rows) ≡ 0 → mark_of m r.number ≡ k → (mark_of m r.number ≡ 0) ⊎ (length r.values ≤ 1) → marked m k (entries (r ∷ rows)) ≤ 1
     one here rest same (inl none) = absurd (omega (arith, same, none))
@@ -139,9 +140,10 @@ all_fit m l (r ∷ rows) laid fit small =
     let h = laid_first m r rows laid in
     let size = length-append (canon_row r.number r.values) (canon rows) in
     let here = entries_fit m l r.number r.values h.number (omega (arith, size)) fit.0.fine in
-    let others = all_fit m l rows h.others fit.1 (omega (arith, size)) in
-    (AllByRecursion-append (λ f. IsNumber f.number × Fits f.value) (entries_of r) (entries rows) here.0 others.0,
-     AllByRecursion-append (λ f. FineValue (kind_of m f.number) l f.value) (entries_of r) (entries rows) here.1 others.1)
+    let others = all_fit m l rows h.others fit.1 (omega (arith, size)) in (
+      AllByRecursion-append (λ f. IsNumber f.number × Fits f.value) (entries_of r) (entries rows) here.0 others.0,
+      AllByRecursion-append (λ f. FineValue (kind_of m f.number) l f.value) (entries_of r) (entries rows) here.1 others.1,
+    )
 
 -- the values of one number
 only-append : (n : ℕ) (fs gs : List Entry) → only n (fs ++ gs) ≡ only n fs ++ only n gs
@@ -170,10 +172,11 @@ only-entries m (r ∷ rows) n laid =
     let h = laid_first m r rows laid in
     only-append n (entries_of r) (entries rows)
     ∙ elim (cases_eq r.number n) [
-        inl same ↦ (let test = eq-eqb r.number n same in
-            rw (test, none_later m r rows n same h.apart_from) (append-nil (only n (entries_of r)) ∙ only_row n r.number r.values test))
+      | inl same ↦ (let test = eq-eqb r.number n same in
+          rw (test, none_later m r rows n same h.apart_from) (append-nil (only n (entries_of r)) ∙ only_row n r.number r.values test))
       | inr other ↦ (let test = ne_eqb r.number n other in
-            rw test (ap (λ vs. vs ++ only n (entries rows)) (not_only_row n r.number r.values test) ∙ only-entries m rows n h.others)) ]
+          rw test (ap (λ vs. vs ++ only n (entries rows)) (not_only_row n r.number r.values test) ∙ only-entries m rows n h.others))
+    ]
 
 -- the law
 pub rows_read : (m : Message) (l : ℕ) (rows : List Filled) → laid_out m rows ≡ true → AllByRecursion (RowFits m l) rows → length (canon rows) < 2 ^ 64 → IsReadBack m l rows
@@ -186,4 +189,5 @@ rows_read m l rows laid fit small =
     record {
       fine = fine_of m l (canon rows) (entries rows) is.0 is.1 h.1 (λ k above. one_marked m l k rows above laid fit);
       fields = is.0;
-      only = λ n. ap (only n) is.0 ∙ only-entries m rows n laid }
+      only = λ n. ap (only n) is.0 ∙ only-entries m rows n laid;
+    }

@@ -1,6 +1,6 @@
 -- What the fields of a message hold in which no defect stands.
-use Rattle.std.proofs.Common.{◌≡◌, ◌≢◌, ℕ, zero, suc, List, [], ◌∷◌, ◌++◌, length, append_assoc, Bool, true, false, Option, Some, None, refl, sym, ap, ◌∙◌, subst, arith, inl, inr, ◌⊎◌}
-use Rattle.std.specs.Prelude.{fold, ◌==◌, IsUtf8, ⊤}
+use Rattle.std.proofs.Common.{◌≡◌, ℕ, zero, suc, List, [], ◌∷◌, ◌++◌, length, append_assoc, Option, Some, None, refl, sym, ◌∙◌, subst, arith, inl, inr, ◌⊎◌}
+use Rattle.std.specs.Prelude.{fold, IsUtf8}
 use Rattle.std.specs.List.{AllByRecursion}
 use Rattle.std.specs.Str.{is_utf8}
 use Rattle.std.proofs.lemmas.Bool.{cases_eq, cases_Bool, false≢true, eq-eqb, ne_eqb}
@@ -38,12 +38,14 @@ fine_part Unknown l part none = tt
 fine_part Octets l part none = tt
 fine_part Text l part none =
     elim (cases_Bool (is_utf8 part)) [
-        inl text ↦ IsUtf8-from_is_utf8 part text
-      | inr no_text ↦ absurd (none BadUtf8 (inl (inr (refl, λ text. false≢true (sym no_text ∙ is_utf8-from_IsUtf8 part text))))) ]
+      | inl text ↦ IsUtf8-from_is_utf8 part text
+      | inr no_text ↦ absurd (none BadUtf8 (inl (inr (refl, λ text. false≢true (sym no_text ∙ is_utf8-from_IsUtf8 part text)))))
+    ]
 fine_part (Id size) l part none =
     elim (cases_eq (length part) 0) [
-        inl empty ↦ inl empty
-      | inr some ↦ elim (cases_eq (length part) size) [ inl whole ↦ inr whole | inr other ↦ absurd (none BadLength (inl (inr (refl, some, other)))) ] ]
+      | inl empty ↦ inl empty
+      | inr some ↦ elim (cases_eq (length part) size) [ inl whole ↦ inr whole | inr other ↦ absurd (none BadLength (inl (inr (refl, some, other)))) ]
+    ]
 fine_part (Embedded m) l part none = record { none = λ e s. none e (inr s) }
 fine_part (Member m) zero part none = absurd (none TooDeep (inl (inr (refl, refl))))
 fine_part (Member m) (suc l) part none = record { none = λ e s. none e (inr s) }
@@ -88,8 +90,9 @@ pub only_fine : (m : Message) (l n : ℕ) (fs : List Entry) → AllFine m l fs �
 only_fine m l n [] fine = tt
 only_fine m l n (f ∷ fs) fine =
     elim (cases_eq f.number n) [
-        inl same ↦ rw (eq-eqb f.number n same) (subst (λ (k : ℕ). FineValue (kind_of m k) l f.value) same fine.0, only_fine m l n fs fine.1)
-      | inr other ↦ rw (ne_eqb f.number n other) (only_fine m l n fs fine.1) ]
+      | inl same ↦ rw (eq-eqb f.number n same) (subst (λ (k : ℕ). FineValue (kind_of m k) l f.value) same fine.0, only_fine m l n fs fine.1)
+      | inr other ↦ rw (ne_eqb f.number n other) (only_fine m l n fs fine.1)
+    ]
 
 pub fine_only : (m : Message) (l n : ℕ) (bytes : List ℕ) → IsFine m l bytes → AllByRecursion (FineValue (kind_of m n) l) (only n (fields_of bytes))
 fine_only m l n bytes fine = only_fine m l n (fields_of bytes) (fine_fields m l bytes fine)

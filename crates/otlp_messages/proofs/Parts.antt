@@ -1,10 +1,8 @@
 -- A reader that looks at each field in turn reads each part of a message as `said` says.
 use Rattle.std.proofs.Common.{◌≡◌, ℕ, List, [], ◌∷◌, Bool, true, false, refl, sym, ap, ◌∙◌}
-use Rattle.std.specs.Prelude.{map, filter, fold, ◌==◌}
-use Rattle.std.proofs.lemmas.Bool.{cases_Bool}
+use Rattle.std.specs.Prelude.{fold, ◌==◌}
 use Rattle.otlp_wire.specs.Wire.{FieldValue, Entry}
-use Rattle.otlp_wire.specs.Fields.{fields_of}
-use Rattle.otlp_messages.specs.Rows.{only, said, at}
+use Rattle.otlp_messages.specs.Rows.{only, at}
 
 -- one step more of the values of a number
 one_step : {A : Type 0} (n : ℕ) (read : A → FieldValue → A) (old : A) (f : Entry) (fs : List Entry) → fold read old (only n (f ∷ fs)) ≡ fold read (at n read old f) (only n fs)

@@ -1,19 +1,17 @@
 -- What is written of each kind fits the table and reads back.
-use Rattle.std.proofs.Common.{◌≡◌, ◌≢◌, ℕ, zero, suc, ◌+◌, ◌%◌, ◌^◌, ◌<◌, ◌≤◌, List, [], ◌∷◌, ◌++◌, length, append_assoc, append-nil, Bool, true, false, ℤ, pos, negsuc, refl, sym, ap, ◌∙◌, subst, arith, inl, inr, ◌⊎◌}
-use Rattle.std.specs.Prelude.{map, fold, ◌==◌, not, if◌then◌else◌, IsUtf8, FitsSigned}
+use Rattle.std.proofs.Common.{◌≡◌, ℕ, ◌%◌, ◌^◌, ◌<◌, List, [], ◌∷◌, ◌++◌, length, append_assoc, append-nil, Bool, true, false, ℤ, pos, negsuc, refl, sym, ap, ◌∙◌, arith, inl, inr}
+use Rattle.std.specs.Prelude.{map, fold, FitsSigned}
 use Rattle.std.specs.Int.{w32, w64, cast_signed, cast_unsigned}
 use Rattle.std.specs.List.{AllByRecursion}
 use Rattle.std.proofs.lemmas.Bool.{cases_eq, ne_eqb, eq-eqb}
-use Rattle.std.proofs.lemmas.Int.{ints, to_z-of_z, of_z-to_z}
+use Rattle.std.proofs.lemmas.Int.{to_z-of_z}
 use Rattle.otlp_messages.specs.declared.messages.Message.{Message}
-use Rattle.otlp_messages.specs.declared.messages.Kind.{Kind}
 use Rattle.otlp_messages.specs.declared.messages.Kind.TheVariants as kinds
 use Rattle.otlp_wire.specs.Wire.{FieldValue, Varint, Fixed64, Bytes, Fixed32, Fits, spelling}
 use Rattle.otlp_messages.specs.Table.{kind_of, mark_of}
-use Rattle.otlp_messages.specs.Defects.{IsFine}
 use Rattle.otlp_messages.specs.Fine.{FinePart, FineValue}
 use Rattle.otlp_messages.specs.Rows.{fixed64_in, fixed32_in, uint32_in, int32_in, int64_in, bool_in, bytes_in, embedded_in, many_in, parts_of}
-use Rattle.otlp_messages.specs.Canon.{Filled, row, varint_row, signed_row, bool_row, fixed64_row, fixed32_row, bytes_row, many_row, canon_row, IsShort, RowFits}
+use Rattle.otlp_messages.specs.Canon.{row, varint_row, signed_row, bool_row, fixed64_row, fixed32_row, bytes_row, many_row, canon_row, IsShort, RowFits}
 use Rattle.otlp_messages.proofs.Canonical.{short_value}
 use Rattle.std.proofs.lemmas.List.{length-append}
 
@@ -27,8 +25,9 @@ none_fits m l n = record { few = inr (omega arith); fine = tt }
 pub varint_fits : (m : Message) (l n x : ℕ) → kind_of m n ≡ kinds.Varint → x < 2 ^ 64 → RowFits m l (row n (varint_row x))
 varint_fits m l n x is small =
     elim (cases_eq x 0) [
-        inl none ↦ rw (eq-eqb x 0 none) (none_fits m l n)
-      | inr some ↦ rw (ne_eqb x 0 some) (one_fits m l n (Varint x) (λ _. (small, rw is refl))) ]
+      | inl none ↦ rw (eq-eqb x 0 none) (none_fits m l n)
+      | inr some ↦ rw (ne_eqb x 0 some) (one_fits m l n (Varint x) (λ _. (small, rw is refl)))
+    ]
 
 pub varint_field_fits : (m : Message) (l n x : ℕ) → kind_of m n ≡ kinds.Varint → x < 2 ^ 64 → RowFits m l (row n (Varint x ∷ []))
 varint_field_fits m l n x is small = one_fits m l n (Varint x) (λ _. (small, rw is refl))
@@ -36,8 +35,9 @@ varint_field_fits m l n x is small = one_fits m l n (Varint x) (λ _. (small, rw
 pub fixed64_fits : (m : Message) (l n x : ℕ) → kind_of m n ≡ kinds.Fixed64 → x < 2 ^ 64 → RowFits m l (row n (fixed64_row x))
 fixed64_fits m l n x is small =
     elim (cases_eq x 0) [
-        inl none ↦ rw (eq-eqb x 0 none) (none_fits m l n)
-      | inr some ↦ rw (ne_eqb x 0 some) (one_fits m l n (Fixed64 x) (λ _. (small, rw is refl))) ]
+      | inl none ↦ rw (eq-eqb x 0 none) (none_fits m l n)
+      | inr some ↦ rw (ne_eqb x 0 some) (one_fits m l n (Fixed64 x) (λ _. (small, rw is refl)))
+    ]
 
 pub fixed64_field_fits : (m : Message) (l n x : ℕ) → kind_of m n ≡ kinds.Fixed64 → x < 2 ^ 64 → RowFits m l (row n (Fixed64 x ∷ []))
 fixed64_field_fits m l n x is small = one_fits m l n (Fixed64 x) (λ _. (small, rw is refl))
@@ -45,8 +45,9 @@ fixed64_field_fits m l n x is small = one_fits m l n (Fixed64 x) (λ _. (small, 
 pub fixed32_fits : (m : Message) (l n x : ℕ) → kind_of m n ≡ kinds.Fixed32 → x < 2 ^ 32 → RowFits m l (row n (fixed32_row x))
 fixed32_fits m l n x is small =
     elim (cases_eq x 0) [
-        inl none ↦ rw (eq-eqb x 0 none) (none_fits m l n)
-      | inr some ↦ rw (ne_eqb x 0 some) (one_fits m l n (Fixed32 x) (λ _. (small, rw is refl))) ]
+      | inl none ↦ rw (eq-eqb x 0 none) (none_fits m l n)
+      | inr some ↦ rw (ne_eqb x 0 some) (one_fits m l n (Fixed32 x) (λ _. (small, rw is refl)))
+    ]
 
 pub bool_fits : (m : Message) (l n : ℕ) (b : Bool) → kind_of m n ≡ kinds.Varint → RowFits m l (row n (bool_row b))
 bool_fits m l n true is = one_fits m l n (Varint 1) (λ _. (omega arith, rw is refl))
@@ -86,20 +87,23 @@ many_fits m l n parts unmarked fine = record { few = inl unmarked; fine = each p
 pub uint32_back : (x : ℕ) → x < 2 ^ 32 → fold uint32_in 0 (varint_row x) ≡ x
 uint32_back x small =
     elim (cases_eq x 0) [
-        inl none ↦ rw (eq-eqb x 0 none) (sym none)
-      | inr some ↦ rw (ne_eqb x 0 some) (omega arith) ]
+      | inl none ↦ rw (eq-eqb x 0 none) (sym none)
+      | inr some ↦ rw (ne_eqb x 0 some) (omega arith)
+    ]
 
 pub fixed64_back : (x : ℕ) → fold fixed64_in 0 (fixed64_row x) ≡ x
 fixed64_back x =
     elim (cases_eq x 0) [
-        inl none ↦ rw (eq-eqb x 0 none) (sym none)
-      | inr some ↦ rw (ne_eqb x 0 some) refl ]
+      | inl none ↦ rw (eq-eqb x 0 none) (sym none)
+      | inr some ↦ rw (ne_eqb x 0 some) refl
+    ]
 
 pub fixed32_back : (x : ℕ) → fold fixed32_in 0 (fixed32_row x) ≡ x
 fixed32_back x =
     elim (cases_eq x 0) [
-        inl none ↦ rw (eq-eqb x 0 none) (sym none)
-      | inr some ↦ rw (ne_eqb x 0 some) refl ]
+      | inl none ↦ rw (eq-eqb x 0 none) (sym none)
+      | inr some ↦ rw (ne_eqb x 0 some) refl
+    ]
 
 pub bool_back : (b : Bool) → fold bool_in false (bool_row b) ≡ b
 bool_back true = refl
@@ -109,8 +113,9 @@ pub int64_back : (z : ℤ) → FitsSigned w64 z → fold int64_in (pos 0) (signe
 int64_back z fits =
     let same = to_z-of_z w64 z fits in
     elim (cases_eq (cast_unsigned w64 z) 0) [
-        inl none ↦ rw (eq-eqb (cast_unsigned w64 z) 0 none) (rw none at same)
-      | inr some ↦ rw (ne_eqb (cast_unsigned w64 z) 0 some) same ]
+      | inl none ↦ rw (eq-eqb (cast_unsigned w64 z) 0 none) (rw none at same)
+      | inr some ↦ rw (ne_eqb (cast_unsigned w64 z) 0 some) same
+    ]
 
 low_bits : (z : ℤ) → FitsSigned w32 z → cast_unsigned w64 z % 2 ^ 32 ≡ cast_unsigned w32 z
 low_bits (pos n) h = omega (arith, h.sfits)
@@ -120,8 +125,9 @@ pub int32_back : (z : ℤ) → FitsSigned w32 z → fold int32_in (pos 0) (signe
 int32_back z fits =
     let same : cast_signed w32 (cast_unsigned w64 z % 2 ^ 32) ≡ z = ap (cast_signed w32) (low_bits z fits) ∙ to_z-of_z w32 z fits in
     elim (cases_eq (cast_unsigned w64 z) 0) [
-        inl none ↦ rw (eq-eqb (cast_unsigned w64 z) 0 none) (rw none at same)
-      | inr some ↦ rw (ne_eqb (cast_unsigned w64 z) 0 some) same ]
+      | inl none ↦ rw (eq-eqb (cast_unsigned w64 z) 0 none) (rw none at same)
+      | inr some ↦ rw (ne_eqb (cast_unsigned w64 z) 0 some) same
+    ]
 
 pub bytes_back : (part : List ℕ) → fold bytes_in [] (bytes_row part) ≡ part
 bytes_back [] = refl

@@ -1,8 +1,8 @@
 -- What a loop over the fields of a message keeps.
-use Rattle.std.proofs.Common.{◌≡◌, ◌≢◌, ℕ, zero, suc, ◌+◌, ◌-◌, sub-one, Result, Ok, Err, IfErr, ◌<◌, ◌≤◌, List, [], ◌∷◌, ◌++◌, length, get_or, set, length-set, append_assoc, append-nil, add-zero, replicate, Bool, true, false, cond, eqb, Option, Some, None, count_by, refl, sym, ap, ◌∙◌, subst, arith, inl, inr, ◌⊎◌}
-use Rattle.std.specs.Prelude.{slice_index_or, ◌==◌, not, IsUtf8}
-use Rattle.std.specs.List.{AllByRecursion, sum_by}
-use Rattle.std.proofs.lemmas.Bool.{cases_eq, cases_Bool, false≢true, ne_eqb, eq-eqb}
+use Rattle.std.proofs.Common.{◌≡◌, ◌≢◌, ℕ, zero, suc, ◌+◌, ◌-◌, sub-one, Result, Ok, Err, IfErr, ◌<◌, ◌≤◌, List, [], ◌∷◌, ◌++◌, length, get_or, set, length-set, append_assoc, append-nil, add-zero, replicate, Bool, true, false, cond, Option, Some, None, count_by, refl, sym, ap, ◌∙◌, subst, arith, inl, inr}
+use Rattle.std.specs.Prelude.{slice_index_or, ◌==◌, not}
+use Rattle.std.specs.List.{AllByRecursion}
+use Rattle.std.proofs.lemmas.Bool.{cases_eq, false≢true, ne_eqb, eq-eqb}
 use Rattle.std.proofs.lemmas.List.{get_or-set_same, get_or-set_other}
 use Rattle.std.proofs.lemmas.List.Sums.{sum_by-append}
 use Rattle.otlp_messages.specs.declared.messages.Message.{Message}
@@ -10,14 +10,14 @@ use Rattle.otlp_messages.specs.declared.messages.Kind.{Kind}
 use Rattle.otlp_messages.specs.declared.messages.Kind.TheVariants.{Unknown, Varint, Fixed64, Fixed32, Text, Octets, Id, Embedded, Member, Refused}
 use Rattle.otlp_messages.specs.declared.table.TheConstants.{MARKS}
 use Rattle.otlp_messages.specs.declared.messages.Defect.{Defect}
-use Rattle.otlp_messages.specs.declared.messages.Defect.TheVariants.{BadMessage, Repeated}
+use Rattle.otlp_messages.specs.declared.messages.Defect.TheVariants.{Repeated}
 use Rattle.otlp_wire.specs.declared.parts.WireError.{WireError}
 use Rattle.otlp_wire.specs.Wire as wire
 use Rattle.otlp_wire.specs.Wire.{FieldValue, Entry, wire_type}
 use Rattle.otlp_wire.specs.Fields.{fields_of, end_of, part_is_shorter}
 use Rattle.otlp_wire.specs.lemmas.Readings.{part_len}
 use Rattle.otlp_messages.specs.Table.{kind_of, mark_of}
-use Rattle.otlp_messages.specs.Defects.{wire_type_of, HasType, PartFaults, ValueFaults, inside, Occurs, Stands, wire_error, twice, in_value, within, IsFine}
+use Rattle.otlp_messages.specs.Defects.{ValueFaults, inside, Occurs, Stands, wire_error, twice, in_value, within, IsFine}
 use Rattle.otlp_messages.specs.Fine.{FinePart, FineValue, StandsIn, ValueStands, Checked}
 
 -- how many of the fields have the mark
@@ -44,10 +44,14 @@ AllByRecursion-at P (y ∷ before) after x a = AllByRecursion-at P before after 
 -- no mark is seen at first
 pub checked_none : (m : Message) (l : ℕ) (bytes : List ℕ) (seen : List Bool) → length seen ≡ MARKS → ((k : ℕ) → slice_index_or seen k false ≡ false) → Checked m l bytes seen bytes
 checked_none m l bytes seen size none = record {
-  done = []; whole = refl; end = refl; fine = tt;
+  done = [];
+  whole = refl;
+  end = refl;
+  fine = tt;
   once = λ k above. rw (none k) refl;
   none = none 0;
-  size = size }
+  size = size;
+}
 
 pub none_seen : (n k : ℕ) → slice_index_or (replicate n false) k false ≡ false
 none_seen zero k = refl
@@ -89,20 +93,22 @@ set_once : (seen : List Bool) (k q n : ℕ) → k < length seen → 0 < q → ge
     → n + cond (k == q) 1 0 ≡ cond (get_or (set seen k (not (k == 0))) q false) 1 0
 set_once seen k q n small above fresh count =
     elim (cases_eq k q) [
-        inl same ↦
-            (let set_here : get_or (set seen k (not (k == 0))) q false ≡ not (k == 0) = ap (λ i. get_or (set seen k (not (k == 0))) i false) (sym same) ∙ get_or-set_same seen k (not (k == 0)) false small in
-             let new : not (k == 0) ≡ true = ap not (ne_eqb k 0 (omega arith)) in
-             let old : n ≡ 0 = count ∙ ap (λ b. cond b 1 0) (ap (λ i. get_or seen i false) (sym same) ∙ fresh) in
-             rw (set_here, new, old, eq-eqb k q same) refl)
+      | inl same ↦
+          (let set_here : get_or (set seen k (not (k == 0))) q false ≡ not (k == 0) = ap (λ i. get_or (set seen k (not (k == 0))) i false) (sym same) ∙ get_or-set_same seen k (not (k == 0)) false small in
+          let new : not (k == 0) ≡ true = ap not (ne_eqb k 0 (omega arith)) in
+          let old : n ≡ 0 = count ∙ ap (λ b. cond b 1 0) (ap (λ i. get_or seen i false) (sym same) ∙ fresh) in
+          rw (set_here, new, old, eq-eqb k q same) refl)
       | inr other ↦
-            (let set_there : get_or (set seen k (not (k == 0))) q false ≡ get_or seen q false = get_or-set_other seen k q (not (k == 0)) false (λ e. other (sym e)) in
-             rw (set_there, ne_eqb k q other) (omega (arith, count))) ]
+          (let set_there : get_or (set seen k (not (k == 0))) q false ≡ get_or seen q false = get_or-set_other seen k q (not (k == 0)) false (λ e. other (sym e)) in
+          rw (set_there, ne_eqb k q other) (omega (arith, count)))
+    ]
 
 set_none : (seen : List Bool) (k : ℕ) → k < length seen → get_or seen 0 false ≡ false → get_or (set seen k (not (k == 0))) 0 false ≡ false
 set_none seen k small none =
     elim (cases_eq k 0) [
-        inl same ↦ rw same (get_or-set_same seen 0 false false (omega arith))
-      | inr other ↦ get_or-set_other seen k 0 (not (k == 0)) false (λ e. other (sym e)) ∙ none ]
+      | inl same ↦ rw same (get_or-set_same seen 0 false false (omega arith))
+      | inr other ↦ get_or-set_other seen k 0 (not (k == 0)) false (λ e. other (sym e)) ∙ none
+    ]
 
 count-last : (m : Message) (q : ℕ) (f : Entry) (n : ℕ) → n + marked m q (f ∷ []) ≡ n + cond (mark_of m f.number == q) 1 0
 count-last m q f n = ap (λ k. n + k) (count-one (λ g. mark_of m g.number == q) f [] ∙ add-zero (cond (mark_of m f.number == q) 1 0))
@@ -123,7 +129,8 @@ checked_more m l bytes rest new seen f h first end few fresh fine =
       fine = AllByRecursion-append (λ g. FineValue (kind_of m g.number) l g.value) h.done (f ∷ []) h.fine (fine, tt);
       once = λ q above. count-append (λ g. mark_of m g.number == q) h.done (f ∷ []) ∙ count-last m q f (marked m q h.done) ∙ set_once seen k q (marked m q h.done) small above fresh (h.once q above);
       none = set_none seen k small h.none;
-      size = length-set seen k (not (k == 0)) ∙ size }
+      size = length-set seen k (not (k == 0)) ∙ size;
+    }
 
 -- a value without a defect has none
 excluded_part : (k : Kind) (l : ℕ) (part : List ℕ) (e : Defect) → FinePart k l part → ValueStands k l (wire.Bytes part) e → ⊥
@@ -184,7 +191,7 @@ none_stands m l bytes fs is end all once e (in_value _ _ _ f _ occurs h) =
     excluded (kind_of m f.number) l f.value e (fine_at m l bytes fs f is all occurs) (faults_stand (kind_of m f.number) l f.value e h)
 none_stands m l bytes fs is end all once e (within _ _ _ n part next deep _ occurs at h) =
     excluded_part (kind_of m n) l part e (fine_at m l bytes fs (record { number = n; value = wire.Bytes part }) is all occurs)
-        (inr (subst (λ (o : Option (Message × ℕ)). StandsIn o part e) (sym at) h))
+    (inr (subst (λ (o : Option (Message × ℕ)). StandsIn o part e) (sym at) h))
 
 pub fine_of : (m : Message) (l : ℕ) (bytes : List ℕ) (fs : List Entry) → fields_of bytes ≡ fs → end_of bytes ≡ None → AllFine m l fs
     → ((k : ℕ) → 0 < k → marked m k fs ≤ 1) → IsFine m l bytes
@@ -198,7 +205,7 @@ at_most_one false n is = omega arith
 pub fine_from : (m : Message) (l : ℕ) (bytes rest : List ℕ) (seen : List Bool) → Checked m l bytes seen rest → fields_of rest ≡ [] → end_of rest ≡ None → IsFine m l bytes
 fine_from m l bytes rest seen h none end =
     fine_of m l bytes h.done (h.whole ∙ ap (λ fs. h.done ++ fs) none ∙ append-nil h.done) (h.end ∙ end) h.fine
-        (λ k above. at_most_one (slice_index_or seen k false) (marked m k h.done) (h.once k above))
+    (λ k above. at_most_one (slice_index_or seen k false) (marked m k h.done) (h.once k above))
 
 -- a field that occurs holds fewer bytes than the whole has
 pub value_is_shorter : (bytes : List ℕ) (f : Entry) → Occurs bytes f → part_len f.value < length bytes

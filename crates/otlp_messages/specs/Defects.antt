@@ -1,5 +1,5 @@
 -- What can be wrong with the bytes of a message, by what the table says of their fields.
-use Rattle.std.specs.Prelude.{◌≡◌, ◌≢◌, ℕ, zero, suc, ◌<◌, List, [], ◌∷◌, ◌++◌, length, Option, Some, None, count_by, ◌==◌, IsUtf8, ⊤, ◌⊎◌}
+use Rattle.std.specs.Prelude.{◌≡◌, ◌≢◌, ℕ, suc, ◌<◌, List, ◌∷◌, ◌++◌, length, Option, Some, None, count_by, ◌==◌, IsUtf8, ⊤, ◌⊎◌}
 use Rattle.otlp_messages.specs.declared.messages.Message.{Message}
 use Rattle.otlp_messages.specs.declared.messages.Kind.{Kind}
 use Rattle.otlp_messages.specs.declared.messages.Kind.TheVariants.{Unknown, Varint, Fixed64, Fixed32, Text, Octets, Id, Embedded, Member, Refused}

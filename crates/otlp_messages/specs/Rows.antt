@@ -1,5 +1,5 @@
 -- What the fields of a number say: their values from the left, each over what was read before.
-use Rattle.std.specs.Prelude.{◌≡◌, ℕ, ◌%◌, ◌^◌, List, [], ◌∷◌, ◌++◌, map, filter, fold, ◌==◌, if◌then◌else◌, Option, Some, None, Bool, not, ℤ}
+use Rattle.std.specs.Prelude.{ℕ, ◌%◌, ◌^◌, List, [], ◌∷◌, ◌++◌, map, filter, fold, ◌==◌, if◌then◌else◌, Option, Some, None, Bool, not, ℤ}
 use Rattle.std.specs.Int.{w32, w64, cast_signed}
 use Rattle.otlp_wire.specs.Wire.{FieldValue, Varint, Fixed64, Bytes, Fixed32, Entry}
 use Rattle.otlp_wire.specs.Fields.{fields_of}

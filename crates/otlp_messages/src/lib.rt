@@ -16,3 +16,6 @@ pub use laws::rows_are_read;
 pub use messages::{Defect, Kind, Message, Row};
 pub use single::{bytes_of, int32_of, int64_of};
 pub use table::{MARKS, row_of};
+
+#[cfg(test)]
+mod tests;

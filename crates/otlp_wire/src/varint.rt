@@ -10,8 +10,14 @@ use std::alloc::AllocError;
 /// The most bytes that a varint of 64 bits has.
 const MAX_LEN: usize = 10;
 
+/// The place of the last of them.
+const LAST: usize = MAX_LEN - 1;
+
+/// The greatest value of the last of them, whose lowest bit is the 64th.
+const MAX_LAST: u8 = 1;
+
 /// The varint at the front of the bytes, and the bytes behind it.
-#[inline]
+#[inline(always)]
 pub(crate) fn take_varint(bytes: &[u8]) -> Result<(u64, &[u8]), WireError>
     ensures ok { IfOk result (λ r. Begins (λ front. IsVarint front r.0) bytes.now r.1.now) }
     ensures err { IfErr result (VarintFaults bytes.now) }
@@ -23,13 +29,14 @@ pub(crate) fn take_varint(bytes: &[u8]) -> Result<(u64, &[u8]), WireError>
 }
 
 /// The same without the short way of a varint of one byte.
+#[inline(never)]
 fn take_long_varint(bytes: &[u8]) -> Result<(u64, &[u8]), WireError>
     ensures ok { IfOk result (λ r. Begins (λ front. IsVarint front r.0) bytes.now r.1.now) }
     ensures err { IfErr result (VarintFaults bytes.now) }
 {
     let mut value = 0;
     'bytes: for (i, byte) in bytes.iter().enumerate() {
-        if i == MAX_LEN - 1 && *byte > 1 {
+        if i == LAST && *byte > MAX_LAST {
             return Err(WireError::BadVarint);
         }
         value += u64::from(*byte % 128) << (7 * i);

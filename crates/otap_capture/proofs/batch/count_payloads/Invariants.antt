@@ -5,4 +5,5 @@ use Rattle.otap_capture.proofs.batch.count_payloads.Given as goal
 abbrev pub invariant-fields : goal.invariant-fields
 invariant-fields l = record {
   count : l.count + length (payloads_in l.next-iterator) ≡ length (payloads_in l.bytes);
-  few : l.count + length l.next-iterator ≤ length l.bytes }
+  few : l.count + length l.next-iterator ≤ length l.bytes;
+}

@@ -1,4 +1,4 @@
-use Rattle.std.proofs.Common.{◌+◌, ◌*◌, ◌≤◌, length}
+use Rattle.std.proofs.Common.{◌+◌, ◌*◌, length}
 use Rattle.otlp_wire.specs.Wire.{value_of}
 use Rattle.otlp_messages.specs.Fine.{Checked}
 use Rattle.otlp_wire.specs.lemmas.Readings.{part_len}

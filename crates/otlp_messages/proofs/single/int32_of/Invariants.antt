@@ -1,4 +1,4 @@
-use Rattle.std.proofs.Common.{◌≡◌, [], pos}
+use Rattle.std.proofs.Common.{◌≡◌, pos}
 use Rattle.std.specs.Prelude.{fold}
 use Rattle.otlp_wire.specs.Fields.{fields_of}
 use Rattle.otlp_messages.specs.Rows.{only, said, int32_in}

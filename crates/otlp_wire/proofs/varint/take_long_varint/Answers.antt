@@ -1,12 +1,12 @@
 use Rattle.std.proofs.Common.{arith, ◌≡◌, ◌≤◌, ◌+◌, ◌*◌, ◌%◌, ◌^◌, get_or, below_more}
 use Rattle.otlp_wire.proofs.Sevens.{Grown, grows, early, ends_before}
 use Rattle.otlp_wire.proofs.varint.take_long_varint.Goals as goal
-use Rattle.otlp_wire.proofs.varint.take_long_varint.Goals.{After-from, else-i-via-then-i+else-byte-gt1, else-i-via-else-i}
+use Rattle.otlp_wire.proofs.varint.take_long_varint.Goals.{After-from, else-i-eq-LAST-via-then-i-eq-LAST+else-byte-gt-MAX_LAST, else-i-eq-LAST-via-else-i-eq-LAST}
 
 tenth : (c : After-from) → c.bytes.i ≡ 9 → get_or c.args.bytes.now c.bytes.i 0 ≤ 1
-tenth c = elim c.else-i.branch [
-  | else-i-via-then-i+else-byte-gt1 w ↦ λ _. w.if-byte-gt1.false
-  | else-i-via-else-i w ↦ λ e. absurd (w.if-i.false e)
+tenth c = elim c.else-i-eq-LAST.branch [
+  | else-i-eq-LAST-via-then-i-eq-LAST+else-byte-gt-MAX_LAST w ↦ λ _. w.if-byte-gt-MAX_LAST.false
+  | else-i-eq-LAST-via-else-i-eq-LAST w ↦ λ e. absurd (w.if-i-eq-LAST.false e)
 ]
 
 grown : (c : After-from) → Grown c.args.bytes.now c.bytes.i (c.bytes.value + c.from.result * 2 ^ (7 * c.bytes.i) % 2 ^ 64)

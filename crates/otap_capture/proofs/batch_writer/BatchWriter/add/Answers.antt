@@ -12,7 +12,7 @@ more c =
     let vec = c.put_payload.new.to in
     let small : length vec.items < 2 ^ 64 = omega (arith, vec.ok, vec.small) in
     let before : AreWritten c.self.inside.bytes.items c.args.self.now =
-        record { read = c.self.view_is; real = c.self.invariant.real; canonical = c.self.invariant.canonical } in
+    record { read = c.self.view_is; real = c.self.invariant.real; canonical = c.self.invariant.canonical } in
     written_more _ _ c.args.self.now _ before (record { schema_id = c.utf8.schema_id; kind = c.ranges.kind }) row small
 
 pub invariant_of-self-2 : goal.invariant_of-self-2

@@ -1,4 +1,4 @@
-use Rattle.std.proofs.Common.{◌≡◌, ◌<◌, List, [], length, arith, refl}
+use Rattle.std.proofs.Common.{◌≡◌, ◌<◌, [], length, arith, refl}
 use Rattle.std.proofs.lemmas.Grind.{common_steps}
 use Rattle.otlp_wire.specs.Fields.{first_field, first_fault, no_field}
 use Rattle.otlp_wire.proofs.reading.FieldsIterator.next.Goals as goal
