@@ -1,0 +1,10 @@
+pub mod Passing
+pub mod Folded
+pub mod Lists
+pub mod Returning
+pub mod ValueLaw
+pub mod GroupLaw
+pub mod LogLaw
+pub mod Bounds
+pub mod RequestLaw
+pub mod Lens

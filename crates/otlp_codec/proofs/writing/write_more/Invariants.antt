@@ -1,0 +1,7 @@
+use Rattle.std.proofs.Common.{◌≡◌, ◌++◌, drop}
+use Rattle.std.specs.Prelude.{map}
+use Rattle.otlp_messages.specs.Canon.{canon_row, many_row}
+use Rattle.otlp_codec.proofs.writing.write_more.Given as goal
+
+abbrev pub invariant-loop-place : goal.invariant-loop-place
+invariant-loop-place g l = l.to ≡ canon_row l.number (many_row (map g.P.Spelled.spelled (drop l.place l.parts))) ++ l.initial.to

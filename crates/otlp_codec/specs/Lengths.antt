@@ -1,0 +1,7 @@
+-- How long fields are.
+use Rattle.std.specs.Prelude.{ℕ, ◌+◌, ◌*◌, length}
+use Rattle.otlp_wire.specs.Varint.{varint}
+
+-- a field of wire type 2 whose part has so many bytes
+abbrev pub part_len : ℕ → ℕ → ℕ
+part_len number size = length (varint (8 * number + 2)) + length (varint size) + size

@@ -1,0 +1,11 @@
+pub mod Groups
+pub mod Logs
+pub mod Refusals
+pub mod Values
+pub mod Steps
+pub mod Nodes
+pub mod Passes
+pub mod lemmas
+pub mod Canonical
+pub mod Requests
+pub mod Lengths

@@ -1,0 +1,213 @@
+//! Resources, scopes, and the groups that hold them.
+
+ghost use Rattle.std.specs.Prelude.{◌≡◌, OnOk, IfOk, IfErr};
+ghost use Rattle.otlp_wire.specs.Wire.{value_of};
+ghost use Rattle.otlp_messages.specs.declared.messages.Kind.TheVariants as kinds;
+ghost use Rattle.otlp_messages.specs.declared.messages.Message.TheVariants as messages;
+ghost use Rattle.otlp_messages.specs.declared.checking.TheConstants.{LEVELS};
+ghost use Rattle.otlp_messages.specs.Fine.{FineValue};
+ghost use Rattle.otlp_codec.specs.Refusals.{RefusesValue};
+ghost use Rattle.otlp_codec.specs.Groups.{resource_in, scope_in};
+ghost use Rattle.otlp_codec.specs.Steps.{no_resource, resource_step, resource_part_in, no_scope, scope_step, scope_part_in};
+ghost use Rattle.otlp_codec.specs.lemmas.Passed.{resource_passes, scope_passes};
+ghost use Rattle.std.specs.Prelude.{[]};
+ghost use Rattle.otlp_messages.specs.Canon.{canon};
+ghost use Rattle.otlp_codec.specs.Canonical.{resource_rows, scope_rows, canon_scope_group, canon_resource_group};
+
+use crate::cells::{take_text, take_uint32};
+use crate::lengths::{len_bytes_row, len_more, len_one, len_pairs, len_varint_row, sum_capped};
+use crate::part::{Part, read_part, take_pairs};
+use crate::refusal::ReadRefusal;
+use crate::writing::{Spelled, write_more, write_one, write_pairs};
+use otlp_messages::{Backward, Message};
+use otlp_model::{Items, Resource, ResourceGroup, Scope, ScopeGroup, Text, add_capped};
+use otlp_wire::{Field, Wire};
+use std::alloc::{AllocError, Global};
+
+impl Part for Resource {
+    ghost named = { messages.Resource };
+
+    ghost none = { no_resource };
+
+    ghost step = { resource_step };
+
+    ghost reads = { resource_in [] };
+
+    ghost passes = { resource_passes };
+
+    fn message() -> Message {
+        Message::Resource
+    }
+
+    fn empty(alloc: Global) -> Self {
+        Resource {
+            schema_url: Text::new(alloc),
+            dropped: 0,
+            pairs: Items::new(alloc),
+        }
+    }
+
+    fn take(&mut self, alloc: Global, field: &Field<'_>) -> Result<(), ReadRefusal> {
+        let value = &field.value;
+        match field.number {
+            1 => take_pairs(alloc, &mut self.pairs, value),
+            2 => take_uint32(&mut self.dropped, value),
+            _ => Ok(()),
+        }
+    }
+}
+
+impl Part for Scope {
+    ghost named = { messages.InstrumentationScope };
+
+    ghost none = { no_scope };
+
+    ghost step = { scope_step };
+
+    ghost reads = { scope_in [] };
+
+    ghost passes = { scope_passes };
+
+    fn message() -> Message {
+        Message::InstrumentationScope
+    }
+
+    fn empty(alloc: Global) -> Self {
+        Scope {
+            schema_url: Text::new(alloc),
+            name: Text::new(alloc),
+            version: Text::new(alloc),
+            dropped: 0,
+            pairs: Items::new(alloc),
+        }
+    }
+
+    fn take(&mut self, alloc: Global, field: &Field<'_>) -> Result<(), ReadRefusal> {
+        let value = &field.value;
+        match field.number {
+            1 => take_text(alloc, &mut self.name, value),
+            2 => take_text(alloc, &mut self.version, value),
+            3 => take_pairs(alloc, &mut self.pairs, value),
+            4 => take_uint32(&mut self.dropped, value),
+            _ => Ok(()),
+        }
+    }
+}
+
+/// Reads the resource of a group, all but its schema url.
+pub(crate) fn take_resource(
+    alloc: Global,
+    to: &mut Resource,
+    value: &Wire<'_>,
+) -> Result<(), ReadRefusal>
+    ensures ok { OnOk result (to.new ≡ resource_part_in to.old (value_of value.now)) }
+    ensures fine { IfOk result (λ _. FineValue (kinds.Embedded messages.Resource) LEVELS (value_of value.now)) }
+    ensures fault { IfErr result (RefusesValue (kinds.Embedded messages.Resource) LEVELS (value_of value.now)) }
+{
+    let Wire::Bytes(bytes) = value else {
+        return Err(ReadRefusal::BadMessage);
+    };
+    let Resource {
+        schema_url: _,
+        dropped,
+        pairs,
+    } = read_part(alloc, bytes)?;
+    to.dropped = dropped;
+    to.pairs = pairs;
+    Ok(())
+}
+
+/// Reads the scope of a group, all but its schema url.
+pub(crate) fn take_scope(alloc: Global, to: &mut Scope, value: &Wire<'_>) -> Result<(), ReadRefusal>
+    ensures ok { OnOk result (to.new ≡ scope_part_in to.old (value_of value.now)) }
+    ensures fine { IfOk result (λ _. FineValue (kinds.Embedded messages.InstrumentationScope) LEVELS (value_of value.now)) }
+    ensures fault { IfErr result (RefusesValue (kinds.Embedded messages.InstrumentationScope) LEVELS (value_of value.now)) }
+{
+    let Wire::Bytes(bytes) = value else {
+        return Err(ReadRefusal::BadMessage);
+    };
+    let Scope {
+        schema_url: _,
+        name,
+        version,
+        dropped,
+        pairs,
+    } = read_part(alloc, bytes)?;
+    to.name = name;
+    to.version = version;
+    to.dropped = dropped;
+    to.pairs = pairs;
+    Ok(())
+}
+
+impl Spelled for Resource {
+    ghost spelled = { λ resource. canon (resource_rows resource) };
+
+    fn write(&self, to: &mut Backward) -> Result<(), AllocError> {
+        to.put_varint_row(2, u64::from(self.dropped))?;
+        write_pairs(to, 1, self.pairs.as_slice())
+    }
+
+    fn len(&self) -> u64 {
+        add_capped(
+            len_pairs(1, self.pairs.as_slice()),
+            len_varint_row(2, u64::from(self.dropped)),
+        )
+    }
+}
+
+impl Spelled for Scope {
+    ghost spelled = { λ scope. canon (scope_rows scope) };
+
+    fn write(&self, to: &mut Backward) -> Result<(), AllocError> {
+        to.put_varint_row(4, u64::from(self.dropped))?;
+        write_pairs(to, 3, self.pairs.as_slice())?;
+        to.put_bytes_row(2, self.version.as_slice())?;
+        to.put_bytes_row(1, self.name.as_slice())
+    }
+
+    fn len(&self) -> u64 {
+        sum_capped(&[
+            len_bytes_row(1, self.name.as_slice()),
+            len_bytes_row(2, self.version.as_slice()),
+            len_pairs(3, self.pairs.as_slice()),
+            len_varint_row(4, u64::from(self.dropped)),
+        ])
+    }
+}
+
+impl<I: Spelled> Spelled for ScopeGroup<I> {
+    ghost spelled = { canon_scope_group I.spelled };
+
+    fn write(&self, to: &mut Backward) -> Result<(), AllocError> {
+        to.put_bytes_row(3, self.scope.schema_url.as_slice())?;
+        write_more(to, 2, self.items.as_slice())?;
+        write_one(to, 1, &self.scope)
+    }
+
+    fn len(&self) -> u64 {
+        sum_capped(&[
+            len_one(1, &self.scope),
+            len_more(2, self.items.as_slice()),
+            len_bytes_row(3, self.scope.schema_url.as_slice()),
+        ])
+    }
+}
+
+impl<I: Spelled> Spelled for ResourceGroup<I> {
+    ghost spelled = { canon_resource_group I.spelled };
+
+    fn write(&self, to: &mut Backward) -> Result<(), AllocError> {
+        to.put_bytes_row(3, self.resource.schema_url.as_slice())?;
+        write_more(to, 2, self.scopes.as_slice())?;
+        write_one(to, 1, &self.resource)
+    }
+
+    fn len(&self) -> u64 {
+        sum_capped(&[
+            len_one(1, &self.resource),
+            len_more(2, self.scopes.as_slice()),
+            len_bytes_row(3, self.resource.schema_url.as_slice()),
+        ])
+    }
+}

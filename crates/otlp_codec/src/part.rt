@@ -1,0 +1,121 @@
+//! Messages that are read by one loop over their fields.
+
+ghost use Rattle.std.specs.Prelude.{◌≡◌, ℕ, List, fold, IfOk, IfErr, OnOk};
+ghost use Rattle.otlp_wire.specs.Wire.{Entry, entry, value_of};
+ghost use Rattle.otlp_wire.specs.Fields.{fields_of};
+ghost use Rattle.otlp_messages.specs.declared.messages.Message.{Message};
+ghost use Rattle.otlp_messages.specs.declared.messages.Kind.TheVariants as kinds;
+ghost use Rattle.otlp_messages.specs.declared.messages.Message.TheVariants as messages;
+ghost use Rattle.otlp_messages.specs.declared.checking.TheConstants.{LEVELS};
+ghost use Rattle.otlp_messages.specs.Table.{kind_of};
+ghost use Rattle.otlp_messages.specs.Defects.{IsFine};
+ghost use Rattle.otlp_messages.specs.Fine.{FineValue};
+ghost use Rattle.otlp_messages.specs.Rows.{embedded_in, many_in};
+ghost use Rattle.otlp_codec.specs.Refusals.{Refuses, RefusesValue};
+ghost use Rattle.otlp_codec.specs.Groups.{value_in, pair_in};
+
+use crate::refusal::ReadRefusal;
+use crate::values::{read_pair, read_value};
+use otlp_messages::{LEVELS, MARKS, Message, row_of};
+use otlp_model::{Items, Pair, Value};
+use otlp_wire::{Field, Fields, Wire};
+use std::alloc::Global;
+
+/// A message of which each field is read over what was read before.
+pub(crate) trait Part {
+    /// Which message it is.
+    ghost named: { Message };
+
+    /// What it is without any field.
+    ghost none: { Self };
+
+    /// What it is after one field more.
+    ghost step: { Self → Entry → Self };
+
+    /// What the bytes of the message say.
+    ghost reads: { List ℕ → Self };
+
+    fn message() -> Message
+        ensures { result ≡ named };
+
+    fn empty(alloc: Global) -> Self
+        ensures { result ≡ none };
+
+    fn take(&mut self, alloc: Global, field: &Field<'_>) -> Result<(), ReadRefusal>
+        ensures ok { OnOk result (self.new ≡ step self.old (entry field.now)) }
+        ensures fine { IfOk result (λ _. FineValue (kind_of named field.now.number) LEVELS (value_of field.now.value)) }
+        ensures fault { IfErr result (RefusesValue (kind_of named field.now.number) LEVELS (value_of field.now.value)) };
+
+    /// One field after the other gives what the bytes say.
+    ghost passes: { (bytes : List ℕ) → fold step none (fields_of bytes) ≡ reads bytes };
+}
+
+/// Reads a message, in one pass over its bytes.
+pub(crate) fn read_part<P: Part + Drop>(alloc: Global, bytes: &[u8]) -> Result<P, ReadRefusal>
+    ensures value { IfOk result (λ part. IsFine P.named LEVELS bytes.now × (part ≡ P.reads bytes.now)) }
+    ensures fault { IfErr result (Refuses P.named LEVELS bytes.now) }
+{
+    let mut part = P::empty(alloc);
+    let mut seen = [false; MARKS];
+    'fields: for next in Fields::new(bytes) {
+        let Ok(field) = next else {
+            return Err(ReadRefusal::BadMessage);
+        };
+        let mark = row_of(P::message(), field.number).mark;
+        if seen[mark] {
+            return Err(ReadRefusal::Repeated);
+        }
+        seen[mark] = mark != 0;
+        part.take(alloc, &field)?;
+    }
+    Ok(part)
+}
+
+/// Reads one message more of those that may occur any number of times.
+pub(crate) fn take_more<P: Part + Drop>(
+    alloc: Global,
+    to: &mut Items<P>,
+    value: &Wire<'_>,
+) -> Result<(), ReadRefusal>
+    ensures ok { OnOk result (to.new ≡ many_in P.reads to.old (value_of value.now)) }
+    ensures fine { IfOk result (λ _. FineValue (kinds.Embedded P.named) LEVELS (value_of value.now)) }
+    ensures fault { IfErr result (RefusesValue (kinds.Embedded P.named) LEVELS (value_of value.now)) }
+{
+    let Wire::Bytes(bytes) = value else {
+        return Err(ReadRefusal::BadMessage);
+    };
+    let part = read_part(alloc, bytes)?;
+    to.push(part)?;
+    Ok(())
+}
+
+/// Reads one attribute more.
+pub(crate) fn take_pairs(
+    alloc: Global,
+    to: &mut Items<Pair>,
+    value: &Wire<'_>,
+) -> Result<(), ReadRefusal>
+    ensures ok { OnOk result (to.new ≡ many_in pair_in to.old (value_of value.now)) }
+    ensures fine { IfOk result (λ _. FineValue (kinds.Embedded messages.KeyValue) LEVELS (value_of value.now)) }
+    ensures fault { IfErr result (RefusesValue (kinds.Embedded messages.KeyValue) LEVELS (value_of value.now)) }
+{
+    let Wire::Bytes(bytes) = value else {
+        return Err(ReadRefusal::BadMessage);
+    };
+    let pair = read_pair(alloc, LEVELS, bytes)?;
+    to.push(pair)?;
+    Ok(())
+}
+
+/// Reads a value that stands in no array and no key-value list.
+pub(crate) fn take_value(alloc: Global, to: &mut Value, value: &Wire<'_>) -> Result<(), ReadRefusal>
+    ensures ok { OnOk result (to.new ≡ embedded_in value_in to.old (value_of value.now)) }
+    ensures fine { IfOk result (λ _. FineValue (kinds.Embedded messages.AnyValue) LEVELS (value_of value.now)) }
+    ensures fault { IfErr result (RefusesValue (kinds.Embedded messages.AnyValue) LEVELS (value_of value.now)) }
+{
+    let Wire::Bytes(bytes) = value else {
+        return Err(ReadRefusal::BadMessage);
+    };
+    *to = read_value(alloc, LEVELS, bytes)?;
+    Ok(())
+}

@@ -1,0 +1,151 @@
+//! Writing, from the last field to the first.
+
+ghost use Rattle.std.specs.Prelude.{◌≡◌, ◌^◌, ℕ, List, ◌++◌, [], ◌∷◌, min, length, map, OnOk};
+ghost use Rattle.otlp_wire.specs.Wire as wire;
+ghost use Rattle.otlp_wire.specs.Wire.{IsNumber};
+ghost use Rattle.otlp_messages.specs.Canon.{canon_row, canon, bytes_row, many_row};
+ghost use Rattle.otlp_codec.specs.Canonical.{canon_value, canon_pair, members_rows};
+
+use crate::lengths::len_value;
+use otlp_messages::Backward;
+use otlp_model::{Items, Pair, Value};
+use std::alloc::AllocError;
+
+/// A message that is written.
+pub(crate) trait Spelled {
+    /// Its canonical spelling.
+    ghost spelled: { Self → List ℕ };
+
+    /// Writes it before what is written.
+    fn write(&self, to: &mut Backward) -> Result<(), AllocError>
+        ensures { OnOk result (to.new ≡ spelled self.now ++ to.old) };
+
+    /// How many bytes it has, or 2^63 where there are more.
+    fn len(&self) -> u64
+        ensures { result ≡ min (length (spelled self.now)) (2 ^ 63) };
+}
+
+/// Writes a message that occurs once.
+pub(crate) fn write_one<P: Spelled>(
+    to: &mut Backward,
+    number: u32,
+    part: &P,
+) -> Result<(), AllocError>
+    requires { IsNumber number }
+    ensures { OnOk result (to.new ≡ canon_row number (bytes_row (P.spelled part.now)) ++ to.old) }
+{
+    let before = to.len();
+    part.write(to)?;
+    let size = to.len() - before;
+    to.close_row(number, size)
+}
+
+/// Writes the messages of a repeated field.
+pub(crate) fn write_more<P: Spelled>(
+    to: &mut Backward,
+    number: u32,
+    parts: &[P],
+) -> Result<(), AllocError>
+    requires { IsNumber number }
+    ensures { OnOk result (to.new ≡ canon_row number (many_row (map P.spelled parts.now)) ++ to.old) }
+{
+    for place in (0..parts.len()).rev() {
+        let before = to.len();
+        parts[place].write(to)?;
+        let size = to.len() - before;
+        to.close_field(number, size)?;
+    }
+    Ok(())
+}
+
+impl Spelled for Value {
+    ghost spelled = { canon_value };
+
+    fn write(&self, to: &mut Backward) -> Result<(), AllocError> {
+        write_value(to, self)
+    }
+
+    fn len(&self) -> u64 {
+        len_value(self)
+    }
+}
+
+/// Writes an `AnyValue`.
+#[cycle(writing)]
+fn write_value(to: &mut Backward, value: &Value) -> Result<(), AllocError>
+    ensures { OnOk result (to.new ≡ canon_value value.now ++ to.old) }
+{
+    match value {
+        Value::Empty => Ok(()),
+        Value::Str(text) => to.put_bytes_field(1, text.as_slice()),
+        Value::Bool(truth) => to.put_varint_field(2, u64::from(*truth)),
+        Value::Int(number) => to.put_varint_field(3, number.cast_unsigned()),
+        Value::Double(bits) => to.put_fixed64_field(4, *bits),
+        Value::Array(members) => write_array(to, members),
+        Value::Map(pairs) => write_map(to, pairs),
+        Value::Bytes(bytes) => to.put_bytes_field(7, bytes.as_slice()),
+    }
+}
+
+/// Writes an array as the member of the oneof that it is.
+#[cycle(writing)]
+fn write_array(to: &mut Backward, members: &Items<Value>) -> Result<(), AllocError>
+    ensures { OnOk result (to.new ≡ canon_row 5 (wire.Bytes (canon (members_rows (map canon_value members.now))) ∷ []) ++ to.old) }
+{
+    let before = to.len();
+    write_members(to, members.as_slice())?;
+    let size = to.len() - before;
+    to.close_field(5, size)
+}
+
+/// Writes a key-value list as the member of the oneof that it is.
+#[cycle(writing)]
+fn write_map(to: &mut Backward, pairs: &Items<Pair>) -> Result<(), AllocError>
+    ensures { OnOk result (to.new ≡ canon_row 6 (wire.Bytes (canon (members_rows (map canon_pair pairs.now))) ∷ []) ++ to.old) }
+{
+    let before = to.len();
+    write_pairs(to, 1, pairs.as_slice())?;
+    let size = to.len() - before;
+    to.close_field(6, size)
+}
+
+/// Writes the members of an array.
+#[cycle(writing)]
+fn write_members(to: &mut Backward, members: &[Value]) -> Result<(), AllocError>
+    ensures { OnOk result (to.new ≡ canon_row 1 (many_row (map canon_value members.now)) ++ to.old) }
+{
+    for place in (0..members.len()).rev() {
+        let before = to.len();
+        write_value(to, &members[place])?;
+        let size = to.len() - before;
+        to.close_field(1, size)?;
+    }
+    Ok(())
+}
+
+/// Writes the pairs of a repeated field.
+#[cycle(writing)]
+pub(crate) fn write_pairs(to: &mut Backward, number: u32, pairs: &[Pair]) -> Result<(), AllocError>
+    requires { IsNumber number }
+    ensures { OnOk result (to.new ≡ canon_row number (many_row (map canon_pair pairs.now)) ++ to.old) }
+{
+    for place in (0..pairs.len()).rev() {
+        let before = to.len();
+        write_pair(to, &pairs[place])?;
+        let size = to.len() - before;
+        to.close_field(number, size)?;
+    }
+    Ok(())
+}
+
+/// Writes a `KeyValue`.
+#[cycle(writing)]
+fn write_pair(to: &mut Backward, pair: &Pair) -> Result<(), AllocError>
+    ensures { OnOk result (to.new ≡ canon_pair pair.now ++ to.old) }
+{
+    let before = to.len();
+    write_value(to, &pair.value)?;
+    let size = to.len() - before;
+    to.close_row(2, size)?;
+    to.put_bytes_row(1, pair.key.as_slice())
+}
