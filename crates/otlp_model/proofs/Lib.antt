@@ -1,7 +1,10 @@
+pub mod Equivalence
+pub mod Induction
 pub mod Levels
 pub mod Often
 pub mod Places
-pub mod RealBytes
+pub mod RealParts
 pub mod Runs
 pub mod Signals
+pub mod WithItems
 pub mod Zipped

@@ -1,9 +1,9 @@
 -- Places among the items of groups.
-use Rattle.std.proofs.Common.{◌≡◌, ℕ, zero, suc, ◌+◌, ◌-◌, ◌<◌, ◌≤◌, List, [], ◌∷◌, ◌++◌, length, get_or, take, drop, map, refl, sym, ◌∙◌, ap, subst, arith, append_assoc, drop-cons, add-one, length-drop}
+use Rattle.std.proofs.Common.{◌≡◌, ℕ, suc, ◌+◌, ◌-◌, ◌<◌, ◌≤◌, List, [], ◌∷◌, ◌++◌, length, get_or, take, drop, refl, sym, ◌∙◌, ap, arith, append_assoc, drop-cons, add-one, length-drop}
 use Rattle.std.specs.List.{flat_map}
 use Rattle.std.proofs.lemmas.List.{take_rest, drop-drop, get_or_default}
 use Rattle.std.proofs.Math.ListN.{drop_of_length-le}
-use Rattle.otlp_model.specs.Telemetry.{Entry, entry, entries_of_scope_group, entries_of_group, entries_of}
+use Rattle.otlp_model.specs.Telemetry.{entries_of_scope_group, entries_of}
 use Rattle.otlp_model.specs.Walk.{left_of_scopes, left_of_groups, left, IsRun}
 use Rattle.otlp_model.specs.declared.groups.Resource.{Resource}
 use Rattle.otlp_model.specs.declared.groups.ScopeGroup.{ScopeGroup}

@@ -1,10 +1,10 @@
 -- Two walks over groups, run by run.
 use Rattle.std.proofs.Common.{◌≡◌, ℕ, ◌+◌, ◌<◌, ◌≤◌, List, [], ◌∷◌, ◌++◌, length, get_or, take, drop, map, refl, sym, ◌∙◌, ap, subst, arith, append_assoc, add-zero, length-append}
-use Rattle.std.specs.Prelude.{◌↔◌, min}
+use Rattle.std.specs.Prelude.{◌↔◌}
 use Rattle.std.specs.List.{AllZip}
 use Rattle.std.proofs.lemmas.List.{take-append-drop, map-append, length-map, length-take}
 use Rattle.otlp_model.specs.Same.{SameResource, SameScope, SameEntry}
-use Rattle.otlp_model.specs.Telemetry.{Entry, entry}
+use Rattle.otlp_model.specs.Telemetry.{entry}
 use Rattle.otlp_model.specs.Walk.{left, IsRun, StartsSame}
 use Rattle.otlp_model.proofs.Zipped.{zipped_append, zipped_front, zipped_behind}
 use Rattle.otlp_model.specs.declared.groups.Resource.{Resource}

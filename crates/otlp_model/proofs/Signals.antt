@@ -1,8 +1,8 @@
 -- Requests of one signal and of two.
-use Rattle.std.proofs.Common.{◌≡◌, ℕ, ◌^◌, min, List, [], ◌∷◌, length, map, refl, sym, arith}
-use Rattle.std.specs.Prelude.{◌↔◌, IsTrue, Bool}
+use Rattle.std.proofs.Common.{◌≡◌, ℕ, ◌^◌, min, List, [], ◌∷◌, length, map, refl, ap, arith}
+use Rattle.std.specs.Prelude.{◌↔◌, ◌≢◌, IsTrue, Bool}
 use Rattle.std.specs.List.{AllZip}
-use Rattle.otlp_model.specs.Telemetry.{Entry, Item, span, log_record, metric, entry, told, entries_of, telemetry}
+use Rattle.otlp_model.specs.Telemetry.{Entry, Item, span, log_record, metric, told, entries_of, telemetry, signal_of}
 use Rattle.otlp_model.specs.Same.{SameItem, SameSpan, SameLogRecord, SameMetric, SameEntry, Same}
 use Rattle.otlp_model.specs.declared.groups.ResourceGroup.{ResourceGroup}
 use Rattle.otlp_model.specs.declared.spans.Span.{Span}
@@ -53,23 +53,16 @@ unlike kind other f [] (y ∷ ys) h = absurd h
 unlike kind other f (x ∷ xs) [] h = absurd h
 unlike kind other f (x ∷ xs) (y ∷ ys) h = absurd (f x.item y.item h.0.item)
 
--- both requests are of one signal
-abbrev pub AreAlike : Request → Request → Type 0
-AreAlike (Traces x) (Traces y) = Unit {0}
-AreAlike (Logs x) (Logs y) = Unit {0}
-AreAlike (Metrics x) (Metrics y) = Unit {0}
-AreAlike _ _ = ⊥
-
-pub same_unlike : (a b : Request) → (AreAlike a b → ⊥) → Same a b → (length (telemetry a) ≡ 0) × (length (telemetry b) ≡ 0)
-same_unlike (Traces x) (Traces y) d h = absurd (d tt)
+pub same_unlike : (a b : Request) → signal_of a ≢ signal_of b → Same a b → (length (telemetry a) ≡ 0) × (length (telemetry b) ≡ 0)
+same_unlike (Traces x) (Traces y) d h = absurd (d refl)
 same_unlike (Traces x) (Logs y) d h = unlike span log_record (λ p q e. e) (entries_of x) (entries_of y) h
 same_unlike (Traces x) (Metrics y) d h = unlike span metric (λ p q e. e) (entries_of x) (entries_of y) h
 same_unlike (Logs x) (Traces y) d h = unlike log_record span (λ p q e. e) (entries_of x) (entries_of y) h
-same_unlike (Logs x) (Logs y) d h = absurd (d tt)
+same_unlike (Logs x) (Logs y) d h = absurd (d refl)
 same_unlike (Logs x) (Metrics y) d h = unlike log_record metric (λ p q e. e) (entries_of x) (entries_of y) h
 same_unlike (Metrics x) (Traces y) d h = unlike metric span (λ p q e. e) (entries_of x) (entries_of y) h
 same_unlike (Metrics x) (Logs y) d h = unlike metric log_record (λ p q e. e) (entries_of x) (entries_of y) h
-same_unlike (Metrics x) (Metrics y) d h = absurd (d tt)
+same_unlike (Metrics x) (Metrics y) d h = absurd (d refl)
 
 -- requests without items tell the same
 none_told : (xs ys : List (Entry Item)) → length xs ≡ 0 → length ys ≡ 0 → AllZip (SameEntry SameItem) xs ys
@@ -80,34 +73,39 @@ none_told (x ∷ xs) ys a b = absurd (omega arith)
 pub same_empty : (a b : Request) → length (telemetry a) ≡ 0 → length (telemetry b) ≡ 0 → Same a b
 same_empty a b e f = none_told (telemetry a) (telemetry b) e f
 
+-- a request that is not of the signal of another one
 pub unlike_traces : (a b : Request) (x : List (ResourceGroup Span)) → a ≡ Traces x
-    → ((y : List (ResourceGroup Span)) → b ≡ Traces y → ⊥) → AreAlike a b → ⊥
-unlike_traces (Traces x') (Traces y) x e d h = d y refl
-unlike_traces (Traces x') (Logs y) x e d h = h
-unlike_traces (Traces x') (Metrics y) x e d h = h
-unlike_traces (Logs x') b x e d h = cc
-unlike_traces (Metrics x') b x e d h = cc
+    → ((y : List (ResourceGroup Span)) → b ≡ Traces y → ⊥) → signal_of a ≢ signal_of b
+unlike_traces a (Traces y) x e d h = d y refl
+unlike_traces a (Logs y) x e d h = let f = ap signal_of e in cc
+unlike_traces a (Metrics y) x e d h = let f = ap signal_of e in cc
 
 pub unlike_logs : (a b : Request) (x : List (ResourceGroup LogRecord)) → a ≡ Logs x
-    → ((y : List (ResourceGroup LogRecord)) → b ≡ Logs y → ⊥) → AreAlike a b → ⊥
-unlike_logs (Logs x') (Logs y) x e d h = d y refl
-unlike_logs (Logs x') (Traces y) x e d h = h
-unlike_logs (Logs x') (Metrics y) x e d h = h
-unlike_logs (Traces x') b x e d h = cc
-unlike_logs (Metrics x') b x e d h = cc
+    → ((y : List (ResourceGroup LogRecord)) → b ≡ Logs y → ⊥) → signal_of a ≢ signal_of b
+unlike_logs a (Logs y) x e d h = d y refl
+unlike_logs a (Traces y) x e d h = let f = ap signal_of e in cc
+unlike_logs a (Metrics y) x e d h = let f = ap signal_of e in cc
 
 pub unlike_metrics : (a b : Request) (x : List (ResourceGroup Metric)) → a ≡ Metrics x
-    → ((y : List (ResourceGroup Metric)) → b ≡ Metrics y → ⊥) → AreAlike a b → ⊥
-unlike_metrics (Metrics x') (Metrics y) x e d h = d y refl
-unlike_metrics (Metrics x') (Traces y) x e d h = h
-unlike_metrics (Metrics x') (Logs y) x e d h = h
-unlike_metrics (Traces x') b x e d h = cc
-unlike_metrics (Logs x') b x e d h = cc
+    → ((y : List (ResourceGroup Metric)) → b ≡ Metrics y → ⊥) → signal_of a ≢ signal_of b
+unlike_metrics a (Metrics y) x e d h = d y refl
+unlike_metrics a (Traces y) x e d h = let f = ap signal_of e in cc
+unlike_metrics a (Logs y) x e d h = let f = ap signal_of e in cc
 
 -- two requests of unlike signals whose items were counted
 pub same_counted : (a b : Request) (m n : ℕ) → m ≡ min (length (telemetry a)) (2 ^ 63) → n ≡ min (length (telemetry b)) (2 ^ 63)
-    → (AreAlike a b → ⊥) → ((m ≡ 0) × (n ≡ 0)) ↔ Same a b
+    → signal_of a ≢ signal_of b → ((m ≡ 0) × (n ≡ 0)) ↔ Same a b
 same_counted a b m n counted_a counted_b differ = (
   λ h. same_empty a b (omega (arith, counted_a, h.0)) (omega (arith, counted_b, h.1)),
   λ s. let none = same_unlike a b differ s in (omega (arith, counted_a, none.0), omega (arith, counted_b, none.1)),
+)
+
+none_left : {A : Type 0} (xs : List A) → length xs ≡ 0 → xs ≡ []
+none_left [] e = refl
+none_left (x ∷ xs) e = absurd (omega arith)
+
+pub same_of_two : (a b : Request) → signal_of a ≢ signal_of b → Same a b ↔ ((telemetry a ≡ []) × (telemetry b ≡ []))
+same_of_two a b differ = (
+  λ s. let none = same_unlike a b differ s in (none_left (telemetry a) none.0, none_left (telemetry b) none.1),
+  λ h. same_empty a b (ap length h.0) (ap length h.1),
 )

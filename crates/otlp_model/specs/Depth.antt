@@ -1,7 +1,7 @@
 -- How deep values nest.
 use Rattle.std.specs.Prelude.{ℕ, ◌+◌, max, List, [], ◌∷◌}
 use Rattle.otlp_model.specs.declared.value.Value.{Value, fold-Value}
-use Rattle.otlp_model.specs.declared.value.Value.TheOpen.{Value-F, Pair-F}
+use Rattle.otlp_model.specs.declared.value.Value.TheOpen.{Value-F}
 use Rattle.otlp_model.specs.declared.value.Pair.{Pair}
 
 -- the greatest of some numbers, and 0 of none

@@ -1,5 +1,5 @@
 -- What a program can hold: texts are UTF-8, bytes and numbers fit their types.
-use Rattle.std.specs.Prelude.{◌≡◌, ℕ, ◌<◌, ◌^◌, ◌&&◌, Bool, true, length, List, nat_lt, IsTrue, FitsSigned, ℤ, pos, negsuc}
+use Rattle.std.specs.Prelude.{◌<◌, ◌^◌, ◌&&◌, Bool, true, length, List, nat_lt, IsTrue, FitsSigned, ℤ, pos, negsuc}
 use Rattle.std.specs.List.{list_all}
 use Rattle.std.specs.Int.{w32}
 use Rattle.otlp_model.specs.Each.{Each}

@@ -1,5 +1,5 @@
 -- What a request tells: its items in order, each with its resource and its scope.
-use Rattle.std.specs.Prelude.{List, map}
+use Rattle.std.specs.Prelude.{List, length, map, nat_lt, filter}
 use Rattle.std.specs.List.{flat_map}
 use Rattle.otlp_model.specs.declared.groups.Resource.{Resource}
 use Rattle.otlp_model.specs.declared.groups.Scope.{Scope}
@@ -9,6 +9,8 @@ use Rattle.otlp_model.specs.declared.spans.Span.{Span}
 use Rattle.otlp_model.specs.declared.logs.LogRecord.{LogRecord}
 use Rattle.otlp_model.specs.declared.metrics.Metric.{Metric}
 use Rattle.otlp_model.specs.declared.request.Request.{Request}
+use Rattle.otlp_model.specs.declared.request.Signal.{Signal}
+use Rattle.otlp_model.specs.declared.request.Signal.TheVariants as signals
 use Rattle.otlp_model.specs.declared.request.Request.TheVariants.{Traces, Logs, Metrics}
 
 -- an item with what it comes from
@@ -43,3 +45,22 @@ abbrev pub telemetry : Request → List (Entry Item)
 telemetry (Traces groups) = map (told span) (entries_of groups)
 telemetry (Logs groups) = map (told log_record) (entries_of groups)
 telemetry (Metrics groups) = map (told metric) (entries_of groups)
+
+abbrev pub signal_of : Request → Signal
+signal_of (Traces groups) = signals.Traces
+signal_of (Logs groups) = signals.Logs
+signal_of (Metrics groups) = signals.Metrics
+
+-- a group without its scope groups that have no items
+abbrev pub trimmed : {I : Type 0} → ResourceGroup I → ResourceGroup I
+trimmed group = record group { scopes = filter (λ scope. nat_lt 0 (length scope.items)) group.scopes }
+
+-- the groups that have items, without their scope groups that have none
+abbrev pub groups_with_items : {I : Type 0} → List (ResourceGroup I) → List (ResourceGroup I)
+groups_with_items groups = filter (λ group. nat_lt 0 (length group.scopes)) (map trimmed groups)
+
+-- the request without its groups that have no items
+abbrev pub with_items : Request → Request
+with_items (Traces groups) = Traces (groups_with_items groups)
+with_items (Logs groups) = Logs (groups_with_items groups)
+with_items (Metrics groups) = Metrics (groups_with_items groups)

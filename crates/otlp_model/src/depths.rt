@@ -7,8 +7,7 @@ use crate::value::{Pair, Value};
 /// How deep the value nests, or `CAP` where that is larger: 1, and for an array or a key-value list 1 more than its
 /// deepest member.
 ///
-/// It recurses once for each level, as dropping the value does. A value that is read from outside is at most
-/// `MAX_DEPTH` deep; one that a caller builds tens of thousands of levels deep can exhaust the machine's stack.
+/// Linear in the value. It recurses once for each level, as all that goes down a [`Value`] does.
 #[cycle(depth)]
 #[tactic(auto, using(crate::proofs::Levels::depth_of_map))]
 pub fn depth(value: &Value) -> u64

@@ -131,8 +131,8 @@ impl Alike for Resource {
     ghost alike = { SameResource };
 
     fn is_same(&self, other: &Self) -> bool {
-        self.schema_url.as_slice() == other.schema_url.as_slice()
-            && self.dropped == other.dropped
+        self.dropped == other.dropped
+            && self.schema_url.as_slice() == other.schema_url.as_slice()
             && same_pairs(self.pairs.as_slice(), other.pairs.as_slice())
     }
 }

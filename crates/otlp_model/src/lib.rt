@@ -4,6 +4,7 @@
 mod counts;
 mod depths;
 mod groups;
+pub mod laws;
 mod limits;
 mod list;
 mod logs;
@@ -20,7 +21,7 @@ mod weights;
 
 pub use depths::depth;
 pub use groups::{Resource, ResourceGroup, Scope, ScopeGroup};
-pub use limits::{CAP, MAX_DEPTH, MAX_ITEMS, MAX_TREE_WEIGHT, add_capped};
+pub use limits::{CAP, MAX_DEPTH, MAX_ITEMS, MAX_TREE_WEIGHT, add_capped, sum_capped};
 pub use list::Items;
 pub use logs::LogRecord;
 pub use metrics::{Exemplar, Metric, Number, Point, Shape};

@@ -1,5 +1,5 @@
-ghost use Rattle.otlp_model.specs.Bytes.{is_real_octets};
 ghost use Rattle.std.specs.Prelude.{◌≡◌, [], ◌∷◌, ◌++◌, ◌<◌, ◌^◌, ◌↔◌, length, IsTrue, IfOk, OnOk, OnErr, All};
+ghost use Rattle.otlp_model.specs.Bytes.{is_real_octets};
 
 use std::alloc::{AllocError, Global};
 use std::marker::Model;
@@ -51,12 +51,13 @@ impl Octets {
         ensures value { result.now ≡ self.now }
         ensures bytes { All (λ byte. byte < 256) self.now }
     {
+        // The variable tells the proof that each byte fits its type.
         let bytes = self.bytes.as_slice();
         bytes
     }
 
     /// What the bytes weigh: 1 each.
-    #[tactic(auto, using(crate::proofs::RealBytes::real_octets))]
+    #[tactic(auto, using(crate::proofs::RealParts::real_octets))]
     pub(crate) fn weight(&self) -> u64
         ensures weight { result ≡ length self.now }
         ensures real { IsTrue (is_real_octets self.now) }

@@ -1,5 +1,5 @@
 ghost use Rattle.std.specs.Prelude.{◌≡◌, ◌^◌, ◌↔◌, min, length, IsTrue};
-ghost use Rattle.otlp_model.specs.Telemetry.{telemetry};
+ghost use Rattle.otlp_model.specs.Telemetry.{telemetry, signal_of};
 ghost use Rattle.otlp_model.specs.Weight.{weight_of};
 ghost use Rattle.otlp_model.specs.Real.{IsReal};
 ghost use Rattle.otlp_model.specs.Profile.{IsProfile};
@@ -30,6 +30,19 @@ pub enum Request {
     Traces(Items<ResourceGroup<Span>>),
     Logs(Items<ResourceGroup<LogRecord>>),
     Metrics(Items<ResourceGroup<Metric>>),
+}
+
+impl Request {
+    /// The signal that the request tells of.
+    pub fn signal(&self) -> Signal
+        ensures { result ≡ signal_of self.now }
+    {
+        match self {
+            Request::Traces(_) => Signal::Traces,
+            Request::Logs(_) => Signal::Logs,
+            Request::Metrics(_) => Signal::Metrics,
+        }
+    }
 }
 
 /// How many items the request has (spans, log records or metrics), or `CAP` where there are more.

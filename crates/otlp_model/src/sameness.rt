@@ -1,12 +1,13 @@
 ghost use Rattle.std.specs.Prelude.{◌≡◌, ◌↔◌, ◌≤◌, IsTrue, length, take};
+ghost use Rattle.std.specs.List.{AllZip};
 ghost use Rattle.otlp_model.specs.Each.{Each};
 ghost use Rattle.otlp_model.specs.Equal.{pair_is};
 ghost use Rattle.otlp_model.specs.Same.{occurrences, SameOften};
-ghost use Rattle.std.specs.List.{AllZip};
 
 use crate::value::{Pair, Value};
 
-/// A part of a request that can tell the same as another one.
+/// A part of a request that can tell the same as another one: an item, an event, a link, a point, an exemplar, a resource
+/// or a scope.
 pub(crate) trait Alike: Drop {
     ghost alike: { Self → Self → Type 0 };
 

@@ -1,4 +1,4 @@
-ghost use Rattle.std.specs.Prelude.{◌≡◌, [], ◌∷◌, ◌++◌, ◌<◌, ◌^◌, ◌↔◌, length, IsTrue, IfOk, OnOk, OnErr, IsUtf8, encode_utf8};
+ghost use Rattle.std.specs.Prelude.{◌≡◌, [], ◌++◌, ◌<◌, ◌^◌, ◌↔◌, length, IsTrue, IfOk, OnOk, OnErr, IsUtf8, encode_utf8};
 ghost use Rattle.std.specs.Option.{SomeIff};
 ghost use Rattle.otlp_model.specs.Bytes.{is_real_text};
 
@@ -88,7 +88,7 @@ impl Text {
     }
 
     /// What the text weighs: its bytes.
-    #[tactic(auto, using(crate::proofs::RealBytes::real_text))]
+    #[tactic(auto, using(crate::proofs::RealParts::real_text))]
     pub(crate) fn weight(&self) -> u64
         ensures weight { result ≡ length self.now }
         ensures real { IsTrue (is_real_text self.now) }

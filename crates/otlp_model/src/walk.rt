@@ -1,14 +1,13 @@
-ghost use Rattle.std.specs.Prelude.{◌≡◌, ◌+◌, ◌≤◌, ◌<◌, ◌^◌, ◌↔◌, [], length, take, map, true, IsTrue, IfSome, IfNone};
-ghost use Rattle.std.specs.Bool.{OnTrue};
+ghost use Rattle.std.specs.Prelude.{◌≡◌, ◌+◌, ◌≤◌, ◌<◌, ◌^◌, ◌↔◌, [], length, IsTrue, IfSome, IfNone};
 ghost use Rattle.std.specs.List.{AllZip};
-ghost use Rattle.otlp_model.specs.Telemetry.{entry, entries_of};
+ghost use Rattle.otlp_model.specs.Telemetry.{entries_of};
 ghost use Rattle.otlp_model.specs.Same.{SameResource, SameEntry};
 ghost use Rattle.otlp_model.specs.Walk.{left, IsRun, StartsSame};
 
 use crate::groups::{Resource, ResourceGroup, Scope};
 use crate::sameness::{Alike, each_same};
 
-/// A place among the items of some groups.
+/// A place among the items of some groups, by the numbers of the group, of its scope group and of its item.
 #[derive(Drop)]
 struct Place<'a, I> {
     groups: &'a [ResourceGroup<I>],
@@ -17,7 +16,7 @@ struct Place<'a, I> {
     item: usize,
 }
 
-/// Some items of one scope group, with what they come from.
+/// Some items of one scope group, with what they come from: the resource is that of the group with this number.
 #[derive(Drop)]
 struct Run<'a, I> {
     group: usize,

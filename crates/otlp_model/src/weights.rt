@@ -15,7 +15,7 @@ const PART: u64 = 32;
 ///
 /// It recurses once for each level, as `depth` does.
 #[cycle(weight)]
-#[tactic(auto, using(crate::proofs::Levels::weight_of_array, crate::proofs::Levels::weight_of_map, crate::proofs::Levels::real_array, crate::proofs::Levels::real_map))]
+#[tactic(auto, using(crate::proofs::Levels::weight_of_array, crate::proofs::Levels::weight_of_map, crate::proofs::Levels::is_real_array, crate::proofs::Levels::is_real_map))]
 pub fn value_weight(value: &Value) -> u64
     ensures weight { result ≡ min (weight_of_value value.now) (2 ^ 63) }
     ensures real { IsTrue (is_real_value value.now) }
@@ -65,6 +65,8 @@ pub(crate) fn pairs_weight(pairs: &[Pair]) -> u64
 }
 
 /// A part of a request that weighs: an item, an event, a link, a point, an exemplar or a group.
+///
+/// An `impl` reads the part's numbers too, which tells a proof that they fit their types.
 pub(crate) trait Weighed {
     ghost weight_of: { Self → ℕ };
 

@@ -1,6 +1,8 @@
 use Rattle.std.proofs.Common.{arith}
+use Rattle.std.specs.Prelude.{◌≢◌}
+use Rattle.otlp_model.specs.Telemetry.{signal_of}
 use Rattle.std.proofs.lemmas.Bool.{eqb-true, eq-eqb}
-use Rattle.otlp_model.proofs.Signals.{same_traces, same_logs, same_metrics, same_unlike, same_counted, AreAlike, unlike_traces, unlike_logs, unlike_metrics}
+use Rattle.otlp_model.proofs.Signals.{same_traces, same_logs, same_metrics, same_unlike, same_counted, unlike_traces, unlike_logs, unlike_metrics}
 use Rattle.otlp_model.proofs.request.same.Goals as goal
 use Rattle.otlp_model.proofs.request.same.Goals.{in_default-via-in-Traces+in_default, in_default-via-in-Logs+in_default, in_default-via-in-Metrics+in_default}
 
@@ -23,7 +25,7 @@ pub returns-else-items-eq0 : goal.returns-else-items-eq0
 returns-else-items-eq0 c =
     let a = c.args.a.now in
     let b = c.args.b.now in
-    let differ : AreAlike a b → ⊥ = elim c.in_default.branch [
+    let differ : signal_of a ≢ signal_of b = elim c.in_default.branch [
       | in_default-via-in-Traces+in_default w ↦ unlike_traces a b _ w.in_default.is-0 w.in_default.not-Traces-1
       | in_default-via-in-Logs+in_default w ↦ unlike_logs a b _ w.in_default.is-0 w.in_default.not-Logs-1
       | in_default-via-in-Metrics+in_default w ↦ unlike_metrics a b _ w.in_default.is-0 w.in_default.not-Metrics-1
@@ -37,7 +39,7 @@ pub returns-then-items-eq0 : goal.returns-then-items-eq0
 returns-then-items-eq0 c =
     let a = c.args.a.now in
     let b = c.args.b.now in
-    let differ : AreAlike a b → ⊥ = elim c.in_default.branch [
+    let differ : signal_of a ≢ signal_of b = elim c.in_default.branch [
       | in_default-via-in-Traces+in_default w ↦ unlike_traces a b _ w.in_default.is-0 w.in_default.not-Traces-1
       | in_default-via-in-Logs+in_default w ↦ unlike_logs a b _ w.in_default.is-0 w.in_default.not-Logs-1
       | in_default-via-in-Metrics+in_default w ↦ unlike_metrics a b _ w.in_default.is-0 w.in_default.not-Metrics-1

@@ -1,6 +1,5 @@
-use Rattle.std.proofs.Common.{◌≡◌, ◌<◌, ◌≤◌, length, arith, refl, sym, ◌∙◌}
+use Rattle.std.proofs.Common.{◌<◌, ◌≤◌, length, arith, refl, sym, ◌∙◌}
 use Rattle.std.proofs.lemmas.Bool.{both_ways, false≢true, eqb-true}
-use Rattle.std.specs.Prelude.{◌↔◌}
 use Rattle.otlp_model.specs.Same.{SameEntry}
 use Rattle.otlp_model.proofs.Runs.{stepped, none_beside, run_some, run_shorter, starts_told, starts_gone, compared_found, compared_now, compared_moved}
 use Rattle.otlp_model.proofs.walk.same_groups.Goals as goal

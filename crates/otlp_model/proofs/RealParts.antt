@@ -1,7 +1,9 @@
--- Between the tests of texts and byte strings and what they say.
+-- Between the tests of texts, byte strings and signed numbers and what they say.
 use Rattle.std.proofs.Common.{◌≡◌, ℕ, ◌<◌, ◌^◌, List, length, true}
 use Rattle.std.specs.List.{All, AllPass}
-use Rattle.std.specs.Prelude.{nat_lt}
+use Rattle.std.specs.Int.{w64}
+use Rattle.std.specs.Prelude.{nat_lt, ℤ, pos, negsuc, FitsSigned}
+use Rattle.otlp_model.specs.Real.{fits_i64}
 use Rattle.std.specs.Str.{IsUtf8}
 use Rattle.std.proofs.lemmas.Bool.{ltb-true, lt-ltb, and_from, and_parts}
 use Rattle.std.proofs.lemmas.List.Sums.{AllPass-from_list_all, list_all-from_AllPass}
@@ -34,3 +36,7 @@ bytes_of_real octets real = λ k d h.
 pub length_of_real_octets : (octets : List ℕ) → is_real_octets octets ≡ true → length octets < 2 ^ 64
 unfolding is_real_octets
 length_of_real_octets octets real = ltb-true _ _ (and_parts _ _ real).1
+
+pub signed_of_real : (z : ℤ) → fits_i64 z ≡ true → FitsSigned w64 z
+signed_of_real (pos n) h = record { sfits = ltb-true n (2 ^ 63) h }
+signed_of_real (negsuc n) h = record { sfits = ltb-true n (2 ^ 63) h }

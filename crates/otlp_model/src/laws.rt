@@ -1,0 +1,36 @@
+//! What the definitions mean, as functions that do nothing: each ensures a law for all requests.
+
+ghost use Rattle.std.specs.Prelude.{◌≡◌, ◌≢◌, ◌↔◌, [], List, IsTrue, IsPermutation};
+ghost use Rattle.otlp_model.specs.Equal.{pair_is};
+ghost use Rattle.otlp_model.specs.Same.{Same, SameOften};
+ghost use Rattle.otlp_model.specs.Telemetry.{telemetry, signal_of, with_items};
+ghost use Rattle.otlp_model.specs.declared.value.Pair.{Pair};
+ghost use Rattle.otlp_model.specs.declared.request.Request.{Request};
+
+/// Denoting the same telemetry is an equivalence of requests.
+pub fn same_is_an_equivalence()
+    ensures reflexive { (q : Request) → Same q q }
+    ensures symmetric { (p q : Request) → Same p q → Same q p }
+    ensures transitive { (p q r : Request) → Same p q → Same q r → Same p r }
+{}
+
+/// Groups without items don't count.
+pub fn only_items_count()
+    ensures telemetry { (q : Request) → telemetry (with_items q) ≡ telemetry q }
+    ensures same { (q : Request) → Same q (with_items q) }
+{}
+
+/// Requests of two signals denote the same telemetry exactly where neither has items.
+pub fn signals_differ()
+    ensures { (p q : Request) → signal_of p ≢ signal_of q → Same p q ↔ ((telemetry p ≡ []) × (telemetry q ≡ [])) }
+{}
+
+/// The order of a list of attributes doesn't count.
+pub fn order_does_not_count()
+    ensures { (xs ys : List Pair) → IsPermutation xs ys → SameOften xs ys }
+{}
+
+/// The test that pairs are counted by tells exactly the equal ones.
+pub fn pairs_are_told()
+    ensures { (p q : Pair) → IsTrue (pair_is p q) ↔ (p ≡ q) }
+{}
