@@ -31,3 +31,6 @@ pub use spans::{Event, Link, Span};
 pub use text::Text;
 pub use value::{Pair, Value};
 pub use weights::value_weight;
+
+#[cfg(test)]
+mod tests;
