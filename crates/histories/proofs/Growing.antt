@@ -1,0 +1,47 @@
+-- What holds of each pair after those before it, as the two lists grow.
+use Rattle.std.proofs.Common.{◌≡◌, List, [], ◌∷◌, ◌++◌, length, suc, refl, ap, append_assoc, append-nil}
+use Rattle.histories.specs.EachAfter.{EachAfter}
+
+module _ {A B : Type 0} (R : List A → List B → A → B → Type 0) where
+  -- one more pair, which is allowed after all that came before
+  pub each_after-push : (past : List A) (past' : List B) (xs : List A) (ys : List B) (x : A) (y : B) → EachAfter R past past' xs ys → R (past ++ xs) (past' ++ ys) x y
+      → EachAfter R past past' (xs ++ x ∷ []) (ys ++ y ∷ [])
+  each_after-push past past' [] [] x y each here = (rw (← append-nil past, ← append-nil past') here, tt)
+  each_after-push past past' [] (y' ∷ ys) x y each here = absurd each
+  each_after-push past past' (x' ∷ xs) [] x y each here = absurd each
+  each_after-push past past' (x' ∷ xs) (y' ∷ ys) x y each here =
+      (each.0, each_after-push (past ++ x' ∷ []) (past' ++ y' ∷ []) xs ys x y each.1 (rw (append_assoc past (x' ∷ []) xs, append_assoc past' (y' ∷ []) ys) here))
+
+  -- more pairs, each of which is allowed after all that came before
+  pub each_after-append : (past : List A) (past' : List B) (xs us : List A) (ys vs : List B) → EachAfter R past past' xs ys → EachAfter R (past ++ xs) (past' ++ ys) us vs
+      → EachAfter R past past' (xs ++ us) (ys ++ vs)
+  each_after-append past past' [] us [] vs each more = rw (← append-nil past, ← append-nil past') more
+  each_after-append past past' [] us (y ∷ ys) vs each more = absurd each
+  each_after-append past past' (x ∷ xs) us [] vs each more = absurd each
+  each_after-append past past' (x ∷ xs) us (y ∷ ys) vs each more =
+      (each.0, each_after-append (past ++ x ∷ []) (past' ++ y ∷ []) xs us ys vs each.1 (rw (append_assoc past (x ∷ []) xs, append_assoc past' (y ∷ []) ys) more))
+
+  -- what holds at the start, and is kept by each step that is allowed, holds at the end
+  pub each_after-keeps : (I : List A → List B → Type 0) → ((xs : List A) (ys : List B) (x : A) (y : B) → I xs ys → R xs ys x y → I (xs ++ x ∷ []) (ys ++ y ∷ []))
+      → (past : List A) (past' : List B) (xs : List A) (ys : List B) → I past past' → EachAfter R past past' xs ys → I (past ++ xs) (past' ++ ys)
+  each_after-keeps I step past past' [] [] start each = rw (append-nil past, append-nil past') start
+  each_after-keeps I step past past' [] (y ∷ ys) start each = absurd each
+  each_after-keeps I step past past' (x ∷ xs) [] start each = absurd each
+  each_after-keeps I step past past' (x ∷ xs) (y ∷ ys) start each =
+      rw (← append_assoc past (x ∷ []) xs, ← append_assoc past' (y ∷ []) ys) (each_after-keeps I step (past ++ x ∷ []) (past' ++ y ∷ []) xs ys (step past past' x y start each.0) each.1)
+
+  -- there are as many of the one as of the other
+  pub each_after-length : (past : List A) (past' : List B) (xs : List A) (ys : List B) → EachAfter R past past' xs ys → length xs ≡ length ys
+  each_after-length past past' [] [] each = refl
+  each_after-length past past' [] (y ∷ ys) each = absurd each
+  each_after-length past past' (x ∷ xs) [] each = absurd each
+  each_after-length past past' (x ∷ xs) (y ∷ ys) each = ap (λ n. suc n) (each_after-length (past ++ x ∷ []) (past' ++ y ∷ []) xs ys each.1)
+
+  -- what is allowed by one relation is allowed by a weaker one
+  pub each_after-weaker : (Q : List A → List B → A → B → Type 0) → ((xs : List A) (ys : List B) (x : A) (y : B) → R xs ys x y → Q xs ys x y)
+      → (past : List A) (past' : List B) (xs : List A) (ys : List B) → EachAfter R past past' xs ys → EachAfter Q past past' xs ys
+  each_after-weaker Q weaker past past' [] [] each = tt
+  each_after-weaker Q weaker past past' [] (y ∷ ys) each = absurd each
+  each_after-weaker Q weaker past past' (x ∷ xs) [] each = absurd each
+  each_after-weaker Q weaker past past' (x ∷ xs) (y ∷ ys) each =
+      (weaker past past' x y each.0, each_after-weaker Q weaker (past ++ x ∷ []) (past' ++ y ∷ []) xs ys each.1)

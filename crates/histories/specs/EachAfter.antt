@@ -1,0 +1,9 @@
+-- A relation that holds of each element of two lists after what came before it.
+use Rattle.std.specs.Prelude.{List, [], ◌∷◌, ◌++◌, ⊤}
+
+-- The two lists go in step, and R holds of each x and y after all xs and ys before them. The pasts stand before the lists.
+abbrev pub EachAfter : {A B : Type 0} → (List A → List B → A → B → Type 0) → List A → List B → List A → List B → Type 0
+EachAfter R past past' [] [] = ⊤
+EachAfter R past past' [] (y ∷ ys) = ⊥
+EachAfter R past past' (x ∷ xs) [] = ⊥
+EachAfter R past past' (x ∷ xs) (y ∷ ys) = R past past' x y × EachAfter R (past ++ x ∷ []) (past' ++ y ∷ []) xs ys

@@ -1,0 +1,2 @@
+pub mod EachAfter
+pub mod Since

@@ -1,0 +1,9 @@
+use Rattle.std.proofs.Common.{refl}
+use Rattle.otlp_messages.proofs.EachFine.{text_said}
+use Rattle.otap_capture.proofs.batch.payload_of.Goals as goal
+
+-- the schema id of a fine payload is UTF-8
+pub unreachable-requires : goal.unreachable-requires
+unreachable-requires c =
+    let no_text = rw (c.in_default.is, c.bytes_of.ensures) at c.from_utf8.ensures.cases in
+    no_text.0 (text_said _ _ 1 _ refl c.requires)

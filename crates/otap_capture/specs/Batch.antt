@@ -1,0 +1,68 @@
+-- What a batch message says (BatchArrowRecords of the OpenTelemetry Arrow Protocol).
+use Rattle.std.specs.Prelude.{◌≡◌, ℕ, List, [], ◌∷◌, ◌++◌, length, map, ⊤, ℤ, pos, IsUtf8, FitsSigned}
+use Rattle.std.specs.List.{AllByRecursion}
+use Rattle.std.specs.Int.{w32, w64}
+use Rattle.otlp_wire.specs.Fields.{fields_of}
+use Rattle.otlp_messages.specs.declared.messages.Message.TheVariants.{BatchArrowRecords, ArrowPayload}
+use Rattle.otlp_messages.specs.declared.messages.Defect.{Defect}
+use Rattle.otlp_messages.specs.declared.messages.Defect.TheVariants as defects
+use Rattle.otlp_messages.specs.declared.checking.TheConstants.{LEVELS}
+use Rattle.otlp_messages.specs.Defects.{Stands, IsFine}
+use Rattle.otlp_messages.specs.Rows.{only, said, int32_in, int64_in, bytes_in, parts_of}
+use Rattle.otlp_messages.specs.Canon.{row, signed_row, bytes_row, many_row, canon}
+use Rattle.otap_capture.specs.declared.batch.BatchRefusal.{BatchRefusal}
+use Rattle.otap_capture.specs.declared.batch.BatchRefusal.TheVariants.{BadMessage, Repeated, BadUtf8}
+use Rattle.otap_capture.specs.declared.batch.Payload.{Payload}
+
+-- a payload and a batch, without where their bytes lie in memory
+pub record PayloadContent : Type 0 where
+  pub schema_id : List ℕ
+  pub kind : ℤ
+  pub bytes : List ℕ
+
+pub record BatchContent : Type 0 where
+  pub id : ℤ
+  pub payloads : List PayloadContent
+
+abbrev pub content_of : Payload → PayloadContent
+content_of p = record { schema_id = p.schema_id.now; kind = p.kind; bytes = p.bytes.now }
+
+-- what the fields of a payload say: schema_id, type and record
+abbrev pub payload_in : List ℕ → PayloadContent
+payload_in part = record {
+  schema_id = said 1 bytes_in [] part;
+  kind = said 2 int32_in (pos 0) part;
+  bytes = said 3 bytes_in [] part }
+
+-- the payloads, in order
+abbrev pub payloads_in : List ℕ → List PayloadContent
+payloads_in bytes = map payload_in (parts_of (only 2 (fields_of bytes)))
+
+-- what the fields of a batch say: batch_id and arrow_payloads
+abbrev pub batch_in : List ℕ → BatchContent
+batch_in bytes = record { id = said 1 int64_in (pos 0) bytes; payloads = payloads_in bytes }
+
+-- the bytes are a batch message, which says this
+abbrev pub ReadsBatch : List ℕ → BatchContent → Type 0
+ReadsBatch bytes batch = IsFine BatchArrowRecords LEVELS bytes × (batch ≡ batch_in bytes)
+
+-- the defect that a refusal names
+abbrev pub defect_of : BatchRefusal → Defect
+defect_of BadMessage = defects.BadMessage
+defect_of Repeated = defects.Repeated
+defect_of BadUtf8 = defects.BadUtf8
+
+-- the defects that can stand in a batch message
+abbrev pub IsOfBatch : Defect → Type 0
+IsOfBatch defects.BadMessage = ⊤
+IsOfBatch defects.Repeated = ⊤
+IsOfBatch defects.BadUtf8 = ⊤
+IsOfBatch defect = ⊥
+
+-- a defect stands in the bytes, read as a batch message
+abbrev pub RefusesBatch : List ℕ → BatchRefusal → Type 0
+RefusesBatch bytes refusal = Stands BatchArrowRecords LEVELS bytes (defect_of refusal)
+
+-- no defect stands in the payloads of the bytes
+abbrev pub HasFinePayloads : List ℕ → Type 0
+HasFinePayloads bytes = AllByRecursion (IsFine ArrowPayload LEVELS) (parts_of (only 2 (fields_of bytes)))

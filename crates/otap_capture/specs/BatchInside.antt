@@ -1,0 +1,17 @@
+-- What a batch message is read from.
+use Rattle.std.specs.Prelude.{◌≡◌, length}
+use Rattle.otlp_messages.specs.declared.messages.Message.TheVariants.{BatchArrowRecords}
+use Rattle.otlp_messages.specs.declared.checking.TheConstants.{LEVELS}
+use Rattle.otlp_messages.specs.Defects.{IsFine}
+use Rattle.otap_capture.specs.declared.batch.Batch.TheInside.{Inside}
+use Rattle.otap_capture.specs.Batch.{BatchContent, batch_in}
+
+-- what its bytes say
+abbrev pub batch_of : Inside → BatchContent
+batch_of b = batch_in b.bytes.now
+
+-- no defect stands in its bytes, and it knows its id and how many payloads there are
+pub record IsBatch (b : Inside) : Type 0 where
+  pub fine : IsFine BatchArrowRecords LEVELS b.bytes.now
+  pub id : b.id ≡ (batch_of b).id
+  pub count : b.count ≡ length (batch_of b).payloads

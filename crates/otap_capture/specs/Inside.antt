@@ -1,0 +1,27 @@
+-- The fields of `Frames` as callers see them.
+use Rattle.std.specs.Prelude.{ℕ, List, drop, slice_range, Some, None}
+use Rattle.std.specs.declared.option.Option.{Option}
+use Rattle.otap_capture.specs.declared.frames.Kind.{Kind}
+use Rattle.otap_capture.specs.declared.frames.Kind.TheVariants as kind
+use Rattle.otap_capture.specs.declared.frames.Frames.TheInside.{Inside}
+use Rattle.otap_capture.specs.Capture.{Frame, Message, Packed, Reset}
+use Rattle.otap_capture.specs.Reading.{Reading}
+
+-- a frame of that kind with these bytes
+abbrev pub frame_in : Kind → List ℕ → Frame
+frame_in kind.Message part = Message part
+frame_in kind.Packed part = Packed
+frame_in kind.Reset part = Reset
+
+abbrev pub shown : Option Kind → List ℕ → Option Frame
+shown None part = None
+shown (Some k) part = Some (frame_in k part)
+
+abbrev pub reading_of : Inside → Reading
+reading_of s = record {
+  handed = s.place;
+  kept = drop s.place s.bytes.items;
+  complete = s.complete;
+  frame = shown s.last (slice_range s.bytes.items s.begin s.place);
+  ended = s.ended;
+}

@@ -1,0 +1,10 @@
+pub mod Adapters
+pub mod Batch
+pub mod BatchInside
+pub mod Capture
+pub mod Cutting
+pub mod Inside
+pub mod Memory
+pub mod Outside
+pub mod Reading
+pub mod Writing

@@ -1,0 +1,69 @@
+//! A frame of a capture, and what a step over a capture answers.
+ghost use Rattle.otap_capture.specs.declared.frame.FramesRefusal.TheVariants.{Memory};
+ghost use Rattle.std.specs.Prelude.{◌≡◌};
+
+use std::alloc::AllocError;
+use thiserror::Error;
+
+/// The bytes of one frame behind its head are at most so many.
+pub const MAX_FRAME: u32 = 1 << 29;
+
+/// Each frame of a capture begins below this place.
+pub const MAX_CAPTURE: u64 = 1 << 40;
+
+/// A frame of a capture (gRPC's length-prefixed messages; the reset is this project's own mark).
+#[derive(Clone, Copy, Debug, PartialEq, Eq)]
+pub enum Frame<'f> {
+    /// A message, by its bytes.
+    Message(&'f [u8]),
+    /// A compressed message, whose bytes are passed over.
+    Packed,
+    /// A reset of the stream.
+    Reset,
+}
+
+/// Why no frame stands at a place.
+#[derive(Clone, Copy, Debug, PartialEq, Eq)]
+pub enum Why {
+    /// The bytes end within a frame.
+    Truncated,
+    /// The flag is none, or a reset has a length.
+    BadFrame,
+    /// The length is above [`MAX_FRAME`].
+    TooLong,
+    /// The frames before reach [`MAX_CAPTURE`].
+    Endless,
+}
+
+/// A place of a capture at which no frame stands, counted from 0, and the first reason why.
+#[derive(Clone, Copy, Debug, PartialEq, Eq)]
+pub struct Damage {
+    pub at: u64,
+    pub why: Why,
+}
+
+/// What comes next in a capture.
+#[derive(Clone, Copy, Debug, PartialEq, Eq)]
+pub enum Step {
+    Frame,
+    End,
+    Damage(Damage),
+}
+
+/// Why the next step of a capture could not be told. A further call goes on.
+#[derive(Debug, Drop, Error)]
+pub enum FramesRefusal {
+    /// The source failed: its count of faults rose in that call.
+    #[error("the source failed")]
+    Source,
+    #[error(transparent)]
+    Memory(AllocError),
+}
+
+impl From<AllocError> for FramesRefusal {
+    ghost from_gives = { λ error refusal. refusal ≡ Memory error };
+
+    fn from(error: AllocError) -> Self {
+        FramesRefusal::Memory(error)
+    }
+}

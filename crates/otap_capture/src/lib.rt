@@ -1,0 +1,25 @@
+//! What the gateway reads and writes: sources and sinks of bytes, and the frames of a capture.
+#![tactic(auto)]
+
+mod adapters;
+mod batch;
+mod frame;
+mod frames;
+mod laws;
+mod memory;
+mod outside;
+mod steady;
+mod writing;
+
+pub use adapters::{ReadSource, WriteSink};
+pub use batch::{Batch, BatchRefusal, Payload, Payloads, read_batch};
+pub use frame::{Damage, Frame, FramesRefusal, MAX_CAPTURE, MAX_FRAME, Step, Why};
+pub use frames::Frames;
+pub use laws::{one_capture, some_capture, written_is_read};
+pub use memory::{MemorySink, MemorySource};
+pub use outside::{ReadFailed, Sink, SinkRefusal, Source, write_whole};
+pub use steady::{SteadySink, SteadySource};
+pub use writing::{write_frame, write_reset};
+
+#[cfg(test)]
+mod tests;

@@ -1,0 +1,46 @@
+//! The OTAP gateway as a program: it reads a capture on standard input, writes on standard output, and
+//! tells what it refuses on standard error. Its words name the job.
+#![tactic(auto)]
+
+use otap_capture::{ReadSource, WriteSink};
+use otap_gateway::{Words, run};
+use std::alloc::AllocError;
+use std::env;
+use std::env::Env;
+use std::io::{BufWriter, ErrorKind};
+use std::process::ExitCode;
+
+/// What standard output and error hold before they write it.
+const BUFFER: usize = 1 << 16;
+
+/// The status where there is no memory to begin with.
+const NO_MEMORY: u8 = 6;
+
+fn main(rt: HostRuntime) -> ExitCode {
+    ExitCode::from(start(&rt).unwrap_or(NO_MEMORY))
+}
+
+fn start(rt: &HostRuntime) -> Result<u8, AllocError> {
+    let alloc = rt.alloc();
+    let words = words(rt)?;
+    let mut source = ReadSource::new(rt.stdin());
+    let out = BufWriter::with_capacity(alloc, BUFFER, rt.stdout()).map_err(|_| AllocError)?;
+    let err = BufWriter::with_capacity(alloc, BUFFER, rt.stderr()).map_err(|_| AllocError)?;
+    let (mut out, mut err) = (WriteSink::new(out), WriteSink::new(err));
+    Ok(run(alloc, &words, &mut source, &mut out, &mut err))
+}
+
+/// The arguments after the program's name; none where one of them isn't UTF-8.
+fn words(rt: &(impl Env + AllocGlobal)) -> Result<Words, AllocError> {
+    let mut words = Words::new(rt.alloc());
+    match env::args(rt) {
+        Ok(arguments) => {
+            for argument in arguments.skip(1) {
+                words.push(argument.as_str())?;
+            }
+        }
+        Err(error) if error.kind() == ErrorKind::OutOfMemory => return Err(AllocError),
+        Err(_) => {}
+    }
+    Ok(words)
+}

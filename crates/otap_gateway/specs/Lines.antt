@@ -1,0 +1,49 @@
+-- The lines that several jobs print. Each ends with a line feed; numbers are decimal.
+use Rattle.std.specs.Prelude.{ℕ, ℤ, Bool, true, false, List, [], ◌∷◌, ◌++◌, codes, Some, None}
+use Rattle.std.specs.Fmt.{decimal, signed_decimal}
+use Rattle.std.specs.declared.option.Option.{Option}
+use Rattle.otap_capture.specs.declared.frame.Damage.{Damage}
+use Rattle.otap_capture.specs.declared.frame.Why.{Why}
+use Rattle.otap_capture.specs.declared.frame.Why.TheVariants as why
+use Rattle.otap_gateway.specs.Reply.{ReplyText}
+
+abbrev pub line_feed : List ℕ
+line_feed = 10 ∷ []
+
+abbrev pub reset_line : ℕ → List ℕ
+reset_line number = codes "frame " ++ decimal number ++ codes ": reset" ++ line_feed
+
+-- a number, or a dash where there is none
+abbrev pub or_dash : Option ℤ → List ℕ
+or_dash None = codes "-"
+or_dash (Some n) = signed_decimal n
+
+-- a refused batch: its id where it could be read, the stage and the cause, and the payload type that it stands in
+abbrev pub refused_line : ℕ → Option ℤ → ℕ → List ℕ → Option ℤ → List ℕ
+refused_line number id stage cause payload = codes "frame " ++ decimal number ++ codes ": batch " ++ or_dash id
+    ++ codes " refused: stage " ++ decimal stage ++ codes " " ++ cause ++ codes " payload " ++ or_dash payload ++ line_feed
+
+abbrev pub why_name : Why → List ℕ
+why_name why.Truncated = codes "Truncated"
+why_name why.BadFrame = codes "BadFrame"
+why_name why.TooLong = codes "TooLong"
+why_name why.Endless = codes "Endless"
+
+abbrev pub damage_line : Damage → List ℕ
+damage_line damage = codes "damage at " ++ decimal damage.at ++ codes ": " ++ why_name damage.why ++ line_feed
+
+-- what follows the replies to all frames on err
+abbrev pub end_text : Option Damage → List ℕ
+end_text None = []
+end_text (Some damage) = damage_line damage
+
+-- the line for words that are those of no job
+abbrev pub words_line : List ℕ
+words_line = codes "otap: words not understood" ++ line_feed
+
+-- a line on out for a frame that is handled, and a line on err for one that is refused
+abbrev pub printed : List ℕ → ReplyText
+printed line = record { out = line; err = []; refused = false }
+
+abbrev pub refuses : List ℕ → ReplyText
+refuses line = record { out = []; err = line; refused = true }

@@ -1,0 +1,18 @@
+-- What a job puts on its sinks for a frame.
+use Rattle.std.specs.Prelude.{ℕ, Bool, List, [], ◌++◌}
+use Rattle.std.specs.List.{flat_map, list_any}
+
+-- the bytes for out and for err, and whether the frame is refused
+pub record ReplyText : Type 0 where
+  pub out : List ℕ
+  pub err : List ℕ
+  pub refused : Bool
+
+abbrev pub out_text : List ReplyText → List ℕ
+out_text replies = flat_map (λ reply. reply.out) replies
+
+abbrev pub err_text : List ReplyText → List ℕ
+err_text replies = flat_map (λ reply. reply.err) replies
+
+abbrev pub any_refused : List ReplyText → Bool
+any_refused replies = list_any (λ reply. reply.refused) replies

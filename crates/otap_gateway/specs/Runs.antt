@@ -1,0 +1,143 @@
+-- What a run does to its source and its sinks.
+use Rattle.std.specs.Prelude.{◌≡◌, ◌⊎◌, ℕ, Bool, if◌then◌else◌, List, [], ◌++◌, length, IfSome, Some, None, is_some}
+use Rattle.std.specs.declared.option.Option.{Option}
+use Rattle.std.specs.declared.result.Result.{Result}
+use Rattle.std.specs.declared.result.Result.TheVariants.{Ok, Err}
+use Rattle.std.specs.Io.KnownBytes.{Appends, Keeps}
+use Rattle.histories.specs.EachAfter.{EachAfter}
+use Rattle.otap_capture.specs.declared.frame.Damage.{Damage}
+use Rattle.otap_capture.specs.declared.outside.Sink.{Ghosts as SinkGhosts}
+use Rattle.otap_capture.specs.declared.outside.Source.{Ghosts as SourceGhosts}
+use Rattle.otap_capture.specs.Capture.{Frame, AreFrames, IsCapture}
+use Rattle.otap_capture.specs.Outside.{AppendsFront, Rose}
+use Rattle.otap_gateway.specs.declared.command.Command.{Command}
+use Rattle.otap_gateway.specs.declared.stop.Stop.{Stop}
+use Rattle.otap_gateway.specs.declared.stop.Stop.TheVariants as stop
+use Rattle.otap_gateway.specs.declared.stop.Tally.{Tally}
+use Rattle.otap_gateway.specs.Commands.{ReplyOf}
+use Rattle.otap_gateway.specs.Lines.{end_text, words_line}
+use Rattle.otap_gateway.specs.Reply.{ReplyText, out_text, err_text, any_refused}
+
+-- a sink: what is written, what of that is passed on, and its count of faults
+pub record SinkState : Type 0 where
+  pub written : Option (List ℕ)
+  pub passed : Option (List ℕ)
+  pub faults : ℕ
+
+pub record Sinks : Type 0 where
+  pub out : SinkState
+  pub err : SinkState
+
+-- a sink as it stands; the first argument says what its type tells
+abbrev pub sink_state : {K : Type 0} → SinkGhosts K → K → SinkState
+sink_state tells sink = record { written = tells.written sink; passed = tells.passed sink; faults = tells.faults sink }
+
+abbrev pub sinks : {O E : Type 0} → SinkGhosts O → O → SinkGhosts E → E → Sinks
+sinks tells out tells' err = record { out = sink_state tells out; err = sink_state tells' err }
+
+-- what a run meets: the bytes that the source has left, its count of faults, and the sinks
+pub record World : Type 0 where
+  pub left : Option (List ℕ)
+  pub faults : ℕ
+  pub sinks : Sinks
+
+abbrev pub world : {S : Type 0} → SourceGhosts S → S → Sinks → World
+world tells source sinks = record { left = tells.left source; faults = tells.faults source; sinks = sinks }
+
+-- all that was written is passed on
+pub record IsFlushed (sinks : Sinks) : Type 0 where
+  pub out : sinks.out.passed ≡ sinks.out.written
+  pub err : sinks.err.passed ≡ sinks.err.written
+
+-- The run came to its end: the sinks grew by the texts of all frames of the capture, and of its damage.
+pub record WritesAll (job : Command) (left : Option (List ℕ)) (old new : Sinks) (tally : Tally) : Type 0 where
+  pub frames : List Frame
+  pub end : Option Damage
+  pub replies : List ReplyText
+  pub capture : IfSome left (λ bytes. IsCapture bytes frames end)
+  pub texts : EachAfter (ReplyOf job) [] [] frames replies
+  pub out : Appends old.out.written new.out.written (out_text replies)
+  pub err : Appends old.err.written new.err.written (err_text replies ++ end_text end)
+  pub flushed : IsFlushed new
+  pub refused : tally.refused ≡ any_refused replies
+  pub damaged : tally.damaged ≡ is_some end
+
+-- the bytes begin with these frames
+abbrev pub BeginsWith : List ℕ → List Frame → Type 0
+BeginsWith bytes frames = (front : List ℕ) × (rest : List ℕ) × (bytes ≡ front ++ rest) × AreFrames 0 front frames
+
+-- Something stopped the run: each sink grew by a front of a text of the first frames of the capture. That of
+-- its damage belongs to it where these are all its frames.
+pub record WritesFront (job : Command) (left : Option (List ℕ)) (old new : Sinks) : Type 0 where
+  pub frames : List Frame
+  pub last : Option Damage
+  pub replies : List ReplyText
+  pub begins : IfSome left (λ bytes. BeginsWith bytes frames)
+  pub all : IfSome last (λ damage. IfSome left (λ bytes. IsCapture bytes frames (Some damage)))
+  pub texts : EachAfter (ReplyOf job) [] [] frames replies
+  pub out : AppendsFront old.out.written new.out.written (out_text replies)
+  pub err : AppendsFront old.err.written new.err.written (err_text replies ++ end_text last)
+
+abbrev pub Leaves : Command → Option (List ℕ) → Sinks → Sinks → Result Tally Stop → Type 0
+Leaves job left old new (Ok tally) = WritesAll job left old new tally
+Leaves job left old new (Err stop) = WritesFront job left old new
+
+-- a fault of one of the sinks
+pub record OutFailed (old new : Sinks) : Type 0 where
+  pub out : Rose old.out.faults new.out.faults
+  pub err : new.err.faults ≡ old.err.faults
+
+pub record ErrFailed (old new : Sinks) : Type 0 where
+  pub out : new.out.faults ≡ old.out.faults
+  pub err : Rose old.err.faults new.err.faults
+
+pub record NoneFailed (old new : Sinks) : Type 0 where
+  pub out : new.out.faults ≡ old.out.faults
+  pub err : new.err.faults ≡ old.err.faults
+
+-- The faults of a run: a count rose where its object stopped the run, and no other count changed.
+abbrev pub SinkFaults : {T : Type 0} → Sinks → Sinks → Result T Stop → Type 0
+SinkFaults old new (Ok x) = NoneFailed old new
+SinkFaults old new (Err stop.Source) = ⊥
+SinkFaults old new (Err stop.Sink) = OutFailed old new ⊎ ErrFailed old new
+SinkFaults old new (Err stop.Memory) = NoneFailed old new
+
+abbrev pub Faults : {T : Type 0} → World → World → Result T Stop → Type 0
+Faults old new (Ok x) = (new.faults ≡ old.faults) × NoneFailed old.sinks new.sinks
+Faults old new (Err stop.Source) = Rose old.faults new.faults × NoneFailed old.sinks new.sinks
+Faults old new (Err stop.Sink) = (new.faults ≡ old.faults) × (OutFailed old.sinks new.sinks ⊎ ErrFailed old.sinks new.sinks)
+Faults old new (Err stop.Memory) = (new.faults ≡ old.faults) × NoneFailed old.sinks new.sinks
+
+abbrev pub stop_status : Stop → ℕ
+stop_status stop.Source = 3
+stop_status stop.Sink = 4
+stop_status stop.Memory = 6
+
+abbrev pub status_of : Result Tally Stop → ℕ
+status_of (Ok tally) = if tally.damaged then 5 else (if tally.refused then 1 else 0)
+status_of (Err stop) = stop_status stop
+
+-- A run for the words of a job.
+pub record Runs (job : Command) (old new : World) (status : ℕ) : Type 0 where
+  pub answer : Result Tally Stop
+  pub same : status ≡ status_of answer
+  pub leaves : Leaves job old.left old.sinks new.sinks answer
+  pub faults : Faults old new answer
+
+-- the line is written and passed on, or a front of it is written
+abbrev pub LeavesLine : Sinks → Sinks → Result (Unit {0}) Stop → Type 0
+LeavesLine old new (Ok x) = Appends old.err.written new.err.written words_line × IsFlushed new
+LeavesLine old new (Err stop) = AppendsFront old.err.written new.err.written words_line
+
+abbrev pub words_status : Result (Unit {0}) Stop → ℕ
+words_status (Ok x) = 2
+words_status (Err stop) = stop_status stop
+
+-- A run for words that are those of no job. Nothing is read, and the source can't have failed.
+pub record Refuses {S : Type 0} (source source' : S) (old new : World) (status : ℕ) : Type 0 where
+  pub answer : Result (Unit {0}) Stop
+  pub same : status ≡ words_status answer
+  pub unread : source' ≡ source
+  pub out : Keeps old.sinks.out.written new.sinks.out.written
+  pub line : LeavesLine old.sinks new.sinks answer
+  pub faults : SinkFaults old.sinks new.sinks answer

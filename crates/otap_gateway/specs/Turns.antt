@@ -1,0 +1,121 @@
+-- The steps of a run, in the words of its private contracts.
+use Rattle.std.specs.Prelude.{◌≡◌, ◌⊎◌, ℕ, Bool, List, [], ◌∷◌, ◌++◌, length, Some, None, is_some}
+use Rattle.std.specs.declared.option.Option.{Option}
+use Rattle.std.specs.declared.result.Result.{Result}
+use Rattle.std.specs.declared.result.Result.TheVariants.{Ok, Err}
+use Rattle.std.specs.Io.KnownBytes.{Appends, Consumes, Keeps}
+use Rattle.histories.specs.EachAfter.{EachAfter}
+use Rattle.otap_capture.specs.declared.frame.Damage.{Damage}
+use Rattle.otap_capture.specs.declared.frame.FramesRefusal.{FramesRefusal}
+use Rattle.otap_capture.specs.declared.frame.FramesRefusal.TheVariants as frames
+use Rattle.otap_capture.specs.declared.outside.SinkRefusal.{SinkRefusal}
+use Rattle.otap_capture.specs.declared.outside.SinkRefusal.TheVariants as refusal
+use Rattle.otap_capture.specs.declared.outside.Source.{Ghosts as SourceGhosts}
+use Rattle.otap_capture.specs.Capture.{Frame, AreFrames}
+use Rattle.otap_capture.specs.Outside.{AppendsFront}
+use Rattle.otap_capture.specs.Reading.{Reading, TakesFrame, ComesToEnd, ahead}
+use Rattle.otap_gateway.specs.declared.stop.Stop.{Stop}
+use Rattle.otap_gateway.specs.declared.stop.Stop.TheVariants as stop
+use Rattle.otap_gateway.specs.declared.drive.Turn.{Turn}
+use Rattle.otap_gateway.specs.declared.drive.Turn.TheVariants as turn
+use Rattle.otap_gateway.specs.Jobs.{Rule, History, Extends}
+use Rattle.otap_gateway.specs.Lines.{end_text}
+use Rattle.otap_gateway.specs.Reply.{ReplyText, out_text, err_text, any_refused}
+use Rattle.otap_gateway.specs.Runs.{Sinks, World, IsFlushed}
+
+abbrev pub stop_of_sink : SinkRefusal → Stop
+stop_of_sink refusal.Failed = stop.Sink
+stop_of_sink (refusal.Memory e) = stop.Memory
+
+abbrev pub stop_of_frames : FramesRefusal → Stop
+stop_of_frames frames.Source = stop.Source
+stop_of_frames (frames.Memory e) = stop.Memory
+
+-- what a run meets behind the frames that were handed out
+abbrev pub world_ahead : {S : Type 0} → Reading → SourceGhosts S → S → Sinks → World
+world_ahead read tells source sinks = record { left = ahead read (tells.left source); faults = tells.faults source; sinks = sinks }
+
+-- nothing is written
+pub record KeepsBoth (old new : Sinks) : Type 0 where
+  pub out : Keeps old.out.written new.out.written
+  pub err : Keeps old.err.written new.err.written
+
+-- a reply to the frame is written
+pub record Writes (R : Rule) (stands stands' : History) (number : ℕ) (frame : Frame) (old new : Sinks) (refused : Bool) : Type 0 where
+  pub reply : ReplyText
+  pub follows : Extends R stands stands' number frame reply
+  pub out : Appends old.out.written new.out.written reply.out
+  pub err : Appends old.err.written new.err.written reply.err
+  pub same : refused ≡ reply.refused
+
+-- a front of a reply to the frame is written
+pub record WritesPart (R : Rule) (stands stands' : History) (number : ℕ) (frame : Frame) (old new : Sinks) : Type 0 where
+  pub reply : ReplyText
+  pub follows : Extends R stands stands' number frame reply
+  pub out : AppendsFront old.out.written new.out.written reply.out
+  pub err : AppendsFront old.err.written new.err.written reply.err
+
+abbrev pub Handles : Rule → History → History → ℕ → Frame → Sinks → Sinks → Result Bool Stop → Type 0
+Handles R stands stands' number frame old new (Ok refused) = Writes R stands stands' number frame old new refused
+Handles R stands stands' number frame old new (Err stop) = KeepsBoth old new ⊎ WritesPart R stands stands' number frame old new
+
+-- the text of an end is written, and all is passed on
+pub record Finishes (end : Option Damage) (old new : Sinks) (damaged : Bool) : Type 0 where
+  pub out : Keeps old.out.written new.out.written
+  pub err : Appends old.err.written new.err.written (end_text end)
+  pub flushed : IsFlushed new
+  pub same : damaged ≡ is_some end
+
+-- a front of it is written
+pub record FinishesPart (end : Option Damage) (old new : Sinks) : Type 0 where
+  pub out : Keeps old.out.written new.out.written
+  pub err : AppendsFront old.err.written new.err.written (end_text end)
+
+abbrev pub Ends : Option Damage → Sinks → Sinks → Result Bool Stop → Type 0
+Ends end old new (Ok damaged) = Finishes end old new damaged
+Ends end old new (Err stop) = FinishesPart end old new
+
+-- a turn: the next frame is taken and its reply written
+pub record TurnsFrame (R : Rule) (stands stands' : History) (number : ℕ) (read read' : Reading) (old new : World) (refused : Bool) : Type 0 where
+  pub takes : TakesFrame read read' old.left new.left
+  pub frame : Frame
+  pub shown : Some frame ≡ read'.frame
+  pub writes : Writes R stands stands' number frame old.sinks new.sinks refused
+
+pub record TurnsFramePart (R : Rule) (stands stands' : History) (number : ℕ) (read read' : Reading) (old new : World) : Type 0 where
+  pub takes : TakesFrame read read' old.left new.left
+  pub frame : Frame
+  pub shown : Some frame ≡ read'.frame
+  pub writes : WritesPart R stands stands' number frame old.sinks new.sinks
+
+-- or the capture ends
+pub record TurnsEnd (read read' : Reading) (old new : World) (damaged : Bool) : Type 0 where
+  pub end : Option Damage
+  pub comes : ComesToEnd read read' old.left new.left end
+  pub writes : Finishes end old.sinks new.sinks damaged
+
+pub record TurnsEndPart (read read' : Reading) (old new : World) : Type 0 where
+  pub end : Option Damage
+  pub comes : ComesToEnd read read' old.left new.left end
+  pub writes : FinishesPart end old.sinks new.sinks
+
+abbrev pub Turns : Rule → History → History → ℕ → Reading → Reading → World → World → Result Turn Stop → Type 0
+Turns R stands stands' number read read' old new (Ok (turn.Frame refused)) = TurnsFrame R stands stands' number read read' old new refused
+Turns R stands stands' number read read' old new (Ok (turn.End damaged)) = TurnsEnd read read' old new damaged
+Turns R stands stands' number read read' old new (Err stop) =
+    KeepsBoth old.sinks new.sinks ⊎ (TurnsFramePart R stands stands' number read read' old new ⊎ TurnsEndPart read read' old new)
+
+-- A run so far: what is ahead stands behind the frames that were taken, and the sinks grew by the replies to them.
+pub record Progress (R : Rule) (stands : History) (old new : World) (place number : ℕ) (any : Bool) : Type 0 where
+  pub frames : List Frame
+  pub replies : List ReplyText
+  pub front : List ℕ
+  pub taken : Consumes old.left new.left front
+  pub each : AreFrames 0 front frames
+  pub at : place ≡ length front
+  pub count : number ≡ length frames
+  pub history : stands frames replies
+  pub texts : EachAfter R [] [] frames replies
+  pub out : Appends old.sinks.out.written new.sinks.out.written (out_text replies)
+  pub err : Appends old.sinks.err.written new.sinks.err.written (err_text replies)
+  pub refused : any ≡ any_refused replies

@@ -1,0 +1,154 @@
+//! The run of a job over a capture: frames are read, and replies are written and passed on.
+ghost use Rattle.std.specs.Prelude.{◌≡◌, [], None, OnOk};
+ghost use Rattle.std.specs.Io.KnownBytes.{Keeps};
+ghost use Rattle.std.specs.declared.option.Option.{Option};
+ghost use Rattle.otap_capture.specs.Capture.{frame_of};
+ghost use Rattle.otap_gateway.specs.Commands.{ReplyOf};
+ghost use Rattle.otap_gateway.specs.Runs.{sinks, world, Leaves, Faults, SinkFaults, IsFlushed};
+ghost use Rattle.otap_gateway.specs.Turns.{Handles, Ends, Turns, world_ahead};
+
+use crate::job::Job;
+use crate::lines::damage_line;
+use crate::stop::{Stop, Tally};
+use otap_capture::{Damage, Frame, Frames, Sink, Source, Step, write_whole};
+use std::alloc::Global;
+
+/// What a turn came to.
+pub(crate) enum Turn {
+    /// A frame, and whether it was refused.
+    Frame(bool),
+    /// The end, and whether it is a damage.
+    End(bool),
+}
+
+/// Writes the reply of the job to a frame. Answers whether the frame is refused.
+fn handle<J: Job, O: Sink, E: Sink>(
+    alloc: Global,
+    job: &mut J,
+    number: u64,
+    frame: &Frame<'_>,
+    out: &mut O,
+    err: &mut E,
+) -> Result<bool, Stop>
+    ensures same { J.command job.new ≡ J.command job.old }
+    ensures handles { Handles (ReplyOf (J.command job.old)) (J.stands job.old) (J.stands job.new) number (frame_of frame.now)
+        (sinks O.Sink out.old E.Sink err.old)
+        (sinks O.Sink out.new E.Sink err.new) result }
+    ensures faults { SinkFaults
+        (sinks O.Sink out.old E.Sink err.old)
+        (sinks O.Sink out.new E.Sink err.new) result }
+{
+    let Ok(reply) = job.step(alloc, number, frame) else {
+        return Err(Stop::Memory);
+    };
+    write_whole(out, reply.out())?;
+    write_whole(err, reply.err())?;
+    Ok(reply.is_refused())
+}
+
+/// Passes on all that was written.
+pub(crate) fn flush_both<O: Sink, E: Sink>(out: &mut O, err: &mut E) -> Result<(), Stop>
+    ensures out { Keeps (O.written out.old) (O.written out.new) }
+    ensures err { Keeps (E.written err.old) (E.written err.new) }
+    ensures flushed { OnOk result (IsFlushed (sinks O.Sink out.new E.Sink err.new)) }
+    ensures faults { SinkFaults
+        (sinks O.Sink out.old E.Sink err.old)
+        (sinks O.Sink out.new E.Sink err.new) result }
+{
+    out.flush()?;
+    err.flush()?;
+    Ok(())
+}
+
+/// Writes the line of a damage, if there is one, and passes on all that was written.
+fn finish<O: Sink, E: Sink>(
+    alloc: Global,
+    end: Option<Damage>,
+    out: &mut O,
+    err: &mut E,
+) -> Result<bool, Stop>
+    ensures ends { Ends end
+        (sinks O.Sink out.old E.Sink err.old)
+        (sinks O.Sink out.new E.Sink err.new) result }
+    ensures faults { SinkFaults
+        (sinks O.Sink out.old E.Sink err.old)
+        (sinks O.Sink out.new E.Sink err.new) result }
+{
+    match end {
+        None => {
+            flush_both(out, err)?;
+            Ok(false)
+        }
+        Some(damage) => {
+            let Ok(line) = damage_line(alloc, damage) else {
+                return Err(Stop::Memory);
+            };
+            write_whole(err, line.as_bytes())?;
+            flush_both(out, err)?;
+            Ok(true)
+        }
+    }
+}
+
+/// Takes the next step over the capture, and writes what belongs to it.
+fn take_turn<J: Job, S: Source, O: Sink, E: Sink>(
+    alloc: Global,
+    job: &mut J,
+    number: u64,
+    frames: &mut Frames,
+    source: &mut S,
+    out: &mut O,
+    err: &mut E,
+) -> Result<Turn, Stop>
+    requires { frames.old.ended ≡ None }
+    ensures same { J.command job.new ≡ J.command job.old }
+    ensures turns { Turns (ReplyOf (J.command job.old)) (J.stands job.old) (J.stands job.new) number frames.old frames.new
+        (world_ahead frames.old S.Source source.old (sinks O.Sink out.old E.Sink err.old))
+        (world_ahead frames.new S.Source source.new (sinks O.Sink out.new E.Sink err.new)) result }
+    ensures faults { Faults
+        (world_ahead frames.old S.Source source.old (sinks O.Sink out.old E.Sink err.old))
+        (world_ahead frames.new S.Source source.new (sinks O.Sink out.new E.Sink err.new)) result }
+{
+    let end = match frames.next(source)? {
+        Step::Frame => {
+            let Some(frame) = frames.frame() else {
+                unreachable!()
+            };
+            let refused = handle(alloc, job, number, &frame, out, err)?;
+            return Ok(Turn::Frame(refused));
+        }
+        Step::End => None,
+        Step::Damage(damage) => Some(damage),
+    };
+    Ok(Turn::End(finish(alloc, end, out, err)?))
+}
+
+/// Runs a job over the whole capture that the source gives.
+pub(crate) fn drive<J: Job, S: Source, O: Sink, E: Sink>(
+    alloc: Global,
+    job: &mut J,
+    source: &mut S,
+    out: &mut O,
+    err: &mut E,
+) -> Result<Tally, Stop>
+    requires { J.stands job.old [] [] }
+    ensures leaves { Leaves (J.command job.old) (S.left source.old)
+        (sinks O.Sink out.old E.Sink err.old)
+        (sinks O.Sink out.new E.Sink err.new) result }
+    ensures faults { Faults
+        (world S.Source source.old (sinks O.Sink out.old E.Sink err.old))
+        (world S.Source source.new (sinks O.Sink out.new E.Sink err.new)) result }
+{
+    let mut frames = Frames::new(alloc);
+    let mut number = 0;
+    let mut refused = false;
+    'frames: loop {
+        match take_turn(alloc, job, number, &mut frames, source, out, err)? {
+            Turn::Frame(is_refused) => {
+                refused |= is_refused;
+                number += 1;
+            }
+            Turn::End(damaged) => return Ok(Tally { refused, damaged }),
+        }
+    }
+}

@@ -1,0 +1,68 @@
+//! The whole of what the program does.
+ghost use Rattle.std.specs.Prelude.{◌≡◌};
+ghost use Rattle.std.specs.Io.KnownBytes.{Keeps};
+ghost use Rattle.otap_gateway.specs.declared.command.Command.{Command};
+ghost use Rattle.otap_gateway.specs.Commands.{IsNoCommand, words_of};
+ghost use Rattle.otap_gateway.specs.Runs.{sinks, world, Leaves, Faults, SinkFaults, LeavesLine, Runs, Refuses};
+
+use crate::command::Command;
+use crate::drive::{drive, flush_both};
+use crate::list::Lister;
+use crate::stop::{Stop, Tally, status, words_status};
+use crate::words::Words;
+use otap_capture::{Sink, Source, write_whole};
+use std::alloc::Global;
+
+const NOT_UNDERSTOOD: &[u8] = b"otap: words not understood\n";
+
+/// Does the job that the words name over the capture that the source gives, and answers the status
+/// with which the program ends: 0 where all frames were handled, 1 where one was refused, 2 where the
+/// words are those of no job, 3 where the source failed, 4 where a sink failed, 5 where the capture
+/// has a damage, 6 where there was no memory.
+pub fn run<S: Source, O: Sink, E: Sink>(
+    alloc: Global,
+    words: &Words,
+    source: &mut S,
+    out: &mut O,
+    err: &mut E,
+) -> u8
+    ensures understood { (job : Command) → words.now ≡ words_of job → Runs job
+        (world S.Source source.old (sinks O.Sink out.old E.Sink err.old))
+        (world S.Source source.new (sinks O.Sink out.new E.Sink err.new)) result }
+    ensures otherwise { IsNoCommand words.now → Refuses source.old source.new
+        (world S.Source source.old (sinks O.Sink out.old E.Sink err.old))
+        (world S.Source source.new (sinks O.Sink out.new E.Sink err.new)) result }
+{
+    match words.command() {
+        Some(job) => status(run_job(alloc, job, source, out, err)),
+        None => words_status(refuse_words(out, err)),
+    }
+}
+
+fn run_job<S: Source, O: Sink, E: Sink>(
+    alloc: Global,
+    job: Command,
+    source: &mut S,
+    out: &mut O,
+    err: &mut E,
+) -> Result<Tally, Stop>
+    ensures leaves { Leaves job (S.left source.old)
+        (sinks O.Sink out.old E.Sink err.old)
+        (sinks O.Sink out.new E.Sink err.new) result }
+    ensures faults { Faults
+        (world S.Source source.old (sinks O.Sink out.old E.Sink err.old))
+        (world S.Source source.new (sinks O.Sink out.new E.Sink err.new)) result }
+{
+    match job {
+        Command::List => drive(alloc, &mut Lister, source, out, err),
+    }
+}
+
+fn refuse_words<O: Sink, E: Sink>(out: &mut O, err: &mut E) -> Result<(), Stop>
+    ensures out { Keeps (O.written out.old) (O.written out.new) }
+    ensures line { LeavesLine (sinks O.Sink out.old E.Sink err.old) (sinks O.Sink out.new E.Sink err.new) result }
+    ensures faults { SinkFaults (sinks O.Sink out.old E.Sink err.old) (sinks O.Sink out.new E.Sink err.new) result }
+{
+    write_whole(err, NOT_UNDERSTOOD)?;
+    flush_both(out, err)
+}

@@ -1,0 +1,115 @@
+-- What the fields of a message hold in which no defect stands.
+use Rattle.std.proofs.Common.{◌≡◌, ◌≢◌, ℕ, zero, suc, List, [], ◌∷◌, ◌++◌, length, append_assoc, Bool, true, false, Option, Some, None, refl, sym, ap, ◌∙◌, subst, arith, inl, inr, ◌⊎◌}
+use Rattle.std.specs.Prelude.{fold, ◌==◌, IsUtf8, ⊤}
+use Rattle.std.specs.List.{AllByRecursion}
+use Rattle.std.specs.Str.{is_utf8}
+use Rattle.std.proofs.lemmas.Bool.{cases_eq, cases_Bool, false≢true, eq-eqb, ne_eqb}
+use Rattle.std.proofs.lemmas.Str.{IsUtf8-nil, IsUtf8-from_is_utf8, is_utf8-from_IsUtf8}
+use Rattle.otlp_messages.specs.declared.messages.Message.{Message}
+use Rattle.otlp_messages.specs.declared.messages.Kind.{Kind}
+use Rattle.otlp_messages.specs.declared.messages.Kind.TheVariants.{Unknown, Varint, Fixed64, Fixed32, Text, Octets, Id, Embedded, Member, Refused}
+use Rattle.otlp_messages.specs.declared.messages.Defect.{Defect}
+use Rattle.otlp_messages.specs.declared.messages.Defect.TheVariants.{BadMessage, BadUtf8, BadLength, Unsupported, TooDeep}
+use Rattle.otlp_wire.specs.declared.parts.WireError.{WireError}
+use Rattle.otlp_wire.specs.Wire as wire
+use Rattle.otlp_wire.specs.Wire.{FieldValue, Entry, wire_type}
+use Rattle.otlp_wire.specs.Fields.{fields_of, end_of}
+use Rattle.otlp_messages.specs.Table.{kind_of}
+use Rattle.otlp_messages.specs.Defects.{wire_type_of, HasType, Occurs, wire_error, IsFine}
+use Rattle.otlp_messages.specs.Fine.{FinePart, FineValue, ValueStands}
+use Rattle.otlp_messages.specs.Rows.{only, said, bytes_in, parts_of}
+use Rattle.otlp_messages.proofs.Steps.{AllFine, value_stands}
+
+has_type_or_not : (o : Option ℕ) (t : ℕ) → HasType o t ⊎ (HasType o t → ⊥)
+has_type_or_not None t = inl tt
+has_type_or_not (Some u) t = cases_eq u t
+
+-- no defect stands in the value
+None_in : Kind → ℕ → FieldValue → Type 0
+None_in k l v = (e : Defect) → ValueStands k l v e → ⊥
+
+other_type : (k : Kind) (l : ℕ) (part : List ℕ) → (HasType (wire_type_of k) 2 → ⊥) → None_in k l (wire.Bytes part) → ⊥
+unfolding None_in
+other_type k l part other none = none BadMessage (inl (inl (refl, other)))
+
+fine_part : (k : Kind) (l : ℕ) (part : List ℕ) → None_in k l (wire.Bytes part) → FinePart k l part
+unfolding None_in
+fine_part Unknown l part none = tt
+fine_part Octets l part none = tt
+fine_part Text l part none =
+    elim (cases_Bool (is_utf8 part)) [
+        inl text ↦ IsUtf8-from_is_utf8 part text
+      | inr no_text ↦ absurd (none BadUtf8 (inl (inr (refl, λ text. false≢true (sym no_text ∙ is_utf8-from_IsUtf8 part text))))) ]
+fine_part (Id size) l part none =
+    elim (cases_eq (length part) 0) [
+        inl empty ↦ inl empty
+      | inr some ↦ elim (cases_eq (length part) size) [ inl whole ↦ inr whole | inr other ↦ absurd (none BadLength (inl (inr (refl, some, other)))) ] ]
+fine_part (Embedded m) l part none = record { none = λ e s. none e (inr s) }
+fine_part (Member m) zero part none = absurd (none TooDeep (inl (inr (refl, refl))))
+fine_part (Member m) (suc l) part none = record { none = λ e s. none e (inr s) }
+fine_part Refused l part none = absurd (none Unsupported (inl (inr refl)))
+fine_part Varint l part none = absurd (other_type Varint l part (λ e. omega (arith, e)) none)
+fine_part Fixed64 l part none = absurd (other_type Fixed64 l part (λ e. omega (arith, e)) none)
+fine_part Fixed32 l part none = absurd (other_type Fixed32 l part (λ e. omega (arith, e)) none)
+
+fine_other : (k : Kind) (t : ℕ) → (((HasType (wire_type_of k) t → ⊥)) → ⊥) → HasType (wire_type_of k) t
+fine_other k t not_not = elim (has_type_or_not (wire_type_of k) t) [ inl has ↦ has | inr not_has ↦ absurd (not_not not_has) ]
+
+fine_value : (k : Kind) (l : ℕ) (v : FieldValue) → None_in k l v → FineValue k l v
+unfolding None_in
+fine_value k l (wire.Varint n) none = fine_other k 0 (λ h. none BadMessage (refl, h))
+fine_value k l (wire.Fixed64 n) none = fine_other k 1 (λ h. none BadMessage (refl, h))
+fine_value k l (wire.Fixed32 n) none = fine_other k 5 (λ h. none BadMessage (refl, h))
+fine_value k l (wire.Bytes part) none = fine_part k l part none
+
+pub fine_field : (m : Message) (l : ℕ) (bytes : List ℕ) (f : Entry) → IsFine m l bytes → Occurs bytes f → FineValue (kind_of m f.number) l f.value
+unfolding None_in
+fine_field m l bytes f fine occurs = fine_value (kind_of m f.number) l f.value (λ e s. fine.none e (value_stands m l bytes f.number f.value e occurs s))
+
+-- what holds of each element, whatever stands before and behind it
+all_behind : {X : Type 0} (P : X → Type 0) (front rest : List X) → ((before after : List X) (x : X) → front ++ rest ≡ before ++ x ∷ after → P x) → AllByRecursion P rest
+all_behind P front [] each = tt
+all_behind P front (x ∷ rest) each =
+    (each front rest x refl, all_behind P (front ++ x ∷ []) rest (λ before after y is. each before after y (sym (append_assoc front (x ∷ []) rest) ∙ is)))
+
+pub fine_fields : (m : Message) (l : ℕ) (bytes : List ℕ) → IsFine m l bytes → AllFine m l (fields_of bytes)
+fine_fields m l bytes fine =
+    all_behind (λ f. FineValue (kind_of m f.number) l f.value) [] (fields_of bytes) (λ before after f is. fine_field m l bytes f fine (before, after, is))
+
+pub fine_end : (m : Message) (l : ℕ) (bytes : List ℕ) → IsFine m l bytes → end_of bytes ≡ None
+fine_end m l bytes fine = go (end_of bytes) refl
+  where
+    go : (end : Option WireError) → end_of bytes ≡ end → end_of bytes ≡ None
+    go None is = is
+    go (Some e) is = absurd (fine.none BadMessage (wire_error m l bytes e is))
+
+-- the values of one number
+pub only_fine : (m : Message) (l n : ℕ) (fs : List Entry) → AllFine m l fs → AllByRecursion (FineValue (kind_of m n) l) (only n fs)
+only_fine m l n [] fine = tt
+only_fine m l n (f ∷ fs) fine =
+    elim (cases_eq f.number n) [
+        inl same ↦ rw (eq-eqb f.number n same) (subst (λ (k : ℕ). FineValue (kind_of m k) l f.value) same fine.0, only_fine m l n fs fine.1)
+      | inr other ↦ rw (ne_eqb f.number n other) (only_fine m l n fs fine.1) ]
+
+pub fine_only : (m : Message) (l n : ℕ) (bytes : List ℕ) → IsFine m l bytes → AllByRecursion (FineValue (kind_of m n) l) (only n (fields_of bytes))
+fine_only m l n bytes fine = only_fine m l n (fields_of bytes) (fine_fields m l bytes fine)
+
+-- a text that is said is UTF-8
+texts : (l : ℕ) (old : List ℕ) (vs : List FieldValue) → IsUtf8 old → AllByRecursion (FineValue Text l) vs → IsUtf8 (fold bytes_in old vs)
+texts l old [] text fine = text
+texts l old (wire.Bytes part ∷ vs) text fine = texts l part vs fine.0 fine.1
+texts l old (wire.Varint n ∷ vs) text fine = texts l old vs text fine.1
+texts l old (wire.Fixed64 n ∷ vs) text fine = texts l old vs text fine.1
+texts l old (wire.Fixed32 n ∷ vs) text fine = texts l old vs text fine.1
+
+pub text_said : (m : Message) (l n : ℕ) (bytes : List ℕ) → kind_of m n ≡ Text → IsFine m l bytes → IsUtf8 (said n bytes_in [] bytes)
+text_said m l n bytes is fine =
+    texts l [] (only n (fields_of bytes)) IsUtf8-nil (subst (λ (k : Kind). AllByRecursion (FineValue k l) (only n (fields_of bytes))) is (fine_only m l n bytes fine))
+
+-- the messages of a number
+pub parts_fine : (k : Kind) (l : ℕ) (vs : List FieldValue) → AllByRecursion (FineValue k l) vs → AllByRecursion (FinePart k l) (parts_of vs)
+parts_fine k l [] fine = tt
+parts_fine k l (wire.Bytes part ∷ vs) fine = (fine.0, parts_fine k l vs fine.1)
+parts_fine k l (wire.Varint n ∷ vs) fine = parts_fine k l vs fine.1
+parts_fine k l (wire.Fixed64 n ∷ vs) fine = parts_fine k l vs fine.1
+parts_fine k l (wire.Fixed32 n ∷ vs) fine = parts_fine k l vs fine.1

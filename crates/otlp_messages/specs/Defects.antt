@@ -1,0 +1,69 @@
+-- What can be wrong with the bytes of a message, by what the table says of their fields.
+use Rattle.std.specs.Prelude.{◌≡◌, ◌≢◌, ℕ, zero, suc, ◌<◌, List, [], ◌∷◌, ◌++◌, length, Option, Some, None, count_by, ◌==◌, IsUtf8, ⊤, ◌⊎◌}
+use Rattle.otlp_messages.specs.declared.messages.Message.{Message}
+use Rattle.otlp_messages.specs.declared.messages.Kind.{Kind}
+use Rattle.otlp_messages.specs.declared.messages.Kind.TheVariants.{Unknown, Varint, Fixed64, Fixed32, Text, Octets, Id, Embedded, Member, Refused}
+use Rattle.otlp_messages.specs.declared.messages.Defect.{Defect}
+use Rattle.otlp_messages.specs.declared.messages.Defect.TheVariants.{BadMessage, Repeated, BadUtf8, BadLength, Unsupported, TooDeep}
+use Rattle.otlp_wire.specs.declared.parts.WireError.{WireError}
+use Rattle.otlp_wire.specs.Wire as wire
+use Rattle.otlp_wire.specs.Wire.{FieldValue, Entry, wire_type}
+use Rattle.otlp_wire.specs.Fields.{fields_of, end_of}
+use Rattle.otlp_messages.specs.Table.{kind_of, mark_of}
+
+-- the wire type of a kind; an unknown field may have any
+abbrev pub wire_type_of : Kind → Option ℕ
+wire_type_of Unknown = None
+wire_type_of Varint = Some 0
+wire_type_of Fixed64 = Some 1
+wire_type_of Fixed32 = Some 5
+wire_type_of Text = Some 2
+wire_type_of Octets = Some 2
+wire_type_of (Id size) = Some 2
+wire_type_of (Embedded message) = Some 2
+wire_type_of (Member message) = Some 2
+wire_type_of Refused = Some 2
+
+abbrev pub HasType : Option ℕ → ℕ → Type 0
+HasType None t = ⊤
+HasType (Some u) t = u ≡ t
+
+-- what is wrong with bytes of this kind, in a message below whose values so many levels of members may stand
+abbrev pub PartFaults : Kind → ℕ → List ℕ → Defect → Type 0
+PartFaults Text levels part e = (e ≡ BadUtf8) × (IsUtf8 part → ⊥)
+PartFaults (Id size) levels part e = (e ≡ BadLength) × (length part ≢ 0) × (length part ≢ size)
+PartFaults (Member message) levels part e = (e ≡ TooDeep) × (levels ≡ 0)
+PartFaults Refused levels part e = e ≡ Unsupported
+PartFaults kind levels part e = ⊥
+
+-- what is wrong with a value of this kind
+abbrev pub ValueFaults : Kind → ℕ → FieldValue → Defect → Type 0
+ValueFaults kind levels (wire.Bytes part) e =
+    ((e ≡ BadMessage) × (HasType (wire_type_of kind) 2 → ⊥)) ⊎ PartFaults kind levels part e
+ValueFaults kind levels value e = (e ≡ BadMessage) × (HasType (wire_type_of kind) (wire_type value) → ⊥)
+
+-- the message that bytes of this kind are, and how many levels may stand below its values
+abbrev pub inside : Kind → ℕ → Option (Message × ℕ)
+inside (Embedded message) levels = Some (message, levels)
+inside (Member message) (suc levels) = Some (message, levels)
+inside kind levels = None
+
+-- the field occurs among those of the bytes
+abbrev pub Occurs : List ℕ → Entry → Type 0
+Occurs bytes f = (before : List Entry) × (after : List Entry) × (fields_of bytes ≡ before ++ f ∷ after)
+
+-- The defect stands in the bytes, read as this message. The fields are those of the longest front of
+-- the bytes that spells fields, so defects of fields before a wire error stand beside it.
+pub data Stands : Message → ℕ → List ℕ → Defect → Type 0 where
+  wire_error : (message : Message) (levels : ℕ) (bytes : List ℕ) (e : WireError) → end_of bytes ≡ Some e → Stands message levels bytes BadMessage
+  twice : (message : Message) (levels : ℕ) (bytes : List ℕ) (mark : ℕ) → 0 < mark → 1 < count_by (λ f. mark_of message f.number == mark) (fields_of bytes)
+      → Stands message levels bytes Repeated
+  in_value : (message : Message) (levels : ℕ) (bytes : List ℕ) (f : Entry) (e : Defect) → Occurs bytes f → ValueFaults (kind_of message f.number) levels f.value e
+      → Stands message levels bytes e
+  within : (message : Message) (levels : ℕ) (bytes : List ℕ) (n : ℕ) (part : List ℕ) (next : Message) (deep : ℕ) (e : Defect)
+      → Occurs bytes (record { number = n; value = wire.Bytes part }) → inside (kind_of message n) levels ≡ Some (next, deep) → Stands next deep part e
+      → Stands message levels bytes e
+
+-- the bytes are the message, without a defect
+pub record IsFine (message : Message) (levels : ℕ) (bytes : List ℕ) : Type 0 where
+  pub none : (e : Defect) → Stands message levels bytes e → ⊥

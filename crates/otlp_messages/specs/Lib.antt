@@ -1,0 +1,5 @@
+pub mod Table
+pub mod Defects
+pub mod Fine
+pub mod Rows
+pub mod Canon

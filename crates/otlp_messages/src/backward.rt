@@ -1,0 +1,129 @@
+//! A buffer that is filled from its end to its front, so that the length of an embedded message is known
+//! when its last byte, the first one, is written.
+
+ghost use Rattle.std.specs.Prelude.{◌≡◌, ◌≤◌, ◌∷◌, ◌++◌, [], length, drop, vec_len, IfOk, OnOk, OnErr, IsTrue, ◌↔◌};
+ghost use Rattle.otlp_wire.specs.Varint.{varint};
+
+use std::alloc::{AllocError, Global};
+use std::marker::Model;
+
+/// The least room that a buffer gets.
+const LEAST: usize = 256;
+
+/// A buffer that grows at its front. After an `Err` of a method that writes, nothing is promised of what
+/// it holds.
+#[derive(Debug, Drop)]
+pub struct Backward {
+    bytes: Vec<u8>,
+    start: usize,
+}
+
+impl Model for Backward {
+    ghost use Rattle.std.specs.Prelude.{ℕ, List, ◌≤◌, drop, vec_len};
+
+    ghost Value = { List ℕ };
+
+    ghost view = { λ b. drop b.start b.bytes.items };
+
+    ghost invariant = { λ b. b.start ≤ vec_len b.bytes };
+}
+
+impl Backward {
+    /// An empty buffer.
+    pub fn new(alloc: Global) -> Backward
+        ensures { result ≡ [] }
+    {
+        Backward {
+            bytes: Vec::new(alloc),
+            start: 0,
+        }
+    }
+
+    /// How many bytes are written.
+    pub fn len(&self) -> usize
+        ensures { result ≡ length self.now }
+    {
+        self.bytes.len() - self.start
+    }
+
+    /// Whether nothing is written.
+    pub fn is_empty(&self) -> bool
+        ensures { IsTrue result ↔ (self.now ≡ []) }
+    {
+        self.len() == 0
+    }
+
+    /// Writes a byte before all others.
+    pub fn push(&mut self, byte: u8) -> Result<(), AllocError>
+        ensures { OnOk result (self.new ≡ byte ∷ self.old) }
+    {
+        let end = reserve_front(&mut self.bytes, self.start, 1)?;
+        let start = end - 1;
+        self.bytes[start] = byte;
+        self.start = start;
+        Ok(())
+    }
+
+    /// Writes the bytes before all others.
+    pub fn push_slice(&mut self, part: &[u8]) -> Result<(), AllocError>
+        ensures { OnOk result (self.new ≡ part.now ++ self.old) }
+    {
+        let end = reserve_front(&mut self.bytes, self.start, part.len())?;
+        let start = end - part.len();
+        self.bytes[start..end].copy_from_slice(part);
+        self.start = start;
+        Ok(())
+    }
+
+    /// Writes the shortest varint of the value before all others.
+    #[tactic(auto, using(otlp_wire::proofs::Shortest::varint_small, otlp_wire::proofs::Shortest::varint_large))]
+    pub fn push_varint(&mut self, value: u64) -> Result<(), AllocError>
+        ensures { OnOk result (self.new ≡ varint value ++ self.old) }
+    {
+        if value < 128 {
+            return self.push(value as u8);
+        }
+        self.push_varint(value / 128)?;
+        self.push((value % 128) as u8 + 128)
+    }
+
+    /// All that is written.
+    pub fn finish(self) -> Vec<u8>
+        ensures { result.items ≡ self }
+    {
+        let Backward { mut bytes, start } = self;
+        let len = bytes.len() - start;
+        bytes.copy_within(start.., 0);
+        bytes.truncate(len);
+        bytes
+    }
+}
+
+/// Where what stands from `start` on begins, once there is room for so many bytes before it.
+#[inline]
+fn reserve_front(bytes: &mut Vec<u8>, start: usize, room: usize) -> Result<usize, AllocError>
+    requires { start ≤ vec_len bytes.old }
+    ensures room { IfOk result (λ s. (room ≤ s) × (s ≤ vec_len bytes.new)) }
+    ensures kept { IfOk result (λ s. drop s bytes.new.items ≡ drop start bytes.old.items) }
+    ensures err { OnErr result (start ≤ vec_len bytes.new) }
+{
+    if room <= start {
+        return Ok(start);
+    }
+    grow_front(bytes, start, room)
+}
+
+/// Moves what stands from `start` on to the end of a longer vector.
+fn grow_front(bytes: &mut Vec<u8>, start: usize, room: usize) -> Result<usize, AllocError>
+    requires { start ≤ vec_len bytes.old }
+    ensures room { IfOk result (λ s. (room ≤ s) × (s ≤ vec_len bytes.new)) }
+    ensures kept { IfOk result (λ s. drop s bytes.new.items ≡ drop start bytes.old.items) }
+    ensures err { OnErr result (start ≤ vec_len bytes.new) }
+{
+    let old = bytes.len();
+    let more = room.max(old).max(LEAST);
+    bytes.resize(old.saturating_add(more), 0)?;
+    let moved = start + (bytes.len() - old);
+    bytes.copy_within(start..old, moved);
+    Ok(moved)
+}

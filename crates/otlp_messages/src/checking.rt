@@ -1,0 +1,80 @@
+//! Whether bytes are a message, without making anything of them.
+
+ghost use Rattle.std.specs.Prelude.{OnOk, IfErr, ◌↔◌, IsTrue, IsUtf8};
+ghost use Rattle.otlp_wire.specs.Wire as wire;
+ghost use Rattle.otlp_wire.specs.Wire.{value_of};
+ghost use Rattle.otlp_messages.specs.Defects.{Stands, IsFine};
+ghost use Rattle.otlp_messages.specs.Fine.{FinePart, FineValue, ValueStands};
+
+use crate::messages::{Defect, Kind, Message};
+use crate::table::{MARKS, row_of};
+use otlp_wire::{Fields, Wire};
+
+/// How many levels of members may stand below a value that is in no array and no key-value list: a
+/// value is at most 32 deep.
+pub const LEVELS: u8 = 31;
+
+/// Whether the bytes are the message, in one pass over them. `levels` says how many levels of members
+/// may stand below the values of the message: [`LEVELS`], where it stands in no array and no list.
+#[cycle(check)]
+pub fn check(message: Message, levels: u8, bytes: &[u8]) -> Result<(), Defect>
+    ensures fine { OnOk result (IsFine message levels bytes.now) }
+    ensures fault { IfErr result (Stands message levels bytes.now) }
+{
+    let mut seen = [false; MARKS];
+    'fields: for next in Fields::new(bytes) {
+        let Ok(field) = next else {
+            return Err(Defect::BadMessage);
+        };
+        let row = row_of(message, field.number);
+        if seen[row.mark] {
+            return Err(Defect::Repeated);
+        }
+        seen[row.mark] = row.mark != 0;
+        check_value(row.kind, levels, &field.value)?;
+    }
+    Ok(())
+}
+
+/// Whether the value is of the kind.
+#[cycle(check)]
+fn check_value(kind: Kind, levels: u8, value: &Wire<'_>) -> Result<(), Defect>
+    ensures fine { OnOk result (FineValue kind levels (value_of value.now)) }
+    ensures fault { IfErr result (ValueStands kind levels (value_of value.now)) }
+{
+    match (value, kind) {
+        (_, Kind::Unknown)
+        | (Wire::Varint(_), Kind::Varint)
+        | (Wire::Fixed64(_), Kind::Fixed64)
+        | (Wire::Fixed32(_), Kind::Fixed32) => Ok(()),
+        (Wire::Bytes(part), kind) => check_part(kind, levels, part),
+        _ => Err(Defect::BadMessage),
+    }
+}
+
+/// Whether the bytes are of the kind.
+#[cycle(check)]
+fn check_part(kind: Kind, levels: u8, part: &[u8]) -> Result<(), Defect>
+    ensures fine { OnOk result (FinePart kind levels part.now) }
+    ensures fault { IfErr result (ValueStands kind levels (wire.Bytes part.now)) }
+{
+    match kind {
+        Kind::Unknown | Kind::Octets => Ok(()),
+        Kind::Varint | Kind::Fixed64 | Kind::Fixed32 => Err(Defect::BadMessage),
+        Kind::Text if is_text(part) => Ok(()),
+        Kind::Text => Err(Defect::BadUtf8),
+        Kind::Id(size) if part.is_empty() || part.len() == size => Ok(()),
+        Kind::Id(_) => Err(Defect::BadLength),
+        Kind::Embedded(message) => check(message, levels, part),
+        Kind::Member(_) if levels == 0 => Err(Defect::TooDeep),
+        Kind::Member(message) => check(message, levels - 1, part),
+        Kind::Refused => Err(Defect::Unsupported),
+    }
+}
+
+/// Whether the bytes are UTF-8.
+pub fn is_text(part: &[u8]) -> bool
+    ensures { IsTrue result ↔ IsUtf8 part.now }
+{
+    std::str::from_utf8(part).is_ok()
+}

@@ -1,0 +1,12 @@
+//! What holds of the definitions themselves: each law is the contract of a function that does nothing.
+
+ghost use Rattle.std.specs.Prelude.{◌≡◌, ℕ, ◌^◌, ◌<◌, List, true, length};
+ghost use Rattle.std.specs.List.{AllByRecursion};
+ghost use Rattle.otlp_messages.specs.declared.messages.Message.{Message};
+ghost use Rattle.otlp_messages.specs.Canon.{Filled, canon, laid_out, RowFits, IsReadBack};
+
+/// Rows that are written are the fields that are read, and no defect stands in them.
+pub fn rows_are_read()
+    ensures { (m : Message) (levels : ℕ) (rows : List Filled) → laid_out m rows ≡ true
+        → AllByRecursion (RowFits m levels) rows → length (canon rows) < 2 ^ 64 → IsReadBack m levels rows }
+{}

@@ -1,0 +1,155 @@
+//! The fields of a message, written from the last to the first. A method whose name ends in `row` writes
+//! no field where the value is the default, as is canonical for a singular field; one whose name ends in
+//! `field` always writes one, as is canonical for a member of a oneof and for a repeated field.
+
+ghost use Rattle.std.specs.Prelude.{◌≡◌, ◌≤◌, ◌+◌, ◌*◌, ◌∷◌, [], ◌++◌, length, take, drop, OnOk};
+ghost use Rattle.otlp_wire.specs.Varint.{varint};
+ghost use Rattle.otlp_wire.specs.Wire as wire;
+ghost use Rattle.otlp_wire.specs.Wire.{IsNumber};
+ghost use Rattle.otlp_messages.specs.Canon.{canon_row, varint_row, signed_row, bool_row, fixed64_row, fixed32_row, bytes_row};
+
+use crate::backward::Backward;
+use byteorder::{ByteOrder, LittleEndian};
+use std::alloc::AllocError;
+
+impl Backward {
+    /// Writes a field of wire type 0.
+    pub fn put_varint_field(&mut self, number: u32, value: u64) -> Result<(), AllocError>
+        requires { IsNumber number }
+        ensures { OnOk result (self.new ≡ canon_row number (wire.Varint value ∷ []) ++ self.old) }
+    {
+        self.push_varint(value)?;
+        self.push_varint(8 * u64::from(number))?;
+        Ok(())
+    }
+
+    /// Writes a field of wire type 1.
+    pub fn put_fixed64_field(&mut self, number: u32, value: u64) -> Result<(), AllocError>
+        requires { IsNumber number }
+        ensures { OnOk result (self.new ≡ canon_row number (wire.Fixed64 value ∷ []) ++ self.old) }
+    {
+        let mut bytes = [0; 8];
+        LittleEndian::write_u64(&mut bytes, value);
+        self.push_slice(&bytes)?;
+        self.push_varint(8 * u64::from(number) + 1)?;
+        Ok(())
+    }
+
+    /// Writes a field of wire type 5.
+    pub fn put_fixed32_field(&mut self, number: u32, value: u32) -> Result<(), AllocError>
+        requires { IsNumber number }
+        ensures { OnOk result (self.new ≡ canon_row number (wire.Fixed32 value ∷ []) ++ self.old) }
+    {
+        let mut bytes = [0; 4];
+        LittleEndian::write_u32(&mut bytes, value);
+        self.push_slice(&bytes)?;
+        self.push_varint(8 * u64::from(number) + 5)?;
+        Ok(())
+    }
+
+    /// Writes a field of wire type 2.
+    pub fn put_bytes_field(&mut self, number: u32, part: &[u8]) -> Result<(), AllocError>
+        requires { IsNumber number }
+        ensures { OnOk result (self.new ≡ canon_row number (wire.Bytes part.now ∷ []) ++ self.old) }
+    {
+        self.push_slice(part)?;
+        self.close_head(number, part.len())?;
+        Ok(())
+    }
+
+    /// Makes the first so many bytes a field of wire type 2.
+    pub fn close_field(&mut self, number: u32, size: usize) -> Result<(), AllocError>
+        requires number { IsNumber number }
+        requires size { size ≤ length self.old }
+        ensures { OnOk result (self.new ≡ canon_row number (wire.Bytes (take size self.old) ∷ []) ++ drop size self.old) }
+    {
+        self.close_head(number, size)?;
+        Ok(())
+    }
+
+    /// Writes the tag and the length of a field of wire type 2.
+    fn close_head(&mut self, number: u32, size: usize) -> Result<(), AllocError>
+        requires { IsNumber number }
+        ensures { OnOk result (self.new ≡ varint (8 * number + 2) ++ (varint size ++ self.old)) }
+    {
+        self.push_varint(size as u64)?;
+        self.push_varint(8 * u64::from(number) + 2)?;
+        Ok(())
+    }
+
+    /// Writes an unsigned number.
+    pub fn put_varint_row(&mut self, number: u32, value: u64) -> Result<(), AllocError>
+        requires { IsNumber number }
+        ensures { OnOk result (self.new ≡ canon_row number (varint_row value) ++ self.old) }
+    {
+        if value != 0 {
+            self.put_varint_field(number, value)?;
+        }
+        Ok(())
+    }
+
+    /// Writes a signed number or an enum: one below zero has ten bytes.
+    pub fn put_signed_row(&mut self, number: u32, value: i64) -> Result<(), AllocError>
+        requires { IsNumber number }
+        ensures { OnOk result (self.new ≡ canon_row number (signed_row value) ++ self.old) }
+    {
+        self.put_varint_row(number, value.cast_unsigned())?;
+        Ok(())
+    }
+
+    /// Writes a bool.
+    pub fn put_bool_row(&mut self, number: u32, value: bool) -> Result<(), AllocError>
+        requires { IsNumber number }
+        ensures { OnOk result (self.new ≡ canon_row number (bool_row value) ++ self.old) }
+    {
+        if value {
+            self.put_varint_field(number, 1)?;
+        }
+        Ok(())
+    }
+
+    /// Writes 64 bits.
+    pub fn put_fixed64_row(&mut self, number: u32, value: u64) -> Result<(), AllocError>
+        requires { IsNumber number }
+        ensures { OnOk result (self.new ≡ canon_row number (fixed64_row value) ++ self.old) }
+    {
+        if value != 0 {
+            self.put_fixed64_field(number, value)?;
+        }
+        Ok(())
+    }
+
+    /// Writes 32 bits.
+    pub fn put_fixed32_row(&mut self, number: u32, value: u32) -> Result<(), AllocError>
+        requires { IsNumber number }
+        ensures { OnOk result (self.new ≡ canon_row number (fixed32_row value) ++ self.old) }
+    {
+        if value != 0 {
+            self.put_fixed32_field(number, value)?;
+        }
+        Ok(())
+    }
+
+    /// Writes a string or bytes.
+    pub fn put_bytes_row(&mut self, number: u32, part: &[u8]) -> Result<(), AllocError>
+        requires { IsNumber number }
+        ensures { OnOk result (self.new ≡ canon_row number (bytes_row part.now) ++ self.old) }
+    {
+        if !part.is_empty() {
+            self.put_bytes_field(number, part)?;
+        }
+        Ok(())
+    }
+
+    /// Makes the first so many bytes a singular message.
+    pub fn close_row(&mut self, number: u32, size: usize) -> Result<(), AllocError>
+        requires number { IsNumber number }
+        requires size { size ≤ length self.old }
+        ensures { OnOk result (self.new ≡ canon_row number (bytes_row (take size self.old)) ++ drop size self.old) }
+    {
+        if size != 0 {
+            self.close_field(number, size)?;
+        }
+        Ok(())
+    }
+}

@@ -1,0 +1,190 @@
+//! The table of the messages, as code looks a field up: a function for each message.
+
+ghost use Rattle.std.specs.Prelude.{◌≡◌, ◌<◌};
+ghost use Rattle.otlp_messages.specs.Table.{row_in};
+
+use crate::messages::{Kind, Message, Row};
+
+/// Marks are below this number.
+pub const MARKS: usize = 32;
+
+/// What the table says of a field of the message.
+pub fn row_of(message: Message, number: u32) -> Row
+    ensures row { result ≡ row_in message number }
+    ensures few { result.mark < MARKS }
+{
+    match message {
+        Message::BatchArrowRecords => batch_arrow_records(number),
+        Message::ArrowPayload => arrow_payload(number),
+        Message::BatchStatus => batch_status(number),
+        Message::LogsRequest => logs_request(number),
+        Message::ResourceLogs => resource_logs(number),
+        Message::ScopeLogs => scope_logs(number),
+        Message::LogRecord => log_record(number),
+        Message::Resource => resource(number),
+        Message::InstrumentationScope => instrumentation_scope(number),
+        Message::KeyValue => key_value(number),
+        Message::AnyValue => any_value(number),
+        Message::ArrayValue => array_value(number),
+        Message::KeyValueList => key_value_list(number),
+    }
+}
+
+/// A field that occurs once at most, as does any other with this mark.
+fn once(mark: usize, kind: Kind) -> Row
+    ensures { result ≡ record { kind = kind; mark = mark } }
+{
+    Row { kind, mark }
+}
+
+/// A field that may occur any number of times.
+fn many(kind: Kind) -> Row
+    ensures { result ≡ record { kind = kind; mark = 0 } }
+{
+    Row { kind, mark: 0 }
+}
+
+fn batch_arrow_records(number: u32) -> Row
+    ensures { result ≡ row_in Message.BatchArrowRecords number }
+{
+    match number {
+        1 => once(1, Kind::Varint),
+        2 => many(Kind::Embedded(Message::ArrowPayload)),
+        _ => many(Kind::Unknown),
+    }
+}
+
+fn arrow_payload(number: u32) -> Row
+    ensures { result ≡ row_in Message.ArrowPayload number }
+{
+    match number {
+        1 => once(1, Kind::Text),
+        2 => once(2, Kind::Varint),
+        3 => once(3, Kind::Octets),
+        _ => many(Kind::Unknown),
+    }
+}
+
+fn batch_status(number: u32) -> Row
+    ensures { result ≡ row_in Message.BatchStatus number }
+{
+    match number {
+        1 => once(1, Kind::Varint),
+        2 => once(2, Kind::Varint),
+        3 => once(3, Kind::Text),
+        _ => many(Kind::Unknown),
+    }
+}
+
+fn logs_request(number: u32) -> Row
+    ensures { result ≡ row_in Message.LogsRequest number }
+{
+    match number {
+        1 => many(Kind::Embedded(Message::ResourceLogs)),
+        _ => many(Kind::Unknown),
+    }
+}
+
+fn resource_logs(number: u32) -> Row
+    ensures { result ≡ row_in Message.ResourceLogs number }
+{
+    match number {
+        1 => once(1, Kind::Embedded(Message::Resource)),
+        2 => many(Kind::Embedded(Message::ScopeLogs)),
+        3 => once(3, Kind::Text),
+        _ => many(Kind::Unknown),
+    }
+}
+
+fn scope_logs(number: u32) -> Row
+    ensures { result ≡ row_in Message.ScopeLogs number }
+{
+    match number {
+        1 => once(1, Kind::Embedded(Message::InstrumentationScope)),
+        2 => many(Kind::Embedded(Message::LogRecord)),
+        3 => once(3, Kind::Text),
+        _ => many(Kind::Unknown),
+    }
+}
+
+fn log_record(number: u32) -> Row
+    ensures { result ≡ row_in Message.LogRecord number }
+{
+    match number {
+        1 => once(1, Kind::Fixed64),
+        2 => once(2, Kind::Varint),
+        3 => once(3, Kind::Text),
+        5 => once(5, Kind::Embedded(Message::AnyValue)),
+        6 => many(Kind::Embedded(Message::KeyValue)),
+        7 => once(7, Kind::Varint),
+        8 => once(8, Kind::Fixed32),
+        9 => once(9, Kind::Id(16)),
+        10 => once(10, Kind::Id(8)),
+        11 => once(11, Kind::Fixed64),
+        _ => many(Kind::Unknown),
+    }
+}
+
+fn resource(number: u32) -> Row
+    ensures { result ≡ row_in Message.Resource number }
+{
+    match number {
+        1 => many(Kind::Embedded(Message::KeyValue)),
+        2 => once(2, Kind::Varint),
+        _ => many(Kind::Unknown),
+    }
+}
+
+fn instrumentation_scope(number: u32) -> Row
+    ensures { result ≡ row_in Message.InstrumentationScope number }
+{
+    match number {
+        1 => once(1, Kind::Text),
+        2 => once(2, Kind::Text),
+        3 => many(Kind::Embedded(Message::KeyValue)),
+        4 => once(4, Kind::Varint),
+        _ => many(Kind::Unknown),
+    }
+}
+
+fn key_value(number: u32) -> Row
+    ensures { result ≡ row_in Message.KeyValue number }
+{
+    match number {
+        1 => once(1, Kind::Text),
+        2 => once(2, Kind::Embedded(Message::AnyValue)),
+        _ => many(Kind::Unknown),
+    }
+}
+
+fn any_value(number: u32) -> Row
+    ensures { result ≡ row_in Message.AnyValue number }
+{
+    match number {
+        1 => once(1, Kind::Text),
+        2 | 3 => once(1, Kind::Varint),
+        4 => once(1, Kind::Fixed64),
+        5 => once(1, Kind::Embedded(Message::ArrayValue)),
+        6 => once(1, Kind::Embedded(Message::KeyValueList)),
+        7 => once(1, Kind::Octets),
+        _ => many(Kind::Unknown),
+    }
+}
+
+fn array_value(number: u32) -> Row
+    ensures { result ≡ row_in Message.ArrayValue number }
+{
+    match number {
+        1 => many(Kind::Member(Message::AnyValue)),
+        _ => many(Kind::Unknown),
+    }
+}
+
+fn key_value_list(number: u32) -> Row
+    ensures { result ≡ row_in Message.KeyValueList number }
+{
+    match number {
+        1 => many(Kind::Member(Message::KeyValue)),
+        _ => many(Kind::Unknown),
+    }
+}

@@ -1,0 +1,5 @@
+use Rattle.otlp_wire.specs.lemmas.Readings as lemmas
+use Rattle.otlp_wire.proofs.laws.one_reading.Goals as goal
+
+pub returns : goal.returns
+returns c = lemmas.one_reading

@@ -1,0 +1,5 @@
+use Rattle.otlp_wire.specs.Fields.{fields_of-reads}
+use Rattle.otlp_wire.proofs.laws.some_reading.Goals as goal
+
+pub returns : goal.returns
+returns c = fields_of-reads

@@ -1,0 +1,5 @@
+pub mod Varint
+pub mod Wire
+pub mod Reading
+pub mod Fields
+pub mod lemmas
