@@ -5,3 +5,4 @@ pub mod Known
 pub mod OneCapture
 pub mod SomeCapture
 pub mod Stepping
+pub mod WrittenBatch

@@ -9,7 +9,7 @@ use Rattle.otlp_messages.specs.declared.messages.Defect.TheVariants as defects
 use Rattle.otlp_messages.specs.declared.checking.TheConstants.{LEVELS}
 use Rattle.otlp_messages.specs.Defects.{Stands, IsFine}
 use Rattle.otlp_messages.specs.Rows.{only, said, int32_in, int64_in, bytes_in, parts_of}
-use Rattle.otlp_messages.specs.Canon.{row, signed_row, bytes_row, many_row, canon}
+use Rattle.otlp_messages.specs.Canon.{Filled, row, signed_row, bytes_row, many_row, canon}
 use Rattle.otap_capture.specs.declared.batch.BatchRefusal.{BatchRefusal}
 use Rattle.otap_capture.specs.declared.batch.BatchRefusal.TheVariants.{BadMessage, Repeated, BadUtf8}
 use Rattle.otap_capture.specs.declared.batch.Payload.{Payload}
@@ -66,3 +66,25 @@ RefusesBatch bytes refusal = Stands BatchArrowRecords LEVELS bytes (defect_of re
 -- no defect stands in the payloads of the bytes
 abbrev pub HasFinePayloads : List ℕ → Type 0
 HasFinePayloads bytes = AllByRecursion (IsFine ArrowPayload LEVELS) (parts_of (only 2 (fields_of bytes)))
+
+-- the canonical spellings of a payload and of a batch
+abbrev pub payload_rows : PayloadContent → List Filled
+payload_rows p = row 1 (bytes_row p.schema_id) ∷ row 2 (signed_row p.kind) ∷ row 3 (bytes_row p.bytes) ∷ []
+
+unfoldable pub canon_payload : PayloadContent → List ℕ
+canon_payload p = canon (payload_rows p)
+
+abbrev pub batch_rows : BatchContent → List Filled
+batch_rows b = row 1 (signed_row b.id) ∷ row 2 (many_row (map canon_payload b.payloads)) ∷ []
+
+unfoldable pub canon_batch : BatchContent → List ℕ
+canon_batch b = canon (batch_rows b)
+
+-- what a program holds: numbers fit their types, and a schema id is UTF-8
+pub record IsRealPayload (p : PayloadContent) : Type 0 where
+  pub schema_id : IsUtf8 p.schema_id
+  pub kind : FitsSigned w32 p.kind
+
+pub record IsRealBatch (b : BatchContent) : Type 0 where
+  pub id : FitsSigned w64 b.id
+  pub payloads : AllByRecursion IsRealPayload b.payloads

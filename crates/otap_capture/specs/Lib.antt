@@ -1,6 +1,7 @@
 pub mod Adapters
 pub mod Batch
 pub mod BatchInside
+pub mod BatchWriting
 pub mod Capture
 pub mod Cutting
 pub mod Inside

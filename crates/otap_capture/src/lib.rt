@@ -3,6 +3,8 @@
 
 mod adapters;
 mod batch;
+mod batch_laws;
+mod batch_writer;
 mod frame;
 mod frames;
 mod laws;
@@ -13,6 +15,8 @@ mod writing;
 
 pub use adapters::{ReadSource, WriteSink};
 pub use batch::{Batch, BatchRefusal, Payload, Payloads, read_batch};
+pub use batch_laws::{one_batch, written_batch_is_read};
+pub use batch_writer::BatchWriter;
 pub use frame::{Damage, Frame, FramesRefusal, MAX_CAPTURE, MAX_FRAME, Step, Why};
 pub use frames::Frames;
 pub use laws::{one_capture, some_capture, written_is_read};

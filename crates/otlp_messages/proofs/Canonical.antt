@@ -114,7 +114,7 @@ one_marked m l k (r ∷ rows) above laid fit =
     one here rest same (inr few) = omega (arith, marked-entries m k r rows)
 
 -- the fields are written and fine where their parts are short
-short_value : (n : ℕ) (v : FieldValue) → length (spelling (record { number = n; value = v })) < 2 ^ 64 → IsShort v
+pub short_value : (n : ℕ) (v : FieldValue) → length (spelling (record { number = n; value = v })) < 2 ^ 64 → IsShort v
 short_value n (Varint x) h = tt
 short_value n (Fixed64 x) h = tt
 short_value n (Fixed32 x) h = tt

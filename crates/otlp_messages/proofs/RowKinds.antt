@@ -8,12 +8,14 @@ use Rattle.std.proofs.lemmas.Int.{ints, to_z-of_z, of_z-to_z}
 use Rattle.otlp_messages.specs.declared.messages.Message.{Message}
 use Rattle.otlp_messages.specs.declared.messages.Kind.{Kind}
 use Rattle.otlp_messages.specs.declared.messages.Kind.TheVariants as kinds
-use Rattle.otlp_wire.specs.Wire.{FieldValue, Varint, Fixed64, Bytes, Fixed32, Fits}
+use Rattle.otlp_wire.specs.Wire.{FieldValue, Varint, Fixed64, Bytes, Fixed32, Fits, spelling}
 use Rattle.otlp_messages.specs.Table.{kind_of, mark_of}
 use Rattle.otlp_messages.specs.Defects.{IsFine}
 use Rattle.otlp_messages.specs.Fine.{FinePart, FineValue}
-use Rattle.otlp_messages.specs.Rows.{fixed64_in, fixed32_in, uint32_in, int32_in, int64_in, bool_in, bytes_in, embedded_in, many_in}
-use Rattle.otlp_messages.specs.Canon.{Filled, row, varint_row, signed_row, bool_row, fixed64_row, fixed32_row, bytes_row, many_row, IsShort, RowFits}
+use Rattle.otlp_messages.specs.Rows.{fixed64_in, fixed32_in, uint32_in, int32_in, int64_in, bool_in, bytes_in, embedded_in, many_in, parts_of}
+use Rattle.otlp_messages.specs.Canon.{Filled, row, varint_row, signed_row, bool_row, fixed64_row, fixed32_row, bytes_row, many_row, canon_row, IsShort, RowFits}
+use Rattle.otlp_messages.proofs.Canonical.{short_value}
+use Rattle.std.proofs.lemmas.List.{length-append}
 
 -- a value at most, of the kind of its number
 one_fits : (m : Message) (l n : ℕ) (v : FieldValue) → (IsShort v → Fits v × FineValue (kind_of m n) l v) → RowFits m l (row n (v ∷ []))
@@ -136,7 +138,7 @@ many_onto read xs (part ∷ parts) = many_onto read (xs ++ read part ∷ []) par
 pub many_back : {A : Type 0} (read : List ℕ → A) (parts : List (List ℕ)) → fold (many_in read) [] (many_row parts) ≡ map read parts
 many_back read parts = many_onto read [] parts
 
-map-back : {A : Type 0} (read : List ℕ → A) (write : A → List ℕ) (xs : List A) → AllByRecursion (λ x. read (write x) ≡ x) xs → map read (map write xs) ≡ xs
+pub map-back : {A : Type 0} (read : List ℕ → A) (write : A → List ℕ) (xs : List A) → AllByRecursion (λ x. read (write x) ≡ x) xs → map read (map write xs) ≡ xs
 map-back read write [] h = refl
 map-back read write (x ∷ xs) h = ap (λ y. y ∷ map read (map write xs)) h.0 ∙ ap (λ ys. x ∷ ys) (map-back read write xs h.1)
 
@@ -144,3 +146,14 @@ map-back read write (x ∷ xs) h = ap (λ y. y ∷ map read (map write xs)) h.0 
 pub each_back : {A : Type 0} (read : List ℕ → A) (write : A → List ℕ) (xs : List A) → AllByRecursion (λ x. read (write x) ≡ x) xs
     → fold (many_in read) [] (many_row (map write xs)) ≡ xs
 each_back read write xs h = many_back read (map write xs) ∙ map-back read write xs h
+
+-- the parts of a row are short where the row is
+pub short_parts : (n : ℕ) (parts : List (List ℕ)) → length (canon_row n (many_row parts)) < 2 ^ 64 → AllByRecursion (λ part. length part < 2 ^ 64) parts
+short_parts n [] small = tt
+short_parts n (part ∷ parts) small =
+    let size = length-append (spelling (record { number = n; value = Bytes part })) (canon_row n (many_row parts)) in
+    (short_value n (Bytes part) (omega (arith, size)), short_parts n parts (omega (arith, size)))
+
+pub parts_of-many_row : (parts : List (List ℕ)) → parts_of (many_row parts) ≡ parts
+parts_of-many_row [] = refl
+parts_of-many_row (part ∷ parts) = ap (λ ps. part ∷ ps) (parts_of-many_row parts)

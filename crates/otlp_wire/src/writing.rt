@@ -13,6 +13,8 @@ pub fn put_varint_field(to: &mut Vec<u8>, number: u32, value: u64) -> Result<(),
     requires { IsNumber number }
     ensures ok { OnOk result (to.new.items ≡ to.old.items ++ spelling (record { number = number; value = spec.Varint value })) }
     ensures err { OnErr result (to.new.items ≡ to.old.items) }
+    ensures full { OnErr result (vec_capacity to.old < vec_len to.old + length (spelling (record { number = number; value = spec.Varint value }))) }
+    ensures capacity { vec_capacity to.old ≤ vec_capacity to.new }
 {
     let tag = 8 * u64::from(number);
     to.reserve(len_varint(tag) + len_varint(value))?;
@@ -26,6 +28,8 @@ pub fn put_fixed64_field(to: &mut Vec<u8>, number: u32, value: u64) -> Result<()
     requires { IsNumber number }
     ensures ok { OnOk result (to.new.items ≡ to.old.items ++ spelling (record { number = number; value = spec.Fixed64 value })) }
     ensures err { OnErr result (to.new.items ≡ to.old.items) }
+    ensures full { OnErr result (vec_capacity to.old < vec_len to.old + length (spelling (record { number = number; value = spec.Fixed64 value }))) }
+    ensures capacity { vec_capacity to.old ≤ vec_capacity to.new }
 {
     let tag = 8 * u64::from(number) + 1;
     let mut bytes = [0; 8];
@@ -41,6 +45,8 @@ pub fn put_fixed32_field(to: &mut Vec<u8>, number: u32, value: u32) -> Result<()
     requires { IsNumber number }
     ensures ok { OnOk result (to.new.items ≡ to.old.items ++ spelling (record { number = number; value = spec.Fixed32 value })) }
     ensures err { OnErr result (to.new.items ≡ to.old.items) }
+    ensures full { OnErr result (vec_capacity to.old < vec_len to.old + length (spelling (record { number = number; value = spec.Fixed32 value }))) }
+    ensures capacity { vec_capacity to.old ≤ vec_capacity to.new }
 {
     let tag = 8 * u64::from(number) + 5;
     let mut bytes = [0; 4];
@@ -56,6 +62,8 @@ pub fn put_bytes_field(to: &mut Vec<u8>, number: u32, part: &[u8]) -> Result<(),
     requires { IsNumber number }
     ensures ok { OnOk result (to.new.items ≡ to.old.items ++ spelling (record { number = number; value = spec.Bytes part.now })) }
     ensures err { OnErr result (to.new.items ≡ to.old.items) }
+    ensures full { OnErr result (vec_capacity to.old < vec_len to.old + length (spelling (record { number = number; value = spec.Bytes part.now }))) }
+    ensures capacity { vec_capacity to.old ≤ vec_capacity to.new }
 {
     let tag = 8 * u64::from(number) + 2;
     let len = part.len() as u64;
