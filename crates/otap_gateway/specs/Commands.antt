@@ -1,19 +1,35 @@
 -- The jobs: their words, and what each may reply to a frame.
 use Rattle.std.specs.Prelude.{◌≢◌, ℕ, List, [], ◌∷◌, length, codes}
 use Rattle.otap_capture.specs.Capture.{Frame}
+use Rattle.otlp_codec.specs.Requests as requests
+use Rattle.otlp_model.specs.declared.request.Signal.{Signal}
+use Rattle.otlp_model.specs.declared.request.Signal.TheVariants as signals
 use Rattle.otap_gateway.specs.declared.command.Command.{Command}
 use Rattle.otap_gateway.specs.declared.command.Command.TheVariants as command
 use Rattle.otap_gateway.specs.Listing.{ListsFrame}
 use Rattle.otap_gateway.specs.Reply.{ReplyText}
+use Rattle.otap_gateway.specs.Tidying.{TidiesFrame}
+
+abbrev pub signal_word : Signal → List ℕ
+signal_word signals.Traces = codes "traces"
+signal_word signals.Logs = codes "logs"
+signal_word signals.Metrics = codes "metrics"
 
 -- the words of a job
 abbrev pub words_of : Command → List (List ℕ)
 words_of command.List = codes "list" ∷ []
+words_of (command.Tidy signal) = codes "tidy" ∷ signal_word signal ∷ []
+
+-- the jobs that are built: those on requests, for the signals whose requests are read and written
+abbrev pub IsBuilt : Command → Type 0
+IsBuilt command.List = Unit {0}
+IsBuilt (command.Tidy signal) = requests.IsBuilt signal
 
 -- words that are those of no job
 abbrev pub IsNoCommand : List (List ℕ) → Type 0
-IsNoCommand words = (job : Command) → words ≢ words_of job
+IsNoCommand words = (job : Command) → IsBuilt job → words ≢ words_of job
 
 -- what a job may reply to a frame, after these frames and the replies to them
 unfoldable pub ReplyOf : Command → List Frame → List ReplyText → Frame → ReplyText → Type 0
 ReplyOf command.List frames replies frame reply = ListsFrame (length frames) frame reply
+ReplyOf (command.Tidy signal) frames replies frame reply = TidiesFrame signal (length frames) frame reply

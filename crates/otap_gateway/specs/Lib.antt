@@ -4,4 +4,5 @@ pub mod Lines
 pub mod Listing
 pub mod Reply
 pub mod Runs
+pub mod Tidying
 pub mod Turns

@@ -23,6 +23,10 @@ abbrev pub refused_line : ℕ → Option ℤ → ℕ → List ℕ → Option ℤ
 refused_line number id stage cause payload = codes "frame " ++ decimal number ++ codes ": batch " ++ or_dash id
     ++ codes " refused: stage " ++ decimal stage ++ codes " " ++ cause ++ codes " payload " ++ or_dash payload ++ line_feed
 
+-- a refused request, by the name of the cause
+abbrev pub request_line : ℕ → List ℕ → List ℕ
+request_line number cause = codes "frame " ++ decimal number ++ codes ": request refused: " ++ cause ++ line_feed
+
 abbrev pub why_name : Why → List ℕ
 why_name why.Truncated = codes "Truncated"
 why_name why.BadFrame = codes "BadFrame"
@@ -41,9 +45,9 @@ end_text (Some damage) = damage_line damage
 abbrev pub words_line : List ℕ
 words_line = codes "otap: words not understood" ++ line_feed
 
--- a line on out for a frame that is handled, and a line on err for one that is refused
+-- a text on out for a frame that is handled, and a line on err for one that is refused
 abbrev pub printed : List ℕ → ReplyText
-printed line = record { out = line; err = []; refused = false }
+printed text = record { out = text; err = []; refused = false }
 
 abbrev pub refuses : List ℕ → ReplyText
 refuses line = record { out = []; err = line; refused = true }

@@ -1,20 +1,49 @@
 //! The jobs by their words.
-ghost use Rattle.std.specs.Prelude.{◌≡◌, [], ◌∷◌, MatchOption};
-ghost use Rattle.otap_gateway.specs.Commands.{IsNoCommand, words_of};
+ghost use Rattle.std.specs.Prelude.{◌≡◌, ◌≢◌, [], ◌∷◌, MatchOption};
+ghost use Rattle.otlp_codec.specs.Requests as requests;
+ghost use Rattle.otlp_model.specs.declared.request.Signal.{Signal};
+ghost use Rattle.otap_gateway.specs.Commands.{IsBuilt, IsNoCommand, words_of, signal_word};
+
+use otlp_model::Signal;
 
 /// A job that the program does.
 #[derive(Clone, Copy)]
 pub(crate) enum Command {
     /// A line for each frame.
     List,
+    /// The canonical spelling of each request of the signal.
+    Tidy(Signal),
 }
 
 /// The job of one word.
 pub(crate) fn one_word(job: &str) -> Option<Command>
-    ensures { MatchOption result (IsNoCommand (job.now ∷ [])) (λ command. job.now ∷ [] ≡ words_of command) }
+    ensures { MatchOption result (IsNoCommand (job.now ∷ [])) (λ command. IsBuilt command × (job.now ∷ [] ≡ words_of command)) }
 {
     match job {
         "list" => Some(Command::List),
+        _ => None,
+    }
+}
+
+/// The job of a word and a signal.
+pub(crate) fn two_words(job: &str, signal: &str) -> Option<Command>
+    ensures { MatchOption result (IsNoCommand (job.now ∷ signal.now ∷ []))
+        (λ command. IsBuilt command × (job.now ∷ signal.now ∷ [] ≡ words_of command)) }
+{
+    let signal = built_signal(signal)?;
+    match job {
+        "tidy" => Some(Command::Tidy(signal)),
+        _ => None,
+    }
+}
+
+/// The signal of a word, where its requests are read and written.
+fn built_signal(word: &str) -> Option<Signal>
+    ensures { MatchOption result ((signal : Signal) → requests.IsBuilt signal → word.now ≢ signal_word signal)
+        (λ signal. requests.IsBuilt signal × (word.now ≡ signal_word signal)) }
+{
+    match word {
+        "logs" => Some(Signal::Logs),
         _ => None,
     }
 }

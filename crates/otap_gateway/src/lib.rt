@@ -10,6 +10,7 @@ mod list;
 mod reply;
 mod running;
 mod stop;
+mod tidy;
 mod words;
 
 pub use laws::runs_without_faults;

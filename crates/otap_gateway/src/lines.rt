@@ -1,6 +1,6 @@
 //! The lines that several jobs print.
 ghost use Rattle.std.specs.Prelude.{◌≡◌, IfOk, string_bytes};
-ghost use Rattle.otap_gateway.specs.Lines.{reset_line, refused_line, or_dash, damage_line, why_name};
+ghost use Rattle.otap_gateway.specs.Lines.{reset_line, refused_line, request_line, or_dash, damage_line, why_name};
 
 use otap_capture::{Damage, Why};
 use std::alloc::{AllocError, Global};
@@ -37,6 +37,13 @@ fn or_dash(alloc: Global, number: Option<i64>) -> Result<String, AllocError>
         Some(number) => format!(in alloc; "{number}"),
         None => String::from_str(alloc, "-"),
     }
+}
+
+/// The line for a request that is refused.
+pub(crate) fn request_line(alloc: Global, number: u64, cause: &str) -> Result<String, AllocError>
+    ensures { IfOk result (λ line. string_bytes line ≡ request_line number cause.now) }
+{
+    Ok(format!(in alloc; "frame {number}: request refused: {cause}\n")?)
 }
 
 /// The line for a damage of the capture.

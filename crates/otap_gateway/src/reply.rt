@@ -1,8 +1,11 @@
 //! What a job puts on its sinks for a frame.
-ghost use Rattle.std.specs.Prelude.{◌≡◌, string_bytes};
+ghost use Rattle.std.specs.Prelude.{◌≡◌, ◌≤◌, IfOk, length, string_bytes};
+ghost use Rattle.otap_capture.specs.Capture.{message_frame, reset_frame};
 ghost use Rattle.otap_gateway.specs.Lines.{printed, refuses};
 
-use std::alloc::Global;
+use byteorder::{BigEndian, ByteOrder};
+use otap_capture::MAX_FRAME;
+use std::alloc::{AllocError, Global};
 use std::marker::Model;
 
 /// The bytes for out and for err, and whether the frame is refused.
@@ -26,8 +29,34 @@ impl Reply {
     pub(crate) fn printed(alloc: Global, text: String) -> Reply
         ensures { result ≡ printed (string_bytes text) }
     {
+        Reply::on_out(alloc, text.into_bytes())
+    }
+
+    /// A message on out, as a frame.
+    pub(crate) fn message(alloc: Global, part: &[u8]) -> Result<Reply, AllocError>
+        requires { length part.now ≤ MAX_FRAME }
+        ensures { IfOk result (λ reply. reply ≡ printed (message_frame part.now)) }
+    {
+        let mut head = [0; 5];
+        BigEndian::write_u32(&mut head[1..], part.len() as u32);
+        let mut out = Vec::with_capacity(alloc, head.len() + part.len())?;
+        out.extend_from_slice(&head)?;
+        out.extend_from_slice(part)?;
+        Ok(Reply::on_out(alloc, out))
+    }
+
+    /// A reset on out.
+    pub(crate) fn reset(alloc: Global) -> Result<Reply, AllocError>
+        ensures { IfOk result (λ reply. reply ≡ printed reset_frame) }
+    {
+        Ok(Reply::on_out(alloc, [2, 0, 0, 0, 0].to_vec(alloc)?))
+    }
+
+    fn on_out(alloc: Global, out: Vec<u8>) -> Reply
+        ensures { result ≡ printed out.items }
+    {
         Reply {
-            out: text.into_bytes(),
+            out,
             err: Vec::new(alloc),
             refused: false,
         }

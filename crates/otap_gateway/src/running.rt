@@ -2,13 +2,14 @@
 ghost use Rattle.std.specs.Prelude.{◌≡◌};
 ghost use Rattle.std.specs.Io.KnownBytes.{Keeps};
 ghost use Rattle.otap_gateway.specs.declared.command.Command.{Command};
-ghost use Rattle.otap_gateway.specs.Commands.{IsNoCommand, words_of};
+ghost use Rattle.otap_gateway.specs.Commands.{IsBuilt, IsNoCommand, words_of};
 ghost use Rattle.otap_gateway.specs.Runs.{sinks, world, Leaves, Faults, SinkFaults, LeavesLine, Runs, Refuses};
 
 use crate::command::Command;
 use crate::drive::{drive, flush_both};
 use crate::list::Lister;
 use crate::stop::{Stop, Tally, status, words_status};
+use crate::tidy::Tidier;
 use crate::words::Words;
 use otap_capture::{Sink, Source, write_whole};
 use std::alloc::Global;
@@ -26,7 +27,7 @@ pub fn run<S: Source, O: Sink, E: Sink>(
     out: &mut O,
     err: &mut E,
 ) -> u8
-    ensures understood { (job : Command) → words.now ≡ words_of job → Runs job
+    ensures understood { (job : Command) → IsBuilt job → words.now ≡ words_of job → Runs job
         (world S.Source source.old (sinks O.Sink out.old E.Sink err.old))
         (world S.Source source.new (sinks O.Sink out.new E.Sink err.new)) result }
     ensures otherwise { IsNoCommand words.now → Refuses source.old source.new
@@ -46,6 +47,7 @@ fn run_job<S: Source, O: Sink, E: Sink>(
     out: &mut O,
     err: &mut E,
 ) -> Result<Tally, Stop>
+    requires { IsBuilt job }
     ensures leaves { Leaves job (S.left source.old)
         (sinks O.Sink out.old E.Sink err.old)
         (sinks O.Sink out.new E.Sink err.new) result }
@@ -55,6 +57,7 @@ fn run_job<S: Source, O: Sink, E: Sink>(
 {
     match job {
         Command::List => drive(alloc, &mut Lister, source, out, err),
+        Command::Tidy(signal) => drive(alloc, &mut Tidier::new(signal), source, out, err),
     }
 }
 

@@ -49,7 +49,7 @@ const NONE: Failing = Failing {
 /// What a run leaves.
 #[derive(Clone, Copy)]
 struct Left {
-    out: &'static str,
+    out: &'static [u8],
     err: &'static str,
     status: u8,
 }
@@ -76,7 +76,7 @@ fn runs<R: Abort + AllocGlobal>(
     let mut out = MemorySink::new(alloc, failing.out.to_vec(alloc)?);
     let mut err = MemorySink::new(alloc, failing.err.to_vec(alloc)?);
     let status = run(alloc, &words, &mut source, &mut out, &mut err);
-    assert_eq!(rt; out.bytes(), left.out.as_bytes());
+    assert_eq!(rt; out.bytes(), left.out);
     assert_eq!(rt; err.bytes(), left.err.as_bytes());
     assert_eq!(rt; status, left.status);
     Ok(())
@@ -90,6 +90,7 @@ fn lists<R: Abort + AllocGlobal>(
     err: &'static str,
     status: u8,
 ) -> Result<(), Fail> {
+    let out = out.as_bytes();
     let left = Left { out, err, status };
     runs(rt, &["list"], capture, 1 << 16, NONE, left)?;
     runs(rt, &["list"], capture, 1, NONE, left)
@@ -130,7 +131,7 @@ fn list_names_the_damage(rt: HostRuntime) -> Result<(), Fail> {
 #[test]
 fn failing_calls_and_other_words_have_their_status(rt: HostRuntime) -> Result<(), Fail> {
     let left = |status| Left {
-        out: "",
+        out: &[],
         err: "",
         status,
     };
@@ -150,4 +151,83 @@ fn failing_calls_and_other_words_have_their_status(rt: HostRuntime) -> Result<()
     };
     runs(&rt, &["list", "x"], &BATCH, 9, NONE, refused)?;
     runs(&rt, &[], &BATCH, 9, NONE, refused)
+}
+
+/// Runs `tidy logs` over a capture, whole and byte by byte.
+fn tidies<R: Abort + AllocGlobal>(
+    rt: &R,
+    capture: &[u8],
+    out: &'static [u8],
+    err: &'static str,
+    status: u8,
+) -> Result<(), Fail> {
+    let left = Left { out, err, status };
+    runs(rt, &["tidy", "logs"], capture, 1 << 16, NONE, left)?;
+    runs(rt, &["tidy", "logs"], capture, 1, NONE, left)
+}
+
+/// A request with one log record that is empty.
+const EMPTY_RECORD: [u8; 11] = [0, 0, 0, 0, 6, 0x0a, 4, 0x12, 2, 0x12, 0];
+
+#[test]
+fn tidy_writes_requests_in_canonical_spelling(rt: HostRuntime) -> Result<(), Fail> {
+    tidies(&rt, &[], &[], "", 0)?;
+    tidies(&rt, &EMPTY_RECORD, &EMPTY_RECORD, "", 0)?;
+    // An enum that is zero, a field that is unknown, and a length in two bytes.
+    let zero = [0, 0, 0, 0, 8, 0x0a, 6, 0x12, 4, 0x12, 2, 0x10, 0];
+    tidies(&rt, &zero, &EMPTY_RECORD, "", 0)?;
+    let unknown = [0, 0, 0, 0, 9, 0x0a, 7, 0x12, 5, 0x12, 3, 0x62, 1, 0x78];
+    tidies(&rt, &unknown, &EMPTY_RECORD, "", 0)?;
+    let long = [0, 0, 0, 0, 7, 0x0a, 0x84, 0, 0x12, 2, 0x12, 0];
+    tidies(&rt, &long, &EMPTY_RECORD, "", 0)?;
+    // Groups without items stay.
+    let groups = &[
+        0, 0, 0, 0, 18, 0x0a, 4, 0x12, 2, 0x12, 0, 0x0a, 0, 0x0a, 2, 0x12, 0, 0x0a, 4, 0x12, 2,
+        0x12, 0,
+    ];
+    tidies(&rt, groups, groups, "", 0)
+}
+
+#[test]
+fn tidy_names_what_it_refuses_and_goes_on(rt: HostRuntime) -> Result<(), Fail> {
+    let length = [0, 0, 0, 0, 9, 0x0a, 7, 0x12, 5, 0x12, 3, 0x4a, 1, 1];
+    let line = "frame 0: request refused: BadLength\n";
+    tidies(&rt, &length, &[], line, 1)?;
+    let text = [0, 0, 0, 0, 9, 0x0a, 7, 0x12, 5, 0x12, 3, 0x1a, 1, 0xff];
+    let line = "frame 0: request refused: BadUtf8\n";
+    tidies(&rt, &text, &[], line, 1)?;
+    let wire_type = [0, 0, 0, 0, 8, 0x0a, 6, 0x12, 4, 0x12, 2, 8, 1];
+    let line = "frame 0: request refused: BadMessage\n";
+    tidies(&rt, &wire_type, &[], line, 1)?;
+    let mut past_the_end = [0xff; 16];
+    past_the_end[..6].copy_from_slice(&[0, 0, 0, 0, 11, 0x0a]);
+    past_the_end[15] = 1;
+    tidies(&rt, &past_the_end, &[], line, 1)?;
+    let values = [
+        0, 0, 0, 0, 14, 0x0a, 12, 0x12, 10, 0x12, 8, 0x2a, 4, 0x0a, 2, 0x68, 0x69, 0x2a, 0,
+    ];
+    let line = "frame 0: request refused: Repeated\n";
+    tidies(&rt, &values, &[], line, 1)?;
+    let resources = [0, 0, 0, 0, 6, 0x0a, 4, 0x0a, 0, 0x0a, 0];
+    tidies(&rt, &resources, &[], line, 1)?;
+    let mut capture = [1, 0, 0, 0, 1, 0xaa].to_vec(rt.alloc())?;
+    capture.extend_from_slice(&resources)?;
+    capture.extend_from_slice(&[2, 0, 0, 0, 0])?;
+    capture.extend_from_slice(&EMPTY_RECORD)?;
+    let out = &[2, 0, 0, 0, 0, 0, 0, 0, 0, 6, 0x0a, 4, 0x12, 2, 0x12, 0];
+    let err = "frame 0: request refused: Compressed\nframe 1: request refused: Repeated\n";
+    tidies(&rt, &capture, out, err, 1)
+}
+
+#[test]
+fn tidy_is_understood_for_logs(rt: HostRuntime) -> Result<(), Fail> {
+    let refused = Left {
+        out: &[],
+        err: "otap: words not understood\n",
+        status: 2,
+    };
+    for words in [["tidy", "traces"], ["tidy", "x"], ["list", "logs"]] {
+        runs(&rt, &words, &EMPTY_RECORD, 9, NONE, refused)?;
+    }
+    runs(&rt, &["tidy"], &EMPTY_RECORD, 9, NONE, refused)
 }

@@ -1,0 +1,68 @@
+-- The texts of `tidy`: each request in canonical spelling.
+use Rattle.std.specs.Prelude.{◌≡◌, ◌⊎◌, ℕ, List, length, codes, nat_lt, if◌then◌else◌}
+use Rattle.std.specs.Coded.{Unit-prop}
+use Rattle.otap_capture.specs.Capture.{Frame, Message, Packed, Reset, message_frame, reset_frame}
+use Rattle.otlp_codec.specs.declared.refusal.ReadRefusal.{ReadRefusal}
+use Rattle.otlp_codec.specs.Refusals.{refusal_of}
+use Rattle.otlp_codec.specs.Requests.{IsBuilt, Reads, Stands, canon_request}
+use Rattle.otlp_messages.specs.declared.messages.Defect.{Defect}
+use Rattle.otlp_messages.specs.declared.messages.Defect.TheVariants.{BadMessage, Repeated, BadUtf8, BadLength, Unsupported, TooDeep}
+use Rattle.otlp_model.specs.declared.limits.TheConstants.{MAX_ITEMS, MAX_TREE_WEIGHT}
+use Rattle.otlp_model.specs.declared.request.Request.{Request}
+use Rattle.otlp_model.specs.declared.request.Signal.{Signal}
+use Rattle.otlp_model.specs.declared.request.Signal.TheVariants.{Traces, Logs, Metrics}
+use Rattle.otlp_model.specs.Telemetry.{telemetry}
+use Rattle.otlp_model.specs.Weight.{weight_of}
+use Rattle.otap_gateway.specs.Lines.{request_line, printed, refuses}
+use Rattle.otap_gateway.specs.Reply.{ReplyText}
+
+-- that a signal is built has one proof at most
+pub IsBuilt-prop : (signal : Signal) → IsProp (IsBuilt signal)
+IsBuilt-prop Traces = λ a b. absurd a
+IsBuilt-prop Logs = Unit-prop
+IsBuilt-prop Metrics = λ a b. absurd a
+
+abbrev pub defect_name : Defect → List ℕ
+defect_name BadMessage = codes "BadMessage"
+defect_name Repeated = codes "Repeated"
+defect_name BadUtf8 = codes "BadUtf8"
+defect_name BadLength = codes "BadLength"
+defect_name Unsupported = codes "Unsupported"
+defect_name TooDeep = codes "TooDeep"
+
+-- a refusal to read a request, and the name of its defect
+pub record NamesDefect (refusal : ReadRefusal) (name : List ℕ) : Type 0 where
+  pub defect : Defect
+  pub same : refusal ≡ refusal_of defect
+  pub text : name ≡ defect_name defect
+
+-- the reply to a frame whose request is refused, by the name of the cause
+abbrev pub refused_request : ℕ → List ℕ → ReplyText
+refused_request number cause = refuses (request_line number cause)
+
+-- the reply to a request: a refusal by the first limit that it goes past, or its canonical spelling
+abbrev pub tidied : ℕ → Request → ReplyText
+tidied number request =
+    if nat_lt MAX_ITEMS (length (telemetry request)) then refused_request number (codes "TooManyItems")
+    else if nat_lt MAX_TREE_WEIGHT (weight_of request) then refused_request number (codes "TooHeavy")
+    else printed (message_frame (canon_request request))
+
+-- the reply to a message that is a request, or to one in which that defect stands
+pub record TidiesRequest (signal : Signal) (number : ℕ) (bytes : List ℕ) (reply : ReplyText) : Type 0 where
+  pub request : Request
+  pub reads : Reads signal bytes request
+  pub text : reply ≡ tidied number request
+
+pub record RefusesRequest (signal : Signal) (number : ℕ) (bytes : List ℕ) (reply : ReplyText) : Type 0 where
+  pub defect : Defect
+  pub stands : Stands signal bytes defect
+  pub line : reply ≡ refused_request number (defect_name defect)
+
+abbrev pub TidiesMessage : Signal → ℕ → List ℕ → ReplyText → Type 0
+TidiesMessage signal number bytes reply = TidiesRequest signal number bytes reply ⊎ RefusesRequest signal number bytes reply
+
+-- what `tidy` replies to a frame
+abbrev pub TidiesFrame : Signal → ℕ → Frame → ReplyText → Type 0
+TidiesFrame signal number (Message bytes) reply = TidiesMessage signal number bytes reply
+TidiesFrame signal number Packed reply = reply ≡ refused_request number (codes "Compressed")
+TidiesFrame signal number Reset reply = reply ≡ printed reset_frame
