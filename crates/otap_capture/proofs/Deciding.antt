@@ -1,13 +1,12 @@
 -- With enough bytes a step is decided, whatever comes behind them.
-use Rattle.std.proofs.Common.{◌≡◌, ◌⊎◌, inl, inr, ℕ, ◌+◌, ◌-◌, ◌<◌, ◌≤◌, Bool, true, false, List, [], ◌∷◌, ◌++◌, length, Some, None, refl, sym, ap, ◌∙◌, length-append, length-drop, arith}
-use Rattle.std.specs.Prelude.{nat_lt, nat_le, nat_eq, not, ◌&&◌, ◌||◌, if◌then◌else◌}
+use Rattle.std.proofs.Common.{◌≡◌, ◌⊎◌, inl, inr, ℕ, ◌+◌, ◌<◌, ◌≤◌, true, false, List, [], ◌∷◌, ◌++◌, length, Some, None, refl, sym, ap, ◌∙◌, length-append, arith}
+use Rattle.std.specs.Prelude.{nat_lt, nat_eq, not, ◌&&◌, ◌||◌}
 use Rattle.std.specs.declared.option.Option.{Option}
-use Rattle.std.proofs.lemmas.Bool.{cases_lt, cases_Bool, lt-ltb, le-ltb, le-leb, leb-true, ltb-false}
+use Rattle.std.proofs.lemmas.Bool.{cases_lt, cases_Bool, lt-ltb, le-ltb, le-leb}
 use Rattle.byteorder.specs.Endian.{big_number}
 use Rattle.otap_capture.specs.declared.frame.TheConstants.{MAX_FRAME, MAX_CAPTURE}
 use Rattle.otap_capture.specs.declared.frame.Damage.{Damage}
-use Rattle.otap_capture.specs.declared.frame.Why.{Why}
-use Rattle.otap_capture.specs.declared.frame.Why.TheVariants.{Truncated, BadFrame, TooLong, Endless}
+use Rattle.otap_capture.specs.declared.frame.Why.TheVariants.{Endless}
 use Rattle.otap_capture.specs.declared.frames.TheConstants.{ENOUGH}
 use Rattle.otap_capture.specs.Capture.{head_reason, front_reason, reason_at, EndsAt}
 

@@ -1,5 +1,5 @@
 -- Frames one after the other.
-use Rattle.std.proofs.Common.{◌≡◌, ℕ, ◌+◌, ◌<◌, ◌≤◌, List, [], ◌∷◌, ◌++◌, length, refl, sym, ap, ◌∙◌, subst, append_assoc, append-nil, length-append, add-zero, arith}
+use Rattle.std.proofs.Common.{ℕ, ◌+◌, ◌<◌, ◌≤◌, List, [], ◌∷◌, ◌++◌, length, refl, sym, ap, ◌∙◌, append_assoc, append-nil, length-append, arith}
 use Rattle.otap_capture.specs.declared.frame.TheConstants.{MAX_CAPTURE}
 use Rattle.otap_capture.specs.Capture.{Frame, IsFrame, AreFrames}
 

@@ -1,7 +1,7 @@
 -- What writes and reads, one after the other, do to known bytes.
-use Rattle.std.proofs.Common.{◌≡◌, ℕ, List, [], ◌++◌, None, Some, length, take, drop, refl, sym, ap, ◌∙◌, append_assoc, append-nil, take-append-drop}
+use Rattle.std.proofs.Common.{ℕ, List, [], ◌++◌, None, Some, take, drop, refl, sym, ap, ◌∙◌, append_assoc, append-nil, take-append-drop}
 use Rattle.std.specs.declared.option.Option.{Option}
-use Rattle.std.specs.Io.KnownBytes.{Keeps, Appends, Consumes, IsAtEnd, prepend_known}
+use Rattle.std.specs.Io.KnownBytes.{Keeps, Appends}
 use Rattle.otap_capture.specs.Outside.{AppendsFront}
 use Rattle.otap_capture.specs.Writing.{IsPartWritten}
 

@@ -1,8 +1,8 @@
 -- What is ahead of a reading, as bytes are taken from the source and frames are cut.
-use Rattle.std.proofs.Common.{◌≡◌, ◌⊎◌, inl, inr, ℕ, ◌+◌, ◌-◌, ◌≤◌, Bool, true, false, List, [], ◌++◌, length, length-drop, take, drop, Some, None, IfSome, IfNone, Ok, refl, sym, ap, ◌∙◌, subst, append_assoc, append-nil, arith}
+use Rattle.std.proofs.Common.{◌≡◌, ◌⊎◌, inl, inr, ℕ, ◌+◌, ◌-◌, ◌≤◌, Bool, true, false, List, ◌++◌, length, length-drop, take, drop, Some, None, IfSome, IfNone, Ok, refl, sym, ap, ◌∙◌, subst, append_assoc, append-nil, arith}
 use Rattle.std.specs.Prelude.{if◌then◌else◌, slice_range}
 use Rattle.std.specs.declared.option.Option.{Option}
-use Rattle.std.specs.Io.KnownBytes.{Consumes, Keeps, IsAtEnd, prepend_known}
+use Rattle.std.specs.Io.KnownBytes.{Consumes, Keeps, prepend_known}
 use Rattle.std.proofs.lemmas.Bool.{false≢true}
 use Rattle.std.proofs.lemmas.List.{drop-append-le, take-append-le}
 use Rattle.otap_capture.specs.declared.frame.Damage.{Damage}
@@ -11,10 +11,9 @@ use Rattle.otap_capture.specs.declared.frame.Step.TheVariants as step
 use Rattle.otap_capture.specs.declared.frames.TheConstants.{ENOUGH}
 use Rattle.otap_capture.specs.Capture.{EndsAt}
 use Rattle.otap_capture.specs.Cutting.{Cuts, CutsFrame, CutsEnd, Fills, IsDecided, ReadsOn, ReadEnds}
-use Rattle.otap_capture.specs.Reading.{Reading, ahead, GoesOn, TakesFrame, ComesToEnd, end_step}
+use Rattle.otap_capture.specs.Reading.{Reading, ahead, GoesOn, TakesFrame, ComesToEnd}
 use Rattle.otap_capture.proofs.Deciding.{ends_more}
 use Rattle.otap_capture.proofs.Framing.{frame_length}
-use Rattle.otap_capture.proofs.Known.{Keeps-trans}
 
 -- what is taken from the source moves to what is kept
 pub reads_on : (old new : List ℕ) (place : ℕ) (left left' : Option (List ℕ)) (complete : Bool) → place ≤ length old → ReadsOn old new left left' → ReadEnds complete new left'

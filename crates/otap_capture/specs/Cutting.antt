@@ -1,5 +1,5 @@
 -- The steps in which a capture is read: bytes are taken from the source, and frames are cut from them.
-use Rattle.std.specs.Prelude.{◌≡◌, ◌⊎◌, ℕ, ◌+◌, ◌<◌, ◌≤◌, Bool, true, false, List, [], ◌++◌, length, take, drop, Some, None}
+use Rattle.std.specs.Prelude.{◌≡◌, ◌⊎◌, ℕ, ◌+◌, ◌<◌, ◌≤◌, Bool, true, false, List, ◌++◌, length, take, drop, Some, None}
 use Rattle.std.specs.declared.option.Option.{Option}
 use Rattle.std.specs.Io.KnownBytes.{Consumes, Keeps, IsAtEnd}
 use Rattle.otap_capture.specs.declared.frame.TheConstants.{MAX_FRAME, MAX_CAPTURE}
@@ -7,7 +7,6 @@ use Rattle.otap_capture.specs.declared.frames.TheConstants.{ENOUGH}
 use Rattle.otap_capture.specs.declared.frame.Damage.{Damage}
 use Rattle.otap_capture.specs.declared.frame.Step.{Step}
 use Rattle.otap_capture.specs.declared.frame.Step.TheVariants as step
-use Rattle.otap_capture.specs.declared.frame.Why.{Why}
 use Rattle.otap_capture.specs.declared.frames.Kind.{Kind}
 use Rattle.otap_capture.specs.declared.frames.Kind.TheVariants as kind
 use Rattle.otap_capture.specs.declared.frames.Found.{Found}
