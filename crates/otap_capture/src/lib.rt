@@ -1,4 +1,4 @@
-//! What the gateway reads and writes: sources and sinks of bytes, and the frames of a capture.
+//! What the gateway reads and writes: sources and sinks of bytes, the frames of a capture, and batch messages.
 #![tactic(auto)]
 
 mod adapters;

@@ -1,26 +1,23 @@
 -- A run so far, and what the next turn makes of it.
-use Rattle.std.proofs.Common.{◌≡◌, ◌⊎◌, inl, inr, ℕ, ◌+◌, ◌<◌, ◌≤◌, Bool, true, false, List, [], ◌∷◌, ◌++◌, length, Some, None, IfSome, Err, refl, sym, ap, ◌∙◌, subst, append_assoc, append-nil, length-append, arith}
+use Rattle.std.proofs.Common.{◌≡◌, ◌⊎◌, inl, inr, ℕ, ◌+◌, Bool, true, false, List, [], ◌∷◌, ◌++◌, length, Some, None, IfSome, refl, sym, ap, ◌∙◌, subst, append_assoc, length-append, arith}
 use Rattle.std.specs.Prelude.{◌||◌}
-use Rattle.std.specs.List.{flat_map, list_any}
 use Rattle.std.specs.declared.option.Option.{Option}
-use Rattle.std.specs.Io.KnownBytes.{Appends, Consumes, Keeps}
+use Rattle.std.specs.Io.KnownBytes.{Appends, Consumes}
 use Rattle.std.proofs.lemmas.List.{flat_map_more}
 use Rattle.std.proofs.lemmas.List.Folds.{list_any-append}
-use Rattle.histories.specs.EachAfter.{EachAfter}
 use Rattle.histories.proofs.Growing.{each_after-push}
 use Rattle.otap_capture.specs.declared.frame.Damage.{Damage}
 use Rattle.otap_capture.specs.Capture.{Frame, IsFrame, AreFrames, EndsAt, IsCapture}
 use Rattle.otap_capture.specs.Outside.{AppendsFront}
-use Rattle.otap_capture.specs.Reading.{Reading, TakesFrame, ComesToEnd}
+use Rattle.otap_capture.specs.Reading.{Reading, TakesFrame}
 use Rattle.otap_capture.proofs.Framing.{are_frames-push}
 use Rattle.otap_capture.proofs.Known.{Appends-trans, Appends-kept, front_more, front_of_first, front_of_all}
 use Rattle.otap_gateway.specs.declared.command.Command.{Command}
 use Rattle.otap_gateway.specs.Commands.{ReplyOf}
-use Rattle.otap_gateway.specs.Jobs.{Rule, History, Extends}
-use Rattle.otap_gateway.specs.Lines.{end_text}
+use Rattle.otap_gateway.specs.Jobs.{Rule, History}
 use Rattle.otap_gateway.specs.Reply.{ReplyText, out_text, err_text, any_refused}
 use Rattle.otap_gateway.specs.Runs.{Sinks, World, BeginsWith, WritesAll, WritesFront, NoneFailed}
-use Rattle.otap_gateway.specs.Turns.{KeepsBoth, Writes, WritesPart, Progress, TurnsFrame, TurnsFramePart, TurnsEnd, TurnsEndPart}
+use Rattle.otap_gateway.specs.Turns.{KeepsBoth, Progress, TurnsFrame, TurnsFramePart, TurnsEnd, TurnsEndPart}
 
 Consumes-trans : (a b c : Option (List ℕ)) (xs ys : List ℕ) → Consumes a b xs → Consumes b c ys → Consumes a c (xs ++ ys)
 Consumes-trans None b c xs ys p q = tt

@@ -1,5 +1,5 @@
 -- What a job puts on its sinks for a frame.
-use Rattle.std.specs.Prelude.{ℕ, Bool, List, [], ◌++◌}
+use Rattle.std.specs.Prelude.{ℕ, Bool, List}
 use Rattle.std.specs.List.{flat_map, list_any}
 
 -- the bytes for out and for err, and whether the frame is refused

@@ -4,6 +4,7 @@
 mod command;
 mod drive;
 mod job;
+mod laws;
 mod lines;
 mod list;
 mod reply;
@@ -11,6 +12,7 @@ mod running;
 mod stop;
 mod words;
 
+pub use laws::runs_without_faults;
 pub use running::run;
 pub use words::Words;
 
