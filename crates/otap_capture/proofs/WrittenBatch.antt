@@ -1,17 +1,16 @@
 -- What is written of a batch is read back as the batch.
-use Rattle.std.proofs.Common.{◌≡◌, ℕ, ◌+◌, ◌<◌, ◌^◌, List, [], ◌∷◌, ◌++◌, length, append_assoc, append-nil, ℤ, pos, refl, sym, ap, ◌∙◌, subst, arith}
-use Rattle.std.specs.Prelude.{map, fold, IsUtf8}
-use Rattle.std.specs.List.{AllByRecursion, flat_map}
+use Rattle.std.proofs.Common.{◌≡◌, ℕ, ◌<◌, ◌^◌, List, [], ◌∷◌, ◌++◌, length, append_assoc, append-nil, ℤ, pos, refl, sym, ap, ◌∙◌, subst, arith}
+use Rattle.std.specs.Prelude.{map, fold}
+use Rattle.std.specs.List.{AllByRecursion}
 use Rattle.std.proofs.lemmas.List.{length-append, map-append}
 use Rattle.std.proofs.lemmas.Grind.{flat_map-append}
 use Rattle.otlp_messages.specs.declared.messages.Message.TheVariants.{BatchArrowRecords, ArrowPayload}
 use Rattle.otlp_messages.specs.declared.checking.TheConstants.{LEVELS}
-use Rattle.otlp_wire.specs.Wire.{FieldValue, Bytes, spelling}
+use Rattle.otlp_wire.specs.Wire.{Bytes, spelling}
 use Rattle.otlp_wire.specs.Varint.{varint}
-use Rattle.otlp_wire.specs.Fields.{fields_of}
 use Rattle.otlp_messages.specs.Defects.{IsFine}
-use Rattle.otlp_messages.specs.Rows.{only, said, int32_in, int64_in, bytes_in, parts_of}
-use Rattle.otlp_messages.specs.Canon.{Filled, row, signed_row, bytes_row, many_row, canon_row, canon, IsReadBack}
+use Rattle.otlp_messages.specs.Rows.{said, int32_in, int64_in, bytes_in, parts_of}
+use Rattle.otlp_messages.specs.Canon.{signed_row, bytes_row, many_row, canon_row, canon, IsReadBack}
 use Rattle.otlp_messages.proofs.Canonical.{rows_read}
 use Rattle.otlp_messages.proofs.RowKinds.{part_fits, signed_fits, many_fits, wider, bytes_back, int32_back, int64_back, map-back, short_parts, parts_of-many_row}
 use Rattle.otap_capture.specs.Batch.{PayloadContent, BatchContent, payload_in, payloads_in, batch_in, ReadsBatch, payload_rows, canon_payload, batch_rows, canon_batch, IsRealPayload, IsRealBatch}

@@ -1,5 +1,5 @@
 -- What a batch message says (BatchArrowRecords of the OpenTelemetry Arrow Protocol).
-use Rattle.std.specs.Prelude.{◌≡◌, ℕ, List, [], ◌∷◌, ◌++◌, length, map, ⊤, ℤ, pos, IsUtf8, FitsSigned}
+use Rattle.std.specs.Prelude.{◌≡◌, ℕ, List, [], ◌∷◌, map, ⊤, ℤ, pos, IsUtf8, FitsSigned}
 use Rattle.std.specs.List.{AllByRecursion}
 use Rattle.std.specs.Int.{w32, w64}
 use Rattle.otlp_wire.specs.Fields.{fields_of}

@@ -1,4 +1,3 @@
-use Rattle.std.specs.List.{AllByRecursion}
 use Rattle.otlp_messages.specs.declared.checking.TheConstants.{LEVELS}
 use Rattle.otlp_messages.specs.declared.messages.Message.TheVariants.{BatchArrowRecords}
 use Rattle.otlp_messages.specs.Table.{kind_of}

@@ -1,4 +1,4 @@
-use Rattle.std.proofs.Common.{◌≡◌, ◌<◌, ◌^◌, [], length, arith}
+use Rattle.std.proofs.Common.{◌<◌, ◌^◌, [], length, arith}
 use Rattle.std.proofs.lemmas.Int.{to_z-of_z}
 use Rattle.std.specs.Int.{w64}
 use Rattle.otap_capture.proofs.WrittenBatch.{AreWritten, written_first}
