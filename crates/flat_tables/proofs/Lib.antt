@@ -1,0 +1,7 @@
+mod Natural
+mod Lying
+pub mod Standing
+mod Reaching
+mod InWords
+mod Adding
+mod TableLaid

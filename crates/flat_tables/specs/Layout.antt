@@ -1,0 +1,47 @@
+-- How the builder lays out what it adds. No caller needs to know.
+use Rattle.std.specs.Prelude.{ℕ, ◌+◌, ◌-◌, ◌*◌, List, [], ◌∷◌, ◌++◌, length, replicate}
+use Rattle.std.specs.Int.{w16, w32, w64, cast_unsigned}
+use Rattle.byteorder.specs.Endian.{little_bytes}
+use Rattle.flat_tables.specs.declared.place.Slot.{Slot}
+use Rattle.flat_tables.specs.declared.place.Slot.TheVariants.{Absent, U8, I16, I32, I64, At}
+
+-- each piece is a number of four bytes, a content, and zero bytes
+unfoldable pub piece : ℕ → List ℕ → ℕ → List ℕ
+piece head content pad = little_bytes 4 head ++ (content ++ replicate pad 0)
+
+-- a number of this width for each item of a list, by its index and the item; the first index is given
+abbrev pub numbers : {A : Type 0} → ℕ → (ℕ → A → ℕ) → ℕ → List A → List ℕ
+numbers width number index [] = []
+numbers width number index (x ∷ xs) = little_bytes width (number index x) ++ numbers width number (index + 1) xs
+
+-- references to places, of which the first reference is so far from the end
+abbrev pub reference : ℕ → ℕ → ℕ → ℕ
+reference from index place = from - 4 * index - place
+
+abbrev pub references : ℕ → List ℕ → List ℕ
+references from places = numbers 4 (reference from) 0 places
+
+-- the number of a slot whose value is so far from the end
+abbrev pub slot_number : ℕ → Slot → ℕ
+slot_number from Absent = 0
+slot_number from (U8 n) = n
+slot_number from (I16 z) = cast_unsigned w16 z
+slot_number from (I32 z) = cast_unsigned w32 z
+slot_number from (I64 z) = cast_unsigned w64 z
+slot_number from (At place) = from - place
+
+-- a cell of eight bytes for each slot: a number of fewer bytes is at its front
+abbrev pub cell : ℕ → ℕ → Slot → ℕ
+cell from index slot = slot_number (from - 8 * index) slot
+
+abbrev pub cells : ℕ → List Slot → List ℕ
+cells from slots = numbers 8 (cell from) 0 slots
+
+-- the vtable's entry of a slot: how far its cell is from the table's place
+abbrev pub entry : ℕ → Slot → ℕ
+entry index Absent = 0
+entry index slot = 4 + 8 * index
+
+-- the vtable: its own size, the table's size, and the entries
+abbrev pub vtable : List Slot → List ℕ
+vtable slots = (little_bytes 2 (4 + 2 * length slots) ++ little_bytes 2 (4 + 8 * length slots)) ++ numbers 2 entry 0 slots

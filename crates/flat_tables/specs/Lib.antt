@@ -1,0 +1,7 @@
+pub mod Bytes
+pub mod Tables
+pub mod Inside
+pub mod Words
+pub mod Slots
+pub mod Building
+pub mod Layout
