@@ -13,7 +13,7 @@ MIB = 1 << 20
 
 def need_program():
     if not os.path.exists(PROGRAM):
-        sys.exit("build the program first, at the top of the repository: rt run otap_cli -- list < /dev/null")
+        sys.exit("build the program first: (cd crates/otap_cli && rt run -- list < /dev/null)")
 
 
 def capture(parts, size):
