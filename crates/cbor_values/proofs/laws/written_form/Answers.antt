@@ -1,0 +1,12 @@
+use Rattle.cbor_values.proofs.Told.{written_again}
+use Rattle.cbor_values.proofs.WrittenLaws.{written_is, length_bound}
+use Rattle.cbor_values.proofs.laws.written_form.Goals as goal
+
+pub returns-clause-stands : goal.returns-clause-stands
+returns-clause-stands c = written_is
+
+pub returns-clause-again : goal.returns-clause-again
+returns-clause-again c = written_again
+
+pub returns-clause-short : goal.returns-clause-short
+returns-clause-short c = length_bound

@@ -1,0 +1,9 @@
+pub mod Floats
+pub mod Heads
+pub mod Strings
+pub mod Cbor
+pub mod Items
+pub mod Refusals
+pub mod Written
+pub mod Reading
+pub mod Values
