@@ -8,3 +8,4 @@ pub mod LogLaw
 pub mod Bounds
 pub mod RequestLaw
 pub mod Lens
+pub mod ProfileLaw

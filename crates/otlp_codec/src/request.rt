@@ -2,6 +2,7 @@
 
 ghost use Rattle.std.specs.Prelude.{◌≡◌, ◌^◌, ◌≤◌, length, min, IfOk, IfErr};
 ghost use Rattle.otlp_model.specs.Weight.{weight_of};
+ghost use Rattle.otlp_model.specs.Profile.{IsProfile};
 ghost use Rattle.otlp_model.specs.Real.{IsReal};
 ghost use Rattle.otlp_codec.specs.Canonical.{canon_groups};
 ghost use Rattle.otlp_codec.specs.Refusals.{Names};
@@ -18,10 +19,12 @@ use std::alloc::{AllocError, Global};
 
 /// Reads an export request of the signal (OTLP 1.x): `ExportLogsServiceRequest` for logs.
 ///
-/// Unknown fields are passed over. One pass over the bytes.
+/// Unknown fields are passed over. What is read has ids that are absent or of their lengths, and values at most 32 deep.
+/// One pass over the bytes.
 pub fn read_request(alloc: Global, signal: Signal, bytes: &[u8]) -> Result<Request, ReadRefusal>
     requires { IsBuilt signal }
     ensures reads { IfOk result (Reads signal bytes.now) }
+    ensures profile { IfOk result IsProfile }
     ensures fault { IfErr result (λ refusal. Names refusal (Stands signal bytes.now)) }
 {
     match signal {
