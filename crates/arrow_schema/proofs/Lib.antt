@@ -1,0 +1,7 @@
+mod Naming
+mod FieldTrees
+mod FieldsStand
+mod Loop
+mod Answered
+mod Written
+mod Writable

@@ -1,0 +1,10 @@
+pub mod formers
+pub mod Types
+pub mod Trees
+pub mod Slots
+pub mod Says
+pub mod Readable
+pub mod Reading
+pub mod Defects
+pub mod Laws
+pub mod Writing

@@ -1,0 +1,140 @@
+-- The schema that tables say, or why they say none. Of several refusals it is the first one, in the order of the slots.
+use Rattle.std.specs.Prelude.{◌≡◌, ℕ, zero, suc, ◌+◌, ◌-◌, ◌==◌, ◌&&◌, ◌||◌, not, nat_lt, Bool, true, false, if◌then◌else◌, List, [], ◌∷◌, Result, Ok, Err, Option, None, Some, ℤ, unsigned_abs}
+use Rattle.std.specs.Str.{is_utf8}
+use Rattle.flat_tables.specs.declared.fault.FlatFault.{FlatFault}
+use Rattle.flat_tables.specs.Bytes.{◌>>=◌}
+use Rattle.flat_tables.specs.Tables.{TableIn, VectorIn, vector_slot, element_table}
+use Rattle.arrow_schema.specs.declared.spec.ArrowType.{ArrowType}
+use Rattle.arrow_schema.specs.declared.spec.ArrowType.TheVariants.{Bool as Boolean, Int, Double, Utf8, Binary, Fixed, Timestamp, Duration, Struct}
+use Rattle.arrow_schema.specs.declared.spec.DictSpec.{DictSpec}
+use Rattle.arrow_schema.specs.declared.refusal.SchemaRefusal.{SchemaRefusal}
+use Rattle.arrow_schema.specs.declared.refusal.SchemaRefusal.TheVariants.{Flat, Unsupported, TooManyFields, TooDeep, BadName, DictionaryTypes, Memory}
+use Rattle.arrow_schema.specs.declared.spec.TheConstants.{MAX_DEPTH, MAX_FIELDS}
+use Rattle.arrow_schema.specs.declared.spec.FieldSpec.{FieldSpec}
+use Rattle.arrow_schema.specs.Trees.{field_with, names_differ, uses_of, uses_agree}
+use Rattle.arrow_schema.specs.Readable.{fits_children}
+use Rattle.arrow_schema.specs.Types.{takes_dictionary, is_number, is_int_width, is_fixed_width}
+use Rattle.arrow_schema.specs.Slots.{name_slot, kind_slot, int_width, int_sign, precision, timestamp_unit, duration_unit, byte_width, dictionary_slot, dictionary_id, index_slot, index_width, index_sign, byte_order, fields_slot, children_slot}
+
+-- a fault of the tables is a refusal
+abbrev pub flat : {A : Type 0} → Result A FlatFault → Result A SchemaRefusal
+flat (Ok x) = Ok x
+flat (Err e) = Err (Flat e)
+
+-- what a call returned is what reading gives, unless memory ran out
+abbrev pub Fails : {Y : Type 0} → SchemaRefusal → Result Y SchemaRefusal → Type 0
+Fails (Memory e) read = Unit {0}
+Fails e read = read ≡ Err e
+
+abbrev pub Gives : {X Y : Type 0} → (X → Y) → Result X SchemaRefusal → Result Y SchemaRefusal → Type 0
+Gives view (Ok x) read = read ≡ Ok (view x)
+Gives view (Err e) read = Fails e read
+
+-- a value is taken where a test holds
+abbrev pub where_supported : {A : Type 0} → Bool → A → Result A SchemaRefusal
+where_supported true x = Ok x
+where_supported false x = Err Unsupported
+
+unfoldable pub name_of : TableIn → Result (List ℕ) SchemaRefusal
+name_of t = flat (name_slot t) >>= λ name. if is_utf8 name then Ok name else Err BadName
+
+unfoldable pub int_of : TableIn → Result ArrowType SchemaRefusal
+int_of t = flat (int_width t) >>= λ bits. flat (int_sign t) >>= λ signed. where_supported (is_int_width bits) (Int (unsigned_abs bits) signed)
+
+unfoldable pub fixed_of : TableIn → Result ArrowType SchemaRefusal
+fixed_of t = flat (byte_width t) >>= λ width. where_supported (is_fixed_width width) (Fixed (unsigned_abs width))
+
+-- a type with one number, which is to be this one
+unfoldable pub number_of : ℕ → ArrowType → Result ℤ FlatFault → Result ArrowType SchemaRefusal
+number_of n kind read = flat read >>= λ number. where_supported (is_number n number) kind
+
+unfoldable pub type_with : TableIn → ℕ → Result ArrowType SchemaRefusal
+type_with t kind =
+    if kind == 2 then int_of t
+    else if kind == 3 then number_of 2 Double (precision t)
+    else if kind == 4 then Ok Binary
+    else if kind == 5 then Ok Utf8
+    else if kind == 6 then Ok Boolean
+    else if kind == 10 then number_of 3 Timestamp (timestamp_unit t)
+    else if kind == 13 then Ok Struct
+    else if kind == 15 then fixed_of t
+    else if kind == 18 then number_of 3 Duration (duration_unit t)
+    else Err Unsupported
+
+unfoldable pub type_of : TableIn → Result ArrowType SchemaRefusal
+type_of t = flat (kind_slot t) >>= type_with t
+
+-- whether the indexes of a dictionary have 16 bits
+unfoldable pub is_wide : TableIn → Result Bool SchemaRefusal
+is_wide u =
+    flat (index_width u) >>= λ bits. flat (index_sign u) >>= λ signed.
+    where_supported (not signed && (is_number 8 bits || is_number 16 bits)) (is_number 16 bits)
+
+abbrev pub index_of : Option TableIn → Result Bool SchemaRefusal
+index_of None = Err Unsupported
+index_of (Some u) = is_wide u
+
+unfoldable pub encoding_of : TableIn → Result DictSpec SchemaRefusal
+encoding_of d = flat (dictionary_id d) >>= λ id. flat (index_slot d) >>= index_of >>= λ wide. Ok (record { id = id; wide = wide })
+
+abbrev pub dictionary_in : ArrowType → Option TableIn → Result (Option DictSpec) SchemaRefusal
+dictionary_in kind None = Ok None
+dictionary_in kind (Some d) = where_supported (takes_dictionary kind) d >>= encoding_of >>= λ dict. Ok (Some dict)
+
+unfoldable pub dictionary_of : ArrowType → TableIn → Result (Option DictSpec) SchemaRefusal
+dictionary_of kind t = flat (dictionary_slot t) >>= dictionary_in kind
+
+-- Fields that were read, and how many more the schema may have.
+abbrev pub Fields : Type 0
+Fields = List FieldSpec × ℕ
+
+-- the fields in a slot of a table, whose vector is read so
+abbrev pub in_slot : (ℕ → VectorIn → Result Fields SchemaRefusal) → ℕ → Option VectorIn → Result Fields SchemaRefusal
+in_slot vector left None = Ok ([], left)
+in_slot vector left (Some v) = vector left v
+
+unfoldable pub slot_of : (ℕ → VectorIn → Result Fields SchemaRefusal) → ℕ → ℕ → TableIn → Result Fields SchemaRefusal
+slot_of vector slot left t = flat (vector_slot 4 t slot) >>= in_slot vector left
+
+-- a field, the vector of whose children is read so
+unfoldable pub field_of : (ℕ → VectorIn → Result Fields SchemaRefusal) → ℕ → TableIn → Result (FieldSpec × ℕ) SchemaRefusal
+field_of vector left t =
+    name_of t >>= λ name.
+    type_of t >>= λ kind.
+    dictionary_of kind t >>= λ dict.
+    slot_of vector children_slot left t >>= λ fields.
+    where_supported (fits_children kind fields.0) (field_with name kind dict fields.0, fields.1)
+
+-- the field that an element of a vector refers to, and those after it
+abbrev pub of_element : (TableIn → Result Fields SchemaRefusal) → ℕ → Option TableIn → Result Fields SchemaRefusal
+of_element read left None = Ok ([], left)
+of_element read left (Some t) = read t
+
+unfoldable pub fields_from : (ℕ → TableIn → Result (FieldSpec × ℕ) SchemaRefusal) → VectorIn → ℕ → ℕ → ℕ → Result Fields SchemaRefusal
+fields_from field v place zero left = Ok ([], left)
+fields_from field v place (suc n) left =
+    flat (element_table v place) >>= of_element (λ t.
+    field left t >>= λ f. fields_from field v (place + 1) n f.1 >>= λ fs. Ok (f.0 ∷ fs.0, fs.1)) left
+
+abbrev pub with_own_names : Fields → Result Fields SchemaRefusal
+with_own_names fields = if names_differ fields.0 then Ok fields else Err BadName
+
+-- the fields of a vector, which may be nested so deep; all are counted before any is read
+unfoldable pub vector_of : ℕ → ℕ → VectorIn → Result Fields SchemaRefusal
+vector_of zero left v =
+    if v.count == 0 then Ok ([], left)
+    else if nat_lt left v.count then Err TooManyFields
+    else Err TooDeep
+vector_of (suc depth) left v =
+    if v.count == 0 then Ok ([], left)
+    else if nat_lt left v.count then Err TooManyFields
+    else (fields_from (field_of (vector_of depth)) v 0 v.count (left - v.count) >>= with_own_names)
+
+abbrev pub with_agreeing_uses : Fields → Result (List FieldSpec) SchemaRefusal
+with_agreeing_uses fields = if uses_agree (uses_of fields.0) then Ok fields.0 else Err DictionaryTypes
+
+-- the schema of a table
+unfoldable pub schema_of : TableIn → Result (List FieldSpec) SchemaRefusal
+schema_of t =
+    flat (byte_order t) >>= λ order.
+    where_supported (is_number 0 order) t >>= slot_of (vector_of MAX_DEPTH) fields_slot MAX_FIELDS >>= with_agreeing_uses

@@ -1,0 +1,21 @@
+//! Arrow schemas: read from the tables of IPC metadata, and written as tables.
+#![tactic(auto)]
+
+mod agreement;
+mod field;
+pub mod laws;
+mod list;
+mod name;
+mod reading;
+mod refusal;
+mod spec;
+#[cfg(test)]
+mod tests;
+mod writing;
+
+pub use crate::list::FieldList;
+pub use crate::name::Name;
+pub use crate::reading::read_schema;
+pub use crate::refusal::SchemaRefusal;
+pub use crate::spec::{ArrowType, DictSpec, FieldSpec, MAX_DEPTH, MAX_FIELDS, SchemaSpec};
+pub use crate::writing::{MAX_SIZE_BEFORE, MAX_WRITTEN_FIELDS, MAX_WRITTEN_NAMES, add_schema};

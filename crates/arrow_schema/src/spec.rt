@@ -1,0 +1,143 @@
+ghost use Rattle.std.specs.Prelude.{◌≡◌, ◌==◌, ◌++◌, ◌∷◌, [], length, slice_get, OnOk, OnErr};
+ghost use Rattle.std.specs.Option.{option_copied};
+ghost use Rattle.arrow_schema.specs.Types.{takes_dictionary, type_number};
+
+use crate::list::FieldList;
+use crate::name::Name;
+use std::alloc::{AllocError, Global};
+use std::marker::Model;
+
+/// The most fields that a schema has, children counted.
+pub const MAX_FIELDS: u32 = 128;
+
+/// How deep the fields of a schema are nested at most. Its own fields have depth 1.
+pub const MAX_DEPTH: u32 = 3;
+
+/// The type of a field's values.
+#[derive(Clone, Copy, Debug, PartialEq, Eq)]
+pub enum ArrowType {
+    Bool,
+    Int { bits: u8, signed: bool },
+    Double,
+    Utf8,
+    Binary,
+    /// A fixed number of bytes.
+    Fixed(u32),
+    /// Nanoseconds since the epoch.
+    Timestamp,
+    /// Nanoseconds.
+    Duration,
+    Struct,
+}
+
+impl ArrowType {
+    /// Its number in `union Type` of Arrow's Schema.fbs.
+    pub(crate) fn number(self) -> u8
+        ensures { result ≡ type_number self }
+    {
+        match self {
+            ArrowType::Int { .. } => 2,
+            ArrowType::Double => 3,
+            ArrowType::Binary => 4,
+            ArrowType::Utf8 => 5,
+            ArrowType::Bool => 6,
+            ArrowType::Timestamp => 10,
+            ArrowType::Struct => 13,
+            ArrowType::Fixed(_) => 15,
+            ArrowType::Duration => 18,
+        }
+    }
+
+    /// Whether values of the type may stand in a dictionary.
+    pub(crate) fn takes_dictionary(self) -> bool
+        ensures { result ≡ takes_dictionary self }
+    {
+        !matches!(self, ArrowType::Bool | ArrowType::Struct)
+    }
+}
+
+/// The dictionary of a field's values.
+#[derive(Clone, Copy, Debug, PartialEq, Eq)]
+pub struct DictSpec {
+    pub id: i64,
+    /// Whether its indexes have 16 bits, or 8.
+    pub wide: bool,
+}
+
+/// A field of a schema.
+#[derive(Debug, Drop)]
+pub struct FieldSpec {
+    pub name: Name,
+    pub kind: ArrowType,
+    pub dict: Option<DictSpec>,
+    pub children: FieldList<FieldSpec>,
+}
+
+/// A schema: its fields, in order.
+#[derive(Debug, Drop)]
+pub struct SchemaSpec {
+    fields: FieldList<FieldSpec>,
+}
+
+impl Model for SchemaSpec {
+    ghost use Rattle.std.specs.Prelude.{List};
+    ghost use Rattle.std.specs.Coded.{coded_list};
+    ghost use Rattle.arrow_schema.specs.declared.spec.FieldSpec.{FieldSpec};
+    ghost use Rattle.arrow_schema.specs.contracts.spec.FieldSpec as field;
+
+    ghost Value = { List FieldSpec };
+
+    ghost coded = { coded_list field.the_row.coded };
+
+    ghost view = { λ schema. schema.fields };
+}
+
+impl SchemaSpec {
+    pub fn new(alloc: Global) -> SchemaSpec
+        ensures { result ≡ [] }
+    {
+        SchemaSpec {
+            fields: FieldList::new(alloc),
+        }
+    }
+
+    pub(crate) fn from_fields(fields: FieldList<FieldSpec>) -> SchemaSpec
+        ensures { result ≡ fields }
+    {
+        SchemaSpec { fields }
+    }
+
+    pub fn len(&self) -> usize
+        ensures { result ≡ length self.now }
+    {
+        self.fields.len()
+    }
+
+    pub fn is_empty(&self) -> bool
+        ensures { result ≡ (length self.now == 0) }
+    {
+        self.fields.is_empty()
+    }
+
+    pub fn as_slice(&self) -> &[FieldSpec]
+        ensures { result.now ≡ self.now }
+    {
+        self.fields.as_slice()
+    }
+
+    /// The field at a place; `None` where there is no such field.
+    pub fn get(&self, place: usize) -> Option<&FieldSpec>
+        ensures { option_copied result ≡ slice_get self.now place }
+    {
+        self.fields.get(place)
+    }
+
+    /// Appends a field, or gives it up where there is no memory.
+    pub fn push(&mut self, field: FieldSpec) -> Result<(), AllocError>
+        ensures ok { OnOk result (self.new ≡ self.old ++ field ∷ []) }
+        ensures err { OnErr result (self.new ≡ self.old) }
+    {
+        self.fields.push(field)?;
+        Ok(())
+    }
+}

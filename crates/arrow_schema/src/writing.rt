@@ -1,0 +1,127 @@
+ghost use Rattle.std.specs.Prelude.{◌≡◌, ◌+◌, ◌*◌, ◌≤◌, ◌<◌, ◌^◌, ℕ, List, length, IfOk, IsTrue};
+ghost use Rattle.flat_tables.specs.Slots.{Reaches};
+ghost use Rattle.flat_tables.specs.Building.{Grows, Stands, HasSlots};
+ghost use Rattle.arrow_schema.specs.Trees.{count_in, count_of};
+ghost use Rattle.arrow_schema.specs.Types.{type_number};
+ghost use Rattle.arrow_schema.specs.Writing.{names_in, names_of, fits_width, widths_in, widths_fit, type_slots, index_slots, IsDictTable, IsDictSlot, IsFieldTable, IsFieldVector, IsSchemaTable};
+
+use crate::spec::{ArrowType, DictSpec, FieldSpec, SchemaSpec};
+use flat_tables::{Builder, Place, Slot};
+use std::alloc::AllocError;
+
+/// The most fields of a schema that is written, children counted.
+pub const MAX_WRITTEN_FIELDS: usize = 1 << 10;
+
+/// The most bytes that the names of such fields have together.
+pub const MAX_WRITTEN_NAMES: usize = 1 << 20;
+
+/// What a builder may hold before a schema is added.
+pub const MAX_SIZE_BEFORE: usize = 1 << 22;
+
+/// Adds the `Schema` table of a schema, in little-endian order, with nullable fields and no metadata.
+///
+/// Where memory runs out, what stood in the builder still stands, and parts of the schema may.
+pub fn add_schema(builder: &mut Builder, spec: &SchemaSpec) -> Result<Place, AllocError>
+    requires few { count_of spec.now ≤ MAX_WRITTEN_FIELDS }
+    requires names { names_of spec.now ≤ MAX_WRITTEN_NAMES }
+    requires widths { IsTrue (widths_fit spec.now) }
+    requires room { length builder.old < MAX_SIZE_BEFORE }
+    ensures schema { IfOk result (Stands (IsSchemaTable spec.now) builder.new) }
+    ensures grows { Grows builder.old builder.new }
+    ensures size { length builder.new ≤ length builder.old + names_of spec.now + 1100 * count_of spec.now + 512 }
+{
+    let fields = add_fields(builder, spec.as_slice())?;
+    let place = builder.add_table(&[Slot::Absent, Slot::At(fields)])?;
+    Ok(place)
+}
+
+// Adds the fields, and a vector of them.
+#[cycle(write)]
+#[tactic(auto, using(crate::proofs::FieldTrees::costs_more, flat_tables::proofs::Standing::grows_on))]
+fn add_fields(builder: &mut Builder, fields: &[FieldSpec]) -> Result<Place, AllocError>
+    requires widths { IsTrue (widths_fit fields.now) }
+    requires room { length builder.old + names_of fields.now + 1100 * count_of fields.now + 32 < 2 ^ 24 }
+    ensures fields { IfOk result (Stands (IsFieldVector fields.now) builder.new) }
+    ensures grows { Grows builder.old builder.new }
+    ensures size { length builder.new ≤ length builder.old + names_of fields.now + 1100 * count_of fields.now + 32 }
+{
+    let mut places = Vec::with_capacity(builder.alloc(), fields.len())?;
+    for field in fields {
+        places.push(add_field(builder, field)?)?;
+    }
+    let place = builder.add_places(&places)?;
+    Ok(place)
+}
+
+#[cycle(write)]
+#[tactic(auto, using(crate::proofs::FieldTrees::costs, crate::proofs::FieldTrees::widths_below, flat_tables::proofs::Standing::grows_on))]
+fn add_field(builder: &mut Builder, field: &FieldSpec) -> Result<Place, AllocError>
+    requires widths { IsTrue (widths_in field.now) }
+    requires room { length builder.old + names_in field.now + 1100 * count_in field.now < 2 ^ 24 }
+    ensures field { IfOk result (Stands (IsFieldTable field.now) builder.new) }
+    ensures grows { Grows builder.old builder.new }
+    ensures size { length builder.new + 4 ≤ length builder.old + names_in field.now + 1100 * count_in field.now }
+{
+    let children = add_fields(builder, field.children.as_slice())?;
+    let name = builder.add_text(field.name.as_slice())?;
+    let kind = add_type(builder, field.kind)?;
+    let dict = add_dictionary(builder, field.dict)?;
+    let slots = [
+        Slot::At(name),
+        Slot::U8(1),
+        Slot::U8(field.kind.number()),
+        Slot::At(kind),
+        dict,
+        Slot::At(children),
+    ];
+    let place = builder.add_table(&slots)?;
+    Ok(place)
+}
+
+// Adds the table of a type.
+fn add_type(builder: &mut Builder, kind: ArrowType) -> Result<Place, AllocError>
+    requires width { IsTrue (fits_width kind) }
+    requires room { length builder.old < 2 ^ 24 }
+    ensures kind { IfOk result (Stands (HasSlots (type_slots kind)) builder.new) }
+    ensures grows { Grows builder.old builder.new }
+    ensures size { length builder.new ≤ length builder.old + 256 }
+{
+    match kind {
+        ArrowType::Int { bits, signed } => {
+            builder.add_table(&[Slot::I32(i32::from(bits)), Slot::U8(u8::from(signed))])
+        }
+        ArrowType::Double => builder.add_table(&[Slot::I16(2)]),
+        ArrowType::Timestamp | ArrowType::Duration => builder.add_table(&[Slot::I16(3)]),
+        ArrowType::Fixed(width) => builder.add_table(&[Slot::I32(width as i32)]),
+        ArrowType::Bool | ArrowType::Utf8 | ArrowType::Binary | ArrowType::Struct => {
+            builder.add_table(&[])
+        }
+    }
+}
+
+// Adds the table of a dictionary, where there is one, and answers the slot for it.
+fn add_dictionary(builder: &mut Builder, dict: Option<DictSpec>) -> Result<Slot, AllocError>
+    requires { length builder.old + 256 < 2 ^ 24 }
+    ensures dict { IfOk result (IsDictSlot dict builder.new) }
+    ensures reaches { IfOk result (Reaches (length builder.new)) }
+    ensures grows { Grows builder.old builder.new }
+    ensures size { length builder.new ≤ length builder.old + 512 }
+{
+    match dict {
+        None => Ok(Slot::Absent),
+        Some(dict) => Ok(Slot::At(add_encoding(builder, dict)?)),
+    }
+}
+
+#[tactic(auto, using(flat_tables::proofs::Standing::grows_on))]
+fn add_encoding(builder: &mut Builder, dict: DictSpec) -> Result<Place, AllocError>
+    requires { length builder.old + 256 < 2 ^ 24 }
+    ensures dict { IfOk result (Stands (IsDictTable dict) builder.new) }
+    ensures grows { Grows builder.old builder.new }
+    ensures size { length builder.new ≤ length builder.old + 512 }
+{
+    let bits = if dict.wide { 16 } else { 8 };
+    let index = builder.add_table(&[Slot::I32(bits), Slot::U8(0)])?;
+    let place = builder.add_table(&[Slot::I64(dict.id), Slot::At(index)])?;
+    Ok(place)
+}
