@@ -1,0 +1,11 @@
+pub mod Batches
+pub mod Messages
+pub mod Faults
+pub mod Order
+pub mod Parts
+pub mod Decided
+pub mod Unique
+pub mod Fronts
+pub mod Inside
+pub mod Written
+pub mod Building
