@@ -1,0 +1,5 @@
+pub mod Reading
+pub mod Walking
+pub mod Walked
+pub mod PathsWalked
+pub mod ColumnLaws

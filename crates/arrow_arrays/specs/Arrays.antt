@@ -1,0 +1,115 @@
+-- The arrays of a schema's fields, and their faults and cells in a record batch (Arrow columnar format, "RecordBatch
+-- message": nodes and buffers stand depth first, a field before its children, and its own buffers before theirs).
+use Rattle.std.specs.Prelude.{◌≡◌, ℕ, zero, suc, List, [], ◌∷◌, ◌++◌, length, sum_by, slice_get, Option, None, Some, Result, Ok, Err}
+use Rattle.std.specs.Result.{result_and}
+use Rattle.arrow_schema.specs.declared.spec.TheConstants.{MAX_DEPTH}
+use Rattle.arrow_schema.specs.declared.spec.ArrowType.{ArrowType}
+use Rattle.arrow_schema.specs.declared.spec.DictSpec.{DictSpec}
+use Rattle.arrow_schema.specs.declared.spec.FieldSpec.{FieldSpec, fold-FieldSpec}
+use Rattle.arrow_schema.specs.declared.spec.FieldSpec.TheOpen.{FieldSpec-F}
+use Rattle.arrow_buffers.specs.declared.fault.BufferFault.{BufferFault}
+use Rattle.arrow_ipc.specs.Batches.{BatchIn}
+use Rattle.arrow_arrays.specs.declared.place.ArrayPlace.{ArrayPlace}
+use Rattle.arrow_arrays.specs.declared.spec.ArraySpec.{ArraySpec}
+use Rattle.arrow_arrays.specs.Layouts.{layout_of, own_buffers, FitsLayout}
+use Rattle.arrow_arrays.specs.Cells.{array_check, own_cell}
+
+-- where the array of a field stands
+abbrev pub place_of : ArraySpec → ArrayPlace
+place_of a = record { layout = layout_of a.kind a.dict; node = a.node; buffer = a.buffer }
+
+-- how many buffers arrays have
+abbrev pub buffers_of : List ArraySpec → ℕ
+buffers_of arrays = sum_by (λ a. own_buffers (layout_of a.kind a.dict)) arrays
+
+-- the array of one more field, behind the arrays so far; above stands the struct that it is a child of, if any
+abbrev pub array_behind : List ArraySpec → Option ℕ → List ℕ → ArrowType → Option DictSpec → ArraySpec
+array_behind arrays above name kind dict =
+    record { name = name; kind = kind; dict = dict; above = above; node = length arrays; buffer = buffers_of arrays }
+
+-- the arrays so far with those that are added, from what stands above
+abbrev pub Adds : Type 0
+Adds = Option ℕ → List ArraySpec → List ArraySpec
+
+-- one after the other
+abbrev pub add_each : List Adds → Adds
+add_each [] above arrays = arrays
+add_each (add ∷ adds) above arrays = add_each adds above (add above arrays)
+
+-- a field, and then its children below it
+abbrev pub add_step : FieldSpec-F Adds → Adds
+add_step f above arrays = add_each f.children (Some (length arrays)) (arrays ++ array_behind arrays above f.name f.kind f.dict ∷ [])
+
+abbrev pub add_field : FieldSpec → Adds
+add_field = fold-FieldSpec Adds add_step
+
+abbrev pub add_fields : List FieldSpec → Adds
+add_fields [] above arrays = arrays
+add_fields (f ∷ fields) above arrays = add_fields fields above (add_field f above arrays)
+
+-- THE ARRAYS OF A SCHEMA, depth first
+unfoldable pub arrays_of : List FieldSpec → List ArraySpec
+arrays_of fields = add_fields fields None []
+
+-- the names that lead to what stands above: at the top nothing does
+abbrev pub path_above : (ℕ → List (List ℕ)) → Option ℕ → List (List ℕ)
+path_above path None = []
+path_above path (Some place) = path place
+
+abbrev pub path_to : (ℕ → List (List ℕ)) → Option ArraySpec → List (List ℕ)
+path_to path None = []
+path_to path (Some a) = path_above path a.above ++ a.name ∷ []
+
+-- the names that lead to an array that stands so deep at most
+unfoldable pub path_within : ℕ → List ArraySpec → ℕ → List (List ℕ)
+path_within zero arrays place = []
+path_within (suc depth) arrays place = path_to (path_within depth arrays) (slice_get arrays place)
+
+-- THE PATH OF NAMES that leads through structs to the array at a place of the list
+abbrev pub path_of : List ArraySpec → ℕ → List (List ℕ)
+path_of arrays place = path_within MAX_DEPTH arrays place
+
+-- THE FIRST FAULT of arrays in a batch, depth first
+unfoldable pub arrays_check : BatchIn → List ArraySpec → Result (Unit {0}) BufferFault
+arrays_check batch [] = Ok tt
+arrays_check batch (a ∷ arrays) = result_and (array_check batch (place_of a)) (arrays_check batch arrays)
+
+-- one of the arrays has the fault
+abbrev pub HasFault : BatchIn → List ArraySpec → BufferFault → Type 0
+HasFault batch arrays fault = (place : ℕ) × (a : ArraySpec) × (slice_get arrays place ≡ Some a) × (array_check batch (place_of a) ≡ Err fault)
+
+-- none of them has a fault
+abbrev pub HasNoFault : BatchIn → List ArraySpec → Type 0
+HasNoFault batch arrays = (place : ℕ) (a : ArraySpec) → slice_get arrays place ≡ Some a → array_check batch (place_of a) ≡ Ok tt
+
+-- the cell of what stands above: at the top nothing does, and nothing is null by it
+abbrev pub cell_above : (ℕ → ℕ → Option (List ℕ)) → Option ℕ → ℕ → Option (List ℕ)
+cell_above cell None row = Some []
+cell_above cell (Some place) row = cell place row
+
+-- null where that is null
+abbrev pub cell_below : Option (List ℕ) → Option (List ℕ) → Option (List ℕ)
+cell_below None own = None
+cell_below (Some value) own = own
+
+abbrev pub cell_in_array : (ℕ → ℕ → Option (List ℕ)) → BatchIn → ℕ → Option ArraySpec → Option (List ℕ)
+cell_in_array cell batch row None = None
+cell_in_array cell batch row (Some a) = cell_below (cell_above cell a.above row) (own_cell batch (place_of a) row)
+
+-- the cell of a row in an array that stands so deep at most
+unfoldable pub cell_within : ℕ → List ArraySpec → BatchIn → ℕ → ℕ → Option (List ℕ)
+cell_within zero arrays batch place row = None
+cell_within (suc depth) arrays batch place row = cell_in_array (cell_within depth arrays batch) batch row (slice_get arrays place)
+
+-- THE CELL OF A ROW in the array at a place of the list: null where the array's own bitmap or that of a struct above says
+-- so, else the bytes of its value
+abbrev pub cell_of : List ArraySpec → BatchIn → ℕ → ℕ → Option (List ℕ)
+cell_of arrays batch place row = cell_within MAX_DEPTH arrays batch place row
+
+-- the bytes fit the array at a place of the list
+abbrev pub fits_if : Option ArraySpec → List ℕ → Type 0
+fits_if None value = ⊥
+fits_if (Some a) value = FitsLayout (layout_of a.kind a.dict) value
+
+abbrev pub FitsArray : List ArraySpec → ℕ → List ℕ → Type 0
+FitsArray arrays place value = fits_if (slice_get arrays place) value

@@ -1,0 +1,235 @@
+ghost use Rattle.std.specs.Prelude.{◌≡◌, ◌+◌, ◌++◌, ◌∷◌, ◌==◌, [], ◌≤◌, ◌<◌, length, map, slice_get, IsOk, IfOk, IfErr, IfSome, OnOk};
+ghost use Rattle.std.specs.Option.{option_copied};
+ghost use Rattle.arrow_schema.specs.Readable.{IsReadable};
+ghost use Rattle.arrow_schema.specs.Trees.{name_in, kind_in, dict_in, count_in, count_of};
+ghost use Rattle.arrow_arrays.specs.Arrays.{array_behind, add_field, add_fields, arrays_of, path_within, path_of, arrays_check, HasFault, HasNoFault, cell_within, cell_of, FitsArray};
+
+use crate::layout::Layout;
+use crate::spec::ArraySpec;
+use arrow_buffers::BufferFault;
+use arrow_ipc::BatchView;
+use arrow_schema::{FieldSpec, MAX_DEPTH, MAX_FIELDS, Name, SchemaSpec};
+use std::alloc::{AllocError, Global};
+use std::marker::Model;
+
+/// The arrays of a schema's fields, depth first: a field stands before its children. The place of
+/// an array in the list is that of its node.
+#[derive(Debug, Drop)]
+pub struct Arrays {
+    arrays: Vec<ArraySpec>,
+    // How many buffers they have together.
+    buffers: u16,
+}
+
+impl Model for Arrays {
+    ghost use Rattle.std.specs.Prelude.{List};
+    ghost use Rattle.std.specs.Coded.{coded_list};
+    ghost use Rattle.arrow_arrays.specs.declared.spec.ArraySpec.{ArraySpec};
+    ghost use Rattle.arrow_arrays.specs.contracts.spec.ArraySpec as array;
+    ghost use Rattle.arrow_arrays.specs.Inside.{AreArrays};
+
+    ghost Value = { List ArraySpec };
+
+    ghost coded = { coded_list array.the_row.coded };
+
+    ghost view = { λ a. a.arrays.items };
+
+    ghost invariant = { AreArrays };
+}
+
+impl Arrays {
+    /// The arrays of a schema that was read. It takes time linear in the schema, and copies the
+    /// names.
+    #[tactic(auto, unfolding(crate::specs::Arrays::arrays_of))]
+    pub fn new(alloc: Global, schema: &SchemaSpec) -> Result<Arrays, AllocError>
+        requires { IsReadable schema.now }
+        ensures { IfOk result (λ arrays. arrays ≡ arrays_of schema.now) }
+    {
+        let mut arrays = Arrays {
+            arrays: Vec::new(alloc),
+            buffers: 0,
+        };
+        arrays.add_fields(alloc, None, schema.as_slice())?;
+        Ok(arrays)
+    }
+
+    // Adds the arrays of fields and of their children behind the others.
+    #[cycle(walk)]
+    fn add_fields(
+        &mut self,
+        alloc: Global,
+        above: Option<usize>,
+        fields: &[FieldSpec],
+    ) -> Result<(), AllocError>
+        requires { length self.old + count_of fields.now ≤ MAX_FIELDS }
+        ensures arrays { OnOk result (self.new ≡ add_fields fields.now above self.old) }
+        ensures len { OnOk result (length self.new ≡ length self.old + count_of fields.now) }
+    {
+        for field in fields {
+            self.add_field(alloc, above, field)?;
+        }
+        Ok(())
+    }
+
+    #[cycle(walk)]
+    fn add_field(
+        &mut self,
+        alloc: Global,
+        above: Option<usize>,
+        field: &FieldSpec,
+    ) -> Result<(), AllocError>
+        requires { length self.old + count_in field.now ≤ MAX_FIELDS }
+        ensures arrays { OnOk result (self.new ≡ add_field field.now above self.old) }
+        ensures len { OnOk result (length self.new ≡ length self.old + count_in field.now) }
+    {
+        let place = self.arrays.len();
+        self.push(alloc, above, field)?;
+        self.add_fields(alloc, Some(place), field.children.as_slice())
+    }
+
+    // Adds the array of one field.
+    fn push(
+        &mut self,
+        alloc: Global,
+        above: Option<usize>,
+        field: &FieldSpec,
+    ) -> Result<(), AllocError>
+        requires { length self.old < MAX_FIELDS }
+        ensures { OnOk result (self.new ≡ self.old ++ array_behind self.old above (name_in field.now) (kind_in field.now) (dict_in field.now) ∷ []) }
+    {
+        let array = ArraySpec {
+            name: Name::from_slice(alloc, field.name.as_slice())?,
+            kind: field.kind,
+            dict: field.dict,
+            above,
+            node: self.arrays.len() as u16,
+            buffer: self.buffers,
+        };
+        self.arrays.push(array)?;
+        self.buffers += Layout::of(field.kind, field.dict).own_buffers() as u16;
+        Ok(())
+    }
+
+    pub fn len(&self) -> usize
+        ensures value { result ≡ length self.now }
+        ensures few { result ≤ MAX_FIELDS }
+    {
+        self.arrays.len()
+    }
+
+    pub fn is_empty(&self) -> bool
+        ensures { result ≡ (length self.now == 0) }
+    {
+        self.arrays.is_empty()
+    }
+
+    /// All of them.
+    pub fn as_slice(&self) -> &[ArraySpec]
+        ensures { result.now ≡ self.now }
+    {
+        &self.arrays
+    }
+
+    /// The array at a place of the list; `None` where there is no such array.
+    pub fn get(&self, place: usize) -> Option<&ArraySpec>
+        ensures { option_copied result ≡ slice_get self.now place }
+    {
+        self.arrays.get(place)
+    }
+
+    /// The names that lead to the array at a place, those of the structs above it first; none where
+    /// there is no such array.
+    pub fn path(&self, alloc: Global, place: usize) -> Result<Vec<&[u8]>, AllocError>
+        ensures { IfOk result (λ path. map (λ name. name.now) path.items ≡ path_of self.now place) }
+    {
+        let mut path = Vec::new(alloc);
+        push_path(&self.arrays, place, MAX_DEPTH, &mut path)?;
+        Ok(path)
+    }
+
+    /// Whether no array has a fault in the batch; else the first fault, as [`ArrayPlace::check`]
+    /// names it. Further nodes and buffers aren't looked at.
+    ///
+    /// [`ArrayPlace::check`]: crate::ArrayPlace::check
+    #[tactic(auto, using(crate::specs::Laws::none_have_faults, crate::specs::Laws::first_fault))]
+    pub fn check(&self, batch: &BatchView<'_>) -> Result<(), BufferFault>
+        ensures exact { result ≡ arrays_check batch.now self.now }
+        ensures none { OnOk result (HasNoFault batch.now self.now) }
+        ensures fault { IfErr result (HasFault batch.now self.now) }
+    {
+        check_each(&self.arrays, batch)
+    }
+
+    /// The bytes of a row's cell in the array at a place of the list, in a batch without a fault;
+    /// `None` where it is null, by its own bitmap or that of a struct above, or where there is no
+    /// such row or array. A bit is one byte, 0 or 1; a struct has no bytes. It takes constant time
+    /// and no memory.
+    pub fn cell<'v>(&self, batch: &BatchView<'v>, place: usize, row: u64) -> Option<&'v [u8]>
+        requires fine { IsOk (arrays_check batch.now self.now) }
+        ensures cell { option_copied result ≡ cell_of self.now batch.now place row }
+        ensures fits { IfSome (option_copied result) (FitsArray self.now place) }
+    {
+        cell_within(&self.arrays, batch, place, row, MAX_DEPTH)
+    }
+}
+
+fn check_each(arrays: &[ArraySpec], batch: &BatchView<'_>) -> Result<(), BufferFault>
+    ensures { result ≡ arrays_check batch.now arrays.now }
+{
+    for array in arrays {
+        array.place().check(batch)?;
+    }
+    Ok(())
+}
+
+fn array_at(arrays: &[ArraySpec], place: usize) -> Option<&ArraySpec>
+    ensures { option_copied result ≡ slice_get arrays.now place }
+{
+    arrays.get(place)
+}
+
+// Appends the names that lead to an array that stands so deep at most.
+#[tactic(auto, unfolding(crate::specs::Arrays::path_within))]
+fn push_path<'a>(
+    arrays: &'a [ArraySpec],
+    place: usize,
+    depth: u32,
+    path: &mut Vec<&'a [u8]>,
+) -> Result<(), AllocError>
+    ensures { OnOk result (map (λ name. name.now) path.new.items ≡ map (λ name. name.now) path.old.items ++ path_within depth arrays.now place) }
+{
+    if depth == 0 {
+        return Ok(());
+    }
+    let Some(array) = array_at(arrays, place) else {
+        return Ok(());
+    };
+    if let Some(above) = array.above {
+        push_path(arrays, above, depth - 1, path)?;
+    }
+    path.push(array.name.as_slice())?;
+    Ok(())
+}
+
+// The cell in an array that stands so deep at most.
+#[tactic(auto, using(crate::specs::Laws::check_at, crate::specs::Laws::cell_fits), unfolding(crate::specs::Arrays::cell_within))]
+fn cell_within<'v>(
+    arrays: &[ArraySpec],
+    batch: &BatchView<'v>,
+    place: usize,
+    row: u64,
+    depth: u32,
+) -> Option<&'v [u8]>
+    requires fine { IsOk (arrays_check batch.now arrays.now) }
+    ensures cell { option_copied result ≡ cell_within depth arrays.now batch.now place row }
+    ensures fits { IfSome (option_copied result) (FitsArray arrays.now place) }
+{
+    if depth == 0 {
+        return None;
+    }
+    let array = array_at(arrays, place)?;
+    if let Some(above) = array.above {
+        cell_within(arrays, batch, above, row, depth - 1)?;
+    }
+    array.place().cell(batch, row)
+}
