@@ -1,0 +1,66 @@
+-- Which column an array is, and where the array of a column stands.
+use Rattle.std.proofs.Common.{◌≡◌, ℕ, ◌+◌, ◌<◌, ◌≤◌, suc, zero, Bool, true, false, List, [], ◌∷◌, length, get_or, Option, Some, None, refl, ap, ◌∙◌, arith, add-one, ◌⊎◌, inl, inr}
+use Rattle.std.specs.List.{position_from, list_any, join_with_byte}
+use Rattle.std.specs.Str.{bytes_eq}
+use Rattle.std.proofs.lemmas.Bool.{cases_Bool, and_from}
+use Rattle.std.proofs.lemmas.List.FromFn.{length-map-range_with_len, get_or-map-range_with_len}
+use Rattle.arrow_buffers.specs.Below.{all_below}
+use Rattle.arrow_arrays.specs.declared.spec.ArraySpec.{ArraySpec}
+use Rattle.arrow_arrays.specs.Arrays.{path_of}
+use Rattle.otap_cells.specs.declared.payload.Kind.{Kind}
+use Rattle.otap_cells.specs.Columns.{ColumnSpec, columns_of, width_of, has_dot}
+use Rattle.otap_columns.specs.Known.{column_at, known_columns}
+
+-- a place that is found is one of the list, and passes
+pub record Found {X : Type 0} (p : X → Bool) (from : ℕ) (xs : List X) (place : ℕ) : Type 0 where
+  pub first : from ≤ place
+  pub below : place < from + length xs
+  pub passes : (i : ℕ) (d : X) → from + i ≡ place → p (get_or xs i d) ≡ true
+
+pub found : {X : Type 0} (p : X → Bool) (from : ℕ) (xs : List X) (place : ℕ) → position_from p from xs ≡ Some place → Found p from xs place
+found p from [] place is = absurd (cc)
+found {X} p from (x ∷ xs) place is = by_test (cases_Bool (p x)) (found p (from + 1) xs place)
+  where
+    by_test : (p x ≡ true) ⊎ (p x ≡ false) → (position_from p (from + 1) xs ≡ Some place → Found p (from + 1) xs place) → Found p from (x ∷ xs) place
+    by_test (inl good) rest =
+        let here : Some from ≡ Some place = rw good at is in
+        let same : from ≡ place = cc in
+        record { first = omega arith; below = omega arith; passes = λ i d at. let first : i ≡ 0 = omega arith in rw first good }
+    by_test (inr bad) rest =
+        let later : position_from p (from + 1) xs ≡ Some place = rw bad at is in
+        let f : Found p (from + 1) xs place = rest later in
+        record { first = omega (arith, f.first); below = omega (arith, f.below); passes = passes f }
+      where
+        passes : Found p (from + 1) xs place → (i : ℕ) (d : X) → from + i ≡ place → p (get_or (x ∷ xs) i d) ≡ true
+        passes f zero d at = absurd (omega (arith, f.first))
+        passes f (suc i) d at = f.passes i d (omega arith)
+
+-- a column that is found is one of the kind's
+pub column_at-below : (kind : Kind) (arrays : List ArraySpec) (place column : ℕ) → column_at kind arrays place ≡ Some column → column < width_of kind
+column_at-below kind arrays place column is = by_test (list_any has_dot (path_of arrays place)) refl
+  where
+    named : ColumnSpec → Bool
+    named c = bytes_eq (join_with_byte 46 (path_of arrays place)) c.name
+
+    by_test : (b : Bool) → list_any has_dot (path_of arrays place) ≡ b → column < width_of kind
+    by_test true dot = absurd (none (rw dot at is))
+      where
+        none : {A : Type 0} {x : A} → None ≡ Some x → ⊥
+        none h = cc
+    by_test false dot =
+        let f : Found named 0 (columns_of kind) column = found named 0 (columns_of kind) column (rw dot at is) in
+        omega (arith, f.below)
+
+-- the columns of the arrays
+pub known_len : (kind : Kind) (arrays : List ArraySpec) (known : List (Option ℕ)) → known ≡ known_columns kind arrays → length known ≡ length arrays
+unfolding known_columns
+known_len kind arrays known is = ap length is ∙ length-map-range_with_len (column_at kind arrays) 0 (length arrays)
+
+pub known_at : (kind : Kind) (arrays : List ArraySpec) (known : List (Option ℕ)) → known ≡ known_columns kind arrays → (place : ℕ) → place < length arrays → get_or known place None ≡ column_at kind arrays place
+unfolding known_columns
+known_at kind arrays known is place below =
+    ap (λ (k : List (Option ℕ)). get_or k place None) is ∙ get_or-map-range_with_len (column_at kind arrays) 0 (length arrays) place place None below (omega arith)
+
+-- a test of one more place
+pub all_below-one_more : (test : ℕ → Bool) (n : ℕ) → all_below test n ≡ true → test n ≡ true → all_below test (n + 1) ≡ true
+all_below-one_more test n before here = rw add-one (and_from (all_below test n) (test n) before here)

@@ -1,0 +1,12 @@
+pub mod Openings
+pub mod Finding
+pub mod Showing
+pub mod Tabled
+pub mod Placed
+pub mod Lying
+pub mod Appending
+pub mod Giving
+pub mod Bringing
+pub mod Growing
+pub mod Judging
+pub mod Excluding

@@ -1,0 +1,60 @@
+-- What one more payload does to the sub-stream of a type.
+use Rattle.std.proofs.Common.{◌≡◌, Bool, true, false, List, [], ◌∷◌, ◌++◌, Option, Some, None, ℤ, if◌then◌else◌, refl, ap, ◌∙◌, append-nil}
+use Rattle.std.specs.List.{flat_map}
+use Rattle.std.proofs.lemmas.Grind.{flat_map-append}
+use Rattle.std.proofs.lemmas.List.Elements.{filter-append}
+use Rattle.std.proofs.lemmas.Cmp.{int_eq_equiv}
+use Rattle.histories.specs.Since.{since}
+use Rattle.histories.proofs.Latest.{since-append}
+use Rattle.arrow_ipc.specs.declared.messages.IpcMessage.{IpcMessage}
+use Rattle.arrow_ipc.specs.Fronts.{front_of}
+use Rattle.otap_columns.specs.Streams.{PayloadIn, is_of, of_type, last_after, last_of, opens_after, open_id, marked_after, stream_of}
+
+-- a payload of another type is passed over
+of_type-other : (kind : ℤ) (ps : List PayloadIn) (p : PayloadIn) → is_of kind p ≡ false → of_type kind (ps ++ p ∷ []) ≡ of_type kind ps
+of_type-other kind ps p other = filter-append (is_of kind) ps (p ∷ []) ∙ rw other (append-nil (of_type kind ps))
+
+of_type-own : (kind : ℤ) (ps : List PayloadIn) (p : PayloadIn) → is_of kind p ≡ true → of_type kind (ps ++ p ∷ []) ≡ of_type kind ps ++ p ∷ []
+of_type-own kind ps p own = filter-append (is_of kind) ps (p ∷ []) ∙ rw own refl
+
+last_after-push : {A : Type 0} (last : Option A) (xs : List A) (x : A) → last_after last (xs ++ x ∷ []) ≡ Some x
+last_after-push last [] x = refl
+last_after-push last (y ∷ ys) x = last_after-push (Some y) ys x
+
+marked_after-push : (last : Option PayloadIn) (ps : List PayloadIn) (p : PayloadIn)
+    → marked_after last (ps ++ p ∷ []) ≡ marked_after last ps ++ (opens_after (last_after last ps) p, p) ∷ []
+marked_after-push last [] p = refl
+marked_after-push last (q ∷ ps) p = ap (λ ms. (opens_after last q, q) ∷ ms) (marked_after-push (Some q) ps p)
+
+pub stream_of-other : (kind : ℤ) (ps : List PayloadIn) (p : PayloadIn) → is_of kind p ≡ false → stream_of kind (ps ++ p ∷ []) ≡ stream_of kind ps
+unfolding stream_of
+stream_of-other kind ps p other = rw (of_type-other kind ps p other) refl
+
+pub open_id-other : (kind : ℤ) (ps : List PayloadIn) (p : PayloadIn) → is_of kind p ≡ false → open_id kind (ps ++ p ∷ []) ≡ open_id kind ps
+unfolding open_id
+open_id-other kind ps p other = rw (of_type-other kind ps p other) refl
+
+pub open_id-own : (kind : ℤ) (ps : List PayloadIn) (p : PayloadIn) → is_of kind p ≡ true → open_id kind (ps ++ p ∷ []) ≡ Some p.schema_id
+unfolding open_id
+open_id-own kind ps p own = rw (of_type-own kind ps p own, last_after-push None (of_type kind ps) p) refl
+
+-- the messages behind a mark
+messages_in : Bool × PayloadIn → List IpcMessage
+messages_in m = front_of m.1.bytes
+
+-- the messages of marked payloads with one more
+stream_from : (ms : List (Bool × PayloadIn)) (b : Bool) (p : PayloadIn)
+    → flat_map (λ m. front_of m.1.bytes) (since (λ m. m.0) (ms ++ (b, p) ∷ [])) ≡ (if b then front_of p.bytes else flat_map (λ m. front_of m.1.bytes) (since (λ m. m.0) ms) ++ front_of p.bytes)
+stream_from ms true p = rw (since-append (λ (m : Bool × PayloadIn). m.0) ms ((true, p) ∷ [])) (append-nil (front_of p.bytes))
+stream_from ms false p =
+    rw (since-append (λ (m : Bool × PayloadIn). m.0) ms ((false, p) ∷ []), flat_map-append (λ (m : Bool × PayloadIn). front_of m.1.bytes) (since (λ m. m.0) ms) ((false, p) ∷ []), append-nil (front_of p.bytes)) refl
+
+pub stream_of-own : (kind : ℤ) (ps : List PayloadIn) (p : PayloadIn) → is_of kind p ≡ true
+    → stream_of kind (ps ++ p ∷ []) ≡ (if opens_after (last_of kind ps) p then front_of p.bytes else stream_of kind ps ++ front_of p.bytes)
+unfolding stream_of
+stream_of-own kind ps p own =
+    rw (of_type-own kind ps p own, marked_after-push None (of_type kind ps) p) (stream_from (marked_after None (of_type kind ps)) (opens_after (last_of kind ps) p) p)
+
+-- a payload is of its own type
+pub own_type : (p : PayloadIn) → is_of p.kind p ≡ true
+own_type p = int_eq_equiv.refl p.kind

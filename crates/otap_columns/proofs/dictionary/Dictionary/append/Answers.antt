@@ -1,0 +1,33 @@
+use Rattle.std.proofs.Common.{◌≡◌, ◌++◌, length, ap, ◌∙◌, arith, length-append}
+use Rattle.std.specs.Prelude.{map}
+use Rattle.std.specs.List.{range_with_len}
+use Rattle.std.proofs.lemmas.List.FromFn.{length-map-range_with_len}
+use Rattle.arrow_arrays.specs.Cells.{own_cell}
+use Rattle.otap_columns.specs.Dictionaries.{DictionaryIn, values_of}
+use Rattle.otap_columns.proofs.Appending.{one_more_value, fits_one_more}
+use Rattle.otap_columns.proofs.dictionary.Dictionary.append.Goals as goal
+
+pub push-requires : goal.push-requires
+push-requires c =
+    omega (
+      arith,
+      ap (λ (d : DictionaryIn). length d.values) c.rows.invariant.values,
+      length-append c.args.self.now.values (map (own_cell c.args.batch.now c.args.array) (range_with_len 0 c.rows.row)),
+      length-map-range_with_len (own_cell c.args.batch.now c.args.array) 0 c.rows.row,
+    )
+
+pub rows-preserved : goal.rows-preserved
+rows-preserved c = record {
+  values = one_more_value c.args.batch.now c.args.array c.args.self.now c.rows.self c.push.new.self _ c.rows.row c.rows.invariant.values c.cell.ensures.cell c.in_ok-push.ensures.ok;
+  fits = λ old. fits_one_more c.args.self.now c.rows.self c.push.new.self _ c.args.array (ap (λ (d : DictionaryIn). d.kind) c.rows.invariant.values) c.requires.array c.in_ok-push.ensures.ok c.cell.ensures.fits (c.rows.invariant.fits old);
+}
+
+pub returns-clause-ok : goal.returns-clause-ok
+unfolding values_of
+returns-clause-ok c =
+    let end : c.rows.row ≡ c.args.batch.now.rows = omega arith in
+    c.rows.invariant.values ∙ (λ i. record {
+      id = c.args.self.now.id;
+      kind = c.args.self.now.kind;
+      values = c.args.self.now.values ++ map (own_cell c.args.batch.now (c.requires.array i)) (range_with_len 0 (end i));
+    })

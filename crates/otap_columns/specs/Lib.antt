@@ -1,0 +1,13 @@
+pub mod Streams
+pub mod Faults
+pub mod Dictionaries
+pub mod Known
+pub mod Substreams
+pub mod Records
+pub mod Steps
+pub mod Views
+pub mod Reading
+pub mod Parts
+pub mod Inside
+pub mod ReaderInside
+pub mod RowsInside

@@ -1,0 +1,53 @@
+//! Cells by the bytes that they are stored in, the lowest byte of a number first (Arrow columnar format, "Fixed-size
+//! primitive layout").
+
+ghost use Rattle.std.specs.Prelude.{◌≡◌, ◌⊎◌, length};
+ghost use Rattle.std.specs.Option.{ForSome, option_copied};
+ghost use Rattle.byteorder.specs.Endian.{little_number};
+ghost use Rattle.otap_cells.specs.Cells.{seen};
+ghost use Rattle.otap_columns.specs.Known.{FitsBase, stored, stored_cell};
+
+use byteorder::{ByteOrder, LittleEndian};
+use otap_cells::{Base, CellView};
+
+/// The cell of a base that is stored in these bytes; null where there are none.
+#[tactic(auto, unfolding(crate::specs::Known::stored_cell))]
+pub(crate) fn cell(base: Base, value: Option<&[u8]>) -> CellView<'_>
+    requires { ForSome (option_copied value) (FitsBase base) }
+    ensures { seen result ≡ stored_cell base (option_copied value.entry) }
+{
+    match value {
+        None => CellView::Null,
+        Some(value) => stored(base, value),
+    }
+}
+
+fn stored(base: Base, value: &[u8]) -> CellView<'_>
+    requires { FitsBase base value.now }
+    ensures { seen result ≡ stored base value.now }
+{
+    match base {
+        Base::U8 => CellView::Num(i64::from(value[0])),
+        Base::U16 => CellView::Num(i64::from(LittleEndian::read_u16(value))),
+        Base::U32 => CellView::Num(i64::from(LittleEndian::read_u32(value))),
+        Base::I32 => CellView::Num(i64::from(LittleEndian::read_i32(value))),
+        Base::I64 => CellView::Num(LittleEndian::read_i64(value)),
+        Base::Double | Base::Timestamp | Base::Duration => {
+            CellView::Bits(LittleEndian::read_u64(value))
+        }
+        Base::Bool => CellView::Flag(value[0] == 1),
+        Base::Utf8 | Base::Binary | Base::Fixed16 | Base::Fixed8 => CellView::Bytes(value),
+    }
+}
+
+/// The index that one byte or two hold.
+pub(crate) fn index(value: &[u8]) -> usize
+    requires { length value.now ≡ 1 ⊎ length value.now ≡ 2 }
+    ensures { result ≡ little_number (length value.now) value.now }
+{
+    if value.len() == 2 {
+        usize::from(LittleEndian::read_u16(value))
+    } else {
+        usize::from(value[0])
+    }
+}

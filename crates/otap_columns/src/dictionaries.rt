@@ -1,0 +1,124 @@
+//! The dictionaries of a sub-stream. A schema has few, so each look goes over all of them.
+
+ghost use Rattle.std.specs.Prelude.{◌≡◌, ◌+◌, ◌<◌, ◌≤◌, ◌^◌, ◌*◌, All, length, vec_len, find, OnOk, IfOk, IfErr};
+ghost use Rattle.std.specs.List.{list_any};
+ghost use Rattle.std.specs.Option.{ForSome, option_copied};
+ghost use Rattle.otap_columns.specs.Dictionaries.{has_id, is_for, with_dictionary, empty_dictionaries, all_grown, held_weight, values_for};
+ghost use Rattle.otap_columns.specs.Substreams.{value_at, IsIndexSize};
+ghost use Rattle.otap_columns.specs.Steps.{FitsIn, RefusesBatch, TakesBatchOf};
+
+use crate::cells::index;
+use crate::dictionary::Dictionary;
+use crate::refusal::ColumnRefusal;
+use arrow_arrays::{ArraySpec, Arrays};
+use arrow_ipc::BatchView;
+use arrow_schema::ArrowType;
+use std::alloc::{AllocError, Global};
+
+/// The dictionaries of arrays, each once, without values.
+#[tactic(auto, unfolding(crate::specs::Dictionaries::empty_dictionaries))]
+pub(crate) fn empty(alloc: Global, arrays: &Arrays) -> Result<Vec<Dictionary>, AllocError>
+    ensures value { IfOk result (λ dictionaries. dictionaries.items ≡ empty_dictionaries arrays.now) }
+    ensures few { IfOk result (λ dictionaries. vec_len dictionaries ≤ length arrays.now) }
+{
+    let mut dictionaries = Vec::new(alloc);
+    'arrays: for array in arrays.as_slice() {
+        add(alloc, &mut dictionaries, array)?;
+    }
+    Ok(dictionaries)
+}
+
+// Adds the dictionary of an array, unless there is none, or it is there.
+fn add(
+    alloc: Global,
+    dictionaries: &mut Vec<Dictionary>,
+    array: &ArraySpec,
+) -> Result<(), AllocError>
+    ensures value { OnOk result (dictionaries.new.items ≡ with_dictionary dictionaries.old.items array.now.kind array.now.dict) }
+    ensures few { OnOk result (vec_len dictionaries.new ≤ vec_len dictionaries.old + 1) }
+{
+    let Some(dict) = array.dict else {
+        return Ok(());
+    };
+    if is_there(dictionaries, array.kind, dict.id) {
+        return Ok(());
+    }
+    dictionaries.push(Dictionary::new(alloc, dict.id, array.kind))?;
+    Ok(())
+}
+
+fn is_there(dictionaries: &[Dictionary], kind: ArrowType, id: i64) -> bool
+    ensures { result ≡ list_any (is_for kind id) dictionaries.now }
+{
+    dictionaries.iter().any(|d| d.is_for(kind, id))
+}
+
+fn is_known(dictionaries: &[Dictionary], id: i64) -> bool
+    ensures { result ≡ list_any (has_id id) dictionaries.now }
+{
+    dictionaries.iter().any(|d| d.has_id(id))
+}
+
+/// Takes a dictionary batch.
+pub(crate) fn take(
+    dictionaries: &mut [Dictionary],
+    id: i64,
+    delta: bool,
+    batch: &BatchView<'_>,
+) -> Result<(), ColumnRefusal>
+    ensures ok { OnOk result (dictionaries.new ≡ all_grown id delta batch.now dictionaries.old) }
+    ensures fits { All FitsIn dictionaries.old → All FitsIn dictionaries.new }
+    ensures fine { OnOk result (TakesBatchOf id delta batch.now dictionaries.old) }
+    ensures err { IfErr result (RefusesBatch id delta batch.now dictionaries.old) }
+{
+    if !is_known(dictionaries, id) {
+        return Err(ColumnRefusal::Order);
+    }
+    'dictionaries: for dictionary in dictionaries.iter_mut() {
+        dictionary.take_if(id, delta, batch)?;
+    }
+    Ok(())
+}
+
+/// What the dictionaries hold.
+pub(crate) fn held(dictionaries: &[Dictionary]) -> u64
+    requires { length dictionaries.now ≤ 128 }
+    ensures value { result ≡ held_weight dictionaries.now }
+    ensures few { result ≤ 128 * 2 ^ 50 }
+{
+    let mut held = 0;
+    'dictionaries: for dictionary in dictionaries {
+        held += dictionary.weight();
+    }
+    held
+}
+
+/// How many values the dictionary of a field has.
+pub(crate) fn count_for(dictionaries: &[Dictionary], kind: ArrowType, id: i64) -> usize
+    ensures { result ≡ length (values_for kind id dictionaries.now) }
+{
+    match find(dictionaries, kind, id) {
+        None => 0,
+        Some(dictionary) => dictionary.len(),
+    }
+}
+
+/// The value at the index that a field's cell holds; `None` where the cell or the value is null, or there is no value.
+pub(crate) fn value_for<'v>(
+    dictionaries: &'v [Dictionary],
+    kind: ArrowType,
+    id: i64,
+    cell: Option<&[u8]>,
+) -> Option<&'v [u8]>
+    requires { ForSome (option_copied cell) IsIndexSize }
+    ensures { option_copied result ≡ value_at (values_for kind id dictionaries.now) (option_copied cell.entry) }
+{
+    let place = index(cell?);
+    find(dictionaries, kind, id)?.value(place)
+}
+
+fn find(dictionaries: &[Dictionary], kind: ArrowType, id: i64) -> Option<&Dictionary>
+    ensures { option_copied result ≡ find (is_for kind id) dictionaries.now }
+{
+    dictionaries.iter().find(|d| d.is_for(kind, id))
+}

@@ -1,0 +1,22 @@
+//! Sub-streams: the schema and the dictionaries that a sub-stream has after its records, and the tables that its record
+//! batches stand for.
+#![tactic(auto)]
+
+mod cells;
+mod dictionaries;
+mod dictionary;
+mod indexes;
+mod known;
+pub mod laws;
+mod messages;
+mod part;
+mod reader;
+mod refusal;
+#[cfg(test)]
+mod tests;
+mod view;
+
+pub use dictionary::MAX_VALUES;
+pub use reader::Reader;
+pub use refusal::ColumnRefusal;
+pub use view::RowsView;
