@@ -1,0 +1,13 @@
+pub mod Lists
+pub mod FrontMore
+pub mod KindNumbers
+pub mod Substreams
+pub mod StreamSteps
+pub mod IdSteps
+pub mod RecordSteps
+pub mod ViewSteps
+pub mod PayloadViews
+pub mod SizeSteps
+pub mod SegmentSteps
+pub mod Stages
+pub mod Excluding

@@ -1,0 +1,74 @@
+-- What a batch weighs and holds as a whole.
+use Rattle.std.proofs.Common.{◌≡◌, ℕ, ◌*◌, ◌^◌, ◌<◌, ◌≤◌, min, List, [], ◌∷◌, length, get_or, Option, Some, None, ℤ, refl, sym, ap, ◌∙◌, arith}
+use Rattle.std.specs.Prelude.{sum_by}
+use Rattle.std.proofs.lemmas.List.Sums.{sum_by-cons}
+use Rattle.otlp_model.specs.declared.request.Signal.{Signal}
+use Rattle.otap_capture.specs.Batch.{PayloadContent}
+use Rattle.otap_cells.specs.declared.payload.Kind.{Kind}
+use Rattle.otap_cells.specs.Cells.{Cell}
+use Rattle.otap_cells.specs.Payload.{kinds_of}
+use Rattle.otap_cells.specs.Tables.{Table}
+use Rattle.otap_cells.specs.Weights.{weight_of_row, weight_of_table, weight_of_tables}
+use Rattle.otap_columns.specs.Streams.{PayloadIn, last_after, of_type, stream_of}
+use Rattle.otap_columns.specs.Substreams.{held_in, substream_in}
+use Rattle.otap_consume.specs.Defects.{held_after}
+use Rattle.otap_consume.specs.Payloads.{parts_of, type_of, last_in, messages_in}
+use Rattle.otap_consume.specs.Records.{kinds_in}
+use Rattle.otap_consume.specs.Sizes.{count_of_rows}
+use Rattle.otap_consume.specs.Streams.{OpenIn, StreamIn, IsOpenAfter, AreAfter, held_if, held_of}
+use Rattle.otap_consume.proofs.Lists.{sum_same, sum_map}
+
+rows_weigh : (rows : List (List Cell)) → 32 * length rows ≤ sum_by weight_of_row rows
+rows_weigh [] = omega arith
+rows_weigh (row ∷ rows) = omega (arith, sum_by-cons weight_of_row row rows, rows_weigh rows)
+
+tables_weigh : (tables : List Table) → 32 * count_of_rows tables ≤ weight_of_tables tables
+tables_weigh [] = omega arith
+tables_weigh (table ∷ tables) =
+    omega (
+      arith,
+      sum_by-cons (λ (t : Table). length t.rows) table tables,
+      sum_by-cons weight_of_table table tables,
+      rows_weigh table.rows,
+      tables_weigh tables,
+    )
+
+-- the number of rows alone is too heavy
+pub too_many_rows : (tables : List Table) (count : ℕ) → count ≡ min (count_of_rows tables) (2 ^ 63) → 2097152 < count → 67108864 < weight_of_tables tables
+too_many_rows tables count is many = omega (arith, tables_weigh tables)
+
+-- ---- what is held
+
+last_after-some : {A : Type 0} (x : A) (xs : List A) → (y : A) × (last_after (Some x) xs ≡ Some y)
+last_after-some x [] = (x, refl)
+last_after-some x (y ∷ ys) = last_after-some y ys
+
+none_from : {A : Type 0} (xs : List A) → last_after None xs ≡ None → xs ≡ []
+none_from [] none = refl
+none_from {A} (x ∷ xs) none = let some : (y : A) × (last_after (Some x) xs ≡ Some y) = last_after-some x xs in absurd (cc (none, some.1))
+
+-- no message is in the sub-stream of a type of which no payload went before
+no_messages : (type : ℤ) (payloads : List PayloadContent) → last_in type payloads ≡ None → messages_in type payloads ≡ []
+unfolding stream_of
+no_messages type payloads none = rw (none_from (of_type type (parts_of payloads)) none) refl
+
+held_nothing : held_in [] ≡ 0
+unfolding held_in substream_in
+held_nothing = refl
+
+held_at : (payloads : List PayloadContent) (kind : Kind) (last : Option PayloadIn) (current : Option OpenIn) → last_in (type_of kind) payloads ≡ last
+    → IsOpenAfter payloads kind last current → held_if current ≡ held_in (messages_in (type_of kind) payloads)
+unfolding held_in
+held_at payloads kind None None is h = sym (ap held_in (no_messages (type_of kind) payloads is) ∙ held_nothing)
+held_at payloads kind None (Some current) is h = absurd h
+held_at payloads kind (Some last) None is h = absurd h
+held_at payloads kind (Some last) (Some current) is h = rw h.stands.stands refl
+
+pub held_are : (signal : Signal) (payloads : List PayloadContent) (streams : List StreamIn) → kinds_in streams ≡ kinds_of signal → AreAfter payloads streams
+    → sum_by held_of streams ≡ held_after signal payloads
+unfolding held_after
+held_are signal payloads streams same are =
+    let held : Kind → ℕ = λ kind. held_in (messages_in (type_of kind) payloads) in
+    sum_same held_of (λ (s : StreamIn). held s.kind) streams
+    (λ k d inside. held_at payloads (get_or streams k d).kind (last_in (type_of (get_or streams k d).kind) payloads) (get_or streams k d).current refl (are k d inside).current)
+    ∙ sym (sum_map held (λ (s : StreamIn). s.kind) streams) ∙ ap (sum_by held) same

@@ -1,0 +1,77 @@
+-- The stages of a batch, one after the other.
+use Rattle.std.proofs.Common.{◌≡◌, ℕ, false, List, ◌++◌, Option, Some, ℤ, Result, Ok, Err, IfOk, IfErr, sym, ◌∙◌, subst}
+use Rattle.otlp_model.specs.declared.request.Signal.{Signal}
+use Rattle.otap_capture.specs.Batch.{PayloadContent}
+use Rattle.otap_cells.specs.Payload.{kinds_of}
+use Rattle.otap_consume.specs.declared.payload_types.TypesRefusal.{TypesRefusal}
+use Rattle.otap_consume.specs.declared.payload_types.TypesRefusal.TheVariants as types
+use Rattle.otap_consume.specs.declared.refusal.Cause.{Cause}
+use Rattle.otap_consume.specs.declared.refusal.Cause.TheVariants.{PayloadType, PayloadTwice, Column}
+use Rattle.otap_consume.specs.declared.stop.Stop.{Stop}
+use Rattle.otap_consume.specs.declared.stop.Stop.TheVariants.{Defect, Memory}
+use Rattle.otap_consume.specs.Defects.{HasFineList, HasFineRecords, StandsInList, Refuses, is_taken}
+use Rattle.otap_consume.specs.Ids.{ids_of, ids_after}
+use Rattle.otap_consume.specs.Payloads.{EachBehind}
+use Rattle.otap_consume.specs.PayloadTypes.{HasFineTypes, StandsInTypes}
+use Rattle.otap_consume.specs.Records.{TakesAll, kinds_in}
+use Rattle.otap_consume.specs.Segments.{CanShow}
+use Rattle.otap_consume.specs.Stops.{Stops, IsOfRecord, stop_of_types}
+use Rattle.otap_consume.specs.Streams.{StreamIn, AreAfter}
+use Rattle.otap_consume.specs.Taking.{Weighs, StopsBySize, AcceptsBehind}
+use Rattle.otap_consume.proofs.IdSteps.{ids_are}
+
+-- the words of `check_ids` about ids that are free, and about one that is taken
+abbrev pub FreeIds : List StreamIn → List PayloadContent → Type 0
+FreeIds streams payloads = (signal : Signal) (past : List PayloadContent) → ids_of streams ≡ ids_after signal past → EachBehind (λ before p. is_taken signal before p ≡ false) past payloads
+
+pub by_types : (signal : Signal) (past payloads : List PayloadContent) (why : TypesRefusal) → StandsInTypes signal payloads why → Stops (Refuses signal past payloads) (stop_of_types why)
+by_types signal past payloads (types.PayloadType kind) stands = Refuses.by_list PayloadType (Some kind) stands
+by_types signal past payloads (types.PayloadTwice kind) stands = Refuses.by_list PayloadTwice (Some kind) stands
+
+pub by_ids : (signal : Signal) (past payloads : List PayloadContent) (stop : Stop) → Stops (StandsInList signal past payloads) stop → Stops (Refuses signal past payloads) stop
+by_ids signal past payloads (Defect cause payload) stands = Refuses.by_list cause payload stands
+by_ids signal past payloads (Memory e) stands = tt
+
+of_record : (signal : Signal) (past payloads : List PayloadContent) (cause : Cause) (payload : Option ℤ) → HasFineList signal past payloads
+    → IsOfRecord signal past payloads cause payload → Refuses signal past payloads cause payload
+of_record signal past payloads (Column refusal) payload list stands = Refuses.by_record refusal payload list stands
+of_record signal past payloads _ payload list stands = absurd stands
+
+pub by_records : (signal : Signal) (past payloads : List PayloadContent) (stop : Stop) → HasFineList signal past payloads → Stops (IsOfRecord signal past payloads) stop
+    → Stops (Refuses signal past payloads) stop
+by_records signal past payloads (Defect cause payload) list stands = of_record signal past payloads cause payload list stands
+by_records signal past payloads (Memory e) list stands = tt
+
+by_size : (signal : Signal) (past payloads : List PayloadContent) (stop : Stop) → HasFineList signal past payloads → HasFineRecords signal past payloads
+    → StopsBySize signal past payloads stop → Stops (Refuses signal past payloads) stop
+by_size signal past payloads (Defect cause payload) list records stands =
+    subst (λ (named : Option ℤ). Refuses signal past payloads cause named) (sym stands.0) (Refuses.by_size cause list records stands.1)
+by_size signal past payloads (Memory e) list records stands = tt
+
+module _ (signal : Signal) (payloads : List PayloadContent) (old : List StreamIn) (kinds : kinds_in old ≡ kinds_of signal) (types : HasFineTypes signal payloads)
+    (free : FreeIds old payloads) where
+  -- the list of payloads is fine behind what the streams stand for
+  pub fine_list : (past : List PayloadContent) → AreAfter past old → HasFineList signal past payloads
+  fine_list past are = record { types = types; ids = free signal past (ids_are signal past old kinds are) }
+
+  module _ (new : List StreamIn) (takes : TakesAll old payloads new) where
+    pub can_show : CanShow new payloads
+    can_show = record { signal = signal; kinds = takes.kinds ∙ kinds; types = types; shows = takes.shows }
+
+    pub accepts_if : (r : Result ℕ Stop) → IfOk r (λ rows. (past : List PayloadContent) → AreAfter (past ++ payloads) new → Weighs signal past payloads rows)
+        → IfOk r (λ rows. (past : List PayloadContent) → AreAfter past old → AcceptsBehind signal past payloads new rows)
+    accepts_if (Ok rows) weighs = λ past are.
+        let after : AreAfter (past ++ payloads) new = takes.after past are in
+        let w : Weighs signal past payloads rows = weighs past after in
+        record {
+          accepts = record { list = fine_list past are; records = takes.reads signal past kinds are; size = w.within };
+          after = after;
+          rows = w.rows;
+        }
+    accepts_if (Err stop) weighs = tt
+
+    pub refuses_if : (r : Result ℕ Stop) → IfErr r (λ stop. (past : List PayloadContent) → AreAfter (past ++ payloads) new → StopsBySize signal past payloads stop)
+        → IfErr r (λ stop. (past : List PayloadContent) → AreAfter past old → Stops (Refuses signal past payloads) stop)
+    refuses_if (Ok rows) stops = tt
+    refuses_if (Err stop) stops = λ past are.
+        by_size signal past payloads stop (fine_list past are) (takes.reads signal past kinds are) (stops past (takes.after past are))

@@ -1,0 +1,7 @@
+use Rattle.std.proofs.Common.{◌≡◌, ◌^◌, min, take}
+use Rattle.otap_cells.specs.Sets.{tables_in}
+use Rattle.otap_consume.specs.Sizes.{count_of_rows}
+use Rattle.otap_consume.proofs.sizes.count_rows.Given as goal
+
+abbrev pub invariant-tables : goal.invariant-tables
+invariant-tables g l = l.total ≡ min (count_of_rows (tables_in g.R.Rows.table (take l.rows-index l.set.tables.items))) (2 ^ 63)

@@ -1,0 +1,15 @@
+pub mod Payloads
+pub mod PayloadTypes
+pub mod Defects
+pub mod Outcomes
+pub mod Streams
+pub mod StreamInside
+pub mod Stops
+pub mod Ids
+pub mod IdsInside
+pub mod Records
+pub mod Views
+pub mod Sizes
+pub mod Segments
+pub mod SegmentInside
+pub mod Taking

@@ -1,0 +1,90 @@
+-- A segment: the sub-streams that are open, or that an earlier frame was refused.
+use Rattle.std.specs.Prelude.{◌≡◌, ⊤, ℕ, Bool, false, List, [], ◌∷◌, ◌++◌, length, All}
+use Rattle.otlp_model.specs.declared.request.Signal.{Signal}
+use Rattle.otap_capture.specs.Batch.{BatchContent, PayloadContent, ReadsBatch}
+use Rattle.otap_capture.specs.Capture.{Frame, Message}
+use Rattle.otap_cells.specs.declared.payload.Kind.{Kind}
+use Rattle.otap_cells.specs.Payload.{kinds_of}
+use Rattle.otap_cells.specs.Sets.{IsSet, tables_in}
+use Rattle.otap_cells.specs.Tables.{Table}
+use Rattle.otap_cells.specs.Weights.{weight_of_tables}
+use Rattle.otap_consume.specs.declared.seen.Seen.{Seen}
+use Rattle.otap_consume.specs.declared.seen.Seen.TheVariants as seen
+use Rattle.otap_consume.specs.Defects.{tables_of}
+use Rattle.otap_consume.specs.Outcomes.{Outcome, Accepted, Refused, Reset, OutcomeAfter, is_broken, payloads_after}
+use Rattle.otap_consume.specs.PayloadTypes.{HasFineTypes}
+use Rattle.otap_consume.specs.Records.{ShowsAfter, kinds_in}
+use Rattle.otap_consume.specs.Streams.{StreamIn, AreAfter}
+
+pub record SegmentIn : Type 0 where
+  pub signal : Signal
+  pub broken : Bool
+  pub streams : List StreamIn
+
+-- THE SEGMENT STANDS FOR FRAMES with these outcomes: a frame since the latest reset was refused, or its streams are those
+-- after the payloads that were accepted since
+pub record StandsFor (signal : Signal) (outcomes : List Outcome) (s : SegmentIn) : Type 0 where
+  pub same : s.signal ≡ signal
+  pub broken : s.broken ≡ is_broken outcomes
+  pub streams : s.broken ≡ false → AreAfter (payloads_after outcomes) s.streams
+
+-- what is answered tells an outcome: of a batch its id and its row weight
+abbrev pub Tells : Outcome → Seen → Type 0
+Tells (Accepted batch tables) (seen.Batch id rows) = (id ≡ batch.id) × (rows ≡ weight_of_tables tables)
+Tells (Refused refusal) (seen.Refused told) = told ≡ refusal
+Tells Reset seen.Reset = ⊤
+Tells outcome answer = ⊥
+
+-- the next frame gives an outcome, which is told, and the segment stands for one frame more
+pub record HasNext (signal : Signal) (outcomes : List Outcome) (frame : Frame) (answer : Seen) (new : SegmentIn) : Type 0 where
+  pub outcome : Outcome
+  pub gives : OutcomeAfter signal outcomes frame outcome
+  pub tells : Tells outcome answer
+  pub stands : StandsFor signal (outcomes ++ outcome ∷ []) new
+
+pub record Next (old : SegmentIn) (frame : Frame) (new : SegmentIn) (answer : Seen) : Type 0 where
+  pub at : (signal : Signal) (outcomes : List Outcome) → StandsFor signal outcomes old → HasNext signal outcomes frame answer new
+
+-- the same for a message that says this batch
+pub record NextBatch (old : SegmentIn) (batch : BatchContent) (new : SegmentIn) (answer : Seen) : Type 0 where
+  pub at : (bytes : List ℕ) → ReadsBatch bytes batch → Next old (Message bytes) new answer
+
+-- the streams show the records of these payloads: of each type there is one, and it was taken last
+pub record CanShow (streams : List StreamIn) (payloads : List PayloadContent) : Type 0 where
+  pub signal : Signal
+  pub kinds : kinds_in streams ≡ kinds_of signal
+  pub types : HasFineTypes signal payloads
+  pub shows : All (ShowsAfter payloads) streams
+
+-- the message is a batch, and the segment shows it
+pub record HasTaken (bytes : List ℕ) (s : SegmentIn) : Type 0 where
+  pub batch : BatchContent
+  pub reads : ReadsBatch bytes batch
+  pub whole : s.broken ≡ false
+  pub shows : CanShow s.streams batch.payloads
+
+abbrev pub IsTaken : Frame → SegmentIn → Type 0
+IsTaken (Message bytes) s = HasTaken bytes s
+IsTaken frame s = ⊥
+
+-- where a batch is answered, it is taken
+abbrev pub TakesIf : Frame → SegmentIn → Seen → Type 0
+TakesIf frame s (seen.Batch id rows) = IsTaken frame s
+TakesIf frame s answer = ⊤
+
+abbrev pub ShowsIf : List PayloadContent → SegmentIn → Seen → Type 0
+ShowsIf payloads s (seen.Batch id rows) = (s.broken ≡ false) × CanShow s.streams payloads
+ShowsIf payloads s answer = ⊤
+
+-- the tables of the payloads that were taken last, each beside its kind: wherever these are those of the last batch
+pub record TablesOf (s : SegmentIn) (payloads : List PayloadContent) (views : List (Kind × Table)) : Type 0 where
+  pub set : IsSet (λ table. table) views
+  pub long : length views ≡ length payloads
+  pub tables : (signal : Signal) (outcomes : List Outcome) (batch : BatchContent) (before : List Table) → batch.payloads ≡ payloads
+      → StandsFor signal (outcomes ++ Accepted batch before ∷ []) s → tables_in (λ table. table) views ≡ tables_of signal (payloads_after outcomes) payloads
+
+-- a segment in which no frame stands
+pub record IsNew (signal : Signal) (s : SegmentIn) : Type 0 where
+  pub same : s.signal ≡ signal
+  pub whole : s.broken ≡ false
+  pub empty : AreAfter [] s.streams

@@ -1,0 +1,37 @@
+-- The answers of the stages, in the words of private contracts.
+use Rattle.std.specs.Prelude.{◌≡◌, ⊤, ℤ, List, None, Some, Option}
+use Rattle.otlp_model.specs.declared.request.Signal.{Signal}
+use Rattle.otap_capture.specs.Batch.{PayloadContent}
+use Rattle.otap_columns.specs.declared.refusal.ColumnRefusal.{ColumnRefusal}
+use Rattle.otap_columns.specs.declared.refusal.ColumnRefusal.TheVariants as refusal
+use Rattle.otap_consume.specs.declared.refusal.Cause.{Cause}
+use Rattle.otap_consume.specs.declared.refusal.Cause.TheVariants.{Column}
+use Rattle.otap_consume.specs.declared.refusal.Cause.TheVariants as cause
+use Rattle.otap_consume.specs.declared.payload_types.TypesRefusal.{TypesRefusal}
+use Rattle.otap_consume.specs.declared.payload_types.TypesRefusal.TheVariants.{PayloadType, PayloadTwice}
+use Rattle.otap_consume.specs.declared.stop.Stop.{Stop}
+use Rattle.otap_consume.specs.declared.stop.Stop.TheVariants.{Defect, Memory}
+use Rattle.otap_consume.specs.Defects.{StandsInRecord}
+
+-- memory may run out at any time; else a defect stands
+abbrev pub Stops : (Cause → Option ℤ → Type 0) → Stop → Type 0
+Stops D (Defect cause payload) = D cause payload
+Stops D (Memory e) = ⊤
+
+-- a defect of a record is named by its column refusal
+abbrev pub IsOfRecord : Signal → List PayloadContent → List PayloadContent → Cause → Option ℤ → Type 0
+IsOfRecord signal past payloads (Column refusal) payload = StandsInRecord signal past payloads refusal payload
+IsOfRecord signal past payloads cause payload = ⊥
+
+-- a limit that is passed is no payload's
+abbrev pub IsOfSize : (Cause → Type 0) → Cause → Option ℤ → Type 0
+IsOfSize L cause payload = (payload ≡ None) × L cause
+
+-- the answer to the refusal of a record of this type
+abbrev pub StopOf : ColumnRefusal → ℤ → Stop → Type 0
+StopOf (refusal.Memory e) kind stop = stop ≡ Memory e
+StopOf refusal kind stop = stop ≡ Defect (Column refusal) (Some kind)
+
+abbrev pub stop_of_types : TypesRefusal → Stop
+stop_of_types (PayloadType kind) = Defect cause.PayloadType (Some kind)
+stop_of_types (PayloadTwice kind) = Defect cause.PayloadTwice (Some kind)

@@ -1,0 +1,33 @@
+-- How the payloads of a batch are taken, in the words of private contracts.
+use Rattle.std.specs.Prelude.{◌≡◌, ℕ, List, ◌++◌, Some}
+use Rattle.otlp_model.specs.declared.request.Signal.{Signal}
+use Rattle.otap_capture.specs.Batch.{BatchContent, PayloadContent}
+use Rattle.otap_cells.specs.Weights.{weight_of_tables}
+use Rattle.otap_consume.specs.declared.seen.Seen.{Seen}
+use Rattle.otap_consume.specs.declared.seen.Seen.TheVariants as seen
+use Rattle.otap_consume.specs.declared.stop.Stop.{Stop}
+use Rattle.otap_consume.specs.declared.stop.Stop.TheVariants.{Defect, Memory}
+use Rattle.otap_consume.specs.Defects.{Accepts, IsTooLarge, IsWithinLimits, tables_of, held_after}
+use Rattle.otap_consume.specs.Outcomes.{refusal_of}
+use Rattle.otap_consume.specs.Stops.{Stops, IsOfSize}
+use Rattle.otap_consume.specs.Streams.{StreamIn, AreAfter}
+
+-- as a whole the payloads are within the limits, and weigh so much
+pub record Weighs (signal : Signal) (past payloads : List PayloadContent) (weight : ℕ) : Type 0 where
+  pub within : IsWithinLimits signal (tables_of signal past payloads) (held_after signal (past ++ payloads))
+  pub rows : weight ≡ weight_of_tables (tables_of signal past payloads)
+
+-- or they aren't
+abbrev pub StopsBySize : Signal → List PayloadContent → List PayloadContent → Stop → Type 0
+StopsBySize signal past payloads = Stops (IsOfSize (IsTooLarge signal (tables_of signal past payloads) (held_after signal (past ++ payloads))))
+
+-- the payloads are accepted behind these, and weigh so much
+pub record AcceptsBehind (signal : Signal) (past payloads : List PayloadContent) (new : List StreamIn) (weight : ℕ) : Type 0 where
+  pub accepts : Accepts signal past payloads
+  pub after : AreAfter (past ++ payloads) new
+  pub rows : weight ≡ weight_of_tables (tables_of signal past payloads)
+
+-- what is answered where the payloads are not taken; want of memory is handed on
+abbrev pub IsStopped : Stop → BatchContent → Seen → Type 0
+IsStopped (Defect cause payload) batch answer = answer ≡ seen.Refused (refusal_of (Some batch.id) cause payload)
+IsStopped (Memory e) batch answer = ⊥

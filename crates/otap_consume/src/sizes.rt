@@ -1,0 +1,62 @@
+//! How much a batch has, weighs and holds as a whole.
+ghost use Rattle.std.specs.Prelude.{◌≡◌, ◌^◌, length, sum_by, min, nat_lt, MatchResult};
+ghost use Rattle.otap_cells.specs.Payload.{main_of};
+ghost use Rattle.otap_cells.specs.Sets.{IsSet, tables_in, rows_named};
+ghost use Rattle.otap_consume.specs.Sizes.{WithinLimits, PastLimit, count_of_rows};
+ghost use Rattle.otap_consume.specs.Streams.{held_of};
+
+use crate::refusal::{Cause, MAX_HELD};
+use crate::stream::Stream;
+use otap_cells::{MAX_ROW_WEIGHT, Rows, TableSet, main_of, row_weight};
+use otlp_model::{MAX_ITEMS, Signal, add_capped};
+
+/// The row weight of a set of tables, where it and the number of main rows are within their limits. No cell is visited
+/// where the number of rows alone is too heavy.
+pub(crate) fn weigh<R: Rows>(signal: Signal, set: &TableSet<R>) -> Result<u64, Cause>
+    requires { IsSet R.table set.now.tables.items }
+    ensures { MatchResult result (WithinLimits signal (tables_in R.table set.now.tables.items)) (PastLimit signal (tables_in R.table set.now.tables.items)) }
+{
+    if main_rows(signal, set) > MAX_ITEMS {
+        return Err(Cause::TooManyItems);
+    }
+    if count_rows(set) > MAX_ROW_WEIGHT / 32 {
+        return Err(Cause::RowsTooHeavy);
+    }
+    let weight = row_weight(set);
+    if weight > MAX_ROW_WEIGHT {
+        return Err(Cause::RowsTooHeavy);
+    }
+    Ok(weight)
+}
+
+fn main_rows<R: Rows>(signal: Signal, set: &TableSet<R>) -> u64
+    requires { IsSet R.table set.now.tables.items }
+    ensures { result ≡ length (rows_named (main_of signal) (tables_in R.table set.now.tables.items)) }
+{
+    match set.get(main_of(signal)) {
+        Some(rows) => rows.rows(),
+        None => 0,
+    }
+}
+
+// How many rows all tables have.
+fn count_rows<R: Rows>(set: &TableSet<R>) -> u64
+    ensures { result ≡ min (count_of_rows (tables_in R.table set.now.tables.items)) (2 ^ 63) }
+{
+    let mut total = 0;
+    'tables: for (_, rows) in &set.tables {
+        total = add_capped(total, rows.rows());
+    }
+    total
+}
+
+/// Whether the dictionaries of the sub-streams that are open hold too much.
+pub(crate) fn hold_too_much(streams: &[Stream]) -> bool
+    ensures { result ≡ nat_lt MAX_HELD (sum_by held_of streams.now) }
+{
+    let mut total = 0;
+    'streams: for stream in streams {
+        total = add_capped(total, stream.held());
+    }
+    total > MAX_HELD
+}

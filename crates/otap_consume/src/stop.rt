@@ -1,0 +1,46 @@
+//! Why the payloads of a batch are not taken.
+ghost use Rattle.std.specs.Prelude.{◌≡◌, Some};
+ghost use Rattle.otap_consume.specs.declared.stop.Stop.TheVariants.{Defect, Memory};
+
+use crate::payload_types::TypesRefusal;
+use crate::refusal::Cause;
+use std::alloc::AllocError;
+
+/// Something is wrong with them, or memory ran out.
+#[derive(Debug, Drop)]
+pub(crate) enum Stop {
+    /// A cause, and the type of the payload in which it stands, if it stands in one.
+    Defect { cause: Cause, payload: Option<i32> },
+    Memory(AllocError),
+}
+
+impl From<AllocError> for Stop {
+    ghost from_gives = { λ error stop. stop ≡ Memory error };
+
+    fn from(error: AllocError) -> Stop {
+        Stop::Memory(error)
+    }
+}
+
+impl From<TypesRefusal> for Stop {
+    ghost use Rattle.otap_consume.specs.Stops.{stop_of_types};
+
+    ghost from_gives = { λ refusal stop. stop ≡ stop_of_types refusal };
+
+    fn from(refusal: TypesRefusal) -> Stop {
+        match refusal {
+            TypesRefusal::PayloadType(kind) => defect(Cause::PayloadType, kind),
+            TypesRefusal::PayloadTwice(kind) => defect(Cause::PayloadTwice, kind),
+        }
+    }
+}
+
+/// A cause that stands in a payload of this type.
+pub(crate) fn defect(cause: Cause, kind: i32) -> Stop
+    ensures { result ≡ Defect cause (Some kind) }
+{
+    Stop::Defect {
+        cause,
+        payload: Some(kind),
+    }
+}
