@@ -1,8 +1,15 @@
 pub mod Commands
+pub mod Fields
 pub mod Jobs
 pub mod Lines
 pub mod Listing
+pub mod Openings
+pub mod PayloadTypes
+pub mod Quoting
+pub mod Records
+pub mod Refused
 pub mod Reply
 pub mod Runs
+pub mod Schemas
 pub mod Tidying
 pub mod Turns

@@ -13,6 +13,8 @@ pub(crate) enum Command {
     List,
     /// The canonical spelling of each request of the signal.
     Tidy(Signal),
+    /// The schemas that the payloads of each batch of the signal begin with.
+    Schema(Signal),
 }
 
 /// The job of one word.
@@ -30,9 +32,9 @@ pub(crate) fn two_words(job: &str, signal: &str) -> Option<Command>
     ensures { MatchOption result (IsNoCommand (job.now ∷ signal.now ∷ []))
         (λ command. IsBuilt command × (job.now ∷ signal.now ∷ [] ≡ words_of command)) }
 {
-    let signal = built_signal(signal)?;
     match job {
-        "tidy" => Some(Command::Tidy(signal)),
+        "tidy" => Some(Command::Tidy(built_signal(signal)?)),
+        "schema" => Some(Command::Schema(any_signal(signal)?)),
         _ => None,
     }
 }
@@ -44,6 +46,18 @@ fn built_signal(word: &str) -> Option<Signal>
 {
     match word {
         "logs" => Some(Signal::Logs),
+        _ => None,
+    }
+}
+
+/// The signal of a word.
+fn any_signal(word: &str) -> Option<Signal>
+    ensures { MatchOption result ((signal : Signal) → word.now ≢ signal_word signal) (λ signal. word.now ≡ signal_word signal) }
+{
+    match word {
+        "traces" => Some(Signal::Traces),
+        "logs" => Some(Signal::Logs),
+        "metrics" => Some(Signal::Metrics),
         _ => None,
     }
 }

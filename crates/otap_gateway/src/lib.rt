@@ -3,12 +3,18 @@
 
 mod command;
 mod drive;
+mod fields;
 mod job;
 mod laws;
 mod lines;
 mod list;
+mod opening;
+mod payload_types;
+mod quoting;
+mod refused;
 mod reply;
 mod running;
+mod schema;
 mod stop;
 mod tidy;
 mod words;

@@ -3,12 +3,13 @@ ghost use Rattle.std.specs.Prelude.{◌≡◌, ◌++◌, IfOk, OnOk, string_byte
 ghost use Rattle.otap_capture.specs.Batch.{content_of};
 ghost use Rattle.otap_capture.specs.Capture.{frame_of};
 ghost use Rattle.otap_gateway.specs.declared.command.Command.TheVariants as command;
-ghost use Rattle.otap_gateway.specs.Listing.{ListsFrame, ListsMessage, batch_line, payload_text, refusal_name, refused_unread};
+ghost use Rattle.otap_gateway.specs.Listing.{ListsFrame, ListsMessage, batch_line, payload_text};
 
 use crate::job::Job;
-use crate::lines::{refused_line, reset_line};
+use crate::lines::reset_line;
+use crate::refused::{refused_unread, unread_name};
 use crate::reply::Reply;
-use otap_capture::{Batch, BatchRefusal, Frame, Payload, read_batch};
+use otap_capture::{Batch, Frame, Payload, read_batch};
 use std::alloc::{AllocError, Global};
 
 /// The job `list`. It takes each frame by itself.
@@ -30,7 +31,7 @@ fn list_frame(alloc: Global, number: u64, frame: &Frame<'_>) -> Result<Reply, Al
 {
     match frame {
         Frame::Message(bytes) => list_message(alloc, number, bytes),
-        Frame::Packed => refused(alloc, number, "Compressed"),
+        Frame::Packed => refused_unread(alloc, number, "Compressed"),
         Frame::Reset => Ok(Reply::printed(alloc, reset_line(alloc, number)?)),
     }
 }
@@ -40,16 +41,8 @@ fn list_message(alloc: Global, number: u64, bytes: &[u8]) -> Result<Reply, Alloc
 {
     match read_batch(bytes) {
         Ok(batch) => Ok(Reply::printed(alloc, batch_line(alloc, number, &batch)?)),
-        Err(refusal) => refused(alloc, number, refusal_name(refusal)),
+        Err(refusal) => refused_unread(alloc, number, unread_name(refusal)),
     }
-}
-
-// A frame whose message can't be read.
-fn refused(alloc: Global, number: u64, cause: &str) -> Result<Reply, AllocError>
-    ensures { IfOk result (λ reply. reply ≡ refused_unread number cause.now) }
-{
-    let line = refused_line(alloc, number, None, 1, cause, None)?;
-    Ok(Reply::refusal(alloc, line))
 }
 
 fn batch_line(alloc: Global, number: u64, batch: &Batch<'_>) -> Result<String, AllocError>
@@ -70,14 +63,4 @@ fn push_payload(line: &mut String, payload: &Payload<'_>) -> Result<(), AllocErr
     let kind = payload.kind;
     let length = payload.bytes.len();
     write!(line, " {kind}:{length}")
-}
-
-fn refusal_name(refusal: BatchRefusal) -> &'static str
-    ensures { result.now ≡ refusal_name refusal }
-{
-    match refusal {
-        BatchRefusal::BadMessage => "BadMessage",
-        BatchRefusal::Repeated => "Repeated",
-        BatchRefusal::BadUtf8 => "BadUtf8",
-    }
 }

@@ -52,7 +52,8 @@ impl Reply {
         Ok(Reply::on_out(alloc, [2, 0, 0, 0, 0].to_vec(alloc)?))
     }
 
-    fn on_out(alloc: Global, out: Vec<u8>) -> Reply
+    /// Bytes on out.
+    pub(crate) fn on_out(alloc: Global, out: Vec<u8>) -> Reply
         ensures { result ≡ printed out.items }
     {
         Reply {

@@ -8,6 +8,7 @@ ghost use Rattle.otap_gateway.specs.Runs.{sinks, world, Leaves, Faults, SinkFaul
 use crate::command::Command;
 use crate::drive::{drive, flush_both};
 use crate::list::Lister;
+use crate::schema::SchemaLister;
 use crate::stop::{Stop, Tally, status, words_status};
 use crate::tidy::Tidier;
 use crate::words::Words;
@@ -58,6 +59,7 @@ fn run_job<S: Source, O: Sink, E: Sink>(
     match job {
         Command::List => drive(alloc, &mut Lister, source, out, err),
         Command::Tidy(signal) => drive(alloc, &mut Tidier::new(signal), source, out, err),
+        Command::Schema(signal) => drive(alloc, &mut SchemaLister::new(signal), source, out, err),
     }
 }
 

@@ -1,0 +1,24 @@
+-- Payloads, as loops go over them.
+use Rattle.std.proofs.Common.{◌≡◌, ◌≤◌, not, Bool, false, true, List, [], ◌∷◌, ◌++◌, append_assoc, Option, None, Some, sym, ap, ◌∙◌, subst, nat_lt, rules}
+use Rattle.std.specs.Option.{IsSome, is_some}
+use Rattle.std.proofs.lemmas.Bool.{ltb-false}
+use Rattle.otlp_model.specs.declared.request.Signal.{Signal}
+use Rattle.otap_capture.specs.Batch.{PayloadContent}
+use Rattle.otap_cells.specs.declared.payload.Kind.{Kind}
+use Rattle.otap_cells.specs.Payload.{kind_numbered}
+use Rattle.otap_gateway.specs.PayloadTypes.{IsFineType, times}
+
+-- a payload that was before those that are left is now behind those that were
+pub front_more : (all front left : List PayloadContent) (p : PayloadContent) (rest : List PayloadContent) → all ≡ front ++ left → left ≡ p ∷ rest → all ≡ (front ++ p ∷ []) ++ rest
+front_more all front left p rest whole next = whole ∙ ap (λ (ps : List PayloadContent). front ++ ps) next ∙ sym (append_assoc front (p ∷ []) rest)
+
+found : (kind : Option Kind) → is_some kind ≡ true → IsSome kind
+found None h = absurd (cc h)
+found (Some kind) h = search rules
+
+pub fine_type : (signal : Signal) (all payloads : List PayloadContent) (p : PayloadContent) (kind : Option Kind) (none twice : Bool) → all ≡ payloads
+    → kind ≡ kind_numbered signal p.kind → is_some kind ≡ not none → none ≡ false → twice ≡ nat_lt 1 (times p.kind payloads) → twice ≡ false → IsFineType signal all p
+fine_type signal all payloads p kind none twice same named told some counted once = record {
+  known = subst (λ (k : Option Kind). IsSome k) named (found kind (told ∙ ap not some));
+  once = subst (λ (ps : List PayloadContent). times p.kind ps ≤ 1) (sym same) (ltb-false 1 (times p.kind payloads) (sym counted ∙ once));
+}

@@ -1,0 +1,49 @@
+-- The lines of a schema's fields: each field and behind it its children, by their dotted names.
+use Rattle.std.specs.Prelude.{ℕ, List, [], ◌++◌, codes, if◌then◌else◌, Option, None, Some}
+use Rattle.std.specs.Fmt.{decimal}
+use Rattle.std.specs.List.{flat_map}
+use Rattle.arrow_schema.specs.declared.spec.ArrowType.{ArrowType}
+use Rattle.arrow_schema.specs.declared.spec.ArrowType.TheVariants.{Bool, Int, Double, Utf8, Binary, Fixed, Timestamp, Duration, Struct}
+use Rattle.arrow_schema.specs.declared.spec.DictSpec.{DictSpec}
+use Rattle.arrow_schema.specs.declared.spec.FieldSpec.{FieldSpec, fold-FieldSpec}
+use Rattle.arrow_schema.specs.declared.spec.FieldSpec.TheOpen.{FieldSpec-F}
+use Rattle.arrow_schema.specs.Trees.{name_in, kind_in, dict_in}
+use Rattle.otap_gateway.specs.Lines.{line_feed}
+use Rattle.otap_gateway.specs.Quoting.{quoted}
+
+abbrev pub type_word : ArrowType → List ℕ
+type_word Bool = codes "bool"
+type_word (Int bits signed) = (if signed then codes "i" else codes "u") ++ decimal bits
+type_word Double = codes "f64"
+type_word Utf8 = codes "utf8"
+type_word Binary = codes "binary"
+type_word (Fixed width) = codes "fixed " ++ decimal width
+type_word Timestamp = codes "timestamp"
+type_word Duration = codes "duration"
+type_word Struct = codes "struct"
+
+-- what stands behind the type of a field with this dictionary: the type of its indexes
+abbrev pub dictionary_word : Option DictSpec → List ℕ
+dictionary_word None = []
+dictionary_word (Some dict) = if dict.wide then codes " dict u16" else codes " dict u8"
+
+-- the line of a field below a path, which is empty or ends with a dot
+abbrev pub line_of : List ℕ → List ℕ → ArrowType → Option DictSpec → List ℕ
+line_of path name kind dict = codes "field " ++ quoted (path ++ name) ++ codes " " ++ type_word kind ++ dictionary_word dict ++ line_feed
+
+abbrev pub field_line : List ℕ → FieldSpec → List ℕ
+field_line path f = line_of path (name_in f) (kind_in f) (dict_in f)
+
+-- the path of a field's children
+abbrev pub inner_path : List ℕ → List ℕ → List ℕ
+inner_path path name = path ++ name ++ codes "."
+
+-- the lines of a field and of its children, depth first
+abbrev pub field_step : FieldSpec-F (List ℕ → List ℕ) → List ℕ → List ℕ
+field_step f path = line_of path f.name f.kind f.dict ++ flat_map (λ child. child (inner_path path f.name)) f.children
+
+abbrev pub field_text : FieldSpec → List ℕ → List ℕ
+field_text = fold-FieldSpec (List ℕ → List ℕ) field_step
+
+abbrev pub fields_text : List ℕ → List FieldSpec → List ℕ
+fields_text path fields = flat_map (λ f. field_text f path) fields

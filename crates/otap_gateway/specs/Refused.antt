@@ -1,0 +1,26 @@
+-- The replies to batches that are refused.
+use Rattle.std.specs.Prelude.{◌≡◌, ℕ, ℤ, List, codes, Option, None, Some}
+use Rattle.otap_capture.specs.declared.batch.BatchRefusal.{BatchRefusal}
+use Rattle.otap_capture.specs.declared.batch.BatchRefusal.TheVariants.{BadMessage, Repeated, BadUtf8}
+use Rattle.otap_capture.specs.Batch.{RefusesBatch}
+use Rattle.otap_gateway.specs.Lines.{refused_line, refuses}
+use Rattle.otap_gateway.specs.Reply.{ReplyText}
+
+abbrev pub unread_name : BatchRefusal → List ℕ
+unread_name BadMessage = codes "BadMessage"
+unread_name Repeated = codes "Repeated"
+unread_name BadUtf8 = codes "BadUtf8"
+
+-- the reply to a frame whose message can't be read, by the name of the cause
+abbrev pub refused_unread : ℕ → List ℕ → ReplyText
+refused_unread number cause = refuses (refused_line number None 1 cause None)
+
+-- the reply to a message in which that defect stands
+pub record RefusesUnread (number : ℕ) (bytes : List ℕ) (reply : ReplyText) : Type 0 where
+  pub refusal : BatchRefusal
+  pub stands : RefusesBatch bytes refusal
+  pub line : reply ≡ refused_unread number (unread_name refusal)
+
+-- the reply to a batch that is refused in a stage, by the name of the cause and the payload type that it stands in
+abbrev pub refused_batch : ℕ → ℤ → ℕ → List ℕ → Option ℤ → ReplyText
+refused_batch number id stage cause payload = refuses (refused_line number (Some id) stage cause payload)

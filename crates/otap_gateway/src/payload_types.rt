@@ -1,0 +1,50 @@
+//! The payload types of a batch.
+ghost use Rattle.std.specs.Prelude.{◌≡◌, nat_lt, MatchResult};
+ghost use Rattle.otap_gateway.specs.PayloadTypes.{HasFineTypes, StandsInTypes, times};
+
+use otap_capture::Batch;
+use otap_cells::table_of;
+use otlp_model::Signal;
+use thiserror::Error;
+
+/// What is wrong with the payload types of a batch. Where several of these stand, any may be named.
+#[derive(Clone, Copy, Debug, PartialEq, Eq, Error)]
+pub(crate) enum TypesRefusal {
+    #[error("the payload type {0} is none of the signal's")]
+    PayloadType(i32),
+    #[error("the payload type {0} stands twice")]
+    PayloadTwice(i32),
+}
+
+/// Looks at the payload types of a batch: each is to be one of the signal's, and to stand there once.
+/// It is linear, since a signal has few types: of more payloads one of the first is refused.
+pub(crate) fn check_types(signal: Signal, batch: &Batch<'_>) -> Result<(), TypesRefusal>
+    ensures { MatchResult result (λ x. HasFineTypes signal batch.now.payloads) (StandsInTypes signal batch.now.payloads) }
+{
+    'payloads: for payload in batch.payloads() {
+        let kind = payload.kind;
+        if table_of(signal, kind).is_none() {
+            return Err(TypesRefusal::PayloadType(kind));
+        }
+        if stands_twice(batch, kind) {
+            return Err(TypesRefusal::PayloadTwice(kind));
+        }
+    }
+    Ok(())
+}
+
+// Whether two payloads of a batch have a type.
+fn stands_twice(batch: &Batch<'_>, kind: i32) -> bool
+    ensures { result ≡ nat_lt 1 (times kind batch.now.payloads) }
+{
+    let mut found = false;
+    'payloads: for payload in batch.payloads() {
+        if payload.kind == kind {
+            if found {
+                return true;
+            }
+            found = true;
+        }
+    }
+    false
+}
