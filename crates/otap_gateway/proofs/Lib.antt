@@ -1,6 +1,7 @@
 mod FieldLines
 mod FirstMessages
-mod Payloads
 pub mod Extending
 pub mod FaultlessRuns
 pub mod Progress
+pub mod RowText
+pub mod Shows

@@ -9,6 +9,7 @@ use Rattle.otap_gateway.specs.declared.command.Command.TheVariants as command
 use Rattle.otap_gateway.specs.Listing.{ListsFrame}
 use Rattle.otap_gateway.specs.Reply.{ReplyText}
 use Rattle.otap_gateway.specs.Schemas.{SchemasFrame}
+use Rattle.otap_gateway.specs.Showing.{ShowsFrame}
 use Rattle.otap_gateway.specs.Tidying.{TidiesFrame}
 
 abbrev pub signal_word : Signal → List ℕ
@@ -21,12 +22,14 @@ abbrev pub words_of : Command → List (List ℕ)
 words_of command.List = codes "list" ∷ []
 words_of (command.Tidy signal) = codes "tidy" ∷ signal_word signal ∷ []
 words_of (command.Schema signal) = codes "schema" ∷ signal_word signal ∷ []
+words_of (command.Show signal) = codes "show" ∷ signal_word signal ∷ []
 
 -- the jobs that are built: those on requests only for the signals whose requests are read and written
 abbrev pub IsBuilt : Command → Type 0
 IsBuilt command.List = Unit {0}
 IsBuilt (command.Tidy signal) = requests.IsBuilt signal
 IsBuilt (command.Schema signal) = Unit {0}
+IsBuilt (command.Show signal) = Unit {0}
 
 -- words that are those of no job
 abbrev pub IsNoCommand : List (List ℕ) → Type 0
@@ -37,3 +40,4 @@ unfoldable pub ReplyOf : Command → List Frame → List ReplyText → Frame →
 ReplyOf command.List frames replies frame reply = ListsFrame (length frames) frame reply
 ReplyOf (command.Tidy signal) frames replies frame reply = TidiesFrame signal (length frames) frame reply
 ReplyOf (command.Schema signal) frames replies frame reply = SchemasFrame signal (length frames) frame reply
+ReplyOf (command.Show signal) frames replies frame reply = ShowsFrame signal frames frame reply

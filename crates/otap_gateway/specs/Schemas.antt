@@ -8,12 +8,12 @@ use Rattle.arrow_schema.specs.declared.spec.SchemaSpec.{SchemaSpec}
 use Rattle.otlp_model.specs.declared.request.Signal.{Signal}
 use Rattle.otap_capture.specs.Batch.{BatchContent, PayloadContent, ReadsBatch}
 use Rattle.otap_capture.specs.Capture.{Frame, Message, Packed, Reset}
-use Rattle.otap_gateway.specs.declared.payload_types.TypesRefusal.{TypesRefusal}
-use Rattle.otap_gateway.specs.declared.payload_types.TypesRefusal.TheVariants.{PayloadType, PayloadTwice}
+use Rattle.otap_consume.specs.declared.payload_types.TypesRefusal.{TypesRefusal}
+use Rattle.otap_consume.specs.declared.payload_types.TypesRefusal.TheVariants.{PayloadType, PayloadTwice}
 use Rattle.otap_gateway.specs.Fields.{fields_text}
 use Rattle.otap_gateway.specs.Lines.{reset_line, line_feed, printed}
 use Rattle.otap_gateway.specs.Openings.{BeginsWell, opening_of, fault_name}
-use Rattle.otap_gateway.specs.PayloadTypes.{HasPayload, HasFineTypes, StandsInTypes}
+use Rattle.otap_consume.specs.PayloadTypes.{HasPayload, HasFineTypes, StandsInTypes}
 use Rattle.otap_gateway.specs.Quoting.{quoted}
 use Rattle.otap_gateway.specs.Refused.{RefusesUnread, refused_unread, refused_batch}
 use Rattle.otap_gateway.specs.Reply.{ReplyText}

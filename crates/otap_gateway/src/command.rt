@@ -15,6 +15,8 @@ pub(crate) enum Command {
     Tidy(Signal),
     /// The schemas that the payloads of each batch of the signal begin with.
     Schema(Signal),
+    /// The cells of each batch of the signal.
+    Show(Signal),
 }
 
 /// The job of one word.
@@ -35,6 +37,7 @@ pub(crate) fn two_words(job: &str, signal: &str) -> Option<Command>
     match job {
         "tidy" => Some(Command::Tidy(built_signal(signal)?)),
         "schema" => Some(Command::Schema(any_signal(signal)?)),
+        "show" => Some(Command::Show(any_signal(signal)?)),
         _ => None,
     }
 }

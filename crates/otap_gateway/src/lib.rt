@@ -1,6 +1,7 @@
 //! The gateway's jobs: each reads a capture and replies to its frames.
 #![tactic(auto)]
 
+mod causes;
 mod command;
 mod drive;
 mod fields;
@@ -9,12 +10,13 @@ mod laws;
 mod lines;
 mod list;
 mod opening;
-mod payload_types;
 mod quoting;
 mod refused;
 mod reply;
+mod rows;
 mod running;
 mod schema;
+mod show;
 mod stop;
 mod tidy;
 mod words;

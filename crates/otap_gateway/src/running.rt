@@ -2,6 +2,7 @@
 ghost use Rattle.std.specs.Prelude.{◌≡◌};
 ghost use Rattle.std.specs.Io.KnownBytes.{Keeps};
 ghost use Rattle.otap_gateway.specs.declared.command.Command.{Command};
+ghost use Rattle.otap_gateway.specs.declared.command.Command.TheVariants as command;
 ghost use Rattle.otap_gateway.specs.Commands.{IsBuilt, IsNoCommand, words_of};
 ghost use Rattle.otap_gateway.specs.Runs.{sinks, world, Leaves, Faults, SinkFaults, LeavesLine, Runs, Refuses};
 
@@ -9,10 +10,12 @@ use crate::command::Command;
 use crate::drive::{drive, flush_both};
 use crate::list::Lister;
 use crate::schema::SchemaLister;
+use crate::show::Shower;
 use crate::stop::{Stop, Tally, status, words_status};
 use crate::tidy::Tidier;
 use crate::words::Words;
 use otap_capture::{Sink, Source, write_whole};
+use otlp_model::Signal;
 use std::alloc::Global;
 
 const NOT_UNDERSTOOD: &[u8] = b"otap: words not understood\n";
@@ -60,7 +63,28 @@ fn run_job<S: Source, O: Sink, E: Sink>(
         Command::List => drive(alloc, &mut Lister, source, out, err),
         Command::Tidy(signal) => drive(alloc, &mut Tidier::new(signal), source, out, err),
         Command::Schema(signal) => drive(alloc, &mut SchemaLister::new(signal), source, out, err),
+        Command::Show(signal) => show(alloc, signal, source, out, err),
     }
+}
+
+fn show<S: Source, O: Sink, E: Sink>(
+    alloc: Global,
+    signal: Signal,
+    source: &mut S,
+    out: &mut O,
+    err: &mut E,
+) -> Result<Tally, Stop>
+    ensures leaves { Leaves (command.Show signal) (S.left source.old)
+        (sinks O.Sink out.old E.Sink err.old)
+        (sinks O.Sink out.new E.Sink err.new) result }
+    ensures faults { Faults
+        (world S.Source source.old (sinks O.Sink out.old E.Sink err.old))
+        (world S.Source source.new (sinks O.Sink out.new E.Sink err.new)) result }
+{
+    let Ok(mut shower) = Shower::new(alloc, signal) else {
+        return Err(Stop::Memory);
+    };
+    drive(alloc, &mut shower, source, out, err)
 }
 
 fn refuse_words<O: Sink, E: Sink>(out: &mut O, err: &mut E) -> Result<(), Stop>

@@ -1,6 +1,8 @@
 //! Runs over sources and sinks in memory, with what must stand on out and err.
 ghost use Rattle.std.specs.Prelude.{◌<◌};
 
+mod shows;
+
 use super::*;
 use otap_capture::{MemorySink, MemorySource};
 use std::process::Abort;

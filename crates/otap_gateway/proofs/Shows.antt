@@ -1,0 +1,117 @@
+-- What `show` replies, from what the segment answers.
+use Rattle.std.proofs.Common.{◌≡◌, ℕ, Bool, true, false, List, [], ◌∷◌, ◌++◌, length, Some, None, Option, refl, sym, ap, ◌∙◌, subst, append-nil}
+use Rattle.std.specs.Prelude.{MatchBool, IfSome}
+use Rattle.std.specs.Io.KnownBytes.{Appends}
+use Rattle.histories.proofs.Growing.{each_after-push}
+use Rattle.otlp_model.specs.declared.request.Signal.{Signal}
+use Rattle.otap_capture.specs.Batch.{BatchContent, ReadsBatch}
+use Rattle.otap_capture.specs.Capture.{Frame, Message}
+use Rattle.otap_capture.specs.Outside.{AppendsFront}
+use Rattle.otap_cells.specs.Tables.{Table}
+use Rattle.otap_consume.specs.declared.seen.Seen.{Seen}
+use Rattle.otap_consume.specs.declared.seen.Seen.TheVariants as seen
+use Rattle.otap_consume.specs.Defects.{tables_of}
+use Rattle.otap_consume.specs.Outcomes.{Outcome, Accepted, Refused, Reset, Gives, StaysBroken, OutcomeAfter, Outcomes, is_broken, payloads_after}
+use Rattle.otap_consume.specs.Segments.{SegmentIn, StandsFor, HasNext, Next, Tells, IsNew}
+use Rattle.otap_consume.proofs.SegmentSteps.{stands_first}
+use Rattle.otap_gateway.specs.Reply.{ReplyText}
+use Rattle.otap_gateway.specs.Runs.{Sinks, BeginsWith, WritesFront}
+use Rattle.otap_gateway.specs.declared.command.Command.{Command}
+use Rattle.otap_gateway.specs.Showing.{ShowsFrame, RepliesTo, shown}
+
+-- a frame that gives an accepted batch
+pub record IsAccepted (signal : Signal) (outcomes : List Outcome) (frame : Frame) (batch : BatchContent) (tables : List Table) : Type 0 where
+  pub bytes : List ℕ
+  pub message : frame ≡ Message bytes
+  pub reads : ReadsBatch bytes batch
+  pub same : tables ≡ tables_of signal (payloads_after outcomes) batch.payloads
+
+accepted_from : (signal : Signal) (outcomes : List Outcome) (frame : Frame) (o : Outcome) (batch : BatchContent) (tables : List Table) → o ≡ Accepted batch tables
+    → (b : Bool) → MatchBool b (StaysBroken frame o) (Gives signal (payloads_after outcomes) frame o) → IsAccepted signal outcomes frame batch tables
+accepted_from signal outcomes frame o batch tables is true StaysBroken.compressed = absurd (cc is)
+accepted_from signal outcomes frame o batch tables is true (StaysBroken.unreadable bytes refusal stands) = absurd (cc is)
+accepted_from signal outcomes frame o batch tables is true (StaysBroken.readable bytes other reads) = absurd (cc is)
+accepted_from signal outcomes frame o batch tables is true StaysBroken.resets = absurd (cc is)
+accepted_from signal outcomes frame o batch tables is false Gives.compressed = absurd (cc is)
+accepted_from signal outcomes frame o batch tables is false (Gives.unreadable bytes refusal stands) = absurd (cc is)
+accepted_from signal outcomes frame o batch tables is false (Gives.refuses bytes other cause payload reads refuses) = absurd (cc is)
+accepted_from signal outcomes frame o batch tables is false (Gives.accepts bytes other reads accepts) =
+    let one : other ≡ batch = cc is in
+    record {
+      bytes = bytes;
+      message = refl;
+      reads = subst (ReadsBatch bytes) one reads;
+      same = sym (cc is) ∙ ap (λ (b : BatchContent). tables_of signal (payloads_after outcomes) b.payloads) one;
+    }
+accepted_from signal outcomes frame o batch tables is false Gives.resets = absurd (cc is)
+
+-- the reply is that of the outcome
+module _ (signal : Signal) (outcomes : List Outcome) (frame : Frame) (number : ℕ) (new : SegmentIn) (reply : ReplyText) where
+  text_of : (answer : Seen) (o : Outcome) → OutcomeAfter signal outcomes frame o → Tells o answer → StandsFor signal (outcomes ++ o ∷ []) new → RepliesTo frame new number answer reply
+      → reply ≡ shown number o
+  text_of (seen.Batch id rows) (Accepted batch tables) gives tells stands replies =
+      let is : IsAccepted signal outcomes frame batch tables = accepted_from signal outcomes frame (Accepted batch tables) batch tables refl (is_broken outcomes) gives in
+      replies.at signal outcomes is.bytes batch tables is.message is.reads stands ∙ ap (λ (ts : List Table). shown number (Accepted batch ts)) (sym is.same)
+  text_of (seen.Batch id rows) (Refused refusal) gives tells stands replies = absurd tells
+  text_of (seen.Batch id rows) Reset gives tells stands replies = absurd tells
+  text_of (seen.Refused told) (Accepted batch tables) gives tells stands replies = absurd tells
+  text_of (seen.Refused told) (Refused refusal) gives tells stands replies = replies ∙ ap (λ r. shown number (Refused r)) tells
+  text_of (seen.Refused told) Reset gives tells stands replies = absurd tells
+  text_of seen.Reset (Accepted batch tables) gives tells stands replies = absurd tells
+  text_of seen.Reset (Refused refusal) gives tells stands replies = absurd tells
+  text_of seen.Reset Reset gives tells stands replies = replies
+
+-- the frames and replies that a segment stands for
+abbrev pub Shown : SegmentIn → List Frame → List ReplyText → Type 0
+Shown s frames replies = (outcomes : List Outcome) × Outcomes s.signal frames outcomes × StandsFor s.signal outcomes s
+
+pub shows : (old new : SegmentIn) (frame : Frame) (answer : Seen) (number : ℕ) (reply : ReplyText) → Next old frame new answer → new.signal ≡ old.signal → RepliesTo frame new number answer reply
+    → (frames : List Frame) (replies : List ReplyText) → length frames ≡ number → Shown old frames replies
+    → ShowsFrame old.signal frames frame reply × Shown new (frames ++ frame ∷ []) (replies ++ reply ∷ [])
+shows old new frame answer number reply next same replies frames before count history =
+    let outcomes : List Outcome = history.0 in
+    let n : HasNext old.signal outcomes frame answer new = next.at old.signal outcomes history.2 in
+    let all : Outcomes old.signal (frames ++ frame ∷ []) (outcomes ++ n.outcome ∷ [])
+    = each_after-push (λ past past' f o. OutcomeAfter old.signal past' f o) [] [] frames outcomes frame n.outcome history.1 n.gives in (
+      record {
+        outcomes = outcomes;
+        before = history.1;
+        outcome = n.outcome;
+        gives = n.gives;
+        text = text_of old.signal outcomes frame number new reply answer n.outcome n.gives n.tells n.stands replies ∙ ap (λ k. shown k n.outcome) (sym count);
+      },
+      (
+        outcomes ++ n.outcome ∷ [],
+        subst (λ (s : Signal). Outcomes s (frames ++ frame ∷ []) (outcomes ++ n.outcome ∷ [])) (sym same) all,
+        subst (λ (s : Signal). StandsFor s (outcomes ++ n.outcome ∷ []) new) (sym same) n.stands,
+      ),
+    )
+
+-- a segment at its start stands for no frames
+pub shows_none : (signal : Signal) (s : SegmentIn) → IsNew signal s → Shown s [] []
+shows_none signal s new = ([], tt, stands_first s.signal s (record { same = refl; whole = new.whole; empty = new.empty }))
+
+-- ---- a run that found no memory at its start
+
+appends_nothing : (o : Option (List ℕ)) → Appends o o []
+appends_nothing None = tt
+appends_nothing (Some bytes) = sym (append-nil bytes)
+
+front_of_nothing : (o : Option (List ℕ)) → AppendsFront o o []
+front_of_nothing o = record { front = []; rest = []; whole = refl; grown = appends_nothing o }
+
+begins_with_none : (left : Option (List ℕ)) → IfSome left (λ bytes. BeginsWith bytes [])
+begins_with_none None = tt
+begins_with_none (Some bytes) = ([], bytes, refl, refl)
+
+pub writes_nothing : (job : Command) (left : Option (List ℕ)) (s : Sinks) → WritesFront job left s s
+writes_nothing job left s = record {
+  frames = [];
+  last = None;
+  replies = [];
+  begins = begins_with_none left;
+  all = tt;
+  texts = tt;
+  out = front_of_nothing s.out.written;
+  err = front_of_nothing s.err.written;
+}

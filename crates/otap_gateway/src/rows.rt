@@ -1,0 +1,133 @@
+//! The lines of a table's rows: the cells as they are stored.
+ghost use Rattle.std.specs.Prelude.{◌≡◌, ◌<◌, [], ◌∷◌, ◌++◌, length, OnOk};
+ghost use Rattle.std.specs.List.{slice_index_or};
+ghost use Rattle.std.specs.Fmt.{decimal, signed_decimal};
+ghost use Rattle.hex.specs.Hex.{encode_lower};
+ghost use Rattle.otap_cells.specs.Cells.{seen};
+ghost use Rattle.otap_cells.specs.Columns.{columns_of, described};
+ghost use Rattle.otap_cells.specs.Tables.{IsTable};
+ghost use Rattle.otap_gateway.specs.Rows.{bits_text, bytes_text, cell_text, cells_text, named_cell, row_line, table_text};
+
+use crate::quoting::push_quoted;
+use itoa::Buffer;
+use otap_cells::{Base, CellView, Column, Rows, columns};
+use std::alloc::AllocError;
+
+/// Appends a line for each row: its number, and each cell that is not null behind the name of its column. Takes
+/// time for what it appends, and for each known column of each row.
+pub(crate) fn push_rows<R: Rows>(to: &mut Vec<u8>, rows: &R) -> Result<(), AllocError>
+    ensures { OnOk result (to.new.items ≡ to.old.items ++ table_text (R.table rows.now)) }
+{
+    'rows: for row in 0..rows.rows() {
+        push_row(to, rows, row)?;
+    }
+    Ok(())
+}
+
+fn push_row<R: Rows>(to: &mut Vec<u8>, rows: &R, row: u64) -> Result<(), AllocError>
+    requires sound { IsTable (R.table rows.now) }
+    requires row { row < length (R.table rows.now).rows }
+    ensures { OnOk result (to.new.items ≡ to.old.items
+        ++ row_line (columns_of (R.table rows.now).kind) row (slice_index_or (R.table rows.now).rows row [])) }
+{
+    to.extend_from_slice(b"row ")?;
+    push_number(to, row)?;
+    to.push(b':')?;
+    push_cells(to, rows, row)?;
+    to.push(b'\n')?;
+    Ok(())
+}
+
+fn push_cells<R: Rows>(to: &mut Vec<u8>, rows: &R, row: u64) -> Result<(), AllocError>
+    requires sound { IsTable (R.table rows.now) }
+    requires row { row < length (R.table rows.now).rows }
+    ensures { OnOk result (to.new.items ≡ to.old.items
+        ++ cells_text (columns_of (R.table rows.now).kind) (slice_index_or (R.table rows.now).rows row [])) }
+{
+    let columns = columns(rows.kind());
+    'columns: for place in 0..columns.len() {
+        push_named(to, &columns[place], rows.cell(place as u32, row))?;
+    }
+    Ok(())
+}
+
+fn push_named(to: &mut Vec<u8>, column: &Column, cell: CellView<'_>) -> Result<(), AllocError>
+    ensures { OnOk result (to.new.items ≡ to.old.items ++ named_cell (described column.now) (seen cell.entry)) }
+{
+    if matches!(cell, CellView::Null) {
+        return Ok(());
+    }
+    to.push(b' ')?;
+    to.extend_from_slice(column.name.as_bytes())?;
+    to.push(b'=')?;
+    push_cell(to, column.base, cell)?;
+    Ok(())
+}
+
+fn push_cell(to: &mut Vec<u8>, base: Base, cell: CellView<'_>) -> Result<(), AllocError>
+    ensures { OnOk result (to.new.items ≡ to.old.items ++ cell_text base (seen cell.entry)) }
+{
+    match cell {
+        CellView::Null => Ok(()),
+        CellView::Num(number) => push_signed(to, number),
+        CellView::Bits(bits) => push_bits(to, base, bits),
+        CellView::Flag(true) => to.extend_from_slice(b"true"),
+        CellView::Flag(false) => to.extend_from_slice(b"false"),
+        CellView::Bytes(part) => push_bytes(to, base, part),
+    }
+}
+
+fn push_bits(to: &mut Vec<u8>, base: Base, bits: u64) -> Result<(), AllocError>
+    ensures { OnOk result (to.new.items ≡ to.old.items ++ bits_text base bits) }
+{
+    if base == Base::Double {
+        push_hex(to, &bits.to_be_bytes())
+    } else {
+        push_number(to, bits)
+    }
+}
+
+fn push_bytes(to: &mut Vec<u8>, base: Base, part: &[u8]) -> Result<(), AllocError>
+    ensures { OnOk result (to.new.items ≡ to.old.items ++ bytes_text base part.now) }
+{
+    if base != Base::Utf8 {
+        return push_hex(to, part);
+    }
+    to.push(b'"')?;
+    push_quoted(to, part)?;
+    to.push(b'"')?;
+    Ok(())
+}
+
+fn push_number(to: &mut Vec<u8>, number: u64) -> Result<(), AllocError>
+    ensures { OnOk result (to.new.items ≡ to.old.items ++ decimal number) }
+{
+    to.extend_from_slice(Buffer::new().format(number).as_bytes())
+}
+
+fn push_signed(to: &mut Vec<u8>, number: i64) -> Result<(), AllocError>
+    ensures { OnOk result (to.new.items ≡ to.old.items ++ signed_decimal number) }
+{
+    to.extend_from_slice(Buffer::new().format(number).as_bytes())
+}
+
+// Appends bytes as hexadecimal digits, two for each.
+fn push_hex(to: &mut Vec<u8>, part: &[u8]) -> Result<(), AllocError>
+    ensures { OnOk result (to.new.items ≡ to.old.items ++ encode_lower part.now) }
+{
+    'bytes: for byte in part {
+        push_digits(to, *byte)?;
+    }
+    Ok(())
+}
+
+fn push_digits(to: &mut Vec<u8>, byte: u8) -> Result<(), AllocError>
+    ensures { OnOk result (to.new.items ≡ to.old.items ++ encode_lower (byte ∷ [])) }
+{
+    let mut digits = [0; 2];
+    let Ok(()) = hex::encode_to_slice([byte], &mut digits) else {
+        unreachable!()
+    };
+    to.extend_from_slice(&digits)?;
+    Ok(())
+}

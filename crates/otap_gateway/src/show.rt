@@ -1,0 +1,142 @@
+//! `show`: the cells of each batch as they are stored.
+ghost use Rattle.std.specs.Prelude.{◌≡◌, ◌++◌, List, length, IfOk, OnOk};
+ghost use Rattle.otap_capture.specs.Batch.{content_of};
+ghost use Rattle.otap_capture.specs.Capture.{frame_of};
+ghost use Rattle.otap_cells.specs.Sets.{tables_in};
+ghost use Rattle.otap_consume.specs.Outcomes.{Outcome, Outcomes, Refused};
+ghost use Rattle.otap_consume.specs.Segments.{IsNew, IsTaken, StandsFor, TakesIf};
+ghost use Rattle.otap_gateway.specs.declared.command.Command.TheVariants as command;
+ghost use Rattle.otap_gateway.specs.Showing.{payload_head, payload_text, batch_text, shown, RepliesTo, ShowsTaken};
+
+use crate::causes::cause_name;
+use crate::job::Job;
+use crate::lines::{refused_line, reset_line};
+use crate::quoting::push_quoted;
+use crate::reply::Reply;
+use crate::rows::push_rows;
+use otap_capture::{Batch, Frame, Payload, read_batch};
+use otap_cells::{Rows, TableSet};
+use otap_consume::{Refusal, Seen, Segment};
+use otlp_model::Signal;
+use std::alloc::{AllocError, Global};
+
+/// The job `show` of a signal. It keeps the sub-streams of the segment that are open.
+#[derive(Drop)]
+pub(crate) struct Shower {
+    segment: Segment,
+}
+
+impl Shower {
+    pub(crate) fn new(alloc: Global, signal: Signal) -> Result<Shower, AllocError>
+        ensures { IfOk result (λ shower. IsNew signal shower.segment) }
+    {
+        let segment = Segment::new(alloc, signal)?;
+        Ok(Shower { segment })
+    }
+}
+
+impl Job for Shower {
+    ghost command = { λ s. command.Show s.segment.signal };
+
+    ghost stands = { λ s frames replies. (outcomes : List Outcome) × Outcomes s.segment.signal frames outcomes × StandsFor s.segment.signal outcomes s.segment };
+
+    fn step(&mut self, alloc: Global, number: u64, frame: &Frame<'_>) -> Result<Reply, AllocError> {
+        let answer = self.segment.take(frame)?;
+        reply_to(alloc, number, &self.segment, frame, answer)
+    }
+}
+
+// The reply to what the segment answered to a frame.
+fn reply_to(
+    alloc: Global,
+    number: u64,
+    segment: &Segment,
+    frame: &Frame<'_>,
+    answer: Seen,
+) -> Result<Reply, AllocError>
+    requires { TakesIf (frame_of frame.now) segment.now answer }
+    ensures { IfOk result (RepliesTo (frame_of frame.now) segment.now number answer) }
+{
+    match answer {
+        Seen::Batch { .. } => show_batch(alloc, number, segment, frame),
+        Seen::Refused(refusal) => refused(alloc, number, refusal),
+        Seen::Reset => Ok(Reply::printed(alloc, reset_line(alloc, number)?)),
+    }
+}
+
+// The reply to a batch, which the segment took last.
+fn show_batch(
+    alloc: Global,
+    number: u64,
+    segment: &Segment,
+    frame: &Frame<'_>,
+) -> Result<Reply, AllocError>
+    requires { IsTaken (frame_of frame.now) segment.now }
+    ensures { IfOk result (ShowsTaken (frame_of frame.now) segment.now number) }
+{
+    let Frame::Message(bytes) = frame else {
+        unreachable!()
+    };
+    let Ok(batch) = read_batch(bytes) else {
+        unreachable!()
+    };
+    let set = segment.tables(alloc, &batch)?;
+    let text = batch_text(alloc, number, &batch, &set)?;
+    Ok(Reply::on_out(alloc, text))
+}
+
+fn batch_text<R: Rows>(
+    alloc: Global,
+    number: u64,
+    batch: &Batch<'_>,
+    set: &TableSet<R>,
+) -> Result<Vec<u8>, AllocError>
+    requires { length set.now.tables.items ≡ length batch.now.payloads }
+    ensures { IfOk result (λ text. text.items ≡ batch_text number batch.now (tables_in R.table set.now.tables.items)) }
+{
+    let id = batch.id();
+    let mut out = format!(in alloc; "frame {number}: batch {id}\n")?.into_bytes();
+    let mut payloads = batch.payloads();
+    'tables: for (_, rows) in &set.tables {
+        let Some(payload) = payloads.next() else {
+            unreachable!()
+        };
+        push_payload(alloc, &mut out, &payload, rows)?;
+    }
+    Ok(out)
+}
+
+fn push_payload<R: Rows>(
+    alloc: Global,
+    out: &mut Vec<u8>,
+    payload: &Payload<'_>,
+    rows: &R,
+) -> Result<(), AllocError>
+    ensures { OnOk result (out.new.items ≡ out.old.items ++ payload_text (content_of payload.now) (R.table rows.now)) }
+{
+    push_head(alloc, out, payload, rows.rows())?;
+    push_rows(out, rows)
+}
+
+fn push_head(
+    alloc: Global,
+    out: &mut Vec<u8>,
+    payload: &Payload<'_>,
+    rows: u64,
+) -> Result<(), AllocError>
+    ensures { OnOk result (out.new.items ≡ out.old.items ++ payload_head (content_of payload.now) rows) }
+{
+    let kind = payload.kind;
+    out.extend_from_slice(format!(in alloc; "payload {kind} schema \"")?.as_bytes())?;
+    push_quoted(out, payload.schema_id.as_bytes())?;
+    out.extend_from_slice(format!(in alloc; "\" rows {rows}\n")?.as_bytes())
+}
+
+fn refused(alloc: Global, number: u64, refusal: Refusal) -> Result<Reply, AllocError>
+    ensures { IfOk result (λ reply. reply ≡ shown number (Refused refusal)) }
+{
+    let payload = refusal.payload.map(i64::from);
+    let cause = cause_name(refusal.cause)?;
+    let line = refused_line(alloc, number, refusal.id, refusal.stage, cause, payload)?;
+    Ok(Reply::refusal(alloc, line))
+}
