@@ -3,3 +3,4 @@ pub mod Walking
 pub mod Walked
 pub mod PathsWalked
 pub mod ColumnLaws
+pub mod Found

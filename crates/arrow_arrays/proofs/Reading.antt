@@ -7,15 +7,12 @@ use Rattle.arrow_buffers.specs.declared.fault.BufferFault.{BufferFault}
 use Rattle.arrow_buffers.specs.Offsets.{offsets_check}
 use Rattle.arrow_buffers.specs.Vars.{VarsIn, vars_of}
 use Rattle.arrow_ipc.specs.Batches.{BatchIn}
-use Rattle.arrow_arrays.specs.declared.place.ArrayPlace.{ArrayPlace}
 use Rattle.arrow_arrays.specs.declared.spec.ArraySpec.{ArraySpec}
 use Rattle.arrow_arrays.specs.declared.view.Values.{Values}
 use Rattle.arrow_arrays.specs.declared.view.Values.TheVariants.{Vars}
-use Rattle.arrow_arrays.specs.declared.view.ArrayView.{ArrayView}
-use Rattle.arrow_arrays.specs.Layouts.{FitsLayout}
-use Rattle.arrow_arrays.specs.Cells.{buffer_in, vars_in, array_in, array_check, cell_in, cell_if, own_cell}
+use Rattle.arrow_arrays.specs.Cells.{buffer_in, vars_in}
 use Rattle.arrow_arrays.specs.Arrays.{arrays_check, HasNoFault}
-use Rattle.arrow_arrays.specs.Laws.{own_fits, none_have_faults}
+use Rattle.arrow_arrays.specs.Laws.{none_have_faults}
 
 vars_ok : (r : Result (Unit {0}) BufferFault) (all : VarsIn) → (let read : Result Values BufferFault = result_and r (Ok all) >>= λ (parts : VarsIn). Ok (Vars parts) in IsOk read → Ok (Vars all) ≡ read)
 vars_ok (Ok x) all ok = refl
@@ -32,17 +29,9 @@ vars_known batch place offsets values one two ok =
     ap (λ (o : Result (List ℕ) BufferFault). read o (buffer_in batch (place + 1))) one ∙ ap (read (Ok offsets)) two in
     vars_ok (offsets_check 1 offsets values batch.rows) (record { offsets = offsets; values = values; rows = batch.rows }) (subst (λ (r : Result Values BufferFault). IsOk r) same ok) ∙ sym same
 
-if_some : {A : Type 0} (o : Option A) (P : A → Type 0) → ((x : A) → o ≡ Some x → P x) → IfSome o P
+pub if_some : {A : Type 0} (o : Option A) (P : A → Type 0) → ((x : A) → o ≡ Some x → P x) → IfSome o P
 if_some None P each = tt
 if_some (Some x) P each = each x refl
-
--- the cell of the view of an array without a fault fits its layout
-pub view_fits : (batch : BatchIn) (a : ArrayPlace) (row : ℕ) (view : ArrayView) (cell : Option (List ℕ)) → IsOk (array_check batch a) → Ok view ≡ array_in batch a
-    → cell ≡ cell_in view row → IfSome cell (FitsLayout a.layout)
-unfolding own_cell
-view_fits batch a row view cell ok is same =
-    if_some cell (FitsLayout a.layout) (λ value has.
-    own_fits batch a row value ok (ap (λ (r : Result ArrayView BufferFault). cell_if r row) (sym is) ∙ sym same ∙ has))
 
 -- a check that is Ok finds no fault
 pub none_on : (batch : BatchIn) (arrays : List ArraySpec) (r : Result (Unit {0}) BufferFault) → r ≡ arrays_check batch arrays → OnOk r (HasNoFault batch arrays)

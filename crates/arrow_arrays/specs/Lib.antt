@@ -5,3 +5,4 @@ pub mod Laws
 pub mod Inside
 pub mod Fields
 pub mod Columns
+pub mod Lookups

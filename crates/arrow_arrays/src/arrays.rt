@@ -164,12 +164,18 @@ impl Arrays {
     /// `None` where it is null, by its own bitmap or that of a struct above, or where there is no
     /// such row or array. A bit is one byte, 0 or 1; a struct has no bytes. It takes constant time
     /// and no memory.
+    #[inline(always)]
+    #[tactic(auto, using(crate::specs::Laws::check_at, crate::specs::Laws::cell_fits), unfolding(crate::specs::Arrays::cell_within))]
     pub fn cell<'v>(&self, batch: &BatchView<'v>, place: usize, row: u64) -> Option<&'v [u8]>
         requires fine { IsOk (arrays_check batch.now self.now) }
         ensures cell { option_copied result ≡ cell_of self.now batch.now place row }
         ensures fits { IfSome (option_copied result) (FitsArray self.now place) }
     {
-        cell_within(&self.arrays, batch, place, row, MAX_DEPTH)
+        let array = array_at(&self.arrays, place)?;
+        if let Some(above) = array.above {
+            cell_within(&self.arrays, batch, above, row, MAX_DEPTH - 1)?;
+        }
+        array.place().cell(batch, row)
     }
 }
 

@@ -5,6 +5,7 @@
 mod arrays;
 pub mod laws;
 mod layout;
+mod lookup;
 mod place;
 mod spec;
 #[cfg(test)]

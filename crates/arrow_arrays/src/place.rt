@@ -4,6 +4,7 @@ ghost use Rattle.arrow_arrays.specs.Layouts.{FitsLayout};
 ghost use Rattle.arrow_arrays.specs.Cells.{place_of_values, array_check, own_cell};
 
 use crate::layout::Layout;
+use crate::lookup::{has_row, value};
 use crate::view::array_in;
 use arrow_buffers::BufferFault;
 use arrow_ipc::BatchView;
@@ -46,15 +47,27 @@ impl ArrayPlace {
 
     /// The bytes of a row's cell, by the array's own buffers; `None` where it is null, or there is
     /// no such row. A bit is one byte, 0 or 1; a struct has no bytes. It takes constant time.
-    #[tactic(auto, using(crate::specs::Laws::check_reads), unfolding(crate::specs::Cells::own_cell))]
+    #[inline(always)]
+    #[tactic(auto, using(crate::proofs::Found::cell_fits_layout))]
     pub fn cell<'v>(self, batch: &BatchView<'v>, row: u64) -> Option<&'v [u8]>
         requires fine { IsOk (array_check batch.now self) }
         ensures cell { option_copied result ≡ own_cell batch.now self row }
         ensures fits { IfSome (option_copied result) (FitsLayout self.layout) }
     {
-        match array_in(batch, self, true) {
-            Ok(array) => array.cell(row),
-            Err(_) => None,
+        let cell = self.look_up(batch, row);
+        cell
+    }
+
+    #[inline(always)]
+    #[tactic(auto, using(crate::proofs::Found::there, crate::proofs::Found::absent, crate::proofs::Found::values_are_fine))]
+    fn look_up<'v>(self, batch: &BatchView<'v>, row: u64) -> Option<&'v [u8]>
+        requires fine { IsOk (array_check batch.now self) }
+        ensures { option_copied result ≡ own_cell batch.now self row }
+    {
+        if has_row(batch, self, row) {
+            value(batch, self, row)
+        } else {
+            None
         }
     }
 }

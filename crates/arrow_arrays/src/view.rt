@@ -1,7 +1,7 @@
 ghost use Rattle.std.specs.Prelude.{◌≡◌, ◌+◌, ◌^◌, ◌<◌, true, IsOk};
 ghost use Rattle.std.specs.Option.{option_copied};
 ghost use Rattle.arrow_buffers.specs.Columns.{bit_byte};
-ghost use Rattle.arrow_arrays.specs.Cells.{Gives, nulls_in, buffer_in, validity_in, bits_in, fixed_in, vars_in, values_in, array_in, text_check, value_in, cell_in};
+ghost use Rattle.arrow_arrays.specs.Cells.{Gives, nulls_in, buffer_in, validity_in, bits_in, fixed_in, vars_in, values_in, array_in, text_check, value_in};
 
 use crate::layout::Layout;
 use crate::place::ArrayPlace;
@@ -60,7 +60,10 @@ fn buffer_in<'a>(batch: &BatchView<'a>, place: u32) -> Result<&'a [u8], BufferFa
 }
 
 #[tactic(auto, unfolding(crate::specs::Cells::validity_in))]
-fn validity_in<'a>(batch: &BatchView<'a>, place: ArrayPlace) -> Result<Bits<'a>, BufferFault>
+pub(crate) fn validity_in<'a>(
+    batch: &BatchView<'a>,
+    place: ArrayPlace,
+) -> Result<Bits<'a>, BufferFault>
     ensures { result ≡ validity_in batch.now place }
 {
     let nulls = nulls_in(batch, u32::from(place.node))?;
@@ -69,7 +72,7 @@ fn validity_in<'a>(batch: &BatchView<'a>, place: ArrayPlace) -> Result<Bits<'a>,
 }
 
 #[tactic(auto, unfolding(crate::specs::Cells::bits_in))]
-fn bits_in<'a>(batch: &BatchView<'a>, place: u32) -> Result<Values<'a>, BufferFault>
+pub(crate) fn bits_in<'a>(batch: &BatchView<'a>, place: u32) -> Result<Values<'a>, BufferFault>
     ensures { result ≡ bits_in batch.now place }
 {
     let bytes = buffer_in(batch, place)?;
@@ -78,7 +81,11 @@ fn bits_in<'a>(batch: &BatchView<'a>, place: u32) -> Result<Values<'a>, BufferFa
 
 // Values of no bytes need none.
 #[tactic(auto, unfolding(crate::specs::Cells::fixed_in))]
-fn fixed_in<'a>(batch: &BatchView<'a>, place: u32, width: u32) -> Result<Values<'a>, BufferFault>
+pub(crate) fn fixed_in<'a>(
+    batch: &BatchView<'a>,
+    place: u32,
+    width: u32,
+) -> Result<Values<'a>, BufferFault>
     ensures { result ≡ fixed_in batch.now place width }
 {
     let bytes = buffer_in(batch, place)?;
@@ -90,7 +97,11 @@ fn fixed_in<'a>(batch: &BatchView<'a>, place: u32, width: u32) -> Result<Values<
 
 // The offsets stand at the place, and the values behind them.
 #[tactic(auto, unfolding(crate::specs::Cells::vars_in))]
-fn vars_in<'a>(batch: &BatchView<'a>, place: u32, known: bool) -> Result<Values<'a>, BufferFault>
+pub(crate) fn vars_in<'a>(
+    batch: &BatchView<'a>,
+    place: u32,
+    known: bool,
+) -> Result<Values<'a>, BufferFault>
     requires room { place + 1 < 2 ^ 32 }
     requires known { known ≡ true → IsOk (vars_in batch.now place) }
     ensures { result ≡ vars_in batch.now place }
@@ -132,21 +143,10 @@ impl<'a> ArrayView<'a> {
             _ => Ok(()),
         }
     }
-
-    /// The bytes of a row's cell; `None` where it is null, or there is no such row.
-    pub(crate) fn cell(&self, row: u64) -> Option<&'a [u8]>
-        ensures { option_copied result ≡ cell_in self.now row }
-    {
-        if self.valid.get(row)? {
-            self.values.get(row)
-        } else {
-            None
-        }
-    }
 }
 
 impl<'a> Values<'a> {
-    fn get(&self, row: u64) -> Option<&'a [u8]>
+    pub(crate) fn get(&self, row: u64) -> Option<&'a [u8]>
         ensures { option_copied result ≡ value_in self.now row }
     {
         match self {
