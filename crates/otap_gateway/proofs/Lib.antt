@@ -5,3 +5,4 @@ pub mod FaultlessRuns
 pub mod Progress
 pub mod RowText
 pub mod Shows
+mod Plain

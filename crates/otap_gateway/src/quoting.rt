@@ -1,12 +1,37 @@
 //! Bytes as a quoted text has them.
 ghost use Rattle.std.specs.Prelude.{◌≡◌, ◌++◌, OnOk};
-ghost use Rattle.otap_gateway.specs.Quoting.{quoted, quoted_byte, escaped};
+ghost use Rattle.std.specs.List.{list_any};
+ghost use Rattle.otap_gateway.specs.Quoting.{quoted, quoted_byte, escaped, is_special};
 
 use std::alloc::AllocError;
 
 /// Appends a text as it stands between double quotes: a control character, the double quote and the
 /// backslash as `\x` and two hexadecimal digits, every other byte as it is.
+#[tactic(auto, using(crate::proofs::Plain::quoted_plain))]
 pub(crate) fn push_quoted(out: &mut Vec<u8>, text: &[u8]) -> Result<(), AllocError>
+    ensures { OnOk result (out.new.items ≡ out.old.items ++ quoted text.now) }
+{
+    if has_special(text) {
+        push_escaping(out, text)
+    } else {
+        out.extend_from_slice(text)
+    }
+}
+
+// Whether a byte of the text is escaped. Most texts have none, and are appended as a whole.
+fn has_special(text: &[u8]) -> bool
+    ensures { result ≡ list_any is_special text.now }
+{
+    text.iter().any(|byte| is_special(*byte))
+}
+
+fn is_special(byte: u8) -> bool
+    ensures { result ≡ is_special byte }
+{
+    matches!(byte, 0..=0x1f | b'"' | b'\\' | 0x7f)
+}
+
+fn push_escaping(out: &mut Vec<u8>, text: &[u8]) -> Result<(), AllocError>
     ensures { OnOk result (out.new.items ≡ out.old.items ++ quoted text.now) }
 {
     for byte in text {
@@ -18,9 +43,10 @@ pub(crate) fn push_quoted(out: &mut Vec<u8>, text: &[u8]) -> Result<(), AllocErr
 fn push_byte(out: &mut Vec<u8>, byte: u8) -> Result<(), AllocError>
     ensures { OnOk result (out.new.items ≡ out.old.items ++ quoted_byte byte) }
 {
-    match byte {
-        0..=0x1f | b'"' | b'\\' | 0x7f => push_escape(out, byte),
-        _ => Ok(out.push(byte)?),
+    if is_special(byte) {
+        push_escape(out, byte)
+    } else {
+        Ok(out.push(byte)?)
     }
 }
 
