@@ -24,39 +24,40 @@ class Refused(Exception):
     """The input has no counterpart in the other form; names the place and the reason."""
 
 
+def size_at(data, place, at, what):
+    """The length that stands at a place, of the request or frame that begins at `at`."""
+    if len(data) - place < 4:
+        raise Refused(f"truncated {what} at {at}")
+    return int.from_bytes(data[place : place + 4], "big")
+
+
+def part_at(data, place, size, at, what):
+    """The bytes from a place on, of the request or frame that begins at `at`."""
+    if size > LIMIT:
+        raise Refused(f"{what} of {size} bytes at {at}: above {LIMIT}")
+    if len(data) - place < size:
+        raise Refused(f"truncated {what} at {at}")
+    return data[place : place + size]
+
+
 def requests_of(data):
     """The requests of a file of the file exporter, in order."""
     at = 0
     while at < len(data):
-        if len(data) - at < 4:
-            raise Refused(f"truncated length at {at}")
-        size = int.from_bytes(data[at : at + 4], "big")
-        if size > LIMIT:
-            raise Refused(f"request of {size} bytes at {at}: above {LIMIT}")
-        if len(data) - at - 4 < size:
-            raise Refused(f"truncated request at {at}")
-        yield data[at + 4 : at + 4 + size]
+        size = size_at(data, at, at, "request")
+        yield part_at(data, at + 4, size, at, "request")
         at += 4 + size
 
 
 def messages_of(data):
     """The messages of a capture, in order."""
+    others = {1: "compressed frame", 2: "reset"}
     at = 0
     while at < len(data):
-        if len(data) - at < 5:
-            raise Refused(f"truncated frame at {at}")
-        flag, size = data[at], int.from_bytes(data[at + 1 : at + 5], "big")
-        if flag == 1:
-            raise Refused(f"compressed frame at {at}")
-        if flag == 2:
-            raise Refused(f"reset at {at}")
-        if flag != 0:
-            raise Refused(f"bad frame at {at}")
-        if size > LIMIT:
-            raise Refused(f"frame of {size} bytes at {at}: above {LIMIT}")
-        if len(data) - at - 5 < size:
-            raise Refused(f"truncated frame at {at}")
-        yield data[at + 5 : at + 5 + size]
+        size = size_at(data, at + 1, at, "frame")
+        if data[at] != 0:
+            raise Refused(f"{others.get(data[at], 'bad frame')} at {at}")
+        yield part_at(data, at + 5, size, at, "frame")
         at += 5 + size
 
 
