@@ -1,6 +1,6 @@
--- What holds of each pair after those before it, as the two lists grow.
-use Rattle.std.proofs.Common.{◌≡◌, List, [], ◌∷◌, ◌++◌, length, suc, refl, ap, append_assoc, append-nil}
-use Rattle.histories.specs.EachAfter.{EachAfter}
+-- What holds of each element, or pair, after those before it, as the lists grow.
+use Rattle.std.proofs.Common.{◌≡◌, List, [], ◌∷◌, ◌++◌, length, suc, refl, ap, sym, subst, append_assoc, append-nil}
+use Rattle.histories.specs.EachAfter.{EachAfter, AllAfter}
 
 module _ {A B : Type 0} (R : List A → List B → A → B → Type 0) where
   -- one more pair, which is allowed after all that came before
@@ -45,3 +45,22 @@ module _ {A B : Type 0} (R : List A → List B → A → B → Type 0) where
   each_after-weaker Q weaker past past' (x ∷ xs) [] each = absurd each
   each_after-weaker Q weaker past past' (x ∷ xs) (y ∷ ys) each =
       (weaker past past' x y each.0, each_after-weaker Q weaker (past ++ x ∷ []) (past' ++ y ∷ []) xs ys each.1)
+
+-- ---- one list
+
+module _ {A : Type 0} (P : List A → A → Type 0) where
+  pub all_after-push : (past xs : List A) (x : A) → AllAfter P past xs → P (past ++ xs) x → AllAfter P past (xs ++ x ∷ [])
+  all_after-push past xs x all here = each_after-push (λ before same y again. P before y) past past xs xs x x all here
+
+  pub all_after-append : (past xs us : List A) → AllAfter P past xs → AllAfter P (past ++ xs) us → AllAfter P past (xs ++ us)
+  all_after-append past xs us all more = each_after-append (λ before same y again. P before y) past past xs us xs us all more
+
+  pub all_after-weaker : (Q : List A → A → Type 0) → ((before : List A) (x : A) → P before x → Q before x) → (past xs : List A) → AllAfter P past xs → AllAfter Q past xs
+  all_after-weaker Q weaker past xs all =
+      each_after-weaker (λ before same y again. P before y) (λ before same y again. Q before y) (λ before same y again h. weaker before y h) past past xs xs all
+
+  -- what holds of each holds of one of them
+  pub all_after-at : (past front rest : List A) (x : A) → AllAfter P past (front ++ x ∷ rest) → P (past ++ front) x
+  all_after-at past [] rest x all = subst (λ (before : List A). P before x) (sym (append-nil past)) all.0
+  all_after-at past (y ∷ front) rest x all =
+      subst (λ (before : List A). P before x) (append_assoc past (y ∷ []) front) (all_after-at (past ++ y ∷ []) front rest x all.1)

@@ -1,4 +1,4 @@
--- A relation that holds of each element of two lists after what came before it.
+-- A relation that holds of each element of a list, or of two lists in step, after what came before it.
 use Rattle.std.specs.Prelude.{List, [], ◌∷◌, ◌++◌, ⊤}
 
 -- The two lists go in step, and R holds of each x and y after all xs and ys before them. The pasts stand before the lists.
@@ -7,3 +7,7 @@ EachAfter R past past' [] [] = ⊤
 EachAfter R past past' [] (y ∷ ys) = ⊥
 EachAfter R past past' (x ∷ xs) [] = ⊥
 EachAfter R past past' (x ∷ xs) (y ∷ ys) = R past past' x y × EachAfter R (past ++ x ∷ []) (past' ++ y ∷ []) xs ys
+
+-- P holds of each element of one list after those before it: the list in step with itself
+abbrev pub AllAfter : {A : Type 0} → (List A → A → Type 0) → List A → List A → Type 0
+AllAfter P past xs = EachAfter (λ before same x again. P before x) past past xs xs
