@@ -5,7 +5,7 @@ use Rattle.std.proofs.lemmas.Bool.{cases_eq, cases_lt}
 use Rattle.std.proofs.lemmas.List.{take_rest}
 use Rattle.otlp_wire.specs.Varint.{sevens, GoesOn, IsVarint}
 use Rattle.otlp_wire.specs.Reading.{Begins}
-use Rattle.otlp_wire.specs.lemmas.Varints.{ends_at}
+use Rattle.otlp_wire.proofs.Varints.{ends_at}
 
 -- seven more bits
 pub shift_more : (i : ℕ) → 2 ^ (7 * suc i) ≡ 2 ^ (7 * i) * 128
@@ -29,7 +29,7 @@ pub below_shift : (v x i : ℕ) → v < 2 ^ (7 * i) → x < 128 → v + x * 2 ^ 
 below_shift v x i low small =
     rw (add-one, shift_more i) (omega (arith, mul-le-mul_right (2 ^ (7 * i)) (let le : x ≤ 127 = omega arith in le)))
 
--- a byte's bits fit 64 bits, at most nine bytes behind the first
+-- a byte's bits fit 64 bits, at most nine bytes after the first
 pub fits : (v x i : ℕ) → v < 2 ^ (7 * i) → x < 128 → i ≤ 9 → (i ≡ 9 → x ≤ 1) → v + x * 2 ^ (7 * i) < 2 ^ 64
 fits v x i low small nine tenth =
     elim (cases_lt i 9) [

@@ -2,4 +2,3 @@ pub mod Varint
 pub mod Wire
 pub mod Reading
 pub mod Fields
-pub mod lemmas

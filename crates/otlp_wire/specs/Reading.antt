@@ -29,7 +29,7 @@ ValueFaults t bytes BadVarint = ((t ≡ 0) ⊎ (t ≡ 2)) × IsLongVarint bytes
 ValueFaults t bytes BadWireType = (t ≡ 3) ⊎ (t ≡ 4) ⊎ (t ≡ 6) ⊎ (t ≡ 7)
 ValueFaults t bytes BadTag = ⊥
 
--- what is wrong behind a tag: its number, or else its value
+-- what is wrong after a tag: its number, or else its value
 abbrev pub TagFaults : ℕ → List ℕ → WireError → Type 0
 TagFaults tag rest e = ((IsNumber (tag / 8) → ⊥) × (e ≡ BadTag)) ⊎ (IsNumber (tag / 8) × ValueFaults (tag % 8) rest e)
 

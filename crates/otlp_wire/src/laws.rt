@@ -18,7 +18,7 @@ pub fn some_reading()
     ensures { (bytes : List ℕ) → Reads bytes (fields_of bytes) (end_of bytes) }
 {}
 
-/// The fields of bytes that spell fields come before those of any bytes behind them. So `fields_of`
+/// The fields of bytes that spell fields come before those of any bytes after them. So `fields_of`
 /// has the fields of the longest front that spells fields.
 pub fn joined_reading()
     ensures fields { (front rest : List ℕ) (fs : List Entry)

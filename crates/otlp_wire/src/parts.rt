@@ -13,7 +13,7 @@ pub enum Wire<'a> {
     Varint(u64),
     /// Wire type 1, eight bytes, lowest first.
     Fixed64(u64),
-    /// Wire type 2, a length and so many bytes: a string, bytes, a message or packed numbers.
+    /// Wire type 2, a length and as many bytes: a string, bytes, a message or packed numbers.
     Bytes(&'a [u8]),
     /// Wire type 5, four bytes, lowest first.
     Fixed32(u32),

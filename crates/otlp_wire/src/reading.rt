@@ -43,7 +43,7 @@ impl<'a> Iterator for Fields<'a> {
 
     ghost remaining = { λ s. at_most (length s) };
 
-    #[inline]
+    #[inline(always)]
     fn next(&mut self) -> Option<Result<Field<'a>, WireError>> {
         if self.rest.is_empty() {
             return None;
@@ -61,7 +61,8 @@ impl<'a> Iterator for Fields<'a> {
     }
 }
 
-/// The field at the front of the bytes, and the bytes behind it.
+/// The field at the front of the bytes, and the bytes after it.
+#[inline(always)]
 fn take_field(bytes: &[u8]) -> Result<(Field<'_>, &[u8]), WireError>
     ensures ok { IfOk result (λ r. Begins (λ front. IsField front (entry r.0)) bytes.now r.1.now) }
     ensures shorter { IfOk result (λ r. length r.1.now < length bytes.now) }
@@ -77,7 +78,8 @@ fn take_field(bytes: &[u8]) -> Result<(Field<'_>, &[u8]), WireError>
     Ok((Field { number, value }, rest))
 }
 
-/// The value of this wire type at the front of the bytes, and the bytes behind it.
+/// The value of this wire type at the front of the bytes, and the bytes after it.
+#[inline(always)]
 fn take_value(wire_type: u64, bytes: &[u8]) -> Result<(Wire<'_>, &[u8]), WireError>
     requires { wire_type < 8 }
     ensures ok { IfOk result (λ r. Begins (λ front. IsValue front (value_of r.0)) bytes.now r.1.now) }
@@ -106,7 +108,8 @@ fn take_value(wire_type: u64, bytes: &[u8]) -> Result<(Wire<'_>, &[u8]), WireErr
     }
 }
 
-/// The first so many bytes, and the bytes behind them.
+/// The first `len` bytes, and the bytes after them.
+#[inline(always)]
 fn take_part(len: u64, bytes: &[u8]) -> Result<(&[u8], &[u8]), WireError>
     ensures ok { IfOk result (λ r. (bytes.now ≡ r.0.now ++ r.1.now) × (length r.0.now ≡ len)) }
     ensures err { IfErr result (λ e. (length bytes.now < len) × (e ≡ WireError.Cut)) }

@@ -1,7 +1,7 @@
 use super::*;
 use std::test::Fail;
 
-/// The examples of the protobuf encoding guide, fields of two-byte tags behind them: the number 150 in
+/// The examples of the protobuf encoding guide, fields of two-byte tags after them: the number 150 in
 /// field 1, the text "testing" in field 2, and 1 in field 16 as 32 and as 64 bits.
 const MESSAGE: [u8; 28] = [
     0x08, 0x96, 0x01, 0x12, 0x07, 0x74, 0x65, 0x73, 0x74, 0x69, 0x6e, 0x67, 0x85, 0x01, 0x01, 0x00,

@@ -16,7 +16,7 @@ const LAST: usize = MAX_LEN - 1;
 /// The greatest value of the last of them, whose lowest bit is the 64th.
 const MAX_LAST: u8 = 1;
 
-/// The varint at the front of the bytes, and the bytes behind it.
+/// The varint at the front of the bytes, and the bytes after it.
 #[inline(always)]
 pub(crate) fn take_varint(bytes: &[u8]) -> Result<(u64, &[u8]), WireError>
     ensures ok { IfOk result (λ r. Begins (λ front. IsVarint front r.0) bytes.now r.1.now) }

@@ -1,4 +1,4 @@
-use Rattle.otlp_wire.specs.Fields.{fields_of-joined}
+use Rattle.otlp_wire.proofs.FieldsOf.{fields_of-joined}
 use Rattle.otlp_wire.proofs.laws.joined_reading.Goals as goal
 
 pub returns-clause-fields : goal.returns-clause-fields

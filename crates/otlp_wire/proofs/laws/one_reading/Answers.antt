@@ -1,4 +1,4 @@
-use Rattle.otlp_wire.specs.lemmas.Readings as lemmas
+use Rattle.otlp_wire.proofs.Readings as lemmas
 use Rattle.otlp_wire.proofs.laws.one_reading.Goals as goal
 
 pub returns : goal.returns

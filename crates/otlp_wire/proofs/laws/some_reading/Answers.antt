@@ -1,4 +1,4 @@
-use Rattle.otlp_wire.specs.Fields.{fields_of-reads}
+use Rattle.otlp_wire.proofs.FieldsOf.{fields_of-reads}
 use Rattle.otlp_wire.proofs.laws.some_reading.Goals as goal
 
 pub returns : goal.returns

@@ -1,6 +1,6 @@
 use Rattle.std.proofs.Common.{◌≡◌, ◌<◌, [], length, arith, refl}
 use Rattle.std.proofs.lemmas.Grind.{common_steps}
-use Rattle.otlp_wire.specs.Fields.{first_field, first_fault, no_field}
+use Rattle.otlp_wire.proofs.FieldsOf.{first_field, first_fault, no_field}
 use Rattle.otlp_wire.proofs.reading.FieldsIterator.next.Goals as goal
 
 pub returns-then-is_empty-clause-steps : goal.returns-then-is_empty-clause-steps

@@ -1,13 +1,14 @@
 -- All bytes begin with exactly one varint or with exactly one fault.
-use Rattle.std.proofs.Common.{◌≡◌, ℕ, zero, suc, ◌+◌, ◌<◌, ◌≤◌, List, ◌++◌, length, get_or, take, drop, Result, Ok, Err, refl, sym, ap, ◌∙◌, arith, inl, inr, ◌⊎◌}
-use Rattle.std.specs.Prelude.{slice_index}
-use Rattle.std.proofs.lemmas.Bool.{cases_lt, cases_eq}
+use Rattle.std.proofs.Common.{◌≡◌, ℕ, zero, suc, ◌+◌, ◌<◌, ◌≤◌, List, ◌++◌, length, get_or, take, drop, Result, Ok, Err, refl, sym, ap, ◌∙◌, arith, inl, inr}
+use Rattle.std.specs.Prelude.{[], ◌∷◌, slice_index, nat_lt, if◌then◌else◌}
+use Rattle.std.proofs.lemmas.Bool.{cases_lt, cases_eq, lt-ltb, le-ltb}
 use Rattle.std.proofs.lemmas.List.{length-append, get_or_append_left, get_or-take, length-take-le, take-append-drop, get_or_past}
 use Rattle.std.proofs.Math.Seq.{take-append_seam, drop-append_seam}
 use Rattle.otlp_wire.specs.declared.parts.WireError.{WireError}
 use Rattle.otlp_wire.specs.declared.parts.WireError.TheVariants.{Cut, BadVarint, BadWireType, BadTag}
 use Rattle.otlp_wire.specs.Varint.{sevens, GoesOn, IsVarint, IsCutVarint, IsLongVarint}
 use Rattle.otlp_wire.specs.Reading.{Begins, VarintFaults}
+use Rattle.otlp_wire.specs.Fields.{going_on, first_varint}
 
 -- the place of the first byte that goes no further
 record EndsAt (bytes : List ℕ) (last : ℕ) : Type 0 where
@@ -109,46 +110,67 @@ ends_at bytes i v below nine goes_on last tenth value = (
   },
 )
 
--- the first of so many bytes that goes no further, or none
-Search : List ℕ → ℕ → Type 0
-Search bytes most = ((k : ℕ) × (k < most) × EndsAt bytes k) ⊎ ((i : ℕ) → i < most → i < length bytes → 128 ≤ slice_index bytes i)
+-- the first byte that goes no further
+goes_on_more : (byte : ℕ) (bytes : List ℕ) (n : ℕ) → 128 ≤ byte → GoesOn bytes n → GoesOn (byte ∷ bytes) (suc n)
+goes_on_more byte bytes n high on zero h = high
+goes_on_more byte bytes n high on (suc i) h = on i (omega arith)
 
-some_end : (bytes : List ℕ) (most : ℕ) → Search bytes most
-unfolding Search
-some_end bytes zero = inr (λ i h. absurd (omega arith))
-some_end bytes (suc most) =
-    elim (some_end bytes most) [
-      | inl found ↦ inl (found.0, (let k : found.0 < most = found.1 in omega arith), found.2)
-      | inr none ↦ elim (cases_lt most (length bytes)) [
-        | inl inside ↦ elim (cases_lt (slice_index bytes most) 128) [
-          | inl ends ↦ inl (most, omega arith, record { inside = inside; goes_on = λ i h. none i h (omega arith); ends = ends })
-          | inr on ↦ inr (λ i h l. elim (cases_lt i most) [
-            | inl low ↦ none i low l
-            | inr high ↦ (let here : i ≡ most = omega arith in rw here on)
-          ])
-        ]
-        | inr past ↦ inr (λ i h l. none i (omega arith) l)
-      ]
+going_on-on : (bytes : List ℕ) → GoesOn bytes (going_on bytes)
+going_on-on [] = λ i h. absurd (omega arith)
+going_on-on (byte ∷ bytes) =
+    elim (cases_lt byte 128) [
+      | inl low ↦ rw (lt-ltb byte 128 low) (λ i h. absurd (omega arith))
+      | inr high ↦ rw (le-ltb byte 128 high) (goes_on_more byte bytes (going_on bytes) high (going_on-on bytes))
     ]
 
-pub some_varint_result : (bytes : List ℕ) → (x : Result (ℕ × List ℕ) WireError) × VarintIs bytes x
-unfolding Search
-some_varint_result bytes =
-    elim (some_end bytes 10) [
-      | inl found ↦
-          (let k = found.0 in let low : k < 10 = found.1 in let at = found.2 in
-          let inside = at.inside in
-          let end : (k ≡ 9 → slice_index bytes k ≤ 1) → Begins (λ front. IsVarint front (sevens (take (k + 1) bytes))) bytes (drop (k + 1) bytes) =
-          λ tenth. ends_at bytes k (sevens (take (k + 1) bytes)) inside (omega arith) at.goes_on at.ends tenth refl in
-          elim (cases_eq k 9) [
-            | inl nine ↦ elim (cases_lt 1 (slice_index bytes k)) [
-              | inl long ↦ (Err BadVarint, record { ten = omega arith; goes_on = rw nine at at.goes_on; tenth = rw nine at long })
-              | inr fits ↦ (Ok (sevens (take (k + 1) bytes), drop (k + 1) bytes), end (λ _. fits))
-            ]
-            | inr early ↦ (Ok (sevens (take (k + 1) bytes), drop (k + 1) bytes), end (λ nine. absurd (early nine)))
-          ])
-      | inr none ↦ elim (cases_lt (length bytes) 10) [
-        | inl short ↦ (Err Cut, record { short = short; goes_on = λ i h. none i (omega arith) h })
-        | inr ten ↦ (Err BadVarint, record { ten = ten; goes_on = λ i h. none i (omega arith) (omega arith); tenth = omega (arith, none 9 (omega arith) (omega arith)) })
+going_on-within : (bytes : List ℕ) → going_on bytes ≤ length bytes
+going_on-within [] = omega arith
+going_on-within (byte ∷ bytes) =
+    elim (cases_lt byte 128) [
+      | inl low ↦ rw (lt-ltb byte 128 low) (omega arith)
+      | inr high ↦ rw (le-ltb byte 128 high) (omega (arith, going_on-within bytes))
+    ]
+
+going_on-ends : (bytes : List ℕ) → going_on bytes < length bytes → slice_index bytes (going_on bytes) < 128
+going_on-ends [] inside = absurd (omega arith)
+going_on-ends (byte ∷ bytes) inside =
+    elim (cases_lt byte 128) [
+      | inl low ↦ rw (lt-ltb byte 128 low) low
+      | inr high ↦ (let rest : suc (going_on bytes) < suc (length bytes) = rw (le-ltb byte 128 high) at inside in
+          rw (le-ltb byte 128 high) (going_on-ends bytes (omega arith)))
+    ]
+
+-- a varint that goes on over nine bytes at most ends, or is cut
+ended : (bytes : List ℕ) → going_on bytes ≤ 9 → (going_on bytes ≡ 9 → slice_index bytes (going_on bytes) ≤ 1)
+    → VarintIs bytes (if nat_lt (going_on bytes) (length bytes) then Ok (sevens (take (going_on bytes + 1) bytes), drop (going_on bytes + 1) bytes) else Err Cut)
+ended bytes nine tenth =
+    elim (cases_lt (going_on bytes) (length bytes)) [
+      | inl inside ↦ rw (lt-ltb (going_on bytes) (length bytes) inside)
+          (ends_at bytes (going_on bytes) (sevens (take (going_on bytes + 1) bytes)) inside nine (going_on-on bytes) (going_on-ends bytes inside) tenth refl)
+      | inr past ↦ (let short : length bytes < 10 = omega (arith, going_on-within bytes) in
+          rw (le-ltb (going_on bytes) (length bytes) past) (record { short = short; goes_on = λ i h. going_on-on bytes i (omega arith) }))
+    ]
+
+-- a tenth byte that is too large is there, and the nine before it go on
+too_long : (bytes : List ℕ) → 8 < going_on bytes → 1 < slice_index bytes 9 → IsLongVarint bytes
+too_long bytes many long = record {
+  ten = elim (cases_lt 9 (length bytes)) [
+    | inl inside ↦ omega arith
+    | inr past ↦ absurd (omega (arith, long, get_or_past bytes 9 0 past))
+  ];
+  goes_on = λ i h. going_on-on bytes i (omega arith);
+  tenth = long;
+}
+
+-- what `first_varint` names stands at the front
+pub first_varint_is : (bytes : List ℕ) → VarintIs bytes (first_varint bytes)
+unfolding first_varint
+first_varint_is bytes =
+    elim (cases_lt 8 (going_on bytes)) [
+      | inl many ↦ elim (cases_lt 1 (slice_index bytes 9)) [
+        | inl long ↦ rw (lt-ltb 8 (going_on bytes) many, lt-ltb 1 (slice_index bytes 9) long) (too_long bytes many long)
+        | inr fits ↦ (let nine : going_on bytes ≤ 9 = elim (cases_lt 9 (going_on bytes)) [ inl on ↦ absurd (omega (arith, going_on-on bytes 9 on)) | inr at_most ↦ at_most ] in
+            rw (lt-ltb 8 (going_on bytes) many, le-ltb 1 (slice_index bytes 9) fits) (ended bytes nine (λ is. rw is fits)))
       ]
+      | inr few ↦ rw (le-ltb 8 (going_on bytes) few) (ended bytes (omega arith) (λ is. absurd (omega arith)))
     ]

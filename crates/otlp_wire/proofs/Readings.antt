@@ -4,7 +4,8 @@ use Rattle.std.proofs.lemmas.List.{length-append}
 use Rattle.otlp_wire.specs.declared.parts.WireError.{WireError}
 use Rattle.otlp_wire.specs.Wire.{FieldValue, Varint, Fixed64, Bytes, Fixed32, Entry, IsValue, IsField}
 use Rattle.otlp_wire.specs.Reading.{Begins, Faults, Reads, Spells}
-use Rattle.otlp_wire.specs.lemmas.Values.{field_ok, field_err, FieldIs, some_field, field_long}
+use Rattle.otlp_wire.specs.Fields.{Reading, and_then, reading_in, first_field}
+use Rattle.otlp_wire.proofs.Values.{field_ok, field_err, FieldIs, first_field_is, field_long}
 
 -- bytes that begin with a field are not empty
 not_empty : (bytes rest : List ℕ) (f : Entry) → Begins (λ front. IsField front f) bytes rest → 0 < length bytes
@@ -52,33 +53,24 @@ one_reading bytes (f ∷ fs) (g ∷ gs) d e a b =
     let others = one_reading a.0 fs gs d e a.2 (subst (λ (r : List ℕ). Reads r gs e) (sym first.1) b.2) in
     (ap (λ h. h ∷ fs) first.0 ∙ ap (λ hs. g ∷ hs) others.0, others.1)
 
-pub record SomeReading (bytes : List ℕ) : Type 0 where
-  pub fields : List Entry
-  pub end : Option WireError
-  pub reads : Reads bytes fields end
-
--- the rest behind a field is shorter
+-- the rest after a field is shorter
 shorter : (bytes rest : List ℕ) (f : Entry) → Begins (λ front. IsField front f) bytes rest → length rest < length bytes
 shorter bytes rest f b = rw b.1 (omega (arith, length-append b.0 rest, field_long b.0 f b.2))
 
--- a reading of the rest behind each field is one of the whole
-read_on : (bytes : List ℕ) → 0 < length bytes → ((rest : List ℕ) → length rest < length bytes → SomeReading rest)
-    → (x : Result (Entry × List ℕ) WireError) → FieldIs bytes x → SomeReading bytes
-read_on bytes long others (Ok x) b =
-    let rest = others x.1 (shorter bytes x.1 x.0 b) in
-    record { fields = x.0 ∷ rest.fields; end = rest.end; reads = (x.1, b, rest.reads) }
-read_on bytes long others (Err e) f = record { fields = []; end = Some e; reads = (long, f) }
+-- a reading of the rest after the field is one of the whole
+read_on : (bytes : List ℕ) (read : List ℕ → Reading) → 0 < length bytes → ((rest : List ℕ) → length rest < length bytes → Reads rest (read rest).fields (read rest).end)
+    → (x : Result (Entry × List ℕ) WireError) → FieldIs bytes x → Reads bytes (and_then read x).fields (and_then read x).end
+read_on bytes read long others (Ok x) b = (x.1, b, others x.1 (shorter bytes x.1 x.0 b))
+read_on bytes read long others (Err e) f = (long, f)
 
--- the number only bounds the recursion
-reading_within : (most : ℕ) (bytes : List ℕ) → length bytes ≤ most → SomeReading bytes
-reading_within most [] small = record { fields = []; end = None; reads = refl }
+reading_within : (most : ℕ) (bytes : List ℕ) → length bytes ≤ most → Reads bytes (reading_in most bytes).fields (reading_in most bytes).end
+reading_within most [] small = refl
 reading_within zero (byte ∷ bytes) small = absurd (omega arith)
 reading_within (suc most) (byte ∷ bytes) small =
-    let field = some_field (byte ∷ bytes) in
-    read_on (byte ∷ bytes) (omega arith) (λ rest less. reading_within most rest (omega arith)) field.0 field.1
+    read_on (byte ∷ bytes) (λ rest. reading_in most rest) (omega arith) (λ rest less. reading_within most rest (omega arith)) (first_field (byte ∷ bytes)) (first_field_is (byte ∷ bytes))
 
-pub some_reading : (bytes : List ℕ) → SomeReading bytes
-some_reading bytes = reading_within (length bytes) bytes (omega arith)
+pub reading_is : (bytes : List ℕ) → Reads bytes (reading_in (length bytes) bytes).fields (reading_in (length bytes) bytes).end
+reading_is bytes = reading_within (length bytes) bytes (omega arith)
 
 -- bytes that spell fields, and then bytes with a reading
 pub joined : (front rest : List ℕ) (fs gs : List Entry) (end : Option WireError) → Spells front fs → Reads rest gs end → Reads (front ++ rest) (fs ++ gs) end

@@ -1,3 +1,0 @@
-pub mod Varints
-pub mod Values
-pub mod Readings
