@@ -3,7 +3,7 @@ use Rattle.std.proofs.Common.{◌≡◌, ℕ, ◌+◌, ◌*◌, ◌^◌, ◌<◌
 use Rattle.std.specs.Prelude.{map, filter, ◌==◌, ◌&&◌, ◌||◌, not, nat_lt}
 use Rattle.std.specs.List.{flat_map, list_all, AllByRecursion}
 use Rattle.std.proofs.lemmas.Grind.{flat_map-append}
-use Rattle.std.proofs.lemmas.Bool.{cases_eq, false≢true, ne_eqb, eq-eqb, ltb-true}
+use Rattle.std.proofs.lemmas.Bool.{cases_eq, cases_Bool, false≢true, ne_eqb, eq-eqb, ltb-true}
 use Rattle.std.proofs.lemmas.List.{length-append}
 use Rattle.std.proofs.lemmas.List.Elements.{filter-append}
 use Rattle.std.proofs.lemmas.List.{map-append}
@@ -12,12 +12,12 @@ use Rattle.otlp_wire.specs.declared.parts.WireError.{WireError}
 use Rattle.otlp_wire.specs.Wire.{FieldValue, Varint, Fixed64, Bytes, Fixed32, Entry, IsNumber, Fits, spelling}
 use Rattle.otlp_wire.specs.Varint.{varint}
 use Rattle.otlp_wire.specs.Reading.{Reads, Spells}
-use Rattle.otlp_wire.specs.Fields.{fields_of-only}
+use Rattle.otlp_wire.proofs.FieldsOf.{fields_of-only}
 use Rattle.otlp_wire.proofs.Written.{is_field}
 use Rattle.otlp_messages.specs.Table.{kind_of, mark_of}
 use Rattle.otlp_messages.specs.Fine.{FineValue}
 use Rattle.otlp_messages.specs.Rows.{only}
-use Rattle.otlp_messages.specs.Canon.{Filled, entries_of, entries, canon_row, canon, apart, laid_out, IsShort, RowFits, values_at, IsReadBack}
+use Rattle.otlp_messages.specs.Canon.{Filled, entries_of, entries, canon_row, canon, no_values, one_mark_each, apart, laid_out, IsShort, RowFits, values_at, IsReadBack}
 use Rattle.otlp_messages.proofs.Steps.{marked, count-append, count-one, AllByRecursion-append, AllFine, fine_of}
 
 -- what the parts of a conjunction of tests say
@@ -78,23 +78,35 @@ marked_all m k n (v ∷ vs) same =
 marked-entries : (m : Message) (k : ℕ) (r : Filled) (rows : List Filled) → marked m k (entries (r ∷ rows)) ≡ marked m k (entries_of r) + marked m k (entries rows)
 marked-entries m k r rows = count-append (λ f. mark_of m f.number == k) (entries_of r) (entries rows)
 
-other_mark : (m : Message) (r s : Filled) (k : ℕ) → mark_of m r.number ≡ k → 0 < k → apart m r s ≡ true → (mark_of m s.number == k) ≡ false
-other_mark m r s k is above h = go (mark_of m r.number) (mark_of m s.number) is (both (nat_lt r.number s.number) (mark_of m r.number == 0 || not (mark_of m r.number == mark_of m s.number)) h).1
+-- a later row with values has another mark
+other_mark : (m : Message) (r s : Filled) (k : ℕ) → mark_of m r.number ≡ k → 0 < k → no_values r.values ≡ false → one_mark_each m r s ≡ true
+    → ((mark_of m s.number == k) ≡ false) ⊎ (no_values s.values ≡ true)
+other_mark m r s k is above some h = go (mark_of m r.number) (mark_of m s.number) (no_values r.values) (no_values s.values) is some h
   where
-    go : (a b : ℕ) → a ≡ k → (a == 0 || not (a == b)) ≡ true → (b == k) ≡ false
-    go a b same test =
+    go : (a b : ℕ) (x y : Bool) → a ≡ k → x ≡ false → (a == 0 || not (a == b) || x || y) ≡ true → ((b == k) ≡ false) ⊎ (y ≡ true)
+    go a b x y same filled test =
         elim (cases_eq b k) [
           | inl hit ↦ (let one : a ≡ b = same ∙ sym hit in
-              let some : (a == 0) ≡ false = ne_eqb a 0 (omega (arith, same)) in
-              absurd (false≢true (rw (some, eq-eqb a b one) at test)))
-          | inr miss ↦ ne_eqb b k miss
+              let marked_one : (a == 0) ≡ false = ne_eqb a 0 (omega (arith, same)) in
+              inr (rw (marked_one, eq-eqb a b one, filled) at test))
+          | inr miss ↦ inl (ne_eqb b k miss)
         ]
 
-none_marked : (m : Message) (k : ℕ) (r : Filled) (rows : List Filled) → mark_of m r.number ≡ k → 0 < k → list_all (apart m r) rows ≡ true → marked m k (entries rows) ≡ 0
-none_marked m k r [] is above h = refl
-none_marked m k r (s ∷ rows) is above h =
+marked_none : (m : Message) (k n : ℕ) (vs : List FieldValue) → no_values vs ≡ true → marked m k (entries_of (record { number = n; values = vs })) ≡ 0
+marked_none m k n [] none = refl
+marked_none m k n (v ∷ vs) none = absurd (false≢true none)
+
+none_marked : (m : Message) (k : ℕ) (r : Filled) (rows : List Filled) → mark_of m r.number ≡ k → 0 < k → no_values r.values ≡ false → list_all (apart m r) rows ≡ true
+    → marked m k (entries rows) ≡ 0
+none_marked m k r [] is above some h = refl
+none_marked m k r (s ∷ rows) is above some h =
     let b = both (apart m r s) (list_all (apart m r) rows) h in
-    omega (arith, marked-entries m k s rows, marked_row m k s.number s.values (other_mark m r s k is above b.0), none_marked m k r rows is above b.1)
+    let test = both (nat_lt r.number s.number) (one_mark_each m r s) b.0 in
+    omega (arith, marked-entries m k s rows, here (other_mark m r s k is above some test.1), none_marked m k r rows is above some b.1)
+  where
+    here : ((mark_of m s.number == k) ≡ false) ⊎ (no_values s.values ≡ true) → marked m k (entries_of s) ≡ 0
+    here (inl other) = marked_row m k s.number s.values other
+    here (inr none) = marked_none m k s.number s.values none
 
 Fit : Message → ℕ → List Filled → Type 0
 Fit m l rows = AllByRecursion (RowFits m l) rows
@@ -105,9 +117,13 @@ one_marked m l k [] above laid fit = omega arith
 one_marked m l k (r ∷ rows) above laid fit =
     let h = laid_first m r rows laid in
     let sum = marked-entries m k r rows in
+    let later = one_marked m l k rows above h.others fit.1 in
     elim (cases_eq (mark_of m r.number) k) [
-      | inl same ↦ one (omega (arith, marked_all m k r.number r.values (eq-eqb (mark_of m r.number) k same))) (none_marked m k r rows same above h.apart_from) same fit.0.few
-      | inr other ↦ omega (arith, sum, marked_row m k r.number r.values (ne_eqb (mark_of m r.number) k other), one_marked m l k rows above h.others fit.1)
+      | inl same ↦ elim (cases_Bool (no_values r.values)) [
+        | inl none ↦ omega (arith, sum, marked_none m k r.number r.values none, later)
+        | inr some ↦ one (omega (arith, marked_all m k r.number r.values (eq-eqb (mark_of m r.number) k same))) (none_marked m k r rows same above some h.apart_from) same fit.0.few
+      ]
+      | inr other ↦ omega (arith, sum, marked_row m k r.number r.values (ne_eqb (mark_of m r.number) k other), later)
     ]
   where
     one : marked m k (entries_of r) ≡ length r.values → marked m k (entries rows) ≡ 0 → mark_of m r.number ≡ k → (mark_of m r.number ≡ 0) ⊎ (length r.values ≤ 1) → marked m k (entries (r ∷ rows)) ≤ 1
@@ -161,7 +177,7 @@ none_later : (m : Message) (r : Filled) (rows : List Filled) (n : ℕ) → r.num
 none_later m r [] n is h = refl
 none_later m r (s ∷ rows) n is h =
     let b = both (apart m r s) (list_all (apart m r) rows) h in
-    let above = ltb-true r.number s.number (both (nat_lt r.number s.number) (mark_of m r.number == 0 || not (mark_of m r.number == mark_of m s.number)) b.0).0 in
+    let above = ltb-true r.number s.number (both (nat_lt r.number s.number) (one_mark_each m r s) b.0).0 in
     only-append n (entries_of s) (entries rows)
     ∙ ap (λ vs. vs ++ only n (entries rows)) (not_only_row n s.number s.values (ne_eqb s.number n (omega arith)))
     ∙ none_later m r rows n is b.1

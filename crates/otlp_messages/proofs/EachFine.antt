@@ -1,5 +1,5 @@
 -- What the fields of a message hold in which no defect stands.
-use Rattle.std.proofs.Common.{◌≡◌, ℕ, zero, suc, List, [], ◌∷◌, ◌++◌, length, append_assoc, Option, Some, None, refl, sym, ◌∙◌, subst, arith, inl, inr, ◌⊎◌}
+use Rattle.std.proofs.Common.{◌≡◌, ℕ, zero, suc, ◌%◌, true, false, List, [], ◌∷◌, ◌++◌, length, append_assoc, Option, Some, None, refl, sym, ◌∙◌, subst, inl, inr}
 use Rattle.std.specs.Prelude.{fold, IsUtf8}
 use Rattle.std.specs.List.{AllByRecursion}
 use Rattle.std.specs.Str.{is_utf8}
@@ -7,7 +7,7 @@ use Rattle.std.proofs.lemmas.Bool.{cases_eq, cases_Bool, false≢true, eq-eqb, n
 use Rattle.std.proofs.lemmas.Str.{IsUtf8-nil, IsUtf8-from_is_utf8, is_utf8-from_IsUtf8}
 use Rattle.otlp_messages.specs.declared.messages.Message.{Message}
 use Rattle.otlp_messages.specs.declared.messages.Kind.{Kind}
-use Rattle.otlp_messages.specs.declared.messages.Kind.TheVariants.{Unknown, Varint, Fixed64, Fixed32, Text, Octets, Id, Embedded, Member, Refused}
+use Rattle.otlp_messages.specs.declared.messages.Kind.TheVariants.{Unknown, Varint, Fixed64, Fixed32, Packed64, Text, Octets, Id, Embedded, Member, Refused}
 use Rattle.otlp_messages.specs.declared.messages.Defect.{Defect}
 use Rattle.otlp_messages.specs.declared.messages.Defect.TheVariants.{BadMessage, BadUtf8, BadLength, Unsupported, TooDeep}
 use Rattle.otlp_wire.specs.declared.parts.WireError.{WireError}
@@ -15,20 +15,16 @@ use Rattle.otlp_wire.specs.Wire as wire
 use Rattle.otlp_wire.specs.Wire.{FieldValue, Entry, wire_type}
 use Rattle.otlp_wire.specs.Fields.{fields_of, end_of}
 use Rattle.otlp_messages.specs.Table.{kind_of}
-use Rattle.otlp_messages.specs.Defects.{wire_type_of, HasType, Occurs, wire_error, IsFine}
+use Rattle.otlp_messages.specs.Defects.{has_type, Occurs, wire_error, IsFine}
 use Rattle.otlp_messages.specs.Fine.{FinePart, FineValue, ValueStands}
 use Rattle.otlp_messages.specs.Rows.{only, said, bytes_in, parts_of}
 use Rattle.otlp_messages.proofs.Steps.{AllFine, value_stands}
-
-has_type_or_not : (o : Option ℕ) (t : ℕ) → HasType o t ⊎ (HasType o t → ⊥)
-has_type_or_not None t = inl tt
-has_type_or_not (Some u) t = cases_eq u t
 
 -- no defect stands in the value
 None_in : Kind → ℕ → FieldValue → Type 0
 None_in k l v = (e : Defect) → ValueStands k l v e → ⊥
 
-other_type : (k : Kind) (l : ℕ) (part : List ℕ) → (HasType (wire_type_of k) 2 → ⊥) → None_in k l (wire.Bytes part) → ⊥
+other_type : (k : Kind) (l : ℕ) (part : List ℕ) → has_type k 2 ≡ false → None_in k l (wire.Bytes part) → ⊥
 unfolding None_in
 other_type k l part other none = none BadMessage (inl (inl (refl, other)))
 
@@ -36,6 +32,8 @@ fine_part : (k : Kind) (l : ℕ) (part : List ℕ) → None_in k l (wire.Bytes p
 unfolding None_in
 fine_part Unknown l part none = tt
 fine_part Octets l part none = tt
+fine_part Packed64 l part none =
+    elim (cases_eq (length part % 8) 0) [ inl whole ↦ whole | inr broken ↦ absurd (none BadMessage (inl (inr (refl, broken)))) ]
 fine_part Text l part none =
     elim (cases_Bool (is_utf8 part)) [
       | inl text ↦ IsUtf8-from_is_utf8 part text
@@ -50,12 +48,12 @@ fine_part (Embedded m) l part none = record { none = λ e s. none e (inr s) }
 fine_part (Member m) zero part none = absurd (none TooDeep (inl (inr (refl, refl))))
 fine_part (Member m) (suc l) part none = record { none = λ e s. none e (inr s) }
 fine_part Refused l part none = absurd (none Unsupported (inl (inr refl)))
-fine_part Varint l part none = absurd (other_type Varint l part (λ e. omega (arith, e)) none)
-fine_part Fixed64 l part none = absurd (other_type Fixed64 l part (λ e. omega (arith, e)) none)
-fine_part Fixed32 l part none = absurd (other_type Fixed32 l part (λ e. omega (arith, e)) none)
+fine_part Varint l part none = absurd (other_type Varint l part refl none)
+fine_part Fixed64 l part none = absurd (other_type Fixed64 l part refl none)
+fine_part Fixed32 l part none = absurd (other_type Fixed32 l part refl none)
 
-fine_other : (k : Kind) (t : ℕ) → (((HasType (wire_type_of k) t → ⊥)) → ⊥) → HasType (wire_type_of k) t
-fine_other k t not_not = elim (has_type_or_not (wire_type_of k) t) [ inl has ↦ has | inr not_has ↦ absurd (not_not not_has) ]
+fine_other : (k : Kind) (t : ℕ) → (has_type k t ≡ false → ⊥) → has_type k t ≡ true
+fine_other k t some = elim (cases_Bool (has_type k t)) [ inl has ↦ has | inr has_not ↦ absurd (some has_not) ]
 
 fine_value : (k : Kind) (l : ℕ) (v : FieldValue) → None_in k l v → FineValue k l v
 unfolding None_in
@@ -68,7 +66,7 @@ pub fine_field : (m : Message) (l : ℕ) (bytes : List ℕ) (f : Entry) → IsFi
 unfolding None_in
 fine_field m l bytes f fine occurs = fine_value (kind_of m f.number) l f.value (λ e s. fine.none e (value_stands m l bytes f.number f.value e occurs s))
 
--- what holds of each element, whatever stands before and behind it
+-- what holds of each element, whatever stands before and after it
 all_behind : {X : Type 0} (P : X → Type 0) (front rest : List X) → ((before after : List X) (x : X) → front ++ rest ≡ before ++ x ∷ after → P x) → AllByRecursion P rest
 all_behind P front [] each = tt
 all_behind P front (x ∷ rest) each =

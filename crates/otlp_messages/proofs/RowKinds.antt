@@ -19,7 +19,7 @@ use Rattle.std.proofs.lemmas.List.{length-append}
 one_fits : (m : Message) (l n : ℕ) (v : FieldValue) → (IsShort v → Fits v × FineValue (kind_of m n) l v) → RowFits m l (row n (v ∷ []))
 one_fits m l n v fits = record { few = inr (omega arith); fine = (fits, tt) }
 
-none_fits : (m : Message) (l n : ℕ) → RowFits m l (row n [])
+pub none_fits : (m : Message) (l n : ℕ) → RowFits m l (row n [])
 none_fits m l n = record { few = inr (omega arith); fine = tt }
 
 pub varint_fits : (m : Message) (l n x : ℕ) → kind_of m n ≡ kinds.Varint → x < 2 ^ 64 → RowFits m l (row n (varint_row x))
@@ -58,7 +58,7 @@ pub wider : (z : ℤ) → FitsSigned w32 z → FitsSigned w64 z
 wider (pos n) h = record { sfits = omega (arith, h.sfits) }
 wider (negsuc n) h = record { sfits = omega (arith, h.sfits) }
 
-unsigned_small : (z : ℤ) → FitsSigned w64 z → cast_unsigned w64 z < 2 ^ 64
+pub unsigned_small : (z : ℤ) → FitsSigned w64 z → cast_unsigned w64 z < 2 ^ 64
 unsigned_small (pos n) h = omega (arith, h.sfits)
 unsigned_small (negsuc n) h = omega (arith, h.sfits)
 

@@ -7,15 +7,16 @@ use Rattle.std.proofs.lemmas.List.{get_or-set_same, get_or-set_other}
 use Rattle.std.proofs.lemmas.List.Sums.{sum_by-append}
 use Rattle.otlp_messages.specs.declared.messages.Message.{Message}
 use Rattle.otlp_messages.specs.declared.messages.Kind.{Kind}
-use Rattle.otlp_messages.specs.declared.messages.Kind.TheVariants.{Unknown, Varint, Fixed64, Fixed32, Text, Octets, Id, Embedded, Member, Refused}
+use Rattle.otlp_messages.specs.declared.messages.Kind.TheVariants.{Unknown, Varint, Fixed64, Fixed32, Packed64, Text, Octets, Id, Embedded, Member, Refused}
 use Rattle.otlp_messages.specs.declared.table.TheConstants.{MARKS}
 use Rattle.otlp_messages.specs.declared.messages.Defect.{Defect}
 use Rattle.otlp_messages.specs.declared.messages.Defect.TheVariants.{Repeated}
 use Rattle.otlp_wire.specs.declared.parts.WireError.{WireError}
 use Rattle.otlp_wire.specs.Wire as wire
 use Rattle.otlp_wire.specs.Wire.{FieldValue, Entry, wire_type}
-use Rattle.otlp_wire.specs.Fields.{fields_of, end_of, part_is_shorter}
-use Rattle.otlp_wire.specs.lemmas.Readings.{part_len}
+use Rattle.otlp_wire.specs.Fields.{fields_of, end_of}
+use Rattle.otlp_wire.proofs.FieldsOf.{part_is_shorter}
+use Rattle.otlp_wire.proofs.Readings.{part_len}
 use Rattle.otlp_messages.specs.Table.{kind_of, mark_of}
 use Rattle.otlp_messages.specs.Defects.{ValueFaults, inside, Occurs, Stands, wire_error, twice, in_value, within, IsFine}
 use Rattle.otlp_messages.specs.Fine.{FinePart, FineValue, StandsIn, ValueStands, Checked}
@@ -134,24 +135,27 @@ checked_more m l bytes rest new seen f h first end few fresh fine =
 
 -- a value without a defect has none
 excluded_part : (k : Kind) (l : ℕ) (part : List ℕ) (e : Defect) → FinePart k l part → ValueStands k l (wire.Bytes part) e → ⊥
-excluded_part Unknown l part e fine (inl (inl h)) = h.1 tt
+excluded_part Unknown l part e fine (inl (inl h)) = false≢true (sym h.1)
 excluded_part Unknown l part e fine (inl (inr h)) = h
 excluded_part Unknown l part e fine (inr h) = h
-excluded_part Text l part e fine (inl (inl h)) = h.1 refl
+excluded_part Text l part e fine (inl (inl h)) = false≢true (sym h.1)
 excluded_part Text l part e fine (inl (inr h)) = h.1 fine
 excluded_part Text l part e fine (inr h) = h
-excluded_part Octets l part e fine (inl (inl h)) = h.1 refl
+excluded_part Packed64 l part e fine (inl (inl h)) = false≢true (sym h.1)
+excluded_part Packed64 l part e fine (inl (inr h)) = h.1 fine
+excluded_part Packed64 l part e fine (inr h) = h
+excluded_part Octets l part e fine (inl (inl h)) = false≢true (sym h.1)
 excluded_part Octets l part e fine (inl (inr h)) = h
 excluded_part Octets l part e fine (inr h) = h
-excluded_part (Id size) l part e fine (inl (inl h)) = h.1 refl
+excluded_part (Id size) l part e fine (inl (inl h)) = false≢true (sym h.1)
 excluded_part (Id size) l part e (inl none) (inl (inr h)) = h.1 none
 excluded_part (Id size) l part e (inr whole) (inl (inr h)) = h.2 whole
 excluded_part (Id size) l part e fine (inr h) = h
-excluded_part (Embedded m) l part e fine (inl (inl h)) = h.1 refl
+excluded_part (Embedded m) l part e fine (inl (inl h)) = false≢true (sym h.1)
 excluded_part (Embedded m) l part e fine (inl (inr h)) = h
 excluded_part (Embedded m) l part e fine (inr h) = fine.none e h
 excluded_part (Member m) zero part e fine h = fine
-excluded_part (Member m) (suc l) part e fine (inl (inl h)) = h.1 refl
+excluded_part (Member m) (suc l) part e fine (inl (inl h)) = false≢true (sym h.1)
 excluded_part (Member m) (suc l) part e fine (inl (inr h)) = omega (arith, h.1)
 excluded_part (Member m) (suc l) part e fine (inr h) = fine.none e h
 excluded_part Varint l part e fine h = fine
@@ -160,9 +164,9 @@ excluded_part Fixed32 l part e fine h = fine
 excluded_part Refused l part e fine h = fine
 
 pub excluded : (k : Kind) (l : ℕ) (v : FieldValue) (e : Defect) → FineValue k l v → ValueStands k l v e → ⊥
-excluded k l (wire.Varint n) e fine h = h.1 fine
-excluded k l (wire.Fixed64 n) e fine h = h.1 fine
-excluded k l (wire.Fixed32 n) e fine h = h.1 fine
+excluded k l (wire.Varint n) e fine h = false≢true (sym h.1 ∙ fine)
+excluded k l (wire.Fixed64 n) e fine h = false≢true (sym h.1 ∙ fine)
+excluded k l (wire.Fixed32 n) e fine h = false≢true (sym h.1 ∙ fine)
 excluded k l (wire.Bytes part) e fine h = excluded_part k l part e fine h
 
 faults_stand : (k : Kind) (l : ℕ) (v : FieldValue) (e : Defect) → ValueFaults k l v e → ValueStands k l v e

@@ -1,8 +1,9 @@
 -- The canonical spelling of a message: its fields by ascending number, each in its shortest spelling,
 -- and none that holds its default.
-use Rattle.std.specs.Prelude.{◌≡◌, ℕ, ◌<◌, ◌≤◌, ◌^◌, List, [], ◌∷◌, length, map, ◌==◌, ◌&&◌, ◌||◌, not, nat_lt, if◌then◌else◌, Bool, true, ℤ, ⊤, ◌⊎◌}
+use Rattle.std.specs.Prelude.{◌≡◌, ℕ, ◌<◌, ◌≤◌, ◌^◌, List, [], ◌∷◌, length, map, ◌==◌, ◌&&◌, ◌||◌, not, nat_lt, if◌then◌else◌, Bool, true, false, ℤ, Option, None, Some, ⊤, ◌⊎◌}
 use Rattle.std.specs.List.{flat_map, AllByRecursion, list_all}
 use Rattle.std.specs.Int.{w64, cast_unsigned}
+use Rattle.byteorder.specs.Endian.{little_bytes}
 use Rattle.otlp_messages.specs.declared.messages.Message.{Message}
 use Rattle.otlp_wire.specs.Wire.{FieldValue, Varint, Fixed64, Bytes, Fixed32, Entry, Fits, spelling}
 use Rattle.otlp_messages.specs.Table.{kind_of, mark_of}
@@ -49,6 +50,16 @@ fixed64_row n = if n == 0 then [] else Fixed64 n ∷ []
 abbrev pub fixed32_row : ℕ → List FieldValue
 fixed32_row n = if n == 0 then [] else Fixed32 n ∷ []
 
+-- 64 bits that are written where they are there
+abbrev pub optional_row : Option ℕ → List FieldValue
+optional_row None = []
+optional_row (Some n) = Fixed64 n ∷ []
+
+-- numbers of 64 bits, packed
+abbrev pub packed_row : List ℕ → List FieldValue
+packed_row [] = []
+packed_row (n ∷ ns) = Bytes (flat_map (little_bytes 8) (n ∷ ns)) ∷ []
+
 -- a text, bytes, or the canonical spelling of a message that occurs once
 abbrev pub bytes_row : List ℕ → List FieldValue
 bytes_row [] = []
@@ -58,9 +69,16 @@ bytes_row (byte ∷ bytes) = Bytes (byte ∷ bytes) ∷ []
 abbrev pub many_row : List (List ℕ) → List FieldValue
 many_row parts = map (λ part. Bytes part) parts
 
--- the numbers of the rows ascend, are field numbers, and no two rows share a mark
+abbrev pub no_values : List FieldValue → Bool
+no_values [] = true
+no_values (value ∷ values) = false
+
+-- the numbers of the rows ascend, are field numbers, and of two rows with one mark one is empty
+abbrev pub one_mark_each : Message → Filled → Filled → Bool
+one_mark_each m r s = mark_of m r.number == 0 || not (mark_of m r.number == mark_of m s.number) || no_values r.values || no_values s.values
+
 abbrev pub apart : Message → Filled → Filled → Bool
-apart m r s = nat_lt r.number s.number && (mark_of m r.number == 0 || not (mark_of m r.number == mark_of m s.number))
+apart m r s = nat_lt r.number s.number && one_mark_each m r s
 
 abbrev pub laid_out : Message → List Filled → Bool
 laid_out m [] = true

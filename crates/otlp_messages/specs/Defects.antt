@@ -1,8 +1,8 @@
 -- What can be wrong with the bytes of a message, by what the table says of their fields.
-use Rattle.std.specs.Prelude.{◌≡◌, ◌≢◌, ℕ, suc, ◌<◌, List, ◌∷◌, ◌++◌, length, Option, Some, None, count_by, ◌==◌, IsUtf8, ⊤, ◌⊎◌}
+use Rattle.std.specs.Prelude.{◌≡◌, ◌≢◌, ℕ, suc, ◌%◌, ◌<◌, List, ◌∷◌, ◌++◌, length, Option, Some, None, count_by, ◌==◌, ◌||◌, Bool, true, false, IsUtf8, ◌⊎◌}
 use Rattle.otlp_messages.specs.declared.messages.Message.{Message}
 use Rattle.otlp_messages.specs.declared.messages.Kind.{Kind}
-use Rattle.otlp_messages.specs.declared.messages.Kind.TheVariants.{Unknown, Varint, Fixed64, Fixed32, Text, Octets, Id, Embedded, Member, Refused}
+use Rattle.otlp_messages.specs.declared.messages.Kind.TheVariants.{Unknown, Varint, Fixed64, Fixed32, Packed64, Text, Id, Embedded, Member, Refused}
 use Rattle.otlp_messages.specs.declared.messages.Defect.{Defect}
 use Rattle.otlp_messages.specs.declared.messages.Defect.TheVariants.{BadMessage, Repeated, BadUtf8, BadLength, Unsupported, TooDeep}
 use Rattle.otlp_wire.specs.declared.parts.WireError.{WireError}
@@ -11,25 +11,18 @@ use Rattle.otlp_wire.specs.Wire.{FieldValue, Entry, wire_type}
 use Rattle.otlp_wire.specs.Fields.{fields_of, end_of}
 use Rattle.otlp_messages.specs.Table.{kind_of, mark_of}
 
--- the wire type of a kind; an unknown field may have any
-abbrev pub wire_type_of : Kind → Option ℕ
-wire_type_of Unknown = None
-wire_type_of Varint = Some 0
-wire_type_of Fixed64 = Some 1
-wire_type_of Fixed32 = Some 5
-wire_type_of Text = Some 2
-wire_type_of Octets = Some 2
-wire_type_of (Id size) = Some 2
-wire_type_of (Embedded message) = Some 2
-wire_type_of (Member message) = Some 2
-wire_type_of Refused = Some 2
+-- a field of the kind may have the wire type; an unknown field may have any
+abbrev pub has_type : Kind → ℕ → Bool
+has_type Unknown t = true
+has_type Varint t = t == 0
+has_type Fixed64 t = t == 1
+has_type Fixed32 t = t == 5
+has_type Packed64 t = t == 1 || t == 2
+has_type kind t = t == 2
 
-abbrev pub HasType : Option ℕ → ℕ → Type 0
-HasType None t = ⊤
-HasType (Some u) t = u ≡ t
-
--- what is wrong with bytes of this kind, in a message below whose values so many levels of members may stand
+-- what is wrong with bytes of this kind, in a message below whose values this number of levels of members may stand
 abbrev pub PartFaults : Kind → ℕ → List ℕ → Defect → Type 0
+PartFaults Packed64 levels part e = (e ≡ BadMessage) × (length part % 8 ≢ 0)
 PartFaults Text levels part e = (e ≡ BadUtf8) × (IsUtf8 part → ⊥)
 PartFaults (Id size) levels part e = (e ≡ BadLength) × (length part ≢ 0) × (length part ≢ size)
 PartFaults (Member message) levels part e = (e ≡ TooDeep) × (levels ≡ 0)
@@ -38,9 +31,8 @@ PartFaults kind levels part e = ⊥
 
 -- what is wrong with a value of this kind
 abbrev pub ValueFaults : Kind → ℕ → FieldValue → Defect → Type 0
-ValueFaults kind levels (wire.Bytes part) e =
-    ((e ≡ BadMessage) × (HasType (wire_type_of kind) 2 → ⊥)) ⊎ PartFaults kind levels part e
-ValueFaults kind levels value e = (e ≡ BadMessage) × (HasType (wire_type_of kind) (wire_type value) → ⊥)
+ValueFaults kind levels (wire.Bytes part) e = ((e ≡ BadMessage) × (has_type kind 2 ≡ false)) ⊎ PartFaults kind levels part e
+ValueFaults kind levels value e = (e ≡ BadMessage) × (has_type kind (wire_type value) ≡ false)
 
 -- the message that bytes of this kind are, and how many levels may stand below its values
 abbrev pub inside : Kind → ℕ → Option (Message × ℕ)

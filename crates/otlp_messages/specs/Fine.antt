@@ -1,20 +1,21 @@
 -- That no defect stands in a value, said of each kind, and the same of the fields of a message one by one.
-use Rattle.std.specs.Prelude.{◌≡◌, ℕ, suc, ◌<◌, List, ◌++◌, length, slice_index_or, Bool, false, cond, Option, Some, None, count_by, ◌==◌, IsUtf8, ⊤, ◌⊎◌}
+use Rattle.std.specs.Prelude.{◌≡◌, ℕ, suc, ◌%◌, ◌<◌, List, ◌++◌, length, slice_index_or, Bool, true, false, cond, Option, Some, None, count_by, ◌==◌, IsUtf8, ⊤, ◌⊎◌}
 use Rattle.std.specs.List.{AllByRecursion}
 use Rattle.otlp_messages.specs.declared.messages.Message.{Message}
 use Rattle.otlp_messages.specs.declared.messages.Kind.{Kind}
-use Rattle.otlp_messages.specs.declared.messages.Kind.TheVariants.{Unknown, Text, Octets, Id, Embedded, Member}
+use Rattle.otlp_messages.specs.declared.messages.Kind.TheVariants.{Unknown, Packed64, Text, Octets, Id, Embedded, Member}
 use Rattle.otlp_messages.specs.declared.messages.Defect.{Defect}
 use Rattle.otlp_messages.specs.declared.table.TheConstants.{MARKS}
 use Rattle.otlp_wire.specs.Wire as wire
 use Rattle.otlp_wire.specs.Wire.{FieldValue, Entry, wire_type}
 use Rattle.otlp_wire.specs.Fields.{fields_of, end_of}
 use Rattle.otlp_messages.specs.Table.{kind_of, mark_of}
-use Rattle.otlp_messages.specs.Defects.{wire_type_of, HasType, ValueFaults, inside, Stands, IsFine}
+use Rattle.otlp_messages.specs.Defects.{has_type, ValueFaults, inside, Stands, IsFine}
 
 -- no defect stands in bytes of this kind
 abbrev pub FinePart : Kind → ℕ → List ℕ → Type 0
 FinePart Unknown levels part = ⊤
+FinePart Packed64 levels part = length part % 8 ≡ 0
 FinePart Text levels part = IsUtf8 part
 FinePart Octets levels part = ⊤
 FinePart (Id size) levels part = (length part ≡ 0) ⊎ (length part ≡ size)
@@ -25,7 +26,7 @@ FinePart kind levels part = ⊥
 -- no defect stands in a value of this kind
 abbrev pub FineValue : Kind → ℕ → FieldValue → Type 0
 FineValue kind levels (wire.Bytes part) = FinePart kind levels part
-FineValue kind levels value = HasType (wire_type_of kind) (wire_type value)
+FineValue kind levels value = has_type kind (wire_type value) ≡ true
 
 abbrev pub StandsIn : Option (Message × ℕ) → List ℕ → Defect → Type 0
 StandsIn None part e = ⊥

@@ -3,3 +3,4 @@ pub mod Defects
 pub mod Fine
 pub mod Rows
 pub mod Canon
+pub mod Limits

@@ -1,6 +1,7 @@
 -- What the fields of a number say: their values from the left, each over what was read before.
-use Rattle.std.specs.Prelude.{ℕ, ◌%◌, ◌^◌, List, [], ◌∷◌, ◌++◌, map, filter, fold, ◌==◌, if◌then◌else◌, Option, Some, None, Bool, not, ℤ}
+use Rattle.std.specs.Prelude.{ℕ, zero, suc, ◌/◌, ◌%◌, ◌^◌, List, [], ◌∷◌, ◌++◌, length, drop, map, filter, fold, ◌==◌, if◌then◌else◌, Option, Some, None, Bool, not, ℤ}
 use Rattle.std.specs.Int.{w32, w64, cast_signed}
+use Rattle.byteorder.specs.Endian.{little_number}
 use Rattle.otlp_wire.specs.Wire.{FieldValue, Varint, Fixed64, Bytes, Fixed32, Entry}
 use Rattle.otlp_wire.specs.Fields.{fields_of}
 
@@ -41,6 +42,26 @@ int64_in old value = old
 abbrev pub bool_in : Bool → FieldValue → Bool
 bool_in old (Varint n) = not (n == 0)
 bool_in old value = old
+
+abbrev pub sfixed64_in : ℤ → FieldValue → ℤ
+sfixed64_in old (Fixed64 n) = cast_signed w64 n
+sfixed64_in old value = old
+
+-- 64 bits that are there, also where they are zero, or not there
+abbrev pub optional_in : Option ℕ → FieldValue → Option ℕ
+optional_in old (Fixed64 n) = Some n
+optional_in old value = old
+
+-- the first numbers of 64 bits in the bytes, each little-endian
+abbrev pub numbers : ℕ → List ℕ → List ℕ
+numbers zero bytes = []
+numbers (suc count) bytes = little_number 8 bytes ∷ numbers count (drop 8 bytes)
+
+-- one number more, or packed numbers more
+abbrev pub packed_in : List ℕ → FieldValue → List ℕ
+packed_in old (Fixed64 n) = old ++ n ∷ []
+packed_in old (Bytes part) = old ++ numbers (length part / 8) part
+packed_in old value = old
 
 -- a text or bytes
 abbrev pub bytes_in : List ℕ → FieldValue → List ℕ

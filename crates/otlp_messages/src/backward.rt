@@ -8,7 +8,7 @@ use std::alloc::{AllocError, Global};
 use std::marker::Model;
 
 /// The least room that a buffer gets.
-const LEAST: usize = 256;
+const LEAST: usize = 4096;
 
 /// A buffer that grows at its front. After an `Err` of a method that writes, nothing is promised of what
 /// it holds.
@@ -40,6 +40,7 @@ impl Backward {
     }
 
     /// How many bytes are written.
+    #[inline]
     pub fn len(&self) -> usize
         ensures { result ≡ length self.now }
     {
@@ -54,6 +55,7 @@ impl Backward {
     }
 
     /// Writes a byte before all others.
+    #[inline]
     pub fn push(&mut self, byte: u8) -> Result<(), AllocError>
         ensures { OnOk result (self.new ≡ byte ∷ self.old) }
     {
@@ -65,6 +67,7 @@ impl Backward {
     }
 
     /// Writes the bytes before all others.
+    #[inline]
     pub fn push_slice(&mut self, part: &[u8]) -> Result<(), AllocError>
         ensures { OnOk result (self.new ≡ part.now ++ self.old) }
     {
@@ -99,8 +102,8 @@ impl Backward {
     }
 }
 
-/// Where what stands from `start` on begins, once there is room for so many bytes before it.
-#[inline]
+/// Where what stands from `start` on begins, once there is room for `room` bytes before it.
+#[inline(always)]
 fn reserve_front(bytes: &mut Vec<u8>, start: usize, room: usize) -> Result<usize, AllocError>
     requires { start ≤ vec_len bytes.old }
     ensures room { IfOk result (λ s. (room ≤ s) × (s ≤ vec_len bytes.new)) }
@@ -114,6 +117,7 @@ fn reserve_front(bytes: &mut Vec<u8>, start: usize, room: usize) -> Result<usize
 }
 
 /// Moves what stands from `start` on to the end of a longer vector.
+#[inline(never)]
 fn grow_front(bytes: &mut Vec<u8>, start: usize, room: usize) -> Result<usize, AllocError>
     requires { start ≤ vec_len bytes.old }
     ensures room { IfOk result (λ s. (room ≤ s) × (s ≤ vec_len bytes.new)) }

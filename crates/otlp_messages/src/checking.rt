@@ -45,7 +45,7 @@ fn check_value(kind: Kind, levels: u8, value: &Wire<'_>) -> Result<(), Defect>
     match (value, kind) {
         (_, Kind::Unknown)
         | (Wire::Varint(_), Kind::Varint)
-        | (Wire::Fixed64(_), Kind::Fixed64)
+        | (Wire::Fixed64(_), Kind::Fixed64 | Kind::Packed64)
         | (Wire::Fixed32(_), Kind::Fixed32) => Ok(()),
         (Wire::Bytes(part), kind) => check_part(kind, levels, part),
         _ => Err(Defect::BadMessage),
@@ -61,6 +61,8 @@ fn check_part(kind: Kind, levels: u8, part: &[u8]) -> Result<(), Defect>
     match kind {
         Kind::Unknown | Kind::Octets => Ok(()),
         Kind::Varint | Kind::Fixed64 | Kind::Fixed32 => Err(Defect::BadMessage),
+        Kind::Packed64 if part.len() % 8 == 0 => Ok(()),
+        Kind::Packed64 => Err(Defect::BadMessage),
         Kind::Text if is_text(part) => Ok(()),
         Kind::Text => Err(Defect::BadUtf8),
         Kind::Id(size) if part.is_empty() || part.len() == size => Ok(()),

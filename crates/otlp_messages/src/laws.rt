@@ -3,10 +3,17 @@
 ghost use Rattle.std.specs.Prelude.{◌≡◌, ℕ, ◌^◌, ◌<◌, List, true, length};
 ghost use Rattle.std.specs.List.{AllByRecursion};
 ghost use Rattle.otlp_messages.specs.declared.messages.Message.{Message};
+ghost use Rattle.otlp_messages.specs.declared.checking.TheConstants.{LEVELS};
+ghost use Rattle.otlp_messages.specs.Limits.{level_limit};
 ghost use Rattle.otlp_messages.specs.Canon.{Filled, canon, laid_out, RowFits, IsReadBack};
 
 /// Rows that are written are the fields that are read, and no defect stands in them.
 pub fn rows_are_read()
     ensures { (m : Message) (levels : ℕ) (rows : List Filled) → laid_out m rows ≡ true
         → AllByRecursion (RowFits m levels) rows → length (canon rows) < 2 ^ 64 → IsReadBack m levels rows }
+{}
+
+/// The limit of the code is the one that the definitions name.
+pub fn limits()
+    ensures { LEVELS ≡ level_limit }
 {}

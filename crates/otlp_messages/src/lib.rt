@@ -6,14 +6,15 @@ mod backward;
 mod checking;
 mod laws;
 mod messages;
+mod metric_table;
 mod rows;
 mod single;
 mod table;
 
 pub use backward::Backward;
 pub use checking::{LEVELS, check, is_text};
-pub use laws::rows_are_read;
-pub use messages::{Defect, Kind, Message, Row};
+pub use laws::{limits, rows_are_read};
+pub use messages::{Defect, Kind, Message, Of, Row};
 pub use single::{bytes_of, int32_of, int64_of};
 pub use table::{MARKS, row_of};
 

@@ -2,23 +2,50 @@
 
 use thiserror::Error;
 
+/// What the scope groups of a request hold: its signal.
+#[derive(Clone, Copy, Debug, PartialEq, Eq)]
+pub enum Of {
+    Spans,
+    LogRecords,
+    Metrics,
+}
+
 /// A message of the protobuf definitions of OTLP 1.x or of the OpenTelemetry Arrow Protocol.
 #[derive(Clone, Copy, Debug, PartialEq, Eq)]
 pub enum Message {
     BatchArrowRecords,
     ArrowPayload,
     BatchStatus,
-    /// `ExportLogsServiceRequest`.
-    LogsRequest,
-    ResourceLogs,
-    ScopeLogs,
-    LogRecord,
+    /// `ExportTraceServiceRequest`, `ExportLogsServiceRequest` or `ExportMetricsServiceRequest`.
+    Request(Of),
+    /// `ResourceSpans`, `ResourceLogs` or `ResourceMetrics`.
+    ResourceGroup(Of),
+    /// `ScopeSpans`, `ScopeLogs` or `ScopeMetrics`.
+    ScopeGroup(Of),
     Resource,
     InstrumentationScope,
     KeyValue,
     AnyValue,
     ArrayValue,
     KeyValueList,
+    LogRecord,
+    Span,
+    /// `Span.Event`.
+    Event,
+    /// `Span.Link`.
+    Link,
+    Status,
+    Metric,
+    Gauge,
+    Sum,
+    Histogram,
+    Summary,
+    NumberDataPoint,
+    HistogramDataPoint,
+    SummaryDataPoint,
+    /// `SummaryDataPoint.ValueAtQuantile`.
+    ValueAtQuantile,
+    Exemplar,
 }
 
 /// What a field holds.
@@ -30,13 +57,16 @@ pub enum Kind {
     Varint,
     /// Wire type 1: 64 bits.
     Fixed64,
+    /// 64 bits that repeat: one by one with wire type 1, or packed with wire type 2, in bytes whose number
+    /// is a multiple of 8.
+    Packed64,
     /// Wire type 5: 32 bits.
     Fixed32,
     /// Wire type 2: a string, which is UTF-8.
     Text,
     /// Wire type 2: bytes.
     Octets,
-    /// Wire type 2: bytes, none or just so many.
+    /// Wire type 2: bytes, none or exactly this number.
     Id(usize),
     /// Wire type 2: a message.
     Embedded(Message),
@@ -59,7 +89,8 @@ pub struct Row {
 /// named.
 #[derive(Clone, Copy, Debug, PartialEq, Eq, Error)]
 pub enum Defect {
-    /// The bytes do not end with a whole field, or a known field has another wire type.
+    /// The bytes do not end with a whole field, a known field has another wire type, or the bytes of packed
+    /// 64 bits are no multiple of 8.
     #[error("the message is malformed")]
     BadMessage,
     /// A singular field occurs twice, or two members of one oneof.

@@ -3,10 +3,12 @@
 //! `field` always writes one, as is canonical for a member of a oneof and for a repeated field.
 
 ghost use Rattle.std.specs.Prelude.{◌≡◌, ◌≤◌, ◌+◌, ◌*◌, ◌∷◌, [], ◌++◌, length, take, drop, OnOk};
+ghost use Rattle.std.specs.List.{flat_map};
+ghost use Rattle.byteorder.specs.Endian.{little_bytes};
 ghost use Rattle.otlp_wire.specs.Varint.{varint};
 ghost use Rattle.otlp_wire.specs.Wire as wire;
 ghost use Rattle.otlp_wire.specs.Wire.{IsNumber};
-ghost use Rattle.otlp_messages.specs.Canon.{canon_row, varint_row, signed_row, bool_row, fixed64_row, fixed32_row, bytes_row};
+ghost use Rattle.otlp_messages.specs.Canon.{canon_row, varint_row, signed_row, bool_row, fixed64_row, fixed32_row, optional_row, packed_row, bytes_row};
 
 use crate::backward::Backward;
 use byteorder::{ByteOrder, LittleEndian};
@@ -14,6 +16,7 @@ use std::alloc::AllocError;
 
 impl Backward {
     /// Writes a field of wire type 0.
+    #[inline]
     pub fn put_varint_field(&mut self, number: u32, value: u64) -> Result<(), AllocError>
         requires { IsNumber number }
         ensures { OnOk result (self.new ≡ canon_row number (wire.Varint value ∷ []) ++ self.old) }
@@ -24,6 +27,7 @@ impl Backward {
     }
 
     /// Writes a field of wire type 1.
+    #[inline]
     pub fn put_fixed64_field(&mut self, number: u32, value: u64) -> Result<(), AllocError>
         requires { IsNumber number }
         ensures { OnOk result (self.new ≡ canon_row number (wire.Fixed64 value ∷ []) ++ self.old) }
@@ -36,6 +40,7 @@ impl Backward {
     }
 
     /// Writes a field of wire type 5.
+    #[inline]
     pub fn put_fixed32_field(&mut self, number: u32, value: u32) -> Result<(), AllocError>
         requires { IsNumber number }
         ensures { OnOk result (self.new ≡ canon_row number (wire.Fixed32 value ∷ []) ++ self.old) }
@@ -48,6 +53,7 @@ impl Backward {
     }
 
     /// Writes a field of wire type 2.
+    #[inline]
     pub fn put_bytes_field(&mut self, number: u32, part: &[u8]) -> Result<(), AllocError>
         requires { IsNumber number }
         ensures { OnOk result (self.new ≡ canon_row number (wire.Bytes part.now ∷ []) ++ self.old) }
@@ -57,7 +63,8 @@ impl Backward {
         Ok(())
     }
 
-    /// Makes the first so many bytes a field of wire type 2.
+    /// Makes the first `size` bytes a field of wire type 2.
+    #[inline]
     pub fn close_field(&mut self, number: u32, size: usize) -> Result<(), AllocError>
         requires number { IsNumber number }
         requires size { size ≤ length self.old }
@@ -68,6 +75,7 @@ impl Backward {
     }
 
     /// Writes the tag and the length of a field of wire type 2.
+    #[inline]
     fn close_head(&mut self, number: u32, size: usize) -> Result<(), AllocError>
         requires { IsNumber number }
         ensures { OnOk result (self.new ≡ varint (8 * number + 2) ++ (varint size ++ self.old)) }
@@ -78,6 +86,7 @@ impl Backward {
     }
 
     /// Writes an unsigned number.
+    #[inline]
     pub fn put_varint_row(&mut self, number: u32, value: u64) -> Result<(), AllocError>
         requires { IsNumber number }
         ensures { OnOk result (self.new ≡ canon_row number (varint_row value) ++ self.old) }
@@ -89,6 +98,7 @@ impl Backward {
     }
 
     /// Writes a signed number or an enum: one below zero has ten bytes.
+    #[inline]
     pub fn put_signed_row(&mut self, number: u32, value: i64) -> Result<(), AllocError>
         requires { IsNumber number }
         ensures { OnOk result (self.new ≡ canon_row number (signed_row value) ++ self.old) }
@@ -98,6 +108,7 @@ impl Backward {
     }
 
     /// Writes a bool.
+    #[inline]
     pub fn put_bool_row(&mut self, number: u32, value: bool) -> Result<(), AllocError>
         requires { IsNumber number }
         ensures { OnOk result (self.new ≡ canon_row number (bool_row value) ++ self.old) }
@@ -109,6 +120,7 @@ impl Backward {
     }
 
     /// Writes 64 bits.
+    #[inline]
     pub fn put_fixed64_row(&mut self, number: u32, value: u64) -> Result<(), AllocError>
         requires { IsNumber number }
         ensures { OnOk result (self.new ≡ canon_row number (fixed64_row value) ++ self.old) }
@@ -120,6 +132,7 @@ impl Backward {
     }
 
     /// Writes 32 bits.
+    #[inline]
     pub fn put_fixed32_row(&mut self, number: u32, value: u32) -> Result<(), AllocError>
         requires { IsNumber number }
         ensures { OnOk result (self.new ≡ canon_row number (fixed32_row value) ++ self.old) }
@@ -130,7 +143,48 @@ impl Backward {
         Ok(())
     }
 
+    /// Writes 64 bits that may be missing: zero is written too.
+    #[inline]
+    pub fn put_optional_row(&mut self, number: u32, value: Option<u64>) -> Result<(), AllocError>
+        requires { IsNumber number }
+        ensures { OnOk result (self.new ≡ canon_row number (optional_row value) ++ self.old) }
+    {
+        if let Some(value) = value {
+            self.put_fixed64_field(number, value)?;
+        }
+        Ok(())
+    }
+
+    /// Writes numbers of 64 bits, packed in one field of wire type 2.
+    #[inline]
+    pub fn put_packed64_row(&mut self, number: u32, values: &[u64]) -> Result<(), AllocError>
+        requires { IsNumber number }
+        ensures { OnOk result (self.new ≡ canon_row number (packed_row values.now) ++ self.old) }
+    {
+        if values.is_empty() {
+            return Ok(());
+        }
+        let before = self.len();
+        self.push_numbers(values)?;
+        let size = self.len() - before;
+        self.close_field(number, size)
+    }
+
+    /// Writes numbers of 64 bits before all others, each little-endian.
+    #[inline]
+    fn push_numbers(&mut self, values: &[u64]) -> Result<(), AllocError>
+        ensures { OnOk result (self.new ≡ flat_map (little_bytes 8) values.now ++ self.old) }
+    {
+        let mut bytes = [0; 8];
+        'values: for place in (0..values.len()).rev() {
+            LittleEndian::write_u64(&mut bytes, values[place]);
+            self.push_slice(&bytes)?;
+        }
+        Ok(())
+    }
+
     /// Writes a string or bytes.
+    #[inline]
     pub fn put_bytes_row(&mut self, number: u32, part: &[u8]) -> Result<(), AllocError>
         requires { IsNumber number }
         ensures { OnOk result (self.new ≡ canon_row number (bytes_row part.now) ++ self.old) }
@@ -141,7 +195,8 @@ impl Backward {
         Ok(())
     }
 
-    /// Makes the first so many bytes a singular message.
+    /// Makes the first `size` bytes a singular message.
+    #[inline]
     pub fn close_row(&mut self, number: u32, size: usize) -> Result<(), AllocError>
         requires number { IsNumber number }
         requires size { size ≤ length self.old }

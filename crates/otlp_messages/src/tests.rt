@@ -18,7 +18,7 @@ const FIELDS: [u8; 56] = [
 
 #[test]
 fn judges_requests(rt: HostRuntime) {
-    let logs = Message::LogsRequest;
+    let logs = Message::Request(Of::LogRecords);
     let body = b"\x0a\x0a\x12\x08\x12\x06\x2a\x04\x0a\x02hi";
     assert_eq!(rt; check(logs, LEVELS, body), Ok(()));
     let bodies = b"\x0a\x0c\x12\x0a\x12\x08\x2a\x04\x0a\x02hi\x2a\x00";

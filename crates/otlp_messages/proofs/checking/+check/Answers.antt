@@ -1,7 +1,7 @@
 use Rattle.std.proofs.Common.{◌<◌, ℕ, length, refl, ap, ◌∙◌, sym, subst, set, arith}
 use Rattle.std.proofs.lemmas.Result.{err_from_is_err_and}
 use Rattle.std.specs.Prelude.{◌==◌, not}
-use Rattle.otlp_wire.specs.lemmas.Readings.{part_len}
+use Rattle.otlp_wire.proofs.Readings.{part_len}
 use Rattle.otlp_wire.specs.Wire.{entry, value_of}
 use Rattle.otlp_messages.specs.declared.messages.Kind.{Kind}
 use Rattle.otlp_messages.specs.Defects.{wire_error}

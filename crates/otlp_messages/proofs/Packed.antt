@@ -1,0 +1,60 @@
+-- What is written of packed numbers, optional numbers and signed 64 bits fits the table and reads back.
+use Rattle.std.proofs.Common.{◌≡◌, ℕ, ◌*◌, ◌/◌, ◌%◌, ◌^◌, ◌<◌, List, [], ◌∷◌, length, drop, ℤ, Option, Some, None, refl, ap, ◌∙◌, arith}
+use Rattle.std.specs.Prelude.{fold, FitsSigned}
+use Rattle.std.specs.Int.{w64, cast_unsigned}
+use Rattle.std.specs.List.{flat_map, AllByRecursion}
+use Rattle.std.proofs.lemmas.List.{length-append}
+use Rattle.std.proofs.lemmas.Int.{to_z-of_z}
+use Rattle.byteorder.specs.Endian.{little_bytes}
+use Rattle.byteorder.specs.Numbers.{little_number-reads_back, length-bytes_low_first}
+use Rattle.otlp_messages.specs.declared.messages.Message.{Message}
+use Rattle.otlp_messages.specs.declared.messages.Kind.TheVariants as kinds
+use Rattle.otlp_wire.specs.Wire.{Fixed64}
+use Rattle.otlp_messages.specs.Table.{kind_of}
+use Rattle.otlp_messages.specs.Rows.{numbers, packed_in, optional_in, sfixed64_in}
+use Rattle.otlp_messages.specs.Canon.{row, packed_row, optional_row, RowFits}
+use Rattle.otlp_messages.proofs.RowKinds.{part_field_fits, none_fits, fixed64_field_fits, unsigned_small}
+
+-- the bytes of numbers
+abbrev pub run : List ℕ → List ℕ
+run ns = flat_map (little_bytes 8) ns
+
+pub length-run : (ns : List ℕ) → length (run ns) ≡ 8 * length ns
+length-run [] = refl
+length-run (n ∷ ns) = omega (arith, length-append (little_bytes 8 n) (run ns), length-bytes_low_first 0 8 n, length-run ns)
+
+eighth : (n : ℕ) → 8 * n / 8 ≡ n
+eighth n = omega arith
+
+whole : (n : ℕ) → 8 * n % 8 ≡ 0
+whole n = omega arith
+
+run_back : (ns : List ℕ) → AllByRecursion (λ n. n < 2 ^ 64) ns → numbers (length ns) (run ns) ≡ ns
+run_back [] small = refl
+run_back (n ∷ ns) small =
+    ap (λ x. x ∷ numbers (length ns) (drop 8 (run (n ∷ ns)))) (little_number-reads_back 8 n (run ns) small.0)
+    ∙ ap (λ bytes. n ∷ numbers (length ns) bytes) refl ∙ ap (λ rest. n ∷ rest) (run_back ns small.1)
+
+pub packed_back : (ns : List ℕ) → AllByRecursion (λ n. n < 2 ^ 64) ns → fold packed_in [] (packed_row ns) ≡ ns
+packed_back [] small = refl
+packed_back (n ∷ ns) small =
+    ap (λ count. numbers count (run (n ∷ ns))) (ap (λ size. size / 8) (length-run (n ∷ ns)) ∙ eighth (length (n ∷ ns))) ∙ run_back (n ∷ ns) small
+
+pub packed_fits : (m : Message) (l n : ℕ) (ns : List ℕ) → kind_of m n ≡ kinds.Packed64 → RowFits m l (row n (packed_row ns))
+packed_fits m l n [] is = none_fits m l n
+packed_fits m l n (x ∷ ns) is = part_field_fits m l n (run (x ∷ ns)) (λ short. rw is (ap (λ size. size % 8) (length-run (x ∷ ns)) ∙ whole (length (x ∷ ns))))
+
+pub optional_back : (x : Option ℕ) → fold optional_in None (optional_row x) ≡ x
+optional_back None = refl
+optional_back (Some n) = refl
+
+pub optional_fits : (m : Message) (l n : ℕ) (x : Option ℕ) → kind_of m n ≡ kinds.Fixed64 → ((v : ℕ) → x ≡ Some v → v < 2 ^ 64) → RowFits m l (row n (optional_row x))
+optional_fits m l n None is small = none_fits m l n
+optional_fits m l n (Some v) is small = fixed64_field_fits m l n v is (small v refl)
+
+-- a signed number of 64 bits
+pub sfixed64_fits : (m : Message) (l n : ℕ) (z : ℤ) → kind_of m n ≡ kinds.Fixed64 → FitsSigned w64 z → RowFits m l (row n (Fixed64 (cast_unsigned w64 z) ∷ []))
+sfixed64_fits m l n z is fits = fixed64_field_fits m l n (cast_unsigned w64 z) is (unsigned_small z fits)
+
+pub sfixed64_back : (old z : ℤ) → FitsSigned w64 z → fold sfixed64_in old (Fixed64 (cast_unsigned w64 z) ∷ []) ≡ z
+sfixed64_back old z fits = to_z-of_z w64 z fits
