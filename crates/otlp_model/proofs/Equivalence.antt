@@ -2,7 +2,7 @@
 use Rattle.std.proofs.Common.{List, [], ◌∷◌, refl, sym, ◌∙◌, ap}
 use Rattle.std.specs.List.{AllZip}
 use Rattle.otlp_model.specs.Telemetry.{Item, span, log_record, metric, telemetry}
-use Rattle.otlp_model.specs.Same.{SameOften, SameEvent, SameLink, SameSpan, SameLogRecord, SameExemplar, SamePoint, SameShape, SameMetric, SameResource, SameScope, SameItem, SameEntry, Same}
+use Rattle.otlp_model.specs.Same.{SameOften, SameEvent, SameLink, SameSpan, SameLogRecord, SameExemplar, SamePoint, SameHistPoint, SameSumPoint, SameShape, SameMetric, SameResource, SameScope, SameItem, SameEntry, Same}
 use Rattle.otlp_model.specs.declared.groups.Resource.{Resource}
 use Rattle.otlp_model.specs.declared.groups.Scope.{Scope}
 use Rattle.otlp_model.specs.declared.spans.Span.{Span}
@@ -14,6 +14,8 @@ use Rattle.otlp_model.specs.declared.metrics.Shape.{Shape}
 use Rattle.otlp_model.specs.declared.metrics.Shape.TheVariants as shapes
 use Rattle.otlp_model.specs.declared.metrics.Point.{Point}
 use Rattle.otlp_model.specs.declared.metrics.Exemplar.{Exemplar}
+use Rattle.otlp_model.specs.declared.histograms.HistPoint.{HistPoint}
+use Rattle.otlp_model.specs.declared.histograms.SumPoint.{SumPoint}
 
 -- a relation that is reflexive, symmetric and transitive
 pub record IsEquivalence {A : Type 0} (R : A → A → Type 0) : Type 0 where
@@ -146,36 +148,116 @@ point = record {
 points : IsEquivalence (AllZip SamePoint)
 points = zipped SamePoint point
 
+hist_point : IsEquivalence SameHistPoint
+hist_point = record {
+  itself = λ a. record { scalars = refl; pairs = often.itself a.pairs; exemplars = exemplars.itself a.exemplars };
+  turned = λ a b h. record {
+    scalars = sym (ap {A = HistPoint} (λ x. record x { pairs = b.pairs; exemplars = b.exemplars }) h.scalars);
+    pairs = often.turned a.pairs b.pairs h.pairs;
+    exemplars = exemplars.turned a.exemplars b.exemplars h.exemplars;
+  };
+  joined = λ a b c h k. record {
+    scalars = h.scalars ∙ ap {A = HistPoint} (λ x. record x { pairs = a.pairs; exemplars = a.exemplars }) k.scalars;
+    pairs = often.joined a.pairs b.pairs c.pairs h.pairs k.pairs;
+    exemplars = exemplars.joined a.exemplars b.exemplars c.exemplars h.exemplars k.exemplars;
+  };
+}
+
+hist_points : IsEquivalence (AllZip SameHistPoint)
+hist_points = zipped SameHistPoint hist_point
+
+sum_point : IsEquivalence SameSumPoint
+sum_point = record {
+  itself = λ a. record { scalars = refl; pairs = often.itself a.pairs };
+  turned = λ a b h. record {
+    scalars = sym (ap {A = SumPoint} (λ x. record x { pairs = b.pairs }) h.scalars);
+    pairs = often.turned a.pairs b.pairs h.pairs;
+  };
+  joined = λ a b c h k. record {
+    scalars = h.scalars ∙ ap {A = SumPoint} (λ x. record x { pairs = a.pairs }) k.scalars;
+    pairs = often.joined a.pairs b.pairs c.pairs h.pairs k.pairs;
+  };
+}
+
+sum_points : IsEquivalence (AllZip SameSumPoint)
+sum_points = zipped SameSumPoint sum_point
+
 shape_itself : (a : Shape) → SameShape a a
 shape_itself shapes.Empty = tt
 shape_itself (shapes.Gauge xs) = points.itself xs
 shape_itself (shapes.Sum xs t m) = (points.itself xs, refl, refl)
+shape_itself (shapes.Histogram xs t) = (hist_points.itself xs, refl)
+shape_itself (shapes.Summary xs) = sum_points.itself xs
 
 shape_turned : (a b : Shape) → SameShape a b → SameShape b a
 shape_turned shapes.Empty shapes.Empty h = tt
 shape_turned (shapes.Gauge xs) (shapes.Gauge ys) h = points.turned xs ys h
 shape_turned (shapes.Sum xs t m) (shapes.Sum ys u n) h = (points.turned xs ys h.0, sym h.1, sym h.2)
+shape_turned (shapes.Histogram xs t) (shapes.Histogram ys u) h = (hist_points.turned xs ys h.0, sym h.1)
+shape_turned (shapes.Summary xs) (shapes.Summary ys) h = sum_points.turned xs ys h
 shape_turned shapes.Empty (shapes.Gauge ys) h = absurd h
 shape_turned shapes.Empty (shapes.Sum ys u n) h = absurd h
+shape_turned shapes.Empty (shapes.Histogram ys u) h = absurd h
+shape_turned shapes.Empty (shapes.Summary ys) h = absurd h
 shape_turned (shapes.Gauge xs) shapes.Empty h = absurd h
 shape_turned (shapes.Gauge xs) (shapes.Sum ys u n) h = absurd h
+shape_turned (shapes.Gauge xs) (shapes.Histogram ys u) h = absurd h
+shape_turned (shapes.Gauge xs) (shapes.Summary ys) h = absurd h
 shape_turned (shapes.Sum xs t m) shapes.Empty h = absurd h
 shape_turned (shapes.Sum xs t m) (shapes.Gauge ys) h = absurd h
+shape_turned (shapes.Sum xs t m) (shapes.Histogram ys u) h = absurd h
+shape_turned (shapes.Sum xs t m) (shapes.Summary ys) h = absurd h
+shape_turned (shapes.Histogram xs t) shapes.Empty h = absurd h
+shape_turned (shapes.Histogram xs t) (shapes.Gauge ys) h = absurd h
+shape_turned (shapes.Histogram xs t) (shapes.Sum ys u n) h = absurd h
+shape_turned (shapes.Histogram xs t) (shapes.Summary ys) h = absurd h
+shape_turned (shapes.Summary xs) shapes.Empty h = absurd h
+shape_turned (shapes.Summary xs) (shapes.Gauge ys) h = absurd h
+shape_turned (shapes.Summary xs) (shapes.Sum ys u n) h = absurd h
+shape_turned (shapes.Summary xs) (shapes.Histogram ys u) h = absurd h
 
 shape_joined : (a b c : Shape) → SameShape a b → SameShape b c → SameShape a c
 shape_joined shapes.Empty shapes.Empty c h k = k
 shape_joined (shapes.Gauge xs) (shapes.Gauge ys) (shapes.Gauge zs) h k = points.joined xs ys zs h k
 shape_joined (shapes.Gauge xs) (shapes.Gauge ys) shapes.Empty h k = absurd k
 shape_joined (shapes.Gauge xs) (shapes.Gauge ys) (shapes.Sum zs v o) h k = absurd k
+shape_joined (shapes.Gauge xs) (shapes.Gauge ys) (shapes.Histogram zs v) h k = absurd k
+shape_joined (shapes.Gauge xs) (shapes.Gauge ys) (shapes.Summary zs) h k = absurd k
 shape_joined (shapes.Sum xs t m) (shapes.Sum ys u n) (shapes.Sum zs v o) h k = (points.joined xs ys zs h.0 k.0, h.1 ∙ k.1, h.2 ∙ k.2)
 shape_joined (shapes.Sum xs t m) (shapes.Sum ys u n) shapes.Empty h k = absurd k
 shape_joined (shapes.Sum xs t m) (shapes.Sum ys u n) (shapes.Gauge zs) h k = absurd k
+shape_joined (shapes.Sum xs t m) (shapes.Sum ys u n) (shapes.Histogram zs v) h k = absurd k
+shape_joined (shapes.Sum xs t m) (shapes.Sum ys u n) (shapes.Summary zs) h k = absurd k
+shape_joined (shapes.Histogram xs t) (shapes.Histogram ys u) (shapes.Histogram zs v) h k = (hist_points.joined xs ys zs h.0 k.0, h.1 ∙ k.1)
+shape_joined (shapes.Histogram xs t) (shapes.Histogram ys u) shapes.Empty h k = absurd k
+shape_joined (shapes.Histogram xs t) (shapes.Histogram ys u) (shapes.Gauge zs) h k = absurd k
+shape_joined (shapes.Histogram xs t) (shapes.Histogram ys u) (shapes.Sum zs v o) h k = absurd k
+shape_joined (shapes.Histogram xs t) (shapes.Histogram ys u) (shapes.Summary zs) h k = absurd k
+shape_joined (shapes.Summary xs) (shapes.Summary ys) (shapes.Summary zs) h k = sum_points.joined xs ys zs h k
+shape_joined (shapes.Summary xs) (shapes.Summary ys) shapes.Empty h k = absurd k
+shape_joined (shapes.Summary xs) (shapes.Summary ys) (shapes.Gauge zs) h k = absurd k
+shape_joined (shapes.Summary xs) (shapes.Summary ys) (shapes.Sum zs v o) h k = absurd k
+shape_joined (shapes.Summary xs) (shapes.Summary ys) (shapes.Histogram zs v) h k = absurd k
 shape_joined shapes.Empty (shapes.Gauge ys) c h k = absurd h
 shape_joined shapes.Empty (shapes.Sum ys u n) c h k = absurd h
+shape_joined shapes.Empty (shapes.Histogram ys u) c h k = absurd h
+shape_joined shapes.Empty (shapes.Summary ys) c h k = absurd h
 shape_joined (shapes.Gauge xs) shapes.Empty c h k = absurd h
 shape_joined (shapes.Gauge xs) (shapes.Sum ys u n) c h k = absurd h
+shape_joined (shapes.Gauge xs) (shapes.Histogram ys u) c h k = absurd h
+shape_joined (shapes.Gauge xs) (shapes.Summary ys) c h k = absurd h
 shape_joined (shapes.Sum xs t m) shapes.Empty c h k = absurd h
 shape_joined (shapes.Sum xs t m) (shapes.Gauge ys) c h k = absurd h
+shape_joined (shapes.Sum xs t m) (shapes.Histogram ys u) c h k = absurd h
+shape_joined (shapes.Sum xs t m) (shapes.Summary ys) c h k = absurd h
+shape_joined (shapes.Histogram xs t) shapes.Empty c h k = absurd h
+shape_joined (shapes.Histogram xs t) (shapes.Gauge ys) c h k = absurd h
+shape_joined (shapes.Histogram xs t) (shapes.Sum ys u n) c h k = absurd h
+shape_joined (shapes.Histogram xs t) (shapes.Summary ys) c h k = absurd h
+shape_joined (shapes.Summary xs) shapes.Empty c h k = absurd h
+shape_joined (shapes.Summary xs) (shapes.Gauge ys) c h k = absurd h
+shape_joined (shapes.Summary xs) (shapes.Sum ys u n) c h k = absurd h
+shape_joined (shapes.Summary xs) (shapes.Histogram ys u) c h k = absurd h
 
 shape : IsEquivalence SameShape
 shape = record { itself = shape_itself; turned = shape_turned; joined = shape_joined }

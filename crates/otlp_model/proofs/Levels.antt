@@ -55,14 +55,14 @@ pub weight_of_bytes : (octets : List ℕ) → weight_of_value (values.Bytes octe
 weight_of_bytes octets = search (rules, the_lemmas)
 
 -- a total of weights that are computed first
-total-map : {A : Type 0} (weigh : A → ℕ) (parts : List A) → total (λ weight. weight) (map weigh parts) ≡ total weigh parts
-total-map weigh [] = refl
-total-map weigh (part ∷ parts) = ap (λ n. 32 + weigh part + n) (total-map weigh parts)
+total-map : {A : Type 0} (each : ℕ) (weigh : A → ℕ) (parts : List A) → total each (λ weight. weight) (map weigh parts) ≡ total each weigh parts
+total-map each weigh [] = refl
+total-map each weigh (part ∷ parts) = ap (λ n. each + weigh part + n) (total-map each weigh parts)
 
-pub weight_of_array : (members : List Value) → weight_of_value (values.Array members) ≡ total weight_of_value members
+pub weight_of_array : (members : List Value) → weight_of_value (values.Array members) ≡ total 32 weight_of_value members
 weight_of_array members = search (rules, the_lemmas, total-map)
 
-pub weight_of_map : (pairs : List Pair) → weight_of_value (values.Map pairs) ≡ total weight_of_pair pairs
+pub weight_of_map : (pairs : List Pair) → weight_of_value (values.Map pairs) ≡ total 32 weight_of_pair pairs
 weight_of_map pairs = search (rules, the_lemmas, total-map)
 
 pub is_real_empty : is_real_value values.Empty ≡ true

@@ -110,7 +110,7 @@ same_without n xs ys front same = record {
       omega arith;
 }
 
--- an answer about what stands behind a common front is one about the whole
+-- an answer about what stands after a common front is one about the whole
 pub same_front : (n : ℕ) (xs ys : List Pair) (r : Bool) → take n xs ≡ take n ys
     → (IsTrue r ↔ SameOften (take (length xs - n) (drop n xs)) (take (length ys - n) (drop n ys))) → IsTrue r ↔ SameOften xs ys
 same_front n xs ys r front told =

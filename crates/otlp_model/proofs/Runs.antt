@@ -31,7 +31,7 @@ module _ {I : Type 0} (SameOne : I → I → Type 0) (r q : Resource) (s t : Sco
   origin_told (x ∷ xs) [] some h = absurd h
   origin_told (x ∷ xs) (y ∷ ys) some h = (h.0.resource, h.0.scope)
 
--- a run is its first n entries, and what is left behind them
+-- a run is its first n entries, and what is left after them
 run_parts : {I : Type 0} (groups : List (ResourceGroup I)) (i p k n : ℕ) (r : Resource) (s : Scope) (xs : List I)
     → IsRun groups i p k r s xs → n ≤ length xs → left groups i p k ≡ map (entry r s) (take n xs) ++ left groups i p (k + n)
 run_parts groups i p k n r s xs run h =

@@ -2,7 +2,7 @@
 use Rattle.std.specs.Prelude.{ℕ, ◌≤◌, ◌==◌, ◌||◌, Bool, length, List, IsTrue}
 use Rattle.otlp_model.specs.Each.{Each}
 use Rattle.otlp_model.specs.Depth.{depth_of}
-use Rattle.otlp_model.specs.declared.limits.TheConstants.{MAX_DEPTH}
+use Rattle.otlp_model.specs.Limits.{depth_limit}
 use Rattle.otlp_model.specs.declared.value.Value.{Value}
 use Rattle.otlp_model.specs.declared.value.Pair.{Pair}
 use Rattle.otlp_model.specs.declared.groups.Resource.{Resource}
@@ -17,6 +17,8 @@ use Rattle.otlp_model.specs.declared.metrics.Metric.{Metric}
 use Rattle.otlp_model.specs.declared.metrics.Shape.{Shape}
 use Rattle.otlp_model.specs.declared.metrics.Shape.TheVariants as shapes
 use Rattle.otlp_model.specs.declared.metrics.Point.{Point}
+use Rattle.otlp_model.specs.declared.histograms.HistPoint.{HistPoint}
+use Rattle.otlp_model.specs.declared.histograms.SumPoint.{SumPoint}
 use Rattle.otlp_model.specs.declared.metrics.Exemplar.{Exemplar}
 use Rattle.otlp_model.specs.declared.request.Request.{Request}
 use Rattle.otlp_model.specs.declared.request.Request.TheVariants.{Traces, Logs, Metrics}
@@ -32,7 +34,7 @@ abbrev pub IsSpanId : List ℕ → Type 0
 IsSpanId id = IsTrue (is_id 8 id)
 
 abbrev pub IsProfileValue : Value → Type 0
-IsProfileValue value = depth_of value ≤ MAX_DEPTH
+IsProfileValue value = depth_of value ≤ depth_limit
 
 abbrev pub IsProfilePair : Pair → Type 0
 IsProfilePair pair = IsProfileValue pair.value
@@ -68,10 +70,19 @@ pub record IsProfilePoint (point : Point) : Type 0 where
   pub pairs : Each IsProfilePair point.pairs
   pub exemplars : Each IsProfileExemplar point.exemplars
 
+pub record IsProfileHistPoint (point : HistPoint) : Type 0 where
+  pub pairs : Each IsProfilePair point.pairs
+  pub exemplars : Each IsProfileExemplar point.exemplars
+
+pub record IsProfileSumPoint (point : SumPoint) : Type 0 where
+  pub pairs : Each IsProfilePair point.pairs
+
 abbrev pub IsProfileShape : Shape → Type 0
 IsProfileShape shapes.Empty = Unit {0}
 IsProfileShape (shapes.Gauge points) = Each IsProfilePoint points
 IsProfileShape (shapes.Sum points temporality monotonic) = Each IsProfilePoint points
+IsProfileShape (shapes.Histogram points temporality) = Each IsProfileHistPoint points
+IsProfileShape (shapes.Summary points) = Each IsProfileSumPoint points
 
 pub record IsProfileMetric (metric : Metric) : Type 0 where
   pub shape : IsProfileShape metric.shape

@@ -1,5 +1,5 @@
 -- What a program can hold: texts are UTF-8, bytes and numbers fit their types.
-use Rattle.std.specs.Prelude.{◌<◌, ◌^◌, ◌&&◌, Bool, true, length, List, nat_lt, IsTrue, FitsSigned, ℤ, pos, negsuc}
+use Rattle.std.specs.Prelude.{ℕ, ◌<◌, ◌^◌, ◌&&◌, Bool, true, length, List, nat_lt, IsTrue, FitsSigned, ℤ, pos, negsuc, Option, None, Some}
 use Rattle.std.specs.List.{list_all}
 use Rattle.std.specs.Int.{w32}
 use Rattle.otlp_model.specs.Each.{Each}
@@ -21,6 +21,9 @@ use Rattle.otlp_model.specs.declared.metrics.Shape.TheVariants as shapes
 use Rattle.otlp_model.specs.declared.metrics.Number.{Number}
 use Rattle.otlp_model.specs.declared.metrics.Number.TheVariants as numbers
 use Rattle.otlp_model.specs.declared.metrics.Point.{Point}
+use Rattle.otlp_model.specs.declared.histograms.HistPoint.{HistPoint}
+use Rattle.otlp_model.specs.declared.histograms.SumPoint.{SumPoint}
+use Rattle.otlp_model.specs.declared.histograms.Quantile.{Quantile}
 use Rattle.otlp_model.specs.declared.metrics.Exemplar.{Exemplar}
 use Rattle.otlp_model.specs.declared.request.Request.{Request}
 use Rattle.otlp_model.specs.declared.request.Request.TheVariants.{Traces, Logs, Metrics}
@@ -97,6 +100,7 @@ pub record IsRealLogRecord (log : LogRecord) : Type 0 where
   pub flags : log.flags < 2 ^ 32
   pub trace_id : IsTrue (is_real_octets log.trace_id)
   pub span_id : IsTrue (is_real_octets log.span_id)
+  pub event_name : IsTrue (is_real_text log.event_name)
 
 abbrev pub is_real_number : Number → Bool
 is_real_number numbers.Missing = true
@@ -118,10 +122,43 @@ pub record IsRealPoint (point : Point) : Type 0 where
   pub pairs : IsTrue (are_real_pairs point.pairs)
   pub exemplars : Each IsRealExemplar point.exemplars
 
+-- a double that is there fits 64 bits
+abbrev pub is_real_optional : Option ℕ → Bool
+is_real_optional None = true
+is_real_optional (Some bits) = nat_lt bits (2 ^ 64)
+
+pub record IsRealHistPoint (point : HistPoint) : Type 0 where
+  pub start : point.start < 2 ^ 64
+  pub time : point.time < 2 ^ 64
+  pub count : point.count < 2 ^ 64
+  pub sum : IsTrue (is_real_optional point.sum)
+  pub buckets : Each (λ count. count < 2 ^ 64) point.buckets
+  pub bounds : Each (λ bound. bound < 2 ^ 64) point.bounds
+  pub min : IsTrue (is_real_optional point.min)
+  pub max : IsTrue (is_real_optional point.max)
+  pub flags : point.flags < 2 ^ 32
+  pub pairs : IsTrue (are_real_pairs point.pairs)
+  pub exemplars : Each IsRealExemplar point.exemplars
+
+pub record IsRealQuantile (pair : Quantile) : Type 0 where
+  pub quantile : pair.quantile < 2 ^ 64
+  pub value : pair.value < 2 ^ 64
+
+pub record IsRealSumPoint (point : SumPoint) : Type 0 where
+  pub start : point.start < 2 ^ 64
+  pub time : point.time < 2 ^ 64
+  pub count : point.count < 2 ^ 64
+  pub sum : point.sum < 2 ^ 64
+  pub quantiles : Each IsRealQuantile point.quantiles
+  pub flags : point.flags < 2 ^ 32
+  pub pairs : IsTrue (are_real_pairs point.pairs)
+
 abbrev pub IsRealShape : Shape → Type 0
 IsRealShape shapes.Empty = Unit {0}
 IsRealShape (shapes.Gauge points) = Each IsRealPoint points
 IsRealShape (shapes.Sum points temporality monotonic) = Each IsRealPoint points × FitsSigned w32 temporality
+IsRealShape (shapes.Histogram points temporality) = Each IsRealHistPoint points × FitsSigned w32 temporality
+IsRealShape (shapes.Summary points) = Each IsRealSumPoint points
 
 pub record IsRealMetric (metric : Metric) : Type 0 where
   pub name : IsTrue (is_real_text metric.name)

@@ -14,6 +14,8 @@ use Rattle.otlp_model.specs.declared.metrics.Metric.{Metric}
 use Rattle.otlp_model.specs.declared.metrics.Shape.{Shape}
 use Rattle.otlp_model.specs.declared.metrics.Shape.TheVariants as shapes
 use Rattle.otlp_model.specs.declared.metrics.Point.{Point}
+use Rattle.otlp_model.specs.declared.histograms.HistPoint.{HistPoint}
+use Rattle.otlp_model.specs.declared.histograms.SumPoint.{SumPoint}
 use Rattle.otlp_model.specs.declared.metrics.Exemplar.{Exemplar}
 use Rattle.otlp_model.specs.declared.request.Request.{Request}
 
@@ -54,10 +56,21 @@ pub record SamePoint (a b : Point) : Type 0 where
   pub pairs : SameOften a.pairs b.pairs
   pub exemplars : AllZip SameExemplar a.exemplars b.exemplars
 
+pub record SameHistPoint (a b : HistPoint) : Type 0 where
+  pub scalars : a ≡ record b { pairs = a.pairs; exemplars = a.exemplars }
+  pub pairs : SameOften a.pairs b.pairs
+  pub exemplars : AllZip SameExemplar a.exemplars b.exemplars
+
+pub record SameSumPoint (a b : SumPoint) : Type 0 where
+  pub scalars : a ≡ record b { pairs = a.pairs }
+  pub pairs : SameOften a.pairs b.pairs
+
 abbrev pub SameShape : Shape → Shape → Type 0
 SameShape shapes.Empty shapes.Empty = Unit {0}
 SameShape (shapes.Gauge xs) (shapes.Gauge ys) = AllZip SamePoint xs ys
 SameShape (shapes.Sum xs t m) (shapes.Sum ys u n) = AllZip SamePoint xs ys × (t ≡ u) × (m ≡ n)
+SameShape (shapes.Histogram xs t) (shapes.Histogram ys u) = AllZip SameHistPoint xs ys × (t ≡ u)
+SameShape (shapes.Summary xs) (shapes.Summary ys) = AllZip SameSumPoint xs ys
 SameShape _ _ = ⊥
 
 pub record SameMetric (a b : Metric) : Type 0 where

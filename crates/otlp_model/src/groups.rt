@@ -9,7 +9,7 @@ use crate::profile::{Profiled, all_profile};
 use crate::sameness::{Alike, same_pairs};
 use crate::text::Text;
 use crate::value::Pair;
-use crate::weights::{Weighed, pairs_weight, parts_weight};
+use crate::weights::{PART, Weighed, pairs_weight, parts_weight};
 
 /// What telemetry comes from (OTLP `Resource`, with the schema url of its `ResourceSpans`, `ResourceLogs` or
 /// `ResourceMetrics`).
@@ -81,7 +81,10 @@ impl<I: Weighed> Weighed for ScopeGroup<I> {
     ghost is_real = { IsRealScopeGroup I.is_real };
 
     fn weight(&self) -> u64 {
-        sum_capped(&[self.scope.weight(), parts_weight(self.items.as_slice())])
+        sum_capped(&[
+            self.scope.weight(),
+            parts_weight(PART, self.items.as_slice()),
+        ])
     }
 }
 
@@ -91,7 +94,10 @@ impl<I: Weighed> Weighed for ResourceGroup<I> {
     ghost is_real = { IsRealResourceGroup I.is_real };
 
     fn weight(&self) -> u64 {
-        sum_capped(&[self.resource.weight(), parts_weight(self.scopes.as_slice())])
+        sum_capped(&[
+            self.resource.weight(),
+            parts_weight(PART, self.scopes.as_slice()),
+        ])
     }
 }
 

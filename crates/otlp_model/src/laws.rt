@@ -2,10 +2,19 @@
 
 ghost use Rattle.std.specs.Prelude.{◌≡◌, ◌≢◌, ◌↔◌, [], List, IsTrue, IsPermutation};
 ghost use Rattle.otlp_model.specs.Equal.{pair_is};
+ghost use Rattle.otlp_model.specs.declared.limits.TheConstants.{MAX_ITEMS, MAX_TREE_WEIGHT, MAX_DEPTH};
+ghost use Rattle.otlp_model.specs.Limits.{item_limit, weight_limit, depth_limit};
 ghost use Rattle.otlp_model.specs.Same.{Same, SameOften};
 ghost use Rattle.otlp_model.specs.Telemetry.{telemetry, signal_of, with_items};
 ghost use Rattle.otlp_model.specs.declared.value.Pair.{Pair};
 ghost use Rattle.otlp_model.specs.declared.request.Request.{Request};
+
+/// The limits that the code goes by are those of the definitions.
+pub fn limits()
+    ensures items { MAX_ITEMS ≡ item_limit }
+    ensures weight { MAX_TREE_WEIGHT ≡ weight_limit }
+    ensures depth { MAX_DEPTH ≡ depth_limit }
+{}
 
 /// Denoting the same telemetry is an equivalence of requests.
 pub fn same_is_an_equivalence()

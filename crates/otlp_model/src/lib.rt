@@ -4,6 +4,7 @@
 mod counts;
 mod depths;
 mod groups;
+mod histograms;
 pub mod laws;
 mod limits;
 mod list;
@@ -21,6 +22,7 @@ mod weights;
 
 pub use depths::depth;
 pub use groups::{Resource, ResourceGroup, Scope, ScopeGroup};
+pub use histograms::{HistPoint, Quantile, SumPoint};
 pub use limits::{CAP, MAX_DEPTH, MAX_ITEMS, MAX_TREE_WEIGHT, add_capped, sum_capped};
 pub use list::Items;
 pub use logs::LogRecord;
@@ -32,5 +34,7 @@ pub use text::Text;
 pub use value::{Pair, Value};
 pub use weights::value_weight;
 
+#[cfg(test)]
+mod samples;
 #[cfg(test)]
 mod tests;

@@ -1,7 +1,7 @@
 ghost use Rattle.std.specs.Prelude.{◌≡◌, ◌+◌, ◌^◌, min, sum};
 
 /// How many main items (spans, log records or metrics) a request may have.
-pub const MAX_ITEMS: u64 = 65_536;
+pub const MAX_ITEMS: u64 = 1_048_576;
 
 /// How much a request may weigh.
 pub const MAX_TREE_WEIGHT: u64 = 1 << 26;
@@ -9,7 +9,7 @@ pub const MAX_TREE_WEIGHT: u64 = 1 << 26;
 /// How deep a value may be.
 pub const MAX_DEPTH: u64 = 32;
 
-/// What a count answers where its number is larger.
+/// What a count returns where its number is larger.
 pub const CAP: u64 = 1 << 63;
 
 /// The sum, or `CAP` where it is larger.

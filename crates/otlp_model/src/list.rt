@@ -1,5 +1,7 @@
 ghost use Rattle.std.specs.Prelude.{◌≡◌, [], ◌∷◌, ◌++◌, ◌↔◌, length, slice_get, IsTrue, OnOk, OnErr};
-ghost use Rattle.std.specs.Option.{option_copied};
+ghost use Rattle.std.specs.Option.{option_copied, option_copied_mut};
+ghost use Rattle.std.specs.Borrow.{sem};
+ghost use Rattle.otlp_model.specs.Lends.{lends_item};
 
 use std::alloc::{AllocError, Global};
 use std::marker::Model;
@@ -22,6 +24,7 @@ impl<T> Model for Items<T> {
 }
 
 impl<T> Items<T> {
+    #[inline]
     pub fn new(alloc: Global) -> Items<T>
         ensures { result ≡ [] }
     {
@@ -30,12 +33,14 @@ impl<T> Items<T> {
         }
     }
 
+    #[inline]
     pub fn len(&self) -> usize
         ensures { result ≡ length self.now }
     {
         self.items.len()
     }
 
+    #[inline]
     pub fn is_empty(&self) -> bool
         ensures { IsTrue result ↔ (self.now ≡ []) }
     {
@@ -43,13 +48,23 @@ impl<T> Items<T> {
     }
 
     /// `None` exactly where the place isn't below `len`.
+    #[inline]
     pub fn get(&self, place: usize) -> Option<&T>
         ensures { option_copied result ≡ slice_get self.now place }
     {
         self.items.get(place)
     }
 
+    /// The item at the place, to write to; `None` exactly where the place isn't below `len`. The other items stay.
+    pub fn get_mut(&mut self, place: usize) -> Option<&mut T>
+        ensures* writes_back { sem 𝓛 (lends_item T.row self.entry place result) }
+        ensures value { option_copied_mut result ≡ slice_get self.old place }
+    {
+        self.items.get_mut(place)
+    }
+
     /// The items as a slice, for a `for` or a chain over them.
+    #[inline]
     pub fn as_slice(&self) -> &[T]
         ensures { result.now ≡ self.now }
     {
@@ -59,11 +74,20 @@ impl<T> Items<T> {
 
 impl<T: Drop> Items<T> {
     /// Appends the item. Where no memory is found the item is dropped and the list is as before.
+    #[inline]
     pub fn push(&mut self, item: T) -> Result<(), AllocError>
         ensures ok { OnOk result (self.new ≡ self.old ++ item ∷ []) }
         ensures err { OnErr result (self.new ≡ self.old) }
     {
         self.items.push(item)?;
         Ok(())
+    }
+
+    /// Finds room for `more` items beside those that stand, so that pushing them allocates nothing. The list stays as it
+    /// is.
+    pub fn reserve(&mut self, more: usize) -> Result<(), AllocError>
+        ensures { self.new ≡ self.old }
+    {
+        self.items.reserve(more)
     }
 }

@@ -25,6 +25,7 @@ pub struct LogRecord {
     pub flags: u32,
     pub trace_id: Octets,
     pub span_id: Octets,
+    pub event_name: Text,
 }
 
 impl Weighed for LogRecord {
@@ -42,6 +43,7 @@ impl Weighed for LogRecord {
             self.severity_text.weight(),
             self.trace_id.weight(),
             self.span_id.weight(),
+            self.event_name.weight(),
             value_weight(&self.body),
             pairs_weight(self.pairs.as_slice()),
         ])
@@ -73,5 +75,6 @@ impl Alike for LogRecord {
             && self.flags == other.flags
             && self.trace_id.as_slice() == other.trace_id.as_slice()
             && self.span_id.as_slice() == other.span_id.as_slice()
+            && self.event_name.as_slice() == other.event_name.as_slice()
     }
 }

@@ -4,6 +4,7 @@ ghost use Rattle.otlp_model.specs.Real.{is_real_number, IsRealExemplar, IsRealPo
 ghost use Rattle.otlp_model.specs.Profile.{IsProfileExemplar, IsProfilePoint, IsProfileShape, IsProfileMetric};
 ghost use Rattle.otlp_model.specs.Same.{SameExemplar, SamePoint, SameShape, SameMetric};
 
+use crate::histograms::{HistPoint, SumPoint};
 use crate::limits::sum_capped;
 use crate::list::Items;
 use crate::octets::Octets;
@@ -11,7 +12,7 @@ use crate::profile::{Profiled, all_profile};
 use crate::sameness::{Alike, each_same, same_pairs};
 use crate::text::Text;
 use crate::value::Pair;
-use crate::weights::{Weighed, pairs_weight, parts_weight};
+use crate::weights::{PART, Weighed, pairs_weight, parts_weight};
 
 /// A metric (OTLP `Metric`).
 #[derive(Debug, Drop)]
@@ -32,6 +33,11 @@ pub enum Shape {
         temporality: i32,
         monotonic: bool,
     },
+    Histogram {
+        points: Items<HistPoint>,
+        temporality: i32,
+    },
+    Summary(Items<SumPoint>),
 }
 
 /// A measured number; a double is its 64 bits (the oneof `value` of OTLP `NumberDataPoint` and `Exemplar`).
@@ -110,7 +116,7 @@ impl Weighed for Point {
         sum_capped(&[
             self.value.weight(),
             pairs_weight(self.pairs.as_slice()),
-            parts_weight(self.exemplars.as_slice()),
+            parts_weight(PART, self.exemplars.as_slice()),
         ])
     }
 }
@@ -123,15 +129,23 @@ impl Weighed for Shape {
     fn weight(&self) -> u64 {
         match self {
             Shape::Empty => 0,
-            Shape::Gauge(points) => parts_weight(points.as_slice()),
+            Shape::Gauge(points) => parts_weight(PART, points.as_slice()),
             Shape::Sum {
                 points,
                 temporality,
                 ..
             } => {
                 let _temporality = *temporality;
-                parts_weight(points.as_slice())
+                parts_weight(PART, points.as_slice())
             }
+            Shape::Histogram {
+                points,
+                temporality,
+            } => {
+                let _temporality = *temporality;
+                parts_weight(PART, points.as_slice())
+            }
+            Shape::Summary(points) => parts_weight(PART, points.as_slice()),
         }
     }
 }
@@ -175,6 +189,8 @@ impl Profiled for Shape {
             Shape::Empty => true,
             Shape::Gauge(points) => all_profile(points),
             Shape::Sum { points, .. } => all_profile(points),
+            Shape::Histogram { points, .. } => all_profile(points),
+            Shape::Summary(points) => all_profile(points),
         }
     }
 }
@@ -231,6 +247,17 @@ impl Alike for Shape {
                     monotonic: n,
                 },
             ) => each_same(xs.as_slice(), ys.as_slice()) && t == u && m == n,
+            (
+                Shape::Histogram {
+                    points: xs,
+                    temporality: t,
+                },
+                Shape::Histogram {
+                    points: ys,
+                    temporality: u,
+                },
+            ) => each_same(xs.as_slice(), ys.as_slice()) && t == u,
+            (Shape::Summary(xs), Shape::Summary(ys)) => each_same(xs.as_slice(), ys.as_slice()),
             _ => false,
         }
     }

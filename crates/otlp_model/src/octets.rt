@@ -1,13 +1,29 @@
-ghost use Rattle.std.specs.Prelude.{◌≡◌, [], ◌∷◌, ◌++◌, ◌<◌, ◌^◌, ◌↔◌, length, IsTrue, IfOk, OnOk, OnErr, All};
+ghost use Rattle.std.specs.Prelude.{◌≡◌, [], ◌∷◌, ◌++◌, ◌<◌, ◌≤◌, ◌^◌, ◌↔◌, length, IsTrue, IfOk, OnOk, OnErr, All};
 ghost use Rattle.otlp_model.specs.Bytes.{is_real_octets};
 
 use std::alloc::{AllocError, Global};
 use std::marker::Model;
 
+/// How many bytes a byte string holds inside itself.
+const SHORT: usize = 23;
+
 /// A growing list of bytes. Contracts see it as that list.
+///
+/// Up to 23 bytes, as ids have, it takes no memory beside itself.
 #[derive(Debug, Drop)]
 pub struct Octets {
-    bytes: Vec<u8>,
+    held: Held,
+}
+
+/// Where the bytes stand.
+#[derive(Debug, Drop)]
+enum Held {
+    Short {
+        alloc: Global,
+        len: u8,
+        bytes: [u8; SHORT],
+    },
+    Long(Vec<u8>),
 }
 
 impl Model for Octets {
@@ -15,48 +31,87 @@ impl Model for Octets {
 
     ghost Value = { List ℕ };
 
-    ghost view = { λ a. a.bytes.items };
+    ghost use Rattle.otlp_model.specs.Held.{bytes_in, HasBytes};
+
+    ghost view = { λ a. bytes_in a.held };
+
+    ghost invariant = { λ a. HasBytes a.held };
 }
 
 impl Octets {
+    #[inline]
     pub fn new(alloc: Global) -> Octets
         ensures { result ≡ [] }
     {
         Octets {
-            bytes: Vec::new(alloc),
+            held: Held::Short {
+                alloc,
+                len: 0,
+                bytes: [0; SHORT],
+            },
         }
     }
 
     /// A copy of the part.
+    #[inline]
     pub fn from_slice(alloc: Global, part: &[u8]) -> Result<Octets, AllocError>
         ensures { IfOk result (λ octets. octets ≡ part.now) }
     {
-        let bytes = Vec::from_slice(alloc, part)?;
-        Ok(Octets { bytes })
+        if part.len() <= SHORT {
+            Ok(Octets::short(alloc, part))
+        } else {
+            let held = Held::Long(Vec::from_slice(alloc, part)?);
+            Ok(Octets { held })
+        }
     }
 
+    #[inline]
+    fn short(alloc: Global, part: &[u8]) -> Octets
+        requires { length part.now ≤ 23 }
+        ensures { result ≡ part.now }
+    {
+        let mut bytes = [0; SHORT];
+        bytes[..part.len()].copy_from_slice(part);
+        let len = part.len() as u8;
+        let held = Held::Short { alloc, len, bytes };
+        Octets { held }
+    }
+
+    #[inline]
     pub fn len(&self) -> usize
         ensures { result ≡ length self.now }
     {
-        self.bytes.len()
+        self.as_slice().len()
     }
 
+    #[inline]
     pub fn is_empty(&self) -> bool
         ensures { IsTrue result ↔ (self.now ≡ []) }
     {
-        self.bytes.is_empty()
+        self.as_slice().is_empty()
     }
 
+    #[inline]
     pub fn as_slice(&self) -> &[u8]
         ensures value { result.now ≡ self.now }
         ensures bytes { All (λ byte. byte < 256) self.now }
     {
         // The variable tells the proof that each byte fits its type.
-        let bytes = self.bytes.as_slice();
+        let bytes = self.held();
         bytes
     }
 
+    fn held(&self) -> &[u8]
+        ensures { result.now ≡ self.now }
+    {
+        match &self.held {
+            Held::Short { len, bytes, .. } => &bytes[..usize::from(*len)],
+            Held::Long(bytes) => bytes.as_slice(),
+        }
+    }
+
     /// What the bytes weigh: 1 each.
+    #[inline]
     #[tactic(auto, using(crate::proofs::RealParts::real_octets))]
     pub(crate) fn weight(&self) -> u64
         ensures weight { result ≡ length self.now }
@@ -67,11 +122,22 @@ impl Octets {
     }
 
     /// Appends the byte. Where no memory is found the bytes are as before.
+    #[inline]
     pub fn push(&mut self, byte: u8) -> Result<(), AllocError>
         ensures ok { OnOk result (self.new ≡ self.old ++ byte ∷ []) }
         ensures err { OnErr result (self.new ≡ self.old) }
     {
-        self.bytes.push(byte)?;
-        Ok(())
+        match &mut self.held {
+            Held::Long(bytes) => {
+                bytes.push(byte)?;
+                Ok(())
+            }
+            Held::Short { alloc, .. } => {
+                let mut bytes = Vec::from_slice(*alloc, self.as_slice())?;
+                bytes.push(byte)?;
+                self.held = Held::Long(bytes);
+                Ok(())
+            }
+        }
     }
 }

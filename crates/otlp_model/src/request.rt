@@ -13,7 +13,7 @@ use crate::metrics::Metric;
 use crate::profile::all_profile;
 use crate::spans::Span;
 use crate::walk::same_groups;
-use crate::weights::parts_weight;
+use crate::weights::{PART, parts_weight};
 
 /// The kinds of telemetry.
 #[derive(Clone, Copy, Debug, PartialEq, Eq)]
@@ -56,8 +56,9 @@ pub fn items(request: &Request) -> u64
     }
 }
 
-/// What the request weighs, or `CAP` where that is more: the bytes of its texts and byte strings, and 32 for each
-/// resource group, scope group, item, event, link, point, exemplar, pair, and member of an array or a key-value list.
+/// What the request weighs, or `CAP` where that is more: the bytes of its texts and byte strings; 32 for each resource
+/// group, scope group, item, event, link, point, exemplar, pair, and member of an array or a key-value list; 8 for each
+/// bucket count and each bound; and 16 for each quantile.
 ///
 /// The walk also tells a proof that the request is one that a program can hold: its texts are UTF-8 and its numbers
 /// fit their types. Linear in the request; it recurses as `depth` does.
@@ -66,9 +67,9 @@ pub fn weight(request: &Request) -> u64
     ensures real { IsReal request.now }
 {
     match request {
-        Request::Traces(groups) => parts_weight(groups.as_slice()),
-        Request::Logs(groups) => parts_weight(groups.as_slice()),
-        Request::Metrics(groups) => parts_weight(groups.as_slice()),
+        Request::Traces(groups) => parts_weight(PART, groups.as_slice()),
+        Request::Logs(groups) => parts_weight(PART, groups.as_slice()),
+        Request::Metrics(groups) => parts_weight(PART, groups.as_slice()),
     }
 }
 
@@ -90,7 +91,7 @@ pub fn is_profile(request: &Request) -> bool
 /// items don't count. Requests of different signals denote the same exactly where neither has items.
 ///
 /// It takes no memory. Linear in both requests as far as lists of attributes stand in the same order; what is left of a
-/// list behind the first difference is counted, in a comparison for each two of its pairs. It recurses as `depth` does.
+/// list after the first difference is counted, in a comparison for each two of its pairs. It recurses as `depth` does.
 pub fn same(a: &Request, b: &Request) -> bool
     ensures { IsTrue result ↔ Same a.now b.now }
 {

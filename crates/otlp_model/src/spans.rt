@@ -10,7 +10,7 @@ use crate::profile::{Profiled, all_profile};
 use crate::sameness::{Alike, each_same, same_pairs};
 use crate::text::Text;
 use crate::value::Pair;
-use crate::weights::{Weighed, pairs_weight, parts_weight};
+use crate::weights::{PART, Weighed, pairs_weight, parts_weight};
 
 /// A span (OTLP `Span`). Times are nanoseconds since the Unix epoch.
 #[derive(Debug, Drop)]
@@ -105,8 +105,8 @@ impl Weighed for Span {
             self.name.weight(),
             self.status_message.weight(),
             pairs_weight(self.pairs.as_slice()),
-            parts_weight(self.events.as_slice()),
-            parts_weight(self.links.as_slice()),
+            parts_weight(PART, self.events.as_slice()),
+            parts_weight(PART, self.links.as_slice()),
         ])
     }
 }

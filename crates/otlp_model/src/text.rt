@@ -1,47 +1,71 @@
-ghost use Rattle.std.specs.Prelude.{◌≡◌, [], ◌++◌, ◌<◌, ◌^◌, ◌↔◌, length, IsTrue, IfOk, OnOk, OnErr, IsUtf8, encode_utf8};
+ghost use Rattle.std.specs.Prelude.{◌≡◌, [], ◌++◌, ◌<◌, ◌≤◌, ◌^◌, ◌↔◌, length, IsTrue, IfOk, OnOk, OnErr, IsUtf8, encode_utf8};
 ghost use Rattle.std.specs.Option.{SomeIff};
 ghost use Rattle.otlp_model.specs.Bytes.{is_real_text};
 
 use std::alloc::{AllocError, Global};
 use std::marker::Model;
 
+/// How many bytes a text holds inside itself.
+const SHORT: usize = 23;
+
 /// A growing text. Contracts see it as its bytes, which are UTF-8.
+///
+/// Up to 23 bytes it takes no memory beside itself.
 #[derive(Debug, Drop)]
 pub struct Text {
-    text: String,
+    letters: Letters,
+}
+
+/// Where the bytes of a text stand.
+#[derive(Debug, Drop)]
+enum Letters {
+    Short {
+        alloc: Global,
+        len: u8,
+        bytes: [u8; SHORT],
+    },
+    Long(String),
 }
 
 impl Model for Text {
-    ghost use Rattle.std.specs.Prelude.{List, ℕ, string_bytes};
+    ghost use Rattle.std.specs.Prelude.{List, ℕ};
 
     ghost Value = { List ℕ };
 
-    ghost view = { λ a. string_bytes a.text };
+    ghost use Rattle.otlp_model.specs.Held.{letters_in, HasLetters};
+
+    ghost view = { λ a. letters_in a.letters };
+
+    ghost invariant = { λ a. HasLetters a.letters };
 }
 
 impl Text {
+    #[inline]
     pub fn new(alloc: Global) -> Text
         ensures { result ≡ [] }
     {
         Text {
-            text: String::new(alloc),
+            letters: Letters::Short {
+                alloc,
+                len: 0,
+                bytes: [0; SHORT],
+            },
         }
     }
 
     /// A copy of the part, or `None` exactly where it isn't UTF-8 (RFC 3629).
+    #[inline]
     pub fn from_utf8(alloc: Global, part: &[u8]) -> Result<Option<Text>, AllocError>
         ensures { IfOk result (λ text. SomeIff text (IsUtf8 part.now) part.now) }
     {
         match str::from_utf8(part) {
-            Ok(part) => {
-                let text = String::from_str(alloc, part)?;
-                Ok(Some(Text { text }))
-            }
+            Ok(part) => Ok(Some(Text::from_str(alloc, part)?)),
             Err(_) => Ok(None),
         }
     }
 
     /// A copy of the part, which is UTF-8.
+    #[inline]
     pub fn from_slice(alloc: Global, part: &[u8]) -> Result<Text, AllocError>
         requires { IsUtf8 part.now }
         ensures { IfOk result (λ text. text ≡ part.now) }
@@ -53,41 +77,72 @@ impl Text {
     }
 
     /// A copy of the part.
+    #[inline]
     pub fn from_str(alloc: Global, part: &str) -> Result<Text, AllocError>
         ensures { IfOk result (λ text. text ≡ part.now) }
     {
-        let text = String::from_str(alloc, part)?;
-        Ok(Text { text })
+        if part.len() <= SHORT {
+            Ok(Text::short(alloc, part))
+        } else {
+            let letters = Letters::Long(String::from_str(alloc, part)?);
+            Ok(Text { letters })
+        }
+    }
+
+    #[inline]
+    fn short(alloc: Global, part: &str) -> Text
+        requires { length part.now ≤ 23 }
+        ensures { result ≡ part.now }
+    {
+        let part = part.as_bytes();
+        let mut bytes = [0; SHORT];
+        bytes[..part.len()].copy_from_slice(part);
+        let len = part.len() as u8;
+        let letters = Letters::Short { alloc, len, bytes };
+        Text { letters }
     }
 
     /// How many bytes the text has.
+    #[inline]
     pub fn len(&self) -> usize
         ensures { result ≡ length self.now }
     {
-        self.text.len()
+        self.as_slice().len()
     }
 
+    #[inline]
     pub fn is_empty(&self) -> bool
         ensures { IsTrue result ↔ (self.now ≡ []) }
     {
-        self.text.is_empty()
+        self.as_slice().is_empty()
+    }
+
+    /// The bytes of the text.
+    #[inline]
+    pub fn as_slice(&self) -> &[u8]
+        ensures value { result.now ≡ self.now }
+        ensures utf8 { IsUtf8 self.now }
+    {
+        match &self.letters {
+            Letters::Short { len, bytes, .. } => &bytes[..usize::from(*len)],
+            Letters::Long(text) => text.as_str().as_bytes(),
+        }
     }
 
     pub fn as_str(&self) -> &str
         ensures { result.now ≡ self.now }
     {
-        self.text.as_str()
-    }
-
-    /// The bytes of the text.
-    pub fn as_slice(&self) -> &[u8]
-        ensures value { result.now ≡ self.now }
-        ensures utf8 { IsUtf8 self.now }
-    {
-        self.text.as_str().as_bytes()
+        if let Letters::Long(text) = &self.letters {
+            return text.as_str();
+        }
+        match str::from_utf8(self.as_slice()) {
+            Ok(text) => text,
+            Err(_) => unreachable!(),
+        }
     }
 
     /// What the text weighs: its bytes.
+    #[inline]
     #[tactic(auto, using(crate::proofs::RealParts::real_text))]
     pub(crate) fn weight(&self) -> u64
         ensures weight { result ≡ length self.now }
@@ -98,11 +153,19 @@ impl Text {
     }
 
     /// Appends the UTF-8 bytes of the letter. Where no memory is found the text is as before.
+    #[inline]
     pub fn push(&mut self, letter: char) -> Result<(), AllocError>
         ensures ok { OnOk result (self.new ≡ self.old ++ encode_utf8 letter) }
         ensures err { OnErr result (self.new ≡ self.old) }
     {
-        self.text.push(letter)?;
-        Ok(())
+        match &mut self.letters {
+            Letters::Long(text) => text.push(letter),
+            Letters::Short { alloc, .. } => {
+                let mut text = String::from_str(*alloc, self.as_str())?;
+                text.push(letter)?;
+                self.letters = Letters::Long(text);
+                Ok(())
+            }
+        }
     }
 }

@@ -7,8 +7,8 @@ ghost use Rattle.otlp_model.specs.Real.{is_real_value, are_real_pairs};
 use crate::limits::add_capped;
 use crate::value::{Pair, Value};
 
-/// What each part of a request weighs, beside its texts and byte strings.
-const PART: u64 = 32;
+/// What a part of a request weighs, beside its texts, byte strings and numbers.
+pub(crate) const PART: u64 = 32;
 
 /// The weight of a value, or `CAP` where it is larger: the bytes of its texts, byte strings and keys, and 32 for each
 /// member of an array or a key-value list.
@@ -40,7 +40,7 @@ pub fn value_weight(value: &Value) -> u64
 /// The weight of the members of an array, with 32 for each.
 #[cycle(weight)]
 fn members_weight(members: &[Value]) -> u64
-    ensures weight { result ≡ min (total weight_of_value members.now) (2 ^ 63) }
+    ensures weight { result ≡ min (total 32 weight_of_value members.now) (2 ^ 63) }
     ensures real { IsTrue (list_all is_real_value members.now) }
 {
     let mut weight = 0;
@@ -53,7 +53,7 @@ fn members_weight(members: &[Value]) -> u64
 /// The weight of a list of pairs, with 32 for each.
 #[cycle(weight)]
 pub(crate) fn pairs_weight(pairs: &[Pair]) -> u64
-    ensures weight { result ≡ min (total weight_of_pair pairs.now) (2 ^ 63) }
+    ensures weight { result ≡ min (total 32 weight_of_pair pairs.now) (2 ^ 63) }
     ensures real { IsTrue (are_real_pairs pairs.now) }
 {
     let mut weight = 0;
@@ -64,7 +64,7 @@ pub(crate) fn pairs_weight(pairs: &[Pair]) -> u64
     weight
 }
 
-/// A part of a request that weighs: an item, an event, a link, a point, an exemplar or a group.
+/// A part of a request that weighs: an item, an event, a link, a point, a quantile, an exemplar or a group.
 ///
 /// An `impl` reads the part's numbers too, which tells a proof that they fit their types.
 pub(crate) trait Weighed {
@@ -77,14 +77,14 @@ pub(crate) trait Weighed {
         ensures real { is_real self.now };
 }
 
-/// The weight of some parts, with 32 for each.
-pub(crate) fn parts_weight<P: Weighed>(parts: &[P]) -> u64
-    ensures weight { result ≡ min (total P.weight_of parts.now) (2 ^ 63) }
+/// The weight of some parts, with `each` for every one.
+pub(crate) fn parts_weight<P: Weighed>(each: u64, parts: &[P]) -> u64
+    ensures weight { result ≡ min (total each P.weight_of parts.now) (2 ^ 63) }
     ensures real { Each P.is_real parts.now }
 {
     let mut weight = 0;
     for part in parts {
-        weight = add_capped(weight, add_capped(PART, part.weight()));
+        weight = add_capped(weight, add_capped(each, part.weight()));
     }
     weight
 }

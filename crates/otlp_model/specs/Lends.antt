@@ -1,0 +1,8 @@
+-- What a list ends as, where a `&mut` to one of its items is returned.
+use Rattle.std.specs.Prelude.{ℕ, List, Option, slice_set}
+use Rattle.std.specs.Borrow.{LendsIf, Fml, RattleType, MutBor}
+use Rattle.otlp_model.specs.contracts.list.Items.{the_row}
+
+-- once the borrow r ends, the place has the last value written through r, and at `None` the list stays as it is
+abbrev pub lends_item : (T : RattleType) → MutBor (List T.Denot) → ℕ → Option (MutBor T.Denot) → Fml
+lends_item T items place r = LendsIf (the_row T) T items r (λ w. slice_set items.now place w) items.now
