@@ -1,152 +1,130 @@
--- Resources, scopes and the groups that hold them: what is written reads back.
-use Rattle.std.proofs.Common.{◌≡◌, ℕ, ◌+◌, ◌^◌, ◌<◌, List, [], ◌++◌, map, length, true, refl, ap, ◌∙◌, arith, length-append}
+-- Resources, scopes, the groups that hold them, and the requests: the law of each, whatever the items are.
+use Rattle.std.proofs.Common.{◌≡◌, ℕ, List, [], ◌∷◌, refl, ◌∙◌, arith}
 use Rattle.std.specs.Prelude.{fold}
 use Rattle.std.specs.List.{All, AllByRecursion}
+use Rattle.otlp_wire.specs.Wire as wire
+use Rattle.otlp_wire.specs.Wire.{FieldValue}
+use Rattle.otlp_messages.specs.declared.messages.Of.{Of}
 use Rattle.otlp_messages.specs.declared.messages.Message.{Message}
 use Rattle.otlp_messages.specs.declared.messages.Message.TheVariants as messages
-use Rattle.otlp_messages.specs.declared.messages.Kind.TheVariants as kinds
-use Rattle.otlp_messages.specs.declared.checking.TheConstants.{LEVELS}
-use Rattle.otlp_messages.specs.Table.{kind_of, mark_of}
-use Rattle.otlp_messages.specs.Defects.{IsFine}
-use Rattle.otlp_messages.specs.Rows.{said, uint32_in, bytes_in, many_in}
-use Rattle.otlp_messages.specs.Canon.{laid_out, row, canon, canon_row, varint_row, bytes_row, many_row, RowFits}
-use Rattle.otlp_messages.proofs.Canonical.{rows_read}
-use Rattle.otlp_messages.proofs.RowKinds.{varint_fits, part_fits, uint32_back, bytes_back}
-use Rattle.otlp_model.specs.declared.value.Pair.{Pair}
+use Rattle.otlp_codec.specs.Levels.{value_levels}
+use Rattle.otlp_messages.specs.Table.{item_of}
+use Rattle.otlp_messages.specs.Rows.{bytes_in, embedded_in}
+use Rattle.otlp_messages.specs.Canon.{canon, bytes_row}
 use Rattle.otlp_model.specs.declared.groups.Resource.{Resource}
 use Rattle.otlp_model.specs.declared.groups.Scope.{Scope}
 use Rattle.otlp_model.specs.declared.groups.ScopeGroup.{ScopeGroup}
 use Rattle.otlp_model.specs.declared.groups.ResourceGroup.{ResourceGroup}
-use Rattle.otlp_model.specs.Real.{IsRealResource, IsRealScope, is_real_pair, are_real_pairs}
-use Rattle.otlp_model.specs.Profile.{IsProfileResource, IsProfileScope, IsProfilePair}
-use Rattle.otlp_model.proofs.RealParts.{utf8_of_real}
-use Rattle.otlp_codec.specs.Groups.{pair_in, resource_in, scope_in, scope_group_in, resource_group_in}
-use Rattle.otlp_codec.specs.Canonical.{canon_pair, resource_rows, scope_rows, scope_group_rows, canon_scope_group, resource_group_rows, canon_resource_group}
-use Rattle.otlp_codec.proofs.Lists.{all_from, tests_from, all_map, all_both}
-use Rattle.otlp_codec.proofs.Returning.{Returns, each_returned, returned_fits, returned_back, in_row}
-use Rattle.otlp_codec.proofs.ValueLaw.{value_law, pair_law}
+use Rattle.otlp_model.specs.Weight.{total, weight_of_resource, weight_of_scope, weight_of_scope_group, weight_of_resource_group}
+use Rattle.otlp_model.specs.Real.{IsRealResource, IsRealScope, IsRealScopeGroup, IsRealResourceGroup}
+use Rattle.otlp_model.specs.Profile.{IsProfileResource, IsProfileScope, IsProfileScopeGroup, IsProfileResourceGroup}
+use Rattle.otlp_codec.specs.Groups.{resource_in, scope_in, scope_group_in, resource_group_in, groups_in}
+use Rattle.otlp_codec.specs.Steps.{no_resource, no_scope, resource_part_in, scope_part_in, scope_group_step, resource_group_step}
+use Rattle.otlp_codec.specs.Canonical.{resource_rows, scope_rows, canon_scope_group, canon_resource_group, canon_groups}
+use Rattle.otlp_codec.specs.lemmas.Passed.{resource_passes, scope_passes, scope_group_passes, resource_group_passes, request_passes, no_resource_is, no_scope_is}
+use Rattle.otlp_codec.proofs.Lists.{all_from, all_map}
+use Rattle.otlp_codec.proofs.Chain.{Held, Law, under, last, also, law_of}
+use Rattle.otlp_codec.proofs.FieldLaw.{uint32_held, text_held, embedded_held, many_held}
+use Rattle.otlp_codec.proofs.Attributes.{pairs_held}
 
--- the pairs of an attribute list
-pub pairs_law : (pairs : List Pair) → are_real_pairs pairs ≡ true → All IsProfilePair pairs → AllByRecursion (Returns messages.KeyValue LEVELS pair_in canon_pair) pairs
-pairs_law pairs real profile =
-    all_map (λ p. (is_real_pair p ≡ true) × IsProfilePair p) (Returns messages.KeyValue LEVELS pair_in canon_pair) (λ p h. pair_law LEVELS p (value_law p.value) h.0 h.1) pairs
-    (all_both (λ p. is_real_pair p ≡ true) IsProfilePair pairs (tests_from is_real_pair pairs real) (all_from IsProfilePair pairs profile))
+-- the schema url stands in the group, so the resource is taken without it
+resource_law : (x : Resource) → IsRealResource x
+    → Law (IsProfileResource x) messages.Resource value_levels (resource_in []) (λ r. canon (resource_rows r)) (record x { schema_url = [] }) (weight_of_resource (record x { schema_url = [] })) 12
+resource_law x real =
+    let m = messages.Resource in
+    law_of (resource_in []) (λ r. canon (resource_rows r))
+    (also (λ a r. record r { pairs = a }) (pairs_held m 1 x.pairs refl refl refl real.pairs (λ p. p.pairs.at)) refl (λ a v. refl)
+    (also (λ a r. record r { dropped = a }) (uint32_held m 2 x.dropped refl refl real.dropped) refl (λ a v. refl) last))
+    resource_passes refl refl (omega arith) (omega arith)
 
--- a row is no longer than the rows that it stands among
-pub short_row : (front r rest : List ℕ) → length (front ++ (r ++ rest)) < 2 ^ 64 → length r < 2 ^ 64
-short_row front r rest h =
-    let whole : length (front ++ (r ++ rest)) ≡ length front + (length r + length rest) = simp length-append refl in
-    omega (arith, h, whole)
+scope_law : (x : Scope) → IsRealScope x
+    → Law (IsProfileScope x) messages.InstrumentationScope value_levels (scope_in []) (λ s. canon (scope_rows s)) (record x { schema_url = [] }) (weight_of_scope (record x { schema_url = [] })) 36
+scope_law x real =
+    let m = messages.InstrumentationScope in
+    law_of (scope_in []) (λ s. canon (scope_rows s))
+    (also (λ a r. record r { name = a }) (text_held m 1 x.name refl refl real.name) refl (λ a v. refl)
+    (also (λ a r. record r { version = a }) (text_held m 2 x.version refl refl real.version) refl (λ a v. refl)
+    (also (λ a r. record r { pairs = a }) (pairs_held m 3 x.pairs refl refl refl real.pairs (λ p. p.pairs.at)) refl (λ a v. refl)
+    (also (λ a r. record r { dropped = a }) (uint32_held m 4 x.dropped refl refl real.dropped) refl (λ a v. refl) last))))
+    scope_passes refl refl (omega arith) (omega arith)
 
-pub pairs_row : (m : Message) (n : ℕ) (pairs : List Pair) → mark_of m n ≡ 0 → kind_of m n ≡ kinds.Embedded messages.KeyValue → are_real_pairs pairs ≡ true → All IsProfilePair pairs
-    → length (canon_row n (many_row (map canon_pair pairs))) < 2 ^ 64 → RowFits m LEVELS (row n (many_row (map canon_pair pairs))) × (fold (many_in pair_in) [] (many_row (map canon_pair pairs)) ≡ pairs)
-pairs_row m n pairs unmarked kind real profile short =
-    let each = each_returned messages.KeyValue LEVELS pair_in canon_pair n pairs (pairs_law pairs real profile) short in (
-      returned_fits m LEVELS n messages.KeyValue LEVELS pair_in canon_pair pairs unmarked (λ part fine. rw kind fine) each,
-      returned_back messages.KeyValue LEVELS pair_in canon_pair pairs each,
-    )
+-- a message that is read beside a schema url that came before it
+part_held : {A P : Type 0} {m : Message} (read : A → FieldValue → A) (first : List ℕ → A) {none x : A} (part : List ℕ) {w e : ℕ}
+    → ((bytes : List ℕ) → fold read none (bytes_row bytes) ≡ fold (embedded_in first) none (bytes_row bytes))
+    → Held P m value_levels 1 (embedded_in first) none x (bytes_row part) w e → Held P m value_levels 1 read none x (bytes_row part) w e
+part_held read first part same held = record { back = λ p short. (let h = held.back p short in (h.0, same part ∙ h.1)); bound = held.bound }
 
--- the rest of the rows is no longer than all of them
-tail : (front rest : List ℕ) → length (front ++ rest) < 2 ^ 64 → length rest < 2 ^ 64
-tail front rest h =
-    let whole : length (front ++ rest) ≡ length front + length rest = simp length-append refl in
-    omega (arith, h, whole)
+scope_same : (bytes : List ℕ) → fold scope_part_in no_scope (bytes_row bytes) ≡ fold (embedded_in (scope_in [])) no_scope (bytes_row bytes)
+scope_same [] = refl
+scope_same (byte ∷ bytes) = refl
 
-pub resource_law : (resource : Resource) → IsRealResource resource → IsProfileResource resource → length (canon (resource_rows resource)) < 2 ^ 64
-    → IsFine messages.Resource LEVELS (canon (resource_rows resource)) × (resource_in resource.schema_url (canon (resource_rows resource)) ≡ resource)
-resource_law resource real profile short =
-    let rows = resource_rows resource in
-    let pairs = pairs_row messages.Resource 1 resource.pairs refl refl real.pairs profile.pairs.at (short_row [] (canon_row 1 (many_row (map canon_pair resource.pairs))) (canon_row 2 (varint_row resource.dropped) ++ []) short) in
-    let back = rows_read messages.Resource LEVELS rows refl (pairs.0, (varint_fits messages.Resource LEVELS 2 resource.dropped refl (omega (arith, real.dropped)), tt)) short in
-    let pairs_is : said 1 (many_in pair_in) [] (canon rows) ≡ resource.pairs = ap (fold (many_in pair_in) []) (back.only 1) ∙ pairs.1 in
-    let dropped : said 2 uint32_in 0 (canon rows) ≡ resource.dropped = ap (fold uint32_in 0) (back.only 2) ∙ uint32_back resource.dropped real.dropped in
-    (back.fine, λ i. record { schema_url = resource.schema_url; dropped = dropped i; pairs = pairs_is i })
+resource_same : (bytes : List ℕ) → fold resource_part_in no_resource (bytes_row bytes) ≡ fold (embedded_in (resource_in [])) no_resource (bytes_row bytes)
+resource_same [] = refl
+resource_same (byte ∷ bytes) = refl
 
-pub scope_law : (scope : Scope) → IsRealScope scope → IsProfileScope scope → length (canon (scope_rows scope)) < 2 ^ 64
-    → IsFine messages.InstrumentationScope LEVELS (canon (scope_rows scope)) × (scope_in scope.schema_url (canon (scope_rows scope)) ≡ scope)
-scope_law scope real profile short =
-    let rows = scope_rows scope in
-    let r1 = canon_row 1 (bytes_row scope.name) in
-    let r2 = canon_row 2 (bytes_row scope.version) in
-    let r3 = canon_row 3 (many_row (map canon_pair scope.pairs)) in
-    let r4 = canon_row 4 (varint_row scope.dropped) in
-    let later : length (r2 ++ (r3 ++ (r4 ++ []))) < 2 ^ 64 = tail r1 (r2 ++ (r3 ++ (r4 ++ []))) short in
-    let pairs = pairs_row messages.InstrumentationScope 3 scope.pairs refl refl real.pairs profile.pairs.at (short_row r2 r3 (r4 ++ []) later) in
-    let back = rows_read messages.InstrumentationScope LEVELS rows refl (
-      part_fits messages.InstrumentationScope LEVELS 1 scope.name (λ _. utf8_of_real scope.name real.name),
-      (
-        part_fits messages.InstrumentationScope LEVELS 2 scope.version (λ _. utf8_of_real scope.version real.version),
-        (pairs.0, (varint_fits messages.InstrumentationScope LEVELS 4 scope.dropped refl (omega (arith, real.dropped)), tt)),
-      ),
-    ) short in
-    let name : said 1 bytes_in [] (canon rows) ≡ scope.name = ap (fold bytes_in []) (back.only 1) ∙ bytes_back scope.name in
-    let version : said 2 bytes_in [] (canon rows) ≡ scope.version = ap (fold bytes_in []) (back.only 2) ∙ bytes_back scope.version in
-    let pairs_is : said 3 (many_in pair_in) [] (canon rows) ≡ scope.pairs = ap (fold (many_in pair_in) []) (back.only 3) ∙ pairs.1 in
-    let dropped : said 4 uint32_in 0 (canon rows) ≡ scope.dropped = ap (fold uint32_in 0) (back.only 4) ∙ uint32_back scope.dropped real.dropped in
-    (back.fine, λ i. record { schema_url = scope.schema_url; name = name i; version = version i; dropped = dropped i; pairs = pairs_is i })
+-- the schema url of a group, whatever part of the group came before it
+scope_url : {I : Type 0} (read : List ℕ → I) (x : ScopeGroup I) (a : List ℕ) (v : FieldValue)
+    → scope_group_step read (record x { scope = record x.scope { schema_url = a } }) (record { number = 3; value = v }) ≡ record x { scope = record x.scope { schema_url = bytes_in a v } }
+scope_url read x a (wire.Bytes part) = refl
+scope_url read x a (wire.Varint n) = refl
+scope_url read x a (wire.Fixed64 n) = refl
+scope_url read x a (wire.Fixed32 n) = refl
 
--- which message a group is, and which of its fields hold what
-pub record IsGroup (whole from item : Message) : Type 0 where
-  pub part : kind_of whole 1 ≡ kinds.Embedded from
-  pub items : kind_of whole 2 ≡ kinds.Embedded item
-  pub many : mark_of whole 2 ≡ 0
-  pub url : kind_of whole 3 ≡ kinds.Text
+resource_url : {I : Type 0} (read : List ℕ → I) (x : ResourceGroup I) (a : List ℕ) (v : FieldValue)
+    → resource_group_step read (record x { resource = record x.resource { schema_url = a } }) (record { number = 3; value = v }) ≡ record x { resource = record x.resource { schema_url = bytes_in a v } }
+resource_url read x a (wire.Bytes part) = refl
+resource_url read x a (wire.Varint n) = refl
+resource_url read x a (wire.Fixed64 n) = refl
+resource_url read x a (wire.Fixed32 n) = refl
 
-pub scope_group_law : {I : Type 0} (whole item : Message) (read : List ℕ → I) (write : I → List ℕ) (group : ScopeGroup I) → IsGroup whole messages.InstrumentationScope item
-    → laid_out whole (scope_group_rows write group) ≡ true → IsRealScope group.scope → IsProfileScope group.scope → AllByRecursion (Returns item LEVELS read write) group.items
-    → Returns whole LEVELS (scope_group_in read) (canon_scope_group write) group
-scope_group_law whole item read write group is laid real profile items = record {
-  at = λ short.
-      let spelled = canon (scope_rows group.scope) in
-      let r1 = canon_row 1 (bytes_row spelled) in
-      let r2 = canon_row 2 (many_row (map write group.items)) in
-      let r3 = canon_row 3 (bytes_row group.scope.schema_url) in
-      let r1_short : length r1 < 2 ^ 64 = short_row [] r1 (r2 ++ (r3 ++ [])) short in
-      let spelled_short : length spelled < 2 ^ 64 = omega (arith, r1_short, in_row 1 spelled) in
-      let scope = scope_law group.scope real profile spelled_short in
-      let each = each_returned item LEVELS read write 2 group.items items (short_row r1 r2 (r3 ++ []) short) in
-      let back = rows_read whole LEVELS (scope_group_rows write group) laid (
-        part_fits whole LEVELS 1 spelled (λ _. rw is.part scope.0),
-        (
-          returned_fits whole LEVELS 2 item LEVELS read write group.items is.many (λ part fine. rw is.items fine) each,
-          (part_fits whole LEVELS 3 group.scope.schema_url (λ _. rw is.url (utf8_of_real group.scope.schema_url real.schema_url)), tt),
-        ),
-      ) short in
-      let part_is : said 1 bytes_in [] (canon (scope_group_rows write group)) ≡ spelled = ap (fold bytes_in []) (back.only 1) ∙ bytes_back spelled in
-      let url_is : said 3 bytes_in [] (canon (scope_group_rows write group)) ≡ group.scope.schema_url = ap (fold bytes_in []) (back.only 3) ∙ bytes_back group.scope.schema_url in
-      let scope_is : scope_in (said 3 bytes_in [] (canon (scope_group_rows write group))) (said 1 bytes_in [] (canon (scope_group_rows write group))) ≡ group.scope =
-      (λ i. scope_in (url_is i) (part_is i)) ∙ scope.1 in
-      let items_are : said 2 (many_in read) [] (canon (scope_group_rows write group)) ≡ group.items =
-      ap (fold (many_in read) []) (back.only 2) ∙ returned_back item LEVELS read write group.items each in
-      (back.fine, λ i. record { scope = scope_is i; items = items_are i });
-}
+scope_group_law : {I : Type 0} (Q : I → Type 0) (of : Of) (read : List ℕ → I) (write : I → List ℕ) (weigh : I → ℕ) (x : ScopeGroup I) → IsRealScope x.scope
+    → AllByRecursion (λ i. Law (Q i) (item_of of) value_levels read write i (weigh i) 236) x.items
+    → Law (IsProfileScopeGroup Q x) (messages.ScopeGroup of) value_levels (scope_group_in read) (canon_scope_group write) x (weight_of_scope_group weigh x) 236
+scope_group_law Q of read write weigh x real items =
+    let m = messages.ScopeGroup of in
+    law_of (scope_group_in read) (canon_scope_group write)
+    (also (λ a r. record r { scope = a })
+    (part_held scope_part_in (scope_in []) (canon (scope_rows x.scope)) scope_same
+    (embedded_held m 1 messages.InstrumentationScope (scope_in []) (λ s. canon (scope_rows s)) refl refl (under (λ p. p.scope) (scope_law x.scope real)) no_scope_is refl)) refl (λ a v. refl)
+    (also (λ a r. record r { items = a }) (many_held Q m 2 (item_of of) read write 32 weigh 236 x.items refl refl refl refl refl items (λ p. all_from Q x.items p.items.at)) refl (λ a v. refl)
+    (also (λ a r. record r { scope = record r.scope { schema_url = a } }) (text_held m 3 x.scope.schema_url refl refl real.schema_url) refl (scope_url read x) last)))
+    (scope_group_passes read) refl refl (omega arith) (omega arith)
 
-pub resource_group_law : {I : Type 0} (whole scope_group : Message) (read : List ℕ → I) (write : I → List ℕ) (group : ResourceGroup I) → IsGroup whole messages.Resource scope_group
-    → laid_out whole (resource_group_rows write group) ≡ true → IsRealResource group.resource → IsProfileResource group.resource
-    → AllByRecursion (Returns scope_group LEVELS (scope_group_in read) (canon_scope_group write)) group.scopes
-    → Returns whole LEVELS (resource_group_in read) (canon_resource_group write) group
-resource_group_law whole scope_group read write group is laid real profile scopes = record {
-  at = λ short.
-      let spelled = canon (resource_rows group.resource) in
-      let r1 = canon_row 1 (bytes_row spelled) in
-      let r2 = canon_row 2 (many_row (map (canon_scope_group write) group.scopes)) in
-      let r3 = canon_row 3 (bytes_row group.resource.schema_url) in
-      let r1_short : length r1 < 2 ^ 64 = short_row [] r1 (r2 ++ (r3 ++ [])) short in
-      let spelled_short : length spelled < 2 ^ 64 = omega (arith, r1_short, in_row 1 spelled) in
-      let resource = resource_law group.resource real profile spelled_short in
-      let each = each_returned scope_group LEVELS (scope_group_in read) (canon_scope_group write) 2 group.scopes scopes (short_row r1 r2 (r3 ++ []) short) in
-      let back = rows_read whole LEVELS (resource_group_rows write group) laid (
-        part_fits whole LEVELS 1 spelled (λ _. rw is.part resource.0),
-        (
-          returned_fits whole LEVELS 2 scope_group LEVELS (scope_group_in read) (canon_scope_group write) group.scopes is.many (λ part fine. rw is.items fine) each,
-          (part_fits whole LEVELS 3 group.resource.schema_url (λ _. rw is.url (utf8_of_real group.resource.schema_url real.schema_url)), tt),
-        ),
-      ) short in
-      let part_is : said 1 bytes_in [] (canon (resource_group_rows write group)) ≡ spelled = ap (fold bytes_in []) (back.only 1) ∙ bytes_back spelled in
-      let url_is : said 3 bytes_in [] (canon (resource_group_rows write group)) ≡ group.resource.schema_url = ap (fold bytes_in []) (back.only 3) ∙ bytes_back group.resource.schema_url in
-      let resource_is : resource_in (said 3 bytes_in [] (canon (resource_group_rows write group))) (said 1 bytes_in [] (canon (resource_group_rows write group))) ≡ group.resource =
-      (λ i. resource_in (url_is i) (part_is i)) ∙ resource.1 in
-      let scopes_are : said 2 (many_in (scope_group_in read)) [] (canon (resource_group_rows write group)) ≡ group.scopes =
-      ap (fold (many_in (scope_group_in read)) []) (back.only 2) ∙ returned_back scope_group LEVELS (scope_group_in read) (canon_scope_group write) group.scopes each in
-      (back.fine, λ i. record { resource = resource_is i; scopes = scopes_are i });
-}
+resource_group_law : {I : Type 0} (Q : I → Type 0) (of : Of) (read : List ℕ → I) (write : I → List ℕ) (weigh : I → ℕ) (x : ResourceGroup I) → IsRealResource x.resource
+    → AllByRecursion (λ s. Law (IsProfileScopeGroup Q s) (messages.ScopeGroup of) value_levels (scope_group_in read) (canon_scope_group write) s (weight_of_scope_group weigh s) 236) x.scopes
+    → Law (IsProfileResourceGroup Q x) (messages.ResourceGroup of) value_levels (resource_group_in read) (canon_resource_group write) x (weight_of_resource_group weigh x) 236
+resource_group_law Q of read write weigh x real scopes =
+    let m = messages.ResourceGroup of in
+    law_of (resource_group_in read) (canon_resource_group write)
+    (also (λ a r. record r { resource = a })
+    (part_held resource_part_in (resource_in []) (canon (resource_rows x.resource)) resource_same
+    (embedded_held m 1 messages.Resource (resource_in []) (λ r. canon (resource_rows r)) refl refl (under (λ p. p.resource) (resource_law x.resource real)) no_resource_is refl)) refl (λ a v. refl)
+    (also (λ a r. record r { scopes = a })
+    (many_held (IsProfileScopeGroup Q) m 2 (messages.ScopeGroup of) (scope_group_in read) (canon_scope_group write) 32 (weight_of_scope_group weigh) 236 x.scopes refl refl refl refl refl scopes
+    (λ p. all_from (IsProfileScopeGroup Q) x.scopes p.scopes.at)) refl (λ a v. refl)
+    (also (λ a r. record r { resource = record r.resource { schema_url = a } }) (text_held m 3 x.resource.schema_url refl refl real.schema_url) refl (resource_url read x) last)))
+    (resource_group_passes read) refl refl (omega arith) (omega arith)
+
+-- a request, by the law of its items
+pub request_law : {I : Type 0} (Real Q : I → Type 0) (of : Of) (read : List ℕ → I) (write : I → List ℕ) (weigh : I → ℕ)
+    → ((i : I) → Real i → Law (Q i) (item_of of) value_levels read write i (weigh i) 236) → (x : List (ResourceGroup I)) → All (IsRealResourceGroup Real) x
+    → Law (All (IsProfileResourceGroup Q) x) (messages.Request of) value_levels (groups_in read) (canon_groups write) x (total 32 (weight_of_resource_group weigh) x) 0
+request_law {I = I} Real Q of read write weigh item x real =
+    let m = messages.Request of in
+    law_of (groups_in read) (canon_groups write)
+    (also (λ a r. a)
+    (many_held (IsProfileResourceGroup Q) m 1 (messages.ResourceGroup of) (resource_group_in read) (canon_resource_group write) 32 (weight_of_resource_group weigh) 236 x refl refl refl refl refl
+    (all_map (IsRealResourceGroup Real)
+    (λ g. Law (IsProfileResourceGroup Q g) (messages.ResourceGroup of) value_levels (resource_group_in read) (canon_resource_group write) g (weight_of_resource_group weigh g) 236)
+    group x (all_from (IsRealResourceGroup Real) x real)) (λ p. all_from (IsProfileResourceGroup Q) x p)) refl (λ a v. refl) last)
+    (request_passes read) refl refl (omega arith) (omega arith)
+  where
+    scope_group : (s : ScopeGroup I) → IsRealScopeGroup Real s
+        → Law (IsProfileScopeGroup Q s) (messages.ScopeGroup of) value_levels (scope_group_in read) (canon_scope_group write) s (weight_of_scope_group weigh s) 236
+    scope_group s h = scope_group_law Q of read write weigh s h.scope (all_map Real (λ i. Law (Q i) (item_of of) value_levels read write i (weigh i) 236) item s.items (all_from Real s.items h.items.at))
+
+    group : (g : ResourceGroup I) → IsRealResourceGroup Real g
+        → Law (IsProfileResourceGroup Q g) (messages.ResourceGroup of) value_levels (resource_group_in read) (canon_resource_group write) g (weight_of_resource_group weigh g) 236
+    group g h = resource_group_law Q of read write weigh g h.resource
+        (all_map (IsRealScopeGroup Real) (λ s. Law (IsProfileScopeGroup Q s) (messages.ScopeGroup of) value_levels (scope_group_in read) (canon_scope_group write) s (weight_of_scope_group weigh s) 236)
+        scope_group g.scopes (all_from (IsRealScopeGroup Real) g.scopes h.scopes.at))

@@ -4,7 +4,7 @@ use Rattle.otlp_wire.specs.Varint.{varint}
 use Rattle.otlp_wire.specs.Wire as wire
 use Rattle.otlp_messages.specs.Canon.{canon_row, many_row}
 use Rattle.otlp_codec.specs.Lengths.{part_len}
-use Rattle.otlp_codec.proofs.Bounds.{one_row}
+use Rattle.otlp_codec.proofs.ValueBounds.{one_row}
 
 pub field_len : (n : ℕ) (part : List ℕ) → length (canon_row n (wire.Bytes part ∷ [])) ≡ part_len n (length part)
 field_len n part =

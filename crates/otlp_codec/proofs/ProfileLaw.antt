@@ -10,10 +10,11 @@ use Rattle.otlp_wire.specs.Wire.{FieldValue, Entry}
 use Rattle.otlp_wire.specs.Fields.{fields_of}
 use Rattle.otlp_messages.specs.declared.messages.Message.{Message}
 use Rattle.otlp_messages.specs.declared.messages.Message.TheVariants as messages
+use Rattle.otlp_messages.specs.declared.messages.Of.{Of}
 use Rattle.otlp_messages.specs.declared.messages.Kind.{Kind}
 use Rattle.otlp_messages.specs.declared.messages.Kind.TheVariants as kinds
-use Rattle.otlp_messages.specs.declared.checking.TheConstants.{LEVELS}
-use Rattle.otlp_messages.specs.Table.{kind_of}
+use Rattle.otlp_codec.specs.Levels.{value_levels}
+use Rattle.otlp_messages.specs.Table.{kind_of, item_of}
 use Rattle.otlp_messages.specs.Defects.{IsFine}
 use Rattle.otlp_messages.specs.Fine.{FinePart, FineValue}
 use Rattle.otlp_messages.specs.Rows.{only, said, at, bytes_in, embedded_in, many_in}
@@ -21,16 +22,14 @@ use Rattle.otlp_messages.proofs.EachFine.{fine_only}
 use Rattle.otlp_model.specs.declared.value.Value.{Value}
 use Rattle.otlp_model.specs.declared.value.Value.TheVariants as values
 use Rattle.otlp_model.specs.declared.value.Pair.{Pair}
-use Rattle.otlp_model.specs.declared.groups.ResourceGroup.{ResourceGroup}
-use Rattle.otlp_model.specs.declared.logs.LogRecord.{LogRecord}
-use Rattle.otlp_model.specs.declared.request.Request.TheVariants as requests
 use Rattle.otlp_model.specs.Each.{Each}
 use Rattle.otlp_model.specs.Depth.{depth_of, depth_of_pair, greatest}
-use Rattle.otlp_model.specs.Profile.{is_id, IsProfilePair, IsProfileResource, IsProfileScope, IsProfileLogRecord, IsProfileScopeGroup, IsProfileResourceGroup, IsProfile}
+use Rattle.otlp_model.specs.Profile.{is_id, IsProfilePair, IsProfileResource, IsProfileScope, IsProfileLogRecord, IsProfileEvent, IsProfileLink, IsProfileSpan, IsProfileScopeGroup, IsProfileResourceGroup}
 use Rattle.otlp_model.proofs.Levels.{depth_of_empty, depth_of_str, depth_of_bool, depth_of_int, depth_of_double, depth_of_bytes, depth_of_array, depth_of_map}
 use Rattle.otlp_codec.specs.Values.{string_in, bool_value_in, int_value_in, double_value_in, array_value_in, kvlist_value_in, bytes_value_in, any_in, any_of, pair_of, members_of, value_at, pair_at}
 use Rattle.otlp_codec.specs.Groups.{value_in, pair_in, resource_in, scope_in, scope_group_in, resource_group_in, groups_in}
 use Rattle.otlp_codec.specs.Logs.{log_record_in}
+use Rattle.otlp_codec.specs.Spans.{event_in, link_in, span_in}
 
 all_none : {A : Type 0} (P : A → Type 0) → All P []
 all_none P = All-from_recursion P [] tt
@@ -41,7 +40,7 @@ kept P step each old [] p = p
 kept P step each old (v ∷ vs) p = kept P step each (step old v) vs (each old v p)
 
 -- what each step keeps whose field is fine
-kept_fine : {A V : Type 0} (P : A → Type 0) (Q : V → Type 0) (step : A → V → A) → ((old : A) (v : V) → P old → Q v → P (step old v)) → (old : A) (vs : List V) → P old → AllByRecursion Q vs → P (fold step old vs)
+pub kept_fine : {A V : Type 0} (P : A → Type 0) (Q : V → Type 0) (step : A → V → A) → ((old : A) (v : V) → P old → Q v → P (step old v)) → (old : A) (vs : List V) → P old → AllByRecursion Q vs → P (fold step old vs)
 kept_fine P Q step each old [] p q = p
 kept_fine P Q step each old (v ∷ vs) p q = kept_fine P Q step each (step old v) vs (each old v p q.0) q.1
 
@@ -63,18 +62,18 @@ all_said : {A : Type 0} (P : A → Type 0) (read : List ℕ → A) → ((part : 
 all_said P read each n bytes = kept (All P) (many_in read) (λ old v p. many_kept P (λ v. ⊤) read (λ part _. each part) old v p tt) [] (only n (fields_of bytes)) (all_none P)
 
 -- the messages of a repeated field, where no defect stands
-each_said : {A : Type 0} (P : A → Type 0) (m : Message) (n : ℕ) (read : List ℕ → A) → ((part : List ℕ) → FinePart (kind_of m n) LEVELS part → P (read part))
-    → (bytes : List ℕ) → IsFine m LEVELS bytes → Each P (said n (many_in read) [] bytes)
+pub each_said : {A : Type 0} (P : A → Type 0) (m : Message) (n : ℕ) (read : List ℕ → A) → ((part : List ℕ) → FinePart (kind_of m n) value_levels part → P (read part))
+    → (bytes : List ℕ) → IsFine m value_levels bytes → Each P (said n (many_in read) [] bytes)
 each_said P m n read each bytes fine = record {
-  at = kept_fine (All P) (FineValue (kind_of m n) LEVELS) (many_in read) (many_kept P (FineValue (kind_of m n) LEVELS) read each) []
-      (only n (fields_of bytes)) (all_none P) (fine_only m LEVELS n bytes fine);
+  at = kept_fine (All P) (FineValue (kind_of m n) value_levels) (many_in read) (many_kept P (FineValue (kind_of m n) value_levels) read each) []
+      (only n (fields_of bytes)) (all_none P) (fine_only m value_levels n bytes fine);
 }
 
 -- ids
 HasLength : ℕ → List ℕ → Type 0
 HasLength size id = (length id ≡ 0) ⊎ (length id ≡ size)
 
-id_kept : (size : ℕ) (old : List ℕ) (v : FieldValue) → HasLength size old → FineValue (kinds.Id size) LEVELS v → HasLength size (bytes_in old v)
+id_kept : (size : ℕ) (old : List ℕ) (v : FieldValue) → HasLength size old → FineValue (kinds.Id size) value_levels v → HasLength size (bytes_in old v)
 unfolding HasLength
 id_kept size old (wire.Bytes part) p q = q
 id_kept size old (wire.Varint n) p q = p
@@ -90,12 +89,12 @@ unfolding HasLength
 id_is size id (inl none) = rw none refl
 id_is size id (inr whole) = rw (eq-eqb (length id) size whole) (or_true (length id == 0))
 
-id_said : (m : Message) (n size : ℕ) (bytes : List ℕ) → kind_of m n ≡ kinds.Id size → IsFine m LEVELS bytes → IsTrue (is_id size (said n bytes_in [] bytes))
+pub id_said : (m : Message) (n size : ℕ) (bytes : List ℕ) → kind_of m n ≡ kinds.Id size → IsFine m value_levels bytes → IsTrue (is_id size (said n bytes_in [] bytes))
 unfolding HasLength
 id_said m n size bytes is fine =
     id_is size (said n bytes_in [] bytes)
-    (kept_fine (HasLength size) (FineValue (kinds.Id size) LEVELS) bytes_in (id_kept size) [] (only n (fields_of bytes)) (inl refl)
-    (subst (λ (k : Kind). AllByRecursion (FineValue k LEVELS) (only n (fields_of bytes))) is (fine_only m LEVELS n bytes fine)))
+    (kept_fine (HasLength size) (FineValue (kinds.Id size) value_levels) bytes_in (id_kept size) [] (only n (fields_of bytes)) (inl refl)
+    (subst (λ (k : Kind). AllByRecursion (FineValue k value_levels) (only n (fields_of bytes))) is (fine_only m value_levels n bytes fine)))
 
 -- depths
 greatest_few : {A : Type 0} (f : A → ℕ) (n : ℕ) (xs : List A) → All (λ x. f x ≤ n) xs → greatest (map f xs) ≤ n
@@ -180,7 +179,7 @@ any_deep n array pairs members few bytes = kept (Shallow n) (any_in array pairs)
 value_deep : (n : ℕ) (read : List ℕ → Value) → ((part : List ℕ) → Shallow n (read part)) → (k : ℕ) (bytes : List ℕ) → Shallow n (said k (embedded_in read) values.Empty bytes)
 value_deep n read each k bytes = kept (Shallow n) (embedded_in read) (embedded_kept (Shallow n) read each) values.Empty (only k (fields_of bytes)) (no_depth n)
 
--- a value below whose members so many levels of members may stand
+-- a value below whose members this number of levels of members may stand
 pub deep_at : (l : ℕ) (bytes : List ℕ) → depth_of (value_at l bytes) ≤ l + 1
 unfolding value_at Shallow
 deep_at zero bytes = any_deep 0 (λ part. []) (λ part. []) (λ part. all_none (λ v. depth_of v ≤ 0)) (λ part. all_none (λ p. depth_of_pair p ≤ 0)) bytes
@@ -192,9 +191,9 @@ deep_at (suc l) bytes =
 
 pair_profile : (bytes : List ℕ) → IsProfilePair (pair_in bytes)
 unfolding pair_at Shallow
-pair_profile bytes = omega (arith, value_deep LEVELS value_in (deep_at LEVELS) 2 bytes)
+pair_profile bytes = omega (arith, value_deep value_levels value_in (deep_at value_levels) 2 bytes)
 
-pairs_profile : (n : ℕ) (bytes : List ℕ) → Each IsProfilePair (said n (many_in pair_in) [] bytes)
+pub pairs_profile : (n : ℕ) (bytes : List ℕ) → Each IsProfilePair (said n (many_in pair_in) [] bytes)
 pairs_profile n bytes = record { at = all_said IsProfilePair pair_in pair_profile n bytes }
 
 resource_profile : (url bytes : List ℕ) → IsProfileResource (resource_in url bytes)
@@ -203,35 +202,53 @@ resource_profile url bytes = record { pairs = pairs_profile 1 bytes }
 scope_profile : (url bytes : List ℕ) → IsProfileScope (scope_in url bytes)
 scope_profile url bytes = record { pairs = pairs_profile 3 bytes }
 
-log_record_profile : (bytes : List ℕ) → IsFine messages.LogRecord LEVELS bytes → IsProfileLogRecord (log_record_in bytes)
+pub log_record_profile : (bytes : List ℕ) → IsFine messages.LogRecord value_levels bytes → IsProfileLogRecord (log_record_in bytes)
 unfolding log_record_in Shallow
 log_record_profile bytes fine = record {
   trace_id = id_said messages.LogRecord 9 16 bytes refl fine;
   span_id = id_said messages.LogRecord 10 8 bytes refl fine;
-  body = omega (arith, value_deep LEVELS value_in (deep_at LEVELS) 5 bytes);
+  body = omega (arith, value_deep value_levels value_in (deep_at value_levels) 5 bytes);
   pairs = pairs_profile 6 bytes;
 }
 
--- groups, whose items are messages of one kind
-scope_group_profile : {I : Type 0} (P : I → Type 0) (whole item : Message) (read : List ℕ → I) → kind_of whole 2 ≡ kinds.Embedded item
-    → ((part : List ℕ) → IsFine item LEVELS part → P (read part)) → (bytes : List ℕ) → IsFine whole LEVELS bytes → IsProfileScopeGroup P (scope_group_in read bytes)
-scope_group_profile P whole item read is each bytes fine = record {
+event_profile : (bytes : List ℕ) → IsFine messages.Event value_levels bytes → IsProfileEvent (event_in bytes)
+unfolding event_in
+event_profile bytes fine = record { pairs = pairs_profile 3 bytes }
+
+link_profile : (bytes : List ℕ) → IsFine messages.Link value_levels bytes → IsProfileLink (link_in bytes)
+unfolding link_in
+link_profile bytes fine = record {
+  trace_id = id_said messages.Link 1 16 bytes refl fine;
+  span_id = id_said messages.Link 2 8 bytes refl fine;
+  pairs = pairs_profile 4 bytes;
+}
+
+pub span_profile : (bytes : List ℕ) → IsFine messages.Span value_levels bytes → IsProfileSpan (span_in bytes)
+unfolding span_in
+span_profile bytes fine = record {
+  trace_id = id_said messages.Span 1 16 bytes refl fine;
+  span_id = id_said messages.Span 2 8 bytes refl fine;
+  parent_span_id = id_said messages.Span 4 8 bytes refl fine;
+  pairs = pairs_profile 9 bytes;
+  events = each_said IsProfileEvent messages.Span 11 event_in event_profile bytes fine;
+  links = each_said IsProfileLink messages.Span 13 link_in link_profile bytes fine;
+}
+
+-- groups, whatever their items are
+scope_group_profile : {I : Type 0} (P : I → Type 0) (of : Of) (read : List ℕ → I) → ((part : List ℕ) → IsFine (item_of of) value_levels part → P (read part))
+    → (bytes : List ℕ) → IsFine (messages.ScopeGroup of) value_levels bytes → IsProfileScopeGroup P (scope_group_in read bytes)
+scope_group_profile P of read each bytes fine = record {
   scope = scope_profile (said 3 bytes_in [] bytes) (said 1 bytes_in [] bytes);
-  items = each_said P whole 2 read (λ part part_fine. each part (subst (λ (k : Kind). FinePart k LEVELS part) is part_fine)) bytes fine;
+  items = each_said P (messages.ScopeGroup of) 2 read each bytes fine;
 }
 
-resource_group_profile : {I : Type 0} (P : I → Type 0) (whole scope : Message) (read : List ℕ → I) → kind_of whole 2 ≡ kinds.Embedded scope
-    → ((part : List ℕ) → IsFine scope LEVELS part → IsProfileScopeGroup P (scope_group_in read part)) → (bytes : List ℕ) → IsFine whole LEVELS bytes
-    → IsProfileResourceGroup P (resource_group_in read bytes)
-resource_group_profile P whole scope read is each bytes fine = record {
+resource_group_profile : {I : Type 0} (P : I → Type 0) (of : Of) (read : List ℕ → I) → ((part : List ℕ) → IsFine (item_of of) value_levels part → P (read part))
+    → (bytes : List ℕ) → IsFine (messages.ResourceGroup of) value_levels bytes → IsProfileResourceGroup P (resource_group_in read bytes)
+resource_group_profile P of read each bytes fine = record {
   resource = resource_profile (said 3 bytes_in [] bytes) (said 1 bytes_in [] bytes);
-  scopes = each_said (IsProfileScopeGroup P) whole 2 (scope_group_in read) (λ part part_fine. each part (subst (λ (k : Kind). FinePart k LEVELS part) is part_fine)) bytes fine;
+  scopes = each_said (IsProfileScopeGroup P) (messages.ResourceGroup of) 2 (scope_group_in read) (scope_group_profile P of read each) bytes fine;
 }
 
-pub logs_profile : (groups : List (ResourceGroup LogRecord)) (bytes : List ℕ) → IsFine messages.LogsRequest LEVELS bytes × (groups ≡ groups_in log_record_in bytes) → IsProfile (requests.Logs groups)
-logs_profile groups bytes h =
-    rw h.1
-    (each_said (IsProfileResourceGroup IsProfileLogRecord) messages.LogsRequest 1 (resource_group_in log_record_in)
-    (resource_group_profile IsProfileLogRecord messages.ResourceLogs messages.ScopeLogs log_record_in refl
-    (scope_group_profile IsProfileLogRecord messages.ScopeLogs messages.LogRecord log_record_in refl log_record_profile))
-    bytes h.0)
+pub groups_profile : {I : Type 0} (P : I → Type 0) (of : Of) (read : List ℕ → I) → ((part : List ℕ) → IsFine (item_of of) value_levels part → P (read part))
+    → (bytes : List ℕ) → IsFine (messages.Request of) value_levels bytes → Each (IsProfileResourceGroup P) (groups_in read bytes)
+groups_profile P of read each bytes fine = each_said (IsProfileResourceGroup P) (messages.Request of) 1 (resource_group_in read) (resource_group_profile P of read each) bytes fine

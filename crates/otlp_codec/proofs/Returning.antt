@@ -1,6 +1,8 @@
 -- What is written reads back as it was: of one message, and of the messages of a repeated field.
-use Rattle.std.proofs.Common.{◌≡◌, ℕ, ◌+◌, ◌*◌, ◌^◌, ◌<◌, ◌≤◌, List, [], ◌∷◌, ◌++◌, map, length, refl, ap, ◌∙◌, arith, length-append, append-nil, subst}
-use Rattle.std.specs.Prelude.{fold}
+use Rattle.std.proofs.Common.{◌≡◌, ℕ, ◌+◌, ◌*◌, ◌^◌, ◌<◌, ◌≤◌, List, [], ◌∷◌, ◌++◌, map, length, refl, ap, ◌∙◌, arith, length-append, append-nil, subst, Bool, true, false, inl, inr, ◌⊎◌}
+use Rattle.std.specs.Prelude.{fold, ◌==◌, ◌||◌, IsTrue}
+use Rattle.std.proofs.lemmas.Bool.{eqb-true}
+use Rattle.otlp_model.specs.Profile.{is_id}
 use Rattle.otlp_codec.specs.Values.{members_of}
 use Rattle.otlp_codec.specs.Canonical.{members_rows}
 use Rattle.otlp_messages.proofs.Canonical.{rows_read}
@@ -70,3 +72,16 @@ repeated_returns whole levels m l read write xs unmarked fine all short =
     let each = each_returned m l read write 1 xs all row_short in
     let back = rows_read whole levels (members_rows (map write xs)) refl (returned_fits whole levels 1 m l read write xs unmarked fine each, tt) short in
     (back.fine, ap (fold (many_in read) []) (back.only 1) ∙ returned_back m l read write xs each)
+
+-- an id has no bytes or its own length
+pub id_length : (size : ℕ) (id : List ℕ) → IsTrue (is_id size id) → (length id ≡ 0) ⊎ (length id ≡ size)
+id_length size id h = go (length id == 0) (length id == size) refl refl h
+  where
+    go : (a b : Bool) → (length id == 0) ≡ a → (length id == size) ≡ b → (a || b) ≡ true → (length id ≡ 0) ⊎ (length id ≡ size)
+    go true b none whole h = inl (eqb-true (length id) 0 none)
+    go false true none whole h = inr (eqb-true (length id) size whole)
+    go false false none whole h = absurd (cc)
+
+-- no bytes are any message, without a field
+pub nothing_fine : (m : Message) (l : ℕ) → IsFine m l []
+nothing_fine m l = (rows_read m l [] refl tt (omega arith)).fine

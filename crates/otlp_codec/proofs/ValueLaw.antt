@@ -29,7 +29,7 @@ use Rattle.otlp_codec.specs.lemmas.Passed.{no_fields}
 use Rattle.otlp_codec.proofs.Lists.{tests_from, all_map, all_both, below_greatest}
 use Rattle.otlp_codec.proofs.Returning.{Returns, repeated_returns, in_row}
 
--- so deep that so many levels of members may stand below
+-- so deep that this number of levels of members may stand below
 pub record ValueReturns (v : Value) : Type 0 where
   pub at : (l : ℕ) → is_real_value v ≡ true → depth_of v ≤ l + 1 → Returns messages.AnyValue l (value_at l) canon_value v
 

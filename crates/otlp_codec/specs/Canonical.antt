@@ -63,6 +63,7 @@ log_record_rows log =
     ∷ row 9 (bytes_row log.trace_id)
     ∷ row 10 (bytes_row log.span_id)
     ∷ row 11 (fixed64_row log.observed)
+    ∷ row 12 (bytes_row log.event_name)
     ∷ []
 
 unfoldable pub canon_log_record : LogRecord → List ℕ

@@ -18,4 +18,5 @@ log_record_in bytes = record {
   flags = said 8 fixed32_in 0 bytes;
   trace_id = said 9 bytes_in [] bytes;
   span_id = said 10 bytes_in [] bytes;
+  event_name = said 12 bytes_in [] bytes;
 }

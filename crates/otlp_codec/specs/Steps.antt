@@ -103,6 +103,7 @@ no_log_record = record {
   flags = 0;
   trace_id = [];
   span_id = [];
+  event_name = [];
 }
 
 abbrev pub log_record_step : LogRecord → Entry → LogRecord
@@ -117,6 +118,7 @@ log_record_step old f = record {
   flags = at 8 fixed32_in old.flags f;
   trace_id = at 9 bytes_in old.trace_id f;
   span_id = at 10 bytes_in old.span_id f;
+  event_name = at 12 bytes_in old.event_name f;
 }
 
 abbrev pub request_step : {I : Type 0} → (List ℕ → I) → List (ResourceGroup I) → Entry → List (ResourceGroup I)

@@ -63,7 +63,7 @@ pair_of value bytes = record {
 abbrev pub members_of : {A : Type 0} → (List ℕ → A) → List ℕ → List A
 members_of member bytes = said 1 (many_in member) [] bytes
 
--- what an AnyValue says below whose members so many levels of members may stand
+-- what an AnyValue says below whose members this number of levels of members may stand
 unfoldable pub value_at : ℕ → List ℕ → Value
 value_at zero = any_of (λ part. []) (λ part. [])
 value_at (suc levels) = any_of (members_of (value_at levels)) (members_of (pair_of (value_at levels)))

@@ -1,1 +1,3 @@
 pub mod Passed
+pub mod SpansPassed
+pub mod MetricsPassed

@@ -8,7 +8,7 @@ ghost use Rattle.otlp_wire.specs.Wire.{value_of};
 ghost use Rattle.otlp_messages.specs.declared.messages.Kind.TheVariants as kinds;
 ghost use Rattle.otlp_messages.specs.Fine.{FineValue};
 ghost use Rattle.otlp_messages.specs.Rows.{fixed64_in, fixed32_in, uint32_in, int32_in, bytes_in};
-ghost use Rattle.otlp_messages.specs.declared.checking.TheConstants.{LEVELS};
+ghost use Rattle.otlp_codec.specs.Levels.{value_levels};
 ghost use Rattle.otlp_codec.specs.Refusals.{RefusesValue};
 
 use crate::refusal::ReadRefusal;
@@ -17,10 +17,11 @@ use otlp_wire::Wire;
 use std::alloc::Global;
 
 /// Reads a `fixed64`.
+#[inline]
 pub(crate) fn take_fixed64(to: &mut u64, value: &Wire<'_>) -> Result<(), ReadRefusal>
     ensures ok { OnOk result (to.new ≡ fixed64_in to.old (value_of value.now)) }
-    ensures fine { IfOk result (λ _. FineValue kinds.Fixed64 LEVELS (value_of value.now)) }
-    ensures fault { IfErr result (RefusesValue kinds.Fixed64 LEVELS (value_of value.now)) }
+    ensures fine { IfOk result (λ _. FineValue kinds.Fixed64 value_levels (value_of value.now)) }
+    ensures fault { IfErr result (RefusesValue kinds.Fixed64 value_levels (value_of value.now)) }
 {
     let Wire::Fixed64(number) = value else {
         return Err(ReadRefusal::BadMessage);
@@ -30,10 +31,11 @@ pub(crate) fn take_fixed64(to: &mut u64, value: &Wire<'_>) -> Result<(), ReadRef
 }
 
 /// Reads a `fixed32`.
+#[inline]
 pub(crate) fn take_fixed32(to: &mut u32, value: &Wire<'_>) -> Result<(), ReadRefusal>
     ensures ok { OnOk result (to.new ≡ fixed32_in to.old (value_of value.now)) }
-    ensures fine { IfOk result (λ _. FineValue kinds.Fixed32 LEVELS (value_of value.now)) }
-    ensures fault { IfErr result (RefusesValue kinds.Fixed32 LEVELS (value_of value.now)) }
+    ensures fine { IfOk result (λ _. FineValue kinds.Fixed32 value_levels (value_of value.now)) }
+    ensures fault { IfErr result (RefusesValue kinds.Fixed32 value_levels (value_of value.now)) }
 {
     let Wire::Fixed32(number) = value else {
         return Err(ReadRefusal::BadMessage);
@@ -43,10 +45,11 @@ pub(crate) fn take_fixed32(to: &mut u32, value: &Wire<'_>) -> Result<(), ReadRef
 }
 
 /// Reads a `uint32`: the low 32 bits of a varint.
+#[inline]
 pub(crate) fn take_uint32(to: &mut u32, value: &Wire<'_>) -> Result<(), ReadRefusal>
     ensures ok { OnOk result (to.new ≡ uint32_in to.old (value_of value.now)) }
-    ensures fine { IfOk result (λ _. FineValue kinds.Varint LEVELS (value_of value.now)) }
-    ensures fault { IfErr result (RefusesValue kinds.Varint LEVELS (value_of value.now)) }
+    ensures fine { IfOk result (λ _. FineValue kinds.Varint value_levels (value_of value.now)) }
+    ensures fault { IfErr result (RefusesValue kinds.Varint value_levels (value_of value.now)) }
 {
     let Wire::Varint(number) = value else {
         return Err(ReadRefusal::BadMessage);
@@ -56,10 +59,11 @@ pub(crate) fn take_uint32(to: &mut u32, value: &Wire<'_>) -> Result<(), ReadRefu
 }
 
 /// Reads an `int32` or an enum: the low 32 bits of a varint, in two's complement.
+#[inline]
 pub(crate) fn take_int32(to: &mut i32, value: &Wire<'_>) -> Result<(), ReadRefusal>
     ensures ok { OnOk result (to.new ≡ int32_in to.old (value_of value.now)) }
-    ensures fine { IfOk result (λ _. FineValue kinds.Varint LEVELS (value_of value.now)) }
-    ensures fault { IfErr result (RefusesValue kinds.Varint LEVELS (value_of value.now)) }
+    ensures fine { IfOk result (λ _. FineValue kinds.Varint value_levels (value_of value.now)) }
+    ensures fault { IfErr result (RefusesValue kinds.Varint value_levels (value_of value.now)) }
 {
     let Wire::Varint(number) = value else {
         return Err(ReadRefusal::BadMessage);
@@ -69,20 +73,22 @@ pub(crate) fn take_int32(to: &mut i32, value: &Wire<'_>) -> Result<(), ReadRefus
 }
 
 /// Reads a string.
+#[inline]
 pub(crate) fn take_text(alloc: Global, to: &mut Text, value: &Wire<'_>) -> Result<(), ReadRefusal>
     ensures ok { OnOk result (to.new ≡ bytes_in to.old (value_of value.now)) }
-    ensures fine { IfOk result (λ _. FineValue kinds.Text LEVELS (value_of value.now)) }
-    ensures fault { IfErr result (RefusesValue kinds.Text LEVELS (value_of value.now)) }
+    ensures fine { IfOk result (λ _. FineValue kinds.Text value_levels (value_of value.now)) }
+    ensures fault { IfErr result (RefusesValue kinds.Text value_levels (value_of value.now)) }
 {
     *to = text_of(alloc, value)?;
     Ok(())
 }
 
 /// The string that the value is.
+#[inline]
 pub(crate) fn text_of(alloc: Global, value: &Wire<'_>) -> Result<Text, ReadRefusal>
     ensures ok { IfOk result (λ text. value_of value.now ≡ wire.Bytes text) }
     ensures fine { IfOk result (λ text. IsUtf8 text) }
-    ensures fault { IfErr result (RefusesValue kinds.Text LEVELS (value_of value.now)) }
+    ensures fault { IfErr result (RefusesValue kinds.Text value_levels (value_of value.now)) }
 {
     let Wire::Bytes(part) = value else {
         return Err(ReadRefusal::BadMessage);
@@ -93,7 +99,8 @@ pub(crate) fn text_of(alloc: Global, value: &Wire<'_>) -> Result<Text, ReadRefus
     }
 }
 
-/// Reads an id that has no bytes, or so many.
+/// Reads an id that has no bytes, or exactly this number.
+#[inline]
 pub(crate) fn take_id(
     alloc: Global,
     to: &mut Octets,
@@ -101,8 +108,8 @@ pub(crate) fn take_id(
     value: &Wire<'_>,
 ) -> Result<(), ReadRefusal>
     ensures ok { OnOk result (to.new ≡ bytes_in to.old (value_of value.now)) }
-    ensures fine { IfOk result (λ _. FineValue (kinds.Id size) LEVELS (value_of value.now)) }
-    ensures fault { IfErr result (RefusesValue (kinds.Id size) LEVELS (value_of value.now)) }
+    ensures fine { IfOk result (λ _. FineValue (kinds.Id size) value_levels (value_of value.now)) }
+    ensures fault { IfErr result (RefusesValue (kinds.Id size) value_levels (value_of value.now)) }
 {
     let Wire::Bytes(part) = value else {
         return Err(ReadRefusal::BadMessage);
@@ -115,6 +122,7 @@ pub(crate) fn take_id(
 }
 
 /// The low 32 bits.
+#[inline]
 fn low_bits(number: u64) -> u32
     ensures { result ≡ number % 2 ^ 32 }
 {

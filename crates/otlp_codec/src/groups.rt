@@ -4,23 +4,23 @@ ghost use Rattle.std.specs.Prelude.{◌≡◌, OnOk, IfOk, IfErr};
 ghost use Rattle.otlp_wire.specs.Wire.{value_of};
 ghost use Rattle.otlp_messages.specs.declared.messages.Kind.TheVariants as kinds;
 ghost use Rattle.otlp_messages.specs.declared.messages.Message.TheVariants as messages;
-ghost use Rattle.otlp_messages.specs.declared.checking.TheConstants.{LEVELS};
+ghost use Rattle.otlp_codec.specs.Levels.{value_levels};
 ghost use Rattle.otlp_messages.specs.Fine.{FineValue};
 ghost use Rattle.otlp_codec.specs.Refusals.{RefusesValue};
-ghost use Rattle.otlp_codec.specs.Groups.{resource_in, scope_in};
-ghost use Rattle.otlp_codec.specs.Steps.{no_resource, resource_step, resource_part_in, no_scope, scope_step, scope_part_in};
-ghost use Rattle.otlp_codec.specs.lemmas.Passed.{resource_passes, scope_passes};
+ghost use Rattle.otlp_codec.specs.Groups.{resource_in, scope_in, scope_group_in, resource_group_in, groups_in};
+ghost use Rattle.otlp_codec.specs.Steps.{no_resource, resource_step, resource_part_in, no_scope, scope_step, scope_part_in, no_scope_group, scope_group_step, no_resource_group, resource_group_step, request_step};
+ghost use Rattle.otlp_codec.specs.lemmas.Passed.{resource_passes, scope_passes, scope_group_passes, resource_group_passes, request_passes};
 ghost use Rattle.std.specs.Prelude.{[]};
 ghost use Rattle.otlp_messages.specs.Canon.{canon};
 ghost use Rattle.otlp_codec.specs.Canonical.{resource_rows, scope_rows, canon_scope_group, canon_resource_group};
 
 use crate::cells::{take_text, take_uint32};
-use crate::lengths::{len_bytes_row, len_more, len_one, len_pairs, len_varint_row, sum_capped};
-use crate::part::{Part, read_part, take_pairs};
+use crate::lengths::{len_bytes_row, len_more, len_one, len_pairs, len_varint_row};
+use crate::part::{Item, Part, read_part, take_items, take_more, take_pairs};
 use crate::refusal::ReadRefusal;
 use crate::writing::{Spelled, write_more, write_one, write_pairs};
 use otlp_messages::{Backward, Message};
-use otlp_model::{Items, Resource, ResourceGroup, Scope, ScopeGroup, Text, add_capped};
+use otlp_model::{Items, Resource, ResourceGroup, Scope, ScopeGroup, Text, add_capped, sum_capped};
 use otlp_wire::{Field, Wire};
 use std::alloc::{AllocError, Global};
 
@@ -94,15 +94,109 @@ impl Part for Scope {
     }
 }
 
+impl<I: Item + Drop> Part for ScopeGroup<I> {
+    ghost named = { messages.ScopeGroup I.of };
+
+    ghost none = { no_scope_group };
+
+    ghost step = { scope_group_step I.reads };
+
+    ghost reads = { scope_group_in I.reads };
+
+    ghost passes = { scope_group_passes I.reads };
+
+    fn message() -> Message {
+        Message::ScopeGroup(I::of())
+    }
+
+    fn empty(alloc: Global) -> Self {
+        ScopeGroup {
+            scope: Scope::empty(alloc),
+            items: Items::new(alloc),
+        }
+    }
+
+    fn take(&mut self, alloc: Global, field: &Field<'_>) -> Result<(), ReadRefusal> {
+        let value = &field.value;
+        match field.number {
+            1 => take_scope(alloc, &mut self.scope, value),
+            2 => take_items(alloc, &mut self.items, value),
+            3 => take_text(alloc, &mut self.scope.schema_url, value),
+            _ => Ok(()),
+        }
+    }
+}
+
+impl<I: Item + Drop> Part for ResourceGroup<I> {
+    ghost named = { messages.ResourceGroup I.of };
+
+    ghost none = { no_resource_group };
+
+    ghost step = { resource_group_step I.reads };
+
+    ghost reads = { resource_group_in I.reads };
+
+    ghost passes = { resource_group_passes I.reads };
+
+    fn message() -> Message {
+        Message::ResourceGroup(I::of())
+    }
+
+    fn empty(alloc: Global) -> Self {
+        ResourceGroup {
+            resource: Resource::empty(alloc),
+            scopes: Items::new(alloc),
+        }
+    }
+
+    fn take(&mut self, alloc: Global, field: &Field<'_>) -> Result<(), ReadRefusal> {
+        let value = &field.value;
+        match field.number {
+            1 => take_resource(alloc, &mut self.resource, value),
+            2 => take_more(alloc, &mut self.scopes, value),
+            3 => take_text(alloc, &mut self.resource.schema_url, value),
+            _ => Ok(()),
+        }
+    }
+}
+
+impl<I: Item + Drop> Part for Items<ResourceGroup<I>> {
+    ghost named = { messages.Request I.of };
+
+    ghost none = { [] };
+
+    ghost step = { request_step I.reads };
+
+    ghost reads = { groups_in I.reads };
+
+    ghost passes = { request_passes I.reads };
+
+    fn message() -> Message {
+        Message::Request(I::of())
+    }
+
+    fn empty(alloc: Global) -> Self {
+        Items::new(alloc)
+    }
+
+    fn take(&mut self, alloc: Global, field: &Field<'_>) -> Result<(), ReadRefusal> {
+        match field.number {
+            1 => take_more(alloc, self, &field.value),
+            _ => Ok(()),
+        }
+    }
+}
+
 /// Reads the resource of a group, all but its schema url.
+#[inline]
 pub(crate) fn take_resource(
     alloc: Global,
     to: &mut Resource,
     value: &Wire<'_>,
 ) -> Result<(), ReadRefusal>
     ensures ok { OnOk result (to.new ≡ resource_part_in to.old (value_of value.now)) }
-    ensures fine { IfOk result (λ _. FineValue (kinds.Embedded messages.Resource) LEVELS (value_of value.now)) }
-    ensures fault { IfErr result (RefusesValue (kinds.Embedded messages.Resource) LEVELS (value_of value.now)) }
+    ensures fine { IfOk result (λ _. FineValue (kinds.Embedded messages.Resource) value_levels (value_of value.now)) }
+    ensures fault { IfErr result (RefusesValue (kinds.Embedded messages.Resource) value_levels (value_of value.now)) }
 {
     let Wire::Bytes(bytes) = value else {
         return Err(ReadRefusal::BadMessage);
@@ -118,10 +212,11 @@ pub(crate) fn take_resource(
 }
 
 /// Reads the scope of a group, all but its schema url.
+#[inline]
 pub(crate) fn take_scope(alloc: Global, to: &mut Scope, value: &Wire<'_>) -> Result<(), ReadRefusal>
     ensures ok { OnOk result (to.new ≡ scope_part_in to.old (value_of value.now)) }
-    ensures fine { IfOk result (λ _. FineValue (kinds.Embedded messages.InstrumentationScope) LEVELS (value_of value.now)) }
-    ensures fault { IfErr result (RefusesValue (kinds.Embedded messages.InstrumentationScope) LEVELS (value_of value.now)) }
+    ensures fine { IfOk result (λ _. FineValue (kinds.Embedded messages.InstrumentationScope) value_levels (value_of value.now)) }
+    ensures fault { IfErr result (RefusesValue (kinds.Embedded messages.InstrumentationScope) value_levels (value_of value.now)) }
 {
     let Wire::Bytes(bytes) = value else {
         return Err(ReadRefusal::BadMessage);

@@ -1,4 +1,4 @@
-//! How long canonical spellings are, without writing them. A length above 2^63 is answered as 2^63.
+//! How long canonical spellings are, without writing them. A length above 2^63 is returned as 2^63.
 
 ghost use Rattle.std.specs.Prelude.{◌≡◌, ◌≤◌, ◌+◌, ◌^◌, ℕ, List, min, length, map, sum, ◌∷◌, []};
 ghost use Rattle.otlp_wire.specs.Varint.{varint};
@@ -12,19 +12,8 @@ use crate::writing::Spelled;
 use otlp_model::{Items, Pair, Value, add_capped};
 use otlp_wire::len_varint;
 
-/// The sum of all, or 2^63 where it is larger.
-pub(crate) fn sum_capped(lengths: &[u64]) -> u64
-    ensures { result ≡ min (sum lengths.now) (2 ^ 63) }
-{
-    let mut total = 0;
-    for len in lengths {
-        total = add_capped(total, *len);
-    }
-    total
-}
-
-/// A field of wire type 2 whose part has so many bytes.
-fn len_part(number: u32, size: u64) -> u64
+/// A field of wire type 2 whose part has `size` bytes.
+pub(crate) fn len_part(number: u32, size: u64) -> u64
     requires { IsNumber number }
     ensures { result ≡ min (part_len number size) (2 ^ 63) }
 {
@@ -41,7 +30,7 @@ fn len_bytes_field(number: u32, part: &[u8]) -> u64
 }
 
 /// A field of wire type 1.
-fn len_fixed64_field(number: u32) -> u64
+pub(crate) fn len_fixed64_field(number: u32) -> u64
     requires { IsNumber number }
     ensures len { (bits : ℕ) → result ≡ length (canon_row number (wire.Fixed64 bits ∷ [])) }
     ensures few { result ≤ 20 }

@@ -3,18 +3,28 @@
 
 mod cells;
 mod groups;
+mod histograms;
 mod laws;
 mod lengths;
 mod logs;
+mod metrics;
+mod numbers;
 mod part;
+mod points;
 mod refusal;
 mod request;
+mod shapes;
+mod spans;
 mod values;
 mod writing;
 
-pub use laws::{one_reading, some_reading, spelling_is_short, tidy_is_stable, written_is_read};
+pub use laws::{
+    one_reading, read_is_real, some_reading, spelling_is_short, tidy_is_stable, written_is_read,
+};
 pub use refusal::ReadRefusal;
-pub use request::{len_request, read_request, write_request};
+pub use request::{len_request, put_request, read_request, write_request};
 
+#[cfg(test)]
+mod metric_tests;
 #[cfg(test)]
 mod tests;

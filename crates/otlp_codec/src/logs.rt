@@ -1,25 +1,22 @@
-//! Log records, and the request that exports them.
+//! Log records.
 
-ghost use Rattle.std.specs.Prelude.{[]};
+ghost use Rattle.std.proofs.Common.{refl};
 ghost use Rattle.otlp_messages.specs.declared.messages.Message.TheVariants as messages;
-ghost use Rattle.otlp_codec.specs.Groups.{groups_in, resource_group_in, scope_group_in};
+ghost use Rattle.otlp_messages.specs.declared.messages.Of.TheVariants as ofs;
 ghost use Rattle.otlp_codec.specs.Canonical.{canon_log_record};
 ghost use Rattle.otlp_codec.specs.Logs.{log_record_in};
-ghost use Rattle.otlp_codec.specs.Steps.{no_log_record, log_record_step, no_scope_group, scope_group_step, no_resource_group, resource_group_step, request_step};
-ghost use Rattle.otlp_codec.specs.lemmas.Passed.{log_record_passes, scope_group_passes, resource_group_passes, request_passes};
+ghost use Rattle.otlp_codec.specs.Steps.{no_log_record, log_record_step};
+ghost use Rattle.otlp_codec.specs.lemmas.Passed.{log_record_passes};
 
 use crate::cells::{take_fixed32, take_fixed64, take_id, take_int32, take_text, take_uint32};
-use crate::groups::{take_resource, take_scope};
 use crate::lengths::{
-    len_bytes_row, len_fixed32_row, len_fixed64_row, len_one, len_pairs, len_varint_row, sum_capped,
+    len_bytes_row, len_fixed32_row, len_fixed64_row, len_one, len_pairs, len_varint_row,
 };
-use crate::part::{Part, take_more, take_pairs, take_value};
+use crate::part::{Item, Part, take_pairs, take_value};
 use crate::refusal::ReadRefusal;
 use crate::writing::{Spelled, write_one, write_pairs};
-use otlp_messages::{Backward, Message};
-use otlp_model::{
-    Items, LogRecord, Octets, Resource, ResourceGroup, Scope, ScopeGroup, Text, Value,
-};
+use otlp_messages::{Backward, Message, Of};
+use otlp_model::{Items, LogRecord, Octets, Text, Value, sum_capped};
 use otlp_wire::Field;
 use std::alloc::{AllocError, Global};
 
@@ -50,6 +47,7 @@ impl Part for LogRecord {
             flags: 0,
             trace_id: Octets::new(alloc),
             span_id: Octets::new(alloc),
+            event_name: Text::new(alloc),
         }
     }
 
@@ -66,6 +64,7 @@ impl Part for LogRecord {
             9 => take_id(alloc, &mut self.trace_id, 16, value),
             10 => take_id(alloc, &mut self.span_id, 8, value),
             11 => take_fixed64(&mut self.observed, value),
+            12 => take_text(alloc, &mut self.event_name, value),
             _ => Ok(()),
         }
     }
@@ -76,6 +75,7 @@ impl Spelled for LogRecord {
 
     #[tactic(auto, unfolding(crate::specs::Canonical::canon_log_record))]
     fn write(&self, to: &mut Backward) -> Result<(), AllocError> {
+        to.put_bytes_row(12, self.event_name.as_slice())?;
         to.put_fixed64_row(11, self.observed)?;
         to.put_bytes_row(10, self.span_id.as_slice())?;
         to.put_bytes_row(9, self.trace_id.as_slice())?;
@@ -101,99 +101,17 @@ impl Spelled for LogRecord {
             len_bytes_row(9, self.trace_id.as_slice()),
             len_bytes_row(10, self.span_id.as_slice()),
             len_fixed64_row(11, self.observed),
+            len_bytes_row(12, self.event_name.as_slice()),
         ])
     }
 }
 
-impl Part for ScopeGroup<LogRecord> {
-    ghost named = { messages.ScopeLogs };
+impl Item for LogRecord {
+    ghost of = { ofs.LogRecords };
 
-    ghost none = { no_scope_group };
+    ghost is_item = { refl };
 
-    ghost step = { scope_group_step log_record_in };
-
-    ghost reads = { scope_group_in log_record_in };
-
-    ghost passes = { scope_group_passes log_record_in };
-
-    fn message() -> Message {
-        Message::ScopeLogs
-    }
-
-    fn empty(alloc: Global) -> Self {
-        ScopeGroup {
-            scope: Scope::empty(alloc),
-            items: Items::new(alloc),
-        }
-    }
-
-    fn take(&mut self, alloc: Global, field: &Field<'_>) -> Result<(), ReadRefusal> {
-        let value = &field.value;
-        match field.number {
-            1 => take_scope(alloc, &mut self.scope, value),
-            2 => take_more(alloc, &mut self.items, value),
-            3 => take_text(alloc, &mut self.scope.schema_url, value),
-            _ => Ok(()),
-        }
-    }
-}
-
-impl Part for ResourceGroup<LogRecord> {
-    ghost named = { messages.ResourceLogs };
-
-    ghost none = { no_resource_group };
-
-    ghost step = { resource_group_step log_record_in };
-
-    ghost reads = { resource_group_in log_record_in };
-
-    ghost passes = { resource_group_passes log_record_in };
-
-    fn message() -> Message {
-        Message::ResourceLogs
-    }
-
-    fn empty(alloc: Global) -> Self {
-        ResourceGroup {
-            resource: Resource::empty(alloc),
-            scopes: Items::new(alloc),
-        }
-    }
-
-    fn take(&mut self, alloc: Global, field: &Field<'_>) -> Result<(), ReadRefusal> {
-        let value = &field.value;
-        match field.number {
-            1 => take_resource(alloc, &mut self.resource, value),
-            2 => take_more(alloc, &mut self.scopes, value),
-            3 => take_text(alloc, &mut self.resource.schema_url, value),
-            _ => Ok(()),
-        }
-    }
-}
-
-impl Part for Items<ResourceGroup<LogRecord>> {
-    ghost named = { messages.LogsRequest };
-
-    ghost none = { [] };
-
-    ghost step = { request_step log_record_in };
-
-    ghost reads = { groups_in log_record_in };
-
-    ghost passes = { request_passes log_record_in };
-
-    fn message() -> Message {
-        Message::LogsRequest
-    }
-
-    fn empty(alloc: Global) -> Self {
-        Items::new(alloc)
-    }
-
-    fn take(&mut self, alloc: Global, field: &Field<'_>) -> Result<(), ReadRefusal> {
-        match field.number {
-            1 => take_more(alloc, self, &field.value),
-            _ => Ok(()),
-        }
+    fn of() -> Of {
+        Of::LogRecords
     }
 }

@@ -6,8 +6,9 @@ ghost use Rattle.otlp_wire.specs.Fields.{fields_of};
 ghost use Rattle.otlp_messages.specs.declared.messages.Message.{Message};
 ghost use Rattle.otlp_messages.specs.declared.messages.Kind.TheVariants as kinds;
 ghost use Rattle.otlp_messages.specs.declared.messages.Message.TheVariants as messages;
-ghost use Rattle.otlp_messages.specs.declared.checking.TheConstants.{LEVELS};
-ghost use Rattle.otlp_messages.specs.Table.{kind_of};
+ghost use Rattle.otlp_codec.specs.Levels.{value_levels};
+ghost use Rattle.otlp_messages.specs.declared.messages.Of.{Of};
+ghost use Rattle.otlp_messages.specs.Table.{kind_of, item_of};
 ghost use Rattle.otlp_messages.specs.Defects.{IsFine};
 ghost use Rattle.otlp_messages.specs.Fine.{FineValue};
 ghost use Rattle.otlp_messages.specs.Rows.{embedded_in, many_in};
@@ -16,10 +17,16 @@ ghost use Rattle.otlp_codec.specs.Groups.{value_in, pair_in};
 
 use crate::refusal::ReadRefusal;
 use crate::values::{read_pair, read_value};
-use otlp_messages::{LEVELS, MARKS, Message, row_of};
-use otlp_model::{Items, Pair, Value};
+use otlp_messages::{MARKS, Message, Of, row_of};
+use otlp_model::{Items, MAX_DEPTH, Pair, Value};
 use otlp_wire::{Field, Fields, Wire};
 use std::alloc::Global;
+
+/// How many levels of members may stand below a value that is in no array and no key-value list.
+pub(crate) const LEVELS: u8 = (MAX_DEPTH - 1) as u8;
+
+/// Room for this number of attributes is found when the first one is read.
+const FIRST_PAIRS: usize = 8;
 
 /// A message of which each field is read over what was read before.
 pub(crate) trait Part {
@@ -43,17 +50,28 @@ pub(crate) trait Part {
 
     fn take(&mut self, alloc: Global, field: &Field<'_>) -> Result<(), ReadRefusal>
         ensures ok { OnOk result (self.new ≡ step self.old (entry field.now)) }
-        ensures fine { IfOk result (λ _. FineValue (kind_of named field.now.number) LEVELS (value_of field.now.value)) }
-        ensures fault { IfErr result (RefusesValue (kind_of named field.now.number) LEVELS (value_of field.now.value)) };
+        ensures fine { IfOk result (λ _. FineValue (kind_of named field.now.number) value_levels (value_of field.now.value)) }
+        ensures fault { IfErr result (RefusesValue (kind_of named field.now.number) value_levels (value_of field.now.value)) };
 
     /// One field after the other gives what the bytes say.
     ghost passes: { (bytes : List ℕ) → fold step none (fields_of bytes) ≡ reads bytes };
 }
 
+/// A message that is a main item of a request.
+pub(crate) trait Item: Part {
+    /// Which of the three it is.
+    ghost of: { Of };
+
+    fn of() -> Of
+        ensures { result ≡ of };
+
+    ghost is_item: { Self.Part.named ≡ item_of of };
+}
+
 /// Reads a message, in one pass over its bytes.
 pub(crate) fn read_part<P: Part + Drop>(alloc: Global, bytes: &[u8]) -> Result<P, ReadRefusal>
-    ensures value { IfOk result (λ part. IsFine P.named LEVELS bytes.now × (part ≡ P.reads bytes.now)) }
-    ensures fault { IfErr result (Refuses P.named LEVELS bytes.now) }
+    ensures value { IfOk result (λ part. IsFine P.named value_levels bytes.now × (part ≡ P.reads bytes.now)) }
+    ensures fault { IfErr result (Refuses P.named value_levels bytes.now) }
 {
     let mut part = P::empty(alloc);
     let mut seen = [false; MARKS];
@@ -72,14 +90,15 @@ pub(crate) fn read_part<P: Part + Drop>(alloc: Global, bytes: &[u8]) -> Result<P
 }
 
 /// Reads one message more of those that may occur any number of times.
+#[inline]
 pub(crate) fn take_more<P: Part + Drop>(
     alloc: Global,
     to: &mut Items<P>,
     value: &Wire<'_>,
 ) -> Result<(), ReadRefusal>
     ensures ok { OnOk result (to.new ≡ many_in P.reads to.old (value_of value.now)) }
-    ensures fine { IfOk result (λ _. FineValue (kinds.Embedded P.named) LEVELS (value_of value.now)) }
-    ensures fault { IfErr result (RefusesValue (kinds.Embedded P.named) LEVELS (value_of value.now)) }
+    ensures fine { IfOk result (λ _. FineValue (kinds.Embedded P.named) value_levels (value_of value.now)) }
+    ensures fault { IfErr result (RefusesValue (kinds.Embedded P.named) value_levels (value_of value.now)) }
 {
     let Wire::Bytes(bytes) = value else {
         return Err(ReadRefusal::BadMessage);
@@ -89,29 +108,48 @@ pub(crate) fn take_more<P: Part + Drop>(
     Ok(())
 }
 
+/// Reads one main item more.
+#[inline]
+pub(crate) fn take_items<I: Item + Drop>(
+    alloc: Global,
+    to: &mut Items<I>,
+    value: &Wire<'_>,
+) -> Result<(), ReadRefusal>
+    ensures ok { OnOk result (to.new ≡ many_in I.reads to.old (value_of value.now)) }
+    ensures fine { IfOk result (λ _. FineValue (kinds.Embedded (item_of I.of)) value_levels (value_of value.now)) }
+    ensures fault { IfErr result (RefusesValue (kinds.Embedded (item_of I.of)) value_levels (value_of value.now)) }
+{
+    take_more(alloc, to, value)
+}
+
 /// Reads one attribute more.
+#[inline]
 pub(crate) fn take_pairs(
     alloc: Global,
     to: &mut Items<Pair>,
     value: &Wire<'_>,
 ) -> Result<(), ReadRefusal>
     ensures ok { OnOk result (to.new ≡ many_in pair_in to.old (value_of value.now)) }
-    ensures fine { IfOk result (λ _. FineValue (kinds.Embedded messages.KeyValue) LEVELS (value_of value.now)) }
-    ensures fault { IfErr result (RefusesValue (kinds.Embedded messages.KeyValue) LEVELS (value_of value.now)) }
+    ensures fine { IfOk result (λ _. FineValue (kinds.Embedded messages.KeyValue) value_levels (value_of value.now)) }
+    ensures fault { IfErr result (RefusesValue (kinds.Embedded messages.KeyValue) value_levels (value_of value.now)) }
 {
     let Wire::Bytes(bytes) = value else {
         return Err(ReadRefusal::BadMessage);
     };
+    if to.is_empty() {
+        to.reserve(FIRST_PAIRS)?;
+    }
     let pair = read_pair(alloc, LEVELS, bytes)?;
     to.push(pair)?;
     Ok(())
 }
 
 /// Reads a value that stands in no array and no key-value list.
+#[inline]
 pub(crate) fn take_value(alloc: Global, to: &mut Value, value: &Wire<'_>) -> Result<(), ReadRefusal>
     ensures ok { OnOk result (to.new ≡ embedded_in value_in to.old (value_of value.now)) }
-    ensures fine { IfOk result (λ _. FineValue (kinds.Embedded messages.AnyValue) LEVELS (value_of value.now)) }
-    ensures fault { IfErr result (RefusesValue (kinds.Embedded messages.AnyValue) LEVELS (value_of value.now)) }
+    ensures fine { IfOk result (λ _. FineValue (kinds.Embedded messages.AnyValue) value_levels (value_of value.now)) }
+    ensures fault { IfErr result (RefusesValue (kinds.Embedded messages.AnyValue) value_levels (value_of value.now)) }
 {
     let Wire::Bytes(bytes) = value else {
         return Err(ReadRefusal::BadMessage);

@@ -7,7 +7,7 @@ use std::alloc::AllocError;
 use thiserror::Error;
 
 /// Why bytes are not read as a request. Where several of these stand in the bytes, any of them may be
-/// answered.
+/// named.
 #[derive(Debug, Drop, Error)]
 pub enum ReadRefusal {
     /// The bytes do not end with a whole field, or a known field has another wire type.

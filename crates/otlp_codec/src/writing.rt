@@ -26,6 +26,7 @@ pub(crate) trait Spelled {
 }
 
 /// Writes a message that occurs once.
+#[inline]
 pub(crate) fn write_one<P: Spelled>(
     to: &mut Backward,
     number: u32,
@@ -41,6 +42,7 @@ pub(crate) fn write_one<P: Spelled>(
 }
 
 /// Writes the messages of a repeated field.
+#[inline]
 pub(crate) fn write_more<P: Spelled>(
     to: &mut Backward,
     number: u32,

@@ -4,7 +4,8 @@ use Rattle.std.specs.Prelude.{fold, ◌==◌, if◌then◌else◌, Option, None}
 use Rattle.otlp_wire.specs.declared.parts.WireError.{WireError}
 use Rattle.otlp_wire.specs.Wire as wire
 use Rattle.otlp_wire.specs.Wire.{FieldValue, Entry}
-use Rattle.otlp_wire.specs.Fields.{fields_of, fields_of-only}
+use Rattle.otlp_wire.specs.Fields.{fields_of}
+use Rattle.otlp_wire.proofs.FieldsOf.{fields_of-only}
 use Rattle.otlp_messages.specs.Rows.{only, said, at, fixed64_in, fixed32_in, uint32_in, int32_in, bytes_in, embedded_in, many_in}
 use Rattle.otlp_messages.proofs.Parts.{part_of}
 use Rattle.otlp_codec.specs.Groups.{value_in, pair_in, resource_in, scope_in, scope_group_in, resource_group_in, groups_in}
@@ -12,7 +13,7 @@ use Rattle.otlp_codec.specs.Logs.{log_record_in}
 use Rattle.otlp_codec.specs.Steps.{no_resource, resource_step, no_scope, scope_step, scope_part_in, scope_url_in, no_scope_group, scope_group_step, resource_part_in, resource_url_in, no_resource_group, resource_group_step, no_log_record, log_record_step, request_step}
 
 -- a part that changes by itself, whatever else changes
-goes_by : {R A : Type 0} (step : R → Entry → R) (get : R → A) (by : A → Entry → A) → ((r : R) (f : Entry) → get (step r f) ≡ by (get r) f)
+pub goes_by : {R A : Type 0} (step : R → Entry → R) (get : R → A) (by : A → Entry → A) → ((r : R) (f : Entry) → get (step r f) ≡ by (get r) f)
     → (r : R) (fs : List Entry) → get (fold step r fs) ≡ fold by (get r) fs
 goes_by step get by each r [] = refl
 goes_by step get by each r (f ∷ fs) = goes_by step get by each (step r f) fs ∙ ap (λ a. fold by a fs) (each r f)
@@ -107,7 +108,7 @@ makes_resource = record { by_url = url; by_part = part }
     part u b (wire.Fixed64 n) = refl
     part u b (wire.Fixed32 n) = refl
 
-no_scope_is : no_scope ≡ scope_in [] []
+pub no_scope_is : no_scope ≡ scope_in [] []
 no_scope_is = sym (ap (λ (fs : List Entry). record {
   schema_url = [];
   name = fold bytes_in [] (only 1 fs);
@@ -116,7 +117,7 @@ no_scope_is = sym (ap (λ (fs : List Entry). record {
   pairs = fold (many_in pair_in) [] (only 3 fs);
 }) no_fields)
 
-no_resource_is : no_resource ≡ resource_in [] []
+pub no_resource_is : no_resource ≡ resource_in [] []
 no_resource_is = sym (ap (λ (fs : List Entry). record {
   schema_url = [];
   dropped = fold uint32_in 0 (only 2 fs);
@@ -154,6 +155,7 @@ log_record_passes bytes =
     let flags = part_of log_record_step (λ r. r.flags) 8 fixed32_in (λ r f. refl) no_log_record fs in
     let trace_id = part_of log_record_step (λ r. r.trace_id) 9 bytes_in (λ r f. refl) no_log_record fs in
     let span_id = part_of log_record_step (λ r. r.span_id) 10 bytes_in (λ r f. refl) no_log_record fs in
+    let event_name = part_of log_record_step (λ r. r.event_name) 12 bytes_in (λ r f. refl) no_log_record fs in
     λ i. record {
       time = time i;
       observed = observed i;
@@ -165,4 +167,5 @@ log_record_passes bytes =
       flags = flags i;
       trace_id = trace_id i;
       span_id = span_id i;
+      event_name = event_name i;
     }

@@ -4,7 +4,7 @@ use Rattle.otlp_model.specs.declared.value.Value.{Value}
 use Rattle.otlp_model.specs.declared.value.Pair.{Pair}
 use Rattle.otlp_codec.specs.Canonical.{canon_value, canon_pair}
 use Rattle.otlp_codec.proofs.ValueLaw.{canon_map}
-use Rattle.otlp_codec.proofs.Bounds.{one_row}
+use Rattle.otlp_codec.proofs.ValueBounds.{one_row}
 use Rattle.otlp_codec.proofs.Lens.{more_len, closed_len}
 use Rattle.otlp_codec.proofs.lengths.+lengths.Goals as goal
 

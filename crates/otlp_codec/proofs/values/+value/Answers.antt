@@ -1,0 +1,193 @@
+use Rattle.std.proofs.Common.{◌≡◌, ◌<◌, ℕ, length, refl, ap, ◌∙◌, subst, arith}
+use Rattle.std.proofs.lemmas.Result.{err_from_is_err_and}
+use Rattle.std.specs.Prelude.{slice_index_or, true, false}
+use Rattle.otlp_wire.specs.Wire.{entry, value_of}
+use Rattle.otlp_wire.proofs.Readings.{part_len}
+use Rattle.otlp_messages.specs.declared.messages.Row.{Row}
+use Rattle.otlp_messages.specs.declared.messages.Message.TheVariants as messages
+use Rattle.otlp_messages.specs.Table.{mark_of}
+use Rattle.otlp_messages.specs.Defects.{wire_error}
+use Rattle.otlp_messages.proofs.Steps.{none_seen, first_occurs, twice_stands, value_is_shorter, member_stands}
+use Rattle.otlp_codec.proofs.Passing.{names_map, passes_none, passes_more, passes_all, refused_value}
+use Rattle.otlp_codec.proofs.Folded.{value_is, array_is, map_is, pair_is}
+use Rattle.otlp_codec.proofs.values.+value.Goals as goal
+
+-- read_value
+pub read_value-fields-init : goal.read_value-fields-init
+read_value-fields-init t c = rw (c.into_iter-next-iterator.ensures.into_iter_gives, c.new-next-items.ensures) (passes_none _ _ _ _ _ _ refl (none_seen 32))
+
+pub read_value-returns-in_default-clause-fault : goal.read_value-returns-in_default-clause-fault
+read_value-returns-in_default-clause-fault t c =
+    let last = rw c.in_default.is at c.in-Some.ensures.steps in
+    wire_error _ _ _ _ (c.fields.invariant.checked.end ∙ last.1)
+
+pub read_value-returns-then-seen-mark-clause-fault : goal.read_value-returns-then-seen-mark-clause-fault
+read_value-returns-then-seen-mark-clause-fault t c =
+    let first = rw c.in-Ok.is at c.in-Some.ensures.steps in
+    let mark : c.row_of-mark.result.mark ≡ mark_of messages.AnyValue c.in-Ok.field.number = ap (λ (r : Row). r.mark) c.row_of-mark.ensures.row in
+    twice_stands _ _ _ _ _ _ (entry c.in-Ok.field) c.fields.invariant.checked first.0
+    (subst (λ (k : ℕ). slice_index_or c.fields.seen k false ≡ true) mark c.if-seen-mark.true)
+
+pub read_value-take_member-requires : goal.read_value-take_member-requires
+read_value-take_member-requires t c =
+    let first = rw c.in-Ok.is at c.in-Some.ensures.steps in
+    let occurs = first_occurs _ _ _ _ _ _ (entry c.in-Ok.field) c.fields.invariant.checked first.0 in
+    let short : part_len (value_of c.in-Ok.field.value) < length c.args.bytes.now = value_is_shorter _ (entry c.in-Ok.field) occurs in
+    (omega (arith, c.decreases), tt)
+
+pub read_value-fields-preserved : goal.read_value-fields-preserved
+read_value-fields-preserved t c =
+    let first = rw c.in-Ok.is at c.in-Some.ensures.steps in
+    let mark : c.row_of-mark.result.mark ≡ mark_of messages.AnyValue c.in-Ok.field.number = ap (λ (r : Row). r.mark) c.row_of-mark.ensures.row in
+    passes_more _ _ _ _ _ _ _ _ _ _ (entry c.in-Ok.field) c.row_of-mark.result.mark c.fields.invariant first mark
+    c.row_of-mark.ensures.few c.if-seen-mark.false c.in_ok-take_member.ensures.ok c.in_ok-take_member.ensures.fine
+
+pub read_value-returns-in_err-take_member-clause-fault : goal.read_value-returns-in_err-take_member-clause-fault
+read_value-returns-in_err-take_member-clause-fault t c =
+    let first = rw c.in-Ok.is at c.in-Some.ensures.steps in
+    let p = err_from_is_err_and c.from_residual.result c.from_residual.ensures.1 in
+    rw (p.1, p.2) (refused_value _ _ _ _ _ _ _ _ _ (entry c.in-Ok.field) _ c.fields.invariant first c.in_err-take_member.ensures.fault)
+
+pub read_value-returns-clause-value : goal.read_value-returns-clause-value
+read_value-returns-clause-value t c =
+    let ends = c.in-None.ensures.steps in
+    let all = passes_all _ _ _ _ _ _ _ _ c.fields.invariant (ends.0, ends.1) in
+    (all.0, all.1 ∙ value_is c.args.levels c.args.bytes.now)
+
+-- read_array
+pub read_array-fields-init : goal.read_array-fields-init
+read_array-fields-init t c = rw (c.into_iter-next-iterator.ensures.into_iter_gives, c.new-next-items.ensures, c.new-values.ensures) (passes_none _ _ _ _ _ _ refl (none_seen 32))
+
+pub read_array-returns-in_default-clause-fault : goal.read_array-returns-in_default-clause-fault
+read_array-returns-in_default-clause-fault t c =
+    let last = rw c.in_default.is at c.in-Some.ensures.steps in
+    wire_error _ _ _ _ (c.fields.invariant.checked.end ∙ last.1)
+
+pub read_array-returns-then-seen-mark-clause-fault : goal.read_array-returns-then-seen-mark-clause-fault
+read_array-returns-then-seen-mark-clause-fault t c =
+    let first = rw c.in-Ok.is at c.in-Some.ensures.steps in
+    let mark : c.row_of-mark.result.mark ≡ mark_of messages.ArrayValue c.in-Ok.field.number = ap (λ (r : Row). r.mark) c.row_of-mark.ensures.row in
+    twice_stands _ _ _ _ _ _ (entry c.in-Ok.field) c.fields.invariant.checked first.0
+    (subst (λ (k : ℕ). slice_index_or c.fields.seen k false ≡ true) mark c.if-seen-mark.true)
+
+pub read_array-take_array-requires : goal.read_array-take_array-requires
+read_array-take_array-requires t c =
+    let first = rw c.in-Ok.is at c.in-Some.ensures.steps in
+    let occurs = first_occurs _ _ _ _ _ _ (entry c.in-Ok.field) c.fields.invariant.checked first.0 in
+    let short : part_len (value_of c.in-Ok.field.value) < length c.args.bytes.now = value_is_shorter _ (entry c.in-Ok.field) occurs in
+    (omega (arith, c.decreases), tt)
+
+pub read_array-fields-preserved : goal.read_array-fields-preserved
+read_array-fields-preserved t c =
+    let first = rw c.in-Ok.is at c.in-Some.ensures.steps in
+    let mark : c.row_of-mark.result.mark ≡ mark_of messages.ArrayValue c.in-Ok.field.number = ap (λ (r : Row). r.mark) c.row_of-mark.ensures.row in
+    passes_more _ _ _ _ _ _ _ _ _ _ (entry c.in-Ok.field) c.row_of-mark.result.mark c.fields.invariant first mark
+    c.row_of-mark.ensures.few c.if-seen-mark.false c.in_ok-take_array.ensures.ok c.in_ok-take_array.ensures.fine
+
+pub read_array-returns-in_err-take_array-clause-fault : goal.read_array-returns-in_err-take_array-clause-fault
+read_array-returns-in_err-take_array-clause-fault t c =
+    let first = rw c.in-Ok.is at c.in-Some.ensures.steps in
+    let p = err_from_is_err_and c.from_residual.result c.from_residual.ensures.1 in
+    rw (p.1, p.2) (refused_value _ _ _ _ _ _ _ _ _ (entry c.in-Ok.field) _ c.fields.invariant first c.in_err-take_array.ensures.fault)
+
+pub read_array-returns-clause-value : goal.read_array-returns-clause-value
+read_array-returns-clause-value t c =
+    let ends = c.in-None.ensures.steps in
+    let all = passes_all _ _ _ _ _ _ _ _ c.fields.invariant (ends.0, ends.1) in
+    (all.0, all.1 ∙ array_is c.args.levels c.args.bytes.now)
+
+-- read_map
+pub read_map-fields-init : goal.read_map-fields-init
+read_map-fields-init t c = rw (c.into_iter-next-iterator.ensures.into_iter_gives, c.new-next-items.ensures, c.new-pairs.ensures) (passes_none _ _ _ _ _ _ refl (none_seen 32))
+
+pub read_map-returns-in_default-clause-fault : goal.read_map-returns-in_default-clause-fault
+read_map-returns-in_default-clause-fault t c =
+    let last = rw c.in_default.is at c.in-Some.ensures.steps in
+    wire_error _ _ _ _ (c.fields.invariant.checked.end ∙ last.1)
+
+pub read_map-returns-then-seen-mark-clause-fault : goal.read_map-returns-then-seen-mark-clause-fault
+read_map-returns-then-seen-mark-clause-fault t c =
+    let first = rw c.in-Ok.is at c.in-Some.ensures.steps in
+    let mark : c.row_of-mark.result.mark ≡ mark_of messages.KeyValueList c.in-Ok.field.number = ap (λ (r : Row). r.mark) c.row_of-mark.ensures.row in
+    twice_stands _ _ _ _ _ _ (entry c.in-Ok.field) c.fields.invariant.checked first.0
+    (subst (λ (k : ℕ). slice_index_or c.fields.seen k false ≡ true) mark c.if-seen-mark.true)
+
+pub read_map-take_map-requires : goal.read_map-take_map-requires
+read_map-take_map-requires t c =
+    let first = rw c.in-Ok.is at c.in-Some.ensures.steps in
+    let occurs = first_occurs _ _ _ _ _ _ (entry c.in-Ok.field) c.fields.invariant.checked first.0 in
+    let short : part_len (value_of c.in-Ok.field.value) < length c.args.bytes.now = value_is_shorter _ (entry c.in-Ok.field) occurs in
+    (omega (arith, c.decreases), tt)
+
+pub read_map-fields-preserved : goal.read_map-fields-preserved
+read_map-fields-preserved t c =
+    let first = rw c.in-Ok.is at c.in-Some.ensures.steps in
+    let mark : c.row_of-mark.result.mark ≡ mark_of messages.KeyValueList c.in-Ok.field.number = ap (λ (r : Row). r.mark) c.row_of-mark.ensures.row in
+    passes_more _ _ _ _ _ _ _ _ _ _ (entry c.in-Ok.field) c.row_of-mark.result.mark c.fields.invariant first mark
+    c.row_of-mark.ensures.few c.if-seen-mark.false c.in_ok-take_map.ensures.ok c.in_ok-take_map.ensures.fine
+
+pub read_map-returns-in_err-take_map-clause-fault : goal.read_map-returns-in_err-take_map-clause-fault
+read_map-returns-in_err-take_map-clause-fault t c =
+    let first = rw c.in-Ok.is at c.in-Some.ensures.steps in
+    let p = err_from_is_err_and c.from_residual.result c.from_residual.ensures.1 in
+    rw (p.1, p.2) (refused_value _ _ _ _ _ _ _ _ _ (entry c.in-Ok.field) _ c.fields.invariant first c.in_err-take_map.ensures.fault)
+
+pub read_map-returns-clause-value : goal.read_map-returns-clause-value
+read_map-returns-clause-value t c =
+    let ends = c.in-None.ensures.steps in
+    let all = passes_all _ _ _ _ _ _ _ _ c.fields.invariant (ends.0, ends.1) in
+    (all.0, all.1 ∙ map_is c.args.levels c.args.bytes.now)
+
+-- read_pair
+pub read_pair-fields-init : goal.read_pair-fields-init
+read_pair-fields-init t c = rw (c.into_iter-next-iterator.ensures.into_iter_gives, c.new-next-items.ensures, c.new.ensures) (passes_none _ _ _ _ _ _ refl (none_seen 32))
+
+pub read_pair-returns-in_default-clause-fault : goal.read_pair-returns-in_default-clause-fault
+read_pair-returns-in_default-clause-fault t c =
+    let last = rw c.in_default.is at c.in-Some.ensures.steps in
+    wire_error _ _ _ _ (c.fields.invariant.checked.end ∙ last.1)
+
+pub read_pair-returns-then-seen-mark-clause-fault : goal.read_pair-returns-then-seen-mark-clause-fault
+read_pair-returns-then-seen-mark-clause-fault t c =
+    let first = rw c.in-Ok.is at c.in-Some.ensures.steps in
+    let mark : c.row_of-mark.result.mark ≡ mark_of messages.KeyValue c.in-Ok.field.number = ap (λ (r : Row). r.mark) c.row_of-mark.ensures.row in
+    twice_stands _ _ _ _ _ _ (entry c.in-Ok.field) c.fields.invariant.checked first.0
+    (subst (λ (k : ℕ). slice_index_or c.fields.seen k false ≡ true) mark c.if-seen-mark.true)
+
+pub read_pair-take_pair-requires : goal.read_pair-take_pair-requires
+read_pair-take_pair-requires t c =
+    let first = rw c.in-Ok.is at c.in-Some.ensures.steps in
+    let occurs = first_occurs _ _ _ _ _ _ (entry c.in-Ok.field) c.fields.invariant.checked first.0 in
+    let short : part_len (value_of c.in-Ok.field.value) < length c.args.bytes.now = value_is_shorter _ (entry c.in-Ok.field) occurs in
+    (omega (arith, c.decreases), tt)
+
+pub read_pair-fields-preserved : goal.read_pair-fields-preserved
+read_pair-fields-preserved t c =
+    let first = rw c.in-Ok.is at c.in-Some.ensures.steps in
+    let mark : c.row_of-mark.result.mark ≡ mark_of messages.KeyValue c.in-Ok.field.number = ap (λ (r : Row). r.mark) c.row_of-mark.ensures.row in
+    passes_more _ _ _ _ _ _ _ _ _ _ (entry c.in-Ok.field) c.row_of-mark.result.mark c.fields.invariant first mark
+    c.row_of-mark.ensures.few c.if-seen-mark.false c.in_ok-take_pair.ensures.ok c.in_ok-take_pair.ensures.fine
+
+pub read_pair-returns-in_err-take_pair-clause-fault : goal.read_pair-returns-in_err-take_pair-clause-fault
+read_pair-returns-in_err-take_pair-clause-fault t c =
+    let first = rw c.in-Ok.is at c.in-Some.ensures.steps in
+    let p = err_from_is_err_and c.from_residual.result c.from_residual.ensures.1 in
+    rw (p.1, p.2) (refused_value _ _ _ _ _ _ _ _ _ (entry c.in-Ok.field) _ c.fields.invariant first c.in_err-take_pair.ensures.fault)
+
+pub read_pair-returns-clause-value : goal.read_pair-returns-clause-value
+read_pair-returns-clause-value t c =
+    let ends = c.in-None.ensures.steps in
+    let all = passes_all _ _ _ _ _ _ _ _ c.fields.invariant (ends.0, ends.1) in
+    (all.0, all.1 ∙ pair_is c.args.levels c.args.bytes.now)
+
+pub take_array-returns-in_err-value-in-1-Bytes-2-clause-fault : goal.take_array-returns-in_err-value-in-1-Bytes-2-clause-fault
+take_array-returns-in_err-value-in-1-Bytes-2-clause-fault t c =
+    let p = err_from_is_err_and c.from_residual.result c.from_residual.ensures.1 in
+    rw (p.1, p.2, c.in-1-Bytes.is-0, c.in-1-Bytes-2.is-1)
+    (names_map _ _ _ (λ e h. member_stands _ _ _ e c.if-levels-eq0.false h) c.in_err-value-in-1-Bytes-2.ensures.fault)
+
+pub take_map-returns-in_err-pair-in-1-Bytes-2-clause-fault : goal.take_map-returns-in_err-pair-in-1-Bytes-2-clause-fault
+take_map-returns-in_err-pair-in-1-Bytes-2-clause-fault t c =
+    let p = err_from_is_err_and c.from_residual.result c.from_residual.ensures.1 in
+    rw (p.1, p.2, c.in-1-Bytes.is-0, c.in-1-Bytes-2.is-1)
+    (names_map _ _ _ (λ e h. member_stands _ _ _ e c.if-levels-eq0.false h) c.in_err-pair-in-1-Bytes-2.ensures.fault)
