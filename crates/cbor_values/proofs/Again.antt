@@ -77,7 +77,7 @@ text_chunk_again bytes part chunk rest =
     ap text_chunk_at front
     ∙ rw (head_again 3 (length part) chunk.head (heads.Text (Some (length part))) chunk.is_head (omega arith) refl (part ++ rest)) (letters_again part rest chunk.kind)
 
--- the front is a head of that kind, behind which the string is read
+-- the front is a head of that kind, after which the string is read
 pub record ReadsString (kind : Option ℕ → Head) (string_at : Option ℕ → List ℕ → Reading (List ℕ)) (bytes s rest : List ℕ) : Type 0 where
   pub size : Option ℕ
   pub inner : List ℕ
@@ -188,7 +188,7 @@ pair_again d again bytes pair p rest =
     ap (pair_at (item_at d)) front
     ∙ rw (key.front, key.string, again p.value_bytes pair.value (p.is_value, p.shallow) rest) refl
 
--- the item behind its head
+-- the item after its head
 item_by_head : (d : ℕ) (bytes : List ℕ) (head : Head) (rest : List ℕ) → head_at bytes ≡ Ok (head, rest)
     → item_at (suc d) bytes ≡ body_at (item_at d) head rest
 unfolding item_at

@@ -28,7 +28,7 @@ use Rattle.cbor_values.proofs.Takes.{IsFront, IsSized, IsDouble, half, single, d
 use Rattle.cbor_values.proofs.Faulty.{TellsMajor, major_of_head, front_major}
 use Rattle.cbor_values.proofs.Extents.{many_pass, until_pass, StillOpen, octets_pass, text_pass, IsPair, item_parts, pair_parts, item_begins, pair_begins, key_ends, item_ends, pair_ends_at}
 
--- ---- what a successful reading comes to behind the head of an item
+-- ---- what a successful reading comes to after the head of an item
 
 -- a head with what follows it is read as an item, or as a key
 pub data Use (d : ℕ) (kind : Head) (inner : List ℕ) : Type 0 where
@@ -533,7 +533,7 @@ text_excluded e d chunks s rest are fault fits r =
 
 -- ---- arrays and maps
 
--- the members behind some of them are read too, one level deeper
+-- the members after some of them are read too, one level deeper
 record NextMember (d : ℕ) (rest : List ℕ) : Type 0 where
   pub left : ℕ
   pub is : d ≡ suc left
@@ -594,7 +594,7 @@ next_pair d k _ _ pairs rest indefinite are unbroken r =
         record { left = e; is = is; x = y.0; read = y.1 }
     go (as_key x read) = absurd cc
 
--- the value behind a key is read too
+-- the value after a key is read too
 next_value : (d : ℕ) (key_bytes rest : List ℕ) (x : Pair × List ℕ) → IsItem key_bytes → pair_at (item_at d) (key_bytes ++ rest) ≡ Ok x
     → (y : Value × List ℕ) × (item_at d rest ≡ Ok y)
 unfolding pair_at

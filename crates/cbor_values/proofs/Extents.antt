@@ -166,7 +166,7 @@ pair_parts _ _ (items.one_pair n key bytes others is_key is more) =
     let here : IsPair (key ++ bytes) = record { key = key; value = bytes; is = refl; is_key = is_key; is_value = is } in
     subst (λ (b : List ℕ). Parts IsPair (suc n) b) (append_assoc key bytes others) (one_part n (key ++ bytes) others here (pair_parts n others more))
 
--- what is behind the head of an item, up to where the item ends
+-- what is after the head of an item, up to where the item ends
 abbrev pub Holds : (P : ℕ → List ℕ → Type 0) → Option ℕ → List ℕ → List ℕ → Type 0
 Holds P (Some n) inner rest = (bytes : List ℕ) × (P n bytes) × (inner ≡ bytes ++ rest)
 Holds P None inner rest = (n : ℕ) × (bytes : List ℕ) × (P n bytes) × (inner ≡ bytes ++ 255 ∷ rest)

@@ -15,7 +15,7 @@ pub record Reader {X : Type 0} (R : List ℕ → X → Type 0) (one : List ℕ �
   pub again : (bytes : List ℕ) (x : X) → R bytes x → (rest : List ℕ) → one (bytes ++ rest) ≡ got x rest
   pub takes : (bytes : List ℕ) (x : X) (rest : List ℕ) → IsBytes bytes → one bytes ≡ got x rest → Taken R bytes x rest
 
--- what is behind a thing is shorter
+-- what is after a thing is shorter
 pub shorter : {X : Type 0} (R : List ℕ → X → Type 0) (one : List ℕ → Reading X) → Reader R one
     → (bytes : List ℕ) (x : X) (rest : List ℕ) → IsBytes bytes → one bytes ≡ got x rest
     → (length rest < length bytes) × IsBytes rest

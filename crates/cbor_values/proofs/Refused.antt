@@ -141,7 +141,7 @@ abbrev pub ItemRefused : ℕ → ℕ → Type 0
 ItemRefused d inside = (place : Place) (bytes : List ℕ) (e : CborRefusal) → IsBytes bytes → Closed (may_break place) bytes
     → item_at d bytes ≡ Err e → Within e place inside bytes
 
--- what stopped a reading of pairs: a key, or a value behind its key
+-- what stopped a reading of pairs: a key, or a value after its key
 pair_refused : (d inside : ℕ) → ItemRefused d (suc inside) → (place : Place) (k : ℕ) (may : Bool) (head pairs rest : List ℕ) (e : CborRefusal)
     → GoesOn 5 k may head → ArePairs k pairs → IsBytes rest → Closed may rest → pair_at (item_at d) rest ≡ Err e
     → Within e place inside (head ++ (pairs ++ rest))

@@ -19,7 +19,7 @@ use Rattle.cbor_values.proofs.Bytes.{IsBytes, IsBytes-drop, IsBytes-take, IsByte
 use Rattle.cbor_values.proofs.Rows.{Row, no_more, one_more}
 use Rattle.cbor_values.proofs.Again.{IsChunk, Shallow, ShallowPair}
 
--- the front of the bytes that was taken, in its relation to what it gave, and the bytes behind it
+-- the front of the bytes that was taken, in its relation to what it gave, and the bytes after it
 pub record Taken {X : Type 0} (R : List ℕ → X → Type 0) (bytes : List ℕ) (x : X) (rest : List ℕ) : Type 0 where
   pub front : List ℕ
   pub is : R front x
@@ -320,7 +320,7 @@ row_chunks major P _ _ (one_more bytes others part parts chunk row) =
     subst (λ (t : List ℕ). Chunks major P t (part ++ joined parts)) same
     (one_chunk chunk.head part others (joined parts) chunk.is_head chunk.kind (row_chunks major P others parts row))
 
--- a string of that kind behind its head
+-- a string of that kind after its head
 behind_head : (major n : ℕ) (P : List ℕ → Type 0) (front bytes inner part rest : List ℕ) → bytes ≡ front ++ inner
     → inner ≡ part ++ rest → length part ≡ n → P part → IsHead major n front → IsBytes rest
     → Taken (IsChunk major P) bytes part rest
@@ -397,7 +397,7 @@ text_chunk_takes bytes part rest fits e =
     let t = head_takes bytes b.0.0 b.0.1 fits b.1 in
     letters_of t.front b.0.0 bytes b.0.1 part rest t.parts t.fits t.is b.2
 
--- a string in chunks behind its first byte
+-- a string in chunks after its first byte
 chunks_behind : (major : ℕ) (P : List ℕ → Type 0) (front bytes inner : List ℕ) (parts : List (List ℕ)) (rest : List ℕ)
     → bytes ≡ front ++ inner → front ≡ (32 * major + 31) ∷ [] → TakenRow (IsChunk major P) inner parts (255 ∷ rest)
     → Taken (IsString major P) bytes (joined parts) rest

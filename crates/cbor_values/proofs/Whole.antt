@@ -1,4 +1,4 @@
--- All of the bytes: what is answered, and what it says.
+-- All of the bytes: what is returned, and what it says.
 use Rattle.std.proofs.Common.{◌≡◌, ℕ, ◌≤◌, List, [], ◌∷◌, Option, Some, None, Result, Ok, Err, refl, sym, ap, subst, ◌∙◌}
 use Rattle.std.specs.Prelude.{IfOk, IfErr}
 use Rattle.std.proofs.lemmas.List.{append-nil}

@@ -107,11 +107,11 @@ written_is = holds IsWritten (record {
 abbrev IsShort : Value → Type 0
 IsShort value = length (cbor_of value) ≤ weight_of_value value + 9
 
-members_short : (members : List Value) → AllByRecursion IsShort members → lengths cbor_of members ≤ total weight_of_value members
+members_short : (members : List Value) → AllByRecursion IsShort members → lengths cbor_of members ≤ total 32 weight_of_value members
 members_short [] each = omega arith
 members_short (member ∷ members) each = let rest = members_short members each.1 in omega (arith, each.0, rest)
 
-pairs_short : (pairs : List Pair) → AllByRecursion (λ pair. IsShort pair.value) pairs → lengths cbor_of_pair pairs ≤ total weight_of_pair pairs
+pairs_short : (pairs : List Pair) → AllByRecursion (λ pair. IsShort pair.value) pairs → lengths cbor_of_pair pairs ≤ total 32 weight_of_pair pairs
 pairs_short [] each = omega arith
 pairs_short (pair ∷ pairs) each =
     let rest = pairs_short pairs each.1 in

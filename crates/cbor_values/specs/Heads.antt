@@ -7,7 +7,7 @@ abbrev pub argument_len : ℕ → ℕ
 argument_len info = 2 ^ (info - 24)
 
 -- A head of this major type with the argument n: the additional information itself where that is below 24, else the
--- number in the bytes behind, the highest first.
+-- number in the bytes after it, the highest first.
 pub data IsHead (major n : ℕ) : List ℕ → Type 0 where
   short : n < 24 → IsHead major n ((32 * major + n) ∷ [])
   long : (info : ℕ) → 24 ≤ info → info < 28 → n < 256 ^ argument_len info

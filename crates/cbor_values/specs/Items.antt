@@ -22,13 +22,13 @@ mutual
     item_map : (n : ℕ) (head bytes : List ℕ) → IsHead 5 n head → ArePairs n bytes → IsItem (head ++ bytes)
     item_open_map : (n : ℕ) (bytes : List ℕ) → ArePairs n bytes → IsItem (191 ∷ (bytes ++ 255 ∷ []))
 
-  -- the bytes are so many items
+  -- the bytes are n items
   pub data AreItems : ℕ → List ℕ → Type 0 where
     no_item : AreItems zero []
     one_item : (n : ℕ) (bytes others : List ℕ) → IsItem bytes → AreItems n others
         → AreItems (suc n) (bytes ++ others)
 
-  -- the bytes are so many pairs of items
+  -- the bytes are n pairs of items
   pub data ArePairs : ℕ → List ℕ → Type 0 where
     no_pair : ArePairs zero []
     one_pair : (n : ℕ) (key bytes others : List ℕ) → IsItem key → IsItem bytes → ArePairs n others

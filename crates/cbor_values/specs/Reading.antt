@@ -2,6 +2,7 @@
 use Rattle.std.specs.Prelude.{◌≡◌, ℕ, zero, suc, ◌/◌, ◌%◌, ◌^◌, ◌==◌, true, false, nat_lt, if◌then◌else◌, List, [], ◌∷◌, ◌++◌, length, take, drop, Option, Some, None, Result, Ok, Err, ℤ, pos, negsuc}
 use Rattle.std.specs.Str.{is_utf8}
 use Rattle.byteorder.specs.Endian.{big_number}
+use Rattle.otlp_model.specs.Limits.{depth_limit}
 use Rattle.otlp_model.specs.declared.value.Value.{Value}
 use Rattle.otlp_model.specs.declared.value.Value as values
 use Rattle.otlp_model.specs.declared.value.Pair.{Pair}
@@ -17,7 +18,7 @@ abbrev pub ◌>>=◌ : {A B : Type 0} → Result A CborRefusal → (A → Result
 (Ok x) >>= f = f x
 (Err e) >>= f = Err e
 
--- a value and the bytes behind it, or the first refusal
+-- a value and the bytes after it, or the first refusal
 abbrev pub Reading : Type 0 → Type 0
 Reading A = Result (A × List ℕ) CborRefusal
 
@@ -26,7 +27,7 @@ abbrev pub Fails : {Y : Type 0} → CborRefusal → Result Y CborRefusal → Typ
 Fails (Memory error) reading = Unit {0}
 Fails refusal reading = reading ≡ Err refusal
 
--- an answer of the code, seen by view, is what reading gives, unless memory ran out
+-- a result of the code, seen by view, is what reading gives, unless memory ran out
 abbrev pub Reads : {X Y : Type 0} → (X → Y) → Result X CborRefusal → Result Y CborRefusal → Type 0
 Reads view (Ok x) reading = reading ≡ Ok (view x)
 Reads view (Err refusal) reading = Fails refusal reading
@@ -72,7 +73,7 @@ head_at (first ∷ rest) =
     else (argument_at (first % 32) rest >>= λ argument.
     kind_of (first / 32) argument.0 >>= λ head. Ok (head, argument.1))
 
--- the bytes behind a break
+-- the bytes after a break
 abbrev pub break_at : List ℕ → Option (List ℕ)
 break_at [] = None
 break_at (first ∷ rest) = if first == 255 then Some rest else None
@@ -81,7 +82,7 @@ abbrev pub unless_broken : {X : Type 0} → Option (List ℕ) → Reading (List 
 unless_broken (Some rest) reading = Ok ([], rest)
 unless_broken None reading = reading
 
--- so many
+-- exactly n of them
 unfoldable pub many_at : {X : Type 0} → (List ℕ → Reading X) → ℕ → List ℕ → Reading (List X)
 many_at one zero bytes = Ok ([], bytes)
 many_at one (suc n) bytes = one bytes >>= λ first. many_at one n first.1 >>= λ others. Ok (first.0 ∷ others.0, others.1)
@@ -145,7 +146,7 @@ whole_of n = if nat_lt n (2 ^ 63) then Ok n else Err OutOfRange
 abbrev pub int_of : ℕ → Result ℤ CborRefusal
 int_of n = whole_of n >>= λ n. Ok (pos n)
 
--- the value of an item behind its head, one reading an item within it
+-- the value of an item after its head, one reading an item within it
 unfoldable pub body_at : (List ℕ → Reading Value) → Head → List ℕ → Reading Value
 body_at one heads.Null bytes = Ok (values.Empty, bytes)
 body_at one (heads.Bool flag) bytes = Ok (values.Bool flag, bytes)
@@ -170,4 +171,4 @@ whole_item (value, first ∷ rest) = Err Trailing
 
 -- all of the bytes
 unfoldable pub all_at : List ℕ → Result Value CborRefusal
-all_at bytes = item_at 32 bytes >>= whole_item
+all_at bytes = item_at depth_limit bytes >>= whole_item

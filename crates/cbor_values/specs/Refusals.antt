@@ -1,6 +1,7 @@
 -- When a refusal stands in bytes.
 use Rattle.std.specs.Prelude.{◌≡◌, ◌≢◌, ℕ, suc, ◌+◌, ◌*◌, ◌/◌, ◌%◌, ◌^◌, ◌<◌, ◌≤◌, ◌==◌, ◌||◌, ◌⊎◌, Bool, true, false, nat_lt, if◌then◌else◌, List, [], ◌∷◌, ◌++◌, length}
 use Rattle.std.specs.Str.{IsUtf8}
+use Rattle.otlp_model.specs.Limits.{depth_limit}
 use Rattle.cbor_values.specs.declared.refusal.CborRefusal.{CborRefusal}
 use Rattle.cbor_values.specs.declared.refusal.CborRefusal.TheVariants.{Cut, BadHead, BadKey, BadUtf8, OutOfRange, TooDeep, Trailing, Memory}
 use Rattle.cbor_values.specs.Heads.{IsHead, argument_len}
@@ -74,12 +75,12 @@ pub record IsOutOfRange (bytes : List ℕ) : Type 0 where
   pub is_head : IsHead major n head
   pub large : 2 ^ 63 ≤ n
 
--- an item begins inside 32 arrays and maps
+-- an item begins inside as many arrays and maps as a value may be deep
 abbrev pub IsTooDeep : ℕ → List ℕ → Type 0
 IsTooDeep inside [] = ⊥
-IsTooDeep inside (first ∷ rest) = (first ≢ 255) × (32 ≤ inside)
+IsTooDeep inside (first ∷ rest) = (first ≢ 255) × (depth_limit ≤ inside)
 
--- what is wrong at the front of the bytes, where that is due, inside so many arrays and maps
+-- what is wrong at the front of the bytes, where that is due, inside that number of arrays and maps
 abbrev pub Faults : CborRefusal → Place → ℕ → List ℕ → Type 0
 Faults Cut place inside bytes = IsCutHead bytes ⊎ IsCutString 2 bytes ⊎ IsCutString 3 bytes
 Faults BadHead place inside bytes = IsBadHead (may_break place) bytes
@@ -102,13 +103,13 @@ ChunkFaults BadHead major bytes = IsOtherChunk major bytes
 ChunkFaults BadUtf8 major bytes = (major ≡ 3) × IsBadText bytes
 ChunkFaults _ major bytes = ⊥
 
--- The head of an array or a map that goes on behind k members or pairs, and whether a break may stand there.
+-- The head of an array or a map that goes on after k members or pairs, and whether a break may stand there.
 pub data GoesOn (major k : ℕ) : Bool → List ℕ → Type 0 where
   definite : (n : ℕ) (head : List ℕ) → IsHead major n head → k < n → GoesOn major k false head
   indefinite : GoesOn major k true ((32 * major + 31) ∷ [])
 
--- The refusal stands at the front of the bytes, where that is due, inside so many arrays and maps: in the front itself,
--- or within the string, array or map that begins there, behind chunks, items and pairs.
+-- The refusal stands at the front of the bytes, where that is due, inside that number of arrays and maps: in the front itself,
+-- or within the string, array or map that begins there, after chunks, items and pairs.
 pub data Within (refusal : CborRefusal) : Place → ℕ → List ℕ → Type 0 where
   at_front : (place : Place) (inside : ℕ) (bytes : List ℕ) → Faults refusal place inside bytes
       → Within refusal place inside bytes
@@ -126,7 +127,7 @@ pub data Within (refusal : CborRefusal) : Place → ℕ → List ℕ → Type 0 
       → ArePairs k pairs → IsItem key_bytes → Within refusal value (suc inside) rest
       → Within refusal place inside (head ++ (pairs ++ (key_bytes ++ rest)))
 
--- bytes behind an item
+-- bytes after an item
 pub record IsTrailing (bytes : List ℕ) : Type 0 where
   pub item_bytes : List ℕ
   pub first : ℕ
@@ -140,7 +141,7 @@ Stands Trailing bytes = IsTrailing bytes
 Stands (Memory error) bytes = ⊥
 Stands refusal bytes = Within refusal (item false) 0 bytes
 
--- what a reader may answer: a refusal that stands, or that memory ran out
+-- what a reader may return: a refusal that stands, or that memory ran out
 abbrev pub Refuses : List ℕ → CborRefusal → Type 0
 Refuses bytes (Memory error) = Unit {0}
 Refuses bytes refusal = Stands refusal bytes

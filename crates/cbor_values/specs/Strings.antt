@@ -12,7 +12,7 @@ pub data Chunks (major : ℕ) (P : List ℕ → Type 0) : List ℕ → List ℕ 
   one_chunk : (head part bytes joined : List ℕ) → IsHead major (length part) head → P part
       → Chunks major P bytes joined → Chunks major P (head ++ (part ++ bytes)) (part ++ joined)
 
--- the bytes are a string of that major type and kind: behind a head with its length, or in chunks up to a break
+-- the bytes are a string of that major type and kind: after a head with its length, or in chunks up to a break
 pub data IsString (major : ℕ) (P : List ℕ → Type 0) : List ℕ → List ℕ → Type 0 where
   whole : (head s : List ℕ) → IsHead major (length s) head → P s → IsString major P (head ++ s) s
   chunked : (bytes s : List ℕ) → Chunks major P bytes s

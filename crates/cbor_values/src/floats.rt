@@ -68,7 +68,7 @@ fn widened(format: Format, sign: u64, exponent: u64, fraction: u64) -> u64
     }
 }
 
-/// A fraction of so many bits as one of 52 bits.
+/// A fraction of `bits` bits as one of 52 bits.
 #[tactic(auto, using(crate::proofs::Fractions::aligned_below, crate::proofs::Fractions::aligned_is))]
 fn aligned(fraction: u64, bits: u32) -> u64
     requires bits { bits ≤ 52 }

@@ -52,7 +52,7 @@ pub(crate) enum Head {
     Double(u64),
 }
 
-/// The head at the front of the bytes, and the bytes behind it.
+/// The head at the front of the bytes, and the bytes after it.
 #[tactic(auto, unfolding(crate::specs::Reading::head_at))]
 pub(crate) fn read_head(bytes: &[u8]) -> Result<(Head, &[u8]), CborRefusal>
     ensures { Reads (λ x. (x.0, x.1.now)) result (head_at bytes.now) }
@@ -99,7 +99,7 @@ fn kind(major: u8, argument: Option<u64>) -> Result<Head, CborRefusal>
     }
 }
 
-/// The argument that the additional information stands for, and the bytes behind it; `None` for an indefinite length.
+/// The argument that the additional information stands for, and the bytes after it; `None` for an indefinite length.
 #[tactic(auto, using(crate::proofs::Fractions::width_small), unfolding(crate::specs::Reading::argument_at))]
 fn argument(info: u8, bytes: &[u8]) -> Result<(Option<u64>, &[u8]), CborRefusal>
     ensures { Reads (λ x. (x.0, x.1.now)) result (argument_at info bytes.now) }
@@ -116,7 +116,7 @@ fn argument(info: u8, bytes: &[u8]) -> Result<(Option<u64>, &[u8]), CborRefusal>
     }
 }
 
-/// The first so many bytes, and the bytes behind them.
+/// The first `len` bytes, and the bytes after them.
 pub(crate) fn part(len: u64, bytes: &[u8]) -> Result<(&[u8], &[u8]), CborRefusal>
     ensures { Reads (λ x. (x.0.now, x.1.now)) result (part_at len bytes.now) }
 {
@@ -126,8 +126,8 @@ pub(crate) fn part(len: u64, bytes: &[u8]) -> Result<(&[u8], &[u8]), CborRefusal
     Ok(bytes.split_at(len as usize))
 }
 
-/// The bytes behind a break, where the bytes begin with one.
-pub(crate) fn behind_break(bytes: &[u8]) -> Option<&[u8]>
+/// The bytes after a break, where the bytes begin with one.
+pub(crate) fn after_break(bytes: &[u8]) -> Option<&[u8]>
     ensures { option_map (λ rest. rest.now) result ≡ break_at bytes.now }
 {
     match bytes.split_first() {

@@ -3,6 +3,7 @@
 ghost use Rattle.std.specs.Prelude.{◌≡◌, ℕ, ◌+◌, ◌*◌, ◌/◌, ◌%◌, ◌^◌, ◌<◌, ◌≤◌, ◌↔◌, List, length, Some, None, All, IsTrue};
 ghost use Rattle.otlp_model.specs.declared.value.Value.{Value};
 ghost use Rattle.otlp_model.specs.Depth.{depth_of};
+ghost use Rattle.otlp_model.specs.Limits.{depth_limit};
 ghost use Rattle.otlp_model.specs.Real.{is_real_value};
 ghost use Rattle.otlp_model.specs.Weight.{weight_of_value};
 ghost use Rattle.cbor_values.specs.declared.refusal.CborRefusal.{CborRefusal};
@@ -19,7 +20,7 @@ pub fn one_value()
 
 /// Bytes have a value exactly where they stand for one that is at most 32 deep, and else exactly where a refusal stands.
 pub fn value_or_refusal()
-    ensures value { (bytes : List ℕ) (v : Value) → All (λ byte. byte < 256) bytes → value_of bytes ≡ Some v ↔ (Cbor bytes v × (depth_of v ≤ 32)) }
+    ensures value { (bytes : List ℕ) (v : Value) → All (λ byte. byte < 256) bytes → value_of bytes ≡ Some v ↔ (Cbor bytes v × (depth_of v ≤ depth_limit)) }
     ensures refusal { (bytes : List ℕ) → All (λ byte. byte < 256) bytes → value_of bytes ≡ None ↔ ((refusal : CborRefusal) × Stands refusal bytes) }
 {}
 
@@ -35,6 +36,6 @@ pub fn same_number()
 /// What is written for a value stands for it, is read as it, and is at most 9 bytes longer than the value weighs.
 pub fn written_form()
     ensures stands { (v : Value) → IsTrue (is_real_value v) → Cbor (cbor_of v) v }
-    ensures again { (v : Value) → IsTrue (is_real_value v) → depth_of v ≤ 32 → value_of (cbor_of v) ≡ Some v }
+    ensures again { (v : Value) → IsTrue (is_real_value v) → depth_of v ≤ depth_limit → value_of (cbor_of v) ≡ Some v }
     ensures short { (v : Value) → length (cbor_of v) ≤ weight_of_value v + 9 }
 {}

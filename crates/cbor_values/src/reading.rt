@@ -3,12 +3,13 @@
 ghost use Rattle.std.specs.Prelude.{◌≡◌, ◌≤◌, Some, IfOk, IfErr};
 ghost use Rattle.otlp_model.specs.declared.value.Value.{Value};
 ghost use Rattle.otlp_model.specs.Depth.{depth_of};
+ghost use Rattle.otlp_model.specs.Limits.{depth_limit};
 ghost use Rattle.cbor_values.specs.Cbor.{Cbor};
 ghost use Rattle.cbor_values.specs.Refusals.{Refuses};
 ghost use Rattle.cbor_values.specs.Values.{Gives, value_of};
 ghost use Rattle.cbor_values.specs.Reading.{Reads, int_of, many_at, open_at, pair_at, body_at, item_at, all_at};
 
-use crate::heads::{Head, behind_break, read_head};
+use crate::heads::{Head, after_break, read_head};
 use crate::refusal::CborRefusal;
 use crate::strings::{key, octets, text};
 use otlp_model::{Items, MAX_DEPTH, Pair, Value};
@@ -23,9 +24,9 @@ use std::alloc::Global;
 /// It goes over the bytes once. It takes memory for members only once they are read, whatever number a head claims.
 pub fn read_value(alloc: Global, bytes: &[u8]) -> Result<Value, CborRefusal>
     // What is read is what the bytes stand for.
-    ensures found { IfOk result (λ v. Cbor bytes.now v × (depth_of v ≤ 32)) }
+    ensures found { IfOk result (λ v. Cbor bytes.now v × (depth_of v ≤ depth_limit)) }
     // A value that is at most 32 deep is read, unless memory runs out.
-    ensures only { (v : Value) → Cbor bytes.now v → depth_of v ≤ 32 → Gives result (Some v) }
+    ensures only { (v : Value) → Cbor bytes.now v → depth_of v ≤ depth_limit → Gives result (Some v) }
     // A refusal comes only where it stands.
     ensures refused { IfErr result (Refuses bytes.now) }
     // The same as an equation, for callers.
@@ -45,7 +46,7 @@ fn all(alloc: Global, bytes: &[u8]) -> Result<Value, CborRefusal>
     Ok(value)
 }
 
-/// The value of the item at the front of the bytes, which may be so deep, and the bytes behind it.
+/// The value of the item at the front of the bytes, which may be `depth` deep, and the bytes after it.
 #[cycle(read)]
 #[tactic(auto, unfolding(crate::specs::Reading::item_at))]
 fn item(alloc: Global, depth: u64, bytes: &[u8]) -> Result<(Value, &[u8]), CborRefusal>
@@ -58,7 +59,7 @@ fn item(alloc: Global, depth: u64, bytes: &[u8]) -> Result<(Value, &[u8]), CborR
     body(alloc, depth - 1, head, rest)
 }
 
-/// The value of an item behind its head. Its members may be so deep.
+/// The value of an item after its head. Its members may be `depth` deep.
 #[cycle(read)]
 #[tactic(auto, unfolding(crate::specs::Reading::body_at))]
 fn body(alloc: Global, depth: u64, head: Head, bytes: &[u8]) -> Result<(Value, &[u8]), CborRefusal>
@@ -104,7 +105,7 @@ fn whole(n: u64) -> Result<i64, CborRefusal>
     i64::try_from(n).map_err(|_| CborRefusal::OutOfRange)
 }
 
-/// So many members of an array.
+/// `count` members of an array.
 #[cycle(read)]
 fn members(
     alloc: Global,
@@ -136,7 +137,7 @@ fn open_members(
     let mut members = Items::new(alloc);
     let mut rest = bytes;
     'members: loop {
-        if let Some(after) = behind_break(rest) {
+        if let Some(after) = after_break(rest) {
             return Ok((members, after));
         }
         let (member, after) = item(alloc, depth, rest)?;
@@ -145,7 +146,7 @@ fn open_members(
     }
 }
 
-/// So many pairs of a map.
+/// `count` pairs of a map.
 #[cycle(read)]
 fn pairs(
     alloc: Global,
@@ -173,7 +174,7 @@ fn open_pairs(alloc: Global, depth: u64, bytes: &[u8]) -> Result<(Items<Pair>, &
     let mut pairs = Items::new(alloc);
     let mut rest = bytes;
     'pairs: loop {
-        if let Some(after) = behind_break(rest) {
+        if let Some(after) = after_break(rest) {
             return Ok((pairs, after));
         }
         let (next, after) = pair(alloc, depth, rest)?;

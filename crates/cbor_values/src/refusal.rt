@@ -5,7 +5,7 @@ ghost use Rattle.std.specs.Prelude.{◌≡◌};
 use std::alloc::AllocError;
 use thiserror::Error;
 
-/// What is wrong with the bytes, or that memory ran out. Where several things are wrong, any of them may be answered.
+/// What is wrong with the bytes, or that memory ran out. Where several things are wrong, any of them may be returned.
 #[derive(Debug, Drop, Error)]
 pub enum CborRefusal {
     /// A head, a string or an item that is needed runs past the bytes.
@@ -28,7 +28,7 @@ pub enum CborRefusal {
     #[error("an item inside 32 arrays and maps")]
     TooDeep,
     /// Bytes follow the item.
-    #[error("bytes behind the item")]
+    #[error("bytes after the item")]
     Trailing,
     #[error(transparent)]
     Memory(AllocError),

@@ -3,12 +3,12 @@
 ghost use Rattle.std.specs.Prelude.{◌≡◌, ◌++◌, OnOk};
 ghost use Rattle.cbor_values.specs.Reading.{Reads, chunks_at, letters_at, octets_chunk_at, text_chunk_at, octets_at, text_at, key_at};
 
-use crate::heads::{Head, behind_break, part, read_head};
+use crate::heads::{Head, after_break, part, read_head};
 use crate::refusal::CborRefusal;
 use otlp_model::{Octets, Text};
 use std::alloc::{AllocError, Global};
 
-/// The byte string behind its head, and the bytes behind it.
+/// The byte string after its head, and the bytes after that.
 #[tactic(auto, unfolding(crate::specs::Reading::octets_at))]
 pub(crate) fn octets(
     alloc: Global,
@@ -32,7 +32,7 @@ fn chunked_octets(alloc: Global, bytes: &[u8]) -> Result<(Octets, &[u8]), CborRe
     let mut octets = Octets::new(alloc);
     let mut rest = bytes;
     'parts: loop {
-        if let Some(after) = behind_break(rest) {
+        if let Some(after) = after_break(rest) {
             return Ok((octets, after));
         }
         let (part, after) = octets_chunk(rest)?;
@@ -61,7 +61,7 @@ fn append_octets(octets: &mut Octets, part: &[u8]) -> Result<(), AllocError>
     Ok(())
 }
 
-/// The key of a pair, and the bytes behind it.
+/// The key of a pair, and the bytes after it.
 #[tactic(auto, unfolding(crate::specs::Reading::key_at))]
 pub(crate) fn key(alloc: Global, bytes: &[u8]) -> Result<(Text, &[u8]), CborRefusal>
     ensures { Reads (λ x. (x.0, x.1.now)) result (key_at bytes.now) }
@@ -73,7 +73,7 @@ pub(crate) fn key(alloc: Global, bytes: &[u8]) -> Result<(Text, &[u8]), CborRefu
     }
 }
 
-/// The text behind its head, and the bytes behind it.
+/// The text after its head, and the bytes after that.
 #[tactic(auto, unfolding(crate::specs::Reading::text_at))]
 pub(crate) fn text(
     alloc: Global,
@@ -97,7 +97,7 @@ fn chunked_text(alloc: Global, bytes: &[u8]) -> Result<(Text, &[u8]), CborRefusa
     let mut text = Text::new(alloc);
     let mut rest = bytes;
     'parts: loop {
-        if let Some(after) = behind_break(rest) {
+        if let Some(after) = after_break(rest) {
             return Ok((text, after));
         }
         let (letters, after) = text_chunk(rest)?;
@@ -126,7 +126,7 @@ fn append_letters(text: &mut Text, letters: &str) -> Result<(), AllocError>
     Ok(())
 }
 
-/// The first so many bytes, which are to be UTF-8, and the bytes behind them.
+/// The first `len` bytes, which are to be UTF-8, and the bytes after them.
 #[tactic(auto, unfolding(crate::specs::Reading::letters_at))]
 fn letters(len: u64, bytes: &[u8]) -> Result<(&str, &[u8]), CborRefusal>
     ensures { Reads (λ x. (x.0.now, x.1.now)) result (letters_at len bytes.now) }

@@ -171,7 +171,7 @@ fn refuses_the_examples(rt: HostRuntime) -> Result<(), Fail> {
     Ok(())
 }
 
-/// Arrays in arrays, so many, the innermost one empty.
+/// An array in `depth` arrays, the innermost one empty.
 fn nested(alloc: Global, depth: usize) -> Result<Vec<u8>, Fail> {
     let mut bytes = vec![in alloc; 0x81; depth]?;
     bytes.push(0x80)?;

@@ -2,6 +2,7 @@
 
 ghost use Rattle.std.specs.Prelude.{◌≡◌, ◌+◌, ◌^◌, ◌<◌, ◌≤◌, [], ◌∷◌, ◌++◌, length, min, vec_len, vec_capacity, OnOk, OnErr};
 ghost use Rattle.byteorder.specs.Endian.{big_bytes};
+ghost use Rattle.otlp_model.specs.Limits.{weight_limit};
 ghost use Rattle.otlp_model.specs.Weight.{weight_of_value};
 ghost use Rattle.otlp_model.specs.declared.value.Value as values;
 ghost use Rattle.cbor_values.specs.Heads.{argument_len};
@@ -18,7 +19,7 @@ use std::alloc::AllocError;
 /// Linear in the value. It recurses once for each level, as dropping the value does.
 #[tactic(auto, using(crate::proofs::WrittenLaws::length_bound))]
 pub fn len_value(value: &Value) -> u64
-    requires { weight_of_value value.now ≤ 2 ^ 26 }
+    requires { weight_of_value value.now ≤ weight_limit }
     ensures { result ≡ length (cbor_of value.now) }
 {
     len(value)
@@ -29,7 +30,7 @@ pub fn len_value(value: &Value) -> u64
 ///
 /// Linear in the value. It recurses once for each level, as dropping the value does.
 pub fn write_value(to: &mut Vec<u8>, value: &Value) -> Result<(), AllocError>
-    requires { weight_of_value value.now ≤ 2 ^ 26 }
+    requires { weight_of_value value.now ≤ weight_limit }
     ensures ok { OnOk result (to.new.items ≡ to.old.items ++ cbor_of value.now) }
     ensures err { OnErr result (to.new.items ≡ to.old.items) }
     ensures full { OnErr result (vec_capacity to.old < vec_len to.old + length (cbor_of value.now)) }
@@ -93,7 +94,7 @@ fn len_pair(pair: &Pair) -> u64
     add_capped(len_string(pair.key.len()), len(&pair.value))
 }
 
-/// The length of a string of so many bytes, with its head.
+/// The length of a string of `len` bytes, with its head.
 fn len_string(len: usize) -> u64
     ensures { result ≡ min (head_len len + len) (2 ^ 63) }
 {
@@ -244,7 +245,7 @@ fn put_head(to: &mut Vec<u8>, major: u8, argument: u64)
     }
 }
 
-/// A head whose argument stands behind the first byte.
+/// A head whose argument stands after the first byte.
 #[tactic(auto, using(crate::proofs::Fractions::width_small, crate::proofs::Fractions::width_is))]
 fn put_long_head(to: &mut Vec<u8>, major: u8, info: u8, argument: u64)
     requires major { major < 6 }
