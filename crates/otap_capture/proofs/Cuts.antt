@@ -1,18 +1,15 @@
 -- A frame that is cut from bytes, and the rest of them.
-use Rattle.std.proofs.Common.{◌≡◌, ℕ, ◌+◌, ◌-◌, ◌≤◌, List, ◌++◌, length, take, drop, Some, refl, sym, ap, ◌∙◌, append_assoc, length-append, length-drop, take-append-drop, arith}
+use Rattle.std.proofs.Common.{◌≡◌, ℕ, ◌+◌, ◌-◌, ◌≤◌, List, ◌++◌, length, take, drop, Some, refl, sym, ap, ◌∙◌, length-append, length-drop, arith}
 use Rattle.std.specs.Prelude.{slice_range}
 use Rattle.std.proofs.lemmas.List.{drop-drop, length-take-le}
-use Rattle.otap_capture.specs.declared.frames.Kind.{Kind}
+use Rattle.otap_capture.specs.declared.found.Kind.{Kind}
 use Rattle.otap_capture.specs.declared.frames.Frames.TheInside.{Inside}
 use Rattle.otap_capture.specs.Cutting.{BeginsFrame, CutsFrame}
-use Rattle.otap_capture.specs.Inside.{reading_of, frame_in}
-
--- the head, the bytes behind it, and the rest
-split : (bytes : List ℕ) (size : ℕ) → bytes ≡ (take 5 bytes ++ take size (drop 5 bytes)) ++ drop (5 + size) bytes
-split bytes size =
-    sym (take-append-drop 5 bytes) ∙ ap (λ l. take 5 bytes ++ l) (sym (take-append-drop size (drop 5 bytes)))
-    ∙ sym (append_assoc (take 5 bytes) (take size (drop 5 bytes)) (drop size (drop 5 bytes)))
-    ∙ ap (λ l. (take 5 bytes ++ take size (drop 5 bytes)) ++ l) (drop-drop size 5 bytes)
+use Rattle.otap_capture.specs.Inside.{reading_of, frame_in, IsSound}
+use Rattle.otap_capture.specs.Deciding.{read_ahead}
+use Rattle.otap_capture.specs.Reading.{KeepsFew}
+use Rattle.otap_capture.proofs.Decided.{few_lean, frame_bound, lean_length, lean_rest}
+use Rattle.otap_capture.proofs.Framing.{split}
 
 long : (bytes : List ℕ) (size : ℕ) → 5 + size ≤ length bytes → length (take 5 bytes ++ take size (drop 5 bytes)) ≡ 5 + size
 long bytes size room =
@@ -21,8 +18,8 @@ long bytes size room =
     let part : length (take size (drop 5 bytes)) ≡ size = length-take-le size (drop 5 bytes) (omega arith) in
     omega (arith, length-append (take 5 bytes) (take size (drop 5 bytes)))
 
-pub cuts_frame : (s : Inside) (k : Kind) (size : ℕ) → BeginsFrame s.place (drop s.place s.bytes.items) k size
-    → CutsFrame (reading_of s) (reading_of (record s { place = s.place + 5 + size; begin = s.place + 5; last = Some k }))
+pub cuts_frame : (s : Inside) (k : Kind) (size : ℕ) → BeginsFrame s.handed (drop s.place s.bytes.items) k size
+    → CutsFrame (reading_of s) (reading_of (record s { handed = s.handed + (5 + size); place = s.place + 5 + size; begin = s.place + 5; last = Some k }))
 cuts_frame s k size b =
     let bytes = drop s.place s.bytes.items in
     record {
@@ -31,7 +28,7 @@ cuts_frame s k size b =
       is_frame = b.is_frame;
       begins = b.begins;
       kept = split bytes size ∙ ap (λ l. (take 5 bytes ++ take size (drop 5 bytes)) ++ l) (drop-drop (5 + size) s.place s.bytes.items ∙ ap (λ n. drop n s.bytes.items) behind);
-      handed = sym behind ∙ ap (λ n. s.place + n) (sym (long bytes size b.room));
+      handed = ap (λ n. s.handed + n) (sym (long bytes size b.room));
       shown = ap (λ l. Some (frame_in k l)) part;
       ended = refl;
       complete = refl;
@@ -42,3 +39,37 @@ cuts_frame s k size b =
 
     part : slice_range s.bytes.items (s.place + 5) (s.place + 5 + size) ≡ take size (drop 5 (drop s.place s.bytes.items))
     part = let width : s.place + 5 + size - (s.place + 5) ≡ size = omega arith in rw (width, drop-drop 5 s.place s.bytes.items) refl
+
+-- few bytes are left
+pub rest_cut : (s : Inside) (k : Kind) (size : ℕ) → IsSound s → BeginsFrame s.handed (drop s.place s.bytes.items) k size
+    → length (drop (s.place + 5 + size) s.bytes.items) ≤ read_ahead
+rest_cut s k size sound b =
+    let cut = cuts_frame s k size b in
+    lean_rest (drop s.place s.bytes.items) cut.front (drop (s.place + 5 + size) s.bytes.items) cut.frame sound.lean cut.kept cut.is_frame
+
+-- what was kept is still few bytes, and all else is in order
+pub sound_cut : (s : Inside) (k : Kind) (size : ℕ) → IsSound s → BeginsFrame s.handed (drop s.place s.bytes.items) k size
+    → IsSound (record s { handed = s.handed + (5 + size); place = s.place + 5 + size; begin = s.place + 5; last = Some k })
+sound_cut s k size sound b = record {
+  ordered = omega arith;
+  within = let room = b.room in let within = sound.within in omega (arith, room, within, length-drop s.place s.bytes.items);
+  lean = few_lean _ (rest_cut s k size sound b);
+  few = sound.few;
+  below = let bound = frame_bound _ _ b.is_frame in let e = long (drop s.place s.bytes.items) size b.room in let begins = b.begins in omega (arith, bound, e, begins);
+}
+
+-- few bytes are kept, and little is held
+pub sound_few : (s : Inside) → IsSound s → KeepsFew (reading_of s) (reading_of s)
+sound_few s sound = record {
+  taken = let less = lean_length _ sound.lean in omega (arith, less);
+  lean = sound.lean;
+  memory = sound.few;
+}
+
+pub few_cut : (s : Inside) (k : Kind) (size : ℕ) → IsSound s → BeginsFrame s.handed (drop s.place s.bytes.items) k size
+    → KeepsFew (reading_of s) (reading_of (record s { handed = s.handed + (5 + size); place = s.place + 5 + size; begin = s.place + 5; last = Some k }))
+few_cut s k size sound b = record {
+  taken = let few = rest_cut s k size sound b in let fits = frame_bound _ _ b.is_frame in let e = long (drop s.place s.bytes.items) size b.room in omega (arith, few, fits, e);
+  lean = (sound_cut s k size sound b).lean;
+  memory = sound.few;
+}

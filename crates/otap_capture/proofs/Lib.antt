@@ -1,5 +1,6 @@
+pub mod BatchDefects
 pub mod Cuts
-pub mod Deciding
+pub mod Decided
 pub mod Framing
 pub mod Known
 pub mod OneCapture

@@ -4,9 +4,8 @@ use Rattle.std.specs.declared.option.Option.{Option}
 use Rattle.std.proofs.lemmas.Bool.{le-ltb, lt-leb}
 use Rattle.std.proofs.Math.Seq.{take-append_seam, drop-append_seam}
 use Rattle.byteorder.specs.Endian.{big_number}
-use Rattle.otap_capture.specs.declared.frame.TheConstants.{MAX_FRAME, MAX_CAPTURE}
 use Rattle.otap_capture.specs.declared.frame.Damage.{Damage}
-use Rattle.otap_capture.specs.Capture.{Frame, Message, Packed, Reset, Carries, IsFrame, AreFrames, EndsAt, IsCapture, head_reason, front_reason}
+use Rattle.otap_capture.specs.Capture.{Frame, Message, Packed, Reset, Carries, IsFrame, AreFrames, EndsAt, IsCapture, head_reason, front_reason, longest_frame, capture_limit}
 
 -- two fronts of one length of one list
 same_front : (s s' t t' : List ℕ) → length s ≡ length s' → s ++ t ≡ s' ++ t' → (s ≡ s') × (t ≡ t')
@@ -15,7 +14,7 @@ same_front s s' t t' long whole = (
   sym (drop-append_seam s t) ∙ ap (drop (length s)) whole ∙ ap (λ n. drop n (s' ++ t')) long ∙ drop-append_seam s' t',
 )
 
--- a flag and the bytes behind a head stand for one frame
+-- a flag and the bytes after a head stand for one frame
 one_carried : (flag : ℕ) (part : List ℕ) (f g : Frame) → Carries flag part f → Carries flag part g → f ≡ g
 one_carried flag part (Message xs) (Message ys) p q = ap Message (sym p.1 ∙ q.1)
 one_carried flag part (Message xs) Packed p q = absurd (omega arith)
@@ -35,7 +34,7 @@ record Parts (bytes : List ℕ) (frame : Frame) : Type 0 where
   whole : bytes ≡ flag ∷ (size ++ part)
   four : length size ≡ 4
   long : length part ≡ big_number 4 size
-  fits : length part ≤ MAX_FRAME
+  fits : length part ≤ longest_frame
   carries : Carries flag part frame
 
 parts_of : (bytes : List ℕ) (frame : Frame) → IsFrame bytes frame → Parts bytes frame
@@ -69,14 +68,14 @@ one_frame front front' rest rest' f g whole p q =
     (front_is, parts.1, one_carried a.flag a.part f g a.carries (subst (λ l. Carries a.flag l g) (sym parts.0) (subst (λ n. Carries n b.part g) (sym flag) b.carries)))
 
 -- where a frame stands no reason stands
-head_fine : (flag size left : ℕ) (part : List ℕ) (f : Frame) → Carries flag part f → length part ≡ size → size ≤ MAX_FRAME → size ≤ left → head_reason flag size left ≡ None
-head_fine flag size left part (Message xs) p long fits room = rw (p.0, le-ltb MAX_FRAME size fits, le-ltb left size room) refl
-head_fine flag size left part Packed p long fits room = rw (p, le-ltb MAX_FRAME size fits, le-ltb left size room) refl
+head_fine : (flag size left : ℕ) (part : List ℕ) (f : Frame) → Carries flag part f → length part ≡ size → size ≤ longest_frame → size ≤ left → head_reason flag size left ≡ None
+head_fine flag size left part (Message xs) p long fits room = rw (p.0, le-ltb longest_frame size fits, le-ltb left size room) refl
+head_fine flag size left part Packed p long fits room = rw (p, le-ltb longest_frame size fits, le-ltb left size room) refl
 head_fine flag size left part Reset p long fits room =
     let none : size ≡ 0 = sym long ∙ ap length p.1 in
     rw (p.0, none, le-ltb left 0 (omega arith)) refl
 
-front_fine : (front rest : List ℕ) (f : Frame) → IsFrame front f → front_reason (front ++ rest) ≡ None
+pub front_fine : (front rest : List ℕ) (f : Frame) → IsFrame front f → front_reason (front ++ rest) ≡ None
 front_fine [] rest f p = absurd p
 front_fine (flag ∷ []) rest f p = absurd p
 front_fine (flag ∷ a ∷ []) rest f p = absurd p
@@ -84,7 +83,7 @@ front_fine (flag ∷ a ∷ b ∷ []) rest f p = absurd p
 front_fine (flag ∷ a ∷ b ∷ c ∷ []) rest f p = absurd p
 front_fine (flag ∷ a ∷ b ∷ c ∷ d ∷ part) rest f p =
     let size = big_number 4 (a ∷ b ∷ c ∷ d ∷ []) in
-    let fits : size ≤ MAX_FRAME = rw (← p.0) p.1 in
+    let fits : size ≤ longest_frame = rw (← p.0) p.1 in
     let room : size ≤ length (part ++ rest) = omega (arith, length-append part rest, p.0) in
     head_fine flag size (length (part ++ rest)) part f p.2 p.0 fits room
 
@@ -93,10 +92,10 @@ some_bytes : (front : List ℕ) (f : Frame) → IsFrame front f → 0 < length f
 some_bytes front f p = let a = parts_of front f p in let e = ap length a.whole in omega (arith, e)
 
 -- a capture doesn't end where a frame stands
-no_end : (place : ℕ) (front rest : List ℕ) (f : Frame) (end : Option Damage) → place < MAX_CAPTURE → IsFrame front f → EndsAt place (front ++ rest) end → ⊥
+no_end : (place : ℕ) (front rest : List ℕ) (f : Frame) (end : Option Damage) → place < capture_limit → IsFrame front f → EndsAt place (front ++ rest) end → ⊥
 no_end place front rest f None below p ends = let none = ap length ends.0 in let some = some_bytes front f p in omega (arith, length-append front rest, none, some)
 no_end place front rest f (Some damage) below p ends =
-    let reason : None ≡ Some damage.why = sym (front_fine front rest f p) ∙ (rw (lt-leb MAX_CAPTURE place below) at ends.1) in cc
+    let reason : None ≡ Some damage.why = sym (front_fine front rest f p) ∙ (rw (lt-leb capture_limit place below) at ends.1) in cc
 
 -- a capture has one end
 one_end : (place : ℕ) (rest : List ℕ) (end other : Option Damage) → EndsAt place rest end → EndsAt place rest other → end ≡ other
@@ -109,7 +108,7 @@ one_end place rest (Some d) (Some e) p q =
     let at : d.at ≡ e.at = p.0 ∙ sym q.0 in
     λ i. Some (record { at = at i; why = why i })
 
--- where a frame stands in front of a capture's end, the end is that behind it
+-- where a frame stands in front of a capture's end, the end is that after it
 behind_frame : (place : ℕ) (front first more rest : List ℕ) (end : Option Damage) → front ≡ first ++ more → EndsAt (place + length front) rest end
     → EndsAt (place + length first + length more) rest end
 behind_frame place front first more rest end whole ends =

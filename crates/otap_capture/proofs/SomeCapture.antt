@@ -6,15 +6,14 @@ use Rattle.std.proofs.lemmas.List.{length-take-le, nil_from_length}
 use Rattle.std.proofs.lemmas.Bool.{cases_lt, cases_Bool, lt-ltb, le-ltb, lt-leb, le-leb}
 use Rattle.std.proofs.lemmas.Bool.Decides.{nat_tests}
 use Rattle.byteorder.specs.Endian.{big_number}
-use Rattle.otap_capture.specs.declared.frame.TheConstants.{MAX_FRAME, MAX_CAPTURE}
 use Rattle.otap_capture.specs.declared.frame.Damage.{Damage}
 use Rattle.otap_capture.specs.declared.frame.Why.{Why}
 use Rattle.otap_capture.specs.declared.frame.Why.TheVariants.{Truncated, BadFrame, TooLong, Endless}
-use Rattle.otap_capture.specs.Capture.{Frame, Message, Packed, Reset, Carries, IsFrame, AreFrames, EndsAt, IsCapture, head_reason, front_reason}
+use Rattle.otap_capture.specs.Capture.{Frame, Message, Packed, Reset, Carries, IsFrame, AreFrames, EndsAt, IsCapture, head_reason, front_reason, longest_frame, capture_limit}
 
 -- a flag and a length of which no reason stands are those of a frame
 record IsHead (flag size left : ℕ) : Type 0 where
-  fits : size ≤ MAX_FRAME
+  fits : size ≤ longest_frame
   room : size ≤ left
   frame : (part : List ℕ) → length part ≡ size → (f : Frame) × Carries flag part f
 
@@ -32,13 +31,13 @@ no_size : (flag size : ℕ) → (nat_lt 2 flag || (nat_eq flag 2 && not (nat_eq 
 no_size flag size fine reset = grind (arith, nat_tests)
 
 head_of : (flag size left : ℕ) → ((why : Why) × (head_reason flag size left ≡ Some why)) ⊎ IsHead flag size left
-head_of flag size left = by_flag (cases_Bool (nat_lt 2 flag || (nat_eq flag 2 && not (nat_eq size 0)))) (cases_lt MAX_FRAME size) (cases_lt left size)
+head_of flag size left = by_flag (cases_Bool (nat_lt 2 flag || (nat_eq flag 2 && not (nat_eq size 0)))) (cases_lt longest_frame size) (cases_lt left size)
   where
     by_flag : (nat_lt 2 flag || (nat_eq flag 2 && not (nat_eq size 0)) ≡ true) ⊎ (nat_lt 2 flag || (nat_eq flag 2 && not (nat_eq size 0)) ≡ false)
-        → (MAX_FRAME < size) ⊎ (size ≤ MAX_FRAME) → (left < size) ⊎ (size ≤ left) → ((why : Why) × (head_reason flag size left ≡ Some why)) ⊎ IsHead flag size left
+        → (longest_frame < size) ⊎ (size ≤ longest_frame) → (left < size) ⊎ (size ≤ left) → ((why : Why) × (head_reason flag size left ≡ Some why)) ⊎ IsHead flag size left
     by_flag (inl bad) long short = inl (BadFrame, rw bad refl)
-    by_flag (inr fine) (inl long) short = inl (TooLong, rw (fine, lt-ltb MAX_FRAME size long) refl)
-    by_flag (inr fine) (inr fits) (inl short) = inl (Truncated, rw (fine, le-ltb MAX_FRAME size fits, lt-ltb left size short) refl)
+    by_flag (inr fine) (inl long) short = inl (TooLong, rw (fine, lt-ltb longest_frame size long) refl)
+    by_flag (inr fine) (inr fits) (inl short) = inl (Truncated, rw (fine, le-ltb longest_frame size fits, lt-ltb left size short) refl)
     by_flag (inr fine) (inr fits) (inr room) = inr (record { fits = fits; room = room; frame = carried flag size (low_flag flag size fine) (no_size flag size fine) })
 
 -- a frame at the front of bytes
@@ -47,12 +46,12 @@ record Begins (place : ℕ) (bytes : List ℕ) : Type 0 where
   rest : List ℕ
   frame : Frame
   whole : bytes ≡ front ++ rest
-  begins : place < MAX_CAPTURE
+  begins : place < capture_limit
   is_frame : IsFrame front frame
   shorter : length rest < length bytes
 
--- bytes behind a head
-behind_head : (place flag a b c d : ℕ) (behind : List ℕ) → place < MAX_CAPTURE
+-- bytes after a head
+behind_head : (place flag a b c d : ℕ) (behind : List ℕ) → place < capture_limit
     → ((end : Option Damage) × EndsAt place (flag ∷ a ∷ b ∷ c ∷ d ∷ behind) end) ⊎ Begins place (flag ∷ a ∷ b ∷ c ∷ d ∷ behind)
 behind_head place flag a b c d behind below = by_head (head_of flag (big_number 4 (a ∷ b ∷ c ∷ d ∷ [])) (length behind))
   where
@@ -61,7 +60,7 @@ behind_head place flag a b c d behind below = by_head (head_of flag (big_number 
 
     by_head : ((why : Why) × (head_reason flag size (length behind) ≡ Some why)) ⊎ IsHead flag size (length behind)
         → ((end : Option Damage) × EndsAt place (flag ∷ a ∷ b ∷ c ∷ d ∷ behind) end) ⊎ Begins place (flag ∷ a ∷ b ∷ c ∷ d ∷ behind)
-    by_head (inl bad) = inl (Some (record { at = place; why = bad.0 }), (refl, rw (lt-leb MAX_CAPTURE place below) bad.1))
+    by_head (inl bad) = inl (Some (record { at = place; why = bad.0 }), (refl, rw (lt-leb capture_limit place below) bad.1))
     by_head (inr head) =
         let part = take size behind in
         let long : length part ≡ size = length-take-le size behind head.room in
@@ -78,22 +77,22 @@ behind_head place flag a b c d behind below = by_head (head_of flag (big_number 
 
 -- a frame stands at a place, or an end
 here : (place : ℕ) (bytes : List ℕ) → ((end : Option Damage) × EndsAt place bytes end) ⊎ Begins place bytes
-here place bytes = by_place (cases_lt place MAX_CAPTURE)
+here place bytes = by_place (cases_lt place capture_limit)
   where
-    cut : place < MAX_CAPTURE → (bytes : List ℕ) → front_reason bytes ≡ Some Truncated → (end : Option Damage) × EndsAt place bytes end
-    cut below bytes short = (Some (record { at = place; why = Truncated }), (refl, rw (lt-leb MAX_CAPTURE place below) short))
+    cut : place < capture_limit → (bytes : List ℕ) → front_reason bytes ≡ Some Truncated → (end : Option Damage) × EndsAt place bytes end
+    cut below bytes short = (Some (record { at = place; why = Truncated }), (refl, rw (lt-leb capture_limit place below) short))
 
-    by_bytes : place < MAX_CAPTURE → (bytes : List ℕ) → ((end : Option Damage) × EndsAt place bytes end) ⊎ Begins place bytes
-    by_bytes below [] = inl (None, (refl, rw (lt-leb MAX_CAPTURE place below) refl))
+    by_bytes : place < capture_limit → (bytes : List ℕ) → ((end : Option Damage) × EndsAt place bytes end) ⊎ Begins place bytes
+    by_bytes below [] = inl (None, (refl, rw (lt-leb capture_limit place below) refl))
     by_bytes below (a ∷ []) = inl (cut below (a ∷ []) refl)
     by_bytes below (a ∷ b ∷ []) = inl (cut below (a ∷ b ∷ []) refl)
     by_bytes below (a ∷ b ∷ c ∷ []) = inl (cut below (a ∷ b ∷ c ∷ []) refl)
     by_bytes below (a ∷ b ∷ c ∷ d ∷ []) = inl (cut below (a ∷ b ∷ c ∷ d ∷ []) refl)
     by_bytes below (flag ∷ a ∷ b ∷ c ∷ d ∷ behind) = behind_head place flag a b c d behind below
 
-    by_place : (place < MAX_CAPTURE) ⊎ (MAX_CAPTURE ≤ place) → ((end : Option Damage) × EndsAt place bytes end) ⊎ Begins place bytes
+    by_place : (place < capture_limit) ⊎ (capture_limit ≤ place) → ((end : Option Damage) × EndsAt place bytes end) ⊎ Begins place bytes
     by_place (inl below) = by_bytes below bytes
-    by_place (inr endless) = inl (Some (record { at = place; why = Endless }), (refl, rw (le-leb MAX_CAPTURE place endless) refl))
+    by_place (inr endless) = inl (Some (record { at = place; why = Endless }), (refl, rw (le-leb capture_limit place endless) refl))
 
 -- a capture from a place on
 record Rest (place : ℕ) (bytes : List ℕ) : Type 0 where

@@ -1,40 +1,17 @@
 -- What is ahead of a reading, as bytes are taken from the source and frames are cut.
-use Rattle.std.proofs.Common.{◌≡◌, ◌⊎◌, inl, inr, ℕ, ◌+◌, ◌-◌, ◌≤◌, Bool, true, false, List, ◌++◌, length, length-drop, take, drop, Some, None, IfSome, IfNone, Ok, refl, sym, ap, ◌∙◌, subst, append_assoc, append-nil, arith}
-use Rattle.std.specs.Prelude.{if◌then◌else◌, slice_range}
+use Rattle.std.proofs.Common.{◌≡◌, ℕ, ◌+◌, Bool, true, false, List, ◌++◌, length, Some, None, IfSome, IfNone, Ok, refl, sym, ap, ◌∙◌, subst, append_assoc, arith}
+use Rattle.std.specs.Prelude.{if◌then◌else◌}
 use Rattle.std.specs.declared.option.Option.{Option}
 use Rattle.std.specs.Io.KnownBytes.{Consumes, Keeps, prepend_known}
-use Rattle.std.proofs.lemmas.Bool.{false≢true}
-use Rattle.std.proofs.lemmas.List.{drop-append-le, take-append-le}
 use Rattle.otap_capture.specs.declared.frame.Damage.{Damage}
 use Rattle.otap_capture.specs.declared.frame.Step.{Step}
 use Rattle.otap_capture.specs.declared.frame.Step.TheVariants as step
-use Rattle.otap_capture.specs.declared.frames.TheConstants.{ENOUGH}
 use Rattle.otap_capture.specs.Capture.{EndsAt}
-use Rattle.otap_capture.specs.Cutting.{Cuts, CutsFrame, CutsEnd, Fills, IsDecided, ReadsOn, ReadEnds}
+use Rattle.otap_capture.specs.Cutting.{Cuts, CutsFrame, CutsEnd, Fills, IsDecided}
+use Rattle.otap_capture.specs.Deciding.{IsOpen}
 use Rattle.otap_capture.specs.Reading.{Reading, ahead, GoesOn, TakesFrame, ComesToEnd}
-use Rattle.otap_capture.proofs.Deciding.{ends_more}
+use Rattle.otap_capture.proofs.Decided.{ends_more}
 use Rattle.otap_capture.proofs.Framing.{frame_length}
-
--- what is taken from the source moves to what is kept
-pub reads_on : (old new : List ℕ) (place : ℕ) (left left' : Option (List ℕ)) (complete : Bool) → place ≤ length old → ReadsOn old new left left' → ReadEnds complete new left'
-    → Keeps (prepend_known (drop place old) left) (if complete then Some (drop place new) else prepend_known (drop place new) left')
-reads_on old new place None left' complete within read ends = tt
-reads_on old new place (Some xs) None complete within read ends = absurd read.taken
-reads_on old new place (Some xs) (Some ys) complete within read ends = by_end complete ends
-  where
-    longer : drop place new ≡ drop place old ++ read.more
-    longer = ap (drop place) read.kept ∙ drop-append-le place old read.more within
-
-    by_end : (b : Bool) → ReadEnds b new (Some ys) → Keeps (Some (drop place old ++ xs)) (if b then Some (drop place new) else Some (drop place new ++ ys))
-    by_end true none = longer ∙ ap (λ l. drop place old ++ l) (sym (append-nil read.more) ∙ ap (λ l. read.more ++ l) (sym none) ∙ sym read.taken)
-    by_end false enough = ap (λ l. l ++ ys) longer ∙ append_assoc (drop place old) read.more ys ∙ ap (λ l. drop place old ++ l) (sym read.taken)
-
--- what was read before stays where it is
-pub range_kept : (old new : List ℕ) (begin place : ℕ) (left left' : Option (List ℕ)) → begin ≤ place → place ≤ length old → ReadsOn old new left left'
-    → slice_range new begin place ≡ slice_range old begin place
-range_kept old new begin place left left' ordered within read =
-    ap (λ l. take (place - begin) (drop begin l)) read.kept ∙ ap (take (place - begin)) (drop-append-le begin old read.more (omega arith))
-    ∙ take-append-le (place - begin) (drop begin old) read.more (let rest : length (drop begin old) ≡ length old - begin = length-drop begin old in omega arith)
 
 -- a front of what is kept is one of what is ahead
 ahead_cut : (complete : Bool) (kept front rest : List ℕ) (left : Option (List ℕ)) → kept ≡ front ++ rest
@@ -45,12 +22,11 @@ ahead_cut false kept front rest (Some xs) whole = ap (λ l. l ++ xs) whole ∙ a
 
 -- a decided end of what is kept is one of what is ahead
 ahead_ends : (complete : Bool) (place : ℕ) (kept : List ℕ) (left : Option (List ℕ)) (end : Option Damage)
-    → (complete ≡ true) ⊎ (ENOUGH ≤ place + length kept) → EndsAt place kept end
+    → (complete ≡ false → IsOpen place kept → ⊥) → EndsAt place kept end
     → IfSome (if complete then Some kept else prepend_known kept left) (λ rest. EndsAt place rest end)
 ahead_ends true place kept left end decided ends = ends
 ahead_ends false place kept None end decided ends = tt
-ahead_ends false place kept (Some xs) end (inl complete) ends = absurd (false≢true complete)
-ahead_ends false place kept (Some xs) end (inr enough) ends = ends_more place kept xs end enough ends
+ahead_ends false place kept (Some xs) end decided ends = ends_more place kept xs end (decided refl) ends
 
 Keeps-Consumes : (a b c : Option (List ℕ)) (bs : List ℕ) → Keeps a b → Consumes b c bs → Consumes a c bs
 Keeps-Consumes None b c bs p q = tt
@@ -78,21 +54,21 @@ module _ (old mid new : Reading) (left left' : Option (List ℕ))
     goes_on = cut.ended ∙ fills.ended ∙ open_end;
   }
 
-  comes_to_end : (end : Option Damage) → CutsEnd mid new end → ComesToEnd old new (ahead old left) (ahead new left') end
-  comes_to_end end cut = record {
+  comes_to_end : old.ended ≡ None → (end : Option Damage) → CutsEnd mid new end → ComesToEnd old new (ahead old left) (ahead new left') end
+  comes_to_end open_end end cut = record {
     same = rw (cut.complete, cut.kept) fills.same;
-    ends = Keeps-IfSome _ _ _ fills.same (rw (← fills.handed) (ahead_ends mid.complete mid.handed mid.kept left' end decided cut.ends));
+    ends = Keeps-IfSome _ _ _ fills.same (rw (← fills.handed) (ahead_ends mid.complete mid.handed mid.kept left' end (λ unread is_open. decided (record { goes_on = fills.ended ∙ open_end; unread = unread; is_open = is_open })) cut.ends));
     handed = cut.handed ∙ fills.handed;
     shown = cut.shown ∙ fills.shown;
     ended = cut.ended;
   }
 
-  -- a step is taken where no end was answered before
+  -- a step is taken where no end was returned before
   pub goes_on : (s : Step) → Cuts mid new s → IfNone old.ended (GoesOn old new (ahead old left) (ahead new left') (Ok s))
   goes_on s cut = unless_ended old.ended refl s cut
     where
       unless_ended : (ended : Option Step) → old.ended ≡ ended → (s : Step) → Cuts mid new s → IfNone ended (GoesOn old new (ahead old left) (ahead new left') (Ok s))
       unless_ended (Some x) is s cut = tt
       unless_ended None is step.Frame cut = takes_frame is cut
-      unless_ended None is step.End cut = comes_to_end None cut
-      unless_ended None is (step.Damage damage) cut = comes_to_end (Some damage) cut
+      unless_ended None is step.End cut = comes_to_end is None cut
+      unless_ended None is (step.Damage damage) cut = comes_to_end is (Some damage) cut

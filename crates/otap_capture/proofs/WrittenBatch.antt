@@ -82,7 +82,7 @@ batch_back b real small =
 pub as_given : (given z : ℤ) → z ≡ cast_signed w32 (cast_unsigned w32 given) → FitsSigned w32 given → cast_signed w64 (cast_unsigned w64 z) ≡ given
 as_given given z is fits = ap (λ y. cast_signed w64 (cast_unsigned w64 y)) (is ∙ to_z-of_z w32 given fits) ∙ to_z-of_z w64 given (wider given fits)
 
--- bytes behind bytes
+-- bytes after bytes
 pub three_appended : (old x y z a b c : List ℕ) → x ≡ old ++ a → y ≡ x ++ b → z ≡ y ++ c → z ≡ old ++ (a ++ (b ++ c))
 three_appended old x y z a b c first second third = rw (third, second, first) (simp append_assoc)
 

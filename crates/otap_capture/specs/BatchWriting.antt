@@ -17,6 +17,6 @@ pub record IsWritten (w : Inside) : Type 0 where
 abbrev pub with_payload : BatchContent → PayloadContent → BatchContent
 with_payload b p = record { id = b.id; payloads = b.payloads ++ p ∷ [] }
 
--- the fields of a payload, one behind the other
+-- the fields of a payload, one after the other
 abbrev pub fields_of_payload : List ℕ → ℤ → List ℕ → List ℕ
 fields_of_payload schema_id kind bytes = canon_row 1 (bytes_row schema_id) ++ (canon_row 2 (signed_row kind) ++ canon_row 3 (bytes_row bytes))

@@ -1,13 +1,20 @@
 -- A capture: frames one after the other, and what ends them (gRPC's length-prefixed messages).
-use Rattle.std.specs.Prelude.{◌≡◌, ℕ, ◌+◌, ◌<◌, ◌≤◌, nat_lt, nat_le, nat_eq, not, ◌&&◌, ◌||◌, if◌then◌else◌, List, [], ◌∷◌, ◌++◌, length, Some, None}
+use Rattle.std.specs.Prelude.{◌≡◌, ℕ, ◌+◌, ◌^◌, ◌<◌, ◌≤◌, nat_lt, nat_le, nat_eq, not, ◌&&◌, ◌||◌, if◌then◌else◌, List, [], ◌∷◌, ◌++◌, length, Some, None}
 use Rattle.std.specs.declared.option.Option.{Option}
 use Rattle.byteorder.specs.Endian.{big_number, big_bytes}
-use Rattle.otap_capture.specs.declared.frame.TheConstants.{MAX_FRAME, MAX_CAPTURE}
 use Rattle.otap_capture.specs.declared.frame.Frame.{Frame as Lent}
 use Rattle.otap_capture.specs.declared.frame.Frame.TheVariants as lent
 use Rattle.otap_capture.specs.declared.frame.Why.{Why}
 use Rattle.otap_capture.specs.declared.frame.Why.TheVariants.{Truncated, BadFrame, TooLong, Endless}
 use Rattle.otap_capture.specs.declared.frame.Damage.{Damage}
+
+-- the bytes of a frame after its head are at most this many
+abbrev pub longest_frame : ℕ
+longest_frame = 2 ^ 29
+
+-- each frame of a capture begins below this place
+abbrev pub capture_limit : ℕ
+capture_limit = 2 ^ 40
 
 -- a frame: a message by its bytes, a compressed message, whose bytes are passed over, or a reset
 pub data Frame : Type 0 where
@@ -21,41 +28,41 @@ frame_of (lent.Message part) = Message part.now
 frame_of lent.Packed = Packed
 frame_of lent.Reset = Reset
 
--- what a flag and the bytes behind a head stand for
+-- what a flag and the bytes after a head stand for
 abbrev pub Carries : ℕ → List ℕ → Frame → Type 0
 Carries flag part (Message bytes) = (flag ≡ 0) × (part ≡ bytes)
 Carries flag part Packed = flag ≡ 1
 Carries flag part Reset = (flag ≡ 2) × (part ≡ [])
 
--- These bytes are that frame: a flag, a length in four bytes, the highest first, and so many bytes.
+-- These bytes are that frame: a flag, a length in four bytes, the highest first, and that number of bytes.
 abbrev pub IsFrame : List ℕ → Frame → Type 0
 IsFrame (flag ∷ a ∷ b ∷ c ∷ d ∷ part) frame =
-    (length part ≡ big_number 4 (a ∷ b ∷ c ∷ d ∷ [])) × (length part ≤ MAX_FRAME) × Carries flag part frame
+    (length part ≡ big_number 4 (a ∷ b ∷ c ∷ d ∷ [])) × (length part ≤ longest_frame) × Carries flag part frame
 IsFrame bytes frame = ⊥
 
 -- From this place on the bytes are these frames, one after the other. Each begins below the limit of a capture.
 abbrev pub AreFrames : ℕ → List ℕ → List Frame → Type 0
 AreFrames place bytes [] = bytes ≡ []
 AreFrames place bytes (frame ∷ frames) = (front : List ℕ) × (rest : List ℕ)
-    × (bytes ≡ front ++ rest) × (place < MAX_CAPTURE) × IsFrame front frame × AreFrames (place + length front) rest frames
+    × (bytes ≡ front ++ rest) × (place < capture_limit) × IsFrame front frame × AreFrames (place + length front) rest frames
 
--- the first reason why a flag, a length and so many bytes behind them are no frame
+-- the first reason why a flag, a length and the bytes after them, by their number, are no frame
 abbrev pub head_reason : ℕ → ℕ → ℕ → Option Why
 head_reason flag size left =
     if nat_lt 2 flag || (nat_eq flag 2 && not (nat_eq size 0)) then Some BadFrame
-    else if nat_lt MAX_FRAME size then Some TooLong
+    else if nat_lt longest_frame size then Some TooLong
     else if nat_lt left size then Some Truncated
     else None
 
 -- the first reason why no frame stands at the front of these bytes; there is none where no byte is left
 abbrev pub front_reason : List ℕ → Option Why
 front_reason [] = None
-front_reason (flag ∷ a ∷ b ∷ c ∷ d ∷ behind) = head_reason flag (big_number 4 (a ∷ b ∷ c ∷ d ∷ [])) (length behind)
+front_reason (flag ∷ a ∷ b ∷ c ∷ d ∷ rest) = head_reason flag (big_number 4 (a ∷ b ∷ c ∷ d ∷ [])) (length rest)
 front_reason bytes = Some Truncated
 
 -- the first reason at this place, from which on the bytes are these
 abbrev pub reason_at : ℕ → List ℕ → Option Why
-reason_at place bytes = if nat_le MAX_CAPTURE place then Some Endless else front_reason bytes
+reason_at place bytes = if nat_le capture_limit place then Some Endless else front_reason bytes
 
 -- a capture ends well where no byte is left and no reason stands, and else with the first reason
 abbrev pub EndsAt : ℕ → List ℕ → Option Damage → Type 0

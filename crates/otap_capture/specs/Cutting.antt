@@ -1,23 +1,26 @@
 -- The steps in which a capture is read: bytes are taken from the source, and frames are cut from them.
 use Rattle.std.specs.Prelude.{◌≡◌, ◌⊎◌, ℕ, ◌+◌, ◌<◌, ◌≤◌, Bool, true, false, List, ◌++◌, length, take, drop, Some, None}
 use Rattle.std.specs.declared.option.Option.{Option}
+use Rattle.std.specs.declared.result.Result.{Result}
+use Rattle.std.specs.declared.result.Result.TheVariants.{Ok, Err}
 use Rattle.std.specs.Io.KnownBytes.{Consumes, Keeps, IsAtEnd}
-use Rattle.otap_capture.specs.declared.frame.TheConstants.{MAX_FRAME, MAX_CAPTURE}
-use Rattle.otap_capture.specs.declared.frames.TheConstants.{ENOUGH}
 use Rattle.otap_capture.specs.declared.frame.Damage.{Damage}
+use Rattle.otap_capture.specs.declared.frame.FramesRefusal.{FramesRefusal}
+use Rattle.otap_capture.specs.declared.frame.Why.TheVariants.{Truncated, BadFrame, TooLong, Endless}
 use Rattle.otap_capture.specs.declared.frame.Step.{Step}
 use Rattle.otap_capture.specs.declared.frame.Step.TheVariants as step
-use Rattle.otap_capture.specs.declared.frames.Kind.{Kind}
-use Rattle.otap_capture.specs.declared.frames.Kind.TheVariants as kind
-use Rattle.otap_capture.specs.declared.frames.Found.{Found}
-use Rattle.otap_capture.specs.declared.frames.Found.TheVariants as found
-use Rattle.otap_capture.specs.Capture.{Frame, IsFrame, EndsAt, reason_at, head_reason}
+use Rattle.otap_capture.specs.declared.found.Kind.{Kind}
+use Rattle.otap_capture.specs.declared.found.Kind.TheVariants as kind
+use Rattle.otap_capture.specs.declared.found.Found.{Found}
+use Rattle.otap_capture.specs.declared.found.Found.TheVariants as found
+use Rattle.otap_capture.specs.Capture.{Frame, IsFrame, EndsAt, reason_at, head_reason, longest_frame, capture_limit}
+use Rattle.otap_capture.specs.Deciding.{read_ahead}
 use Rattle.otap_capture.specs.Inside.{frame_in}
-use Rattle.otap_capture.specs.Reading.{Reading, end_step}
+use Rattle.otap_capture.specs.Reading.{Reading, IsWaiting, end_step}
 
--- a frame of that kind, with so many bytes behind its head, stands at the front of these bytes
+-- a frame of that kind, with that number of bytes after its head, stands at the front of these bytes
 pub record BeginsFrame (place : ℕ) (bytes : List ℕ) (k : Kind) (size : ℕ) : Type 0 where
-  pub begins : place < MAX_CAPTURE
+  pub begins : place < capture_limit
   pub room : 5 + size ≤ length bytes
   pub is_frame : IsFrame (take 5 bytes ++ take size (drop 5 bytes)) (frame_in k (take size (drop 5 bytes)))
 
@@ -26,23 +29,23 @@ StandsAt place bytes (found.Frame k size) = BeginsFrame place bytes k size
 StandsAt place bytes found.End = EndsAt place bytes None
 StandsAt place bytes (found.Nothing why) = reason_at place bytes ≡ Some why
 
--- the flag of a kind, and whether its frame may have so many bytes
+-- the flag of a kind, and whether its frame may have that number of bytes
 abbrev pub HasFlag : Kind → ℕ → ℕ → Type 0
 HasFlag kind.Message flag size = flag ≡ 0
 HasFlag kind.Packed flag size = flag ≡ 1
 HasFlag kind.Reset flag size = (flag ≡ 2) × (size ≡ 0)
 
-abbrev pub StandsBehind : ℕ → ℕ → ℕ → Found → Type 0
-StandsBehind flag size left (found.Frame k n) = HasFlag k flag size × (n ≡ size) × (size ≤ MAX_FRAME) × (size ≤ left)
-StandsBehind flag size left found.End = ⊥
-StandsBehind flag size left (found.Nothing why) = head_reason flag size left ≡ Some why
+abbrev pub StandsAfter : ℕ → ℕ → ℕ → Found → Type 0
+StandsAfter flag size left (found.Frame k n) = HasFlag k flag size × (n ≡ size) × (size ≤ longest_frame) × (size ≤ left)
+StandsAfter flag size left found.End = ⊥
+StandsAfter flag size left (found.Nothing why) = head_reason flag size left ≡ Some why
 
 -- a frame is cut from what is kept
 pub record CutsFrame (old new : Reading) : Type 0 where
   pub front : List ℕ
   pub frame : Frame
   pub is_frame : IsFrame front frame
-  pub begins : old.handed < MAX_CAPTURE
+  pub begins : old.handed < capture_limit
   pub kept : old.kept ≡ front ++ new.kept
   pub handed : new.handed ≡ old.handed + length front
   pub shown : new.frame ≡ Some frame
@@ -72,15 +75,35 @@ pub record Fills (old new : Reading) (before after : Option (List ℕ)) : Type 0
 
 -- the next step doesn't depend on what the source has left
 abbrev pub IsDecided : Reading → Type 0
-IsDecided reading = (reading.complete ≡ true) ⊎ (ENOUGH ≤ reading.handed + length reading.kept)
+IsDecided reading = IsWaiting reading → ⊥
 
--- what was taken from a source stands behind the bytes that were there
-pub record ReadsOn (old new : List ℕ) (before after : Option (List ℕ)) : Type 0 where
-  pub more : List ℕ
-  pub kept : new ≡ old ++ more
-  pub taken : Consumes before after more
+-- the same, but for what is held in memory
+abbrev pub SameBut : Reading → Reading → Type 0
+SameBut old new = new ≡ record old { held = new.held }
 
--- reading ends with the source, or with enough bytes
-abbrev pub ReadEnds : Bool → List ℕ → Option (List ℕ) → Type 0
-ReadEnds true bytes left = IsAtEnd left
-ReadEnds false bytes left = ENOUGH ≤ length bytes
+-- the source is at its end, or more bytes are kept
+abbrev pub Grows : Reading → Reading → Type 0
+Grows old new = (new.complete ≡ true) ⊎ (length old.kept < length new.kept)
+
+-- a piece is taken from the source and appended
+pub record TakesPiece (old new : List ℕ) (before after : Option (List ℕ)) : Type 0 where
+  pub piece : List ℕ
+  pub kept : new ≡ old ++ piece
+  pub taken : Consumes before after piece
+  pub some : 0 < length piece
+  pub few : length piece ≤ read_ahead
+
+-- one piece is taken, or the source is at its end, or it refuses
+abbrev pub GivesPiece : List ℕ → List ℕ → Option (List ℕ) → Option (List ℕ) → Result Bool FramesRefusal → Type 0
+GivesPiece old new before after (Ok true) = (new ≡ old) × Keeps before after × IsAtEnd after
+GivesPiece old new before after (Ok false) = TakesPiece old new before after
+GivesPiece old new before after (Err refusal) = (new ≡ old) × Keeps before after
+
+-- more bytes could change it
+abbrev pub leaves_open : Found → Bool
+leaves_open (found.Frame k size) = false
+leaves_open found.End = true
+leaves_open (found.Nothing Truncated) = true
+leaves_open (found.Nothing BadFrame) = false
+leaves_open (found.Nothing TooLong) = false
+leaves_open (found.Nothing Endless) = false

@@ -1,10 +1,11 @@
 -- The fields of `Frames` as callers see them.
-use Rattle.std.specs.Prelude.{ℕ, List, drop, slice_range, Some, None}
+use Rattle.std.specs.Prelude.{◌≤◌, ◌+◌, ◌*◌, ℕ, List, drop, length, slice_range, Some, None}
 use Rattle.std.specs.declared.option.Option.{Option}
-use Rattle.otap_capture.specs.declared.frames.Kind.{Kind}
-use Rattle.otap_capture.specs.declared.frames.Kind.TheVariants as kind
+use Rattle.otap_capture.specs.declared.found.Kind.{Kind}
+use Rattle.otap_capture.specs.declared.found.Kind.TheVariants as kind
 use Rattle.otap_capture.specs.declared.frames.Frames.TheInside.{Inside}
-use Rattle.otap_capture.specs.Capture.{Frame, Message, Packed, Reset}
+use Rattle.otap_capture.specs.Capture.{Frame, Message, Packed, Reset, longest_frame, capture_limit}
+use Rattle.otap_capture.specs.Deciding.{IsLean, read_ahead}
 use Rattle.otap_capture.specs.Reading.{Reading}
 
 -- a frame of that kind with these bytes
@@ -19,9 +20,18 @@ shown (Some k) part = Some (frame_in k part)
 
 abbrev pub reading_of : Inside → Reading
 reading_of s = record {
-  handed = s.place;
+  handed = s.handed;
   kept = drop s.place s.bytes.items;
   complete = s.complete;
   frame = shown s.last (slice_range s.bytes.items s.begin s.place);
   ended = s.ended;
+  held = length s.bytes.items;
 }
+
+-- The bytes of the last frame are there, those that are kept are few, and no count comes near the end of its type.
+pub record IsSound (s : Inside) : Type 0 where
+  pub ordered : s.begin ≤ s.place
+  pub within : s.place ≤ length s.bytes.items
+  pub lean : IsLean (drop s.place s.bytes.items)
+  pub few : length s.bytes.items ≤ 2 * (longest_frame + 5) + read_ahead
+  pub below : s.handed ≤ capture_limit + longest_frame + 5

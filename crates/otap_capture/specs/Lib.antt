@@ -4,6 +4,7 @@ pub mod BatchInside
 pub mod BatchWriting
 pub mod Capture
 pub mod Cutting
+pub mod Deciding
 pub mod Inside
 pub mod Memory
 pub mod Outside

@@ -1,36 +1,38 @@
 -- How far a capture is read, and what each step of it does.
-use Rattle.std.specs.Prelude.{◌≡◌, ℕ, ◌+◌, ◌<◌, ◌≤◌, Bool, if◌then◌else◌, List, length, Some, None, IfSome}
+use Rattle.std.specs.Prelude.{◌≡◌, ℕ, ◌+◌, ◌^◌, ◌<◌, ◌≤◌, ⊤, Bool, true, false, if◌then◌else◌, List, length, Some, None, IfSome}
 use Rattle.std.specs.declared.option.Option.{Option}
 use Rattle.std.specs.declared.result.Result.{Result}
 use Rattle.std.specs.declared.result.Result.TheVariants.{Ok, Err}
 use Rattle.std.specs.Io.KnownBytes.{Consumes, Keeps, prepend_known}
-use Rattle.otap_capture.specs.declared.frame.TheConstants.{MAX_CAPTURE}
 use Rattle.otap_capture.specs.declared.frame.Damage.{Damage}
 use Rattle.otap_capture.specs.declared.frame.Step.{Step}
 use Rattle.otap_capture.specs.declared.frame.Step.TheVariants as step
 use Rattle.otap_capture.specs.declared.frame.FramesRefusal.{FramesRefusal}
 use Rattle.otap_capture.specs.declared.frame.FramesRefusal.TheVariants.{Source, Memory}
-use Rattle.otap_capture.specs.Capture.{Frame, IsFrame, EndsAt}
+use Rattle.otap_capture.specs.Capture.{Frame, IsFrame, EndsAt, capture_limit}
+use Rattle.otap_capture.specs.Deciding.{IsOpen, IsLean, read_ahead}
 use Rattle.otap_capture.specs.Outside.{Rose}
 
 -- how far a capture is read
 pub record Reading : Type 0 where
   -- how many bytes the frames handed out so far have
   pub handed : ℕ
-  -- the bytes behind them that are kept
+  -- the bytes after them that are kept
   pub kept : List ℕ
   -- whether the source came to its end
   pub complete : Bool
-  -- the frame that the last step answered
+  -- the frame that the last step gave
   pub frame : Option Frame
-  -- the end that was answered
+  -- the end that was returned
   pub ended : Option Step
+  -- how many bytes it holds in memory: those that are kept, and some of those that were handed out
+  pub held : ℕ
 
--- the bytes behind the frames handed out, where they are told: those kept, and those that the source has left
+-- the bytes after the frames handed out, where they are told: those kept, and those that the source has left
 abbrev pub ahead : Reading → Option (List ℕ) → Option (List ℕ)
 ahead reading left = if reading.complete then Some reading.kept else prepend_known reading.kept left
 
--- the step that answers an end
+-- the step that tells an end
 abbrev pub end_step : Option Damage → Step
 end_step None = step.End
 end_step (Some damage) = step.Damage damage
@@ -40,7 +42,7 @@ pub record TakesFrame (old new : Reading) (before after : Option (List ℕ)) : T
   pub front : List ℕ
   pub frame : Frame
   pub is_frame : IsFrame front frame
-  pub begins : old.handed < MAX_CAPTURE
+  pub begins : old.handed < capture_limit
   pub taken : Consumes before after front
   pub handed : new.handed ≡ old.handed + length front
   pub further : old.handed + 5 ≤ new.handed
@@ -79,3 +81,36 @@ abbrev pub StepCounts : {T : Type 0} → ℕ → ℕ → Result T FramesRefusal 
 StepCounts before now (Ok x) = now ≡ before
 StepCounts before now (Err Source) = Rose before now
 StepCounts before now (Err (Memory e)) = now ≡ before
+
+-- a test returns whether a fact holds
+abbrev pub Tells : Bool → Type 0 → Type 0
+Tells true P = P
+Tells false P = P → ⊥
+
+-- the next step isn't decided by the bytes that are kept, and the source may have more
+pub record IsWaiting (reading : Reading) : Type 0 where
+  pub goes_on : reading.ended ≡ None
+  pub unread : reading.complete ≡ false
+  pub is_open : IsOpen reading.handed reading.kept
+
+-- The source is asked only where the next step isn't decided: where it fails, neither the bytes that were kept before
+-- the call nor those that are kept after it decide the step. A reader can't know whether the source will fail, so this
+-- holds of each time that it asks.
+abbrev pub Asked : {T : Type 0} → Reading → Reading → Result T FramesRefusal → Type 0
+Asked old new (Ok x) = ⊤
+Asked old new (Err Source) = IsWaiting old × IsWaiting new
+Asked old new (Err (Memory e)) = ⊤
+
+-- after a frame at most 65,536 bytes are kept
+abbrev pub KeepsRest : Reading → Result Step FramesRefusal → Type 0
+KeepsRest new (Ok step.Frame) = length new.kept ≤ read_ahead
+KeepsRest new (Ok step.End) = ⊤
+KeepsRest new (Ok (step.Damage damage)) = ⊤
+KeepsRest new (Err refusal) = ⊤
+
+-- What a step leaves: all that was taken from the source is more than what was handed out before by one frame and 65,536
+-- bytes at most; those that are kept are one frame and 65,536 bytes at most; and few more are held in memory.
+pub record KeepsFew (old new : Reading) : Type 0 where
+  pub taken : new.handed + length new.kept ≤ old.handed + (2 ^ 29 + 65541)
+  pub lean : IsLean new.kept
+  pub memory : new.held ≤ 2 ^ 30 + 65546

@@ -9,7 +9,7 @@ use crate::outside::{ReadFailed, Sink, SinkRefusal, Source};
 use std::io::{Read, Write};
 use std::marker::Model;
 
-/// Reads from a reader. Each error that it answers is a fault.
+/// Reads from a reader. Each error that it returns is a fault.
 #[derive(Drop)]
 pub struct ReadSource<R: Read + Drop> {
     inner: R,
@@ -54,7 +54,7 @@ impl<R: Read + Drop> Source for ReadSource<R> {
     }
 }
 
-/// Writes to a writer. Each error that it answers is a fault, and so is a write that takes nothing of
+/// Writes to a writer. Each error that it returns is a fault, and so is a write that takes nothing of
 /// a part that isn't empty.
 #[derive(Drop)]
 pub struct WriteSink<W: Write + Drop> {

@@ -130,7 +130,7 @@ impl<'a> Iterator for Payloads<'a> {
 
     ghost remaining = { item_count (λ left. left) };
 
-    #[tactic(auto, using(otlp_wire::specs::Fields::fields_of_nothing))]
+    #[tactic(auto, using(otlp_wire::proofs::FieldsOf::fields_of_nothing))]
     fn next(&mut self) -> Option<Payload<'a>> {
         'fields: while let Some(next) = self.fields.next() {
             let Ok(field) = next else {

@@ -3,13 +3,18 @@
 
 ghost use Rattle.std.specs.Prelude.{◌≡◌, ℕ, ◌^◌, ◌<◌, List, length};
 ghost use Rattle.otap_capture.specs.declared.batch.BatchRefusal.{BatchRefusal};
-ghost use Rattle.otap_capture.specs.Batch.{BatchContent, ReadsBatch, RefusesBatch, IsRealBatch, canon_batch};
+ghost use Rattle.otap_capture.specs.Batch.{BatchContent, ReadsBatch, RefusesBatch, IsRealBatch, batch_in, canon_batch};
 
 /// A batch message is read in one way at most, and is not refused where it is read.
 pub fn one_batch()
     ensures one { (bytes : List ℕ) (a b : BatchContent) → ReadsBatch bytes a → ReadsBatch bytes b → a ≡ b }
     ensures not_refused { (bytes : List ℕ) (batch : BatchContent) (refusal : BatchRefusal)
         → ReadsBatch bytes batch → RefusesBatch bytes refusal → ⊥ }
+{}
+
+/// Bytes in which no defect stands are read as a batch message.
+pub fn read_or_refused()
+    ensures { (bytes : List ℕ) → ((refusal : BatchRefusal) → RefusesBatch bytes refusal → ⊥) → ReadsBatch bytes (batch_in bytes) }
 {}
 
 /// The canonical spelling of a batch is read as the batch.

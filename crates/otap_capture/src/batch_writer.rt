@@ -41,7 +41,7 @@ impl BatchWriter {
         Ok(BatchWriter { bytes })
     }
 
-    /// Adds a payload behind the others.
+    /// Adds a payload after the others.
     pub fn add(&mut self, schema_id: &str, kind: i32, bytes: &[u8]) -> Result<(), AllocError>
         ensures ok { OnOk result (self.new ≡ with_payload self.old (record { schema_id = schema_id.now; kind = kind; bytes = bytes.now })) }
         ensures err { OnErr result (self.new ≡ self.old) }

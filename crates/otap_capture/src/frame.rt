@@ -1,11 +1,11 @@
-//! A frame of a capture, and what a step over a capture answers.
+//! A frame of a capture, and what a step over a capture gives.
 ghost use Rattle.otap_capture.specs.declared.frame.FramesRefusal.TheVariants.{Memory};
 ghost use Rattle.std.specs.Prelude.{◌≡◌};
 
 use std::alloc::AllocError;
 use thiserror::Error;
 
-/// The bytes of one frame behind its head are at most so many.
+/// A frame has at most this many bytes after its head.
 pub const MAX_FRAME: u32 = 1 << 29;
 
 /// Each frame of a capture begins below this place.

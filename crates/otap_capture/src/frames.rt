@@ -1,40 +1,31 @@
 //! The frames of a capture, from a source that gives them in any pieces.
-ghost use Rattle.std.specs.Prelude.{◌≡◌, ◌+◌, [], IfNone, IfSome, None, Some, OnOk, IfOk, OnErr, false};
+ghost use Rattle.std.specs.Prelude.{◌≡◌, ◌+◌, ◌*◌, ◌<◌, ◌≤◌, [], drop, length, IfNone, IfSome, None, Some, OnOk, OnErr, Ok, false};
 ghost use Rattle.std.specs.Option.{option_map};
 ghost use Rattle.otap_capture.specs.Capture.{frame_of};
-ghost use Rattle.otap_capture.specs.Reading.{ahead, GoesOn, EndsAgain, StepCounts};
-ghost use Rattle.otap_capture.specs.Cutting.{StandsAt, StandsBehind, Cuts, Fills, IsDecided, ReadsOn, ReadEnds};
+ghost use Rattle.otap_capture.specs.Deciding.{IsShort};
+ghost use Rattle.otap_capture.specs.Reading.{ahead, GoesOn, EndsAgain, StepCounts, KeepsFew, KeepsRest, Asked, Tells, IsWaiting};
+ghost use Rattle.otap_capture.specs.Cutting.{StandsAt, Cuts, Fills, IsDecided, Grows, SameBut, GivesPiece};
 
-use crate::frame::{Damage, Frame, FramesRefusal, MAX_CAPTURE, MAX_FRAME, Step, Why};
+use crate::found::{Found, HEAD, Kind, found_at};
+use crate::frame::{Damage, Frame, FramesRefusal, Step};
 use crate::outside::Source;
-use byteorder::{BigEndian, ByteOrder};
 use std::alloc::Global;
 use std::marker::Model;
-
-// With so many bytes each step is decided, whatever comes behind them.
-const ENOUGH: usize = MAX_CAPTURE as usize + MAX_FRAME as usize + HEAD;
-
-// A flag and four bytes of length.
-const HEAD: usize = 5;
 
 // How many bytes a read asks for.
 const ROOM: usize = 1 << 16;
 
-#[derive(Clone, Copy)]
-pub(crate) enum Kind {
-    Message,
-    Packed,
-    Reset,
-}
-
-/// The frames of a capture. It reads the source to its end before it answers the first of them.
+/// The frames of a capture, as they come. It keeps the bytes of one frame and at most 65,536 bytes
+/// more, and asks the source only where the next step isn't decided by the bytes that it keeps.
 #[derive(Drop)]
 pub struct Frames {
     bytes: Vec<u8>,
-    // The frames before this place were handed out.
-    place: usize,
-    // Where the bytes of the last frame begin, behind its head.
+    // How many bytes the frames handed out so far have.
+    handed: u64,
+    // Where the bytes of the last frame begin, after its head.
     begin: usize,
+    // Where it ends, and the bytes that are kept begin.
+    place: usize,
     last: Option<Kind>,
     complete: bool,
     ended: Option<Step>,
@@ -45,22 +36,22 @@ impl Model for Frames {
 
     ghost Value = { Reading };
 
-    ghost use Rattle.std.specs.Prelude.{◌≤◌, length};
-    ghost use Rattle.otap_capture.specs.Inside.{reading_of};
+    ghost use Rattle.otap_capture.specs.Inside.{reading_of, IsSound};
 
     ghost view = { reading_of };
 
-    ghost invariant = { λ s. (s.begin ≤ s.place) × (s.place ≤ length s.bytes.items) };
+    ghost invariant = { IsSound };
 }
 
 impl Frames {
     pub fn new(alloc: Global) -> Frames
-        ensures { result ≡ record { handed = 0; kept = []; complete = false; frame = None; ended = None } }
+        ensures { result ≡ record { handed = 0; kept = []; complete = false; frame = None; ended = None; held = 0 } }
     {
         Frames {
             bytes: Vec::new(alloc),
-            place: 0,
+            handed: 0,
             begin: 0,
+            place: 0,
             last: None,
             complete: false,
             ended: None,
@@ -68,13 +59,18 @@ impl Frames {
     }
 
     /// The next step over the capture that the source gives: a frame, which [`Frames::frame`] hands
-    /// out, or how the capture ends. Once an end was answered, it is answered again. After a refusal
-    /// nothing is lost, and a further call goes on.
+    /// out until the next call, or how the capture ends. Once an end was returned, it is returned
+    /// again. After a refusal nothing is lost, and a further call goes on.
     pub fn next<S: Source>(&mut self, source: &mut S) -> Result<Step, FramesRefusal>
         ensures step { IfNone self.old.ended
             (GoesOn self.old self.new (ahead self.old (S.left source.old)) (ahead self.new (S.left source.new)) result) }
         ensures again { IfSome self.old.ended (λ end. EndsAgain self.old self.new source.old source.new end result) }
         ensures count { StepCounts (S.faults source.old) (S.faults source.new) result }
+        // The bytes taken from the source, less those handed out before.
+        ensures few { KeepsFew self.old self.new }
+        ensures rest { IfNone self.old.ended (KeepsRest self.new result) }
+        // The source is asked only where the step isn't decided.
+        ensures asked { Asked self.old self.new result }
     {
         self.last = None;
         if let Some(end) = self.ended {
@@ -84,7 +80,14 @@ impl Frames {
         Ok(self.cut())
     }
 
-    /// The frame that the last call of [`Frames::next`] answered, if it answered one.
+    /// Whether the next call of [`Frames::next`] asks the source for bytes.
+    pub fn asks(&self) -> bool
+        ensures { Tells result (IsWaiting self.now) }
+    {
+        self.ended.is_none() && !self.complete && self.found().is_open()
+    }
+
+    /// The frame that the last call of [`Frames::next`] returned, if it returned one.
     pub fn frame(&self) -> Option<Frame<'_>>
         ensures { option_map frame_of result ≡ self.now.frame }
     {
@@ -96,26 +99,71 @@ impl Frames {
         }
     }
 
+    // What stands at the front of the bytes that are kept.
+    fn found(&self) -> Found
+        ensures { StandsAt self.now.handed self.now.kept result }
+    {
+        found_at(self.handed, &self.bytes[self.place..])
+    }
+
     // Reads until the next step is decided.
     fn fill<S: Source>(&mut self, source: &mut S) -> Result<(), FramesRefusal>
+        requires { self.old.frame ≡ None }
         ensures fills { Fills self.old self.new (ahead self.old (S.left source.old)) (ahead self.new (S.left source.new)) }
         ensures decided { OnOk result (IsDecided self.new) }
         ensures count { StepCounts (S.faults source.old) (S.faults source.new) result }
+        ensures asked { Asked self.old self.new result }
+        ensures few { KeepsFew self.old self.new }
     {
-        if !self.complete {
-            self.complete = read_on(&mut self.bytes, source)?;
+        let _ = &self.bytes;
+        'pieces: while self.asks() {
+            self.read_more(source)?;
         }
         Ok(())
     }
 
+    // Takes one more piece from the source, or finds that it is at its end.
+    fn read_more<S: Source>(&mut self, source: &mut S) -> Result<(), FramesRefusal>
+        requires waiting { IsWaiting self.old }
+        requires shown { self.old.frame ≡ None }
+        ensures fills { Fills self.old self.new (ahead self.old (S.left source.old)) (ahead self.new (S.left source.new)) }
+        ensures grows { OnOk result (Grows self.old self.new) }
+        ensures same { OnErr result (SameBut self.old self.new) }
+        ensures few { KeepsFew self.old self.new }
+        ensures count { StepCounts (S.faults source.old) (S.faults source.new) result }
+    {
+        self.let_go();
+        self.complete = read_piece(&mut self.bytes, source)?;
+        Ok(())
+    }
+
+    // Gives up the bytes that were handed out, where they are at least as many as those that are kept.
+    // So all bytes that are moved by this are at most those that were read.
+    fn let_go(&mut self)
+        requires { self.old.frame ≡ None }
+        ensures same { SameBut self.old self.new }
+        ensures held { self.new.held ≤ 2 * length self.old.kept }
+    {
+        let kept = self.bytes.len() - self.place;
+        if kept <= self.place {
+            remove_front(&mut self.bytes, self.place);
+            self.begin = 0;
+            self.place = 0;
+        }
+    }
+
     // Takes the next step over the bytes that are kept.
     fn cut(&mut self) -> Step
-        ensures { Cuts self.old self.new result }
+        requires { self.old.frame ≡ None }
+        ensures cuts { Cuts self.old self.new result }
+        ensures few { KeepsFew self.old self.new }
+        ensures rest { KeepsRest self.new (Ok result) }
     {
-        match frame_at(self.place as u64, &self.bytes[self.place..]) {
+        match self.found() {
             Found::Frame(kind, size) => {
                 self.begin = self.place + HEAD;
                 self.place = self.begin + size;
+                self.handed += (HEAD + size) as u64;
                 self.last = Some(kind);
                 Step::Frame
             }
@@ -124,7 +172,7 @@ impl Frames {
                 Step::End
             }
             Found::Nothing(why) => {
-                let at = self.place as u64;
+                let at = self.handed;
                 let end = Step::Damage(Damage { at, why });
                 self.ended = Some(end);
                 end
@@ -133,67 +181,27 @@ impl Frames {
     }
 }
 
-// What stands at a place of a capture.
-pub(crate) enum Found {
-    // A frame of that kind, with so many bytes behind its head.
-    Frame(Kind, usize),
-    End,
-    Nothing(Why),
-}
-
-fn frame_at(place: u64, bytes: &[u8]) -> Found
-    ensures { StandsAt place bytes.now result }
+// Takes the first bytes away.
+fn remove_front(bytes: &mut Vec<u8>, count: usize)
+    requires { count ≤ length bytes.old.items }
+    ensures { bytes.new.items ≡ drop count bytes.old.items }
 {
-    if place >= MAX_CAPTURE {
-        return Found::Nothing(Why::Endless);
-    }
-    match bytes {
-        [] => Found::End,
-        [flag, a, b, c, d, behind @ ..] => {
-            let size = BigEndian::read_u32(&[*a, *b, *c, *d]);
-            frame_behind(*flag, size, behind.len())
-        }
-        _ => Found::Nothing(Why::Truncated),
-    }
+    let len = bytes.len();
+    bytes.as_mut_slice().copy_within(count..len, 0);
+    bytes.truncate(len - count);
 }
 
-// What a head and so many bytes behind it are.
-fn frame_behind(flag: u8, size: u32, left: usize) -> Found
-    ensures { StandsBehind flag size left result }
-{
-    let kind = match flag {
-        0 => Kind::Message,
-        1 => Kind::Packed,
-        2 if size == 0 => Kind::Reset,
-        _ => return Found::Nothing(Why::BadFrame),
-    };
-    if size > MAX_FRAME {
-        return Found::Nothing(Why::TooLong);
-    }
-    let size = size as usize;
-    if left < size {
-        return Found::Nothing(Why::Truncated);
-    }
-    Found::Frame(kind, size)
-}
-
-// Appends what the source gives, until its end or until there are enough bytes. Answers whether it
-// came to its end. Room is made before a read, so that a refusal loses nothing.
-fn read_on<S: Source>(bytes: &mut Vec<u8>, source: &mut S) -> Result<bool, FramesRefusal>
-    ensures read { ReadsOn bytes.old.items bytes.new.items (S.left source.old) (S.left source.new) }
-    ensures end { IfOk result (λ complete. ReadEnds complete bytes.new.items (S.left source.new)) }
+// Appends what one read of the source gives. Returns whether the source is at its end. Room is made
+// before the read, so that a refusal loses nothing.
+fn read_piece<S: Source>(bytes: &mut Vec<u8>, source: &mut S) -> Result<bool, FramesRefusal>
+    ensures piece { GivesPiece bytes.old.items bytes.new.items (S.left source.old) (S.left source.new) result }
     ensures count { StepCounts (S.faults source.old) (S.faults source.new) result }
 {
     let mut room = [0; ROOM];
-    'pieces: while bytes.len() < ENOUGH {
-        bytes.reserve(ROOM)?;
-        let Ok(count) = source.read(&mut room) else {
-            return Err(FramesRefusal::Source);
-        };
-        if count == 0 {
-            return Ok(true);
-        }
-        bytes.extend_from_slice(&room[..count])?;
-    }
-    Ok(false)
+    bytes.reserve(ROOM)?;
+    let Ok(count) = source.read(&mut room) else {
+        return Err(FramesRefusal::Source);
+    };
+    bytes.extend_from_slice(&room[..count])?;
+    Ok(count == 0)
 }

@@ -132,7 +132,7 @@ impl MemorySink {
         &self.bytes
     }
 
-    // Counts a call, and a fault where it is one of those that fail. Answers whether it is.
+    // Counts a call, and a fault where it is one of those that fail. Returns whether it is.
     fn call_fails(&mut self) -> bool
         ensures fails { result ≡ fails self.old.calls }
         ensures after { self.new ≡ record self.old { calls = if result then failed self.old.calls else called self.old.calls } }

@@ -1,5 +1,5 @@
 //! Where bytes come from and where they go.
-ghost use Rattle.std.specs.Prelude.{◌≡◌, ℕ, List, OnOk};
+ghost use Rattle.std.specs.Prelude.{◌≡◌, ℕ, List, [], OnOk, Ok};
 ghost use Rattle.std.specs.declared.option.Option.{Option};
 ghost use Rattle.std.specs.Io.{ReadsAtMost, WritesAtMost};
 ghost use Rattle.std.specs.Io.KnownBytes.{Appends, Keeps, ReadConsumes, WriteAppends};
@@ -40,7 +40,7 @@ pub trait Source {
     /// How often it failed.
     ghost faults: { Self → ℕ };
 
-    /// Puts the next bytes into the front of the room, and answers how many. None for a room that
+    /// Puts the next bytes into the front of the room, and returns how many. None for a room that
     /// isn't empty means the end.
     fn read(&mut self, room: &mut [u8]) -> Result<usize, ReadFailed>
         ensures bound { ReadsAtMost result room.new }
@@ -59,7 +59,7 @@ pub trait Sink {
     /// How often it failed.
     ghost faults: { Self → ℕ };
 
-    /// Appends a front of the part, and answers its length. To take none of a part that isn't empty
+    /// Appends a front of the part, and returns its length. To take none of a part that isn't empty
     /// is a fault.
     fn write(&mut self, part: &[u8]) -> Result<usize, SinkRefusal>
         ensures bound { WritesAtMost result part.now }
@@ -83,6 +83,8 @@ pub fn write_whole<K: Sink>(sink: &mut K, part: &[u8]) -> Result<(), SinkRefusal
     ensures front { AppendsFront (K.written sink.old) (K.written sink.new) part.now }
     ensures kept { Keeps (K.passed sink.old) (K.passed sink.new) }
     ensures count { SinkCounts (K.faults sink.old) (K.faults sink.new) result }
+    // A part without bytes isn't written.
+    ensures nothing { part.now ≡ [] → (result ≡ Ok tt) × (sink.new ≡ sink.old) }
 {
     let mut rest = part;
     'parts: while !rest.is_empty() {

@@ -31,7 +31,7 @@ impl SteadySource {
     }
 }
 
-/// Copies the bytes, but at most so many of them, into the front of the room. Answers how many.
+/// Copies the bytes, but at most `most` of them, into the front of the room. Returns how many.
 pub(crate) fn copy_front(bytes: &[u8], most: usize, room: &mut [u8]) -> usize
     requires { most ≤ length room.old }
     ensures bound { result ≡ min (length bytes.now) most }

@@ -1,16 +1,15 @@
 //! Frames are written.
 ghost use Rattle.std.specs.Prelude.{◌≤◌, length, OnOk};
 ghost use Rattle.std.specs.Io.KnownBytes.{Appends, Keeps};
-ghost use Rattle.otap_capture.specs.Capture.{message_frame, reset_frame};
+ghost use Rattle.otap_capture.specs.Capture.{longest_frame, message_frame, reset_frame};
 ghost use Rattle.otap_capture.specs.Outside.{SinkCounts, AppendsFront};
 
-use crate::frame::MAX_FRAME;
 use crate::outside::{Sink, SinkRefusal, write_whole};
 use byteorder::{BigEndian, ByteOrder};
 
 /// Writes a message as a frame. After a refusal the sink holds a front of the frame more than before.
 pub fn write_frame<O: Sink>(sink: &mut O, part: &[u8]) -> Result<(), SinkRefusal>
-    requires { length part.now ≤ MAX_FRAME }
+    requires { length part.now ≤ longest_frame }
     ensures whole { OnOk result (Appends (O.written sink.old) (O.written sink.new) (message_frame part.now)) }
     ensures front { AppendsFront (O.written sink.old) (O.written sink.new) (message_frame part.now) }
     ensures kept { Keeps (O.passed sink.old) (O.passed sink.new) }

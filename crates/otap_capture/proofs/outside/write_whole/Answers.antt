@@ -1,4 +1,4 @@
-use Rattle.std.proofs.Common.{arith, ◌∙◌, ◌<◌}
+use Rattle.std.proofs.Common.{arith, ap, length, ◌∙◌, ◌<◌}
 use Rattle.std.proofs.lemmas.List.{take_rest}
 use Rattle.otap_capture.proofs.Known.{part_more, Keeps-trans}
 use Rattle.otap_capture.proofs.outside.write_whole.Goals as goal
@@ -10,4 +10,5 @@ parts-preserved g c =
       bytes = rw take_rest (part_more _ _ _ _ _ _ c.parts.invariant.bytes c.in_ok-count.ensures.bytes);
       kept = Keeps-trans _ _ _ c.parts.invariant.kept c.in_ok-count.ensures.kept;
       count = c.in_ok-count.ensures.count.some took ∙ c.parts.invariant.count;
+      nothing = λ none. let rest = ap length (c.parts.invariant.nothing none).0 in let most = c.in_ok-count.ensures.bound in absurd (omega (arith, rest, most));
     }

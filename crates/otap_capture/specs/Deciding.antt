@@ -1,0 +1,24 @@
+-- Whether the bytes at a place decide what stands there, whatever comes after them.
+use Rattle.std.specs.Prelude.{◌≡◌, ◌⊎◌, ℕ, ◌<◌, ◌≤◌, List, [], ◌++◌, length, Some}
+use Rattle.otap_capture.specs.declared.frame.Why.TheVariants.{Truncated}
+use Rattle.otap_capture.specs.Capture.{capture_limit, front_reason}
+
+-- no byte, a part of a head, or fewer bytes than a head says
+abbrev pub IsShort : List ℕ → Type 0
+IsShort bytes = (bytes ≡ []) ⊎ (front_reason bytes ≡ Some Truncated)
+
+-- What stands at this place isn't decided by the bytes that are there: more of them change it.
+abbrev pub IsOpen : ℕ → List ℕ → Type 0
+IsOpen place bytes = (place < capture_limit) × IsShort bytes
+
+-- a reader takes at most this many bytes at a time
+abbrev pub read_ahead : ℕ
+read_ahead = 65536
+
+-- All of the bytes but the last 65,536 at most are short: the bytes of one frame, and few more.
+pub record IsLean (bytes : List ℕ) : Type 0 where
+  pub front : List ℕ
+  pub rest : List ℕ
+  pub whole : bytes ≡ front ++ rest
+  pub short : IsShort front
+  pub few : length rest ≤ read_ahead
