@@ -14,14 +14,14 @@ abbrev pub numbers : {A : Type 0} → ℕ → (ℕ → A → ℕ) → ℕ → Li
 numbers width number index [] = []
 numbers width number index (x ∷ xs) = little_bytes width (number index x) ++ numbers width number (index + 1) xs
 
--- references to places, of which the first reference is so far from the end
+-- references to places; the first reference is `from` bytes from the end
 abbrev pub reference : ℕ → ℕ → ℕ → ℕ
 reference from index place = from - 4 * index - place
 
 abbrev pub references : ℕ → List ℕ → List ℕ
 references from places = numbers 4 (reference from) 0 places
 
--- the number of a slot whose value is so far from the end
+-- the number of a slot whose value is `from` bytes from the end
 abbrev pub slot_number : ℕ → Slot → ℕ
 slot_number from Absent = 0
 slot_number from (U8 n) = n

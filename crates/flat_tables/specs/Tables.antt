@@ -47,7 +47,7 @@ table_at bytes place =
     size_at bytes vtable >>= λ size.
     Ok (record { bytes = bytes; place = place; vtable = vtable; size = size })
 
--- the place that the u32 at a place refers to: that far behind it
+-- the place that the u32 at a place refers to: that far after it
 unfoldable pub referred : List ℕ → ℕ → Result ℕ FlatFault
 referred bytes place = number_at 4 bytes place >>= λ distance. Ok (place + distance)
 
@@ -55,11 +55,11 @@ referred bytes place = number_at 4 bytes place >>= λ distance. Ok (place + dist
 unfoldable pub root_at : List ℕ → Result TableIn FlatFault
 root_at bytes = number_at 4 bytes 0 >>= table_at bytes
 
--- "Strings and Vectors": a text is a u32 count and so many bytes
+-- "Strings and Vectors": a text is a u32 count and exactly that number of bytes
 unfoldable pub text_at : List ℕ → ℕ → Result (List ℕ) FlatFault
 text_at bytes place = number_at 4 bytes place >>= λ count. part_at bytes (place + 4) count
 
--- a vector is a u32 count and so many elements
+-- a vector is a u32 count and exactly that number of elements
 unfoldable pub vector_at : ℕ → List ℕ → ℕ → Result VectorIn FlatFault
 vector_at width bytes place =
     number_at 4 bytes place >>= λ count.

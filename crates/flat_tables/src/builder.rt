@@ -1,4 +1,5 @@
 ghost use Rattle.std.specs.Prelude.{◌≡◌, ◌+◌, ◌-◌, ◌*◌, ◌%◌, ◌≤◌, ◌<◌, ◌^◌, ◌++◌, [], ℕ, List, length, All, IfOk, OnOk, OnErr};
+ghost use Rattle.flat_tables.specs.Limits.{max_width, max_slots, max_size};
 ghost use Rattle.flat_tables.specs.Tables.{root_at, table_at};
 ghost use Rattle.flat_tables.specs.Slots.{AllReach};
 ghost use Rattle.flat_tables.specs.Building.{Grows, Stands, IsText, IsParts, IsPlaces, HasSlots, IsAligned};
@@ -6,7 +7,6 @@ ghost use Rattle.flat_tables.specs.Layout.{piece};
 
 use crate::layout::{append, cells, padding, references, turn, vtable_distance};
 use crate::place::{Place, Slot};
-use crate::views::MAX_WIDTH;
 use std::alloc::{AllocError, Global};
 use std::marker::Model;
 
@@ -71,9 +71,9 @@ impl Builder {
         Ok(Place::from_end(self.reversed.len()))
     }
 
-    /// Adds a text, and a zero byte behind it. The bytes need not be UTF-8.
+    /// Adds a text, and a zero byte after it. The bytes need not be UTF-8.
     pub fn add_text(&mut self, part: &[u8]) -> Result<Place, AllocError>
-        requires { length self.old + length part.now < MAX_SIZE }
+        requires { length self.old + length part.now < max_size }
         ensures text { IfOk result (Stands (IsText part.now) self.new) }
         ensures grows { Grows self.old self.new }
         ensures size { length self.new ≤ length self.old + length part.now + 32 }
@@ -87,9 +87,9 @@ impl Builder {
     /// Adds a vector whose elements are the parts of `width` bytes, one after the other.
     pub fn add_parts(&mut self, width: u32, parts: &[u8]) -> Result<Place, AllocError>
         requires least { 1 ≤ width }
-        requires most { width ≤ MAX_WIDTH }
+        requires most { width ≤ max_width }
         requires whole { length parts.now % width ≡ 0 }
-        requires room { length self.old + length parts.now < MAX_SIZE }
+        requires room { length self.old + length parts.now < max_size }
         ensures parts { IfOk result (Stands (IsParts width parts.now) self.new) }
         ensures grows { Grows self.old self.new }
         ensures size { length self.new ≤ length self.old + length parts.now + 32 }
@@ -104,7 +104,7 @@ impl Builder {
     /// Adds a vector whose elements refer to places of this builder.
     pub fn add_places(&mut self, places: &[Place]) -> Result<Place, AllocError>
         requires given { All (λ place. place ≤ length self.old) places.now }
-        requires room { length self.old + 4 * length places.now < MAX_SIZE }
+        requires room { length self.old + 4 * length places.now < max_size }
         ensures places { IfOk result (Stands (IsPlaces places.now) self.new) }
         ensures grows { Grows self.old self.new }
         ensures size { length self.new ≤ length self.old + 4 * length places.now + 32 }
@@ -119,9 +119,9 @@ impl Builder {
 
     /// Adds a table with these slots.
     pub fn add_table(&mut self, slots: &[Slot]) -> Result<Place, AllocError>
-        requires few { length slots.now ≤ MAX_SLOTS }
+        requires few { length slots.now ≤ max_slots }
         requires given { AllReach (length self.old) slots.now }
-        requires room { length self.old < MAX_SIZE }
+        requires room { length self.old < max_size }
         ensures slots { IfOk result (Stands (HasSlots slots.now) self.new) }
         ensures grows { Grows self.old self.new }
         ensures size { length self.new ≤ length self.old + 256 }

@@ -2,11 +2,21 @@
 
 ghost use Rattle.std.specs.Prelude.{◌≡◌, ℕ, ◌-◌, List, length, Ok, Err};
 ghost use Rattle.flat_tables.specs.declared.place.Slot.{Slot};
+ghost use Rattle.flat_tables.specs.Limits.{max_width, max_slots, max_size};
 ghost use Rattle.flat_tables.specs.Tables.{table_at};
 ghost use Rattle.flat_tables.specs.Words.{IsTable, HasBadVtable};
 ghost use Rattle.flat_tables.specs.Building.{Grows, Stands, IsText, IsParts, IsPlaces, HasSlots};
 
+use crate::builder::{MAX_SIZE, MAX_SLOTS};
 use crate::fault::FlatFault;
+use crate::views::MAX_WIDTH;
+
+/// The limits have their values.
+pub fn limits_hold()
+    ensures width { MAX_WIDTH ≡ max_width }
+    ensures slots { MAX_SLOTS ≡ max_slots }
+    ensures size { MAX_SIZE ≡ max_size }
+{}
 
 /// When a table is read at a place, and which fault comes when none is.
 pub fn tables_in_words()

@@ -155,7 +155,7 @@ fn entry(slot: Slot, index: usize) -> u16
     }
 }
 
-/// How far the vtable is behind its table, as the table says it: below zero, since it subtracts.
+/// How far the vtable stands after its table, as the table says it: below zero, since it subtracts.
 pub(crate) fn vtable_distance(slots: usize) -> u32
     requires { slots ≤ 16 }
     ensures { result ≡ 2 ^ 32 - (4 + 8 * slots) }

@@ -61,7 +61,7 @@ pub(crate) fn i64_at(bytes: &[u8], place: usize) -> Result<i64, FlatFault>
     Ok(LittleEndian::read_i64(part(bytes, place, 8)?))
 }
 
-/// The place that the u32 at `place` refers to: that far behind it.
+/// The place that the u32 at `place` refers to: that far after it.
 #[tactic(auto, unfolding(crate::specs::Tables::referred))]
 pub(crate) fn referred(bytes: &[u8], place: usize) -> Result<usize, FlatFault>
     ensures { result ≡ referred bytes.now place }

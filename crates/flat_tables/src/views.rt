@@ -2,6 +2,7 @@ ghost use Rattle.std.specs.Prelude.{◌≡◌, ◌+◌, ◌≤◌, ◌<◌, ◌^
 ghost use Rattle.std.specs.Int.{w16, w32, w64};
 ghost use Rattle.std.specs.Option.{option_copied};
 ghost use Rattle.flat_tables.specs.Bytes.{Gives};
+ghost use Rattle.flat_tables.specs.Limits.{max_width};
 ghost use Rattle.flat_tables.specs.Tables.{table_at, text_at, vector_at, root_at, place_of, distance_at, element_place, reference_slot, byte_slot, signed_slot, table_slot, text_slot, vector_slot, element_part, element_reference, element_table, or_default};
 
 use crate::fault::FlatFault;
@@ -143,7 +144,7 @@ impl<'a> TableView<'a> {
     }
 
     /// The bytes of the text that a slot refers to; `None` where the slot is absent. They need not
-    /// be UTF-8, and the zero byte behind them isn't looked at.
+    /// be UTF-8, and the zero byte after them isn't looked at.
     #[tactic(auto, unfolding(crate::specs::Tables::text_at))]
     pub fn text_at(&self, slot: u16) -> Result<Option<&'a [u8]>, FlatFault>
         ensures { Gives option_copied result (text_slot self.now slot) }
@@ -162,7 +163,7 @@ impl<'a> TableView<'a> {
     #[tactic(auto, unfolding(crate::specs::Tables::vector_at))]
     pub fn vector_at(&self, slot: u16, width: u32) -> Result<Option<VectorView<'a>>, FlatFault>
         requires least { 1 ≤ width }
-        requires most { width ≤ MAX_WIDTH }
+        requires most { width ≤ max_width }
         ensures value { result ≡ vector_slot width self.now slot }
         ensures width { IfOk result (λ found. IfSome found (λ vector. vector.width ≡ width)) }
     {
@@ -198,7 +199,7 @@ impl<'a> VectorView<'a> {
     // The vector at a place.
     #[tactic(auto, unfolding(crate::specs::Tables::vector_at))]
     fn at(bytes: &'a [u8], place: usize, width: u32) -> Result<VectorView<'a>, FlatFault>
-        requires { width ≤ MAX_WIDTH }
+        requires { width ≤ max_width }
         ensures value { result ≡ vector_at width bytes.now place }
         ensures width { IfOk result (λ vector. vector.width ≡ width) }
     {

@@ -1,0 +1,14 @@
+-- The limits of views and builders.
+use Rattle.std.specs.Prelude.{ℕ}
+
+-- how many bytes an element of a vector takes at most
+abbrev pub max_width : ℕ
+max_width = 16
+
+-- how many slots a new table has at most
+abbrev pub max_slots : ℕ
+max_slots = 16
+
+-- what a builder holds before a part is added, that part included, is below this number of bytes
+abbrev pub max_size : ℕ
+max_size = 16777216
