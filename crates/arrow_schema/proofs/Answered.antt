@@ -8,8 +8,8 @@ use Rattle.arrow_schema.specs.Says.{SaysSchema}
 use Rattle.arrow_schema.specs.Readable.{IsReadable}
 use Rattle.arrow_schema.specs.Reading.{Fails, schema_of}
 use Rattle.arrow_schema.specs.Defects.{RefusalStands}
-use Rattle.arrow_schema.specs.Laws.Only.{schema_again}
-use Rattle.arrow_schema.specs.Laws.Refused.{schema_refused}
+use Rattle.arrow_schema.proofs.Only.{schema_again}
+use Rattle.arrow_schema.proofs.Refused.{schema_refused}
 
 pub refusal_stands : (t : TableIn) (e : SchemaRefusal) → Fails e (schema_of t) → RefusalStands t e
 refusal_stands t (Flat f) h = schema_refused t (Flat f) h

@@ -5,10 +5,10 @@ use Rattle.std.proofs.Common.{◌≡◌, ◌≤◌, ℕ, zero, suc, arith, ◌+�
 use Rattle.std.proofs.lemmas.List.{at_drop_more}
 use Rattle.arrow_schema.specs.declared.spec.FieldSpec.{FieldSpec, the_lemmas}
 use Rattle.arrow_schema.specs.declared.agreement.Use.{Use}
-use Rattle.arrow_schema.specs.Trees.{total, count_in, count_of, use_of, uses_in, uses_of, name_in, kind_in, dict_in, children_in}
-use Rattle.arrow_schema.specs.Writing.{names_in, names_of, fits_width, widths_in, widths_fit}
-use Rattle.arrow_schema.specs.Laws.Only.{both_true}
-use Rattle.arrow_schema.specs.Laws.FieldTrees.{count_in_is, uses_in_is}
+use Rattle.arrow_schema.specs.Trees.{total, count_in, count_of, use_of, uses_in, uses_of, name_in, kind_in, dict_in, encoding_in, children_in}
+use Rattle.arrow_schema.specs.Writing.{names_in, names_of, fits_width, widths_in, widths_fit, is_named, named_in, encodings_named}
+use Rattle.arrow_schema.proofs.Steps.{both_true}
+use Rattle.arrow_schema.proofs.Folds.{count_in_is, uses_in_is}
 
 pub push_step : (before between after all : List Use) (fs : List FieldSpec) (i : ℕ) (f : FieldSpec) (children : List FieldSpec) → i < length fs → f ≡ get_or fs i f → children ≡ children_in f
     → between ≡ before ++ use_of (kind_in f) (dict_in f) → after ≡ between ++ uses_of children → before ++ uses_of (drop i fs) ≡ all → after ++ uses_of (drop (i + 1) fs) ≡ all
@@ -34,6 +34,16 @@ widths_all (f ∷ fs) = ap (λ (fits : Bool). widths_in f && fits) (widths_all f
 
 pub widths_in_is : (f : FieldSpec) → widths_in f ≡ (fits_width (kind_in f) && widths_fit (children_in f))
 widths_in_is f = search (rules, the_lemmas, widths_all)
+
+named_all : (fs : List FieldSpec) → list_all (λ named. named) (map named_in fs) ≡ encodings_named fs
+named_all [] = refl
+named_all (f ∷ fs) = ap (λ (named : Bool). named_in f && named) (named_all fs)
+
+pub named_in_is : (f : FieldSpec) → named_in f ≡ (is_named (encoding_in f) && encodings_named (children_in f))
+named_in_is f = search (rules, the_lemmas, named_all)
+
+pub named_below : (f : FieldSpec) → IsTrue (named_in f) → IsTrue (is_named (encoding_in f)) × IsTrue (encodings_named (children_in f))
+named_below f h = both_true (is_named (encoding_in f)) (encodings_named (children_in f)) (sym (named_in_is f) ∙ h)
 
 pub widths_below : (f : FieldSpec) → IsTrue (widths_in f) → IsTrue (widths_fit (children_in f))
 widths_below f h = (both_true (fits_width (kind_in f)) (widths_fit (children_in f)) (sym (widths_in_is f) ∙ h)).1

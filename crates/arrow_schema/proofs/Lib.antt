@@ -1,7 +1,23 @@
+pub mod Steps
+pub mod Folds
+pub mod Lists
+mod Elements
+mod Metadata
+mod FieldParts
+mod DictionaryParts
+mod Clear
+pub mod Found
+pub mod Only
+mod Lacking
+pub mod UsesStand
+pub mod Refused
+pub mod Exclusion
 mod Naming
 mod FieldTrees
 mod FieldsStand
 mod Loop
+mod PairLoop
 mod Answered
 mod Written
 mod Writable
+pub mod Branched

@@ -9,7 +9,8 @@ use Rattle.arrow_schema.specs.declared.spec.FieldSpec.{FieldSpec}
 use Rattle.arrow_schema.specs.Trees.{names_differ, kind_in, children_in}
 use Rattle.arrow_schema.specs.Readable.{is_supported, is_readable, are_readable}
 use Rattle.arrow_schema.specs.Writing.{fits_width, widths_fit}
-use Rattle.arrow_schema.specs.Laws.Only.{both_true, tests_of}
+use Rattle.arrow_schema.proofs.Steps.{both_true}
+use Rattle.arrow_schema.proofs.Only.{tests_of}
 use Rattle.arrow_schema.proofs.FieldTrees.{widths_in_is}
 
 supported_fits : (kind : ArrowType) → is_supported kind ≡ true → fits_width kind ≡ true

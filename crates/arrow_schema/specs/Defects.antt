@@ -2,12 +2,12 @@
 use Rattle.std.specs.Prelude.{◌≡◌, ◌≢◌, ℕ, zero, suc, ◌+◌, ◌<◌, ◌==◌, ◌||◌, Bool, true, false, List, Result, Ok, Err, Option, None, Some, ℤ, IsUtf8}
 use Rattle.flat_tables.specs.declared.fault.FlatFault.{FlatFault}
 use Rattle.flat_tables.specs.Tables.{TableIn, VectorIn, vector_slot, element_table}
-use Rattle.arrow_schema.specs.declared.spec.TheConstants.{MAX_DEPTH, MAX_FIELDS}
+use Rattle.arrow_schema.specs.Limits.{max_depth, max_fields}
 use Rattle.arrow_schema.specs.declared.spec.ArrowType.{ArrowType}
 use Rattle.arrow_schema.specs.declared.refusal.SchemaRefusal.{SchemaRefusal}
 use Rattle.arrow_schema.specs.declared.refusal.SchemaRefusal.TheVariants.{Flat, Unsupported, TooManyFields, TooDeep, BadName, DictionaryTypes, Memory}
 use Rattle.arrow_schema.specs.Types.{is_number, is_int_width, is_fixed_width}
-use Rattle.arrow_schema.specs.Slots.{name_slot, kind_slot, int_width, int_sign, precision, timestamp_unit, duration_unit, byte_width, dictionary_slot, dictionary_id, index_slot, index_width, index_sign, byte_order, fields_slot, children_slot}
+use Rattle.arrow_schema.specs.Slots.{name_slot, kind_slot, int_width, int_sign, precision, timestamp_unit, duration_unit, byte_width, dictionary_slot, dictionary_id, index_slot, index_width, index_sign, byte_order, fields_slot, children_slot, metadata_slot, key_slot, value_slot}
 use Rattle.arrow_schema.specs.Reading.{type_of}
 
 -- a table that an element of the vector in a slot of another refers to
@@ -45,16 +45,23 @@ pub data DictionaryFault (e : FlatFault) (t : TableIn) : Type 0 where
   of_index_width : (d u : TableIn) → dictionary_slot t ≡ Ok (Some d) → index_slot d ≡ Ok (Some u) → index_width u ≡ Err e → DictionaryFault e t
   of_index_sign : (d u : TableIn) → dictionary_slot t ≡ Ok (Some d) → index_slot d ≡ Ok (Some u) → index_sign u ≡ Err e → DictionaryFault e t
 
+-- the vector in a slot, and the tables that its elements refer to
+pub data VectorFault (e : FlatFault) (slot : ℕ) (t : TableIn) : Type 0 where
+  of_vector : vector_slot 4 t slot ≡ Err e → VectorFault e slot t
+  of_element : (v : VectorIn) (place : ℕ) → vector_slot 4 t slot ≡ Ok (Some v) → element_table v place ≡ Err e → VectorFault e slot t
+
+-- the custom metadata: its vector and its tables, and the key and the value of each pair
+pub data MetadataFault (e : FlatFault) (t : TableIn) : Type 0 where
+  of_pairs : VectorFault e metadata_slot t → MetadataFault e t
+  of_key : (pair : TableIn) → IsChild metadata_slot t pair → key_slot pair ≡ Err e → MetadataFault e t
+  of_value : (pair : TableIn) → IsChild metadata_slot t pair → value_slot pair ≡ Err e → MetadataFault e t
+
 pub data FieldFault (e : FlatFault) (t : TableIn) : Type 0 where
   of_name : name_slot t ≡ Err e → FieldFault e t
   of_kind : kind_slot t ≡ Err e → FieldFault e t
   of_type : TypeFault e t → FieldFault e t
   of_dictionary : DictionaryFault e t → FieldFault e t
-
--- the vector in a slot, and the tables that its elements refer to
-pub data VectorFault (e : FlatFault) (slot : ℕ) (t : TableIn) : Type 0 where
-  of_vector : vector_slot 4 t slot ≡ Err e → VectorFault e slot t
-  of_element : (v : VectorIn) (place : ℕ) → vector_slot 4 t slot ≡ Ok (Some v) → element_table v place ≡ Err e → VectorFault e slot t
+  of_metadata : MetadataFault e t → FieldFault e t
 
 pub data HasFlatFault (e : FlatFault) (schema : TableIn) : Type 0 where
   in_order : byte_order schema ≡ Err e → HasFlatFault e schema
@@ -64,7 +71,7 @@ pub data HasFlatFault (e : FlatFault) (schema : TableIn) : Type 0 where
 -- ---- what isn't supported
 
 abbrev pub is_type_number : ℕ → Bool
-is_type_number n = n == 2 || n == 3 || n == 4 || n == 5 || n == 6 || n == 10 || n == 13 || n == 15 || n == 18
+is_type_number n = n == 2 || n == 3 || n == 4 || n == 5 || n == 6 || n == 10 || n == 12 || n == 13 || n == 15 || n == 18
 
 pub data UnsupportedType (t : TableIn) : Type 0 where
   other_type : (kind : ℕ) → kind_slot t ≡ Ok kind → is_type_number kind ≡ false → UnsupportedType t
@@ -74,9 +81,16 @@ pub data UnsupportedType (t : TableIn) : Type 0 where
   other_fixed : (n : ℤ) → kind_slot t ≡ Ok 15 → byte_width t ≡ Ok n → is_fixed_width n ≡ false → UnsupportedType t
   other_duration : (n : ℤ) → kind_slot t ≡ Ok 18 → duration_unit t ≡ Ok n → is_number 3 n ≡ false → UnsupportedType t
 
--- a bool and a struct have no dictionary
+-- a bool, a list and a struct have no dictionary
 abbrev pub takes_no_dictionary : ℕ → Bool
-takes_no_dictionary n = n == 6 || n == 13
+takes_no_dictionary n = n == 6 || n == 12 || n == 13
+
+-- what no list has as its child: another type than an unsigned number of 64 bits or a floating-point number, or a dictionary
+pub data UnsupportedElement (t : TableIn) : Type 0 where
+  other_element : (kind : ℕ) → kind_slot t ≡ Ok kind → kind ≢ 2 → kind ≢ 3 → UnsupportedElement t
+  narrow_element : (bits : ℤ) → kind_slot t ≡ Ok 2 → int_width t ≡ Ok bits → is_number 64 bits ≡ false → UnsupportedElement t
+  signed_element : kind_slot t ≡ Ok 2 → int_sign t ≡ Ok true → UnsupportedElement t
+  with_dictionary : (d : TableIn) → dictionary_slot t ≡ Ok (Some d) → UnsupportedElement t
 
 pub data UnsupportedField (t : TableIn) : Type 0 where
   of_type : UnsupportedType t → UnsupportedField t
@@ -85,7 +99,11 @@ pub data UnsupportedField (t : TableIn) : Type 0 where
   other_index : (d u : TableIn) (bits : ℤ) → dictionary_slot t ≡ Ok (Some d) → index_slot d ≡ Ok (Some u) → index_width u ≡ Ok bits
       → (is_number 8 bits || is_number 16 bits) ≡ false → UnsupportedField t
   signed_index : (d u : TableIn) → dictionary_slot t ≡ Ok (Some d) → index_slot d ≡ Ok (Some u) → index_sign u ≡ Ok true → UnsupportedField t
-  with_children : (kind : ℕ) (v : VectorIn) → kind_slot t ≡ Ok kind → kind ≢ 13 → vector_slot 4 t children_slot ≡ Ok (Some v) → 0 < v.count → UnsupportedField t
+  with_children : (kind : ℕ) (v : VectorIn) → kind_slot t ≡ Ok kind → kind ≢ 12 → kind ≢ 13 → vector_slot 4 t children_slot ≡ Ok (Some v) → 0 < v.count → UnsupportedField t
+  -- a list has exactly one child
+  no_child : kind_slot t ≡ Ok 12 → vector_slot 4 t children_slot ≡ Ok None → UnsupportedField t
+  other_count : (v : VectorIn) → kind_slot t ≡ Ok 12 → vector_slot 4 t children_slot ≡ Ok (Some v) → v.count ≢ 1 → UnsupportedField t
+  other_child : (u : TableIn) → kind_slot t ≡ Ok 12 → IsChild children_slot t u → UnsupportedElement u → UnsupportedField t
 
 pub data IsUnsupported (schema : TableIn) : Type 0 where
   other_order : (n : ℤ) → byte_order schema ≡ Ok n → is_number 0 n ≡ false → IsUnsupported schema
@@ -114,11 +132,11 @@ fields_below (suc depth) slot t = of_vector_in (λ v. v.count + below_elements (
 
 pub record HasTooManyFields (schema : TableIn) : Type 0 where
   pub depth : ℕ
-  pub many : MAX_FIELDS < fields_below depth fields_slot schema
+  pub many : max_fields < fields_below depth fields_slot schema
 
 pub record IsTooDeep (schema : TableIn) : Type 0 where
   pub t : TableIn
-  pub deepest : IsField schema MAX_DEPTH t
+  pub deepest : IsField schema max_depth t
   pub vector : VectorIn
   pub has : vector_slot 4 t children_slot ≡ Ok (Some vector)
   pub some : 0 < vector.count
@@ -162,7 +180,7 @@ HasDefect schema BadName = HasBadName schema
 HasDefect schema DictionaryTypes = HasTwoTypes schema
 HasDefect schema (Memory e) = ⊥
 
--- a refusal that is answered stands, unless memory ran out
+-- a refusal that is returned stands, unless memory ran out
 abbrev pub RefusalStands : TableIn → SchemaRefusal → Type 0
 RefusalStands schema (Memory e) = Unit {0}
 RefusalStands schema e = HasDefect schema e

@@ -1,10 +1,13 @@
 pub mod formers
+pub mod Limits
 pub mod Types
 pub mod Trees
 pub mod Slots
+pub mod Encodings
 pub mod Says
 pub mod Readable
 pub mod Reading
 pub mod Defects
-pub mod Laws
 pub mod Writing
+pub mod Branches
+pub mod Standing

@@ -5,16 +5,19 @@ use Rattle.flat_tables.specs.declared.fault.FlatFault.{FlatFault}
 use Rattle.flat_tables.specs.Bytes.{◌>>=◌}
 use Rattle.flat_tables.specs.Tables.{TableIn, VectorIn, vector_slot, element_table}
 use Rattle.arrow_schema.specs.declared.spec.ArrowType.{ArrowType}
-use Rattle.arrow_schema.specs.declared.spec.ArrowType.TheVariants.{Bool as Boolean, Int, Double, Utf8, Binary, Fixed, Timestamp, Duration, Struct}
+use Rattle.arrow_schema.specs.declared.spec.ArrowType.TheVariants.{Bool as Boolean, Int, Double, Utf8, Binary, Fixed, Timestamp, Duration, Struct, List as ListType}
 use Rattle.arrow_schema.specs.declared.spec.DictSpec.{DictSpec}
 use Rattle.arrow_schema.specs.declared.refusal.SchemaRefusal.{SchemaRefusal}
 use Rattle.arrow_schema.specs.declared.refusal.SchemaRefusal.TheVariants.{Flat, Unsupported, TooManyFields, TooDeep, BadName, DictionaryTypes, Memory}
-use Rattle.arrow_schema.specs.declared.spec.TheConstants.{MAX_DEPTH, MAX_FIELDS}
+use Rattle.arrow_schema.specs.declared.spec.Encoding.{Encoding}
+use Rattle.arrow_schema.specs.declared.spec.Encoding.TheVariants as encoding
+use Rattle.arrow_schema.specs.Limits.{max_depth, max_fields}
 use Rattle.arrow_schema.specs.declared.spec.FieldSpec.{FieldSpec}
 use Rattle.arrow_schema.specs.Trees.{field_with, names_differ, uses_of, uses_agree}
 use Rattle.arrow_schema.specs.Readable.{fits_children}
 use Rattle.arrow_schema.specs.Types.{takes_dictionary, is_number, is_int_width, is_fixed_width}
-use Rattle.arrow_schema.specs.Slots.{name_slot, kind_slot, int_width, int_sign, precision, timestamp_unit, duration_unit, byte_width, dictionary_slot, dictionary_id, index_slot, index_width, index_sign, byte_order, fields_slot, children_slot}
+use Rattle.arrow_schema.specs.Slots.{name_slot, kind_slot, int_width, int_sign, precision, timestamp_unit, duration_unit, byte_width, dictionary_slot, dictionary_id, index_slot, index_width, index_sign, byte_order, fields_slot, children_slot, metadata_slot, key_slot, value_slot}
+use Rattle.arrow_schema.specs.Encodings.{is_encoding_key, encoding_by}
 
 -- a fault of the tables is a refusal
 abbrev pub flat : {A : Type 0} → Result A FlatFault → Result A SchemaRefusal
@@ -56,6 +59,7 @@ type_with t kind =
     else if kind == 5 then Ok Utf8
     else if kind == 6 then Ok Boolean
     else if kind == 10 then number_of 3 Timestamp (timestamp_unit t)
+    else if kind == 12 then Ok ListType
     else if kind == 13 then Ok Struct
     else if kind == 15 then fixed_of t
     else if kind == 18 then number_of 3 Duration (duration_unit t)
@@ -74,15 +78,36 @@ abbrev pub index_of : Option TableIn → Result Bool SchemaRefusal
 index_of None = Err Unsupported
 index_of (Some u) = is_wide u
 
-unfoldable pub encoding_of : TableIn → Result DictSpec SchemaRefusal
-encoding_of d = flat (dictionary_id d) >>= λ id. flat (index_slot d) >>= index_of >>= λ wide. Ok (record { id = id; wide = wide })
+unfoldable pub dict_of : TableIn → Result DictSpec SchemaRefusal
+dict_of d = flat (dictionary_id d) >>= λ id. flat (index_slot d) >>= index_of >>= λ wide. Ok (record { id = id; wide = wide })
 
 abbrev pub dictionary_in : ArrowType → Option TableIn → Result (Option DictSpec) SchemaRefusal
 dictionary_in kind None = Ok None
-dictionary_in kind (Some d) = where_supported (takes_dictionary kind) d >>= encoding_of >>= λ dict. Ok (Some dict)
+dictionary_in kind (Some d) = where_supported (takes_dictionary kind) d >>= dict_of >>= λ dict. Ok (Some dict)
 
 unfoldable pub dictionary_of : ArrowType → TableIn → Result (Option DictSpec) SchemaRefusal
 dictionary_of kind t = flat (dictionary_slot t) >>= dictionary_in kind
+
+-- the encoding that a pair names, where none was named before it
+abbrev pub encoding_with : Option (List ℕ) → Option (List ℕ) → Encoding → Encoding
+encoding_with key value encoding.None = if is_encoding_key key then encoding_by value else encoding.None
+encoding_with key value found = found
+
+-- the encoding that a vector's pairs from a place on name, where those before it named this one; each is read
+abbrev pub of_pair : Encoding → Option TableIn → Result Encoding FlatFault
+of_pair found None = Ok found
+of_pair found (Some t) = key_slot t >>= λ key. value_slot t >>= λ value. Ok (encoding_with key value found)
+
+unfoldable pub encoding_from : VectorIn → ℕ → ℕ → Encoding → Result Encoding FlatFault
+encoding_from v place zero found = Ok found
+encoding_from v place (suc n) found = element_table v place >>= of_pair found >>= encoding_from v (place + 1) n
+
+abbrev pub in_metadata : Option VectorIn → Result Encoding FlatFault
+in_metadata None = Ok encoding.None
+in_metadata (Some v) = encoding_from v 0 v.count encoding.None
+
+unfoldable pub encoding_of : TableIn → Result Encoding FlatFault
+encoding_of t = vector_slot 4 t metadata_slot >>= in_metadata
 
 -- Fields that were read, and how many more the schema may have.
 abbrev pub Fields : Type 0
@@ -102,8 +127,9 @@ field_of vector left t =
     name_of t >>= λ name.
     type_of t >>= λ kind.
     dictionary_of kind t >>= λ dict.
+    flat (encoding_of t) >>= λ named.
     slot_of vector children_slot left t >>= λ fields.
-    where_supported (fits_children kind fields.0) (field_with name kind dict fields.0, fields.1)
+    where_supported (fits_children kind fields.0) (field_with name kind dict named fields.0, fields.1)
 
 -- the field that an element of a vector refers to, and those after it
 abbrev pub of_element : (TableIn → Result Fields SchemaRefusal) → ℕ → Option TableIn → Result Fields SchemaRefusal
@@ -119,7 +145,7 @@ fields_from field v place (suc n) left =
 abbrev pub with_own_names : Fields → Result Fields SchemaRefusal
 with_own_names fields = if names_differ fields.0 then Ok fields else Err BadName
 
--- the fields of a vector, which may be nested so deep; all are counted before any is read
+-- the fields of a vector, nested at most this deep; all are counted before any is read
 unfoldable pub vector_of : ℕ → ℕ → VectorIn → Result Fields SchemaRefusal
 vector_of zero left v =
     if v.count == 0 then Ok ([], left)
@@ -137,4 +163,4 @@ with_agreeing_uses fields = if uses_agree (uses_of fields.0) then Ok fields.0 el
 unfoldable pub schema_of : TableIn → Result (List FieldSpec) SchemaRefusal
 schema_of t =
     flat (byte_order t) >>= λ order.
-    where_supported (is_number 0 order) t >>= slot_of (vector_of MAX_DEPTH) fields_slot MAX_FIELDS >>= with_agreeing_uses
+    where_supported (is_number 0 order) t >>= slot_of (vector_of max_depth) fields_slot max_fields >>= with_agreeing_uses

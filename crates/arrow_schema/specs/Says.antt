@@ -1,14 +1,16 @@
--- What it means that tables say a field or a schema (Arrow's Schema.fbs: `Schema`, `Field`, `DictionaryEncoding` and
--- the tables of types). No limit is spoken of here.
-use Rattle.std.specs.Prelude.{◌≡◌, ◌⊎◌, ℕ, ◌<◌, Bool, false, if◌then◌else◌, List, [], length, slice_index_or, Ok, Option, None, Some, pos}
+-- What it means that tables say a field or a schema (Arrow's Schema.fbs: `Schema`, `Field`, `DictionaryEncoding`,
+-- `KeyValue` and the tables of types). No limit is spoken of here.
+use Rattle.std.specs.Prelude.{◌≡◌, ◌⊎◌, ℕ, ◌<◌, Bool, false, if◌then◌else◌, List, [], ◌∷◌, length, slice_index_or, Ok, Option, None, Some, pos}
 use Rattle.flat_tables.specs.Tables.{TableIn, VectorIn, vector_slot, element_table}
 use Rattle.arrow_schema.specs.declared.spec.ArrowType.{ArrowType}
 use Rattle.arrow_schema.specs.declared.spec.ArrowType.TheVariants.{Int, Double, Fixed, Timestamp, Duration}
 use Rattle.arrow_schema.specs.declared.spec.DictSpec.{DictSpec}
+use Rattle.arrow_schema.specs.declared.spec.Encoding.{Encoding}
 use Rattle.arrow_schema.specs.declared.spec.FieldSpec.{FieldSpec}
 use Rattle.arrow_schema.specs.Types.{type_number}
-use Rattle.arrow_schema.specs.Slots.{name_slot, kind_slot, int_width, int_sign, precision, timestamp_unit, duration_unit, byte_width, dictionary_slot, dictionary_id, index_slot, index_width, index_sign, byte_order, fields_slot, children_slot}
-use Rattle.arrow_schema.specs.Trees.{name_in, kind_in, dict_in, children_in}
+use Rattle.arrow_schema.specs.Slots.{name_slot, kind_slot, int_width, int_sign, precision, timestamp_unit, duration_unit, byte_width, dictionary_slot, dictionary_id, index_slot, index_width, index_sign, byte_order, fields_slot, children_slot, metadata_slot, key_slot, value_slot}
+use Rattle.arrow_schema.specs.Encodings.{Pair, encoding_of_pairs}
+use Rattle.arrow_schema.specs.Trees.{name_in, kind_in, dict_in, encoding_in, children_in}
 
 -- the numbers in the table of a field's type
 abbrev pub SaysNumbers : TableIn → ArrowType → Type 0
@@ -24,7 +26,7 @@ pub record SaysIndex (u : TableIn) (wide : Bool) : Type 0 where
   pub width : index_width u ≡ Ok (pos (if wide then 16 else 8))
   pub sign : index_sign u ≡ Ok false
 
-pub record SaysEncoding (d : TableIn) (dict : DictSpec) : Type 0 where
+pub record SaysDict (d : TableIn) (dict : DictSpec) : Type 0 where
   pub id : dictionary_id d ≡ Ok dict.id
   pub index : TableIn
   pub at : index_slot d ≡ Ok (Some index)
@@ -32,7 +34,7 @@ pub record SaysEncoding (d : TableIn) (dict : DictSpec) : Type 0 where
 
 abbrev pub SaysDictionary : TableIn → Option DictSpec → Type 0
 SaysDictionary t None = dictionary_slot t ≡ Ok None
-SaysDictionary t (Some dict) = (d : TableIn) × (dictionary_slot t ≡ Ok (Some d)) × SaysEncoding d dict
+SaysDictionary t (Some dict) = (d : TableIn) × (dictionary_slot t ≡ Ok (Some d)) × SaysDict d dict
 
 -- the tables that the elements of a vector refer to, and those of the vector in a slot; an absent vector has none
 pub record HasElements (v : VectorIn) (tables : List TableIn) : Type 0 where
@@ -44,12 +46,32 @@ HasTables slot t tables =
     ((vector_slot 4 t slot ≡ Ok None) × (tables ≡ []))
     ⊎ ((v : VectorIn) × (vector_slot 4 t slot ≡ Ok (Some v)) × HasElements v tables)
 
--- a table says a field: its name, its type, its dictionary, and its children by their tables, in order
+-- a table KeyValue says a pair
+pub record SaysPair (t : TableIn) (pair : Pair) : Type 0 where
+  pub key : key_slot t ≡ Ok pair.key
+  pub value : value_slot t ≡ Ok pair.value
+
+abbrev pub SayPairs : List TableIn → List Pair → Type 0
+SayPairs [] [] = Unit {0}
+SayPairs (t ∷ tables) (pair ∷ pairs) = SaysPair t pair × SayPairs tables pairs
+SayPairs [] (pair ∷ pairs) = ⊥
+SayPairs (t ∷ tables) [] = ⊥
+
+-- a field's custom metadata names an encoding: all of its pairs are read
+pub record SaysEncoding (t : TableIn) (encoding : Encoding) : Type 0 where
+  pub tables : List TableIn
+  pub has : HasTables metadata_slot t tables
+  pub pairs : List Pair
+  pub say : SayPairs tables pairs
+  pub names : encoding_of_pairs pairs ≡ encoding
+
+-- a table says a field: its name, its type, its dictionary, its encoding, and its children by their tables, in order
 pub data SaysField : TableIn → FieldSpec → Type 0 where
   says : (t : TableIn) (f : FieldSpec) (tables : List TableIn)
       → name_slot t ≡ Ok (name_in f)
       → kind_slot t ≡ Ok (type_number (kind_in f)) → SaysNumbers t (kind_in f)
       → SaysDictionary t (dict_in f)
+      → SaysEncoding t (encoding_in f)
       → HasTables children_slot t tables → length tables ≡ length (children_in f)
       → ((i : ℕ) (u : TableIn) (g : FieldSpec) → i < length tables → SaysField (slice_index_or tables i u) (slice_index_or (children_in f) i g))
       → SaysField t f

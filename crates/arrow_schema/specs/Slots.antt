@@ -1,4 +1,4 @@
--- What the tables of a field say, slot by slot (Arrow's Schema.fbs: `Field`, `DictionaryEncoding` and the tables of types).
+-- What the tables of a field say, slot by slot (Arrow's Schema.fbs: `Field`, `DictionaryEncoding`, `KeyValue` and the tables of types).
 use Rattle.std.specs.Prelude.{ℕ, ◌==◌, not, Bool, List, [], Result, Ok, Option, None, Some, ℤ, pos}
 use Rattle.std.specs.Int.{Width, w16, w32, w64}
 use Rattle.flat_tables.specs.declared.fault.FlatFault.{FlatFault}
@@ -68,3 +68,13 @@ fields_slot = 1
 
 abbrev pub children_slot : ℕ
 children_slot = 5
+
+-- the vector of a field's custom metadata, and the key and the value of a pair in it
+abbrev pub metadata_slot : ℕ
+metadata_slot = 6
+
+abbrev pub key_slot : TableIn → Result (Option (List ℕ)) FlatFault
+key_slot pair = text_slot pair 0
+
+abbrev pub value_slot : TableIn → Result (Option (List ℕ)) FlatFault
+value_slot pair = text_slot pair 1

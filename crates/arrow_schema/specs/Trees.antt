@@ -4,6 +4,7 @@ use Rattle.std.specs.List.{flat_map, list_all}
 use Rattle.std.specs.Ordering.{int_eq}
 use Rattle.arrow_schema.specs.declared.spec.ArrowType.{ArrowType}
 use Rattle.arrow_schema.specs.declared.spec.DictSpec.{DictSpec}
+use Rattle.arrow_schema.specs.declared.spec.Encoding.{Encoding}
 use Rattle.arrow_schema.specs.declared.spec.FieldSpec.{FieldSpec, out-FieldSpec, fold-FieldSpec}
 use Rattle.arrow_schema.specs.declared.spec.FieldSpec.TheOpen.{FieldSpec-F}
 use Rattle.arrow_schema.specs.declared.agreement.Use.{Use}
@@ -19,12 +20,16 @@ kind_in f = (out-FieldSpec f).kind
 abbrev pub dict_in : FieldSpec → Option DictSpec
 dict_in f = (out-FieldSpec f).dict
 
+abbrev pub encoding_in : FieldSpec → Encoding
+encoding_in f = (out-FieldSpec f).encoding
+
 abbrev pub children_in : FieldSpec → List FieldSpec
 children_in f = (out-FieldSpec f).children
 
--- the field with this name, type, dictionary and these children
-abbrev pub field_with : List ℕ → ArrowType → Option DictSpec → List FieldSpec → FieldSpec
-field_with name kind dict children = roll-FieldSpec (record { name = name; kind = kind; dict = dict; children = children })
+-- the field with this name, type, dictionary, encoding and these children
+abbrev pub field_with : List ℕ → ArrowType → Option DictSpec → Encoding → List FieldSpec → FieldSpec
+field_with name kind dict encoding children =
+    roll-FieldSpec (record { name = name; kind = kind; dict = dict; encoding = encoding; children = children })
 
 -- the sum of numbers
 abbrev pub total : List ℕ → ℕ

@@ -8,7 +8,7 @@ ghost use Rattle.arrow_schema.specs.Reading as reading;
 
 use crate::name::Name;
 use crate::refusal::SchemaRefusal;
-use crate::spec::{ArrowType, DictSpec};
+use crate::spec::{ArrowType, DictSpec, MAX_FIXED};
 use flat_tables::{FlatFault, TableView};
 use std::alloc::Global;
 use std::str::from_utf8;
@@ -82,7 +82,7 @@ fn read_fixed(field: &TableView<'_>) -> Result<ArrowType, SchemaRefusal>
     ensures { reading.Gives (λ kind. kind) result (reading.fixed_of field.now) }
 {
     match type_i32(field)? {
-        width @ 1..=65_536 => Ok(ArrowType::Fixed(width as u32)),
+        width if width >= 1 && width as u32 <= MAX_FIXED => Ok(ArrowType::Fixed(width as u32)),
         _ => Err(SchemaRefusal::Unsupported),
     }
 }
@@ -99,6 +99,7 @@ pub(crate) fn read_type(field: &TableView<'_>) -> Result<ArrowType, SchemaRefusa
         5 => Ok(ArrowType::Utf8),
         6 => Ok(ArrowType::Bool),
         10 => read_number(type_i16(field, 0), 3, ArrowType::Timestamp),
+        12 => Ok(ArrowType::List),
         13 => Ok(ArrowType::Struct),
         15 => read_fixed(field),
         18 => read_number(type_i16(field, 1), 3, ArrowType::Duration),
@@ -137,9 +138,9 @@ fn read_wide(index: &TableView<'_>) -> Result<bool, SchemaRefusal>
     }
 }
 
-#[tactic(auto, unfolding(crate::specs::Reading::encoding_of))]
-fn read_encoding(dictionary: &TableView<'_>) -> Result<DictSpec, SchemaRefusal>
-    ensures { reading.Gives (λ dict. dict) result (reading.encoding_of dictionary.now) }
+#[tactic(auto, unfolding(crate::specs::Reading::dict_of))]
+fn read_dict(dictionary: &TableView<'_>) -> Result<DictSpec, SchemaRefusal>
+    ensures { reading.Gives (λ dict. dict) result (reading.dict_of dictionary.now) }
 {
     let id = dictionary.i64_at(0, 0)?;
     match dictionary.table_at(1)? {
@@ -162,6 +163,6 @@ pub(crate) fn read_dictionary(
     match field.table_at(4)? {
         None => Ok(None),
         Some(_) if !kind.takes_dictionary() => Err(SchemaRefusal::Unsupported),
-        Some(dictionary) => Ok(Some(read_encoding(&dictionary)?)),
+        Some(dictionary) => Ok(Some(read_dict(&dictionary)?)),
     }
 }

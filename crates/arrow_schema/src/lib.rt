@@ -2,6 +2,7 @@
 #![tactic(auto)]
 
 mod agreement;
+mod encoding;
 mod field;
 pub mod laws;
 mod list;
@@ -17,5 +18,7 @@ pub use crate::list::FieldList;
 pub use crate::name::Name;
 pub use crate::reading::read_schema;
 pub use crate::refusal::SchemaRefusal;
-pub use crate::spec::{ArrowType, DictSpec, FieldSpec, MAX_DEPTH, MAX_FIELDS, SchemaSpec};
+pub use crate::spec::{
+    ArrowType, DictSpec, Encoding, FieldSpec, MAX_DEPTH, MAX_FIELDS, MAX_FIXED, SchemaSpec,
+};
 pub use crate::writing::{MAX_SIZE_BEFORE, MAX_WRITTEN_FIELDS, MAX_WRITTEN_NAMES, add_schema};

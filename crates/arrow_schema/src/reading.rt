@@ -4,11 +4,12 @@ ghost use Rattle.arrow_schema.specs.declared.spec.FieldSpec.{FieldSpec};
 ghost use Rattle.arrow_schema.specs.Trees.{names_differ, uses_of, uses_agree};
 ghost use Rattle.arrow_schema.specs.declared.refusal.SchemaRefusal.{SchemaRefusal};
 ghost use Rattle.arrow_schema.specs.Says.{SaysSchema};
-ghost use Rattle.arrow_schema.specs.Readable.{IsReadable};
+ghost use Rattle.arrow_schema.specs.Readable.{IsReadable, fits_children};
 ghost use Rattle.arrow_schema.specs.Defects.{HasDefect, RefusalStands};
 ghost use Rattle.arrow_schema.specs.Reading.{Gives, field_of, fields_from, slot_of, vector_of, schema_of};
 
 use crate::agreement::{names_differ, uses_agree};
+use crate::encoding::read_encoding;
 use crate::field::{read_dictionary, read_name, read_type};
 use crate::list::FieldList;
 use crate::refusal::SchemaRefusal;
@@ -16,7 +17,7 @@ use crate::spec::{ArrowType, FieldSpec, MAX_DEPTH, MAX_FIELDS, SchemaSpec};
 use flat_tables::{TableView, VectorView};
 use std::alloc::Global;
 
-/// Reads the schema of a `Schema` table. Of several refusals that stand, it answers one.
+/// Reads the schema of a `Schema` table. Where several refusals stand, it returns one of them.
 ///
 /// The fields are counted before they are read, and nested at most [`MAX_DEPTH`] deep, so it ends
 /// soon, however the tables refer to one another.
@@ -128,15 +129,30 @@ fn read_field(
     let name = read_name(alloc, table)?;
     let kind = read_type(table)?;
     let dict = read_dictionary(table, kind)?;
+    let encoding = read_encoding(table)?;
     let (children, left) = read_slot(alloc, table, 5, depth, left)?;
-    if kind != ArrowType::Struct && !children.is_empty() {
+    if !fits_children(kind, children.as_slice()) {
         return Err(SchemaRefusal::Unsupported);
     }
     let field = FieldSpec {
         name,
         kind,
         dict,
+        encoding,
         children,
     };
     Ok((field, left))
+}
+
+// Whether a field of this type may have these children.
+fn fits_children(kind: ArrowType, children: &[FieldSpec]) -> bool
+    ensures { result ≡ fits_children kind children.now }
+{
+    match (kind, children) {
+        (ArrowType::Struct, _) => true,
+        (ArrowType::List, [child]) => child.kind.is_element_type() && child.dict.is_none(),
+        (ArrowType::List, _) => false,
+        (_, []) => true,
+        _ => false,
+    }
 }

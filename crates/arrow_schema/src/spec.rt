@@ -1,6 +1,6 @@
 ghost use Rattle.std.specs.Prelude.{◌≡◌, ◌==◌, ◌++◌, ◌∷◌, [], length, slice_get, OnOk, OnErr};
 ghost use Rattle.std.specs.Option.{option_copied};
-ghost use Rattle.arrow_schema.specs.Types.{takes_dictionary, type_number};
+ghost use Rattle.arrow_schema.specs.Types.{is_element_type, takes_dictionary, type_number};
 
 use crate::list::FieldList;
 use crate::name::Name;
@@ -12,6 +12,9 @@ pub const MAX_FIELDS: u32 = 128;
 
 /// How deep the fields of a schema are nested at most. Its own fields have depth 1.
 pub const MAX_DEPTH: u32 = 3;
+
+/// How many bytes the values of a fixed binary have at most.
+pub const MAX_FIXED: u32 = 65_536;
 
 /// The type of a field's values.
 #[derive(Clone, Copy, Debug, PartialEq, Eq)]
@@ -28,6 +31,8 @@ pub enum ArrowType {
     /// Nanoseconds.
     Duration,
     Struct,
+    /// Lists of the values of the field's one child: unsigned numbers of 64 bits, or doubles.
+    List,
 }
 
 impl ArrowType {
@@ -42,17 +47,32 @@ impl ArrowType {
             ArrowType::Utf8 => 5,
             ArrowType::Bool => 6,
             ArrowType::Timestamp => 10,
+            ArrowType::List => 12,
             ArrowType::Struct => 13,
             ArrowType::Fixed(_) => 15,
             ArrowType::Duration => 18,
         }
     }
 
+    /// Whether its values may be the elements of a list.
+    pub(crate) fn is_element_type(self) -> bool
+        ensures { result ≡ is_element_type self }
+    {
+        matches!(
+            self,
+            ArrowType::Double
+                | ArrowType::Int {
+                    bits: 64,
+                    signed: false
+                }
+        )
+    }
+
     /// Whether values of the type may stand in a dictionary.
     pub(crate) fn takes_dictionary(self) -> bool
         ensures { result ≡ takes_dictionary self }
     {
-        !matches!(self, ArrowType::Bool | ArrowType::Struct)
+        !matches!(self, ArrowType::Bool | ArrowType::Struct | ArrowType::List)
     }
 }
 
@@ -64,12 +84,29 @@ pub struct DictSpec {
     pub wide: bool,
 }
 
+/// How the stored numbers of a column give its ids, where the custom metadata of its field says it:
+/// the value of the first pair whose key is `encoding`.
+#[derive(Clone, Copy, Debug, PartialEq, Eq)]
+pub enum Encoding {
+    /// No pair has that key.
+    None,
+    /// The value is `plain`.
+    Plain,
+    /// The value is `delta`.
+    Delta,
+    /// The value is `run`.
+    Run,
+    /// There is another value, or none.
+    Other,
+}
+
 /// A field of a schema.
 #[derive(Debug, Drop)]
 pub struct FieldSpec {
     pub name: Name,
     pub kind: ArrowType,
     pub dict: Option<DictSpec>,
+    pub encoding: Encoding,
     pub children: FieldList<FieldSpec>,
 }
 

@@ -1,6 +1,6 @@
 use crate::{
-    ArrowType, DictSpec, FieldList, FieldSpec, Name, SchemaRefusal, SchemaSpec, add_schema,
-    read_schema,
+    ArrowType, DictSpec, Encoding, FieldList, FieldSpec, Name, SchemaRefusal, SchemaSpec,
+    add_schema, read_schema,
 };
 use flat_tables::{Builder, TableView};
 use std::alloc::Global;
@@ -69,6 +69,7 @@ fn reads_what_it_adds(rt: HostRuntime) -> Result<(), Fail> {
         name: Name::from_str(alloc, "key")?,
         kind: ArrowType::Utf8,
         dict: Some(DictSpec { id: -7, wide: true }),
+        encoding: Encoding::None,
         children: FieldList::new(alloc),
     })?;
     let mut spec = SchemaSpec::new(alloc);
@@ -76,6 +77,7 @@ fn reads_what_it_adds(rt: HostRuntime) -> Result<(), Fail> {
         name: Name::from_str(alloc, "of")?,
         kind: ArrowType::Struct,
         dict: None,
+        encoding: Encoding::Run,
         children,
     })?;
 
@@ -87,6 +89,7 @@ fn reads_what_it_adds(rt: HostRuntime) -> Result<(), Fail> {
     assert_eq!(rt; read.len(), 1);
     let field = read.get(0).ok_or("no field")?;
     assert_eq!(rt; field.kind, ArrowType::Struct);
+    assert_eq!(rt; field.encoding, Encoding::Run);
     let child = field.children.get(0).ok_or("no child")?;
     assert!(rt; child.name.as_slice() == b"key".as_slice());
     assert_eq!(rt; child.kind, ArrowType::Utf8);

@@ -1,11 +1,13 @@
 ghost use Rattle.std.specs.Prelude.{◌≡◌, ◌+◌, ◌*◌, ◌≤◌, ◌<◌, ◌^◌, ℕ, List, length, IfOk, IsTrue};
 ghost use Rattle.flat_tables.specs.Slots.{Reaches};
 ghost use Rattle.flat_tables.specs.Building.{Grows, Stands, HasSlots};
+ghost use Rattle.arrow_schema.specs.Limits.{max_written_fields, max_written_names, max_size_before};
 ghost use Rattle.arrow_schema.specs.Trees.{count_in, count_of};
 ghost use Rattle.arrow_schema.specs.Types.{type_number};
-ghost use Rattle.arrow_schema.specs.Writing.{names_in, names_of, fits_width, widths_in, widths_fit, type_slots, index_slots, IsDictTable, IsDictSlot, IsFieldTable, IsFieldVector, IsSchemaTable};
+ghost use Rattle.arrow_schema.specs.Writing.{names_in, names_of, fits_width, widths_in, widths_fit, is_named, named_in, encodings_named, type_slots, WritesDict, WritesPair, WritesField, WritesFields, IsSchemaTable};
+ghost use Rattle.arrow_schema.specs.Standing.{DictionaryStands, MetadataStands};
 
-use crate::spec::{ArrowType, DictSpec, FieldSpec, SchemaSpec};
+use crate::spec::{ArrowType, DictSpec, Encoding, FieldSpec, SchemaSpec};
 use flat_tables::{Builder, Place, Slot};
 use std::alloc::AllocError;
 
@@ -18,17 +20,19 @@ pub const MAX_WRITTEN_NAMES: usize = 1 << 20;
 /// What a builder may hold before a schema is added.
 pub const MAX_SIZE_BEFORE: usize = 1 << 22;
 
-/// Adds the `Schema` table of a schema, in little-endian order, with nullable fields and no metadata.
+/// Adds the `Schema` table of a schema, in little-endian order. All fields are nullable, no timestamp has
+/// a timezone, and the custom metadata of a field has no pair but the one that names its encoding.
 ///
 /// Where memory runs out, what stood in the builder still stands, and parts of the schema may.
 pub fn add_schema(builder: &mut Builder, spec: &SchemaSpec) -> Result<Place, AllocError>
-    requires few { count_of spec.now ≤ MAX_WRITTEN_FIELDS }
-    requires names { names_of spec.now ≤ MAX_WRITTEN_NAMES }
+    requires few { count_of spec.now ≤ max_written_fields }
+    requires names { names_of spec.now ≤ max_written_names }
     requires widths { IsTrue (widths_fit spec.now) }
-    requires room { length builder.old < MAX_SIZE_BEFORE }
+    requires encodings { IsTrue (encodings_named spec.now) }
+    requires room { length builder.old < max_size_before }
     ensures schema { IfOk result (Stands (IsSchemaTable spec.now) builder.new) }
     ensures grows { Grows builder.old builder.new }
-    ensures size { length builder.new ≤ length builder.old + names_of spec.now + 1100 * count_of spec.now + 512 }
+    ensures size { length builder.new ≤ length builder.old + names_of spec.now + 1500 * count_of spec.now + 512 }
 {
     let fields = add_fields(builder, spec.as_slice())?;
     let place = builder.add_table(&[Slot::Absent, Slot::At(fields)])?;
@@ -40,10 +44,11 @@ pub fn add_schema(builder: &mut Builder, spec: &SchemaSpec) -> Result<Place, All
 #[tactic(auto, using(crate::proofs::FieldTrees::costs_more, flat_tables::proofs::Standing::grows_on))]
 fn add_fields(builder: &mut Builder, fields: &[FieldSpec]) -> Result<Place, AllocError>
     requires widths { IsTrue (widths_fit fields.now) }
-    requires room { length builder.old + names_of fields.now + 1100 * count_of fields.now + 32 < 2 ^ 24 }
-    ensures fields { IfOk result (Stands (IsFieldVector fields.now) builder.new) }
+    requires encodings { IsTrue (encodings_named fields.now) }
+    requires room { length builder.old + names_of fields.now + 1500 * count_of fields.now + 32 < 2 ^ 24 }
+    ensures fields { IfOk result (Stands (WritesFields fields.now) builder.new) }
     ensures grows { Grows builder.old builder.new }
-    ensures size { length builder.new ≤ length builder.old + names_of fields.now + 1100 * count_of fields.now + 32 }
+    ensures size { length builder.new ≤ length builder.old + names_of fields.now + 1500 * count_of fields.now + 32 }
 {
     let mut places = Vec::with_capacity(builder.alloc(), fields.len())?;
     for field in fields {
@@ -54,18 +59,20 @@ fn add_fields(builder: &mut Builder, fields: &[FieldSpec]) -> Result<Place, Allo
 }
 
 #[cycle(write)]
-#[tactic(auto, using(crate::proofs::FieldTrees::costs, crate::proofs::FieldTrees::widths_below, flat_tables::proofs::Standing::grows_on))]
+#[tactic(auto, using(crate::proofs::FieldTrees::costs, crate::proofs::FieldTrees::widths_below, crate::proofs::FieldTrees::named_below, flat_tables::proofs::Standing::grows_on))]
 fn add_field(builder: &mut Builder, field: &FieldSpec) -> Result<Place, AllocError>
     requires widths { IsTrue (widths_in field.now) }
-    requires room { length builder.old + names_in field.now + 1100 * count_in field.now < 2 ^ 24 }
-    ensures field { IfOk result (Stands (IsFieldTable field.now) builder.new) }
+    requires encodings { IsTrue (named_in field.now) }
+    requires room { length builder.old + names_in field.now + 1500 * count_in field.now < 2 ^ 24 }
+    ensures field { IfOk result (Stands (WritesField field.now) builder.new) }
     ensures grows { Grows builder.old builder.new }
-    ensures size { length builder.new + 4 ≤ length builder.old + names_in field.now + 1100 * count_in field.now }
+    ensures size { length builder.new + 4 ≤ length builder.old + names_in field.now + 1500 * count_in field.now }
 {
     let children = add_fields(builder, field.children.as_slice())?;
     let name = builder.add_text(field.name.as_slice())?;
     let kind = add_type(builder, field.kind)?;
     let dict = add_dictionary(builder, field.dict)?;
+    let metadata = add_metadata(builder, field.encoding)?;
     let slots = [
         Slot::At(name),
         Slot::U8(1),
@@ -73,6 +80,7 @@ fn add_field(builder: &mut Builder, field: &FieldSpec) -> Result<Place, AllocErr
         Slot::At(kind),
         dict,
         Slot::At(children),
+        metadata,
     ];
     let place = builder.add_table(&slots)?;
     Ok(place)
@@ -93,35 +101,70 @@ fn add_type(builder: &mut Builder, kind: ArrowType) -> Result<Place, AllocError>
         ArrowType::Double => builder.add_table(&[Slot::I16(2)]),
         ArrowType::Timestamp | ArrowType::Duration => builder.add_table(&[Slot::I16(3)]),
         ArrowType::Fixed(width) => builder.add_table(&[Slot::I32(width as i32)]),
-        ArrowType::Bool | ArrowType::Utf8 | ArrowType::Binary | ArrowType::Struct => {
-            builder.add_table(&[])
-        }
+        ArrowType::Bool
+        | ArrowType::Utf8
+        | ArrowType::Binary
+        | ArrowType::Struct
+        | ArrowType::List => { builder.add_table(&[]) }
     }
 }
 
-// Adds the table of a dictionary, where there is one, and answers the slot for it.
+// Adds the table of a dictionary, where there is one, and returns the slot for it.
 fn add_dictionary(builder: &mut Builder, dict: Option<DictSpec>) -> Result<Slot, AllocError>
     requires { length builder.old + 256 < 2 ^ 24 }
-    ensures dict { IfOk result (IsDictSlot dict builder.new) }
+    ensures dict { IfOk result (DictionaryStands dict builder.new) }
     ensures reaches { IfOk result (Reaches (length builder.new)) }
     ensures grows { Grows builder.old builder.new }
     ensures size { length builder.new ≤ length builder.old + 512 }
 {
     match dict {
         None => Ok(Slot::Absent),
-        Some(dict) => Ok(Slot::At(add_encoding(builder, dict)?)),
+        Some(dict) => Ok(Slot::At(add_dict(builder, dict)?)),
     }
 }
 
 #[tactic(auto, using(flat_tables::proofs::Standing::grows_on))]
-fn add_encoding(builder: &mut Builder, dict: DictSpec) -> Result<Place, AllocError>
+fn add_dict(builder: &mut Builder, dict: DictSpec) -> Result<Place, AllocError>
     requires { length builder.old + 256 < 2 ^ 24 }
-    ensures dict { IfOk result (Stands (IsDictTable dict) builder.new) }
+    ensures dict { IfOk result (Stands (WritesDict dict) builder.new) }
     ensures grows { Grows builder.old builder.new }
     ensures size { length builder.new ≤ length builder.old + 512 }
 {
     let bits = if dict.wide { 16 } else { 8 };
     let index = builder.add_table(&[Slot::I32(bits), Slot::U8(0)])?;
     let place = builder.add_table(&[Slot::I64(dict.id), Slot::At(index)])?;
+    Ok(place)
+}
+
+// Adds the custom metadata that names an encoding, where there is one, and returns the slot for it.
+fn add_metadata(builder: &mut Builder, encoding: Encoding) -> Result<Slot, AllocError>
+    requires named { IsTrue (is_named encoding) }
+    requires room { length builder.old + 512 < 2 ^ 24 }
+    ensures metadata { IfOk result (MetadataStands encoding builder.new) }
+    ensures reaches { IfOk result (Reaches (length builder.new)) }
+    ensures grows { Grows builder.old builder.new }
+    ensures size { length builder.new ≤ length builder.old + 400 }
+{
+    match encoding {
+        Encoding::None | Encoding::Other => Ok(Slot::Absent),
+        Encoding::Plain => Ok(Slot::At(add_pair(builder, b"plain")?)),
+        Encoding::Delta => Ok(Slot::At(add_pair(builder, b"delta")?)),
+        Encoding::Run => Ok(Slot::At(add_pair(builder, b"run")?)),
+    }
+}
+
+// Adds a vector of one pair, whose key is `encoding`.
+#[tactic(auto, using(flat_tables::proofs::Standing::grows_on))]
+fn add_pair(builder: &mut Builder, value: &[u8]) -> Result<Place, AllocError>
+    requires value { length value.now ≤ 8 }
+    requires room { length builder.old + 512 < 2 ^ 24 }
+    ensures pair { IfOk result (Stands (WritesPair value.now) builder.new) }
+    ensures grows { Grows builder.old builder.new }
+    ensures size { length builder.new ≤ length builder.old + 400 }
+{
+    let key = builder.add_text(b"encoding")?;
+    let value = builder.add_text(value)?;
+    let pair = builder.add_table(&[Slot::At(key), Slot::At(value)])?;
+    let place = builder.add_places(&[pair])?;
     Ok(place)
 }

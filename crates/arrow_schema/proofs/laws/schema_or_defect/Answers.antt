@@ -7,11 +7,11 @@ use Rattle.arrow_schema.specs.Says.{SaysSchema}
 use Rattle.arrow_schema.specs.Readable.{IsReadable}
 use Rattle.arrow_schema.specs.Defects.{HasDefect}
 use Rattle.arrow_schema.specs.Reading.{schema_of}
-use Rattle.arrow_schema.specs.Laws.Steps.{ok_is}
-use Rattle.arrow_schema.specs.Laws.Found.{schema_found}
-use Rattle.arrow_schema.specs.Laws.Only.{schema_again}
-use Rattle.arrow_schema.specs.Laws.Refused.{schema_refused}
-use Rattle.arrow_schema.specs.Laws.Exclusion.{no_defect}
+use Rattle.arrow_schema.proofs.Steps.{ok_is}
+use Rattle.arrow_schema.proofs.Found.{schema_found}
+use Rattle.arrow_schema.proofs.Only.{schema_again}
+use Rattle.arrow_schema.proofs.Refused.{schema_refused}
+use Rattle.arrow_schema.proofs.Exclusion.{no_defect}
 use Rattle.arrow_schema.proofs.laws.schema_or_defect.Goals as goal
 
 pub returns-clause-one : goal.returns-clause-one

@@ -18,6 +18,6 @@ invariant-add_fields-loop-field l = record {
   grown : Grows l.fn.builder l.builder;
   within : All (λ place. place ≤ length l.builder) l.places.items;
   size : vec_len l.places ≡ l.field-index;
-  cost : length l.builder + 4 * l.field-index + names_of (drop l.field-index l.fields) + 1100 * count_of (drop l.field-index l.fields)
-      ≤ length l.fn.builder + names_of l.fields + 1100 * count_of l.fields;
+  cost : length l.builder + 4 * l.field-index + names_of (drop l.field-index l.fields) + 1500 * count_of (drop l.field-index l.fields)
+      ≤ length l.fn.builder + names_of l.fields + 1500 * count_of l.fields;
 }

@@ -1,24 +1,22 @@
 -- What the tables say within the limits is read.
-use Rattle.std.specs.Prelude.{◌≡◌, ℕ, zero, suc, ◌+◌, ◌-◌, ◌<◌, ◌≤◌, ◌&&◌, Bool, true, false, List, [], ◌∷◌, length, slice_index_or, Ok, Some}
+use Rattle.std.specs.Prelude.{◌≡◌, ℕ, zero, suc, ◌+◌, ◌-◌, ◌<◌, ◌≤◌, true, List, [], ◌∷◌, length, slice_index_or, Ok, Some}
 use Rattle.std.specs.Str.{is_utf8}
 use Rattle.std.specs.List.{list_all}
 use Rattle.std.proofs.Common.{refl, sym, ap, ◌∙◌, inl, inr, arith}
 use Rattle.std.proofs.lemmas.Bool.{eq-eqb, ne_eqb, le-ltb}
 use Rattle.flat_tables.specs.Tables.{TableIn, VectorIn, element_table}
-use Rattle.arrow_schema.specs.declared.spec.TheConstants.{MAX_DEPTH, MAX_FIELDS}
+use Rattle.arrow_schema.specs.Limits.{max_depth, max_fields}
 use Rattle.arrow_schema.specs.declared.spec.FieldSpec.{FieldSpec}
 use Rattle.arrow_schema.specs.Slots.{fields_slot, children_slot}
-use Rattle.arrow_schema.specs.Trees.{count_in, count_of, names_differ, name_in, kind_in, dict_in, children_in}
+use Rattle.arrow_schema.specs.Trees.{count_in, count_of, names_differ, name_in, kind_in, dict_in, encoding_in, children_in}
 use Rattle.arrow_schema.specs.Says.{HasElements, HasTables, SaysField, says, SayFields, SaysSchema}
 use Rattle.arrow_schema.specs.Readable.{is_supported, fits_dictionary, fits_children, is_readable, are_readable, IsReadable}
 use Rattle.arrow_schema.specs.Reading.{slot_of, field_of, fields_from, vector_of, schema_of}
-use Rattle.arrow_schema.specs.Laws.FieldTrees.{made_again, count_in_is}
-use Rattle.arrow_schema.specs.Laws.FieldParts.{name_says, type_says, dictionary_says}
-
-pub both_true : (a b : Bool) → (a && b) ≡ true → (a ≡ true) × (b ≡ true)
-both_true true true h = (refl, refl)
-both_true true false h = cc (h)
-both_true false b h = cc (h)
+use Rattle.arrow_schema.proofs.Steps.{both_true}
+use Rattle.arrow_schema.proofs.Metadata.{encoding_says}
+use Rattle.arrow_schema.proofs.Folds.{made_again, count_in_is}
+use Rattle.arrow_schema.proofs.FieldParts.{name_says, type_says}
+use Rattle.arrow_schema.proofs.DictionaryParts.{dictionary_says}
 
 -- the five tests of a field
 pub record Tests (depth : ℕ) (f : FieldSpec) : Type 0 where
@@ -55,12 +53,12 @@ slot_again depth reads slot left t tables fields (inr h) say readable le = rw h.
 field_again : (depth : ℕ) → Reads depth → (left : ℕ) (t : TableIn) (f : FieldSpec) → SaysField t f → is_readable (are_readable depth) f ≡ true → count_in f ≤ left + 1
     → field_of (vector_of depth) left t ≡ Ok (f, left + 1 - count_in f)
 unfolding field_of
-field_again depth reads left _ _ (says t f tables n k numbers d has long each) readable le =
+field_again depth reads left _ _ (says t f tables n k numbers d e has long each) readable le =
     let test = tests_of depth f readable in
     let count = count_in_is f in
     let children = slot_again depth reads children_slot left t tables (children_in f) has (record { long = long; each = each }) test.children (omega (arith, count)) in
     let rest : left - count_of (children_in f) ≡ left + 1 - count_in f = omega (arith, count) in
-    rw (name_says t (name_in f) n test.text, type_says t (kind_in f) k numbers test.supported, dictionary_says t (kind_in f) (dict_in f) d test.dictionary, children, test.fits, made_again f, rest) refl
+    rw (name_says t (name_in f) n test.text, type_says t (kind_in f) k numbers test.supported, dictionary_says t (kind_in f) (dict_in f) d test.dictionary, encoding_says t (encoding_in f) e, children, test.fits, made_again f, rest) refl
 
 elements_again : (depth : ℕ) → Reads depth → (v : VectorIn) (place n left : ℕ) (tables : List TableIn) (fields : List FieldSpec) → length tables ≡ n
     → ((i : ℕ) (d : TableIn) → i < n → element_table v (place + i) ≡ Ok (Some (slice_index_or tables i d))) → SayFields tables fields
@@ -101,4 +99,4 @@ vector_again (suc depth) left v tables (f ∷ fields) has say readable le =
 pub schema_again : (t : TableIn) (fields : List FieldSpec) → SaysSchema t fields → IsReadable fields → schema_of t ≡ Ok fields
 unfolding schema_of
 schema_again t fields s r =
-    rw (s.order, slot_again MAX_DEPTH (vector_again MAX_DEPTH) fields_slot MAX_FIELDS t s.tables fields s.has s.say r.each r.count, r.uses) refl
+    rw (s.order, slot_again max_depth (vector_again max_depth) fields_slot max_fields t s.tables fields s.has s.say r.each r.count, r.uses) refl

@@ -1,41 +1,30 @@
 -- What is read is what the tables say, and it is within the limits.
-use Rattle.std.specs.Prelude.{◌≡◌, ℕ, zero, suc, ◌+◌, ◌-◌, ◌*◌, ◌<◌, ◌≤◌, ◌==◌, ◌&&◌, nat_lt, Bool, true, List, [], ◌∷◌, length, slice_index_or, Result, Ok, Err, Option, None, Some, pos}
+use Rattle.std.specs.Prelude.{◌≡◌, ℕ, zero, suc, ◌+◌, ◌-◌, ◌<◌, ◌≤◌, ◌==◌, ◌&&◌, nat_lt, Bool, true, List, [], ◌∷◌, length, slice_index_or, Result, Ok, Err, Option, None, Some, pos}
 use Rattle.std.specs.Str.{is_utf8}
 use Rattle.std.specs.List.{list_all}
 use Rattle.std.proofs.Common.{refl, sym, ap, ◌∙◌, subst, inl, inr, get_or, arith}
-use Rattle.std.proofs.lemmas.Bool.{eqb-true, ltb-false, lt-ltb}
+use Rattle.std.proofs.lemmas.Bool.{eqb-true, ltb-false}
 use Rattle.flat_tables.specs.Bytes.{◌>>=◌}
-use Rattle.flat_tables.specs.Tables.{TableIn, VectorIn, vector_slot, element_table, element_place, referred, table_at, each}
-use Rattle.arrow_schema.specs.declared.spec.TheConstants.{MAX_DEPTH, MAX_FIELDS}
+use Rattle.flat_tables.specs.Tables.{TableIn, VectorIn, vector_slot, element_table}
+use Rattle.arrow_schema.specs.Limits.{max_depth, max_fields}
 use Rattle.arrow_schema.specs.declared.spec.ArrowType.{ArrowType}
 use Rattle.arrow_schema.specs.declared.spec.DictSpec.{DictSpec}
+use Rattle.arrow_schema.specs.declared.spec.Encoding.{Encoding}
 use Rattle.arrow_schema.specs.declared.spec.FieldSpec.{FieldSpec}
 use Rattle.arrow_schema.specs.declared.refusal.SchemaRefusal.{SchemaRefusal}
 use Rattle.arrow_schema.specs.declared.refusal.SchemaRefusal.TheVariants.{TooManyFields, TooDeep, BadName, DictionaryTypes}
 use Rattle.arrow_schema.specs.Types.{type_number, is_number}
 use Rattle.arrow_schema.specs.Slots.{name_slot, kind_slot, byte_order, fields_slot, children_slot}
 use Rattle.arrow_schema.specs.Trees.{count_in, count_of, uses_of, uses_agree, names_differ, field_with}
-use Rattle.arrow_schema.specs.Says.{SaysNumbers, SaysDictionary, HasElements, HasTables, SaysField, says, SayFields, SaysSchema}
+use Rattle.arrow_schema.specs.Says.{SaysNumbers, SaysDictionary, SaysEncoding, HasElements, HasTables, SaysField, says, SayFields, SaysSchema}
 use Rattle.arrow_schema.specs.Readable.{is_supported, fits_dictionary, fits_children, is_readable, are_readable, IsReadable}
-use Rattle.arrow_schema.specs.Reading.{flat, where_supported, name_of, type_of, dictionary_of, Fields, in_slot, slot_of, field_of, of_element, fields_from, with_own_names, vector_of, with_agreeing_uses, schema_of}
-use Rattle.arrow_schema.specs.Laws.Steps.{bind_ok, flat_ok, supported_ok, chosen, ok_is, pair_is}
-use Rattle.arrow_schema.specs.Laws.FieldTrees.{name_in_is, kind_in_is, dict_in_is, children_in_is, count_in_is}
-use Rattle.arrow_schema.specs.Laws.FieldParts.{name_reads, type_reads, dictionary_reads, number_is}
-
--- an element that is there refers to something
-no_table : (v : VectorIn) (place : ℕ) → (table_at v.bytes place >>= λ t. Ok (Some t)) ≡ Ok None → ⊥
-no_table v place h = let t = bind_ok (table_at v.bytes place) (λ t. Ok (Some t)) None h in cc (t.2)
-
-no_reference : (v : VectorIn) (place : ℕ) → (each (referred v.bytes) (Some place) >>= each (table_at v.bytes)) ≡ Ok None → ⊥
-no_reference v place h =
-    let a = bind_ok (referred v.bytes place >>= λ p. Ok (Some p)) (each (table_at v.bytes)) None h in
-    let b = bind_ok (referred v.bytes place) (λ p. Ok (Some p)) a.0 a.1 in
-    let at : Some b.0 ≡ a.0 = ok_is (Some b.0) a.0 b.2 in
-    no_table v b.0 (subst (λ (found : Option ℕ). each (table_at v.bytes) found ≡ Ok None) (sym at) a.2)
-
-pub element_there : (v : VectorIn) (i : ℕ) → i < v.count → element_table v i ≡ Ok None → ⊥
-unfolding element_place
-element_there v i lt h = no_reference v (v.first + i * v.width) (rw (lt-ltb i v.count lt) at h)
+use Rattle.arrow_schema.specs.Reading.{flat, where_supported, name_of, type_of, dictionary_of, encoding_of, Fields, in_slot, slot_of, field_of, of_element, fields_from, with_own_names, vector_of, with_agreeing_uses, schema_of}
+use Rattle.arrow_schema.proofs.Steps.{bind_ok, flat_ok, supported_ok, chosen, ok_is, pair_is}
+use Rattle.arrow_schema.proofs.Folds.{name_in_is, kind_in_is, dict_in_is, encoding_in_is, children_in_is, count_in_is}
+use Rattle.arrow_schema.proofs.Elements.{element_there}
+use Rattle.arrow_schema.proofs.Metadata.{encoding_reads}
+use Rattle.arrow_schema.proofs.FieldParts.{name_reads, type_reads, number_is}
+use Rattle.arrow_schema.proofs.DictionaryParts.{dictionary_reads}
 
 -- ---- what is known of fields that were read
 pub record VectorSays (depth left : ℕ) (v : VectorIn) (fields : List FieldSpec) (rest : ℕ) : Type 0 where
@@ -66,27 +55,28 @@ none_readable zero = refl
 none_readable (suc depth) = refl
 
 -- a field by its parts
-pub says_with : (t : TableIn) (name : List ℕ) (kind : ArrowType) (dict : Option DictSpec) (children : List FieldSpec) (tables : List TableIn) → name_slot t ≡ Ok name
-    → kind_slot t ≡ Ok (type_number kind) → SaysNumbers t kind → SaysDictionary t dict → HasTables children_slot t tables → SayFields tables children
-    → SaysField t (field_with name kind dict children)
-says_with t name kind dict children tables n k numbers d has say =
-    let f = field_with name kind dict children in
+pub says_with : (t : TableIn) (name : List ℕ) (kind : ArrowType) (dict : Option DictSpec) (encoding : Encoding) (children : List FieldSpec) (tables : List TableIn) → name_slot t ≡ Ok name
+    → kind_slot t ≡ Ok (type_number kind) → SaysNumbers t kind → SaysDictionary t dict → SaysEncoding t encoding → HasTables children_slot t tables → SayFields tables children
+    → SaysField t (field_with name kind dict encoding children)
+says_with t name kind dict encoding children tables n k numbers d e has say =
+    let f = field_with name kind dict encoding children in
     says t f tables
-    (n ∙ ap Ok (sym (name_in_is name kind dict children)))
-    (k ∙ ap (λ (kind : ArrowType). Ok (type_number kind)) (sym (kind_in_is name kind dict children)))
-    (subst (SaysNumbers t) (sym (kind_in_is name kind dict children)) numbers)
-    (subst (SaysDictionary t) (sym (dict_in_is name kind dict children)) d)
+    (n ∙ ap Ok (sym (name_in_is name kind dict encoding children)))
+    (k ∙ ap (λ (kind : ArrowType). Ok (type_number kind)) (sym (kind_in_is name kind dict encoding children)))
+    (subst (SaysNumbers t) (sym (kind_in_is name kind dict encoding children)) numbers)
+    (subst (SaysDictionary t) (sym (dict_in_is name kind dict encoding children)) d)
+    (subst (SaysEncoding t) (sym (encoding_in_is name kind dict encoding children)) e)
     has
-    (say.long ∙ ap length (sym (children_in_is name kind dict children)))
-    (λ i u g lt. subst (λ (fields : List FieldSpec). SaysField (get_or tables i u) (get_or fields i g)) (sym (children_in_is name kind dict children)) (say.each i u g lt))
+    (say.long ∙ ap length (sym (children_in_is name kind dict encoding children)))
+    (λ i u g lt. subst (λ (fields : List FieldSpec). SaysField (get_or tables i u) (get_or fields i g)) (sym (children_in_is name kind dict encoding children)) (say.each i u g lt))
 
 all_true : (a b c d e : Bool) → a ≡ true → b ≡ true → c ≡ true → d ≡ true → e ≡ true → (a && b && c && d && e) ≡ true
 all_true a b c d e ha hb hc hd he = rw (ha, hb, hc, hd, he) refl
 
-readable_with : (depth : ℕ) (name : List ℕ) (kind : ArrowType) (dict : Option DictSpec) (children : List FieldSpec) → is_utf8 name ≡ true → is_supported kind ≡ true
-    → fits_dictionary kind dict ≡ true → fits_children kind children ≡ true → are_readable depth children ≡ true → is_readable (are_readable depth) (field_with name kind dict children) ≡ true
-readable_with depth name kind dict children text supported dictionary fits inner =
-    rw (name_in_is name kind dict children, kind_in_is name kind dict children, dict_in_is name kind dict children, children_in_is name kind dict children)
+pub readable_with : (depth : ℕ) (name : List ℕ) (kind : ArrowType) (dict : Option DictSpec) (encoding : Encoding) (children : List FieldSpec) → is_utf8 name ≡ true → is_supported kind ≡ true
+    → fits_dictionary kind dict ≡ true → fits_children kind children ≡ true → are_readable depth children ≡ true → is_readable (are_readable depth) (field_with name kind dict encoding children) ≡ true
+readable_with depth name kind dict encoding children text supported dictionary fits inner =
+    rw (name_in_is name kind dict encoding children, kind_in_is name kind dict encoding children, dict_in_is name kind dict encoding children, children_in_is name kind dict encoding children)
     (all_true _ _ _ _ _ text supported dictionary fits inner)
 
 -- the fields in a slot, where its vector is read as it says
@@ -110,18 +100,18 @@ slot_says depth vector slot left t fields rest h =
     let b = bind_ok (flat (vector_slot 4 t slot)) (in_slot (vector_of depth) left) (fields, rest) h in
     found_says depth vector slot left t fields rest b.0 (flat_ok (vector_slot 4 t slot) b.0 b.1) b.2
 
-field_made : (depth left : ℕ) (t : TableIn) (name : List ℕ) (kind : ArrowType) (dict : Option DictSpec) (children : List FieldSpec) (rest : ℕ) → VectorsSay depth
-    → name_of t ≡ Ok name → type_of t ≡ Ok kind → dictionary_of kind t ≡ Ok dict → slot_of (vector_of depth) children_slot left t ≡ Ok (children, rest) → fits_children kind children ≡ true
-    → FieldSays depth left t (field_with name kind dict children) rest
-field_made depth left t name kind dict children rest vector n k d c fits =
+field_made : (depth left : ℕ) (t : TableIn) (name : List ℕ) (kind : ArrowType) (dict : Option DictSpec) (encoding : Encoding) (children : List FieldSpec) (rest : ℕ) → VectorsSay depth
+    → name_of t ≡ Ok name → type_of t ≡ Ok kind → dictionary_of kind t ≡ Ok dict → encoding_of t ≡ Ok encoding → slot_of (vector_of depth) children_slot left t ≡ Ok (children, rest) → fits_children kind children ≡ true
+    → FieldSays depth left t (field_with name kind dict encoding children) rest
+field_made depth left t name kind dict encoding children rest vector n k d e c fits =
     let named = name_reads t name n in
     let typed = type_reads t kind k in
     let encoded = dictionary_reads t kind dict d in
     let inner = slot_says depth vector children_slot left t children rest c in
     record {
-      says_it = says_with t name kind dict children inner.tables named.0 typed.0 typed.1 encoded.0 inner.has inner.say;
-      readable = readable_with depth name kind dict children named.1 typed.2 encoded.1 fits inner.readable;
-      left_is = omega (arith, inner.left_is, count_in_is (field_with name kind dict children), ap count_of (children_in_is name kind dict children));
+      says_it = says_with t name kind dict encoding children inner.tables named.0 typed.0 typed.1 encoded.0 (encoding_reads t encoding e) inner.has inner.say;
+      readable = readable_with depth name kind dict encoding children named.1 typed.2 encoded.1 fits inner.readable;
+      left_is = omega (arith, inner.left_is, count_in_is (field_with name kind dict encoding children), ap count_of (children_in_is name kind dict encoding children));
     }
 
 field_says : (depth : ℕ) → VectorsSay depth → (left : ℕ) (t : TableIn) (f : FieldSpec) (rest : ℕ) → field_of (vector_of depth) left t ≡ Ok (f, rest) → FieldSays depth left t f rest
@@ -130,9 +120,10 @@ field_says depth vector left t f rest h =
     let n = bind_ok (name_of t) _ (f, rest) h in
     let k = bind_ok (type_of t) _ (f, rest) n.2 in
     let d = bind_ok (dictionary_of k.0 t) _ (f, rest) k.2 in
-    let c = bind_ok (slot_of (vector_of depth) children_slot left t) _ (f, rest) d.2 in
-    let s = supported_ok (fits_children k.0 c.0.0) (field_with n.0 k.0 d.0 c.0.0, c.0.1) (f, rest) c.2 in
-    subst (λ (p : FieldSpec × ℕ). FieldSays depth left t p.0 p.1) s.1 (field_made depth left t n.0 k.0 d.0 c.0.0 c.0.1 vector n.1 k.1 d.1 c.1 s.0)
+    let e = bind_ok (flat (encoding_of t)) _ (f, rest) d.2 in
+    let c = bind_ok (slot_of (vector_of depth) children_slot left t) _ (f, rest) e.2 in
+    let s = supported_ok (fits_children k.0 c.0.0) (field_with n.0 k.0 d.0 e.0 c.0.0, c.0.1) (f, rest) c.2 in
+    subst (λ (p : FieldSpec × ℕ). FieldSays depth left t p.0 p.1) s.1 (field_made depth left t n.0 k.0 d.0 e.0 c.0.0 c.0.1 vector n.1 k.1 d.1 (flat_ok (encoding_of t) e.0 e.1) c.1 s.0)
 
 -- ---- the fields of a vector, one after the other
 pub record ElementsSay (depth left : ℕ) (v : VectorIn) (place n : ℕ) (fields : List FieldSpec) (rest : ℕ) : Type 0 where
@@ -246,18 +237,18 @@ pub schema_found : (t : TableIn) (fields : List FieldSpec) → schema_of t ≡ O
 unfolding schema_of
 schema_found t fields h =
     let o = bind_ok (flat (byte_order t)) _ fields h in
-    let b = bind_ok (where_supported (is_number 0 o.0) t >>= slot_of (vector_of MAX_DEPTH) fields_slot MAX_FIELDS) with_agreeing_uses fields o.2 in
-    let a = bind_ok (where_supported (is_number 0 o.0) t) (slot_of (vector_of MAX_DEPTH) fields_slot MAX_FIELDS) b.0 b.1 in
+    let b = bind_ok (where_supported (is_number 0 o.0) t >>= slot_of (vector_of max_depth) fields_slot max_fields) with_agreeing_uses fields o.2 in
+    let a = bind_ok (where_supported (is_number 0 o.0) t) (slot_of (vector_of max_depth) fields_slot max_fields) b.0 b.1 in
     let s = supported_ok (is_number 0 o.0) t a.0 a.1 in
     let u = uses_checked b.0 fields b.2 in
-    let read : slot_of (vector_of MAX_DEPTH) fields_slot MAX_FIELDS t ≡ Ok (b.0.0, b.0.1) = ap (slot_of (vector_of MAX_DEPTH) fields_slot MAX_FIELDS) s.1 ∙ a.2 in
-    let says_it = slot_says MAX_DEPTH (vector_says MAX_DEPTH) fields_slot MAX_FIELDS t b.0.0 b.0.1 read in
+    let read : slot_of (vector_of max_depth) fields_slot max_fields t ≡ Ok (b.0.0, b.0.1) = ap (slot_of (vector_of max_depth) fields_slot max_fields) s.1 ∙ a.2 in
+    let says_it = slot_says max_depth (vector_says max_depth) fields_slot max_fields t b.0.0 b.0.1 read in
     let order : byte_order t ≡ Ok (pos 0) = flat_ok (byte_order t) o.0 o.1 ∙ ap Ok (number_is 0 o.0 s.0) in
     schema_made t b.0.0 fields b.0.1 order says_it u.0 u.1
   where
-    schema_made : (t : TableIn) (read fields : List FieldSpec) (rest : ℕ) → byte_order t ≡ Ok (pos 0) → SlotSays MAX_DEPTH fields_slot MAX_FIELDS t read rest → read ≡ fields
+    schema_made : (t : TableIn) (read fields : List FieldSpec) (rest : ℕ) → byte_order t ≡ Ok (pos 0) → SlotSays max_depth fields_slot max_fields t read rest → read ≡ fields
         → uses_agree (uses_of fields) ≡ true → SaysSchema t fields × IsReadable fields
     schema_made t read fields rest order s is agree = (
       record { order = order; tables = s.tables; has = s.has; say = subst (SayFields s.tables) is s.say },
-      record { count = omega (arith, s.left_is, ap count_of is); each = ap (are_readable MAX_DEPTH) (sym is) ∙ s.readable; uses = agree },
+      record { count = omega (arith, s.left_is, ap count_of is); each = ap (are_readable max_depth) (sym is) ∙ s.readable; uses = agree },
     )

@@ -1,10 +1,9 @@
 -- Where tables say a schema within the limits, no defect stands.
 use Rattle.std.specs.Prelude.{◌≡◌, ℕ, zero, suc, ◌+◌, ◌<◌, ◌≤◌, true, false, List, [], ◌∷◌, length, slice_index_or, Ok, Option, None, Some, ℤ, pos}
 use Rattle.std.proofs.Common.{refl, sym, ap, ◌∙◌, subst, inl, inr, arith}
-use Rattle.std.proofs.lemmas.Bool.{cases_lt, le-ltb}
 use Rattle.flat_tables.specs.declared.fault.FlatFault.{FlatFault}
-use Rattle.flat_tables.specs.Tables.{TableIn, VectorIn, vector_slot, element_table, element_place, each}
-use Rattle.arrow_schema.specs.declared.spec.TheConstants.{MAX_DEPTH}
+use Rattle.flat_tables.specs.Tables.{TableIn, VectorIn, element_table, each}
+use Rattle.arrow_schema.specs.Limits.{max_depth}
 use Rattle.arrow_schema.specs.declared.spec.ArrowType.{ArrowType}
 use Rattle.arrow_schema.specs.declared.spec.DictSpec.{DictSpec}
 use Rattle.arrow_schema.specs.declared.spec.FieldSpec.{FieldSpec}
@@ -13,66 +12,34 @@ use Rattle.arrow_schema.specs.declared.refusal.SchemaRefusal.TheVariants.{Flat, 
 use Rattle.arrow_schema.specs.declared.agreement.Use.{Use}
 use Rattle.arrow_schema.specs.Types.{type_number, is_number}
 use Rattle.arrow_schema.specs.Slots.{name_slot, kind_slot, dictionary_id, fields_slot, children_slot}
-use Rattle.arrow_schema.specs.Trees.{name_in, kind_in, dict_in, children_in, count_in, count_of, names_differ, use_of, uses_in, uses_of}
-use Rattle.arrow_schema.specs.Says.{SaysNumbers, SaysDictionary, HasElements, HasTables, SaysField, says, SayFields, SaysSchema}
+use Rattle.arrow_schema.specs.Trees.{name_in, kind_in, dict_in, encoding_in, children_in, count_in, count_of, names_differ, use_of, uses_in, uses_of}
+use Rattle.arrow_schema.specs.Says.{SaysNumbers, SaysDictionary, SaysEncoding, HasElements, HasTables, SaysField, says, SayFields, SaysSchema}
 use Rattle.arrow_schema.specs.Readable.{no_fields, is_readable, are_readable, IsReadable}
 use Rattle.arrow_schema.specs.Reading.{schema_of}
 use Rattle.arrow_schema.specs.Defects.{IsChild, IsField, IsParent, FieldFault, VectorFault, HasFlatFault, UnsupportedField, IsUnsupported, HasTooManyFields, IsTooDeep, HasBadName, HasUse, HasTwoTypes, HasDefect, of_vector_in, of_table_in, below_elements, fields_below}
 use Rattle.arrow_schema.specs.Defects as defects
-use Rattle.arrow_schema.specs.Laws.FieldTrees.{count_in_is, uses_in_is}
-use Rattle.arrow_schema.specs.Laws.FieldParts.{OwnDefect, faulty, unsupported, no_text, type_says}
-use Rattle.arrow_schema.specs.Laws.Clear.{IsClear, no_own_defect}
-use Rattle.arrow_schema.specs.Laws.Found.{schema_found}
-use Rattle.arrow_schema.specs.Laws.Only.{both_true, Tests, tests_of}
-use Rattle.arrow_schema.specs.Laws.Lists.{names_once, IsIn, in_left, in_right, use_in, uses_alike}
-use Rattle.arrow_schema.specs.Laws.Refused.{readable_at}
-
--- an element past the end refers to nothing
-past_end : (v : VectorIn) (i : ℕ) → v.count ≤ i → element_table v i ≡ Ok None
-unfolding element_place
-past_end v i le = rw (le-ltb i v.count le) refl
-
-inside : (v : VectorIn) (i : ℕ) (t : TableIn) → element_table v i ≡ Ok (Some t) → i < v.count
-inside v i t at = elim (cases_lt i v.count) [ inl lt ↦ lt | inr le ↦ cc (at, past_end v i le) ]
-
--- ---- the vectors in a slot
-same_vector : (slot : ℕ) (t : TableIn) (v : VectorIn) (tables : List TableIn) → HasTables slot t tables → vector_slot 4 t slot ≡ Ok (Some v) → HasElements v tables
-same_vector slot t v tables (inl empty) at = cc (empty.0, at)
-same_vector slot t v tables (inr h) at = let same : h.0 ≡ v = cc (h.1, at) in subst (λ (v : VectorIn). HasElements v tables) same h.2
-
-no_vector_fault : (f : FlatFault) (slot : ℕ) (t : TableIn) (tables : List TableIn) → HasTables slot t tables → VectorFault f slot t → ⊥
-no_vector_fault f slot t tables (inl empty) (defects.VectorFault.of_vector at) = cc (empty.0, at)
-no_vector_fault f slot t tables (inr h) (defects.VectorFault.of_vector at) = cc (h.1, at)
-no_vector_fault f slot t tables has (defects.VectorFault.of_element v place at fault) =
-    let e = same_vector slot t v tables has at in
-    elim (cases_lt place v.count) [
-      | inl lt ↦ cc (e.each place t (omega (arith, lt, e.count)), fault)
-      | inr le ↦ cc (past_end v place le, fault)
-    ]
-
--- the table that an element refers to is one of those
-one_of : (slot : ℕ) (parent t : TableIn) (tables : List TableIn) → HasTables slot parent tables → IsChild slot parent t → (i : ℕ) × (i < length tables) × ((d : TableIn) → slice_index_or tables i d ≡ t)
-one_of slot parent t tables has c =
-    let e = same_vector slot parent c.vector tables has c.has in
-    let lt = inside c.vector c.place t c.at in
-    let within : c.place < length tables = omega (arith, lt, e.count) in
-    (c.place, within, λ d. one_is tables c.place d t c.vector (e.each c.place d within) c.at)
-  where
-    one_is : (tables : List TableIn) (i : ℕ) (d t : TableIn) (v : VectorIn) → element_table v i ≡ Ok (Some (slice_index_or tables i d)) → element_table v i ≡ Ok (Some t) → slice_index_or tables i d ≡ t
-    one_is tables i d t v a b = cc (a, b)
+use Rattle.arrow_schema.proofs.Elements.{inside, same_vector, no_vector_fault, one_of}
+use Rattle.arrow_schema.proofs.Folds.{count_in_is, uses_in_is}
+use Rattle.arrow_schema.proofs.FieldParts.{OwnDefect, faulty, unsupported, no_text, type_says}
+use Rattle.arrow_schema.proofs.Clear.{IsClear, no_own_defect}
+use Rattle.arrow_schema.proofs.Found.{schema_found}
+use Rattle.arrow_schema.proofs.Steps.{both_true}
+use Rattle.arrow_schema.proofs.Only.{Tests, tests_of}
+use Rattle.arrow_schema.proofs.Lists.{names_once, IsIn, in_left, in_right, use_in, uses_alike}
+use Rattle.arrow_schema.proofs.UsesStand.{readable_at}
 
 -- ---- each field of the schema is one of the spec
 pub record Reached (fields : List FieldSpec) (depth : ℕ) (t : TableIn) : Type 0 where
   pub f : FieldSpec
   pub says_it : SaysField t f
   pub inner : ℕ
-  pub level : depth + inner ≡ MAX_DEPTH
+  pub level : depth + inner ≡ max_depth
   pub readable : is_readable (are_readable inner) f ≡ true
   pub uses : (u : Use) → IsIn u (uses_in f) → IsIn u (uses_of fields)
 
 -- a child of what has these fields
 child_reached : (all fields : List FieldSpec) (depth slot level : ℕ) (parent t : TableIn) (tables : List TableIn) → HasTables slot parent tables → SayFields tables fields
-    → are_readable level fields ≡ true → depth + level ≡ MAX_DEPTH → ((u : Use) → IsIn u (uses_of fields) → IsIn u (uses_of all)) → IsChild slot parent t → Reached all (suc depth) t
+    → are_readable level fields ≡ true → depth + level ≡ max_depth → ((u : Use) → IsIn u (uses_of fields) → IsIn u (uses_of all)) → IsChild slot parent t → Reached all (suc depth) t
 child_reached all [] depth slot level parent t tables has say readable deep uses c =
     let o = one_of slot parent t tables has c in absurd (omega (arith, o.1, say.long))
 child_reached all (f ∷ fields) depth slot level parent t tables has say readable deep uses c =
@@ -97,13 +64,14 @@ pub record Inner (t : TableIn) (f : FieldSpec) : Type 0 where
   pub kind : kind_slot t ≡ Ok (type_number (kind_in f))
   pub numbers : SaysNumbers t (kind_in f)
   pub dict : SaysDictionary t (dict_in f)
+  pub encoding : SaysEncoding t (encoding_in f)
 
 inner_of : (t : TableIn) (f : FieldSpec) → SaysField t f → Inner t f
-inner_of _ _ (says t f tables n k numbers d has long each) =
-    record { tables = tables; has = has; say = record { long = long; each = each }; named = n; kind = k; numbers = numbers; dict = d }
+inner_of _ _ (says t f tables n k numbers d e has long each) =
+    record { tables = tables; has = has; say = record { long = long; each = each }; named = n; kind = k; numbers = numbers; dict = d; encoding = e }
 
 reached : (schema : TableIn) (fields : List FieldSpec) (depth : ℕ) (t : TableIn) → SaysSchema schema fields → IsReadable fields → IsField schema depth t → Reached fields depth t
-reached schema fields _ _ s r (defects.IsField.own t c) = child_reached fields fields 0 fields_slot MAX_DEPTH schema t s.tables s.has s.say r.each (omega arith) (λ u h. h) c
+reached schema fields _ _ s r (defects.IsField.own t c) = child_reached fields fields 0 fields_slot max_depth schema t s.tables s.has s.say r.each (omega arith) (λ u h. h) c
 reached schema fields _ _ s r (defects.IsField.inner depth parent t f c) =
     let p = reached schema fields depth parent s r f in
     let i = inner_of parent p.f p.says_it in
@@ -111,7 +79,7 @@ reached schema fields _ _ s r (defects.IsField.inner depth parent t f c) =
     child_reached fields (children_in p.f) depth children_slot p.inner parent t i.tables i.has i.say test.children p.level
     (λ u h. p.uses u (subst (IsIn u) (sym (uses_in_is p.f)) (in_right u (use_of (kind_in p.f) (dict_in p.f)) (uses_of (children_in p.f)) h))) c
 
-clear_of : (inner : ℕ) (t : TableIn) (f : FieldSpec) → Inner t f → Tests inner f → IsClear t (name_in f) (kind_in f) (dict_in f)
+clear_of : (inner : ℕ) (t : TableIn) (f : FieldSpec) → Inner t f → Tests inner f → IsClear t (name_in f) (kind_in f) (dict_in f) (encoding_in f)
 clear_of inner t f i test = record {
   has_name = i.named;
   text = test.text;
@@ -120,6 +88,7 @@ clear_of inner t f i test = record {
   supported = test.supported;
   has_dict = i.dict;
   fits = test.dictionary;
+  has_encoding = i.encoding;
 }
 
 -- no field has a defect of its own
@@ -127,7 +96,7 @@ none_own : (fields : List FieldSpec) (depth : ℕ) (t : TableIn) (e : SchemaRefu
 none_own fields depth t e r d =
     let i = inner_of t r.f r.says_it in
     let test = tests_of r.inner r.f r.readable in
-    no_own_defect t (name_in r.f) (kind_in r.f) (dict_in r.f) (children_in r.f) i.tables e (clear_of r.inner t r.f i test) i.has i.say.long test.fits d
+    no_own_defect t (name_in r.f) (kind_in r.f) (dict_in r.f) (children_in r.f) (encoding_in r.f) i.tables e (clear_of r.inner t r.f i test) i.has i.say test.fits d
 
 -- what a parent has in its slot
 pub record Own (fields : List FieldSpec) (depth slot : ℕ) (t : TableIn) : Type 0 where
@@ -136,12 +105,12 @@ pub record Own (fields : List FieldSpec) (depth slot : ℕ) (t : TableIn) : Type
   pub has : HasTables slot t tables
   pub say : SayFields tables own
   pub level : ℕ
-  pub deep : depth + level ≡ MAX_DEPTH
+  pub deep : depth + level ≡ max_depth
   pub readable : are_readable level own ≡ true
 
 own_of : (schema : TableIn) (fields : List FieldSpec) (depth slot : ℕ) (t : TableIn) → SaysSchema schema fields → IsReadable fields → IsParent schema depth slot t → Own fields depth slot t
 own_of schema fields _ _ _ s r defects.IsParent.root =
-    record { own = fields; tables = s.tables; has = s.has; say = s.say; level = MAX_DEPTH; deep = omega arith; readable = r.each }
+    record { own = fields; tables = s.tables; has = s.has; say = s.say; level = max_depth; deep = omega arith; readable = r.each }
 own_of schema fields _ _ _ s r (defects.IsParent.field depth t f) =
     let p = reached schema fields depth t s r f in
     let i = inner_of t p.f p.says_it in
@@ -177,8 +146,8 @@ slot_below depth slot t tables fields (inr h) say each_is =
 
 below_field : (depth : ℕ) (t : TableIn) (f : FieldSpec) → SaysField t f → fields_below depth children_slot t + 1 ≤ count_in f
 unfolding fields_below
-below_field zero _ _ (says t f tables n k numbers d has long each) = omega (arith, count_in_is f)
-below_field (suc depth) _ _ (says t f tables n k numbers d has long each) =
+below_field zero _ _ (says t f tables n k numbers d e has long each) = omega (arith, count_in_is f)
+below_field (suc depth) _ _ (says t f tables n k numbers d e has long each) =
     omega (arith, count_in_is f, slot_below depth children_slot t tables (children_in f) has (record { long = long; each = each }) (λ i u g lt. below_field depth _ _ (each i u g lt)))
 
 below_schema : (depth : ℕ) (schema : TableIn) (fields : List FieldSpec) → SaysSchema schema fields → fields_below depth fields_slot schema ≤ count_of fields
@@ -203,7 +172,7 @@ no_unsupported schema fields s r (defects.IsUnsupported.unsupported depth t fiel
 no_deep : (schema : TableIn) (fields : List FieldSpec) → SaysSchema schema fields → IsReadable fields → IsTooDeep schema → ⊥
 unfolding are_readable
 no_deep schema fields s r d =
-    let p = reached schema fields MAX_DEPTH d.t s r d.deepest in
+    let p = reached schema fields max_depth d.t s r d.deepest in
     let i = inner_of d.t p.f p.says_it in
     let test = tests_of p.inner p.f p.readable in
     let none : p.inner ≡ 0 = omega (arith, p.level) in

@@ -7,7 +7,7 @@ use Rattle.std.proofs.lemmas.Bool.{eqb-true, eq-eqb}
 use Rattle.std.proofs.lemmas.Bool.Decides.{Decides-int_eq}
 use Rattle.std.proofs.lemmas.Slice.Eq.{bytes_eq-Decides}
 use Rattle.arrow_schema.specs.declared.spec.ArrowType.{ArrowType}
-use Rattle.arrow_schema.specs.declared.spec.ArrowType.TheVariants.{Bool as Boolean, Int, Double, Utf8, Binary, Fixed, Timestamp, Duration, Struct}
+use Rattle.arrow_schema.specs.declared.spec.ArrowType.TheVariants.{Bool as Boolean, Int, Double, Utf8, Binary, Fixed, Timestamp, Duration, Struct, List as ListType}
 use Rattle.arrow_schema.specs.declared.spec.FieldSpec.{FieldSpec}
 use Rattle.arrow_schema.specs.declared.agreement.Use.{Use}
 use Rattle.arrow_schema.specs.Types.{same_bool, same_type}
@@ -117,8 +117,10 @@ same_type_is Duration Duration h = refl
 same_type_is Duration b h = cc (h)
 same_type_is Struct Struct h = refl
 same_type_is Struct b h = cc (h)
+same_type_is ListType ListType h = refl
+same_type_is ListType b h = cc (h)
 
-same_type_refl : (a : ArrowType) → same_type a a ≡ true
+pub same_type_refl : (a : ArrowType) → same_type a a ≡ true
 same_type_refl (Int a s) = rw (eq-eqb a a refl, same_bool_refl s) refl
 same_type_refl (Fixed a) = eq-eqb a a refl
 same_type_refl Boolean = refl
@@ -128,6 +130,7 @@ same_type_refl Binary = refl
 same_type_refl Timestamp = refl
 same_type_refl Duration = refl
 same_type_refl Struct = refl
+same_type_refl ListType = refl
 
 -- ---- uses
 abbrev pub IsIn : {A : Type 0} → A → List A → Type 0

@@ -1,31 +1,30 @@
 -- A refusal is a defect that stands.
-use Rattle.std.specs.Prelude.{◌≡◌, ◌≢◌, ◌⊎◌, ℕ, zero, suc, ◌+◌, ◌-◌, ◌<◌, ◌≤◌, ◌==◌, nat_lt, Bool, true, false, List, [], ◌∷◌, length, slice_index_or, Result, Ok, Err, Option, None, Some, ℤ}
+use Rattle.std.specs.Prelude.{◌≡◌, ◌≢◌, ◌⊎◌, ℕ, zero, suc, ◌+◌, ◌-◌, ◌<◌, ◌≤◌, ◌==◌, nat_lt, Bool, true, false, List, [], ◌∷◌, length, slice_index_or, Result, Ok, Err, Option, None, Some}
 use Rattle.std.proofs.Common.{refl, sym, ap, ◌∙◌, subst, inl, inr, arith}
 use Rattle.std.proofs.lemmas.Bool.{eqb-true, eqb-false, ltb-true, ltb-false}
 use Rattle.flat_tables.specs.Bytes.{◌>>=◌}
 use Rattle.flat_tables.specs.Tables.{TableIn, VectorIn, vector_slot, element_table}
-use Rattle.arrow_schema.specs.declared.spec.TheConstants.{MAX_DEPTH, MAX_FIELDS}
-use Rattle.arrow_schema.specs.declared.spec.ArrowType.{ArrowType}
-use Rattle.arrow_schema.specs.declared.spec.ArrowType.TheVariants.{Struct}
-use Rattle.arrow_schema.specs.declared.spec.DictSpec.{DictSpec}
+use Rattle.arrow_schema.specs.Limits.{max_depth, max_fields}
 use Rattle.arrow_schema.specs.declared.spec.FieldSpec.{FieldSpec}
 use Rattle.arrow_schema.specs.declared.refusal.SchemaRefusal.{SchemaRefusal}
 use Rattle.arrow_schema.specs.declared.refusal.SchemaRefusal.TheVariants.{Flat, Unsupported, TooManyFields, TooDeep, BadName, DictionaryTypes}
-use Rattle.arrow_schema.specs.Types.{type_number, is_struct, is_number}
-use Rattle.arrow_schema.specs.Slots.{name_slot, kind_slot, byte_order, fields_slot, children_slot}
-use Rattle.arrow_schema.specs.Trees.{name_in, kind_in, dict_in, children_in, field_with, names_differ, use_of, uses_in, uses_of, uses_agree}
-use Rattle.arrow_schema.specs.Says.{SaysNumbers, SaysDictionary, HasTables, SaysField, says, SayFields}
-use Rattle.arrow_schema.specs.Readable.{is_supported, fits_children, is_readable, are_readable}
-use Rattle.arrow_schema.specs.Reading.{flat, name_of, type_of, dictionary_of, Fields, in_slot, slot_of, field_of, of_element, fields_from, with_own_names, vector_of, with_agreeing_uses, schema_of}
-use Rattle.arrow_schema.specs.Defects.{IsChild, IsField, IsParent, FieldFault, VectorFault, HasFlatFault, UnsupportedField, IsUnsupported, HasTooManyFields, IsTooDeep, HasBadName, HasUse, HasTwoTypes, HasDefect, of_vector_in, of_table_in, below_elements, fields_below}
+use Rattle.arrow_schema.specs.Types.{is_number}
+use Rattle.arrow_schema.specs.Slots.{name_slot, byte_order, fields_slot, children_slot}
+use Rattle.arrow_schema.specs.Trees.{name_in, field_with, names_differ, uses_of, uses_agree}
+use Rattle.arrow_schema.specs.Says.{SaysField, says}
+use Rattle.arrow_schema.specs.Readable.{fits_children}
+use Rattle.arrow_schema.specs.Reading.{flat, name_of, type_of, dictionary_of, encoding_of, Fields, in_slot, slot_of, field_of, of_element, fields_from, with_own_names, vector_of, with_agreeing_uses, schema_of}
+use Rattle.arrow_schema.specs.Defects.{IsChild, IsField, IsParent, FieldFault, VectorFault, HasFlatFault, UnsupportedElement, other_element, narrow_element, signed_element, with_dictionary, UnsupportedField, with_children, no_child, other_count, other_child, IsUnsupported, HasTooManyFields, IsTooDeep, HasBadName, HasUse, HasTwoTypes, HasDefect, of_vector_in, of_table_in, below_elements, fields_below}
 use Rattle.arrow_schema.specs.Defects as defects
-use Rattle.arrow_schema.specs.Laws.Steps.{bind_ok, bind_err, flat_ok, flat_err, supported_ok, supported_err, chosen, ok_is}
-use Rattle.arrow_schema.specs.Laws.FieldParts.{OwnDefect, faulty, unsupported, no_text, name_refused, type_reads, type_says, type_refused, dictionary_refused}
-use Rattle.arrow_schema.specs.Laws.Found.{SlotSays, ElementsSay, element_there, slot_says, elements_say, vector_says}
-use Rattle.arrow_schema.specs.Laws.Only.{both_true, tests_of}
-use Rattle.arrow_schema.specs.Laws.FieldTrees.{uses_in_is}
-use Rattle.arrow_schema.specs.Laws.Lists.{list_all_at, Twice, names_twice, IsIn, in_either, use_at, Disagree, uses_disagree}
-use Rattle.arrow_schema.specs.declared.agreement.Use.{Use}
+use Rattle.arrow_schema.proofs.Steps.{bind_ok, bind_err, flat_ok, flat_err, supported_ok, supported_err, chosen, ok_is}
+use Rattle.arrow_schema.proofs.FieldParts.{OwnDefect, faulty, unsupported, no_text, name_refused, type_reads, type_refused}
+use Rattle.arrow_schema.proofs.DictionaryParts.{dictionary_refused}
+use Rattle.arrow_schema.proofs.Elements.{element_there}
+use Rattle.arrow_schema.proofs.Metadata.{encoding_refused}
+use Rattle.arrow_schema.proofs.Lacking.{lacks_children}
+use Rattle.arrow_schema.proofs.UsesStand.{two_types}
+use Rattle.arrow_schema.proofs.Found.{ElementsSay, slot_says, elements_say, vector_says}
+use Rattle.arrow_schema.proofs.Lists.{Twice, names_twice, uses_disagree}
 
 -- how many fields are in a vector and below, down to a depth
 abbrev pub below_vector : ℕ → VectorIn → ℕ
@@ -56,8 +55,9 @@ field_counts depth counts left t f rest h =
     let n = bind_ok (name_of t) _ (f, rest) h in
     let k = bind_ok (type_of t) _ (f, rest) n.2 in
     let d = bind_ok (dictionary_of k.0 t) _ (f, rest) k.2 in
-    let c = bind_ok (slot_of (vector_of depth) children_slot left t) _ (f, rest) d.2 in
-    let s = supported_ok (fits_children k.0 c.0.0) (field_with n.0 k.0 d.0 c.0.0, c.0.1) (f, rest) c.2 in
+    let e = bind_ok (flat (encoding_of t)) _ (f, rest) d.2 in
+    let c = bind_ok (slot_of (vector_of depth) children_slot left t) _ (f, rest) e.2 in
+    let s = supported_ok (fits_children k.0 c.0.0) (field_with n.0 k.0 d.0 e.0 c.0.0, c.0.1) (f, rest) c.2 in
     let same : c.0.1 ≡ rest = ap (λ (p : FieldSpec × ℕ). p.1) s.1 in
     slot_counts depth counts children_slot left t c.0.0 c.0.1 c.1 ∙ ap (λ (r : ℕ). r + fields_below (suc depth) children_slot t) same
 
@@ -149,10 +149,10 @@ field_is schema _ _ _ defects.IsParent.root lt = absurd (omega (arith, lt))
 field_is schema _ _ _ (defects.IsParent.field depth t f) lt = (refl, f)
 
 abbrev VectorsRefuse : ℕ → Type 0
-VectorsRefuse rest = (schema : TableIn) (depth slot left : ℕ) (t : TableIn) (v : VectorIn) (e : SchemaRefusal) → IsParent schema depth slot t → depth + rest ≡ MAX_DEPTH
+VectorsRefuse rest = (schema : TableIn) (depth slot left : ℕ) (t : TableIn) (v : VectorIn) (e : SchemaRefusal) → IsParent schema depth slot t → depth + rest ≡ max_depth
     → vector_slot 4 t slot ≡ Ok (Some v) → vector_of rest left v ≡ Err e → Refused schema left (below_vector rest v) e
 
-slot_refused : (rest : ℕ) → VectorsRefuse rest → (schema : TableIn) (depth slot left : ℕ) (t : TableIn) (e : SchemaRefusal) → IsParent schema depth slot t → depth + rest ≡ MAX_DEPTH
+slot_refused : (rest : ℕ) → VectorsRefuse rest → (schema : TableIn) (depth slot left : ℕ) (t : TableIn) (e : SchemaRefusal) → IsParent schema depth slot t → depth + rest ≡ max_depth
     → slot_of (vector_of rest) slot left t ≡ Err e → Refused schema left (fields_below (suc rest) slot t) e
 unfolding slot_of fields_below
 slot_refused rest refuse schema depth slot left t e parent deep h = elim (bind_err (flat (vector_slot 4 t slot)) (in_slot (vector_of rest) left) e h) [
@@ -167,20 +167,7 @@ slot_refused rest refuse schema depth slot left t e parent deep h = elim (bind_e
     from_found None at g = cc (g)
     from_found (Some v) at g = rw at (refuse schema depth slot left t v e parent deep at g)
 
-is_other : (kind : ArrowType) → is_struct kind ≡ false → type_number kind ≡ 13 → ⊥
-is_other Struct h e = cc (h)
-is_other kind h e = omega (arith, e)
-
--- children of what is no struct
-lacks_children : (t : TableIn) (kind : ArrowType) (children : List FieldSpec) (depth left rest : ℕ) → kind_slot t ≡ Ok (type_number kind) → fits_children kind children ≡ false
-    → SlotSays depth children_slot left t children rest → UnsupportedField t
-lacks_children t kind [] depth left rest read fits s = cc (fits)
-lacks_children t kind (f ∷ fields) depth left rest read fits s = elim s.has [
-  | inl empty ↦ absurd (omega (arith, s.say.long, ap length empty.1))
-  | inr h ↦ defects.UnsupportedField.with_children (type_number kind) h.0 read (is_other kind fits) h.1 (omega (arith, h.2.count, s.say.long))
-]
-
-field_refused : (rest : ℕ) → VectorsRefuse rest → (schema : TableIn) (depth left : ℕ) (t : TableIn) (e : SchemaRefusal) → IsField schema depth t → depth + rest ≡ MAX_DEPTH
+field_refused : (rest : ℕ) → VectorsRefuse rest → (schema : TableIn) (depth left : ℕ) (t : TableIn) (e : SchemaRefusal) → IsField schema depth t → depth + rest ≡ max_depth
     → field_of (vector_of rest) left t ≡ Err e → Refused schema left (fields_below (suc rest) children_slot t) e
 unfolding field_of
 field_refused rest refuse schema depth left t e f deep h = elim (bind_err (name_of t) _ e h) [
@@ -191,20 +178,26 @@ field_refused rest refuse schema depth left t e f deep h = elim (bind_err (name_
         let kind = type_reads t k.0 k.1 in
         elim (bind_err (dictionary_of k.0 t) _ e k.2) [
           | inl fails ↦ stands e (own_stands schema depth t e f (dictionary_refused t k.0 e kind.0 fails))
-          | inr d ↦ elim (bind_err (slot_of (vector_of rest) children_slot left t) _ e d.2) [
-            | inl fails ↦ slot_refused rest refuse schema depth children_slot left t e (defects.IsParent.field depth t f) deep fails
-            | inr c ↦
-                let s = supported_err (fits_children k.0 c.0.0) (field_with n.0 k.0 d.0 c.0.0, c.0.1) e c.2 in
-                let says_it = slot_says rest (vector_says rest) children_slot left t c.0.0 c.0.1 c.1 in
-                subst (Refused schema left _) (sym s.1)
-                (stands Unsupported (defects.IsUnsupported.unsupported depth t f (lacks_children t k.0 c.0.0 rest left c.0.1 kind.0 s.0 says_it)))
+          | inr d ↦ elim (bind_err (flat (encoding_of t)) _ e d.2) [
+            | inl fails ↦
+                let fault = flat_err (encoding_of t) e fails in
+                subst (Refused schema left _) (sym fault.2)
+                (stands (Flat fault.0) (own_stands schema depth t (Flat fault.0) f (faulty fault.0 (defects.FieldFault.of_metadata (encoding_refused t fault.0 fault.1)))))
+            | inr m ↦ elim (bind_err (slot_of (vector_of rest) children_slot left t) _ e m.2) [
+              | inl fails ↦ slot_refused rest refuse schema depth children_slot left t e (defects.IsParent.field depth t f) deep fails
+              | inr c ↦
+                  let s = supported_err (fits_children k.0 c.0.0) (field_with n.0 k.0 d.0 m.0 c.0.0, c.0.1) e c.2 in
+                  let says_it = slot_says rest (vector_says rest) children_slot left t c.0.0 c.0.1 c.1 in
+                  subst (Refused schema left _) (sym s.1)
+                  (stands Unsupported (defects.IsUnsupported.unsupported depth t f (lacks_children t k.0 c.0.0 rest left c.0.1 kind.0 s.0 says_it)))
+            ]
           ]
         ]
   ]
 ]
 
 elements_refused : (rest : ℕ) → VectorsRefuse rest → (schema : TableIn) (depth slot : ℕ) (t : TableIn) (v : VectorIn) (place n left : ℕ) (e : SchemaRefusal) → IsParent schema depth slot t
-    → suc depth + rest ≡ MAX_DEPTH → vector_slot 4 t slot ≡ Ok (Some v) → fields_from (field_of (vector_of rest)) v place n left ≡ Err e
+    → suc depth + rest ≡ max_depth → vector_slot 4 t slot ≡ Ok (Some v) → fields_from (field_of (vector_of rest)) v place n left ≡ Err e
     → Refused schema left (below_elements (fields_below (suc rest) children_slot) v place n) e
 unfolding fields_from below_elements
 elements_refused rest refuse schema depth slot t v place zero left e parent deep has h = cc (h)
@@ -233,7 +226,7 @@ elements_refused rest refuse schema depth slot t v place (suc n) left e parent d
         ])
 
 name_said : (t : TableIn) (f : FieldSpec) → SaysField t f → name_slot t ≡ Ok (name_in f)
-name_said _ _ (says t f tables n k numbers d has long each) = n
+name_said _ _ (says t f tables n k numbers d e has long each) = n
 
 -- two elements with one name
 names_stand : (schema : TableIn) (depth slot : ℕ) (parent : TableIn) (v : VectorIn) (fields : List FieldSpec) (inner left rest : ℕ) → IsParent schema depth slot parent
@@ -251,10 +244,10 @@ names_stand schema depth slot parent v (f ∷ fields) inner left rest p has s w 
     defects.HasBadName.twice depth slot parent v w.i w.j (slice_index_or s.tables w.i d) (slice_index_or s.tables w.j d) (name_in (slice_index_or (f ∷ fields) w.i f)) p has w.before i_at j_at
     i_name (j_name ∙ ap Ok (sym (w.same f)))
 
-deepest : (schema : TableIn) (depth slot : ℕ) (t : TableIn) (v : VectorIn) → IsParent schema depth slot t → depth + 0 ≡ MAX_DEPTH → vector_slot 4 t slot ≡ Ok (Some v) → v.count ≢ 0 → IsTooDeep schema
+deepest : (schema : TableIn) (depth slot : ℕ) (t : TableIn) (v : VectorIn) → IsParent schema depth slot t → depth + 0 ≡ max_depth → vector_slot 4 t slot ≡ Ok (Some v) → v.count ≢ 0 → IsTooDeep schema
 deepest schema depth slot t v parent deep has some =
     let f = field_is schema depth slot t parent (omega (arith, deep)) in
-    let d : depth ≡ MAX_DEPTH = omega (arith, deep) in
+    let d : depth ≡ max_depth = omega (arith, deep) in
     record {
       t = t;
       deepest = subst (λ (n : ℕ). IsField schema n t) d f.1;
@@ -296,93 +289,19 @@ vector_refused (suc rest) schema depth slot left t v e parent deep has h = elim 
   ]
 ]
 
--- ---- dictionaries
-parent_child : (slot : ℕ) (t : TableIn) (tables : List TableIn) (i : ℕ) (d : TableIn) → HasTables slot t tables → i < length tables → IsChild slot t (slice_index_or tables i d)
-parent_child slot t tables i d (inl empty) lt = absurd (omega (arith, lt, ap length empty.1))
-parent_child slot t tables i d (inr h) lt = record { vector = h.0; has = h.1; place = i; at = h.2.each i d lt }
-
--- a use of a field or below it, by the field that has it
-pub record UseStands (schema : TableIn) (u : Use) : Type 0 where
-  pub depth : ℕ
-  pub t : TableIn
-  pub field : IsField schema depth t
-  pub has : HasUse t u.id u.kind
-
-own_use : (schema : TableIn) (depth : ℕ) (t : TableIn) (kind : ArrowType) (dict : Option DictSpec) (u : Use) → IsField schema depth t → kind_slot t ≡ Ok (type_number kind) → SaysNumbers t kind
-    → is_supported kind ≡ true → SaysDictionary t dict → IsIn u (use_of kind dict) → UseStands schema u
-own_use schema depth t kind None u f k numbers supported d h = absurd h
-own_use schema depth t kind (Some dict) u f k numbers supported d (inr h) = absurd h
-own_use schema depth t kind (Some dict) u f k numbers supported d (inl same) = subst (UseStands schema) (sym same) (record {
-  depth = depth;
-  t = t;
-  field = f;
-  has = record { dictionary = d.0; at = d.1; has_id = d.2.id; has_type = type_says t kind k numbers supported };
-})
-
--- the fields of a parent are readable one level down
-pub readable_at : (depth : ℕ) (fields : List FieldSpec) (i : ℕ) (d : FieldSpec) → are_readable depth fields ≡ true → i < length fields
-    → (inner : ℕ) × (depth ≡ suc inner) × (is_readable (are_readable inner) (slice_index_or fields i d) ≡ true)
-unfolding are_readable
-readable_at zero [] i d h lt = absurd (omega (arith, lt))
-readable_at zero (f ∷ fields) i d h lt = cc (h)
-readable_at (suc inner) fields i d h lt = (inner, refl, list_all_at (is_readable (are_readable inner)) fields i d (both_true (names_differ fields) _ h).1 lt)
-
-use_found : (schema : TableIn) (depth inner : ℕ) (t : TableIn) (f : FieldSpec) (u : Use) → SaysField t f → IsField schema depth t → is_readable (are_readable inner) f ≡ true → IsIn u (uses_in f)
-    → UseStands schema u
-use_found schema depth inner _ _ u (says t f tables n k numbers d has long each) field readable h =
-    let test = tests_of inner f readable in
-    elim (in_either u (use_of (kind_in f) (dict_in f)) (uses_of (children_in f)) (subst (IsIn u) (uses_in_is f) h)) [
-      | inl own ↦ own_use schema depth t (kind_in f) (dict_in f) u field k numbers test.supported d own
-      | inr below ↦
-          let r = use_at u (children_in f) below in
-          let deeper = readable_at inner (children_in f) r.0 f test.children r.1 in
-          let in_tables : r.0 < length tables = omega (arith, r.1, long) in
-          use_found schema (suc depth) deeper.0 _ _ u (each r.0 t f in_tables)
-          (defects.IsField.inner depth t _ field (parent_child children_slot t tables r.0 t has in_tables)) deeper.2 (r.2 f)
-    ]
-
-use_of_schema : (schema : TableIn) (tables : List TableIn) (fields : List FieldSpec) (u : Use) → HasTables fields_slot schema tables → SayFields tables fields → are_readable MAX_DEPTH fields ≡ true
-    → IsIn u (uses_of fields) → UseStands schema u
-use_of_schema schema tables [] u has say readable h = absurd h
-use_of_schema schema tables (f ∷ fields) u has say readable h =
-    let r = use_at u (f ∷ fields) h in
-    let deeper = readable_at MAX_DEPTH (f ∷ fields) r.0 f readable r.1 in
-    let in_tables : r.0 < length tables = omega (arith, r.1, say.long) in
-    use_found schema 1 deeper.0 _ _ u (say.each r.0 schema f in_tables) (defects.IsField.own _ (parent_child fields_slot schema tables r.0 schema has in_tables)) deeper.2 (r.2 f)
-
-two_types : (schema : TableIn) (tables : List TableIn) (fields : List FieldSpec) → HasTables fields_slot schema tables → SayFields tables fields → are_readable MAX_DEPTH fields ≡ true
-    → Disagree (uses_of fields) → HasTwoTypes schema
-two_types schema tables fields has say readable d =
-    let a = use_of_schema schema tables fields d.a has say readable d.a_in in
-    let b = use_of_schema schema tables fields d.b has say readable d.b_in in
-    record {
-      id = d.a.id;
-      depth = a.depth;
-      t = a.t;
-      field = a.field;
-      kind = d.a.kind;
-      use_of = a.has;
-      other_depth = b.depth;
-      other = b.t;
-      other_field = b.field;
-      other_kind = d.b.kind;
-      other_use = subst (λ (id : ℤ). HasUse b.t id d.b.kind) (sym d.same) b.has;
-      differ = d.differ;
-    }
-
 -- ---- the schema
-schema_defect : (schema : TableIn) (e : SchemaRefusal) → Refused schema MAX_FIELDS (fields_below (suc MAX_DEPTH) fields_slot schema) e → HasDefect schema e
+schema_defect : (schema : TableIn) (e : SchemaRefusal) → Refused schema max_fields (fields_below (suc max_depth) fields_slot schema) e → HasDefect schema e
 schema_defect schema _ (stands e d) = d
-schema_defect schema _ (too_many lt) = record { depth = suc MAX_DEPTH; many = lt }
+schema_defect schema _ (too_many lt) = record { depth = suc max_depth; many = lt }
 
-fields_refused : (schema : TableIn) (e : SchemaRefusal) → (slot_of (vector_of MAX_DEPTH) fields_slot MAX_FIELDS schema >>= with_agreeing_uses) ≡ Err e → HasDefect schema e
-fields_refused schema e h = elim (bind_err (slot_of (vector_of MAX_DEPTH) fields_slot MAX_FIELDS schema) with_agreeing_uses e h) [
-  | inl fails ↦ schema_defect schema e (slot_refused MAX_DEPTH (vector_refused MAX_DEPTH) schema 0 fields_slot MAX_FIELDS schema e defects.IsParent.root (omega arith) fails)
+fields_refused : (schema : TableIn) (e : SchemaRefusal) → (slot_of (vector_of max_depth) fields_slot max_fields schema >>= with_agreeing_uses) ≡ Err e → HasDefect schema e
+fields_refused schema e h = elim (bind_err (slot_of (vector_of max_depth) fields_slot max_fields schema) with_agreeing_uses e h) [
+  | inl fails ↦ schema_defect schema e (slot_refused max_depth (vector_refused max_depth) schema 0 fields_slot max_fields schema e defects.IsParent.root (omega arith) fails)
   | inr b ↦ elim (chosen (uses_agree (uses_of b.0.0)) (Ok b.0.0) (Err DictionaryTypes) (Err e) b.2) [
     | inl c ↦ cc (c.1)
     | inr c ↦
         let is : DictionaryTypes ≡ e = cc (c.1) in
-        let s = slot_says MAX_DEPTH (vector_says MAX_DEPTH) fields_slot MAX_FIELDS schema b.0.0 b.0.1 b.1 in
+        let s = slot_says max_depth (vector_says max_depth) fields_slot max_fields schema b.0.0 b.0.1 b.1 in
         subst (HasDefect schema) is (two_types schema s.tables b.0.0 s.has s.say s.readable (uses_disagree (uses_of b.0.0) c.0))
   ]
 ]
