@@ -1,4 +1,4 @@
--- A message behind others.
+-- A message after others.
 use Rattle.std.proofs.Common.{◌≡◌, ℕ, ◌+◌, ◌-◌, ◌*◌, ◌<◌, ◌≤◌, ◌^◌, Bool, true, List, [], ◌∷◌, ◌++◌, length, map, drop, Ok, refl, sym, ap, ◌∙◌, subst, length-append, arith}
 use Rattle.std.specs.Prelude.{ℤ}
 use Rattle.std.specs.List.{list_all}
@@ -13,11 +13,13 @@ use Rattle.arrow_ipc.specs.declared.messages.IpcMessage.{IpcMessage}
 use Rattle.arrow_ipc.specs.declared.messages.IpcMessage.TheVariants.{Schema, Dictionary, Rows}
 use Rattle.arrow_ipc.specs.Batches.{BatchIn, IsBatch, lies_in, buffer_in}
 use Rattle.arrow_ipc.specs.Messages.{IsFramed, IsMessage, IsContent, kind_number}
-use Rattle.arrow_ipc.specs.Parts.{part_more, number_more}
-use Rattle.arrow_ipc.specs.Fronts.{Front, HasNoMessage, message_ends}
-use Rattle.arrow_ipc.specs.Written.{padded, body_size, most_of, most_of_schema, is_aligned, laid_out, IsBatchAligned, AreBuffersAligned, IsHeaderAligned, Appends, AppendsSchema, HoldsBatch, IsBatchTable, IsDictionaryTable, HasMessage}
+use Rattle.arrow_ipc.proofs.Parts.{part_more, number_more}
+use Rattle.arrow_ipc.specs.Fronts.{Front, HasNoMessage}
+use Rattle.arrow_ipc.proofs.Fronting.{message_ends, no_message}
+use Rattle.arrow_ipc.specs.Written.{padded, body_size, most_of, most_of_schema, is_aligned, IsBatchAligned, AreBuffersAligned, IsHeaderAligned, Appends, AppendsSchema}
+use Rattle.arrow_ipc.specs.Laying.{laid_out, HoldsBatch, IsBatchTable, IsDictionaryTable, HasMessage}
 use Rattle.arrow_ipc.proofs.Places.{all_lie_more, buffers_more, body_size-le}
-use Rattle.arrow_ipc.proofs.Laid.{zeros_behind, length-laid_out, framed_laid, IsLaid, message_laid}
+use Rattle.arrow_ipc.proofs.Laid.{zeros_after, length-laid_out, framed_laid, IsLaid, message_laid}
 
 framed_more : (bytes more metadata : List ℕ) → IsFramed bytes metadata → IsFramed (bytes ++ more) metadata
 framed_more bytes more metadata f = record {
@@ -45,15 +47,12 @@ message_more bytes more m size h = record {
   ends = h.ends;
 }
 
-empty_front : HasNoMessage []
-empty_front m size h = let ends : (0 < size) × (size ≤ length {A = ℕ} []) = message_ends [] m size h in absurd (omega (arith, ends.0, ends.1))
-
 pub front_extends : (old written : List ℕ) (m : IpcMessage) → IsMessage written m (length written) → (ms : List IpcMessage) → Front old ms []
     → Front (old ++ written) (ms ++ m ∷ []) []
 front_extends old written m is [] f =
     let whole : old ++ written ≡ written = ap (λ start. start ++ written) (sym f.0) in
     subst (λ (bytes : List ℕ). Front bytes (m ∷ []) []) (sym whole)
-    (length written, is, subst (λ (rest : List ℕ). ([] ≡ rest) × HasNoMessage rest) (sym (drop_all (length written) written (omega arith))) (refl, empty_front))
+    (length written, is, subst (λ (rest : List ℕ). ([] ≡ rest) × HasNoMessage rest) (sym (drop_all (length written) written (omega arith))) (refl, no_message))
 front_extends old written m is (n ∷ ns) (size, h, f) =
     let within : size ≤ length old = (message_ends old n size h).1 in (
       size,
@@ -63,7 +62,7 @@ front_extends old written m is (n ∷ ns) (size, h, f) =
 
 appended : (m : IpcMessage) (most : ℕ) (built : List ℕ) (header : ℕ) (body old new : List ℕ) (h : HasMessage built header (kind_number m) body old new)
     → length h.metadata < 2 ^ 32 → (inner : TableIn) → table_at h.metadata (length h.metadata - header) ≡ Ok inner
-    → IsContent inner (body ++ zeros_behind body) m → IsHeaderAligned inner m → 8 + length h.metadata + padded (length body) ≤ most → Appends m most old new
+    → IsContent inner (body ++ zeros_after body) m → IsHeaderAligned inner m → 8 + length h.metadata + padded (length body) ≤ most → Appends m most old new
 appended m most built header body old new h fits inner read content aligned few =
     let laid : IsLaid h.metadata (laid_out h.metadata body) m = message_laid built header body h.metadata m inner h.is fits read content aligned in
     let size : length (laid_out h.metadata body) ≡ 8 + length h.metadata + padded (length body) = length-laid_out h.metadata body in
@@ -73,6 +72,7 @@ appended m most built header body old new h fits inner read content aligned few 
       is = laid.is;
       even = omega (arith, size, h.even);
       body_even = omega (arith, ap length laid.same, h.even);
+      version = laid.version;
       few = omega (arith, size, few);
       aligned = laid.aligned;
       header_aligned = laid.header_aligned;
@@ -82,14 +82,14 @@ appended m most built header body old new h fits inner read content aligned few 
 -- the batch that a table and a padded body hold
 batch_held : (rows : ℕ) (nodes places : List (ℤ × ℤ)) (body : List ℕ) (table : TableIn) → HoldsBatch rows nodes places table
     → list_all (lies_in (length body)) places ≡ true
-    → IsBatch table (body ++ zeros_behind body) (record { rows = rows; nodes = nodes; buffers = map (buffer_in body) places })
+    → IsBatch table (body ++ zeros_after body) (record { rows = rows; nodes = nodes; buffers = map (buffer_in body) places })
 batch_held rows nodes places body table h inside = record {
   rows = h.has_rows;
   nodes = h.has_nodes;
   places = places;
   has_places = h.has_places;
-  inside = all_lie_more (length body) (length (body ++ zeros_behind body)) places (omega (arith, length-append body (zeros_behind body))) inside;
-  buffers = sym (buffers_more body (zeros_behind body) places inside);
+  inside = all_lie_more (length body) (length (body ++ zeros_after body)) places (omega (arith, length-append body (zeros_after body))) inside;
+  buffers = sym (buffers_more body (zeros_after body) places inside);
   plain = h.plain;
 }
 
@@ -138,7 +138,7 @@ dictionary_appended id delta rows nodes places body built header old new h stand
     (few_bytes rows nodes places body (length h.metadata) (omega (arith, h.few, small)) size)
 
 pub schema_appended : (fields : SchemaSpec) (built : List ℕ) (header : ℕ) (old new : List ℕ) → HasMessage built header 1 [] old new
-    → Stands (IsSchemaTable fields) built header → length built ≤ names_of fields + 1100 * count_of fields + 512 → names_of fields ≤ 2 ^ 20 → count_of fields ≤ 2 ^ 10
+    → Stands (IsSchemaTable fields) built header → length built ≤ names_of fields + 1500 * count_of fields + 512 → names_of fields ≤ 2 ^ 20 → count_of fields ≤ 2 ^ 10
     → AppendsSchema fields old new
 schema_appended fields built header old new h stands small few_names few_fields =
     let t : IsSchemaTable fields h.metadata (length h.metadata - header) = stands_later (IsSchemaTable fields) built h.metadata header h.is.grows stands in
@@ -151,13 +151,19 @@ schema_appended fields built header old new h stands small few_names few_fields 
       header = t.table;
       has_header = record {
         table = h.is.table;
-        behind = padded (length {A = ℕ} []);
+        after = padded (length {A = ℕ} []);
         has_table = record { metadata = h.metadata; framed = framed_laid h.metadata [] fits; root = h.is.root; whole = sym size };
         has_kind = h.is.has_kind;
         has_header = h.is.has_header ∙ rw t.read refl;
       };
+      version = h.is.has_version;
       no_body = h.is.has_size;
       ends = refl;
+      padded = h.even;
+      aligned = h.is.aligned;
+      place = length h.metadata - header;
+      here = t.read;
+      writes = t.writes;
       says = t.says;
       even = omega (arith, size, h.even);
       few = omega (arith, size, most);

@@ -8,8 +8,9 @@ use Rattle.flat_tables.specs.Bytes.{part_at, number_at}
 use Rattle.flat_tables.specs.Tables.{TableIn, table_at}
 use Rattle.arrow_ipc.specs.declared.messages.IpcMessage.{IpcMessage}
 use Rattle.arrow_ipc.specs.Messages.{IsFramed, IsMessage, IsContent, continuation, kind_number}
-use Rattle.arrow_ipc.specs.Written.{padded, laid_out, message_sizes, IsAligned, IsHeaderAligned, IsMetadata}
-use Rattle.arrow_ipc.specs.Parts.{lies_part}
+use Rattle.arrow_ipc.specs.Written.{padded, version_5, message_sizes, IsAligned, IsHeaderAligned}
+use Rattle.arrow_ipc.specs.Laying.{laid_out, IsMetadata}
+use Rattle.arrow_ipc.proofs.Parts.{lies_part}
 
 -- a part between others
 part_in : (front part rest : List ℕ) (place : ℕ) → length front ≡ place → part_at (front ++ (part ++ rest)) place (length part) ≡ Ok part
@@ -27,19 +28,19 @@ number_in front n x rest place here fits =
     let back : little_number n (little_bytes n x) ≡ x = ap (little_number n) (sym (append-nil (little_bytes n x))) ∙ little_number-reads_back n x [] fits in
     rw (read, back) refl
 
--- the zero bytes behind a body
-abbrev pub zeros_behind : List ℕ → List ℕ
-zeros_behind body = replicate (padded (length body) - length body) 0
+-- the zero bytes after a body
+abbrev pub zeros_after : List ℕ → List ℕ
+zeros_after body = replicate (padded (length body) - length body) 0
 
-pub length-padded : (body : List ℕ) → length (body ++ zeros_behind body) ≡ padded (length body)
-length-padded body = omega (arith, length-append body (zeros_behind body), length-replicate {A = ℕ} (padded (length body) - length body) 0)
+pub length-padded : (body : List ℕ) → length (body ++ zeros_after body) ≡ padded (length body)
+length-padded body = omega (arith, length-append body (zeros_after body), length-replicate {A = ℕ} (padded (length body) - length body) 0)
 
 pub length-laid_out : (metadata body : List ℕ) → length (laid_out metadata body) ≡ 8 + length metadata + padded (length body)
 unfolding laid_out
 length-laid_out metadata body =
     let a : List ℕ = little_bytes 4 continuation in
     let b : List ℕ = little_bytes 4 (length metadata) in
-    let c : List ℕ = body ++ zeros_behind body in
+    let c : List ℕ = body ++ zeros_after body in
     omega (
       arith,
       length-append a (b ++ (metadata ++ c)),
@@ -55,7 +56,7 @@ unfolding laid_out
 framed_laid metadata body fits =
     let a : List ℕ = little_bytes 4 continuation in
     let b : List ℕ = little_bytes 4 (length metadata) in
-    let c : List ℕ = body ++ zeros_behind body in
+    let c : List ℕ = body ++ zeros_after body in
     let four : length a ≡ 4 = length-bytes_low_first 0 4 continuation in
     let eight : length (a ++ b) ≡ 8 = omega (arith, length-append a b, four, length-bytes_low_first 0 4 (length metadata)) in
     record {
@@ -66,12 +67,12 @@ framed_laid metadata body fits =
     }
 
 body_laid : (metadata body : List ℕ)
-    → part_at (laid_out metadata body) (8 + length metadata) (length (body ++ zeros_behind body)) ≡ Ok (body ++ zeros_behind body)
+    → part_at (laid_out metadata body) (8 + length metadata) (length (body ++ zeros_after body)) ≡ Ok (body ++ zeros_after body)
 unfolding laid_out
 body_laid metadata body =
     let a : List ℕ = little_bytes 4 continuation in
     let b : List ℕ = little_bytes 4 (length metadata) in
-    let c : List ℕ = body ++ zeros_behind body in
+    let c : List ℕ = body ++ zeros_after body in
     let front : length ((a ++ b) ++ metadata) ≡ 8 + length metadata =
     omega (arith, length-append (a ++ b) metadata, length-append a b, length-bytes_low_first 0 4 continuation, length-bytes_low_first 0 4 (length metadata)) in
     let whole : ((a ++ b) ++ metadata) ++ (c ++ []) ≡ a ++ (b ++ (metadata ++ c)) =
@@ -82,12 +83,13 @@ body_laid metadata body =
 pub record IsLaid (metadata written : List ℕ) (message : IpcMessage) : Type 0 where
   pub is : IsMessage written message (length written)
   pub same : is.metadata ≡ metadata
+  pub version : is.version ≡ version_5
   pub aligned : IsAligned message_sizes is.table
   pub header_aligned : IsHeaderAligned is.header message
 
 pub message_laid : (built : List ℕ) (header : ℕ) (body metadata : List ℕ) (m : IpcMessage) (inner : TableIn)
     → IsMetadata built header (kind_number m) (padded (length body)) metadata → length metadata < 2 ^ 32
-    → table_at metadata (length metadata - header) ≡ Ok inner → IsContent inner (body ++ zeros_behind body) m → IsHeaderAligned inner m → IsLaid metadata (laid_out metadata body) m
+    → table_at metadata (length metadata - header) ≡ Ok inner → IsContent inner (body ++ zeros_after body) m → IsHeaderAligned inner m → IsLaid metadata (laid_out metadata body) m
 message_laid built header body metadata m inner h fits read content aligned = record {
   is = record {
     metadata = metadata;
@@ -100,13 +102,14 @@ message_laid built header body metadata m inner h fits read content aligned = re
     kind = h.has_kind;
     header = inner;
     has_header = h.has_header ∙ rw read refl;
-    body = body ++ zeros_behind body;
+    body = body ++ zeros_after body;
     body_size = h.has_size ∙ ap (λ n. Ok (pos n)) (sym (length-padded body));
     has_body = body_laid metadata body;
     content = content;
     ends = length-laid_out metadata body ∙ ap (λ n. 8 + length metadata + n) (sym (length-padded body));
   };
   same = refl;
+  version = refl;
   aligned = h.aligned;
   header_aligned = aligned;
 }

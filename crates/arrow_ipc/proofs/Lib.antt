@@ -1,3 +1,7 @@
+pub mod Parts
+pub mod Decided
+pub mod Unique
+pub mod Fronting
 pub mod Pairs
 pub mod Places
 pub mod PairsBack

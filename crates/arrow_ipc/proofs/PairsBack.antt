@@ -10,7 +10,7 @@ use Rattle.byteorder.specs.Numbers.{length-bytes_low_first, little_number-reads_
 use Rattle.flat_tables.specs.Tables.{element_part}
 use Rattle.flat_tables.specs.Building.{vector_from, IsParts}
 use Rattle.arrow_ipc.specs.Batches.{pair_of, pair_at, pairs_in}
-use Rattle.arrow_ipc.specs.Written.{FitsPair, AllFit, number_bytes, pair_bytes, pairs_bytes}
+use Rattle.arrow_ipc.specs.Laying.{FitsPair, AllFit, number_bytes, pair_bytes, pairs_bytes}
 
 signed_back : (z : ℤ) (rest : List ℕ) → FitsSigned w64 z → cast_signed w64 (little_number 8 (number_bytes z ++ rest)) ≡ z
 unfolding number_bytes

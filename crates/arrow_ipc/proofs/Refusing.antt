@@ -3,7 +3,7 @@ use Rattle.flat_tables.specs.Tables.{TableIn}
 use Rattle.arrow_schema.specs.declared.refusal.SchemaRefusal.{SchemaRefusal}
 use Rattle.arrow_schema.specs.declared.refusal.SchemaRefusal.TheVariants.{Flat, Unsupported, TooManyFields, TooDeep, BadName, DictionaryTypes, Memory}
 use Rattle.arrow_schema.specs.Reading.{schema_of, Fails}
-use Rattle.arrow_schema.specs.Laws.Refused.{schema_refused}
+use Rattle.arrow_schema.proofs.Refused.{schema_refused}
 use Rattle.arrow_ipc.specs.Order.{fault_of, RefusesSchema}
 
 pub refuses_schema : (table : TableIn) (refusal : SchemaRefusal) → Fails refusal (schema_of table) → RefusesSchema table (fault_of refusal)

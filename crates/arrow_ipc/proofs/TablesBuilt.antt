@@ -11,7 +11,8 @@ use Rattle.flat_tables.specs.Building.{Grows, Stands, IsParts, HasSlots, IsPadde
 use Rattle.flat_tables.proofs.Standing.{grows_on, stands_later}
 use Rattle.arrow_ipc.specs.Batches.{rows_of, nodes_of, places_of}
 use Rattle.arrow_ipc.specs.Messages.{version_of, kind_of, header_of, body_size_of, id_of, data_of, delta_of}
-use Rattle.arrow_ipc.specs.Written.{AllFit, pairs_bytes, IsAligned, IsBatchTable, IsDictionaryTable, IsMetadata}
+use Rattle.arrow_ipc.specs.Written.{IsAligned}
+use Rattle.arrow_ipc.specs.Laying.{AllFit, pairs_bytes, IsBatchTable, IsDictionaryTable, IsMetadata}
 use Rattle.arrow_ipc.proofs.PairsBack.{pairs_back}
 
 -- a table is aligned by the sizes of its slots

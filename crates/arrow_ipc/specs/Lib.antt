@@ -1,11 +1,10 @@
+pub mod Limits
 pub mod Batches
 pub mod Messages
 pub mod Faults
 pub mod Order
-pub mod Parts
-pub mod Decided
-pub mod Unique
 pub mod Fronts
 pub mod Inside
 pub mod Written
+pub mod Laying
 pub mod Building

@@ -66,7 +66,7 @@ kind_number (Schema fields) = 1
 kind_number (Dictionary id delta batch) = 2
 kind_number (Rows batch) = 3
 
--- a message stands at the start of the bytes, and takes so many of them
+-- a message stands at the start of the bytes, and takes `size` of them
 pub record IsMessage (bytes : List ℕ) (message : IpcMessage) (size : ℕ) : Type 0 where
   pub metadata : List ℕ
   pub framed : IsFramed bytes metadata

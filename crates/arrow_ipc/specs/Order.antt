@@ -1,4 +1,4 @@
--- In which order a message is read. It decides which of several faults is answered, and no caller needs to know it.
+-- In which order a message is read. It decides which of several faults is returned, and no caller needs to know it.
 use Rattle.std.specs.Prelude.{◌≡◌, ℕ, ◌+◌, ◌==◌, List, length, map, if◌then◌else◌, Result, Ok, Err, Option, None, Some, is_some, ℤ, pos, negsuc}
 use Rattle.std.specs.List.{list_all}
 use Rattle.flat_tables.specs.declared.fault.FlatFault.{FlatFault}

@@ -1,3 +1,4 @@
+ghost use Rattle.arrow_ipc.specs.Limits.{max_parts, max_body};
 ghost use Rattle.std.specs.Prelude.{◌≡◌, ◌+◌, ◌-◌, ◌*◌, ◌≤◌, ◌<◌, ◌^◌, ◌++◌, ◌∷◌, [], ℕ, length, replicate, vec_len, pos, IfOk, OnOk, OnErr};
 ghost use Rattle.flat_tables.specs.Building.{Grows, Stands};
 ghost use Rattle.arrow_ipc.specs.declared.messages.IpcMessage.TheVariants.{Dictionary, Rows};
@@ -38,7 +39,7 @@ impl Model for BatchBuilder {
 }
 
 impl BatchBuilder {
-    /// A batch of so many rows, with no nodes and no buffers.
+    /// A batch of this number of rows, with no nodes and no buffers.
     pub fn new(alloc: Global, rows: u64) -> BatchBuilder
         requires { rows < 2 ^ 63 }
         ensures { result ≡ record { rows = rows; nodes = []; buffers = [] } }
@@ -53,7 +54,7 @@ impl BatchBuilder {
 
     /// Adds a node: the number of rows of a column, and how many of them are null.
     pub fn add(&mut self, rows: u64, nulls: u64) -> Result<(), AllocError>
-        requires few { length self.old.nodes < MAX_PARTS }
+        requires few { length self.old.nodes < max_parts }
         requires rows { rows < 2 ^ 63 }
         requires nulls { nulls < 2 ^ 63 }
         ensures ok { OnOk result (self.new ≡ record self.old { nodes = self.old.nodes ++ (pos rows, pos nulls) ∷ [] }) }
@@ -65,8 +66,8 @@ impl BatchBuilder {
 
     /// Adds a buffer, which begins at a multiple of 8 bytes in the body.
     pub fn add_buffer(&mut self, part: &[u8]) -> Result<(), AllocError>
-        requires few { length self.old.buffers < MAX_PARTS }
-        requires room { body_size self.old.buffers + padded (length part.now) < MAX_BODY }
+        requires few { length self.old.buffers < max_parts }
+        requires room { body_size self.old.buffers + padded (length part.now) < max_body }
         ensures ok { OnOk result (self.new ≡ record self.old { buffers = self.old.buffers ++ part.now ∷ [] }) }
         ensures err { OnErr result (self.new ≡ self.old) }
     {
@@ -116,9 +117,9 @@ pub(crate) fn padded(len: usize) -> usize
     (len + 7) / 8 * 8
 }
 
-// Appends a part from an offset on, behind zero bytes.
+// Appends a part from an offset on, after zero bytes.
 fn append(body: &mut Vec<u8>, offset: usize, part: &[u8]) -> Result<(), AllocError>
-    requires behind { vec_len body.old ≤ offset }
+    requires offset { vec_len body.old ≤ offset }
     requires room { offset + length part.now < 2 ^ 63 }
     ensures ok { OnOk result (body.new.items ≡ body.old.items ++ (replicate (offset - vec_len body.old) 0 ++ part.now)) }
     ensures err { OnErr result (body.new.items ≡ body.old.items) }

@@ -1,9 +1,18 @@
 ghost use Rattle.std.specs.Prelude.{◌≡◌, ◌≢◌, ℕ, List, [], ◌⊎◌};
 ghost use Rattle.arrow_ipc.specs.declared.fault.IpcFault.{IpcFault};
 ghost use Rattle.arrow_ipc.specs.declared.messages.IpcMessage.{IpcMessage};
+ghost use Rattle.arrow_ipc.specs.Limits.{max_parts, max_body};
 ghost use Rattle.arrow_ipc.specs.Messages.{IsMessage};
 ghost use Rattle.arrow_ipc.specs.Faults.{Stands};
-ghost use Rattle.arrow_ipc.specs.Fronts.{Front, HasFront, front_of, left_of};
+ghost use Rattle.arrow_ipc.specs.Fronts.{Front, front_of, left_of};
+
+use crate::builder::{MAX_BODY, MAX_PARTS};
+
+/// The limits have their values.
+pub fn limits_hold()
+    ensures parts { MAX_PARTS ≡ max_parts }
+    ensures body { MAX_BODY ≡ max_body }
+{}
 
 /// At the start of bytes stands one message and no fault, or at least one fault and no message; at
 /// the end of the bytes stands neither.
@@ -21,4 +30,11 @@ pub fn one_front()
     ensures some { (bytes : List ℕ) → Front bytes (front_of bytes) (left_of bytes) }
     ensures ends { (bytes : List ℕ) → (left_of bytes ≡ []) ⊎ ((fault : IpcFault) × Stands (left_of bytes) fault) }
     ensures never_both { (bytes : List ℕ) (fault : IpcFault) → left_of bytes ≡ [] → Stands (left_of bytes) fault → ⊥ }
+{}
+
+/// The empty bytes have no message, and are at their end: each list of bytes that grows starts so.
+pub fn no_bytes()
+    ensures none { (message : IpcMessage) (size : ℕ) → IsMessage [] message size → ⊥ }
+    ensures front { Front [] [] [] }
+    ensures read { (front_of [] ≡ []) × (left_of [] ≡ []) }
 {}

@@ -65,7 +65,7 @@ impl<'a> Messages<'a> {
 
     /// The next message, or a fault that stands in its place; `None` at the end of the bytes and
     /// after a fault, want of memory among them. Where several faults stand, any of them is
-    /// answered.
+    /// returned.
     ///
     /// It costs as much as the metadata is long: bodies are not walked. Only a schema takes
     /// memory.

@@ -53,14 +53,14 @@ fn next_rows<'a>(messages: &mut Messages<'a>, alloc: Global) -> Option<BatchView
     }
 }
 
-// The schema that begins the bytes, and the place behind it.
+// The schema that begins the bytes, and the place after it.
 fn first_schema(alloc: Global, bytes: &[u8]) -> Option<(SchemaSpec, usize)> {
     let mut messages = Messages::new(bytes);
     let schema = next_schema(&mut messages, alloc)?;
     Some((schema, messages.place()))
 }
 
-// The record batch behind a schema, and the place behind it, where the bytes end.
+// The record batch after a schema, and the place after it, where the bytes end.
 fn last_rows(alloc: Global, bytes: &[u8]) -> Option<(BatchView<'_>, usize)> {
     let mut messages = Messages::new(bytes);
     next_schema(&mut messages, alloc)?;

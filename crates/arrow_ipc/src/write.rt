@@ -2,12 +2,15 @@ ghost use Rattle.std.specs.Prelude.{◌≡◌, ◌+◌, ◌-◌, ◌*◌, ◌%�
 ghost use Rattle.std.specs.Int.{w64};
 ghost use Rattle.flat_tables.specs.Building.{Stands};
 ghost use Rattle.arrow_schema.specs.Trees.{count_of};
-ghost use Rattle.arrow_schema.specs.Writing.{names_of, widths_fit};
+ghost use Rattle.arrow_schema.specs.Limits.{max_written_fields, max_written_names};
+ghost use Rattle.arrow_schema.specs.Writing.{names_of, widths_fit, encodings_named};
+ghost use Rattle.arrow_ipc.specs.Limits.{max_parts};
+ghost use Rattle.arrow_ipc.specs.Laying as laying;
 ghost use Rattle.arrow_ipc.specs.Written as written;
 
 use crate::builder::padded;
 use crate::header::{CONTINUATION, PREFIX, SCHEMA};
-use arrow_schema::{MAX_WRITTEN_FIELDS, MAX_WRITTEN_NAMES, SchemaSpec, add_schema};
+use arrow_schema::{SchemaSpec, add_schema};
 use byteorder::{ByteOrder, LittleEndian};
 use flat_tables::{Builder, Place, Slot};
 use std::alloc::{AllocError, Global};
@@ -17,9 +20,10 @@ const VERSION: i16 = 4;
 
 /// Appends a schema as a message. Its length is a multiple of 8.
 pub fn write_schema(to: &mut Vec<u8>, spec: &SchemaSpec) -> Result<(), AllocError>
-    requires few { count_of spec.now ≤ MAX_WRITTEN_FIELDS }
-    requires names { names_of spec.now ≤ MAX_WRITTEN_NAMES }
+    requires few { count_of spec.now ≤ max_written_fields }
+    requires names { names_of spec.now ≤ max_written_names }
     requires widths { IsTrue (widths_fit spec.now) }
+    requires encodings { IsTrue (encodings_named spec.now) }
     ensures ok { OnOk result (written.AppendsSchema spec.now to.old.items to.new.items) }
     ensures err { OnErr result (to.new.items ≡ to.old.items) }
 {
@@ -37,10 +41,10 @@ pub(crate) fn add_batch(
     places: &[(i64, i64)],
 ) -> Result<Place, AllocError>
     requires rows { rows < 2 ^ 63 }
-    requires nodes { length nodes.now ≤ 65536 }
-    requires places { length places.now ≤ 65536 }
+    requires nodes { length nodes.now ≤ max_parts }
+    requires places { length places.now ≤ max_parts }
     requires room { length builder.old < 2 ^ 20 }
-    ensures table { IfOk result (Stands (written.IsBatchTable rows nodes.now places.now) builder.new) }
+    ensures table { IfOk result (Stands (laying.IsBatchTable rows nodes.now places.now) builder.new) }
     ensures size { OnOk result (length builder.new ≤ length builder.old + 16 * length nodes.now + 16 * length places.now + 320) }
 {
     let node_bytes = pairs(builder.alloc(), nodes)?;
@@ -58,9 +62,9 @@ pub(crate) fn add_batch(
 // The bytes of structs of two numbers, one after the other.
 fn pairs(alloc: Global, pairs: &[(i64, i64)]) -> Result<Vec<u8>, AllocError>
     requires { length pairs.now < 2 ^ 32 }
-    ensures value { IfOk result (λ bytes. bytes.items ≡ written.pairs_bytes pairs.now) }
+    ensures value { IfOk result (λ bytes. bytes.items ≡ laying.pairs_bytes pairs.now) }
     ensures len { IfOk result (λ bytes. vec_len bytes ≡ 16 * length pairs.now) }
-    ensures fit { OnOk result (written.AllFit pairs.now) }
+    ensures fit { OnOk result (laying.AllFit pairs.now) }
 {
     let mut bytes = Vec::with_capacity(alloc, 16 * pairs.len())?;
     for pair in pairs {
@@ -70,18 +74,18 @@ fn pairs(alloc: Global, pairs: &[(i64, i64)]) -> Result<Vec<u8>, AllocError>
 }
 
 fn push_pair(bytes: &mut Vec<u8>, pair: &(i64, i64)) -> Result<(), AllocError>
-    ensures ok { OnOk result (bytes.new.items ≡ bytes.old.items ++ written.pair_bytes pair.now) }
+    ensures ok { OnOk result (bytes.new.items ≡ bytes.old.items ++ laying.pair_bytes pair.now) }
     ensures len { OnOk result (vec_len bytes.new ≡ vec_len bytes.old + 16) }
-    ensures fits { OnOk result (written.FitsPair pair.now) }
+    ensures fits { OnOk result (laying.FitsPair pair.now) }
 {
     push(bytes, pair.0)?;
     push(bytes, pair.1)?;
     Ok(())
 }
 
-#[tactic(auto, unfolding(crate::specs::Written::number_bytes))]
+#[tactic(auto, unfolding(crate::specs::Laying::number_bytes))]
 fn push(bytes: &mut Vec<u8>, number: i64) -> Result<(), AllocError>
-    ensures ok { OnOk result (bytes.new.items ≡ bytes.old.items ++ written.number_bytes number) }
+    ensures ok { OnOk result (bytes.new.items ≡ bytes.old.items ++ laying.number_bytes number) }
     ensures len { OnOk result (vec_len bytes.new ≡ vec_len bytes.old + 8) }
     ensures fits { OnOk result (FitsSigned w64 number) }
 {
@@ -102,7 +106,7 @@ pub(crate) fn write_message(
     requires header { header ≤ length builder }
     requires room { length builder < 2 ^ 24 }
     requires body { length body.now < 2 ^ 30 }
-    ensures ok { OnOk result (written.HasMessage builder header kind body.now to.old.items to.new.items) }
+    ensures ok { OnOk result (laying.HasMessage builder header kind body.now to.old.items to.new.items) }
     ensures err { OnErr result (to.new.items ≡ to.old.items) }
 {
     let metadata = metadata(builder, kind, header, padded(body.len()))?;
@@ -120,7 +124,7 @@ fn metadata(
     requires header { header ≤ length builder }
     requires room { length builder < 2 ^ 24 }
     requires size { size < 2 ^ 63 }
-    ensures is { IfOk result (λ metadata. written.IsMetadata builder header kind size metadata.items) }
+    ensures is { IfOk result (λ metadata. laying.IsMetadata builder header kind size metadata.items) }
     ensures few { IfOk result (λ metadata. length metadata.items ≤ length builder + 288) }
     ensures even { IfOk result (λ metadata. length metadata.items % 8 ≡ 0) }
 {
@@ -135,11 +139,11 @@ fn metadata(
 }
 
 // Appends metadata and a body, which is padded to a multiple of 8.
-#[tactic(auto, unfolding(crate::specs::Written::laid_out))]
+#[tactic(auto, unfolding(crate::specs::Laying::laid_out))]
 fn append_message(to: &mut Vec<u8>, metadata: &[u8], body: &[u8]) -> Result<(), AllocError>
     requires metadata { length metadata.now < 2 ^ 32 }
     requires body { length body.now < 2 ^ 32 }
-    ensures ok { OnOk result (to.new.items ≡ to.old.items ++ written.laid_out metadata.now body.now) }
+    ensures ok { OnOk result (to.new.items ≡ to.old.items ++ laying.laid_out metadata.now body.now) }
     ensures err { OnErr result (to.new.items ≡ to.old.items) }
 {
     let size = PREFIX + metadata.len() + padded(body.len());

@@ -1,6 +1,6 @@
 use Rattle.std.proofs.Common.{refl}
-use Rattle.arrow_ipc.specs.Unique.{one_message, alone, stands_some}
-use Rattle.arrow_ipc.specs.Fronts.{message_or_fault}
+use Rattle.arrow_ipc.proofs.Unique.{one_message, alone, stands_some}
+use Rattle.arrow_ipc.proofs.Fronting.{message_or_fault}
 use Rattle.arrow_ipc.proofs.laws.message_or_fault.Goals as goal
 
 pub returns-clause-one : goal.returns-clause-one

@@ -1,5 +1,6 @@
-use Rattle.arrow_ipc.specs.Unique.{stands_some}
-use Rattle.arrow_ipc.specs.Fronts.{one_front, front_of-is, front_ends, left_of}
+use Rattle.arrow_ipc.proofs.Unique.{stands_some}
+use Rattle.arrow_ipc.specs.Fronts.{left_of}
+use Rattle.arrow_ipc.proofs.Fronting.{one_front, front_of-is, front_ends}
 use Rattle.arrow_ipc.proofs.laws.one_front.Goals as goal
 
 pub returns-clause-one : goal.returns-clause-one

@@ -1,7 +1,7 @@
 use Rattle.std.proofs.Common.{◌∙◌, sym}
 use Rattle.std.proofs.lemmas.Result.{err_from_is_err_and}
-use Rattle.arrow_ipc.specs.Decided.{find_refuses, header_refuses, message_given}
-use Rattle.arrow_ipc.specs.Fronts.{message_ends}
+use Rattle.arrow_ipc.proofs.Decided.{find_refuses, header_refuses, message_given}
+use Rattle.arrow_ipc.proofs.Fronting.{message_ends}
 use Rattle.arrow_ipc.proofs.messages.message.Goals as goal
 
 pub returns-in_err-header-clause-fault : goal.returns-in_err-header-clause-fault

@@ -1,5 +1,6 @@
 use Rattle.std.proofs.Common.{◌∙◌, ap}
-use Rattle.arrow_ipc.specs.Fronts.{rows_in, rows_some, rows_none}
+use Rattle.arrow_ipc.specs.Fronts.{rows_in}
+use Rattle.arrow_ipc.proofs.Fronting.{rows_some, rows_none}
 use Rattle.arrow_ipc.proofs.messages.rows_at.Goals as goal
 
 pub returns-clause-some : goal.returns-clause-some

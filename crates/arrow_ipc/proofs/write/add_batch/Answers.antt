@@ -3,7 +3,7 @@ use Rattle.std.specs.Int.{w64}
 use Rattle.std.proofs.lemmas.Int.{to_z_pos}
 use Rattle.flat_tables.specs.Building.{Grows, Stands, IsParts}
 use Rattle.flat_tables.proofs.Standing.{stands_on, grows_on}
-use Rattle.arrow_ipc.specs.Written.{pairs_bytes}
+use Rattle.arrow_ipc.specs.Laying.{pairs_bytes}
 use Rattle.arrow_ipc.proofs.TablesBuilt.{batch_stands}
 use Rattle.arrow_ipc.proofs.write.add_batch.Goals as goal
 

@@ -1,6 +1,6 @@
 use Rattle.std.proofs.Common.{◌≡◌, ℕ, ◌*◌, ◌<◌, ◌++◌, drop, get_or, vec_len}
 use Rattle.std.specs.Prelude.{pos}
-use Rattle.arrow_ipc.specs.Written.{FitsPair, pairs_bytes}
+use Rattle.arrow_ipc.specs.Laying.{FitsPair, pairs_bytes}
 use Rattle.arrow_ipc.proofs.write.pairs.Given as goal
 
 -- what is written and what is left to write are all structs, and those so far fit 64 bits

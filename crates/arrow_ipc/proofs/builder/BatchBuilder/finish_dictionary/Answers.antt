@@ -7,7 +7,8 @@ use Rattle.flat_tables.specs.Building.{Stands}
 use Rattle.flat_tables.proofs.Standing.{stands_on}
 use Rattle.arrow_ipc.specs.declared.messages.IpcMessage.TheVariants.{Dictionary}
 use Rattle.arrow_ipc.specs.Batches.{BatchIn}
-use Rattle.arrow_ipc.specs.Written.{most_of, Appends, IsBatchTable, IsDictionaryTable, HasMessage}
+use Rattle.arrow_ipc.specs.Written.{most_of, Appends}
+use Rattle.arrow_ipc.specs.Laying.{IsBatchTable, IsDictionaryTable, HasMessage}
 use Rattle.arrow_ipc.proofs.Appending.{dictionary_appended}
 use Rattle.arrow_ipc.proofs.TablesBuilt.{dictionary_stands}
 use Rattle.arrow_ipc.proofs.builder.BatchBuilder.finish_dictionary.Goals as goal

@@ -3,7 +3,8 @@ use Rattle.std.specs.Prelude.{ℤ}
 use Rattle.flat_tables.specs.Building.{Stands}
 use Rattle.arrow_ipc.specs.declared.messages.IpcMessage.TheVariants.{Rows}
 use Rattle.arrow_ipc.specs.Batches.{BatchIn}
-use Rattle.arrow_ipc.specs.Written.{most_of, Appends, IsBatchTable, HasMessage}
+use Rattle.arrow_ipc.specs.Written.{most_of, Appends}
+use Rattle.arrow_ipc.specs.Laying.{IsBatchTable, HasMessage}
 use Rattle.arrow_ipc.proofs.Appending.{rows_appended}
 use Rattle.arrow_ipc.proofs.builder.BatchBuilder.finish_rows.Goals as goal
 

@@ -1,6 +1,7 @@
 use Rattle.std.proofs.Common.{rules, ◌+◌, ap, length, length-drop, arith}
 use Rattle.std.proofs.lemmas.Grind.{common_steps}
-use Rattle.arrow_ipc.specs.Fronts.{rest_of, takes_none, takes_message, takes_fault}
+use Rattle.arrow_ipc.specs.Fronts.{rest_of}
+use Rattle.arrow_ipc.proofs.Fronting.{takes_none, takes_message, takes_fault}
 use Rattle.arrow_ipc.proofs.messages.Messages.next.Goals as goal
 
 pub returns-then-self-clause-front : goal.returns-then-self-clause-front

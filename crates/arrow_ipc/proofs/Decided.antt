@@ -8,7 +8,7 @@ use Rattle.flat_tables.specs.Tables.{TableIn, root_at, place_of}
 use Rattle.arrow_schema.specs.declared.spec.SchemaSpec.{SchemaSpec}
 use Rattle.arrow_schema.specs.declared.refusal.SchemaRefusal.{SchemaRefusal}
 use Rattle.arrow_schema.specs.Reading.{schema_of}
-use Rattle.arrow_schema.specs.Laws.Refused.{schema_refused}
+use Rattle.arrow_schema.proofs.Refused.{schema_refused}
 use Rattle.arrow_ipc.specs.declared.fault.IpcFault.{IpcFault}
 use Rattle.arrow_ipc.specs.declared.fault.IpcFault.TheVariants.{Cut, Flat, BadVersion, Compressed, BadBody, Unsupported, Schema, Memory}
 use Rattle.arrow_ipc.specs.declared.messages.IpcMessage.{IpcMessage}
@@ -22,7 +22,7 @@ use Rattle.arrow_ipc.specs.Faults
 use Rattle.arrow_ipc.specs.Faults.{HasTable, HasHeader, HasBatch, HasBody, Stands, Refuses}
 use Rattle.arrow_ipc.specs.Order as order
 use Rattle.arrow_ipc.specs.Order.{◌>>=◌}
-use Rattle.arrow_ipc.specs.Parts.{part_lies, part_past}
+use Rattle.arrow_ipc.proofs.Parts.{part_lies, part_past}
 
 -- a part that was read, or why not
 data Read {A E : Type 0} (r : Result A E) : Type 0 where
@@ -117,34 +117,34 @@ holds_header : (bytes : List ℕ) (table inner : TableIn) (part : List ℕ) (kin
 holds_header bytes table inner part kind h1 h2 (Ok h) holds = record { inner = inner; has_header = h1; has_kind = h2 ∙ ap Ok holds.0; content = holds.1 }
 holds_header bytes table inner part kind h1 h2 (Err e) stands = stands
 
-kind_decided : (bytes : List ℕ) (table inner : TableIn) (behind : ℕ) (part : List ℕ) (kind : ℕ) → HasTable bytes table behind → HasBody bytes (length part)
+kind_decided : (bytes : List ℕ) (table inner : TableIn) (after : ℕ) (part : List ℕ) (kind : ℕ) → HasTable bytes table after → HasBody bytes (length part)
     → header_of table ≡ Ok (Some inner) → kind_of table ≡ Ok kind → MatchResult (order.header_by kind inner part) (Holds kind inner part) (Stands bytes)
-kind_decided bytes table inner behind part kind has body h1 h2 =
+kind_decided bytes table inner after part kind has body h1 h2 =
     elim (cases_eq kind 1) [
       | inl e ↦ subst (λ (k : ℕ). MatchResult (order.header_by k inner part) (Holds k inner part) (Stands bytes)) (sym e) (refl, refl)
       | inr one ↦ elim (cases_eq kind 2) [
         | inl e ↦ subst (λ (k : ℕ). MatchResult (order.header_by k inner part) (Holds k inner part) (Stands bytes)) (sym e)
-            (dictionary_decided bytes inner part (record { table = table; behind = behind; has_table = has; has_kind = h2 ∙ ap Ok e; has_header = h1 }) body)
+            (dictionary_decided bytes inner part (record { table = table; after = after; has_table = has; has_kind = h2 ∙ ap Ok e; has_header = h1 }) body)
         | inr two ↦ elim (cases_eq kind 3) [
           | inl e ↦ subst (λ (k : ℕ). MatchResult (order.header_by k inner part) (Holds k inner part) (Stands bytes)) (sym e)
               (rows_from bytes inner part (order.batch_of inner part)
-              (batch_decided bytes inner part (inl (record { table = table; behind = behind; has_table = has; has_kind = h2 ∙ ap Ok e; has_header = h1 })) body))
-          | inr three ↦ rw (ne_eqb kind 1 one, ne_eqb kind 2 two, ne_eqb kind 3 three) (Faults.unknown_kind table behind kind has h2 one two three)
+              (batch_decided bytes inner part (inl (record { table = table; after = after; has_table = has; has_kind = h2 ∙ ap Ok e; has_header = h1 })) body))
+          | inr three ↦ rw (ne_eqb kind 1 one, ne_eqb kind 2 two, ne_eqb kind 3 three) (Faults.unknown_kind table after kind has h2 one two three)
         ]
       ]
     ]
 
-header_decided : (bytes : List ℕ) (table : TableIn) (behind : ℕ) (part : List ℕ) → HasTable bytes table behind → body_size_of table ≡ Ok (pos (length part))
+header_decided : (bytes : List ℕ) (table : TableIn) (after : ℕ) (part : List ℕ) → HasTable bytes table after → body_size_of table ≡ Ok (pos (length part))
     → MatchResult (order.header_of table part) (IsHeader table part) (Stands bytes)
 unfolding order.header_of
-header_decided bytes table behind part has size =
+header_decided bytes table after part has size =
     elim (read (kind_of table)) [
-      | bad e h1 ↦ rw h1 (Faults.bad_kind table behind e has h1)
+      | bad e h1 ↦ rw h1 (Faults.bad_kind table after e has h1)
       | good kind h1 ↦ elim (read (header_of table)) [
-        | bad e h2 ↦ rw (h1, h2) (Faults.bad_header table behind e has h2)
-        | good None h2 ↦ rw (h1, h2) (Faults.no_header table behind has h2)
+        | bad e h2 ↦ rw (h1, h2) (Faults.bad_header table after e has h2)
+        | good None h2 ↦ rw (h1, h2) (Faults.no_header table after has h2)
         | good (Some inner) h2 ↦ rw (h1, h2) (holds_header bytes table inner part kind h2 h1 (order.header_by kind inner part)
-            (kind_decided bytes table inner behind part kind has (table, behind, has, size) h2 h1))
+            (kind_decided bytes table inner after part kind has (table, after, has, size) h2 h1))
       ]
     ]
 
@@ -177,15 +177,15 @@ record HasPart (bytes : List ℕ) (place : ℕ) (table : TableIn) (part : List �
   size : body_size_of table ≡ Ok (pos (length part))
   whole : part_at bytes place (length part) ≡ Ok part
 
-body_decided : (bytes metadata : List ℕ) (table : TableIn) (behind : ℕ) → 8 + length metadata + behind ≡ length bytes → HasTable bytes table behind
+body_decided : (bytes metadata : List ℕ) (table : TableIn) (after : ℕ) → 8 + length metadata + after ≡ length bytes → HasTable bytes table after
     → MatchResult (order.body bytes (8 + length metadata) table) (HasPart bytes (8 + length metadata) table) (Stands bytes)
 unfolding order.body
-body_decided bytes metadata table behind whole has =
+body_decided bytes metadata table after whole has =
     elim (read (body_size_of table)) [
-      | bad e h1 ↦ rw h1 (Faults.bad_body_size table behind e has h1)
-      | good (negsuc n) h1 ↦ rw h1 (Faults.negative_body table behind n has h1)
+      | bad e h1 ↦ rw h1 (Faults.bad_body_size table after e has h1)
+      | good (negsuc n) h1 ↦ rw h1 (Faults.negative_body table after n has h1)
       | good (pos size) h1 ↦ elim (read (part_at bytes (8 + length metadata) size)) [
-        | bad e h2 ↦ rw (h1, h2) (Faults.no_body table behind size has h1 (part_past bytes (8 + length metadata) behind size e whole h2))
+        | bad e h2 ↦ rw (h1, h2) (Faults.no_body table after size has h1 (part_past bytes (8 + length metadata) after size e whole h2))
         | good part h2 ↦
             let size_is : length part ≡ size = (part_lies bytes (8 + length metadata) size part h2).size in
             rw (h1, h2) (record { size = h1 ∙ ap (λ n. Ok (pos n)) (sym size_is); whole = ap (part_at bytes (8 + length metadata)) size_is ∙ h2 })
@@ -198,14 +198,14 @@ record HasVersion (table : TableIn) : Type 0 where
   is : version_of table ≡ Ok version
   known : is_known version ≡ true
 
-version_decided : (bytes : List ℕ) (table : TableIn) (behind : ℕ) → HasTable bytes table behind
+version_decided : (bytes : List ℕ) (table : TableIn) (after : ℕ) → HasTable bytes table after
     → MatchResult (order.check_version table) (λ _. HasVersion table) (Stands bytes)
 unfolding order.check_version
-version_decided bytes table behind has =
+version_decided bytes table after has =
     elim (read (version_of table)) [
-      | bad e h1 ↦ rw h1 (Faults.bad_version table behind e has h1)
+      | bad e h1 ↦ rw h1 (Faults.bad_version table after e has h1)
       | good version h1 ↦ elim (cases_Bool (is_known version)) [
-        | inr unknown ↦ rw (h1, unknown) (Faults.unknown_version table behind version has h1 unknown)
+        | inr unknown ↦ rw (h1, unknown) (Faults.unknown_version table after version has h1 unknown)
         | inl known ↦ rw (h1, known) (record { version = version; is = h1; known = known })
       ]
     ]
@@ -216,8 +216,8 @@ record IsFound (bytes : List ℕ) (h : Header) (size : ℕ) : Type 0 where
   framed : IsFramed bytes metadata
   table : TableIn
   root : root_at metadata ≡ Ok table
-  behind : ℕ
-  whole : 8 + length metadata + behind ≡ length bytes
+  after : ℕ
+  whole : 8 + length metadata + after ≡ length bytes
   version : HasVersion table
   part : List ℕ
   body : HasPart bytes (8 + length metadata) table part
@@ -230,16 +230,16 @@ Finds bytes f = IsFound bytes f.header f.size
 abbrev Faulty : List ℕ → IpcFault → Type 0
 Faulty bytes e = bytes ≢ [] → Stands bytes e
 
-found_from : (bytes metadata : List ℕ) (table : TableIn) (behind : ℕ) (part : List ℕ) → IsFramed bytes metadata → root_at metadata ≡ Ok table
-    → 8 + length metadata + behind ≡ length bytes → HasVersion table → HasPart bytes (8 + length metadata) table part
+found_from : (bytes metadata : List ℕ) (table : TableIn) (after : ℕ) (part : List ℕ) → IsFramed bytes metadata → root_at metadata ≡ Ok table
+    → 8 + length metadata + after ≡ length bytes → HasVersion table → HasPart bytes (8 + length metadata) table part
     → (r : Result Header IpcFault) → MatchResult r (IsHeader table part) (Stands bytes)
     → MatchResult (r >>= λ inner. Ok (record { header = inner; size = 8 + length metadata + length part })) (Finds bytes) (Faulty bytes)
-found_from bytes metadata table behind part f root whole v p (Ok h) is = record {
+found_from bytes metadata table after part f root whole v p (Ok h) is = record {
   metadata = metadata;
   framed = f;
   table = table;
   root = root;
-  behind = behind;
+  after = after;
   whole = whole;
   version = v;
   part = part;
@@ -247,23 +247,23 @@ found_from bytes metadata table behind part f root whole v p (Ok h) is = record 
   has_header = is;
   ends = refl;
 }
-found_from bytes metadata table behind part f root whole v p (Err e) stands = λ _. stands
+found_from bytes metadata table after part f root whole v p (Err e) stands = λ _. stands
 
-body_from : (bytes metadata : List ℕ) (table : TableIn) (behind : ℕ) → IsFramed bytes metadata → root_at metadata ≡ Ok table → HasTable bytes table behind
-    → 8 + length metadata + behind ≡ length bytes → HasVersion table
+body_from : (bytes metadata : List ℕ) (table : TableIn) (after : ℕ) → IsFramed bytes metadata → root_at metadata ≡ Ok table → HasTable bytes table after
+    → 8 + length metadata + after ≡ length bytes → HasVersion table
     → (r : Result (List ℕ) IpcFault) → MatchResult r (HasPart bytes (8 + length metadata) table) (Stands bytes)
     → MatchResult (r >>= λ part. order.header_of table part >>= λ inner. Ok (record { header = inner; size = 8 + length metadata + length part })) (Finds bytes) (Faulty bytes)
-body_from bytes metadata table behind f root has whole v (Ok part) p =
-    found_from bytes metadata table behind part f root whole v p (order.header_of table part) (header_decided bytes table behind part has p.size)
-body_from bytes metadata table behind f root has whole v (Err e) stands = λ _. stands
+body_from bytes metadata table after f root has whole v (Ok part) p =
+    found_from bytes metadata table after part f root whole v p (order.header_of table part) (header_decided bytes table after part has p.size)
+body_from bytes metadata table after f root has whole v (Err e) stands = λ _. stands
 
-version_from : (bytes metadata : List ℕ) (table : TableIn) (behind : ℕ) → IsFramed bytes metadata → root_at metadata ≡ Ok table → HasTable bytes table behind
-    → 8 + length metadata + behind ≡ length bytes → (r : Result (Unit {0}) IpcFault) → MatchResult r (λ _. HasVersion table) (Stands bytes)
+version_from : (bytes metadata : List ℕ) (table : TableIn) (after : ℕ) → IsFramed bytes metadata → root_at metadata ≡ Ok table → HasTable bytes table after
+    → 8 + length metadata + after ≡ length bytes → (r : Result (Unit {0}) IpcFault) → MatchResult r (λ _. HasVersion table) (Stands bytes)
     → MatchResult (r >>= λ _. order.body bytes (8 + length metadata) table >>= λ part. order.header_of table part >>= λ inner.
     Ok (record { header = inner; size = 8 + length metadata + length part })) (Finds bytes) (Faulty bytes)
-version_from bytes metadata table behind f root has whole (Ok u) v =
-    body_from bytes metadata table behind f root has whole v (order.body bytes (8 + length metadata) table) (body_decided bytes metadata table behind whole has)
-version_from bytes metadata table behind f root has whole (Err e) stands = λ _. stands
+version_from bytes metadata table after f root has whole (Ok u) v =
+    body_from bytes metadata table after f root has whole v (order.body bytes (8 + length metadata) table) (body_decided bytes metadata table after whole has)
+version_from bytes metadata table after f root has whole (Err e) stands = λ _. stands
 
 framed_from : (bytes metadata : List ℕ) → IsFramed bytes metadata
     → MatchResult (order.flat (root_at metadata) >>= λ table. order.check_version table >>= λ _. order.body bytes (8 + length metadata) table >>= λ part.
@@ -273,10 +273,10 @@ framed_from bytes metadata f =
       | bad e h1 ↦ rw h1 (λ _. Faults.bad_root metadata e f h1)
       | good table h1 ↦
           let inside : 8 + length metadata ≤ length bytes = (part_lies bytes 8 (length metadata) metadata f.whole).inside in
-          let behind : ℕ = length bytes - (8 + length metadata) in
-          let whole : 8 + length metadata + behind ≡ length bytes = omega (arith, inside) in
-          let has : HasTable bytes table behind = record { metadata = metadata; framed = f; root = h1; whole = whole } in
-          rw h1 (version_from bytes metadata table behind f h1 has whole (order.check_version table) (version_decided bytes table behind has))
+          let after : ℕ = length bytes - (8 + length metadata) in
+          let whole : 8 + length metadata + after ≡ length bytes = omega (arith, inside) in
+          let has : HasTable bytes table after = record { metadata = metadata; framed = f; root = h1; whole = whole } in
+          rw h1 (version_from bytes metadata table after f h1 has whole (order.check_version table) (version_decided bytes table after has))
     ]
 
 find_from : (bytes : List ℕ) (r : Result (List ℕ) IpcFault) → MatchResult r (IsFramed bytes) (Faulty bytes)
@@ -321,10 +321,10 @@ schema_from bytes inner size is (Ok fields) h =
     message_is bytes (header.Schema inner) size is (content.Schema fields) is.has_header.has_kind
     (subst (λ (t : TableIn). schema_of t ≡ Ok fields) is.has_header.content h)
 schema_from bytes inner size is (Err e) h =
-    let has : HasTable bytes is.table is.behind = record { metadata = is.metadata; framed = is.framed; root = is.root; whole = is.whole } in
+    let has : HasTable bytes is.table is.after = record { metadata = is.metadata; framed = is.framed; root = is.root; whole = is.whole } in
     λ _. Faults.bad_schema inner e (record {
       table = is.table;
-      behind = is.behind;
+      after = is.after;
       has_table = has;
       has_kind = is.has_header.has_kind;
       has_header = is.has_header.has_header ∙ ap (λ t. Ok (Some t)) (sym is.has_header.content);
@@ -367,10 +367,10 @@ find_refuses bytes e h filled =
 
 refuses_found : (bytes : List ℕ) (h : Header) (size : ℕ) (e : IpcFault) → IsFound bytes h size → order.RefusesHeader h e → Refuses bytes e
 refuses_found bytes (header.Schema inner) size (Schema refusal) is r =
-    let has : HasTable bytes is.table is.behind = record { metadata = is.metadata; framed = is.framed; root = is.root; whole = is.whole } in
+    let has : HasTable bytes is.table is.after = record { metadata = is.metadata; framed = is.framed; root = is.root; whole = is.whole } in
     Faults.bad_schema inner refusal (record {
       table = is.table;
-      behind = is.behind;
+      after = is.after;
       has_table = has;
       has_kind = is.has_header.has_kind;
       has_header = is.has_header.has_header ∙ ap (λ t. Ok (Some t)) (sym is.has_header.content);

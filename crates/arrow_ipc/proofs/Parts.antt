@@ -1,4 +1,4 @@
--- Parts that were read lie in the bytes, and stay where they are when bytes are added behind them.
+-- Parts that were read lie in the bytes, and stay where they are when bytes are added after them.
 use Rattle.std.proofs.Common.{◌≡◌, ℕ, ◌+◌, ◌<◌, ◌≤◌, ltb, List, ◌++◌, length, take, drop, Result, Ok, Err, inl, inr, refl, sym, ap, ◌∙◌, length-append, arith}
 use Rattle.std.proofs.lemmas.Bool.{cases_Bool, ltb-true, ltb-false, le-ltb}
 use Rattle.std.proofs.lemmas.List.{length-take-le, take-append-le, drop-append-le}
@@ -46,9 +46,9 @@ number_more n bytes more place x h = go (part_at bytes place n) refl
     go (Err fault) e = absurd (cc (rw e at h))
 
 -- a part that can't be read runs past the bytes
-pub part_past : (bytes : List ℕ) (place behind n : ℕ) (fault : FlatFault) → place + behind ≡ length bytes → part_at bytes place n ≡ Err fault → behind < n
+pub part_past : (bytes : List ℕ) (place after n : ℕ) (fault : FlatFault) → place + after ≡ length bytes → part_at bytes place n ≡ Err fault → after < n
 unfolding part_at
-part_past bytes place behind n fault whole h =
+part_past bytes place after n fault whole h =
     elim (cases_Bool (ltb (length bytes) (place + n))) [
       | inl past ↦ omega (arith, ltb-true (length bytes) (place + n) past)
       | inr fits ↦ absurd (cc (rw fits at h))

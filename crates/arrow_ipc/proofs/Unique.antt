@@ -6,7 +6,7 @@ use Rattle.std.proofs.lemmas.Bool.{true≢false}
 use Rattle.flat_tables.specs.Tables.{TableIn, root_at}
 use Rattle.arrow_schema.specs.declared.spec.SchemaSpec.{SchemaSpec}
 use Rattle.arrow_schema.specs.Reading.{schema_of}
-use Rattle.arrow_schema.specs.Laws.Exclusion.{read_has_none}
+use Rattle.arrow_schema.proofs.Exclusion.{read_has_none}
 use Rattle.arrow_ipc.specs.declared.fault.IpcFault.{IpcFault}
 use Rattle.arrow_ipc.specs.declared.messages.IpcMessage.{IpcMessage}
 use Rattle.arrow_ipc.specs.declared.messages.IpcMessage.TheVariants as content
@@ -18,7 +18,7 @@ use Rattle.arrow_ipc.specs.Faults
 use Rattle.arrow_ipc.specs.Faults.{HasTable, HasHeader, HasBatch, HasBody, Stands}
 use Rattle.arrow_ipc.specs.Order as order
 use Rattle.arrow_ipc.specs.Order.{◌>>=◌}
-use Rattle.arrow_ipc.specs.Parts.{part_lies}
+use Rattle.arrow_ipc.proofs.Parts.{part_lies}
 
 -- ---- a message that stands is what reading gives
 
@@ -86,26 +86,26 @@ one_message bytes m n a b h k =
 same_metadata : (bytes a b : List ℕ) → IsFramed bytes a → IsFramed bytes b → a ≡ b
 same_metadata bytes a b f g = cc (metadata_read bytes a f, metadata_read bytes b g)
 
-same_table : (bytes : List ℕ) (m : IpcMessage) (size : ℕ) (h : IsMessage bytes m size) (table : TableIn) (behind : ℕ) → HasTable bytes table behind
+same_table : (bytes : List ℕ) (m : IpcMessage) (size : ℕ) (h : IsMessage bytes m size) (table : TableIn) (after : ℕ) → HasTable bytes table after
     → table ≡ h.table
-same_table bytes m size h table behind has =
+same_table bytes m size h table after has =
     let same : root_at has.metadata ≡ root_at h.metadata = ap root_at (same_metadata bytes has.metadata h.metadata has.framed h.framed) in
     cc (same, has.root, h.root)
 
-same_behind : (bytes : List ℕ) (m : IpcMessage) (size : ℕ) (h : IsMessage bytes m size) (table : TableIn) (behind : ℕ) → HasTable bytes table behind
-    → 8 + length h.metadata + behind ≡ length bytes
-same_behind bytes m size h table behind has =
-    ap (λ part. 8 + length part + behind) (sym (same_metadata bytes has.metadata h.metadata has.framed h.framed)) ∙ has.whole
+same_after : (bytes : List ℕ) (m : IpcMessage) (size : ℕ) (h : IsMessage bytes m size) (table : TableIn) (after : ℕ) → HasTable bytes table after
+    → 8 + length h.metadata + after ≡ length bytes
+same_after bytes m size h table after has =
+    ap (λ part. 8 + length part + after) (sym (same_metadata bytes has.metadata h.metadata has.framed h.framed)) ∙ has.whole
 
 same_header : (bytes : List ℕ) (m : IpcMessage) (size : ℕ) (h : IsMessage bytes m size) (kind : ℕ) (table : TableIn) → HasHeader bytes kind table
     → (kind ≡ kind_number m) × (table ≡ h.header)
 same_header bytes m size h kind table has =
-    let same : has.table ≡ h.table = same_table bytes m size h has.table has.behind has.has_table in
+    let same : has.table ≡ h.table = same_table bytes m size h has.table has.after has.has_table in
     (cc (ap kind_of same, has.has_kind, h.kind), cc (ap header_of same, has.has_header, h.has_header))
 
 same_size : (bytes : List ℕ) (m : IpcMessage) (size : ℕ) (h : IsMessage bytes m size) (n : ℕ) → HasBody bytes n → n ≡ length h.body
-same_size bytes m size h n (table, behind, has, is) =
-    cc (ap body_size_of (same_table bytes m size h table behind has), is, h.body_size)
+same_size bytes m size h n (table, after, has, is) =
+    cc (ap body_size_of (same_table bytes m size h table after has), is, h.body_size)
 
 -- what a header of each kind is
 schema_told : (bytes : List ℕ) (m : IpcMessage) (size : ℕ) → IsMessage bytes m size → (table : TableIn) → HasHeader bytes 1 table
@@ -157,28 +157,28 @@ known_kind (content.Rows batch) kind h one two three = three h
 
 pub alone : (bytes : List ℕ) (m : IpcMessage) (size : ℕ) (e : IpcFault) → IsMessage bytes m size → Stands bytes e → ⊥
 alone bytes m size e h (Faults.no_frame some none) = none h.metadata h.framed
-alone bytes m size e h (Faults.no_body table behind n has is short) =
+alone bytes m size e h (Faults.no_body table after n has is short) =
     let inside : 8 + length h.metadata + length h.body ≤ length bytes =
     (part_lies bytes (8 + length h.metadata) (length h.body) h.body h.has_body).inside in
-    omega (arith, inside, same_size bytes m size h n (table, behind, has, is), same_behind bytes m size h table behind has, short)
+    omega (arith, inside, same_size bytes m size h n (table, after, has, is), same_after bytes m size h table after has, short)
 alone bytes m size e h (Faults.bad_root metadata fault f is) = cc (ap root_at (same_metadata bytes metadata h.metadata f h.framed), is, h.root)
-alone bytes m size e h (Faults.bad_version table behind fault has is) = cc (ap version_of (same_table bytes m size h table behind has), is, h.has_version)
-alone bytes m size e h (Faults.bad_kind table behind fault has is) = cc (ap kind_of (same_table bytes m size h table behind has), is, h.kind)
-alone bytes m size e h (Faults.bad_header table behind fault has is) = cc (ap header_of (same_table bytes m size h table behind has), is, h.has_header)
-alone bytes m size e h (Faults.bad_body_size table behind fault has is) =
-    cc (ap body_size_of (same_table bytes m size h table behind has), is, h.body_size)
+alone bytes m size e h (Faults.bad_version table after fault has is) = cc (ap version_of (same_table bytes m size h table after has), is, h.has_version)
+alone bytes m size e h (Faults.bad_kind table after fault has is) = cc (ap kind_of (same_table bytes m size h table after has), is, h.kind)
+alone bytes m size e h (Faults.bad_header table after fault has is) = cc (ap header_of (same_table bytes m size h table after has), is, h.has_header)
+alone bytes m size e h (Faults.bad_body_size table after fault has is) =
+    cc (ap body_size_of (same_table bytes m size h table after has), is, h.body_size)
 alone bytes m size e h (Faults.bad_id table fault has is) = cc (is, (dictionary_told bytes m size h table has).is.has_id)
 alone bytes m size e h (Faults.bad_data table fault has is) = cc (is, (dictionary_told bytes m size h table has).is.has_table)
 alone bytes m size e h (Faults.bad_delta table fault has is) = cc (is, (dictionary_told bytes m size h table has).is.has_delta)
 alone bytes m size e h (Faults.bad_rows table fault has is) = cc (is, (batch_told bytes m size h table has).1.rows)
 alone bytes m size e h (Faults.bad_nodes table fault has is) = cc (is, (batch_told bytes m size h table has).1.nodes)
 alone bytes m size e h (Faults.bad_places table fault has is) = cc (is, (batch_told bytes m size h table has).1.has_places)
-alone bytes m size e h (Faults.unknown_version table behind version has is unknown) =
-    let same : version ≡ h.version = cc (ap version_of (same_table bytes m size h table behind has), is, h.has_version) in
+alone bytes m size e h (Faults.unknown_version table after version has is unknown) =
+    let same : version ≡ h.version = cc (ap version_of (same_table bytes m size h table after has), is, h.has_version) in
     true≢false (sym h.known ∙ ap is_known (sym same) ∙ unknown)
 alone bytes m size e h (Faults.compressed table has some) =
     true≢false (sym (rw (batch_told bytes m size h table has).1.plain at some))
-alone bytes m size e h (Faults.negative_body table behind n has is) = cc (ap body_size_of (same_table bytes m size h table behind has), is, h.body_size)
+alone bytes m size e h (Faults.negative_body table after n has is) = cc (ap body_size_of (same_table bytes m size h table after has), is, h.body_size)
 alone bytes m size e h (Faults.negative_rows table n has is) = cc (is, (batch_told bytes m size h table has).1.rows)
 alone bytes m size e h (Faults.outside table places n has body is bad) =
     let b : IsBatch table h.body (batch_told bytes m size h table has).0 = (batch_told bytes m size h table has).1 in
@@ -186,9 +186,9 @@ alone bytes m size e h (Faults.outside table places n has body is bad) =
     let size_same : n ≡ length h.body = same_size bytes m size h n body in
     let all_same : list_all (lies_in n) places ≡ list_all (lies_in (length h.body)) b.places = λ i. list_all (lies_in (size_same i)) (places_same i) in
     true≢false (sym b.inside ∙ sym all_same ∙ bad)
-alone bytes m size e h (Faults.no_header table behind has is) = cc (ap header_of (same_table bytes m size h table behind has), is, h.has_header)
-alone bytes m size e h (Faults.unknown_kind table behind kind has is one two three) =
-    known_kind m kind (cc (ap kind_of (same_table bytes m size h table behind has), is, h.kind)) one two three
+alone bytes m size e h (Faults.no_header table after has is) = cc (ap header_of (same_table bytes m size h table after has), is, h.has_header)
+alone bytes m size e h (Faults.unknown_kind table after kind has is one two three) =
+    known_kind m kind (cc (ap kind_of (same_table bytes m size h table after has), is, h.kind)) one two three
 alone bytes m size e h (Faults.no_data table has is) = cc (is, (dictionary_told bytes m size h table has).is.has_table)
 alone bytes m size e h (Faults.bad_schema table refusal has is) =
     let told : (fields : SchemaSpec) × (schema_of table ≡ Ok fields) = schema_told bytes m size h table has in
@@ -199,11 +199,11 @@ alone bytes m size e h (Faults.bad_schema table refusal has is) =
 framed_some : (bytes metadata : List ℕ) → IsFramed bytes metadata → bytes ≢ []
 framed_some bytes metadata f empty = absurd (omega (arith, ap length empty, (part_lies bytes 8 (length metadata) metadata f.whole).inside))
 
-table_some : (bytes : List ℕ) (table : TableIn) (behind : ℕ) → HasTable bytes table behind → bytes ≢ []
-table_some bytes table behind has = framed_some bytes has.metadata has.framed
+table_some : (bytes : List ℕ) (table : TableIn) (after : ℕ) → HasTable bytes table after → bytes ≢ []
+table_some bytes table after has = framed_some bytes has.metadata has.framed
 
 header_some : (bytes : List ℕ) (kind : ℕ) (table : TableIn) → HasHeader bytes kind table → bytes ≢ []
-header_some bytes kind table has = table_some bytes has.table has.behind has.has_table
+header_some bytes kind table has = table_some bytes has.table has.after has.has_table
 
 batch_some : (bytes : List ℕ) (table : TableIn) → HasBatch bytes table → bytes ≢ []
 batch_some bytes table (inl has) = header_some bytes 3 table has
@@ -211,24 +211,24 @@ batch_some bytes table (inr (outer, has, is)) = header_some bytes 2 outer has
 
 pub stands_some : (bytes : List ℕ) (e : IpcFault) → Stands bytes e → bytes ≢ []
 stands_some bytes e (Faults.no_frame some none) = some
-stands_some bytes e (Faults.no_body table behind n has is short) = table_some bytes table behind has
+stands_some bytes e (Faults.no_body table after n has is short) = table_some bytes table after has
 stands_some bytes e (Faults.bad_root metadata fault f is) = framed_some bytes metadata f
-stands_some bytes e (Faults.bad_version table behind fault has is) = table_some bytes table behind has
-stands_some bytes e (Faults.bad_kind table behind fault has is) = table_some bytes table behind has
-stands_some bytes e (Faults.bad_header table behind fault has is) = table_some bytes table behind has
-stands_some bytes e (Faults.bad_body_size table behind fault has is) = table_some bytes table behind has
+stands_some bytes e (Faults.bad_version table after fault has is) = table_some bytes table after has
+stands_some bytes e (Faults.bad_kind table after fault has is) = table_some bytes table after has
+stands_some bytes e (Faults.bad_header table after fault has is) = table_some bytes table after has
+stands_some bytes e (Faults.bad_body_size table after fault has is) = table_some bytes table after has
 stands_some bytes e (Faults.bad_id table fault has is) = header_some bytes 2 table has
 stands_some bytes e (Faults.bad_data table fault has is) = header_some bytes 2 table has
 stands_some bytes e (Faults.bad_delta table fault has is) = header_some bytes 2 table has
 stands_some bytes e (Faults.bad_rows table fault has is) = batch_some bytes table has
 stands_some bytes e (Faults.bad_nodes table fault has is) = batch_some bytes table has
 stands_some bytes e (Faults.bad_places table fault has is) = batch_some bytes table has
-stands_some bytes e (Faults.unknown_version table behind version has is unknown) = table_some bytes table behind has
+stands_some bytes e (Faults.unknown_version table after version has is unknown) = table_some bytes table after has
 stands_some bytes e (Faults.compressed table has some) = batch_some bytes table has
-stands_some bytes e (Faults.negative_body table behind n has is) = table_some bytes table behind has
+stands_some bytes e (Faults.negative_body table after n has is) = table_some bytes table after has
 stands_some bytes e (Faults.negative_rows table n has is) = batch_some bytes table has
 stands_some bytes e (Faults.outside table places n has body is bad) = batch_some bytes table has
-stands_some bytes e (Faults.no_header table behind has is) = table_some bytes table behind has
-stands_some bytes e (Faults.unknown_kind table behind kind has is one two three) = table_some bytes table behind has
+stands_some bytes e (Faults.no_header table after has is) = table_some bytes table after has
+stands_some bytes e (Faults.unknown_kind table after kind has is one two three) = table_some bytes table after has
 stands_some bytes e (Faults.no_data table has is) = header_some bytes 2 table has
 stands_some bytes e (Faults.bad_schema table refusal has is) = header_some bytes 1 table has
