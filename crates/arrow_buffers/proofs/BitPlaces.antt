@@ -1,4 +1,4 @@
--- One more bit behind the others.
+-- One more bit after the others.
 use Rattle.std.proofs.Common.{◌≡◌, ℕ, ◌+◌, ◌*◌, ◌/◌, ◌%◌, ◌^◌, ◌<◌, ◌≤◌, ◌==◌, Bool, true, false, if◌then◌else◌, List, [], ◌∷◌, ◌++◌, length, get_or, set, bit_or, w8, refl, sym, ap, ◌∙◌, inl, inr, arith}
 use Rattle.std.proofs.lemmas.Bool.{cases_eq, cases_order, cond-true, cond-false, eq-eqb, ne_eqb}
 use Rattle.std.proofs.lemmas.List.{get_or_append_left, get_or_at, get_or_past, get_or-set_same, get_or-set_other, length-set, length_push}
@@ -48,7 +48,7 @@ bit_at-same : (new old : List ℕ) (k : ℕ) → get_or new (k / 8) 0 ≡ get_or
 unfolding bit_at
 bit_at-same new old k is = rw is refl
 
--- bits behind the bytes are 0
+-- bits after the bytes are 0
 pub bit_at-past : (bytes : List ℕ) (k : ℕ) → length bytes ≤ k / 8 → bit_at bytes k ≡ false
 unfolding bit_at
 bit_at-past bytes k past = rw (get_or_past bytes (k / 8) 0 past, bit_at-zero (k % 8)) refl

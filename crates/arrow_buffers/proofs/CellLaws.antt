@@ -8,10 +8,12 @@ use Rattle.std.proofs.lemmas.List.Folds.{list_all-map, list_all-append}
 use Rattle.arrow_buffers.specs.declared.fault.BufferFault.TheVariants.{BadUtf8}
 use Rattle.arrow_buffers.specs.declared.width.Width.{Width}
 use Rattle.arrow_buffers.specs.declared.width.Width.TheVariants.{Bit, Fixed, Var}
+use Rattle.arrow_buffers.specs.declared.width.Width.TheVariants as width
 use Rattle.arrow_buffers.specs.Below.{all_below}
 use Rattle.arrow_buffers.specs.Bits.{bit_at, bits_of, cell_where, flag_of, is_valid}
 use Rattle.arrow_buffers.specs.Columns.{bit_byte, cell_at, cells_of, value_at}
 use Rattle.arrow_buffers.specs.Fixed.{part_of}
+use Rattle.arrow_buffers.specs.Lists.{elements_of}
 use Rattle.arrow_buffers.specs.Vars.{is_text, is_text_at, span_of, utf8_check}
 use Rattle.arrow_buffers.proofs.Growing.{get_or-cells_of, length-cells_of}
 use Rattle.arrow_buffers.proofs.Joining.{range-more}
@@ -31,6 +33,11 @@ pub var-cell : (validity offsets values : List ℕ) (rows row : ℕ) → row < r
 unfolding flag_of span_of
 var-cell validity offsets values rows row below =
     rw (lt-ltb row rows below) (where-some (is_valid validity row) (value_at Var offsets values row))
+
+pub list-cell : (element : ℕ) (validity offsets values : List ℕ) (rows row : ℕ) → row < rows → cell_where (flag_of (record { bytes = validity; rows = rows }) row) (elements_of (record { offsets = offsets; values = values; width = element; rows = rows }) row) ≡ cell_at (width.List element) validity offsets values row
+unfolding flag_of elements_of
+list-cell element validity offsets values rows row below =
+    rw (lt-ltb row rows below) (where-some (is_valid validity row) (value_at (width.List element) offsets values row))
 
 -- a bit for each row
 room-from : (bytes : List ℕ) (rows : ℕ) → IsOk (bits_of bytes rows) → rows ≤ length bytes * 8

@@ -1,18 +1,22 @@
 -- A column without cells, and one that ends.
-use Rattle.std.proofs.Common.{◌≡◌, ℕ, ◌+◌, ◌*◌, ◌<◌, ◌≤◌, ◌==◌, ◌&&◌, if◌then◌else◌, Bool, true, false, pos, List, [], length, is_none, Option, Some, None, Ok, get_or, refl, sym, ap, inl, inr, arith}
+use Rattle.std.proofs.Common.{◌≡◌, ℕ, ◌+◌, ◌*◌, ◌/◌, ◌<◌, ◌≤◌, ◌==◌, ◌&&◌, if◌then◌else◌, Bool, true, false, pos, List, [], length, is_none, Option, Some, None, Ok, get_or, refl, sym, ap, inl, inr, arith}
 use Rattle.std.proofs.lemmas.Bool.{cases_eq, cond-true, cond-false, eq-eqb, ne_eqb, le-ltb, and_right}
 use Rattle.std.proofs.lemmas.List.Sums.{get_or-le-sum_by}
+use Rattle.std.proofs.Math.Nat.{zero-div, zero-mod}
 use Rattle.arrow_buffers.specs.declared.width.Width.{Width}
 use Rattle.arrow_buffers.specs.declared.width.Width.TheVariants.{Bit, Fixed, Var}
+use Rattle.arrow_buffers.specs.declared.width.Width.TheVariants as width
 use Rattle.arrow_buffers.specs.Bits.{is_valid, bits_of, validity_of}
 use Rattle.arrow_buffers.specs.Fixed.{fixed_of}
-use Rattle.arrow_buffers.specs.Offsets.{offset_at, is_fine, offsets_check}
+use Rattle.arrow_buffers.specs.Offsets.{offset_at, offsets_check}
+use Rattle.arrow_buffers.specs.Lists.{lists_of}
 use Rattle.arrow_buffers.specs.Vars.{vars_of}
 use Rattle.arrow_buffers.specs.Packed.{IsPacked}
-use Rattle.arrow_buffers.specs.Columns.{HasNoFault, cell_at, cells_of, offsets_len, value_at, values_len}
+use Rattle.arrow_buffers.specs.Columns.{HasElements, HasNoFault, cell_at, cells_of, offsets_len, value_at, values_len}
 use Rattle.arrow_buffers.specs.Building.{ended, ended_offsets, cells_so_far, HasSpans, HasValues, IsBuilt}
 use Rattle.arrow_buffers.proofs.BitPlaces.{bit_at-past}
 use Rattle.arrow_buffers.proofs.Placing.{length-ended, offset_at-end}
+use Rattle.arrow_buffers.proofs.Spans.{fine-from}
 use Rattle.arrow_buffers.proofs.Growing.{get_or-cells_of, length-cells_of, nulls-le, same-below}
 
 -- no bits
@@ -20,30 +24,35 @@ packed-none : IsPacked 0 []
 packed-none = record { len = refl; spare = λ k _. bit_at-past [] k (omega arith) }
 
 -- no rows, and the one offset
-spans-none : HasSpans 1 0 [] []
-spans-none = record {
-  offsets_len = refl;
-  whole = refl;
-  fits = omega arith;
-  fine = let first : offset_at (ended 1 [] []) 0 ≡ 0 = offset_at-end [] 0 0 refl (omega arith) in ap (λ (o : ℕ). is_fine 0 o 1 0) first;
-}
+spans-none : (element : ℕ) → 1 ≤ element → HasSpans element 0 [] []
+spans-none element some =
+    let none : 0 / element ≡ 0 = zero-div element in
+    let first : offset_at (ended element [] []) 0 ≡ 0 = rw none (offset_at-end [] 0 0 refl (omega arith)) in
+    record {
+      offsets_len = refl;
+      whole = zero-mod element;
+      fits = omega arith;
+      fine = rw first (fine-from 0 0 element 0 (record { fits = omega arith; order = omega arith; within = omega arith }));
+    }
 
-values-none : (width : Width) → HasValues width 0 [] []
-values-none Bit = (refl, packed-none)
-values-none (Fixed width) = (refl, omega arith)
-values-none Var = spans-none
+values-none : (width : Width) → HasElements width → HasValues width 0 [] []
+values-none Bit some = (refl, packed-none)
+values-none (Fixed width) some = (refl, omega arith)
+values-none Var some = spans-none 1 (omega arith)
+values-none (width.List element) some = (some, spans-none element some)
 
 lengths-none : (width : Width) → 0 ≡ values_len width []
 lengths-none Bit = refl
 lengths-none (Fixed width) = omega arith
 lengths-none Var = refl
+lengths-none (width.List element) = refl
 
-pub built-none : (width : Width) → IsBuilt width 0 0 [] [] []
+pub built-none : (width : Width) → HasElements width → IsBuilt width 0 0 [] [] []
 unfolding cells_of
-built-none width = record {
+built-none width some = record {
   few = omega arith;
   bitmap = packed-none;
-  stored = values-none width;
+  stored = values-none width some;
   lengths = lengths-none width;
   counted = refl;
 }
@@ -87,20 +96,28 @@ bitmap-needed width rows nulls bitmap offsets values built =
       | inr some ↦ rw (ne_eqb nulls 0 some, ne_eqb (length bitmap) 0 (omega arith), le-ltb (length bitmap * 8) rows (omega arith)) refl
     ]
 
--- no fault stands in what is stored
-pub no-fault : (width : Width) (rows : ℕ) (offsets values : List ℕ) → HasValues width rows offsets values → HasNoFault width (ended_offsets width offsets values) values rows
-unfolding bits_of fixed_of vars_of offsets_check
-no-fault Bit rows offsets values has = let len = has.1.len in rw (le-ltb (length values * 8) rows (omega arith)) refl
-no-fault (Fixed width) rows offsets values has = rw (le-ltb (length values) (rows * width) (omega (arith, has.1))) refl
-no-fault Var rows offsets values has =
-    let all = ended 1 offsets values in
+-- offsets that end here have no fault
+spans-fine : (element rows : ℕ) (offsets values : List ℕ) → HasSpans element rows offsets values → offsets_check element (ended element offsets values) values rows ≡ Ok tt
+unfolding offsets_check
+spans-fine element rows offsets values has =
+    let all = ended element offsets values in
     let was = has.offsets_len in
-    let len : length all ≡ 4 * (rows + 1) = omega (arith, length-ended 1 offsets values) in
+    let len : length all ≡ 4 * (rows + 1) = omega (arith, length-ended element offsets values) in
     let some : (rows == 0 && length all == 0) ≡ false = and_right (rows == 0) (length all == 0) (ne_eqb (length all) 0 (omega arith)) in
     rw (some, le-ltb (length all) (4 * (rows + 1)) (omega arith), has.fine) refl
+
+-- no fault stands in what is stored
+pub no-fault : (width : Width) (rows : ℕ) (offsets values : List ℕ) → HasValues width rows offsets values → HasNoFault width (ended_offsets width offsets values) values rows
+unfolding bits_of fixed_of vars_of lists_of
+no-fault Bit rows offsets values has = let len = has.1.len in rw (le-ltb (length values * 8) rows (omega arith)) refl
+no-fault (Fixed width) rows offsets values has = rw (le-ltb (length values) (rows * width) (omega (arith, has.1))) refl
+no-fault Var rows offsets values has = rw (spans-fine 1 rows offsets values has) refl
+no-fault (width.List element) rows offsets values has = rw (spans-fine element rows offsets values has.1) refl
 
 pub offsets_len-ended : (width : Width) (rows : ℕ) (offsets values : List ℕ) → HasValues width rows offsets values → length (ended_offsets width offsets values) ≡ offsets_len width rows
 offsets_len-ended Bit rows offsets values has = ap length has.0
 offsets_len-ended (Fixed width) rows offsets values has = ap length has.0
 offsets_len-ended Var rows offsets values has =
     let len = has.offsets_len in omega (arith, length-ended 1 offsets values)
+offsets_len-ended (width.List element) rows offsets values has =
+    let len = has.1.offsets_len in omega (arith, length-ended element offsets values)

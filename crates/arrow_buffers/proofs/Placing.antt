@@ -1,4 +1,4 @@
--- Offsets and values with more behind them: what was there is as it was.
+-- Offsets and values with more after them: what was there is as it was.
 use Rattle.std.proofs.Common.{◌≡◌, ℕ, ◌+◌, ◌-◌, ◌*◌, ◌/◌, ◌%◌, ◌^◌, ◌<◌, ◌≤◌, ◌==◌, if◌then◌else◌, true, false, List, [], ◌++◌, length, drop, slice_range, sym, ap, subst, ◌∙◌, inl, inr, arith}
 use Rattle.std.proofs.lemmas.Bool.{cases_lt, ne_eqb}
 use Rattle.std.proofs.lemmas.List.{append-nil, drop_at, drop-append-le, take-append-le, take_all, length-drop, length-append}
@@ -10,7 +10,7 @@ use Rattle.arrow_buffers.specs.Building.{ended, HasSpans}
 use Rattle.arrow_buffers.proofs.EachBelow.{all_below-at, all_below-each}
 use Rattle.arrow_buffers.proofs.Spans.{IsFine, AllFine, fine-parts, fine-from, span-among}
 
--- an offset that is there, and the one that comes behind
+-- an offset that is there, and the one that comes after
 pub offset_at-append : (offsets more : List ℕ) (place : ℕ) → 4 * (place + 1) ≤ length offsets → offset_at (offsets ++ more) place ≡ offset_at offsets place
 unfolding offset_at
 offset_at-append offsets more place there =
@@ -34,7 +34,7 @@ length-ended element offsets values =
     let at = length values / element in
     omega (arith, length-append offsets (offset_bytes at), length-offset_bytes at)
 
--- a part of the values that is there, and the one that comes behind
+-- a part of the values that is there, and the one that comes after
 pub slice_range-append : (values more : List ℕ) (a b : ℕ) → a ≤ b → b ≤ length values → slice_range (values ++ more) a b ≡ slice_range values a b
 slice_range-append values more a b order within =
     rw (drop-append-le a values more (omega arith)) (take-append-le (b - a) (drop a values) more (rw (length-drop a values) (omega arith)))

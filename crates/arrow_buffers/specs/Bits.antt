@@ -3,7 +3,7 @@ use Rattle.std.specs.Prelude.{ℕ, ◌*◌, ◌/◌, ◌%◌, ◌^◌, ◌==◌,
 use Rattle.arrow_buffers.specs.declared.fault.BufferFault.{BufferFault}
 use Rattle.arrow_buffers.specs.declared.fault.BufferFault.TheVariants.{Short, BadNulls}
 
--- the bits of so many rows; no bytes mean that each bit is 1
+-- the bits of some rows; no bytes mean that each bit is 1
 pub record BitsIn : Type 0 where
   pub bytes : List ℕ
   pub rows : ℕ
@@ -28,7 +28,7 @@ validity_of bytes rows nulls =
     then (if int_lt (pos 0) nulls then Err BadNulls else Ok (record { bytes = bytes; rows = rows }))
     else bits_of bytes rows
 
--- what is answered for a row
+-- what is returned for a row
 unfoldable pub flag_of : BitsIn → ℕ → Option Bool
 flag_of b row = if nat_lt row b.rows then Some (is_valid b.bytes row) else None
 

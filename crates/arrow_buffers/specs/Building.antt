@@ -1,8 +1,9 @@
 -- What a column has in hand while it grows: its buffers but for the last offset.
-use Rattle.std.specs.Prelude.{◌≡◌, ℕ, ◌+◌, ◌*◌, ◌/◌, ◌%◌, ◌^◌, ◌<◌, ⊤, true, is_none, count_by, List, [], ◌∷◌, ◌++◌, length, Option}
+use Rattle.std.specs.Prelude.{◌≡◌, ℕ, ◌+◌, ◌*◌, ◌/◌, ◌%◌, ◌^◌, ◌<◌, ◌≤◌, ⊤, true, is_none, count_by, List, [], ◌∷◌, ◌++◌, length, Option}
 use Rattle.std.specs.Option.{ForSome}
 use Rattle.arrow_buffers.specs.declared.width.Width.{Width}
 use Rattle.arrow_buffers.specs.declared.width.Width.TheVariants.{Bit, Fixed, Var}
+use Rattle.arrow_buffers.specs.declared.width.Width.TheVariants as width
 use Rattle.arrow_buffers.specs.Below.{all_below}
 use Rattle.arrow_buffers.specs.Offsets.{is_fine_at, offset_bytes}
 use Rattle.arrow_buffers.specs.Packed.{IsPacked}
@@ -17,27 +18,30 @@ abbrev pub ended_offsets : Width → List ℕ → List ℕ → List ℕ
 ended_offsets Bit offsets values = offsets
 ended_offsets (Fixed width) offsets values = offsets
 ended_offsets Var offsets values = ended 1 offsets values
+ended_offsets (width.List element) offsets values = ended element offsets values
 
--- the offsets of so many rows, each fine, into whole elements
+-- the offsets of some rows, each fine, into whole elements
 pub record HasSpans (element rows : ℕ) (offsets values : List ℕ) : Type 0 where
   pub offsets_len : length offsets ≡ 4 * rows
   pub whole : length values % element ≡ 0
   pub fits : length values < 2 ^ 31
   pub fine : all_below (is_fine_at element (ended element offsets values) values) (rows + 1) ≡ true
 
--- the buffers have a value for each of so many rows
+-- the buffers have a value for each of the rows
 abbrev pub HasValues : Width → ℕ → List ℕ → List ℕ → Type 0
 HasValues Bit rows offsets values = (offsets ≡ []) × IsPacked rows values
 HasValues (Fixed width) rows offsets values = (offsets ≡ []) × (length values ≡ rows * width)
 HasValues Var rows offsets values = HasSpans 1 rows offsets values
+HasValues (width.List element) rows offsets values = (1 ≤ element) × HasSpans element rows offsets values
 
--- offsets can count so many bytes, where there are offsets
+-- offsets can count these bytes, where there are offsets
 abbrev pub OffsetsFit : Width → ℕ → Type 0
 OffsetsFit Bit len = ⊤
 OffsetsFit (Fixed width) len = ⊤
 OffsetsFit Var len = len < 2 ^ 31
+OffsetsFit (width.List element) len = (1 ≤ element) × (len < 2 ^ 31)
 
--- one more value behind those of so many rows, which are as they were
+-- one more value after those of the rows, which are as they were
 pub record PushesValue (width : Width) (rows : ℕ) (cell : Option (List ℕ)) (offsets values new_offsets new_values : List ℕ) : Type 0 where
   pub stored : HasValues width (rows + 1) new_offsets new_values
   pub before : (k : ℕ) → k < rows → value_at width (ended_offsets width new_offsets new_values) new_values k ≡ value_at width (ended_offsets width offsets values) values k

@@ -3,7 +3,7 @@ use Rattle.std.specs.Prelude.{ℕ, ◌*◌, nat_lt, if◌then◌else◌, List, l
 use Rattle.arrow_buffers.specs.declared.fault.BufferFault.{BufferFault}
 use Rattle.arrow_buffers.specs.declared.fault.BufferFault.TheVariants.{Short}
 
--- the values of so many rows, of so many bytes each
+-- the values of some rows, of width bytes each
 pub record FixedIn : Type 0 where
   pub bytes : List ℕ
   pub width : ℕ
@@ -20,6 +20,6 @@ fixed_of bytes width rows =
     then Err Short
     else Ok (record { bytes = bytes; width = width; rows = rows })
 
--- what is answered for a row
+-- what is returned for a row
 unfoldable pub part_of : FixedIn → ℕ → Option (List ℕ)
 part_of f row = if nat_lt row f.rows then Some (part_at f.width f.bytes row) else None

@@ -33,7 +33,7 @@ abbrev pub is_fine_at : ℕ → List ℕ → List ℕ → ℕ → Bool
 is_fine_at width offsets values place =
     is_fine (offset_before offsets place) (offset_at offsets place) width (length values)
 
--- the offsets of so many rows are one more than the rows, and each is fine; where there are no rows
+-- the offsets are one more than the rows, and each is fine; where there are no rows
 -- they may be left out
 unfoldable pub offsets_check : ℕ → List ℕ → List ℕ → ℕ → Result (Unit {0}) BufferFault
 offsets_check width offsets values rows =

@@ -2,12 +2,12 @@
 use Rattle.std.specs.Prelude.{◌≡◌, ℕ, ◌+◌, ◌/◌, ◌≤◌, ◌==◌, Bool, false, if◌then◌else◌, List, length}
 use Rattle.arrow_buffers.specs.Bits.{bit_at}
 
--- so many bits in as few bytes as can hold them, the bits behind them 0
+-- a number of bits in as few bytes as can hold them, the bits after them 0
 pub record IsPacked (count : ℕ) (bytes : List ℕ) : Type 0 where
   pub len : length bytes ≡ (count + 7) / 8
   pub spare : (k : ℕ) → count ≤ k → bit_at bytes k ≡ false
 
--- one more bit behind the first count, the others as they were
+-- one more bit after the first count, the others as they were
 pub record PushesBit (count : ℕ) (bit : Bool) (old new : List ℕ) : Type 0 where
   pub packed : IsPacked (count + 1) new
   pub bits : (k : ℕ) → bit_at new k ≡ (if k == count then bit else bit_at old k)

@@ -8,7 +8,7 @@ use Rattle.arrow_buffers.specs.Below.{all_below}
 use Rattle.arrow_buffers.specs.Bits.{BitsIn, flag_of, cell_where}
 use Rattle.arrow_buffers.specs.Offsets.{offsets_check, span_at}
 
--- the values of so many rows
+-- the values of some rows
 pub record VarsIn : Type 0 where
   pub offsets : List ℕ
   pub values : List ℕ
@@ -19,7 +19,7 @@ unfoldable pub vars_of : List ℕ → List ℕ → ℕ → Result VarsIn BufferF
 vars_of offsets values rows =
     result_and (offsets_check 1 offsets values rows) (Ok (record { offsets = offsets; values = values; rows = rows }))
 
--- what is answered for a row
+-- what is returned for a row
 unfoldable pub span_of : VarsIn → ℕ → Option (List ℕ)
 span_of v row = if nat_lt row v.rows then Some (span_at 1 v.offsets v.values row) else None
 

@@ -1,7 +1,7 @@
 ghost use Rattle.std.specs.Prelude.{◌≡◌, ◌+◌, ◌^◌, ◌<◌, ◌==◌, if◌then◌else◌, [], ◌∷◌, ◌++◌, length, count_by, is_none, pos, Ok, IfOk, OnOk, OnErr};
 ghost use Rattle.std.specs.Option.{ForSome, option_copied};
 ghost use Rattle.arrow_buffers.specs.Bits.{validity_of};
-ghost use Rattle.arrow_buffers.specs.Columns.{HasWidth, HasNoFault, cell_len, cells_len, cells_of, is_one, validity_len, offsets_len, values_len};
+ghost use Rattle.arrow_buffers.specs.Columns.{HasElements, HasWidth, HasNoFault, cell_len, cells_len, cells_of, is_one, validity_len, offsets_len, values_len};
 ghost use Rattle.arrow_buffers.specs.Building.{HasValues, OffsetsFit, PushesValue, ended_offsets};
 
 use crate::Width;
@@ -49,6 +49,7 @@ impl ColumnBuilder {
     /// A column without cells.
     #[tactic(auto, unfolding(crate::specs::Columns::cells_of))]
     pub fn new(alloc: Global, width: Width) -> ColumnBuilder
+        requires { HasElements width }
         ensures { result ≡ record { width = width; cells = [] } }
     {
         ColumnBuilder {
@@ -61,10 +62,10 @@ impl ColumnBuilder {
         }
     }
 
-    /// Adds a cell behind the others; `None` is null. The cell has the column's width, and the
+    /// Adds a cell after the others; `None` is null. The cell has the column's width, and the
     /// values of all cells stay below 2^31 bytes together. Takes amortised constant time for each
-    /// byte of the cell. After want of memory, which a row that Arrow could not count is answered
-    /// as, the column is as before.
+    /// byte of the cell. Want of memory is returned for a row that Arrow could not count too; after
+    /// it the column is as before.
     pub fn push(&mut self, cell: Option<&[u8]>) -> Result<(), AllocError>
         requires width { ForSome (option_copied cell) (HasWidth self.old.width) }
         requires room { cells_len self.old.cells + cell_len (option_copied cell) < 2 ^ 31 }
@@ -124,7 +125,7 @@ impl ColumnBuilder {
     }
 }
 
-/// Puts a value behind those of the first `rows`.
+/// Puts a value after those of the first `rows`.
 fn push_value(
     width: Width,
     rows: u64,
@@ -146,6 +147,7 @@ fn push_value(
         }
         Width::Fixed(width) => push_part(values, width, cell),
         Width::Var => push_span(offsets, values, 1, cell),
+        Width::List(element) => push_span(offsets, values, element, cell),
     }
 }
 
@@ -159,7 +161,7 @@ fn is_one(cell: Option<&[u8]>) -> bool
     }
 }
 
-/// The offsets with the last one behind them, where there are offsets.
+/// The offsets with the last one after them, where there are offsets.
 fn end_offsets(width: Width, mut offsets: Vec<u8>, values: &[u8]) -> Result<Vec<u8>, AllocError>
     requires { OffsetsFit width (length values.now) }
     ensures { IfOk result (λ v. v.items ≡ ended_offsets width offsets.items values.now) }
@@ -168,6 +170,10 @@ fn end_offsets(width: Width, mut offsets: Vec<u8>, values: &[u8]) -> Result<Vec<
         Width::Bit | Width::Fixed(_) => Ok(offsets),
         Width::Var => {
             push_offset(&mut offsets, 1, values.len())?;
+            Ok(offsets)
+        }
+        Width::List(element) => {
+            push_offset(&mut offsets, element, values.len())?;
             Ok(offsets)
         }
     }

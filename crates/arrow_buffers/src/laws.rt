@@ -5,10 +5,12 @@ ghost use Rattle.std.specs.List.{flat_map, list_all, range_with_len};
 ghost use Rattle.arrow_buffers.specs.declared.fault.BufferFault.TheVariants.{Short, BadOffsets, BadUtf8};
 ghost use Rattle.arrow_buffers.specs.declared.width.Width.{Width};
 ghost use Rattle.arrow_buffers.specs.declared.width.Width.TheVariants.{Bit, Fixed, Var};
+ghost use Rattle.arrow_buffers.specs.declared.width.Width.TheVariants as width;
 ghost use Rattle.arrow_buffers.specs.Below.{all_below};
 ghost use Rattle.arrow_buffers.specs.Bits.{bits_of, cell_where, flag_of};
 ghost use Rattle.arrow_buffers.specs.Columns.{bit_byte, cell_at, cells_of};
 ghost use Rattle.arrow_buffers.specs.Fixed.{part_at, part_of};
+ghost use Rattle.arrow_buffers.specs.Lists.{elements_of};
 ghost use Rattle.arrow_buffers.specs.Offsets.{AreNone, AreOffsets, IsBad, offset_at, offsets_check, span_at};
 ghost use Rattle.arrow_buffers.specs.Vars.{is_text, span_of, utf8_check};
 
@@ -43,7 +45,7 @@ pub fn cells_are_read_by_row()
         → slice_get (cells_of width validity offsets values rows) row ≡ Some (cell_at width validity offsets values row) }
 {}
 
-/// The cells of a column are what the views answer for its buffers.
+/// The cells of a column are what the views give for its buffers.
 pub fn views_read_the_cells()
     ensures bit { (validity offsets values : List ℕ) (rows row : ℕ) → row < rows → IsOk (bits_of values rows)
         → cell_where (flag_of (record { bytes = validity; rows = rows }) row) (option_map bit_byte (flag_of (record { bytes = values; rows = rows }) row)) ≡ cell_at Bit validity offsets values row }
@@ -51,6 +53,8 @@ pub fn views_read_the_cells()
         → cell_where (flag_of (record { bytes = validity; rows = rows }) row) (part_of (record { bytes = values; width = width; rows = rows }) row) ≡ cell_at (Fixed width) validity offsets values row }
     ensures var { (validity offsets values : List ℕ) (rows row : ℕ) → row < rows
         → cell_where (flag_of (record { bytes = validity; rows = rows }) row) (span_of (record { offsets = offsets; values = values; rows = rows }) row) ≡ cell_at Var validity offsets values row }
+    ensures list { (element : ℕ) (validity offsets values : List ℕ) (rows row : ℕ) → row < rows
+        → cell_where (flag_of (record { bytes = validity; rows = rows }) row) (elements_of (record { offsets = offsets; values = values; width = element; rows = rows }) row) ≡ cell_at (width.List element) validity offsets values row }
 {}
 
 /// A column of texts is UTF-8 exactly where each cell is, taken by itself.

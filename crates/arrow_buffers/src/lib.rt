@@ -6,6 +6,7 @@ mod builder;
 mod fault;
 mod fixed;
 pub mod laws;
+mod lists;
 mod offsets;
 mod packing;
 mod vars;
@@ -15,6 +16,7 @@ pub use bits::Bits;
 pub use builder::{Buffers, ColumnBuilder};
 pub use fault::BufferFault;
 pub use fixed::Fixed;
+pub use lists::Lists;
 pub use vars::Vars;
 pub use width::Width;
 

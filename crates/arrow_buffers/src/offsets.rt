@@ -48,6 +48,15 @@ pub(crate) fn check(offsets: &[u8], values: &[u8], width: u32, rows: u64) -> Res
     Ok(())
 }
 
+/// A row's offset, and the next one.
+pub(crate) fn bounds(offsets: &[u8], row: u64) -> (u32, u32)
+    requires { 4 * (row + 2) ≤ length offsets.now }
+    ensures { result ≡ (offset_at offsets.now row, offset_at offsets.now (row + 1)) }
+{
+    let row = row as usize;
+    (offset_at(offsets, row), offset_at(offsets, row + 1))
+}
+
 /// The values from a row's offset to the next one.
 pub(crate) fn span<'a>(offsets: &[u8], values: &'a [u8], width: u32, row: u64) -> &'a [u8]
     requires there { 4 * (row + 2) ≤ length offsets.now }

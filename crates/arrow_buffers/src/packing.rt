@@ -1,4 +1,4 @@
-//! Parts of buffers that grow: bits, offsets and values behind those that are there.
+//! Parts of buffers that grow: bits, offsets and values after those that are there.
 
 ghost use Rattle.std.specs.Prelude.{◌≡◌, ◌+◌, ◌/◌, ◌^◌, ◌<◌, ◌≤◌, [], ◌++◌, length, vec_len, vec_capacity, OnOk, OnErr, IsOk, unwrap_or, replicate};
 ghost use Rattle.std.specs.Option.{option_copied};
@@ -8,7 +8,7 @@ ghost use Rattle.arrow_buffers.specs.Packed.{IsPacked, PushesBit};
 use byteorder::{ByteOrder, LittleEndian};
 use std::alloc::AllocError;
 
-/// Puts a bit behind the first `count`. There is room for one more byte.
+/// Puts a bit after the first `count`. There is room for one more byte.
 pub(crate) fn push_bit(bytes: &mut Vec<u8>, count: u64, bit: bool)
     requires packed { IsPacked count bytes.old.items }
     requires room { vec_len bytes.old < vec_capacity bytes.old }
@@ -23,7 +23,7 @@ pub(crate) fn push_bit(bytes: &mut Vec<u8>, count: u64, bit: bool)
     }
 }
 
-/// Puts the offset of what follows `len` bytes of elements behind the others.
+/// Puts the offset of what follows `len` bytes of elements after the others.
 #[tactic(auto, unfolding(crate::specs::Offsets::offset_bytes))]
 pub(crate) fn push_offset(offsets: &mut Vec<u8>, element: u32, len: usize) -> Result<(), AllocError>
     requires some { 1 ≤ element }
@@ -37,7 +37,7 @@ pub(crate) fn push_offset(offsets: &mut Vec<u8>, element: u32, len: usize) -> Re
     offsets.extend_from_slice(&bytes)
 }
 
-/// Puts a value of one width behind the others: zeros where it is null.
+/// Puts a value of one width after the others: zeros where it is null.
 pub(crate) fn push_part(
     values: &mut Vec<u8>,
     width: u32,
@@ -52,7 +52,7 @@ pub(crate) fn push_part(
     }
 }
 
-/// Puts a value behind the others, and its offset, which counts elements: nothing where it is null.
+/// Puts a value after the others, and its offset, which counts elements: nothing where it is null.
 pub(crate) fn push_span(
     offsets: &mut Vec<u8>,
     values: &mut Vec<u8>,

@@ -7,6 +7,11 @@ const INTS: [u8; 20] = [1, 0, 0, 0, 0, 0, 0, 0, 2, 0, 0, 0, 4, 0, 0, 0, 8, 0, 0,
 
 const NAME_OFFSETS: [u8; 20] = [0, 0, 0, 0, 3, 0, 0, 0, 3, 0, 0, 0, 3, 0, 0, 0, 7, 0, 0, 0];
 
+/// `[[12, -7, 25], null, [0, -127, 127, 50], []]` of 8 bits each ("Variable-size list layout").
+const LIST_OFFSETS: [u8; 20] = [0, 0, 0, 0, 3, 0, 0, 0, 3, 0, 0, 0, 7, 0, 0, 0, 7, 0, 0, 0];
+
+const LIST_VALUES: [u8; 7] = [12, 249, 25, 0, 129, 127, 50];
+
 #[test]
 fn reads_columns_of_the_format(rt: HostRuntime) -> Result<(), Fail> {
     let valid = Bits::validity(&[0b0001_1101], 5, 1)?;
@@ -24,6 +29,18 @@ fn reads_columns_of_the_format(rt: HostRuntime) -> Result<(), Fail> {
     assert_eq!(rt; names.get(1), Some(b"".as_slice()));
     assert_eq!(rt; names.get(3), Some(b"mark".as_slice()));
     assert_eq!(rt; names.get(4), None);
+
+    let valid = Bits::validity(&[0b0000_1101], 4, 1)?;
+    let lists = Lists::new(&LIST_OFFSETS, &LIST_VALUES, 1, 4)?;
+    assert_eq!(rt; lists.get(0), Some([12, 249, 25].as_slice()));
+    assert_eq!(rt; lists.get(2), Some([0, 129, 127, 50].as_slice()));
+    assert_eq!(rt; lists.get(3), Some([].as_slice()));
+    assert_eq!(rt; lists.get(4), None);
+    lists.check_nulls(&valid, &Bits::validity(&[], 7, 0)?)?;
+    let nulls = lists.check_nulls(&valid, &Bits::validity(&[0b0101_1111], 7, 1)?);
+    assert_eq!(rt; nulls, Err(BufferFault::BadNulls));
+    let lists = Lists::checked(&LIST_OFFSETS, &LIST_VALUES, 1, 4);
+    assert_eq!(rt; lists.get(1), Some([].as_slice()));
 
     // Ten bits, the last two in a second byte.
     let flags = Bits::values(&[0b0001_1101, 0b10], 10)?;
@@ -57,6 +74,25 @@ fn writes_columns_of_the_format(rt: HostRuntime) -> Result<(), Fail> {
     assert_eq!(rt; names.validity.as_slice(), [0b0000_1001].as_slice());
     assert_eq!(rt; names.offsets.as_slice(), NAME_OFFSETS.as_slice());
     assert_eq!(rt; names.values.as_slice(), b"joemark".as_slice());
+
+    let mut lists = ColumnBuilder::new(rt.alloc(), Width::List(1));
+    lists.push(Some(&[12, 249, 25]))?;
+    lists.push(None)?;
+    lists.push(Some(&[0, 129, 127, 50]))?;
+    lists.push(Some(&[]))?;
+    let lists = lists.finish()?;
+    assert_eq!(rt; lists.validity.as_slice(), [0b0000_1101].as_slice());
+    assert_eq!(rt; lists.offsets.as_slice(), LIST_OFFSETS.as_slice());
+    assert_eq!(rt; lists.values.as_slice(), LIST_VALUES.as_slice());
+
+    // Elements of two bytes: the offsets count them.
+    let mut pairs = ColumnBuilder::new(rt.alloc(), Width::List(2));
+    pairs.push(Some(&[1, 2, 3, 4]))?;
+    let pairs = pairs.finish()?;
+    assert_eq!(rt;
+        pairs.offsets.as_slice(),
+        [0, 0, 0, 0, 2, 0, 0, 0].as_slice()
+    );
 
     let mut flags = ColumnBuilder::new(rt.alloc(), Width::Bit);
     flags.push(Some(&[1]))?;

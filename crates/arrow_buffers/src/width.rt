@@ -3,8 +3,11 @@
 pub enum Width {
     /// One bit each: a cell is one byte, 0 or 1.
     Bit,
-    /// So many bytes each.
+    /// A number of bytes each.
     Fixed(u32),
     /// Any number of bytes each, by offsets.
     Var,
+    /// Any number of elements each, by offsets that count elements. This is the bytes of an element,
+    /// at least 1.
+    List(u32),
 }

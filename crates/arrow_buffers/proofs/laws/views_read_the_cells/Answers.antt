@@ -1,4 +1,4 @@
-use Rattle.arrow_buffers.proofs.CellLaws.{bit-cell, fixed-cell, var-cell}
+use Rattle.arrow_buffers.proofs.CellLaws.{bit-cell, fixed-cell, var-cell, list-cell}
 use Rattle.arrow_buffers.proofs.laws.views_read_the_cells.Goals as goal
 
 pub returns-clause-bit : goal.returns-clause-bit
@@ -9,3 +9,6 @@ returns-clause-fixed c = fixed-cell
 
 pub returns-clause-var : goal.returns-clause-var
 returns-clause-var c = var-cell
+
+pub returns-clause-list : goal.returns-clause-list
+returns-clause-list c = list-cell
