@@ -1,6 +1,10 @@
-pub mod Reading
+pub mod Checked
+pub mod Parts
+pub mod Fits
+pub mod Finding
+pub mod Nested
 pub mod Walking
 pub mod Walked
 pub mod PathsWalked
+pub mod ListsWalked
 pub mod ColumnLaws
-pub mod Found

@@ -1,37 +1,39 @@
 -- What the walk of a schema gives: the fields in order, and the places of their nodes and buffers.
-use Rattle.std.proofs.Common.{◌≡◌, ◌≤◌, ◌<◌, ◌+◌, ℕ, zero, suc, List, [], ◌∷◌, ◌++◌, map, length, take, slice_get, append_assoc, Option, Some, None, refl, sym, ap, ◌∙◌, subst, inl, inr, arith, rules}
+use Rattle.std.proofs.Common.{◌≡◌, ◌≤◌, ◌<◌, ◌+◌, ℕ, zero, suc, List, [], ◌∷◌, ◌++◌, map, length, take, slice_get, append_assoc, Some, refl, sym, ap, ◌∙◌, subst, inl, inr, arith, rules}
 use Rattle.std.specs.List.{flat_map}
 use Rattle.std.proofs.lemmas.Bool.{cases_lt}
 use Rattle.std.proofs.lemmas.List.{append-nil, map-append, take-append-le, take_all, length_push}
 use Rattle.std.proofs.lemmas.Option.{slice_get_within}
 use Rattle.arrow_schema.specs.declared.spec.FieldSpec.{FieldSpec, the_lemmas}
-use Rattle.arrow_schema.specs.Trees.{count_of, name_in, kind_in, dict_in, children_in}
-use Rattle.arrow_schema.specs.Laws.FieldTrees.{count_in_is}
+use Rattle.arrow_schema.specs.Trees.{count_of, name_in, kind_in, dict_in, encoding_in, children_in}
+use Rattle.arrow_schema.proofs.Folds.{count_in_is}
+use Rattle.arrow_arrays.specs.declared.spec.Above.{Above}
+use Rattle.arrow_arrays.specs.declared.spec.Above.TheVariants as parent
 use Rattle.arrow_arrays.specs.declared.spec.ArraySpec.{ArraySpec}
-use Rattle.arrow_arrays.specs.Arrays.{buffers_of, array_behind, add_field, add_fields, arrays_of}
+use Rattle.arrow_arrays.specs.Arrays.{buffers_of, above_children, array_after, add_field, add_fields, arrays_of}
 use Rattle.arrow_arrays.specs.Fields.{FieldIn, field_of, depth_first_in, depth_first}
 use Rattle.arrow_arrays.proofs.Walking.{add_field_is}
 
--- the array of a field behind others
-abbrev pub array_for : FieldSpec → Option ℕ → List ArraySpec → ArraySpec
-array_for f above arrays = array_behind arrays above (name_in f) (kind_in f) (dict_in f)
+-- the array of a field after others
+abbrev pub array_for : FieldSpec → Above → List ArraySpec → ArraySpec
+array_for f above arrays = array_after arrays above (name_in f) (kind_in f) (dict_in f) (encoding_in f)
 
--- a fact of each walk, from one of the children of a field and one of the fields behind it
-pub each_walk : (P : List FieldSpec → Option ℕ → List ArraySpec → Type 0) → ((above : Option ℕ) (arrays : List ArraySpec) → P [] above arrays)
-    → ((f : FieldSpec) (fs : List FieldSpec) (above : Option ℕ) (arrays : List ArraySpec) → P (children_in f) (Some (length arrays)) (arrays ++ array_for f above arrays ∷ [])
+-- a fact of each walk, from one of the children of a field and one of the fields after it
+pub each_walk : (P : List FieldSpec → Above → List ArraySpec → Type 0) → ((above : Above) (arrays : List ArraySpec) → P [] above arrays)
+    → ((f : FieldSpec) (fs : List FieldSpec) (above : Above) (arrays : List ArraySpec) → P (children_in f) (above_children (kind_in f) (length arrays)) (arrays ++ array_for f above arrays ∷ [])
     → P fs above (add_field f above arrays) → P (f ∷ fs) above arrays)
-    → (n : ℕ) (fields : List FieldSpec) → count_of fields ≤ n → (above : Option ℕ) (arrays : List ArraySpec) → P fields above arrays
+    → (n : ℕ) (fields : List FieldSpec) → count_of fields ≤ n → (above : Above) (arrays : List ArraySpec) → P fields above arrays
 each_walk P none more n [] few above arrays = none above arrays
 each_walk P none more zero (f ∷ fs) few above arrays = absurd (omega (arith, count_in_is f, few))
 each_walk P none more (suc n) (f ∷ fs) few above arrays =
     more f fs above arrays
-    (each_walk P none more n (children_in f) (omega (arith, count_in_is f, few)) (Some (length arrays)) (arrays ++ array_for f above arrays ∷ []))
+    (each_walk P none more n (children_in f) (omega (arith, count_in_is f, few)) (above_children (kind_in f) (length arrays)) (arrays ++ array_for f above arrays ∷ []))
     (each_walk P none more n fs (omega (arith, count_in_is f, few)) above (add_field f above arrays))
 
 -- ---- the fields
 
 own_field : FieldSpec → FieldIn
-own_field f = record { name = name_in f; kind = kind_in f; dict = dict_in f }
+own_field f = record { name = name_in f; kind = kind_in f; dict = dict_in f; encoding = encoding_in f }
 
 flat_fields : (fs : List FieldSpec) → flat_map (λ fields. fields) (map depth_first_in fs) ≡ depth_first fs
 flat_fields [] = refl
@@ -41,10 +43,10 @@ depth_first_is : (f : FieldSpec) → depth_first_in f ≡ own_field f ∷ depth_
 unfolding own_field
 depth_first_is f = search (rules, the_lemmas, flat_fields)
 
-AreFields : List FieldSpec → Option ℕ → List ArraySpec → Type 0
+AreFields : List FieldSpec → Above → List ArraySpec → Type 0
 AreFields fields above arrays = map field_of (add_fields fields above arrays) ≡ map field_of arrays ++ depth_first fields
 
-one_field : (f : FieldSpec) (above : Option ℕ) (arrays : List ArraySpec) → AreFields (children_in f) (Some (length arrays)) (arrays ++ array_for f above arrays ∷ [])
+one_field : (f : FieldSpec) (above : Above) (arrays : List ArraySpec) → AreFields (children_in f) (above_children (kind_in f) (length arrays)) (arrays ++ array_for f above arrays ∷ [])
     → map field_of (add_field f above arrays) ≡ map field_of arrays ++ depth_first_in f
 unfolding AreFields own_field
 one_field f above arrays below =
@@ -54,7 +56,7 @@ one_field f above arrays below =
     ∙ ap (λ (fields : List FieldIn). fields ++ children) (map-append field_of arrays (array_for f above arrays ∷ []))
     ∙ append_assoc before (own_field f ∷ []) children ∙ ap (λ (fields : List FieldIn). before ++ fields) (sym (depth_first_is f))
 
-fields_walk : (n : ℕ) (fields : List FieldSpec) → count_of fields ≤ n → (above : Option ℕ) (arrays : List ArraySpec) → AreFields fields above arrays
+fields_walk : (n : ℕ) (fields : List FieldSpec) → count_of fields ≤ n → (above : Above) (arrays : List ArraySpec) → AreFields fields above arrays
 unfolding AreFields
 fields_walk = each_walk AreFields
     (λ above arrays. sym (append-nil (map field_of arrays)))
@@ -63,7 +65,7 @@ fields_walk = each_walk AreFields
 
 pub fields_law : (fields : List FieldSpec) → map field_of (arrays_of fields) ≡ depth_first fields
 unfolding AreFields arrays_of
-fields_law fields = fields_walk (count_of fields) fields (omega arith) None []
+fields_law fields = fields_walk (count_of fields) fields (omega arith) parent.Top []
 
 -- ---- elements of a list with one more
 
@@ -99,7 +101,7 @@ among xs x i y at =
 pub IsPlaced : List ArraySpec → Type 0
 IsPlaced arrays = (place : ℕ) (a : ArraySpec) → slice_get arrays place ≡ Some a → (a.node ≡ place) × (a.buffer ≡ buffers_of (take place arrays))
 
-one_placed : (f : FieldSpec) (above : Option ℕ) (arrays : List ArraySpec) → IsPlaced arrays → IsPlaced (arrays ++ array_for f above arrays ∷ [])
+one_placed : (f : FieldSpec) (above : Above) (arrays : List ArraySpec) → IsPlaced arrays → IsPlaced (arrays ++ array_for f above arrays ∷ [])
 unfolding IsPlaced
 one_placed f above arrays placed place a at =
     elim (among arrays (array_for f above arrays) place a at) [
@@ -112,10 +114,10 @@ one_placed f above arrays placed place a at =
           (ap (λ (b : ArraySpec). b.node) (sym is) ∙ sym end, ap (λ (b : ArraySpec). b.buffer) (sym is) ∙ ap buffers_of (sym all))
     ]
 
-KeepsPlaced : List FieldSpec → Option ℕ → List ArraySpec → Type 0
+KeepsPlaced : List FieldSpec → Above → List ArraySpec → Type 0
 KeepsPlaced fields above arrays = IsPlaced arrays → IsPlaced (add_fields fields above arrays)
 
-placed_walk : (n : ℕ) (fields : List FieldSpec) → count_of fields ≤ n → (above : Option ℕ) (arrays : List ArraySpec) → KeepsPlaced fields above arrays
+placed_walk : (n : ℕ) (fields : List FieldSpec) → count_of fields ≤ n → (above : Above) (arrays : List ArraySpec) → KeepsPlaced fields above arrays
 unfolding KeepsPlaced
 placed_walk = each_walk KeepsPlaced (λ above arrays placed. placed)
     (λ f fs above arrays below rest placed. rest (subst IsPlaced (sym (add_field_is f above arrays)) (below (one_placed f above arrays placed))))
@@ -123,4 +125,4 @@ placed_walk = each_walk KeepsPlaced (λ above arrays placed. placed)
 pub places_law : (fields : List FieldSpec) (place : ℕ) (a : ArraySpec) → slice_get (arrays_of fields) place ≡ Some a
     → (a.node ≡ place) × (a.buffer ≡ buffers_of (take place (arrays_of fields)))
 unfolding KeepsPlaced IsPlaced arrays_of
-places_law fields = placed_walk (count_of fields) fields (omega arith) None [] (λ place a at. absurd (cc (at)))
+places_law fields = placed_walk (count_of fields) fields (omega arith) parent.Top [] (λ place a at. absurd (cc (at)))

@@ -7,15 +7,17 @@ use Rattle.std.proofs.lemmas.List.Sums.{sum_by-cons}
 use Rattle.arrow_schema.specs.declared.spec.ArrowType.{ArrowType}
 use Rattle.arrow_schema.specs.declared.spec.DictSpec.{DictSpec}
 use Rattle.arrow_schema.specs.declared.spec.FieldSpec.{FieldSpec, the_lemmas}
-use Rattle.arrow_schema.specs.Trees.{count_in, count_of, name_in, kind_in, dict_in, children_in}
+use Rattle.arrow_schema.specs.Trees.{count_in, count_of, name_in, kind_in, dict_in, encoding_in, children_in}
 use Rattle.arrow_buffers.specs.declared.fault.BufferFault.{BufferFault}
 use Rattle.arrow_ipc.specs.Batches.{BatchIn}
 use Rattle.arrow_arrays.specs.declared.layout.Layout.{Layout}
 use Rattle.arrow_arrays.specs.declared.layout.Layout.TheVariants.{Struct, Bits, Fixed, Binary, Text}
+use Rattle.arrow_arrays.specs.declared.layout.Layout.TheVariants as layout
+use Rattle.arrow_arrays.specs.declared.spec.Above.{Above}
 use Rattle.arrow_arrays.specs.declared.spec.ArraySpec.{ArraySpec}
 use Rattle.arrow_arrays.specs.Layouts.{layout_of, own_buffers}
 use Rattle.arrow_arrays.specs.Cells.{array_check}
-use Rattle.arrow_arrays.specs.Arrays.{Adds, place_of, buffers_of, array_behind, add_each, add_step, add_field, add_fields, path_above, path_to, path_within, arrays_check}
+use Rattle.arrow_arrays.specs.Arrays.{Adds, place_of, buffers_of, above_children, array_after, add_each, add_step, add_field, add_fields, path_below, path_to, path_within, arrays_check}
 
 -- an array has at most three buffers
 own_few : (kind : Layout) → own_buffers kind ≤ 3
@@ -24,6 +26,7 @@ own_few Bits = omega arith
 own_few (Fixed width) = omega arith
 own_few Binary = omega arith
 own_few Text = omega arith
+own_few layout.List = omega arith
 
 own_of : ArraySpec → ℕ
 own_of a = own_buffers (layout_of a.kind a.dict)
@@ -37,22 +40,22 @@ pub few_more : (arrays : List ArraySpec) (kind : ArrowType) (dict : Option DictS
 unfolding own_of
 few_more arrays kind dict = omega (arith, own_few (layout_of kind dict), buffers_few arrays)
 
-each_is : (fs : List FieldSpec) (above : Option ℕ) (arrays : List ArraySpec) → add_each (map add_field fs) above arrays ≡ add_fields fs above arrays
+each_is : (fs : List FieldSpec) (above : Above) (arrays : List ArraySpec) → add_each (map add_field fs) above arrays ≡ add_fields fs above arrays
 each_is [] above arrays = refl
 each_is (f ∷ fs) above arrays = each_is fs above (add_field f above arrays)
 
-step_is : (f : FieldSpec) → add_field f ≡ add_step (record { name = name_in f; kind = kind_in f; dict = dict_in f; children = map add_field (children_in f) })
+step_is : (f : FieldSpec) → add_field f ≡ add_step (record { name = name_in f; kind = kind_in f; dict = dict_in f; encoding = encoding_in f; children = map add_field (children_in f) })
 step_is f = search (rules, the_lemmas)
 
 -- a field's array, and then those of its children
-pub add_field_is : (f : FieldSpec) (above : Option ℕ) (arrays : List ArraySpec)
-    → add_field f above arrays ≡ add_fields (children_in f) (Some (length arrays)) (arrays ++ array_behind arrays above (name_in f) (kind_in f) (dict_in f) ∷ [])
+pub add_field_is : (f : FieldSpec) (above : Above) (arrays : List ArraySpec)
+    → add_field f above arrays ≡ add_fields (children_in f) (above_children (kind_in f) (length arrays)) (arrays ++ array_after arrays above (name_in f) (kind_in f) (dict_in f) (encoding_in f) ∷ [])
 add_field_is f above arrays =
     ap (λ (add : Adds). add above arrays) (step_is f)
-    ∙ each_is (children_in f) (Some (length arrays)) (arrays ++ array_behind arrays above (name_in f) (kind_in f) (dict_in f) ∷ [])
+    ∙ each_is (children_in f) (above_children (kind_in f) (length arrays)) (arrays ++ array_after arrays above (name_in f) (kind_in f) (dict_in f) (encoding_in f) ∷ [])
 
 -- one field more
-pub walk_step : (fs : List FieldSpec) (i : ℕ) (f : FieldSpec) (above : Option ℕ) (arrays after all : List ArraySpec) → i < length fs → f ≡ get_or fs i f
+pub walk_step : (fs : List FieldSpec) (i : ℕ) (f : FieldSpec) (above : Above) (arrays after all : List ArraySpec) → i < length fs → f ≡ get_or fs i f
     → after ≡ add_field f above arrays → add_fields (drop i fs) above arrays ≡ all → add_fields (drop (i + 1) fs) above after ≡ all
 walk_step fs i f above arrays after all lt is added so_far =
     let step : add_fields (drop i fs) above arrays ≡ add_fields (drop (i + 1) fs) above (add_field (get_or fs i f) above arrays) =
@@ -90,26 +93,25 @@ unfolding arrays_check
 check_ends batch arrays i all past so_far = sym (at_drop_all (arrays_check batch) arrays i past) ∙ so_far
 
 -- the arrays of a field, pushed as its own and then its children's
-pub field_step : (f : FieldSpec) (above : Option ℕ) (arrays pushed : List ArraySpec) (children : List FieldSpec) (place : ℕ) → children ≡ children_in f → place ≡ length arrays
-    → pushed ≡ arrays ++ array_behind arrays above (name_in f) (kind_in f) (dict_in f) ∷ [] → add_fields children (Some place) pushed ≡ add_field f above arrays
-field_step f above arrays pushed children place own at one =
-    let from : List FieldSpec → ℕ → List ArraySpec → List ArraySpec = λ fs n so_far. add_fields fs (Some n) so_far in
-    ap (λ (fs : List FieldSpec). from fs place pushed) own ∙ ap (λ (n : ℕ). from (children_in f) n pushed) at
-    ∙ ap (from (children_in f) (length arrays)) one ∙ sym (add_field_is f above arrays)
+pub field_step : (f : FieldSpec) (above below : Above) (arrays pushed : List ArraySpec) (children : List FieldSpec) → children ≡ children_in f → below ≡ above_children (kind_in f) (length arrays)
+    → pushed ≡ arrays ++ array_after arrays above (name_in f) (kind_in f) (dict_in f) (encoding_in f) ∷ [] → add_fields children below pushed ≡ add_field f above arrays
+field_step f above below arrays pushed children own at one =
+    ap (λ (fs : List FieldSpec). add_fields fs below pushed) own ∙ ap (λ (b : Above). add_fields (children_in f) b pushed) at
+    ∙ ap (add_fields (children_in f) (above_children (kind_in f) (length arrays))) one ∙ sym (add_field_is f above arrays)
 
 pub length_one_more : (arrays pushed : List ArraySpec) (a : ArraySpec) → pushed ≡ arrays ++ a ∷ [] → length pushed ≡ length arrays + 1
 length_one_more arrays pushed a is = ap length is ∙ length_push arrays a
 
--- the path to an array leads through what stands above
+-- the path to an array, by what stands above
 pub path_step : (depth : ℕ) (arrays : List ArraySpec) (place : ℕ) (a : ArraySpec) → 0 < depth → Some a ≡ slice_get arrays place
-    → path_above (path_within (depth - 1) arrays) a.above ++ a.name ∷ [] ≡ path_within depth arrays place
+    → path_below (path_within (depth - 1) arrays) a.above a.name ≡ path_within depth arrays place
 unfolding path_within
 path_step zero arrays place a some at = absurd (omega (arith, some))
 path_step (suc depth) arrays place a some at =
     let less : suc depth - 1 ≡ depth = omega arith in
-    ap (λ (d : ℕ). path_above (path_within d arrays) a.above ++ a.name ∷ []) less ∙ ap (path_to (path_within depth arrays)) at
+    ap (λ (d : ℕ). path_below (path_within d arrays) a.above a.name) less ∙ ap (path_to (path_within depth arrays)) at
 
--- one name more, behind those of what stands above
+-- one name more, after those of what stands above
 pub path_pushed : {B : Type 0} (view : B → List ℕ) (middle new : List B) (x : B) (before above whole : List (List ℕ)) (name : List ℕ) → new ≡ middle ++ x ∷ [] → view x ≡ name
     → map view middle ≡ before ++ above → above ++ name ∷ [] ≡ whole → map view new ≡ before ++ whole
 path_pushed view middle new x before above whole name one named mid all =

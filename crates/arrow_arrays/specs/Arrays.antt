@@ -1,35 +1,66 @@
 -- The arrays of a schema's fields, and their faults and cells in a record batch (Arrow columnar format, "RecordBatch
 -- message": nodes and buffers stand depth first, a field before its children, and its own buffers before theirs).
-use Rattle.std.specs.Prelude.{◌≡◌, ℕ, zero, suc, List, [], ◌∷◌, ◌++◌, length, sum_by, slice_get, Option, None, Some, Result, Ok, Err}
+use Rattle.std.specs.Prelude.{◌≡◌, ℕ, zero, suc, ◌+◌, Bool, true, false, List, [], ◌∷◌, ◌++◌, length, sum_by, slice_get, Option, None, Some, Result, Ok, Err}
 use Rattle.std.specs.Result.{result_and}
-use Rattle.arrow_schema.specs.declared.spec.TheConstants.{MAX_DEPTH}
+use Rattle.arrow_schema.specs.Limits.{max_depth}
 use Rattle.arrow_schema.specs.declared.spec.ArrowType.{ArrowType}
+use Rattle.arrow_schema.specs.declared.spec.ArrowType.TheVariants as kind
 use Rattle.arrow_schema.specs.declared.spec.DictSpec.{DictSpec}
+use Rattle.arrow_schema.specs.declared.spec.Encoding.{Encoding}
 use Rattle.arrow_schema.specs.declared.spec.FieldSpec.{FieldSpec, fold-FieldSpec}
 use Rattle.arrow_schema.specs.declared.spec.FieldSpec.TheOpen.{FieldSpec-F}
 use Rattle.arrow_buffers.specs.declared.fault.BufferFault.{BufferFault}
 use Rattle.arrow_ipc.specs.Batches.{BatchIn}
+use Rattle.arrow_arrays.specs.declared.layout.Layout.TheVariants as layout
 use Rattle.arrow_arrays.specs.declared.place.ArrayPlace.{ArrayPlace}
+use Rattle.arrow_arrays.specs.declared.spec.Above.{Above}
+use Rattle.arrow_arrays.specs.declared.spec.Above.TheVariants as parent
 use Rattle.arrow_arrays.specs.declared.spec.ArraySpec.{ArraySpec}
-use Rattle.arrow_arrays.specs.Layouts.{layout_of, own_buffers, FitsLayout}
+use Rattle.arrow_arrays.specs.Layouts.{layout_of, own_buffers, element_len, FitsLayout}
 use Rattle.arrow_arrays.specs.Cells.{array_check, own_cell}
+
+-- what a list is above holds the list's elements
+abbrev pub is_element : Above → Bool
+is_element parent.List = true
+is_element other = false
 
 -- where the array of a field stands
 abbrev pub place_of : ArraySpec → ArrayPlace
-place_of a = record { layout = layout_of a.kind a.dict; node = a.node; buffer = a.buffer }
+place_of a =
+    record { layout = layout_of a.kind a.dict; node = a.node; buffer = a.buffer; element = is_element a.above }
+
+-- where the elements of a list stand: in the next array
+abbrev pub place_of_elements : ArraySpec → ArrayPlace
+place_of_elements a =
+    record { layout = layout.Fixed element_len; node = a.node + 1; buffer = a.buffer + 2; element = true }
+
+abbrev pub HoldsElements : List ArraySpec → ℕ → ArraySpec → Type 0
+HoldsElements arrays place a = (e : ArraySpec) × (slice_get arrays (place + 1) ≡ Some e) × (place_of e ≡ place_of_elements a)
 
 -- how many buffers arrays have
 abbrev pub buffers_of : List ArraySpec → ℕ
 buffers_of arrays = sum_by (λ a. own_buffers (layout_of a.kind a.dict)) arrays
 
--- the array of one more field, behind the arrays so far; above stands the struct that it is a child of, if any
-abbrev pub array_behind : List ArraySpec → Option ℕ → List ℕ → ArrowType → Option DictSpec → ArraySpec
-array_behind arrays above name kind dict =
-    record { name = name; kind = kind; dict = dict; above = above; node = length arrays; buffer = buffers_of arrays }
+-- the array of one more field after the arrays so far
+abbrev pub array_after : List ArraySpec → Above → List ℕ → ArrowType → Option DictSpec → Encoding → ArraySpec
+array_after arrays above name kind dict encoding = record {
+  name = name;
+  kind = kind;
+  dict = dict;
+  encoding = encoding;
+  above = above;
+  node = length arrays;
+  buffer = buffers_of arrays;
+}
+
+-- what stands above the children of a field whose array has this place
+abbrev pub above_children : ArrowType → ℕ → Above
+above_children kind.List place = parent.List
+above_children other place = parent.Struct place
 
 -- the arrays so far with those that are added, from what stands above
 abbrev pub Adds : Type 0
-Adds = Option ℕ → List ArraySpec → List ArraySpec
+Adds = Above → List ArraySpec → List ArraySpec
 
 -- one after the other
 abbrev pub add_each : List Adds → Adds
@@ -38,7 +69,9 @@ add_each (add ∷ adds) above arrays = add_each adds above (add above arrays)
 
 -- a field, and then its children below it
 abbrev pub add_step : FieldSpec-F Adds → Adds
-add_step f above arrays = add_each f.children (Some (length arrays)) (arrays ++ array_behind arrays above f.name f.kind f.dict ∷ [])
+add_step f above arrays =
+    add_each f.children (above_children f.kind (length arrays))
+    (arrays ++ array_after arrays above f.name f.kind f.dict f.encoding ∷ [])
 
 abbrev pub add_field : FieldSpec → Adds
 add_field = fold-FieldSpec Adds add_step
@@ -49,25 +82,26 @@ add_fields (f ∷ fields) above arrays = add_fields fields above (add_field f ab
 
 -- THE ARRAYS OF A SCHEMA, depth first
 unfoldable pub arrays_of : List FieldSpec → List ArraySpec
-arrays_of fields = add_fields fields None []
+arrays_of fields = add_fields fields parent.Top []
 
--- the names that lead to what stands above: at the top nothing does
-abbrev pub path_above : (ℕ → List (List ℕ)) → Option ℕ → List (List ℕ)
-path_above path None = []
-path_above path (Some place) = path place
+-- the names that lead to an array, from what stands above and its own name; none to what is a child of a list
+abbrev pub path_below : (ℕ → List (List ℕ)) → Above → List ℕ → List (List ℕ)
+path_below path parent.Top name = name ∷ []
+path_below path (parent.Struct place) name = path place ++ name ∷ []
+path_below path parent.List name = []
 
 abbrev pub path_to : (ℕ → List (List ℕ)) → Option ArraySpec → List (List ℕ)
 path_to path None = []
-path_to path (Some a) = path_above path a.above ++ a.name ∷ []
+path_to path (Some a) = path_below path a.above a.name
 
 -- the names that lead to an array that stands so deep at most
 unfoldable pub path_within : ℕ → List ArraySpec → ℕ → List (List ℕ)
 path_within zero arrays place = []
 path_within (suc depth) arrays place = path_to (path_within depth arrays) (slice_get arrays place)
 
--- THE PATH OF NAMES that leads through structs to the array at a place of the list
+-- THE PATH OF NAMES that leads through structs alone to the array at a place of the list
 abbrev pub path_of : List ArraySpec → ℕ → List (List ℕ)
-path_of arrays place = path_within MAX_DEPTH arrays place
+path_of arrays place = path_within max_depth arrays place
 
 -- THE FIRST FAULT of arrays in a batch, depth first
 unfoldable pub arrays_check : BatchIn → List ArraySpec → Result (Unit {0}) BufferFault
@@ -82,10 +116,10 @@ HasFault batch arrays fault = (place : ℕ) × (a : ArraySpec) × (slice_get arr
 abbrev pub HasNoFault : BatchIn → List ArraySpec → Type 0
 HasNoFault batch arrays = (place : ℕ) (a : ArraySpec) → slice_get arrays place ≡ Some a → array_check batch (place_of a) ≡ Ok tt
 
--- the cell of what stands above: at the top nothing does, and nothing is null by it
-abbrev pub cell_above : (ℕ → ℕ → Option (List ℕ)) → Option ℕ → ℕ → Option (List ℕ)
-cell_above cell None row = Some []
-cell_above cell (Some place) row = cell place row
+-- the cell of the struct above: where none is above, nothing is null by it
+abbrev pub cell_above : (ℕ → ℕ → Option (List ℕ)) → Above → ℕ → Option (List ℕ)
+cell_above cell (parent.Struct place) row = cell place row
+cell_above cell other row = Some []
 
 -- null where that is null
 abbrev pub cell_below : Option (List ℕ) → Option (List ℕ) → Option (List ℕ)
@@ -104,7 +138,7 @@ cell_within (suc depth) arrays batch place row = cell_in_array (cell_within dept
 -- THE CELL OF A ROW in the array at a place of the list: null where the array's own bitmap or that of a struct above says
 -- so, else the bytes of its value
 abbrev pub cell_of : List ArraySpec → BatchIn → ℕ → ℕ → Option (List ℕ)
-cell_of arrays batch place row = cell_within MAX_DEPTH arrays batch place row
+cell_of arrays batch place row = cell_within max_depth arrays batch place row
 
 -- the bytes fit the array at a place of the list
 abbrev pub fits_if : Option ArraySpec → List ℕ → Type 0

@@ -1,8 +1,8 @@
 pub mod Layouts
 pub mod Cells
 pub mod Arrays
-pub mod Laws
 pub mod Inside
 pub mod Fields
 pub mod Columns
-pub mod Lookups
+pub mod Views
+pub mod Found

@@ -1,14 +1,19 @@
-ghost use Rattle.std.specs.Prelude.{◌≡◌, ◌+◌, ◌++◌, ◌∷◌, ◌==◌, [], ◌≤◌, ◌<◌, length, map, slice_get, IsOk, IfOk, IfErr, IfSome, OnOk};
+ghost use Rattle.std.specs.Prelude.{◌≡◌, ◌+◌, ◌++◌, ◌∷◌, ◌==◌, [], ℕ, ◌≤◌, ◌<◌, length, map, slice_get, IsOk, IfOk, IfErr, IfSome, OnOk};
 ghost use Rattle.std.specs.Option.{option_copied};
+ghost use Rattle.arrow_schema.specs.Limits.{max_fields};
 ghost use Rattle.arrow_schema.specs.Readable.{IsReadable};
-ghost use Rattle.arrow_schema.specs.Trees.{name_in, kind_in, dict_in, count_in, count_of};
-ghost use Rattle.arrow_arrays.specs.Arrays.{array_behind, add_field, add_fields, arrays_of, path_within, path_of, arrays_check, HasFault, HasNoFault, cell_within, cell_of, FitsArray};
+ghost use Rattle.arrow_schema.specs.Trees.{name_in, kind_in, dict_in, encoding_in, count_in, count_of};
+ghost use Rattle.arrow_arrays.specs.Arrays.{array_after, add_field, add_fields, arrays_of, path_within, path_of, arrays_check, HasFault, HasNoFault, cell_of, FitsArray};
+ghost use Rattle.arrow_arrays.specs.Views.{cell_seen};
+ghost use Rattle.arrow_arrays.specs.Found.{FindsWithin};
 
+use crate::column::ColumnView;
+use crate::found::own_column;
 use crate::layout::Layout;
-use crate::spec::ArraySpec;
+use crate::spec::{Above, ArraySpec};
 use arrow_buffers::BufferFault;
 use arrow_ipc::BatchView;
-use arrow_schema::{FieldSpec, MAX_DEPTH, MAX_FIELDS, Name, SchemaSpec};
+use arrow_schema::{FieldSpec, MAX_DEPTH, Name, SchemaSpec};
 use std::alloc::{AllocError, Global};
 use std::marker::Model;
 
@@ -49,19 +54,19 @@ impl Arrays {
             arrays: Vec::new(alloc),
             buffers: 0,
         };
-        arrays.add_fields(alloc, None, schema.as_slice())?;
+        arrays.add_fields(alloc, Above::Top, schema.as_slice())?;
         Ok(arrays)
     }
 
-    // Adds the arrays of fields and of their children behind the others.
+    // Adds the arrays of fields and of their children after the others.
     #[cycle(walk)]
     fn add_fields(
         &mut self,
         alloc: Global,
-        above: Option<usize>,
+        above: Above,
         fields: &[FieldSpec],
     ) -> Result<(), AllocError>
-        requires { length self.old + count_of fields.now ≤ MAX_FIELDS }
+        requires { length self.old + count_of fields.now ≤ max_fields }
         ensures arrays { OnOk result (self.new ≡ add_fields fields.now above self.old) }
         ensures len { OnOk result (length self.new ≡ length self.old + count_of fields.now) }
     {
@@ -75,32 +80,28 @@ impl Arrays {
     fn add_field(
         &mut self,
         alloc: Global,
-        above: Option<usize>,
+        above: Above,
         field: &FieldSpec,
     ) -> Result<(), AllocError>
-        requires { length self.old + count_in field.now ≤ MAX_FIELDS }
+        requires { length self.old + count_in field.now ≤ max_fields }
         ensures arrays { OnOk result (self.new ≡ add_field field.now above self.old) }
         ensures len { OnOk result (length self.new ≡ length self.old + count_in field.now) }
     {
-        let place = self.arrays.len();
+        let below = Above::of_children(field.kind, self.arrays.len());
         self.push(alloc, above, field)?;
-        self.add_fields(alloc, Some(place), field.children.as_slice())
+        self.add_fields(alloc, below, field.children.as_slice())
     }
 
     // Adds the array of one field.
-    fn push(
-        &mut self,
-        alloc: Global,
-        above: Option<usize>,
-        field: &FieldSpec,
-    ) -> Result<(), AllocError>
-        requires { length self.old < MAX_FIELDS }
-        ensures { OnOk result (self.new ≡ self.old ++ array_behind self.old above (name_in field.now) (kind_in field.now) (dict_in field.now) ∷ []) }
+    fn push(&mut self, alloc: Global, above: Above, field: &FieldSpec) -> Result<(), AllocError>
+        requires { length self.old < max_fields }
+        ensures { OnOk result (self.new ≡ self.old ++ array_after self.old above (name_in field.now) (kind_in field.now) (dict_in field.now) (encoding_in field.now) ∷ []) }
     {
         let array = ArraySpec {
             name: Name::from_slice(alloc, field.name.as_slice())?,
             kind: field.kind,
             dict: field.dict,
+            encoding: field.encoding,
             above,
             node: self.arrays.len() as u16,
             buffer: self.buffers,
@@ -112,7 +113,7 @@ impl Arrays {
 
     pub fn len(&self) -> usize
         ensures value { result ≡ length self.now }
-        ensures few { result ≤ MAX_FIELDS }
+        ensures few { result ≤ max_fields }
     {
         self.arrays.len()
     }
@@ -137,8 +138,8 @@ impl Arrays {
         self.arrays.get(place)
     }
 
-    /// The names that lead to the array at a place, those of the structs above it first; none where
-    /// there is no such array.
+    /// The names that lead through structs to the array at a place, those of the structs first; none
+    /// where there is no such array, or it is the child of a list.
     pub fn path(&self, alloc: Global, place: usize) -> Result<Vec<&[u8]>, AllocError>
         ensures { IfOk result (λ path. map (λ name. name.now) path.items ≡ path_of self.now place) }
     {
@@ -151,7 +152,7 @@ impl Arrays {
     /// names it. Further nodes and buffers aren't looked at.
     ///
     /// [`ArrayPlace::check`]: crate::ArrayPlace::check
-    #[tactic(auto, using(crate::specs::Laws::none_have_faults, crate::specs::Laws::first_fault))]
+    #[tactic(auto, using(crate::proofs::Checked::none_have_faults, crate::proofs::Checked::first_fault))]
     pub fn check(&self, batch: &BatchView<'_>) -> Result<(), BufferFault>
         ensures exact { result ≡ arrays_check batch.now self.now }
         ensures none { OnOk result (HasNoFault batch.now self.now) }
@@ -160,22 +161,27 @@ impl Arrays {
         check_each(&self.arrays, batch)
     }
 
+    /// The column of the array at a place of the list, in a batch without a fault: null by the
+    /// array's own bitmap or by that of a struct above, and where there is no such array. It takes
+    /// constant time and no memory.
+    pub fn view<'v>(&self, batch: &BatchView<'v>, place: usize) -> ColumnView<'v>
+        requires fine { IsOk (arrays_check batch.now self.now) }
+        ensures cells { (row : ℕ) → cell_seen result row ≡ cell_of self.now batch.now place row }
+        ensures fits { (row : ℕ) → IfSome (cell_seen result row) (FitsArray self.now place) }
+    {
+        view_within(&self.arrays, batch, place, MAX_DEPTH)
+    }
+
     /// The bytes of a row's cell in the array at a place of the list, in a batch without a fault;
-    /// `None` where it is null, by its own bitmap or that of a struct above, or where there is no
-    /// such row or array. A bit is one byte, 0 or 1; a struct has no bytes. It takes constant time
-    /// and no memory.
-    #[inline(always)]
-    #[tactic(auto, using(crate::specs::Laws::check_at, crate::specs::Laws::cell_fits), unfolding(crate::specs::Arrays::cell_within))]
+    /// `None` where it is null, or where there is no such row or array. Where more than one cell is
+    /// asked for, `view` is found once for all of them.
     pub fn cell<'v>(&self, batch: &BatchView<'v>, place: usize, row: u64) -> Option<&'v [u8]>
         requires fine { IsOk (arrays_check batch.now self.now) }
         ensures cell { option_copied result ≡ cell_of self.now batch.now place row }
         ensures fits { IfSome (option_copied result) (FitsArray self.now place) }
     {
-        let array = array_at(&self.arrays, place)?;
-        if let Some(above) = array.above {
-            cell_within(&self.arrays, batch, above, row, MAX_DEPTH - 1)?;
-        }
-        array.place().cell(batch, row)
+        let column = self.view(batch, place);
+        column.cell(row)
     }
 }
 
@@ -210,32 +216,35 @@ fn push_path<'a>(
     let Some(array) = array_at(arrays, place) else {
         return Ok(());
     };
-    if let Some(above) = array.above {
-        push_path(arrays, above, depth - 1, path)?;
+    match array.above {
+        Above::Top => {}
+        Above::Struct(above) => push_path(arrays, above, depth - 1, path)?,
+        Above::List => return Ok(()),
     }
     path.push(array.name.as_slice())?;
     Ok(())
 }
 
-// The cell in an array that stands so deep at most.
-#[tactic(auto, using(crate::specs::Laws::check_at, crate::specs::Laws::cell_fits), unfolding(crate::specs::Arrays::cell_within))]
-fn cell_within<'v>(
+// The column of an array that stands so deep at most.
+fn view_within<'v>(
     arrays: &[ArraySpec],
     batch: &BatchView<'v>,
     place: usize,
-    row: u64,
     depth: u32,
-) -> Option<&'v [u8]>
+) -> ColumnView<'v>
     requires fine { IsOk (arrays_check batch.now arrays.now) }
-    ensures cell { option_copied result ≡ cell_within depth arrays.now batch.now place row }
-    ensures fits { IfSome (option_copied result) (FitsArray arrays.now place) }
+    requires deep { depth ≤ 3 }
+    ensures { FindsWithin depth arrays.now batch.now place result }
 {
     if depth == 0 {
-        return None;
+        return ColumnView::empty();
     }
-    let array = array_at(arrays, place)?;
-    if let Some(above) = array.above {
-        cell_within(arrays, batch, above, row, depth - 1)?;
+    let Some(array) = array_at(arrays, place) else {
+        return ColumnView::empty();
+    };
+    let own = own_column(batch, array.place());
+    match array.above {
+        Above::Struct(above) => own.below(view_within(arrays, batch, above, depth - 1)),
+        Above::Top | Above::List => own,
     }
-    array.place().cell(batch, row)
 }

@@ -3,20 +3,25 @@ ghost use Rattle.arrow_arrays.specs.Layouts.{layout_of, layout_of_values, own_bu
 
 use arrow_schema::{ArrowType, DictSpec};
 
+/// The bytes of an element of a list: lists hold numbers of 64 bits.
+pub(crate) const ELEMENT_LEN: u32 = 8;
+
 /// How the values of an array are stored (Arrow columnar format, "Physical memory layout"). The
-/// validity bitmap stands in front of each.
+/// validity bitmap comes before each.
 #[derive(Clone, Copy, Debug, PartialEq, Eq)]
 pub enum Layout {
     /// No values: the fields of the struct have arrays of their own.
     Struct,
     /// One bit each.
     Bits,
-    /// So many bytes each.
+    /// A number of bytes each.
     Fixed(u32),
     /// Any number of bytes each, by offsets.
     Binary,
     /// The same, and each is UTF-8.
     Text,
+    /// Any number of elements each, by offsets. The elements are the values of the next array.
+    List,
 }
 
 impl Layout {
@@ -42,6 +47,7 @@ impl Layout {
             ArrowType::Binary => Layout::Binary,
             ArrowType::Fixed(width) => Layout::Fixed(width),
             ArrowType::Struct => Layout::Struct,
+            ArrowType::List => Layout::List,
         }
     }
 
@@ -51,7 +57,7 @@ impl Layout {
     {
         match self {
             Layout::Struct => 1,
-            Layout::Bits | Layout::Fixed(_) => 2,
+            Layout::Bits | Layout::Fixed(_) | Layout::List => 2,
             Layout::Binary | Layout::Text => 3,
         }
     }

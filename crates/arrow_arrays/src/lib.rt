@@ -3,9 +3,10 @@
 #![tactic(auto)]
 
 mod arrays;
+mod column;
+mod found;
 pub mod laws;
 mod layout;
-mod lookup;
 mod place;
 mod spec;
 #[cfg(test)]
@@ -13,6 +14,7 @@ mod tests;
 mod view;
 
 pub use crate::arrays::Arrays;
+pub use crate::column::ColumnView;
 pub use crate::layout::Layout;
 pub use crate::place::ArrayPlace;
-pub use crate::spec::ArraySpec;
+pub use crate::spec::{Above, ArraySpec};

@@ -1,10 +1,12 @@
-ghost use Rattle.std.specs.Prelude.{◌≡◌, true, IsOk, IfSome};
+ghost use Rattle.std.specs.Prelude.{◌≡◌, ℕ, IsOk, IfSome};
 ghost use Rattle.std.specs.Option.{option_copied};
 ghost use Rattle.arrow_arrays.specs.Layouts.{FitsLayout};
 ghost use Rattle.arrow_arrays.specs.Cells.{place_of_values, array_check, own_cell};
+ghost use Rattle.arrow_arrays.specs.Views.{cell_seen};
 
+use crate::column::ColumnView;
+use crate::found::own_column;
 use crate::layout::Layout;
-use crate::lookup::{has_row, value};
 use crate::view::array_in;
 use arrow_buffers::BufferFault;
 use arrow_ipc::BatchView;
@@ -17,8 +19,11 @@ pub struct ArrayPlace {
     pub layout: Layout,
     /// The place of its node among all nodes.
     pub node: u16,
-    /// The place of its validity bitmap among all buffers. Its other buffers stand behind it.
+    /// The place of its validity bitmap among all buffers. Its other buffers come next.
     pub buffer: u16,
+    /// Whether it holds the elements of lists. These are as many as its node counts; the rows of
+    /// every other array are those of the batch.
+    pub element: bool,
 }
 
 impl ArrayPlace {
@@ -30,44 +35,40 @@ impl ArrayPlace {
             layout: Layout::of(kind, None),
             node: 0,
             buffer: 0,
+            element: false,
         }
     }
 
     /// Whether the array has no fault: `Short` where its node or a buffer is missing, the node
-    /// counts other rows than the batch has, or a buffer is too small; `BadNulls` where nulls are
-    /// counted and no bitmap stands; `BadOffsets` and `BadUtf8` as their names say. A text is judged
-    /// where the array's own bitmap has its row. It takes time linear in the array's bytes.
+    /// counts other rows than the array has, or a buffer is too small; `BadNulls` where nulls are
+    /// counted and no bitmap stands, or a list that isn't null has an element that is; `BadOffsets`
+    /// and `BadUtf8` as their names say. A text and a list are judged where the array's own bitmap
+    /// has its row. It takes time linear in the array's bytes.
     #[tactic(auto, unfolding(crate::specs::Cells::array_check))]
     pub fn check(self, batch: &BatchView<'_>) -> Result<(), BufferFault>
         ensures { result ≡ array_check batch.now self }
     {
-        let array = array_in(batch, self, false)?;
-        array.check_text(self.layout)
+        let array = array_in(batch, self)?;
+        array.check_content(self.layout)
+    }
+
+    /// The column of the array's cells, by its own buffers. It takes constant time and no memory.
+    pub fn view<'v>(self, batch: &BatchView<'v>) -> ColumnView<'v>
+        requires fine { IsOk (array_check batch.now self) }
+        ensures cells { (row : ℕ) → cell_seen result row ≡ own_cell batch.now self row }
+        ensures fits { (row : ℕ) → IfSome (cell_seen result row) (FitsLayout self.layout) }
+    {
+        own_column(batch, self)
     }
 
     /// The bytes of a row's cell, by the array's own buffers; `None` where it is null, or there is
-    /// no such row. A bit is one byte, 0 or 1; a struct has no bytes. It takes constant time.
-    #[inline(always)]
-    #[tactic(auto, using(crate::proofs::Found::cell_fits_layout))]
+    /// no such row. Where more than one cell is asked for, `view` is found once for all of them.
     pub fn cell<'v>(self, batch: &BatchView<'v>, row: u64) -> Option<&'v [u8]>
         requires fine { IsOk (array_check batch.now self) }
         ensures cell { option_copied result ≡ own_cell batch.now self row }
         ensures fits { IfSome (option_copied result) (FitsLayout self.layout) }
     {
-        let cell = self.look_up(batch, row);
-        cell
-    }
-
-    #[inline(always)]
-    #[tactic(auto, using(crate::proofs::Found::there, crate::proofs::Found::absent, crate::proofs::Found::values_are_fine))]
-    fn look_up<'v>(self, batch: &BatchView<'v>, row: u64) -> Option<&'v [u8]>
-        requires fine { IsOk (array_check batch.now self) }
-        ensures { option_copied result ≡ own_cell batch.now self row }
-    {
-        if has_row(batch, self, row) {
-            value(batch, self, row)
-        } else {
-            None
-        }
+        let column = self.view(batch);
+        column.cell(row)
     }
 }

@@ -1,4 +1,4 @@
-use crate::{ArrayPlace, Arrays};
+use crate::{ArrayPlace, Arrays, ColumnView, Layout};
 use arrow_buffers::BufferFault;
 use arrow_ipc::{BatchBuilder, rows_at};
 use arrow_schema::{ArrowType, read_schema};
@@ -39,6 +39,8 @@ fn reads_what_another_writer_made(rt: HostRuntime) -> Result<(), Fail> {
 
     let batch = rows_at(&RECORD, 112).ok_or("no record batch")?;
     arrays.check(&batch)?;
+    let column = arrays.view(&batch, 0);
+    assert_eq!(rt; column.cell(0), Some([0, 0].as_slice()));
     assert_eq!(rt; arrays.cell(&batch, 0, 0), Some([0, 0].as_slice()));
     assert_eq!(rt; arrays.cell(&batch, 0, 1), None);
     assert_eq!(rt; arrays.cell(&batch, 1, 0), None);
@@ -69,5 +71,66 @@ fn reads_values_of_a_dictionary(rt: HostRuntime) -> Result<(), Fail> {
 
     let wide = ArrayPlace::of_values(ArrowType::Fixed(6));
     assert_eq!(rt; wide.check(&batch), Err(BufferFault::Short));
+    Ok(())
+}
+
+// A record batch with the lists [1, 2], null and [3], and a fourth element of which the bits say
+// whether it is there.
+fn lists(alloc: Global, there: u8, last: u8) -> Result<Vec<u8>, Fail> {
+    let mut builder = BatchBuilder::new(alloc, 3);
+    builder.add(3, 1)?;
+    builder.add(4, 1)?;
+    builder.add_buffer(&[0b101])?;
+    builder.add_buffer(&[0, 0, 0, 0, 2, 0, 0, 0, 2, 0, 0, 0, last, 0, 0, 0])?;
+    builder.add_buffer(&[there])?;
+    let mut elements = [0; 40];
+    elements[0] = 1;
+    elements[8] = 2;
+    elements[16] = 3;
+    builder.add_buffer(&elements)?;
+    let mut bytes = Vec::new(alloc);
+    builder.finish_rows(&mut bytes)?;
+    Ok(bytes)
+}
+
+#[test]
+fn reads_lists(rt: HostRuntime) -> Result<(), Fail> {
+    let column = ArrayPlace {
+        layout: Layout::List,
+        node: 0,
+        buffer: 0,
+        element: false,
+    };
+    let bytes = lists(rt.alloc(), 0b111, 3)?;
+    let batch = rows_at(&bytes, 0).ok_or("no record batch")?;
+    column.check(&batch)?;
+    let column = column.view(&batch);
+    assert_eq!(rt;
+        column.cell(0),
+        Some([1, 0, 0, 0, 0, 0, 0, 0, 2, 0, 0, 0, 0, 0, 0, 0].as_slice())
+    );
+    assert_eq!(rt; column.cell(1), None);
+    assert_eq!(rt; column.cell(2), Some([3, 0, 0, 0, 0, 0, 0, 0].as_slice()));
+    assert_eq!(rt; column.cell(3), None);
+    assert_eq!(rt; ColumnView::none().cell(0), None);
+    Ok(())
+}
+
+#[test]
+fn judges_elements_of_lists(rt: HostRuntime) -> Result<(), Fail> {
+    let column = ArrayPlace {
+        layout: Layout::List,
+        node: 0,
+        buffer: 0,
+        element: false,
+    };
+    let null = lists(rt.alloc(), 0b1011, 3)?;
+    let batch = rows_at(&null, 0).ok_or("no record batch")?;
+    assert_eq!(rt; column.check(&batch), Err(BufferFault::BadNulls));
+
+    // The fifth element of the bytes is none of the child's rows.
+    let past = lists(rt.alloc(), 0b1111, 5)?;
+    let batch = rows_at(&past, 0).ok_or("no record batch")?;
+    assert_eq!(rt; column.check(&batch), Err(BufferFault::BadOffsets));
     Ok(())
 }

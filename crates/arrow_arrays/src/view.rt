@@ -1,11 +1,11 @@
-ghost use Rattle.std.specs.Prelude.{◌≡◌, ◌+◌, ◌^◌, ◌<◌, true, IsOk};
-ghost use Rattle.std.specs.Option.{option_copied};
-ghost use Rattle.arrow_buffers.specs.Columns.{bit_byte};
-ghost use Rattle.arrow_arrays.specs.Cells.{Gives, nulls_in, buffer_in, validity_in, bits_in, fixed_in, vars_in, values_in, array_in, text_check, value_in};
+//! The array at a place of a batch, with its faults.
 
-use crate::layout::Layout;
+ghost use Rattle.std.specs.Prelude.{◌≡◌, ◌+◌, ◌^◌, ◌<◌};
+ghost use Rattle.arrow_arrays.specs.Cells.{Gives, length_in, rows_in, nulls_in, buffer_in, validity_in, bits_in, fixed_in, vars_in, elements_in, elements_of, lists_in, values_in, array_in, content_check};
+
+use crate::layout::{ELEMENT_LEN, Layout};
 use crate::place::ArrayPlace;
-use arrow_buffers::{Bits, BufferFault, Fixed, Vars};
+use arrow_buffers::{Bits, BufferFault, Fixed, Lists, Vars};
 use arrow_ipc::BatchView;
 
 /// The values of an array, by its layout.
@@ -16,6 +16,8 @@ pub(crate) enum Values<'a> {
     Bits(Bits<'a>),
     Fixed(Fixed<'a>),
     Vars(Vars<'a>),
+    /// Lists, and which of their elements are there.
+    Lists(Lists<'a>, Bits<'a>),
 }
 
 /// An array: which rows are there, and their values.
@@ -25,141 +27,182 @@ pub(crate) struct ArrayView<'a> {
     pub(crate) values: Values<'a>,
 }
 
-/// The array at a place of a batch, or its first fault. The offsets of an array that is known to
-/// have none aren't looked at.
+/// The array at a place of a batch, or its first fault.
 #[tactic(auto, unfolding(crate::specs::Cells::array_in))]
 pub(crate) fn array_in<'a>(
     batch: &BatchView<'a>,
     place: ArrayPlace,
-    known: bool,
 ) -> Result<ArrayView<'a>, BufferFault>
-    requires { known ≡ true → IsOk (array_in batch.now place) }
     ensures { result ≡ array_in batch.now place }
 {
-    let valid = validity_in(batch, place)?;
-    let values = values_in(batch, place, known)?;
+    let rows = rows_in(batch, place)?;
+    let valid = validity_in(batch, rows, u32::from(place.node), u32::from(place.buffer))?;
+    let values = values_in(batch, rows, place)?;
     Ok(ArrayView { valid, values })
 }
 
-// The null count of the node at a place, which counts the rows of the batch.
-#[tactic(auto, unfolding(crate::specs::Cells::nulls_in))]
-fn nulls_in(batch: &BatchView<'_>, place: u32) -> Result<i64, BufferFault>
-    ensures { result ≡ nulls_in batch.now place }
+/// How many rows an array has.
+#[tactic(auto, unfolding(crate::specs::Cells::rows_in))]
+pub(crate) fn rows_in(batch: &BatchView<'_>, place: ArrayPlace) -> Result<u64, BufferFault>
+    ensures { result ≡ rows_in batch.now place }
 {
-    let (rows, nulls) = batch.node(place).ok_or(BufferFault::Short)?;
+    if place.element {
+        return length_in(batch, u32::from(place.node));
+    }
+    Ok(batch.rows())
+}
+
+// The length of the node at a place, which isn't negative.
+#[tactic(auto, unfolding(crate::specs::Cells::length_in))]
+fn length_in(batch: &BatchView<'_>, place: u32) -> Result<u64, BufferFault>
+    ensures { result ≡ length_in batch.now place }
+{
+    let (rows, _) = batch.node(place).ok_or(BufferFault::Short)?;
     match u64::try_from(rows) {
-        Ok(rows) if rows == batch.rows() => Ok(nulls),
+        Ok(rows) => Ok(rows),
+        Err(_) => Err(BufferFault::Short),
+    }
+}
+
+// The null count of the node at a place, which counts the rows.
+#[tactic(auto, unfolding(crate::specs::Cells::nulls_in))]
+fn nulls_in(batch: &BatchView<'_>, rows: u64, place: u32) -> Result<i64, BufferFault>
+    ensures { result ≡ nulls_in batch.now rows place }
+{
+    let (length, nulls) = batch.node(place).ok_or(BufferFault::Short)?;
+    match u64::try_from(length) {
+        Ok(length) if length == rows => Ok(nulls),
         _ => Err(BufferFault::Short),
     }
 }
 
-fn buffer_in<'a>(batch: &BatchView<'a>, place: u32) -> Result<&'a [u8], BufferFault>
+/// The buffer at a place.
+pub(crate) fn buffer_in<'a>(batch: &BatchView<'a>, place: u32) -> Result<&'a [u8], BufferFault>
     ensures { Gives (λ bytes. bytes.now) result (buffer_in batch.now place) }
 {
     batch.buffer(place).ok_or(BufferFault::Short)
 }
 
 #[tactic(auto, unfolding(crate::specs::Cells::validity_in))]
-pub(crate) fn validity_in<'a>(
+fn validity_in<'a>(
     batch: &BatchView<'a>,
-    place: ArrayPlace,
+    rows: u64,
+    node: u32,
+    buffer: u32,
 ) -> Result<Bits<'a>, BufferFault>
-    ensures { result ≡ validity_in batch.now place }
+    ensures { result ≡ validity_in batch.now rows node buffer }
 {
-    let nulls = nulls_in(batch, u32::from(place.node))?;
-    let bytes = buffer_in(batch, u32::from(place.buffer))?;
-    Bits::validity(bytes, batch.rows(), nulls)
+    let nulls = nulls_in(batch, rows, node)?;
+    let bytes = buffer_in(batch, buffer)?;
+    Bits::validity(bytes, rows, nulls)
 }
 
 #[tactic(auto, unfolding(crate::specs::Cells::bits_in))]
-pub(crate) fn bits_in<'a>(batch: &BatchView<'a>, place: u32) -> Result<Values<'a>, BufferFault>
-    ensures { result ≡ bits_in batch.now place }
+fn bits_in<'a>(batch: &BatchView<'a>, rows: u64, place: u32) -> Result<Values<'a>, BufferFault>
+    ensures { result ≡ bits_in batch.now rows place }
 {
     let bytes = buffer_in(batch, place)?;
-    Ok(Values::Bits(Bits::values(bytes, batch.rows())?))
+    Ok(Values::Bits(Bits::values(bytes, rows)?))
 }
 
 // Values of no bytes need none.
 #[tactic(auto, unfolding(crate::specs::Cells::fixed_in))]
-pub(crate) fn fixed_in<'a>(
+fn fixed_in<'a>(
     batch: &BatchView<'a>,
+    rows: u64,
     place: u32,
     width: u32,
 ) -> Result<Values<'a>, BufferFault>
-    ensures { result ≡ fixed_in batch.now place width }
+    ensures { result ≡ fixed_in batch.now rows place width }
 {
     let bytes = buffer_in(batch, place)?;
     if width == 0 {
         return Ok(Values::Nothing);
     }
-    Ok(Values::Fixed(Fixed::new(bytes, width, batch.rows())?))
+    Ok(Values::Fixed(Fixed::new(bytes, width, rows)?))
 }
 
-// The offsets stand at the place, and the values behind them.
+// The offsets stand at the place, and the values after them.
 #[tactic(auto, unfolding(crate::specs::Cells::vars_in))]
-pub(crate) fn vars_in<'a>(
-    batch: &BatchView<'a>,
-    place: u32,
-    known: bool,
-) -> Result<Values<'a>, BufferFault>
-    requires room { place + 1 < 2 ^ 32 }
-    requires known { known ≡ true → IsOk (vars_in batch.now place) }
-    ensures { result ≡ vars_in batch.now place }
+fn vars_in<'a>(batch: &BatchView<'a>, rows: u64, place: u32) -> Result<Values<'a>, BufferFault>
+    requires { place + 1 < 2 ^ 32 }
+    ensures { result ≡ vars_in batch.now rows place }
 {
     let offsets = buffer_in(batch, place)?;
     let values = buffer_in(batch, place + 1)?;
-    if known {
-        return Ok(Values::Vars(Vars::checked(offsets, values, batch.rows())));
-    }
-    Ok(Values::Vars(Vars::new(offsets, values, batch.rows())?))
+    Ok(Values::Vars(Vars::new(offsets, values, rows)?))
 }
 
-// The values stand behind the validity bitmap, whose place this is.
+/// The bytes of the elements: `Short` where there are fewer.
+pub(crate) fn elements<'a>(bytes: &'a [u8], count: u64) -> Result<&'a [u8], BufferFault>
+    ensures { Gives (λ bytes. bytes.now) result (elements_of bytes.now count) }
+{
+    if (bytes.len() as u128) < u128::from(count) * u128::from(ELEMENT_LEN) {
+        return Err(BufferFault::Short);
+    }
+    Ok(&bytes[..count as usize * ELEMENT_LEN as usize])
+}
+
+// The elements of lists, by the node and the first buffer of their array.
+#[tactic(auto, unfolding(crate::specs::Cells::elements_in))]
+fn elements_in<'a>(
+    batch: &BatchView<'a>,
+    node: u32,
+    buffer: u32,
+) -> Result<(&'a [u8], Bits<'a>), BufferFault>
+    requires { buffer + 1 < 2 ^ 32 }
+    ensures { Gives (λ elements. (elements.0.now, elements.1)) result (elements_in batch.now node buffer) }
+{
+    let count = length_in(batch, node)?;
+    let there = validity_in(batch, count, node, buffer)?;
+    let bytes = elements(buffer_in(batch, buffer + 1)?, count)?;
+    Ok((bytes, there))
+}
+
+#[tactic(auto, unfolding(crate::specs::Cells::lists_in))]
+fn lists_in<'a>(
+    batch: &BatchView<'a>,
+    rows: u64,
+    place: ArrayPlace,
+) -> Result<Values<'a>, BufferFault>
+    ensures { result ≡ lists_in batch.now rows place }
+{
+    let first = u32::from(place.buffer) + 1;
+    let offsets = buffer_in(batch, first)?;
+    let (values, there) = elements_in(batch, u32::from(place.node) + 1, first + 1)?;
+    let lists = Lists::new(offsets, values, ELEMENT_LEN, rows)?;
+    Ok(Values::Lists(lists, there))
+}
+
+// The values stand after the validity bitmap.
 #[tactic(auto, unfolding(crate::specs::Cells::values_in))]
 fn values_in<'a>(
     batch: &BatchView<'a>,
+    rows: u64,
     place: ArrayPlace,
-    known: bool,
 ) -> Result<Values<'a>, BufferFault>
-    requires known { known ≡ true → IsOk (values_in batch.now place) }
-    ensures { result ≡ values_in batch.now place }
+    ensures { result ≡ values_in batch.now rows place }
 {
     let first = u32::from(place.buffer) + 1;
     match place.layout {
         Layout::Struct => Ok(Values::Nothing),
-        Layout::Bits => bits_in(batch, first),
-        Layout::Fixed(width) => fixed_in(batch, first, width),
-        Layout::Binary | Layout::Text => vars_in(batch, first, known),
+        Layout::Bits => bits_in(batch, rows, first),
+        Layout::Fixed(width) => fixed_in(batch, rows, first, width),
+        Layout::Binary | Layout::Text => vars_in(batch, rows, first),
+        Layout::List => lists_in(batch, rows, place),
     }
 }
 
 impl<'a> ArrayView<'a> {
-    /// `BadUtf8` where the array holds texts, and one that isn't null is none.
-    pub(crate) fn check_text(&self, layout: Layout) -> Result<(), BufferFault>
-        ensures { result ≡ text_check layout self.now }
+    /// `BadUtf8` where the array holds texts, and one that isn't null is none; `BadNulls` where it
+    /// holds lists, and one that isn't null has an element that is.
+    pub(crate) fn check_content(&self, layout: Layout) -> Result<(), BufferFault>
+        ensures { result ≡ content_check layout self.now }
     {
         match (layout, &self.values) {
             (Layout::Text, Values::Vars(texts)) => texts.check_utf8(&self.valid),
+            (Layout::List, Values::Lists(lists, there)) => lists.check_nulls(&self.valid, there),
             _ => Ok(()),
         }
     }
-}
-
-impl<'a> Values<'a> {
-    pub(crate) fn get(&self, row: u64) -> Option<&'a [u8]>
-        ensures { option_copied result ≡ value_in self.now row }
-    {
-        match self {
-            Values::Nothing => Some(&[]),
-            Values::Bits(bits) => Some(bit_byte(bits.get(row)?)),
-            Values::Fixed(parts) => parts.get(row),
-            Values::Vars(parts) => parts.get(row),
-        }
-    }
-}
-
-fn bit_byte(bit: bool) -> &'static [u8]
-    ensures { result.now ≡ bit_byte bit }
-{
-    if bit { &[1] } else { &[0] }
 }

@@ -1,5 +1,6 @@
 use Rattle.arrow_arrays.proofs.Walked.{fields_law, places_law}
 use Rattle.arrow_arrays.proofs.PathsWalked.{paths_law}
+use Rattle.arrow_arrays.proofs.ListsWalked.{elements_law}
 use Rattle.arrow_arrays.proofs.laws.arrays_stand_depth_first.Goals as goal
 
 pub returns-clause-fields : goal.returns-clause-fields
@@ -10,3 +11,6 @@ returns-clause-places c = places_law
 
 pub returns-clause-paths : goal.returns-clause-paths
 returns-clause-paths c = paths_law
+
+pub returns-clause-elements : goal.returns-clause-elements
+returns-clause-elements c = elements_law

@@ -1,6 +1,6 @@
 use Rattle.std.proofs.Common.{Result, ap, is_ok}
 use Rattle.arrow_buffers.specs.declared.fault.BufferFault.{BufferFault}
-use Rattle.arrow_arrays.specs.Laws.{none_have_faults, no_fault_checks}
+use Rattle.arrow_arrays.proofs.Checked.{none_have_faults, no_fault_checks}
 use Rattle.arrow_arrays.proofs.laws.faults_are_found.Goals as goal
 
 pub returns : goal.returns

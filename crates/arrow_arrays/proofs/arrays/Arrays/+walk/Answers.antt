@@ -1,8 +1,8 @@
-use Rattle.std.proofs.Common.{◌≡◌, ◌+◌, ℕ, List, length, OnOk, ap, subst, arith}
-use Rattle.arrow_schema.specs.Trees.{count_in, count_of, name_in, kind_in, dict_in, children_in}
-use Rattle.arrow_schema.specs.Laws.FieldTrees.{count_in_is}
+use Rattle.std.proofs.Common.{◌≡◌, ◌+◌, ◌∙◌, ℕ, List, length, OnOk, ap, subst, arith}
+use Rattle.arrow_schema.specs.Trees.{count_in, count_of, name_in, kind_in, dict_in, encoding_in, children_in}
+use Rattle.arrow_schema.proofs.Folds.{count_in_is}
 use Rattle.arrow_arrays.specs.declared.spec.ArraySpec.{ArraySpec}
-use Rattle.arrow_arrays.specs.Arrays.{array_behind}
+use Rattle.arrow_arrays.specs.Arrays.{above_children, array_after}
 use Rattle.arrow_arrays.proofs.Walking.{field_step, length_one_more, count_step, count_within}
 use Rattle.arrow_arrays.proofs.arrays.Arrays.+walk.Goals as goal
 
@@ -12,16 +12,17 @@ add_field-add_fields-requires t c =
     let old = c.args.self.now in
     let count = count_in_is f in
     let below : count_of c.as_slice.result.now ≡ count_of (children_in f) = ap count_of c.as_slice.ensures in
-    let len : length c.push.new.self ≡ length old + 1 = length_one_more old c.push.new.self (array_behind old c.args.above (name_in f) (kind_in f) (dict_in f)) c.in_ok-push.ensures in
+    let len : length c.push.new.self ≡ length old + 1 = length_one_more old c.push.new.self (array_after old c.args.above (name_in f) (kind_in f) (dict_in f) (encoding_in f)) c.in_ok-push.ensures in
     (omega (arith, count, below), omega (arith, count, below, len, c.requires))
 
 pub add_field-returns-clause-arrays : goal.add_field-returns-clause-arrays
 add_field-returns-clause-arrays t c =
     let f = c.args.field.now in
     let old = c.args.self.now in
-    let place : c.len-place.result ≡ length old = grind arith in
+    let len : c.len.result ≡ length old = grind arith in
+    let below : c.of_children-below.result ≡ above_children (kind_in f) (length old) = c.of_children-below.ensures ∙ ap (above_children (kind_in f)) len in
     subst (λ (all : List ArraySpec). OnOk c.add_fields.result (c.add_fields.new.self ≡ all))
-    (field_step f c.args.above old c.push.new.self c.as_slice.result.now c.len-place.result c.as_slice.ensures place c.in_ok-push.ensures)
+    (field_step f c.args.above c.of_children-below.result old c.push.new.self c.as_slice.result.now c.as_slice.ensures below c.in_ok-push.ensures)
     c.add_fields.ensures.arrays
 
 pub add_field-returns-clause-len : goal.add_field-returns-clause-len
@@ -30,7 +31,7 @@ add_field-returns-clause-len t c =
     let old = c.args.self.now in
     let count = count_in_is f in
     let below : count_of c.as_slice.result.now ≡ count_of (children_in f) = ap count_of c.as_slice.ensures in
-    let len : length c.push.new.self ≡ length old + 1 = length_one_more old c.push.new.self (array_behind old c.args.above (name_in f) (kind_in f) (dict_in f)) c.in_ok-push.ensures in
+    let len : length c.push.new.self ≡ length old + 1 = length_one_more old c.push.new.self (array_after old c.args.above (name_in f) (kind_in f) (dict_in f) (encoding_in f)) c.in_ok-push.ensures in
     let all : length c.push.new.self + count_of c.as_slice.result.now ≡ length old + count_in f = omega (arith, count, below, len) in
     subst (λ (n : ℕ). OnOk c.add_fields.result (length c.add_fields.new.self ≡ n)) all c.add_fields.ensures.len
 

@@ -1,6 +1,6 @@
 use Rattle.std.proofs.Common.{◌≡◌, arith}
 use Rattle.arrow_arrays.specs.Arrays.{arrays_check}
-use Rattle.arrow_arrays.proofs.Reading.{none_on}
+use Rattle.arrow_arrays.proofs.Checked.{none_on}
 use Rattle.arrow_arrays.proofs.arrays.Arrays.check.Goals as goal
 
 pub returns-clause-none : goal.returns-clause-none

@@ -1,0 +1,178 @@
+//! A column of a record batch that is found once, so that each of its cells is a test of bits and a
+//! slice.
+
+ghost use Rattle.std.specs.Prelude.{◌≡◌, ℕ, ◌+◌, ◌*◌, ◌≤◌, length, None};
+ghost use Rattle.std.specs.Option.{option_copied};
+ghost use Rattle.arrow_buffers.specs.Bits.{is_valid};
+ghost use Rattle.arrow_buffers.specs.Columns.{bit_byte};
+ghost use Rattle.arrow_buffers.specs.Offsets.{offset_at};
+ghost use Rattle.arrow_arrays.specs.Views.{part_between, span_between, value_seen, is_there, cell_seen};
+ghost use Rattle.arrow_arrays.specs.Found.{IsBelow, IsEmpty};
+
+use byteorder::{ByteOrder, LittleEndian};
+
+/// The bytes in which the values of a column stand.
+#[derive(Clone, Copy, Debug)]
+pub(crate) enum Stored<'a> {
+    /// No bytes for any row.
+    Nothing,
+    Bits(&'a [u8]),
+    /// Values of one width.
+    Fixed(&'a [u8], u32),
+    /// Offsets, and the elements that they count, of one width.
+    Spans(&'a [u8], &'a [u8], u32),
+}
+
+/// A column of a record batch: the bytes of its array, and the bitmaps of the structs above it. It
+/// is found once, and then each cell takes constant time.
+#[derive(Clone, Copy, Debug)]
+pub struct ColumnView<'a> {
+    pub(crate) rows: u64,
+    /// The bitmap of its own array, and those of the structs above. Where each row is valid there
+    /// are no bytes.
+    pub(crate) own: &'a [u8],
+    pub(crate) above: &'a [u8],
+    pub(crate) top: &'a [u8],
+    pub(crate) stored: Stored<'a>,
+}
+
+impl<'a> ColumnView<'a> {
+    /// A column without cells: each row is null.
+    pub fn none() -> ColumnView<'a>
+        ensures { (row : ℕ) → cell_seen result row ≡ None }
+    {
+        ColumnView::empty()
+    }
+
+    pub(crate) fn empty() -> ColumnView<'a>
+        ensures cells { (row : ℕ) → cell_seen result row ≡ None }
+        ensures empty { IsEmpty result }
+    {
+        ColumnView {
+            rows: 0,
+            own: &[],
+            above: &[],
+            top: &[],
+            stored: Stored::Nothing,
+        }
+    }
+
+    /// The bytes of a row's cell; `None` where it is null, or there is no such row. A bit is one
+    /// byte, 0 or 1; a struct has no bytes; a list has those of its elements.
+    #[inline(always)]
+    #[tactic(auto, unfolding(crate::specs::Views::cell_seen))]
+    pub fn cell(&self, row: u64) -> Option<&'a [u8]>
+        ensures { option_copied result ≡ cell_seen self.now row }
+    {
+        if self.is_there(row) {
+            self.stored.value(row)
+        } else {
+            None
+        }
+    }
+
+    /// The same column below a struct, whose rows that are null are null in it.
+    pub(crate) fn below(self, above: ColumnView<'a>) -> ColumnView<'a>
+        ensures { IsBelow above.entry self.entry result }
+    {
+        ColumnView {
+            rows: self.rows.min(above.rows),
+            own: self.own,
+            above: above.own,
+            top: above.above,
+            stored: self.stored,
+        }
+    }
+
+    #[inline(always)]
+    #[tactic(auto, unfolding(crate::specs::Views::is_there))]
+    fn is_there(&self, row: u64) -> bool
+        ensures { result ≡ is_there self.now row }
+    {
+        row < self.rows && has(self.own, row) && has(self.above, row) && has(self.top, row)
+    }
+}
+
+impl<'a> Stored<'a> {
+    #[inline(always)]
+    #[tactic(auto, unfolding(crate::specs::Views::value_seen))]
+    fn value(&self, row: u64) -> Option<&'a [u8]>
+        ensures { option_copied result ≡ value_seen self.now row }
+    {
+        match *self {
+            Stored::Nothing => Some(&[]),
+            Stored::Bits(bytes) => Some(bit_byte(has(bytes, row))),
+            Stored::Fixed(bytes, width) => part(bytes, row, width),
+            Stored::Spans(offsets, values, width) => span(offsets, values, width, row),
+        }
+    }
+}
+
+// Whether a bitmap has a row. One without bytes has each row.
+#[inline(always)]
+#[tactic(auto, unfolding(arrow_buffers::specs::Bits::bit_at))]
+fn has(bytes: &[u8], row: u64) -> bool
+    ensures { result ≡ is_valid bytes.now row }
+{
+    if bytes.is_empty() {
+        return true;
+    }
+    let place = row / 8;
+    if place >= bytes.len() as u64 {
+        return false;
+    }
+    (bytes[place as usize] >> (row % 8)) & 1 == 1
+}
+
+fn bit_byte(bit: bool) -> &'static [u8]
+    ensures { result.now ≡ bit_byte bit }
+{
+    if bit { &[1] } else { &[0] }
+}
+
+// The value of a row, where all have one width.
+#[inline(always)]
+fn part(bytes: &[u8], row: u64, width: u32) -> Option<&[u8]>
+    ensures { option_copied result ≡ part_between bytes.now (row * width) ((row + 1) * width) }
+{
+    let start = u128::from(row) * u128::from(width);
+    let end = start + u128::from(width);
+    if end > bytes.len() as u128 {
+        return None;
+    }
+    Some(&bytes[start as usize..end as usize])
+}
+
+// The elements from a row's offset to the next one.
+#[inline(always)]
+fn span<'a>(offsets: &[u8], values: &'a [u8], width: u32, row: u64) -> Option<&'a [u8]>
+    ensures { option_copied result ≡ span_between offsets.now values.now width row }
+{
+    if u128::from(row) * 4 + 8 > offsets.len() as u128 {
+        return None;
+    }
+    let row = row as usize;
+    let start = u64::from(offset_at(offsets, row)) * u64::from(width);
+    let end = u64::from(offset_at(offsets, row + 1)) * u64::from(width);
+    between(values, start, end)
+}
+
+// The offset at a place.
+#[inline(always)]
+#[tactic(auto, unfolding(arrow_buffers::specs::Offsets::offset_at))]
+fn offset_at(offsets: &[u8], place: usize) -> u32
+    requires { 4 * (place + 1) ≤ length offsets.now }
+    ensures { result ≡ offset_at offsets.now place }
+{
+    LittleEndian::read_u32(&offsets[4 * place..])
+}
+
+#[inline(always)]
+fn between(bytes: &[u8], start: u64, end: u64) -> Option<&[u8]>
+    ensures { option_copied result ≡ part_between bytes.now start end }
+{
+    if start > end || end > bytes.len() as u64 {
+        return None;
+    }
+    Some(&bytes[start as usize..end as usize])
+}
