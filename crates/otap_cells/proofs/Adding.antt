@@ -57,6 +57,7 @@ no_bytes holds (flag b) fits not = refl
 no_bytes base.U8 (bytes part) fits not = absurd fits
 no_bytes base.U16 (bytes part) fits not = absurd fits
 no_bytes base.U32 (bytes part) fits not = absurd fits
+no_bytes base.U64 (bytes part) fits not = absurd fits
 no_bytes base.I32 (bytes part) fits not = absurd fits
 no_bytes base.I64 (bytes part) fits not = absurd fits
 no_bytes base.Double (bytes part) fits not = absurd fits
@@ -67,6 +68,9 @@ no_bytes base.Fixed16 (bytes part) fits not = cc
 no_bytes base.Fixed8 (bytes part) fits not = cc
 no_bytes base.Timestamp (bytes part) fits not = absurd fits
 no_bytes base.Duration (bytes part) fits not = absurd fits
+no_bytes base.ListU64 (bytes part) fits not = cc
+no_bytes base.ListF64 (bytes part) fits not = cc
+no_bytes (base.Id wide) (bytes part) fits not = absurd fits
 
 -- one cell more of a column
 pub cells_go_on : (rows : List (List Cell)) (column row total b later : ℕ) (cell : Cell) → row < length rows

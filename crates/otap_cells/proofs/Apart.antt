@@ -6,8 +6,8 @@ use Rattle.otap_cells.specs.declared.profile.Base.TheVariants as base
 use Rattle.std.specs.List.{list_any}
 use Rattle.std.specs.Str.{bytes_eq}
 use Rattle.otap_cells.specs.declared.payload.Kind.{Kind}
-use Rattle.otap_cells.specs.declared.payload.Kind.TheVariants.{ResourceAttrs, ScopeAttrs, Metrics, NumberPoints, NumberPointAttrs, NumberExemplars, NumberExemplarAttrs, Logs, LogAttrs, Spans, SpanAttrs, SpanEvents, SpanLinks, EventAttrs, LinkAttrs}
-use Rattle.otap_cells.specs.Columns.{plain, columns_of, width_of, name_at, attrs, deep_attrs, metrics, number_points, number_exemplars, logs, spans, span_events, span_links}
+use Rattle.otap_cells.specs.declared.payload.Kind.TheVariants as table
+use Rattle.otap_cells.specs.Columns.{plain, columns_of, width_of, name_at, logs, spans, metrics, attrs, deep_attrs, span_events, span_links, number_points, summary_points, hist_points, exemplars}
 
 -- no name stands twice
 abbrev all_apart : List (List ℕ) → Bool
@@ -15,22 +15,28 @@ all_apart [] = true
 all_apart (name ∷ names) = not (list_any (bytes_eq name) names) && all_apart names
 
 names_apart : (kind : Kind) → all_apart (map (λ column. column.name) (columns_of kind)) ≡ true
-unfolding attrs deep_attrs metrics number_points number_exemplars logs spans span_events span_links
-names_apart ResourceAttrs = refl
-names_apart ScopeAttrs = refl
-names_apart Metrics = refl
-names_apart NumberPoints = refl
-names_apart NumberPointAttrs = refl
-names_apart NumberExemplars = refl
-names_apart NumberExemplarAttrs = refl
-names_apart Logs = refl
-names_apart LogAttrs = refl
-names_apart Spans = refl
-names_apart SpanAttrs = refl
-names_apart SpanEvents = refl
-names_apart SpanLinks = refl
-names_apart EventAttrs = refl
-names_apart LinkAttrs = refl
+unfolding logs spans metrics attrs deep_attrs span_events span_links number_points summary_points hist_points exemplars
+names_apart table.ResourceAttrs = refl
+names_apart table.ScopeAttrs = refl
+names_apart table.Metrics = refl
+names_apart table.NumberPoints = refl
+names_apart table.SummaryPoints = refl
+names_apart table.HistPoints = refl
+names_apart table.NumberPointAttrs = refl
+names_apart table.SummaryPointAttrs = refl
+names_apart table.HistPointAttrs = refl
+names_apart table.NumberExemplars = refl
+names_apart table.HistExemplars = refl
+names_apart table.NumberExemplarAttrs = refl
+names_apart table.HistExemplarAttrs = refl
+names_apart table.Logs = refl
+names_apart table.LogAttrs = refl
+names_apart table.Spans = refl
+names_apart table.SpanAttrs = refl
+names_apart table.SpanEvents = refl
+names_apart table.SpanLinks = refl
+names_apart table.EventAttrs = refl
+names_apart table.LinkAttrs = refl
 
 or_parts : (a b : Bool) → (a || b) ≡ false → (a ≡ false) × (b ≡ false)
 or_parts true b h = cc
@@ -65,19 +71,25 @@ same_names kind a b in_a in_b same =
 
 -- a place fits 32 bits
 pub narrow : (kind : Kind) → width_of kind < 2 ^ 32
-unfolding attrs deep_attrs metrics number_points number_exemplars logs spans span_events span_links
-narrow ResourceAttrs = lit< tt
-narrow ScopeAttrs = lit< tt
-narrow Metrics = lit< tt
-narrow NumberPoints = lit< tt
-narrow NumberPointAttrs = lit< tt
-narrow NumberExemplars = lit< tt
-narrow NumberExemplarAttrs = lit< tt
-narrow Logs = lit< tt
-narrow LogAttrs = lit< tt
-narrow Spans = lit< tt
-narrow SpanAttrs = lit< tt
-narrow SpanEvents = lit< tt
-narrow SpanLinks = lit< tt
-narrow EventAttrs = lit< tt
-narrow LinkAttrs = lit< tt
+unfolding logs spans metrics attrs deep_attrs span_events span_links number_points summary_points hist_points exemplars
+narrow table.ResourceAttrs = lit< tt
+narrow table.ScopeAttrs = lit< tt
+narrow table.Metrics = lit< tt
+narrow table.NumberPoints = lit< tt
+narrow table.SummaryPoints = lit< tt
+narrow table.HistPoints = lit< tt
+narrow table.NumberPointAttrs = lit< tt
+narrow table.SummaryPointAttrs = lit< tt
+narrow table.HistPointAttrs = lit< tt
+narrow table.NumberExemplars = lit< tt
+narrow table.HistExemplars = lit< tt
+narrow table.NumberExemplarAttrs = lit< tt
+narrow table.HistExemplarAttrs = lit< tt
+narrow table.Logs = lit< tt
+narrow table.LogAttrs = lit< tt
+narrow table.Spans = lit< tt
+narrow table.SpanAttrs = lit< tt
+narrow table.SpanEvents = lit< tt
+narrow table.SpanLinks = lit< tt
+narrow table.EventAttrs = lit< tt
+narrow table.LinkAttrs = lit< tt

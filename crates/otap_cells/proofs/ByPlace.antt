@@ -1,16 +1,18 @@
 -- Tables that are given by their cells, column by column and row by row.
-use Rattle.std.proofs.Common.{◌≡◌, ℕ, ◌+◌, ◌-◌, ◌≤◌, ◌<◌, List, [], ◌∷◌, ◌++◌, length, get_or, set, map, refl, sym, ◌∙◌, ap, inl, inr, ◌⊎◌, arith, length-set}
+use Rattle.std.proofs.Common.{◌≡◌, ℕ, true, ◌+◌, ◌-◌, ◌≤◌, ◌<◌, List, [], ◌∷◌, ◌++◌, length, get_or, set, map, refl, sym, ◌∙◌, ap, inl, inr, ◌⊎◌, arith, length-set}
 use Rattle.std.specs.List.{range_with_len}
-use Rattle.std.proofs.lemmas.Bool.{cases_lt, cases_eq}
+use Rattle.std.proofs.lemmas.Bool.{false≢true, cases_lt, cases_eq}
 use Rattle.std.proofs.lemmas.List.{get_or_past, get_or-set_other}
-use Rattle.std.proofs.Math.ListN.{get_or-map}
 use Rattle.std.proofs.lemmas.Grind.{get_or-set_at}
 use Rattle.std.proofs.lemmas.List.Elements.{All-from_get_or}
 use Rattle.std.proofs.lemmas.List.FromFn.{length-map-range_with_len, get_or-map-range_with_len, map-range_with_len_more, fill_by_all}
 use Rattle.otap_cells.specs.declared.payload.Kind.{Kind}
-use Rattle.otap_cells.specs.Cells.{Cell, null, IsCellOf}
-use Rattle.otap_cells.specs.Columns.{base_at, width_of}
-use Rattle.otap_cells.specs.Tables.{Table, IsTable, cell_in, row_by, rows_by, table_by, by_columns, column_in, columns_in, with_cell}
+use Rattle.otap_cells.specs.declared.profile.Coding.{Coding}
+use Rattle.otap_cells.specs.Cells.{Cell, null, nat_in, IsCellOf}
+use Rattle.otap_cells.specs.declared.profile.Base.TheVariants as base
+use Rattle.otap_cells.specs.Bases.{is_id}
+use Rattle.otap_cells.specs.Columns.{plain, columns_of, base_at, column_at, width_of, is_id_at, allows}
+use Rattle.otap_cells.specs.Tables.{IsTable, cell_in, row_by, rows_by, each_column, table_by, with_cell, coding_in, greatest_in}
 
 module _ (kind : Kind) (count : ℕ) (cell : ℕ → ℕ → Cell) where
   pub length-rows_by : length (rows_by kind count cell) ≡ count
@@ -43,21 +45,42 @@ cell_in-beyond kind count cell column row (inl wide) =
       | inr low ↦ ap (λ cells. get_or cells column null) (get_or_past (rows_by kind count cell) row [] (omega (arith, length-rows_by kind count cell)))
     ]
 
--- cells of their columns' bases make a table
-pub IsTable-table_by : (kind : Kind) (count : ℕ) (cell : ℕ → ℕ → Cell) → ((column row : ℕ) → IsCellOf (base_at kind column) (cell column row)) → IsTable (table_by kind count cell)
+-- what a function gives a column
+given : {A : Type 0} (f : ℕ → A) (kind : Kind) (column : ℕ) (d : A) → column < width_of kind → get_or (each_column kind f) column d ≡ f column
+given f kind column d there = get_or-map-range_with_len f 0 (width_of kind) column column d there (omega arith)
+
+-- a column of ids is there
+pub id_within : (kind : Kind) (column : ℕ) → is_id_at kind column ≡ true → column < width_of kind
+id_within kind column is = elim (cases_lt column (width_of kind)) [
+  | inl there ↦ there
+  | inr wide ↦ absurd (false≢true (sym (ap (λ c. is_id c.base) (get_or_past (columns_of kind) column (plain [] base.Binary) wide)) ∙ is))
+]
+
+-- cells of their columns' bases make a table, where ids are stored in ways that their columns allow and none is above the greatest
+pub IsTable-table_by : (kind : Kind) (coding : ℕ → Coding) (greatest : ℕ → ℕ) (count : ℕ) (cell : ℕ → ℕ → Cell)
+    → ((column row : ℕ) → IsCellOf (base_at kind column) (cell column row))
+    → ((column : ℕ) → is_id_at kind column ≡ true → allows (column_at kind column) (coding column) ≡ true)
+    → ((column row : ℕ) → is_id_at kind column ≡ true → nat_in (cell column row) ≤ greatest column)
+    → IsTable (table_by kind coding greatest count cell)
 unfolding table_by
-IsTable-table_by kind count cell fits = record {
+IsTable-table_by kind coding greatest count cell fits coded bounded = record {
   wide = All-from_get_or (λ row. length row ≡ width_of kind) (rows_by kind count cell) []
       (λ row within. let low : row < count = omega (arith, length-rows_by kind count cell) in rw (get_or-rows_by kind count cell row low) (length-row_by kind cell row));
-  fits = λ column row.
-      elim (cases_lt column (width_of kind)) [
-        | inl there ↦ elim (cases_lt row count) [
-          | inl within ↦ rw (cell_in-rows_by kind count cell column row there within) (fits column row)
-          | inr low ↦ rw (cell_in-beyond kind count cell column row (inr low)) tt
-        ]
-        | inr wide ↦ rw (cell_in-beyond kind count cell column row (inl wide)) tt
-      ];
+  fits = λ column row. each column row (IsCellOf (base_at kind column)) (fits column row) tt;
+  coded = λ column is. ap (allows (column_at kind column)) (given coding kind column _ (id_within kind column is)) ∙ coded column is;
+  bounded = λ column row is. rw (given greatest kind column 0 (id_within kind column is))
+      (each column row (λ x. nat_in x ≤ greatest column) (bounded column row is) (omega arith));
 }
+  where
+    -- what holds of the cell that was given, and of null, holds of the cell of the rows
+    each : (column row : ℕ) (P : Cell → Type 0) → P (cell column row) → P null → P (cell_in (rows_by kind count cell) column row)
+    each column row P here beyond = elim (cases_lt column (width_of kind)) [
+      | inl there ↦ elim (cases_lt row count) [
+        | inl within ↦ rw (cell_in-rows_by kind count cell column row there within) here
+        | inr low ↦ rw (cell_in-beyond kind count cell column row (inr low)) beyond
+      ]
+      | inr wide ↦ rw (cell_in-beyond kind count cell column row (inl wide)) beyond
+    ]
 
 -- one row more
 pub rows_by-more : (kind : Kind) (count : ℕ) (cell : ℕ → ℕ → Cell) → rows_by kind (count + 1) cell ≡ rows_by kind count cell ++ row_by kind cell count ∷ []
@@ -108,58 +131,24 @@ rows_by-with_cell kind count cell later column x there some here elsewhere =
     same_row row differs = λ i. map (λ other. elsewhere other row (λ h _. differs h) i) (range_with_len 0 (width_of kind))
 
 -- a table that is given by its cells has this kind, so many rows, these rows
-pub kind-table_by : (kind : Kind) (count : ℕ) (cell : ℕ → ℕ → Cell) → (table_by kind count cell).kind ≡ kind
-unfolding table_by
-kind-table_by kind count cell = refl
+module _ (kind : Kind) (coding : ℕ → Coding) (greatest : ℕ → ℕ) (count : ℕ) (cell : ℕ → ℕ → Cell) where
+  pub kind-table_by : (table_by kind coding greatest count cell).kind ≡ kind
+  unfolding table_by
+  kind-table_by = refl
 
-pub rows-table_by : (kind : Kind) (count : ℕ) (cell : ℕ → ℕ → Cell) → (table_by kind count cell).rows ≡ rows_by kind count cell
-unfolding table_by
-rows-table_by kind count cell = refl
+  pub rows-table_by : (table_by kind coding greatest count cell).rows ≡ rows_by kind count cell
+  unfolding table_by
+  rows-table_by = refl
 
-pub count-table_by : (kind : Kind) (count : ℕ) (cell : ℕ → ℕ → Cell) → length (table_by kind count cell).rows ≡ count
-unfolding table_by
-count-table_by kind count cell = length-rows_by kind count cell
+  pub count-table_by : length (table_by kind coding greatest count cell).rows ≡ count
+  unfolding table_by
+  count-table_by = length-rows_by kind count cell
 
--- a column of a table that is given by its cells
-pub column_in-rows_by : (kind : Kind) (count : ℕ) (cell : ℕ → ℕ → Cell) (column : ℕ) → column < width_of kind
-    → column_in (rows_by kind count cell) column ≡ map (cell column) (range_with_len 0 count)
-column_in-rows_by kind count cell column there = each (range_with_len 0 count)
-  where
-    each : (rows : List ℕ) → column_in (map (row_by kind cell) rows) column ≡ map (cell column) rows
-    each [] = refl
-    each (row ∷ rows) = (λ i. get_or-row_by kind cell column row there i ∷ each rows i)
+  -- its ids are stored in these ways, and are at most these
+  pub coding-table_by : (column : ℕ) → is_id_at kind column ≡ true → coding_in (table_by kind coding greatest count cell) column ≡ coding column
+  unfolding table_by
+  coding-table_by column is = given coding kind column _ (id_within kind column is)
 
--- a table is given by its cells
-pub table_by-cell_in : (t : Table) → IsTable t → table_by t.kind (length t.rows) (cell_in t.rows) ≡ t
-unfolding table_by
-table_by-cell_in t sound = λ i. record {
-  kind = t.kind;
-  rows = sym (fill_by_all (row_by t.kind (cell_in t.rows)) t.rows (length t.rows) [] refl each) i;
-}
-  where
-    each : (row : ℕ) → row < length t.rows → get_or t.rows row [] ≡ row_by t.kind (cell_in t.rows) row
-    each row within = fill_by_all (λ column. cell_in t.rows column row) (get_or t.rows row []) (width_of t.kind) null (sound.wide row [] within) (λ column _. refl)
-
--- tables with the same cells are one
-pub same_tables : (s t : Table) → IsTable s → IsTable t → s.kind ≡ t.kind → length s.rows ≡ length t.rows
-    → ((column row : ℕ) → cell_in s.rows column row ≡ cell_in t.rows column row) → s ≡ t
-same_tables s t sound_s sound_t kinds counts cells =
-    sym (table_by-cell_in s sound_s) ∙ (λ i. table_by (kinds i) (counts i) (λ column row. cells column row i)) ∙ table_by-cell_in t sound_t
-
--- a table is given by its columns
-pub by_columns-columns_in : (t : Table) (column row : ℕ) → IsTable t → by_columns (columns_in t) column row ≡ cell_in t.rows column row
-by_columns-columns_in t column row sound =
-    elim (cases_lt column (width_of t.kind)) [
-      | inl there ↦ ap (λ cells. get_or cells row null) (get_or-map-range_with_len (column_in t.rows) 0 (width_of t.kind) column column [] there (omega arith))
-          ∙ get_or-map (λ row. get_or row column null) t.rows row []
-      | inr wide ↦ ap (λ cells. get_or cells row null)
-          (get_or_past (columns_in t) column [] (omega (arith, length-map-range_with_len (column_in t.rows) 0 (width_of t.kind))))
-          ∙ sym (elim (cases_lt row (length t.rows)) [
-            | inl within ↦ get_or_past (get_or t.rows row []) column null (omega (arith, sound.wide row [] within))
-            | inr low ↦ ap (λ cells. get_or cells column null) (get_or_past t.rows row [] low)
-          ])
-    ]
-
-pub table_by-columns_in : (t : Table) → IsTable t → table_by t.kind (length t.rows) (by_columns (columns_in t)) ≡ t
-table_by-columns_in t sound =
-    (λ i. table_by t.kind (length t.rows) (λ column row. by_columns-columns_in t column row sound i)) ∙ table_by-cell_in t sound
+  pub greatest-table_by : (column : ℕ) → is_id_at kind column ≡ true → greatest_in (table_by kind coding greatest count cell) column ≡ greatest column
+  unfolding table_by
+  greatest-table_by column is = given greatest kind column 0 (id_within kind column is)

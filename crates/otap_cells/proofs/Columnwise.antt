@@ -1,15 +1,20 @@
 -- A table kept column by column: rows added, cells written.
-use Rattle.std.proofs.Common.{◌≡◌, ℕ, zero, suc, ◌+◌, ◌-◌, ◌≤◌, ◌<◌, List, [], ◌∷◌, ◌++◌, length, get_or, set, replicate, map, refl, sym, ◌∙◌, ap, subst, inl, inr, arith, length-set, length-append}
+use Rattle.std.proofs.Common.{◌≡◌, ℕ, zero, suc, true, pos, negsuc, ◌+◌, ◌-◌, ◌≤◌, ◌<◌, List, [], ◌∷◌, ◌++◌, length, get_or, set, replicate, map, refl, sym, ◌∙◌, ap, subst, inl, inr, arith, length-set, length-append}
 use Rattle.std.specs.List.{range_with_len}
 use Rattle.std.proofs.lemmas.Bool.{cases_eq}
 use Rattle.std.proofs.lemmas.List.{get_or_past, get_or_default, get_or-set_same, get_or-set_other, length-replicate}
 use Rattle.std.proofs.lemmas.List.FromFn.{length-range_with_len}
 use Rattle.otap_cells.specs.declared.payload.Kind.{Kind}
-use Rattle.otap_cells.specs.Cells.{Cell, null, IsCellOf}
-use Rattle.otap_cells.specs.Columns.{base_at, width_of}
-use Rattle.otap_cells.specs.Tables.{Table, IsTable, cell_in, row_by, rows_by, table_by, by_columns, with_cell, null_row}
-use Rattle.otap_cells.specs.Kept.{IsKept}
-use Rattle.otap_cells.proofs.ByPlace.{rows_by-more, rows_by-with_cell, cell_in-rows_by, IsTable-table_by, kind-table_by, rows-table_by, count-table_by}
+use Rattle.otap_cells.specs.declared.profile.Base.{Base}
+use Rattle.otap_cells.specs.declared.profile.Base.TheVariants as base
+use Rattle.otap_cells.specs.declared.profile.Coding.{Coding}
+use Rattle.otap_cells.specs.declared.profile.Coding.TheVariants as coding
+use Rattle.otap_cells.specs.Bases.{is_id}
+use Rattle.otap_cells.specs.Cells.{Cell, null, number, bits, flag, bytes, nat_in, IsCellOf}
+use Rattle.otap_cells.specs.Columns.{ColumnSpec, base_at, column_at, coding_at, is_id_at, width_of, is_run, allows}
+use Rattle.otap_cells.specs.Tables.{Table, IsTable, cell_in, coding_in, greatest_in, greatest_wide, row_by, rows_by, table_by, profile_table, by_columns, with_cell, null_row}
+use Rattle.otap_cells.specs.Kept.{IsKept, kept_table}
+use Rattle.otap_cells.proofs.ByPlace.{rows_by-more, rows_by-with_cell, cell_in-rows_by, IsTable-table_by, kind-table_by, rows-table_by, count-table_by, coding-table_by, greatest-table_by}
 
 -- columns that read the same have the same cells
 pub same_cells : (columns later : List (List Cell)) → ((column : ℕ) → get_or later column [] ≡ get_or columns column []) → by_columns later ≡ by_columns columns
@@ -19,12 +24,12 @@ nulls : (columns : List ℕ) → map (λ _. null) columns ≡ replicate (length 
 nulls [] = refl
 nulls (column ∷ columns) = ap (λ cells. null ∷ cells) (nulls columns)
 
--- a row behind the last one is null in each column
-pub row_added : (kind : Kind) (n : ℕ) (columns : List (List Cell)) (t : Table) → IsKept kind n columns → table_by kind n (by_columns columns) ≡ t
-    → table_by kind (n + 1) (by_columns columns) ≡ record { kind = t.kind; rows = t.rows ++ null_row t.kind ∷ [] }
+-- a row after the last one is null in each column
+pub row_added : (kind : Kind) (n : ℕ) (columns : List (List Cell)) (t : Table) → IsKept kind n columns → kept_table kind n columns ≡ t
+    → kept_table kind (n + 1) columns ≡ record t { rows = t.rows ++ null_row t.kind ∷ [] }
 unfolding table_by
 row_added kind n columns t kept is =
-    (λ i. record { kind = kind; rows = added i }) ∙ ap (λ t. record { kind = t.kind; rows = t.rows ++ null_row t.kind ∷ [] }) is
+    (λ i. profile_table kind (added i)) ∙ ap {B = Table} (λ t. record t { rows = t.rows ++ null_row t.kind ∷ [] }) is
   where
     all_null : row_by kind (by_columns columns) n ≡ null_row kind
     all_null = (λ i. map (λ column. get_or_past (get_or columns column []) n null (kept.short column) i) (range_with_len 0 (width_of kind)))
@@ -33,7 +38,7 @@ row_added kind n columns t kept is =
     added : rows_by kind (n + 1) (by_columns columns) ≡ rows_by kind n (by_columns columns) ++ null_row kind ∷ []
     added = rows_by-more kind n (by_columns columns) ∙ ap (λ row. rows_by kind n (by_columns columns) ++ row ∷ []) all_null
 
--- nulls behind a column's cells read as the column did
+-- nulls after a column's cells read as the column did
 pub nulls_read : (p k : ℕ) → get_or (replicate p null) k null ≡ null
 nulls_read zero k = refl
 nulls_read (suc p) zero = refl
@@ -44,13 +49,47 @@ padded_reads [] p k = nulls_read p k
 padded_reads (cell ∷ cells) p zero = refl
 padded_reads (cell ∷ cells) p (suc k) = padded_reads cells p k
 
+-- a column allows the way in which the profile itself stores its ids
+allows_own : (c : ColumnSpec) → is_id c.base ≡ true → allows c c.coding ≡ true
+allows_own c is = each c.coding refl
+  where
+    each : (how : Coding) → c.coding ≡ how → allows c how ≡ true
+    each coding.Plain same = is
+    each coding.Delta same = is
+    each coding.Run same = ap is_run same
+
+-- a number of 32 bits is at most the greatest
+at_most : (holds : Base) (cell : Cell) → is_id holds ≡ true → IsCellOf holds cell → nat_in cell ≤ greatest_wide
+at_most (base.Id wide) (number (pos n)) is fits = omega (arith, fits)
+at_most (base.Id wide) (number (negsuc n)) is fits = omega arith
+at_most base.U8 (number n) is fits = cc
+at_most base.U16 (number n) is fits = cc
+at_most base.U32 (number n) is fits = cc
+at_most base.U64 (number n) is fits = cc
+at_most base.I32 (number n) is fits = cc
+at_most base.I64 (number n) is fits = cc
+at_most base.Double (number n) is fits = cc
+at_most base.Bool (number n) is fits = cc
+at_most base.Utf8 (number n) is fits = cc
+at_most base.Binary (number n) is fits = cc
+at_most base.Fixed16 (number n) is fits = cc
+at_most base.Fixed8 (number n) is fits = cc
+at_most base.Timestamp (number n) is fits = cc
+at_most base.Duration (number n) is fits = cc
+at_most base.ListU64 (number n) is fits = cc
+at_most base.ListF64 (number n) is fits = cc
+at_most holds null is fits = omega arith
+at_most holds (bits n) is fits = omega arith
+at_most holds (flag b) is fits = omega arith
+at_most holds (bytes part) is fits = omega arith
+
 -- a table is of the kind, and has the rows, by which its cells are kept
-module _ (kind : Kind) (n : ℕ) (columns : List (List Cell)) (t : Table) (is_table : table_by kind n (by_columns columns) ≡ t) where
+module _ (kind : Kind) (n : ℕ) (columns : List (List Cell)) (t : Table) (is_table : kept_table kind n columns ≡ t) where
   pub same_kind : kind ≡ t.kind
-  same_kind = sym (kind-table_by kind n (by_columns columns)) ∙ ap (λ t. t.kind) is_table
+  same_kind = sym (kind-table_by kind (coding_at kind) (λ column. greatest_wide) n (by_columns columns)) ∙ ap (λ t. t.kind) is_table
 
   pub same_count : n ≡ length t.rows
-  same_count = sym (count-table_by kind n (by_columns columns)) ∙ ap (λ t. length t.rows) is_table
+  same_count = sym (count-table_by kind (coding_at kind) (λ column. greatest_wide) n (by_columns columns)) ∙ ap (λ t. length t.rows) is_table
 
   pub in_width : (column : ℕ) → column < width_of t.kind → column < width_of kind
   in_width column there = rw same_kind there
@@ -59,12 +98,25 @@ module _ (kind : Kind) (n : ℕ) (columns : List (List Cell)) (t : Table) (is_ta
   in_columns kept column there some = let all : length columns ≡ width_of kind = kept.there (omega (arith, same_count)) in rw (all, same_kind) there
 
   pub is_sound : IsKept kind n columns → IsTable t
-  is_sound kept = subst IsTable is_table (IsTable-table_by kind n (by_columns columns) kept.fits)
+  is_sound kept = subst IsTable is_table (IsTable-table_by kind (coding_at kind) (λ column. greatest_wide) n (by_columns columns) kept.fits
+      (λ column is. allows_own (column_at kind column) is)
+      (λ column row is. at_most (base_at kind column) (by_columns columns column row) is (kept.fits column row)))
+
+  pub id_here : (column : ℕ) → is_id_at t.kind column ≡ true → is_id_at kind column ≡ true
+  id_here column is = rw same_kind is
+
+  pub shows_coding : (column : ℕ) → is_id_at t.kind column ≡ true → (x : Coding) → x ≡ coding_at kind column → x ≡ coding_in t column
+  shows_coding column is x own =
+      own ∙ sym (coding-table_by kind (coding_at kind) (λ column. greatest_wide) n (by_columns columns) column (id_here column is)) ∙ ap (λ t. coding_in t column) is_table
+
+  pub shows_greatest : (column : ℕ) → is_id_at t.kind column ≡ true → (x : ℕ) → x ≡ greatest_wide → x ≡ greatest_in t column
+  shows_greatest column is x own =
+      own ∙ sym (greatest-table_by kind (coding_at kind) (λ column. greatest_wide) n (by_columns columns) column (id_here column is)) ∙ ap (λ t. greatest_in t column) is_table
 
   pub shows : (column row : ℕ) (x : Cell) → x ≡ by_columns columns column row → column < width_of t.kind → row < length t.rows → x ≡ cell_in t.rows column row
   shows column row x found there within =
       found ∙ sym (cell_in-rows_by kind n (by_columns columns) column row (in_width column there) (omega (arith, same_count)))
-      ∙ ap (λ rows. cell_in rows column row) (sym (rows-table_by kind n (by_columns columns))) ∙ ap (λ t. cell_in t.rows column row) is_table
+      ∙ ap (λ rows. cell_in rows column row) (sym (rows-table_by kind (coding_at kind) (λ column. greatest_wide) n (by_columns columns))) ∙ ap (λ t. cell_in t.rows column row) is_table
 
   pub holds : IsKept kind n columns → (column row : ℕ) (x : Cell) → x ≡ by_columns columns column row → IsCellOf (base_at t.kind column) x
   holds kept column row x found = rw (found, ← same_kind) (kept.fits column row)
@@ -81,7 +133,7 @@ module _ (kind : Kind) (n : ℕ) (columns : List (List Cell)) (t : Table) (is_ta
   shows_kept kept column row there within cells d x is found =
       found ∙ ap (λ cells. get_or cells row null) (is ∙ get_or_default columns column d [] (in_columns kept column there (omega arith)))
 
--- columns without cells that come behind
+-- columns without cells that come after
 pub widened : (kind : Kind) (n : ℕ) (columns later : List (List Cell)) → IsKept kind n columns
     → ((column : ℕ) → get_or later column [] ≡ get_or columns column []) → length columns ≤ length later → length later ≤ width_of kind → IsKept kind n later
 widened kind n columns later kept same grows few = record {
@@ -99,8 +151,8 @@ one_more kind n columns kept all = record {
   fits = kept.fits;
 }
 
--- a cell written in the last row: the column that was read, with the cell behind nulls where there were too few
-module _ (kind : Kind) (n : ℕ) (columns : List (List Cell)) (t : Table) (is_table : table_by kind n (by_columns columns) ≡ t)
+-- a cell written in the last row: the column that was read, with the cell after nulls where there were too few
+module _ (kind : Kind) (n : ℕ) (columns : List (List Cell)) (t : Table) (is_table : kept_table kind n columns ≡ t)
     (kept : IsKept kind n columns) (column : ℕ) (inside : column < width_of t.kind) (some_rows : 0 < length t.rows)
     (cells later d : List Cell) (x : Cell) (is : cells ≡ get_or columns column d)
     (written : later ≡ set (cells ++ replicate (n - 1 + 1 - length cells) null) (n - 1) x) where
@@ -158,7 +210,7 @@ module _ (kind : Kind) (n : ℕ) (columns : List (List Cell)) (t : Table) (is_ta
     ];
   }
 
-  pub one_shown : table_by kind n new ≡ record { kind = t.kind; rows = with_cell column x t.rows }
+  pub one_shown : kept_table kind n (set columns column later) ≡ record t { rows = with_cell column x t.rows }
   unfolding table_by
-  one_shown = (λ i. record { kind = kind; rows = rows_by-with_cell kind n old new column x (in_width kind n columns t is_table column inside) some here elsewhere i })
-      ∙ ap (λ t. record { kind = t.kind; rows = with_cell column x t.rows }) is_table
+  one_shown = (λ i. profile_table kind (rows_by-with_cell kind n old new column x (in_width kind n columns t is_table column inside) some here elsewhere i))
+      ∙ ap {B = Table} (λ t. record t { rows = with_cell column x t.rows }) is_table

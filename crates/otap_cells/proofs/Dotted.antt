@@ -13,7 +13,7 @@ front_same : (front j rest : List ℕ) → bytes_eq (front ++ 46 ∷ j) (front +
 front_same [] j rest = refl
 front_same (x ∷ front) j rest = rw (eq-eqb x x refl) (front_same front j rest)
 
--- names behind the first one and a dot
+-- names after the first one and a dot
 pub joined_behind : (path inner : List (Bor (List ℕ))) (first : Bor (List ℕ)) (dotted rest : List ℕ)
     → path ≡ first ∷ inner → eqb (length inner) 0 ≡ false → dotted ≡ first.now ++ 46 ∷ rest
     → bytes_eq (join_with_byte 46 (map (λ name. name.now) path)) dotted ≡ bytes_eq (join_with_byte 46 (map (λ name. name.now) inner)) rest

@@ -1,8 +1,12 @@
 pub mod Adding
 pub mod Apart
 pub mod ByPlace
+pub mod ColumnSteps
 pub mod Columnwise
 pub mod Dotted
 pub mod Found
+pub mod IdLaws
+pub mod IdSteps
 pub mod Rowwise
 pub mod Slots
+pub mod Twice

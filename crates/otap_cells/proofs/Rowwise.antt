@@ -3,7 +3,6 @@ use Rattle.std.proofs.Common.{◌≡◌, ℕ, zero, suc, ◌+◌, ◌-◌, ◌<�
 use Rattle.std.proofs.Math.Seq.{set-append_seam, get_or-append_seam}
 use Rattle.std.proofs.lemmas.List.{take_all, take_more, set-append_right}
 use Rattle.otap_cells.specs.Cells.{Cell, null, IsCellOf}
-use Rattle.otap_cells.specs.declared.payload.Kind.{Kind}
 use Rattle.otap_cells.specs.Columns.{ColumnSpec, width_of}
 use Rattle.otap_cells.specs.Tables.{Table, IsRow, null_row, with_cell}
 
@@ -45,27 +44,28 @@ IsRow-at (column ∷ columns) [] place d fits = absurd fits
 IsRow-at (column ∷ columns) (cell ∷ cells) zero d fits = fits.0
 IsRow-at (column ∷ columns) (cell ∷ cells) (suc place) d fits = IsRow-at columns cells place d fits.1
 
--- a row that was added, cell by cell
+-- a row that was added, cell by cell: what else the table says stays
 pub fill_begins : (old new : Table) (cells : List Cell) → new ≡ record old { rows = old.rows ++ null_row old.kind ∷ [] } → length cells ≡ width_of old.kind
-    → (new.kind ≡ old.kind) × (new.rows ≡ old.rows ++ filled cells 0 ∷ [])
+    → new ≡ record old { rows = old.rows ++ filled cells 0 ∷ [] }
 fill_begins old new cells is long =
     let all : width_of old.kind ≡ length cells - 0 = omega arith in
-    (ap (λ t. t.kind) is, ap (λ t. t.rows) is ∙ ap (λ n. old.rows ++ replicate n null ∷ []) all)
+    is ∙ (λ i. record old { rows = old.rows ++ replicate (all i) null ∷ [] })
 
-pub fill_goes_on : (old new : Table) (kind : Kind) (before : List (List Cell)) (cells : List Cell) (column : ℕ) (x : Cell)
-    → old.kind ≡ kind → old.rows ≡ before ++ filled cells column ∷ [] → column < length cells → x ≡ get_or cells column null
-    → new ≡ record old { rows = with_cell column x old.rows } → (new.kind ≡ kind) × (new.rows ≡ before ++ filled cells (column + 1) ∷ [])
-fill_goes_on old new kind before cells column x same so_far within here is = (
-  ap (λ t. t.kind) is ∙ same,
-  ap (λ t. t.rows) is ∙ ap (with_cell column x) so_far ∙ with_cell-push column x before (filled cells column)
-      ∙ ap (λ row. before ++ row ∷ []) (ap (set (filled cells column) column) here ∙ filled_more cells column within),
-)
+pub fill_goes_on : (first old new : Table) (before : List (List Cell)) (cells : List Cell) (column : ℕ) (x : Cell)
+    → old ≡ record first { rows = before ++ filled cells column ∷ [] } → column < length cells → x ≡ get_or cells column null
+    → new ≡ record old { rows = with_cell column x old.rows } → new ≡ record first { rows = before ++ filled cells (column + 1) ∷ [] }
+fill_goes_on first old new before cells column x so_far within here is =
+    is ∙ ap {B = Table} (λ t. record t { rows = with_cell column x t.rows }) so_far
+    ∙ (λ i. record first {
+      rows = (with_cell-push column x before (filled cells column)
+          ∙ ap (λ row. before ++ row ∷ []) (ap (set (filled cells column) column) here ∙ filled_more cells column within)) i;
+    })
 
-pub fill_ends : (t : Table) (kind : Kind) (before : List (List Cell)) (cells : List Cell) (column : ℕ)
-    → t.kind ≡ kind → t.rows ≡ before ++ filled cells column ∷ [] → length cells ≤ column → t ≡ record { kind = kind; rows = before ++ cells ∷ [] }
-fill_ends t kind before cells column same so_far all =
+pub fill_ends : (first t : Table) (before : List (List Cell)) (cells : List Cell) (column : ℕ)
+    → t ≡ record first { rows = before ++ filled cells column ∷ [] } → length cells ≤ column → t ≡ record first { rows = before ++ cells ∷ [] }
+fill_ends first t before cells column so_far all =
     let none : length cells - column ≡ 0 = omega arith in
     let whole : filled cells column ≡ cells
     = ap (λ front. front ++ replicate (length cells - column) null) (take_all column cells all)
     ∙ ap (λ n. cells ++ replicate n null) none ∙ append-nil cells in
-    λ i. record { kind = same i; rows = (so_far ∙ ap (λ row. before ++ row ∷ []) whole) i }
+    so_far ∙ (λ i. record first { rows = before ++ whole i ∷ [] })

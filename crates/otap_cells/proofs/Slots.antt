@@ -8,7 +8,7 @@ use Rattle.otap_cells.specs.declared.kept.Slot.TheVariants as slot
 use Rattle.otap_cells.specs.Cells.{Cell, null, bytes}
 use Rattle.otap_cells.specs.Kept.{cell_of, reach}
 
--- bytes that come behind leave the parts before them
+-- bytes that come after leave the parts before them
 pub part_stays : (from len : ℕ) (old more : List ℕ) → from + len ≤ length old → take len (drop from (old ++ more)) ≡ take len (drop from old)
 part_stays from len old more h =
     let near : from ≤ length old = omega arith in
@@ -32,12 +32,12 @@ pub nulls_of : (kept : List ℕ) (n : ℕ) → map (cell_of kept) (replicate n s
 nulls_of kept zero = refl
 nulls_of kept (suc n) = ap (λ cells. null ∷ cells) (nulls_of kept n)
 
--- bytes that come behind leave the cells of the slots
+-- bytes that come after leave the cells of the slots
 pub as_before : (old more kept : List ℕ) (ss ts : List Slot) (cells : List Cell)
     → All (λ t. reach t ≤ length old) ss → kept ≡ old ++ more → ts ≡ ss → map (cell_of old) ss ≡ cells → map (cell_of kept) ts ≡ cells
 as_before old more kept ss ts cells within longer same is = rw (longer, same) (cells_stay old more ss within ∙ is)
 
--- the cells with one written in a row, behind nulls where there were too few
+-- the cells with one written in a row, after nulls where there were too few
 pub one_written : (old more kept : List ℕ) (ss ts : List Slot) (cells : List Cell) (row n : ℕ) (s : Slot) (x : Cell)
     → All (λ t. reach t ≤ length old) ss → kept ≡ old ++ more → map (cell_of old) ss ≡ cells → length cells ≤ row + 1 → n ≡ length ss
     → ts ≡ take (row + 1) ss ++ replicate (row + 1 - n) slot.Null → cell_of kept s ≡ x

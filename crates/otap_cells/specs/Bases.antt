@@ -9,4 +9,11 @@ holds_bytes base.Utf8 = true
 holds_bytes base.Binary = true
 holds_bytes base.Fixed16 = true
 holds_bytes base.Fixed8 = true
+holds_bytes base.ListU64 = true
+holds_bytes base.ListF64 = true
 holds_bytes _ = false
+
+-- the numbers of rows
+abbrev pub is_id : Base → Bool
+is_id (base.Id wide) = true
+is_id _ = false

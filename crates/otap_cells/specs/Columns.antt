@@ -3,12 +3,13 @@ use Rattle.std.specs.Prelude.{ℕ, Bool, true, false, List, [], ◌∷◌, ◌++
 use Rattle.std.specs.List.{slice_index_or, list_any, join_with_byte, position_from}
 use Rattle.std.specs.Str.{bytes_eq}
 use Rattle.otap_cells.specs.declared.payload.Kind.{Kind}
-use Rattle.otap_cells.specs.declared.payload.Kind.TheVariants.{ResourceAttrs, ScopeAttrs, Metrics, NumberPoints, NumberPointAttrs, NumberExemplars, NumberExemplarAttrs, Logs, LogAttrs, Spans, SpanAttrs, SpanEvents, SpanLinks, EventAttrs, LinkAttrs}
+use Rattle.otap_cells.specs.declared.payload.Kind.TheVariants as table
 use Rattle.otap_cells.specs.declared.profile.Base.{Base}
 use Rattle.otap_cells.specs.declared.profile.Base.TheVariants as base
 use Rattle.otap_cells.specs.declared.profile.Coding.{Coding}
 use Rattle.otap_cells.specs.declared.profile.Coding.TheVariants as coding
 use Rattle.otap_cells.specs.declared.profile.Column.{Column}
+use Rattle.otap_cells.specs.Bases.{is_id}
 
 -- a column: its dotted name, what its cells hold, whether it is written as a dictionary, how its ids are stored
 pub record ColumnSpec : Type 0 where
@@ -16,6 +17,12 @@ pub record ColumnSpec : Type 0 where
   pub base : Base
   pub dictionary : Bool
   pub coding : Coding
+
+-- ids that are stored in runs
+abbrev pub is_run : Coding → Bool
+is_run coding.Plain = false
+is_run coding.Delta = false
+is_run coding.Run = true
 
 -- the column that the program's table has
 abbrev pub described : Column → ColumnSpec
@@ -34,13 +41,20 @@ delta name holds = record { name = name; base = holds; dictionary = false; codin
 abbrev pub run : List ℕ → Base → ColumnSpec
 run name holds = record { name = name; base = holds; dictionary = false; coding = coding.Run }
 
+-- the numbers of rows, wide where they are always written with 32 bits
+abbrev pub id : Base
+id = base.Id false
+
+abbrev pub wide_id : Base
+wide_id = base.Id true
+
 -- the columns at the front of each main table: the item's own id, its resource and its scope
 abbrev pub common : List ColumnSpec
-common = delta (codes "id") base.U16
-    ∷ delta (codes "resource.id") base.U16
+common = delta (codes "id") id
+    ∷ delta (codes "resource.id") id
     ∷ dictionary (codes "resource.schema_url") base.Utf8
     ∷ plain (codes "resource.dropped_attributes_count") base.U32
-    ∷ delta (codes "scope.id") base.U16
+    ∷ delta (codes "scope.id") id
     ∷ dictionary (codes "scope.name") base.Utf8
     ∷ dictionary (codes "scope.version") base.Utf8
     ∷ plain (codes "scope.dropped_attributes_count") base.U32
@@ -62,7 +76,8 @@ logs = common ++ (plain (codes "time_unix_nano") base.Timestamp
     ∷ plain (codes "body.bytes") base.Binary
     ∷ plain (codes "body.ser") base.Binary
     ∷ plain (codes "dropped_attributes_count") base.U32
-    ∷ plain (codes "flags") base.U32 ∷ [])
+    ∷ plain (codes "flags") base.U32
+    ∷ dictionary (codes "event_name") base.Utf8 ∷ [])
 
 -- spans
 unfoldable pub spans : List ColumnSpec
@@ -104,36 +119,57 @@ attributes parent = run (codes "parent_id") parent
 
 -- events of spans
 unfoldable pub span_events : List ColumnSpec
-span_events = delta (codes "id") base.U32
-    ∷ run (codes "parent_id") base.U16
+span_events = delta (codes "id") wide_id
+    ∷ run (codes "parent_id") id
     ∷ plain (codes "time_unix_nano") base.Timestamp
     ∷ dictionary (codes "name") base.Utf8
     ∷ plain (codes "dropped_attributes_count") base.U32 ∷ []
 
 -- links of spans
 unfoldable pub span_links : List ColumnSpec
-span_links = delta (codes "id") base.U32
-    ∷ run (codes "parent_id") base.U16
+span_links = delta (codes "id") wide_id
+    ∷ run (codes "parent_id") id
     ∷ plain (codes "trace_id") base.Fixed16
     ∷ plain (codes "span_id") base.Fixed8
     ∷ dictionary (codes "trace_state") base.Utf8
     ∷ plain (codes "dropped_attributes_count") base.U32
     ∷ plain (codes "flags") base.U32 ∷ []
 
+-- the columns at the front of each table of points: the point's own id, its metric and its times
+abbrev pub points : List ColumnSpec
+points = delta (codes "id") wide_id
+    ∷ delta (codes "parent_id") id
+    ∷ plain (codes "start_time_unix_nano") base.Timestamp
+    ∷ plain (codes "time_unix_nano") base.Timestamp ∷ []
+
 -- points of gauges and sums
 unfoldable pub number_points : List ColumnSpec
-number_points = delta (codes "id") base.U32
-    ∷ delta (codes "parent_id") base.U16
-    ∷ plain (codes "start_time_unix_nano") base.Timestamp
-    ∷ plain (codes "time_unix_nano") base.Timestamp
-    ∷ plain (codes "int_value") base.I64
+number_points = points ++ (plain (codes "int_value") base.I64
     ∷ plain (codes "double_value") base.Double
-    ∷ plain (codes "flags") base.U32 ∷ []
+    ∷ plain (codes "flags") base.U32 ∷ [])
 
--- exemplars of these points
-unfoldable pub number_exemplars : List ColumnSpec
-number_exemplars = delta (codes "id") base.U32
-    ∷ delta (codes "parent_id") base.U32
+-- points of summaries
+unfoldable pub summary_points : List ColumnSpec
+summary_points = points ++ (plain (codes "count") base.U64
+    ∷ plain (codes "sum") base.Double
+    ∷ plain (codes "quantiles") base.ListF64
+    ∷ plain (codes "quantile_values") base.ListF64
+    ∷ plain (codes "flags") base.U32 ∷ [])
+
+-- points of histograms
+unfoldable pub hist_points : List ColumnSpec
+hist_points = points ++ (plain (codes "count") base.U64
+    ∷ plain (codes "bucket_counts") base.ListU64
+    ∷ plain (codes "explicit_bounds") base.ListF64
+    ∷ plain (codes "sum") base.Double
+    ∷ plain (codes "flags") base.U32
+    ∷ plain (codes "min") base.Double
+    ∷ plain (codes "max") base.Double ∷ [])
+
+-- exemplars of numbers and of histograms
+unfoldable pub exemplars : List ColumnSpec
+exemplars = delta (codes "id") wide_id
+    ∷ delta (codes "parent_id") wide_id
     ∷ plain (codes "time_unix_nano") base.Timestamp
     ∷ plain (codes "int_value") base.I64
     ∷ plain (codes "double_value") base.Double
@@ -142,41 +178,64 @@ number_exemplars = delta (codes "id") base.U32
 
 -- attributes of resources, scopes, log records and spans
 unfoldable pub attrs : List ColumnSpec
-attrs = attributes base.U16
+attrs = attributes id
 
 -- attributes of points, exemplars, events and links
 unfoldable pub deep_attrs : List ColumnSpec
-deep_attrs = attributes base.U32
+deep_attrs = attributes wide_id
 
 -- the columns of each kind's tables, in their order
 abbrev pub columns_of : Kind → List ColumnSpec
-columns_of ResourceAttrs = attrs
-columns_of ScopeAttrs = attrs
-columns_of Metrics = metrics
-columns_of NumberPoints = number_points
-columns_of NumberPointAttrs = deep_attrs
-columns_of NumberExemplars = number_exemplars
-columns_of NumberExemplarAttrs = deep_attrs
-columns_of Logs = logs
-columns_of LogAttrs = attrs
-columns_of Spans = spans
-columns_of SpanAttrs = attrs
-columns_of SpanEvents = span_events
-columns_of SpanLinks = span_links
-columns_of EventAttrs = deep_attrs
-columns_of LinkAttrs = deep_attrs
+columns_of table.ResourceAttrs = attrs
+columns_of table.ScopeAttrs = attrs
+columns_of table.Metrics = metrics
+columns_of table.NumberPoints = number_points
+columns_of table.SummaryPoints = summary_points
+columns_of table.HistPoints = hist_points
+columns_of table.NumberPointAttrs = deep_attrs
+columns_of table.SummaryPointAttrs = deep_attrs
+columns_of table.HistPointAttrs = deep_attrs
+columns_of table.NumberExemplars = exemplars
+columns_of table.HistExemplars = exemplars
+columns_of table.NumberExemplarAttrs = deep_attrs
+columns_of table.HistExemplarAttrs = deep_attrs
+columns_of table.Logs = logs
+columns_of table.LogAttrs = attrs
+columns_of table.Spans = spans
+columns_of table.SpanAttrs = attrs
+columns_of table.SpanEvents = span_events
+columns_of table.SpanLinks = span_links
+columns_of table.EventAttrs = deep_attrs
+columns_of table.LinkAttrs = deep_attrs
 
 -- how many columns a kind has
 abbrev pub width_of : Kind → ℕ
 width_of kind = length (columns_of kind)
 
--- what the cells of a column hold
-abbrev pub base_at : Kind → ℕ → Base
-base_at kind column = (slice_index_or (columns_of kind) column (plain [] base.Binary)).base
+-- a column of a kind
+abbrev pub column_at : Kind → ℕ → ColumnSpec
+column_at kind column = slice_index_or (columns_of kind) column (plain [] base.Binary)
 
--- the dotted name of a column
+-- its dotted name, what its cells hold, how its ids are stored where a schema names no other way
 abbrev pub name_at : Kind → ℕ → List ℕ
-name_at kind column = (slice_index_or (columns_of kind) column (plain [] base.Binary)).name
+name_at kind column = (column_at kind column).name
+
+abbrev pub base_at : Kind → ℕ → Base
+base_at kind column = (column_at kind column).base
+
+abbrev pub coding_at : Kind → ℕ → Coding
+coding_at kind column = (column_at kind column).coding
+
+-- its cells are the numbers of rows
+abbrev pub is_id_at : Kind → ℕ → Bool
+is_id_at kind column = is_id (base_at kind column)
+
+-- ids may be stored plainly and by distances, and in runs where the profile itself stores them in runs: at the parents of
+-- attributes, events and links
+abbrev pub allows : ColumnSpec → Coding → Bool
+allows c coding.Plain = is_id c.base
+allows c coding.Delta = is_id c.base
+allows c coding.Run = is_run c.coding
 
 -- a name that holds a dot
 abbrev pub has_dot : List ℕ → Bool

@@ -1,9 +1,10 @@
 pub mod Bases
 pub mod Cells
+pub mod ColumnIds
 pub mod Columns
+pub mod Ids
 pub mod Kept
 pub mod Payload
-pub mod Places
 pub mod Sets
 pub mod Tables
 pub mod Weights

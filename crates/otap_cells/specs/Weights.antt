@@ -1,7 +1,11 @@
--- Row weights: 32 for each row, and the bytes of each text, binary and fixed cell that isn't null.
-use Rattle.std.specs.Prelude.{ℕ, ◌+◌, List, length, sum_by}
+-- Row weights: 32 for each row, and the bytes of each text, binary, fixed and list cell that isn't null.
+use Rattle.std.specs.Prelude.{ℕ, ◌+◌, ◌^◌, List, length, sum_by}
 use Rattle.otap_cells.specs.Cells.{Cell, bytes_in}
 use Rattle.otap_cells.specs.Tables.{Table}
+
+-- how much the tables of a batch may weigh
+abbrev pub row_weight_limit : ℕ
+row_weight_limit = 2 ^ 26
 
 abbrev pub cell_weight : Cell → ℕ
 cell_weight cell = length (bytes_in cell)

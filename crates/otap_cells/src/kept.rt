@@ -47,7 +47,7 @@ impl Cells {
         }
     }
 
-    // The cell of a row, null behind the last one.
+    // The cell of a row, null past the last one.
     pub fn get(&self, row: usize) -> CellView<'_>
         ensures { seen result ≡ slice_index_or self.now row null }
     {
@@ -63,7 +63,7 @@ impl Cells {
         }
     }
 
-    // Writes the cell of a row that no cell stands behind. The bytes of a cell that stood there keep their room.
+    // Writes the cell of a row after which no cell stands. The bytes of a cell that stood there keep their room.
     pub fn set(&mut self, row: usize, cell: CellView<'_>) -> Result<(), AllocError>
         requires last { length self.old ≤ row + 1 }
         requires room { row + 1 < 2 ^ 64 }
@@ -77,7 +77,7 @@ impl Cells {
     }
 }
 
-// The slot of a cell, whose bytes come behind those that are kept.
+// The slot of a cell, whose bytes come after those that are kept.
 fn keep(kept: &mut Vec<u8>, cell: CellView<'_>) -> Result<Slot, AllocError>
     ensures ok { OnOk result (kept.new.items ≡ kept.old.items ++ bytes_in (seen cell.entry)) }
     ensures err { OnErr result (kept.new.items ≡ kept.old.items) }

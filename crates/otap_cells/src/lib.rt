@@ -1,12 +1,13 @@
 //! The tables of a batch: which payload types a signal has, which columns a table has, and what its cells hold.
 #![tactic(auto)]
 
+mod column_ids;
+mod ids;
 mod kept;
 mod laws;
 mod logical;
 mod paths;
 mod payload;
-pub mod place;
 mod profile;
 mod rows;
 mod sets;
@@ -15,14 +16,17 @@ mod tests;
 mod view;
 mod weight;
 
+pub use column_ids::{IdsRefusal, ids_of};
+pub use ids::{IdFault, delta_ids, has_twice, run_ids, undo_delta, undo_run};
 pub use laws::{
-    columns_give_the_table, names_tell_columns_apart, numbers_tell_kinds_apart, places_are_named,
+    names_tell_columns_apart, numbers_stand_for_one_list, numbers_tell_kinds_apart,
+    the_row_weight_is_limited,
 };
 pub use logical::LogicalTable;
 pub use paths::column_of;
 pub use payload::{Kind, kinds, main_of, table_of};
-pub use profile::{Base, Coding, Column, base_of, columns};
+pub use profile::{Base, Coding, Column, base_of, coding_of, columns};
 pub use rows::Rows;
 pub use sets::TableSet;
-pub use view::{CellView, same_cell};
+pub use view::CellView;
 pub use weight::{MAX_ROW_WEIGHT, row_weight};

@@ -2,17 +2,18 @@ ghost use Rattle.std.specs.Prelude.{◌≡◌, ◌++◌, ◌∷◌, [], ◌<◌,
 ghost use Rattle.std.specs.List.{slice_index_or};
 ghost use Rattle.otap_cells.specs.Cells.{Cell, seen, null, IsCellOf};
 ghost use Rattle.otap_cells.specs.Columns.{columns_of, base_at, width_of};
-ghost use Rattle.otap_cells.specs.Tables.{Table, IsTable, IsRow, cell_in, null_row, with_cell};
+ghost use Rattle.otap_cells.specs.Tables.{IsRow, null_row, profile_table, with_cell};
 
 use crate::kept::Cells;
 use crate::payload::Kind;
-use crate::profile::columns;
+use crate::profile::{Coding, coding_of, columns};
 use crate::rows::Rows;
 use crate::view::CellView;
 use std::alloc::{AllocError, Global};
 use std::marker::Model;
 
-/// A table that is built row by row. Contracts see it as its kind and its rows.
+/// A table that is built row by row. Contracts see it as its kind and its rows; its ids are stored as the profile says, in
+/// numbers of 32 bits.
 ///
 /// The cells are kept column by column. A column takes room only up to the last row in which it was set.
 #[derive(Debug, Drop)]
@@ -24,12 +25,12 @@ pub struct LogicalTable {
 }
 
 impl Model for LogicalTable {
-    ghost use Rattle.otap_cells.specs.Tables.{Table, table_by, by_columns};
-    ghost use Rattle.otap_cells.specs.Kept.{IsKept};
+    ghost use Rattle.otap_cells.specs.Tables.{Table};
+    ghost use Rattle.otap_cells.specs.Kept.{IsKept, kept_table};
 
     ghost Value = { Table };
 
-    ghost view = { λ a. table_by a.kind a.rows (by_columns a.columns.items) };
+    ghost view = { λ a. kept_table a.kind a.rows a.columns.items };
 
     ghost invariant = { λ a. IsKept a.kind a.rows a.columns.items };
 }
@@ -38,7 +39,7 @@ impl LogicalTable {
     /// The table of a kind that has no rows.
     #[tactic(auto, unfolding(crate::specs::Tables::table_by))]
     pub fn new(alloc: Global, kind: Kind) -> LogicalTable
-        ensures { result ≡ record { kind = kind; rows = [] } }
+        ensures { result ≡ profile_table kind [] }
     {
         LogicalTable {
             alloc,
@@ -82,7 +83,7 @@ impl LogicalTable {
 
 impl LogicalTable {
     /// Appends a row of these cells, one for each column. After want of memory the former rows stand first; whether a
-    /// row stands behind them isn't told.
+    /// row follows them isn't told.
     pub fn push_cells(&mut self, cells: &[CellView<'_>]) -> Result<(), AllocError>
         requires { IsRow (columns_of self.old.kind) (map seen cells.now) }
         ensures ok { OnOk result (self.new ≡ record self.old { rows = self.old.rows ++ map seen cells.now ∷ [] }) }
@@ -92,31 +93,6 @@ impl LogicalTable {
         self.push_row()?;
         'cells: for column in 0..cells.len() {
             self.set(column as u32, cells[column])?;
-        }
-        Ok(())
-    }
-
-    /// A copy of any rows.
-    pub fn copy_of<R: Rows>(alloc: Global, rows: &R) -> Result<LogicalTable, AllocError>
-        ensures { IfOk result (λ table. table ≡ R.table rows.now) }
-    {
-        let mut table = LogicalTable::new(alloc, rows.kind());
-        'rows: for row in 0..rows.rows() {
-            table.copy_row(rows, row)?;
-        }
-        Ok(table)
-    }
-
-    // Appends a copy of a row.
-    fn copy_row<R: Rows>(&mut self, rows: &R, row: u64) -> Result<(), AllocError>
-        requires kind { self.old.kind ≡ (R.table rows.now).kind }
-        requires sound { IsTable (R.table rows.now) }
-        requires row { row < length (R.table rows.now).rows }
-        ensures ok { OnOk result (self.new ≡ record self.old { rows = self.old.rows ++ slice_index_or (R.table rows.now).rows row [] ∷ [] }) }
-    {
-        self.push_row()?;
-        'cells: for column in 0..columns(rows.kind()).len() {
-            self.set(column as u32, rows.cell(column as u32, row))?;
         }
         Ok(())
     }
@@ -136,9 +112,18 @@ impl Rows for LogicalTable {
     fn cell(&self, column: u32, row: u64) -> CellView<'_> {
         self.columns[column as usize].get(row as usize)
     }
+
+    fn coding(&self, column: u32) -> Coding {
+        coding_of(self.kind, column)
+    }
+
+    fn greatest(&self, _column: u32) -> u32 {
+        let _kind = self.kind;
+        u32::MAX
+    }
 }
 
-// Adds columns without cells until there are so many.
+// Adds columns without cells until there is that number of them.
 fn widen(alloc: Global, columns: &mut Vec<Cells>, width: usize) -> Result<(), AllocError>
     requires { length columns.old.items ≤ width }
     ensures ok { OnOk result (length columns.new.items ≡ width) }

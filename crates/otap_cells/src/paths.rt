@@ -49,7 +49,7 @@ fn is_joined(path: &[&[u8]], dotted: &[u8]) -> bool
     }
 }
 
-// What stands behind the name and a dot.
+// What stands after the name and a dot.
 fn behind_dot<'a>(dotted: &'a [u8], name: &[u8]) -> Option<&'a [u8]>
     ensures { MatchOption result ((rest : List ℕ) → dotted.now ≢ name.now ++ 46 ∷ rest) (λ rest. dotted.now ≡ name.now ++ 46 ∷ rest.now) }
 {

@@ -12,10 +12,17 @@ pub enum Kind {
     ScopeAttrs,
     /// The main table of metrics.
     Metrics,
+    /// The points of gauges and sums.
     NumberPoints,
+    SummaryPoints,
+    HistPoints,
     NumberPointAttrs,
+    SummaryPointAttrs,
+    HistPointAttrs,
     NumberExemplars,
+    HistExemplars,
     NumberExemplarAttrs,
+    HistExemplarAttrs,
     /// The main table of logs: the log records.
     Logs,
     LogAttrs,
@@ -38,9 +45,15 @@ impl Kind {
             Kind::ScopeAttrs => 2,
             Kind::Metrics => 10,
             Kind::NumberPoints => 11,
+            Kind::SummaryPoints => 12,
+            Kind::HistPoints => 13,
             Kind::NumberPointAttrs => 15,
+            Kind::SummaryPointAttrs => 16,
+            Kind::HistPointAttrs => 17,
             Kind::NumberExemplars => 19,
+            Kind::HistExemplars => 20,
             Kind::NumberExemplarAttrs => 22,
+            Kind::HistExemplarAttrs => 23,
             Kind::Logs => 30,
             Kind::LogAttrs => 31,
             Kind::Spans => 40,
@@ -71,14 +84,20 @@ static LOGS: [Kind; 4] = [
     Kind::LogAttrs,
 ];
 
-static METRICS: [Kind; 7] = [
+static METRICS: [Kind; 13] = [
     Kind::Metrics,
     Kind::ResourceAttrs,
     Kind::ScopeAttrs,
     Kind::NumberPoints,
+    Kind::SummaryPoints,
+    Kind::HistPoints,
     Kind::NumberPointAttrs,
+    Kind::SummaryPointAttrs,
+    Kind::HistPointAttrs,
     Kind::NumberExemplars,
+    Kind::HistExemplars,
     Kind::NumberExemplarAttrs,
+    Kind::HistExemplarAttrs,
 ];
 
 /// The kinds of a signal: its main table first, then the others by ascending number.

@@ -1,9 +1,10 @@
-ghost use Rattle.std.specs.Prelude.{◌≡◌, ◌<◌, length};
+ghost use Rattle.std.specs.Prelude.{◌≡◌, ◌<◌, true, length};
 ghost use Rattle.otap_cells.specs.Cells.{seen, IsCellOf};
-ghost use Rattle.otap_cells.specs.Columns.{base_at, width_of};
-ghost use Rattle.otap_cells.specs.Tables.{Table, IsTable, cell_in};
+ghost use Rattle.otap_cells.specs.Columns.{base_at, is_id_at, width_of};
+ghost use Rattle.otap_cells.specs.Tables.{Table, IsTable, cell_in, coding_in, greatest_in};
 
 use crate::payload::Kind;
+use crate::profile::Coding;
 use crate::view::CellView;
 
 /// The rows of a table, wherever they are kept.
@@ -26,4 +27,14 @@ pub trait Rows {
         requires row { row < length (table self.now).rows }
         ensures value { seen result ≡ cell_in (table self.now).rows column row }
         ensures fits { IsCellOf (base_at (table self.now).kind column) (seen result) };
+
+    /// How the ids of a column are stored: in a way that the column allows.
+    fn coding(&self, column: u32) -> Coding
+        requires { is_id_at (table self.now).kind column ≡ true }
+        ensures { result ≡ coding_in (table self.now) column };
+
+    /// The greatest number that a column of ids may hold. No number that is stored in it is greater, and no id.
+    fn greatest(&self, column: u32) -> u32
+        requires { is_id_at (table self.now).kind column ≡ true }
+        ensures { result ≡ greatest_in (table self.now) column };
 }

@@ -9,17 +9,15 @@ use Rattle.otap_cells.proofs.Rowwise.{fill_begins, fill_goes_on, fill_ends, leng
 use Rattle.otap_cells.proofs.logical.LogicalTable.push_cells.Goals as goal
 
 pub cells-init : goal.cells-init
-cells-init c =
-    let start = fill_begins _ _ _ c.in_ok-push_row.ensures.ok (length-IsRow _ _ c.requires) in record { kind = start.0; rows = start.1 }
+cells-init c = fill_begins _ _ _ c.in_ok-push_row.ensures.ok (length-IsRow _ _ c.requires)
 
 pub cells-preserved : goal.cells-preserved
 cells-preserved c =
     let within : c.cells.column < length (map seen c.args.cells.now) = omega (arith, length-map c.args.cells.now seen) in
-    let next = fill_goes_on _ _ _ _ _ _ _ c.cells.invariant.kind c.cells.invariant.rows within (sym (get_or-map seen c.args.cells.now c.cells.column Null)) c.in_ok-set.ensures.ok in
-    record { kind = next.0; rows = next.1 }
+    fill_goes_on c.args.self.now _ _ _ _ _ _ c.cells.invariant within (sym (get_or-map seen c.args.cells.now c.cells.column Null)) c.in_ok-set.ensures.ok
 
 pub returns-clause-ok : goal.returns-clause-ok
-returns-clause-ok c = fill_ends _ _ _ _ c.cells.column c.cells.invariant.kind c.cells.invariant.rows (omega (arith, length-map c.args.cells.now seen))
+returns-clause-ok c = fill_ends c.args.self.now _ _ _ c.cells.column c.cells.invariant (omega (arith, length-map c.args.cells.now seen))
 
 pub overflow_cast-column : goal.overflow_cast-column
 overflow_cast-column c =
@@ -27,9 +25,9 @@ overflow_cast-column c =
 
 pub set-requires-clause-column : goal.set-requires-clause-column
 set-requires-clause-column c =
-    omega (arith, length-map c.args.cells.now seen, length-IsRow (columns_of c.args.self.now.kind) (map seen c.args.cells.now) c.requires, ap width_of c.cells.invariant.kind)
+    omega (arith, length-map c.args.cells.now seen, length-IsRow (columns_of c.args.self.now.kind) (map seen c.args.cells.now) c.requires, ap (λ t. width_of t.kind) c.cells.invariant)
 
 pub set-requires-clause-base : goal.set-requires-clause-base
 set-requires-clause-base c =
-    rw (c.cells.invariant.kind, ← get_or-map seen c.args.cells.now c.cells.column Null)
+    rw (ap (λ t. t.kind) c.cells.invariant, ← get_or-map seen c.args.cells.now c.cells.column Null)
     (IsRow-at (columns_of c.args.self.now.kind) (map seen c.args.cells.now) c.cells.column _ c.requires)

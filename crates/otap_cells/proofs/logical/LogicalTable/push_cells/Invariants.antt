@@ -4,7 +4,4 @@ use Rattle.otap_cells.proofs.Rowwise.{filled}
 use Rattle.otap_cells.proofs.logical.LogicalTable.push_cells.Given as goal
 
 abbrev pub invariant-cells : goal.invariant-cells
-invariant-cells l = record {
-  kind : l.self.kind ≡ l.fn.self.kind;
-  rows : l.self.rows ≡ l.fn.self.rows ++ filled (map seen l.cells) l.column ∷ [];
-}
+invariant-cells l = l.self ≡ record l.fn.self { rows = l.fn.self.rows ++ filled (map seen l.cells) l.column ∷ [] }

@@ -26,7 +26,7 @@ returns-clause-ok c =
     c.index_mut.ensures.value c.in_ok-set.ensures.ok
 
 pub returns-clause-kind : goal.returns-clause-kind
-returns-clause-kind c = kind-table_by _ _ _ ∙ same_kind _ _ _ _ c.self.view_is
+returns-clause-kind c = kind-table_by _ _ _ _ _ ∙ same_kind _ _ _ _ c.self.view_is
 
 pub returns-clause-count : goal.returns-clause-count
-returns-clause-count c = count-table_by _ _ _ ∙ same_count _ _ _ _ c.self.view_is
+returns-clause-count c = count-table_by _ _ _ _ _ ∙ same_count _ _ _ _ c.self.view_is

@@ -1,0 +1,106 @@
+//! The ids of a table's columns.
+ghost use Rattle.std.specs.Prelude.{◌≡◌, ◌<◌, ◌↔◌, true, length, codes, Contains, None, IfErr, IfOk, OnOk};
+ghost use Rattle.otap_cells.specs.declared.column_ids.IdsRefusal.TheVariants.{Memory};
+ghost use Rattle.otap_cells.specs.declared.profile.Base.TheVariants as base;
+ghost use Rattle.otap_cells.specs.Cells.{seen, IsCellOf};
+ghost use Rattle.otap_cells.specs.Columns.{base_at, is_id_at, name_at, width_of};
+ghost use Rattle.otap_cells.specs.ColumnIds.{HasNullParent, IdsOf, RefusesIds, id_in, stored_in};
+
+use crate::ids::{IdFault, undo};
+use crate::payload::Kind;
+use crate::profile::columns;
+use crate::rows::Rows;
+use crate::view::CellView;
+use std::alloc::{AllocError, Global};
+use thiserror::Error;
+
+/// Why the ids of a column aren't given.
+#[derive(Debug, Drop, Error)]
+pub enum IdsRefusal {
+    #[error("{0}")]
+    Ids(IdFault),
+    #[error("out of memory")]
+    Memory(AllocError),
+}
+
+impl From<AllocError> for IdsRefusal {
+    ghost from_gives = { λ error refusal. refusal ≡ Memory error };
+
+    fn from(error: AllocError) -> IdsRefusal {
+        IdsRefusal::Memory(error)
+    }
+}
+
+/// The ids of a column, by its coding and its greatest number. `continues` tells of each row whether it continues the run of
+/// the one before, at which only runs look. Refuses with `NullParent` where the column is `parent_id` and a cell is null, and
+/// else with `PastType` where an id would be above the greatest number.
+pub fn ids_of<R: Rows>(
+    alloc: Global,
+    rows: &R,
+    column: u32,
+    continues: &[bool],
+) -> Result<Vec<Option<u32>>, IdsRefusal>
+    requires id { is_id_at (R.table rows.now).kind column ≡ true }
+    requires long { length continues.now ≡ length (R.table rows.now).rows }
+    ensures ids { IfOk result (λ ids. IdsOf (R.table rows.now) column continues.now ids.items) }
+    ensures parents { OnOk result (HasNullParent (R.table rows.now) column → ⊥) }
+    ensures refused { IfErr result (RefusesIds (R.table rows.now) column continues.now) }
+{
+    let mut ids = stored(alloc, rows, column)?;
+    if lacks_parent(rows.kind(), column, &ids) {
+        return Err(IdsRefusal::Ids(IdFault::NullParent));
+    }
+    if undo(
+        rows.coding(column),
+        &mut ids,
+        continues,
+        rows.greatest(column),
+    ) {
+        Ok(ids)
+    } else {
+        Err(IdsRefusal::Ids(IdFault::PastType))
+    }
+}
+
+// The numbers that a column stores.
+fn stored<R: Rows>(alloc: Global, rows: &R, column: u32) -> Result<Vec<Option<u32>>, AllocError>
+    requires { is_id_at (R.table rows.now).kind column ≡ true }
+    ensures { IfOk result (λ found. found.items ≡ stored_in (R.table rows.now) column) }
+{
+    let mut found = Vec::new(alloc);
+    'rows: for row in 0..rows.rows() {
+        found.push(id_in(rows.cell(column, row)))?;
+    }
+    Ok(found)
+}
+
+fn id_in(cell: CellView<'_>) -> Option<u32>
+    requires { IsCellOf (base.Id true) (seen cell) }
+    ensures { result ≡ id_in (seen cell.entry) }
+{
+    match cell {
+        CellView::Num(number) => Some(number as u32),
+        CellView::Null | CellView::Bits(_) | CellView::Flag(_) | CellView::Bytes(_) => None,
+    }
+}
+
+// Whether a parent is null among the numbers of the column.
+fn lacks_parent(kind: Kind, column: u32, numbers: &[Option<u32>]) -> bool
+    requires { column < width_of kind }
+    ensures { (result ≡ true) ↔ (name_at kind column ≡ codes "parent_id") × Contains numbers.now None }
+{
+    is_parent(kind, column) && has_null(numbers)
+}
+
+fn is_parent(kind: Kind, column: u32) -> bool
+    requires { column < width_of kind }
+    ensures { (result ≡ true) ↔ (name_at kind column ≡ codes "parent_id") }
+{
+    columns(kind)[column as usize].name == "parent_id"
+}
+
+fn has_null(ids: &[Option<u32>]) -> bool
+    ensures { (result ≡ true) ↔ Contains ids.now None }
+{
+    ids.contains(&None)
+}
