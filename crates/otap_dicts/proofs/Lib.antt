@@ -1,0 +1,4 @@
+pub mod Keyed
+pub mod Larger
+pub mod Observing
+pub mod Once

@@ -1,0 +1,30 @@
+use Rattle.std.proofs.Common.{◌≡◌, ◌++◌, ◌∷◌, [], length, map, true≢false, bytes_eq, sym, ap, ◌∙◌, length-append, arith}
+use Rattle.std.specs.List.{list_any}
+use Rattle.std.proofs.lemmas.List.Sums.{sum_by_push}
+use Rattle.otap_dicts.specs.Forms.{bytes_of}
+use Rattle.otap_dicts.specs.Ladders.{LadderIn}
+use Rattle.otap_dicts.specs.Inside.{ladder_in}
+use Rattle.otap_dicts.proofs.Keyed.{inserted, in-form}
+use Rattle.otap_dicts.proofs.ladder.Ladder.insert.Goals as goal
+
+keys : (c : goal.After-self-1) → map (λ v. v.items) c.insert.new.self.keys ≡ (ladder_in c.self.inside).values ++ c.args.value.now ∷ []
+keys c =
+    inserted (λ v. v.items) c.self.inside.values.keys c.insert.new.self.keys c.in_ok-key.key c.args.value.now c.in_ok-key.ensures.items
+    (ap (λ (l : LadderIn). list_any (bytes_eq c.args.value.now) l.values) c.self.view_is ∙ c.requires.new) c.in_ok-insert.ensures.keys
+
+pub returns-clause-ok : goal.returns-clause-ok
+returns-clause-ok c =
+    rw (← c.self.view_is) (in-form (ladder_in c.self.inside) c.args.form c.args.value.now (map (λ v. v.items) c.insert.new.self.keys) c.requires.dictionary (keys c))
+
+pub invariant_of-self-2 : goal.invariant_of-self-2
+invariant_of-self-2 c =
+    let old = (ladder_in c.self.inside).values in
+    let more = ap bytes_of (keys c) ∙ sum_by_push length old c.args.value.now in
+    let one_more = ap length (keys c) ∙ length-append old (c.args.value.now ∷ []) in
+    record {
+      counted = omega (arith, c.self.invariant.counted, more);
+      small = omega (arith, c.self.invariant.counted, ap (λ (l : LadderIn). bytes_of l.values) c.self.view_is, c.requires.small);
+      few = omega (arith, one_more, ap (λ (l : LadderIn). length l.values) c.self.view_is, c.requires.few);
+      marked = λ not_marked. absurd (true≢false (sym (ap (λ (l : LadderIn). l.dictionary) c.self.view_is ∙ c.requires.marked) ∙ not_marked));
+      none = λ not_dictionary. absurd (true≢false (sym c.requires.dictionary ∙ not_dictionary));
+    }

@@ -1,0 +1,15 @@
+-- What a ladder keeps.
+use Rattle.std.specs.Prelude.{◌≡◌, ◌≤◌, false, [], length, map}
+use Rattle.otap_dicts.specs.declared.ladder.Ladder.TheInside as ladder
+use Rattle.otap_dicts.specs.Forms.{bytes_of}
+use Rattle.otap_dicts.specs.Ladders.{LadderIn, is_dictionary}
+
+abbrev pub ladder_in : ladder.Inside → LadderIn
+ladder_in l = record { dictionary = l.dictionary; form = l.form; values = map (λ v. v.items) l.values.keys }
+
+pub record IsLadderInside (l : ladder.Inside) : Type 0 where
+  pub counted : l.bytes ≡ bytes_of (ladder_in l).values
+  pub small : l.bytes ≤ 1048576
+  pub few : length (ladder_in l).values ≤ 65536
+  pub marked : l.dictionary ≡ false → is_dictionary l.form ≡ false
+  pub none : is_dictionary l.form ≡ false → l.values.keys ≡ []

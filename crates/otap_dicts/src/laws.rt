@@ -1,0 +1,17 @@
+//! Laws of the definitions, each a function without a body whose clauses are the law.
+ghost use Rattle.std.specs.Prelude.{◌≡◌, ℕ, Bool, List, ◌∷◌, ◌++◌, [], length, drop, bytes_eq};
+ghost use Rattle.std.specs.List.{list_any, IsDistinct};
+ghost use Rattle.otap_dicts.specs.Forms.{distinct};
+ghost use Rattle.otap_dicts.specs.Ladders.{ladder_of, observed};
+
+/// The distinct values of a list are its values, each once; more values only add to them, at their end.
+pub fn distinct_values()
+    ensures members { (values : List (List ℕ)) (value : List ℕ) → list_any (bytes_eq value) (distinct values) ≡ list_any (bytes_eq value) values }
+    ensures once { (values : List (List ℕ)) → IsDistinct bytes_eq (distinct values) }
+    ensures grows { (values more : List (List ℕ)) → distinct (values ++ more) ≡ distinct values ++ drop (length (distinct values)) (distinct (values ++ more)) }
+{}
+
+/// A ladder that has observed values is a function of their list: each value more takes it to the ladder of the longer list.
+pub fn ladders_follow_values()
+    ensures { (dictionary : Bool) (values : List (List ℕ)) (value : List ℕ) → observed (ladder_of dictionary values) value ≡ ladder_of dictionary (values ++ value ∷ []) }
+{}

@@ -1,0 +1,11 @@
+//! Dictionaries of the exporter: in which form a column is written, and which place each of its values has.
+#![tactic(auto)]
+
+mod form;
+mod ladder;
+pub mod laws;
+#[cfg(test)]
+mod tests;
+
+pub use crate::form::{Form, MAX_BYTES, MAX_NARROW, MAX_VALUES};
+pub use crate::ladder::Ladder;
