@@ -36,7 +36,7 @@ one_more_value batch array old so_far new v row is here more =
     append_assoc old.values cells (v ∷ []) ∙ ap (λ vs. old.values ++ vs) ((λ i. cells ++ here i ∷ []) ∙ sym (map-range_with_len_more (own_cell batch array) 0 row row (omega arith))) in
     more ∙ (λ i. record { id = (is i).id; kind = (is i).kind; values = (is i).values ++ v ∷ [] }) ∙ (λ i. record { id = old.id; kind = old.kind; values = values i })
 
--- how many values there are behind a batch
+-- how many values there are after a batch
 pub grown_len : (values : List (Option (List ℕ))) (kind : ArrowType) (batch : BatchIn) → length (values ++ values_of kind batch) ≡ length values + batch.rows
 unfolding values_of
 grown_len values kind batch =

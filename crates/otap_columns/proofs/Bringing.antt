@@ -1,10 +1,11 @@
 -- What a message that was read brings.
 use Rattle.std.proofs.Common.{ℕ, List, drop}
-use Rattle.arrow_schema.specs.Laws.Found.{schema_found}
+use Rattle.arrow_schema.proofs.Found.{schema_found}
 use Rattle.arrow_ipc.specs.declared.messages.IpcMessage.{IpcMessage}
 use Rattle.arrow_ipc.specs.declared.messages.IpcMessage.TheVariants.{Schema, Dictionary, Rows}
 use Rattle.arrow_ipc.specs.Messages.{IsMessage}
-use Rattle.arrow_ipc.specs.Fronts.{MessagesIn, Advances, rows_in-message}
+use Rattle.arrow_ipc.specs.Fronts.{MessagesIn, Advances}
+use Rattle.arrow_ipc.proofs.Fronting.{rows_in-message}
 use Rattle.otap_columns.specs.Reading.{FindsRows, HasReadableSchema}
 
 -- a record batch is found again

@@ -2,24 +2,26 @@
 use Rattle.std.proofs.Common.{◌≡◌, ℕ, Bool, true, false, ◌||◌, List, [], ◌∷◌, ◌++◌, length, Option, Some, None, refl, sym, ap, ◌∙◌, subst, arith, length-append}
 use Rattle.std.specs.List.{list_any}
 use Rattle.std.proofs.lemmas.Bool.{false≢true}
+use Rattle.histories.specs.EachAfter.{AllAfter}
+use Rattle.histories.proofs.Growing.{all_after-at}
 use Rattle.arrow_schema.specs.declared.spec.FieldSpec.{FieldSpec}
 use Rattle.arrow_ipc.specs.declared.messages.IpcMessage.{IpcMessage}
 use Rattle.arrow_ipc.specs.declared.messages.IpcMessage.TheVariants.{Schema, Dictionary, Rows}
 use Rattle.arrow_ipc.specs.Batches.{BatchIn}
 use Rattle.arrow_ipc.specs.Fronts.{front_of, left_of}
-use Rattle.arrow_ipc.specs.Unique.{stands_some}
+use Rattle.arrow_ipc.proofs.Unique.{stands_some}
 use Rattle.arrow_arrays.specs.Arrays.{arrays_of}
 use Rattle.otap_cells.specs.declared.payload.Kind.{Kind}
 use Rattle.otap_columns.specs.declared.refusal.ColumnRefusal.{ColumnRefusal}
 use Rattle.otap_columns.specs.Known.{columns_fit}
-use Rattle.otap_columns.specs.Records.{is_schema, is_rows, AllAfter, Stands, begins_otherwise, schema_later, behind_rows, no_rows, unknown_id, ends_badly, other_type, bad_buffers, bad_index, too_many_values, IsFineBatch, IsFineIn, IsFine, IsRead}
+use Rattle.otap_columns.specs.Records.{is_schema, is_rows, Stands, begins_otherwise, schema_later, behind_rows, no_rows, unknown_id, ends_badly, other_type, bad_buffers, bad_index, too_many_values, IsFineBatch, IsFineIn, IsFine, IsRead}
 use Rattle.otap_columns.specs.Substreams.{SubstreamIn, substream_in, indexes_fit}
 use Rattle.otap_columns.proofs.Giving.{any_here}
 use Rattle.otap_columns.proofs.Growing.{substream-none}
-use Rattle.otap_columns.proofs.Judging.{all_after-at, fine_as, fine_buffers}
+use Rattle.otap_columns.proofs.Judging.{fine_as, fine_buffers}
 
 -- no record batch stands before the last one
-or_parts : (b c : Bool) → (b || c) ≡ false → (b ≡ false) × (c ≡ false)
+pub or_parts : (b c : Bool) → (b || c) ≡ false → (b ≡ false) × (c ≡ false)
 or_parts true c h = absurd (false≢true (sym h))
 or_parts false c h = (refl, h)
 
@@ -43,7 +45,7 @@ is_last (m ∷ a) batch (n ∷ b) other after only same =
     is_last a batch b other after (or_parts (is_rows m) (list_any is_rows a) only).1 rest
 
 -- what a fine message isn't
-not_first : (kind : Kind) (m : IpcMessage) → IsFine kind [] m → is_schema m ≡ true
+pub not_first : (kind : Kind) (m : IpcMessage) → IsFine kind [] m → is_schema m ≡ true
 not_first kind m fine = by_message m (subst (λ (o : Option SubstreamIn). IsFineIn kind [] o m) substream-none fine)
   where
     by_message : (m : IpcMessage) → IsFineIn kind [] None m → is_schema m ≡ true
@@ -81,7 +83,7 @@ module _ (kind : Kind) (past : List IpcMessage) (bytes : List ℕ) (q : IsRead k
   never_both refusal (no_rows ends none) =
       false≢true (sym none ∙ ap (list_any is_rows) q.messages ∙ any_here is_rows q.before (Rows q.batch) [] refl)
   never_both refusal (unknown_id before after id delta batch s at stands unknown) =
-      let f : IsFineBatch s id delta batch = fine_as kind (past ++ before) (Dictionary id delta batch) s stands (fine_at before after (Dictionary id delta batch) at) in
+      let f : IsFineBatch id delta batch s.dictionaries = fine_as kind (past ++ before) (Dictionary id delta batch) s stands (fine_at before after (Dictionary id delta batch) at) in
       false≢true (sym unknown ∙ f.known)
   never_both refusal (ends_badly fault stands) = stands_some (left_of bytes) fault stands q.ends
   never_both refusal (other_type before after fields at other) =
@@ -93,5 +95,5 @@ module _ (kind : Kind) (past : List IpcMessage) (bytes : List ℕ) (q : IsRead k
       let is : s ≡ q.after = cc in
       false≢true (sym bad ∙ (λ i. indexes_fit (is i) (l.same i)) ∙ q.indexes)
   never_both refusal (too_many_values before after id delta batch s at stands many) =
-      let f : IsFineBatch s id delta batch = fine_as kind (past ++ before) (Dictionary id delta batch) s stands (fine_at before after (Dictionary id delta batch) at) in
+      let f : IsFineBatch id delta batch s.dictionaries = fine_as kind (past ++ before) (Dictionary id delta batch) s stands (fine_at before after (Dictionary id delta batch) at) in
       false≢true (sym f.few ∙ many)

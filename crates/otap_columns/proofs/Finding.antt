@@ -9,7 +9,7 @@ use Rattle.arrow_arrays.specs.declared.spec.ArraySpec.{ArraySpec}
 use Rattle.arrow_arrays.specs.Arrays.{path_of}
 use Rattle.otap_cells.specs.declared.payload.Kind.{Kind}
 use Rattle.otap_cells.specs.Columns.{ColumnSpec, columns_of, width_of, has_dot}
-use Rattle.otap_columns.specs.Known.{column_at, known_columns}
+use Rattle.otap_columns.specs.Known.{known_column, known_columns}
 
 -- a place that is found is one of the list, and passes
 pub record Found {X : Type 0} (p : X → Bool) (from : ℕ) (xs : List X) (place : ℕ) : Type 0 where
@@ -36,8 +36,8 @@ found {X} p from (x ∷ xs) place is = by_test (cases_Bool (p x)) (found p (from
         passes f (suc i) d at = f.passes i d (omega arith)
 
 -- a column that is found is one of the kind's
-pub column_at-below : (kind : Kind) (arrays : List ArraySpec) (place column : ℕ) → column_at kind arrays place ≡ Some column → column < width_of kind
-column_at-below kind arrays place column is = by_test (list_any has_dot (path_of arrays place)) refl
+pub known_column-below : (kind : Kind) (arrays : List ArraySpec) (place column : ℕ) → known_column kind arrays place ≡ Some column → column < width_of kind
+known_column-below kind arrays place column is = by_test (list_any has_dot (path_of arrays place)) refl
   where
     named : ColumnSpec → Bool
     named c = bytes_eq (join_with_byte 46 (path_of arrays place)) c.name
@@ -54,12 +54,12 @@ column_at-below kind arrays place column is = by_test (list_any has_dot (path_of
 -- the columns of the arrays
 pub known_len : (kind : Kind) (arrays : List ArraySpec) (known : List (Option ℕ)) → known ≡ known_columns kind arrays → length known ≡ length arrays
 unfolding known_columns
-known_len kind arrays known is = ap length is ∙ length-map-range_with_len (column_at kind arrays) 0 (length arrays)
+known_len kind arrays known is = ap length is ∙ length-map-range_with_len (known_column kind arrays) 0 (length arrays)
 
-pub known_at : (kind : Kind) (arrays : List ArraySpec) (known : List (Option ℕ)) → known ≡ known_columns kind arrays → (place : ℕ) → place < length arrays → get_or known place None ≡ column_at kind arrays place
+pub known_at : (kind : Kind) (arrays : List ArraySpec) (known : List (Option ℕ)) → known ≡ known_columns kind arrays → (place : ℕ) → place < length arrays → get_or known place None ≡ known_column kind arrays place
 unfolding known_columns
 known_at kind arrays known is place below =
-    ap (λ (k : List (Option ℕ)). get_or k place None) is ∙ get_or-map-range_with_len (column_at kind arrays) 0 (length arrays) place place None below (omega arith)
+    ap (λ (k : List (Option ℕ)). get_or k place None) is ∙ get_or-map-range_with_len (known_column kind arrays) 0 (length arrays) place place None below (omega arith)
 
 -- a test of one more place
 pub all_below-one_more : (test : ℕ → Bool) (n : ℕ) → all_below test n ≡ true → test n ≡ true → all_below test (n + 1) ≡ true

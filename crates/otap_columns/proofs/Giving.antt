@@ -12,7 +12,7 @@ use Rattle.otap_columns.specs.Dictionaries.{DictionaryIn, grown_if, all_grown, i
 use Rattle.otap_columns.specs.Records.{is_fine_for}
 use Rattle.otap_columns.specs.Steps.{RefusesIf, RefusesBatch}
 
--- the element behind a front, and what is written there
+-- the element after a front, and what is written there
 pub get_here : {A : Type 0} (front : List A) (x : A) (rest : List A) (place : ℕ) (d : A) → length front ≡ place → get_or (front ++ x ∷ rest) place d ≡ x
 get_here [] x rest zero d at = refl
 get_here [] x rest (suc place) d at = absurd (omega (arith, at))

@@ -74,7 +74,7 @@ dictionaries_in-rows arrays batch ms = filled-rows batch ms (empty_dictionaries 
 
 -- ---- the schema stays
 
-schema_in-stays : (ms ns : List IpcMessage) (fields : List FieldSpec) → schema_in ms ≡ Some fields → schema_in (ms ++ ns) ≡ Some fields
+pub schema_in-stays : (ms ns : List IpcMessage) (fields : List FieldSpec) → schema_in ms ≡ Some fields → schema_in (ms ++ ns) ≡ Some fields
 schema_in-stays [] ns fields h = absurd (cc)
 schema_in-stays (Schema f ∷ ms) ns fields h = h
 schema_in-stays (Dictionary id delta batch ∷ ms) ns fields h = schema_in-stays ms ns fields h

@@ -5,6 +5,10 @@ use Rattle.std.specs.List.{list_any, list_all, flat_map}
 use Rattle.std.proofs.lemmas.Bool.{false≢true, and_parts}
 use Rattle.std.proofs.lemmas.List.Folds.{list_any-append}
 use Rattle.std.proofs.lemmas.Grind.{flat_map-append}
+use Rattle.histories.specs.EachAfter.{AllAfter}
+use Rattle.histories.specs.Since.{last_after}
+use Rattle.histories.proofs.Growing.{all_after-append, all_after-weaker}
+use Rattle.histories.proofs.Latest.{last_after-push}
 use Rattle.arrow_schema.specs.declared.spec.FieldSpec.{FieldSpec}
 use Rattle.arrow_buffers.specs.declared.fault.BufferFault.{BufferFault}
 use Rattle.arrow_ipc.specs.declared.messages.IpcMessage.{IpcMessage}
@@ -12,34 +16,17 @@ use Rattle.arrow_ipc.specs.declared.messages.IpcMessage.TheVariants.{Schema, Dic
 use Rattle.arrow_ipc.specs.Batches.{BatchIn}
 use Rattle.arrow_ipc.specs.Fronts.{MessagesIn, front_of, left_of, rest_of, rows_in}
 use Rattle.arrow_arrays.specs.Arrays.{arrays_of, arrays_check}
-use Rattle.arrow_arrays.specs.Laws.{fault_fails}
+use Rattle.arrow_arrays.proofs.Checked.{fault_fails}
 use Rattle.otap_cells.specs.declared.payload.Kind.{Kind}
 use Rattle.otap_columns.specs.declared.refusal.ColumnRefusal.{ColumnRefusal}
 use Rattle.otap_columns.specs.declared.refusal.ColumnRefusal.TheVariants.{Order, Ipc, Column, Buffers, BadIndex, DictionarySize, Memory}
 use Rattle.otap_columns.specs.Dictionaries.{DictionaryIn}
 use Rattle.otap_columns.specs.Known.{columns_fit}
-use Rattle.otap_columns.specs.Records.{is_schema, is_rows, is_fine_for, HasValueFault, AllAfter, HasFineBuffers, begins_otherwise, schema_later, behind_rows, no_rows, unknown_id, ends_badly, other_type, bad_buffers, bad_index, too_many_values, Refuses, IsFineBatch, IsFineIn, IsFine, IsRead}
+use Rattle.otap_columns.specs.Records.{is_schema, is_rows, is_fine_for, HasValueFault, HasFineBuffers, begins_otherwise, schema_later, behind_rows, no_rows, unknown_id, ends_badly, other_type, bad_buffers, bad_index, too_many_values, Refuses, IsFineBatch, IsFineIn, IsFine, IsRead}
 use Rattle.otap_columns.specs.Reading.{TakesBatch, GoneSoFar, TakesRecord, RefusesFirst, RefusesOrder, RefusesEnd, opened, RefusesOpen, with_batch, RefusesFirstBatch, RefusesMessage, TakesAll, FitsRows, RefusesRows, RefusesAtRows, RefusesRecord}
-use Rattle.otap_columns.specs.Steps.{TakesBatchOf}
-use Rattle.otap_columns.specs.Substreams.{SubstreamIn, substream_in, rows_of, last_from, last_rows}
+use Rattle.otap_columns.specs.Substreams.{SubstreamIn, substream_in, rows_of, last_rows}
 use Rattle.otap_columns.specs.Views.{ReaderIn, StandsAt}
 use Rattle.otap_columns.proofs.Growing.{substream-batch, substream-rows, some_messages, substream-opened, substream-none}
-
--- ---- each message after those before it
-
-pub all_after-append : (P : List IpcMessage → IpcMessage → Type 0) (before a b : List IpcMessage) → AllAfter P before a → AllAfter P (before ++ a) b → AllAfter P before (a ++ b)
-all_after-append P before [] b h k = subst (λ (ms : List IpcMessage). AllAfter P ms b) (append-nil before) k
-all_after-append P before (m ∷ a) b h k =
-    (h.0, all_after-append P (before ++ m ∷ []) a b h.1 (subst (λ (ms : List IpcMessage). AllAfter P ms b) (sym (append_assoc before (m ∷ []) a)) k))
-
-pub all_after-at : (P : List IpcMessage → IpcMessage → Type 0) (before a b : List IpcMessage) (m : IpcMessage) → AllAfter P before (a ++ m ∷ b) → P (before ++ a) m
-all_after-at P before [] b m h = subst (λ (ms : List IpcMessage). P ms m) (sym (append-nil before)) h.0
-all_after-at P before (n ∷ a) b m h = subst (λ (ms : List IpcMessage). P ms m) (append_assoc before (n ∷ []) a) (all_after-at P (before ++ n ∷ []) a b m h.1)
-
-pub all_after-weaker : (P Q : List IpcMessage → IpcMessage → Type 0) → ((before : List IpcMessage) (m : IpcMessage) → P before m → Q before m)
-    → (before ms : List IpcMessage) → AllAfter P before ms → AllAfter Q before ms
-all_after-weaker P Q weaker before [] h = tt
-all_after-weaker P Q weaker before (m ∷ ms) h = (weaker before m h.0, all_after-weaker P Q weaker (before ++ m ∷ []) ms h.1)
 
 -- what is fine in a sub-stream that is this one
 pub fine_in : (kind : Kind) (before : List IpcMessage) (m : IpcMessage) (s : SubstreamIn) → substream_in before ≡ Some s → IsFineIn kind before (Some s) m → IsFine kind before m
@@ -53,11 +40,11 @@ fine_as kind before m s h fine = subst (λ (o : Option SubstreamIn). IsFineIn ki
 pub takes_none : (s : SubstreamIn) → TakesAll s [] s
 takes_none s = record { plain = refl; after = λ before h. ap (λ ms. substream_in ms) (append-nil before) ∙ h; each = λ kind before h. tt }
 
-pub takes_batch : (s : SubstreamIn) (id : ℤ) (delta : Bool) (batch : BatchIn) → TakesBatchOf id delta batch s.dictionaries → TakesAll s (Dictionary id delta batch ∷ []) (with_batch id delta batch s)
+pub takes_batch : (s : SubstreamIn) (id : ℤ) (delta : Bool) (batch : BatchIn) → IsFineBatch id delta batch s.dictionaries → TakesAll s (Dictionary id delta batch ∷ []) (with_batch id delta batch s)
 takes_batch s id delta batch fine = record {
   plain = refl;
   after = λ before h. substream-batch before s id delta batch h;
-  each = λ kind before h. (fine_in kind before (Dictionary id delta batch) s h (record { known = fine.known; fine = fine.fine; few = fine.few }), tt);
+  each = λ kind before h. (fine_in kind before (Dictionary id delta batch) s h fine, tt);
 }
 
 pub takes_more : (s t u : SubstreamIn) (a b : List IpcMessage) → TakesAll s a t → TakesAll t b u → TakesAll s (a ++ b) u
@@ -83,14 +70,14 @@ pub fine_buffers : (kind : Kind) (before : List IpcMessage) (m : IpcMessage) →
 fine_buffers kind before (Schema fields) fine = λ s fault stands bad. bad
 fine_buffers kind before (Dictionary id delta batch) fine =
     λ s fault stands bad.
-    let f : IsFineBatch s id delta batch = fine_as kind before (Dictionary id delta batch) s stands fine in
+    let f : IsFineBatch id delta batch s.dictionaries = fine_as kind before (Dictionary id delta batch) s stands fine in
     values_fine s.dictionaries id batch fault f.fine bad
 fine_buffers kind before (Rows batch) fine =
     λ s fault stands bad.
     let f : arrays_check batch s.arrays ≡ Ok tt = fine_as kind before (Rows batch) s stands fine in
     fault_fails batch s.arrays fault bad (ap is_ok f)
 
--- ---- what is left behind messages that were taken
+-- ---- what is left after messages that were taken
 
 is_a_schema : (m : IpcMessage) → is_schema m ≡ true → (fields : List FieldSpec) × (m ≡ Schema fields)
 is_a_schema (Schema fields) h = (fields, refl)
@@ -116,7 +103,7 @@ read_more kind past bytes read front s messages rest t r takes is = record {
 
 module _ (kind : Kind) (past : List IpcMessage) (bytes : List ℕ) (read rest : List IpcMessage) (s : SubstreamIn) (r : Read kind past bytes read rest s) where
   -- why no message, or a schema, is a defect
-  order_refused : (refusal : ColumnRefusal) → RefusesOrder rest (left_of bytes) refusal → Refuses kind past bytes refusal
+  pub order_refused : (refusal : ColumnRefusal) → RefusesOrder rest (left_of bytes) refusal → Refuses kind past bytes refusal
   order_refused Order (inl end) =
       no_rows end.1 (ap (list_any is_rows) (r.front ∙ ap (λ ms. read ++ ms) end.0 ∙ append-nil read) ∙ r.plain)
   order_refused Order (inr (m, after, first, schema)) =
@@ -130,7 +117,7 @@ module _ (kind : Kind) (past : List IpcMessage) (bytes : List ℕ) (read rest : 
   order_refused (Memory e) h = tt
 
   -- why a dictionary batch is
-  batch_refused : (refusal : ColumnRefusal) → RefusesFirstBatch s rest refusal → Refuses kind past bytes refusal
+  pub batch_refused : (refusal : ColumnRefusal) → RefusesFirstBatch s rest refusal → Refuses kind past bytes refusal
   batch_refused Order b = unknown_id read b.after b.id b.delta b.batch s (r.front ∙ ap (λ ms. read ++ ms) b.first) r.stands b.refuses
   batch_refused (Ipc fault) b = absurd b.refuses
   batch_refused Column b = absurd b.refuses
@@ -151,7 +138,7 @@ module _ (kind : Kind) (past : List IpcMessage) (bytes : List ℕ) (read rest : 
   end_refused (Memory e) batch after first h = tt
 
   -- why a record batch itself is
-  rows_refused : (refusal : ColumnRefusal) (batch : BatchIn) → rest ≡ Rows batch ∷ [] → RefusesRows s batch refusal → Refuses kind past bytes refusal
+  pub rows_refused : (refusal : ColumnRefusal) (batch : BatchIn) → rest ≡ Rows batch ∷ [] → RefusesRows s batch refusal → Refuses kind past bytes refusal
   rows_refused Order batch first h = absurd h
   rows_refused (Ipc fault) batch first h = absurd h
   rows_refused Column batch first h = absurd h
@@ -190,13 +177,9 @@ record_refused kind past bytes read front s refusal r b =
 
 -- ---- a record that was taken has none
 
-last_push : (o : Option BatchIn) (bs : List BatchIn) (b : BatchIn) → last_from o (bs ++ b ∷ []) ≡ Some b
-last_push o [] b = refl
-last_push o (c ∷ bs) b = last_push (Some c) bs b
-
 last_rows-push : (ms : List IpcMessage) (batch : BatchIn) → last_rows (ms ++ Rows batch ∷ []) ≡ Some batch
 unfolding last_rows
-last_rows-push ms batch = ap (last_from None) (flat_map-append rows_of ms (Rows batch ∷ [])) ∙ last_push None (flat_map rows_of ms) batch
+last_rows-push ms batch = ap (last_after None) (flat_map-append rows_of ms (Rows batch ∷ [])) ∙ last_after-push None (flat_map rows_of ms) batch
 
 module _ (kind : Kind) (past : List IpcMessage) (bytes : List ℕ) (read : List IpcMessage) (batch : BatchIn) (s : SubstreamIn) (r : Read kind past bytes read (Rows batch ∷ []) s) where
   after_rows : substream_in (past ++ front_of bytes) ≡ Some s

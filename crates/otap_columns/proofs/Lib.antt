@@ -1,8 +1,12 @@
 pub mod Openings
 pub mod Finding
+pub mod Storing
+pub mod Coding
 pub mod Showing
 pub mod Tabled
 pub mod Placed
+pub mod Widths
+pub mod Resolving
 pub mod Lying
 pub mod Appending
 pub mod Giving
@@ -10,3 +14,4 @@ pub mod Bringing
 pub mod Growing
 pub mod Judging
 pub mod Excluding
+pub mod Deciding

@@ -1,52 +1,125 @@
 -- The values of a dictionary in its bytes, and one more.
-use Rattle.std.proofs.Common.{◌≡◌, ℕ, ◌+◌, ◌*◌, ◌≤◌, List, [], ◌∷◌, ◌++◌, length, Option, Some, None, refl, ap, ◌∙◌, arith, length-append}
-use Rattle.std.specs.Prelude.{map, sum_by, All}
-use Rattle.std.proofs.lemmas.List.{map-append}
-use Rattle.std.proofs.lemmas.List.Sums.{sum_by_push, sum_by-cons}
-use Rattle.std.proofs.lemmas.List.Elements.{All-head, All-tail, All-push, All-weaker}
-use Rattle.otap_cells.proofs.Slots.{part_stays}
-use Rattle.otap_columns.specs.declared.part.Part.{Part}
+use Rattle.std.proofs.Common.{◌≡◌, ℕ, zero, suc, ◌+◌, ◌-◌, ◌*◌, ◌≤◌, ◌<◌, Bool, true, false, List, [], ◌∷◌, ◌++◌, length, get_or, take, drop, Option, Some, None, refl, sym, ap, ◌∙◌, arith, length-append, length-drop}
+use Rattle.std.specs.Prelude.{not, sum_by, is_some, if◌then◌else◌}
+use Rattle.std.proofs.lemmas.List.{take-append-le, drop-append-le, take_all, length-take, get_or_past}
+use Rattle.std.proofs.lemmas.List.Sums.{sum_by-cons}
+use Rattle.otap_columns.specs.declared.ends.End.{End}
 use Rattle.otap_columns.specs.Dictionaries.{value_len, value_weight}
-use Rattle.otap_columns.specs.Parts.{value_of, reach, bytes_in}
+use Rattle.otap_columns.specs.Ends.{value_between, values_by, start_of, IsEnd, AreEnds, bytes_in}
 
 -- the bytes of the values, and 8 for each
 pub weighs : (values : List (Option (List ℕ))) → sum_by value_weight values ≡ sum_by value_len values + 8 * length values
 weighs [] = omega arith
 weighs (v ∷ values) = omega (arith, sum_by-cons value_weight v values, sum_by-cons value_len v values, weighs values)
 
--- bytes that come behind leave the values as they are
-value_stays : (old more : List ℕ) (p : Option Part) → reach p ≤ length old → value_of (old ++ more) p ≡ value_of old p
-value_stays old more None h = refl
-value_stays old more (Some p) h = ap Some (part_stays p.from p.len old more h)
+-- there are as many values as ends
+pub values_len : (bytes : List ℕ) (from : ℕ) (ends : List End) → length (values_by bytes from ends) ≡ length ends
+values_len bytes from [] = refl
+values_len bytes from (e ∷ ends) = ap (λ n. suc n) (values_len bytes e.place ends)
 
-values_stay : (old more : List ℕ) (parts : List (Option Part)) → All (λ p. reach p ≤ length old) parts → map (value_of (old ++ more)) parts ≡ map (value_of old) parts
-values_stay old more [] all = refl
-values_stay old more (p ∷ parts) all =
-    (λ i. value_stays old more p (All-head (λ p. reach p ≤ length old) p parts all) i ∷ values_stay old more parts (All-tail (λ p. reach p ≤ length old) p parts all) i)
+-- none begins after the last place
+pub first_before : (from : ℕ) (ends : List End) (last : ℕ) → AreEnds from ends last → from ≤ last
+first_before from [] last are = omega (arith, are)
+first_before from (e ∷ ends) last are = omega (arith, are.0.after, first_before e.place ends last are.1)
 
-len_is : (value : Option (List ℕ)) → value_len value ≡ length (bytes_in value)
-len_is None = refl
-len_is (Some value) = refl
+-- the value at a place
+pub record IsThere (bytes : List ℕ) (from : ℕ) (ends : List End) (place : ℕ) (last : ℕ) (e : End) : Type 0 where
+  pub is : get_or (values_by bytes from ends) place None ≡ value_between bytes (start_of from ends place) e
+  pub first : start_of from ends place ≤ e.place
+  pub within : e.place ≤ last
 
--- a value behind the others, whose bytes come behind theirs
-pub record Pushed (old new : List ℕ) (parts after : List (Option Part)) (value : Option (List ℕ)) : Type 0 where
-  pub values : map (value_of new) after ≡ map (value_of old) parts ++ value ∷ []
-  pub inside : All (λ p. reach p ≤ length new) after
-  pub counted : sum_by value_len (map (value_of new) after) ≡ length new
-  pub count : length after ≡ length parts + 1
+pub value_there : (bytes : List ℕ) (from : ℕ) (ends : List End) (place last : ℕ) (d : End) → AreEnds from ends last → place < length ends
+    → IsThere bytes from ends place last (get_or ends place d)
+value_there bytes from [] place last d are below = absurd (omega (arith, below))
+value_there bytes from (e ∷ ends) zero last d are below = record { is = refl; first = are.0.after; within = first_before e.place ends last are.1 }
+value_there bytes from (e ∷ ends) (suc place) last d are below =
+    let r : IsThere bytes e.place ends place last (get_or ends place d) = value_there bytes e.place ends place last d are.1 (omega (arith, below)) in
+    record { is = r.is; first = r.first; within = r.within }
 
-pub pushed : (old new : List ℕ) (parts after : List (Option Part)) (p : Option Part) (value : Option (List ℕ)) → new ≡ old ++ bytes_in value → after ≡ parts ++ p ∷ []
-    → value_of new p ≡ value → reach p ≤ length new → All (λ p. reach p ≤ length old) parts → sum_by value_len (map (value_of old) parts) ≡ length old
-    → Pushed old new parts after value
-pushed old new parts after p value longer more is inside all counted =
-    let size : length new ≡ length old + length (bytes_in value) = ap length longer ∙ length-append old (bytes_in value) in
-    let front : map (value_of new) parts ≡ map (value_of old) parts =
-    ap (λ (bytes : List ℕ). map (value_of bytes) parts) longer ∙ values_stay old (bytes_in value) parts all in
-    let values : map (value_of new) after ≡ map (value_of old) parts ++ value ∷ [] =
-    ap (map (value_of new)) more ∙ map-append (value_of new) parts (p ∷ []) ∙ (λ i. front i ++ is i ∷ []) in
+-- there is none after the last one
+pub none_there : (bytes : List ℕ) (from : ℕ) (ends : List End) (place : ℕ) → length ends ≤ place → get_or (values_by bytes from ends) place None ≡ None
+none_there bytes from ends place past = get_or_past (values_by bytes from ends) place None (omega (arith, past, values_len bytes from ends))
+
+-- where it begins
+pub start_is : (from : ℕ) (ends : List End) (place : ℕ) (d : End) → place < length ends → (get_or ends place d).place ≡ start_of from ends (suc place)
+start_is from [] place d below = absurd (omega (arith, below))
+start_is from (e ∷ ends) zero d below = refl
+start_is from (e ∷ ends) (suc place) d below = start_is e.place ends place d (omega (arith, below))
+
+-- ---- bytes that come after
+
+part_stays : (from len : ℕ) (old more : List ℕ) → from + len ≤ length old → take len (drop from (old ++ more)) ≡ take len (drop from old)
+part_stays from len old more h =
+    let within : len ≤ length (drop from old) = omega (arith, length-drop from old) in
+    ap (take len) (drop-append-le from old more (omega (arith, h))) ∙ take-append-le len (drop from old) more within
+
+value_stays : (old more : List ℕ) (from : ℕ) (e : End) → from ≤ e.place → e.place ≤ length old → value_between (old ++ more) from e ≡ value_between old from e
+value_stays old more from e after within =
+    ap (λ (part : List ℕ). if e.there then Some part else None) (part_stays from (e.place - from) old more (omega (arith, after, within)))
+
+-- the values of these ends, with one more after them
+pub record Pushed (old new : List ℕ) (from : ℕ) (ends after : List End) (value : Option (List ℕ)) : Type 0 where
+  pub values : values_by new from after ≡ values_by old from ends ++ value ∷ []
+  pub are : AreEnds from after (length new)
+  pub count : length after ≡ length ends + 1
+
+last_value : (value : Option (List ℕ)) (old : List ℕ) (e : End) → e.place ≡ length (old ++ bytes_in value) → e.there ≡ is_some value → value_between (old ++ bytes_in value) (length old) e ≡ value
+last_value None old e at there = rw there refl
+last_value (Some value) old e at there =
+    let size : e.place - length old ≡ length value = omega (arith, at, length-append old value) in
+    let rest : drop (length old) (old ++ value) ≡ value = drop-append-le (length old) old value (omega arith) ∙ ap (λ (part : List ℕ). part ++ value) (dropped old) in
+    rw there (ap Some ((λ i. take (size i) (rest i)) ∙ take_all (length value) value (omega arith)))
+  where
+    dropped : (xs : List ℕ) → drop (length xs) xs ≡ []
+    dropped [] = refl
+    dropped (x ∷ xs) = dropped xs
+
+last_none : (value : Option (List ℕ)) (old : List ℕ) (e : End) → e.place ≡ length (old ++ bytes_in value) → e.there ≡ is_some value → e.there ≡ false → e.place ≡ length old
+last_none None old e at there none = omega (arith, at, length-append old [])
+last_none (Some value) old e at there none = absurd (cc (there, none))
+
+pub pushed : (old : List ℕ) (from : ℕ) (ends : List End) (e : End) (value : Option (List ℕ)) → AreEnds from ends (length old) → e.place ≡ length (old ++ bytes_in value) → e.there ≡ is_some value
+    → Pushed old (old ++ bytes_in value) from ends (ends ++ e ∷ []) value
+pushed old from [] e value are at there =
+    let place : value_between (old ++ bytes_in value) from e ≡ value = ap (λ (f : ℕ). value_between (old ++ bytes_in value) f e) are ∙ last_value value old e at there in
     record {
-      values = values;
-      inside = rw more (All-push (λ p. reach p ≤ length new) parts p (All-weaker (λ p. reach p ≤ length old) (λ p. reach p ≤ length new) (λ p h. omega (arith, h, size)) parts all) inside);
-      counted = ap (sum_by value_len) values ∙ sum_by_push value_len (map (value_of old) parts) value ∙ omega (arith, counted, size, len_is value);
-      count = omega (arith, ap length more, length-append parts (p ∷ []));
+      values = λ i. place i ∷ [];
+      are = (record { after = omega (arith, are, at, length-append old (bytes_in value)); none = λ none. last_none value old e at there none ∙ sym are }, at);
+      count = refl;
     }
+pushed old from (f ∷ ends) e value are at there =
+    let r : Pushed old (old ++ bytes_in value) f.place ends (ends ++ e ∷ []) value = pushed old f.place ends e value are.1 at there in
+    let here : value_between (old ++ bytes_in value) from f ≡ value_between old from f = value_stays old (bytes_in value) from f are.0.after (first_before f.place ends (length old) are.1) in
+    record {
+      values = λ i. here i ∷ r.values i;
+      are = (are.0, r.are);
+      count = omega (arith, r.count);
+    }
+
+-- ---- how much they have
+
+len_between : (bytes : List ℕ) (from : ℕ) (e : End) (there : Bool) → e.there ≡ there → IsEnd from e → e.place ≤ length bytes → value_len (value_between bytes from e) + from ≡ e.place
+len_between bytes from e true there is within =
+    let size : length (take (e.place - from) (drop from bytes)) ≡ e.place - from = omega (arith, length-take (e.place - from) (drop from bytes), length-drop from bytes, within) in
+    ap (λ (b : Bool). value_len (if b then Some (take (e.place - from) (drop from bytes)) else None) + from) there ∙ omega (arith, size, is.after)
+len_between bytes from e false there is within =
+    ap (λ (b : Bool). value_len (if b then Some (take (e.place - from) (drop from bytes)) else None) + from) there ∙ omega (arith, is.none there)
+
+pub values_sum : (bytes : List ℕ) (from : ℕ) (ends : List End) → AreEnds from ends (length bytes) → sum_by value_len (values_by bytes from ends) + from ≡ length bytes
+values_sum bytes from [] are = omega (arith, are)
+values_sum bytes from (e ∷ ends) are =
+    omega (
+      arith,
+      sum_by-cons value_len (value_between bytes from e) (values_by bytes e.place ends),
+      len_between bytes from e e.there refl are.0 (first_before e.place ends (length bytes) are.1),
+      values_sum bytes e.place ends are.1,
+    )
+
+-- a test that fails, and one that doesn't
+pub is_false : (b : Bool) → not b ≡ true → b ≡ false
+is_false true h = sym h
+is_false false h = refl
+
+pub is_true : (b : Bool) → not b ≡ false → b ≡ true
+is_true true h = refl
+is_true false h = sym h

@@ -4,11 +4,11 @@ use Rattle.std.specs.List.{flat_map}
 use Rattle.std.proofs.lemmas.Grind.{flat_map-append}
 use Rattle.std.proofs.lemmas.List.Elements.{filter-append}
 use Rattle.std.proofs.lemmas.Cmp.{int_eq_equiv}
-use Rattle.histories.specs.Since.{since}
-use Rattle.histories.proofs.Latest.{since-append}
+use Rattle.histories.specs.Since.{since, last_after}
+use Rattle.histories.proofs.Latest.{since-append, last_after-push}
 use Rattle.arrow_ipc.specs.declared.messages.IpcMessage.{IpcMessage}
 use Rattle.arrow_ipc.specs.Fronts.{front_of}
-use Rattle.otap_columns.specs.Streams.{PayloadIn, is_of, of_type, last_after, last_of, opens_after, open_id, marked_after, stream_of}
+use Rattle.otap_columns.specs.Streams.{PayloadIn, is_of, of_type, last_of, opens_after, open_id, marked_after, stream_of}
 
 -- a payload of another type is passed over
 of_type-other : (kind : ℤ) (ps : List PayloadIn) (p : PayloadIn) → is_of kind p ≡ false → of_type kind (ps ++ p ∷ []) ≡ of_type kind ps
@@ -16,10 +16,6 @@ of_type-other kind ps p other = filter-append (is_of kind) ps (p ∷ []) ∙ rw 
 
 of_type-own : (kind : ℤ) (ps : List PayloadIn) (p : PayloadIn) → is_of kind p ≡ true → of_type kind (ps ++ p ∷ []) ≡ of_type kind ps ++ p ∷ []
 of_type-own kind ps p own = filter-append (is_of kind) ps (p ∷ []) ∙ rw own refl
-
-last_after-push : {A : Type 0} (last : Option A) (xs : List A) (x : A) → last_after last (xs ++ x ∷ []) ≡ Some x
-last_after-push last [] x = refl
-last_after-push last (y ∷ ys) x = last_after-push (Some y) ys x
 
 marked_after-push : (last : Option PayloadIn) (ps : List PayloadIn) (p : PayloadIn)
     → marked_after last (ps ++ p ∷ []) ≡ marked_after last ps ++ (opens_after (last_after last ps) p, p) ∷ []
@@ -38,7 +34,7 @@ pub open_id-own : (kind : ℤ) (ps : List PayloadIn) (p : PayloadIn) → is_of k
 unfolding open_id
 open_id-own kind ps p own = rw (of_type-own kind ps p own, last_after-push None (of_type kind ps) p) refl
 
--- the messages behind a mark
+-- the messages after a mark
 messages_in : Bool × PayloadIn → List IpcMessage
 messages_in m = front_of m.1.bytes
 

@@ -1,17 +1,14 @@
 -- What a reader's places lead to.
-use Rattle.std.proofs.Common.{◌≡◌, ℕ, ◌<◌, List, length, get_or, Option, Some, sym, ap, ◌∙◌, arith}
-use Rattle.std.specs.Prelude.{map, slice_get}
+use Rattle.std.proofs.Common.{◌≡◌, ℕ, ◌<◌, List, length, get_or, Option, sym, ap, ◌∙◌, arith}
+use Rattle.std.specs.Prelude.{map}
 use Rattle.std.specs.List.{range_with_len}
 use Rattle.std.proofs.lemmas.List.FromFn.{length-map-range_with_len, get_or-map-range_with_len}
-use Rattle.arrow_schema.specs.declared.spec.DictSpec.{DictSpec}
 use Rattle.arrow_ipc.specs.Batches.{BatchIn}
 use Rattle.arrow_arrays.specs.declared.spec.ArraySpec.{ArraySpec}
-use Rattle.arrow_arrays.specs.Arrays.{cell_of}
 use Rattle.otap_cells.specs.declared.payload.Kind.{Kind}
 use Rattle.otap_cells.specs.Columns.{width_of}
-use Rattle.otap_columns.specs.Dictionaries.{values_for}
 use Rattle.otap_columns.specs.Known.{place_at}
-use Rattle.otap_columns.specs.Substreams.{SubstreamIn, value_at, replaced, field_value, value_if, column_value}
+use Rattle.otap_columns.specs.Substreams.{SubstreamIn, value_if, column_value}
 
 pub places_len : (kind : Kind) (arrays : List ArraySpec) (places : List (Option ℕ)) → places ≡ map (place_at kind arrays) (range_with_len 0 (width_of kind)) → length places ≡ width_of kind
 places_len kind arrays places is = ap length is ∙ length-map-range_with_len (place_at kind arrays) 0 (width_of kind)
@@ -20,13 +17,6 @@ pub place_found : (kind : Kind) (arrays : List ArraySpec) (places : List (Option
     → column < width_of kind → found ≡ get_or places column found → place_at kind arrays column ≡ found
 place_found kind arrays places column found is below there =
     sym (there ∙ ap (λ (ps : List (Option ℕ)). get_or ps column found) is ∙ get_or-map-range_with_len (place_at kind arrays) 0 (width_of kind) column column found below (omega arith))
-
--- the value of a field that has a dictionary
-pub value_shown : (s : SubstreamIn) (batch : BatchIn) (row place : ℕ) (a : ArraySpec) (dict : DictSpec) (cell x : Option (List ℕ)) → Some a ≡ slice_get s.arrays place → a.dict ≡ Some dict
-    → cell ≡ cell_of s.arrays batch place row → x ≡ value_at (values_for a.kind dict.id s.dictionaries) cell → x ≡ field_value s batch row place (slice_get s.arrays place)
-value_shown s batch row place a dict cell x there has stored is =
-    is ∙ (λ i. value_at (values_for a.kind dict.id s.dictionaries) (stored i)) ∙ (λ i. replaced s.dictionaries a.kind (sym has i) (cell_of s.arrays batch place row))
-    ∙ (λ i. field_value s batch row place (there i))
 
 -- what stands in a column, by the place of its array
 pub column_value_is : (kind : Kind) (s : SubstreamIn) (batch : BatchIn) (column row : ℕ) (place : Option ℕ) → place_at kind s.arrays column ≡ place → value_if s batch row place ≡ column_value kind s batch column row

@@ -12,7 +12,7 @@ use Rattle.arrow_ipc.specs.declared.messages.IpcMessage.TheVariants.{Schema, Dic
 use Rattle.arrow_ipc.specs.Batches.{BatchIn}
 use Rattle.arrow_arrays.specs.declared.spec.ArraySpec.{ArraySpec}
 use Rattle.arrow_arrays.specs.Cells.{own_cell, place_of_values}
-use Rattle.otap_columns.specs.declared.dictionary.TheConstants.{MAX_VALUES}
+use Rattle.otap_columns.specs.Limits.{value_limit}
 
 -- the values of a dictionary batch: the cells of its one array, each null or its bytes
 unfoldable pub values_of : ArrowType → BatchIn → List (Option (List ℕ))
@@ -44,7 +44,7 @@ has_id id d = int_eq d.id id
 abbrev pub is_for : ArrowType → ℤ → DictionaryIn → Bool
 is_for kind id d = int_eq d.id id && same_type d.kind kind
 
--- the dictionary that a field has, behind those so far: it is there once, however many fields have it
+-- the dictionary that a field has, after those so far: it is there once, however many fields have it
 abbrev pub with_dictionary : List DictionaryIn → ArrowType → Option DictSpec → List DictionaryIn
 with_dictionary dictionaries kind None = dictionaries
 with_dictionary dictionaries kind (Some dict) =
@@ -85,7 +85,7 @@ all_grown id delta batch dictionaries = map (grown_if id delta batch) dictionari
 
 -- more values than a dictionary may have
 abbrev pub is_too_large : DictionaryIn → Bool
-is_too_large d = nat_lt MAX_VALUES (length d.values)
+is_too_large d = nat_lt value_limit (length d.values)
 
 -- ---- what is held
 

@@ -1,14 +1,14 @@
 -- What the program's values keep.
-use Rattle.std.specs.Prelude.{◌≡◌, ◌≤◌, ◌^◌, length, map, sum_by, All}
+use Rattle.std.specs.Prelude.{◌≤◌, ◌^◌, length}
 use Rattle.otap_columns.specs.declared.dictionary.Dictionary.TheInside as dictionary
-use Rattle.otap_columns.specs.Dictionaries.{DictionaryIn, value_len}
-use Rattle.otap_columns.specs.Parts.{value_of, reach}
+use Rattle.otap_columns.specs.Dictionaries.{DictionaryIn}
+use Rattle.otap_columns.specs.Limits.{value_limit}
+use Rattle.otap_columns.specs.Ends.{values_by, AreEnds}
 
 abbrev pub dictionary_in : dictionary.Inside → DictionaryIn
-dictionary_in d = record { id = d.id; kind = d.kind; values = map (value_of d.bytes.items) d.parts.items }
+dictionary_in d = record { id = d.id; kind = d.kind; values = values_by d.bytes.items 0 d.ends.items }
 
 pub record IsDictionaryInside (d : dictionary.Inside) : Type 0 where
-  pub few : length d.parts.items ≤ 65536
+  pub few : length d.ends.items ≤ value_limit
   pub small : length d.bytes.items ≤ 2 ^ 48
-  pub inside : All (λ part. reach part ≤ length d.bytes.items) d.parts.items
-  pub counted : sum_by value_len (map (value_of d.bytes.items) d.parts.items) ≡ length d.bytes.items
+  pub ends : AreEnds 0 d.ends.items (length d.bytes.items)

@@ -1,13 +1,16 @@
+pub mod Limits
 pub mod Streams
 pub mod Faults
 pub mod Dictionaries
 pub mod Known
+pub mod Parts
 pub mod Substreams
 pub mod Records
 pub mod Steps
 pub mod Views
 pub mod Reading
-pub mod Parts
+pub mod Ends
 pub mod Inside
 pub mod ReaderInside
+pub mod Resolved
 pub mod RowsInside

@@ -1,6 +1,7 @@
 -- How a reader goes through the messages of a record: what the first message of the rest does, or why it is refused.
 use Rattle.std.specs.Prelude.{◌≡◌, ℕ, Bool, true, false, not, List, [], ◌∷◌, ◌++◌, drop, ◌⊎◌, Some, ℤ, Ok}
 use Rattle.std.specs.List.{list_any}
+use Rattle.histories.specs.EachAfter.{AllAfter}
 use Rattle.arrow_schema.specs.declared.spec.FieldSpec.{FieldSpec}
 use Rattle.arrow_schema.specs.Readable.{IsReadable}
 use Rattle.arrow_ipc.specs.declared.fault.IpcFault.{IpcFault}
@@ -17,8 +18,8 @@ use Rattle.otap_columns.specs.declared.refusal.ColumnRefusal.{ColumnRefusal}
 use Rattle.otap_columns.specs.declared.refusal.ColumnRefusal.TheVariants.{Order, Ipc, Column, Buffers, BadIndex, Memory}
 use Rattle.otap_columns.specs.Dictionaries.{empty_dictionaries, all_grown}
 use Rattle.otap_columns.specs.Known.{columns_fit}
-use Rattle.otap_columns.specs.Records.{is_schema, is_rows, AllAfter, IsFine}
-use Rattle.otap_columns.specs.Steps.{RefusesBatch, TakesBatchOf}
+use Rattle.otap_columns.specs.Records.{is_schema, is_rows, IsFineBatch, IsFine}
+use Rattle.otap_columns.specs.Steps.{RefusesBatch}
 use Rattle.otap_columns.specs.Substreams.{SubstreamIn, substream_in, indexes_fit}
 use Rattle.otap_columns.specs.Views.{ReaderIn, Keeps}
 
@@ -119,7 +120,7 @@ pub record TakesBatch (s : SubstreamIn) (old new : MessagesIn) (s' : SubstreamIn
   pub delta : Bool
   pub batch : BatchIn
   pub passes : Passes old new (Dictionary id delta batch)
-  pub fine : TakesBatchOf id delta batch s.dictionaries
+  pub fine : IsFineBatch id delta batch s.dictionaries
   pub after : s' ≡ with_batch id delta batch s
 
 -- why the first message isn't taken: it is out of order, or a dictionary batch that is refused
@@ -193,7 +194,7 @@ pub record TakesRecord (old : ReaderIn) (m : MessagesIn) (new : ReaderIn) : Type
   pub finds : rows_in (drop new.place m.bytes) ≡ Some batch
   pub fits : FitsRows new.substream batch
 
--- why it wasn't: before its record batch, behind it, or by it
+-- why it wasn't: before its record batch, after it, or by it
 pub record RefusesRecord (s : SubstreamIn) (front : List IpcMessage) (left : List ℕ) (refusal : ColumnRefusal) : Type 0 where
   pub messages : List IpcMessage
   pub s' : SubstreamIn

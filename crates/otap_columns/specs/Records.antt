@@ -1,6 +1,7 @@
 -- What is wrong with a record, read after the messages of its sub-stream so far, and what it is when nothing is.
-use Rattle.std.specs.Prelude.{◌≡◌, ◌≢◌, ℕ, Bool, true, false, List, [], ◌∷◌, ◌++◌, Option, Some, None, ℤ, Ok, Err, Any, not, ◌||◌, is_ok}
+use Rattle.std.specs.Prelude.{◌≡◌, ◌≢◌, ℕ, Bool, true, false, List, [], ◌∷◌, ◌++◌, Option, Some, None, ℤ, Ok, Err, Any, not, ◌||◌, is_ok, ◌⊎◌}
 use Rattle.std.specs.List.{list_any, list_all}
+use Rattle.histories.specs.EachAfter.{AllAfter}
 use Rattle.arrow_schema.specs.declared.spec.FieldSpec.{FieldSpec}
 use Rattle.arrow_buffers.specs.declared.fault.BufferFault.{BufferFault}
 use Rattle.arrow_ipc.specs.declared.fault.IpcFault.{IpcFault}
@@ -16,7 +17,7 @@ use Rattle.otap_columns.specs.declared.refusal.ColumnRefusal.{ColumnRefusal}
 use Rattle.otap_columns.specs.declared.refusal.ColumnRefusal.TheVariants.{Order, Ipc, Column, Buffers, BadIndex, DictionarySize, Memory}
 use Rattle.otap_columns.specs.Dictionaries.{DictionaryIn, has_id, all_grown, is_too_large}
 use Rattle.otap_columns.specs.Known.{columns_fit}
-use Rattle.otap_columns.specs.Substreams.{SubstreamIn, substream_in, indexes_fit}
+use Rattle.otap_columns.specs.Substreams.{SubstreamIn, schema_in, substream_in, indexes_fit}
 
 abbrev pub is_schema : IpcMessage → Bool
 is_schema (Schema fields) = true
@@ -42,11 +43,6 @@ HasBufferFault s (Schema fields) fault = ⊥
 HasBufferFault s (Dictionary id delta batch) fault = HasValueFault s.dictionaries id batch fault
 HasBufferFault s (Rows batch) fault = HasFault batch s.arrays fault
 
--- Each message of a list, after those before it.
-abbrev pub AllAfter : (List IpcMessage → IpcMessage → Type 0) → List IpcMessage → List IpcMessage → Type 0
-AllAfter P before [] = Unit {0}
-AllAfter P before (m ∷ messages) = P before m × AllAfter P (before ++ m ∷ []) messages
-
 -- no buffer of the messages has a fault, each read in the sub-stream that stands before it
 abbrev pub HasFineBuffers : List IpcMessage → IpcMessage → Type 0
 HasFineBuffers before m = (s : SubstreamIn) (fault : BufferFault) → substream_in before ≡ Some s → HasBufferFault s m fault → ⊥
@@ -56,18 +52,18 @@ HasFineBuffers before m = (s : SubstreamIn) (fault : BufferFault) → substream_
 pub data Stands (kind : Kind) (past : List IpcMessage) (bytes : List ℕ) : ColumnRefusal → Type 0 where
   -- a sub-stream begins with another message than a schema
   begins_otherwise : (m : IpcMessage) (after : List IpcMessage) → past ≡ [] → front_of bytes ≡ m ∷ after → is_schema m ≡ false → Stands kind past bytes Order
-  -- a schema stands behind other messages
+  -- a schema stands after other messages
   schema_later : (before after : List IpcMessage) (fields : List FieldSpec) → front_of bytes ≡ before ++ Schema fields ∷ after → past ++ before ≢ [] → Stands kind past bytes Order
-  -- a message stands behind a record batch
+  -- a message stands after a record batch
   behind_rows : (before after : List IpcMessage) (batch : BatchIn) (m : IpcMessage) → front_of bytes ≡ before ++ Rows batch ∷ m ∷ after → Stands kind past bytes Order
   -- the record ends without a record batch
   no_rows : left_of bytes ≡ [] → list_any is_rows (front_of bytes) ≡ false → Stands kind past bytes Order
   -- no field has the id of a dictionary batch
   unknown_id : (before after : List IpcMessage) (id : ℤ) (delta : Bool) (batch : BatchIn) (s : SubstreamIn) → front_of bytes ≡ before ++ Dictionary id delta batch ∷ after
       → substream_in (past ++ before) ≡ Some s → list_any (has_id id) s.dictionaries ≡ false → Stands kind past bytes Order
-  -- a fault stands behind the last message that can be read
+  -- a fault stands after the last message that can be read
   ends_badly : (fault : IpcFault) → ipc.Stands (left_of bytes) fault → Stands kind past bytes (Ipc fault)
-  -- a known column of a schema has another type than its base
+  -- a known column of a schema has a type that doesn't store its base, or an encoding that it doesn't allow
   other_type : (before after : List IpcMessage) (fields : List FieldSpec) → front_of bytes ≡ before ++ Schema fields ∷ after → columns_fit kind (arrays_of fields) ≡ false
       → Stands kind past bytes Column
   -- the buffers of a message have a fault
@@ -80,18 +76,18 @@ pub data Stands (kind : Kind) (past : List IpcMessage) (bytes : List ℕ) : Colu
   too_many_values : (before after : List IpcMessage) (id : ℤ) (delta : Bool) (batch : BatchIn) (s : SubstreamIn) → front_of bytes ≡ before ++ Dictionary id delta batch ∷ after
       → substream_in (past ++ before) ≡ Some s → list_any is_too_large (all_grown id delta batch s.dictionaries) ≡ true → Stands kind past bytes DictionarySize
 
--- what a call answers in place of a reader: a defect that stands, or that memory ran out
+-- what a call returns in place of a reader: a defect that stands, or that memory ran out
 abbrev pub Refuses : Kind → List IpcMessage → List ℕ → ColumnRefusal → Type 0
 Refuses kind past bytes (Memory e) = Unit {0}
 Refuses kind past bytes refusal = Stands kind past bytes refusal
 
 -- ---- records without a defect
 
--- a dictionary batch that a sub-stream takes: a field has its id, its values have no fault, and they are not too many
-pub record IsFineBatch (s : SubstreamIn) (id : ℤ) (delta : Bool) (batch : BatchIn) : Type 0 where
-  pub known : list_any (has_id id) s.dictionaries ≡ true
-  pub fine : list_all (is_fine_for id batch) s.dictionaries ≡ true
-  pub few : list_any is_too_large (all_grown id delta batch s.dictionaries) ≡ false
+-- a dictionary batch that dictionaries take: one has its id, its values have no fault, and they are not too many
+pub record IsFineBatch (id : ℤ) (delta : Bool) (batch : BatchIn) (dictionaries : List DictionaryIn) : Type 0 where
+  pub known : list_any (has_id id) dictionaries ≡ true
+  pub fine : list_all (is_fine_for id batch) dictionaries ≡ true
+  pub few : list_any is_too_large (all_grown id delta batch dictionaries) ≡ false
 
 -- a message that a sub-stream takes after those before it, by what it is after them; its first message is its schema
 abbrev pub IsFineIn : Kind → List IpcMessage → Option SubstreamIn → IpcMessage → Type 0
@@ -99,7 +95,7 @@ IsFineIn kind before None (Schema fields) = (before ≡ []) × (columns_fit kind
 IsFineIn kind before None (Dictionary id delta batch) = ⊥
 IsFineIn kind before None (Rows batch) = ⊥
 IsFineIn kind before (Some s) (Schema fields) = ⊥
-IsFineIn kind before (Some s) (Dictionary id delta batch) = IsFineBatch s id delta batch
+IsFineIn kind before (Some s) (Dictionary id delta batch) = IsFineBatch id delta batch s.dictionaries
 IsFineIn kind before (Some s) (Rows batch) = arrays_check batch s.arrays ≡ Ok tt
 
 abbrev pub IsFine : Kind → List IpcMessage → IpcMessage → Type 0
@@ -118,3 +114,17 @@ pub record IsRead (kind : Kind) (past : List IpcMessage) (bytes : List ℕ) : Ty
   pub after : SubstreamIn
   pub is_after : substream_in (past ++ front_of bytes) ≡ Some after
   pub indexes : indexes_fit after batch ≡ true
+
+-- ---- each record is one or the other
+
+-- messages that have a schema
+abbrev pub HasSchema : List IpcMessage → Type 0
+HasSchema messages = (fields : List FieldSpec) × (schema_in messages ≡ Some fields)
+
+-- a record can come after nothing, and after these
+abbrev pub CanGoOn : List IpcMessage → Type 0
+CanGoOn past = (past ≡ []) ⊎ HasSchema past
+
+-- it is read, or has a defect
+abbrev pub IsJudged : Kind → List IpcMessage → List ℕ → Type 0
+IsJudged kind past bytes = IsRead kind past bytes ⊎ ((refusal : ColumnRefusal) × Stands kind past bytes refusal)

@@ -2,7 +2,7 @@
 use Rattle.std.specs.Prelude.{ℕ, Bool, true, not, List, [], ◌∷◌, Option, Some, None, ℤ, filter, bytes_eq}
 use Rattle.std.specs.List.{flat_map}
 use Rattle.std.specs.Ordering.{int_eq}
-use Rattle.histories.specs.Since.{since}
+use Rattle.histories.specs.Since.{since, last_after}
 use Rattle.arrow_ipc.specs.declared.messages.IpcMessage.{IpcMessage}
 use Rattle.arrow_ipc.specs.Fronts.{front_of}
 
@@ -18,11 +18,6 @@ is_of kind p = int_eq p.kind kind
 -- the payloads of a type, in order
 abbrev pub of_type : ℤ → List PayloadIn → List PayloadIn
 of_type kind payloads = filter (is_of kind) payloads
-
--- the last one of a list, or what went before it
-abbrev pub last_after : {A : Type 0} → Option A → List A → Option A
-last_after last [] = last
-last_after last (x ∷ xs) = last_after (Some x) xs
 
 -- the last payload of a type
 abbrev pub last_of : ℤ → List PayloadIn → Option PayloadIn

@@ -2,6 +2,7 @@
 use Rattle.std.specs.Prelude.{◌≡◌, ℕ, Bool, true, false, is_some, nat_lt, List, [], ◌∷◌, length, Option, Some, None, option_map, slice_get, slice_index_or, ◌⊎◌}
 use Rattle.std.specs.List.{flat_map}
 use Rattle.byteorder.specs.Endian.{little_number}
+use Rattle.histories.specs.Since.{last_after}
 use Rattle.arrow_schema.specs.declared.spec.ArrowType.{ArrowType}
 use Rattle.arrow_schema.specs.declared.spec.DictSpec.{DictSpec}
 use Rattle.arrow_schema.specs.declared.spec.FieldSpec.{FieldSpec}
@@ -16,7 +17,7 @@ use Rattle.otap_cells.specs.Cells.{Cell}
 use Rattle.otap_cells.specs.Columns.{base_at}
 use Rattle.otap_cells.specs.Tables.{Table, table_by}
 use Rattle.otap_columns.specs.Dictionaries.{DictionaryIn, dictionaries_in, values_for, held_weight}
-use Rattle.otap_columns.specs.Known.{place_at, stored_cell}
+use Rattle.otap_columns.specs.Known.{place_at, column_coding, column_greatest, stored_cell}
 
 pub record SubstreamIn : Type 0 where
   pub arrays : List ArraySpec
@@ -77,9 +78,9 @@ column_value kind s batch column row = value_if s batch row (place_at kind s.arr
 unfoldable pub column_cell : Kind → SubstreamIn → BatchIn → ℕ → ℕ → Cell
 column_cell kind s batch column row = stored_cell (base_at kind column) (column_value kind s batch column row)
 
--- the table of a record batch, read in a sub-stream
+-- the table of a record batch, read in a sub-stream; its schema tells how ids are stored
 unfoldable pub table_in : Kind → SubstreamIn → BatchIn → Table
-table_in kind s batch = table_by kind batch.rows (column_cell kind s batch)
+table_in kind s batch = table_by kind (column_coding kind s.arrays) (column_greatest kind s.arrays) batch.rows (column_cell kind s batch)
 
 -- ---- indexes
 
@@ -112,13 +113,9 @@ rows_of (Schema fields) = []
 rows_of (Dictionary id delta batch) = []
 rows_of (Rows batch) = batch ∷ []
 
-abbrev pub last_from : Option BatchIn → List BatchIn → Option BatchIn
-last_from last [] = last
-last_from last (batch ∷ batches) = last_from (Some batch) batches
-
 -- the last record batch
 unfoldable pub last_rows : List IpcMessage → Option BatchIn
-last_rows messages = last_from None (flat_map rows_of messages)
+last_rows messages = last_after None (flat_map rows_of messages)
 
 abbrev pub table_if : Kind → Option SubstreamIn → Option BatchIn → Option Table
 table_if kind None batch = None

@@ -5,12 +5,13 @@ ghost use Rattle.std.specs.Prelude.{◌≡◌, ◌⊎◌, length};
 ghost use Rattle.std.specs.Option.{ForSome, option_copied};
 ghost use Rattle.byteorder.specs.Endian.{little_number};
 ghost use Rattle.otap_cells.specs.Cells.{seen};
-ghost use Rattle.otap_columns.specs.Known.{FitsBase, stored, stored_cell};
+ghost use Rattle.otap_columns.specs.Known.{FitsBase, unsigned, signed, stored, stored_cell};
 
 use byteorder::{ByteOrder, LittleEndian};
 use otap_cells::{Base, CellView};
 
 /// The cell of a base that is stored in these bytes; null where there are none.
+#[inline(always)]
 #[tactic(auto, unfolding(crate::specs::Known::stored_cell))]
 pub(crate) fn cell(base: Base, value: Option<&[u8]>) -> CellView<'_>
     requires { ForSome (option_copied value) (FitsBase base) }
@@ -28,16 +29,48 @@ fn stored(base: Base, value: &[u8]) -> CellView<'_>
 {
     match base {
         Base::U8 => CellView::Num(i64::from(value[0])),
-        Base::U16 => CellView::Num(i64::from(LittleEndian::read_u16(value))),
-        Base::U32 => CellView::Num(i64::from(LittleEndian::read_u32(value))),
+        Base::U16 => CellView::Num(i64::from(narrow(value))),
+        Base::U32 => CellView::Num(i64::from(wide(value))),
+        Base::Id { .. } => CellView::Num(i64::from(id(value))),
         Base::I32 => CellView::Num(i64::from(LittleEndian::read_i32(value))),
         Base::I64 => CellView::Num(LittleEndian::read_i64(value)),
-        Base::Double | Base::Timestamp | Base::Duration => {
-            CellView::Bits(LittleEndian::read_u64(value))
-        }
+        Base::U64 | Base::Double | Base::Timestamp | Base::Duration => CellView::Bits(long(value)),
         Base::Bool => CellView::Flag(value[0] == 1),
-        Base::Utf8 | Base::Binary | Base::Fixed16 | Base::Fixed8 => CellView::Bytes(value),
+        Base::Utf8 | Base::Binary | Base::Fixed16 | Base::Fixed8 | Base::ListU64 | Base::ListF64 =>
+            CellView::Bytes(value),
     }
+}
+
+fn narrow(value: &[u8]) -> u16
+    requires { length value.now ≡ 2 }
+    ensures { result ≡ unsigned value.now }
+{
+    LittleEndian::read_u16(value)
+}
+
+fn wide(value: &[u8]) -> u32
+    requires { length value.now ≡ 4 }
+    ensures { result ≡ unsigned value.now }
+{
+    LittleEndian::read_u32(value)
+}
+
+fn long(value: &[u8]) -> u64
+    requires { length value.now ≡ 8 }
+    ensures { result ≡ unsigned value.now }
+{
+    LittleEndian::read_u64(value)
+}
+
+// A number of 16 or 32 bits.
+fn id(value: &[u8]) -> u32
+    requires { (length value.now ≡ 2) ⊎ (length value.now ≡ 4) }
+    ensures { result ≡ unsigned value.now }
+{
+    if value.len() == 2 {
+        return u32::from(narrow(value));
+    }
+    wide(value)
 }
 
 /// The index that one byte or two hold.

@@ -1,16 +1,19 @@
 //! The dictionaries of a sub-stream. A schema has few, so each look goes over all of them.
 
-ghost use Rattle.std.specs.Prelude.{◌≡◌, ◌+◌, ◌<◌, ◌≤◌, ◌^◌, ◌*◌, All, length, vec_len, find, OnOk, IfOk, IfErr};
+ghost use Rattle.std.specs.Prelude.{◌≡◌, ℕ, ◌+◌, ◌<◌, ◌≤◌, ◌^◌, ◌*◌, All, length, vec_len, find, OnOk, IfOk, IfErr};
 ghost use Rattle.std.specs.List.{list_any};
-ghost use Rattle.std.specs.Option.{ForSome, option_copied};
+ghost use Rattle.std.specs.Option.{option_copied};
+ghost use Rattle.arrow_arrays.specs.Views.{cell_seen};
 ghost use Rattle.otap_columns.specs.Dictionaries.{has_id, is_for, with_dictionary, empty_dictionaries, all_grown, held_weight, values_for};
-ghost use Rattle.otap_columns.specs.Substreams.{value_at, IsIndexSize};
-ghost use Rattle.otap_columns.specs.Steps.{FitsIn, RefusesBatch, TakesBatchOf};
+ghost use Rattle.otap_columns.specs.Resolved.{HasIndexSizes, HasIndexes, resolved_value};
+ghost use Rattle.otap_columns.specs.Substreams.{value_at};
+ghost use Rattle.otap_columns.specs.Records.{IsFineBatch};
+ghost use Rattle.otap_columns.specs.Steps.{FitsIn, RefusesBatch};
 
-use crate::cells::index;
 use crate::dictionary::Dictionary;
 use crate::refusal::ColumnRefusal;
-use arrow_arrays::{ArraySpec, Arrays};
+use crate::resolved::ResolvedColumn;
+use arrow_arrays::{ArraySpec, Arrays, ColumnView};
 use arrow_ipc::BatchView;
 use arrow_schema::ArrowType;
 use std::alloc::{AllocError, Global};
@@ -68,7 +71,7 @@ pub(crate) fn take(
 ) -> Result<(), ColumnRefusal>
     ensures ok { OnOk result (dictionaries.new ≡ all_grown id delta batch.now dictionaries.old) }
     ensures fits { All FitsIn dictionaries.old → All FitsIn dictionaries.new }
-    ensures fine { OnOk result (TakesBatchOf id delta batch.now dictionaries.old) }
+    ensures fine { OnOk result (IsFineBatch id delta batch.now dictionaries.old) }
     ensures err { IfErr result (RefusesBatch id delta batch.now dictionaries.old) }
 {
     if !is_known(dictionaries, id) {
@@ -103,18 +106,21 @@ pub(crate) fn count_for(dictionaries: &[Dictionary], kind: ArrowType, id: i64) -
     }
 }
 
-/// The value at the index that a field's cell holds; `None` where the cell or the value is null, or there is no value.
-pub(crate) fn value_for<'v>(
+/// A column that stores indexes into the dictionary of a field.
+pub(crate) fn lead<'v>(
     dictionaries: &'v [Dictionary],
     kind: ArrowType,
     id: i64,
-    cell: Option<&[u8]>,
-) -> Option<&'v [u8]>
-    requires { ForSome (option_copied cell) IsIndexSize }
-    ensures { option_copied result ≡ value_at (values_for kind id dictionaries.now) (option_copied cell.entry) }
+    stored: ColumnView<'v>,
+) -> ResolvedColumn<'v>
+    requires { HasIndexSizes stored }
+    ensures values { (row : ℕ) → resolved_value result row ≡ value_at (values_for kind id dictionaries.now) (cell_seen stored.entry row) }
+    ensures indexes { HasIndexes result }
 {
-    let place = index(cell?);
-    find(dictionaries, kind, id)?.value(place)
+    match find(dictionaries, kind, id) {
+        None => ResolvedColumn::missing(),
+        Some(dictionary) => ResolvedColumn::indexed(stored, dictionary),
+    }
 }
 
 fn find(dictionaries: &[Dictionary], kind: ArrowType, id: i64) -> Option<&Dictionary>

@@ -3,7 +3,7 @@ ghost use Rattle.std.specs.List.{slice_index_or};
 ghost use Rattle.std.specs.Option.{option_copied};
 ghost use Rattle.arrow_arrays.specs.Cells.{array_check, place_of_values};
 
-use crate::part::{MAX_BYTES, Part, keep};
+use crate::ends::{End, MAX_BYTES, keep, value_in};
 use crate::refusal::ColumnRefusal;
 use arrow_arrays::ArrayPlace;
 use arrow_ipc::BatchView;
@@ -19,8 +19,8 @@ pub const MAX_VALUES: u64 = 65_536;
 pub(crate) struct Dictionary {
     id: i64,
     kind: ArrowType,
-    // A value that is null has no part.
-    parts: Vec<Option<Part>>,
+    ends: Vec<End>,
+    // The bytes of all values, one after the other.
     bytes: Vec<u8>,
 }
 
@@ -39,6 +39,7 @@ impl Model for Dictionary {
 impl Dictionary {
     ghost use Rattle.otap_columns.specs.Dictionaries.{has_id, is_for, kept, grown, grown_if, weight_of, values_of};
     ghost use Rattle.otap_columns.specs.Steps.{FitsIn, RefusesIf, RefusesValues};
+    ghost use Rattle.otap_columns.specs.Limits.{value_limit};
     ghost use Rattle.otap_columns.specs.Records.{is_fine_for};
 
     pub(crate) fn new(alloc: Global, id: i64, kind: ArrowType) -> Dictionary
@@ -47,7 +48,7 @@ impl Dictionary {
         Dictionary {
             id,
             kind,
-            parts: Vec::new(alloc),
+            ends: Vec::new(alloc),
             bytes: Vec::new(alloc),
         }
     }
@@ -68,18 +69,14 @@ impl Dictionary {
     pub(crate) fn value(&self, place: usize) -> Option<&[u8]>
         ensures { option_copied result ≡ slice_index_or self.now.values place None }
     {
-        if place >= self.parts.len() {
-            return None;
-        }
-        let part = self.parts[place]?;
-        Some(&self.bytes[part.from..part.from + part.len])
+        value_in(&self.bytes, &self.ends, place)
     }
 
     pub(crate) fn len(&self) -> usize
         ensures value { result ≡ length self.now.values }
-        ensures few { result ≤ MAX_VALUES }
+        ensures few { result ≤ value_limit }
     {
-        self.parts.len()
+        self.ends.len()
     }
 
     /// The bytes of the values, and 8 for each.
@@ -87,7 +84,7 @@ impl Dictionary {
         ensures value { result ≡ weight_of self.now }
         ensures few { result < 2 ^ 50 }
     {
-        self.bytes.len() as u64 + 8 * self.parts.len() as u64
+        self.bytes.len() as u64 + 8 * self.ends.len() as u64
     }
 
     /// Takes the values of a batch, if it has this dictionary's id.
@@ -121,7 +118,7 @@ impl Dictionary {
         let array = ArrayPlace::of_values(self.kind);
         array.check(batch)?;
         self.begin(delta);
-        if batch.rows() > MAX_VALUES - self.parts.len() as u64 {
+        if batch.rows() > MAX_VALUES - self.ends.len() as u64 {
             return Err(ColumnRefusal::DictionarySize);
         }
         self.append(array, batch)?;
@@ -133,7 +130,7 @@ impl Dictionary {
         ensures { self.new ≡ record self.old { values = kept delta self.old.values } }
     {
         if !delta {
-            self.parts.clear();
+            self.ends.clear();
             self.bytes.clear();
         }
     }
@@ -142,7 +139,7 @@ impl Dictionary {
     fn append(&mut self, array: ArrayPlace, batch: &BatchView<'_>) -> Result<(), AllocError>
         requires array { array ≡ place_of_values self.old.kind }
         requires fine { IsOk (array_check batch.now array) }
-        requires room { length self.old.values + batch.now.rows ≤ MAX_VALUES }
+        requires room { length self.old.values + batch.now.rows ≤ value_limit }
         ensures ok { OnOk result (self.new ≡ record self.old { values = self.old.values ++ values_of self.old.kind batch.now }) }
         ensures fits { FitsIn self.old → FitsIn self.new }
     {
@@ -154,13 +151,14 @@ impl Dictionary {
 
     // Appends a value. Where there are too many bytes there is no room for it.
     fn push(&mut self, value: Option<&[u8]>) -> Result<(), AllocError>
-        requires { length self.old.values < MAX_VALUES }
+        requires { length self.old.values < value_limit }
         ensures ok { OnOk result (self.new ≡ record self.old { values = self.old.values ++ option_copied value.entry ∷ [] }) }
         ensures err { OnErr result (self.new ≡ self.old) }
     {
-        self.parts.reserve(1)?;
-        let part = keep(&mut self.bytes, value)?;
-        self.parts.push(part)?;
+        self.ends.reserve(1)?;
+        let there = keep(&mut self.bytes, value)?;
+        let place = self.bytes.len();
+        self.ends.push(End { place, there })?;
         Ok(())
     }
 }

@@ -5,13 +5,14 @@
 mod cells;
 mod dictionaries;
 mod dictionary;
+mod ends;
 mod indexes;
 mod known;
 pub mod laws;
 mod messages;
-mod part;
 mod reader;
 mod refusal;
+mod resolved;
 #[cfg(test)]
 mod tests;
 mod view;

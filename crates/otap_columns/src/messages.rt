@@ -13,7 +13,7 @@ use arrow_ipc::{BatchView, IpcMessage, Messages};
 use arrow_schema::SchemaSpec;
 use std::alloc::Global;
 
-/// What stands behind the schema of a record.
+/// What stands after the schema of a record.
 #[derive(Debug, Drop)]
 pub(crate) enum Found<'a> {
     Dictionary {

@@ -1,17 +1,18 @@
 ghost use Rattle.std.specs.Prelude.{◌≡◌, ◌<◌, ◌^◌, [], true, false, is_err, length, slice_get, Some, OnOk, IfOk, IfErr, IfSome, IfNone, List, IsOk};
-ghost use Rattle.std.specs.Option.{ForSome, option_copied};
+ghost use Rattle.std.specs.Option.{option_copied};
 ghost use Rattle.arrow_ipc.specs.declared.messages.IpcMessage.{IpcMessage};
 ghost use Rattle.arrow_ipc.specs.Fronts.{front_of};
 
 use crate::dictionary::Dictionary;
 use crate::messages::{self, Found};
 use crate::refusal::ColumnRefusal;
+use crate::resolved::ResolvedColumn;
 use crate::view::RowsView;
-use crate::{cells, dictionaries, indexes, known};
-use arrow_arrays::Arrays;
+use crate::{dictionaries, indexes, known};
+use arrow_arrays::{ArraySpec, Arrays};
 use arrow_ipc::{BatchView, Messages, rows_at};
 use arrow_schema::SchemaSpec;
-use otap_cells::{CellView, Kind, base_of};
+use otap_cells::{Coding, Kind, coding_of};
 use std::alloc::Global;
 use std::marker::Model;
 
@@ -141,7 +142,7 @@ impl Reader {
         })
     }
 
-    // Takes the messages of a record, those behind the schema.
+    // Takes the messages of a record, those after the schema.
     fn take_messages(&mut self, messages: &mut Messages<'_>) -> Result<(), ColumnRefusal>
         ensures ok { OnOk result (TakesRecord self.old messages.old self.new) }
         ensures kept { Keeps self.old self.new }
@@ -153,7 +154,7 @@ impl Reader {
         Ok(())
     }
 
-    // Takes the dictionary batches, and answers the record batch behind them.
+    // Takes the dictionary batches, and returns the record batch after them.
     fn take_dictionaries<'a>(
         &mut self,
         messages: &mut Messages<'a>,
@@ -170,7 +171,7 @@ impl Reader {
         }
     }
 
-    // Takes a dictionary batch, or answers a record batch.
+    // Takes a dictionary batch, or returns a record batch.
     fn take_message<'a>(
         &mut self,
         messages: &mut Messages<'a>,
@@ -205,11 +206,10 @@ impl Reader {
 }
 
 impl Reader {
-    ghost use Rattle.otap_columns.specs.Known.{FitsBase};
-    ghost use Rattle.otap_columns.specs.Substreams.{column_cell, column_value, field_value};
+    ghost use Rattle.otap_columns.specs.Known.{place_at, array_of, column_coding, column_greatest};
+    ghost use Rattle.otap_columns.specs.Resolved.{IsColumn, IsField};
     ghost use Rattle.arrow_arrays.specs.Arrays.{arrays_check};
-    ghost use Rattle.otap_cells.specs.Cells.{seen};
-    ghost use Rattle.otap_cells.specs.Columns.{base_at, width_of};
+    ghost use Rattle.otap_cells.specs.Columns.{width_of};
 
     /// The kind whose columns the rows have.
     pub(crate) fn kind(&self) -> Kind
@@ -218,41 +218,67 @@ impl Reader {
         self.kind
     }
 
-    /// The cell of a row in a column, in constant time.
-    #[tactic(auto, unfolding(crate::specs::Substreams::column_cell))]
-    pub(crate) fn cell<'v>(&'v self, batch: &BatchView<'v>, column: u32, row: u64) -> CellView<'v>
-        requires column { column < width_of self.now.kind }
-        requires fine { IsOk (arrays_check batch.now self.now.substream.arrays) }
-        ensures { seen result ≡ column_cell self.now.kind self.now.substream batch.now column row }
+    /// How the ids of a column are stored.
+    pub(crate) fn coding(&self, column: u32) -> Coding
+        requires { column < width_of self.now.kind }
+        ensures { result ≡ column_coding self.now.kind self.now.substream.arrays column }
     {
-        cells::cell(
-            base_of(self.kind, column),
-            self.column_value(batch, column, row),
-        )
+        known::coding_if(coding_of(self.kind, column), self.array(column))
     }
 
-    // What stands in a row of a column.
-    #[tactic(auto, unfolding(crate::specs::Substreams::column_value))]
-    fn column_value<'v>(&'v self, batch: &BatchView<'v>, column: u32, row: u64) -> Option<&'v [u8]>
-        requires column { column < width_of self.now.kind }
-        requires fine { IsOk (arrays_check batch.now self.now.substream.arrays) }
-        ensures value { option_copied result ≡ column_value self.now.kind self.now.substream batch.now column row }
-        ensures fits { ForSome (option_copied result) (FitsBase (base_at self.now.kind column)) }
+    /// The greatest number that a column of ids may hold.
+    pub(crate) fn greatest(&self, column: u32) -> u32
+        requires { column < width_of self.now.kind }
+        ensures { result ≡ column_greatest self.now.kind self.now.substream.arrays column }
     {
-        let place = self.places[column as usize]?;
-        self.value(batch, place, row)
+        known::greatest_if(self.array(column))
     }
 
-    // What stands in a field.
-    fn value<'v>(&'v self, batch: &BatchView<'v>, place: usize, row: u64) -> Option<&'v [u8]>
-        requires { IsOk (arrays_check batch.now self.now.substream.arrays) }
-        ensures { option_copied result ≡ field_value self.now.substream batch.now row place (slice_get self.now.substream.arrays place) }
+    /// A column of a record batch, found once for all its rows.
+    pub(crate) fn column<'v>(&'v self, batch: &BatchView<'v>, column: u32) -> ResolvedColumn<'v>
+        requires column { column < width_of self.now.kind }
+        requires fine { IsOk (arrays_check batch.now self.now.substream.arrays) }
+        ensures { IsColumn self.now.kind self.now.substream batch.now column result }
     {
-        let array = self.arrays.get(place)?;
-        let stored = self.arrays.cell(batch, place, row);
-        match array.dict {
-            None => stored,
-            Some(dict) => dictionaries::value_for(&self.dictionaries, array.kind, dict.id, stored),
+        let _kind = self.kind;
+        match self.place_of(column) {
+            None => ResolvedColumn::missing(),
+            Some(place) => self.field(batch, place),
         }
+    }
+
+    // The column of the field at a place.
+    fn field<'v>(&'v self, batch: &BatchView<'v>, place: usize) -> ResolvedColumn<'v>
+        requires { IsOk (arrays_check batch.now self.now.substream.arrays) }
+        ensures { IsField self.now.substream batch.now place result }
+    {
+        let Some(array) = self.arrays.get(place) else {
+            return ResolvedColumn::missing();
+        };
+        let stored = self.arrays.view(batch, place);
+        match array.dict {
+            None => ResolvedColumn::plain(stored),
+            Some(dict) => dictionaries::lead(&self.dictionaries, array.kind, dict.id, stored),
+        }
+    }
+
+    // The array of a column.
+    #[tactic(auto, unfolding(crate::specs::Known::array_of))]
+    fn array(&self, column: u32) -> Option<&ArraySpec>
+        requires { column < width_of self.now.kind }
+        ensures { option_copied result ≡ array_of self.now.kind self.now.substream.arrays column }
+    {
+        match self.place_of(column) {
+            None => None,
+            Some(place) => self.arrays.get(place),
+        }
+    }
+
+    // The place of the array of a column.
+    fn place_of(&self, column: u32) -> Option<usize>
+        requires { column < width_of self.now.kind }
+        ensures { result ≡ place_at self.now.kind self.now.substream.arrays column }
+    {
+        self.places[column as usize]
     }
 }

@@ -1,11 +1,16 @@
-ghost use Rattle.std.specs.Prelude.{◌≡◌, IfOk};
+ghost use Rattle.std.specs.Prelude.{◌≡◌, ◌<◌, Ok, length};
 ghost use Rattle.arrow_arrays.specs.Arrays.{arrays_check};
+ghost use Rattle.otap_cells.specs.Columns.{width_of};
 
+use crate::cells;
 use crate::reader::Reader;
+use crate::resolved::ResolvedColumn;
 use arrow_ipc::BatchView;
-use otap_cells::{CellView, Kind, LogicalTable, Rows};
-use std::alloc::{AllocError, Global};
+use otap_cells::{CellView, Coding, Kind, Rows, base_of, columns};
 use std::marker::Model;
+
+/// The most columns that a table has.
+const MAX_COLUMNS: usize = 32;
 
 /// The table of a record. It hands out parts of the record's bytes and of the reader's dictionaries, and takes no memory. A
 /// contract sees it as the table.
@@ -13,6 +18,8 @@ use std::marker::Model;
 pub struct RowsView<'v> {
     reader: &'v Reader,
     batch: BatchView<'v>,
+    // The columns of the kind, found once for all rows.
+    columns: [ResolvedColumn<'v>; MAX_COLUMNS],
 }
 
 impl<'v> Model for RowsView<'v> {
@@ -28,24 +35,54 @@ impl<'v> Model for RowsView<'v> {
 }
 
 impl<'v> RowsView<'v> {
-    /// A copy of the table.
-    pub fn copy(&self, alloc: Global) -> Result<LogicalTable, AllocError>
-        ensures { IfOk result (λ table. table ≡ self.now) }
-    {
-        LogicalTable::copy_of(alloc, self)
-    }
-}
-
-impl<'v> RowsView<'v> {
-    ghost use Rattle.otap_cells.specs.Tables.{IsTable};
+    ghost use Rattle.otap_cells.specs.Tables.{IsTable, cell_in};
+    ghost use Rattle.otap_columns.specs.Parts.{part_of};
+    ghost use Rattle.otap_columns.specs.Known.{FitsBase, stored_cell};
     ghost use Rattle.otap_columns.specs.Substreams.{table_in};
+    ghost use Rattle.otap_cells.specs.Columns.{base_at};
+    ghost use Rattle.std.specs.Option.{ForSome, option_copied};
 
     pub(crate) fn new(reader: &'v Reader, batch: BatchView<'v>) -> RowsView<'v>
         requires fine { arrays_check batch reader.now.substream.arrays ≡ Ok tt }
         requires sound { IsTable (table_in reader.now.kind reader.now.substream batch) }
         ensures { result ≡ table_in reader.now.kind reader.now.substream batch.entry }
     {
-        RowsView { reader, batch }
+        let mut found = [ResolvedColumn::missing(); MAX_COLUMNS];
+        'columns: for column in 0..columns(reader.kind()).len() {
+            found[column] = reader.column(&batch, column as u32);
+        }
+        RowsView {
+            reader,
+            batch,
+            columns: found,
+        }
+    }
+
+    /// The bytes of a row's cell in a column; `None` where the cell has none, since it is null or no text, binary, id of a trace
+    /// or span, or list. They stay for as long as the record and the reader are lent, longer than the view itself.
+    pub fn part(&self, column: u32, row: u64) -> Option<&'v [u8]>
+        requires column { column < width_of self.now.kind }
+        requires row { row < length self.now.rows }
+        ensures { option_copied result ≡ part_of (cell_in self.now.rows column row) }
+    {
+        let value = self.value(column, row);
+        if base_of(self.reader.kind(), column).has_bytes() {
+            value
+        } else {
+            None
+        }
+    }
+
+    // What stands in a row of a column, in constant time.
+    #[inline(always)]
+    fn value(&self, column: u32, row: u64) -> Option<&'v [u8]>
+        requires column { column < width_of self.now.kind }
+        requires row { row < length self.now.rows }
+        ensures cell { stored_cell (base_at self.now.kind column) (option_copied result) ≡ cell_in self.now.rows column row }
+        ensures fits { ForSome (option_copied result) (FitsBase (base_at self.now.kind column)) }
+    {
+        let columns = &self.columns[..];
+        columns[column as usize].value(row)
     }
 }
 
@@ -61,6 +98,14 @@ impl<'v> Rows for RowsView<'v> {
     }
 
     fn cell(&self, column: u32, row: u64) -> CellView<'_> {
-        self.reader.cell(&self.batch, column, row)
+        cells::cell(base_of(self.reader.kind(), column), self.value(column, row))
+    }
+
+    fn coding(&self, column: u32) -> Coding {
+        self.reader.coding(column)
+    }
+
+    fn greatest(&self, column: u32) -> u32 {
+        self.reader.greatest(column)
     }
 }

@@ -1,0 +1,116 @@
+-- Columns that are found once.
+use Rattle.std.proofs.Common.{◌≡◌, ℕ, ◌+◌, ◌<◌, true, List, [], length, get_or, set, Option, Some, None, IsOk, refl, sym, ap, ◌∙◌, subst, arith, inl, inr}
+use Rattle.std.specs.Prelude.{All, IfSome, slice_get}
+use Rattle.std.specs.Option.{ForSome}
+use Rattle.std.proofs.lemmas.Bool.{cases_Bool, cases_eq}
+use Rattle.std.proofs.lemmas.List.{get_or-set_same, get_or-set_other, get_or_past}
+use Rattle.byteorder.specs.Endian.{little_number}
+use Rattle.arrow_schema.specs.declared.spec.ArrowType.{ArrowType}
+use Rattle.arrow_schema.specs.declared.spec.DictSpec.{DictSpec}
+use Rattle.arrow_ipc.specs.Batches.{BatchIn}
+use Rattle.arrow_arrays.specs.declared.column.ColumnView.{ColumnView}
+use Rattle.arrow_arrays.specs.declared.spec.ArraySpec.{ArraySpec}
+use Rattle.arrow_arrays.specs.Arrays.{arrays_check, cell_of, FitsArray, fits_if}
+use Rattle.arrow_arrays.specs.Layouts.{layout_of, FitsLayout}
+use Rattle.arrow_arrays.specs.Views.{cell_seen}
+use Rattle.otap_cells.specs.declared.payload.Kind.{Kind}
+use Rattle.otap_cells.specs.Columns.{base_at, width_of}
+use Rattle.otap_cells.specs.Tables.{Table, cell_in}
+use Rattle.otap_columns.specs.declared.resolved.ResolvedColumn.{ResolvedColumn}
+use Rattle.otap_columns.specs.Dictionaries.{values_for}
+use Rattle.otap_columns.specs.Known.{FitsBase, place_at, columns_fit, stored_cell}
+use Rattle.otap_columns.specs.Resolved.{resolved_value, HasIndexSizes, HasIndexes, IsField, IsColumn}
+use Rattle.otap_columns.specs.Steps.{FitsIn}
+use Rattle.otap_columns.specs.Substreams.{SubstreamIn, IsIndexSize, value_at, replaced, field_value, column_cell, table_in}
+use Rattle.otap_columns.proofs.Placed.{column_value_is}
+use Rattle.otap_columns.proofs.Showing.{column_value_fits}
+use Rattle.otap_columns.proofs.Tabled.{same_kind, shows}
+
+-- no index leads into a dictionary that isn't there
+pub leads_nowhere : (cell : Option (List ℕ)) → value_at [] cell ≡ None
+leads_nowhere None = refl
+leads_nowhere (Some index) = get_or_past [] (little_number (length index) index) None (omega arith)
+
+-- the cells of an array of indexes hold indexes
+index_size : (type : ArrowType) (dict : DictSpec) (x : List ℕ) → FitsLayout (layout_of type (Some dict)) x → IsIndexSize x
+index_size type dict x fits =
+    elim (cases_Bool dict.wide) [
+      | inl wide ↦ inr (fits ∙ rw wide refl)
+      | inr narrow ↦ inl (fits ∙ rw narrow refl)
+    ]
+
+pub index_sizes : (arrays : List ArraySpec) (place : ℕ) (a : ArraySpec) (dict : DictSpec) (v : ColumnView) → slice_get arrays place ≡ Some a → a.dict ≡ Some dict
+    → ((row : ℕ) → IfSome (cell_seen v row) (FitsArray arrays place)) → HasIndexSizes v
+index_sizes arrays place a dict v at has fits row = by_cell (cell_seen v row) (fits row)
+  where
+    by_cell : (cell : Option (List ℕ)) → IfSome cell (FitsArray arrays place) → ForSome cell IsIndexSize
+    by_cell None h = λ x is. absurd (cc)
+    by_cell (Some y) h =
+        λ x is.
+        let same : y ≡ x = cc in
+        subst IsIndexSize same (index_size a.kind dict y (subst (λ (o : Option DictSpec). FitsLayout (layout_of a.kind o) y) has (subst (λ (o : Option ArraySpec). fits_if o y) at h)))
+
+-- ---- the column of a field
+
+module _ (s : SubstreamIn) (batch : BatchIn) (place : ℕ) (c : ResolvedColumn) where
+  pub field_missing : slice_get s.arrays place ≡ None → ((row : ℕ) → resolved_value c row ≡ None) → HasIndexes c → IsField s batch place c
+  field_missing at values indexes = record { values = λ row. values row ∙ (λ i. field_value s batch row place (sym at i)); indexes = indexes }
+
+  pub field_plain : (a : ArraySpec) (v : ColumnView) → slice_get s.arrays place ≡ Some a → a.dict ≡ None → ((row : ℕ) → cell_seen v row ≡ cell_of s.arrays batch place row)
+      → ((row : ℕ) → resolved_value c row ≡ cell_seen v row) → HasIndexes c → IsField s batch place c
+  field_plain a v at plain cells values indexes = record {
+    values = λ row. values row ∙ cells row ∙ (λ i. replaced s.dictionaries a.kind (sym plain i) (cell_of s.arrays batch place row)) ∙ (λ i. field_value s batch row place (sym at i));
+    indexes = indexes;
+  }
+
+  pub field_indexed : (a : ArraySpec) (dict : DictSpec) (v : ColumnView) → slice_get s.arrays place ≡ Some a → a.dict ≡ Some dict
+      → ((row : ℕ) → cell_seen v row ≡ cell_of s.arrays batch place row) → ((row : ℕ) → resolved_value c row ≡ value_at (values_for a.kind dict.id s.dictionaries) (cell_seen v row))
+      → HasIndexes c → IsField s batch place c
+  field_indexed a dict v at has cells values indexes = record {
+    values = λ row.
+        values row ∙ ap (value_at (values_for a.kind dict.id s.dictionaries)) (cells row)
+        ∙ (λ i. replaced s.dictionaries a.kind (sym has i) (cell_of s.arrays batch place row)) ∙ (λ i. field_value s batch row place (sym at i));
+    indexes = indexes;
+  }
+
+-- ---- the column of a table
+
+module _ (kind : Kind) (s : SubstreamIn) (batch : BatchIn) (types : columns_fit kind s.arrays ≡ true) (all : All FitsIn s.dictionaries) (fine : IsOk (arrays_check batch s.arrays)) where
+  pub column_missing : (column : ℕ) (c : ResolvedColumn) → place_at kind s.arrays column ≡ None → ((row : ℕ) → resolved_value c row ≡ None) → HasIndexes c → IsColumn kind s batch column c
+  column_missing column c at values indexes = record {
+    values = λ row. values row ∙ column_value_is kind s batch column row None at;
+    indexes = indexes;
+    fits = λ row. column_value_fits kind s batch types all fine column row;
+  }
+
+  pub column_there : (column place : ℕ) (c : ResolvedColumn) → place_at kind s.arrays column ≡ Some place → IsField s batch place c → IsColumn kind s batch column c
+  column_there column place c at field = record {
+    values = λ row. field.values row ∙ column_value_is kind s batch column row (Some place) at;
+    indexes = field.indexes;
+    fits = λ row. column_value_fits kind s batch types all fine column row;
+  }
+
+-- ---- all columns of a table
+
+pub one_more_column : (kind : Kind) (s : SubstreamIn) (batch : BatchIn) (found : List ResolvedColumn) (n : ℕ) (c : ResolvedColumn) → n < length found
+    → ((k : ℕ) (d : ResolvedColumn) → k < n → IsColumn kind s batch k (get_or found k d)) → IsColumn kind s batch n c
+    → (k : ℕ) (d : ResolvedColumn) → k < n + 1 → IsColumn kind s batch k (get_or (set found n c) k d)
+one_more_column kind s batch found n c inside before here k d below =
+    elim (cases_eq k n) [
+      | inl same ↦
+          subst (λ (m : ℕ). IsColumn kind s batch m (get_or (set found n c) m d)) (sym same)
+          (subst (λ (x : ResolvedColumn). IsColumn kind s batch n x) (sym (get_or-set_same found n c d inside)) here)
+      | inr other ↦ subst (λ (x : ResolvedColumn). IsColumn kind s batch k x) (sym (get_or-set_other found n k c d other)) (before k d (omega (arith, below, other)))
+    ]
+
+-- what a column shows is the cell of the table
+module _ (kind : Kind) (s : SubstreamIn) (batch : BatchIn) (t : Table) (is : table_in kind s batch ≡ t) (column row : ℕ) (c : ResolvedColumn) (here : IsColumn kind s batch column c) (x : Option (List ℕ)) (value : x ≡ resolved_value c row) where
+  pub column_shows : column < width_of t.kind → row < length t.rows → stored_cell (base_at t.kind column) x ≡ cell_in t.rows column row
+  unfolding column_cell
+  column_shows in_width in_rows =
+      shows kind s batch t is column row (stored_cell (base_at t.kind column) x) (λ i. stored_cell (base_at (sym (same_kind kind s batch t is) i) column) ((value ∙ here.values row) i)) in_width in_rows
+
+  pub shown_fits : ForSome x (FitsBase (base_at t.kind column))
+  shown_fits =
+      subst (λ (k : Kind). ForSome x (FitsBase (base_at k column))) (same_kind kind s batch t is)
+      (subst (λ (o : Option (List ℕ)). ForSome o (FitsBase (base_at kind column))) (sym (value ∙ here.values row)) (here.fits row))

@@ -1,0 +1,36 @@
+use Rattle.std.proofs.Common.{◌<◌, sym, subst, arith}
+use Rattle.otap_cells.specs.Columns.{width_of}
+use Rattle.otap_columns.specs.declared.resolved.ResolvedColumn.{ResolvedColumn}
+use Rattle.otap_columns.specs.Resolved.{IsColumn}
+use Rattle.otap_columns.proofs.Resolving.{column_shows, shown_fits}
+use Rattle.otap_columns.proofs.Tabled.{same_width}
+use Rattle.otap_columns.proofs.view.RowsView.value.Goals as goal
+
+pub bounds-columns-column : goal.bounds-columns-column
+bounds-columns-column c =
+    let below : c.args.column < width_of c.self.inside.reader.now.kind = same_width c.self.inside.reader.now.kind c.self.inside.reader.now.substream c.self.inside.batch _ c.self.view_is c.args.column c.requires.column in
+    omega (arith, below, c.self.invariant.room)
+
+pub value-requires : goal.value-requires
+value-requires c =
+    let below : c.args.column < width_of c.self.inside.reader.now.kind = same_width c.self.inside.reader.now.kind c.self.inside.reader.now.substream c.self.inside.batch _ c.self.view_is c.args.column c.requires.column in
+    let here : IsColumn c.self.inside.reader.now.kind c.self.inside.reader.now.substream c.self.inside.batch c.args.column c.index-columns-column.result =
+    subst (λ (x : ResolvedColumn). IsColumn c.self.inside.reader.now.kind c.self.inside.reader.now.substream c.self.inside.batch c.args.column x) (sym c.index-columns-column.is)
+    (c.self.invariant.columns c.args.column c.index-columns-column.result below) in
+    here.indexes
+
+pub returns-clause-cell : goal.returns-clause-cell
+returns-clause-cell c =
+    let below : c.args.column < width_of c.self.inside.reader.now.kind = same_width c.self.inside.reader.now.kind c.self.inside.reader.now.substream c.self.inside.batch _ c.self.view_is c.args.column c.requires.column in
+    let here : IsColumn c.self.inside.reader.now.kind c.self.inside.reader.now.substream c.self.inside.batch c.args.column c.index-columns-column.result =
+    subst (λ (x : ResolvedColumn). IsColumn c.self.inside.reader.now.kind c.self.inside.reader.now.substream c.self.inside.batch c.args.column x) (sym c.index-columns-column.is)
+    (c.self.invariant.columns c.args.column c.index-columns-column.result below) in
+    column_shows c.self.inside.reader.now.kind c.self.inside.reader.now.substream c.self.inside.batch _ c.self.view_is c.args.column c.args.row c.index-columns-column.result here _ c.value.ensures c.requires.column c.requires.row
+
+pub returns-clause-fits : goal.returns-clause-fits
+returns-clause-fits c =
+    let below : c.args.column < width_of c.self.inside.reader.now.kind = same_width c.self.inside.reader.now.kind c.self.inside.reader.now.substream c.self.inside.batch _ c.self.view_is c.args.column c.requires.column in
+    let here : IsColumn c.self.inside.reader.now.kind c.self.inside.reader.now.substream c.self.inside.batch c.args.column c.index-columns-column.result =
+    subst (λ (x : ResolvedColumn). IsColumn c.self.inside.reader.now.kind c.self.inside.reader.now.substream c.self.inside.batch c.args.column x) (sym c.index-columns-column.is)
+    (c.self.invariant.columns c.args.column c.index-columns-column.result below) in
+    shown_fits c.self.inside.reader.now.kind c.self.inside.reader.now.substream c.self.inside.batch _ c.self.view_is c.args.column c.args.row c.index-columns-column.result here _ c.value.ensures

@@ -1,0 +1,33 @@
+-- Where the values of a dictionary lie in its bytes, in the words of private contracts.
+use Rattle.std.specs.Prelude.{◌≡◌, ℕ, zero, suc, ◌-◌, ◌≤◌, false, List, [], ◌∷◌, take, drop, Option, None, Some, if◌then◌else◌}
+use Rattle.otap_columns.specs.declared.ends.End.{End}
+
+-- the value between two places, if it is there
+abbrev pub value_between : List ℕ → ℕ → End → Option (List ℕ)
+value_between bytes from end = if end.there then Some (take (end.place - from) (drop from bytes)) else None
+
+-- the values that end at these places, the first of which begins at a place
+abbrev pub values_by : List ℕ → ℕ → List End → List (Option (List ℕ))
+values_by bytes from [] = []
+values_by bytes from (e ∷ ends) = value_between bytes from e ∷ values_by bytes e.place ends
+
+-- where the value at a place of the list begins
+abbrev pub start_of : ℕ → List End → ℕ → ℕ
+start_of from ends zero = from
+start_of from [] (suc place) = from
+start_of from (e ∷ ends) (suc place) = start_of e.place ends place
+
+-- a value doesn't end before it begins, and one that is null has no bytes
+pub record IsEnd (from : ℕ) (end : End) : Type 0 where
+  pub after : from ≤ end.place
+  pub none : end.there ≡ false → end.place ≡ from
+
+-- the values lie one after the other, up to a place
+abbrev pub AreEnds : ℕ → List End → ℕ → Type 0
+AreEnds from [] last = from ≡ last
+AreEnds from (e ∷ ends) last = IsEnd from e × AreEnds e.place ends last
+
+-- the bytes of a value
+abbrev pub bytes_in : Option (List ℕ) → List ℕ
+bytes_in None = []
+bytes_in (Some value) = value

@@ -1,0 +1,44 @@
+-- Columns that are found once, in the words of private contracts.
+use Rattle.std.specs.Prelude.{◌≡◌, ℕ, ⊤, List, Option, None, Some, slice_get}
+use Rattle.std.specs.Option.{ForSome, option_copied}
+use Rattle.arrow_ipc.specs.Batches.{BatchIn}
+use Rattle.arrow_arrays.specs.declared.column.ColumnView.{ColumnView}
+use Rattle.arrow_arrays.specs.Views.{cell_seen}
+use Rattle.otap_cells.specs.declared.payload.Kind.{Kind}
+use Rattle.otap_columns.specs.declared.resolved.ResolvedColumn.{ResolvedColumn}
+use Rattle.otap_cells.specs.Columns.{base_at}
+use Rattle.otap_columns.specs.Known.{FitsBase}
+use Rattle.otap_columns.specs.Dictionaries.{DictionaryIn}
+use Rattle.otap_columns.specs.Substreams.{SubstreamIn, IsIndexSize, value_at, field_value, column_value}
+
+-- a cell, or the value to which it leads as an index
+abbrev pub led_to : Option DictionaryIn → Option (List ℕ) → Option (List ℕ)
+led_to None cell = cell
+led_to (Some d) cell = value_at d.values cell
+
+-- what stands in a row of a column
+abbrev pub resolved_value : ResolvedColumn → ℕ → Option (List ℕ)
+resolved_value c row = led_to (option_copied c.dictionary) (cell_seen c.stored row)
+
+-- each cell holds an index
+abbrev pub HasIndexSizes : ColumnView → Type 0
+HasIndexSizes v = (row : ℕ) → ForSome (cell_seen v row) IsIndexSize
+
+-- where there is a dictionary
+abbrev pub LeadsBy : Option DictionaryIn → ColumnView → Type 0
+LeadsBy None v = ⊤
+LeadsBy (Some d) v = HasIndexSizes v
+
+abbrev pub HasIndexes : ResolvedColumn → Type 0
+HasIndexes c = LeadsBy (option_copied c.dictionary) c.stored
+
+-- the column of the field at a place is this one
+pub record IsField (s : SubstreamIn) (batch : BatchIn) (place : ℕ) (c : ResolvedColumn) : Type 0 where
+  pub values : (row : ℕ) → resolved_value c row ≡ field_value s batch row place (slice_get s.arrays place)
+  pub indexes : HasIndexes c
+
+-- the column of a table is this one
+pub record IsColumn (kind : Kind) (s : SubstreamIn) (batch : BatchIn) (column : ℕ) (c : ResolvedColumn) : Type 0 where
+  pub values : (row : ℕ) → resolved_value c row ≡ column_value kind s batch column row
+  pub indexes : HasIndexes c
+  pub fits : (row : ℕ) → ForSome (column_value kind s batch column row) (FitsBase (base_at kind column))
