@@ -1,11 +1,13 @@
 -- The stages exclude one another, and what is accepted is refused in none.
-use Rattle.std.proofs.Common.{◌≡◌, ℕ, ◌+◌, ◌<◌, ◌≤◌, inl, inr, false, List, [], ◌∷◌, ◌++◌, Option, Some, None, ℤ, if◌then◌else◌, refl, sym, ap, ◌∙◌, subst, append_assoc, append-nil, arith}
+use Rattle.std.proofs.Common.{◌≡◌, ℕ, ◌+◌, ◌<◌, ◌≤◌, inl, inr, false, List, [], ◌∷◌, ◌++◌, Option, Some, None, ℤ, if◌then◌else◌, refl, sym, ap, ◌∙◌, subst, arith}
 use Rattle.std.specs.List.{AllByRecursion}
 use Rattle.std.specs.Option.{IsSome}
 use Rattle.std.specs.Ordering.{int_eq}
 use Rattle.std.proofs.lemmas.Bool.{cases_Bool, both_ways}
 use Rattle.std.proofs.lemmas.Bool.Decides.{Decides-int_eq}
 use Rattle.std.proofs.lemmas.List.Sums.{sum_by-cons}
+use Rattle.histories.specs.EachAfter.{AllAfter}
+use Rattle.histories.proofs.Growing.{all_after-at}
 use Rattle.otlp_model.specs.declared.request.Signal.{Signal}
 use Rattle.otap_capture.specs.Batch.{PayloadContent}
 use Rattle.otap_cells.specs.declared.payload.Kind.{Kind}
@@ -18,15 +20,9 @@ use Rattle.otap_consume.specs.declared.refusal.Cause.{Cause}
 use Rattle.otap_consume.specs.declared.refusal.Cause.TheVariants.{Compressed, BadMessage, Repeated, BadUtf8, PayloadType, PayloadTwice, SchemaIdTaken, Column, TooManyItems, RowsTooHeavy, HeldTooMuch, Broken}
 use Rattle.otap_consume.specs.Defects.{Accepts, Refuses, StandsInList, HasFineList, StandsInRecord, HasFineRecords, IsReadBehind, IsTooLarge, IsWithinLimits, is_taken, tables_of, held_after}
 use Rattle.otap_consume.specs.Outcomes.{stage_of}
-use Rattle.otap_consume.specs.Payloads.{EachBehind, messages_before}
+use Rattle.otap_consume.specs.Payloads.{messages_before}
 use Rattle.otap_consume.specs.PayloadTypes.{IsFineType, times}
 use Rattle.otap_consume.proofs.ViewSteps.{fine_at}
-
--- what each is behind those before it, one of them is
-behind_at : (P : List PayloadContent → PayloadContent → Type 0) (before front rest : List PayloadContent) (p : PayloadContent) → EachBehind P before (front ++ p ∷ rest) → P (before ++ front) p
-behind_at P before [] rest p each = subst (λ (b : List PayloadContent). P b p) (sym (append-nil before)) each.0
-behind_at P before (q ∷ front) rest p each =
-    subst (λ (b : List PayloadContent). P b p) (append_assoc before (q ∷ []) front) (behind_at P (before ++ q ∷ []) front rest p each.1)
 
 -- a type that is there stands once in a list of fine types
 once_at : (signal : Signal) (all : List PayloadContent) (type : ℤ) (xs : List PayloadContent) → AllByRecursion (IsFineType signal all) xs → 0 < times type xs → times type all ≤ 1
@@ -46,9 +42,9 @@ module _ (signal : Signal) (past payloads : List PayloadContent) where
       cc (subst (λ (o : Option Kind). IsSome o) (ap (kind_numbered signal) h.2 ∙ h.3) known)
   list_not fine PayloadTwice (Some type) h = absurd (omega (arith, once_at signal payloads type payloads fine.types (omega (arith, h)), h))
   list_not fine SchemaIdTaken (Some type) h =
-      let each : EachBehind (λ before p. is_taken signal before p ≡ false) past (h.has.before ++ h.p ∷ h.has.after)
-      = subst (λ (ps : List PayloadContent). EachBehind (λ before p. is_taken signal before p ≡ false) past ps) h.has.is fine.ids in
-      both_ways (is_taken signal (past ++ h.has.before) h.p) (behind_at (λ before p. is_taken signal before p ≡ false) past h.has.before h.has.after h.p each) h.taken
+      let each : AllAfter (λ before p. is_taken signal before p ≡ false) past (h.has.before ++ h.p ∷ h.has.after)
+      = subst (λ (ps : List PayloadContent). AllAfter (λ before p. is_taken signal before p ≡ false) past ps) h.has.is fine.ids in
+      both_ways (is_taken signal (past ++ h.has.before) h.p) (all_after-at (λ before p. is_taken signal before p ≡ false) past h.has.before h.has.after h.p each) h.taken
   list_not fine PayloadType None h = h
   list_not fine PayloadTwice None h = h
   list_not fine SchemaIdTaken None h = h
@@ -79,8 +75,8 @@ module _ (signal : Signal) (past payloads : List PayloadContent) where
   -- nor with records that are
   records_not : HasFineRecords signal past payloads → (refusal : ColumnRefusal) (payload : Option ℤ) → StandsInRecord signal past payloads refusal payload → ⊥
   records_not fine refusal payload h =
-      let each : EachBehind (IsReadBehind signal) past (h.has.before ++ h.p ∷ h.has.after) = subst (λ (ps : List PayloadContent). EachBehind (IsReadBehind signal) past ps) h.has.is fine in
-      let read : IsRead h.kind (messages_before (past ++ h.has.before) h.p) h.p.bytes = behind_at (IsReadBehind signal) past h.has.before h.has.after h.p each h.kind h.known in
+      let each : AllAfter (IsReadBehind signal) past (h.has.before ++ h.p ∷ h.has.after) = subst (λ (ps : List PayloadContent). AllAfter (IsReadBehind signal) past ps) h.has.is fine in
+      let read : IsRead h.kind (messages_before (past ++ h.has.before) h.p) h.p.bytes = all_after-at (IsReadBehind signal) past h.has.before h.has.after h.p each h.kind h.known in
       never_both h.kind (messages_before (past ++ h.has.before) h.p) h.p.bytes read refusal h.stands
 
   -- nor with a whole that is within the limits

@@ -32,7 +32,13 @@ numbered Metrics (suc (suc (suc zero))) d h = refl
 numbered Metrics (suc (suc (suc (suc zero)))) d h = refl
 numbered Metrics (suc (suc (suc (suc (suc zero))))) d h = refl
 numbered Metrics (suc (suc (suc (suc (suc (suc zero)))))) d h = refl
-numbered Metrics (suc (suc (suc (suc (suc (suc (suc k))))))) d h = absurd (omega arith)
+numbered Metrics (suc (suc (suc (suc (suc (suc (suc zero))))))) d h = refl
+numbered Metrics (suc (suc (suc (suc (suc (suc (suc (suc zero)))))))) d h = refl
+numbered Metrics (suc (suc (suc (suc (suc (suc (suc (suc (suc zero))))))))) d h = refl
+numbered Metrics (suc (suc (suc (suc (suc (suc (suc (suc (suc (suc zero)))))))))) d h = refl
+numbered Metrics (suc (suc (suc (suc (suc (suc (suc (suc (suc (suc (suc zero))))))))))) d h = refl
+numbered Metrics (suc (suc (suc (suc (suc (suc (suc (suc (suc (suc (suc (suc zero)))))))))))) d h = refl
+numbered Metrics (suc (suc (suc (suc (suc (suc (suc (suc (suc (suc (suc (suc (suc k))))))))))))) d h = absurd (omega arith)
 
 pub same_kind_number : (p type : ℤ) → int_eq p type ≡ true → p ≡ type
 same_kind_number p type h = (Decides-int_eq p type).0 h

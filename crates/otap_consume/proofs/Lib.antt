@@ -1,5 +1,5 @@
 pub mod Lists
-pub mod FrontMore
+pub mod FineTypes
 pub mod KindNumbers
 pub mod Substreams
 pub mod StreamSteps
@@ -11,3 +11,5 @@ pub mod SizeSteps
 pub mod SegmentSteps
 pub mod Stages
 pub mod Excluding
+pub mod Judged
+pub mod Following

@@ -1,19 +1,10 @@
--- Lists: what each element is behind those before it, and what is found in them.
-use Rattle.std.proofs.Common.{◌≡◌, inl, inr, ℕ, ◌+◌, ◌<◌, ◌≤◌, suc, zero, Bool, true, List, [], ◌∷◌, ◌++◌, length, get_or, Some, refl, sym, ap, ◌∙◌, subst, append_assoc, append-nil, arith}
+-- Lists: what is found in them, and lists whose elements are changed one after the other.
+use Rattle.std.proofs.Common.{◌≡◌, inl, inr, ℕ, ◌+◌, ◌<◌, ◌≤◌, suc, zero, Bool, true, List, [], ◌∷◌, ◌++◌, length, get_or, Some, refl, sym, ap, ◌∙◌, subst, arith}
 use Rattle.std.specs.Prelude.{find, map, sum_by, slice_set}
 use Rattle.std.specs.List.{AllByRecursion, AllZip}
 use Rattle.std.proofs.lemmas.Bool.{cases_Bool, cases_eq}
 use Rattle.std.proofs.lemmas.List.{get_or-set_same, get_or-set_other}
 use Rattle.std.proofs.lemmas.List.Sums.{sum_by-cons}
-use Rattle.otap_capture.specs.Batch.{PayloadContent}
-use Rattle.otap_consume.specs.Payloads.{EachBehind}
-
--- one more payload, which is so behind all of them
-pub behind-push : (P : List PayloadContent → PayloadContent → Type 0) (before xs : List PayloadContent) (p : PayloadContent) → EachBehind P before xs → P (before ++ xs) p
-    → EachBehind P before (xs ++ p ∷ [])
-behind-push P before [] p each here = (subst (λ (b : List PayloadContent). P b p) (append-nil before) here, tt)
-behind-push P before (x ∷ xs) p each here =
-    (each.0, behind-push P (before ++ x ∷ []) xs p each.1 (subst (λ (b : List PayloadContent). P b p) (sym (append_assoc before (x ∷ []) xs)) here))
 
 -- what is found stands somewhere, and passes the test
 pub record Finds {X : Type 0} (test : X → Bool) (xs : List X) (x : X) : Type 0 where
@@ -88,7 +79,7 @@ same_by_place (x ∷ xs) (y ∷ ys) long same =
     let later : xs ≡ ys = same_by_place xs ys (omega arith) (λ k d within. same (suc k) d (omega arith)) in
     λ i. here i ∷ later i
 
--- whatever stands behind the end of a list
+-- whatever stands after the end of a list
 pub same_default : {A : Type 0} (xs : List A) (k : ℕ) (d e : A) → k < length xs → get_or xs k d ≡ get_or xs k e
 same_default [] k d e inside = absurd (omega arith)
 same_default (x ∷ xs) zero d e inside = refl

@@ -23,7 +23,8 @@ use Rattle.otap_consume.specs.Stops.{Stops, StopOf, IsOfRecord}
 use Rattle.otap_consume.specs.Streams.{StreamIn, AreAfter, IsAfter, Takes, RefusesFor, closed}
 use Rattle.otap_consume.proofs.IdSteps.{kind_at, count_of}
 use Rattle.otap_consume.proofs.KindNumbers.{HasNumber, has_number, numbered, same_kind_number}
-use Rattle.otap_consume.proofs.Lists.{behind-push, same_by_place}
+use Rattle.histories.proofs.Growing.{all_after-push}
+use Rattle.otap_consume.proofs.Lists.{same_by_place}
 use Rattle.otap_consume.proofs.Substreams.{last_in-other, last_in-own}
 
 -- nothing is taken yet
@@ -35,7 +36,7 @@ takes_none streams = record {
   after = λ past are k d inside. subst (λ (ps : List PayloadContent). IsAfter ps (get_or streams k d)) (sym (append-nil past)) (are k d inside);
 }
 
--- what is shown behind one payload more
+-- what is shown after one payload more
 shown : (done : List PayloadContent) (p : PayloadContent) (old new : StreamIn) → ShowsAfter done old → Takes old p new → ShowsAfter (done ++ p ∷ []) new
 shown done p old new before takes = go (cases_Bool (int_eq p.kind (type_of old.kind)))
   where
@@ -56,7 +57,7 @@ takes_more old mid new done p before takes kinds = record {
       let inside' : k < length mid = omega (arith, takes.long) in
       shown done p (get_or mid k d) (get_or new k d) (before.shows k d inside') (takes.each k d inside');
   reads = λ signal past same are.
-      behind-push (IsReadBehind signal) past done p (before.reads signal past same are)
+      all_after-push (IsReadBehind signal) past done p (before.reads signal past same are)
       (λ kind found.
       let number : HasNumber signal p.kind kind = has_number signal p.kind kind found in
       read signal past same are kind number);
@@ -79,7 +80,7 @@ takes_more old mid new done p before takes kinds = record {
 
 -- ---- a record that is refused
 
--- the defect that a stream found in the payload behind those that were taken
+-- the defect that a stream found in the payload after those that were taken
 defect_at : (signal : Signal) (past done rest payloads : List PayloadContent) (p : PayloadContent) (why : ColumnRefusal) (mid : List StreamIn) (i : ℕ) (d : StreamIn)
     → payloads ≡ done ++ p ∷ rest → kinds_in mid ≡ kinds_of signal → i < length mid
     → (int_eq p.kind (type_of (get_or mid i d).kind) ≡ true) × Stands (get_or mid i d).kind (messages_before (past ++ done) p) p.bytes why

@@ -9,7 +9,8 @@ use Rattle.otap_cells.specs.Cells.{Cell}
 use Rattle.otap_cells.specs.Payload.{kinds_of}
 use Rattle.otap_cells.specs.Tables.{Table}
 use Rattle.otap_cells.specs.Weights.{weight_of_row, weight_of_table, weight_of_tables}
-use Rattle.otap_columns.specs.Streams.{PayloadIn, last_after, of_type, stream_of}
+use Rattle.histories.proofs.Latest.{last_after-none}
+use Rattle.otap_columns.specs.Streams.{PayloadIn, of_type, stream_of}
 use Rattle.otap_columns.specs.Substreams.{held_in, substream_in}
 use Rattle.otap_consume.specs.Defects.{held_after}
 use Rattle.otap_consume.specs.Payloads.{parts_of, type_of, last_in, messages_in}
@@ -39,18 +40,10 @@ too_many_rows tables count is many = omega (arith, tables_weigh tables)
 
 -- ---- what is held
 
-last_after-some : {A : Type 0} (x : A) (xs : List A) → (y : A) × (last_after (Some x) xs ≡ Some y)
-last_after-some x [] = (x, refl)
-last_after-some x (y ∷ ys) = last_after-some y ys
-
-none_from : {A : Type 0} (xs : List A) → last_after None xs ≡ None → xs ≡ []
-none_from [] none = refl
-none_from {A} (x ∷ xs) none = let some : (y : A) × (last_after (Some x) xs ≡ Some y) = last_after-some x xs in absurd (cc (none, some.1))
-
 -- no message is in the sub-stream of a type of which no payload went before
 no_messages : (type : ℤ) (payloads : List PayloadContent) → last_in type payloads ≡ None → messages_in type payloads ≡ []
 unfolding stream_of
-no_messages type payloads none = rw (none_from (of_type type (parts_of payloads)) none) refl
+no_messages type payloads none = rw (last_after-none (of_type type (parts_of payloads)) none) refl
 
 held_nothing : held_in [] ≡ 0
 unfolding held_in substream_in

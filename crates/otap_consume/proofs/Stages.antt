@@ -11,7 +11,7 @@ use Rattle.otap_consume.specs.declared.stop.Stop.{Stop}
 use Rattle.otap_consume.specs.declared.stop.Stop.TheVariants.{Defect, Memory}
 use Rattle.otap_consume.specs.Defects.{HasFineList, HasFineRecords, StandsInList, Refuses, is_taken}
 use Rattle.otap_consume.specs.Ids.{ids_of, ids_after}
-use Rattle.otap_consume.specs.Payloads.{EachBehind}
+use Rattle.histories.specs.EachAfter.{AllAfter}
 use Rattle.otap_consume.specs.PayloadTypes.{HasFineTypes, StandsInTypes}
 use Rattle.otap_consume.specs.Records.{TakesAll, kinds_in}
 use Rattle.otap_consume.specs.Segments.{CanShow}
@@ -22,7 +22,7 @@ use Rattle.otap_consume.proofs.IdSteps.{ids_are}
 
 -- the words of `check_ids` about ids that are free, and about one that is taken
 abbrev pub FreeIds : List StreamIn → List PayloadContent → Type 0
-FreeIds streams payloads = (signal : Signal) (past : List PayloadContent) → ids_of streams ≡ ids_after signal past → EachBehind (λ before p. is_taken signal before p ≡ false) past payloads
+FreeIds streams payloads = (signal : Signal) (past : List PayloadContent) → ids_of streams ≡ ids_after signal past → AllAfter (λ before p. is_taken signal before p ≡ false) past payloads
 
 pub by_types : (signal : Signal) (past payloads : List PayloadContent) (why : TypesRefusal) → StandsInTypes signal payloads why → Stops (Refuses signal past payloads) (stop_of_types why)
 by_types signal past payloads (types.PayloadType kind) stands = Refuses.by_list PayloadType (Some kind) stands
@@ -50,7 +50,7 @@ by_size signal past payloads (Memory e) list records stands = tt
 
 module _ (signal : Signal) (payloads : List PayloadContent) (old : List StreamIn) (kinds : kinds_in old ≡ kinds_of signal) (types : HasFineTypes signal payloads)
     (free : FreeIds old payloads) where
-  -- the list of payloads is fine behind what the streams stand for
+  -- the list of payloads is fine after what the streams stand for
   pub fine_list : (past : List PayloadContent) → AreAfter past old → HasFineList signal past payloads
   fine_list past are = record { types = types; ids = free signal past (ids_are signal past old kinds are) }
 

@@ -20,7 +20,7 @@ use Rattle.otap_consume.specs.Payloads.{part_of, parts_of, type_of, last_in, mes
 use Rattle.otap_consume.specs.Streams.{OpenIn, StreamIn, IsOpenAfter, IsAfter, Takes, DoesNotTake, RefusesFor, id_if, id_of}
 use Rattle.otap_consume.proofs.Substreams.{last_in-other, last_in-own, messages_in-other, messages_in-own}
 
--- what is open stays open behind a payload of another type
+-- what is open stays open after a payload of another type
 moved : (past : List PayloadContent) (p : PayloadContent) (kind : Kind) → int_eq p.kind (type_of kind) ≡ false → (last : Option PayloadIn) (current : Option OpenIn)
     → IsOpenAfter past kind last current → IsOpenAfter (past ++ p ∷ []) kind last current
 moved past p kind other None None h = tt
@@ -48,7 +48,7 @@ passes s p other = record {
 same_type : (p : PayloadContent) (kind : Kind) → int_eq p.kind (type_of kind) ≡ true → p.kind ≡ type_of kind
 same_type p kind own = (Decides-int_eq p.kind (type_of kind)).0 own
 
--- where the payload opens, its record stands behind no messages; else behind those of the sub-stream
+-- where the payload opens, its record stands after no messages; else after those of the sub-stream
 before_open : (past : List PayloadContent) (p : PayloadContent) (kind : Kind) (b : Bool) → p.kind ≡ type_of kind → opens_after (last_in (type_of kind) past) (part_of p) ≡ b
     → messages_before past p ≡ (if b then [] else messages_in (type_of kind) past)
 unfolding opens

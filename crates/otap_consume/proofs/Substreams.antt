@@ -1,20 +1,18 @@
 -- What one more payload does to the sub-stream of a type.
-use Rattle.std.proofs.Common.{◌≡◌, true, false, List, [], ◌∷◌, ◌++◌, Option, Some, None, ℤ, if◌then◌else◌, refl, ap, ◌∙◌, append-nil}
+use Rattle.std.proofs.Common.{◌≡◌, true, false, List, [], ◌∷◌, ◌++◌, Some, None, ℤ, if◌then◌else◌, refl, ap, ◌∙◌, append-nil}
 use Rattle.std.specs.Ordering.{int_eq}
 use Rattle.std.proofs.lemmas.List.{map-append}
 use Rattle.std.proofs.lemmas.List.Elements.{filter-append}
 use Rattle.arrow_ipc.specs.Fronts.{front_of}
 use Rattle.otap_capture.specs.Batch.{PayloadContent}
-use Rattle.otap_columns.specs.Streams.{PayloadIn, is_of, of_type, last_after, opens_after}
+use Rattle.histories.specs.Since.{last_after}
+use Rattle.histories.proofs.Latest.{last_after-push}
+use Rattle.otap_columns.specs.Streams.{PayloadIn, is_of, of_type, opens_after}
 use Rattle.otap_columns.proofs.Openings.{stream_of-other, stream_of-own, open_id-other, open_id-own}
 use Rattle.otap_consume.specs.Payloads.{part_of, parts_of, last_in, id_in, messages_in}
 
 parts-push : (ps : List PayloadContent) (p : PayloadContent) → parts_of (ps ++ p ∷ []) ≡ parts_of ps ++ part_of p ∷ []
 parts-push ps p = map-append part_of ps (p ∷ [])
-
-last_after-push : {A : Type 0} (last : Option A) (xs : List A) (x : A) → last_after last (xs ++ x ∷ []) ≡ Some x
-last_after-push last [] x = refl
-last_after-push last (y ∷ ys) x = last_after-push (Some y) ys x
 
 of_type-other : (kind : ℤ) (ps : List PayloadIn) (p : PayloadIn) → is_of kind p ≡ false → of_type kind (ps ++ p ∷ []) ≡ of_type kind ps
 of_type-other kind ps p other = filter-append (is_of kind) ps (p ∷ []) ∙ rw other (append-nil (of_type kind ps))

@@ -17,7 +17,7 @@ use Rattle.otap_cells.specs.Tables.{Table}
 use Rattle.otap_columns.specs.Streams.{PayloadIn}
 use Rattle.otap_consume.specs.declared.refusal.Cause.{Cause}
 use Rattle.otap_consume.specs.declared.refusal.Cause.TheVariants.{TooManyItems, RowsTooHeavy}
-use Rattle.otap_consume.specs.declared.refusal.TheConstants.{MAX_HELD}
+use Rattle.otap_consume.specs.Limits.{held_limit}
 use Rattle.otap_consume.specs.Defects.{IsTooLarge, table_of, tables_of, held_after}
 use Rattle.otap_consume.specs.Outcomes.{payloads_after}
 use Rattle.otap_consume.specs.Payloads.{part_of, type_of, last_in}
@@ -215,12 +215,12 @@ too_large signal tables these held _ same past = absurd past
 
 pub weighs : (signal : Signal) (past payloads : List PayloadContent) (streams : List StreamIn) (views : List (Kind × Table)) (weight : ℕ) → kinds_in streams ≡ kinds_of signal
     → AreAfter (past ++ payloads) streams → CanShow streams payloads → AreViewsOf streams payloads views → WithinLimits signal (map (λ view. view.1) views) weight
-    → nat_lt MAX_HELD (sum_by held_of streams) ≡ false → Weighs signal past payloads weight
+    → nat_lt held_limit (sum_by held_of streams) ≡ false → Weighs signal past payloads weight
 weighs signal past payloads streams views weight kinds are can zip within light =
     let same : map (λ (v : Kind × Table). v.1) views ≡ tables_of signal past payloads = views_tables signal past payloads streams views kinds are can zip in
     let held : sum_by held_of streams ≡ held_after signal (past ++ payloads) = held_are signal (past ++ payloads) streams kinds are in
     let w : WithinLimits signal (tables_of signal past payloads) weight = subst (λ (ts : List Table). WithinLimits signal ts weight) same within in
     record {
-      within = record { items = w.items; rows = w.light; holds = subst (λ (n : ℕ). n ≤ MAX_HELD) held (ltb-false MAX_HELD (sum_by held_of streams) light) };
+      within = record { items = w.items; rows = w.light; holds = subst (λ (n : ℕ). n ≤ held_limit) held (ltb-false held_limit (sum_by held_of streams) light) };
       rows = w.weighs;
     }

@@ -1,24 +1,24 @@
--- What can be wrong with the payloads of a batch, behind those of the accepted batches of its segment.
-use Rattle.std.specs.Prelude.{◌≡◌, ℕ, ◌<◌, ◌≤◌, ◌&&◌, not, Bool, true, false, ℤ, List, ◌++◌, length, bytes_eq, Option, Some, None, sum_by, option_and_then}
+-- What can be wrong with the payloads of a batch, after those of the accepted batches of its segment.
+use Rattle.std.specs.Prelude.{◌≡◌, ◌⊎◌, ℕ, ◌<◌, ◌≤◌, ◌&&◌, not, Bool, true, false, ℤ, List, [], ◌++◌, length, bytes_eq, Option, Some, None, sum_by, option_and_then}
 use Rattle.std.specs.List.{list_any, filter_map}
 use Rattle.std.specs.Ordering.{int_eq}
-use Rattle.otlp_model.specs.declared.limits.TheConstants.{MAX_ITEMS}
+use Rattle.otlp_model.specs.Limits.{item_limit}
+use Rattle.histories.specs.EachAfter.{AllAfter}
 use Rattle.otlp_model.specs.declared.request.Signal.{Signal}
 use Rattle.otap_capture.specs.Batch.{PayloadContent}
 use Rattle.otap_cells.specs.declared.payload.Kind.{Kind}
-use Rattle.otap_cells.specs.declared.weight.TheConstants.{MAX_ROW_WEIGHT}
 use Rattle.otap_cells.specs.Payload.{kinds_of, kind_numbered, main_of}
 use Rattle.otap_cells.specs.Sets.{rows_named}
 use Rattle.otap_cells.specs.Tables.{Table}
-use Rattle.otap_cells.specs.Weights.{weight_of_tables}
+use Rattle.otap_cells.specs.Weights.{row_weight_limit, weight_of_tables}
 use Rattle.otap_columns.specs.declared.refusal.ColumnRefusal.{ColumnRefusal}
 use Rattle.otap_columns.specs.Records.{IsRead, Stands}
 use Rattle.otap_columns.specs.Substreams.{logical, held_in}
 use Rattle.otap_consume.specs.declared.refusal.Cause.{Cause}
 use Rattle.otap_consume.specs.declared.refusal.Cause.TheVariants.{PayloadType, PayloadTwice, SchemaIdTaken, Column, TooManyItems, RowsTooHeavy, HeldTooMuch}
-use Rattle.otap_consume.specs.declared.refusal.TheConstants.{MAX_HELD}
+use Rattle.otap_consume.specs.Limits.{held_limit}
 use Rattle.otap_consume.specs.declared.payload_types.TypesRefusal.TheVariants as types
-use Rattle.otap_consume.specs.Payloads.{EachBehind, type_of, id_in, messages_in, messages_before}
+use Rattle.otap_consume.specs.Payloads.{type_of, id_in, messages_in, messages_before}
 use Rattle.otap_consume.specs.PayloadTypes.{HasPayload, StandsInTypes, HasFineTypes}
 
 -- ---- the list of payloads
@@ -51,9 +51,9 @@ StandsInList signal past payloads cause payload = ⊥
 -- nothing is
 pub record HasFineList (signal : Signal) (past payloads : List PayloadContent) : Type 0 where
   pub types : HasFineTypes signal payloads
-  pub ids : EachBehind (λ before p. is_taken signal before p ≡ false) past payloads
+  pub ids : AllAfter (λ before p. is_taken signal before p ≡ false) past payloads
 
--- ---- the records, each read behind the messages of its sub-stream
+-- ---- the records, each read after the messages of its sub-stream
 
 -- the record of one of the payloads has a defect; the type of the payload is named
 pub record StandsInRecord (signal : Signal) (past payloads : List PayloadContent) (refusal : ColumnRefusal) (payload : Option ℤ) : Type 0 where
@@ -69,7 +69,18 @@ abbrev pub IsReadBehind : Signal → List PayloadContent → PayloadContent → 
 IsReadBehind signal before p = (kind : Kind) → kind_numbered signal p.kind ≡ Some kind → IsRead kind (messages_before before p) p.bytes
 
 abbrev pub HasFineRecords : Signal → List PayloadContent → List PayloadContent → Type 0
-HasFineRecords signal past payloads = EachBehind (IsReadBehind signal) past payloads
+HasFineRecords signal past payloads = AllAfter (IsReadBehind signal) past payloads
+
+-- ---- payloads that were taken, so that others can come after them
+
+-- a payload of one of the signal's types, read after those before it
+pub record IsTakenAfter (signal : Signal) (before : List PayloadContent) (p : PayloadContent) : Type 0 where
+  pub kind : Kind
+  pub known : kind_numbered signal p.kind ≡ Some kind
+  pub read : IsRead kind (messages_before before p) p.bytes
+
+abbrev pub AreTaken : Signal → List PayloadContent → Type 0
+AreTaken signal payloads = AllAfter (IsTakenAfter signal) [] payloads
 
 -- ---- the tables that the payloads stand for, and what all sub-streams hold
 
@@ -85,18 +96,18 @@ tables_of signal past payloads = filter_map (table_of signal (past ++ payloads))
 unfoldable pub held_after : Signal → List PayloadContent → ℕ
 held_after signal payloads = sum_by (λ kind. held_in (messages_in (type_of kind) payloads)) (kinds_of signal)
 
--- a batch is too large as a whole: its main table has too many rows, its rows weigh too much, or too much is held behind it
+-- a batch is too large as a whole: its main table has too many rows, its rows weigh too much, or too much is held after it
 abbrev pub IsTooLarge : Signal → List Table → ℕ → Cause → Type 0
-IsTooLarge signal tables held TooManyItems = MAX_ITEMS < length (rows_named (main_of signal) tables)
-IsTooLarge signal tables held RowsTooHeavy = MAX_ROW_WEIGHT < weight_of_tables tables
-IsTooLarge signal tables held HeldTooMuch = MAX_HELD < held
+IsTooLarge signal tables held TooManyItems = item_limit < length (rows_named (main_of signal) tables)
+IsTooLarge signal tables held RowsTooHeavy = row_weight_limit < weight_of_tables tables
+IsTooLarge signal tables held HeldTooMuch = held_limit < held
 IsTooLarge signal tables held cause = ⊥
 
 -- it is within these limits
 pub record IsWithinLimits (signal : Signal) (tables : List Table) (held : ℕ) : Type 0 where
-  pub items : length (rows_named (main_of signal) tables) ≤ MAX_ITEMS
-  pub rows : weight_of_tables tables ≤ MAX_ROW_WEIGHT
-  pub holds : held ≤ MAX_HELD
+  pub items : length (rows_named (main_of signal) tables) ≤ item_limit
+  pub rows : weight_of_tables tables ≤ row_weight_limit
+  pub holds : held ≤ held_limit
 
 -- ---- stage by stage
 
@@ -113,3 +124,7 @@ pub record Accepts (signal : Signal) (past payloads : List PayloadContent) : Typ
   pub list : HasFineList signal past payloads
   pub records : HasFineRecords signal past payloads
   pub size : IsWithinLimits signal (tables_of signal past payloads) (held_after signal (past ++ payloads))
+
+-- they are one or the other
+abbrev pub AreJudged : Signal → List PayloadContent → List PayloadContent → Type 0
+AreJudged signal past payloads = Accepts signal past payloads ⊎ ((cause : Cause) × (payload : Option ℤ) × Refuses signal past payloads cause payload)

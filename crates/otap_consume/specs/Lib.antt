@@ -1,3 +1,4 @@
+pub mod Limits
 pub mod Payloads
 pub mod PayloadTypes
 pub mod Defects

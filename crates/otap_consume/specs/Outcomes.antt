@@ -1,5 +1,5 @@
 -- What each frame of a capture gives. Nothing is kept from frame to frame: each outcome looks back over those before it.
-use Rattle.std.specs.Prelude.{ℕ, ℤ, Bool, true, false, List, [], Option, Some, None, MatchBool}
+use Rattle.std.specs.Prelude.{◌⊎◌, ⊤, ℕ, ℤ, Bool, true, false, List, [], Option, Some, None, MatchBool}
 use Rattle.std.specs.List.{flat_map, list_any}
 use Rattle.histories.specs.EachAfter.{EachAfter}
 use Rattle.histories.specs.Since.{since}
@@ -79,7 +79,7 @@ payloads_after outcomes = flat_map payloads_if (segment outcomes)
 
 -- ---- outcomes
 
--- WHAT A FRAME GIVES behind these payloads of the accepted batches of its segment, of which no frame was refused
+-- WHAT A FRAME GIVES after these payloads of the accepted batches of its segment, of which no frame was refused
 pub data Gives (signal : Signal) (past : List PayloadContent) : Frame → Outcome → Type 0 where
   compressed : Gives signal past Packed (refused None Compressed None)
   unreadable : (bytes : List ℕ) (refusal : BatchRefusal) → RefusesBatch bytes refusal → Gives signal past (Message bytes) (refused None (unread_cause refusal) None)
@@ -104,3 +104,8 @@ OutcomeAfter signal outcomes frame outcome =
 -- THE OUTCOMES of the frames of a capture
 abbrev pub Outcomes : Signal → List Frame → List Outcome → Type 0
 Outcomes signal frames outcomes = EachAfter (λ past before frame outcome. OutcomeAfter signal before frame outcome) [] [] frames outcomes
+
+-- a message is a batch, or a defect stands in it
+abbrev pub IsRead : Frame → Type 0
+IsRead (Message bytes) = ((batch : BatchContent) × ReadsBatch bytes batch) ⊎ ((refusal : BatchRefusal) × RefusesBatch bytes refusal)
+IsRead frame = ⊤

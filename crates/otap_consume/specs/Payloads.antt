@@ -1,5 +1,5 @@
 -- The payloads of a segment's batches, in order, and the sub-streams that they belong to.
-use Rattle.std.specs.Prelude.{⊤, ℕ, ℤ, pos, List, [], ◌∷◌, ◌++◌, Option, map, if◌then◌else◌}
+use Rattle.std.specs.Prelude.{ℕ, ℤ, pos, List, [], Option, map, if◌then◌else◌}
 use Rattle.arrow_ipc.specs.declared.messages.IpcMessage.{IpcMessage}
 use Rattle.otap_capture.specs.Batch.{PayloadContent}
 use Rattle.otap_cells.specs.declared.payload.Kind.{Kind}
@@ -28,11 +28,6 @@ id_in type payloads = open_id type (parts_of payloads)
 abbrev pub messages_in : ℤ → List PayloadContent → List IpcMessage
 messages_in type payloads = stream_of type (parts_of payloads)
 
--- the messages behind which the record of a payload stands: none where it opens a sub-stream
+-- the messages after which the record of a payload stands: none where it opens a sub-stream
 abbrev pub messages_before : List PayloadContent → PayloadContent → List IpcMessage
 messages_before before p = if opens (parts_of before) (part_of p) then [] else messages_in p.kind before
-
--- each payload of a list, behind all that went before it
-abbrev pub EachBehind : (List PayloadContent → PayloadContent → Type 0) → List PayloadContent → List PayloadContent → Type 0
-EachBehind P before [] = ⊤
-EachBehind P before (p ∷ payloads) = P before p × EachBehind P (before ++ p ∷ []) payloads

@@ -28,7 +28,7 @@ pub record StandsFor (signal : Signal) (outcomes : List Outcome) (s : SegmentIn)
   pub broken : s.broken ≡ is_broken outcomes
   pub streams : s.broken ≡ false → AreAfter (payloads_after outcomes) s.streams
 
--- what is answered tells an outcome: of a batch its id and its row weight
+-- what is returned tells an outcome: of a batch its id and its row weight
 abbrev pub Tells : Outcome → Seen → Type 0
 Tells (Accepted batch tables) (seen.Batch id rows) = (id ≡ batch.id) × (rows ≡ weight_of_tables tables)
 Tells (Refused refusal) (seen.Refused told) = told ≡ refusal
@@ -67,7 +67,7 @@ abbrev pub IsTaken : Frame → SegmentIn → Type 0
 IsTaken (Message bytes) s = HasTaken bytes s
 IsTaken frame s = ⊥
 
--- where a batch is answered, it is taken
+-- where a batch is returned, it is taken
 abbrev pub TakesIf : Frame → SegmentIn → Seen → Type 0
 TakesIf frame s (seen.Batch id rows) = IsTaken frame s
 TakesIf frame s answer = ⊤

@@ -1,12 +1,11 @@
 -- The limits of a batch as a whole, in the words of private contracts.
 use Rattle.std.specs.Prelude.{◌≡◌, ℕ, ◌<◌, ◌≤◌, List, length, sum_by}
-use Rattle.otlp_model.specs.declared.limits.TheConstants.{MAX_ITEMS}
+use Rattle.otlp_model.specs.Limits.{item_limit}
 use Rattle.otlp_model.specs.declared.request.Signal.{Signal}
-use Rattle.otap_cells.specs.declared.weight.TheConstants.{MAX_ROW_WEIGHT}
 use Rattle.otap_cells.specs.Payload.{main_of}
 use Rattle.otap_cells.specs.Sets.{rows_named}
 use Rattle.otap_cells.specs.Tables.{Table}
-use Rattle.otap_cells.specs.Weights.{weight_of_tables}
+use Rattle.otap_cells.specs.Weights.{row_weight_limit, weight_of_tables}
 use Rattle.otap_consume.specs.declared.refusal.Cause.{Cause}
 use Rattle.otap_consume.specs.declared.refusal.Cause.TheVariants.{TooManyItems, RowsTooHeavy}
 
@@ -14,11 +13,11 @@ abbrev pub count_of_rows : List Table → ℕ
 count_of_rows tables = sum_by (λ table. length table.rows) tables
 
 pub record WithinLimits (signal : Signal) (tables : List Table) (weight : ℕ) : Type 0 where
-  pub items : length (rows_named (main_of signal) tables) ≤ MAX_ITEMS
+  pub items : length (rows_named (main_of signal) tables) ≤ item_limit
   pub weighs : weight ≡ weight_of_tables tables
-  pub light : weight_of_tables tables ≤ MAX_ROW_WEIGHT
+  pub light : weight_of_tables tables ≤ row_weight_limit
 
 abbrev pub PastLimit : Signal → List Table → Cause → Type 0
-PastLimit signal tables TooManyItems = MAX_ITEMS < length (rows_named (main_of signal) tables)
-PastLimit signal tables RowsTooHeavy = MAX_ROW_WEIGHT < weight_of_tables tables
+PastLimit signal tables TooManyItems = item_limit < length (rows_named (main_of signal) tables)
+PastLimit signal tables RowsTooHeavy = row_weight_limit < weight_of_tables tables
 PastLimit signal tables cause = ⊥

@@ -1,4 +1,4 @@
--- The answers of the stages, in the words of private contracts.
+-- The results of the stages, in the words of private contracts.
 use Rattle.std.specs.Prelude.{◌≡◌, ⊤, ℤ, List, None, Some, Option}
 use Rattle.otlp_model.specs.declared.request.Signal.{Signal}
 use Rattle.otap_capture.specs.Batch.{PayloadContent}
@@ -27,7 +27,7 @@ IsOfRecord signal past payloads cause payload = ⊥
 abbrev pub IsOfSize : (Cause → Type 0) → Cause → Option ℤ → Type 0
 IsOfSize L cause payload = (payload ≡ None) × L cause
 
--- the answer to the refusal of a record of this type
+-- the result for the refusal of a record of this type
 abbrev pub StopOf : ColumnRefusal → ℤ → Stop → Type 0
 StopOf (refusal.Memory e) kind stop = stop ≡ Memory e
 StopOf refusal kind stop = stop ≡ Defect (Column refusal) (Some kind)

@@ -12,7 +12,7 @@ use Rattle.otap_consume.specs.Outcomes.{refusal_of}
 use Rattle.otap_consume.specs.Stops.{Stops, IsOfSize}
 use Rattle.otap_consume.specs.Streams.{StreamIn, AreAfter}
 
--- as a whole the payloads are within the limits, and weigh so much
+-- as a whole the payloads are within the limits, and have this weight
 pub record Weighs (signal : Signal) (past payloads : List PayloadContent) (weight : ℕ) : Type 0 where
   pub within : IsWithinLimits signal (tables_of signal past payloads) (held_after signal (past ++ payloads))
   pub rows : weight ≡ weight_of_tables (tables_of signal past payloads)
@@ -21,13 +21,13 @@ pub record Weighs (signal : Signal) (past payloads : List PayloadContent) (weigh
 abbrev pub StopsBySize : Signal → List PayloadContent → List PayloadContent → Stop → Type 0
 StopsBySize signal past payloads = Stops (IsOfSize (IsTooLarge signal (tables_of signal past payloads) (held_after signal (past ++ payloads))))
 
--- the payloads are accepted behind these, and weigh so much
+-- the payloads are accepted after these, and have this weight
 pub record AcceptsBehind (signal : Signal) (past payloads : List PayloadContent) (new : List StreamIn) (weight : ℕ) : Type 0 where
   pub accepts : Accepts signal past payloads
   pub after : AreAfter (past ++ payloads) new
   pub rows : weight ≡ weight_of_tables (tables_of signal past payloads)
 
--- what is answered where the payloads are not taken; want of memory is handed on
+-- what is returned where the payloads are not taken; want of memory is handed on
 abbrev pub IsStopped : Stop → BatchContent → Seen → Type 0
 IsStopped (Defect cause payload) batch answer = answer ≡ seen.Refused (refusal_of (Some batch.id) cause payload)
 IsStopped (Memory e) batch answer = ⊥

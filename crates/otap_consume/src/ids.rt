@@ -3,7 +3,7 @@ ghost use Rattle.std.specs.Prelude.{◌≡◌, List, IfOk, IfErr, OnOk, map, fal
 ghost use Rattle.otlp_model.specs.declared.request.Signal.{Signal};
 ghost use Rattle.otap_capture.specs.Batch.{PayloadContent, content_of};
 ghost use Rattle.otap_consume.specs.Defects.{StandsInList, is_id, is_taken};
-ghost use Rattle.otap_consume.specs.Payloads.{EachBehind};
+ghost use Rattle.histories.specs.EachAfter.{AllAfter};
 ghost use Rattle.otap_consume.specs.Ids.{ids_of, ids_after, has_other, is_other, opened};
 ghost use Rattle.otap_consume.specs.IdsInside.{open_id_in};
 ghost use Rattle.otap_consume.specs.Stops.{Stops};
@@ -18,7 +18,7 @@ use std::marker::Model;
 /// Looks at the schema ids of a batch: none is to be open for another type, where its payload stands.
 pub(crate) fn check_ids(alloc: Global, streams: &[Stream], batch: &Batch<'_>) -> Result<(), Stop>
     ensures free { OnOk result ((signal : Signal) (past : List PayloadContent) → ids_of streams.now ≡ ids_after signal past
-        → EachBehind (λ before p. is_taken signal before p ≡ false) past batch.now.payloads) }
+        → AllAfter (λ before p. is_taken signal before p ≡ false) past batch.now.payloads) }
     ensures stops { IfErr result (λ stop. (signal : Signal) (past : List PayloadContent) → ids_of streams.now ≡ ids_after signal past
         → Stops (StandsInList signal past batch.now.payloads) stop) }
 {

@@ -2,15 +2,30 @@
 
 ghost use Rattle.std.specs.Prelude.{◌≡◌, ℤ, List, Option};
 ghost use Rattle.otap_capture.specs.Batch.{PayloadContent};
+ghost use Rattle.otap_capture.specs.Capture.{Frame};
 ghost use Rattle.otap_consume.specs.declared.refusal.Cause.{Cause};
-ghost use Rattle.otap_consume.specs.Defects.{Accepts, Refuses};
-ghost use Rattle.otap_consume.specs.Outcomes.{stage_of};
+ghost use Rattle.otap_consume.specs.declared.refusal.TheConstants.{MAX_HELD};
+ghost use Rattle.otap_consume.specs.Limits.{held_limit};
+ghost use Rattle.otap_consume.specs.Defects.{Accepts, Refuses, AreTaken, AreJudged};
+ghost use Rattle.otap_consume.specs.Outcomes.{stage_of, Outcome, Outcomes, OutcomeAfter, IsRead};
 ghost use Rattle.otlp_model.specs.declared.request.Signal.{Signal};
 
-/// Payloads that are accepted are not refused.
+/// Payloads that are accepted are not refused, and after payloads that were taken they are one or the other.
 pub fn accepted_or_refused()
-    ensures { (signal : Signal) (past payloads : List PayloadContent) (cause : Cause) (payload : Option ℤ)
+    ensures one { (signal : Signal) (past payloads : List PayloadContent) → AreTaken signal past → AreJudged signal past payloads }
+    ensures never_both { (signal : Signal) (past payloads : List PayloadContent) (cause : Cause) (payload : Option ℤ)
         → Accepts signal past payloads → Refuses signal past payloads cause payload → ⊥ }
+{}
+
+/// The constant is the limit of the profile.
+pub fn what_is_held_is_limited()
+    ensures { MAX_HELD ≡ held_limit }
+{}
+
+/// Each frame has an outcome after frames with outcomes, where its message is a batch or a defect stands in it.
+pub fn some_outcome()
+    ensures { (signal : Signal) (frames : List Frame) (outcomes : List Outcome) (frame : Frame)
+        → Outcomes signal frames outcomes → IsRead frame → (outcome : Outcome) × OutcomeAfter signal outcomes frame outcome }
 {}
 
 /// Payloads are refused in one stage only, whatever the cause.

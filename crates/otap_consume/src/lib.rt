@@ -1,4 +1,4 @@
-//! Segments of captures of batches: each batch is read behind those before it, or refused by the first stage in which
+//! Segments of captures of batches: each batch is read after those before it, or refused by the first stage in which
 //! something is wrong with it.
 #![tactic(auto)]
 

@@ -31,7 +31,7 @@ pub enum Cause {
     /// Stage 2: the schema id is open for another payload type.
     #[error("the schema id is open for another payload type")]
     SchemaIdTaken,
-    /// Stage 3: the record of a payload can't be read behind those before it.
+    /// Stage 3: the record of a payload can't be read after those before it.
     #[error("a record can't be read: {0}")]
     Column(ColumnRefusal),
     /// Stage 4: the main table has more than [`MAX_ITEMS`](otlp_model::MAX_ITEMS) rows.

@@ -61,7 +61,7 @@ impl Segment {
         })
     }
 
-    /// Takes the next frame: a batch behind those before it, or a reset, which begins a segment. A refused frame breaks the
+    /// Takes the next frame: a batch after those before it, or a reset, which begins a segment. A refused frame breaks the
     /// segment, as want of memory does: until a reset each batch is then refused.
     pub fn take(&mut self, frame: &Frame<'_>) -> Result<Seen, AllocError>
         ensures next { IfOk result (Next self.old (frame_of frame.now) self.new) }
@@ -79,7 +79,7 @@ impl Segment {
         }
     }
 
-    /// The tables of the batch that the last call of `take` answered, one for each payload.
+    /// The tables of the batch that the last call of `take` returned, one for each payload.
     pub fn tables<'v>(
         &'v self,
         alloc: Global,
@@ -168,7 +168,7 @@ fn refused(batch: &Batch<'_>, cause: Cause, payload: Option<i32>) -> Seen
     refusal(Some(batch.id()), cause, payload)
 }
 
-// The answer where the payloads are not taken. Want of memory is handed on.
+// The result where the payloads are not taken. Want of memory is handed on.
 fn stopped(batch: &Batch<'_>, stop: Stop) -> Result<Seen, AllocError>
     ensures { IfOk result (IsStopped stop batch.now) }
 {

@@ -2,6 +2,7 @@
 ghost use Rattle.std.specs.Prelude.{◌≡◌, ◌^◌, length, sum_by, min, nat_lt, MatchResult};
 ghost use Rattle.otap_cells.specs.Payload.{main_of};
 ghost use Rattle.otap_cells.specs.Sets.{IsSet, tables_in, rows_named};
+ghost use Rattle.otap_consume.specs.Limits.{held_limit};
 ghost use Rattle.otap_consume.specs.Sizes.{WithinLimits, PastLimit, count_of_rows};
 ghost use Rattle.otap_consume.specs.Streams.{held_of};
 
@@ -52,7 +53,7 @@ fn count_rows<R: Rows>(set: &TableSet<R>) -> u64
 
 /// Whether the dictionaries of the sub-streams that are open hold too much.
 pub(crate) fn hold_too_much(streams: &[Stream]) -> bool
-    ensures { result ≡ nat_lt MAX_HELD (sum_by held_of streams.now) }
+    ensures { result ≡ nat_lt held_limit (sum_by held_of streams.now) }
 {
     let mut total = 0;
     'streams: for stream in streams {

@@ -1,4 +1,4 @@
-//! The payloads of a batch, taken behind those of the accepted batches of its segment.
+//! The payloads of a batch, taken after those of the accepted batches of its segment.
 ghost use Rattle.std.specs.Prelude.{◌≡◌, ◌++◌, None, List, IfOk, IfErr, OnOk};
 ghost use Rattle.otap_capture.specs.Batch.{PayloadContent};
 ghost use Rattle.otap_cells.specs.Payload.{kinds_of};
@@ -22,7 +22,7 @@ use otap_capture::Batch;
 use otlp_model::Signal;
 use std::alloc::Global;
 
-/// Takes the payloads of a batch stage by stage, each stage over all of them, and answers their row weight. After a refusal
+/// Takes the payloads of a batch stage by stage, each stage over all of them, and returns their row weight. After a refusal
 /// the streams are those of no list of payloads.
 pub(crate) fn take_payloads(
     alloc: Global,

@@ -6,9 +6,9 @@ use Rattle.otap_consume.specs.declared.stop.Stop.TheVariants.{Defect}
 use Rattle.otap_consume.specs.Defects.{StandsInList, is_taken}
 use Rattle.otap_consume.specs.Ids.{ids_after, has_other, opened}
 use Rattle.otap_consume.specs.Stops.{Stops}
-use Rattle.otap_consume.proofs.FrontMore.{front_more}
+use Rattle.histories.proofs.Lists.{front_more}
 use Rattle.otap_consume.proofs.IdSteps.{ids_step, taken_is}
-use Rattle.otap_consume.proofs.Lists.{behind-push}
+use Rattle.histories.proofs.Growing.{all_after-push}
 use Rattle.otap_consume.proofs.ids.check_ids.Goals as goal
 
 pub payloads-init : goal.payloads-init
@@ -30,7 +30,7 @@ payloads-preserved c =
           c.set.ensures ∙ ap (λ ids. map (opened payload) ids) (kept.ids signal past are) ∙ ids_step signal (past ++ kept.front) payload
           ∙ ap (ids_after signal) (append_assoc past kept.front (payload ∷ []));
       free = λ signal past are.
-          behind-push (λ before p. is_taken signal before p ≡ false) past kept.front payload (kept.free signal past are)
+          all_after-push (λ before p. is_taken signal before p ≡ false) past kept.front payload (kept.free signal past are)
           (sym (taken_is signal (past ++ kept.front) payload) ∙ ap (has_other payload) (sym (kept.ids signal past are)) ∙ sym c.has_other.ensures ∙ c.if-has_other.false);
     }
 

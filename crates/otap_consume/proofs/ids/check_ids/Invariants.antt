@@ -3,14 +3,14 @@ use Rattle.otlp_model.specs.declared.request.Signal.{Signal}
 use Rattle.otap_capture.specs.Batch.{PayloadContent}
 use Rattle.otap_consume.specs.Defects.{is_taken}
 use Rattle.otap_consume.specs.Ids.{ids_of, ids_after}
-use Rattle.otap_consume.specs.Payloads.{EachBehind}
+use Rattle.histories.specs.EachAfter.{AllAfter}
 use Rattle.otap_consume.proofs.ids.check_ids.Given as goal
 
--- the ids are those behind the payloads so far, whose own ids are not taken
+-- the ids are those after the payloads so far, whose own ids are not taken
 abbrev pub invariant-payloads : goal.invariant-payloads
 invariant-payloads l = record {
   front : List PayloadContent;
   whole : l.initial.payload-iterator ≡ front ++ l.payload-iterator;
   ids : (signal : Signal) (past : List PayloadContent) → ids_of l.streams ≡ ids_after signal past → l.ids ≡ ids_after signal (past ++ front);
-  free : (signal : Signal) (past : List PayloadContent) → ids_of l.streams ≡ ids_after signal past → EachBehind (λ before p. is_taken signal before p ≡ false) past front;
+  free : (signal : Signal) (past : List PayloadContent) → ids_of l.streams ≡ ids_after signal past → AllAfter (λ before p. is_taken signal before p ≡ false) past front;
 }

@@ -1,7 +1,7 @@
 use Rattle.std.proofs.Common.{◌<◌, ◌∙◌, ◌++◌, ℕ, map, sym, subst, refl}
 use Rattle.std.specs.Prelude.{sum_by}
 use Rattle.std.proofs.lemmas.Bool.{ltb-true}
-use Rattle.otap_consume.specs.declared.refusal.TheConstants.{MAX_HELD}
+use Rattle.otap_consume.specs.Limits.{held_limit}
 use Rattle.otap_consume.specs.declared.stop.Stop.{Stop}
 use Rattle.otap_consume.specs.Defects.{tables_of, held_after}
 use Rattle.otap_consume.specs.Streams.{held_of}
@@ -19,8 +19,8 @@ returns-in-Ok-clause-stops c = λ past are.
     let P : Stop → Type 0 = StopsBySize c.args.signal past payloads in
     subst P (sym c.of_size.ensures) (
       refl,
-      subst (λ (n : ℕ). MAX_HELD < n) (held_are c.args.signal (past ++ payloads) c.args.streams.now c.requires.kinds are)
-          (ltb-true MAX_HELD (sum_by held_of c.args.streams.now) (sym c.hold_too_much.ensures ∙ c.if-hold_too_much.true)),
+      subst (λ (n : ℕ). held_limit < n) (held_are c.args.signal (past ++ payloads) c.args.streams.now c.requires.kinds are)
+          (ltb-true held_limit (sum_by held_of c.args.streams.now) (sym c.hold_too_much.ensures ∙ c.if-hold_too_much.true)),
     )
 
 pub returns-in-Ok-2-clause-weighs : goal.returns-in-Ok-2-clause-weighs

@@ -1,5 +1,5 @@
--- Payloads, as loops go over them.
-use Rattle.std.proofs.Common.{◌≡◌, ◌≤◌, not, Bool, false, true, List, [], ◌∷◌, ◌++◌, append_assoc, Option, None, Some, sym, ap, ◌∙◌, subst, nat_lt, rules}
+-- A payload whose type is fine.
+use Rattle.std.proofs.Common.{◌≡◌, ◌≤◌, not, Bool, false, true, List, Option, None, Some, sym, ap, ◌∙◌, subst, nat_lt, rules}
 use Rattle.std.specs.Option.{IsSome, is_some}
 use Rattle.std.proofs.lemmas.Bool.{ltb-false}
 use Rattle.otlp_model.specs.declared.request.Signal.{Signal}
@@ -7,10 +7,6 @@ use Rattle.otap_capture.specs.Batch.{PayloadContent}
 use Rattle.otap_cells.specs.declared.payload.Kind.{Kind}
 use Rattle.otap_cells.specs.Payload.{kind_numbered}
 use Rattle.otap_consume.specs.PayloadTypes.{IsFineType, times}
-
--- a payload that was before those that are left is now behind those that were
-pub front_more : (all front left : List PayloadContent) (p : PayloadContent) (rest : List PayloadContent) → all ≡ front ++ left → left ≡ p ∷ rest → all ≡ (front ++ p ∷ []) ++ rest
-front_more all front left p rest whole next = whole ∙ ap (λ (ps : List PayloadContent). front ++ ps) next ∙ sym (append_assoc front (p ∷ []) rest)
 
 found : (kind : Option Kind) → is_some kind ≡ true → IsSome kind
 found None h = absurd (cc h)
