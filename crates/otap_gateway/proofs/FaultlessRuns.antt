@@ -1,8 +1,8 @@
 -- Runs in which no count of faults rose.
-use Rattle.std.proofs.Common.{◌≡◌, ◌⊎◌, inl, inr, ℕ, true, false, List, Some, None, IfSome, Result, Ok, Err, refl, sym, ap, ◌∙◌, subst}
+use Rattle.std.proofs.Common.{◌≡◌, ◌⊎◌, inl, inr, ℕ, false, List, [], Some, None, IfSome, Result, Ok, Err, refl, sym, ap, ◌∙◌, subst}
 use Rattle.std.specs.Prelude.{is_some}
 use Rattle.std.specs.declared.option.Option.{Option}
-use Rattle.std.proofs.lemmas.Bool.{cases_Bool}
+use Rattle.histories.specs.EachAfter.{EachAfter}
 use Rattle.otap_capture.specs.declared.frame.Damage.{Damage}
 use Rattle.otap_capture.specs.Capture.{Frame, IsCapture}
 use Rattle.otap_capture.specs.Outside.{Rose}
@@ -11,37 +11,42 @@ use Rattle.otap_gateway.specs.declared.command.Command.{Command}
 use Rattle.otap_gateway.specs.declared.stop.Stop.{Stop}
 use Rattle.otap_gateway.specs.declared.stop.Stop.TheVariants as stop
 use Rattle.otap_gateway.specs.declared.stop.Tally.{Tally}
-use Rattle.otap_gateway.specs.Runs.{World, Runs, Leaves, Faults, status_of}
-
--- the status of a run over a capture that ends well
-well : (tally : Tally) → tally.damaged ≡ false → (status_of (Ok tally) ≡ 0) ⊎ ((status_of (Ok tally) ≡ 1) ⊎ (status_of (Ok tally) ≡ 6))
-well tally fine = by_refused (cases_Bool tally.refused)
-  where
-    by_refused : (tally.refused ≡ true) ⊎ (tally.refused ≡ false) → (status_of (Ok tally) ≡ 0) ⊎ ((status_of (Ok tally) ≡ 1) ⊎ (status_of (Ok tally) ≡ 6))
-    by_refused (inl refused) = inr (inl (rw (fine, refused) refl))
-    by_refused (inr none) = inl (rw (fine, none) refl)
+use Rattle.otap_gateway.specs.Commands.{ReplyOf}
+use Rattle.otap_gateway.specs.Runs.{World, Sinks, Runs, WritesAll, Completes, Leaves, Faults, status_of}
 
 -- the capture that was written out is the one that ends well
-undamaged : (left : Option (List ℕ)) (bytes : List ℕ) (frames others : List Frame) (end : Option Damage) → left ≡ Some bytes → IsCapture bytes frames None
-    → IfSome left (λ bytes. IsCapture bytes others end) → is_some end ≡ false
-undamaged None bytes frames others end told capture other = let clash : None ≡ Some bytes = told in cc
-undamaged (Some xs) bytes frames others end told capture other =
+same_capture : (left : Option (List ℕ)) (bytes : List ℕ) (frames others : List Frame) (end : Option Damage) → left ≡ Some bytes → IsCapture bytes frames None
+    → IfSome left (λ bytes. IsCapture bytes others end) → (frames ≡ others) × (end ≡ None)
+same_capture None bytes frames others end told capture other = let clash : None ≡ Some bytes = told in cc
+same_capture (Some xs) bytes frames others end told capture other =
     let same : xs ≡ bytes = cc in
     let one = one_capture bytes frames others None end capture (subst (λ l. IsCapture l others end) same other) in
-    ap is_some (sym one.1)
+    (one.0, sym one.1)
 
-pub runs_without_faults : (job : Command) (old new : World) (status : ℕ) (bytes : List ℕ) (frames : List Frame)
+-- a run that came to its end
+completes : (job : Command) (left : Option (List ℕ)) (old new : Sinks) (tally : Tally) (bytes : List ℕ) (frames : List Frame) → WritesAll job left old new tally → left ≡ Some bytes
+    → IsCapture bytes frames None → Completes job frames (status_of (Ok tally))
+completes job left old new tally bytes frames w told capture =
+    let same = same_capture left bytes frames w.frames w.end told capture w.capture in
+    let fine : tally.damaged ≡ false = w.damaged ∙ ap is_some same.1 in
+    record {
+      replies = w.replies;
+      texts = subst (λ l. EachAfter (ReplyOf job) [] [] l w.replies) (sym same.0) w.texts;
+      same = rw (fine, w.refused) refl;
+    }
+
+pub complete_runs : (job : Command) (old new : World) (status : ℕ) (bytes : List ℕ) (frames : List Frame)
     → Runs job old new status → old.left ≡ Some bytes → IsCapture bytes frames None
     → (Rose old.faults new.faults → ⊥)
     → (Rose old.sinks.out.faults new.sinks.out.faults → ⊥)
     → (Rose old.sinks.err.faults new.sinks.err.faults → ⊥)
-    → (status ≡ 0) ⊎ ((status ≡ 1) ⊎ (status ≡ 6))
-runs_without_faults job old new status bytes frames run told capture source out err =
-    subst (λ n. (n ≡ 0) ⊎ ((n ≡ 1) ⊎ (n ≡ 6))) (sym run.same) (by_answer run.answer run.leaves run.faults)
+    → (status ≡ 6) ⊎ Completes job frames status
+complete_runs job old new status bytes frames run told capture source out err =
+    subst (λ n. (n ≡ 6) ⊎ Completes job frames n) (sym run.same) (by_answer run.answer run.leaves run.faults)
   where
     by_answer : (answer : Result Tally Stop) → Leaves job old.left old.sinks new.sinks answer → Faults old new answer
-        → (status_of answer ≡ 0) ⊎ ((status_of answer ≡ 1) ⊎ (status_of answer ≡ 6))
-    by_answer (Ok tally) leaves faults = well tally (leaves.damaged ∙ undamaged old.left bytes frames leaves.frames leaves.end told capture leaves.capture)
+        → (status_of answer ≡ 6) ⊎ Completes job frames (status_of answer)
+    by_answer (Ok tally) leaves faults = inr (completes job old.left old.sinks new.sinks tally bytes frames leaves told capture)
     by_answer (Err stop.Source) leaves faults = absurd (source faults.0)
     by_answer (Err stop.Sink) leaves faults = elim faults.1 [ inl failed ↦ absurd (out failed.out) | inr failed ↦ absurd (err failed.err) ]
-    by_answer (Err stop.Memory) leaves faults = inr (inr refl)
+    by_answer (Err stop.Memory) leaves faults = inl refl

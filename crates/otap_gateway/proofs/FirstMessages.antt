@@ -3,7 +3,7 @@ use Rattle.std.proofs.Common.{◌≡◌, ℕ, List, [], false, IfOk, Result, Ok,
 use Rattle.arrow_ipc.specs.declared.fault.IpcFault.{IpcFault}
 use Rattle.arrow_ipc.specs.declared.messages.IpcMessage.{IpcMessage}
 use Rattle.arrow_ipc.specs.Fronts.{MessagesIn, Advances, rest_of}
-use Rattle.arrow_ipc.specs.Unique.{alone, stands_some}
+use Rattle.arrow_ipc.proofs.Unique.{alone, stands_some}
 use Rattle.otap_gateway.specs.Openings.{BeginsWell}
 
 abbrev begun : List ℕ → MessagesIn

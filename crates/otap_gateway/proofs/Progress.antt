@@ -1,23 +1,29 @@
 -- A run so far, and what the next turn makes of it.
-use Rattle.std.proofs.Common.{◌≡◌, ◌⊎◌, inl, inr, ℕ, ◌+◌, Bool, true, false, List, [], ◌∷◌, ◌++◌, length, Some, None, IfSome, refl, sym, ap, ◌∙◌, subst, append_assoc, length-append, arith}
+use Rattle.std.proofs.Common.{◌≡◌, ◌⊎◌, inl, inr, ℕ, ◌+◌, Bool, true, false, List, [], ◌∷◌, ◌++◌, length, Some, None, IfSome, OnOk, Result, Ok, Err, refl, sym, ap, ◌∙◌, subst, append_assoc, length-append, arith}
 use Rattle.std.specs.Prelude.{◌||◌}
 use Rattle.std.specs.declared.option.Option.{Option}
-use Rattle.std.specs.Io.KnownBytes.{Appends, Consumes}
+use Rattle.std.specs.Io.KnownBytes.{Appends, Consumes, Keeps, prepend_known}
+use Rattle.std.proofs.lemmas.Bool.{false≢true}
 use Rattle.std.proofs.lemmas.List.{flat_map_more}
 use Rattle.std.proofs.lemmas.List.Folds.{list_any-append}
 use Rattle.histories.proofs.Growing.{each_after-push}
 use Rattle.otap_capture.specs.declared.frame.Damage.{Damage}
 use Rattle.otap_capture.specs.Capture.{Frame, IsFrame, AreFrames, EndsAt, IsCapture}
 use Rattle.otap_capture.specs.Outside.{AppendsFront}
-use Rattle.otap_capture.specs.Reading.{Reading, TakesFrame}
+use Rattle.otap_capture.specs.Deciding.{IsOpen}
+use Rattle.otap_capture.specs.Reading.{Reading, IsWaiting, TakesFrame, ahead}
 use Rattle.otap_capture.proofs.Framing.{are_frames-push}
 use Rattle.otap_capture.proofs.Known.{Appends-trans, Appends-kept, front_more, front_of_first, front_of_all}
 use Rattle.otap_gateway.specs.declared.command.Command.{Command}
 use Rattle.otap_gateway.specs.Commands.{ReplyOf}
 use Rattle.otap_gateway.specs.Jobs.{Rule, History}
+use Rattle.otap_gateway.specs.Lines.{words_line}
 use Rattle.otap_gateway.specs.Reply.{ReplyText, out_text, err_text, any_refused}
-use Rattle.otap_gateway.specs.Runs.{Sinks, World, BeginsWith, WritesAll, WritesFront, NoneFailed}
-use Rattle.otap_gateway.specs.Turns.{KeepsBoth, Progress, TurnsFrame, TurnsFramePart, TurnsEnd, TurnsEndPart}
+use Rattle.otap_gateway.specs.declared.stop.Stop.{Stop}
+use Rattle.otap_gateway.specs.declared.stop.Stop.TheVariants as stop
+use Rattle.otap_gateway.specs.declared.drive.Handled.{Handled}
+use Rattle.otap_gateway.specs.Runs.{Sinks, World, BeginsWith, WritesAll, WritesFront, WritesTaken, Stops, LeavesLine, NoneFailed, IsFlushed, IsQuiet}
+use Rattle.otap_gateway.specs.Turns.{KeepsBoth, Progress, Settled, TurnAsks, TurnsFailing, TurnsFrame, TurnsFramePart, TurnsEnd, TurnsEndPart}
 
 Consumes-trans : (a b c : Option (List ℕ)) (xs ys : List ℕ) → Consumes a b xs → Consumes b c ys → Consumes a c (xs ++ ys)
 Consumes-trans None b c xs ys p q = tt
@@ -58,15 +64,58 @@ refused_push : (replies : List ReplyText) (reply : ReplyText) (any refused : Boo
 refused_push replies reply any refused so_far same =
     ap (λ b. b || refused) so_far ∙ ap (λ b. any_refused replies || b) (same ∙ sym (or_false reply.refused)) ∙ sym (list_any-append (λ (r : ReplyText). r.refused) replies (reply ∷ []))
 
+-- what was passed on, after one more reply
+passed_more : (replies : List ReplyText) (reply : ReplyText) (mid new : Sinks) (unflushed wrote : Bool)
+    → (unflushed ≡ false → IsQuiet replies ⊎ IsFlushed mid) → (wrote ≡ false → (reply.out ≡ []) × (reply.err ≡ []) × (new ≡ mid))
+    → (unflushed || wrote) ≡ false → IsQuiet (replies ++ reply ∷ []) ⊎ IsFlushed new
+passed_more replies reply mid new true wrote before quiet none = absurd (false≢true (sym none))
+passed_more replies reply mid new false true before quiet none = absurd (false≢true (sym none))
+passed_more replies reply mid new false false before quiet none = by_before (before refl)
+  where
+    still : (reply.out ≡ []) × (reply.err ≡ []) × (new ≡ mid)
+    still = quiet refl
+
+    by_before : IsQuiet replies ⊎ IsFlushed mid → IsQuiet (replies ++ reply ∷ []) ⊎ IsFlushed new
+    by_before (inl q) = inl (sym (out_push replies reply) ∙ ap (λ l. l ++ reply.out) q.0 ∙ still.0, sym (err_push replies reply) ∙ ap (λ l. l ++ reply.err) q.1 ∙ still.1)
+    by_before (inr flushed) = inr (subst IsFlushed (sym still.2) flushed)
+
 module _ (R : Rule) (old mid : World) where
+  -- what is written is passed on, or is to be
+  pub progress_settled : {stands : History} {place number : ℕ} {any unflushed still : Bool} {read : Reading} (new : Sinks)
+      → Progress R stands old mid place number any unflushed → Settled read unflushed mid.sinks new still
+      → Progress R stands old (record mid { sinks = new }) place number any still
+  progress_settled {unflushed = unflushed} new p settled = record {
+    frames = p.frames;
+    replies = p.replies;
+    front = p.front;
+    taken = p.taken;
+    each = p.each;
+    at = p.at;
+    count = p.count;
+    history = p.history;
+    texts = p.texts;
+    out = Appends-kept _ _ _ _ p.out settled.keeps.out;
+    err = Appends-kept _ _ _ _ p.err settled.keeps.err;
+    refused = p.refused;
+    passed = λ none. by_passed (settled.passed none);
+  }
+    where
+      by_passed : ((unflushed ≡ false) × (new ≡ mid.sinks)) ⊎ IsFlushed new → IsQuiet p.replies ⊎ IsFlushed new
+      by_passed (inl same) = by_before (p.passed same.0)
+        where
+          by_before : IsQuiet p.replies ⊎ IsFlushed mid.sinks → IsQuiet p.replies ⊎ IsFlushed new
+          by_before (inl quiet) = inl quiet
+          by_before (inr flushed) = inr (subst IsFlushed (sym same.1) flushed)
+      by_passed (inr flushed) = inr flushed
+
   -- the frame that was taken is the frame that was replied to
   same_frame : (read read' : Reading) (left left' : Option (List ℕ)) (takes : TakesFrame read read' left left') (frame : Frame) → Some frame ≡ read'.frame → frame ≡ takes.frame
   same_frame read read' left left' takes frame shown = let both : Some frame ≡ Some takes.frame = shown ∙ takes.shown in cc
 
-  pub progress_more : {stands stands' : History} {read read' : Reading} {world : World} {number : ℕ} {any refused : Bool}
-      → Progress R stands old mid read.handed number any → TurnsFrame R stands stands' number read read' mid world refused
-      → Progress R stands' old world read'.handed (number + 1) (any || refused)
-  progress_more {read = read} {read' = read'} {world = world} {number = number} {any = any} {refused = refused} p turn =
+  pub progress_more : {stands stands' : History} {read read' : Reading} {world : World} {number : ℕ} {any unflushed : Bool} {handled : Handled}
+      → Progress R stands old mid read.handed number any unflushed → TurnsFrame R stands stands' number read read' mid world handled
+      → Progress R stands' old world read'.handed (number + 1) (any || handled.refused) (unflushed || handled.wrote)
+  progress_more {read = read} {read' = read'} {world = world} {number = number} {any = any} {unflushed = unflushed} {handled = handled} p turn =
       let w = turn.writes in
       let next = w.follows.at p.frames p.replies (sym p.count) p.history in
       let is_frame = subst (λ f. IsFrame turn.takes.front f) (sym (same_frame read read' mid.left world.left turn.takes turn.frame turn.shown)) turn.takes.is_frame in
@@ -82,7 +131,8 @@ module _ (R : Rule) (old mid : World) where
         texts = each_after-push R [] [] p.frames p.replies turn.frame w.reply p.texts next.0;
         out = subst (λ l. Appends old.sinks.out.written world.sinks.out.written l) (out_push p.replies w.reply) (Appends-trans _ _ _ _ _ p.out w.out);
         err = subst (λ l. Appends old.sinks.err.written world.sinks.err.written l) (err_push p.replies w.reply) (Appends-trans _ _ _ _ _ p.err w.err);
-        refused = refused_push p.replies w.reply any refused p.refused w.same;
+        refused = refused_push p.replies w.reply any handled.refused p.refused w.same;
+        passed = λ none. passed_more p.replies w.reply mid.sinks world.sinks unflushed handled.wrote p.passed w.quiet none;
       }
 
 -- the text of one more reply is a front of the longer text
@@ -91,7 +141,7 @@ part_push old mid new text part longer same before part' = subst (AppendsFront o
 
 module _ (job : Command) (old mid : World) where
   -- the frames and replies so far, in a run that goes no further
-  so_far : {stands : History} {place number : ℕ} {any : Bool} (new : Sinks) → Progress (ReplyOf job) stands old mid place number any → KeepsBoth mid.sinks new → WritesFront job old.left old.sinks new
+  pub so_far : {stands : History} {place number : ℕ} {any unflushed : Bool} (new : Sinks) → Progress (ReplyOf job) stands old mid place number any unflushed → KeepsBoth mid.sinks new → WritesFront job old.left old.sinks new
   so_far new p keeps = record {
     frames = p.frames;
     last = None;
@@ -104,8 +154,8 @@ module _ (job : Command) (old mid : World) where
   }
 
   -- with a frame whose reply is written in part
-  one_more : {stands stands' : History} {read read' : Reading} {world : World} {number : ℕ} {any : Bool}
-      → Progress (ReplyOf job) stands old mid read.handed number any → TurnsFramePart (ReplyOf job) stands stands' number read read' mid world
+  one_more : {stands stands' : History} {read read' : Reading} {world : World} {number : ℕ} {any unflushed : Bool}
+      → Progress (ReplyOf job) stands old mid read.handed number any unflushed → TurnsFramePart (ReplyOf job) stands stands' number read read' mid world
       → WritesFront job old.left old.sinks world.sinks
   one_more {read = read} {read' = read'} {world = world} {number = number} p turn =
       let w = turn.writes in
@@ -124,8 +174,8 @@ module _ (job : Command) (old mid : World) where
       }
 
   -- with a front of the text of the end
-  at_end : {stands : History} {read read' : Reading} {world : World} {number : ℕ} {any : Bool}
-      → Progress (ReplyOf job) stands old mid read.handed number any → TurnsEndPart read read' mid world
+  at_end : {stands : History} {read read' : Reading} {world : World} {number : ℕ} {any unflushed : Bool}
+      → Progress (ReplyOf job) stands old mid read.handed number any unflushed → TurnsEndPart read read' mid world
       → WritesFront job old.left old.sinks world.sinks
   at_end {read = read} {world = world} p turn = record {
     frames = p.frames;
@@ -142,16 +192,16 @@ module _ (job : Command) (old mid : World) where
       whole None ends = tt
       whole (Some damage) ends = consumed_all old.left mid.left p.front p.frames read.handed (Some damage) p.at p.taken p.each ends
 
-  pub progress_part : {stands stands' : History} {read read' : Reading} {world : World} {number : ℕ} {any : Bool}
-      → Progress (ReplyOf job) stands old mid read.handed number any
+  pub progress_part : {stands stands' : History} {read read' : Reading} {world : World} {number : ℕ} {any unflushed : Bool}
+      → Progress (ReplyOf job) stands old mid read.handed number any unflushed
       → KeepsBoth mid.sinks world.sinks ⊎ (TurnsFramePart (ReplyOf job) stands stands' number read read' mid world ⊎ TurnsEndPart read read' mid world)
       → WritesFront job old.left old.sinks world.sinks
   progress_part {world = world} p (inl keeps) = so_far world.sinks p keeps
   progress_part p (inr (inl turn)) = one_more p turn
   progress_part p (inr (inr turn)) = at_end p turn
 
-  pub progress_all : {stands : History} {read read' : Reading} {world : World} {number : ℕ} {any damaged : Bool}
-      → Progress (ReplyOf job) stands old mid read.handed number any → TurnsEnd read read' mid world damaged
+  pub progress_all : {stands : History} {read read' : Reading} {world : World} {number : ℕ} {any unflushed damaged : Bool}
+      → Progress (ReplyOf job) stands old mid read.handed number any unflushed → TurnsEnd read read' mid world damaged
       → WritesAll job old.left old.sinks world.sinks (record { refused = any; damaged = damaged })
   progress_all {read = read} p turn = record {
     frames = p.frames;
@@ -166,6 +216,53 @@ module _ (job : Command) (old mid : World) where
     damaged = turn.writes.same;
   }
 
+-- what is taken in front of bytes that are kept is taken together with them
+taken_kept : (left left' : Option (List ℕ)) (ahead : Option (List ℕ)) (front kept : List ℕ) → Consumes left ahead front → Keeps ahead (prepend_known kept left')
+    → Consumes left left' (front ++ kept)
+taken_kept None left' ahead front kept taken same = tt
+taken_kept (Some xs) left' None front kept taken same = absurd taken
+taken_kept (Some xs) None (Some ys) front kept taken same = absurd same
+taken_kept (Some xs) (Some zs) (Some ys) front kept taken same = taken ∙ ap (λ l. front ++ l) (sym same) ∙ sym (append_assoc front kept zs)
+
+-- the source failed: all frames that are whole in what was taken were handled
+progress_stopped : (job : Command) (old mid : World) {stands : History} {number : ℕ} {any : Bool} {read read' : Reading} (left' : Option (List ℕ)) (faults : ℕ) (new : World)
+    → Progress (ReplyOf job) stands old mid read.handed number any false → TurnsFailing read read' mid new → new.left ≡ ahead read' left'
+    → WritesTaken job old (record { left = left'; faults = faults; sinks = new.sinks })
+progress_stopped job old mid {read = read} {read' = read'} left' faults new p turn is = record {
+  frames = p.frames;
+  replies = p.replies;
+  front = p.front;
+  rest = read'.kept;
+  taken = taken_kept old.left left' mid.left p.front read'.kept p.taken (subst (Keeps mid.left) (is ∙ unread) turn.same);
+  each = p.each;
+  no_more = subst (λ n. IsOpen n read'.kept) (turn.handed ∙ p.at) turn.after.is_open;
+  texts = p.texts;
+  out = subst (λ s. Appends old.sinks.out.written s.out.written (out_text p.replies)) (sym turn.unwritten) p.out;
+  err = subst (λ s. Appends old.sinks.err.written s.err.written (err_text p.replies)) (sym turn.unwritten) p.err;
+  passed = by_passed (p.passed refl);
+}
+  where
+    unread : ahead read' left' ≡ prepend_known read'.kept left'
+    unread = rw turn.after.unread refl
+
+    by_passed : IsQuiet p.replies ⊎ IsFlushed mid.sinks → IsQuiet p.replies ⊎ IsFlushed new.sinks
+    by_passed (inl quiet) = inl quiet
+    by_passed (inr flushed) = inr (subst IsFlushed (sym turn.unwritten) flushed)
+
+pub progress_stops : (job : Command) (old mid : World) {stands : History} {number : ℕ} {any still : Bool} (read read' : Reading) (left' : Option (List ℕ)) (faults : ℕ) (new : World) (why : Stop)
+    → Progress (ReplyOf job) stands old mid read.handed number any still → (IsWaiting read → still ≡ false) → TurnAsks read read' mid new (Err why) → new.left ≡ ahead read' left'
+    → Stops job old (record { left = left'; faults = faults; sinks = new.sinks }) (Err why)
+progress_stops job old mid {stands = stands} {number = number} {any = any} read read' left' faults new stop.Source p asks turn is =
+    progress_stopped job old mid left' faults new (subst (λ b. Progress (ReplyOf job) stands old mid read.handed number any b) (asks turn.before) p) turn is
+progress_stops job old mid read read' left' faults new stop.Sink p asks turn is = tt
+progress_stops job old mid read read' left' faults new stop.Memory p asks turn is = tt
+
 -- no count of the sinks changed, and then again none
 pub none_failed-trans : (a b c : Sinks) → NoneFailed a b → NoneFailed b c → NoneFailed a c
 none_failed-trans a b c p q = record { out = q.out ∙ p.out; err = q.err ∙ p.err }
+
+-- the line of words that aren't understood is written, and then all is passed on
+pub leaves_line : (old new : Sinks) (mid : Option (List ℕ)) (answer : Result (Unit {0}) Stop) → Appends old.err.written mid words_line → Keeps mid new.err.written
+    → OnOk answer (IsFlushed new) → LeavesLine old new answer
+leaves_line old new mid (Ok x) line keeps flushed = (Appends-kept _ _ _ _ line keeps, flushed)
+leaves_line old new mid (Err why) line keeps flushed = front_of_all _ _ _ (Appends-kept _ _ _ _ line keeps)

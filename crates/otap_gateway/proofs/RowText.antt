@@ -1,25 +1,13 @@
--- One more byte, and one more cell, behind what is printed.
-use Rattle.std.proofs.Common.{◌≡◌, ℕ, ◌+◌, ◌<◌, ◌≤◌, List, [], ◌∷◌, ◌++◌, length, get_or, drop, map, ap, append_assoc, append-nil, arith}
+-- One more cell after what is printed.
+use Rattle.std.proofs.Common.{◌≡◌, ℕ, ◌+◌, ◌<◌, List, ◌++◌, length, get_or, drop, map, ap, append_assoc, arith}
 use Rattle.std.proofs.Math.ListN.{get_or-map}
-use Rattle.std.proofs.lemmas.List.{drop_all, drop_more, length-map}
-use Rattle.hex.specs.Hex.{encode_lower, encode_with, lower_digits}
-use Rattle.hex.proofs.Pairs.{encode_with-drop}
+use Rattle.std.proofs.lemmas.List.{drop_more, length-map}
 use Rattle.otap_cells.specs.declared.profile.Column.{Column}
 use Rattle.otap_cells.specs.Cells.{Cell, null}
 use Rattle.otap_cells.specs.Columns.{ColumnSpec, described}
 use Rattle.otap_gateway.specs.Rows.{named_cell, cells_text}
 
--- the digits of the byte at a place stand before those of the bytes behind it
-pub digits_go_on : (bytes : List ℕ) (i : ℕ) (before after whole : List ℕ) → i < length bytes → before ++ encode_lower (drop i bytes) ≡ whole
-    → after ≡ before ++ encode_lower (get_or bytes i 0 ∷ []) → after ++ encode_lower (drop (i + 1) bytes) ≡ whole
-unfolding encode_with
-digits_go_on bytes i before after whole inside so_far is = rw (is, append_assoc) (rw (encode_with-drop lower_digits bytes i inside) at so_far)
-
-pub digits_end : (bytes : List ℕ) (i : ℕ) (before whole : List ℕ) → length bytes ≤ i → before ++ encode_lower (drop i bytes) ≡ whole → before ≡ whole
-unfolding encode_with
-digits_end bytes i before whole end so_far = rw (drop_all i bytes end, append-nil) at so_far
-
--- the cell at a place, below the column that the program's table has there, stands before those behind it
+-- the cell at a place, below the column that the program's table has there, stands before those after it
 pub cells_go_on : (columns : List ColumnSpec) (known : List Column) (cells : List Cell) (i : ℕ) (d : Column) (cell : Cell) (before after whole : List ℕ)
     → map described known ≡ columns → i < length known → length cells ≡ length columns
     → before ++ cells_text (drop i columns) (drop i cells) ≡ whole → cell ≡ get_or cells i null

@@ -1,7 +1,6 @@
 -- The jobs: their words, and what each may reply to a frame.
 use Rattle.std.specs.Prelude.{◌≢◌, ℕ, List, [], ◌∷◌, length, codes}
 use Rattle.otap_capture.specs.Capture.{Frame}
-use Rattle.otlp_codec.specs.Requests as requests
 use Rattle.otlp_model.specs.declared.request.Signal.{Signal}
 use Rattle.otlp_model.specs.declared.request.Signal.TheVariants as signals
 use Rattle.otap_gateway.specs.declared.command.Command.{Command}
@@ -24,16 +23,9 @@ words_of (command.Tidy signal) = codes "tidy" ∷ signal_word signal ∷ []
 words_of (command.Schema signal) = codes "schema" ∷ signal_word signal ∷ []
 words_of (command.Show signal) = codes "show" ∷ signal_word signal ∷ []
 
--- the jobs that are built: those on requests only for the signals whose requests are read and written
-abbrev pub IsBuilt : Command → Type 0
-IsBuilt command.List = Unit {0}
-IsBuilt (command.Tidy signal) = requests.IsBuilt signal
-IsBuilt (command.Schema signal) = Unit {0}
-IsBuilt (command.Show signal) = Unit {0}
-
 -- words that are those of no job
 abbrev pub IsNoCommand : List (List ℕ) → Type 0
-IsNoCommand words = (job : Command) → IsBuilt job → words ≢ words_of job
+IsNoCommand words = (job : Command) → words ≢ words_of job
 
 -- what a job may reply to a frame, after these frames and the replies to them
 unfoldable pub ReplyOf : Command → List Frame → List ReplyText → Frame → ReplyText → Type 0

@@ -1,9 +1,9 @@
--- The lines of a schema's fields: each field and behind it its children, by their dotted names.
+-- The lines of a schema's fields: each field and after it its children, by their dotted names.
 use Rattle.std.specs.Prelude.{ℕ, List, [], ◌++◌, codes, if◌then◌else◌, Option, None, Some}
 use Rattle.std.specs.Fmt.{decimal}
 use Rattle.std.specs.List.{flat_map}
 use Rattle.arrow_schema.specs.declared.spec.ArrowType.{ArrowType}
-use Rattle.arrow_schema.specs.declared.spec.ArrowType.TheVariants.{Bool, Int, Double, Utf8, Binary, Fixed, Timestamp, Duration, Struct}
+use Rattle.arrow_schema.specs.declared.spec.ArrowType.TheVariants as type
 use Rattle.arrow_schema.specs.declared.spec.DictSpec.{DictSpec}
 use Rattle.arrow_schema.specs.declared.spec.FieldSpec.{FieldSpec, fold-FieldSpec}
 use Rattle.arrow_schema.specs.declared.spec.FieldSpec.TheOpen.{FieldSpec-F}
@@ -12,17 +12,18 @@ use Rattle.otap_gateway.specs.Lines.{line_feed}
 use Rattle.otap_gateway.specs.Quoting.{quoted}
 
 abbrev pub type_word : ArrowType → List ℕ
-type_word Bool = codes "bool"
-type_word (Int bits signed) = (if signed then codes "i" else codes "u") ++ decimal bits
-type_word Double = codes "f64"
-type_word Utf8 = codes "utf8"
-type_word Binary = codes "binary"
-type_word (Fixed width) = codes "fixed " ++ decimal width
-type_word Timestamp = codes "timestamp"
-type_word Duration = codes "duration"
-type_word Struct = codes "struct"
+type_word type.Bool = codes "bool"
+type_word (type.Int bits signed) = (if signed then codes "i" else codes "u") ++ decimal bits
+type_word type.Double = codes "f64"
+type_word type.Utf8 = codes "utf8"
+type_word type.Binary = codes "binary"
+type_word (type.Fixed width) = codes "fixed " ++ decimal width
+type_word type.Timestamp = codes "timestamp"
+type_word type.Duration = codes "duration"
+type_word type.Struct = codes "struct"
+type_word type.List = codes "list"
 
--- what stands behind the type of a field with this dictionary: the type of its indexes
+-- what stands after the type of a field with this dictionary: the type of its indexes
 abbrev pub dictionary_word : Option DictSpec → List ℕ
 dictionary_word None = []
 dictionary_word (Some dict) = if dict.wide then codes " dict u16" else codes " dict u8"

@@ -1,14 +1,15 @@
 -- What a run does to its source and its sinks.
-use Rattle.std.specs.Prelude.{◌≡◌, ◌⊎◌, ℕ, if◌then◌else◌, List, [], ◌++◌, IfSome, Some, is_some}
+use Rattle.std.specs.Prelude.{◌≡◌, ◌⊎◌, ℕ, if◌then◌else◌, List, [], ◌++◌, length, ⊤, IfSome, Some, is_some}
 use Rattle.std.specs.declared.option.Option.{Option}
 use Rattle.std.specs.declared.result.Result.{Result}
 use Rattle.std.specs.declared.result.Result.TheVariants.{Ok, Err}
-use Rattle.std.specs.Io.KnownBytes.{Appends, Keeps}
+use Rattle.std.specs.Io.KnownBytes.{Appends, Consumes, Keeps}
 use Rattle.histories.specs.EachAfter.{EachAfter}
 use Rattle.otap_capture.specs.declared.frame.Damage.{Damage}
 use Rattle.otap_capture.specs.declared.outside.Sink.{Ghosts as SinkGhosts}
 use Rattle.otap_capture.specs.declared.outside.Source.{Ghosts as SourceGhosts}
 use Rattle.otap_capture.specs.Capture.{Frame, AreFrames, IsCapture}
+use Rattle.otap_capture.specs.Deciding.{IsOpen}
 use Rattle.otap_capture.specs.Outside.{AppendsFront, Rose}
 use Rattle.otap_gateway.specs.declared.command.Command.{Command}
 use Rattle.otap_gateway.specs.declared.stop.Stop.{Stop}
@@ -78,6 +79,32 @@ pub record WritesFront (job : Command) (left : Option (List ℕ)) (old new : Sin
   pub out : AppendsFront old.out.written new.out.written (out_text replies)
   pub err : AppendsFront old.err.written new.err.written (err_text replies ++ end_text last)
 
+-- nothing is written for these replies
+abbrev pub IsQuiet : List ReplyText → Type 0
+IsQuiet replies = (out_text replies ≡ []) × (err_text replies ≡ [])
+
+-- The source stopped the run: the sinks grew by the whole texts of all frames that are whole in the bytes that were taken
+-- from it, and all of that is passed on.
+pub record WritesTaken (job : Command) (old new : World) : Type 0 where
+  pub frames : List Frame
+  pub replies : List ReplyText
+  pub front : List ℕ
+  pub rest : List ℕ
+  pub taken : Consumes old.left new.left (front ++ rest)
+  pub each : AreFrames 0 front frames
+  pub no_more : IsOpen (length front) rest
+  pub texts : EachAfter (ReplyOf job) [] [] frames replies
+  pub out : Appends old.sinks.out.written new.sinks.out.written (out_text replies)
+  pub err : Appends old.sinks.err.written new.sinks.err.written (err_text replies)
+  pub passed : IsQuiet replies ⊎ IsFlushed new.sinks
+
+-- what a run leaves where the source stopped it
+abbrev pub Stops : Command → World → World → Result Tally Stop → Type 0
+Stops job old new (Ok tally) = ⊤
+Stops job old new (Err stop.Source) = WritesTaken job old new
+Stops job old new (Err stop.Sink) = ⊤
+Stops job old new (Err stop.Memory) = ⊤
+
 abbrev pub Leaves : Command → Option (List ℕ) → Sinks → Sinks → Result Tally Stop → Type 0
 Leaves job left old new (Ok tally) = WritesAll job left old new tally
 Leaves job left old new (Err stop) = WritesFront job left old new
@@ -122,7 +149,15 @@ pub record Runs (job : Command) (old new : World) (status : ℕ) : Type 0 where
   pub answer : Result Tally Stop
   pub same : status ≡ status_of answer
   pub leaves : Leaves job old.left old.sinks new.sinks answer
+  pub stops : Stops job old new answer
   pub faults : Faults old new answer
+
+-- A run in which nothing failed, over a capture of these frames that ends well: each frame has a reply that the job
+-- allows, and the status is 0 exactly where none of them is refused, and else 1.
+pub record Completes (job : Command) (frames : List Frame) (status : ℕ) : Type 0 where
+  pub replies : List ReplyText
+  pub texts : EachAfter (ReplyOf job) [] [] frames replies
+  pub same : status ≡ (if any_refused replies then 1 else 0)
 
 -- the line is written and passed on, or a front of it is written
 abbrev pub LeavesLine : Sinks → Sinks → Result (Unit {0}) Stop → Type 0

@@ -53,7 +53,7 @@ pub record ShowsTaken (frame : Frame) (s : SegmentIn) (number : ℕ) (reply : Re
   pub at : (signal : Signal) (outcomes : List Outcome) (bytes : List ℕ) (batch : BatchContent) (before : List Table) → frame ≡ Message bytes → ReadsBatch bytes batch
       → StandsFor signal (outcomes ++ Accepted batch before ∷ []) s → reply ≡ printed (batch_text number batch (tables_of signal (payloads_after outcomes) batch.payloads))
 
--- a reply to what the segment answered
+-- a reply to what the segment gave
 abbrev pub RepliesTo : Frame → SegmentIn → ℕ → Seen → ReplyText → Type 0
 RepliesTo frame s number (seen.Batch id rows) reply = ShowsTaken frame s number reply
 RepliesTo frame s number (seen.Refused refusal) reply = reply ≡ shown number (Refused refusal)

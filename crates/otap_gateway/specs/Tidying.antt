@@ -1,26 +1,18 @@
 -- The texts of `tidy`: each request in canonical spelling.
 use Rattle.std.specs.Prelude.{◌≡◌, ◌⊎◌, ℕ, List, length, codes, nat_lt, if◌then◌else◌}
-use Rattle.std.specs.Coded.{Unit-prop}
 use Rattle.otap_capture.specs.Capture.{Frame, Message, Packed, Reset, message_frame, reset_frame}
 use Rattle.otlp_codec.specs.declared.refusal.ReadRefusal.{ReadRefusal}
 use Rattle.otlp_codec.specs.Refusals.{refusal_of}
-use Rattle.otlp_codec.specs.Requests.{IsBuilt, Reads, Stands, canon_request}
+use Rattle.otlp_codec.specs.Requests.{Reads, Stands, canon_request}
 use Rattle.otlp_messages.specs.declared.messages.Defect.{Defect}
 use Rattle.otlp_messages.specs.declared.messages.Defect.TheVariants.{BadMessage, Repeated, BadUtf8, BadLength, Unsupported, TooDeep}
-use Rattle.otlp_model.specs.declared.limits.TheConstants.{MAX_ITEMS, MAX_TREE_WEIGHT}
+use Rattle.otlp_model.specs.Limits.{item_limit, weight_limit}
 use Rattle.otlp_model.specs.declared.request.Request.{Request}
 use Rattle.otlp_model.specs.declared.request.Signal.{Signal}
-use Rattle.otlp_model.specs.declared.request.Signal.TheVariants.{Traces, Logs, Metrics}
 use Rattle.otlp_model.specs.Telemetry.{telemetry}
 use Rattle.otlp_model.specs.Weight.{weight_of}
 use Rattle.otap_gateway.specs.Lines.{request_line, printed, refuses}
 use Rattle.otap_gateway.specs.Reply.{ReplyText}
-
--- that a signal is built has one proof at most
-pub IsBuilt-prop : (signal : Signal) → IsProp (IsBuilt signal)
-IsBuilt-prop Traces = λ a b. absurd a
-IsBuilt-prop Logs = Unit-prop
-IsBuilt-prop Metrics = λ a b. absurd a
 
 abbrev pub defect_name : Defect → List ℕ
 defect_name BadMessage = codes "BadMessage"
@@ -43,8 +35,8 @@ refused_request number cause = refuses (request_line number cause)
 -- the reply to a request: a refusal by the first limit that it goes past, or its canonical spelling
 abbrev pub tidied : ℕ → Request → ReplyText
 tidied number request =
-    if nat_lt MAX_ITEMS (length (telemetry request)) then refused_request number (codes "TooManyItems")
-    else if nat_lt MAX_TREE_WEIGHT (weight_of request) then refused_request number (codes "TooHeavy")
+    if nat_lt item_limit (length (telemetry request)) then refused_request number (codes "TooManyItems")
+    else if nat_lt weight_limit (weight_of request) then refused_request number (codes "TooHeavy")
     else printed (message_frame (canon_request request))
 
 -- the reply to a message that is a request, or to one in which that defect stands

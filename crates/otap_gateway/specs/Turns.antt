@@ -1,5 +1,5 @@
 -- The steps of a run, in the words of its private contracts.
-use Rattle.std.specs.Prelude.{◌≡◌, ◌⊎◌, ℕ, Bool, List, [], length, Some, is_some}
+use Rattle.std.specs.Prelude.{◌≡◌, ◌⊎◌, ℕ, Bool, false, List, [], length, ⊤, Some, is_some}
 use Rattle.std.specs.declared.option.Option.{Option}
 use Rattle.std.specs.declared.result.Result.{Result}
 use Rattle.std.specs.declared.result.Result.TheVariants.{Ok, Err}
@@ -13,15 +13,16 @@ use Rattle.otap_capture.specs.declared.outside.SinkRefusal.TheVariants as refusa
 use Rattle.otap_capture.specs.declared.outside.Source.{Ghosts as SourceGhosts}
 use Rattle.otap_capture.specs.Capture.{Frame, AreFrames}
 use Rattle.otap_capture.specs.Outside.{AppendsFront}
-use Rattle.otap_capture.specs.Reading.{Reading, TakesFrame, ComesToEnd, ahead}
+use Rattle.otap_capture.specs.Reading.{Reading, IsWaiting, TakesFrame, ComesToEnd, ahead}
 use Rattle.otap_gateway.specs.declared.stop.Stop.{Stop}
 use Rattle.otap_gateway.specs.declared.stop.Stop.TheVariants as stop
+use Rattle.otap_gateway.specs.declared.drive.Handled.{Handled}
 use Rattle.otap_gateway.specs.declared.drive.Turn.{Turn}
 use Rattle.otap_gateway.specs.declared.drive.Turn.TheVariants as turn
 use Rattle.otap_gateway.specs.Jobs.{Rule, History, Extends}
 use Rattle.otap_gateway.specs.Lines.{end_text}
 use Rattle.otap_gateway.specs.Reply.{ReplyText, out_text, err_text, any_refused}
-use Rattle.otap_gateway.specs.Runs.{Sinks, World, IsFlushed}
+use Rattle.otap_gateway.specs.Runs.{Sinks, World, IsFlushed, IsQuiet}
 
 abbrev pub stop_of_sink : SinkRefusal → Stop
 stop_of_sink refusal.Failed = stop.Sink
@@ -31,7 +32,7 @@ abbrev pub stop_of_frames : FramesRefusal → Stop
 stop_of_frames frames.Source = stop.Source
 stop_of_frames (frames.Memory e) = stop.Memory
 
--- what a run meets behind the frames that were handed out
+-- what a run meets after the frames that were handed out
 abbrev pub world_ahead : {S : Type 0} → Reading → SourceGhosts S → S → Sinks → World
 world_ahead read tells source sinks = record { left = ahead read (tells.left source); faults = tells.faults source; sinks = sinks }
 
@@ -41,12 +42,13 @@ pub record KeepsBoth (old new : Sinks) : Type 0 where
   pub err : Keeps old.err.written new.err.written
 
 -- a reply to the frame is written
-pub record Writes (R : Rule) (stands stands' : History) (number : ℕ) (frame : Frame) (old new : Sinks) (refused : Bool) : Type 0 where
+pub record Writes (R : Rule) (stands stands' : History) (number : ℕ) (frame : Frame) (old new : Sinks) (handled : Handled) : Type 0 where
   pub reply : ReplyText
   pub follows : Extends R stands stands' number frame reply
   pub out : Appends old.out.written new.out.written reply.out
   pub err : Appends old.err.written new.err.written reply.err
-  pub same : refused ≡ reply.refused
+  pub same : handled.refused ≡ reply.refused
+  pub quiet : handled.wrote ≡ false → (reply.out ≡ []) × (reply.err ≡ []) × (new ≡ old)
 
 -- a front of a reply to the frame is written
 pub record WritesPart (R : Rule) (stands stands' : History) (number : ℕ) (frame : Frame) (old new : Sinks) : Type 0 where
@@ -55,8 +57,8 @@ pub record WritesPart (R : Rule) (stands stands' : History) (number : ℕ) (fram
   pub out : AppendsFront old.out.written new.out.written reply.out
   pub err : AppendsFront old.err.written new.err.written reply.err
 
-abbrev pub Handles : Rule → History → History → ℕ → Frame → Sinks → Sinks → Result Bool Stop → Type 0
-Handles R stands stands' number frame old new (Ok refused) = Writes R stands stands' number frame old new refused
+abbrev pub Handles : Rule → History → History → ℕ → Frame → Sinks → Sinks → Result Handled Stop → Type 0
+Handles R stands stands' number frame old new (Ok handled) = Writes R stands stands' number frame old new handled
 Handles R stands stands' number frame old new (Err stop) = KeepsBoth old new ⊎ WritesPart R stands stands' number frame old new
 
 -- the text of an end is written, and all is passed on
@@ -76,11 +78,11 @@ Ends end old new (Ok damaged) = Finishes end old new damaged
 Ends end old new (Err stop) = FinishesPart end old new
 
 -- a turn: the next frame is taken and its reply written
-pub record TurnsFrame (R : Rule) (stands stands' : History) (number : ℕ) (read read' : Reading) (old new : World) (refused : Bool) : Type 0 where
+pub record TurnsFrame (R : Rule) (stands stands' : History) (number : ℕ) (read read' : Reading) (old new : World) (handled : Handled) : Type 0 where
   pub takes : TakesFrame read read' old.left new.left
   pub frame : Frame
   pub shown : Some frame ≡ read'.frame
-  pub writes : Writes R stands stands' number frame old.sinks new.sinks refused
+  pub writes : Writes R stands stands' number frame old.sinks new.sinks handled
 
 pub record TurnsFramePart (R : Rule) (stands stands' : History) (number : ℕ) (read read' : Reading) (old new : World) : Type 0 where
   pub takes : TakesFrame read read' old.left new.left
@@ -100,13 +102,37 @@ pub record TurnsEndPart (read read' : Reading) (old new : World) : Type 0 where
   pub writes : FinishesPart end old.sinks new.sinks
 
 abbrev pub Turns : Rule → History → History → ℕ → Reading → Reading → World → World → Result Turn Stop → Type 0
-Turns R stands stands' number read read' old new (Ok (turn.Frame refused)) = TurnsFrame R stands stands' number read read' old new refused
+Turns R stands stands' number read read' old new (Ok (turn.Frame handled)) = TurnsFrame R stands stands' number read read' old new handled
 Turns R stands stands' number read read' old new (Ok (turn.End damaged)) = TurnsEnd read read' old new damaged
 Turns R stands stands' number read read' old new (Err stop) =
     KeepsBoth old.sinks new.sinks ⊎ (TurnsFramePart R stands stands' number read read' old new ⊎ TurnsEndPart read read' old new)
 
--- A run so far: what is ahead stands behind the frames that were taken, and the sinks grew by the replies to them.
-pub record Progress (R : Rule) (stands : History) (old new : World) (place number : ℕ) (any : Bool) : Type 0 where
+-- a turn in which the source failed: it was asked, and nothing was written
+pub record TurnsFailing (read read' : Reading) (old new : World) : Type 0 where
+  pub before : IsWaiting read
+  pub after : IsWaiting read'
+  pub same : Keeps old.left new.left
+  pub handed : read'.handed ≡ read.handed
+  pub unwritten : new.sinks ≡ old.sinks
+
+abbrev pub TurnAsks : Reading → Reading → World → World → Result Turn Stop → Type 0
+TurnAsks read read' old new (Ok turn) = ⊤
+TurnAsks read read' old new (Err stop.Source) = TurnsFailing read read' old new
+TurnAsks read read' old new (Err stop.Sink) = ⊤
+TurnAsks read read' old new (Err stop.Memory) = ⊤
+
+-- what was written is passed on where the source is to be asked; the result says whether some of it isn't
+pub record Settled (read : Reading) (unflushed : Bool) (old new : Sinks) (still : Bool) : Type 0 where
+  pub keeps : KeepsBoth old new
+  pub asks : IsWaiting read → still ≡ false
+  pub passed : still ≡ false → ((unflushed ≡ false) × (new ≡ old)) ⊎ IsFlushed new
+
+abbrev pub Settles : Reading → Bool → Sinks → Sinks → Result Bool Stop → Type 0
+Settles read unflushed old new (Ok still) = Settled read unflushed old new still
+Settles read unflushed old new (Err stop) = KeepsBoth old new
+
+-- A run so far: what is ahead stands after the frames that were taken, and the sinks grew by the replies to them.
+pub record Progress (R : Rule) (stands : History) (old new : World) (place number : ℕ) (any unflushed : Bool) : Type 0 where
   pub frames : List Frame
   pub replies : List ReplyText
   pub front : List ℕ
@@ -119,3 +145,4 @@ pub record Progress (R : Rule) (stands : History) (old new : World) (place numbe
   pub out : Appends old.sinks.out.written new.sinks.out.written (out_text replies)
   pub err : Appends old.sinks.err.written new.sinks.err.written (err_text replies)
   pub refused : any ≡ any_refused replies
+  pub passed : unflushed ≡ false → IsQuiet replies ⊎ IsFlushed new.sinks

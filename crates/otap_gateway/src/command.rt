@@ -1,8 +1,7 @@
 //! The jobs by their words.
 ghost use Rattle.std.specs.Prelude.{◌≡◌, ◌≢◌, [], ◌∷◌, MatchOption};
-ghost use Rattle.otlp_codec.specs.Requests as requests;
 ghost use Rattle.otlp_model.specs.declared.request.Signal.{Signal};
-ghost use Rattle.otap_gateway.specs.Commands.{IsBuilt, IsNoCommand, words_of, signal_word};
+ghost use Rattle.otap_gateway.specs.Commands.{IsNoCommand, words_of, signal_word};
 
 use otlp_model::Signal;
 
@@ -21,7 +20,7 @@ pub(crate) enum Command {
 
 /// The job of one word.
 pub(crate) fn one_word(job: &str) -> Option<Command>
-    ensures { MatchOption result (IsNoCommand (job.now ∷ [])) (λ command. IsBuilt command × (job.now ∷ [] ≡ words_of command)) }
+    ensures { MatchOption result (IsNoCommand (job.now ∷ [])) (λ command. job.now ∷ [] ≡ words_of command) }
 {
     match job {
         "list" => Some(Command::List),
@@ -32,23 +31,12 @@ pub(crate) fn one_word(job: &str) -> Option<Command>
 /// The job of a word and a signal.
 pub(crate) fn two_words(job: &str, signal: &str) -> Option<Command>
     ensures { MatchOption result (IsNoCommand (job.now ∷ signal.now ∷ []))
-        (λ command. IsBuilt command × (job.now ∷ signal.now ∷ [] ≡ words_of command)) }
+        (λ command. job.now ∷ signal.now ∷ [] ≡ words_of command) }
 {
     match job {
-        "tidy" => Some(Command::Tidy(built_signal(signal)?)),
+        "tidy" => Some(Command::Tidy(any_signal(signal)?)),
         "schema" => Some(Command::Schema(any_signal(signal)?)),
         "show" => Some(Command::Show(any_signal(signal)?)),
-        _ => None,
-    }
-}
-
-/// The signal of a word, where its requests are read and written.
-fn built_signal(word: &str) -> Option<Signal>
-    ensures { MatchOption result ((signal : Signal) → requests.IsBuilt signal → word.now ≢ signal_word signal)
-        (λ signal. requests.IsBuilt signal × (word.now ≡ signal_word signal)) }
-{
-    match word {
-        "logs" => Some(Signal::Logs),
         _ => None,
     }
 }

@@ -4,8 +4,8 @@ ghost use Rattle.std.specs.Io.KnownBytes.{Keeps};
 ghost use Rattle.std.specs.declared.option.Option.{Option};
 ghost use Rattle.otap_capture.specs.Capture.{frame_of};
 ghost use Rattle.otap_gateway.specs.Commands.{ReplyOf};
-ghost use Rattle.otap_gateway.specs.Runs.{sinks, world, Leaves, Faults, SinkFaults, IsFlushed};
-ghost use Rattle.otap_gateway.specs.Turns.{Handles, Ends, Turns, world_ahead};
+ghost use Rattle.otap_gateway.specs.Runs.{sinks, world, Leaves, Stops, Faults, SinkFaults, IsFlushed};
+ghost use Rattle.otap_gateway.specs.Turns.{Handles, Ends, Settles, Turns, TurnAsks, world_ahead};
 
 use crate::job::Job;
 use crate::lines::damage_line;
@@ -13,15 +13,23 @@ use crate::stop::{Stop, Tally};
 use otap_capture::{Damage, Frame, Frames, Sink, Source, Step, write_whole};
 use std::alloc::Global;
 
+/// What a frame came to.
+#[derive(Clone, Copy)]
+pub(crate) struct Handled {
+    /// Whether it was refused.
+    pub(crate) refused: bool,
+    /// Whether something was written.
+    pub(crate) wrote: bool,
+}
+
 /// What a turn came to.
 pub(crate) enum Turn {
-    /// A frame, and whether it was refused.
-    Frame(bool),
+    Frame(Handled),
     /// The end, and whether it is a damage.
     End(bool),
 }
 
-/// Writes the reply of the job to a frame. Answers whether the frame is refused.
+/// Writes the reply of the job to a frame.
 fn handle<J: Job, O: Sink, E: Sink>(
     alloc: Global,
     job: &mut J,
@@ -29,7 +37,7 @@ fn handle<J: Job, O: Sink, E: Sink>(
     frame: &Frame<'_>,
     out: &mut O,
     err: &mut E,
-) -> Result<bool, Stop>
+) -> Result<Handled, Stop>
     ensures same { J.command job.new ≡ J.command job.old }
     ensures handles { Handles (ReplyOf (J.command job.old)) (J.stands job.old) (J.stands job.new) number (frame_of frame.now)
         (sinks O.Sink out.old E.Sink err.old)
@@ -43,7 +51,10 @@ fn handle<J: Job, O: Sink, E: Sink>(
     };
     write_whole(out, reply.out())?;
     write_whole(err, reply.err())?;
-    Ok(reply.is_refused())
+    Ok(Handled {
+        refused: reply.is_refused(),
+        wrote: reply.is_written(),
+    })
 }
 
 /// Passes on all that was written.
@@ -58,6 +69,27 @@ pub(crate) fn flush_both<O: Sink, E: Sink>(out: &mut O, err: &mut E) -> Result<(
     out.flush()?;
     err.flush()?;
     Ok(())
+}
+
+/// Passes on what was written, where the source is to be asked. Returns whether some of it isn't.
+fn settle<O: Sink, E: Sink>(
+    frames: &Frames,
+    unflushed: bool,
+    out: &mut O,
+    err: &mut E,
+) -> Result<bool, Stop>
+    ensures settles { Settles frames.now unflushed
+        (sinks O.Sink out.old E.Sink err.old)
+        (sinks O.Sink out.new E.Sink err.new) result }
+    ensures faults { SinkFaults
+        (sinks O.Sink out.old E.Sink err.old)
+        (sinks O.Sink out.new E.Sink err.new) result }
+{
+    if !unflushed || !frames.asks() {
+        return Ok(unflushed);
+    }
+    flush_both(out, err)?;
+    Ok(false)
 }
 
 /// Writes the line of a damage, if there is one, and passes on all that was written.
@@ -105,6 +137,9 @@ fn take_turn<J: Job, S: Source, O: Sink, E: Sink>(
     ensures turns { Turns (ReplyOf (J.command job.old)) (J.stands job.old) (J.stands job.new) number frames.old frames.new
         (world_ahead frames.old S.Source source.old (sinks O.Sink out.old E.Sink err.old))
         (world_ahead frames.new S.Source source.new (sinks O.Sink out.new E.Sink err.new)) result }
+    ensures asks { TurnAsks frames.old frames.new
+        (world_ahead frames.old S.Source source.old (sinks O.Sink out.old E.Sink err.old))
+        (world_ahead frames.new S.Source source.new (sinks O.Sink out.new E.Sink err.new)) result }
     ensures faults { Faults
         (world_ahead frames.old S.Source source.old (sinks O.Sink out.old E.Sink err.old))
         (world_ahead frames.new S.Source source.new (sinks O.Sink out.new E.Sink err.new)) result }
@@ -114,8 +149,8 @@ fn take_turn<J: Job, S: Source, O: Sink, E: Sink>(
             let Some(frame) = frames.frame() else {
                 unreachable!()
             };
-            let refused = handle(alloc, job, number, &frame, out, err)?;
-            return Ok(Turn::Frame(refused));
+            let handled = handle(alloc, job, number, &frame, out, err)?;
+            return Ok(Turn::Frame(handled));
         }
         Step::End => None,
         Step::Damage(damage) => Some(damage),
@@ -123,7 +158,8 @@ fn take_turn<J: Job, S: Source, O: Sink, E: Sink>(
     Ok(Turn::End(finish(alloc, end, out, err)?))
 }
 
-/// Runs a job over the whole capture that the source gives.
+/// Runs a job over the whole capture that the source gives. Each frame is handled before the next is
+/// asked for, and what was written is passed on before the source is asked for more.
 pub(crate) fn drive<J: Job, S: Source, O: Sink, E: Sink>(
     alloc: Global,
     job: &mut J,
@@ -135,6 +171,9 @@ pub(crate) fn drive<J: Job, S: Source, O: Sink, E: Sink>(
     ensures leaves { Leaves (J.command job.old) (S.left source.old)
         (sinks O.Sink out.old E.Sink err.old)
         (sinks O.Sink out.new E.Sink err.new) result }
+    ensures stops { Stops (J.command job.old)
+        (world S.Source source.old (sinks O.Sink out.old E.Sink err.old))
+        (world S.Source source.new (sinks O.Sink out.new E.Sink err.new)) result }
     ensures faults { Faults
         (world S.Source source.old (sinks O.Sink out.old E.Sink err.old))
         (world S.Source source.new (sinks O.Sink out.new E.Sink err.new)) result }
@@ -142,10 +181,13 @@ pub(crate) fn drive<J: Job, S: Source, O: Sink, E: Sink>(
     let mut frames = Frames::new(alloc);
     let mut number = 0;
     let mut refused = false;
+    let mut unflushed = false;
     'frames: loop {
+        unflushed = settle(&frames, unflushed, out, err)?;
         match take_turn(alloc, job, number, &mut frames, source, out, err)? {
-            Turn::Frame(is_refused) => {
-                refused |= is_refused;
+            Turn::Frame(handled) => {
+                refused |= handled.refused;
+                unflushed |= handled.wrote;
                 number += 1;
             }
             Turn::End(damaged) => return Ok(Tally { refused, damaged }),

@@ -6,7 +6,7 @@ use crate::quoting::push_quoted;
 use arrow_schema::{ArrowType, DictSpec, FieldSpec};
 use std::alloc::{AllocError, Global};
 
-/// Appends a line for each field, its children behind it. Their names stand behind the path, which
+/// Appends a line for each field, its children after it. Their names stand after the path, which
 /// is empty or ends with a dot.
 pub(crate) fn push_fields(
     alloc: Global,
@@ -77,10 +77,11 @@ fn type_word(alloc: Global, kind: ArrowType) -> Result<String, AllocError>
         ArrowType::Timestamp => String::from_str(alloc, "timestamp"),
         ArrowType::Duration => String::from_str(alloc, "duration"),
         ArrowType::Struct => String::from_str(alloc, "struct"),
+        ArrowType::List => String::from_str(alloc, "list"),
     }
 }
 
-// What stands behind the type of a field with this dictionary.
+// What stands after the type of a field with this dictionary.
 fn dictionary_word(dict: Option<DictSpec>) -> &'static str
     ensures { result.now ≡ dictionary_word dict }
 {

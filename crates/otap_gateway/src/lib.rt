@@ -21,7 +21,7 @@ mod stop;
 mod tidy;
 mod words;
 
-pub use laws::runs_without_faults;
+pub use laws::{complete_runs, each_words};
 pub use running::run;
 pub use words::Words;
 

@@ -18,11 +18,16 @@ pub(crate) fn push_quoted(out: &mut Vec<u8>, text: &[u8]) -> Result<(), AllocErr
     }
 }
 
-// Whether a byte of the text is escaped. Most texts have none, and are appended as a whole.
+// Whether a byte of the text is escaped. Most texts have none, and are appended as a whole; so all bytes are looked at, many
+// at a time.
 fn has_special(text: &[u8]) -> bool
     ensures { result ≡ list_any is_special text.now }
 {
-    text.iter().any(|byte| is_special(*byte))
+    let mut found = false;
+    'bytes: for byte in text {
+        found |= is_special(*byte);
+    }
+    found
 }
 
 fn is_special(byte: u8) -> bool

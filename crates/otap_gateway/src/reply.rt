@@ -1,10 +1,10 @@
 //! What a job puts on its sinks for a frame.
-ghost use Rattle.std.specs.Prelude.{◌≡◌, ◌≤◌, IfOk, length, string_bytes};
-ghost use Rattle.otap_capture.specs.Capture.{message_frame, reset_frame};
+ghost use Rattle.std.specs.Prelude.{◌≡◌, ◌≤◌, [], false, IfOk, length, string_bytes};
+ghost use Rattle.otap_capture.specs.Capture.{longest_frame, message_frame, reset_frame};
 ghost use Rattle.otap_gateway.specs.Lines.{printed, refuses};
 
 use byteorder::{BigEndian, ByteOrder};
-use otap_capture::MAX_FRAME;
+use otlp_messages::Backward;
 use std::alloc::{AllocError, Global};
 use std::marker::Model;
 
@@ -32,17 +32,15 @@ impl Reply {
         Reply::on_out(alloc, text.into_bytes())
     }
 
-    /// A message on out, as a frame.
-    pub(crate) fn message(alloc: Global, part: &[u8]) -> Result<Reply, AllocError>
-        requires { length part.now ≤ MAX_FRAME }
-        ensures { IfOk result (λ reply. reply ≡ printed (message_frame part.now)) }
+    /// A message on out, as a frame, whose head is written before it.
+    pub(crate) fn message(alloc: Global, mut part: Backward) -> Result<Reply, AllocError>
+        requires { length part ≤ longest_frame }
+        ensures { IfOk result (λ reply. reply ≡ printed (message_frame part)) }
     {
         let mut head = [0; 5];
         BigEndian::write_u32(&mut head[1..], part.len() as u32);
-        let mut out = Vec::with_capacity(alloc, head.len() + part.len())?;
-        out.extend_from_slice(&head)?;
-        out.extend_from_slice(part)?;
-        Ok(Reply::on_out(alloc, out))
+        part.push_slice(&head)?;
+        Ok(Reply::on_out(alloc, part.finish()))
     }
 
     /// A reset on out.
@@ -90,5 +88,11 @@ impl Reply {
         ensures { result ≡ self.now.refused }
     {
         self.refused
+    }
+    /// Whether there are bytes for out or for err.
+    pub(crate) fn is_written(&self) -> bool
+        ensures { result ≡ false → (self.now.out ≡ []) × (self.now.err ≡ []) }
+    {
+        !self.out.is_empty() || !self.err.is_empty()
     }
 }

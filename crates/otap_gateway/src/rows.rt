@@ -1,19 +1,21 @@
 //! The lines of a table's rows: the cells as they are stored.
-ghost use Rattle.std.specs.Prelude.{◌≡◌, ◌<◌, [], ◌∷◌, ◌++◌, length, OnOk};
+ghost use Rattle.std.specs.Prelude.{◌≡◌, ◌<◌, ◌≤◌, [], ◌++◌, codes, length, OnOk};
 ghost use Rattle.std.specs.List.{slice_index_or};
 ghost use Rattle.std.specs.Fmt.{decimal, signed_decimal};
 ghost use Rattle.hex.specs.Hex.{encode_lower};
 ghost use Rattle.otap_cells.specs.Cells.{seen};
 ghost use Rattle.otap_cells.specs.Columns.{columns_of, described};
 ghost use Rattle.otap_cells.specs.Tables.{IsTable};
-ghost use Rattle.otap_gateway.specs.Rows.{bits_text, bytes_text, cell_text, cells_text, named_cell, row_line, table_text};
+ghost use Rattle.otap_gateway.specs.Quoting.{quoted};
+ghost use Rattle.otap_gateway.specs.Rows.{behind_commas, bits_text, bytes_text, cell_text, cells_text, elements, elements_text, list_text, named_cell, row_line, table_text};
 
 use crate::quoting::push_quoted;
+use byteorder::{ByteOrder, LittleEndian};
 use itoa::Buffer;
 use otap_cells::{Base, CellView, Column, Rows, columns};
 use std::alloc::AllocError;
 
-/// Appends a line for each row: its number, and each cell that is not null behind the name of its column. Takes
+/// Appends a line for each row: its number, and each cell that is not null after the name of its column. Takes
 /// time for what it appends, and for each known column of each row.
 pub(crate) fn push_rows<R: Rows>(to: &mut Vec<u8>, rows: &R) -> Result<(), AllocError>
     ensures { OnOk result (to.new.items ≡ to.old.items ++ table_text (R.table rows.now)) }
@@ -80,22 +82,65 @@ fn push_cell(to: &mut Vec<u8>, base: Base, cell: CellView<'_>) -> Result<(), All
 fn push_bits(to: &mut Vec<u8>, base: Base, bits: u64) -> Result<(), AllocError>
     ensures { OnOk result (to.new.items ≡ to.old.items ++ bits_text base bits) }
 {
-    if base == Base::Double {
-        push_hex(to, &bits.to_be_bytes())
-    } else {
-        push_number(to, bits)
+    match base {
+        Base::Double | Base::ListF64 => push_hex(to, &bits.to_be_bytes()),
+        _other => push_number(to, bits),
     }
 }
 
 fn push_bytes(to: &mut Vec<u8>, base: Base, part: &[u8]) -> Result<(), AllocError>
     ensures { OnOk result (to.new.items ≡ to.old.items ++ bytes_text base part.now) }
 {
-    if base != Base::Utf8 {
-        return push_hex(to, part);
+    match base {
+        Base::Utf8 => push_text(to, part),
+        Base::ListU64 | Base::ListF64 => push_list(to, base, part),
+        _other => push_hex(to, part),
     }
+}
+
+fn push_text(to: &mut Vec<u8>, text: &[u8]) -> Result<(), AllocError>
+    ensures { OnOk result (to.new.items ≡ to.old.items ++ codes "\"" ++ quoted text.now ++ codes "\"") }
+{
     to.push(b'"')?;
-    push_quoted(to, part)?;
+    push_quoted(to, text)?;
     to.push(b'"')?;
+    Ok(())
+}
+
+// Appends the elements of a list, 8 bytes each, between brackets.
+fn push_list(to: &mut Vec<u8>, base: Base, part: &[u8]) -> Result<(), AllocError>
+    ensures { OnOk result (to.new.items ≡ to.old.items ++ list_text base part.now) }
+{
+    to.push(b'[')?;
+    push_elements(to, base, part)?;
+    to.push(b']')?;
+    Ok(())
+}
+
+// Appends the elements, with commas between them.
+fn push_elements(to: &mut Vec<u8>, base: Base, part: &[u8]) -> Result<(), AllocError>
+    ensures { OnOk result (to.new.items ≡ to.old.items ++ elements_text base (elements part.now)) }
+{
+    if part.len() < 8 {
+        return Ok(());
+    }
+    let (first, rest) = part.split_at(8);
+    push_bits(to, base, LittleEndian::read_u64(first))?;
+    push_more(to, base, rest)?;
+    Ok(())
+}
+
+// Appends each element after a comma.
+fn push_more(to: &mut Vec<u8>, base: Base, part: &[u8]) -> Result<(), AllocError>
+    ensures { OnOk result (to.new.items ≡ to.old.items ++ behind_commas base (elements part.now)) }
+{
+    let mut rest = part;
+    'elements: while rest.len() >= 8 {
+        let (element, more) = rest.split_at(8);
+        to.push(b',')?;
+        push_bits(to, base, LittleEndian::read_u64(element))?;
+        rest = more;
+    }
     Ok(())
 }
 
@@ -115,19 +160,23 @@ fn push_signed(to: &mut Vec<u8>, number: i64) -> Result<(), AllocError>
 fn push_hex(to: &mut Vec<u8>, part: &[u8]) -> Result<(), AllocError>
     ensures { OnOk result (to.new.items ≡ to.old.items ++ encode_lower part.now) }
 {
-    'bytes: for byte in part {
-        push_digits(to, *byte)?;
+    let mut rest = part;
+    'parts: while rest.len() > 16 {
+        let (first, more) = rest.split_at(16);
+        push_digits(to, first)?;
+        rest = more;
     }
-    Ok(())
+    push_digits(to, rest)
 }
 
-fn push_digits(to: &mut Vec<u8>, byte: u8) -> Result<(), AllocError>
-    ensures { OnOk result (to.new.items ≡ to.old.items ++ encode_lower (byte ∷ [])) }
+fn push_digits(to: &mut Vec<u8>, part: &[u8]) -> Result<(), AllocError>
+    requires { length part.now ≤ 16 }
+    ensures { OnOk result (to.new.items ≡ to.old.items ++ encode_lower part.now) }
 {
-    let mut digits = [0; 2];
-    let Ok(()) = hex::encode_to_slice([byte], &mut digits) else {
+    let mut room = [0; 32];
+    let digits = &mut room[..2 * part.len()];
+    let Ok(()) = hex::encode_to_slice(part, digits) else {
         unreachable!()
     };
-    to.extend_from_slice(&digits)?;
-    Ok(())
+    to.extend_from_slice(digits)
 }

@@ -3,8 +3,8 @@ ghost use Rattle.std.specs.Prelude.{◌≡◌};
 ghost use Rattle.std.specs.Io.KnownBytes.{Keeps};
 ghost use Rattle.otap_gateway.specs.declared.command.Command.{Command};
 ghost use Rattle.otap_gateway.specs.declared.command.Command.TheVariants as command;
-ghost use Rattle.otap_gateway.specs.Commands.{IsBuilt, IsNoCommand, words_of};
-ghost use Rattle.otap_gateway.specs.Runs.{sinks, world, Leaves, Faults, SinkFaults, LeavesLine, Runs, Refuses};
+ghost use Rattle.otap_gateway.specs.Commands.{IsNoCommand, words_of};
+ghost use Rattle.otap_gateway.specs.Runs.{sinks, world, Leaves, Stops, Faults, SinkFaults, LeavesLine, Runs, Refuses};
 
 use crate::command::Command;
 use crate::drive::{drive, flush_both};
@@ -20,8 +20,9 @@ use std::alloc::Global;
 
 const NOT_UNDERSTOOD: &[u8] = b"otap: words not understood\n";
 
-/// Does the job that the words name over the capture that the source gives, and answers the status
-/// with which the program ends: 0 where all frames were handled, 1 where one was refused, 2 where the
+/// Does the job that the words name over the capture that the source gives, and returns the status
+/// with which the program ends. Each frame is handled as it comes: all that was written is passed on
+/// before the source is asked for more. The statuses: 0 where all frames were handled, 1 where one was refused, 2 where the
 /// words are those of no job, 3 where the source failed, 4 where a sink failed, 5 where the capture
 /// has a damage, 6 where there was no memory.
 pub fn run<S: Source, O: Sink, E: Sink>(
@@ -31,7 +32,7 @@ pub fn run<S: Source, O: Sink, E: Sink>(
     out: &mut O,
     err: &mut E,
 ) -> u8
-    ensures understood { (job : Command) → IsBuilt job → words.now ≡ words_of job → Runs job
+    ensures understood { (job : Command) → words.now ≡ words_of job → Runs job
         (world S.Source source.old (sinks O.Sink out.old E.Sink err.old))
         (world S.Source source.new (sinks O.Sink out.new E.Sink err.new)) result }
     ensures otherwise { IsNoCommand words.now → Refuses source.old source.new
@@ -51,10 +52,12 @@ fn run_job<S: Source, O: Sink, E: Sink>(
     out: &mut O,
     err: &mut E,
 ) -> Result<Tally, Stop>
-    requires { IsBuilt job }
     ensures leaves { Leaves job (S.left source.old)
         (sinks O.Sink out.old E.Sink err.old)
         (sinks O.Sink out.new E.Sink err.new) result }
+    ensures stops { Stops job
+        (world S.Source source.old (sinks O.Sink out.old E.Sink err.old))
+        (world S.Source source.new (sinks O.Sink out.new E.Sink err.new)) result }
     ensures faults { Faults
         (world S.Source source.old (sinks O.Sink out.old E.Sink err.old))
         (world S.Source source.new (sinks O.Sink out.new E.Sink err.new)) result }
@@ -77,6 +80,9 @@ fn show<S: Source, O: Sink, E: Sink>(
     ensures leaves { Leaves (command.Show signal) (S.left source.old)
         (sinks O.Sink out.old E.Sink err.old)
         (sinks O.Sink out.new E.Sink err.new) result }
+    ensures stops { Stops (command.Show signal)
+        (world S.Source source.old (sinks O.Sink out.old E.Sink err.old))
+        (world S.Source source.new (sinks O.Sink out.new E.Sink err.new)) result }
     ensures faults { Faults
         (world S.Source source.old (sinks O.Sink out.old E.Sink err.old))
         (world S.Source source.new (sinks O.Sink out.new E.Sink err.new)) result }

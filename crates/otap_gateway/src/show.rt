@@ -46,7 +46,7 @@ impl Job for Shower {
     }
 }
 
-// The reply to what the segment answered to a frame.
+// The reply to what the segment gave for a frame.
 fn reply_to(
     alloc: Global,
     number: u64,

@@ -1,81 +1,32 @@
-//! Runs over sources and sinks in memory, with what must stand on out and err.
+//! Runs over sources and sinks in memory whose calls fail, and over captures in pieces.
 ghost use Rattle.std.specs.Prelude.{◌<◌};
 
-mod shows;
-
 use super::*;
-use otap_capture::{MemorySink, MemorySource};
+use otap_capture::{BatchWriter, MemorySink, MemorySource};
+use std::alloc::{AllocError, Global};
 use std::process::Abort;
 use std::test::Fail;
 
 /// A batch with the id 7.
 const BATCH: [u8; 7] = [0, 0, 0, 0, 2, 0x08, 0x07];
 
-/// A log batch with the id 0 and one payload, whose record has 256 bytes: a Schema message and a record
-/// batch of Arrow IPC.
-#[rattlefmt::skip]
-const LOGS: [u8; 272] = [
-    0x00, 0x00, 0x00, 0x01, 0x0b, 0x12, 0x88, 0x02, 0x0a, 0x01, 0x30, 0x10, 0x1e, 0x1a, 0x80, 0x02,
-    0xff, 0xff, 0xff, 0xff, 0x68, 0x00, 0x00, 0x00, 0x10, 0x00, 0x00, 0x00, 0x0a, 0x00, 0x0c, 0x00,
-    0x08, 0x00, 0x0a, 0x00, 0x04, 0x00, 0x00, 0x00, 0x0c, 0x00, 0x00, 0x00, 0x10, 0x00, 0x00, 0x00,
-    0x04, 0x00, 0x01, 0x00, 0x08, 0x00, 0x08, 0x00, 0x00, 0x00, 0x04, 0x00, 0x08, 0x00, 0x00, 0x00,
-    0x04, 0x00, 0x00, 0x00, 0x01, 0x00, 0x00, 0x00, 0x10, 0x00, 0x00, 0x00, 0x0c, 0x00, 0x10, 0x00,
-    0x04, 0x00, 0x0d, 0x00, 0x0c, 0x00, 0x08, 0x00, 0x0c, 0x00, 0x00, 0x00, 0x0c, 0x00, 0x00, 0x00,
-    0x18, 0x00, 0x00, 0x00, 0x02, 0x01, 0x00, 0x00, 0x02, 0x00, 0x00, 0x00, 0x69, 0x64, 0x00, 0x00,
-    0x06, 0x00, 0x08, 0x00, 0x04, 0x00, 0x00, 0x00, 0x08, 0x00, 0x00, 0x00, 0x10, 0x00, 0x00, 0x00,
-    0xff, 0xff, 0xff, 0xff, 0x80, 0x00, 0x00, 0x00, 0x10, 0x00, 0x00, 0x00, 0x0c, 0x00, 0x14, 0x00,
-    0x10, 0x00, 0x12, 0x00, 0x04, 0x00, 0x08, 0x00, 0x0c, 0x00, 0x00, 0x00, 0x1c, 0x00, 0x00, 0x00,
-    0x08, 0x00, 0x00, 0x00, 0x00, 0x00, 0x00, 0x00, 0x04, 0x00, 0x03, 0x00, 0x0a, 0x00, 0x14, 0x00,
-    0x08, 0x00, 0x04, 0x00, 0x10, 0x00, 0x00, 0x00, 0x0c, 0x00, 0x00, 0x00, 0x10, 0x00, 0x00, 0x00,
-    0x01, 0x00, 0x00, 0x00, 0x00, 0x00, 0x00, 0x00, 0x1c, 0x00, 0x00, 0x00, 0x01, 0x00, 0x00, 0x00,
-    0x01, 0x00, 0x00, 0x00, 0x00, 0x00, 0x00, 0x00, 0x00, 0x00, 0x00, 0x00, 0x00, 0x00, 0x00, 0x00,
-    0x00, 0x00, 0x00, 0x00, 0x02, 0x00, 0x00, 0x00, 0x00, 0x00, 0x00, 0x00, 0x00, 0x00, 0x00, 0x00,
-    0x00, 0x00, 0x00, 0x00, 0x00, 0x00, 0x00, 0x00, 0x00, 0x00, 0x00, 0x00, 0x00, 0x00, 0x00, 0x00,
-    0x02, 0x00, 0x00, 0x00, 0x00, 0x00, 0x00, 0x00, 0x00, 0x00, 0x00, 0x00, 0x00, 0x00, 0x00, 0x00,
-];
+/// That batch twice.
+const TWICE: [u8; 14] = [0, 0, 0, 0, 2, 0x08, 0x07, 0, 0, 0, 0, 2, 0x08, 0x07];
 
-/// A log batch with the id -3, whose one record is a Schema message: a struct in a struct, a field with a
-/// dictionary inside it, and names and a schema id with characters that are escaped.
-#[rattlefmt::skip]
-const NESTED: [u8; 429] = [
-    0x00, 0x00, 0x00, 0x01, 0xa8, 0x08, 0xfd, 0xff, 0xff, 0xff, 0xff, 0xff, 0xff, 0xff, 0xff, 0x01,
-    0x12, 0x9a, 0x03, 0x0a, 0x03, 0x22, 0x09, 0x7e, 0x10, 0x1f, 0x1a, 0x90, 0x03, 0xff, 0xff, 0xff,
-    0xff, 0x88, 0x01, 0x00, 0x00, 0x14, 0x00, 0x00, 0x00, 0x0c, 0x00, 0x13, 0x00, 0x10, 0x00, 0x12,
-    0x00, 0x0c, 0x00, 0x04, 0x00, 0x00, 0x00, 0x00, 0x00, 0x10, 0x00, 0x00, 0x00, 0x00, 0x00, 0x00,
-    0x00, 0x00, 0x00, 0x00, 0x00, 0x14, 0x00, 0x00, 0x00, 0x04, 0x00, 0x01, 0x00, 0x08, 0x00, 0x0a,
-    0x00, 0x08, 0x00, 0x04, 0x00, 0x00, 0x00, 0x00, 0x00, 0x0c, 0x00, 0x00, 0x00, 0x08, 0x00, 0x00,
-    0x00, 0x00, 0x00, 0x00, 0x00, 0x01, 0x00, 0x00, 0x00, 0x18, 0x00, 0x00, 0x00, 0x12, 0x00, 0x12,
-    0x00, 0x04, 0x00, 0x10, 0x00, 0x11, 0x00, 0x08, 0x00, 0x00, 0x00, 0x0c, 0x00, 0x00, 0x00, 0x00,
-    0x00, 0x14, 0x00, 0x00, 0x00, 0x10, 0x00, 0x00, 0x00, 0x18, 0x00, 0x00, 0x00, 0x18, 0x00, 0x00,
-    0x00, 0x01, 0x0d, 0x00, 0x00, 0x01, 0x00, 0x00, 0x00, 0x73, 0x00, 0x04, 0x00, 0x04, 0x00, 0x00,
-    0x00, 0x06, 0x00, 0x00, 0x00, 0x02, 0x00, 0x00, 0x00, 0x20, 0x00, 0x00, 0x00, 0x44, 0x00, 0x00,
-    0x00, 0x12, 0x00, 0x12, 0x00, 0x04, 0x00, 0x10, 0x00, 0x11, 0x00, 0x08, 0x00, 0x00, 0x00, 0x0c,
-    0x00, 0x00, 0x00, 0x00, 0x00, 0x00, 0x00, 0x00, 0x00, 0x18, 0x00, 0x00, 0x00, 0x34, 0x00, 0x00,
-    0x00, 0x40, 0x00, 0x00, 0x00, 0x40, 0x00, 0x00, 0x00, 0x01, 0x0d, 0x12, 0x00, 0x0e, 0x00, 0x04,
-    0x00, 0x0c, 0x00, 0x0d, 0x00, 0x08, 0x00, 0x00, 0x00, 0x00, 0x00, 0x00, 0x00, 0x00, 0x00, 0x00,
-    0x00, 0x16, 0x00, 0x00, 0x00, 0x28, 0x00, 0x00, 0x00, 0x38, 0x00, 0x00, 0x00, 0x01, 0x02, 0x00,
-    0x00, 0x04, 0x00, 0x00, 0x00, 0x61, 0x22, 0x5c, 0x62, 0x00, 0x00, 0x04, 0x00, 0x04, 0x00, 0x00,
-    0x00, 0x06, 0x00, 0x00, 0x00, 0x01, 0x00, 0x00, 0x00, 0x38, 0x00, 0x00, 0x00, 0x01, 0x00, 0x00,
-    0x00, 0x6e, 0x00, 0x08, 0x00, 0x09, 0x00, 0x04, 0x00, 0x08, 0x00, 0x00, 0x00, 0x00, 0x00, 0x00,
-    0x00, 0x0e, 0x00, 0x00, 0x00, 0x40, 0x00, 0x00, 0x00, 0x01, 0x00, 0x12, 0x00, 0x12, 0x00, 0x04,
-    0x00, 0x10, 0x00, 0x11, 0x00, 0x08, 0x00, 0x0c, 0x00, 0x00, 0x00, 0x00, 0x00, 0x00, 0x00, 0x00,
-    0x00, 0x16, 0x00, 0x00, 0x00, 0x10, 0x00, 0x00, 0x00, 0x20, 0x00, 0x00, 0x00, 0x2c, 0x00, 0x00,
-    0x00, 0x01, 0x05, 0x00, 0x00, 0x04, 0x00, 0x00, 0x00, 0x0a, 0x7f, 0xc3, 0xbc, 0x00, 0x00, 0x04,
-    0x00, 0x04, 0x00, 0x00, 0x00, 0x00, 0x00, 0x00, 0x00, 0x0a, 0x00, 0x00, 0x00, 0x08, 0x00, 0x10,
-    0x00, 0x04, 0x00, 0x0c, 0x00, 0x00, 0x00, 0x00, 0x00, 0x0c, 0x00, 0x00, 0x00, 0x03, 0x00, 0x00,
-    0x00, 0x00, 0x00, 0x00, 0x00, 0x0c, 0x00, 0x00, 0x00, 0x08, 0x00, 0x09, 0x00, 0x04, 0x00, 0x08,
-    0x00, 0x08, 0x00, 0x00, 0x00, 0x10, 0x00, 0x00, 0x00, 0x00, 0x00, 0x00, 0x00,
+/// A request with a log record whose body is a text.
+const REQUEST: [u8; 17] = [
+    0, 0, 0, 0, 12, 0x0a, 10, 0x12, 8, 0x12, 6, 0x2a, 4, 0x0a, 2, 0x68, 0x69,
 ];
 
 /// The calls that fail, of the source, of out and of err.
 #[derive(Clone, Copy)]
-struct Failing {
-    source: &'static [u64],
-    out: &'static [u64],
-    err: &'static [u64],
+struct Failing<'a> {
+    source: &'a [u64],
+    out: &'a [u64],
+    err: &'a [u64],
 }
 
-const NONE: Failing = Failing {
+const NONE: Failing<'static> = Failing {
     source: &[],
     out: &[],
     err: &[],
@@ -83,9 +34,9 @@ const NONE: Failing = Failing {
 
 /// What a run leaves.
 #[derive(Clone, Copy)]
-struct Left {
-    out: &'static [u8],
-    err: &'static str,
+struct Left<'a> {
+    out: &'a [u8],
+    err: &'a str,
     status: u8,
 }
 
@@ -95,8 +46,8 @@ fn runs<R: Abort + AllocGlobal>(
     job: &[&str],
     capture: &[u8],
     piece: u32,
-    failing: Failing,
-    left: Left,
+    failing: Failing<'_>,
+    left: Left<'_>,
 ) -> Result<(), Fail>
     requires { 0 < piece }
 {
@@ -115,52 +66,6 @@ fn runs<R: Abort + AllocGlobal>(
     assert_eq!(rt; err.bytes(), left.err.as_bytes());
     assert_eq!(rt; status, left.status);
     Ok(())
-}
-
-/// Runs `list` over a capture, whole and byte by byte.
-fn lists<R: Abort + AllocGlobal>(
-    rt: &R,
-    capture: &[u8],
-    out: &'static str,
-    err: &'static str,
-    status: u8,
-) -> Result<(), Fail> {
-    let out = out.as_bytes();
-    let left = Left { out, err, status };
-    runs(rt, &["list"], capture, 1 << 16, NONE, left)?;
-    runs(rt, &["list"], capture, 1, NONE, left)
-}
-
-#[test]
-fn list_prints_a_line_for_each_frame(rt: HostRuntime) -> Result<(), Fail> {
-    lists(&rt, &[], "", "", 0)?;
-    lists(&rt, &BATCH, "frame 0: batch 7\n", "", 0)?;
-    lists(&rt, &LOGS, "frame 0: batch 0 30:256\n", "", 0)?;
-    let cut = "frame 0: batch - refused: stage 1 BadMessage payload -\n";
-    lists(&rt, &[0, 0, 0, 0, 1, 0x08], "", cut, 1)?;
-    let mut capture = [1, 0, 0, 0, 1, 0xaa].to_vec(rt.alloc())?;
-    capture.extend_from_slice(&BATCH)?;
-    capture.extend_from_slice(&[2, 0, 0, 0, 0])?;
-    capture.extend_from_slice(&BATCH)?;
-    let rest = "frame 1: batch 7\nframe 2: reset\nframe 3: batch 7\n";
-    let packed = "frame 0: batch - refused: stage 1 Compressed payload -\n";
-    lists(&rt, &capture, rest, packed, 1)
-}
-
-#[test]
-fn list_names_the_damage(rt: HostRuntime) -> Result<(), Fail> {
-    let mut capture = BATCH.to_vec(rt.alloc())?;
-    capture.extend_from_slice(&[0, 0, 0])?;
-    lists(
-        &rt,
-        &capture,
-        "frame 0: batch 7\n",
-        "damage at 7: Truncated\n",
-        5,
-    )?;
-    lists(&rt, &[3, 0, 0, 0, 0], "", "damage at 0: BadFrame\n", 5)?;
-    lists(&rt, &[2, 0, 0, 0, 1, 0], "", "damage at 0: BadFrame\n", 5)?;
-    lists(&rt, &[0, 0x20, 0, 0, 1], "", "damage at 0: TooLong\n", 5)
 }
 
 #[test]
@@ -185,169 +90,133 @@ fn failing_calls_and_other_words_have_their_status(rt: HostRuntime) -> Result<()
         ..left(2)
     };
     runs(&rt, &["list", "x"], &BATCH, 9, NONE, refused)?;
+    runs(&rt, &["list", "logs"], &BATCH, 9, NONE, refused)?;
+    runs(&rt, &["tidy"], &BATCH, 9, NONE, refused)?;
+    runs(&rt, &["tidy", "x"], &BATCH, 9, NONE, refused)?;
+    runs(&rt, &["schema", "x"], &BATCH, 9, NONE, refused)?;
     runs(&rt, &[], &BATCH, 9, NONE, refused)
 }
 
-/// Runs `tidy logs` over a capture, whole and byte by byte.
-fn tidies<R: Abort + AllocGlobal>(
-    rt: &R,
-    capture: &[u8],
-    out: &'static [u8],
-    err: &'static str,
-    status: u8,
-) -> Result<(), Fail> {
-    let left = Left { out, err, status };
-    runs(rt, &["tidy", "logs"], capture, 1 << 16, NONE, left)?;
-    runs(rt, &["tidy", "logs"], capture, 1, NONE, left)
-}
-
-/// A request with one log record that is empty.
-const EMPTY_RECORD: [u8; 11] = [0, 0, 0, 0, 6, 0x0a, 4, 0x12, 2, 0x12, 0];
-
 #[test]
-fn tidy_writes_requests_in_canonical_spelling(rt: HostRuntime) -> Result<(), Fail> {
-    tidies(&rt, &[], &[], "", 0)?;
-    tidies(&rt, &EMPTY_RECORD, &EMPTY_RECORD, "", 0)?;
-    // An enum that is zero, a field that is unknown, and a length in two bytes.
-    let zero = [0, 0, 0, 0, 8, 0x0a, 6, 0x12, 4, 0x12, 2, 0x10, 0];
-    tidies(&rt, &zero, &EMPTY_RECORD, "", 0)?;
-    let unknown = [0, 0, 0, 0, 9, 0x0a, 7, 0x12, 5, 0x12, 3, 0x62, 1, 0x78];
-    tidies(&rt, &unknown, &EMPTY_RECORD, "", 0)?;
-    let long = [0, 0, 0, 0, 7, 0x0a, 0x84, 0, 0x12, 2, 0x12, 0];
-    tidies(&rt, &long, &EMPTY_RECORD, "", 0)?;
-    // Groups without items stay.
-    let groups = &[
-        0, 0, 0, 0, 18, 0x0a, 4, 0x12, 2, 0x12, 0, 0x0a, 0, 0x0a, 2, 0x12, 0, 0x0a, 4, 0x12, 2,
-        0x12, 0,
-    ];
-    tidies(&rt, groups, groups, "", 0)
-}
-
-#[test]
-fn tidy_names_what_it_refuses_and_goes_on(rt: HostRuntime) -> Result<(), Fail> {
-    let length = [0, 0, 0, 0, 9, 0x0a, 7, 0x12, 5, 0x12, 3, 0x4a, 1, 1];
-    let line = "frame 0: request refused: BadLength\n";
-    tidies(&rt, &length, &[], line, 1)?;
-    let text = [0, 0, 0, 0, 9, 0x0a, 7, 0x12, 5, 0x12, 3, 0x1a, 1, 0xff];
-    let line = "frame 0: request refused: BadUtf8\n";
-    tidies(&rt, &text, &[], line, 1)?;
-    let wire_type = [0, 0, 0, 0, 8, 0x0a, 6, 0x12, 4, 0x12, 2, 8, 1];
-    let line = "frame 0: request refused: BadMessage\n";
-    tidies(&rt, &wire_type, &[], line, 1)?;
-    let mut past_the_end = [0xff; 16];
-    past_the_end[..6].copy_from_slice(&[0, 0, 0, 0, 11, 0x0a]);
-    past_the_end[15] = 1;
-    tidies(&rt, &past_the_end, &[], line, 1)?;
-    let values = [
-        0, 0, 0, 0, 14, 0x0a, 12, 0x12, 10, 0x12, 8, 0x2a, 4, 0x0a, 2, 0x68, 0x69, 0x2a, 0,
-    ];
-    let line = "frame 0: request refused: Repeated\n";
-    tidies(&rt, &values, &[], line, 1)?;
-    let resources = [0, 0, 0, 0, 6, 0x0a, 4, 0x0a, 0, 0x0a, 0];
-    tidies(&rt, &resources, &[], line, 1)?;
-    let mut capture = [1, 0, 0, 0, 1, 0xaa].to_vec(rt.alloc())?;
-    capture.extend_from_slice(&resources)?;
-    capture.extend_from_slice(&[2, 0, 0, 0, 0])?;
-    capture.extend_from_slice(&EMPTY_RECORD)?;
-    let out = &[2, 0, 0, 0, 0, 0, 0, 0, 0, 6, 0x0a, 4, 0x12, 2, 0x12, 0];
-    let err = "frame 0: request refused: Compressed\nframe 1: request refused: Repeated\n";
-    tidies(&rt, &capture, out, err, 1)
-}
-
-#[test]
-fn tidy_is_understood_for_logs(rt: HostRuntime) -> Result<(), Fail> {
-    let refused = Left {
-        out: &[],
-        err: "otap: words not understood\n",
-        status: 2,
-    };
-    for words in [
-        ["tidy", "traces"],
-        ["tidy", "x"],
-        ["schema", "x"],
-        ["list", "logs"],
-    ] {
-        runs(&rt, &words, &EMPTY_RECORD, 9, NONE, refused)?;
-    }
-    runs(&rt, &["tidy"], &EMPTY_RECORD, 9, NONE, refused)
-}
-
-/// Runs `schema logs` over a capture, whole and byte by byte.
-fn prints_schemas<R: Abort + AllocGlobal>(
-    rt: &R,
-    capture: &[u8],
-    out: &'static str,
-    err: &'static str,
-    status: u8,
-) -> Result<(), Fail> {
-    let out = out.as_bytes();
-    let left = Left { out, err, status };
-    runs(rt, &["schema", "logs"], capture, 1 << 16, NONE, left)?;
-    runs(rt, &["schema", "logs"], capture, 1, NONE, left)
-}
-
-/// A log batch with one payload, whose record is empty.
-const EMPTY: [u8; 12] = [0, 0, 0, 0, 7, 0x12, 5, 0x0a, 1, 0x30, 0x10, 0x1e];
-
-#[test]
-fn schema_prints_what_records_begin_with(rt: HostRuntime) -> Result<(), Fail> {
-    prints_schemas(&rt, &BATCH, "frame 0: batch 7\n", "", 0)?;
-    let logs = "frame 0: batch 0\npayload 30 schema \"0\"\nfield id u16\n";
-    prints_schemas(&rt, &LOGS, logs, "", 0)?;
-    let empty = "frame 0: batch 0\npayload 30 schema \"0\" goes on\n";
-    prints_schemas(&rt, &EMPTY, empty, "", 0)?;
-    let nested = "frame 0: batch -3\n\
-        payload 31 schema \"\\x22\\x09~\"\n\
-        field s struct\n\
-        field s.a\\x22\\x5cb struct\n\
-        field s.a\\x22\\x5cb.\\x0a\\x7fü utf8 dict u16\n\
-        field s.n i64\n";
-    prints_schemas(&rt, &NESTED, nested, "", 0)?;
-    let left = Left {
+fn frames_are_handled_as_they_come(rt: HostRuntime) -> Result<(), Fail> {
+    let line = Left {
         out: b"frame 0: batch 7\n",
         err: "",
         status: 0,
     };
-    runs(&rt, &["schema", "traces"], &BATCH, 9, NONE, left)?;
-    runs(&rt, &["schema", "metrics"], &BATCH, 9, NONE, left)
+    runs(&rt, &["list"], &BATCH, 1, NONE, line)?;
+    let tidied = Left {
+        out: &REQUEST,
+        ..line
+    };
+    runs(&rt, &["tidy", "logs"], &REQUEST, 1, NONE, tidied)?;
+    // The tenth byte doesn't come, and then the seventh.
+    let ninth = Failing {
+        source: &[9],
+        ..NONE
+    };
+    let first = Left { status: 3, ..line };
+    runs(&rt, &["list"], &TWICE, 1, ninth, first)?;
+    let sixth = Failing {
+        source: &[6],
+        ..NONE
+    };
+    let nothing = Left { out: &[], ..first };
+    runs(&rt, &["list"], &TWICE, 1, sixth, nothing)?;
+    // What was written for the first frame is passed on before the second is asked for.
+    let flush = Failing { out: &[1], ..NONE };
+    let unpassed = Left { status: 4, ..line };
+    runs(&rt, &["list"], &TWICE, 7, flush, unpassed)?;
+    // Both come at once: the second call is the write of the second line.
+    runs(&rt, &["list"], &TWICE, 14, flush, unpassed)
 }
 
-/// LOGS with another byte at a place.
-fn changed(place: usize, byte: u8) -> [u8; 272]
-    requires { place < 272 }
-{
-    let mut capture = LOGS;
-    capture[place] = byte;
-    capture
+/// A capture of 549 bytes: a batch with a record of 256 bytes, a reset, and the batch again.
+fn capture(alloc: Global) -> Result<Vec<u8>, AllocError> {
+    let mut writer = BatchWriter::new(alloc, 0)?;
+    writer.add("0", 30, &[7; 256])?;
+    let message = writer.finish();
+    let mut capture = [0, 0, 0, 1, 11].to_vec(alloc)?;
+    capture.extend_from_slice(&message)?;
+    capture.extend_from_slice(&[2, 0, 0, 0, 0, 0, 0, 0, 1, 11])?;
+    capture.extend_from_slice(&message)?;
+    Ok(capture)
+}
+
+/// What `list` prints for the frames that are whole in that number of its bytes.
+fn lines_in(bytes: usize) -> &'static [u8] {
+    match bytes {
+        0..272 => b"",
+        272..277 => b"frame 0: batch 0 30:256\n",
+        277..549 => b"frame 0: batch 0 30:256\nframe 1: reset\n",
+        _ => b"frame 0: batch 0 30:256\nframe 1: reset\nframe 2: batch 0 30:256\n",
+    }
 }
 
 #[test]
-fn schema_names_what_it_refuses(rt: HostRuntime) -> Result<(), Fail> {
-    let version = "frame 0: batch 0 refused: stage 3 Ipc.BadVersion payload 30\n";
-    prints_schemas(&rt, &changed(48, 2), "", version, 1)?;
-    let header = "frame 0: batch 0 refused: stage 3 Ipc.Unsupported payload 30\n";
-    prints_schemas(&rt, &changed(50, 4), "", header, 1)?;
-    let kind = "frame 0: batch 0 refused: stage 3 Ipc.Schema.Unsupported payload 30\n";
-    prints_schemas(&rt, &changed(100, 1), "", kind, 1)?;
-    let mark = "frame 0: batch 0 refused: stage 3 Ipc.Cut payload 30\n";
-    prints_schemas(&rt, &changed(16, 0xfe), "", mark, 1)?;
-    let type_40 = "frame 0: batch 0 refused: stage 2 PayloadType payload 40\n";
-    prints_schemas(&rt, &changed(12, 0x28), "", type_40, 1)
+fn each_cut_has_its_lines(rt: HostRuntime) -> Result<(), Fail> {
+    let capture = capture(rt.alloc())?;
+    assert_eq!(rt; capture.len(), 549);
+    for cut in 0..550usize {
+        assert!(rt; cut <= capture.len());
+        let (err, status) = match cut {
+            0 | 272 | 277 | 549 => ("", 0),
+            1..272 => ("damage at 0: Truncated\n", 5),
+            273..277 => ("damage at 272: Truncated\n", 5),
+            _ => ("damage at 277: Truncated\n", 5),
+        };
+        let left = Left {
+            out: lines_in(cut),
+            err,
+            status,
+        };
+        runs(&rt, &["list"], &capture[..cut], 1 << 16, NONE, left)?;
+    }
+    Ok(())
 }
 
 #[test]
-fn schema_goes_on_after_a_refused_frame(rt: HostRuntime) -> Result<(), Fail> {
-    // Stage 2 of the second payload comes before stage 3 of the first.
-    let twice = [
-        0, 0, 0, 0, 17, 0x12, 8, 0x0a, 1, 0x30, 0x10, 0x1e, 0x1a, 1, 0, 0x12, 5, 0x0a, 1, 0x30,
-        0x10, 0x1e,
-    ];
-    let mut capture = [1, 0, 0, 0, 1, 0xaa].to_vec(rt.alloc())?;
-    capture.extend_from_slice(&twice)?;
-    capture.extend_from_slice(&[2, 0, 0, 0, 0])?;
-    capture.extend_from_slice(&EMPTY)?;
-    let out = "frame 2: reset\nframe 3: batch 0\npayload 30 schema \"0\" goes on\n";
-    let err = "frame 0: batch - refused: stage 1 Compressed payload -\n\
-        frame 1: batch 0 refused: stage 2 PayloadTwice payload 30\n";
-    prints_schemas(&rt, &capture, out, err, 1)
+fn each_failing_read_leaves_whole_lines(rt: HostRuntime) -> Result<(), Fail> {
+    let capture = capture(rt.alloc())?;
+    for call in 0..550u64 {
+        let failing = Failing {
+            source: &[call],
+            ..NONE
+        };
+        let left = Left {
+            out: lines_in(call as usize),
+            err: "",
+            status: 3,
+        };
+        runs(&rt, &["list"], &capture, 1, failing, left)?;
+    }
+    Ok(())
+}
+
+#[test]
+fn each_failing_write_leaves_a_front(rt: HostRuntime) -> Result<(), Fail> {
+    let capture = capture(rt.alloc())?;
+    // In pieces of one byte each line is written and passed on, and all is passed on at the end. All at once the lines are
+    // passed on together, before the source says that it is at its end.
+    for (call, bytes) in [0, 272, 272, 277, 277, 549, 549].into_iter().enumerate() {
+        let failing = Failing {
+            out: &[call as u64],
+            ..NONE
+        };
+        let left = Left {
+            out: lines_in(bytes),
+            err: "",
+            status: 4,
+        };
+        runs(&rt, &["list"], &capture, 1, failing, left)?;
+    }
+    let left = Left {
+        out: lines_in(549),
+        err: "",
+        status: 0,
+    };
+    let failing = Failing { out: &[7], ..NONE };
+    runs(&rt, &["list"], &capture, 1, failing, left)?;
+    let failing = Failing { out: &[5], ..NONE };
+    runs(&rt, &["list"], &capture, 1 << 16, failing, left)
 }

@@ -1,16 +1,15 @@
 //! `tidy`: each request in canonical spelling.
 ghost use Rattle.std.specs.Prelude.{◌≡◌, IfOk};
 ghost use Rattle.otap_capture.specs.Capture.{frame_of};
-ghost use Rattle.otlp_codec.specs.Requests.{IsBuilt};
-ghost use Rattle.otlp_model.specs.Telemetry.{signal_of};
 ghost use Rattle.otap_gateway.specs.declared.command.Command.TheVariants as command;
-ghost use Rattle.otap_gateway.specs.Tidying.{IsBuilt-prop, TidiesFrame, TidiesMessage, NamesDefect, tidied, refused_request};
+ghost use Rattle.otap_gateway.specs.Tidying.{TidiesFrame, TidiesMessage, NamesDefect, tidied, refused_request};
 
 use crate::job::Job;
 use crate::lines::request_line;
 use crate::reply::Reply;
 use otap_capture::Frame;
-use otlp_codec::{ReadRefusal, read_request, write_request};
+use otlp_codec::{ReadRefusal, put_request, read_request};
+use otlp_messages::Backward;
 use otlp_model::{MAX_ITEMS, MAX_TREE_WEIGHT, Request, Signal, items, weight};
 use std::alloc::{AllocError, Global};
 
@@ -18,12 +17,10 @@ use std::alloc::{AllocError, Global};
 #[derive(Clone, Copy)]
 pub(crate) struct Tidier {
     signal: Signal,
-    ghost built: { IsBuilt signal } by { IsBuilt-prop signal },
 }
 
 impl Tidier {
     pub(crate) fn new(signal: Signal) -> Tidier
-        requires { IsBuilt signal }
         ensures { result.signal ≡ signal }
     {
         Tidier { signal }
@@ -46,7 +43,6 @@ fn tidy_frame(
     number: u64,
     frame: &Frame<'_>,
 ) -> Result<Reply, AllocError>
-    requires { IsBuilt signal }
     ensures { IfOk result (TidiesFrame signal number (frame_of frame.now)) }
 {
     match frame {
@@ -62,7 +58,6 @@ fn tidy_message(
     number: u64,
     bytes: &[u8],
 ) -> Result<Reply, AllocError>
-    requires { IsBuilt signal }
     ensures { IfOk result (TidiesMessage signal number bytes.now) }
 {
     match read_request(alloc, signal, bytes) {
@@ -72,7 +67,6 @@ fn tidy_message(
 }
 
 fn tidy_request(alloc: Global, number: u64, request: &Request) -> Result<Reply, AllocError>
-    requires { IsBuilt (signal_of request.now) }
     ensures { IfOk result (λ reply. reply ≡ tidied number request.now) }
 {
     if items(request) > MAX_ITEMS {
@@ -81,7 +75,9 @@ fn tidy_request(alloc: Global, number: u64, request: &Request) -> Result<Reply, 
     if weight(request) > MAX_TREE_WEIGHT {
         return refused(alloc, number, "TooHeavy");
     }
-    Reply::message(alloc, &write_request(alloc, request)?)
+    let mut spelling = Backward::new(alloc);
+    put_request(&mut spelling, request)?;
+    Reply::message(alloc, spelling)
 }
 
 // A frame whose request is refused.

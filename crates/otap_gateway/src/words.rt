@@ -1,6 +1,6 @@
 //! The words that the program is called with.
 ghost use Rattle.std.specs.Prelude.{◌≡◌, [], ◌∷◌, ◌++◌, OnOk, OnErr, MatchOption};
-ghost use Rattle.otap_gateway.specs.Commands.{IsBuilt, IsNoCommand, words_of};
+ghost use Rattle.otap_gateway.specs.Commands.{IsNoCommand, words_of};
 
 use crate::command::{Command, one_word, two_words};
 use std::alloc::{AllocError, Global};
@@ -44,7 +44,7 @@ impl Words {
 
     /// The job that these are the words of.
     pub(crate) fn command(&self) -> Option<Command>
-        ensures { MatchOption result (IsNoCommand self.now) (λ command. IsBuilt command × (self.now ≡ words_of command)) }
+        ensures { MatchOption result (IsNoCommand self.now) (λ command. self.now ≡ words_of command) }
     {
         match self.words.as_slice() {
             [job] => one_word(job.as_str()),

@@ -1,5 +1,5 @@
 use Rattle.std.proofs.Common.{◌≡◌, ◌-◌, ◌*◌, ◌≤◌, None}
-use Rattle.otap_capture.specs.declared.frame.TheConstants.{MAX_CAPTURE}
+use Rattle.otap_capture.specs.Capture.{capture_limit}
 use Rattle.otap_gateway.specs.Commands.{ReplyOf}
 use Rattle.otap_gateway.specs.Runs.{sinks, world, NoneFailed}
 use Rattle.otap_gateway.specs.Turns.{world_ahead, Progress}
@@ -12,7 +12,7 @@ invariant-frames g l =
     record {
       same : g.J.Job.command l.job ≡ g.J.Job.command l.initial.job;
       so_far : Progress (ReplyOf (g.J.Job.command l.initial.job)) (g.J.Job.stands l.job) (world g.S.Source l.initial.source before) (world_ahead l.frames g.S.Source l.source now)
-          l.frames.handed l.number l.refused;
+          l.frames.handed l.number l.refused l.unflushed;
       goes_on : l.frames.ended ≡ None;
       room : 5 * l.number ≤ l.frames.handed;
       source : g.S.Source.faults l.source ≡ g.S.Source.faults l.initial.source;
@@ -20,4 +20,4 @@ invariant-frames g l =
     }
 
 abbrev pub decreases-frames : goal.decreases-frames
-decreases-frames g l = MAX_CAPTURE - l.frames.handed
+decreases-frames g l = capture_limit - l.frames.handed

@@ -1,9 +1,7 @@
-use Rattle.std.proofs.Common.{arith}
-use Rattle.otap_gateway.proofs.RowText.{digits_go_on, digits_end}
+use Rattle.std.proofs.Common.{◌++◌, sym, ◌∙◌}
+use Rattle.std.proofs.lemmas.List.{take-append-drop}
+use Rattle.otap_gateway.proofs.Printed.{digits_go_on}
 use Rattle.otap_gateway.proofs.rows.push_hex.Goals as goal
 
-pub bytes-preserved : goal.bytes-preserved
-bytes-preserved c = digits_go_on _ c.bytes.byte-index _ _ _ (omega arith) c.bytes.invariant c.in_ok-push_digits.ensures
-
-pub returns : goal.returns
-returns c = digits_end _ c.bytes.byte-index _ _ (omega arith) c.bytes.invariant
+pub parts-preserved : goal.parts-preserved
+parts-preserved c = digits_go_on _ _ _ c.parts.rest.now _ _ (sym (take-append-drop 16 c.parts.rest.now) ∙ (λ i. sym c.split_at.ensures.front i ++ sym c.split_at.ensures.back i)) c.parts.invariant c.in_ok-push_digits.ensures

@@ -1,0 +1,69 @@
+-- Each list of words is that of a job, or of none.
+use Rattle.std.proofs.Common.{◌≡◌, ◌⊎◌, inl, inr, ℕ, true, false, List, refl, sym, ◌∙◌}
+use Rattle.std.proofs.lemmas.Bool.{cases_Bool, false≢true}
+use Rattle.std.proofs.lemmas.Slice.Eq.{bytes_eq-Decides, slice_eq-Decides}
+use Rattle.std.specs.Bool.{Decides}
+use Rattle.std.specs.Str.{bytes_eq}
+use lib.Pointwise.{pointwise}
+use Rattle.otlp_model.specs.declared.request.Signal.{Signal}
+use Rattle.otlp_model.specs.declared.request.Signal.TheVariants.{Traces, Logs, Metrics}
+use Rattle.otap_gateway.specs.declared.command.Command.{Command}
+use Rattle.otap_gateway.specs.declared.command.Command.TheVariants as command
+use Rattle.otap_gateway.specs.Commands.{IsNoCommand, words_of}
+
+-- the words are those of this job
+abbrev Names : List (List ℕ) → Command → Type 0
+Names words job = words ≡ words_of job
+
+abbrev NamesNot : List (List ℕ) → Command → Type 0
+NamesNot words job = words ≡ words_of job → ⊥
+
+same_words : (words others : List (List ℕ)) → (words ≡ others) ⊎ (words ≡ others → ⊥)
+same_words words others = by_test (cases_Bool (pointwise bytes_eq words others))
+  where
+    decides : Decides (pointwise bytes_eq words others) (words ≡ others)
+    decides = slice_eq-Decides bytes_eq-Decides words others (pointwise bytes_eq words others) refl
+
+    by_test : (pointwise bytes_eq words others ≡ true) ⊎ (pointwise bytes_eq words others ≡ false) → (words ≡ others) ⊎ (words ≡ others → ⊥)
+    by_test (inl same) = inl (decides.0 same)
+    by_test (inr other) = inr (λ same. false≢true (sym other ∙ decides.1 same))
+
+names : (words : List (List ℕ)) (job : Command) → Names words job ⊎ NamesNot words job
+names words job = same_words words (words_of job)
+
+-- one of the jobs of a word and a signal, or none of them
+of_signal : (words : List (List ℕ)) (job : Signal → Command) → ((signal : Signal) × Names words (job signal)) ⊎ ((signal : Signal) → NamesNot words (job signal))
+of_signal words job = by_signal (names words (job Traces)) (names words (job Logs)) (names words (job Metrics))
+  where
+    none : NamesNot words (job Traces) → NamesNot words (job Logs) → NamesNot words (job Metrics) → (signal : Signal) → NamesNot words (job signal)
+    none traces logs metrics Traces = traces
+    none traces logs metrics Logs = logs
+    none traces logs metrics Metrics = metrics
+
+    by_signal : Names words (job Traces) ⊎ NamesNot words (job Traces) → Names words (job Logs) ⊎ NamesNot words (job Logs) → Names words (job Metrics) ⊎ NamesNot words (job Metrics)
+        → ((signal : Signal) × Names words (job signal)) ⊎ ((signal : Signal) → NamesNot words (job signal))
+    by_signal (inl traces) logs metrics = inl (Traces, traces)
+    by_signal (inr no_traces) (inl logs) metrics = inl (Logs, logs)
+    by_signal (inr no_traces) (inr no_logs) (inl metrics) = inl (Metrics, metrics)
+    by_signal (inr no_traces) (inr no_logs) (inr no_metrics) = inr (none no_traces no_logs no_metrics)
+
+pub each_words : (words : List (List ℕ)) → ((job : Command) × (words ≡ words_of job)) ⊎ IsNoCommand words
+each_words words = by_job (names words command.List) (of_signal words command.Tidy) (of_signal words command.Schema) (of_signal words command.Show)
+  where
+    none : NamesNot words command.List → ((signal : Signal) → NamesNot words (command.Tidy signal)) → ((signal : Signal) → NamesNot words (command.Schema signal))
+        → ((signal : Signal) → NamesNot words (command.Show signal)) → IsNoCommand words
+    none list tidy schema show command.List = list
+    none list tidy schema show (command.Tidy signal) = tidy signal
+    none list tidy schema show (command.Schema signal) = schema signal
+    none list tidy schema show (command.Show signal) = show signal
+
+    by_job : Names words command.List ⊎ NamesNot words command.List
+        → ((signal : Signal) × Names words (command.Tidy signal)) ⊎ ((signal : Signal) → NamesNot words (command.Tidy signal))
+        → ((signal : Signal) × Names words (command.Schema signal)) ⊎ ((signal : Signal) → NamesNot words (command.Schema signal))
+        → ((signal : Signal) × Names words (command.Show signal)) ⊎ ((signal : Signal) → NamesNot words (command.Show signal))
+        → ((job : Command) × (words ≡ words_of job)) ⊎ IsNoCommand words
+    by_job (inl list) tidy schema show = inl (command.List, list)
+    by_job (inr no_list) (inl tidy) schema show = inl (command.Tidy tidy.0, tidy.1)
+    by_job (inr no_list) (inr no_tidy) (inl schema) show = inl (command.Schema schema.0, schema.1)
+    by_job (inr no_list) (inr no_tidy) (inr no_schema) (inl show) = inl (command.Show show.0, show.1)
+    by_job (inr no_list) (inr no_tidy) (inr no_schema) (inr no_show) = inr (none no_list no_tidy no_schema no_show)
