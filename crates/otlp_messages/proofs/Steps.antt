@@ -111,7 +111,7 @@ set_none seen k small none =
       | inr other ↦ get_or-set_other seen k 0 (not (k == 0)) false (λ e. other (sym e)) ∙ none
     ]
 
-count-last : (m : Message) (q : ℕ) (f : Entry) (n : ℕ) → n + marked m q (f ∷ []) ≡ n + cond (mark_of m f.number == q) 1 0
+pub count-last : (m : Message) (q : ℕ) (f : Entry) (n : ℕ) → n + marked m q (f ∷ []) ≡ n + cond (mark_of m f.number == q) 1 0
 count-last m q f n = ap (λ k. n + k) (count-one (λ g. mark_of m g.number == q) f [] ∙ add-zero (cond (mark_of m f.number == q) 1 0))
 
 -- one field more

@@ -59,3 +59,7 @@ pub data Stands : Message → ℕ → List ℕ → Defect → Type 0 where
 -- the bytes are the message, without a defect
 pub record IsFine (message : Message) (levels : ℕ) (bytes : List ℕ) : Type 0 where
   pub none : (e : Defect) → Stands message levels bytes e → ⊥
+
+-- they are the message, or a defect stands in them
+abbrev pub IsDecided : Message → ℕ → List ℕ → Type 0
+IsDecided message levels bytes = IsFine message levels bytes ⊎ ((e : Defect) × Stands message levels bytes e)

@@ -4,3 +4,4 @@ pub mod Fine
 pub mod Rows
 pub mod Canon
 pub mod Limits
+pub mod Names

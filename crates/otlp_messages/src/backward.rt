@@ -1,11 +1,14 @@
 //! A buffer that is filled from its end to its front, so that the length of an embedded message is known
 //! when its last byte, the first one, is written.
 
-ghost use Rattle.std.specs.Prelude.{◌≡◌, ◌≤◌, ◌∷◌, ◌++◌, [], length, drop, vec_len, IfOk, OnOk, OnErr, IsTrue, ◌↔◌};
+ghost use Rattle.std.specs.Prelude.{◌≡◌, ◌+◌, ◌-◌, ◌≤◌, ◌∷◌, ◌++◌, [], length, take, drop, vec_len, IfOk, OnOk, OnErr, IsTrue, ◌↔◌};
 ghost use Rattle.otlp_wire.specs.Varint.{varint};
 
 use std::alloc::{AllocError, Global};
 use std::marker::Model;
+
+/// How many bytes are moved at once.
+const PIECE: usize = 1024;
 
 /// The least room that a buffer gets.
 const LEAST: usize = 4096;
@@ -79,15 +82,36 @@ impl Backward {
     }
 
     /// Writes the shortest varint of the value before all others.
-    #[tactic(auto, using(otlp_wire::proofs::Shortest::varint_small, otlp_wire::proofs::Shortest::varint_large))]
+    #[inline(always)]
+    #[tactic(auto, using(otlp_wire::proofs::Shortest::varint_small))]
     pub fn push_varint(&mut self, value: u64) -> Result<(), AllocError>
         ensures { OnOk result (self.new ≡ varint value ++ self.old) }
     {
         if value < 128 {
             return self.push(value as u8);
         }
-        self.push_varint(value / 128)?;
+        self.push_long_varint(value)
+    }
+
+    /// The same without the short way of a varint of one byte.
+    #[inline(never)]
+    #[tactic(auto, using(otlp_wire::proofs::Shortest::varint_small, otlp_wire::proofs::Shortest::varint_large))]
+    fn push_long_varint(&mut self, value: u64) -> Result<(), AllocError>
+        ensures { OnOk result (self.new ≡ varint value ++ self.old) }
+    {
+        if value < 128 {
+            return self.push(value as u8);
+        }
+        self.push_long_varint(value / 128)?;
         self.push((value % 128) as u8 + 128)
+    }
+
+    /// Finds room for `more` bytes before those that are written, so that writing them allocates nothing.
+    pub fn reserve(&mut self, more: usize) -> Result<(), AllocError>
+        ensures { OnOk result (self.new ≡ self.old) }
+    {
+        self.start = reserve_front(&mut self.bytes, self.start, more)?;
+        Ok(())
     }
 
     /// All that is written.
@@ -96,7 +120,7 @@ impl Backward {
     {
         let Backward { mut bytes, start } = self;
         let len = bytes.len() - start;
-        bytes.copy_within(start.., 0);
+        move_to_front(bytes.as_mut_slice(), start);
         bytes.truncate(len);
         bytes
     }
@@ -130,4 +154,34 @@ fn grow_front(bytes: &mut Vec<u8>, start: usize, room: usize) -> Result<usize, A
     let moved = start + (bytes.len() - old);
     bytes.copy_within(start..old, moved);
     Ok(moved)
+}
+
+/// Moves what stands from `start` on to the front.
+fn move_to_front(bytes: &mut [u8], start: usize)
+    requires { start ≤ length bytes.old }
+    ensures moved { take (length bytes.old - start) bytes.new ≡ drop start bytes.old }
+    ensures len { length bytes.new ≡ length bytes.old }
+{
+    let len = bytes.len() - start;
+    let mut place = 0;
+    'pieces: while place < len {
+        let size = PIECE.min(len - place);
+        move_piece(bytes, start + place, place, size);
+        place += size;
+    }
+}
+
+/// Moves some bytes to a place that is no later. They go by a buffer, since a copy between parts that may
+/// share bytes takes them one by one.
+fn move_piece(bytes: &mut [u8], from: usize, to: usize, size: usize)
+    requires size { size ≤ 1024 }
+    requires from { from + size ≤ length bytes.old }
+    requires to { to ≤ from }
+    ensures moved { take (to + size) bytes.new ≡ take to bytes.old ++ take size (drop from bytes.old) }
+    ensures rest { drop (to + size) bytes.new ≡ drop (to + size) bytes.old }
+    ensures len { length bytes.new ≡ length bytes.old }
+{
+    let mut piece = [0; PIECE];
+    piece[..size].copy_from_slice(&bytes[from..from + size]);
+    bytes[to..to + size].copy_from_slice(&piece[..size]);
 }

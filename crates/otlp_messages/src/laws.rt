@@ -4,6 +4,7 @@ ghost use Rattle.std.specs.Prelude.{◌≡◌, ℕ, ◌^◌, ◌<◌, List, true
 ghost use Rattle.std.specs.List.{AllByRecursion};
 ghost use Rattle.otlp_messages.specs.declared.messages.Message.{Message};
 ghost use Rattle.otlp_messages.specs.declared.checking.TheConstants.{LEVELS};
+ghost use Rattle.otlp_messages.specs.Defects.{IsDecided};
 ghost use Rattle.otlp_messages.specs.Limits.{level_limit};
 ghost use Rattle.otlp_messages.specs.Canon.{Filled, canon, laid_out, RowFits, IsReadBack};
 
@@ -16,4 +17,9 @@ pub fn rows_are_read()
 /// The limit of the code is the one that the definitions name.
 pub fn limits()
     ensures { LEVELS ≡ level_limit }
+{}
+
+/// Whatever the bytes are, they are the message, or a defect stands in them.
+pub fn fine_or_defect()
+    ensures { (m : Message) (levels : ℕ) (bytes : List ℕ) → IsDecided m levels bytes }
 {}

@@ -7,6 +7,7 @@ mod checking;
 mod laws;
 mod messages;
 mod metric_table;
+mod names;
 mod rows;
 mod single;
 mod table;
@@ -15,6 +16,7 @@ pub use backward::Backward;
 pub use checking::{LEVELS, check, is_text};
 pub use laws::{limits, rows_are_read};
 pub use messages::{Defect, Kind, Message, Of, Row};
+pub use names::defect_name;
 pub use single::{bytes_of, int32_of, int64_of};
 pub use table::{MARKS, row_of};
 
