@@ -12,11 +12,12 @@ use Rattle.otlp_messages.specs.declared.messages.Defect.TheVariants as defects
 use Rattle.otlp_messages.specs.declared.checking.TheConstants.{LEVELS}
 use Rattle.otlp_messages.specs.Defects.{Stands, wire_error, twice, in_value, within, ValueFaults, PartFaults, inside}
 use Rattle.otlp_messages.specs.Table.{kind_of}
+use Rattle.otlp_messages.proofs.Deciding.{decided}
 use Rattle.otlp_wire.specs.Wire as wire
 use Rattle.otlp_wire.specs.Wire.{FieldValue}
 use Rattle.otap_capture.specs.declared.batch.BatchRefusal.{BatchRefusal}
 use Rattle.otap_capture.specs.declared.batch.BatchRefusal.TheVariants as refusals
-use Rattle.otap_capture.specs.Batch.{IsOfBatch, ReadsBatch, RefusesBatch, batch_in}
+use Rattle.otap_capture.specs.Batch.{BatchContent, IsOfBatch, ReadsBatch, RefusesBatch, batch_in}
 
 -- the messages of a batch, and the kinds of their fields
 abbrev InBatch : Message → Type 0
@@ -91,6 +92,10 @@ of_batch m levels bytes e is (twice _ _ _ mark some h) = tt
 of_batch m levels bytes e is (in_value _ _ _ f _ occurs h) = value_of_batch (kind_of m f.number) (simple m is f.number) levels f.value e h
 of_batch m levels bytes e is (within _ _ _ n part next deep _ occurs at h) = of_batch next deep part e (payload_inside (kind_of m n) (simple m is n) levels next deep at) h
 
+-- a defect in a payload is one of those that can stand in a batch
+pub in_payload : (levels : ℕ) (part : List ℕ) (e : Defect) → Stands ArrowPayload levels part e → IsOfBatch e
+in_payload levels part e stands = of_batch ArrowPayload levels part e (inr refl) stands
+
 -- a defect in a batch is named by a refusal
 refused : (bytes : List ℕ) (e : Defect) → IsOfBatch e → Stands BatchArrowRecords LEVELS bytes e → (refusal : BatchRefusal) × RefusesBatch bytes refusal
 refused bytes defects.BadMessage of stands = (refusals.BadMessage, stands)
@@ -102,3 +107,11 @@ refused bytes defects.TooDeep of stands = absurd of
 
 pub read_or_refused : (bytes : List ℕ) → ((refusal : BatchRefusal) → RefusesBatch bytes refusal → ⊥) → ReadsBatch bytes (batch_in bytes)
 read_or_refused bytes none = (record { none = λ e stands. let r = refused bytes e (of_batch BatchArrowRecords LEVELS bytes e (inl refl) stands) stands in none r.0 r.1 }, refl)
+
+-- all bytes are read, or refused
+pub read_or_not : (bytes : List ℕ) → ((batch : BatchContent) × ReadsBatch bytes batch) ⊎ ((refusal : BatchRefusal) × RefusesBatch bytes refusal)
+read_or_not bytes =
+    elim (decided BatchArrowRecords LEVELS bytes) [
+      | inl fine ↦ inl (batch_in bytes, (fine, refl))
+      | inr d ↦ inr (refused bytes d.0 (of_batch BatchArrowRecords LEVELS bytes d.0 (inl refl) d.1) d.1)
+    ]

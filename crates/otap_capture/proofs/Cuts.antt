@@ -2,7 +2,7 @@
 use Rattle.std.proofs.Common.{◌≡◌, ℕ, ◌+◌, ◌-◌, ◌≤◌, List, ◌++◌, length, take, drop, Some, refl, sym, ap, ◌∙◌, length-append, length-drop, arith}
 use Rattle.std.specs.Prelude.{slice_range}
 use Rattle.std.proofs.lemmas.List.{drop-drop, length-take-le}
-use Rattle.otap_capture.specs.declared.found.Kind.{Kind}
+use Rattle.otap_capture.specs.declared.front.Flag.{Flag}
 use Rattle.otap_capture.specs.declared.frames.Frames.TheInside.{Inside}
 use Rattle.otap_capture.specs.Cutting.{BeginsFrame, CutsFrame}
 use Rattle.otap_capture.specs.Inside.{reading_of, frame_in, IsSound}
@@ -18,7 +18,7 @@ long bytes size room =
     let part : length (take size (drop 5 bytes)) ≡ size = length-take-le size (drop 5 bytes) (omega arith) in
     omega (arith, length-append (take 5 bytes) (take size (drop 5 bytes)))
 
-pub cuts_frame : (s : Inside) (k : Kind) (size : ℕ) → BeginsFrame s.handed (drop s.place s.bytes.items) k size
+pub cuts_frame : (s : Inside) (k : Flag) (size : ℕ) → BeginsFrame s.handed (drop s.place s.bytes.items) k size
     → CutsFrame (reading_of s) (reading_of (record s { handed = s.handed + (5 + size); place = s.place + 5 + size; begin = s.place + 5; last = Some k }))
 cuts_frame s k size b =
     let bytes = drop s.place s.bytes.items in
@@ -41,14 +41,14 @@ cuts_frame s k size b =
     part = let width : s.place + 5 + size - (s.place + 5) ≡ size = omega arith in rw (width, drop-drop 5 s.place s.bytes.items) refl
 
 -- few bytes are left
-pub rest_cut : (s : Inside) (k : Kind) (size : ℕ) → IsSound s → BeginsFrame s.handed (drop s.place s.bytes.items) k size
+pub rest_cut : (s : Inside) (k : Flag) (size : ℕ) → IsSound s → BeginsFrame s.handed (drop s.place s.bytes.items) k size
     → length (drop (s.place + 5 + size) s.bytes.items) ≤ read_ahead
 rest_cut s k size sound b =
     let cut = cuts_frame s k size b in
     lean_rest (drop s.place s.bytes.items) cut.front (drop (s.place + 5 + size) s.bytes.items) cut.frame sound.lean cut.kept cut.is_frame
 
 -- what was kept is still few bytes, and all else is in order
-pub sound_cut : (s : Inside) (k : Kind) (size : ℕ) → IsSound s → BeginsFrame s.handed (drop s.place s.bytes.items) k size
+pub sound_cut : (s : Inside) (k : Flag) (size : ℕ) → IsSound s → BeginsFrame s.handed (drop s.place s.bytes.items) k size
     → IsSound (record s { handed = s.handed + (5 + size); place = s.place + 5 + size; begin = s.place + 5; last = Some k })
 sound_cut s k size sound b = record {
   ordered = omega arith;
@@ -66,7 +66,7 @@ sound_few s sound = record {
   memory = sound.few;
 }
 
-pub few_cut : (s : Inside) (k : Kind) (size : ℕ) → IsSound s → BeginsFrame s.handed (drop s.place s.bytes.items) k size
+pub few_cut : (s : Inside) (k : Flag) (size : ℕ) → IsSound s → BeginsFrame s.handed (drop s.place s.bytes.items) k size
     → KeepsFew (reading_of s) (reading_of (record s { handed = s.handed + (5 + size); place = s.place + 5 + size; begin = s.place + 5; last = Some k }))
 few_cut s k size sound b = record {
   taken = let few = rest_cut s k size sound b in let fits = frame_bound _ _ b.is_frame in let e = long (drop s.place s.bytes.items) size b.room in omega (arith, few, fits, e);

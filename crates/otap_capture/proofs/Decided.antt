@@ -9,8 +9,8 @@ use Rattle.byteorder.specs.Endian.{big_number}
 use Rattle.otap_capture.specs.declared.frame.Damage.{Damage}
 use Rattle.otap_capture.specs.declared.frame.Why.{Why}
 use Rattle.otap_capture.specs.declared.frame.Why.TheVariants.{Truncated, BadFrame, TooLong, Endless}
-use Rattle.otap_capture.specs.declared.found.Found.{Found}
-use Rattle.otap_capture.specs.declared.found.Found.TheVariants as found
+use Rattle.otap_capture.specs.declared.front.Front.{Front}
+use Rattle.otap_capture.specs.declared.front.Front.TheVariants as fronts
 use Rattle.otap_capture.specs.Capture.{Frame, IsFrame, head_reason, front_reason, reason_at, EndsAt, longest_frame, capture_limit}
 use Rattle.otap_capture.specs.Cutting.{StandsAt, leaves_open}
 use Rattle.otap_capture.specs.Deciding.{IsShort, IsOpen, IsLean, read_ahead}
@@ -77,21 +77,21 @@ other_reason place bytes why reason other is_open = by_short is_open.1 (rw (lt-l
     by_short (inr short) reason' = other (sym reason' ∙ short)
 
 -- what stands at a place tells whether it is open
-pub found_open : (place : ℕ) (bytes : List ℕ) (f : Found) → StandsAt place bytes f → Tells (leaves_open f) (IsOpen place bytes)
-found_open place bytes (found.Frame k size) stands = λ is_open. frame_not_short _ (drop (5 + size) bytes) _ stands.is_frame (rw (split bytes size) at is_open.1)
-found_open place bytes found.End stands = by_place (below_limit place bytes None stands.1)
+pub front_open : (place : ℕ) (bytes : List ℕ) (f : Front) → StandsAt place bytes f → Tells (leaves_open f) (IsOpen place bytes)
+front_open place bytes (fronts.Frame k size) stands = λ is_open. frame_not_short _ (drop (5 + size) bytes) _ stands.is_frame (rw (split bytes size) at is_open.1)
+front_open place bytes fronts.End stands = by_place (below_limit place bytes None stands.1)
   where
     by_place : ((place < capture_limit) × (front_reason bytes ≡ None)) ⊎ (Some Endless ≡ None) → IsOpen place bytes
     by_place (inl below) = (below.0, inl stands.0)
     by_place (inr clash) = cc
-found_open place bytes (found.Nothing Truncated) stands = by_place (below_limit place bytes (Some Truncated) stands)
+front_open place bytes (fronts.Nothing Truncated) stands = by_place (below_limit place bytes (Some Truncated) stands)
   where
     by_place : ((place < capture_limit) × (front_reason bytes ≡ Some Truncated)) ⊎ (Some Endless ≡ Some Truncated) → IsOpen place bytes
     by_place (inl below) = (below.0, inr below.1)
     by_place (inr clash) = cc
-found_open place bytes (found.Nothing BadFrame) stands = other_reason place bytes BadFrame stands (λ clash. cc)
-found_open place bytes (found.Nothing TooLong) stands = other_reason place bytes TooLong stands (λ clash. cc)
-found_open place bytes (found.Nothing Endless) stands = other_reason place bytes Endless stands (λ clash. cc)
+front_open place bytes (fronts.Nothing BadFrame) stands = other_reason place bytes BadFrame stands (λ clash. cc)
+front_open place bytes (fronts.Nothing TooLong) stands = other_reason place bytes TooLong stands (λ clash. cc)
+front_open place bytes (fronts.Nothing Endless) stands = other_reason place bytes Endless stands (λ clash. cc)
 
 -- what is short is less than a frame of the greatest length
 pub short_length : (bytes : List ℕ) → IsShort bytes → length bytes < longest_frame + 5

@@ -1,9 +1,12 @@
 pub mod BatchDefects
+pub mod BatchFields
 pub mod Cuts
 pub mod Decided
 pub mod Framing
 pub mod Known
 pub mod OneCapture
 pub mod SomeCapture
+pub mod StatusDefects
 pub mod Stepping
 pub mod WrittenBatch
+pub mod WrittenStatus

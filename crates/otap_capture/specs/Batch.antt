@@ -3,7 +3,7 @@ use Rattle.std.specs.Prelude.{◌≡◌, ℕ, List, [], ◌∷◌, map, ⊤, ℤ
 use Rattle.std.specs.List.{AllByRecursion}
 use Rattle.std.specs.Int.{w32, w64}
 use Rattle.otlp_wire.specs.Fields.{fields_of}
-use Rattle.otlp_messages.specs.declared.messages.Message.TheVariants.{BatchArrowRecords, ArrowPayload}
+use Rattle.otlp_messages.specs.declared.messages.Message.TheVariants.{BatchArrowRecords}
 use Rattle.otlp_messages.specs.declared.messages.Defect.{Defect}
 use Rattle.otlp_messages.specs.declared.messages.Defect.TheVariants as defects
 use Rattle.otlp_messages.specs.declared.checking.TheConstants.{LEVELS}
@@ -63,10 +63,6 @@ IsOfBatch defect = ⊥
 -- a defect stands in the bytes, read as a batch message
 abbrev pub RefusesBatch : List ℕ → BatchRefusal → Type 0
 RefusesBatch bytes refusal = Stands BatchArrowRecords LEVELS bytes (defect_of refusal)
-
--- no defect stands in the payloads of the bytes
-abbrev pub HasFinePayloads : List ℕ → Type 0
-HasFinePayloads bytes = AllByRecursion (IsFine ArrowPayload LEVELS) (parts_of (only 2 (fields_of bytes)))
 
 -- the canonical spellings of a payload and of a batch
 abbrev pub payload_rows : PayloadContent → List Filled

@@ -1,8 +1,11 @@
 -- What a batch message is read from.
-use Rattle.std.specs.Prelude.{◌≡◌, length}
-use Rattle.otlp_messages.specs.declared.messages.Message.TheVariants.{BatchArrowRecords}
+use Rattle.std.specs.Prelude.{◌≡◌, ℕ, List, length}
+use Rattle.std.specs.List.{AllByRecursion}
+use Rattle.otlp_wire.specs.Fields.{fields_of}
+use Rattle.otlp_messages.specs.declared.messages.Message.TheVariants.{BatchArrowRecords, ArrowPayload}
 use Rattle.otlp_messages.specs.declared.checking.TheConstants.{LEVELS}
 use Rattle.otlp_messages.specs.Defects.{IsFine}
+use Rattle.otlp_messages.specs.Rows.{only, parts_of}
 use Rattle.otap_capture.specs.declared.batch.Batch.TheInside.{Inside}
 use Rattle.otap_capture.specs.Batch.{BatchContent, batch_in}
 
@@ -15,3 +18,7 @@ pub record IsBatch (b : Inside) : Type 0 where
   pub fine : IsFine BatchArrowRecords LEVELS b.bytes.now
   pub id : b.id ≡ (batch_of b).id
   pub count : b.count ≡ length (batch_of b).payloads
+
+-- no defect stands in the payloads of the bytes
+abbrev pub HasFinePayloads : List ℕ → Type 0
+HasFinePayloads bytes = AllByRecursion (IsFine ArrowPayload LEVELS) (parts_of (only 2 (fields_of bytes)))

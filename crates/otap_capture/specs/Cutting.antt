@@ -9,36 +9,36 @@ use Rattle.otap_capture.specs.declared.frame.FramesRefusal.{FramesRefusal}
 use Rattle.otap_capture.specs.declared.frame.Why.TheVariants.{Truncated, BadFrame, TooLong, Endless}
 use Rattle.otap_capture.specs.declared.frame.Step.{Step}
 use Rattle.otap_capture.specs.declared.frame.Step.TheVariants as step
-use Rattle.otap_capture.specs.declared.found.Kind.{Kind}
-use Rattle.otap_capture.specs.declared.found.Kind.TheVariants as kind
-use Rattle.otap_capture.specs.declared.found.Found.{Found}
-use Rattle.otap_capture.specs.declared.found.Found.TheVariants as found
+use Rattle.otap_capture.specs.declared.front.Flag.{Flag}
+use Rattle.otap_capture.specs.declared.front.Flag.TheVariants as flags
+use Rattle.otap_capture.specs.declared.front.Front.{Front}
+use Rattle.otap_capture.specs.declared.front.Front.TheVariants as fronts
 use Rattle.otap_capture.specs.Capture.{Frame, IsFrame, EndsAt, reason_at, head_reason, longest_frame, capture_limit}
 use Rattle.otap_capture.specs.Deciding.{read_ahead}
 use Rattle.otap_capture.specs.Inside.{frame_in}
 use Rattle.otap_capture.specs.Reading.{Reading, IsWaiting, end_step}
 
--- a frame of that kind, with that number of bytes after its head, stands at the front of these bytes
-pub record BeginsFrame (place : ℕ) (bytes : List ℕ) (k : Kind) (size : ℕ) : Type 0 where
+-- a frame with that flag and that number of bytes after its head, stands at the front of these bytes
+pub record BeginsFrame (place : ℕ) (bytes : List ℕ) (f : Flag) (size : ℕ) : Type 0 where
   pub begins : place < capture_limit
   pub room : 5 + size ≤ length bytes
-  pub is_frame : IsFrame (take 5 bytes ++ take size (drop 5 bytes)) (frame_in k (take size (drop 5 bytes)))
+  pub is_frame : IsFrame (take 5 bytes ++ take size (drop 5 bytes)) (frame_in f (take size (drop 5 bytes)))
 
-abbrev pub StandsAt : ℕ → List ℕ → Found → Type 0
-StandsAt place bytes (found.Frame k size) = BeginsFrame place bytes k size
-StandsAt place bytes found.End = EndsAt place bytes None
-StandsAt place bytes (found.Nothing why) = reason_at place bytes ≡ Some why
+abbrev pub StandsAt : ℕ → List ℕ → Front → Type 0
+StandsAt place bytes (fronts.Frame f size) = BeginsFrame place bytes f size
+StandsAt place bytes fronts.End = EndsAt place bytes None
+StandsAt place bytes (fronts.Nothing why) = reason_at place bytes ≡ Some why
 
--- the flag of a kind, and whether its frame may have that number of bytes
-abbrev pub HasFlag : Kind → ℕ → ℕ → Type 0
-HasFlag kind.Message flag size = flag ≡ 0
-HasFlag kind.Packed flag size = flag ≡ 1
-HasFlag kind.Reset flag size = (flag ≡ 2) × (size ≡ 0)
+-- the byte of a flag, and whether its frame may have that number of bytes
+abbrev pub HasFlag : Flag → ℕ → ℕ → Type 0
+HasFlag flags.Message flag size = flag ≡ 0
+HasFlag flags.Packed flag size = flag ≡ 1
+HasFlag flags.Reset flag size = (flag ≡ 2) × (size ≡ 0)
 
-abbrev pub StandsAfter : ℕ → ℕ → ℕ → Found → Type 0
-StandsAfter flag size left (found.Frame k n) = HasFlag k flag size × (n ≡ size) × (size ≤ longest_frame) × (size ≤ left)
-StandsAfter flag size left found.End = ⊥
-StandsAfter flag size left (found.Nothing why) = head_reason flag size left ≡ Some why
+abbrev pub StandsAfter : ℕ → ℕ → ℕ → Front → Type 0
+StandsAfter flag size left (fronts.Frame f n) = HasFlag f flag size × (n ≡ size) × (size ≤ longest_frame) × (size ≤ left)
+StandsAfter flag size left fronts.End = ⊥
+StandsAfter flag size left (fronts.Nothing why) = head_reason flag size left ≡ Some why
 
 -- a frame is cut from what is kept
 pub record CutsFrame (old new : Reading) : Type 0 where
@@ -100,10 +100,10 @@ GivesPiece old new before after (Ok false) = TakesPiece old new before after
 GivesPiece old new before after (Err refusal) = (new ≡ old) × Keeps before after
 
 -- more bytes could change it
-abbrev pub leaves_open : Found → Bool
-leaves_open (found.Frame k size) = false
-leaves_open found.End = true
-leaves_open (found.Nothing Truncated) = true
-leaves_open (found.Nothing BadFrame) = false
-leaves_open (found.Nothing TooLong) = false
-leaves_open (found.Nothing Endless) = false
+abbrev pub leaves_open : Front → Bool
+leaves_open (fronts.Frame f size) = false
+leaves_open fronts.End = true
+leaves_open (fronts.Nothing Truncated) = true
+leaves_open (fronts.Nothing BadFrame) = false
+leaves_open (fronts.Nothing TooLong) = false
+leaves_open (fronts.Nothing Endless) = false

@@ -1,22 +1,22 @@
 -- The fields of `Frames` as callers see them.
 use Rattle.std.specs.Prelude.{◌≤◌, ◌+◌, ◌*◌, ℕ, List, drop, length, slice_range, Some, None}
 use Rattle.std.specs.declared.option.Option.{Option}
-use Rattle.otap_capture.specs.declared.found.Kind.{Kind}
-use Rattle.otap_capture.specs.declared.found.Kind.TheVariants as kind
+use Rattle.otap_capture.specs.declared.front.Flag.{Flag}
+use Rattle.otap_capture.specs.declared.front.Flag.TheVariants as flags
 use Rattle.otap_capture.specs.declared.frames.Frames.TheInside.{Inside}
 use Rattle.otap_capture.specs.Capture.{Frame, Message, Packed, Reset, longest_frame, capture_limit}
 use Rattle.otap_capture.specs.Deciding.{IsLean, read_ahead}
 use Rattle.otap_capture.specs.Reading.{Reading}
 
--- a frame of that kind with these bytes
-abbrev pub frame_in : Kind → List ℕ → Frame
-frame_in kind.Message part = Message part
-frame_in kind.Packed part = Packed
-frame_in kind.Reset part = Reset
+-- a frame with that flag and these bytes
+abbrev pub frame_in : Flag → List ℕ → Frame
+frame_in flags.Message part = Message part
+frame_in flags.Packed part = Packed
+frame_in flags.Reset part = Reset
 
-abbrev pub shown : Option Kind → List ℕ → Option Frame
+abbrev pub shown : Option Flag → List ℕ → Option Frame
 shown None part = None
-shown (Some k) part = Some (frame_in k part)
+shown (Some f) part = Some (frame_in f part)
 
 abbrev pub reading_of : Inside → Reading
 reading_of s = record {

@@ -1,6 +1,7 @@
 pub mod Adapters
 pub mod Batch
 pub mod BatchInside
+pub mod BatchScanning
 pub mod BatchWriting
 pub mod Capture
 pub mod Cutting
@@ -9,4 +10,5 @@ pub mod Inside
 pub mod Memory
 pub mod Outside
 pub mod Reading
+pub mod Statuses
 pub mod Writing

@@ -1,14 +1,17 @@
 //! A batch message of the OpenTelemetry Arrow Protocol, read where it lies.
 
-ghost use Rattle.std.specs.Prelude.{◌≡◌, length, slice_get, IfOk, IfErr};
+ghost use Rattle.std.specs.Prelude.{◌≡◌, [], pos, ◌+◌, ◌^◌, ◌<◌, length, slice_get, IfOk, IfErr, OnOk};
 ghost use Rattle.std.specs.Option.{option_map};
 ghost use Rattle.std.specs.Iterator.{YieldsFirstBy, item_count};
-ghost use Rattle.otlp_wire.specs.Wire.{entry};
+ghost use Rattle.otlp_wire.specs.Wire.{entry, value_of};
+ghost use Rattle.otlp_messages.specs.Table.{kind_of};
 ghost use Rattle.otlp_messages.specs.Defects.{IsFine};
-ghost use Rattle.otlp_messages.specs.Rows.{part_at};
-ghost use Rattle.otap_capture.specs.Batch.{content_of, payload_in, payloads_in, defect_of, IsOfBatch, ReadsBatch, RefusesBatch};
+ghost use Rattle.otlp_messages.specs.Fine.{FineValue};
+ghost use Rattle.otlp_messages.specs.Rows.{said, at, bytes_in, int32_in, part_at};
+ghost use Rattle.otap_capture.specs.Batch.{content_of, payload_in, batch_in, defect_of, IsOfBatch, ReadsBatch, RefusesBatch};
+ghost use Rattle.otap_capture.specs.BatchScanning.{Says, SaysMore, FieldFaults};
 
-use otlp_messages::{Defect, LEVELS, Message, bytes_of, check, int32_of, int64_of};
+use otlp_messages::{Defect, LEVELS, Message, check};
 use otlp_wire::{Field, Fields, Wire};
 use std::marker::Model;
 use thiserror::Error;
@@ -25,6 +28,19 @@ pub enum BatchRefusal {
     /// A schema id is not UTF-8.
     #[error("a schema id is not UTF-8")]
     BadUtf8,
+}
+
+impl BatchRefusal {
+    /// The defect of the message that it names.
+    pub fn defect(self) -> Defect
+        ensures { result ≡ defect_of self }
+    {
+        match self {
+            BatchRefusal::BadMessage => Defect::BadMessage,
+            BatchRefusal::Repeated => Defect::Repeated,
+            BatchRefusal::BadUtf8 => Defect::BadUtf8,
+        }
+    }
 }
 
 /// A payload: the schema id of its stream, its payload type, and the Arrow IPC messages of its record.
@@ -61,12 +77,10 @@ pub fn read_batch(bytes: &[u8]) -> Result<Batch<'_>, BatchRefusal>
     ensures read { IfOk result (ReadsBatch bytes.now) }
     ensures refused { IfErr result (RefusesBatch bytes.now) }
 {
-    if let Err(defect) = check(Message::BatchArrowRecords, LEVELS, bytes) {
-        return Err(refusal_of(defect));
-    }
+    let scan = scan_fields(bytes)?;
     Ok(Batch {
-        id: int64_of(bytes, 1),
-        count: count_payloads(bytes),
+        id: scan.id,
+        count: scan.count,
         bytes,
     })
 }
@@ -116,7 +130,8 @@ impl<'a> Model for Payloads<'a> {
 
     ghost Value = { List PayloadContent };
 
-    ghost use Rattle.otap_capture.specs.Batch.{payloads_in, HasFinePayloads};
+    ghost use Rattle.otap_capture.specs.Batch.{payloads_in};
+    ghost use Rattle.otap_capture.specs.BatchInside.{HasFinePayloads};
 
     ghost view = { λ p. payloads_in p.fields };
 
@@ -154,20 +169,60 @@ fn payload_in_field<'a>(field: &Field<'a>) -> Option<&'a [u8]>
     }
 }
 
-/// How many payloads the fields of a batch have.
-fn count_payloads(bytes: &[u8]) -> usize
-    ensures { result ≡ length (payloads_in bytes.now) }
+/// What the fields of a batch say, as far as they were looked at: whether the id occurs, the id, and how many payloads.
+#[derive(Clone, Copy)]
+struct Scan {
+    seen: bool,
+    id: i64,
+    count: usize,
+}
+
+/// Looks at each field of a batch once.
+fn scan_fields(bytes: &[u8]) -> Result<Scan, BatchRefusal>
+    ensures fine { IfOk result (λ scan. IsFine Message.BatchArrowRecords LEVELS bytes.now) }
+    ensures says { IfOk result (Says (batch_in bytes.now)) }
+    ensures refused { IfErr result (RefusesBatch bytes.now) }
 {
-    let mut count = 0;
+    let mut scan = Scan {
+        seen: false,
+        id: 0,
+        count: 0,
+    };
     'fields: for next in Fields::new(bytes) {
         let Ok(field) = next else {
-            return count;
+            return Err(BatchRefusal::BadMessage);
         };
-        if payload_in_field(&field).is_some() {
-            count += 1;
-        }
+        scan.take(&field)?;
     }
-    count
+    Ok(scan)
+}
+
+impl Scan {
+    /// Looks at one field more.
+    #[inline(always)]
+    fn take(&mut self, field: &Field<'_>) -> Result<(), BatchRefusal>
+        requires { self.old.count + 1 < 2 ^ 64 }
+        ensures fine { OnOk result (FineValue (kind_of Message.BatchArrowRecords field.now.number) LEVELS (value_of field.now.value)) }
+        ensures says { OnOk result (SaysMore self.old self.new (entry field.now)) }
+        ensures fault { IfErr result (FieldFaults self.old.seen (entry field.now)) }
+    {
+        match (field.number, field.value) {
+            (1, _) if self.seen => return Err(BatchRefusal::Repeated),
+            (1, Wire::Varint(id)) => {
+                self.seen = true;
+                self.id = id.cast_signed();
+            }
+            (2, Wire::Bytes(part)) => {
+                if let Err(defect) = check(Message::ArrowPayload, LEVELS, part) {
+                    return Err(refusal_of(defect));
+                }
+                self.count += 1;
+            }
+            (1 | 2, _) => return Err(BatchRefusal::BadMessage),
+            _ => {}
+        }
+        Ok(())
+    }
 }
 
 /// What the fields of a payload say, in which no defect stands.
@@ -175,13 +230,73 @@ fn payload_of(part: &[u8]) -> Payload<'_>
     requires { IsFine Message.ArrowPayload LEVELS part.now }
     ensures { content_of result ≡ payload_in part.now }
 {
-    let Ok(schema_id) = std::str::from_utf8(bytes_of(part, 1)) else {
+    let parts = parts_of(part);
+    let Ok(schema_id) = std::str::from_utf8(parts.schema_id) else {
         unreachable!()
     };
     Payload {
         schema_id,
-        kind: int32_of(part, 2),
-        bytes: bytes_of(part, 3),
+        kind: parts.kind,
+        bytes: parts.bytes,
+    }
+}
+
+/// What the fields of a payload say, before the schema id is known to be a text.
+#[derive(Clone, Copy)]
+struct Parts<'a> {
+    schema_id: &'a [u8],
+    kind: i32,
+    bytes: &'a [u8],
+}
+
+/// Looks at each field of a payload once.
+fn parts_of(part: &[u8]) -> Parts<'_>
+    ensures schema_id { result.schema_id.now ≡ said 1 bytes_in [] part.now }
+    ensures kind { result.kind ≡ said 2 int32_in (pos 0) part.now }
+    ensures bytes { result.bytes.now ≡ said 3 bytes_in [] part.now }
+{
+    let mut parts = Parts {
+        schema_id: &[],
+        kind: 0,
+        bytes: &[],
+    };
+    'fields: for next in Fields::new(part) {
+        let Ok(field) = next else {
+            return parts;
+        };
+        parts = parts_with(parts, field);
+    }
+    parts
+}
+
+/// The parts after one field more.
+fn parts_with<'a>(parts: Parts<'a>, field: Field<'a>) -> Parts<'a>
+    ensures schema_id { result.schema_id.now ≡ at 1 bytes_in parts.entry.schema_id.now (entry field.entry) }
+    ensures kind { result.kind ≡ at 2 int32_in parts.entry.kind (entry field.entry) }
+    ensures bytes { result.bytes.now ≡ at 3 bytes_in parts.entry.bytes.now (entry field.entry) }
+{
+    let Parts {
+        schema_id,
+        kind,
+        bytes,
+    } = parts;
+    match (field.number, field.value) {
+        (1, Wire::Bytes(schema_id)) => Parts {
+            schema_id,
+            kind,
+            bytes,
+        },
+        (2, Wire::Varint(value)) => Parts {
+            schema_id,
+            kind: ((value % (1 << 32)) as u32).cast_signed(),
+            bytes,
+        },
+        (3, Wire::Bytes(bytes)) => Parts {
+            schema_id,
+            kind,
+            bytes,
+        },
+        _ => parts,
     }
 }
 

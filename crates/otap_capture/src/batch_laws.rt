@@ -1,7 +1,7 @@
 //! What holds of the definitions of batch messages: each law is the contract of a function that does
 //! nothing.
 
-ghost use Rattle.std.specs.Prelude.{◌≡◌, ℕ, ◌^◌, ◌<◌, List, length};
+ghost use Rattle.std.specs.Prelude.{◌≡◌, ◌⊎◌, ℕ, ◌^◌, ◌<◌, List, length};
 ghost use Rattle.otap_capture.specs.declared.batch.BatchRefusal.{BatchRefusal};
 ghost use Rattle.otap_capture.specs.Batch.{BatchContent, ReadsBatch, RefusesBatch, IsRealBatch, batch_in, canon_batch};
 
@@ -12,9 +12,10 @@ pub fn one_batch()
         → ReadsBatch bytes batch → RefusesBatch bytes refusal → ⊥ }
 {}
 
-/// Bytes in which no defect stands are read as a batch message.
+/// Bytes in which no defect stands are read as a batch message, and all others are refused.
 pub fn read_or_refused()
-    ensures { (bytes : List ℕ) → ((refusal : BatchRefusal) → RefusesBatch bytes refusal → ⊥) → ReadsBatch bytes (batch_in bytes) }
+    ensures read { (bytes : List ℕ) → ((refusal : BatchRefusal) → RefusesBatch bytes refusal → ⊥) → ReadsBatch bytes (batch_in bytes) }
+    ensures either { (bytes : List ℕ) → ((batch : BatchContent) × ReadsBatch bytes batch) ⊎ ((refusal : BatchRefusal) × RefusesBatch bytes refusal) }
 {}
 
 /// The canonical spelling of a batch is read as the batch.

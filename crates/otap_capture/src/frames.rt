@@ -1,13 +1,13 @@
 //! The frames of a capture, from a source that gives them in any pieces.
-ghost use Rattle.std.specs.Prelude.{◌≡◌, ◌+◌, ◌*◌, ◌<◌, ◌≤◌, [], drop, length, IfNone, IfSome, None, Some, OnOk, OnErr, Ok, false};
+ghost use Rattle.std.specs.Prelude.{◌≡◌, ◌+◌, ◌++◌, ◌*◌, ◌<◌, ◌≤◌, [], drop, length, IfNone, IfSome, None, Some, OnOk, OnErr, Ok, false};
 ghost use Rattle.std.specs.Option.{option_map};
 ghost use Rattle.otap_capture.specs.Capture.{frame_of};
 ghost use Rattle.otap_capture.specs.Deciding.{IsShort};
 ghost use Rattle.otap_capture.specs.Reading.{ahead, GoesOn, EndsAgain, StepCounts, KeepsFew, KeepsRest, Asked, Tells, IsWaiting};
 ghost use Rattle.otap_capture.specs.Cutting.{StandsAt, Cuts, Fills, IsDecided, Grows, SameBut, GivesPiece};
 
-use crate::found::{Found, HEAD, Kind, found_at};
 use crate::frame::{Damage, Frame, FramesRefusal, Step};
+use crate::front::{Flag, Front, HEAD, front_at};
 use crate::outside::Source;
 use std::alloc::Global;
 use std::marker::Model;
@@ -26,7 +26,7 @@ pub struct Frames {
     begin: usize,
     // Where it ends, and the bytes that are kept begin.
     place: usize,
-    last: Option<Kind>,
+    last: Option<Flag>,
     complete: bool,
     ended: Option<Step>,
 }
@@ -84,7 +84,7 @@ impl Frames {
     pub fn asks(&self) -> bool
         ensures { Tells result (IsWaiting self.now) }
     {
-        self.ended.is_none() && !self.complete && self.found().is_open()
+        self.ended.is_none() && !self.complete && self.front().is_open()
     }
 
     /// The frame that the last call of [`Frames::next`] returned, if it returned one.
@@ -93,17 +93,17 @@ impl Frames {
     {
         match self.last {
             None => None,
-            Some(Kind::Message) => Some(Frame::Message(&self.bytes[self.begin..self.place])),
-            Some(Kind::Packed) => Some(Frame::Packed),
-            Some(Kind::Reset) => Some(Frame::Reset),
+            Some(Flag::Message) => Some(Frame::Message(&self.bytes[self.begin..self.place])),
+            Some(Flag::Packed) => Some(Frame::Packed),
+            Some(Flag::Reset) => Some(Frame::Reset),
         }
     }
 
     // What stands at the front of the bytes that are kept.
-    fn found(&self) -> Found
+    fn front(&self) -> Front
         ensures { StandsAt self.now.handed self.now.kept result }
     {
-        found_at(self.handed, &self.bytes[self.place..])
+        front_at(self.handed, &self.bytes[self.place..])
     }
 
     // Reads until the next step is decided.
@@ -159,19 +159,19 @@ impl Frames {
         ensures few { KeepsFew self.old self.new }
         ensures rest { KeepsRest self.new (Ok result) }
     {
-        match self.found() {
-            Found::Frame(kind, size) => {
+        match self.front() {
+            Front::Frame(flag, size) => {
                 self.begin = self.place + HEAD;
                 self.place = self.begin + size;
                 self.handed += (HEAD + size) as u64;
-                self.last = Some(kind);
+                self.last = Some(flag);
                 Step::Frame
             }
-            Found::End => {
+            Front::End => {
                 self.ended = Some(Step::End);
                 Step::End
             }
-            Found::Nothing(why) => {
+            Front::Nothing(why) => {
                 let at = self.handed;
                 let end = Step::Damage(Damage { at, why });
                 self.ended = Some(end);
@@ -181,18 +181,32 @@ impl Frames {
     }
 }
 
-// Takes the first bytes away.
+// Takes the first bytes away, which are at least as many as those that stay.
 fn remove_front(bytes: &mut Vec<u8>, count: usize)
-    requires { count ≤ length bytes.old.items }
+    requires there { count ≤ length bytes.old.items }
+    requires apart { length bytes.old.items ≤ count + count }
     ensures { bytes.new.items ≡ drop count bytes.old.items }
 {
-    let len = bytes.len();
-    bytes.as_mut_slice().copy_within(count..len, 0);
-    bytes.truncate(len - count);
+    let kept = bytes.len() - count;
+    move_front(bytes.as_mut_slice(), count, kept);
+    bytes.truncate(kept);
+}
+
+// Copies the last bytes to the front.
+fn move_front(bytes: &mut [u8], count: usize, kept: usize)
+    requires whole { count + kept ≡ length bytes.old }
+    requires apart { kept ≤ count }
+    ensures { bytes.new ≡ drop count bytes.old ++ drop kept bytes.old }
+{
+    let (front, back) = bytes.split_at_mut(count);
+    let (place, _rest) = front.split_at_mut(kept);
+    place.copy_from_slice(back);
 }
 
 // Appends what one read of the source gives. Returns whether the source is at its end. Room is made
-// before the read, so that a refusal loses nothing.
+// before the read, so that a refusal loses nothing. It stays a call of its own, so that a step that reads nothing
+// doesn't touch the stack of its room.
+#[inline(never)]
 fn read_piece<S: Source>(bytes: &mut Vec<u8>, source: &mut S) -> Result<bool, FramesRefusal>
     ensures piece { GivesPiece bytes.old.items bytes.new.items (S.left source.old) (S.left source.new) result }
     ensures count { StepCounts (S.faults source.old) (S.faults source.new) result }

@@ -1,16 +1,18 @@
-//! What the gateway reads and writes: sources and sinks of bytes, the frames of a capture, and batch messages.
+//! What the gateway reads and writes: sources and sinks of bytes, the frames of a capture, batch messages and statuses.
 #![tactic(auto)]
 
 mod adapters;
 mod batch;
 mod batch_laws;
 mod batch_writer;
-mod found;
 mod frame;
 mod frames;
+mod front;
 mod laws;
 mod memory;
 mod outside;
+mod status;
+mod status_laws;
 mod steady;
 mod writing;
 
@@ -23,10 +25,14 @@ pub use frames::Frames;
 pub use laws::{decided_stays, limits_are_stated, one_capture, some_capture, written_is_read};
 pub use memory::{MemorySink, MemorySource};
 pub use outside::{ReadFailed, Sink, SinkRefusal, Source, write_whole};
+pub use status::{Status, read_status, write_status};
+pub use status_laws::{one_status, status_or_refused, written_status_is_read};
 pub use steady::{SteadySink, SteadySource};
 pub use writing::{write_frame, write_reset};
 
 #[cfg(test)]
 mod batch_tests;
+#[cfg(test)]
+mod status_tests;
 #[cfg(test)]
 mod tests;

@@ -1,5 +1,6 @@
 use Rattle.std.proofs.Common.{◌≡◌, length}
-use Rattle.otap_capture.specs.Batch.{payloads_in, HasFinePayloads}
+use Rattle.otap_capture.specs.Batch.{payloads_in}
+use Rattle.otap_capture.specs.BatchInside.{HasFinePayloads}
 use Rattle.otap_capture.proofs.batch.PayloadsIterator.next.Given as goal
 
 abbrev pub invariant-fields : goal.invariant-fields

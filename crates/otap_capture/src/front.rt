@@ -1,4 +1,4 @@
-//! What stands at a place of a capture.
+//! What stands at the front of the bytes of a capture that are left.
 ghost use Rattle.std.specs.Prelude.{◌≡◌};
 ghost use Rattle.otap_capture.specs.Cutting.{StandsAt, StandsAfter, leaves_open};
 
@@ -9,61 +9,61 @@ use byteorder::{BigEndian, ByteOrder};
 pub(crate) const HEAD: usize = 5;
 
 #[derive(Clone, Copy)]
-pub(crate) enum Kind {
+pub(crate) enum Flag {
     Message,
     Packed,
     Reset,
 }
 
 #[derive(Clone, Copy)]
-pub(crate) enum Found {
-    // A frame of that kind, with that number of bytes after its head.
-    Frame(Kind, usize),
+pub(crate) enum Front {
+    // A frame with that flag and that number of bytes after its head.
+    Frame(Flag, usize),
     End,
     Nothing(Why),
 }
 
-impl Found {
+impl Front {
     // Whether more bytes could change it.
     pub(crate) fn is_open(&self) -> bool
         ensures { result ≡ leaves_open self.now }
     {
-        matches!(self, Found::End | Found::Nothing(Why::Truncated))
+        matches!(self, Front::End | Front::Nothing(Why::Truncated))
     }
 }
 
-pub(crate) fn found_at(place: u64, bytes: &[u8]) -> Found
+pub(crate) fn front_at(place: u64, bytes: &[u8]) -> Front
     ensures { StandsAt place bytes.now result }
 {
     if place >= MAX_CAPTURE {
-        return Found::Nothing(Why::Endless);
+        return Front::Nothing(Why::Endless);
     }
     match bytes {
-        [] => Found::End,
+        [] => Front::End,
         [flag, a, b, c, d, rest @ ..] => {
             let size = BigEndian::read_u32(&[*a, *b, *c, *d]);
-            found_after(*flag, size, rest.len())
+            front_after(*flag, size, rest.len())
         }
-        _ => Found::Nothing(Why::Truncated),
+        _ => Front::Nothing(Why::Truncated),
     }
 }
 
 // What a head is, with that number of bytes after it.
-fn found_after(flag: u8, size: u32, left: usize) -> Found
-    ensures { StandsAfter flag size left result }
+fn front_after(byte: u8, size: u32, left: usize) -> Front
+    ensures { StandsAfter byte size left result }
 {
-    let kind = match flag {
-        0 => Kind::Message,
-        1 => Kind::Packed,
-        2 if size == 0 => Kind::Reset,
-        _ => return Found::Nothing(Why::BadFrame),
+    let flag = match byte {
+        0 => Flag::Message,
+        1 => Flag::Packed,
+        2 if size == 0 => Flag::Reset,
+        _ => return Front::Nothing(Why::BadFrame),
     };
     if size > MAX_FRAME {
-        return Found::Nothing(Why::TooLong);
+        return Front::Nothing(Why::TooLong);
     }
     let size = size as usize;
     if left < size {
-        return Found::Nothing(Why::Truncated);
+        return Front::Nothing(Why::Truncated);
     }
-    Found::Frame(kind, size)
+    Front::Frame(flag, size)
 }

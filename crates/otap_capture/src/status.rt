@@ -1,0 +1,62 @@
+//! A status: what a Collector replies to a batch message.
+
+ghost use Rattle.std.specs.Prelude.{◌≡◌, IfOk, IfErr};
+ghost use Rattle.otlp_messages.specs.declared.messages.Message.{Message};
+ghost use Rattle.otlp_messages.specs.Defects.{Stands};
+ghost use Rattle.otap_capture.specs.Batch.{defect_of};
+ghost use Rattle.otap_capture.specs.Statuses.{told, canon_status, ReadsStatus, RefusesStatus};
+
+use crate::batch::BatchRefusal;
+use otlp_messages::{Backward, Defect, LEVELS, Message, bytes_of, check, int32_of, int64_of};
+use std::alloc::{AllocError, Global};
+
+/// A status: the id of the batch, the code (0 where it was accepted), and a message for a reader.
+#[derive(Clone, Copy, Debug, PartialEq, Eq)]
+pub struct Status<'a> {
+    pub id: i64,
+    pub code: i32,
+    pub message: &'a str,
+}
+
+/// Reads a status (BatchStatus), where it lies.
+pub fn read_status(bytes: &[u8]) -> Result<Status<'_>, BatchRefusal>
+    ensures read { IfOk result (λ status. ReadsStatus bytes.now (told status)) }
+    ensures refused { IfErr result (RefusesStatus bytes.now) }
+{
+    if let Err(defect) = check(Message::BatchStatus, LEVELS, bytes) {
+        return Err(refusal_of(bytes, defect));
+    }
+    let Ok(message) = std::str::from_utf8(bytes_of(bytes, 3)) else {
+        unreachable!()
+    };
+    Ok(Status {
+        id: int64_of(bytes, 1),
+        code: int32_of(bytes, 2),
+        message,
+    })
+}
+
+/// The canonical spelling of a status.
+pub fn write_status(alloc: Global, status: &Status<'_>) -> Result<Vec<u8>, AllocError>
+    ensures { IfOk result (λ bytes. bytes.items ≡ canon_status (told status.now)) }
+{
+    let Status { id, code, message } = *status;
+    let mut to = Backward::new(alloc);
+    to.put_bytes_row(3, message.as_bytes())?;
+    to.put_signed_row(2, i64::from(code))?;
+    to.put_signed_row(1, id)?;
+    Ok(to.finish())
+}
+
+/// The refusal that names a defect of the bytes, read as a status.
+fn refusal_of(bytes: &[u8], defect: Defect) -> BatchRefusal
+    requires { Stands Message.BatchStatus LEVELS bytes.now defect }
+    ensures { defect_of result ≡ defect }
+{
+    match defect {
+        Defect::BadMessage => BatchRefusal::BadMessage,
+        Defect::Repeated => BatchRefusal::Repeated,
+        Defect::BadUtf8 => BatchRefusal::BadUtf8,
+        Defect::BadLength | Defect::Unsupported | Defect::TooDeep => unreachable!(),
+    }
+}
