@@ -6,11 +6,11 @@ use Rattle.otlp_model.specs.declared.octets.Held.{Held}
 use Rattle.otlp_model.specs.declared.octets.Held.TheVariants as held
 
 abbrev pub letters_in : Letters → List ℕ
-letters_in (letters.Short alloc len bytes) = take len bytes
+letters_in (letters.Short short) = take short.len short.bytes
 letters_in (letters.Long text) = string_bytes text
 
 abbrev pub HasLetters : Letters → Type 0
-HasLetters (letters.Short alloc len bytes) = (len ≤ 23) × IsUtf8 (take len bytes)
+HasLetters (letters.Short short) = (short.len ≤ 30) × IsUtf8 (take short.len short.bytes)
 HasLetters (letters.Long text) = Unit {0}
 
 abbrev pub bytes_in : Held → List ℕ
@@ -18,5 +18,5 @@ bytes_in (held.Short alloc len bytes) = take len bytes
 bytes_in (held.Long bytes) = bytes.items
 
 abbrev pub HasBytes : Held → Type 0
-HasBytes (held.Short alloc len bytes) = len ≤ 23
+HasBytes (held.Short alloc len bytes) = len ≤ 30
 HasBytes (held.Long bytes) = Unit {0}

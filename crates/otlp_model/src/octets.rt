@@ -5,11 +5,11 @@ use std::alloc::{AllocError, Global};
 use std::marker::Model;
 
 /// How many bytes a byte string holds inside itself.
-const SHORT: usize = 23;
+const SHORT: usize = 30;
 
 /// A growing list of bytes. Contracts see it as that list.
 ///
-/// Up to 23 bytes, as ids have, it takes no memory beside itself.
+/// Up to 30 bytes, as ids have, it takes no memory beside itself.
 #[derive(Debug, Drop)]
 pub struct Octets {
     held: Held,
@@ -67,7 +67,7 @@ impl Octets {
 
     #[inline]
     fn short(alloc: Global, part: &[u8]) -> Octets
-        requires { length part.now ≤ 23 }
+        requires { length part.now ≤ 30 }
         ensures { result ≡ part.now }
     {
         let mut bytes = [0; SHORT];

@@ -1,4 +1,4 @@
-ghost use Rattle.std.specs.Prelude.{◌≡◌, [], ◌++◌, ◌<◌, ◌≤◌, ◌^◌, ◌↔◌, length, IsTrue, IfOk, OnOk, OnErr, IsUtf8, encode_utf8};
+ghost use Rattle.std.specs.Prelude.{◌≡◌, [], ◌++◌, ◌<◌, ◌≤◌, ◌^◌, ◌↔◌, length, take, IsTrue, IfOk, OnOk, OnErr, IsUtf8, encode_utf8};
 ghost use Rattle.std.specs.Option.{SomeIff};
 ghost use Rattle.otlp_model.specs.Bytes.{is_real_text};
 
@@ -6,11 +6,11 @@ use std::alloc::{AllocError, Global};
 use std::marker::Model;
 
 /// How many bytes a text holds inside itself.
-const SHORT: usize = 23;
+const SHORT: usize = 30;
 
 /// A growing text. Contracts see it as its bytes, which are UTF-8.
 ///
-/// Up to 23 bytes it takes no memory beside itself.
+/// Up to 30 bytes it takes no memory beside itself.
 #[derive(Debug, Drop)]
 pub struct Text {
     letters: Letters,
@@ -19,12 +19,41 @@ pub struct Text {
 /// Where the bytes of a text stand.
 #[derive(Debug, Drop)]
 enum Letters {
-    Short {
-        alloc: Global,
-        len: u8,
-        bytes: [u8; SHORT],
-    },
+    Short(Short),
     Long(String),
+}
+
+/// The first `len` of some bytes.
+#[derive(Debug, Drop)]
+struct Short {
+    alloc: Global,
+    len: u8,
+    bytes: [u8; SHORT],
+}
+
+impl Short {
+    #[inline(always)]
+    fn new(alloc: Global) -> Short
+        ensures { result.len ≡ 0 }
+    {
+        Short {
+            alloc,
+            len: 0,
+            bytes: [0; SHORT],
+        }
+    }
+
+    /// Makes them a copy of the part.
+    #[inline(always)]
+    fn set(&mut self, part: &str)
+        requires { length part.now ≤ 30 }
+        ensures bytes { take self.new.len self.new.bytes ≡ part.now }
+        ensures len { self.new.len ≤ 30 }
+    {
+        let part = part.as_bytes();
+        self.bytes[..part.len()].copy_from_slice(part);
+        self.len = part.len() as u8;
+    }
 }
 
 impl Model for Text {
@@ -45,11 +74,7 @@ impl Text {
         ensures { result ≡ [] }
     {
         Text {
-            letters: Letters::Short {
-                alloc,
-                len: 0,
-                bytes: [0; SHORT],
-            },
+            letters: Letters::Short(Short::new(alloc)),
         }
     }
 
@@ -89,16 +114,30 @@ impl Text {
         }
     }
 
+    /// Makes the text a copy of the part, in place where that is short. Where no memory is found the text is as before.
+    #[inline(always)]
+    pub fn set(&mut self, alloc: Global, part: &str) -> Result<(), AllocError>
+        ensures ok { OnOk result (self.new ≡ part.now) }
+        ensures err { OnErr result (self.new ≡ self.old) }
+    {
+        if part.len() <= SHORT {
+            if let Letters::Short(short) = &mut self.letters {
+                short.set(part);
+                return Ok(());
+            }
+        }
+        *self = Text::from_str(alloc, part)?;
+        Ok(())
+    }
+
     #[inline]
     fn short(alloc: Global, part: &str) -> Text
-        requires { length part.now ≤ 23 }
+        requires { length part.now ≤ 30 }
         ensures { result ≡ part.now }
     {
-        let part = part.as_bytes();
-        let mut bytes = [0; SHORT];
-        bytes[..part.len()].copy_from_slice(part);
-        let len = part.len() as u8;
-        let letters = Letters::Short { alloc, len, bytes };
+        let mut short = Short::new(alloc);
+        short.set(part);
+        let letters = Letters::Short(short);
         Text { letters }
     }
 
@@ -124,7 +163,7 @@ impl Text {
         ensures utf8 { IsUtf8 self.now }
     {
         match &self.letters {
-            Letters::Short { len, bytes, .. } => &bytes[..usize::from(*len)],
+            Letters::Short(short) => &short.bytes[..usize::from(short.len)],
             Letters::Long(text) => text.as_str().as_bytes(),
         }
     }
@@ -160,8 +199,8 @@ impl Text {
     {
         match &mut self.letters {
             Letters::Long(text) => text.push(letter),
-            Letters::Short { alloc, .. } => {
-                let mut text = String::from_str(*alloc, self.as_str())?;
+            Letters::Short(short) => {
+                let mut text = String::from_str(short.alloc, self.as_str())?;
                 text.push(letter)?;
                 self.letters = Letters::Long(text);
                 Ok(())
