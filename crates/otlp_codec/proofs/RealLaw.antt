@@ -287,4 +287,5 @@ value_real (suc l) bytes h =
 
 pub pairs_real : (m : Message) (n : ℕ) (bytes : List ℕ) → kind_of m n ≡ kinds.Embedded messages.KeyValue → Sound m value_levels bytes → are_real_pairs (said n (many_in pair_in) [] bytes) ≡ true
 unfolding pair_at
-pairs_real m n bytes is h = list_all-from_AllPass is_real_pair (said n (many_in pair_in) [] bytes) (each_real (λ p. is_real_pair p ≡ true) m n messages.KeyValue pair_in is (pair_real value_levels value_in (value_real value_levels)) bytes h).at
+pairs_real m n bytes is h = list_all-from_AllPass is_real_pair (said n (many_in pair_in) [] bytes)
+    (each_real (λ p. is_real_pair p ≡ true) m n messages.KeyValue pair_in is (pair_real value_levels value_in (value_real value_levels)) bytes h).at

@@ -47,11 +47,13 @@ traces_law : (groups : List (ResourceGroup Span)) → All (IsRealResourceGroup I
 traces_law = request_law IsRealSpan IsProfileSpan Spans span_in canon_span weight_of_span span_law
 
 logs_law : (groups : List (ResourceGroup LogRecord)) → All (IsRealResourceGroup IsRealLogRecord) groups
-    → Law (All (IsProfileResourceGroup IsProfileLogRecord) groups) (messages.Request LogRecords) value_levels (groups_in log_record_in) (canon_groups canon_log_record) groups (total 32 (weight_of_resource_group weight_of_log_record) groups) 0
+    → Law (All (IsProfileResourceGroup IsProfileLogRecord) groups) (messages.Request LogRecords) value_levels (groups_in log_record_in) (canon_groups canon_log_record) groups
+    (total 32 (weight_of_resource_group weight_of_log_record) groups) 0
 logs_law = request_law IsRealLogRecord IsProfileLogRecord LogRecords log_record_in canon_log_record weight_of_log_record log_record_law
 
 metrics_law : (groups : List (ResourceGroup Metric)) → All (IsRealResourceGroup IsRealMetric) groups
-    → Law (All (IsProfileResourceGroup IsProfileMetric) groups) (messages.Request Metrics) value_levels (groups_in metric_in) (canon_groups canon_metric) groups (total 32 (weight_of_resource_group weight_of_metric) groups) 0
+    → Law (All (IsProfileResourceGroup IsProfileMetric) groups) (messages.Request Metrics) value_levels (groups_in metric_in) (canon_groups canon_metric) groups
+    (total 32 (weight_of_resource_group weight_of_metric) groups) 0
 metrics_law = request_law IsRealMetric IsProfileMetric Metrics metric_in canon_metric weight_of_metric metric_law
 
 -- what is written of the groups is read as the request that they are

@@ -85,9 +85,11 @@ span_law x real =
     (also (λ a r. record r { end = a }) (fixed64_held m 8 x.end refl refl real.end) refl (λ a v. refl)
     (also (λ a r. record r { pairs = a }) (pairs_held m 9 x.pairs refl refl refl real.pairs (λ p. p.pairs.at)) refl (λ a v. refl)
     (also (λ a r. record r { dropped_pairs = a }) (uint32_held m 10 x.dropped_pairs refl refl real.dropped_pairs) refl (λ a v. refl)
-    (also (λ a r. record r { events = a }) (many_held IsProfileEvent m 11 messages.Event event_in canon_event 32 weight_of_event 236 x.events refl refl refl refl refl events (λ p. all_from IsProfileEvent x.events p.events.at)) refl (λ a v. refl)
+    (also (λ a r. record r { events = a }) (many_held IsProfileEvent m 11 messages.Event event_in canon_event 32 weight_of_event 236 x.events refl refl refl refl refl events
+    (λ p. all_from IsProfileEvent x.events p.events.at)) refl (λ a v. refl)
     (also (λ a r. record r { dropped_events = a }) (uint32_held m 12 x.dropped_events refl refl real.dropped_events) refl (λ a v. refl)
-    (also (λ a r. record r { links = a }) (many_held IsProfileLink m 13 messages.Link link_in canon_link 32 weight_of_link 236 x.links refl refl refl refl refl links (λ p. all_from IsProfileLink x.links p.links.at)) refl (λ a v. refl)
+    (also (λ a r. record r { links = a }) (many_held IsProfileLink m 13 messages.Link link_in canon_link 32 weight_of_link 236 x.links refl refl refl refl refl links
+    (λ p. all_from IsProfileLink x.links p.links.at)) refl (λ a v. refl)
     (also (λ a r. record r { dropped_links = a }) (uint32_held m 14 x.dropped_links refl refl real.dropped_links) refl (λ a v. refl)
     (also (λ (a : Status) r. record r { status_message = a.message; status_code = a.code })
     (embedded_held m 15 messages.Status status_in canon_status refl refl (status_law x real) no_status_is refl) refl (status_heard (record x { flags = 0 }))

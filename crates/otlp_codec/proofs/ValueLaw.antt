@@ -181,7 +181,8 @@ members_return : (l : ℕ) (members : List Value) → AllByRecursion ValueReturn
     → length (canon (members_rows (map canon_value members))) < 2 ^ 64
     → IsFine messages.ArrayValue l (canon (members_rows (map canon_value members))) × (array_at l (canon (members_rows (map canon_value members))) ≡ members)
 unfolding array_at
-members_return zero members law real deep short = rw (none_at_zero depth_of members some_depth deep) ((rows_read messages.ArrayValue zero (members_rows []) refl (many_fits messages.ArrayValue zero 1 [] refl tt, tt) (omega arith)).fine, refl)
+members_return zero members law real deep short = rw (none_at_zero depth_of members some_depth deep)
+    ((rows_read messages.ArrayValue zero (members_rows []) refl (many_fits messages.ArrayValue zero 1 [] refl tt, tt) (omega arith)).fine, refl)
 members_return (suc l) members law real deep short =
     repeated_returns messages.ArrayValue (suc l) messages.AnyValue l (value_at l) canon_value members refl (λ part fine. fine)
     (all_map (λ v. ValueReturns v × ((is_real_value v ≡ true) × (depth_of v ≤ suc l))) (Returns messages.AnyValue l (value_at l) canon_value)
@@ -197,7 +198,8 @@ pairs_return : (l : ℕ) (pairs : List Pair) → AllByRecursion (λ p. ValueRetu
     → length (canon (members_rows (map canon_pair pairs))) < 2 ^ 64
     → IsFine messages.KeyValueList l (canon (members_rows (map canon_pair pairs))) × (map_at l (canon (members_rows (map canon_pair pairs))) ≡ pairs)
 unfolding map_at
-pairs_return zero pairs law real deep short = rw (none_at_zero depth_of_pair pairs (λ p. some_depth p.value) deep) ((rows_read messages.KeyValueList zero (members_rows []) refl (many_fits messages.KeyValueList zero 1 [] refl tt, tt) (omega arith)).fine, refl)
+pairs_return zero pairs law real deep short = rw (none_at_zero depth_of_pair pairs (λ p. some_depth p.value) deep)
+    ((rows_read messages.KeyValueList zero (members_rows []) refl (many_fits messages.KeyValueList zero 1 [] refl tt, tt) (omega arith)).fine, refl)
 pairs_return (suc l) pairs law real deep short =
     repeated_returns messages.KeyValueList (suc l) messages.KeyValue l (pair_at l) canon_pair pairs refl (λ part fine. fine)
     (all_map (λ p. ValueReturns p.value × ((is_real_pair p ≡ true) × (depth_of_pair p ≤ suc l))) (Returns messages.KeyValue l (pair_at l) canon_pair)

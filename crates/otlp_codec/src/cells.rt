@@ -79,7 +79,23 @@ pub(crate) fn take_text(alloc: Global, to: &mut Text, value: &Wire<'_>) -> Resul
     ensures fine { IfOk result (λ _. FineValue kinds.Text value_levels (value_of value.now)) }
     ensures fault { IfErr result (RefusesValue kinds.Text value_levels (value_of value.now)) }
 {
-    *to = text_of(alloc, value)?;
+    set_text(alloc, to, value)
+}
+
+/// Makes the text the string that the value is.
+#[inline]
+pub(crate) fn set_text(alloc: Global, to: &mut Text, value: &Wire<'_>) -> Result<(), ReadRefusal>
+    ensures ok { OnOk result (value_of value.now ≡ wire.Bytes to.new) }
+    ensures fine { OnOk result (IsUtf8 to.new) }
+    ensures fault { IfErr result (RefusesValue kinds.Text value_levels (value_of value.now)) }
+{
+    let Wire::Bytes(part) = value else {
+        return Err(ReadRefusal::BadMessage);
+    };
+    let Ok(part) = str::from_utf8(part) else {
+        return Err(ReadRefusal::BadUtf8);
+    };
+    to.set(alloc, part)?;
     Ok(())
 }
 

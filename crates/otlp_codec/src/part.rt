@@ -16,7 +16,7 @@ ghost use Rattle.otlp_codec.specs.Refusals.{Refuses, RefusesValue};
 ghost use Rattle.otlp_codec.specs.Groups.{value_in, pair_in};
 
 use crate::refusal::ReadRefusal;
-use crate::values::{read_pair, read_value};
+use crate::values::{empty_pair, fill_pair, fill_value};
 use otlp_messages::{MARKS, Message, Of, row_of};
 use otlp_model::{Items, MAX_DEPTH, Pair, Value};
 use otlp_wire::{Field, Fields, Wire};
@@ -69,11 +69,22 @@ pub(crate) trait Item: Part {
 }
 
 /// Reads a message, in one pass over its bytes.
+#[inline]
 pub(crate) fn read_part<P: Part + Drop>(alloc: Global, bytes: &[u8]) -> Result<P, ReadRefusal>
     ensures value { IfOk result (λ part. IsFine P.named value_levels bytes.now × (part ≡ P.reads bytes.now)) }
     ensures fault { IfErr result (Refuses P.named value_levels bytes.now) }
 {
     let mut part = P::empty(alloc);
+    fill(alloc, &mut part, bytes)?;
+    Ok(part)
+}
+
+/// Reads a message into one that is empty.
+fn fill<P: Part>(alloc: Global, part: &mut P, bytes: &[u8]) -> Result<(), ReadRefusal>
+    requires { part.old ≡ P.none }
+    ensures value { OnOk result (IsFine P.named value_levels bytes.now × (part.new ≡ P.reads bytes.now)) }
+    ensures fault { IfErr result (Refuses P.named value_levels bytes.now) }
+{
     let mut seen = [false; MARKS];
     'fields: for next in Fields::new(bytes) {
         let Ok(field) = next else {
@@ -86,7 +97,7 @@ pub(crate) fn read_part<P: Part + Drop>(alloc: Global, bytes: &[u8]) -> Result<P
         seen[mark] = mark != 0;
         part.take(alloc, &field)?;
     }
-    Ok(part)
+    Ok(())
 }
 
 /// Reads one message more of those that may occur any number of times.
@@ -103,7 +114,8 @@ pub(crate) fn take_more<P: Part + Drop>(
     let Wire::Bytes(bytes) = value else {
         return Err(ReadRefusal::BadMessage);
     };
-    let part = read_part(alloc, bytes)?;
+    let mut part = P::empty(alloc);
+    fill(alloc, &mut part, bytes)?;
     to.push(part)?;
     Ok(())
 }
@@ -139,7 +151,8 @@ pub(crate) fn take_pairs(
     if to.is_empty() {
         to.reserve(FIRST_PAIRS)?;
     }
-    let pair = read_pair(alloc, LEVELS, bytes)?;
+    let mut pair = empty_pair(alloc);
+    fill_pair(alloc, LEVELS, &mut pair, bytes)?;
     to.push(pair)?;
     Ok(())
 }
@@ -154,6 +167,6 @@ pub(crate) fn take_value(alloc: Global, to: &mut Value, value: &Wire<'_>) -> Res
     let Wire::Bytes(bytes) = value else {
         return Err(ReadRefusal::BadMessage);
     };
-    *to = read_value(alloc, LEVELS, bytes)?;
-    Ok(())
+    *to = Value::Empty;
+    fill_value(alloc, LEVELS, to, bytes)
 }

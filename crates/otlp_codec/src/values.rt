@@ -4,26 +4,32 @@ ghost use Rattle.std.specs.Prelude.{◌≡◌, OnOk, IfErr, IfOk};
 ghost use Rattle.otlp_wire.specs.Wire.{value_of, entry};
 ghost use Rattle.otlp_messages.specs.declared.messages.Message.TheVariants as messages;
 ghost use Rattle.otlp_messages.specs.Table.{kind_of};
+ghost use Rattle.otlp_model.specs.declared.value.Value.TheVariants as values;
 ghost use Rattle.otlp_messages.specs.Defects.{IsFine};
 ghost use Rattle.otlp_messages.specs.Fine.{FineValue};
 ghost use Rattle.otlp_codec.specs.Refusals.{Refuses, RefusesValue};
 ghost use Rattle.otlp_codec.specs.Values.{any_in, value_at, pair_at, array_at, map_at};
-ghost use Rattle.otlp_codec.specs.Steps.{array_step, map_step, pair_step};
+ghost use Rattle.otlp_codec.specs.Steps.{array_step, map_step, no_pair, pair_step};
 
-use crate::cells::text_of;
+use crate::cells::{set_text, text_of};
 use crate::refusal::ReadRefusal;
 use otlp_messages::{MARKS, Message, row_of};
 use otlp_model::{Items, Octets, Pair, Text, Value};
 use otlp_wire::{Field, Fields, Wire};
 use std::alloc::Global;
 
-/// Reads an `AnyValue`, below whose members `levels` levels of members may stand.
+/// Reads an `AnyValue` into an empty one. Below its members `levels` levels of members may stand.
 #[cycle(value)]
-pub(crate) fn read_value(alloc: Global, levels: u8, bytes: &[u8]) -> Result<Value, ReadRefusal>
-    ensures value { IfOk result (λ value. IsFine messages.AnyValue levels bytes.now × (value ≡ value_at levels bytes.now)) }
+pub(crate) fn fill_value(
+    alloc: Global,
+    levels: u8,
+    value: &mut Value,
+    bytes: &[u8],
+) -> Result<(), ReadRefusal>
+    requires { value.old ≡ values.Empty }
+    ensures value { OnOk result (IsFine messages.AnyValue levels bytes.now × (value.new ≡ value_at levels bytes.now)) }
     ensures fault { IfErr result (Refuses messages.AnyValue levels bytes.now) }
 {
-    let mut value = Value::Empty;
     let mut seen = [false; MARKS];
     'fields: for next in Fields::new(bytes) {
         let Ok(field) = next else {
@@ -34,9 +40,9 @@ pub(crate) fn read_value(alloc: Global, levels: u8, bytes: &[u8]) -> Result<Valu
             return Err(ReadRefusal::Repeated);
         }
         seen[mark] = mark != 0;
-        take_member(alloc, levels, &mut value, &field)?;
+        take_member(alloc, levels, value, &field)?;
     }
-    Ok(value)
+    Ok(())
 }
 
 /// Reads an `ArrayValue`.
@@ -83,16 +89,18 @@ fn read_map(alloc: Global, levels: u8, bytes: &[u8]) -> Result<Items<Pair>, Read
     Ok(pairs)
 }
 
-/// Reads a `KeyValue`.
+/// Reads a `KeyValue` into an empty one.
 #[cycle(value)]
-pub(crate) fn read_pair(alloc: Global, levels: u8, bytes: &[u8]) -> Result<Pair, ReadRefusal>
-    ensures value { IfOk result (λ pair. IsFine messages.KeyValue levels bytes.now × (pair ≡ pair_at levels bytes.now)) }
+pub(crate) fn fill_pair(
+    alloc: Global,
+    levels: u8,
+    pair: &mut Pair,
+    bytes: &[u8],
+) -> Result<(), ReadRefusal>
+    requires { pair.old ≡ no_pair }
+    ensures value { OnOk result (IsFine messages.KeyValue levels bytes.now × (pair.new ≡ pair_at levels bytes.now)) }
     ensures fault { IfErr result (Refuses messages.KeyValue levels bytes.now) }
 {
-    let mut pair = Pair {
-        key: Text::new(alloc),
-        value: Value::Empty,
-    };
     let mut seen = [false; MARKS];
     'fields: for next in Fields::new(bytes) {
         let Ok(field) = next else {
@@ -103,9 +111,20 @@ pub(crate) fn read_pair(alloc: Global, levels: u8, bytes: &[u8]) -> Result<Pair,
             return Err(ReadRefusal::Repeated);
         }
         seen[mark] = mark != 0;
-        take_pair(alloc, levels, &mut pair, &field)?;
+        take_pair(alloc, levels, pair, &field)?;
     }
-    Ok(pair)
+    Ok(())
+}
+
+/// A pair of which nothing is read.
+#[inline]
+pub(crate) fn empty_pair(alloc: Global) -> Pair
+    ensures { result ≡ no_pair }
+{
+    Pair {
+        key: Text::new(alloc),
+        value: Value::Empty,
+    }
 }
 
 /// Reads a member of the oneof of `AnyValue`.
@@ -151,7 +170,8 @@ fn take_array(
     match (field.number, &field.value) {
         (1, Wire::Bytes(_)) if levels == 0 => Err(ReadRefusal::TooDeep),
         (1, Wire::Bytes(part)) => {
-            let value = read_value(alloc, levels - 1, part)?;
+            let mut value = Value::Empty;
+            fill_value(alloc, levels - 1, &mut value, part)?;
             values.push(value)?;
             Ok(())
         }
@@ -176,7 +196,8 @@ fn take_map(
     match (field.number, &field.value) {
         (1, Wire::Bytes(_)) if levels == 0 => Err(ReadRefusal::TooDeep),
         (1, Wire::Bytes(part)) => {
-            let pair = read_pair(alloc, levels - 1, part)?;
+            let mut pair = empty_pair(alloc);
+            fill_pair(alloc, levels - 1, &mut pair, part)?;
             pairs.push(pair)?;
             Ok(())
         }
@@ -200,12 +221,12 @@ fn take_pair(
 {
     match (field.number, &field.value) {
         (1, value) => {
-            pair.key = text_of(alloc, value)?;
+            set_text(alloc, &mut pair.key, value)?;
             Ok(())
         }
         (2, Wire::Bytes(part)) => {
-            pair.value = read_value(alloc, levels, part)?;
-            Ok(())
+            pair.value = Value::Empty;
+            fill_value(alloc, levels, &mut pair.value, part)
         }
         (2, _) => Err(ReadRefusal::BadMessage),
         _ => Ok(()),

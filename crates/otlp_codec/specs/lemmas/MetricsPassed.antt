@@ -1,4 +1,4 @@
--- What one pass over the fields of a message of metrics gives is what it says.
+-- What one pass over the fields of a message of metrics gives is what it says. Here, since an impl cites it, which can cite specs alone.
 use Rattle.std.proofs.Common.{◌≡◌, ℕ, List, [], refl}
 use Rattle.std.specs.Prelude.{fold}
 use Rattle.otlp_wire.specs.Fields.{fields_of}
@@ -8,7 +8,8 @@ use Rattle.otlp_codec.specs.Groups.{pair_in}
 use Rattle.otlp_codec.specs.Numbers.{number_step}
 use Rattle.otlp_codec.specs.Points.{exemplar_in, point_in, hist_point_in, quantile_in, sum_point_in}
 use Rattle.otlp_codec.specs.Metrics.{gauge_in, sum_in, histogram_in, summary_in, shape_step, metric_in}
-use Rattle.otlp_codec.specs.MetricSteps.{no_exemplar, exemplar_step, no_point, point_step, no_hist_point, hist_point_step, no_quantile, quantile_step, no_sum_point, sum_point_step, gauge_step, no_sum, sum_step, no_histogram, histogram_step, summary_step, no_metric, metric_step}
+use Rattle.otlp_codec.specs.MetricSteps.{no_exemplar, exemplar_step, no_point, point_step, no_hist_point, hist_point_step, no_quantile, quantile_step, no_sum_point}
+use Rattle.otlp_codec.specs.MetricSteps.{sum_point_step, gauge_step, no_sum, sum_step, no_histogram, histogram_step, summary_step, no_metric, metric_step}
 use Rattle.otlp_codec.specs.lemmas.Passed.{goes_by}
 
 pub exemplar_passes : (bytes : List ℕ) → fold exemplar_step no_exemplar (fields_of bytes) ≡ exemplar_in bytes

@@ -1,4 +1,4 @@
--- What one pass over the fields gives is what the message says.
+-- What one pass over the fields gives is what the message says. Here, since an impl cites it, which can cite specs alone.
 use Rattle.std.proofs.Common.{◌≡◌, ℕ, List, [], ◌∷◌, Bool, true, false, refl, sym, ap, ◌∙◌}
 use Rattle.std.specs.Prelude.{fold, ◌==◌, if◌then◌else◌, Option, None}
 use Rattle.otlp_wire.specs.declared.parts.WireError.{WireError}
@@ -10,7 +10,8 @@ use Rattle.otlp_messages.specs.Rows.{only, said, at, fixed64_in, fixed32_in, uin
 use Rattle.otlp_messages.proofs.Parts.{part_of}
 use Rattle.otlp_codec.specs.Groups.{value_in, pair_in, resource_in, scope_in, scope_group_in, resource_group_in, groups_in}
 use Rattle.otlp_codec.specs.Logs.{log_record_in}
-use Rattle.otlp_codec.specs.Steps.{no_resource, resource_step, no_scope, scope_step, scope_part_in, scope_url_in, no_scope_group, scope_group_step, resource_part_in, resource_url_in, no_resource_group, resource_group_step, no_log_record, log_record_step, request_step}
+use Rattle.otlp_codec.specs.Steps.{no_resource, resource_step, no_scope, scope_step, scope_part_in, scope_url_in, no_scope_group, scope_group_step}
+use Rattle.otlp_codec.specs.Steps.{resource_part_in, resource_url_in, no_resource_group, resource_group_step, no_log_record, log_record_step, request_step}
 
 -- a part that changes by itself, whatever else changes
 pub goes_by : {R A : Type 0} (step : R → Entry → R) (get : R → A) (by : A → Entry → A) → ((r : R) (f : Entry) → get (step r f) ≡ by (get r) f)

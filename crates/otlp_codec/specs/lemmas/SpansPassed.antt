@@ -1,4 +1,4 @@
--- What one pass over the fields of a span, an event, a link or a status gives is what it says.
+-- What one pass over the fields of a span, an event, a link or a status gives is what it says. Here, since an impl cites it, which can cite specs alone.
 use Rattle.std.proofs.Common.{◌≡◌, ℕ, List, refl}
 use Rattle.std.specs.Prelude.{fold}
 use Rattle.otlp_wire.specs.Fields.{fields_of}

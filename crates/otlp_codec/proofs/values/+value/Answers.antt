@@ -12,44 +12,44 @@ use Rattle.otlp_codec.proofs.Passing.{names_map, passes_none, passes_more, passe
 use Rattle.otlp_codec.proofs.Folded.{value_is, array_is, map_is, pair_is}
 use Rattle.otlp_codec.proofs.values.+value.Goals as goal
 
--- read_value
-pub read_value-fields-init : goal.read_value-fields-init
-read_value-fields-init t c = rw (c.into_iter-next-iterator.ensures.into_iter_gives, c.new-next-items.ensures) (passes_none _ _ _ _ _ _ refl (none_seen 32))
+-- fill_value
+pub fill_value-fields-init : goal.fill_value-fields-init
+fill_value-fields-init t c = rw (c.into_iter-next-iterator.ensures.into_iter_gives, c.new-next-items.ensures, c.requires) (passes_none _ _ _ _ _ _ refl (none_seen 32))
 
-pub read_value-returns-in_default-clause-fault : goal.read_value-returns-in_default-clause-fault
-read_value-returns-in_default-clause-fault t c =
+pub fill_value-returns-in_default-clause-fault : goal.fill_value-returns-in_default-clause-fault
+fill_value-returns-in_default-clause-fault t c =
     let last = rw c.in_default.is at c.in-Some.ensures.steps in
     wire_error _ _ _ _ (c.fields.invariant.checked.end ∙ last.1)
 
-pub read_value-returns-then-seen-mark-clause-fault : goal.read_value-returns-then-seen-mark-clause-fault
-read_value-returns-then-seen-mark-clause-fault t c =
+pub fill_value-returns-then-seen-mark-clause-fault : goal.fill_value-returns-then-seen-mark-clause-fault
+fill_value-returns-then-seen-mark-clause-fault t c =
     let first = rw c.in-Ok.is at c.in-Some.ensures.steps in
     let mark : c.row_of-mark.result.mark ≡ mark_of messages.AnyValue c.in-Ok.field.number = ap (λ (r : Row). r.mark) c.row_of-mark.ensures.row in
     twice_stands _ _ _ _ _ _ (entry c.in-Ok.field) c.fields.invariant.checked first.0
     (subst (λ (k : ℕ). slice_index_or c.fields.seen k false ≡ true) mark c.if-seen-mark.true)
 
-pub read_value-take_member-requires : goal.read_value-take_member-requires
-read_value-take_member-requires t c =
+pub fill_value-take_member-requires : goal.fill_value-take_member-requires
+fill_value-take_member-requires t c =
     let first = rw c.in-Ok.is at c.in-Some.ensures.steps in
     let occurs = first_occurs _ _ _ _ _ _ (entry c.in-Ok.field) c.fields.invariant.checked first.0 in
     let short : part_len (value_of c.in-Ok.field.value) < length c.args.bytes.now = value_is_shorter _ (entry c.in-Ok.field) occurs in
     (omega (arith, c.decreases), tt)
 
-pub read_value-fields-preserved : goal.read_value-fields-preserved
-read_value-fields-preserved t c =
+pub fill_value-fields-preserved : goal.fill_value-fields-preserved
+fill_value-fields-preserved t c =
     let first = rw c.in-Ok.is at c.in-Some.ensures.steps in
     let mark : c.row_of-mark.result.mark ≡ mark_of messages.AnyValue c.in-Ok.field.number = ap (λ (r : Row). r.mark) c.row_of-mark.ensures.row in
     passes_more _ _ _ _ _ _ _ _ _ _ (entry c.in-Ok.field) c.row_of-mark.result.mark c.fields.invariant first mark
     c.row_of-mark.ensures.few c.if-seen-mark.false c.in_ok-take_member.ensures.ok c.in_ok-take_member.ensures.fine
 
-pub read_value-returns-in_err-take_member-clause-fault : goal.read_value-returns-in_err-take_member-clause-fault
-read_value-returns-in_err-take_member-clause-fault t c =
+pub fill_value-returns-in_err-take_member-clause-fault : goal.fill_value-returns-in_err-take_member-clause-fault
+fill_value-returns-in_err-take_member-clause-fault t c =
     let first = rw c.in-Ok.is at c.in-Some.ensures.steps in
     let p = err_from_is_err_and c.from_residual.result c.from_residual.ensures.1 in
     rw (p.1, p.2) (refused_value _ _ _ _ _ _ _ _ _ (entry c.in-Ok.field) _ c.fields.invariant first c.in_err-take_member.ensures.fault)
 
-pub read_value-returns-clause-value : goal.read_value-returns-clause-value
-read_value-returns-clause-value t c =
+pub fill_value-returns-clause-value : goal.fill_value-returns-clause-value
+fill_value-returns-clause-value t c =
     let ends = c.in-None.ensures.steps in
     let all = passes_all _ _ _ _ _ _ _ _ c.fields.invariant (ends.0, ends.1) in
     (all.0, all.1 ∙ value_is c.args.levels c.args.bytes.now)
@@ -138,56 +138,56 @@ read_map-returns-clause-value t c =
     let all = passes_all _ _ _ _ _ _ _ _ c.fields.invariant (ends.0, ends.1) in
     (all.0, all.1 ∙ map_is c.args.levels c.args.bytes.now)
 
--- read_pair
-pub read_pair-fields-init : goal.read_pair-fields-init
-read_pair-fields-init t c = rw (c.into_iter-next-iterator.ensures.into_iter_gives, c.new-next-items.ensures, c.new.ensures) (passes_none _ _ _ _ _ _ refl (none_seen 32))
+-- fill_pair
+pub fill_pair-fields-init : goal.fill_pair-fields-init
+fill_pair-fields-init t c = rw (c.into_iter-next-iterator.ensures.into_iter_gives, c.new-next-items.ensures, c.requires) (passes_none _ _ _ _ _ _ refl (none_seen 32))
 
-pub read_pair-returns-in_default-clause-fault : goal.read_pair-returns-in_default-clause-fault
-read_pair-returns-in_default-clause-fault t c =
+pub fill_pair-returns-in_default-clause-fault : goal.fill_pair-returns-in_default-clause-fault
+fill_pair-returns-in_default-clause-fault t c =
     let last = rw c.in_default.is at c.in-Some.ensures.steps in
     wire_error _ _ _ _ (c.fields.invariant.checked.end ∙ last.1)
 
-pub read_pair-returns-then-seen-mark-clause-fault : goal.read_pair-returns-then-seen-mark-clause-fault
-read_pair-returns-then-seen-mark-clause-fault t c =
+pub fill_pair-returns-then-seen-mark-clause-fault : goal.fill_pair-returns-then-seen-mark-clause-fault
+fill_pair-returns-then-seen-mark-clause-fault t c =
     let first = rw c.in-Ok.is at c.in-Some.ensures.steps in
     let mark : c.row_of-mark.result.mark ≡ mark_of messages.KeyValue c.in-Ok.field.number = ap (λ (r : Row). r.mark) c.row_of-mark.ensures.row in
     twice_stands _ _ _ _ _ _ (entry c.in-Ok.field) c.fields.invariant.checked first.0
     (subst (λ (k : ℕ). slice_index_or c.fields.seen k false ≡ true) mark c.if-seen-mark.true)
 
-pub read_pair-take_pair-requires : goal.read_pair-take_pair-requires
-read_pair-take_pair-requires t c =
+pub fill_pair-take_pair-requires : goal.fill_pair-take_pair-requires
+fill_pair-take_pair-requires t c =
     let first = rw c.in-Ok.is at c.in-Some.ensures.steps in
     let occurs = first_occurs _ _ _ _ _ _ (entry c.in-Ok.field) c.fields.invariant.checked first.0 in
     let short : part_len (value_of c.in-Ok.field.value) < length c.args.bytes.now = value_is_shorter _ (entry c.in-Ok.field) occurs in
     (omega (arith, c.decreases), tt)
 
-pub read_pair-fields-preserved : goal.read_pair-fields-preserved
-read_pair-fields-preserved t c =
+pub fill_pair-fields-preserved : goal.fill_pair-fields-preserved
+fill_pair-fields-preserved t c =
     let first = rw c.in-Ok.is at c.in-Some.ensures.steps in
     let mark : c.row_of-mark.result.mark ≡ mark_of messages.KeyValue c.in-Ok.field.number = ap (λ (r : Row). r.mark) c.row_of-mark.ensures.row in
     passes_more _ _ _ _ _ _ _ _ _ _ (entry c.in-Ok.field) c.row_of-mark.result.mark c.fields.invariant first mark
     c.row_of-mark.ensures.few c.if-seen-mark.false c.in_ok-take_pair.ensures.ok c.in_ok-take_pair.ensures.fine
 
-pub read_pair-returns-in_err-take_pair-clause-fault : goal.read_pair-returns-in_err-take_pair-clause-fault
-read_pair-returns-in_err-take_pair-clause-fault t c =
+pub fill_pair-returns-in_err-take_pair-clause-fault : goal.fill_pair-returns-in_err-take_pair-clause-fault
+fill_pair-returns-in_err-take_pair-clause-fault t c =
     let first = rw c.in-Ok.is at c.in-Some.ensures.steps in
     let p = err_from_is_err_and c.from_residual.result c.from_residual.ensures.1 in
     rw (p.1, p.2) (refused_value _ _ _ _ _ _ _ _ _ (entry c.in-Ok.field) _ c.fields.invariant first c.in_err-take_pair.ensures.fault)
 
-pub read_pair-returns-clause-value : goal.read_pair-returns-clause-value
-read_pair-returns-clause-value t c =
+pub fill_pair-returns-clause-value : goal.fill_pair-returns-clause-value
+fill_pair-returns-clause-value t c =
     let ends = c.in-None.ensures.steps in
     let all = passes_all _ _ _ _ _ _ _ _ c.fields.invariant (ends.0, ends.1) in
     (all.0, all.1 ∙ pair_is c.args.levels c.args.bytes.now)
 
-pub take_array-returns-in_err-value-in-1-Bytes-2-clause-fault : goal.take_array-returns-in_err-value-in-1-Bytes-2-clause-fault
-take_array-returns-in_err-value-in-1-Bytes-2-clause-fault t c =
+pub take_array-returns-in_err-fill_value-in-1-Bytes-2-clause-fault : goal.take_array-returns-in_err-fill_value-in-1-Bytes-2-clause-fault
+take_array-returns-in_err-fill_value-in-1-Bytes-2-clause-fault t c =
     let p = err_from_is_err_and c.from_residual.result c.from_residual.ensures.1 in
     rw (p.1, p.2, c.in-1-Bytes.is-0, c.in-1-Bytes-2.is-1)
-    (names_map _ _ _ (λ e h. member_stands _ _ _ e c.if-levels-eq0.false h) c.in_err-value-in-1-Bytes-2.ensures.fault)
+    (names_map _ _ _ (λ e h. member_stands _ _ _ e c.if-levels-eq0.false h) c.in_err-fill_value-in-1-Bytes-2.ensures.fault)
 
-pub take_map-returns-in_err-pair-in-1-Bytes-2-clause-fault : goal.take_map-returns-in_err-pair-in-1-Bytes-2-clause-fault
-take_map-returns-in_err-pair-in-1-Bytes-2-clause-fault t c =
+pub take_map-returns-in_err-fill_pair-in-1-Bytes-2-clause-fault : goal.take_map-returns-in_err-fill_pair-in-1-Bytes-2-clause-fault
+take_map-returns-in_err-fill_pair-in-1-Bytes-2-clause-fault t c =
     let p = err_from_is_err_and c.from_residual.result c.from_residual.ensures.1 in
     rw (p.1, p.2, c.in-1-Bytes.is-0, c.in-1-Bytes-2.is-1)
-    (names_map _ _ _ (λ e h. member_stands _ _ _ e c.if-levels-eq0.false h) c.in_err-pair-in-1-Bytes-2.ensures.fault)
+    (names_map _ _ _ (λ e h. member_stands _ _ _ e c.if-levels-eq0.false h) c.in_err-fill_pair-in-1-Bytes-2.ensures.fault)

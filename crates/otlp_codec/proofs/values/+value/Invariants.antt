@@ -8,14 +8,14 @@ use Rattle.otlp_codec.specs.Values.{any_in, array_at, map_at}
 use Rattle.otlp_codec.specs.Steps.{no_pair, pair_step, array_step, map_step}
 use Rattle.otlp_codec.proofs.values.+value.Given as goal
 
-abbrev pub decreases-read_value : goal.decreases-read_value
-decreases-read_value l = 6 * length l.bytes.now + 1
+abbrev pub decreases-fill_value : goal.decreases-fill_value
+decreases-fill_value l = 6 * length l.bytes.now + 1
 
 abbrev pub decreases-take_member : goal.decreases-take_member
 decreases-take_member l = 6 * part_len (value_of l.field.now.value) + 4
 
-abbrev pub invariant-read_value-fields : goal.invariant-read_value-fields
-invariant-read_value-fields l = Passes messages.AnyValue l.levels (any_in (array_at l.levels) (map_at l.levels)) Empty l.bytes l.seen l.next-iterator l.value
+abbrev pub invariant-fill_value-fields : goal.invariant-fill_value-fields
+invariant-fill_value-fields l = Passes messages.AnyValue l.levels (any_in (array_at l.levels) (map_at l.levels)) Empty l.bytes l.seen l.next-iterator l.value
 
 abbrev pub decreases-read_array : goal.decreases-read_array
 decreases-read_array l = 6 * length l.bytes.now + 1
@@ -35,11 +35,11 @@ decreases-take_map l = 6 * part_len (value_of l.field.now.value) + 4
 abbrev pub invariant-read_map-fields : goal.invariant-read_map-fields
 invariant-read_map-fields l = Passes messages.KeyValueList l.levels (map_step l.levels) [] l.bytes l.seen l.next-iterator l.pairs
 
-abbrev pub decreases-read_pair : goal.decreases-read_pair
-decreases-read_pair l = 6 * length l.bytes.now + 1
+abbrev pub decreases-fill_pair : goal.decreases-fill_pair
+decreases-fill_pair l = 6 * length l.bytes.now + 1
 
 abbrev pub decreases-take_pair : goal.decreases-take_pair
 decreases-take_pair l = 6 * part_len (value_of l.field.now.value) + 4
 
-abbrev pub invariant-read_pair-fields : goal.invariant-read_pair-fields
-invariant-read_pair-fields l = Passes messages.KeyValue l.levels (pair_step l.levels) no_pair l.bytes l.seen l.next-iterator l.pair
+abbrev pub invariant-fill_pair-fields : goal.invariant-fill_pair-fields
+invariant-fill_pair-fields l = Passes messages.KeyValue l.levels (pair_step l.levels) no_pair l.bytes l.seen l.next-iterator l.pair
