@@ -15,7 +15,8 @@ use Rattle.cbor_values.specs.declared.heads.Head.TheVariants as heads
 use Rattle.cbor_values.specs.Floats.{of_half, of_single}
 use Rattle.cbor_values.specs.Heads.{IsHead}
 use Rattle.cbor_values.specs.Strings.{IsAny, Chunks, no_chunk, one_chunk, IsString, whole, chunked}
-use Rattle.cbor_values.specs.Cbor.{Cbor, Members, Pairs, is_null, is_false, is_true, is_whole, is_negative, is_half, is_single, is_double, is_bytes, is_text, is_array, is_open_array, is_map, is_open_map, no_member, one_member, no_pair, one_pair}
+use Rattle.cbor_values.specs.Cbor.{Cbor, Members, Pairs, is_null, is_false, is_true, is_whole, is_negative, is_half, is_single, is_double}
+use Rattle.cbor_values.specs.Cbor.{is_bytes, is_text, is_array, is_open_array, is_map, is_open_map, no_member, one_member, no_pair, one_pair}
 use Rattle.cbor_values.specs.Reading.{Reading, kind_of, head_at, open_at, joined, letters_at, octets_chunk_at, text_chunk_at, octets_at, text_at, key_at, pair_at, body_at, item_at}
 use Rattle.cbor_values.proofs.Rows.{Row, no_more, one_more, Starts, many_again, open_again}
 use Rattle.cbor_values.proofs.Front.{part_again, head_again, open_head, float_again, head_of_break, head_of_nothing}

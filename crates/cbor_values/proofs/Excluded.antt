@@ -1,5 +1,6 @@
 -- Where a refusal stands nothing is read.
-use Rattle.std.proofs.Common.{◌≡◌, ℕ, zero, suc, ◌+◌, ◌-◌, ◌*◌, ◌/◌, ◌%◌, ◌^◌, ◌<◌, ◌≤◌, Bool, true, false, cond, eqb, ltb, List, [], ◌∷◌, ◌++◌, length, Option, Some, None, Ok, Err, refl, sym, ap, subst, ◌∙◌, arith, inl, inr}
+use Rattle.std.proofs.Common.{◌≡◌, ℕ, zero, suc, ◌+◌, ◌-◌, ◌*◌, ◌/◌, ◌%◌, ◌^◌, ◌<◌, ◌≤◌, Bool, true, false, cond, eqb, ltb}
+use Rattle.std.proofs.Common.{List, [], ◌∷◌, ◌++◌, length, Option, Some, None, Ok, Err, refl, sym, ap, subst, ◌∙◌, arith, inl, inr}
 use Rattle.std.specs.Prelude.{pos, negsuc}
 use Rattle.std.specs.Str.{IsUtf8, is_utf8}
 use Rattle.std.proofs.lemmas.Bool.{ltb-true, le-ltb, lt-ltb, eqb-true, ne_eqb, cases_Bool, cases_eq, false_from_ne_true}
@@ -18,8 +19,10 @@ use Rattle.cbor_values.specs.Strings.{IsAny, Chunks}
 use Rattle.cbor_values.specs.Cbor.{Cbor}
 use Rattle.cbor_values.specs.Items.{IsItem, AreItems, ArePairs}
 use Rattle.cbor_values.specs.Refusals as places
-use Rattle.cbor_values.specs.Refusals.{Place, may_break, begins, IsCutHead, IsCutString, IsBadHead, IsBadKey, IsBadText, IsOutOfRange, IsTooDeep, Faults, IsOtherChunk, ChunkFaults, GoesOn, definite, indefinite, Within, at_front, in_bytes, in_text, in_array, in_key, in_value, IsTrailing, Stands}
-use Rattle.cbor_values.specs.Reading.{◌>>=◌, Reading, part_at, argument_at, kind_of, head_at, break_at, many_at, until_at, open_at, joined, letters_at, octets_of_head, letters_of_head, octets_chunk_at, text_chunk_at, octets_at, text_at, key_of_head, key_at, pair_at, whole_of, body_at, item_at}
+use Rattle.cbor_values.specs.Refusals.{Place, may_break, begins, IsCutHead, IsCutString, IsBadHead, IsBadKey, IsBadText, IsOutOfRange, IsTooDeep, Faults, IsOtherChunk, ChunkFaults}
+use Rattle.cbor_values.specs.Refusals.{GoesOn, definite, indefinite, Within, at_front, in_bytes, in_text, in_array, in_key, in_value, IsTrailing, Stands}
+use Rattle.cbor_values.specs.Reading.{◌>>=◌, Reading, part_at, argument_at, kind_of, head_at, break_at, many_at, until_at, open_at, joined, letters_at}
+use Rattle.cbor_values.specs.Reading.{octets_of_head, letters_of_head, octets_chunk_at, text_chunk_at, octets_at, text_at, key_of_head, key_at, pair_at, whole_of, body_at, item_at}
 use Rattle.cbor_values.proofs.Steps.{bind_ok, ok_is, got}
 use Rattle.cbor_values.proofs.Front.{part_again, head_again, open_head, head_of_break}
 use Rattle.cbor_values.proofs.Again.{item_again}

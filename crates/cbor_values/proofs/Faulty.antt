@@ -32,7 +32,18 @@ begins_reserved major info high other = elim (cases_Bool (ltb major 2)) [
   | inr f ↦ elim (cases_Bool (ltb major 6)) [
     | inl t ↦ rw (f, t, le-ltb info 28 high, ne_eqb info 31 other) refl
     | inr g ↦ elim (cases_Bool (eqb major 7)) [
-      | inl t ↦ rw (f, g, t, ne_eqb info 20 (λ e. omega arith), ne_eqb info 21 (λ e. omega arith), ne_eqb info 22 (λ e. omega arith), ne_eqb info 25 (λ e. omega arith), ne_eqb info 26 (λ e. omega arith), ne_eqb info 27 (λ e. omega arith)) refl
+      | inl t ↦ rw (
+        f,
+        g,
+        t,
+        ne_eqb info 20 (λ e. omega arith),
+        ne_eqb info 21 (λ e. omega arith),
+        ne_eqb info 22 (λ e. omega arith),
+        ne_eqb info 25 (λ e. omega arith),
+        ne_eqb info 26
+            (λ e. omega arith),
+        ne_eqb info 27 (λ e. omega arith),
+      ) refl
       | inr k ↦ rw (f, g, k) refl
     ]
   ]
@@ -173,7 +184,8 @@ head_fails (first ∷ bytes) e fits fails =
                       | inr there ↦
                           let t = argument_takes (first % 32) bytes there.0.0 there.0.1 (IsBytes-tail first bytes fits) there.1 in
                           elim (bind_err (kind_of (first / 32) there.0.0) (λ head. got head there.0.1) e there.2) [
-                            | inl bad ↦ inr (kind_fails first t.front there.0.0 e (eqb-false first 244 f0) (eqb-false first 245 f1) (eqb-false first 246 f2) (eqb-false first 249 f3) (eqb-false first 250 f4) (eqb-false first 251 f5) t.is bad)
+                            | inl bad ↦ inr (kind_fails first t.front there.0.0 e (eqb-false first 244 f0) (eqb-false first 245 f1) (eqb-false first 246 f2) (eqb-false first 249 f3)
+                                (eqb-false first 250 f4) (eqb-false first 251 f5) t.is bad)
                             | inr never ↦ absurd (let clash = never.2 in cc)
                           ]
                     ]

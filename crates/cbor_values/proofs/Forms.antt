@@ -5,7 +5,8 @@ use Rattle.byteorder.specs.Endian.{big_bytes}
 use Rattle.otlp_model.specs.declared.value.Value.{Value}
 use Rattle.otlp_model.specs.declared.value.Pair.{Pair}
 use Rattle.cbor_values.specs.Strings.{IsAny, Chunks, no_chunk, one_chunk, IsString, whole, chunked}
-use Rattle.cbor_values.specs.Cbor.{Cbor, Members, Pairs, is_null, is_false, is_true, is_whole, is_negative, is_half, is_single, is_double, is_bytes, is_text, is_array, is_open_array, is_map, is_open_map, no_member, one_member, no_pair, one_pair}
+use Rattle.cbor_values.specs.Cbor.{Cbor, Members, Pairs, is_null, is_false, is_true, is_whole, is_negative, is_half, is_single, is_double}
+use Rattle.cbor_values.specs.Cbor.{is_bytes, is_text, is_array, is_open_array, is_map, is_open_map, no_member, one_member, no_pair, one_pair}
 use Rattle.cbor_values.specs.Items as items
 use Rattle.cbor_values.specs.Items.{IsItem, AreItems, ArePairs}
 use Rattle.cbor_values.proofs.Rows.{Row, no_more, one_more}
@@ -60,4 +61,5 @@ row_pair_items d _ _ no_more = items.no_pair
 row_pair_items d _ _ (one_more bytes others pair pairs shallow row) =
     let same : shallow.key_bytes ++ (shallow.value_bytes ++ others) ≡ bytes ++ others = sym (append_assoc shallow.key_bytes shallow.value_bytes others) ∙ ap (λ (t : List ℕ). t ++ others) (sym shallow.is) in
     subst (λ (t : List ℕ). ArePairs (suc (length pairs)) t) same
-    (items.one_pair (length pairs) shallow.key_bytes shallow.value_bytes others (text_item shallow.key_bytes pair.key shallow.is_key) (cbor_item shallow.value_bytes pair.value shallow.is_value) (row_pair_items d others pairs row))
+    (items.one_pair (length pairs) shallow.key_bytes shallow.value_bytes others (text_item shallow.key_bytes pair.key shallow.is_key) (cbor_item shallow.value_bytes pair.value shallow.is_value)
+    (row_pair_items d others pairs row))

@@ -24,7 +24,15 @@ head_by_argument : (first : ℕ) (rest : List ℕ) → first < 224
     → head_at (first ∷ rest) ≡ (argument_at (first % 32) rest >>= λ argument. kind_of (first / 32) argument.0 >>= λ head. Ok (head, argument.1))
 unfolding head_at
 head_by_argument first rest small =
-    rw (ne_eqb first 244 (λ e. omega arith), ne_eqb first 245 (λ e. omega arith), ne_eqb first 246 (λ e. omega arith), ne_eqb first 249 (λ e. omega arith), ne_eqb first 250 (λ e. omega arith), ne_eqb first 251 (λ e. omega arith)) refl
+    rw (
+      ne_eqb first 244 (λ e. omega arith),
+      ne_eqb first 245 (λ e. omega arith),
+      ne_eqb first 246 (λ e. omega arith),
+      ne_eqb first 249 (λ e. omega arith),
+      ne_eqb first 250
+          (λ e. omega arith),
+      ne_eqb first 251 (λ e. omega arith),
+    ) refl
 
 argument_short : (n : ℕ) (rest : List ℕ) → n < 24 → argument_at n rest ≡ Ok (Some n, rest)
 unfolding argument_at

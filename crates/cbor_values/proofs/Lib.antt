@@ -15,7 +15,10 @@ pub mod Refused
 pub mod Whole
 pub mod Extents
 pub mod Excluded
+pub mod WrittenBytes
 pub mod WrittenForm
 pub mod WrittenLaws
+pub mod Telling
+pub mod TellingValues
 pub mod Told
 pub mod SameNumber

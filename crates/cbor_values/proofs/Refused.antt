@@ -14,7 +14,8 @@ use Rattle.cbor_values.specs.Heads.{IsHead}
 use Rattle.cbor_values.specs.Strings.{IsAny}
 use Rattle.cbor_values.specs.Items.{ArePairs}
 use Rattle.cbor_values.specs.Refusals as places
-use Rattle.cbor_values.specs.Refusals.{Place, may_break, IsOutOfRange, IsBadKey, Faults, ChunkFaults, GoesOn, definite, indefinite, Within, at_front, in_bytes, in_text, in_array, in_key, in_value, IsTrailing, Stands, Refuses}
+use Rattle.cbor_values.specs.Refusals.{Place, may_break, IsOutOfRange, IsBadKey, Faults, ChunkFaults, GoesOn, definite, indefinite, Within}
+use Rattle.cbor_values.specs.Refusals.{at_front, in_bytes, in_text, in_array, in_key, in_value, IsTrailing, Stands, Refuses}
 use Rattle.cbor_values.specs.Reading.{◌>>=◌, head_at, many_at, open_at, joined, octets_chunk_at, text_chunk_at, octets_at, text_at, key_of_head, key_at, pair_at, whole_of, body_at, item_at, whole_item, all_at}
 use Rattle.cbor_values.proofs.Steps.{bind_err, err_is, failed, got}
 use Rattle.cbor_values.proofs.Bytes.{IsBytes}
@@ -24,7 +25,8 @@ use Rattle.cbor_values.proofs.Takes.{IsFront, IsSized, head_takes, row_chunks, k
 use Rattle.cbor_values.proofs.ItemTakes.{octets_reader, text_reader, item_reader, pair_reader, item_takes}
 use Rattle.cbor_values.proofs.Forms.{any_chunks, text_item, cbor_item, row_items, row_pair_items}
 use Rattle.cbor_values.proofs.Stops.{many_stops, open_stops}
-use Rattle.cbor_values.proofs.Faulty.{Closed, closed_never, closed_unbroken, head_fails, head_faults, part_fails, letters_fail, cut_string, bad_text, octets_chunk_fails, text_chunk_fails, major_of, TellsMajor, front_major}
+use Rattle.cbor_values.proofs.Faulty.{Closed, closed_never, closed_unbroken, head_fails, head_faults, part_fails, letters_fail}
+use Rattle.cbor_values.proofs.Faulty.{cut_string, bad_text, octets_chunk_fails, text_chunk_fails, major_of, TellsMajor, front_major}
 
 -- a fault under its name
 fault : (place : Place) (inside : ℕ) (bytes : List ℕ) (d e : CborRefusal) → d ≡ e → Faults d place inside bytes

@@ -1,5 +1,6 @@
 -- What is read is spelled by the bytes that it took.
-use Rattle.std.proofs.Common.{◌≡◌, ℕ, zero, suc, ◌+◌, ◌*◌, ◌/◌, ◌%◌, ◌^◌, ◌<◌, ◌≤◌, true, false, cond, eqb, ltb, List, [], ◌∷◌, ◌++◌, length, take, drop, Option, Some, None, Ok, Err, refl, sym, ap, subst, ◌∙◌, append_assoc, arith, inl, inr}
+use Rattle.std.proofs.Common.{◌≡◌, ℕ, zero, suc, ◌+◌, ◌*◌, ◌/◌, ◌%◌, ◌^◌, ◌<◌, ◌≤◌, true, false, cond, eqb, ltb, List, [], ◌∷◌}
+use Rattle.std.proofs.Common.{◌++◌, length, take, drop, Option, Some, None, Ok, Err, refl, sym, ap, subst, ◌∙◌, append_assoc, arith, inl, inr}
 use Rattle.std.specs.Str.{IsUtf8, is_utf8}
 use Rattle.std.proofs.lemmas.Bool.{ltb-false, ltb-true, eqb-true, cases_Bool}
 use Rattle.std.proofs.lemmas.List.{take-append-drop, length-take}
@@ -13,7 +14,8 @@ use Rattle.cbor_values.specs.declared.heads.Head.TheVariants as heads
 use Rattle.cbor_values.specs.Floats.{of_half, of_single}
 use Rattle.cbor_values.specs.Heads.{IsHead, short, long, argument_len}
 use Rattle.cbor_values.specs.Strings.{IsAny, Chunks, no_chunk, one_chunk, IsString, whole, chunked}
-use Rattle.cbor_values.specs.Reading.{◌>>=◌, Reading, part_at, argument_at, number_of, kind_of, float_at, head_at, break_at, many_at, until_at, open_at, joined, letters_at, octets_of_head, letters_of_head, octets_chunk_at, text_chunk_at, octets_at, text_at, key_of_head, key_at, pair_at, item_at}
+use Rattle.cbor_values.specs.Reading.{◌>>=◌, Reading, part_at, argument_at, number_of, kind_of, float_at, head_at, break_at, many_at, until_at, open_at}
+use Rattle.cbor_values.specs.Reading.{joined, letters_at, octets_of_head, letters_of_head, octets_chunk_at, text_chunk_at, octets_at, text_at, key_of_head, key_at, pair_at, item_at}
 use Rattle.cbor_values.proofs.Steps.{bind_ok, ok_is, got, got_is}
 use Rattle.cbor_values.proofs.Bytes.{IsBytes, IsBytes-drop, IsBytes-take, IsBytes-tail, number_back, number_fits}
 use Rattle.cbor_values.proofs.Rows.{Row, no_more, one_more}

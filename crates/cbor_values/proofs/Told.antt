@@ -15,7 +15,7 @@ use Rattle.cbor_values.proofs.Whole.{value_again, value_takes, refusal_stands}
 use Rattle.cbor_values.proofs.Excluded.{never_both}
 use Rattle.cbor_values.proofs.WrittenLaws.{written_is}
 
-are_bytes : (bytes : List ℕ) → All (λ byte. byte < 256) bytes → IsBytes bytes
+pub are_bytes : (bytes : List ℕ) → All (λ byte. byte < 256) bytes → IsBytes bytes
 are_bytes bytes all i = elim (cases_lt i (length bytes)) [
   | inl inside ↦ all i 0 inside
   | inr past ↦ rw (get_or_past bytes i 0 past) (omega arith)
@@ -25,7 +25,7 @@ pub value_told : (bytes : List ℕ) (v : Value) → All (λ byte. byte < 256) by
     → value_of bytes ≡ Some v ↔ (Cbor bytes v × (depth_of v ≤ 32))
 value_told bytes v all = (λ e. value_takes bytes v (are_bytes bytes all) e, λ cbor. value_again bytes v cbor.0 cbor.1)
 
-no_value : (bytes : List ℕ) → IsBytes bytes → (refusal : CborRefusal) → Stands refusal bytes
+pub no_value : (bytes : List ℕ) → IsBytes bytes → (refusal : CborRefusal) → Stands refusal bytes
     → (found : Option Value) → value_of bytes ≡ found → found ≡ None
 no_value bytes fits refusal stands None is = refl
 no_value bytes fits refusal stands (Some v) is =

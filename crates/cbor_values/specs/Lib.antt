@@ -7,3 +7,4 @@ pub mod Refusals
 pub mod Written
 pub mod Reading
 pub mod Values
+pub mod Weighing

@@ -37,5 +37,6 @@ pub fn same_number()
 pub fn written_form()
     ensures stands { (v : Value) → IsTrue (is_real_value v) → Cbor (cbor_of v) v }
     ensures again { (v : Value) → IsTrue (is_real_value v) → depth_of v ≤ depth_limit → value_of (cbor_of v) ≡ Some v }
+    ensures bytes { (v : Value) → IsTrue (is_real_value v) → All (λ byte. byte < 256) (cbor_of v) }
     ensures short { (v : Value) → length (cbor_of v) ≤ weight_of_value v + 9 }
 {}

@@ -1,6 +1,7 @@
 //! Byte strings and texts, whole or in chunks (RFC 8949, section 3.2.3).
 
 ghost use Rattle.std.specs.Prelude.{◌≡◌, ◌++◌, OnOk};
+ghost use Rattle.cbor_values.specs.Weighing.{Exactly};
 ghost use Rattle.cbor_values.specs.Reading.{Reads, chunks_at, letters_at, octets_chunk_at, text_chunk_at, octets_at, text_at, key_at};
 
 use crate::heads::{Head, after_break, part, read_head};
@@ -42,8 +43,9 @@ fn chunked_octets(alloc: Global, bytes: &[u8]) -> Result<(Octets, &[u8]), CborRe
 }
 
 #[tactic(auto, unfolding(crate::specs::Reading::octets_chunk_at))]
-fn octets_chunk(bytes: &[u8]) -> Result<(&[u8], &[u8]), CborRefusal>
-    ensures { Reads (λ x. (x.0.now, x.1.now)) result (octets_chunk_at bytes.now) }
+pub(crate) fn octets_chunk(bytes: &[u8]) -> Result<(&[u8], &[u8]), CborRefusal>
+    ensures reads { Reads (λ x. (x.0.now, x.1.now)) result (octets_chunk_at bytes.now) }
+    ensures exact { Exactly (λ x. (x.0.now, x.1.now)) result (octets_chunk_at bytes.now) }
 {
     let (head, rest) = read_head(bytes)?;
     match head {
@@ -107,8 +109,9 @@ fn chunked_text(alloc: Global, bytes: &[u8]) -> Result<(Text, &[u8]), CborRefusa
 }
 
 #[tactic(auto, unfolding(crate::specs::Reading::text_chunk_at))]
-fn text_chunk(bytes: &[u8]) -> Result<(&str, &[u8]), CborRefusal>
-    ensures { Reads (λ x. (x.0.now, x.1.now)) result (text_chunk_at bytes.now) }
+pub(crate) fn text_chunk(bytes: &[u8]) -> Result<(&str, &[u8]), CborRefusal>
+    ensures reads { Reads (λ x. (x.0.now, x.1.now)) result (text_chunk_at bytes.now) }
+    ensures exact { Exactly (λ x. (x.0.now, x.1.now)) result (text_chunk_at bytes.now) }
 {
     let (head, rest) = read_head(bytes)?;
     match head {
@@ -128,8 +131,9 @@ fn append_letters(text: &mut Text, letters: &str) -> Result<(), AllocError>
 
 /// The first `len` bytes, which are to be UTF-8, and the bytes after them.
 #[tactic(auto, unfolding(crate::specs::Reading::letters_at))]
-fn letters(len: u64, bytes: &[u8]) -> Result<(&str, &[u8]), CborRefusal>
-    ensures { Reads (λ x. (x.0.now, x.1.now)) result (letters_at len bytes.now) }
+pub(crate) fn letters(len: u64, bytes: &[u8]) -> Result<(&str, &[u8]), CborRefusal>
+    ensures reads { Reads (λ x. (x.0.now, x.1.now)) result (letters_at len bytes.now) }
+    ensures exact { Exactly (λ x. (x.0.now, x.1.now)) result (letters_at len bytes.now) }
 {
     let (part, rest) = part(len, bytes)?;
     match str::from_utf8(part) {

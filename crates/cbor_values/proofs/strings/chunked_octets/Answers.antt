@@ -14,14 +14,16 @@ returns-in-Some c =
 pub returns-in_err-part : goal.returns-in_err-part
 returns-in_err-part c =
     let p = err_from_is_err_and c.from_residual.result c.from_residual.ensures.1 in
-    rw (p.1, p.2) (chunks_end octets_chunk_at octets_start c.in_err-part.field-0.0 c.parts.octets c.parts.rest.now (chunks_at octets_chunk_at c.args.bytes.now) (sym c.in_default.ensures) c.in_err-part.ensures c.parts.invariant.told)
+    rw (p.1, p.2) (chunks_end octets_chunk_at octets_start c.in_err-part.field-0.0 c.parts.octets c.parts.rest.now (chunks_at octets_chunk_at c.args.bytes.now)
+    (sym c.in_default.ensures) c.in_err-part.ensures.reads c.parts.invariant.told)
 
 pub parts-smaller : goal.parts-smaller
 parts-smaller c =
-    (shorter (IsChunk 2 IsAny) octets_chunk_at octets_reader c.parts.rest.now c.in_ok-part.part.now c.in_ok-part.after.now c.parts.invariant.fits c.in_ok-part.ensures).0
+    (shorter (IsChunk 2 IsAny) octets_chunk_at octets_reader c.parts.rest.now c.in_ok-part.part.now c.in_ok-part.after.now c.parts.invariant.fits c.in_ok-part.ensures.reads).0
 
 pub parts-preserved : goal.parts-preserved
 parts-preserved c = record {
-  told = rw c.in_ok-append_octets.ensures (chunks_go_on (IsChunk 2 IsAny) octets_chunk_at octets_reader c.parts.octets c.parts.rest.now c.in_ok-part.part.now c.in_ok-part.after.now (chunks_at octets_chunk_at c.args.bytes.now) c.parts.invariant.fits (sym c.in_default.ensures) c.in_ok-part.ensures c.parts.invariant.told);
-  fits = (shorter (IsChunk 2 IsAny) octets_chunk_at octets_reader c.parts.rest.now c.in_ok-part.part.now c.in_ok-part.after.now c.parts.invariant.fits c.in_ok-part.ensures).1;
+  told = rw c.in_ok-append_octets.ensures (chunks_go_on (IsChunk 2 IsAny) octets_chunk_at octets_reader c.parts.octets c.parts.rest.now c.in_ok-part.part.now c.in_ok-part.after.now
+      (chunks_at octets_chunk_at c.args.bytes.now) c.parts.invariant.fits (sym c.in_default.ensures) c.in_ok-part.ensures.reads c.parts.invariant.told);
+  fits = (shorter (IsChunk 2 IsAny) octets_chunk_at octets_reader c.parts.rest.now c.in_ok-part.part.now c.in_ok-part.after.now c.parts.invariant.fits c.in_ok-part.ensures.reads).1;
 }
