@@ -91,7 +91,8 @@ pushes-byte count bit old packed whole =
     pushes count bit old (old ++ byte_of bit ∷ []) packed (omega (arith, length_push old (byte_of bit))) (bit_at-push count bit old at whole)
 
 -- a bit set in the last byte
-bit_at-set : (count : ℕ) (old : List ℕ) (last : ℕ) → last < length old → last ≡ count / 8 → (k : ℕ) → bit_at (set old last (bit_or (get_or old last 0) (1 * 2 ^ (count % 8) % 256))) k ≡ (if k == count then true else bit_at old k)
+bit_at-set : (count : ℕ) (old : List ℕ) (last : ℕ) → last < length old → last ≡ count / 8 → (k : ℕ)
+    → bit_at (set old last (bit_or (get_or old last 0) (1 * 2 ^ (count % 8) % 256))) k ≡ (if k == count then true else bit_at old k)
 bit_at-set count old last within at k =
     let byte = bit_or (get_or old last 0) (1 * 2 ^ (count % 8) % 256) in
     let new = set old last byte in
@@ -101,12 +102,14 @@ bit_at-set count old last within at k =
           let now = bit_at-in new k byte (ap (λ j. get_or new j 0) here ∙ get_or-set_same old last byte 0 within) in
           elim (cases_eq (k % 8) (count % 8)) [
             | inl this ↦ at_new k count true (bit_at old k) (bit_at new k) (omega arith) (now ∙ ap (bit_in byte) this ∙ set-same (get_or old last 0) (count % 8) place)
-            | inr other ↦ at_old k count true (bit_at old k) (bit_at new k) (λ e. other (omega arith)) (now ∙ set-other (get_or old last 0) (count % 8) (k % 8) place other ∙ sym (bit_at-in old k (get_or old last 0) (ap (λ j. get_or old j 0) here)))
+            | inr other ↦ at_old k count true (bit_at old k) (bit_at new k) (λ e. other (omega arith))
+                (now ∙ set-other (get_or old last 0) (count % 8) (k % 8) place other ∙ sym (bit_at-in old k (get_or old last 0) (ap (λ j. get_or old j 0) here)))
           ]
       | inr away ↦ at_old k count true (bit_at old k) (bit_at new k) (λ e. away (omega arith)) (bit_at-same new old k (get_or-set_other old last (k / 8) byte 0 away))
     ]
 
-pub pushes-set : (count : ℕ) (old : List ℕ) (last byte : ℕ) → IsPacked count old → (count % 8 ≡ 0 → ⊥) → last + 1 ≡ length old → byte ≡ get_or old last 0 → PushesBit count true old (set old last (bit_or byte (1 * 2 ^ (count % 8) % 256)))
+pub pushes-set : (count : ℕ) (old : List ℕ) (last byte : ℕ) → IsPacked count old → (count % 8 ≡ 0 → ⊥) → last + 1 ≡ length old → byte ≡ get_or old last 0
+    → PushesBit count true old (set old last (bit_or byte (1 * 2 ^ (count % 8) % 256)))
 pushes-set count old last byte packed part len is =
     let bytes = packed.len in
     let new = set old last (bit_or (get_or old last 0) (1 * 2 ^ (count % 8) % 256)) in

@@ -1,5 +1,6 @@
 -- The cells of a column by the views of its buffers.
-use Rattle.std.proofs.Common.{◌≡◌, ℕ, zero, suc, ◌+◌, ◌*◌, ◌<◌, ◌≤◌, ◌==◌, ◌&&◌, if◌then◌else◌, Bool, true, false, List, [], ◌∷◌, length, slice_get, Option, Some, None, Ok, Err, IsOk, option_map, refl, sym, ap, ◌∙◌, inl, inr, arith}
+use Rattle.std.proofs.Common.{◌≡◌, ℕ, zero, suc, ◌+◌, ◌*◌, ◌<◌, ◌≤◌, ◌==◌, ◌&&◌, if◌then◌else◌, Bool, true, false, List, [], ◌∷◌}
+use Rattle.std.proofs.Common.{length, slice_get, Option, Some, None, Ok, Err, IsOk, option_map, refl, sym, ap, ◌∙◌, inl, inr, arith}
 use Rattle.std.specs.List.{list_all, range_with_len}
 use Rattle.std.proofs.lemmas.Bool.{lt-ltb, cases_lt, cond-false, ne_eqb, false≢true}
 use Rattle.std.proofs.Math.Bool.{and-true}
@@ -24,17 +25,21 @@ where-some : (valid : Bool) (value : List ℕ) → cell_where (Some valid) (Some
 where-some true value = refl
 where-some false value = refl
 
-pub fixed-cell : (width : ℕ) (validity offsets values : List ℕ) (rows row : ℕ) → row < rows → cell_where (flag_of (record { bytes = validity; rows = rows }) row) (part_of (record { bytes = values; width = width; rows = rows }) row) ≡ cell_at (Fixed width) validity offsets values row
+pub fixed-cell : (width : ℕ) (validity offsets values : List ℕ) (rows row : ℕ) → row < rows
+    → cell_where (flag_of (record { bytes = validity; rows = rows }) row) (part_of (record { bytes = values; width = width; rows = rows }) row) ≡ cell_at (Fixed width) validity offsets values row
 unfolding flag_of part_of
 fixed-cell width validity offsets values rows row below =
     rw (lt-ltb row rows below) (where-some (is_valid validity row) (value_at (Fixed width) offsets values row))
 
-pub var-cell : (validity offsets values : List ℕ) (rows row : ℕ) → row < rows → cell_where (flag_of (record { bytes = validity; rows = rows }) row) (span_of (record { offsets = offsets; values = values; rows = rows }) row) ≡ cell_at Var validity offsets values row
+pub var-cell : (validity offsets values : List ℕ) (rows row : ℕ) → row < rows → cell_where (flag_of (record { bytes = validity; rows = rows }) row)
+    (span_of (record { offsets = offsets; values = values; rows = rows }) row) ≡ cell_at Var validity offsets values row
 unfolding flag_of span_of
 var-cell validity offsets values rows row below =
     rw (lt-ltb row rows below) (where-some (is_valid validity row) (value_at Var offsets values row))
 
-pub list-cell : (element : ℕ) (validity offsets values : List ℕ) (rows row : ℕ) → row < rows → cell_where (flag_of (record { bytes = validity; rows = rows }) row) (elements_of (record { offsets = offsets; values = values; width = element; rows = rows }) row) ≡ cell_at (width.List element) validity offsets values row
+pub list-cell : (element : ℕ) (validity offsets values : List ℕ) (rows row : ℕ) → row < rows
+    → cell_where (flag_of (record { bytes = validity; rows = rows }) row) (elements_of (record { offsets = offsets; values = values; width = element; rows = rows }) row)
+    ≡ cell_at (width.List element) validity offsets values row
 unfolding flag_of elements_of
 list-cell element validity offsets values rows row below =
     rw (lt-ltb row rows below) (where-some (is_valid validity row) (value_at (width.List element) offsets values row))
@@ -48,7 +53,8 @@ room-from bytes rows ok =
       | inr room ↦ room
     ]
 
-pub bit-cell : (validity offsets values : List ℕ) (rows row : ℕ) → row < rows → IsOk (bits_of values rows) → cell_where (flag_of (record { bytes = validity; rows = rows }) row) (option_map bit_byte (flag_of (record { bytes = values; rows = rows }) row)) ≡ cell_at Bit validity offsets values row
+pub bit-cell : (validity offsets values : List ℕ) (rows row : ℕ) → row < rows → IsOk (bits_of values rows)
+    → cell_where (flag_of (record { bytes = validity; rows = rows }) row) (option_map bit_byte (flag_of (record { bytes = values; rows = rows }) row)) ≡ cell_at Bit validity offsets values row
 unfolding flag_of
 bit-cell validity offsets values rows row below ok =
     let room = room-from values rows ok in
@@ -61,9 +67,11 @@ all_below-list test zero = refl
 all_below-list test (suc n) =
     let next : n + 1 ≡ suc n = omega arith in
     let front = range_with_len 0 n in
-    ap (λ b. b && test n) (all_below-list test n) ∙ ap (λ b. list_all test front && b) (sym (and-true (test n))) ∙ sym (list_all-append test front (n ∷ [])) ∙ ap (list_all test) (sym (range-more n)) ∙ ap (λ m. list_all test (range_with_len 0 m)) next
+    ap (λ b. b && test n) (all_below-list test n) ∙ ap (λ b. list_all test front && b) (sym (and-true (test n))) ∙ sym (list_all-append test front (n ∷ [])) ∙ ap (list_all test) (sym (range-more n))
+    ∙ ap (λ m. list_all test (range_with_len 0 m)) next
 
-pub texts-law : (validity offsets values : List ℕ) (rows : ℕ) → utf8_check (record { offsets = offsets; values = values; rows = rows }) (record { bytes = validity; rows = rows }) ≡ (if list_all is_text (cells_of Var validity offsets values rows) then Ok tt else Err BadUtf8)
+pub texts-law : (validity offsets values : List ℕ) (rows : ℕ) → utf8_check (record { offsets = offsets; values = values; rows = rows }) (record { bytes = validity; rows = rows })
+    ≡ (if list_all is_text (cells_of Var validity offsets values rows) then Ok tt else Err BadUtf8)
 unfolding utf8_check cells_of
 texts-law validity offsets values rows =
     let cell : ℕ → Option (List ℕ) = cell_at Var validity offsets values in

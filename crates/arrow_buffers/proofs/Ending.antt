@@ -63,7 +63,8 @@ valid-from true value none = refl
 valid-from false value none = absurd (omega arith)
 
 -- without nulls the bitmap may be left out
-pub reads-needed : (width : Width) (rows nulls : ℕ) (bitmap offsets values : List ℕ) → IsBuilt width rows nulls bitmap offsets values → cells_of width (if nulls == 0 then [] else bitmap) (ended_offsets width offsets values) values rows ≡ cells_so_far width bitmap offsets values rows
+pub reads-needed : (width : Width) (rows nulls : ℕ) (bitmap offsets values : List ℕ) → IsBuilt width rows nulls bitmap offsets values
+    → cells_of width (if nulls == 0 then [] else bitmap) (ended_offsets width offsets values) values rows ≡ cells_so_far width bitmap offsets values rows
 unfolding cells_of
 reads-needed width rows nulls bitmap offsets values built =
     let ended = ended_offsets width offsets values in
@@ -86,7 +87,8 @@ reads-needed width rows nulls bitmap offsets values built =
       | inr some ↦ rw (cond-false (nulls == 0) [] bitmap (ne_eqb nulls 0 some)) refl
     ]
 
-pub bitmap-needed : (width : Width) (rows nulls : ℕ) (bitmap offsets values : List ℕ) → IsBuilt width rows nulls bitmap offsets values → validity_of (if nulls == 0 then [] else bitmap) rows (pos nulls) ≡ Ok (record { bytes = if nulls == 0 then [] else bitmap; rows = rows })
+pub bitmap-needed : (width : Width) (rows nulls : ℕ) (bitmap offsets values : List ℕ) → IsBuilt width rows nulls bitmap offsets values
+    → validity_of (if nulls == 0 then [] else bitmap) rows (pos nulls) ≡ Ok (record { bytes = if nulls == 0 then [] else bitmap; rows = rows })
 unfolding validity_of bits_of
 bitmap-needed width rows nulls bitmap offsets values built =
     let le = nulls-le width rows nulls bitmap offsets values built in

@@ -1,6 +1,7 @@
 -- The faults of offsets by their conditions.
 use Rattle.std.proofs.Common.{◌≡◌, ℕ, zero, suc, ◌+◌, ◌-◌, ◌*◌, ◌^◌, ◌<◌, ◌≤◌, ◌==◌, ◌&&◌, ◌⊎◌, ◌↔◌, nat_lt, nat_le, if◌then◌else◌, true, false, List, length, Ok, Err, IsOk, refl, ◌∙◌, inl, inr, arith}
-use Rattle.std.proofs.lemmas.Bool.{and_parts, and_from, and_cases, and_left, and_right, cases_Bool, cases_lt, cases_eq, eqb-true, eq-eqb, ne_eqb, lt-ltb, le-ltb, lt-leb, ltb-false, leb-false, false_from_ne_true, cond-true, cond-false}
+use Rattle.std.proofs.lemmas.Bool.{and_parts, and_from, and_cases, and_left, and_right, cases_Bool, cases_lt, cases_eq, eqb-true, eq-eqb}
+use Rattle.std.proofs.lemmas.Bool.{ne_eqb, lt-ltb, le-ltb, lt-leb, ltb-false, leb-false, false_from_ne_true, cond-true, cond-false}
 use Rattle.std.proofs.Math.Nat.{mul-le-mul_right}
 use Rattle.arrow_buffers.specs.declared.fault.BufferFault.TheVariants.{Short, BadOffsets}
 use Rattle.arrow_buffers.specs.Below.{all_below}
@@ -24,7 +25,8 @@ unfolding offsets_check
 check-short width offsets values rows some short =
     rw (some-rows offsets rows some, lt-ltb (length offsets) (4 * (rows + 1)) short) refl
 
-check-each : (width : ℕ) (offsets values : List ℕ) (rows : ℕ) → (AreNone offsets rows → ⊥) → 4 * (rows + 1) ≤ length offsets → offsets_check width offsets values rows ≡ (if all_below (is_fine_at width offsets values) (rows + 1) then Ok tt else Err BadOffsets)
+check-each : (width : ℕ) (offsets values : List ℕ) (rows : ℕ) → (AreNone offsets rows → ⊥) → 4 * (rows + 1) ≤ length offsets
+    → offsets_check width offsets values rows ≡ (if all_below (is_fine_at width offsets values) (rows + 1) then Ok tt else Err BadOffsets)
 unfolding offsets_check
 check-each width offsets values rows some enough =
     rw (some-rows offsets rows some, le-ltb (length offsets) (4 * (rows + 1)) enough) refl
@@ -117,7 +119,8 @@ short-law width offsets values rows = (
   λ h. check-short width offsets values rows h.0 h.1,
 )
 
-pub bad-law : (width : ℕ) (offsets values : List ℕ) (rows : ℕ) → (offsets_check width offsets values rows ≡ Err BadOffsets) ↔ ((AreNone offsets rows → ⊥) × (4 * (rows + 1) ≤ length offsets) × ((place : ℕ) × (place ≤ rows) × IsBad width offsets values place))
+pub bad-law : (width : ℕ) (offsets values : List ℕ) (rows : ℕ) → (offsets_check width offsets values rows ≡ Err BadOffsets)
+    ↔ ((AreNone offsets rows → ⊥) × (4 * (rows + 1) ≤ length offsets) × ((place : ℕ) × (place ≤ rows) × IsBad width offsets values place))
 bad-law width offsets values rows = (
   λ is.
       let some : AreNone offsets rows → ⊥ = λ none. let ok = check-none width offsets values rows none in cc in

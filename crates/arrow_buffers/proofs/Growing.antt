@@ -26,7 +26,8 @@ unfolding cells_of
 length-cells_of width validity offsets values rows =
     length-map-range_with_len (cell_at width validity offsets values) 0 rows
 
-pub get_or-cells_of : (width : Width) (validity offsets values : List ℕ) (rows row : ℕ) (d : Option (List ℕ)) → row < rows → get_or (cells_of width validity offsets values rows) row d ≡ cell_at width validity offsets values row
+pub get_or-cells_of : (width : Width) (validity offsets values : List ℕ) (rows row : ℕ) (d : Option (List ℕ)) → row < rows
+    → get_or (cells_of width validity offsets values rows) row d ≡ cell_at width validity offsets values row
 unfolding cells_of
 get_or-cells_of width validity offsets values rows row d below =
     get_or-map-range_with_len (cell_at width validity offsets values) 0 rows row row d below (omega arith)
@@ -45,7 +46,9 @@ unfolding cell_by
 cell-there None valid value is same = rw is refl
 cell-there (Some v) valid value is same = rw (is, same v refl) refl
 
-pub cells-next : (width : Width) (rows : ℕ) (cell : Option (List ℕ)) (bitmap offsets values new_bitmap new_offsets new_values : List ℕ) → IsPacked rows bitmap → PushesBit rows (is_some cell) bitmap new_bitmap → PushesValue width rows cell offsets values new_offsets new_values → cells_so_far width new_bitmap new_offsets new_values (rows + 1) ≡ cells_so_far width bitmap offsets values rows ++ cell ∷ []
+pub cells-next : (width : Width) (rows : ℕ) (cell : Option (List ℕ)) (bitmap offsets values new_bitmap new_offsets new_values : List ℕ) → IsPacked rows bitmap
+    → PushesBit rows (is_some cell) bitmap new_bitmap → PushesValue width rows cell offsets values new_offsets new_values
+    → cells_so_far width new_bitmap new_offsets new_values (rows + 1) ≡ cells_so_far width bitmap offsets values rows ++ cell ∷ []
 unfolding cell_by cells_of
 cells-next width rows cell bitmap offsets values new_bitmap new_offsets new_values packed bit value =
     let old : ℕ → Option (List ℕ) = cell_at width bitmap (ended_offsets width offsets values) values in
@@ -59,7 +62,9 @@ cells-next width rows cell bitmap offsets values new_bitmap new_offsets new_valu
     is_valid-bit (rows + 1) rows new_bitmap bit.packed (omega arith) ∙ bit.bits rows ∙ cond-true (rows == rows) (is_some cell) (bit_at bitmap rows) (eq-eqb rows rows refl) in
     one-more new old rows cell before (cell-there cell (is_valid new_bitmap rows) (value_at width (ended_offsets width new_offsets new_values) new_values rows) is value.there)
 
-pub built-next : (width : Width) (rows nulls : ℕ) (cell : Option (List ℕ)) (bitmap offsets values new_bitmap new_offsets new_values : List ℕ) → rows + 1 < 2 ^ 63 → IsBuilt width rows nulls bitmap offsets values → PushesBit rows (is_some cell) bitmap new_bitmap → PushesValue width rows cell offsets values new_offsets new_values → IsBuilt width (rows + 1) (nulls + (if is_none cell then 1 else 0)) new_bitmap new_offsets new_values
+pub built-next : (width : Width) (rows nulls : ℕ) (cell : Option (List ℕ)) (bitmap offsets values new_bitmap new_offsets new_values : List ℕ) → rows + 1 < 2 ^ 63
+    → IsBuilt width rows nulls bitmap offsets values → PushesBit rows (is_some cell) bitmap new_bitmap → PushesValue width rows cell offsets values new_offsets new_values
+    → IsBuilt width (rows + 1) (nulls + (if is_none cell then 1 else 0)) new_bitmap new_offsets new_values
 built-next width rows nulls cell bitmap offsets values new_bitmap new_offsets new_values few built bit value =
     let next = cells-next width rows cell bitmap offsets values new_bitmap new_offsets new_values built.bitmap bit value in
     let cells = cells_so_far width bitmap offsets values rows in

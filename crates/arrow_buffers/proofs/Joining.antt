@@ -38,10 +38,12 @@ slices-join xs at (suc n) rising =
     let low = before.0 in
     let f : ℕ → List ℕ = λ k. slice_range xs (at k) (at (k + 1)) in (
       omega arith,
-      ap (λ m. flat_map f (range_with_len 0 m)) (sym next) ∙ joined-more f n ∙ ap (λ ys. ys ++ slice_range xs (at n) (at (n + 1))) before.1 ∙ ap (λ m. slice_range xs (at 0) (at n) ++ slice_range xs (at n) (at m)) next ∙ slices-meet xs (at 0) (at n) (at (suc n)) low step,
+      ap (λ m. flat_map f (range_with_len 0 m)) (sym next) ∙ joined-more f n ∙ ap (λ ys. ys ++ slice_range xs (at n) (at (n + 1))) before.1
+          ∙ ap (λ m. slice_range xs (at 0) (at n) ++ slice_range xs (at n) (at m)) next ∙ slices-meet xs (at 0) (at n) (at (suc n)) low step,
     )
 
-pub spans-join : (width : ℕ) (offsets values : List ℕ) (rows : ℕ) → IsOk (offsets_check width offsets values rows) → flat_map (span_at width offsets values) (range_with_len 0 rows) ≡ slice_range values (offset_at offsets 0 * width) (offset_at offsets rows * width)
+pub spans-join : (width : ℕ) (offsets values : List ℕ) (rows : ℕ) → IsOk (offsets_check width offsets values rows)
+    → flat_map (span_at width offsets values) (range_with_len 0 rows) ≡ slice_range values (offset_at offsets 0 * width) (offset_at offsets rows * width)
 spans-join width offsets values rows ok =
     let at : ℕ → ℕ = λ k. offset_at offsets k * width in
     (slices-join values at rows (λ k below.

@@ -67,7 +67,8 @@ fine-as b c o p width len more before at within fine =
     let reach = was.within in
     fine-at c p b o width more before at (record { fits = was.fits; order = was.order; within = omega arith })
 
-pub spans-next : (element rows : ℕ) (offsets values part : List ℕ) → 1 ≤ element → HasSpans element rows offsets values → length part % element ≡ 0 → length values + length part < 2 ^ 31 → IsNext element rows offsets values part
+pub spans-next : (element rows : ℕ) (offsets values part : List ℕ) → 1 ≤ element → HasSpans element rows offsets values → length part % element ≡ 0 → length values + length part < 2 ^ 31
+    → IsNext element rows offsets values part
 spans-next element rows offsets values part some has whole room =
     let old = ended element offsets values in
     let all = values ++ part in
@@ -93,7 +94,8 @@ spans-next element rows offsets values part some has whole room =
     let fine : (i : ℕ) → i < rows + 1 + 1 → is_fine_at element new all i ≡ true =
     λ i below.
     elim (cases_lt i (rows + 1)) [
-      | inl there ↦ fine-as (offset_before old i) (offset_before new i) (offset_at old i) (offset_at new i) element (length values) (length all) (ap (λ o. if i == 0 then 0 else o) (keep (i - 1) (omega arith))) (keep i (omega arith)) (omega arith) (all_below-at (is_fine_at element old values) (rows + 1) i has.fine there)
+      | inl there ↦ fine-as (offset_before old i) (offset_before new i) (offset_at old i) (offset_at new i) element (length values) (length all)
+          (ap (λ o. if i == 0 then 0 else o) (keep (i - 1) (omega arith))) (keep i (omega arith)) (omega arith) (all_below-at (is_fine_at element old values) (rows + 1) i has.fine there)
       | inr past ↦ let e : rows + 1 ≡ i = omega arith in subst (λ (j : ℕ). is_fine_at element new all j ≡ true) e last
     ] in
     let old_fine : AllFine element old values rows = record { enough = omega arith; fine = has.fine } in

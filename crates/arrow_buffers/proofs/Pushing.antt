@@ -1,5 +1,6 @@
 -- One more value, for each way to store values.
-use Rattle.std.proofs.Common.{◌≡◌, ℕ, ◌+◌, ◌*◌, ◌%◌, ◌^◌, ◌<◌, ◌≤◌, ◌==◌, if◌then◌else◌, Bool, List, [], ◌∷◌, ◌++◌, length, take, drop, slice_index, replicate, unwrap_or, Option, Some, None, refl, sym, ap, ◌∙◌, inl, inr, arith}
+use Rattle.std.proofs.Common.{◌≡◌, ℕ, ◌+◌, ◌*◌, ◌%◌, ◌^◌, ◌<◌, ◌≤◌, ◌==◌, if◌then◌else◌, Bool, List, [], ◌∷◌, ◌++◌, length}
+use Rattle.std.proofs.Common.{take, drop, slice_index, replicate, unwrap_or, Option, Some, None, refl, sym, ap, ◌∙◌, inl, inr, arith}
 use Rattle.std.specs.Option.{ForSome}
 use Rattle.std.proofs.lemmas.Bool.{cases_eq, cond-true, cond-false, eq-eqb, ne_eqb}
 use Rattle.std.proofs.lemmas.List.{drop_at, drop-append-le, take-append-le, take_all, length-drop, length-append, length-replicate, length_push}
@@ -36,7 +37,8 @@ bit-value (Some given) width =
     let same : given ≡ value = cc in
     ap (λ b. b ∷ []) (bit-byte (slice_index given 0) w.1) ∙ sym (one-byte given w.0) ∙ same
 
-pub pushes-bit : (rows : ℕ) (cell : Option (List ℕ)) (offsets values new : List ℕ) → HasValues Bit rows offsets values → ForSome cell (HasWidth Bit) → PushesBit rows (is_one cell) values new → PushesValue Bit rows cell offsets values offsets new
+pub pushes-bit : (rows : ℕ) (cell : Option (List ℕ)) (offsets values new : List ℕ) → HasValues Bit rows offsets values → ForSome cell (HasWidth Bit) → PushesBit rows (is_one cell) values new
+    → PushesValue Bit rows cell offsets values offsets new
 pushes-bit rows cell offsets values new stored width pushed =
     let byte : Bool → List ℕ = λ bit. (if bit then 1 else 0) ∷ [] in
     record {
@@ -57,7 +59,8 @@ part_at-append width rows k values more len below =
     let within : (k + 1) * width ≤ rows * width = mul-le-mul_right width (omega arith) in
     rw (drop-append-le (k * width) values more (omega arith)) (take-append-le width (drop (k * width) values) more (rw (length-drop (k * width) values) (omega arith)))
 
-pub pushes-part : (width rows : ℕ) (cell : Option (List ℕ)) (offsets values : List ℕ) → HasValues (Fixed width) rows offsets values → ForSome cell (HasWidth (Fixed width)) → PushesValue (Fixed width) rows cell offsets values offsets (values ++ unwrap_or cell (replicate width 0))
+pub pushes-part : (width rows : ℕ) (cell : Option (List ℕ)) (offsets values : List ℕ) → HasValues (Fixed width) rows offsets values → ForSome cell (HasWidth (Fixed width))
+    → PushesValue (Fixed width) rows cell offsets values offsets (values ++ unwrap_or cell (replicate width 0))
 pushes-part width rows cell offsets values stored fits =
     let part = unwrap_or cell (replicate width 0) in
     let len = part-len width cell fits in
@@ -79,7 +82,8 @@ whole-cell : (element : ℕ) (cell : Option (List ℕ)) → 1 ≤ element → Fo
 whole-cell element None some fits = zero-mod element
 whole-cell element (Some value) some fits = fits value refl
 
-pub pushes-list : (element rows : ℕ) (cell : Option (List ℕ)) (offsets values : List ℕ) → HasValues (width.List element) rows offsets values → ForSome cell (HasWidth (width.List element)) → length values + cell_len cell < 2 ^ 31 → PushesValue (width.List element) rows cell offsets values (ended element offsets values) (values ++ unwrap_or cell [])
+pub pushes-list : (element rows : ℕ) (cell : Option (List ℕ)) (offsets values : List ℕ) → HasValues (width.List element) rows offsets values → ForSome cell (HasWidth (width.List element))
+    → length values + cell_len cell < 2 ^ 31 → PushesValue (width.List element) rows cell offsets values (ended element offsets values) (values ++ unwrap_or cell [])
 pushes-list element rows cell offsets values has fits room =
     let part = unwrap_or cell [] in
     let len = span-len cell in
@@ -92,7 +96,8 @@ pushes-list element rows cell offsets values has fits room =
       grown = λ cells count was. omega (arith, sum_by_push cell_len cells cell);
     }
 
-pub pushes-span : (rows : ℕ) (cell : Option (List ℕ)) (offsets values : List ℕ) → HasValues Var rows offsets values → length values + cell_len cell < 2 ^ 31 → PushesValue Var rows cell offsets values (ended 1 offsets values) (values ++ unwrap_or cell [])
+pub pushes-span : (rows : ℕ) (cell : Option (List ℕ)) (offsets values : List ℕ) → HasValues Var rows offsets values → length values + cell_len cell < 2 ^ 31
+    → PushesValue Var rows cell offsets values (ended 1 offsets values) (values ++ unwrap_or cell [])
 pushes-span rows cell offsets values has room =
     let part = unwrap_or cell [] in
     let len = span-len cell in

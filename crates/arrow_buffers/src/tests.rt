@@ -29,6 +29,8 @@ fn reads_columns_of_the_format(rt: HostRuntime) -> Result<(), Fail> {
     assert_eq!(rt; names.get(1), Some(b"".as_slice()));
     assert_eq!(rt; names.get(3), Some(b"mark".as_slice()));
     assert_eq!(rt; names.get(4), None);
+    let names = Vars::checked(&NAME_OFFSETS, b"joemark", 4);
+    assert_eq!(rt; names.get(3), Some(b"mark".as_slice()));
 
     let valid = Bits::validity(&[0b0000_1101], 4, 1)?;
     let lists = Lists::new(&LIST_OFFSETS, &LIST_VALUES, 1, 4)?;
@@ -75,6 +77,18 @@ fn writes_columns_of_the_format(rt: HostRuntime) -> Result<(), Fail> {
     assert_eq!(rt; names.offsets.as_slice(), NAME_OFFSETS.as_slice());
     assert_eq!(rt; names.values.as_slice(), b"joemark".as_slice());
 
+    let mut flags = ColumnBuilder::new(rt.alloc(), Width::Bit);
+    flags.push(Some(&[1]))?;
+    flags.push(Some(&[0]))?;
+    flags.push(Some(&[1]))?;
+    let flags = flags.finish()?;
+    assert_eq!(rt; flags.validity.len(), 0);
+    assert_eq!(rt; flags.values.as_slice(), [0b101].as_slice());
+    Ok(())
+}
+
+#[test]
+fn writes_lists_of_the_format(rt: HostRuntime) -> Result<(), Fail> {
     let mut lists = ColumnBuilder::new(rt.alloc(), Width::List(1));
     lists.push(Some(&[12, 249, 25]))?;
     lists.push(None)?;
@@ -93,14 +107,6 @@ fn writes_columns_of_the_format(rt: HostRuntime) -> Result<(), Fail> {
         pairs.offsets.as_slice(),
         [0, 0, 0, 0, 2, 0, 0, 0].as_slice()
     );
-
-    let mut flags = ColumnBuilder::new(rt.alloc(), Width::Bit);
-    flags.push(Some(&[1]))?;
-    flags.push(Some(&[0]))?;
-    flags.push(Some(&[1]))?;
-    let flags = flags.finish()?;
-    assert_eq!(rt; flags.validity.len(), 0);
-    assert_eq!(rt; flags.values.as_slice(), [0b101].as_slice());
     Ok(())
 }
 

@@ -17,7 +17,8 @@ use Rattle.arrow_schema.specs.declared.agreement.Use.{Use}
 use Rattle.arrow_schema.specs.Types.{is_struct, is_element_type, same_type}
 use Rattle.arrow_schema.specs.Trees.{total, field_with, name_in, count_in, count_of, use_of, uses_in, uses_of, agrees, agrees_with, uses_agree, lacks_name, names_differ}
 use Rattle.arrow_schema.specs.Readable.{is_supported, fits_dictionary, is_element, fits_children, is_readable, are_readable, IsReadable}
-use Rattle.arrow_schema.specs.Branches.{Leaf, Branch, One, Under, items_of, leaf_field, branch_field, fields_of, lacks, are_apart, name_of, items_in, leaf_size, branch_size, leaf_names, branch_names, is_branch_named, FitsTypes, FitsItem, IsLeaf, AreLeaves, IsBranch, AreEach, AreBranches}
+use Rattle.arrow_schema.specs.Branches.{Leaf, Branch, One, Under, items_of, leaf_field, branch_field, fields_of, lacks, are_apart, name_of, items_in}
+use Rattle.arrow_schema.specs.Branches.{leaf_size, branch_size, leaf_names, branch_names, is_branch_named, FitsTypes, FitsItem, IsLeaf, AreLeaves, IsBranch, AreEach, AreBranches}
 use Rattle.arrow_schema.specs.Writing.{names_in, names_of, is_named, named_in, encodings_named}
 use Rattle.arrow_schema.proofs.Steps.{both_true, or_true}
 use Rattle.arrow_schema.proofs.Clear.{element_is}

@@ -301,7 +301,8 @@ no_unsupported t name kind dict children encoding tables c has say fits (defects
     no_bad_element u one.0 one.1.says_it both.0 both.1 bad
 
 -- a field that is read has no defect of its own
-pub no_own_defect : (t : TableIn) (name : List ℕ) (kind : ArrowType) (dict : Option DictSpec) (children : List FieldSpec) (encoding : Encoding) (tables : List TableIn) (e : SchemaRefusal) → IsClear t name kind dict encoding
+pub no_own_defect : (t : TableIn) (name : List ℕ) (kind : ArrowType) (dict : Option DictSpec) (children : List FieldSpec) (encoding : Encoding) (tables : List TableIn) (e : SchemaRefusal)
+    → IsClear t name kind dict encoding
     → HasTables children_slot t tables → SayFields tables children → fits_children kind children ≡ true → OwnDefect t e → ⊥
 no_own_defect t name kind dict children encoding tables e c has say fits (faulty f h) = no_field_fault t name kind dict encoding f c h
 no_own_defect t name kind dict children encoding tables e c has say fits (unsupported h) = no_unsupported t name kind dict children encoding tables c has say fits h

@@ -18,7 +18,8 @@ use Rattle.arrow_schema.specs.Slots.{name_slot, kind_slot, byte_order, fields_sl
 use Rattle.arrow_schema.specs.Trees.{count_in, count_of, uses_of, uses_agree, names_differ, field_with}
 use Rattle.arrow_schema.specs.Says.{SaysNumbers, SaysDictionary, SaysEncoding, HasElements, HasTables, SaysField, says, SayFields, SaysSchema}
 use Rattle.arrow_schema.specs.Readable.{is_supported, fits_dictionary, fits_children, is_readable, are_readable, IsReadable}
-use Rattle.arrow_schema.specs.Reading.{flat, where_supported, name_of, type_of, dictionary_of, encoding_of, Fields, in_slot, slot_of, field_of, of_element, fields_from, with_own_names, vector_of, with_agreeing_uses, schema_of}
+use Rattle.arrow_schema.specs.Reading.{flat, where_supported, name_of, type_of, dictionary_of, encoding_of, Fields, in_slot}
+use Rattle.arrow_schema.specs.Reading.{slot_of, field_of, of_element, fields_from, with_own_names, vector_of, with_agreeing_uses, schema_of}
 use Rattle.arrow_schema.proofs.Steps.{bind_ok, flat_ok, supported_ok, chosen, ok_is, pair_is}
 use Rattle.arrow_schema.proofs.Folds.{name_in_is, kind_in_is, dict_in_is, encoding_in_is, children_in_is, count_in_is}
 use Rattle.arrow_schema.proofs.Elements.{element_there}

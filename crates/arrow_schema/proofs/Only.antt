@@ -58,7 +58,17 @@ field_again depth reads left _ _ (says t f tables n k numbers d e has long each)
     let count = count_in_is f in
     let children = slot_again depth reads children_slot left t tables (children_in f) has (record { long = long; each = each }) test.children (omega (arith, count)) in
     let rest : left - count_of (children_in f) ≡ left + 1 - count_in f = omega (arith, count) in
-    rw (name_says t (name_in f) n test.text, type_says t (kind_in f) k numbers test.supported, dictionary_says t (kind_in f) (dict_in f) d test.dictionary, encoding_says t (encoding_in f) e, children, test.fits, made_again f, rest) refl
+    rw (
+      name_says t (name_in f) n test.text,
+      type_says t (kind_in f) k numbers test.supported,
+      dictionary_says t (kind_in f) (dict_in f) d test.dictionary,
+      encoding_says t
+          (encoding_in f) e,
+      children,
+      test.fits,
+      made_again f,
+      rest,
+    ) refl
 
 elements_again : (depth : ℕ) → Reads depth → (v : VectorIn) (place n left : ℕ) (tables : List TableIn) (fields : List FieldSpec) → length tables ≡ n
     → ((i : ℕ) (d : TableIn) → i < n → element_table v (place + i) ≡ Ok (Some (slice_index_or tables i d))) → SayFields tables fields

@@ -14,7 +14,9 @@ use Rattle.arrow_schema.specs.Trees.{name_in, field_with, names_differ, uses_of,
 use Rattle.arrow_schema.specs.Says.{SaysField, says}
 use Rattle.arrow_schema.specs.Readable.{fits_children}
 use Rattle.arrow_schema.specs.Reading.{flat, name_of, type_of, dictionary_of, encoding_of, Fields, in_slot, slot_of, field_of, of_element, fields_from, with_own_names, vector_of, with_agreeing_uses, schema_of}
-use Rattle.arrow_schema.specs.Defects.{IsChild, IsField, IsParent, FieldFault, VectorFault, HasFlatFault, UnsupportedElement, other_element, narrow_element, signed_element, with_dictionary, UnsupportedField, with_children, no_child, other_count, other_child, IsUnsupported, HasTooManyFields, IsTooDeep, HasBadName, HasUse, HasTwoTypes, HasDefect, of_vector_in, of_table_in, below_elements, fields_below}
+use Rattle.arrow_schema.specs.Defects.{IsChild, IsField, IsParent, FieldFault, VectorFault, HasFlatFault, UnsupportedElement, other_element, narrow_element}
+use Rattle.arrow_schema.specs.Defects.{signed_element, with_dictionary, UnsupportedField, with_children, no_child, other_count, other_child, IsUnsupported, HasTooManyFields}
+use Rattle.arrow_schema.specs.Defects.{IsTooDeep, HasBadName, HasUse, HasTwoTypes, HasDefect, of_vector_in, of_table_in, below_elements, fields_below}
 use Rattle.arrow_schema.specs.Defects as defects
 use Rattle.arrow_schema.proofs.Steps.{bind_ok, bind_err, flat_ok, flat_err, supported_ok, supported_err, chosen, ok_is}
 use Rattle.arrow_schema.proofs.FieldParts.{OwnDefect, faulty, unsupported, no_text, name_refused, type_reads, type_refused}
@@ -73,7 +75,8 @@ elements_count depth counts v place (suc n) left fields rest end h =
     from_found b.0 (λ between fs r. elements_count depth counts v (place + 1) n between fs r (omega (arith, end))) (flat_ok (element_table v place) b.0 b.1) b.2
   where
     from_found : (found : Option TableIn)
-        → ((between : ℕ) (fs : List FieldSpec) (r : ℕ) → fields_from (field_of (vector_of depth)) v (place + 1) n between ≡ Ok (fs, r) → between ≡ r + below_elements (fields_below (suc depth) children_slot) v (place + 1) n)
+        → ((between : ℕ) (fs : List FieldSpec) (r : ℕ) → fields_from (field_of (vector_of depth)) v (place + 1) n between ≡ Ok (fs, r)
+        → between ≡ r + below_elements (fields_below (suc depth) children_slot) v (place + 1) n)
         → element_table v place ≡ Ok found
         → of_element (λ t. field_of (vector_of depth) left t >>= λ f. fields_from (field_of (vector_of depth)) v (place + 1) n f.1 >>= λ fs. Ok (f.0 ∷ fs.0, fs.1)) left found ≡ Ok (fields, rest)
         → left ≡ rest + (of_table_in (fields_below (suc depth) children_slot) (element_table v place) + below_elements (fields_below (suc depth) children_slot) v (place + 1) n)

@@ -16,7 +16,8 @@ use Rattle.arrow_schema.specs.declared.spec.FieldSpec.{FieldSpec}
 use Rattle.arrow_schema.specs.Trees.{field_with, names_differ, uses_of, uses_agree}
 use Rattle.arrow_schema.specs.Readable.{fits_children}
 use Rattle.arrow_schema.specs.Types.{takes_dictionary, is_number, is_int_width, is_fixed_width}
-use Rattle.arrow_schema.specs.Slots.{name_slot, kind_slot, int_width, int_sign, precision, timestamp_unit, duration_unit, byte_width, dictionary_slot, dictionary_id, index_slot, index_width, index_sign, byte_order, fields_slot, children_slot, metadata_slot, key_slot, value_slot}
+use Rattle.arrow_schema.specs.Slots.{name_slot, kind_slot, int_width, int_sign, precision, timestamp_unit, duration_unit, byte_width, dictionary_slot, dictionary_id}
+use Rattle.arrow_schema.specs.Slots.{index_slot, index_width, index_sign, byte_order, fields_slot, children_slot, metadata_slot, key_slot, value_slot}
 use Rattle.arrow_schema.specs.Encodings.{is_encoding_key, encoding_by}
 
 -- a fault of the tables is a refusal

@@ -25,7 +25,8 @@ unfolding piece
 put_at head content old bytes pad place front whole here =
     let l : Lies (little_bytes 4 head ++ (content ++ replicate pad 0)) bytes place = record { before = front; rest = old; whole = whole; here = here } in
     let four : length (little_bytes 4 head) ≡ 4 = length-bytes_low_first 0 4 head in
-    let r : Lies (content ++ replicate pad 0) bytes (place + 4) = subst (λ (n : ℕ). Lies (content ++ replicate pad 0) bytes (place + n)) four (lies_right (little_bytes 4 head) (content ++ replicate pad 0) bytes place l) in
+    let r : Lies (content ++ replicate pad 0) bytes (place + 4) = subst (λ (n : ℕ). Lies (content ++ replicate pad 0) bytes (place + n)) four
+    (lies_right (little_bytes 4 head) (content ++ replicate pad 0) bytes place l) in
     record {
       head_lies = lies_left (little_bytes 4 head) (content ++ replicate pad 0) bytes place l;
       content_lies = lies_left content (replicate pad 0) bytes (place + 4) r;

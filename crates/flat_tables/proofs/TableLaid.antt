@@ -135,10 +135,12 @@ table_put slots from pad after few is small fits reach padded bytes at p =
     let t : TableIn = record { bytes = bytes; place = at; vtable = at + (4 + 8 * n); size = 4 + 2 * n } in
     let cells_size : length (cells from slots) ≡ 8 * n = length-numbers 8 (cell from) 0 slots in
     let cells_lie : Lies (cells from slots) bytes (at + 4) = lies_left (cells from slots) (vtable slots) bytes (at + 4) p.content_lies in
-    let vtable_lies : Lies (vtable slots) bytes (at + (4 + 8 * n)) = lies_at (vtable slots) bytes (at + 4 + length (cells from slots)) (at + (4 + 8 * n)) (omega (arith, cells_size)) (lies_right (cells from slots) (vtable slots) bytes (at + 4) p.content_lies) in
+    let vtable_lies : Lies (vtable slots) bytes (at + (4 + 8 * n)) = lies_at (vtable slots) bytes (at + 4 + length (cells from slots)) (at + (4 + 8 * n)) (omega (arith, cells_size))
+    (lies_right (cells from slots) (vtable slots) bytes (at + 4) p.content_lies) in
     let sizes = little_bytes 2 (4 + 2 * n) ++ little_bytes 2 (4 + 8 * n) in
     let four : length sizes ≡ 4 = omega (arith, length-append (little_bytes 2 (4 + 2 * n)) (little_bytes 2 (4 + 8 * n)), length-bytes_low_first 0 2 (4 + 2 * n), length-bytes_low_first 0 2 (4 + 8 * n)) in
-    let entries_lie : Lies (numbers 2 entry 0 slots) bytes (at + (4 + 8 * n) + 4) = lies_at (numbers 2 entry 0 slots) bytes (at + (4 + 8 * n) + length sizes) (at + (4 + 8 * n) + 4) (omega (arith, four)) (lies_right sizes (numbers 2 entry 0 slots) bytes (at + (4 + 8 * n)) vtable_lies) in
+    let entries_lie : Lies (numbers 2 entry 0 slots) bytes (at + (4 + 8 * n) + 4) = lies_at (numbers 2 entry 0 slots) bytes (at + (4 + 8 * n) + length sizes) (at + (4 + 8 * n) + 4) (omega (arith, four))
+    (lies_right sizes (numbers 2 entry 0 slots) bytes (at + (4 + 8 * n)) vtable_lies) in
     let end : at + 4 + from ≡ length bytes = omega (arith, p.size, is, cells_size, length-append (cells from slots) (vtable slots), length-append sizes (numbers 2 entry 0 slots), length-numbers 2 entry 0 slots, four) in
     let distance : (k : ℕ) → distance_at t k ≡ entry k (get_or slots k Absent) = λ k. distance_is slots t k refl few entries_lie in
     record {
@@ -147,7 +149,8 @@ table_put slots from pad after few is small fits reach padded bytes at p =
       read = rw (vtable_is n bytes at few p.head_lies, size_is slots bytes (at + (4 + 8 * n)) few vtable_lies) refl;
       each = λ k. elim (cases_lt k n) [
         | inl lt ↦ holds_there t k from (get_or slots k Absent) (distance k) small end (omega (arith, is)) (fits k) (reaches_at after (from - 8 * k) slots k Absent (omega (arith, is)) lt reach)
-            (lies_at _ bytes (at + 4 + 8 * k) (at + (4 + 8 * k)) (omega arith) (subst (λ (j : ℕ). Lies (little_bytes 8 (cell from j (get_or slots k Absent))) bytes (at + 4 + 8 * k)) (zero-add k) (numbers_lie 8 (cell from) 0 slots bytes (at + 4) k Absent lt cells_lie)))
+            (lies_at _ bytes (at + 4 + 8 * k) (at + (4 + 8 * k)) (omega arith) (subst (λ (j : ℕ). Lies (little_bytes 8 (cell from j (get_or slots k Absent))) bytes (at + 4 + 8 * k)) (zero-add k)
+            (numbers_lie 8 (cell from) 0 slots bytes (at + 4) k Absent lt cells_lie)))
         | inr le ↦ subst (Holds t k) (sym (get_or_past slots k Absent le)) (absent t k (past t k (omega arith)))
       ];
       aligned = λ whole.

@@ -15,5 +15,6 @@ returns-then-place-eq0 c =
 pub returns-then-bit : goal.returns-then-bit
 returns-then-bit c =
     let packed = c.requires.packed.len in
-    let set = pushes-set c.args.count c.args.bytes.now.items (c.len-last.result - 1) c.index_mut.result.now c.requires.packed (λ e. c.if-place-eq0.false e) (omega arith) (get_or_read c.args.bytes.now.items (c.len-last.result - 1) c.index_mut.result.now (omega arith) c.index_mut.ensures.value 0) in
+    let set = pushes-set c.args.count c.args.bytes.now.items (c.len-last.result - 1) c.index_mut.result.now c.requires.packed (λ e. c.if-place-eq0.false e) (omega arith)
+    (get_or_read c.args.bytes.now.items (c.len-last.result - 1) c.index_mut.result.now (omega arith) c.index_mut.ensures.value 0) in
     rw c.if-bit.true set

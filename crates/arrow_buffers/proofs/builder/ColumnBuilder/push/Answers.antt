@@ -32,12 +32,17 @@ pub invariant_of-self-2 : goal.invariant_of-self-2
 invariant_of-self-2 c =
     let inside = c.self.inside in
     let few = c.self.invariant.few in
-    let bit : PushesBit inside.rows (is_some (option_copied c.args.cell)) inside.validity.items c.push_bit.new.bytes.items = rw (c.is_some.ensures, is_some-copied c.args.cell, c.reserve.ensures.items) at c.push_bit.ensures in
-    rw (c.from.ensures, null-byte c.args.cell c.is_none.result c.is_none.ensures) (built-next inside.width inside.rows inside.nulls (option_copied c.args.cell) inside.validity.items inside.offsets.items inside.values.items c.push_bit.new.bytes.items c.push_value.new.offsets.items c.push_value.new.values.items (omega arith) c.self.invariant bit c.in_ok-push_value.ensures.ok)
+    let bit : PushesBit inside.rows (is_some (option_copied c.args.cell)) inside.validity.items c.push_bit.new.bytes.items = rw
+    (c.is_some.ensures, is_some-copied c.args.cell, c.reserve.ensures.items) at c.push_bit.ensures in
+    rw (c.from.ensures, null-byte c.args.cell c.is_none.result c.is_none.ensures) (built-next inside.width inside.rows inside.nulls
+    (option_copied c.args.cell) inside.validity.items inside.offsets.items inside.values.items c.push_bit.new.bytes.items c.push_value.new.offsets.items c.push_value.new.values.items
+    (omega arith) c.self.invariant bit c.in_ok-push_value.ensures.ok)
 
 pub returns-clause-ok : goal.returns-clause-ok
 returns-clause-ok c =
     let inside = c.self.inside in
-    let bit : PushesBit inside.rows (is_some (option_copied c.args.cell)) inside.validity.items c.push_bit.new.bytes.items = rw (c.is_some.ensures, is_some-copied c.args.cell, c.reserve.ensures.items) at c.push_bit.ensures in
-    let next = cells-next inside.width inside.rows (option_copied c.args.cell) inside.validity.items inside.offsets.items inside.values.items c.push_bit.new.bytes.items c.push_value.new.offsets.items c.push_value.new.values.items c.self.invariant.bitmap bit c.in_ok-push_value.ensures.ok in
+    let bit : PushesBit inside.rows (is_some (option_copied c.args.cell)) inside.validity.items c.push_bit.new.bytes.items = rw
+    (c.is_some.ensures, is_some-copied c.args.cell, c.reserve.ensures.items) at c.push_bit.ensures in
+    let next = cells-next inside.width inside.rows (option_copied c.args.cell) inside.validity.items inside.offsets.items inside.values.items
+    c.push_bit.new.bytes.items c.push_value.new.offsets.items c.push_value.new.values.items c.self.invariant.bitmap bit c.in_ok-push_value.ensures.ok in
     rw (← c.self.view_is) (ap (λ cells. record { width = inside.width; cells = cells }) next)
