@@ -1,5 +1,6 @@
 -- A column that stands in a batch is read back.
-use Rattle.std.proofs.Common.{◌≡◌, ◌<◌, ◌+◌, ◌*◌, ◌-◌, ℕ, ℤ, pos, nat_lt, List, [], length, take, slice_get, Option, None, Some, Result, Ok, Err, is_ok, if◌then◌else◌, Bool, true, false, not, refl, sym, ap, ◌∙◌, subst, arith}
+use Rattle.std.proofs.Common.{◌≡◌, ◌<◌, ◌+◌, ◌*◌, ◌-◌, ℕ, ℤ, pos, nat_lt, List, [], length, take, slice_get, Option, None, Some, Result, Ok, Err, is_ok, if◌then◌else◌, Bool, true, false, not, refl}
+use Rattle.std.proofs.Common.{sym, ap, ◌∙◌, subst, arith}
 use Rattle.std.proofs.lemmas.Bool.{eq-eqb, ne_eqb, le-ltb}
 use Rattle.std.proofs.lemmas.List.{take_all}
 use Rattle.flat_tables.specs.Bytes.{◌>>=◌}
@@ -25,7 +26,7 @@ use Rattle.arrow_arrays.specs.Cells.{length_in, nulls_in, validity_in, bits_in, 
 use Rattle.arrow_arrays.specs.Columns.{width_of, AreElements, StandAt, IsColumn, AreTexts}
 
 -- the views of a column; each element of its lists is there
-flags_for : List ℕ → ℕ → BitsIn
+unfoldable pub flags_for : List ℕ → ℕ → BitsIn
 flags_for validity rows = record { bytes = validity; rows = rows }
 
 values_for : Width → List ℕ → List ℕ → ℕ → ℕ → Values
@@ -42,7 +43,7 @@ count_for : (width : Width) (batch : BatchIn) (a : ArrayPlace) (offsets values :
 count_for (width.List n) batch a offsets values stand = stand.1.count
 count_for other batch a offsets values stand = 0
 
-valid_there : (batch : BatchIn) (rows node buffer : ℕ) (nulls : ℤ) (validity : List ℕ) → slice_get batch.nodes node ≡ Some (pos rows, nulls) → slice_get batch.buffers buffer ≡ Some validity
+pub valid_there : (batch : BatchIn) (rows node buffer : ℕ) (nulls : ℤ) (validity : List ℕ) → slice_get batch.nodes node ≡ Some (pos rows, nulls) → slice_get batch.buffers buffer ≡ Some validity
     → validity_of validity rows nulls ≡ Ok (flags_for validity rows) → validity_in batch rows node buffer ≡ Ok (flags_for validity rows)
 unfolding validity_in nulls_in flags_for
 valid_there batch rows node buffer nulls validity counted bitmap valid = rw (counted, eq-eqb rows rows refl, bitmap) valid
@@ -63,7 +64,7 @@ unfolding vars_in values_for
 vars_there batch a rows count offsets values stand fine =
     let next : a.buffer + 1 + 1 ≡ a.buffer + 2 = omega arith in rw (next, stand.0, stand.1, fine) refl
 
-no_bitmap : (count : ℕ) → validity_of [] count (pos 0) ≡ Ok (flags_for [] count)
+pub no_bitmap : (count : ℕ) → validity_of [] count (pos 0) ≡ Ok (flags_for [] count)
 unfolding validity_of flags_for
 no_bitmap count = refl
 

@@ -1,5 +1,6 @@
 -- The column that is found has the cells of the definition.
-use Rattle.std.proofs.Common.{◌≡◌, ℕ, ◌+◌, ◌-◌, ◌*◌, ◌<◌, ◌≤◌, nat_lt, nat_le, ◌&&◌, Bool, true, false, List, [], ◌++◌, length, take, drop, slice_range, Option, Some, None, option_map, Result, Ok, IsOk, is_some, if◌then◌else◌, refl, sym, ap, ◌∙◌, subst, inl, inr, arith}
+use Rattle.std.proofs.Common.{◌≡◌, ℕ, ◌+◌, ◌-◌, ◌*◌, ◌<◌, ◌≤◌, nat_lt, nat_le, ◌&&◌, Bool, true, false, List, [], ◌++◌, length, take, drop, slice_range, Option, Some, None, option_map, Result, Ok}
+use Rattle.std.proofs.Common.{IsOk, is_some, if◌then◌else◌, refl, sym, ap, ◌∙◌, subst, inl, inr, arith}
 use Rattle.std.proofs.lemmas.Bool.{cases_lt, lt-ltb, le-ltb, le-leb, and_from}
 use Rattle.std.proofs.Math.Bool.{and-true}
 use Rattle.std.proofs.lemmas.List.{length-append, take-append-drop, take_all}
@@ -166,7 +167,8 @@ cell_past : (bytes : List ℕ) (rows row : ℕ) (values : Values) → rows ≤ r
 unfolding flag_of
 cell_past bytes rows row values past = rw (le-ltb row rows past) refl
 
-own_is : (batch : BatchIn) (a : ArrayPlace) (view : ArrayView) (bits : BitsIn) (row : ℕ) → array_in batch a ≡ Ok view → bits ≡ view.valid → own_cell batch a row ≡ cell_in (record { valid = bits; values = view.values }) row
+own_is : (batch : BatchIn) (a : ArrayPlace) (view : ArrayView) (bits : BitsIn) (row : ℕ) → array_in batch a ≡ Ok view → bits ≡ view.valid
+    → own_cell batch a row ≡ cell_in (record { valid = bits; values = view.values }) row
 unfolding own_cell
 own_is batch a view bits row is valid =
     ap (λ (r : Result ArrayView BufferFault). cell_if r row) is ∙ ap (λ (b : BitsIn). cell_in (record { valid = b; values = view.values }) row) (sym valid)

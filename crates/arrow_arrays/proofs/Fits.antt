@@ -1,5 +1,6 @@
 -- The cells of an array without a fault fit its layout.
-use Rattle.std.proofs.Common.{◌≡◌, ℕ, zero, suc, ◌+◌, ◌-◌, ◌*◌, ◌%◌, ◌<◌, ◌≤◌, Bool, true, false, List, [], ◌∷◌, length, drop, slice_get, slice_range, Option, Some, None, Result, Ok, Err, IsOk, is_ok, IfSome, option_map, nat_lt, if◌then◌else◌, refl, sym, ap, ◌∙◌, subst, inl, inr, arith, lit<}
+use Rattle.std.proofs.Common.{◌≡◌, ℕ, zero, suc, ◌+◌, ◌-◌, ◌*◌, ◌%◌, ◌<◌, ◌≤◌, Bool, true, false, List, [], ◌∷◌, length, drop, slice_get, slice_range, Option, Some, None, Result, Ok, Err, IsOk, is_ok}
+use Rattle.std.proofs.Common.{IfSome, option_map, nat_lt, if◌then◌else◌, refl, sym, ap, ◌∙◌, subst, inl, inr, arith, lit<}
 use Rattle.std.specs.Str.{is_utf8}
 use Rattle.std.proofs.lemmas.Bool.{ltb-true}
 use Rattle.std.proofs.lemmas.List.{length-take-le, length-drop}
@@ -103,7 +104,8 @@ span_whole width values a b order within =
     let times : b * width - a * width ≡ (b - a) * width = rw (mul_comm b width, mul_comm a width, mul_comm (b - a) width) (sym (mul-sub width b a)) in
     rw (len, times) (mul-mod_left (b - a) width)
 
-list_fits : (offsets elements : List ℕ) (rows row : ℕ) (value : List ℕ) → IsOk (offsets_check element_len offsets elements rows) → elements_of (record { offsets = offsets; values = elements; width = element_len; rows = rows }) row ≡ Some value → length value % element_len ≡ 0
+list_fits : (offsets elements : List ℕ) (rows row : ℕ) (value : List ℕ) → IsOk (offsets_check element_len offsets elements rows)
+    → elements_of (record { offsets = offsets; values = elements; width = element_len; rows = rows }) row ≡ Some value → length value % element_len ≡ 0
 unfolding elements_of
 list_fits offsets elements rows row value fine has =
     let there = row_there row rows (span_at element_len offsets elements row) value has in
@@ -160,7 +162,8 @@ found_fits batch arrays place row cell value ok (Some a) at has =
     rw at (own_fits batch (place_of a) row value (check_at batch arrays place a ok at) (below_there (cell_above cell a.above row) (own_cell batch (place_of a) row) value has))
 
 -- a cell in a batch without a fault fits its array
-pub cell_fits : (depth : ℕ) (arrays : List ArraySpec) (batch : BatchIn) (place row : ℕ) (value : List ℕ) → IsOk (arrays_check batch arrays) → cell_within depth arrays batch place row ≡ Some value → FitsArray arrays place value
+pub cell_fits : (depth : ℕ) (arrays : List ArraySpec) (batch : BatchIn) (place row : ℕ) (value : List ℕ) → IsOk (arrays_check batch arrays) → cell_within depth arrays batch place row ≡ Some value
+    → FitsArray arrays place value
 unfolding cell_within
 cell_fits zero arrays batch place row value ok has = absurd (cc)
 cell_fits (suc depth) arrays batch place row value ok has =
@@ -174,5 +177,6 @@ if_some (Some x) P each = each x refl
 pub own_if_fits : (batch : BatchIn) (a : ArrayPlace) (row : ℕ) (cell : Option (List ℕ)) → IsOk (array_check batch a) → cell ≡ own_cell batch a row → IfSome cell (FitsLayout a.layout)
 own_if_fits batch a row cell ok is = if_some cell (FitsLayout a.layout) (λ value has. own_fits batch a row value ok (sym is ∙ has))
 
-pub cell_if_fits : (depth : ℕ) (arrays : List ArraySpec) (batch : BatchIn) (place row : ℕ) (cell : Option (List ℕ)) → IsOk (arrays_check batch arrays) → cell ≡ cell_within depth arrays batch place row → IfSome cell (FitsArray arrays place)
+pub cell_if_fits : (depth : ℕ) (arrays : List ArraySpec) (batch : BatchIn) (place row : ℕ) (cell : Option (List ℕ)) → IsOk (arrays_check batch arrays) → cell ≡ cell_within depth arrays batch place row
+    → IfSome cell (FitsArray arrays place)
 cell_if_fits depth arrays batch place row cell ok is = if_some cell (FitsArray arrays place) (λ value has. cell_fits depth arrays batch place row value ok (sym is ∙ has))

@@ -8,3 +8,5 @@ pub mod Walked
 pub mod PathsWalked
 pub mod ListsWalked
 pub mod ColumnLaws
+pub mod Raised
+pub mod Parted

@@ -141,7 +141,8 @@ list_added f above arrays inner (g ∷ []) are list none one readable has =
     ∙ last_added in
     subst HasElements (sym added) (list_and_elements arrays x y has (elements_placed f g above arrays list none element) element.other)
 
-other_added : (f : FieldSpec) (above : Above) (arrays : List ArraySpec) (inner : ℕ) → AreElements (children_in f) (above_children (kind_in f) (length arrays)) (arrays ++ array_for f above arrays ∷ []) → is_list (kind_in f) ≡ false
+other_added : (f : FieldSpec) (above : Above) (arrays : List ArraySpec) (inner : ℕ) → AreElements (children_in f) (above_children (kind_in f) (length arrays)) (arrays ++ array_for f above arrays ∷ [])
+    → is_list (kind_in f) ≡ false
     → are_readable inner (children_in f) ≡ true → HasElements arrays → HasElements (add_field f above arrays)
 unfolding AreElements
 other_added f above arrays inner below other readable has =

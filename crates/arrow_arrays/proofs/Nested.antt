@@ -84,7 +84,8 @@ above_alone : (cell : ℕ → ℕ → Option (List ℕ)) (above : Above) (row : 
 above_alone cell above row (at_top is) = ap (λ (b : Above). cell_above cell b row) is
 above_alone cell above row (in_list is) = ap (λ (b : Above). cell_above cell b row) is
 
-pub alone_within : (depth : ℕ) (arrays : List ArraySpec) (batch : BatchIn) (place : ℕ) (a : ArraySpec) (v : ColumnView) → (depth ≡ 0 → ⊥) → Some a ≡ slice_get arrays place → IsAlone a.above → Finds batch (place_of a) v → FindsWithin depth arrays batch place v
+pub alone_within : (depth : ℕ) (arrays : List ArraySpec) (batch : BatchIn) (place : ℕ) (a : ArraySpec) (v : ColumnView) → (depth ≡ 0 → ⊥) → Some a ≡ slice_get arrays place → IsAlone a.above
+    → Finds batch (place_of a) v → FindsWithin depth arrays batch place v
 alone_within zero arrays batch place a v some at above finds = absurd (some refl)
 alone_within (suc depth) arrays batch place a v some at above finds = record {
   cells = λ row.
@@ -117,7 +118,8 @@ below_seen outer inner v row is above top shallow full =
     now ∙ joined (nat_lt row inner.rows) (nat_lt row outer.rows) own one two (value_seen outer.stored row) (value_seen inner.stored row) some
     ∙ rw (outer_is, inner_is) refl
 
-pub below_within : (depth : ℕ) (arrays : List ArraySpec) (batch : BatchIn) (place p : ℕ) (a : ArraySpec) (outer inner v : ColumnView) → (depth ≡ 0 → ⊥) → depth ≤ 3 → Some a ≡ slice_get arrays place → a.above ≡ parent.Struct p
+pub below_within : (depth : ℕ) (arrays : List ArraySpec) (batch : BatchIn) (place p : ℕ) (a : ArraySpec) (outer inner v : ColumnView) → (depth ≡ 0 → ⊥) → depth ≤ 3 → Some a ≡ slice_get arrays place
+    → a.above ≡ parent.Struct p
     → Finds batch (place_of a) inner → FindsWithin (depth - 1) arrays batch p outer → IsBelow outer inner v → FindsWithin depth arrays batch place v
 below_within zero arrays batch place p a outer inner v some deep at above finds within is = absurd (some refl)
 below_within (suc depth) arrays batch place p a outer inner v some deep at above finds within is =

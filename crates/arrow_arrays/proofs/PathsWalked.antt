@@ -22,16 +22,16 @@ use Rattle.arrow_arrays.proofs.Walked.{array_for, each_walk, slice_get_front, sl
 
 -- ---- lists that grow
 
-Extends : List FieldSpec → Above → List ArraySpec → Type 0
+unfoldable pub Extends : List FieldSpec → Above → List ArraySpec → Type 0
 Extends fields above arrays = (more : List ArraySpec) × (add_fields fields above arrays ≡ arrays ++ more)
 
-one_extends : (f : FieldSpec) (above : Above) (arrays : List ArraySpec) → Extends (children_in f) (above_children (kind_in f) (length arrays)) (arrays ++ array_for f above arrays ∷ [])
+pub one_extends : (f : FieldSpec) (above : Above) (arrays : List ArraySpec) → Extends (children_in f) (above_children (kind_in f) (length arrays)) (arrays ++ array_for f above arrays ∷ [])
     → (more : List ArraySpec) × (add_field f above arrays ≡ arrays ++ more)
 unfolding Extends
 one_extends f above arrays below =
     (array_for f above arrays ∷ below.0, add_field_is f above arrays ∙ below.1 ∙ append_assoc arrays (array_for f above arrays ∷ []) below.0)
 
-extends_walk : (n : ℕ) (fields : List FieldSpec) → count_of fields ≤ n → (above : Above) (arrays : List ArraySpec) → Extends fields above arrays
+pub extends_walk : (n : ℕ) (fields : List FieldSpec) → count_of fields ≤ n → (above : Above) (arrays : List ArraySpec) → Extends fields above arrays
 unfolding Extends
 extends_walk = each_walk Extends (λ above arrays. ([], sym (append-nil arrays)))
     (λ f fs above arrays below rest.
@@ -128,7 +128,7 @@ each_paths (f ∷ fs) path = ap (λ (paths : List (List (List ℕ))). paths_in f
 paths_step_is : (f : FieldSpec) → paths_in f ≡ paths_step (record { name = name_in f; kind = kind_in f; dict = dict_in f; encoding = encoding_in f; children = map paths_in (children_in f) })
 paths_step_is f = search (rules, the_lemmas)
 
-paths_in_is : (f : FieldSpec) (path : Option (List (List ℕ))) → paths_in f path ≡ path_in path (name_in f) ∷ paths_below (children_in f) (path_under (kind_in f) (path_in path (name_in f)))
+pub paths_in_is : (f : FieldSpec) (path : Option (List (List ℕ))) → paths_in f path ≡ path_in path (name_in f) ∷ paths_below (children_in f) (path_under (kind_in f) (path_in path (name_in f)))
 paths_in_is f path =
     ap (λ (paths : Paths). paths path) (paths_step_is f)
     ∙ ap (λ (paths : List (List (List ℕ))). path_in path (name_in f) ∷ paths) (each_paths (children_in f) (path_under (kind_in f) (path_in path (name_in f))))
@@ -185,7 +185,8 @@ pub record AddsPath (f : FieldSpec) (above : Above) (arrays : List ArraySpec) (p
   before : AreBefore (add_field f above arrays)
   paths : all_paths (add_field f above arrays) ≡ all_paths arrays ++ paths_in f path
 
-one_added : (f : FieldSpec) (above : Above) (arrays : List ArraySpec) (level inner : ℕ) (path : Option (List (List ℕ))) → ArePaths (children_in f) (above_children (kind_in f) (length arrays)) (arrays ++ array_for f above arrays ∷ [])
+one_added : (f : FieldSpec) (above : Above) (arrays : List ArraySpec) (level inner : ℕ) (path : Option (List (List ℕ)))
+    → ArePaths (children_in f) (above_children (kind_in f) (length arrays)) (arrays ++ array_for f above arrays ∷ [])
     → are_readable inner (children_in f) ≡ true → level + (inner + 1) ≤ max_depth → AreBefore arrays → IsIn above arrays → IsAbove level arrays above path → AddsPath f above arrays path
 unfolding ArePaths IsAbove
 one_added f above arrays level inner path below readable within before inside is =

@@ -32,14 +32,14 @@ each_walk P none more (suc n) (f ∷ fs) few above arrays =
 
 -- ---- the fields
 
-own_field : FieldSpec → FieldIn
+unfoldable pub own_field : FieldSpec → FieldIn
 own_field f = record { name = name_in f; kind = kind_in f; dict = dict_in f; encoding = encoding_in f }
 
 flat_fields : (fs : List FieldSpec) → flat_map (λ fields. fields) (map depth_first_in fs) ≡ depth_first fs
 flat_fields [] = refl
 flat_fields (f ∷ fs) = ap (λ (fields : List FieldIn). depth_first_in f ++ fields) (flat_fields fs)
 
-depth_first_is : (f : FieldSpec) → depth_first_in f ≡ own_field f ∷ depth_first (children_in f)
+pub depth_first_is : (f : FieldSpec) → depth_first_in f ≡ own_field f ∷ depth_first (children_in f)
 unfolding own_field
 depth_first_is f = search (rules, the_lemmas, flat_fields)
 

@@ -6,3 +6,4 @@ pub mod Fields
 pub mod Columns
 pub mod Views
 pub mod Found
+pub mod Written
