@@ -2,9 +2,13 @@ pub mod Bases
 pub mod Cells
 pub mod ColumnIds
 pub mod Columns
+pub mod Continuing
+pub mod GivenIds
 pub mod Ids
 pub mod Kept
+pub mod Named
 pub mod Payload
+pub mod Scalars
 pub mod Sets
 pub mod Tables
 pub mod Weights

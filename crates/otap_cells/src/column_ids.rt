@@ -46,7 +46,7 @@ pub fn ids_of<R: Rows>(
     ensures parents { OnOk result (HasNullParent (R.table rows.now) column → ⊥) }
     ensures refused { IfErr result (RefusesIds (R.table rows.now) column continues.now) }
 {
-    let mut ids = stored(alloc, rows, column)?;
+    let mut ids = stored_numbers(alloc, rows, column)?;
     if lacks_parent(rows.kind(), column, &ids) {
         return Err(IdsRefusal::Ids(IdFault::NullParent));
     }
@@ -62,8 +62,12 @@ pub fn ids_of<R: Rows>(
     }
 }
 
-// The numbers that a column stores.
-fn stored<R: Rows>(alloc: Global, rows: &R, column: u32) -> Result<Vec<Option<u32>>, AllocError>
+/// The numbers that a column of ids stores.
+pub fn stored_numbers<R: Rows>(
+    alloc: Global,
+    rows: &R,
+    column: u32,
+) -> Result<Vec<Option<u32>>, AllocError>
     requires { is_id_at (R.table rows.now).kind column ≡ true }
     ensures { IfOk result (λ found. found.items ≡ stored_in (R.table rows.now) column) }
 {

@@ -133,8 +133,8 @@ fn code(how: Coding, ids: &mut [Option<u32>], continues: &[bool])
     }
 }
 
-// Gives the ids of stored numbers back, and tells whether none is above `last`.
-pub(crate) fn undo(how: Coding, ids: &mut [Option<u32>], continues: &[bool], last: u32) -> bool
+/// Gives the ids of stored numbers back, up to the first one that would be above `last`, and tells whether there is none.
+pub fn undo(how: Coding, ids: &mut [Option<u32>], continues: &[bool], last: u32) -> bool
     ensures undone { ids.new ≡ undone_after how last 0 continues.now ids.old }
     ensures exactly { result ≡ fits_after how last 0 continues.now ids.old }
     ensures long { length ids.new ≡ length ids.old }

@@ -1,10 +1,12 @@
-ghost use Rattle.std.specs.Prelude.{◌≡◌, ◌<◌, ℕ, Bool, List, Option};
+ghost use Rattle.std.specs.Prelude.{◌≡◌, ◌<◌, ℕ, ℤ, Bool, List, Option};
 ghost use Rattle.otap_cells.specs.declared.payload.Kind.{Kind};
 ghost use Rattle.otap_cells.specs.declared.weight.TheConstants.{MAX_ROW_WEIGHT};
 ghost use Rattle.otap_cells.specs.declared.profile.Coding.{Coding};
 ghost use Rattle.otap_cells.specs.Payload.{number_of};
+ghost use Rattle.otap_cells.specs.Cells.{bytes_in, nat_in};
 ghost use Rattle.otap_cells.specs.Columns.{name_at, width_of};
 ghost use Rattle.otap_cells.specs.Ids.{Ids};
+ghost use Rattle.otap_cells.specs.Scalars.{text_cell, number_cell, int_cell, bits_cell, flag_cell, int_in, bits_in, flag_in};
 ghost use Rattle.otap_cells.specs.Weights.{row_weight_limit};
 
 /// Law: a payload type has a number of its own.
@@ -25,4 +27,13 @@ pub fn the_row_weight_is_limited()
 /// Law: the numbers that a column stores stand for one list of ids at most.
 pub fn numbers_stand_for_one_list()
     ensures { (how : Coding) (last : ℕ) (rows : List Bool) (numbers a b : List (Option ℕ)) → Ids how last rows numbers a → Ids how last rows numbers b → a ≡ b }
+{}
+
+/// Law: a value comes back from the cell that is written for it.
+pub fn values_come_back()
+    ensures text { (text : List ℕ) → bytes_in (text_cell text) ≡ text }
+    ensures number { (n : ℕ) → nat_in (number_cell n) ≡ n }
+    ensures int { (n : ℤ) → int_in (int_cell n) ≡ n }
+    ensures bits { (n : ℕ) → bits_in (bits_cell n) ≡ n }
+    ensures flag { (b : Bool) → flag_in (flag_cell b) ≡ b }
 {}

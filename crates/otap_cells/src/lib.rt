@@ -2,6 +2,7 @@
 #![tactic(auto)]
 
 mod column_ids;
+mod continuing;
 mod ids;
 mod kept;
 mod laws;
@@ -9,24 +10,29 @@ mod logical;
 mod paths;
 mod payload;
 mod profile;
+mod reads;
 mod rows;
+mod scalars;
 mod sets;
 #[cfg(test)]
 mod tests;
 mod view;
 mod weight;
 
-pub use column_ids::{IdsRefusal, ids_of};
-pub use ids::{IdFault, delta_ids, has_twice, run_ids, undo_delta, undo_run};
+pub use column_ids::{IdsRefusal, ids_of, stored_numbers};
+pub use continuing::{Attribute, attribute_at, continuing_rows, has_attributes, says_again};
+pub use ids::{IdFault, delta_ids, has_twice, run_ids, undo, undo_delta, undo_run};
 pub use laws::{
     names_tell_columns_apart, numbers_stand_for_one_list, numbers_tell_kinds_apart,
-    the_row_weight_is_limited,
+    the_row_weight_is_limited, values_come_back,
 };
 pub use logical::LogicalTable;
 pub use paths::column_of;
 pub use payload::{Kind, kinds, main_of, table_of};
 pub use profile::{Base, Coding, Column, base_of, coding_of, columns};
+pub use reads::{bits_in, bytes_in, flag_in, int_in, number_in, octets_in, small_int_in, text_in};
 pub use rows::Rows;
+pub use scalars::{bits_cell, flag_cell, int_cell, number_cell, octets_cell, text_cell};
 pub use sets::TableSet;
 pub use view::CellView;
 pub use weight::{MAX_ROW_WEIGHT, row_weight};

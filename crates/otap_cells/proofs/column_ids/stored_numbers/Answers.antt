@@ -1,6 +1,6 @@
 use Rattle.std.proofs.Common.{arith}
 use Rattle.otap_cells.proofs.ColumnSteps.{stored_more}
-use Rattle.otap_cells.proofs.column_ids.stored.Goals as goal
+use Rattle.otap_cells.proofs.column_ids.stored_numbers.Goals as goal
 
 pub rows-preserved : goal.rows-preserved
 rows-preserved g c =

@@ -1,0 +1,20 @@
+-- The ids of a table's columns, where the table itself tells which rows continue a run.
+use Rattle.std.specs.Prelude.{ℕ, List, [], Option, None, Some}
+use Rattle.otap_cells.specs.declared.payload.Kind.{Kind}
+use Rattle.otap_cells.specs.Tables.{Table, profile_table, coding_in, greatest_in}
+use Rattle.otap_cells.specs.Ids.{undone}
+use Rattle.otap_cells.specs.ColumnIds.{IdsOf, stored_in}
+use Rattle.otap_cells.specs.Continuing.{continues_in}
+
+-- THE IDS of a column
+abbrev pub HasIds : Table → ℕ → List (Option ℕ) → Type 0
+HasIds t column ids = IdsOf t column (continues_in t) ids
+
+-- the same as a list; it means nothing where the stored numbers stand for no ids
+unfoldable pub ids_in : Table → ℕ → List (Option ℕ)
+ids_in t column = undone (coding_in t column) (greatest_in t column) (continues_in t) (stored_in t column)
+
+-- the table of rows; where there are none, one of this kind without rows
+abbrev pub table_or : {R : Type 0} → (R → Table) → Kind → Option R → Table
+table_or table kind None = profile_table kind []
+table_or table kind (Some rows) = table rows
