@@ -1,0 +1,11 @@
+use Rattle.std.proofs.Common.{◌≡◌, ◌-◌, ◌++◌, map}
+use Rattle.otap_groups.specs.Rows.{main_row_at}
+use Rattle.otap_groups.specs.Groups.{item_of_row}
+use Rattle.otap_groups.specs.Inside.{part}
+use Rattle.otap_groups.proofs.groups.Main.items.Given as goal
+
+abbrev pub invariant-items : goal.invariant-items
+invariant-items g l = l.items ++ map (item_of_row (g.S.RowReader.item l.self.items)) (part
+    (main_row_at l.self.front.ids.items l.self.front.resource_ids.items l.self.front.scope_ids.items (g.R.Rows.table l.self.front.rows.now).rows) l.place (l.to - l.place))
+    ≡ map (item_of_row (g.S.RowReader.item l.self.items)) (part (main_row_at l.self.front.ids.items l.self.front.resource_ids.items l.self.front.scope_ids.items
+    (g.R.Rows.table l.self.front.rows.now).rows) l.from (l.to - l.from))

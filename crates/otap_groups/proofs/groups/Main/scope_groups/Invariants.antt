@@ -1,0 +1,18 @@
+use Rattle.std.proofs.Common.{◌≡◌, ◌-◌, ◌≤◌, ◌++◌, map}
+use Rattle.otap_groups.specs.Rows.{main_row_at, same_scope}
+use Rattle.otap_groups.specs.Groups.{scope_group}
+use Rattle.otap_groups.specs.Runs.{runs}
+use Rattle.otap_groups.specs.Inside.{part}
+use Rattle.otap_groups.proofs.groups.Main.scope_groups.Given as goal
+
+abbrev pub invariant-groups : goal.invariant-groups
+invariant-groups g l = record {
+  within : l.at ≤ l.to;
+  so_far : l.groups ++ map (scope_group (g.P.Lookup.finds l.self.scopes) (g.S.RowReader.item l.self.items)) (runs same_scope (part
+      (main_row_at l.self.front.ids.items l.self.front.resource_ids.items l.self.front.scope_ids.items (g.R.Rows.table l.self.front.rows.now).rows) l.at (l.to - l.at)))
+      ≡ map (scope_group (g.P.Lookup.finds l.self.scopes) (g.S.RowReader.item l.self.items)) (runs same_scope (part
+      (main_row_at l.self.front.ids.items l.self.front.resource_ids.items l.self.front.scope_ids.items (g.R.Rows.table l.self.front.rows.now).rows) l.from (l.to - l.from)));
+}
+
+abbrev pub decreases-groups : goal.decreases-groups
+decreases-groups g l = l.to - l.at

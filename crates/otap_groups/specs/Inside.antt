@@ -1,0 +1,67 @@
+-- Words of private contracts: rows by their places, and the index of children.
+use Rattle.std.specs.Prelude.{ℕ, suc, Bool, List, [], ◌∷◌, Option, None, Some, map, filter, ◌==◌, ◌&&◌, not}
+use Rattle.std.specs.List.{slice_index_or, range_with_len}
+use Rattle.otap_cells.specs.Cells.{Cell}
+use Rattle.otap_groups.specs.declared.entry.Entry.{Entry}
+use Rattle.otap_groups.specs.declared.level.Level.{Level}
+use Rattle.otap_groups.specs.declared.level.Level.TheVariants as level
+use Rattle.otap_groups.specs.Rows.{MainRow, cells_are, id_at, same_resource, same_scope}
+
+-- rows from a place on
+abbrev pub part : {A : Type 0} → (ℕ → A) → ℕ → ℕ → List A
+part row from count = map row (range_with_len from count)
+
+-- which rows stand in one group
+abbrev pub same_at : Level → MainRow → MainRow → Bool
+same_at level.Resource = same_resource
+same_at level.Scope = same_scope
+
+-- the id of a resource or of a scope, and the cells beside it
+abbrev pub id_by : Level → MainRow → Option ℕ
+id_by level.Resource row = row.resource_id
+id_by level.Scope row = row.scope_id
+
+abbrev pub cells_by : Level → MainRow → List Cell
+cells_by level.Resource row = row.resource
+cells_by level.Scope row = row.scope
+
+abbrev pub blank : Entry
+blank = record { parent = 0; place = 0 }
+
+-- two entries have one parent, and rows whose cells aren't equal
+abbrev pub clash : (MainRow → List Cell) → (ℕ → MainRow) → Entry → Entry → Bool
+clash cells row a b = (a.parent == b.parent) && not (cells_are (cells (row a.place)) (cells (row b.place)))
+
+-- the entries of a parent
+abbrev pub of_parent : ℕ → List Entry → List Entry
+of_parent parent entries = filter (λ (e : Entry). e.parent == parent) entries
+
+abbrev pub entries_of : Option ℕ → List Entry → List Entry
+entries_of None entries = []
+entries_of (Some parent) entries = of_parent parent entries
+
+abbrev pub entry_before : ℕ → Option ℕ → List Entry → List Entry
+entry_before place None entries = entries
+entry_before place (Some parent) entries = record { parent = parent; place = place } ∷ entries
+
+-- the entries of rows that have these parents, from a place on
+abbrev pub entries_from : ℕ → List (Option ℕ) → List Entry
+entries_from place [] = []
+entries_from place (parent ∷ parents) = entry_before place parent (entries_from (suc place) parents)
+
+-- the part of the row at a place
+abbrev pub child_at : {C : Type 0} → (Option ℕ → List Cell → C) → List (Option ℕ) → List (List Cell) → ℕ → C
+child_at item ids cells place = item (id_at ids place) (slice_index_or cells place [])
+
+-- what an index finds for a parent
+abbrev pub found : {C : Type 0} → (Option ℕ → List Cell → C) → List (Option ℕ) → List (List Cell) → List Entry → Option ℕ → List C
+found item ids cells entries parent = map (λ (e : Entry). child_at item ids cells e.place) (entries_of parent entries)
+
+-- what a lookup finds, where there may be none
+abbrev pub finds_in : {L C : Type 0} → (L → Option ℕ → List C) → Option L → Option ℕ → List C
+finds_in finds None parent = []
+finds_in finds (Some lookup) parent = finds lookup parent
+
+abbrev pub weighs_in : {L C : Type 0} → (L → C → ℕ) → Option L → C → ℕ
+weighs_in weigh None child = 0
+weighs_in weigh (Some lookup) child = weigh lookup child

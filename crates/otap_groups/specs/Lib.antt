@@ -1,0 +1,11 @@
+pub mod Children
+pub mod Disagree
+pub mod Flat
+pub mod Groups
+pub mod Inside
+pub mod Kinds
+pub mod Rows
+pub mod Runs
+pub mod Stored
+pub mod Views
+pub mod Weighing

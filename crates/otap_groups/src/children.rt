@@ -1,0 +1,114 @@
+//! The children of a parent, by an index of the rows of a table.
+ghost use Rattle.std.specs.Prelude.{◌≡◌, ◌<◌, ℕ, Option, All, length, IfOk};
+ghost use Rattle.std.specs.List.Sorted.{IsNonDecreasingBy};
+ghost use Rattle.otap_groups.specs.declared.entry.Entry.{Entry};
+ghost use Rattle.otap_groups.specs.Rows.{child_rows};
+ghost use Rattle.otap_groups.specs.Children.{children};
+ghost use Rattle.otap_groups.specs.Inside.{entries_of, finds_in, found, of_parent, weighs_in};
+
+use crate::entry::Entry;
+use crate::front::id_at;
+use crate::index::{entries_of, of_parent};
+use crate::reading::{Lookup, RowReader};
+use otlp_model::{Items, add_capped};
+use std::alloc::{AllocError, Global};
+
+/// The rows of a table, found by their parents: the children of a parent stand in the order of their rows.
+#[derive(Drop)]
+pub struct Children<C: RowReader> {
+    pub reader: C,
+    // Empty where the rows have no ids.
+    pub ids: Vec<Option<u32>>,
+    pub entries: Vec<Entry>,
+    ghost rising: { IsNonDecreasingBy (λ (e : Entry). e.parent) entries.items },
+    ghost below: { All (λ (e : Entry). e.place < length (C.cells reader)) entries.items },
+}
+
+impl<C: RowReader> Children<C> {
+    /// The rows that a reader reads, with their ids, or none of them, and their parents. Takes n log n for n rows.
+    pub fn new(
+        alloc: Global,
+        reader: C,
+        ids: Vec<Option<u32>>,
+        parents: &[Option<u32>],
+    ) -> Result<Children<C>, AllocError>
+        requires { length parents.now ≡ length (C.cells reader) }
+        ensures reader { IfOk result (λ made. made.reader ≡ reader) }
+        ensures found { IfOk result (λ made. (parent : Option ℕ) → found (C.item made.reader) made.ids.items (C.cells made.reader) made.entries.items parent
+            ≡ children (C.item reader) (child_rows ids.items parents.now (C.cells reader)) parent) }
+    {
+        let entries = entries_of(alloc, parents)?;
+        Ok(Children {
+            reader,
+            ids,
+            entries,
+        })
+    }
+
+    // The entries of a parent, in the order of their rows.
+    fn entries_of(&self, parent: Option<u32>) -> &[Entry]
+        ensures found { result.now ≡ entries_of parent self.now.entries.items }
+        ensures below { All (λ (e : Entry). e.place < length (C.cells self.now.reader)) result.now }
+    {
+        match parent {
+            Some(parent) => of_parent(&self.entries, parent),
+            None => &[],
+        }
+    }
+}
+
+impl<C: RowReader> Lookup for Children<C> {
+    type Child = C::Item;
+
+    ghost finds = { λ s. found (C.item s.reader) s.ids.items (C.cells s.reader) s.entries.items };
+
+    ghost weigh = { λ s. C.weigh s.reader };
+
+    fn of(&self, alloc: Global, parent: Option<u32>) -> Result<Items<C::Item>, AllocError> {
+        let mut children = Items::new(alloc);
+        let entries = self.entries_of(parent);
+        'entries: for entry in entries {
+            let id = id_at(&self.ids, entry.place);
+            children.push(self.reader.read(alloc, id, entry.place)?)?;
+        }
+        Ok(children)
+    }
+
+    fn weight_of(&self, parent: Option<u32>) -> u64 {
+        let mut weight = 0;
+        let entries = self.entries_of(parent);
+        'entries: for entry in entries {
+            let own = self
+                .reader
+                .weight(id_at(&self.ids, entry.place), entry.place);
+            weight = add_capped(weight, add_capped(32, own));
+        }
+        weight
+    }
+}
+
+/// A table that isn't there has no children.
+impl<L: Lookup> Lookup for Option<L> {
+    type Child = L::Child;
+
+    ghost finds = { λ s parent. finds_in L.finds s parent };
+
+    ghost weigh = { λ s. weighs_in L.weigh s };
+
+    fn of(&self, alloc: Global, parent: Option<u32>) -> Result<Items<L::Child>, AllocError> {
+        match self {
+            Some(lookup) => {
+                let children = lookup.of(alloc, parent)?;
+                Ok(children)
+            }
+            None => Ok(Items::new(alloc)),
+        }
+    }
+
+    fn weight_of(&self, parent: Option<u32>) -> u64 {
+        match self {
+            Some(lookup) => lookup.weight_of(parent),
+            None => 0,
+        }
+    }
+}

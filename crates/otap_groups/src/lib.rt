@@ -1,0 +1,31 @@
+//! What the row tables of all signals share: groups of main rows, children of a parent, and how both are written.
+#![tactic(auto)]
+
+mod cells;
+mod children;
+mod disagree;
+mod entry;
+mod flat;
+mod front;
+mod groups;
+mod index;
+pub mod laws;
+mod level;
+mod parts;
+mod reading;
+mod sources;
+mod weighing;
+mod weights;
+mod writing;
+
+pub use cells::FrontCells;
+pub use children::Children;
+pub use entry::Entry;
+pub use flat::{Flat, Placed, flatten};
+pub use front::Front;
+pub use groups::Main;
+pub use parts::{PartWriter, parts_of, write_parts};
+pub use reading::{Lookup, RowReader};
+pub use sources::{items_of, resources_of, scopes_of};
+pub use weighing::{RowWeights, cells_weight, rows_weight};
+pub use writing::{RowWriter, write_rows};

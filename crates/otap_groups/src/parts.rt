@@ -1,0 +1,147 @@
+//! The tables of parts: events, links, points and exemplars, below the rows of another table.
+ghost use Rattle.std.specs.Prelude.{◌≡◌, ◌++◌, ◌∷◌, [], ◌≤◌, ◌^◌, ℕ, Bool, List, length, map, min, All, None, option_map, IfOk, OnOk};
+ghost use Rattle.std.specs.List.{flat_map};
+ghost use Rattle.otap_cells.specs.declared.payload.Kind.{Kind};
+ghost use Rattle.otap_cells.specs.Cells.{Cell};
+ghost use Rattle.otap_cells.specs.Continuing.{again_of, goes_on_after};
+ghost use Rattle.otap_cells.specs.Columns.{coding_at, width_of};
+ghost use Rattle.otap_cells.specs.Tables.{profile_table};
+ghost use Rattle.otap_groups.specs.Flat.{placed, placed_at};
+ghost use Rattle.otap_cells.specs.Ids.{base_of};
+ghost use Rattle.otap_groups.specs.Kinds.{IsPart};
+ghost use Rattle.otap_groups.specs.Stored.{RisingParts, id_cell, part_table, stored_parts};
+ghost use Rattle.otap_groups.specs.Views.{seen_placed};
+ghost use Rattle.otap_groups.specs.Weighing.{cells_weight, parts_weight};
+
+use crate::flat::Placed;
+use otap_cells::{Coding, Kind, LogicalTable, coding_of};
+use otlp_model::add_capped;
+use std::alloc::{AllocError, Global};
+
+/// Writes the rows of the parts of parents.
+pub trait PartWriter {
+    type Parent;
+
+    type Part;
+
+    // The kind of the table.
+    ghost kind: { Kind };
+
+    // The parts of a parent.
+    ghost parts: { Self.Parent → List Self.Part };
+
+    // The own cells of a part.
+    ghost cells_of: { Self.Part → List Cell };
+
+    // The parts that can be written.
+    ghost CanWrite: { Self.Part → Type 0 };
+
+    fn kind(&self) -> Kind
+        ensures value { result ≡ kind }
+        ensures part { IsPart result };
+
+    fn parts<'a>(&self, parent: &'a Self::Parent) -> &'a [Self::Part]
+        ensures { result.now ≡ parts parent.now };
+
+    /// Whether a part's row continues the run of the row before it.
+    fn goes_on(&self, before: &Self::Part, part: &Self::Part) -> bool
+        ensures { result ≡ again_of kind (cells_of before.now) (cells_of part.now) };
+
+    /// Appends a row: the numbers stored for both ids, and the cells of the part. After want of memory the table may hold a
+    /// part of the row.
+    fn push(
+        &self,
+        table: &mut LogicalTable,
+        id: u32,
+        parent: u32,
+        part: &Self::Part,
+    ) -> Result<(), AllocError>
+        requires kind { table.old.kind ≡ kind }
+        requires part { CanWrite part.now }
+        ensures ok { OnOk result (table.new ≡ record table.old { rows = table.old.rows ++ (id_cell id ∷ id_cell parent ∷ cells_of part.now) ∷ [] }) }
+        ensures kind { table.new.kind ≡ table.old.kind };
+
+    /// The bytes of the part's own cells, or `CAP` where they are more.
+    fn weight(&self, part: &Self::Part) -> u64
+        requires { CanWrite part.now }
+        ensures { result ≡ min (cells_weight (cells_of part.now)) (2 ^ 63) };
+}
+
+/// The parts of some parents in order, each with the place of its parent.
+pub fn parts_of<'a, W: PartWriter>(
+    alloc: Global,
+    writer: &W,
+    parents: &[Placed<'a, W::Parent>],
+) -> Result<Vec<Placed<'a, W::Part>>, AllocError>
+    requires few { length parents.now ≤ 2 ^ 32 }
+    ensures parts { IfOk result (λ found. map seen_placed found.items ≡ placed (map (λ p. W.parts p.part.now) parents.now)) }
+    ensures rising { IfOk result (λ found. RisingParts 0 (map seen_placed found.items)) }
+{
+    let mut found = Vec::new(alloc);
+    'parents: for place in 0..parents.len() {
+        let parent = &parents[place];
+        add_parts(&mut found, place as u32, writer.parts(parent.part))?;
+    }
+    Ok(found)
+}
+
+fn add_parts<'a, C>(
+    found: &mut Vec<Placed<'a, C>>,
+    parent: u32,
+    parts: &'a [C],
+) -> Result<(), AllocError>
+    ensures { OnOk result (map seen_placed found.new.items ≡ map seen_placed found.old.items ++ map (placed_at parent) parts.now) }
+{
+    'parts: for part in parts {
+        found.push(Placed { parent, part })?;
+    }
+    Ok(())
+}
+
+/// The table of parts.
+pub fn write_parts<W: PartWriter>(
+    alloc: Global,
+    writer: &W,
+    parts: &[Placed<'_, W::Part>],
+) -> Result<LogicalTable, AllocError>
+    requires rising { RisingParts 0 (map seen_placed parts.now) }
+    requires parts { All (λ p. W.CanWrite p.part.now) parts.now }
+    ensures { IfOk result (λ table. table ≡ profile_table W.kind (stored_parts (coding_at W.kind 1) (again_of W.kind) W.cells_of 0 0 None (map seen_placed parts.now))) }
+{
+    let kind = writer.kind();
+    let coding = coding_of(kind, 1);
+    let mut table = LogicalTable::new(alloc, kind);
+    let mut step = 0;
+    let mut parent = 0;
+    let mut before = None;
+    'parts: for placed in parts {
+        let base = base(coding, goes_on(writer, before, placed.part), parent);
+        writer.push(&mut table, step, placed.parent - base, placed.part)?;
+        step = 1;
+        parent = placed.parent;
+        before = Some(placed.part);
+    }
+    Ok(table)
+}
+
+// Whether a part's row continues the run of the row before it.
+fn goes_on<W: PartWriter>(writer: &W, before: Option<&W::Part>, part: &W::Part) -> bool
+    ensures { result ≡ goes_on_after (again_of W.kind) (option_map (λ p. W.cells_of p.now) before.entry) (W.cells_of part.now) }
+{
+    match before {
+        Some(before) => writer.goes_on(before, part),
+        None => false,
+    }
+}
+
+// What a parent is stored as the distance from.
+fn base(how: Coding, continues: bool, before: u32) -> u32
+    ensures value { result ≡ base_of how continues before }
+    ensures most { result ≤ before }
+{
+    match how {
+        Coding::Plain => 0,
+        Coding::Delta => before,
+        Coding::Run => { if continues { before } else { 0 } }
+    }
+}

@@ -1,0 +1,50 @@
+//! What a signal brings to read its rows.
+ghost use Rattle.std.specs.Prelude.{◌≡◌, ◌<◌, ◌^◌, ℕ, List, [], Option, length, min, IfOk};
+ghost use Rattle.std.specs.List.{slice_index_or};
+ghost use Rattle.otlp_model.specs.Weight.{total};
+ghost use Rattle.otap_cells.specs.Cells.{Cell};
+
+use otlp_model::Items;
+use std::alloc::{AllocError, Global};
+
+/// Reads the item of a row: from its own cells, and from the tables below, in which it is found by its id.
+pub trait RowReader: Drop {
+    type Item: Drop;
+
+    // The own cells of each row.
+    ghost cells: { Self → List (List Cell) };
+
+    // The item of an id and own cells.
+    ghost item: { Self → Option ℕ → List Cell → Self.Item };
+
+    // What an item weighs.
+    ghost weigh: { Self → Self.Item → ℕ };
+
+    /// The item of a row that has this id.
+    fn read(&self, alloc: Global, id: Option<u32>, row: usize) -> Result<Self::Item, AllocError>
+        requires { row < length (cells self.now) }
+        ensures { IfOk result (λ read. read ≡ item self.now id (slice_index_or (cells self.now) row [])) };
+
+    /// What the item of a row weighs, or `CAP` where it is more. It builds nothing.
+    fn weight(&self, id: Option<u32>, row: usize) -> u64
+        requires { row < length (cells self.now) }
+        ensures { result ≡ min (weigh self.now (item self.now id (slice_index_or (cells self.now) row []))) (2 ^ 63) };
+}
+
+/// Finds the children of a parent.
+pub trait Lookup: Drop {
+    type Child: Drop;
+
+    // The children of a parent; of a row without an id there are none.
+    ghost finds: { Self → Option ℕ → List Self.Child };
+
+    // What a child weighs.
+    ghost weigh: { Self → Self.Child → ℕ };
+
+    fn of(&self, alloc: Global, parent: Option<u32>) -> Result<Items<Self::Child>, AllocError>
+        ensures { IfOk result (λ children. children ≡ finds self.now parent) };
+
+    /// What the children weigh, with 32 for each, or `CAP` where it is more. It builds nothing.
+    fn weight_of(&self, parent: Option<u32>) -> u64
+        ensures { result ≡ min (total 32 (weigh self.now) (finds self.now parent)) (2 ^ 63) };
+}

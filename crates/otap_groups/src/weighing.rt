@@ -1,0 +1,120 @@
+//! What the rows of a request weigh, without making them.
+ghost use Rattle.std.specs.Prelude.{◌≡◌, ◌∷◌, [], ◌^◌, ℕ, map, min, All};
+ghost use Rattle.otlp_model.specs.declared.groups.Resource.{Resource};
+ghost use Rattle.otlp_model.specs.declared.groups.Scope.{Scope};
+ghost use Rattle.otap_cells.specs.Cells.{seen};
+ghost use Rattle.otap_cells.specs.Weights.{cell_weight};
+ghost use Rattle.otap_groups.specs.Weighing.{CanWriteGroup, CanWriteScope, cells_weight, front_weight, rows_of_groups, rows_of_scope};
+
+use crate::sources::has_items;
+use otap_cells::CellView;
+use otlp_model::{Resource, ResourceGroup, Scope, ScopeGroup, add_capped, sum_capped};
+
+/// What a request's rows weigh beside the fronts of its main rows: a number for each resource, scope and item.
+pub trait RowWeights {
+    type Item;
+
+    // The rows of a resource's pairs, and of a scope's.
+    ghost of_resource: { Resource → ℕ };
+
+    ghost of_scope: { Scope → ℕ };
+
+    // The own cells of an item, and the rows of its parts.
+    ghost of_item: { Self.Item → ℕ };
+
+    // What can be written.
+    ghost CanWriteResource: { Resource → Type 0 };
+
+    ghost CanWriteScope: { Scope → Type 0 };
+
+    ghost CanWriteItem: { Self.Item → Type 0 };
+
+    fn resource(&self, resource: &Resource) -> u64
+        requires { CanWriteResource resource.now }
+        ensures { result ≡ min (of_resource resource.now) (2 ^ 63) };
+
+    fn scope(&self, scope: &Scope) -> u64
+        requires { CanWriteScope scope.now }
+        ensures { result ≡ min (of_scope scope.now) (2 ^ 63) };
+
+    fn item(&self, item: &Self::Item) -> u64
+        requires { CanWriteItem item.now }
+        ensures { result ≡ min (of_item item.now) (2 ^ 63) };
+}
+
+/// What the rows of a request weigh, or `CAP` where it is more. It makes no table. Groups without items have no rows.
+#[tactic(auto, using(crate::proofs::RowSums::rows_split))]
+pub fn rows_weight<W: RowWeights>(writer: &W, groups: &[ResourceGroup<W::Item>]) -> u64
+    requires { All (CanWriteGroup W.CanWriteResource W.CanWriteScope W.CanWriteItem) groups.now }
+    ensures { result ≡ min (rows_of_groups W.of_resource W.of_scope W.of_item groups.now) (2 ^ 63) }
+{
+    let mut weight = 0;
+    'groups: for group in groups {
+        weight = add_capped(weight, group_weight(writer, group));
+    }
+    weight
+}
+
+#[tactic(auto, using(crate::proofs::RowSums::rows_some, crate::proofs::RowSums::rows_none))]
+fn group_weight<W: RowWeights>(writer: &W, group: &ResourceGroup<W::Item>) -> u64
+    requires { CanWriteGroup W.CanWriteResource W.CanWriteScope W.CanWriteItem group.now }
+    ensures { result ≡ min (rows_of_groups W.of_resource W.of_scope W.of_item (group.now ∷ [])) (2 ^ 63) }
+{
+    let mut weight = 0;
+    let mut some = false;
+    'scopes: for scope in group.scopes.as_slice() {
+        if !has_items(scope) {
+            continue;
+        }
+        some = true;
+        weight = add_capped(weight, scope_weight(writer, &group.resource, scope));
+    }
+    if !some {
+        return 0;
+    }
+    add_capped(weight, writer.resource(&group.resource))
+}
+
+fn scope_weight<W: RowWeights>(writer: &W, resource: &Resource, group: &ScopeGroup<W::Item>) -> u64
+    requires { CanWriteScope W.CanWriteScope W.CanWriteItem group.now }
+    ensures { result ≡ min (rows_of_scope W.of_scope W.of_item resource.now group.now) (2 ^ 63) }
+{
+    let front = front_weight(resource, &group.scope);
+    let mut weight = writer.scope(&group.scope);
+    'items: for item in group.items.as_slice() {
+        weight = add_capped(weight, add_capped(front, writer.item(item)));
+    }
+    weight
+}
+
+fn front_weight(resource: &Resource, scope: &Scope) -> u64
+    ensures { result ≡ min (front_weight resource.now scope.now) (2 ^ 63) }
+{
+    sum_capped(&[
+        32,
+        resource.schema_url.len() as u64,
+        scope.name.len() as u64,
+        scope.version.len() as u64,
+        scope.schema_url.len() as u64,
+    ])
+}
+
+/// The bytes of cells, or `CAP` where they are more.
+pub fn cells_weight(cells: &[CellView<'_>]) -> u64
+    ensures { result ≡ min (cells_weight (map seen cells.now)) (2 ^ 63) }
+{
+    let mut weight = 0;
+    'cells: for cell in cells {
+        weight = add_capped(weight, bytes_of(*cell));
+    }
+    weight
+}
+
+fn bytes_of(cell: CellView<'_>) -> u64
+    ensures { result ≡ cell_weight (seen cell.entry) }
+{
+    match cell {
+        CellView::Bytes(part) => part.len() as u64,
+        CellView::Null | CellView::Num(_) | CellView::Bits(_) | CellView::Flag(_) => 0,
+    }
+}
