@@ -1,0 +1,207 @@
+-- Rows of attributes, cell by cell.
+use Rattle.std.proofs.Common.{◌≡◌, ℕ, ◌^◌, ◌<◌, pos, Bool, true, false, List, [], ◌∷◌, drop, length, map, refl, sym, ap, subst, arith}
+use Rattle.std.specs.List.{slice_index_or}
+use Rattle.otap_cells.specs.declared.payload.Kind.{Kind}
+use Rattle.otap_cells.specs.declared.payload.Kind.TheVariants as table
+use Rattle.otap_cells.specs.declared.profile.Base.{Base}
+use Rattle.otap_cells.specs.declared.profile.Base.TheVariants as base
+use Rattle.otap_cells.specs.Bases.{is_id}
+use Rattle.otap_cells.specs.Cells.{Cell, null, number, bits, flag, bytes, seen, IsCellOf}
+use Rattle.otap_cells.specs.declared.view.CellView.{CellView}
+use Rattle.otap_cells.specs.Columns.{ColumnSpec, attrs, deep_attrs, base_at, coding_at, columns_of, width_of}
+use Rattle.otap_cells.specs.declared.profile.Coding.TheVariants as coding
+use Rattle.otap_cells.specs.Continuing.{cell_at, has_attributes}
+use Rattle.otap_cells.specs.Tables.{IsRow}
+use Rattle.otap_attrs.specs.Values.{AreCellsOf, HasValueAt, value_bases}
+
+-- nine cells are the row of an attribute
+pub attribute_row : (kind : Kind) (c0 c1 c2 c3 c4 c5 c6 c7 c8 : Cell) → has_attributes kind ≡ true
+    → IsCellOf (base_at kind 0) c0 → IsCellOf (base_at kind 1) c1 → IsCellOf (base_at kind 2) c2
+    → IsCellOf (base_at kind 3) c3 → IsCellOf (base_at kind 4) c4 → IsCellOf (base_at kind 5) c5
+    → IsCellOf (base_at kind 6) c6 → IsCellOf (base_at kind 7) c7 → IsCellOf (base_at kind 8) c8
+    → IsRow (columns_of kind) (c0 ∷ c1 ∷ c2 ∷ c3 ∷ c4 ∷ c5 ∷ c6 ∷ c7 ∷ c8 ∷ [])
+unfolding attrs deep_attrs
+attribute_row table.ResourceAttrs c0 c1 c2 c3 c4 c5 c6 c7 c8 e f0 f1 f2 f3 f4 f5 f6 f7 f8 = (f0, (f1, (f2, (f3, (f4, (f5, (f6, (f7, (f8, tt)))))))))
+attribute_row table.ScopeAttrs c0 c1 c2 c3 c4 c5 c6 c7 c8 e f0 f1 f2 f3 f4 f5 f6 f7 f8 = (f0, (f1, (f2, (f3, (f4, (f5, (f6, (f7, (f8, tt)))))))))
+attribute_row table.LogAttrs c0 c1 c2 c3 c4 c5 c6 c7 c8 e f0 f1 f2 f3 f4 f5 f6 f7 f8 = (f0, (f1, (f2, (f3, (f4, (f5, (f6, (f7, (f8, tt)))))))))
+attribute_row table.SpanAttrs c0 c1 c2 c3 c4 c5 c6 c7 c8 e f0 f1 f2 f3 f4 f5 f6 f7 f8 = (f0, (f1, (f2, (f3, (f4, (f5, (f6, (f7, (f8, tt)))))))))
+attribute_row table.EventAttrs c0 c1 c2 c3 c4 c5 c6 c7 c8 e f0 f1 f2 f3 f4 f5 f6 f7 f8 = (f0, (f1, (f2, (f3, (f4, (f5, (f6, (f7, (f8, tt)))))))))
+attribute_row table.LinkAttrs c0 c1 c2 c3 c4 c5 c6 c7 c8 e f0 f1 f2 f3 f4 f5 f6 f7 f8 = (f0, (f1, (f2, (f3, (f4, (f5, (f6, (f7, (f8, tt)))))))))
+attribute_row table.NumberPointAttrs c0 c1 c2 c3 c4 c5 c6 c7 c8 e f0 f1 f2 f3 f4 f5 f6 f7 f8 = (f0, (f1, (f2, (f3, (f4, (f5, (f6, (f7, (f8, tt)))))))))
+attribute_row table.SummaryPointAttrs c0 c1 c2 c3 c4 c5 c6 c7 c8 e f0 f1 f2 f3 f4 f5 f6 f7 f8 = (f0, (f1, (f2, (f3, (f4, (f5, (f6, (f7, (f8, tt)))))))))
+attribute_row table.HistPointAttrs c0 c1 c2 c3 c4 c5 c6 c7 c8 e f0 f1 f2 f3 f4 f5 f6 f7 f8 = (f0, (f1, (f2, (f3, (f4, (f5, (f6, (f7, (f8, tt)))))))))
+attribute_row table.NumberExemplarAttrs c0 c1 c2 c3 c4 c5 c6 c7 c8 e f0 f1 f2 f3 f4 f5 f6 f7 f8 = (f0, (f1, (f2, (f3, (f4, (f5, (f6, (f7, (f8, tt)))))))))
+attribute_row table.HistExemplarAttrs c0 c1 c2 c3 c4 c5 c6 c7 c8 e f0 f1 f2 f3 f4 f5 f6 f7 f8 = (f0, (f1, (f2, (f3, (f4, (f5, (f6, (f7, (f8, tt)))))))))
+attribute_row _ c0 c1 c2 c3 c4 c5 c6 c7 c8 e f0 f1 f2 f3 f4 f5 f6 f7 f8 = absurd cc
+
+-- the first column has numbers of 32 bits, whatever their width on the wire
+id_cell : (v w : Bool) (cell : Cell) → IsCellOf (base.Id v) cell → IsCellOf (base.Id w) cell
+id_cell v w null fits = tt
+id_cell v w (number n) fits = fits
+id_cell v w (bits n) fits = fits
+id_cell v w (flag b) fits = absurd cc
+id_cell v w (bytes part) fits = fits
+
+pub parent_cell : (kind : Kind) (cell : Cell) → has_attributes kind ≡ true → IsCellOf (base_at kind 0) cell → IsCellOf (base.Id true) cell
+unfolding attrs deep_attrs
+parent_cell table.ResourceAttrs cell e fits = id_cell false true cell fits
+parent_cell table.ScopeAttrs cell e fits = id_cell false true cell fits
+parent_cell table.LogAttrs cell e fits = id_cell false true cell fits
+parent_cell table.SpanAttrs cell e fits = id_cell false true cell fits
+parent_cell table.EventAttrs cell e fits = id_cell true true cell fits
+parent_cell table.LinkAttrs cell e fits = id_cell true true cell fits
+parent_cell table.NumberPointAttrs cell e fits = id_cell true true cell fits
+parent_cell table.SummaryPointAttrs cell e fits = id_cell true true cell fits
+parent_cell table.HistPointAttrs cell e fits = id_cell true true cell fits
+parent_cell table.NumberExemplarAttrs cell e fits = id_cell true true cell fits
+parent_cell table.HistExemplarAttrs cell e fits = id_cell true true cell fits
+parent_cell _ cell e fits = absurd cc
+
+pub parent_fits : (kind : Kind) (cell : Cell) → has_attributes kind ≡ true → IsCellOf (base.Id true) cell → IsCellOf (base_at kind 0) cell
+unfolding attrs deep_attrs
+parent_fits table.ResourceAttrs cell e fits = id_cell true false cell fits
+parent_fits table.ScopeAttrs cell e fits = id_cell true false cell fits
+parent_fits table.LogAttrs cell e fits = id_cell true false cell fits
+parent_fits table.SpanAttrs cell e fits = id_cell true false cell fits
+parent_fits table.EventAttrs cell e fits = id_cell true true cell fits
+parent_fits table.LinkAttrs cell e fits = id_cell true true cell fits
+parent_fits table.NumberPointAttrs cell e fits = id_cell true true cell fits
+parent_fits table.SummaryPointAttrs cell e fits = id_cell true true cell fits
+parent_fits table.HistPointAttrs cell e fits = id_cell true true cell fits
+parent_fits table.NumberExemplarAttrs cell e fits = id_cell true true cell fits
+parent_fits table.HistExemplarAttrs cell e fits = id_cell true true cell fits
+parent_fits _ cell e fits = absurd cc
+
+-- what the other columns hold
+pub key_base : (kind : Kind) → has_attributes kind ≡ true → base_at kind 1 ≡ base.Utf8
+unfolding attrs deep_attrs
+key_base table.ResourceAttrs e = refl
+key_base table.ScopeAttrs e = refl
+key_base table.LogAttrs e = refl
+key_base table.SpanAttrs e = refl
+key_base table.EventAttrs e = refl
+key_base table.LinkAttrs e = refl
+key_base table.NumberPointAttrs e = refl
+key_base table.SummaryPointAttrs e = refl
+key_base table.HistPointAttrs e = refl
+key_base table.NumberExemplarAttrs e = refl
+key_base table.HistExemplarAttrs e = refl
+key_base _ e = absurd cc
+
+pub nine_columns : (kind : Kind) → has_attributes kind ≡ true → width_of kind ≡ 9
+unfolding attrs deep_attrs
+nine_columns table.ResourceAttrs e = refl
+nine_columns table.ScopeAttrs e = refl
+nine_columns table.LogAttrs e = refl
+nine_columns table.SpanAttrs e = refl
+nine_columns table.EventAttrs e = refl
+nine_columns table.LinkAttrs e = refl
+nine_columns table.NumberPointAttrs e = refl
+nine_columns table.SummaryPointAttrs e = refl
+nine_columns table.HistPointAttrs e = refl
+nine_columns table.NumberExemplarAttrs e = refl
+nine_columns table.HistExemplarAttrs e = refl
+nine_columns _ e = absurd cc
+
+-- the cells of a value in columns of its bases
+cells_row : (columns : List ColumnSpec) (bases : List Base) (cells : List Cell) → map (λ (c : ColumnSpec). c.base) columns ≡ bases → AreCellsOf bases cells → IsRow columns cells
+cells_row [] [] [] same fits = tt
+cells_row [] [] (cell ∷ cells) same fits = fits
+cells_row [] (b ∷ bases) cells same fits = absurd cc
+cells_row (c ∷ columns) [] cells same fits = absurd cc
+cells_row (c ∷ columns) (b ∷ bases) [] same fits = fits
+cells_row (c ∷ columns) (b ∷ bases) (cell ∷ cells) same fits =
+    let one : c.base ≡ b = cc in
+    let more : map (λ (c : ColumnSpec). c.base) columns ≡ bases = cc in
+    (subst (λ (holds : Base). IsCellOf holds cell) (sym one) fits.0, cells_row columns bases cells more fits.1)
+
+-- the row of a pair
+pub pair_fits : (kind : Kind) (parent key : Cell) (cells : List Cell) → has_attributes kind ≡ true → IsCellOf (base.Id true) parent → IsCellOf base.Utf8 key
+    → AreCellsOf value_bases cells → IsRow (columns_of kind) (parent ∷ key ∷ cells)
+unfolding attrs deep_attrs
+pair_fits table.ResourceAttrs parent key cells e p k v = (id_cell true false parent p, (k, cells_row (drop 2 attrs) value_bases cells refl v))
+pair_fits table.ScopeAttrs parent key cells e p k v = (id_cell true false parent p, (k, cells_row (drop 2 attrs) value_bases cells refl v))
+pair_fits table.LogAttrs parent key cells e p k v = (id_cell true false parent p, (k, cells_row (drop 2 attrs) value_bases cells refl v))
+pair_fits table.SpanAttrs parent key cells e p k v = (id_cell true false parent p, (k, cells_row (drop 2 attrs) value_bases cells refl v))
+pair_fits table.EventAttrs parent key cells e p k v = (id_cell true true parent p, (k, cells_row (drop 2 deep_attrs) value_bases cells refl v))
+pair_fits table.LinkAttrs parent key cells e p k v = (id_cell true true parent p, (k, cells_row (drop 2 deep_attrs) value_bases cells refl v))
+pair_fits table.NumberPointAttrs parent key cells e p k v = (id_cell true true parent p, (k, cells_row (drop 2 deep_attrs) value_bases cells refl v))
+pair_fits table.SummaryPointAttrs parent key cells e p k v = (id_cell true true parent p, (k, cells_row (drop 2 deep_attrs) value_bases cells refl v))
+pair_fits table.HistPointAttrs parent key cells e p k v = (id_cell true true parent p, (k, cells_row (drop 2 deep_attrs) value_bases cells refl v))
+pair_fits table.NumberExemplarAttrs parent key cells e p k v = (id_cell true true parent p, (k, cells_row (drop 2 deep_attrs) value_bases cells refl v))
+pair_fits table.HistExemplarAttrs parent key cells e p k v = (id_cell true true parent p, (k, cells_row (drop 2 deep_attrs) value_bases cells refl v))
+pair_fits _ parent key cells e p k v = absurd cc
+
+-- parents are stored in runs
+pub parents_run : (kind : Kind) → has_attributes kind ≡ true → coding_at kind 0 ≡ coding.Run
+unfolding attrs deep_attrs
+parents_run table.ResourceAttrs e = refl
+parents_run table.ScopeAttrs e = refl
+parents_run table.LogAttrs e = refl
+parents_run table.SpanAttrs e = refl
+parents_run table.EventAttrs e = refl
+parents_run table.LinkAttrs e = refl
+parents_run table.NumberPointAttrs e = refl
+parents_run table.SummaryPointAttrs e = refl
+parents_run table.HistPointAttrs e = refl
+parents_run table.NumberExemplarAttrs e = refl
+parents_run table.HistExemplarAttrs e = refl
+parents_run _ e = absurd cc
+
+-- the value of an attribute stands from the third column on
+pub has_value : (kind : Kind) → has_attributes kind ≡ true → HasValueAt kind 2
+unfolding attrs deep_attrs
+has_value table.ResourceAttrs e = record { bases = refl }
+has_value table.ScopeAttrs e = record { bases = refl }
+has_value table.LogAttrs e = record { bases = refl }
+has_value table.SpanAttrs e = record { bases = refl }
+has_value table.EventAttrs e = record { bases = refl }
+has_value table.LinkAttrs e = record { bases = refl }
+has_value table.NumberPointAttrs e = record { bases = refl }
+has_value table.SummaryPointAttrs e = record { bases = refl }
+has_value table.HistPointAttrs e = record { bases = refl }
+has_value table.NumberExemplarAttrs e = record { bases = refl }
+has_value table.HistExemplarAttrs e = record { bases = refl }
+has_value _ e = absurd cc
+
+-- the cells after the first one
+pub eight_cells : (row : List Cell) → length row ≡ 9
+    → drop 1 row ≡ cell_at row 1 ∷ cell_at row 2 ∷ cell_at row 3 ∷ cell_at row 4 ∷ cell_at row 5 ∷ cell_at row 6 ∷ cell_at row 7 ∷ cell_at row 8 ∷ []
+eight_cells [] e = absurd (omega arith)
+eight_cells (a0 ∷ []) e = absurd (omega arith)
+eight_cells (a0 ∷ a1 ∷ []) e = absurd (omega arith)
+eight_cells (a0 ∷ a1 ∷ a2 ∷ []) e = absurd (omega arith)
+eight_cells (a0 ∷ a1 ∷ a2 ∷ a3 ∷ []) e = absurd (omega arith)
+eight_cells (a0 ∷ a1 ∷ a2 ∷ a3 ∷ a4 ∷ []) e = absurd (omega arith)
+eight_cells (a0 ∷ a1 ∷ a2 ∷ a3 ∷ a4 ∷ a5 ∷ []) e = absurd (omega arith)
+eight_cells (a0 ∷ a1 ∷ a2 ∷ a3 ∷ a4 ∷ a5 ∷ a6 ∷ []) e = absurd (omega arith)
+eight_cells (a0 ∷ a1 ∷ a2 ∷ a3 ∷ a4 ∷ a5 ∷ a6 ∷ a7 ∷ []) e = absurd (omega arith)
+eight_cells (a0 ∷ a1 ∷ a2 ∷ a3 ∷ a4 ∷ a5 ∷ a6 ∷ a7 ∷ a8 ∷ []) e = refl
+eight_cells (a0 ∷ a1 ∷ a2 ∷ a3 ∷ a4 ∷ a5 ∷ a6 ∷ a7 ∷ a8 ∷ a9 ∷ more) e = absurd (omega arith)
+
+pub row_again : (row : List Cell) → length row ≡ 9 → (p c1 c2 c3 c4 c5 c6 c7 c8 : Cell) (stored : ℕ) → p ≡ number (pos stored)
+    → c1 ≡ cell_at row 1 → c2 ≡ cell_at row 2 → c3 ≡ cell_at row 3 → c4 ≡ cell_at row 4
+    → c5 ≡ cell_at row 5 → c6 ≡ cell_at row 6 → c7 ≡ cell_at row 7 → c8 ≡ cell_at row 8
+    → p ∷ c1 ∷ c2 ∷ c3 ∷ c4 ∷ c5 ∷ c6 ∷ c7 ∷ c8 ∷ [] ≡ number (pos stored) ∷ drop 1 row
+row_again row nine p c1 c2 c3 c4 c5 c6 c7 c8 stored e e1 e2 e3 e4 e5 e6 e7 e8 = rw (e, e1, e2, e3, e4, e5, e6, e7, e8) (ap (λ (more : List Cell). number (pos stored) ∷ more) (sym (eight_cells row nine)))
+
+-- the cells of a value, one by one
+pub seven_fit : (xs : List CellView) (d : CellView) → AreCellsOf value_bases (map seen xs)
+    → AreCellsOf value_bases (seen (slice_index_or xs 0 d) ∷ seen (slice_index_or xs 1 d) ∷ seen (slice_index_or xs 2 d) ∷ seen (slice_index_or xs 3 d)
+    ∷ seen (slice_index_or xs 4 d) ∷ seen (slice_index_or xs 5 d) ∷ seen (slice_index_or xs 6 d) ∷ [])
+seven_fit [] d fits = absurd fits
+seven_fit (x0 ∷ []) d fits = absurd fits.1
+seven_fit (x0 ∷ x1 ∷ []) d fits = absurd fits.1.1
+seven_fit (x0 ∷ x1 ∷ x2 ∷ []) d fits = absurd fits.1.1.1
+seven_fit (x0 ∷ x1 ∷ x2 ∷ x3 ∷ []) d fits = absurd fits.1.1.1.1
+seven_fit (x0 ∷ x1 ∷ x2 ∷ x3 ∷ x4 ∷ []) d fits = absurd fits.1.1.1.1.1
+seven_fit (x0 ∷ x1 ∷ x2 ∷ x3 ∷ x4 ∷ x5 ∷ []) d fits = absurd fits.1.1.1.1.1.1
+seven_fit (x0 ∷ x1 ∷ x2 ∷ x3 ∷ x4 ∷ x5 ∷ x6 ∷ []) d fits = fits
+seven_fit (x0 ∷ x1 ∷ x2 ∷ x3 ∷ x4 ∷ x5 ∷ x6 ∷ x7 ∷ more) d fits = absurd fits.1.1.1.1.1.1.1
+
+-- attributes of log records
+pub log_width : (kind : Kind) → kind ≡ table.LogAttrs → width_of kind ≡ 9
+log_width kind e = subst (λ (k : Kind). width_of k ≡ 9) (sym e) (nine_columns table.LogAttrs refl)
+
+pub log_value : (kind : Kind) → kind ≡ table.LogAttrs → HasValueAt kind 2
+log_value kind e = subst (λ (k : Kind). HasValueAt k 2) (sym e) (has_value table.LogAttrs refl)

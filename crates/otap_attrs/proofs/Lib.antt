@@ -1,0 +1,11 @@
+pub mod AttributeRows
+pub mod AttributesWeighed
+pub mod PairRows
+pub mod SortedRows
+pub mod StableSort
+pub mod TableLaws
+pub mod ValueCells
+pub mod ValueColumns
+pub mod ValueFaults
+pub mod ValueLaws
+pub mod WrittenRows

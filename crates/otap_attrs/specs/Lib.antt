@@ -1,0 +1,5 @@
+pub mod Inside
+pub mod Refusals
+pub mod Sorting
+pub mod Tables
+pub mod Values

@@ -1,0 +1,123 @@
+//! The tables of attributes of a request, and what their rows weigh.
+ghost use Rattle.std.specs.Prelude.{◌≡◌, ◌≤◌, ◌++◌, ◌^◌, List, true, All, length, map, min, IfOk, OnOk};
+ghost use Rattle.otlp_model.specs.declared.value.Pair.{Pair};
+ghost use Rattle.otlp_model.specs.Limits.{weight_limit};
+ghost use Rattle.otlp_model.specs.Weight.{total, weight_of_pair, weight_of_value};
+ghost use Rattle.otap_cells.specs.Continuing.{has_attributes};
+ghost use Rattle.otap_groups.specs.Weighing.{cells_weight, parts_weight};
+ghost use Rattle.otap_attrs.specs.Tables.{attribute_table, beside_kind, where_rows};
+ghost use Rattle.otap_attrs.specs.Values.{pair_cells, value_cells};
+
+use crate::pairs::add_pairs;
+use crate::sorting::code_parents;
+use crate::values::capped_len;
+use cbor_values::len_value;
+use otap_cells::{Kind, LogicalTable, Rows};
+use otlp_model::{CAP, Items, LogRecord, Pair, Resource, Scope, Value, add_capped};
+use std::alloc::{AllocError, Global};
+
+/// What has attributes.
+pub trait Attributed {
+    ghost pairs: { Self → List Pair };
+
+    /// The attributes.
+    fn pairs(&self) -> &Items<Pair>
+        ensures { result.now ≡ pairs self.now };
+}
+
+impl Attributed for Resource {
+    ghost pairs = { λ s. s.pairs };
+
+    fn pairs(&self) -> &Items<Pair> {
+        &self.pairs
+    }
+}
+
+impl Attributed for Scope {
+    ghost pairs = { λ s. s.pairs };
+
+    fn pairs(&self) -> &Items<Pair> {
+        &self.pairs
+    }
+}
+
+impl Attributed for LogRecord {
+    ghost pairs = { λ s. s.pairs };
+
+    fn pairs(&self) -> &Items<Pair> {
+        &self.pairs
+    }
+}
+
+/// The table of the attributes of some parents, whose numbers are their places. Takes n log n for n attributes.
+#[tactic(auto, unfolding(crate::specs::Tables::attribute_table, otap_groups::specs::Flat::placed))]
+pub fn write_attributes<P: Attributed>(
+    alloc: Global,
+    kind: Kind,
+    parents: &[&P],
+) -> Result<LogicalTable, AllocError>
+    requires kind { has_attributes kind ≡ true }
+    requires few { length parents.now ≤ 2 ^ 32 }
+    requires weight { All (λ parent. total 32 weight_of_pair (P.pairs parent.now) ≤ weight_limit) parents.now }
+    ensures { IfOk result (λ table. table ≡ attribute_table kind (map (λ parent. P.pairs parent.now) parents.now)) }
+{
+    let mut table = LogicalTable::new(alloc, kind);
+    'parents: for place in 0..parents.len() {
+        let pairs = parents[place].pairs();
+        add_pairs(alloc, &mut table, place as u32, pairs)?;
+    }
+    code_parents(alloc, &mut table)?;
+    Ok(table)
+}
+
+/// Appends a table beside its kind, where it has rows.
+pub fn push_filled(
+    tables: &mut Vec<(Kind, LogicalTable)>,
+    table: LogicalTable,
+) -> Result<(), AllocError>
+    ensures { OnOk result (tables.new.items ≡ tables.old.items ++ map beside_kind (where_rows table)) }
+{
+    if table.rows() == 0 {
+        return Ok(());
+    }
+    let kind = table.kind();
+    tables.push((kind, table))?;
+    Ok(())
+}
+
+/// What the rows of attributes weigh, or `CAP` where it is more. It writes nothing.
+pub fn attributes_weight(pairs: &Items<Pair>) -> u64
+    requires { total 32 weight_of_pair pairs.now ≤ weight_limit }
+    ensures { result ≡ min (parts_weight pair_cells pairs.now) (2 ^ 63) }
+{
+    let mut weight = 0;
+    'pairs: for pair in pairs.as_slice() {
+        weight = add_capped(weight, add_capped(32, pair_weight(pair)));
+    }
+    weight
+}
+
+#[tactic(auto, using(crate::proofs::AttributesWeighed::pair_weighs))]
+fn pair_weight(pair: &Pair) -> u64
+    requires { weight_of_value pair.now.value ≤ weight_limit }
+    ensures { result ≡ min (cells_weight (pair_cells pair.now)) (2 ^ 63) }
+{
+    add_capped(
+        capped_len(pair.key.as_slice()),
+        value_cells_weight(&pair.value),
+    )
+}
+
+/// The bytes of the cells that a value is written in, or `CAP` where they are more. It writes nothing.
+#[tactic(auto, using(crate::proofs::AttributesWeighed::empty_weighs, crate::proofs::AttributesWeighed::str_weighs, crate::proofs::AttributesWeighed::bool_weighs, crate::proofs::AttributesWeighed::int_weighs, crate::proofs::AttributesWeighed::double_weighs, crate::proofs::AttributesWeighed::bytes_weighs, crate::proofs::AttributesWeighed::array_weighs, crate::proofs::AttributesWeighed::map_weighs))]
+pub fn value_cells_weight(value: &Value) -> u64
+    requires { weight_of_value value.now ≤ weight_limit }
+    ensures { result ≡ min (cells_weight (value_cells value.now)) (2 ^ 63) }
+{
+    match value {
+        Value::Empty | Value::Bool(_) | Value::Int(_) | Value::Double(_) => 0,
+        Value::Str(text) => capped_len(text.as_slice()),
+        Value::Bytes(octets) => capped_len(octets.as_slice()),
+        Value::Map(_) | Value::Array(_) => len_value(value).min(CAP),
+    }
+}
