@@ -1,0 +1,109 @@
+//! How the tables of a signal hang together.
+ghost use Rattle.std.specs.Prelude.{◌≡◌};
+ghost use Rattle.otap_checks.specs.Links.{links_of};
+
+use otap_cells::Kind;
+use otlp_model::Signal;
+
+/// The parents of a table's rows: the column that has them, and the column of another table that has their ids.
+#[derive(Clone, Copy, Debug)]
+pub struct Parents {
+    pub column: u32,
+    pub of: Kind,
+    pub at: u32,
+}
+
+/// A table, with the column of its rows' own ids, which differ, and with their parents.
+#[derive(Clone, Copy, Debug)]
+pub struct Link {
+    pub kind: Kind,
+    pub own: Option<u32>,
+    pub parents: Option<Parents>,
+}
+
+// Items have ids.
+macro_rules! items {
+    ($kind:ident) => {
+        Link {
+            kind: Kind::$kind,
+            own: Some(0),
+            parents: None,
+        }
+    };
+}
+
+// Parts have ids and parents.
+macro_rules! parts {
+    ($kind:ident of $of:ident $at:literal) => {
+        Link {
+            kind: Kind::$kind,
+            own: Some(0),
+            parents: Some(Parents {
+                column: 1,
+                of: Kind::$of,
+                at: $at,
+            }),
+        }
+    };
+}
+
+// Attributes have parents.
+macro_rules! attributes {
+    ($kind:ident of $of:ident $at:literal) => {
+        Link {
+            kind: Kind::$kind,
+            own: None,
+            parents: Some(Parents {
+                column: 0,
+                of: Kind::$of,
+                at: $at,
+            }),
+        }
+    };
+}
+
+static LOGS: &[Link] = &[
+    items!(Logs),
+    attributes!(ResourceAttrs of Logs 1),
+    attributes!(ScopeAttrs of Logs 4),
+    attributes!(LogAttrs of Logs 0),
+];
+
+static SPANS: &[Link] = &[
+    items!(Spans),
+    attributes!(ResourceAttrs of Spans 1),
+    attributes!(ScopeAttrs of Spans 4),
+    attributes!(SpanAttrs of Spans 0),
+    parts!(SpanEvents of Spans 0),
+    parts!(SpanLinks of Spans 0),
+    attributes!(EventAttrs of SpanEvents 0),
+    attributes!(LinkAttrs of SpanLinks 0),
+];
+
+static METRICS: &[Link] = &[
+    items!(Metrics),
+    attributes!(ResourceAttrs of Metrics 1),
+    attributes!(ScopeAttrs of Metrics 4),
+    parts!(NumberPoints of Metrics 0),
+    parts!(SummaryPoints of Metrics 0),
+    parts!(HistPoints of Metrics 0),
+    attributes!(NumberPointAttrs of NumberPoints 0),
+    attributes!(SummaryPointAttrs of SummaryPoints 0),
+    attributes!(HistPointAttrs of HistPoints 0),
+    parts!(NumberExemplars of NumberPoints 0),
+    parts!(HistExemplars of HistPoints 0),
+    attributes!(NumberExemplarAttrs of NumberExemplars 0),
+    attributes!(HistExemplarAttrs of HistExemplars 0),
+];
+
+/// The tables of a signal, its main table first.
+#[tactic(auto, unfolding(crate::specs::Links::links_of))]
+pub fn links_of(signal: Signal) -> &'static [Link]
+    ensures { result.now ≡ links_of signal }
+{
+    match signal {
+        Signal::Logs => LOGS,
+        Signal::Traces => SPANS,
+        Signal::Metrics => METRICS,
+    }
+}

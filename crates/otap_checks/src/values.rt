@@ -1,0 +1,39 @@
+//! What is wrong with the values of a table's rows.
+ghost use Rattle.std.specs.Prelude.{◌≡◌, IfErr, OnOk};
+ghost use Rattle.otap_cells.specs.Named.{table_named};
+ghost use Rattle.otap_cells.specs.Sets.{IsSet, tables_in};
+ghost use Rattle.otap_attrs.specs.declared.refusal.RowRefusal.{RowRefusal};
+ghost use Rattle.otap_attrs.specs.Values.{HasValueAt};
+ghost use Rattle.otap_checks.specs.Refusing.{RefusesCheck, RefusesRow};
+ghost use Rattle.otap_checks.specs.ValueDefects.{WrongValue, WrongValueOf};
+
+use crate::checking::{refused, table_of};
+use otap_attrs::{CheckRefusal, RowRefusal, check_value};
+use otap_cells::{Kind, Rows, TableSet};
+
+/// Tells what is wrong with the values of the table of a kind, whose columns stand from this one on. It builds nothing.
+pub fn check_values<R: Rows>(set: &TableSet<R>, kind: Kind, column: u32) -> Result<(), CheckRefusal>
+    requires set { IsSet R.table set.now.tables.items }
+    requires columns { HasValueAt kind column }
+    ensures ok { OnOk result ((why : RowRefusal) → WrongValue (table_named kind (tables_in R.table set.now.tables.items)) column why → ⊥) }
+    ensures err { IfErr result (RefusesCheck (WrongValueOf (tables_in R.table set.now.tables.items) kind column)) }
+{
+    let Some(rows) = table_of(set, kind) else {
+        return Ok(());
+    };
+    match check_rows(rows, column) {
+        Ok(()) => Ok(()),
+        Err(why) => Err(refused(kind, why)),
+    }
+}
+
+fn check_rows<R: Rows>(rows: &R, column: u32) -> Result<(), RowRefusal>
+    requires { HasValueAt (R.table rows.now).kind column }
+    ensures ok { OnOk result ((why : RowRefusal) → WrongValue (R.table rows.now) column why → ⊥) }
+    ensures err { IfErr result (WrongValue (R.table rows.now) column) }
+{
+    'rows: for row in 0..rows.rows() {
+        check_value(rows, column, row)?;
+    }
+    Ok(())
+}
