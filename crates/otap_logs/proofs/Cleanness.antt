@@ -1,0 +1,123 @@
+-- What the checks of logs tell together.
+use Rattle.std.proofs.Common.{◌≡◌, ℕ, length, List, [], Option, refl, sym, inl, inr, subst, arith}
+use Rattle.otlp_model.specs.declared.request.Signal.TheVariants as signal
+use Rattle.otap_cells.specs.declared.payload.Kind.{Kind}
+use Rattle.otap_cells.specs.declared.payload.Kind.TheVariants as table
+use Rattle.otap_cells.specs.Named.{table_named}
+use Rattle.otap_cells.specs.Tables.{Table, profile_table}
+use Rattle.otap_groups.specs.Rows.{main_rows}
+use Rattle.otap_attrs.specs.declared.refusal.RowRefusal.{RowRefusal}
+use Rattle.otap_attrs.specs.declared.refusal.RowRefusal.TheVariants as why
+use Rattle.otap_attrs.specs.declared.refusal.CheckRefusal.{CheckRefusal}
+use Rattle.otap_attrs.specs.declared.refusal.CheckRefusal.TheVariants as check
+use Rattle.otap_checks.specs.Links.{links_of, items, attributes}
+use Rattle.otap_checks.specs.IdDefects.{IdDefect}
+use Rattle.otap_checks.specs.Inside.{AreGiven}
+use Rattle.otap_checks.specs.Reading.{Disagrees}
+use Rattle.otap_checks.specs.Refusing.{RefusesCheck}
+use Rattle.otap_checks.specs.ValueDefects.{WrongValue, WrongValueOf}
+use Rattle.otap_checks.proofs.TableIds.{clean_given}
+use Rattle.otap_logs.specs.Inside.{AreWhole, IsUnlike}
+use Rattle.otap_logs.specs.Requests.{WrongCells, WrongLogs}
+
+-- no row has anything wrong
+pub clean : (tables : List Table) → AreWhole tables → (IsUnlike tables → ⊥) → (kind : Kind) (wrong : RowRefusal) → WrongLogs tables kind wrong → ⊥
+clean tables whole alike kind wrong (inl ids) = whole.ids kind wrong ids
+clean tables whole alike kind wrong (inr cells) = clean_cells kind wrong cells
+  where
+    clean_logs : (wrong : RowRefusal) → WrongCells (table_named table.Logs tables) table.Logs wrong → ⊥
+    clean_logs why.Disagree is = alike is
+    clean_logs (why.Ids fault) is = whole.bodies (why.Ids fault) is
+    clean_logs why.Orphan is = whole.bodies why.Orphan is
+    clean_logs why.BadValueType is = whole.bodies why.BadValueType is
+    clean_logs (why.BadCbor refusal) is = whole.bodies (why.BadCbor refusal) is
+    clean_logs why.TwoValues is = whole.bodies why.TwoValues is
+    clean_logs why.BadKind is = whole.bodies why.BadKind is
+    clean_logs (why.Memory error) is = whole.bodies (why.Memory error) is
+
+    clean_cells : (kind : Kind) (wrong : RowRefusal) → WrongCells (table_named kind tables) kind wrong → ⊥
+    clean_cells table.Logs wrong is = clean_logs wrong is
+    clean_cells table.ResourceAttrs wrong is = whole.resources wrong is
+    clean_cells table.ScopeAttrs wrong is = whole.scopes wrong is
+    clean_cells table.LogAttrs wrong is = whole.records wrong is
+    clean_cells _ wrong is = is
+
+pub whole : (tables : List Table) → ((kind : Kind) (wrong : RowRefusal) → WrongLogs tables kind wrong → ⊥) → AreWhole tables
+whole tables clean = record {
+  ids = λ kind wrong is. clean kind wrong (inl is);
+  bodies = body;
+  resources = λ wrong is. clean table.ResourceAttrs wrong (inr is);
+  scopes = λ wrong is. clean table.ScopeAttrs wrong (inr is);
+  records = λ wrong is. clean table.LogAttrs wrong (inr is);
+}
+  where
+    body : (wrong : RowRefusal) → WrongValue (table_named table.Logs tables) 15 wrong → ⊥
+    body why.Disagree is = is.is
+    body (why.Ids fault) is = is.is
+    body why.Orphan is = is.is
+    body why.BadValueType is = clean table.Logs why.BadValueType (inr is)
+    body (why.BadCbor refusal) is = clean table.Logs (why.BadCbor refusal) (inr is)
+    body why.TwoValues is = is.is
+    body why.BadKind is = is.is
+    body (why.Memory error) is = is.is
+
+-- a refusal of ids, or of values, is one of rows
+pub refuses_ids : (tables : List Table) (refusal : CheckRefusal) → RefusesCheck (IdDefect signal.Logs tables) refusal → RefusesCheck (WrongLogs tables) refusal
+refuses_ids tables (check.Memory error) is = tt
+refuses_ids tables (check.Defect kind wrong) is = inl is
+
+wrong_body : (tables : List Table) (wrong : RowRefusal) → WrongValue (table_named table.Logs tables) 15 wrong → WrongCells (table_named table.Logs tables) table.Logs wrong
+wrong_body tables why.Disagree is = absurd is.is
+wrong_body tables (why.Ids fault) is = is
+wrong_body tables why.Orphan is = is
+wrong_body tables why.BadValueType is = is
+wrong_body tables (why.BadCbor refusal) is = is
+wrong_body tables why.TwoValues is = is
+wrong_body tables why.BadKind is = is
+wrong_body tables (why.Memory error) is = is
+
+pub refuses_bodies : (tables : List Table) (refusal : CheckRefusal) → RefusesCheck (WrongValueOf tables table.Logs 15) refusal → RefusesCheck (WrongLogs tables) refusal
+refuses_bodies tables (check.Memory error) is = tt
+refuses_bodies tables (check.Defect kind wrong) is = subst (λ kind. WrongLogs tables kind wrong) (sym is.0) (inr (wrong_body tables wrong is.1))
+
+pub refuses_resources : (tables : List Table) (refusal : CheckRefusal) → RefusesCheck (WrongValueOf tables table.ResourceAttrs 2) refusal → RefusesCheck (WrongLogs tables) refusal
+refuses_resources tables (check.Memory error) is = tt
+refuses_resources tables (check.Defect kind wrong) is = subst (λ kind. WrongLogs tables kind wrong) (sym is.0) (inr is.1)
+
+pub refuses_scopes : (tables : List Table) (refusal : CheckRefusal) → RefusesCheck (WrongValueOf tables table.ScopeAttrs 2) refusal → RefusesCheck (WrongLogs tables) refusal
+refuses_scopes tables (check.Memory error) is = tt
+refuses_scopes tables (check.Defect kind wrong) is = subst (λ kind. WrongLogs tables kind wrong) (sym is.0) (inr is.1)
+
+pub refuses_records : (tables : List Table) (refusal : CheckRefusal) → RefusesCheck (WrongValueOf tables table.LogAttrs 2) refusal → RefusesCheck (WrongLogs tables) refusal
+refuses_records tables (check.Memory error) is = tt
+refuses_records tables (check.Defect kind wrong) is = subst (λ kind. WrongLogs tables kind wrong) (sym is.0) (inr is.1)
+
+-- the ids of each table are given
+module _ (tables : List Table) (is_whole : AreWhole tables) where
+  pub given_logs : AreGiven (table_named table.Logs tables)
+  unfolding links_of
+  given_logs = clean_given signal.Logs tables table.Logs (items table.Logs) (0, omega arith, refl) refl (is_whole.ids table.Logs)
+
+  pub given_resources : AreGiven (table_named table.ResourceAttrs tables)
+  unfolding links_of
+  given_resources = clean_given signal.Logs tables table.ResourceAttrs (attributes table.ResourceAttrs table.Logs 1) (1, omega arith, refl) refl (is_whole.ids table.ResourceAttrs)
+
+  pub given_scopes : AreGiven (table_named table.ScopeAttrs tables)
+  unfolding links_of
+  given_scopes = clean_given signal.Logs tables table.ScopeAttrs (attributes table.ScopeAttrs table.Logs 4) (2, omega arith, refl) refl (is_whole.ids table.ScopeAttrs)
+
+  pub given_records : AreGiven (table_named table.LogAttrs tables)
+  unfolding links_of
+  given_records = clean_given signal.Logs tables table.LogAttrs (attributes table.LogAttrs table.Logs 0) (3, omega arith, refl) refl (is_whole.ids table.LogAttrs)
+
+-- where there are no rows, none differ
+no_rows : (ids resource_ids scope_ids : List (Option ℕ)) → length (main_rows ids resource_ids scope_ids []) ≡ 0
+unfolding main_rows
+no_rows ids resource_ids scope_ids = refl
+
+pub none_unlike : (tables : List Table) (kind : Kind) → table_named table.Logs tables ≡ profile_table kind [] → IsUnlike tables → ⊥
+none_unlike tables kind none unlike = empty (subst Disagrees none unlike)
+  where
+    empty : Disagrees (profile_table kind []) → ⊥
+    empty (inl d) = absurd (omega (arith, d.differ.first.1, no_rows [] d.ids []))
+    empty (inr d) = absurd (omega (arith, d.differ.first.1, no_rows [] [] d.ids))

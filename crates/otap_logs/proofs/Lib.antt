@@ -1,0 +1,13 @@
+pub mod BackAgain
+pub mod Cleanness
+pub mod FineValues
+pub mod LogColumns
+pub mod NamedTables
+pub mod ReadAgain
+pub mod RecordBack
+pub mod RecordPlaces
+pub mod RecordRows
+pub mod Regrouping
+pub mod WrittenParts
+pub mod WrittenSet
+pub mod WrittenWeight

@@ -1,0 +1,14 @@
+use Rattle.otap_logs.proofs.LogColumns.{has_body, has_resource_value, has_scope_value, has_record_value}
+use Rattle.otap_logs.proofs.requests.check_cells.Goals as goal
+
+pub check_values-requires-clause-columns : goal.check_values-requires-clause-columns
+check_values-requires-clause-columns g c = has_body
+
+pub check_values-requires-2-clause-columns : goal.check_values-requires-2-clause-columns
+check_values-requires-2-clause-columns g c = has_resource_value
+
+pub check_values-requires-3-clause-columns : goal.check_values-requires-3-clause-columns
+check_values-requires-3-clause-columns g c = has_scope_value
+
+pub check_values-requires-4-clause-columns : goal.check_values-requires-4-clause-columns
+check_values-requires-4-clause-columns g c = has_record_value

@@ -1,0 +1,23 @@
+-- Words of private contracts.
+use Rattle.std.specs.Prelude.{List}
+use Rattle.otlp_model.specs.declared.request.Signal.TheVariants as signal
+use Rattle.otap_cells.specs.declared.payload.Kind.{Kind}
+use Rattle.otap_cells.specs.declared.payload.Kind.TheVariants as table
+use Rattle.otap_cells.specs.Named.{table_named}
+use Rattle.otap_cells.specs.Tables.{Table}
+use Rattle.otap_attrs.specs.declared.refusal.RowRefusal.{RowRefusal}
+use Rattle.otap_checks.specs.IdDefects.{IdDefect}
+use Rattle.otap_checks.specs.Reading.{Disagrees}
+use Rattle.otap_checks.specs.ValueDefects.{WrongValue}
+
+-- nothing is wrong but that rows of one id may differ
+pub record AreWhole (tables : List Table) : Type 0 where
+  pub ids : (kind : Kind) (wrong : RowRefusal) → IdDefect signal.Logs tables kind wrong → ⊥
+  pub bodies : (wrong : RowRefusal) → WrongValue (table_named table.Logs tables) 15 wrong → ⊥
+  pub resources : (wrong : RowRefusal) → WrongValue (table_named table.ResourceAttrs tables) 2 wrong → ⊥
+  pub scopes : (wrong : RowRefusal) → WrongValue (table_named table.ScopeAttrs tables) 2 wrong → ⊥
+  pub records : (wrong : RowRefusal) → WrongValue (table_named table.LogAttrs tables) 2 wrong → ⊥
+
+-- rows of one id differ
+abbrev pub IsUnlike : List Table → Type 0
+IsUnlike tables = Disagrees (table_named table.Logs tables)

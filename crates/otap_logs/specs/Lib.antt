@@ -1,0 +1,4 @@
+pub mod Inside
+pub mod Records
+pub mod Requests
+pub mod Tables

@@ -1,0 +1,13 @@
+//! The rows of log records: the tables of a request, and the request of tables.
+#![tactic(auto)]
+
+mod columns;
+pub mod laws;
+mod reading;
+mod requests;
+mod weights;
+mod writing;
+
+pub use requests::{check_rows, request_of};
+pub use weights::table_weight;
+pub use writing::tables_of;
