@@ -14,7 +14,8 @@ use Rattle.arrow_arrays.specs.Arrays.{arrays_of}
 use Rattle.otap_cells.specs.declared.payload.Kind.{Kind}
 use Rattle.otap_columns.specs.declared.refusal.ColumnRefusal.{ColumnRefusal}
 use Rattle.otap_columns.specs.Known.{columns_fit}
-use Rattle.otap_columns.specs.Records.{is_schema, is_rows, Stands, begins_otherwise, schema_later, behind_rows, no_rows, unknown_id, ends_badly, other_type, bad_buffers, bad_index, too_many_values, IsFineBatch, IsFineIn, IsFine, IsRead}
+use Rattle.otap_columns.specs.Records.{is_schema, is_rows, Stands, begins_otherwise, schema_later, behind_rows, no_rows, unknown_id, ends_badly, other_type, bad_buffers, bad_index, too_many_values}
+use Rattle.otap_columns.specs.Records.{IsFineBatch, IsFineIn, IsFine, IsRead}
 use Rattle.otap_columns.specs.Substreams.{SubstreamIn, substream_in, indexes_fit}
 use Rattle.otap_columns.proofs.Giving.{any_here}
 use Rattle.otap_columns.proofs.Growing.{substream-none}

@@ -62,7 +62,8 @@ module _ (id : ℤ) (delta : Bool) (batch : BatchIn) where
     where
       by_rest : (rest : List DictionaryIn) → g.rest ≡ rest → Next old new place x
       by_rest [] none =
-          absurd (omega (arith, below, ap length (g.new_is ∙ ap (λ r. map (grown_if id delta batch) g.done ++ r) none ∙ append-nil (map (grown_if id delta batch) g.done)), length-map g.done (grown_if id delta batch), g.at))
+          let long = ap length (g.new_is ∙ ap (λ r. map (grown_if id delta batch) g.done ++ r) none ∙ append-nil (map (grown_if id delta batch) g.done)) in
+          absurd (omega (arith, below, long, length-map g.done (grown_if id delta batch), g.at))
       by_rest (y ∷ rest) some =
           let new_is : new ≡ map (grown_if id delta batch) g.done ++ y ∷ rest = g.new_is ∙ ap (λ r. map (grown_if id delta batch) g.done ++ r) some in
           let here : get_or new place x ≡ y =
@@ -114,7 +115,8 @@ module _ (id : ℤ) (delta : Bool) (batch : BatchIn) where
             ap (λ ds. list_any is_too_large (map (grown_if id delta batch) ds)) old_is ∙ g.few,
           )
       by_rest (y ∷ rest) some =
-          absurd (omega (arith, end, ap length (g.new_is ∙ ap (λ r. map (grown_if id delta batch) g.done ++ r) some), length-append (map (grown_if id delta batch) g.done) (y ∷ rest), length-map g.done (grown_if id delta batch), g.at))
+          let long = ap length (g.new_is ∙ ap (λ r. map (grown_if id delta batch) g.done ++ r) some) in
+          absurd (omega (arith, end, long, length-append (map (grown_if id delta batch) g.done) (y ∷ rest), length-map g.done (grown_if id delta batch), g.at))
 
   -- it refuses the batch, and so do all
   pub refused_by : (old new : List DictionaryIn) (place : ℕ) (x : DictionaryIn) (r : ColumnRefusal) → Next old new place x → RefusesIf id delta batch x r → RefusesBatch id delta batch old r

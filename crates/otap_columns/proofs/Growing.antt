@@ -23,10 +23,10 @@ use Rattle.otap_columns.specs.Steps.{FitsIn, FitsValue}
 use Rattle.otap_columns.specs.Substreams.{SubstreamIn, schema_in, substream_of, substream_in}
 
 -- the values of marked batches from the latest that is no delta on
-abbrev joined : ArrowType → List (Bool × BatchIn) → List (Option (List ℕ))
+abbrev pub joined : ArrowType → List (Bool × BatchIn) → List (Option (List ℕ))
 joined kind bs = flat_map (λ (b : Bool × BatchIn). values_of kind b.1) (since (λ (b : Bool × BatchIn). not b.0) bs)
 
-joined-push : (kind : ArrowType) (bs : List (Bool × BatchIn)) (delta : Bool) (batch : BatchIn) → joined kind (bs ++ (delta, batch) ∷ []) ≡ kept delta (joined kind bs) ++ values_of kind batch
+pub joined-push : (kind : ArrowType) (bs : List (Bool × BatchIn)) (delta : Bool) (batch : BatchIn) → joined kind (bs ++ (delta, batch) ∷ []) ≡ kept delta (joined kind bs) ++ values_of kind batch
 joined-push kind bs true batch =
     rw (since-append (λ (b : Bool × BatchIn). not b.0) bs ((true, batch) ∷ []), flat_map-append (λ (b : Bool × BatchIn). values_of kind b.1) (since (λ b. not b.0) bs) ((true, batch) ∷ []), append-nil (values_of kind batch)) refl
 joined-push kind bs false batch =
@@ -35,14 +35,14 @@ joined-push kind bs false batch =
 batches_of-push : (id : ℤ) (ms : List IpcMessage) (m : IpcMessage) → batches_of id (ms ++ m ∷ []) ≡ batches_of id ms ++ batch_of id m
 batches_of-push id ms m = rw (flat_map-append (batch_of id) ms (m ∷ []), append-nil (batch_of id m)) refl
 
-dictionary-own : (kind : ArrowType) (i id : ℤ) (delta : Bool) (batch : BatchIn) (ms : List IpcMessage) → int_eq i id ≡ true
+pub dictionary-own : (kind : ArrowType) (i id : ℤ) (delta : Bool) (batch : BatchIn) (ms : List IpcMessage) → int_eq i id ≡ true
     → dictionary kind i (ms ++ Dictionary id delta batch ∷ []) ≡ kept delta (dictionary kind i ms) ++ values_of kind batch
 unfolding dictionary
 dictionary-own kind i id delta batch ms own =
     let here : batches_of i ms ++ batch_of i (Dictionary id delta batch) ≡ batches_of i ms ++ (delta, batch) ∷ [] = rw own refl in
     ap (joined kind) (batches_of-push i ms (Dictionary id delta batch) ∙ here) ∙ joined-push kind (batches_of i ms) delta batch
 
-dictionary-other : (kind : ArrowType) (i : ℤ) (ms : List IpcMessage) (m : IpcMessage) → batch_of i m ≡ [] → dictionary kind i (ms ++ m ∷ []) ≡ dictionary kind i ms
+pub dictionary-other : (kind : ArrowType) (i : ℤ) (ms : List IpcMessage) (m : IpcMessage) → batch_of i m ≡ [] → dictionary kind i (ms ++ m ∷ []) ≡ dictionary kind i ms
 unfolding dictionary
 dictionary-other kind i ms m none = ap (joined kind) (batches_of-push i ms m ∙ ap (λ bs. batches_of i ms ++ bs) none ∙ append-nil (batches_of i ms))
 
@@ -63,12 +63,12 @@ filled-rows : (batch : BatchIn) (ms : List IpcMessage) (ds : List DictionaryIn) 
 filled-rows batch ms [] = refl
 filled-rows batch ms (d ∷ ds) = λ i. record { id = d.id; kind = d.kind; values = dictionary-other d.kind d.id ms (Rows batch) refl i } ∷ filled-rows batch ms ds i
 
-dictionaries_in-batch : (arrays : List ArraySpec) (id : ℤ) (delta : Bool) (batch : BatchIn) (ms : List IpcMessage)
+pub dictionaries_in-batch : (arrays : List ArraySpec) (id : ℤ) (delta : Bool) (batch : BatchIn) (ms : List IpcMessage)
     → dictionaries_in arrays (ms ++ Dictionary id delta batch ∷ []) ≡ all_grown id delta batch (dictionaries_in arrays ms)
 unfolding dictionaries_in all_grown
 dictionaries_in-batch arrays id delta batch ms = filled-batches id delta batch ms (empty_dictionaries arrays)
 
-dictionaries_in-rows : (arrays : List ArraySpec) (batch : BatchIn) (ms : List IpcMessage) → dictionaries_in arrays (ms ++ Rows batch ∷ []) ≡ dictionaries_in arrays ms
+pub dictionaries_in-rows : (arrays : List ArraySpec) (batch : BatchIn) (ms : List IpcMessage) → dictionaries_in arrays (ms ++ Rows batch ∷ []) ≡ dictionaries_in arrays ms
 unfolding dictionaries_in
 dictionaries_in-rows arrays batch ms = filled-rows batch ms (empty_dictionaries arrays)
 

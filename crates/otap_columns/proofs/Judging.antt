@@ -22,8 +22,10 @@ use Rattle.otap_columns.specs.declared.refusal.ColumnRefusal.{ColumnRefusal}
 use Rattle.otap_columns.specs.declared.refusal.ColumnRefusal.TheVariants.{Order, Ipc, Column, Buffers, BadIndex, DictionarySize, Memory}
 use Rattle.otap_columns.specs.Dictionaries.{DictionaryIn}
 use Rattle.otap_columns.specs.Known.{columns_fit}
-use Rattle.otap_columns.specs.Records.{is_schema, is_rows, is_fine_for, HasValueFault, HasFineBuffers, begins_otherwise, schema_later, behind_rows, no_rows, unknown_id, ends_badly, other_type, bad_buffers, bad_index, too_many_values, Refuses, IsFineBatch, IsFineIn, IsFine, IsRead}
-use Rattle.otap_columns.specs.Reading.{TakesBatch, GoneSoFar, TakesRecord, RefusesFirst, RefusesOrder, RefusesEnd, opened, RefusesOpen, with_batch, RefusesFirstBatch, RefusesMessage, TakesAll, FitsRows, RefusesRows, RefusesAtRows, RefusesRecord}
+use Rattle.otap_columns.specs.Records.{is_schema, is_rows, is_fine_for, HasValueFault, HasFineBuffers, begins_otherwise, schema_later, behind_rows, no_rows, unknown_id, ends_badly, other_type}
+use Rattle.otap_columns.specs.Records.{bad_buffers, bad_index, too_many_values, Refuses, IsFineBatch, IsFineIn, IsFine, IsRead}
+use Rattle.otap_columns.specs.Reading.{TakesBatch, GoneSoFar, TakesRecord, RefusesFirst, RefusesOrder, RefusesEnd, opened, RefusesOpen, with_batch, RefusesFirstBatch, RefusesMessage, TakesAll}
+use Rattle.otap_columns.specs.Reading.{FitsRows, RefusesRows, RefusesAtRows, RefusesRecord}
 use Rattle.otap_columns.specs.Substreams.{SubstreamIn, substream_in, rows_of, last_rows}
 use Rattle.otap_columns.specs.Views.{ReaderIn, StandsAt}
 use Rattle.otap_columns.proofs.Growing.{substream-batch, substream-rows, some_messages, substream-opened, substream-none}

@@ -104,7 +104,8 @@ one_more_column kind s batch found n c inside before here k d below =
     ]
 
 -- what a column shows is the cell of the table
-module _ (kind : Kind) (s : SubstreamIn) (batch : BatchIn) (t : Table) (is : table_in kind s batch ≡ t) (column row : ℕ) (c : ResolvedColumn) (here : IsColumn kind s batch column c) (x : Option (List ℕ)) (value : x ≡ resolved_value c row) where
+module _ (kind : Kind) (s : SubstreamIn) (batch : BatchIn) (t : Table) (is : table_in kind s batch ≡ t) (column row : ℕ) (c : ResolvedColumn) (here : IsColumn kind s batch column c)
+    (x : Option (List ℕ)) (value : x ≡ resolved_value c row) where
   pub column_shows : column < width_of t.kind → row < length t.rows → stored_cell (base_at t.kind column) x ≡ cell_in t.rows column row
   unfolding column_cell
   column_shows in_width in_rows =

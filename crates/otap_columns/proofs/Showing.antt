@@ -27,11 +27,12 @@ use Rattle.otap_cells.specs.Columns.{column_at, base_at, coding_at, is_id_at, al
 use Rattle.otap_cells.specs.Tables.{IsTable}
 use Rattle.otap_cells.proofs.ByPlace.{IsTable-table_by}
 use Rattle.otap_columns.specs.Dictionaries.{DictionaryIn, is_for, values_for}
-use Rattle.otap_columns.specs.Known.{known_column, known_columns, is_column, place_in, place_at, array_at, array_of, elements_at, stores, fits_encoding, fits_as, fits_column, fits_at, columns_fit, coding_if, column_coding, greatest_if, column_greatest, FitsBase, stored_cell}
+use Rattle.otap_columns.specs.Known.{known_column, known_columns, is_column, place_in, place_at, array_at, array_of, elements_at, stores, fits_encoding, fits_as, fits_column, fits_at, columns_fit}
+use Rattle.otap_columns.specs.Known.{coding_if, column_coding, greatest_if, column_greatest, FitsBase, stored_cell}
 use Rattle.otap_columns.specs.Steps.{FitsIn, FitsValue}
 use Rattle.otap_columns.specs.Substreams.{SubstreamIn, replaced, field_value, value_if, column_value, column_cell, table_in}
 use Rattle.otap_columns.proofs.Coding.{own_allowed, named_allowed, fits_allowed}
-use Rattle.otap_columns.proofs.Finding.{Found, found}
+use Rattle.otap_columns.proofs.Finding.{PassesAt, passes_at}
 use Rattle.otap_columns.proofs.Storing.{cell_is, stores_fits, id_bounded}
 
 -- the values of a field's dictionary are of its type
@@ -90,8 +91,8 @@ pub record IsTyped (kind : Kind) (arrays : List ArraySpec) (column place : ℕ) 
 pub typed_at : (kind : Kind) (arrays : List ArraySpec) (column place : ℕ) → columns_fit kind arrays ≡ true → place_at kind arrays column ≡ Some place → IsTyped kind arrays column place
 unfolding columns_fit place_in known_columns
 typed_at kind arrays column place types at =
-    let f : Found (is_column column) 0 (known_columns kind arrays) place =
-    found (is_column column) 0 (known_columns kind arrays) place (sym (position_from-zero (is_column column) (known_columns kind arrays)) ∙ at) in
+    let f : PassesAt (is_column column) 0 (known_columns kind arrays) place =
+    passes_at (is_column column) 0 (known_columns kind arrays) place (sym (position_from-zero (is_column column) (known_columns kind arrays)) ∙ at) in
     let below : place < length arrays = omega (arith, f.below, length-map-range_with_len (known_column kind arrays) 0 (length arrays)) in
     let here : get_or (known_columns kind arrays) place None ≡ known_column kind arrays place =
     get_or-map-range_with_len (known_column kind arrays) 0 (length arrays) place place None below (omega arith) in

@@ -24,7 +24,8 @@ pub table_cell : (kind : Kind) (s : SubstreamIn) (batch : BatchIn) (column row :
     → cell_in (table_in kind s batch).rows column row ≡ column_cell kind s batch column row
 unfolding table_in
 table_cell kind s batch column row in_width in_rows =
-    ap (λ rows. cell_in rows column row) (rows-table_by kind (column_coding kind s.arrays) (column_greatest kind s.arrays) batch.rows (column_cell kind s batch)) ∙ cell_in-rows_by kind batch.rows (column_cell kind s batch) column row in_width in_rows
+    ap (λ rows. cell_in rows column row) (rows-table_by kind (column_coding kind s.arrays) (column_greatest kind s.arrays) batch.rows (column_cell kind s batch))
+    ∙ cell_in-rows_by kind batch.rows (column_cell kind s batch) column row in_width in_rows
 
 pub table_coding : (kind : Kind) (s : SubstreamIn) (batch : BatchIn) (column : ℕ) → is_id_at kind column ≡ true → coding_in (table_in kind s batch) column ≡ column_coding kind s.arrays column
 unfolding table_in

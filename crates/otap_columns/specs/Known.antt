@@ -1,5 +1,6 @@
 -- The columns of a kind's tables among the fields of a schema: by their paths, their types, and how their ids are stored.
-use Rattle.std.specs.Prelude.{◌≡◌, ℕ, ◌+◌, ◌*◌, ◌%◌, ◌^◌, ◌==◌, ◌&&◌, ◌||◌, ◌⊎◌, ⊤, not, Bool, true, false, if◌then◌else◌, List, length, map, slice_get, slice_index, Option, Some, None, option_map, position, ℤ, pos, IsUtf8}
+use Rattle.std.specs.Prelude.{◌≡◌, ℕ, ◌+◌, ◌*◌, ◌%◌, ◌^◌, ◌==◌, ◌&&◌, ◌||◌, ◌⊎◌, ⊤, not, Bool, true, false, if◌then◌else◌, List, length, map, slice_get, slice_index, Option, Some, None, option_map}
+use Rattle.std.specs.Prelude.{position, ℤ, pos, IsUtf8}
 use Rattle.std.specs.List.{range_with_len}
 use Rattle.std.specs.Int.{w32, w64, cast_signed}
 use Rattle.byteorder.specs.Endian.{little_number}

@@ -12,8 +12,8 @@ use Rattle.arrow_ipc.specs.Faults as ipc
 use Rattle.arrow_ipc.specs.Fronts.{MessagesIn, front_of, left_of, rest_of, rows_in}
 use Rattle.arrow_arrays.specs.Arrays.{arrays_of, arrays_check, HasFault}
 use Rattle.otap_cells.specs.declared.payload.Kind.{Kind}
-use Rattle.otap_columns.specs.declared.messages.Found.{Found}
-use Rattle.otap_columns.specs.declared.messages.Found.TheVariants as found
+use Rattle.otap_columns.specs.declared.messages.AnyBatch.{AnyBatch}
+use Rattle.otap_columns.specs.declared.messages.AnyBatch.TheVariants as any
 use Rattle.otap_columns.specs.declared.refusal.ColumnRefusal.{ColumnRefusal}
 use Rattle.otap_columns.specs.declared.refusal.ColumnRefusal.TheVariants.{Order, Ipc, Column, Buffers, BadIndex, Memory}
 use Rattle.otap_columns.specs.Dictionaries.{empty_dictionaries, all_grown}
@@ -42,10 +42,10 @@ HasReadableSchema (Dictionary id delta batch) = Unit {0}
 HasReadableSchema (Rows batch) = Unit {0}
 
 -- a message that is no schema, by what it holds
-abbrev pub IsFound : IpcMessage → Found → Type 0
-IsFound (Schema fields) f = ⊥
-IsFound (Dictionary id delta batch) f = f ≡ found.Dictionary id delta batch
-IsFound (Rows batch) f = f ≡ found.Rows batch
+abbrev pub IsAnyBatch : IpcMessage → AnyBatch → Type 0
+IsAnyBatch (Schema fields) f = ⊥
+IsAnyBatch (Dictionary id delta batch) f = f ≡ any.Dictionary id delta batch
+IsAnyBatch (Rows batch) f = f ≡ any.Rows batch
 
 -- a record batch was taken off
 pub record PassesRows (old new : MessagesIn) (batch : BatchIn) : Type 0 where
@@ -53,9 +53,9 @@ pub record PassesRows (old new : MessagesIn) (batch : BatchIn) : Type 0 where
   pub finds : rows_in (drop old.place old.bytes) ≡ Some batch
 
 -- a message that is no schema was taken off
-abbrev pub PassesNext : MessagesIn → MessagesIn → Found → Type 0
-PassesNext old new (found.Dictionary id delta batch) = Passes old new (Dictionary id delta batch)
-PassesNext old new (found.Rows batch) = PassesRows old new batch
+abbrev pub PassesNext : MessagesIn → MessagesIn → AnyBatch → Type 0
+PassesNext old new (any.Dictionary id delta batch) = Passes old new (Dictionary id delta batch)
+PassesNext old new (any.Rows batch) = PassesRows old new batch
 
 -- ---- what is left, by its messages and by what ends them
 

@@ -1,25 +1,28 @@
 //! Cells by the bytes that they are stored in, the lowest byte of a number first (Arrow columnar format, "Fixed-size
 //! primitive layout").
 
-ghost use Rattle.std.specs.Prelude.{◌≡◌, ◌⊎◌, length};
+ghost use Rattle.std.specs.Prelude.{◌≡◌, ◌<◌, ◌⊎◌, length};
 ghost use Rattle.std.specs.Option.{ForSome, option_copied};
 ghost use Rattle.byteorder.specs.Endian.{little_number};
 ghost use Rattle.otap_cells.specs.Cells.{seen};
+ghost use Rattle.otap_cells.specs.Columns.{base_at, width_of};
 ghost use Rattle.otap_columns.specs.Known.{FitsBase, unsigned, signed, stored, stored_cell};
 
 use byteorder::{ByteOrder, LittleEndian};
-use otap_cells::{Base, CellView};
+use otap_cells::{Base, CellView, Kind, base_of};
 
-/// The cell of a base that is stored in these bytes; null where there are none.
+/// The cell of a column that is stored in these bytes; null where there are none. What the column holds is looked up only
+/// where there are some.
 #[inline(always)]
 #[tactic(auto, unfolding(crate::specs::Known::stored_cell))]
-pub(crate) fn cell(base: Base, value: Option<&[u8]>) -> CellView<'_>
-    requires { ForSome (option_copied value) (FitsBase base) }
-    ensures { seen result ≡ stored_cell base (option_copied value.entry) }
+pub(crate) fn cell(kind: Kind, column: u32, value: Option<&[u8]>) -> CellView<'_>
+    requires column { column < width_of kind }
+    requires fits { ForSome (option_copied value) (FitsBase (base_at kind column)) }
+    ensures { seen result ≡ stored_cell (base_at kind column) (option_copied value.entry) }
 {
     match value {
         None => CellView::Null,
-        Some(value) => stored(base, value),
+        Some(value) => stored(base_of(kind, column), value),
     }
 }
 

@@ -143,8 +143,9 @@ impl Dictionary {
         ensures ok { OnOk result (self.new ≡ record self.old { values = self.old.values ++ values_of self.old.kind batch.now }) }
         ensures fits { FitsIn self.old → FitsIn self.new }
     {
+        let column = array.view(batch);
         'rows: for row in 0..batch.rows() {
-            self.push(array.cell(batch, row))?;
+            self.push(column.cell(row))?;
         }
         Ok(())
     }

@@ -1,15 +1,17 @@
 //! The indexes of a record batch, each judged by how many values its dictionary has.
 
-ghost use Rattle.std.specs.Prelude.{◌≡◌, slice_get, IsOk, IsTrue};
+ghost use Rattle.std.specs.Prelude.{◌≡◌, slice_get, IsOk};
 ghost use Rattle.std.specs.Option.{ForSome, option_copied};
 ghost use Rattle.arrow_buffers.specs.Below.{all_below};
-ghost use Rattle.arrow_arrays.specs.Arrays.{arrays_check, cell_of};
-ghost use Rattle.otap_columns.specs.Substreams.{IsIndexSize, is_index_below, is_indexed, field_fits_if, indexes_fit};
+ghost use Rattle.arrow_arrays.specs.Arrays.{arrays_check};
+ghost use Rattle.arrow_arrays.specs.Views.{cell_seen};
+ghost use Rattle.otap_columns.specs.Resolved.{HasIndexSizes};
+ghost use Rattle.otap_columns.specs.Substreams.{IsIndexSize, is_index_below, field_fits_if, indexes_fit};
 
 use crate::cells::index;
 use crate::dictionaries::count_for;
 use crate::dictionary::Dictionary;
-use arrow_arrays::Arrays;
+use arrow_arrays::{Arrays, ColumnView};
 use arrow_ipc::BatchView;
 
 /// Whether each index of each field, known or not, leads to a value. It visits each index once.
@@ -36,18 +38,18 @@ fn fit_at(arrays: &Arrays, dictionaries: &[Dictionary], batch: &BatchView<'_>, p
     let Some(dict) = array.dict else {
         return true;
     };
+    let column = arrays.view(batch, place);
     let count = count_for(dictionaries, array.kind, dict.id);
-    are_below(arrays, batch, place, count)
+    are_below(&column, batch.rows(), count)
 }
 
-// Whether the indexes of an array are below a number.
-fn are_below(arrays: &Arrays, batch: &BatchView<'_>, place: usize, count: usize) -> bool
-    requires fine { IsOk (arrays_check batch.now arrays.now) }
-    requires indexed { IsTrue (is_indexed (slice_get arrays.now place)) }
-    ensures { result ≡ all_below (λ row. is_index_below count (cell_of arrays.now batch.now place row)) batch.now.rows }
+// Whether the indexes of a column are below a number.
+fn are_below(column: &ColumnView<'_>, rows: u64, count: usize) -> bool
+    requires { HasIndexSizes column.now }
+    ensures { result ≡ all_below (λ row. is_index_below count (cell_seen column.now row)) rows }
 {
-    'rows: for row in 0..batch.rows() {
-        if !is_below(arrays.cell(batch, place, row), count) {
+    'rows: for row in 0..rows {
+        if !is_below(column.cell(row), count) {
             return false;
         }
     }

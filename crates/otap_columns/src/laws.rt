@@ -1,6 +1,6 @@
 //! What the definitions say of one another. The functions do nothing: their contracts are the laws.
 
-ghost use Rattle.std.specs.Prelude.{◌≡◌, ◌++◌, ◌∷◌, [], true, false, if◌then◌else◌, ℕ, ℤ, List};
+ghost use Rattle.std.specs.Prelude.{◌≡◌, ◌+◌, ◌<◌, ◌++◌, ◌∷◌, [], true, false, if◌then◌else◌, ℕ, ℤ, List, length, slice_get, None, Some};
 ghost use Rattle.arrow_ipc.specs.declared.messages.IpcMessage.{IpcMessage};
 ghost use Rattle.arrow_ipc.specs.Fronts.{front_of};
 ghost use Rattle.otap_cells.specs.declared.payload.Kind.{Kind};
@@ -8,6 +8,15 @@ ghost use Rattle.otap_columns.specs.declared.refusal.ColumnRefusal.{ColumnRefusa
 ghost use Rattle.otap_columns.specs.declared.dictionary.TheConstants.{MAX_VALUES};
 ghost use Rattle.otap_columns.specs.Limits.{value_limit};
 ghost use Rattle.otap_columns.specs.Records.{IsRead, Stands, CanGoOn, IsJudged};
+ghost use Rattle.otap_columns.specs.Schemas.{Forms, is_there, FormsFit, item_in, schema_for, slots_for, IsSlot, IsFound};
+ghost use Rattle.otap_columns.specs.Schemas.{Column, Items};
+ghost use Rattle.otap_columns.specs.Groups.{Member};
+ghost use Rattle.otap_columns.specs.Known.{place_at, columns_fit};
+ghost use Rattle.otap_cells.specs.Columns.{column_at, width_of};
+ghost use Rattle.arrow_arrays.specs.Arrays.{arrays_of};
+ghost use Rattle.arrow_arrays.specs.declared.spec.ArraySpec.{ArraySpec};
+ghost use Rattle.arrow_schema.specs.declared.spec.ArrowType.{ArrowType};
+ghost use Rattle.arrow_schema.specs.Readable.{IsReadable};
 ghost use Rattle.otap_columns.specs.Streams.{PayloadIn, is_of, opens, stream_of};
 
 /// A record that is read has no defect, and one that isn't has one, after nothing and after messages that have a schema.
@@ -25,4 +34,24 @@ pub fn values_are_limited()
 pub fn streams_grow_by_payloads()
     ensures other { (kind : ℤ) (before : List PayloadIn) (p : PayloadIn) → is_of kind p ≡ false → stream_of kind (before ++ p ∷ []) ≡ stream_of kind before }
     ensures own { (before : List PayloadIn) (p : PayloadIn) → stream_of p.kind (before ++ p ∷ []) ≡ (if opens before p then front_of p.bytes else stream_of p.kind before ++ front_of p.bytes) }
+{}
+
+/// The columns of a table, each in a form that fits it, make a schema that can be read and whose columns fit the table. Each
+/// array of the schema is a struct, a column or the elements of a column's lists, in this order; a column that is there is
+/// found at its path, in its type and form, and no other is found.
+pub fn columns_make_a_schema()
+    ensures readable { (kind : Kind) (forms : Forms) → FormsFit kind forms → IsReadable (schema_for kind forms) }
+    ensures fits { (kind : Kind) (forms : Forms) → FormsFit kind forms → columns_fit kind (arrays_of (schema_for kind forms)) ≡ true }
+    ensures count { (kind : Kind) (forms : Forms) → FormsFit kind forms → length (arrays_of (schema_for kind forms)) ≡ length (slots_for kind forms) }
+    ensures arrays { (kind : Kind) (forms : Forms) → FormsFit kind forms → (place : ℕ) (a : ArraySpec) → slice_get (arrays_of (schema_for kind forms)) place ≡ Some a → IsSlot kind forms place a }
+    ensures items { (kind : Kind) (forms : Forms) → FormsFit kind forms → (place : ℕ) (m : Member) (item : ArrowType) → slice_get (slots_for kind forms) place ≡ Some (Column m)
+        → item_in (column_at kind m.column).base ≡ Some item → slice_get (slots_for kind forms) (place + 1) ≡ Some (Items m.column) }
+    ensures found { (kind : Kind) (forms : Forms) → FormsFit kind forms → (column : ℕ) → column < width_of kind → is_there (forms column) ≡ true → IsFound kind forms column }
+    ensures absent { (kind : Kind) (forms : Forms) → FormsFit kind forms → (column : ℕ) → is_there (forms column) ≡ false → place_at kind (arrays_of (schema_for kind forms)) column ≡ None }
+{}
+
+/// Two such schemas are equal exactly where their columns have the same forms.
+pub fn schemas_tell_forms()
+    ensures told { (kind : Kind) (f g : Forms) → FormsFit kind f → FormsFit kind g → schema_for kind f ≡ schema_for kind g → (column : ℕ) → column < width_of kind → f column ≡ g column }
+    ensures same { (kind : Kind) (f g : Forms) → FormsFit kind f → ((column : ℕ) → column < width_of kind → f column ≡ g column) → schema_for kind f ≡ schema_for kind g }
 {}

@@ -6,6 +6,7 @@ mod cells;
 mod dictionaries;
 mod dictionary;
 mod ends;
+mod forms;
 mod indexes;
 mod known;
 pub mod laws;
@@ -16,8 +17,20 @@ mod resolved;
 #[cfg(test)]
 mod tests;
 mod view;
+mod writer;
+mod writer_batches;
+mod writer_cells;
+mod writer_columns;
+mod writer_groups;
+pub mod writer_laws;
+mod writer_record;
+mod writer_rows;
+mod writer_schema;
+mod writer_seen;
 
 pub use dictionary::MAX_VALUES;
+pub use forms::ColumnForm;
 pub use reader::Reader;
 pub use refusal::ColumnRefusal;
 pub use view::RowsView;
+pub use writer::{Writer, Written};

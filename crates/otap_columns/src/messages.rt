@@ -4,7 +4,7 @@ ghost use Rattle.std.specs.Prelude.{◌≡◌, ◌<◌, length, IfOk, IfErr, IfS
 ghost use Rattle.arrow_ipc.specs.declared.messages.IpcMessage.TheVariants.{Schema};
 ghost use Rattle.arrow_ipc.specs.Fronts.{front_of, left_of, rest_of};
 ghost use Rattle.arrow_schema.specs.Readable.{IsReadable};
-ghost use Rattle.otap_columns.specs.Reading.{Passes, FindsRows, HasReadableSchema, IsAtEnd, IsFound, PassesNext, RefusesNext, RefusesFirst, RefusesOrder, RefusesEnd};
+ghost use Rattle.otap_columns.specs.Reading.{Passes, FindsRows, HasReadableSchema, IsAtEnd, IsAnyBatch, PassesNext, RefusesNext, RefusesFirst, RefusesOrder, RefusesEnd};
 ghost use Rattle.otap_columns.specs.declared.refusal.ColumnRefusal.TheVariants.{Order};
 ghost use Rattle.otap_columns.specs.Records.{is_schema};
 
@@ -13,9 +13,9 @@ use arrow_ipc::{BatchView, IpcMessage, Messages};
 use arrow_schema::SchemaSpec;
 use std::alloc::Global;
 
-/// What stands after the schema of a record.
+/// A dictionary batch or a record batch: what stands after the schema of a record.
 #[derive(Debug, Drop)]
-pub(crate) enum Found<'a> {
+pub(crate) enum AnyBatch<'a> {
     Dictionary {
         id: i64,
         delta: bool,
@@ -62,7 +62,7 @@ pub(crate) fn first_schema(
 pub(crate) fn next_batch<'a>(
     alloc: Global,
     messages: &mut Messages<'a>,
-) -> Result<Found<'a>, ColumnRefusal>
+) -> Result<AnyBatch<'a>, ColumnRefusal>
     ensures ok { IfOk result (PassesNext messages.old messages.new) }
     ensures shorter { OnOk result (length (rest_of messages.new) < length (rest_of messages.old)) }
     ensures err { IfErr result (RefusesOrder (front_of (rest_of messages.old)) (left_of (rest_of messages.old))) }
@@ -73,13 +73,17 @@ pub(crate) fn next_batch<'a>(
     }
 }
 
-fn without_schema(message: IpcMessage<'_>) -> Result<Found<'_>, ColumnRefusal>
-    ensures ok { IfOk result (IsFound message.entry) }
+fn without_schema(message: IpcMessage<'_>) -> Result<AnyBatch<'_>, ColumnRefusal>
+    ensures ok { IfOk result (IsAnyBatch message.entry) }
     ensures err { IfErr result (λ refusal. (refusal ≡ Order) × IsTrue (is_schema message.entry)) }
 {
     match message {
-        IpcMessage::Dictionary { id, delta, batch } => Ok(Found::Dictionary { id, delta, batch }),
-        IpcMessage::Rows(batch) => Ok(Found::Rows(batch)),
+        IpcMessage::Dictionary { id, delta, batch } => Ok(AnyBatch::Dictionary {
+            id,
+            delta,
+            batch,
+        }),
+        IpcMessage::Rows(batch) => Ok(AnyBatch::Rows(batch)),
         IpcMessage::Schema(_schema) => Err(ColumnRefusal::Order),
     }
 }

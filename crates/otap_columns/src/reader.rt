@@ -4,7 +4,7 @@ ghost use Rattle.arrow_ipc.specs.declared.messages.IpcMessage.{IpcMessage};
 ghost use Rattle.arrow_ipc.specs.Fronts.{front_of};
 
 use crate::dictionary::Dictionary;
-use crate::messages::{self, Found};
+use crate::messages::{self, AnyBatch};
 use crate::refusal::ColumnRefusal;
 use crate::resolved::ResolvedColumn;
 use crate::view::RowsView;
@@ -184,11 +184,11 @@ impl Reader {
         ensures err { IfErr result (RefusesMessage self.old.substream (front_of (rest_of messages.old)) (left_of (rest_of messages.old))) }
     {
         match messages::next_batch(self.alloc, messages)? {
-            Found::Dictionary { id, delta, batch } => {
+            AnyBatch::Dictionary { id, delta, batch } => {
                 dictionaries::take(&mut self.dictionaries, id, delta, &batch)?;
                 Ok(None)
             }
-            Found::Rows(batch) => Ok(Some(batch)),
+            AnyBatch::Rows(batch) => Ok(Some(batch)),
         }
     }
 

@@ -10,7 +10,7 @@ use otap_cells::{CellView, Coding, Kind, Rows, base_of, columns};
 use std::marker::Model;
 
 /// The most columns that a table has.
-const MAX_COLUMNS: usize = 32;
+const MAX_COLUMNS: usize = 25;
 
 /// The table of a record. It hands out parts of the record's bytes and of the reader's dictionaries, and takes no memory. A
 /// contract sees it as the table.
@@ -97,8 +97,9 @@ impl<'v> Rows for RowsView<'v> {
         self.batch.rows()
     }
 
+    #[inline(always)]
     fn cell(&self, column: u32, row: u64) -> CellView<'_> {
-        cells::cell(base_of(self.reader.kind(), column), self.value(column, row))
+        cells::cell(self.reader.kind(), column, self.value(column, row))
     }
 
     fn coding(&self, column: u32) -> Coding {

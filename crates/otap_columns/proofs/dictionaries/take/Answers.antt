@@ -28,7 +28,8 @@ returns-in_err-take_if-clause-err c =
     let p = err_from_is_err_and c.from_residual.result c.from_residual.ensures.1 in
     let refuses : RefusesIf c.args.id c.args.delta c.args.batch.now c.dictionary-item.result c.in_err-take_if.field-0.0 =
     subst (λ (d : DictionaryIn). RefusesIf c.args.id c.args.delta c.args.batch.now d c.in_err-take_if.field-0.0) there
-    (subst (λ (z : ℤ). RefusesIf z c.args.delta c.args.batch.now (get_or c.dictionaries.dictionaries c.dictionaries.dictionary-index c.dictionary-item.result) c.in_err-take_if.field-0.0) same c.in_err-take_if.ensures.err) in
+    (subst (λ (z : ℤ). RefusesIf z c.args.delta c.args.batch.now (get_or c.dictionaries.dictionaries c.dictionaries.dictionary-index c.dictionary-item.result) c.in_err-take_if.field-0.0)
+    same c.in_err-take_if.ensures.err) in
     rw (p.1, p.2) (refused_by c.args.id c.args.delta c.args.batch.now c.args.dictionaries.now c.dictionaries.dictionaries c.dictionaries.dictionary-index c.dictionary-item.result c.in_err-take_if.field-0.0 n refuses)
 
 pub dictionaries-preserved : goal.dictionaries-preserved

@@ -1,5 +1,6 @@
-use Rattle.std.proofs.Common.{◌≡◌, ◌++◌, length, ap, ◌∙◌, arith, length-append}
-use Rattle.std.specs.Prelude.{map}
+use Rattle.std.proofs.Common.{◌≡◌, ◌++◌, ℕ, List, Option, length, sym, ap, ◌∙◌, subst, arith, length-append}
+use Rattle.std.specs.Prelude.{map, IfSome}
+use Rattle.arrow_arrays.specs.Layouts.{FitsLayout}
 use Rattle.std.specs.List.{range_with_len}
 use Rattle.std.proofs.lemmas.List.FromFn.{length-map-range_with_len}
 use Rattle.arrow_arrays.specs.Cells.{own_cell}
@@ -18,8 +19,10 @@ push-requires c =
 
 pub rows-preserved : goal.rows-preserved
 rows-preserved c = record {
-  values = one_more_value c.args.batch.now c.args.array c.args.self.now c.rows.self c.push.new.self _ c.rows.row c.rows.invariant.values c.cell.ensures.cell c.in_ok-push.ensures.ok;
-  fits = λ old. fits_one_more c.args.self.now c.rows.self c.push.new.self _ c.args.array (ap (λ (d : DictionaryIn). d.kind) c.rows.invariant.values) c.requires.array c.in_ok-push.ensures.ok c.cell.ensures.fits (c.rows.invariant.fits old);
+  values = one_more_value c.args.batch.now c.args.array c.args.self.now c.rows.self c.push.new.self _ c.rows.row c.rows.invariant.values
+      (c.cell.ensures ∙ c.view-column.ensures.cells c.rows.row) c.in_ok-push.ensures.ok;
+  fits = λ old. fits_one_more c.args.self.now c.rows.self c.push.new.self _ c.args.array (ap (λ (d : DictionaryIn). d.kind) c.rows.invariant.values) c.requires.array c.in_ok-push.ensures.ok
+      (subst (λ (cell : Option (List ℕ)). IfSome cell (FitsLayout c.args.array.layout)) (sym c.cell.ensures) (c.view-column.ensures.fits c.rows.row)) (c.rows.invariant.fits old);
 }
 
 pub returns-clause-ok : goal.returns-clause-ok

@@ -7,6 +7,6 @@ use Rattle.otap_columns.proofs.dictionary.Dictionary.append.Given as goal
 
 abbrev pub invariant-rows : goal.invariant-rows
 invariant-rows l = record {
-  values : l.self ≡ record l.initial.self { values = l.initial.self.values ++ map (own_cell l.batch l.array) (range_with_len 0 l.row) };
+  values : l.self ≡ record l.initial.self { values = l.initial.self.values ++ map (own_cell l.batch l.fn.array) (range_with_len 0 l.row) };
   fits : FitsIn l.initial.self → FitsIn l.self;
 }

@@ -29,7 +29,8 @@ returns-in_err-take_messages-clause-refused c =
     let p = err_from_is_err_and c.from_residual-in_err-take_messages.result c.from_residual-in_err-take_messages.ensures.1 in
     rw (p.1, p.2) (record_refused c.args.kind [] c.args.bytes.now (Schema c.in_ok-schema.schema ∷ []) (front_of (rest_of c.first_schema.new.messages)) (opened c.in_ok-schema.schema) c.in_err-take_messages.field-0.0
     (read_schema c.args.kind c.args.bytes.now c.in_ok-schema.schema (front_of (rest_of c.first_schema.new.messages)) (ap front_of (sym all) ∙ c.in_ok-schema.ensures.schema.front) c.in_ok-reader.ensures.types)
-    (subst (λ (s : SubstreamIn). RefusesRecord s (front_of (rest_of c.first_schema.new.messages)) (left_of c.args.bytes.now) c.in_err-take_messages.field-0.0) (ap (λ (r : ReaderIn). r.substream) c.in_ok-reader.ensures.ok)
+    (subst (λ (s : SubstreamIn). RefusesRecord s (front_of (rest_of c.first_schema.new.messages)) (left_of c.args.bytes.now) c.in_err-take_messages.field-0.0)
+    (ap (λ (r : ReaderIn). r.substream) c.in_ok-reader.ensures.ok)
     (subst (λ (bs : List ℕ). RefusesRecord c.in_ok-reader.reader.substream (front_of (rest_of c.first_schema.new.messages)) bs c.in_err-take_messages.field-0.0) left c.in_err-take_messages.ensures.err)))
 
 pub returns-clause-read : goal.returns-clause-read
@@ -38,10 +39,11 @@ returns-clause-read c =
     let left : left_of (rest_of c.first_schema.new.messages) ≡ left_of c.args.bytes.now = sym c.in_ok-schema.ensures.schema.left ∙ ap left_of all in
     let bytes : c.first_schema.new.messages.bytes ≡ c.args.bytes.now = c.in_ok-schema.ensures.schema.bytes ∙ ap (λ (m : MessagesIn). m.bytes) c.new-messages.ensures in
     let begun : Read c.args.kind [] c.args.bytes.now (Schema c.in_ok-schema.schema ∷ []) (front_of (rest_of c.first_schema.new.messages)) c.in_ok-reader.reader.substream =
-    subst (λ (s : SubstreamIn). Read c.args.kind [] c.args.bytes.now (Schema c.in_ok-schema.schema ∷ []) (front_of (rest_of c.first_schema.new.messages)) s) (ap (λ (r : ReaderIn). r.substream) (sym c.in_ok-reader.ensures.ok))
+    subst (λ (s : SubstreamIn). Read c.args.kind [] c.args.bytes.now (Schema c.in_ok-schema.schema ∷ []) (front_of (rest_of c.first_schema.new.messages)) s)
+    (ap (λ (r : ReaderIn). r.substream) (sym c.in_ok-reader.ensures.ok))
     (read_schema c.args.kind c.args.bytes.now c.in_ok-schema.schema (front_of (rest_of c.first_schema.new.messages)) (ap front_of (sym all) ∙ c.in_ok-schema.ensures.schema.front) c.in_ok-reader.ensures.types) in
-    (record_read c.args.kind [] c.args.bytes.now (Schema c.in_ok-schema.schema ∷ []) (front_of (rest_of c.first_schema.new.messages)) c.in_ok-reader.reader c.first_schema.new.messages c.take_messages.new.self c.take_messages.new.self
-    begun refl left bytes c.in_ok-take_messages.ensures.ok refl refl).0
+    (record_read c.args.kind [] c.args.bytes.now (Schema c.in_ok-schema.schema ∷ []) (front_of (rest_of c.first_schema.new.messages)) c.in_ok-reader.reader
+    c.first_schema.new.messages c.take_messages.new.self c.take_messages.new.self begun refl left bytes c.in_ok-take_messages.ensures.ok refl refl).0
 
 pub returns-clause-stands : goal.returns-clause-stands
 returns-clause-stands c =
@@ -49,7 +51,8 @@ returns-clause-stands c =
     let left : left_of (rest_of c.first_schema.new.messages) ≡ left_of c.args.bytes.now = sym c.in_ok-schema.ensures.schema.left ∙ ap left_of all in
     let bytes : c.first_schema.new.messages.bytes ≡ c.args.bytes.now = c.in_ok-schema.ensures.schema.bytes ∙ ap (λ (m : MessagesIn). m.bytes) c.new-messages.ensures in
     let begun : Read c.args.kind [] c.args.bytes.now (Schema c.in_ok-schema.schema ∷ []) (front_of (rest_of c.first_schema.new.messages)) c.in_ok-reader.reader.substream =
-    subst (λ (s : SubstreamIn). Read c.args.kind [] c.args.bytes.now (Schema c.in_ok-schema.schema ∷ []) (front_of (rest_of c.first_schema.new.messages)) s) (ap (λ (r : ReaderIn). r.substream) (sym c.in_ok-reader.ensures.ok))
+    subst (λ (s : SubstreamIn). Read c.args.kind [] c.args.bytes.now (Schema c.in_ok-schema.schema ∷ []) (front_of (rest_of c.first_schema.new.messages)) s)
+    (ap (λ (r : ReaderIn). r.substream) (sym c.in_ok-reader.ensures.ok))
     (read_schema c.args.kind c.args.bytes.now c.in_ok-schema.schema (front_of (rest_of c.first_schema.new.messages)) (ap front_of (sym all) ∙ c.in_ok-schema.ensures.schema.front) c.in_ok-reader.ensures.types) in
-    (record_read c.args.kind [] c.args.bytes.now (Schema c.in_ok-schema.schema ∷ []) (front_of (rest_of c.first_schema.new.messages)) c.in_ok-reader.reader c.first_schema.new.messages c.take_messages.new.self c.take_messages.new.self
-    begun refl left bytes c.in_ok-take_messages.ensures.ok refl refl).1
+    (record_read c.args.kind [] c.args.bytes.now (Schema c.in_ok-schema.schema ∷ []) (front_of (rest_of c.first_schema.new.messages)) c.in_ok-reader.reader
+    c.first_schema.new.messages c.take_messages.new.self c.take_messages.new.self begun refl left bytes c.in_ok-take_messages.ensures.ok refl refl).1

@@ -25,7 +25,8 @@ returns-clause-cell c =
     let here : IsColumn c.self.inside.reader.now.kind c.self.inside.reader.now.substream c.self.inside.batch c.args.column c.index-columns-column.result =
     subst (λ (x : ResolvedColumn). IsColumn c.self.inside.reader.now.kind c.self.inside.reader.now.substream c.self.inside.batch c.args.column x) (sym c.index-columns-column.is)
     (c.self.invariant.columns c.args.column c.index-columns-column.result below) in
-    column_shows c.self.inside.reader.now.kind c.self.inside.reader.now.substream c.self.inside.batch _ c.self.view_is c.args.column c.args.row c.index-columns-column.result here _ c.value.ensures c.requires.column c.requires.row
+    column_shows c.self.inside.reader.now.kind c.self.inside.reader.now.substream c.self.inside.batch _ c.self.view_is c.args.column c.args.row c.index-columns-column.result
+    here _ c.value.ensures c.requires.column c.requires.row
 
 pub returns-clause-fits : goal.returns-clause-fits
 returns-clause-fits c =

@@ -1,0 +1,144 @@
+-- A column of a table that is built row by row.
+use Rattle.std.proofs.Common.{◌≡◌, ℕ, suc, zero, ◌+◌, ◌<◌, ◌≤◌, Bool, true, false, List, [], ◌∷◌, ◌++◌, length, take, get_or, map, Option, Some, None, refl, sym, ap, ◌∙◌, subst, arith}
+use Rattle.std.specs.Prelude.{ℤ, option_map, if◌then◌else◌, unsigned_abs}
+use Rattle.std.specs.Int.{w32, w64, cast_unsigned}
+use Rattle.std.specs.Option.{ForSome}
+use Rattle.std.proofs.lemmas.List.{length-map, take_more}
+use Rattle.std.proofs.lemmas.List.Sums.{sum_by-take-le, sum_by_push}
+use Rattle.byteorder.specs.Endian.{little_bytes}
+use Rattle.byteorder.specs.Numbers.{length-bytes_low_first}
+use Rattle.arrow_buffers.specs.declared.width.Width.{Width}
+use Rattle.arrow_buffers.specs.declared.width.Width.TheVariants as width
+use Rattle.arrow_buffers.specs.Columns.{ColumnIn, HasWidth, cell_len, cells_len}
+use Rattle.otap_cells.specs.declared.profile.Base.{Base}
+use Rattle.otap_cells.specs.declared.profile.Base.TheVariants as base
+use Rattle.otap_cells.specs.Cells.{Cell, null, number, bits, flag, bytes, IsNumberOf, IsBitsOf, IsBytesOf, IsCellOf}
+use Rattle.otap_cells.specs.Columns.{base_at}
+use Rattle.otap_cells.specs.Tables.{Table, cell_in, column_in}
+use Rattle.otap_columns.specs.declared.forms.ColumnForm.{ColumnForm}
+use Rattle.otap_columns.specs.declared.forms.ColumnForm.TheVariants as form
+use Rattle.otap_columns.specs.Observed.{id_width, number_bytes, bytes_for}
+use Rattle.otap_columns.specs.WrittenCells.{place_in, stored_for, plain_width, width_for, stored_column}
+
+-- ---- each cell has its column's width
+
+index_width : (n : ℕ) (o : Option ℕ) → ForSome (option_map (little_bytes n) o) (HasWidth (width.Fixed n))
+index_width n None = λ x is. absurd (cc)
+index_width n (Some place) = λ x is. let same : little_bytes n place ≡ x = cc in subst (λ (v : List ℕ). length v ≡ n) same (length-bytes_low_first 0 n place)
+
+long : (n x : ℕ) → length (little_bytes n x) ≡ n
+long n x = length-bytes_low_first 0 n x
+
+number_width : (holds : Base) (f : ColumnForm) (z : ℤ) → IsNumberOf holds z → HasWidth (plain_width holds f) (number_bytes holds f z)
+number_width base.U8 f z is = long 1 (unsigned_abs z)
+number_width base.U16 f z is = long 2 (unsigned_abs z)
+number_width base.U32 f z is = long 4 (unsigned_abs z)
+number_width base.I32 f z is = long 4 (cast_unsigned w32 z)
+number_width base.I64 f z is = long 8 (cast_unsigned w64 z)
+number_width (base.Id wide) f z is = long (id_width f) (unsigned_abs z)
+number_width base.U64 f z is = absurd is
+number_width base.Double f z is = absurd is
+number_width base.Bool f z is = absurd is
+number_width base.Utf8 f z is = absurd is
+number_width base.Binary f z is = absurd is
+number_width base.Fixed16 f z is = absurd is
+number_width base.Fixed8 f z is = absurd is
+number_width base.Timestamp f z is = absurd is
+number_width base.Duration f z is = absurd is
+number_width base.ListU64 f z is = absurd is
+number_width base.ListF64 f z is = absurd is
+
+bits_width : (holds : Base) (f : ColumnForm) (n : ℕ) → IsBitsOf holds n → HasWidth (plain_width holds f) (little_bytes 8 n)
+bits_width base.U64 f n is = long 8 n
+bits_width base.Double f n is = long 8 n
+bits_width base.Timestamp f n is = long 8 n
+bits_width base.Duration f n is = long 8 n
+bits_width base.U8 f n is = absurd is
+bits_width base.U16 f n is = absurd is
+bits_width base.U32 f n is = absurd is
+bits_width base.I32 f n is = absurd is
+bits_width base.I64 f n is = absurd is
+bits_width base.Bool f n is = absurd is
+bits_width base.Utf8 f n is = absurd is
+bits_width base.Binary f n is = absurd is
+bits_width base.Fixed16 f n is = absurd is
+bits_width base.Fixed8 f n is = absurd is
+bits_width base.ListU64 f n is = absurd is
+bits_width base.ListF64 f n is = absurd is
+bits_width (base.Id wide) f n is = absurd is
+
+bytes_width : (holds : Base) (f : ColumnForm) (part : List ℕ) → IsBytesOf holds part → HasWidth (plain_width holds f) part
+bytes_width base.Utf8 f part is = tt
+bytes_width base.Binary f part is = tt
+bytes_width base.Fixed16 f part is = is
+bytes_width base.Fixed8 f part is = is
+bytes_width base.ListU64 f part is = is
+bytes_width base.ListF64 f part is = is
+bytes_width base.U8 f part is = absurd is
+bytes_width base.U16 f part is = absurd is
+bytes_width base.U32 f part is = absurd is
+bytes_width base.U64 f part is = absurd is
+bytes_width base.I32 f part is = absurd is
+bytes_width base.I64 f part is = absurd is
+bytes_width base.Double f part is = absurd is
+bytes_width base.Bool f part is = absurd is
+bytes_width base.Timestamp f part is = absurd is
+bytes_width base.Duration f part is = absurd is
+bytes_width (base.Id wide) f part is = absurd is
+
+flag_width : (b : Bool) → HasWidth width.Bit ((if b then 1 else 0) ∷ [])
+flag_width true = (refl, omega arith)
+flag_width false = (refl, omega arith)
+
+pub plain_fits : (holds : Base) (f : ColumnForm) (cell : Cell) → IsCellOf holds cell → ForSome (bytes_for holds f cell) (HasWidth (plain_width holds f))
+plain_fits holds f null is = λ x some. absurd (cc)
+plain_fits holds f (number z) is = λ x some. let same : number_bytes holds f z ≡ x = cc in subst (HasWidth (plain_width holds f)) same (number_width holds f z is)
+plain_fits holds f (bits n) is = λ x some. let same : little_bytes 8 n ≡ x = cc in subst (HasWidth (plain_width holds f)) same (bits_width holds f n is)
+plain_fits holds f (flag b) is = λ x some.
+    let same : (if b then 1 else 0) ∷ [] ≡ x = cc in
+    subst (HasWidth (plain_width holds f)) same (subst (λ (h : Base). HasWidth (plain_width h f) ((if b then 1 else 0) ∷ [])) (sym is) (flag_width b))
+plain_fits holds f (bytes part) is = λ x some. let same : part ≡ x = cc in subst (HasWidth (plain_width holds f)) same (bytes_width holds f part is)
+
+pub stored_fits : (holds : Base) (f : ColumnForm) (values : List (List ℕ)) (cell : Cell) → IsCellOf holds cell → ForSome (stored_for holds f values cell) (HasWidth (width_for holds f))
+stored_fits holds form.Dict8 values cell is = index_width 1 (place_in values (bytes_for holds form.Dict8 cell))
+stored_fits holds form.Dict16 values cell is = index_width 2 (place_in values (bytes_for holds form.Dict16 cell))
+stored_fits holds form.Absent values cell is = plain_fits holds form.Absent cell is
+stored_fits holds form.Plain values cell is = plain_fits holds form.Plain cell is
+stored_fits holds form.Wide values cell is = plain_fits holds form.Wide cell is
+
+-- the cell that is pushed fits
+pub push_fits : (holds : Base) (f : ColumnForm) (values : List (List ℕ)) (cell : Cell) (b : ColumnIn) (cells : List (Option (List ℕ))) (part : Option (List ℕ)) → b ≡ record { width = width_for holds f; cells = cells }
+    → part ≡ stored_for holds f values cell → IsCellOf holds cell → ForSome part (HasWidth b.width)
+push_fits holds f values cell b cells part same is of =
+    subst (λ (w : Width). ForSome part (HasWidth w)) (ap (λ (c : ColumnIn). c.width) (sym same)) (subst (λ (o : Option (List ℕ)). ForSome o (HasWidth (width_for holds f))) (sym is) (stored_fits holds f values cell of))
+
+-- ---- row by row
+
+pub cell_at-map : (g : Cell → Option (List ℕ)) (rows : List (List Cell)) (column row : ℕ) → row < length rows → get_or (map g (column_in rows column)) row None ≡ g (cell_in rows column row)
+cell_at-map g [] column row low = absurd (omega arith)
+cell_at-map g (r ∷ rows) column zero low = refl
+cell_at-map g (r ∷ rows) column (suc row) low = cell_at-map g rows column row (omega arith)
+
+module _ (f : ColumnForm) (values : List (List ℕ)) (t : Table) (column : ℕ) where
+  pub stored_len : length (stored_column f values t column) ≡ length t.rows
+  unfolding stored_column
+  stored_len = length-map (column_in t.rows column) (stored_for (base_at t.kind column) f values) ∙ length-map t.rows (λ row. get_or row column null)
+
+  pub stored_at : (row : ℕ) → row < length t.rows → get_or (stored_column f values t column) row None ≡ stored_for (base_at t.kind column) f values (cell_in t.rows column row)
+  unfolding stored_column
+  stored_at row low = cell_at-map (stored_for (base_at t.kind column) f values) t.rows column row low
+
+  pub stored_more : (row : ℕ) (x : Option (List ℕ)) → row < length t.rows → x ≡ stored_for (base_at t.kind column) f values (cell_in t.rows column row)
+      → take row (stored_column f values t column) ++ x ∷ [] ≡ take (row + 1) (stored_column f values t column)
+  stored_more row x low is =
+      let inside : row < length (stored_column f values t column) = omega (arith, stored_len) in
+      sym (take_more (stored_column f values t column) row None inside ∙ ap (λ y. take row (stored_column f values t column) ++ y ∷ []) (stored_at row low ∙ sym is))
+
+  pub stored_room : (row : ℕ) (x : Option (List ℕ)) → row < length t.rows → x ≡ stored_for (base_at t.kind column) f values (cell_in t.rows column row)
+      → cells_len (take row (stored_column f values t column)) + cell_len x ≤ cells_len (stored_column f values t column)
+  stored_room row x low is =
+      let sum : cells_len (take row (stored_column f values t column) ++ x ∷ []) ≡ cells_len (take row (stored_column f values t column)) + cell_len x =
+      sum_by_push cell_len (take row (stored_column f values t column)) x in
+      let more = stored_more row x low is in
+      let short = sum_by-take-le cell_len (stored_column f values t column) (row + 1) in
+      omega (arith, sum, ap cells_len more, short)

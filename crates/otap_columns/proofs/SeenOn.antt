@@ -1,0 +1,103 @@
+-- What is kept of a column after one table more, and the form that it tells.
+use Rattle.std.proofs.Common.{◌≡◌, ℕ, ◌+◌, ◌<◌, Bool, true, false, ◌||◌, List, [], ◌∷◌, ◌++◌, length, take, get_or, map, fold, nat_lt, Option, Some, None, refl, sym, ap, ◌∙◌, arith, append-nil, append_assoc}
+use Rattle.std.specs.Prelude.{◌&&◌, not, if◌then◌else◌, Result, Ok, Err, OnOk}
+use Rattle.std.specs.List.{list_any}
+use Rattle.std.proofs.Math.Bool.{or-false}
+use Rattle.std.proofs.lemmas.List.{length-map, take_more}
+use Rattle.std.proofs.lemmas.List.Folds.{list_any-append}
+use Rattle.std.proofs.lemmas.List.Sums.{fold-append}
+use Rattle.otap_cells.specs.declared.payload.Kind.{Kind}
+use Rattle.otap_cells.specs.declared.profile.Base.{Base}
+use Rattle.otap_cells.specs.Cells.{Cell, null}
+use Rattle.otap_cells.specs.Columns.{column_at, base_at, is_id_at}
+use Rattle.otap_cells.specs.Tables.{Table, cell_in, column_in}
+use Rattle.otap_dicts.specs.declared.form.Form.TheVariants as ladder
+use Rattle.otap_dicts.specs.Forms.{distinct, bytes_of, is_too_large, form_of}
+use Rattle.otap_dicts.specs.Ladders.{LadderIn, ladder_of}
+use Rattle.otap_dicts.proofs.Observing.{observed-push}
+use Rattle.otap_columns.specs.declared.forms.ColumnForm.{ColumnForm}
+use Rattle.otap_columns.specs.declared.forms.ColumnForm.TheVariants as form
+use Rattle.otap_columns.specs.Observed.{bytes_for, given, seen, has_wide_id, is_own_id, if_seen, id_form, form_at}
+use Rattle.otap_columns.specs.Seen.{SeenIn, seen_after, observed_if, SeesTable, is_absent, form_told}
+use Rattle.otap_columns.proofs.ColumnsBuilt.{cell_at-map}
+use Rattle.otap_columns.proofs.ValuesSeen.{seen-push}
+
+-- ---- cell by cell
+
+pub cells_more : (holds : Base) (rows : List (List Cell)) (column row : ℕ) (x : Option (List ℕ)) (start : LadderIn) → row < length rows → x ≡ bytes_for holds form.Wide (cell_in rows column row)
+    → observed_if (fold observed_if start (take row (map (bytes_for holds form.Wide) (column_in rows column)))) x ≡ fold observed_if start (take (row + 1) (map (bytes_for holds form.Wide) (column_in rows column)))
+cells_more holds rows column row x start low is =
+    let cells = map (bytes_for holds form.Wide) (column_in rows column) in
+    let long : length cells ≡ length rows = length-map (column_in rows column) (bytes_for holds form.Wide) ∙ length-map rows (λ row. get_or row column null) in
+    let inside : row < length cells = omega (arith, long) in
+    let one : take (row + 1) cells ≡ take row cells ++ x ∷ [] = take_more cells row None inside ∙ ap (λ y. take row cells ++ y ∷ []) (cell_at-map (bytes_for holds form.Wide) rows column row low ∙ sym is) in
+    sym (ap (λ (cs : List (Option (List ℕ))). fold observed_if start cs) one ∙ fold-append observed_if start (take row cells) (x ∷ []))
+
+-- all cells of a column
+observes : (marked : Bool) (values : List (List ℕ)) (cells : List (Option (List ℕ))) → fold observed_if (ladder_of marked values) cells ≡ ladder_of marked (values ++ given cells)
+observes marked values [] = ap (ladder_of marked) (sym (append-nil values))
+observes marked values (None ∷ cells) = observes marked values cells
+observes marked values (Some value ∷ cells) =
+    ap (λ (l : LadderIn). fold observed_if l cells) (observed-push marked values value) ∙ observes marked (values ++ value ∷ []) cells ∙ ap (ladder_of marked) (append_assoc values (value ∷ []) (given cells))
+
+-- ---- a table more
+
+more_wide : (id a b : Bool) → ((id && a) || (id && b)) ≡ (id && (a || (b || false)))
+more_wide true a b = ap (λ c. a || c) (sym (or-false b))
+more_wide false a b = refl
+
+pub sees : (kind : Kind) (column : ℕ) (t : Table) (old new : SeenIn) → new.ladder ≡ fold observed_if old.ladder (map (bytes_for (base_at kind column) form.Wide) (column_in t.rows column))
+    → new.wide ≡ (old.wide || (is_id_at kind column && has_wide_id kind column t)) → SeesTable kind column t old new
+unfolding seen_after
+sees kind column t old new ladder_is wide_is = record {
+  at = λ tables is.
+      let ladders : new.ladder ≡ ladder_of (column_at kind column).dictionary (seen kind (tables ++ t ∷ []) column) =
+      ladder_is ∙ ap (λ (s : SeenIn). fold observed_if s.ladder (map (bytes_for (base_at kind column) form.Wide) (column_in t.rows column))) is
+      ∙ observes (column_at kind column).dictionary (seen kind tables column) (map (bytes_for (base_at kind column) form.Wide) (column_in t.rows column))
+      ∙ ap (ladder_of (column_at kind column).dictionary) (sym (seen-push kind tables t column)) in
+      let wides : new.wide ≡ (is_id_at kind column && list_any (has_wide_id kind column) (tables ++ t ∷ [])) =
+      wide_is ∙ ap (λ (s : SeenIn). s.wide || (is_id_at kind column && has_wide_id kind column t)) is
+      ∙ more_wide (is_id_at kind column) (list_any (has_wide_id kind column) tables) (has_wide_id kind column t)
+      ∙ ap (λ b. is_id_at kind column && b) (sym (list_any-append (has_wide_id kind column) tables (t ∷ []))) in
+      λ i. record { ladder = ladders i; wide = wides i };
+}
+
+-- ---- the form
+
+absent_ladder : (large wide : Bool) → is_absent (if large then ladder.Plain else (if wide then ladder.Dict16 else ladder.Dict8)) ≡ false
+absent_ladder true wide = refl
+absent_ladder false true = refl
+absent_ladder false false = refl
+
+-- a ladder is absent exactly where no value was seen
+told_id : (own marked : Bool) (values : List (List ℕ)) (f : ColumnForm) → (if is_absent (form_of marked values) && not own then form.Absent else f) ≡ (if own then f else if_seen values f)
+told_id true marked [] f = refl
+told_id false marked [] f = refl
+told_id own false (v ∷ vs) f = by own
+  where
+    by : (own : Bool) → f ≡ (if own then f else f)
+    by true = refl
+    by false = refl
+told_id own true (v ∷ vs) f =
+    rw (absent_ladder (is_too_large (length (distinct (v ∷ vs))) (bytes_of (distinct (v ∷ vs)))) (nat_lt 256 (length (distinct (v ∷ vs))))) (by own)
+  where
+    by : (own : Bool) → f ≡ (if own then f else f)
+    by true = refl
+    by false = refl
+
+pub told_is : (kind : Kind) (tables : List Table) (column : ℕ) → form_told kind column (seen_after kind tables column) ≡ form_at kind tables column
+unfolding seen_after ladder_of form_at
+told_is kind tables column = by (is_id_at kind column) refl
+  where
+    by : (id : Bool) → is_id_at kind column ≡ id → form_told kind column (seen_after kind tables column) ≡ form_at kind tables column
+    by true is = rw is (told_id (is_own_id kind column) (column_at kind column).dictionary (seen kind tables column) (id_form kind tables column))
+    by false is = rw is refl
+
+pub stands : (kind : Kind) (column : ℕ) (s : SeenIn) (f : ColumnForm) → f ≡ form_told kind column s → (tables : List Table) → s ≡ seen_after kind tables column → f ≡ form_at kind tables column
+stands kind column s f told tables is = told ∙ ap (form_told kind column) is ∙ told_is kind tables column
+
+pub sees_step : {E : Type 0} (kind : Kind) (column : ℕ) (t : Table) (old new : SeenIn) (r : Result (Unit {0}) E)
+    → OnOk r (new ≡ record { ladder = fold observed_if old.ladder (map (bytes_for (base_at kind column) form.Wide) (column_in t.rows column)); wide = old.wide || (is_id_at kind column && has_wide_id kind column t) })
+    → OnOk r (SeesTable kind column t old new)
+sees_step kind column t old new (Ok x) is = sees kind column t old new (ap (λ (s : SeenIn). s.ladder) is) (ap (λ (s : SeenIn). s.wide) is)
+sees_step kind column t old new (Err e) is = tt

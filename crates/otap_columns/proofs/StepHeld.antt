@@ -1,0 +1,135 @@
+-- What the columns of a writer tell before and after one table more: its record is one by the policy.
+use Rattle.std.proofs.Common.{◌≡◌, ℕ, ◌<◌, ◌≤◌, true, List, [], ◌∷◌, ◌++◌, length, None, refl, sym, ap, ◌∙◌, arith, inl, inr, subst}
+use Rattle.std.proofs.lemmas.Bool.{cases_lt, false≢true}
+use Rattle.std.proofs.lemmas.List.{get_or_past}
+use Rattle.otap_cells.specs.declared.payload.Kind.{Kind}
+use Rattle.otap_cells.specs.Cells.{IsCellOf}
+use Rattle.otap_cells.specs.Columns.{base_at, column_at, width_of}
+use Rattle.otap_cells.specs.Tables.{Table, cell_in}
+use Rattle.otap_cells.specs.Weights.{row_weight_limit, weight_of_table}
+use Rattle.otap_columns.specs.declared.forms.ColumnForm.{ColumnForm}
+use Rattle.otap_columns.specs.declared.forms.ColumnForm.TheVariants as form
+use Rattle.otap_columns.specs.Policy.{IsWritable}
+use Rattle.otap_columns.specs.Schemas.{FormsFit, fits_form, is_dictionary, is_there, item_in}
+use Rattle.otap_columns.specs.Observed.{FitsForm, bytes_for, form_at, values_at}
+use Rattle.otap_columns.specs.Seen.{SeenIn, form_told}
+use Rattle.otap_columns.specs.WrittenCells.{FitsIndexes}
+use Rattle.otap_columns.specs.WrittenGroups.{forms_in}
+use Rattle.otap_columns.specs.WrittenRecords.{CanSend}
+use Rattle.otap_columns.specs.WrittenRows.{CanWrite, HasValues, IsKnownIn, columns_in}
+use Rattle.otap_columns.specs.Writers.{AreForms, AreSeen, AreWritable, SeesAll, is_started}
+use Rattle.otap_columns.proofs.LookedUp.{Each}
+use Rattle.otap_columns.proofs.SeenOn.{told_is}
+use Rattle.otap_columns.proofs.ValuesSeen.{forms_fit, few_values, small_values, ids_fit}
+use Rattle.otap_columns.proofs.ValuesKept.{base_holds, kept_values, known_value, narrow_values, no_id, no_list, takes_one, values_are}
+
+-- each of them can be written
+pub writable_each : (kind : Kind) (tables : List Table) → AreWritable kind tables → Each (IsWritable kind) tables
+writable_each kind [] all = tt
+writable_each kind (t ∷ tables) all = (all.0, writable_each kind tables all.1)
+
+pub writable_more : (kind : Kind) (tables : List Table) (t : Table) → AreWritable kind tables → IsWritable kind t → AreWritable kind (tables ++ t ∷ [])
+writable_more kind [] t all one = (one, tt)
+writable_more kind (u ∷ tables) t all one = (all.0, writable_more kind tables t all.1 one)
+
+pub started_more : (tables : List Table) (t : Table) → is_started (tables ++ t ∷ []) ≡ true
+started_more [] t = refl
+started_more (u ∷ tables) t = refl
+
+pub seen_more : (kind : Kind) (tables : List Table) (t : Table) (old new : List SeenIn) → SeesAll kind t old new → AreSeen kind tables old → AreSeen kind (tables ++ t ∷ []) new
+seen_more kind tables t old new sees seen = record {
+  count = sees.count ∙ seen.count;
+  each = λ column low. (sees.each column low).at tables (seen.each column low);
+}
+
+-- past the columns there is none
+past_forms : (forms : List ColumnForm) (column : ℕ) → length forms ≤ column → forms_in forms column ≡ form.Absent
+past_forms forms column past = get_or_past forms column form.Absent past
+
+module _ (kind : Kind) (tables : List Table) (columns : List SeenIn) (forms : List ColumnForm) (seen : AreSeen kind tables columns) (told : AreForms kind columns forms) where
+  pub form_is : (column : ℕ) → column < width_of kind → forms_in forms column ≡ form_at kind tables column
+  form_is column low = told.each column low ∙ ap (form_told kind column) (seen.each column low) ∙ told_is kind tables column
+
+  pub values_is : (column : ℕ) → column < width_of kind → is_dictionary (forms_in forms column) ≡ true → columns_in columns column ≡ values_at kind tables column
+  values_is column low is = ap (λ (s : SeenIn). s.ladder.values) (seen.each column low) ∙ kept_values kind tables column (ap is_dictionary (sym (form_is column low)) ∙ is)
+
+  pub forms_are_fit : FormsFit kind (forms_in forms)
+  forms_are_fit column low = ap (λ (f : ColumnForm). fits_form (column_at kind column) f) (form_is column low) ∙ forms_fit kind tables column low
+
+  -- a dictionary is of a column that is there
+  dictionary_low : (column : ℕ) → is_dictionary (forms_in forms column) ≡ true → column < width_of kind
+  dictionary_low column is = elim (cases_lt column (width_of kind)) [
+    | inl low ↦ low
+    | inr past ↦ absurd (false≢true (ap is_dictionary (sym (past_forms forms column (omega (arith, told.count, past)))) ∙ is))
+  ]
+
+  is_one : (column : ℕ) → is_dictionary (forms_in forms column) ≡ true → is_dictionary (form_at kind tables column) ≡ true
+  is_one column is = ap is_dictionary (sym (form_is column (dictionary_low column is))) ∙ is
+
+  pub indexes_reach : (column : ℕ) → FitsIndexes (forms_in forms column) (length (columns_in columns column))
+  indexes_reach column = by (forms_in forms column) refl
+    where
+      by : (f : ColumnForm) → forms_in forms column ≡ f → FitsIndexes f (length (columns_in columns column))
+      by form.Absent is = tt
+      by form.Plain is = tt
+      by form.Wide is = tt
+      by form.Dict8 is =
+          let one : is_dictionary (forms_in forms column) ≡ true = ap is_dictionary is in
+          let low : column < width_of kind = dictionary_low column one in
+          omega (arith, ap length (values_is column low one), narrow_values kind tables column (sym (form_is column low) ∙ is))
+      by form.Dict16 is =
+          let one : is_dictionary (forms_in forms column) ≡ true = ap is_dictionary is in
+          let low : column < width_of kind = dictionary_low column one in
+          omega (arith, ap length (values_is column low one), few_values kind tables column (is_one column one))
+
+  pub is_single : (column : ℕ) → is_dictionary (forms_in forms column) ≡ true → item_in (base_at kind column) ≡ None
+  is_single column is = no_list (base_at kind column) (takes_one kind tables column (dictionary_low column is) (is_one column is))
+
+  -- the values of a dictionary can be written from a place on
+  pub can_send : Each (IsWritable kind) tables → (column from : ℕ) → is_dictionary (forms_in forms column) ≡ true → from ≤ length (values_at kind tables column)
+      → CanSend (base_at kind column) (forms_in forms column) from (columns_in columns column)
+  can_send writable column from is there =
+      let low : column < width_of kind = dictionary_low column is in
+      let one = is_one column is in
+      subst (CanSend (base_at kind column) (forms_in forms column) from) (sym (values_is column low is)) (record {
+        there = there;
+        few = few_values kind tables column one;
+        room = small_values kind tables column one;
+        holds_type = base_holds (base_at kind column) (forms_in forms column) (values_at kind tables column) (no_id kind tables column one) (takes_one kind tables column low one) (values_are kind column tables writable);
+      })
+
+-- ---- the last of the tables
+
+module _ (kind : Kind) (before : List Table) (t : Table) (columns : List SeenIn) (forms : List ColumnForm) (seen : AreSeen kind (before ++ t ∷ []) columns) (told : AreForms kind columns forms)
+    (writable : IsWritable kind t) where
+  pub can_write : weight_of_table t ≤ row_weight_limit → CanWrite (forms_in forms) columns t
+  can_write light = record {
+    table = writable.table;
+    count = seen.count ∙ ap width_of (sym writable.kind_is);
+    fits = λ column low there row in_rows.
+        let below : column < width_of kind = subst (λ (k : Kind). column < width_of k) writable.kind_is low in
+        let is = form_is kind (before ++ t ∷ []) columns forms seen told column below in
+        subst (λ (k : Kind). FitsForm-at k column row) (sym writable.kind_is) (here column row (ap is_there (sym is) ∙ there) is);
+    few = indexes_reach kind (before ++ t ∷ []) columns forms seen told;
+    single = λ column is. subst (λ (k : Kind). item_in (base_at k column) ≡ None) (sym writable.kind_is) (is_single kind (before ++ t ∷ []) columns forms seen told column is);
+    light = light;
+  }
+    where
+      FitsForm-at : Kind → ℕ → ℕ → Type 0
+      FitsForm-at k column row = FitsForm (base_at k column) (forms_in forms column) (cell_in t.rows column row)
+
+      here : (column row : ℕ) → is_there (form_at kind (before ++ t ∷ []) column) ≡ true → forms_in forms column ≡ form_at kind (before ++ t ∷ []) column → FitsForm-at kind column row
+      here column row there is =
+          subst (λ (f : ColumnForm). FitsForm (base_at kind column) f (cell_in t.rows column row)) (sym is)
+          (ids_fit kind before t column row there (writable.ids column) (subst (λ (k : Kind). IsCellOf (base_at k column) (cell_in t.rows column row)) writable.kind_is (writable.table.fits column row)))
+
+  pub has_values : HasValues kind (forms_in forms) (columns_in columns) t
+  has_values = record {
+    known = λ column row is in_rows.
+        let low = dictionary_low kind (before ++ t ∷ []) columns forms seen told column is in
+        let one = is_one kind (before ++ t ∷ []) columns forms seen told column is in
+        subst (λ (vs : List (List ℕ)). IsKnownIn vs (bytes_for (base_at kind column) (forms_in forms column) (cell_in t.rows column row)))
+        (sym (values_is kind (before ++ t ∷ []) columns forms seen told column low is))
+        (known_value kind before t column row (forms_in forms column) (no_id kind (before ++ t ∷ []) column one) in_rows);
+    few = indexes_reach kind (before ++ t ∷ []) columns forms seen told;
+  }

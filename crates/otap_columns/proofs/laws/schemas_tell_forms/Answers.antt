@@ -1,0 +1,8 @@
+use Rattle.otap_columns.proofs.Telling.{forms_told, same_schema}
+use Rattle.otap_columns.proofs.laws.schemas_tell_forms.Goals as goal
+
+pub returns-clause-told : goal.returns-clause-told
+returns-clause-told c = forms_told
+
+pub returns-clause-same : goal.returns-clause-same
+returns-clause-same c = same_schema

@@ -1,0 +1,9 @@
+use Rattle.std.proofs.Common.{◌≡◌, get_or}
+use Rattle.otap_columns.specs.declared.forms.ColumnForm.TheVariants as form
+use Rattle.otap_columns.specs.Seen.{form_told}
+use Rattle.otap_columns.specs.WrittenRows.{unseen}
+use Rattle.otap_columns.proofs.StateMade.{Made}
+use Rattle.otap_columns.proofs.writer.forms_of.Given as goal
+
+abbrev pub invariant-columns : goal.invariant-columns
+invariant-columns l = Made (λ column f. f ≡ form_told l.fn.kind column (get_or l.fn.seen column unseen)) form.Absent l.column l.forms.items

@@ -1,0 +1,42 @@
+use Rattle.std.proofs.Common.{◌≡◌, true, length, arith, ap, ◌∙◌, sym, subst}
+use Rattle.arrow_buffers.specs.Columns.{ColumnIn, HasNoFault, cells_of, values_len}
+use Rattle.arrow_buffers.specs.declared.width.Width.{Width}
+use Rattle.otap_cells.specs.Columns.{base_at}
+use Rattle.otap_dicts.specs.Ladders.{LadderIn}
+use Rattle.otap_columns.specs.Schemas.{is_there}
+use Rattle.otap_columns.specs.WrittenCells.{stored_column, width_for}
+use Rattle.otap_columns.specs.WrittenGroups.{forms_in, member_in}
+use Rattle.otap_columns.specs.WrittenRows.{columns_in}
+use Rattle.otap_columns.proofs.PartsBuilt.{IsBuiltOf}
+use Rattle.otap_columns.proofs.RowsAdded.{column_light, member_ok}
+use Rattle.otap_columns.proofs.writer_rows.add_member.Goals as goal
+
+pub column_for-requires-clause-room : goal.column_for-requires-clause-room
+column_for-requires-clause-room c =
+    omega (arith, column_light c.form_of-form.result c.ladder_at-ladder.result.now.values c.args.table.now c.args.member.now.column, c.requires.can.light)
+
+pub returns-clause-ok : goal.returns-clause-ok
+returns-clause-ok c =
+    let t = c.args.table.now in
+    let column = c.args.member.now.column in
+    let b = c.in_ok-buffers.buffers in
+    let e = c.in_ok-buffers.ensures in
+    let form_is : c.form_of-form.result ≡ forms_in c.args.forms.now c.args.member.now.column = c.form_of-form.ensures in
+    let values_is : c.ladder_at-ladder.result.now.values ≡ columns_in c.args.columns.now c.args.member.now.column = ap (λ (l : LadderIn). l.values) c.ladder_at-ladder.ensures in
+    let base_is : c.base_of.result ≡ base_at t.kind column = c.base_of.ensures ∙ ap (λ k. base_at k column) c.kind.ensures in
+    let width_is : c.width_for-width.result ≡ width_for (base_at t.kind column) (forms_in c.args.forms.now column) = c.width_for-width.ensures ∙ (λ i. width_for (base_is i) (form_is i)) in
+    let here : is_there (forms_in c.args.forms.now column) ≡ true = ap is_there (sym form_is) ∙ sym c.is_there.ensures ∙ c.if-not-is_there.false in
+    let cells : c.in_ok-built.built.cells ≡ stored_column (forms_in c.args.forms.now column) (columns_in c.args.columns.now column) t column =
+    ap (λ (k : ColumnIn). k.cells) c.in_ok-built.ensures ∙ (λ i. stored_column (form_is i) (values_is i) t column) in
+    let width : c.in_ok-built.built.width ≡ width_for (base_at t.kind column) (forms_in c.args.forms.now column) =
+    ap (λ (k : ColumnIn). k.width) c.in_ok-built.ensures ∙ (λ i. width_for (base_at t.kind column) (form_is i)) in
+    let is : IsBuiltOf (forms_in c.args.forms.now) (columns_in c.args.columns.now) t c.requires.can.table (member_in c.args.member.now) b = record {
+      rows = e.rows ∙ ap length cells;
+      reads = (λ i. cells_of (sym width i) b.validity.items b.offsets.items b.values.items b.rows) ∙ e.reads ∙ cells;
+      bitmap = e.bitmap;
+      fine = subst (λ (w : Width). HasNoFault w b.offsets.items b.values.items b.rows) width e.no_fault;
+      bytes_len = e.values_len ∙ (λ i. values_len (width i) (cells i));
+      single = c.requires.can.single column;
+    } in
+    member_ok (forms_in c.args.forms.now) (columns_in c.args.columns.now) t c.requires.can.table (member_in c.args.member.now) b c.args.batch.now c.add_buffers.new.batch c.width_for-width.result c.add_buffers.result
+    here is width_is c.add_buffers.ensures.ok

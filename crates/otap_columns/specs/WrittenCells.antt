@@ -1,0 +1,113 @@
+-- What the writer keeps and writes for a cell.
+use Rattle.std.specs.Prelude.{ℕ, ◌+◌, ◌/◌, ◌<◌, ◌≤◌, List, [], ◌∷◌, ◌++◌, length, map, Option, Some, None, option_map, position, bytes_eq, pos}
+use Rattle.byteorder.specs.Endian.{little_bytes}
+use Rattle.arrow_buffers.specs.declared.builder.Buffers.{Buffers}
+use Rattle.arrow_buffers.specs.declared.width.Width.{Width}
+use Rattle.arrow_buffers.specs.declared.width.Width.TheVariants as width
+use Rattle.arrow_ipc.specs.Batches.{BatchIn}
+use Rattle.arrow_ipc.specs.Limits.{max_parts, max_body}
+use Rattle.arrow_ipc.specs.Written.{body_size}
+use Rattle.arrow_arrays.specs.Written.{PartIn, element_part}
+use Rattle.otap_cells.specs.declared.profile.Base.{Base}
+use Rattle.otap_cells.specs.declared.profile.Base.TheVariants as base
+use Rattle.otap_cells.specs.Cells.{Cell}
+use Rattle.otap_cells.specs.Columns.{base_at}
+use Rattle.otap_cells.specs.Tables.{Table, cell_in, column_in}
+use Rattle.otap_columns.specs.declared.forms.ColumnForm.{ColumnForm}
+use Rattle.otap_columns.specs.declared.forms.ColumnForm.TheVariants as form
+use Rattle.otap_columns.specs.declared.writer_cells.CellBytes.{CellBytes}
+use Rattle.otap_columns.specs.declared.writer_cells.CellBytes.TheVariants as bytes
+use Rattle.otap_columns.specs.Observed.{FitsForm, bytes_for, id_width}
+
+-- the bytes that are written for a cell, none where it is null
+abbrev pub shown : CellBytes → Option (List ℕ)
+shown bytes.Null = None
+shown (bytes.One part) = Some part
+shown (bytes.Two part) = Some part
+shown (bytes.Four part) = Some part
+shown (bytes.Eight part) = Some part
+shown (bytes.Part part) = Some part.now
+
+-- the place of a value among values; null has none
+abbrev pub place_in : List (List ℕ) → Option (List ℕ) → Option ℕ
+place_in values None = None
+place_in values (Some value) = position (bytes_eq value) values
+
+-- its index, in this number of bytes
+abbrev pub index_bytes : ℕ → List (List ℕ) → Option (List ℕ) → Option (List ℕ)
+index_bytes width values value = option_map (little_bytes width) (place_in values value)
+
+-- the indexes of a form reach all values
+abbrev pub FitsIndexes : ColumnForm → ℕ → Type 0
+FitsIndexes form.Dict8 count = count ≤ 256
+FitsIndexes form.Dict16 count = count ≤ 65536
+FitsIndexes form count = Unit {0}
+
+-- WHAT IS WRITTEN for a cell: its index in a dictionary's form, else its bytes
+abbrev pub stored_for : Base → ColumnForm → List (List ℕ) → Cell → Option (List ℕ)
+stored_for holds form.Dict8 values cell = index_bytes 1 values (bytes_for holds form.Dict8 cell)
+stored_for holds form.Dict16 values cell = index_bytes 2 values (bytes_for holds form.Dict16 cell)
+stored_for holds form.Absent values cell = bytes_for holds form.Absent cell
+stored_for holds form.Plain values cell = bytes_for holds form.Plain cell
+stored_for holds form.Wide values cell = bytes_for holds form.Wide cell
+
+-- ---- columns
+
+-- how the cells of a column are stored
+abbrev pub plain_width : Base → ColumnForm → Width
+plain_width base.U8 form = width.Fixed 1
+plain_width base.U16 form = width.Fixed 2
+plain_width base.U32 form = width.Fixed 4
+plain_width base.U64 form = width.Fixed 8
+plain_width base.I32 form = width.Fixed 4
+plain_width base.I64 form = width.Fixed 8
+plain_width base.Double form = width.Fixed 8
+plain_width base.Bool form = width.Bit
+plain_width base.Utf8 form = width.Var
+plain_width base.Binary form = width.Var
+plain_width base.Fixed16 form = width.Fixed 16
+plain_width base.Fixed8 form = width.Fixed 8
+plain_width base.Timestamp form = width.Fixed 8
+plain_width base.Duration form = width.Fixed 8
+plain_width base.ListU64 form = width.List 8
+plain_width base.ListF64 form = width.List 8
+plain_width (base.Id wide) form = width.Fixed (id_width form)
+
+abbrev pub width_for : Base → ColumnForm → Width
+width_for holds form.Dict8 = width.Fixed 1
+width_for holds form.Dict16 = width.Fixed 2
+width_for holds form.Absent = plain_width holds form.Absent
+width_for holds form.Plain = plain_width holds form.Plain
+width_for holds form.Wide = plain_width holds form.Wide
+
+-- a column of a table, as it is written
+unfoldable pub stored_column : ColumnForm → List (List ℕ) → Table → ℕ → List (Option (List ℕ))
+stored_column form values t column = map (stored_for (base_at t.kind column) form values) (column_in t.rows column)
+
+-- each of its cells fits the form
+abbrev pub FitsColumn : ColumnForm → Table → ℕ → Type 0
+FitsColumn form t column = (row : ℕ) → row < length t.rows → FitsForm (base_at t.kind column) form (cell_in t.rows column row)
+
+-- ---- parts of a batch
+
+-- what the buffers of a column add to a batch; the elements of lists are a part of their own
+abbrev pub parts_of : Width → Buffers → List PartIn
+parts_of width.Bit b = record { rows = b.rows; nulls = b.nulls; buffers = b.validity.items ∷ b.values.items ∷ [] } ∷ []
+parts_of (width.Fixed n) b = record { rows = b.rows; nulls = b.nulls; buffers = b.validity.items ∷ b.values.items ∷ [] } ∷ []
+parts_of width.Var b = record { rows = b.rows; nulls = b.nulls; buffers = b.validity.items ∷ b.offsets.items ∷ b.values.items ∷ [] } ∷ []
+parts_of (width.List n) b =
+    record { rows = b.rows; nulls = b.nulls; buffers = b.validity.items ∷ b.offsets.items ∷ [] } ∷ element_part (length b.values.items / 8) b.values.items ∷ []
+
+-- a batch with one part more
+abbrev pub with_part : BatchIn → PartIn → BatchIn
+with_part batch p = record { rows = batch.rows; nodes = batch.nodes ++ (pos p.rows, pos p.nulls) ∷ []; buffers = batch.buffers ++ p.buffers }
+
+abbrev pub with_parts : BatchIn → List PartIn → BatchIn
+with_parts batch [] = batch
+with_parts batch (p ∷ parts) = with_parts (with_part batch p) parts
+
+-- there is room for a column's parts
+pub record HasRoom (batch : BatchIn) (bytes : ℕ) : Type 0 where
+  pub nodes : length batch.nodes + 2 ≤ max_parts
+  pub buffers : length batch.buffers + 4 ≤ max_parts
+  pub body : body_size batch.buffers + bytes < max_body

@@ -1,0 +1,76 @@
+-- The parts of a record batch of a table.
+use Rattle.std.specs.Prelude.{◌≡◌, ◌*◌, ◌<◌, ◌≤◌, ℕ, ⊤, true, false, List, [], ◌∷◌, length, bytes_eq, Option, Some, None}
+use Rattle.std.specs.List.{list_any, slice_index_or}
+use Rattle.arrow_ipc.specs.Batches.{BatchIn}
+use Rattle.arrow_ipc.specs.Written.{body_size}
+use Rattle.arrow_arrays.specs.Layouts.{layout_of, layout_of_values}
+use Rattle.arrow_arrays.specs.Written.{PartIn, struct_part, HoldsCells, IsPartOfElements}
+use Rattle.otap_cells.specs.declared.payload.Kind.{Kind}
+use Rattle.otap_cells.specs.Columns.{base_at, column_at, width_of}
+use Rattle.otap_cells.specs.Tables.{Table, IsTable, cell_in}
+use Rattle.otap_cells.specs.Weights.{row_weight_limit, weight_of_table}
+use Rattle.otap_dicts.specs.declared.form.Form.TheVariants as ladder
+use Rattle.otap_columns.specs.declared.writer_rows.Used.{Used}
+use Rattle.otap_columns.specs.Schemas.{Forms, Slot, Struct, Column, Items, is_there, is_dictionary, type_in, dict_for, item_in, item_type}
+use Rattle.otap_columns.specs.Observed.{bytes_for}
+use Rattle.otap_columns.specs.Seen.{SeenIn}
+use Rattle.otap_columns.specs.WrittenCells.{FitsColumn, FitsIndexes, stored_column, with_parts}
+
+-- a part is that of a slot of the schema, before the next part: a struct without nulls, a column of the table, or elements
+abbrev pub HoldsSlot : Kind → Forms → (ℕ → List (List ℕ)) → Table → Slot → PartIn → Option PartIn → Type 0
+HoldsSlot kind forms values t (Struct name) p next = p ≡ struct_part (length t.rows)
+HoldsSlot kind forms values t (Column m) p next =
+    HoldsCells (layout_of (type_in (column_at kind m.column).base (forms m.column)) (dict_for m.column (forms m.column))) (length t.rows)
+    (stored_column (forms m.column) (values m.column) t m.column) p next
+HoldsSlot kind forms values t (Items column) p next = IsPartOfElements (layout_of_values (item_type (item_in (column_at kind column).base))) p
+
+abbrev pub first_of : List PartIn → Option PartIn
+first_of [] = None
+first_of (p ∷ parts) = Some p
+
+-- EACH SLOT HAS ITS PART, one after the other
+abbrev pub AreSlotParts : Kind → Forms → (ℕ → List (List ℕ)) → Table → List Slot → List PartIn → Type 0
+AreSlotParts kind forms values t [] [] = ⊤
+AreSlotParts kind forms values t [] (p ∷ parts) = ⊥
+AreSlotParts kind forms values t (slot ∷ slots) [] = ⊥
+AreSlotParts kind forms values t (slot ∷ slots) (p ∷ parts) = HoldsSlot kind forms values t slot p (first_of parts) × AreSlotParts kind forms values t slots parts
+
+-- the dictionary of a column has its values, and the indexes of its form reach them
+abbrev pub IsKnownIn : List (List ℕ) → Option (List ℕ) → Type 0
+IsKnownIn values None = ⊤
+IsKnownIn values (Some value) = list_any (bytes_eq value) values ≡ true
+
+pub record HasValues (kind : Kind) (forms : Forms) (values : ℕ → List (List ℕ)) (t : Table) : Type 0 where
+  pub known : (column row : ℕ) → is_dictionary (forms column) ≡ true → row < length t.rows
+      → IsKnownIn (values column) (bytes_for (base_at kind column) (forms column) (cell_in t.rows column row))
+  pub few : (column : ℕ) → FitsIndexes (forms column) (length (values column))
+
+-- ---- how a batch grows
+
+-- a column that had no value, and the values of the dictionaries of columns, by a list of what is kept of them
+abbrev pub unseen : SeenIn
+unseen = record { ladder = record { dictionary = false; form = ladder.Absent; values = [] }; wide = false }
+
+abbrev pub columns_in : List SeenIn → ℕ → List (List ℕ)
+columns_in columns column = (slice_index_or columns column unseen).ladder.values
+
+-- a table can be written in forms: each cell fits its form, indexes reach all values, and the table is light
+pub record CanWrite (forms : Forms) (columns : List SeenIn) (t : Table) : Type 0 where
+  pub table : IsTable t
+  pub count : length columns ≡ width_of t.kind
+  pub fits : (column : ℕ) → column < width_of t.kind → is_there (forms column) ≡ true → FitsColumn (forms column) t column
+  pub few : (column : ℕ) → FitsIndexes (forms column) (length (columns_in columns column))
+  pub single : (column : ℕ) → is_dictionary (forms column) ≡ true → item_in (base_at t.kind column) ≡ None
+  pub light : weight_of_table t ≤ row_weight_limit
+
+-- the parts of slots were added to a batch
+pub record AddsSlots (forms : Forms) (values : ℕ → List (List ℕ)) (t : Table) (slots : List Slot) (old new : BatchIn) : Type 0 where
+  pub parts : List PartIn
+  pub whole : new ≡ with_parts old parts
+  pub are : AreSlotParts t.kind forms values t slots parts
+
+-- a batch has no more than is counted
+pub record IsUsed (batch : BatchIn) (used : Used) : Type 0 where
+  pub nodes : length batch.nodes ≤ 2 * used.parts
+  pub buffers : length batch.buffers ≤ 4 * used.parts
+  pub bytes : body_size batch.buffers ≤ used.bytes

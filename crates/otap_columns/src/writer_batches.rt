@@ -1,0 +1,57 @@
+//! The dictionary batches of a record.
+
+ghost use Rattle.std.specs.Prelude.{◌≡◌, ◌<◌, ◌≤◌, ◌^◌, ℕ, List, Some, drop, length, map, slice_get, IfOk, OnOk};
+ghost use Rattle.arrow_buffers.specs.Columns.{HasWidth};
+ghost use Rattle.otap_dicts.specs.Forms.{bytes_of};
+ghost use Rattle.otap_columns.specs.WrittenBatches.{AddsDictionary, HoldsType, IsSingle};
+
+use crate::writer_columns::add_column;
+use arrow_buffers::{ColumnBuilder, Width};
+use arrow_ipc::BatchBuilder;
+use arrow_schema::ArrowType;
+use otap_dicts::Ladder;
+use std::alloc::{AllocError, Global};
+
+/// Appends a dictionary batch of the values of a ladder from a place on.
+pub(crate) fn add_dictionary(
+    alloc: Global,
+    to: &mut Vec<u8>,
+    kind: ArrowType,
+    width: Width,
+    ladder: &Ladder,
+    from: u32,
+    id: i64,
+    delta: bool,
+) -> Result<(), AllocError>
+    requires there { from ≤ length ladder.now.values }
+    requires few { length ladder.now.values ≤ 65536 }
+    requires room { bytes_of ladder.now.values ≤ 1048576 }
+    requires holds { HoldsType kind width ladder.now.values }
+    ensures { OnOk result (AddsDictionary kind id delta (drop from ladder.now.values) to.old.items to.new.items) }
+{
+    let built = values_column(alloc, width, ladder, from)?;
+    let buffers = built.finish()?;
+    let mut batch = BatchBuilder::new(alloc, buffers.rows);
+    add_column(&mut batch, width, &buffers)?;
+    batch.finish_dictionary(to, id, delta)
+}
+
+// The values of a ladder from a place on, as a column.
+fn values_column(
+    alloc: Global,
+    width: Width,
+    ladder: &Ladder,
+    from: u32,
+) -> Result<ColumnBuilder, AllocError>
+    requires there { from ≤ length ladder.now.values }
+    requires wide { (place : ℕ) (value : List ℕ) → slice_get ladder.now.values place ≡ Some value → HasWidth width value }
+    requires elements { IsSingle width }
+    requires room { bytes_of ladder.now.values < 2 ^ 31 }
+    ensures { IfOk result (λ column. column ≡ record { width = width; cells = map (λ value. Some value) (drop from ladder.now.values) }) }
+{
+    let mut column = ColumnBuilder::new(alloc, width);
+    'values: for place in from..ladder.count() {
+        column.push(ladder.value(place))?;
+    }
+    Ok(column)
+}

@@ -1,0 +1,119 @@
+//! The columns of a record batch, and what they add to it.
+
+ghost use Rattle.std.specs.Prelude.{◌≡◌, ◌+◌, ◌/◌, ◌<◌, ◌≤◌, ◌^◌, [], ◌∷◌, ◌++◌, length, pos, IfOk, OnOk};
+ghost use Rattle.arrow_buffers.specs.Columns.{cells_len};
+ghost use Rattle.arrow_ipc.specs.Limits.{max_body, max_parts};
+ghost use Rattle.arrow_ipc.specs.Written.{body_size, padded};
+ghost use Rattle.otap_cells.specs.Columns.{base_at, width_of};
+ghost use Rattle.otap_columns.specs.WrittenCells.{FitsColumn, FitsIndexes, HasRoom, parts_of, plain_width, stored_column, width_for, with_parts};
+
+use crate::forms::ColumnForm;
+use crate::writer_cells::stored_for;
+use arrow_buffers::{Buffers, ColumnBuilder, Width};
+use arrow_ipc::BatchBuilder;
+use otap_cells::{Base, LogicalTable, Rows, base_of};
+use otap_dicts::Ladder;
+use std::alloc::{AllocError, Global};
+
+/// How the cells of a column are stored.
+pub(crate) fn width_for(base: Base, form: ColumnForm) -> Width
+    ensures { result ≡ width_for base form }
+{
+    match form {
+        ColumnForm::Dict8 => Width::Fixed(1),
+        ColumnForm::Dict16 => Width::Fixed(2),
+        ColumnForm::Absent | ColumnForm::Plain | ColumnForm::Wide => plain_width(base, form),
+    }
+}
+
+pub(crate) fn plain_width(base: Base, form: ColumnForm) -> Width
+    ensures { result ≡ plain_width base form }
+{
+    match base {
+        Base::U8 => Width::Fixed(1),
+        Base::U16 => Width::Fixed(2),
+        Base::U32 | Base::I32 => Width::Fixed(4),
+        Base::U64 | Base::I64 | Base::Double | Base::Timestamp | Base::Duration | Base::Fixed8 => {
+            Width::Fixed(8)
+        }
+        Base::Fixed16 => Width::Fixed(16),
+        Base::Bool => Width::Bit,
+        Base::Utf8 | Base::Binary => Width::Var,
+        Base::ListU64 | Base::ListF64 => Width::List(8),
+        Base::Id { .. } => match form {
+            ColumnForm::Wide => Width::Fixed(4),
+            _ => Width::Fixed(2),
+        },
+    }
+}
+
+/// A column of a table, as its form has it written.
+pub(crate) fn column_for(
+    alloc: Global,
+    table: &LogicalTable,
+    column: u32,
+    form: ColumnForm,
+    ladder: &Ladder,
+) -> Result<ColumnBuilder, AllocError>
+    requires column { column < width_of table.now.kind }
+    requires fits { FitsColumn form table.now column }
+    requires few { FitsIndexes form (length ladder.now.values) }
+    requires room { cells_len (stored_column form ladder.now.values table.now column) < 2 ^ 31 }
+    ensures { IfOk result (λ built. built ≡ record { width = width_for (base_at table.now.kind column) form; cells = stored_column form ladder.now.values table.now column }) }
+{
+    let base = base_of(table.kind(), column);
+    let mut built = ColumnBuilder::new(alloc, width_for(base, form));
+    'rows: for row in 0..table.rows() {
+        let cell = stored_for(base, form, ladder, table.cell(column, row));
+        built.push(cell.as_slice())?;
+    }
+    Ok(built)
+}
+
+/// Adds a column to a batch.
+pub(crate) fn add_column(
+    batch: &mut BatchBuilder,
+    width: Width,
+    buffers: &Buffers,
+) -> Result<(), AllocError>
+    requires rows { buffers.now.rows < 2 ^ 63 }
+    requires nulls { buffers.now.nulls < 2 ^ 63 }
+    requires room { HasRoom batch.old (padded (length buffers.now.validity.items) + padded (length buffers.now.offsets.items) + padded (length buffers.now.values.items)) }
+    ensures { OnOk result (batch.new ≡ with_parts batch.old (parts_of width buffers.now)) }
+{
+    batch.add(buffers.rows, buffers.nulls)?;
+    batch.add_buffer(&buffers.validity)?;
+    match width {
+        Width::Bit | Width::Fixed(_) => batch.add_buffer(&buffers.values),
+        Width::Var => add_spans(batch, &buffers.offsets, &buffers.values),
+        Width::List(_) => add_lists(batch, &buffers.offsets, &buffers.values),
+    }
+}
+
+fn add_spans(batch: &mut BatchBuilder, offsets: &[u8], values: &[u8]) -> Result<(), AllocError>
+    requires few { length batch.old.buffers + 2 ≤ max_parts }
+    requires room { body_size batch.old.buffers + padded (length offsets.now) + padded (length values.now) < max_body }
+    ensures { OnOk result (batch.new ≡ record batch.old { buffers = (batch.old.buffers ++ offsets.now ∷ []) ++ values.now ∷ [] }) }
+{
+    batch.add_buffer(offsets)?;
+    batch.add_buffer(values)?;
+    Ok(())
+}
+
+// The elements of lists have a node of their own, and no null.
+fn add_lists(batch: &mut BatchBuilder, offsets: &[u8], values: &[u8]) -> Result<(), AllocError>
+    requires nodes { length batch.old.nodes < max_parts }
+    requires few { length batch.old.buffers + 3 ≤ max_parts }
+    requires room { body_size batch.old.buffers + padded (length offsets.now) + padded (length values.now) < max_body }
+    ensures { OnOk result (batch.new ≡ record {
+      rows = batch.old.rows;
+      nodes = batch.old.nodes ++ (pos (length values.now / 8), pos 0) ∷ [];
+      buffers = (((batch.old.buffers ++ offsets.now ∷ []) ++ [] ∷ []) ++ values.now ∷ []);
+    }) }
+{
+    batch.add_buffer(offsets)?;
+    batch.add(values.len() as u64 / 8, 0)?;
+    batch.add_buffer(&[])?;
+    batch.add_buffer(values)?;
+    Ok(())
+}

@@ -1,0 +1,25 @@
+//! What the far end reads of what is written. The functions do nothing: their contracts are the laws.
+
+ghost use Rattle.std.specs.Prelude.{◌≡◌, ℕ, List, [], length};
+ghost use Rattle.histories.specs.EachAfter.{EachAfter};
+ghost use Rattle.otap_cells.specs.declared.payload.Kind.{Kind};
+ghost use Rattle.otap_cells.specs.Tables.{Table};
+ghost use Rattle.arrow_arrays.specs.Written.{PartIn, batch_of};
+ghost use Rattle.otap_columns.specs.Policy.{HoldsRows, IsReadAs, Policy};
+ghost use Rattle.otap_columns.specs.Schemas.{Forms, FormsFit, slots_for};
+ghost use Rattle.otap_columns.specs.Streams.{PayloadIn};
+ghost use Rattle.otap_columns.specs.WrittenRows.{AreSlotParts, HasValues};
+
+/// For every list of tables, the payloads that the policy gives them are read as just these tables: no record has a defect,
+/// and the table that a payload stands for has the cells and the codings of the one that was written. Its sub-stream has the
+/// schema of the columns' forms.
+pub fn far_end_reads()
+    ensures { (kind : Kind) (tables : List Table) (payloads : List PayloadIn) → Policy kind tables payloads → EachAfter (IsReadAs kind) [] [] tables payloads }
+{}
+
+/// A record batch that has a part for each slot of its schema holds the rows of the table: a struct without nulls, a column as
+/// its form has it written, the elements of lists.
+pub fn rows_are_held()
+    ensures { (kind : Kind) (forms : Forms) (values : ℕ → List (List ℕ)) (t : Table) (parts : List PartIn) → FormsFit kind forms → t.kind ≡ kind → HasValues kind forms values t
+        → AreSlotParts kind forms values t (slots_for kind forms) parts → HoldsRows kind forms values t (batch_of (length t.rows) parts) }
+{}

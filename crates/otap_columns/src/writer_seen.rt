@@ -1,0 +1,224 @@
+//! What the writer keeps of a column of the tables that it wrote.
+
+ghost use Rattle.std.specs.Prelude.{◌≡◌, ◌<◌, ◌&&◌, ◌||◌, [], List, fold, map, true, if◌then◌else◌, IfOk, OnOk};
+ghost use Rattle.std.specs.List.{list_any};
+ghost use Rattle.otap_cells.specs.Columns.{base_at, coding_at, is_id_at, width_of};
+ghost use Rattle.otap_cells.specs.Continuing.{continues_in};
+ghost use Rattle.otap_cells.specs.Tables.{Table, coding_in, column_in};
+ghost use Rattle.otap_columns.specs.declared.forms.ColumnForm.TheVariants as form;
+ghost use Rattle.otap_columns.specs.Observed.{bytes_for, form_at, has_wide_id, is_above, is_main, is_own_id, is_wide, of_ladder};
+ghost use Rattle.otap_columns.specs.Seen.{SeesTable, form_told, id_form_told, is_absent, observed_if, seen_after};
+ghost use Rattle.otap_columns.specs.WrittenCells.{shown};
+
+use crate::forms::ColumnForm;
+use crate::writer_cells::{CellBytes, bytes_for};
+use otap_cells::{Base, Kind, LogicalTable, Rows, base_of, columns, stored_numbers, undo};
+use otap_dicts::{Form, Ladder};
+use std::alloc::{AllocError, Global};
+use std::marker::Model;
+
+/// The values that a column had, and whether one of its ids needs more than 16 bits.
+#[derive(Debug, Drop)]
+pub(crate) struct SeenColumn {
+    pub(crate) ladder: Ladder,
+    pub(crate) wide: bool,
+}
+
+impl Model for SeenColumn {
+    ghost use Rattle.otap_columns.specs.Seen.{SeenIn};
+
+    ghost Value = { SeenIn };
+
+    ghost view = { λ s. record { ladder = s.ladder; wide = s.wide } };
+}
+
+impl SeenColumn {
+    /// A column that had no value.
+    #[tactic(auto, unfolding(crate::specs::Seen::seen_after, crate::specs::Observed::seen))]
+    pub(crate) fn new(alloc: Global, kind: Kind, column: u32) -> SeenColumn
+        requires { column < width_of kind }
+        ensures { result ≡ seen_after kind [] column }
+    {
+        SeenColumn {
+            ladder: Ladder::new(alloc, columns(kind)[column as usize].dictionary),
+            wide: false,
+        }
+    }
+
+    /// Observes a column of one table more. `continues` tells of each row whether it continues the run of the one before. After
+    /// want of memory it stands for no list of tables.
+    pub(crate) fn observe(
+        &mut self,
+        alloc: Global,
+        table: &LogicalTable,
+        column: u32,
+        continues: &[bool],
+    ) -> Result<(), AllocError>
+        requires column { column < width_of table.now.kind }
+        requires runs { continues.now ≡ continues_in table.now }
+        requires coded { is_id_at table.now.kind column ≡ true → coding_in table.now column ≡ coding_at table.now.kind column }
+        ensures { OnOk result (SeesTable table.now.kind column table.now self.old self.new) }
+    {
+        self.step(alloc, table, column, continues)
+    }
+
+    fn step(
+        &mut self,
+        alloc: Global,
+        table: &LogicalTable,
+        column: u32,
+        continues: &[bool],
+    ) -> Result<(), AllocError>
+        requires column { column < width_of table.now.kind }
+        requires runs { continues.now ≡ continues_in table.now }
+        requires coded { is_id_at table.now.kind column ≡ true → coding_in table.now column ≡ coding_at table.now.kind column }
+        ensures { OnOk result (self.new ≡ record {
+          ladder = fold observed_if self.old.ladder (map (bytes_for (base_at table.now.kind column) form.Wide) (column_in table.now.rows column));
+          wide = self.old.wide || (is_id_at table.now.kind column && has_wide_id table.now.kind column table.now);
+        }) }
+    {
+        observe_values(&mut self.ladder, table, column)?;
+        let wide = needs_wide(alloc, table, column, continues)?;
+        self.wide |= wide;
+        Ok(())
+    }
+
+    /// The form of the column after the tables that it stands for.
+    pub(crate) fn form(&self, kind: Kind, column: u32) -> ColumnForm
+        requires { column < width_of kind }
+        ensures { (tables : List Table) → self.now ≡ seen_after kind tables column → result ≡ form_at kind tables column }
+    {
+        self.told(kind, column)
+    }
+
+    pub(crate) fn told(&self, kind: Kind, column: u32) -> ColumnForm
+        requires { column < width_of kind }
+        ensures { result ≡ form_told kind column self.now }
+    {
+        form_of(kind, column, self.ladder.form(), self.wide)
+    }
+}
+
+// The form that is told by that of the ladder, and by whether an id needs more than 16 bits.
+fn form_of(kind: Kind, column: u32, told: Form, wide: bool) -> ColumnForm
+    requires { column < width_of kind }
+    ensures { result ≡ (if is_id_at kind column then id_form_told (is_own_id kind column) (is_absent told) (is_wide (base_at kind column) || wide) else of_ladder told) }
+{
+    let base = base_of(kind, column);
+    if base.is_id() {
+        id_form(
+            is_own_id(kind, column),
+            told == Form::Absent,
+            is_wide(base) || wide,
+        )
+    } else {
+        of_ladder(told)
+    }
+}
+
+fn id_form(own: bool, absent: bool, wide: bool) -> ColumnForm
+    ensures { result ≡ id_form_told own absent wide }
+{
+    if absent && !own {
+        ColumnForm::Absent
+    } else if wide {
+        ColumnForm::Wide
+    } else {
+        ColumnForm::Plain
+    }
+}
+
+fn of_ladder(told: Form) -> ColumnForm
+    ensures { result ≡ of_ladder told }
+{
+    match told {
+        Form::Absent => ColumnForm::Absent,
+        Form::Dict8 => ColumnForm::Dict8,
+        Form::Dict16 => ColumnForm::Dict16,
+        Form::Plain => ColumnForm::Plain,
+    }
+}
+
+fn is_wide(base: Base) -> bool
+    ensures { result ≡ is_wide base }
+{
+    matches!(base, Base::Id { wide: true })
+}
+
+// Whether a column holds the ids of the rows of a main table.
+fn is_own_id(kind: Kind, column: u32) -> bool
+    requires { column < width_of kind }
+    ensures { result ≡ is_own_id kind column }
+{
+    is_main(kind) && columns(kind)[column as usize].name == "id"
+}
+
+fn is_main(kind: Kind) -> bool
+    ensures { result ≡ is_main kind }
+{
+    matches!(kind, Kind::Metrics | Kind::Logs | Kind::Spans)
+}
+
+// Whether a column holds ids of which one needs more than 16 bits.
+fn needs_wide(
+    alloc: Global,
+    table: &LogicalTable,
+    column: u32,
+    continues: &[bool],
+) -> Result<bool, AllocError>
+    requires column { column < width_of table.now.kind }
+    requires runs { continues.now ≡ continues_in table.now }
+    requires coded { is_id_at table.now.kind column ≡ true → coding_in table.now column ≡ coding_at table.now.kind column }
+    ensures { IfOk result (λ wide. wide ≡ (is_id_at table.now.kind column && has_wide_id table.now.kind column table.now)) }
+{
+    if !base_of(table.kind(), column).is_id() {
+        return Ok(false);
+    }
+    has_wide_id(alloc, table, column, continues)
+}
+
+// Observes the cells of a column.
+fn observe_values(ladder: &mut Ladder, table: &LogicalTable, column: u32) -> Result<(), AllocError>
+    requires { column < width_of table.now.kind }
+    ensures { OnOk result (ladder.new ≡ fold observed_if ladder.old (map (bytes_for (base_at table.now.kind column) form.Wide) (column_in table.now.rows column))) }
+{
+    let base = base_of(table.kind(), column);
+    'rows: for row in 0..table.rows() {
+        let cell = bytes_for(base, ColumnForm::Wide, table.cell(column, row));
+        observe_cell(ladder, &cell)?;
+    }
+    Ok(())
+}
+
+fn observe_cell(ladder: &mut Ladder, cell: &CellBytes<'_>) -> Result<(), AllocError>
+    ensures { OnOk result (ladder.new ≡ observed_if ladder.old (shown cell.now)) }
+{
+    match cell.as_slice() {
+        None => Ok(()),
+        Some(part) => ladder.observe(part),
+    }
+}
+
+// Whether an id of a column needs more than 16 bits.
+fn has_wide_id(
+    alloc: Global,
+    table: &LogicalTable,
+    column: u32,
+    continues: &[bool],
+) -> Result<bool, AllocError>
+    requires id { is_id_at table.now.kind column ≡ true }
+    requires runs { continues.now ≡ continues_in table.now }
+    requires coded { coding_in table.now column ≡ coding_at table.now.kind column }
+    ensures { IfOk result (λ wide. wide ≡ has_wide_id table.now.kind column table.now) }
+{
+    let mut ids = stored_numbers(alloc, table, column)?;
+    undo(table.coding(column), &mut ids, continues, u32::MAX);
+    let wide = is_above(&ids);
+    Ok(wide)
+}
+
+fn is_above(ids: &[Option<u32>]) -> bool
+    ensures { result ≡ list_any is_above ids.now }
+{
+    ids.iter().any(|id| matches!(id, Some(id) if *id > 65_535))
+}
