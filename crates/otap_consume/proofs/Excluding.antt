@@ -17,7 +17,7 @@ use Rattle.otap_columns.specs.declared.refusal.ColumnRefusal.{ColumnRefusal}
 use Rattle.otap_columns.specs.Records.{IsRead}
 use Rattle.otap_columns.proofs.Excluding.{never_both}
 use Rattle.otap_consume.specs.declared.refusal.Cause.{Cause}
-use Rattle.otap_consume.specs.declared.refusal.Cause.TheVariants.{Compressed, BadMessage, Repeated, BadUtf8, PayloadType, PayloadTwice, SchemaIdTaken, Column, TooManyItems, RowsTooHeavy, HeldTooMuch, Broken}
+use Rattle.otap_consume.specs.declared.refusal.Cause.TheVariants.{Compressed, BadMessage, Repeated, BadUtf8, PayloadType, PayloadTwice, SchemaIdTaken, Column, TooManyItems, RowsTooHeavy, HeldTooMuch, Row, TreeTooHeavy, Broken}
 use Rattle.otap_consume.specs.Defects.{Accepts, Refuses, StandsInList, HasFineList, StandsInRecord, HasFineRecords, IsReadBehind, IsTooLarge, IsWithinLimits, is_taken, tables_of, held_after}
 use Rattle.otap_consume.specs.Outcomes.{stage_of}
 use Rattle.otap_consume.specs.Payloads.{messages_before}
@@ -56,6 +56,8 @@ module _ (signal : Signal) (past payloads : List PayloadContent) where
   list_not fine TooManyItems payload h = h
   list_not fine RowsTooHeavy payload h = h
   list_not fine HeldTooMuch payload h = h
+  list_not fine (Row why) payload h = h
+  list_not fine TreeTooHeavy payload h = h
   list_not fine Broken payload h = h
 
   list_stage : (cause : Cause) (payload : Option ℤ) → StandsInList signal past payloads cause payload → stage_of cause ≡ 2
@@ -70,6 +72,8 @@ module _ (signal : Signal) (past payloads : List PayloadContent) where
   list_stage TooManyItems payload h = absurd h
   list_stage RowsTooHeavy payload h = absurd h
   list_stage HeldTooMuch payload h = absurd h
+  list_stage (Row why) payload h = absurd h
+  list_stage TreeTooHeavy payload h = absurd h
   list_stage Broken payload h = absurd h
 
   -- nor with records that are
@@ -92,6 +96,8 @@ module _ (signal : Signal) (past payloads : List PayloadContent) where
   size_not tables held within PayloadTwice h = h
   size_not tables held within SchemaIdTaken h = h
   size_not tables held within (Column refusal) h = h
+  size_not tables held within (Row why) h = h
+  size_not tables held within TreeTooHeavy h = h
   size_not tables held within Broken h = h
 
   size_stage : (tables : List Table) (held : ℕ) (cause : Cause) → IsTooLarge signal tables held cause → stage_of cause ≡ 4
@@ -106,6 +112,8 @@ module _ (signal : Signal) (past payloads : List PayloadContent) where
   size_stage tables held PayloadTwice h = absurd h
   size_stage tables held SchemaIdTaken h = absurd h
   size_stage tables held (Column refusal) h = absurd h
+  size_stage tables held (Row why) h = absurd h
+  size_stage tables held TreeTooHeavy h = absurd h
   size_stage tables held Broken h = absurd h
 
   pub not_both : (cause : Cause) (payload : Option ℤ) → Accepts signal past payloads → Refuses signal past payloads cause payload → ⊥
@@ -127,3 +135,9 @@ module _ (signal : Signal) (past payloads : List PayloadContent) where
       let tables : List Table = tables_of signal past payloads in
       let held : ℕ = held_after signal (past ++ payloads) in
       size_stage tables held c large ∙ sym (size_stage tables held d large')
+
+  -- each stage is one after the first
+  pub after_first : (cause : Cause) (payload : Option ℤ) → Refuses signal past payloads cause payload → 1 < stage_of cause
+  after_first cause payload (Refuses.by_list c r stands) = let stage = list_stage c r stands in omega (arith, stage)
+  after_first cause payload (Refuses.by_record refusal r list stands) = omega arith
+  after_first cause payload (Refuses.by_size c list records large) = let stage = size_stage (tables_of signal past payloads) (held_after signal (past ++ payloads)) c large in omega (arith, stage)

@@ -1,5 +1,5 @@
 -- Each frame has an outcome after frames with outcomes.
-use Rattle.std.proofs.Common.{◌≡◌, ℕ, Bool, true, false, List, [], ◌∷◌, ◌++◌, Option, Some, None, ℤ, refl, sym, ap, ◌∙◌, subst, append_assoc, ◌⊎◌, inl, inr}
+use Rattle.std.proofs.Common.{◌≡◌, Bool, true, false, List, [], ◌∷◌, ◌++◌, Option, Some, None, refl, sym, ◌∙◌, subst, inl, inr}
 use Rattle.std.specs.Prelude.{MatchBool}
 use Rattle.std.specs.List.{AllByRecursion}
 use Rattle.std.specs.Option.{IsSome}
@@ -7,17 +7,14 @@ use Rattle.std.proofs.lemmas.Bool.{both_ways}
 use Rattle.histories.specs.EachAfter.{AllAfter}
 use Rattle.histories.proofs.Growing.{each_after-keeps, all_after-append}
 use Rattle.otlp_model.specs.declared.request.Signal.{Signal}
-use Rattle.otap_capture.specs.declared.batch.BatchRefusal.{BatchRefusal}
-use Rattle.otap_capture.specs.Batch.{BatchContent, PayloadContent, ReadsBatch, RefusesBatch}
+use Rattle.otap_capture.specs.Batch.{BatchContent, PayloadContent}
 use Rattle.otap_capture.specs.Capture.{Frame, Message, Packed}
 use Rattle.otap_capture.specs.Capture as capture
 use Rattle.otap_cells.specs.declared.payload.Kind.{Kind}
 use Rattle.otap_cells.specs.Payload.{kind_numbered}
 use Rattle.otap_cells.specs.Tables.{Table}
-use Rattle.otap_consume.specs.declared.refusal.Cause.{Cause}
 use Rattle.otap_consume.specs.declared.refusal.Cause.TheVariants.{Compressed, Broken}
-use Rattle.otap_consume.specs.declared.refusal.Refusal.{Refusal}
-use Rattle.otap_consume.specs.Defects.{IsReadBehind, IsTakenAfter, AreTaken, Accepts, Refuses, tables_of, AreJudged}
+use Rattle.otap_consume.specs.Defects.{IsReadBehind, IsTakenAfter, AreTaken, Accepts, tables_of}
 use Rattle.otap_consume.specs.Outcomes.{Outcome, Accepted, Refused, Reset, refused, unread_cause, is_broken, payloads_after, Gives, StaysBroken, OutcomeAfter, Outcomes, IsRead}
 use Rattle.otap_consume.specs.PayloadTypes.{IsFineType}
 use Rattle.otap_consume.proofs.Judged.{are_judged}
@@ -51,10 +48,10 @@ gives_accepted signal past _ _ batch tables (Gives.accepts bytes other reads acc
 gives_accepted signal past _ _ batch tables Gives.resets is = absurd (cc is)
 
 -- where no frame of the segment was refused
-abbrev Taken : Signal → List Outcome → Type 0
+abbrev pub Taken : Signal → List Outcome → Type 0
 Taken signal outcomes = is_broken outcomes ≡ false → AreTaken signal (payloads_after outcomes)
 
-one_more : (signal : Signal) (outcomes : List Outcome) (frame : Frame) (outcome : Outcome) → Taken signal outcomes → OutcomeAfter signal outcomes frame outcome → Taken signal (outcomes ++ outcome ∷ [])
+pub one_more : (signal : Signal) (outcomes : List Outcome) (frame : Frame) (outcome : Outcome) → Taken signal outcomes → OutcomeAfter signal outcomes frame outcome → Taken signal (outcomes ++ outcome ∷ [])
 one_more signal outcomes frame (Accepted batch tables) taken after = λ whole.
     let before : is_broken outcomes ≡ false = sym (broken_accepted outcomes batch tables) ∙ whole in
     let gives : Gives signal (payloads_after outcomes) frame (Accepted batch tables) =
@@ -64,7 +61,7 @@ one_more signal outcomes frame (Accepted batch tables) taken after = λ whole.
 one_more signal outcomes frame (Refused refusal) taken after = λ whole. absurd (both_ways (is_broken (outcomes ++ Refused refusal ∷ [])) whole (broken_refused outcomes refusal))
 one_more signal outcomes frame Reset taken after = λ whole. subst (AreTaken signal) (sym (payloads_reset outcomes)) tt
 
-none_taken : (signal : Signal) → Taken signal []
+pub none_taken : (signal : Signal) → Taken signal []
 unfolding payloads_after
 none_taken signal = λ whole. tt
 
@@ -75,7 +72,7 @@ taken_after signal frames outcomes each =
 
 -- ---- so each frame has an outcome
 
-abbrev Has : Signal → List Outcome → Frame → Type 0
+abbrev pub Has : Signal → List Outcome → Frame → Type 0
 Has signal outcomes frame = (outcome : Outcome) × OutcomeAfter signal outcomes frame outcome
 
 still_broken : (frame : Frame) → IsRead frame → (outcome : Outcome) × StaysBroken frame outcome
@@ -94,7 +91,7 @@ gives_some signal past taken (Message bytes) (inr (refusal, bad)) = (refused Non
 gives_some signal past taken Packed h = (refused None Compressed None, Gives.compressed)
 gives_some signal past taken capture.Reset h = (Reset, Gives.resets)
 
-by_break : (signal : Signal) (outcomes : List Outcome) (frame : Frame) (b : Bool) → is_broken outcomes ≡ b → Taken signal outcomes → IsRead frame → Has signal outcomes frame
+pub by_break : (signal : Signal) (outcomes : List Outcome) (frame : Frame) (b : Bool) → is_broken outcomes ≡ b → Taken signal outcomes → IsRead frame → Has signal outcomes frame
 by_break signal outcomes frame true is taken read =
     let h : (outcome : Outcome) × StaysBroken frame outcome = still_broken frame read in
     (h.0, subst (λ (b : Bool). MatchBool b (StaysBroken frame h.0) (Gives signal (payloads_after outcomes) frame h.0)) (sym is) h.1)

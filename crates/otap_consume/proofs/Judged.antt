@@ -1,5 +1,5 @@
 -- Payloads that come after payloads that were taken are accepted or refused.
-use Rattle.std.proofs.Common.{◌≡◌, ℕ, ◌<◌, ◌≤◌, Bool, true, false, List, [], ◌∷◌, ◌++◌, length, Option, Some, None, ℤ, if◌then◌else◌, refl, sym, ap, ◌∙◌, subst, append_assoc, append-nil, arith, rules, ◌⊎◌, inl, inr}
+use Rattle.std.proofs.Common.{◌≡◌, ℕ, Bool, true, false, List, [], ◌∷◌, ◌++◌, length, Option, Some, None, ℤ, if◌then◌else◌, refl, sym, ap, ◌∙◌, subst, append_assoc, append-nil, rules, ◌⊎◌, inl, inr}
 use Rattle.std.specs.List.{AllByRecursion}
 use Rattle.std.specs.Option.{IsSome}
 use Rattle.std.specs.Ordering.{int_eq}
@@ -26,9 +26,9 @@ use Rattle.otap_consume.specs.declared.payload_types.TypesRefusal.TheVariants as
 use Rattle.otap_consume.specs.declared.refusal.Cause.{Cause}
 use Rattle.otap_consume.specs.declared.refusal.Cause.TheVariants.{PayloadType, PayloadTwice, SchemaIdTaken, Column, TooManyItems, RowsTooHeavy, HeldTooMuch}
 use Rattle.otap_consume.specs.Limits.{held_limit}
-use Rattle.otap_consume.specs.Defects.{is_taken, HasTakenId, StandsInList, HasFineList, StandsInRecord, IsReadBehind, HasFineRecords, IsTakenAfter, AreTaken, IsTooLarge, IsWithinLimits, tables_of, held_after, Refuses, Accepts, AreJudged}
+use Rattle.otap_consume.specs.Defects.{is_taken, HasTakenId, StandsInList, HasFineList, StandsInRecord, IsReadBehind, HasFineRecords, IsTakenAfter, AreTaken, IsTooLarge, IsWithinLimits, tables_of, held_after, Refuses, AreJudged}
 use Rattle.otap_consume.specs.Payloads.{parts_of, part_of, last_in, messages_in, messages_before}
-use Rattle.otap_consume.specs.PayloadTypes.{HasPayload, IsFineType, HasFineTypes, StandsInTypes, times}
+use Rattle.otap_consume.specs.PayloadTypes.{IsFineType, HasFineTypes, StandsInTypes, times}
 use Rattle.otap_consume.proofs.Substreams.{messages_in-other, messages_in-own}
 use Rattle.otap_consume.proofs.ViewSteps.{fine_at}
 

@@ -13,3 +13,5 @@ pub mod Stages
 pub mod Excluding
 pub mod Judged
 pub mod Following
+pub mod Regrouping
+pub mod Formats

@@ -14,3 +14,8 @@ pub mod Sizes
 pub mod Segments
 pub mod SegmentInside
 pub mod Taking
+pub mod Meanings
+pub mod Receiving
+pub mod Receivers
+pub mod ReceiverInside
+pub mod LogsMeaning

@@ -11,7 +11,7 @@ use Rattle.otap_capture.specs.Capture.{Frame, Message, Packed}
 use Rattle.otap_capture.specs.Capture as capture
 use Rattle.otap_cells.specs.Tables.{Table}
 use Rattle.otap_consume.specs.declared.refusal.Cause.{Cause}
-use Rattle.otap_consume.specs.declared.refusal.Cause.TheVariants.{Compressed, BadMessage, Repeated, BadUtf8, PayloadType, PayloadTwice, SchemaIdTaken, Column, TooManyItems, RowsTooHeavy, HeldTooMuch, Broken}
+use Rattle.otap_consume.specs.declared.refusal.Cause.TheVariants.{Compressed, BadMessage, Repeated, BadUtf8, PayloadType, PayloadTwice, SchemaIdTaken, Column, TooManyItems, RowsTooHeavy, HeldTooMuch, Row, TreeTooHeavy, Broken}
 use Rattle.otap_consume.specs.declared.refusal.Refusal.{Refusal}
 use Rattle.otap_consume.specs.Defects.{Refuses, Accepts, tables_of}
 
@@ -35,6 +35,8 @@ stage_of (Column refusal) = 3
 stage_of TooManyItems = 4
 stage_of RowsTooHeavy = 4
 stage_of HeldTooMuch = 4
+stage_of (Row why) = 5
+stage_of TreeTooHeavy = 6
 
 abbrev pub refusal_of : Option ℤ → Cause → Option ℤ → Refusal
 refusal_of id cause payload = record { id = id; stage = stage_of cause; cause = cause; payload = payload }

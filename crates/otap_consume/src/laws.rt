@@ -7,7 +7,7 @@ ghost use Rattle.otap_consume.specs.declared.refusal.Cause.{Cause};
 ghost use Rattle.otap_consume.specs.declared.refusal.TheConstants.{MAX_HELD};
 ghost use Rattle.otap_consume.specs.Limits.{held_limit};
 ghost use Rattle.otap_consume.specs.Defects.{Accepts, Refuses, AreTaken, AreJudged};
-ghost use Rattle.otap_consume.specs.Outcomes.{stage_of, Outcome, Outcomes, OutcomeAfter, IsRead};
+ghost use Rattle.otap_consume.specs.Outcomes.{stage_of, Outcome, Outcomes, OutcomeAfter};
 ghost use Rattle.otlp_model.specs.declared.request.Signal.{Signal};
 
 /// Payloads that are accepted are not refused, and after payloads that were taken they are one or the other.
@@ -22,10 +22,10 @@ pub fn what_is_held_is_limited()
     ensures { MAX_HELD ≡ held_limit }
 {}
 
-/// Each frame has an outcome after frames with outcomes, where its message is a batch or a defect stands in it.
+/// Each frame has an outcome after frames with outcomes.
 pub fn some_outcome()
     ensures { (signal : Signal) (frames : List Frame) (outcomes : List Outcome) (frame : Frame)
-        → Outcomes signal frames outcomes → IsRead frame → (outcome : Outcome) × OutcomeAfter signal outcomes frame outcome }
+        → Outcomes signal frames outcomes → (outcome : Outcome) × OutcomeAfter signal outcomes frame outcome }
 {}
 
 /// Payloads are refused in one stage only, whatever the cause.

@@ -4,7 +4,10 @@
 
 mod ids;
 pub mod laws;
+mod logs;
 mod payload_types;
+mod receiver;
+pub mod receiving_laws;
 mod records;
 mod refusal;
 mod seen;
@@ -12,13 +15,19 @@ mod segment;
 mod sizes;
 mod stop;
 mod stream;
+mod taken;
 mod taking;
+mod telemetry;
 mod views;
 
+pub use logs::Logs;
 pub use payload_types::{TypesRefusal, check_types};
+pub use receiver::Receiver;
 pub use refusal::{Cause, MAX_HELD, Refusal};
 pub use seen::Seen;
 pub use segment::Segment;
+pub use taken::Taken;
+pub use telemetry::Telemetry;
 
 #[cfg(test)]
 mod tests;

@@ -1,6 +1,8 @@
 //! Why a frame is refused.
 ghost use Rattle.std.specs.Prelude.{◌≡◌};
+ghost use Rattle.otap_consume.specs.Outcomes.{refusal_of, stage_of};
 
+use otap_attrs::RowRefusal;
 use otap_columns::ColumnRefusal;
 use thiserror::Error;
 
@@ -43,6 +45,12 @@ pub enum Cause {
     /// Stage 4: the dictionaries hold more than [`MAX_HELD`].
     #[error("the dictionaries hold too much")]
     HeldTooMuch,
+    /// Stage 5: something is wrong with the rows of a table.
+    #[error("the rows are wrong: {0}")]
+    Row(RowRefusal),
+    /// Stage 6: the request weighs more than [`MAX_TREE_WEIGHT`](otlp_model::MAX_TREE_WEIGHT).
+    #[error("the request is too heavy")]
+    TreeTooHeavy,
     /// Stage 0: an earlier frame of the segment was refused.
     #[error("an earlier frame of the segment was refused")]
     Broken,
@@ -56,4 +64,33 @@ pub struct Refusal {
     pub stage: u8,
     pub cause: Cause,
     pub payload: Option<i32>,
+}
+
+impl Refusal {
+    /// The refusal by a cause, in the stage of the cause.
+    pub(crate) fn new(id: Option<i64>, cause: Cause, payload: Option<i32>) -> Refusal
+        ensures { result ≡ refusal_of id cause payload }
+    {
+        let stage = stage_of(&cause);
+        Refusal {
+            id,
+            stage,
+            cause,
+            payload,
+        }
+    }
+}
+
+fn stage_of(cause: &Cause) -> u8
+    ensures { result ≡ stage_of cause.now }
+{
+    match cause {
+        Cause::Broken => 0,
+        Cause::Compressed | Cause::BadMessage | Cause::Repeated | Cause::BadUtf8 => 1,
+        Cause::PayloadType | Cause::PayloadTwice | Cause::SchemaIdTaken => 2,
+        Cause::Column(_) => 3,
+        Cause::TooManyItems | Cause::RowsTooHeavy | Cause::HeldTooMuch => 4,
+        Cause::Row(_) => 5,
+        Cause::TreeTooHeavy => 6,
+    }
 }

@@ -2,7 +2,7 @@
 ghost use Rattle.std.specs.Prelude.{◌≡◌, map, None, Some, IfOk, OnErr, true, false, if◌then◌else◌};
 ghost use Rattle.otap_capture.specs.Capture.{frame_of, Message};
 ghost use Rattle.otap_consume.specs.declared.seen.Seen.TheVariants as seen;
-ghost use Rattle.otap_consume.specs.Outcomes.{refusal_of, stage_of, unread_cause};
+ghost use Rattle.otap_consume.specs.Outcomes.{refusal_of, unread_cause};
 ghost use Rattle.otap_consume.specs.Streams.{closed};
 ghost use Rattle.otap_consume.specs.Taking.{IsStopped};
 
@@ -181,25 +181,7 @@ fn stopped(batch: &Batch<'_>, stop: Stop) -> Result<Seen, AllocError>
 fn refusal(id: Option<i64>, cause: Cause, payload: Option<i32>) -> Seen
     ensures { result ≡ seen.Refused (refusal_of id cause payload) }
 {
-    let stage = stage_of(&cause);
-    Seen::Refused(Refusal {
-        id,
-        stage,
-        cause,
-        payload,
-    })
-}
-
-fn stage_of(cause: &Cause) -> u8
-    ensures { result ≡ stage_of cause.now }
-{
-    match cause {
-        Cause::Broken => 0,
-        Cause::Compressed | Cause::BadMessage | Cause::Repeated | Cause::BadUtf8 => 1,
-        Cause::PayloadType | Cause::PayloadTwice | Cause::SchemaIdTaken => 2,
-        Cause::Column(_) => 3,
-        Cause::TooManyItems | Cause::RowsTooHeavy | Cause::HeldTooMuch => 4,
-    }
+    Seen::Refused(Refusal::new(id, cause, payload))
 }
 
 fn unread_cause(refusal: BatchRefusal) -> Cause

@@ -4,6 +4,7 @@ ghost use Rattle.otap_consume.specs.declared.stop.Stop.TheVariants.{Defect, Memo
 
 use crate::payload_types::TypesRefusal;
 use crate::refusal::Cause;
+use otap_attrs::CheckRefusal;
 use std::alloc::AllocError;
 
 /// Something is wrong with them, or memory ran out.
@@ -31,6 +32,19 @@ impl From<TypesRefusal> for Stop {
         match refusal {
             TypesRefusal::PayloadType(kind) => defect(Cause::PayloadType, kind),
             TypesRefusal::PayloadTwice(kind) => defect(Cause::PayloadTwice, kind),
+        }
+    }
+}
+
+impl From<CheckRefusal> for Stop {
+    ghost use Rattle.otap_consume.specs.ReceiverInside.{stop_of_rows};
+
+    ghost from_gives = { λ refusal stop. stop ≡ stop_of_rows refusal };
+
+    fn from(refusal: CheckRefusal) -> Stop {
+        match refusal {
+            CheckRefusal::Defect { kind, why } => defect(Cause::Row(why), kind.number()),
+            CheckRefusal::Memory(error) => Stop::Memory(error),
         }
     }
 }

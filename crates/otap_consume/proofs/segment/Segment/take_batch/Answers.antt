@@ -32,7 +32,8 @@ returns-clause-next c =
           = omega (arith, c.take_payloads-taken.auto.streams, c.self.inside.streams.ok.0, ap (length {A = StreamIn}) c.deref_mut.ensures.value) in
           rw w.result-is (subst (λ (answer : Seen). NextBatch s c.args.batch.now new answer) (sym w.accepted.ensures)
           (accepted_parts s new c.args.batch.now w.in-Ok.rows c.self.inside.signal c.deref_mut.result.now c.take_payloads-taken.new.streams signal streams
-          (sym (with_items_is c.self.inside.streams c.take_payloads-taken.new.streams long)) whole (c.is_err-self-inside.ensures.value ∙ ap is_err w.in-Ok.is) signal (rw w.in-Ok.is at c.take_payloads-taken.ensures.accepts)))
+          (sym (with_items_is c.self.inside.streams c.take_payloads-taken.new.streams long)) whole (c.is_err-self-inside.ensures.value ∙ ap is_err w.in-Ok.is) signal
+          (rw w.in-Ok.is at c.take_payloads-taken.ensures.accepts)))
       | in-Err w ↦
           rw w.result-is (stopped_next w.stopped.result s new c.args.batch.now w.in-Err.stop c.self.inside.signal c.deref_mut.result.now signal streams whole
           (c.is_err-self-inside.ensures.value ∙ ap is_err w.in-Err.is) signal (rw w.in-Err.is at c.take_payloads-taken.ensures.refuses) w.stopped.ensures)

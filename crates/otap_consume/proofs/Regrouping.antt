@@ -1,0 +1,199 @@
+-- What a receiver returns for the next frame, from what its segment returns and from what is found in the rows.
+use Rattle.std.proofs.Common.{◌≡◌, ◌≤◌, ℕ, ℤ, Bool, true, false, List, [], ◌∷◌, ◌++◌, Some, Result, Ok, Err, IfOk, refl, sym, ap, ◌∙◌, subst}
+use Rattle.std.specs.Prelude.{MatchBool}
+use Rattle.otlp_model.specs.Limits.{weight_limit}
+use Rattle.otlp_model.specs.Weight.{weight_of}
+use Rattle.otlp_model.specs.declared.request.Request.{Request}
+use Rattle.otlp_model.specs.declared.request.Signal.{Signal}
+use Rattle.otap_capture.specs.Batch.{BatchContent, PayloadContent, ReadsBatch}
+use Rattle.otap_capture.specs.Capture.{Frame, Message}
+use Rattle.otap_cells.specs.Tables.{Table}
+use Rattle.otap_consume.specs.declared.receiver.Regrouped.{Regrouped}
+use Rattle.otap_consume.specs.declared.refusal.Refusal.{Refusal}
+use Rattle.otap_consume.specs.declared.seen.Seen.{Seen}
+use Rattle.otap_consume.specs.declared.seen.Seen.TheVariants as seen
+use Rattle.otap_consume.specs.declared.stop.Stop.{Stop}
+use Rattle.otap_consume.specs.declared.stop.Stop.TheVariants.{Defect, Memory}
+use Rattle.otap_consume.specs.declared.taken.Taken.{Taken}
+use Rattle.otap_consume.specs.declared.taken.Taken.TheVariants as taken
+use Rattle.otap_consume.specs.Defects.{Accepts, tables_of}
+use Rattle.otap_consume.specs.Meanings.{Meaning, StandsInRows}
+use Rattle.otap_consume.specs.Outcomes.{Outcome, Accepted, Refused, Reset, Gives, StaysBroken, OutcomeAfter, refused, refusal_of, is_broken, payloads_after}
+use Rattle.otap_consume.specs.ReceiverInside.{IsRegrouped, IsLight, AreLast, OfLast, KeepsBatch, TakesRows, RefusesBy}
+use Rattle.otap_consume.specs.Receivers.{HasReceived, Receives}
+use Rattle.otap_consume.specs.Receiving.{Settles}
+use Rattle.otap_consume.specs.Segments.{SegmentIn, StandsFor, Tells, HasNext, Next}
+use Rattle.otap_consume.specs.Stops.{Stops}
+use Rattle.otap_consume.proofs.SegmentSteps.{stands_broken}
+
+-- ---- the rows of a batch
+
+pub kept_rows : (m : Meaning) (frame : Frame) (id told : ℤ) (rows : ℕ) (seg old : SegmentIn) (kept : Regrouped) (answer : Taken) → seg ≡ old → told ≡ id
+    → answer ≡ taken.Accepted told kept.request rows kept.tree → IsLight kept → OfLast frame seg (λ tables. IsRegrouped m tables kept) → TakesRows m frame id rows old old answer
+kept_rows m frame id told rows seg old kept answer view same_id is light last =
+    subst (TakesRows m frame id rows old old) (sym is)
+    (same_id, refl, record { same = refl; light = light; of_last = subst (λ (s : SegmentIn). OfLast frame s (λ tables. IsRegrouped m tables kept)) view last })
+
+pub refused_rows : {E : Type 0} (r : Result Taken E) (m : Meaning) (frame : Frame) (id told : ℤ) (rows : ℕ) (seg old new : SegmentIn) (stop : Stop) → seg ≡ old → told ≡ id
+    → IfOk r (RefusesBy told stop) → new ≡ record seg { broken = true } → OfLast frame seg (λ tables. Stops (StandsInRows m tables) stop) → IfOk r (TakesRows m frame id rows old new)
+refused_rows (Err e) m frame id told rows seg old new stop view same_id refuses broken last = tt
+refused_rows (Ok answer) m frame id told rows seg old new (Memory e) view same_id refuses broken last = absurd refuses
+refused_rows (Ok answer) m frame id told rows seg old new (Defect cause payload) view same_id refuses broken last =
+    subst (TakesRows m frame id rows old new) (sym refuses) (
+      cause,
+      payload,
+      ap (λ (z : ℤ). refusal_of (Some z) cause payload) same_id,
+      record {
+        broken = broken ∙ ap (λ (s : SegmentIn). record s { broken = true }) view;
+        of_last = subst (λ (s : SegmentIn). OfLast frame s (λ tables. StandsInRows m tables cause payload)) view last;
+      },
+    )
+
+-- ---- the batch that was accepted last
+
+-- a frame that gives an accepted batch
+pub record GivesBatch (signal : Signal) (past : List PayloadContent) (frame : Frame) (batch : BatchContent) (tables : List Table) : Type 0 where
+  pub bytes : List ℕ
+  pub message : frame ≡ Message bytes
+  pub reads : ReadsBatch bytes batch
+  pub accepts : Accepts signal past batch.payloads
+  pub are : tables ≡ tables_of signal past batch.payloads
+
+not_broken : (frame : Frame) (o : Outcome) (batch : BatchContent) (tables : List Table) → o ≡ Accepted batch tables → StaysBroken frame o → ⊥
+not_broken frame o batch tables is StaysBroken.compressed = cc is
+not_broken frame o batch tables is (StaysBroken.unreadable bytes refusal stands) = cc is
+not_broken frame o batch tables is (StaysBroken.readable bytes other reads) = cc is
+not_broken frame o batch tables is StaysBroken.resets = cc is
+
+batch_given : (signal : Signal) (past : List PayloadContent) (frame : Frame) (o : Outcome) (batch : BatchContent) (tables : List Table) → o ≡ Accepted batch tables → Gives signal past frame o
+    → GivesBatch signal past frame batch tables
+batch_given signal past frame o batch tables is Gives.compressed = absurd (cc is)
+batch_given signal past frame o batch tables is (Gives.unreadable bytes refusal stands) = absurd (cc is)
+batch_given signal past frame o batch tables is (Gives.refuses bytes other cause payload reads refuses) = absurd (cc is)
+batch_given signal past frame o batch tables is (Gives.accepts bytes other reads accepts) =
+    let one : other ≡ batch = cc is in
+    record {
+      bytes = bytes;
+      message = refl;
+      reads = subst (ReadsBatch bytes) one reads;
+      accepts = subst (λ (b : BatchContent). Accepts signal past b.payloads) one accepts;
+      are = sym (cc is) ∙ ap (λ (b : BatchContent). tables_of signal past b.payloads) one;
+    }
+batch_given signal past frame o batch tables is Gives.resets = absurd (cc is)
+
+-- so no frame of the segment was refused before it
+pub accepted_batch : (signal : Signal) (outcomes : List Outcome) (frame : Frame) (batch : BatchContent) (tables : List Table) → OutcomeAfter signal outcomes frame (Accepted batch tables)
+    → (is_broken outcomes ≡ false) × GivesBatch signal (payloads_after outcomes) frame batch tables
+accepted_batch signal outcomes frame batch tables after = go (is_broken outcomes) refl after
+  where
+    go : (b : Bool) → is_broken outcomes ≡ b
+        → MatchBool b (StaysBroken frame (Accepted batch tables)) (Gives signal (payloads_after outcomes) frame (Accepted batch tables))
+        → (is_broken outcomes ≡ false) × GivesBatch signal (payloads_after outcomes) frame batch tables
+    go true is stays = absurd (not_broken frame (Accepted batch tables) batch tables refl stays)
+    go false is gives = (is, batch_given signal (payloads_after outcomes) frame (Accepted batch tables) batch tables refl gives)
+
+are_last : (signal : Signal) (outcomes : List Outcome) (frame : Frame) (batch : BatchContent) (tables : List Table) (s : SegmentIn) → OutcomeAfter signal outcomes frame (Accepted batch tables)
+    → StandsFor signal (outcomes ++ Accepted batch tables ∷ []) s → AreLast frame s tables
+are_last signal outcomes frame batch tables s after stands =
+    let given : GivesBatch signal (payloads_after outcomes) frame batch tables = (accepted_batch signal outcomes frame batch tables after).1 in
+    record { signal = signal; outcomes = outcomes; bytes = given.bytes; batch = batch; message = given.message; reads = given.reads; stands = stands; are = given.are }
+
+-- ---- the next frame of a receiver
+
+told_batch : {id told : ℤ} {request made : Request} {rows light tree : ℕ} → told ≡ id → made ≡ request → light ≡ rows → tree ≡ weight_of made
+    → taken.Accepted told made light tree ≡ taken.Accepted id request rows (weight_of request)
+told_batch {request} same_id same same_rows same_tree = rw (same_tree, same_id, same, same_rows) refl
+
+-- a batch whose rows are taken
+by_rows : (m : Meaning) (outcomes : List Outcome) (frame : Frame) (batch : BatchContent) (tables : List Table) (id : ℤ) (rows : ℕ) (mid new : SegmentIn) (answer : Taken)
+    → OutcomeAfter m.signal outcomes frame (Accepted batch tables) → Tells (Accepted batch tables) (seen.Batch id rows)
+    → StandsFor m.signal (outcomes ++ Accepted batch tables ∷ []) mid → TakesRows m frame id rows mid new answer → HasReceived m outcomes frame new answer
+by_rows m outcomes frame batch tables id rows mid new (taken.Accepted told request light tree) after tells stands takes =
+    let last : AreLast frame mid tables = are_last m.signal outcomes frame batch tables mid after stands in
+    let kept : KeepsBatch m frame mid new (record { request = request; tree = tree }) = takes.2 in
+    let is : IsRegrouped m tables (record { request = request; tree = tree }) = kept.of_last tables last in
+    record {
+      outcome = Accepted batch tables;
+      gives = record {
+        seen = Accepted batch tables;
+        gives = after;
+        settles = Settles.accepted batch tables (record { clean = is.clean; light = subst (λ (r : Request). weight_of r ≤ weight_limit) is.request kept.light.light });
+      };
+      tells = told_batch (takes.0 ∙ tells.0) is.request (takes.1 ∙ tells.1) is.tree;
+      stands = subst (StandsFor m.signal (outcomes ++ Accepted batch tables ∷ [])) (sym kept.same) stands;
+    }
+by_rows m outcomes frame batch tables id rows mid new (taken.Refused refusal) after tells stands (cause, payload, is, breaks) =
+    let last : AreLast frame mid tables = are_last m.signal outcomes frame batch tables mid after stands in
+    record {
+      outcome = refused (Some batch.id) cause payload;
+      gives = record {
+        seen = Accepted batch tables;
+        gives = after;
+        settles = Settles.refuses batch tables cause payload (breaks.of_last tables last);
+      };
+      tells = ap (λ (r : Refusal). taken.Refused r) (is ∙ ap (λ (z : ℤ). refusal_of (Some z) cause payload) tells.0);
+      stands = stands_broken m.signal outcomes (refusal_of (Some batch.id) cause payload) new
+          (ap (λ (s : SegmentIn). s.signal) breaks.broken ∙ stands.same) (ap (λ (s : SegmentIn). s.broken) breaks.broken);
+    }
+by_rows m outcomes frame batch tables id rows mid new taken.Reset after tells stands takes = absurd takes
+
+from_batch : (m : Meaning) (outcomes : List Outcome) (frame : Frame) (outcome : Outcome) (id : ℤ) (rows : ℕ) (mid new : SegmentIn) (answer : Taken)
+    → OutcomeAfter m.signal outcomes frame outcome → Tells outcome (seen.Batch id rows) → StandsFor m.signal (outcomes ++ outcome ∷ []) mid → TakesRows m frame id rows mid new answer
+    → HasReceived m outcomes frame new answer
+from_batch m outcomes frame (Accepted batch tables) id rows mid new answer after tells stands takes = by_rows m outcomes frame batch tables id rows mid new answer after tells stands takes
+from_batch m outcomes frame (Refused refusal) id rows mid new answer after tells stands takes = absurd tells
+from_batch m outcomes frame Reset id rows mid new answer after tells stands takes = absurd tells
+
+receives_batch : (m : Meaning) (frame : Frame) (id : ℤ) (rows : ℕ) (old mid new : SegmentIn) (answer : Taken) → Next old frame mid (seen.Batch id rows) → TakesRows m frame id rows mid new answer
+    → Receives m old frame new answer
+receives_batch m frame id rows old mid new answer next takes = record {
+  at = λ outcomes stands.
+      let n : HasNext m.signal outcomes frame (seen.Batch id rows) mid = next.at m.signal outcomes stands in
+      from_batch m outcomes frame n.outcome id rows mid new answer n.gives n.tells n.stands takes;
+}
+
+pub after_batch : {E : Type 0} (r : Result Taken E) (m : Meaning) (frame : Frame) (id told : ℤ) (rows : ℕ) (seg old mid new : SegmentIn) (answer : Seen) → seg ≡ old → told ≡ id
+    → answer ≡ seen.Batch id rows → Next seg frame mid answer → IfOk r (TakesRows m frame told rows mid new) → IfOk r (Receives m old frame new)
+after_batch (Err e) m frame id told rows seg old mid new answer view same_id is next takes = tt
+after_batch (Ok taken) m frame id told rows seg old mid new answer view same_id is next takes =
+    receives_batch m frame id rows old mid new taken
+    (subst (λ (s : SegmentIn). Next s frame mid (seen.Batch id rows)) view (subst (Next seg frame mid) is next))
+    (subst (λ (z : ℤ). TakesRows m frame z rows mid new taken) same_id takes)
+
+from_refused : (m : Meaning) (outcomes : List Outcome) (frame : Frame) (outcome : Outcome) (refusal : Refusal) (new : SegmentIn)
+    → OutcomeAfter m.signal outcomes frame outcome → Tells outcome (seen.Refused refusal) → StandsFor m.signal (outcomes ++ outcome ∷ []) new
+    → HasReceived m outcomes frame new (taken.Refused refusal)
+from_refused m outcomes frame (Accepted batch tables) refusal new after tells stands = absurd tells
+from_refused m outcomes frame (Refused told) refusal new after tells stands =
+    record { outcome = Refused told; gives = record { seen = Refused told; gives = after; settles = Settles.stays_refused told }; tells = ap (λ (r : Refusal). taken.Refused r) tells; stands = stands }
+from_refused m outcomes frame Reset refusal new after tells stands = absurd tells
+
+receives_refused : (m : Meaning) (frame : Frame) (refusal : Refusal) (old new : SegmentIn) → Next old frame new (seen.Refused refusal) → Receives m old frame new (taken.Refused refusal)
+receives_refused m frame refusal old new next = record {
+  at = λ outcomes stands.
+      let n : HasNext m.signal outcomes frame (seen.Refused refusal) new = next.at m.signal outcomes stands in
+      from_refused m outcomes frame n.outcome refusal new n.gives n.tells n.stands;
+}
+
+pub after_refused : (m : Meaning) (frame : Frame) (refusal : Refusal) (seg old new : SegmentIn) (answer : Seen) → seg ≡ old → answer ≡ seen.Refused refusal → Next seg frame new answer
+    → Receives m old frame new (taken.Refused refusal)
+after_refused m frame refusal seg old new answer view is next =
+    receives_refused m frame refusal old new (subst (λ (s : SegmentIn). Next s frame new (seen.Refused refusal)) view (subst (Next seg frame new) is next))
+
+from_reset : (m : Meaning) (outcomes : List Outcome) (frame : Frame) (outcome : Outcome) (new : SegmentIn)
+    → OutcomeAfter m.signal outcomes frame outcome → Tells outcome seen.Reset → StandsFor m.signal (outcomes ++ outcome ∷ []) new → HasReceived m outcomes frame new taken.Reset
+from_reset m outcomes frame (Accepted batch tables) new after tells stands = absurd tells
+from_reset m outcomes frame (Refused told) new after tells stands = absurd tells
+from_reset m outcomes frame Reset new after tells stands =
+    record { outcome = Reset; gives = record { seen = Reset; gives = after; settles = Settles.resets }; tells = refl; stands = stands }
+
+receives_reset : (m : Meaning) (frame : Frame) (old new : SegmentIn) → Next old frame new seen.Reset → Receives m old frame new taken.Reset
+receives_reset m frame old new next = record {
+  at = λ outcomes stands.
+      let n : HasNext m.signal outcomes frame seen.Reset new = next.at m.signal outcomes stands in
+      from_reset m outcomes frame n.outcome new n.gives n.tells n.stands;
+}
+
+pub after_reset : (m : Meaning) (frame : Frame) (seg old new : SegmentIn) (answer : Seen) → seg ≡ old → answer ≡ seen.Reset → Next seg frame new answer → Receives m old frame new taken.Reset
+after_reset m frame seg old new answer view is next =
+    receives_reset m frame old new (subst (λ (s : SegmentIn). Next s frame new seen.Reset) view (subst (Next seg frame new) is next))

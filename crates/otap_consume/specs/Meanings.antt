@@ -1,0 +1,34 @@
+-- What the tables of a signal mean.
+use Rattle.std.specs.Prelude.{◌≡◌, ℤ, ◌<◌, ◌≤◌, List, Option, None, Some}
+use Rattle.otlp_model.specs.Limits.{weight_limit}
+use Rattle.otlp_model.specs.Weight.{weight_of}
+use Rattle.otlp_model.specs.declared.request.Request.{Request}
+use Rattle.otlp_model.specs.declared.request.Signal.{Signal}
+use Rattle.otap_attrs.specs.declared.refusal.RowRefusal.{RowRefusal}
+use Rattle.otap_cells.specs.declared.payload.Kind.{Kind}
+use Rattle.otap_cells.specs.Tables.{Table}
+use Rattle.otap_consume.specs.declared.refusal.Cause.{Cause}
+use Rattle.otap_consume.specs.declared.refusal.Cause.TheVariants.{Row, TreeTooHeavy}
+use Rattle.otap_consume.specs.Payloads.{type_of}
+
+-- THE MEANING OF A SIGNAL'S TABLES: what is wrong with the rows of a kind's table among them, and, where nothing is, the
+-- request that they are regrouped to
+pub record Meaning : Type 1 where
+  pub signal : Signal
+  pub Stands : List Table → Kind → RowRefusal → Type 0
+  pub request : List Table → Request
+
+-- nothing is wrong with the rows of any table
+abbrev pub AreClean : Meaning → List Table → Type 0
+AreClean m tables = (kind : Kind) (why : RowRefusal) → m.Stands tables kind why → ⊥
+
+-- what is wrong with a batch that no earlier stage refuses: the fifth stage looks at its rows, the sixth at what its request weighs
+abbrev pub StandsInRows : Meaning → List Table → Cause → Option ℤ → Type 0
+StandsInRows m tables (Row why) payload = (kind : Kind) × (payload ≡ Some (type_of kind)) × m.Stands tables kind why
+StandsInRows m tables TreeTooHeavy payload = (payload ≡ None) × AreClean m tables × (weight_limit < weight_of (m.request tables))
+StandsInRows m tables cause payload = ⊥
+
+-- nothing is
+pub record HasFineRows (m : Meaning) (tables : List Table) : Type 0 where
+  pub clean : AreClean m tables
+  pub light : weight_of (m.request tables) ≤ weight_limit

@@ -1,0 +1,80 @@
+-- How a receiver takes the rows of a batch, in the words of private contracts.
+use Rattle.std.specs.Prelude.{◌≡◌, ◌≤◌, ℕ, ℤ, true, List, [], ◌∷◌, ◌++◌, Option, Some}
+use Rattle.otlp_model.specs.Limits.{weight_limit}
+use Rattle.otlp_model.specs.Real.{IsReal}
+use Rattle.otlp_model.specs.Weight.{weight_of}
+use Rattle.otlp_model.specs.declared.request.Signal.{Signal}
+use Rattle.otap_attrs.specs.declared.refusal.CheckRefusal.{CheckRefusal}
+use Rattle.otap_attrs.specs.declared.refusal.CheckRefusal.TheVariants as check
+use Rattle.otap_capture.specs.Batch.{BatchContent, ReadsBatch}
+use Rattle.otap_capture.specs.Capture.{Frame, Message}
+use Rattle.otap_cells.specs.Tables.{Table}
+use Rattle.otap_consume.specs.declared.receiver.Receiver.TheInside as receiver
+use Rattle.otap_consume.specs.declared.receiver.Regrouped.{Regrouped}
+use Rattle.otap_consume.specs.declared.refusal.Cause.{Cause}
+use Rattle.otap_consume.specs.declared.refusal.Cause.TheVariants as cause
+use Rattle.otap_consume.specs.declared.stop.Stop.{Stop}
+use Rattle.otap_consume.specs.declared.stop.Stop.TheVariants.{Defect, Memory}
+use Rattle.otap_consume.specs.declared.taken.Taken.{Taken}
+use Rattle.otap_consume.specs.declared.taken.Taken.TheVariants as taken
+use Rattle.otap_consume.specs.Defects.{tables_of}
+use Rattle.otap_consume.specs.Meanings.{Meaning, StandsInRows, AreClean}
+use Rattle.otap_consume.specs.Outcomes.{Outcome, Accepted, payloads_after, refusal_of}
+use Rattle.otap_consume.specs.Payloads.{type_of}
+use Rattle.otap_consume.specs.Segments.{SegmentIn, StandsFor}
+
+-- a contract sees a receiver as its segment
+abbrev pub receiver_in : receiver.Inside → SegmentIn
+receiver_in r = r.segment
+
+abbrev pub stop_of_rows : CheckRefusal → Stop
+stop_of_rows (check.Defect kind why) = Defect (cause.Row why) (Some (type_of kind))
+stop_of_rows (check.Memory e) = Memory e
+
+-- the request of tables with which nothing is wrong
+pub record IsRegrouped (m : Meaning) (tables : List Table) (regrouped : Regrouped) : Type 0 where
+  pub clean : AreClean m tables
+  pub request : regrouped.request ≡ m.request tables
+  pub tree : regrouped.tree ≡ weight_of regrouped.request
+
+-- it is one that a program holds, and within its limit
+pub record IsLight (regrouped : Regrouped) : Type 0 where
+  pub real : IsReal regrouped.request
+  pub light : weight_of regrouped.request ≤ weight_limit
+
+-- these are the tables of the batch that the segment took last
+pub record AreLast (frame : Frame) (s : SegmentIn) (tables : List Table) : Type 0 where
+  pub signal : Signal
+  pub outcomes : List Outcome
+  pub bytes : List ℕ
+  pub batch : BatchContent
+  pub message : frame ≡ Message bytes
+  pub reads : ReadsBatch bytes batch
+  pub stands : StandsFor signal (outcomes ++ Accepted batch tables ∷ []) s
+  pub are : tables ≡ tables_of signal (payloads_after outcomes) batch.payloads
+
+-- what is made of it is that of its tables
+abbrev pub OfLast : Frame → SegmentIn → (List Table → Type 0) → Type 0
+OfLast frame s P = (tables : List Table) → AreLast frame s tables → P tables
+
+-- a batch stays accepted, or is refused and breaks the segment
+pub record KeepsBatch (m : Meaning) (frame : Frame) (old new : SegmentIn) (kept : Regrouped) : Type 0 where
+  pub same : new ≡ old
+  pub light : IsLight kept
+  pub of_last : OfLast frame old (λ tables. IsRegrouped m tables kept)
+
+pub record BreaksAt (m : Meaning) (frame : Frame) (old new : SegmentIn) (cause : Cause) (payload : Option ℤ) : Type 0 where
+  pub broken : new ≡ record old { broken = true }
+  pub of_last : OfLast frame old (λ tables. StandsInRows m tables cause payload)
+
+abbrev pub TakesRows : Meaning → Frame → ℤ → ℕ → SegmentIn → SegmentIn → Taken → Type 0
+TakesRows m frame id rows old new (taken.Accepted id' request rows' tree) =
+    (id' ≡ id) × (rows' ≡ rows) × KeepsBatch m frame old new (record { request = request; tree = tree })
+TakesRows m frame id rows old new (taken.Refused refusal) =
+    (cause : Cause) × (payload : Option ℤ) × (refusal ≡ refusal_of (Some id) cause payload) × BreaksAt m frame old new cause payload
+TakesRows m frame id rows old new taken.Reset = ⊥
+
+-- what is returned where the rows are not taken; want of memory is handed on
+abbrev pub RefusesBy : ℤ → Stop → Taken → Type 0
+RefusesBy id (Defect cause payload) answer = answer ≡ taken.Refused (refusal_of (Some id) cause payload)
+RefusesBy id (Memory e) answer = ⊥

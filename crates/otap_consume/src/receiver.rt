@@ -1,0 +1,175 @@
+//! The receiver of batches.
+ghost use Rattle.std.specs.Prelude.{◌≡◌, true, IfOk, IfErr, OnErr};
+ghost use Rattle.otap_capture.specs.Capture.{frame_of};
+ghost use Rattle.otap_cells.specs.Sets.{IsSet, tables_in};
+ghost use Rattle.otap_consume.specs.declared.taken.Taken.TheVariants as taken;
+ghost use Rattle.otap_consume.specs.Meanings.{StandsInRows};
+ghost use Rattle.otap_consume.specs.ReceiverInside.{IsLight, IsRegrouped, OfLast, RefusesBy, TakesRows};
+ghost use Rattle.otap_consume.specs.Segments.{IsTaken};
+ghost use Rattle.otap_consume.specs.Stops.{Stops};
+
+use crate::refusal::{Cause, Refusal};
+use crate::seen::Seen;
+use crate::segment::Segment;
+use crate::stop::Stop;
+use crate::taken::Taken;
+use crate::telemetry::Telemetry;
+use otap_capture::{Frame, read_batch};
+use otap_cells::TableSet;
+use otap_columns::RowsView;
+use otlp_model::{MAX_TREE_WEIGHT, Request, Signal};
+use std::alloc::{AllocError, Global};
+use std::marker::Model;
+
+/// A receiver of the batches of a signal, frame by frame. It keeps what a segment keeps. A contract sees it as the frames
+/// that it stands for, by their outcomes.
+#[derive(Debug, Drop)]
+pub struct Receiver {
+    alloc: Global,
+    segment: Segment,
+}
+
+impl Model for Receiver {
+    ghost use Rattle.otap_consume.specs.Segments.{SegmentIn};
+
+    ghost Value = { SegmentIn };
+
+    ghost use Rattle.otap_consume.specs.ReceiverInside.{receiver_in};
+
+    ghost view = { receiver_in };
+}
+
+// The request of a batch, and its weight.
+#[derive(Debug, Drop)]
+struct Regrouped {
+    request: Request,
+    tree: u64,
+}
+
+impl Receiver {
+    ghost use Rattle.otap_consume.specs.Receivers.{Receives, IsSound};
+    ghost use Rattle.otap_consume.specs.Segments.{IsNew};
+
+    /// A receiver in which no frame stands.
+    pub fn new(alloc: Global, signal: Signal) -> Result<Receiver, AllocError>
+        ensures { IfOk result (IsNew signal) }
+    {
+        let segment = Segment::new(alloc, signal)?;
+        Ok(Receiver { alloc, segment })
+    }
+
+    /// Takes the next frame: a batch after those before it, or a reset, which begins a segment. A refused frame breaks the
+    /// segment, as want of memory does: until a reset each batch is then refused. A request is built only once its weight is
+    /// known to be within the limit.
+    pub fn take<T: Telemetry>(&mut self, frame: &Frame<'_>) -> Result<Taken, AllocError>
+        ensures next { IfOk result (Receives T.meaning self.old (frame_of frame.now) self.new) }
+        ensures sound { IfOk result IsSound }
+        ensures memory { OnErr result (self.new.broken ≡ true) }
+        ensures signal { self.new.signal ≡ self.old.signal }
+    {
+        match self.segment.take(frame)? {
+            Seen::Batch { id, rows } => self.take_rows::<T>(frame, id, rows),
+            Seen::Refused(refusal) => Ok(Taken::Refused(refusal)),
+            Seen::Reset => Ok(Taken::Reset),
+        }
+    }
+
+    /// Begins a new segment.
+    pub fn reset(&mut self)
+        ensures { IsNew self.old.signal self.new }
+    {
+        self.segment.reset();
+    }
+
+    /// Whether a frame since the last reset was refused, or memory ran out.
+    pub fn is_broken(&self) -> bool
+        ensures { result ≡ self.now.broken }
+    {
+        self.segment.is_broken()
+    }
+
+    // Looks at the rows of the batch that the segment took last.
+    fn take_rows<T: Telemetry>(
+        &mut self,
+        frame: &Frame<'_>,
+        id: i64,
+        rows: u64,
+    ) -> Result<Taken, AllocError>
+        requires { IsTaken (frame_of frame.now) self.old }
+        ensures takes { IfOk result (TakesRows T.meaning (frame_of frame.now) id rows self.old self.new) }
+        ensures sound { IfOk result IsSound }
+        ensures memory { OnErr result (self.new.broken ≡ true) }
+        ensures signal { self.new.signal ≡ self.old.signal }
+    {
+        match regroup_last::<T>(self.alloc, &self.segment, frame) {
+            Ok(kept) => Ok(accepted(id, rows, kept)),
+            Err(stop) => {
+                self.segment.refuse();
+                refused(id, stop)
+            }
+        }
+    }
+}
+
+// The request of the batch that the segment took last.
+fn regroup_last<T: Telemetry>(
+    alloc: Global,
+    segment: &Segment,
+    frame: &Frame<'_>,
+) -> Result<Regrouped, Stop>
+    requires { IsTaken (frame_of frame.now) segment.now }
+    ensures regrouped { IfOk result (λ kept. OfLast (frame_of frame.now) segment.now (λ tables. IsRegrouped T.meaning tables kept)) }
+    ensures light { IfOk result IsLight }
+    ensures stops { IfErr result (λ stop. OfLast (frame_of frame.now) segment.now (λ tables. Stops (StandsInRows T.meaning tables) stop)) }
+{
+    let Frame::Message(bytes) = frame else {
+        unreachable!()
+    };
+    let Ok(batch) = read_batch(bytes) else {
+        unreachable!()
+    };
+    let set = segment.tables(alloc, &batch)?;
+    regroup::<T>(alloc, &set)
+}
+
+// The request of the tables of a batch.
+fn regroup<T: Telemetry>(alloc: Global, set: &TableSet<RowsView<'_>>) -> Result<Regrouped, Stop>
+    requires { IsSet (λ table. table) set.now.tables.items }
+    ensures regrouped { IfOk result (IsRegrouped T.meaning (tables_in (λ table. table) set.now.tables.items)) }
+    ensures light { IfOk result IsLight }
+    ensures stops { IfErr result (Stops (StandsInRows T.meaning (tables_in (λ table. table) set.now.tables.items))) }
+{
+    let tree = T::check(alloc, set)?;
+    if tree > MAX_TREE_WEIGHT {
+        return Err(Stop::Defect {
+            cause: Cause::TreeTooHeavy,
+            payload: None,
+        });
+    }
+    let request = T::request(alloc, set)?;
+    Ok(Regrouped { request, tree })
+}
+
+fn accepted(id: i64, rows: u64, kept: Regrouped) -> Taken
+    ensures { result ≡ taken.Accepted id kept.request rows kept.tree }
+{
+    let Regrouped { request, tree } = kept;
+    Taken::Accepted {
+        id,
+        request,
+        rows,
+        tree,
+    }
+}
+
+// The result where the rows are not taken. Want of memory is handed on.
+fn refused(id: i64, stop: Stop) -> Result<Taken, AllocError>
+    ensures { IfOk result (RefusesBy id stop) }
+{
+    match stop {
+        Stop::Defect { cause, payload } => {
+            Ok(Taken::Refused(Refusal::new(Some(id), cause, payload)))
+        }
+        Stop::Memory(error) => Err(error),
+    }
+}

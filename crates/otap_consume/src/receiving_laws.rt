@@ -1,0 +1,34 @@
+//! What the outcomes of a receiver say of the format. The functions do nothing: their contracts are the laws.
+
+ghost use Rattle.std.specs.Prelude.{◌≡◌, ℤ, ◌↔◌, true, false, List, Option};
+ghost use Rattle.otap_capture.specs.Batch.{BatchContent, PayloadContent};
+ghost use Rattle.otap_capture.specs.Capture.{Frame};
+ghost use Rattle.otap_cells.specs.Tables.{Table};
+ghost use Rattle.otap_consume.specs.declared.refusal.Cause.{Cause};
+ghost use Rattle.otap_consume.specs.declared.refusal.Refusal.{Refusal};
+ghost use Rattle.otap_consume.specs.Outcomes.{stage_of, Outcome, Accepted, Refused, is_broken, payloads_after};
+ghost use Rattle.otap_consume.specs.Receiving.{ReceivedAfter, Received, HasDefect, IsInFormat};
+
+use crate::telemetry::Telemetry;
+
+/// A frame is accepted exactly where it is in the format and no frame of its segment was refused before it.
+pub fn accepted_where_in_the_format<T: Telemetry>()
+    ensures in_format { (outcomes : List Outcome) (frame : Frame) (batch : BatchContent) (tables : List Table)
+        → ReceivedAfter T.meaning outcomes frame (Accepted batch tables)
+        → (is_broken outcomes ≡ false) × IsInFormat T.meaning (payloads_after outcomes) frame }
+    ensures accepted { (frames : List Frame) (outcomes : List Outcome) (frame : Frame)
+        → Received T.meaning frames outcomes → is_broken outcomes ≡ false → IsInFormat T.meaning (payloads_after outcomes) frame
+        → (batch : BatchContent) × (tables : List Table) × ReceivedAfter T.meaning outcomes frame (Accepted batch tables) }
+{}
+
+/// A refusal names something that is wrong with the frame, in the one stage in which something is; or an earlier frame of
+/// the segment was refused, and exactly then its stage is 0.
+pub fn refused_by_what_is_wrong<T: Telemetry>()
+    ensures named { (outcomes : List Outcome) (frame : Frame) (refusal : Refusal)
+        → ReceivedAfter T.meaning outcomes frame (Refused refusal) → is_broken outcomes ≡ false
+        → HasDefect T.meaning (payloads_after outcomes) frame refusal.cause refusal.payload × (refusal.stage ≡ stage_of refusal.cause) }
+    ensures one_stage { (past : List PayloadContent) (frame : Frame) (a b : Cause) (p q : Option ℤ)
+        → HasDefect T.meaning past frame a p → HasDefect T.meaning past frame b q → stage_of a ≡ stage_of b }
+    ensures broken { (outcomes : List Outcome) (frame : Frame) (refusal : Refusal)
+        → ReceivedAfter T.meaning outcomes frame (Refused refusal) → (refusal.stage ≡ 0) ↔ (is_broken outcomes ≡ true) }
+{}
