@@ -9,6 +9,8 @@ use Rattle.otlp_model.specs.declared.request.Signal.{Signal}
 use Rattle.otlp_model.specs.declared.request.Signal.TheVariants.{Traces, Logs, Metrics}
 use Rattle.otap_gateway.specs.declared.command.Command.{Command}
 use Rattle.otap_gateway.specs.declared.command.Command.TheVariants as command
+use Rattle.otap_gateway.specs.declared.command.Served.{Served}
+use Rattle.otap_gateway.specs.declared.command.Served.TheVariants as served
 use Rattle.otap_gateway.specs.Commands.{IsNoCommand, words_of}
 
 -- the words are those of this job
@@ -47,23 +49,52 @@ of_signal words job = by_signal (names words (job Traces)) (names words (job Log
     by_signal (inr no_traces) (inr no_logs) (inl metrics) = inl (Metrics, metrics)
     by_signal (inr no_traces) (inr no_logs) (inr no_metrics) = inr (none no_traces no_logs no_metrics)
 
+-- a signal, or none of them
+abbrev OneOf : {S : Type 0} → List (List ℕ) → (S → Command) → Type 0
+OneOf {S} words job = ((signal : S) × Names words (job signal)) ⊎ ((signal : S) → NamesNot words (job signal))
+
+of_served : (words : List (List ℕ)) (job : Served → Command) → OneOf words job
+of_served words job = by_signal (names words (job served.Logs))
+  where
+    none : NamesNot words (job served.Logs) → (signal : Served) → NamesNot words (job signal)
+    none logs served.Logs = logs
+
+    by_signal : Names words (job served.Logs) ⊎ NamesNot words (job served.Logs) → OneOf words job
+    by_signal (inl logs) = inl (served.Logs, logs)
+    by_signal (inr no_logs) = inr (none no_logs)
+
+-- the jobs of a receiver, or none of them
+abbrev NoReceiver : List (List ℕ) → Type 0
+NoReceiver words = ((signal : Served) → NamesNot words (command.Decode signal)) × ((signal : Served) → NamesNot words (command.Status signal))
+    × ((signal : Served) → NamesNot words (command.Replay signal))
+
+of_receiver : (words : List (List ℕ)) → ((job : Command) × (words ≡ words_of job)) ⊎ NoReceiver words
+of_receiver words = by_job (of_served words command.Decode) (of_served words command.Status) (of_served words command.Replay)
+  where
+    by_job : OneOf words command.Decode → OneOf words command.Status → OneOf words command.Replay → ((job : Command) × (words ≡ words_of job)) ⊎ NoReceiver words
+    by_job (inl decode) status replay = inl (command.Decode decode.0, decode.1)
+    by_job (inr no_decode) (inl status) replay = inl (command.Status status.0, status.1)
+    by_job (inr no_decode) (inr no_status) (inl replay) = inl (command.Replay replay.0, replay.1)
+    by_job (inr no_decode) (inr no_status) (inr no_replay) = inr (no_decode, no_status, no_replay)
+
 pub each_words : (words : List (List ℕ)) → ((job : Command) × (words ≡ words_of job)) ⊎ IsNoCommand words
-each_words words = by_job (names words command.List) (of_signal words command.Tidy) (of_signal words command.Schema) (of_signal words command.Show)
+each_words words = by_job (names words command.List) (of_signal words command.Tidy) (of_signal words command.Schema) (of_signal words command.Show) (of_receiver words)
   where
     none : NamesNot words command.List → ((signal : Signal) → NamesNot words (command.Tidy signal)) → ((signal : Signal) → NamesNot words (command.Schema signal))
-        → ((signal : Signal) → NamesNot words (command.Show signal)) → IsNoCommand words
-    none list tidy schema show command.List = list
-    none list tidy schema show (command.Tidy signal) = tidy signal
-    none list tidy schema show (command.Schema signal) = schema signal
-    none list tidy schema show (command.Show signal) = show signal
+        → ((signal : Signal) → NamesNot words (command.Show signal)) → NoReceiver words → IsNoCommand words
+    none list tidy schema show receiver command.List = list
+    none list tidy schema show receiver (command.Tidy signal) = tidy signal
+    none list tidy schema show receiver (command.Schema signal) = schema signal
+    none list tidy schema show receiver (command.Show signal) = show signal
+    none list tidy schema show receiver (command.Decode signal) = receiver.0 signal
+    none list tidy schema show receiver (command.Status signal) = receiver.1 signal
+    none list tidy schema show receiver (command.Replay signal) = receiver.2 signal
 
-    by_job : Names words command.List ⊎ NamesNot words command.List
-        → ((signal : Signal) × Names words (command.Tidy signal)) ⊎ ((signal : Signal) → NamesNot words (command.Tidy signal))
-        → ((signal : Signal) × Names words (command.Schema signal)) ⊎ ((signal : Signal) → NamesNot words (command.Schema signal))
-        → ((signal : Signal) × Names words (command.Show signal)) ⊎ ((signal : Signal) → NamesNot words (command.Show signal))
-        → ((job : Command) × (words ≡ words_of job)) ⊎ IsNoCommand words
-    by_job (inl list) tidy schema show = inl (command.List, list)
-    by_job (inr no_list) (inl tidy) schema show = inl (command.Tidy tidy.0, tidy.1)
-    by_job (inr no_list) (inr no_tidy) (inl schema) show = inl (command.Schema schema.0, schema.1)
-    by_job (inr no_list) (inr no_tidy) (inr no_schema) (inl show) = inl (command.Show show.0, show.1)
-    by_job (inr no_list) (inr no_tidy) (inr no_schema) (inr no_show) = inr (none no_list no_tidy no_schema no_show)
+    by_job : Names words command.List ⊎ NamesNot words command.List → OneOf words command.Tidy → OneOf words command.Schema → OneOf words command.Show
+        → ((job : Command) × (words ≡ words_of job)) ⊎ NoReceiver words → ((job : Command) × (words ≡ words_of job)) ⊎ IsNoCommand words
+    by_job (inl list) tidy schema show receiver = inl (command.List, list)
+    by_job (inr no_list) (inl tidy) schema show receiver = inl (command.Tidy tidy.0, tidy.1)
+    by_job (inr no_list) (inr no_tidy) (inl schema) show receiver = inl (command.Schema schema.0, schema.1)
+    by_job (inr no_list) (inr no_tidy) (inr no_schema) (inl show) receiver = inl (command.Show show.0, show.1)
+    by_job (inr no_list) (inr no_tidy) (inr no_schema) (inr no_show) (inl receiver) = inl receiver
+    by_job (inr no_list) (inr no_tidy) (inr no_schema) (inr no_show) (inr no_receiver) = inr (none no_list no_tidy no_schema no_show no_receiver)

@@ -12,7 +12,9 @@ flat_fields path [] = refl
 flat_fields path (f ∷ fields) = ap (λ (text : List ℕ). field_text f path ++ text) (flat_fields path fields)
 
 field_text_is : (f : FieldSpec) (path : List ℕ) → field_text f path ≡ field_line path f ++ fields_text (inner_path path (name_in f)) (children_in f)
-field_text_is f path = ap (λ (lines : List ℕ → List ℕ). lines path) (fold_out-FieldSpec (List ℕ → List ℕ) field_step f) ∙ ap (λ (text : List ℕ). field_line path f ++ text) (flat_fields (inner_path path (name_in f)) (children_in f))
+field_text_is f path =
+    ap (λ (lines : List ℕ → List ℕ). lines path) (fold_out-FieldSpec (List ℕ → List ℕ) field_step f)
+    ∙ ap (λ (text : List ℕ). field_line path f ++ text) (flat_fields (inner_path path (name_in f)) (children_in f))
 
 -- the line of a field and the lines of its children come after the lines so far
 pub lines_step : (before between after all path inner : List ℕ) (fs : List FieldSpec) (i : ℕ) (f : FieldSpec) (children : List FieldSpec) → i < length fs → f ≡ get_or fs i f

@@ -3,8 +3,12 @@ mod FirstMessages
 pub mod EachWords
 pub mod Extending
 pub mod FaultlessRuns
+pub mod ItemsWeigh
+pub mod OneJob
 pub mod Progress
 pub mod RowText
 pub mod Shows
+pub mod Telling
+pub mod ToldAll
 mod Plain
 mod Printed

@@ -5,7 +5,7 @@ use Rattle.std.specs.List.{flat_map, join_with_byte}
 use Rattle.byteorder.specs.Endian.{little_number}
 use Rattle.hex.specs.Hex.{encode_with, encode_lower, lower_digits}
 use Rattle.otap_cells.specs.declared.profile.Base.{Base}
-use Rattle.otap_gateway.specs.Rows.{bits_text, elements, elements_text, behind_commas}
+use Rattle.otap_gateway.specs.Rows.{bits_text, elements, elements_text, after_commas}
 
 -- the first element of a list, and those after it
 pub elements_more : (part first rest : List ℕ) → 8 ≤ length part → first ≡ take 8 part → rest ≡ drop 8 part → elements part ≡ little_number 8 first ∷ elements rest
@@ -35,24 +35,24 @@ digits_go_on before after whole part first rest is so_far shown =
 
 -- an element after a comma, and then the rest
 pub commas_go_on : (holds : Base) (before after whole part first rest : List ℕ) → 8 ≤ length part → first ≡ take 8 part → rest ≡ drop 8 part
-    → before ++ behind_commas holds (elements part) ≡ whole → after ≡ (before ++ 44 ∷ []) ++ bits_text holds (little_number 8 first)
-    → after ++ behind_commas holds (elements rest) ≡ whole
+    → before ++ after_commas holds (elements part) ≡ whole → after ≡ (before ++ 44 ∷ []) ++ bits_text holds (little_number 8 first)
+    → after ++ after_commas holds (elements rest) ≡ whole
 commas_go_on holds before after whole part first rest many front back so_far shown =
     rw shown (rw (
-      append_assoc (before ++ 44 ∷ []) (bits_text holds (little_number 8 first)) (behind_commas holds (elements rest)),
-      append_assoc before (44 ∷ []) (bits_text holds (little_number 8 first) ++ behind_commas holds (elements rest)),
+      append_assoc (before ++ 44 ∷ []) (bits_text holds (little_number 8 first)) (after_commas holds (elements rest)),
+      append_assoc before (44 ∷ []) (bits_text holds (little_number 8 first) ++ after_commas holds (elements rest)),
     )
     (rw (elements_more part first rest many front back) at so_far))
 
-pub commas_end : (holds : Base) (before whole part : List ℕ) → length part < 8 → before ++ behind_commas holds (elements part) ≡ whole → before ≡ whole
+pub commas_end : (holds : Base) (before whole part : List ℕ) → length part < 8 → before ++ after_commas holds (elements part) ≡ whole → before ≡ whole
 commas_end holds before whole part few so_far = rw (elements_none part few, append-nil) at so_far
 
 pub elements_split : (holds : Base) (before between after part first rest : List ℕ) → 8 ≤ length part → first ≡ take 8 part → rest ≡ drop 8 part
-    → between ≡ before ++ bits_text holds (little_number 8 first) → after ≡ between ++ behind_commas holds (elements rest)
+    → between ≡ before ++ bits_text holds (little_number 8 first) → after ≡ between ++ after_commas holds (elements rest)
     → after ≡ before ++ elements_text holds (elements part)
 elements_split holds before between after part first rest many front back one others =
     rw (others, one, elements_more part first rest many front back, joined (bits_text holds) (little_number 8 first) (elements rest))
-    (append_assoc before (bits_text holds (little_number 8 first)) (behind_commas holds (elements rest)))
+    (append_assoc before (bits_text holds (little_number 8 first)) (after_commas holds (elements rest)))
 
 pub elements_empty : (holds : Base) (before part : List ℕ) → length part < 8 → before ≡ before ++ elements_text holds (elements part)
 elements_empty holds before part few = rw (elements_none part few) (sym (append-nil before))

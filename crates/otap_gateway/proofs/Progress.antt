@@ -141,7 +141,8 @@ part_push old mid new text part longer same before part' = subst (AppendsFront o
 
 module _ (job : Command) (old mid : World) where
   -- the frames and replies so far, in a run that goes no further
-  pub so_far : {stands : History} {place number : ℕ} {any unflushed : Bool} (new : Sinks) → Progress (ReplyOf job) stands old mid place number any unflushed → KeepsBoth mid.sinks new → WritesFront job old.left old.sinks new
+  pub so_far : {stands : History} {place number : ℕ} {any unflushed : Bool} (new : Sinks) → Progress (ReplyOf job) stands old mid place number any unflushed
+      → KeepsBoth mid.sinks new → WritesFront job old.left old.sinks new
   so_far new p keeps = record {
     frames = p.frames;
     last = None;

@@ -17,7 +17,8 @@ use Rattle.otap_consume.proofs.SegmentSteps.{stands_first}
 use Rattle.otap_gateway.specs.Reply.{ReplyText}
 use Rattle.otap_gateway.specs.Runs.{Sinks, BeginsWith, WritesFront}
 use Rattle.otap_gateway.specs.declared.command.Command.{Command}
-use Rattle.otap_gateway.specs.Showing.{ShowsFrame, RepliesTo, shown}
+use Rattle.otap_gateway.specs.Showing.{ShowsFrame, shown}
+use Rattle.otap_gateway.specs.ShowingSeen.{ShowsSeen}
 
 -- a frame that gives an accepted batch
 pub record IsAccepted (signal : Signal) (outcomes : List Outcome) (frame : Frame) (batch : BatchContent) (tables : List Table) : Type 0 where
@@ -47,7 +48,7 @@ accepted_from signal outcomes frame o batch tables is false Gives.resets = absur
 
 -- the reply is that of the outcome
 module _ (signal : Signal) (outcomes : List Outcome) (frame : Frame) (number : ℕ) (new : SegmentIn) (reply : ReplyText) where
-  text_of : (answer : Seen) (o : Outcome) → OutcomeAfter signal outcomes frame o → Tells o answer → StandsFor signal (outcomes ++ o ∷ []) new → RepliesTo frame new number answer reply
+  text_of : (answer : Seen) (o : Outcome) → OutcomeAfter signal outcomes frame o → Tells o answer → StandsFor signal (outcomes ++ o ∷ []) new → ShowsSeen frame new number answer reply
       → reply ≡ shown number o
   text_of (seen.Batch id rows) (Accepted batch tables) gives tells stands replies =
       let is : IsAccepted signal outcomes frame batch tables = accepted_from signal outcomes frame (Accepted batch tables) batch tables refl (is_broken outcomes) gives in
@@ -65,7 +66,7 @@ module _ (signal : Signal) (outcomes : List Outcome) (frame : Frame) (number : �
 abbrev pub Shown : SegmentIn → List Frame → List ReplyText → Type 0
 Shown s frames replies = (outcomes : List Outcome) × Outcomes s.signal frames outcomes × StandsFor s.signal outcomes s
 
-pub shows : (old new : SegmentIn) (frame : Frame) (answer : Seen) (number : ℕ) (reply : ReplyText) → Next old frame new answer → new.signal ≡ old.signal → RepliesTo frame new number answer reply
+pub shows : (old new : SegmentIn) (frame : Frame) (answer : Seen) (number : ℕ) (reply : ReplyText) → Next old frame new answer → new.signal ≡ old.signal → ShowsSeen frame new number answer reply
     → (frames : List Frame) (replies : List ReplyText) → length frames ≡ number → Shown old frames replies
     → ShowsFrame old.signal frames frame reply × Shown new (frames ++ frame ∷ []) (replies ++ reply ∷ [])
 shows old new frame answer number reply next same replies frames before count history =

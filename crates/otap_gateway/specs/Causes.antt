@@ -6,7 +6,10 @@ use Rattle.otap_columns.specs.declared.refusal.ColumnRefusal.{ColumnRefusal}
 use Rattle.otap_columns.specs.declared.refusal.ColumnRefusal.TheVariants as refusal
 use Rattle.otap_consume.specs.declared.refusal.Cause.{Cause}
 use Rattle.otap_consume.specs.declared.refusal.Cause.TheVariants as cause
+use Rattle.otlp_messages.specs.declared.messages.Defect.TheVariants as defect
+use Rattle.otlp_messages.specs.Names.{defect_text}
 use Rattle.otap_gateway.specs.Openings.{fault_name}
+use Rattle.otap_gateway.specs.RowCauses.{row_name}
 
 abbrev pub buffer_name : BufferFault → List ℕ
 buffer_name Short = codes "Buffers.Short"
@@ -26,9 +29,9 @@ column_name (refusal.Memory e) = []
 
 abbrev pub cause_name : Cause → List ℕ
 cause_name cause.Compressed = codes "Compressed"
-cause_name cause.BadMessage = codes "BadMessage"
-cause_name cause.Repeated = codes "Repeated"
-cause_name cause.BadUtf8 = codes "BadUtf8"
+cause_name cause.BadMessage = defect_text defect.BadMessage
+cause_name cause.Repeated = defect_text defect.Repeated
+cause_name cause.BadUtf8 = defect_text defect.BadUtf8
 cause_name cause.PayloadType = codes "PayloadType"
 cause_name cause.PayloadTwice = codes "PayloadTwice"
 cause_name cause.SchemaIdTaken = codes "SchemaIdTaken"
@@ -36,4 +39,6 @@ cause_name (cause.Column refusal) = column_name refusal
 cause_name cause.TooManyItems = codes "TooManyItems"
 cause_name cause.RowsTooHeavy = codes "RowsTooHeavy"
 cause_name cause.HeldTooMuch = codes "HeldTooMuch"
+cause_name (cause.Row why) = row_name why
+cause_name cause.TreeTooHeavy = codes "TreeTooHeavy"
 cause_name cause.Broken = codes "Broken"

@@ -4,8 +4,11 @@ use Rattle.otap_capture.specs.Capture.{Frame}
 use Rattle.otlp_model.specs.declared.request.Signal.{Signal}
 use Rattle.otlp_model.specs.declared.request.Signal.TheVariants as signals
 use Rattle.otap_gateway.specs.declared.command.Command.{Command}
+use Rattle.otap_gateway.specs.declared.command.Served.{Served}
+use Rattle.otap_gateway.specs.declared.command.Served.TheVariants as served
 use Rattle.otap_gateway.specs.declared.command.Command.TheVariants as command
 use Rattle.otap_gateway.specs.Listing.{ListsFrame}
+use Rattle.otap_gateway.specs.Receptions.{decoded, statused, replayed, meaning_of, Tells}
 use Rattle.otap_gateway.specs.Reply.{ReplyText}
 use Rattle.otap_gateway.specs.Schemas.{SchemasFrame}
 use Rattle.otap_gateway.specs.Showing.{ShowsFrame}
@@ -16,12 +19,18 @@ signal_word signals.Traces = codes "traces"
 signal_word signals.Logs = codes "logs"
 signal_word signals.Metrics = codes "metrics"
 
+abbrev pub served_word : Served → List ℕ
+served_word served.Logs = codes "logs"
+
 -- the words of a job
 abbrev pub words_of : Command → List (List ℕ)
 words_of command.List = codes "list" ∷ []
 words_of (command.Tidy signal) = codes "tidy" ∷ signal_word signal ∷ []
 words_of (command.Schema signal) = codes "schema" ∷ signal_word signal ∷ []
 words_of (command.Show signal) = codes "show" ∷ signal_word signal ∷ []
+words_of (command.Decode signal) = codes "decode" ∷ served_word signal ∷ []
+words_of (command.Status signal) = codes "status" ∷ served_word signal ∷ []
+words_of (command.Replay signal) = codes "replay" ∷ served_word signal ∷ []
 
 -- words that are those of no job
 abbrev pub IsNoCommand : List (List ℕ) → Type 0
@@ -33,3 +42,6 @@ ReplyOf command.List frames replies frame reply = ListsFrame (length frames) fra
 ReplyOf (command.Tidy signal) frames replies frame reply = TidiesFrame signal (length frames) frame reply
 ReplyOf (command.Schema signal) frames replies frame reply = SchemasFrame signal (length frames) frame reply
 ReplyOf (command.Show signal) frames replies frame reply = ShowsFrame signal frames frame reply
+ReplyOf (command.Decode signal) frames replies frame reply = Tells (meaning_of signal) decoded frames replies frame reply
+ReplyOf (command.Status signal) frames replies frame reply = Tells (meaning_of signal) statused frames replies frame reply
+ReplyOf (command.Replay signal) frames replies frame reply = Tells (meaning_of signal) replayed frames replies frame reply

@@ -16,3 +16,7 @@ History = List Frame → List ReplyText → Type 0
 pub record Extends (R : Rule) (old new : History) (number : ℕ) (frame : Frame) (reply : ReplyText) : Type 0 where
   pub at : (frames : List Frame) (replies : List ReplyText) → length frames ≡ number → old frames replies
       → R frames replies frame reply × new (frames ++ frame ∷ []) (replies ++ reply ∷ [])
+
+-- the new state stands for each history that the old one stands for
+abbrev pub Stays : History → History → Type 0
+Stays old new = (frames : List Frame) (replies : List ReplyText) → old frames replies → new frames replies

@@ -6,12 +6,15 @@ pub mod Lines
 pub mod Listing
 pub mod Openings
 pub mod Quoting
+pub mod Receptions
 pub mod Records
 pub mod Refused
 pub mod Reply
+pub mod RowCauses
 pub mod Rows
 pub mod Runs
 pub mod Schemas
 pub mod Showing
+pub mod ShowingSeen
 pub mod Tidying
 pub mod Turns

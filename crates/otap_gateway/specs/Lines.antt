@@ -5,6 +5,8 @@ use Rattle.std.specs.declared.option.Option.{Option}
 use Rattle.otap_capture.specs.declared.frame.Damage.{Damage}
 use Rattle.otap_capture.specs.declared.frame.Why.{Why}
 use Rattle.otap_capture.specs.declared.frame.Why.TheVariants as why
+use Rattle.otap_capture.specs.Batch.{PayloadContent}
+use Rattle.otap_gateway.specs.Quoting.{quoted}
 use Rattle.otap_gateway.specs.Reply.{ReplyText}
 
 abbrev pub line_feed : List ℕ
@@ -18,9 +20,21 @@ abbrev pub or_dash : Option ℤ → List ℕ
 or_dash None = codes "-"
 or_dash (Some n) = signed_decimal n
 
+-- the head of a line for a batch, by the text of its id
+abbrev pub batch_head : ℕ → List ℕ → List ℕ
+batch_head number id = codes "frame " ++ decimal number ++ codes ": batch " ++ id
+
+-- the line that the lines for a batch begin with
+abbrev pub head_line : ℕ → ℤ → List ℕ
+head_line number id = batch_head number (signed_decimal id) ++ line_feed
+
+-- the head of a line for a payload: its type and its schema id
+abbrev pub payload_head : PayloadContent → List ℕ
+payload_head payload = codes "payload " ++ signed_decimal payload.kind ++ codes " schema \"" ++ quoted payload.schema_id ++ codes "\""
+
 -- a refused batch: its id where it could be read, the stage and the cause, and the payload type that it stands in
 abbrev pub refused_line : ℕ → Option ℤ → ℕ → List ℕ → Option ℤ → List ℕ
-refused_line number id stage cause payload = codes "frame " ++ decimal number ++ codes ": batch " ++ or_dash id
+refused_line number id stage cause payload = batch_head number (or_dash id)
     ++ codes " refused: stage " ++ decimal stage ++ codes " " ++ cause ++ codes " payload " ++ or_dash payload ++ line_feed
 
 -- a refused request, by the name of the cause

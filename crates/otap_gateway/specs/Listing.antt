@@ -4,7 +4,7 @@ use Rattle.std.specs.Fmt.{decimal, signed_decimal}
 use Rattle.std.specs.List.{flat_map}
 use Rattle.otap_capture.specs.Batch.{BatchContent, PayloadContent, ReadsBatch}
 use Rattle.otap_capture.specs.Capture.{Frame, Message, Packed, Reset}
-use Rattle.otap_gateway.specs.Lines.{reset_line, line_feed, printed}
+use Rattle.otap_gateway.specs.Lines.{reset_line, line_feed, batch_head, printed}
 use Rattle.otap_gateway.specs.Reply.{ReplyText}
 use Rattle.otap_gateway.specs.Refused.{RefusesUnread, refused_unread}
 
@@ -13,7 +13,7 @@ abbrev pub payload_text : PayloadContent → List ℕ
 payload_text payload = codes " " ++ signed_decimal payload.kind ++ codes ":" ++ decimal (length payload.bytes)
 
 abbrev pub batch_line : ℕ → BatchContent → List ℕ
-batch_line number batch = codes "frame " ++ decimal number ++ codes ": batch " ++ signed_decimal batch.id ++ flat_map payload_text batch.payloads ++ line_feed
+batch_line number batch = batch_head number (signed_decimal batch.id) ++ flat_map payload_text batch.payloads ++ line_feed
 
 -- the reply to a message that is a batch
 pub record ListsBatch (number : ℕ) (bytes : List ℕ) (reply : ReplyText) : Type 0 where

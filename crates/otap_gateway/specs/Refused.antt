@@ -1,15 +1,14 @@
 -- The replies to batches that are refused.
-use Rattle.std.specs.Prelude.{◌≡◌, ℕ, ℤ, List, codes, Option, None, Some}
+use Rattle.std.specs.Prelude.{◌≡◌, ℕ, ℤ, List, Option, None, Some}
 use Rattle.otap_capture.specs.declared.batch.BatchRefusal.{BatchRefusal}
-use Rattle.otap_capture.specs.declared.batch.BatchRefusal.TheVariants.{BadMessage, Repeated, BadUtf8}
-use Rattle.otap_capture.specs.Batch.{RefusesBatch}
+use Rattle.otap_capture.specs.Batch.{RefusesBatch, defect_of}
+use Rattle.otlp_messages.specs.Names.{defect_text}
 use Rattle.otap_gateway.specs.Lines.{refused_line, refuses}
 use Rattle.otap_gateway.specs.Reply.{ReplyText}
 
+-- the name of the defect that a refusal names
 abbrev pub unread_name : BatchRefusal → List ℕ
-unread_name BadMessage = codes "BadMessage"
-unread_name Repeated = codes "Repeated"
-unread_name BadUtf8 = codes "BadUtf8"
+unread_name refusal = defect_text (defect_of refusal)
 
 -- the reply to a frame whose message can't be read, by the name of the cause
 abbrev pub refused_unread : ℕ → List ℕ → ReplyText

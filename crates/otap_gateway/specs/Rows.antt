@@ -71,5 +71,5 @@ table_text table = row_lines (columns_of table.kind) 0 table.rows
 -- ---- the words of private contracts
 
 -- elements of a list, each after a comma
-abbrev pub behind_commas : Base → List ℕ → List ℕ
-behind_commas holds numbers = flat_map (λ n. 44 ∷ bits_text holds n) numbers
+abbrev pub after_commas : Base → List ℕ → List ℕ
+after_commas holds numbers = flat_map (λ n. 44 ∷ bits_text holds n) numbers

@@ -1,6 +1,5 @@
 -- The texts of `schema`: for each payload of a batch, the schema that its record begins with.
 use Rattle.std.specs.Prelude.{◌≡◌, ◌⊎◌, ℕ, ℤ, List, [], ◌++◌, codes, Option, None, Some}
-use Rattle.std.specs.Fmt.{decimal, signed_decimal}
 use Rattle.std.specs.List.{flat_map, AllByRecursion}
 use Rattle.arrow_ipc.specs.declared.fault.IpcFault.{IpcFault}
 use Rattle.arrow_ipc.specs.Faults.{Stands}
@@ -11,23 +10,19 @@ use Rattle.otap_capture.specs.Capture.{Frame, Message, Packed, Reset}
 use Rattle.otap_consume.specs.declared.payload_types.TypesRefusal.{TypesRefusal}
 use Rattle.otap_consume.specs.declared.payload_types.TypesRefusal.TheVariants.{PayloadType, PayloadTwice}
 use Rattle.otap_gateway.specs.Fields.{fields_text}
-use Rattle.otap_gateway.specs.Lines.{reset_line, line_feed, printed}
+use Rattle.otap_gateway.specs.Lines.{reset_line, line_feed, head_line, payload_head, printed}
 use Rattle.otap_gateway.specs.Openings.{BeginsWell, opening_of, fault_name}
 use Rattle.otap_consume.specs.PayloadTypes.{HasPayload, HasFineTypes, StandsInTypes}
-use Rattle.otap_gateway.specs.Quoting.{quoted}
 use Rattle.otap_gateway.specs.Refused.{RefusesUnread, refused_unread, refused_batch}
 use Rattle.otap_gateway.specs.Reply.{ReplyText}
 
 -- the lines of a payload whose record begins with this schema, or with none
-abbrev pub opening_text : ℤ → List ℕ → Option SchemaSpec → List ℕ
-opening_text kind id None = codes "payload " ++ signed_decimal kind ++ codes " schema \"" ++ quoted id ++ codes "\" goes on" ++ line_feed
-opening_text kind id (Some fields) = codes "payload " ++ signed_decimal kind ++ codes " schema \"" ++ quoted id ++ codes "\"" ++ line_feed ++ fields_text [] fields
+abbrev pub opening_text : PayloadContent → Option SchemaSpec → List ℕ
+opening_text payload None = payload_head payload ++ codes " goes on" ++ line_feed
+opening_text payload (Some fields) = payload_head payload ++ line_feed ++ fields_text [] fields
 
 abbrev pub payload_lines : PayloadContent → List ℕ
-payload_lines payload = opening_text payload.kind payload.schema_id (opening_of payload.bytes)
-
-abbrev pub head_line : ℕ → ℤ → List ℕ
-head_line number id = codes "frame " ++ decimal number ++ codes ": batch " ++ signed_decimal id ++ line_feed
+payload_lines payload = opening_text payload (opening_of payload.bytes)
 
 abbrev pub batch_lines : ℕ → BatchContent → List ℕ
 batch_lines number batch = head_line number batch.id ++ flat_map payload_lines batch.payloads

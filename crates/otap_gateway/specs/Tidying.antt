@@ -5,7 +5,7 @@ use Rattle.otlp_codec.specs.declared.refusal.ReadRefusal.{ReadRefusal}
 use Rattle.otlp_codec.specs.Refusals.{refusal_of}
 use Rattle.otlp_codec.specs.Requests.{Reads, Stands, canon_request}
 use Rattle.otlp_messages.specs.declared.messages.Defect.{Defect}
-use Rattle.otlp_messages.specs.declared.messages.Defect.TheVariants.{BadMessage, Repeated, BadUtf8, BadLength, Unsupported, TooDeep}
+use Rattle.otlp_messages.specs.Names.{defect_text}
 use Rattle.otlp_model.specs.Limits.{item_limit, weight_limit}
 use Rattle.otlp_model.specs.declared.request.Request.{Request}
 use Rattle.otlp_model.specs.declared.request.Signal.{Signal}
@@ -14,19 +14,11 @@ use Rattle.otlp_model.specs.Weight.{weight_of}
 use Rattle.otap_gateway.specs.Lines.{request_line, printed, refuses}
 use Rattle.otap_gateway.specs.Reply.{ReplyText}
 
-abbrev pub defect_name : Defect → List ℕ
-defect_name BadMessage = codes "BadMessage"
-defect_name Repeated = codes "Repeated"
-defect_name BadUtf8 = codes "BadUtf8"
-defect_name BadLength = codes "BadLength"
-defect_name Unsupported = codes "Unsupported"
-defect_name TooDeep = codes "TooDeep"
-
 -- a refusal to read a request, and the name of its defect
 pub record NamesDefect (refusal : ReadRefusal) (name : List ℕ) : Type 0 where
   pub defect : Defect
   pub same : refusal ≡ refusal_of defect
-  pub text : name ≡ defect_name defect
+  pub text : name ≡ defect_text defect
 
 -- the reply to a frame whose request is refused, by the name of the cause
 abbrev pub refused_request : ℕ → List ℕ → ReplyText
@@ -48,7 +40,7 @@ pub record TidiesRequest (signal : Signal) (number : ℕ) (bytes : List ℕ) (re
 pub record RefusesRequest (signal : Signal) (number : ℕ) (bytes : List ℕ) (reply : ReplyText) : Type 0 where
   pub defect : Defect
   pub stands : Stands signal bytes defect
-  pub line : reply ≡ refused_request number (defect_name defect)
+  pub line : reply ≡ refused_request number (defect_text defect)
 
 abbrev pub TidiesMessage : Signal → ℕ → List ℕ → ReplyText → Type 0
 TidiesMessage signal number bytes reply = TidiesRequest signal number bytes reply ⊎ RefusesRequest signal number bytes reply

@@ -3,9 +3,11 @@ ghost use Rattle.std.specs.Prelude.{◌≡◌, IfOk};
 ghost use Rattle.otap_gateway.specs.Causes.{buffer_name, cause_name, column_name};
 
 use crate::opening::fault_name;
+use crate::row_causes::row_name;
 use arrow_buffers::BufferFault;
 use otap_columns::ColumnRefusal;
 use otap_consume::Cause;
+use otlp_messages::{Defect, defect_name};
 use std::alloc::AllocError;
 
 /// The printed name of a cause: its variants from the outside in, joined by dots. Want of memory is handed on.
@@ -14,9 +16,9 @@ pub(crate) fn cause_name(cause: Cause) -> Result<&'static str, AllocError>
 {
     match cause {
         Cause::Compressed => Ok("Compressed"),
-        Cause::BadMessage => Ok("BadMessage"),
-        Cause::Repeated => Ok("Repeated"),
-        Cause::BadUtf8 => Ok("BadUtf8"),
+        Cause::BadMessage => Ok(defect_name(Defect::BadMessage)),
+        Cause::Repeated => Ok(defect_name(Defect::Repeated)),
+        Cause::BadUtf8 => Ok(defect_name(Defect::BadUtf8)),
         Cause::PayloadType => Ok("PayloadType"),
         Cause::PayloadTwice => Ok("PayloadTwice"),
         Cause::SchemaIdTaken => Ok("SchemaIdTaken"),
@@ -24,6 +26,8 @@ pub(crate) fn cause_name(cause: Cause) -> Result<&'static str, AllocError>
         Cause::TooManyItems => Ok("TooManyItems"),
         Cause::RowsTooHeavy => Ok("RowsTooHeavy"),
         Cause::HeldTooMuch => Ok("HeldTooMuch"),
+        Cause::Row(why) => row_name(why),
+        Cause::TreeTooHeavy => Ok("TreeTooHeavy"),
         Cause::Broken => Ok("Broken"),
     }
 }

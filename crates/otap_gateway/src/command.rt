@@ -1,9 +1,16 @@
 //! The jobs by their words.
 ghost use Rattle.std.specs.Prelude.{◌≡◌, ◌≢◌, [], ◌∷◌, MatchOption};
 ghost use Rattle.otlp_model.specs.declared.request.Signal.{Signal};
-ghost use Rattle.otap_gateway.specs.Commands.{IsNoCommand, words_of, signal_word};
+ghost use Rattle.otap_gateway.specs.Commands.{IsNoCommand, words_of, signal_word, served_word};
+ghost use Rattle.otap_gateway.specs.declared.command.Served.{Served};
 
 use otlp_model::Signal;
+
+/// A signal that the jobs of a receiver serve.
+#[derive(Clone, Copy)]
+pub(crate) enum Served {
+    Logs,
+}
 
 /// A job that the program does.
 #[derive(Clone, Copy)]
@@ -16,6 +23,12 @@ pub(crate) enum Command {
     Schema(Signal),
     /// The cells of each batch of the signal.
     Show(Signal),
+    /// The request of each batch of the signal.
+    Decode(Served),
+    /// The status of each batch of the signal.
+    Status(Served),
+    /// What each batch of the signal holds.
+    Replay(Served),
 }
 
 /// The job of one word.
@@ -37,6 +50,9 @@ pub(crate) fn two_words(job: &str, signal: &str) -> Option<Command>
         "tidy" => Some(Command::Tidy(any_signal(signal)?)),
         "schema" => Some(Command::Schema(any_signal(signal)?)),
         "show" => Some(Command::Show(any_signal(signal)?)),
+        "decode" => Some(Command::Decode(served_signal(signal)?)),
+        "status" => Some(Command::Status(served_signal(signal)?)),
+        "replay" => Some(Command::Replay(served_signal(signal)?)),
         _ => None,
     }
 }
@@ -49,6 +65,16 @@ fn any_signal(word: &str) -> Option<Signal>
         "traces" => Some(Signal::Traces),
         "logs" => Some(Signal::Logs),
         "metrics" => Some(Signal::Metrics),
+        _ => None,
+    }
+}
+
+/// The signal of a word, where the jobs of a receiver serve it.
+fn served_signal(word: &str) -> Option<Served>
+    ensures { MatchOption result ((served : Served) → word.now ≢ served_word served) (λ served. word.now ≡ served_word served) }
+{
+    match word {
+        "logs" => Some(Served::Logs),
         _ => None,
     }
 }

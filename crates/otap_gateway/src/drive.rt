@@ -51,10 +51,12 @@ fn handle<J: Job, O: Sink, E: Sink>(
     };
     write_whole(out, reply.out())?;
     write_whole(err, reply.err())?;
-    Ok(Handled {
+    let handled = Handled {
         refused: reply.is_refused(),
         wrote: reply.is_written(),
-    })
+    };
+    job.take_back(reply);
+    Ok(handled)
 }
 
 /// Passes on all that was written.

@@ -3,7 +3,7 @@ ghost use Rattle.std.specs.Prelude.{◌≡◌, IfOk};
 ghost use Rattle.otap_capture.specs.Capture.{frame_of};
 ghost use Rattle.otap_gateway.specs.declared.command.Command.{Command};
 ghost use Rattle.otap_gateway.specs.Commands.{ReplyOf};
-ghost use Rattle.otap_gateway.specs.Jobs.{History, Extends};
+ghost use Rattle.otap_gateway.specs.Jobs.{History, Extends, Stays};
 
 use crate::reply::Reply;
 use otap_capture::Frame;
@@ -22,4 +22,12 @@ pub(crate) trait Job {
     fn step(&mut self, alloc: Global, number: u64, frame: &Frame<'_>) -> Result<Reply, AllocError>
         ensures same { command self.new ≡ command self.old }
         ensures next { IfOk result (Extends (ReplyOf (command self.old)) (stands self.old) (stands self.new) number (frame_of frame.now)) };
+
+    /// Takes a reply back that was written, for its memory.
+    fn take_back(&mut self, reply: Reply)
+        ensures same { command self.new ≡ command self.old }
+        ensures stays { Stays (stands self.old) (stands self.new) }
+    {
+        let _ = reply;
+    }
 }

@@ -1,9 +1,47 @@
 //! The lines that several jobs print.
-ghost use Rattle.std.specs.Prelude.{◌≡◌, IfOk, string_bytes};
-ghost use Rattle.otap_gateway.specs.Lines.{reset_line, refused_line, request_line, or_dash, damage_line, why_name};
+ghost use Rattle.std.specs.Prelude.{◌≡◌, ◌++◌, IfOk, OnOk, string_bytes};
+ghost use Rattle.std.specs.Fmt.{signed_decimal};
+ghost use Rattle.otap_capture.specs.Batch.{content_of};
+ghost use Rattle.otap_gateway.specs.Lines.{reset_line, batch_head, head_line, payload_head, refused_line, request_line, or_dash, damage_line, why_name};
 
-use otap_capture::{Damage, Why};
+use crate::numbers::push_signed;
+use crate::quoting::push_quoted;
+use itoa::Buffer;
+use otap_capture::{Damage, Payload, Why};
 use std::alloc::{AllocError, Global};
+
+/// Appends the head of a line for a batch: the number of its frame, and its id.
+#[inline(always)]
+pub(crate) fn push_head(to: &mut Vec<u8>, number: u64, id: i64) -> Result<(), AllocError>
+    ensures { OnOk result (to.new.items ≡ to.old.items ++ batch_head number (signed_decimal id)) }
+{
+    let mut digits = Buffer::new();
+    to.extend_from_slice(b"frame ")?;
+    to.extend_from_slice(digits.format(number).as_bytes())?;
+    to.extend_from_slice(b": batch ")?;
+    to.extend_from_slice(digits.format(id).as_bytes())
+}
+
+/// Appends the line that the lines for a batch begin with.
+pub(crate) fn push_head_line(to: &mut Vec<u8>, number: u64, id: i64) -> Result<(), AllocError>
+    ensures { OnOk result (to.new.items ≡ to.old.items ++ head_line number id) }
+{
+    push_head(to, number, id)?;
+    to.push(b'\n')?;
+    Ok(())
+}
+
+/// Appends the head of a line for a payload: its type and its schema id.
+pub(crate) fn push_payload_head(to: &mut Vec<u8>, payload: &Payload<'_>) -> Result<(), AllocError>
+    ensures { OnOk result (to.new.items ≡ to.old.items ++ payload_head (content_of payload.now)) }
+{
+    to.extend_from_slice(b"payload ")?;
+    push_signed(to, i64::from(payload.kind))?;
+    to.extend_from_slice(b" schema \"")?;
+    push_quoted(to, payload.schema_id.as_bytes())?;
+    to.push(b'"')?;
+    Ok(())
+}
 
 /// The line for a reset.
 pub(crate) fn reset_line(alloc: Global, number: u64) -> Result<String, AllocError>
@@ -30,7 +68,8 @@ pub(crate) fn refused_line(
     )?)
 }
 
-fn or_dash(alloc: Global, number: Option<i64>) -> Result<String, AllocError>
+/// A number, or a dash where there is none.
+pub(crate) fn or_dash(alloc: Global, number: Option<i64>) -> Result<String, AllocError>
     ensures { IfOk result (λ text. string_bytes text ≡ or_dash number) }
 {
     match number {

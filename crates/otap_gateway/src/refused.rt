@@ -5,6 +5,7 @@ ghost use Rattle.otap_gateway.specs.Refused.{refused_unread, unread_name, refuse
 use crate::lines::refused_line;
 use crate::reply::Reply;
 use otap_capture::BatchRefusal;
+use otlp_messages::defect_name;
 use std::alloc::{AllocError, Global};
 
 /// The reply to a frame whose message can't be read, by the name of the cause.
@@ -19,11 +20,7 @@ pub(crate) fn refused_unread(alloc: Global, number: u64, cause: &str) -> Result<
 pub(crate) fn unread_name(refusal: BatchRefusal) -> &'static str
     ensures { result.now ≡ unread_name refusal }
 {
-    match refusal {
-        BatchRefusal::BadMessage => "BadMessage",
-        BatchRefusal::Repeated => "Repeated",
-        BatchRefusal::BadUtf8 => "BadUtf8",
-    }
+    defect_name(refusal.defect())
 }
 
 /// The reply to a batch that is refused in a stage, by the name of the cause and the payload type

@@ -1,9 +1,11 @@
 //! What a job puts on its sinks for a frame.
-ghost use Rattle.std.specs.Prelude.{◌≡◌, ◌≤◌, [], false, IfOk, length, string_bytes};
+ghost use Rattle.std.specs.Prelude.{◌≡◌, ◌≤◌, [], true, false, IfOk, length, string_bytes};
 ghost use Rattle.otap_capture.specs.Capture.{longest_frame, message_frame, reset_frame};
+ghost use Rattle.otap_capture.specs.Statuses.{told, canon_status};
 ghost use Rattle.otap_gateway.specs.Lines.{printed, refuses};
 
 use byteorder::{BigEndian, ByteOrder};
+use otap_capture::{Status, write_status};
 use otlp_messages::Backward;
 use std::alloc::{AllocError, Global};
 use std::marker::Model;
@@ -72,6 +74,33 @@ impl Reply {
         }
     }
 
+    /// A status on out, as a frame.
+    pub(crate) fn status(alloc: Global, status: &Status<'_>) -> Result<Reply, AllocError>
+        ensures { IfOk result (λ reply. reply ≡ printed (message_frame (canon_status (told status.now)))) }
+    {
+        let part = write_status(alloc, status)?;
+        let Ok(size) = u32::try_from(part.len()) else {
+            return Err(AllocError);
+        };
+        let mut head = [0; 5];
+        BigEndian::write_u32(&mut head[1..], size);
+        let mut out = head.to_vec(alloc)?;
+        out.extend_from_slice(&part)?;
+        Ok(Reply::on_out(alloc, out))
+    }
+
+    /// The reply, to a frame that is refused by this line on err.
+    pub(crate) fn refusing(self, line: String) -> Reply
+        ensures { result ≡ record { out = self.out; err = string_bytes line; refused = true } }
+    {
+        let Reply { out, .. } = self;
+        Reply {
+            out,
+            err: line.into_bytes(),
+            refused: true,
+        }
+    }
+
     pub(crate) fn out(&self) -> &[u8]
         ensures { result.now ≡ self.now.out }
     {
@@ -84,11 +113,24 @@ impl Reply {
         &self.err
     }
 
+    /// The bytes for out, with the memory that they stand in.
+    pub(crate) fn into_out(self) -> Vec<u8>
+        ensures { result.items ≡ self.out }
+    {
+        let Reply {
+            out,
+            err: _,
+            refused: _,
+        } = self;
+        out
+    }
+
     pub(crate) fn is_refused(&self) -> bool
         ensures { result ≡ self.now.refused }
     {
         self.refused
     }
+
     /// Whether there are bytes for out or for err.
     pub(crate) fn is_written(&self) -> bool
         ensures { result ≡ false → (self.now.out ≡ []) × (self.now.err ≡ []) }

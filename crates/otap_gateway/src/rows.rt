@@ -1,17 +1,16 @@
 //! The lines of a table's rows: the cells as they are stored.
 ghost use Rattle.std.specs.Prelude.{◌≡◌, ◌<◌, ◌≤◌, [], ◌++◌, codes, length, OnOk};
 ghost use Rattle.std.specs.List.{slice_index_or};
-ghost use Rattle.std.specs.Fmt.{decimal, signed_decimal};
 ghost use Rattle.hex.specs.Hex.{encode_lower};
 ghost use Rattle.otap_cells.specs.Cells.{seen};
 ghost use Rattle.otap_cells.specs.Columns.{columns_of, described};
 ghost use Rattle.otap_cells.specs.Tables.{IsTable};
 ghost use Rattle.otap_gateway.specs.Quoting.{quoted};
-ghost use Rattle.otap_gateway.specs.Rows.{behind_commas, bits_text, bytes_text, cell_text, cells_text, elements, elements_text, list_text, named_cell, row_line, table_text};
+ghost use Rattle.otap_gateway.specs.Rows.{after_commas, bits_text, bytes_text, cell_text, cells_text, elements, elements_text, list_text, named_cell, row_line, table_text};
 
+use crate::numbers::{push_number, push_signed};
 use crate::quoting::push_quoted;
 use byteorder::{ByteOrder, LittleEndian};
-use itoa::Buffer;
 use otap_cells::{Base, CellView, Column, Rows, columns};
 use std::alloc::AllocError;
 
@@ -132,7 +131,7 @@ fn push_elements(to: &mut Vec<u8>, base: Base, part: &[u8]) -> Result<(), AllocE
 
 // Appends each element after a comma.
 fn push_more(to: &mut Vec<u8>, base: Base, part: &[u8]) -> Result<(), AllocError>
-    ensures { OnOk result (to.new.items ≡ to.old.items ++ behind_commas base (elements part.now)) }
+    ensures { OnOk result (to.new.items ≡ to.old.items ++ after_commas base (elements part.now)) }
 {
     let mut rest = part;
     'elements: while rest.len() >= 8 {
@@ -142,18 +141,6 @@ fn push_more(to: &mut Vec<u8>, base: Base, part: &[u8]) -> Result<(), AllocError
         rest = more;
     }
     Ok(())
-}
-
-fn push_number(to: &mut Vec<u8>, number: u64) -> Result<(), AllocError>
-    ensures { OnOk result (to.new.items ≡ to.old.items ++ decimal number) }
-{
-    to.extend_from_slice(Buffer::new().format(number).as_bytes())
-}
-
-fn push_signed(to: &mut Vec<u8>, number: i64) -> Result<(), AllocError>
-    ensures { OnOk result (to.new.items ≡ to.old.items ++ signed_decimal number) }
-{
-    to.extend_from_slice(Buffer::new().format(number).as_bytes())
 }
 
 // Appends bytes as hexadecimal digits, two for each.

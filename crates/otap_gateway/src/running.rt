@@ -6,15 +6,17 @@ ghost use Rattle.otap_gateway.specs.declared.command.Command.TheVariants as comm
 ghost use Rattle.otap_gateway.specs.Commands.{IsNoCommand, words_of};
 ghost use Rattle.otap_gateway.specs.Runs.{sinks, world, Leaves, Stops, Faults, SinkFaults, LeavesLine, Runs, Refuses};
 
-use crate::command::Command;
+use crate::command::{Command, Served};
 use crate::drive::{drive, flush_both};
 use crate::list::Lister;
+use crate::receiving_runs::{decode, replay, tell_statuses};
 use crate::schema::SchemaLister;
 use crate::show::Shower;
 use crate::stop::{Stop, Tally, status, words_status};
 use crate::tidy::Tidier;
 use crate::words::Words;
 use otap_capture::{Sink, Source, write_whole};
+use otap_consume::Logs;
 use otlp_model::Signal;
 use std::alloc::Global;
 
@@ -63,10 +65,13 @@ fn run_job<S: Source, O: Sink, E: Sink>(
         (world S.Source source.new (sinks O.Sink out.new E.Sink err.new)) result }
 {
     match job {
-        Command::List => drive(alloc, &mut Lister, source, out, err),
+        Command::List => drive(alloc, &mut Lister::new(alloc), source, out, err),
         Command::Tidy(signal) => drive(alloc, &mut Tidier::new(signal), source, out, err),
         Command::Schema(signal) => drive(alloc, &mut SchemaLister::new(signal), source, out, err),
         Command::Show(signal) => show(alloc, signal, source, out, err),
+        Command::Decode(Served::Logs) => decode(alloc, Logs, source, out, err),
+        Command::Status(Served::Logs) => tell_statuses(alloc, Logs, source, out, err),
+        Command::Replay(Served::Logs) => replay(alloc, Logs, source, out, err),
     }
 }
 

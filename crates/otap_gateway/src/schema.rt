@@ -11,9 +11,8 @@ ghost use Rattle.otap_gateway.specs.Schemas.{SchemasFrame, SchemasBatch, Schemas
 
 use crate::fields::push_fields;
 use crate::job::Job;
-use crate::lines::reset_line;
+use crate::lines::{push_head_line, push_payload_head, reset_line};
 use crate::opening::{fault_name, opening};
-use crate::quoting::push_quoted;
 use crate::refused::{refused_batch, refused_unread, unread_name};
 use crate::reply::Reply;
 use arrow_ipc::IpcFault;
@@ -158,8 +157,8 @@ fn schemas_text(alloc: Global, number: u64, batch: &Batch<'_>) -> Result<Vec<u8>
     ensures well { IfOk result (λ out. BeginWell batch.now.payloads) }
     ensures fault { IfErr result (RefusesRecords batch.now.payloads) }
 {
-    let id = batch.id();
-    let mut out = format!(in alloc; "frame {number}: batch {id}\n")?.into_bytes();
+    let mut out = Vec::new(alloc);
+    push_head_line(&mut out, number, batch.id())?;
     'payloads: for payload in batch.payloads() {
         push_payload(alloc, &mut out, &payload)?;
     }
@@ -203,15 +202,13 @@ fn push_opening(
     payload: &Payload<'_>,
     schema: Option<SchemaSpec>,
 ) -> Result<(), AllocError>
-    ensures { OnOk result (out.new.items ≡ out.old.items ++ opening_text payload.now.kind payload.now.schema_id.now schema) }
+    ensures { OnOk result (out.new.items ≡ out.old.items ++ opening_text (content_of payload.now) schema) }
 {
-    let kind = payload.kind;
-    out.extend_from_slice(format!(in alloc; "payload {kind} schema \"")?.as_bytes())?;
-    push_quoted(out, payload.schema_id.as_bytes())?;
+    push_payload_head(out, payload)?;
     match schema {
-        None => out.extend_from_slice(b"\" goes on\n"),
+        None => out.extend_from_slice(b" goes on\n"),
         Some(schema) => {
-            out.extend_from_slice(b"\"\n")?;
+            out.push(b'\n')?;
             push_fields(alloc, out, &[], schema.as_slice())
         }
     }

@@ -6,12 +6,13 @@ ghost use Rattle.otap_cells.specs.Sets.{tables_in};
 ghost use Rattle.otap_consume.specs.Outcomes.{Outcome, Outcomes, Refused};
 ghost use Rattle.otap_consume.specs.Segments.{IsNew, IsTaken, StandsFor, TakesIf};
 ghost use Rattle.otap_gateway.specs.declared.command.Command.TheVariants as command;
-ghost use Rattle.otap_gateway.specs.Showing.{payload_head, payload_text, batch_text, shown, RepliesTo, ShowsTaken};
+ghost use Rattle.otap_gateway.specs.Showing.{rows_line, payload_text, batch_text, shown};
+ghost use Rattle.otap_gateway.specs.ShowingSeen.{ShowsSeen, ShowsTaken};
 
 use crate::causes::cause_name;
 use crate::job::Job;
-use crate::lines::{refused_line, reset_line};
-use crate::quoting::push_quoted;
+use crate::lines::{push_head_line, push_payload_head, refused_line, reset_line};
+use crate::numbers::push_number;
 use crate::reply::Reply;
 use crate::rows::push_rows;
 use otap_capture::{Batch, Frame, Payload, read_batch};
@@ -55,7 +56,7 @@ fn reply_to(
     answer: Seen,
 ) -> Result<Reply, AllocError>
     requires { TakesIf (frame_of frame.now) segment.now answer }
-    ensures { IfOk result (RepliesTo (frame_of frame.now) segment.now number answer) }
+    ensures { IfOk result (ShowsSeen (frame_of frame.now) segment.now number answer) }
 {
     match answer {
         Seen::Batch { .. } => show_batch(alloc, number, segment, frame),
@@ -94,42 +95,37 @@ fn batch_text<R: Rows>(
     requires { length set.now.tables.items ≡ length batch.now.payloads }
     ensures { IfOk result (λ text. text.items ≡ batch_text number batch.now (tables_in R.table set.now.tables.items)) }
 {
-    let id = batch.id();
-    let mut out = format!(in alloc; "frame {number}: batch {id}\n")?.into_bytes();
+    let mut out = Vec::new(alloc);
+    push_head_line(&mut out, number, batch.id())?;
     let mut payloads = batch.payloads();
     'tables: for (_, rows) in &set.tables {
         let Some(payload) = payloads.next() else {
             unreachable!()
         };
-        push_payload(alloc, &mut out, &payload, rows)?;
+        push_payload(&mut out, &payload, rows)?;
     }
     Ok(out)
 }
 
 fn push_payload<R: Rows>(
-    alloc: Global,
     out: &mut Vec<u8>,
     payload: &Payload<'_>,
     rows: &R,
 ) -> Result<(), AllocError>
     ensures { OnOk result (out.new.items ≡ out.old.items ++ payload_text (content_of payload.now) (R.table rows.now)) }
 {
-    push_head(alloc, out, payload, rows.rows())?;
+    push_rows_line(out, payload, rows.rows())?;
     push_rows(out, rows)
 }
 
-fn push_head(
-    alloc: Global,
-    out: &mut Vec<u8>,
-    payload: &Payload<'_>,
-    rows: u64,
-) -> Result<(), AllocError>
-    ensures { OnOk result (out.new.items ≡ out.old.items ++ payload_head (content_of payload.now) rows) }
+fn push_rows_line(out: &mut Vec<u8>, payload: &Payload<'_>, rows: u64) -> Result<(), AllocError>
+    ensures { OnOk result (out.new.items ≡ out.old.items ++ rows_line (content_of payload.now) rows) }
 {
-    let kind = payload.kind;
-    out.extend_from_slice(format!(in alloc; "payload {kind} schema \"")?.as_bytes())?;
-    push_quoted(out, payload.schema_id.as_bytes())?;
-    out.extend_from_slice(format!(in alloc; "\" rows {rows}\n")?.as_bytes())
+    push_payload_head(out, payload)?;
+    out.extend_from_slice(b" rows ")?;
+    push_number(out, rows)?;
+    out.push(b'\n')?;
+    Ok(())
 }
 
 fn refused(alloc: Global, number: u64, refusal: Refusal) -> Result<Reply, AllocError>

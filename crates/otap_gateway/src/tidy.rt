@@ -1,6 +1,7 @@
 //! `tidy`: each request in canonical spelling.
 ghost use Rattle.std.specs.Prelude.{◌≡◌, IfOk};
 ghost use Rattle.otap_capture.specs.Capture.{frame_of};
+ghost use Rattle.otlp_codec.specs.Refusals.{refusal_of};
 ghost use Rattle.otap_gateway.specs.declared.command.Command.TheVariants as command;
 ghost use Rattle.otap_gateway.specs.Tidying.{TidiesFrame, TidiesMessage, NamesDefect, tidied, refused_request};
 
@@ -9,9 +10,12 @@ use crate::lines::request_line;
 use crate::reply::Reply;
 use otap_capture::Frame;
 use otlp_codec::{ReadRefusal, put_request, read_request};
-use otlp_messages::Backward;
+use otlp_messages::{Backward, Defect, defect_name};
 use otlp_model::{MAX_ITEMS, MAX_TREE_WEIGHT, Request, Signal, items, weight};
 use std::alloc::{AllocError, Global};
+
+/// How many bytes the head of a frame has.
+const HEAD: usize = 5;
 
 /// The job `tidy` of a signal. It takes each frame by itself.
 #[derive(Clone, Copy)]
@@ -61,12 +65,18 @@ fn tidy_message(
     ensures { IfOk result (TidiesMessage signal number bytes.now) }
 {
     match read_request(alloc, signal, bytes) {
-        Ok(request) => tidy_request(alloc, number, &request),
-        Err(refusal) => refused(alloc, number, defect_name(refusal)?),
+        Ok(request) => tidy_request(alloc, number, &request, bytes.len()),
+        Err(refusal) => refused(alloc, number, refusal_name(refusal)?),
     }
 }
 
-fn tidy_request(alloc: Global, number: u64, request: &Request) -> Result<Reply, AllocError>
+// What is written is about as long as `len`, the length of what was read.
+fn tidy_request(
+    alloc: Global,
+    number: u64,
+    request: &Request,
+    len: usize,
+) -> Result<Reply, AllocError>
     ensures { IfOk result (λ reply. reply ≡ tidied number request.now) }
 {
     if items(request) > MAX_ITEMS {
@@ -76,6 +86,7 @@ fn tidy_request(alloc: Global, number: u64, request: &Request) -> Result<Reply, 
         return refused(alloc, number, "TooHeavy");
     }
     let mut spelling = Backward::new(alloc);
+    spelling.reserve(len.saturating_add(HEAD))?;
     put_request(&mut spelling, request)?;
     Reply::message(alloc, spelling)
 }
@@ -88,16 +99,22 @@ fn refused(alloc: Global, number: u64, cause: &str) -> Result<Reply, AllocError>
 }
 
 // The name of the defect that a refusal names.
-fn defect_name(refusal: ReadRefusal) -> Result<&'static str, AllocError>
+fn refusal_name(refusal: ReadRefusal) -> Result<&'static str, AllocError>
     ensures { IfOk result (λ name. NamesDefect refusal name.now) }
 {
+    Ok(defect_name(defect_of(refusal)?))
+}
+
+fn defect_of(refusal: ReadRefusal) -> Result<Defect, AllocError>
+    ensures { IfOk result (λ defect. refusal ≡ refusal_of defect) }
+{
     match refusal {
-        ReadRefusal::BadMessage => Ok("BadMessage"),
-        ReadRefusal::Repeated => Ok("Repeated"),
-        ReadRefusal::BadUtf8 => Ok("BadUtf8"),
-        ReadRefusal::BadLength => Ok("BadLength"),
-        ReadRefusal::Unsupported => Ok("Unsupported"),
-        ReadRefusal::TooDeep => Ok("TooDeep"),
+        ReadRefusal::BadMessage => Ok(Defect::BadMessage),
+        ReadRefusal::Repeated => Ok(Defect::Repeated),
+        ReadRefusal::BadUtf8 => Ok(Defect::BadUtf8),
+        ReadRefusal::BadLength => Ok(Defect::BadLength),
+        ReadRefusal::Unsupported => Ok(Defect::Unsupported),
+        ReadRefusal::TooDeep => Ok(Defect::TooDeep),
         ReadRefusal::Memory(error) => Err(error),
     }
 }

@@ -1,9 +1,9 @@
 use Rattle.std.proofs.Common.{◌≡◌, ◌++◌, length}
-use Rattle.otap_gateway.specs.Rows.{behind_commas, elements}
+use Rattle.otap_gateway.specs.Rows.{after_commas, elements}
 use Rattle.otap_gateway.proofs.rows.push_more.Given as goal
 
 abbrev pub invariant-elements : goal.invariant-elements
-invariant-elements l = l.to.items ++ behind_commas l.base (elements l.rest) ≡ l.fn.to.items ++ behind_commas l.base (elements l.part)
+invariant-elements l = l.to.items ++ after_commas l.base (elements l.rest) ≡ l.fn.to.items ++ after_commas l.base (elements l.part)
 
 abbrev pub decreases-elements : goal.decreases-elements
 decreases-elements l = length l.rest

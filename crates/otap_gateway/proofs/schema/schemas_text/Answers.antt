@@ -14,6 +14,6 @@ payloads-preserved c =
     record {
       front = kept.front ++ payload ∷ [];
       whole = front_more c.into_iter-payload-iterator.result kept.front c.payloads.payload-iterator payload c.next.new.self kept.whole c.in-Some.ensures.steps;
-      text = c.in_ok-push_payload.ensures.text ∙ ap (λ (text : List ℕ). text ++ payload_lines payload) kept.text ∙ flat_map_more payload_lines c.into_bytes-out.result.items kept.front payload;
+      text = c.in_ok-push_payload.ensures.text ∙ ap (λ (text : List ℕ). text ++ payload_lines payload) kept.text ∙ flat_map_more payload_lines c.push_head_line.new.to.items kept.front payload;
       well = AllByRecursion-append (λ (p : PayloadContent). BeginsWell p.bytes) kept.front (payload ∷ []) kept.well (c.in_ok-push_payload.ensures.well, tt);
     }

@@ -1,0 +1,47 @@
+-- Words are those of one job at most.
+use Rattle.std.proofs.Common.{◌≡◌, ℕ, List, [], ◌∷◌, Option, Some, Result, refl, sym, ap, ◌∙◌, subst}
+use Rattle.std.specs.Prelude.{find}
+use Rattle.std.specs.Str.{bytes_eq}
+use lib.Pointwise.{pointwise}
+use Rattle.otlp_model.specs.declared.request.Signal.TheVariants.{Traces, Logs, Metrics}
+use Rattle.otap_gateway.specs.declared.command.Command.{Command}
+use Rattle.otap_gateway.specs.declared.command.Command.TheVariants.{List as Listing, Tidy, Schema, Show, Decode, Status, Replay}
+use Rattle.otap_gateway.specs.declared.command.Served.TheVariants as served
+use Rattle.otap_gateway.specs.declared.stop.Stop.{Stop}
+use Rattle.otap_gateway.specs.declared.stop.Tally.{Tally}
+use Rattle.otap_gateway.specs.Commands.{words_of}
+use Rattle.otap_gateway.specs.Runs.{World, Leaves, Stops, Faults, Runs, status_of}
+
+jobs : List Command
+jobs = Listing ∷ Tidy Traces ∷ Tidy Logs ∷ Tidy Metrics ∷ Schema Traces ∷ Schema Logs ∷ Schema Metrics ∷ Show Traces ∷ Show Logs ∷ Show Metrics
+    ∷ Decode served.Logs ∷ Status served.Logs ∷ Replay served.Logs ∷ []
+
+-- the first job that has the words
+named : List (List ℕ) → Option Command
+named words = find (λ job. pointwise bytes_eq words (words_of job)) jobs
+
+is_named : (job : Command) → named (words_of job) ≡ Some job
+unfolding jobs named
+is_named Listing = refl
+is_named (Tidy Traces) = refl
+is_named (Tidy Logs) = refl
+is_named (Tidy Metrics) = refl
+is_named (Schema Traces) = refl
+is_named (Schema Logs) = refl
+is_named (Schema Metrics) = refl
+is_named (Show Traces) = refl
+is_named (Show Logs) = refl
+is_named (Show Metrics) = refl
+is_named (Decode served.Logs) = refl
+is_named (Status served.Logs) = refl
+is_named (Replay served.Logs) = refl
+
+pub one_job : (a b : Command) → words_of a ≡ words_of b → a ≡ b
+one_job a b is = let same : Some a ≡ Some b = sym (is_named a) ∙ ap named is ∙ is_named b in cc
+
+-- a run for a job is one for its words
+pub runs_named : (words : List (List ℕ)) (a : Command) (old new : World) (status : ℕ) (answer : Result Tally Stop) → words ≡ words_of a → status ≡ status_of answer
+    → Leaves a old.left old.sinks new.sinks answer → Stops a old new answer → Faults old new answer → (b : Command) → words ≡ words_of b → Runs b old new status
+runs_named words a old new status answer named same leaves stops faults b named' =
+    subst (λ (job : Command). Runs job old new status) (one_job a b (sym named ∙ named'))
+    (record { answer = answer; same = same; leaves = leaves; stops = stops; faults = faults })

@@ -1,0 +1,101 @@
+-- The texts of the jobs of a receiver: `decode`, `status` and `replay`.
+use Rattle.std.specs.Prelude.{◌≡◌, ℕ, suc, ℤ, pos, negsuc, List, [], ◌∷◌, ◌++◌, length, codes, ◌==◌, ◌||◌, if◌then◌else◌, true}
+use Rattle.std.specs.Fmt.{decimal, signed_decimal}
+use Rattle.std.specs.declared.option.Option.{Option}
+use Rattle.std.specs.declared.option.Option.TheVariants.{Some, None}
+use Rattle.otlp_codec.specs.Requests.{canon_request}
+use Rattle.otlp_model.specs.Telemetry.{telemetry}
+use Rattle.otap_capture.specs.Capture.{Frame, message_frame, reset_frame}
+use Rattle.otap_capture.specs.Statuses.{StatusContent, canon_status}
+use Rattle.otap_consume.specs.declared.refusal.Refusal.{Refusal}
+use Rattle.otap_consume.specs.declared.taken.Taken.{Taken}
+use Rattle.otap_consume.specs.declared.taken.Taken.TheVariants.{Accepted, Refused, Reset}
+use Rattle.otap_consume.specs.LogsMeaning.{logs_meaning}
+use Rattle.otap_consume.specs.Meanings.{Meaning}
+use Rattle.otap_consume.specs.Outcomes.{Outcome}
+use Rattle.otap_consume.specs.Receivers.{taken_of}
+use Rattle.otap_consume.specs.Receiving.{ReceivedAfter, Received}
+use Rattle.otap_consume.specs.Segments.{SegmentIn, StandsFor}
+use Rattle.otap_gateway.specs.declared.command.Served.{Served}
+use Rattle.otap_gateway.specs.declared.command.Served.TheVariants as served
+use Rattle.otap_gateway.specs.Causes.{cause_name}
+use Rattle.otap_gateway.specs.Lines.{reset_line, batch_head, refused_line, or_dash, line_feed, printed, refuses}
+use Rattle.otap_gateway.specs.Reply.{ReplyText}
+
+-- what the tables of a signal mean
+abbrev pub meaning_of : Served → Meaning
+meaning_of served.Logs = logs_meaning
+
+-- ---- what each job prints of what a frame gave
+
+abbrev pub line_of : ℕ → Refusal → List ℕ
+line_of number refusal = refused_line number refusal.id refusal.stage (cause_name refusal.cause) refusal.payload
+
+-- `decode`: the canonical request of a batch
+abbrev pub decoded : ℕ → Taken → ReplyText
+decoded number (Accepted id request rows tree) = printed (message_frame (canon_request request))
+decoded number (Refused refusal) = refuses (line_of number refusal)
+decoded number Reset = printed reset_frame
+
+-- `replay`: a line with the items of the request, the row weight and the tree weight
+abbrev pub weights_text : ℕ → ℕ → List ℕ
+weights_text rows tree = codes " rows " ++ decimal rows ++ codes " weight " ++ decimal tree ++ line_feed
+
+abbrev pub replay_line : ℕ → ℤ → ℕ → ℕ → ℕ → List ℕ
+replay_line number id items rows tree = batch_head number (signed_decimal id) ++ codes " accepted items " ++ decimal items ++ weights_text rows tree
+
+abbrev pub replayed : ℕ → Taken → ReplyText
+replayed number (Accepted id request rows tree) = printed (replay_line number id (length (telemetry request)) rows tree)
+replayed number (Refused refusal) = refuses (line_of number refusal)
+replayed number Reset = printed (reset_line number)
+
+-- `status`: the status of a batch. The codes are those of gRPC: ABORTED, RESOURCE_EXHAUSTED and INVALID_ARGUMENT
+abbrev pub code_of : ℕ → ℤ
+code_of stage = if stage == 0 then pos 10 else (if stage == 4 || stage == 6 then pos 8 else pos 3)
+
+-- the message: what the refusal's line says from its stage on
+abbrev pub refusal_text : ℕ → List ℕ → Option ℤ → List ℕ
+refusal_text stage cause payload = codes "stage " ++ decimal stage ++ codes " " ++ cause ++ codes " payload " ++ or_dash payload
+
+abbrev pub id_or_less : Option ℤ → ℤ
+id_or_less (Some id) = id
+id_or_less None = negsuc 0
+
+abbrev pub status_of : Refusal → StatusContent
+status_of refusal = record {
+  id = id_or_less refusal.id;
+  code = code_of refusal.stage;
+  message = refusal_text refusal.stage (cause_name refusal.cause) refusal.payload;
+}
+
+abbrev pub fine_status : ℤ → StatusContent
+fine_status id = record { id = id; code = pos 0; message = [] }
+
+abbrev pub statused : ℕ → Taken → ReplyText
+statused number (Accepted id request rows tree) = printed (message_frame (canon_status (fine_status id)))
+statused number (Refused refusal) = record { out = message_frame (canon_status (status_of refusal)); err = line_of number refusal; refused = true }
+statused number Reset = printed reset_frame
+
+-- ---- the replies to the frames of a capture
+
+-- the texts of outcomes, which are counted from a number on
+abbrev pub told : Meaning → (ℕ → Taken → ReplyText) → ℕ → List Outcome → List ReplyText
+told m text number [] = []
+told m text number (outcome ∷ outcomes) = text number (taken_of m outcome) ∷ told m text (suc number) outcomes
+
+-- WHAT A JOB REPLIES TO A FRAME after these: the text of what the frame gives a receiver after what those gave it, by outcomes
+-- that gave the replies so far
+pub record Tells (m : Meaning) (text : ℕ → Taken → ReplyText) (frames : List Frame) (replies : List ReplyText) (frame : Frame) (reply : ReplyText) : Type 0 where
+  pub outcomes : List Outcome
+  pub before : Received m frames outcomes
+  pub so_far : replies ≡ told m text 0 outcomes
+  pub outcome : Outcome
+  pub gives : ReceivedAfter m outcomes frame outcome
+  pub says : reply ≡ text (length frames) (taken_of m outcome)
+
+-- the frames and the replies that a receiver stands for
+pub record HasTold (m : Meaning) (text : ℕ → Taken → ReplyText) (s : SegmentIn) (frames : List Frame) (replies : List ReplyText) : Type 0 where
+  pub outcomes : List Outcome
+  pub before : Received m frames outcomes
+  pub so_far : replies ≡ told m text 0 outcomes
+  pub stands : StandsFor m.signal outcomes s

@@ -1,0 +1,62 @@
+//! `decode`: the request of each batch.
+ghost use Rattle.std.specs.Prelude.{◌≡◌, IfOk};
+ghost use Rattle.otap_capture.specs.Capture.{frame_of};
+ghost use Rattle.otap_consume.specs.Receivers.{IsSound};
+ghost use Rattle.otap_consume.specs.Segments.{IsNew};
+ghost use Rattle.otap_gateway.specs.declared.command.Command.TheVariants as command;
+ghost use Rattle.otap_gateway.specs.Receptions.{decoded, meaning_of, HasTold};
+
+use crate::job::Job;
+use crate::receiving::{Serves, refused};
+use crate::reply::Reply;
+use otap_capture::Frame;
+use otap_consume::{Receiver, Taken};
+use otlp_codec::put_request;
+use otlp_messages::Backward;
+use std::alloc::{AllocError, Global};
+
+/// The job `decode` of a signal.
+#[derive(Drop)]
+pub(crate) struct Decoder<T> {
+    receiver: Receiver,
+    telemetry: T,
+}
+
+impl<T: Serves + Drop> Decoder<T> {
+    pub(crate) fn new(alloc: Global, telemetry: T) -> Result<Decoder<T>, AllocError>
+        ensures { IfOk result (λ decoder. IsNew T.meaning.signal decoder.receiver) }
+    {
+        let receiver = Receiver::new(alloc, T::signal())?;
+        Ok(Decoder {
+            receiver,
+            telemetry,
+        })
+    }
+}
+
+impl<T: Serves> Job for Decoder<T> {
+    ghost command = { λ s. command.Decode T.served };
+
+    ghost stands = { λ s. HasTold (meaning_of T.served) decoded s.receiver };
+
+    fn step(&mut self, alloc: Global, number: u64, frame: &Frame<'_>) -> Result<Reply, AllocError> {
+        let taken = self.receiver.take::<T>(frame)?;
+        decode(alloc, number, taken)
+    }
+}
+
+// The reply to what a frame gave.
+fn decode(alloc: Global, number: u64, taken: Taken) -> Result<Reply, AllocError>
+    requires { IsSound taken }
+    ensures { IfOk result (λ reply. reply ≡ decoded number taken) }
+{
+    match taken {
+        Taken::Accepted { request, .. } => {
+            let mut spelling = Backward::new(alloc);
+            put_request(&mut spelling, &request)?;
+            Reply::message(alloc, spelling)
+        }
+        Taken::Refused(refusal) => refused(alloc, number, refusal),
+        Taken::Reset => Reply::reset(alloc),
+    }
+}

@@ -1,0 +1,46 @@
+//! What the jobs of a receiver share.
+ghost use Rattle.std.specs.Prelude.{◌≡◌, IfOk};
+ghost use Rattle.otap_capture.specs.Capture.{Frame};
+ghost use Rattle.otap_consume.specs.declared.taken.Taken.{Taken};
+ghost use Rattle.otap_consume.specs.Receivers.{Receives};
+ghost use Rattle.otap_consume.specs.Segments.{SegmentIn};
+ghost use Rattle.otap_gateway.specs.declared.command.Served.{Served};
+ghost use Rattle.otap_gateway.specs.declared.command.Served.TheVariants as served;
+ghost use Rattle.otap_gateway.specs.Lines.{refuses};
+ghost use Rattle.otap_gateway.specs.Receptions.{line_of, meaning_of};
+
+use crate::causes::cause_name;
+use crate::lines::refused_line;
+use crate::reply::Reply;
+use otap_consume::{Logs, Refusal, Telemetry};
+use std::alloc::{AllocError, Global};
+
+/// A signal that the jobs of a receiver serve: its tables mean what the texts say of them.
+pub(crate) trait Serves: Telemetry {
+    ghost served: { Served };
+
+    ghost of_signal: { Self.meaning.signal ≡ (meaning_of served).signal };
+
+    ghost receives: { (old : SegmentIn) (frame : Frame) (new : SegmentIn) (taken : Taken)
+        → Receives Self.meaning old frame new taken → Receives (meaning_of served) old frame new taken };
+}
+
+impl Serves for Logs {
+    ghost use Rattle.std.specs.Prelude.{refl};
+
+    ghost served = { served.Logs };
+
+    ghost of_signal = { refl };
+
+    ghost receives = { λ old frame new taken receives. receives };
+}
+
+/// The reply to a frame that is refused.
+pub(crate) fn refused(alloc: Global, number: u64, refusal: Refusal) -> Result<Reply, AllocError>
+    ensures { IfOk result (λ reply. reply ≡ refuses (line_of number refusal)) }
+{
+    let payload = refusal.payload.map(i64::from);
+    let cause = cause_name(refusal.cause)?;
+    let line = refused_line(alloc, number, refusal.id, refusal.stage, cause, payload)?;
+    Ok(Reply::refusal(alloc, line))
+}

@@ -1,0 +1,110 @@
+//! `status`: what a Collector replies to each batch.
+ghost use Rattle.std.specs.Prelude.{◌≡◌, ◌≤◌, IfOk, length, string_bytes};
+ghost use Rattle.otap_capture.specs.Capture.{longest_frame, message_frame};
+ghost use Rattle.otap_consume.specs.declared.taken.Taken.TheVariants as taken;
+ghost use Rattle.otap_consume.specs.Segments.{IsNew};
+ghost use Rattle.otap_gateway.specs.declared.command.Command.TheVariants as command;
+ghost use Rattle.otap_gateway.specs.Receptions.{code_of, id_or_less, meaning_of, refusal_text, statused, HasTold};
+
+use crate::causes::cause_name;
+use crate::job::Job;
+use crate::lines::{or_dash, refused_line};
+use crate::receiving::Serves;
+use crate::reply::Reply;
+use otap_capture::{Frame, Status, write_status};
+use otap_consume::{Receiver, Refusal, Taken};
+use std::alloc::{AllocError, Global};
+
+/// The job `status` of a signal.
+#[derive(Drop)]
+pub(crate) struct StatusTeller<T> {
+    receiver: Receiver,
+    telemetry: T,
+}
+
+impl<T: Serves + Drop> StatusTeller<T> {
+    pub(crate) fn new(alloc: Global, telemetry: T) -> Result<StatusTeller<T>, AllocError>
+        ensures { IfOk result (λ teller. IsNew T.meaning.signal teller.receiver) }
+    {
+        let receiver = Receiver::new(alloc, T::signal())?;
+        Ok(StatusTeller {
+            receiver,
+            telemetry,
+        })
+    }
+}
+
+impl<T: Serves> Job for StatusTeller<T> {
+    ghost command = { λ s. command.Status T.served };
+
+    ghost stands = { λ s. HasTold (meaning_of T.served) statused s.receiver };
+
+    fn step(&mut self, alloc: Global, number: u64, frame: &Frame<'_>) -> Result<Reply, AllocError> {
+        let taken = self.receiver.take::<T>(frame)?;
+        tell(alloc, number, taken)
+    }
+}
+
+// The reply to what a frame gave.
+fn tell(alloc: Global, number: u64, taken: Taken) -> Result<Reply, AllocError>
+    ensures { IfOk result (λ reply. reply ≡ statused number taken) }
+{
+    match taken {
+        Taken::Accepted { id, .. } => {
+            let status = Status {
+                id,
+                code: 0,
+                message: "",
+            };
+            Reply::status(alloc, &status)
+        }
+        Taken::Refused(refusal) => refuse(alloc, number, refusal),
+        Taken::Reset => Reply::reset(alloc),
+    }
+}
+
+// The status of a refused batch, beside the line that names the same cause.
+fn refuse(alloc: Global, number: u64, refusal: Refusal) -> Result<Reply, AllocError>
+    ensures { IfOk result (λ reply. reply ≡ statused number (taken.Refused refusal)) }
+{
+    let payload = refusal.payload.map(i64::from);
+    let cause = cause_name(refusal.cause)?;
+    let message = refusal_text(alloc, refusal.stage, cause, payload)?;
+    let line = refused_line(alloc, number, refusal.id, refusal.stage, cause, payload)?;
+    let status = Status {
+        id: id_or_less(refusal.id),
+        code: code_of(refusal.stage),
+        message: message.as_str(),
+    };
+    Ok(Reply::status(alloc, &status)?.refusing(line))
+}
+
+fn id_or_less(id: Option<i64>) -> i64
+    ensures { result ≡ id_or_less id }
+{
+    id.unwrap_or(-1)
+}
+
+// The code of gRPC for a stage.
+fn code_of(stage: u8) -> i32
+    ensures { result ≡ code_of stage }
+{
+    match stage {
+        0 => 10,
+        4 | 6 => 8,
+        _ => 3,
+    }
+}
+
+// What the line of a refusal says from its stage on.
+fn refusal_text(
+    alloc: Global,
+    stage: u8,
+    cause: &str,
+    payload: Option<i64>,
+) -> Result<String, AllocError>
+    ensures { IfOk result (λ text. string_bytes text ≡ refusal_text stage cause.now payload) }
+{
+    let payload = or_dash(alloc, payload)?;
+    Ok(format!(in alloc; "stage {stage} {cause} payload {payload}")?)
+}
