@@ -5,8 +5,8 @@ use Rattle.std.specs.Str.{is_utf8}
 use Rattle.std.proofs.lemmas.Bool.{cases_eq, cases_lt, cases_Bool, eq-eqb, ne_eqb, false≢true}
 use Rattle.std.proofs.lemmas.Str.{IsUtf8-from_is_utf8, is_utf8-from_IsUtf8}
 use Rattle.otlp_messages.specs.declared.messages.Message.{Message}
-use Rattle.otlp_messages.specs.declared.messages.Kind.{Kind}
-use Rattle.otlp_messages.specs.declared.messages.Kind.TheVariants.{Unknown, Varint, Fixed64, Fixed32, Packed64, Text, Octets, Id, Embedded, Member, Refused}
+use Rattle.otlp_messages.specs.declared.messages.FieldKind.{FieldKind}
+use Rattle.otlp_messages.specs.declared.messages.FieldKind.TheVariants.{Unknown, Varint, Fixed64, Fixed32, Packed64, Text, Octets, Id, Embedded, Member, Refused}
 use Rattle.otlp_messages.specs.declared.messages.Defect.{Defect}
 use Rattle.otlp_messages.specs.declared.messages.Defect.TheVariants.{BadMessage, Repeated, BadUtf8, BadLength, Unsupported, TooDeep}
 use Rattle.otlp_wire.specs.declared.parts.WireError.{WireError}
@@ -20,10 +20,10 @@ use Rattle.otlp_messages.specs.Fine.{FinePart, FineValue, ValueStands}
 use Rattle.otlp_messages.proofs.Steps.{marked, count-append, count-one, count-last, AllByRecursion-append, AllFine, value_stands, fine_of, value_is_shorter}
 
 -- bytes of a kind have no defect, or one
-PartDecided : Kind → ℕ → List ℕ → Type 0
+PartDecided : FieldKind → ℕ → List ℕ → Type 0
 PartDecided k l part = FinePart k l part ⊎ ((e : Defect) × ValueStands k l (wire.Bytes part) e)
 
-part_decided : (k : Kind) (l : ℕ) (part : List ℕ) → ((next : Message) (deep : ℕ) → IsDecided next deep part) → PartDecided k l part
+part_decided : (k : FieldKind) (l : ℕ) (part : List ℕ) → ((next : Message) (deep : ℕ) → IsDecided next deep part) → PartDecided k l part
 unfolding PartDecided
 part_decided Unknown l part inner = inl tt
 part_decided Octets l part inner = inl tt
@@ -48,10 +48,10 @@ part_decided (Member m) (suc l) part inner = elim (inner m l) [ inl fine ↦ inl
 part_decided Refused l part inner = inr (Unsupported, inl (inr refl))
 
 -- so has a value
-ValueDecided : Kind → ℕ → FieldValue → Type 0
+ValueDecided : FieldKind → ℕ → FieldValue → Type 0
 ValueDecided k l v = FineValue k l v ⊎ ((e : Defect) × ValueStands k l v e)
 
-value_decided : (k : Kind) (l : ℕ) (v : FieldValue) → ((part : List ℕ) → v ≡ wire.Bytes part → (next : Message) (deep : ℕ) → IsDecided next deep part) → ValueDecided k l v
+value_decided : (k : FieldKind) (l : ℕ) (v : FieldValue) → ((part : List ℕ) → v ≡ wire.Bytes part → (next : Message) (deep : ℕ) → IsDecided next deep part) → ValueDecided k l v
 unfolding ValueDecided PartDecided
 value_decided k l (wire.Varint n) inner = elim (cases_Bool (has_type k 0)) [ inl has ↦ inl has | inr other ↦ inr (BadMessage, (refl, other)) ]
 value_decided k l (wire.Fixed64 n) inner = elim (cases_Bool (has_type k 1)) [ inl has ↦ inl has | inr other ↦ inr (BadMessage, (refl, other)) ]

@@ -6,8 +6,8 @@ use Rattle.std.specs.Str.{is_utf8}
 use Rattle.std.proofs.lemmas.Bool.{cases_eq, cases_Bool, false≢true, eq-eqb, ne_eqb}
 use Rattle.std.proofs.lemmas.Str.{IsUtf8-nil, IsUtf8-from_is_utf8, is_utf8-from_IsUtf8}
 use Rattle.otlp_messages.specs.declared.messages.Message.{Message}
-use Rattle.otlp_messages.specs.declared.messages.Kind.{Kind}
-use Rattle.otlp_messages.specs.declared.messages.Kind.TheVariants.{Unknown, Varint, Fixed64, Fixed32, Packed64, Text, Octets, Id, Embedded, Member, Refused}
+use Rattle.otlp_messages.specs.declared.messages.FieldKind.{FieldKind}
+use Rattle.otlp_messages.specs.declared.messages.FieldKind.TheVariants.{Unknown, Varint, Fixed64, Fixed32, Packed64, Text, Octets, Id, Embedded, Member, Refused}
 use Rattle.otlp_messages.specs.declared.messages.Defect.{Defect}
 use Rattle.otlp_messages.specs.declared.messages.Defect.TheVariants.{BadMessage, BadUtf8, BadLength, Unsupported, TooDeep}
 use Rattle.otlp_wire.specs.declared.parts.WireError.{WireError}
@@ -21,14 +21,14 @@ use Rattle.otlp_messages.specs.Rows.{only, said, bytes_in, parts_of}
 use Rattle.otlp_messages.proofs.Steps.{AllFine, value_stands}
 
 -- no defect stands in the value
-None_in : Kind → ℕ → FieldValue → Type 0
+None_in : FieldKind → ℕ → FieldValue → Type 0
 None_in k l v = (e : Defect) → ValueStands k l v e → ⊥
 
-other_type : (k : Kind) (l : ℕ) (part : List ℕ) → has_type k 2 ≡ false → None_in k l (wire.Bytes part) → ⊥
+other_type : (k : FieldKind) (l : ℕ) (part : List ℕ) → has_type k 2 ≡ false → None_in k l (wire.Bytes part) → ⊥
 unfolding None_in
 other_type k l part other none = none BadMessage (inl (inl (refl, other)))
 
-fine_part : (k : Kind) (l : ℕ) (part : List ℕ) → None_in k l (wire.Bytes part) → FinePart k l part
+fine_part : (k : FieldKind) (l : ℕ) (part : List ℕ) → None_in k l (wire.Bytes part) → FinePart k l part
 unfolding None_in
 fine_part Unknown l part none = tt
 fine_part Octets l part none = tt
@@ -52,10 +52,10 @@ fine_part Varint l part none = absurd (other_type Varint l part refl none)
 fine_part Fixed64 l part none = absurd (other_type Fixed64 l part refl none)
 fine_part Fixed32 l part none = absurd (other_type Fixed32 l part refl none)
 
-fine_other : (k : Kind) (t : ℕ) → (has_type k t ≡ false → ⊥) → has_type k t ≡ true
+fine_other : (k : FieldKind) (t : ℕ) → (has_type k t ≡ false → ⊥) → has_type k t ≡ true
 fine_other k t some = elim (cases_Bool (has_type k t)) [ inl has ↦ has | inr has_not ↦ absurd (some has_not) ]
 
-fine_value : (k : Kind) (l : ℕ) (v : FieldValue) → None_in k l v → FineValue k l v
+fine_value : (k : FieldKind) (l : ℕ) (v : FieldValue) → None_in k l v → FineValue k l v
 unfolding None_in
 fine_value k l (wire.Varint n) none = fine_other k 0 (λ h. none BadMessage (refl, h))
 fine_value k l (wire.Fixed64 n) none = fine_other k 1 (λ h. none BadMessage (refl, h))
@@ -105,10 +105,10 @@ texts l old (wire.Fixed32 n ∷ vs) text fine = texts l old vs text fine.1
 
 pub text_said : (m : Message) (l n : ℕ) (bytes : List ℕ) → kind_of m n ≡ Text → IsFine m l bytes → IsUtf8 (said n bytes_in [] bytes)
 text_said m l n bytes is fine =
-    texts l [] (only n (fields_of bytes)) IsUtf8-nil (subst (λ (k : Kind). AllByRecursion (FineValue k l) (only n (fields_of bytes))) is (fine_only m l n bytes fine))
+    texts l [] (only n (fields_of bytes)) IsUtf8-nil (subst (λ (k : FieldKind). AllByRecursion (FineValue k l) (only n (fields_of bytes))) is (fine_only m l n bytes fine))
 
 -- the messages of a number
-pub parts_fine : (k : Kind) (l : ℕ) (vs : List FieldValue) → AllByRecursion (FineValue k l) vs → AllByRecursion (FinePart k l) (parts_of vs)
+pub parts_fine : (k : FieldKind) (l : ℕ) (vs : List FieldValue) → AllByRecursion (FineValue k l) vs → AllByRecursion (FinePart k l) (parts_of vs)
 parts_fine k l [] fine = tt
 parts_fine k l (wire.Bytes part ∷ vs) fine = (fine.0, parts_fine k l vs fine.1)
 parts_fine k l (wire.Varint n ∷ vs) fine = parts_fine k l vs fine.1

@@ -8,7 +8,7 @@ use Rattle.std.proofs.lemmas.Int.{to_z-of_z}
 use Rattle.byteorder.specs.Endian.{little_bytes}
 use Rattle.byteorder.specs.Numbers.{little_number-reads_back, length-bytes_low_first}
 use Rattle.otlp_messages.specs.declared.messages.Message.{Message}
-use Rattle.otlp_messages.specs.declared.messages.Kind.TheVariants as kinds
+use Rattle.otlp_messages.specs.declared.messages.FieldKind.TheVariants as kinds
 use Rattle.otlp_wire.specs.Wire.{Fixed64}
 use Rattle.otlp_messages.specs.Table.{kind_of}
 use Rattle.otlp_messages.specs.Rows.{numbers, packed_in, optional_in, sfixed64_in}

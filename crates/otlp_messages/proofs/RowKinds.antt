@@ -6,7 +6,7 @@ use Rattle.std.specs.List.{AllByRecursion}
 use Rattle.std.proofs.lemmas.Bool.{cases_eq, ne_eqb, eq-eqb}
 use Rattle.std.proofs.lemmas.Int.{to_z-of_z}
 use Rattle.otlp_messages.specs.declared.messages.Message.{Message}
-use Rattle.otlp_messages.specs.declared.messages.Kind.TheVariants as kinds
+use Rattle.otlp_messages.specs.declared.messages.FieldKind.TheVariants as kinds
 use Rattle.otlp_wire.specs.Wire.{FieldValue, Varint, Fixed64, Bytes, Fixed32, Fits, spelling}
 use Rattle.otlp_messages.specs.Table.{kind_of, mark_of}
 use Rattle.otlp_messages.specs.Fine.{FinePart, FineValue}

@@ -1,13 +1,14 @@
 -- What a loop over the fields of a message keeps.
-use Rattle.std.proofs.Common.{◌≡◌, ◌≢◌, ℕ, zero, suc, ◌+◌, ◌-◌, sub-one, Result, Ok, Err, IfErr, ◌<◌, ◌≤◌, List, [], ◌∷◌, ◌++◌, length, get_or, set, length-set, append_assoc, append-nil, add-zero, replicate, Bool, true, false, cond, Option, Some, None, count_by, refl, sym, ap, ◌∙◌, subst, arith, inl, inr}
+use Rattle.std.proofs.Common.{◌≡◌, ◌≢◌, ℕ, zero, suc, ◌+◌, ◌-◌, sub-one, Result, Ok, Err, IfErr, ◌<◌, ◌≤◌, List, [], ◌∷◌, ◌++◌, length, get_or, set, length-set, append_assoc, append-nil, add-zero, replicate}
+use Rattle.std.proofs.Common.{Bool, true, false, cond, Option, Some, None, count_by, refl, sym, ap, ◌∙◌, subst, arith, inl, inr}
 use Rattle.std.specs.Prelude.{slice_index_or, ◌==◌, not}
 use Rattle.std.specs.List.{AllByRecursion}
 use Rattle.std.proofs.lemmas.Bool.{cases_eq, false≢true, ne_eqb, eq-eqb}
 use Rattle.std.proofs.lemmas.List.{get_or-set_same, get_or-set_other}
 use Rattle.std.proofs.lemmas.List.Sums.{sum_by-append}
 use Rattle.otlp_messages.specs.declared.messages.Message.{Message}
-use Rattle.otlp_messages.specs.declared.messages.Kind.{Kind}
-use Rattle.otlp_messages.specs.declared.messages.Kind.TheVariants.{Unknown, Varint, Fixed64, Fixed32, Packed64, Text, Octets, Id, Embedded, Member, Refused}
+use Rattle.otlp_messages.specs.declared.messages.FieldKind.{FieldKind}
+use Rattle.otlp_messages.specs.declared.messages.FieldKind.TheVariants.{Unknown, Varint, Fixed64, Fixed32, Packed64, Text, Octets, Id, Embedded, Member, Refused}
 use Rattle.otlp_messages.specs.declared.table.TheConstants.{MARKS}
 use Rattle.otlp_messages.specs.declared.messages.Defect.{Defect}
 use Rattle.otlp_messages.specs.declared.messages.Defect.TheVariants.{Repeated}
@@ -134,7 +135,7 @@ checked_more m l bytes rest new seen f h first end few fresh fine =
     }
 
 -- a value without a defect has none
-excluded_part : (k : Kind) (l : ℕ) (part : List ℕ) (e : Defect) → FinePart k l part → ValueStands k l (wire.Bytes part) e → ⊥
+excluded_part : (k : FieldKind) (l : ℕ) (part : List ℕ) (e : Defect) → FinePart k l part → ValueStands k l (wire.Bytes part) e → ⊥
 excluded_part Unknown l part e fine (inl (inl h)) = false≢true (sym h.1)
 excluded_part Unknown l part e fine (inl (inr h)) = h
 excluded_part Unknown l part e fine (inr h) = h
@@ -163,13 +164,13 @@ excluded_part Fixed64 l part e fine h = fine
 excluded_part Fixed32 l part e fine h = fine
 excluded_part Refused l part e fine h = fine
 
-pub excluded : (k : Kind) (l : ℕ) (v : FieldValue) (e : Defect) → FineValue k l v → ValueStands k l v e → ⊥
+pub excluded : (k : FieldKind) (l : ℕ) (v : FieldValue) (e : Defect) → FineValue k l v → ValueStands k l v e → ⊥
 excluded k l (wire.Varint n) e fine h = false≢true (sym h.1 ∙ fine)
 excluded k l (wire.Fixed64 n) e fine h = false≢true (sym h.1 ∙ fine)
 excluded k l (wire.Fixed32 n) e fine h = false≢true (sym h.1 ∙ fine)
 excluded k l (wire.Bytes part) e fine h = excluded_part k l part e fine h
 
-faults_stand : (k : Kind) (l : ℕ) (v : FieldValue) (e : Defect) → ValueFaults k l v e → ValueStands k l v e
+faults_stand : (k : FieldKind) (l : ℕ) (v : FieldValue) (e : Defect) → ValueFaults k l v e → ValueStands k l v e
 faults_stand k l (wire.Varint n) e h = h
 faults_stand k l (wire.Fixed64 n) e h = h
 faults_stand k l (wire.Fixed32 n) e h = h

@@ -1,8 +1,8 @@
 -- What can be wrong with the bytes of a message, by what the table says of their fields.
 use Rattle.std.specs.Prelude.{◌≡◌, ◌≢◌, ℕ, suc, ◌%◌, ◌<◌, List, ◌∷◌, ◌++◌, length, Option, Some, None, count_by, ◌==◌, ◌||◌, Bool, true, false, IsUtf8, ◌⊎◌}
 use Rattle.otlp_messages.specs.declared.messages.Message.{Message}
-use Rattle.otlp_messages.specs.declared.messages.Kind.{Kind}
-use Rattle.otlp_messages.specs.declared.messages.Kind.TheVariants.{Unknown, Varint, Fixed64, Fixed32, Packed64, Text, Id, Embedded, Member, Refused}
+use Rattle.otlp_messages.specs.declared.messages.FieldKind.{FieldKind}
+use Rattle.otlp_messages.specs.declared.messages.FieldKind.TheVariants.{Unknown, Varint, Fixed64, Fixed32, Packed64, Text, Id, Embedded, Member, Refused}
 use Rattle.otlp_messages.specs.declared.messages.Defect.{Defect}
 use Rattle.otlp_messages.specs.declared.messages.Defect.TheVariants.{BadMessage, Repeated, BadUtf8, BadLength, Unsupported, TooDeep}
 use Rattle.otlp_wire.specs.declared.parts.WireError.{WireError}
@@ -12,7 +12,7 @@ use Rattle.otlp_wire.specs.Fields.{fields_of, end_of}
 use Rattle.otlp_messages.specs.Table.{kind_of, mark_of}
 
 -- a field of the kind may have the wire type; an unknown field may have any
-abbrev pub has_type : Kind → ℕ → Bool
+abbrev pub has_type : FieldKind → ℕ → Bool
 has_type Unknown t = true
 has_type Varint t = t == 0
 has_type Fixed64 t = t == 1
@@ -21,7 +21,7 @@ has_type Packed64 t = t == 1 || t == 2
 has_type kind t = t == 2
 
 -- what is wrong with bytes of this kind, in a message below whose values this number of levels of members may stand
-abbrev pub PartFaults : Kind → ℕ → List ℕ → Defect → Type 0
+abbrev pub PartFaults : FieldKind → ℕ → List ℕ → Defect → Type 0
 PartFaults Packed64 levels part e = (e ≡ BadMessage) × (length part % 8 ≢ 0)
 PartFaults Text levels part e = (e ≡ BadUtf8) × (IsUtf8 part → ⊥)
 PartFaults (Id size) levels part e = (e ≡ BadLength) × (length part ≢ 0) × (length part ≢ size)
@@ -30,12 +30,12 @@ PartFaults Refused levels part e = e ≡ Unsupported
 PartFaults kind levels part e = ⊥
 
 -- what is wrong with a value of this kind
-abbrev pub ValueFaults : Kind → ℕ → FieldValue → Defect → Type 0
+abbrev pub ValueFaults : FieldKind → ℕ → FieldValue → Defect → Type 0
 ValueFaults kind levels (wire.Bytes part) e = ((e ≡ BadMessage) × (has_type kind 2 ≡ false)) ⊎ PartFaults kind levels part e
 ValueFaults kind levels value e = (e ≡ BadMessage) × (has_type kind (wire_type value) ≡ false)
 
 -- the message that bytes of this kind are, and how many levels may stand below its values
-abbrev pub inside : Kind → ℕ → Option (Message × ℕ)
+abbrev pub inside : FieldKind → ℕ → Option (Message × ℕ)
 inside (Embedded message) levels = Some (message, levels)
 inside (Member message) (suc levels) = Some (message, levels)
 inside kind levels = None

@@ -2,8 +2,8 @@
 use Rattle.std.specs.Prelude.{◌≡◌, ℕ, suc, ◌%◌, ◌<◌, List, ◌++◌, length, slice_index_or, Bool, true, false, cond, Option, Some, None, count_by, ◌==◌, IsUtf8, ⊤, ◌⊎◌}
 use Rattle.std.specs.List.{AllByRecursion}
 use Rattle.otlp_messages.specs.declared.messages.Message.{Message}
-use Rattle.otlp_messages.specs.declared.messages.Kind.{Kind}
-use Rattle.otlp_messages.specs.declared.messages.Kind.TheVariants.{Unknown, Packed64, Text, Octets, Id, Embedded, Member}
+use Rattle.otlp_messages.specs.declared.messages.FieldKind.{FieldKind}
+use Rattle.otlp_messages.specs.declared.messages.FieldKind.TheVariants.{Unknown, Packed64, Text, Octets, Id, Embedded, Member}
 use Rattle.otlp_messages.specs.declared.messages.Defect.{Defect}
 use Rattle.otlp_messages.specs.declared.table.TheConstants.{MARKS}
 use Rattle.otlp_wire.specs.Wire as wire
@@ -13,7 +13,7 @@ use Rattle.otlp_messages.specs.Table.{kind_of, mark_of}
 use Rattle.otlp_messages.specs.Defects.{has_type, ValueFaults, inside, Stands, IsFine}
 
 -- no defect stands in bytes of this kind
-abbrev pub FinePart : Kind → ℕ → List ℕ → Type 0
+abbrev pub FinePart : FieldKind → ℕ → List ℕ → Type 0
 FinePart Unknown levels part = ⊤
 FinePart Packed64 levels part = length part % 8 ≡ 0
 FinePart Text levels part = IsUtf8 part
@@ -24,7 +24,7 @@ FinePart (Member message) (suc levels) part = IsFine message levels part
 FinePart kind levels part = ⊥
 
 -- no defect stands in a value of this kind
-abbrev pub FineValue : Kind → ℕ → FieldValue → Type 0
+abbrev pub FineValue : FieldKind → ℕ → FieldValue → Type 0
 FineValue kind levels (wire.Bytes part) = FinePart kind levels part
 FineValue kind levels value = has_type kind (wire_type value) ≡ true
 
@@ -33,7 +33,7 @@ StandsIn None part e = ⊥
 StandsIn (Some message) part e = Stands message.0 message.1 part e
 
 -- the defect stands in the value, or in the message that the value is
-abbrev pub ValueStands : Kind → ℕ → FieldValue → Defect → Type 0
+abbrev pub ValueStands : FieldKind → ℕ → FieldValue → Defect → Type 0
 ValueStands kind levels (wire.Bytes part) e = ValueFaults kind levels (wire.Bytes part) e ⊎ StandsIn (inside kind levels) part e
 ValueStands kind levels value e = ValueFaults kind levels value e
 

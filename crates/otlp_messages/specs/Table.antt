@@ -33,23 +33,23 @@ use Rattle.otlp_messages.specs.declared.messages.Message.TheVariants.{
   Exemplar,
 }
 use Rattle.otlp_messages.specs.declared.messages.Row.{Row}
-use Rattle.otlp_messages.specs.declared.messages.Kind.{Kind}
-use Rattle.otlp_messages.specs.declared.messages.Kind.TheVariants.{Unknown, Varint, Fixed64, Fixed32, Packed64, Text, Octets, Id, Embedded, Member, Refused}
+use Rattle.otlp_messages.specs.declared.messages.FieldKind.{FieldKind}
+use Rattle.otlp_messages.specs.declared.messages.FieldKind.TheVariants.{Unknown, Varint, Fixed64, Fixed32, Packed64, Text, Octets, Id, Embedded, Member, Refused}
 
 -- at most one field of a message has the same mark, but any number may have the mark 0
 pub record Line : Type 0 where
   pub number : ℕ
   pub mark : ℕ
-  pub kind : Kind
+  pub kind : FieldKind
 
 -- a singular field, a repeated field, and a member of the oneof whose first member is `mark`
-abbrev pub once : ℕ → Kind → Line
+abbrev pub once : ℕ → FieldKind → Line
 once number kind = record { number = number; mark = number; kind = kind }
 
-abbrev pub many : ℕ → Kind → Line
+abbrev pub many : ℕ → FieldKind → Line
 many number kind = record { number = number; mark = 0; kind = kind }
 
-abbrev pub choice : ℕ → ℕ → Kind → Line
+abbrev pub choice : ℕ → ℕ → FieldKind → Line
 choice mark number kind = record { number = number; mark = mark; kind = kind }
 
 -- the message of a scope group's items
@@ -238,7 +238,7 @@ abbrev pub line_in : List Line → ℕ → Line
 line_in [] n = many n Unknown
 line_in (line ∷ lines) n = if n == line.number then line else line_in lines n
 
-abbrev pub kind_of : Message → ℕ → Kind
+abbrev pub kind_of : Message → ℕ → FieldKind
 kind_of message n = (line_in (lines_of message) n).kind
 
 abbrev pub mark_of : Message → ℕ → ℕ

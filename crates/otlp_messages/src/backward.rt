@@ -102,6 +102,9 @@ impl Backward {
         if value < 128 {
             return self.push(value as u8);
         }
+        if value < 128 * 128 {
+            return self.push_slice(&[(value % 128) as u8 + 128, (value / 128) as u8]);
+        }
         self.push_long_varint(value / 128)?;
         self.push((value % 128) as u8 + 128)
     }
@@ -119,9 +122,11 @@ impl Backward {
         ensures { result.items ≡ self }
     {
         let Backward { mut bytes, start } = self;
-        let len = bytes.len() - start;
-        move_to_front(bytes.as_mut_slice(), start);
-        bytes.truncate(len);
+        if start > 0 {
+            let len = bytes.len() - start;
+            move_to_front(bytes.as_mut_slice(), start);
+            bytes.truncate(len);
+        }
         bytes
     }
 }

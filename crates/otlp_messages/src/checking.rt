@@ -6,7 +6,7 @@ ghost use Rattle.otlp_wire.specs.Wire.{value_of};
 ghost use Rattle.otlp_messages.specs.Defects.{Stands, IsFine};
 ghost use Rattle.otlp_messages.specs.Fine.{FinePart, FineValue, ValueStands};
 
-use crate::messages::{Defect, Kind, Message};
+use crate::messages::{Defect, FieldKind, Message};
 use crate::table::{MARKS, row_of};
 use otlp_wire::{Fields, Wire};
 
@@ -38,15 +38,15 @@ pub fn check(message: Message, levels: u8, bytes: &[u8]) -> Result<(), Defect>
 
 /// Whether the value is of the kind.
 #[cycle(check)]
-fn check_value(kind: Kind, levels: u8, value: &Wire<'_>) -> Result<(), Defect>
+fn check_value(kind: FieldKind, levels: u8, value: &Wire<'_>) -> Result<(), Defect>
     ensures fine { OnOk result (FineValue kind levels (value_of value.now)) }
     ensures fault { IfErr result (ValueStands kind levels (value_of value.now)) }
 {
     match (value, kind) {
-        (_, Kind::Unknown)
-        | (Wire::Varint(_), Kind::Varint)
-        | (Wire::Fixed64(_), Kind::Fixed64 | Kind::Packed64)
-        | (Wire::Fixed32(_), Kind::Fixed32) => Ok(()),
+        (_, FieldKind::Unknown)
+        | (Wire::Varint(_), FieldKind::Varint)
+        | (Wire::Fixed64(_), FieldKind::Fixed64 | FieldKind::Packed64)
+        | (Wire::Fixed32(_), FieldKind::Fixed32) => Ok(()),
         (Wire::Bytes(part), kind) => check_part(kind, levels, part),
         _ => Err(Defect::BadMessage),
     }
@@ -54,23 +54,23 @@ fn check_value(kind: Kind, levels: u8, value: &Wire<'_>) -> Result<(), Defect>
 
 /// Whether the bytes are of the kind.
 #[cycle(check)]
-fn check_part(kind: Kind, levels: u8, part: &[u8]) -> Result<(), Defect>
+fn check_part(kind: FieldKind, levels: u8, part: &[u8]) -> Result<(), Defect>
     ensures fine { OnOk result (FinePart kind levels part.now) }
     ensures fault { IfErr result (ValueStands kind levels (wire.Bytes part.now)) }
 {
     match kind {
-        Kind::Unknown | Kind::Octets => Ok(()),
-        Kind::Varint | Kind::Fixed64 | Kind::Fixed32 => Err(Defect::BadMessage),
-        Kind::Packed64 if part.len() % 8 == 0 => Ok(()),
-        Kind::Packed64 => Err(Defect::BadMessage),
-        Kind::Text if is_text(part) => Ok(()),
-        Kind::Text => Err(Defect::BadUtf8),
-        Kind::Id(size) if part.is_empty() || part.len() == size => Ok(()),
-        Kind::Id(_) => Err(Defect::BadLength),
-        Kind::Embedded(message) => check(message, levels, part),
-        Kind::Member(_) if levels == 0 => Err(Defect::TooDeep),
-        Kind::Member(message) => check(message, levels - 1, part),
-        Kind::Refused => Err(Defect::Unsupported),
+        FieldKind::Unknown | FieldKind::Octets => Ok(()),
+        FieldKind::Varint | FieldKind::Fixed64 | FieldKind::Fixed32 => Err(Defect::BadMessage),
+        FieldKind::Packed64 if part.len() % 8 == 0 => Ok(()),
+        FieldKind::Packed64 => Err(Defect::BadMessage),
+        FieldKind::Text if is_text(part) => Ok(()),
+        FieldKind::Text => Err(Defect::BadUtf8),
+        FieldKind::Id(size) if part.is_empty() || part.len() == size => Ok(()),
+        FieldKind::Id(_) => Err(Defect::BadLength),
+        FieldKind::Embedded(message) => check(message, levels, part),
+        FieldKind::Member(_) if levels == 0 => Err(Defect::TooDeep),
+        FieldKind::Member(message) => check(message, levels - 1, part),
+        FieldKind::Refused => Err(Defect::Unsupported),
     }
 }
 

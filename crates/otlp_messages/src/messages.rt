@@ -50,7 +50,7 @@ pub enum Message {
 
 /// What a field holds.
 #[derive(Clone, Copy, Debug, PartialEq, Eq)]
-pub enum Kind {
+pub enum FieldKind {
     /// The message has no such field. It is passed over, with any wire type and any number of times.
     Unknown,
     /// Wire type 0: an integer, a bool or an enum.
@@ -79,7 +79,7 @@ pub enum Kind {
 /// What the table says of a field.
 #[derive(Clone, Copy, Debug, PartialEq, Eq)]
 pub struct Row {
-    pub kind: Kind,
+    pub kind: FieldKind,
     /// At most one field of a message may have this mark, which is below [`MARKS`](crate::MARKS). Any
     /// number of fields may have the mark 0.
     pub mark: usize,

@@ -74,12 +74,16 @@ impl Backward {
         Ok(())
     }
 
-    /// Writes the tag and the length of a field of wire type 2.
+    /// Writes the tag and the length of a field of wire type 2: mostly one byte each.
     #[inline]
+    #[tactic(auto, using(otlp_wire::proofs::Shortest::varint_small))]
     fn close_head(&mut self, number: u32, size: usize) -> Result<(), AllocError>
         requires { IsNumber number }
         ensures { OnOk result (self.new ≡ varint (8 * number + 2) ++ (varint size ++ self.old)) }
     {
+        if number < 16 && size < 128 {
+            return self.push_slice(&[8 * number as u8 + 2, size as u8]);
+        }
         self.push_varint(size as u64)?;
         self.push_varint(8 * u64::from(number) + 2)?;
         Ok(())

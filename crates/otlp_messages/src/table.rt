@@ -4,7 +4,7 @@ ghost use Rattle.std.specs.Prelude.{◌≡◌, ◌<◌};
 ghost use Rattle.otlp_messages.specs.Table as table;
 ghost use Rattle.otlp_messages.specs.Table.{row_in};
 
-use crate::messages::{Kind, Message, Of, Row};
+use crate::messages::{FieldKind, Message, Of, Row};
 use crate::metric_table::{
     exemplar, gauge, histogram, histogram_data_point, metric, number_data_point, sum, summary,
     summary_data_point, value_at_quantile,
@@ -62,14 +62,14 @@ fn item_of(of: Of) -> Message
 }
 
 /// A field that occurs once at most, as does any other with this mark.
-pub(crate) fn once(mark: usize, kind: Kind) -> Row
+pub(crate) fn once(mark: usize, kind: FieldKind) -> Row
     ensures { result ≡ record { kind = kind; mark = mark } }
 {
     Row { kind, mark }
 }
 
 /// A field that may occur any number of times.
-pub(crate) fn many(kind: Kind) -> Row
+pub(crate) fn many(kind: FieldKind) -> Row
     ensures { result ≡ record { kind = kind; mark = 0 } }
 {
     Row { kind, mark: 0 }
@@ -79,9 +79,9 @@ fn batch_arrow_records(number: u32) -> Row
     ensures { result ≡ row_in Message.BatchArrowRecords number }
 {
     match number {
-        1 => once(1, Kind::Varint),
-        2 => many(Kind::Embedded(Message::ArrowPayload)),
-        _ => many(Kind::Unknown),
+        1 => once(1, FieldKind::Varint),
+        2 => many(FieldKind::Embedded(Message::ArrowPayload)),
+        _ => many(FieldKind::Unknown),
     }
 }
 
@@ -89,10 +89,10 @@ fn arrow_payload(number: u32) -> Row
     ensures { result ≡ row_in Message.ArrowPayload number }
 {
     match number {
-        1 => once(1, Kind::Text),
-        2 => once(2, Kind::Varint),
-        3 => once(3, Kind::Octets),
-        _ => many(Kind::Unknown),
+        1 => once(1, FieldKind::Text),
+        2 => once(2, FieldKind::Varint),
+        3 => once(3, FieldKind::Octets),
+        _ => many(FieldKind::Unknown),
     }
 }
 
@@ -100,10 +100,10 @@ fn batch_status(number: u32) -> Row
     ensures { result ≡ row_in Message.BatchStatus number }
 {
     match number {
-        1 => once(1, Kind::Varint),
-        2 => once(2, Kind::Varint),
-        3 => once(3, Kind::Text),
-        _ => many(Kind::Unknown),
+        1 => once(1, FieldKind::Varint),
+        2 => once(2, FieldKind::Varint),
+        3 => once(3, FieldKind::Text),
+        _ => many(FieldKind::Unknown),
     }
 }
 
@@ -111,8 +111,8 @@ fn request(of: Of, number: u32) -> Row
     ensures { result ≡ row_in (Message.Request of) number }
 {
     match number {
-        1 => many(Kind::Embedded(Message::ResourceGroup(of))),
-        _ => many(Kind::Unknown),
+        1 => many(FieldKind::Embedded(Message::ResourceGroup(of))),
+        _ => many(FieldKind::Unknown),
     }
 }
 
@@ -120,10 +120,10 @@ fn resource_group(of: Of, number: u32) -> Row
     ensures { result ≡ row_in (Message.ResourceGroup of) number }
 {
     match number {
-        1 => once(1, Kind::Embedded(Message::Resource)),
-        2 => many(Kind::Embedded(Message::ScopeGroup(of))),
-        3 => once(3, Kind::Text),
-        _ => many(Kind::Unknown),
+        1 => once(1, FieldKind::Embedded(Message::Resource)),
+        2 => many(FieldKind::Embedded(Message::ScopeGroup(of))),
+        3 => once(3, FieldKind::Text),
+        _ => many(FieldKind::Unknown),
     }
 }
 
@@ -131,10 +131,10 @@ fn scope_group(of: Of, number: u32) -> Row
     ensures { result ≡ row_in (Message.ScopeGroup of) number }
 {
     match number {
-        1 => once(1, Kind::Embedded(Message::InstrumentationScope)),
-        2 => many(Kind::Embedded(item_of(of))),
-        3 => once(3, Kind::Text),
-        _ => many(Kind::Unknown),
+        1 => once(1, FieldKind::Embedded(Message::InstrumentationScope)),
+        2 => many(FieldKind::Embedded(item_of(of))),
+        3 => once(3, FieldKind::Text),
+        _ => many(FieldKind::Unknown),
     }
 }
 
@@ -142,9 +142,9 @@ fn resource(number: u32) -> Row
     ensures { result ≡ row_in Message.Resource number }
 {
     match number {
-        1 => many(Kind::Embedded(Message::KeyValue)),
-        2 => once(2, Kind::Varint),
-        _ => many(Kind::Unknown),
+        1 => many(FieldKind::Embedded(Message::KeyValue)),
+        2 => once(2, FieldKind::Varint),
+        _ => many(FieldKind::Unknown),
     }
 }
 
@@ -152,11 +152,11 @@ fn instrumentation_scope(number: u32) -> Row
     ensures { result ≡ row_in Message.InstrumentationScope number }
 {
     match number {
-        1 => once(1, Kind::Text),
-        2 => once(2, Kind::Text),
-        3 => many(Kind::Embedded(Message::KeyValue)),
-        4 => once(4, Kind::Varint),
-        _ => many(Kind::Unknown),
+        1 => once(1, FieldKind::Text),
+        2 => once(2, FieldKind::Text),
+        3 => many(FieldKind::Embedded(Message::KeyValue)),
+        4 => once(4, FieldKind::Varint),
+        _ => many(FieldKind::Unknown),
     }
 }
 
@@ -164,9 +164,9 @@ fn key_value(number: u32) -> Row
     ensures { result ≡ row_in Message.KeyValue number }
 {
     match number {
-        1 => once(1, Kind::Text),
-        2 => once(2, Kind::Embedded(Message::AnyValue)),
-        _ => many(Kind::Unknown),
+        1 => once(1, FieldKind::Text),
+        2 => once(2, FieldKind::Embedded(Message::AnyValue)),
+        _ => many(FieldKind::Unknown),
     }
 }
 
@@ -174,13 +174,13 @@ fn any_value(number: u32) -> Row
     ensures { result ≡ row_in Message.AnyValue number }
 {
     match number {
-        1 => once(1, Kind::Text),
-        2 | 3 => once(1, Kind::Varint),
-        4 => once(1, Kind::Fixed64),
-        5 => once(1, Kind::Embedded(Message::ArrayValue)),
-        6 => once(1, Kind::Embedded(Message::KeyValueList)),
-        7 => once(1, Kind::Octets),
-        _ => many(Kind::Unknown),
+        1 => once(1, FieldKind::Text),
+        2 | 3 => once(1, FieldKind::Varint),
+        4 => once(1, FieldKind::Fixed64),
+        5 => once(1, FieldKind::Embedded(Message::ArrayValue)),
+        6 => once(1, FieldKind::Embedded(Message::KeyValueList)),
+        7 => once(1, FieldKind::Octets),
+        _ => many(FieldKind::Unknown),
     }
 }
 
@@ -188,8 +188,8 @@ fn array_value(number: u32) -> Row
     ensures { result ≡ row_in Message.ArrayValue number }
 {
     match number {
-        1 => many(Kind::Member(Message::AnyValue)),
-        _ => many(Kind::Unknown),
+        1 => many(FieldKind::Member(Message::AnyValue)),
+        _ => many(FieldKind::Unknown),
     }
 }
 
@@ -197,8 +197,8 @@ fn key_value_list(number: u32) -> Row
     ensures { result ≡ row_in Message.KeyValueList number }
 {
     match number {
-        1 => many(Kind::Member(Message::KeyValue)),
-        _ => many(Kind::Unknown),
+        1 => many(FieldKind::Member(Message::KeyValue)),
+        _ => many(FieldKind::Unknown),
     }
 }
 
@@ -206,18 +206,18 @@ fn log_record(number: u32) -> Row
     ensures { result ≡ row_in Message.LogRecord number }
 {
     match number {
-        1 => once(1, Kind::Fixed64),
-        2 => once(2, Kind::Varint),
-        3 => once(3, Kind::Text),
-        5 => once(5, Kind::Embedded(Message::AnyValue)),
-        6 => many(Kind::Embedded(Message::KeyValue)),
-        7 => once(7, Kind::Varint),
-        8 => once(8, Kind::Fixed32),
-        9 => once(9, Kind::Id(16)),
-        10 => once(10, Kind::Id(8)),
-        11 => once(11, Kind::Fixed64),
-        12 => once(12, Kind::Text),
-        _ => many(Kind::Unknown),
+        1 => once(1, FieldKind::Fixed64),
+        2 => once(2, FieldKind::Varint),
+        3 => once(3, FieldKind::Text),
+        5 => once(5, FieldKind::Embedded(Message::AnyValue)),
+        6 => many(FieldKind::Embedded(Message::KeyValue)),
+        7 => once(7, FieldKind::Varint),
+        8 => once(8, FieldKind::Fixed32),
+        9 => once(9, FieldKind::Id(16)),
+        10 => once(10, FieldKind::Id(8)),
+        11 => once(11, FieldKind::Fixed64),
+        12 => once(12, FieldKind::Text),
+        _ => many(FieldKind::Unknown),
     }
 }
 
@@ -225,23 +225,23 @@ fn span(number: u32) -> Row
     ensures { result ≡ row_in Message.Span number }
 {
     match number {
-        1 => once(1, Kind::Id(16)),
-        2 => once(2, Kind::Id(8)),
-        3 => once(3, Kind::Text),
-        4 => once(4, Kind::Id(8)),
-        5 => once(5, Kind::Text),
-        6 => once(6, Kind::Varint),
-        7 => once(7, Kind::Fixed64),
-        8 => once(8, Kind::Fixed64),
-        9 => many(Kind::Embedded(Message::KeyValue)),
-        10 => once(10, Kind::Varint),
-        11 => many(Kind::Embedded(Message::Event)),
-        12 => once(12, Kind::Varint),
-        13 => many(Kind::Embedded(Message::Link)),
-        14 => once(14, Kind::Varint),
-        15 => once(15, Kind::Embedded(Message::Status)),
-        16 => once(16, Kind::Fixed32),
-        _ => many(Kind::Unknown),
+        1 => once(1, FieldKind::Id(16)),
+        2 => once(2, FieldKind::Id(8)),
+        3 => once(3, FieldKind::Text),
+        4 => once(4, FieldKind::Id(8)),
+        5 => once(5, FieldKind::Text),
+        6 => once(6, FieldKind::Varint),
+        7 => once(7, FieldKind::Fixed64),
+        8 => once(8, FieldKind::Fixed64),
+        9 => many(FieldKind::Embedded(Message::KeyValue)),
+        10 => once(10, FieldKind::Varint),
+        11 => many(FieldKind::Embedded(Message::Event)),
+        12 => once(12, FieldKind::Varint),
+        13 => many(FieldKind::Embedded(Message::Link)),
+        14 => once(14, FieldKind::Varint),
+        15 => once(15, FieldKind::Embedded(Message::Status)),
+        16 => once(16, FieldKind::Fixed32),
+        _ => many(FieldKind::Unknown),
     }
 }
 
@@ -249,11 +249,11 @@ fn event(number: u32) -> Row
     ensures { result ≡ row_in Message.Event number }
 {
     match number {
-        1 => once(1, Kind::Fixed64),
-        2 => once(2, Kind::Text),
-        3 => many(Kind::Embedded(Message::KeyValue)),
-        4 => once(4, Kind::Varint),
-        _ => many(Kind::Unknown),
+        1 => once(1, FieldKind::Fixed64),
+        2 => once(2, FieldKind::Text),
+        3 => many(FieldKind::Embedded(Message::KeyValue)),
+        4 => once(4, FieldKind::Varint),
+        _ => many(FieldKind::Unknown),
     }
 }
 
@@ -261,13 +261,13 @@ fn link(number: u32) -> Row
     ensures { result ≡ row_in Message.Link number }
 {
     match number {
-        1 => once(1, Kind::Id(16)),
-        2 => once(2, Kind::Id(8)),
-        3 => once(3, Kind::Text),
-        4 => many(Kind::Embedded(Message::KeyValue)),
-        5 => once(5, Kind::Varint),
-        6 => once(6, Kind::Fixed32),
-        _ => many(Kind::Unknown),
+        1 => once(1, FieldKind::Id(16)),
+        2 => once(2, FieldKind::Id(8)),
+        3 => once(3, FieldKind::Text),
+        4 => many(FieldKind::Embedded(Message::KeyValue)),
+        5 => once(5, FieldKind::Varint),
+        6 => once(6, FieldKind::Fixed32),
+        _ => many(FieldKind::Unknown),
     }
 }
 
@@ -275,8 +275,8 @@ fn status(number: u32) -> Row
     ensures { result ≡ row_in Message.Status number }
 {
     match number {
-        2 => once(2, Kind::Text),
-        3 => once(3, Kind::Varint),
-        _ => many(Kind::Unknown),
+        2 => once(2, FieldKind::Text),
+        3 => once(3, FieldKind::Varint),
+        _ => many(FieldKind::Unknown),
     }
 }

@@ -38,7 +38,7 @@ fn reads_single_fields(rt: HostRuntime) {
     assert_eq!(rt; int64_of(bytes_of(&FIELDS, 5), 1), 150);
     assert!(rt; is_text(bytes_of(&FIELDS, 3)));
     let trace_id = Row {
-        kind: Kind::Id(16),
+        kind: FieldKind::Id(16),
         mark: 9,
     };
     assert_eq!(rt; row_of(Message::LogRecord, 9), trace_id);

@@ -3,7 +3,7 @@ use Rattle.std.proofs.lemmas.Result.{err_from_is_err_and}
 use Rattle.std.specs.Prelude.{◌==◌, not}
 use Rattle.otlp_wire.proofs.Readings.{part_len}
 use Rattle.otlp_wire.specs.Wire.{entry, value_of}
-use Rattle.otlp_messages.specs.declared.messages.Kind.{Kind}
+use Rattle.otlp_messages.specs.declared.messages.FieldKind.{FieldKind}
 use Rattle.otlp_messages.specs.Defects.{wire_error}
 use Rattle.otlp_messages.specs.Fine.{FineValue, ValueStands, Checked}
 use Rattle.otlp_messages.proofs.Steps.{checked_none, none_seen, first_occurs, value_stands, twice_stands, checked_more, fine_from, value_is_shorter, member_stands, IfErr-map}
@@ -38,7 +38,7 @@ check-fields-preserved t c =
     let row = c.row_of-row.ensures.row in
     let kind = ap (λ r. r.kind) row in
     let mark = ap (λ r. r.mark) row in
-    let fine = subst (λ (k : Kind). FineValue k c.args.levels f.value) kind c.in_ok-check_value.ensures.fine in
+    let fine = subst (λ (k : FieldKind). FineValue k c.args.levels f.value) kind c.in_ok-check_value.ensures.fine in
     let more = checked_more _ _ _ _ _ _ f c.fields.invariant first.0 first.1 (rw mark at c.row_of-row.ensures.few) (rw mark at c.if-seen-row.false) fine in
     subst (λ (k : ℕ). Checked c.args.message c.args.levels c.args.bytes.now (set c.fields.seen k (not (k == 0))) c.next.new.self) (sym mark) more
 
@@ -48,7 +48,7 @@ check-returns-in_err-check_value-clause-fault t c =
     let f = entry c.in-Ok.field in
     let kind = ap (λ r. r.kind) c.row_of-row.ensures.row in
     let occurs = first_occurs _ _ _ _ _ _ f c.fields.invariant first.0 in
-    let fault = subst (λ (k : Kind). ValueStands k c.args.levels f.value c.in_err-check_value.field-0.0) kind c.in_err-check_value.ensures.fault in
+    let fault = subst (λ (k : FieldKind). ValueStands k c.args.levels f.value c.in_err-check_value.field-0.0) kind c.in_err-check_value.ensures.fault in
     let p = err_from_is_err_and c.from_residual.result c.from_residual.ensures.1 in
     rw (p.1, p.2) (value_stands _ _ _ f.number f.value _ occurs fault)
 
