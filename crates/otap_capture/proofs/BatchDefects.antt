@@ -5,11 +5,11 @@ use Rattle.std.specs.declared.option.Option.{Option}
 use Rattle.std.proofs.lemmas.Bool.{cases_Bool}
 use Rattle.otlp_messages.specs.declared.messages.Message.{Message}
 use Rattle.otlp_messages.specs.declared.messages.Message.TheVariants.{BatchArrowRecords, ArrowPayload}
-use Rattle.otlp_messages.specs.declared.messages.Kind.{Kind}
-use Rattle.otlp_messages.specs.declared.messages.Kind.TheVariants.{Unknown, Varint, Text, Octets, Embedded}
+use Rattle.otlp_messages.specs.declared.messages.FieldKind.{FieldKind}
+use Rattle.otlp_messages.specs.declared.messages.FieldKind.TheVariants.{Unknown, Varint, Text, Octets, Embedded}
 use Rattle.otlp_messages.specs.declared.messages.Defect.{Defect}
 use Rattle.otlp_messages.specs.declared.messages.Defect.TheVariants as defects
-use Rattle.otlp_messages.specs.declared.checking.TheConstants.{LEVELS}
+use Rattle.otlp_messages.specs.Limits.{level_limit}
 use Rattle.otlp_messages.specs.Defects.{Stands, wire_error, twice, in_value, within, ValueFaults, PartFaults, inside}
 use Rattle.otlp_messages.specs.Table.{kind_of}
 use Rattle.otlp_messages.proofs.Deciding.{decided}
@@ -23,7 +23,7 @@ use Rattle.otap_capture.specs.Batch.{BatchContent, IsOfBatch, ReadsBatch, Refuse
 abbrev InBatch : Message → Type 0
 InBatch m = (m ≡ BatchArrowRecords) ⊎ (m ≡ ArrowPayload)
 
-abbrev Simple : Kind → Type 0
+abbrev Simple : FieldKind → Type 0
 Simple k = (k ≡ Unknown) ⊎ ((k ≡ Varint) ⊎ ((k ≡ Text) ⊎ ((k ≡ Octets) ⊎ (k ≡ Embedded ArrowPayload))))
 
 simple_of_batch : (n : ℕ) → Simple (kind_of BatchArrowRecords n)
@@ -54,14 +54,14 @@ bad_message e is = rw is tt
 bad_text : (e : Defect) → e ≡ defects.BadUtf8 → IsOfBatch e
 bad_text e is = rw is tt
 
-part_of_batch : (k : Kind) → Simple k → (levels : ℕ) (part : List ℕ) (e : Defect) → PartFaults k levels part e → IsOfBatch e
+part_of_batch : (k : FieldKind) → Simple k → (levels : ℕ) (part : List ℕ) (e : Defect) → PartFaults k levels part e → IsOfBatch e
 part_of_batch k (inl is) levels part e fault = absurd (rw is at fault)
 part_of_batch k (inr (inl is)) levels part e fault = absurd (rw is at fault)
 part_of_batch k (inr (inr (inl is))) levels part e fault = let text = rw is at fault in bad_text e text.0
 part_of_batch k (inr (inr (inr (inl is)))) levels part e fault = absurd (rw is at fault)
 part_of_batch k (inr (inr (inr (inr is)))) levels part e fault = absurd (rw is at fault)
 
-value_of_batch : (k : Kind) → Simple k → (levels : ℕ) (value : FieldValue) (e : Defect) → ValueFaults k levels value e → IsOfBatch e
+value_of_batch : (k : FieldKind) → Simple k → (levels : ℕ) (value : FieldValue) (e : Defect) → ValueFaults k levels value e → IsOfBatch e
 value_of_batch k s levels (wire.Varint v) e fault = bad_message e fault.0
 value_of_batch k s levels (wire.Fixed64 v) e fault = bad_message e fault.0
 value_of_batch k s levels (wire.Fixed32 v) e fault = bad_message e fault.0
@@ -77,7 +77,7 @@ first {m} both = ap message both
     message (Some p) = p.0
 
 -- only payloads stand inside
-payload_inside : (k : Kind) → Simple k → (levels : ℕ) (next : Message) (deep : ℕ) → inside k levels ≡ Some (next, deep) → InBatch next
+payload_inside : (k : FieldKind) → Simple k → (levels : ℕ) (next : Message) (deep : ℕ) → inside k levels ≡ Some (next, deep) → InBatch next
 payload_inside k (inl is) levels next deep at = let clash : ◌≡◌ {A = Option (Message × ℕ)} None (Some (next, deep)) = rw is at at in cc
 payload_inside k (inr (inl is)) levels next deep at = let clash : ◌≡◌ {A = Option (Message × ℕ)} None (Some (next, deep)) = rw is at at in cc
 payload_inside k (inr (inr (inl is))) levels next deep at = let clash : ◌≡◌ {A = Option (Message × ℕ)} None (Some (next, deep)) = rw is at at in cc
@@ -97,7 +97,7 @@ pub in_payload : (levels : ℕ) (part : List ℕ) (e : Defect) → Stands ArrowP
 in_payload levels part e stands = of_batch ArrowPayload levels part e (inr refl) stands
 
 -- a defect in a batch is named by a refusal
-refused : (bytes : List ℕ) (e : Defect) → IsOfBatch e → Stands BatchArrowRecords LEVELS bytes e → (refusal : BatchRefusal) × RefusesBatch bytes refusal
+refused : (bytes : List ℕ) (e : Defect) → IsOfBatch e → Stands BatchArrowRecords level_limit bytes e → (refusal : BatchRefusal) × RefusesBatch bytes refusal
 refused bytes defects.BadMessage of stands = (refusals.BadMessage, stands)
 refused bytes defects.Repeated of stands = (refusals.Repeated, stands)
 refused bytes defects.BadUtf8 of stands = (refusals.BadUtf8, stands)
@@ -106,12 +106,12 @@ refused bytes defects.Unsupported of stands = absurd of
 refused bytes defects.TooDeep of stands = absurd of
 
 pub read_or_refused : (bytes : List ℕ) → ((refusal : BatchRefusal) → RefusesBatch bytes refusal → ⊥) → ReadsBatch bytes (batch_in bytes)
-read_or_refused bytes none = (record { none = λ e stands. let r = refused bytes e (of_batch BatchArrowRecords LEVELS bytes e (inl refl) stands) stands in none r.0 r.1 }, refl)
+read_or_refused bytes none = (record { none = λ e stands. let r = refused bytes e (of_batch BatchArrowRecords level_limit bytes e (inl refl) stands) stands in none r.0 r.1 }, refl)
 
 -- all bytes are read, or refused
 pub read_or_not : (bytes : List ℕ) → ((batch : BatchContent) × ReadsBatch bytes batch) ⊎ ((refusal : BatchRefusal) × RefusesBatch bytes refusal)
 read_or_not bytes =
-    elim (decided BatchArrowRecords LEVELS bytes) [
+    elim (decided BatchArrowRecords level_limit bytes) [
       | inl fine ↦ inl (batch_in bytes, (fine, refl))
-      | inr d ↦ inr (refused bytes d.0 (of_batch BatchArrowRecords LEVELS bytes d.0 (inl refl) d.1) d.1)
+      | inr d ↦ inr (refused bytes d.0 (of_batch BatchArrowRecords level_limit bytes d.0 (inl refl) d.1) d.1)
     ]

@@ -7,7 +7,7 @@ use Rattle.otlp_wire.specs.Wire as wire
 use Rattle.otlp_wire.specs.Wire.{FieldValue, Entry}
 use Rattle.otlp_wire.specs.Fields.{fields_of, end_of}
 use Rattle.otlp_messages.specs.declared.messages.Message.TheVariants.{BatchArrowRecords}
-use Rattle.otlp_messages.specs.declared.checking.TheConstants.{LEVELS}
+use Rattle.otlp_messages.specs.Limits.{level_limit}
 use Rattle.otlp_messages.specs.declared.table.TheConstants.{MARKS}
 use Rattle.otlp_messages.specs.Table.{kind_of, mark_of}
 use Rattle.otlp_messages.specs.Fine.{FineValue}
@@ -32,7 +32,7 @@ no_mark n other = by_number (cases_Bool (nat_eq n 2))
 pub scanned_none : (bytes : List ℕ) (scan : Scan) → scan.seen ≡ false → scan.id ≡ pos 0 → scan.count ≡ 0 → Scanned bytes scan bytes
 scanned_none bytes scan seen id count = record {
   marks = replicate 32 false;
-  checked = checked_none BatchArrowRecords LEVELS bytes (replicate 32 false) refl (none_seen 32);
+  checked = checked_none BatchArrowRecords level_limit bytes (replicate 32 false) refl (none_seen 32);
   first = sym seen;
   id = rw id refl;
   count = omega (arith, count);
@@ -95,7 +95,7 @@ few_marks n = elim (cases_eq n 1) [
 ]
 
 pub scanned_more : (bytes rest new : List ℕ) (old next : Scan) (f : Entry) → Scanned bytes old rest → fields_of rest ≡ f ∷ fields_of new → end_of rest ≡ end_of new
-    → FineValue (kind_of BatchArrowRecords f.number) LEVELS f.value → SaysMore old next f → Scanned bytes next new
+    → FineValue (kind_of BatchArrowRecords f.number) level_limit f.value → SaysMore old next f → Scanned bytes next new
 scanned_more bytes rest new old next f h first end fine more =
     let size = h.checked.size in
     let fresh = fresh_mark h.marks old.seen f.number h.first h.checked.none more.once in
@@ -103,7 +103,7 @@ scanned_more bytes rest new old next f h first end fine more =
     let before : old.count + length (map payload_in (parts_of (only 2 (f ∷ fields_of new)))) ≡ length (payloads_in bytes) = rw first at h.count in
     record {
       marks = set h.marks (mark_of BatchArrowRecords f.number) (not (mark_of BatchArrowRecords f.number == 0));
-      checked = checked_more BatchArrowRecords LEVELS bytes rest new h.marks f h.checked first end (few_marks f.number) fresh fine;
+      checked = checked_more BatchArrowRecords level_limit bytes rest new h.marks f h.checked first end (few_marks f.number) fresh fine;
       first = marks_more h.marks old.seen f.number h.first (omega (arith, size)) ∙ sym more.seen;
       id = rw more.id (sym (fold_first old.id f (fields_of new)) ∙ ap (λ fs. fold int64_in old.id (only 1 fs)) (sym first) ∙ h.id);
       count = omega (arith, more.count, counted, before);
@@ -113,6 +113,6 @@ scanned_more bytes rest new old next f h first end fine more =
 pub scanned_stands : (bytes rest new : List ℕ) (scan : Scan) (f : Entry) (refusal : BatchRefusal) → Scanned bytes scan rest → fields_of rest ≡ f ∷ fields_of new
     → FieldFaults scan.seen f refusal → RefusesBatch bytes refusal
 scanned_stands bytes rest new scan f refusal h first (inl fault) =
-    value_stands BatchArrowRecords LEVELS bytes f.number f.value (defect_of refusal) (first_occurs _ _ _ _ _ _ f h.checked first) fault
+    value_stands BatchArrowRecords level_limit bytes f.number f.value (defect_of refusal) (first_occurs _ _ _ _ _ _ f h.checked first) fault
 scanned_stands bytes rest new scan f refusal h first (inr again) =
-    rw again.0 (twice_stands BatchArrowRecords LEVELS bytes rest new h.marks f h.checked first (rw (id_mark f.number again.2) (h.first ∙ again.1)))
+    rw again.0 (twice_stands BatchArrowRecords level_limit bytes rest new h.marks f h.checked first (rw (id_mark f.number again.2) (h.first ∙ again.1)))

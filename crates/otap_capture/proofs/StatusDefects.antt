@@ -5,11 +5,11 @@ use Rattle.std.specs.declared.option.Option.{Option}
 use Rattle.std.proofs.lemmas.Bool.{cases_Bool}
 use Rattle.otlp_messages.specs.declared.messages.Message.{Message}
 use Rattle.otlp_messages.specs.declared.messages.Message.TheVariants.{BatchStatus}
-use Rattle.otlp_messages.specs.declared.messages.Kind.{Kind}
-use Rattle.otlp_messages.specs.declared.messages.Kind.TheVariants.{Unknown, Varint, Text}
+use Rattle.otlp_messages.specs.declared.messages.FieldKind.{FieldKind}
+use Rattle.otlp_messages.specs.declared.messages.FieldKind.TheVariants.{Unknown, Varint, Text}
 use Rattle.otlp_messages.specs.declared.messages.Defect.{Defect}
 use Rattle.otlp_messages.specs.declared.messages.Defect.TheVariants as defects
-use Rattle.otlp_messages.specs.declared.checking.TheConstants.{LEVELS}
+use Rattle.otlp_messages.specs.Limits.{level_limit}
 use Rattle.otlp_messages.specs.Defects.{Stands, wire_error, twice, in_value, within, ValueFaults, PartFaults, inside}
 use Rattle.otlp_messages.specs.Table.{kind_of}
 use Rattle.otlp_wire.specs.Wire as wire
@@ -20,7 +20,7 @@ use Rattle.otap_capture.specs.Batch.{IsOfBatch}
 use Rattle.otap_capture.specs.Statuses.{ReadsStatus, RefusesStatus, status_in}
 
 -- the kinds of its fields
-abbrev Plain : Kind → Type 0
+abbrev Plain : FieldKind → Type 0
 Plain k = (k ≡ Unknown) ⊎ ((k ≡ Varint) ⊎ (k ≡ Text))
 
 plain : (n : ℕ) → Plain (kind_of BatchStatus n)
@@ -42,12 +42,12 @@ bad_message e is = rw is tt
 bad_text : (e : Defect) → e ≡ defects.BadUtf8 → IsOfBatch e
 bad_text e is = rw is tt
 
-of_part : (k : Kind) → Plain k → (levels : ℕ) (part : List ℕ) (e : Defect) → PartFaults k levels part e → IsOfBatch e
+of_part : (k : FieldKind) → Plain k → (levels : ℕ) (part : List ℕ) (e : Defect) → PartFaults k levels part e → IsOfBatch e
 of_part k (inl is) levels part e fault = absurd (rw is at fault)
 of_part k (inr (inl is)) levels part e fault = absurd (rw is at fault)
 of_part k (inr (inr is)) levels part e fault = let text = rw is at fault in bad_text e text.0
 
-of_value : (k : Kind) → Plain k → (levels : ℕ) (value : FieldValue) (e : Defect) → ValueFaults k levels value e → IsOfBatch e
+of_value : (k : FieldKind) → Plain k → (levels : ℕ) (value : FieldValue) (e : Defect) → ValueFaults k levels value e → IsOfBatch e
 of_value k s levels (wire.Varint v) e fault = bad_message e fault.0
 of_value k s levels (wire.Fixed64 v) e fault = bad_message e fault.0
 of_value k s levels (wire.Fixed32 v) e fault = bad_message e fault.0
@@ -55,7 +55,7 @@ of_value k s levels (wire.Bytes part) e (inl fault) = bad_message e fault.0
 of_value k s levels (wire.Bytes part) e (inr fault) = of_part k s levels part e fault
 
 -- no message stands inside
-none_inside : (k : Kind) → Plain k → (levels : ℕ) (p : Message × ℕ) → inside k levels ≡ Some p → ⊥
+none_inside : (k : FieldKind) → Plain k → (levels : ℕ) (p : Message × ℕ) → inside k levels ≡ Some p → ⊥
 none_inside k (inl is) levels p at = let clash : ◌≡◌ {A = Option (Message × ℕ)} None (Some p) = rw is at at in cc
 none_inside k (inr (inl is)) levels p at = let clash : ◌≡◌ {A = Option (Message × ℕ)} None (Some p) = rw is at at in cc
 none_inside k (inr (inr is)) levels p at = let clash : ◌≡◌ {A = Option (Message × ℕ)} None (Some p) = rw is at at in cc
@@ -70,7 +70,7 @@ pub of_status : (levels : ℕ) (bytes : List ℕ) (e : Defect) → Stands BatchS
 of_status levels bytes e stands = by_cases BatchStatus levels bytes e refl stands
 
 -- a defect in a status is named by a refusal
-refused : (bytes : List ℕ) (e : Defect) → IsOfBatch e → Stands BatchStatus LEVELS bytes e → (refusal : BatchRefusal) × RefusesStatus bytes refusal
+refused : (bytes : List ℕ) (e : Defect) → IsOfBatch e → Stands BatchStatus level_limit bytes e → (refusal : BatchRefusal) × RefusesStatus bytes refusal
 refused bytes defects.BadMessage of stands = (refusals.BadMessage, stands)
 refused bytes defects.Repeated of stands = (refusals.Repeated, stands)
 refused bytes defects.BadUtf8 of stands = (refusals.BadUtf8, stands)
@@ -79,4 +79,4 @@ refused bytes defects.Unsupported of stands = absurd of
 refused bytes defects.TooDeep of stands = absurd of
 
 pub status_or_refused : (bytes : List ℕ) → ((refusal : BatchRefusal) → RefusesStatus bytes refusal → ⊥) → ReadsStatus bytes (status_in bytes)
-status_or_refused bytes none = (record { none = λ e stands. let r = refused bytes e (of_status LEVELS bytes e stands) stands in none r.0 r.1 }, refl)
+status_or_refused bytes none = (record { none = λ e stands. let r = refused bytes e (of_status level_limit bytes e stands) stands in none r.0 r.1 }, refl)

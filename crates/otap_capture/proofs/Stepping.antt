@@ -57,7 +57,8 @@ module _ (old mid new : Reading) (left left' : Option (List ℕ))
   comes_to_end : old.ended ≡ None → (end : Option Damage) → CutsEnd mid new end → ComesToEnd old new (ahead old left) (ahead new left') end
   comes_to_end open_end end cut = record {
     same = rw (cut.complete, cut.kept) fills.same;
-    ends = Keeps-IfSome _ _ _ fills.same (rw (← fills.handed) (ahead_ends mid.complete mid.handed mid.kept left' end (λ unread is_open. decided (record { goes_on = fills.ended ∙ open_end; unread = unread; is_open = is_open })) cut.ends));
+    ends = Keeps-IfSome _ _ _ fills.same (rw (← fills.handed) (ahead_ends mid.complete mid.handed mid.kept left' end
+        (λ unread is_open. decided (record { goes_on = fills.ended ∙ open_end; unread = unread; is_open = is_open })) cut.ends));
     handed = cut.handed ∙ fills.handed;
     shown = cut.shown ∙ fills.shown;
     ended = cut.ended;

@@ -6,7 +6,7 @@ use Rattle.otlp_wire.specs.Fields.{fields_of}
 use Rattle.otlp_messages.specs.declared.messages.Message.TheVariants.{BatchArrowRecords}
 use Rattle.otlp_messages.specs.declared.messages.Defect.{Defect}
 use Rattle.otlp_messages.specs.declared.messages.Defect.TheVariants as defects
-use Rattle.otlp_messages.specs.declared.checking.TheConstants.{LEVELS}
+use Rattle.otlp_messages.specs.Limits.{level_limit}
 use Rattle.otlp_messages.specs.Defects.{Stands, IsFine}
 use Rattle.otlp_messages.specs.Rows.{only, said, int32_in, int64_in, bytes_in, parts_of}
 use Rattle.otlp_messages.specs.Canon.{Filled, row, signed_row, bytes_row, many_row, canon}
@@ -45,7 +45,7 @@ batch_in bytes = record { id = said 1 int64_in (pos 0) bytes; payloads = payload
 
 -- the bytes are a batch message, which says this
 abbrev pub ReadsBatch : List ℕ → BatchContent → Type 0
-ReadsBatch bytes batch = IsFine BatchArrowRecords LEVELS bytes × (batch ≡ batch_in bytes)
+ReadsBatch bytes batch = IsFine BatchArrowRecords level_limit bytes × (batch ≡ batch_in bytes)
 
 -- the defect that a refusal names
 abbrev pub defect_of : BatchRefusal → Defect
@@ -62,7 +62,7 @@ IsOfBatch defect = ⊥
 
 -- a defect stands in the bytes, read as a batch message
 abbrev pub RefusesBatch : List ℕ → BatchRefusal → Type 0
-RefusesBatch bytes refusal = Stands BatchArrowRecords LEVELS bytes (defect_of refusal)
+RefusesBatch bytes refusal = Stands BatchArrowRecords level_limit bytes (defect_of refusal)
 
 -- the canonical spellings of a payload and of a batch
 abbrev pub payload_rows : PayloadContent → List Filled

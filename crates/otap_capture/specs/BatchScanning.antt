@@ -3,7 +3,7 @@ use Rattle.std.specs.Prelude.{◌≡◌, ◌⊎◌, ℕ, ◌+◌, ◌||◌, ◌=
 use Rattle.otlp_wire.specs.Wire.{Entry}
 use Rattle.otlp_wire.specs.Fields.{fields_of}
 use Rattle.otlp_messages.specs.declared.messages.Message.TheVariants.{BatchArrowRecords}
-use Rattle.otlp_messages.specs.declared.checking.TheConstants.{LEVELS}
+use Rattle.otlp_messages.specs.Limits.{level_limit}
 use Rattle.otlp_messages.specs.Table.{kind_of}
 use Rattle.otlp_messages.specs.Fine.{ValueStands, Checked}
 use Rattle.otlp_messages.specs.Rows.{only, said, at, int64_in, part_at}
@@ -25,12 +25,12 @@ pub record SaysMore (old new : Scan) (f : Entry) : Type 0 where
 
 -- a defect stands in the field, or the id occurs again
 abbrev pub FieldFaults : Bool → Entry → BatchRefusal → Type 0
-FieldFaults seen f refusal = ValueStands (kind_of BatchArrowRecords f.number) LEVELS f.value (defect_of refusal) ⊎ ((refusal ≡ Repeated) × (seen ≡ true) × (f.number ≡ 1))
+FieldFaults seen f refusal = ValueStands (kind_of BatchArrowRecords f.number) level_limit f.value (defect_of refusal) ⊎ ((refusal ≡ Repeated) × (seen ≡ true) × (f.number ≡ 1))
 
 -- the fields before the rest are looked at
 pub record Scanned (bytes : List ℕ) (scan : Scan) (rest : List ℕ) : Type 0 where
   pub marks : List Bool
-  pub checked : Checked BatchArrowRecords LEVELS bytes marks rest
+  pub checked : Checked BatchArrowRecords level_limit bytes marks rest
   pub first : slice_index_or marks 1 false ≡ scan.seen
   pub id : fold int64_in scan.id (only 1 (fields_of rest)) ≡ said 1 int64_in (pos 0) bytes
   pub count : scan.count + length (payloads_in rest) ≡ length (payloads_in bytes)

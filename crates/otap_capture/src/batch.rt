@@ -6,6 +6,7 @@ ghost use Rattle.std.specs.Iterator.{YieldsFirstBy, item_count};
 ghost use Rattle.otlp_wire.specs.Wire.{entry, value_of};
 ghost use Rattle.otlp_messages.specs.Table.{kind_of};
 ghost use Rattle.otlp_messages.specs.Defects.{IsFine};
+ghost use Rattle.otlp_messages.specs.Limits.{level_limit};
 ghost use Rattle.otlp_messages.specs.Fine.{FineValue};
 ghost use Rattle.otlp_messages.specs.Rows.{said, at, bytes_in, int32_in, part_at};
 ghost use Rattle.otap_capture.specs.Batch.{content_of, payload_in, batch_in, defect_of, IsOfBatch, ReadsBatch, RefusesBatch};
@@ -179,7 +180,7 @@ struct Scan {
 
 /// Looks at each field of a batch once.
 fn scan_fields(bytes: &[u8]) -> Result<Scan, BatchRefusal>
-    ensures fine { IfOk result (λ scan. IsFine Message.BatchArrowRecords LEVELS bytes.now) }
+    ensures fine { IfOk result (λ scan. IsFine Message.BatchArrowRecords level_limit bytes.now) }
     ensures says { IfOk result (Says (batch_in bytes.now)) }
     ensures refused { IfErr result (RefusesBatch bytes.now) }
 {
@@ -202,7 +203,7 @@ impl Scan {
     #[inline(always)]
     fn take(&mut self, field: &Field<'_>) -> Result<(), BatchRefusal>
         requires { self.old.count + 1 < 2 ^ 64 }
-        ensures fine { OnOk result (FineValue (kind_of Message.BatchArrowRecords field.now.number) LEVELS (value_of field.now.value)) }
+        ensures fine { OnOk result (FineValue (kind_of Message.BatchArrowRecords field.now.number) level_limit (value_of field.now.value)) }
         ensures says { OnOk result (SaysMore self.old self.new (entry field.now)) }
         ensures fault { IfErr result (FieldFaults self.old.seen (entry field.now)) }
     {
@@ -227,7 +228,7 @@ impl Scan {
 
 /// What the fields of a payload say, in which no defect stands.
 fn payload_of(part: &[u8]) -> Payload<'_>
-    requires { IsFine Message.ArrowPayload LEVELS part.now }
+    requires { IsFine Message.ArrowPayload level_limit part.now }
     ensures { content_of result ≡ payload_in part.now }
 {
     let parts = parts_of(part);

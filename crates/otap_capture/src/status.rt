@@ -3,6 +3,7 @@
 ghost use Rattle.std.specs.Prelude.{◌≡◌, IfOk, IfErr};
 ghost use Rattle.otlp_messages.specs.declared.messages.Message.{Message};
 ghost use Rattle.otlp_messages.specs.Defects.{Stands};
+ghost use Rattle.otlp_messages.specs.Limits.{level_limit};
 ghost use Rattle.otap_capture.specs.Batch.{defect_of};
 ghost use Rattle.otap_capture.specs.Statuses.{told, canon_status, ReadsStatus, RefusesStatus};
 
@@ -50,7 +51,7 @@ pub fn write_status(alloc: Global, status: &Status<'_>) -> Result<Vec<u8>, Alloc
 
 /// The refusal that names a defect of the bytes, read as a status.
 fn refusal_of(bytes: &[u8], defect: Defect) -> BatchRefusal
-    requires { Stands Message.BatchStatus LEVELS bytes.now defect }
+    requires { Stands Message.BatchStatus level_limit bytes.now defect }
     ensures { defect_of result ≡ defect }
 {
     match defect {
