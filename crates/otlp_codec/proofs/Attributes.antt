@@ -4,7 +4,7 @@ use Rattle.std.specs.Prelude.{nat_lt}
 use Rattle.std.specs.List.{All}
 use Rattle.otlp_messages.specs.declared.messages.Message.{Message}
 use Rattle.otlp_messages.specs.declared.messages.Message.TheVariants as messages
-use Rattle.otlp_messages.specs.declared.messages.Kind.TheVariants as kinds
+use Rattle.otlp_messages.specs.declared.messages.FieldKind.TheVariants as kinds
 use Rattle.otlp_codec.specs.Levels.{value_levels}
 use Rattle.otlp_messages.specs.Table.{kind_of, mark_of}
 use Rattle.otlp_messages.specs.Rows.{many_in}

@@ -3,8 +3,8 @@ use Rattle.std.proofs.Common.{◌≡◌, ℕ, zero, suc, List, [], ◌∷◌, re
 use Rattle.std.specs.Prelude.{fold}
 use Rattle.otlp_wire.specs.Wire.{Entry}
 use Rattle.otlp_wire.specs.Fields.{fields_of}
-use Rattle.otlp_codec.specs.Values.{any_of, value_at, pair_at, array_at, map_at}
-use Rattle.otlp_codec.specs.Steps.{pair_step, array_step, map_step, no_pair}
+use Rattle.otlp_codec.specs.Values.{any_of, value_at, pair_at}
+use Rattle.otlp_codec.specs.Steps.{array_at, map_at, pair_step, array_step, map_step, no_pair}
 use Rattle.otlp_messages.proofs.Parts.{part_of}
 use Rattle.otlp_messages.specs.Rows.{bytes_in, embedded_in, many_in}
 

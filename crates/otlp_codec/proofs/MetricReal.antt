@@ -12,7 +12,7 @@ use Rattle.otlp_wire.specs.Wire.{FieldValue, Entry}
 use Rattle.otlp_wire.specs.Fields.{fields_of}
 use Rattle.otlp_messages.specs.declared.messages.Message.{Message}
 use Rattle.otlp_messages.specs.declared.messages.Message.TheVariants as messages
-use Rattle.otlp_messages.specs.declared.messages.Kind.{Kind}
+use Rattle.otlp_messages.specs.declared.messages.FieldKind.{FieldKind}
 use Rattle.otlp_messages.specs.Table.{kind_of}
 use Rattle.otlp_messages.specs.Fine.{FineValue}
 use Rattle.otlp_messages.specs.Rows.{said, at, numbers, optional_in, packed_in}
@@ -61,7 +61,7 @@ number_real double int bytes octets =
     (λ old f p h. at_real int int_in int_kept (at double double_in old f) f (at_real double double_in double_kept old f p h) h) Missing (fields_of bytes) refl (real_fields bytes octets).each
 
 -- a double that may be missing
-keeps_optional : (k : Kind) (l : ℕ) → Keeps (λ x. IsTrue (is_real_optional x)) k l optional_in
+keeps_optional : (k : FieldKind) (l : ℕ) → Keeps (λ x. IsTrue (is_real_optional x)) k l optional_in
 keeps_optional k l old (wire.Fixed64 n) p h = lt-ltb n (2 ^ 64) h.1
 keeps_optional k l old (wire.Varint n) p h = p
 keeps_optional k l old (wire.Fixed32 n) p h = p
@@ -77,7 +77,7 @@ numbers_small (suc count) bytes h =
     let small = little_from-lt 0 8 bytes (byte_at bytes h) in
     (omega (arith, small), numbers_small count (drop 8 bytes) (drop_octets 8 bytes h))
 
-keeps_packed : (k : Kind) (l : ℕ) → Keeps (AllByRecursion (λ n. n < 2 ^ 64)) k l packed_in
+keeps_packed : (k : FieldKind) (l : ℕ) → Keeps (AllByRecursion (λ n. n < 2 ^ 64)) k l packed_in
 keeps_packed k l old (wire.Fixed64 n) p h = AllByRecursion-append (λ n. n < 2 ^ 64) old (n ∷ []) p (h.1, tt)
 keeps_packed k l old (wire.Varint n) p h = p
 keeps_packed k l old (wire.Fixed32 n) p h = p

@@ -8,7 +8,7 @@ use Rattle.std.proofs.lemmas.Int.{to_z-of_z}
 use Rattle.otlp_wire.specs.Wire as wire
 use Rattle.otlp_wire.specs.Wire.{FieldValue, spelling}
 use Rattle.otlp_messages.specs.declared.messages.Message.{Message}
-use Rattle.otlp_messages.specs.declared.messages.Kind.TheVariants as kinds
+use Rattle.otlp_messages.specs.declared.messages.FieldKind.TheVariants as kinds
 use Rattle.otlp_codec.specs.Levels.{value_levels}
 use Rattle.otlp_messages.specs.Table.{kind_of}
 use Rattle.otlp_messages.specs.Rows.{optional_in, packed_in}

@@ -12,7 +12,8 @@ use Rattle.otlp_messages.specs.Fine.{FineValue, Checked}
 use Rattle.otlp_messages.proofs.Steps.{checked_none, checked_more, fine_from, first_occurs, value_stands}
 use Rattle.otlp_codec.specs.declared.refusal.ReadRefusal.{ReadRefusal}
 use Rattle.otlp_codec.specs.declared.refusal.ReadRefusal.TheVariants.{BadMessage, Repeated, BadUtf8, BadLength, Unsupported, TooDeep, Memory}
-use Rattle.otlp_codec.specs.Refusals.{Names, Refuses, RefusesValue}
+use Rattle.otlp_codec.specs.Refusals.{Names}
+use Rattle.otlp_codec.specs.PartRefusals.{Refuses, RefusesValue}
 use Rattle.otlp_codec.specs.Passes.{Passes}
 
 pub names_map : (refusal : ReadRefusal) (P Q : Defect → Type 0) → ((e : Defect) → P e → Q e) → Names refusal P → Names refusal Q

@@ -11,8 +11,8 @@ use Rattle.otlp_wire.specs.Fields.{fields_of}
 use Rattle.otlp_messages.specs.declared.messages.Message.{Message}
 use Rattle.otlp_messages.specs.declared.messages.Message.TheVariants as messages
 use Rattle.otlp_messages.specs.declared.messages.Of.{Of}
-use Rattle.otlp_messages.specs.declared.messages.Kind.{Kind}
-use Rattle.otlp_messages.specs.declared.messages.Kind.TheVariants as kinds
+use Rattle.otlp_messages.specs.declared.messages.FieldKind.{FieldKind}
+use Rattle.otlp_messages.specs.declared.messages.FieldKind.TheVariants as kinds
 use Rattle.otlp_codec.specs.Levels.{value_levels}
 use Rattle.otlp_messages.specs.Table.{kind_of, item_of}
 use Rattle.otlp_messages.specs.Defects.{IsFine}
@@ -94,7 +94,7 @@ unfolding HasLength
 id_said m n size bytes is fine =
     id_is size (said n bytes_in [] bytes)
     (kept_fine (HasLength size) (FineValue (kinds.Id size) value_levels) bytes_in (id_kept size) [] (only n (fields_of bytes)) (inl refl)
-    (subst (λ (k : Kind). AllByRecursion (FineValue k value_levels) (only n (fields_of bytes))) is (fine_only m value_levels n bytes fine)))
+    (subst (λ (k : FieldKind). AllByRecursion (FineValue k value_levels) (only n (fields_of bytes))) is (fine_only m value_levels n bytes fine)))
 
 -- depths
 greatest_few : {A : Type 0} (f : A → ℕ) (n : ℕ) (xs : List A) → All (λ x. f x ≤ n) xs → greatest (map f xs) ≤ n

@@ -13,8 +13,8 @@ use Rattle.otlp_wire.specs.Wire.{FieldValue, Entry}
 use Rattle.otlp_wire.specs.Fields.{fields_of}
 use Rattle.otlp_messages.specs.declared.messages.Message.{Message}
 use Rattle.otlp_messages.specs.declared.messages.Message.TheVariants as messages
-use Rattle.otlp_messages.specs.declared.messages.Kind.{Kind}
-use Rattle.otlp_messages.specs.declared.messages.Kind.TheVariants as kinds
+use Rattle.otlp_messages.specs.declared.messages.FieldKind.{FieldKind}
+use Rattle.otlp_messages.specs.declared.messages.FieldKind.TheVariants as kinds
 use Rattle.otlp_messages.specs.Table.{kind_of}
 use Rattle.otlp_messages.specs.Defects.{IsFine}
 use Rattle.otlp_messages.specs.Fine.{FineValue}
@@ -45,18 +45,18 @@ pub kept : {A V : Type 0} (P : A → Type 0) (Q : V → Type 0) (step : A → V 
 kept P Q step each old [] p q = p
 kept P Q step each old (v ∷ vs) p q = kept P Q step each (step old v) vs (each old v p q.0) q.1
 
-abbrev pub Keeps : {A : Type 0} → (A → Type 0) → Kind → ℕ → (A → FieldValue → A) → Type 0
+abbrev pub Keeps : {A : Type 0} → (A → Type 0) → FieldKind → ℕ → (A → FieldValue → A) → Type 0
 Keeps {A = A} P k l read = (old : A) (v : FieldValue) → P old → FineValue k l v × RealField v → P (read old v)
 
-pub holds : {A : Type 0} (P : A → Type 0) (m : Message) (l n : ℕ) (k : Kind) (read : A → FieldValue → A) (none : A) → kind_of m n ≡ k → P none → Keeps P k l read
+pub holds : {A : Type 0} (P : A → Type 0) (m : Message) (l n : ℕ) (k : FieldKind) (read : A → FieldValue → A) (none : A) → kind_of m n ≡ k → P none → Keeps P k l read
     → (bytes : List ℕ) → Sound m l bytes → P (said n read none bytes)
 holds P m l n k read none is empty each bytes h =
     kept P (λ v. FineValue k l v × RealField v) read each none (only n (fields_of bytes)) empty
     (all_both (FineValue k l) RealField (only n (fields_of bytes))
-    (subst (λ (j : Kind). AllByRecursion (FineValue j l) (only n (fields_of bytes))) is (fine_only m l n bytes h.fine)) (real_only n bytes h.real).each)
+    (subst (λ (j : FieldKind). AllByRecursion (FineValue j l) (only n (fields_of bytes))) is (fine_only m l n bytes h.fine)) (real_only n bytes h.real).each)
 
 -- numbers
-keeps_fixed64 : (k : Kind) (l : ℕ) → Keeps (λ x. x < 2 ^ 64) k l fixed64_in
+keeps_fixed64 : (k : FieldKind) (l : ℕ) → Keeps (λ x. x < 2 ^ 64) k l fixed64_in
 keeps_fixed64 k l old (wire.Fixed64 n) p h = h.1
 keeps_fixed64 k l old (wire.Varint n) p h = p
 keeps_fixed64 k l old (wire.Fixed32 n) p h = p
@@ -65,7 +65,7 @@ keeps_fixed64 k l old (wire.Bytes part) p h = p
 pub fixed64_real : (m : Message) (l n : ℕ) (bytes : List ℕ) → Sound m l bytes → said n fixed64_in 0 bytes < 2 ^ 64
 fixed64_real m l n bytes h = holds (λ x. x < 2 ^ 64) m l n (kind_of m n) fixed64_in 0 refl (omega arith) (keeps_fixed64 (kind_of m n) l) bytes h
 
-keeps_fixed32 : (k : Kind) (l : ℕ) → Keeps (λ x. x < 2 ^ 32) k l fixed32_in
+keeps_fixed32 : (k : FieldKind) (l : ℕ) → Keeps (λ x. x < 2 ^ 32) k l fixed32_in
 keeps_fixed32 k l old (wire.Fixed32 n) p h = h.1
 keeps_fixed32 k l old (wire.Varint n) p h = p
 keeps_fixed32 k l old (wire.Fixed64 n) p h = p
@@ -74,7 +74,7 @@ keeps_fixed32 k l old (wire.Bytes part) p h = p
 pub fixed32_real : (m : Message) (l n : ℕ) (bytes : List ℕ) → Sound m l bytes → said n fixed32_in 0 bytes < 2 ^ 32
 fixed32_real m l n bytes h = holds (λ x. x < 2 ^ 32) m l n (kind_of m n) fixed32_in 0 refl (omega arith) (keeps_fixed32 (kind_of m n) l) bytes h
 
-keeps_uint32 : (k : Kind) (l : ℕ) → Keeps (λ x. x < 2 ^ 32) k l uint32_in
+keeps_uint32 : (k : FieldKind) (l : ℕ) → Keeps (λ x. x < 2 ^ 32) k l uint32_in
 keeps_uint32 k l old (wire.Varint n) p h = omega arith
 keeps_uint32 k l old (wire.Fixed32 n) p h = p
 keeps_uint32 k l old (wire.Fixed64 n) p h = p
@@ -83,7 +83,7 @@ keeps_uint32 k l old (wire.Bytes part) p h = p
 pub uint32_real : (m : Message) (l n : ℕ) (bytes : List ℕ) → Sound m l bytes → said n uint32_in 0 bytes < 2 ^ 32
 uint32_real m l n bytes h = holds (λ x. x < 2 ^ 32) m l n (kind_of m n) uint32_in 0 refl (omega arith) (keeps_uint32 (kind_of m n) l) bytes h
 
-keeps_int32 : (k : Kind) (l : ℕ) → Keeps (FitsSigned w32) k l int32_in
+keeps_int32 : (k : FieldKind) (l : ℕ) → Keeps (FitsSigned w32) k l int32_in
 keeps_int32 k l old (wire.Varint n) p h = sfits_to_z {w = w32} (record { fits = omega arith })
 keeps_int32 k l old (wire.Fixed32 n) p h = p
 keeps_int32 k l old (wire.Fixed64 n) p h = p
@@ -105,7 +105,7 @@ no_text = real_text [] IsUtf8-nil (omega arith)
 pub text_real : (m : Message) (l n : ℕ) (bytes : List ℕ) → kind_of m n ≡ kinds.Text → Sound m l bytes → is_real_text (said n bytes_in [] bytes) ≡ true
 text_real m l n bytes is h = holds (λ text. is_real_text text ≡ true) m l n kinds.Text bytes_in [] is no_text (keeps_text l) bytes h
 
-keeps_octets : (k : Kind) (l : ℕ) → Keeps (λ octets. is_real_octets octets ≡ true) k l bytes_in
+keeps_octets : (k : FieldKind) (l : ℕ) → Keeps (λ octets. is_real_octets octets ≡ true) k l bytes_in
 keeps_octets k l old (wire.Bytes part) p h = are_octets part h.1
 keeps_octets k l old (wire.Varint n) p h = p
 keeps_octets k l old (wire.Fixed64 n) p h = p
@@ -136,13 +136,13 @@ pub embedded_real : {A : Type 0} (P : A → Type 0) (m : Message) (l n : ℕ) (i
 embedded_real P m l n item read none is empty each bytes h = holds P m l n (kinds.Embedded item) (embedded_in read) none is empty (keeps_embedded P item l read each) bytes h
 
 -- messages that occur any number of times, in fields of a kind whose fine parts are messages
-keeps_many : {A : Type 0} (P : A → Type 0) (k : Kind) (l : ℕ) (read : List ℕ → A) → ((part : List ℕ) → FineValue k l (wire.Bytes part) → Octets part → P (read part)) → Keeps (All P) k l (many_in read)
+keeps_many : {A : Type 0} (P : A → Type 0) (k : FieldKind) (l : ℕ) (read : List ℕ → A) → ((part : List ℕ) → FineValue k l (wire.Bytes part) → Octets part → P (read part)) → Keeps (All P) k l (many_in read)
 keeps_many P k l read each old (wire.Bytes part) p h = All-push P old (read part) p (each part h.0 h.1)
 keeps_many P k l read each old (wire.Varint n) p h = p
 keeps_many P k l read each old (wire.Fixed64 n) p h = p
 keeps_many P k l read each old (wire.Fixed32 n) p h = p
 
-all_real : {A : Type 0} (P : A → Type 0) (m : Message) (l n : ℕ) (k : Kind) (read : List ℕ → A) → kind_of m n ≡ k → ((part : List ℕ) → FineValue k l (wire.Bytes part) → Octets part → P (read part))
+all_real : {A : Type 0} (P : A → Type 0) (m : Message) (l n : ℕ) (k : FieldKind) (read : List ℕ → A) → kind_of m n ≡ k → ((part : List ℕ) → FineValue k l (wire.Bytes part) → Octets part → P (read part))
     → (bytes : List ℕ) → Sound m l bytes → All P (said n (many_in read) [] bytes)
 all_real P m l n k read is each bytes h = holds (All P) m l n k (many_in read) [] is (All-from_recursion P [] tt) (keeps_many P k l read each) bytes h
 
@@ -200,19 +200,19 @@ keeps_string l old (wire.Varint n) p h = p
 keeps_string l old (wire.Fixed64 n) p h = p
 keeps_string l old (wire.Fixed32 n) p h = p
 
-keeps_bool : (k : Kind) (l : ℕ) → Keeps RealValue k l bool_value_in
+keeps_bool : (k : FieldKind) (l : ℕ) → Keeps RealValue k l bool_value_in
 keeps_bool k l old (wire.Varint n) p h = real_bool (not (n == 0))
 keeps_bool k l old (wire.Bytes part) p h = p
 keeps_bool k l old (wire.Fixed64 n) p h = p
 keeps_bool k l old (wire.Fixed32 n) p h = p
 
-keeps_int : (k : Kind) (l : ℕ) → Keeps RealValue k l int_value_in
+keeps_int : (k : FieldKind) (l : ℕ) → Keeps RealValue k l int_value_in
 keeps_int k l old (wire.Varint n) p h = real_int (cast_signed w64 n) (fits_real (cast_signed w64 n) (sfits_to_z {w = w64} (record { fits = h.1 })))
 keeps_int k l old (wire.Bytes part) p h = p
 keeps_int k l old (wire.Fixed64 n) p h = p
 keeps_int k l old (wire.Fixed32 n) p h = p
 
-keeps_double : (k : Kind) (l : ℕ) → Keeps RealValue k l double_value_in
+keeps_double : (k : FieldKind) (l : ℕ) → Keeps RealValue k l double_value_in
 keeps_double k l old (wire.Fixed64 n) p h = real_double n h.1
 keeps_double k l old (wire.Bytes part) p h = p
 keeps_double k l old (wire.Varint n) p h = p
@@ -240,7 +240,7 @@ keeps_map l map each old (wire.Varint n) p h = p
 keeps_map l map each old (wire.Fixed64 n) p h = p
 keeps_map l map each old (wire.Fixed32 n) p h = p
 
-keeps_bytes : (k : Kind) (l : ℕ) → Keeps RealValue k l bytes_value_in
+keeps_bytes : (k : FieldKind) (l : ℕ) → Keeps RealValue k l bytes_value_in
 keeps_bytes k l old (wire.Bytes part) p h = real_bytes part (are_octets part h.1)
 keeps_bytes k l old (wire.Varint n) p h = p
 keeps_bytes k l old (wire.Fixed64 n) p h = p

@@ -22,7 +22,8 @@ use Rattle.otlp_model.specs.Bytes.{is_real_text}
 use Rattle.otlp_model.proofs.Levels.{depth_of_array, depth_of_map, is_real_array, is_real_map}
 use Rattle.otlp_model.proofs.RealParts.{utf8_of_real}
 use Rattle.otlp_model.proofs.Induction.{Step, holds}
-use Rattle.otlp_codec.specs.Values.{any_in, value_at, pair_at, array_at, map_at}
+use Rattle.otlp_codec.specs.Values.{any_in, value_at, pair_at}
+use Rattle.otlp_codec.specs.Steps.{array_at, map_at}
 use Rattle.otlp_codec.specs.Canonical.{canon_value, canon_pair, pair_rows, members_rows}
 use Rattle.otlp_codec.proofs.Folded.{value_is}
 use Rattle.otlp_codec.specs.lemmas.Passed.{no_fields}

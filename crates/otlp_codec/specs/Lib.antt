@@ -10,6 +10,7 @@ pub mod Metrics
 pub mod MetricSteps
 pub mod MetricSpelling
 pub mod Refusals
+pub mod PartRefusals
 pub mod Values
 pub mod Steps
 pub mod Passes

@@ -12,8 +12,17 @@ use Rattle.otlp_model.specs.declared.groups.Scope.{Scope}
 use Rattle.otlp_model.specs.declared.groups.ScopeGroup.{ScopeGroup}
 use Rattle.otlp_model.specs.declared.groups.ResourceGroup.{ResourceGroup}
 use Rattle.otlp_model.specs.declared.logs.LogRecord.{LogRecord}
-use Rattle.otlp_codec.specs.Values.{value_at, pair_at}
+use Rattle.otlp_codec.specs.Values.{value_at, pair_at, members_of}
 use Rattle.otlp_codec.specs.Groups.{value_in, pair_in, resource_in, scope_in, scope_group_in, resource_group_in}
+
+-- what an array and a key-value list say, below which this number of levels of members may stand
+unfoldable pub array_at : ℕ → List ℕ → List Value
+array_at zero bytes = []
+array_at (suc levels) bytes = members_of (value_at levels) bytes
+
+unfoldable pub map_at : ℕ → List ℕ → List Pair
+map_at zero bytes = []
+map_at (suc levels) bytes = members_of (pair_at levels) bytes
 
 abbrev pub no_pair : Pair
 no_pair = record { key = []; value = Empty }

@@ -70,11 +70,3 @@ value_at (suc levels) = any_of (members_of (value_at levels)) (members_of (pair_
 
 unfoldable pub pair_at : ℕ → List ℕ → Pair
 pair_at levels = pair_of (value_at levels)
-
-unfoldable pub array_at : ℕ → List ℕ → List Value
-array_at zero bytes = []
-array_at (suc levels) bytes = members_of (value_at levels) bytes
-
-unfoldable pub map_at : ℕ → List ℕ → List Pair
-map_at zero bytes = []
-map_at (suc levels) bytes = members_of (pair_at levels) bytes

@@ -5,11 +5,11 @@ ghost use Rattle.std.specs.Prelude.{OnOk, IfErr, IfOk};
 ghost use Rattle.std.specs.Prelude.{◌≡◌, ◌%◌, ◌^◌, IsUtf8};
 ghost use Rattle.otlp_wire.specs.Wire as wire;
 ghost use Rattle.otlp_wire.specs.Wire.{value_of};
-ghost use Rattle.otlp_messages.specs.declared.messages.Kind.TheVariants as kinds;
+ghost use Rattle.otlp_messages.specs.declared.messages.FieldKind.TheVariants as kinds;
 ghost use Rattle.otlp_messages.specs.Fine.{FineValue};
 ghost use Rattle.otlp_messages.specs.Rows.{fixed64_in, fixed32_in, uint32_in, int32_in, bytes_in};
 ghost use Rattle.otlp_codec.specs.Levels.{value_levels};
-ghost use Rattle.otlp_codec.specs.Refusals.{RefusesValue};
+ghost use Rattle.otlp_codec.specs.PartRefusals.{RefusesValue};
 
 use crate::refusal::ReadRefusal;
 use otlp_model::{Octets, Text};

@@ -2,11 +2,11 @@
 
 ghost use Rattle.std.specs.Prelude.{◌≡◌, OnOk, IfOk, IfErr};
 ghost use Rattle.otlp_wire.specs.Wire.{value_of};
-ghost use Rattle.otlp_messages.specs.declared.messages.Kind.TheVariants as kinds;
+ghost use Rattle.otlp_messages.specs.declared.messages.FieldKind.TheVariants as kinds;
 ghost use Rattle.otlp_messages.specs.declared.messages.Message.TheVariants as messages;
 ghost use Rattle.otlp_codec.specs.Levels.{value_levels};
 ghost use Rattle.otlp_messages.specs.Fine.{FineValue};
-ghost use Rattle.otlp_codec.specs.Refusals.{RefusesValue};
+ghost use Rattle.otlp_codec.specs.PartRefusals.{RefusesValue};
 ghost use Rattle.otlp_codec.specs.Groups.{resource_in, scope_in, scope_group_in, resource_group_in, groups_in};
 ghost use Rattle.otlp_codec.specs.Steps.{no_resource, resource_step, resource_part_in, no_scope, scope_step, scope_part_in, no_scope_group, scope_group_step, no_resource_group, resource_group_step, request_step};
 ghost use Rattle.otlp_codec.specs.lemmas.Passed.{resource_passes, scope_passes, scope_group_passes, resource_group_passes, request_passes};

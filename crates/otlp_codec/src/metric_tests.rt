@@ -44,7 +44,7 @@ const JOINED_CANONICAL: [u8; 178] = [
 ];
 
 #[test]
-fn metrics_are_tidied(rt: HostRuntime) -> Result<(), Fail> {
+fn gauges_and_sums_are_tidied(rt: HostRuntime) -> Result<(), Fail> {
     let alloc = rt.alloc();
     // a point without a value, whose exemplar has a double that is no number
     let bytes: &[u8] = &[
@@ -62,6 +62,12 @@ fn metrics_are_tidied(rt: HostRuntime) -> Result<(), Fail> {
         0xff, 0xff, 0xff, 0xff, 0xff, 0xff, 0xff, 0x01, 0x18, 0x01,
     ];
     assert_eq!(rt; tidied(alloc, bytes)?.as_slice(), bytes);
+    Ok(())
+}
+
+#[test]
+fn histograms_and_summaries_are_tidied(rt: HostRuntime) -> Result<(), Fail> {
+    let alloc = rt.alloc();
     // a histogram without points
     let bytes: &[u8] = &[0x0a, 0x06, 0x12, 0x04, 0x12, 0x02, 0x4a, 0x00];
     assert_eq!(rt; tidied(alloc, bytes)?.as_slice(), bytes);

@@ -2,11 +2,11 @@
 
 ghost use Rattle.std.specs.Prelude.{◌≡◌, ◌^◌, ◌++◌, min, length, OnOk};
 ghost use Rattle.otlp_wire.specs.Wire.{value_of};
-ghost use Rattle.otlp_messages.specs.declared.messages.Kind.TheVariants as kinds;
+ghost use Rattle.otlp_messages.specs.declared.messages.FieldKind.TheVariants as kinds;
 ghost use Rattle.otlp_messages.specs.declared.messages.Message.TheVariants as messages;
 ghost use Rattle.otlp_codec.specs.Levels.{value_levels};
 ghost use Rattle.otlp_messages.specs.Canon.{canon};
-ghost use Rattle.otlp_codec.specs.Refusals.{RefusesValue};
+ghost use Rattle.otlp_codec.specs.PartRefusals.{RefusesValue};
 ghost use Rattle.otlp_codec.specs.Metrics.{metric_in};
 ghost use Rattle.otlp_codec.specs.MetricSteps.{no_metric, metric_step};
 ghost use Rattle.otlp_codec.specs.MetricSpelling.{shape_rows, canon_metric};

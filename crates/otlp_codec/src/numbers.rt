@@ -2,12 +2,12 @@
 
 ghost use Rattle.std.specs.Prelude.{◌≡◌, ◌≤◌, ◌^◌, ◌/◌, ◌++◌, min, length, OnOk, IfErr, IfOk};
 ghost use Rattle.otlp_wire.specs.Wire.{value_of, IsNumber};
-ghost use Rattle.otlp_messages.specs.declared.messages.Kind.TheVariants as kinds;
+ghost use Rattle.otlp_messages.specs.declared.messages.FieldKind.TheVariants as kinds;
 ghost use Rattle.otlp_codec.specs.Levels.{value_levels};
 ghost use Rattle.otlp_messages.specs.Fine.{FineValue};
 ghost use Rattle.otlp_messages.specs.Rows.{bool_in, optional_in, packed_in, numbers};
 ghost use Rattle.otlp_messages.specs.Canon.{canon_row, bool_row, optional_row, packed_row};
-ghost use Rattle.otlp_codec.specs.Refusals.{RefusesValue};
+ghost use Rattle.otlp_codec.specs.PartRefusals.{RefusesValue};
 ghost use Rattle.otlp_codec.specs.Numbers.{double_in, int_in, double_row, int_row};
 
 use crate::lengths::{len_fixed64_field, len_part, len_varint_row};

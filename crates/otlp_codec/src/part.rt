@@ -4,7 +4,7 @@ ghost use Rattle.std.specs.Prelude.{◌≡◌, ℕ, List, fold, IfOk, IfErr, OnO
 ghost use Rattle.otlp_wire.specs.Wire.{Entry, entry, value_of};
 ghost use Rattle.otlp_wire.specs.Fields.{fields_of};
 ghost use Rattle.otlp_messages.specs.declared.messages.Message.{Message};
-ghost use Rattle.otlp_messages.specs.declared.messages.Kind.TheVariants as kinds;
+ghost use Rattle.otlp_messages.specs.declared.messages.FieldKind.TheVariants as kinds;
 ghost use Rattle.otlp_messages.specs.declared.messages.Message.TheVariants as messages;
 ghost use Rattle.otlp_codec.specs.Levels.{value_levels};
 ghost use Rattle.otlp_messages.specs.declared.messages.Of.{Of};
@@ -12,7 +12,7 @@ ghost use Rattle.otlp_messages.specs.Table.{kind_of, item_of};
 ghost use Rattle.otlp_messages.specs.Defects.{IsFine};
 ghost use Rattle.otlp_messages.specs.Fine.{FineValue};
 ghost use Rattle.otlp_messages.specs.Rows.{embedded_in, many_in};
-ghost use Rattle.otlp_codec.specs.Refusals.{Refuses, RefusesValue};
+ghost use Rattle.otlp_codec.specs.PartRefusals.{Refuses, RefusesValue};
 ghost use Rattle.otlp_codec.specs.Groups.{value_in, pair_in};
 
 use crate::refusal::ReadRefusal;

@@ -3,12 +3,12 @@
 ghost use Rattle.std.specs.Prelude.{◌≡◌, ◌^◌, [], ◌∷◌, ◌++◌, min, length, OnOk, IfErr, IfOk};
 ghost use Rattle.otlp_wire.specs.Wire as wire;
 ghost use Rattle.otlp_wire.specs.Wire.{value_of};
-ghost use Rattle.otlp_messages.specs.declared.messages.Kind.TheVariants as kinds;
+ghost use Rattle.otlp_messages.specs.declared.messages.FieldKind.TheVariants as kinds;
 ghost use Rattle.otlp_messages.specs.declared.messages.Message.TheVariants as messages;
 ghost use Rattle.otlp_codec.specs.Levels.{value_levels};
 ghost use Rattle.otlp_messages.specs.Fine.{FineValue};
 ghost use Rattle.otlp_messages.specs.Canon.{canon_row};
-ghost use Rattle.otlp_codec.specs.Refusals.{RefusesValue};
+ghost use Rattle.otlp_codec.specs.PartRefusals.{RefusesValue};
 ghost use Rattle.otlp_codec.specs.Metrics.{gauge_in, sum_in, histogram_in, summary_in, gauge_shape_in, sum_shape_in, histogram_shape_in, summary_shape_in};
 ghost use Rattle.otlp_codec.specs.MetricSteps.{gauge_step, no_sum, sum_step, no_histogram, histogram_step, summary_step};
 ghost use Rattle.otlp_codec.specs.MetricSpelling.{canon_gauge, canon_sum, canon_histogram, canon_summary};

@@ -7,9 +7,9 @@ ghost use Rattle.otlp_messages.specs.Table.{kind_of};
 ghost use Rattle.otlp_model.specs.declared.value.Value.TheVariants as values;
 ghost use Rattle.otlp_messages.specs.Defects.{IsFine};
 ghost use Rattle.otlp_messages.specs.Fine.{FineValue};
-ghost use Rattle.otlp_codec.specs.Refusals.{Refuses, RefusesValue};
-ghost use Rattle.otlp_codec.specs.Values.{any_in, value_at, pair_at, array_at, map_at};
-ghost use Rattle.otlp_codec.specs.Steps.{array_step, map_step, no_pair, pair_step};
+ghost use Rattle.otlp_codec.specs.PartRefusals.{Refuses, RefusesValue};
+ghost use Rattle.otlp_codec.specs.Values.{any_in, value_at, pair_at};
+ghost use Rattle.otlp_codec.specs.Steps.{array_at, map_at, array_step, map_step, no_pair, pair_step};
 
 use crate::cells::{set_text, text_of};
 use crate::refusal::ReadRefusal;

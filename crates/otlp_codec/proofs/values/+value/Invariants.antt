@@ -4,8 +4,8 @@ use Rattle.otlp_wire.proofs.Readings.{part_len}
 use Rattle.otlp_messages.specs.declared.messages.Message.TheVariants as messages
 use Rattle.otlp_model.specs.declared.value.Value.TheVariants.{Empty}
 use Rattle.otlp_codec.specs.Passes.{Passes}
-use Rattle.otlp_codec.specs.Values.{any_in, array_at, map_at}
-use Rattle.otlp_codec.specs.Steps.{no_pair, pair_step, array_step, map_step}
+use Rattle.otlp_codec.specs.Values.{any_in}
+use Rattle.otlp_codec.specs.Steps.{array_at, map_at, no_pair, pair_step, array_step, map_step}
 use Rattle.otlp_codec.proofs.values.+value.Given as goal
 
 abbrev pub decreases-fill_value : goal.decreases-fill_value
