@@ -1,10 +1,10 @@
 -- What is told of parts, one after the other, as loops do.
-use Rattle.std.proofs.Common.{◌≡◌, ℕ, zero, suc, ◌+◌, ◌-◌, ◌^◌, ◌<◌, ◌≤◌, min, List, [], ◌∷◌, ◌++◌, length, Option, Some, None, Result, Ok, Err, refl, sym, ap, ◌∙◌, arith}
+use Rattle.std.proofs.Common.{◌≡◌, ℕ, suc, ◌+◌, ◌-◌, ◌^◌, ◌<◌, ◌≤◌, min, List, [], ◌∷◌, ◌++◌, Some, None, Ok, Err, refl, sym, ◌∙◌, arith}
 use Rattle.std.proofs.lemmas.List.{length-append}
 use Rattle.otlp_model.specs.Weight.{total}
 use Rattle.cbor_values.specs.declared.refusal.CborRefusal.{CborRefusal}
 use Rattle.cbor_values.specs.declared.refusal.CborRefusal.TheVariants.{Cut}
-use Rattle.cbor_values.specs.Reading.{◌>>=◌, Reading, break_at, many_at, until_at, open_at, chunks_at}
+use Rattle.cbor_values.specs.Reading.{Reading, break_at, many_at, until_at, open_at, chunks_at}
 use Rattle.cbor_values.specs.Weighing.{IsTold, long}
 use Rattle.cbor_values.proofs.Steps.{got}
 use Rattle.cbor_values.proofs.Bytes.{IsBytes}

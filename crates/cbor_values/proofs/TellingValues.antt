@@ -1,24 +1,23 @@
 -- What is told of a value, by what is told of its parts.
-use Rattle.std.proofs.Common.{◌≡◌, ℕ, zero, suc, ◌+◌, ◌^◌, min, List, length, Option, Some, None, Result, Ok, Err, refl, sym, ap, ◌∙◌, arith, rules}
+use Rattle.std.proofs.Common.{◌≡◌, ℕ, zero, suc, ◌+◌, ◌^◌, min, List, Option, Some, None, Result, Ok, Err, refl, sym, ap, ◌∙◌, arith, rules}
 use Rattle.std.specs.Prelude.{ℤ, pos, negsuc, Bool, IfOk, IfErr, OnOk}
 use Rattle.otlp_model.specs.declared.value.Value.{Value, the_lemmas}
 use Rattle.otlp_model.specs.declared.value.Value as values
 use Rattle.otlp_model.specs.declared.value.Pair.{Pair}
-use Rattle.otlp_model.specs.Weight.{weight_of_value, weight_of_pair, total}
+use Rattle.otlp_model.specs.Weight.{weight_of_value}
 use Rattle.otlp_model.proofs.Levels.{weight_of_empty, weight_of_str, weight_of_bool, weight_of_int, weight_of_double, weight_of_bytes, weight_of_array, weight_of_map}
 use Rattle.cbor_values.specs.declared.refusal.CborRefusal.{CborRefusal}
 use Rattle.cbor_values.specs.declared.heads.Head.TheVariants as heads
 use Rattle.cbor_values.specs.declared.weighing.Nesting.{Nesting}
 use Rattle.cbor_values.specs.declared.weighing.Nesting.TheVariants as nesting
 use Rattle.cbor_values.specs.declared.weighing.Weighed.{Weighed}
-use Rattle.cbor_values.specs.Reading.{◌>>=◌, Reading, head_at, key_at, octets_at, text_at, many_at, open_at, pair_at, body_at, item_at, all_at, whole_of}
+use Rattle.cbor_values.specs.Reading.{Reading, head_at, key_at, octets_at, text_at, many_at, open_at, pair_at, body_at, item_at, all_at, whole_of}
 use Rattle.cbor_values.specs.Values.{value_in, value_of}
 use Rattle.cbor_values.specs.Refusals.{Stands}
 use Rattle.cbor_values.proofs.Bytes.{IsBytes}
 use Rattle.cbor_values.proofs.Refused.{all_refused}
 use Rattle.cbor_values.proofs.Told.{no_value}
 use Rattle.cbor_values.specs.Weighing.{IsTold, IsWeighed, TellsAll, long, pair_weighed, nesting_of, told_of, weighed, weight_of_members, weight_of_pairs}
-use Rattle.cbor_values.proofs.Steps.{got}
 
 -- what is told of each
 told_is : (nested : Nesting) (weight : ℕ) (value : Value) → nesting_of value ≡ nested → weight ≡ min (weight_of_value value) (2 ^ 63) → told_of nested weight ≡ weighed value

@@ -75,7 +75,8 @@ members-returns-in_err-member t c =
 
 pub members-loop-preserved : goal.members-loop-preserved
 members-loop-preserved t c =
-    many_more weight_of_value (item_at c.args.depth) c.args.count c.loop.counter c.loop.weight _ c.loop.rest.now c.in_ok-member.ensures.value c.in_ok-member.after.now (many_at (item_at c.args.depth) c.args.count c.args.bytes.now)
+    many_more weight_of_value (item_at c.args.depth) c.args.count c.loop.counter c.loop.weight _ c.loop.rest.now c.in_ok-member.ensures.value c.in_ok-member.after.now
+    (many_at (item_at c.args.depth) c.args.count c.args.bytes.now)
     c.loop-test.true c.loop.invariant c.in_ok-member.ensures.is
     (let own = ap (λ (w : Weighed). w.weight) c.in_ok-member.ensures.of in omega arith)
 
@@ -99,25 +100,29 @@ open_members-members-smaller t c =
 
 pub open_members-members-preserved : goal.open_members-members-preserved
 open_members-members-preserved t c =
-    open_more weight_of_value (Shallow c.args.depth) (item_at c.args.depth) (item_reader c.args.depth) c.members.weight _ c.members.rest.now c.in_ok-member.ensures.value c.in_ok-member.after.now (open_at (item_at c.args.depth) c.args.bytes.now)
+    open_more weight_of_value (Shallow c.args.depth) (item_at c.args.depth) (item_reader c.args.depth) c.members.weight _ c.members.rest.now c.in_ok-member.ensures.value c.in_ok-member.after.now
+    (open_at (item_at c.args.depth) c.args.bytes.now)
     (sym c.in_default.ensures) c.members.invariant c.in_ok-member.ensures.is
     (let own = ap (λ (w : Weighed). w.weight) c.in_ok-member.ensures.of in omega arith)
 
 pub pairs-returns-in_err-own : goal.pairs-returns-in_err-own
 pairs-returns-in_err-own t c =
     let p = err_from_is_err_and c.from_residual.result c.from_residual.ensures.1 in
-    rw (p.1, p.2) (many_fails weight_of_pair (pair_at (item_at c.args.depth)) c.args.count c.loop.counter c.loop.weight c.loop.rest.now (many_at (pair_at (item_at c.args.depth)) c.args.count c.args.bytes.now) c.in_err-own.field-0.0
+    rw (p.1, p.2) (many_fails weight_of_pair (pair_at (item_at c.args.depth)) c.args.count c.loop.counter c.loop.weight c.loop.rest.now
+    (many_at (pair_at (item_at c.args.depth)) c.args.count c.args.bytes.now) c.in_err-own.field-0.0
     c.loop-test.true c.loop.invariant c.in_err-own.ensures)
 
 pub pairs-loop-preserved : goal.pairs-loop-preserved
 pairs-loop-preserved t c =
-    many_more weight_of_pair (pair_at (item_at c.args.depth)) c.args.count c.loop.counter c.loop.weight _ c.loop.rest.now c.in_ok-own.ensures.value c.in_ok-own.after.now (many_at (pair_at (item_at c.args.depth)) c.args.count c.args.bytes.now)
+    many_more weight_of_pair (pair_at (item_at c.args.depth)) c.args.count c.loop.counter c.loop.weight _ c.loop.rest.now c.in_ok-own.ensures.value c.in_ok-own.after.now
+    (many_at (pair_at (item_at c.args.depth)) c.args.count c.args.bytes.now)
     c.loop-test.true c.loop.invariant c.in_ok-own.ensures.is
     (let own = c.in_ok-own.ensures.of in omega arith)
 
 pub pairs-returns : goal.pairs-returns
 pairs-returns t c =
-    many_done weight_of_pair (pair_at (item_at c.args.depth)) c.args.count c.loop.counter c.loop.weight c.loop.rest.now (many_at (pair_at (item_at c.args.depth)) c.args.count c.args.bytes.now) c.loop-test.false c.loop.invariant
+    many_done weight_of_pair (pair_at (item_at c.args.depth)) c.args.count c.loop.counter c.loop.weight c.loop.rest.now
+    (many_at (pair_at (item_at c.args.depth)) c.args.count c.args.bytes.now) c.loop-test.false c.loop.invariant
 
 pub open_pairs-returns-in-Some : goal.open_pairs-returns-in-Some
 open_pairs-returns-in-Some t c =
@@ -126,7 +131,8 @@ open_pairs-returns-in-Some t c =
 pub open_pairs-returns-in_err-own : goal.open_pairs-returns-in_err-own
 open_pairs-returns-in_err-own t c =
     let p = err_from_is_err_and c.from_residual.result c.from_residual.ensures.1 in
-    rw (p.1, p.2) (open_fails weight_of_pair (pair_at (item_at c.args.depth)) (pair_start (item_at c.args.depth)) c.pairs.weight c.pairs.rest.now (open_at (pair_at (item_at c.args.depth)) c.args.bytes.now) c.in_err-own.field-0.0
+    rw (p.1, p.2) (open_fails weight_of_pair (pair_at (item_at c.args.depth)) (pair_start (item_at c.args.depth)) c.pairs.weight c.pairs.rest.now
+    (open_at (pair_at (item_at c.args.depth)) c.args.bytes.now) c.in_err-own.field-0.0
     (sym c.in_default.ensures) c.pairs.invariant c.in_err-own.ensures)
 
 pub open_pairs-pairs-smaller : goal.open_pairs-pairs-smaller
@@ -135,6 +141,7 @@ open_pairs-pairs-smaller t c =
 
 pub open_pairs-pairs-preserved : goal.open_pairs-pairs-preserved
 open_pairs-pairs-preserved t c =
-    open_more weight_of_pair (ShallowPair c.args.depth) (pair_at (item_at c.args.depth)) (pair_reader c.args.depth) c.pairs.weight _ c.pairs.rest.now c.in_ok-own.ensures.value c.in_ok-own.after.now (open_at (pair_at (item_at c.args.depth)) c.args.bytes.now)
+    open_more weight_of_pair (ShallowPair c.args.depth) (pair_at (item_at c.args.depth)) (pair_reader c.args.depth) c.pairs.weight _ c.pairs.rest.now c.in_ok-own.ensures.value c.in_ok-own.after.now
+    (open_at (pair_at (item_at c.args.depth)) c.args.bytes.now)
     (sym c.in_default.ensures) c.pairs.invariant c.in_ok-own.ensures.is
     (let own = c.in_ok-own.ensures.of in omega arith)
