@@ -1,5 +1,5 @@
 -- The columns of attributes, whatever their kind.
-use Rattle.std.proofs.Common.{◌≡◌, Bool, true, false, refl, subst}
+use Rattle.std.proofs.Common.{◌≡◌, true, refl, subst}
 use Rattle.otap_cells.specs.declared.payload.Kind.{Kind}
 use Rattle.otap_cells.specs.declared.payload.Kind.TheVariants as table
 use Rattle.otap_cells.specs.declared.profile.Base.TheVariants as base

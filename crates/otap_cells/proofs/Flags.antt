@@ -41,6 +41,13 @@ later_flag test f (row ∷ rows) (suc k) later within =
     let before : suc k - 1 ≡ k = omega arith in
     rw before (flag_after test f row rows k (omega arith))
 
+-- no rows, no flags
+pub no_flags : (test : List Cell → List Cell → Bool) (f : List Cell → List Cell) (rows : List (List Cell))
+    → length rows ≡ 0 → continues_of test (map f rows) ≡ []
+unfolding continues_of
+no_flags test f [] none = refl
+no_flags test f (row ∷ rows) none = absurd (omega arith)
+
 -- there is a flag for each row
 flags_after : (test : List Cell → List Cell → Bool) (f : List Cell → List Cell) (before : Option (List Cell)) (rows : List (List Cell))
     → length (continues_after test before (map f rows)) ≡ length rows

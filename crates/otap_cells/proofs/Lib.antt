@@ -1,6 +1,7 @@
 pub mod Adding
 pub mod Apart
 pub mod AttributeColumns
+mod AttributeFlags
 pub mod ByPlace
 pub mod ColumnSteps
 pub mod Columnwise

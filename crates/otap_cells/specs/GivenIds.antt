@@ -1,7 +1,9 @@
 -- The ids of a table's columns, where the table itself tells which rows continue a run.
-use Rattle.std.specs.Prelude.{ℕ, List, [], Option, None, Some}
+use Rattle.std.specs.Prelude.{◌≡◌, ℕ, true, List, [], Option, None, Some}
+use Rattle.std.specs.List.{AllZip}
 use Rattle.otap_cells.specs.declared.payload.Kind.{Kind}
-use Rattle.otap_cells.specs.Tables.{Table, profile_table, coding_in, greatest_in}
+use Rattle.otap_cells.specs.Columns.{is_id_at}
+use Rattle.otap_cells.specs.Tables.{Table, SameTable, profile_table, coding_in, greatest_in}
 use Rattle.otap_cells.specs.Ids.{undone}
 use Rattle.otap_cells.specs.ColumnIds.{IdsOf, stored_in}
 use Rattle.otap_cells.specs.Continuing.{continues_in}
@@ -18,3 +20,12 @@ ids_in t column = undone (coding_in t column) (greatest_in t column) (continues_
 abbrev pub table_or : {R : Type 0} → (R → Table) → Kind → Option R → Table
 table_or table kind None = profile_table kind []
 table_or table kind (Some rows) = table rows
+
+-- a table reads as another one: the same cells, and the ids that the other one has
+pub record ReadsAs (a b : Table) : Type 0 where
+  pub same : SameTable a b
+  pub ids : (column : ℕ) (ids : List (Option ℕ)) → is_id_at b.kind column ≡ true → HasIds b column ids → HasIds a column ids
+
+-- each table reads as the one in its place
+abbrev pub ReadAs : List Table → List Table → Type 0
+ReadAs tables others = AllZip ReadsAs tables others

@@ -73,9 +73,32 @@ pub fn attribute_at<R: Rows>(rows: &R, row: u64) -> Attribute<'_>
 pub fn continuing_rows<R: Rows>(alloc: Global, rows: &R) -> Result<Vec<bool>, AllocError>
     ensures { IfOk result (λ found. found.items ≡ continues_in (R.table rows.now)) }
 {
+    if has_attributes(rows.kind()) {
+        return continuing_attributes(alloc, rows);
+    }
     let mut found = Vec::new(alloc);
     'rows: for row in 0..rows.rows() {
         found.push(continues(rows, row))?;
+    }
+    Ok(found)
+}
+
+// The same of rows of attributes, each of which is read once.
+fn continuing_attributes<R: Rows>(alloc: Global, rows: &R) -> Result<Vec<bool>, AllocError>
+    requires { has_attributes (R.table rows.now).kind ≡ true }
+    ensures { IfOk result (λ found. found.items ≡ continues_in (R.table rows.now)) }
+{
+    let count = rows.rows();
+    let mut found = Vec::with_capacity(alloc, count as usize)?;
+    if count == 0 {
+        return Ok(found);
+    }
+    let mut before = attribute_at(rows, 0);
+    found.push(false)?;
+    'rows: for row in 1..count {
+        let says = attribute_at(rows, row);
+        found.push(says_again(&before, &says))?;
+        before = says;
     }
     Ok(found)
 }
