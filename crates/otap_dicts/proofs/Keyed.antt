@@ -27,5 +27,6 @@ module _ {X : Type 0} (seen : X → List ℕ) where
       ap (map seen) (made ∙ ap (λ (b : Bool). if b then keys else keys ++ key ∷ []) absent) ∙ map-append seen keys (key ∷ []) ∙ ap (λ v. map seen keys ++ v ∷ []) is
 
 -- one more value in a ladder that is in a dictionary form
-pub in-form : (ladder : LadderIn) (form : Form) (value : List ℕ) (values : List (List ℕ)) → is_dictionary form ≡ true → values ≡ ladder.values ++ value ∷ [] → record { dictionary = ladder.dictionary; form = form; values = values } ≡ in_form ladder form value
+pub in-form : (ladder : LadderIn) (form : Form) (value : List ℕ) (values : List (List ℕ)) → is_dictionary form ≡ true → values ≡ ladder.values ++ value ∷ []
+    → record { dictionary = ladder.dictionary; form = form; values = values } ≡ in_form ladder form value
 in-form ladder form value values dict is = rw (dict, is) refl

@@ -39,7 +39,8 @@ one-new : (form : Form) (values : List (List ℕ)) (value : List ℕ) → with_n
 unfolding with_new ladder_by
 one-new form values value = rw (length-append values (value ∷ []), sum_by_push length values value) refl
 
-in-dictionary : (form : Form) (values : List (List ℕ)) (value : List ℕ) (has : Bool) → list_any (bytes_eq value) values ≡ has → takes (record { dictionary = true; form = form; values = values }) ≡ true → kept_in form values ≡ values → form ≡ dictionary_form (length values) (bytes_of values)
+in-dictionary : (form : Form) (values : List (List ℕ)) (value : List ℕ) (has : Bool) → list_any (bytes_eq value) values ≡ has
+    → takes (record { dictionary = true; form = form; values = values }) ≡ true → kept_in form values ≡ values → form ≡ dictionary_form (length values) (bytes_of values)
     → observed (record { dictionary = true; form = form; values = values }) value ≡ ladder_by (with_value values value)
 unfolding observed ladder_by
 in-dictionary form values value true has takes kept same = rw (takes, has, sym same, kept) refl

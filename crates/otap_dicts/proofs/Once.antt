@@ -26,7 +26,8 @@ unfolding distinct IsDistinct
 once-law values = once-all [] values tt
 
 -- x is among the values
-found : (x : List ℕ) (has : Bool) (values : List (List ℕ)) (value : List ℕ) → list_any (bytes_eq value) values ≡ has → list_any (bytes_eq x) (if has then values else values ++ value ∷ []) ≡ (list_any (bytes_eq x) values || bytes_eq x value)
+found : (x : List ℕ) (has : Bool) (values : List (List ℕ)) (value : List ℕ) → list_any (bytes_eq value) values ≡ has
+    → list_any (bytes_eq x) (if has then values else values ++ value ∷ []) ≡ (list_any (bytes_eq x) values || bytes_eq x value)
 found x true values value is = there (bytes_eq x value) refl
   where
     there : (same : Bool) → bytes_eq x value ≡ same → list_any (bytes_eq x) values ≡ (list_any (bytes_eq x) values || bytes_eq x value)
@@ -37,7 +38,8 @@ found x false values value is = list_any-append (bytes_eq x) values (value ∷ [
 found-all : (x : List ℕ) (values more : List (List ℕ)) → list_any (bytes_eq x) (fold with_value values more) ≡ (list_any (bytes_eq x) values || list_any (bytes_eq x) more)
 found-all x values [] = sym (or-false (list_any (bytes_eq x) values))
 found-all x values (value ∷ more) =
-    found-all x (with_value values value) more ∙ ap (λ (b : Bool). b || list_any (bytes_eq x) more) (found x (list_any (bytes_eq value) values) values value refl) ∙ or_assoc (list_any (bytes_eq x) values) (bytes_eq x value) (list_any (bytes_eq x) more)
+    found-all x (with_value values value) more ∙ ap (λ (b : Bool). b || list_any (bytes_eq x) more) (found x (list_any (bytes_eq value) values) values value refl)
+    ∙ or_assoc (list_any (bytes_eq x) values) (bytes_eq x value) (list_any (bytes_eq x) more)
 
 pub members-law : (values : List (List ℕ)) (value : List ℕ) → list_any (bytes_eq value) (distinct values) ≡ list_any (bytes_eq value) values
 unfolding distinct
