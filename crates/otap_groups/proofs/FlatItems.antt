@@ -52,7 +52,7 @@ module _ {I : Type 0} where
 
 -- ---- the scopes that have items, one group further
 
-scopes_step : {I : Type 0} (group : ResourceGroup I) (groups : List (ResourceGroup I)) → scopes_of (group ∷ groups)
+pub scopes_step : {I : Type 0} (group : ResourceGroup I) (groups : List (ResourceGroup I)) → scopes_of (group ∷ groups)
     ≡ map (λ (scope : ScopeGroup I). scope.scope) (filter (λ (scope : ScopeGroup I). nat_lt 0 (length scope.items)) group.scopes) ++ scopes_of groups
 scopes_step {I = I} group groups = by (cases_Bool (nat_lt 0 (length (filter (λ (scope : ScopeGroup I). nat_lt 0 (length scope.items)) group.scopes)))) where
   by : ((nat_lt 0 (length (filter (λ (scope : ScopeGroup I). nat_lt 0 (length scope.items)) group.scopes)) ≡ true)

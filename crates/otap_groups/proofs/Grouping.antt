@@ -126,7 +126,7 @@ first_from P Q (x ∷ xs) weaker first = weaker x first
 -- ---- which groups have items
 
 module _ {I : Type 0} where
-  scopes_past_kept : (s : ℕ) (groups : List (ScopeGroup I)) → scopes_past s groups ≡ s + length (filter has_items groups)
+  pub scopes_past_kept : (s : ℕ) (groups : List (ScopeGroup I)) → scopes_past s groups ≡ s + length (filter has_items groups)
   scopes_past_kept s [] = omega arith
   scopes_past_kept s (group ∷ groups) = by group.scope group.items (λ s. scopes_past_kept s groups) where
     by : (scope : Scope) (items : List I) → ((s : ℕ) → scopes_past s groups ≡ s + length (filter has_items groups))
@@ -134,7 +134,7 @@ module _ {I : Type 0} where
     by scope [] ih = ih s
     by scope (item ∷ items) ih = rw (positive (length items)) (let e = ih (suc s) in omega (arith, e))
 
-  none_kept : (r s : ℕ) (resource : Resource) (groups : List (ScopeGroup I)) → length (flat_scopes r s resource groups) ≡ 0 → filter has_items groups ≡ []
+  pub none_kept : (r s : ℕ) (resource : Resource) (groups : List (ScopeGroup I)) → length (flat_scopes r s resource groups) ≡ 0 → filter has_items groups ≡ []
   none_kept r s resource [] empty = refl
   none_kept r s resource (group ∷ groups) empty = by group.scope group.items (λ s. none_kept r s resource groups) empty where
     by : (scope : Scope) (items : List I) → ((s : ℕ) → length (flat_scopes r s resource groups) ≡ 0 → filter has_items groups ≡ [])
@@ -142,7 +142,7 @@ module _ {I : Type 0} where
     by scope [] ih empty = ih s empty
     by scope (item ∷ items) ih empty = absurd (omega arith)
 
-  some_kept : (r s : ℕ) (resource : Resource) (groups : List (ScopeGroup I)) → 0 < length (flat_scopes r s resource groups) → nat_lt 0 (length (filter has_items groups)) ≡ true
+  pub some_kept : (r s : ℕ) (resource : Resource) (groups : List (ScopeGroup I)) → 0 < length (flat_scopes r s resource groups) → nat_lt 0 (length (filter has_items groups)) ≡ true
   some_kept r s resource [] some = absurd (omega arith)
   some_kept r s resource (group ∷ groups) some = by group.scope group.items (λ s. some_kept r s resource groups) some where
     by : (scope : Scope) (items : List I) → ((s : ℕ) → 0 < length (flat_scopes r s resource groups) → nat_lt 0 (length (filter has_items groups)) ≡ true)

@@ -7,10 +7,15 @@ pub mod FlatItems
 pub mod FlatSteps
 pub mod FrontKinds
 pub mod Grouping
+pub mod GroupsApart
+pub mod GroupsTold
+pub mod IdColumns
 pub mod IndexLaws
 pub mod Joins
+pub mod LightGroups
 pub mod OrderLaws
 pub mod PartSteps
+pub mod ProfileRows
 pub mod ReadLaws
 pub mod RowSums
 pub mod RowsApart

@@ -11,6 +11,7 @@ use Rattle.otap_cells.specs.Cells.{Cell}
 use Rattle.otap_cells.specs.Columns.{coding_at, width_of}
 use Rattle.otap_cells.specs.Ids.{IdsAfter, base_of}
 use Rattle.otap_cells.specs.ColumnIds.{IdsOf, id_in}
+use Rattle.otap_cells.specs.GivenIds.{HasIds}
 use Rattle.otap_cells.specs.Continuing.{again_of, continues_after, continues_of, goes_on_after, ids_in_front}
 use Rattle.otap_cells.specs.Tables.{coding_in, column_in, greatest_in, greatest_wide, profile_table}
 use Rattle.otap_groups.specs.Rows.{ChildRow, MainRow, child_row, child_rows, main_row, main_rows}
@@ -23,10 +24,10 @@ use Rattle.otap_groups.proofs.FlatSteps.{rising_flat, rising_placed}
 
 -- ---- how a written table stores a column
 
-coding_is : (kind : Kind) (rows : List (List Cell)) (column : ℕ) → column < width_of kind → coding_in (profile_table kind rows) column ≡ coding_at kind column
+pub coding_is : (kind : Kind) (rows : List (List Cell)) (column : ℕ) → column < width_of kind → coding_in (profile_table kind rows) column ≡ coding_at kind column
 coding_is kind rows column within = get_or-map-range_with_len (coding_at kind) 0 (width_of kind) column column coding.Plain within (omega arith)
 
-greatest_is : (kind : Kind) (rows : List (List Cell)) (column : ℕ) → column < width_of kind → greatest_in (profile_table kind rows) column ≡ greatest_wide
+pub greatest_is : (kind : Kind) (rows : List (List Cell)) (column : ℕ) → column < width_of kind → greatest_in (profile_table kind rows) column ≡ greatest_wide
 greatest_is kind rows column within = get_or-map-range_with_len (λ column. greatest_wide) 0 (width_of kind) column column 0 within (omega arith)
 
 -- where ids aren't stored in runs, which rows continue a run doesn't count
@@ -94,24 +95,46 @@ module _ {I : Type 0} (cells_of : I → List Cell) where
       fill_by_all _ xs (length rows) (main_row None None None []) (sizes xs rows fit)
       (λ k within. at_place xs rows k (main_row None None None []) fit (subst (λ n. k < n) (sym (sizes xs rows fit)) within))
 
+  -- the ids that a main table has
+  pub own_ids_of : (kind : Kind) (groups : List (ResourceGroup I)) → IsMain kind → length (items_of groups) ≤ 2 ^ 32
+      → HasIds (main_table kind cells_of groups) 0 (map (λ (row : MainRow). row.id) (numbered_rows cells_of 0 (flat groups)))
+  unfolding main_table
+  own_ids_of kind groups main few =
+      let size = size_of_flat 4294967295 groups in
+      let wide = main.wide in
+      ids_of_column kind (stored_rows cells_of 0 0 0 (flat groups)) 0 coding.Delta _ _ (omega arith) main.ids_rise
+      (without_runs _ 0 [] _ _ _ (own_ids 0 0 0 0 0 (flat groups) refl (omega (arith, size))))
+
+  pub resource_ids_of : (kind : Kind) (groups : List (ResourceGroup I)) → IsMain kind → length (items_of groups) ≤ 2 ^ 32
+      → HasIds (main_table kind cells_of groups) 1 (map (λ (row : MainRow). row.resource_id) (numbered_rows cells_of 0 (flat groups)))
+  unfolding main_table
+  resource_ids_of kind groups main few =
+      let most = bounded 4294967295 groups (omega arith) in
+      let wide = main.wide in
+      ids_of_column kind (stored_rows cells_of 0 0 0 (flat groups)) 1 coding.Delta _ _ (omega arith) main.resource_ids_rise
+      (without_runs _ 0 [] _ _ _ (resource_ids 0 0 0 0 (flat groups) (rising_flat groups) most))
+
+  pub scope_ids_of : (kind : Kind) (groups : List (ResourceGroup I)) → IsMain kind → length (items_of groups) ≤ 2 ^ 32
+      → HasIds (main_table kind cells_of groups) 4 (map (λ (row : MainRow). row.scope_id) (numbered_rows cells_of 0 (flat groups)))
+  unfolding main_table
+  scope_ids_of kind groups main few =
+      let most = bounded 4294967295 groups (omega arith) in
+      let wide = main.wide in
+      ids_of_column kind (stored_rows cells_of 0 0 0 (flat groups)) 4 coding.Delta _ _ (omega arith) main.scope_ids_rise
+      (without_runs _ 0 [] _ _ _ (scope_ids 0 0 0 0 (flat groups) (rising_flat groups) most))
+
   pub main_rows_of : (kind : Kind) (groups : List (ResourceGroup I)) → IsMain kind → length (items_of groups) ≤ 2 ^ 32
       → IsMainRows (main_table kind cells_of groups) (numbered_rows cells_of 0 (flat groups))
   unfolding main_table
-  main_rows_of kind groups main few =
-      let size = size_of_flat 4294967295 groups in
-      let most = bounded 4294967295 groups (omega arith) in
-      let wide = main.wide in
-      record {
-        ids = map (λ (row : MainRow). row.id) (numbered_rows cells_of 0 (flat groups));
-        resource_ids = map (λ (row : MainRow). row.resource_id) (numbered_rows cells_of 0 (flat groups));
-        scope_ids = map (λ (row : MainRow). row.scope_id) (numbered_rows cells_of 0 (flat groups));
-        own = ids_of_column kind (stored_rows cells_of 0 0 0 (flat groups)) 0 coding.Delta _ _ (omega arith) main.ids_rise (without_runs _ 0 [] _ _ _ (own_ids 0 0 0 0 0 (flat groups) refl (omega (arith, size))));
-        resource = ids_of_column kind (stored_rows cells_of 0 0 0 (flat groups)) 1 coding.Delta _ _ (omega arith) main.resource_ids_rise
-            (without_runs _ 0 [] _ _ _ (resource_ids 0 0 0 0 (flat groups) (rising_flat groups) most));
-        scope = ids_of_column kind (stored_rows cells_of 0 0 0 (flat groups)) 4 coding.Delta _ _ (omega arith) main.scope_ids_rise
-            (without_runs _ 0 [] _ _ _ (scope_ids 0 0 0 0 (flat groups) (rising_flat groups) most));
-        are = rows_are (numbered_rows cells_of 0 (flat groups)) (stored_rows cells_of 0 0 0 (flat groups)) (fitting 0 0 0 0 (flat groups));
-      }
+  main_rows_of kind groups main few = record {
+    ids = map (λ (row : MainRow). row.id) (numbered_rows cells_of 0 (flat groups));
+    resource_ids = map (λ (row : MainRow). row.resource_id) (numbered_rows cells_of 0 (flat groups));
+    scope_ids = map (λ (row : MainRow). row.scope_id) (numbered_rows cells_of 0 (flat groups));
+    own = own_ids_of kind groups main few;
+    resource = resource_ids_of kind groups main few;
+    scope = scope_ids_of kind groups main few;
+    are = rows_are (numbered_rows cells_of 0 (flat groups)) (stored_rows cells_of 0 0 0 (flat groups)) (fitting 0 0 0 0 (flat groups));
+  }
 
 -- ---- tables of parts
 

@@ -1,8 +1,8 @@
 //! What the definitions mean, as functions that do nothing: each ensures a law for all rows.
 ghost use Rattle.std.specs.Prelude.{◌≡◌, ◌+◌, ◌≤◌, ◌^◌, ℕ, true, List, Option, length, map, sum_by, IsPermutation};
 ghost use Rattle.std.specs.List.{flat_map};
-ghost use Rattle.otlp_model.specs.Same.{SameOften};
-ghost use Rattle.otlp_model.specs.Telemetry.{groups_with_items};
+ghost use Rattle.otlp_model.specs.Same.{SameItem, SameOften, SameTelemetry};
+ghost use Rattle.otlp_model.specs.Telemetry.{Item, entries_of, groups_with_items, told};
 ghost use Rattle.otlp_model.specs.declared.value.Pair.{Pair};
 ghost use Rattle.otlp_model.specs.declared.groups.Resource.{Resource};
 ghost use Rattle.otlp_model.specs.declared.groups.Scope.{Scope};
@@ -28,6 +28,20 @@ pub fn groups_come_back<I>()
         → Agree resources 0 (map (λ (resource : Resource). resource.pairs) (resources_of groups))
         → Agree scopes 0 (map (λ (scope : Scope). scope.pairs) (scopes_of groups))
         → regrouped resources scopes item (numbered_rows cells_of 0 (flat groups)) ≡ groups_with_items groups }
+{}
+
+/// Law: the groups of these rows tell the same as the groups that have items, where the items that are read tell the same, and the
+/// pairs are found in whatever order: `resources`, `scopes` and `item` find them in the order in which they were written.
+pub fn groups_tell_the_same<I>()
+    ensures { (kind : I → Item) (cells_of : I → List Cell) (resources found_resources scopes found_scopes : Option ℕ → List Pair)
+        (item found_item : Option ℕ → List Cell → I) (groups : List (ResourceGroup I))
+        → Reads numbered cells_of item 0 (items_of groups)
+        → Agree resources 0 (map (λ (resource : Resource). resource.pairs) (resources_of groups))
+        → Agree scopes 0 (map (λ (scope : Scope). scope.pairs) (scopes_of groups))
+        → ((id : Option ℕ) → SameOften (resources id) (found_resources id)) → ((id : Option ℕ) → SameOften (scopes id) (found_scopes id))
+        → ((id : Option ℕ) (cells : List Cell) → SameItem (kind (item id cells)) (kind (found_item id cells)))
+        → SameTelemetry (map (told kind) (entries_of (groups_with_items groups)))
+        (map (told kind) (entries_of (regrouped found_resources found_scopes found_item (numbered_rows cells_of 0 (flat groups))))) }
 {}
 
 /// Law: the parts of each parent are found in the rows that are written for them.
