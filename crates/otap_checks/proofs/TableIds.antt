@@ -1,11 +1,10 @@
 -- The ids of a table's columns as lists, and what they give.
-use Rattle.std.proofs.Common.{◌≡◌, ◌∙◌, ℕ, suc, ◌+◌, ◌<◌, Bool, true, false, List, [], ◌∷◌, map, drop, length, get_or, Option, None, Some, inl, inr, refl, sym, ap, subst, arith}
+use Rattle.std.proofs.Common.{◌≡◌, ◌∙◌, ℕ, suc, ◌+◌, ◌<◌, Bool, true, List, [], ◌∷◌, map, drop, length, get_or, Option, None, Some, inl, inr, refl, sym, ap, subst, arith}
 use Rattle.std.specs.Prelude.{Contains}
 use Rattle.std.specs.List.{range_with_len}
 use Rattle.std.proofs.lemmas.List.FromFn.{get_or-map-range_with_len, length-map-range_with_len}
 use Rattle.std.proofs.lemmas.List.{length-map}
 use Rattle.std.proofs.lemmas.Bool.{false≢true, cases_Bool, cases_eq}
-use Rattle.otlp_model.specs.declared.value.Pair.{Pair}
 use Rattle.otlp_model.specs.declared.request.Signal.{Signal}
 use Rattle.otap_cells.specs.Cells.{Cell, null}
 use Rattle.otap_cells.specs.declared.profile.Coding.{Coding}
@@ -30,7 +29,7 @@ use Rattle.otap_checks.specs.declared.links.Link.{Link}
 use Rattle.otap_checks.specs.Links.{links_of}
 use Rattle.otap_checks.specs.IdDefects.{IdDefect}
 use Rattle.otap_checks.specs.Inside.{AreGiven}
-use Rattle.otap_checks.specs.Reading.{main_rows_in, pairs_in, ResourcesDiffer, ScopesDiffer, Disagrees}
+use Rattle.otap_checks.specs.Reading.{main_rows_in, pairs_in, Disagrees}
 
 -- the ids that a column has are its ids as a list
 pub ids_are : (t : Table) (column : ℕ) (ids : List (Option ℕ)) → HasIds t column ids → ids ≡ ids_in t column

@@ -1,3 +1,4 @@
+pub mod Deciding
 pub mod IdDefects
 pub mod Inside
 pub mod Links

@@ -1,12 +1,17 @@
 -- The rows of tables, with the ids that their columns stand for, and what rests on them.
-use Rattle.std.specs.Prelude.{ℕ, List, [], Option, map, drop, ◌⊎◌}
+use Rattle.std.specs.Prelude.{◌≡◌, ℕ, true, List, [], Option, map, drop, ◌⊎◌}
 use Rattle.otlp_model.specs.declared.value.Pair.{Pair}
+use Rattle.otap_cells.specs.Columns.{is_id_at}
 use Rattle.otap_cells.specs.GivenIds.{HasIds, ids_in}
 use Rattle.otap_cells.specs.Tables.{Table}
 use Rattle.otap_groups.specs.Rows.{MainRow, ChildRow, main_rows, child_rows}
 use Rattle.otap_groups.specs.Children.{children}
 use Rattle.otap_groups.specs.Disagree.{DifferBy}
 use Rattle.otap_attrs.specs.Values.{pair_in}
+
+-- the numbers of each column of ids stand for some
+abbrev pub HasAllIds : Table → Type 0
+HasAllIds t = (column : ℕ) → is_id_at t.kind column ≡ true → (ids : List (Option ℕ)) × HasIds t column ids
 
 -- the rows of a main table; of parts, with their ids and parents; of attributes
 abbrev pub main_rows_in : Table → List MainRow

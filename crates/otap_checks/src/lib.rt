@@ -4,6 +4,7 @@
 mod checking;
 mod columns;
 mod fronts;
+pub mod laws;
 mod links;
 mod orphans;
 mod pairs;

@@ -1,6 +1,3 @@
-use Rattle.std.proofs.Common.{◌≡◌}
-use Rattle.otap_groups.specs.Disagree.{Disagree}
-use Rattle.otap_checks.specs.Reading.{main_rows_in}
 use Rattle.otap_checks.proofs.TableIds.{disagree_too, disagrees_too, has_them}
 use Rattle.otap_checks.proofs.fronts.disagrees.Goals as goal
 

@@ -1,0 +1,145 @@
+-- What is decided of elements of lists and of numbers.
+use Rattle.std.proofs.Common.{◌≡◌, ◌∙◌, ℕ, zero, suc, ◌<◌, ◌≤◌, nat_eq, false, List, [], ◌∷◌, Option, Some, None, refl, sym, ap, subst, arith, inl, inr, eq-eqb, ne_eqb}
+use Rattle.std.specs.Prelude.{Contains, ◌⊎◌}
+use Rattle.std.proofs.lemmas.Bool.{cases_Bool, cases_eq, cases_lt, true≢false}
+use Rattle.otap_cells.specs.Cells.{Cell}
+use Rattle.otap_cells.specs.Ids.{Twice, times}
+use Rattle.otap_groups.specs.Rows.{MainRow, cells_are}
+use Rattle.otap_groups.specs.Disagree.{DifferBy}
+use Rattle.otap_checks.specs.IdDefects.{OrphanIn}
+
+-- ---- one of a list
+
+pub some_or_none : {A : Type 0} (P : A → Type 0) → ((x : A) → P x ⊎ (P x → ⊥)) → (xs : List A)
+    → ((x : A) × Contains xs x × P x) ⊎ ((x : A) → Contains xs x → P x → ⊥)
+some_or_none P decide [] = inr (λ x at is. absurd (omega (arith, at.1)))
+some_or_none {A} P decide (x ∷ xs) = by_first (decide x) (some_or_none P decide xs)
+  where
+    behind : (P x → ⊥) → ((y : A) → Contains xs y → P y → ⊥) → (y : A) → Contains (x ∷ xs) y → P y → ⊥
+    behind first none y (zero, within, at) is = first (subst P (sym at) is)
+    behind first none y (suc k, within, at) is = none y (k, omega arith, at) is
+
+    by_first : P x ⊎ (P x → ⊥) → ((y : A) × Contains xs y × P y) ⊎ ((y : A) → Contains xs y → P y → ⊥)
+        → ((y : A) × Contains (x ∷ xs) y × P y) ⊎ ((y : A) → Contains (x ∷ xs) y → P y → ⊥)
+    by_first (inl is) rest = inl (x, (0, omega arith, refl), is)
+    by_first (inr first) (inl (y, (k, within, at), is)) = inl (y, (suc k, omega arith, at), is)
+    by_first (inr first) (inr none) = inr (behind first none)
+
+contains_or_not : {A : Type 0} (y : A) → ((x : A) → (x ≡ y) ⊎ (x ≡ y → ⊥)) → (xs : List A) → Contains xs y ⊎ (Contains xs y → ⊥)
+contains_or_not y decide xs = elim (some_or_none (λ x. x ≡ y) decide xs) [
+  | inl found ↦ inl (subst (Contains xs) found.2 found.1)
+  | inr none ↦ inr (λ at. none y at refl)
+]
+
+is_none : (x : Option ℕ) → (x ≡ None) ⊎ (x ≡ None → ⊥)
+is_none None = inl refl
+is_none (Some n) = inr (λ e. cc)
+
+some_is : (a b : ℕ) → Some a ≡ Some b → a ≡ b
+some_is a b e = cc
+
+is_some_of : (n : ℕ) (x : Option ℕ) → (x ≡ Some n) ⊎ (x ≡ Some n → ⊥)
+is_some_of n None = inr (λ e. cc)
+is_some_of n (Some m) = elim (cases_eq m n) [
+  | inl same ↦ inl (ap (λ k. Some k) same)
+  | inr differ ↦ inr (λ e. differ (some_is m n e))
+]
+
+pub null_or_not : (ids : List (Option ℕ)) → Contains ids None ⊎ (Contains ids None → ⊥)
+null_or_not ids = contains_or_not None is_none ids
+
+pub number_or_not : (ids : List (Option ℕ)) (n : ℕ) → Contains ids (Some n) ⊎ (Contains ids (Some n) → ⊥)
+number_or_not ids n = contains_or_not (Some n) (is_some_of n) ids
+
+-- ---- ids
+
+-- a number stands twice
+pub twice_or_not : (ids : List (Option ℕ)) → Twice ids ⊎ (Twice ids → ⊥)
+twice_or_not [] = inr (λ twice. absurd (omega (arith, twice.1)))
+twice_or_not (None ∷ ids) = twice_or_not ids
+twice_or_not (Some id ∷ ids) = elim (cases_lt 0 (times id ids)) [
+  | inl again ↦ inl (id, rw (eq-eqb id id refl) (omega (arith, again)))
+  | inr once ↦ elim (twice_or_not ids) [
+    | inl twice ↦ inl (
+      twice.0,
+      let many = twice.1 in elim (cases_Bool (nat_eq id twice.0)) [
+        | inl hit ↦ rw hit (omega (arith, many))
+        | inr miss ↦ rw miss many
+      ],
+    )
+    | inr none ↦ inr (λ twice. elim (cases_eq id twice.0) [
+      | inl same ↦ let many : 1 < suc (times twice.0 ids) = rw (eq-eqb id twice.0 same) at twice.1 in
+          let few : times twice.0 ids ≤ 0 = subst (λ n. times n ids ≤ 0) same once in absurd (omega (arith, many, few))
+      | inr differ ↦ none (twice.0, rw (ne_eqb id twice.0 differ) at twice.1)
+    ])
+  ]
+]
+
+-- a parent isn't among ids
+abbrev IsLost : List (Option ℕ) → Option ℕ → Type 0
+IsLost ids None = ⊥
+IsLost ids (Some parent) = Contains ids (Some parent) → ⊥
+
+lost_or_not : (ids : List (Option ℕ)) (x : Option ℕ) → IsLost ids x ⊎ (IsLost ids x → ⊥)
+lost_or_not ids None = inr (λ none. none)
+lost_or_not ids (Some parent) = elim (number_or_not ids parent) [
+  | inl there ↦ inr (λ lost. lost there)
+  | inr missing ↦ inl missing
+]
+
+orphan_of : (parents ids : List (Option ℕ)) (x : Option ℕ) → Contains parents x → IsLost ids x → OrphanIn parents ids
+orphan_of parents ids None at lost = absurd lost
+orphan_of parents ids (Some parent) at lost = record { parent = parent; named = at; missing = lost }
+
+pub orphan_or_not : (parents ids : List (Option ℕ)) → OrphanIn parents ids ⊎ (OrphanIn parents ids → ⊥)
+orphan_or_not parents ids = elim (some_or_none (IsLost ids) (lost_or_not ids) parents) [
+  | inl found ↦ inl (orphan_of parents ids found.0 found.1 found.2)
+  | inr none ↦ inr (λ orphan. none (Some orphan.parent) orphan.named orphan.missing)
+]
+
+-- ---- rows of one id that differ
+
+record Apart (id : MainRow → Option ℕ) (cells : MainRow → List Cell) (a b : MainRow) : Type 0 where
+  pub shared : ℕ
+  pub first : id a ≡ Some shared
+  pub second : id b ≡ Some shared
+  pub differ : cells_are (cells a) (cells b) ≡ false
+
+module _ (id : MainRow → Option ℕ) (cells : MainRow → List Cell) where
+  apart_or_not : (a b : MainRow) → Apart id cells a b ⊎ (Apart id cells a b → ⊥)
+  apart_or_not a b = by_ids (id a) (id b) refl refl
+    where
+      by_ids : (x y : Option ℕ) → id a ≡ x → id b ≡ y → Apart id cells a b ⊎ (Apart id cells a b → ⊥)
+      by_ids None y first second = inr (λ apart. let clash = sym first ∙ apart.first in absurd cc)
+      by_ids (Some n) None first second = inr (λ apart. let clash = sym second ∙ apart.second in absurd cc)
+      by_ids (Some n) (Some m) first second = elim (cases_eq m n) [
+        | inr other ↦ inr (λ apart. other (some_is m apart.shared (sym second ∙ apart.second) ∙ some_is apart.shared n (sym apart.first ∙ first)))
+        | inl same ↦ elim (cases_Bool (cells_are (cells a) (cells b))) [
+          | inl equal ↦ inr (λ apart. absurd (true≢false (sym equal ∙ apart.differ)))
+          | inr differ ↦ inl (record { shared = n; first = first; second = second ∙ ap (λ k. Some k) same; differ = differ })
+        ]
+      ]
+
+  abbrev HasApart : List MainRow → MainRow → Type 0
+  HasApart rows a = (b : MainRow) × Contains rows b × Apart id cells a b
+
+  has_apart_or_not : (rows : List MainRow) (a : MainRow) → HasApart rows a ⊎ (HasApart rows a → ⊥)
+  has_apart_or_not rows a = elim (some_or_none (Apart id cells a) (apart_or_not a) rows) [
+    | inl found ↦ inl found
+    | inr none ↦ inr (λ found. none found.0 found.1 found.2)
+  ]
+
+  pub differ_or_not : (rows : List MainRow) → DifferBy id cells rows ⊎ (DifferBy id cells rows → ⊥)
+  differ_or_not rows = elim (some_or_none (HasApart rows) (has_apart_or_not rows) rows) [
+    | inl (a, first, (b, second, apart)) ↦ inl (record {
+      shared = apart.shared;
+      a = a;
+      b = b;
+      first = first;
+      second = second;
+      of_first = apart.first;
+      of_second = apart.second;
+      differ = apart.differ;
+    })
+    | inr none ↦ inr (λ d. none d.a d.first (d.b, d.second, record { shared = d.shared; first = d.of_first; second = d.of_second; differ = d.differ }))
+  ]
