@@ -1,15 +1,14 @@
 -- The tables of a request tell what the request tells.
-use Rattle.std.proofs.Common.{◌≡◌, ◌≤◌, ◌^◌, List, length, map, refl, sym, ap, ◌∙◌, subst, arith}
+use Rattle.std.proofs.Common.{◌≡◌, ◌≤◌, ◌^◌, List, length, refl, sym, ap, ◌∙◌, subst, arith}
 use Rattle.std.specs.Prelude.{All}
-use Rattle.std.specs.List.{AllZip}
 use Rattle.std.proofs.lemmas.List.{length-map}
 use Rattle.std.proofs.lemmas.List.Elements.{All-map, All-weaker}
 use Rattle.otlp_model.proofs.WithItems.{telemetry_kept}
 use Rattle.otlp_model.specs.Limits.{weight_limit}
 use Rattle.otlp_model.specs.Profile.{IsProfile}
 use Rattle.otlp_model.specs.Real.{IsReal}
-use Rattle.otlp_model.specs.Same.{Same, SameEntry, SameItem, SameLogRecord, SameOften}
-use Rattle.otlp_model.specs.Telemetry.{Entry, Item, entries_of, groups_with_items, log_record, told}
+use Rattle.otlp_model.specs.Same.{Same, SameLogRecord, SameOften, SameTelemetry}
+use Rattle.otlp_model.specs.Telemetry.{Entry, Item, groups_with_items, log_record, telemetry}
 use Rattle.otlp_model.specs.Weight.{weight_of, weight_of_log_record}
 use Rattle.otlp_model.specs.declared.groups.Resource.{Resource}
 use Rattle.otlp_model.specs.declared.groups.Scope.{Scope}
@@ -20,11 +19,12 @@ use Rattle.otlp_model.specs.declared.value.Pair.{Pair}
 use Rattle.otap_cells.specs.declared.payload.Kind.TheVariants as table
 use Rattle.otap_cells.specs.Cells.{Cell}
 use Rattle.otap_cells.specs.Tables.{Table}
+use Rattle.otap_groups.specs.Children.{Agree, Reads, numbered}
 use Rattle.otap_groups.specs.Flat.{flat, items_of, numbered_rows, resources_of, scopes_of}
 use Rattle.otap_groups.specs.Groups.{regrouped}
 use Rattle.otap_groups.specs.Rows.{main_rows}
 use Rattle.otap_groups.specs.Stored.{main_table}
-use Rattle.otap_groups.proofs.AlikeLaws.{alike_regrouped, alike_told}
+use Rattle.otap_groups.proofs.GroupsTold.{groups_told}
 use Rattle.otap_groups.proofs.Grouping.{groups_back}
 use Rattle.otap_groups.proofs.StoredRows.{main_rows_of}
 use Rattle.otap_groups.proofs.WritableGroups.{all_items_can, all_resources_can, all_scopes_can, few_items, few_resources, few_scopes}
@@ -43,37 +43,18 @@ same_record : (cells : List Cell) (xs ys : List Pair) → SameOften xs ys → Sa
 unfolding record_of
 same_record cells xs ys same = record { scalars = refl; pairs = same }
 
-module _ (groups : List (ResourceGroup LogRecord)) (back : All IsBack groups) (light : weight_of (Logs groups) ≤ weight_limit) where
-  few_main : length (items_of groups) ≤ 2 ^ 32
+module _ (groups : List (ResourceGroup LogRecord)) (light : weight_of (Logs groups) ≤ weight_limit) where
+  pub few_main : length (items_of groups) ≤ 2 ^ 32
   few_main = omega (arith, light, few_items weight_of_log_record groups)
 
-  few_r : length (resource_pairs groups) ≤ 2 ^ 32
+  pub few_r : length (resource_pairs groups) ≤ 2 ^ 32
   few_r = omega (arith, light, few_resources weight_of_log_record groups, length-map (resources_of groups) (λ (resource : Resource). resource.pairs))
 
-  few_s : length (scope_pairs groups) ≤ 2 ^ 32
+  pub few_s : length (scope_pairs groups) ≤ 2 ^ 32
   few_s = omega (arith, light, few_scopes weight_of_log_record groups, length-map (scopes_of groups) (λ (scope : Scope). scope.pairs))
 
-  few_l : length (record_pairs groups) ≤ 2 ^ 32
+  pub few_l : length (record_pairs groups) ≤ 2 ^ 32
   few_l = omega (arith, light, few_items weight_of_log_record groups, length-map (items_of groups) (λ (log : LogRecord). log.pairs))
-
-  abbrev IsBackList : List Pair → Type 0
-  IsBackList pairs = Every IsBackPair pairs
-
-  logs_back : All IsBackRecord (items_of groups)
-  logs_back = all_items_can IsBackResource IsBackScope IsBackRecord groups back
-
-  -- before the pairs are sorted the request itself comes back
-  unsorted_back : regrouped (unsorted (resource_pairs groups)) (unsorted (scope_pairs groups)) (λ id cells. record_of cells (unsorted (record_pairs groups) id))
-      (numbered_rows record_cells 0 (flat groups)) ≡ groups_with_items groups
-  unsorted_back =
-      groups_back record_cells (unsorted (resource_pairs groups)) (unsorted (scope_pairs groups)) (λ id cells. record_of cells (unsorted (record_pairs groups) id)) groups
-      (records_read (items_of groups) (unsorted (record_pairs groups)) logs_back
-      (pairs_agree (record_pairs groups) (All-map IsBackList (λ (log : LogRecord). log.pairs) (items_of groups)
-      (All-weaker IsBackRecord (λ (log : LogRecord). IsBackList log.pairs) (λ log is. is.pairs) (items_of groups) logs_back))))
-      (pairs_agree (resource_pairs groups) (All-map IsBackList (λ (resource : Resource). resource.pairs) (resources_of groups)
-      (all_resources_can IsBackResource IsBackScope IsBackRecord groups back)))
-      (pairs_agree (scope_pairs groups) (All-map IsBackList (λ (scope : Scope). scope.pairs) (scopes_of groups)
-      (all_scopes_can IsBackResource IsBackScope IsBackRecord groups back)))
 
   abbrev r : Table
   r = attribute_table table.ResourceAttrs (resource_pairs groups)
@@ -84,38 +65,60 @@ module _ (groups : List (ResourceGroup LogRecord)) (back : All IsBack groups) (l
   abbrev l : Table
   l = attribute_table table.LogAttrs (record_pairs groups)
 
-  alike : AllZip (SameEntry SameLogRecord)
-      (entries_of (regrouped (unsorted (resource_pairs groups)) (unsorted (scope_pairs groups)) (λ id cells. record_of cells (unsorted (record_pairs groups) id))
-      (numbered_rows record_cells 0 (flat groups))))
-      (entries_of (regrouped (pairs_in r) (pairs_in s) (λ id cells. record_of cells (pairs_in l id)) (numbered_rows record_cells 0 (flat groups))))
-  alike =
-      alike_regrouped SameLogRecord (unsorted (resource_pairs groups)) (pairs_in r) (unsorted (scope_pairs groups)) (pairs_in s)
-      (λ id cells. record_of cells (unsorted (record_pairs groups) id)) (λ id cells. record_of cells (pairs_in l id))
-      (sorted_alike table.ResourceAttrs (resource_pairs groups) refl few_r) (sorted_alike table.ScopeAttrs (scope_pairs groups) refl few_s)
-      (λ id cells. same_record cells (unsorted (record_pairs groups) id) (pairs_in l id) (sorted_alike table.LogAttrs (record_pairs groups) refl few_l id))
-      (numbered_rows record_cells 0 (flat groups))
-
-  rows_are : numbered_rows record_cells 0 (flat groups) ≡ main_rows_in (main_table table.Logs record_cells groups)
+  pub rows_are : numbered_rows record_cells 0 (flat groups) ≡ main_rows_in (main_table table.Logs record_cells groups)
   rows_are =
       let t : Table = main_table table.Logs record_cells groups in
       let have = main_rows_of record_cells table.Logs groups logs_are_main few_main in
       have.are ∙ (λ i. main_rows (ids_are t 0 have.ids have.own i) (ids_are t 1 have.resource_ids have.resource i) (ids_are t 4 have.scope_ids have.scope i) t.rows)
 
-  regrouped_is : regrouped (pairs_in r) (pairs_in s) (λ id cells. record_of cells (pairs_in l id)) (numbered_rows record_cells 0 (flat groups))
+  pub regrouped_is : regrouped (pairs_in r) (pairs_in s) (λ id cells. record_of cells (pairs_in l id)) (numbered_rows record_cells 0 (flat groups))
       ≡ regrouped_logs (tables_of_logs groups)
   unfolding regrouped_logs
   regrouped_is = λ i. regrouped (pairs_in (sym (named_resources groups) i)) (pairs_in (sym (named_scopes groups) i))
       (λ id cells. record_of cells (pairs_in (sym (named_records groups) i) id)) ((rows_are ∙ ap main_rows_in (sym (named_main groups))) i)
 
-  all_tell : Same (Logs groups) (Logs (regrouped_logs (tables_of_logs groups)))
-  all_tell =
-      subst (λ (xs : List (Entry Item)). AllZip (SameEntry SameItem) xs (map (told log_record) (entries_of (regrouped_logs (tables_of_logs groups)))))
-      (ap (λ gs. map (told log_record) (entries_of gs)) unsorted_back ∙ telemetry_kept (Logs groups))
-      (subst (λ (gs : List (ResourceGroup LogRecord)). AllZip (SameEntry SameItem)
-      (map (told log_record) (entries_of (regrouped (unsorted (resource_pairs groups)) (unsorted (scope_pairs groups))
-      (λ id cells. record_of cells (unsorted (record_pairs groups) id)) (numbered_rows record_cells 0 (flat groups)))))
-      (map (told log_record) (entries_of gs))) regrouped_is
-      (alike_told SameLogRecord log_record (λ a b same. same) _ _ alike))
+module _ (groups : List (ResourceGroup LogRecord)) (back : All IsBack groups) where
+  abbrev IsBackList : List Pair → Type 0
+  IsBackList pairs = Every IsBackPair pairs
+
+  logs_back : All IsBackRecord (items_of groups)
+  logs_back = all_items_can IsBackResource IsBackScope IsBackRecord groups back
+
+  items_read : Reads numbered record_cells (λ id cells. record_of cells (unsorted (record_pairs groups) id)) 0 (items_of groups)
+  items_read =
+      records_read (items_of groups) (unsorted (record_pairs groups)) logs_back
+      (pairs_agree (record_pairs groups) (All-map IsBackList (λ (log : LogRecord). log.pairs) (items_of groups)
+      (All-weaker IsBackRecord (λ (log : LogRecord). IsBackList log.pairs) (λ log is. is.pairs) (items_of groups) logs_back)))
+
+  resources_agree : Agree (unsorted (resource_pairs groups)) 0 (resource_pairs groups)
+  resources_agree = pairs_agree (resource_pairs groups) (All-map IsBackList (λ (resource : Resource). resource.pairs) (resources_of groups)
+      (all_resources_can IsBackResource IsBackScope IsBackRecord groups back))
+
+  scopes_agree : Agree (unsorted (scope_pairs groups)) 0 (scope_pairs groups)
+  scopes_agree = pairs_agree (scope_pairs groups) (All-map IsBackList (λ (scope : Scope). scope.pairs) (scopes_of groups)
+      (all_scopes_can IsBackResource IsBackScope IsBackRecord groups back))
+
+  -- before the pairs are sorted the request itself comes back
+  pub unsorted_back : regrouped (unsorted (resource_pairs groups)) (unsorted (scope_pairs groups)) (λ id cells. record_of cells (unsorted (record_pairs groups) id))
+      (numbered_rows record_cells 0 (flat groups)) ≡ groups_with_items groups
+  unsorted_back =
+      groups_back record_cells (unsorted (resource_pairs groups)) (unsorted (scope_pairs groups)) (λ id cells. record_of cells (unsorted (record_pairs groups) id)) groups
+      items_read resources_agree scopes_agree
+
+  -- and sorted ones are the same
+  all_tell : weight_of (Logs groups) ≤ weight_limit → Same (Logs groups) (Logs (regrouped_logs (tables_of_logs groups)))
+  all_tell light =
+      let r : Table = attribute_table table.ResourceAttrs (resource_pairs groups) in
+      let s : Table = attribute_table table.ScopeAttrs (scope_pairs groups) in
+      let l : Table = attribute_table table.LogAttrs (record_pairs groups) in
+      let found : SameTelemetry (telemetry (Logs (groups_with_items groups)))
+      (telemetry (Logs (regrouped (pairs_in r) (pairs_in s) (λ id cells. record_of cells (pairs_in l id)) (numbered_rows record_cells 0 (flat groups))))) =
+      groups_told log_record record_cells (unsorted (resource_pairs groups)) (pairs_in r) (unsorted (scope_pairs groups)) (pairs_in s)
+      (λ id cells. record_of cells (unsorted (record_pairs groups) id)) (λ id cells. record_of cells (pairs_in l id)) groups items_read resources_agree scopes_agree
+      (sorted_alike table.ResourceAttrs (resource_pairs groups) refl (few_r groups light)) (sorted_alike table.ScopeAttrs (scope_pairs groups) refl (few_s groups light))
+      (λ id cells. same_record cells (unsorted (record_pairs groups) id) (pairs_in l id) (sorted_alike table.LogAttrs (record_pairs groups) refl (few_l groups light) id)) in
+      subst (λ (xs : List (Entry Item)). SameTelemetry xs (telemetry (Logs (regrouped_logs (tables_of_logs groups))))) (telemetry_kept (Logs groups))
+      (subst (λ (gs : List (ResourceGroup LogRecord)). SameTelemetry (telemetry (Logs (groups_with_items groups))) (telemetry (Logs gs))) (regrouped_is groups light) found)
 
 pub same_again : (groups : List (ResourceGroup LogRecord)) → IsReal (Logs groups) → IsProfile (Logs groups) → weight_of (Logs groups) ≤ weight_limit
     → Same (Logs groups) (Logs (regrouped_logs (tables_of_logs groups)))

@@ -66,7 +66,7 @@ pub refuses_ids : (tables : List Table) (refusal : CheckRefusal) → RefusesChec
 refuses_ids tables (check.Memory error) is = tt
 refuses_ids tables (check.Defect kind wrong) is = inl is
 
-wrong_body : (tables : List Table) (wrong : RowRefusal) → WrongValue (table_named table.Logs tables) 15 wrong → WrongCells (table_named table.Logs tables) table.Logs wrong
+pub wrong_body : (tables : List Table) (wrong : RowRefusal) → WrongValue (table_named table.Logs tables) 15 wrong → WrongCells (table_named table.Logs tables) table.Logs wrong
 wrong_body tables why.Disagree is = absurd is.is
 wrong_body tables (why.Ids fault) is = is
 wrong_body tables why.Orphan is = is

@@ -85,7 +85,8 @@ one_fine k (pair ∷ pairs) all =
 abbrev IsFineList : List Pair → Type 0
 IsFineList pairs = All IsFinePair pairs
 
-split : (xs ys : List (PlacedIn Pair)) → map row_of_pair xs ++ map row_of_pair ys ≡ map row_of_pair (xs ++ ys)
+-- rows one after the other
+pub split : (xs ys : List (PlacedIn Pair)) → map row_of_pair xs ++ map row_of_pair ys ≡ map row_of_pair (xs ++ ys)
 split [] ys = refl
 split (x ∷ xs) ys = ap (λ rows. row_of_pair x ∷ rows) (split xs ys)
 

@@ -1,8 +1,11 @@
 -- The columns of the tables of logs.
-use Rattle.std.proofs.Common.{refl, arith}
+use Rattle.std.proofs.Common.{◌≡◌, ℕ, true, List, refl, sym, subst, arith}
 use Rattle.otap_cells.specs.declared.payload.Kind.TheVariants as table
-use Rattle.otap_cells.specs.Columns.{logs, attrs}
+use Rattle.otap_cells.specs.declared.payload.Kind.{Kind}
+use Rattle.otap_cells.specs.Columns.{ColumnSpec, attrs, columns_of, is_id_at, logs}
 use Rattle.otap_groups.specs.Kinds.{IsMain}
+use Rattle.otap_groups.proofs.IdColumns.{each_id, id_places}
+use Rattle.otap_groups.proofs.RunBlocks.{Every}
 use Rattle.otap_attrs.specs.Values.{HasValueAt}
 
 pub logs_are_main : IsMain table.Logs
@@ -38,3 +41,14 @@ has_scope_value = record { bases = refl }
 pub has_record_value : HasValueAt table.LogAttrs 2
 unfolding attrs
 has_record_value = record { bases = refl }
+
+-- the id columns of log records, and of attributes
+pub log_ids : (P : ℕ → Type 0) → P 0 → P 1 → P 4 → (column : ℕ) → is_id_at table.Logs column ≡ true → P column
+unfolding logs
+log_ids P own resource scope column is = each_id P table.Logs (own, (resource, (scope, tt))) column is
+
+pub attribute_ids : (P : ℕ → Type 0) (kind : Kind) → columns_of kind ≡ attrs → P 0 → (column : ℕ) → is_id_at kind column ≡ true → P column
+unfolding attrs
+attribute_ids P kind same parent column is =
+    let all : Every P (id_places 0 attrs) = (parent, tt) in
+    each_id P kind (subst (λ (columns : List ColumnSpec). Every P (id_places 0 columns)) (sym same) all) column is

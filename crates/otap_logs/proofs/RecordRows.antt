@@ -9,20 +9,15 @@ use Rattle.otap_cells.specs.declared.payload.Kind.TheVariants as table
 use Rattle.otap_cells.specs.declared.profile.Base.TheVariants as base
 use Rattle.otap_cells.specs.declared.view.CellView.{CellView}
 use Rattle.otap_cells.specs.Cells.{Cell, IsCellOf, seen}
-use Rattle.otap_cells.specs.Columns.{ColumnSpec, columns_of, common, logs}
+use Rattle.otap_cells.specs.Columns.{columns_of, common, logs}
 use Rattle.otap_cells.specs.Scalars.{text_cell, number_cell, int_cell, bits_cell}
 use Rattle.otap_cells.specs.Tables.{IsRow}
 use Rattle.otap_cells.specs.Weights.{cell_weight}
 use Rattle.otap_groups.specs.Weighing.{cells_weight}
+use Rattle.otap_groups.proofs.ProfileRows.{rows_join}
 use Rattle.otap_attrs.specs.Values.{AreCellsOf, value_bases, value_cells}
 use Rattle.otap_attrs.proofs.AttributesWeighed.{text_weighs, number_weighs, int_weighs_nothing, bits_weigh}
 use Rattle.otap_logs.specs.Records.{record_cells, last_cells}
-
-rows_join : (first second : List ColumnSpec) (xs ys : List Cell) → IsRow first xs → IsRow second ys → IsRow (first ++ second) (xs ++ ys)
-rows_join [] second [] ys a b = b
-rows_join [] second (x ∷ xs) ys a b = absurd a
-rows_join (c ∷ first) second [] ys a b = absurd a
-rows_join (c ∷ first) second (x ∷ xs) ys a b = (a.0, rows_join first second xs ys a.1 b)
 
 pub record_fits : (kind : Kind) (front : List Cell) (time observed trace span severity text v0 v1 v2 v3 v4 v5 v6 dropped flags name : Cell) → kind ≡ table.Logs → IsRow common front
     → IsCellOf base.Timestamp time → IsCellOf base.Timestamp observed → IsCellOf base.Fixed16 trace → IsCellOf base.Fixed8 span → IsCellOf base.I32 severity → IsCellOf base.Utf8 text

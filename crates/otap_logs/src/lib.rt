@@ -4,6 +4,7 @@
 mod columns;
 pub mod laws;
 mod reading;
+pub mod reading_laws;
 mod requests;
 mod weights;
 mod writing;

@@ -43,13 +43,15 @@ write_attributes-requires-2-clause-weight c =
 pub write_attributes-requires-3-clause-few : goal.write_attributes-requires-3-clause-few
 write_attributes-requires-3-clause-few c =
     records_few c.args.groups.now c.as_slice-groups.result.now c.as_slice-groups.ensures c.requires.weight (λ (b : Bor LogRecord). b.now) c.deref-5.result.now
-    (ap (map (λ (b : Bor LogRecord). b.now)) c.deref-5.ensures.value ∙ c.in_ok-records.ensures ∙ items_of_rows c.deref-4.result.now c.as_slice-groups.result.now (ap (map seen_flat) c.deref-4.ensures.value ∙ c.in_ok-rows.ensures.items))
+    (ap (map (λ (b : Bor LogRecord). b.now)) c.deref-5.ensures.value ∙ c.in_ok-records.ensures
+    ∙ items_of_rows c.deref-4.result.now c.as_slice-groups.result.now (ap (map seen_flat) c.deref-4.ensures.value ∙ c.in_ok-rows.ensures.items))
 
 pub write_attributes-requires-3-clause-weight : goal.write_attributes-requires-3-clause-weight
 write_attributes-requires-3-clause-weight c =
     records_can c.as_slice-groups.result.now (all_can c.args.groups.now c.as_slice-groups.result.now c.as_slice-groups.ensures c.requires.profile c.requires.weight)
     (λ (b : Bor LogRecord). b.now) c.deref-5.result.now
-    (ap (map (λ (b : Bor LogRecord). b.now)) c.deref-5.ensures.value ∙ c.in_ok-records.ensures ∙ items_of_rows c.deref-4.result.now c.as_slice-groups.result.now (ap (map seen_flat) c.deref-4.ensures.value ∙ c.in_ok-rows.ensures.items))
+    (ap (map (λ (b : Bor LogRecord). b.now)) c.deref-5.ensures.value ∙ c.in_ok-records.ensures
+    ∙ items_of_rows c.deref-4.result.now c.as_slice-groups.result.now (ap (map seen_flat) c.deref-4.ensures.value ∙ c.in_ok-rows.ensures.items))
 
 pub returns-clause-tables : goal.returns-clause-tables
 returns-clause-tables c =
@@ -58,10 +60,13 @@ returns-clause-tables c =
     c.new-tables.ensures.items c.in_ok-push.ensures.items c.in_ok-push_filled.ensures c.in_ok-push_filled-2.ensures c.in_ok-push_filled-3.ensures)
     ∙ written c.args.groups.now c.as_slice-groups.result.now (map seen_flat c.deref.result.now) c.in_ok-main.main c.in_ok-resources-2.resources c.in_ok-scopes-2.scopes c.in_ok-records-2.records
     c.as_slice-groups.ensures (ap (map seen_flat) c.deref.ensures.value ∙ c.in_ok-rows.ensures.items) c.in_ok-main.ensures
-    (found_table table.ResourceAttrs (λ (b : Bor Resource). b.now) (λ (x : Resource). x.pairs) c.deref-2.result.now _ _ (ap (map (λ (b : Bor Resource). b.now)) c.deref-2.ensures.value ∙ c.in_ok-resources.ensures) c.in_ok-resources-2.ensures)
-    (found_table table.ScopeAttrs (λ (b : Bor Scope). b.now) (λ (x : Scope). x.pairs) c.deref-3.result.now _ _ (ap (map (λ (b : Bor Scope). b.now)) c.deref-3.ensures.value ∙ c.in_ok-scopes.ensures) c.in_ok-scopes-2.ensures)
+    (found_table table.ResourceAttrs (λ (b : Bor Resource). b.now) (λ (x : Resource). x.pairs) c.deref-2.result.now _ _
+    (ap (map (λ (b : Bor Resource). b.now)) c.deref-2.ensures.value ∙ c.in_ok-resources.ensures) c.in_ok-resources-2.ensures)
+    (found_table table.ScopeAttrs (λ (b : Bor Scope). b.now) (λ (x : Scope). x.pairs) c.deref-3.result.now _ _
+    (ap (map (λ (b : Bor Scope). b.now)) c.deref-3.ensures.value ∙ c.in_ok-scopes.ensures) c.in_ok-scopes-2.ensures)
     (found_table table.LogAttrs (λ (b : Bor LogRecord). b.now) (λ (x : LogRecord). x.pairs) c.deref-5.result.now _ _
-    (ap (map (λ (b : Bor LogRecord). b.now)) c.deref-5.ensures.value ∙ c.in_ok-records.ensures ∙ items_of_rows c.deref-4.result.now c.as_slice-groups.result.now (ap (map seen_flat) c.deref-4.ensures.value ∙ c.in_ok-rows.ensures.items)) c.in_ok-records-2.ensures)
+    (ap (map (λ (b : Bor LogRecord). b.now)) c.deref-5.ensures.value ∙ c.in_ok-records.ensures
+    ∙ items_of_rows c.deref-4.result.now c.as_slice-groups.result.now (ap (map seen_flat) c.deref-4.ensures.value ∙ c.in_ok-rows.ensures.items)) c.in_ok-records-2.ensures)
 
 pub returns-clause-set : goal.returns-clause-set
 returns-clause-set c =

@@ -1,0 +1,62 @@
+-- The request that the tables of a request make weighs no more than the request.
+use Rattle.std.proofs.Common.{◌≡◌, ℕ, ◌≤◌, ◌^◌, true, List, [], Option, length, map, drop, refl, sym, ◌∙◌, ap, subst, arith}
+use Rattle.otlp_model.specs.Limits.{weight_limit}
+use Rattle.otlp_model.specs.Profile.{IsProfile}
+use Rattle.otlp_model.specs.Real.{IsReal}
+use Rattle.otlp_model.specs.Telemetry.{groups_with_items}
+use Rattle.otlp_model.specs.Weight.{total, weight_of, weight_of_log_record, weight_of_pair, weight_of_resource_group}
+use Rattle.otlp_model.specs.declared.groups.ResourceGroup.{ResourceGroup}
+use Rattle.otlp_model.specs.declared.logs.LogRecord.{LogRecord}
+use Rattle.otlp_model.specs.declared.request.Request.TheVariants.{Logs}
+use Rattle.otlp_model.specs.declared.value.Pair.{Pair}
+use Rattle.otap_cells.specs.declared.payload.Kind.{Kind}
+use Rattle.otap_cells.specs.declared.payload.Kind.TheVariants as table
+use Rattle.otap_cells.specs.Cells.{Cell}
+use Rattle.otap_cells.specs.Continuing.{has_attributes}
+use Rattle.otap_cells.specs.Tables.{Table}
+use Rattle.otap_groups.specs.Children.{children, unnumbered}
+use Rattle.otap_groups.specs.Flat.{flat, numbered_rows, part_rows, placed}
+use Rattle.otap_groups.specs.Rows.{ChildRow, child_rows}
+use Rattle.otap_groups.proofs.LightGroups.{kept_weigh, regrouped_weigh, reordered_weigh}
+use Rattle.otap_attrs.specs.Tables.{attribute_table}
+use Rattle.otap_attrs.specs.Values.{pair_cells}
+use Rattle.otap_attrs.proofs.TableLaws.{table_has_rows}
+use Rattle.otap_checks.specs.Reading.{pairs_in}
+use Rattle.otap_checks.proofs.TableIds.{ids_are}
+use Rattle.otap_logs.specs.Records.{record_cells, record_of}
+use Rattle.otap_logs.specs.Requests.{regrouped_logs}
+use Rattle.otap_logs.specs.Tables.{tables_of_logs}
+use Rattle.otap_logs.proofs.BackAgain.{few_l, few_r, few_s, regrouped_is, unsorted_back}
+use Rattle.otap_logs.proofs.NamedTables.{record_pairs, resource_pairs, scope_pairs}
+use Rattle.otap_logs.proofs.ReadAgain.{groups_again, item_of_pair, unsorted}
+
+-- the pairs of a parent weigh the same, in whatever order they stand
+sorted_weigh : (kind : Kind) (lists : List (List Pair)) → has_attributes kind ≡ true → length lists ≤ 2 ^ 32 → (parent : Option ℕ)
+    → total 32 weight_of_pair (unsorted lists parent) ≡ total 32 weight_of_pair (pairs_in (attribute_table kind lists) parent)
+sorted_weigh kind lists kinds few parent =
+    let have = table_has_rows kind lists kinds few in
+    subst (λ (rows : List ChildRow). total 32 weight_of_pair (unsorted lists parent) ≡ total 32 weight_of_pair (children item_of_pair rows parent))
+    (have.1.are ∙ ap (λ ps. child_rows [] ps (map (drop 1) (attribute_table kind lists).rows)) (ids_are (attribute_table kind lists) 0 have.1.parents have.1.above))
+    (reordered_weigh item_of_pair weight_of_pair (part_rows unnumbered pair_cells 0 (placed lists)) have.0 have.2 parent)
+
+record_weighs : (cells : List Cell) (xs ys : List Pair) → total 32 weight_of_pair xs ≡ total 32 weight_of_pair ys
+    → weight_of_log_record (record_of cells xs) ≡ weight_of_log_record (record_of cells ys)
+unfolding record_of
+record_weighs cells xs ys same = omega (arith, same)
+
+pub light_tables : (groups : List (ResourceGroup LogRecord)) → IsReal (Logs groups) → IsProfile (Logs groups) → weight_of (Logs groups) ≤ weight_limit
+    → weight_of (Logs (regrouped_logs (tables_of_logs groups))) ≤ weight_of (Logs groups)
+light_tables groups real is light =
+    let r : Table = attribute_table table.ResourceAttrs (resource_pairs groups) in
+    let s : Table = attribute_table table.ScopeAttrs (scope_pairs groups) in
+    let l : Table = attribute_table table.LogAttrs (record_pairs groups) in
+    let found = regrouped_weigh weight_of_log_record (unsorted (resource_pairs groups)) (pairs_in r) (unsorted (scope_pairs groups)) (pairs_in s)
+    (λ id cells. record_of cells (unsorted (record_pairs groups) id)) (λ id cells. record_of cells (pairs_in l id))
+    (sorted_weigh table.ResourceAttrs (resource_pairs groups) refl (few_r groups light)) (sorted_weigh table.ScopeAttrs (scope_pairs groups) refl (few_s groups light))
+    (λ id cells. record_weighs cells (unsorted (record_pairs groups) id) (pairs_in l id) (sorted_weigh table.LogAttrs (record_pairs groups) refl (few_l groups light) id))
+    (numbered_rows record_cells 0 (flat groups)) in
+    let here : total 32 (weight_of_resource_group weight_of_log_record) (groups_with_items groups) ≡ weight_of (Logs (regrouped_logs (tables_of_logs groups))) =
+    ap (total 32 (weight_of_resource_group weight_of_log_record)) (sym (unsorted_back groups (groups_again groups real.at is.at))) ∙ found
+    ∙ ap (total 32 (weight_of_resource_group weight_of_log_record)) (regrouped_is groups light) in
+    let most = kept_weigh weight_of_log_record groups in
+    omega (arith, here, most)
