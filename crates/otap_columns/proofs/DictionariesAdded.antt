@@ -24,6 +24,7 @@ use Rattle.otap_columns.specs.Dictionaries.{values_of}
 use Rattle.otap_columns.specs.Policy.{HoldsValues}
 use Rattle.otap_columns.specs.WrittenBatches.{IsSingle, AddsDictionary}
 use Rattle.otap_columns.specs.WrittenCells.{HasRoom, parts_of, with_parts}
+use Rattle.otap_columns.proofs.BatchGrown.{column_grows, message_short, sizes}
 use Rattle.otap_columns.proofs.HeadsTaken.{all_some}
 
 -- ---- value by value
@@ -162,11 +163,10 @@ validity_short nulls rows = by (nulls == 0) refl
     by false is = rw is (omega arith)
 
 -- a dictionary's batch is small
-pub dictionary_room : (w : Width) (values : List (List ℕ)) (from : ℕ) (b : Buffers) → IsSingle w → ((place : ℕ) (value : List ℕ) → slice_get values place ≡ Some value → HasWidth w value)
+pub dictionary_short : (w : Width) (values : List (List ℕ)) (from : ℕ) (b : Buffers) → IsSingle w → ((place : ℕ) (value : List ℕ) → slice_get values place ≡ Some value → HasWidth w value)
     → length values ≤ 65536 → bytes_of values ≤ 1048576 → b.rows ≡ length (all_some (drop from values)) → length b.validity.items ≡ validity_len b.nulls b.rows → length b.offsets.items ≡ offsets_len w b.rows
-    → length b.values.items ≡ values_len w (all_some (drop from values))
-    → HasRoom (record { rows = b.rows; nodes = []; buffers = [] }) (padded (length b.validity.items) + padded (length b.offsets.items) + padded (length b.values.items))
-dictionary_room w values from b single wide few small rows validity offsets bytes =
+    → length b.values.items ≡ values_len w (all_some (drop from values)) → sizes b ≤ 1441850
+dictionary_short w values from b single wide few small rows validity offsets bytes =
     let short : values_len w (all_some (drop from values)) ≤ bytes_of (drop from values) + length (drop from values) =
     values_short w (drop from values) single (λ place value at. wide (from + place) value (drop_at values from place value at)) in
     let count : b.rows ≤ 65536 = omega (arith, length-map (drop from values) (λ (value : List ℕ). Some value), length-drop from values) in
@@ -175,7 +175,18 @@ dictionary_room w values from b single wide few small rows validity offsets byte
     let a : padded (length b.validity.items) ≤ 65560 = omega (arith, padded_short (length b.validity.items), validity_short b.nulls b.rows) in
     let o : padded (length b.offsets.items) ≤ 262160 = omega (arith, padded_short (length b.offsets.items), offsets_short w b.rows) in
     let v : padded (length b.values.items) ≤ 1114130 = omega (arith, padded_short (length b.values.items)) in
-    record { nodes = omega arith; buffers = omega arith; body = omega arith }
+    omega (arith, a, o, v)
+
+pub dictionary_room : (rows : ℕ) (b : Buffers) → sizes b ≤ 1441850 → HasRoom (record { rows = rows; nodes = []; buffers = [] }) 1 (sizes b)
+dictionary_room rows b short = record { nodes = omega arith; buffers = omega arith; body = omega arith }
+
+-- and so is its message
+pub dictionary_message : (w : Width) (b : Buffers) → sizes b ≤ 1441850 → most_of (with_parts (record { rows = b.rows; nodes = []; buffers = [] }) (parts_of w b)) ≤ 1500000
+dictionary_message w b short =
+    omega (
+      arith,
+      message_short 1 (sizes b) b.rows (with_parts (record { rows = b.rows; nodes = []; buffers = [] }) (parts_of w b)) (column_grows (record { rows = b.rows; nodes = []; buffers = [] }) w b),
+    )
 
 -- ---- the call
 

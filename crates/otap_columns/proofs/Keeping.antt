@@ -6,10 +6,10 @@ use Rattle.std.proofs.lemmas.Bool.{cases_Bool, and_parts, and_from, eqb-true, le
 use Rattle.arrow_schema.specs.declared.spec.ArrowType.{ArrowType}
 use Rattle.arrow_schema.specs.declared.spec.ArrowType.TheVariants as arrow
 use Rattle.arrow_schema.specs.Types.{is_list, takes_dictionary}
-use Rattle.arrow_schema.specs.Trees.{total}
+use Rattle.arrow_schema.specs.Trees.{total, count_of}
 use Rattle.arrow_schema.specs.Readable.{is_supported, IsReadable}
 use Rattle.arrow_schema.specs.Branches.{Leaf, Branch, One, Under, lacks, are_apart, name_of, leaf_size, branch_size, FitsTypes, FitsItem, IsLeaf, AreLeaves, IsBranch, AreEach}
-use Rattle.arrow_schema.proofs.Branched.{branches_readable}
+use Rattle.arrow_schema.proofs.Branched.{branches_count, branches_readable}
 use Rattle.arrow_buffers.proofs.EachBelow.{all_below-at}
 use Rattle.otap_cells.specs.declared.payload.Kind.{Kind}
 use Rattle.otap_cells.specs.declared.profile.Base.{Base}
@@ -272,6 +272,11 @@ module _ (kind : Kind) (forms : Forms) (fit : FormsFit kind forms) where
         | gone none ↦ rw none (omega (arith, rest))
         | stays b one name size fine ↦ rw one (omega (arith, rest, size))
       ]
+
+  -- how many fields it has at most
+  pub fields_few : count_of (schema_for kind forms) ≤ total (map (group_size (columns_of kind)) (grouped (columns_of kind)))
+  unfolding schema_for branches_for kept_of
+  fields_few = omega (arith, branches_count (kept_of (grouped (columns_of kind))), kept_few (grouped (columns_of kind)) (kinds_grouped kind).each)
 
   -- THE SCHEMA CAN BE READ
   pub schema_readable : IsReadable (schema_for kind forms)

@@ -1,5 +1,6 @@
 pub mod Openings
 pub mod Finding
+pub mod PathsNamed
 pub mod Storing
 pub mod Coding
 pub mod Showing
@@ -22,6 +23,7 @@ pub mod Located
 pub mod Telling
 pub mod CellsBack
 pub mod ValuesSeen
+pub mod IdsRead
 pub mod HeadsTaken
 pub mod LookedUp
 pub mod SchemaFacts
@@ -35,9 +37,16 @@ pub mod SchemaBuilt
 pub mod RowsBuilt
 pub mod PartsBuilt
 pub mod RowsAdded
+pub mod Summing
+pub mod Counting
+pub mod ColumnsShort
+pub mod BatchGrown
 pub mod NamesShort
 pub mod RecordAppended
+pub mod RecordShort
+pub mod BatchShort
 pub mod ValuesKept
 pub mod StepHeld
 pub mod StepWritten
 pub mod StateMade
+pub mod WritableTables

@@ -133,7 +133,7 @@ module _ (kind : Kind) (forms : Forms) where
   groups_short [] = omega arith
   groups_short (g ∷ gs) = omega (arith, names-append (branches_in kind forms g) (flat_map (branches_in kind forms) gs), group_short g, groups_short gs)
 
-  pub names_short : names_of (schema_for kind forms) ≤ 1048576
+  pub names_short : names_of (schema_for kind forms) ≤ 4096
   unfolding schema_for branches_for
   names_short =
       omega (

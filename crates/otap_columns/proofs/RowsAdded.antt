@@ -1,23 +1,21 @@
 -- A record batch that grows slot by slot.
-use Rattle.std.proofs.Common.{◌≡◌, ℕ, suc, zero, ◌+◌, ◌*◌, ◌/◌, ◌<◌, ◌≤◌, Bool, true, false, List, [], ◌∷◌, ◌++◌, length, get_or, map, take, Option, Some, None}
-use Rattle.std.proofs.Common.{refl, sym, ap, ◌∙◌, subst, arith, append-nil, append_assoc, length-append}
+use Rattle.std.proofs.Common.{◌≡◌, ℕ, suc, zero, ◌+◌, ◌*◌, ◌<◌, ◌≤◌, Bool, true, false, List, [], ◌∷◌, ◌++◌, length, get_or, map, take, Option, Some, None}
+use Rattle.std.proofs.Common.{refl, sym, ap, ◌∙◌, subst, arith, append-nil, append_assoc}
 use Rattle.std.specs.Prelude.{ℤ, pos, sum_by, unsigned_abs, option_map, Result, Ok, Err, OnOk}
 use Rattle.std.specs.Int.{w32, w64, cast_unsigned}
 use Rattle.std.specs.List.{flat_map, list_any}
 use Rattle.std.proofs.lemmas.Bool.{true≢false, false≢true}
 use Rattle.std.proofs.lemmas.List.{map-append, take_more}
 use Rattle.std.proofs.lemmas.List.Elements.{filter-append}
-use Rattle.std.proofs.lemmas.List.Sums.{sum_by-cons, sum_by-append}
+use Rattle.std.proofs.lemmas.List.Sums.{sum_by-cons}
 use Rattle.std.proofs.lemmas.Grind.{flat_map-append}
 use Rattle.byteorder.specs.Endian.{little_bytes}
 use Rattle.byteorder.specs.Numbers.{length-bytes_low_first}
 use Rattle.arrow_buffers.specs.declared.builder.Buffers.{Buffers}
 use Rattle.arrow_buffers.specs.declared.width.Width.{Width}
-use Rattle.arrow_buffers.specs.declared.width.Width.TheVariants as width
 use Rattle.arrow_buffers.specs.Columns.{cell_len, cells_len}
 use Rattle.arrow_ipc.specs.Batches.{BatchIn}
-use Rattle.arrow_ipc.specs.Written.{padded, body_size}
-use Rattle.arrow_arrays.specs.Written.{PartIn, batch_of, struct_part, element_part}
+use Rattle.arrow_arrays.specs.Written.{PartIn, batch_of, struct_part}
 use Rattle.otap_cells.specs.declared.profile.Base.{Base}
 use Rattle.otap_cells.specs.declared.profile.Base.TheVariants as base
 use Rattle.otap_cells.specs.Cells.{Cell, null, number, bits, flag, bytes}
@@ -26,7 +24,6 @@ use Rattle.otap_cells.specs.Tables.{Table, IsTable, column_in}
 use Rattle.otap_cells.specs.Weights.{cell_weight, weight_of_row, weight_of_table}
 use Rattle.otap_columns.specs.declared.forms.ColumnForm.{ColumnForm}
 use Rattle.otap_columns.specs.declared.forms.ColumnForm.TheVariants as form
-use Rattle.otap_columns.specs.declared.writer_rows.Used.{Used}
 use Rattle.otap_columns.specs.Observed.{number_bytes, bytes_for}
 use Rattle.otap_cells.specs.declared.payload.Kind.{Kind}
 use Rattle.otap_columns.specs.declared.writer_groups.Group.{Group}
@@ -37,7 +34,7 @@ use Rattle.otap_columns.specs.WrittenGroups.{member_in, group_in}
 use Rattle.otap_columns.specs.WrittenCells.{place_in, width_for, stored_for, stored_column, parts_of, with_part, with_parts}
 use Rattle.otap_columns.specs.Policy.{HoldsRows}
 use Rattle.otap_columns.specs.Groups.{grouped}
-use Rattle.otap_columns.specs.WrittenRows.{AreSlotParts, AddsSlots, HasValues, IsUsed}
+use Rattle.otap_columns.specs.WrittenRows.{AreSlotParts, AddsSlots, HasValues}
 use Rattle.otap_columns.proofs.PartsBuilt.{IsBuiltOf, column_parts}
 use Rattle.otap_columns.proofs.RowsBuilt.{slots-append, rows_held}
 
@@ -115,49 +112,6 @@ cells_light g (r ∷ rows) column each =
 pub column_light : (f : ColumnForm) (vs : List (List ℕ)) (t : Table) (column : ℕ) → cells_len (stored_column f vs t column) ≤ weight_of_table t
 unfolding stored_column
 column_light f vs t column = cells_light (stored_for (base_at t.kind column) f vs) t.rows column (stored_light (base_at t.kind column) f vs)
-
--- ---- what is used
-
-size-append : (xs ys : List (List ℕ)) → body_size (xs ++ ys) ≡ body_size xs + body_size ys
-size-append xs ys = sum_by-append (λ (part : List ℕ). padded (length part)) xs ys
-
-part_used : (batch : BatchIn) (p : PartIn) (nodes buffers long : ℕ) → length p.buffers ≤ buffers → body_size p.buffers ≤ long
-    → (length (with_part batch p).nodes ≡ length batch.nodes + 1) × (length (with_part batch p).buffers ≤ length batch.buffers + buffers) × (body_size (with_part batch p).buffers ≤ body_size batch.buffers + long)
-part_used batch p nodes buffers long few small =
-    (length-append batch.nodes ((pos p.rows, pos p.nulls) ∷ []), omega (arith, length-append batch.buffers p.buffers, few), omega (arith, size-append batch.buffers p.buffers, small))
-
-pub struct_used : (batch : BatchIn) (rows : ℕ) (used new : Used) → IsUsed batch used → new.parts ≡ used.parts + 1 → new.bytes ≡ used.bytes → IsUsed (with_part batch (struct_part rows)) new
-struct_used batch rows used new is parts long =
-    let one = part_used batch (struct_part rows) 1 1 0 (omega arith) (omega arith) in
-    record { nodes = omega (arith, one.0, is.nodes, parts); buffers = omega (arith, one.1, is.buffers, parts); bytes = omega (arith, one.2, is.bytes, long) }
-
-abbrev sizes : Buffers → ℕ
-sizes b = padded (length b.validity.items) + padded (length b.offsets.items) + padded (length b.values.items)
-
-two_size : (x y : List ℕ) → body_size (x ∷ y ∷ []) ≡ padded (length x) + padded (length y)
-two_size x y = omega (arith, sum_by-cons (λ (part : List ℕ). padded (length part)) x (y ∷ []), sum_by-cons (λ (part : List ℕ). padded (length part)) y [])
-
-three_size : (x y z : List ℕ) → body_size (x ∷ y ∷ z ∷ []) ≡ padded (length x) + padded (length y) + padded (length z)
-three_size x y z = omega (arith, sum_by-cons (λ (part : List ℕ). padded (length part)) x (y ∷ z ∷ []), two_size y z)
-
-pub column_used : (batch : BatchIn) (w : Width) (b : Buffers) (used new : Used) → IsUsed batch used → new.parts ≡ used.parts + 1 → new.bytes ≡ used.bytes + sizes b → IsUsed (with_parts batch (parts_of w b)) new
-column_used batch width.Bit b used new is parts long =
-    let p : PartIn = record { rows = b.rows; nulls = b.nulls; buffers = b.validity.items ∷ b.values.items ∷ [] } in
-    let one = part_used batch p 1 2 (sizes b) (omega arith) (omega (arith, two_size b.validity.items b.values.items)) in
-    record { nodes = omega (arith, one.0, is.nodes, parts); buffers = omega (arith, one.1, is.buffers, parts); bytes = omega (arith, one.2, is.bytes, long) }
-column_used batch (width.Fixed n) b used new is parts long =
-    let p : PartIn = record { rows = b.rows; nulls = b.nulls; buffers = b.validity.items ∷ b.values.items ∷ [] } in
-    let one = part_used batch p 1 2 (sizes b) (omega arith) (omega (arith, two_size b.validity.items b.values.items)) in
-    record { nodes = omega (arith, one.0, is.nodes, parts); buffers = omega (arith, one.1, is.buffers, parts); bytes = omega (arith, one.2, is.bytes, long) }
-column_used batch width.Var b used new is parts long =
-    let p : PartIn = record { rows = b.rows; nulls = b.nulls; buffers = b.validity.items ∷ b.offsets.items ∷ b.values.items ∷ [] } in
-    let one = part_used batch p 1 3 (sizes b) (omega arith) (omega (arith, three_size b.validity.items b.offsets.items b.values.items)) in
-    record { nodes = omega (arith, one.0, is.nodes, parts); buffers = omega (arith, one.1, is.buffers, parts); bytes = omega (arith, one.2, is.bytes, long) }
-column_used batch (width.List n) b used new is parts long =
-    let p : PartIn = record { rows = b.rows; nulls = b.nulls; buffers = b.validity.items ∷ b.offsets.items ∷ [] } in
-    let one = part_used batch p 1 2 (padded (length b.validity.items) + padded (length b.offsets.items)) (omega arith) (omega (arith, two_size b.validity.items b.offsets.items)) in
-    let two = part_used (with_part batch p) (element_part (length b.values.items / 8) b.values.items) 1 2 (padded (length b.values.items)) (omega arith) (omega (arith, two_size [] b.values.items)) in
-    record { nodes = omega (arith, one.0, two.0, is.nodes, parts); buffers = omega (arith, one.1, two.1, is.buffers, parts); bytes = omega (arith, one.2, two.2, is.bytes, long) }
 
 -- ---- members and groups
 
@@ -278,10 +232,6 @@ member_ok forms values t table m b old new w (Err e) here is same added = tt
 pub begins : (forms : Forms) (values : ℕ → List (List ℕ)) (t : Table) (batch : BatchIn) → batch ≡ record { rows = length t.rows; nodes = []; buffers = [] }
     → AddsSlots forms values t [] (record { rows = length t.rows; nodes = []; buffers = [] }) batch
 begins forms values t batch is = record { parts = []; whole = is; are = tt }
-
-pub none_used : (batch : BatchIn) (rows : ℕ) (used : Used) → batch ≡ record { rows = rows; nodes = []; buffers = [] } → IsUsed batch used
-none_used batch rows used is =
-    subst (λ (b : BatchIn). IsUsed b used) (sym is) (record { nodes = omega arith; buffers = omega arith; bytes = omega arith })
 
 -- and ends with those of all slots
 pub rows_given : (forms : Forms) (values : ℕ → List (List ℕ)) (t : Table) (gs : List Group) (batch : BatchIn) → FormsFit t.kind forms → HasValues t.kind forms values t → map group_in gs ≡ grouped (columns_of t.kind)

@@ -32,6 +32,7 @@ use Rattle.otap_columns.specs.Observed.{form_at, values_at, new_at}
 use Rattle.otap_columns.specs.Policy.{has_some, is_wanted, batch_if, heads, schema_if, batches_for, messages_for, HoldsValues, IsWritable, GoesOn, IsRecord, IsWritten, Policy, IsReadAs}
 use Rattle.otap_columns.proofs.Growing.{substream-none}
 use Rattle.otap_columns.proofs.HeldLess.{light}
+use Rattle.otap_columns.proofs.IdsRead.{ids_read}
 use Rattle.otap_columns.proofs.HeadsTaken.{all_some, Turn, stays, gets, Turns}
 use Rattle.otap_columns.proofs.Openings.{stream_of-own, own_type}
 use Rattle.otap_columns.proofs.RecordTaken.{type_at, Step, held, stands, fine_all, dictionary_after, indexes, same_table}
@@ -257,6 +258,7 @@ module _ (kind : Kind) (before : List Table) (past : List PayloadIn) (t : Table)
         table = table_in kind final rows;
         gives = gives;
         same = same_table kind (form_at kind (before ++ t ∷ [])) (values_at kind (before ++ t ∷ [])) start head rows t s;
+        ids = ids_read kind before t final rows refl (same_table kind (form_at kind (before ++ t ∷ [])) (values_at kind (before ++ t ∷ [])) start head rows t s) s.codings;
         schema = ap schema_in (stream ∙ ap (λ ms. ms ++ (heads head (width_of kind) ++ Rows rows ∷ [])) s.is);
         held = subst (λ (ms : List IpcMessage). held_in ms ≤ 1572864 * width_of kind) (sym stream) (held kind (form_at kind (before ++ t ∷ [])) (values_at kind (before ++ t ∷ [])) start head rows t s);
       };

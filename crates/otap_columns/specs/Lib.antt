@@ -10,6 +10,7 @@ pub mod Substreams
 pub mod Records
 pub mod Observed
 pub mod Policy
+pub mod TableSets
 pub mod Seen
 pub mod WrittenCells
 pub mod WrittenBatches

@@ -17,6 +17,7 @@ use Rattle.otap_cells.specs.declared.payload.Kind.{Kind}
 use Rattle.otap_cells.specs.Columns.{base_at, coding_at, is_id_at, width_of}
 use Rattle.otap_cells.specs.ColumnIds.{stored_in}
 use Rattle.otap_cells.specs.Continuing.{continues_in}
+use Rattle.otap_cells.specs.GivenIds.{HasIds}
 use Rattle.otap_cells.specs.Ids.{Ids}
 use Rattle.otap_cells.specs.Payload.{number_of}
 use Rattle.otap_cells.specs.Tables.{Table, IsTable, SameTable, cell_in, coding_in, greatest_wide}
@@ -32,7 +33,7 @@ use Rattle.otap_columns.specs.Observed.{bytes_for, form_at, values_at, new_at}
 
 -- ---- the messages of a record
 
--- a record has a batch for a dictionary: where it opens a sub-stream for each, else for each that has new values
+-- an opening record has a batch for each dictionary, any other for each that got new values
 abbrev pub has_some : List (List ℕ) → Bool
 has_some [] = false
 has_some (value ∷ values) = true
@@ -133,12 +134,14 @@ Policy kind tables payloads = EachAfter (IsWritten kind) [] [] tables payloads
 -- ---- the far end
 
 -- a payload is read, after those before it, as a table with the same cells, whose ids are stored alike; its sub-stream then has
--- the schema of the columns' forms, which tells how great the ids may be
+-- the schema of the columns' forms
 pub record IsReadAs (kind : Kind) (before : List Table) (past : List PayloadIn) (t : Table) (p : PayloadIn) : Type 0 where
   pub read : IsRead kind (if opens past p then [] else stream_of (pos (number_of kind)) past) p.bytes
   pub table : Table
   pub gives : logical kind (stream_of (pos (number_of kind)) (past ++ p ∷ [])) ≡ Some table
   pub same : SameTable table t
+  -- its ids, within the type that the schema gives them, are those of the table that was written
+  pub ids : (column : ℕ) (ids : List (Option ℕ)) → is_id_at kind column ≡ true → Ids (coding_at kind column) greatest_wide (continues_in t) (stored_in t column) ids → HasIds table column ids
   pub schema : schema_in (stream_of (pos (number_of kind)) (past ++ p ∷ [])) ≡ Some (schema_for kind (form_at kind (before ++ t ∷ [])))
   -- and the far end holds at most 1,572,864 bytes for each column
   pub held : held_in (stream_of (pos (number_of kind)) (past ++ p ∷ [])) ≤ 1572864 * width_of kind

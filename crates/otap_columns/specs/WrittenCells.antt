@@ -1,5 +1,5 @@
 -- What the writer keeps and writes for a cell.
-use Rattle.std.specs.Prelude.{ℕ, ◌+◌, ◌/◌, ◌<◌, ◌≤◌, List, [], ◌∷◌, ◌++◌, length, map, Option, Some, None, option_map, position, bytes_eq, pos}
+use Rattle.std.specs.Prelude.{ℕ, ◌+◌, ◌*◌, ◌/◌, ◌<◌, ◌≤◌, List, [], ◌∷◌, ◌++◌, length, map, sum_by, Option, Some, None, option_map, position, bytes_eq, pos}
 use Rattle.byteorder.specs.Endian.{little_bytes}
 use Rattle.arrow_buffers.specs.declared.builder.Buffers.{Buffers}
 use Rattle.arrow_buffers.specs.declared.width.Width.{Width}
@@ -13,10 +13,12 @@ use Rattle.otap_cells.specs.declared.profile.Base.TheVariants as base
 use Rattle.otap_cells.specs.Cells.{Cell}
 use Rattle.otap_cells.specs.Columns.{base_at}
 use Rattle.otap_cells.specs.Tables.{Table, cell_in, column_in}
+use Rattle.otap_cells.specs.Weights.{cell_weight, weight_of_table}
 use Rattle.otap_columns.specs.declared.forms.ColumnForm.{ColumnForm}
 use Rattle.otap_columns.specs.declared.forms.ColumnForm.TheVariants as form
 use Rattle.otap_columns.specs.declared.writer_cells.CellBytes.{CellBytes}
 use Rattle.otap_columns.specs.declared.writer_cells.CellBytes.TheVariants as bytes
+use Rattle.otap_columns.specs.Groups.{Member, Group, Alone, Under}
 use Rattle.otap_columns.specs.Observed.{FitsForm, bytes_for, id_width}
 
 -- the bytes that are written for a cell, none where it is null
@@ -106,8 +108,61 @@ abbrev pub with_parts : BatchIn → List PartIn → BatchIn
 with_parts batch [] = batch
 with_parts batch (p ∷ parts) = with_parts (with_part batch p) parts
 
--- there is room for a column's parts
-pub record HasRoom (batch : BatchIn) (bytes : ℕ) : Type 0 where
-  pub nodes : length batch.nodes + 2 ≤ max_parts
-  pub buffers : length batch.buffers + 4 ≤ max_parts
+-- ---- how much a batch takes
+
+-- there is room for this number of parts, each of at most two nodes and four buffers, and for the bytes of their buffers, each
+-- padded
+pub record HasRoom (batch : BatchIn) (parts bytes : ℕ) : Type 0 where
+  pub nodes : length batch.nodes + 2 * parts ≤ max_parts
+  pub buffers : length batch.buffers + 4 * parts ≤ max_parts
   pub body : body_size batch.buffers + bytes < max_body
+
+-- a batch was given no more than these
+pub record GrowsBy (parts bytes : ℕ) (old new : BatchIn) : Type 0 where
+  pub nodes : length new.nodes ≤ length old.nodes + 2 * parts
+  pub buffers : length new.buffers ≤ length old.buffers + 4 * parts
+  pub body : body_size new.buffers ≤ body_size old.buffers + bytes
+
+-- how many bytes of buffers each row of a column takes at most, whatever its form, the bytes of texts and lists aside: the bit of
+-- the bitmap counts as a byte, an index has at most 2, an offset or a wide id 4
+abbrev pub row_most : Base → ℕ
+row_most base.U8 = 3
+row_most base.U16 = 3
+row_most base.U32 = 5
+row_most base.U64 = 9
+row_most base.I32 = 5
+row_most base.I64 = 9
+row_most base.Double = 9
+row_most base.Bool = 3
+row_most base.Utf8 = 5
+row_most base.Binary = 5
+row_most base.Fixed16 = 17
+row_most base.Fixed8 = 9
+row_most base.Timestamp = 9
+row_most base.Duration = 9
+row_most base.ListU64 = 5
+row_most base.ListF64 = 5
+row_most (base.Id wide) = 5
+
+-- what the cells of a column weigh, and how many bytes its buffers take at most
+abbrev pub column_weight : Table → ℕ → ℕ
+column_weight t column = sum_by cell_weight (column_in t.rows column)
+
+abbrev pub column_most : Table → ℕ → ℕ
+column_most t column = row_most (base_at t.kind column) * length t.rows + column_weight t column + 32
+
+-- the same for columns, and for a group: its parts, and the bytes of their buffers
+abbrev pub columns_most : Table → List Member → ℕ
+columns_most t members = sum_by (λ m. column_most t m.column) members
+
+abbrev pub group_parts : Group → ℕ
+group_parts (Alone m) = 1
+group_parts (Under struct members) = 1 + length members
+
+abbrev pub group_most : Table → Group → ℕ
+group_most t (Alone m) = column_most t m.column
+group_most t (Under struct members) = columns_most t members
+
+-- how many bytes the record batch of a table takes at most
+abbrev pub rows_most : Table → ℕ
+rows_most t = 136 * length t.rows + weight_of_table t + 8192

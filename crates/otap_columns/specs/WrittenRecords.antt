@@ -1,6 +1,6 @@
 -- What the writer appends for the record of a table.
-use Rattle.std.specs.Prelude.{◌≡◌, ℕ, ◌<◌, ◌≤◌, Bool, true, not, ◌&&◌, ◌||◌, if◌then◌else◌, List, [], ◌∷◌, ◌++◌, drop, length}
-use Rattle.std.specs.List.{slice_index_or}
+use Rattle.std.specs.Prelude.{◌≡◌, ℕ, ◌+◌, ◌<◌, ◌≤◌, Bool, true, not, ◌&&◌, ◌||◌, if◌then◌else◌, List, [], ◌∷◌, ◌++◌, drop, length, sum_by}
+use Rattle.std.specs.List.{slice_index_or, range_with_len}
 use Rattle.arrow_schema.specs.declared.spec.ArrowType.{ArrowType}
 use Rattle.arrow_ipc.specs.declared.messages.IpcMessage.{IpcMessage}
 use Rattle.arrow_ipc.specs.declared.messages.IpcMessage.TheVariants.{Rows}
@@ -66,3 +66,20 @@ pub record IsRecordBy (kind : Kind) (opening : Bool) (forms : Forms) (values : V
   pub holds : (column : ℕ) → column < width_of kind → is_sent opening (forms column) (drop (from_in opening counts column) (values column)) ≡ true
       → HoldsValues (type_in (base_at kind column) (forms column)) (drop (from_in opening counts column) (values column)) (batches column)
   pub rows_are : HoldsRows kind forms values t rows
+
+-- ---- how many bytes are appended at most
+
+-- for a schema, and for the dictionary of a column in its form
+abbrev pub schema_most : ℕ
+schema_most = 81920
+
+abbrev pub head_most : ColumnForm → ℕ
+head_most form = if is_dictionary form then 1500000 else 0
+
+-- for the dictionaries of the first n columns
+abbrev pub heads_most : Forms → ℕ → ℕ
+heads_most forms n = sum_by (λ column. head_most (forms column)) (range_with_len 0 n)
+
+-- no more than this number of bytes was appended
+abbrev pub AddsAtMost : ℕ → List ℕ → List ℕ → Type 0
+AddsAtMost most old new = length new ≤ length old + most

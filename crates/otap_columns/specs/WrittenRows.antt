@@ -1,8 +1,7 @@
 -- The parts of a record batch of a table.
-use Rattle.std.specs.Prelude.{◌≡◌, ◌*◌, ◌<◌, ◌≤◌, ℕ, ⊤, true, false, List, [], ◌∷◌, length, bytes_eq, Option, Some, None}
+use Rattle.std.specs.Prelude.{◌≡◌, ◌<◌, ◌≤◌, ℕ, ⊤, true, false, List, [], ◌∷◌, length, bytes_eq, Option, Some, None}
 use Rattle.std.specs.List.{list_any, slice_index_or}
 use Rattle.arrow_ipc.specs.Batches.{BatchIn}
-use Rattle.arrow_ipc.specs.Written.{body_size}
 use Rattle.arrow_arrays.specs.Layouts.{layout_of, layout_of_values}
 use Rattle.arrow_arrays.specs.Written.{PartIn, struct_part, HoldsCells, IsPartOfElements}
 use Rattle.otap_cells.specs.declared.payload.Kind.{Kind}
@@ -10,7 +9,6 @@ use Rattle.otap_cells.specs.Columns.{base_at, column_at, width_of}
 use Rattle.otap_cells.specs.Tables.{Table, IsTable, cell_in}
 use Rattle.otap_cells.specs.Weights.{row_weight_limit, weight_of_table}
 use Rattle.otap_dicts.specs.declared.form.Form.TheVariants as ladder
-use Rattle.otap_columns.specs.declared.writer_rows.Used.{Used}
 use Rattle.otap_columns.specs.Schemas.{Forms, Slot, Struct, Column, Items, is_there, is_dictionary, type_in, dict_for, item_in, item_type}
 use Rattle.otap_columns.specs.Observed.{bytes_for}
 use Rattle.otap_columns.specs.Seen.{SeenIn}
@@ -68,9 +66,3 @@ pub record AddsSlots (forms : Forms) (values : ℕ → List (List ℕ)) (t : Tab
   pub parts : List PartIn
   pub whole : new ≡ with_parts old parts
   pub are : AreSlotParts t.kind forms values t slots parts
-
--- a batch has no more than is counted
-pub record IsUsed (batch : BatchIn) (used : Used) : Type 0 where
-  pub nodes : length batch.nodes ≤ 2 * used.parts
-  pub buffers : length batch.buffers ≤ 4 * used.parts
-  pub bytes : body_size batch.buffers ≤ used.bytes

@@ -11,9 +11,10 @@ ghost use Rattle.otap_columns.specs.Records.{IsRead, Stands, CanGoOn, IsJudged};
 ghost use Rattle.otap_columns.specs.Schemas.{Forms, is_there, FormsFit, item_in, schema_for, slots_for, IsSlot, IsFound};
 ghost use Rattle.otap_columns.specs.Schemas.{Column, Items};
 ghost use Rattle.otap_columns.specs.Groups.{Member};
-ghost use Rattle.otap_columns.specs.Known.{place_at, columns_fit};
-ghost use Rattle.otap_cells.specs.Columns.{column_at, width_of};
-ghost use Rattle.arrow_arrays.specs.Arrays.{arrays_of};
+ghost use Rattle.otap_columns.specs.Known.{known_column, place_at, columns_fit};
+ghost use Rattle.otap_cells.specs.Columns.{column_at, has_dot, name_at, width_of};
+ghost use Rattle.arrow_arrays.specs.Arrays.{arrays_of, path_of};
+ghost use Rattle.std.specs.List.{join_with_byte, list_any};
 ghost use Rattle.arrow_arrays.specs.declared.spec.ArraySpec.{ArraySpec};
 ghost use Rattle.arrow_schema.specs.declared.spec.ArrowType.{ArrowType};
 ghost use Rattle.arrow_schema.specs.Readable.{IsReadable};
@@ -34,6 +35,16 @@ pub fn values_are_limited()
 pub fn streams_grow_by_payloads()
     ensures other { (kind : ℤ) (before : List PayloadIn) (p : PayloadIn) → is_of kind p ≡ false → stream_of kind (before ++ p ∷ []) ≡ stream_of kind before }
     ensures own { (before : List PayloadIn) (p : PayloadIn) → stream_of p.kind (before ++ p ∷ []) ≡ (if opens before p then front_of p.bytes else stream_of p.kind before ++ front_of p.bytes) }
+{}
+
+/// An array is the column that its path names: the names of the path, joined by dots, are the column's own name. A path of which
+/// a name holds a dot leads to no column.
+pub fn paths_are_names()
+    ensures named { (kind : Kind) (arrays : List ArraySpec) (place column : ℕ) → known_column kind arrays place ≡ Some column
+        → (column < width_of kind) × (join_with_byte 46 (path_of arrays place) ≡ name_at kind column) }
+    ensures known { (kind : Kind) (arrays : List ArraySpec) (place column : ℕ) → column < width_of kind → list_any has_dot (path_of arrays place) ≡ false
+        → join_with_byte 46 (path_of arrays place) ≡ name_at kind column → known_column kind arrays place ≡ Some column }
+    ensures dotted { (kind : Kind) (arrays : List ArraySpec) (place : ℕ) → list_any has_dot (path_of arrays place) ≡ true → known_column kind arrays place ≡ None }
 {}
 
 /// The columns of a table, each in a form that fits it, make a schema that can be read and whose columns fit the table. Each

@@ -27,6 +27,8 @@ mod writer_record;
 mod writer_rows;
 mod writer_schema;
 mod writer_seen;
+#[cfg(test)]
+mod writer_tests;
 
 pub use dictionary::MAX_VALUES;
 pub use forms::ColumnForm;

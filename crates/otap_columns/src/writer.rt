@@ -6,6 +6,7 @@ ghost use Rattle.otap_cells.specs.Columns.{width_of};
 ghost use Rattle.otap_cells.specs.Continuing.{continues_in};
 ghost use Rattle.otap_cells.specs.Tables.{Table};
 ghost use Rattle.otap_cells.specs.Weights.{row_weight_limit, weight_of_table};
+ghost use Rattle.otap_columns.specs.Limits.{record_limit};
 ghost use Rattle.otap_columns.specs.Policy.{IsRecord, IsWritable};
 ghost use Rattle.otap_columns.specs.Writers.{AreCounts, AreForms, AreSeen, HasWritten, IsReady, SeesAll, WritesRecord, is_started};
 
@@ -58,13 +59,14 @@ impl Writer {
         }
     }
 
-    /// The record of one table more. It opens a sub-stream where nothing was written, or the form of a column changed. After
-    /// want of memory the writer is broken.
+    /// The record of one table more. It opens a sub-stream where nothing was written, or the form of a column changed. Its length
+    /// is within `record_limit`, whatever was written before. After want of memory the writer is broken.
     pub fn write(&mut self, table: &LogicalTable) -> Result<Written, AllocError>
         requires wrote { (tables : List Table) × HasWritten tables self.old }
         requires writable { IsWritable self.old.kind table.now }
         requires light { weight_of_table table.now ≤ row_weight_limit }
         ensures writes { IfOk result (λ written. WritesRecord self.old table.now written.opens written.bytes.items self.new) }
+        ensures bound { IfOk result (λ written. length written.bytes.items ≤ record_limit table.now) }
         ensures kind { self.new.kind ≡ self.old.kind }
         ensures broken { self.new.broken ≡ is_err result }
     {
@@ -123,6 +125,7 @@ fn write_next(
     requires light { weight_of_table table.now ≤ row_weight_limit }
     ensures record_is { IfOk result (λ written. (tables : List Table) → IsReady tables table.now.kind started seen.old → IsRecord table.now.kind tables table.now written.opens written.bytes.items) }
     ensures after { OnOk result ((tables : List Table) → IsReady tables table.now.kind started seen.old → AreSeen table.now.kind (tables ++ table.now ∷ []) seen.new) }
+    ensures short { IfOk result (λ written. length written.bytes.items ≤ record_limit table.now) }
 {
     let kind = table.kind();
     let before = forms_of(alloc, kind, seen)?;

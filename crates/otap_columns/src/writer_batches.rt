@@ -4,6 +4,7 @@ ghost use Rattle.std.specs.Prelude.{◌≡◌, ◌<◌, ◌≤◌, ◌^◌, ℕ,
 ghost use Rattle.arrow_buffers.specs.Columns.{HasWidth};
 ghost use Rattle.otap_dicts.specs.Forms.{bytes_of};
 ghost use Rattle.otap_columns.specs.WrittenBatches.{AddsDictionary, HoldsType, IsSingle};
+ghost use Rattle.otap_columns.specs.WrittenRecords.{AddsAtMost};
 
 use crate::writer_columns::add_column;
 use arrow_buffers::{ColumnBuilder, Width};
@@ -27,7 +28,8 @@ pub(crate) fn add_dictionary(
     requires few { length ladder.now.values ≤ 65536 }
     requires room { bytes_of ladder.now.values ≤ 1048576 }
     requires holds { HoldsType kind width ladder.now.values }
-    ensures { OnOk result (AddsDictionary kind id delta (drop from ladder.now.values) to.old.items to.new.items) }
+    ensures adds { OnOk result (AddsDictionary kind id delta (drop from ladder.now.values) to.old.items to.new.items) }
+    ensures short { OnOk result (AddsAtMost 1500000 to.old.items to.new.items) }
 {
     let built = values_column(alloc, width, ladder, from)?;
     let buffers = built.finish()?;

@@ -78,7 +78,7 @@ pub(crate) fn add_column(
 ) -> Result<(), AllocError>
     requires rows { buffers.now.rows < 2 ^ 63 }
     requires nulls { buffers.now.nulls < 2 ^ 63 }
-    requires room { HasRoom batch.old (padded (length buffers.now.validity.items) + padded (length buffers.now.offsets.items) + padded (length buffers.now.values.items)) }
+    requires room { HasRoom batch.old 1 (padded (length buffers.now.validity.items) + padded (length buffers.now.offsets.items) + padded (length buffers.now.values.items)) }
     ensures { OnOk result (batch.new ≡ with_parts batch.old (parts_of width buffers.now)) }
 {
     batch.add(buffers.rows, buffers.nulls)?;

@@ -1,18 +1,22 @@
 //! What the far end reads of what is written. The functions do nothing: their contracts are the laws.
 
-ghost use Rattle.std.specs.Prelude.{◌≡◌, ℕ, List, [], length};
+ghost use Rattle.std.specs.Prelude.{◌≡◌, ◌≤◌, ℕ, List, [], length, sum_by};
 ghost use Rattle.histories.specs.EachAfter.{EachAfter};
 ghost use Rattle.otap_cells.specs.declared.payload.Kind.{Kind};
+ghost use Rattle.otlp_model.specs.declared.request.Signal.{Signal};
+ghost use Rattle.otap_cells.specs.Payload.{kinds_of};
 ghost use Rattle.otap_cells.specs.Tables.{Table};
+ghost use Rattle.otap_cells.specs.Weights.{row_weight_limit, weight_of_tables};
 ghost use Rattle.arrow_arrays.specs.Written.{PartIn, batch_of};
+ghost use Rattle.otap_columns.specs.Limits.{dictionary_columns, record_limit};
 ghost use Rattle.otap_columns.specs.Policy.{HoldsRows, IsReadAs, Policy};
 ghost use Rattle.otap_columns.specs.Schemas.{Forms, FormsFit, slots_for};
 ghost use Rattle.otap_columns.specs.Streams.{PayloadIn};
 ghost use Rattle.otap_columns.specs.WrittenRows.{AreSlotParts, HasValues};
 
 /// For every list of tables, the payloads that the policy gives them are read as just these tables: no record has a defect,
-/// and the table that a payload stands for has the cells and the codings of the one that was written. Its sub-stream has the
-/// schema of the columns' forms.
+/// and the table that a payload stands for has the cells, the codings and the ids of the one that was written. Its sub-stream
+/// has the schema of the columns' forms.
 pub fn far_end_reads()
     ensures { (kind : Kind) (tables : List Table) (payloads : List PayloadIn) → Policy kind tables payloads → EachAfter (IsReadAs kind) [] [] tables payloads }
 {}
@@ -22,4 +26,13 @@ pub fn far_end_reads()
 pub fn rows_are_held()
     ensures { (kind : Kind) (forms : Forms) (values : ℕ → List (List ℕ)) (t : Table) (parts : List PartIn) → FormsFit kind forms → t.kind ≡ kind → HasValues kind forms values t
         → AreSlotParts kind forms values t (slots_for kind forms) parts → HoldsRows kind forms values t (batch_of (length t.rows) parts) }
+{}
+
+/// The records of tables that are within the row weight together have at most 418,525,472 bytes, where there are at most 13
+/// tables, and at most 43 of their columns may be dictionaries. No signal has more.
+pub fn records_fit_a_message()
+    ensures bound { (tables : List Table) → weight_of_tables tables ≤ row_weight_limit → sum_by (λ t. dictionary_columns t.kind) tables ≤ 43 → length tables ≤ 13
+        → sum_by record_limit tables ≤ 418525472 }
+    ensures columns { (signal : Signal) → sum_by dictionary_columns (kinds_of signal) ≤ 43 }
+    ensures tables { (signal : Signal) → length (kinds_of signal) ≤ 13 }
 {}

@@ -1,11 +1,12 @@
 //! The record of a table.
 
-ghost use Rattle.std.specs.Prelude.{◌≡◌, ◌<◌, ℕ, drop, length, not, true, IfOk, OnOk};
+ghost use Rattle.std.specs.Prelude.{◌≡◌, ◌<◌, ◌≤◌, ℕ, drop, length, not, true, IfOk, OnOk};
 ghost use Rattle.otap_cells.specs.Columns.{base_at, width_of};
+ghost use Rattle.otap_columns.specs.Limits.{record_limit};
 ghost use Rattle.otap_columns.specs.Policy.{schema_if};
 ghost use Rattle.otap_columns.specs.Schemas.{FormsFit, is_dictionary, schema_for, type_in};
 ghost use Rattle.otap_columns.specs.WrittenGroups.{forms_in};
-ghost use Rattle.otap_columns.specs.WrittenRecords.{AddsHead, AddsHeads, AddsMessages, CanSend, IsRecordBy, from_in, is_sent};
+ghost use Rattle.otap_columns.specs.WrittenRecords.{AddsAtMost, AddsHead, AddsHeads, AddsMessages, CanSend, IsRecordBy, from_in, head_most, heads_most, is_sent, schema_most};
 ghost use Rattle.otap_columns.specs.WrittenRows.{CanWrite, HasValues, columns_in};
 
 use crate::forms::ColumnForm;
@@ -29,7 +30,8 @@ fn add_opening(
     forms: &[ColumnForm],
 ) -> Result<(), AllocError>
     requires fit { FormsFit kind (forms_in forms.now) }
-    ensures { OnOk result (AddsMessages (schema_if opening (schema_for kind (forms_in forms.now))) to.old.items to.new.items) }
+    ensures adds { OnOk result (AddsMessages (schema_if opening (schema_for kind (forms_in forms.now))) to.old.items to.new.items) }
+    ensures short { OnOk result (AddsAtMost schema_most to.old.items to.new.items) }
 {
     if !opening {
         return Ok(());
@@ -65,7 +67,8 @@ fn add_head(
 ) -> Result<(), AllocError>
     requires column { column < width_of kind }
     requires can { is_dictionary form ≡ true → CanSend (base_at kind column) form from ladder.now.values }
-    ensures { OnOk result (AddsHead (type_in (base_at kind column) form) (is_sent opening form (drop from ladder.now.values)) (not opening) column (drop from ladder.now.values) to.old.items to.new.items) }
+    ensures adds { OnOk result (AddsHead (type_in (base_at kind column) form) (is_sent opening form (drop from ladder.now.values)) (not opening) column (drop from ladder.now.values) to.old.items to.new.items) }
+    ensures short { OnOk result (AddsAtMost (head_most form) to.old.items to.new.items) }
 {
     if !is_sent(opening, form, ladder, from) {
         return Ok(());
@@ -109,7 +112,8 @@ fn add_heads(
     requires count { length seen.now ≡ width_of kind }
     requires can { (column : ℕ) → column < width_of kind → is_dictionary (forms_in forms.now column) ≡ true
         → CanSend (base_at kind column) (forms_in forms.now column) (from_in opening counts.now column) (columns_in seen.now column) }
-    ensures { OnOk result (AddsHeads kind opening (forms_in forms.now) (columns_in seen.now) counts.now (width_of kind) to.old.items to.new.items) }
+    ensures adds { OnOk result (AddsHeads kind opening (forms_in forms.now) (columns_in seen.now) counts.now (width_of kind) to.old.items to.new.items) }
+    ensures short { OnOk result (AddsAtMost (heads_most (forms_in forms.now) (width_of kind)) to.old.items to.new.items) }
 {
     let count = columns(kind).len() as u32;
     'columns: for column in 0..count {
@@ -136,7 +140,8 @@ pub(crate) fn record_of(
     requires values { HasValues table.now.kind (forms_in forms.now) (columns_in seen.now) table.now }
     requires send { (column : ℕ) → column < width_of table.now.kind → is_dictionary (forms_in forms.now column) ≡ true
         → CanSend (base_at table.now.kind column) (forms_in forms.now column) (from_in opening counts.now column) (columns_in seen.now column) }
-    ensures { IfOk result (λ bytes. IsRecordBy table.now.kind opening (forms_in forms.now) (columns_in seen.now) counts.now table.now bytes.items) }
+    ensures record_is { IfOk result (λ bytes. IsRecordBy table.now.kind opening (forms_in forms.now) (columns_in seen.now) counts.now table.now bytes.items) }
+    ensures short { IfOk result (λ bytes. length bytes.items ≤ record_limit table.now) }
 {
     let mut bytes = Vec::new(alloc);
     add_opening(alloc, &mut bytes, table.kind(), opening, forms)?;

@@ -81,4 +81,4 @@ returns-clause-record_is c =
     (λ begun same. c.is_opening-opens.ensures.goes_on begun (c.deref-2.ensures.value ∙ same ∙ sym c.deref-3.ensures.value)) in
     is_record t.kind tables t old new had forms counts c.args.started opens step c.in_ok-bytes.bytes.items
     (subst (λ (fs : List ColumnForm). IsRecordBy t.kind opens (forms_in fs) (columns_in new) counts t c.in_ok-bytes.bytes.items) c.deref-4.ensures.value
-    (subst (λ (ns : List ℕ). IsRecordBy t.kind opens (forms_in c.deref-4.result.now) (columns_in new) ns t c.in_ok-bytes.bytes.items) c.deref-5.ensures.value c.in_ok-bytes.ensures))
+    (subst (λ (ns : List ℕ). IsRecordBy t.kind opens (forms_in c.deref-4.result.now) (columns_in new) ns t c.in_ok-bytes.bytes.items) c.deref-5.ensures.value c.in_ok-bytes.ensures.record_is))

@@ -1,4 +1,4 @@
-use Rattle.std.proofs.Common.{◌≤◌, sym, subst, List}
+use Rattle.std.proofs.Common.{◌≤◌, sym, subst, arith, List}
 use Rattle.std.specs.Prelude.{IsTrue}
 use Rattle.arrow_schema.specs.Limits.{max_written_fields, max_written_names}
 use Rattle.arrow_schema.specs.Trees.{count_of}
@@ -9,6 +9,7 @@ use Rattle.otap_columns.specs.WrittenGroups.{forms_in}
 use Rattle.otap_columns.proofs.Keeping.{schema_readable}
 use Rattle.otap_columns.proofs.NamesShort.{names_short, all_named}
 use Rattle.otap_columns.proofs.RecordAppended.{opening_adds}
+use Rattle.otap_columns.proofs.RecordShort.{opening_ok}
 use Rattle.otap_columns.proofs.writer_record.add_opening.Goals as goal
 
 pub write_schema-requires-clause-few : goal.write_schema-requires-clause-few
@@ -19,7 +20,7 @@ write_schema-requires-clause-few c =
 
 pub write_schema-requires-clause-names : goal.write_schema-requires-clause-names
 write_schema-requires-clause-names c =
-    subst (λ (fields : List FieldSpec). names_of fields ≤ max_written_names) (sym c.in_ok-schema.ensures) (names_short c.args.kind (forms_in c.args.forms.now))
+    subst (λ (fields : List FieldSpec). names_of fields ≤ max_written_names) (sym c.in_ok-schema.ensures) (omega (arith, names_short c.args.kind (forms_in c.args.forms.now)))
 
 pub write_schema-requires-clause-widths : goal.write_schema-requires-clause-widths
 write_schema-requires-clause-widths c =
@@ -31,7 +32,11 @@ pub write_schema-requires-clause-encodings : goal.write_schema-requires-clause-e
 write_schema-requires-clause-encodings c =
     subst (λ (fields : List FieldSpec). IsTrue (encodings_named fields)) (sym c.in_ok-schema.ensures) (all_named c.args.kind (forms_in c.args.forms.now))
 
-pub returns : goal.returns
-returns c =
+pub returns-clause-adds : goal.returns-clause-adds
+returns-clause-adds c =
     opening_adds c.args.opening c.in_ok-schema.schema (schema_for c.args.kind (forms_in c.args.forms.now)) c.args.to.now.items c.write_schema.new.to.items c.write_schema.result
     c.if-not-opening.false (schema_readable c.args.kind (forms_in c.args.forms.now) c.requires.fit) c.in_ok-schema.ensures c.write_schema.ensures.ok
+
+pub returns-clause-short : goal.returns-clause-short
+returns-clause-short c =
+    opening_ok c.args.kind (forms_in c.args.forms.now) c.in_ok-schema.schema c.args.to.now.items c.write_schema.new.to.items c.write_schema.result c.requires.fit c.in_ok-schema.ensures c.write_schema.ensures.ok

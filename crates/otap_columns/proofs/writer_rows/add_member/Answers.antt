@@ -4,9 +4,11 @@ use Rattle.arrow_buffers.specs.declared.width.Width.{Width}
 use Rattle.otap_cells.specs.Columns.{base_at}
 use Rattle.otap_dicts.specs.Ladders.{LadderIn}
 use Rattle.otap_columns.specs.Schemas.{is_there}
-use Rattle.otap_columns.specs.WrittenCells.{stored_column, width_for}
+use Rattle.otap_columns.specs.WrittenCells.{column_most, stored_column, width_for}
 use Rattle.otap_columns.specs.WrittenGroups.{forms_in, member_in}
 use Rattle.otap_columns.specs.WrittenRows.{columns_in}
+use Rattle.otap_columns.proofs.BatchGrown.{member_grows, room_less, sizes}
+use Rattle.otap_columns.proofs.ColumnsShort.{column_short}
 use Rattle.otap_columns.proofs.PartsBuilt.{IsBuiltOf}
 use Rattle.otap_columns.proofs.RowsAdded.{column_light, member_ok}
 use Rattle.otap_columns.proofs.writer_rows.add_member.Goals as goal
@@ -38,5 +40,23 @@ returns-clause-ok c =
       bytes_len = e.values_len ∙ (λ i. values_len (width i) (cells i));
       single = c.requires.can.single column;
     } in
-    member_ok (forms_in c.args.forms.now) (columns_in c.args.columns.now) t c.requires.can.table (member_in c.args.member.now) b c.args.batch.now c.add_buffers.new.batch c.width_for-width.result c.add_buffers.result
-    here is width_is c.add_buffers.ensures.ok
+    member_ok (forms_in c.args.forms.now) (columns_in c.args.columns.now) t c.requires.can.table (member_in c.args.member.now) b c.args.batch.now c.add_column.new.batch c.width_for-width.result c.add_column.result
+    here is width_is c.add_column.ensures
+
+pub add_column-requires-clause-room : goal.add_column-requires-clause-room
+add_column-requires-clause-room c =
+    let t = c.args.table.now in
+    let b = c.in_ok-buffers.buffers in
+    let e = c.in_ok-buffers.ensures in
+    room_less 1 (sizes b) (column_most t c.args.member.now.column) c.args.batch.now
+    (column_short c.form_of-form.result c.ladder_at-ladder.result.now.values t c.args.member.now.column c.requires.can.table b c.in_ok-built.built c.in_ok-built.ensures e.rows e.validity_len e.offsets_len e.values_len)
+    c.requires.room
+
+pub returns-clause-grows : goal.returns-clause-grows
+returns-clause-grows c =
+    let t = c.args.table.now in
+    let b = c.in_ok-buffers.buffers in
+    let e = c.in_ok-buffers.ensures in
+    member_grows (column_most t c.args.member.now.column) b c.args.batch.now c.add_column.new.batch c.width_for-width.result c.add_column.result
+    (column_short c.form_of-form.result c.ladder_at-ladder.result.now.values t c.args.member.now.column c.requires.can.table b c.in_ok-built.built c.in_ok-built.ensures e.rows e.validity_len e.offsets_len e.values_len)
+    c.add_column.ensures

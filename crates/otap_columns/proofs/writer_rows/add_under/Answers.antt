@@ -1,8 +1,9 @@
-use Rattle.std.proofs.Common.{arith, ap, ◌∙◌, sym}
+use Rattle.std.proofs.Common.{length, map, arith, ap, ◌∙◌, sym}
 use Rattle.arrow_arrays.specs.Written.{struct_part}
-use Rattle.otap_columns.specs.WrittenCells.{with_part}
-use Rattle.otap_columns.specs.WrittenGroups.{forms_in}
+use Rattle.otap_columns.specs.WrittenCells.{columns_most, with_part}
+use Rattle.otap_columns.specs.WrittenGroups.{forms_in, member_in}
 use Rattle.otap_columns.specs.WrittenRows.{columns_in}
+use Rattle.otap_columns.proofs.BatchGrown.{under_grows}
 use Rattle.otap_columns.proofs.RowsAdded.{rows_light, under_none, under_ok}
 use Rattle.otap_columns.proofs.writer_rows.add_under.Goals as goal
 
@@ -17,3 +18,8 @@ pub returns-clause-ok : goal.returns-clause-ok
 returns-clause-ok c =
     under_ok (forms_in c.args.forms.now) (columns_in c.args.columns.now) c.args.table.now c.args.name.now c.args.members.now c.args.batch.now c.add_struct.new.batch c.add_members.new.batch c.add_members.result
     (sym c.any_there.ensures ∙ c.if-not-any_there.false) (c.in_ok-add_struct.ensures.ok ∙ ap (λ n. with_part c.args.batch.now (struct_part n)) c.rows.ensures.count) c.add_members.ensures.ok
+
+pub returns-clause-grows : goal.returns-clause-grows
+returns-clause-grows c =
+    under_grows (length c.args.members.now) (columns_most c.args.table.now (map member_in c.args.members.now)) c.args.batch.now c.add_struct.new.batch c.add_members.new.batch c.add_members.result
+    c.in_ok-add_struct.ensures.grows c.add_members.ensures.grows

@@ -1,6 +1,8 @@
 use Rattle.std.proofs.Common.{[], length, take}
-use Rattle.otap_columns.specs.WrittenGroups.{forms_in}
-use Rattle.otap_columns.specs.WrittenRows.{AddsSlots, IsUsed, columns_in}
+use Rattle.std.specs.Prelude.{sum_by}
+use Rattle.otap_columns.specs.WrittenCells.{GrowsBy, group_most, group_parts}
+use Rattle.otap_columns.specs.WrittenGroups.{forms_in, group_in}
+use Rattle.otap_columns.specs.WrittenRows.{AddsSlots, columns_in}
 use Rattle.otap_columns.proofs.RowsAdded.{group_slots}
 use Rattle.otap_columns.proofs.writer_rows.rows_of.Given as goal
 
@@ -8,4 +10,5 @@ abbrev pub invariant-groups : goal.invariant-groups
 invariant-groups l =
     AddsSlots (forms_in l.fn.forms) (columns_in l.fn.columns) l.fn.table (group_slots l.fn.table.kind (forms_in l.fn.forms) (take l.group-index l.groups))
     (record { rows = length l.fn.table.rows; nodes = []; buffers = [] }) l.batch
-    × IsUsed l.batch l.used
+    × GrowsBy (sum_by (λ g. group_parts (group_in g)) (take l.group-index l.groups)) (sum_by (λ g. group_most l.fn.table (group_in g)) (take l.group-index l.groups))
+    (record { rows = length l.fn.table.rows; nodes = []; buffers = [] }) l.batch

@@ -1,0 +1,33 @@
+-- A table whose columns were tested one after the other can be written.
+use Rattle.std.proofs.Common.{◌≡◌, ℕ, ◌+◌, ◌<◌, ◌≤◌, true, List, Option, refl, subst, arith, ◌⊎◌, inl, inr}
+use Rattle.std.proofs.lemmas.Bool.{cases_lt}
+use Rattle.otap_cells.specs.Columns.{coding_at, is_id_at, width_of}
+use Rattle.otap_cells.specs.ColumnIds.{stored_in}
+use Rattle.otap_cells.specs.Continuing.{continues_in}
+use Rattle.otap_cells.specs.Ids.{Ids}
+use Rattle.otap_cells.specs.Tables.{Table, IsTable, coding_in, greatest_wide}
+use Rattle.otap_cells.proofs.ByPlace.{id_within}
+use Rattle.otap_columns.specs.Policy.{IsWritable}
+
+-- where a column holds ids, they are stored as the profile says, and its stored numbers stand for ids
+abbrev pub IsStored : Table → ℕ → Type 0
+IsStored t column =
+    is_id_at t.kind column ≡ true → (coding_in t column ≡ coding_at t.kind column) × ((ids : List (Option ℕ)) × Ids (coding_at t.kind column) greatest_wide (continues_in t) (stored_in t column) ids)
+
+pub stored_none : (t : Table) (column : ℕ) → column < 0 → IsStored t column
+stored_none t column low = absurd (omega (arith, low))
+
+pub stored_more : (t : Table) (n : ℕ) → ((column : ℕ) → column < n → IsStored t column) → IsStored t n → (column : ℕ) → column < n + 1 → IsStored t column
+stored_more t n before one column low = by (cases_lt column n)
+  where
+    by : (column < n) ⊎ (n ≤ column) → IsStored t column
+    by (inl less) = before column less
+    by (inr more) = let same : n ≡ column = omega (arith, low, more) in subst (IsStored t) same one
+
+pub writable : (t : Table) (n : ℕ) → IsTable t → width_of t.kind ≤ n → ((column : ℕ) → column < n → IsStored t column) → IsWritable t.kind t
+writable t n sound all each = record {
+  kind_is = refl;
+  table = sound;
+  coded = λ column id. (each column (omega (arith, id_within t.kind column id, all)) id).0;
+  ids = λ column id. (each column (omega (arith, id_within t.kind column id, all)) id).1;
+}
