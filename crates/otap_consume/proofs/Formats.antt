@@ -54,7 +54,7 @@ settles_refused m seen o refusal is Settles.resets = absurd (cc is)
 
 -- ---- the payloads of accepted batches were taken
 
-still_taken : (m : Meaning) (outcomes : List Outcome) (frame : Frame) (outcome : Outcome) → Taken m.signal outcomes → ReceivedAfter m outcomes frame outcome → Taken m.signal (outcomes ++ outcome ∷ [])
+pub still_taken : (m : Meaning) (outcomes : List Outcome) (frame : Frame) (outcome : Outcome) → Taken m.signal outcomes → ReceivedAfter m outcomes frame outcome → Taken m.signal (outcomes ++ outcome ∷ [])
 still_taken m outcomes frame (Accepted batch tables) taken after =
     let was : after.seen ≡ Accepted batch tables = (settles_accepted m after.seen (Accepted batch tables) batch tables refl after.settles).0 in
     one_more m.signal outcomes frame (Accepted batch tables) taken (subst (OutcomeAfter m.signal outcomes frame) was after.gives)

@@ -15,3 +15,10 @@ pub mod Judged
 pub mod Following
 pub mod Regrouping
 pub mod Formats
+pub mod ByteLists
+pub mod ByteCells
+pub mod ByteMessages
+pub mod ByteTables
+pub mod ByteFrames
+pub mod ByteCaptures
+pub mod Receivable

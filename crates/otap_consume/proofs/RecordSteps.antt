@@ -14,8 +14,8 @@ use Rattle.otap_columns.specs.declared.refusal.ColumnRefusal.TheVariants as refu
 use Rattle.otap_columns.specs.Records.{IsRead, Stands}
 use Rattle.otap_columns.specs.Streams.{PayloadIn}
 use Rattle.otap_consume.specs.declared.refusal.Cause.TheVariants.{Column}
-use Rattle.otap_consume.specs.declared.stop.Stop.{Stop}
-use Rattle.otap_consume.specs.declared.stop.Stop.TheVariants.{Defect}
+use Rattle.otap_consume.specs.declared.not_taken.NotTaken.{NotTaken}
+use Rattle.otap_consume.specs.declared.not_taken.NotTaken.TheVariants.{Defect}
 use Rattle.otap_consume.specs.Defects.{IsReadBehind, StandsInRecord}
 use Rattle.otap_consume.specs.Payloads.{type_of, messages_before}
 use Rattle.otap_consume.specs.Records.{EachTakes, OneRefuses, ShowsLast, ShowsAfter, TakesAll, kinds_in}
@@ -102,7 +102,7 @@ a_stream : StreamIn
 a_stream = record { kind = Logs; current = None }
 
 -- where a stream refuses the record of a payload, a defect stands in it, or memory ran out
-pub stops_at : (old mid : List StreamIn) (done rest payloads : List PayloadContent) (p : PayloadContent) (why : ColumnRefusal) (stop : Stop)
+pub stops_at : (old mid : List StreamIn) (done rest payloads : List PayloadContent) (p : PayloadContent) (why : ColumnRefusal) (stop : NotTaken)
     → TakesAll old done mid → payloads ≡ done ++ p ∷ rest → OneRefuses mid p why → StopOf why p.kind stop
     → (signal : Signal) (past : List PayloadContent) → kinds_in old ≡ kinds_of signal → AreAfter past old → Stops (IsOfRecord signal past payloads) stop
 stops_at old mid done rest payloads p why stop before whole refuses of signal past same are =

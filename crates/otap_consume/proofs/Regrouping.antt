@@ -12,8 +12,8 @@ use Rattle.otap_consume.specs.declared.receiver.Regrouped.{Regrouped}
 use Rattle.otap_consume.specs.declared.refusal.Refusal.{Refusal}
 use Rattle.otap_consume.specs.declared.seen.Seen.{Seen}
 use Rattle.otap_consume.specs.declared.seen.Seen.TheVariants as seen
-use Rattle.otap_consume.specs.declared.stop.Stop.{Stop}
-use Rattle.otap_consume.specs.declared.stop.Stop.TheVariants.{Defect, Memory}
+use Rattle.otap_consume.specs.declared.not_taken.NotTaken.{NotTaken}
+use Rattle.otap_consume.specs.declared.not_taken.NotTaken.TheVariants.{Defect, Memory}
 use Rattle.otap_consume.specs.declared.taken.Taken.{Taken}
 use Rattle.otap_consume.specs.declared.taken.Taken.TheVariants as taken
 use Rattle.otap_consume.specs.Defects.{Accepts, tables_of}
@@ -34,7 +34,7 @@ kept_rows m frame id told rows seg old kept answer view same_id is light last =
     subst (TakesRows m frame id rows old old) (sym is)
     (same_id, refl, record { same = refl; light = light; of_last = subst (λ (s : SegmentIn). OfLast frame s (λ tables. IsRegrouped m tables kept)) view last })
 
-pub refused_rows : {E : Type 0} (r : Result Taken E) (m : Meaning) (frame : Frame) (id told : ℤ) (rows : ℕ) (seg old new : SegmentIn) (stop : Stop) → seg ≡ old → told ≡ id
+pub refused_rows : {E : Type 0} (r : Result Taken E) (m : Meaning) (frame : Frame) (id told : ℤ) (rows : ℕ) (seg old new : SegmentIn) (stop : NotTaken) → seg ≡ old → told ≡ id
     → IfOk r (RefusesBy told stop) → new ≡ record seg { broken = true } → OfLast frame seg (λ tables. Stops (StandsInRows m tables) stop) → IfOk r (TakesRows m frame id rows old new)
 refused_rows (Err e) m frame id told rows seg old new stop view same_id refuses broken last = tt
 refused_rows (Ok answer) m frame id told rows seg old new (Memory e) view same_id refuses broken last = absurd refuses

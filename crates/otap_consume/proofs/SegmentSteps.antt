@@ -17,8 +17,8 @@ use Rattle.otap_consume.specs.declared.refusal.Cause.TheVariants.{Compressed, Br
 use Rattle.otap_consume.specs.declared.refusal.Refusal.{Refusal}
 use Rattle.otap_consume.specs.declared.seen.Seen.{Seen}
 use Rattle.otap_consume.specs.declared.seen.Seen.TheVariants as seen
-use Rattle.otap_consume.specs.declared.stop.Stop.{Stop}
-use Rattle.otap_consume.specs.declared.stop.Stop.TheVariants.{Defect, Memory}
+use Rattle.otap_consume.specs.declared.not_taken.NotTaken.{NotTaken}
+use Rattle.otap_consume.specs.declared.not_taken.NotTaken.TheVariants.{Defect, Memory}
 use Rattle.otap_consume.specs.Defects.{Refuses, tables_of}
 use Rattle.otap_consume.specs.Outcomes.{Outcome, Accepted, Refused, Reset, Gives, StaysBroken, OutcomeAfter, is_reset, is_refused, payloads_if, segment, is_broken, payloads_after, refused, refusal_of, unread_cause}
 use Rattle.otap_consume.specs.Segments.{SegmentIn, StandsFor, HasNext, Next, NextBatch, IsNew}
@@ -228,7 +228,7 @@ refused_parts old new batch cause payload signal streams same are whole broken k
     subst (λ (s : Signal). Refuses s past batch.payloads cause payload) same (refuses past (subst (λ (ss : List StreamIn). AreAfter past ss) (sym are) after)))
 
 -- a batch whose payloads are not taken
-pub stopped_next : {E : Type 0} (r : Result Seen E) (old new : SegmentIn) (batch : BatchContent) (stop : Stop) (signal : Signal) (streams : List StreamIn) → signal ≡ old.signal
+pub stopped_next : {E : Type 0} (r : Result Seen E) (old new : SegmentIn) (batch : BatchContent) (stop : NotTaken) (signal : Signal) (streams : List StreamIn) → signal ≡ old.signal
     → streams ≡ old.streams → old.broken ≡ false → new.broken ≡ true → new.signal ≡ old.signal
     → ((past : List PayloadContent) → AreAfter past streams → Stops (Refuses signal past batch.payloads) stop) → IfOk r (IsStopped stop batch) → IfOk r (NextBatch old batch new)
 stopped_next (Err e) old new batch stop signal streams same are whole broken kept refuses stopped = tt

@@ -7,8 +7,8 @@ use Rattle.otap_consume.specs.declared.payload_types.TypesRefusal.{TypesRefusal}
 use Rattle.otap_consume.specs.declared.payload_types.TypesRefusal.TheVariants as types
 use Rattle.otap_consume.specs.declared.refusal.Cause.{Cause}
 use Rattle.otap_consume.specs.declared.refusal.Cause.TheVariants.{PayloadType, PayloadTwice, Column}
-use Rattle.otap_consume.specs.declared.stop.Stop.{Stop}
-use Rattle.otap_consume.specs.declared.stop.Stop.TheVariants.{Defect, Memory}
+use Rattle.otap_consume.specs.declared.not_taken.NotTaken.{NotTaken}
+use Rattle.otap_consume.specs.declared.not_taken.NotTaken.TheVariants.{Defect, Memory}
 use Rattle.otap_consume.specs.Defects.{HasFineList, HasFineRecords, StandsInList, Refuses, is_taken}
 use Rattle.otap_consume.specs.Ids.{ids_of, ids_after}
 use Rattle.histories.specs.EachAfter.{AllAfter}
@@ -28,7 +28,7 @@ pub by_types : (signal : Signal) (past payloads : List PayloadContent) (why : Ty
 by_types signal past payloads (types.PayloadType kind) stands = Refuses.by_list PayloadType (Some kind) stands
 by_types signal past payloads (types.PayloadTwice kind) stands = Refuses.by_list PayloadTwice (Some kind) stands
 
-pub by_ids : (signal : Signal) (past payloads : List PayloadContent) (stop : Stop) → Stops (StandsInList signal past payloads) stop → Stops (Refuses signal past payloads) stop
+pub by_ids : (signal : Signal) (past payloads : List PayloadContent) (stop : NotTaken) → Stops (StandsInList signal past payloads) stop → Stops (Refuses signal past payloads) stop
 by_ids signal past payloads (Defect cause payload) stands = Refuses.by_list cause payload stands
 by_ids signal past payloads (Memory e) stands = tt
 
@@ -37,12 +37,12 @@ of_record : (signal : Signal) (past payloads : List PayloadContent) (cause : Cau
 of_record signal past payloads (Column refusal) payload list stands = Refuses.by_record refusal payload list stands
 of_record signal past payloads _ payload list stands = absurd stands
 
-pub by_records : (signal : Signal) (past payloads : List PayloadContent) (stop : Stop) → HasFineList signal past payloads → Stops (IsOfRecord signal past payloads) stop
+pub by_records : (signal : Signal) (past payloads : List PayloadContent) (stop : NotTaken) → HasFineList signal past payloads → Stops (IsOfRecord signal past payloads) stop
     → Stops (Refuses signal past payloads) stop
 by_records signal past payloads (Defect cause payload) list stands = of_record signal past payloads cause payload list stands
 by_records signal past payloads (Memory e) list stands = tt
 
-by_size : (signal : Signal) (past payloads : List PayloadContent) (stop : Stop) → HasFineList signal past payloads → HasFineRecords signal past payloads
+by_size : (signal : Signal) (past payloads : List PayloadContent) (stop : NotTaken) → HasFineList signal past payloads → HasFineRecords signal past payloads
     → StopsBySize signal past payloads stop → Stops (Refuses signal past payloads) stop
 by_size signal past payloads (Defect cause payload) list records stands =
     subst (λ (named : Option ℤ). Refuses signal past payloads cause named) (sym stands.0) (Refuses.by_size cause list records stands.1)
@@ -58,7 +58,7 @@ module _ (signal : Signal) (payloads : List PayloadContent) (old : List StreamIn
     pub can_show : CanShow new payloads
     can_show = record { signal = signal; kinds = takes.kinds ∙ kinds; types = types; shows = takes.shows }
 
-    pub accepts_if : (r : Result ℕ Stop) → IfOk r (λ rows. (past : List PayloadContent) → AreAfter (past ++ payloads) new → Weighs signal past payloads rows)
+    pub accepts_if : (r : Result ℕ NotTaken) → IfOk r (λ rows. (past : List PayloadContent) → AreAfter (past ++ payloads) new → Weighs signal past payloads rows)
         → IfOk r (λ rows. (past : List PayloadContent) → AreAfter past old → AcceptsBehind signal past payloads new rows)
     accepts_if (Ok rows) weighs = λ past are.
         let after : AreAfter (past ++ payloads) new = takes.after past are in
@@ -70,7 +70,7 @@ module _ (signal : Signal) (payloads : List PayloadContent) (old : List StreamIn
         }
     accepts_if (Err stop) weighs = tt
 
-    pub refuses_if : (r : Result ℕ Stop) → IfErr r (λ stop. (past : List PayloadContent) → AreAfter (past ++ payloads) new → StopsBySize signal past payloads stop)
+    pub refuses_if : (r : Result ℕ NotTaken) → IfErr r (λ stop. (past : List PayloadContent) → AreAfter (past ++ payloads) new → StopsBySize signal past payloads stop)
         → IfErr r (λ stop. (past : List PayloadContent) → AreAfter past old → Stops (Refuses signal past payloads) stop)
     refuses_if (Ok rows) stops = tt
     refuses_if (Err stop) stops = λ past are.

@@ -19,3 +19,4 @@ pub mod Receiving
 pub mod Receivers
 pub mod ReceiverInside
 pub mod LogsMeaning
+pub mod Bytes

@@ -9,12 +9,11 @@ use Rattle.otap_attrs.specs.declared.refusal.CheckRefusal.TheVariants as check
 use Rattle.otap_capture.specs.Batch.{BatchContent, ReadsBatch}
 use Rattle.otap_capture.specs.Capture.{Frame, Message}
 use Rattle.otap_cells.specs.Tables.{Table}
-use Rattle.otap_consume.specs.declared.receiver.Receiver.TheInside as receiver
 use Rattle.otap_consume.specs.declared.receiver.Regrouped.{Regrouped}
 use Rattle.otap_consume.specs.declared.refusal.Cause.{Cause}
 use Rattle.otap_consume.specs.declared.refusal.Cause.TheVariants as cause
-use Rattle.otap_consume.specs.declared.stop.Stop.{Stop}
-use Rattle.otap_consume.specs.declared.stop.Stop.TheVariants.{Defect, Memory}
+use Rattle.otap_consume.specs.declared.not_taken.NotTaken.{NotTaken}
+use Rattle.otap_consume.specs.declared.not_taken.NotTaken.TheVariants.{Defect, Memory}
 use Rattle.otap_consume.specs.declared.taken.Taken.{Taken}
 use Rattle.otap_consume.specs.declared.taken.Taken.TheVariants as taken
 use Rattle.otap_consume.specs.Defects.{tables_of}
@@ -23,11 +22,7 @@ use Rattle.otap_consume.specs.Outcomes.{Outcome, Accepted, payloads_after, refus
 use Rattle.otap_consume.specs.Payloads.{type_of}
 use Rattle.otap_consume.specs.Segments.{SegmentIn, StandsFor}
 
--- a contract sees a receiver as its segment
-abbrev pub receiver_in : receiver.Inside → SegmentIn
-receiver_in r = r.segment
-
-abbrev pub stop_of_rows : CheckRefusal → Stop
+abbrev pub stop_of_rows : CheckRefusal → NotTaken
 stop_of_rows (check.Defect kind why) = Defect (cause.Row why) (Some (type_of kind))
 stop_of_rows (check.Memory e) = Memory e
 
@@ -75,6 +70,6 @@ TakesRows m frame id rows old new (taken.Refused refusal) =
 TakesRows m frame id rows old new taken.Reset = ⊥
 
 -- what is returned where the rows are not taken; want of memory is handed on
-abbrev pub RefusesBy : ℤ → Stop → Taken → Type 0
+abbrev pub RefusesBy : ℤ → NotTaken → Taken → Type 0
 RefusesBy id (Defect cause payload) answer = answer ≡ taken.Refused (refusal_of (Some id) cause payload)
 RefusesBy id (Memory e) answer = ⊥

@@ -9,12 +9,12 @@ use Rattle.otap_consume.specs.declared.refusal.Cause.TheVariants.{Column}
 use Rattle.otap_consume.specs.declared.refusal.Cause.TheVariants as cause
 use Rattle.otap_consume.specs.declared.payload_types.TypesRefusal.{TypesRefusal}
 use Rattle.otap_consume.specs.declared.payload_types.TypesRefusal.TheVariants.{PayloadType, PayloadTwice}
-use Rattle.otap_consume.specs.declared.stop.Stop.{Stop}
-use Rattle.otap_consume.specs.declared.stop.Stop.TheVariants.{Defect, Memory}
+use Rattle.otap_consume.specs.declared.not_taken.NotTaken.{NotTaken}
+use Rattle.otap_consume.specs.declared.not_taken.NotTaken.TheVariants.{Defect, Memory}
 use Rattle.otap_consume.specs.Defects.{StandsInRecord}
 
 -- memory may run out at any time; else a defect stands
-abbrev pub Stops : (Cause → Option ℤ → Type 0) → Stop → Type 0
+abbrev pub Stops : (Cause → Option ℤ → Type 0) → NotTaken → Type 0
 Stops D (Defect cause payload) = D cause payload
 Stops D (Memory e) = ⊤
 
@@ -28,10 +28,10 @@ abbrev pub IsOfSize : (Cause → Type 0) → Cause → Option ℤ → Type 0
 IsOfSize L cause payload = (payload ≡ None) × L cause
 
 -- the result for the refusal of a record of this type
-abbrev pub StopOf : ColumnRefusal → ℤ → Stop → Type 0
+abbrev pub StopOf : ColumnRefusal → ℤ → NotTaken → Type 0
 StopOf (refusal.Memory e) kind stop = stop ≡ Memory e
 StopOf refusal kind stop = stop ≡ Defect (Column refusal) (Some kind)
 
-abbrev pub stop_of_types : TypesRefusal → Stop
+abbrev pub stop_of_types : TypesRefusal → NotTaken
 stop_of_types (PayloadType kind) = Defect cause.PayloadType (Some kind)
 stop_of_types (PayloadTwice kind) = Defect cause.PayloadTwice (Some kind)

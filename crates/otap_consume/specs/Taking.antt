@@ -5,8 +5,8 @@ use Rattle.otap_capture.specs.Batch.{BatchContent, PayloadContent}
 use Rattle.otap_cells.specs.Weights.{weight_of_tables}
 use Rattle.otap_consume.specs.declared.seen.Seen.{Seen}
 use Rattle.otap_consume.specs.declared.seen.Seen.TheVariants as seen
-use Rattle.otap_consume.specs.declared.stop.Stop.{Stop}
-use Rattle.otap_consume.specs.declared.stop.Stop.TheVariants.{Defect, Memory}
+use Rattle.otap_consume.specs.declared.not_taken.NotTaken.{NotTaken}
+use Rattle.otap_consume.specs.declared.not_taken.NotTaken.TheVariants.{Defect, Memory}
 use Rattle.otap_consume.specs.Defects.{Accepts, IsTooLarge, IsWithinLimits, tables_of, held_after}
 use Rattle.otap_consume.specs.Outcomes.{refusal_of}
 use Rattle.otap_consume.specs.Stops.{Stops, IsOfSize}
@@ -18,7 +18,7 @@ pub record Weighs (signal : Signal) (past payloads : List PayloadContent) (weigh
   pub rows : weight ≡ weight_of_tables (tables_of signal past payloads)
 
 -- or they aren't
-abbrev pub StopsBySize : Signal → List PayloadContent → List PayloadContent → Stop → Type 0
+abbrev pub StopsBySize : Signal → List PayloadContent → List PayloadContent → NotTaken → Type 0
 StopsBySize signal past payloads = Stops (IsOfSize (IsTooLarge signal (tables_of signal past payloads) (held_after signal (past ++ payloads))))
 
 -- the payloads are accepted after these, and have this weight
@@ -28,6 +28,6 @@ pub record AcceptsBehind (signal : Signal) (past payloads : List PayloadContent)
   pub rows : weight ≡ weight_of_tables (tables_of signal past payloads)
 
 -- what is returned where the payloads are not taken; want of memory is handed on
-abbrev pub IsStopped : Stop → BatchContent → Seen → Type 0
+abbrev pub IsStopped : NotTaken → BatchContent → Seen → Type 0
 IsStopped (Defect cause payload) batch answer = answer ≡ seen.Refused (refusal_of (Some batch.id) cause payload)
 IsStopped (Memory e) batch answer = ⊥

@@ -8,15 +8,19 @@ ghost use Rattle.otap_consume.specs.Ids.{ids_of, ids_after, has_other, is_other,
 ghost use Rattle.otap_consume.specs.IdsInside.{open_id_in};
 ghost use Rattle.otap_consume.specs.Stops.{Stops};
 
+use crate::not_taken::{NotTaken, defect};
 use crate::refusal::Cause;
-use crate::stop::{Stop, defect};
 use crate::stream::Stream;
 use otap_capture::{Batch, Payload};
 use std::alloc::{AllocError, Global};
 use std::marker::Model;
 
 /// Looks at the schema ids of a batch: none is to be open for another type, where its payload stands.
-pub(crate) fn check_ids(alloc: Global, streams: &[Stream], batch: &Batch<'_>) -> Result<(), Stop>
+pub(crate) fn check_ids(
+    alloc: Global,
+    streams: &[Stream],
+    batch: &Batch<'_>,
+) -> Result<(), NotTaken>
     ensures free { OnOk result ((signal : Signal) (past : List PayloadContent) → ids_of streams.now ≡ ids_after signal past
         → AllAfter (λ before p. is_taken signal before p ≡ false) past batch.now.payloads) }
     ensures stops { IfErr result (λ stop. (signal : Signal) (past : List PayloadContent) → ids_of streams.now ≡ ids_after signal past

@@ -5,6 +5,7 @@
 mod ids;
 pub mod laws;
 mod logs;
+mod not_taken;
 mod payload_types;
 mod receiver;
 pub mod receiving_laws;
@@ -13,7 +14,6 @@ mod refusal;
 mod seen;
 mod segment;
 mod sizes;
-mod stop;
 mod stream;
 mod taken;
 mod taking;

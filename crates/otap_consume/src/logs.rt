@@ -5,6 +5,7 @@ use crate::telemetry::Telemetry;
 use otap_attrs::CheckRefusal;
 use otap_cells::TableSet;
 use otap_columns::RowsView;
+use otap_logs::reading_laws::clean_or_wrong;
 use otap_logs::{check_rows, request_of};
 use otlp_model::{Request, Signal, weight};
 use std::alloc::{AllocError, Global};
@@ -29,5 +30,9 @@ impl Telemetry for Logs {
         // The walk tells a proof that a program can hold the request.
         let _weight = weight(&request);
         Ok(request)
+    }
+
+    fn clean_or_wrong() {
+        clean_or_wrong();
     }
 }

@@ -8,35 +8,38 @@ ghost use Rattle.otap_consume.specs.ReceiverInside.{IsLight, IsRegrouped, OfLast
 ghost use Rattle.otap_consume.specs.Segments.{IsTaken};
 ghost use Rattle.otap_consume.specs.Stops.{Stops};
 
+use crate::not_taken::NotTaken;
 use crate::refusal::{Cause, Refusal};
 use crate::seen::Seen;
 use crate::segment::Segment;
-use crate::stop::Stop;
 use crate::taken::Taken;
 use crate::telemetry::Telemetry;
 use otap_capture::{Frame, read_batch};
 use otap_cells::TableSet;
 use otap_columns::RowsView;
-use otlp_model::{MAX_TREE_WEIGHT, Request, Signal};
+use otlp_model::{MAX_TREE_WEIGHT, Request};
 use std::alloc::{AllocError, Global};
-use std::marker::Model;
+use std::marker::{Model, PhantomData};
 
 /// A receiver of the batches of a signal, frame by frame. It keeps what a segment keeps. A contract sees it as the frames
 /// that it stands for, by their outcomes.
 #[derive(Debug, Drop)]
-pub struct Receiver {
+pub struct Receiver<T: Telemetry> {
     alloc: Global,
     segment: Segment,
+    telemetry: PhantomData<T>,
 }
 
-impl Model for Receiver {
+impl<T: Telemetry> Model for Receiver<T> {
+    ghost use Rattle.std.specs.Prelude.{◌≡◌};
     ghost use Rattle.otap_consume.specs.Segments.{SegmentIn};
 
     ghost Value = { SegmentIn };
 
-    ghost use Rattle.otap_consume.specs.ReceiverInside.{receiver_in};
+    ghost view = { λ s. s.segment };
 
-    ghost view = { receiver_in };
+    // It is of the signal of its telemetry.
+    ghost invariant = { λ s. s.segment.signal ≡ T.meaning.signal };
 }
 
 // The request of a batch, and its weight.
@@ -46,29 +49,33 @@ struct Regrouped {
     tree: u64,
 }
 
-impl Receiver {
+impl<T: Telemetry> Receiver<T> {
     ghost use Rattle.otap_consume.specs.Receivers.{Receives, IsSound};
     ghost use Rattle.otap_consume.specs.Segments.{IsNew};
 
     /// A receiver in which no frame stands.
-    pub fn new(alloc: Global, signal: Signal) -> Result<Receiver, AllocError>
-        ensures { IfOk result (IsNew signal) }
+    pub fn new(alloc: Global) -> Result<Receiver<T>, AllocError>
+        ensures { IfOk result (IsNew T.meaning.signal) }
     {
-        let segment = Segment::new(alloc, signal)?;
-        Ok(Receiver { alloc, segment })
+        let segment = Segment::new(alloc, T::signal())?;
+        Ok(Receiver {
+            alloc,
+            segment,
+            telemetry: PhantomData,
+        })
     }
 
     /// Takes the next frame: a batch after those before it, or a reset, which begins a segment. A refused frame breaks the
     /// segment, as want of memory does: until a reset each batch is then refused. A request is built only once its weight is
     /// known to be within the limit.
-    pub fn take<T: Telemetry>(&mut self, frame: &Frame<'_>) -> Result<Taken, AllocError>
+    pub fn take(&mut self, frame: &Frame<'_>) -> Result<Taken, AllocError>
         ensures next { IfOk result (Receives T.meaning self.old (frame_of frame.now) self.new) }
         ensures sound { IfOk result IsSound }
         ensures memory { OnErr result (self.new.broken ≡ true) }
-        ensures signal { self.new.signal ≡ self.old.signal }
+        ensures signal { self.new.signal ≡ T.meaning.signal }
     {
         match self.segment.take(frame)? {
-            Seen::Batch { id, rows } => self.take_rows::<T>(frame, id, rows),
+            Seen::Batch { id, rows } => self.take_rows(frame, id, rows),
             Seen::Refused(refusal) => Ok(Taken::Refused(refusal)),
             Seen::Reset => Ok(Taken::Reset),
         }
@@ -76,7 +83,7 @@ impl Receiver {
 
     /// Begins a new segment.
     pub fn reset(&mut self)
-        ensures { IsNew self.old.signal self.new }
+        ensures { IsNew T.meaning.signal self.new }
     {
         self.segment.reset();
     }
@@ -89,17 +96,12 @@ impl Receiver {
     }
 
     // Looks at the rows of the batch that the segment took last.
-    fn take_rows<T: Telemetry>(
-        &mut self,
-        frame: &Frame<'_>,
-        id: i64,
-        rows: u64,
-    ) -> Result<Taken, AllocError>
+    fn take_rows(&mut self, frame: &Frame<'_>, id: i64, rows: u64) -> Result<Taken, AllocError>
         requires { IsTaken (frame_of frame.now) self.old }
         ensures takes { IfOk result (TakesRows T.meaning (frame_of frame.now) id rows self.old self.new) }
         ensures sound { IfOk result IsSound }
         ensures memory { OnErr result (self.new.broken ≡ true) }
-        ensures signal { self.new.signal ≡ self.old.signal }
+        ensures signal { self.new.signal ≡ T.meaning.signal }
     {
         match regroup_last::<T>(self.alloc, &self.segment, frame) {
             Ok(kept) => Ok(accepted(id, rows, kept)),
@@ -116,7 +118,7 @@ fn regroup_last<T: Telemetry>(
     alloc: Global,
     segment: &Segment,
     frame: &Frame<'_>,
-) -> Result<Regrouped, Stop>
+) -> Result<Regrouped, NotTaken>
     requires { IsTaken (frame_of frame.now) segment.now }
     ensures regrouped { IfOk result (λ kept. OfLast (frame_of frame.now) segment.now (λ tables. IsRegrouped T.meaning tables kept)) }
     ensures light { IfOk result IsLight }
@@ -133,7 +135,7 @@ fn regroup_last<T: Telemetry>(
 }
 
 // The request of the tables of a batch.
-fn regroup<T: Telemetry>(alloc: Global, set: &TableSet<RowsView<'_>>) -> Result<Regrouped, Stop>
+fn regroup<T: Telemetry>(alloc: Global, set: &TableSet<RowsView<'_>>) -> Result<Regrouped, NotTaken>
     requires { IsSet (λ table. table) set.now.tables.items }
     ensures regrouped { IfOk result (IsRegrouped T.meaning (tables_in (λ table. table) set.now.tables.items)) }
     ensures light { IfOk result IsLight }
@@ -141,7 +143,7 @@ fn regroup<T: Telemetry>(alloc: Global, set: &TableSet<RowsView<'_>>) -> Result<
 {
     let tree = T::check(alloc, set)?;
     if tree > MAX_TREE_WEIGHT {
-        return Err(Stop::Defect {
+        return Err(NotTaken::Defect {
             cause: Cause::TreeTooHeavy,
             payload: None,
         });
@@ -163,13 +165,13 @@ fn accepted(id: i64, rows: u64, kept: Regrouped) -> Taken
 }
 
 // The result where the rows are not taken. Want of memory is handed on.
-fn refused(id: i64, stop: Stop) -> Result<Taken, AllocError>
+fn refused(id: i64, stop: NotTaken) -> Result<Taken, AllocError>
     ensures { IfOk result (RefusesBy id stop) }
 {
     match stop {
-        Stop::Defect { cause, payload } => {
+        NotTaken::Defect { cause, payload } => {
             Ok(Taken::Refused(Refusal::new(Some(id), cause, payload)))
         }
-        Stop::Memory(error) => Err(error),
+        NotTaken::Memory(error) => Err(error),
     }
 }

@@ -1,11 +1,13 @@
 //! What the outcomes of a receiver say of the format. The functions do nothing: their contracts are the laws.
 
-ghost use Rattle.std.specs.Prelude.{◌≡◌, ℤ, ◌↔◌, true, false, List, Option};
+ghost use Rattle.std.specs.Prelude.{◌≡◌, ◌<◌, ℕ, ℤ, ◌↔◌, true, false, All, List, Option};
 ghost use Rattle.otap_capture.specs.Batch.{BatchContent, PayloadContent};
-ghost use Rattle.otap_capture.specs.Capture.{Frame};
+ghost use Rattle.otap_capture.specs.declared.frame.Damage.{Damage};
+ghost use Rattle.otap_capture.specs.Capture.{Frame, IsCapture};
 ghost use Rattle.otap_cells.specs.Tables.{Table};
 ghost use Rattle.otap_consume.specs.declared.refusal.Cause.{Cause};
 ghost use Rattle.otap_consume.specs.declared.refusal.Refusal.{Refusal};
+ghost use Rattle.otap_consume.specs.Bytes.{HasBytes};
 ghost use Rattle.otap_consume.specs.Outcomes.{stage_of, Outcome, Accepted, Refused, is_broken, payloads_after};
 ghost use Rattle.otap_consume.specs.Receiving.{ReceivedAfter, Received, HasDefect, IsInFormat};
 
@@ -32,3 +34,15 @@ pub fn refused_by_what_is_wrong<T: Telemetry>()
     ensures broken { (outcomes : List Outcome) (frame : Frame) (refusal : Refusal)
         → ReceivedAfter T.meaning outcomes frame (Refused refusal) → (refusal.stage ≡ 0) ↔ (is_broken outcomes ≡ true) }
 {}
+
+/// Each frame has an outcome after frames with outcomes, and so have all frames, and those of each capture. What stands in
+/// messages and captures are bytes, numbers below 256.
+pub fn received_some_outcome<T: Telemetry>()
+    ensures next { (frames : List Frame) (outcomes : List Outcome) (frame : Frame) → All HasBytes frames → HasBytes frame → Received T.meaning frames outcomes
+        → (outcome : Outcome) × ReceivedAfter T.meaning outcomes frame outcome }
+    ensures all { (frames : List Frame) → All HasBytes frames → (outcomes : List Outcome) × Received T.meaning frames outcomes }
+    ensures capture { (bytes : List ℕ) (frames : List Frame) (end : Option Damage) → All (λ byte. byte < 256) bytes → IsCapture bytes frames end
+        → (outcomes : List Outcome) × Received T.meaning frames outcomes }
+{
+    T::clean_or_wrong();
+}

@@ -7,8 +7,8 @@ ghost use Rattle.otap_consume.specs.Records.{EachTakes, OneRefuses, TakesAll, ki
 ghost use Rattle.otap_consume.specs.Streams.{AreAfter};
 ghost use Rattle.otap_consume.specs.Stops.{Stops, IsOfRecord, StopOf};
 
+use crate::not_taken::{NotTaken, defect};
 use crate::refusal::Cause;
-use crate::stop::{Stop, defect};
 use crate::stream::Stream;
 use otap_capture::{Batch, Payload};
 use otap_columns::ColumnRefusal;
@@ -19,7 +19,7 @@ pub(crate) fn take_records(
     alloc: Global,
     streams: &mut [Stream],
     batch: &Batch<'_>,
-) -> Result<(), Stop>
+) -> Result<(), NotTaken>
     ensures takes { OnOk result (TakesAll streams.old batch.now.payloads streams.new) }
     ensures stops { IfErr result (λ stop. (signal : Signal) (past : List PayloadContent) → kinds_in streams.old ≡ kinds_of signal
         → AreAfter past streams.old → Stops (IsOfRecord signal past batch.now.payloads) stop) }
@@ -49,11 +49,11 @@ fn take_payload(
     Ok(())
 }
 
-fn stop_of(refusal: ColumnRefusal, payload: &Payload<'_>) -> Stop
+fn stop_of(refusal: ColumnRefusal, payload: &Payload<'_>) -> NotTaken
     ensures { StopOf refusal payload.now.kind result }
 {
     match refusal {
-        ColumnRefusal::Memory(error) => Stop::Memory(error),
+        ColumnRefusal::Memory(error) => NotTaken::Memory(error),
         refusal => defect(Cause::Column(refusal), payload.kind),
     }
 }

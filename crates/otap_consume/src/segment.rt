@@ -6,9 +6,9 @@ ghost use Rattle.otap_consume.specs.Outcomes.{refusal_of, unread_cause};
 ghost use Rattle.otap_consume.specs.Streams.{closed};
 ghost use Rattle.otap_consume.specs.Taking.{IsStopped};
 
+use crate::not_taken::NotTaken;
 use crate::refusal::{Cause, Refusal};
 use crate::seen::Seen;
-use crate::stop::Stop;
 use crate::stream::Stream;
 use crate::taking::take_payloads;
 use crate::views::views;
@@ -169,12 +169,12 @@ fn refused(batch: &Batch<'_>, cause: Cause, payload: Option<i32>) -> Seen
 }
 
 // The result where the payloads are not taken. Want of memory is handed on.
-fn stopped(batch: &Batch<'_>, stop: Stop) -> Result<Seen, AllocError>
+fn stopped(batch: &Batch<'_>, stop: NotTaken) -> Result<Seen, AllocError>
     ensures { IfOk result (IsStopped stop batch.now) }
 {
     match stop {
-        Stop::Defect { cause, payload } => Ok(refused(batch, cause, payload)),
-        Stop::Memory(error) => Err(error),
+        NotTaken::Defect { cause, payload } => Ok(refused(batch, cause, payload)),
+        NotTaken::Memory(error) => Err(error),
     }
 }
 

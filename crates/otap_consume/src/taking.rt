@@ -2,7 +2,7 @@
 ghost use Rattle.std.specs.Prelude.{◌≡◌, ◌++◌, None, List, IfOk, IfErr, OnOk};
 ghost use Rattle.otap_capture.specs.Batch.{PayloadContent};
 ghost use Rattle.otap_cells.specs.Payload.{kinds_of};
-ghost use Rattle.otap_consume.specs.declared.stop.Stop.TheVariants.{Defect};
+ghost use Rattle.otap_consume.specs.declared.not_taken.NotTaken.TheVariants.{Defect};
 ghost use Rattle.otap_consume.specs.Defects.{Refuses};
 ghost use Rattle.otap_consume.specs.Records.{kinds_in};
 ghost use Rattle.otap_consume.specs.Segments.{CanShow};
@@ -11,11 +11,11 @@ ghost use Rattle.otap_consume.specs.Streams.{AreAfter};
 ghost use Rattle.otap_consume.specs.Taking.{AcceptsBehind, Weighs, StopsBySize};
 
 use crate::ids::check_ids;
+use crate::not_taken::NotTaken;
 use crate::payload_types::check_types;
 use crate::records::take_records;
 use crate::refusal::Cause;
 use crate::sizes::{hold_too_much, weigh};
-use crate::stop::Stop;
 use crate::stream::Stream;
 use crate::views::views;
 use otap_capture::Batch;
@@ -29,7 +29,7 @@ pub(crate) fn take_payloads(
     signal: Signal,
     streams: &mut [Stream],
     batch: &Batch<'_>,
-) -> Result<u64, Stop>
+) -> Result<u64, NotTaken>
     requires { kinds_in streams.old ≡ kinds_of signal }
     ensures accepts { IfOk result (λ rows. (past : List PayloadContent) → AreAfter past streams.old
         → AcceptsBehind signal past batch.now.payloads streams.new rows) }
@@ -50,7 +50,7 @@ fn check_sizes(
     signal: Signal,
     streams: &[Stream],
     batch: &Batch<'_>,
-) -> Result<u64, Stop>
+) -> Result<u64, NotTaken>
     requires shows { CanShow streams.now batch.now.payloads }
     requires kinds { kinds_in streams.now ≡ kinds_of signal }
     ensures weighs { IfOk result (λ rows. (past : List PayloadContent) → AreAfter (past ++ batch.now.payloads) streams.now
@@ -67,10 +67,10 @@ fn check_sizes(
 }
 
 // A limit that is passed is no payload's.
-fn of_size(cause: Cause) -> Stop
+fn of_size(cause: Cause) -> NotTaken
     ensures { result ≡ Defect cause None }
 {
-    Stop::Defect {
+    NotTaken::Defect {
         cause,
         payload: None,
     }

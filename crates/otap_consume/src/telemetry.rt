@@ -1,10 +1,12 @@
 //! What the tables of a signal mean: a receiver is written over this trait, and knows no signal.
-ghost use Rattle.std.specs.Prelude.{◌≡◌, ◌≤◌, ◌^◌, min, IfOk, IfErr};
+ghost use Rattle.std.specs.Prelude.{◌≡◌, ◌≤◌, ◌^◌, min, List, IfOk, IfErr};
 ghost use Rattle.otap_cells.specs.Sets.{IsSet, tables_in};
+ghost use Rattle.otap_cells.specs.Tables.{Table};
 ghost use Rattle.otlp_model.specs.Limits.{weight_limit};
 ghost use Rattle.otlp_model.specs.Real.{IsReal};
 ghost use Rattle.otlp_model.specs.Weight.{weight_of};
 ghost use Rattle.otap_consume.specs.Meanings.{Meaning, AreClean};
+ghost use Rattle.otap_checks.specs.Deciding.{CleanOrWrong, HaveByteCells};
 ghost use Rattle.otap_checks.specs.Refusing.{RefusesCheck};
 
 use otap_attrs::CheckRefusal;
@@ -36,4 +38,8 @@ pub trait Telemetry {
         requires light { weight_of (meaning.request (tables_in (λ table. table) set.now.tables.items)) ≤ weight_limit }
         ensures regrouped { IfOk result (λ request. request ≡ meaning.request (tables_in (λ table. table) set.now.tables.items)) }
         ensures real { IfOk result IsReal };
+
+    /// Law: nothing is wrong with the rows of tables, or something is.
+    fn clean_or_wrong()
+        ensures { (tables : List Table) → HaveByteCells tables → CleanOrWrong (meaning.Stands tables) };
 }

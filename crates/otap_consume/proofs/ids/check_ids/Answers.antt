@@ -1,8 +1,8 @@
 use Rattle.std.proofs.Common.{◌≡◌, ◌∙◌, ◌++◌, ◌∷◌, [], List, Some, map, sym, ap, subst, append_assoc, append-nil, false, refl, rules}
 use Rattle.otap_capture.specs.Batch.{PayloadContent, content_of}
 use Rattle.otap_consume.specs.declared.refusal.Cause.TheVariants.{SchemaIdTaken}
-use Rattle.otap_consume.specs.declared.stop.Stop.{Stop}
-use Rattle.otap_consume.specs.declared.stop.Stop.TheVariants.{Defect}
+use Rattle.otap_consume.specs.declared.not_taken.NotTaken.{NotTaken}
+use Rattle.otap_consume.specs.declared.not_taken.NotTaken.TheVariants.{Defect}
 use Rattle.otap_consume.specs.Defects.{StandsInList, is_taken}
 use Rattle.otap_consume.specs.Ids.{ids_after, has_other, opened}
 use Rattle.otap_consume.specs.Stops.{Stops}
@@ -39,7 +39,7 @@ returns-then-has_other-clause-stops c = λ signal past are.
     let kept = c.payloads.invariant in
     let payload = content_of c.in-Some.payload in
     let is : c.defect.result ≡ Defect SchemaIdTaken (Some payload.kind) = search rules in
-    let P : Stop → Type 0 = Stops (StandsInList signal past c.args.batch.now.payloads) in
+    let P : NotTaken → Type 0 = Stops (StandsInList signal past c.args.batch.now.payloads) in
     subst P (sym is)
     (record {
       p = payload;

@@ -2,7 +2,7 @@ use Rattle.std.proofs.Common.{◌<◌, ◌∙◌, ◌++◌, ℕ, map, sym, subst
 use Rattle.std.specs.Prelude.{sum_by}
 use Rattle.std.proofs.lemmas.Bool.{ltb-true}
 use Rattle.otap_consume.specs.Limits.{held_limit}
-use Rattle.otap_consume.specs.declared.stop.Stop.{Stop}
+use Rattle.otap_consume.specs.declared.not_taken.NotTaken.{NotTaken}
 use Rattle.otap_consume.specs.Defects.{tables_of, held_after}
 use Rattle.otap_consume.specs.Streams.{held_of}
 use Rattle.otap_consume.specs.Taking.{StopsBySize}
@@ -16,7 +16,7 @@ weigh-requires c = set_of c.requires.shows.signal c.args.streams.now c.args.batc
 pub returns-in-Ok-clause-stops : goal.returns-in-Ok-clause-stops
 returns-in-Ok-clause-stops c = λ past are.
     let payloads = c.args.batch.now.payloads in
-    let P : Stop → Type 0 = StopsBySize c.args.signal past payloads in
+    let P : NotTaken → Type 0 = StopsBySize c.args.signal past payloads in
     subst P (sym c.of_size.ensures) (
       refl,
       subst (λ (n : ℕ). held_limit < n) (held_are c.args.signal (past ++ payloads) c.args.streams.now c.requires.kinds are)
@@ -32,7 +32,7 @@ pub returns-clause-stops : goal.returns-clause-stops
 returns-clause-stops c = λ past are.
     let payloads = c.args.batch.now.payloads in
     let views = c.in_ok-set.set.tables.items in
-    let P : Stop → Type 0 = StopsBySize c.args.signal past payloads in
+    let P : NotTaken → Type 0 = StopsBySize c.args.signal past payloads in
     subst P (sym c.of_size-in-Err.ensures) (
       refl,
       too_large c.args.signal (map (λ view. view.1) views) (tables_of c.args.signal past payloads) (held_after c.args.signal (past ++ payloads)) c.in-Err.cause

@@ -1,6 +1,6 @@
 //! Why the payloads of a batch are not taken.
 ghost use Rattle.std.specs.Prelude.{◌≡◌, Some};
-ghost use Rattle.otap_consume.specs.declared.stop.Stop.TheVariants.{Defect, Memory};
+ghost use Rattle.otap_consume.specs.declared.not_taken.NotTaken.TheVariants.{Defect, Memory};
 
 use crate::payload_types::TypesRefusal;
 use crate::refusal::Cause;
@@ -9,26 +9,26 @@ use std::alloc::AllocError;
 
 /// Something is wrong with them, or memory ran out.
 #[derive(Debug, Drop)]
-pub(crate) enum Stop {
+pub(crate) enum NotTaken {
     /// A cause, and the type of the payload in which it stands, if it stands in one.
     Defect { cause: Cause, payload: Option<i32> },
     Memory(AllocError),
 }
 
-impl From<AllocError> for Stop {
+impl From<AllocError> for NotTaken {
     ghost from_gives = { λ error stop. stop ≡ Memory error };
 
-    fn from(error: AllocError) -> Stop {
-        Stop::Memory(error)
+    fn from(error: AllocError) -> NotTaken {
+        NotTaken::Memory(error)
     }
 }
 
-impl From<TypesRefusal> for Stop {
+impl From<TypesRefusal> for NotTaken {
     ghost use Rattle.otap_consume.specs.Stops.{stop_of_types};
 
     ghost from_gives = { λ refusal stop. stop ≡ stop_of_types refusal };
 
-    fn from(refusal: TypesRefusal) -> Stop {
+    fn from(refusal: TypesRefusal) -> NotTaken {
         match refusal {
             TypesRefusal::PayloadType(kind) => defect(Cause::PayloadType, kind),
             TypesRefusal::PayloadTwice(kind) => defect(Cause::PayloadTwice, kind),
@@ -36,24 +36,24 @@ impl From<TypesRefusal> for Stop {
     }
 }
 
-impl From<CheckRefusal> for Stop {
+impl From<CheckRefusal> for NotTaken {
     ghost use Rattle.otap_consume.specs.ReceiverInside.{stop_of_rows};
 
     ghost from_gives = { λ refusal stop. stop ≡ stop_of_rows refusal };
 
-    fn from(refusal: CheckRefusal) -> Stop {
+    fn from(refusal: CheckRefusal) -> NotTaken {
         match refusal {
             CheckRefusal::Defect { kind, why } => defect(Cause::Row(why), kind.number()),
-            CheckRefusal::Memory(error) => Stop::Memory(error),
+            CheckRefusal::Memory(error) => NotTaken::Memory(error),
         }
     }
 }
 
 /// A cause that stands in a payload of this type.
-pub(crate) fn defect(cause: Cause, kind: i32) -> Stop
+pub(crate) fn defect(cause: Cause, kind: i32) -> NotTaken
     ensures { result ≡ Defect cause (Some kind) }
 {
-    Stop::Defect {
+    NotTaken::Defect {
         cause,
         payload: Some(kind),
     }
