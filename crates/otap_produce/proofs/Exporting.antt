@@ -1,0 +1,45 @@
+-- An exporter that stands for requests stands for one more after it wrote its message.
+use Rattle.std.proofs.Common.{◌≡◌, ℕ, ◌+◌, false, List, [], ◌∷◌, ◌++◌, pos, sym, ap, ◌∙◌, arith, append-nil, length-append}
+use Rattle.std.specs.List.{flat_map}
+use Rattle.std.proofs.lemmas.Grind.{flat_map-append}
+use Rattle.histories.proofs.Growing.{each_after-push}
+use Rattle.otlp_model.specs.declared.request.Request.{Request}
+use Rattle.otap_cells.specs.Payload.{kinds_of}
+use Rattle.otap_produce.specs.Exporters.{ExporterIn, Exports, StandsFor, kinds_in}
+use Rattle.otap_produce.specs.Policy.{IsExported, IsMessageOf, Rows, payloads_of}
+use Rattle.otap_produce.specs.Sending.{SendsMessage}
+
+one_more : {A B : Type 0} (f : A → List B) (xs : List A) (x : A) → flat_map f (xs ++ x ∷ []) ≡ flat_map f xs ++ f x
+one_more f xs x = flat_map-append f xs (x ∷ []) ∙ ap (λ ys. flat_map f xs ++ ys) (append-nil (f x))
+
+pub exports : (rows : Rows) (q : Request) (old new : ExporterIn) (bytes : List ℕ) → old.signal ≡ rows.signal → old.broken ≡ false → IsExported rows q
+    → SendsMessage old.batches (rows.tables q) old.sent new.sent bytes → new.signal ≡ old.signal → kinds_in new.sent.senders ≡ kinds_in old.sent.senders
+    → new.batches ≡ old.batches + 1 → new.broken ≡ false → Exports rows q old new bytes
+exports rows q old new bytes signal was_sound exported sends same kinds batches sound = record {
+  was_sound = was_sound;
+  exported = exported;
+  canonical = sends.canonical;
+  id = sends.id;
+  short = sends.short;
+  message = message;
+  stands = λ requests messages stands. record {
+    signal = same ∙ signal;
+    sound = sound;
+    kinds = kinds ∙ stands.kinds ∙ ap kinds_of (sym same);
+    batches = omega (arith, batches, stands.batches, length-append requests (q ∷ []));
+    sent =
+        rw (one_more rows.tables requests q, one_more payloads_of messages bytes)
+        (sends.sends.after (flat_map rows.tables requests) (flat_map payloads_of messages) stands.sent);
+    policy = each_after-push (IsMessageOf rows) [] [] requests messages q bytes stands.policy (message requests messages stands);
+  };
+  sound = sound;
+  batches = batches;
+}
+  where
+    message : (requests : List Request) (messages : List (List ℕ)) → StandsFor rows requests messages old → IsMessageOf rows requests messages q bytes
+    message requests messages stands = record {
+      canonical = sends.canonical;
+      id = sends.id ∙ ap pos stands.batches;
+      payloads = sends.sends.are (flat_map rows.tables requests) (flat_map payloads_of messages) stands.sent;
+      short = sends.short;
+    }

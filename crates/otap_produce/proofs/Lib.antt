@@ -1,0 +1,15 @@
+pub mod ApartKinds
+pub mod Counting
+pub mod Stepping
+pub mod Fresh
+pub mod OneMore
+pub mod TypeNumbers
+pub mod WrittenLogs
+pub mod Lengths
+pub mod Limited
+pub mod Batches
+pub mod Adding
+pub mod Messages
+pub mod Ready
+pub mod Beginning
+pub mod Exporting

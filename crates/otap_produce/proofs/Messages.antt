@@ -1,0 +1,48 @@
+-- A batch to which the payloads of tables were added is their message.
+use Rattle.std.proofs.Common.{◌≡◌, ℕ, ◌<◌, ◌≤◌, ◌^◌, List, [], ◌++◌, length, pos, sym, ap, ◌∙◌, subst, arith}
+use Rattle.std.specs.Prelude.{map, FitsSigned}
+use Rattle.std.specs.Int.{w64}
+use Rattle.std.specs.List.{AllByRecursion}
+use Rattle.std.proofs.lemmas.Int.{fits_signed_from_abs}
+use Rattle.otap_capture.specs.Batch.{BatchContent, IsRealBatch, IsRealPayload, ReadsBatch, batch_in, canon_batch}
+use Rattle.otap_cells.specs.Tables.{Table}
+use Rattle.otap_produce.specs.Exporters.{SendersIn}
+use Rattle.otap_produce.specs.Policy.{part_of}
+use Rattle.otap_produce.specs.Sending.{Adds, Sends, SendsMessage}
+use Rattle.otap_produce.specs.Sizes.{most_of, size_limit, size_of}
+use Rattle.otap_produce.proofs.Lengths.{batch_most}
+
+module _ (number : ℕ) (ts : List Table) (old new : SendersIn) (start batch : BatchContent) (bytes : List ℕ)
+    (law : (b : BatchContent) → IsRealBatch b → length (canon_batch b) < 2 ^ 64 → ReadsBatch (canon_batch b) b)
+    (begun : start ≡ record { id = pos number; payloads = [] }) (adds : Adds ts old new start batch) (spelled : bytes ≡ canon_batch batch)
+    (small : number < 2 ^ 40) (few : length ts ≤ 13) (size : most_of ts ≤ size_limit) where
+  payloads_are : batch.payloads ≡ adds.payloads
+  payloads_are = adds.are ∙ ap (λ (b : BatchContent). b.payloads ++ adds.payloads) begun
+
+  id_is : batch.id ≡ pos number
+  id_is = adds.id ∙ ap (λ (b : BatchContent). b.id) begun
+
+  real : IsRealBatch batch
+  real = record {
+    id = subst (FitsSigned w64) (sym id_is) (fits_signed_from_abs w64 (pos number) (omega (arith, small)));
+    payloads = subst (AllByRecursion IsRealPayload) (sym payloads_are) adds.real;
+  }
+
+  size_is : size_of batch.payloads ≤ size_limit
+  size_is = omega (arith, ap size_of payloads_are, adds.size, size)
+
+  short : length (canon_batch batch) ≤ 2 ^ 29
+  short =
+      let count : length batch.payloads ≤ 13 = omega (arith, ap length payloads_are, adds.count, few) in
+      omega (arith, batch_most batch real (omega (arith, size_is)), count, size_is)
+
+  read : batch_in bytes ≡ batch
+  read = ap batch_in spelled ∙ sym (law batch real (omega (arith, short))).1
+
+  pub message_sent : SendsMessage number ts old new bytes
+  message_sent = record {
+    canonical = spelled ∙ ap canon_batch (sym read);
+    id = ap (λ (b : BatchContent). b.id) read ∙ id_is;
+    sends = subst (Sends ts old new) (sym (ap (λ (b : BatchContent). map part_of b.payloads) read ∙ ap (map part_of) payloads_are)) adds.sends;
+    short = omega (arith, ap length spelled, short);
+  }

@@ -1,0 +1,7 @@
+pub mod Policy
+pub mod LogRows
+pub mod Writable
+pub mod Exporters
+pub mod Sizes
+pub mod Sending
+pub mod Inside

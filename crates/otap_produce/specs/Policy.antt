@@ -1,0 +1,51 @@
+-- The policy of the exporter: the batch messages that the requests of a segment are written as, one for each.
+use Rattle.std.specs.Prelude.{◌≡◌, ◌≤◌, ℕ, pos, List, [], length, map}
+use Rattle.std.specs.List.{flat_map}
+use Rattle.histories.specs.EachAfter.{EachAfter}
+use Rattle.otlp_model.specs.Limits.{item_limit, weight_limit}
+use Rattle.otlp_model.specs.Profile.{IsProfile}
+use Rattle.otlp_model.specs.Real.{IsReal}
+use Rattle.otlp_model.specs.Telemetry.{signal_of, telemetry}
+use Rattle.otlp_model.specs.Weight.{weight_of}
+use Rattle.otlp_model.specs.declared.request.Request.{Request}
+use Rattle.otlp_model.specs.declared.request.Signal.{Signal}
+use Rattle.otap_capture.specs.Batch.{PayloadContent, batch_in, canon_batch}
+use Rattle.otap_capture.specs.Capture.{longest_frame}
+use Rattle.otap_cells.specs.Tables.{Table}
+use Rattle.otap_cells.specs.Weights.{row_weight_limit, weight_of_tables}
+use Rattle.otap_columns.specs.Streams.{PayloadIn}
+use Rattle.otap_columns.specs.TableSets.{ArePayloadsOf}
+
+-- THE ROWS OF A SIGNAL'S REQUESTS: the tables of a request that have rows, and its main table; the main one first, then by
+-- ascending payload type
+pub record Rows : Type 0 where
+  pub signal : Signal
+  pub tables : Request → List Table
+
+-- A REQUEST THAT IS EXPORTED: of the signal, real, of the profile, and within the limits on items, tree weight and row weight
+pub record IsExported (rows : Rows) (q : Request) : Type 0 where
+  pub signal : signal_of q ≡ rows.signal
+  pub real : IsReal q
+  pub profile : IsProfile q
+  pub items : length (telemetry q) ≤ item_limit
+  pub tree : weight_of q ≤ weight_limit
+  pub row_weight : weight_of_tables (rows.tables q) ≤ row_weight_limit
+
+-- the payloads of a message, as sub-streams know them
+abbrev pub part_of : PayloadContent → PayloadIn
+part_of p = record { schema_id = p.schema_id; kind = p.kind; bytes = p.bytes }
+
+abbrev pub payloads_of : List ℕ → List PayloadIn
+payloads_of message = map part_of (batch_in message).payloads
+
+-- THE MESSAGE OF A REQUEST, after the requests and the messages of its segment before it: the canonical spelling of a batch whose
+-- id counts these, and which has a payload for each table of the request. It fits into a frame.
+pub record IsMessageOf (rows : Rows) (requests : List Request) (messages : List (List ℕ)) (request : Request) (message : List ℕ) : Type 0 where
+  pub canonical : message ≡ canon_batch (batch_in message)
+  pub id : (batch_in message).id ≡ pos (length requests)
+  pub payloads : ArePayloadsOf (flat_map rows.tables requests) (flat_map payloads_of messages) (rows.tables request) (payloads_of message)
+  pub short : length message ≤ longest_frame
+
+-- THE POLICY: the messages of the requests of a segment
+abbrev pub Policy : Rows → List Request → List (List ℕ) → Type 0
+Policy rows requests messages = EachAfter (IsMessageOf rows) [] [] requests messages

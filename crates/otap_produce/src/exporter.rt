@@ -1,0 +1,142 @@
+//! Exports requests: a batch message for each, after those of its segment.
+ghost use Rattle.std.specs.Prelude.{◌≡◌, ◌≤◌, ◌<◌, ◌+◌, ◌^◌, ◌*◌, true, false, IfOk, IfErr, OnOk, OnErr};
+ghost use Rattle.otlp_model.specs.Profile.{IsProfile};
+ghost use Rattle.otlp_model.specs.Telemetry.{signal_of};
+ghost use Rattle.otap_cells.specs.Payload.{kinds_of};
+ghost use Rattle.otap_produce.specs.Exporters.{Exports, IsAfter, IsNew, Refuses, kinds_in};
+ghost use Rattle.otap_produce.specs.Policy.{IsExported};
+ghost use Rattle.otap_produce.specs.Sending.{HaveHistory, RefusesFirst, SendsMessage};
+
+use crate::refusal::ProduceRefusal;
+use crate::senders::Senders;
+use crate::tabled::Tabled;
+use otap_cells::MAX_ROW_WEIGHT;
+use otap_columns::writer_laws::records_fit_a_message;
+use otlp_model::{MAX_ITEMS, MAX_TREE_WEIGHT, Request, Signal, items, weight};
+use std::alloc::{AllocError, Global};
+use std::marker::Model;
+
+/// An exporter of the requests of a signal. Of a segment it keeps what decides the next messages: the columns and dictionaries
+/// of each kind of table, and the schema ids. A contract sees this state, and `StandsFor` ties it to the requests and messages.
+#[derive(Debug, Drop)]
+pub struct Exporter {
+    alloc: Global,
+    signal: Signal,
+    senders: Senders,
+    batches: u64,
+    broken: bool,
+}
+
+impl Model for Exporter {
+    ghost use Rattle.otap_produce.specs.Exporters.{ExporterIn};
+
+    ghost Value = { ExporterIn };
+
+    ghost use Rattle.otap_produce.specs.Inside.{IsExporter, exporter_in};
+
+    ghost view = { exporter_in };
+
+    ghost invariant = { IsExporter };
+}
+
+impl Exporter {
+    /// An exporter at the beginning of a segment.
+    pub fn new(alloc: Global, signal: Signal) -> Result<Exporter, AllocError>
+        ensures { IfOk result (IsNew signal) }
+    {
+        let senders = Senders::new(alloc, signal)?;
+        Ok(Exporter {
+            alloc,
+            signal,
+            senders,
+            batches: 0,
+            broken: false,
+        })
+    }
+
+    /// The batch message of one request more of the segment. A request that is too large leaves the exporter as it was; after
+    /// want of memory it is broken until a reset.
+    pub fn encode<T: Tabled>(&mut self, request: &Request) -> Result<Vec<u8>, ProduceRefusal>
+        requires of_signal { self.old.signal ≡ T.rows.signal }
+        requires signal { signal_of request.now ≡ T.rows.signal }
+        requires profile { IsProfile request.now }
+        requires batches { self.old.batches < 2 ^ 40 }
+        ensures exports { IfOk result (λ bytes. Exports T.rows request.now self.old self.new bytes.items) }
+        ensures refuses { IfErr result (Refuses T.rows request.now self.old.broken) }
+        ensures after { IfErr result (λ refusal. IsAfter refusal self.old self.new) }
+        ensures signal { self.new.signal ≡ self.old.signal }
+    {
+        check::<T>(self.broken, request)?;
+        self.broken = true;
+        let bytes = message_of::<T>(self.alloc, &mut self.senders, self.batches, request)?;
+        self.batches += 1;
+        self.broken = false;
+        Ok(bytes)
+    }
+
+    /// Begins a new segment.
+    pub fn reset(&mut self)
+        ensures { IsNew self.old.signal self.new }
+    {
+        self.senders.reset();
+        self.batches = 0;
+        self.broken = false;
+    }
+
+    /// Whether memory ran out since the last reset.
+    pub fn is_broken(&self) -> bool
+        ensures { result ≡ self.now.broken }
+    {
+        self.broken
+    }
+
+    /// How many batches there were since the last reset.
+    pub fn batches(&self) -> u64
+        ensures { result ≡ self.now.batches }
+    {
+        self.batches
+    }
+}
+
+// Whether a request is exported; nothing is written yet.
+fn check<T: Tabled>(broken: bool, request: &Request) -> Result<(), ProduceRefusal>
+    requires signal { signal_of request.now ≡ T.rows.signal }
+    requires profile { IsProfile request.now }
+    ensures sound { OnOk result (broken ≡ false) }
+    ensures exported { OnOk result (IsExported T.rows request.now) }
+    ensures refuses { IfErr result (RefusesFirst T.rows request.now broken) }
+{
+    if broken {
+        return Err(ProduceRefusal::Broken);
+    }
+    if items(request) > MAX_ITEMS {
+        return Err(ProduceRefusal::TooManyItems);
+    }
+    if weight(request) > MAX_TREE_WEIGHT || T::row_weight(request) > MAX_ROW_WEIGHT {
+        return Err(ProduceRefusal::TooHeavy);
+    }
+    Ok(())
+}
+
+// The message of a request that is exported.
+fn message_of<T: Tabled>(
+    alloc: Global,
+    senders: &mut Senders,
+    batches: u64,
+    request: &Request,
+) -> Result<Vec<u8>, AllocError>
+    requires exported { IsExported T.rows request.now }
+    requires kinds { kinds_in senders.old.senders ≡ kinds_of T.rows.signal }
+    requires history { HaveHistory senders.old }
+    requires few { senders.old.openings ≤ 13 * batches }
+    requires batches { batches < 2 ^ 40 }
+    ensures sends { IfOk result (λ bytes. SendsMessage batches (T.rows.tables request.now) senders.old senders.new bytes.items) }
+    ensures kinds { kinds_in senders.new.senders ≡ kinds_in senders.old.senders }
+    ensures few { OnOk result (senders.new.openings ≤ senders.old.openings + 13) }
+{
+    T::can_be_written();
+    records_fit_a_message();
+    let set = T::tables(alloc, request)?;
+    let bytes = senders.send_all(batches, &set.tables)?;
+    Ok(bytes)
+}

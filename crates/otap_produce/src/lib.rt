@@ -1,0 +1,16 @@
+//! The exporter: the batch messages of the requests of a segment.
+#![tactic(auto)]
+
+mod exporter;
+mod logs;
+mod refusal;
+mod sender;
+mod senders;
+mod tabled;
+#[cfg(test)]
+mod tests;
+
+pub use exporter::Exporter;
+pub use logs::LogTables;
+pub use refusal::ProduceRefusal;
+pub use tabled::Tabled;
