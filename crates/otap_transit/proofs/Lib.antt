@@ -1,0 +1,14 @@
+pub mod InStep
+pub mod KindsApart
+pub mod Projected
+pub mod SchemaIds
+pub mod Reading
+pub mod RealBatches
+pub mod Reaching
+pub mod Once
+pub mod Accepting
+pub mod InFormat
+pub mod Coming
+pub mod Settled
+pub mod Arriving
+pub mod LogsFaithful

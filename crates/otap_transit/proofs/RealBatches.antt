@@ -1,0 +1,107 @@
+-- A batch message is one that a program holds: its id fits 64 bits.
+use Rattle.std.proofs.Common.{◌≡◌, ℕ, zero, suc, ◌+◌, ◌*◌, ◌^◌, ◌<◌, ◌≤◌, List, [], ◌∷◌, length, ℤ, pos, inl, inr, arith, lit<}
+use Rattle.std.specs.Prelude.{◌⊎◌, ⊤, FitsSigned, slice_index, fold, Option, ◌==◌}
+use Rattle.std.specs.List.{AllByRecursion}
+use Rattle.std.specs.Int.{w32, w64}
+use Rattle.std.proofs.lemmas.Bool.{cases_Bool}
+use Rattle.std.proofs.Math.Facts.{sfits_to_z}
+use Rattle.otlp_wire.specs.declared.parts.WireError.{WireError}
+use Rattle.otlp_wire.specs.Fields.{fields_of, end_of}
+use Rattle.otlp_wire.specs.Reading.{Reads}
+use Rattle.otlp_wire.specs.Varint.{sevens, IsVarint}
+use Rattle.otlp_wire.specs.Wire as wire
+use Rattle.otlp_wire.specs.Wire.{FieldValue, Entry, IsValue, IsField}
+use Rattle.otlp_wire.proofs.FieldsOf.{fields_of-reads}
+use Rattle.otlp_messages.specs.Rows.{only, int64_in}
+use Rattle.otap_capture.specs.Batch.{batch_in}
+use Rattle.otap_cells.specs.declared.payload.Kind.{Kind}
+use Rattle.otap_cells.specs.declared.payload.Kind.TheVariants as table
+use Rattle.otap_cells.specs.Payload.{number_of}
+
+-- seven bits of each byte of a varint, and one of a tenth
+sevens_below : (k : ℕ) (bytes : List ℕ) → length bytes ≤ k → sevens bytes < 128 ^ k
+sevens_below zero [] few = omega arith
+sevens_below zero (byte ∷ bytes) few = absurd (omega (arith, few))
+sevens_below (suc k) [] few = (let rest = sevens_below k [] (omega arith) in omega (arith, rest))
+sevens_below (suc k) (byte ∷ bytes) few = (let rest = sevens_below k bytes (omega (arith, few)) in omega (arith, rest))
+
+sevens_last : (k : ℕ) (bytes : List ℕ) → length bytes ≡ k + 1 → slice_index bytes k ≤ 1 → sevens bytes < 2 * 128 ^ k
+sevens_last k [] size last = absurd (omega (arith, size))
+sevens_last zero (byte ∷ []) size last = omega (arith, last)
+sevens_last zero (byte ∷ (more ∷ bytes)) size last = absurd (omega (arith, size))
+sevens_last (suc k) (byte ∷ bytes) size last = (let rest = sevens_last k bytes (omega (arith, size)) last in omega (arith, rest))
+
+varint_below : (bytes : List ℕ) (n : ℕ) → IsVarint bytes n → n < 2 ^ 64
+varint_below bytes n v = go (nine_or_ten v.last v.at_most_ten)
+  where
+    nine_or_ten : (k : ℕ) → k < 10 → (k < 9) ⊎ (k ≡ 9)
+    nine_or_ten k h = grind arith
+
+    go : (v.last < 9) ⊎ (v.last ≡ 9) → n < 2 ^ 64
+    go (inl short) = (let small = sevens_below 9 bytes (omega (arith, v.size, short)) in omega (arith, v.value, small))
+    go (inr ten) = (let small = sevens_last 9 bytes (omega (arith, v.size, ten)) v.tenth in omega (arith, v.value, small))
+
+-- a varint that is read fits 64 bits
+abbrev Fits : FieldValue → Type 0
+Fits (wire.Varint n) = n < 2 ^ 64
+Fits value = ⊤
+
+value_fits : (bytes : List ℕ) (v : FieldValue) → IsValue bytes v → Fits v
+value_fits bytes (wire.Varint n) is = varint_below bytes n is
+value_fits bytes (wire.Fixed64 n) is = tt
+value_fits bytes (wire.Bytes part) is = tt
+value_fits bytes (wire.Fixed32 n) is = tt
+
+all_fit : (fs : List Entry) (bytes : List ℕ) (end : Option WireError) → Reads bytes fs end → AllByRecursion (λ f. Fits f.value) fs
+all_fit [] bytes end reads = tt
+all_fit (f ∷ fs) bytes end reads =
+    let field : IsField reads.1.0 f = reads.1.2 in
+    (value_fits field.value f.value field.is_value, all_fit fs reads.0 end reads.2)
+
+only_fit : (n : ℕ) (fs : List Entry) → AllByRecursion (λ f. Fits f.value) fs → AllByRecursion Fits (only n fs)
+only_fit n [] all = tt
+only_fit n (f ∷ fs) all =
+    elim (cases_Bool (f.number == n)) [
+      | inl own ↦ rw own (all.0, only_fit n fs all.1)
+      | inr other ↦ rw other (only_fit n fs all.1)
+    ]
+
+-- so a number that is said fits
+said_fits : (vs : List FieldValue) (old : ℤ) → AllByRecursion Fits vs → FitsSigned w64 old → FitsSigned w64 (fold int64_in old vs)
+said_fits [] old all fits = fits
+said_fits (wire.Varint n ∷ vs) old all fits = said_fits vs (int64_in old (wire.Varint n)) all.1 (sfits_to_z {w = w64} (record { fits = all.0 }))
+said_fits (wire.Fixed64 n ∷ vs) old all fits = said_fits vs old all.1 fits
+said_fits (wire.Bytes part ∷ vs) old all fits = said_fits vs old all.1 fits
+said_fits (wire.Fixed32 n ∷ vs) old all fits = said_fits vs old all.1 fits
+
+pub id_fits : (message : List ℕ) → FitsSigned w64 (batch_in message).id
+id_fits message =
+    said_fits (only 1 (fields_of message)) (pos 0) (only_fit 1 (fields_of message) (all_fit (fields_of message) message (end_of message) (fields_of-reads message)))
+    (record { sfits = omega arith })
+
+-- the number of a kind fits 32 bits
+pub kind_fits : (kind : Kind) → FitsSigned w32 (pos (number_of kind))
+kind_fits kind = record { sfits = below kind }
+  where
+    below : (kind : Kind) → number_of kind < 2 ^ 31
+    below table.ResourceAttrs = lit< tt
+    below table.ScopeAttrs = lit< tt
+    below table.Metrics = lit< tt
+    below table.NumberPoints = lit< tt
+    below table.SummaryPoints = lit< tt
+    below table.HistPoints = lit< tt
+    below table.NumberPointAttrs = lit< tt
+    below table.SummaryPointAttrs = lit< tt
+    below table.HistPointAttrs = lit< tt
+    below table.NumberExemplars = lit< tt
+    below table.HistExemplars = lit< tt
+    below table.NumberExemplarAttrs = lit< tt
+    below table.HistExemplarAttrs = lit< tt
+    below table.Logs = lit< tt
+    below table.LogAttrs = lit< tt
+    below table.Spans = lit< tt
+    below table.SpanAttrs = lit< tt
+    below table.SpanEvents = lit< tt
+    below table.SpanLinks = lit< tt
+    below table.EventAttrs = lit< tt
+    below table.LinkAttrs = lit< tt

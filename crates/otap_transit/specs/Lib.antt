@@ -1,0 +1,3 @@
+pub mod Faithful
+pub mod Transits
+pub mod Sendings

@@ -1,0 +1,38 @@
+//! What the far end makes of what the exporter's policy allows. The functions do nothing: their contracts are the laws, and
+//! they speak of the definitions alone.
+
+ghost use Rattle.std.specs.Prelude.{ℕ, All, List, [], map};
+ghost use Rattle.histories.specs.EachAfter.{EachAfter};
+ghost use Rattle.otlp_model.specs.declared.request.Request.{Request};
+ghost use Rattle.otap_consume.specs.LogsMeaning.{logs_meaning};
+ghost use Rattle.otap_consume.specs.Outcomes.{Outcome};
+ghost use Rattle.otap_consume.specs.Receiving.{Received};
+ghost use Rattle.otap_produce.specs.LogRows.{logs_rows};
+ghost use Rattle.otap_produce.specs.Policy.{Rows, IsExported, Policy};
+ghost use Rattle.otap_transit.specs.Faithful.{AreFaithful};
+ghost use Rattle.otap_transit.specs.Sendings.{Sending, frame_of, AreAllowed, Arrive};
+ghost use Rattle.otap_transit.specs.Transits.{IsReceivedAs};
+
+use otap_consume::Telemetry;
+
+/// For every signal, all rows of its requests that are faithful to what its tables mean, all requests that are exported in a
+/// segment, and all messages that the policy allows for them: each message is in the format after those before it, with the
+/// next batch id, and means the same telemetry as its request.
+pub fn both_ends<T: Telemetry>()
+    ensures { (rows : Rows) (requests : List Request) (messages : List (List ℕ)) → AreFaithful T.meaning rows → All (IsExported rows) requests
+        → Policy rows requests messages → EachAfter (IsReceivedAs T.meaning) [] [] requests messages }
+{}
+
+/// The frames of what is sent, with resets between segments, have outcomes, and in all that they have each message is accepted
+/// and means the same telemetry as its request.
+pub fn what_is_sent_arrives<T: Telemetry>()
+    ensures some { (rows : Rows) (sendings : List Sending) → AreFaithful T.meaning rows → AreAllowed rows sendings
+        → (outcomes : List Outcome) × Received T.meaning (map frame_of sendings) outcomes × Arrive T.meaning sendings outcomes }
+    ensures all { (rows : Rows) (sendings : List Sending) (outcomes : List Outcome) → AreFaithful T.meaning rows → AreAllowed rows sendings
+        → Received T.meaning (map frame_of sendings) outcomes → Arrive T.meaning sendings outcomes }
+{}
+
+/// The tables of requests of logs are faithful to what tables of logs mean.
+pub fn logs_are_faithful()
+    ensures { AreFaithful logs_meaning logs_rows }
+{}
