@@ -63,38 +63,41 @@ of_served words job = by_signal (names words (job served.Logs))
     by_signal (inl logs) = inl (served.Logs, logs)
     by_signal (inr no_logs) = inr (none no_logs)
 
--- the jobs of a receiver, or none of them
-abbrev NoReceiver : List (List ℕ) → Type 0
-NoReceiver words = ((signal : Served) → NamesNot words (command.Decode signal)) × ((signal : Served) → NamesNot words (command.Status signal))
-    × ((signal : Served) → NamesNot words (command.Replay signal))
+-- the jobs of an exporter and of a receiver, or none of them
+abbrev NoServed : List (List ℕ) → Type 0
+NoServed words = ((signal : Served) → NamesNot words (command.Encode signal)) × ((signal : Served) → NamesNot words (command.Decode signal))
+    × ((signal : Served) → NamesNot words (command.Status signal)) × ((signal : Served) → NamesNot words (command.Replay signal))
 
-of_receiver : (words : List (List ℕ)) → ((job : Command) × (words ≡ words_of job)) ⊎ NoReceiver words
-of_receiver words = by_job (of_served words command.Decode) (of_served words command.Status) (of_served words command.Replay)
+of_served_jobs : (words : List (List ℕ)) → ((job : Command) × (words ≡ words_of job)) ⊎ NoServed words
+of_served_jobs words = by_job (of_served words command.Encode) (of_served words command.Decode) (of_served words command.Status) (of_served words command.Replay)
   where
-    by_job : OneOf words command.Decode → OneOf words command.Status → OneOf words command.Replay → ((job : Command) × (words ≡ words_of job)) ⊎ NoReceiver words
-    by_job (inl decode) status replay = inl (command.Decode decode.0, decode.1)
-    by_job (inr no_decode) (inl status) replay = inl (command.Status status.0, status.1)
-    by_job (inr no_decode) (inr no_status) (inl replay) = inl (command.Replay replay.0, replay.1)
-    by_job (inr no_decode) (inr no_status) (inr no_replay) = inr (no_decode, no_status, no_replay)
+    by_job : OneOf words command.Encode → OneOf words command.Decode → OneOf words command.Status → OneOf words command.Replay
+        → ((job : Command) × (words ≡ words_of job)) ⊎ NoServed words
+    by_job (inl encode) decode status replay = inl (command.Encode encode.0, encode.1)
+    by_job (inr no_encode) (inl decode) status replay = inl (command.Decode decode.0, decode.1)
+    by_job (inr no_encode) (inr no_decode) (inl status) replay = inl (command.Status status.0, status.1)
+    by_job (inr no_encode) (inr no_decode) (inr no_status) (inl replay) = inl (command.Replay replay.0, replay.1)
+    by_job (inr no_encode) (inr no_decode) (inr no_status) (inr no_replay) = inr (no_encode, no_decode, no_status, no_replay)
 
 pub each_words : (words : List (List ℕ)) → ((job : Command) × (words ≡ words_of job)) ⊎ IsNoCommand words
-each_words words = by_job (names words command.List) (of_signal words command.Tidy) (of_signal words command.Schema) (of_signal words command.Show) (of_receiver words)
+each_words words = by_job (names words command.List) (of_signal words command.Tidy) (of_signal words command.Schema) (of_signal words command.Show) (of_served_jobs words)
   where
     none : NamesNot words command.List → ((signal : Signal) → NamesNot words (command.Tidy signal)) → ((signal : Signal) → NamesNot words (command.Schema signal))
-        → ((signal : Signal) → NamesNot words (command.Show signal)) → NoReceiver words → IsNoCommand words
-    none list tidy schema show receiver command.List = list
-    none list tidy schema show receiver (command.Tidy signal) = tidy signal
-    none list tidy schema show receiver (command.Schema signal) = schema signal
-    none list tidy schema show receiver (command.Show signal) = show signal
-    none list tidy schema show receiver (command.Decode signal) = receiver.0 signal
-    none list tidy schema show receiver (command.Status signal) = receiver.1 signal
-    none list tidy schema show receiver (command.Replay signal) = receiver.2 signal
+        → ((signal : Signal) → NamesNot words (command.Show signal)) → NoServed words → IsNoCommand words
+    none list tidy schema show others command.List = list
+    none list tidy schema show others (command.Tidy signal) = tidy signal
+    none list tidy schema show others (command.Schema signal) = schema signal
+    none list tidy schema show others (command.Show signal) = show signal
+    none list tidy schema show others (command.Encode signal) = others.0 signal
+    none list tidy schema show others (command.Decode signal) = others.1 signal
+    none list tidy schema show others (command.Status signal) = others.2 signal
+    none list tidy schema show others (command.Replay signal) = others.3 signal
 
     by_job : Names words command.List ⊎ NamesNot words command.List → OneOf words command.Tidy → OneOf words command.Schema → OneOf words command.Show
-        → ((job : Command) × (words ≡ words_of job)) ⊎ NoReceiver words → ((job : Command) × (words ≡ words_of job)) ⊎ IsNoCommand words
-    by_job (inl list) tidy schema show receiver = inl (command.List, list)
-    by_job (inr no_list) (inl tidy) schema show receiver = inl (command.Tidy tidy.0, tidy.1)
-    by_job (inr no_list) (inr no_tidy) (inl schema) show receiver = inl (command.Schema schema.0, schema.1)
-    by_job (inr no_list) (inr no_tidy) (inr no_schema) (inl show) receiver = inl (command.Show show.0, show.1)
-    by_job (inr no_list) (inr no_tidy) (inr no_schema) (inr no_show) (inl receiver) = inl receiver
-    by_job (inr no_list) (inr no_tidy) (inr no_schema) (inr no_show) (inr no_receiver) = inr (none no_list no_tidy no_schema no_show no_receiver)
+        → ((job : Command) × (words ≡ words_of job)) ⊎ NoServed words → ((job : Command) × (words ≡ words_of job)) ⊎ IsNoCommand words
+    by_job (inl list) tidy schema show others = inl (command.List, list)
+    by_job (inr no_list) (inl tidy) schema show others = inl (command.Tidy tidy.0, tidy.1)
+    by_job (inr no_list) (inr no_tidy) (inl schema) show others = inl (command.Schema schema.0, schema.1)
+    by_job (inr no_list) (inr no_tidy) (inr no_schema) (inl show) others = inl (command.Show show.0, show.1)
+    by_job (inr no_list) (inr no_tidy) (inr no_schema) (inr no_show) (inl others) = inl others
+    by_job (inr no_list) (inr no_tidy) (inr no_schema) (inr no_show) (inr no_others) = inr (none no_list no_tidy no_schema no_show no_others)

@@ -1,7 +1,8 @@
 -- Runs in which no count of faults rose.
-use Rattle.std.proofs.Common.{◌≡◌, ◌⊎◌, inl, inr, ℕ, false, List, [], Some, None, IfSome, Result, Ok, Err, refl, sym, ap, ◌∙◌, subst}
+use Rattle.std.proofs.Common.{◌≡◌, ◌⊎◌, inl, inr, ℕ, false, List, [], ◌++◌, Some, None, IfSome, Result, Ok, Err, refl, sym, ap, ◌∙◌, subst, append-nil}
 use Rattle.std.specs.Prelude.{is_some}
 use Rattle.std.specs.declared.option.Option.{Option}
+use Rattle.std.specs.Io.KnownBytes.{Appends}
 use Rattle.histories.specs.EachAfter.{EachAfter}
 use Rattle.otap_capture.specs.declared.frame.Damage.{Damage}
 use Rattle.otap_capture.specs.Capture.{Frame, IsCapture}
@@ -12,6 +13,8 @@ use Rattle.otap_gateway.specs.declared.stop.Stop.{Stop}
 use Rattle.otap_gateway.specs.declared.stop.Stop.TheVariants as stop
 use Rattle.otap_gateway.specs.declared.stop.Tally.{Tally}
 use Rattle.otap_gateway.specs.Commands.{ReplyOf}
+use Rattle.otap_gateway.specs.Lines.{end_text}
+use Rattle.otap_gateway.specs.Reply.{err_text}
 use Rattle.otap_gateway.specs.Runs.{World, Sinks, Runs, WritesAll, Completes, Leaves, Faults, status_of}
 
 -- the capture that was written out is the one that ends well
@@ -25,13 +28,17 @@ same_capture (Some xs) bytes frames others end told capture other =
 
 -- a run that came to its end
 completes : (job : Command) (left : Option (List ℕ)) (old new : Sinks) (tally : Tally) (bytes : List ℕ) (frames : List Frame) → WritesAll job left old new tally → left ≡ Some bytes
-    → IsCapture bytes frames None → Completes job frames (status_of (Ok tally))
+    → IsCapture bytes frames None → Completes job frames old new (status_of (Ok tally))
 completes job left old new tally bytes frames w told capture =
     let same = same_capture left bytes frames w.frames w.end told capture w.capture in
     let fine : tally.damaged ≡ false = w.damaged ∙ ap is_some same.1 in
+    let no_end : err_text w.replies ++ end_text w.end ≡ err_text w.replies = ap (λ e. err_text w.replies ++ end_text e) same.1 ∙ append-nil (err_text w.replies) in
     record {
       replies = w.replies;
       texts = subst (λ l. EachAfter (ReplyOf job) [] [] l w.replies) (sym same.0) w.texts;
+      out = w.out;
+      err = subst (λ l. Appends old.err.written new.err.written l) no_end w.err;
+      flushed = w.flushed;
       same = rw (fine, w.refused) refl;
     }
 
@@ -40,12 +47,12 @@ pub complete_runs : (job : Command) (old new : World) (status : ℕ) (bytes : Li
     → (Rose old.faults new.faults → ⊥)
     → (Rose old.sinks.out.faults new.sinks.out.faults → ⊥)
     → (Rose old.sinks.err.faults new.sinks.err.faults → ⊥)
-    → (status ≡ 6) ⊎ Completes job frames status
+    → (status ≡ 6) ⊎ Completes job frames old.sinks new.sinks status
 complete_runs job old new status bytes frames run told capture source out err =
-    subst (λ n. (n ≡ 6) ⊎ Completes job frames n) (sym run.same) (by_answer run.answer run.leaves run.faults)
+    subst (λ n. (n ≡ 6) ⊎ Completes job frames old.sinks new.sinks n) (sym run.same) (by_answer run.answer run.leaves run.faults)
   where
     by_answer : (answer : Result Tally Stop) → Leaves job old.left old.sinks new.sinks answer → Faults old new answer
-        → (status_of answer ≡ 6) ⊎ Completes job frames (status_of answer)
+        → (status_of answer ≡ 6) ⊎ Completes job frames old.sinks new.sinks (status_of answer)
     by_answer (Ok tally) leaves faults = inr (completes job old.left old.sinks new.sinks tally bytes frames leaves told capture)
     by_answer (Err stop.Source) leaves faults = absurd (source faults.0)
     by_answer (Err stop.Sink) leaves faults = elim faults.1 [ inl failed ↦ absurd (out failed.out) | inr failed ↦ absurd (err failed.err) ]

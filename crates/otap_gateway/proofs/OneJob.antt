@@ -5,7 +5,7 @@ use Rattle.std.specs.Str.{bytes_eq}
 use lib.Pointwise.{pointwise}
 use Rattle.otlp_model.specs.declared.request.Signal.TheVariants.{Traces, Logs, Metrics}
 use Rattle.otap_gateway.specs.declared.command.Command.{Command}
-use Rattle.otap_gateway.specs.declared.command.Command.TheVariants.{List as Listing, Tidy, Schema, Show, Decode, Status, Replay}
+use Rattle.otap_gateway.specs.declared.command.Command.TheVariants.{List as Listing, Tidy, Encode, Schema, Show, Decode, Status, Replay}
 use Rattle.otap_gateway.specs.declared.command.Served.TheVariants as served
 use Rattle.otap_gateway.specs.declared.stop.Stop.{Stop}
 use Rattle.otap_gateway.specs.declared.stop.Tally.{Tally}
@@ -14,7 +14,7 @@ use Rattle.otap_gateway.specs.Runs.{World, Leaves, Stops, Faults, Runs, status_o
 
 jobs : List Command
 jobs = Listing ∷ Tidy Traces ∷ Tidy Logs ∷ Tidy Metrics ∷ Schema Traces ∷ Schema Logs ∷ Schema Metrics ∷ Show Traces ∷ Show Logs ∷ Show Metrics
-    ∷ Decode served.Logs ∷ Status served.Logs ∷ Replay served.Logs ∷ []
+    ∷ Encode served.Logs ∷ Decode served.Logs ∷ Status served.Logs ∷ Replay served.Logs ∷ []
 
 -- the first job that has the words
 named : List (List ℕ) → Option Command
@@ -32,6 +32,7 @@ is_named (Schema Metrics) = refl
 is_named (Show Traces) = refl
 is_named (Show Logs) = refl
 is_named (Show Metrics) = refl
+is_named (Encode served.Logs) = refl
 is_named (Decode served.Logs) = refl
 is_named (Status served.Logs) = refl
 is_named (Replay served.Logs) = refl

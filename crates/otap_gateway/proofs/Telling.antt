@@ -1,4 +1,4 @@
--- What a job of a receiver replies, from what the receiver returns.
+-- What a job replies, from what its state gives of a frame.
 use Rattle.std.proofs.Common.{◌≡◌, ℕ, suc, ◌+◌, List, [], ◌∷◌, ◌++◌, length, refl, sym, ap, ◌∙◌, subst, zero-add, arith}
 use Rattle.histories.proofs.Growing.{each_after-push, each_after-length}
 use Rattle.otlp_model.specs.declared.request.Signal.{Signal}
@@ -6,48 +6,66 @@ use Rattle.otap_capture.specs.Capture.{Frame}
 use Rattle.otap_consume.specs.declared.taken.Taken.{Taken}
 use Rattle.otap_consume.specs.Meanings.{Meaning}
 use Rattle.otap_consume.specs.Outcomes.{Outcome}
-use Rattle.otap_consume.specs.Receivers.{taken_of, HasReceived, Receives}
+use Rattle.otap_consume.specs.Receivers.{HasReceived, Receives}
 use Rattle.otap_consume.specs.Receiving.{ReceivedAfter}
-use Rattle.otap_consume.specs.Segments.{SegmentIn, IsNew}
+use Rattle.otap_consume.specs.Segments.{SegmentIn, StandsFor, IsNew}
 use Rattle.otap_consume.proofs.SegmentSteps.{stands_first}
-use Rattle.otap_gateway.specs.Receptions.{told, Tells, HasTold}
+use Rattle.otap_gateway.specs.Receptions.{as_taken, HasReplied}
 use Rattle.otap_gateway.specs.Reply.{ReplyText}
+use Rattle.otap_gateway.specs.Told.{Giving, Gave, told, Tells, HasTold, HasMore}
+
+pub told_more : {O : Type 0} (text : ℕ → O → ReplyText) (number : ℕ) (os : List O) (o : O) → told text number (os ++ o ∷ []) ≡ told text number os ++ text (number + length os) o ∷ []
+told_more text number [] o = let same : number ≡ number + 0 = omega arith in ap (λ k. text k o ∷ []) same
+told_more text number (p ∷ os) o =
+    let same : suc number + length os ≡ number + suc (length os) = omega arith in
+    ap (λ rs. text number p ∷ rs) (told_more text (suc number) os o ∙ ap (λ k. told text (suc number) os ++ text k o ∷ []) same)
+
+pub tells_more : {O : Type 0} (Gives : Giving O) (text : ℕ → O → ReplyText) (old new : List O → Type 0) (frame : Frame) (number : ℕ) (reply : ReplyText)
+    → ((past : List Frame) (outcomes : List O) → Gave Gives past outcomes → old outcomes → HasMore Gives text new outcomes frame number reply)
+    → (frames : List Frame) (replies : List ReplyText) → length frames ≡ number → HasTold Gives text old frames replies
+    → Tells Gives text frames replies frame reply × HasTold Gives text new (frames ++ frame ∷ []) (replies ++ reply ∷ [])
+tells_more {O} Gives text old new frame number reply step frames replies count history =
+    let outcomes : List O = history.outcomes in
+    let n : HasMore Gives text new outcomes frame number reply = step frames outcomes history.before history.stood in
+    let here : reply ≡ text (length frames) n.outcome = n.says ∙ ap (λ k. text k n.outcome) (sym count) in
+    let long : length frames ≡ length outcomes = each_after-length (λ past before f o. Gives before f o) [] [] frames outcomes history.before in
+    let last : reply ≡ text (0 + length outcomes) n.outcome = here ∙ ap (λ k. text k n.outcome) (long ∙ sym (zero-add (length outcomes))) in (
+      record {
+        outcomes = outcomes;
+        before = history.before;
+        so_far = history.so_far;
+        outcome = n.outcome;
+        gives = n.gives;
+        says = here;
+      },
+      record {
+        outcomes = outcomes ++ n.outcome ∷ [];
+        before = each_after-push (λ past before f o. Gives before f o) [] [] frames outcomes frame n.outcome history.before n.gives;
+        so_far = (λ i. history.so_far i ++ last i ∷ []) ∙ sym (told_more text 0 outcomes n.outcome);
+        stood = n.stands;
+      },
+    )
+
+-- ---- a receiver
 
 module _ (m : Meaning) (text : ℕ → Taken → ReplyText) where
-  pub told_more : (number : ℕ) (os : List Outcome) (o : Outcome) → told m text number (os ++ o ∷ []) ≡ told m text number os ++ text (number + length os) (taken_of m o) ∷ []
-  told_more number [] o = let same : number ≡ number + 0 = omega arith in ap (λ k. text k (taken_of m o) ∷ []) same
-  told_more number (p ∷ os) o =
-      let same : suc number + length os ≡ number + suc (length os) = omega arith in
-      ap (λ rs. text number (taken_of m p) ∷ rs) (told_more (suc number) os o ∙ ap (λ k. told m text (suc number) os ++ text k (taken_of m o) ∷ []) same)
+  takes : (old new : SegmentIn) (frame : Frame) (taken : Taken) (number : ℕ) (reply : ReplyText) → Receives m old frame new taken → reply ≡ text number taken
+      → (past : List Frame) (outcomes : List Outcome) → Gave (ReceivedAfter m) past outcomes → StandsFor m.signal outcomes old
+      → HasMore (ReceivedAfter m) (as_taken m text) (λ os. StandsFor m.signal os new) outcomes frame number reply
+  takes old new frame taken number reply receives says past outcomes before stands =
+      let n : HasReceived m outcomes frame new taken = receives.at outcomes stands in
+      record { outcome = n.outcome; gives = n.gives; says = says ∙ ap (text number) n.tells; stands = n.stands }
 
-  pub tells_more : (old new : SegmentIn) (frame : Frame) (taken : Taken) (number : ℕ) → Receives m old frame new taken → (reply : ReplyText) → reply ≡ text number taken
-      → (frames : List Frame) (replies : List ReplyText) → length frames ≡ number → HasTold m text old frames replies
-      → Tells m text frames replies frame reply × HasTold m text new (frames ++ frame ∷ []) (replies ++ reply ∷ [])
-  tells_more old new frame taken number receives reply says frames replies count history =
-      let outcomes : List Outcome = history.outcomes in
-      let n : HasReceived m outcomes frame new taken = receives.at outcomes history.stands in
-      let here : reply ≡ text (length frames) (taken_of m n.outcome) = says ∙ ap (λ k. text k taken) (sym count) ∙ ap (λ t. text (length frames) t) n.tells in
-      let long : length frames ≡ length outcomes = each_after-length (λ past before f o. ReceivedAfter m before f o) [] [] frames outcomes history.before in
-      let last : reply ≡ text (0 + length outcomes) (taken_of m n.outcome) = here ∙ ap (λ k. text k (taken_of m n.outcome)) (long ∙ sym (zero-add (length outcomes))) in (
-        record {
-          outcomes = outcomes;
-          before = history.before;
-          so_far = history.so_far;
-          outcome = n.outcome;
-          gives = n.gives;
-          says = here;
-        },
-        record {
-          outcomes = outcomes ++ n.outcome ∷ [];
-          before = each_after-push (λ past before f o. ReceivedAfter m before f o) [] [] frames outcomes frame n.outcome history.before n.gives;
-          so_far = (λ i. history.so_far i ++ last i ∷ []) ∙ sym (told_more 0 outcomes n.outcome);
-          stands = n.stands;
-        },
-      )
+  pub receiver_tells : (old new : SegmentIn) (frame : Frame) (taken : Taken) (number : ℕ) → Receives m old frame new taken → (reply : ReplyText) → reply ≡ text number taken
+      → (frames : List Frame) (replies : List ReplyText) → length frames ≡ number → HasReplied m text old frames replies
+      → Tells (ReceivedAfter m) (as_taken m text) frames replies frame reply × HasReplied m text new (frames ++ frame ∷ []) (replies ++ reply ∷ [])
+  receiver_tells old new frame taken number receives reply says =
+      tells_more (ReceivedAfter m) (as_taken m text) (λ os. StandsFor m.signal os old) (λ os. StandsFor m.signal os new) frame number reply
+      (takes old new frame taken number reply receives says)
 
-  pub told_none : (signal : Signal) (s : SegmentIn) → signal ≡ m.signal → IsNew signal s → HasTold m text s [] []
+  pub told_none : (signal : Signal) (s : SegmentIn) → signal ≡ m.signal → IsNew signal s → HasReplied m text s [] []
   told_none signal s same new =
-      record { outcomes = []; before = tt; so_far = refl; stands = stands_first m.signal s (subst (λ (x : Signal). IsNew x s) same new) }
+      record { outcomes = []; before = tt; so_far = refl; stood = stands_first m.signal s (subst (λ (x : Signal). IsNew x s) same new) }
 
 -- a line of four parts
 pub line_made : (a b c d e head words items weights : List ℕ) → a ≡ [] → b ≡ a ++ head → c ≡ b ++ words → d ≡ c ++ items → e ≡ d ++ weights → e ≡ head ++ words ++ items ++ weights

@@ -1,18 +1,21 @@
 -- The jobs: their words, and what each may reply to a frame.
 use Rattle.std.specs.Prelude.{◌≢◌, ℕ, List, [], ◌∷◌, length, codes}
 use Rattle.otap_capture.specs.Capture.{Frame}
+use Rattle.otap_consume.specs.Receiving.{ReceivedAfter}
 use Rattle.otlp_model.specs.declared.request.Signal.{Signal}
 use Rattle.otlp_model.specs.declared.request.Signal.TheVariants as signals
 use Rattle.otap_gateway.specs.declared.command.Command.{Command}
 use Rattle.otap_gateway.specs.declared.command.Served.{Served}
 use Rattle.otap_gateway.specs.declared.command.Served.TheVariants as served
 use Rattle.otap_gateway.specs.declared.command.Command.TheVariants as command
+use Rattle.otap_gateway.specs.Encoding.{Encodes, encoded, rows_of}
 use Rattle.otap_gateway.specs.Listing.{ListsFrame}
-use Rattle.otap_gateway.specs.Receptions.{decoded, statused, replayed, meaning_of, Tells}
+use Rattle.otap_gateway.specs.Receptions.{decoded, statused, replayed, as_taken, meaning_of}
 use Rattle.otap_gateway.specs.Reply.{ReplyText}
 use Rattle.otap_gateway.specs.Schemas.{SchemasFrame}
 use Rattle.otap_gateway.specs.Showing.{ShowsFrame}
 use Rattle.otap_gateway.specs.Tidying.{TidiesFrame}
+use Rattle.otap_gateway.specs.Told.{Tells}
 
 abbrev pub signal_word : Signal → List ℕ
 signal_word signals.Traces = codes "traces"
@@ -26,6 +29,7 @@ served_word served.Logs = codes "logs"
 abbrev pub words_of : Command → List (List ℕ)
 words_of command.List = codes "list" ∷ []
 words_of (command.Tidy signal) = codes "tidy" ∷ signal_word signal ∷ []
+words_of (command.Encode signal) = codes "encode" ∷ served_word signal ∷ []
 words_of (command.Schema signal) = codes "schema" ∷ signal_word signal ∷ []
 words_of (command.Show signal) = codes "show" ∷ signal_word signal ∷ []
 words_of (command.Decode signal) = codes "decode" ∷ served_word signal ∷ []
@@ -40,8 +44,9 @@ IsNoCommand words = (job : Command) → words ≢ words_of job
 unfoldable pub ReplyOf : Command → List Frame → List ReplyText → Frame → ReplyText → Type 0
 ReplyOf command.List frames replies frame reply = ListsFrame (length frames) frame reply
 ReplyOf (command.Tidy signal) frames replies frame reply = TidiesFrame signal (length frames) frame reply
+ReplyOf (command.Encode signal) frames replies frame reply = Tells (Encodes (rows_of signal) (meaning_of signal)) encoded frames replies frame reply
 ReplyOf (command.Schema signal) frames replies frame reply = SchemasFrame signal (length frames) frame reply
 ReplyOf (command.Show signal) frames replies frame reply = ShowsFrame signal frames frame reply
-ReplyOf (command.Decode signal) frames replies frame reply = Tells (meaning_of signal) decoded frames replies frame reply
-ReplyOf (command.Status signal) frames replies frame reply = Tells (meaning_of signal) statused frames replies frame reply
-ReplyOf (command.Replay signal) frames replies frame reply = Tells (meaning_of signal) replayed frames replies frame reply
+ReplyOf (command.Decode signal) frames replies frame reply = Tells (ReceivedAfter (meaning_of signal)) (as_taken (meaning_of signal) decoded) frames replies frame reply
+ReplyOf (command.Status signal) frames replies frame reply = Tells (ReceivedAfter (meaning_of signal)) (as_taken (meaning_of signal) statused) frames replies frame reply
+ReplyOf (command.Replay signal) frames replies frame reply = Tells (ReceivedAfter (meaning_of signal)) (as_taken (meaning_of signal) replayed) frames replies frame reply

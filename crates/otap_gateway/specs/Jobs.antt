@@ -20,3 +20,10 @@ pub record Extends (R : Rule) (old new : History) (number : ℕ) (frame : Frame)
 -- the new state stands for each history that the old one stands for
 abbrev pub Stays : History → History → Type 0
 Stays old new = (frames : List Frame) (replies : List ReplyText) → old frames replies → new frames replies
+
+-- a state stands for some frames, by their number, and replies to them
+pub record HasHistory (stands : History) (number : ℕ) : Type 0 where
+  pub frames : List Frame
+  pub replies : List ReplyText
+  pub count : length frames ≡ number
+  pub stood : stands frames replies

@@ -1,14 +1,18 @@
 pub mod Causes
 pub mod Commands
+pub mod Encoding
+pub mod EncodingSteps
 pub mod Fields
 pub mod Jobs
 pub mod Lines
 pub mod Listing
 pub mod Openings
 pub mod Quoting
+pub mod ReadBack
 pub mod Receptions
 pub mod Records
 pub mod Refused
+pub mod RefusedRequests
 pub mod Reply
 pub mod RowCauses
 pub mod Rows
@@ -16,5 +20,7 @@ pub mod Runs
 pub mod Schemas
 pub mod Showing
 pub mod ShowingSeen
+pub mod Texts
 pub mod Tidying
+pub mod Told
 pub mod Turns

@@ -1,5 +1,5 @@
 -- The texts of the jobs of a receiver: `decode`, `status` and `replay`.
-use Rattle.std.specs.Prelude.{◌≡◌, ℕ, suc, ℤ, pos, negsuc, List, [], ◌∷◌, ◌++◌, length, codes, ◌==◌, ◌||◌, if◌then◌else◌, true}
+use Rattle.std.specs.Prelude.{ℕ, ℤ, pos, negsuc, List, [], ◌++◌, length, codes, ◌==◌, ◌||◌, if◌then◌else◌, true}
 use Rattle.std.specs.Fmt.{decimal, signed_decimal}
 use Rattle.std.specs.declared.option.Option.{Option}
 use Rattle.std.specs.declared.option.Option.TheVariants.{Some, None}
@@ -14,13 +14,14 @@ use Rattle.otap_consume.specs.LogsMeaning.{logs_meaning}
 use Rattle.otap_consume.specs.Meanings.{Meaning}
 use Rattle.otap_consume.specs.Outcomes.{Outcome}
 use Rattle.otap_consume.specs.Receivers.{taken_of}
-use Rattle.otap_consume.specs.Receiving.{ReceivedAfter, Received}
+use Rattle.otap_consume.specs.Receiving.{ReceivedAfter}
 use Rattle.otap_consume.specs.Segments.{SegmentIn, StandsFor}
 use Rattle.otap_gateway.specs.declared.command.Served.{Served}
 use Rattle.otap_gateway.specs.declared.command.Served.TheVariants as served
 use Rattle.otap_gateway.specs.Causes.{cause_name}
 use Rattle.otap_gateway.specs.Lines.{reset_line, batch_head, refused_line, or_dash, line_feed, printed, refuses}
 use Rattle.otap_gateway.specs.Reply.{ReplyText}
+use Rattle.otap_gateway.specs.Told.{HasTold}
 
 -- what the tables of a signal mean
 abbrev pub meaning_of : Served → Meaning
@@ -61,8 +62,8 @@ abbrev pub id_or_less : Option ℤ → ℤ
 id_or_less (Some id) = id
 id_or_less None = negsuc 0
 
-abbrev pub status_of : Refusal → StatusContent
-status_of refusal = record {
+abbrev pub refusal_status : Refusal → StatusContent
+refusal_status refusal = record {
   id = id_or_less refusal.id;
   code = code_of refusal.stage;
   message = refusal_text refusal.stage (cause_name refusal.cause) refusal.payload;
@@ -73,29 +74,13 @@ fine_status id = record { id = id; code = pos 0; message = [] }
 
 abbrev pub statused : ℕ → Taken → ReplyText
 statused number (Accepted id request rows tree) = printed (message_frame (canon_status (fine_status id)))
-statused number (Refused refusal) = record { out = message_frame (canon_status (status_of refusal)); err = line_of number refusal; refused = true }
+statused number (Refused refusal) = record { out = message_frame (canon_status (refusal_status refusal)); err = line_of number refusal; refused = true }
 statused number Reset = printed reset_frame
 
--- ---- the replies to the frames of a capture
-
--- the texts of outcomes, which are counted from a number on
-abbrev pub told : Meaning → (ℕ → Taken → ReplyText) → ℕ → List Outcome → List ReplyText
-told m text number [] = []
-told m text number (outcome ∷ outcomes) = text number (taken_of m outcome) ∷ told m text (suc number) outcomes
-
--- WHAT A JOB REPLIES TO A FRAME after these: the text of what the frame gives a receiver after what those gave it, by outcomes
--- that gave the replies so far
-pub record Tells (m : Meaning) (text : ℕ → Taken → ReplyText) (frames : List Frame) (replies : List ReplyText) (frame : Frame) (reply : ReplyText) : Type 0 where
-  pub outcomes : List Outcome
-  pub before : Received m frames outcomes
-  pub so_far : replies ≡ told m text 0 outcomes
-  pub outcome : Outcome
-  pub gives : ReceivedAfter m outcomes frame outcome
-  pub says : reply ≡ text (length frames) (taken_of m outcome)
+-- the text of what is returned for an outcome
+abbrev pub as_taken : Meaning → (ℕ → Taken → ReplyText) → ℕ → Outcome → ReplyText
+as_taken m text number outcome = text number (taken_of m outcome)
 
 -- the frames and the replies that a receiver stands for
-pub record HasTold (m : Meaning) (text : ℕ → Taken → ReplyText) (s : SegmentIn) (frames : List Frame) (replies : List ReplyText) : Type 0 where
-  pub outcomes : List Outcome
-  pub before : Received m frames outcomes
-  pub so_far : replies ≡ told m text 0 outcomes
-  pub stands : StandsFor m.signal outcomes s
+abbrev pub HasReplied : Meaning → (ℕ → Taken → ReplyText) → SegmentIn → List Frame → List ReplyText → Type 0
+HasReplied m text s frames replies = HasTold (ReceivedAfter m) (as_taken m text) (λ outcomes. StandsFor m.signal outcomes s) frames replies

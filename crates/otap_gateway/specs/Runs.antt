@@ -153,10 +153,14 @@ pub record Runs (job : Command) (old new : World) (status : ℕ) : Type 0 where
   pub faults : Faults old new answer
 
 -- A run in which nothing failed, over a capture of these frames that ends well: each frame has a reply that the job
--- allows, and the status is 0 exactly where none of them is refused, and else 1.
-pub record Completes (job : Command) (frames : List Frame) (status : ℕ) : Type 0 where
+-- allows, the sinks grew by the texts of these replies, all of it passed on, and the status is 0 exactly where none of them
+-- is refused, and else 1.
+pub record Completes (job : Command) (frames : List Frame) (old new : Sinks) (status : ℕ) : Type 0 where
   pub replies : List ReplyText
   pub texts : EachAfter (ReplyOf job) [] [] frames replies
+  pub out : Appends old.out.written new.out.written (out_text replies)
+  pub err : Appends old.err.written new.err.written (err_text replies)
+  pub flushed : IsFlushed new
   pub same : status ≡ (if any_refused replies then 1 else 0)
 
 -- the line is written and passed on, or a front of it is written
@@ -169,7 +173,7 @@ words_status (Ok x) = 2
 words_status (Err stop) = stop_status stop
 
 -- A run for words that are those of no job. Nothing is read, and the source can't have failed.
-pub record Refuses {S : Type 0} (source source' : S) (old new : World) (status : ℕ) : Type 0 where
+pub record RefusesWords {S : Type 0} (source source' : S) (old new : World) (status : ℕ) : Type 0 where
   pub answer : Result (Unit {0}) Stop
   pub same : status ≡ words_status answer
   pub unread : source' ≡ source

@@ -1,8 +1,6 @@
 -- The texts of `tidy`: each request in canonical spelling.
 use Rattle.std.specs.Prelude.{◌≡◌, ◌⊎◌, ℕ, List, length, codes, nat_lt, if◌then◌else◌}
 use Rattle.otap_capture.specs.Capture.{Frame, Message, Packed, Reset, message_frame, reset_frame}
-use Rattle.otlp_codec.specs.declared.refusal.ReadRefusal.{ReadRefusal}
-use Rattle.otlp_codec.specs.Refusals.{refusal_of}
 use Rattle.otlp_codec.specs.Requests.{Reads, Stands, canon_request}
 use Rattle.otlp_messages.specs.declared.messages.Defect.{Defect}
 use Rattle.otlp_messages.specs.Names.{defect_text}
@@ -11,18 +9,9 @@ use Rattle.otlp_model.specs.declared.request.Request.{Request}
 use Rattle.otlp_model.specs.declared.request.Signal.{Signal}
 use Rattle.otlp_model.specs.Telemetry.{telemetry}
 use Rattle.otlp_model.specs.Weight.{weight_of}
-use Rattle.otap_gateway.specs.Lines.{request_line, printed, refuses}
+use Rattle.otap_gateway.specs.Lines.{printed}
+use Rattle.otap_gateway.specs.RefusedRequests.{refused_request}
 use Rattle.otap_gateway.specs.Reply.{ReplyText}
-
--- a refusal to read a request, and the name of its defect
-pub record NamesDefect (refusal : ReadRefusal) (name : List ℕ) : Type 0 where
-  pub defect : Defect
-  pub same : refusal ≡ refusal_of defect
-  pub text : name ≡ defect_text defect
-
--- the reply to a frame whose request is refused, by the name of the cause
-abbrev pub refused_request : ℕ → List ℕ → ReplyText
-refused_request number cause = refuses (request_line number cause)
 
 -- the reply to a request: a refusal by the first limit that it goes past, or its canonical spelling
 abbrev pub tidied : ℕ → Request → ReplyText

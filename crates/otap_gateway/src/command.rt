@@ -6,7 +6,7 @@ ghost use Rattle.otap_gateway.specs.declared.command.Served.{Served};
 
 use otlp_model::Signal;
 
-/// A signal that the jobs of a receiver serve.
+/// A signal that the jobs of an exporter and of a receiver serve.
 #[derive(Clone, Copy)]
 pub(crate) enum Served {
     Logs,
@@ -19,6 +19,8 @@ pub(crate) enum Command {
     List,
     /// The canonical spelling of each request of the signal.
     Tidy(Signal),
+    /// The batch message of each request of the signal.
+    Encode(Served),
     /// The schemas that the payloads of each batch of the signal begin with.
     Schema(Signal),
     /// The cells of each batch of the signal.
@@ -48,6 +50,7 @@ pub(crate) fn two_words(job: &str, signal: &str) -> Option<Command>
 {
     match job {
         "tidy" => Some(Command::Tidy(any_signal(signal)?)),
+        "encode" => Some(Command::Encode(served_signal(signal)?)),
         "schema" => Some(Command::Schema(any_signal(signal)?)),
         "show" => Some(Command::Show(any_signal(signal)?)),
         "decode" => Some(Command::Decode(served_signal(signal)?)),
@@ -69,7 +72,7 @@ fn any_signal(word: &str) -> Option<Signal>
     }
 }
 
-/// The signal of a word, where the jobs of a receiver serve it.
+/// The signal of a word, where the jobs of an exporter and of a receiver serve it.
 fn served_signal(word: &str) -> Option<Served>
     ensures { MatchOption result ((served : Served) → word.now ≢ served_word served) (λ served. word.now ≡ served_word served) }
 {

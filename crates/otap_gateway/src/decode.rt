@@ -4,21 +4,21 @@ ghost use Rattle.otap_capture.specs.Capture.{frame_of};
 ghost use Rattle.otap_consume.specs.Receivers.{IsSound};
 ghost use Rattle.otap_consume.specs.Segments.{IsNew};
 ghost use Rattle.otap_gateway.specs.declared.command.Command.TheVariants as command;
-ghost use Rattle.otap_gateway.specs.Receptions.{decoded, meaning_of, HasTold};
+ghost use Rattle.otap_gateway.specs.Receptions.{decoded, meaning_of, HasReplied};
 
 use crate::job::Job;
 use crate::receiving::{Serves, refused};
 use crate::reply::Reply;
 use otap_capture::Frame;
-use otap_consume::{Receiver, Taken};
+use otap_consume::{Receiver, Taken, Telemetry};
 use otlp_codec::put_request;
 use otlp_messages::Backward;
 use std::alloc::{AllocError, Global};
 
 /// The job `decode` of a signal.
 #[derive(Drop)]
-pub(crate) struct Decoder<T> {
-    receiver: Receiver,
+pub(crate) struct Decoder<T: Telemetry> {
+    receiver: Receiver<T>,
     telemetry: T,
 }
 
@@ -26,7 +26,7 @@ impl<T: Serves + Drop> Decoder<T> {
     pub(crate) fn new(alloc: Global, telemetry: T) -> Result<Decoder<T>, AllocError>
         ensures { IfOk result (λ decoder. IsNew T.meaning.signal decoder.receiver) }
     {
-        let receiver = Receiver::new(alloc, T::signal())?;
+        let receiver = Receiver::new(alloc)?;
         Ok(Decoder {
             receiver,
             telemetry,
@@ -37,10 +37,10 @@ impl<T: Serves + Drop> Decoder<T> {
 impl<T: Serves> Job for Decoder<T> {
     ghost command = { λ s. command.Decode T.served };
 
-    ghost stands = { λ s. HasTold (meaning_of T.served) decoded s.receiver };
+    ghost stands = { λ s. HasReplied (meaning_of T.served) decoded s.receiver };
 
     fn step(&mut self, alloc: Global, number: u64, frame: &Frame<'_>) -> Result<Reply, AllocError> {
-        let taken = self.receiver.take::<T>(frame)?;
+        let taken = self.receiver.take(frame)?;
         decode(alloc, number, taken)
     }
 }

@@ -1,9 +1,10 @@
 //! The run of a job over a capture: frames are read, and replies are written and passed on.
-ghost use Rattle.std.specs.Prelude.{◌≡◌, [], None, OnOk};
+ghost use Rattle.std.specs.Prelude.{◌≡◌, ◌<◌, ◌≤◌, [], None, OnOk};
 ghost use Rattle.std.specs.Io.KnownBytes.{Keeps};
 ghost use Rattle.std.specs.declared.option.Option.{Option};
-ghost use Rattle.otap_capture.specs.Capture.{frame_of};
+ghost use Rattle.otap_capture.specs.Capture.{capture_limit, frame_of};
 ghost use Rattle.otap_gateway.specs.Commands.{ReplyOf};
+ghost use Rattle.otap_gateway.specs.Jobs.{HasHistory};
 ghost use Rattle.otap_gateway.specs.Runs.{sinks, world, Leaves, Stops, Faults, SinkFaults, IsFlushed};
 ghost use Rattle.otap_gateway.specs.Turns.{Handles, Ends, Settles, Turns, TurnAsks, world_ahead};
 
@@ -38,6 +39,8 @@ fn handle<J: Job, O: Sink, E: Sink>(
     out: &mut O,
     err: &mut E,
 ) -> Result<Handled, Stop>
+    requires history { HasHistory (J.stands job.old) number }
+    requires few { number < capture_limit }
     ensures same { J.command job.new ≡ J.command job.old }
     ensures handles { Handles (ReplyOf (J.command job.old)) (J.stands job.old) (J.stands job.new) number (frame_of frame.now)
         (sinks O.Sink out.old E.Sink err.old)
@@ -134,7 +137,9 @@ fn take_turn<J: Job, S: Source, O: Sink, E: Sink>(
     out: &mut O,
     err: &mut E,
 ) -> Result<Turn, Stop>
-    requires { frames.old.ended ≡ None }
+    requires goes_on { frames.old.ended ≡ None }
+    requires history { HasHistory (J.stands job.old) number }
+    requires few { number ≤ frames.old.handed }
     ensures same { J.command job.new ≡ J.command job.old }
     ensures turns { Turns (ReplyOf (J.command job.old)) (J.stands job.old) (J.stands job.new) number frames.old frames.new
         (world_ahead frames.old S.Source source.old (sinks O.Sink out.old E.Sink err.old))

@@ -1,9 +1,9 @@
 //! What a job does with each frame.
-ghost use Rattle.std.specs.Prelude.{◌≡◌, IfOk};
-ghost use Rattle.otap_capture.specs.Capture.{frame_of};
+ghost use Rattle.std.specs.Prelude.{◌≡◌, ◌<◌, IfOk};
+ghost use Rattle.otap_capture.specs.Capture.{capture_limit, frame_of};
 ghost use Rattle.otap_gateway.specs.declared.command.Command.{Command};
 ghost use Rattle.otap_gateway.specs.Commands.{ReplyOf};
-ghost use Rattle.otap_gateway.specs.Jobs.{History, Extends, Stays};
+ghost use Rattle.otap_gateway.specs.Jobs.{History, Extends, HasHistory, Stays};
 
 use crate::reply::Reply;
 use otap_capture::Frame;
@@ -20,6 +20,8 @@ pub(crate) trait Job {
 
     /// The reply to the next frame, whose number counts the frames before it.
     fn step(&mut self, alloc: Global, number: u64, frame: &Frame<'_>) -> Result<Reply, AllocError>
+        requires history { HasHistory (stands self.old) number }
+        requires few { number < capture_limit }
         ensures same { command self.new ≡ command self.old }
         ensures next { IfOk result (Extends (ReplyOf (command self.old)) (stands self.old) (stands self.new) number (frame_of frame.now)) };
 

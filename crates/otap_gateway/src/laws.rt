@@ -6,16 +6,16 @@ ghost use Rattle.otap_gateway.specs.declared.command.Command.{Command};
 ghost use Rattle.otap_gateway.specs.Commands.{IsNoCommand, words_of};
 ghost use Rattle.otap_gateway.specs.Runs.{World, Runs, Completes};
 
-/// Where no count of faults rose and the capture ends well, a run for the words of a job handles each
-/// frame, and returns 0 exactly where none is refused, and else 1; or there was no memory. No count of
-/// faults rises over a source and sinks that can't fail.
+/// Where no count of faults rose and the capture ends well, a run for the words of a job writes what it
+/// replies to each frame, passes all of it on, and returns 0 exactly where none is refused, and else 1;
+/// or there was no memory.
 pub fn complete_runs()
     ensures { (job : Command) (old new : World) (status : ℕ) (bytes : List ℕ) (frames : List Frame)
         → Runs job old new status → old.left ≡ Some bytes → IsCapture bytes frames None
         → (Rose old.faults new.faults → ⊥)
         → (Rose old.sinks.out.faults new.sinks.out.faults → ⊥)
         → (Rose old.sinks.err.faults new.sinks.err.faults → ⊥)
-        → (status ≡ 6) ⊎ Completes job frames status }
+        → (status ≡ 6) ⊎ Completes job frames old.sinks new.sinks status }
 {}
 
 /// Each list of words is that of a job, or of none.

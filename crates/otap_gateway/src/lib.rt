@@ -5,6 +5,7 @@ mod causes;
 mod command;
 mod decode;
 mod drive;
+mod encode;
 mod fields;
 mod job;
 mod laws;
@@ -17,12 +18,16 @@ mod receiving;
 mod receiving_runs;
 mod reception_laws;
 mod refused;
+mod refused_requests;
 mod replay;
 mod reply;
 mod row_causes;
 mod rows;
 mod running;
 mod schema;
+mod sending;
+mod sending_laws;
+mod sending_runs;
 mod show;
 mod status_job;
 mod stop;
@@ -30,8 +35,11 @@ mod tidy;
 mod words;
 
 pub use laws::{complete_runs, each_words};
-pub use reception_laws::{outcomes_give_the_texts, status_says_the_line, texts_have_outcomes};
+pub use reception_laws::{
+    captures_have_texts, outcomes_give_the_texts, status_says_the_line, texts_have_outcomes,
+};
 pub use running::run;
+pub use sending_laws::{encoded_texts_have_outcomes, what_is_written_is_read};
 pub use words::Words;
 
 #[cfg(test)]

@@ -1,7 +1,8 @@
 //! Laws of the jobs of a receiver: each is the contract of an empty function.
-ghost use Rattle.std.specs.Prelude.{◌≡◌, ◌++◌, [], List, ℕ, codes};
+ghost use Rattle.std.specs.Prelude.{◌≡◌, ◌<◌, ◌++◌, [], All, List, Option, ℕ, codes};
 ghost use Rattle.histories.specs.EachAfter.{EachAfter};
-ghost use Rattle.otap_capture.specs.Capture.{Frame};
+ghost use Rattle.otap_capture.specs.declared.frame.Damage.{Damage};
+ghost use Rattle.otap_capture.specs.Capture.{Frame, IsCapture};
 ghost use Rattle.otap_consume.specs.declared.refusal.Refusal.{Refusal};
 ghost use Rattle.otap_consume.specs.Outcomes.{Outcome};
 ghost use Rattle.otap_consume.specs.Receiving.{Received};
@@ -9,31 +10,44 @@ ghost use Rattle.otap_gateway.specs.declared.command.Command.TheVariants as comm
 ghost use Rattle.otap_gateway.specs.declared.command.Served.{Served};
 ghost use Rattle.otap_gateway.specs.Commands.{ReplyOf};
 ghost use Rattle.otap_gateway.specs.Lines.{batch_head, or_dash, line_feed};
-ghost use Rattle.otap_gateway.specs.Receptions.{decoded, statused, replayed, told, meaning_of, line_of, status_of};
+ghost use Rattle.otap_gateway.specs.Receptions.{decoded, statused, replayed, as_taken, meaning_of, line_of, refusal_status};
 ghost use Rattle.otap_gateway.specs.Reply.{ReplyText};
+ghost use Rattle.otap_gateway.specs.Texts.{HaveTexts};
+ghost use Rattle.otap_gateway.specs.Told.{told};
+
+use otap_consume::Logs;
+use otap_consume::receiving_laws::received_some_outcome;
 
 /// One list of outcomes of the frames of a capture gives what `decode`, what `status` and what `replay` may write.
 pub fn outcomes_give_the_texts()
     ensures decode { (signal : Served) (frames : List Frame) (outcomes : List Outcome) → Received (meaning_of signal) frames outcomes
-        → EachAfter (ReplyOf (command.Decode signal)) [] [] frames (told (meaning_of signal) decoded 0 outcomes) }
+        → EachAfter (ReplyOf (command.Decode signal)) [] [] frames (told (as_taken (meaning_of signal) decoded) 0 outcomes) }
     ensures status { (signal : Served) (frames : List Frame) (outcomes : List Outcome) → Received (meaning_of signal) frames outcomes
-        → EachAfter (ReplyOf (command.Status signal)) [] [] frames (told (meaning_of signal) statused 0 outcomes) }
+        → EachAfter (ReplyOf (command.Status signal)) [] [] frames (told (as_taken (meaning_of signal) statused) 0 outcomes) }
     ensures replay { (signal : Served) (frames : List Frame) (outcomes : List Outcome) → Received (meaning_of signal) frames outcomes
-        → EachAfter (ReplyOf (command.Replay signal)) [] [] frames (told (meaning_of signal) replayed 0 outcomes) }
+        → EachAfter (ReplyOf (command.Replay signal)) [] [] frames (told (as_taken (meaning_of signal) replayed) 0 outcomes) }
 {}
 
 /// What each of these jobs writes is given by one list of outcomes of the frames of the capture.
 pub fn texts_have_outcomes()
     ensures decode { (signal : Served) (frames : List Frame) (replies : List ReplyText) → EachAfter (ReplyOf (command.Decode signal)) [] [] frames replies
-        → (outcomes : List Outcome) × Received (meaning_of signal) frames outcomes × (replies ≡ told (meaning_of signal) decoded 0 outcomes) }
+        → (outcomes : List Outcome) × Received (meaning_of signal) frames outcomes × (replies ≡ told (as_taken (meaning_of signal) decoded) 0 outcomes) }
     ensures status { (signal : Served) (frames : List Frame) (replies : List ReplyText) → EachAfter (ReplyOf (command.Status signal)) [] [] frames replies
-        → (outcomes : List Outcome) × Received (meaning_of signal) frames outcomes × (replies ≡ told (meaning_of signal) statused 0 outcomes) }
+        → (outcomes : List Outcome) × Received (meaning_of signal) frames outcomes × (replies ≡ told (as_taken (meaning_of signal) statused) 0 outcomes) }
     ensures replay { (signal : Served) (frames : List Frame) (replies : List ReplyText) → EachAfter (ReplyOf (command.Replay signal)) [] [] frames replies
-        → (outcomes : List Outcome) × Received (meaning_of signal) frames outcomes × (replies ≡ told (meaning_of signal) replayed 0 outcomes) }
+        → (outcomes : List Outcome) × Received (meaning_of signal) frames outcomes × (replies ≡ told (as_taken (meaning_of signal) replayed) 0 outcomes) }
 {}
+
+/// For each capture, one list of outcomes of its frames gives what `decode`, what `status` and what `replay` may write.
+pub fn captures_have_texts()
+    ensures { (signal : Served) (bytes : List ℕ) (frames : List Frame) (end : Option Damage) → All (λ byte. byte < 256) bytes → IsCapture bytes frames end
+        → HaveTexts signal frames }
+{
+    received_some_outcome::<Logs>();
+}
 
 /// The message of a refused batch's status is what the line of the refusal says from its stage on.
 pub fn status_says_the_line()
     ensures { (number : ℕ) (refusal : Refusal)
-        → line_of number refusal ≡ batch_head number (or_dash refusal.id) ++ (codes " refused: " ++ ((status_of refusal).message ++ line_feed)) }
+        → line_of number refusal ≡ batch_head number (or_dash refusal.id) ++ (codes " refused: " ++ ((refusal_status refusal).message ++ line_feed)) }
 {}

@@ -6,7 +6,7 @@ ghost use Rattle.otlp_model.specs.Weight.{weight_of};
 ghost use Rattle.otap_consume.specs.Receivers.{IsSound};
 ghost use Rattle.otap_consume.specs.Segments.{IsNew};
 ghost use Rattle.otap_gateway.specs.declared.command.Command.TheVariants as command;
-ghost use Rattle.otap_gateway.specs.Receptions.{meaning_of, replayed, replay_line, weights_text, HasTold};
+ghost use Rattle.otap_gateway.specs.Receptions.{meaning_of, replayed, replay_line, weights_text, HasReplied};
 
 use crate::job::Job;
 use crate::lines::{push_head, reset_line};
@@ -14,14 +14,14 @@ use crate::numbers::push_number;
 use crate::receiving::{Serves, refused};
 use crate::reply::Reply;
 use otap_capture::Frame;
-use otap_consume::{Receiver, Taken};
+use otap_consume::{Receiver, Taken, Telemetry};
 use otlp_model::{Request, items};
 use std::alloc::{AllocError, Global};
 
 /// The job `replay` of a signal.
 #[derive(Drop)]
-pub(crate) struct Replayer<T> {
-    receiver: Receiver,
+pub(crate) struct Replayer<T: Telemetry> {
+    receiver: Receiver<T>,
     telemetry: T,
 }
 
@@ -29,7 +29,7 @@ impl<T: Serves + Drop> Replayer<T> {
     pub(crate) fn new(alloc: Global, telemetry: T) -> Result<Replayer<T>, AllocError>
         ensures { IfOk result (λ replayer. IsNew T.meaning.signal replayer.receiver) }
     {
-        let receiver = Receiver::new(alloc, T::signal())?;
+        let receiver = Receiver::new(alloc)?;
         Ok(Replayer {
             receiver,
             telemetry,
@@ -40,10 +40,10 @@ impl<T: Serves + Drop> Replayer<T> {
 impl<T: Serves> Job for Replayer<T> {
     ghost command = { λ s. command.Replay T.served };
 
-    ghost stands = { λ s. HasTold (meaning_of T.served) replayed s.receiver };
+    ghost stands = { λ s. HasReplied (meaning_of T.served) replayed s.receiver };
 
     fn step(&mut self, alloc: Global, number: u64, frame: &Frame<'_>) -> Result<Reply, AllocError> {
-        let taken = self.receiver.take::<T>(frame)?;
+        let taken = self.receiver.take(frame)?;
         replay(alloc, number, taken)
     }
 }

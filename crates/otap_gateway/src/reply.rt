@@ -10,6 +10,9 @@ use otlp_messages::Backward;
 use std::alloc::{AllocError, Global};
 use std::marker::Model;
 
+/// How many bytes the head of a frame has.
+pub(crate) const HEAD: usize = 5;
+
 /// The bytes for out and for err, and whether the frame is refused.
 #[derive(Drop)]
 pub(crate) struct Reply {
@@ -43,6 +46,20 @@ impl Reply {
         BigEndian::write_u32(&mut head[1..], part.len() as u32);
         part.push_slice(&head)?;
         Ok(Reply::on_out(alloc, part.finish()))
+    }
+
+    /// These bytes on out, as a frame.
+    pub(crate) fn frame(alloc: Global, part: &[u8]) -> Result<Reply, AllocError>
+        requires { length part.now ≤ longest_frame }
+        ensures { IfOk result (λ reply. reply ≡ printed (message_frame part.now)) }
+    {
+        let mut head = [0; HEAD];
+        BigEndian::write_u32(&mut head[1..], part.len() as u32);
+        let mut out = Vec::new(alloc);
+        out.reserve(HEAD + part.len())?;
+        out.extend_from_slice(&head)?;
+        out.extend_from_slice(part)?;
+        Ok(Reply::on_out(alloc, out))
     }
 
     /// A reset on out.

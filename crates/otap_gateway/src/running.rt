@@ -4,19 +4,21 @@ ghost use Rattle.std.specs.Io.KnownBytes.{Keeps};
 ghost use Rattle.otap_gateway.specs.declared.command.Command.{Command};
 ghost use Rattle.otap_gateway.specs.declared.command.Command.TheVariants as command;
 ghost use Rattle.otap_gateway.specs.Commands.{IsNoCommand, words_of};
-ghost use Rattle.otap_gateway.specs.Runs.{sinks, world, Leaves, Stops, Faults, SinkFaults, LeavesLine, Runs, Refuses};
+ghost use Rattle.otap_gateway.specs.Runs.{sinks, world, Leaves, Stops, Faults, SinkFaults, LeavesLine, Runs, RefusesWords};
 
 use crate::command::{Command, Served};
 use crate::drive::{drive, flush_both};
 use crate::list::Lister;
 use crate::receiving_runs::{decode, replay, tell_statuses};
 use crate::schema::SchemaLister;
+use crate::sending_runs::encode;
 use crate::show::Shower;
 use crate::stop::{Stop, Tally, status, words_status};
 use crate::tidy::Tidier;
 use crate::words::Words;
 use otap_capture::{Sink, Source, write_whole};
 use otap_consume::Logs;
+use otap_produce::LogTables;
 use otlp_model::Signal;
 use std::alloc::Global;
 
@@ -37,7 +39,7 @@ pub fn run<S: Source, O: Sink, E: Sink>(
     ensures understood { (job : Command) → words.now ≡ words_of job → Runs job
         (world S.Source source.old (sinks O.Sink out.old E.Sink err.old))
         (world S.Source source.new (sinks O.Sink out.new E.Sink err.new)) result }
-    ensures otherwise { IsNoCommand words.now → Refuses source.old source.new
+    ensures otherwise { IsNoCommand words.now → RefusesWords source.old source.new
         (world S.Source source.old (sinks O.Sink out.old E.Sink err.old))
         (world S.Source source.new (sinks O.Sink out.new E.Sink err.new)) result }
 {
@@ -67,6 +69,7 @@ fn run_job<S: Source, O: Sink, E: Sink>(
     match job {
         Command::List => drive(alloc, &mut Lister::new(alloc), source, out, err),
         Command::Tidy(signal) => drive(alloc, &mut Tidier::new(signal), source, out, err),
+        Command::Encode(Served::Logs) => encode(alloc, LogTables, source, out, err),
         Command::Schema(signal) => drive(alloc, &mut SchemaLister::new(signal), source, out, err),
         Command::Show(signal) => show(alloc, signal, source, out, err),
         Command::Decode(Served::Logs) => decode(alloc, Logs, source, out, err),

@@ -4,7 +4,7 @@ ghost use Rattle.otap_capture.specs.Capture.{longest_frame, message_frame};
 ghost use Rattle.otap_consume.specs.declared.taken.Taken.TheVariants as taken;
 ghost use Rattle.otap_consume.specs.Segments.{IsNew};
 ghost use Rattle.otap_gateway.specs.declared.command.Command.TheVariants as command;
-ghost use Rattle.otap_gateway.specs.Receptions.{code_of, id_or_less, meaning_of, refusal_text, statused, HasTold};
+ghost use Rattle.otap_gateway.specs.Receptions.{code_of, id_or_less, meaning_of, refusal_text, statused, HasReplied};
 
 use crate::causes::cause_name;
 use crate::job::Job;
@@ -12,13 +12,13 @@ use crate::lines::{or_dash, refused_line};
 use crate::receiving::Serves;
 use crate::reply::Reply;
 use otap_capture::{Frame, Status, write_status};
-use otap_consume::{Receiver, Refusal, Taken};
+use otap_consume::{Receiver, Refusal, Taken, Telemetry};
 use std::alloc::{AllocError, Global};
 
 /// The job `status` of a signal.
 #[derive(Drop)]
-pub(crate) struct StatusTeller<T> {
-    receiver: Receiver,
+pub(crate) struct StatusTeller<T: Telemetry> {
+    receiver: Receiver<T>,
     telemetry: T,
 }
 
@@ -26,7 +26,7 @@ impl<T: Serves + Drop> StatusTeller<T> {
     pub(crate) fn new(alloc: Global, telemetry: T) -> Result<StatusTeller<T>, AllocError>
         ensures { IfOk result (λ teller. IsNew T.meaning.signal teller.receiver) }
     {
-        let receiver = Receiver::new(alloc, T::signal())?;
+        let receiver = Receiver::new(alloc)?;
         Ok(StatusTeller {
             receiver,
             telemetry,
@@ -37,10 +37,10 @@ impl<T: Serves + Drop> StatusTeller<T> {
 impl<T: Serves> Job for StatusTeller<T> {
     ghost command = { λ s. command.Status T.served };
 
-    ghost stands = { λ s. HasTold (meaning_of T.served) statused s.receiver };
+    ghost stands = { λ s. HasReplied (meaning_of T.served) statused s.receiver };
 
     fn step(&mut self, alloc: Global, number: u64, frame: &Frame<'_>) -> Result<Reply, AllocError> {
-        let taken = self.receiver.take::<T>(frame)?;
+        let taken = self.receiver.take(frame)?;
         tell(alloc, number, taken)
     }
 }

@@ -1,8 +1,8 @@
 //! Runs over sources and sinks in memory whose calls fail, and over captures in pieces.
-ghost use Rattle.std.specs.Prelude.{◌<◌};
+ghost use Rattle.std.specs.Prelude.{◌<◌, ◌≤◌};
 
 use super::*;
-use otap_capture::{BatchWriter, MemorySink, MemorySource};
+use otap_capture::{MemorySink, MemorySource};
 use std::alloc::{AllocError, Global};
 use std::process::Abort;
 use std::test::Fail;
@@ -40,6 +40,14 @@ struct Left<'a> {
     status: u8,
 }
 
+fn words_of(alloc: Global, job: &[&str]) -> Result<Words, AllocError> {
+    let mut words = Words::new(alloc);
+    for word in job {
+        words.push(word)?;
+    }
+    Ok(words)
+}
+
 /// Runs a job over a capture that comes in pieces of that size.
 fn runs<R: Abort + AllocGlobal>(
     rt: &R,
@@ -52,10 +60,7 @@ fn runs<R: Abort + AllocGlobal>(
     requires { 0 < piece }
 {
     let alloc = rt.alloc();
-    let mut words = Words::new(alloc);
-    for word in job {
-        words.push(word)?;
-    }
+    let words = words_of(alloc, job)?;
     let pieces = vec![in alloc; piece; capture.len()]?;
     let failing_reads = failing.source.to_vec(alloc)?;
     let mut source = MemorySource::new(capture.to_vec(alloc)?, pieces, failing_reads);
@@ -131,30 +136,70 @@ fn frames_are_handled_as_they_come(rt: HostRuntime) -> Result<(), Fail> {
     runs(&rt, &["list"], &TWICE, 14, flush, unpassed)
 }
 
-/// A capture of 549 bytes: a batch with a record of 256 bytes, a reset, and the batch again.
+/// A batch of logs with a record that has an id and nothing else.
+const LOGS: [u8; 272] = [
+    0, 0, 0, 1, 0x0b, 0x12, 0x88, 2, 0x0a, 1, 0x30, 0x10, 0x1e, 0x1a, 0x80, 2, 0xff, 0xff, 0xff,
+    0xff, 0x68, 0, 0, 0, 0x10, 0, 0, 0, 0x0a, 0, 0x0c, 0, 8, 0, 0x0a, 0, 4, 0, 0, 0, 0x0c, 0, 0, 0,
+    0x10, 0, 0, 0, 4, 0, 1, 0, 8, 0, 8, 0, 0, 0, 4, 0, 8, 0, 0, 0, 4, 0, 0, 0, 1, 0, 0, 0, 0x10, 0,
+    0, 0, 0x0c, 0, 0x10, 0, 4, 0, 0x0d, 0, 0x0c, 0, 8, 0, 0x0c, 0, 0, 0, 0x0c, 0, 0, 0, 0x18, 0, 0,
+    0, 2, 1, 0, 0, 2, 0, 0, 0, 0x69, 0x64, 0, 0, 6, 0, 8, 0, 4, 0, 0, 0, 8, 0, 0, 0, 0x10, 0, 0, 0,
+    0xff, 0xff, 0xff, 0xff, 0x80, 0, 0, 0, 0x10, 0, 0, 0, 0x0c, 0, 0x14, 0, 0x10, 0, 0x12, 0, 4, 0,
+    8, 0, 0x0c, 0, 0, 0, 0x1c, 0, 0, 0, 8, 0, 0, 0, 0, 0, 0, 0, 4, 0, 3, 0, 0x0a, 0, 0x14, 0, 8, 0,
+    4, 0, 0x10, 0, 0, 0, 0x0c, 0, 0, 0, 0x10, 0, 0, 0, 1, 0, 0, 0, 0, 0, 0, 0, 0x1c, 0, 0, 0, 1, 0,
+    0, 0, 1, 0, 0, 0, 0, 0, 0, 0, 0, 0, 0, 0, 0, 0, 0, 0, 0, 0, 0, 0, 2, 0, 0, 0, 0, 0, 0, 0, 0, 0,
+    0, 0, 0, 0, 0, 0, 0, 0, 0, 0, 0, 0, 0, 0, 0, 0, 0, 0, 2, 0, 0, 0, 0, 0, 0, 0, 0, 0, 0, 0, 0, 0,
+    0, 0,
+];
+
+/// The request that it denotes, and the text of a reset.
+const DECODED: [u8; 27] = [
+    0, 0, 0, 0, 6, 0x0a, 4, 0x12, 2, 0x12, 0, 2, 0, 0, 0, 0, 0, 0, 0, 0, 6, 0x0a, 4, 0x12, 2, 0x12,
+    0,
+];
+
+/// A capture of 549 bytes: a batch, a reset, and the batch again.
 fn capture(alloc: Global) -> Result<Vec<u8>, AllocError> {
-    let mut writer = BatchWriter::new(alloc, 0)?;
-    writer.add("0", 30, &[7; 256])?;
-    let message = writer.finish();
-    let mut capture = [0, 0, 0, 1, 11].to_vec(alloc)?;
-    capture.extend_from_slice(&message)?;
-    capture.extend_from_slice(&[2, 0, 0, 0, 0, 0, 0, 0, 1, 11])?;
-    capture.extend_from_slice(&message)?;
+    let mut capture = LOGS.to_vec(alloc)?;
+    capture.extend_from_slice(&[2, 0, 0, 0, 0])?;
+    capture.extend_from_slice(&LOGS)?;
     Ok(capture)
 }
 
-/// What `list` prints for the frames that are whole in that number of its bytes.
-fn lines_in(bytes: usize) -> &'static [u8] {
-    match bytes {
-        0..272 => b"",
-        272..277 => b"frame 0: batch 0 30:256\n",
-        277..549 => b"frame 0: batch 0 30:256\nframe 1: reset\n",
-        _ => b"frame 0: batch 0 30:256\nframe 1: reset\nframe 2: batch 0 30:256\n",
+/// A job that runs over this capture.
+#[derive(Clone, Copy)]
+enum Over {
+    List,
+    Decode,
+}
+
+impl Over {
+    fn words(self) -> &'static [&'static str] {
+        match self {
+            Over::List => &["list"],
+            Over::Decode => &["decode", "logs"],
+        }
+    }
+
+    /// What it writes for the frames that are whole in that number of bytes.
+    fn written_in(self, bytes: usize) -> &'static [u8] {
+        match self {
+            Over::List => match bytes {
+                0..272 => b"",
+                272..277 => b"frame 0: batch 0 30:256\n",
+                277..549 => b"frame 0: batch 0 30:256\nframe 1: reset\n",
+                _ => b"frame 0: batch 0 30:256\nframe 1: reset\nframe 2: batch 0 30:256\n",
+            },
+            Over::Decode => match bytes {
+                0..272 => &[],
+                272..277 => &DECODED[..11],
+                277..549 => &DECODED[..16],
+                _ => &DECODED,
+            },
+        }
     }
 }
 
-#[test]
-fn each_cut_has_its_lines(rt: HostRuntime) -> Result<(), Fail> {
+fn each_cut_is_told<R: Abort + AllocGlobal>(rt: &R, job: Over) -> Result<(), Fail> {
     let capture = capture(rt.alloc())?;
     assert_eq!(rt; capture.len(), 549);
     for cut in 0..550usize {
@@ -166,17 +211,22 @@ fn each_cut_has_its_lines(rt: HostRuntime) -> Result<(), Fail> {
             _ => ("damage at 277: Truncated\n", 5),
         };
         let left = Left {
-            out: lines_in(cut),
+            out: job.written_in(cut),
             err,
             status,
         };
-        runs(&rt, &["list"], &capture[..cut], 1 << 16, NONE, left)?;
+        runs(rt, job.words(), &capture[..cut], 1 << 16, NONE, left)?;
     }
     Ok(())
 }
 
 #[test]
-fn each_failing_read_leaves_whole_lines(rt: HostRuntime) -> Result<(), Fail> {
+fn each_cut_has_its_texts(rt: HostRuntime) -> Result<(), Fail> {
+    each_cut_is_told(&rt, Over::List)?;
+    each_cut_is_told(&rt, Over::Decode)
+}
+
+fn each_failing_read_is_told<R: Abort + AllocGlobal>(rt: &R, job: Over) -> Result<(), Fail> {
     let capture = capture(rt.alloc())?;
     for call in 0..550u64 {
         let failing = Failing {
@@ -184,19 +234,24 @@ fn each_failing_read_leaves_whole_lines(rt: HostRuntime) -> Result<(), Fail> {
             ..NONE
         };
         let left = Left {
-            out: lines_in(call as usize),
+            out: job.written_in(call as usize),
             err: "",
             status: 3,
         };
-        runs(&rt, &["list"], &capture, 1, failing, left)?;
+        runs(rt, job.words(), &capture, 1, failing, left)?;
     }
     Ok(())
 }
 
 #[test]
-fn each_failing_write_leaves_a_front(rt: HostRuntime) -> Result<(), Fail> {
+fn each_failing_read_leaves_whole_texts(rt: HostRuntime) -> Result<(), Fail> {
+    each_failing_read_is_told(&rt, Over::List)?;
+    each_failing_read_is_told(&rt, Over::Decode)
+}
+
+fn each_failing_write_is_told<R: Abort + AllocGlobal>(rt: &R, job: Over) -> Result<(), Fail> {
     let capture = capture(rt.alloc())?;
-    // In pieces of one byte each line is written and passed on, and all is passed on at the end. All at once the lines are
+    // In pieces of one byte each text is written and passed on, and all is passed on at the end. All at once the texts are
     // passed on together, before the source says that it is at its end.
     for (call, bytes) in [0, 272, 272, 277, 277, 549, 549].into_iter().enumerate() {
         let failing = Failing {
@@ -204,19 +259,88 @@ fn each_failing_write_leaves_a_front(rt: HostRuntime) -> Result<(), Fail> {
             ..NONE
         };
         let left = Left {
-            out: lines_in(bytes),
+            out: job.written_in(bytes),
             err: "",
             status: 4,
         };
-        runs(&rt, &["list"], &capture, 1, failing, left)?;
+        runs(rt, job.words(), &capture, 1, failing, left)?;
     }
     let left = Left {
-        out: lines_in(549),
+        out: job.written_in(549),
         err: "",
         status: 0,
     };
     let failing = Failing { out: &[7], ..NONE };
-    runs(&rt, &["list"], &capture, 1, failing, left)?;
+    runs(rt, job.words(), &capture, 1, failing, left)?;
     let failing = Failing { out: &[5], ..NONE };
-    runs(&rt, &["list"], &capture, 1 << 16, failing, left)
+    runs(rt, job.words(), &capture, 1 << 16, failing, left)
+}
+
+#[test]
+fn each_failing_write_leaves_a_front(rt: HostRuntime) -> Result<(), Fail> {
+    each_failing_write_is_told(&rt, Over::List)?;
+    each_failing_write_is_told(&rt, Over::Decode)
+}
+
+/// Encodes a capture of 27 bytes in pieces of one byte (a request, a reset, and the request again), and decodes what is
+/// written: it is the capture's front of that length.
+fn encodes<R: Abort + AllocGlobal>(
+    rt: &R,
+    failing: Failing<'_>,
+    front: usize,
+    status: u8,
+) -> Result<(), Fail>
+    requires { front ≤ 27 }
+{
+    let alloc = rt.alloc();
+    let words = words_of(alloc, &["encode", "logs"])?;
+    let pieces = vec![in alloc; 1; DECODED.len()]?;
+    let mut source = MemorySource::new(
+        DECODED.to_vec(alloc)?,
+        pieces,
+        failing.source.to_vec(alloc)?,
+    );
+    let mut out = MemorySink::new(alloc, failing.out.to_vec(alloc)?);
+    let mut err = MemorySink::new(alloc, failing.err.to_vec(alloc)?);
+    assert_eq!(rt; run(alloc, &words, &mut source, &mut out, &mut err), status);
+    assert!(rt; err.bytes().is_empty());
+    let left = Left {
+        out: &DECODED[..front],
+        err: "",
+        status: 0,
+    };
+    runs(rt, &["decode", "logs"], out.bytes(), 1 << 16, NONE, left)
+}
+
+#[test]
+fn each_failing_read_leaves_whole_batches(rt: HostRuntime) -> Result<(), Fail> {
+    for call in 0..28u64 {
+        let failing = Failing {
+            source: &[call],
+            ..NONE
+        };
+        let front = match call {
+            0..11 => 0,
+            11..16 => 11,
+            16..27 => 16,
+            _ => 27,
+        };
+        encodes(&rt, failing, front, 3)?;
+    }
+    Ok(())
+}
+
+#[test]
+fn each_failing_write_leaves_whole_batches(rt: HostRuntime) -> Result<(), Fail> {
+    // Each batch is written and passed on, and all is passed on at the end.
+    for (call, front) in [0, 11, 11, 16, 16, 27, 27].into_iter().enumerate() {
+        let failing = Failing {
+            out: &[call as u64],
+            ..NONE
+        };
+        assert!(rt; front <= 27);
+        encodes(&rt, failing, front, 4)?;
+    }
+    let failing = Failing { out: &[7], ..NONE };
+    encodes(&rt, failing, 27, 0)
 }

@@ -1,21 +1,17 @@
 //! `tidy`: each request in canonical spelling.
 ghost use Rattle.std.specs.Prelude.{◌≡◌, IfOk};
 ghost use Rattle.otap_capture.specs.Capture.{frame_of};
-ghost use Rattle.otlp_codec.specs.Refusals.{refusal_of};
 ghost use Rattle.otap_gateway.specs.declared.command.Command.TheVariants as command;
-ghost use Rattle.otap_gateway.specs.Tidying.{TidiesFrame, TidiesMessage, NamesDefect, tidied, refused_request};
+ghost use Rattle.otap_gateway.specs.Tidying.{TidiesFrame, TidiesMessage, tidied};
 
 use crate::job::Job;
-use crate::lines::request_line;
-use crate::reply::Reply;
+use crate::refused_requests::{refusal_name, refused};
+use crate::reply::{HEAD, Reply};
 use otap_capture::Frame;
-use otlp_codec::{ReadRefusal, put_request, read_request};
-use otlp_messages::{Backward, Defect, defect_name};
+use otlp_codec::{put_request, read_request};
+use otlp_messages::Backward;
 use otlp_model::{MAX_ITEMS, MAX_TREE_WEIGHT, Request, Signal, items, weight};
 use std::alloc::{AllocError, Global};
-
-/// How many bytes the head of a frame has.
-const HEAD: usize = 5;
 
 /// The job `tidy` of a signal. It takes each frame by itself.
 #[derive(Clone, Copy)]
@@ -89,32 +85,4 @@ fn tidy_request(
     spelling.reserve(len.saturating_add(HEAD))?;
     put_request(&mut spelling, request)?;
     Reply::message(alloc, spelling)
-}
-
-// A frame whose request is refused.
-fn refused(alloc: Global, number: u64, cause: &str) -> Result<Reply, AllocError>
-    ensures { IfOk result (λ reply. reply ≡ refused_request number cause.now) }
-{
-    Ok(Reply::refusal(alloc, request_line(alloc, number, cause)?))
-}
-
-// The name of the defect that a refusal names.
-fn refusal_name(refusal: ReadRefusal) -> Result<&'static str, AllocError>
-    ensures { IfOk result (λ name. NamesDefect refusal name.now) }
-{
-    Ok(defect_name(defect_of(refusal)?))
-}
-
-fn defect_of(refusal: ReadRefusal) -> Result<Defect, AllocError>
-    ensures { IfOk result (λ defect. refusal ≡ refusal_of defect) }
-{
-    match refusal {
-        ReadRefusal::BadMessage => Ok(Defect::BadMessage),
-        ReadRefusal::Repeated => Ok(Defect::Repeated),
-        ReadRefusal::BadUtf8 => Ok(Defect::BadUtf8),
-        ReadRefusal::BadLength => Ok(Defect::BadLength),
-        ReadRefusal::Unsupported => Ok(Defect::Unsupported),
-        ReadRefusal::TooDeep => Ok(Defect::TooDeep),
-        ReadRefusal::Memory(error) => Err(error),
-    }
 }

@@ -1,0 +1,98 @@
+-- What was sent, one frame more.
+use Rattle.std.proofs.Common.{◌≡◌, ◌⊎◌, inl, inr, ℕ, ◌≤◌, true, false, List, [], ◌∷◌, ◌++◌, length, refl, ap, ◌∙◌, append-nil, arith}
+use Rattle.std.specs.Prelude.{if◌then◌else◌}
+use Rattle.std.specs.List.{flat_map, list_any}
+use Rattle.std.proofs.lemmas.Bool.{cases_Bool}
+use Rattle.std.proofs.lemmas.Grind.{flat_map-append}
+use Rattle.histories.specs.EachAfter.{EachAfter}
+use Rattle.histories.specs.Since.{since}
+use Rattle.histories.proofs.Growing.{all_after-push, each_after-keeps}
+use Rattle.histories.proofs.Latest.{since-append}
+use Rattle.otap_capture.specs.Capture.{Frame}
+use Rattle.otap_produce.specs.Policy.{Rows}
+use Rattle.otap_transit.specs.Sendings.{Sending, Sent, Reset, is_reset, request_if, message_if, requests_since, messages_since, AreAllowed, IsAllowed}
+use Rattle.otlp_model.specs.declared.request.Request.{Request}
+use Rattle.otap_gateway.specs.Encoding.{Encoded, Puts, Refuses, EncodedAfter, sending_if, sent}
+
+-- ---- the outcomes, one more
+
+pub sent_on : (os : List Encoded) (s : Sending) → sent (os ++ Puts s ∷ []) ≡ sent os ++ s ∷ []
+sent_on os s = flat_map-append sending_if os (Puts s ∷ [])
+
+pub sent_still : (os : List Encoded) (name : List ℕ) → sent (os ++ Refuses name ∷ []) ≡ sent os
+sent_still os name = flat_map-append sending_if os (Refuses name ∷ []) ∙ append-nil (sent os)
+
+-- ---- the segment, one more
+
+stays : (ss : List Sending) (s : Sending) → is_reset s ≡ false → since is_reset (ss ++ s ∷ []) ≡ since is_reset ss ++ s ∷ []
+stays ss s still = since-append is_reset ss (s ∷ []) ∙ rw still refl
+
+pub requests_more : (ss : List Sending) (q : Request) (m : List ℕ) → requests_since (ss ++ Sent q m ∷ []) ≡ requests_since ss ++ q ∷ []
+unfolding requests_since
+requests_more ss q m = ap (flat_map request_if) (stays ss (Sent q m) refl) ∙ flat_map-append request_if (since is_reset ss) (Sent q m ∷ [])
+
+pub messages_more : (ss : List Sending) (q : Request) (m : List ℕ) → messages_since (ss ++ Sent q m ∷ []) ≡ messages_since ss ++ m ∷ []
+unfolding messages_since
+messages_more ss q m = ap (flat_map message_if) (stays ss (Sent q m) refl) ∙ flat_map-append message_if (since is_reset ss) (Sent q m ∷ [])
+
+pub requests_none : (ss : List Sending) → requests_since (ss ++ Reset ∷ []) ≡ []
+unfolding requests_since
+requests_none ss = ap (flat_map request_if) (since-append is_reset ss (Reset ∷ []))
+
+pub messages_none : (ss : List Sending) → messages_since (ss ++ Reset ∷ []) ≡ []
+unfolding messages_since
+messages_none ss = ap (flat_map message_if) (since-append is_reset ss (Reset ∷ []))
+
+pub requests_first : requests_since [] ≡ []
+unfolding requests_since
+requests_first = refl
+
+pub messages_first : messages_since [] ≡ []
+unfolding messages_since
+messages_first = refl
+
+-- ---- no more requests than frames
+
+since_short : (xs : List Sending) → length (since is_reset xs) ≤ length xs
+since_short [] = omega arith
+since_short (x ∷ xs) = by_rest (since_short xs) (cases_Bool (list_any is_reset xs))
+  where
+    by_rest : length (since is_reset xs) ≤ length xs → (list_any is_reset xs ≡ true) ⊎ (list_any is_reset xs ≡ false)
+        → length (if list_any is_reset xs then since is_reset xs else x ∷ xs) ≤ length (x ∷ xs)
+    by_rest rest (inl some) = rw some (omega (arith, rest))
+    by_rest rest (inr none) = rw none (omega arith)
+
+requests_short : (xs : List Sending) → length (flat_map request_if xs) ≤ length xs
+requests_short [] = omega arith
+requests_short (Sent q m ∷ xs) = let rest = requests_short xs in omega (arith, rest)
+requests_short (Reset ∷ xs) = let rest = requests_short xs in omega (arith, rest)
+
+sent_short : (os : List Encoded) → length (sent os) ≤ length os
+sent_short [] = omega arith
+sent_short (Puts s ∷ os) = let rest = sent_short os in omega (arith, rest)
+sent_short (Refuses name ∷ os) = let rest = sent_short os in omega (arith, rest)
+
+pub few_requests : (os : List Encoded) → length (requests_since (sent os)) ≤ length os
+unfolding requests_since
+few_requests os =
+    let requests = requests_short (since is_reset (sent os)) in
+    let last = since_short (sent os) in
+    let all = sent_short os in
+    omega (arith, requests, last, all)
+
+-- ---- what was sent was allowed
+
+module _ (rows : Rows) where
+  allowed_more : (os : List Encoded) (frame : Frame) (o : Encoded) → AreAllowed rows (sent os) → EncodedAfter rows os frame o → AreAllowed rows (sent (os ++ o ∷ []))
+  allowed_more os frame o all EncodedAfter.compressed = rw (sent_still os _) all
+  allowed_more os frame o all (EncodedAfter.unreadable bytes defect stands) = rw (sent_still os _) all
+  allowed_more os frame o all (EncodedAfter.too_many bytes request reads many) = rw (sent_still os _) all
+  allowed_more os frame o all (EncodedAfter.too_heavy bytes request reads heavy) = rw (sent_still os _) all
+  allowed_more os frame o all (EncodedAfter.sends bytes request message reads may) =
+      rw (sent_on os (Sent request message)) (all_after-push (IsAllowed rows) [] (sent os) (Sent request message) all may)
+  allowed_more os frame o all EncodedAfter.resets = rw (sent_on os Reset) (all_after-push (IsAllowed rows) [] (sent os) Reset all tt)
+
+  pub are_allowed : (frames : List Frame) (os : List Encoded) → EachAfter (λ past before frame o. EncodedAfter rows before frame o) [] [] frames os → AreAllowed rows (sent os)
+  are_allowed frames os each =
+      each_after-keeps (λ past before frame o. EncodedAfter rows before frame o) (λ fs outcomes. AreAllowed rows (sent outcomes))
+      (λ fs outcomes frame o all gives. allowed_more outcomes frame o all gives) [] [] frames os tt each

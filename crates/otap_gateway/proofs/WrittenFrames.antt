@@ -1,0 +1,81 @@
+-- The bytes that `encode` writes are the frames of what was sent.
+use Rattle.std.proofs.Common.{◌≡◌, ℕ, suc, ◌+◌, ◌<◌, ◌≤◌, List, [], ◌∷◌, ◌++◌, length, map, None, refl, sym, ap, ◌∙◌, subst, append-nil, length-append, arith}
+use Rattle.std.specs.List.{flat_map}
+use Rattle.std.proofs.lemmas.Bool.{lt-leb}
+use Rattle.histories.specs.EachAfter.{EachAfter, AllAfter}
+use Rattle.otap_capture.specs.Capture.{Frame, IsFrame, AreFrames, IsCapture, Message, message_frame, reset_frame, longest_frame, capture_limit}
+use Rattle.otap_capture.specs.Capture as capture
+use Rattle.otap_consume.specs.Meanings.{Meaning}
+use Rattle.otap_produce.specs.Policy.{Rows}
+use Rattle.otap_transit.specs.Sendings.{Sending, Sent, Reset, AreAllowed, IsAllowed, frame_of}
+use Rattle.otap_gateway.specs.declared.command.Served.{Served}
+use Rattle.otap_gateway.specs.declared.command.Command.TheVariants as command
+use Rattle.otap_gateway.specs.Commands.{ReplyOf}
+use Rattle.otap_gateway.specs.Encoding.{Encoded, Puts, Refuses, Encodes, Arrives, encoded, rows_of, sent}
+use Rattle.otap_gateway.specs.ReadBack.{IsReadBack}
+use Rattle.otap_gateway.specs.Receptions.{meaning_of}
+use Rattle.otap_gateway.specs.Reply.{ReplyText, out_text}
+use Rattle.otap_gateway.specs.Told.{Gave, told}
+use Rattle.otap_gateway.proofs.EncodedFrames.{encoded_only}
+use Rattle.otap_gateway.proofs.SentSoFar.{are_allowed}
+use Rattle.otap_gateway.proofs.ToldAll.{encode_back}
+
+-- the bytes of what is sent
+abbrev pub spelled : Sending → List ℕ
+spelled (Sent request message) = message_frame message
+spelled Reset = reset_frame
+
+out_told : (number : ℕ) (os : List Encoded) → out_text (told encoded number os) ≡ flat_map spelled (sent os)
+out_told number [] = refl
+out_told number (Puts (Sent q m) ∷ os) = ap (λ l. message_frame m ++ l) (out_told (suc number) os)
+out_told number (Puts Reset ∷ os) = ap (λ l. reset_frame ++ l) (out_told (suc number) os)
+out_told number (Refuses name ∷ os) = out_told (suc number) os
+
+-- a frame is read where it is written
+abbrev pub MessagesAreRead : Type 0
+MessagesAreRead = (part : List ℕ) → length part ≤ longest_frame → IsFrame (message_frame part) (Message part)
+
+module _ (rows : Rows) (messages : MessagesAreRead) (resets : IsFrame reset_frame capture.Reset) where
+  one_frame : (past : List Sending) (s : Sending) → IsAllowed rows past s → IsFrame (spelled s) (frame_of s)
+  one_frame past (Sent q m) may = messages m may.message_of.short
+  one_frame past Reset may = resets
+
+  frames_of : (past ss : List Sending) (place : ℕ) → AllAfter (IsAllowed rows) past ss → place + length (flat_map spelled ss) < capture_limit
+      → AreFrames place (flat_map spelled ss) (map frame_of ss)
+  frames_of past [] place each few = refl
+  frames_of past (s ∷ ss) place each few =
+      let size : length (spelled s ++ flat_map spelled ss) ≡ length (spelled s) + length (flat_map spelled ss) = length-append (spelled s) (flat_map spelled ss) in
+      let begins : place < capture_limit = omega (arith, few) in
+      let behind : (place + length (spelled s)) + length (flat_map spelled ss) < capture_limit = omega (arith, few, size) in
+      (spelled s, flat_map spelled ss, refl, begins, one_frame past s each.0, frames_of (past ++ s ∷ []) ss (place + length (spelled s)) each.1 behind)
+
+  capture_of : (ss : List Sending) → AreAllowed rows ss → length (flat_map spelled ss) < capture_limit → IsCapture (flat_map spelled ss) (map frame_of ss) None
+  capture_of ss allowed few = record {
+    front = flat_map spelled ss;
+    rest = [];
+    whole = sym (append-nil (flat_map spelled ss));
+    each = frames_of [] ss 0 allowed (let few = few in omega (arith, few));
+    ends = (refl, rw (lt-leb capture_limit (length (flat_map spelled ss)) few) refl);
+  }
+
+  read_from : (m : Meaning) → ((ss : List Sending) → AreAllowed rows ss → Arrives m ss) → (frames : List Frame) (replies : List ReplyText) (os : List Encoded)
+      → Gave (Encodes rows m) frames os → replies ≡ told encoded 0 os → IsReadBack rows m frames replies
+  read_from m arrives frames replies os each texts =
+      let gave = encoded_only rows m frames os each in
+      let allowed : AreAllowed rows (sent os) = are_allowed rows frames os gave in
+      let out : flat_map spelled (sent os) ≡ out_text replies = sym (ap out_text texts ∙ out_told 0 os) in
+      record {
+        outcomes = os;
+        gave = gave;
+        texts = texts;
+        allowed = allowed;
+        arrives = arrives (sent os) allowed;
+        capture = subst (λ (l : List ℕ). length l < capture_limit → IsCapture l (map frame_of (sent os)) None) out (capture_of (sent os) allowed);
+      }
+
+pub read_back : (signal : Served) → MessagesAreRead → IsFrame reset_frame capture.Reset → ((ss : List Sending) → AreAllowed (rows_of signal) ss → Arrives (meaning_of signal) ss)
+    → (frames : List Frame) (replies : List ReplyText) → EachAfter (ReplyOf (command.Encode signal)) [] [] frames replies
+    → IsReadBack (rows_of signal) (meaning_of signal) frames replies
+read_back signal messages resets arrives frames replies each =
+    let some = encode_back signal frames replies each in
+    read_from (rows_of signal) messages resets (meaning_of signal) arrives frames replies some.0 some.1 some.2

@@ -1,0 +1,105 @@
+//! `encode`: the batch message of each request.
+ghost use Rattle.std.specs.Prelude.{◌≡◌, ◌<◌, ◌^◌, IfOk};
+ghost use Rattle.otap_capture.specs.Capture.{Message, frame_of};
+ghost use Rattle.otap_produce.specs.Exporters.{IsNew};
+ghost use Rattle.otlp_model.specs.Profile.{IsProfile};
+ghost use Rattle.otlp_model.specs.Telemetry.{signal_of};
+ghost use Rattle.otap_gateway.specs.declared.command.Command.TheVariants as command;
+ghost use Rattle.otap_gateway.specs.Encoding.{encoded, rows_of, Encodes, HasEncoded};
+ghost use Rattle.otap_gateway.specs.EncodingSteps.{EncodesFrame, EncodesRequest, IsEncoding};
+ghost use Rattle.otap_gateway.specs.Receptions.{meaning_of};
+ghost use Rattle.otap_gateway.specs.Told.{HasTold};
+
+use crate::job::Job;
+use crate::refused_requests::{refusal_name, refused};
+use crate::reply::Reply;
+use crate::sending::Sends;
+use otap_capture::Frame;
+use otap_produce::{Exporter, ProduceRefusal};
+use otlp_codec::read_request;
+use otlp_model::Request;
+use std::alloc::{AllocError, Global};
+
+/// The job `encode` of a signal.
+#[derive(Drop)]
+pub(crate) struct Encoder<T> {
+    exporter: Exporter,
+    tables: T,
+}
+
+impl<T: Sends + Drop> Encoder<T> {
+    pub(crate) fn new(alloc: Global, tables: T) -> Result<Encoder<T>, AllocError>
+        ensures { IfOk result (λ encoder. IsNew T.rows.signal encoder.exporter) }
+    {
+        let exporter = Exporter::new(alloc, T::signal())?;
+        Ok(Encoder { exporter, tables })
+    }
+}
+
+impl<T: Sends> Job for Encoder<T> {
+    ghost command = { λ s. command.Encode T.served };
+
+    ghost stands = { λ s. HasTold (Encodes (rows_of T.served) (meaning_of T.served)) encoded (HasEncoded (rows_of T.served) s.exporter) };
+
+    fn step(&mut self, alloc: Global, number: u64, frame: &Frame<'_>) -> Result<Reply, AllocError> {
+        T::what_is_sent_arrives();
+        encode_frame::<T>(alloc, &mut self.exporter, number, frame)
+    }
+}
+
+fn encode_frame<T: Sends>(
+    alloc: Global,
+    exporter: &mut Exporter,
+    number: u64,
+    frame: &Frame<'_>,
+) -> Result<Reply, AllocError>
+    requires history { IsEncoding T.rows exporter.old }
+    requires few { exporter.old.batches < 2 ^ 40 }
+    ensures { IfOk result (EncodesFrame T.rows exporter.old exporter.new number (frame_of frame.now)) }
+{
+    match frame {
+        Frame::Message(bytes) => encode_message::<T>(alloc, exporter, number, bytes),
+        Frame::Packed => refused(alloc, number, "Compressed"),
+        Frame::Reset => {
+            exporter.reset();
+            Reply::reset(alloc)
+        }
+    }
+}
+
+fn encode_message<T: Sends>(
+    alloc: Global,
+    exporter: &mut Exporter,
+    number: u64,
+    bytes: &[u8],
+) -> Result<Reply, AllocError>
+    requires history { IsEncoding T.rows exporter.old }
+    requires few { exporter.old.batches < 2 ^ 40 }
+    ensures { IfOk result (EncodesFrame T.rows exporter.old exporter.new number (Message bytes.now)) }
+{
+    match read_request(alloc, T::signal(), bytes) {
+        Ok(request) => encode_request::<T>(alloc, exporter, number, &request),
+        Err(refusal) => refused(alloc, number, refusal_name(refusal)?),
+    }
+}
+
+fn encode_request<T: Sends>(
+    alloc: Global,
+    exporter: &mut Exporter,
+    number: u64,
+    request: &Request,
+) -> Result<Reply, AllocError>
+    requires history { IsEncoding T.rows exporter.old }
+    requires few { exporter.old.batches < 2 ^ 40 }
+    requires of_signal { signal_of request.now ≡ T.rows.signal }
+    requires profile { IsProfile request.now }
+    ensures { IfOk result (EncodesRequest T.rows exporter.old exporter.new number request.now) }
+{
+    match exporter.encode::<T>(request) {
+        Ok(message) => Reply::frame(alloc, &message),
+        Err(ProduceRefusal::TooManyItems) => refused(alloc, number, "TooManyItems"),
+        Err(ProduceRefusal::TooHeavy) => refused(alloc, number, "TooHeavy"),
+        Err(ProduceRefusal::Broken) => unreachable!(),
+        Err(ProduceRefusal::Memory(error)) => Err(error),
+    }
+}

@@ -1,0 +1,35 @@
+//! What the jobs of an exporter share.
+ghost use Rattle.std.specs.Prelude.{◌≡◌, List};
+ghost use Rattle.otap_gateway.specs.declared.command.Served.{Served};
+ghost use Rattle.otap_gateway.specs.declared.command.Served.TheVariants as served;
+ghost use Rattle.otap_gateway.specs.Encoding.{Arrives, rows_of};
+ghost use Rattle.otap_gateway.specs.Receptions.{meaning_of};
+ghost use Rattle.otap_transit.specs.Sendings.{AreAllowed, Sending};
+
+use otap_consume::Logs;
+use otap_produce::{LogTables, Tabled};
+use otap_transit::laws::{logs_are_faithful, what_is_sent_arrives};
+
+/// A signal that the jobs of an exporter serve: its requests are written as tables that mean the same.
+pub(crate) trait Sends: Tabled {
+    ghost served: { Served };
+
+    /// Law: what is sent arrives.
+    fn what_is_sent_arrives()
+        ensures { (sendings : List Sending) → AreAllowed (rows_of served) sendings → Arrives (meaning_of served) sendings };
+
+    ghost of_rows: { Self.rows ≡ rows_of served };
+}
+
+impl Sends for LogTables {
+    ghost use Rattle.std.specs.Prelude.{refl};
+
+    ghost served = { served.Logs };
+
+    fn what_is_sent_arrives() {
+        what_is_sent_arrives::<Logs>();
+        logs_are_faithful();
+    }
+
+    ghost of_rows = { refl };
+}

@@ -1,0 +1,32 @@
+//! Laws of `encode`: each is the contract of a function that does nothing.
+ghost use Rattle.std.specs.Prelude.{◌≡◌, [], List};
+ghost use Rattle.histories.specs.EachAfter.{EachAfter};
+ghost use Rattle.otap_capture.specs.Capture.{Frame};
+ghost use Rattle.otap_gateway.specs.declared.command.Command.TheVariants as command;
+ghost use Rattle.otap_gateway.specs.declared.command.Served.{Served};
+ghost use Rattle.otap_gateway.specs.Commands.{ReplyOf};
+ghost use Rattle.otap_gateway.specs.Encoding.{Encoded, Encodes, encoded, rows_of};
+ghost use Rattle.otap_gateway.specs.ReadBack.{IsReadBack};
+ghost use Rattle.otap_gateway.specs.Receptions.{meaning_of};
+ghost use Rattle.otap_gateway.specs.Reply.{ReplyText};
+ghost use Rattle.otap_gateway.specs.Told.{Gave, told};
+
+use crate::sending::Sends;
+use otap_capture::written_is_read;
+use otap_produce::LogTables;
+
+/// What `encode` writes is given by one list of what the frames of the capture gave, and all of it arrives.
+pub fn encoded_texts_have_outcomes()
+    ensures { (signal : Served) (frames : List Frame) (replies : List ReplyText) → EachAfter (ReplyOf (command.Encode signal)) [] [] frames replies
+        → (outcomes : List Encoded) × Gave (Encodes (rows_of signal) (meaning_of signal)) frames outcomes × (replies ≡ told encoded 0 outcomes) }
+{}
+
+/// What `encode` writes, read as one capture, is the frames of what it sent, and all of it arrives: each message is accepted
+/// and means the same telemetry as its request.
+pub fn what_is_written_is_read()
+    ensures { (signal : Served) (frames : List Frame) (replies : List ReplyText) → EachAfter (ReplyOf (command.Encode signal)) [] [] frames replies
+        → IsReadBack (rows_of signal) (meaning_of signal) frames replies }
+{
+    written_is_read();
+    LogTables::what_is_sent_arrives();
+}
