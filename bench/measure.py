@@ -1,10 +1,11 @@
-"""What the benchmarks share: where the built program is, and a run with its wall time and peak memory."""
+"""What the benchmarks share: where the built program is, runs with their times and peak memory, and captures."""
 
 import os
 import subprocess
 import sys
 import tempfile
 import time
+from typing import NamedTuple
 
 TOP = os.path.dirname(os.path.dirname(os.path.abspath(__file__)))
 PROGRAM = os.path.join(TOP, "crates", "otap_cli", "out", "otap_cli")
@@ -26,21 +27,54 @@ def capture(parts, size):
     return file.name
 
 
+class Run(NamedTuple):
+    """How a program ended, the seconds on the wall and of the processors, and the peak memory in bytes."""
+
+    status: int
+    wall: float
+    processor: float
+    memory: int
+
+
 def run(command, source, target=os.devnull):
-    """The status, wall seconds and peak memory in bytes of one run."""
+    """One run of a program that reads `source` and writes `target`."""
     with open(source, "rb") as stdin, open(target, "wb") as stdout:
         start = time.monotonic()
         child = subprocess.Popen(command, stdin=stdin, stdout=stdout, stderr=subprocess.DEVNULL)
         _, status, usage = os.wait4(child.pid, 0)
-        seconds = time.monotonic() - start
+        wall = time.monotonic() - start
         child.returncode = os.waitstatus_to_exitcode(status)
-    return child.returncode, seconds, usage.ru_maxrss * 1024
+    return Run(child.returncode, wall, usage.ru_utime + usage.ru_stime, usage.ru_maxrss * 1024)
+
+
+def joined(runs):
+    """Of some runs the greatest status and memory, and the least times."""
+    return Run(max(r.status for r in runs), min(r.wall for r in runs), min(r.processor for r in runs), max(r.memory for r in runs))
 
 
 def best(command, source, target=os.devnull, rounds=3):
-    """The status and wall seconds of the fastest of some runs, and the peak memory in bytes of the greediest."""
-    runs = [run(command, source, target) for _ in range(rounds)]
-    return max(r[0] for r in runs), min(r[1] for r in runs), max(r[2] for r in runs)
+    """What `joined` makes of some runs of a program."""
+    return joined([run(command, source, target) for _ in range(rounds)])
+
+
+def side_by_side(calls, rounds=5):
+    """Some runs of each of several programs in turn, so that what else the machine does concerns all alike: for each
+    pair of a command and its source what `joined` makes of its runs. All must end with status 0."""
+    turns = [[run(command, source) for command, source in calls] for _ in range(rounds)]
+    found = [joined(runs) for runs in zip(*turns)]
+    for (command, _), one in zip(calls, found):
+        if one.status != 0:
+            sys.exit(f"{' '.join(command)}: status {one.status}")
+    return found
+
+
+def made(command, source):
+    """A file with what a program writes, which is to end with status 0; the caller removes it."""
+    target = tempfile.NamedTemporaryFile(prefix="finavoluth-", suffix=".capture", delete=False).name
+    status = run(command, source, target).status
+    if status != 0:
+        sys.exit(f"{' '.join(command)}: status {status}")
+    return target
 
 
 def frame(message):
@@ -93,13 +127,39 @@ def largest_frame(path):
 def report(name, words, source, text=None, expected=0, largest=None, most=None, rounds=3):
     """Prints a job's time and memory beside those of md5sum over `text` (or else over the capture). False where it held
     more memory than 64 MiB and 16 times the largest frame, or took longer than `most` times what md5sum took."""
-    status, seconds, memory = best([PROGRAM, *words], source, rounds=rounds)
-    if status != expected:
-        sys.exit(f"{name}: status {status}, expected {expected}")
-    _, base, _ = best(["md5sum"], text or source, rounds=rounds)
+    job = best([PROGRAM, *words], source, rounds=rounds)
+    if job.status != expected:
+        sys.exit(f"{name}: status {job.status}, expected {expected}")
+    seconds, memory, base = job.wall, job.memory, best(["md5sum"], text or source, rounds=rounds).wall
     limit = 64 * MIB + 16 * (largest or largest_frame(source))
     size = os.path.getsize(source)
     print(f"{name}: {size / MIB:.0f} MiB in {seconds:.3f} s, {memory / MIB:.1f} MiB at the peak (at most {limit / MIB:.1f})")
     wanted = f" (at most {most})" if most else ""
     print(f"md5sum: {os.path.getsize(text or source) / MIB:.0f} MiB in {base:.3f} s; the job takes {seconds / base:.2f} of it{wanted}")
     return memory <= limit and (not most or seconds <= most * base)
+
+
+class Limits(NamedTuple):
+    """What a job may take: the processor time in parts of that of another program, and that of four times the input in
+    parts of that of one."""
+
+    program: float
+    growth: float = 4.4
+
+
+def compare(name, words, whole, quarter, requests, program, limits):
+    """Prints the processor time and memory of a job beside those of md5sum over the requests that it reads or writes, and
+    of another program that reads and writes them, if one is given. False where the job took more than the limits, or held
+    more memory than 64 MiB and its largest frame."""
+    job = [PROGRAM, *words]
+    calls = [(job, whole), (job, quarter), (["md5sum"], requests)]
+    calls += [([program, "logs"], requests)] if program else []
+    full, part, base, *peer = side_by_side(calls)
+    most = 64 * MIB + largest_frame(whole)
+    growth = full.processor / part.processor
+    print(f"{name}, {os.path.getsize(requests) / MIB:.0f} MiB of OTLP: {' '.join(words)} {full.processor:.3f} s, {full.processor / base.processor:.2f} times md5sum")
+    print(f"  four times the input takes {growth:.2f} times the time (at most {limits.growth})")
+    print(f"  {full.memory / MIB:.1f} MiB at the peak (at most {most / MIB:.1f})")
+    for other in peer:
+        print(f"  {full.processor / other.processor:.2f} of {os.path.basename(program)} (at most {limits.program})")
+    return growth <= limits.growth and full.memory <= most and all(full.processor <= limits.program * p.processor for p in peer)

@@ -1,0 +1,148 @@
+"""Makes batch messages that no exporter makes, from the buffers of their columns.
+
+A record is a schema, its dictionaries and a record batch (Arrow columnar format, "Serialization and Interprocess
+Communication"), in metadata that are FlatBuffers tables.
+"""
+
+from typing import NamedTuple
+
+from at_the_limits import field, varint
+
+
+class Number(NamedTuple):
+    width: int
+    value: int
+
+
+class Table(NamedTuple):
+    """A table by its slots: each a number, a text (bytes), a table, a list of tables, `Pairs`, or None where absent."""
+
+    slots: tuple = ()
+
+
+class Pairs(NamedTuple):
+    """A vector of structs of two numbers of eight bytes."""
+
+    pairs: list
+
+
+class Column(NamedTuple):
+    """A field with its array: the number and the table of its type, how many nulls it has, its buffers, and its children.
+    With a dictionary the buffers are those of the indexes, of `width` bits."""
+
+    name: bytes
+    type: tuple
+    buffers: list
+    nulls: int = 0
+    children: tuple = ()
+    dictionary: int | None = None
+    width: int = 8
+
+
+def integer(bits):
+    """The type of whole numbers of that many bits, without a sign."""
+    return 2, Table((Number(4, bits), Number(1, 0)))
+
+
+BINARY, UTF8, STRUCT = (4, Table()), (5, Table()), (13, Table())
+
+
+def pad(out, place, step):
+    """Zero bytes until the end has that place within the step."""
+    out += bytes((place - len(out)) % step)
+
+
+def put(out, part):
+    """Adds a part and then what it refers to; returns its place."""
+    if isinstance(part, Table):
+        return put_table(out, part.slots)
+    pad(out, 4, 8)
+    place = len(out)
+    out += len(part.pairs if isinstance(part, Pairs) else part).to_bytes(4, "little")
+    if isinstance(part, bytes):
+        out += part + b"\0"
+    elif isinstance(part, Pairs):
+        out += b"".join(number.to_bytes(8, "little") for pair in part.pairs for number in pair)
+    else:
+        out += bytes(4 * len(part))
+        for index, table in enumerate(part):
+            refer(out, place + 4 + 4 * index, put(out, table))
+    return place
+
+
+def put_table(out, slots):
+    """Adds a table: its vtable, then a cell of eight bytes for each slot, then what the cells refer to."""
+    pad(out, 0, 8)
+    vtable = len(out)
+    places = [4 + 8 * index if slot is not None else 0 for index, slot in enumerate(slots)]
+    for number in (4 + 2 * len(slots), 4 + 8 * len(slots), *places):
+        out += number.to_bytes(2, "little")
+    pad(out, 4, 8)
+    place = len(out)
+    out += (place - vtable).to_bytes(4, "little") + bytes(8 * len(slots))
+    for index, slot in enumerate(slots):
+        cell = place + 4 + 8 * index
+        if isinstance(slot, Number):
+            out[cell : cell + slot.width] = slot.value.to_bytes(slot.width, "little")
+        elif slot is not None:
+            refer(out, cell, put(out, slot))
+    return place
+
+
+def refer(out, cell, place):
+    out[cell : cell + 4] = (place - cell).to_bytes(4, "little")
+
+
+def message(kind, header, buffers=()):
+    """A message with its header and the buffers of its body."""
+    body = b"".join(buffer + bytes(-len(buffer) % 8) for buffer in buffers)
+    metadata = bytearray(4)
+    refer(metadata, 0, put(metadata, Table((Number(2, 4), Number(1, kind), header, Number(8, len(body))))))
+    pad(metadata, 0, 8)
+    return b"\xff" * 4 + len(metadata).to_bytes(4, "little") + bytes(metadata) + body
+
+
+def schema_field(column):
+    number, table = column.type
+    index = None if column.dictionary is None else Table((Number(8, column.dictionary), integer(column.width)[1]))
+    return Table((column.name, Number(1, 1), Number(1, number), table, index, [schema_field(c) for c in column.children]))
+
+
+def depth_first(columns):
+    for column in columns:
+        yield column
+        yield from depth_first(column.children)
+
+
+def rows_of(rows, arrays):
+    """The header of a record batch, and its buffers: of each array its nulls and its buffers."""
+    buffers = [buffer for _, own in arrays for buffer in own]
+    places, place = [], 0
+    for buffer in buffers:
+        places.append((place, len(buffer)))
+        place += len(buffer) + -len(buffer) % 8
+    return Table((Number(8, rows), Pairs([(rows, nulls) for nulls, _ in arrays]), Pairs(places))), buffers
+
+
+def dictionary(number, values, delta=False):
+    """A dictionary batch of texts or octets."""
+    ends, place = [0], 0
+    for value in values:
+        place += len(value)
+        ends.append(place)
+    offsets = b"".join(end.to_bytes(4, "little") for end in ends)
+    header, buffers = rows_of(len(values), [(0, [b"", offsets, b"".join(values)])])
+    return message(2, Table((Number(8, number), header, Number(1, delta))), buffers)
+
+
+def record(rows, columns, dictionaries=()):
+    """A record that opens a sub-stream: its schema, the dictionary batches given, and its rows."""
+    header, buffers = rows_of(rows, [(column.nulls, column.buffers) for column in depth_first(columns)])
+    schema = message(1, Table((None, [schema_field(column) for column in columns])))
+    return schema + b"".join(dictionaries) + message(3, header, buffers)
+
+
+def batch(*payloads):
+    """A batch message with the number 0: of each payload its type and its record, which opens the schema of its place."""
+    parts = (field(1, b"%d" % place) + b"\x10" + varint(kind) + field(3, made) for place, (kind, made) in enumerate(payloads))
+    return b"".join(field(2, part) for part in parts)
