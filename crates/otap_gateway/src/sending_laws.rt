@@ -21,8 +21,8 @@ pub fn encoded_texts_have_outcomes()
         → (outcomes : List Encoded) × Gave (Encodes (rows_of signal) (meaning_of signal)) frames outcomes × (replies ≡ told encoded 0 outcomes) }
 {}
 
-/// What `encode` writes, read as one capture, is the frames of what it sent, and all of it arrives: each message is accepted
-/// and means the same telemetry as its request.
+/// What `encode` writes, read as one capture where it has fewer than 2^40 bytes, is the frames of what it sent, and all of it
+/// arrives: each message is accepted and means the same telemetry as its request.
 pub fn what_is_written_is_read()
     ensures { (signal : Served) (frames : List Frame) (replies : List ReplyText) → EachAfter (ReplyOf (command.Encode signal)) [] [] frames replies
         → IsReadBack (rows_of signal) (meaning_of signal) frames replies }
