@@ -14,3 +14,4 @@ pub mod Rowwise
 pub mod ScalarLaws
 pub mod Slots
 pub mod Twice
+pub mod WithoutRuns

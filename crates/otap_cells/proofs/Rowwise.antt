@@ -61,6 +61,19 @@ fill_goes_on first old new before cells column x so_far within here is =
           ∙ ap (λ row. before ++ row ∷ []) (ap (set (filled cells column) column) here ∙ filled_more cells column within)) i;
     })
 
+-- a null cell is passed over
+pub fill_passes : (first t : Table) (before : List (List Cell)) (cells : List Cell) (column : ℕ)
+    → t ≡ record first { rows = before ++ filled cells column ∷ [] } → column < length cells → get_or cells column null ≡ null
+    → t ≡ record first { rows = before ++ filled cells (column + 1) ∷ [] }
+fill_passes first t before cells column so_far within here =
+    let left : length cells - column ≡ suc (length cells - (column + 1)) = omega arith in
+    let more : filled cells column ≡ filled cells (column + 1)
+    = ap (λ n. take column cells ++ replicate n null) left
+    ∙ sym (append_assoc (take column cells) (null ∷ []) (replicate (length cells - (column + 1)) null))
+    ∙ ap (λ x. (take column cells ++ x ∷ []) ++ replicate (length cells - (column + 1)) null) (sym here)
+    ∙ ap (λ front. front ++ replicate (length cells - (column + 1)) null) (sym (take_more cells column null within)) in
+    so_far ∙ (λ i. record first { rows = before ++ more i ∷ [] })
+
 pub fill_ends : (first t : Table) (before : List (List Cell)) (cells : List Cell) (column : ℕ)
     → t ≡ record first { rows = before ++ filled cells column ∷ [] } → length cells ≤ column → t ≡ record first { rows = before ++ cells ∷ [] }
 fill_ends first t before cells column so_far all =

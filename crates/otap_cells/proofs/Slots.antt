@@ -1,6 +1,7 @@
 -- A column's slots over its bytes.
 use Rattle.std.proofs.Common.{◌≡◌, ℕ, zero, suc, ◌+◌, ◌-◌, ◌≤◌, List, [], ◌∷◌, ◌++◌, length, get_or, take, drop, set, replicate, map, refl, sym, ◌∙◌, ap, arith, length-drop, length-append}
 use Rattle.std.specs.Prelude.{All}
+use Rattle.std.proofs.Math.Seq.{set-append_seam}
 use Rattle.std.proofs.lemmas.List.{take-append-le, drop-append-le, length-map, take_all, map-append, map-set}
 use Rattle.std.proofs.lemmas.List.Elements.{All-set, All-append, All-replicate}
 use Rattle.otap_cells.specs.declared.kept.Slot.{Slot}
@@ -68,3 +69,26 @@ all_within old more kept ss ts cells row pad s within longer is short padded the
     (All-append (λ t. reach t ≤ length kept) ss (replicate pad slot.Null)
     (λ k d lt. near (get_or ss k d) (within k d lt))
     (All-replicate (λ t. reach t ≤ length kept) pad slot.Null (omega arith))))
+
+-- the cells with one written right behind them
+pub one_pushed : (old more kept : List ℕ) (ss ts : List Slot) (cells : List Cell) (row : ℕ) (s : Slot) (x : Cell)
+    → All (λ t. reach t ≤ length old) ss → kept ≡ old ++ more → map (cell_of old) ss ≡ cells → row ≡ length ss → ts ≡ ss ++ s ∷ [] → cell_of kept s ≡ x
+    → map (cell_of kept) ts ≡ set (cells ++ replicate (row + 1 - length cells) null) row x
+one_pushed old more kept ss ts cells row s x within longer is last pushed there =
+    let many : length cells ≡ length ss = ap length (sym is) ∙ length-map ss (cell_of old) in
+    let one : row + 1 - length cells ≡ 1 = omega arith in
+    let here : row ≡ length cells = omega arith in
+    ap (map (cell_of kept)) pushed ∙ map-append (cell_of kept) ss (s ∷ [])
+    ∙ ap (λ front. front ++ cell_of kept s ∷ []) (as_before old more kept ss ss cells within longer refl is)
+    ∙ ap (λ y. cells ++ y ∷ []) there
+    ∙ sym (ap (λ n. set (cells ++ replicate n null) row x) one ∙ ap (λ n. set (cells ++ null ∷ []) n x) here ∙ set-append_seam cells null [] x)
+
+pub pushed_within : (old more kept : List ℕ) (ss ts : List Slot) (s : Slot)
+    → All (λ t. reach t ≤ length old) ss → kept ≡ old ++ more → ts ≡ ss ++ s ∷ [] → reach s ≤ length kept → All (λ t. reach t ≤ length kept) ts
+pushed_within old more kept ss ts s within longer pushed there =
+    let long : length kept ≡ length old + length more = ap length longer ∙ length-append old more in
+    let near : (t : Slot) → reach t ≤ length old → reach t ≤ length kept = λ t h. omega arith in
+    rw pushed
+    (All-append (λ t. reach t ≤ length kept) ss (s ∷ [])
+    (λ k d lt. near (get_or ss k d) (within k d lt))
+    (All-replicate (λ t. reach t ≤ length kept) 1 s there))

@@ -1,14 +1,17 @@
 //! The ids of a table's columns.
-ghost use Rattle.std.specs.Prelude.{◌≡◌, ◌<◌, ◌↔◌, true, length, codes, Contains, None, IfErr, IfOk, OnOk};
+ghost use Rattle.std.specs.Prelude.{◌≡◌, ◌<◌, ◌↔◌, true, codes, Contains, None, IfErr, IfOk, OnOk};
 ghost use Rattle.otap_cells.specs.declared.column_ids.IdsRefusal.TheVariants.{Memory};
 ghost use Rattle.otap_cells.specs.declared.profile.Base.TheVariants as base;
 ghost use Rattle.otap_cells.specs.Cells.{seen, IsCellOf};
 ghost use Rattle.otap_cells.specs.Columns.{base_at, is_id_at, name_at, width_of};
 ghost use Rattle.otap_cells.specs.ColumnIds.{HasNullParent, IdsOf, RefusesIds, id_in, stored_in};
+ghost use Rattle.otap_cells.specs.Continuing.{continues_in};
+ghost use Rattle.otap_cells.specs.GivenIds.{HasIds};
 
+use crate::continuing::continuing_rows;
 use crate::ids::{IdFault, undo};
 use crate::payload::Kind;
-use crate::profile::columns;
+use crate::profile::{Coding, columns};
 use crate::rows::Rows;
 use crate::view::CellView;
 use std::alloc::{AllocError, Global};
@@ -40,8 +43,7 @@ pub fn ids_of<R: Rows>(
     column: u32,
     continues: &[bool],
 ) -> Result<Vec<Option<u32>>, IdsRefusal>
-    requires id { is_id_at (R.table rows.now).kind column ≡ true }
-    requires long { length continues.now ≡ length (R.table rows.now).rows }
+    requires { is_id_at (R.table rows.now).kind column ≡ true }
     ensures ids { IfOk result (λ ids. IdsOf (R.table rows.now) column continues.now ids.items) }
     ensures parents { OnOk result (HasNullParent (R.table rows.now) column → ⊥) }
     ensures refused { IfErr result (RefusesIds (R.table rows.now) column continues.now) }
@@ -62,6 +64,27 @@ pub fn ids_of<R: Rows>(
     }
 }
 
+/// The ids of a column, where the table itself tells which rows continue a run. Its rows are looked through for runs only
+/// where the ids are stored in runs. Refuses as `ids_of` does.
+pub fn read_ids<R: Rows>(
+    alloc: Global,
+    rows: &R,
+    column: u32,
+) -> Result<Vec<Option<u32>>, IdsRefusal>
+    requires { is_id_at (R.table rows.now).kind column ≡ true }
+    ensures ids { IfOk result (λ ids. HasIds (R.table rows.now) column ids.items) }
+    ensures parents { OnOk result (HasNullParent (R.table rows.now) column → ⊥) }
+    ensures refused { IfErr result (RefusesIds (R.table rows.now) column (continues_in (R.table rows.now))) }
+{
+    match rows.coding(column) {
+        Coding::Run => {
+            let continues = continuing_rows(alloc, rows)?;
+            ids_of(alloc, rows, column, &continues)
+        }
+        Coding::Plain | Coding::Delta => ids_of(alloc, rows, column, &[]),
+    }
+}
+
 /// The numbers that a column of ids stores.
 pub fn stored_numbers<R: Rows>(
     alloc: Global,
@@ -71,8 +94,9 @@ pub fn stored_numbers<R: Rows>(
     requires { is_id_at (R.table rows.now).kind column ≡ true }
     ensures { IfOk result (λ found. found.items ≡ stored_in (R.table rows.now) column) }
 {
-    let mut found = Vec::new(alloc);
-    'rows: for row in 0..rows.rows() {
+    let count = rows.rows();
+    let mut found = Vec::with_capacity(alloc, count as usize)?;
+    'rows: for row in 0..count {
         found.push(id_in(rows.cell(column, row)))?;
     }
     Ok(found)

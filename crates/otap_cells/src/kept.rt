@@ -1,4 +1,4 @@
-ghost use Rattle.std.specs.Prelude.{◌≡◌, [], ◌++◌, ◌+◌, ◌-◌, ◌<◌, ◌≤◌, ◌^◌, ℕ, length, replicate, slice_set, OnOk, OnErr, IfOk};
+ghost use Rattle.std.specs.Prelude.{◌≡◌, [], ◌∷◌, ◌++◌, ◌+◌, ◌-◌, ◌<◌, ◌≤◌, ◌^◌, ℕ, drop, length, take, replicate, slice_set, OnOk, OnErr, IfOk};
 ghost use Rattle.std.specs.List.{slice_index_or};
 ghost use Rattle.otap_cells.specs.Cells.{seen, null, bytes_in};
 ghost use Rattle.otap_cells.specs.Kept.{cell_of, reach};
@@ -14,7 +14,7 @@ pub enum Slot {
     Num(i64),
     Bits(u64),
     Flag(bool),
-    Bytes { from: usize, len: usize },
+    Bytes { from: u32, len: u32 },
 }
 
 // The cells of one column, from the first row to the last one that was set.
@@ -59,25 +59,51 @@ impl Cells {
             Slot::Num(number) => CellView::Num(number),
             Slot::Bits(bits) => CellView::Bits(bits),
             Slot::Flag(flag) => CellView::Flag(flag),
-            Slot::Bytes { from, len } => CellView::Bytes(&self.bytes[from..from + len]),
+            Slot::Bytes { from, len } => CellView::Bytes(part_of(&self.bytes, from, len)),
         }
     }
 
-    // Writes the cell of a row after which no cell stands. The bytes of a cell that stood there keep their room.
-    pub fn set(&mut self, row: usize, cell: CellView<'_>) -> Result<(), AllocError>
+    // Writes the cell of a row after which no cell stands. The bytes of a cell that stood there keep their room. With the first
+    // cell comes the room for that many.
+    pub fn set(&mut self, row: usize, cell: CellView<'_>, room: usize) -> Result<(), AllocError>
         requires last { length self.old ≤ row + 1 }
-        requires room { row + 1 < 2 ^ 64 }
+        requires below { row + 1 < 2 ^ 64 }
         ensures ok { OnOk result (self.new ≡ slice_set (self.old ++ replicate (row + 1 - length self.old) null) row (seen cell.entry)) }
         ensures err { OnErr result (self.new ≡ self.old) }
     {
         let slot = keep(&mut self.bytes, cell)?;
+        if row == self.slots.len() {
+            push_slot(&mut self.slots, slot, room)?;
+            return Ok(());
+        }
         self.slots.resize(row + 1, Slot::Null)?;
         self.slots[row] = slot;
         Ok(())
     }
 }
 
-// The slot of a cell, whose bytes come after those that are kept.
+// Puts a slot after the others.
+fn push_slot(slots: &mut Vec<Slot>, slot: Slot, room: usize) -> Result<(), AllocError>
+    ensures ok { OnOk result (slots.new.items ≡ slots.old.items ++ slot ∷ []) }
+    ensures err { OnErr result (slots.new.items ≡ slots.old.items) }
+{
+    if slots.is_empty() {
+        slots.reserve(room)?;
+    }
+    slots.push(slot)?;
+    Ok(())
+}
+
+fn part_of(bytes: &[u8], from: u32, len: u32) -> &[u8]
+    requires { from + len ≤ length bytes.now }
+    ensures { result.now ≡ take len (drop from bytes.now) }
+{
+    let from = from as usize;
+    let len = len as usize;
+    &bytes[from..from + len]
+}
+
+// The slot of a cell, whose bytes come after those that are kept. A column has room for less than 2^32 bytes.
 fn keep(kept: &mut Vec<u8>, cell: CellView<'_>) -> Result<Slot, AllocError>
     ensures ok { OnOk result (kept.new.items ≡ kept.old.items ++ bytes_in (seen cell.entry)) }
     ensures err { OnErr result (kept.new.items ≡ kept.old.items) }
@@ -90,10 +116,19 @@ fn keep(kept: &mut Vec<u8>, cell: CellView<'_>) -> Result<Slot, AllocError>
         CellView::Bits(bits) => Ok(Slot::Bits(bits)),
         CellView::Flag(flag) => Ok(Slot::Flag(flag)),
         CellView::Bytes(part) => {
-            let from = kept.len();
+            let from = short(kept.len())?;
+            let len = short(part.len())?;
             kept.extend_from_slice(part)?;
-            let len = part.len();
             Ok(Slot::Bytes { from, len })
         }
     }
+}
+
+fn short(len: usize) -> Result<u32, AllocError>
+    ensures { IfOk result (λ short. short ≡ len) }
+{
+    if len > u32::MAX as usize {
+        return Err(AllocError);
+    }
+    Ok(len as u32)
 }

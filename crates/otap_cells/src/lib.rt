@@ -19,7 +19,7 @@ mod tests;
 mod view;
 mod weight;
 
-pub use column_ids::{IdsRefusal, ids_of, stored_numbers};
+pub use column_ids::{IdsRefusal, ids_of, read_ids, stored_numbers};
 pub use continuing::{Attribute, attribute_at, continuing_rows, has_attributes, says_again};
 pub use ids::{IdFault, delta_ids, has_twice, run_ids, undo, undo_delta, undo_run};
 pub use laws::{

@@ -1,4 +1,4 @@
-ghost use Rattle.std.specs.Prelude.{◌≡◌, ◌++◌, ◌∷◌, [], ◌<◌, ◌≤◌, ◌+◌, ◌^◌, ℕ, length, map, take, OnOk, OnErr, IfOk};
+ghost use Rattle.std.specs.Prelude.{◌≡◌, ◌++◌, ◌∷◌, [], ◌<◌, ◌≤◌, ◌+◌, ◌^◌, ℕ, length, map, take, true, OnOk, OnErr, IfOk};
 ghost use Rattle.std.specs.List.{slice_index_or};
 ghost use Rattle.otap_cells.specs.Cells.{Cell, seen, null, IsCellOf};
 ghost use Rattle.otap_cells.specs.Columns.{columns_of, base_at, width_of};
@@ -15,12 +15,15 @@ use std::marker::Model;
 /// A table that is built row by row. Contracts see it as its kind and its rows; its ids are stored as the profile says, in
 /// numbers of 32 bits.
 ///
-/// The cells are kept column by column. A column takes room only up to the last row in which it was set.
+/// The cells are kept column by column. A column takes room only up to the last row in which it was set; for 2^32 bytes of
+/// texts, bytes and lists it has no room.
 #[derive(Debug, Drop)]
 pub struct LogicalTable {
     alloc: Global,
     kind: Kind,
     rows: u64,
+    // For how many cells a column has room from its first one on.
+    room: usize,
     columns: Vec<Cells>,
 }
 
@@ -45,6 +48,21 @@ impl LogicalTable {
             alloc,
             kind,
             rows: 0,
+            room: 0,
+            columns: Vec::new(alloc),
+        }
+    }
+
+    /// The same, for about that many rows: a column has room for them from its first cell on.
+    #[tactic(auto, unfolding(crate::specs::Tables::table_by))]
+    pub fn for_rows(alloc: Global, kind: Kind, rows: usize) -> LogicalTable
+        ensures { result ≡ profile_table kind [] }
+    {
+        LogicalTable {
+            alloc,
+            kind,
+            rows: 0,
+            room: rows,
             columns: Vec::new(alloc),
         }
     }
@@ -76,14 +94,14 @@ impl LogicalTable {
         ensures count { length self.new.rows ≡ length self.old.rows }
     {
         let row = (self.rows - 1) as usize;
-        self.columns[column as usize].set(row, cell)?;
+        self.columns[column as usize].set(row, cell, self.room)?;
         Ok(())
     }
 }
 
 impl LogicalTable {
-    /// Appends a row of these cells, one for each column. After want of memory the former rows stand first; whether a
-    /// row follows them isn't told.
+    /// Appends a row of these cells, one for each column. Takes the time to copy the bytes of those that aren't null, and
+    /// constant time for each null. After want of memory the former rows stand first; whether a row follows them isn't told.
     pub fn push_cells(&mut self, cells: &[CellView<'_>]) -> Result<(), AllocError>
         requires { IsRow (columns_of self.old.kind) (map seen cells.now) }
         ensures ok { OnOk result (self.new ≡ record self.old { rows = self.old.rows ++ map seen cells.now ∷ [] }) }
@@ -92,6 +110,9 @@ impl LogicalTable {
     {
         self.push_row()?;
         'cells: for column in 0..cells.len() {
+            if is_null(cells[column]) {
+                continue;
+            }
             self.set(column as u32, cells[column])?;
         }
         Ok(())
@@ -121,6 +142,12 @@ impl Rows for LogicalTable {
         let _kind = self.kind;
         u32::MAX
     }
+}
+
+fn is_null(cell: CellView<'_>) -> bool
+    ensures { result ≡ true → seen cell.entry ≡ null }
+{
+    matches!(cell, CellView::Null)
 }
 
 // Adds columns without cells until there is that number of them.
