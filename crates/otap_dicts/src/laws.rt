@@ -2,7 +2,8 @@
 ghost use Rattle.std.specs.Prelude.{◌≡◌, ℕ, Bool, List, ◌∷◌, ◌++◌, [], length, drop, bytes_eq};
 ghost use Rattle.std.specs.List.{list_any, IsDistinct};
 ghost use Rattle.otap_dicts.specs.Forms.{distinct};
-ghost use Rattle.otap_dicts.specs.Ladders.{ladder_of, observed};
+ghost use Rattle.otap_dicts.specs.Ladders.{LadderIn, ladder_of, observed};
+ghost use Rattle.otap_dicts.specs.declared.form.Form.TheVariants.{Plain};
 
 /// The distinct values of a list are its values, each once; more values only add to them, at their end.
 pub fn distinct_values()
@@ -14,4 +15,10 @@ pub fn distinct_values()
 /// A ladder that has observed values is a function of their list: each value more takes it to the ladder of the longer list.
 pub fn ladders_follow_values()
     ensures { (dictionary : Bool) (values : List (List ℕ)) (value : List ℕ) → observed (ladder_of dictionary values) value ≡ ladder_of dictionary (values ++ value ∷ []) }
+{}
+
+/// A value that is observed twice in turn changes a ladder once, and no value changes one whose form is plain.
+pub fn a_value_again_changes_nothing()
+    ensures twice { (ladder : LadderIn) (value : List ℕ) → observed (observed ladder value) value ≡ observed ladder value }
+    ensures plain { (ladder : LadderIn) (value : List ℕ) → ladder.form ≡ Plain → observed ladder value ≡ ladder }
 {}
