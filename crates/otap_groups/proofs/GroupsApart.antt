@@ -10,7 +10,7 @@ use Rattle.otlp_model.specs.declared.groups.Scope.{Scope}
 use Rattle.otlp_model.specs.declared.groups.ScopeGroup.{ScopeGroup}
 use Rattle.otlp_model.specs.declared.groups.ResourceGroup.{ResourceGroup}
 use Rattle.otap_cells.specs.Cells.{Cell}
-use Rattle.otap_cells.specs.Ids.{Twice, times}
+use Rattle.otap_cells.specs.Ids.{Twice}
 use Rattle.otap_groups.specs.Disagree.{DifferBy, Disagree}
 use Rattle.otap_groups.specs.Flat.{FlatIn, flat, flat_at, flat_groups, flat_scopes, items_of, numbered_rows, past, resource_cells, resources_of, scope_cells, scopes_of, scopes_past}
 use Rattle.otap_groups.specs.Rows.{MainRow, cells_are}
@@ -19,11 +19,9 @@ use Rattle.otap_groups.proofs.CellTests.{cells_are_themselves}
 use Rattle.otap_groups.proofs.FlatItems.{scopes_step}
 use Rattle.otap_groups.proofs.Grouping.{none_kept, scopes_past_kept, some_kept}
 use Rattle.otap_groups.proofs.RunBlocks.{Every, every_append}
+use Rattle.otap_groups.proofs.RunningIds.{item_ids, later, running_once, running_there}
 
 -- ---- elements and their places
-
-later : {A : Type 0} (x : A) (xs : List A) (y : A) → Contains xs y → Contains (x ∷ xs) y
-later x xs y at = (suc at.0, omega (arith, at.1), at.2)
 
 pub every_contained : {A : Type 0} (P : A → Type 0) (xs : List A) (x : A) → Every P xs → Contains xs x → P x
 every_contained P [] x all (k, within, at) = absurd (omega arith)
@@ -61,32 +59,13 @@ not_empty x xs = grind (arith, nat_tests)
 -- ---- own ids: each once, and one for each item
 
 module _ {I : Type 0} (cells_of : I → List Cell) where
-  none_before : (m n : ℕ) (fs : List (FlatIn I)) → m < n → times m (map (λ (row : MainRow). row.id) (numbered_rows cells_of n fs)) ≡ 0
-  none_before m n [] low = refl
-  none_before m n (f ∷ fs) low = rw (ne_eqb n m (λ e. omega (arith, e, low))) (none_before m (suc n) fs (omega arith))
-
-  once_from : (m n : ℕ) (fs : List (FlatIn I)) → times m (map (λ (row : MainRow). row.id) (numbered_rows cells_of n fs)) ≤ 1
-  once_from m n [] = omega arith
-  once_from m n (f ∷ fs) = elim (cases_eq n m) [
-    | inl same ↦ rw (eq-eqb n m same) (let none = none_before m (suc n) fs (omega (arith, same)) in omega (arith, none))
-    | inr differ ↦ rw (ne_eqb n m differ) (once_from m (suc n) fs)
-  ]
-
   pub own_once : (n : ℕ) (fs : List (FlatIn I)) → Twice (map (λ (row : MainRow). row.id) (numbered_rows cells_of n fs)) → ⊥
-  own_once n fs twice = let most = once_from twice.0 n fs in let many = twice.1 in omega (arith, most, many)
-
-  item_from : (n p : ℕ) (fs : List (FlatIn I)) → p < length fs → Contains (map (λ (row : MainRow). row.id) (numbered_rows cells_of n fs)) (Some (n + p))
-  item_from n p [] within = absurd (omega arith)
-  item_from n zero (f ∷ fs) within = (0, omega arith, ap Some (omega arith))
-  item_from n (suc p) (f ∷ fs) within =
-      let ids : List (Option ℕ) = map (λ (row : MainRow). row.id) (numbered_rows cells_of (suc n) fs) in
-      later (Some n) ids (Some (n + suc p)) (subst (λ m. Contains ids (Some m)) (omega arith) (item_from (suc n) p fs (omega arith)))
+  own_once n fs twice = running_once n fs (subst Twice (item_ids cells_of n fs) twice)
 
   pub item_there : (groups : List (ResourceGroup I)) (p : ℕ) → p < length (items_of groups)
       → Contains (map (λ (row : MainRow). row.id) (numbered_rows cells_of 0 (flat groups))) (Some p)
   item_there groups p within =
-      subst (λ m. Contains (map (λ (row : MainRow). row.id) (numbered_rows cells_of 0 (flat groups))) (Some m)) (omega arith)
-      (item_from 0 p (flat groups) (let size = size_of_flat 0 groups in omega (arith, size, within)))
+      subst (λ ids. Contains ids (Some p)) (sym (item_ids cells_of 0 (flat groups))) (running_there p (flat groups) (let size = size_of_flat 0 groups in omega (arith, size, within)))
 
 -- ---- each group that has items has rows
 

@@ -1,7 +1,6 @@
 -- The groups of rows tell the same, in whatever order the pairs of a parent are found.
 use Rattle.std.proofs.Common.{ℕ, List, Option, map, subst}
-use Rattle.std.specs.List.{AllZip}
-use Rattle.otlp_model.specs.Same.{SameEntry, SameItem, SameOften, SameTelemetry}
+use Rattle.otlp_model.specs.Same.{SameItem, SameOften, SameTelemetry}
 use Rattle.otlp_model.specs.Telemetry.{Item, entries_of, groups_with_items, told}
 use Rattle.otlp_model.specs.declared.groups.Resource.{Resource}
 use Rattle.otlp_model.specs.declared.groups.Scope.{Scope}

@@ -1,3 +1,4 @@
+mod Agreement
 pub mod AlikeLaws
 pub mod Bounds
 pub mod CellTests
@@ -15,12 +16,16 @@ pub mod Joins
 pub mod LightGroups
 pub mod OrderLaws
 pub mod PartSteps
+pub mod PartTables
+pub mod PartsCounted
 pub mod ProfileRows
 pub mod ReadLaws
+pub mod RealGroups
 pub mod RowSums
 pub mod RowsApart
 pub mod RowsWeighed
 pub mod RunBlocks
 pub mod RunPlaces
+pub mod RunningIds
 pub mod StoredRows
 pub mod WritableGroups

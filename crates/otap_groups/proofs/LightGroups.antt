@@ -34,6 +34,17 @@ module _ {C : Type 0} (item : Option ℕ → List Cell → C) (weigh : C → ℕ
   reordered_weigh xs ys moved None = refl
   reordered_weigh xs ys moved (Some parent) = added parent xs ∙ sym (sum_by-IsPermutation (adds parent) xs ys moved) ∙ sym (added parent ys)
 
+-- ---- children that are read in two ways weigh the same where each does
+
+module _ {C : Type 0} (weigh : C → ℕ) (item other : Option ℕ → List Cell → C) (same : (id : Option ℕ) (cells : List Cell) → weigh (item id cells) ≡ weigh (other id cells)) where
+  rows_weigh : (rows : List ChildRow) → total 32 weigh (map (child_of_row item) rows) ≡ total 32 weigh (map (child_of_row other) rows)
+  rows_weigh [] = refl
+  rows_weigh (row ∷ rows) = let a = same row.id row.cells in let b = rows_weigh rows in omega (arith, a, b)
+
+  pub children_weigh : (rows : List ChildRow) (parent : Option ℕ) → total 32 weigh (children item rows parent) ≡ total 32 weigh (children other rows parent)
+  children_weigh rows None = refl
+  children_weigh rows (Some parent) = rows_weigh (filter (is_child_of parent) rows)
+
 -- ---- groups that are found in two ways weigh the same where what is found weighs the same
 
 module _ {I : Type 0} (weigh : I → ℕ) (d d' e e' : Option ℕ → List Pair) (item item' : Option ℕ → List Cell → I)

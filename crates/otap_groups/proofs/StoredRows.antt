@@ -188,23 +188,46 @@ module _ {C : Type 0} (how : Coding) (test : List Cell → List Cell → Bool) (
       fill_by_all _ xs (length (map (drop 2) rows)) (child_row None None []) (part_sizes xs rows fit)
       (λ k within. part_at xs rows k (child_row None None []) fit (subst (λ n. k < n) (sym (part_sizes xs rows fit)) within))
 
+-- the ids that a table of parts has
+pub part_ids_of : {C : Type 0} (kind : Kind) (cells_of : C → List Cell) (lists : List (List C)) → IsPart kind → length (flat_map (λ (parts : List C). parts) lists) ≤ 2 ^ 32
+    → HasIds (part_table kind cells_of lists) 0 (map (λ (row : ChildRow). row.id) (part_rows numbered cells_of 0 (placed lists)))
+unfolding part_table
+part_ids_of kind cells_of lists part few =
+    let size = size_of_placed 4294967295 lists in
+    let wide = part.wide in
+    ids_of_column kind (stored_parts (coding_at kind 1) (again_of kind) cells_of 0 0 None (placed lists)) 0 coding.Delta _ _ (omega arith) part.ids_rise
+    (without_runs _ 0 [] _ _ _ (part_ids (coding_at kind 1) (again_of kind) cells_of 0 0 0 0 None (placed lists) refl (omega (arith, size))))
+
+pub part_parents_of : {C : Type 0} (kind : Kind) (cells_of : C → List Cell) (lists : List (List C)) → IsPart kind → length lists ≤ 2 ^ 32
+    → HasIds (part_table kind cells_of lists) 1 (map (λ (row : ChildRow). row.parent) (part_rows numbered cells_of 0 (placed lists)))
+unfolding part_table continues_of
+part_parents_of kind cells_of lists part few_lists =
+    let wide = part.wide in
+    let two : ids_in_front kind ≡ 2 = ap (λ (b : Bool). if b then 1 else 2) part.other in
+    ids_of_column kind (stored_parts (coding_at kind 1) (again_of kind) cells_of 0 0 None (placed lists)) 1 (coding_at kind 1)
+    (continues_after (again_of kind) None (map (drop (ids_in_front kind)) (stored_parts (coding_at kind 1) (again_of kind) cells_of 0 0 None (placed lists))))
+    (map (λ (row : ChildRow). row.parent) (part_rows numbered cells_of 0 (placed lists))) (omega arith) refl
+    (rw two (parent_ids (coding_at kind 1) (again_of kind) cells_of 0 0 0 None (placed lists) (rising_placed lists) (bounded_placed 4294967295 lists (omega arith))))
+
 pub part_rows_of : {C : Type 0} (kind : Kind) (cells_of : C → List Cell) (lists : List (List C)) → IsPart kind
     → length lists ≤ 2 ^ 32 → length (flat_map (λ (parts : List C). parts) lists) ≤ 2 ^ 32
     → IsPartRows (part_table kind cells_of lists) (part_rows numbered cells_of 0 (placed lists))
-unfolding part_table continues_of
-part_rows_of kind cells_of lists part few_lists few =
-    let size = size_of_placed 4294967295 lists in
-    let wide = part.wide in
-    let two : ids_in_front kind ≡ 2 = ap (λ (b : Bool). if b then 1 else 2) part.other in
-    record {
-      ids = map (λ (row : ChildRow). row.id) (part_rows numbered cells_of 0 (placed lists));
-      parents = map (λ (row : ChildRow). row.parent) (part_rows numbered cells_of 0 (placed lists));
-      own = ids_of_column kind (stored_parts (coding_at kind 1) (again_of kind) cells_of 0 0 None (placed lists)) 0 coding.Delta _ _ (omega arith) part.ids_rise
-          (without_runs _ 0 [] _ _ _ (part_ids (coding_at kind 1) (again_of kind) cells_of 0 0 0 0 None (placed lists) refl (omega (arith, size))));
-      above = ids_of_column kind (stored_parts (coding_at kind 1) (again_of kind) cells_of 0 0 None (placed lists)) 1 (coding_at kind 1)
-          (continues_after (again_of kind) None (map (drop (ids_in_front kind)) (stored_parts (coding_at kind 1) (again_of kind) cells_of 0 0 None (placed lists))))
-          (map (λ (row : ChildRow). row.parent) (part_rows numbered cells_of 0 (placed lists))) (omega arith) refl
-          (rw two (parent_ids (coding_at kind 1) (again_of kind) cells_of 0 0 0 None (placed lists) (rising_placed lists) (bounded_placed 4294967295 lists (omega arith))));
-      are = parts_are (coding_at kind 1) (again_of kind) cells_of (part_rows numbered cells_of 0 (placed lists)) (stored_parts (coding_at kind 1) (again_of kind) cells_of 0 0 None (placed lists))
-          (fitting_parts (coding_at kind 1) (again_of kind) cells_of 0 0 0 None (placed lists));
-    }
+unfolding part_table
+part_rows_of kind cells_of lists part few_lists few = record {
+  ids = map (λ (row : ChildRow). row.id) (part_rows numbered cells_of 0 (placed lists));
+  parents = map (λ (row : ChildRow). row.parent) (part_rows numbered cells_of 0 (placed lists));
+  own = part_ids_of kind cells_of lists part few;
+  above = part_parents_of kind cells_of lists part few_lists;
+  are = parts_are (coding_at kind 1) (again_of kind) cells_of (part_rows numbered cells_of 0 (placed lists)) (stored_parts (coding_at kind 1) (again_of kind) cells_of 0 0 None (placed lists))
+      (fitting_parts (coding_at kind 1) (again_of kind) cells_of 0 0 0 None (placed lists));
+}
+
+-- ---- how many rows there are
+
+size_of_stored : {I : Type 0} (cells_of : I → List Cell) (step r s : ℕ) (fs : List (FlatIn I)) → length (stored_rows cells_of step r s fs) ≡ length fs
+size_of_stored cells_of step r s [] = refl
+size_of_stored cells_of step r s (f ∷ fs) = ap suc (size_of_stored cells_of 1 f.resource_id f.scope_id fs)
+
+pub size_of_main : {I : Type 0} (kind : Kind) (cells_of : I → List Cell) (groups : List (ResourceGroup I)) → length (main_table kind cells_of groups).rows ≡ length (flat groups)
+unfolding main_table
+size_of_main kind cells_of groups = size_of_stored cells_of 0 0 0 (flat groups)

@@ -15,7 +15,7 @@ use Rattle.otlp_model.specs.Weight.{total, weight_of_pair, weight_of_resource_gr
 use Rattle.otap_groups.specs.Flat.{items_of, resources_of, scopes_of}
 use Rattle.otap_groups.specs.Weighing.{CanWriteGroup, CanWriteScope}
 
-all_flat_map : {A B : Type 0} (P : B → Type 0) (f : A → List B) (xs : List A) → All (λ x. All P (f x)) xs → All P (flat_map f xs)
+pub all_flat_map : {A B : Type 0} (P : B → Type 0) (f : A → List B) (xs : List A) → All (λ x. All P (f x)) xs → All P (flat_map f xs)
 all_flat_map P f [] all = All-nil P
 all_flat_map P f (x ∷ xs) all =
     All-append P (f x) (flat_map f xs) (All-head (λ x. All P (f x)) x xs all) (all_flat_map P f xs (All-tail (λ x. All P (f x)) x xs all))
@@ -77,7 +77,7 @@ module _ {I : Type 0} (IsItem : I → Type 0) (weigh : I → ℕ) (n : ℕ) (OfI
 
 -- ---- how many there are, where each weighs at least 32
 
-few_parts : {A : Type 0} (weigh : A → ℕ) (parts : List A) → 32 * length parts ≤ total 32 weigh parts
+pub few_parts : {A : Type 0} (weigh : A → ℕ) (parts : List A) → 32 * length parts ≤ total 32 weigh parts
 few_parts weigh [] = omega arith
 few_parts weigh (part ∷ parts) = let more = few_parts weigh parts in omega (arith, more)
 

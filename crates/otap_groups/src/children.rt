@@ -15,27 +15,27 @@ use std::alloc::{AllocError, Global};
 
 /// The rows of a table, found by their parents: the children of a parent stand in the order of their rows.
 #[derive(Drop)]
-pub struct Children<C: RowReader> {
+pub struct Children<'a, C: RowReader> {
     pub reader: C,
     // Empty where the rows have no ids.
-    pub ids: Vec<Option<u32>>,
+    pub ids: &'a [Option<u32>],
     pub entries: Vec<Entry>,
     ghost rising: { IsNonDecreasingBy (λ (e : Entry). e.parent) entries.items },
     ghost below: { All (λ (e : Entry). e.place < length (C.cells reader)) entries.items },
 }
 
-impl<C: RowReader> Children<C> {
+impl<'a, C: RowReader> Children<'a, C> {
     /// The rows that a reader reads, with their ids, or none of them, and their parents. Takes n log n for n rows.
     pub fn new(
         alloc: Global,
         reader: C,
-        ids: Vec<Option<u32>>,
+        ids: &'a [Option<u32>],
         parents: &[Option<u32>],
-    ) -> Result<Children<C>, AllocError>
+    ) -> Result<Children<'a, C>, AllocError>
         requires { length parents.now ≡ length (C.cells reader) }
         ensures reader { IfOk result (λ made. made.reader ≡ reader) }
-        ensures found { IfOk result (λ made. (parent : Option ℕ) → found (C.item made.reader) made.ids.items (C.cells made.reader) made.entries.items parent
-            ≡ children (C.item reader) (child_rows ids.items parents.now (C.cells reader)) parent) }
+        ensures found { IfOk result (λ made. (parent : Option ℕ) → found (C.item made.reader) made.ids.now (C.cells made.reader) made.entries.items parent
+            ≡ children (C.item reader) (child_rows ids.now parents.now (C.cells reader)) parent) }
     {
         let entries = entries_of(alloc, parents)?;
         Ok(Children {
@@ -57,10 +57,10 @@ impl<C: RowReader> Children<C> {
     }
 }
 
-impl<C: RowReader> Lookup for Children<C> {
+impl<C: RowReader> Lookup for Children<'_, C> {
     type Child = C::Item;
 
-    ghost finds = { λ s. found (C.item s.reader) s.ids.items (C.cells s.reader) s.entries.items };
+    ghost finds = { λ s. found (C.item s.reader) s.ids.now (C.cells s.reader) s.entries.items };
 
     ghost weigh = { λ s. C.weigh s.reader };
 
@@ -68,7 +68,7 @@ impl<C: RowReader> Lookup for Children<C> {
         let mut children = Items::new(alloc);
         let entries = self.entries_of(parent);
         'entries: for entry in entries {
-            let id = id_at(&self.ids, entry.place);
+            let id = id_at(self.ids, entry.place);
             children.push(self.reader.read(alloc, id, entry.place)?)?;
         }
         Ok(children)
@@ -80,7 +80,7 @@ impl<C: RowReader> Lookup for Children<C> {
         'entries: for entry in entries {
             let own = self
                 .reader
-                .weight(id_at(&self.ids, entry.place), entry.place);
+                .weight(id_at(self.ids, entry.place), entry.place);
             weight = add_capped(weight, add_capped(32, own));
         }
         weight

@@ -17,9 +17,9 @@ impl<R: Rows> Front<'_, R> {
     /// Whether rows of one resource id, or of one scope id, differ in another cell of `resource` or of `scope`.
     pub fn disagrees(&self, alloc: Global) -> Result<bool, AllocError>
         ensures yes { IfOk result (λ found. found ≡ true → Disagree
-            (main_rows self.now.ids.items self.now.resource_ids.items self.now.scope_ids.items (R.table self.now.rows.now).rows)) }
+            (main_rows self.now.ids.now self.now.resource_ids.now self.now.scope_ids.now (R.table self.now.rows.now).rows)) }
         ensures no { IfOk result (λ found. found ≡ false → Disagree
-            (main_rows self.now.ids.items self.now.resource_ids.items self.now.scope_ids.items (R.table self.now.rows.now).rows) → ⊥) }
+            (main_rows self.now.ids.now self.now.resource_ids.now self.now.scope_ids.now (R.table self.now.rows.now).rows) → ⊥) }
     {
         if self.resources_differ(alloc)? {
             return Ok(true);
@@ -31,9 +31,9 @@ impl<R: Rows> Front<'_, R> {
     /// Whether rows of one resource id differ in another cell of `resource`. Takes n log n for n rows.
     pub fn resources_differ(&self, alloc: Global) -> Result<bool, AllocError>
         ensures yes { IfOk result (λ found. found ≡ true → DifferBy (λ row. row.resource_id) (λ row. row.resource)
-            (main_rows self.now.ids.items self.now.resource_ids.items self.now.scope_ids.items (R.table self.now.rows.now).rows)) }
+            (main_rows self.now.ids.now self.now.resource_ids.now self.now.scope_ids.now (R.table self.now.rows.now).rows)) }
         ensures no { IfOk result (λ found. found ≡ false → DifferBy (λ row. row.resource_id) (λ row. row.resource)
-            (main_rows self.now.ids.items self.now.resource_ids.items self.now.scope_ids.items (R.table self.now.rows.now).rows) → ⊥) }
+            (main_rows self.now.ids.now self.now.resource_ids.now self.now.scope_ids.now (R.table self.now.rows.now).rows) → ⊥) }
     {
         let found = self.differ(alloc, Level::Resource)?;
         Ok(found)
@@ -42,9 +42,9 @@ impl<R: Rows> Front<'_, R> {
     /// Whether rows of one scope id differ in another cell of `scope`. Takes n log n for n rows.
     pub fn scopes_differ(&self, alloc: Global) -> Result<bool, AllocError>
         ensures yes { IfOk result (λ found. found ≡ true → DifferBy (λ row. row.scope_id) (λ row. row.scope)
-            (main_rows self.now.ids.items self.now.resource_ids.items self.now.scope_ids.items (R.table self.now.rows.now).rows)) }
+            (main_rows self.now.ids.now self.now.resource_ids.now self.now.scope_ids.now (R.table self.now.rows.now).rows)) }
         ensures no { IfOk result (λ found. found ≡ false → DifferBy (λ row. row.scope_id) (λ row. row.scope)
-            (main_rows self.now.ids.items self.now.resource_ids.items self.now.scope_ids.items (R.table self.now.rows.now).rows) → ⊥) }
+            (main_rows self.now.ids.now self.now.resource_ids.now self.now.scope_ids.now (R.table self.now.rows.now).rows) → ⊥) }
     {
         let found = self.differ(alloc, Level::Scope)?;
         Ok(found)
@@ -54,9 +54,9 @@ impl<R: Rows> Front<'_, R> {
     // neighbours are compared.
     fn differ(&self, alloc: Global, level: Level) -> Result<bool, AllocError>
         ensures yes { IfOk result (λ found. found ≡ true → DifferBy (id_by level) (cells_by level)
-            (main_rows self.now.ids.items self.now.resource_ids.items self.now.scope_ids.items (R.table self.now.rows.now).rows)) }
+            (main_rows self.now.ids.now self.now.resource_ids.now self.now.scope_ids.now (R.table self.now.rows.now).rows)) }
         ensures no { IfOk result (λ found. found ≡ false → DifferBy (id_by level) (cells_by level)
-            (main_rows self.now.ids.items self.now.resource_ids.items self.now.scope_ids.items (R.table self.now.rows.now).rows) → ⊥) }
+            (main_rows self.now.ids.now self.now.resource_ids.now self.now.scope_ids.now (R.table self.now.rows.now).rows) → ⊥) }
     {
         let ids = self.ids_by(alloc, level)?;
         let entries = entries_of(alloc, &ids)?;
@@ -74,7 +74,7 @@ impl<R: Rows> Front<'_, R> {
         requires some { 1 ≤ place }
         requires within { place < length entries.now }
         ensures { result ≡ clash (cells_by level)
-            (main_row_at self.now.ids.items self.now.resource_ids.items self.now.scope_ids.items (R.table self.now.rows.now).rows)
+            (main_row_at self.now.ids.now self.now.resource_ids.now self.now.scope_ids.now (R.table self.now.rows.now).rows)
             (slice_index_or entries.now (place - 1) blank) (slice_index_or entries.now place blank) }
     {
         let before = entries[place - 1];

@@ -5,6 +5,7 @@ ghost use Rattle.otap_cells.specs.Columns.{width_of};
 ghost use Rattle.otap_cells.specs.Cells.{seen};
 ghost use Rattle.otap_cells.specs.Tables.{cell_in};
 ghost use Rattle.otap_groups.specs.Kinds.{IsMain};
+ghost use Rattle.otap_groups.specs.Disagree.{Disagree};
 ghost use Rattle.otap_groups.specs.Runs.{runs};
 ghost use Rattle.otap_groups.specs.Rows.{cell_is, cells_are, id_at, id_is, main_row_at, main_rows, same_resource, same_scope};
 ghost use Rattle.otap_groups.specs.Inside.{cells_by, id_by, part, same_at};
@@ -17,9 +18,9 @@ use std::alloc::{AllocError, Global};
 #[derive(Drop)]
 pub struct Front<'a, R: Rows> {
     pub rows: &'a R,
-    pub ids: Vec<Option<u32>>,
-    pub resource_ids: Vec<Option<u32>>,
-    pub scope_ids: Vec<Option<u32>>,
+    pub ids: &'a [Option<u32>],
+    pub resource_ids: &'a [Option<u32>],
+    pub scope_ids: &'a [Option<u32>],
     ghost main: { IsMain (R.table rows.now).kind },
 }
 
@@ -33,13 +34,14 @@ impl<R: Rows> Front<'_, R> {
 
     // The end of the group that begins at a place, among the rows up to `to`.
     pub(crate) fn run(&self, level: Level, from: usize, to: usize) -> usize
+        requires agree { Disagree (main_rows self.now.ids.now self.now.resource_ids.now self.now.scope_ids.now (R.table self.now.rows.now).rows) → ⊥ }
         requires some { from < to }
         requires within { to ≤ length (R.table self.now.rows.now).rows }
         ensures some { from < result }
         ensures within { result ≤ to }
-        ensures cut { runs (same_at level) (part (main_row_at self.now.ids.items self.now.resource_ids.items self.now.scope_ids.items (R.table self.now.rows.now).rows) from (to - from))
-            ≡ part (main_row_at self.now.ids.items self.now.resource_ids.items self.now.scope_ids.items (R.table self.now.rows.now).rows) from (result - from)
-            ∷ runs (same_at level) (part (main_row_at self.now.ids.items self.now.resource_ids.items self.now.scope_ids.items (R.table self.now.rows.now).rows) result (to - result)) }
+        ensures cut { runs (same_at level) (part (main_row_at self.now.ids.now self.now.resource_ids.now self.now.scope_ids.now (R.table self.now.rows.now).rows) from (to - from))
+            ≡ part (main_row_at self.now.ids.now self.now.resource_ids.now self.now.scope_ids.now (R.table self.now.rows.now).rows) from (result - from)
+            ∷ runs (same_at level) (part (main_row_at self.now.ids.now self.now.resource_ids.now self.now.scope_ids.now (R.table self.now.rows.now).rows) result (to - result)) }
     {
         let mut end = from + 1;
         'rows: while end < to && self.same(level, end - 1, end) {
@@ -50,11 +52,12 @@ impl<R: Rows> Front<'_, R> {
 
     // Whether two rows stand in one group.
     fn same(&self, level: Level, a: usize, b: usize) -> bool
+        requires agree { Disagree (main_rows self.now.ids.now self.now.resource_ids.now self.now.scope_ids.now (R.table self.now.rows.now).rows) → ⊥ }
         requires a { a < length (R.table self.now.rows.now).rows }
         requires b { b < length (R.table self.now.rows.now).rows }
         ensures { result ≡ same_at level
-            (main_row_at self.now.ids.items self.now.resource_ids.items self.now.scope_ids.items (R.table self.now.rows.now).rows a)
-            (main_row_at self.now.ids.items self.now.resource_ids.items self.now.scope_ids.items (R.table self.now.rows.now).rows b) }
+            (main_row_at self.now.ids.now self.now.resource_ids.now self.now.scope_ids.now (R.table self.now.rows.now).rows a)
+            (main_row_at self.now.ids.now self.now.resource_ids.now self.now.scope_ids.now (R.table self.now.rows.now).rows b) }
     {
         match level {
             Level::Resource => self.same_resource(a, b),
@@ -62,27 +65,45 @@ impl<R: Rows> Front<'_, R> {
         }
     }
 
+    // Rows of one id agree, so cells are compared only where there is none.
     fn same_resource(&self, a: usize, b: usize) -> bool
+        requires agree { Disagree (main_rows self.now.ids.now self.now.resource_ids.now self.now.scope_ids.now (R.table self.now.rows.now).rows) → ⊥ }
         requires a { a < length (R.table self.now.rows.now).rows }
         requires b { b < length (R.table self.now.rows.now).rows }
         ensures { result ≡ same_resource
-            (main_row_at self.now.ids.items self.now.resource_ids.items self.now.scope_ids.items (R.table self.now.rows.now).rows a)
-            (main_row_at self.now.ids.items self.now.resource_ids.items self.now.scope_ids.items (R.table self.now.rows.now).rows b) }
+            (main_row_at self.now.ids.now self.now.resource_ids.now self.now.scope_ids.now (R.table self.now.rows.now).rows a)
+            (main_row_at self.now.ids.now self.now.resource_ids.now self.now.scope_ids.now (R.table self.now.rows.now).rows b) }
     {
-        same_id(id_at(&self.resource_ids, a), id_at(&self.resource_ids, b))
-            && self.same_cells(Level::Resource, a, b)
+        let id = id_at(self.resource_ids, a);
+        if !same_id(id, id_at(self.resource_ids, b)) {
+            return false;
+        }
+        match id {
+            Some(_) => true,
+            None => self.same_cells(Level::Resource, a, b),
+        }
     }
 
+    // As for resources, but the cell beside the scope is compared in any case.
     fn same_scope(&self, a: usize, b: usize) -> bool
+        requires agree { Disagree (main_rows self.now.ids.now self.now.resource_ids.now self.now.scope_ids.now (R.table self.now.rows.now).rows) → ⊥ }
         requires a { a < length (R.table self.now.rows.now).rows }
         requires b { b < length (R.table self.now.rows.now).rows }
         ensures { result ≡ same_scope
-            (main_row_at self.now.ids.items self.now.resource_ids.items self.now.scope_ids.items (R.table self.now.rows.now).rows a)
-            (main_row_at self.now.ids.items self.now.resource_ids.items self.now.scope_ids.items (R.table self.now.rows.now).rows b) }
+            (main_row_at self.now.ids.now self.now.resource_ids.now self.now.scope_ids.now (R.table self.now.rows.now).rows a)
+            (main_row_at self.now.ids.now self.now.resource_ids.now self.now.scope_ids.now (R.table self.now.rows.now).rows b) }
     {
-        same_id(id_at(&self.scope_ids, a), id_at(&self.scope_ids, b))
-            && self.same_cells(Level::Scope, a, b)
-            && same_cell(self.rows, 8, a as u64, b as u64)
+        let id = id_at(self.scope_ids, a);
+        if !same_id(id, id_at(self.scope_ids, b)) {
+            return false;
+        }
+        if !same_cell(self.rows, 8, a as u64, b as u64) {
+            return false;
+        }
+        match id {
+            Some(_) => true,
+            None => self.same_cells(Level::Scope, a, b),
+        }
     }
 
     // Whether the cells beside an id are equal.
@@ -90,8 +111,8 @@ impl<R: Rows> Front<'_, R> {
         requires a { a < length (R.table self.now.rows.now).rows }
         requires b { b < length (R.table self.now.rows.now).rows }
         ensures { result ≡ cells_are
-            (cells_by level (main_row_at self.now.ids.items self.now.resource_ids.items self.now.scope_ids.items (R.table self.now.rows.now).rows a))
-            (cells_by level (main_row_at self.now.ids.items self.now.resource_ids.items self.now.scope_ids.items (R.table self.now.rows.now).rows b)) }
+            (cells_by level (main_row_at self.now.ids.now self.now.resource_ids.now self.now.scope_ids.now (R.table self.now.rows.now).rows a))
+            (cells_by level (main_row_at self.now.ids.now self.now.resource_ids.now self.now.scope_ids.now (R.table self.now.rows.now).rows b)) }
     {
         let a = a as u64;
         let b = b as u64;
@@ -110,7 +131,7 @@ impl<R: Rows> Front<'_, R> {
     pub(crate) fn ids_by(&self, alloc: Global, level: Level) -> Result<Vec<Option<u32>>, AllocError>
         ensures long { IfOk result (λ ids. length ids.items ≡ length (R.table self.now.rows.now).rows) }
         ensures ids { IfOk result (λ ids. ids.items ≡ map (id_by level)
-            (main_rows self.now.ids.items self.now.resource_ids.items self.now.scope_ids.items (R.table self.now.rows.now).rows)) }
+            (main_rows self.now.ids.now self.now.resource_ids.now self.now.scope_ids.now (R.table self.now.rows.now).rows)) }
     {
         let mut ids = Vec::new(alloc);
         let to = self.len();
@@ -121,11 +142,11 @@ impl<R: Rows> Front<'_, R> {
     }
 
     fn id_by(&self, level: Level, place: usize) -> Option<u32>
-        ensures { result ≡ id_by level (main_row_at self.now.ids.items self.now.resource_ids.items self.now.scope_ids.items (R.table self.now.rows.now).rows place) }
+        ensures { result ≡ id_by level (main_row_at self.now.ids.now self.now.resource_ids.now self.now.scope_ids.now (R.table self.now.rows.now).rows place) }
     {
         match level {
-            Level::Resource => id_at(&self.resource_ids, place),
-            Level::Scope => id_at(&self.scope_ids, place),
+            Level::Resource => id_at(self.resource_ids, place),
+            Level::Scope => id_at(self.scope_ids, place),
         }
     }
 }

@@ -60,7 +60,7 @@ pub fn write_rows<W: RowWriter>(
     requires items { All (λ f. W.CanWrite f.item.now) rows.now }
     ensures { IfOk result (λ table. table ≡ profile_table W.kind (stored_rows W.cells_of 0 0 0 (map seen_flat rows.now))) }
 {
-    let mut table = LogicalTable::new(alloc, writer.kind());
+    let mut table = LogicalTable::for_rows(alloc, writer.kind(), rows.len());
     let mut step = 0;
     let mut resource_id = 0;
     let mut scope_id = 0;

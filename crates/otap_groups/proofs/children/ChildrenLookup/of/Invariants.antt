@@ -5,5 +5,5 @@ use Rattle.otap_groups.proofs.children.ChildrenLookup.of.Given as goal
 
 abbrev pub invariant-entries : goal.invariant-entries
 invariant-entries g l =
-    l.children ++ map (λ (e : Entry). child_at (g.C.RowReader.item l.self.reader) l.self.ids.items (g.C.RowReader.cells l.self.reader) e.place) (drop l.entry-index l.entries)
-    ≡ map (λ (e : Entry). child_at (g.C.RowReader.item l.self.reader) l.self.ids.items (g.C.RowReader.cells l.self.reader) e.place) l.entries
+    l.children ++ map (λ (e : Entry). child_at (g.C.RowReader.item l.self.reader) l.self.ids.now (g.C.RowReader.cells l.self.reader) e.place) (drop l.entry-index l.entries)
+    ≡ map (λ (e : Entry). child_at (g.C.RowReader.item l.self.reader) l.self.ids.now (g.C.RowReader.cells l.self.reader) e.place) l.entries

@@ -8,5 +8,5 @@ abbrev pub invariant-entries : goal.invariant-entries
 invariant-entries g l = record {
   some : 1 ≤ l.place;
   agree : Agreeing (id_by l.level) (cells_by l.level)
-      (main_row_at l.self.ids.items l.self.resource_ids.items l.self.scope_ids.items (g.R.Rows.table l.self.rows.now).rows) l.entries.items l.place;
+      (main_row_at l.self.ids.now l.self.resource_ids.now l.self.scope_ids.now (g.R.Rows.table l.self.rows.now).rows) l.entries.items l.place;
 }

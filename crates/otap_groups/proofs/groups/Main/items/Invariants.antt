@@ -6,6 +6,6 @@ use Rattle.otap_groups.proofs.groups.Main.items.Given as goal
 
 abbrev pub invariant-items : goal.invariant-items
 invariant-items g l = l.items ++ map (item_of_row (g.S.RowReader.item l.self.items)) (part
-    (main_row_at l.self.front.ids.items l.self.front.resource_ids.items l.self.front.scope_ids.items (g.R.Rows.table l.self.front.rows.now).rows) l.place (l.to - l.place))
-    ≡ map (item_of_row (g.S.RowReader.item l.self.items)) (part (main_row_at l.self.front.ids.items l.self.front.resource_ids.items l.self.front.scope_ids.items
+    (main_row_at l.self.front.ids.now l.self.front.resource_ids.now l.self.front.scope_ids.now (g.R.Rows.table l.self.front.rows.now).rows) l.place (l.to - l.place))
+    ≡ map (item_of_row (g.S.RowReader.item l.self.items)) (part (main_row_at l.self.front.ids.now l.self.front.resource_ids.now l.self.front.scope_ids.now
     (g.R.Rows.table l.self.front.rows.now).rows) l.from (l.to - l.from))

@@ -9,9 +9,9 @@ abbrev pub invariant-groups : goal.invariant-groups
 invariant-groups g l = record {
   within : l.at ≤ l.to;
   so_far : l.groups ++ map (scope_group (g.P.Lookup.finds l.self.scopes) (g.S.RowReader.item l.self.items)) (runs same_scope (part
-      (main_row_at l.self.front.ids.items l.self.front.resource_ids.items l.self.front.scope_ids.items (g.R.Rows.table l.self.front.rows.now).rows) l.at (l.to - l.at)))
+      (main_row_at l.self.front.ids.now l.self.front.resource_ids.now l.self.front.scope_ids.now (g.R.Rows.table l.self.front.rows.now).rows) l.at (l.to - l.at)))
       ≡ map (scope_group (g.P.Lookup.finds l.self.scopes) (g.S.RowReader.item l.self.items)) (runs same_scope (part
-      (main_row_at l.self.front.ids.items l.self.front.resource_ids.items l.self.front.scope_ids.items (g.R.Rows.table l.self.front.rows.now).rows) l.from (l.to - l.from)));
+      (main_row_at l.self.front.ids.now l.self.front.resource_ids.now l.self.front.scope_ids.now (g.R.Rows.table l.self.front.rows.now).rows) l.from (l.to - l.from)));
 }
 
 abbrev pub decreases-groups : goal.decreases-groups
