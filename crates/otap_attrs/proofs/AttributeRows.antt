@@ -1,38 +1,17 @@
 -- Rows of attributes, cell by cell.
-use Rattle.std.proofs.Common.{◌≡◌, ℕ, ◌^◌, ◌<◌, pos, Bool, true, false, List, [], ◌∷◌, drop, length, map, refl, sym, ap, subst, arith}
+use Rattle.std.proofs.Common.{◌≡◌, Bool, true, false, List, [], ◌∷◌, drop, map, refl, sym, subst}
 use Rattle.std.specs.List.{slice_index_or}
 use Rattle.otap_cells.specs.declared.payload.Kind.{Kind}
 use Rattle.otap_cells.specs.declared.payload.Kind.TheVariants as table
 use Rattle.otap_cells.specs.declared.profile.Base.{Base}
 use Rattle.otap_cells.specs.declared.profile.Base.TheVariants as base
-use Rattle.otap_cells.specs.Bases.{is_id}
 use Rattle.otap_cells.specs.Cells.{Cell, null, number, bits, flag, bytes, seen, IsCellOf}
 use Rattle.otap_cells.specs.declared.view.CellView.{CellView}
 use Rattle.otap_cells.specs.Columns.{ColumnSpec, attrs, deep_attrs, base_at, coding_at, columns_of, width_of}
 use Rattle.otap_cells.specs.declared.profile.Coding.TheVariants as coding
-use Rattle.otap_cells.specs.Continuing.{cell_at, has_attributes}
+use Rattle.otap_cells.specs.Continuing.{has_attributes}
 use Rattle.otap_cells.specs.Tables.{IsRow}
 use Rattle.otap_attrs.specs.Values.{AreCellsOf, HasValueAt, value_bases}
-
--- nine cells are the row of an attribute
-pub attribute_row : (kind : Kind) (c0 c1 c2 c3 c4 c5 c6 c7 c8 : Cell) → has_attributes kind ≡ true
-    → IsCellOf (base_at kind 0) c0 → IsCellOf (base_at kind 1) c1 → IsCellOf (base_at kind 2) c2
-    → IsCellOf (base_at kind 3) c3 → IsCellOf (base_at kind 4) c4 → IsCellOf (base_at kind 5) c5
-    → IsCellOf (base_at kind 6) c6 → IsCellOf (base_at kind 7) c7 → IsCellOf (base_at kind 8) c8
-    → IsRow (columns_of kind) (c0 ∷ c1 ∷ c2 ∷ c3 ∷ c4 ∷ c5 ∷ c6 ∷ c7 ∷ c8 ∷ [])
-unfolding attrs deep_attrs
-attribute_row table.ResourceAttrs c0 c1 c2 c3 c4 c5 c6 c7 c8 e f0 f1 f2 f3 f4 f5 f6 f7 f8 = (f0, (f1, (f2, (f3, (f4, (f5, (f6, (f7, (f8, tt)))))))))
-attribute_row table.ScopeAttrs c0 c1 c2 c3 c4 c5 c6 c7 c8 e f0 f1 f2 f3 f4 f5 f6 f7 f8 = (f0, (f1, (f2, (f3, (f4, (f5, (f6, (f7, (f8, tt)))))))))
-attribute_row table.LogAttrs c0 c1 c2 c3 c4 c5 c6 c7 c8 e f0 f1 f2 f3 f4 f5 f6 f7 f8 = (f0, (f1, (f2, (f3, (f4, (f5, (f6, (f7, (f8, tt)))))))))
-attribute_row table.SpanAttrs c0 c1 c2 c3 c4 c5 c6 c7 c8 e f0 f1 f2 f3 f4 f5 f6 f7 f8 = (f0, (f1, (f2, (f3, (f4, (f5, (f6, (f7, (f8, tt)))))))))
-attribute_row table.EventAttrs c0 c1 c2 c3 c4 c5 c6 c7 c8 e f0 f1 f2 f3 f4 f5 f6 f7 f8 = (f0, (f1, (f2, (f3, (f4, (f5, (f6, (f7, (f8, tt)))))))))
-attribute_row table.LinkAttrs c0 c1 c2 c3 c4 c5 c6 c7 c8 e f0 f1 f2 f3 f4 f5 f6 f7 f8 = (f0, (f1, (f2, (f3, (f4, (f5, (f6, (f7, (f8, tt)))))))))
-attribute_row table.NumberPointAttrs c0 c1 c2 c3 c4 c5 c6 c7 c8 e f0 f1 f2 f3 f4 f5 f6 f7 f8 = (f0, (f1, (f2, (f3, (f4, (f5, (f6, (f7, (f8, tt)))))))))
-attribute_row table.SummaryPointAttrs c0 c1 c2 c3 c4 c5 c6 c7 c8 e f0 f1 f2 f3 f4 f5 f6 f7 f8 = (f0, (f1, (f2, (f3, (f4, (f5, (f6, (f7, (f8, tt)))))))))
-attribute_row table.HistPointAttrs c0 c1 c2 c3 c4 c5 c6 c7 c8 e f0 f1 f2 f3 f4 f5 f6 f7 f8 = (f0, (f1, (f2, (f3, (f4, (f5, (f6, (f7, (f8, tt)))))))))
-attribute_row table.NumberExemplarAttrs c0 c1 c2 c3 c4 c5 c6 c7 c8 e f0 f1 f2 f3 f4 f5 f6 f7 f8 = (f0, (f1, (f2, (f3, (f4, (f5, (f6, (f7, (f8, tt)))))))))
-attribute_row table.HistExemplarAttrs c0 c1 c2 c3 c4 c5 c6 c7 c8 e f0 f1 f2 f3 f4 f5 f6 f7 f8 = (f0, (f1, (f2, (f3, (f4, (f5, (f6, (f7, (f8, tt)))))))))
-attribute_row _ c0 c1 c2 c3 c4 c5 c6 c7 c8 e f0 f1 f2 f3 f4 f5 f6 f7 f8 = absurd cc
 
 -- the first column has numbers of 32 bits, whatever their width on the wire
 id_cell : (v w : Bool) (cell : Cell) → IsCellOf (base.Id v) cell → IsCellOf (base.Id w) cell
@@ -41,36 +20,6 @@ id_cell v w (number n) fits = fits
 id_cell v w (bits n) fits = fits
 id_cell v w (flag b) fits = absurd cc
 id_cell v w (bytes part) fits = fits
-
-pub parent_cell : (kind : Kind) (cell : Cell) → has_attributes kind ≡ true → IsCellOf (base_at kind 0) cell → IsCellOf (base.Id true) cell
-unfolding attrs deep_attrs
-parent_cell table.ResourceAttrs cell e fits = id_cell false true cell fits
-parent_cell table.ScopeAttrs cell e fits = id_cell false true cell fits
-parent_cell table.LogAttrs cell e fits = id_cell false true cell fits
-parent_cell table.SpanAttrs cell e fits = id_cell false true cell fits
-parent_cell table.EventAttrs cell e fits = id_cell true true cell fits
-parent_cell table.LinkAttrs cell e fits = id_cell true true cell fits
-parent_cell table.NumberPointAttrs cell e fits = id_cell true true cell fits
-parent_cell table.SummaryPointAttrs cell e fits = id_cell true true cell fits
-parent_cell table.HistPointAttrs cell e fits = id_cell true true cell fits
-parent_cell table.NumberExemplarAttrs cell e fits = id_cell true true cell fits
-parent_cell table.HistExemplarAttrs cell e fits = id_cell true true cell fits
-parent_cell _ cell e fits = absurd cc
-
-pub parent_fits : (kind : Kind) (cell : Cell) → has_attributes kind ≡ true → IsCellOf (base.Id true) cell → IsCellOf (base_at kind 0) cell
-unfolding attrs deep_attrs
-parent_fits table.ResourceAttrs cell e fits = id_cell true false cell fits
-parent_fits table.ScopeAttrs cell e fits = id_cell true false cell fits
-parent_fits table.LogAttrs cell e fits = id_cell true false cell fits
-parent_fits table.SpanAttrs cell e fits = id_cell true false cell fits
-parent_fits table.EventAttrs cell e fits = id_cell true true cell fits
-parent_fits table.LinkAttrs cell e fits = id_cell true true cell fits
-parent_fits table.NumberPointAttrs cell e fits = id_cell true true cell fits
-parent_fits table.SummaryPointAttrs cell e fits = id_cell true true cell fits
-parent_fits table.HistPointAttrs cell e fits = id_cell true true cell fits
-parent_fits table.NumberExemplarAttrs cell e fits = id_cell true true cell fits
-parent_fits table.HistExemplarAttrs cell e fits = id_cell true true cell fits
-parent_fits _ cell e fits = absurd cc
 
 -- what the other columns hold
 pub key_base : (kind : Kind) → has_attributes kind ≡ true → base_at kind 1 ≡ base.Utf8
@@ -163,27 +112,6 @@ has_value table.HistPointAttrs e = record { bases = refl }
 has_value table.NumberExemplarAttrs e = record { bases = refl }
 has_value table.HistExemplarAttrs e = record { bases = refl }
 has_value _ e = absurd cc
-
--- the cells after the first one
-pub eight_cells : (row : List Cell) → length row ≡ 9
-    → drop 1 row ≡ cell_at row 1 ∷ cell_at row 2 ∷ cell_at row 3 ∷ cell_at row 4 ∷ cell_at row 5 ∷ cell_at row 6 ∷ cell_at row 7 ∷ cell_at row 8 ∷ []
-eight_cells [] e = absurd (omega arith)
-eight_cells (a0 ∷ []) e = absurd (omega arith)
-eight_cells (a0 ∷ a1 ∷ []) e = absurd (omega arith)
-eight_cells (a0 ∷ a1 ∷ a2 ∷ []) e = absurd (omega arith)
-eight_cells (a0 ∷ a1 ∷ a2 ∷ a3 ∷ []) e = absurd (omega arith)
-eight_cells (a0 ∷ a1 ∷ a2 ∷ a3 ∷ a4 ∷ []) e = absurd (omega arith)
-eight_cells (a0 ∷ a1 ∷ a2 ∷ a3 ∷ a4 ∷ a5 ∷ []) e = absurd (omega arith)
-eight_cells (a0 ∷ a1 ∷ a2 ∷ a3 ∷ a4 ∷ a5 ∷ a6 ∷ []) e = absurd (omega arith)
-eight_cells (a0 ∷ a1 ∷ a2 ∷ a3 ∷ a4 ∷ a5 ∷ a6 ∷ a7 ∷ []) e = absurd (omega arith)
-eight_cells (a0 ∷ a1 ∷ a2 ∷ a3 ∷ a4 ∷ a5 ∷ a6 ∷ a7 ∷ a8 ∷ []) e = refl
-eight_cells (a0 ∷ a1 ∷ a2 ∷ a3 ∷ a4 ∷ a5 ∷ a6 ∷ a7 ∷ a8 ∷ a9 ∷ more) e = absurd (omega arith)
-
-pub row_again : (row : List Cell) → length row ≡ 9 → (p c1 c2 c3 c4 c5 c6 c7 c8 : Cell) (stored : ℕ) → p ≡ number (pos stored)
-    → c1 ≡ cell_at row 1 → c2 ≡ cell_at row 2 → c3 ≡ cell_at row 3 → c4 ≡ cell_at row 4
-    → c5 ≡ cell_at row 5 → c6 ≡ cell_at row 6 → c7 ≡ cell_at row 7 → c8 ≡ cell_at row 8
-    → p ∷ c1 ∷ c2 ∷ c3 ∷ c4 ∷ c5 ∷ c6 ∷ c7 ∷ c8 ∷ [] ≡ number (pos stored) ∷ drop 1 row
-row_again row nine p c1 c2 c3 c4 c5 c6 c7 c8 stored e e1 e2 e3 e4 e5 e6 e7 e8 = rw (e, e1, e2, e3, e4, e5, e6, e7, e8) (ap (λ (more : List Cell). number (pos stored) ∷ more) (sym (eight_cells row nine)))
 
 -- the cells of a value, one by one
 pub seven_fit : (xs : List CellView) (d : CellView) → AreCellsOf value_bases (map seen xs)

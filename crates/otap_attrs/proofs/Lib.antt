@@ -1,6 +1,11 @@
 pub mod AttributeRows
 pub mod AttributesWeighed
+pub mod CellFits
+pub mod FilledTables
+pub mod FoundLists
+pub mod MadeSums
 pub mod PairRows
+pub mod PairsSaid
 pub mod SortedRows
 pub mod StableSort
 pub mod TableLaws

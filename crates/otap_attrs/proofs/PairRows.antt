@@ -1,7 +1,5 @@
 -- Pairs, one after the other, and what each of them weighs.
-use Rattle.std.proofs.Common.{◌≡◌, ℕ, zero, suc, ◌+◌, ◌<◌, ◌≤◌, List, [], ◌∷◌, ◌++◌, length, take, Result, Ok, Err, refl, sym, ap, ◌∙◌, arith}
-use Rattle.std.proofs.lemmas.List.{length-append}
-use Rattle.std.specs.Prelude.{OnErr}
+use Rattle.std.proofs.Common.{◌≡◌, ℕ, zero, suc, ◌<◌, ◌≤◌, List, [], ◌∷◌, length, refl, ap, ◌∙◌, arith}
 use Rattle.std.specs.List.{slice_index_or}
 use Rattle.otlp_model.specs.declared.value.Pair.{Pair}
 use Rattle.otlp_model.specs.Weight.{total, weight_of_pair, weight_of_value}
@@ -17,26 +15,6 @@ pub value_weight : (pairs : List Pair) (k n : ℕ) (d : Pair) → total 32 weigh
 value_weight [] k n d all within = absurd (omega arith)
 value_weight (pair ∷ pairs) zero n d all within = omega arith
 value_weight (pair ∷ pairs) (suc k) n d all within = value_weight pairs k n d (omega arith) (omega arith)
-
--- what stands in front stays there
-take_less : {A : Type 0} (n m : ℕ) (xs : List A) → n ≤ m → take n (take m xs) ≡ take n xs
-take_less zero m xs less = refl
-take_less (suc n) zero xs less = absurd (omega arith)
-take_less (suc n) (suc m) [] less = refl
-take_less {A} (suc n) (suc m) (x ∷ xs) less = ap (λ (ys : List A). x ∷ ys) (take_less n m xs (omega arith))
-
-take_front : {A : Type 0} (xs ys : List A) → take (length xs) (xs ++ ys) ≡ xs
-take_front [] ys = refl
-take_front {A} (x ∷ xs) ys = ap (λ (zs : List A). x ∷ zs) (take_front xs ys)
-
-pub front_stays : {A : Type 0} (old more mid now : List A) → mid ≡ old ++ more → take (length mid) now ≡ mid → take (length old) now ≡ old
-front_stays {A} old more mid now parts stays =
-    let less : length old ≤ length mid = omega (arith, length-append old more, ap length parts) in
-    sym (take_less (length old) (length mid) now less) ∙ ap (take (length old)) (stays ∙ parts) ∙ take_front old more
-
-pub on_err : {A E : Type 0} {P : Type 0} (r : Result A E) → P → OnErr r P
-on_err (Ok x) p = tt
-on_err (Err e) p = p
 
 -- ---- reading
 

@@ -1,6 +1,7 @@
 //! The rows of attributes: values in cells, pairs of a parent, the sort, and what may be wrong in rows.
 #![tactic(auto)]
 
+mod adding;
 mod laws;
 mod pairs;
 mod reading;
@@ -11,13 +12,12 @@ mod tests;
 mod values;
 mod written;
 
+pub use adding::{add_attributes, add_parts, add_resources, add_scopes};
 pub use laws::{
     attribute_tables_have_their_rows, attribute_tables_weigh_their_rows, written_values_come_back,
 };
-pub use pairs::add_pairs;
 pub use reading::Pairs;
 pub use refusal::{CheckRefusal, RowRefusal};
-pub use sorting::code_parents;
 pub use values::{check_value, nested_bytes, value_at, value_cells, weight_at};
 pub use written::{
     Attributed, attributes_weight, push_filled, value_cells_weight, write_attributes,

@@ -1,39 +1,62 @@
 //! Pairs as rows of attributes.
-ghost use Rattle.std.specs.Prelude.{◌≡◌, ◌≤◌, ◌++◌, ◌∷◌, [], true, length, map, take, OnErr, OnOk};
+ghost use Rattle.std.specs.Prelude.{◌≡◌, ◌≤◌, ◌++◌, ◌∷◌, [], true, All, length, map, pos, take, IfOk, OnErr, OnOk};
 ghost use Rattle.otlp_model.specs.Limits.{weight_limit};
 ghost use Rattle.otlp_model.specs.Weight.{total, weight_of_pair, weight_of_value};
+ghost use Rattle.otap_cells.specs.declared.profile.Base.TheVariants as base;
+ghost use Rattle.otap_cells.specs.Cells.{IsCellOf, number, seen};
 ghost use Rattle.otap_cells.specs.Continuing.{has_attributes};
+ghost use Rattle.otap_groups.specs.Flat.{placed_at};
+ghost use Rattle.otap_attrs.specs.Inside.{HasNested, seen_placed};
 ghost use Rattle.otap_attrs.specs.Values.{nested_of, pair_row};
 
-use crate::sorting::parent_cell;
 use crate::values::{nested_bytes, value_cells};
-use otap_cells::{LogicalTable, text_cell};
+use otap_cells::{CellView, LogicalTable, text_cell};
 use otlp_model::{Items, Pair};
 use std::alloc::{AllocError, Global};
 
-/// Appends a row for each pair of a parent, whose number stands there as it is. After want of memory the former rows stand
-/// first; which rows follow them isn't told.
-pub fn add_pairs(
+// A pair of a parent, and the bytes of its value where that is nested.
+#[derive(Debug, Drop)]
+pub(crate) struct Placed<'a> {
+    pub(crate) parent: u32,
+    pub(crate) pair: &'a Pair,
+    pub(crate) nested: Vec<u8>,
+}
+
+/// Appends the pairs of a parent.
+pub(crate) fn place_pairs<'a>(
     alloc: Global,
-    table: &mut LogicalTable,
+    placed: &mut Vec<Placed<'a>>,
     parent: u32,
-    pairs: &Items<Pair>,
+    pairs: &'a Items<Pair>,
 ) -> Result<(), AllocError>
-    requires kind { has_attributes table.old.kind ≡ true }
     requires weight { total 32 weight_of_pair pairs.now ≤ weight_limit }
-    ensures ok { OnOk result (table.new ≡ record table.old { rows = table.old.rows ++ map (pair_row parent) pairs.now }) }
-    ensures err { OnErr result (take (length table.old.rows) table.new.rows ≡ table.old.rows) }
-    ensures kind { table.new.kind ≡ table.old.kind }
+    requires nested { All HasNested placed.old.items }
+    ensures are { OnOk result (map seen_placed placed.new.items ≡ map seen_placed placed.old.items ++ map (placed_at parent) pairs.now) }
+    ensures nested { OnOk result (All HasNested placed.new.items) }
 {
-    let mut nested = Vec::new(alloc);
     'pairs: for pair in pairs.as_slice() {
-        nested_bytes(&mut nested, &pair.value)?;
-        add_pair(table, parent, pair, &nested)?;
+        placed.push(place_pair(alloc, parent, pair)?)?;
     }
     Ok(())
 }
 
-fn add_pair(
+fn place_pair<'a>(alloc: Global, parent: u32, pair: &'a Pair) -> Result<Placed<'a>, AllocError>
+    requires { weight_of_value pair.now.value ≤ weight_limit }
+    ensures is { IfOk result (λ placed. seen_placed placed ≡ placed_at parent pair.now) }
+    ensures nested { IfOk result HasNested }
+{
+    let mut nested = Vec::new(alloc);
+    nested_bytes(&mut nested, &pair.value)?;
+    Ok(Placed {
+        parent,
+        pair,
+        nested,
+    })
+}
+
+/// Appends the row of a pair of a parent, whose number stands there as it is. After want of memory the former rows stand
+/// first; whether a row follows them isn't told.
+pub(crate) fn add_pair(
     table: &mut LogicalTable,
     parent: u32,
     pair: &Pair,
@@ -58,4 +81,12 @@ fn add_pair(
         value[5],
         value[6],
     ])
+}
+
+/// The cell of a parent, whose number stands there as it is.
+fn parent_cell<'a>(parent: u32) -> CellView<'a>
+    ensures value { seen result ≡ number (pos parent) }
+    ensures fits { IsCellOf (base.Id true) (seen result) }
+{
+    CellView::Num(i64::from(parent))
 }

@@ -1,24 +1,21 @@
-ghost use Rattle.std.specs.Prelude.{◌≡◌};
+ghost use Rattle.std.specs.Prelude.{◌≡◌, ◌≤◌, ◌^◌, All, IfOk, length};
+ghost use Rattle.std.specs.Borrow.{Bor};
+ghost use Rattle.otlp_model.specs.Limits.{weight_limit};
+ghost use Rattle.otlp_model.specs.Weight.{total, weight_of_pair};
+ghost use Rattle.otlp_model.specs.declared.groups.Resource.{Resource};
 ghost use Rattle.otap_cells.specs.declared.payload.Kind.TheVariants.{LogAttrs};
 
 use super::*;
 use otap_cells::{CellView, Kind, LogicalTable, Rows};
 use otap_groups::RowReader;
-use otlp_model::{Items, Pair, Text, Value, value_weight};
+use otlp_model::{Items, Pair, Resource, Text, Value, value_weight};
 use std::alloc::{AllocError, Global};
 use std::test::Fail;
 
-// Adds a pair, if it weighs little.
+// What has this pair, if it weighs little.
 #[tactic(auto, using(crate::proofs::PairRows::one_pair))]
-fn add_one(
-    alloc: Global,
-    table: &mut LogicalTable,
-    parent: u32,
-    key: &str,
-    value: Value,
-) -> Result<(), AllocError>
-    requires { table.old.kind ≡ LogAttrs }
-    ensures { table.new.kind ≡ LogAttrs }
+fn parent(alloc: Global, key: &str, value: Value) -> Result<Resource, AllocError>
+    ensures { IfOk result (λ parent. total 32 weight_of_pair parent.pairs ≤ weight_limit) }
 {
     if key.len() > 1000 || value_weight(&value) > 1000 {
         return Err(AllocError);
@@ -26,7 +23,21 @@ fn add_one(
     let key = Text::from_str(alloc, key)?;
     let mut pairs = Items::new(alloc);
     pairs.push(Pair { key, value })?;
-    add_pairs(alloc, table, parent, &pairs)
+    Ok(Resource {
+        schema_url: Text::new(alloc),
+        dropped: 0,
+        pairs,
+    })
+}
+
+// The attributes of log records.
+#[tactic(auto, unfolding(crate::specs::Tables::attribute_table))]
+fn table_of(alloc: Global, parents: &[&Resource]) -> Result<LogicalTable, AllocError>
+    requires few { length parents.now ≤ 2 ^ 32 }
+    requires weight { All (λ (parent : Bor Resource). total 32 weight_of_pair parent.now.pairs ≤ weight_limit) parents.now }
+    ensures { IfOk result (λ table. table.kind ≡ LogAttrs) }
+{
+    write_attributes(alloc, Kind::LogAttrs, parents)
 }
 
 fn text(alloc: Global, text: &str) -> Result<Value, AllocError> {
@@ -36,13 +47,13 @@ fn text(alloc: Global, text: &str) -> Result<Value, AllocError> {
 #[test]
 fn rows_are_sorted_and_their_parents_stored_in_runs(rt: HostRuntime) -> Result<(), Fail> {
     let alloc = rt.alloc();
-    let mut table = LogicalTable::new(alloc, Kind::LogAttrs);
-    add_one(alloc, &mut table, 0, "a", text(alloc, "x")?)?;
-    add_one(alloc, &mut table, 0, "b", text(alloc, "y")?)?;
-    add_one(alloc, &mut table, 1, "a", text(alloc, "x")?)?;
-    code_parents(alloc, &mut table)?;
+    let first = parent(alloc, "b", text(alloc, "y")?)?;
+    let second = parent(alloc, "a", text(alloc, "x")?)?;
+    let third = parent(alloc, "a", text(alloc, "x")?)?;
+    let table = table_of(alloc, &[&first, &second, &third])?;
     assert_eq!(rt; table.rows(), 3);
     if table.rows() == 3 {
+        assert_eq!(rt; table.cell(0, 0), CellView::Num(1));
         assert_eq!(rt; table.cell(0, 1), CellView::Num(1));
         assert_eq!(rt; table.cell(1, 1), CellView::Bytes("a".as_bytes()));
         assert_eq!(rt; table.cell(0, 2), CellView::Num(0));
@@ -57,8 +68,8 @@ fn a_nested_value_is_written_and_read(rt: HostRuntime) -> Result<(), Fail> {
     let mut members = Items::new(alloc);
     members.push(Value::Int(1))?;
     members.push(text(alloc, "a")?)?;
-    let mut table = LogicalTable::new(alloc, Kind::LogAttrs);
-    add_one(alloc, &mut table, 0, "k", Value::Array(members))?;
+    let parent = parent(alloc, "k", Value::Array(members))?;
+    let table = table_of(alloc, &[&parent])?;
     assert_eq!(rt; table.rows(), 1);
     if table.rows() == 1 {
         assert_eq!(rt;

@@ -5,15 +5,20 @@ ghost use Rattle.otlp_model.specs.Limits.{weight_limit};
 ghost use Rattle.otlp_model.specs.Weight.{total, weight_of_pair, weight_of_value};
 ghost use Rattle.otap_cells.specs.Continuing.{has_attributes};
 ghost use Rattle.otap_groups.specs.Weighing.{cells_weight, parts_weight};
+ghost use Rattle.otap_groups.specs.Flat.{placed};
+ghost use Rattle.otap_attrs.specs.Inside.{HasNested, seen_placed};
 ghost use Rattle.otap_attrs.specs.Tables.{attribute_table, beside_kind, where_rows};
 ghost use Rattle.otap_attrs.specs.Values.{pair_cells, value_cells};
 
-use crate::pairs::add_pairs;
-use crate::sorting::code_parents;
+use crate::pairs::{Placed, place_pairs};
+use crate::sorting::coded_table;
 use crate::values::capped_len;
 use cbor_values::len_value;
 use otap_cells::{Kind, LogicalTable, Rows};
-use otlp_model::{CAP, Items, LogRecord, Pair, Resource, Scope, Value, add_capped};
+use otlp_model::{
+    CAP, Event, Exemplar, HistPoint, Items, Link, LogRecord, Pair, Point, Resource, Scope, Span,
+    SumPoint, Value, add_capped,
+};
 use std::alloc::{AllocError, Global};
 
 /// What has attributes.
@@ -49,8 +54,64 @@ impl Attributed for LogRecord {
     }
 }
 
+impl Attributed for Span {
+    ghost pairs = { λ s. s.pairs };
+
+    fn pairs(&self) -> &Items<Pair> {
+        &self.pairs
+    }
+}
+
+impl Attributed for Event {
+    ghost pairs = { λ s. s.pairs };
+
+    fn pairs(&self) -> &Items<Pair> {
+        &self.pairs
+    }
+}
+
+impl Attributed for Link {
+    ghost pairs = { λ s. s.pairs };
+
+    fn pairs(&self) -> &Items<Pair> {
+        &self.pairs
+    }
+}
+
+impl Attributed for Point {
+    ghost pairs = { λ s. s.pairs };
+
+    fn pairs(&self) -> &Items<Pair> {
+        &self.pairs
+    }
+}
+
+impl Attributed for HistPoint {
+    ghost pairs = { λ s. s.pairs };
+
+    fn pairs(&self) -> &Items<Pair> {
+        &self.pairs
+    }
+}
+
+impl Attributed for SumPoint {
+    ghost pairs = { λ s. s.pairs };
+
+    fn pairs(&self) -> &Items<Pair> {
+        &self.pairs
+    }
+}
+
+impl Attributed for Exemplar {
+    ghost pairs = { λ s. s.pairs };
+
+    fn pairs(&self) -> &Items<Pair> {
+        &self.pairs
+    }
+}
+
 /// The table of the attributes of some parents, whose numbers are their places. Takes n log n for n attributes.
-#[tactic(auto, unfolding(crate::specs::Tables::attribute_table, otap_groups::specs::Flat::placed))]
+#[tactic(auto, unfolding(crate::specs::Tables::attribute_table))]
 pub fn write_attributes<P: Attributed>(
     alloc: Global,
     kind: Kind,
@@ -61,13 +122,27 @@ pub fn write_attributes<P: Attributed>(
     requires weight { All (λ parent. total 32 weight_of_pair (P.pairs parent.now) ≤ weight_limit) parents.now }
     ensures { IfOk result (λ table. table ≡ attribute_table kind (map (λ parent. P.pairs parent.now) parents.now)) }
 {
-    let mut table = LogicalTable::new(alloc, kind);
+    let placed = placed_of(alloc, parents)?;
+    coded_table(alloc, kind, &placed)
+}
+
+// The pairs of the parents, one parent after the other.
+#[tactic(auto, unfolding(otap_groups::specs::Flat::placed))]
+fn placed_of<'a, P: Attributed>(
+    alloc: Global,
+    parents: &[&'a P],
+) -> Result<Vec<Placed<'a>>, AllocError>
+    requires few { length parents.now ≤ 2 ^ 32 }
+    requires weight { All (λ parent. total 32 weight_of_pair (P.pairs parent.now) ≤ weight_limit) parents.now }
+    ensures are { IfOk result (λ found. map seen_placed found.items ≡ placed (map (λ parent. P.pairs parent.now) parents.now)) }
+    ensures nested { IfOk result (λ found. All HasNested found.items) }
+{
+    let mut found = Vec::new(alloc);
     'parents: for place in 0..parents.len() {
         let pairs = parents[place].pairs();
-        add_pairs(alloc, &mut table, place as u32, pairs)?;
+        place_pairs(alloc, &mut found, place as u32, pairs)?;
     }
-    code_parents(alloc, &mut table)?;
-    Ok(table)
+    Ok(found)
 }
 
 /// Appends a table beside its kind, where it has rows.

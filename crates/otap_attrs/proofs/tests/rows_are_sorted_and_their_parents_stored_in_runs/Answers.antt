@@ -1,14 +1,15 @@
-use Rattle.std.proofs.Common.{◌≡◌, arith}
-use Rattle.otap_cells.specs.declared.payload.Kind.TheVariants.{LogAttrs}
+use Rattle.std.proofs.Common.{arith}
 use Rattle.otap_attrs.proofs.AttributeRows.{log_width}
 use Rattle.otap_attrs.proofs.tests.rows_are_sorted_and_their_parents_stored_in_runs.Goals as goal
 
 pub cell-requires-clause-column : goal.cell-requires-clause-column
-cell-requires-clause-column g c =
-    let same : c.code_parents.new.table.kind ≡ LogAttrs = cc in
-    omega (arith, log_width c.code_parents.new.table.kind same)
+cell-requires-clause-column g c = omega (arith, log_width c.in_ok-table.table.kind c.in_ok-table.ensures)
 
 pub cell-requires-then-rows-eq3-clause-column : goal.cell-requires-then-rows-eq3-clause-column
-cell-requires-then-rows-eq3-clause-column g c =
-    let same : c.code_parents.new.table.kind ≡ LogAttrs = cc in
-    omega (arith, log_width c.code_parents.new.table.kind same)
+cell-requires-then-rows-eq3-clause-column g c = omega (arith, log_width c.in_ok-table.table.kind c.in_ok-table.ensures)
+
+pub cell-requires-then-rows-eq3-2-clause-column : goal.cell-requires-then-rows-eq3-2-clause-column
+cell-requires-then-rows-eq3-2-clause-column g c = omega (arith, log_width c.in_ok-table.table.kind c.in_ok-table.ensures)
+
+pub cell-requires-then-rows-eq3-4-clause-column : goal.cell-requires-then-rows-eq3-4-clause-column
+cell-requires-then-rows-eq3-4-clause-column g c = omega (arith, log_width c.in_ok-table.table.kind c.in_ok-table.ensures)

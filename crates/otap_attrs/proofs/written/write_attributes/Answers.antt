@@ -1,16 +1,15 @@
-use Rattle.std.proofs.Common.{◌≡◌, ◌+◌, ◌∷◌, ◌++◌, drop, map, arith}
-use Rattle.std.specs.Borrow.{Bor}
-use Rattle.std.proofs.lemmas.Grind.{common_steps}
-use Rattle.otap_attrs.specs.Values.{pair_row}
-use Rattle.otap_attrs.proofs.WrittenRows.{rows_step}
+use Rattle.std.proofs.Common.{◌≡◌, List, map, ap, subst, ◌∙◌}
+use Rattle.std.specs.Prelude.{IfOk}
+use Rattle.otap_cells.specs.Cells.{Cell}
+use Rattle.otap_cells.specs.Tables.{profile_table}
+use Rattle.otap_attrs.specs.Inside.{placed_row}
+use Rattle.otap_attrs.specs.Sorting.{coded_rows}
+use Rattle.otap_attrs.specs.Tables.{attribute_table, row_of_pair}
+use Rattle.otap_attrs.proofs.WrittenRows.{rows_of_placed}
 use Rattle.otap_attrs.proofs.written.write_attributes.Goals as goal
 
-pub parents-preserved : goal.parents-preserved
-parents-preserved g c =
-    let elem : drop c.parents.place c.args.parents.now ≡ c.index-parents-place.result ∷ drop (c.parents.place + 1) c.args.parents.now = grind (arith, common_steps) in
-    let grew : c.add_pairs.new.table.rows ≡ c.parents.table.rows ++ map (pair_row c.parents.place) (g.P.Attributed.pairs c.index-parents-place.result.now) = grind (arith, common_steps) in
-    record {
-      table = grind (arith, common_steps);
-      rows = rows_step (λ (parent : Bor g.row.P.Denot). g.P.Attributed.pairs parent.now) c.args.parents.now c.parents.place c.index-parents-place.result
-          c.parents.table.rows c.add_pairs.new.table.rows _ elem grew c.parents.invariant.rows;
-    }
+pub returns : goal.returns
+unfolding attribute_table
+returns g c =
+    let rows = ap (map placed_row) c.deref.ensures.value ∙ rows_of_placed c.in_ok-placed.placed.items ∙ ap (map row_of_pair) c.in_ok-placed.ensures.are in
+    subst (λ (rows : List (List Cell)). IfOk c.coded_table.result (λ table. table ≡ profile_table c.args.kind (coded_rows rows))) rows c.coded_table.ensures
