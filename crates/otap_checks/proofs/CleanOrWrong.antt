@@ -34,7 +34,7 @@ use Rattle.otap_checks.specs.declared.links.Link.{Link}
 use Rattle.otap_checks.specs.declared.links.Parents.{Parents}
 use Rattle.otap_checks.specs.Deciding.{CleanOrWrong, HasByteCells}
 use Rattle.otap_checks.specs.IdDefects.{PastType, Duplicate, Orphan, OrphanIn, Some_column, DuplicateOf, OrphanOf, WrongIn, IdDefect}
-use Rattle.otap_checks.specs.Inside.{AreGiven, IsGiven, IsUnknown}
+use Rattle.otap_checks.specs.Inside.{AreGiven, IsGiven}
 use Rattle.otap_checks.specs.Links.{links_of}
 use Rattle.otap_checks.specs.Reading.{ResourcesDiffer, ScopesDiffer, Disagrees}
 use Rattle.otap_checks.specs.ValueDefects.{WrongValue}
@@ -42,6 +42,10 @@ use Rattle.otap_checks.proofs.Decided.{some_or_none, null_or_not, twice_or_not, 
 use Rattle.otap_checks.proofs.GivenColumns.{nothing_wrong, one_given}
 
 -- ---- the ids of columns
+
+-- the numbers of a column stand for no ids
+abbrev IsUnknown : Table → ℕ → Type 0
+IsUnknown t column = (ids : List (Option ℕ)) → HasIds t column ids → ⊥
 
 -- a column has ids, or none
 ids_or_none : (t : Table) (column : ℕ) → ((ids : List (Option ℕ)) × HasIds t column ids) ⊎ IsUnknown t column
@@ -129,10 +133,10 @@ parents_or_not tables t (Some p) = by_ids (ids_or_none t p.column) (ids_or_none 
 
 -- ---- tables
 
-abbrev SomeWrong : List Table → Table → Link → Type 0
+abbrev pub SomeWrong : List Table → Table → Link → Type 0
 SomeWrong tables t link = (wrong : RowRefusal) × WrongIn tables t link wrong
 
-table_or_wrong : (tables : List Table) (t : Table) (link : Link) → SomeWrong tables t link ⊎ (SomeWrong tables t link → ⊥)
+pub table_or_wrong : (tables : List Table) (t : Table) (link : Link) → SomeWrong tables t link ⊎ (SomeWrong tables t link → ⊥)
 table_or_wrong tables t link = by_parts (all_given t) (own_or_not t link.own) (parents_or_not tables t link.parents)
   where
     by_parts : AreGiven t ⊎ Faulty t → DuplicateOf t link.own ⊎ (DuplicateOf t link.own → ⊥) → OrphanOf tables t link.parents ⊎ (OrphanOf tables t link.parents → ⊥)

@@ -1,30 +1,24 @@
 -- Columns of ids: what a refusal to give them says, and that they are one list.
-use Rattle.std.proofs.Common.{◌≡◌, ◌∙◌, ℕ, Bool, true, codes, List, [], drop, length, Option, Some, None, sym, ap, subst, arith}
+use Rattle.std.proofs.Common.{◌≡◌, ℕ, Bool, true, List, Option, Some, sym, subst}
 use Rattle.otap_attrs.specs.declared.refusal.RowRefusal.{RowRefusal}
 use Rattle.otap_attrs.specs.declared.refusal.RowRefusal.TheVariants as why
 use Rattle.otap_attrs.specs.Refusals.{refusal_of_ids}
-use Rattle.otap_cells.specs.declared.ids.IdFault.{IdFault}
 use Rattle.otap_cells.specs.declared.ids.IdFault.TheVariants as fault
 use Rattle.otap_cells.specs.declared.column_ids.IdsRefusal.{IdsRefusal}
 use Rattle.otap_cells.specs.declared.column_ids.IdsRefusal.TheVariants as refusal
-use Rattle.otap_cells.specs.Columns.{is_id_at, name_at}
-use Rattle.otap_cells.specs.declared.payload.Kind.{Kind}
+use Rattle.otap_cells.specs.Columns.{is_id_at}
 use Rattle.otap_cells.specs.Named.{table_named}
 use Rattle.otap_cells.specs.Ids.{Twice}
-use Rattle.otap_cells.specs.Tables.{Table, coding_in, greatest_in, profile_table}
-use Rattle.otap_cells.specs.ColumnIds.{HasFault, RefusesIds, stored_in}
-use Rattle.otap_cells.specs.Continuing.{again_of, continues_in, ids_in_front}
+use Rattle.otap_cells.specs.Tables.{Table, coding_in, greatest_in}
+use Rattle.otap_cells.specs.ColumnIds.{RefusesIds, stored_in}
+use Rattle.otap_cells.specs.Continuing.{continues_in}
 use Rattle.otap_cells.specs.GivenIds.{HasIds}
-use Rattle.otap_cells.proofs.Flags.{flags_long}
 use Rattle.otap_cells.proofs.IdLaws.{one_list}
 use Rattle.otap_checks.specs.declared.links.Link.{Link}
 use Rattle.otap_checks.specs.declared.links.Parents.{Parents}
 use Rattle.otap_checks.specs.IdDefects.{Duplicate, DuplicateOf, Orphan, OrphanIn, OrphanOf, WrongIn}
-use Rattle.otap_checks.specs.Inside.{AreGiven, ColumnFault, IsGiven, IsUnknown}
+use Rattle.otap_checks.specs.Inside.{AreGiven, ColumnFault}
 use Rattle.otap_checks.specs.Refusing.{RefusesRow}
-
-pub long_enough : (t : Table) (continues : List Bool) → continues ≡ continues_in t → length continues ≡ length t.rows
-long_enough t continues is = ap length is ∙ flags_long (again_of t.kind) (drop (ids_in_front t.kind)) t.rows
 
 -- a refusal to give a column's ids is a fault of the column
 pub column_refused : (t : Table) (column : ℕ) (continues : List Bool) (inner : IdsRefusal) → continues ≡ continues_in t → is_id_at t.kind column ≡ true
@@ -34,19 +28,6 @@ column_refused t column continues (refusal.Ids fault.PastType) is id refuses =
     (column, id, record { summed = λ runs null. refuses.0 null; none = λ ids are. refuses.1 ids (rw is are) })
 column_refused t column continues (refusal.Ids fault.NullParent) is id refuses = (column, id, refuses)
 column_refused t column continues (refusal.Ids fault.Duplicate) is id refuses = absurd refuses
-
--- ids that are given are never refused
-pub never_refused : (t : Table) (column : ℕ) (continues : List Bool) (wrong : IdFault) → continues ≡ continues_in t → IsGiven t column → HasFault t column continues wrong → ⊥
-never_refused t column continues fault.PastType is given refuses = refuses.1 given.ids (rw is given.are)
-never_refused t column continues fault.NullParent is given refuses = given.parents refuses
-never_refused t column continues fault.Duplicate is given refuses = refuses
-
--- a column that isn't one of parents has no ids where they are refused
-pub unknown : (t : Table) (column : ℕ) (continues : List Bool) (wrong : IdFault) → continues ≡ continues_in t → (name_at t.kind column ≡ codes "parent_id" → ⊥)
-    → HasFault t column continues wrong → IsUnknown t column
-unknown t column continues fault.PastType is own refuses = λ ids are. refuses.1 ids (rw is are)
-unknown t column continues fault.NullParent is own refuses = λ ids are. own refuses.named
-unknown t column continues fault.Duplicate is own refuses = absurd refuses
 
 -- a column has one list of ids
 pub one_given : (t : Table) (column : ℕ) (xs ys : List (Option ℕ)) → HasIds t column xs → HasIds t column ys → xs ≡ ys
@@ -66,28 +47,6 @@ nothing_wrong tables t link given own parents why.TwoValues is = is
 nothing_wrong tables t link given own parents why.BadKind is = is
 nothing_wrong tables t link given own parents (why.Memory error) is = is
 
--- a table without rows has nothing wrong
-empty_given : (kind : Kind) → AreGiven (profile_table kind [])
-empty_given kind column id = record { ids = []; are = tt; parents = λ null. absurd (omega (arith, null.null.1)) }
-
-empty_own : (kind : Kind) (own : Option ℕ) → DuplicateOf (profile_table kind []) own → ⊥
-empty_own kind None is = is
-empty_own kind (Some column) is =
-    let none : is.ids ≡ [] = one_given (profile_table kind []) column is.ids [] is.are tt in
-    let twice : Twice [] = subst Twice none is.twice in
-    absurd (omega (arith, twice.1))
-
-empty_parents : (tables : List Table) (kind : Kind) (parents : Option Parents) → OrphanOf tables (profile_table kind []) parents → ⊥
-empty_parents tables kind None is = is
-empty_parents tables kind (Some parents) is =
-    let none : is.parents ≡ [] = one_given (profile_table kind []) parents.column is.parents [] is.are tt in
-    let lost : OrphanIn [] is.ids = subst (λ parents. OrphanIn parents is.ids) none is.orphan in
-    absurd (omega (arith, lost.named.1))
-
-pub empty_clean : (tables : List Table) (kind : Kind) (link : Link) (wrong : RowRefusal) → WrongIn tables (profile_table kind []) link wrong → ⊥
-empty_clean tables kind link wrong is =
-    nothing_wrong tables (profile_table kind []) link (empty_given kind) (empty_own kind link.own) (empty_parents tables kind link.parents) wrong is
-
 -- two rows with one id are told from the ids of the column
 pub own_once : (t : Table) (own : Option ℕ) (column : ℕ) (ids : List (Option ℕ)) → own ≡ Some column → HasIds t column ids → (Twice ids → ⊥) → DuplicateOf t own → ⊥
 own_once t own column ids is are once dup =
@@ -101,12 +60,6 @@ no_orphan tables t parents above named known is are are_known none orphan =
     let here : Orphan t above.column (table_named above.of tables) above.at = subst (OrphanOf tables t) is orphan in
     none (subst (λ ids. OrphanIn ids known) (one_given t above.column here.parents named here.are are)
     (subst (OrphanIn here.parents) (one_given (table_named above.of tables) above.at here.ids known here.known are_known) here.orphan))
-
-pub unknown_parents : (tables : List Table) (t : Table) (parents : Option Parents) (above : Parents) → parents ≡ Some above
-    → IsUnknown (table_named above.of tables) above.at → OrphanOf tables t parents → ⊥
-unknown_parents tables t parents above is none orphan =
-    let here : Orphan t above.column (table_named above.of tables) above.at = subst (OrphanOf tables t) is orphan in
-    none here.ids here.known
 
 pub an_orphan : (tables : List Table) (t : Table) (parents : Option Parents) (above : Parents) (named known : List (Option ℕ)) → parents ≡ Some above
     → HasIds t above.column named → HasIds (table_named above.of tables) above.at known → OrphanIn named known → OrphanOf tables t parents

@@ -1,23 +1,18 @@
 -- The tables of each signal hang together by columns of ids.
-use Rattle.std.proofs.Common.{◌≡◌, ◌∙◌, ℕ, zero, suc, ◌<◌, ◌≤◌, ◌+◌, List, [], ◌∷◌, get_or, length, codes, true, false, inl, inr, refl, sym, ap, subst, arith}
+use Rattle.std.proofs.Common.{◌≡◌, ◌∙◌, ℕ, zero, suc, ◌<◌, List, [], ◌∷◌, get_or, length, codes, Option, None, Some, true, false, refl, sym, ap, subst, arith}
+use Rattle.std.specs.Prelude.{Contains}
 use Rattle.std.specs.Str.{bytes_eq}
-use Rattle.std.proofs.lemmas.Bool.{false≢true, cases_eq}
+use Rattle.std.proofs.lemmas.Bool.{false≢true}
 use Rattle.std.proofs.lemmas.List.{get_or_default}
 use Rattle.otlp_model.specs.declared.request.Signal.{Signal}
 use Rattle.otlp_model.specs.declared.request.Signal.TheVariants as signal
 use Rattle.otap_cells.specs.declared.payload.Kind.{Kind}
+use Rattle.otap_cells.specs.declared.payload.Kind.TheVariants as table
+use Rattle.otap_checks.specs.declared.links.Parents.{Parents}
 use Rattle.otap_cells.specs.Columns.{is_id_at, name_at, logs, spans, metrics, attrs, deep_attrs, span_events, span_links, number_points, summary_points, hist_points, exemplars}
-use Rattle.otap_cells.specs.Tables.{Table}
-use Rattle.otap_cells.specs.Named.{table_named}
-use Rattle.otap_attrs.specs.declared.refusal.RowRefusal.{RowRefusal}
-use Rattle.otap_attrs.specs.declared.refusal.RowRefusal.TheVariants as why
-use Rattle.otap_attrs.specs.declared.refusal.CheckRefusal.{CheckRefusal}
-use Rattle.otap_attrs.specs.declared.refusal.CheckRefusal.TheVariants as check
 use Rattle.otap_checks.specs.declared.links.Link.{Link}
 use Rattle.otap_checks.specs.Links.{links_of, items, parts, attributes}
-use Rattle.otap_checks.specs.IdDefects.{IdDefect, WrongIn}
-use Rattle.otap_checks.specs.Inside.{IsLinked, IsAbove, IsClean, WrongWith, refused_as}
-use Rattle.otap_checks.specs.Refusing.{RefusesCheck, RefusesRow}
+use Rattle.otap_checks.specs.Inside.{IsLinked, IsAbove}
 
 abbrev AllLinked : List Link → Type 0
 AllLinked [] = Unit {0}
@@ -54,46 +49,79 @@ all_linked signal.Metrics = (item refl, (below refl refl refl, (below refl refl 
 pub is_linked : (of : Signal) (links : List Link) (k : ℕ) (d : Link) → links ≡ links_of of → k < length links → IsLinked (get_or links k d)
 is_linked of links k d are within = linked_at links k d (subst AllLinked (sym are) (all_linked of)) within
 
--- a clean table more
-pub clean_more : (tables : List Table) (links : List Link) (place : ℕ) (e : Link) → place < length links
-    → ((k : ℕ) (d : Link) → k < place → IsClean tables (get_or links k d)) → IsClean tables (get_or links place e)
-    → (k : ℕ) (d : Link) → k < place + 1 → IsClean tables (get_or links k d)
-clean_more tables links place e within below here k d less =
-    elim (cases_eq k place) [
-      | inl equal ↦ subst (IsClean tables) (sym (ap (λ n. get_or links n d) equal ∙ get_or_default links place d e within)) here
-      | inr differ ↦ below k d (omega (arith, differ))
-    ]
+-- ---- the tables of parents are there
 
--- no table has a defect where each is clean
-pub all_clean : (of : Signal) (tables : List Table) (links : List Link) (count : ℕ) → links ≡ links_of of → length links ≤ count
-    → ((k : ℕ) (d : Link) → k < count → IsClean tables (get_or links k d)) → (kind : Kind) (wrong : RowRefusal) → IdDefect of tables kind wrong → ⊥
-all_clean of tables links count are all clean kind wrong defect =
-    let listed = defect.listed in
-    let there : listed.0 < length links = rw are listed.1 in
-    let here : get_or links listed.0 defect.link ≡ defect.link = ap (λ links. get_or links listed.0 defect.link) are ∙ listed.2 in
-    let link_clean : IsClean tables defect.link = subst (IsClean tables) here (clean listed.0 defect.link (omega arith)) in
-    link_clean wrong (subst (λ kind. WrongIn tables (table_named kind tables) defect.link wrong) (sym defect.names) defect.is)
+abbrev HasParents : List Link → Option Parents → Type 0
+HasParents links None = Unit {0}
+HasParents links (Some parents) = (other : Link) × Contains links other × (other.kind ≡ parents.of)
 
--- a refusal of a link's table is a refusal of the batch
-pub refuses_table : (tables : List Table) (link : Link) (wrong : RowRefusal) → RefusesRow (WrongIn tables (table_named link.kind tables) link) wrong
-    → RefusesCheck (WrongWith tables link) (refused_as link.kind wrong)
-refuses_table tables link (why.Memory error) refuses = tt
-refuses_table tables link (why.Ids fault) refuses = (refl, refuses)
-refuses_table tables link why.Orphan refuses = (refl, refuses)
-refuses_table tables link why.Disagree refuses = (refl, refuses)
-refuses_table tables link why.BadValueType refuses = (refl, refuses)
-refuses_table tables link (why.BadCbor refusal) refuses = (refl, refuses)
-refuses_table tables link why.TwoValues refuses = (refl, refuses)
-refuses_table tables link why.BadKind refuses = (refl, refuses)
+abbrev AllHaveParents : List Link → List Link → Type 0
+AllHaveParents all [] = Unit {0}
+AllHaveParents all (link ∷ links) = HasParents all link.parents × AllHaveParents all links
 
-pub refuses_batch : (of : Signal) (tables : List Table) (links : List Link) (place : ℕ) (d : Link) (refusal : CheckRefusal) → links ≡ links_of of → place < length links
-    → RefusesCheck (WrongWith tables (get_or links place d)) refusal → RefusesCheck (IdDefect of tables) refusal
-refuses_batch of tables links place d (check.Memory error) are within refuses = tt
-refuses_batch of tables links place d (check.Defect kind wrong) are within refuses =
-    let link : Link = get_or links place d in
-    record {
-      link = link;
-      listed = (place, rw (← are) within, ap (λ links. get_or links place link) (sym are) ∙ get_or_default links place link d within);
-      names = sym refuses.0;
-      is = refuses.1;
-    }
+parents_at : (all links : List Link) (k : ℕ) (d : Link) → AllHaveParents all links → k < length links → HasParents all (get_or links k d).parents
+parents_at all [] k d have within = absurd (omega arith)
+parents_at all (link ∷ links) zero d have within = have.0
+parents_at all (link ∷ links) (suc k) d have within = parents_at all links k d have.1 (omega arith)
+
+-- below the link at a place of this list
+below_at : (all : List Link) (k : ℕ) (of : Kind) → k < length all → (get_or all k (items of)).kind ≡ of → (other : Link) × Contains all other × (other.kind ≡ of)
+below_at all k of within is = let other : Link = get_or all k (items of) in (other, (k, within, get_or_default all k other (items of) within), is)
+
+all_have_parents : (of : Signal) → AllHaveParents (links_of of) (links_of of)
+unfolding links_of
+all_have_parents signal.Logs =
+    let main = below_at (links_of signal.Logs) 0 table.Logs (omega arith) refl in (tt, (main, (main, (main, tt))))
+all_have_parents signal.Traces =
+    let at = below_at (links_of signal.Traces) in
+    let main = at 0 table.Spans (omega arith) refl in
+    (tt, (main, (main, (main, (main, (main, (at 4 table.SpanEvents (omega arith) refl, (at 5 table.SpanLinks (omega arith) refl, tt))))))))
+all_have_parents signal.Metrics =
+    let at = below_at (links_of signal.Metrics) in
+    let main = at 0 table.Metrics (omega arith) refl in
+    let numbers = at 3 table.NumberPoints (omega arith) refl in
+    let hists = at 5 table.HistPoints (omega arith) refl in (
+      tt,
+      (
+        main,
+        (
+          main,
+          (
+            main,
+            (
+              main,
+              (
+                main,
+                (
+                  numbers,
+                  (
+                    at 4 table.SummaryPoints (omega arith) refl,
+                    (
+                      hists,
+                      (
+                        numbers,
+                        (
+                          hists,
+                          (at 9 table.NumberExemplars (omega arith) refl, (at 10 table.HistExemplars (omega arith) refl, tt)),
+                        ),
+                      ),
+                    ),
+                  ),
+                ),
+              ),
+            ),
+          ),
+        ),
+      ),
+    )
+
+-- the parents of a listed link are among the listed tables
+pub parents_listed : (of : Signal) (link : Link) (above : Parents) → Contains (links_of of) link → link.parents ≡ Some above
+    → (other : Link) × Contains (links_of of) other × (other.kind ≡ above.of)
+parents_listed of link above listed is =
+    let have : HasParents (links_of of) link.parents =
+    subst (λ (l : Link). HasParents (links_of of) l.parents) listed.2 (parents_at (links_of of) (links_of of) listed.0 link (all_have_parents of) listed.1) in
+    subst (HasParents (links_of of)) is have
+
+pub linked : (of : Signal) (link : Link) → Contains (links_of of) link → IsLinked link
+linked of link listed = subst IsLinked listed.2 (is_linked of (links_of of) listed.0 link refl listed.1)

@@ -48,3 +48,10 @@ pub none_lacks : (parents : List (Option ℕ)) (sorted : List ℕ) (count : ℕ)
 none_lacks parents sorted count all there lacks =
     let at = lacks.named in
     lacks.missing (there at.0 lacks.parent (omega (arith, at.1)) (get_or_default parents at.0 None (Some lacks.parent) at.1 ∙ at.2))
+
+-- the same of ids
+pub none_missing : (parents ids : List (Option ℕ)) (count : ℕ) → length parents ≤ count
+    → ((k n : ℕ) → k < count → get_or parents k None ≡ Some n → Contains ids (Some n)) → OrphanIn parents ids → ⊥
+none_missing parents ids count all there orphan =
+    let at = orphan.named in
+    orphan.missing (there at.0 orphan.parent (omega (arith, at.1)) (get_or_default parents at.0 None (Some orphan.parent) at.1 ∙ at.2))

@@ -145,7 +145,7 @@ number_back table.SpanLinks = refl
 number_back table.EventAttrs = refl
 number_back table.LinkAttrs = refl
 
-same_kind : (a b : Kind) → is_kind a b ≡ true → a ≡ b
+pub same_kind : (a b : Kind) → is_kind a b ≡ true → a ≡ b
 same_kind a b is = sym (number_back a) ∙ ap kind_of_number (eqb-true (number_of a) (number_of b) is) ∙ number_back b
 
 -- the table of a kind is of the kind

@@ -13,7 +13,10 @@ use Rattle.otap_cells.specs.Tables.{Table}
 use Rattle.otap_checks.specs.declared.links.Link.{Link}
 use Rattle.otap_checks.specs.declared.links.Parents.{Parents}
 use Rattle.otap_cells.specs.Named.{table_named}
-use Rattle.otap_checks.specs.IdDefects.{PastType, Some_column, DuplicateOf, OrphanOf, WrongIn}
+use Rattle.otap_checks.specs.IdDefects.{OrphanIn, PastType, Some_column}
+use Rattle.otap_checks.specs.Known.{IsKnown, ids_named, is_column}
+use Rattle.otap_checks.specs.declared.known.ColumnIds.{ColumnIds}
+use Rattle.otap_cells.specs.Ids.{Twice}
 
 -- ---- links
 
@@ -54,17 +57,46 @@ ColumnFault t (why.Ids fault.PastType) = Some_column PastType t
 ColumnFault t (why.Ids fault.NullParent) = Some_column HasNullParent t
 ColumnFault t _ = ⊥
 
-abbrev pub OwnFault : Table → Option ℕ → RowRefusal → Type 0
-OwnFault t own (why.Ids fault.Duplicate) = DuplicateOf t own
-OwnFault t own _ = ⊥
+-- the same of the table of a kind, and of one of the tables that hang together in these ways
+abbrev pub ColumnWrong : List Table → Kind → Kind → RowRefusal → Type 0
+ColumnWrong tables kind named wrong = (named ≡ kind) × ColumnFault (table_named kind tables) wrong
 
-abbrev pub ParentFault : List Table → Table → Option Parents → RowRefusal → Type 0
-ParentFault tables t parents why.Orphan = OrphanOf tables t parents
-ParentFault tables t parents _ = ⊥
+abbrev pub ColumnsWrong : List Table → List Link → Kind → RowRefusal → Type 0
+ColumnsWrong tables links kind wrong = (link : Link) × Contains links link × ColumnWrong tables link.kind kind wrong
 
--- the numbers of a column stand for no ids
-abbrev pub IsUnknown : Table → ℕ → Type 0
-IsUnknown t column = (ids : List (Option ℕ)) → HasIds t column ids → ⊥
+-- ---- ids that are known
+
+abbrev pub IsRight : List Table → ColumnIds → Type 0
+IsRight tables known = IsKnown (table_named known.kind tables) known.column known.ids.items
+
+-- each column of ids is there
+abbrev pub HasColumns : Kind → List ColumnIds → Type 0
+HasColumns kind known = (column : ℕ) → is_id_at kind column ≡ true → (ids : ColumnIds) × Contains known ids × (is_column kind column ids ≡ true)
+
+-- what was there is there
+abbrev pub Keeps : List ColumnIds → List ColumnIds → Type 0
+Keeps old new = (ids : ColumnIds) → Contains old ids → Contains new ids
+
+-- two rows have one id; a parent isn't there
+abbrev pub OwnTwice : List ColumnIds → Link → Option ℕ → Type 0
+OwnTwice known link None = ⊥
+OwnTwice known link (Some column) = Twice (ids_named link.kind column known)
+
+abbrev pub IsLost : List ColumnIds → Link → Option Parents → Type 0
+IsLost known link None = ⊥
+IsLost known link (Some parents) = OrphanIn (ids_named link.kind parents.column known) (ids_named parents.of parents.at known)
+
+-- what is wrong with the ids of a table, where they are known
+abbrev pub KnownFault : List ColumnIds → Link → RowRefusal → Type 0
+KnownFault known link (why.Ids fault.Duplicate) = OwnTwice known link link.own
+KnownFault known link why.Orphan = IsLost known link link.parents
+KnownFault known link _ = ⊥
+
+abbrev pub KnownWrong : List ColumnIds → Link → Kind → RowRefusal → Type 0
+KnownWrong known link kind wrong = (kind ≡ link.kind) × KnownFault known link wrong
+
+abbrev pub KnownFaults : List ColumnIds → List Link → Kind → RowRefusal → Type 0
+KnownFaults known links kind wrong = (link : Link) × Contains links link × KnownWrong known link kind wrong
 
 -- ---- numbers
 
@@ -81,11 +113,6 @@ abbrev pub refused_as : Kind → RowRefusal → CheckRefusal
 refused_as kind (why.Memory error) = check.Memory error
 refused_as kind refusal = check.Defect kind refusal
 
--- ---- the tables of a set
-
--- nothing is wrong with the table of a link; something is
-abbrev pub IsClean : List Table → Link → Type 0
-IsClean tables link = (wrong : RowRefusal) → WrongIn tables (table_named link.kind tables) link wrong → ⊥
-
-abbrev pub WrongWith : List Table → Link → Kind → RowRefusal → Type 0
-WrongWith tables link kind wrong = (kind ≡ link.kind) × WrongIn tables (table_named kind tables) link wrong
+-- nothing is wrong with rows
+abbrev pub Nothing : Kind → RowRefusal → Type 0
+Nothing kind wrong = ⊥

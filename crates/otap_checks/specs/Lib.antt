@@ -1,8 +1,10 @@
 pub mod Deciding
 pub mod IdDefects
 pub mod Inside
+pub mod Known
 pub mod Links
 pub mod Pairing
 pub mod Reading
 pub mod Refusing
+pub mod Regrouping
 pub mod ValueDefects

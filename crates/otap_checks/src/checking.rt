@@ -1,18 +1,22 @@
 //! What is wrong with the ids of a batch.
-ghost use Rattle.std.specs.Prelude.{◌≡◌, [], IfErr, IfSome, OnOk, MatchOption};
+ghost use Rattle.std.specs.Prelude.{◌≡◌, [], true, false, All, Contains, IfErr, IfOk, IfSome, OnOk, MatchOption};
 ghost use Rattle.otap_cells.specs.declared.payload.Kind.{Kind};
 ghost use Rattle.otap_cells.specs.Named.{table_named};
 ghost use Rattle.otap_cells.specs.Sets.{IsSet, tables_in};
 ghost use Rattle.otap_cells.specs.Tables.{profile_table};
 ghost use Rattle.otap_attrs.specs.declared.refusal.RowRefusal.{RowRefusal};
-ghost use Rattle.otap_checks.specs.IdDefects.{IdDefect, WrongIn};
-ghost use Rattle.otap_checks.specs.Inside.{IsClean, IsLinked, WrongWith, refused_as};
-ghost use Rattle.otap_checks.specs.Refusing.{RefusesCheck, RefusesRow};
+ghost use Rattle.otap_checks.specs.declared.links.Link.{Link};
+ghost use Rattle.otap_checks.specs.IdDefects.{IdDefect};
+ghost use Rattle.otap_checks.specs.Inside.{IsLost, KnownFault, KnownFaults, KnownWrong, OwnTwice, refused_as};
+ghost use Rattle.otap_checks.specs.Known.{Knows};
+ghost use Rattle.otap_checks.specs.Links.{links_of};
+ghost use Rattle.otap_checks.specs.Refusing.{RefusesCheck};
 
-use crate::columns::{check_columns, check_own, check_parents};
+use crate::known::{KnownIds, read_tables};
 use crate::links::{Link, links_of};
+use crate::orphans::has_orphan;
 use otap_attrs::{CheckRefusal, RowRefusal};
-use otap_cells::{Kind, Rows, TableSet, continuing_rows};
+use otap_cells::{IdFault, Kind, Rows, TableSet, has_twice};
 use otlp_model::Signal;
 use std::alloc::{AllocError, Global};
 
@@ -26,26 +30,83 @@ pub fn check_ids<R: Rows>(
     ensures ok { OnOk result ((kind : Kind) (why : RowRefusal) → IdDefect signal (tables_in R.table set.now.tables.items) kind why → ⊥) }
     ensures err { IfErr result (RefusesCheck (IdDefect signal (tables_in R.table set.now.tables.items))) }
 {
-    let all = links_of(signal);
-    'links: for place in 0..all.len() {
-        check_link(alloc, set, &all[place])?;
+    known_ids(alloc, set, signal)?;
+    Ok(())
+}
+
+/// The ids of the tables of a batch, where nothing is wrong with them. Each column is read once. Takes n log n for n rows, and
+/// time in proportion to them where ids and parents rise.
+pub fn known_ids<R: Rows>(
+    alloc: Global,
+    set: &TableSet<R>,
+    signal: Signal,
+) -> Result<KnownIds, CheckRefusal>
+    requires { IsSet R.table set.now.tables.items }
+    ensures clean { OnOk result ((kind : Kind) (why : RowRefusal) → IdDefect signal (tables_in R.table set.now.tables.items) kind why → ⊥) }
+    ensures known { IfOk result (λ known. (link : Link) → Contains (links_of signal) link
+        → Knows (table_named link.kind (tables_in R.table set.now.tables.items)) link.kind known.columns.items) }
+    ensures err { IfErr result (RefusesCheck (IdDefect signal (tables_in R.table set.now.tables.items))) }
+{
+    let links = links_of(signal);
+    let known = read_tables(alloc, set, links)?;
+    match check_links(alloc, &known, links) {
+        Ok(()) => Ok(known),
+        Err(refusal) => Err(refusal),
+    }
+}
+
+fn check_links(alloc: Global, known: &KnownIds, links: &[Link]) -> Result<(), CheckRefusal>
+    ensures ok { OnOk result (All (λ (link : Link). (why : RowRefusal) → KnownFault known.now.columns.items link why → ⊥) links.now) }
+    ensures err { IfErr result (RefusesCheck (KnownFaults known.now.columns.items links.now)) }
+{
+    'links: for place in 0..links.len() {
+        check_link(alloc, known, &links[place])?;
     }
     Ok(())
 }
 
-fn check_link<R: Rows>(alloc: Global, set: &TableSet<R>, link: &Link) -> Result<(), CheckRefusal>
-    requires set { IsSet R.table set.now.tables.items }
-    requires linked { IsLinked link.now }
-    ensures ok { OnOk result (IsClean (tables_in R.table set.now.tables.items) link.now) }
-    ensures err { IfErr result (RefusesCheck (WrongWith (tables_in R.table set.now.tables.items) link.now)) }
+fn check_link(alloc: Global, known: &KnownIds, link: &Link) -> Result<(), CheckRefusal>
+    ensures ok { OnOk result ((why : RowRefusal) → KnownFault known.now.columns.items link.now why → ⊥) }
+    ensures err { IfErr result (RefusesCheck (KnownWrong known.now.columns.items link.now)) }
 {
-    let Some(rows) = table_of(set, link.kind) else {
-        return Ok(());
-    };
-    match check_table(alloc, set, rows, link) {
-        Ok(()) => Ok(()),
-        Err(why) => Err(refused(link.kind, why)),
+    if has_id_twice(alloc, known, link)? {
+        return Err(CheckRefusal::Defect {
+            kind: link.kind,
+            why: RowRefusal::Ids(IdFault::Duplicate),
+        });
     }
+    if has_lost_row(alloc, known, link)? {
+        return Err(CheckRefusal::Defect {
+            kind: link.kind,
+            why: RowRefusal::Orphan,
+        });
+    }
+    Ok(())
+}
+
+// Whether two rows have one id.
+fn has_id_twice(alloc: Global, known: &KnownIds, link: &Link) -> Result<bool, AllocError>
+    ensures yes { IfOk result (λ found. found ≡ true → OwnTwice known.now.columns.items link.now link.now.own) }
+    ensures no { IfOk result (λ found. found ≡ false → OwnTwice known.now.columns.items link.now link.now.own → ⊥) }
+{
+    let Some(column) = link.own else {
+        return Ok(false);
+    };
+    let found = has_twice(alloc, known.of(link.kind, column))?;
+    Ok(found)
+}
+
+// Whether a row has a parent that isn't there.
+fn has_lost_row(alloc: Global, known: &KnownIds, link: &Link) -> Result<bool, AllocError>
+    ensures yes { IfOk result (λ found. found ≡ true → IsLost known.now.columns.items link.now link.now.parents) }
+    ensures no { IfOk result (λ found. found ≡ false → IsLost known.now.columns.items link.now link.now.parents → ⊥) }
+{
+    let Some(above) = link.parents else {
+        return Ok(false);
+    };
+    let parents = known.of(link.kind, above.column);
+    let found = has_orphan(alloc, parents, known.of(above.of, above.at))?;
+    Ok(found)
 }
 
 /// The table of a kind. One that isn't there has no rows.
@@ -66,23 +127,4 @@ pub fn refused(kind: Kind, why: RowRefusal) -> CheckRefusal
         RowRefusal::Memory(error) => CheckRefusal::Memory(error),
         why => CheckRefusal::Defect { kind, why },
     }
-}
-
-fn check_table<R: Rows>(
-    alloc: Global,
-    set: &TableSet<R>,
-    rows: &R,
-    link: &Link,
-) -> Result<(), RowRefusal>
-    requires set { IsSet R.table set.now.tables.items }
-    requires kind { (R.table rows.now).kind ≡ link.now.kind }
-    requires linked { IsLinked link.now }
-    ensures ok { OnOk result ((why : RowRefusal) → WrongIn (tables_in R.table set.now.tables.items) (R.table rows.now) link.now why → ⊥) }
-    ensures err { IfErr result (RefusesRow (WrongIn (tables_in R.table set.now.tables.items) (R.table rows.now) link.now)) }
-{
-    let continues = continuing_rows(alloc, rows)?;
-    check_columns(alloc, rows, &continues)?;
-    check_own(alloc, rows, &continues, link.own)?;
-    check_parents(alloc, set, rows, &continues, link.parents)?;
-    Ok(())
 }

@@ -2,17 +2,19 @@
 #![tactic(auto)]
 
 mod checking;
-mod columns;
 mod fronts;
+mod known;
 pub mod laws;
 mod links;
 mod orphans;
 mod pairs;
+mod regrouping;
 mod values;
 
-pub use checking::{check_ids, refused, table_of};
-pub use columns::given_ids;
+pub use checking::{check_ids, known_ids, refused, table_of};
 pub use fronts::{disagrees, front_of};
+pub use known::{ColumnIds, KnownIds};
 pub use links::{Link, Parents, links_of};
 pub use pairs::{TablePairs, index_pairs};
+pub use regrouping::{Grouped, RegroupRefusal, groups_within};
 pub use values::check_values;

@@ -6,14 +6,14 @@ ghost use Rattle.otap_cells.specs.Named.{table_named};
 ghost use Rattle.otap_cells.specs.Sets.{IsSet, tables_in};
 ghost use Rattle.otap_attrs.specs.Values.{pair_in};
 ghost use Rattle.otap_groups.specs.Inside.{found};
-ghost use Rattle.otap_checks.specs.Inside.{AreGiven};
+ghost use Rattle.otap_checks.specs.Known.{Knows};
 ghost use Rattle.otap_checks.specs.Pairing.{cells_or};
 ghost use Rattle.otap_checks.specs.Reading.{pairs_in};
 
 use crate::checking::table_of;
-use crate::columns::given_ids;
+use crate::known::KnownIds;
 use otap_attrs::Pairs;
-use otap_cells::{Kind, Rows, TableSet, continuing_rows};
+use otap_cells::{Kind, Rows, TableSet};
 use otap_groups::{Children, RowReader};
 use otlp_model::Pair;
 use std::alloc::{AllocError, Global};
@@ -49,29 +49,29 @@ impl<R: Rows> RowReader for TablePairs<'_, R> {
     }
 }
 
-/// Finds the pairs of a parent in the table of a kind. A table that isn't there has none. Takes n log n for n rows.
+/// Finds the pairs of a parent in the table of a kind, by the parents of its rows. A table that isn't there has none. Takes
+/// n log n for n rows, and time in proportion to them where parents rise.
 pub fn index_pairs<'a, R: Rows>(
     alloc: Global,
     set: &'a TableSet<R>,
     kind: Kind,
-) -> Result<Children<TablePairs<'a, R>>, AllocError>
+    known: &KnownIds,
+) -> Result<Children<'a, TablePairs<'a, R>>, AllocError>
     requires set { IsSet R.table set.now.tables.items }
     requires kind { has_attributes kind ≡ true }
-    requires given { AreGiven (table_named kind (tables_in R.table set.now.tables.items)) }
+    requires known { Knows (table_named kind (tables_in R.table set.now.tables.items)) kind known.now.columns.items }
     ensures { IfOk result (λ made. (parent : Option ℕ)
-        → found (λ id cells. pair_in cells) made.ids.items (cells_or (λ p. map (drop 1) (R.table p.rows.now).rows) made.reader.pairs) made.entries.items parent
+        → found (λ id cells. pair_in cells) made.ids.now (cells_or (λ p. map (drop 1) (R.table p.rows.now).rows) made.reader.pairs) made.entries.items parent
         ≡ pairs_in (table_named kind (tables_in R.table set.now.tables.items)) parent) }
 {
     let Some(rows) = table_of(set, kind) else {
         let none = TablePairs { pairs: None };
-        let made = Children::new(alloc, none, Vec::new(alloc), &[])?;
+        let made = Children::new(alloc, none, &[], &[])?;
         return Ok(made);
     };
-    let continues = continuing_rows(alloc, rows)?;
-    let parents = given_ids(alloc, rows, &continues, 0)?;
     let pairs = TablePairs {
         pairs: Some(Pairs { rows }),
     };
-    let made = Children::new(alloc, pairs, Vec::new(alloc), &parents)?;
+    let made = Children::new(alloc, pairs, &[], known.of(kind, 0))?;
     Ok(made)
 }

@@ -1,0 +1,95 @@
+-- Steps of reading the ids of tables: a column more, and a table more.
+use Rattle.std.proofs.Common.{◌≡◌, ℕ, ◌<◌, ◌+◌, true, false, List, [], ◌∷◌, ◌++◌, get_or, length, inl, inr, refl, sym, ◌∙◌, ap, subst, arith}
+use Rattle.std.specs.Prelude.{Contains}
+use Rattle.std.proofs.lemmas.Bool.{cases_eq, eq-eqb, false≢true}
+use Rattle.std.proofs.lemmas.List.{get_or_default}
+use Rattle.std.proofs.lemmas.List.Elements.{Contains-append_left, Contains-append_right}
+use Rattle.otap_cells.specs.declared.payload.Kind.{Kind}
+use Rattle.otap_cells.specs.Columns.{is_id_at}
+use Rattle.otap_cells.specs.Named.{table_named}
+use Rattle.otap_cells.specs.Payload.{number_of}
+use Rattle.otap_cells.specs.Tables.{Table}
+use Rattle.otap_attrs.specs.declared.refusal.RowRefusal.{RowRefusal}
+use Rattle.otap_attrs.specs.declared.refusal.RowRefusal.TheVariants as why
+use Rattle.otap_attrs.specs.declared.refusal.CheckRefusal.{CheckRefusal}
+use Rattle.otap_attrs.specs.declared.refusal.CheckRefusal.TheVariants as check
+use Rattle.otap_checks.specs.declared.known.ColumnIds.{ColumnIds}
+use Rattle.otap_checks.specs.declared.links.Link.{Link}
+use Rattle.otap_checks.specs.Inside.{ColumnFault, ColumnWrong, ColumnsWrong, HasColumns, Keeps, KnownFault, KnownFaults, KnownWrong, refused_as}
+use Rattle.otap_checks.specs.Known.{is_column}
+use Rattle.otap_checks.specs.Refusing.{RefusesCheck, RefusesRow}
+
+-- the columns of ids below a place are there
+abbrev pub HasBelow : Kind → ℕ → List ColumnIds → Type 0
+HasBelow kind place known = (k : ℕ) → k < place → is_id_at kind k ≡ true → (ids : ColumnIds) × Contains known ids × (is_column kind k ids ≡ true)
+
+pub passed_over : (kind : Kind) (place : ℕ) (known : List ColumnIds) → is_id_at kind place ≡ false → HasBelow kind place known → HasBelow kind (place + 1) known
+passed_over kind place known other below k less id =
+    elim (cases_eq k place) [
+      | inl equal ↦ absurd (false≢true (sym other ∙ ap (is_id_at kind) (sym equal) ∙ id))
+      | inr differ ↦ below k (omega (arith, differ)) id
+    ]
+
+its_column : (kind : Kind) (place : ℕ) (ids : ColumnIds) → ids.kind ≡ kind → ids.column ≡ place → is_column kind place ids ≡ true
+its_column kind place ids of at = rw (of, at, eq-eqb (number_of kind) (number_of kind) refl, eq-eqb place place refl) refl
+
+pub keeps_more : (old known new : List ColumnIds) (ids : ColumnIds) → new ≡ known ++ ids ∷ [] → Keeps old known → Keeps old new
+keeps_more old known new ids is keeps one there = subst (λ xs. Contains xs one) (sym is) (Contains-append_left known (ids ∷ []) one (keeps one there))
+
+pub one_column_more : (kind : Kind) (place : ℕ) (known new : List ColumnIds) (ids : ColumnIds) → new ≡ known ++ ids ∷ [] → ids.kind ≡ kind → ids.column ≡ place
+    → HasBelow kind place known → HasBelow kind (place + 1) new
+one_column_more kind place known new ids is of at below k less id =
+    elim (cases_eq k place) [
+      | inl equal ↦ (
+        ids,
+        subst (λ xs. Contains xs ids) (sym is) (Contains-append_right known (ids ∷ []) ids (0, omega arith, refl)),
+        its_column kind k ids of (at ∙ sym equal),
+      )
+      | inr differ ↦ let there = below k (omega (arith, differ)) id in
+          (there.0, subst (λ xs. Contains xs there.0) (sym is) (Contains-append_left known (ids ∷ []) there.0 there.1), there.2)
+    ]
+
+pub one_table_more : (links : List Link) (place : ℕ) (e : Link) (known new : List ColumnIds) → place < length links → Keeps known new
+    → ((k : ℕ) (d : Link) → k < place → HasColumns (get_or links k d).kind known) → HasColumns (get_or links place e).kind new
+    → (k : ℕ) (d : Link) → k < place + 1 → HasColumns (get_or links k d).kind new
+one_table_more links place e known new within keeps below here k d less =
+    elim (cases_eq k place) [
+      | inl equal ↦ subst (λ (link : Link). HasColumns link.kind new) (sym (ap (λ n. get_or links n d) equal ∙ get_or_default links place d e within)) here
+      | inr differ ↦ λ column id. let there = below k d (omega (arith, differ)) column id in (there.0, keeps there.0 there.1, there.2)
+    ]
+
+-- a link more has nothing wrong
+pub one_link_more : (known : List ColumnIds) (links : List Link) (place : ℕ) (e : Link) → place < length links
+    → ((k : ℕ) (d : Link) → k < place → (wrong : RowRefusal) → KnownFault known (get_or links k d) wrong → ⊥) → ((wrong : RowRefusal) → KnownFault known (get_or links place e) wrong → ⊥)
+    → (k : ℕ) (d : Link) → k < place + 1 → (wrong : RowRefusal) → KnownFault known (get_or links k d) wrong → ⊥
+one_link_more known links place e within below here k d less =
+    elim (cases_eq k place) [
+      | inl equal ↦
+          subst (λ (link : Link). (wrong : RowRefusal) → KnownFault known link wrong → ⊥) (sym (ap (λ n. get_or links n d) equal ∙ get_or_default links place d e within)) here
+      | inr differ ↦ below k d (omega (arith, differ))
+    ]
+
+-- ---- refusals
+
+pub row_refused : (tables : List Table) (kind : Kind) (wrong : RowRefusal) → RefusesRow (ColumnFault (table_named kind tables)) wrong
+    → RefusesCheck (ColumnWrong tables kind) (refused_as kind wrong)
+row_refused tables kind (why.Memory error) refuses = tt
+row_refused tables kind (why.Ids fault) refuses = (refl, refuses)
+row_refused tables kind why.Orphan refuses = (refl, refuses)
+row_refused tables kind why.Disagree refuses = (refl, refuses)
+row_refused tables kind why.BadValueType refuses = (refl, refuses)
+row_refused tables kind (why.BadCbor refusal) refuses = (refl, refuses)
+row_refused tables kind why.TwoValues refuses = (refl, refuses)
+row_refused tables kind why.BadKind refuses = (refl, refuses)
+
+pub column_refusal : (tables : List Table) (links : List Link) (place : ℕ) (d : Link) (refusal : CheckRefusal) → place < length links
+    → RefusesCheck (ColumnWrong tables (get_or links place d).kind) refusal → RefusesCheck (ColumnsWrong tables links) refusal
+column_refusal tables links place d (check.Memory error) within refuses = tt
+column_refusal tables links place d (check.Defect kind wrong) within refuses =
+    let link : Link = get_or links place d in (link, (place, within, get_or_default links place link d within), refuses)
+
+pub fault_refusal : (known : List ColumnIds) (links : List Link) (place : ℕ) (d : Link) (refusal : CheckRefusal) → place < length links
+    → RefusesCheck (KnownWrong known (get_or links place d)) refusal → RefusesCheck (KnownFaults known links) refusal
+fault_refusal known links place d (check.Memory error) within refuses = tt
+fault_refusal known links place d (check.Defect kind wrong) within refuses =
+    let link : Link = get_or links place d in (link, (place, within, get_or_default links place link d within), refuses)

@@ -1,5 +1,0 @@
-use Rattle.otap_checks.proofs.GivenColumns.{long_enough}
-use Rattle.otap_checks.proofs.columns.check_column.Goals as goal
-
-pub ids_of-requires-clause-long : goal.ids_of-requires-clause-long
-ids_of-requires-clause-long g c = long_enough (g.R.Rows.table c.args.rows.now) c.args.continues.now c.requires.continues

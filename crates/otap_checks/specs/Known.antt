@@ -1,0 +1,27 @@
+-- The ids of tables, as they are known column by column.
+use Rattle.std.specs.Prelude.{◌≡◌, ℕ, ◌==◌, ◌&&◌, true, Bool, if◌then◌else◌, List, [], ◌∷◌, Option}
+use Rattle.otap_cells.specs.declared.payload.Kind.{Kind}
+use Rattle.otap_cells.specs.Columns.{is_id_at}
+use Rattle.otap_cells.specs.ColumnIds.{HasNullParent}
+use Rattle.otap_cells.specs.GivenIds.{HasIds}
+use Rattle.otap_cells.specs.Payload.{is_kind}
+use Rattle.otap_cells.specs.Tables.{Table}
+use Rattle.otap_checks.specs.declared.known.ColumnIds.{ColumnIds}
+
+-- whether these are the ids of the column
+abbrev pub is_column : Kind → ℕ → ColumnIds → Bool
+is_column kind column known = is_kind known.kind kind && known.column == column
+
+-- the ids of a column among those that are known
+abbrev pub ids_named : Kind → ℕ → List ColumnIds → List (Option ℕ)
+ids_named kind column [] = []
+ids_named kind column (ids ∷ known) = if is_column kind column ids then ids.ids.items else ids_named kind column known
+
+-- these are the ids of a column, and no parent is null
+pub record IsKnown (t : Table) (column : ℕ) (ids : List (Option ℕ)) : Type 0 where
+  pub are : HasIds t column ids
+  pub parents : HasNullParent t column → ⊥
+
+-- THE IDS of each column of a table are known
+abbrev pub Knows : Table → Kind → List ColumnIds → Type 0
+Knows t kind known = (column : ℕ) → is_id_at kind column ≡ true → IsKnown t column (ids_named kind column known)
