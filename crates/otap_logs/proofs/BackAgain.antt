@@ -22,22 +22,20 @@ use Rattle.otap_cells.specs.Tables.{Table}
 use Rattle.otap_groups.specs.Children.{Agree, Reads, numbered}
 use Rattle.otap_groups.specs.Flat.{flat, items_of, numbered_rows, resources_of, scopes_of}
 use Rattle.otap_groups.specs.Groups.{regrouped}
-use Rattle.otap_groups.specs.Rows.{main_rows}
 use Rattle.otap_groups.specs.Stored.{main_table}
 use Rattle.otap_groups.proofs.GroupsTold.{groups_told}
 use Rattle.otap_groups.proofs.Grouping.{groups_back}
-use Rattle.otap_groups.proofs.StoredRows.{main_rows_of}
 use Rattle.otap_groups.proofs.WritableGroups.{all_items_can, all_resources_can, all_scopes_can, few_items, few_resources, few_scopes}
 use Rattle.otap_checks.specs.Reading.{main_rows_in, pairs_in}
-use Rattle.otap_checks.proofs.TableIds.{ids_are}
+use Rattle.otap_checks.proofs.PairsAgain.{AreBack, IsBackResource, IsBackScope, pairs_agree, sorted_alike, unsorted}
+use Rattle.otap_checks.proofs.RowsAgain.{main_rows_again}
 use Rattle.otap_attrs.specs.Tables.{attribute_table}
 use Rattle.otap_logs.specs.Records.{record_cells, record_of}
 use Rattle.otap_logs.specs.Requests.{regrouped_logs}
 use Rattle.otap_logs.specs.Tables.{tables_of_logs}
 use Rattle.otap_logs.proofs.LogColumns.{logs_are_main}
 use Rattle.otap_logs.proofs.NamedTables.{named_main, named_records, named_resources, named_scopes, record_pairs, resource_pairs, scope_pairs}
-use Rattle.otap_logs.proofs.ReadAgain.{IsBack, IsBackPair, IsBackRecord, IsBackResource, IsBackScope, groups_again, pairs_agree, records_read, sorted_alike, unsorted}
-use Rattle.otap_groups.proofs.RunBlocks.{Every}
+use Rattle.otap_logs.proofs.ReadAgain.{IsBack, IsBackRecord, groups_again, records_read}
 
 same_record : (cells : List Cell) (xs ys : List Pair) → SameOften xs ys → SameLogRecord (record_of cells xs) (record_of cells ys)
 unfolding record_of
@@ -65,37 +63,28 @@ module _ (groups : List (ResourceGroup LogRecord)) (light : weight_of (Logs grou
   abbrev l : Table
   l = attribute_table table.LogAttrs (record_pairs groups)
 
-  pub rows_are : numbered_rows record_cells 0 (flat groups) ≡ main_rows_in (main_table table.Logs record_cells groups)
-  rows_are =
-      let t : Table = main_table table.Logs record_cells groups in
-      let have = main_rows_of record_cells table.Logs groups logs_are_main few_main in
-      have.are ∙ (λ i. main_rows (ids_are t 0 have.ids have.own i) (ids_are t 1 have.resource_ids have.resource i) (ids_are t 4 have.scope_ids have.scope i) t.rows)
-
   pub regrouped_is : regrouped (pairs_in r) (pairs_in s) (λ id cells. record_of cells (pairs_in l id)) (numbered_rows record_cells 0 (flat groups))
       ≡ regrouped_logs (tables_of_logs groups)
   unfolding regrouped_logs
   regrouped_is = λ i. regrouped (pairs_in (sym (named_resources groups) i)) (pairs_in (sym (named_scopes groups) i))
-      (λ id cells. record_of cells (pairs_in (sym (named_records groups) i) id)) ((rows_are ∙ ap main_rows_in (sym (named_main groups))) i)
+      (λ id cells. record_of cells (pairs_in (sym (named_records groups) i) id)) ((main_rows_again table.Logs record_cells groups logs_are_main few_main ∙ ap main_rows_in (sym (named_main groups))) i)
 
 module _ (groups : List (ResourceGroup LogRecord)) (back : All IsBack groups) where
-  abbrev IsBackList : List Pair → Type 0
-  IsBackList pairs = Every IsBackPair pairs
-
   logs_back : All IsBackRecord (items_of groups)
   logs_back = all_items_can IsBackResource IsBackScope IsBackRecord groups back
 
   items_read : Reads numbered record_cells (λ id cells. record_of cells (unsorted (record_pairs groups) id)) 0 (items_of groups)
   items_read =
       records_read (items_of groups) (unsorted (record_pairs groups)) logs_back
-      (pairs_agree (record_pairs groups) (All-map IsBackList (λ (log : LogRecord). log.pairs) (items_of groups)
-      (All-weaker IsBackRecord (λ (log : LogRecord). IsBackList log.pairs) (λ log is. is.pairs) (items_of groups) logs_back)))
+      (pairs_agree (record_pairs groups) (All-map AreBack (λ (log : LogRecord). log.pairs) (items_of groups)
+      (All-weaker IsBackRecord (λ (log : LogRecord). AreBack log.pairs) (λ log is. is.pairs) (items_of groups) logs_back)))
 
   resources_agree : Agree (unsorted (resource_pairs groups)) 0 (resource_pairs groups)
-  resources_agree = pairs_agree (resource_pairs groups) (All-map IsBackList (λ (resource : Resource). resource.pairs) (resources_of groups)
+  resources_agree = pairs_agree (resource_pairs groups) (All-map AreBack (λ (resource : Resource). resource.pairs) (resources_of groups)
       (all_resources_can IsBackResource IsBackScope IsBackRecord groups back))
 
   scopes_agree : Agree (unsorted (scope_pairs groups)) 0 (scope_pairs groups)
-  scopes_agree = pairs_agree (scope_pairs groups) (All-map IsBackList (λ (scope : Scope). scope.pairs) (scopes_of groups)
+  scopes_agree = pairs_agree (scope_pairs groups) (All-map AreBack (λ (scope : Scope). scope.pairs) (scopes_of groups)
       (all_scopes_can IsBackResource IsBackScope IsBackRecord groups back))
 
   -- before the pairs are sorted the request itself comes back

@@ -5,19 +5,21 @@ use Rattle.otap_cells.specs.declared.payload.Kind.{Kind}
 use Rattle.otap_cells.specs.declared.payload.Kind.TheVariants as table
 use Rattle.otap_cells.specs.Named.{table_named}
 use Rattle.otap_cells.specs.Tables.{Table, profile_table}
-use Rattle.otap_groups.specs.Rows.{main_rows}
 use Rattle.otap_attrs.specs.declared.refusal.RowRefusal.{RowRefusal}
 use Rattle.otap_attrs.specs.declared.refusal.RowRefusal.TheVariants as why
 use Rattle.otap_attrs.specs.declared.refusal.CheckRefusal.{CheckRefusal}
 use Rattle.otap_attrs.specs.declared.refusal.CheckRefusal.TheVariants as check
 use Rattle.otap_checks.specs.Links.{links_of, items, attributes}
 use Rattle.otap_checks.specs.IdDefects.{IdDefect}
+use Rattle.otap_checks.specs.declared.known.ColumnIds.{ColumnIds}
 use Rattle.otap_checks.specs.Inside.{AreGiven}
+use Rattle.otap_checks.specs.Known.{Knows}
 use Rattle.otap_checks.specs.Reading.{Disagrees}
 use Rattle.otap_checks.specs.Refusing.{RefusesCheck}
 use Rattle.otap_checks.specs.ValueDefects.{WrongValue, WrongValueOf}
+use Rattle.otap_checks.proofs.MissingRows.{none_differ}
 use Rattle.otap_checks.proofs.TableIds.{clean_given}
-use Rattle.otap_logs.specs.Inside.{AreWhole, IsUnlike}
+use Rattle.otap_logs.specs.Inside.{AreWhole, IsUnlike, KnowsLogs}
 use Rattle.otap_logs.specs.Requests.{WrongCells, WrongLogs}
 
 -- no row has anything wrong
@@ -98,26 +100,24 @@ module _ (tables : List Table) (is_whole : AreWhole tables) where
   unfolding links_of
   given_logs = clean_given signal.Logs tables table.Logs (items table.Logs) (0, omega arith, refl) refl (is_whole.ids table.Logs)
 
-  pub given_resources : AreGiven (table_named table.ResourceAttrs tables)
+-- and known
+module _ (tables : List Table) (known : List ColumnIds) (all : KnowsLogs tables known) where
+  pub known_logs : Knows (table_named table.Logs tables) table.Logs known
   unfolding links_of
-  given_resources = clean_given signal.Logs tables table.ResourceAttrs (attributes table.ResourceAttrs table.Logs 1) (1, omega arith, refl) refl (is_whole.ids table.ResourceAttrs)
+  known_logs = all (items table.Logs) (0, omega arith, refl)
 
-  pub given_scopes : AreGiven (table_named table.ScopeAttrs tables)
+  pub known_resources : Knows (table_named table.ResourceAttrs tables) table.ResourceAttrs known
   unfolding links_of
-  given_scopes = clean_given signal.Logs tables table.ScopeAttrs (attributes table.ScopeAttrs table.Logs 4) (2, omega arith, refl) refl (is_whole.ids table.ScopeAttrs)
+  known_resources = all (attributes table.ResourceAttrs table.Logs 1) (1, omega arith, refl)
 
-  pub given_records : AreGiven (table_named table.LogAttrs tables)
+  pub known_scopes : Knows (table_named table.ScopeAttrs tables) table.ScopeAttrs known
   unfolding links_of
-  given_records = clean_given signal.Logs tables table.LogAttrs (attributes table.LogAttrs table.Logs 0) (3, omega arith, refl) refl (is_whole.ids table.LogAttrs)
+  known_scopes = all (attributes table.ScopeAttrs table.Logs 4) (2, omega arith, refl)
+
+  pub known_records : Knows (table_named table.LogAttrs tables) table.LogAttrs known
+  unfolding links_of
+  known_records = all (attributes table.LogAttrs table.Logs 0) (3, omega arith, refl)
 
 -- where there are no rows, none differ
-no_rows : (ids resource_ids scope_ids : List (Option ℕ)) → length (main_rows ids resource_ids scope_ids []) ≡ 0
-unfolding main_rows
-no_rows ids resource_ids scope_ids = refl
-
 pub none_unlike : (tables : List Table) (kind : Kind) → table_named table.Logs tables ≡ profile_table kind [] → IsUnlike tables → ⊥
-none_unlike tables kind none unlike = empty (subst Disagrees none unlike)
-  where
-    empty : Disagrees (profile_table kind []) → ⊥
-    empty (inl d) = absurd (omega (arith, d.differ.first.1, no_rows [] d.ids []))
-    empty (inr d) = absurd (omega (arith, d.differ.first.1, no_rows [] [] d.ids))
+none_unlike tables kind none unlike = none_differ kind (subst Disagrees none unlike)

@@ -1,4 +1,3 @@
-pub mod AttributeIds
 pub mod AlikeOrWrong
 pub mod AlikeReading
 pub mod BackAgain

@@ -9,35 +9,20 @@ use Rattle.otlp_model.specs.declared.groups.ResourceGroup.{ResourceGroup}
 use Rattle.otlp_model.specs.declared.logs.LogRecord.{LogRecord}
 use Rattle.otlp_model.specs.declared.request.Request.TheVariants.{Logs}
 use Rattle.otlp_model.specs.declared.value.Pair.{Pair}
-use Rattle.otap_cells.specs.declared.payload.Kind.{Kind}
 use Rattle.otap_cells.specs.declared.payload.Kind.TheVariants as table
 use Rattle.otap_cells.specs.Cells.{Cell}
-use Rattle.otap_cells.specs.Continuing.{has_attributes}
 use Rattle.otap_cells.specs.Tables.{Table}
-use Rattle.otap_groups.specs.Children.{children, unnumbered}
-use Rattle.otap_groups.specs.Flat.{flat, numbered_rows, part_rows, placed}
-use Rattle.otap_groups.specs.Rows.{ChildRow, child_rows}
-use Rattle.otap_groups.proofs.LightGroups.{kept_weigh, regrouped_weigh, reordered_weigh}
+use Rattle.otap_groups.specs.Flat.{flat, numbered_rows}
+use Rattle.otap_groups.proofs.LightGroups.{kept_weigh, regrouped_weigh}
 use Rattle.otap_attrs.specs.Tables.{attribute_table}
-use Rattle.otap_attrs.specs.Values.{pair_cells}
-use Rattle.otap_attrs.proofs.TableLaws.{table_has_rows}
 use Rattle.otap_checks.specs.Reading.{pairs_in}
-use Rattle.otap_checks.proofs.TableIds.{ids_are}
+use Rattle.otap_checks.proofs.PairsAgain.{sorted_weigh, unsorted}
 use Rattle.otap_logs.specs.Records.{record_cells, record_of}
 use Rattle.otap_logs.specs.Requests.{regrouped_logs}
 use Rattle.otap_logs.specs.Tables.{tables_of_logs}
 use Rattle.otap_logs.proofs.BackAgain.{few_l, few_r, few_s, regrouped_is, unsorted_back}
 use Rattle.otap_logs.proofs.NamedTables.{record_pairs, resource_pairs, scope_pairs}
-use Rattle.otap_logs.proofs.ReadAgain.{groups_again, item_of_pair, unsorted}
-
--- the pairs of a parent weigh the same, in whatever order they stand
-sorted_weigh : (kind : Kind) (lists : List (List Pair)) → has_attributes kind ≡ true → length lists ≤ 2 ^ 32 → (parent : Option ℕ)
-    → total 32 weight_of_pair (unsorted lists parent) ≡ total 32 weight_of_pair (pairs_in (attribute_table kind lists) parent)
-sorted_weigh kind lists kinds few parent =
-    let have = table_has_rows kind lists kinds few in
-    subst (λ (rows : List ChildRow). total 32 weight_of_pair (unsorted lists parent) ≡ total 32 weight_of_pair (children item_of_pair rows parent))
-    (have.1.are ∙ ap (λ ps. child_rows [] ps (map (drop 1) (attribute_table kind lists).rows)) (ids_are (attribute_table kind lists) 0 have.1.parents have.1.above))
-    (reordered_weigh item_of_pair weight_of_pair (part_rows unnumbered pair_cells 0 (placed lists)) have.0 have.2 parent)
+use Rattle.otap_logs.proofs.ReadAgain.{groups_again}
 
 record_weighs : (cells : List Cell) (xs ys : List Pair) → total 32 weight_of_pair xs ≡ total 32 weight_of_pair ys
     → weight_of_log_record (record_of cells xs) ≡ weight_of_log_record (record_of cells ys)

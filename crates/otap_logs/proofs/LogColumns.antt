@@ -42,13 +42,7 @@ pub has_record_value : HasValueAt table.LogAttrs 2
 unfolding attrs
 has_record_value = record { bases = refl }
 
--- the id columns of log records, and of attributes
+-- the id columns of log records
 pub log_ids : (P : ℕ → Type 0) → P 0 → P 1 → P 4 → (column : ℕ) → is_id_at table.Logs column ≡ true → P column
 unfolding logs
 log_ids P own resource scope column is = each_id P table.Logs (own, (resource, (scope, tt))) column is
-
-pub attribute_ids : (P : ℕ → Type 0) (kind : Kind) → columns_of kind ≡ attrs → P 0 → (column : ℕ) → is_id_at kind column ≡ true → P column
-unfolding attrs
-attribute_ids P kind same parent column is =
-    let all : Every P (id_places 0 attrs) = (parent, tt) in
-    each_id P kind (subst (λ (columns : List ColumnSpec). Every P (id_places 0 columns)) (sym same) all) column is

@@ -33,43 +33,19 @@ use Rattle.otap_checks.specs.IdDefects.{IdDefect, OrphanIn, WrongIn}
 use Rattle.otap_checks.specs.Inside.{AreGiven, IsGiven}
 use Rattle.otap_checks.specs.Links.{attributes, items, links_of}
 use Rattle.otap_checks.specs.Reading.{Disagrees}
-use Rattle.otap_checks.proofs.GivenColumns.{no_orphan, nothing_wrong, own_once as once_in_column}
+use Rattle.otap_checks.proofs.FineLinks.{fine_attributes, settle}
+use Rattle.otap_checks.proofs.GivenColumns.{nothing_wrong, own_once as once_in_column}
 use Rattle.otap_checks.proofs.TableIds.{disagree_too}
 use Rattle.otap_logs.specs.Inside.{IsUnlike}
 use Rattle.otap_logs.specs.Records.{record_cells}
 use Rattle.otap_logs.specs.Requests.{WrongLogs}
 use Rattle.otap_logs.specs.Tables.{tables_of_logs}
-use Rattle.otap_logs.proofs.AttributeIds.{HasParents, parents_of}
-use Rattle.otap_logs.proofs.BackAgain.{few_l, few_main, few_r, few_s, rows_are}
+use Rattle.otap_checks.proofs.RowsAgain.{main_rows_again}
+use Rattle.otap_logs.proofs.BackAgain.{few_l, few_main, few_r, few_s}
 use Rattle.otap_logs.proofs.Cleanness.{clean}
 use Rattle.otap_logs.proofs.FineValues.{fine_bodies, fine_records, fine_resources, fine_scopes}
-use Rattle.otap_logs.proofs.LogColumns.{attribute_ids, log_ids, logs_are_main}
+use Rattle.otap_logs.proofs.LogColumns.{log_ids, logs_are_main}
 use Rattle.otap_logs.proofs.NamedTables.{named_main, named_records, named_resources, named_scopes, record_pairs, resource_pairs, scope_pairs}
-
--- a table of attributes, the ids of whose parents another table has
-module _ (tables : List Table) (kind of : Kind) (at : ℕ) (lists : List (List Pair)) (kinds : has_attributes kind ≡ true) (same : columns_of kind ≡ attrs)
-    (few : length lists ≤ 2 ^ 32) (known : List (Option ℕ)) (are : HasIds (table_named of tables) at known) (all : (p : ℕ) → p < length lists → Contains known (Some p)) where
-  abbrev have : HasParents kind lists
-  have = parents_of kind lists kinds few
-
-  parents_given : AreGiven (attribute_table kind lists)
-  unfolding attribute_table
-  parents_given = attribute_ids (IsGiven (attribute_table kind lists)) kind same (record { ids = have.parents; are = have.are; parents = have.filled })
-
-  parents_known : OrphanIn have.parents known → ⊥
-  parents_known lost = lost.missing (all lost.parent (have.low lost.parent lost.named))
-
-  fine_attributes : (wrong : RowRefusal) → WrongIn tables (attribute_table kind lists) (attributes kind of at) wrong → ⊥
-  fine_attributes = nothing_wrong tables (attribute_table kind lists) (attributes kind of at) parents_given (λ is. is)
-      (no_orphan tables (attribute_table kind lists) (Some (record { column = 0; of = of; at = at })) (record { column = 0; of = of; at = at })
-      have.parents known refl have.are are parents_known)
-
--- what is wrong with the table of a link, where the link is this one and the table that one
-settle : (tables : List Table) (link here : Link) (kind : Kind) (t : Table) (wrong : RowRefusal) → here ≡ link → link.kind ≡ kind → table_named here.kind tables ≡ t
-    → (WrongIn tables t here wrong → ⊥) → WrongIn tables (table_named kind tables) link wrong → ⊥
-settle tables link here kind t wrong same names named fine is =
-    fine (subst (λ (t : Table). WrongIn tables t here wrong) named (subst (λ (link : Link). WrongIn tables (table_named link.kind tables) link wrong) (sym same)
-    (subst (λ (kind : Kind). WrongIn tables (table_named kind tables) link wrong) (sym names) is)))
 
 module _ (groups : List (ResourceGroup LogRecord)) (light : weight_of (Logs groups) ≤ weight_limit) where
   abbrev tables : List Table
@@ -130,17 +106,17 @@ module _ (groups : List (ResourceGroup LogRecord)) (light : weight_of (Logs grou
 
   resource_attributes : (wrong : RowRefusal) → WrongIn tables (attribute_table table.ResourceAttrs (resource_pairs groups)) (attributes table.ResourceAttrs table.Logs 1) wrong → ⊥
   resource_attributes =
-      fine_attributes tables table.ResourceAttrs table.Logs 1 (resource_pairs groups) refl refl (few_r groups light) (map (λ (row : MainRow). row.resource_id) rows) resources_known
+      fine_attributes tables table.ResourceAttrs table.Logs 1 (resource_pairs groups) refl (few_r groups light) (map (λ (row : MainRow). row.resource_id) rows) resources_known
       (λ p less. resource_there record_cells groups p (omega (arith, less, length-map (resources_of groups) (λ (resource : Resource). resource.pairs))))
 
   scope_attributes : (wrong : RowRefusal) → WrongIn tables (attribute_table table.ScopeAttrs (scope_pairs groups)) (attributes table.ScopeAttrs table.Logs 4) wrong → ⊥
   scope_attributes =
-      fine_attributes tables table.ScopeAttrs table.Logs 4 (scope_pairs groups) refl refl (few_s groups light) (map (λ (row : MainRow). row.scope_id) rows) scopes_known
+      fine_attributes tables table.ScopeAttrs table.Logs 4 (scope_pairs groups) refl (few_s groups light) (map (λ (row : MainRow). row.scope_id) rows) scopes_known
       (λ p less. scope_there record_cells groups p (omega (arith, less, length-map (scopes_of groups) (λ (scope : Scope). scope.pairs))))
 
   record_attributes : (wrong : RowRefusal) → WrongIn tables (attribute_table table.LogAttrs (record_pairs groups)) (attributes table.LogAttrs table.Logs 0) wrong → ⊥
   record_attributes =
-      fine_attributes tables table.LogAttrs table.Logs 0 (record_pairs groups) refl refl (few_l groups light) (map (λ (row : MainRow). row.id) rows) own_known
+      fine_attributes tables table.LogAttrs table.Logs 0 (record_pairs groups) refl (few_l groups light) (map (λ (row : MainRow). row.id) rows) own_known
       (λ p less. item_there record_cells groups p (omega (arith, less, length-map (items_of groups) (λ (log : LogRecord). log.pairs))))
 
   by_link : (k : ℕ) (kind : Kind) (link : Link) (wrong : RowRefusal) → k < 4 → get_or (links_of signal.Logs) k link ≡ link → link.kind ≡ kind
@@ -161,7 +137,7 @@ module _ (groups : List (ResourceGroup LogRecord)) (light : weight_of (Logs grou
 
   alike : IsUnlike tables → ⊥
   alike unlike =
-      rows_agree record_cells groups (subst Disagree (sym (rows_are groups light)) (disagree_too main (subst Disagrees (named_main groups) unlike)))
+      rows_agree record_cells groups (subst Disagree (sym (main_rows_again table.Logs record_cells groups logs_are_main (few_main groups light))) (disagree_too main (subst Disagrees (named_main groups) unlike)))
 
 pub no_defects : (groups : List (ResourceGroup LogRecord)) → IsReal (Logs groups) → IsProfile (Logs groups) → weight_of (Logs groups) ≤ weight_limit
     → (kind : Kind) (wrong : RowRefusal) → WrongLogs (tables_of_logs groups) kind wrong → ⊥

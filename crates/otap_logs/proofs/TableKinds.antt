@@ -1,5 +1,5 @@
 -- The kinds of the tables of a request of logs, and how many rows the main one has.
-use Rattle.std.proofs.Common.{◌≡◌, ℕ, suc, Bool, true, false, List, [], ◌∷◌, ◌++◌, length, map, filter, refl, sym, ◌∙◌, ap}
+use Rattle.std.proofs.Common.{◌≡◌, Bool, true, false, List, [], ◌∷◌, ◌++◌, length, map, filter, refl, sym, ◌∙◌, ap}
 use Rattle.std.specs.Prelude.{if◌then◌else◌, nat_lt}
 use Rattle.std.proofs.lemmas.List.{length-map}
 use Rattle.otlp_model.specs.Telemetry.{entries_of, log_record, telemetry, told}
@@ -10,10 +10,10 @@ use Rattle.otap_cells.specs.declared.payload.Kind.{Kind}
 use Rattle.otap_cells.specs.declared.payload.Kind.TheVariants as table
 use Rattle.otap_cells.specs.Named.{table_named}
 use Rattle.otap_cells.specs.Tables.{Table}
-use Rattle.otap_groups.specs.Flat.{FlatIn, flat}
-use Rattle.otap_groups.specs.Stored.{main_table, stored_rows}
+use Rattle.otap_groups.specs.Stored.{main_table}
 use Rattle.otap_groups.proofs.Bounds.{size_of_flat}
 use Rattle.otap_groups.proofs.FlatItems.{length_entries}
+use Rattle.otap_groups.proofs.StoredRows.{size_of_main}
 use Rattle.otap_attrs.specs.Tables.{attribute_table}
 use Rattle.otap_logs.specs.Records.{record_cells}
 use Rattle.otap_logs.specs.Tables.{tables_of_logs}
@@ -47,10 +47,6 @@ filtered p false true false x y z = rw (x, y, z) refl
 filtered p false false true x y z = rw (x, y, z) refl
 filtered p false false false x y z = rw (x, y, z) refl
 
-size_of_stored : (step r s : ℕ) (fs : List (FlatIn LogRecord)) → length (stored_rows record_cells step r s fs) ≡ length fs
-size_of_stored step r s [] = refl
-size_of_stored step r s (f ∷ fs) = ap suc (size_of_stored 1 f.resource_id f.scope_id fs)
-
 module _ (groups : List (ResourceGroup LogRecord)) where
   abbrev r : Table
   r = attribute_table table.ResourceAttrs (resource_pairs groups)
@@ -72,11 +68,7 @@ module _ (groups : List (ResourceGroup LogRecord)) where
       (ap (λ (t : Table). nat_lt 0 (length t.rows)) (named_resources groups)) (ap (λ (t : Table). nat_lt 0 (length t.rows)) (named_scopes groups))
       (ap (λ (t : Table). nat_lt 0 (length t.rows)) (named_records groups))))
 
-  size_of_main : length (main_table table.Logs record_cells groups).rows ≡ length (flat groups)
-  unfolding main_table
-  size_of_main = size_of_stored 0 0 0 (flat groups)
-
   pub rows_for_records : length (table_named table.Logs (tables_of_logs groups)).rows ≡ length (telemetry (Logs groups))
   rows_for_records =
-      ap (λ (t : Table). length t.rows) (named_main groups) ∙ size_of_main ∙ size_of_flat 0 groups ∙ sym (length_entries groups)
+      ap (λ (t : Table). length t.rows) (named_main groups) ∙ size_of_main table.Logs record_cells groups ∙ size_of_flat 0 groups ∙ sym (length_entries groups)
       ∙ sym (length-map (entries_of groups) (told log_record))

@@ -18,9 +18,10 @@ use Rattle.otap_groups.specs.declared.flat.Flat.{Flat}
 use Rattle.otap_groups.specs.Flat.{FlatIn, flat, items_of, resources_of, scopes_of}
 use Rattle.otap_groups.specs.Stored.{main_table, stored_rows}
 use Rattle.otap_groups.specs.Views.{seen_flat}
-use Rattle.otap_groups.proofs.FlatItems.{all_items, all_unmapped}
+use Rattle.otap_groups.proofs.FlatItems.{all_items}
 use Rattle.otap_groups.proofs.WritableGroups.{all_items_can, all_resources_can, all_scopes_can, few_items, few_resources, few_scopes}
 use Rattle.otap_attrs.specs.Tables.{attribute_table, where_rows}
+use Rattle.otap_attrs.proofs.FoundLists.{found_all}
 use Rattle.otap_logs.specs.Records.{record_cells}
 use Rattle.otap_logs.specs.Tables.{CanWriteRecord, tables_of_logs}
 use Rattle.otap_logs.proofs.WrittenWeight.{CanWrite, IsLightResource, IsLightScope}
@@ -32,17 +33,6 @@ found_few deref found xs n is few =
     let a = length-map found deref in
     let b = ap length is in
     omega (arith, a, b)
-
-found_all : {B X : Type 0} (deref : B → X) (P : X → Type 0) (found : List B) (xs : List X) → map deref found ≡ xs → All P xs → All (λ b. P (deref b)) found
-found_all deref P found xs is all = all_unmapped P deref found (subst (All P) (sym is) all)
-
-map_over : {B X Y : Type 0} (deref : B → X) (f : X → Y) (found : List B) → map (λ b. f (deref b)) found ≡ map f (map deref found)
-map_over deref f [] = refl
-map_over deref f (b ∷ bs) = ap (λ ys. f (deref b) ∷ ys) (map_over deref f bs)
-
-pub found_table : {B X : Type 0} (kind : Kind) (deref : B → X) (pairs : X → List Pair) (found : List B) (xs : List X) (t : Table) → map deref found ≡ xs
-    → t ≡ attribute_table kind (map (λ b. pairs (deref b)) found) → t ≡ attribute_table kind (map pairs xs)
-found_table kind deref pairs found xs t is made = made ∙ ap (attribute_table kind) (map_over deref pairs found ∙ ap (map pairs) is)
 
 -- ---- how many there are
 

@@ -25,6 +25,7 @@ use Rattle.otap_groups.proofs.WritableGroups.{groups_can}
 use Rattle.otap_attrs.specs.Tables.{attribute_table, where_rows}
 use Rattle.otap_attrs.specs.Values.{pair_cells}
 use Rattle.otap_attrs.proofs.AttributesWeighed.{table_weighs}
+use Rattle.otap_attrs.proofs.MadeSums.{sum_of_map}
 use Rattle.otap_logs.specs.Records.{record_cells}
 use Rattle.otap_logs.specs.Tables.{CanWriteRecord, tables_of_logs}
 
@@ -57,15 +58,6 @@ where_weighs t = elim (cases_Bool (nat_lt 0 (length t.rows))) [
   | inr none ↦ rw none (sym (empty_weighs t.rows none))
 ]
 
--- lists of pairs, by what has them
-lists_weigh : {A : Type 0} (pairs : A → List Pair) (xs : List A) → sum_by (parts_weight pair_cells) (map pairs xs) ≡ sum_by (λ x. parts_weight pair_cells (pairs x)) xs
-lists_weigh pairs [] = refl
-lists_weigh pairs (x ∷ xs) =
-    let a = sum_by-cons (parts_weight pair_cells) (pairs x) (map pairs xs) in
-    let b = sum_by-cons (λ x. parts_weight pair_cells (pairs x)) x xs in
-    let more = lists_weigh pairs xs in
-    omega (arith, a, b, more)
-
 pub tables_weigh : (groups : List (ResourceGroup LogRecord))
     → rows_of_groups (λ resource. parts_weight pair_cells resource.pairs) (λ scope. parts_weight pair_cells scope.pairs)
     (λ log. cells_weight (record_cells log) + parts_weight pair_cells log.pairs) groups ≡ weight_of_tables (tables_of_logs groups)
@@ -79,11 +71,11 @@ tables_weigh groups =
     let first = sum_by-append weight_of_table (where_rows r) (where_rows s ++ where_rows l) in
     let second = sum_by-append weight_of_table (where_rows s) (where_rows l) in
     let wr = where_weighs r ∙ table_weighs table.ResourceAttrs (map (λ (resource : Resource). resource.pairs) (resources_of groups))
-    ∙ lists_weigh (λ (resource : Resource). resource.pairs) (resources_of groups) in
+    ∙ sum_of_map (parts_weight pair_cells) (λ (resource : Resource). resource.pairs) (resources_of groups) in
     let ws = where_weighs s ∙ table_weighs table.ScopeAttrs (map (λ (scope : Scope). scope.pairs) (scopes_of groups))
-    ∙ lists_weigh (λ (scope : Scope). scope.pairs) (scopes_of groups) in
+    ∙ sum_of_map (parts_weight pair_cells) (λ (scope : Scope). scope.pairs) (scopes_of groups) in
     let wl = where_weighs l ∙ table_weighs table.LogAttrs (map (λ (log : LogRecord). log.pairs) (items_of groups))
-    ∙ lists_weigh (λ (log : LogRecord). log.pairs) (items_of groups) in
+    ∙ sum_of_map (parts_weight pair_cells) (λ (log : LogRecord). log.pairs) (items_of groups) in
     let wm = main_weighs record_cells table.Logs groups in
     let apart = rows_apart (λ (resource : Resource). parts_weight pair_cells resource.pairs) (λ (scope : Scope). parts_weight pair_cells scope.pairs)
     (λ (log : LogRecord). cells_weight (record_cells log)) (λ (log : LogRecord). parts_weight pair_cells log.pairs) groups in

@@ -1,12 +1,16 @@
 -- Words of private contracts.
-use Rattle.std.specs.Prelude.{List}
+use Rattle.std.specs.Prelude.{Contains, List}
 use Rattle.otlp_model.specs.declared.request.Signal.TheVariants as signal
 use Rattle.otap_cells.specs.declared.payload.Kind.{Kind}
 use Rattle.otap_cells.specs.declared.payload.Kind.TheVariants as table
 use Rattle.otap_cells.specs.Named.{table_named}
 use Rattle.otap_cells.specs.Tables.{Table}
 use Rattle.otap_attrs.specs.declared.refusal.RowRefusal.{RowRefusal}
+use Rattle.otap_checks.specs.declared.known.ColumnIds.{ColumnIds}
+use Rattle.otap_checks.specs.declared.links.Link.{Link}
 use Rattle.otap_checks.specs.IdDefects.{IdDefect}
+use Rattle.otap_checks.specs.Known.{Knows}
+use Rattle.otap_checks.specs.Links.{links_of}
 use Rattle.otap_checks.specs.Reading.{Disagrees}
 use Rattle.otap_checks.specs.ValueDefects.{WrongValue}
 
@@ -21,3 +25,7 @@ pub record AreWhole (tables : List Table) : Type 0 where
 -- rows of one id differ
 abbrev pub IsUnlike : List Table → Type 0
 IsUnlike tables = Disagrees (table_named table.Logs tables)
+
+-- the ids of each table are known
+abbrev pub KnowsLogs : List Table → List ColumnIds → Type 0
+KnowsLogs tables known = (link : Link) → Contains (links_of signal.Logs) link → Knows (table_named link.kind tables) link.kind known

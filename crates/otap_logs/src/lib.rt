@@ -9,6 +9,6 @@ mod requests;
 mod weights;
 mod writing;
 
-pub use requests::{check_rows, request_of};
+pub use requests::{check_rows, regroup, request_of};
 pub use weights::table_weight;
 pub use writing::tables_of;

@@ -1,5 +1,5 @@
 //! The request of the tables of a batch.
-ghost use Rattle.std.specs.Prelude.{◌≡◌, ◌^◌, ℕ, Option, drop, map, min, IfErr, IfOk, OnOk};
+ghost use Rattle.std.specs.Prelude.{◌≡◌, ◌≤◌, ◌^◌, ℕ, Option, drop, map, min, IfErr, IfOk, OnOk};
 ghost use Rattle.otlp_model.specs.Weight.{weight_of};
 ghost use Rattle.otlp_model.specs.declared.request.Request.TheVariants.{Logs};
 ghost use Rattle.otap_cells.specs.declared.payload.Kind.{Kind};
@@ -13,7 +13,12 @@ ghost use Rattle.otap_attrs.specs.Values.{pair_in};
 ghost use Rattle.otap_checks.specs.Pairing.{cells_or};
 ghost use Rattle.otap_checks.specs.Reading.{main_rows_in, pairs_in};
 ghost use Rattle.otap_checks.specs.Refusing.{RefusesCheck};
-ghost use Rattle.otap_logs.specs.Inside.{AreWhole, IsUnlike};
+ghost use Rattle.otap_checks.specs.Regrouping.{RefusesRegroup};
+ghost use Rattle.otap_groups.specs.Disagree.{Disagree};
+ghost use Rattle.otap_groups.specs.Groups.{regrouped};
+ghost use Rattle.otlp_model.specs.Limits.{weight_limit};
+ghost use Rattle.otap_logs.specs.Inside.{AreWhole, KnowsLogs};
+ghost use Rattle.otap_logs.specs.Records.{record_of};
 ghost use Rattle.otap_logs.specs.Requests.{WrongLogs, regrouped_logs};
 
 use crate::columns;
@@ -21,9 +26,10 @@ use crate::reading::Records;
 use otap_attrs::{CheckRefusal, RowRefusal};
 use otap_cells::{Kind, Rows, TableSet};
 use otap_checks::{
-    TablePairs, check_ids, check_values, disagrees, front_of, index_pairs, table_of,
+    Grouped, KnownIds, RegroupRefusal, TablePairs, check_values, disagrees, front_of,
+    groups_within, index_pairs, known_ids, table_of,
 };
-use otap_groups::{Children, Main};
+use otap_groups::{Children, Front, Main};
 use otlp_model::{Items, LogRecord, ResourceGroup, Signal};
 use std::alloc::{AllocError, Global};
 
@@ -31,8 +37,8 @@ use std::alloc::{AllocError, Global};
 type LogRows<'a, R> = Main<
     'a,
     R,
-    Records<'a, R, Children<TablePairs<'a, R>>>,
-    Children<TablePairs<'a, R>>,
+    Records<'a, R, Children<'a, TablePairs<'a, R>>>,
+    Children<'a, TablePairs<'a, R>>,
 >;
 
 /// Looks at the rows of a batch of logs, and returns what their request weighs, or `CAP` where it is more. It builds nothing.
@@ -43,88 +49,129 @@ pub fn check_rows<R: Rows>(alloc: Global, set: &TableSet<R>) -> Result<u64, Chec
     ensures weight { IfOk result (λ weight. weight ≡ min (weight_of (Logs (regrouped_logs (tables_in R.table set.now.tables.items)))) (2 ^ 63)) }
     ensures refused { IfErr result (RefusesCheck (WrongLogs (tables_in R.table set.now.tables.items))) }
 {
-    check_cells(alloc, set)?;
-    let weight = check_groups(alloc, set)?;
-    Ok(weight)
-}
-
-// All but whether rows of one id agree.
-fn check_cells<R: Rows>(alloc: Global, set: &TableSet<R>) -> Result<(), CheckRefusal>
-    requires { IsSet R.table set.now.tables.items }
-    ensures clean { OnOk result (AreWhole (tables_in R.table set.now.tables.items)) }
-    ensures refused { IfErr result (RefusesCheck (WrongLogs (tables_in R.table set.now.tables.items))) }
-{
-    check_ids(alloc, set, Signal::Logs)?;
-    check_values(set, Kind::Logs, columns::BODY)?;
-    check_values(set, Kind::ResourceAttrs, 2)?;
-    check_values(set, Kind::ScopeAttrs, 2)?;
-    check_values(set, Kind::LogAttrs, 2)?;
-    Ok(())
-}
-
-// Whether rows of one id agree, and what the request weighs.
-fn check_groups<R: Rows>(alloc: Global, set: &TableSet<R>) -> Result<u64, CheckRefusal>
-    requires set { IsSet R.table set.now.tables.items }
-    requires whole { AreWhole (tables_in R.table set.now.tables.items) }
-    ensures clean { OnOk result (IsUnlike (tables_in R.table set.now.tables.items) → ⊥) }
-    ensures weight { IfOk result (λ weight. weight ≡ min (weight_of (Logs (regrouped_logs (tables_in R.table set.now.tables.items)))) (2 ^ 63)) }
-    ensures refused { IfErr result (RefusesCheck (WrongLogs (tables_in R.table set.now.tables.items))) }
-{
+    let known = check_cells(alloc, set)?;
     let Some(rows) = table_of(set, Kind::Logs) else {
         return Ok(0);
     };
-    let main = main_of(alloc, set, rows)?;
-    if disagrees(alloc, &main.front)? {
-        return Err(CheckRefusal::Defect {
-            kind: Kind::Logs,
-            why: RowRefusal::Disagree,
-        });
-    }
+    let main = clean_main(alloc, set, rows, &known)?;
     Ok(main.weight())
 }
 
-/// The request of a batch of logs whose rows have nothing wrong. Takes n log n for n rows.
+/// The request of a batch of logs and what it weighs, where nothing is wrong with the rows and it weighs at most the limit.
+/// It is built only then. Takes n log n for n rows, and time in proportion to them where ids and parents rise.
+pub fn regroup<R: Rows>(
+    alloc: Global,
+    set: &TableSet<R>,
+) -> Result<Grouped<LogRecord>, RegroupRefusal>
+    requires { IsSet R.table set.now.tables.items }
+    ensures clean { OnOk result ((kind : Kind) (why : RowRefusal) → WrongLogs (tables_in R.table set.now.tables.items) kind why → ⊥) }
+    ensures groups { IfOk result (λ made. made.groups ≡ regrouped_logs (tables_in R.table set.now.tables.items)) }
+    ensures tree { IfOk result (λ made. made.tree ≡ weight_of (Logs made.groups)) }
+    ensures light { IfOk result (λ made. made.tree ≤ weight_limit) }
+    ensures refused { IfErr result (RefusesRegroup (WrongLogs (tables_in R.table set.now.tables.items)) (weight_of (Logs (regrouped_logs (tables_in R.table set.now.tables.items))))) }
+{
+    let known = check_cells(alloc, set)?;
+    let Some(rows) = table_of(set, Kind::Logs) else {
+        return Ok(Grouped {
+            groups: Items::new(alloc),
+            tree: 0,
+        });
+    };
+    let main = clean_main(alloc, set, rows, &known)?;
+    let made = groups_within(alloc, &main)?;
+    Ok(made)
+}
+
+/// The request of a batch of logs whose rows have nothing wrong, and which weighs at most the limit. Takes n log n for n rows.
 pub fn request_of<R: Rows>(
     alloc: Global,
     set: &TableSet<R>,
 ) -> Result<Items<ResourceGroup<LogRecord>>, AllocError>
     requires set { IsSet R.table set.now.tables.items }
     requires clean { (kind : Kind) (why : RowRefusal) → WrongLogs (tables_in R.table set.now.tables.items) kind why → ⊥ }
+    requires light { weight_of (Logs (regrouped_logs (tables_in R.table set.now.tables.items))) ≤ weight_limit }
     ensures { IfOk result (λ groups. groups ≡ regrouped_logs (tables_in R.table set.now.tables.items)) }
 {
-    let Some(rows) = table_of(set, Kind::Logs) else {
-        return Ok(Items::new(alloc));
-    };
-    let main = main_of(alloc, set, rows)?;
-    let groups = main.groups(alloc)?;
-    Ok(groups)
+    match regroup(alloc, set) {
+        Ok(made) => Ok(made.groups),
+        Err(RegroupRefusal::Rows(CheckRefusal::Memory(error))) => Err(error),
+        Err(_) => unreachable!(),
+    }
 }
 
-fn main_of<'a, R: Rows>(
+// Looks at all but whether rows of one id agree, and returns the ids of the tables.
+fn check_cells<R: Rows>(alloc: Global, set: &TableSet<R>) -> Result<KnownIds, CheckRefusal>
+    requires { IsSet R.table set.now.tables.items }
+    ensures clean { OnOk result (AreWhole (tables_in R.table set.now.tables.items)) }
+    ensures known { IfOk result (λ known. KnowsLogs (tables_in R.table set.now.tables.items) known.columns.items) }
+    ensures refused { IfErr result (RefusesCheck (WrongLogs (tables_in R.table set.now.tables.items))) }
+{
+    let known = known_ids(alloc, set, Signal::Logs)?;
+    check_values(set, Kind::Logs, columns::BODY)?;
+    check_values(set, Kind::ResourceAttrs, 2)?;
+    check_values(set, Kind::ScopeAttrs, 2)?;
+    check_values(set, Kind::LogAttrs, 2)?;
+    Ok(known)
+}
+
+// The main rows, where rows of one id agree.
+fn clean_main<'a, R: Rows>(
     alloc: Global,
     set: &'a TableSet<R>,
     rows: &'a R,
-) -> Result<LogRows<'a, R>, AllocError>
+    known: &'a KnownIds,
+) -> Result<LogRows<'a, R>, CheckRefusal>
     requires set { IsSet R.table set.now.tables.items }
     requires whole { AreWhole (tables_in R.table set.now.tables.items) }
+    requires known { KnowsLogs (tables_in R.table set.now.tables.items) known.now.columns.items }
     requires table { table_named table.Logs (tables_in R.table set.now.tables.items) ≡ R.table rows.now }
     requires kind { (R.table rows.now).kind ≡ table.Logs }
-    ensures table { IfOk result (λ main. R.table main.front.rows.now ≡ R.table rows.now) }
-    ensures rows { IfOk result (λ main. main_rows main.front.ids.items main.front.resource_ids.items main.front.scope_ids.items (R.table main.front.rows.now).rows ≡ main_rows_in (R.table rows.now)) }
+    ensures clean { OnOk result ((kind : Kind) (why : RowRefusal) → WrongLogs (tables_in R.table set.now.tables.items) kind why → ⊥) }
+    ensures groups { IfOk result (λ main. regrouped (λ parent. found (λ id cells. pair_in cells) main.resources.ids.now (cells_or (λ p. map (drop 1) (R.table p.rows.now).rows) main.resources.reader.pairs) main.resources.entries.items parent)
+        (λ parent. found (λ id cells. pair_in cells) main.scopes.ids.now (cells_or (λ p. map (drop 1) (R.table p.rows.now).rows) main.scopes.reader.pairs) main.scopes.entries.items parent)
+        (λ id own. record_of own (found (λ id cells. pair_in cells) main.items.pairs.ids.now (cells_or (λ p. map (drop 1) (R.table p.rows.now).rows) main.items.pairs.reader.pairs) main.items.pairs.entries.items id))
+        (main_rows main.front.ids.now main.front.resource_ids.now main.front.scope_ids.now (R.table main.front.rows.now).rows)
+        ≡ regrouped_logs (tables_in R.table set.now.tables.items)) }
+    ensures refused { IfErr result (RefusesCheck (WrongLogs (tables_in R.table set.now.tables.items))) }
+{
+    let front = front_of(rows, known);
+    if disagrees(alloc, &front)? {
+        return Err(CheckRefusal::Defect {
+            kind: Kind::Logs,
+            why: RowRefusal::Disagree,
+        });
+    }
+    let main = main_of(alloc, set, front, known)?;
+    Ok(main)
+}
+
+// The main rows of a front, with their records and all pairs.
+fn main_of<'a, R: Rows>(
+    alloc: Global,
+    set: &'a TableSet<R>,
+    front: Front<'a, R>,
+    known: &'a KnownIds,
+) -> Result<LogRows<'a, R>, AllocError>
+    requires set { IsSet R.table set.now.tables.items }
+    requires known { KnowsLogs (tables_in R.table set.now.tables.items) known.now.columns.items }
+    requires kind { (R.table front.rows.now).kind ≡ table.Logs }
+    requires agree { Disagree (main_rows front.ids.now front.resource_ids.now front.scope_ids.now (R.table front.rows.now).rows) → ⊥ }
+    ensures front { IfOk result (λ main. main_rows main.front.ids.now main.front.resource_ids.now main.front.scope_ids.now (R.table main.front.rows.now).rows
+        ≡ main_rows front.entry.ids.now front.entry.resource_ids.now front.entry.scope_ids.now (R.table front.entry.rows.now).rows) }
     ensures resources { IfOk result (λ main. (parent : Option ℕ)
-        → found (λ id cells. pair_in cells) main.resources.ids.items (cells_or (λ p. map (drop 1) (R.table p.rows.now).rows) main.resources.reader.pairs) main.resources.entries.items parent
+        → found (λ id cells. pair_in cells) main.resources.ids.now (cells_or (λ p. map (drop 1) (R.table p.rows.now).rows) main.resources.reader.pairs) main.resources.entries.items parent
         ≡ pairs_in (table_named table.ResourceAttrs (tables_in R.table set.now.tables.items)) parent) }
     ensures scopes { IfOk result (λ main. (parent : Option ℕ)
-        → found (λ id cells. pair_in cells) main.scopes.ids.items (cells_or (λ p. map (drop 1) (R.table p.rows.now).rows) main.scopes.reader.pairs) main.scopes.entries.items parent
+        → found (λ id cells. pair_in cells) main.scopes.ids.now (cells_or (λ p. map (drop 1) (R.table p.rows.now).rows) main.scopes.reader.pairs) main.scopes.entries.items parent
         ≡ pairs_in (table_named table.ScopeAttrs (tables_in R.table set.now.tables.items)) parent) }
     ensures records { IfOk result (λ main. (parent : Option ℕ)
-        → found (λ id cells. pair_in cells) main.items.pairs.ids.items (cells_or (λ p. map (drop 1) (R.table p.rows.now).rows) main.items.pairs.reader.pairs) main.items.pairs.entries.items parent
+        → found (λ id cells. pair_in cells) main.items.pairs.ids.now (cells_or (λ p. map (drop 1) (R.table p.rows.now).rows) main.items.pairs.reader.pairs) main.items.pairs.entries.items parent
         ≡ pairs_in (table_named table.LogAttrs (tables_in R.table set.now.tables.items)) parent) }
 {
-    let front = front_of(alloc, rows)?;
-    let resources = index_pairs(alloc, set, Kind::ResourceAttrs)?;
-    let scopes = index_pairs(alloc, set, Kind::ScopeAttrs)?;
-    let pairs = index_pairs(alloc, set, Kind::LogAttrs)?;
+    let rows = front.rows;
+    let resources = index_pairs(alloc, set, Kind::ResourceAttrs, known)?;
+    let scopes = index_pairs(alloc, set, Kind::ScopeAttrs, known)?;
+    let pairs = index_pairs(alloc, set, Kind::LogAttrs, known)?;
     Ok(Main {
         front,
         items: Records { rows, pairs },

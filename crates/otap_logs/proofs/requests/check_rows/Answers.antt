@@ -1,6 +1,22 @@
+use Rattle.std.proofs.Common.{◌∙◌, ◌^◌, List, refl, ap}
+use Rattle.std.specs.Prelude.{min}
+use Rattle.otlp_model.specs.Weight.{weight_of}
+use Rattle.otlp_model.specs.declared.logs.LogRecord.{LogRecord}
+use Rattle.otlp_model.specs.declared.groups.ResourceGroup.{ResourceGroup}
+use Rattle.otlp_model.specs.declared.request.Request.TheVariants.{Logs}
+use Rattle.otap_cells.specs.declared.payload.Kind.TheVariants as table
 use Rattle.otap_cells.specs.Sets.{tables_in}
-use Rattle.otap_logs.proofs.Cleanness.{clean}
+use Rattle.otap_logs.proofs.Cleanness.{clean, none_unlike}
+use Rattle.otap_logs.proofs.Regrouping.{no_groups}
 use Rattle.otap_logs.proofs.requests.check_rows.Goals as goal
 
-pub returns-clause-clean : goal.returns-clause-clean
-returns-clause-clean g c = clean (tables_in g.R.Rows.table c.args.set.now.tables.items) c.in_ok-check_cells.ensures.clean c.in_ok-weight.ensures.clean
+pub returns-in_default-clause-clean : goal.returns-in_default-clause-clean
+returns-in_default-clause-clean g c =
+    let tables = tables_in g.R.Rows.table c.args.set.now.tables.items in
+    clean tables c.in_ok-known.ensures.clean (none_unlike tables table.Logs c.in_default.ensures.table)
+
+pub returns-in_default-clause-weight : goal.returns-in_default-clause-weight
+returns-in_default-clause-weight g c = rw (no_groups (tables_in g.R.Rows.table c.args.set.now.tables.items) c.in_default.ensures.table) refl
+
+pub returns-clause-weight : goal.returns-clause-weight
+returns-clause-weight g c = c.weight.ensures ∙ ap (λ (groups : List (ResourceGroup LogRecord)). min (weight_of (Logs groups)) (2 ^ 63)) c.in_ok-main.ensures.groups

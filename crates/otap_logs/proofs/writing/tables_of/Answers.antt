@@ -7,7 +7,8 @@ use Rattle.otap_cells.specs.declared.payload.Kind.TheVariants as table
 use Rattle.otap_cells.specs.Tables.{Table}
 use Rattle.otap_groups.specs.Views.{seen_flat}
 use Rattle.otap_groups.proofs.FlatItems.{items_of_rows}
-use Rattle.otap_logs.proofs.WrittenParts.{attributes_kind, found_table, items_few, records_can, records_few, resources_can, resources_few, rows_can, scopes_can, scopes_few, written}
+use Rattle.otap_attrs.proofs.FoundLists.{found_table}
+use Rattle.otap_logs.proofs.WrittenParts.{attributes_kind, items_few, records_can, records_few, resources_can, resources_few, rows_can, scopes_can, scopes_few, written}
 use Rattle.otap_logs.proofs.WrittenSet.{are_tables, is_set, pushed}
 use Rattle.otap_logs.proofs.WrittenWeight.{all_can}
 use Rattle.otap_logs.proofs.writing.tables_of.Goals as goal
