@@ -18,13 +18,14 @@ use Rattle.otap_cells.specs.Tables.{Table, cell_in, column_in}
 use Rattle.otap_columns.specs.declared.forms.ColumnForm.{ColumnForm}
 use Rattle.otap_columns.specs.declared.forms.ColumnForm.TheVariants as form
 use Rattle.otap_columns.specs.Observed.{id_width, number_bytes, bytes_for}
-use Rattle.otap_columns.specs.WrittenCells.{place_in, stored_for, plain_width, width_for, stored_column}
+use Rattle.otap_columns.specs.Schemas.{is_dictionary}
+use Rattle.otap_columns.specs.WrittenCells.{index_width, place_in, stored_for, plain_width, width_for, stored_column}
 
 -- ---- each cell has its column's width
 
-index_width : (n : ℕ) (o : Option ℕ) → ForSome (option_map (little_bytes n) o) (HasWidth (width.Fixed n))
-index_width n None = λ x is. absurd (cc)
-index_width n (Some place) = λ x is. let same : little_bytes n place ≡ x = cc in subst (λ (v : List ℕ). length v ≡ n) same (length-bytes_low_first 0 n place)
+index_has_width : (n : ℕ) (o : Option ℕ) → ForSome (option_map (little_bytes n) o) (HasWidth (width.Fixed n))
+index_has_width n None = λ x is. absurd (cc)
+index_has_width n (Some place) = λ x is. let same : little_bytes n place ≡ x = cc in subst (λ (v : List ℕ). length v ≡ n) same (length-bytes_low_first 0 n place)
 
 long : (n x : ℕ) → length (little_bytes n x) ≡ n
 long n x = length-bytes_low_first 0 n x
@@ -100,8 +101,8 @@ plain_fits holds f (flag b) is = λ x some.
 plain_fits holds f (bytes part) is = λ x some. let same : part ≡ x = cc in subst (HasWidth (plain_width holds f)) same (bytes_width holds f part is)
 
 pub stored_fits : (holds : Base) (f : ColumnForm) (values : List (List ℕ)) (cell : Cell) → IsCellOf holds cell → ForSome (stored_for holds f values cell) (HasWidth (width_for holds f))
-stored_fits holds form.Dict8 values cell is = index_width 1 (place_in values (bytes_for holds form.Dict8 cell))
-stored_fits holds form.Dict16 values cell is = index_width 2 (place_in values (bytes_for holds form.Dict16 cell))
+stored_fits holds form.Dict8 values cell is = index_has_width 1 (place_in values (bytes_for holds form.Dict8 cell))
+stored_fits holds form.Dict16 values cell is = index_has_width 2 (place_in values (bytes_for holds form.Dict16 cell))
 stored_fits holds form.Absent values cell is = plain_fits holds form.Absent cell is
 stored_fits holds form.Plain values cell is = plain_fits holds form.Plain cell is
 stored_fits holds form.Wide values cell is = plain_fits holds form.Wide cell is
@@ -111,6 +112,31 @@ pub push_fits : (holds : Base) (f : ColumnForm) (values : List (List ℕ)) (cell
     → part ≡ stored_for holds f values cell → IsCellOf holds cell → ForSome part (HasWidth b.width)
 push_fits holds f values cell b cells part same is of =
     subst (λ (w : Width). ForSome part (HasWidth w)) (ap (λ (c : ColumnIn). c.width) (sym same)) (subst (λ (o : Option (List ℕ)). ForSome o (HasWidth (width_for holds f))) (sym is) (stored_fits holds f values cell of))
+
+-- ---- what is written for a cell, by its form
+
+pub plain_stored : (holds : Base) (f : ColumnForm) (values : List (List ℕ)) (cell : Cell) → is_dictionary f ≡ false → bytes_for holds f cell ≡ stored_for holds f values cell
+plain_stored holds form.Absent values cell plain = refl
+plain_stored holds form.Plain values cell plain = refl
+plain_stored holds form.Wide values cell plain = refl
+plain_stored holds form.Dict8 values cell plain = cc
+plain_stored holds form.Dict16 values cell plain = cc
+
+pub index_stored : (holds : Base) (f : ColumnForm) (values : List (List ℕ)) (cell : Cell) → is_dictionary f ≡ true
+    → option_map (little_bytes (index_width f)) (place_in values (bytes_for holds f cell)) ≡ stored_for holds f values cell
+index_stored holds form.Dict8 values cell dictionary = refl
+index_stored holds form.Dict16 values cell dictionary = refl
+index_stored holds form.Absent values cell dictionary = cc
+index_stored holds form.Plain values cell dictionary = cc
+index_stored holds form.Wide values cell dictionary = cc
+
+pub plain_column : (f : ColumnForm) (values : List (List ℕ)) (t : Table) (column : ℕ) → is_dictionary f ≡ false → stored_column f [] t column ≡ stored_column f values t column
+unfolding stored_column
+plain_column form.Absent values t column plain = refl
+plain_column form.Plain values t column plain = refl
+plain_column form.Wide values t column plain = refl
+plain_column form.Dict8 values t column plain = cc
+plain_column form.Dict16 values t column plain = cc
 
 -- ---- row by row
 

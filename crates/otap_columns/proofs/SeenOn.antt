@@ -13,7 +13,7 @@ use Rattle.otap_cells.specs.Columns.{column_at, base_at, is_id_at}
 use Rattle.otap_cells.specs.Tables.{Table, cell_in, column_in}
 use Rattle.otap_dicts.specs.declared.form.Form.TheVariants as ladder
 use Rattle.otap_dicts.specs.Forms.{distinct, bytes_of, is_too_large, form_of}
-use Rattle.otap_dicts.specs.Ladders.{LadderIn, ladder_of}
+use Rattle.otap_dicts.specs.Ladders.{LadderIn, ladder_of, observed}
 use Rattle.otap_dicts.proofs.Observing.{observed-push}
 use Rattle.otap_columns.specs.declared.forms.ColumnForm.{ColumnForm}
 use Rattle.otap_columns.specs.declared.forms.ColumnForm.TheVariants as form
@@ -32,6 +32,18 @@ cells_more holds rows column row x start low is =
     let inside : row < length cells = omega (arith, long) in
     let one : take (row + 1) cells ≡ take row cells ++ x ∷ [] = take_more cells row None inside ∙ ap (λ y. take row cells ++ y ∷ []) (cell_at-map (bytes_for holds form.Wide) rows column row low ∙ sym is) in
     sym (ap (λ (cs : List (Option (List ℕ))). fold observed_if start cs) one ∙ fold-append observed_if start (take row cells) (x ∷ []))
+
+-- a cell again changes nothing, and no cell changes a plain ladder
+pub again_changes_nothing : ((l : LadderIn) (value : List ℕ) → observed (observed l value) value ≡ observed l value)
+    → (l : LadderIn) (x : Option (List ℕ)) → observed_if (observed_if l x) x ≡ observed_if l x
+again_changes_nothing law l None = refl
+again_changes_nothing law l (Some value) = law l value
+
+pub plain_stays : ((l : LadderIn) (value : List ℕ) → l.form ≡ ladder.Plain → observed l value ≡ l)
+    → (l : LadderIn) → l.form ≡ ladder.Plain → (cells : List (Option (List ℕ))) → l ≡ fold observed_if l cells
+plain_stays law l plain [] = refl
+plain_stays law l plain (None ∷ cells) = plain_stays law l plain cells
+plain_stays law l plain (Some value ∷ cells) = plain_stays law l plain cells ∙ sym (ap (λ (m : LadderIn). fold observed_if m cells) (law l value plain))
 
 -- all cells of a column
 observes : (marked : Bool) (values : List (List ℕ)) (cells : List (Option (List ℕ))) → fold observed_if (ladder_of marked values) cells ≡ ladder_of marked (values ++ given cells)

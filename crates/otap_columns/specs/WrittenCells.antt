@@ -45,6 +45,16 @@ FitsIndexes form.Dict8 count = count ≤ 256
 FitsIndexes form.Dict16 count = count ≤ 65536
 FitsIndexes form count = Unit {0}
 
+-- how many bytes an index has, and whether a place is one that the form reaches
+abbrev pub index_width : ColumnForm → ℕ
+index_width form.Dict8 = 1
+index_width other = 2
+
+abbrev pub IsIndexFor : ColumnForm → Option ℕ → Type 0
+IsIndexFor form None = Unit {0}
+IsIndexFor form.Dict8 (Some place) = place < 256
+IsIndexFor other (Some place) = place < 65536
+
 -- WHAT IS WRITTEN for a cell: its index in a dictionary's form, else its bytes
 abbrev pub stored_for : Base → ColumnForm → List (List ℕ) → Cell → Option (List ℕ)
 stored_for holds form.Dict8 values cell = index_bytes 1 values (bytes_for holds form.Dict8 cell)

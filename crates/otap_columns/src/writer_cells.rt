@@ -1,16 +1,20 @@
 //! The bytes that are written for a cell, the lowest byte of a number first (Arrow columnar format, "Fixed-size primitive
 //! layout").
 
-ghost use Rattle.std.specs.Prelude.{◌≡◌, ◌<◌, ◌^◌, length};
-ghost use Rattle.std.specs.Option.{option_copied};
+ghost use Rattle.std.specs.Prelude.{◌≡◌, ◌+◌, ◌<◌, ◌^◌, [], ◌∷◌, ◌++◌, Some, length, option_map, true, OnOk};
+ghost use Rattle.arrow_buffers.specs.Columns.{HasWidth, cell_len, cells_len};
+ghost use Rattle.std.specs.Option.{ForSome, option_copied};
 ghost use Rattle.byteorder.specs.Endian.{little_bytes};
 ghost use Rattle.otap_cells.specs.Cells.{IsCellOf, IsNumberOf, number, seen};
 ghost use Rattle.otap_columns.specs.Observed.{FitsForm, bytes_for, id_bits, id_width, number_bytes};
-ghost use Rattle.otap_columns.specs.WrittenCells.{FitsIndexes, place_in, shown, stored_for};
+ghost use Rattle.otap_columns.specs.Schemas.{is_dictionary};
+ghost use Rattle.otap_columns.specs.WrittenCells.{IsIndexFor, index_width, place_in, shown};
 
 use crate::forms::ColumnForm;
+use arrow_buffers::ColumnBuilder;
 use otap_cells::{Base, CellView};
 use otap_dicts::Ladder;
+use std::alloc::AllocError;
 
 /// What is written for a cell: nothing where it is null, the bytes of a number, or a part of the table.
 #[derive(Clone, Copy, Debug)]
@@ -83,30 +87,112 @@ fn id_bytes<'a>(form: ColumnForm, id: u32) -> CellBytes<'a>
     }
 }
 
-/// What is written for a cell: its index, where the column is a dictionary that has each of its values, else its bytes.
-pub(crate) fn stored_for<'a>(
+/// Whether a column is written as a dictionary.
+pub(crate) fn is_dictionary(form: ColumnForm) -> bool
+    ensures { result ≡ is_dictionary form }
+{
+    matches!(form, ColumnForm::Dict8 | ColumnForm::Dict16)
+}
+
+/// Adds the bytes of a cell to a column.
+pub(crate) fn push_value(
+    built: &mut ColumnBuilder,
+    base: Base,
+    form: ColumnForm,
+    cell: CellView<'_>,
+) -> Result<(), AllocError>
+    requires base { IsCellOf base (seen cell) }
+    requires fits { FitsForm base form (seen cell) }
+    requires width { ForSome (bytes_for base form (seen cell)) (HasWidth built.old.width) }
+    requires room { cells_len built.old.cells + cell_len (bytes_for base form (seen cell)) < 2 ^ 31 }
+    ensures { OnOk result (built.new ≡ record { width = built.old.width; cells = built.old.cells ++ bytes_for base form (seen cell.entry) ∷ [] }) }
+{
+    match cell {
+        CellView::Null => built.push(None),
+        CellView::Num(number) => push_number(built, base, form, number),
+        CellView::Bits(bits) => built.push(Some(&bits.to_le_bytes())),
+        CellView::Flag(flag) => built.push(Some(&[u8::from(flag)])),
+        CellView::Bytes(part) => built.push(Some(part)),
+    }
+}
+
+fn push_number(
+    built: &mut ColumnBuilder,
+    base: Base,
+    form: ColumnForm,
+    n: i64,
+) -> Result<(), AllocError>
+    requires base { IsNumberOf base n }
+    requires fits { FitsForm base form (number n) }
+    requires width { HasWidth built.old.width (number_bytes base form n) }
+    requires room { cells_len built.old.cells + length (number_bytes base form n) < 2 ^ 31 }
+    ensures { OnOk result (built.new ≡ record { width = built.old.width; cells = built.old.cells ++ Some (number_bytes base form n) ∷ [] }) }
+{
+    match base {
+        Base::U8 => built.push(Some(&[n as u8])),
+        Base::U16 => built.push(Some(&(n as u16).to_le_bytes())),
+        Base::U32 => built.push(Some(&(n as u32).to_le_bytes())),
+        Base::I32 => built.push(Some(&(n as i32).to_le_bytes())),
+        Base::I64 => built.push(Some(&n.to_le_bytes())),
+        Base::Id { .. } => push_id(built, form, n as u32),
+        _ => Ok(()),
+    }
+}
+
+fn push_id(built: &mut ColumnBuilder, form: ColumnForm, id: u32) -> Result<(), AllocError>
+    requires fits { id < 2 ^ id_bits form }
+    requires width { HasWidth built.old.width (little_bytes (id_width form) id) }
+    requires room { cells_len built.old.cells + length (little_bytes (id_width form) id) < 2 ^ 31 }
+    ensures { OnOk result (built.new ≡ record { width = built.old.width; cells = built.old.cells ++ Some (little_bytes (id_width form) id) ∷ [] }) }
+{
+    match form {
+        ColumnForm::Wide => built.push(Some(&id.to_le_bytes())),
+        ColumnForm::Absent | ColumnForm::Plain | ColumnForm::Dict8 | ColumnForm::Dict16 => {
+            built.push(Some(&(id as u16).to_le_bytes()))
+        }
+    }
+}
+
+/// Adds the index of a cell to a column; null has none.
+pub(crate) fn push_index(
+    built: &mut ColumnBuilder,
+    form: ColumnForm,
+    place: Option<u32>,
+) -> Result<(), AllocError>
+    requires fits { IsIndexFor form place }
+    requires width { ForSome (option_map (little_bytes (index_width form)) place) (HasWidth built.old.width) }
+    requires room { cells_len built.old.cells + cell_len (option_map (little_bytes (index_width form)) place) < 2 ^ 31 }
+    ensures { OnOk result (built.new ≡ record { width = built.old.width; cells = built.old.cells ++ option_map (little_bytes (index_width form)) place ∷ [] }) }
+{
+    match place {
+        None => built.push(None),
+        Some(place) => match form {
+            ColumnForm::Dict8 => built.push(Some(&[place as u8])),
+            ColumnForm::Absent | ColumnForm::Plain | ColumnForm::Wide | ColumnForm::Dict16 => {
+                built.push(Some(&(place as u16).to_le_bytes()))
+            }
+        },
+    }
+}
+
+/// The place of a cell's value in a dictionary, where that of another cell is known.
+pub(crate) fn place_after(
     base: Base,
     form: ColumnForm,
     ladder: &Ladder,
-    cell: CellView<'a>,
-) -> CellBytes<'a>
+    before: CellView<'_>,
+    place: Option<u32>,
+    cell: CellView<'_>,
+) -> Option<u32>
     requires base { IsCellOf base (seen cell) }
     requires fits { FitsForm base form (seen cell) }
-    requires few { FitsIndexes form (length ladder.now.values) }
-    ensures { shown result ≡ stored_for base form ladder.now.values (seen cell.entry) }
+    requires known { place ≡ place_in ladder.now.values (bytes_for base form (seen before)) }
+    ensures { result ≡ place_in ladder.now.values (bytes_for base form (seen cell.entry)) }
 {
-    let bytes = bytes_for(base, form, cell);
-    match form {
-        ColumnForm::Dict8 => match place_of(ladder, &bytes) {
-            None => CellBytes::Null,
-            Some(place) => CellBytes::One([place as u8]),
-        },
-        ColumnForm::Dict16 => match place_of(ladder, &bytes) {
-            None => CellBytes::Null,
-            Some(place) => CellBytes::Two((place as u16).to_le_bytes()),
-        },
-        ColumnForm::Absent | ColumnForm::Plain | ColumnForm::Wide => bytes,
+    if is_same(before, cell) {
+        return place;
     }
+    place_of(ladder, &bytes_for(base, form, cell))
 }
 
 // The place of a cell's value in a dictionary.
@@ -116,5 +202,19 @@ fn place_of(ladder: &Ladder, bytes: &CellBytes<'_>) -> Option<u32>
     match bytes.as_slice() {
         None => None,
         Some(part) => ladder.index_of(part),
+    }
+}
+
+/// Whether two cells are the same. Takes the time to compare their bytes.
+pub(crate) fn is_same(a: CellView<'_>, b: CellView<'_>) -> bool
+    ensures { result ≡ true → seen a.entry ≡ seen b.entry }
+{
+    match (a, b) {
+        (CellView::Null, CellView::Null) => true,
+        (CellView::Num(a), CellView::Num(b)) => a == b,
+        (CellView::Bits(a), CellView::Bits(b)) => a == b,
+        (CellView::Flag(a), CellView::Flag(b)) => a == b,
+        (CellView::Bytes(a), CellView::Bytes(b)) => a == b,
+        _ => false,
     }
 }

@@ -1,17 +1,18 @@
 //! The columns of a record batch, and what they add to it.
 
-ghost use Rattle.std.specs.Prelude.{◌≡◌, ◌+◌, ◌/◌, ◌<◌, ◌≤◌, ◌^◌, [], ◌∷◌, ◌++◌, length, pos, IfOk, OnOk};
+ghost use Rattle.std.specs.Prelude.{◌≡◌, ◌+◌, ◌/◌, ◌<◌, ◌≤◌, ◌^◌, [], ◌∷◌, ◌++◌, false, length, pos, true, IfOk, OnOk};
 ghost use Rattle.arrow_buffers.specs.Columns.{cells_len};
 ghost use Rattle.arrow_ipc.specs.Limits.{max_body, max_parts};
 ghost use Rattle.arrow_ipc.specs.Written.{body_size, padded};
 ghost use Rattle.otap_cells.specs.Columns.{base_at, width_of};
+ghost use Rattle.otap_columns.specs.Schemas.{is_dictionary};
 ghost use Rattle.otap_columns.specs.WrittenCells.{FitsColumn, FitsIndexes, HasRoom, parts_of, plain_width, stored_column, width_for, with_parts};
 
 use crate::forms::ColumnForm;
-use crate::writer_cells::stored_for;
+use crate::writer_cells::{is_dictionary, place_after, push_index, push_value};
 use arrow_buffers::{Buffers, ColumnBuilder, Width};
 use arrow_ipc::BatchBuilder;
-use otap_cells::{Base, LogicalTable, Rows, base_of};
+use otap_cells::{Base, CellView, LogicalTable, Rows, base_of};
 use otap_dicts::Ladder;
 use std::alloc::{AllocError, Global};
 
@@ -61,11 +62,58 @@ pub(crate) fn column_for(
     requires room { cells_len (stored_column form ladder.now.values table.now column) < 2 ^ 31 }
     ensures { IfOk result (λ built. built ≡ record { width = width_for (base_at table.now.kind column) form; cells = stored_column form ladder.now.values table.now column }) }
 {
+    if is_dictionary(form) {
+        indexes_for(alloc, table, column, form, ladder)
+    } else {
+        values_for(alloc, table, column, form)
+    }
+}
+
+// A column that is written as its values.
+fn values_for(
+    alloc: Global,
+    table: &LogicalTable,
+    column: u32,
+    form: ColumnForm,
+) -> Result<ColumnBuilder, AllocError>
+    requires column { column < width_of table.now.kind }
+    requires fits { FitsColumn form table.now column }
+    requires plain { is_dictionary form ≡ false }
+    requires room { cells_len (stored_column form [] table.now column) < 2 ^ 31 }
+    ensures { IfOk result (λ built. built ≡ record { width = width_for (base_at table.now.kind column) form; cells = stored_column form [] table.now column }) }
+{
     let base = base_of(table.kind(), column);
     let mut built = ColumnBuilder::new(alloc, width_for(base, form));
     'rows: for row in 0..table.rows() {
-        let cell = stored_for(base, form, ladder, table.cell(column, row));
-        built.push(cell.as_slice())?;
+        push_value(&mut built, base, form, table.cell(column, row))?;
+    }
+    Ok(built)
+}
+
+// A column that is written as indexes. A cell that is the same as the one before isn't looked up again.
+fn indexes_for(
+    alloc: Global,
+    table: &LogicalTable,
+    column: u32,
+    form: ColumnForm,
+    ladder: &Ladder,
+) -> Result<ColumnBuilder, AllocError>
+    requires column { column < width_of table.now.kind }
+    requires fits { FitsColumn form table.now column }
+    requires few { FitsIndexes form (length ladder.now.values) }
+    requires dictionary { is_dictionary form ≡ true }
+    requires room { cells_len (stored_column form ladder.now.values table.now column) < 2 ^ 31 }
+    ensures { IfOk result (λ built. built ≡ record { width = width_for (base_at table.now.kind column) form; cells = stored_column form ladder.now.values table.now column }) }
+{
+    let base = base_of(table.kind(), column);
+    let mut built = ColumnBuilder::new(alloc, width_for(base, form));
+    let mut before = CellView::Null;
+    let mut place = None;
+    'rows: for row in 0..table.rows() {
+        let cell = table.cell(column, row);
+        place = place_after(base, form, ladder, before, place, cell);
+        before = cell;
+        push_index(&mut built, form, place)?;
     }
     Ok(built)
 }

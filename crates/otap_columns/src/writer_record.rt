@@ -11,6 +11,7 @@ ghost use Rattle.otap_columns.specs.WrittenRows.{CanWrite, HasValues, columns_in
 
 use crate::forms::ColumnForm;
 use crate::writer_batches::add_dictionary;
+use crate::writer_cells::is_dictionary;
 use crate::writer_columns::plain_width;
 use crate::writer_rows::{ladder_at, rows_of};
 use crate::writer_schema::{form_of, schema_of, type_of};
@@ -39,12 +40,6 @@ fn add_opening(
     let schema = schema_of(alloc, kind, forms)?;
     added_is_read();
     write_schema(to, &schema)
-}
-
-fn is_dictionary(form: ColumnForm) -> bool
-    ensures { result ≡ is_dictionary form }
-{
-    matches!(form, ColumnForm::Dict8 | ColumnForm::Dict16)
 }
 
 // Whether the values of a column are written from a place on.

@@ -5,14 +5,18 @@ ghost use Rattle.std.specs.List.{list_any};
 ghost use Rattle.otap_cells.specs.Columns.{base_at, coding_at, is_id_at, width_of};
 ghost use Rattle.otap_cells.specs.Continuing.{continues_in};
 ghost use Rattle.otap_cells.specs.Tables.{Table, coding_in, column_in};
+ghost use Rattle.otap_dicts.specs.declared.form.Form.TheVariants.{Plain};
 ghost use Rattle.otap_columns.specs.declared.forms.ColumnForm.TheVariants as form;
 ghost use Rattle.otap_columns.specs.Observed.{bytes_for, form_at, has_wide_id, is_above, is_main, is_own_id, is_wide, of_ladder};
 ghost use Rattle.otap_columns.specs.Seen.{SeesTable, form_told, id_form_told, is_absent, observed_if, seen_after};
 ghost use Rattle.otap_columns.specs.WrittenCells.{shown};
 
 use crate::forms::ColumnForm;
-use crate::writer_cells::{CellBytes, bytes_for};
-use otap_cells::{Base, Kind, LogicalTable, Rows, base_of, columns, stored_numbers, undo};
+use crate::writer_cells::{CellBytes, bytes_for, is_same};
+use otap_cells::{
+    Base, CellView, Kind, LogicalTable, Rows, base_of, columns, stored_numbers, undo,
+};
+use otap_dicts::laws::a_value_again_changes_nothing;
 use otap_dicts::{Form, Ladder};
 use std::alloc::{AllocError, Global};
 use std::marker::Model;
@@ -177,17 +181,34 @@ fn needs_wide(
     has_wide_id(alloc, table, column, continues)
 }
 
-// Observes the cells of a column.
+// Observes the cells of a column. Once the column is plain no cell is looked at, and a cell that is the same as the one before
+// isn't looked up.
 fn observe_values(ladder: &mut Ladder, table: &LogicalTable, column: u32) -> Result<(), AllocError>
     requires { column < width_of table.now.kind }
     ensures { OnOk result (ladder.new ≡ fold observed_if ladder.old (map (bytes_for (base_at table.now.kind column) form.Wide) (column_in table.now.rows column))) }
 {
+    a_value_again_changes_nothing();
+    if is_plain(ladder.form()) {
+        return Ok(());
+    }
     let base = base_of(table.kind(), column);
+    let mut before = CellView::Null;
     'rows: for row in 0..table.rows() {
-        let cell = bytes_for(base, ColumnForm::Wide, table.cell(column, row));
-        observe_cell(ladder, &cell)?;
+        let cell = table.cell(column, row);
+        if is_same(before, cell) {
+            continue;
+        }
+        let bytes = bytes_for(base, ColumnForm::Wide, cell);
+        observe_cell(ladder, &bytes)?;
+        before = cell;
     }
     Ok(())
+}
+
+fn is_plain(form: Form) -> bool
+    ensures { result ≡ true → form ≡ Plain }
+{
+    matches!(form, Form::Plain)
 }
 
 fn observe_cell(ladder: &mut Ladder, cell: &CellBytes<'_>) -> Result<(), AllocError>
