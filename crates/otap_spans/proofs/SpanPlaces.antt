@@ -1,0 +1,153 @@
+-- The own cells of spans, events and links stand in their rows after those of the front.
+use Rattle.std.proofs.Common.{◌≡◌, ℕ, ◌+◌, ◌^◌, ◌<◌, List, [], ◌∷◌, Option, None, Some, map, drop, length, get_or, ◌∙◌, refl, sym, ap, arith}
+use Rattle.std.specs.Prelude.{min, sum}
+use Rattle.std.proofs.lemmas.List.{get_or-map, get_or-drop, length-map}
+use Rattle.otlp_model.specs.Weight.{total, weight_of_event, weight_of_link, weight_of_pair, weight_of_span}
+use Rattle.otlp_model.specs.declared.value.Pair.{Pair}
+use Rattle.otlp_model.specs.declared.spans.Span.{Span}
+use Rattle.otlp_model.specs.declared.spans.Event.{Event}
+use Rattle.otlp_model.specs.declared.spans.Link.{Link}
+use Rattle.otap_cells.specs.Cells.{Cell, null, bytes_in, nat_in}
+use Rattle.otap_cells.specs.Scalars.{int_in, bits_in}
+use Rattle.otap_cells.specs.Tables.{cell_in}
+use Rattle.otap_groups.specs.Inside.{finds_in, weighs_in}
+use Rattle.otap_groups.specs.Rows.{cell_at}
+use Rattle.otap_spans.specs.Records.{end_of, event_of, link_of, span_of}
+
+-- the own cells of a row, behind this many of the front
+abbrev pub own_cells : ℕ → List (List Cell) → ℕ → List Cell
+own_cells front rows row = get_or (map (drop front) rows) row []
+
+pub own_cell : (front : ℕ) (rows : List (List Cell)) (row k : ℕ) → row < length rows → cell_at (own_cells front rows row) k ≡ cell_in rows (front + k) row
+own_cell front rows row k within = rw (get_or-map (drop front) rows row [] [] within) (get_or-drop front (get_or rows row []) k null)
+
+-- ---- reading
+
+pub span_read : (span : Span) (rows : List (List Cell)) (row : ℕ) (pairs : List Pair) (events : List Event) (links : List Link) → row < length (map (drop 9) rows)
+    → span.trace_id ≡ bytes_in (cell_in rows 11 row) → span.span_id ≡ bytes_in (cell_in rows 12 row) → span.parent_span_id ≡ bytes_in (cell_in rows 14 row)
+    → span.trace_state ≡ bytes_in (cell_in rows 13 row) → span.name ≡ bytes_in (cell_in rows 15 row) → span.kind ≡ int_in (cell_in rows 16 row)
+    → span.start ≡ bits_in (cell_in rows 9 row) → span.end ≡ end_of (bits_in (cell_in rows 9 row)) (bits_in (cell_in rows 10 row))
+    → span.flags ≡ nat_in (cell_in rows 22 row) → span.pairs ≡ pairs → span.dropped_pairs ≡ nat_in (cell_in rows 17 row)
+    → span.events ≡ events → span.dropped_events ≡ nat_in (cell_in rows 18 row) → span.links ≡ links → span.dropped_links ≡ nat_in (cell_in rows 19 row)
+    → span.status_code ≡ int_in (cell_in rows 20 row) → span.status_message ≡ bytes_in (cell_in rows 21 row)
+    → span ≡ span_of (own_cells 9 rows row) pairs events links
+unfolding span_of
+span_read span rows row pairs events links inside is_trace is_span is_parent is_state is_name is_kind is_start is_end is_flags are_pairs is_pairs are_events is_events are_links is_links is_code is_message =
+    let within : row < length rows = simp length-map at inside in
+    let start : bits_in (cell_in rows 9 row) ≡ bits_in (cell_at (own_cells 9 rows row) 0) = ap bits_in (sym (own_cell 9 rows row 0 within)) in
+    let duration : bits_in (cell_in rows 10 row) ≡ bits_in (cell_at (own_cells 9 rows row) 1) = ap bits_in (sym (own_cell 9 rows row 1 within)) in λ i. record {
+      trace_id = (is_trace ∙ ap bytes_in (sym (own_cell 9 rows row 2 within))) i;
+      span_id = (is_span ∙ ap bytes_in (sym (own_cell 9 rows row 3 within))) i;
+      parent_span_id = (is_parent ∙ ap bytes_in (sym (own_cell 9 rows row 5 within))) i;
+      trace_state = (is_state ∙ ap bytes_in (sym (own_cell 9 rows row 4 within))) i;
+      name = (is_name ∙ ap bytes_in (sym (own_cell 9 rows row 6 within))) i;
+      kind = (is_kind ∙ ap int_in (sym (own_cell 9 rows row 7 within))) i;
+      start = (is_start ∙ start) i;
+      end = (is_end ∙ (λ j. end_of (start j) (duration j))) i;
+      flags = (is_flags ∙ ap nat_in (sym (own_cell 9 rows row 13 within))) i;
+      pairs = are_pairs i;
+      dropped_pairs = (is_pairs ∙ ap nat_in (sym (own_cell 9 rows row 8 within))) i;
+      events = are_events i;
+      dropped_events = (is_events ∙ ap nat_in (sym (own_cell 9 rows row 9 within))) i;
+      links = are_links i;
+      dropped_links = (is_links ∙ ap nat_in (sym (own_cell 9 rows row 10 within))) i;
+      status_code = (is_code ∙ ap int_in (sym (own_cell 9 rows row 11 within))) i;
+      status_message = (is_message ∙ ap bytes_in (sym (own_cell 9 rows row 12 within))) i;
+    }
+
+pub event_read : (event : Event) (rows : List (List Cell)) (row : ℕ) (pairs : List Pair) → row < length (map (drop 2) rows)
+    → event.time ≡ bits_in (cell_in rows 2 row) → event.name ≡ bytes_in (cell_in rows 3 row) → event.pairs ≡ pairs → event.dropped ≡ nat_in (cell_in rows 4 row)
+    → event ≡ event_of (own_cells 2 rows row) pairs
+unfolding event_of
+event_read event rows row pairs inside is_time is_name are_pairs is_dropped =
+    let within : row < length rows = simp length-map at inside in λ i. record {
+      time = (is_time ∙ ap bits_in (sym (own_cell 2 rows row 0 within))) i;
+      name = (is_name ∙ ap bytes_in (sym (own_cell 2 rows row 1 within))) i;
+      pairs = are_pairs i;
+      dropped = (is_dropped ∙ ap nat_in (sym (own_cell 2 rows row 2 within))) i;
+    }
+
+pub link_read : (link : Link) (rows : List (List Cell)) (row : ℕ) (pairs : List Pair) → row < length (map (drop 2) rows)
+    → link.trace_id ≡ bytes_in (cell_in rows 2 row) → link.span_id ≡ bytes_in (cell_in rows 3 row) → link.trace_state ≡ bytes_in (cell_in rows 4 row)
+    → link.flags ≡ nat_in (cell_in rows 6 row) → link.pairs ≡ pairs → link.dropped ≡ nat_in (cell_in rows 5 row)
+    → link ≡ link_of (own_cells 2 rows row) pairs
+unfolding link_of
+link_read link rows row pairs inside is_trace is_span is_state is_flags are_pairs is_dropped =
+    let within : row < length rows = simp length-map at inside in λ i. record {
+      trace_id = (is_trace ∙ ap bytes_in (sym (own_cell 2 rows row 0 within))) i;
+      span_id = (is_span ∙ ap bytes_in (sym (own_cell 2 rows row 1 within))) i;
+      trace_state = (is_state ∙ ap bytes_in (sym (own_cell 2 rows row 2 within))) i;
+      flags = (is_flags ∙ ap nat_in (sym (own_cell 2 rows row 4 within))) i;
+      pairs = are_pairs i;
+      dropped = (is_dropped ∙ ap nat_in (sym (own_cell 2 rows row 3 within))) i;
+    }
+
+-- ---- weights, told from the bytes of cells and from what is below
+
+-- the bytes of a cell, by its place among the own ones
+length_own : (front : ℕ) (rows : List (List Cell)) (row k : ℕ) (part : List ℕ) → row < length rows → part ≡ bytes_in (cell_in rows (front + k) row)
+    → length part ≡ length (bytes_in (cell_at (own_cells front rows row) k))
+length_own front rows row k part within is = ap length (is ∙ ap bytes_in (sym (own_cell front rows row k within)))
+
+-- what is below weighs as it is told, where each part does
+below_weighs : {C : Type 0} (below : ℕ) (weigh weight : C → ℕ) (parts : List C) → ((part : C) → weigh part ≡ weight part) → below ≡ min (total 32 weigh parts) (2 ^ 63)
+    → below ≡ min (total 32 weight parts) (2 ^ 63)
+below_weighs {C = C} below weigh weight parts same is = is ∙ ap (λ (w : C → ℕ). min (total 32 w parts) (2 ^ 63)) (λ i part. same part i)
+
+span_sum : (a b c d e f p v l n x y z : ℕ) → p ≡ min x (2 ^ 63) → v ≡ min y (2 ^ 63) → l ≡ min z (2 ^ 63)
+    → n ≡ min (sum (a ∷ b ∷ c ∷ d ∷ e ∷ f ∷ p ∷ v ∷ l ∷ [])) (2 ^ 63) → n ≡ min (a + b + c + d + e + f + x + y + z) (2 ^ 63)
+span_sum a b c d e f p v l n x y z of_p of_v of_l of_n = omega arith
+
+pub span_weighs : (rows : List (List Cell)) (row : ℕ) (pairs : List Pair) (events : List Event) (links : List Link) (trace span parent state name message : List ℕ)
+    (of_pairs of_events of_links total_weight : ℕ) (weigh_pair : Pair → ℕ) (weigh_event : Event → ℕ) (weigh_link : Link → ℕ) → row < length (map (drop 9) rows)
+    → trace ≡ bytes_in (cell_in rows 11 row) → span ≡ bytes_in (cell_in rows 12 row) → parent ≡ bytes_in (cell_in rows 14 row)
+    → state ≡ bytes_in (cell_in rows 13 row) → name ≡ bytes_in (cell_in rows 15 row) → message ≡ bytes_in (cell_in rows 21 row)
+    → ((pair : Pair) → weigh_pair pair ≡ weight_of_pair pair) → of_pairs ≡ min (total 32 weigh_pair pairs) (2 ^ 63)
+    → total 32 weigh_event events ≡ total 32 weight_of_event events → of_events ≡ min (total 32 weigh_event events) (2 ^ 63)
+    → total 32 weigh_link links ≡ total 32 weight_of_link links → of_links ≡ min (total 32 weigh_link links) (2 ^ 63)
+    → total_weight ≡ min (sum (length trace ∷ length span ∷ length parent ∷ length state ∷ length name ∷ length message ∷ of_pairs ∷ of_events ∷ of_links ∷ [])) (2 ^ 63)
+    → total_weight ≡ min (weight_of_span (span_of (own_cells 9 rows row) pairs events links)) (2 ^ 63)
+unfolding span_of
+span_weighs rows row pairs events links trace span parent state name message of_pairs of_events of_links total_weight weigh_pair weigh_event weigh_link inside
+    is_trace is_span is_parent is_state is_name is_message same_pairs is_pairs same_events is_events same_links is_links is_total =
+    let within : row < length rows = simp length-map at inside in
+    span_sum (length trace) (length span) (length parent) (length state) (length name) (length message) of_pairs of_events of_links total_weight
+    (total 32 weight_of_pair pairs) (total 32 weight_of_event events) (total 32 weight_of_link links)
+    (below_weighs of_pairs weigh_pair weight_of_pair pairs same_pairs is_pairs) (is_events ∙ ap (λ n. min n (2 ^ 63)) same_events)
+    (is_links ∙ ap (λ n. min n (2 ^ 63)) same_links) is_total
+    ∙ (λ i. min (length_own 9 rows row 2 trace within is_trace i + length_own 9 rows row 3 span within is_span i + length_own 9 rows row 5 parent within is_parent i
+    + length_own 9 rows row 4 state within is_state i + length_own 9 rows row 6 name within is_name i + length_own 9 rows row 12 message within is_message i
+    + total 32 weight_of_pair pairs + total 32 weight_of_event events + total 32 weight_of_link links) (2 ^ 63))
+
+event_sum : (a p n x : ℕ) → p ≡ min x (2 ^ 63) → n ≡ min (sum (a ∷ p ∷ [])) (2 ^ 63) → n ≡ min (a + x) (2 ^ 63)
+event_sum a p n x of_p of_n = omega arith
+
+pub event_weighs : (rows : List (List Cell)) (row : ℕ) (pairs : List Pair) (name : List ℕ) (of_pairs total_weight : ℕ) (weigh : Pair → ℕ) → row < length (map (drop 2) rows)
+    → name ≡ bytes_in (cell_in rows 3 row) → ((pair : Pair) → weigh pair ≡ weight_of_pair pair) → of_pairs ≡ min (total 32 weigh pairs) (2 ^ 63)
+    → total_weight ≡ min (sum (length name ∷ of_pairs ∷ [])) (2 ^ 63) → total_weight ≡ min (weight_of_event (event_of (own_cells 2 rows row) pairs)) (2 ^ 63)
+unfolding event_of
+event_weighs rows row pairs name of_pairs total_weight weigh inside is_name same is_pairs is_total =
+    let within : row < length rows = simp length-map at inside in
+    event_sum (length name) of_pairs total_weight (total 32 weight_of_pair pairs) (below_weighs of_pairs weigh weight_of_pair pairs same is_pairs) is_total
+    ∙ (λ i. min (length_own 2 rows row 1 name within is_name i + total 32 weight_of_pair pairs) (2 ^ 63))
+
+link_sum : (a b c p n x : ℕ) → p ≡ min x (2 ^ 63) → n ≡ min (sum (a ∷ b ∷ c ∷ p ∷ [])) (2 ^ 63) → n ≡ min (a + b + c + x) (2 ^ 63)
+link_sum a b c p n x of_p of_n = omega arith
+
+pub link_weighs : (rows : List (List Cell)) (row : ℕ) (pairs : List Pair) (trace span state : List ℕ) (of_pairs total_weight : ℕ) (weigh : Pair → ℕ) → row < length (map (drop 2) rows)
+    → trace ≡ bytes_in (cell_in rows 2 row) → span ≡ bytes_in (cell_in rows 3 row) → state ≡ bytes_in (cell_in rows 4 row)
+    → ((pair : Pair) → weigh pair ≡ weight_of_pair pair) → of_pairs ≡ min (total 32 weigh pairs) (2 ^ 63)
+    → total_weight ≡ min (sum (length trace ∷ length span ∷ length state ∷ of_pairs ∷ [])) (2 ^ 63)
+    → total_weight ≡ min (weight_of_link (link_of (own_cells 2 rows row) pairs)) (2 ^ 63)
+unfolding link_of
+link_weighs rows row pairs trace span state of_pairs total_weight weigh inside is_trace is_span is_state same is_pairs is_total =
+    let within : row < length rows = simp length-map at inside in
+    link_sum (length trace) (length span) (length state) of_pairs total_weight (total 32 weight_of_pair pairs) (below_weighs of_pairs weigh weight_of_pair pairs same is_pairs) is_total
+    ∙ (λ i. min (length_own 2 rows row 0 trace within is_trace i + length_own 2 rows row 1 span within is_span i + length_own 2 rows row 2 state within is_state i
+    + total 32 weight_of_pair pairs) (2 ^ 63))
+
+-- what is found in a table that may be missing weighs as it is told
+pub found_weigh : {L C : Type 0} (weigh : L → C → ℕ) (finds : L → Option ℕ → List C) (weight : C → ℕ) (lookup : Option L) → ((l : L) (part : C) → weigh l part ≡ weight part)
+    → (id : Option ℕ) → total 32 (weighs_in weigh lookup) (finds_in finds lookup id) ≡ total 32 weight (finds_in finds lookup id)
+found_weigh weigh finds weight None same id = refl
+found_weigh {C = C} weigh finds weight (Some l) same id = ap (λ (w : C → ℕ). total 32 w (finds l id)) (λ i part. same l part i)

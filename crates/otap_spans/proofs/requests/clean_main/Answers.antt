@@ -1,0 +1,37 @@
+use Rattle.std.proofs.Common.{◌∙◌, sym, subst, inr}
+use Rattle.otap_cells.specs.declared.payload.Kind.TheVariants as table
+use Rattle.otap_cells.specs.Sets.{tables_in}
+use Rattle.otap_checks.specs.Inside.{AreGiven}
+use Rattle.otap_checks.specs.Known.{Knows}
+use Rattle.otap_checks.specs.Reading.{Disagrees}
+use Rattle.otap_spans.proofs.Cleanness.{clean, given_spans, known_spans}
+use Rattle.otap_spans.proofs.SpanColumns.{spans_are_main}
+use Rattle.otap_spans.proofs.Regrouping.{regrouped_is}
+use Rattle.otap_spans.proofs.requests.clean_main.Goals as goal
+
+pub front_of-front-requires-clause-main : goal.front_of-front-requires-clause-main
+front_of-front-requires-clause-main g c = rw c.requires.kind spans_are_main
+
+pub front_of-front-requires-clause-known : goal.front_of-front-requires-clause-known
+front_of-front-requires-clause-known g c =
+    rw c.requires.kind
+    (subst (λ t. Knows t table.Spans c.args.known.now.columns.items) c.requires.table
+    (known_spans (tables_in g.R.Rows.table c.args.set.now.tables.items) c.args.known.now.columns.items c.requires.known))
+
+pub disagrees-requires-clause-given : goal.disagrees-requires-clause-given
+disagrees-requires-clause-given g c =
+    subst AreGiven (c.requires.table ∙ sym c.front_of-front.ensures.table) (given_spans (tables_in g.R.Rows.table c.args.set.now.tables.items) c.requires.whole)
+
+pub returns-then-branch-clause-refused : goal.returns-then-branch-clause-refused
+returns-then-branch-clause-refused g c =
+    inr (subst Disagrees (c.front_of-front.ensures.table ∙ sym c.requires.table) (c.in_ok-disagrees.ensures.yes c.if-branch.true))
+
+pub returns-clause-clean : goal.returns-clause-clean
+returns-clause-clean g c =
+    clean (tables_in g.R.Rows.table c.args.set.now.tables.items) c.requires.whole
+    (λ unlike. c.in_ok-disagrees.ensures.no c.if-branch.false (subst Disagrees (c.requires.table ∙ sym c.front_of-front.ensures.table) unlike))
+
+pub returns-clause-groups : goal.returns-clause-groups
+returns-clause-groups g c =
+    regrouped_is (tables_in g.R.Rows.table c.args.set.now.tables.items) (g.R.Rows.table c.args.rows.now) _ _ _ _ _ _ c.requires.table
+    (c.in_ok-main.ensures.front ∙ c.front_of-front.ensures.rows) c.in_ok-main.ensures.resources c.in_ok-main.ensures.scopes c.in_ok-main.ensures.pairs c.in_ok-main.ensures.events c.in_ok-main.ensures.links

@@ -1,0 +1,58 @@
+-- Words of private contracts.
+use Rattle.std.specs.Prelude.{ℕ, Contains, List, Option}
+use Rattle.otlp_model.specs.declared.request.Signal.TheVariants as signal
+use Rattle.otlp_model.specs.declared.spans.Event.{Event}
+use Rattle.otlp_model.specs.declared.spans.Link.{Link}
+use Rattle.otlp_model.specs.declared.value.Pair.{Pair}
+use Rattle.otap_cells.specs.declared.payload.Kind.{Kind}
+use Rattle.otap_cells.specs.declared.payload.Kind.TheVariants as table
+use Rattle.otap_cells.specs.Cells.{Cell}
+use Rattle.otap_cells.specs.Named.{table_named}
+use Rattle.otap_cells.specs.Tables.{Table}
+use Rattle.otap_groups.specs.declared.entry.Entry.{Entry}
+use Rattle.otap_groups.specs.Inside.{found}
+use Rattle.otap_attrs.specs.declared.refusal.RowRefusal.{RowRefusal}
+use Rattle.otap_attrs.specs.Values.{pair_in}
+use Rattle.otap_checks.specs.declared.known.ColumnIds.{ColumnIds}
+use Rattle.otap_checks.specs.declared.links.Link as hangs
+use Rattle.otap_checks.specs.IdDefects.{IdDefect}
+use Rattle.otap_checks.specs.Known.{Knows}
+use Rattle.otap_checks.specs.Links.{links_of}
+use Rattle.otap_checks.specs.Pairing.{cells_or}
+use Rattle.otap_checks.specs.Reading.{Disagrees}
+use Rattle.otap_checks.specs.ValueDefects.{WrongValue}
+use Rattle.otap_spans.specs.Records.{event_of, link_of}
+
+-- nothing is wrong with the values of the table of a kind
+abbrev pub HasFineValues : List Table → Kind → Type 0
+HasFineValues tables kind = (wrong : RowRefusal) → WrongValue (table_named kind tables) 2 wrong → ⊥
+
+-- nothing is wrong but that rows of one id may differ
+pub record AreWhole (tables : List Table) : Type 0 where
+  pub ids : (kind : Kind) (wrong : RowRefusal) → IdDefect signal.Traces tables kind wrong → ⊥
+  pub resources : HasFineValues tables table.ResourceAttrs
+  pub scopes : HasFineValues tables table.ScopeAttrs
+  pub spans : HasFineValues tables table.SpanAttrs
+  pub events : HasFineValues tables table.EventAttrs
+  pub links : HasFineValues tables table.LinkAttrs
+
+-- rows of one id differ
+abbrev pub IsUnlike : List Table → Type 0
+IsUnlike tables = Disagrees (table_named table.Spans tables)
+
+-- the ids of each table are known
+abbrev pub KnowsSpans : List Table → List ColumnIds → Type 0
+KnowsSpans tables known = (link : hangs.Link) → Contains (links_of signal.Traces) link → Knows (table_named link.kind tables) link.kind known
+
+-- ---- what is found below a parent by an index
+
+-- the pairs, where the rows may be missing
+abbrev pub pairs_by : {P : Type 0} → (P → List (List Cell)) → List (Option ℕ) → Option P → List Entry → Option ℕ → List Pair
+pairs_by cells ids rows entries parent = found (λ id own. pair_in own) ids (cells_or cells rows) entries parent
+
+-- the events, and the links, whose pairs are found in this way
+abbrev pub events_by : (Option ℕ → List Pair) → List (Option ℕ) → List (List Cell) → List Entry → Option ℕ → List Event
+events_by pairs ids cells entries parent = found (λ id own. event_of own (pairs id)) ids cells entries parent
+
+abbrev pub links_by : (Option ℕ → List Pair) → List (Option ℕ) → List (List Cell) → List Entry → Option ℕ → List Link
+links_by pairs ids cells entries parent = found (λ id own. link_of own (pairs id)) ids cells entries parent

@@ -1,0 +1,5 @@
+pub mod Inside
+pub mod Records
+pub mod Requests
+pub mod Tables
+pub mod Weighing

@@ -1,0 +1,63 @@
+-- The request that tables of spans make, and what may be wrong with their rows.
+use Rattle.std.specs.Prelude.{ℕ, List, Option, ◌⊎◌}
+use Rattle.otlp_model.specs.declared.groups.ResourceGroup.{ResourceGroup}
+use Rattle.otlp_model.specs.declared.spans.Span.{Span}
+use Rattle.otlp_model.specs.declared.spans.Event.{Event}
+use Rattle.otlp_model.specs.declared.spans.Link.{Link}
+use Rattle.otlp_model.specs.declared.request.Signal.TheVariants as signal
+use Rattle.otap_cells.specs.declared.payload.Kind.{Kind}
+use Rattle.otap_cells.specs.declared.payload.Kind.TheVariants as table
+use Rattle.otap_cells.specs.Cells.{Cell}
+use Rattle.otap_cells.specs.Named.{table_named}
+use Rattle.otap_cells.specs.Tables.{Table}
+use Rattle.otap_groups.specs.Children.{children}
+use Rattle.otap_groups.specs.Groups.{regrouped}
+use Rattle.otap_attrs.specs.declared.refusal.RowRefusal.{RowRefusal}
+use Rattle.otap_attrs.specs.declared.refusal.RowRefusal.TheVariants as why
+use Rattle.otap_checks.specs.IdDefects.{IdDefect}
+use Rattle.otap_checks.specs.ValueDefects.{WrongValue}
+use Rattle.otap_checks.specs.Reading.{main_rows_in, part_rows_in, pairs_in, Disagrees}
+use Rattle.otap_spans.specs.Records.{span_of, event_of, link_of}
+
+-- the event of an id and own cells, with the pairs that the table has for the id; and the same for links
+abbrev pub event_in : Table → Option ℕ → List Cell → Event
+event_in pair_table id cells = event_of cells (pairs_in pair_table id)
+
+abbrev pub link_in : Table → Option ℕ → List Cell → Link
+link_in pair_table id cells = link_of cells (pairs_in pair_table id)
+
+-- THE EVENTS AND LINKS of a parent, in the order of their rows
+abbrev pub events_in : Table → Table → Option ℕ → List Event
+events_in t pair_table = children (event_in pair_table) (part_rows_in t)
+
+abbrev pub links_in : Table → Table → Option ℕ → List Link
+links_in t pair_table = children (link_in pair_table) (part_rows_in t)
+
+-- the span of an id and own cells, with what the tables below have for the id
+abbrev pub span_in : List Table → Option ℕ → List Cell → Span
+span_in tables id cells = span_of cells
+    (pairs_in (table_named table.SpanAttrs tables) id)
+    (events_in (table_named table.SpanEvents tables) (table_named table.EventAttrs tables) id)
+    (links_in (table_named table.SpanLinks tables) (table_named table.LinkAttrs tables) id)
+
+-- THE REQUEST that tables make
+unfoldable pub regrouped_spans : List Table → List (ResourceGroup Span)
+regrouped_spans tables = regrouped
+    (pairs_in (table_named table.ResourceAttrs tables))
+    (pairs_in (table_named table.ScopeAttrs tables))
+    (span_in tables)
+    (main_rows_in (table_named table.Spans tables))
+
+-- what is wrong with a table beside its ids
+abbrev pub WrongCells : Table → Kind → RowRefusal → Type 0
+WrongCells t table.Spans why.Disagree = Disagrees t
+WrongCells t table.ResourceAttrs wrong = WrongValue t 2 wrong
+WrongCells t table.ScopeAttrs wrong = WrongValue t 2 wrong
+WrongCells t table.SpanAttrs wrong = WrongValue t 2 wrong
+WrongCells t table.EventAttrs wrong = WrongValue t 2 wrong
+WrongCells t table.LinkAttrs wrong = WrongValue t 2 wrong
+WrongCells t kind wrong = ⊥
+
+-- WHAT IS WRONG WITH THE ROWS of a kind's table among the tables of spans
+abbrev pub WrongSpans : List Table → Kind → RowRefusal → Type 0
+WrongSpans tables kind wrong = IdDefect signal.Traces tables kind wrong ⊎ WrongCells (table_named kind tables) kind wrong

@@ -1,0 +1,79 @@
+-- The tables of a request of spans.
+use Rattle.std.specs.Prelude.{◌≤◌, ◌∷◌, [], List, map, All}
+use Rattle.std.specs.List.{flat_map}
+use Rattle.otlp_model.specs.Limits.{weight_limit}
+use Rattle.otlp_model.specs.Profile.{IsTraceId, IsSpanId}
+use Rattle.otlp_model.specs.Weight.{total, weight_of_pair}
+use Rattle.otlp_model.specs.declared.groups.ResourceGroup.{ResourceGroup}
+use Rattle.otlp_model.specs.declared.spans.Span.{Span}
+use Rattle.otlp_model.specs.declared.spans.Event.{Event}
+use Rattle.otlp_model.specs.declared.spans.Link.{Link}
+use Rattle.otlp_model.specs.declared.value.Pair.{Pair}
+use Rattle.otap_cells.specs.declared.payload.Kind.TheVariants as table
+use Rattle.otap_cells.specs.Tables.{Table}
+use Rattle.otap_groups.specs.Flat.{items_of, resources_of, scopes_of}
+use Rattle.otap_groups.specs.Stored.{main_table, part_table}
+use Rattle.otap_attrs.specs.Tables.{attribute_table, where_rows}
+use Rattle.otap_spans.specs.Records.{span_cells, event_cells, link_cells}
+
+-- the events of each span, and all of them; the same of links
+abbrev pub event_lists : List (ResourceGroup Span) → List (List Event)
+event_lists groups = map (λ span. span.events) (items_of groups)
+
+abbrev pub all_events : List (ResourceGroup Span) → List Event
+all_events groups = flat_map (λ (span : Span). span.events) (items_of groups)
+
+abbrev pub link_lists : List (ResourceGroup Span) → List (List Link)
+link_lists groups = map (λ span. span.links) (items_of groups)
+
+abbrev pub all_links : List (ResourceGroup Span) → List Link
+all_links groups = flat_map (λ (span : Span). span.links) (items_of groups)
+
+-- the attributes of each resource, each scope, each span, each event and each link
+abbrev pub resource_pairs : List (ResourceGroup Span) → List (List Pair)
+resource_pairs groups = map (λ resource. resource.pairs) (resources_of groups)
+
+abbrev pub scope_pairs : List (ResourceGroup Span) → List (List Pair)
+scope_pairs groups = map (λ scope. scope.pairs) (scopes_of groups)
+
+abbrev pub span_pairs : List (ResourceGroup Span) → List (List Pair)
+span_pairs groups = map (λ span. span.pairs) (items_of groups)
+
+abbrev pub event_pairs : List (ResourceGroup Span) → List (List Pair)
+event_pairs groups = map (λ event. event.pairs) (all_events groups)
+
+abbrev pub link_pairs : List (ResourceGroup Span) → List (List Pair)
+link_pairs groups = map (λ link. link.pairs) (all_links groups)
+
+-- the tables below the spans: the attributes of resources, scopes and spans, the events, the links, and the attributes of both
+abbrev pub tables_below : List (ResourceGroup Span) → List Table
+tables_below groups =
+    attribute_table table.ResourceAttrs (resource_pairs groups)
+    ∷ attribute_table table.ScopeAttrs (scope_pairs groups)
+    ∷ attribute_table table.SpanAttrs (span_pairs groups)
+    ∷ part_table table.SpanEvents event_cells (event_lists groups)
+    ∷ part_table table.SpanLinks link_cells (link_lists groups)
+    ∷ attribute_table table.EventAttrs (event_pairs groups)
+    ∷ attribute_table table.LinkAttrs (link_pairs groups)
+    ∷ []
+
+-- THE TABLES of a request: its spans, and of the tables below them those that have rows
+unfoldable pub tables_of_spans : List (ResourceGroup Span) → List Table
+tables_of_spans groups = main_table table.Spans span_cells groups ∷ flat_map where_rows (tables_below groups)
+
+-- what can be written: ids have their lengths, and the attributes of each weigh no more than the limit
+pub record CanWriteEvent (event : Event) : Type 0 where
+  pub pairs : total 32 weight_of_pair event.pairs ≤ weight_limit
+
+pub record CanWriteLink (link : Link) : Type 0 where
+  pub trace_id : IsTraceId link.trace_id
+  pub span_id : IsSpanId link.span_id
+  pub pairs : total 32 weight_of_pair link.pairs ≤ weight_limit
+
+pub record CanWriteSpan (span : Span) : Type 0 where
+  pub trace_id : IsTraceId span.trace_id
+  pub span_id : IsSpanId span.span_id
+  pub parent_span_id : IsSpanId span.parent_span_id
+  pub pairs : total 32 weight_of_pair span.pairs ≤ weight_limit
+  pub events : All CanWriteEvent span.events
+  pub links : All CanWriteLink span.links

@@ -1,0 +1,200 @@
+//! The request of the tables of a batch.
+ghost use Rattle.std.specs.Prelude.{◌≡◌, ◌≤◌, ◌^◌, ℕ, Option, drop, map, min, IfErr, IfOk, OnOk};
+ghost use Rattle.otlp_model.specs.Limits.{weight_limit};
+ghost use Rattle.otlp_model.specs.Weight.{weight_of};
+ghost use Rattle.otlp_model.specs.declared.request.Request.TheVariants.{Traces};
+ghost use Rattle.otap_cells.specs.declared.payload.Kind.{Kind};
+ghost use Rattle.otap_cells.specs.declared.payload.Kind.TheVariants as table;
+ghost use Rattle.otap_cells.specs.Named.{table_named};
+ghost use Rattle.otap_cells.specs.Sets.{IsSet, tables_in};
+ghost use Rattle.otap_groups.specs.Disagree.{Disagree};
+ghost use Rattle.otap_groups.specs.Groups.{regrouped};
+ghost use Rattle.otap_groups.specs.Inside.{finds_in};
+ghost use Rattle.otap_groups.specs.Rows.{main_rows};
+ghost use Rattle.otap_attrs.specs.declared.refusal.RowRefusal.{RowRefusal};
+ghost use Rattle.otap_checks.specs.Reading.{pairs_in};
+ghost use Rattle.otap_checks.specs.Refusing.{RefusesCheck};
+ghost use Rattle.otap_checks.specs.Regrouping.{RefusesRegroup};
+ghost use Rattle.otap_spans.specs.Inside.{AreWhole, KnowsSpans, events_by, links_by, pairs_by};
+ghost use Rattle.otap_spans.specs.Records.{span_of};
+ghost use Rattle.otap_spans.specs.Requests.{WrongSpans, events_in, links_in, regrouped_spans};
+
+use crate::below::{EventRows, LinkRows, PairRows, index_events, index_links};
+use crate::reading::Spans;
+use otap_attrs::{CheckRefusal, RowRefusal};
+use otap_cells::{Kind, Rows, TableSet};
+use otap_checks::{
+    Grouped, KnownIds, RegroupRefusal, check_values, disagrees, front_of, groups_within,
+    index_pairs, known_ids, table_of,
+};
+use otap_groups::{Front, Main};
+use otlp_model::{Items, ResourceGroup, Signal, Span};
+use std::alloc::{AllocError, Global};
+
+// The main rows of spans, with their spans and all pairs.
+type SpanRows<'a, R> = Main<
+    'a,
+    R,
+    Spans<'a, R, PairRows<'a, R>, EventRows<'a, R>, LinkRows<'a, R>>,
+    PairRows<'a, R>,
+>;
+
+/// Looks at the rows of a batch of spans, and returns what their request weighs, or `CAP` where it is more. It builds nothing.
+/// Takes n log n for n rows.
+pub fn check_rows<R: Rows>(alloc: Global, set: &TableSet<R>) -> Result<u64, CheckRefusal>
+    requires { IsSet R.table set.now.tables.items }
+    ensures clean { OnOk result ((kind : Kind) (why : RowRefusal) → WrongSpans (tables_in R.table set.now.tables.items) kind why → ⊥) }
+    ensures weight { IfOk result (λ weight. weight ≡ min (weight_of (Traces (regrouped_spans (tables_in R.table set.now.tables.items)))) (2 ^ 63)) }
+    ensures refused { IfErr result (RefusesCheck (WrongSpans (tables_in R.table set.now.tables.items))) }
+{
+    let known = check_cells(alloc, set)?;
+    let Some(rows) = table_of(set, Kind::Spans) else {
+        return Ok(0);
+    };
+    let main = clean_main(alloc, set, rows, &known)?;
+    Ok(main.weight())
+}
+
+/// The request of a batch of spans and what it weighs, where nothing is wrong with the rows and it weighs at most the limit.
+/// It is built only then. Takes n log n for n rows, and time in proportion to them where ids and parents rise.
+pub fn regroup<R: Rows>(alloc: Global, set: &TableSet<R>) -> Result<Grouped<Span>, RegroupRefusal>
+    requires { IsSet R.table set.now.tables.items }
+    ensures clean { OnOk result ((kind : Kind) (why : RowRefusal) → WrongSpans (tables_in R.table set.now.tables.items) kind why → ⊥) }
+    ensures groups { IfOk result (λ made. made.groups ≡ regrouped_spans (tables_in R.table set.now.tables.items)) }
+    ensures tree { IfOk result (λ made. made.tree ≡ weight_of (Traces made.groups)) }
+    ensures light { IfOk result (λ made. made.tree ≤ weight_limit) }
+    ensures refused { IfErr result (RefusesRegroup (WrongSpans (tables_in R.table set.now.tables.items)) (weight_of (Traces (regrouped_spans (tables_in R.table set.now.tables.items))))) }
+{
+    let known = check_cells(alloc, set)?;
+    let Some(rows) = table_of(set, Kind::Spans) else {
+        return Ok(Grouped {
+            groups: Items::new(alloc),
+            tree: 0,
+        });
+    };
+    let main = clean_main(alloc, set, rows, &known)?;
+    let made = groups_within(alloc, &main)?;
+    Ok(made)
+}
+
+/// The request of a batch of spans whose rows have nothing wrong, and which weighs at most the limit. Takes n log n for n rows.
+pub fn request_of<R: Rows>(
+    alloc: Global,
+    set: &TableSet<R>,
+) -> Result<Items<ResourceGroup<Span>>, AllocError>
+    requires set { IsSet R.table set.now.tables.items }
+    requires clean { (kind : Kind) (why : RowRefusal) → WrongSpans (tables_in R.table set.now.tables.items) kind why → ⊥ }
+    requires light { weight_of (Traces (regrouped_spans (tables_in R.table set.now.tables.items))) ≤ weight_limit }
+    ensures { IfOk result (λ groups. groups ≡ regrouped_spans (tables_in R.table set.now.tables.items)) }
+{
+    match regroup(alloc, set) {
+        Ok(made) => Ok(made.groups),
+        Err(RegroupRefusal::Rows(CheckRefusal::Memory(error))) => Err(error),
+        Err(_) => unreachable!(),
+    }
+}
+
+// Looks at all but whether rows of one id agree, and returns the ids of the tables.
+fn check_cells<R: Rows>(alloc: Global, set: &TableSet<R>) -> Result<KnownIds, CheckRefusal>
+    requires { IsSet R.table set.now.tables.items }
+    ensures clean { OnOk result (AreWhole (tables_in R.table set.now.tables.items)) }
+    ensures known { IfOk result (λ known. KnowsSpans (tables_in R.table set.now.tables.items) known.columns.items) }
+    ensures refused { IfErr result (RefusesCheck (WrongSpans (tables_in R.table set.now.tables.items))) }
+{
+    let known = known_ids(alloc, set, Signal::Traces)?;
+    check_values(set, Kind::ResourceAttrs, 2)?;
+    check_values(set, Kind::ScopeAttrs, 2)?;
+    check_values(set, Kind::SpanAttrs, 2)?;
+    check_values(set, Kind::EventAttrs, 2)?;
+    check_values(set, Kind::LinkAttrs, 2)?;
+    Ok(known)
+}
+
+// The main rows, where rows of one id agree.
+fn clean_main<'a, R: Rows>(
+    alloc: Global,
+    set: &'a TableSet<R>,
+    rows: &'a R,
+    known: &'a KnownIds,
+) -> Result<SpanRows<'a, R>, CheckRefusal>
+    requires set { IsSet R.table set.now.tables.items }
+    requires whole { AreWhole (tables_in R.table set.now.tables.items) }
+    requires known { KnowsSpans (tables_in R.table set.now.tables.items) known.now.columns.items }
+    requires table { table_named table.Spans (tables_in R.table set.now.tables.items) ≡ R.table rows.now }
+    requires kind { (R.table rows.now).kind ≡ table.Spans }
+    ensures clean { OnOk result ((kind : Kind) (why : RowRefusal) → WrongSpans (tables_in R.table set.now.tables.items) kind why → ⊥) }
+    ensures groups { IfOk result (λ main. regrouped
+        (pairs_by (λ p. map (drop 1) (R.table p.rows.now).rows) main.resources.ids.now main.resources.reader.pairs main.resources.entries.items)
+        (pairs_by (λ p. map (drop 1) (R.table p.rows.now).rows) main.scopes.ids.now main.scopes.reader.pairs main.scopes.entries.items)
+        (λ id own. span_of own
+        (pairs_by (λ p. map (drop 1) (R.table p.rows.now).rows) main.items.pairs.ids.now main.items.pairs.reader.pairs main.items.pairs.entries.items id)
+        (finds_in (λ e. events_by (pairs_by (λ p. map (drop 1) (R.table p.rows.now).rows) e.reader.pairs.ids.now e.reader.pairs.reader.pairs e.reader.pairs.entries.items)
+        e.ids.now (map (drop 2) (R.table e.reader.rows.now).rows) e.entries.items) main.items.events id)
+        (finds_in (λ l. links_by (pairs_by (λ p. map (drop 1) (R.table p.rows.now).rows) l.reader.pairs.ids.now l.reader.pairs.reader.pairs l.reader.pairs.entries.items)
+        l.ids.now (map (drop 2) (R.table l.reader.rows.now).rows) l.entries.items) main.items.links id))
+        (main_rows main.front.ids.now main.front.resource_ids.now main.front.scope_ids.now (R.table main.front.rows.now).rows)
+        ≡ regrouped_spans (tables_in R.table set.now.tables.items)) }
+    ensures refused { IfErr result (RefusesCheck (WrongSpans (tables_in R.table set.now.tables.items))) }
+{
+    let front = front_of(rows, known);
+    if disagrees(alloc, &front)? {
+        return Err(CheckRefusal::Defect {
+            kind: Kind::Spans,
+            why: RowRefusal::Disagree,
+        });
+    }
+    let main = main_of(alloc, set, front, known)?;
+    Ok(main)
+}
+
+// The main rows of a front, with their spans and all that is below.
+fn main_of<'a, R: Rows>(
+    alloc: Global,
+    set: &'a TableSet<R>,
+    front: Front<'a, R>,
+    known: &'a KnownIds,
+) -> Result<SpanRows<'a, R>, AllocError>
+    requires set { IsSet R.table set.now.tables.items }
+    requires known { KnowsSpans (tables_in R.table set.now.tables.items) known.now.columns.items }
+    requires kind { (R.table front.rows.now).kind ≡ table.Spans }
+    requires agree { Disagree (main_rows front.ids.now front.resource_ids.now front.scope_ids.now (R.table front.rows.now).rows) → ⊥ }
+    ensures front { IfOk result (λ main. main_rows main.front.ids.now main.front.resource_ids.now main.front.scope_ids.now (R.table main.front.rows.now).rows
+        ≡ main_rows front.entry.ids.now front.entry.resource_ids.now front.entry.scope_ids.now (R.table front.entry.rows.now).rows) }
+    ensures resources { IfOk result (λ main. (parent : Option ℕ)
+        → pairs_by (λ p. map (drop 1) (R.table p.rows.now).rows) main.resources.ids.now main.resources.reader.pairs main.resources.entries.items parent
+        ≡ pairs_in (table_named table.ResourceAttrs (tables_in R.table set.now.tables.items)) parent) }
+    ensures scopes { IfOk result (λ main. (parent : Option ℕ)
+        → pairs_by (λ p. map (drop 1) (R.table p.rows.now).rows) main.scopes.ids.now main.scopes.reader.pairs main.scopes.entries.items parent
+        ≡ pairs_in (table_named table.ScopeAttrs (tables_in R.table set.now.tables.items)) parent) }
+    ensures pairs { IfOk result (λ main. (parent : Option ℕ)
+        → pairs_by (λ p. map (drop 1) (R.table p.rows.now).rows) main.items.pairs.ids.now main.items.pairs.reader.pairs main.items.pairs.entries.items parent
+        ≡ pairs_in (table_named table.SpanAttrs (tables_in R.table set.now.tables.items)) parent) }
+    ensures events { IfOk result (λ main. (parent : Option ℕ)
+        → finds_in (λ e. events_by (pairs_by (λ p. map (drop 1) (R.table p.rows.now).rows) e.reader.pairs.ids.now e.reader.pairs.reader.pairs e.reader.pairs.entries.items)
+        e.ids.now (map (drop 2) (R.table e.reader.rows.now).rows) e.entries.items) main.items.events parent
+        ≡ events_in (table_named table.SpanEvents (tables_in R.table set.now.tables.items)) (table_named table.EventAttrs (tables_in R.table set.now.tables.items)) parent) }
+    ensures links { IfOk result (λ main. (parent : Option ℕ)
+        → finds_in (λ l. links_by (pairs_by (λ p. map (drop 1) (R.table p.rows.now).rows) l.reader.pairs.ids.now l.reader.pairs.reader.pairs l.reader.pairs.entries.items)
+        l.ids.now (map (drop 2) (R.table l.reader.rows.now).rows) l.entries.items) main.items.links parent
+        ≡ links_in (table_named table.SpanLinks (tables_in R.table set.now.tables.items)) (table_named table.LinkAttrs (tables_in R.table set.now.tables.items)) parent) }
+{
+    let rows = front.rows;
+    let resources = index_pairs(alloc, set, Kind::ResourceAttrs, known)?;
+    let scopes = index_pairs(alloc, set, Kind::ScopeAttrs, known)?;
+    let pairs = index_pairs(alloc, set, Kind::SpanAttrs, known)?;
+    let event_pairs = index_pairs(alloc, set, Kind::EventAttrs, known)?;
+    let events = index_events(alloc, set, known, event_pairs)?;
+    let link_pairs = index_pairs(alloc, set, Kind::LinkAttrs, known)?;
+    let links = index_links(alloc, set, known, link_pairs)?;
+    Ok(Main {
+        front,
+        items: Spans {
+            rows,
+            pairs,
+            events,
+            links,
+        },
+        resources,
+        scopes,
+    })
+}
