@@ -1,0 +1,138 @@
+-- Tables of metrics that read as others make their request, and nothing is wrong with them that isn't wrong with the others.
+use Rattle.std.proofs.Common.{◌≡◌, ◌∙◌, ℕ, ◌+◌, ◌<◌, Bool, true, false, List, Option, length, map, drop, refl, ap, subst, inl, inr}
+use Rattle.std.specs.Prelude.{All}
+use Rattle.otlp_model.specs.declared.histograms.HistPoint.{HistPoint}
+use Rattle.otlp_model.specs.declared.histograms.SumPoint.{SumPoint}
+use Rattle.otlp_model.specs.declared.request.Signal.TheVariants as signal
+use Rattle.otap_cells.specs.declared.payload.Kind.{Kind}
+use Rattle.otap_cells.specs.declared.payload.Kind.TheVariants as table
+use Rattle.otap_cells.specs.Cells.{Cell, nat_in}
+use Rattle.otap_cells.specs.Columns.{is_id_at}
+use Rattle.otap_cells.specs.Continuing.{has_attributes}
+use Rattle.otap_cells.specs.GivenIds.{ReadAs, ids_in}
+use Rattle.otap_cells.specs.Named.{table_named}
+use Rattle.otap_cells.specs.Tables.{Table, cell_in}
+use Rattle.otap_groups.specs.Children.{children}
+use Rattle.otap_groups.specs.Groups.{regrouped}
+use Rattle.otap_groups.specs.Kinds.{IsPart}
+use Rattle.otap_groups.specs.Rows.{child_rows}
+use Rattle.otap_attrs.specs.declared.refusal.RowRefusal.{RowRefusal}
+use Rattle.otap_attrs.specs.declared.refusal.RowRefusal.TheVariants as why
+use Rattle.otap_checks.specs.Reading.{HasAllIds, main_rows_in, part_rows_in, pairs_in}
+use Rattle.otap_checks.specs.ValueDefects.{WrongValue}
+use Rattle.otap_checks.proofs.ReadAlike.{all_ids_named, disagrees_told, id_defect_told, ids_same, ids_told, kind_named, main_rows_same, pairs_same, reads_named, value_told}
+use Rattle.otap_checks.proofs.TableIds.{attribute_id}
+use Rattle.otap_metrics.specs.Metrics.{metric_of}
+use Rattle.otap_metrics.specs.Numbers.{IsThere}
+use Rattle.otap_metrics.specs.Points.{exemplar_of, point_of}
+use Rattle.otap_metrics.specs.Requests.{HasTwoValues, WrongCells, WrongMetrics, WrongParent, WrongType, exemplars_in, has_numbers, is_type, points_in, regrouped_metrics}
+use Rattle.otap_metrics.proofs.MetricColumns.{exemplars_are_parts, metrics_are_main, points_are_parts}
+
+-- a column of ids, in the table of its kind
+pub id_named : (kind : Kind) (column : ℕ) → is_id_at kind column ≡ true → (tables : List Table) → is_id_at (table_named kind tables).kind column ≡ true
+id_named kind column is tables = ap (λ kind. is_id_at kind column) (kind_named tables kind) ∙ is
+
+two_told : (a b : Table) → a.rows ≡ b.rows → (column : ℕ) → HasTwoValues a column → HasTwoValues b column
+two_told a b same column w = record {
+  row = w.row;
+  there = subst (λ (rows : List (List Cell)). w.row < length rows) same w.there;
+  int = subst (λ (rows : List (List Cell)). IsThere (cell_in rows column w.row)) same w.int;
+  double = subst (λ (rows : List (List Cell)). IsThere (cell_in rows (column + 1) w.row)) same w.double;
+}
+
+type_told : (a b : Table) → a.rows ≡ b.rows → WrongType a → WrongType b
+type_told a b same w = record {
+  row = w.row;
+  there = subst (λ (rows : List (List Cell)). w.row < length rows) same w.there;
+  is = subst (λ (rows : List (List Cell)). is_type (nat_in (cell_in rows 9 w.row)) ≡ false) same w.is;
+}
+
+module _ (tables others : List Table) (reads : ReadAs tables others) (given : All HasAllIds others) where
+  pub pairs_alike : (kind : Kind) → has_attributes kind ≡ true → (parent : Option ℕ) → pairs_in (table_named kind tables) parent ≡ pairs_in (table_named kind others) parent
+  pairs_alike kind is parent =
+      pairs_same (table_named kind tables) (table_named kind others) (reads_named tables others kind reads) (all_ids_named others kind given) parent
+      (id_named kind 0 (attribute_id kind is) others)
+
+  ids_alike : (kind : Kind) (column : ℕ) → is_id_at kind column ≡ true → ids_in (table_named kind tables) column ≡ ids_in (table_named kind others) column
+  ids_alike kind column is =
+      ids_same (table_named kind tables) (table_named kind others) (reads_named tables others kind reads) (all_ids_named others kind given) column (id_named kind column is others)
+
+  pub parts_alike : (kind : Kind) → IsPart kind → part_rows_in (table_named kind tables) ≡ part_rows_in (table_named kind others)
+  parts_alike kind part = λ i.
+      child_rows (ids_alike kind 0 part.id i) (ids_alike kind 1 part.parent i) (map (drop 2) ((reads_named tables others kind reads).same.rows i))
+
+  rows_alike : main_rows_in (table_named table.Metrics tables) ≡ main_rows_in (table_named table.Metrics others)
+  rows_alike =
+      main_rows_same (table_named table.Metrics tables) (table_named table.Metrics others) (reads_named tables others table.Metrics reads) (all_ids_named others table.Metrics given)
+      (id_named table.Metrics 0 metrics_are_main.id others) (id_named table.Metrics 1 metrics_are_main.resource_id others) (id_named table.Metrics 4 metrics_are_main.scope_id others)
+
+  exemplars_alike : (parent : Option ℕ) → exemplars_in (table_named table.NumberExemplars tables) (table_named table.NumberExemplarAttrs tables) parent
+      ≡ exemplars_in (table_named table.NumberExemplars others) (table_named table.NumberExemplarAttrs others) parent
+  exemplars_alike parent = λ i.
+      children (λ id cells. exemplar_of cells (pairs_alike table.NumberExemplarAttrs refl id i)) (parts_alike table.NumberExemplars exemplars_are_parts i) parent
+
+  points_alike : (parent : Option ℕ) → points_in tables parent ≡ points_in others parent
+  points_alike parent = λ i.
+      children (λ id cells. point_of cells (pairs_alike table.NumberPointAttrs refl id i) (exemplars_alike id i)) (parts_alike table.NumberPoints points_are_parts i) parent
+
+  pub same_request : (hists : Option ℕ → List HistPoint) (summaries : Option ℕ → List SumPoint) → regrouped_metrics hists summaries tables ≡ regrouped_metrics hists summaries others
+  unfolding regrouped_metrics
+  same_request hists summaries = λ i. regrouped (λ parent. pairs_alike table.ResourceAttrs refl parent i) (λ parent. pairs_alike table.ScopeAttrs refl parent i)
+      (λ id cells. metric_of cells (record { points = points_alike id i; hist_points = hists id; summary_points = summaries id })) (rows_alike i)
+
+  pub value_alike : (kind : Kind) (wrong : RowRefusal) → WrongValue (table_named kind tables) 2 wrong → WrongValue (table_named kind others) 2 wrong
+  value_alike kind wrong = value_told (table_named kind tables) (table_named kind others) (reads_named tables others kind reads) 2 wrong
+
+  pub two_alike : (kind : Kind) (column : ℕ) → HasTwoValues (table_named kind tables) column → HasTwoValues (table_named kind others) column
+  two_alike kind = two_told (table_named kind tables) (table_named kind others) (reads_named tables others kind reads).same.rows
+
+  -- a point of a metric of another type
+  pub parent_alike : (fits : ℕ → Bool) (kind : Kind) → is_id_at kind 1 ≡ true → WrongParent fits (table_named kind tables) (table_named table.Metrics tables)
+      → WrongParent fits (table_named kind others) (table_named table.Metrics others)
+  parent_alike fits kind id w =
+      let same = (reads_named tables others table.Metrics reads).same.rows in
+      record {
+        parents = w.parents;
+        ids = w.ids;
+        are = ids_told (table_named kind tables) (table_named kind others) (reads_named tables others kind reads) (all_ids_named others kind given) 1 w.parents (id_named kind 1 id others) w.are;
+        known = ids_told (table_named table.Metrics tables) (table_named table.Metrics others) (reads_named tables others table.Metrics reads) (all_ids_named others table.Metrics given)
+            0 w.ids (id_named table.Metrics 0 metrics_are_main.id others) w.known;
+        is = record {
+          row = w.is.row;
+          there = subst (λ (rows : List (List Cell)). w.is.row < length rows) same w.is.there;
+          other = subst (λ (rows : List (List Cell)). fits (nat_in (cell_in rows 9 w.is.row)) ≡ false) same w.is.other;
+          id = w.is.id;
+          own = w.is.own;
+          named = w.is.named;
+        };
+      }
+
+  metrics_alike : (wrong : RowRefusal) → WrongCells tables table.Metrics wrong → WrongCells others table.Metrics wrong
+  metrics_alike why.Disagree is =
+      disagrees_told (table_named table.Metrics tables) (table_named table.Metrics others) (reads_named tables others table.Metrics reads)
+      (all_ids_named others table.Metrics given) (id_named table.Metrics 1 metrics_are_main.resource_id others) (id_named table.Metrics 4 metrics_are_main.scope_id others) is
+  metrics_alike why.BadKind is = type_told (table_named table.Metrics tables) (table_named table.Metrics others) (reads_named tables others table.Metrics reads).same.rows is
+  metrics_alike _ is = absurd is
+
+  numbers_alike : (wrong : RowRefusal) → WrongCells tables table.NumberPoints wrong → WrongCells others table.NumberPoints wrong
+  numbers_alike why.BadKind is = parent_alike has_numbers table.NumberPoints points_are_parts.parent is
+  numbers_alike why.TwoValues is = two_alike table.NumberPoints 4 is
+  numbers_alike _ is = absurd is
+
+  measured_alike : (wrong : RowRefusal) → WrongCells tables table.NumberExemplars wrong → WrongCells others table.NumberExemplars wrong
+  measured_alike why.TwoValues is = two_alike table.NumberExemplars 3 is
+  measured_alike _ is = absurd is
+
+  cells_alike : (kind : Kind) (wrong : RowRefusal) → WrongCells tables kind wrong → WrongCells others kind wrong
+  cells_alike table.Metrics wrong is = metrics_alike wrong is
+  cells_alike table.NumberPoints wrong is = numbers_alike wrong is
+  cells_alike table.NumberExemplars wrong is = measured_alike wrong is
+  cells_alike table.ResourceAttrs wrong is = value_alike table.ResourceAttrs wrong is
+  cells_alike table.ScopeAttrs wrong is = value_alike table.ScopeAttrs wrong is
+  cells_alike table.NumberPointAttrs wrong is = value_alike table.NumberPointAttrs wrong is
+  cells_alike table.NumberExemplarAttrs wrong is = value_alike table.NumberExemplarAttrs wrong is
+  cells_alike _ wrong is = absurd is
+
+  pub wrong_alike : (kind : Kind) (wrong : RowRefusal) → WrongMetrics tables kind wrong → WrongMetrics others kind wrong
+  wrong_alike kind wrong (inl ids) = inl (ids.0, id_defect_told signal.Metrics tables others reads given kind wrong ids.1)
+  wrong_alike kind wrong (inr cells) = inr (cells_alike kind wrong cells)

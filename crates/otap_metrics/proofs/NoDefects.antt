@@ -1,0 +1,132 @@
+-- Nothing is wrong with the rows of the tables of a request.
+use Rattle.std.proofs.Common.{◌≡◌, ◌≤◌, List, subst}
+use Rattle.std.specs.Prelude.{All}
+use Rattle.std.proofs.lemmas.List.Elements.{All-map, All-nil, All-weaker}
+use Rattle.otlp_model.specs.Limits.{weight_limit}
+use Rattle.otlp_model.specs.Profile.{IsProfile, IsProfileExemplar, IsProfileMetric, IsProfilePoint, IsProfileShape}
+use Rattle.otlp_model.specs.Real.{IsReal, IsRealExemplar, IsRealMetric, IsRealPoint, IsRealShape}
+use Rattle.otlp_model.specs.Weight.{weight_of}
+use Rattle.otlp_model.specs.declared.groups.Resource.{Resource}
+use Rattle.otlp_model.specs.declared.groups.Scope.{Scope}
+use Rattle.otlp_model.specs.declared.groups.ResourceGroup.{ResourceGroup}
+use Rattle.otlp_model.specs.declared.metrics.Exemplar.{Exemplar}
+use Rattle.otlp_model.specs.declared.metrics.Metric.{Metric}
+use Rattle.otlp_model.specs.declared.metrics.Point.{Point}
+use Rattle.otlp_model.specs.declared.metrics.Shape.{Shape}
+use Rattle.otlp_model.specs.declared.metrics.Shape.TheVariants as shapes
+use Rattle.otlp_model.specs.declared.request.Request.TheVariants.{Metrics}
+use Rattle.otlp_model.specs.declared.value.Pair.{Pair}
+use Rattle.otap_cells.specs.declared.payload.Kind.{Kind}
+use Rattle.otap_cells.specs.declared.payload.Kind.TheVariants as table
+use Rattle.otap_cells.specs.Named.{table_named}
+use Rattle.otap_cells.specs.Tables.{Table}
+use Rattle.otap_groups.specs.Flat.{items_of, resources_of, scopes_of}
+use Rattle.otap_groups.specs.Stored.{part_table}
+use Rattle.otap_groups.specs.Weighing.{CanWriteGroup}
+use Rattle.otap_groups.proofs.RealGroups.{real_groups, real_items}
+use Rattle.otap_groups.proofs.WritableGroups.{all_items_can, all_resources_can, all_scopes_can}
+use Rattle.otap_attrs.specs.declared.refusal.RowRefusal.{RowRefusal}
+use Rattle.otap_attrs.specs.Tables.{attribute_table}
+use Rattle.otap_checks.specs.ValueDefects.{WrongValue}
+use Rattle.otap_checks.proofs.FinePairs.{IsFineList, attributes_fine, pairs_fine}
+use Rattle.otap_metrics.specs.Inside.{HasFineValues}
+use Rattle.otap_metrics.specs.Metrics.{points_of}
+use Rattle.otap_metrics.specs.Points.{point_cells}
+use Rattle.otap_metrics.specs.Requests.{HasTwoValues, WrongMetrics, WrongParent, WrongType, has_numbers}
+use Rattle.otap_metrics.specs.Tables.{HoldMetrics, all_exemplars, all_points, exemplar_lists, exemplar_pairs, point_lists, point_pairs, resource_pairs, scope_pairs}
+use Rattle.otap_metrics.proofs.Cleanness.{clean}
+use Rattle.otap_metrics.proofs.FewParts.{few_metrics}
+use Rattle.otap_metrics.proofs.FineIds.{alike, fine_ids}
+use Rattle.otap_metrics.proofs.FittingParents.{numbers_fit, parents_fine, types_fine}
+use Rattle.otap_metrics.proofs.MetricColumns.{points_are_parts}
+use Rattle.otap_metrics.proofs.OneValue.{exemplar_values, point_values}
+use Rattle.otap_metrics.proofs.WrittenParts.{all_joined}
+
+-- ---- values
+
+pub record IsFineExemplar (exemplar : Exemplar) : Type 0 where
+  pub pairs : IsFineList exemplar.pairs
+
+record IsFinePoint (point : Point) : Type 0 where
+  pairs : IsFineList point.pairs
+  exemplars : All IsFineExemplar point.exemplars
+
+abbrev IsFineMetric : Metric → Type 0
+IsFineMetric metric = All IsFinePoint (points_of metric.shape)
+
+pub exemplar_fine : (exemplar : Exemplar) → IsRealExemplar exemplar → IsProfileExemplar exemplar → IsFineExemplar exemplar
+exemplar_fine exemplar real is = record { pairs = pairs_fine exemplar.pairs real.pairs is.pairs.at }
+
+point_fine : (point : Point) → IsRealPoint point → IsProfilePoint point → IsFinePoint point
+point_fine point real is = record {
+  pairs = pairs_fine point.pairs real.pairs is.pairs.at;
+  exemplars = real_items IsRealExemplar IsProfileExemplar IsFineExemplar exemplar_fine point.exemplars real.exemplars.at is.exemplars.at;
+}
+
+points_fine : (points : List Point) → All IsRealPoint points → All IsProfilePoint points → All IsFinePoint points
+points_fine = real_items IsRealPoint IsProfilePoint IsFinePoint point_fine
+
+shape_fine : (shape : Shape) → IsRealShape shape → IsProfileShape shape → All IsFinePoint (points_of shape)
+shape_fine shapes.Empty real is = All-nil IsFinePoint
+shape_fine (shapes.Gauge points) real is = points_fine points real.at is.at
+shape_fine (shapes.Sum points temporality monotonic) real is = points_fine points real.0.at is.at
+shape_fine (shapes.Histogram points temporality) real is = All-nil IsFinePoint
+shape_fine (shapes.Summary points) real is = All-nil IsFinePoint
+
+metric_fine : (metric : Metric) → IsRealMetric metric → IsProfileMetric metric → IsFineMetric metric
+metric_fine metric real is = shape_fine metric.shape real.shape is.shape
+
+abbrev pub IsFineResource : Resource → Type 0
+IsFineResource resource = IsFineList resource.pairs
+
+abbrev pub IsFineScope : Scope → Type 0
+IsFineScope scope = IsFineList scope.pairs
+
+-- the values of a table of attributes, which is the one of its kind
+pub fine_table : (all : List Table) (kind : Kind) (lists : List (List Pair)) → table_named kind all ≡ attribute_table kind lists → All IsFineList lists → HasFineValues all kind
+fine_table all kind lists named fine = λ wrong w. attributes_fine kind lists wrong fine (subst (λ (t : Table). WrongValue t 2 wrong) named w)
+
+module _ (groups : List (ResourceGroup Metric)) (tables : List Table) (have : HoldMetrics groups tables) (real : IsReal (Metrics groups)) (is : IsProfile (Metrics groups)) where
+  all : All (CanWriteGroup IsFineResource IsFineScope IsFineMetric) groups
+  all = real_groups IsRealMetric IsProfileMetric IsFineMetric metric_fine IsFineList pairs_fine groups real.at is.at
+
+  all_fine_points : All IsFinePoint (all_points groups)
+  all_fine_points = all_joined IsFinePoint (λ (metric : Metric). points_of metric.shape) (items_of groups) (all_items_can IsFineResource IsFineScope IsFineMetric groups all)
+
+  all_fine_exemplars : All IsFineExemplar (all_exemplars groups)
+  all_fine_exemplars = all_joined IsFineExemplar (λ (point : Point). point.exemplars) (all_points groups)
+      (All-weaker IsFinePoint (λ (point : Point). All IsFineExemplar point.exemplars) (λ point fine. fine.exemplars) (all_points groups) all_fine_points)
+
+  fine_resources : HasFineValues tables table.ResourceAttrs
+  fine_resources = fine_table tables table.ResourceAttrs (resource_pairs groups) have.resources
+      (All-map IsFineList (λ (resource : Resource). resource.pairs) (resources_of groups) (all_resources_can IsFineResource IsFineScope IsFineMetric groups all))
+
+  fine_scopes : HasFineValues tables table.ScopeAttrs
+  fine_scopes = fine_table tables table.ScopeAttrs (scope_pairs groups) have.scopes
+      (All-map IsFineList (λ (scope : Scope). scope.pairs) (scopes_of groups) (all_scopes_can IsFineResource IsFineScope IsFineMetric groups all))
+
+  fine_points : HasFineValues tables table.NumberPointAttrs
+  fine_points = fine_table tables table.NumberPointAttrs (point_pairs groups) have.of_points
+      (All-map IsFineList (λ (point : Point). point.pairs) (all_points groups)
+      (All-weaker IsFinePoint (λ (point : Point). IsFineList point.pairs) (λ point fine. fine.pairs) (all_points groups) all_fine_points))
+
+  fine_exemplars : HasFineValues tables table.NumberExemplarAttrs
+  fine_exemplars = fine_table tables table.NumberExemplarAttrs (exemplar_pairs groups) have.of_exemplars
+      (All-map IsFineList (λ (exemplar : Exemplar). exemplar.pairs) (all_exemplars groups)
+      (All-weaker IsFineExemplar (λ (exemplar : Exemplar). IsFineList exemplar.pairs) (λ exemplar fine. fine.pairs) (all_exemplars groups) all_fine_exemplars))
+
+pub no_defects : (groups : List (ResourceGroup Metric)) (tables : List Table) → IsReal (Metrics groups) → IsProfile (Metrics groups) → weight_of (Metrics groups) ≤ weight_limit
+    → HoldMetrics groups tables → (kind : Kind) (wrong : RowRefusal) → WrongMetrics tables kind wrong → ⊥
+no_defects groups tables real is light have = clean tables (record {
+  ids = fine_ids groups tables have light;
+  types = λ wrong. types_fine groups (subst WrongType have.main wrong);
+  parents = λ wrong. parents_fine has_numbers points_of numbers_fit groups table.NumberPoints point_cells points_are_parts (few_metrics groups light)
+      (subst (λ (t : Table). WrongParent has_numbers (part_table table.NumberPoints point_cells (point_lists groups)) t) have.main
+      (subst (λ (t : Table). WrongParent has_numbers t (table_named table.Metrics tables)) have.points wrong));
+  points = λ two. point_values table.NumberPoints (point_lists groups) (subst (λ (t : Table). HasTwoValues t 4) have.points two);
+  exemplars = λ two. exemplar_values table.NumberExemplars (exemplar_lists groups) (subst (λ (t : Table). HasTwoValues t 3) have.exemplars two);
+  resources = fine_resources groups tables have real is;
+  scopes = fine_scopes groups tables have real is;
+  of_points = fine_points groups tables have real is;
+  of_exemplars = fine_exemplars groups tables have real is;
+}) (alike groups tables have light)

@@ -1,0 +1,5 @@
+use Rattle.otap_metrics.proofs.NamedTables.{rows_for_metrics}
+use Rattle.otap_metrics.proofs.laws.each_metric_has_a_row.Goals as goal
+
+pub returns : goal.returns
+returns c = rows_for_metrics

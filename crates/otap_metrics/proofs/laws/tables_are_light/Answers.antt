@@ -1,0 +1,5 @@
+use Rattle.otap_metrics.proofs.MetricsTold.{light_tables}
+use Rattle.otap_metrics.proofs.laws.tables_are_light.Goals as goal
+
+pub returns : goal.returns
+returns c = light_tables

@@ -1,0 +1,6 @@
+pub mod Inside
+pub mod Metrics
+pub mod Numbers
+pub mod Points
+pub mod Requests
+pub mod Tables

@@ -1,0 +1,21 @@
+//! The rows of metrics: the tables of a request, and the request of tables.
+#![tactic(auto)]
+
+mod checks;
+mod columns;
+mod indexes;
+pub mod laws;
+mod numbers;
+mod reading;
+pub mod reading_laws;
+mod requests;
+mod weights;
+mod writing;
+
+pub use checks::{PointSort, has_other_parents, has_two_values};
+pub use indexes::{index_exemplars, index_points};
+pub use numbers::{double_value, id_cell, int_value};
+pub use reading::{Exemplars, Metrics, Points, measured_at};
+pub use requests::{check_metrics, regroup_with};
+pub use weights::table_weight;
+pub use writing::tables_of;

@@ -1,0 +1,104 @@
+//! What the tables of a request of metrics weigh, without making them.
+ghost use Rattle.std.specs.Prelude.{◌≡◌, ◌≤◌, ◌+◌, ◌^◌, min, sum_by, All};
+ghost use Rattle.otlp_model.specs.Limits.{weight_limit};
+ghost use Rattle.otlp_model.specs.Profile.{IsProfile};
+ghost use Rattle.otlp_model.specs.Weight.{total, weight_of, weight_of_pair};
+ghost use Rattle.otlp_model.specs.declared.request.Request.TheVariants.{Metrics};
+ghost use Rattle.otap_cells.specs.Weights.{weight_of_tables};
+ghost use Rattle.otap_groups.specs.Weighing.{cells_weight, parts_weight};
+ghost use Rattle.otap_attrs.specs.Values.{pair_cells};
+ghost use Rattle.otap_metrics.specs.Inside.{exemplar_weight, metric_weight, point_weight};
+ghost use Rattle.otap_metrics.specs.Tables.{CanWriteExemplar, CanWriteMetric, CanWritePoint, tables_of_metrics};
+
+use crate::writing::{ExemplarWriter, MetricWriter, PointWriter, points_of};
+use otap_attrs::attributes_weight;
+use otap_groups::{PartWriter, RowWeights, RowWriter, rows_weight};
+use otlp_model::{Exemplar, Items, Metric, Point, Resource, ResourceGroup, Scope, add_capped};
+
+// Weighs the rows of metrics and of all that is below them.
+#[derive(Clone, Copy, Debug)]
+struct MetricWeights;
+
+impl RowWeights for MetricWeights {
+    type Item = Metric;
+
+    ghost of_resource = { λ resource. parts_weight pair_cells resource.pairs };
+
+    ghost of_scope = { λ scope. parts_weight pair_cells scope.pairs };
+
+    ghost of_item = { metric_weight };
+
+    ghost CanWriteResource = { λ resource. total 32 weight_of_pair resource.pairs ≤ weight_limit };
+
+    ghost CanWriteScope = { λ scope. total 32 weight_of_pair scope.pairs ≤ weight_limit };
+
+    ghost CanWriteItem = { CanWriteMetric };
+
+    fn resource(&self, resource: &Resource) -> u64 {
+        attributes_weight(&resource.pairs)
+    }
+
+    fn scope(&self, scope: &Scope) -> u64 {
+        attributes_weight(&scope.pairs)
+    }
+
+    fn item(&self, metric: &Metric) -> u64 {
+        add_capped(
+            MetricWriter.weight(metric),
+            points_weight(points_of(&metric.shape)),
+        )
+    }
+}
+
+// The rows of points, and of all that is below them.
+fn points_weight(points: &[Point]) -> u64
+    requires { All CanWritePoint points.now }
+    ensures { result ≡ min (sum_by point_weight points.now) (2 ^ 63) }
+{
+    let mut weight = 0;
+    'points: for point in points {
+        weight = add_capped(weight, point_weight(point));
+    }
+    weight
+}
+
+fn point_weight(point: &Point) -> u64
+    requires { CanWritePoint point.now }
+    ensures { result ≡ min (point_weight point.now) (2 ^ 63) }
+{
+    let own = add_capped(32, PointWriter.weight(point));
+    let below = add_capped(
+        attributes_weight(&point.pairs),
+        exemplars_weight(point.exemplars.as_slice()),
+    );
+    add_capped(own, below)
+}
+
+fn exemplars_weight(exemplars: &[Exemplar]) -> u64
+    requires { All CanWriteExemplar exemplars.now }
+    ensures { result ≡ min (sum_by exemplar_weight exemplars.now) (2 ^ 63) }
+{
+    let mut weight = 0;
+    'exemplars: for exemplar in exemplars {
+        weight = add_capped(weight, exemplar_weight(exemplar));
+    }
+    weight
+}
+
+fn exemplar_weight(exemplar: &Exemplar) -> u64
+    requires { CanWriteExemplar exemplar.now }
+    ensures { result ≡ min (exemplar_weight exemplar.now) (2 ^ 63) }
+{
+    let own = add_capped(32, ExemplarWriter.weight(exemplar));
+    add_capped(own, attributes_weight(&exemplar.pairs))
+}
+
+/// The row weight of the tables of a request of metrics, but for the points of histograms and summaries, or `CAP` where it is
+/// more. It makes no table.
+pub fn table_weight(groups: &Items<ResourceGroup<Metric>>) -> u64
+    requires profile { IsProfile (Metrics groups.now) }
+    requires weight { weight_of (Metrics groups.now) ≤ weight_limit }
+    ensures { result ≡ min (weight_of_tables (tables_of_metrics groups.now)) (2 ^ 63) }
+{
+    rows_weight(&MetricWeights, groups.as_slice())
+}
