@@ -1,0 +1,184 @@
+-- Nothing is wrong with the rows of all tables of a request of metrics.
+use Rattle.std.proofs.Common.{◌≡◌, ◌∙◌, ℕ, ◌*◌, ◌/◌, ◌≤◌, true, false, Bool, List, [], ◌∷◌, length, map, refl, sym, ap, subst, eq-eqb}
+use Rattle.std.specs.Prelude.{◌==◌, All}
+use Rattle.std.proofs.lemmas.Bool.{false≢true}
+use Rattle.std.proofs.lemmas.List.{length-map}
+use Rattle.std.proofs.lemmas.List.Elements.{All-get_or, All-map, All-nil, All-weaker}
+use Rattle.otlp_model.specs.Limits.{weight_limit}
+use Rattle.otlp_model.specs.Profile.{IsProfile, IsProfileExemplar, IsProfileHistPoint, IsProfileMetric, IsProfileShape, IsProfileSumPoint}
+use Rattle.otlp_model.specs.Real.{IsReal, IsRealExemplar, IsRealHistPoint, IsRealMetric, IsRealShape, IsRealSumPoint}
+use Rattle.otlp_model.specs.Weight.{weight_of}
+use Rattle.otlp_model.specs.declared.groups.ResourceGroup.{ResourceGroup}
+use Rattle.otlp_model.specs.declared.histograms.HistPoint.{HistPoint}
+use Rattle.otlp_model.specs.declared.histograms.Quantile.{Quantile}
+use Rattle.otlp_model.specs.declared.histograms.SumPoint.{SumPoint}
+use Rattle.otlp_model.specs.declared.metrics.Exemplar.{Exemplar}
+use Rattle.otlp_model.specs.declared.metrics.Metric.{Metric}
+use Rattle.otlp_model.specs.declared.metrics.Shape.{Shape}
+use Rattle.otlp_model.specs.declared.metrics.Shape.TheVariants as shapes
+use Rattle.otlp_model.specs.declared.request.Request.TheVariants.{Metrics}
+use Rattle.otap_cells.specs.declared.payload.Kind.{Kind}
+use Rattle.otap_cells.specs.declared.payload.Kind.TheVariants as table
+use Rattle.otap_cells.specs.Cells.{Cell}
+use Rattle.otap_cells.specs.Tables.{Table}
+use Rattle.otap_cells.proofs.ScalarLaws.{text_back}
+use Rattle.otap_groups.specs.Flat.{items_of, placed}
+use Rattle.otap_groups.specs.Rows.{cell_at}
+use Rattle.otap_groups.specs.Stored.{part_table}
+use Rattle.otap_groups.proofs.RealGroups.{real_groups, real_items}
+use Rattle.otap_groups.proofs.WritableGroups.{all_items_can}
+use Rattle.otap_attrs.specs.declared.refusal.RowRefusal.{RowRefusal}
+use Rattle.otap_checks.proofs.FinePairs.{IsFineList, pairs_fine}
+use Rattle.otap_metrics.specs.Inside.{HasFineValues}
+use Rattle.otap_metrics.specs.Metrics.{hist_points_of, summary_points_of, type_of}
+use Rattle.otap_metrics.specs.Requests.{HasTwoValues, WrongParent, has_hist_points, has_summary_points}
+use Rattle.otap_metrics.specs.Tables.{HoldMetrics, summary_lists}
+use Rattle.otap_metrics.proofs.FewParts.{few_metrics}
+use Rattle.otap_metrics.proofs.FittingParents.{parents_fine}
+use Rattle.otap_metrics.proofs.NoDefects.{IsFineExemplar, IsFineResource, IsFineScope, exemplar_fine, fine_table, no_defects as metrics_fine}
+use Rattle.otap_metrics.proofs.OneValue.{all_rows, exemplar_values}
+use Rattle.otap_metrics.proofs.WrittenParts.{all_joined}
+use Rattle.otap_hist.specs.Lists.{bytes_of, count_in, list_cell}
+use Rattle.otap_hist.specs.Points.{hist_point_cells, quantile_cell, sum_point_cells, value_cell}
+use Rattle.otap_hist.specs.Requests.{HasUnevenLists, WrongWhole}
+use Rattle.otap_hist.specs.Tables.{HoldHists, all_hist_exemplars, all_hist_points, all_summary_points, hist_exemplar_lists, hist_exemplar_pairs, hist_pairs, summary_pairs, whole_tables}
+use Rattle.otap_hist.proofs.CleanHists.{clean_whole}
+use Rattle.otap_hist.proofs.HistColumns.{hists_are_parts, summaries_are_parts}
+use Rattle.otap_hist.proofs.HistIds.{fine_hist_ids}
+use Rattle.otap_hist.proofs.ListBytes.{length_bytes}
+use Rattle.otap_hist.proofs.NamedWhole.{hists_there, metrics_there}
+
+-- ---- lists of one length
+
+one_count : (xs ys : List ℕ) → length xs ≡ length ys → count_in (list_cell xs) ≡ count_in (list_cell ys)
+one_count xs ys same =
+    ap (λ (bytes : List ℕ). length bytes / 8) (text_back (bytes_of xs))
+    ∙ ap (λ n. n / 8) (length_bytes xs ∙ ap (λ n. 8 * n) same ∙ sym (length_bytes ys)) ∙ sym (ap (λ (bytes : List ℕ). length bytes / 8) (text_back (bytes_of ys)))
+
+abbrev IsEven : List Cell → Type 0
+IsEven row = (count_in (cell_at row 6) == count_in (cell_at row 7)) ≡ true
+
+even_lists : (id parent : Cell) (point : SumPoint) → IsEven (id ∷ parent ∷ sum_point_cells point)
+even_lists id parent point =
+    eq-eqb (count_in (quantile_cell point.quantiles)) (count_in (value_cell point.quantiles))
+    (one_count (map (λ (q : Quantile). q.quantile) point.quantiles) (map (λ (q : Quantile). q.value) point.quantiles)
+    (length-map point.quantiles (λ (q : Quantile). q.quantile) ∙ sym (length-map point.quantiles (λ (q : Quantile). q.value))))
+
+lists_even : (kind : Kind) (lists : List (List SumPoint)) → HasUnevenLists (part_table kind sum_point_cells lists) → ⊥
+unfolding part_table
+lists_even kind lists uneven =
+    false≢true (sym uneven.other
+    ∙ All-get_or IsEven (part_table kind sum_point_cells lists).rows uneven.row [] uneven.there (all_rows sum_point_cells IsEven even_lists _ _ 0 0 _ (placed lists)))
+
+-- ---- parents
+
+hists_fit : (shape : Shape) → has_hist_points (type_of shape) ≡ false → hist_points_of shape ≡ []
+hists_fit shapes.Empty other = refl
+hists_fit (shapes.Gauge points) other = refl
+hists_fit (shapes.Sum points temporality monotonic) other = refl
+hists_fit (shapes.Histogram points temporality) other = absurd (false≢true (sym other))
+hists_fit (shapes.Summary points) other = refl
+
+summaries_fit : (shape : Shape) → has_summary_points (type_of shape) ≡ false → summary_points_of shape ≡ []
+summaries_fit shapes.Empty other = refl
+summaries_fit (shapes.Gauge points) other = refl
+summaries_fit (shapes.Sum points temporality monotonic) other = refl
+summaries_fit (shapes.Histogram points temporality) other = refl
+summaries_fit (shapes.Summary points) other = absurd (false≢true (sym other))
+
+-- ---- values
+
+record IsFineHist (point : HistPoint) : Type 0 where
+  pairs : IsFineList point.pairs
+  exemplars : All IsFineExemplar point.exemplars
+
+record IsFineSummary (point : SumPoint) : Type 0 where
+  pairs : IsFineList point.pairs
+
+record IsFineMetric (metric : Metric) : Type 0 where
+  hists : All IsFineHist (hist_points_of metric.shape)
+  summaries : All IsFineSummary (summary_points_of metric.shape)
+
+hist_fine : (point : HistPoint) → IsRealHistPoint point → IsProfileHistPoint point → IsFineHist point
+hist_fine point real is = record {
+  pairs = pairs_fine point.pairs real.pairs is.pairs.at;
+  exemplars = real_items IsRealExemplar IsProfileExemplar IsFineExemplar exemplar_fine point.exemplars real.exemplars.at is.exemplars.at;
+}
+
+summary_fine : (point : SumPoint) → IsRealSumPoint point → IsProfileSumPoint point → IsFineSummary point
+summary_fine point real is = record { pairs = pairs_fine point.pairs real.pairs is.pairs.at }
+
+hists_fine : (shape : Shape) → IsRealShape shape → IsProfileShape shape → All IsFineHist (hist_points_of shape)
+hists_fine shapes.Empty real is = All-nil IsFineHist
+hists_fine (shapes.Gauge points) real is = All-nil IsFineHist
+hists_fine (shapes.Sum points temporality monotonic) real is = All-nil IsFineHist
+hists_fine (shapes.Histogram points temporality) real is = real_items IsRealHistPoint IsProfileHistPoint IsFineHist hist_fine points real.0.at is.at
+hists_fine (shapes.Summary points) real is = All-nil IsFineHist
+
+summaries_fine : (shape : Shape) → IsRealShape shape → IsProfileShape shape → All IsFineSummary (summary_points_of shape)
+summaries_fine shapes.Empty real is = All-nil IsFineSummary
+summaries_fine (shapes.Gauge points) real is = All-nil IsFineSummary
+summaries_fine (shapes.Sum points temporality monotonic) real is = All-nil IsFineSummary
+summaries_fine (shapes.Histogram points temporality) real is = All-nil IsFineSummary
+summaries_fine (shapes.Summary points) real is = real_items IsRealSumPoint IsProfileSumPoint IsFineSummary summary_fine points real.at is.at
+
+metric_fine : (metric : Metric) → IsRealMetric metric → IsProfileMetric metric → IsFineMetric metric
+metric_fine metric real is = record { hists = hists_fine metric.shape real.shape is.shape; summaries = summaries_fine metric.shape real.shape is.shape }
+
+module _ (groups : List (ResourceGroup Metric)) (tables : List Table) (have : HoldHists groups tables) (real : IsReal (Metrics groups)) (is : IsProfile (Metrics groups)) where
+  all : All IsFineMetric (items_of groups)
+  all = all_items_can IsFineResource IsFineScope IsFineMetric groups
+      (real_groups IsRealMetric IsProfileMetric IsFineMetric metric_fine IsFineList pairs_fine groups real.at is.at)
+
+  all_hists : All IsFineHist (all_hist_points groups)
+  all_hists = all_joined IsFineHist (λ (metric : Metric). hist_points_of metric.shape) (items_of groups)
+      (All-weaker IsFineMetric (λ (metric : Metric). All IsFineHist (hist_points_of metric.shape)) (λ metric fine. fine.hists) (items_of groups) all)
+
+  all_summaries : All IsFineSummary (all_summary_points groups)
+  all_summaries = all_joined IsFineSummary (λ (metric : Metric). summary_points_of metric.shape) (items_of groups)
+      (All-weaker IsFineMetric (λ (metric : Metric). All IsFineSummary (summary_points_of metric.shape)) (λ metric fine. fine.summaries) (items_of groups) all)
+
+  all_exemplars : All IsFineExemplar (all_hist_exemplars groups)
+  all_exemplars = all_joined IsFineExemplar (λ (point : HistPoint). point.exemplars) (all_hist_points groups)
+      (All-weaker IsFineHist (λ (point : HistPoint). All IsFineExemplar point.exemplars) (λ point fine. fine.exemplars) (all_hist_points groups) all_hists)
+
+  of_hists : HasFineValues tables table.HistPointAttrs
+  of_hists = fine_table tables table.HistPointAttrs (hist_pairs groups) have.of_hist_points
+      (All-map IsFineList (λ (point : HistPoint). point.pairs) (all_hist_points groups)
+      (All-weaker IsFineHist (λ (point : HistPoint). IsFineList point.pairs) (λ point fine. fine.pairs) (all_hist_points groups) all_hists))
+
+  of_summaries : HasFineValues tables table.SummaryPointAttrs
+  of_summaries = fine_table tables table.SummaryPointAttrs (summary_pairs groups) have.of_summary_points
+      (All-map IsFineList (λ (point : SumPoint). point.pairs) (all_summary_points groups)
+      (All-weaker IsFineSummary (λ (point : SumPoint). IsFineList point.pairs) (λ point fine. fine.pairs) (all_summary_points groups) all_summaries))
+
+  of_exemplars : HasFineValues tables table.HistExemplarAttrs
+  of_exemplars = fine_table tables table.HistExemplarAttrs (hist_exemplar_pairs groups) have.of_exemplars
+      (All-map IsFineList (λ (exemplar : Exemplar). exemplar.pairs) (all_hist_exemplars groups)
+      (All-weaker IsFineExemplar (λ (exemplar : Exemplar). IsFineList exemplar.pairs) (λ exemplar fine. fine.pairs) (all_hist_exemplars groups) all_exemplars))
+
+-- ---- all of it
+
+no_parent : (fits : ℕ → Bool) (t u main other : Table) → t ≡ u → main ≡ other → (WrongParent fits u other → ⊥) → WrongParent fits t main → ⊥
+no_parent fits t u main other same are fine wrong = fine (subst (λ (m : Table). WrongParent fits u m) are (subst (λ (t : Table). WrongParent fits t main) same wrong))
+
+fine_tables : (groups : List (ResourceGroup Metric)) (tables : List Table) → HoldMetrics groups tables → HoldHists groups tables → IsReal (Metrics groups) → IsProfile (Metrics groups)
+    → weight_of (Metrics groups) ≤ weight_limit → (kind : Kind) (wrong : RowRefusal) → WrongWhole tables kind wrong → ⊥
+fine_tables groups tables metrics have real is light = clean_whole tables (metrics_fine groups tables real is light metrics) (record {
+  ids = fine_hist_ids groups tables metrics have light;
+  cells = record {
+    summaries = no_parent has_summary_points _ _ _ _ have.summary_points metrics.main
+        (parents_fine has_summary_points summary_points_of summaries_fit groups table.SummaryPoints sum_point_cells summaries_are_parts (few_metrics groups light));
+    lists = λ uneven. lists_even table.SummaryPoints (summary_lists groups) (subst HasUnevenLists have.summary_points uneven);
+    hists = no_parent has_hist_points _ _ _ _ have.hist_points metrics.main
+        (parents_fine has_hist_points hist_points_of hists_fit groups table.HistPoints hist_point_cells hists_are_parts (few_metrics groups light));
+    exemplars = λ two. exemplar_values table.HistExemplars (hist_exemplar_lists groups) (subst (λ (t : Table). HasTwoValues t 3) have.exemplars two);
+    of_summaries = of_summaries groups tables have real is;
+    of_hists = of_hists groups tables have real is;
+    of_exemplars = of_exemplars groups tables have real is;
+  };
+})
+
+pub whole_fine : (groups : List (ResourceGroup Metric)) → IsReal (Metrics groups) → IsProfile (Metrics groups) → weight_of (Metrics groups) ≤ weight_limit
+    → (kind : Kind) (wrong : RowRefusal) → WrongWhole (whole_tables groups) kind wrong → ⊥
+whole_fine groups = fine_tables groups (whole_tables groups) (metrics_there groups) (hists_there groups)

@@ -1,0 +1,248 @@
+-- All tables of a request of metrics are tables of the profile.
+use Rattle.std.proofs.Common.{◌≡◌, ℕ, ◌^◌, ◌<◌, ◌≤◌, true, List, [], ◌∷◌, Option, None, Some, inl, inr, drop, refl}
+use Rattle.std.specs.Prelude.{◌==◌, All, IsTrue}
+use Rattle.std.proofs.lemmas.Bool.{cases_Bool, ltb-true}
+use Rattle.std.proofs.lemmas.List.Elements.{All-cons, All-map, All-nil, All-weaker}
+use Rattle.otlp_model.specs.Limits.{weight_limit}
+use Rattle.otlp_model.specs.Profile.{IsProfile, IsProfileExemplar, IsProfileHistPoint, IsProfileMetric, IsProfileShape, IsProfileSumPoint}
+use Rattle.otlp_model.specs.Real.{IsReal, IsRealExemplar, IsRealHistPoint, IsRealMetric, IsRealShape, IsRealSumPoint, is_real_optional}
+use Rattle.otlp_model.specs.Weight.{weight_of}
+use Rattle.otlp_model.specs.declared.groups.ResourceGroup.{ResourceGroup}
+use Rattle.otlp_model.specs.declared.histograms.HistPoint.{HistPoint}
+use Rattle.otlp_model.specs.declared.histograms.SumPoint.{SumPoint}
+use Rattle.otlp_model.specs.declared.metrics.Exemplar.{Exemplar}
+use Rattle.otlp_model.specs.declared.metrics.Metric.{Metric}
+use Rattle.otlp_model.specs.declared.metrics.Shape.{Shape}
+use Rattle.otlp_model.specs.declared.metrics.Shape.TheVariants as shapes
+use Rattle.otlp_model.specs.declared.request.Request.TheVariants.{Metrics}
+use Rattle.otap_cells.specs.declared.payload.Kind.TheVariants as table
+use Rattle.otap_cells.specs.declared.profile.Base.TheVariants as base
+use Rattle.otap_cells.specs.Cells.{Cell, IsCellOf}
+use Rattle.otap_cells.specs.Columns.{columns_of, exemplars as exemplar_columns, hist_points as hist_columns, summary_points as summary_columns}
+use Rattle.otap_cells.specs.Scalars.{bits_cell, text_cell}
+use Rattle.otap_cells.specs.Tables.{IsRow}
+use Rattle.otap_groups.specs.Flat.{items_of}
+use Rattle.otap_groups.specs.ProfileTables.{IsProfileTable}
+use Rattle.otap_groups.specs.Stored.{main_table, part_table}
+use Rattle.otap_groups.proofs.PartTables.{part_written}
+use Rattle.otap_groups.proofs.ProfileRows.{number_fits}
+use Rattle.otap_groups.proofs.RealGroups.{real_groups, real_items}
+use Rattle.otap_groups.proofs.RunBlocks.{Every}
+use Rattle.otap_groups.proofs.WritableGroups.{all_items_can}
+use Rattle.otap_attrs.proofs.CellFits.{bits_fit}
+use Rattle.otap_attrs.proofs.FilledTables.{filled, filled_all}
+use Rattle.otap_checks.proofs.FinePairs.{IsFineList, pairs_fine}
+use Rattle.otap_checks.proofs.PairsAgain.{all_every}
+use Rattle.otap_checks.proofs.WrittenPairs.{AreReal, attributes_written}
+use Rattle.otap_metrics.specs.Metrics.{hist_points_of, metric_cells, summary_points_of}
+use Rattle.otap_metrics.specs.Points.{exemplar_cells}
+use Rattle.otap_metrics.specs.Tables.{hist_lists, summary_lists}
+use Rattle.otap_metrics.proofs.MetricFits.{either, exemplar_row}
+use Rattle.otap_metrics.proofs.NoDefects.{IsFineResource, IsFineScope}
+use Rattle.otap_metrics.proofs.WrittenParts.{all_joined}
+use Rattle.otap_metrics.proofs.WrittenTables.{IsFitExemplar, below_are_written, every_all, exemplar_fit, main_is_written}
+use Rattle.otap_hist.specs.Lists.{bytes_of, list_cell}
+use Rattle.otap_hist.specs.Points.{hist_point_cells, optional_cell, sum_point_cells}
+use Rattle.otap_hist.specs.Tables.{all_hist_exemplars, all_hist_points, all_summary_points, hist_exemplar_lists, hist_exemplar_pairs, hist_pairs, summary_pairs, tables_below_all, whole_tables}
+use Rattle.otap_hist.proofs.FoundHists.{few_all_exemplars, few_all_hists, few_all_summaries, few_exemplar_lists, few_exemplar_pairs, few_hist_lists, few_hist_pairs, few_summary_lists, few_summary_pairs}
+use Rattle.otap_hist.proofs.HistColumns.{exemplar_ids, exemplars_are_parts, hist_ids, hists_are_parts, summaries_are_parts, summary_ids}
+use Rattle.otap_hist.proofs.ListBytes.{whole_bytes}
+
+-- ---- single cells
+
+count_fits : (n : ℕ) → n < 2 ^ 64 → IsCellOf base.U64 (bits_cell n)
+count_fits n low = elim (cases_Bool (n == 0)) [
+  | inl none ↦ rw none tt
+  | inr some ↦ rw some low
+]
+
+optional_fits : (n : Option ℕ) → IsTrue (is_real_optional n) → IsCellOf base.Double (optional_cell n)
+optional_fits None real = tt
+optional_fits (Some n) real = ltb-true n (2 ^ 64) real
+
+bytes_fit : (ns bytes : List ℕ) → bytes ≡ bytes_of ns → IsCellOf base.ListU64 (text_cell bytes) × IsCellOf base.ListF64 (text_cell bytes)
+bytes_fit ns [] same = (tt, tt)
+bytes_fit ns (byte ∷ bytes) same = (whole_bytes (byte ∷ bytes) ns same, whole_bytes (byte ∷ bytes) ns same)
+
+counts_fit : (ns : List ℕ) → IsCellOf base.ListU64 (list_cell ns)
+counts_fit ns = (bytes_fit ns (bytes_of ns) refl).0
+
+doubles_fit : (ns : List ℕ) → IsCellOf base.ListF64 (list_cell ns)
+doubles_fit ns = (bytes_fit ns (bytes_of ns) refl).1
+
+-- ---- rows
+
+hist_own : (point : HistPoint) → IsRealHistPoint point → IsRow (drop 2 hist_columns) (hist_point_cells point)
+unfolding hist_columns
+hist_own point real = (
+  (bits_fit point.start real.start).0,
+  (
+    (bits_fit point.time real.time).0,
+    (
+      count_fits point.count real.count,
+      (
+        counts_fit point.buckets,
+        (
+          doubles_fit point.bounds,
+          (
+            optional_fits point.sum real.sum,
+            (number_fits point.flags real.flags, (optional_fits point.min real.min, (optional_fits point.max real.max, tt))),
+          ),
+        ),
+      ),
+    ),
+  ),
+)
+
+summary_own : (point : SumPoint) → IsRealSumPoint point → IsRow (drop 2 summary_columns) (sum_point_cells point)
+unfolding summary_columns
+summary_own point real = (
+  (bits_fit point.start real.start).0,
+  (
+    (bits_fit point.time real.time).0,
+    (count_fits point.count real.count, ((bits_fit point.sum real.sum).1, (doubles_fit _, (doubles_fit _, (number_fits point.flags real.flags, tt))))),
+  ),
+)
+
+hist_row : (id parent : Cell) (cells : List Cell) → IsCellOf (base.Id true) id → IsCellOf (base.Id true) parent → IsRow (drop 2 hist_columns) cells
+    → IsRow (columns_of table.HistPoints) (id ∷ parent ∷ cells)
+unfolding hist_columns
+hist_row id parent cells a b own = (a, (either parent b, own))
+
+summary_row : (id parent : Cell) (cells : List Cell) → IsCellOf (base.Id true) id → IsCellOf (base.Id true) parent → IsRow (drop 2 summary_columns) cells
+    → IsRow (columns_of table.SummaryPoints) (id ∷ parent ∷ cells)
+unfolding summary_columns
+summary_row id parent cells a b own = (a, (either parent b, own))
+
+-- ---- what fits
+
+record IsFitHist (point : HistPoint) : Type 0 where
+  own : IsRow (drop 2 hist_columns) (hist_point_cells point)
+  pairs : AreReal point.pairs
+  exemplars : All IsFitExemplar point.exemplars
+
+record IsFitSummary (point : SumPoint) : Type 0 where
+  own : IsRow (drop 2 summary_columns) (sum_point_cells point)
+  pairs : AreReal point.pairs
+
+record IsFitMetric (metric : Metric) : Type 0 where
+  hists : All IsFitHist (hist_points_of metric.shape)
+  summaries : All IsFitSummary (summary_points_of metric.shape)
+
+hist_fit : (point : HistPoint) → IsRealHistPoint point → IsProfileHistPoint point → IsFitHist point
+hist_fit point real is = record {
+  own = hist_own point real;
+  pairs = real.pairs;
+  exemplars = real_items IsRealExemplar IsProfileExemplar IsFitExemplar exemplar_fit point.exemplars real.exemplars.at is.exemplars.at;
+}
+
+summary_fit : (point : SumPoint) → IsRealSumPoint point → IsProfileSumPoint point → IsFitSummary point
+summary_fit point real is = record { own = summary_own point real; pairs = real.pairs }
+
+hists_fit : (shape : Shape) → IsRealShape shape → IsProfileShape shape → All IsFitHist (hist_points_of shape)
+hists_fit shapes.Empty real is = All-nil IsFitHist
+hists_fit (shapes.Gauge points) real is = All-nil IsFitHist
+hists_fit (shapes.Sum points temporality monotonic) real is = All-nil IsFitHist
+hists_fit (shapes.Histogram points temporality) real is = real_items IsRealHistPoint IsProfileHistPoint IsFitHist hist_fit points real.0.at is.at
+hists_fit (shapes.Summary points) real is = All-nil IsFitHist
+
+summaries_fit : (shape : Shape) → IsRealShape shape → IsProfileShape shape → All IsFitSummary (summary_points_of shape)
+summaries_fit shapes.Empty real is = All-nil IsFitSummary
+summaries_fit (shapes.Gauge points) real is = All-nil IsFitSummary
+summaries_fit (shapes.Sum points temporality monotonic) real is = All-nil IsFitSummary
+summaries_fit (shapes.Histogram points temporality) real is = All-nil IsFitSummary
+summaries_fit (shapes.Summary points) real is = real_items IsRealSumPoint IsProfileSumPoint IsFitSummary summary_fit points real.at is.at
+
+metric_fit : (metric : Metric) → IsRealMetric metric → IsProfileMetric metric → IsFitMetric metric
+metric_fit metric real is = record { hists = hists_fit metric.shape real.shape is.shape; summaries = summaries_fit metric.shape real.shape is.shape }
+
+-- ---- all of a request
+
+module _ (groups : List (ResourceGroup Metric)) (real : IsReal (Metrics groups)) (is : IsProfile (Metrics groups)) (light : weight_of (Metrics groups) ≤ weight_limit) where
+  fit_metrics : All IsFitMetric (items_of groups)
+  fit_metrics = all_items_can IsFineResource IsFineScope IsFitMetric groups
+      (real_groups IsRealMetric IsProfileMetric IsFitMetric metric_fit IsFineList pairs_fine groups real.at is.at)
+
+  fit_hists : All IsFitHist (all_hist_points groups)
+  fit_hists = all_joined IsFitHist (λ (metric : Metric). hist_points_of metric.shape) (items_of groups)
+      (All-weaker IsFitMetric (λ (metric : Metric). All IsFitHist (hist_points_of metric.shape)) (λ metric fit. fit.hists) (items_of groups) fit_metrics)
+
+  fit_summaries : All IsFitSummary (all_summary_points groups)
+  fit_summaries = all_joined IsFitSummary (λ (metric : Metric). summary_points_of metric.shape) (items_of groups)
+      (All-weaker IsFitMetric (λ (metric : Metric). All IsFitSummary (summary_points_of metric.shape)) (λ metric fit. fit.summaries) (items_of groups) fit_metrics)
+
+  fit_exemplars : All IsFitExemplar (all_hist_exemplars groups)
+  fit_exemplars = all_joined IsFitExemplar (λ (point : HistPoint). point.exemplars) (all_hist_points groups)
+      (All-weaker IsFitHist (λ (point : HistPoint). All IsFitExemplar point.exemplars) (λ point fit. fit.exemplars) (all_hist_points groups) fit_hists)
+
+  real_hists : All AreReal (hist_pairs groups)
+  real_hists = All-map AreReal (λ (point : HistPoint). point.pairs) (all_hist_points groups)
+      (All-weaker IsFitHist (λ (point : HistPoint). AreReal point.pairs) (λ point fit. fit.pairs) (all_hist_points groups) fit_hists)
+
+  real_summaries : All AreReal (summary_pairs groups)
+  real_summaries = All-map AreReal (λ (point : SumPoint). point.pairs) (all_summary_points groups)
+      (All-weaker IsFitSummary (λ (point : SumPoint). AreReal point.pairs) (λ point fit. fit.pairs) (all_summary_points groups) fit_summaries)
+
+  real_exemplars : All AreReal (hist_exemplar_pairs groups)
+  real_exemplars = All-map AreReal (λ (exemplar : Exemplar). exemplar.pairs) (all_hist_exemplars groups)
+      (All-weaker IsFitExemplar (λ (exemplar : Exemplar). AreReal exemplar.pairs) (λ exemplar fit. fit.pairs) (all_hist_exemplars groups) fit_exemplars)
+
+  hists_written : IsProfileTable (part_table table.HistPoints hist_point_cells (hist_lists groups))
+  hists_written =
+      part_written table.HistPoints hist_point_cells (drop 2 hist_columns) (hist_lists groups) hists_are_parts hist_row hist_ids (few_hist_lists groups light) (few_all_hists groups light)
+      (all_every (λ (point : HistPoint). IsRow (drop 2 hist_columns) (hist_point_cells point)) (all_hist_points groups)
+      (All-weaker IsFitHist (λ (point : HistPoint). IsRow (drop 2 hist_columns) (hist_point_cells point)) (λ point fit. fit.own) (all_hist_points groups) fit_hists))
+
+  summaries_written : IsProfileTable (part_table table.SummaryPoints sum_point_cells (summary_lists groups))
+  summaries_written =
+      part_written table.SummaryPoints sum_point_cells (drop 2 summary_columns) (summary_lists groups) summaries_are_parts summary_row summary_ids
+      (few_summary_lists groups light) (few_all_summaries groups light)
+      (all_every (λ (point : SumPoint). IsRow (drop 2 summary_columns) (sum_point_cells point)) (all_summary_points groups)
+      (All-weaker IsFitSummary (λ (point : SumPoint). IsRow (drop 2 summary_columns) (sum_point_cells point)) (λ point fit. fit.own) (all_summary_points groups) fit_summaries))
+
+  exemplars_written : IsProfileTable (part_table table.HistExemplars exemplar_cells (hist_exemplar_lists groups))
+  exemplars_written =
+      part_written table.HistExemplars exemplar_cells (drop 2 exemplar_columns) (hist_exemplar_lists groups) exemplars_are_parts exemplar_row exemplar_ids
+      (few_exemplar_lists groups light) (few_all_exemplars groups light)
+      (all_every (λ (exemplar : Exemplar). IsRow (drop 2 exemplar_columns) (exemplar_cells exemplar)) (all_hist_exemplars groups)
+      (All-weaker IsFitExemplar (λ (exemplar : Exemplar). IsRow (drop 2 exemplar_columns) (exemplar_cells exemplar)) (λ exemplar fit. fit.own) (all_hist_exemplars groups) fit_exemplars))
+
+  below_written : Every IsProfileTable (tables_below_all groups)
+  below_written =
+      let (resources, (scopes, (points, (of_points, (exemplars, (of_exemplars, none)))))) = below_are_written groups real is light in (
+        resources,
+        (
+          scopes,
+          (
+            points,
+            (
+              summaries_written,
+              (
+                hists_written,
+                (
+                  of_points,
+                  (
+                    attributes_written table.SummaryPointAttrs (summary_pairs groups) refl (few_summary_pairs groups light) real_summaries,
+                    (
+                      attributes_written table.HistPointAttrs (hist_pairs groups) refl (few_hist_pairs groups light) real_hists,
+                      (
+                        exemplars,
+                        (
+                          exemplars_written,
+                          (of_exemplars, (attributes_written table.HistExemplarAttrs (hist_exemplar_pairs groups) refl (few_exemplar_pairs groups light) real_exemplars, tt)),
+                        ),
+                      ),
+                    ),
+                  ),
+                ),
+              ),
+            ),
+          ),
+        ),
+      )
+
+  pub whole_written : All IsProfileTable (whole_tables groups)
+  unfolding whole_tables
+  whole_written =
+      All-cons IsProfileTable (main_table table.Metrics metric_cells groups) (filled (tables_below_all groups)) (main_is_written groups real is light)
+      (filled_all IsProfileTable (tables_below_all groups) (every_all IsProfileTable (tables_below_all groups) below_written))

@@ -1,0 +1,5 @@
+pub mod Inside
+pub mod Lists
+pub mod Points
+pub mod Requests
+pub mod Tables

@@ -1,0 +1,77 @@
+-- The points of histograms and summaries that tables make, and what may be wrong with their rows.
+use Rattle.std.specs.Prelude.{◌≡◌, ℕ, ◌<◌, ◌==◌, ◌⊎◌, true, false, List, Option, length}
+use Rattle.otlp_model.specs.declared.groups.ResourceGroup.{ResourceGroup}
+use Rattle.otlp_model.specs.declared.histograms.HistPoint.{HistPoint}
+use Rattle.otlp_model.specs.declared.histograms.SumPoint.{SumPoint}
+use Rattle.otlp_model.specs.declared.metrics.Exemplar.{Exemplar}
+use Rattle.otlp_model.specs.declared.metrics.Metric.{Metric}
+use Rattle.otlp_model.specs.declared.request.Signal.TheVariants as signal
+use Rattle.otap_cells.specs.declared.payload.Kind.{Kind}
+use Rattle.otap_cells.specs.declared.payload.Kind.TheVariants as table
+use Rattle.otap_cells.specs.Cells.{Cell}
+use Rattle.otap_cells.specs.Named.{table_named}
+use Rattle.otap_cells.specs.Tables.{Table, cell_in}
+use Rattle.otap_groups.specs.Children.{children}
+use Rattle.otap_attrs.specs.declared.refusal.RowRefusal.{RowRefusal}
+use Rattle.otap_attrs.specs.declared.refusal.RowRefusal.TheVariants as why
+use Rattle.otap_checks.specs.IdDefects.{IdDefect}
+use Rattle.otap_checks.specs.ValueDefects.{WrongValue}
+use Rattle.otap_checks.specs.Reading.{pairs_in, part_rows_in}
+use Rattle.otap_metrics.specs.Requests.{HasTwoValues, WrongMetrics, WrongParent, exemplars_in, has_hist_points, has_summary_points, is_other, regrouped_metrics}
+use Rattle.otap_hist.specs.Lists.{count_in}
+use Rattle.otap_hist.specs.Points.{hist_point_of, sum_point_of}
+
+-- ---- what is found below
+
+-- the point of an id and own cells, with the pairs that a table has for the id, and the exemplars that are found for it
+abbrev pub hist_point_in : Table → (Option ℕ → List Exemplar) → Option ℕ → List Cell → HistPoint
+hist_point_in pairs exemplars id cells = hist_point_of cells (pairs_in pairs id) (exemplars id)
+
+-- THE POINTS of a metric that is a histogram
+abbrev pub hist_points_in : List Table → Option ℕ → List HistPoint
+hist_points_in tables = children (hist_point_in (table_named table.HistPointAttrs tables)
+    (exemplars_in (table_named table.HistExemplars tables) (table_named table.HistExemplarAttrs tables)))
+    (part_rows_in (table_named table.HistPoints tables))
+
+-- the point of an id and own cells, with the pairs that a table has for the id
+abbrev pub summary_point_in : Table → Option ℕ → List Cell → SumPoint
+summary_point_in pairs id cells = sum_point_of cells (pairs_in pairs id)
+
+-- THE POINTS of a metric that is a summary
+abbrev pub summary_points_in : List Table → Option ℕ → List SumPoint
+summary_points_in tables = children (summary_point_in (table_named table.SummaryPointAttrs tables)) (part_rows_in (table_named table.SummaryPoints tables))
+
+-- THE REQUEST that tables of metrics make, with the points of histograms and summaries
+abbrev pub regrouped_whole : List Table → List (ResourceGroup Metric)
+regrouped_whole tables = regrouped_metrics (hist_points_in tables) (summary_points_in tables) tables
+
+-- ---- what may be wrong
+
+-- a row has other numbers of quantiles and of values
+pub record HasUnevenLists (t : Table) : Type 0 where
+  pub row : ℕ
+  pub there : row < length t.rows
+  pub other : (count_in (cell_in t.rows 6 row) == count_in (cell_in t.rows 7 row)) ≡ false
+
+-- what is wrong with a table beside its ids
+abbrev pub WrongHistCells : List Table → Kind → RowRefusal → Type 0
+WrongHistCells tables table.SummaryPoints why.BadKind =
+    WrongParent has_summary_points (table_named table.SummaryPoints tables) (table_named table.Metrics tables) ⊎ HasUnevenLists (table_named table.SummaryPoints tables)
+WrongHistCells tables table.HistPoints why.BadKind = WrongParent has_hist_points (table_named table.HistPoints tables) (table_named table.Metrics tables)
+WrongHistCells tables table.HistExemplars why.TwoValues = HasTwoValues (table_named table.HistExemplars tables) 3
+WrongHistCells tables table.SummaryPointAttrs wrong = WrongValue (table_named table.SummaryPointAttrs tables) 2 wrong
+WrongHistCells tables table.HistPointAttrs wrong = WrongValue (table_named table.HistPointAttrs tables) 2 wrong
+WrongHistCells tables table.HistExemplarAttrs wrong = WrongValue (table_named table.HistExemplarAttrs tables) 2 wrong
+WrongHistCells tables kind wrong = ⊥
+
+-- what is wrong with the ids of these tables
+abbrev pub WrongHistIds : List Table → Kind → RowRefusal → Type 0
+WrongHistIds tables kind wrong = (is_other kind ≡ true) × IdDefect signal.Metrics tables kind wrong
+
+-- WHAT IS WRONG WITH THE ROWS of a kind's table among those of points of histograms and summaries, and of what is below them
+abbrev pub WrongHists : List Table → Kind → RowRefusal → Type 0
+WrongHists tables kind wrong = WrongHistIds tables kind wrong ⊎ WrongHistCells tables kind wrong
+
+-- WHAT IS WRONG WITH THE ROWS of a kind's table among all tables of metrics
+abbrev pub WrongWhole : List Table → Kind → RowRefusal → Type 0
+WrongWhole tables kind wrong = WrongMetrics tables kind wrong ⊎ WrongHists tables kind wrong

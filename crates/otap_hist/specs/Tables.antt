@@ -1,0 +1,109 @@
+-- The tables of the points of histograms and summaries, alone and among all tables of a request of metrics.
+use Rattle.std.specs.Prelude.{◌≡◌, ◌≤◌, ◌∷◌, [], List, All, map, nat_lt, if◌then◌else◌}
+use Rattle.std.specs.List.{flat_map}
+use Rattle.otlp_model.specs.Limits.{weight_limit}
+use Rattle.otlp_model.specs.Weight.{total, weight_of_pair}
+use Rattle.otlp_model.specs.declared.groups.ResourceGroup.{ResourceGroup}
+use Rattle.otlp_model.specs.declared.histograms.HistPoint.{HistPoint}
+use Rattle.otlp_model.specs.declared.histograms.SumPoint.{SumPoint}
+use Rattle.otlp_model.specs.declared.metrics.Exemplar.{Exemplar}
+use Rattle.otlp_model.specs.declared.metrics.Metric.{Metric}
+use Rattle.otlp_model.specs.declared.value.Pair.{Pair}
+use Rattle.otap_cells.specs.declared.payload.Kind.{Kind}
+use Rattle.otap_cells.specs.declared.payload.Kind.TheVariants as table
+use Rattle.otap_cells.specs.Named.{table_named}
+use Rattle.otap_cells.specs.Payload.{number_of}
+use Rattle.otap_cells.specs.Tables.{Table}
+use Rattle.otap_groups.specs.Stored.{main_table, part_table}
+use Rattle.otap_attrs.specs.Tables.{attribute_table, where_rows}
+use Rattle.otap_metrics.specs.Metrics.{hist_points_of, metric_cells, summary_points_of}
+use Rattle.otap_metrics.specs.Points.{exemplar_cells, point_cells}
+use Rattle.otap_metrics.specs.Tables.{CanWriteExemplar, exemplar_lists, exemplar_pairs, hist_lists, point_lists, point_pairs, resource_pairs, scope_pairs, summary_lists}
+use Rattle.otap_hist.specs.Points.{hist_point_cells, sum_point_cells}
+
+-- all points of histograms, and of summaries
+abbrev pub all_hist_points : List (ResourceGroup Metric) → List HistPoint
+all_hist_points groups = flat_map (λ points. points) (hist_lists groups)
+
+abbrev pub all_summary_points : List (ResourceGroup Metric) → List SumPoint
+all_summary_points groups = flat_map (λ points. points) (summary_lists groups)
+
+-- the exemplars of each point of a histogram, and all of them
+abbrev pub hist_exemplar_lists : List (ResourceGroup Metric) → List (List Exemplar)
+hist_exemplar_lists groups = map (λ point. point.exemplars) (all_hist_points groups)
+
+abbrev pub all_hist_exemplars : List (ResourceGroup Metric) → List Exemplar
+all_hist_exemplars groups = flat_map (λ exemplars. exemplars) (hist_exemplar_lists groups)
+
+-- the attributes of each of these points and exemplars
+abbrev pub hist_pairs : List (ResourceGroup Metric) → List (List Pair)
+hist_pairs groups = map (λ point. point.pairs) (all_hist_points groups)
+
+abbrev pub summary_pairs : List (ResourceGroup Metric) → List (List Pair)
+summary_pairs groups = map (λ point. point.pairs) (all_summary_points groups)
+
+abbrev pub hist_exemplar_pairs : List (ResourceGroup Metric) → List (List Pair)
+hist_exemplar_pairs groups = map (λ exemplar. exemplar.pairs) (all_hist_exemplars groups)
+
+-- THE TABLES of the points of histograms and summaries, and of what is below them
+abbrev pub hist_tables : List (ResourceGroup Metric) → List Table
+hist_tables groups =
+    part_table table.SummaryPoints sum_point_cells (summary_lists groups)
+    ∷ part_table table.HistPoints hist_point_cells (hist_lists groups)
+    ∷ attribute_table table.SummaryPointAttrs (summary_pairs groups)
+    ∷ attribute_table table.HistPointAttrs (hist_pairs groups)
+    ∷ part_table table.HistExemplars exemplar_cells (hist_exemplar_lists groups)
+    ∷ attribute_table table.HistExemplarAttrs (hist_exemplar_pairs groups)
+    ∷ []
+
+-- a table beside its kind among others: before the first whose payload type has a greater number
+abbrev pub put_in : {R : Type 0} → Kind × R → List (Kind × R) → List (Kind × R)
+put_in one [] = one ∷ []
+put_in one (other ∷ others) = if nat_lt (number_of one.0) (number_of other.0) then one ∷ other ∷ others else other ∷ put_in one others
+
+-- tables among others, one after the other
+abbrev pub put_all : {R : Type 0} → List (Kind × R) → List (Kind × R) → List (Kind × R)
+put_all [] others = others
+put_all (one ∷ ones) others = put_all ones (put_in one others)
+
+-- all tables below the metrics, by their payload types
+abbrev pub tables_below_all : List (ResourceGroup Metric) → List Table
+tables_below_all groups =
+    attribute_table table.ResourceAttrs (resource_pairs groups)
+    ∷ attribute_table table.ScopeAttrs (scope_pairs groups)
+    ∷ part_table table.NumberPoints point_cells (point_lists groups)
+    ∷ part_table table.SummaryPoints sum_point_cells (summary_lists groups)
+    ∷ part_table table.HistPoints hist_point_cells (hist_lists groups)
+    ∷ attribute_table table.NumberPointAttrs (point_pairs groups)
+    ∷ attribute_table table.SummaryPointAttrs (summary_pairs groups)
+    ∷ attribute_table table.HistPointAttrs (hist_pairs groups)
+    ∷ part_table table.NumberExemplars exemplar_cells (exemplar_lists groups)
+    ∷ part_table table.HistExemplars exemplar_cells (hist_exemplar_lists groups)
+    ∷ attribute_table table.NumberExemplarAttrs (exemplar_pairs groups)
+    ∷ attribute_table table.HistExemplarAttrs (hist_exemplar_pairs groups)
+    ∷ []
+
+-- THE TABLES of a request, with the points of its histograms and summaries: its metrics, and what is below them where there are rows
+unfoldable pub whole_tables : List (ResourceGroup Metric) → List Table
+whole_tables groups = main_table table.Metrics metric_cells groups ∷ flat_map where_rows (tables_below_all groups)
+
+-- AMONG THESE TABLES stand those of the points of histograms and summaries; one that has no rows may be missing
+pub record HoldHists (groups : List (ResourceGroup Metric)) (tables : List Table) : Type 0 where
+  pub summary_points : table_named table.SummaryPoints tables ≡ part_table table.SummaryPoints sum_point_cells (summary_lists groups)
+  pub hist_points : table_named table.HistPoints tables ≡ part_table table.HistPoints hist_point_cells (hist_lists groups)
+  pub of_summary_points : table_named table.SummaryPointAttrs tables ≡ attribute_table table.SummaryPointAttrs (summary_pairs groups)
+  pub of_hist_points : table_named table.HistPointAttrs tables ≡ attribute_table table.HistPointAttrs (hist_pairs groups)
+  pub exemplars : table_named table.HistExemplars tables ≡ part_table table.HistExemplars exemplar_cells (hist_exemplar_lists groups)
+  pub of_exemplars : table_named table.HistExemplarAttrs tables ≡ attribute_table table.HistExemplarAttrs (hist_exemplar_pairs groups)
+
+-- what can be written: ids have their lengths, and nested values aren't too large
+pub record CanWriteHistPoint (point : HistPoint) : Type 0 where
+  pub pairs : total 32 weight_of_pair point.pairs ≤ weight_limit
+  pub exemplars : All CanWriteExemplar point.exemplars
+
+pub record CanWriteSumPoint (point : SumPoint) : Type 0 where
+  pub pairs : total 32 weight_of_pair point.pairs ≤ weight_limit
+
+pub record CanWriteMetric (metric : Metric) : Type 0 where
+  pub hist_points : All CanWriteHistPoint (hist_points_of metric.shape)
+  pub summary_points : All CanWriteSumPoint (summary_points_of metric.shape)

@@ -1,0 +1,77 @@
+//! What the definitions mean, as functions that do nothing: each ensures a law for all requests.
+ghost use Rattle.std.specs.Prelude.{◌≡◌, ◌≤◌, ◌+◌, ◌||◌, All, List, length, map, filter, nat_lt};
+ghost use Rattle.std.specs.List.{flat_map};
+ghost use Rattle.otlp_model.specs.Limits.{weight_limit};
+ghost use Rattle.otlp_model.specs.Profile.{IsProfile};
+ghost use Rattle.otlp_model.specs.Real.{IsReal};
+ghost use Rattle.otlp_model.specs.Same.{Same};
+ghost use Rattle.otlp_model.specs.Telemetry.{telemetry};
+ghost use Rattle.otlp_model.specs.Weight.{weight_of};
+ghost use Rattle.otlp_model.specs.declared.groups.ResourceGroup.{ResourceGroup};
+ghost use Rattle.otlp_model.specs.declared.metrics.Metric.{Metric};
+ghost use Rattle.otlp_model.specs.declared.request.Request.TheVariants.{Metrics};
+ghost use Rattle.otlp_model.specs.declared.request.Signal.TheVariants as signal;
+ghost use Rattle.otap_cells.specs.declared.payload.Kind.{Kind};
+ghost use Rattle.otap_cells.specs.declared.payload.Kind.TheVariants as table;
+ghost use Rattle.otap_cells.specs.Named.{table_named};
+ghost use Rattle.otap_cells.specs.Payload.{is_kind, kinds_of, main_of};
+ghost use Rattle.otap_cells.specs.Sets.{IsSet, tables_in};
+ghost use Rattle.otap_cells.specs.Tables.{Table};
+ghost use Rattle.otap_cells.specs.Weights.{weight_of_tables};
+ghost use Rattle.otap_attrs.specs.Tables.{beside_kind, where_rows};
+ghost use Rattle.otap_groups.specs.ProfileTables.{IsProfileTable};
+ghost use Rattle.otap_metrics.specs.Tables.{HoldMetrics, tables_of_metrics};
+ghost use Rattle.otap_attrs.specs.declared.refusal.RowRefusal.{RowRefusal};
+ghost use Rattle.otap_hist.specs.Requests.{WrongWhole, regrouped_whole};
+ghost use Rattle.otap_hist.specs.Tables.{HoldHists, hist_tables, put_all, whole_tables};
+
+/// Law: the tables of the points of histograms and summaries, put among the other tables of a request, make all its tables.
+pub fn tables_are_whole()
+    ensures tables { (groups : List (ResourceGroup Metric)) (pairs : List (Kind × Table)) → IsSet (λ t. t) pairs → tables_in (λ t. t) pairs ≡ tables_of_metrics groups
+        → tables_in (λ t. t) (put_all (map beside_kind (flat_map where_rows (hist_tables groups))) pairs) ≡ whole_tables groups }
+    ensures set { (groups : List (ResourceGroup Metric)) (pairs : List (Kind × Table)) → IsSet (λ t. t) pairs → tables_in (λ t. t) pairs ≡ tables_of_metrics groups
+        → IsSet (λ t. t) (put_all (map beside_kind (flat_map where_rows (hist_tables groups))) pairs) }
+    ensures weight { (groups : List (ResourceGroup Metric)) → weight_of_tables (whole_tables groups) ≡ weight_of_tables (tables_of_metrics groups) + weight_of_tables (hist_tables groups) }
+{}
+
+/// Law: all tables of a request stand among themselves.
+pub fn tables_are_there()
+    ensures metrics { (groups : List (ResourceGroup Metric)) → HoldMetrics groups (whole_tables groups) }
+    ensures hists { (groups : List (ResourceGroup Metric)) → HoldHists groups (whole_tables groups) }
+{}
+
+/// Law: the request that all tables of a request make tells what the request tells.
+pub fn tables_tell_the_same()
+    ensures { (groups : List (ResourceGroup Metric)) → IsReal (Metrics groups) → IsProfile (Metrics groups) → weight_of (Metrics groups) ≤ weight_limit
+        → Same (Metrics groups) (Metrics (regrouped_whole (whole_tables groups))) }
+{}
+
+/// Law: that request weighs no more than the request.
+pub fn tables_are_light()
+    ensures { (groups : List (ResourceGroup Metric)) → IsReal (Metrics groups) → IsProfile (Metrics groups) → weight_of (Metrics groups) ≤ weight_limit
+        → weight_of (Metrics (regrouped_whole (whole_tables groups))) ≤ weight_of (Metrics groups) }
+{}
+
+/// Law: the tables of a request stand in the order of the signal's kinds: its main table, and of the others those that have
+/// rows.
+pub fn tables_by_type()
+    ensures { (groups : List (ResourceGroup Metric)) → map (λ t. t.kind) (whole_tables groups)
+        ≡ filter (λ kind. is_kind kind (main_of signal.Metrics) || nat_lt 0 (length (table_named kind (whole_tables groups)).rows)) (kinds_of signal.Metrics) }
+{}
+
+/// Law: the main table of a request has a row for each of its metrics.
+pub fn each_metric_has_a_row()
+    ensures { (groups : List (ResourceGroup Metric)) → length (table_named table.Metrics (whole_tables groups)).rows ≡ length (telemetry (Metrics groups)) }
+{}
+
+/// Law: nothing is wrong with the rows of all tables of a request.
+pub fn tables_have_no_defects()
+    ensures { (groups : List (ResourceGroup Metric)) → IsReal (Metrics groups) → IsProfile (Metrics groups) → weight_of (Metrics groups) ≤ weight_limit
+        → (kind : Kind) (why : RowRefusal) → WrongWhole (whole_tables groups) kind why → ⊥ }
+{}
+
+/// Law: all tables of a request are tables of the profile, and have ids.
+pub fn tables_can_be_written()
+    ensures { (groups : List (ResourceGroup Metric)) → IsReal (Metrics groups) → IsProfile (Metrics groups) → weight_of (Metrics groups) ≤ weight_limit
+        → All IsProfileTable (whole_tables groups) }
+{}

@@ -1,0 +1,28 @@
+//! What all tables of metrics mean, by their cells and ids, as functions that do nothing: each ensures a law for all tables.
+ghost use Rattle.std.specs.Prelude.{◌≡◌, All, List};
+ghost use Rattle.otap_attrs.specs.declared.refusal.RowRefusal.{RowRefusal};
+ghost use Rattle.otap_cells.specs.GivenIds.{ReadAs};
+ghost use Rattle.otap_cells.specs.Tables.{Table};
+ghost use Rattle.otap_cells.specs.declared.payload.Kind.{Kind};
+ghost use Rattle.otap_checks.specs.Deciding.{CleanOrWrong, HaveByteCells};
+ghost use Rattle.otap_checks.specs.Reading.{HasAllIds};
+ghost use Rattle.otap_hist.specs.Requests.{WrongWhole, regrouped_whole};
+
+use otap_metrics::reading_laws as metrics;
+
+/// Law: nothing is wrong with the rows of tables, or something is.
+pub fn clean_or_wrong()
+    ensures { (tables : List Table) → HaveByteCells tables → CleanOrWrong (WrongWhole tables) }
+{
+    metrics::clean_or_wrong();
+}
+
+/// Law: tables that read as others, whose ids are given, make their request, and nothing is wrong with them that isn't wrong
+/// with the others.
+pub fn cells_and_ids_decide()
+    ensures wrong { (tables others : List Table) → ReadAs tables others → All HasAllIds others
+        → (kind : Kind) (why : RowRefusal) → WrongWhole tables kind why → WrongWhole others kind why }
+    ensures request { (tables others : List Table) → ReadAs tables others → All HasAllIds others → regrouped_whole tables ≡ regrouped_whole others }
+{
+    metrics::cells_and_ids_decide();
+}
