@@ -1,0 +1,5 @@
+pub mod GroupPlaces
+pub mod ItemsLight
+pub mod ItemsWithin
+pub mod LoadCounted
+pub mod LoadLight

@@ -1,0 +1,59 @@
+-- The load: a request of any signal for each number r. It has 8,192 items, of which the one at the place k has the number
+-- 8192 r + k, in three groups.
+use Rattle.std.specs.Prelude.{ℕ, ◌+◌, ◌*◌, ◌%◌, ◌==◌, List, [], ◌∷◌, map, filter, codes, pos}
+use Rattle.std.specs.List.{range_with_len}
+use Rattle.otlp_load.specs.Pairs.{numbered}
+use Rattle.otlp_load.specs.Items.{span_of, log_record_of, metric_of}
+use Rattle.otlp_model.specs.declared.value.Value.TheVariants as values
+use Rattle.otlp_model.specs.declared.value.Pair.{Pair}
+use Rattle.otlp_model.specs.declared.groups.Resource.{Resource}
+use Rattle.otlp_model.specs.declared.groups.Scope.{Scope}
+use Rattle.otlp_model.specs.declared.groups.ResourceGroup.{ResourceGroup}
+use Rattle.otlp_model.specs.declared.request.Request.{Request}
+use Rattle.otlp_model.specs.declared.request.Request.TheVariants.{Traces, Logs, Metrics}
+use Rattle.otlp_model.specs.declared.request.Signal.{Signal}
+use Rattle.otlp_model.specs.declared.request.Signal.TheVariants as signals
+
+-- how many items a request has
+abbrev pub items_each : ℕ
+items_each = 8192
+
+-- how many requests there are
+abbrev pub requests_at_most : ℕ
+requests_at_most = 1000
+
+-- the number of the item at the place k of request r
+abbrev pub number_at : ℕ → ℕ → ℕ
+number_at r k = 8192 * r + k
+
+-- the places of group g below some place, in ascending order: those that leave g when they are divided by 3
+unfoldable pub places_below : ℕ → ℕ → List ℕ
+places_below end g = filter (λ k. k % 3 == g) (range_with_len 0 end)
+
+abbrev pub service_of : ℕ → Pair
+service_of g = record { key = codes "service.name"; value = values.Str (numbered (codes "svc-") g) }
+
+abbrev pub host_of : ℕ → Pair
+host_of g = record { key = codes "host.id"; value = values.Int (pos g) }
+
+abbrev pub resource_of : ℕ → Resource
+resource_of g = record { schema_url = []; dropped = 0; pairs = service_of g ∷ host_of g ∷ [] }
+
+abbrev pub scope_of_all : Scope
+scope_of_all = record { schema_url = []; name = codes "gen"; version = codes "1"; dropped = 0; pairs = [] }
+
+-- group g of request r, whose items are made of the number r and their own
+abbrev pub group_of : {I : Type 0} → (ℕ → ℕ → I) → ℕ → ℕ → ResourceGroup I
+group_of item_of r g = record {
+  resource = resource_of g;
+  scopes = record { scope = scope_of_all; items = map (λ k. item_of r (number_at r k)) (places_below items_each g) } ∷ [];
+}
+
+abbrev pub groups_of : {I : Type 0} → (ℕ → ℕ → I) → ℕ → List (ResourceGroup I)
+groups_of item_of r = map (group_of item_of r) (range_with_len 0 3)
+
+-- request r of a signal
+abbrev pub generated : Signal → ℕ → Request
+generated signals.Traces r = Traces (groups_of span_of r)
+generated signals.Logs r = Logs (groups_of log_record_of r)
+generated signals.Metrics r = Metrics (groups_of metric_of r)

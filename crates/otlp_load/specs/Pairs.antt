@@ -1,0 +1,32 @@
+-- The texts and the twelve pairs of an item of the load.
+use Rattle.std.specs.Prelude.{ℕ, ◌+◌, ◌*◌, ◌%◌, ◌==◌, List, ◌++◌, map, codes, pos, to_bits, if◌then◌else◌}
+use Rattle.std.specs.List.{range_with_len}
+use Rattle.std.specs.Fmt.{decimal}
+use lib.Ieee.{binary64, of_int}
+use Rattle.otlp_model.specs.declared.value.Value.{Value}
+use Rattle.otlp_model.specs.declared.value.Value.TheVariants as values
+use Rattle.otlp_model.specs.declared.value.Pair.{Pair}
+
+-- the bits of the double that is this number (IEEE 754 binary64)
+abbrev pub double : ℕ → ℕ
+double number = to_bits binary64 (of_int binary64 (pos number))
+
+-- a text with a number behind it, in decimal
+abbrev pub numbered : List ℕ → ℕ → List ℕ
+numbered text number = text ++ decimal number
+
+-- the value at a place among the pairs of item `number`, which stands in request r
+abbrev pub value_at : ℕ → ℕ → ℕ → Value
+value_at r number place =
+    if place == 8 then values.Str (numbered (codes "batch-") r)
+    else if place % 4 == 0 then values.Str (numbered (codes "v") ((number + place) % (64 * (place + 1))))
+    else if place % 4 == 1 then values.Int (pos (number % 1000))
+    else if place % 4 == 2 then values.Bool (number % 2 == 1)
+    else values.Double (double number)
+
+abbrev pub pair_at : ℕ → ℕ → ℕ → Pair
+pair_at r number place = record { key = numbered (codes "k") place; value = value_at r number place }
+
+-- the twelve pairs
+unfoldable pub pairs_of : ℕ → ℕ → List Pair
+pairs_of r number = map (pair_at r number) (range_with_len 0 12)

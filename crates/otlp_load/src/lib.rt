@@ -1,0 +1,13 @@
+//! The load that the program makes for itself: requests of any signal, each determined by its number.
+#![tactic(auto)]
+
+mod groups;
+mod items;
+pub mod laws;
+mod pairs;
+mod requests;
+
+pub use requests::{ITEMS, REQUESTS, generated};
+
+#[cfg(test)]
+mod tests;
