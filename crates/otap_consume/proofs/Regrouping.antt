@@ -8,7 +8,7 @@ use Rattle.otlp_model.specs.declared.request.Signal.{Signal}
 use Rattle.otap_capture.specs.Batch.{BatchContent, PayloadContent, ReadsBatch}
 use Rattle.otap_capture.specs.Capture.{Frame, Message}
 use Rattle.otap_cells.specs.Tables.{Table}
-use Rattle.otap_consume.specs.declared.receiver.Regrouped.{Regrouped}
+use Rattle.otap_consume.specs.declared.regrouped.Regrouped.{Regrouped}
 use Rattle.otap_consume.specs.declared.refusal.Refusal.{Refusal}
 use Rattle.otap_consume.specs.declared.seen.Seen.{Seen}
 use Rattle.otap_consume.specs.declared.seen.Seen.TheVariants as seen
@@ -19,7 +19,8 @@ use Rattle.otap_consume.specs.declared.taken.Taken.TheVariants as taken
 use Rattle.otap_consume.specs.Defects.{Accepts, tables_of}
 use Rattle.otap_consume.specs.Meanings.{Meaning, StandsInRows}
 use Rattle.otap_consume.specs.Outcomes.{Outcome, Accepted, Refused, Reset, Gives, StaysBroken, OutcomeAfter, refused, refusal_of, is_broken, payloads_after}
-use Rattle.otap_consume.specs.ReceiverInside.{IsRegrouped, IsLight, AreLast, OfLast, KeepsBatch, TakesRows, RefusesBy}
+use Rattle.otap_consume.specs.ReceiverInside.{AreLast, OfLast, KeepsBatch, TakesRows, RefusesBy}
+use Rattle.otap_consume.specs.Regroups.{IsRegrouped, IsLight}
 use Rattle.otap_consume.specs.Receivers.{HasReceived, Receives}
 use Rattle.otap_consume.specs.Receiving.{Settles}
 use Rattle.otap_consume.specs.Segments.{SegmentIn, StandsFor, Tells, HasNext, Next}

@@ -17,6 +17,8 @@ pub mod Taking
 pub mod Meanings
 pub mod Receiving
 pub mod Receivers
+pub mod Regroups
 pub mod ReceiverInside
 pub mod LogsMeaning
+pub mod SpansMeaning
 pub mod Bytes

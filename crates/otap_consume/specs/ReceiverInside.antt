@@ -1,15 +1,14 @@
 -- How a receiver takes the rows of a batch, in the words of private contracts.
-use Rattle.std.specs.Prelude.{◌≡◌, ◌≤◌, ℕ, ℤ, true, List, [], ◌∷◌, ◌++◌, Option, Some}
-use Rattle.otlp_model.specs.Limits.{weight_limit}
-use Rattle.otlp_model.specs.Real.{IsReal}
-use Rattle.otlp_model.specs.Weight.{weight_of}
+use Rattle.std.specs.Prelude.{◌≡◌, ℕ, ℤ, true, List, [], ◌∷◌, ◌++◌, Option, None, Some}
 use Rattle.otlp_model.specs.declared.request.Signal.{Signal}
 use Rattle.otap_attrs.specs.declared.refusal.CheckRefusal.{CheckRefusal}
 use Rattle.otap_attrs.specs.declared.refusal.CheckRefusal.TheVariants as check
 use Rattle.otap_capture.specs.Batch.{BatchContent, ReadsBatch}
 use Rattle.otap_capture.specs.Capture.{Frame, Message}
 use Rattle.otap_cells.specs.Tables.{Table}
-use Rattle.otap_consume.specs.declared.receiver.Regrouped.{Regrouped}
+use Rattle.otap_checks.specs.declared.regrouping.RegroupRefusal.{RegroupRefusal}
+use Rattle.otap_checks.specs.declared.regrouping.RegroupRefusal.TheVariants as regroup
+use Rattle.otap_consume.specs.declared.regrouped.Regrouped.{Regrouped}
 use Rattle.otap_consume.specs.declared.refusal.Cause.{Cause}
 use Rattle.otap_consume.specs.declared.refusal.Cause.TheVariants as cause
 use Rattle.otap_consume.specs.declared.not_taken.NotTaken.{NotTaken}
@@ -17,25 +16,19 @@ use Rattle.otap_consume.specs.declared.not_taken.NotTaken.TheVariants.{Defect, M
 use Rattle.otap_consume.specs.declared.taken.Taken.{Taken}
 use Rattle.otap_consume.specs.declared.taken.Taken.TheVariants as taken
 use Rattle.otap_consume.specs.Defects.{tables_of}
-use Rattle.otap_consume.specs.Meanings.{Meaning, StandsInRows, AreClean}
+use Rattle.otap_consume.specs.Meanings.{Meaning, StandsInRows}
 use Rattle.otap_consume.specs.Outcomes.{Outcome, Accepted, payloads_after, refusal_of}
 use Rattle.otap_consume.specs.Payloads.{type_of}
+use Rattle.otap_consume.specs.Regroups.{IsRegrouped, IsLight}
 use Rattle.otap_consume.specs.Segments.{SegmentIn, StandsFor}
 
 abbrev pub stop_of_rows : CheckRefusal → NotTaken
 stop_of_rows (check.Defect kind why) = Defect (cause.Row why) (Some (type_of kind))
 stop_of_rows (check.Memory e) = Memory e
 
--- the request of tables with which nothing is wrong
-pub record IsRegrouped (m : Meaning) (tables : List Table) (regrouped : Regrouped) : Type 0 where
-  pub clean : AreClean m tables
-  pub request : regrouped.request ≡ m.request tables
-  pub tree : regrouped.tree ≡ weight_of regrouped.request
-
--- it is one that a program holds, and within its limit
-pub record IsLight (regrouped : Regrouped) : Type 0 where
-  pub real : IsReal regrouped.request
-  pub light : weight_of regrouped.request ≤ weight_limit
+abbrev pub stop_of_regrouping : RegroupRefusal → NotTaken
+stop_of_regrouping (regroup.Rows refusal) = stop_of_rows refusal
+stop_of_regrouping regroup.TooHeavy = Defect cause.TreeTooHeavy None
 
 -- these are the tables of the batch that the segment took last
 pub record AreLast (frame : Frame) (s : SegmentIn) (tables : List Table) : Type 0 where

@@ -1,14 +1,15 @@
 //! The telemetry of logs.
 ghost use Rattle.otap_consume.specs.LogsMeaning.{logs_meaning};
 
+use crate::regrouped::Regrouped;
 use crate::telemetry::Telemetry;
-use otap_attrs::CheckRefusal;
 use otap_cells::TableSet;
+use otap_checks::RegroupRefusal;
 use otap_columns::RowsView;
 use otap_logs::reading_laws::clean_or_wrong;
-use otap_logs::{check_rows, request_of};
+use otap_logs::regroup;
 use otlp_model::{Request, Signal, weight};
-use std::alloc::{AllocError, Global};
+use std::alloc::Global;
 
 /// Logs, as a receiver takes them.
 #[derive(Clone, Copy, Debug)]
@@ -21,15 +22,15 @@ impl Telemetry for Logs {
         Signal::Logs
     }
 
-    fn check(alloc: Global, set: &TableSet<RowsView<'_>>) -> Result<u64, CheckRefusal> {
-        check_rows(alloc, set)
-    }
-
-    fn request(alloc: Global, set: &TableSet<RowsView<'_>>) -> Result<Request, AllocError> {
-        let request = Request::Logs(request_of(alloc, set)?);
+    fn regroup(alloc: Global, set: &TableSet<RowsView<'_>>) -> Result<Regrouped, RegroupRefusal> {
+        let made = regroup(alloc, set)?;
+        let request = Request::Logs(made.groups);
         // The walk tells a proof that a program can hold the request.
         let _weight = weight(&request);
-        Ok(request)
+        Ok(Regrouped {
+            request,
+            tree: made.tree,
+        })
     }
 
     fn clean_or_wrong() {

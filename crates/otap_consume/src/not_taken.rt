@@ -5,6 +5,7 @@ ghost use Rattle.otap_consume.specs.declared.not_taken.NotTaken.TheVariants.{Def
 use crate::payload_types::TypesRefusal;
 use crate::refusal::Cause;
 use otap_attrs::CheckRefusal;
+use otap_checks::RegroupRefusal;
 use std::alloc::AllocError;
 
 /// Something is wrong with them, or memory ran out.
@@ -45,6 +46,22 @@ impl From<CheckRefusal> for NotTaken {
         match refusal {
             CheckRefusal::Defect { kind, why } => defect(Cause::Row(why), kind.number()),
             CheckRefusal::Memory(error) => NotTaken::Memory(error),
+        }
+    }
+}
+
+impl From<RegroupRefusal> for NotTaken {
+    ghost use Rattle.otap_consume.specs.ReceiverInside.{stop_of_regrouping};
+
+    ghost from_gives = { λ refusal stop. stop ≡ stop_of_regrouping refusal };
+
+    fn from(refusal: RegroupRefusal) -> NotTaken {
+        match refusal {
+            RegroupRefusal::Rows(refusal) => NotTaken::from(refusal),
+            RegroupRefusal::TooHeavy => NotTaken::Defect {
+                cause: Cause::TreeTooHeavy,
+                payload: None,
+            },
         }
     }
 }

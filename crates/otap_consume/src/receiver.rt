@@ -4,12 +4,14 @@ ghost use Rattle.otap_capture.specs.Capture.{frame_of};
 ghost use Rattle.otap_cells.specs.Sets.{IsSet, tables_in};
 ghost use Rattle.otap_consume.specs.declared.taken.Taken.TheVariants as taken;
 ghost use Rattle.otap_consume.specs.Meanings.{StandsInRows};
-ghost use Rattle.otap_consume.specs.ReceiverInside.{IsLight, IsRegrouped, OfLast, RefusesBy, TakesRows};
+ghost use Rattle.otap_consume.specs.ReceiverInside.{OfLast, RefusesBy, TakesRows};
+ghost use Rattle.otap_consume.specs.Regroups.{IsLight, IsRegrouped};
 ghost use Rattle.otap_consume.specs.Segments.{IsTaken};
 ghost use Rattle.otap_consume.specs.Stops.{Stops};
 
 use crate::not_taken::NotTaken;
-use crate::refusal::{Cause, Refusal};
+use crate::refusal::Refusal;
+use crate::regrouped::Regrouped;
 use crate::seen::Seen;
 use crate::segment::Segment;
 use crate::taken::Taken;
@@ -17,7 +19,6 @@ use crate::telemetry::Telemetry;
 use otap_capture::{Frame, read_batch};
 use otap_cells::TableSet;
 use otap_columns::RowsView;
-use otlp_model::{MAX_TREE_WEIGHT, Request};
 use std::alloc::{AllocError, Global};
 use std::marker::{Model, PhantomData};
 
@@ -42,13 +43,6 @@ impl<T: Telemetry> Model for Receiver<T> {
     ghost invariant = { λ s. s.segment.signal ≡ T.meaning.signal };
 }
 
-// The request of a batch, and its weight.
-#[derive(Debug, Drop)]
-struct Regrouped {
-    request: Request,
-    tree: u64,
-}
-
 impl<T: Telemetry> Receiver<T> {
     ghost use Rattle.otap_consume.specs.Receivers.{Receives, IsSound};
     ghost use Rattle.otap_consume.specs.Segments.{IsNew};
@@ -66,8 +60,8 @@ impl<T: Telemetry> Receiver<T> {
     }
 
     /// Takes the next frame: a batch after those before it, or a reset, which begins a segment. A refused frame breaks the
-    /// segment, as want of memory does: until a reset each batch is then refused. A request is built only once its weight is
-    /// known to be within the limit.
+    /// segment, as want of memory does: until a reset each batch is then refused. The request of a batch is built
+    /// only where its weight is within the limit.
     pub fn take(&mut self, frame: &Frame<'_>) -> Result<Taken, AllocError>
         ensures next { IfOk result (Receives T.meaning self.old (frame_of frame.now) self.new) }
         ensures sound { IfOk result IsSound }
@@ -95,7 +89,7 @@ impl<T: Telemetry> Receiver<T> {
         self.segment.is_broken()
     }
 
-    // Looks at the rows of the batch that the segment took last.
+    // Regroups the rows of the batch that the segment took last.
     fn take_rows(&mut self, frame: &Frame<'_>, id: i64, rows: u64) -> Result<Taken, AllocError>
         requires { IsTaken (frame_of frame.now) self.old }
         ensures takes { IfOk result (TakesRows T.meaning (frame_of frame.now) id rows self.old self.new) }
@@ -141,15 +135,8 @@ fn regroup<T: Telemetry>(alloc: Global, set: &TableSet<RowsView<'_>>) -> Result<
     ensures light { IfOk result IsLight }
     ensures stops { IfErr result (Stops (StandsInRows T.meaning (tables_in (λ table. table) set.now.tables.items))) }
 {
-    let tree = T::check(alloc, set)?;
-    if tree > MAX_TREE_WEIGHT {
-        return Err(NotTaken::Defect {
-            cause: Cause::TreeTooHeavy,
-            payload: None,
-        });
-    }
-    let request = T::request(alloc, set)?;
-    Ok(Regrouped { request, tree })
+    let kept = T::regroup(alloc, set)?;
+    Ok(kept)
 }
 
 fn accepted(id: i64, rows: u64, kept: Regrouped) -> Taken

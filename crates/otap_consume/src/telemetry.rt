@@ -1,19 +1,17 @@
 //! What the tables of a signal mean: a receiver is written over this trait, and knows no signal.
-ghost use Rattle.std.specs.Prelude.{◌≡◌, ◌≤◌, ◌^◌, min, List, IfOk, IfErr};
+ghost use Rattle.std.specs.Prelude.{◌≡◌, List, IfOk, IfErr};
 ghost use Rattle.otap_cells.specs.Sets.{IsSet, tables_in};
 ghost use Rattle.otap_cells.specs.Tables.{Table};
-ghost use Rattle.otlp_model.specs.Limits.{weight_limit};
-ghost use Rattle.otlp_model.specs.Real.{IsReal};
-ghost use Rattle.otlp_model.specs.Weight.{weight_of};
-ghost use Rattle.otap_consume.specs.Meanings.{Meaning, AreClean};
+ghost use Rattle.otap_consume.specs.Meanings.{Meaning};
+ghost use Rattle.otap_consume.specs.Regroups.{IsLight, IsRegrouped, RefusesTables};
 ghost use Rattle.otap_checks.specs.Deciding.{CleanOrWrong, HaveByteCells};
-ghost use Rattle.otap_checks.specs.Refusing.{RefusesCheck};
 
-use otap_attrs::CheckRefusal;
+use crate::regrouped::Regrouped;
 use otap_cells::TableSet;
+use otap_checks::RegroupRefusal;
 use otap_columns::RowsView;
-use otlp_model::{Request, Signal};
-use std::alloc::{AllocError, Global};
+use otlp_model::Signal;
+use std::alloc::Global;
 
 /// The telemetry of a signal.
 pub trait Telemetry {
@@ -24,20 +22,13 @@ pub trait Telemetry {
     fn signal() -> Signal
         ensures { result ≡ meaning.signal };
 
-    /// Looks at the rows of a batch, and returns the weight of their request, or 2^63 where it is more. It builds nothing.
-    fn check(alloc: Global, set: &TableSet<RowsView<'_>>) -> Result<u64, CheckRefusal>
+    /// Looks at the rows of a batch, and then returns their request and its weight. The request is built only where its weight
+    /// is within the limit.
+    fn regroup(alloc: Global, set: &TableSet<RowsView<'_>>) -> Result<Regrouped, RegroupRefusal>
         requires { IsSet (λ table. table) set.now.tables.items }
-        ensures clean { IfOk result (λ tree. AreClean meaning (tables_in (λ table. table) set.now.tables.items)) }
-        ensures weight { IfOk result (λ tree. tree ≡ min (weight_of (meaning.request (tables_in (λ table. table) set.now.tables.items))) (2 ^ 63)) }
-        ensures refuses { IfErr result (RefusesCheck (meaning.Stands (tables_in (λ table. table) set.now.tables.items))) };
-
-    /// The request of a batch whose rows were looked at.
-    fn request(alloc: Global, set: &TableSet<RowsView<'_>>) -> Result<Request, AllocError>
-        requires set { IsSet (λ table. table) set.now.tables.items }
-        requires clean { AreClean meaning (tables_in (λ table. table) set.now.tables.items) }
-        requires light { weight_of (meaning.request (tables_in (λ table. table) set.now.tables.items)) ≤ weight_limit }
-        ensures regrouped { IfOk result (λ request. request ≡ meaning.request (tables_in (λ table. table) set.now.tables.items)) }
-        ensures real { IfOk result IsReal };
+        ensures regrouped { IfOk result (IsRegrouped meaning (tables_in (λ table. table) set.now.tables.items)) }
+        ensures light { IfOk result IsLight }
+        ensures refuses { IfErr result (RefusesTables meaning (tables_in (λ table. table) set.now.tables.items)) };
 
     /// Law: nothing is wrong with the rows of tables, or something is.
     fn clean_or_wrong()

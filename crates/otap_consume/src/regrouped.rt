@@ -1,0 +1,8 @@
+use otlp_model::Request;
+
+/// The request of a batch, and what it weighs.
+#[derive(Debug, Drop)]
+pub struct Regrouped {
+    pub request: Request,
+    pub tree: u64,
+}

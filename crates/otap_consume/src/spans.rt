@@ -1,0 +1,39 @@
+//! The telemetry of traces.
+ghost use Rattle.otap_consume.specs.SpansMeaning.{spans_meaning};
+
+use crate::regrouped::Regrouped;
+use crate::telemetry::Telemetry;
+use otap_cells::TableSet;
+use otap_checks::RegroupRefusal;
+use otap_columns::RowsView;
+use otap_spans::reading_laws::clean_or_wrong;
+use otap_spans::regroup;
+use otlp_model::{Request, Signal, weight};
+use std::alloc::Global;
+
+/// Spans, as a receiver takes them.
+#[derive(Clone, Copy, Debug)]
+pub struct Spans;
+
+impl Telemetry for Spans {
+    ghost meaning = { spans_meaning };
+
+    fn signal() -> Signal {
+        Signal::Traces
+    }
+
+    fn regroup(alloc: Global, set: &TableSet<RowsView<'_>>) -> Result<Regrouped, RegroupRefusal> {
+        let made = regroup(alloc, set)?;
+        let request = Request::Traces(made.groups);
+        // The walk tells a proof that a program can hold the request.
+        let _weight = weight(&request);
+        Ok(Regrouped {
+            request,
+            tree: made.tree,
+        })
+    }
+
+    fn clean_or_wrong() {
+        clean_or_wrong();
+    }
+}
