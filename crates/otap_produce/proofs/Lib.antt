@@ -4,7 +4,9 @@ pub mod Stepping
 pub mod Fresh
 pub mod OneMore
 pub mod TypeNumbers
+pub mod WritableTables
 pub mod WrittenLogs
+pub mod WrittenSpans
 pub mod Lengths
 pub mod Limited
 pub mod Batches

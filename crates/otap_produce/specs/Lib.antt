@@ -1,5 +1,6 @@
 pub mod Policy
 pub mod LogRows
+pub mod SpanRows
 pub mod Writable
 pub mod Exporters
 pub mod Sizes

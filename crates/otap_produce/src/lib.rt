@@ -6,6 +6,7 @@ mod logs;
 mod refusal;
 mod sender;
 mod senders;
+mod spans;
 mod tabled;
 #[cfg(test)]
 mod tests;
@@ -13,4 +14,5 @@ mod tests;
 pub use exporter::Exporter;
 pub use logs::LogTables;
 pub use refusal::ProduceRefusal;
+pub use spans::SpanTables;
 pub use tabled::Tabled;

@@ -1,0 +1,43 @@
+-- Tables of the profile, in the order of their kinds, can be written.
+use Rattle.std.proofs.Common.{◌≡◌, ℕ, List, Bool, subst}
+use Rattle.std.specs.Prelude.{All, ◌||◌, filter, length, map, nat_lt}
+use Rattle.std.proofs.lemmas.List.Elements.{All-weaker}
+use Rattle.otlp_model.specs.declared.request.Signal.{Signal}
+use Rattle.otap_cells.specs.declared.payload.Kind.{Kind}
+use Rattle.otap_cells.specs.declared.profile.Coding.{Coding}
+use Rattle.otap_cells.specs.Named.{table_named}
+use Rattle.otap_cells.specs.Payload.{is_kind, kinds_of, main_of}
+use Rattle.otap_cells.specs.Tables.{Table, coding_in, greatest_wide}
+use Rattle.otap_cells.specs.Continuing.{continues_in}
+use Rattle.otap_cells.specs.ColumnIds.{stored_in}
+use Rattle.otap_cells.specs.Ids.{Ids}
+use Rattle.otap_groups.specs.ProfileTables.{HasProfileIds, IsProfileTable}
+use Rattle.otap_columns.specs.Policy.{IsWritable}
+use Rattle.otap_produce.specs.Writable.{HaveWritable}
+
+-- a table of the profile can be written
+can_be_written : (t : Table) → IsProfileTable t → IsWritable t.kind t
+can_be_written t profile = record {
+  kind_is = λ i. t.kind;
+  table = profile.table;
+  coded = λ column id. (profile.columns column id).coded;
+  ids = λ column id.
+      let has : HasProfileIds t column = profile.columns column id in (
+        has.ids,
+        subst (λ (how : Coding). Ids how greatest_wide (continues_in t) (stored_in t column) has.ids) has.coded
+            (subst (λ (last : ℕ). Ids (coding_in t column) last (continues_in t) (stored_in t column) has.ids) has.wide has.are),
+      );
+}
+
+-- the main table is kept, and the others that have rows
+kept : Signal → List Table → Kind → Bool
+kept signal ts kind = is_kind kind (main_of signal) || nat_lt 0 (length (table_named kind ts).rows)
+
+pub writable : (signal : Signal) (ts : List Table)
+    → map (λ t. t.kind) ts ≡ filter (λ kind. is_kind kind (main_of signal) || nat_lt 0 (length (table_named kind ts).rows)) (kinds_of signal)
+    → All IsProfileTable ts → HaveWritable signal ts
+unfolding kept
+writable signal ts kinds profile = record {
+  order = record { has = kept signal ts; kinds = kinds };
+  each = All-weaker IsProfileTable (λ (t : Table). IsWritable t.kind t) can_be_written ts profile;
+}
