@@ -11,4 +11,6 @@ pub mod InFormat
 pub mod Coming
 pub mod Settled
 pub mod Arriving
+pub mod SameMeaning
 pub mod LogsFaithful
+pub mod SpansFaithful

@@ -7,13 +7,18 @@ ghost use Rattle.otlp_model.specs.declared.request.Request.{Request};
 ghost use Rattle.otap_consume.specs.LogsMeaning.{logs_meaning};
 ghost use Rattle.otap_consume.specs.Outcomes.{Outcome};
 ghost use Rattle.otap_consume.specs.Receiving.{Received};
+ghost use Rattle.otap_consume.specs.SpansMeaning.{spans_meaning};
 ghost use Rattle.otap_produce.specs.LogRows.{logs_rows};
 ghost use Rattle.otap_produce.specs.Policy.{Rows, IsExported, Policy};
+ghost use Rattle.otap_produce.specs.SpanRows.{spans_rows};
 ghost use Rattle.otap_transit.specs.Faithful.{AreFaithful};
 ghost use Rattle.otap_transit.specs.Sendings.{Sending, frame_of, AreAllowed, Arrive};
 ghost use Rattle.otap_transit.specs.Transits.{IsReceivedAs};
 
 use otap_consume::Telemetry;
+use otap_logs::{laws as logs, reading_laws as logs_read};
+use otap_produce::{LogTables, SpanTables, Tabled};
+use otap_spans::{laws as spans, reading_laws as spans_read};
 
 /// For every signal, all rows of its requests that are faithful to what its tables mean, all requests that are exported in a
 /// segment, and all messages that the policy allows for them: each message is in the format after those before it, with the
@@ -32,7 +37,28 @@ pub fn what_is_sent_arrives<T: Telemetry>()
         → Received T.meaning (map frame_of sendings) outcomes → Arrive T.meaning sendings outcomes }
 {}
 
+/// The tables of requests of traces are faithful to what tables of spans mean.
+pub fn spans_are_faithful()
+    ensures { AreFaithful spans_meaning spans_rows }
+{
+    spans::tables_tell_the_same();
+    spans::tables_have_no_defects();
+    spans::tables_are_light();
+    spans::tables_can_be_written();
+    SpanTables::can_be_written();
+    spans::each_span_has_a_row();
+    spans_read::cells_and_ids_decide();
+}
+
 /// The tables of requests of logs are faithful to what tables of logs mean.
 pub fn logs_are_faithful()
     ensures { AreFaithful logs_meaning logs_rows }
-{}
+{
+    logs::tables_tell_the_same();
+    logs::tables_have_no_defects();
+    logs::tables_are_light();
+    logs::tables_can_be_written();
+    LogTables::can_be_written();
+    logs::each_record_has_a_row();
+    logs_read::cells_and_ids_decide();
+}
