@@ -54,14 +54,16 @@ abbrev OneOf : {S : Type 0} → List (List ℕ) → (S → Command) → Type 0
 OneOf {S} words job = ((signal : S) × Names words (job signal)) ⊎ ((signal : S) → NamesNot words (job signal))
 
 of_served : (words : List (List ℕ)) (job : Served → Command) → OneOf words job
-of_served words job = by_signal (names words (job served.Logs))
+of_served words job = by_signal (names words (job served.Traces)) (names words (job served.Logs))
   where
-    none : NamesNot words (job served.Logs) → (signal : Served) → NamesNot words (job signal)
-    none logs served.Logs = logs
+    none : NamesNot words (job served.Traces) → NamesNot words (job served.Logs) → (signal : Served) → NamesNot words (job signal)
+    none traces logs served.Traces = traces
+    none traces logs served.Logs = logs
 
-    by_signal : Names words (job served.Logs) ⊎ NamesNot words (job served.Logs) → OneOf words job
-    by_signal (inl logs) = inl (served.Logs, logs)
-    by_signal (inr no_logs) = inr (none no_logs)
+    by_signal : Names words (job served.Traces) ⊎ NamesNot words (job served.Traces) → Names words (job served.Logs) ⊎ NamesNot words (job served.Logs) → OneOf words job
+    by_signal (inl traces) logs = inl (served.Traces, traces)
+    by_signal (inr no_traces) (inl logs) = inl (served.Logs, logs)
+    by_signal (inr no_traces) (inr no_logs) = inr (none no_traces no_logs)
 
 -- the jobs of an exporter and of a receiver, or none of them
 abbrev NoServed : List (List ℕ) → Type 0

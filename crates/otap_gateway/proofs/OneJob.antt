@@ -14,7 +14,8 @@ use Rattle.otap_gateway.specs.Runs.{World, Leaves, Stops, Faults, Runs, status_o
 
 jobs : List Command
 jobs = Listing ∷ Tidy Traces ∷ Tidy Logs ∷ Tidy Metrics ∷ Schema Traces ∷ Schema Logs ∷ Schema Metrics ∷ Show Traces ∷ Show Logs ∷ Show Metrics
-    ∷ Encode served.Logs ∷ Decode served.Logs ∷ Status served.Logs ∷ Replay served.Logs ∷ []
+    ∷ Encode served.Traces ∷ Encode served.Logs ∷ Decode served.Traces ∷ Decode served.Logs
+    ∷ Status served.Traces ∷ Status served.Logs ∷ Replay served.Traces ∷ Replay served.Logs ∷ []
 
 -- the first job that has the words
 named : List (List ℕ) → Option Command
@@ -32,9 +33,13 @@ is_named (Schema Metrics) = refl
 is_named (Show Traces) = refl
 is_named (Show Logs) = refl
 is_named (Show Metrics) = refl
+is_named (Encode served.Traces) = refl
 is_named (Encode served.Logs) = refl
+is_named (Decode served.Traces) = refl
 is_named (Decode served.Logs) = refl
+is_named (Status served.Traces) = refl
 is_named (Status served.Logs) = refl
+is_named (Replay served.Traces) = refl
 is_named (Replay served.Logs) = refl
 
 pub one_job : (a b : Command) → words_of a ≡ words_of b → a ≡ b

@@ -23,6 +23,7 @@ signal_word signals.Logs = codes "logs"
 signal_word signals.Metrics = codes "metrics"
 
 abbrev pub served_word : Served → List ℕ
+served_word served.Traces = codes "traces"
 served_word served.Logs = codes "logs"
 
 -- the words of a job

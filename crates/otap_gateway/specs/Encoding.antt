@@ -10,6 +10,7 @@ use Rattle.otap_consume.specs.Receiving.{Received}
 use Rattle.otap_produce.specs.Exporters.{ExporterIn, StandsFor}
 use Rattle.otap_produce.specs.LogRows.{logs_rows}
 use Rattle.otap_produce.specs.Policy.{Rows}
+use Rattle.otap_produce.specs.SpanRows.{spans_rows}
 use Rattle.otap_transit.specs.Sendings.{Sending, Sent, Reset, MaySend, Arrive, frame_of, requests_since, messages_since}
 use Rattle.otlp_codec.specs.Requests.{Reads, Stands}
 use Rattle.otlp_messages.specs.declared.messages.Defect.{Defect}
@@ -26,6 +27,7 @@ use Rattle.otap_gateway.specs.Reply.{ReplyText}
 
 -- the tables that requests of a signal are written as
 abbrev pub rows_of : Served → Rows
+rows_of served.Traces = spans_rows
 rows_of served.Logs = logs_rows
 
 -- ---- what a frame gives

@@ -6,6 +6,8 @@ pub mod Fields
 pub mod Jobs
 pub mod Lines
 pub mod Listing
+pub mod Loading
+pub mod Loads
 pub mod Openings
 pub mod Quoting
 pub mod ReadBack

@@ -16,6 +16,7 @@ use Rattle.otap_consume.specs.Outcomes.{Outcome}
 use Rattle.otap_consume.specs.Receivers.{taken_of}
 use Rattle.otap_consume.specs.Receiving.{ReceivedAfter}
 use Rattle.otap_consume.specs.Segments.{SegmentIn, StandsFor}
+use Rattle.otap_consume.specs.SpansMeaning.{spans_meaning}
 use Rattle.otap_gateway.specs.declared.command.Served.{Served}
 use Rattle.otap_gateway.specs.declared.command.Served.TheVariants as served
 use Rattle.otap_gateway.specs.Causes.{cause_name}
@@ -25,6 +26,7 @@ use Rattle.otap_gateway.specs.Told.{HasTold}
 
 -- what the tables of a signal mean
 abbrev pub meaning_of : Served → Meaning
+meaning_of served.Traces = spans_meaning
 meaning_of served.Logs = logs_meaning
 
 -- ---- what each job prints of what a frame gave

@@ -9,6 +9,7 @@ use otlp_model::Signal;
 /// A signal that the jobs of an exporter and of a receiver serve.
 #[derive(Clone, Copy)]
 pub(crate) enum Served {
+    Traces,
     Logs,
 }
 
@@ -73,10 +74,11 @@ fn any_signal(word: &str) -> Option<Signal>
 }
 
 /// The signal of a word, where the jobs of an exporter and of a receiver serve it.
-fn served_signal(word: &str) -> Option<Served>
+pub(crate) fn served_signal(word: &str) -> Option<Served>
     ensures { MatchOption result ((served : Served) → word.now ≢ served_word served) (λ served. word.now ≡ served_word served) }
 {
     match word {
+        "traces" => Some(Served::Traces),
         "logs" => Some(Served::Logs),
         _ => None,
     }

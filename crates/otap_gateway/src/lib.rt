@@ -11,7 +11,11 @@ mod job;
 mod laws;
 mod lines;
 mod list;
+mod load;
+mod load_laws;
+mod loads;
 mod numbers;
+mod opened;
 mod opening;
 mod quoting;
 mod receiving;
@@ -25,6 +29,7 @@ mod row_causes;
 mod rows;
 mod running;
 mod schema;
+mod selfrun;
 mod sending;
 mod sending_laws;
 mod sending_runs;
@@ -35,6 +40,7 @@ mod tidy;
 mod words;
 
 pub use laws::{complete_runs, each_words};
+pub use load_laws::{complete_loads, loads_are_received};
 pub use reception_laws::{
     captures_have_texts, outcomes_give_the_texts, status_says_the_line, texts_have_outcomes,
 };

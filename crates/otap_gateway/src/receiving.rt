@@ -12,7 +12,7 @@ ghost use Rattle.otap_gateway.specs.Receptions.{line_of, meaning_of};
 use crate::causes::cause_name;
 use crate::lines::refused_line;
 use crate::reply::Reply;
-use otap_consume::{Logs, Refusal, Telemetry};
+use otap_consume::{Logs, Refusal, Spans, Telemetry};
 use std::alloc::{AllocError, Global};
 
 /// A signal that the jobs of a receiver serve: its tables mean what the texts say of them.
@@ -23,6 +23,16 @@ pub(crate) trait Serves: Telemetry {
 
     ghost receives: { (old : SegmentIn) (frame : Frame) (new : SegmentIn) (taken : Taken)
         → Receives Self.meaning old frame new taken → Receives (meaning_of served) old frame new taken };
+}
+
+impl Serves for Spans {
+    ghost use Rattle.std.specs.Prelude.{refl};
+
+    ghost served = { served.Traces };
+
+    ghost of_signal = { refl };
+
+    ghost receives = { λ old frame new taken receives. receives };
 }
 
 impl Serves for Logs {

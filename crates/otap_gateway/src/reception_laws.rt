@@ -15,8 +15,8 @@ ghost use Rattle.otap_gateway.specs.Reply.{ReplyText};
 ghost use Rattle.otap_gateway.specs.Texts.{HaveTexts};
 ghost use Rattle.otap_gateway.specs.Told.{told};
 
-use otap_consume::Logs;
 use otap_consume::receiving_laws::received_some_outcome;
+use otap_consume::{Logs, Spans};
 
 /// One list of outcomes of the frames of a capture gives what `decode`, what `status` and what `replay` may write.
 pub fn outcomes_give_the_texts()
@@ -43,6 +43,7 @@ pub fn captures_have_texts()
     ensures { (signal : Served) (bytes : List ℕ) (frames : List Frame) (end : Option Damage) → All (λ byte. byte < 256) bytes → IsCapture bytes frames end
         → HaveTexts signal frames }
 {
+    received_some_outcome::<Spans>();
     received_some_outcome::<Logs>();
 }
 

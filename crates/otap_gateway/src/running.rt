@@ -3,7 +3,9 @@ ghost use Rattle.std.specs.Prelude.{◌≡◌};
 ghost use Rattle.std.specs.Io.KnownBytes.{Keeps};
 ghost use Rattle.otap_gateway.specs.declared.command.Command.{Command};
 ghost use Rattle.otap_gateway.specs.declared.command.Command.TheVariants as command;
-ghost use Rattle.otap_gateway.specs.Commands.{IsNoCommand, words_of};
+ghost use Rattle.otap_gateway.specs.Commands.{words_of};
+ghost use Rattle.otap_gateway.specs.declared.load.Load.{Load};
+ghost use Rattle.otap_gateway.specs.Loads.{IsLoad, IsNotUnderstood, RunsLoad, load_words};
 ghost use Rattle.otap_gateway.specs.Runs.{sinks, world, Leaves, Stops, Faults, SinkFaults, LeavesLine, Runs, RefusesWords};
 
 use crate::command::{Command, Served};
@@ -11,24 +13,25 @@ use crate::drive::{drive, flush_both};
 use crate::list::Lister;
 use crate::receiving_runs::{decode, replay, tell_statuses};
 use crate::schema::SchemaLister;
+use crate::selfrun::{load_status, run_load};
 use crate::sending_runs::encode;
 use crate::show::Shower;
 use crate::stop::{Stop, Tally, status, words_status};
 use crate::tidy::Tidier;
 use crate::words::Words;
 use otap_capture::{Sink, Source, write_whole};
-use otap_consume::Logs;
-use otap_produce::LogTables;
+use otap_consume::{Logs, Spans};
+use otap_produce::{LogTables, SpanTables};
 use otlp_model::Signal;
 use std::alloc::Global;
 
 const NOT_UNDERSTOOD: &[u8] = b"otap: words not understood\n";
 
-/// Does the job that the words name over the capture that the source gives, and returns the status
-/// with which the program ends. Each frame is handled as it comes: all that was written is passed on
-/// before the source is asked for more. The statuses: 0 where all frames were handled, 1 where one was refused, 2 where the
-/// words are those of no job, 3 where the source failed, 4 where a sink failed, 5 where the capture
-/// has a damage, 6 where there was no memory.
+/// Does the job that the words name over the capture that the source gives, and returns the status with which the program
+/// ends. Each frame is handled as it comes: all that was written is passed on before the source is asked for more. A load is
+/// made by the program itself: then nothing is read. The statuses: 0 where all frames were handled, 1 where one was refused,
+/// 2 where the words are those of no job, 3 where the source failed, 4 where a sink failed, 5 where the capture has a damage,
+/// 6 where there was no memory.
 pub fn run<S: Source, O: Sink, E: Sink>(
     alloc: Global,
     words: &Words,
@@ -39,13 +42,19 @@ pub fn run<S: Source, O: Sink, E: Sink>(
     ensures understood { (job : Command) → words.now ≡ words_of job → Runs job
         (world S.Source source.old (sinks O.Sink out.old E.Sink err.old))
         (world S.Source source.new (sinks O.Sink out.new E.Sink err.new)) result }
-    ensures otherwise { IsNoCommand words.now → RefusesWords source.old source.new
+    ensures load { (load : Load) → IsLoad load → words.now ≡ load_words load → RunsLoad load source.old source.new
+        (sinks O.Sink out.old E.Sink err.old)
+        (sinks O.Sink out.new E.Sink err.new) result }
+    ensures otherwise { IsNotUnderstood words.now → RefusesWords source.old source.new
         (world S.Source source.old (sinks O.Sink out.old E.Sink err.old))
         (world S.Source source.new (sinks O.Sink out.new E.Sink err.new)) result }
 {
     match words.command() {
         Some(job) => status(run_job(alloc, job, source, out, err)),
-        None => words_status(refuse_words(out, err)),
+        None => match words.load() {
+            Some(load) => load_status(run_load(alloc, load, out, err)),
+            None => words_status(refuse_words(out, err)),
+        },
     }
 }
 
@@ -69,11 +78,15 @@ fn run_job<S: Source, O: Sink, E: Sink>(
     match job {
         Command::List => drive(alloc, &mut Lister::new(alloc), source, out, err),
         Command::Tidy(signal) => drive(alloc, &mut Tidier::new(signal), source, out, err),
+        Command::Encode(Served::Traces) => encode(alloc, SpanTables, source, out, err),
         Command::Encode(Served::Logs) => encode(alloc, LogTables, source, out, err),
         Command::Schema(signal) => drive(alloc, &mut SchemaLister::new(signal), source, out, err),
         Command::Show(signal) => show(alloc, signal, source, out, err),
+        Command::Decode(Served::Traces) => decode(alloc, Spans, source, out, err),
         Command::Decode(Served::Logs) => decode(alloc, Logs, source, out, err),
+        Command::Status(Served::Traces) => tell_statuses(alloc, Spans, source, out, err),
         Command::Status(Served::Logs) => tell_statuses(alloc, Logs, source, out, err),
+        Command::Replay(Served::Traces) => replay(alloc, Spans, source, out, err),
         Command::Replay(Served::Logs) => replay(alloc, Logs, source, out, err),
     }
 }

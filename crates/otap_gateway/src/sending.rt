@@ -6,9 +6,9 @@ ghost use Rattle.otap_gateway.specs.Encoding.{Arrives, rows_of};
 ghost use Rattle.otap_gateway.specs.Receptions.{meaning_of};
 ghost use Rattle.otap_transit.specs.Sendings.{AreAllowed, Sending};
 
-use otap_consume::Logs;
-use otap_produce::{LogTables, Tabled};
-use otap_transit::laws::{logs_are_faithful, what_is_sent_arrives};
+use otap_consume::{Logs, Spans};
+use otap_produce::{LogTables, SpanTables, Tabled};
+use otap_transit::laws::{logs_are_faithful, spans_are_faithful, what_is_sent_arrives};
 
 /// A signal that the jobs of an exporter serve: its requests are written as tables that mean the same.
 pub(crate) trait Sends: Tabled {
@@ -19,6 +19,19 @@ pub(crate) trait Sends: Tabled {
         ensures { (sendings : List Sending) → AreAllowed (rows_of served) sendings → Arrives (meaning_of served) sendings };
 
     ghost of_rows: { Self.rows ≡ rows_of served };
+}
+
+impl Sends for SpanTables {
+    ghost use Rattle.std.specs.Prelude.{refl};
+
+    ghost served = { served.Traces };
+
+    fn what_is_sent_arrives() {
+        what_is_sent_arrives::<Spans>();
+        spans_are_faithful();
+    }
+
+    ghost of_rows = { refl };
 }
 
 impl Sends for LogTables {

@@ -13,7 +13,7 @@ ghost use Rattle.otap_gateway.specs.Told.{Gave, told};
 
 use crate::sending::Sends;
 use otap_capture::written_is_read;
-use otap_produce::LogTables;
+use otap_produce::{LogTables, SpanTables};
 
 /// What `encode` writes is given by one list of what the frames of the capture gave, and all of it arrives.
 pub fn encoded_texts_have_outcomes()
@@ -28,5 +28,6 @@ pub fn what_is_written_is_read()
         → IsReadBack (rows_of signal) (meaning_of signal) frames replies }
 {
     written_is_read();
+    SpanTables::what_is_sent_arrives();
     LogTables::what_is_sent_arrives();
 }

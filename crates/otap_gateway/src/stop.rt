@@ -69,7 +69,7 @@ pub(crate) fn words_status(end: Result<(), Stop>) -> u8
     }
 }
 
-fn stop_status(stop: Stop) -> u8
+pub(crate) fn stop_status(stop: Stop) -> u8
     ensures { result ≡ stop_status stop }
 {
     match stop {

@@ -1,8 +1,10 @@
 //! The words that the program is called with.
 ghost use Rattle.std.specs.Prelude.{◌≡◌, [], ◌∷◌, ◌++◌, OnOk, OnErr, MatchOption};
 ghost use Rattle.otap_gateway.specs.Commands.{IsNoCommand, words_of};
+ghost use Rattle.otap_gateway.specs.Loads.{IsLoad, IsNoLoad, load_words};
 
 use crate::command::{Command, one_word, two_words};
+use crate::load::{Load, three_words};
 use std::alloc::{AllocError, Global};
 use std::marker::Model;
 
@@ -49,6 +51,18 @@ impl Words {
         match self.words.as_slice() {
             [job] => one_word(job.as_str()),
             [job, signal] => two_words(job.as_str(), signal.as_str()),
+            _ => None,
+        }
+    }
+
+    /// The load that these are the words of.
+    pub(crate) fn load(&self) -> Option<Load>
+        ensures { MatchOption result (IsNoLoad self.now) (λ load. IsLoad load × (self.now ≡ load_words load)) }
+    {
+        match self.words.as_slice() {
+            [job, signal, requests] => {
+                three_words(job.as_str(), signal.as_str(), requests.as_str())
+            }
             _ => None,
         }
     }

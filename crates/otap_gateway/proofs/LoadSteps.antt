@@ -1,0 +1,96 @@
+-- A load, as one request after the other is exported.
+use Rattle.std.proofs.Common.{◌≡◌, ◌⊎◌, inl, inr, ℕ, ◌+◌, ◌<◌, ◌≤◌, ◌^◌, true, List, [], ◌∷◌, ◌++◌, length, refl, sym, ◌∙◌, subst, append-nil, append_assoc, zero-add, arith}
+use Rattle.std.specs.Prelude.{All}
+use Rattle.std.specs.List.{flat_map}
+use Rattle.std.proofs.lemmas.List.{flat_map_more}
+use Rattle.std.proofs.lemmas.List.Elements.{All-nil, All-push}
+use Rattle.std.proofs.lemmas.List.FromFn.{length-map-range_with_len, map-range_with_len_more}
+use Rattle.std.proofs.lemmas.Bool.{false≢true}
+use Rattle.histories.specs.EachAfter.{EachAfter}
+use Rattle.otap_capture.specs.Batch.{ReadsBatch, batch_in}
+use Rattle.otap_cells.specs.Weights.{row_weight_limit, weight_of_tables}
+use Rattle.otap_consume.specs.Meanings.{Meaning}
+use Rattle.otap_produce.specs.Exporters.{ExporterIn, StandsFor, IsNew, Exports}
+use Rattle.otap_produce.specs.Policy.{Rows, IsExported, Policy, payloads_of}
+use Rattle.otap_transit.specs.Transits.{IsReceivedAs}
+use Rattle.otlp_load.specs.Load.{generated, requests_at_most, items_each}
+use Rattle.otlp_model.specs.declared.request.Request.{Request}
+use Rattle.otlp_model.specs.declared.request.Signal.{Signal}
+use Rattle.otlp_model.specs.Limits.{item_limit, weight_limit}
+use Rattle.otlp_model.specs.Telemetry.{telemetry}
+use Rattle.otlp_model.specs.Weight.{weight_of}
+use Rattle.otap_gateway.specs.declared.opened.Opened.{Opened}
+use Rattle.otap_gateway.specs.Loading.{HasCounted, Counts, HasLoaded, IsLoading, LoadsNext}
+use Rattle.otap_gateway.specs.Loads.{first_requests}
+
+-- ---- the last of what is in step
+
+last_alone : {A B : Type 0} (R : List A → List B → A → B → Type 0) (past : List A) (past' : List B) (ys : List B) (y : B) → EachAfter R past past' [] (ys ++ y ∷ []) → ⊥
+last_alone R past past' [] y each = each
+last_alone R past past' (z ∷ ys) y each = each
+
+alone_last : {A B : Type 0} (R : List A → List B → A → B → Type 0) (past : List A) (past' : List B) (xs : List A) (x : A) → EachAfter R past past' (xs ++ x ∷ []) [] → ⊥
+alone_last R past past' [] x each = each
+alone_last R past past' (z ∷ xs) x each = each
+
+last_of_each : {A B : Type 0} (R : List A → List B → A → B → Type 0) (past : List A) (past' : List B) (xs : List A) (ys : List B) (x : A) (y : B)
+    → EachAfter R past past' (xs ++ x ∷ []) (ys ++ y ∷ []) → R (past ++ xs) (past' ++ ys) x y
+last_of_each R past past' [] [] x y each = rw (append-nil past, append-nil past') each.0
+last_of_each R past past' [] (z ∷ ys) x y each = absurd (last_alone R (past ++ x ∷ []) (past' ++ z ∷ []) ys y each.1)
+last_of_each R past past' (z ∷ xs) [] x y each = absurd (alone_last R (past ++ z ∷ []) (past' ++ y ∷ []) xs x each.1)
+last_of_each R past past' (z ∷ xs) (w ∷ ys) x y each =
+    rw (← append_assoc past (z ∷ []) xs, ← append_assoc past' (w ∷ []) ys) (last_of_each R (past ++ z ∷ []) (past' ++ w ∷ []) xs ys x y each.1)
+
+-- ---- one request more
+
+requests_more : (s : Signal) (n : ℕ) → first_requests s (n + 1) ≡ first_requests s n ++ generated s n ∷ []
+requests_more s n = map-range_with_len_more (generated s) 0 n n (zero-add n)
+
+pub requests_counted : (s : Signal) (n : ℕ) → length (first_requests s n) ≡ n
+requests_counted s n = length-map-range_with_len (generated s) 0 n
+
+module _ (rows : Rows) where
+  pub loaded_none : (e : ExporterIn) (o : Opened) → IsNew rows.signal e → HasCounted [] o → HasLoaded rows 0 [] e o
+  loaded_none e o new counted = record { stands = new.stands rows refl; exported = All-nil (IsExported rows); counted = counted }
+
+  pub few_batches : (n : ℕ) (e : ExporterIn) (o : Opened) → n < requests_at_most → IsLoading rows n e o → e.batches < 2 ^ 40
+  few_batches n e o few loading =
+      let batches = loading.loaded.stands.batches in
+      let many = requests_counted rows.signal n in
+      omega arith
+
+  pub loads_next : (n : ℕ) (e e' : ExporterIn) (o o' : Opened) (message : List ℕ) → Exports rows (generated rows.signal n) e e' message
+      → Counts (payloads_of message) o o' → LoadsNext rows n e e' o o' message
+  loads_next n e e' o o' message exports counts = record {
+    after = λ messages has. record {
+      stands = subst (λ qs. StandsFor rows qs (messages ++ message ∷ []) e') (sym (requests_more rows.signal n)) (exports.stands (first_requests rows.signal n) messages has.stands);
+      exported = subst (λ qs. All (IsExported rows) qs) (sym (requests_more rows.signal n)) (All-push (IsExported rows) (first_requests rows.signal n) (generated rows.signal n) has.exported exports.exported);
+      counted = subst (λ ps. HasCounted ps o') (flat_map_more payloads_of [] messages message) (counts.after (flat_map payloads_of messages) has.counted);
+    };
+    short = exports.short;
+  }
+
+  -- its message is read
+  pub message_read : (m : Meaning) (n : ℕ) (e e' : ExporterIn) (o : Opened) (message : List ℕ)
+      → ((requests : List Request) (messages : List (List ℕ)) → All (IsExported rows) requests → Policy rows requests messages → EachAfter (IsReceivedAs m) [] [] requests messages)
+      → Exports rows (generated rows.signal n) e e' message → IsLoading rows n e o → ReadsBatch message (batch_in message)
+  message_read m n e e' o message law exports loading =
+      let requests = first_requests rows.signal n in
+      let request = generated rows.signal n in
+      let messages = loading.messages in
+      let stands = exports.stands requests messages loading.loaded.stands in
+      let exported = All-push (IsExported rows) requests request loading.loaded.exported exports.exported in
+      let received = last_of_each (IsReceivedAs m) [] [] requests messages request message (law (requests ++ request ∷ []) (messages ++ message ∷ []) exported stands.policy) in
+      received.reads
+
+  -- it isn't refused
+  pub not_broken : (n : ℕ) (e : ExporterIn) (o : Opened) → IsLoading rows n e o → e.broken ≡ true → ⊥
+  not_broken n e o loading broken = false≢true (sym loading.loaded.stands.sound ∙ broken)
+
+  pub not_many : (q : Request) → length (telemetry q) ≡ items_each → item_limit < length (telemetry q) → ⊥
+  not_many q items many = omega arith
+
+  pub not_heavy : (q : Request) → weight_of q ≤ weight_limit → weight_of_tables (rows.tables q) ≤ row_weight_limit
+      → (weight_limit < weight_of q) ⊎ (row_weight_limit < weight_of_tables (rows.tables q)) → ⊥
+  not_heavy q tree row (inl heavy) = omega arith
+  not_heavy q tree row (inr heavy) = omega arith

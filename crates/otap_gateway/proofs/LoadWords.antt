@@ -1,0 +1,95 @@
+-- The words of loads are those of one load at most, and of no job over a capture; and what a load's run leaves where nothing
+-- failed.
+use Rattle.std.proofs.Common.{◌≡◌, ◌⊎◌, inl, inr, ℕ, ◌≤◌, List, [], ◌∷◌, length, Result, Ok, Err, refl, sym, ap, ◌∙◌, subst, arith}
+use Rattle.std.specs.Prelude.{All, codes}
+use Rattle.std.specs.Fmt.{decimal}
+use Rattle.std.proofs.lemmas.Fmt.{decimal_injective}
+use Rattle.otap_capture.specs.Outside.{Rose}
+use Rattle.otap_gateway.specs.declared.command.Command.{Command}
+use Rattle.otap_gateway.specs.declared.command.Command.TheVariants as command
+use Rattle.otap_gateway.specs.declared.command.Served.{Served}
+use Rattle.otap_gateway.specs.declared.load.Load.{Load}
+use Rattle.otap_gateway.specs.declared.stop.Stop.{Stop}
+use Rattle.otap_gateway.specs.declared.stop.Stop.TheVariants as stop
+use Rattle.otap_gateway.specs.Commands.{served_word, words_of}
+use Rattle.otap_gateway.specs.Loads.{IsLoad, LeavesLoad, RunsLoad, WritesLoad, load_status, load_words}
+use Rattle.otap_gateway.specs.Runs.{Sinks, SinkFaults}
+use Rattle.otap_gateway.specs.Receptions.{meaning_of}
+use Rattle.otap_transit.specs.Transits.{IsReceivedAs}
+use Rattle.otap_produce.specs.Policy.{IsExported, Policy}
+use Rattle.otap_gateway.specs.Encoding.{rows_of}
+use Rattle.otap_gateway.specs.declared.command.Served.TheVariants as served
+use Rattle.otlp_model.specs.declared.request.Request.{Request}
+use Rattle.histories.specs.EachAfter.{EachAfter}
+use Rattle.otap_gateway.proofs.OneJob.{one_job}
+
+-- ---- a job has two words at most
+
+short : (job : Command) → length (words_of job) ≤ 2
+short command.List = omega arith
+short (command.Tidy signal) = omega arith
+short (command.Encode signal) = omega arith
+short (command.Schema signal) = omega arith
+short (command.Show signal) = omega arith
+short (command.Decode signal) = omega arith
+short (command.Status signal) = omega arith
+short (command.Replay signal) = omega arith
+
+pub no_job : (job : Command) (load : Load) (words : List (List ℕ)) → words ≡ words_of job → words ≡ load_words load → ⊥
+no_job job load words is says =
+    let few = short job in
+    let same : length (words_of job) ≡ length (load_words load) = ap length (sym is ∙ says) in
+    omega (arith, few, same)
+
+-- ---- one load
+
+first_word : (a b c d : List ℕ) → a ∷ b ∷ [] ≡ c ∷ d ∷ [] → b ≡ d
+first_word a b c d same = cc same
+
+same_signal : (a b : Served) → served_word a ≡ served_word b → a ≡ b
+same_signal a b same =
+    let job : command.Encode a ≡ command.Encode b = one_job (command.Encode a) (command.Encode b) (ap (λ (word : List ℕ). codes "encode" ∷ word ∷ []) same) in
+    cc job
+
+same_load : (a b : Load) → a.signal ≡ b.signal → a.requests ≡ b.requests → a ≡ b
+same_load a b signal requests = λ i. record { signal = signal i; requests = requests i }
+
+one_load : (a b : Load) → IsLoad a → IsLoad b → load_words a ≡ load_words b → a ≡ b
+one_load a b is is' same =
+    let signal : served_word a.signal ≡ served_word b.signal = cc same in
+    let requests : decimal a.requests ≡ decimal b.requests = cc same in
+    let few = is.few in
+    let few' = is'.few in
+    same_load a b (same_signal a.signal b.signal signal) (decimal_injective a.requests b.requests (omega arith) (omega arith) requests)
+
+-- a run for a load is one for its words
+pub load_named : {S : Type 0} (words : List (List ℕ)) (a : Load) (source : S) (old new : Sinks) (status : ℕ) (answer : Result (Unit {0}) Stop) → IsLoad a → words ≡ load_words a
+    → status ≡ load_status answer → LeavesLoad a old new answer → SinkFaults old new answer → (b : Load) → IsLoad b → words ≡ load_words b → RunsLoad b source source old new status
+load_named words a source old new status answer is named same leaves faults b is' named' =
+    subst (λ (load : Load). RunsLoad load source source old new status) (one_load a b is is' (sym named ∙ named'))
+    (record { answer = answer; same = same; unread = refl; leaves = leaves; faults = faults })
+
+-- ---- where nothing failed
+
+complete : (load : Load) (old new : Sinks) (status : ℕ) (answer : Result (Unit {0}) Stop) → status ≡ load_status answer → LeavesLoad load old new answer → SinkFaults old new answer
+    → (Rose old.out.faults new.out.faults → ⊥) → (Rose old.err.faults new.err.faults → ⊥) → (status ≡ 6) ⊎ ((status ≡ 0) × WritesLoad load old new)
+complete load old new status (Ok x) same leaves faults out err = inr (same, leaves)
+complete load old new status (Err stop.Source) same leaves faults out err = absurd faults
+complete load old new status (Err stop.Sink) same leaves (inl failed) out err = absurd (out failed.out)
+complete load old new status (Err stop.Sink) same leaves (inr failed) out err = absurd (err failed.err)
+complete load old new status (Err stop.Memory) same leaves faults out err = inl same
+
+pub complete_loads : {S : Type 0} (load : Load) (source source' : S) (old new : Sinks) (status : ℕ) → RunsLoad load source source' old new status
+    → (Rose old.out.faults new.out.faults → ⊥) → (Rose old.err.faults new.err.faults → ⊥) → (status ≡ 6) ⊎ ((status ≡ 0) × WritesLoad load old new)
+complete_loads load source source' old new status runs out err = complete load old new status runs.answer runs.same runs.leaves runs.faults out err
+
+-- ---- the far end
+
+-- a signal's messages are received as their requests
+abbrev pub AreReceived : Served → Type 0
+AreReceived signal = (requests : List Request) (messages : List (List ℕ)) → All (IsExported (rows_of signal)) requests → Policy (rows_of signal) requests messages
+    → EachAfter (IsReceivedAs (meaning_of signal)) [] [] requests messages
+
+pub loads_received : AreReceived served.Traces → AreReceived served.Logs → (signal : Served) → AreReceived signal
+loads_received traces logs served.Traces = traces
+loads_received traces logs served.Logs = logs
