@@ -38,7 +38,7 @@ def metric(k):
 ITEMS = {"logs": log, "traces": span, "metrics": metric}
 
 
-def request(signal, items, first=0):
-    """A frame with a request of that many items, which count on from the first."""
-    body = part(1, part(2, b"".join(part(2, ITEMS[signal](k)) for k in range(first, first + items))))
+def request(signal, items):
+    """A frame with a request of that many items."""
+    body = part(1, part(2, b"".join(part(2, ITEMS[signal](k)) for k in range(items))))
     return b"\0" + len(body).to_bytes(4, "big") + body

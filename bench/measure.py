@@ -153,7 +153,7 @@ def compare(name, words, whole, quarter, requests, program, limits):
     more memory than 64 MiB and its largest frame."""
     job = [PROGRAM, *words]
     calls = [(job, whole), (job, quarter), (["md5sum"], requests)]
-    calls += [([program, "logs"], requests)] if program else []
+    calls += [([program, words[-1]], requests)] if program else []
     full, part, base, *peer = side_by_side(calls)
     most = 64 * MIB + largest_frame(whole)
     growth = full.processor / part.processor
