@@ -21,4 +21,5 @@ pub mod Regroups
 pub mod ReceiverInside
 pub mod LogsMeaning
 pub mod SpansMeaning
+pub mod MetricsMeaning
 pub mod Bytes

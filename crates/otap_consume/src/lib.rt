@@ -5,6 +5,7 @@
 mod ids;
 pub mod laws;
 mod logs;
+mod metrics;
 mod not_taken;
 mod payload_types;
 mod receiver;
@@ -23,6 +24,7 @@ mod telemetry;
 mod views;
 
 pub use logs::Logs;
+pub use metrics::Metrics;
 pub use payload_types::{TypesRefusal, check_types};
 pub use receiver::Receiver;
 pub use refusal::{Cause, MAX_HELD, Refusal};

@@ -1,0 +1,39 @@
+//! The telemetry of metrics.
+ghost use Rattle.otap_consume.specs.MetricsMeaning.{metrics_meaning};
+
+use crate::regrouped::Regrouped;
+use crate::telemetry::Telemetry;
+use otap_cells::TableSet;
+use otap_checks::RegroupRefusal;
+use otap_columns::RowsView;
+use otap_hist::reading_laws::clean_or_wrong;
+use otap_hist::regroup;
+use otlp_model::{Request, Signal, weight};
+use std::alloc::Global;
+
+/// Metrics, as a receiver takes them.
+#[derive(Clone, Copy, Debug)]
+pub struct Metrics;
+
+impl Telemetry for Metrics {
+    ghost meaning = { metrics_meaning };
+
+    fn signal() -> Signal {
+        Signal::Metrics
+    }
+
+    fn regroup(alloc: Global, set: &TableSet<RowsView<'_>>) -> Result<Regrouped, RegroupRefusal> {
+        let made = regroup(alloc, set)?;
+        let request = Request::Metrics(made.groups);
+        // The walk tells a proof that a program can hold the request.
+        let _weight = weight(&request);
+        Ok(Regrouped {
+            request,
+            tree: made.tree,
+        })
+    }
+
+    fn clean_or_wrong() {
+        clean_or_wrong();
+    }
+}
