@@ -7,6 +7,7 @@ pub mod TypeNumbers
 pub mod WritableTables
 pub mod WrittenLogs
 pub mod WrittenSpans
+pub mod WrittenMetrics
 pub mod Lengths
 pub mod Limited
 pub mod Batches

@@ -1,6 +1,7 @@
 pub mod Policy
 pub mod LogRows
 pub mod SpanRows
+pub mod MetricRows
 pub mod Writable
 pub mod Exporters
 pub mod Sizes

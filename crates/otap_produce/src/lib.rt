@@ -3,6 +3,7 @@
 
 mod exporter;
 mod logs;
+mod metrics;
 mod refusal;
 mod sender;
 mod senders;
@@ -13,6 +14,7 @@ mod tests;
 
 pub use exporter::Exporter;
 pub use logs::LogTables;
+pub use metrics::MetricTables;
 pub use refusal::ProduceRefusal;
 pub use spans::SpanTables;
 pub use tabled::Tabled;
