@@ -14,3 +14,4 @@ pub mod Arriving
 pub mod SameMeaning
 pub mod LogsFaithful
 pub mod SpansFaithful
+pub mod MetricsFaithful

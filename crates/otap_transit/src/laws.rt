@@ -5,10 +5,12 @@ ghost use Rattle.std.specs.Prelude.{ℕ, All, List, [], map};
 ghost use Rattle.histories.specs.EachAfter.{EachAfter};
 ghost use Rattle.otlp_model.specs.declared.request.Request.{Request};
 ghost use Rattle.otap_consume.specs.LogsMeaning.{logs_meaning};
+ghost use Rattle.otap_consume.specs.MetricsMeaning.{metrics_meaning};
 ghost use Rattle.otap_consume.specs.Outcomes.{Outcome};
 ghost use Rattle.otap_consume.specs.Receiving.{Received};
 ghost use Rattle.otap_consume.specs.SpansMeaning.{spans_meaning};
 ghost use Rattle.otap_produce.specs.LogRows.{logs_rows};
+ghost use Rattle.otap_produce.specs.MetricRows.{metrics_rows};
 ghost use Rattle.otap_produce.specs.Policy.{Rows, IsExported, Policy};
 ghost use Rattle.otap_produce.specs.SpanRows.{spans_rows};
 ghost use Rattle.otap_transit.specs.Faithful.{AreFaithful};
@@ -16,8 +18,9 @@ ghost use Rattle.otap_transit.specs.Sendings.{Sending, frame_of, AreAllowed, Arr
 ghost use Rattle.otap_transit.specs.Transits.{IsReceivedAs};
 
 use otap_consume::Telemetry;
+use otap_hist::{laws as metrics, reading_laws as metrics_read};
 use otap_logs::{laws as logs, reading_laws as logs_read};
-use otap_produce::{LogTables, SpanTables, Tabled};
+use otap_produce::{LogTables, MetricTables, SpanTables, Tabled};
 use otap_spans::{laws as spans, reading_laws as spans_read};
 
 /// For every signal, all rows of its requests that are faithful to what its tables mean, all requests that are exported in a
@@ -61,4 +64,17 @@ pub fn logs_are_faithful()
     LogTables::can_be_written();
     logs::each_record_has_a_row();
     logs_read::cells_and_ids_decide();
+}
+
+/// The tables of requests of metrics are faithful to what tables of metrics mean.
+pub fn metrics_are_faithful()
+    ensures { AreFaithful metrics_meaning metrics_rows }
+{
+    metrics::tables_tell_the_same();
+    metrics::tables_have_no_defects();
+    metrics::tables_are_light();
+    metrics::tables_can_be_written();
+    MetricTables::can_be_written();
+    metrics::each_metric_has_a_row();
+    metrics_read::cells_and_ids_decide();
 }
