@@ -20,7 +20,7 @@ Names words job = words ≡ words_of job
 abbrev NamesNot : List (List ℕ) → Command → Type 0
 NamesNot words job = words ≡ words_of job → ⊥
 
-same_words : (words others : List (List ℕ)) → (words ≡ others) ⊎ (words ≡ others → ⊥)
+pub same_words : (words others : List (List ℕ)) → (words ≡ others) ⊎ (words ≡ others → ⊥)
 same_words words others = by_test (cases_Bool (pointwise bytes_eq words others))
   where
     decides : Decides (pointwise bytes_eq words others) (words ≡ others)
@@ -54,16 +54,19 @@ abbrev OneOf : {S : Type 0} → List (List ℕ) → (S → Command) → Type 0
 OneOf {S} words job = ((signal : S) × Names words (job signal)) ⊎ ((signal : S) → NamesNot words (job signal))
 
 of_served : (words : List (List ℕ)) (job : Served → Command) → OneOf words job
-of_served words job = by_signal (names words (job served.Traces)) (names words (job served.Logs))
+of_served words job = by_signal (names words (job served.Traces)) (names words (job served.Logs)) (names words (job served.Metrics))
   where
-    none : NamesNot words (job served.Traces) → NamesNot words (job served.Logs) → (signal : Served) → NamesNot words (job signal)
-    none traces logs served.Traces = traces
-    none traces logs served.Logs = logs
+    none : NamesNot words (job served.Traces) → NamesNot words (job served.Logs) → NamesNot words (job served.Metrics) → (signal : Served) → NamesNot words (job signal)
+    none traces logs metrics served.Traces = traces
+    none traces logs metrics served.Logs = logs
+    none traces logs metrics served.Metrics = metrics
 
-    by_signal : Names words (job served.Traces) ⊎ NamesNot words (job served.Traces) → Names words (job served.Logs) ⊎ NamesNot words (job served.Logs) → OneOf words job
-    by_signal (inl traces) logs = inl (served.Traces, traces)
-    by_signal (inr no_traces) (inl logs) = inl (served.Logs, logs)
-    by_signal (inr no_traces) (inr no_logs) = inr (none no_traces no_logs)
+    by_signal : Names words (job served.Traces) ⊎ NamesNot words (job served.Traces) → Names words (job served.Logs) ⊎ NamesNot words (job served.Logs)
+        → Names words (job served.Metrics) ⊎ NamesNot words (job served.Metrics) → OneOf words job
+    by_signal (inl traces) logs metrics = inl (served.Traces, traces)
+    by_signal (inr no_traces) (inl logs) metrics = inl (served.Logs, logs)
+    by_signal (inr no_traces) (inr no_logs) (inl metrics) = inl (served.Metrics, metrics)
+    by_signal (inr no_traces) (inr no_logs) (inr no_metrics) = inr (none no_traces no_logs no_metrics)
 
 -- the jobs of an exporter and of a receiver, or none of them
 abbrev NoServed : List (List ℕ) → Type 0

@@ -1,5 +1,6 @@
 mod FieldLines
 mod FirstMessages
+pub mod EachLoad
 pub mod EachWords
 pub mod EncodedFrames
 pub mod Extending
@@ -10,6 +11,7 @@ pub mod LoadRuns
 pub mod LoadSteps
 pub mod LoadWords
 pub mod LogLoads
+pub mod MetricLoads
 pub mod OneJob
 pub mod OpenedIds
 pub mod Progress

@@ -1,10 +1,9 @@
 -- What a load leaves, as far as it came.
-use Rattle.std.proofs.Common.{◌≡◌, ℕ, zero, suc, ◌+◌, ◌*◌, ◌<◌, ◌≤◌, List, [], ◌∷◌, ◌++◌, length, Option, OnOk, Result, Ok, Err, refl, sym, ap, ◌∙◌, subst, arith}
-use Rattle.std.specs.Prelude.{All, codes, map, nat_lt, sum_by, if◌then◌else◌}
+use Rattle.std.proofs.Common.{◌≡◌, inl, inr, ℕ, zero, suc, ◌+◌, ◌*◌, ◌<◌, ◌≤◌, List, [], ◌∷◌, ◌++◌, length, Option, OnOk, Result, Ok, Err, refl, ap, ◌∙◌, subst, arith}
+use Rattle.std.specs.Prelude.{All, codes, map, sum_by}
 use Rattle.std.specs.Fmt.{decimal}
 use Rattle.std.specs.Io.KnownBytes.{Appends, Keeps}
 use Rattle.std.specs.List.{flat_map, range_with_len}
-use Rattle.std.proofs.lemmas.Bool.{le-ltb}
 use Rattle.std.proofs.lemmas.List.{flat_map_more}
 use Rattle.std.proofs.lemmas.List.Sums.{sum_by-cons}
 use Rattle.otap_capture.specs.Capture.{message_frame}
@@ -70,41 +69,38 @@ module _ (load : Load) (rows : Rows) (same : rows ≡ rows_of load.signal) where
 
   -- it stops before the first request
   pub leaves_none : (s : Sinks) → WritesLoadFront load s s
-  leaves_none s = record {
+  leaves_none s = inl (record {
     count = 0;
     messages = [];
     part = omega arith;
     policy = tt;
     out = front_of_none _ _ _ (Keeps-refl _);
-    err = front_of_none _ _ _ (Keeps-refl _);
-  }
+    err = Keeps-refl _;
+  })
 
   -- where the first requests are sent
   pub leaves_early : (old new : Sinks) (n : ℕ) (e : ExporterIn) (o : Opened) → n ≤ load.requests → HasSent rows n old.out.written new.out.written e o
       → Keeps old.err.written new.err.written → WritesLoadFront load old new
-  leaves_early old new n e o part sent err = record {
+  leaves_early old new n e o part sent err = inl (record {
     count = n;
     messages = sent.messages;
     part = part;
     policy = policy_of n sent.messages sent.loaded.stands.policy;
     out = front_of_all _ _ _ sent.out;
-    err = front_of_none _ _ _ err;
-  }
+    err = err;
+  })
 
   -- or in a frame
   pub leaves_frame : (old new : Sinks) (mid : Option (List ℕ)) (n : ℕ) (e e' : ExporterIn) (o o' : Opened) (message : List ℕ) → n < load.requests → HasSent rows n old.out.written mid e o
       → LoadsNext rows n e e' o o' message → AppendsFront mid new.out.written (message_frame message) → Keeps old.err.written new.err.written → WritesLoadFront load old new
-  leaves_frame old new mid n e e' o o' message part sent next out err = record {
+  leaves_frame old new mid n e e' o o' message part sent next out err = inl (record {
     count = n + 1;
     messages = sent.messages ++ message ∷ [];
     part = omega arith;
     policy = policy_of (n + 1) (sent.messages ++ message ∷ []) (HasLoaded.stands (next.after sent.messages sent.loaded)).policy;
     out = subst (λ text. AppendsFront old.out.written new.out.written text) (flat_map_more message_frame [] sent.messages message) (front_more _ _ _ _ _ sent.out out);
-    err = front_of_none _ _ _ err;
-  }
-
-  all_sent : (n : ℕ) (text : List ℕ) → (if nat_lt n n then [] else text) ≡ text
-  all_sent n text = rw (le-ltb n n (omega arith)) refl
+    err = err;
+  })
 
   module _ (each : (r : ℕ) → length (telemetry (generated rows.signal r)) ≡ items_each) where
     line_of : (messages : List (List ℕ)) (items opened : ℕ) → items ≡ 8192 * load.requests → opened ≡ openings (flat_map payloads_of messages)
@@ -115,15 +111,12 @@ module _ (load : Load) (rows : Rows) (same : rows ≡ rows_of load.signal) where
     -- or in the line
     pub leaves_line : (old new : Sinks) (items : ℕ) (e : ExporterIn) (o : Opened) → items ≡ 8192 * load.requests → HasSent rows load.requests old.out.written new.out.written e o
         → AppendsFront old.err.written new.err.written (line_by load.requests items o.count) → WritesLoadFront load old new
-    leaves_line old new items e o many sent err = record {
-      count = load.requests;
+    leaves_line old new items e o many sent err = inr (record {
       messages = sent.messages;
-      part = omega arith;
       policy = policy_of load.requests sent.messages sent.loaded.stands.policy;
-      out = front_of_all _ _ _ sent.out;
-      err = subst (λ text. AppendsFront old.err.written new.err.written text)
-          (line_of sent.messages items o.count many sent.loaded.counted.count ∙ sym (all_sent load.requests (load_line (requests_of load) sent.messages))) err;
-    }
+      out = sent.out;
+      err = subst (λ text. AppendsFront old.err.written new.err.written text) (line_of sent.messages items o.count many sent.loaded.counted.count) err;
+    })
 
     -- all is written, and then it is passed on
     pub leaves_load : (old new : Sinks) (out err : Option (List ℕ)) (items : ℕ) (e : ExporterIn) (o : Opened) (answer : Result (Unit {0}) Stop) → items ≡ 8192 * load.requests

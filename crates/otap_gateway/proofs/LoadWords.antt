@@ -90,6 +90,7 @@ abbrev pub AreReceived : Served → Type 0
 AreReceived signal = (requests : List Request) (messages : List (List ℕ)) → All (IsExported (rows_of signal)) requests → Policy (rows_of signal) requests messages
     → EachAfter (IsReceivedAs (meaning_of signal)) [] [] requests messages
 
-pub loads_received : AreReceived served.Traces → AreReceived served.Logs → (signal : Served) → AreReceived signal
-loads_received traces logs served.Traces = traces
-loads_received traces logs served.Logs = logs
+pub loads_received : AreReceived served.Traces → AreReceived served.Logs → AreReceived served.Metrics → (signal : Served) → AreReceived signal
+loads_received traces logs metrics served.Traces = traces
+loads_received traces logs metrics served.Logs = logs
+loads_received traces logs metrics served.Metrics = metrics

@@ -14,8 +14,8 @@ use Rattle.otap_gateway.specs.Runs.{World, Leaves, Stops, Faults, Runs, status_o
 
 jobs : List Command
 jobs = Listing ∷ Tidy Traces ∷ Tidy Logs ∷ Tidy Metrics ∷ Schema Traces ∷ Schema Logs ∷ Schema Metrics ∷ Show Traces ∷ Show Logs ∷ Show Metrics
-    ∷ Encode served.Traces ∷ Encode served.Logs ∷ Decode served.Traces ∷ Decode served.Logs
-    ∷ Status served.Traces ∷ Status served.Logs ∷ Replay served.Traces ∷ Replay served.Logs ∷ []
+    ∷ Encode served.Traces ∷ Encode served.Logs ∷ Encode served.Metrics ∷ Decode served.Traces ∷ Decode served.Logs ∷ Decode served.Metrics
+    ∷ Status served.Traces ∷ Status served.Logs ∷ Status served.Metrics ∷ Replay served.Traces ∷ Replay served.Logs ∷ Replay served.Metrics ∷ []
 
 -- the first job that has the words
 named : List (List ℕ) → Option Command
@@ -35,12 +35,16 @@ is_named (Show Logs) = refl
 is_named (Show Metrics) = refl
 is_named (Encode served.Traces) = refl
 is_named (Encode served.Logs) = refl
+is_named (Encode served.Metrics) = refl
 is_named (Decode served.Traces) = refl
 is_named (Decode served.Logs) = refl
+is_named (Decode served.Metrics) = refl
 is_named (Status served.Traces) = refl
 is_named (Status served.Logs) = refl
+is_named (Status served.Metrics) = refl
 is_named (Replay served.Traces) = refl
 is_named (Replay served.Logs) = refl
+is_named (Replay served.Metrics) = refl
 
 pub one_job : (a b : Command) → words_of a ≡ words_of b → a ≡ b
 one_job a b is = let same : Some a ≡ Some b = sym (is_named a) ∙ ap named is ∙ is_named b in cc

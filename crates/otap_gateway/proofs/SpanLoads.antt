@@ -1,6 +1,6 @@
 -- The tables of a load of traces aren't too heavy.
 use Rattle.std.proofs.Common.{◌≡◌, ℕ, ◌+◌, ◌%◌, ◌<◌, ◌≤◌, ◌^◌, List, [], ◌∷◌, length, refl, subst, arith}
-use Rattle.std.specs.Prelude.{codes, min, sum_by}
+use Rattle.std.specs.Prelude.{codes, min}
 use Rattle.std.proofs.Math.Nat.{mod-lt}
 use Rattle.std.proofs.lemmas.List.Sums.{sum_by-cons}
 use Rattle.otlp_load.specs.Pairs.{numbered}

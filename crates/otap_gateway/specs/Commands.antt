@@ -25,6 +25,7 @@ signal_word signals.Metrics = codes "metrics"
 abbrev pub served_word : Served → List ℕ
 served_word served.Traces = codes "traces"
 served_word served.Logs = codes "logs"
+served_word served.Metrics = codes "metrics"
 
 -- the words of a job
 abbrev pub words_of : Command → List (List ℕ)
@@ -37,7 +38,7 @@ words_of (command.Decode signal) = codes "decode" ∷ served_word signal ∷ []
 words_of (command.Status signal) = codes "status" ∷ served_word signal ∷ []
 words_of (command.Replay signal) = codes "replay" ∷ served_word signal ∷ []
 
--- words that are those of no job
+-- words that are those of no job over a capture
 abbrev pub IsNoCommand : List (List ℕ) → Type 0
 IsNoCommand words = (job : Command) → words ≢ words_of job
 

@@ -9,6 +9,7 @@ use Rattle.otap_consume.specs.Outcomes.{Outcome}
 use Rattle.otap_consume.specs.Receiving.{Received}
 use Rattle.otap_produce.specs.Exporters.{ExporterIn, StandsFor}
 use Rattle.otap_produce.specs.LogRows.{logs_rows}
+use Rattle.otap_produce.specs.MetricRows.{metrics_rows}
 use Rattle.otap_produce.specs.Policy.{Rows}
 use Rattle.otap_produce.specs.SpanRows.{spans_rows}
 use Rattle.otap_transit.specs.Sendings.{Sending, Sent, Reset, MaySend, Arrive, frame_of, requests_since, messages_since}
@@ -29,6 +30,7 @@ use Rattle.otap_gateway.specs.Reply.{ReplyText}
 abbrev pub rows_of : Served → Rows
 rows_of served.Traces = spans_rows
 rows_of served.Logs = logs_rows
+rows_of served.Metrics = metrics_rows
 
 -- ---- what a frame gives
 

@@ -55,7 +55,7 @@ abbrev pub end_text : Option Damage → List ℕ
 end_text None = []
 end_text (Some damage) = damage_line damage
 
--- the line for words that are those of no job
+-- the line for words that aren't understood
 abbrev pub words_line : List ℕ
 words_line = codes "otap: words not understood" ++ line_feed
 

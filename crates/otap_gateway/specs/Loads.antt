@@ -1,10 +1,10 @@
 -- The job that makes its own load: its words, and what it writes.
-use Rattle.std.specs.Prelude.{◌≡◌, ◌≢◌, ◌<◌, ◌≤◌, ℕ, List, [], ◌∷◌, ◌++◌, length, map, codes, nat_lt, sum_by, All, if◌then◌else◌}
+use Rattle.std.specs.Prelude.{◌≡◌, ◌≢◌, ◌⊎◌, ◌<◌, ◌≤◌, ℕ, List, [], ◌∷◌, ◌++◌, length, map, codes, sum_by, All}
 use Rattle.std.specs.Fmt.{decimal}
 use Rattle.std.specs.List.{flat_map, range_with_len}
 use Rattle.std.specs.declared.result.Result.{Result}
 use Rattle.std.specs.declared.result.Result.TheVariants.{Ok, Err}
-use Rattle.std.specs.Io.KnownBytes.{Appends}
+use Rattle.std.specs.Io.KnownBytes.{Appends, Keeps}
 use Rattle.otap_capture.specs.Capture.{message_frame}
 use Rattle.otap_capture.specs.Outside.{AppendsFront}
 use Rattle.otap_columns.specs.TableSets.{openings}
@@ -69,15 +69,25 @@ pub record WritesLoad (load : Load) (old new : Sinks) : Type 0 where
   pub err : Appends old.err.written new.err.written (load_line (requests_of load) messages)
   pub flushed : IsFlushed new
 
--- Something stopped it: out grew by a front of the frames of its first requests, and err by nothing, or by a front of the line
--- where these are all.
-pub record WritesLoadFront (load : Load) (old new : Sinks) : Type 0 where
+-- Something stopped it. Before all messages were written: out grew by a front of the frames of its first requests, and err by
+-- nothing.
+pub record WritesFrames (load : Load) (old new : Sinks) : Type 0 where
   pub count : ℕ
   pub messages : List (List ℕ)
   pub part : count ≤ load.requests
   pub policy : Policy (rows_of load.signal) (first_requests (rows_of load.signal).signal count) messages
   pub out : AppendsFront old.out.written new.out.written (frames_text messages)
-  pub err : AppendsFront old.err.written new.err.written (if nat_lt count load.requests then [] else load_line (requests_of load) messages)
+  pub err : Keeps old.err.written new.err.written
+
+-- Or after that: out grew by the frames of all messages, and err by a front of the line.
+pub record WritesLine (load : Load) (old new : Sinks) : Type 0 where
+  pub messages : List (List ℕ)
+  pub policy : Policy (rows_of load.signal) (requests_of load) messages
+  pub out : Appends old.out.written new.out.written (frames_text messages)
+  pub err : AppendsFront old.err.written new.err.written (load_line (requests_of load) messages)
+
+abbrev pub WritesLoadFront : Load → Sinks → Sinks → Type 0
+WritesLoadFront load old new = WritesFrames load old new ⊎ WritesLine load old new
 
 abbrev pub LeavesLoad : Load → Sinks → Sinks → Result (Unit {0}) Stop → Type 0
 LeavesLoad load old new (Ok x) = WritesLoad load old new

@@ -12,6 +12,7 @@ use Rattle.otap_consume.specs.declared.taken.Taken.{Taken}
 use Rattle.otap_consume.specs.declared.taken.Taken.TheVariants.{Accepted, Refused, Reset}
 use Rattle.otap_consume.specs.LogsMeaning.{logs_meaning}
 use Rattle.otap_consume.specs.Meanings.{Meaning}
+use Rattle.otap_consume.specs.MetricsMeaning.{metrics_meaning}
 use Rattle.otap_consume.specs.Outcomes.{Outcome}
 use Rattle.otap_consume.specs.Receivers.{taken_of}
 use Rattle.otap_consume.specs.Receiving.{ReceivedAfter}
@@ -28,6 +29,7 @@ use Rattle.otap_gateway.specs.Told.{HasTold}
 abbrev pub meaning_of : Served → Meaning
 meaning_of served.Traces = spans_meaning
 meaning_of served.Logs = logs_meaning
+meaning_of served.Metrics = metrics_meaning
 
 -- ---- what each job prints of what a frame gave
 

@@ -172,7 +172,7 @@ abbrev pub words_status : Result (Unit {0}) Stop → ℕ
 words_status (Ok x) = 2
 words_status (Err stop) = stop_status stop
 
--- A run for words that are those of no job. Nothing is read, and the source can't have failed.
+-- A run for words that aren't understood. Nothing is read, and the source can't have failed.
 pub record RefusesWords {S : Type 0} (source source' : S) (old new : World) (status : ℕ) : Type 0 where
   pub answer : Result (Unit {0}) Stop
   pub same : status ≡ words_status answer

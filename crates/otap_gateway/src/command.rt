@@ -11,6 +11,7 @@ use otlp_model::Signal;
 pub(crate) enum Served {
     Traces,
     Logs,
+    Metrics,
 }
 
 /// A job that the program does.
@@ -80,6 +81,7 @@ pub(crate) fn served_signal(word: &str) -> Option<Served>
     match word {
         "traces" => Some(Served::Traces),
         "logs" => Some(Served::Logs),
+        "metrics" => Some(Served::Metrics),
         _ => None,
     }
 }

@@ -3,7 +3,9 @@ ghost use Rattle.std.specs.Prelude.{◌≡◌, ◌⊎◌, List, ℕ, None, Some}
 ghost use Rattle.otap_capture.specs.Capture.{Frame, IsCapture};
 ghost use Rattle.otap_capture.specs.Outside.{Rose};
 ghost use Rattle.otap_gateway.specs.declared.command.Command.{Command};
-ghost use Rattle.otap_gateway.specs.Commands.{IsNoCommand, words_of};
+ghost use Rattle.otap_gateway.specs.declared.load.Load.{Load};
+ghost use Rattle.otap_gateway.specs.Commands.{words_of};
+ghost use Rattle.otap_gateway.specs.Loads.{IsLoad, IsNotUnderstood, load_words};
 ghost use Rattle.otap_gateway.specs.Runs.{World, Runs, Completes};
 
 /// Where no count of faults rose and the capture ends well, a run for the words of a job writes what it
@@ -18,7 +20,7 @@ pub fn complete_runs()
         → (status ≡ 6) ⊎ Completes job frames old.sinks new.sinks status }
 {}
 
-/// Each list of words is that of a job, or of none.
+/// Each list of words is that of a job over a capture, or that of a load, or it isn't understood. These are the cases of `run`.
 pub fn each_words()
-    ensures { (words : List (List ℕ)) → ((job : Command) × (words ≡ words_of job)) ⊎ IsNoCommand words }
+    ensures { (words : List (List ℕ)) → ((job : Command) × (words ≡ words_of job)) ⊎ (((load : Load) × IsLoad load × (words ≡ load_words load)) ⊎ IsNotUnderstood words) }
 {}

@@ -1,4 +1,4 @@
-//! The gateway's jobs: each reads a capture and replies to its frames.
+//! The gateway's jobs: each reads a capture and replies to its frames, or writes a load that the program makes itself.
 #![tactic(auto)]
 
 mod causes;

@@ -9,7 +9,7 @@ ghost use Rattle.otap_transit.specs.Transits.{IsReceivedAs};
 ghost use Rattle.otap_gateway.specs.Runs.{Sinks};
 
 use crate::loads::Loads;
-use otap_produce::{LogTables, SpanTables};
+use otap_produce::{LogTables, MetricTables, SpanTables};
 
 /// Where no count of faults rose, a run for the words of a load writes its messages and its line, passes all of it on, and
 /// returns 0; or there was no memory.
@@ -27,4 +27,5 @@ pub fn loads_are_received()
 {
     SpanTables::messages_are_received();
     LogTables::messages_are_received();
+    MetricTables::messages_are_received();
 }

@@ -9,9 +9,9 @@ ghost use Rattle.otap_produce.specs.Policy.{IsExported, Policy};
 ghost use Rattle.otap_transit.specs.Transits.{IsReceivedAs};
 
 use crate::sending::Sends;
-use otap_consume::{Logs, Spans};
-use otap_produce::{LogTables, SpanTables};
-use otap_transit::laws::{both_ends, logs_are_faithful, spans_are_faithful};
+use otap_consume::{Logs, Metrics, Spans};
+use otap_produce::{LogTables, MetricTables, SpanTables};
+use otap_transit::laws::{both_ends, logs_are_faithful, metrics_are_faithful, spans_are_faithful};
 
 /// A signal of which the program makes loads.
 pub(crate) trait Loads: Sends {
@@ -40,5 +40,14 @@ impl Loads for LogTables {
     fn messages_are_received() {
         both_ends::<Logs>();
         logs_are_faithful();
+    }
+}
+
+impl Loads for MetricTables {
+    fn loads_are_light() {}
+
+    fn messages_are_received() {
+        both_ends::<Metrics>();
+        metrics_are_faithful();
     }
 }

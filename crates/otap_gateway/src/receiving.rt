@@ -12,7 +12,7 @@ ghost use Rattle.otap_gateway.specs.Receptions.{line_of, meaning_of};
 use crate::causes::cause_name;
 use crate::lines::refused_line;
 use crate::reply::Reply;
-use otap_consume::{Logs, Refusal, Spans, Telemetry};
+use otap_consume::{Logs, Metrics, Refusal, Spans, Telemetry};
 use std::alloc::{AllocError, Global};
 
 /// A signal that the jobs of a receiver serve: its tables mean what the texts say of them.
@@ -39,6 +39,16 @@ impl Serves for Logs {
     ghost use Rattle.std.specs.Prelude.{refl};
 
     ghost served = { served.Logs };
+
+    ghost of_signal = { refl };
+
+    ghost receives = { λ old frame new taken receives. receives };
+}
+
+impl Serves for Metrics {
+    ghost use Rattle.std.specs.Prelude.{refl};
+
+    ghost served = { served.Metrics };
 
     ghost of_signal = { refl };
 

@@ -16,7 +16,7 @@ ghost use Rattle.otap_gateway.specs.Texts.{HaveTexts};
 ghost use Rattle.otap_gateway.specs.Told.{told};
 
 use otap_consume::receiving_laws::received_some_outcome;
-use otap_consume::{Logs, Spans};
+use otap_consume::{Logs, Metrics, Spans};
 
 /// One list of outcomes of the frames of a capture gives what `decode`, what `status` and what `replay` may write.
 pub fn outcomes_give_the_texts()
@@ -45,6 +45,7 @@ pub fn captures_have_texts()
 {
     received_some_outcome::<Spans>();
     received_some_outcome::<Logs>();
+    received_some_outcome::<Metrics>();
 }
 
 /// The message of a refused batch's status is what the line of the refusal says from its stage on.

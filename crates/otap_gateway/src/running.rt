@@ -20,18 +20,18 @@ use crate::stop::{Stop, Tally, status, words_status};
 use crate::tidy::Tidier;
 use crate::words::Words;
 use otap_capture::{Sink, Source, write_whole};
-use otap_consume::{Logs, Spans};
-use otap_produce::{LogTables, SpanTables};
+use otap_consume::{Logs, Metrics, Spans};
+use otap_produce::{LogTables, MetricTables, SpanTables};
 use otlp_model::Signal;
 use std::alloc::Global;
 
 const NOT_UNDERSTOOD: &[u8] = b"otap: words not understood\n";
 
-/// Does the job that the words name over the capture that the source gives, and returns the status with which the program
-/// ends. Each frame is handled as it comes: all that was written is passed on before the source is asked for more. A load is
-/// made by the program itself: then nothing is read. The statuses: 0 where all frames were handled, 1 where one was refused,
-/// 2 where the words are those of no job, 3 where the source failed, 4 where a sink failed, 5 where the capture has a damage,
-/// 6 where there was no memory.
+/// Does the job that the words name over the capture that the source gives, or writes the load that they name, and returns the
+/// status with which the program ends. Each frame is handled as it comes: all that was written is passed on before the source
+/// is asked for more. For a load nothing is read. The statuses: 0 where all frames were handled or the load was written, 1
+/// where a frame was refused, 2 where the words aren't understood, 3 where the source failed, 4 where a sink failed, 5 where
+/// the capture has a damage, 6 where there was no memory.
 pub fn run<S: Source, O: Sink, E: Sink>(
     alloc: Global,
     words: &Words,
@@ -80,14 +80,18 @@ fn run_job<S: Source, O: Sink, E: Sink>(
         Command::Tidy(signal) => drive(alloc, &mut Tidier::new(signal), source, out, err),
         Command::Encode(Served::Traces) => encode(alloc, SpanTables, source, out, err),
         Command::Encode(Served::Logs) => encode(alloc, LogTables, source, out, err),
+        Command::Encode(Served::Metrics) => encode(alloc, MetricTables, source, out, err),
         Command::Schema(signal) => drive(alloc, &mut SchemaLister::new(signal), source, out, err),
         Command::Show(signal) => show(alloc, signal, source, out, err),
         Command::Decode(Served::Traces) => decode(alloc, Spans, source, out, err),
         Command::Decode(Served::Logs) => decode(alloc, Logs, source, out, err),
+        Command::Decode(Served::Metrics) => decode(alloc, Metrics, source, out, err),
         Command::Status(Served::Traces) => tell_statuses(alloc, Spans, source, out, err),
         Command::Status(Served::Logs) => tell_statuses(alloc, Logs, source, out, err),
+        Command::Status(Served::Metrics) => tell_statuses(alloc, Metrics, source, out, err),
         Command::Replay(Served::Traces) => replay(alloc, Spans, source, out, err),
         Command::Replay(Served::Logs) => replay(alloc, Logs, source, out, err),
+        Command::Replay(Served::Metrics) => replay(alloc, Metrics, source, out, err),
     }
 }
 

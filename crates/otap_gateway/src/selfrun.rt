@@ -14,7 +14,7 @@ use crate::loads::Loads;
 use crate::opened::Opened;
 use crate::stop::{Stop, stop_status};
 use otap_capture::{Sink, write_frame, write_whole};
-use otap_produce::{Exporter, LogTables, ProduceRefusal, SpanTables};
+use otap_produce::{Exporter, LogTables, MetricTables, ProduceRefusal, SpanTables};
 use otlp_load::laws::{requests_are_within_the_limits, requests_have_their_items};
 use otlp_load::{ITEMS, generated};
 use std::alloc::{AllocError, Global};
@@ -92,6 +92,7 @@ pub(crate) fn run_load<O: Sink, E: Sink>(
     match load.signal {
         Served::Traces => send_load::<SpanTables, O, E>(alloc, load, out, err),
         Served::Logs => send_load::<LogTables, O, E>(alloc, load, out, err),
+        Served::Metrics => send_load::<MetricTables, O, E>(alloc, load, out, err),
     }
 }
 

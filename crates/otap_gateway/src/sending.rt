@@ -6,9 +6,11 @@ ghost use Rattle.otap_gateway.specs.Encoding.{Arrives, rows_of};
 ghost use Rattle.otap_gateway.specs.Receptions.{meaning_of};
 ghost use Rattle.otap_transit.specs.Sendings.{AreAllowed, Sending};
 
-use otap_consume::{Logs, Spans};
-use otap_produce::{LogTables, SpanTables, Tabled};
-use otap_transit::laws::{logs_are_faithful, spans_are_faithful, what_is_sent_arrives};
+use otap_consume::{Logs, Metrics, Spans};
+use otap_produce::{LogTables, MetricTables, SpanTables, Tabled};
+use otap_transit::laws::{
+    logs_are_faithful, metrics_are_faithful, spans_are_faithful, what_is_sent_arrives,
+};
 
 /// A signal that the jobs of an exporter serve: its requests are written as tables that mean the same.
 pub(crate) trait Sends: Tabled {
@@ -42,6 +44,19 @@ impl Sends for LogTables {
     fn what_is_sent_arrives() {
         what_is_sent_arrives::<Logs>();
         logs_are_faithful();
+    }
+
+    ghost of_rows = { refl };
+}
+
+impl Sends for MetricTables {
+    ghost use Rattle.std.specs.Prelude.{refl};
+
+    ghost served = { served.Metrics };
+
+    fn what_is_sent_arrives() {
+        what_is_sent_arrives::<Metrics>();
+        metrics_are_faithful();
     }
 
     ghost of_rows = { refl };

@@ -13,7 +13,7 @@ ghost use Rattle.otap_gateway.specs.Told.{Gave, told};
 
 use crate::sending::Sends;
 use otap_capture::written_is_read;
-use otap_produce::{LogTables, SpanTables};
+use otap_produce::{LogTables, MetricTables, SpanTables};
 
 /// What `encode` writes is given by one list of what the frames of the capture gave, and all of it arrives.
 pub fn encoded_texts_have_outcomes()
@@ -30,4 +30,5 @@ pub fn what_is_written_is_read()
     written_is_read();
     SpanTables::what_is_sent_arrives();
     LogTables::what_is_sent_arrives();
+    MetricTables::what_is_sent_arrives();
 }

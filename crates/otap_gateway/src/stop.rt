@@ -59,7 +59,7 @@ pub(crate) fn status(end: Result<Tally, Stop>) -> u8
     }
 }
 
-/// The status of a run for words that are those of no job.
+/// The status of a run for words that aren't understood.
 pub(crate) fn words_status(end: Result<(), Stop>) -> u8
     ensures { result ≡ words_status end }
 {

@@ -99,6 +99,9 @@ fn failing_calls_and_other_words_have_their_status(rt: HostRuntime) -> Result<()
     runs(&rt, &["tidy"], &BATCH, 9, NONE, refused)?;
     runs(&rt, &["tidy", "x"], &BATCH, 9, NONE, refused)?;
     runs(&rt, &["schema", "x"], &BATCH, 9, NONE, refused)?;
+    runs(&rt, &["selfrun", "logs", "0"], &BATCH, 9, NONE, refused)?;
+    runs(&rt, &["selfrun", "traces", "01"], &BATCH, 9, NONE, refused)?;
+    runs(&rt, &["selfrun", "logs", "1001"], &BATCH, 9, NONE, refused)?;
     runs(&rt, &[], &BATCH, 9, NONE, refused)
 }
 

@@ -10,9 +10,12 @@ use Rattle.otap_gateway.proofs.sending_laws.what_is_written_is_read.Goals as goa
 abbrev AllArrive : Served → Type 0
 AllArrive signal = (ss : List Sending) → AreAllowed (rows_of signal) ss → Arrives (meaning_of signal) ss
 
-of_signal : AllArrive served.Traces → AllArrive served.Logs → (signal : Served) → AllArrive signal
-of_signal traces logs served.Traces = traces
-of_signal traces logs served.Logs = logs
+of_signal : AllArrive served.Traces → AllArrive served.Logs → AllArrive served.Metrics → (signal : Served) → AllArrive signal
+of_signal traces logs metrics served.Traces = traces
+of_signal traces logs metrics served.Logs = logs
+of_signal traces logs metrics served.Metrics = metrics
 
 pub returns : goal.returns
-returns c signal = read_back signal c.written_is_read.ensures.message c.written_is_read.ensures.reset (of_signal c.what_is_sent_arrives.ensures c.what_is_sent_arrives-2.ensures signal)
+returns c signal =
+    read_back signal c.written_is_read.ensures.message c.written_is_read.ensures.reset
+    (of_signal c.what_is_sent_arrives.ensures c.what_is_sent_arrives-2.ensures c.what_is_sent_arrives-3.ensures signal)
