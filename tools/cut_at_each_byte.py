@@ -1,44 +1,87 @@
 #!/usr/bin/env python3
-"""Runs `decode logs` on a capture of two batches with a reset between them, cut at each of its bytes.
+"""Cuts captures at each of their bytes, and runs each job on the cuts.
 
-    tools/cut_at_each_byte.py PROGRAM
+    tools/cut_at_each_byte.py PROGRAM [STEP]
 
-Of each cut the frames that are whole are written, and nothing else; the place of the one that is cut is said, and the
-status is 5, or 0 where the cut stands between two frames. What the whole capture gives was made by an independent
-program."""
+Of each cut a job writes what it writes for the frames that are whole, and nothing else; the place of the frame that is cut
+is said, and the status is 5, or 0 where the cut stands between two frames. With STEP only each STEPth cut is tried of the
+captures that are longer than 1,000 bytes, and those around the ends of frames.
+
+What `decode`, `replay`, `schema` and `show` write for a whole capture was made by an independent program, as the requests
+were that `tidy` writes as they stand. What `encode` and `status` write for a whole capture is what they write for it."""
 
 import os
 import subprocess
 import sys
 
-CASES = os.path.join(os.path.dirname(os.path.abspath(__file__)), "..", "examples", "cases", "decode-logs")
-CAPTURE = os.path.join(CASES, "row_twice_with_a_reset.capture")
-
-# Where each frame of the capture begins, and how many bytes are written for the frames before it.
-BEGINS = [(0, 0), (272, 11), (277, 16), (549, 27)]
+EXAMPLES = os.path.join(os.path.dirname(os.path.abspath(__file__)), "..", "examples")
+REQUESTS = {"logs": "pairs_pause", "traces": "row_events_pause", "metrics": "row_points_pause"}
 
 
-def expected(written, cut):
-    """What is written for the first `cut` bytes, what is said, and the status."""
-    place, length = max(begin for begin in BEGINS if begin[0] <= cut)
-    if place == cut:
-        return written[:length], b"", 0
-    return written[:length], b"damage at %d: Truncated\n" % place, 5
+def read(path):
+    with open(path, "rb") as file:
+        return file.read()
+
+
+def run(program, words, capture):
+    done = subprocess.run([program, *words], input=capture, capture_output=True, check=False)
+    return done.stdout, done.stderr, done.returncode
+
+
+def ends(frames):
+    """Where each frame of a capture ends, after the place where the first one begins."""
+    places = [0]
+    while places[-1] < len(frames):
+        places.append(places[-1] + 5 + int.from_bytes(frames[places[-1] + 1 : places[-1] + 5], "big"))
+    return places
+
+
+def line_ends(text):
+    """Where the lines of each frame end: those of a frame begin with one that names it."""
+    places = [i for i in range(len(text)) if text[i : i + 6] == b"frame " and (i == 0 or text[i - 1 : i] == b"\n")]
+    return places + [len(text)]
+
+
+def wrong_cuts(program, words, capture, written, parts, step):
+    """The cuts of a capture for which a job writes or says something else than is to be."""
+    begins, wrong, tried = ends(capture), [], 0
+    assert len(parts) == len(begins), (words, len(parts), len(begins))
+    for cut in range(len(capture) + 1):
+        near = min(abs(cut - place) for place in begins) <= 6
+        if len(capture) > 1000 and cut % step and not near:
+            continue
+        whole = max(n for n, place in enumerate(begins) if place <= cut)
+        said, status = (b"", 0) if begins[whole] == cut else (b"damage at %d: Truncated\n" % begins[whole], 5)
+        tried += 1
+        if run(program, words, capture[:cut]) != (written[: parts[whole]], said, status):
+            wrong.append(cut)
+    print(f"{' '.join(words)}: {tried} cuts, {len(wrong)} wrong {wrong[:5] if wrong else ''}".rstrip())
+    return len(wrong)
+
+
+def of_signal(program, signal, step):
+    """The jobs of a signal, on some requests and on their batches."""
+    place = os.path.join(EXAMPLES, "transits", signal, REQUESTS[signal] + ".capture")
+    requests = read(place)
+    batches = run(program, ["encode", signal], requests)[0]
+    statuses = run(program, ["status", signal], batches)[0]
+    wrong = wrong_cuts(program, ["encode", signal], requests, batches, ends(batches), step)
+    wrong += wrong_cuts(program, ["tidy", signal], requests, requests, ends(requests), step)
+    wrong += wrong_cuts(program, ["status", signal], batches, statuses, ends(statuses), step)
+    wrong += wrong_cuts(program, ["decode", signal], batches, read(place + ".decode"), ends(read(place + ".decode")), step)
+    for job in ("replay", "schema", "show"):
+        if os.path.exists(f"{place}.{job}"):
+            text = read(f"{place}.{job}")
+            wrong += wrong_cuts(program, [job, signal], batches, text, line_ends(text), step)
+    return wrong
 
 
 def main():
-    program = sys.argv[1]
-    with open(CAPTURE, "rb") as file:
-        capture = file.read()
-    with open(CAPTURE + ".stdout", "rb") as file:
-        written = file.read()
-    wrong = 0
-    for cut in range(len(capture) + 1):
-        run = subprocess.run([program, "decode", "logs"], input=capture[:cut], capture_output=True, check=False)
-        if (run.stdout, run.stderr, run.returncode) != expected(written, cut):
-            print(f"wrong where the capture is cut to {cut} bytes")
-            wrong += 1
-    print(f"{len(capture) + 1} cuts, {wrong} wrong")
+    program, step = sys.argv[1], int(sys.argv[2]) if len(sys.argv) > 2 else 1
+    place = os.path.join(EXAMPLES, "cases", "decode-logs", "row_twice_with_a_reset.capture")
+    written = read(place + ".stdout")
+    wrong = wrong_cuts(program, ["decode", "logs"], read(place), written, ends(written), step)
+    wrong += sum(of_signal(program, signal, step) for signal in REQUESTS)
     sys.exit(1 if wrong else 0)
 
 
