@@ -2,24 +2,24 @@
 use Rattle.std.proofs.Common.{◌≡◌, ◌⊎◌, inl, inr, ℕ, zero, suc, ◌<◌, ◌≤◌, List, ap, subst, arith}
 use Rattle.otlp_load.specs.Load.{requests_at_most}
 use Rattle.otap_gateway.specs.declared.command.Command.{Command}
-use Rattle.otap_gateway.specs.declared.command.Served.{Served}
-use Rattle.otap_gateway.specs.declared.command.Served.TheVariants as served
+use Rattle.otlp_model.specs.declared.request.Signal.{Signal}
+use Rattle.otlp_model.specs.declared.request.Signal.TheVariants as signals
 use Rattle.otap_gateway.specs.declared.load.Load.{Load}
 use Rattle.otap_gateway.specs.Commands.{IsNoCommand, words_of}
 use Rattle.otap_gateway.specs.Loads.{IsLoad, IsNoLoad, IsNotUnderstood, load_words}
 use Rattle.otap_gateway.proofs.EachWords.{each_words, same_words}
 
-abbrev load_of : Served → ℕ → Load
+abbrev load_of : Signal → ℕ → Load
 load_of signal requests = record { signal = signal; requests = requests }
 
 -- the words are those of a load of a signal with so many requests at most, or of none of these
-pub record IsOneOf (words : List (List ℕ)) (signal : Served) (most : ℕ) : Type 0 where
+pub record IsOneOf (words : List (List ℕ)) (signal : Signal) (most : ℕ) : Type 0 where
   pub requests : ℕ
   pub some : 0 < requests
   pub few : requests ≤ most
   pub named : words ≡ load_words (load_of signal requests)
 
-abbrev IsNoneOf : List (List ℕ) → Served → ℕ → Type 0
+abbrev IsNoneOf : List (List ℕ) → Signal → ℕ → Type 0
 IsNoneOf words signal most = (requests : ℕ) → 0 < requests → requests ≤ most → words ≡ load_words (load_of signal requests) → ⊥
 
 last_or_below : (n most : ℕ) → n ≤ suc most → (n ≡ suc most) ⊎ (n ≤ most)
@@ -31,7 +31,7 @@ last_or_below (suc n) (suc most) few = by (last_or_below n most (omega (arith, f
     by (inl last) = inl (ap suc last)
     by (inr below) = inr (omega (arith, below))
 
-one_of : (words : List (List ℕ)) (signal : Served) (most : ℕ) → IsOneOf words signal most ⊎ IsNoneOf words signal most
+one_of : (words : List (List ℕ)) (signal : Signal) (most : ℕ) → IsOneOf words signal most ⊎ IsNoneOf words signal most
 one_of words signal zero = inr (λ requests some few named. absurd (omega (arith, some, few)))
 one_of words signal (suc most) = by (same_words words (load_words (load_of signal (suc most)))) (one_of words signal most)
   where
@@ -50,23 +50,23 @@ abbrev IsOfLoad : List (List ℕ) → Type 0
 IsOfLoad words = (load : Load) × IsLoad load × (words ≡ load_words load)
 
 each_load : (words : List (List ℕ)) → IsOfLoad words ⊎ IsNoLoad words
-each_load words = by (one_of words served.Traces requests_at_most) (one_of words served.Logs requests_at_most) (one_of words served.Metrics requests_at_most)
+each_load words = by (one_of words signals.Traces requests_at_most) (one_of words signals.Logs requests_at_most) (one_of words signals.Metrics requests_at_most)
   where
-    found : (signal : Served) → IsOneOf words signal requests_at_most → IsOfLoad words
+    found : (signal : Signal) → IsOneOf words signal requests_at_most → IsOfLoad words
     found signal one = (load_of signal one.requests, record { some = one.some; few = one.few }, one.named)
 
-    none : IsNoneOf words served.Traces requests_at_most → IsNoneOf words served.Logs requests_at_most → IsNoneOf words served.Metrics requests_at_most
-        → (signal : Served) → IsNoneOf words signal requests_at_most
-    none traces logs metrics served.Traces = traces
-    none traces logs metrics served.Logs = logs
-    none traces logs metrics served.Metrics = metrics
+    none : IsNoneOf words signals.Traces requests_at_most → IsNoneOf words signals.Logs requests_at_most → IsNoneOf words signals.Metrics requests_at_most
+        → (signal : Signal) → IsNoneOf words signal requests_at_most
+    none traces logs metrics signals.Traces = traces
+    none traces logs metrics signals.Logs = logs
+    none traces logs metrics signals.Metrics = metrics
 
-    by : IsOneOf words served.Traces requests_at_most ⊎ IsNoneOf words served.Traces requests_at_most
-        → IsOneOf words served.Logs requests_at_most ⊎ IsNoneOf words served.Logs requests_at_most
-        → IsOneOf words served.Metrics requests_at_most ⊎ IsNoneOf words served.Metrics requests_at_most → IsOfLoad words ⊎ IsNoLoad words
-    by (inl traces) logs metrics = inl (found served.Traces traces)
-    by (inr no_traces) (inl logs) metrics = inl (found served.Logs logs)
-    by (inr no_traces) (inr no_logs) (inl metrics) = inl (found served.Metrics metrics)
+    by : IsOneOf words signals.Traces requests_at_most ⊎ IsNoneOf words signals.Traces requests_at_most
+        → IsOneOf words signals.Logs requests_at_most ⊎ IsNoneOf words signals.Logs requests_at_most
+        → IsOneOf words signals.Metrics requests_at_most ⊎ IsNoneOf words signals.Metrics requests_at_most → IsOfLoad words ⊎ IsNoLoad words
+    by (inl traces) logs metrics = inl (found signals.Traces traces)
+    by (inr no_traces) (inl logs) metrics = inl (found signals.Logs logs)
+    by (inr no_traces) (inr no_logs) (inl metrics) = inl (found signals.Metrics metrics)
     by (inr no_traces) (inr no_logs) (inr no_metrics) = inr (λ load is named. none no_traces no_logs no_metrics load.signal load.requests is.some is.few named)
 
 pub all_words : (words : List (List ℕ)) → ((job : Command) × (words ≡ words_of job)) ⊎ (IsOfLoad words ⊎ IsNotUnderstood words)

@@ -9,8 +9,6 @@ use Rattle.otlp_model.specs.declared.request.Signal.{Signal}
 use Rattle.otlp_model.specs.declared.request.Signal.TheVariants.{Traces, Logs, Metrics}
 use Rattle.otap_gateway.specs.declared.command.Command.{Command}
 use Rattle.otap_gateway.specs.declared.command.Command.TheVariants as command
-use Rattle.otap_gateway.specs.declared.command.Served.{Served}
-use Rattle.otap_gateway.specs.declared.command.Served.TheVariants as served
 use Rattle.otap_gateway.specs.Commands.{IsNoCommand, words_of}
 
 -- the words are those of this job
@@ -33,76 +31,53 @@ same_words words others = by_test (cases_Bool (pointwise bytes_eq words others))
 names : (words : List (List ℕ)) (job : Command) → Names words job ⊎ NamesNot words job
 names words job = same_words words (words_of job)
 
+-- the words are those of none of the jobs of a word and a signal
+abbrev NoneOf : List (List ℕ) → (Signal → Command) → Type 0
+NoneOf words job = (signal : Signal) → NamesNot words (job signal)
+
 -- one of the jobs of a word and a signal, or none of them
-of_signal : (words : List (List ℕ)) (job : Signal → Command) → ((signal : Signal) × Names words (job signal)) ⊎ ((signal : Signal) → NamesNot words (job signal))
+abbrev OneOf : List (List ℕ) → (Signal → Command) → Type 0
+OneOf words job = ((signal : Signal) × Names words (job signal)) ⊎ NoneOf words job
+
+of_signal : (words : List (List ℕ)) (job : Signal → Command) → OneOf words job
 of_signal words job = by_signal (names words (job Traces)) (names words (job Logs)) (names words (job Metrics))
   where
-    none : NamesNot words (job Traces) → NamesNot words (job Logs) → NamesNot words (job Metrics) → (signal : Signal) → NamesNot words (job signal)
+    none : NamesNot words (job Traces) → NamesNot words (job Logs) → NamesNot words (job Metrics) → NoneOf words job
     none traces logs metrics Traces = traces
     none traces logs metrics Logs = logs
     none traces logs metrics Metrics = metrics
 
     by_signal : Names words (job Traces) ⊎ NamesNot words (job Traces) → Names words (job Logs) ⊎ NamesNot words (job Logs) → Names words (job Metrics) ⊎ NamesNot words (job Metrics)
-        → ((signal : Signal) × Names words (job signal)) ⊎ ((signal : Signal) → NamesNot words (job signal))
+        → OneOf words job
     by_signal (inl traces) logs metrics = inl (Traces, traces)
     by_signal (inr no_traces) (inl logs) metrics = inl (Logs, logs)
     by_signal (inr no_traces) (inr no_logs) (inl metrics) = inl (Metrics, metrics)
     by_signal (inr no_traces) (inr no_logs) (inr no_metrics) = inr (none no_traces no_logs no_metrics)
 
--- a signal, or none of them
-abbrev OneOf : {S : Type 0} → List (List ℕ) → (S → Command) → Type 0
-OneOf {S} words job = ((signal : S) × Names words (job signal)) ⊎ ((signal : S) → NamesNot words (job signal))
-
-of_served : (words : List (List ℕ)) (job : Served → Command) → OneOf words job
-of_served words job = by_signal (names words (job served.Traces)) (names words (job served.Logs)) (names words (job served.Metrics))
-  where
-    none : NamesNot words (job served.Traces) → NamesNot words (job served.Logs) → NamesNot words (job served.Metrics) → (signal : Served) → NamesNot words (job signal)
-    none traces logs metrics served.Traces = traces
-    none traces logs metrics served.Logs = logs
-    none traces logs metrics served.Metrics = metrics
-
-    by_signal : Names words (job served.Traces) ⊎ NamesNot words (job served.Traces) → Names words (job served.Logs) ⊎ NamesNot words (job served.Logs)
-        → Names words (job served.Metrics) ⊎ NamesNot words (job served.Metrics) → OneOf words job
-    by_signal (inl traces) logs metrics = inl (served.Traces, traces)
-    by_signal (inr no_traces) (inl logs) metrics = inl (served.Logs, logs)
-    by_signal (inr no_traces) (inr no_logs) (inl metrics) = inl (served.Metrics, metrics)
-    by_signal (inr no_traces) (inr no_logs) (inr no_metrics) = inr (none no_traces no_logs no_metrics)
-
--- the jobs of an exporter and of a receiver, or none of them
-abbrev NoServed : List (List ℕ) → Type 0
-NoServed words = ((signal : Served) → NamesNot words (command.Encode signal)) × ((signal : Served) → NamesNot words (command.Decode signal))
-    × ((signal : Served) → NamesNot words (command.Status signal)) × ((signal : Served) → NamesNot words (command.Replay signal))
-
-of_served_jobs : (words : List (List ℕ)) → ((job : Command) × (words ≡ words_of job)) ⊎ NoServed words
-of_served_jobs words = by_job (of_served words command.Encode) (of_served words command.Decode) (of_served words command.Status) (of_served words command.Replay)
-  where
-    by_job : OneOf words command.Encode → OneOf words command.Decode → OneOf words command.Status → OneOf words command.Replay
-        → ((job : Command) × (words ≡ words_of job)) ⊎ NoServed words
-    by_job (inl encode) decode status replay = inl (command.Encode encode.0, encode.1)
-    by_job (inr no_encode) (inl decode) status replay = inl (command.Decode decode.0, decode.1)
-    by_job (inr no_encode) (inr no_decode) (inl status) replay = inl (command.Status status.0, status.1)
-    by_job (inr no_encode) (inr no_decode) (inr no_status) (inl replay) = inl (command.Replay replay.0, replay.1)
-    by_job (inr no_encode) (inr no_decode) (inr no_status) (inr no_replay) = inr (no_encode, no_decode, no_status, no_replay)
-
 pub each_words : (words : List (List ℕ)) → ((job : Command) × (words ≡ words_of job)) ⊎ IsNoCommand words
-each_words words = by_job (names words command.List) (of_signal words command.Tidy) (of_signal words command.Schema) (of_signal words command.Show) (of_served_jobs words)
+each_words words = by_job (names words command.List) (of_signal words command.Tidy) (of_signal words command.Encode) (of_signal words command.Schema) (of_signal words command.Show)
+    (of_signal words command.Decode) (of_signal words command.Status) (of_signal words command.Replay)
   where
-    none : NamesNot words command.List → ((signal : Signal) → NamesNot words (command.Tidy signal)) → ((signal : Signal) → NamesNot words (command.Schema signal))
-        → ((signal : Signal) → NamesNot words (command.Show signal)) → NoServed words → IsNoCommand words
-    none list tidy schema show others command.List = list
-    none list tidy schema show others (command.Tidy signal) = tidy signal
-    none list tidy schema show others (command.Schema signal) = schema signal
-    none list tidy schema show others (command.Show signal) = show signal
-    none list tidy schema show others (command.Encode signal) = others.0 signal
-    none list tidy schema show others (command.Decode signal) = others.1 signal
-    none list tidy schema show others (command.Status signal) = others.2 signal
-    none list tidy schema show others (command.Replay signal) = others.3 signal
+    none : NamesNot words command.List → NoneOf words command.Tidy → NoneOf words command.Encode → NoneOf words command.Schema → NoneOf words command.Show
+        → NoneOf words command.Decode → NoneOf words command.Status → NoneOf words command.Replay → IsNoCommand words
+    none list tidy encode schema show decode status replay command.List = list
+    none list tidy encode schema show decode status replay (command.Tidy signal) = tidy signal
+    none list tidy encode schema show decode status replay (command.Encode signal) = encode signal
+    none list tidy encode schema show decode status replay (command.Schema signal) = schema signal
+    none list tidy encode schema show decode status replay (command.Show signal) = show signal
+    none list tidy encode schema show decode status replay (command.Decode signal) = decode signal
+    none list tidy encode schema show decode status replay (command.Status signal) = status signal
+    none list tidy encode schema show decode status replay (command.Replay signal) = replay signal
 
-    by_job : Names words command.List ⊎ NamesNot words command.List → OneOf words command.Tidy → OneOf words command.Schema → OneOf words command.Show
-        → ((job : Command) × (words ≡ words_of job)) ⊎ NoServed words → ((job : Command) × (words ≡ words_of job)) ⊎ IsNoCommand words
-    by_job (inl list) tidy schema show others = inl (command.List, list)
-    by_job (inr no_list) (inl tidy) schema show others = inl (command.Tidy tidy.0, tidy.1)
-    by_job (inr no_list) (inr no_tidy) (inl schema) show others = inl (command.Schema schema.0, schema.1)
-    by_job (inr no_list) (inr no_tidy) (inr no_schema) (inl show) others = inl (command.Show show.0, show.1)
-    by_job (inr no_list) (inr no_tidy) (inr no_schema) (inr no_show) (inl others) = inl others
-    by_job (inr no_list) (inr no_tidy) (inr no_schema) (inr no_show) (inr no_others) = inr (none no_list no_tidy no_schema no_show no_others)
+    by_job : Names words command.List ⊎ NamesNot words command.List → OneOf words command.Tidy → OneOf words command.Encode → OneOf words command.Schema → OneOf words command.Show
+        → OneOf words command.Decode → OneOf words command.Status → OneOf words command.Replay → ((job : Command) × (words ≡ words_of job)) ⊎ IsNoCommand words
+    by_job (inl list) tidy encode schema show decode status replay = inl (command.List, list)
+    by_job (inr no_list) (inl tidy) encode schema show decode status replay = inl (command.Tidy tidy.0, tidy.1)
+    by_job (inr no_list) (inr no_tidy) (inl encode) schema show decode status replay = inl (command.Encode encode.0, encode.1)
+    by_job (inr no_list) (inr no_tidy) (inr no_encode) (inl schema) show decode status replay = inl (command.Schema schema.0, schema.1)
+    by_job (inr no_list) (inr no_tidy) (inr no_encode) (inr no_schema) (inl show) decode status replay = inl (command.Show show.0, show.1)
+    by_job (inr no_list) (inr no_tidy) (inr no_encode) (inr no_schema) (inr no_show) (inl decode) status replay = inl (command.Decode decode.0, decode.1)
+    by_job (inr no_list) (inr no_tidy) (inr no_encode) (inr no_schema) (inr no_show) (inr no_decode) (inl status) replay = inl (command.Status status.0, status.1)
+    by_job (inr no_list) (inr no_tidy) (inr no_encode) (inr no_schema) (inr no_show) (inr no_decode) (inr no_status) (inl replay) = inl (command.Replay replay.0, replay.1)
+    by_job (inr no_list) (inr no_tidy) (inr no_encode) (inr no_schema) (inr no_show) (inr no_decode) (inr no_status) (inr no_replay)
+        = inr (none no_list no_tidy no_encode no_schema no_show no_decode no_status no_replay)

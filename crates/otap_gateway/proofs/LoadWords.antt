@@ -7,18 +7,18 @@ use Rattle.std.proofs.lemmas.Fmt.{decimal_injective}
 use Rattle.otap_capture.specs.Outside.{Rose}
 use Rattle.otap_gateway.specs.declared.command.Command.{Command}
 use Rattle.otap_gateway.specs.declared.command.Command.TheVariants as command
-use Rattle.otap_gateway.specs.declared.command.Served.{Served}
+use Rattle.otlp_model.specs.declared.request.Signal.{Signal}
 use Rattle.otap_gateway.specs.declared.load.Load.{Load}
 use Rattle.otap_gateway.specs.declared.stop.Stop.{Stop}
 use Rattle.otap_gateway.specs.declared.stop.Stop.TheVariants as stop
-use Rattle.otap_gateway.specs.Commands.{served_word, words_of}
+use Rattle.otap_gateway.specs.Commands.{signal_word, words_of}
 use Rattle.otap_gateway.specs.Loads.{IsLoad, LeavesLoad, RunsLoad, WritesLoad, load_status, load_words}
 use Rattle.otap_gateway.specs.Runs.{Sinks, SinkFaults}
 use Rattle.otap_gateway.specs.Receptions.{meaning_of}
 use Rattle.otap_transit.specs.Transits.{IsReceivedAs}
 use Rattle.otap_produce.specs.Policy.{IsExported, Policy}
 use Rattle.otap_gateway.specs.Encoding.{rows_of}
-use Rattle.otap_gateway.specs.declared.command.Served.TheVariants as served
+use Rattle.otlp_model.specs.declared.request.Signal.TheVariants as signals
 use Rattle.otlp_model.specs.declared.request.Request.{Request}
 use Rattle.histories.specs.EachAfter.{EachAfter}
 use Rattle.otap_gateway.proofs.OneJob.{one_job}
@@ -46,7 +46,7 @@ no_job job load words is says =
 first_word : (a b c d : List ℕ) → a ∷ b ∷ [] ≡ c ∷ d ∷ [] → b ≡ d
 first_word a b c d same = cc same
 
-same_signal : (a b : Served) → served_word a ≡ served_word b → a ≡ b
+same_signal : (a b : Signal) → signal_word a ≡ signal_word b → a ≡ b
 same_signal a b same =
     let job : command.Encode a ≡ command.Encode b = one_job (command.Encode a) (command.Encode b) (ap (λ (word : List ℕ). codes "encode" ∷ word ∷ []) same) in
     cc job
@@ -56,7 +56,7 @@ same_load a b signal requests = λ i. record { signal = signal i; requests = req
 
 one_load : (a b : Load) → IsLoad a → IsLoad b → load_words a ≡ load_words b → a ≡ b
 one_load a b is is' same =
-    let signal : served_word a.signal ≡ served_word b.signal = cc same in
+    let signal : signal_word a.signal ≡ signal_word b.signal = cc same in
     let requests : decimal a.requests ≡ decimal b.requests = cc same in
     let few = is.few in
     let few' = is'.few in
@@ -86,11 +86,11 @@ complete_loads load source source' old new status runs out err = complete load o
 -- ---- the far end
 
 -- a signal's messages are received as their requests
-abbrev pub AreReceived : Served → Type 0
+abbrev pub AreReceived : Signal → Type 0
 AreReceived signal = (requests : List Request) (messages : List (List ℕ)) → All (IsExported (rows_of signal)) requests → Policy (rows_of signal) requests messages
     → EachAfter (IsReceivedAs (meaning_of signal)) [] [] requests messages
 
-pub loads_received : AreReceived served.Traces → AreReceived served.Logs → AreReceived served.Metrics → (signal : Served) → AreReceived signal
-loads_received traces logs metrics served.Traces = traces
-loads_received traces logs metrics served.Logs = logs
-loads_received traces logs metrics served.Metrics = metrics
+pub loads_received : AreReceived signals.Traces → AreReceived signals.Logs → AreReceived signals.Metrics → (signal : Signal) → AreReceived signal
+loads_received traces logs metrics signals.Traces = traces
+loads_received traces logs metrics signals.Logs = logs
+loads_received traces logs metrics signals.Metrics = metrics

@@ -6,7 +6,6 @@ use lib.Pointwise.{pointwise}
 use Rattle.otlp_model.specs.declared.request.Signal.TheVariants.{Traces, Logs, Metrics}
 use Rattle.otap_gateway.specs.declared.command.Command.{Command}
 use Rattle.otap_gateway.specs.declared.command.Command.TheVariants.{List as Listing, Tidy, Encode, Schema, Show, Decode, Status, Replay}
-use Rattle.otap_gateway.specs.declared.command.Served.TheVariants as served
 use Rattle.otap_gateway.specs.declared.stop.Stop.{Stop}
 use Rattle.otap_gateway.specs.declared.stop.Tally.{Tally}
 use Rattle.otap_gateway.specs.Commands.{words_of}
@@ -14,8 +13,8 @@ use Rattle.otap_gateway.specs.Runs.{World, Leaves, Stops, Faults, Runs, status_o
 
 jobs : List Command
 jobs = Listing ∷ Tidy Traces ∷ Tidy Logs ∷ Tidy Metrics ∷ Schema Traces ∷ Schema Logs ∷ Schema Metrics ∷ Show Traces ∷ Show Logs ∷ Show Metrics
-    ∷ Encode served.Traces ∷ Encode served.Logs ∷ Encode served.Metrics ∷ Decode served.Traces ∷ Decode served.Logs ∷ Decode served.Metrics
-    ∷ Status served.Traces ∷ Status served.Logs ∷ Status served.Metrics ∷ Replay served.Traces ∷ Replay served.Logs ∷ Replay served.Metrics ∷ []
+    ∷ Encode Traces ∷ Encode Logs ∷ Encode Metrics ∷ Decode Traces ∷ Decode Logs ∷ Decode Metrics
+    ∷ Status Traces ∷ Status Logs ∷ Status Metrics ∷ Replay Traces ∷ Replay Logs ∷ Replay Metrics ∷ []
 
 -- the first job that has the words
 named : List (List ℕ) → Option Command
@@ -33,18 +32,18 @@ is_named (Schema Metrics) = refl
 is_named (Show Traces) = refl
 is_named (Show Logs) = refl
 is_named (Show Metrics) = refl
-is_named (Encode served.Traces) = refl
-is_named (Encode served.Logs) = refl
-is_named (Encode served.Metrics) = refl
-is_named (Decode served.Traces) = refl
-is_named (Decode served.Logs) = refl
-is_named (Decode served.Metrics) = refl
-is_named (Status served.Traces) = refl
-is_named (Status served.Logs) = refl
-is_named (Status served.Metrics) = refl
-is_named (Replay served.Traces) = refl
-is_named (Replay served.Logs) = refl
-is_named (Replay served.Metrics) = refl
+is_named (Encode Traces) = refl
+is_named (Encode Logs) = refl
+is_named (Encode Metrics) = refl
+is_named (Decode Traces) = refl
+is_named (Decode Logs) = refl
+is_named (Decode Metrics) = refl
+is_named (Status Traces) = refl
+is_named (Status Logs) = refl
+is_named (Status Metrics) = refl
+is_named (Replay Traces) = refl
+is_named (Replay Logs) = refl
+is_named (Replay Metrics) = refl
 
 pub one_job : (a b : Command) → words_of a ≡ words_of b → a ≡ b
 one_job a b is = let same : Some a ≡ Some b = sym (is_named a) ∙ ap named is ∙ is_named b in cc

@@ -9,7 +9,7 @@ use Rattle.otap_capture.specs.Capture.{Frame}
 use Rattle.otap_consume.specs.declared.refusal.Refusal.{Refusal}
 use Rattle.otap_consume.specs.Outcomes.{Outcome}
 use Rattle.otap_consume.specs.Receiving.{ReceivedAfter, Received}
-use Rattle.otap_gateway.specs.declared.command.Served.{Served}
+use Rattle.otlp_model.specs.declared.request.Signal.{Signal}
 use Rattle.otap_gateway.specs.declared.command.Command.TheVariants as command
 use Rattle.otap_gateway.specs.Causes.{cause_name}
 use Rattle.otap_gateway.specs.Commands.{ReplyOf}
@@ -63,22 +63,22 @@ module _ {O : Type 0} (Gives : Giving O) (text : ℕ → O → ReplyText) where
 
 -- ---- the jobs
 
-pub decode_given : (signal : Served) (frames : List Frame) (outcomes : List Outcome) → Received (meaning_of signal) frames outcomes
+pub decode_given : (signal : Signal) (frames : List Frame) (outcomes : List Outcome) → Received (meaning_of signal) frames outcomes
     → EachAfter (ReplyOf (command.Decode signal)) [] [] frames (told (as_taken (meaning_of signal) decoded) 0 outcomes)
 unfolding ReplyOf
 decode_given signal = given (ReceivedAfter (meaning_of signal)) (as_taken (meaning_of signal) decoded)
 
-pub status_given : (signal : Served) (frames : List Frame) (outcomes : List Outcome) → Received (meaning_of signal) frames outcomes
+pub status_given : (signal : Signal) (frames : List Frame) (outcomes : List Outcome) → Received (meaning_of signal) frames outcomes
     → EachAfter (ReplyOf (command.Status signal)) [] [] frames (told (as_taken (meaning_of signal) statused) 0 outcomes)
 unfolding ReplyOf
 status_given signal = given (ReceivedAfter (meaning_of signal)) (as_taken (meaning_of signal) statused)
 
-pub replay_given : (signal : Served) (frames : List Frame) (outcomes : List Outcome) → Received (meaning_of signal) frames outcomes
+pub replay_given : (signal : Signal) (frames : List Frame) (outcomes : List Outcome) → Received (meaning_of signal) frames outcomes
     → EachAfter (ReplyOf (command.Replay signal)) [] [] frames (told (as_taken (meaning_of signal) replayed) 0 outcomes)
 unfolding ReplyOf
 replay_given signal = given (ReceivedAfter (meaning_of signal)) (as_taken (meaning_of signal) replayed)
 
-pub all_given : (signal : Served) (frames : List Frame) → (outcomes : List Outcome) × Received (meaning_of signal) frames outcomes → HaveTexts signal frames
+pub all_given : (signal : Signal) (frames : List Frame) → (outcomes : List Outcome) × Received (meaning_of signal) frames outcomes → HaveTexts signal frames
 all_given signal frames some = record {
   outcomes = some.0;
   received = some.1;
@@ -87,22 +87,22 @@ all_given signal frames some = record {
   replay = replay_given signal frames some.0 some.1;
 }
 
-pub decode_back : (signal : Served) (frames : List Frame) (replies : List ReplyText) → EachAfter (ReplyOf (command.Decode signal)) [] [] frames replies
+pub decode_back : (signal : Signal) (frames : List Frame) (replies : List ReplyText) → EachAfter (ReplyOf (command.Decode signal)) [] [] frames replies
     → (outcomes : List Outcome) × Received (meaning_of signal) frames outcomes × (replies ≡ told (as_taken (meaning_of signal) decoded) 0 outcomes)
 unfolding ReplyOf
 decode_back signal = gives_back (ReceivedAfter (meaning_of signal)) (as_taken (meaning_of signal) decoded)
 
-pub status_back : (signal : Served) (frames : List Frame) (replies : List ReplyText) → EachAfter (ReplyOf (command.Status signal)) [] [] frames replies
+pub status_back : (signal : Signal) (frames : List Frame) (replies : List ReplyText) → EachAfter (ReplyOf (command.Status signal)) [] [] frames replies
     → (outcomes : List Outcome) × Received (meaning_of signal) frames outcomes × (replies ≡ told (as_taken (meaning_of signal) statused) 0 outcomes)
 unfolding ReplyOf
 status_back signal = gives_back (ReceivedAfter (meaning_of signal)) (as_taken (meaning_of signal) statused)
 
-pub replay_back : (signal : Served) (frames : List Frame) (replies : List ReplyText) → EachAfter (ReplyOf (command.Replay signal)) [] [] frames replies
+pub replay_back : (signal : Signal) (frames : List Frame) (replies : List ReplyText) → EachAfter (ReplyOf (command.Replay signal)) [] [] frames replies
     → (outcomes : List Outcome) × Received (meaning_of signal) frames outcomes × (replies ≡ told (as_taken (meaning_of signal) replayed) 0 outcomes)
 unfolding ReplyOf
 replay_back signal = gives_back (ReceivedAfter (meaning_of signal)) (as_taken (meaning_of signal) replayed)
 
-pub encode_back : (signal : Served) (frames : List Frame) (replies : List ReplyText) → EachAfter (ReplyOf (command.Encode signal)) [] [] frames replies
+pub encode_back : (signal : Signal) (frames : List Frame) (replies : List ReplyText) → EachAfter (ReplyOf (command.Encode signal)) [] [] frames replies
     → (outcomes : List Encoded) × Gave (Encodes (rows_of signal) (meaning_of signal)) frames outcomes × (replies ≡ told encoded 0 outcomes)
 unfolding ReplyOf
 encode_back signal = gives_back (Encodes (rows_of signal) (meaning_of signal)) encoded

@@ -8,7 +8,7 @@ use Rattle.otap_capture.specs.Capture as capture
 use Rattle.otap_consume.specs.Meanings.{Meaning}
 use Rattle.otap_produce.specs.Policy.{Rows}
 use Rattle.otap_transit.specs.Sendings.{Sending, Sent, Reset, AreAllowed, IsAllowed, frame_of}
-use Rattle.otap_gateway.specs.declared.command.Served.{Served}
+use Rattle.otlp_model.specs.declared.request.Signal.{Signal}
 use Rattle.otap_gateway.specs.declared.command.Command.TheVariants as command
 use Rattle.otap_gateway.specs.Commands.{ReplyOf}
 use Rattle.otap_gateway.specs.Encoding.{Encoded, Puts, Refuses, Encodes, Arrives, encoded, rows_of, sent}
@@ -73,7 +73,7 @@ module _ (rows : Rows) (messages : MessagesAreRead) (resets : IsFrame reset_fram
         capture = subst (λ (l : List ℕ). length l < capture_limit → IsCapture l (map frame_of (sent os)) None) out (capture_of (sent os) allowed);
       }
 
-pub read_back : (signal : Served) → MessagesAreRead → IsFrame reset_frame capture.Reset → ((ss : List Sending) → AreAllowed (rows_of signal) ss → Arrives (meaning_of signal) ss)
+pub read_back : (signal : Signal) → MessagesAreRead → IsFrame reset_frame capture.Reset → ((ss : List Sending) → AreAllowed (rows_of signal) ss → Arrives (meaning_of signal) ss)
     → (frames : List Frame) (replies : List ReplyText) → EachAfter (ReplyOf (command.Encode signal)) [] [] frames replies
     → IsReadBack (rows_of signal) (meaning_of signal) frames replies
 read_back signal messages resets arrives frames replies each =

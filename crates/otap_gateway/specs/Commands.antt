@@ -5,8 +5,6 @@ use Rattle.otap_consume.specs.Receiving.{ReceivedAfter}
 use Rattle.otlp_model.specs.declared.request.Signal.{Signal}
 use Rattle.otlp_model.specs.declared.request.Signal.TheVariants as signals
 use Rattle.otap_gateway.specs.declared.command.Command.{Command}
-use Rattle.otap_gateway.specs.declared.command.Served.{Served}
-use Rattle.otap_gateway.specs.declared.command.Served.TheVariants as served
 use Rattle.otap_gateway.specs.declared.command.Command.TheVariants as command
 use Rattle.otap_gateway.specs.Encoding.{Encodes, encoded, rows_of}
 use Rattle.otap_gateway.specs.Listing.{ListsFrame}
@@ -22,21 +20,16 @@ signal_word signals.Traces = codes "traces"
 signal_word signals.Logs = codes "logs"
 signal_word signals.Metrics = codes "metrics"
 
-abbrev pub served_word : Served → List ℕ
-served_word served.Traces = codes "traces"
-served_word served.Logs = codes "logs"
-served_word served.Metrics = codes "metrics"
-
 -- the words of a job
 abbrev pub words_of : Command → List (List ℕ)
 words_of command.List = codes "list" ∷ []
 words_of (command.Tidy signal) = codes "tidy" ∷ signal_word signal ∷ []
-words_of (command.Encode signal) = codes "encode" ∷ served_word signal ∷ []
+words_of (command.Encode signal) = codes "encode" ∷ signal_word signal ∷ []
 words_of (command.Schema signal) = codes "schema" ∷ signal_word signal ∷ []
 words_of (command.Show signal) = codes "show" ∷ signal_word signal ∷ []
-words_of (command.Decode signal) = codes "decode" ∷ served_word signal ∷ []
-words_of (command.Status signal) = codes "status" ∷ served_word signal ∷ []
-words_of (command.Replay signal) = codes "replay" ∷ served_word signal ∷ []
+words_of (command.Decode signal) = codes "decode" ∷ signal_word signal ∷ []
+words_of (command.Status signal) = codes "status" ∷ signal_word signal ∷ []
+words_of (command.Replay signal) = codes "replay" ∷ signal_word signal ∷ []
 
 -- words that are those of no job over a capture
 abbrev pub IsNoCommand : List (List ℕ) → Type 0

@@ -20,17 +20,17 @@ use Rattle.otlp_model.specs.Limits.{item_limit, weight_limit}
 use Rattle.otlp_model.specs.declared.request.Request.{Request}
 use Rattle.otlp_model.specs.Telemetry.{telemetry}
 use Rattle.otlp_model.specs.Weight.{weight_of}
-use Rattle.otap_gateway.specs.declared.command.Served.{Served}
-use Rattle.otap_gateway.specs.declared.command.Served.TheVariants as served
+use Rattle.otlp_model.specs.declared.request.Signal.{Signal}
+use Rattle.otlp_model.specs.declared.request.Signal.TheVariants as signals
 use Rattle.otap_gateway.specs.Lines.{printed}
 use Rattle.otap_gateway.specs.RefusedRequests.{refused_request}
 use Rattle.otap_gateway.specs.Reply.{ReplyText}
 
 -- the tables that requests of a signal are written as
-abbrev pub rows_of : Served → Rows
-rows_of served.Traces = spans_rows
-rows_of served.Logs = logs_rows
-rows_of served.Metrics = metrics_rows
+abbrev pub rows_of : Signal → Rows
+rows_of signals.Traces = spans_rows
+rows_of signals.Logs = logs_rows
+rows_of signals.Metrics = metrics_rows
 
 -- ---- what a frame gives
 

@@ -15,7 +15,7 @@ use Rattle.otlp_model.specs.declared.request.Signal.{Signal}
 use Rattle.otlp_model.specs.Telemetry.{telemetry}
 use Rattle.otap_gateway.specs.declared.load.Load.{Load}
 use Rattle.otap_gateway.specs.declared.stop.Stop.{Stop}
-use Rattle.otap_gateway.specs.Commands.{IsNoCommand, served_word}
+use Rattle.otap_gateway.specs.Commands.{IsNoCommand, signal_word}
 use Rattle.otap_gateway.specs.Encoding.{rows_of}
 use Rattle.otap_gateway.specs.Lines.{line_feed}
 use Rattle.otap_gateway.specs.Runs.{Sinks, SinkFaults, IsFlushed, stop_status}
@@ -24,7 +24,7 @@ use Rattle.otap_gateway.specs.Runs.{Sinks, SinkFaults, IsFlushed, stop_status}
 
 -- the words of a load: its signal, and how many requests
 abbrev pub load_words : Load → List (List ℕ)
-load_words load = codes "selfrun" ∷ served_word load.signal ∷ decimal load.requests ∷ []
+load_words load = codes "selfrun" ∷ signal_word load.signal ∷ decimal load.requests ∷ []
 
 -- a load has from 1 to 1,000 requests
 pub record IsLoad (load : Load) : Type 0 where

@@ -18,18 +18,18 @@ use Rattle.otap_consume.specs.Receivers.{taken_of}
 use Rattle.otap_consume.specs.Receiving.{ReceivedAfter}
 use Rattle.otap_consume.specs.Segments.{SegmentIn, StandsFor}
 use Rattle.otap_consume.specs.SpansMeaning.{spans_meaning}
-use Rattle.otap_gateway.specs.declared.command.Served.{Served}
-use Rattle.otap_gateway.specs.declared.command.Served.TheVariants as served
+use Rattle.otlp_model.specs.declared.request.Signal.{Signal}
+use Rattle.otlp_model.specs.declared.request.Signal.TheVariants as signals
 use Rattle.otap_gateway.specs.Causes.{cause_name}
 use Rattle.otap_gateway.specs.Lines.{reset_line, batch_head, refused_line, or_dash, line_feed, printed, refuses}
 use Rattle.otap_gateway.specs.Reply.{ReplyText}
 use Rattle.otap_gateway.specs.Told.{HasTold}
 
 -- what the tables of a signal mean
-abbrev pub meaning_of : Served → Meaning
-meaning_of served.Traces = spans_meaning
-meaning_of served.Logs = logs_meaning
-meaning_of served.Metrics = metrics_meaning
+abbrev pub meaning_of : Signal → Meaning
+meaning_of signals.Traces = spans_meaning
+meaning_of signals.Logs = logs_meaning
+meaning_of signals.Metrics = metrics_meaning
 
 -- ---- what each job prints of what a frame gave
 

@@ -5,13 +5,13 @@ use Rattle.otap_capture.specs.Capture.{Frame}
 use Rattle.otap_consume.specs.Outcomes.{Outcome}
 use Rattle.otap_consume.specs.Receiving.{Received}
 use Rattle.otap_gateway.specs.declared.command.Command.TheVariants as command
-use Rattle.otap_gateway.specs.declared.command.Served.{Served}
+use Rattle.otlp_model.specs.declared.request.Signal.{Signal}
 use Rattle.otap_gateway.specs.Commands.{ReplyOf}
 use Rattle.otap_gateway.specs.Receptions.{decoded, statused, replayed, as_taken, meaning_of}
 use Rattle.otap_gateway.specs.Told.{told}
 
 -- ONE LIST OF OUTCOMES of the frames gives what `decode`, what `status` and what `replay` may write
-pub record HaveTexts (signal : Served) (frames : List Frame) : Type 0 where
+pub record HaveTexts (signal : Signal) (frames : List Frame) : Type 0 where
   pub outcomes : List Outcome
   pub received : Received (meaning_of signal) frames outcomes
   pub decode : EachAfter (ReplyOf (command.Decode signal)) [] [] frames (told (as_taken (meaning_of signal) decoded) 0 outcomes)

@@ -1,18 +1,9 @@
 //! The jobs by their words.
 ghost use Rattle.std.specs.Prelude.{◌≡◌, ◌≢◌, [], ◌∷◌, MatchOption};
 ghost use Rattle.otlp_model.specs.declared.request.Signal.{Signal};
-ghost use Rattle.otap_gateway.specs.Commands.{IsNoCommand, words_of, signal_word, served_word};
-ghost use Rattle.otap_gateway.specs.declared.command.Served.{Served};
+ghost use Rattle.otap_gateway.specs.Commands.{IsNoCommand, words_of, signal_word};
 
 use otlp_model::Signal;
-
-/// A signal that the jobs of an exporter and of a receiver serve.
-#[derive(Clone, Copy)]
-pub(crate) enum Served {
-    Traces,
-    Logs,
-    Metrics,
-}
 
 /// A job that the program does.
 #[derive(Clone, Copy)]
@@ -22,17 +13,17 @@ pub(crate) enum Command {
     /// The canonical spelling of each request of the signal.
     Tidy(Signal),
     /// The batch message of each request of the signal.
-    Encode(Served),
+    Encode(Signal),
     /// The schemas that the payloads of each batch of the signal begin with.
     Schema(Signal),
     /// The cells of each batch of the signal.
     Show(Signal),
     /// The request of each batch of the signal.
-    Decode(Served),
+    Decode(Signal),
     /// The status of each batch of the signal.
-    Status(Served),
+    Status(Signal),
     /// What each batch of the signal holds.
-    Replay(Served),
+    Replay(Signal),
 }
 
 /// The job of one word.
@@ -52,36 +43,24 @@ pub(crate) fn two_words(job: &str, signal: &str) -> Option<Command>
 {
     match job {
         "tidy" => Some(Command::Tidy(any_signal(signal)?)),
-        "encode" => Some(Command::Encode(served_signal(signal)?)),
+        "encode" => Some(Command::Encode(any_signal(signal)?)),
         "schema" => Some(Command::Schema(any_signal(signal)?)),
         "show" => Some(Command::Show(any_signal(signal)?)),
-        "decode" => Some(Command::Decode(served_signal(signal)?)),
-        "status" => Some(Command::Status(served_signal(signal)?)),
-        "replay" => Some(Command::Replay(served_signal(signal)?)),
+        "decode" => Some(Command::Decode(any_signal(signal)?)),
+        "status" => Some(Command::Status(any_signal(signal)?)),
+        "replay" => Some(Command::Replay(any_signal(signal)?)),
         _ => None,
     }
 }
 
 /// The signal of a word.
-fn any_signal(word: &str) -> Option<Signal>
+pub(crate) fn any_signal(word: &str) -> Option<Signal>
     ensures { MatchOption result ((signal : Signal) → word.now ≢ signal_word signal) (λ signal. word.now ≡ signal_word signal) }
 {
     match word {
         "traces" => Some(Signal::Traces),
         "logs" => Some(Signal::Logs),
         "metrics" => Some(Signal::Metrics),
-        _ => None,
-    }
-}
-
-/// The signal of a word, where the jobs of an exporter and of a receiver serve it.
-pub(crate) fn served_signal(word: &str) -> Option<Served>
-    ensures { MatchOption result ((served : Served) → word.now ≢ served_word served) (λ served. word.now ≡ served_word served) }
-{
-    match word {
-        "traces" => Some(Served::Traces),
-        "logs" => Some(Served::Logs),
-        "metrics" => Some(Served::Metrics),
         _ => None,
     }
 }

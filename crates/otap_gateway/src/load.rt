@@ -4,14 +4,15 @@ ghost use Rattle.std.specs.Fmt.{decimal};
 ghost use Rattle.otlp_load.specs.Load.{requests_at_most};
 ghost use Rattle.otap_gateway.specs.Loads.{IsLoad, IsNoLoad, load_words};
 
-use crate::command::{Served, served_signal};
+use crate::command::any_signal;
 use itoa::Buffer;
 use otlp_load::REQUESTS;
+use otlp_model::Signal;
 
 /// How many requests of a signal the program makes.
 #[derive(Clone, Copy)]
 pub(crate) struct Load {
-    pub(crate) signal: Served,
+    pub(crate) signal: Signal,
     pub(crate) requests: u32,
 }
 
@@ -22,7 +23,7 @@ pub(crate) fn three_words(job: &str, signal: &str, requests: &str) -> Option<Loa
 {
     match job {
         "selfrun" => Some(Load {
-            signal: served_signal(signal)?,
+            signal: any_signal(signal)?,
             requests: count_of(requests)?,
         }),
         _ => None,

@@ -4,8 +4,8 @@ ghost use Rattle.otap_capture.specs.Capture.{Frame};
 ghost use Rattle.otap_consume.specs.declared.taken.Taken.{Taken};
 ghost use Rattle.otap_consume.specs.Receivers.{Receives};
 ghost use Rattle.otap_consume.specs.Segments.{SegmentIn};
-ghost use Rattle.otap_gateway.specs.declared.command.Served.{Served};
-ghost use Rattle.otap_gateway.specs.declared.command.Served.TheVariants as served;
+ghost use Rattle.otlp_model.specs.declared.request.Signal.{Signal};
+ghost use Rattle.otlp_model.specs.declared.request.Signal.TheVariants as signals;
 ghost use Rattle.otap_gateway.specs.Lines.{refuses};
 ghost use Rattle.otap_gateway.specs.Receptions.{line_of, meaning_of};
 
@@ -17,7 +17,7 @@ use std::alloc::{AllocError, Global};
 
 /// A signal that the jobs of a receiver serve: its tables mean what the texts say of them.
 pub(crate) trait Serves: Telemetry {
-    ghost served: { Served };
+    ghost served: { Signal };
 
     ghost of_signal: { Self.meaning.signal ≡ (meaning_of served).signal };
 
@@ -28,7 +28,7 @@ pub(crate) trait Serves: Telemetry {
 impl Serves for Spans {
     ghost use Rattle.std.specs.Prelude.{refl};
 
-    ghost served = { served.Traces };
+    ghost served = { signals.Traces };
 
     ghost of_signal = { refl };
 
@@ -38,7 +38,7 @@ impl Serves for Spans {
 impl Serves for Logs {
     ghost use Rattle.std.specs.Prelude.{refl};
 
-    ghost served = { served.Logs };
+    ghost served = { signals.Logs };
 
     ghost of_signal = { refl };
 
@@ -48,7 +48,7 @@ impl Serves for Logs {
 impl Serves for Metrics {
     ghost use Rattle.std.specs.Prelude.{refl};
 
-    ghost served = { served.Metrics };
+    ghost served = { signals.Metrics };
 
     ghost of_signal = { refl };
 

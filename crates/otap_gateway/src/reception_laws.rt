@@ -7,7 +7,7 @@ ghost use Rattle.otap_consume.specs.declared.refusal.Refusal.{Refusal};
 ghost use Rattle.otap_consume.specs.Outcomes.{Outcome};
 ghost use Rattle.otap_consume.specs.Receiving.{Received};
 ghost use Rattle.otap_gateway.specs.declared.command.Command.TheVariants as command;
-ghost use Rattle.otap_gateway.specs.declared.command.Served.{Served};
+ghost use Rattle.otlp_model.specs.declared.request.Signal.{Signal};
 ghost use Rattle.otap_gateway.specs.Commands.{ReplyOf};
 ghost use Rattle.otap_gateway.specs.Lines.{batch_head, or_dash, line_feed};
 ghost use Rattle.otap_gateway.specs.Receptions.{decoded, statused, replayed, as_taken, meaning_of, line_of, refusal_status};
@@ -20,27 +20,27 @@ use otap_consume::{Logs, Metrics, Spans};
 
 /// One list of outcomes of the frames of a capture gives what `decode`, what `status` and what `replay` may write.
 pub fn outcomes_give_the_texts()
-    ensures decode { (signal : Served) (frames : List Frame) (outcomes : List Outcome) → Received (meaning_of signal) frames outcomes
+    ensures decode { (signal : Signal) (frames : List Frame) (outcomes : List Outcome) → Received (meaning_of signal) frames outcomes
         → EachAfter (ReplyOf (command.Decode signal)) [] [] frames (told (as_taken (meaning_of signal) decoded) 0 outcomes) }
-    ensures status { (signal : Served) (frames : List Frame) (outcomes : List Outcome) → Received (meaning_of signal) frames outcomes
+    ensures status { (signal : Signal) (frames : List Frame) (outcomes : List Outcome) → Received (meaning_of signal) frames outcomes
         → EachAfter (ReplyOf (command.Status signal)) [] [] frames (told (as_taken (meaning_of signal) statused) 0 outcomes) }
-    ensures replay { (signal : Served) (frames : List Frame) (outcomes : List Outcome) → Received (meaning_of signal) frames outcomes
+    ensures replay { (signal : Signal) (frames : List Frame) (outcomes : List Outcome) → Received (meaning_of signal) frames outcomes
         → EachAfter (ReplyOf (command.Replay signal)) [] [] frames (told (as_taken (meaning_of signal) replayed) 0 outcomes) }
 {}
 
 /// What each of these jobs writes is given by one list of outcomes of the frames of the capture.
 pub fn texts_have_outcomes()
-    ensures decode { (signal : Served) (frames : List Frame) (replies : List ReplyText) → EachAfter (ReplyOf (command.Decode signal)) [] [] frames replies
+    ensures decode { (signal : Signal) (frames : List Frame) (replies : List ReplyText) → EachAfter (ReplyOf (command.Decode signal)) [] [] frames replies
         → (outcomes : List Outcome) × Received (meaning_of signal) frames outcomes × (replies ≡ told (as_taken (meaning_of signal) decoded) 0 outcomes) }
-    ensures status { (signal : Served) (frames : List Frame) (replies : List ReplyText) → EachAfter (ReplyOf (command.Status signal)) [] [] frames replies
+    ensures status { (signal : Signal) (frames : List Frame) (replies : List ReplyText) → EachAfter (ReplyOf (command.Status signal)) [] [] frames replies
         → (outcomes : List Outcome) × Received (meaning_of signal) frames outcomes × (replies ≡ told (as_taken (meaning_of signal) statused) 0 outcomes) }
-    ensures replay { (signal : Served) (frames : List Frame) (replies : List ReplyText) → EachAfter (ReplyOf (command.Replay signal)) [] [] frames replies
+    ensures replay { (signal : Signal) (frames : List Frame) (replies : List ReplyText) → EachAfter (ReplyOf (command.Replay signal)) [] [] frames replies
         → (outcomes : List Outcome) × Received (meaning_of signal) frames outcomes × (replies ≡ told (as_taken (meaning_of signal) replayed) 0 outcomes) }
 {}
 
 /// For each capture, one list of outcomes of its frames gives what `decode`, what `status` and what `replay` may write.
 pub fn captures_have_texts()
-    ensures { (signal : Served) (bytes : List ℕ) (frames : List Frame) (end : Option Damage) → All (λ byte. byte < 256) bytes → IsCapture bytes frames end
+    ensures { (signal : Signal) (bytes : List ℕ) (frames : List Frame) (end : Option Damage) → All (λ byte. byte < 256) bytes → IsCapture bytes frames end
         → HaveTexts signal frames }
 {
     received_some_outcome::<Spans>();

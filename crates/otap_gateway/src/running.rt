@@ -8,7 +8,7 @@ ghost use Rattle.otap_gateway.specs.declared.load.Load.{Load};
 ghost use Rattle.otap_gateway.specs.Loads.{IsLoad, IsNotUnderstood, RunsLoad, load_words};
 ghost use Rattle.otap_gateway.specs.Runs.{sinks, world, Leaves, Stops, Faults, SinkFaults, LeavesLine, Runs, RefusesWords};
 
-use crate::command::{Command, Served};
+use crate::command::Command;
 use crate::drive::{drive, flush_both};
 use crate::list::Lister;
 use crate::receiving_runs::{decode, replay, tell_statuses};
@@ -78,20 +78,20 @@ fn run_job<S: Source, O: Sink, E: Sink>(
     match job {
         Command::List => drive(alloc, &mut Lister::new(alloc), source, out, err),
         Command::Tidy(signal) => drive(alloc, &mut Tidier::new(signal), source, out, err),
-        Command::Encode(Served::Traces) => encode(alloc, SpanTables, source, out, err),
-        Command::Encode(Served::Logs) => encode(alloc, LogTables, source, out, err),
-        Command::Encode(Served::Metrics) => encode(alloc, MetricTables, source, out, err),
+        Command::Encode(Signal::Traces) => encode(alloc, SpanTables, source, out, err),
+        Command::Encode(Signal::Logs) => encode(alloc, LogTables, source, out, err),
+        Command::Encode(Signal::Metrics) => encode(alloc, MetricTables, source, out, err),
         Command::Schema(signal) => drive(alloc, &mut SchemaLister::new(signal), source, out, err),
         Command::Show(signal) => show(alloc, signal, source, out, err),
-        Command::Decode(Served::Traces) => decode(alloc, Spans, source, out, err),
-        Command::Decode(Served::Logs) => decode(alloc, Logs, source, out, err),
-        Command::Decode(Served::Metrics) => decode(alloc, Metrics, source, out, err),
-        Command::Status(Served::Traces) => tell_statuses(alloc, Spans, source, out, err),
-        Command::Status(Served::Logs) => tell_statuses(alloc, Logs, source, out, err),
-        Command::Status(Served::Metrics) => tell_statuses(alloc, Metrics, source, out, err),
-        Command::Replay(Served::Traces) => replay(alloc, Spans, source, out, err),
-        Command::Replay(Served::Logs) => replay(alloc, Logs, source, out, err),
-        Command::Replay(Served::Metrics) => replay(alloc, Metrics, source, out, err),
+        Command::Decode(Signal::Traces) => decode(alloc, Spans, source, out, err),
+        Command::Decode(Signal::Logs) => decode(alloc, Logs, source, out, err),
+        Command::Decode(Signal::Metrics) => decode(alloc, Metrics, source, out, err),
+        Command::Status(Signal::Traces) => tell_statuses(alloc, Spans, source, out, err),
+        Command::Status(Signal::Logs) => tell_statuses(alloc, Logs, source, out, err),
+        Command::Status(Signal::Metrics) => tell_statuses(alloc, Metrics, source, out, err),
+        Command::Replay(Signal::Traces) => replay(alloc, Spans, source, out, err),
+        Command::Replay(Signal::Logs) => replay(alloc, Logs, source, out, err),
+        Command::Replay(Signal::Metrics) => replay(alloc, Metrics, source, out, err),
     }
 }
 

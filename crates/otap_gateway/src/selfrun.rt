@@ -7,7 +7,6 @@ ghost use Rattle.otap_gateway.specs.Loading.{HasLoaded, IsLoading, LoadsNext};
 ghost use Rattle.otap_gateway.specs.Loads.{IsLoad, LeavesLoad, load_status};
 ghost use Rattle.otap_gateway.specs.Runs.{sinks, SinkFaults};
 
-use crate::command::Served;
 use crate::drive::flush_both;
 use crate::load::Load;
 use crate::loads::Loads;
@@ -17,6 +16,7 @@ use otap_capture::{Sink, write_frame, write_whole};
 use otap_produce::{Exporter, LogTables, MetricTables, ProduceRefusal, SpanTables};
 use otlp_load::laws::{requests_are_within_the_limits, requests_have_their_items};
 use otlp_load::{ITEMS, generated};
+use otlp_model::Signal;
 use std::alloc::{AllocError, Global};
 
 /// The requests of a load, as they are exported one after the other.
@@ -90,9 +90,9 @@ pub(crate) fn run_load<O: Sink, E: Sink>(
         (sinks O.Sink out.new E.Sink err.new) result }
 {
     match load.signal {
-        Served::Traces => send_load::<SpanTables, O, E>(alloc, load, out, err),
-        Served::Logs => send_load::<LogTables, O, E>(alloc, load, out, err),
-        Served::Metrics => send_load::<MetricTables, O, E>(alloc, load, out, err),
+        Signal::Traces => send_load::<SpanTables, O, E>(alloc, load, out, err),
+        Signal::Logs => send_load::<LogTables, O, E>(alloc, load, out, err),
+        Signal::Metrics => send_load::<MetricTables, O, E>(alloc, load, out, err),
     }
 }
 

@@ -1,7 +1,7 @@
 //! What the jobs of an exporter share.
 ghost use Rattle.std.specs.Prelude.{◌≡◌, List};
-ghost use Rattle.otap_gateway.specs.declared.command.Served.{Served};
-ghost use Rattle.otap_gateway.specs.declared.command.Served.TheVariants as served;
+ghost use Rattle.otlp_model.specs.declared.request.Signal.{Signal};
+ghost use Rattle.otlp_model.specs.declared.request.Signal.TheVariants as signals;
 ghost use Rattle.otap_gateway.specs.Encoding.{Arrives, rows_of};
 ghost use Rattle.otap_gateway.specs.Receptions.{meaning_of};
 ghost use Rattle.otap_transit.specs.Sendings.{AreAllowed, Sending};
@@ -14,7 +14,7 @@ use otap_transit::laws::{
 
 /// A signal that the jobs of an exporter serve: its requests are written as tables that mean the same.
 pub(crate) trait Sends: Tabled {
-    ghost served: { Served };
+    ghost served: { Signal };
 
     /// Law: what is sent arrives.
     fn what_is_sent_arrives()
@@ -26,7 +26,7 @@ pub(crate) trait Sends: Tabled {
 impl Sends for SpanTables {
     ghost use Rattle.std.specs.Prelude.{refl};
 
-    ghost served = { served.Traces };
+    ghost served = { signals.Traces };
 
     fn what_is_sent_arrives() {
         what_is_sent_arrives::<Spans>();
@@ -39,7 +39,7 @@ impl Sends for SpanTables {
 impl Sends for LogTables {
     ghost use Rattle.std.specs.Prelude.{refl};
 
-    ghost served = { served.Logs };
+    ghost served = { signals.Logs };
 
     fn what_is_sent_arrives() {
         what_is_sent_arrives::<Logs>();
@@ -52,7 +52,7 @@ impl Sends for LogTables {
 impl Sends for MetricTables {
     ghost use Rattle.std.specs.Prelude.{refl};
 
-    ghost served = { served.Metrics };
+    ghost served = { signals.Metrics };
 
     fn what_is_sent_arrives() {
         what_is_sent_arrives::<Metrics>();

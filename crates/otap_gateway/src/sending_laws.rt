@@ -3,7 +3,7 @@ ghost use Rattle.std.specs.Prelude.{◌≡◌, [], List};
 ghost use Rattle.histories.specs.EachAfter.{EachAfter};
 ghost use Rattle.otap_capture.specs.Capture.{Frame};
 ghost use Rattle.otap_gateway.specs.declared.command.Command.TheVariants as command;
-ghost use Rattle.otap_gateway.specs.declared.command.Served.{Served};
+ghost use Rattle.otlp_model.specs.declared.request.Signal.{Signal};
 ghost use Rattle.otap_gateway.specs.Commands.{ReplyOf};
 ghost use Rattle.otap_gateway.specs.Encoding.{Encoded, Encodes, encoded, rows_of};
 ghost use Rattle.otap_gateway.specs.ReadBack.{IsReadBack};
@@ -17,14 +17,14 @@ use otap_produce::{LogTables, MetricTables, SpanTables};
 
 /// What `encode` writes is given by one list of what the frames of the capture gave, and all of it arrives.
 pub fn encoded_texts_have_outcomes()
-    ensures { (signal : Served) (frames : List Frame) (replies : List ReplyText) → EachAfter (ReplyOf (command.Encode signal)) [] [] frames replies
+    ensures { (signal : Signal) (frames : List Frame) (replies : List ReplyText) → EachAfter (ReplyOf (command.Encode signal)) [] [] frames replies
         → (outcomes : List Encoded) × Gave (Encodes (rows_of signal) (meaning_of signal)) frames outcomes × (replies ≡ told encoded 0 outcomes) }
 {}
 
 /// What `encode` writes, read as one capture where it has fewer than 2^40 bytes, is the frames of what it sent, and all of it
 /// arrives: each message is accepted and means the same telemetry as its request.
 pub fn what_is_written_is_read()
-    ensures { (signal : Served) (frames : List Frame) (replies : List ReplyText) → EachAfter (ReplyOf (command.Encode signal)) [] [] frames replies
+    ensures { (signal : Signal) (frames : List Frame) (replies : List ReplyText) → EachAfter (ReplyOf (command.Encode signal)) [] [] frames replies
         → IsReadBack (rows_of signal) (meaning_of signal) frames replies }
 {
     written_is_read();
