@@ -95,10 +95,8 @@ impl Text {
         requires { IsUtf8 part.now }
         ensures { IfOk result (λ text. text ≡ part.now) }
     {
-        match str::from_utf8(part) {
-            Ok(part) => Text::from_str(alloc, part),
-            Err(_) => unreachable!(),
-        }
+        // SAFETY: the part is UTF-8, as the caller has to see to.
+        Text::from_str(alloc, unsafe { str::from_utf8_unchecked(part) })
     }
 
     /// A copy of the part.
@@ -174,10 +172,8 @@ impl Text {
         if let Letters::Long(text) = &self.letters {
             return text.as_str();
         }
-        match str::from_utf8(self.as_slice()) {
-            Ok(text) => text,
-            Err(_) => unreachable!(),
-        }
+        // SAFETY: the bytes of a text are UTF-8.
+        unsafe { str::from_utf8_unchecked(self.as_slice()) }
     }
 
     /// What the text weighs: its bytes.
