@@ -2,7 +2,7 @@ ghost use Rattle.std.specs.Prelude.{◌≡◌, IfOk, IsUtf8};
 
 use std::alloc::{AllocError, Global};
 use std::marker::Model;
-use std::str::from_utf8;
+use std::str::from_utf8_unchecked;
 
 /// The name of a field: bytes that are UTF-8.
 #[derive(Debug, Drop)]
@@ -24,10 +24,8 @@ impl Name {
         requires { IsUtf8 part.now }
         ensures { IfOk result (λ name. name ≡ part.now) }
     {
-        match from_utf8(part) {
-            Ok(text) => Name::from_str(alloc, text),
-            Err(_) => unreachable!(),
-        }
+        // SAFETY: the part is UTF-8, as the caller has to see to.
+        Name::from_str(alloc, unsafe { from_utf8_unchecked(part) })
     }
 
     pub fn from_str(alloc: Global, text: &str) -> Result<Name, AllocError>
