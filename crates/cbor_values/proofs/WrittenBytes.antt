@@ -8,11 +8,11 @@ use Rattle.std.proofs.Math.Utf8.{encode, encodes, scalar, scalars, scalar_cases}
 use Rattle.std.proofs.lemmas.Bool.{and_parts, cases_Bool, cases_lt, le-ltb, lt-ltb}
 use Rattle.otlp_model.specs.declared.value.Value.{Value}
 use Rattle.otlp_model.specs.declared.value.Pair.{Pair}
-use Rattle.otlp_model.specs.Bytes.{is_real_text}
+use Rattle.lists.specs.Bytes.{is_real_text}
 use Rattle.otlp_model.specs.Real.{is_real_value, is_real_pair}
 use Rattle.otlp_model.proofs.Induction.{holds}
 use Rattle.otlp_model.proofs.Levels.{is_real_str, is_real_bytes, is_real_array, is_real_map}
-use Rattle.otlp_model.proofs.RealParts.{bytes_of_real, utf8_of_real}
+use Rattle.lists.proofs.RealBytes.{bytes_of_real, utf8_of_real}
 use Rattle.cbor_values.specs.Heads.{argument_len}
 use Rattle.cbor_values.specs.Written.{head, string, all_of, int, cbor_of, cbor_of_pair}
 use Rattle.cbor_values.proofs.WrittenForm.{written_empty, written_str, written_bool, written_int, written_double, written_bytes, written_array, written_map}

@@ -9,11 +9,11 @@ use Rattle.otlp_model.specs.declared.value.Value as values
 use Rattle.otlp_model.specs.declared.value.Pair.{Pair}
 use Rattle.otlp_model.specs.Weight.{weight_of_value, weight_of_pair, total}
 use Rattle.byteorder.specs.Endian.{big_bytes}
-use Rattle.otlp_model.specs.Bytes.{is_real_text}
+use Rattle.lists.specs.Bytes.{is_real_text}
 use Rattle.otlp_model.specs.Real.{is_real_value, is_real_pair, fits_i64}
 use Rattle.otlp_model.proofs.Induction.{holds}
 use Rattle.otlp_model.proofs.Levels.{weight_of_str, weight_of_bytes, weight_of_array, weight_of_map, is_real_str, is_real_int, is_real_double, is_real_bytes, is_real_array, is_real_map}
-use Rattle.otlp_model.proofs.RealParts.{utf8_of_real, length_of_real_text, length_of_real_octets}
+use Rattle.lists.proofs.RealBytes.{utf8_of_real, length_of_real_text, length_of_real_octets}
 use Rattle.cbor_values.specs.Heads.{IsHead, short, long}
 use Rattle.cbor_values.specs.Strings.{IsString, whole}
 use Rattle.cbor_values.specs.Cbor.{Cbor, Members, Pairs, is_null, is_false, is_true, is_whole, is_negative, is_double, is_bytes, is_text, is_array, is_map, no_member, one_member, no_pair, one_pair}

@@ -3,7 +3,7 @@ use Rattle.std.proofs.Common.{◌≡◌, ℕ, suc, Bool, true, false, List, [], 
 use Rattle.std.specs.Prelude.{ℤ, not, is_ok}
 use Rattle.std.specs.List.{list_any, list_all}
 use Rattle.std.proofs.lemmas.Bool.{cases_Bool, false≢true}
-use Rattle.histories.specs.EachAfter.{AllAfter}
+use Rattle.lists.specs.EachAfter.{AllAfter}
 use Rattle.arrow_schema.specs.declared.spec.FieldSpec.{FieldSpec}
 use Rattle.arrow_buffers.specs.declared.fault.BufferFault.{BufferFault}
 use Rattle.arrow_ipc.specs.declared.messages.IpcMessage.{IpcMessage}

@@ -7,8 +7,8 @@ use Rattle.std.proofs.lemmas.Bool.{cases_Bool}
 use Rattle.std.proofs.lemmas.Grind.{flat_map-append}
 use Rattle.std.proofs.lemmas.List.{map-append}
 use Rattle.std.proofs.lemmas.List.Elements.{All-map, All-nil}
-use Rattle.histories.specs.Since.{since}
-use Rattle.histories.proofs.Latest.{since-append}
+use Rattle.lists.specs.Since.{since}
+use Rattle.lists.proofs.Latest.{since-append}
 use Rattle.arrow_schema.specs.declared.spec.ArrowType.{ArrowType}
 use Rattle.arrow_schema.specs.declared.spec.DictSpec.{DictSpec}
 use Rattle.arrow_schema.specs.declared.spec.FieldSpec.{FieldSpec}

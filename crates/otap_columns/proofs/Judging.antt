@@ -5,10 +5,10 @@ use Rattle.std.specs.List.{list_any, list_all, flat_map}
 use Rattle.std.proofs.lemmas.Bool.{false≢true, and_parts}
 use Rattle.std.proofs.lemmas.List.Folds.{list_any-append}
 use Rattle.std.proofs.lemmas.Grind.{flat_map-append}
-use Rattle.histories.specs.EachAfter.{AllAfter}
-use Rattle.histories.specs.Since.{last_after}
-use Rattle.histories.proofs.Growing.{all_after-append, all_after-weaker}
-use Rattle.histories.proofs.Latest.{last_after-push}
+use Rattle.lists.specs.EachAfter.{AllAfter}
+use Rattle.lists.specs.Since.{last_after}
+use Rattle.lists.proofs.Growing.{all_after-append, all_after-weaker}
+use Rattle.lists.proofs.Latest.{last_after-push}
 use Rattle.arrow_schema.specs.declared.spec.FieldSpec.{FieldSpec}
 use Rattle.arrow_buffers.specs.declared.fault.BufferFault.{BufferFault}
 use Rattle.arrow_ipc.specs.declared.messages.IpcMessage.{IpcMessage}

@@ -8,8 +8,8 @@ use Rattle.std.proofs.lemmas.Bool.Decides.{Decides-int_eq}
 use Rattle.std.proofs.lemmas.List.{length-map}
 use Rattle.std.proofs.lemmas.List.FromFn.{fill_by_all}
 use Rattle.std.proofs.lemmas.List.Elements.{All-get_or}
-use Rattle.histories.specs.EachAfter.{AllAfter}
-use Rattle.histories.proofs.Growing.{all_after-push, all_after-append}
+use Rattle.lists.specs.EachAfter.{AllAfter}
+use Rattle.lists.proofs.Growing.{all_after-push, all_after-append}
 use Rattle.arrow_schema.specs.declared.spec.ArrowType.{ArrowType}
 use Rattle.arrow_schema.specs.declared.spec.DictSpec.{DictSpec}
 use Rattle.arrow_buffers.proofs.EachBelow.{all_below-each}

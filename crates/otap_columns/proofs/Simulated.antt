@@ -6,10 +6,10 @@ use Rattle.std.proofs.lemmas.Bool.{cases_Bool, true≢false}
 use Rattle.std.proofs.lemmas.Grind.{flat_map-append}
 use Rattle.std.proofs.lemmas.List.{length-map, map-append}
 use Rattle.std.proofs.lemmas.List.Folds.{list_any-append}
-use Rattle.histories.specs.EachAfter.{EachAfter, AllAfter}
-use Rattle.histories.specs.Since.{last_after}
-use Rattle.histories.proofs.Growing.{all_after-append}
-use Rattle.histories.proofs.Latest.{last_after-push}
+use Rattle.lists.specs.EachAfter.{EachAfter, AllAfter}
+use Rattle.lists.specs.Since.{last_after}
+use Rattle.lists.proofs.Growing.{all_after-append}
+use Rattle.lists.proofs.Latest.{last_after-push}
 use Rattle.arrow_schema.specs.declared.spec.ArrowType.{ArrowType}
 use Rattle.arrow_schema.specs.declared.spec.FieldSpec.{FieldSpec}
 use Rattle.arrow_ipc.specs.declared.messages.IpcMessage.{IpcMessage}

@@ -1,7 +1,7 @@
 -- How a reader goes through the messages of a record: what the first message of the rest does, or why it is refused.
 use Rattle.std.specs.Prelude.{◌≡◌, ℕ, Bool, true, false, not, List, [], ◌∷◌, ◌++◌, drop, ◌⊎◌, Some, ℤ, Ok}
 use Rattle.std.specs.List.{list_any}
-use Rattle.histories.specs.EachAfter.{AllAfter}
+use Rattle.lists.specs.EachAfter.{AllAfter}
 use Rattle.arrow_schema.specs.declared.spec.FieldSpec.{FieldSpec}
 use Rattle.arrow_schema.specs.Readable.{IsReadable}
 use Rattle.arrow_ipc.specs.declared.fault.IpcFault.{IpcFault}

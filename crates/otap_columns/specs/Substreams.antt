@@ -2,7 +2,7 @@
 use Rattle.std.specs.Prelude.{◌≡◌, ℕ, Bool, true, false, is_some, nat_lt, List, [], ◌∷◌, length, Option, Some, None, option_map, slice_get, slice_index_or, ◌⊎◌}
 use Rattle.std.specs.List.{flat_map}
 use Rattle.byteorder.specs.Endian.{little_number}
-use Rattle.histories.specs.Since.{last_after}
+use Rattle.lists.specs.Since.{last_after}
 use Rattle.arrow_schema.specs.declared.spec.ArrowType.{ArrowType}
 use Rattle.arrow_schema.specs.declared.spec.DictSpec.{DictSpec}
 use Rattle.arrow_schema.specs.declared.spec.FieldSpec.{FieldSpec}

@@ -1,7 +1,7 @@
 //! What the far end reads of what is written. The functions do nothing: their contracts are the laws.
 
 ghost use Rattle.std.specs.Prelude.{◌≡◌, ◌≤◌, ℕ, List, [], length, sum_by};
-ghost use Rattle.histories.specs.EachAfter.{EachAfter};
+ghost use Rattle.lists.specs.EachAfter.{EachAfter};
 ghost use Rattle.otap_cells.specs.declared.payload.Kind.{Kind};
 ghost use Rattle.otlp_model.specs.declared.request.Signal.{Signal};
 ghost use Rattle.otap_cells.specs.Payload.{kinds_of};

@@ -5,7 +5,7 @@ use Rattle.std.specs.List.{AllByRecursion, cons_option, filter_map, flat_map, li
 use Rattle.std.proofs.lemmas.Bool.{cases_lt}
 use Rattle.std.proofs.lemmas.List.{get_or-drop, get_or-take, get_or_past, get_or_default, length-take}
 use Rattle.flat_tables.specs.Bytes.{◌>>=◌}
-use Rattle.histories.specs.Since.{since, last_after}
+use Rattle.lists.specs.Since.{since, last_after}
 
 -- ---- bytes
 

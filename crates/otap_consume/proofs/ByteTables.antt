@@ -4,7 +4,7 @@ use Rattle.std.specs.Prelude.{IfSome, find, if◌then◌else◌, option_and_then
 use Rattle.std.specs.List.{AllByRecursion, flat_map, range_with_len}
 use Rattle.std.specs.Ordering.{int_eq}
 use Rattle.std.proofs.lemmas.Bool.{cases_Bool}
-use Rattle.histories.specs.Since.{since}
+use Rattle.lists.specs.Since.{since}
 use Rattle.otlp_model.specs.declared.request.Signal.{Signal}
 use Rattle.arrow_schema.specs.Limits.{max_depth}
 use Rattle.arrow_schema.specs.declared.spec.ArrowType.{ArrowType}

@@ -6,8 +6,8 @@ use Rattle.std.specs.Ordering.{int_eq}
 use Rattle.std.proofs.lemmas.Bool.{cases_Bool, both_ways}
 use Rattle.std.proofs.lemmas.Bool.Decides.{Decides-int_eq}
 use Rattle.std.proofs.lemmas.List.Sums.{sum_by-cons}
-use Rattle.histories.specs.EachAfter.{AllAfter}
-use Rattle.histories.proofs.Growing.{all_after-at}
+use Rattle.lists.specs.EachAfter.{AllAfter}
+use Rattle.lists.proofs.Growing.{all_after-at}
 use Rattle.otlp_model.specs.declared.request.Signal.{Signal}
 use Rattle.otap_capture.specs.Batch.{PayloadContent}
 use Rattle.otap_cells.specs.declared.payload.Kind.{Kind}

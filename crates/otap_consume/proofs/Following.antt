@@ -4,8 +4,8 @@ use Rattle.std.specs.Prelude.{MatchBool}
 use Rattle.std.specs.List.{AllByRecursion}
 use Rattle.std.specs.Option.{IsSome}
 use Rattle.std.proofs.lemmas.Bool.{both_ways}
-use Rattle.histories.specs.EachAfter.{AllAfter}
-use Rattle.histories.proofs.Growing.{each_after-keeps, all_after-append}
+use Rattle.lists.specs.EachAfter.{AllAfter}
+use Rattle.lists.proofs.Growing.{each_after-keeps, all_after-append}
 use Rattle.otlp_model.specs.declared.request.Signal.{Signal}
 use Rattle.otap_capture.specs.Batch.{BatchContent, PayloadContent}
 use Rattle.otap_capture.specs.Capture.{Frame, Message, Packed}

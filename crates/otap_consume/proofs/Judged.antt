@@ -5,8 +5,8 @@ use Rattle.std.specs.Option.{IsSome}
 use Rattle.std.specs.Ordering.{int_eq}
 use Rattle.std.proofs.lemmas.Bool.{cases_Bool, cases_lt}
 use Rattle.std.proofs.lemmas.Bool.Decides.{Decides-int_eq}
-use Rattle.histories.specs.EachAfter.{AllAfter}
-use Rattle.histories.proofs.Growing.{each_after-keeps, all_after-push}
+use Rattle.lists.specs.EachAfter.{AllAfter}
+use Rattle.lists.proofs.Growing.{each_after-keeps, all_after-push}
 use Rattle.otlp_model.specs.Limits.{item_limit}
 use Rattle.otlp_model.specs.declared.request.Signal.{Signal}
 use Rattle.arrow_ipc.specs.declared.messages.IpcMessage.{IpcMessage}

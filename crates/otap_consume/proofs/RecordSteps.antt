@@ -23,7 +23,7 @@ use Rattle.otap_consume.specs.Stops.{Stops, StopOf, IsOfRecord}
 use Rattle.otap_consume.specs.Streams.{StreamIn, AreAfter, IsAfter, Takes, RefusesFor, closed}
 use Rattle.otap_consume.proofs.IdSteps.{kind_at, count_of}
 use Rattle.otap_consume.proofs.KindNumbers.{HasNumber, has_number, numbered, same_kind_number}
-use Rattle.histories.proofs.Growing.{all_after-push}
+use Rattle.lists.proofs.Growing.{all_after-push}
 use Rattle.otap_consume.proofs.Lists.{same_by_place}
 use Rattle.otap_consume.proofs.Substreams.{last_in-other, last_in-own}
 

@@ -9,7 +9,7 @@ use Rattle.otap_cells.specs.Cells.{Cell}
 use Rattle.otap_cells.specs.Payload.{kinds_of}
 use Rattle.otap_cells.specs.Tables.{Table}
 use Rattle.otap_cells.specs.Weights.{weight_of_row, weight_of_table, weight_of_tables}
-use Rattle.histories.proofs.Latest.{last_after-none}
+use Rattle.lists.proofs.Latest.{last_after-none}
 use Rattle.otap_columns.specs.Streams.{PayloadIn, of_type, stream_of}
 use Rattle.otap_columns.specs.Substreams.{held_in, substream_in}
 use Rattle.otap_consume.specs.Defects.{held_after}

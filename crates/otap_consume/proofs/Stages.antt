@@ -11,7 +11,7 @@ use Rattle.otap_consume.specs.declared.not_taken.NotTaken.{NotTaken}
 use Rattle.otap_consume.specs.declared.not_taken.NotTaken.TheVariants.{Defect, Memory}
 use Rattle.otap_consume.specs.Defects.{HasFineList, HasFineRecords, StandsInList, Refuses, is_taken}
 use Rattle.otap_consume.specs.Ids.{ids_of, ids_after}
-use Rattle.histories.specs.EachAfter.{AllAfter}
+use Rattle.lists.specs.EachAfter.{AllAfter}
 use Rattle.otap_consume.specs.PayloadTypes.{HasFineTypes, StandsInTypes}
 use Rattle.otap_consume.specs.Records.{TakesAll, kinds_in}
 use Rattle.otap_consume.specs.Segments.{CanShow}

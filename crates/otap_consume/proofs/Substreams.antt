@@ -5,8 +5,8 @@ use Rattle.std.proofs.lemmas.List.{map-append}
 use Rattle.std.proofs.lemmas.List.Elements.{filter-append}
 use Rattle.arrow_ipc.specs.Fronts.{front_of}
 use Rattle.otap_capture.specs.Batch.{PayloadContent}
-use Rattle.histories.specs.Since.{last_after}
-use Rattle.histories.proofs.Latest.{last_after-push}
+use Rattle.lists.specs.Since.{last_after}
+use Rattle.lists.proofs.Latest.{last_after-push}
 use Rattle.otap_columns.specs.Streams.{PayloadIn, is_of, of_type, opens_after}
 use Rattle.otap_columns.proofs.Openings.{stream_of-other, stream_of-own, open_id-other, open_id-own}
 use Rattle.otap_consume.specs.Payloads.{part_of, parts_of, last_in, id_in, messages_in}

@@ -1,8 +1,8 @@
 -- What each frame of a capture gives. Nothing is kept from frame to frame: each outcome looks back over those before it.
 use Rattle.std.specs.Prelude.{◌⊎◌, ⊤, ℕ, ℤ, Bool, true, false, List, [], Option, Some, None, MatchBool}
 use Rattle.std.specs.List.{flat_map, list_any}
-use Rattle.histories.specs.EachAfter.{EachAfter}
-use Rattle.histories.specs.Since.{since}
+use Rattle.lists.specs.EachAfter.{EachAfter}
+use Rattle.lists.specs.Since.{since}
 use Rattle.otlp_model.specs.declared.request.Signal.{Signal}
 use Rattle.otap_capture.specs.declared.batch.BatchRefusal.{BatchRefusal}
 use Rattle.otap_capture.specs.declared.batch.BatchRefusal.TheVariants as unread

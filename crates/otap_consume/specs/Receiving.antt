@@ -1,7 +1,7 @@
 -- What each frame of a capture gives a receiver: what it gives a segment, and of a batch that the segment takes, whether a later
 -- stage refuses it.
 use Rattle.std.specs.Prelude.{◌≡◌, ℕ, ℤ, List, [], Option, None, Some}
-use Rattle.histories.specs.EachAfter.{EachAfter}
+use Rattle.lists.specs.EachAfter.{EachAfter}
 use Rattle.otap_capture.specs.declared.batch.BatchRefusal.{BatchRefusal}
 use Rattle.otap_capture.specs.Batch.{BatchContent, PayloadContent, ReadsBatch, RefusesBatch}
 use Rattle.otap_capture.specs.Capture.{Frame, Message, Packed}

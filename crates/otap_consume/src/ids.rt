@@ -3,7 +3,7 @@ ghost use Rattle.std.specs.Prelude.{◌≡◌, List, IfOk, IfErr, OnOk, map, fal
 ghost use Rattle.otlp_model.specs.declared.request.Signal.{Signal};
 ghost use Rattle.otap_capture.specs.Batch.{PayloadContent, content_of};
 ghost use Rattle.otap_consume.specs.Defects.{StandsInList, is_id, is_taken};
-ghost use Rattle.histories.specs.EachAfter.{AllAfter};
+ghost use Rattle.lists.specs.EachAfter.{AllAfter};
 ghost use Rattle.otap_consume.specs.Ids.{ids_of, ids_after, has_other, is_other, opened};
 ghost use Rattle.otap_consume.specs.IdsInside.{open_id_in};
 ghost use Rattle.otap_consume.specs.Stops.{Stops};

@@ -1,7 +1,7 @@
 -- What one frame makes of an exporter and of the far end.
 use Rattle.std.proofs.Common.{◌≡◌, inl, inr, ℕ, ◌<◌, ◌^◌, List, [], ◌∷◌, ◌++◌, length, IfOk, Result, Ok, Err, refl, sym, ap, ◌∙◌, subst, arith}
 use Rattle.std.specs.Prelude.{codes}
-use Rattle.histories.proofs.Growing.{each_after-push, each_after-weaker, each_after-length}
+use Rattle.lists.proofs.Growing.{each_after-push, each_after-weaker, each_after-length}
 use Rattle.otap_capture.specs.Capture.{Frame, Message, Packed, reset_frame, capture_limit}
 use Rattle.otap_capture.specs.Capture as capture
 use Rattle.otap_consume.specs.Meanings.{Meaning}

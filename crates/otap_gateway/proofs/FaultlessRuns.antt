@@ -3,7 +3,7 @@ use Rattle.std.proofs.Common.{◌≡◌, ◌⊎◌, inl, inr, ℕ, false, List, 
 use Rattle.std.specs.Prelude.{is_some}
 use Rattle.std.specs.declared.option.Option.{Option}
 use Rattle.std.specs.Io.KnownBytes.{Appends}
-use Rattle.histories.specs.EachAfter.{EachAfter}
+use Rattle.lists.specs.EachAfter.{EachAfter}
 use Rattle.otap_capture.specs.declared.frame.Damage.{Damage}
 use Rattle.otap_capture.specs.Capture.{Frame, IsCapture}
 use Rattle.otap_capture.specs.Outside.{Rose}

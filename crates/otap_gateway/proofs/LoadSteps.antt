@@ -6,7 +6,7 @@ use Rattle.std.proofs.lemmas.List.{flat_map_more}
 use Rattle.std.proofs.lemmas.List.Elements.{All-nil, All-push}
 use Rattle.std.proofs.lemmas.List.FromFn.{length-map-range_with_len, map-range_with_len_more}
 use Rattle.std.proofs.lemmas.Bool.{false≢true}
-use Rattle.histories.specs.EachAfter.{EachAfter}
+use Rattle.lists.specs.EachAfter.{EachAfter}
 use Rattle.otap_capture.specs.Batch.{ReadsBatch, batch_in}
 use Rattle.otap_cells.specs.Weights.{row_weight_limit, weight_of_tables}
 use Rattle.otap_consume.specs.Meanings.{Meaning}

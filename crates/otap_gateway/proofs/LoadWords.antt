@@ -20,7 +20,7 @@ use Rattle.otap_produce.specs.Policy.{IsExported, Policy}
 use Rattle.otap_gateway.specs.Encoding.{rows_of}
 use Rattle.otlp_model.specs.declared.request.Signal.TheVariants as signals
 use Rattle.otlp_model.specs.declared.request.Request.{Request}
-use Rattle.histories.specs.EachAfter.{EachAfter}
+use Rattle.lists.specs.EachAfter.{EachAfter}
 use Rattle.otap_gateway.proofs.OneJob.{one_job}
 
 -- ---- a job has two words at most

@@ -6,7 +6,7 @@ use Rattle.std.specs.Io.KnownBytes.{Appends, Consumes, Keeps, prepend_known}
 use Rattle.std.proofs.lemmas.Bool.{false≢true}
 use Rattle.std.proofs.lemmas.List.{flat_map_more}
 use Rattle.std.proofs.lemmas.List.Folds.{list_any-append}
-use Rattle.histories.proofs.Growing.{each_after-push}
+use Rattle.lists.proofs.Growing.{each_after-push}
 use Rattle.otap_capture.specs.declared.frame.Damage.{Damage}
 use Rattle.otap_capture.specs.Capture.{Frame, IsFrame, AreFrames, EndsAt, IsCapture}
 use Rattle.otap_capture.specs.Outside.{AppendsFront}

@@ -4,10 +4,10 @@ use Rattle.std.specs.Prelude.{if◌then◌else◌}
 use Rattle.std.specs.List.{flat_map, list_any}
 use Rattle.std.proofs.lemmas.Bool.{cases_Bool}
 use Rattle.std.proofs.lemmas.Grind.{flat_map-append}
-use Rattle.histories.specs.EachAfter.{EachAfter}
-use Rattle.histories.specs.Since.{since}
-use Rattle.histories.proofs.Growing.{all_after-push, each_after-keeps}
-use Rattle.histories.proofs.Latest.{since-append}
+use Rattle.lists.specs.EachAfter.{EachAfter}
+use Rattle.lists.specs.Since.{since}
+use Rattle.lists.proofs.Growing.{all_after-push, each_after-keeps}
+use Rattle.lists.proofs.Latest.{since-append}
 use Rattle.otap_capture.specs.Capture.{Frame}
 use Rattle.otap_produce.specs.Policy.{Rows}
 use Rattle.otap_transit.specs.Sendings.{Sending, Sent, Reset, is_reset, request_if, message_if, requests_since, messages_since, AreAllowed, IsAllowed}

@@ -1,6 +1,6 @@
 -- What a job replies, from what its state gives of a frame.
 use Rattle.std.proofs.Common.{◌≡◌, ℕ, suc, ◌+◌, List, [], ◌∷◌, ◌++◌, length, refl, sym, ap, ◌∙◌, subst, zero-add, arith}
-use Rattle.histories.proofs.Growing.{each_after-push, each_after-length}
+use Rattle.lists.proofs.Growing.{each_after-push, each_after-length}
 use Rattle.otlp_model.specs.declared.request.Signal.{Signal}
 use Rattle.otap_capture.specs.Capture.{Frame}
 use Rattle.otap_consume.specs.declared.taken.Taken.{Taken}

@@ -3,8 +3,8 @@ use Rattle.std.proofs.Common.{◌≡◌, ℕ, suc, ◌+◌, List, [], ◌∷◌,
 use Rattle.std.specs.Prelude.{codes}
 use Rattle.std.proofs.lemmas.List.{length-append}
 use Rattle.std.specs.Fmt.{decimal}
-use Rattle.histories.specs.EachAfter.{EachAfter}
-use Rattle.histories.proofs.Growing.{each_after-push, each_after-keeps, each_after-length}
+use Rattle.lists.specs.EachAfter.{EachAfter}
+use Rattle.lists.proofs.Growing.{each_after-push, each_after-keeps, each_after-length}
 use Rattle.otap_capture.specs.Capture.{Frame}
 use Rattle.otap_consume.specs.declared.refusal.Refusal.{Refusal}
 use Rattle.otap_consume.specs.Outcomes.{Outcome}

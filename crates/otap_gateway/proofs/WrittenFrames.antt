@@ -2,7 +2,7 @@
 use Rattle.std.proofs.Common.{◌≡◌, ℕ, suc, ◌+◌, ◌<◌, ◌≤◌, List, [], ◌∷◌, ◌++◌, length, map, None, refl, sym, ap, ◌∙◌, subst, append-nil, length-append, arith}
 use Rattle.std.specs.List.{flat_map}
 use Rattle.std.proofs.lemmas.Bool.{lt-leb}
-use Rattle.histories.specs.EachAfter.{EachAfter, AllAfter}
+use Rattle.lists.specs.EachAfter.{EachAfter, AllAfter}
 use Rattle.otap_capture.specs.Capture.{Frame, IsFrame, AreFrames, IsCapture, Message, message_frame, reset_frame, longest_frame, capture_limit}
 use Rattle.otap_capture.specs.Capture as capture
 use Rattle.otap_consume.specs.Meanings.{Meaning}

@@ -1,6 +1,6 @@
 -- What the jobs of a receiver write of one capture.
 use Rattle.std.specs.Prelude.{List, []}
-use Rattle.histories.specs.EachAfter.{EachAfter}
+use Rattle.lists.specs.EachAfter.{EachAfter}
 use Rattle.otap_capture.specs.Capture.{Frame}
 use Rattle.otap_consume.specs.Outcomes.{Outcome}
 use Rattle.otap_consume.specs.Receiving.{Received}

@@ -1,6 +1,6 @@
 -- Replies that tell what frames gave.
 use Rattle.std.specs.Prelude.{◌≡◌, ℕ, suc, List, [], ◌∷◌, ◌++◌, length}
-use Rattle.histories.specs.EachAfter.{EachAfter}
+use Rattle.lists.specs.EachAfter.{EachAfter}
 use Rattle.otap_capture.specs.Capture.{Frame}
 use Rattle.otap_gateway.specs.Reply.{ReplyText}
 

@@ -4,7 +4,7 @@ use Rattle.std.specs.declared.option.Option.{Option}
 use Rattle.std.specs.declared.result.Result.{Result}
 use Rattle.std.specs.declared.result.Result.TheVariants.{Ok, Err}
 use Rattle.std.specs.Io.KnownBytes.{Appends, Consumes, Keeps}
-use Rattle.histories.specs.EachAfter.{EachAfter}
+use Rattle.lists.specs.EachAfter.{EachAfter}
 use Rattle.otap_capture.specs.declared.frame.Damage.{Damage}
 use Rattle.otap_capture.specs.declared.frame.FramesRefusal.{FramesRefusal}
 use Rattle.otap_capture.specs.declared.frame.FramesRefusal.TheVariants as frames

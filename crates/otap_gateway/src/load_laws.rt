@@ -1,6 +1,6 @@
 //! Laws of `selfrun`: each is the contract of a function that does nothing.
 ghost use Rattle.std.specs.Prelude.{◌≡◌, ◌⊎◌, ℕ, []};
-ghost use Rattle.histories.specs.EachAfter.{EachAfter};
+ghost use Rattle.lists.specs.EachAfter.{EachAfter};
 ghost use Rattle.otap_capture.specs.Outside.{Rose};
 ghost use Rattle.otap_gateway.specs.declared.load.Load.{Load};
 ghost use Rattle.otap_gateway.specs.Loads.{RunsLoad, WritesLoad, requests_of};

@@ -1,6 +1,6 @@
 //! What a signal owes to a load of its requests.
 ghost use Rattle.std.specs.Prelude.{◌≤◌, ◌<◌, ℕ, List, [], All};
-ghost use Rattle.histories.specs.EachAfter.{EachAfter};
+ghost use Rattle.lists.specs.EachAfter.{EachAfter};
 ghost use Rattle.otlp_load.specs.Load.{generated, requests_at_most};
 ghost use Rattle.otlp_model.specs.declared.request.Request.{Request};
 ghost use Rattle.otap_cells.specs.Weights.{row_weight_limit, weight_of_tables};

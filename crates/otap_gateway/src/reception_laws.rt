@@ -1,6 +1,6 @@
 //! Laws of the jobs of a receiver: each is the contract of an empty function.
 ghost use Rattle.std.specs.Prelude.{◌≡◌, ◌<◌, ◌++◌, [], All, List, Option, ℕ, codes};
-ghost use Rattle.histories.specs.EachAfter.{EachAfter};
+ghost use Rattle.lists.specs.EachAfter.{EachAfter};
 ghost use Rattle.otap_capture.specs.declared.frame.Damage.{Damage};
 ghost use Rattle.otap_capture.specs.Capture.{Frame, IsCapture};
 ghost use Rattle.otap_consume.specs.declared.refusal.Refusal.{Refusal};

@@ -1,6 +1,6 @@
 //! Laws of `encode`: each is the contract of a function that does nothing.
 ghost use Rattle.std.specs.Prelude.{◌≡◌, [], List};
-ghost use Rattle.histories.specs.EachAfter.{EachAfter};
+ghost use Rattle.lists.specs.EachAfter.{EachAfter};
 ghost use Rattle.otap_capture.specs.Capture.{Frame};
 ghost use Rattle.otap_gateway.specs.declared.command.Command.TheVariants as command;
 ghost use Rattle.otlp_model.specs.declared.request.Signal.{Signal};

@@ -3,7 +3,7 @@ use Rattle.std.proofs.Common.{◌≡◌, ◌+◌, List, [], ◌∷◌, ◌++◌,
 use Rattle.std.specs.Prelude.{map}
 use Rattle.std.specs.List.{AllByRecursion}
 use Rattle.std.proofs.lemmas.List.{map-append}
-use Rattle.histories.proofs.Growing.{each_after-append}
+use Rattle.lists.proofs.Growing.{each_after-append}
 use Rattle.otap_capture.specs.Batch.{BatchContent, PayloadContent, IsRealPayload}
 use Rattle.otap_cells.specs.Tables.{Table}
 use Rattle.otap_columns.specs.Streams.{PayloadIn}

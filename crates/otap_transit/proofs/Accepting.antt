@@ -6,7 +6,7 @@ use Rattle.std.specs.Option.{IsSome}
 use Rattle.std.specs.Ordering.{int_eq}
 use Rattle.std.proofs.lemmas.Bool.{cases_Bool}
 use Rattle.std.proofs.lemmas.List.Sums.{sum_by-cons}
-use Rattle.histories.specs.EachAfter.{EachAfter, AllAfter}
+use Rattle.lists.specs.EachAfter.{EachAfter, AllAfter}
 use Rattle.otlp_model.specs.Limits.{item_limit}
 use Rattle.otlp_model.specs.declared.request.Signal.{Signal}
 use Rattle.otap_capture.specs.Batch.{PayloadContent}

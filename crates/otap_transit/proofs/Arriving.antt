@@ -2,9 +2,9 @@
 use Rattle.std.proofs.Common.{◌≡◌, ℕ, false, List, [], ◌∷◌, ◌++◌, map, refl, sym, ap, ◌∙◌, subst, append-nil, arith}
 use Rattle.std.specs.List.{flat_map}
 use Rattle.std.proofs.lemmas.Grind.{flat_map-append}
-use Rattle.histories.specs.EachAfter.{EachAfter, AllAfter}
-use Rattle.histories.specs.Since.{since}
-use Rattle.histories.proofs.Latest.{since-append}
+use Rattle.lists.specs.EachAfter.{EachAfter, AllAfter}
+use Rattle.lists.specs.Since.{since}
+use Rattle.lists.proofs.Latest.{since-append}
 use Rattle.otlp_model.specs.declared.request.Request.{Request}
 use Rattle.otap_capture.specs.Batch.{PayloadContent, batch_in}
 use Rattle.otap_capture.specs.Capture.{Frame, Message}

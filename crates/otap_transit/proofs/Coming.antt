@@ -5,8 +5,8 @@ use Rattle.std.specs.Int.{w32, w64}
 use Rattle.std.specs.List.{AllByRecursion, flat_map}
 use Rattle.std.proofs.lemmas.Grind.{flat_map-append}
 use Rattle.std.proofs.lemmas.List.{map-append}
-use Rattle.histories.specs.EachAfter.{EachAfter}
-use Rattle.histories.proofs.Growing.{each_after-length}
+use Rattle.lists.specs.EachAfter.{EachAfter}
+use Rattle.lists.proofs.Growing.{each_after-length}
 use Rattle.otlp_model.specs.Same.{Same}
 use Rattle.otlp_model.specs.declared.request.Request.{Request}
 use Rattle.otlp_model.specs.declared.request.Signal.{Signal}

@@ -1,6 +1,6 @@
 -- Lists that go in step, by their last elements and by parts.
 use Rattle.std.proofs.Common.{List, [], ◌∷◌, ◌++◌, append_assoc, append-nil}
-use Rattle.histories.specs.EachAfter.{EachAfter}
+use Rattle.lists.specs.EachAfter.{EachAfter}
 
 module _ {A B : Type 0} (R : List A → List B → A → B → Type 0) where
   -- the last pair, after all before it

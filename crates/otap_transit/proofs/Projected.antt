@@ -4,8 +4,8 @@ use Rattle.std.specs.Prelude.{◌*◌, ◌≤◌, filter, ◌⊎◌}
 use Rattle.std.specs.Ordering.{int_eq}
 use Rattle.std.proofs.lemmas.Bool.{cases_Bool}
 use Rattle.std.proofs.lemmas.List.Elements.{filter-append}
-use Rattle.histories.specs.EachAfter.{EachAfter}
-use Rattle.histories.proofs.Growing.{each_after-push, each_after-keeps}
+use Rattle.lists.specs.EachAfter.{EachAfter}
+use Rattle.lists.proofs.Growing.{each_after-push, each_after-keeps}
 use Rattle.arrow_ipc.specs.declared.messages.IpcMessage.{IpcMessage}
 use Rattle.otap_cells.specs.declared.payload.Kind.{Kind}
 use Rattle.otap_cells.specs.Payload.{number_of, is_kind}

@@ -1,8 +1,8 @@
 -- What leaves an exporter, with resets between segments, and what arrives.
 use Rattle.std.specs.Prelude.{◌≡◌, ⊤, ℕ, pos, Bool, true, false, List, [], ◌∷◌, length}
 use Rattle.std.specs.List.{flat_map}
-use Rattle.histories.specs.EachAfter.{EachAfter, AllAfter}
-use Rattle.histories.specs.Since.{since}
+use Rattle.lists.specs.EachAfter.{EachAfter, AllAfter}
+use Rattle.lists.specs.Since.{since}
 use Rattle.otlp_model.specs.Same.{Same}
 use Rattle.otlp_model.specs.declared.request.Request.{Request}
 use Rattle.otap_capture.specs.Batch.{batch_in}

@@ -2,7 +2,7 @@
 //! they speak of the definitions alone.
 
 ghost use Rattle.std.specs.Prelude.{ℕ, All, List, [], map};
-ghost use Rattle.histories.specs.EachAfter.{EachAfter};
+ghost use Rattle.lists.specs.EachAfter.{EachAfter};
 ghost use Rattle.otlp_model.specs.declared.request.Request.{Request};
 ghost use Rattle.otap_consume.specs.LogsMeaning.{logs_meaning};
 ghost use Rattle.otap_consume.specs.MetricsMeaning.{metrics_meaning};

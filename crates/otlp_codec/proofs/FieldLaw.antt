@@ -17,11 +17,11 @@ use Rattle.otlp_messages.specs.Table.{kind_of, mark_of}
 use Rattle.otlp_messages.specs.Rows.{fixed64_in, fixed32_in, uint32_in, int32_in, bool_in, bytes_in, embedded_in, many_in}
 use Rattle.otlp_messages.specs.Canon.{canon_row, varint_row, signed_row, bool_row, fixed64_row, fixed32_row, bytes_row, many_row}
 use Rattle.otlp_messages.proofs.RowKinds.{varint_fits, signed_fits, bool_fits, wider, fixed64_fits, fixed32_fits, part_fits, uint32_back, int32_back, bool_back, fixed64_back, fixed32_back, bytes_back, embedded_back}
-use Rattle.otlp_model.specs.Bytes.{is_real_text}
+use Rattle.lists.specs.Bytes.{is_real_text}
 use Rattle.otlp_model.specs.Profile.{is_id}
 use Rattle.otlp_model.specs.Limits.{weight_limit}
 use Rattle.otlp_model.specs.Weight.{total}
-use Rattle.otlp_model.proofs.RealParts.{utf8_of_real}
+use Rattle.lists.proofs.RealBytes.{utf8_of_real}
 use Rattle.otlp_codec.proofs.Chain.{Held, Law}
 use Rattle.otlp_codec.proofs.Lists.{all_map, all_both}
 use Rattle.otlp_codec.proofs.Returning.{Returns, each_returned, returned_fits, returned_back, in_row, id_length}

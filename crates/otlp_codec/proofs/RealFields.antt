@@ -13,8 +13,8 @@ use Rattle.otlp_wire.specs.Reading.{Reads}
 use Rattle.otlp_wire.specs.Fields.{fields_of, end_of}
 use Rattle.otlp_wire.proofs.FieldsOf.{fields_of-reads}
 use Rattle.otlp_messages.specs.Rows.{only}
-use Rattle.otlp_model.specs.Bytes.{is_real_octets}
-use Rattle.otlp_model.proofs.RealParts.{real_octets, bytes_of_real, length_of_real_octets}
+use Rattle.lists.specs.Bytes.{is_real_octets}
+use Rattle.lists.proofs.RealBytes.{real_octets, bytes_of_real, length_of_real_octets}
 use Rattle.otlp_codec.proofs.Lists.{all_from}
 
 -- bytes that a program can hold

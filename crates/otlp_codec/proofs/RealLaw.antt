@@ -24,9 +24,9 @@ use Rattle.otlp_model.specs.declared.value.Value.{Value, the_lemmas}
 use Rattle.otlp_model.specs.declared.value.Value.TheVariants as values
 use Rattle.otlp_model.specs.declared.value.Pair.{Pair}
 use Rattle.otlp_model.specs.Each.{Each}
-use Rattle.otlp_model.specs.Bytes.{is_real_text, is_real_octets}
+use Rattle.lists.specs.Bytes.{is_real_text, is_real_octets}
 use Rattle.otlp_model.specs.Real.{fits_i64, is_real_value, is_real_pair, are_real_pairs}
-use Rattle.otlp_model.proofs.RealParts.{real_text}
+use Rattle.lists.proofs.RealBytes.{real_text}
 use Rattle.otlp_model.proofs.Levels.{is_real_array, is_real_map}
 use Rattle.otlp_codec.specs.Levels.{value_levels}
 use Rattle.otlp_codec.specs.Values.{string_in, bool_value_in, int_value_in, double_value_in, array_value_in, kvlist_value_in, bytes_value_in, any_in, any_of, pair_of, members_of, value_at, pair_at}

@@ -8,7 +8,7 @@ use Rattle.otlp_messages.specs.Table.{item_of}
 use Rattle.otlp_messages.specs.Rows.{said, bytes_in}
 use Rattle.otlp_model.specs.declared.value.Value.TheVariants as values
 use Rattle.otlp_model.specs.Real.{IsRealResource, IsRealScope, IsRealScopeGroup, IsRealResourceGroup, IsRealLogRecord, IsRealEvent, IsRealLink, IsRealSpan}
-use Rattle.otlp_model.specs.Bytes.{is_real_text}
+use Rattle.lists.specs.Bytes.{is_real_text}
 use Rattle.otlp_model.specs.Each.{Each}
 use Rattle.otlp_codec.specs.declared.spans.Status.{Status}
 use Rattle.otlp_codec.specs.Levels.{value_levels}

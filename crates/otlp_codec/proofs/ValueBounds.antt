@@ -11,7 +11,7 @@ use Rattle.otlp_model.specs.declared.value.Pair.{Pair}
 use Rattle.otlp_model.specs.Limits.{weight_limit}
 use Rattle.otlp_model.specs.Weight.{total, weight_of_value, weight_of_pair}
 use Rattle.otlp_model.specs.Real.{is_real_value, is_real_pair}
-use Rattle.otlp_model.specs.Bytes.{is_real_text}
+use Rattle.lists.specs.Bytes.{is_real_text}
 use Rattle.otlp_model.proofs.Levels.{weight_of_array, weight_of_map, is_real_array, is_real_map}
 use Rattle.otlp_model.proofs.Induction.{holds}
 use Rattle.otlp_codec.specs.Canonical.{canon_value, canon_pair}

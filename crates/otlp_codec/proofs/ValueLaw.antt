@@ -18,9 +18,9 @@ use Rattle.otlp_model.specs.declared.value.Value.TheVariants as values
 use Rattle.otlp_model.specs.declared.value.Pair.{Pair}
 use Rattle.otlp_model.specs.Depth.{depth_of, depth_of_pair, greatest}
 use Rattle.otlp_model.specs.Real.{is_real_value, is_real_pair, fits_i64}
-use Rattle.otlp_model.specs.Bytes.{is_real_text}
+use Rattle.lists.specs.Bytes.{is_real_text}
 use Rattle.otlp_model.proofs.Levels.{depth_of_array, depth_of_map, is_real_array, is_real_map}
-use Rattle.otlp_model.proofs.RealParts.{utf8_of_real}
+use Rattle.lists.proofs.RealBytes.{utf8_of_real}
 use Rattle.otlp_model.proofs.Induction.{Step, holds}
 use Rattle.otlp_codec.specs.Values.{any_in, value_at, pair_at}
 use Rattle.otlp_codec.specs.Steps.{array_at, map_at}

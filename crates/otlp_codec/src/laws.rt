@@ -6,7 +6,7 @@ ghost use Rattle.otlp_model.specs.declared.request.Request.{Request};
 ghost use Rattle.otlp_model.specs.declared.request.Signal.{Signal};
 ghost use Rattle.otlp_model.specs.Limits.{weight_limit};
 ghost use Rattle.otlp_model.specs.Weight.{weight_of};
-ghost use Rattle.otlp_model.specs.Bytes.{is_real_octets};
+ghost use Rattle.lists.specs.Bytes.{is_real_octets};
 ghost use Rattle.otlp_model.specs.Real.{IsReal};
 ghost use Rattle.otlp_model.specs.Profile.{IsProfile};
 ghost use Rattle.otlp_model.specs.Telemetry.{signal_of};

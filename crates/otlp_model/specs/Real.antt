@@ -3,7 +3,7 @@ use Rattle.std.specs.Prelude.{ℕ, ◌<◌, ◌^◌, ◌&&◌, Bool, true, lengt
 use Rattle.std.specs.List.{list_all}
 use Rattle.std.specs.Int.{w32}
 use Rattle.otlp_model.specs.Each.{Each}
-use Rattle.otlp_model.specs.Bytes.{is_real_text, is_real_octets}
+use Rattle.lists.specs.Bytes.{is_real_text, is_real_octets}
 use Rattle.otlp_model.specs.declared.value.Value.{Value, fold-Value}
 use Rattle.otlp_model.specs.declared.value.Value.TheOpen.{Value-F, Pair-F}
 use Rattle.otlp_model.specs.declared.value.Pair.{Pair}

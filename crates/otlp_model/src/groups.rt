@@ -4,12 +4,11 @@ ghost use Rattle.otlp_model.specs.Profile.{IsProfileResource, IsProfileScope, Is
 ghost use Rattle.otlp_model.specs.Same.{SameResource, SameScope};
 
 use crate::limits::sum_capped;
-use crate::list::Items;
 use crate::profile::{Profiled, all_profile};
 use crate::sameness::{Alike, same_pairs};
-use crate::text::Text;
 use crate::value::Pair;
 use crate::weights::{PART, Weighed, pairs_weight, parts_weight};
+use lists::{Items, Text};
 
 /// What telemetry comes from (OTLP `Resource`, with the schema url of its `ResourceSpans`, `ResourceLogs` or
 /// `ResourceMetrics`).

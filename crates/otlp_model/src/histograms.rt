@@ -6,12 +6,12 @@ ghost use Rattle.std.specs.Prelude.{◌≡◌, ◌↔◌, ◌*◌, ◌<◌, ◌^
 ghost use Rattle.otlp_model.specs.Each.{Each};
 
 use crate::limits::{CAP, sum_capped};
-use crate::list::Items;
 use crate::metrics::Exemplar;
 use crate::profile::{Profiled, all_profile};
 use crate::sameness::{Alike, each_same, same_pairs};
 use crate::value::Pair;
 use crate::weights::{PART, Weighed, pairs_weight, parts_weight};
+use lists::Items;
 
 /// What a bucket count and a bound weigh.
 const NUMBER: u64 = 8;

@@ -4,13 +4,11 @@ ghost use Rattle.otlp_model.specs.Profile.{IsProfileLogRecord};
 ghost use Rattle.otlp_model.specs.Same.{SameLogRecord};
 
 use crate::limits::sum_capped;
-use crate::list::Items;
-use crate::octets::Octets;
-use crate::profile::{Profiled, all_profile};
+use crate::profile::{Profiled, all_profile, is_span_id, is_trace_id};
 use crate::sameness::{Alike, same_pairs, same_value};
-use crate::text::Text;
 use crate::value::{Pair, Value};
 use crate::weights::{Weighed, pairs_weight, value_weight};
+use lists::{Items, Octets, Text};
 
 /// A log record (OTLP `LogRecord`). Times are nanoseconds since the Unix epoch.
 #[derive(Debug, Drop)]
@@ -54,8 +52,8 @@ impl Profiled for LogRecord {
     ghost within = { IsProfileLogRecord };
 
     fn is_profile(&self) -> bool {
-        self.trace_id.is_trace_id()
-            && self.span_id.is_span_id()
+        is_trace_id(&self.trace_id)
+            && is_span_id(&self.span_id)
             && self.body.is_profile()
             && all_profile(&self.pairs)
     }

@@ -6,13 +6,11 @@ ghost use Rattle.otlp_model.specs.Same.{SameExemplar, SamePoint, SameShape, Same
 
 use crate::histograms::{HistPoint, SumPoint};
 use crate::limits::sum_capped;
-use crate::list::Items;
-use crate::octets::Octets;
-use crate::profile::{Profiled, all_profile};
+use crate::profile::{Profiled, all_profile, is_span_id, is_trace_id};
 use crate::sameness::{Alike, each_same, same_pairs};
-use crate::text::Text;
 use crate::value::Pair;
 use crate::weights::{PART, Weighed, pairs_weight, parts_weight};
+use lists::{Items, Octets, Text};
 
 /// A metric (OTLP `Metric`).
 #[derive(Debug, Drop)]
@@ -169,7 +167,7 @@ impl Profiled for Exemplar {
     ghost within = { IsProfileExemplar };
 
     fn is_profile(&self) -> bool {
-        self.trace_id.is_trace_id() && self.span_id.is_span_id() && all_profile(&self.pairs)
+        is_trace_id(&self.trace_id) && is_span_id(&self.span_id) && all_profile(&self.pairs)
     }
 }
 

@@ -4,9 +4,8 @@ ghost use Rattle.otlp_model.specs.Profile.{IsTraceId, IsSpanId, IsProfileValue, 
 
 use crate::depths::depth;
 use crate::limits::MAX_DEPTH;
-use crate::list::Items;
-use crate::octets::Octets;
 use crate::value::{Pair, Value};
+use lists::{Items, Octets};
 
 /// How many bytes a trace id has (W3C Trace Context).
 const TRACE_ID: usize = 16;
@@ -29,20 +28,18 @@ pub(crate) fn all_profile<P: Profiled>(parts: &Items<P>) -> bool
     parts.as_slice().iter().all(|part| part.is_profile())
 }
 
-impl Octets {
-    /// Whether it is the id of a trace, or absent.
-    pub(crate) fn is_trace_id(&self) -> bool
-        ensures { IsTrue result ↔ IsTraceId self.now }
-    {
-        self.is_empty() || self.len() == TRACE_ID
-    }
+/// Whether the bytes are the id of a trace, or absent.
+pub(crate) fn is_trace_id(id: &Octets) -> bool
+    ensures { IsTrue result ↔ IsTraceId id.now }
+{
+    id.is_empty() || id.len() == TRACE_ID
+}
 
-    /// Whether it is the id of a span, or absent.
-    pub(crate) fn is_span_id(&self) -> bool
-        ensures { IsTrue result ↔ IsSpanId self.now }
-    {
-        self.is_empty() || self.len() == SPAN_ID
-    }
+/// Whether the bytes are the id of a span, or absent.
+pub(crate) fn is_span_id(id: &Octets) -> bool
+    ensures { IsTrue result ↔ IsSpanId id.now }
+{
+    id.is_empty() || id.len() == SPAN_ID
 }
 
 impl Profiled for Value {

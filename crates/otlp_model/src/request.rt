@@ -7,13 +7,13 @@ ghost use Rattle.otlp_model.specs.Same.{Same};
 
 use crate::counts::item_count;
 use crate::groups::ResourceGroup;
-use crate::list::Items;
 use crate::logs::LogRecord;
 use crate::metrics::Metric;
 use crate::profile::all_profile;
 use crate::spans::Span;
 use crate::walk::same_groups;
 use crate::weights::{PART, parts_weight};
+use lists::Items;
 
 /// The kinds of telemetry.
 #[derive(Clone, Copy, Debug, PartialEq, Eq)]

@@ -4,13 +4,11 @@ ghost use Rattle.otlp_model.specs.Profile.{IsProfileEvent, IsProfileLink, IsProf
 ghost use Rattle.otlp_model.specs.Same.{SameEvent, SameLink, SameSpan};
 
 use crate::limits::sum_capped;
-use crate::list::Items;
-use crate::octets::Octets;
-use crate::profile::{Profiled, all_profile};
+use crate::profile::{Profiled, all_profile, is_span_id, is_trace_id};
 use crate::sameness::{Alike, each_same, same_pairs};
-use crate::text::Text;
 use crate::value::Pair;
 use crate::weights::{PART, Weighed, pairs_weight, parts_weight};
+use lists::{Items, Octets, Text};
 
 /// A span (OTLP `Span`). Times are nanoseconds since the Unix epoch.
 #[derive(Debug, Drop)]
@@ -123,7 +121,7 @@ impl Profiled for Link {
     ghost within = { IsProfileLink };
 
     fn is_profile(&self) -> bool {
-        self.trace_id.is_trace_id() && self.span_id.is_span_id() && all_profile(&self.pairs)
+        is_trace_id(&self.trace_id) && is_span_id(&self.span_id) && all_profile(&self.pairs)
     }
 }
 
@@ -131,9 +129,9 @@ impl Profiled for Span {
     ghost within = { IsProfileSpan };
 
     fn is_profile(&self) -> bool {
-        self.trace_id.is_trace_id()
-            && self.span_id.is_span_id()
-            && self.parent_span_id.is_span_id()
+        is_trace_id(&self.trace_id)
+            && is_span_id(&self.span_id)
+            && is_span_id(&self.parent_span_id)
             && all_profile(&self.pairs)
             && all_profile(&self.events)
             && all_profile(&self.links)

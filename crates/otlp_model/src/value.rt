@@ -1,6 +1,4 @@
-use crate::list::Items;
-use crate::octets::Octets;
-use crate::text::Text;
+use lists::{Items, Octets, Text};
 
 /// A value of an attribute or a log body (OTLP `AnyValue`).
 ///

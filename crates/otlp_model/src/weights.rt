@@ -1,11 +1,13 @@
-ghost use Rattle.std.specs.Prelude.{◌≡◌, ℕ, ◌^◌, min, IsTrue};
+ghost use Rattle.std.specs.Prelude.{◌≡◌, ℕ, ◌^◌, min, length, IsTrue};
 ghost use Rattle.std.specs.List.{list_all};
+ghost use Rattle.lists.specs.Bytes.{is_real_text, is_real_octets};
 ghost use Rattle.otlp_model.specs.Each.{Each};
 ghost use Rattle.otlp_model.specs.Weight.{weight_of_value, weight_of_pair, total};
 ghost use Rattle.otlp_model.specs.Real.{is_real_value, are_real_pairs};
 
 use crate::limits::add_capped;
 use crate::value::{Pair, Value};
+use lists::{Octets, Text};
 
 /// What a part of a request weighs, beside its texts, byte strings and numbers.
 pub(crate) const PART: u64 = 32;
@@ -64,7 +66,8 @@ pub(crate) fn pairs_weight(pairs: &[Pair]) -> u64
     weight
 }
 
-/// A part of a request that weighs: an item, an event, a link, a point, a quantile, an exemplar or a group.
+/// A part of a request that weighs: an item, an event, a link, a point, a quantile, an exemplar, a group, or a text or
+/// byte string, which weighs its bytes.
 ///
 /// An `impl` reads the part's numbers too, which tells a proof that they fit their types.
 pub(crate) trait Weighed {
@@ -75,6 +78,30 @@ pub(crate) trait Weighed {
     fn weight(&self) -> u64
         ensures weight { result ≡ min (weight_of self.now) (2 ^ 63) }
         ensures real { is_real self.now };
+}
+
+impl Weighed for Text {
+    ghost weight_of = { λ text. length text };
+
+    ghost is_real = { λ text. IsTrue (is_real_text text) };
+
+    #[inline]
+    #[tactic(auto, using(lists::proofs::RealBytes::real_text))]
+    fn weight(&self) -> u64 {
+        self.as_slice().len() as u64
+    }
+}
+
+impl Weighed for Octets {
+    ghost weight_of = { λ octets. length octets };
+
+    ghost is_real = { λ octets. IsTrue (is_real_octets octets) };
+
+    #[inline]
+    #[tactic(auto, using(lists::proofs::RealBytes::real_octets))]
+    fn weight(&self) -> u64 {
+        self.as_slice().len() as u64
+    }
 }
 
 /// The weight of some parts, with `each` for every one.

@@ -6,9 +6,9 @@ use Rattle.otap_consume.specs.declared.not_taken.NotTaken.TheVariants.{Defect}
 use Rattle.otap_consume.specs.Defects.{StandsInList, is_taken}
 use Rattle.otap_consume.specs.Ids.{ids_after, has_other, opened}
 use Rattle.otap_consume.specs.Stops.{Stops}
-use Rattle.histories.proofs.Lists.{front_more}
+use Rattle.lists.proofs.Lists.{front_more}
 use Rattle.otap_consume.proofs.IdSteps.{ids_step, taken_is}
-use Rattle.histories.proofs.Growing.{all_after-push}
+use Rattle.lists.proofs.Growing.{all_after-push}
 use Rattle.otap_consume.proofs.ids.check_ids.Goals as goal
 
 pub payloads-init : goal.payloads-init

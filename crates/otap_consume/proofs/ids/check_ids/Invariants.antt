@@ -3,7 +3,7 @@ use Rattle.otlp_model.specs.declared.request.Signal.{Signal}
 use Rattle.otap_capture.specs.Batch.{PayloadContent}
 use Rattle.otap_consume.specs.Defects.{is_taken}
 use Rattle.otap_consume.specs.Ids.{ids_of, ids_after}
-use Rattle.histories.specs.EachAfter.{AllAfter}
+use Rattle.lists.specs.EachAfter.{AllAfter}
 use Rattle.otap_consume.proofs.ids.check_ids.Given as goal
 
 -- the ids are those after the payloads so far, whose own ids are not taken

@@ -4,7 +4,7 @@ use Rattle.otap_capture.specs.Batch.{content_of}
 use Rattle.otap_cells.specs.Payload.{kind_numbered}
 use Rattle.otap_consume.specs.PayloadTypes.{IsFineType, times}
 use Rattle.otap_consume.proofs.Lists.{all_push}
-use Rattle.histories.proofs.Lists.{front_more}
+use Rattle.lists.proofs.Lists.{front_more}
 use Rattle.otap_consume.proofs.FineTypes.{fine_type}
 use Rattle.otap_consume.proofs.payload_types.check_types.Goals as goal
 

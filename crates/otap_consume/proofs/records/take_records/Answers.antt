@@ -1,6 +1,6 @@
 use Rattle.std.proofs.Common.{◌∙◌, ◌++◌, ◌∷◌, [], List, sym, ap, refl}
 use Rattle.otap_capture.specs.Batch.{PayloadContent, content_of}
-use Rattle.histories.proofs.Lists.{front_more}
+use Rattle.lists.proofs.Lists.{front_more}
 use Rattle.otap_consume.proofs.RecordSteps.{takes_none, takes_more, stops_at}
 use Rattle.otap_consume.proofs.records.take_records.Goals as goal
 

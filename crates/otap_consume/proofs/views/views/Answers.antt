@@ -3,7 +3,7 @@ use Rattle.otap_capture.specs.Batch.{PayloadContent, content_of}
 use Rattle.otap_cells.specs.declared.payload.Kind.{Kind}
 use Rattle.otap_cells.specs.Tables.{Table}
 use Rattle.otap_consume.specs.Views.{IsViewOf, AreViewsOf}
-use Rattle.histories.proofs.Lists.{front_more}
+use Rattle.lists.proofs.Lists.{front_more}
 use Rattle.otap_consume.proofs.Lists.{zip-push}
 use Rattle.otap_consume.proofs.ViewSteps.{shown_at}
 use Rattle.otap_consume.proofs.views.views.Goals as goal

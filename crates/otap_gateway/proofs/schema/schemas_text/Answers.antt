@@ -4,7 +4,7 @@ use Rattle.otlp_messages.proofs.Steps.{AllByRecursion-append}
 use Rattle.otap_capture.specs.Batch.{content_of, PayloadContent}
 use Rattle.otap_gateway.specs.Openings.{BeginsWell}
 use Rattle.otap_gateway.specs.Schemas.{payload_lines}
-use Rattle.histories.proofs.Lists.{front_more}
+use Rattle.lists.proofs.Lists.{front_more}
 use Rattle.otap_gateway.proofs.schema.schemas_text.Goals as goal
 
 pub payloads-preserved : goal.payloads-preserved

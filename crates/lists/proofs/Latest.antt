@@ -4,7 +4,7 @@ use Rattle.std.specs.Prelude.{if◌then◌else◌, ◌||◌}
 use Rattle.std.specs.List.{list_any}
 use Rattle.std.proofs.lemmas.List.Folds.{list_any-append}
 use Rattle.std.proofs.lemmas.Bool.{cases_Bool, false≢true}
-use Rattle.histories.specs.Since.{since, last_after}
+use Rattle.lists.specs.Since.{since, last_after}
 
 -- all of a list in which nothing passes
 pub since-none : {A : Type 0} (p : A → Bool) (xs : List A) → list_any p xs ≡ false → since p xs ≡ xs

@@ -1,6 +1,5 @@
-ghost use Rattle.std.specs.Prelude.{◌≡◌, [], ◌++◌, ◌<◌, ◌≤◌, ◌^◌, ◌↔◌, length, take, IsTrue, IfOk, OnOk, OnErr, IsUtf8, encode_utf8};
+ghost use Rattle.std.specs.Prelude.{◌≡◌, [], ◌++◌, ◌≤◌, ◌↔◌, length, take, IsTrue, IfOk, OnOk, OnErr, IsUtf8, encode_utf8};
 ghost use Rattle.std.specs.Option.{SomeIff};
-ghost use Rattle.otlp_model.specs.Bytes.{is_real_text};
 
 use std::alloc::{AllocError, Global};
 use std::marker::Model;
@@ -61,7 +60,7 @@ impl Model for Text {
 
     ghost Value = { List ℕ };
 
-    ghost use Rattle.otlp_model.specs.Held.{letters_in, HasLetters};
+    ghost use Rattle.lists.specs.Held.{letters_in, HasLetters};
 
     ghost view = { λ a. letters_in a.letters };
 
@@ -174,17 +173,6 @@ impl Text {
         }
         // SAFETY: the bytes of a text are UTF-8.
         unsafe { str::from_utf8_unchecked(self.as_slice()) }
-    }
-
-    /// What the text weighs: its bytes.
-    #[inline]
-    #[tactic(auto, using(crate::proofs::RealParts::real_text))]
-    pub(crate) fn weight(&self) -> u64
-        ensures weight { result ≡ length self.now }
-        ensures real { IsTrue (is_real_text self.now) }
-        ensures fits { length self.now < 2 ^ 63 }
-    {
-        self.as_slice().len() as u64
     }
 
     /// Appends the UTF-8 bytes of the letter. Where no memory is found the text is as before.

@@ -1,7 +1,7 @@
 -- What a list ends as, where a `&mut` to one of its items is returned.
 use Rattle.std.specs.Prelude.{ℕ, List, Option, slice_set}
 use Rattle.std.specs.Borrow.{LendsIf, Fml, RattleType, MutBor}
-use Rattle.otlp_model.specs.contracts.list.Items.{the_row}
+use Rattle.lists.specs.contracts.items.Items.{the_row}
 
 -- once the borrow r ends, the place has the last value written through r, and at `None` the list stays as it is
 abbrev pub lends_item : (T : RattleType) → MutBor (List T.Denot) → ℕ → Option (MutBor T.Denot) → Fml

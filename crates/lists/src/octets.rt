@@ -1,5 +1,4 @@
-ghost use Rattle.std.specs.Prelude.{◌≡◌, [], ◌∷◌, ◌++◌, ◌<◌, ◌≤◌, ◌^◌, ◌↔◌, length, IsTrue, IfOk, OnOk, OnErr, All};
-ghost use Rattle.otlp_model.specs.Bytes.{is_real_octets};
+ghost use Rattle.std.specs.Prelude.{◌≡◌, [], ◌∷◌, ◌++◌, ◌<◌, ◌≤◌, ◌↔◌, length, IsTrue, IfOk, OnOk, OnErr, All};
 
 use std::alloc::{AllocError, Global};
 use std::marker::Model;
@@ -31,7 +30,7 @@ impl Model for Octets {
 
     ghost Value = { List ℕ };
 
-    ghost use Rattle.otlp_model.specs.Held.{bytes_in, HasBytes};
+    ghost use Rattle.lists.specs.Held.{bytes_in, HasBytes};
 
     ghost view = { λ a. bytes_in a.held };
 
@@ -108,17 +107,6 @@ impl Octets {
             Held::Short { len, bytes, .. } => &bytes[..usize::from(*len)],
             Held::Long(bytes) => bytes.as_slice(),
         }
-    }
-
-    /// What the bytes weigh: 1 each.
-    #[inline]
-    #[tactic(auto, using(crate::proofs::RealParts::real_octets))]
-    pub(crate) fn weight(&self) -> u64
-        ensures weight { result ≡ length self.now }
-        ensures real { IsTrue (is_real_octets self.now) }
-        ensures fits { length self.now < 2 ^ 63 }
-    {
-        self.as_slice().len() as u64
     }
 
     /// Appends the byte. Where no memory is found the bytes are as before.

@@ -1,6 +1,6 @@
 -- What holds of each element, or pair, after those before it, as the lists grow.
 use Rattle.std.proofs.Common.{◌≡◌, List, [], ◌∷◌, ◌++◌, length, suc, refl, ap, sym, subst, append_assoc, append-nil}
-use Rattle.histories.specs.EachAfter.{EachAfter, AllAfter}
+use Rattle.lists.specs.EachAfter.{EachAfter, AllAfter}
 
 module _ {A B : Type 0} (R : List A → List B → A → B → Type 0) where
   -- one more pair, which is allowed after all that came before

@@ -1,3 +1,4 @@
 pub mod Growing
 pub mod Latest
 pub mod Lists
+pub mod RealBytes

@@ -1,7 +1,7 @@
 ghost use Rattle.std.specs.Prelude.{◌≡◌, [], ◌∷◌, ◌++◌, ◌↔◌, length, slice_get, IsTrue, OnOk, OnErr};
 ghost use Rattle.std.specs.Option.{option_copied, option_copied_mut};
 ghost use Rattle.std.specs.Borrow.{sem};
-ghost use Rattle.otlp_model.specs.Lends.{lends_item};
+ghost use Rattle.lists.specs.Lends.{lends_item};
 
 use std::alloc::{AllocError, Global};
 use std::marker::Model;

@@ -1,9 +1,9 @@
 -- What texts and byte strings hold, where short ones stand inside themselves.
 use Rattle.std.specs.Prelude.{ℕ, ◌≤◌, List, take, string_bytes, IsUtf8}
-use Rattle.otlp_model.specs.declared.text.Letters.{Letters}
-use Rattle.otlp_model.specs.declared.text.Letters.TheVariants as letters
-use Rattle.otlp_model.specs.declared.octets.Held.{Held}
-use Rattle.otlp_model.specs.declared.octets.Held.TheVariants as held
+use Rattle.lists.specs.declared.text.Letters.{Letters}
+use Rattle.lists.specs.declared.text.Letters.TheVariants as letters
+use Rattle.lists.specs.declared.octets.Held.{Held}
+use Rattle.lists.specs.declared.octets.Held.TheVariants as held
 
 abbrev pub letters_in : Letters → List ℕ
 letters_in (letters.Short short) = take short.len short.bytes

@@ -1,2 +1,0 @@
-pub mod EachAfter
-pub mod Since

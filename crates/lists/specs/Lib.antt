@@ -1,0 +1,6 @@
+pub mod Bytes
+pub mod EachAfter
+pub mod Held
+pub mod Lends
+pub mod Since
+pub mod formers

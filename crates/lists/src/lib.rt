@@ -1,0 +1,15 @@
+//! Lists: growing lists, texts and byte strings that contracts see as plain lists, and words for lists that look back.
+//!
+//! The words are a relation that holds of each element after what came before it, a list from its latest element on that
+//! passes a test, and its last element, with their few laws.
+#![tactic(auto)]
+
+mod items;
+mod octets;
+#[cfg(test)]
+mod tests;
+mod text;
+
+pub use items::Items;
+pub use octets::Octets;
+pub use text::Text;
