@@ -84,10 +84,14 @@ impl<T: Drop> Items<T> {
     }
 
     /// Finds room for `more` items beside those that stand, so that pushing them allocates nothing. The list stays as it
-    /// is.
+    /// is, and one that has no room at all gets exactly so much.
     pub fn reserve(&mut self, more: usize) -> Result<(), AllocError>
         ensures { self.new ≡ self.old }
     {
-        self.items.reserve(more)
+        if self.items.capacity() == 0 {
+            self.items.reserve_exact(more)
+        } else {
+            self.items.reserve(more)
+        }
     }
 }
