@@ -1,4 +1,3 @@
-pub mod formers
 pub mod Limits
 pub mod Types
 pub mod Trees

@@ -6,7 +6,7 @@ ghost use Rattle.flat_tables.specs.Bytes as flat_reading;
 ghost use Rattle.arrow_schema.specs.Slots as slots;
 ghost use Rattle.arrow_schema.specs.Reading as reading;
 
-use crate::name::Name;
+use crate::Name;
 use crate::refusal::SchemaRefusal;
 use crate::spec::{ArrowType, DictSpec, MAX_FIXED};
 use flat_tables::{FlatFault, TableView};

@@ -5,8 +5,6 @@ mod agreement;
 mod encoding;
 mod field;
 pub mod laws;
-mod list;
-mod name;
 mod reading;
 mod refusal;
 mod spec;
@@ -14,11 +12,10 @@ mod spec;
 mod tests;
 mod writing;
 
-pub use crate::list::FieldList;
-pub use crate::name::Name;
 pub use crate::reading::read_schema;
 pub use crate::refusal::SchemaRefusal;
 pub use crate::spec::{
     ArrowType, DictSpec, Encoding, FieldSpec, MAX_DEPTH, MAX_FIELDS, MAX_FIXED, SchemaSpec,
 };
 pub use crate::writing::{MAX_SIZE_BEFORE, MAX_WRITTEN_FIELDS, MAX_WRITTEN_NAMES, add_schema};
+pub use lists::{Items as FieldList, Text as Name};

@@ -8,10 +8,10 @@ ghost use Rattle.arrow_schema.specs.Readable.{IsReadable, fits_children};
 ghost use Rattle.arrow_schema.specs.Defects.{HasDefect, RefusalStands};
 ghost use Rattle.arrow_schema.specs.Reading.{Gives, field_of, fields_from, slot_of, vector_of, schema_of};
 
+use crate::FieldList;
 use crate::agreement::{names_differ, uses_agree};
 use crate::encoding::read_encoding;
 use crate::field::{read_dictionary, read_name, read_type};
-use crate::list::FieldList;
 use crate::refusal::SchemaRefusal;
 use crate::spec::{ArrowType, FieldSpec, MAX_DEPTH, MAX_FIELDS, SchemaSpec};
 use flat_tables::{TableView, VectorView};

@@ -2,8 +2,7 @@ ghost use Rattle.std.specs.Prelude.{◌≡◌, ◌==◌, ◌++◌, ◌∷◌, []
 ghost use Rattle.std.specs.Option.{option_copied};
 ghost use Rattle.arrow_schema.specs.Types.{is_element_type, takes_dictionary, type_number};
 
-use crate::list::FieldList;
-use crate::name::Name;
+use crate::{FieldList, Name};
 use std::alloc::{AllocError, Global};
 use std::marker::Model;
 
