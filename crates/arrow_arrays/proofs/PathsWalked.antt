@@ -101,7 +101,7 @@ one_before f above arrays before inside place a p at is =
 
 -- ---- the paths of all arrays
 
--- a list that is made of one number more
+-- a list that is made of one more number
 one_more : {X : Type 0} (f g : ℕ → X) (n : ℕ) (x : X) → ((k : ℕ) → k < n → f k ≡ g k) → f n ≡ x → map f (range_with_len 0 (n + 1)) ≡ map g (range_with_len 0 n) ++ x ∷ []
 one_more f g n x each here =
     let same : map f (range_with_len 0 n) ≡ map g (range_with_len 0 n) =

@@ -73,7 +73,7 @@ struct_layout other dict is fits = absurd (false≢true is)
 no_children : (children : List FieldSpec) (k : ArrowType) → is_list k ≡ false → is_struct k ≡ false → fits_children k children ≡ true → no_fields children ≡ true
 no_children children k list struct fits = rw (list, struct) at fits
 
--- one array more, below what is raised so far
+-- one more array, below what is raised so far
 record IsOneMore (level : ℕ) (arrays : List ArraySpec) (x : ArraySpec) : Type 0 where
   all : AreRaised (arrays ++ x ∷ [])
   own : IsRaised (suc level) (arrays ++ x ∷ []) (length arrays)

@@ -54,7 +54,7 @@ add_field_is f above arrays =
     ap (λ (add : Adds). add above arrays) (step_is f)
     ∙ each_is (children_in f) (above_children (kind_in f) (length arrays)) (arrays ++ array_after arrays above (name_in f) (kind_in f) (dict_in f) (encoding_in f) ∷ [])
 
--- one field more
+-- one more field
 pub walk_step : (fs : List FieldSpec) (i : ℕ) (f : FieldSpec) (above : Above) (arrays after all : List ArraySpec) → i < length fs → f ≡ get_or fs i f
     → after ≡ add_field f above arrays → add_fields (drop i fs) above arrays ≡ all → add_fields (drop (i + 1) fs) above after ≡ all
 walk_step fs i f above arrays after all lt is added so_far =
@@ -70,7 +70,7 @@ count_within [] i f lt is = absurd (omega (arith, lt))
 count_within (g ∷ fs) zero f lt is = rw is (omega arith)
 count_within (g ∷ fs) (suc i) f lt is = omega (arith, count_within fs i f (omega (arith, lt)) is)
 
--- one array more, without a fault or with one
+-- one more array, without a fault or with one
 check_first : (batch : BatchIn) (arrays : List ArraySpec) (i : ℕ) (a : ArraySpec) → i < length arrays → a ≡ get_or arrays i a
     → arrays_check batch (drop i arrays) ≡ result_and (array_check batch (place_of a)) (arrays_check batch (drop (i + 1) arrays))
 unfolding arrays_check
@@ -111,7 +111,7 @@ path_step (suc depth) arrays place a some at =
     let less : suc depth - 1 ≡ depth = omega arith in
     ap (λ (d : ℕ). path_below (path_within d arrays) a.above a.name) less ∙ ap (path_to (path_within depth arrays)) at
 
--- one name more, after those of what stands above
+-- one more name, after those of what stands above
 pub path_pushed : {B : Type 0} (view : B → List ℕ) (middle new : List B) (x : B) (before above whole : List (List ℕ)) (name : List ℕ) → new ≡ middle ++ x ∷ [] → view x ≡ name
     → map view middle ≡ before ++ above → above ++ name ∷ [] ≡ whole → map view new ≡ before ++ whole
 path_pushed view middle new x before above whole name one named mid all =

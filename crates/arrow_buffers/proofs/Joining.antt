@@ -11,7 +11,7 @@ use Rattle.arrow_buffers.specs.Offsets.{offset_at, offsets_check, span_at}
 use Rattle.arrow_buffers.proofs.Spans.{check-cases}
 use Rattle.arrow_buffers.proofs.Faults.{fine-offsets}
 
--- one number more
+-- one more number
 pub range-more : (n : ℕ) → range_with_len 0 (n + 1) ≡ range_with_len 0 n ++ n ∷ []
 range-more n =
     sym (map-id (range_with_len 0 (n + 1))) ∙ map-range_with_len_more (λ (k : ℕ). k) 0 n n (omega arith) ∙ ap (λ ks. ks ++ n ∷ []) (map-id (range_with_len 0 n))

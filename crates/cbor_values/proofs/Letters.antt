@@ -16,7 +16,7 @@ encode_utf8_all-push (first ∷ letters) letter =
     ap (λ (t : List ℕ). encode_utf8 first ++ t) (encode_utf8_all-push letters letter)
     ∙ sym (append_assoc (encode_utf8 first) (encode_utf8_all letters) (encode_utf8 letter))
 
--- a letter more
+-- one more letter
 pub letter_pushed : (before text new letters : List ℕ) (letter : ℕ) → text ≡ before ++ encode_utf8_all letters
     → new ≡ text ++ encode_utf8 letter → new ≡ before ++ encode_utf8_all (letters ++ letter ∷ [])
 letter_pushed before text new letters letter is pushed =

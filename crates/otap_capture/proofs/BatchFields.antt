@@ -65,7 +65,7 @@ pub one_at_most : (b : Bool) → cond b 1 0 ≤ 1
 one_at_most true = omega arith
 one_at_most false = omega arith
 
--- the marks after one field more
+-- the marks after one more field
 marks_more : (marks : List Bool) (seen : Bool) (n : ℕ) → slice_index_or marks 1 false ≡ seen → 1 < length marks
     → slice_index_or (set marks (mark_of BatchArrowRecords n) (not (mark_of BatchArrowRecords n == 0))) 1 false ≡ (seen || n == 1)
 marks_more marks seen n first room = elim (cases_eq n 1) [

@@ -108,7 +108,7 @@ written bytes b real is small =
     let read : batch_in bytes ≡ b = ap batch_in is ∙ sym (batch_back b real (rw is at small)).1 in
     record { read = read; real = subst IsRealBatch (sym read) real; canonical = is ∙ ap canon_batch (sym read) }
 
--- a batch without payloads, and one payload more
+-- a batch without payloads, and one more payload
 pub written_first : (bytes : List ℕ) (id : ℤ) → FitsSigned w64 id → bytes ≡ canon_row 1 (signed_row id) → length bytes < 2 ^ 64 → AreWritten bytes (record { id = id; payloads = [] })
 unfolding canon_batch
 written_first bytes id fits is small =

@@ -16,7 +16,7 @@ use Rattle.otap_capture.specs.Batch.{BatchContent, defect_of, payloads_in}
 abbrev pub Says : BatchContent → Scan → Type 0
 Says batch scan = (scan.id ≡ batch.id) × (scan.count ≡ length batch.payloads)
 
--- one field more is looked at
+-- one more field is looked at
 pub record SaysMore (old new : Scan) (f : Entry) : Type 0 where
   pub once : f.number ≡ 1 → old.seen ≡ false
   pub seen : new.seen ≡ (old.seen || f.number == 1)

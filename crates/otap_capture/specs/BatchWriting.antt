@@ -13,7 +13,7 @@ pub record IsWritten (w : Inside) : Type 0 where
   pub real : IsRealBatch (written_of w)
   pub canonical : w.bytes.items ≡ canon_batch (written_of w)
 
--- one payload more
+-- one more payload
 abbrev pub with_payload : BatchContent → PayloadContent → BatchContent
 with_payload b p = record { id = b.id; payloads = b.payloads ++ p ∷ [] }
 

@@ -199,7 +199,7 @@ fn scan_fields(bytes: &[u8]) -> Result<Scan, BatchRefusal>
 }
 
 impl Scan {
-    /// Looks at one field more.
+    /// Looks at one more field.
     #[inline(always)]
     fn take(&mut self, field: &Field<'_>) -> Result<(), BatchRefusal>
         requires { self.old.count + 1 < 2 ^ 64 }
@@ -270,7 +270,7 @@ fn parts_of(part: &[u8]) -> Parts<'_>
     parts
 }
 
-/// The parts after one field more.
+/// The parts after one more field.
 fn parts_with<'a>(parts: Parts<'a>, field: Field<'a>) -> Parts<'a>
     ensures schema_id { result.schema_id.now ≡ at 1 bytes_in parts.entry.schema_id.now (entry field.entry) }
     ensures kind { result.kind ≡ at 2 int32_in parts.entry.kind (entry field.entry) }

@@ -72,7 +72,7 @@ no_bytes base.ListU64 (bytes part) fits not = cc
 no_bytes base.ListF64 (bytes part) fits not = cc
 no_bytes (base.Id wide) (bytes part) fits not = absurd fits
 
--- one cell more of a column
+-- one more cell of a column
 pub cells_go_on : (rows : List (List Cell)) (column row total b later : ℕ) (cell : Cell) → row < length rows
     → total ≡ min (sum_by cell_weight (take row (column_in rows column))) (2 ^ 63) → b ≡ cell_weight cell → cell ≡ cell_in rows column row
     → later ≡ min (total + b) (2 ^ 63) → later ≡ min (sum_by cell_weight (take (row + 1) (column_in rows column))) (2 ^ 63)
@@ -87,7 +87,7 @@ columns_more : (rows : List (List Cell)) (column : ℕ)
     → column_weights (map (column_in rows) (range_with_len 0 (column + 1))) ≡ column_weights (map (column_in rows) (range_with_len 0 column)) + sum_by cell_weight (column_in rows column)
 columns_more rows column = sum_by-map-range_with_len_more (λ cells. sum_by cell_weight cells) (column_in rows) 0 column column (omega arith)
 
--- one column more
+-- one more column
 pub columns_go_on : (rows : List (List Cell)) (column first total b later : ℕ)
     → total ≡ min (first + column_weights (map (column_in rows) (range_with_len 0 column))) (2 ^ 63)
     → b ≡ min (sum_by cell_weight (column_in rows column)) (2 ^ 63) → later ≡ min (total + b) (2 ^ 63)

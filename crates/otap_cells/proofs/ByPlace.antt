@@ -82,7 +82,7 @@ IsTable-table_by kind coding greatest count cell fits coded bounded = record {
       | inr wide ↦ rw (cell_in-beyond kind count cell column row (inl wide)) beyond
     ]
 
--- one row more
+-- one more row
 pub rows_by-more : (kind : Kind) (count : ℕ) (cell : ℕ → ℕ → Cell) → rows_by kind (count + 1) cell ≡ rows_by kind count cell ++ row_by kind cell count ∷ []
 rows_by-more kind count cell = map-range_with_len_more (row_by kind cell) 0 count count (omega arith)
 

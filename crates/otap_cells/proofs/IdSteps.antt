@@ -1,4 +1,4 @@
--- One row more of ids, as loops go over them.
+-- One more row of ids, as loops go over them.
 use Rattle.std.proofs.Common.{◌≡◌, ℕ, zero, suc, ◌+◌, ◌-◌, ◌≤◌, ◌<◌, nat_le, Bool, true, false, List, [], ◌∷◌, ◌++◌, take, drop, set, get_or, map, length, Option, None, Some, refl, sym, ◌∙◌, ap, arith}
 use Rattle.std.proofs.Common.{add-one, append_assoc, append-nil, le-leb}
 use Rattle.std.proofs.lemmas.List.{drop_more, take_more, take_more_set, drop-set-lt, take-append-drop, length-map, map-set, get_or-map, take_all, drop_all}

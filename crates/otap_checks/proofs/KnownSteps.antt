@@ -1,4 +1,4 @@
--- Steps of reading the ids of tables: a column more, and a table more.
+-- Steps of reading the ids of tables: one more column, and one more table.
 use Rattle.std.proofs.Common.{◌≡◌, ℕ, ◌<◌, ◌+◌, true, false, List, [], ◌∷◌, ◌++◌, get_or, length, inl, inr, refl, sym, ◌∙◌, ap, subst, arith}
 use Rattle.std.specs.Prelude.{Contains}
 use Rattle.std.proofs.lemmas.Bool.{cases_eq, eq-eqb, false≢true}
@@ -58,7 +58,7 @@ one_table_more links place e known new within keeps below here k d less =
       | inr differ ↦ λ column id. let there = below k d (omega (arith, differ)) column id in (there.0, keeps there.0 there.1, there.2)
     ]
 
--- a link more has nothing wrong
+-- one more link has nothing wrong
 pub one_link_more : (known : List ColumnIds) (links : List Link) (place : ℕ) (e : Link) → place < length links
     → ((k : ℕ) (d : Link) → k < place → (wrong : RowRefusal) → KnownFault known (get_or links k d) wrong → ⊥) → ((wrong : RowRefusal) → KnownFault known (get_or links place e) wrong → ⊥)
     → (k : ℕ) (d : Link) → k < place + 1 → (wrong : RowRefusal) → KnownFault known (get_or links k d) wrong → ⊥

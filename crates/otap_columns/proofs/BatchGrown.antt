@@ -11,7 +11,7 @@ use Rattle.arrow_ipc.specs.Written.{padded, body_size, most_of}
 use Rattle.arrow_arrays.specs.Written.{PartIn, struct_part, element_part}
 use Rattle.otap_columns.specs.WrittenCells.{HasRoom, GrowsBy, parts_of, with_part, with_parts}
 
--- ---- one part more
+-- ---- one more part
 
 size-append : (xs ys : List (List ℕ)) → body_size (xs ++ ys) ≡ body_size xs + body_size ys
 size-append xs ys = sum_by-append (λ (part : List ℕ). padded (length part)) xs ys

@@ -59,7 +59,7 @@ pub heads_alike : (f g : ℕ → List IpcMessage) (n : ℕ) → ((column : ℕ) 
 heads_alike f g zero same = refl
 heads_alike f g (suc n) same = λ i. heads_alike f g n (λ column low. same column (omega arith)) i ++ same n (omega arith) i
 
--- a batch for one column more
+-- a batch for one more column
 with_batch : (ℕ → BatchIn) → ℕ → BatchIn → ℕ → BatchIn
 with_batch batches n batch column = if nat_lt column n then batches column else batch
 

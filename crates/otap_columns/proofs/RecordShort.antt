@@ -25,7 +25,7 @@ use Rattle.otap_columns.proofs.Keeping.{fields_few}
 use Rattle.otap_columns.proofs.NamesShort.{names_short}
 use Rattle.otap_columns.proofs.Summing.{sum_of-less, sum_of-times}
 
--- ---- one message more
+-- ---- one more message
 
 appended : (written old new : List ℕ) (most : ℕ) → new ≡ old ++ written → length written ≤ most → AddsAtMost most old new
 appended written old new most whole few = omega (arith, ap length whole, length-append old written, few)

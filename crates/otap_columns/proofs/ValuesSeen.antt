@@ -26,7 +26,7 @@ use Rattle.otap_columns.specs.Schemas.{is_there, is_dictionary, fits_form, Forms
 use Rattle.otap_columns.specs.Observed.{bytes_for, id_bits, FitsForm, given, values_in, seen, is_own_id, is_above, is_wide, has_wide_id, if_seen, id_form, id_form_if, of_ladder, form_at, values_at, new_at}
 use Rattle.otap_columns.proofs.CellsBack.{null_bytes}
 
--- ---- one table more
+-- ---- one more table
 
 pub seen-push : (kind : Kind) (tables : List Table) (t : Table) (column : ℕ) → seen kind (tables ++ t ∷ []) column ≡ seen kind tables column ++ values_in kind column t
 unfolding seen

@@ -110,7 +110,7 @@ parts_of width.Var b = record { rows = b.rows; nulls = b.nulls; buffers = b.vali
 parts_of (width.List n) b =
     record { rows = b.rows; nulls = b.nulls; buffers = b.validity.items ∷ b.offsets.items ∷ [] } ∷ element_part (length b.values.items / 8) b.values.items ∷ []
 
--- a batch with one part more
+-- a batch with one more part
 abbrev pub with_part : BatchIn → PartIn → BatchIn
 with_part batch p = record { rows = batch.rows; nodes = batch.nodes ++ (pos p.rows, pos p.nulls) ∷ []; buffers = batch.buffers ++ p.buffers }
 

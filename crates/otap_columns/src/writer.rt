@@ -59,7 +59,7 @@ impl Writer {
         }
     }
 
-    /// The record of one table more. It opens a sub-stream where nothing was written, or the form of a column changed. Its length
+    /// The record of one more table. It opens a sub-stream where nothing was written, or the form of a column changed. Its length
     /// is within `record_limit`, whatever was written before. After want of memory the writer is broken.
     pub fn write(&mut self, table: &LogicalTable) -> Result<Written, AllocError>
         requires wrote { (tables : List Table) × HasWritten tables self.old }
@@ -113,7 +113,7 @@ fn unseen_columns(alloc: Global, kind: Kind) -> Result<Vec<SeenColumn>, AllocErr
     Ok(seen)
 }
 
-// The record of one table more, after those that the columns were observed in.
+// The record of one more table, after those that the columns were observed in.
 fn write_next(
     alloc: Global,
     started: bool,

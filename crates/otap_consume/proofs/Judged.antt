@@ -34,7 +34,7 @@ use Rattle.otap_consume.proofs.ViewSteps.{fine_at}
 
 -- ---- the sub-stream of a type that was taken has a schema, or no messages
 
--- one payload more
+-- one more payload
 goes_on : (signal : Signal) (before : List PayloadContent) (p : PayloadContent) → CanGoOn (messages_in p.kind before) → IsTakenAfter signal before p → CanGoOn (messages_in p.kind (before ++ p ∷ []))
 unfolding opens
 goes_on signal before p can t = by_test (opens_after (last_in p.kind before) (part_of p)) refl

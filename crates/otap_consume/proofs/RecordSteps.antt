@@ -1,4 +1,4 @@
--- The streams take one payload more.
+-- The streams take one more payload.
 use Rattle.std.proofs.Common.{◌≡◌, ◌⊎◌, inl, inr, ℕ, ◌<◌, true, false, List, [], ◌∷◌, ◌++◌, length, get_or, map, Option, Some, None, refl, sym, ap, ◌∙◌, subst, append_assoc, append-nil, arith}
 use Rattle.std.specs.Prelude.{slice_set, zero, suc}
 use Rattle.std.specs.Ordering.{int_eq}
@@ -36,7 +36,7 @@ takes_none streams = record {
   after = λ past are k d inside. subst (λ (ps : List PayloadContent). IsAfter ps (get_or streams k d)) (sym (append-nil past)) (are k d inside);
 }
 
--- what is shown after one payload more
+-- what is shown after one more payload
 shown : (done : List PayloadContent) (p : PayloadContent) (old new : StreamIn) → ShowsAfter done old → Takes old p new → ShowsAfter (done ++ p ∷ []) new
 shown done p old new before takes = go (cases_Bool (int_eq p.kind (type_of old.kind)))
   where

@@ -26,7 +26,7 @@ use Rattle.otap_consume.specs.Stops.{Stops}
 use Rattle.otap_consume.specs.Streams.{StreamIn, AreAfter}
 use Rattle.otap_consume.specs.Taking.{AcceptsBehind, IsStopped}
 
--- ---- one outcome more
+-- ---- one more outcome
 
 or_false : (b : Bool) → (b || false) ≡ b
 or_false true = refl

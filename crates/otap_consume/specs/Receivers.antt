@@ -18,7 +18,7 @@ taken_of m (Accepted batch tables) = taken.Accepted batch.id (m.request tables) 
 taken_of m (Refused refusal) = taken.Refused refusal
 taken_of m Reset = taken.Reset
 
--- the next frame gives an outcome, for which this is returned, and the receiver stands for one frame more
+-- the next frame gives an outcome, for which this is returned, and the receiver stands for one more frame
 pub record HasReceived (m : Meaning) (outcomes : List Outcome) (frame : Frame) (new : SegmentIn) (answer : Taken) : Type 0 where
   pub outcome : Outcome
   pub gives : ReceivedAfter m outcomes frame outcome

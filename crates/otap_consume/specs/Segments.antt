@@ -35,7 +35,7 @@ Tells (Refused refusal) (seen.Refused told) = told ≡ refusal
 Tells Reset seen.Reset = ⊤
 Tells outcome answer = ⊥
 
--- the next frame gives an outcome, which is told, and the segment stands for one frame more
+-- the next frame gives an outcome, which is told, and the segment stands for one more frame
 pub record HasNext (signal : Signal) (outcomes : List Outcome) (frame : Frame) (answer : Seen) (new : SegmentIn) : Type 0 where
   pub outcome : Outcome
   pub gives : OutcomeAfter signal outcomes frame outcome

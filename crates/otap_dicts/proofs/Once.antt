@@ -12,7 +12,7 @@ use Rattle.std.proofs.lemmas.Map.Keys.{IsDistinct-push}
 use Rattle.std.proofs.lemmas.Map.Steps.{list_any_congr}
 use Rattle.otap_dicts.specs.Forms.{with_value, distinct}
 
--- one value more
+-- one more value
 once-step : (has : Bool) (values : List (List ℕ)) (value : List ℕ) → list_any (bytes_eq value) values ≡ has → IsDistinct bytes_eq values → IsDistinct bytes_eq (if has then values else values ++ value ∷ [])
 once-step true values value is once = once
 once-step false values value is once = IsDistinct-push nat_list_eq_equiv values value once is

@@ -1,4 +1,4 @@
--- What a ladder tells of the values that were observed, and what one value more changes.
+-- What a ladder tells of the values that were observed, and what one more value changes.
 use Rattle.std.specs.Prelude.{◌≡◌, ℕ, ◌+◌, Bool, true, false, ◌&&◌, not, if◌then◌else◌, List, [], ◌∷◌, ◌++◌, length, bytes_eq}
 use Rattle.std.specs.List.{list_any}
 use Rattle.otap_dicts.specs.declared.form.Form.{Form}
@@ -28,14 +28,14 @@ kept_in form values = if is_dictionary form then values else []
 unfoldable pub ladder_of : Bool → List (List ℕ) → LadderIn
 ladder_of dictionary values = record { dictionary = dictionary; form = form_of dictionary values; values = kept_in (form_of dictionary values) (distinct values) }
 
--- A ladder with one value more that it didn't have.
+-- A ladder with one more value that it didn't have.
 abbrev pub in_form : LadderIn → Form → List ℕ → LadderIn
 in_form ladder form value = record { dictionary = ladder.dictionary; form = form; values = kept_in form (ladder.values ++ value ∷ []) }
 
 unfoldable pub with_new : LadderIn → List ℕ → LadderIn
 with_new ladder value = in_form ladder (dictionary_form (length ladder.values + 1) (bytes_of ladder.values + length value)) value
 
--- The ladder after one observed value more. A form that is plain stays so.
+-- The ladder after one more observed value. A form that is plain stays so.
 abbrev pub takes : LadderIn → Bool
 takes ladder = ladder.dictionary && not (is_plain ladder.form)
 

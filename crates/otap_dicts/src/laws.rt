@@ -12,7 +12,7 @@ pub fn distinct_values()
     ensures grows { (values more : List (List ℕ)) → distinct (values ++ more) ≡ distinct values ++ drop (length (distinct values)) (distinct (values ++ more)) }
 {}
 
-/// A ladder that has observed values is a function of their list: each value more takes it to the ladder of the longer list.
+/// A ladder that has observed values is a function of their list: each further value takes it to the ladder of the longer list.
 pub fn ladders_follow_values()
     ensures { (dictionary : Bool) (values : List (List ℕ)) (value : List ℕ) → observed (ladder_of dictionary values) value ≡ ladder_of dictionary (values ++ value ∷ []) }
 {}

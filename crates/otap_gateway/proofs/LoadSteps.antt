@@ -41,7 +41,7 @@ last_of_each R past past' (z ∷ xs) [] x y each = absurd (alone_last R (past ++
 last_of_each R past past' (z ∷ xs) (w ∷ ys) x y each =
     rw (← append_assoc past (z ∷ []) xs, ← append_assoc past' (w ∷ []) ys) (last_of_each R (past ++ z ∷ []) (past' ++ w ∷ []) xs ys x y each.1)
 
--- ---- one request more
+-- ---- one more request
 
 requests_more : (s : Signal) (n : ℕ) → first_requests s (n + 1) ≡ first_requests s n ++ generated s n ∷ []
 requests_more s n = map-range_with_len_more (generated s) 0 n n (zero-add n)

@@ -17,11 +17,11 @@ pub record IsEncoding (rows : Rows) (e : ExporterIn) : Type 0 where
   pub outcomes : List Encoded
   pub stands : HasEncoded rows e outcomes
 
--- a frame more, whatever the exporter stands for
+-- one more frame, whatever the exporter stands for
 pub record EncodesFrame (rows : Rows) (old new : ExporterIn) (number : ℕ) (frame : Frame) (reply : ReplyText) : Type 0 where
   pub at : (outcomes : List Encoded) → HasEncoded rows old outcomes → HasMore (EncodedAfter rows) encoded (HasEncoded rows new) outcomes frame number reply
 
--- a request more: its message is sent, or it is too large and the exporter is as before
+-- one more request: its message is sent, or it is too large and the exporter is as before
 pub record SendsRequest (rows : Rows) (old new : ExporterIn) (request : Request) (reply : ReplyText) : Type 0 where
   pub message : List ℕ
   pub exports : Exports rows request old new message

@@ -24,7 +24,7 @@ pub record HasCounted (payloads : List PayloadIn) (o : Opened) : Type 0 where
 pub record Counts (payloads : List PayloadIn) (old new : Opened) : Type 0 where
   pub after : (past : List PayloadIn) → HasCounted past old → HasCounted (past ++ payloads) new
 
--- one sub-stream more is opened, for this type and by this id
+-- one more sub-stream is opened, for this type and by this id
 pub record Opens (kind : ℤ) (id : List ℕ) (old new : Opened) : Type 0 where
   pub own : option_map string_bytes (get int_cmp new.last kind) ≡ Some id
   pub others : (other : ℤ) → int_eq kind other ≡ false → get int_cmp new.last other ≡ get int_cmp old.last other
@@ -49,7 +49,7 @@ pub record IsLoading (rows : Rows) (count : ℕ) (e : ExporterIn) (o : Opened) :
   pub messages : List (List ℕ)
   pub loaded : HasLoaded rows count messages e o
 
--- the message of one request more
+-- the message of one more request
 pub record LoadsNext (rows : Rows) (count : ℕ) (e e' : ExporterIn) (o o' : Opened) (message : List ℕ) : Type 0 where
   pub after : (messages : List (List ℕ)) → HasLoaded rows count messages e o → HasLoaded rows (count + 1) (messages ++ message ∷ []) e' o'
   pub short : length message ≤ longest_frame

@@ -34,7 +34,7 @@ pub record HasTold {O : Type 0} (Gives : Giving O) (text : ℕ → O → ReplyTe
   pub so_far : replies ≡ told text 0 outcomes
   pub stood : stands outcomes
 
--- a frame more: what it gives after outcomes, whose text is the reply, and the new state stands for one outcome more
+-- one more frame: what it gives after outcomes, whose text is the reply, and the new state stands for one more outcome
 pub record HasMore {O : Type 0} (Gives : Giving O) (text : ℕ → O → ReplyText) (new : List O → Type 0) (outcomes : List O) (frame : Frame) (number : ℕ) (reply : ReplyText) : Type 0 where
   pub outcome : O
   pub gives : Gives outcomes frame outcome

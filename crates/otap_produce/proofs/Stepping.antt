@@ -1,4 +1,4 @@
--- What one payload more does to a sender: to the one of its kind, and to the others.
+-- What one more payload does to a sender: to the one of its kind, and to the others.
 use Rattle.std.proofs.Common.{◌≡◌, inl, inr, ℕ, ◌+◌, ◌<◌, ◌^◌, Bool, true, false, List, [], ◌∷◌}
 use Rattle.std.proofs.Common.{◌++◌, Option, Some, None, pos, if◌then◌else◌, refl, sym, ap, ◌∙◌, subst, arith, append-nil}
 use Rattle.std.specs.Prelude.{not, bytes_eq}
@@ -67,7 +67,7 @@ other_bytes a b differ = elim (cases_Bool (bytes_eq a b)) [ inl same ↦ absurd 
 
 -- ---- one payload
 
--- a sender sends one table more, and this is its payload
+-- a sender sends one more table, and this is its payload
 pub record SendsOne (s new : SenderIn) (count : ℕ) (t : Table) (opened : Bool) (p : PayloadIn) : Type 0 where
   pub kind : s.writer.kind ≡ t.kind
   pub writes : WritesRecord s.writer t opened p.bytes new.writer

@@ -30,7 +30,7 @@ pub record CanSend (kinds : List Kind) (t : Table) : Type 0 where
   pub writable : IsWritable t.kind t
   pub light : weight_of_table t ≤ row_weight_limit
 
--- the senders are ready for a table more
+-- the senders are ready for one more table
 pub record AreReady (t : Table) (s : SendersIn) : Type 0 where
   pub signal : Signal
   pub kinds : kinds_in s.senders ≡ kinds_of signal

@@ -54,7 +54,7 @@ impl Exporter {
         })
     }
 
-    /// The batch message of one request more of the segment. A request that is too large leaves the exporter as it was; after
+    /// The batch message of one more request of the segment. A request that is too large leaves the exporter as it was; after
     /// want of memory it is broken until a reset.
     pub fn encode<T: Tabled>(&mut self, request: &Request) -> Result<Vec<u8>, ProduceRefusal>
         requires of_signal { self.old.signal ≡ T.rows.signal }

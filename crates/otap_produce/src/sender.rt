@@ -57,7 +57,7 @@ impl Sender {
         self.last
     }
 
-    /// The record of one table more. Where it opens a sub-stream, its number is that of the openings so far.
+    /// The record of one more table. Where it opens a sub-stream, its number is that of the openings so far.
     pub(crate) fn send(
         &mut self,
         table: &LogicalTable,

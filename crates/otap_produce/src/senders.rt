@@ -89,7 +89,7 @@ impl Senders {
         Ok(())
     }
 
-    // Adds the payload of one table more.
+    // Adds the payload of one more table.
     fn add(&mut self, table: &LogicalTable, batch: &mut BatchWriter) -> Result<(), AllocError>
         requires { AreReady table.now self.old }
         ensures adds { OnOk result (Adds (table.now ∷ []) self.old self.new batch.old batch.new) }

@@ -24,7 +24,7 @@ use Rattle.otap_transit.proofs.Projected.{FarEndReads}
 use Rattle.otap_transit.proofs.Reaching.{nothing_so_far}
 use Rattle.otap_transit.proofs.Settled.{gives_accepted, gives_reset, only_accepted, only_reset}
 
--- ---- one sending more
+-- ---- one more sending
 
 since_sent : (before : List Sending) (request : Request) (message : List ℕ) → since is_reset (before ++ Sent request message ∷ []) ≡ since is_reset before ++ Sent request message ∷ []
 since_sent before request message = since-append is_reset before (Sent request message ∷ [])

@@ -39,7 +39,7 @@ first_len n write x xs =
     (length (varint (8 * n + 2)) + (length (varint (length (write x))) + length (write x))) + length (canon_row n (many_row (map write xs))) = simp length-append refl in
     omega (arith, whole)
 
--- one part more
+-- one more part
 pub more_len : {A : Type 0} (n : ℕ) (write : A → List ℕ) (xs : List A) (i : ℕ) (x : A) (total size more sum whole : ℕ) → i < length xs → x ≡ get_or xs i x → total ≤ 2 ^ 63
     → min (total + left n write (drop i xs)) (2 ^ 63) ≡ whole → size ≡ min (length (write x)) (2 ^ 63) → more ≡ min (part_len n size) (2 ^ 63) → sum ≡ min (total + more) (2 ^ 63)
     → min (sum + left n write (drop (i + 1) xs)) (2 ^ 63) ≡ whole

@@ -98,7 +98,7 @@ member_kept read n each old f p fine = go (f.number == n) refl
     go true hit = each old f.value p (subst (λ (k : ℕ). FineValue (kind_of messages.Metric k) value_levels f.value) (eqb-true f.number n hit) fine)
     go false miss = p
 
--- one field more
+-- one more field
 shape_kept : (old : Shape) (f : Entry) → IsProfileShape old → FineValue (kind_of messages.Metric f.number) value_levels f.value → IsProfileShape (shape_step old f)
 shape_kept old f p fine =
     member_kept gauge_shape_in 5 member_gauge _ f

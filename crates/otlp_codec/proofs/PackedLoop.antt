@@ -9,7 +9,7 @@ use Rattle.otlp_messages.proofs.Packed.{run, length-run}
 use Rattle.otlp_codec.specs.Lengths.{part_len}
 use Rattle.otlp_codec.proofs.Lens.{field_len, part_capped}
 
--- one number more
+-- one more number
 pub one_more : (part old new whole : List ℕ) (count place x : ℕ) → place < count → old ++ numbers (count - place) (drop (8 * place) part) ≡ whole
     → x ≡ little_number 8 (drop (8 * place) part) → new ≡ old ++ x ∷ [] → new ++ numbers (count - (place + 1)) (drop (8 * (place + 1)) part) ≡ whole
 one_more part old new whole count place x below before is more =

@@ -74,7 +74,7 @@ pub(crate) fn take_int(to: &mut Number, value: &Wire<'_>) -> Result<(), ReadRefu
     Ok(())
 }
 
-/// Reads one number more, or packed numbers more.
+/// Reads one more number, or more packed numbers.
 #[inline]
 pub(crate) fn take_packed(to: &mut Items<u64>, value: &Wire<'_>) -> Result<(), ReadRefusal>
     ensures ok { OnOk result (to.new ≡ packed_in to.old (value_of value.now)) }

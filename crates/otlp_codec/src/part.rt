@@ -36,7 +36,7 @@ pub(crate) trait Part {
     /// What it is without any field.
     ghost none: { Self };
 
-    /// What it is after one field more.
+    /// What it is after one more field.
     ghost step: { Self → Entry → Self };
 
     /// What the bytes of the message say.
@@ -100,7 +100,7 @@ fn fill<P: Part>(alloc: Global, part: &mut P, bytes: &[u8]) -> Result<(), ReadRe
     Ok(())
 }
 
-/// Reads one message more of those that may occur any number of times.
+/// Reads one more message of those that may occur any number of times.
 #[inline]
 pub(crate) fn take_more<P: Part + Drop>(
     alloc: Global,
@@ -120,7 +120,7 @@ pub(crate) fn take_more<P: Part + Drop>(
     Ok(())
 }
 
-/// Reads one main item more.
+/// Reads one more main item.
 #[inline]
 pub(crate) fn take_items<I: Item + Drop>(
     alloc: Global,
@@ -134,7 +134,7 @@ pub(crate) fn take_items<I: Item + Drop>(
     take_more(alloc, to, value)
 }
 
-/// Reads one attribute more.
+/// Reads one more attribute.
 #[inline]
 pub(crate) fn take_pairs(
     alloc: Global,

@@ -72,7 +72,7 @@ cond_yes b x y is = rw is refl
 cond_no : (b : Bool) (x y : ℕ) → b ≡ false → cond b x y ≡ y
 cond_no b x y is = rw is refl
 
--- one field more without a defect
+-- one more field without a defect
 one_fine : (m : Message) (l : ℕ) (done : List Entry) (f : Entry) → AreFine m l done → FineValue (kind_of m f.number) l f.value → (0 < mark_of m f.number → marked m (mark_of m f.number) done ≡ 0)
     → AreFine m l (done ++ f ∷ [])
 one_fine m l done f h fine first = record {

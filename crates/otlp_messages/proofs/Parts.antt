@@ -4,7 +4,7 @@ use Rattle.std.specs.Prelude.{fold, ◌==◌}
 use Rattle.otlp_wire.specs.Wire.{FieldValue, Entry}
 use Rattle.otlp_messages.specs.Rows.{only, at}
 
--- one step more of the values of a number
+-- one more step of the values of a number
 one_step : {A : Type 0} (n : ℕ) (read : A → FieldValue → A) (old : A) (f : Entry) (fs : List Entry) → fold read old (only n (f ∷ fs)) ≡ fold read (at n read old f) (only n fs)
 one_step n read old f fs = go (f.number == n) refl
   where

@@ -115,7 +115,7 @@ set_none seen k small none =
 pub count-last : (m : Message) (q : ℕ) (f : Entry) (n : ℕ) → n + marked m q (f ∷ []) ≡ n + cond (mark_of m f.number == q) 1 0
 count-last m q f n = ap (λ k. n + k) (count-one (λ g. mark_of m g.number == q) f [] ∙ add-zero (cond (mark_of m f.number == q) 1 0))
 
--- one field more
+-- one more field
 pub checked_more : (m : Message) (l : ℕ) (bytes rest new : List ℕ) (seen : List Bool) (f : Entry) → Checked m l bytes seen rest
     → fields_of rest ≡ f ∷ fields_of new → end_of rest ≡ end_of new → mark_of m f.number < MARKS
     → slice_index_or seen (mark_of m f.number) false ≡ false → FineValue (kind_of m f.number) l f.value

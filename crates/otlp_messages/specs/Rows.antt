@@ -57,7 +57,7 @@ abbrev pub numbers : ℕ → List ℕ → List ℕ
 numbers zero bytes = []
 numbers (suc count) bytes = little_number 8 bytes ∷ numbers count (drop 8 bytes)
 
--- one number more, or packed numbers more
+-- one more number, or more packed numbers
 abbrev pub packed_in : List ℕ → FieldValue → List ℕ
 packed_in old (Fixed64 n) = old ++ n ∷ []
 packed_in old (Bytes part) = old ++ numbers (length part / 8) part
@@ -68,7 +68,7 @@ abbrev pub bytes_in : List ℕ → FieldValue → List ℕ
 bytes_in old (Bytes part) = part
 bytes_in old value = old
 
--- a message, and one message more
+-- a message, and one more message
 abbrev pub embedded_in : {A : Type 0} → (List ℕ → A) → A → FieldValue → A
 embedded_in read old (Bytes part) = read part
 embedded_in read old value = old
