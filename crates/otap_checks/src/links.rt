@@ -5,19 +5,25 @@ ghost use Rattle.otap_checks.specs.Links.{links_of};
 use otap_cells::Kind;
 use otlp_model::Signal;
 
-/// The parents of a table's rows: the column that has them, and the column of another table that has their ids.
+/// Where the parents of a table's rows are found.
 #[derive(Clone, Copy, Debug)]
 pub struct Parents {
+    /// The column of the table that names the parents by their ids.
     pub column: u32,
+    /// The table whose rows are the parents.
     pub of: Kind,
+    /// The column of that table that has the ids.
     pub at: u32,
 }
 
-/// A table, with the column of its rows' own ids, which differ, and with their parents.
+/// A table, and what its ids have to do with those of another.
 #[derive(Clone, Copy, Debug)]
 pub struct Link {
+    /// The payload type of the table.
     pub kind: Kind,
+    /// The column of its rows' own ids, no two of which may be equal.
     pub own: Option<u32>,
+    /// The parents of its rows.
     pub parents: Option<Parents>,
 }
 

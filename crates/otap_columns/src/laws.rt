@@ -61,7 +61,7 @@ pub fn columns_make_a_schema()
     ensures absent { (kind : Kind) (forms : Forms) → FormsFit kind forms → (column : ℕ) → is_there (forms column) ≡ false → place_at kind (arrays_of (schema_for kind forms)) column ≡ None }
 {}
 
-/// Two such schemas are equal exactly where their columns have the same forms.
+/// Two schemas of the columns of a table are equal exactly where the columns have the same forms.
 pub fn schemas_tell_forms()
     ensures told { (kind : Kind) (f g : Forms) → FormsFit kind f → FormsFit kind g → schema_for kind f ≡ schema_for kind g → (column : ℕ) → column < width_of kind → f column ≡ g column }
     ensures same { (kind : Kind) (f g : Forms) → FormsFit kind f → ((column : ℕ) → column < width_of kind → f column ≡ g column) → schema_for kind f ≡ schema_for kind g }

@@ -96,7 +96,7 @@ pub record HoldHists (groups : List (ResourceGroup Metric)) (tables : List Table
   pub exemplars : table_named table.HistExemplars tables ≡ part_table table.HistExemplars exemplar_cells (hist_exemplar_lists groups)
   pub of_exemplars : table_named table.HistExemplarAttrs tables ≡ attribute_table table.HistExemplarAttrs (hist_exemplar_pairs groups)
 
--- what can be written: ids have their lengths, and nested values aren't too large
+-- what can be written: the attributes of each weigh no more than the limit, and the exemplars can be written
 pub record CanWriteHistPoint (point : HistPoint) : Type 0 where
   pub pairs : total 32 weight_of_pair point.pairs ≤ weight_limit
   pub exemplars : All CanWriteExemplar point.exemplars

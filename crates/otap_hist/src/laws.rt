@@ -46,7 +46,7 @@ pub fn tables_tell_the_same()
         → Same (Metrics groups) (Metrics (regrouped_whole (whole_tables groups))) }
 {}
 
-/// Law: that request weighs no more than the request.
+/// Law: the request that all tables of a request make weighs no more than the request.
 pub fn tables_are_light()
     ensures { (groups : List (ResourceGroup Metric)) → IsReal (Metrics groups) → IsProfile (Metrics groups) → weight_of (Metrics groups) ≤ weight_limit
         → weight_of (Metrics (regrouped_whole (whole_tables groups))) ≤ weight_of (Metrics groups) }

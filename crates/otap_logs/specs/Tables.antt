@@ -20,7 +20,7 @@ tables_of_logs groups =
     ++ (where_rows (attribute_table table.ScopeAttrs (map (λ scope. scope.pairs) (scopes_of groups)))
     ++ where_rows (attribute_table table.LogAttrs (map (λ log. log.pairs) (items_of groups))))
 
--- the records that can be written: ids have their lengths, and nested values aren't too large
+-- the records that can be written: ids have their lengths, and neither the body nor the attributes weigh more than the limit
 pub record CanWriteRecord (log : LogRecord) : Type 0 where
   pub trace_id : IsTraceId log.trace_id
   pub span_id : IsSpanId log.span_id

@@ -69,7 +69,7 @@ tables_below groups =
 unfoldable pub tables_of_metrics : List (ResourceGroup Metric) → List Table
 tables_of_metrics groups = main_table table.Metrics metric_cells groups ∷ flat_map where_rows (tables_below groups)
 
--- what can be written: ids have their lengths, and nested values aren't too large
+-- what can be written: ids have their lengths, and the attributes of each weigh no more than the limit
 pub record CanWriteExemplar (exemplar : Exemplar) : Type 0 where
   pub trace_id : IsTraceId exemplar.trace_id
   pub span_id : IsSpanId exemplar.span_id

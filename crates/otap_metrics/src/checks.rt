@@ -20,8 +20,11 @@ use std::alloc::{AllocError, Global};
 /// Which points a table has: those of gauges and sums, of histograms, or of summaries.
 #[derive(Clone, Copy, Debug, PartialEq, Eq)]
 pub enum PointSort {
+    /// The number points of gauges and sums.
     Numbers,
+    /// The points of histograms.
     Histograms,
+    /// The points of summaries.
     Summaries,
 }
 

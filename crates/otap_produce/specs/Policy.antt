@@ -16,8 +16,7 @@ use Rattle.otap_cells.specs.Weights.{row_weight_limit, weight_of_tables}
 use Rattle.otap_columns.specs.Streams.{PayloadIn}
 use Rattle.otap_columns.specs.TableSets.{ArePayloadsOf}
 
--- THE ROWS OF A SIGNAL'S REQUESTS: the tables of a request that have rows, and its main table; the main one first, then by
--- ascending payload type
+-- A SIGNAL, and which tables its requests are written as
 pub record Rows : Type 0 where
   pub signal : Signal
   pub tables : Request → List Table

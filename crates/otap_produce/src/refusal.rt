@@ -18,6 +18,7 @@ pub enum ProduceRefusal {
     /// [`MAX_ROW_WEIGHT`](otap_cells::MAX_ROW_WEIGHT).
     #[error("the request is too heavy")]
     TooHeavy,
+    /// Memory ran out in this call.
     #[error("out of memory")]
     Memory(AllocError),
 }

@@ -8,7 +8,7 @@ ghost use Rattle.otlp_model.specs.declared.request.Signal.{Signal};
 ghost use Rattle.otlp_load.specs.declared.requests.TheConstants.{ITEMS, REQUESTS};
 ghost use Rattle.otlp_load.specs.Load.{generated, items_each, requests_at_most};
 
-/// The numbers that the code goes by are those of the definitions.
+/// Law: the numbers that the code goes by are those of the definitions.
 pub fn limits()
     ensures items { ITEMS ≡ items_each }
     ensures requests { REQUESTS ≡ requests_at_most }
