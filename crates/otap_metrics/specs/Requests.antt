@@ -1,5 +1,5 @@
 -- The request that tables of metrics make, and what may be wrong with their rows.
-use Rattle.std.specs.Prelude.{◌≡◌, ℕ, ◌<◌, ◌+◌, ◌==◌, ◌||◌, ◌⊎◌, Bool, true, false, List, [], Option, Some, Contains, length}
+use Rattle.std.specs.Prelude.{◌≡◌, ℕ, ◌<◌, ◌+◌, ◌==◌, ◌||◌, ◌⊎◌, Bool, true, false, List, Option, Some, Contains, length}
 use Rattle.otlp_model.specs.declared.groups.ResourceGroup.{ResourceGroup}
 use Rattle.otlp_model.specs.declared.histograms.HistPoint.{HistPoint}
 use Rattle.otlp_model.specs.declared.histograms.SumPoint.{SumPoint}
@@ -56,10 +56,6 @@ regrouped_metrics hists summaries tables = regrouped
     (pairs_in (table_named table.ScopeAttrs tables))
     (metric_in hists summaries tables)
     (main_rows_in (table_named table.Metrics tables))
-
--- where none are looked for
-abbrev pub nothing : {C : Type 0} → Option ℕ → List C
-nothing id = []
 
 -- ---- what may be wrong
 
