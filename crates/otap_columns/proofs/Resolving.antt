@@ -15,16 +15,17 @@ use Rattle.arrow_arrays.specs.Layouts.{layout_of, FitsLayout}
 use Rattle.arrow_arrays.specs.Views.{cell_seen}
 use Rattle.otap_cells.specs.declared.payload.Kind.{Kind}
 use Rattle.otap_cells.specs.Columns.{base_at, width_of}
-use Rattle.otap_cells.specs.Tables.{Table, cell_in}
+use Rattle.otap_cells.specs.declared.profile.Base.{Base}
+use Rattle.otap_cells.specs.Tables.{Table, IsTable, cell_in}
 use Rattle.otap_columns.specs.declared.resolved.ResolvedColumn.{ResolvedColumn}
 use Rattle.otap_columns.specs.Dictionaries.{values_for}
 use Rattle.otap_columns.specs.Known.{FitsBase, place_at, columns_fit, stored_cell}
-use Rattle.otap_columns.specs.Resolved.{resolved_value, HasIndexSizes, HasIndexes, IsField, IsColumn}
+use Rattle.otap_columns.specs.Resolved.{resolved_value, HasIndexSizes, HasIndexes, IsField, IsColumn, ShowsColumn}
 use Rattle.otap_columns.specs.Steps.{FitsIn}
 use Rattle.otap_columns.specs.Substreams.{SubstreamIn, IsIndexSize, value_at, replaced, field_value, column_cell, table_in}
 use Rattle.otap_columns.proofs.Placed.{column_value_is}
 use Rattle.otap_columns.proofs.Showing.{column_value_fits}
-use Rattle.otap_columns.proofs.Tabled.{same_kind, shows}
+use Rattle.otap_columns.proofs.Tabled.{same_kind, shows, holds}
 
 -- no index leads into a dictionary that isn't there
 pub leads_nowhere : (cell : Option (List ℕ)) → value_at [] cell ≡ None
@@ -76,17 +77,21 @@ module _ (s : SubstreamIn) (batch : BatchIn) (place : ℕ) (c : ResolvedColumn) 
 -- ---- the column of a table
 
 module _ (kind : Kind) (s : SubstreamIn) (batch : BatchIn) (types : columns_fit kind s.arrays ≡ true) (all : All FitsIn s.dictionaries) (fine : IsOk (arrays_check batch s.arrays)) where
-  pub column_missing : (column : ℕ) (c : ResolvedColumn) → place_at kind s.arrays column ≡ None → ((row : ℕ) → resolved_value c row ≡ None) → HasIndexes c → IsColumn kind s batch column c
-  column_missing column c at values indexes = record {
+  pub column_missing : (column : ℕ) (c : ResolvedColumn) → place_at kind s.arrays column ≡ None → ((row : ℕ) → resolved_value c row ≡ None) → HasIndexes c
+      → c.base ≡ base_at kind column → IsColumn kind s batch column c
+  column_missing column c at values indexes base = record {
     values = λ row. values row ∙ column_value_is kind s batch column row None at;
     indexes = indexes;
+    base = base;
     fits = λ row. column_value_fits kind s batch types all fine column row;
   }
 
-  pub column_there : (column place : ℕ) (c : ResolvedColumn) → place_at kind s.arrays column ≡ Some place → IsField s batch place c → IsColumn kind s batch column c
-  column_there column place c at field = record {
+  pub column_there : (column place : ℕ) (c : ResolvedColumn) → place_at kind s.arrays column ≡ Some place → IsField s batch place c
+      → c.base ≡ base_at kind column → IsColumn kind s batch column c
+  column_there column place c at field base = record {
     values = λ row. field.values row ∙ column_value_is kind s batch column row (Some place) at;
     indexes = field.indexes;
+    base = base;
     fits = λ row. column_value_fits kind s batch types all fine column row;
   }
 
@@ -103,15 +108,16 @@ one_more_column kind s batch found n c inside before here k d below =
       | inr other ↦ subst (λ (x : ResolvedColumn). IsColumn kind s batch k x) (sym (get_or-set_other found n k c d other)) (before k d (omega (arith, below, other)))
     ]
 
--- what a column shows is the cell of the table
-module _ (kind : Kind) (s : SubstreamIn) (batch : BatchIn) (t : Table) (is : table_in kind s batch ≡ t) (column row : ℕ) (c : ResolvedColumn) (here : IsColumn kind s batch column c)
-    (x : Option (List ℕ)) (value : x ≡ resolved_value c row) where
-  pub column_shows : column < width_of t.kind → row < length t.rows → stored_cell (base_at t.kind column) x ≡ cell_in t.rows column row
-  unfolding column_cell
-  column_shows in_width in_rows =
-      shows kind s batch t is column row (stored_cell (base_at t.kind column) x) (λ i. stored_cell (base_at (sym (same_kind kind s batch t is) i) column) ((value ∙ here.values row) i)) in_width in_rows
-
-  pub shown_fits : ForSome x (FitsBase (base_at t.kind column))
-  shown_fits =
-      subst (λ (k : Kind). ForSome x (FitsBase (base_at k column))) (same_kind kind s batch t is)
-      (subst (λ (o : Option (List ℕ)). ForSome o (FitsBase (base_at kind column))) (sym (value ∙ here.values row)) (here.fits row))
+-- a column shows the cells of the table
+pub shows_column : (kind : Kind) (s : SubstreamIn) (batch : BatchIn) (t : Table) → table_in kind s batch ≡ t → IsTable (table_in kind s batch) → (column : ℕ) (c : ResolvedColumn)
+    → IsColumn kind s batch column c → column < width_of t.kind → ShowsColumn t column c
+unfolding column_cell
+shows_column kind s batch t is sound column c here in_width = record {
+  base = here.base ∙ ap (λ (k : Kind). base_at k column) (same_kind kind s batch t is);
+  cells = λ row in_rows. shows kind s batch t is column row (stored_cell c.base (resolved_value c row)) (λ i. stored_cell (here.base i) (here.values row i)) in_width in_rows;
+  holds = λ row. holds kind s batch t is sound column row (cell_in t.rows column row) refl;
+  fits = λ row.
+      subst (λ (b : Base). ForSome (resolved_value c row) (FitsBase b)) (sym here.base)
+      (subst (λ (o : Option (List ℕ)). ForSome o (FitsBase (base_at kind column))) (sym (here.values row)) (here.fits row));
+  indexes = here.indexes;
+}

@@ -1,13 +1,15 @@
 -- Columns that are found once, in the words of private contracts.
-use Rattle.std.specs.Prelude.{◌≡◌, ℕ, ⊤, List, Option, None, Some, slice_get}
+use Rattle.std.specs.Prelude.{◌≡◌, ℕ, ◌<◌, ⊤, List, Option, None, Some, length, slice_get}
 use Rattle.std.specs.Option.{ForSome, option_copied}
 use Rattle.arrow_ipc.specs.Batches.{BatchIn}
 use Rattle.arrow_arrays.specs.declared.column.ColumnView.{ColumnView}
 use Rattle.arrow_arrays.specs.Views.{cell_seen}
 use Rattle.otap_cells.specs.declared.payload.Kind.{Kind}
+use Rattle.otap_cells.specs.Cells.{IsCellOf}
 use Rattle.otap_columns.specs.declared.resolved.ResolvedColumn.{ResolvedColumn}
 use Rattle.otap_cells.specs.Columns.{base_at}
-use Rattle.otap_columns.specs.Known.{FitsBase}
+use Rattle.otap_cells.specs.Tables.{Table, cell_in}
+use Rattle.otap_columns.specs.Known.{FitsBase, stored_cell}
 use Rattle.otap_columns.specs.Dictionaries.{DictionaryIn}
 use Rattle.otap_columns.specs.Substreams.{SubstreamIn, IsIndexSize, value_at, field_value, column_value}
 
@@ -37,8 +39,17 @@ pub record IsField (s : SubstreamIn) (batch : BatchIn) (place : ℕ) (c : Resolv
   pub values : (row : ℕ) → resolved_value c row ≡ field_value s batch row place (slice_get s.arrays place)
   pub indexes : HasIndexes c
 
--- the column of a table is this one
+-- the column of a table is this one, and its cells hold the column's base
 pub record IsColumn (kind : Kind) (s : SubstreamIn) (batch : BatchIn) (column : ℕ) (c : ResolvedColumn) : Type 0 where
   pub values : (row : ℕ) → resolved_value c row ≡ column_value kind s batch column row
   pub indexes : HasIndexes c
+  pub base : c.base ≡ base_at kind column
   pub fits : (row : ℕ) → ForSome (column_value kind s batch column row) (FitsBase (base_at kind column))
+
+-- what a column shows is the cells of a column of a table, each of its base
+pub record ShowsColumn (t : Table) (column : ℕ) (c : ResolvedColumn) : Type 0 where
+  pub base : c.base ≡ base_at t.kind column
+  pub cells : (row : ℕ) → row < length t.rows → stored_cell c.base (resolved_value c row) ≡ cell_in t.rows column row
+  pub holds : (row : ℕ) → IsCellOf (base_at t.kind column) (cell_in t.rows column row)
+  pub fits : (row : ℕ) → ForSome (resolved_value c row) (FitsBase c.base)
+  pub indexes : HasIndexes c

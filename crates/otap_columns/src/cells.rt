@@ -1,31 +1,29 @@
 //! Cells by the bytes that they are stored in, the lowest byte of a number first (Arrow columnar format, "Fixed-size
 //! primitive layout").
 
-ghost use Rattle.std.specs.Prelude.{◌≡◌, ◌<◌, ◌⊎◌, length};
+ghost use Rattle.std.specs.Prelude.{◌≡◌, ◌⊎◌, length};
 ghost use Rattle.std.specs.Option.{ForSome, option_copied};
 ghost use Rattle.byteorder.specs.Endian.{little_number};
 ghost use Rattle.otap_cells.specs.Cells.{seen};
-ghost use Rattle.otap_cells.specs.Columns.{base_at, width_of};
 ghost use Rattle.otap_columns.specs.Known.{FitsBase, unsigned, signed, stored, stored_cell};
 
 use byteorder::{ByteOrder, LittleEndian};
-use otap_cells::{Base, CellView, Kind, base_of};
+use otap_cells::{Base, CellView};
 
-/// The cell of a column that is stored in these bytes; null where there are none. What the column holds is looked up only
-/// where there are some.
+/// The cell of a column of this base that is stored in these bytes; null where there are none.
 #[inline(always)]
 #[tactic(auto, unfolding(crate::specs::Known::stored_cell))]
-pub(crate) fn cell(kind: Kind, column: u32, value: Option<&[u8]>) -> CellView<'_>
-    requires column { column < width_of kind }
-    requires fits { ForSome (option_copied value) (FitsBase (base_at kind column)) }
-    ensures { seen result ≡ stored_cell (base_at kind column) (option_copied value.entry) }
+pub(crate) fn cell(base: Base, value: Option<&[u8]>) -> CellView<'_>
+    requires { ForSome (option_copied value) (FitsBase base) }
+    ensures { seen result ≡ stored_cell base (option_copied value.entry) }
 {
     match value {
         None => CellView::Null,
-        Some(value) => stored(base_of(kind, column), value),
+        Some(value) => stored(base, value),
     }
 }
 
+#[inline(always)]
 fn stored(base: Base, value: &[u8]) -> CellView<'_>
     requires { FitsBase base value.now }
     ensures { seen result ≡ stored base value.now }
@@ -44,6 +42,7 @@ fn stored(base: Base, value: &[u8]) -> CellView<'_>
     }
 }
 
+#[inline(always)]
 fn narrow(value: &[u8]) -> u16
     requires { length value.now ≡ 2 }
     ensures { result ≡ unsigned value.now }
@@ -51,6 +50,7 @@ fn narrow(value: &[u8]) -> u16
     LittleEndian::read_u16(value)
 }
 
+#[inline(always)]
 fn wide(value: &[u8]) -> u32
     requires { length value.now ≡ 4 }
     ensures { result ≡ unsigned value.now }
@@ -58,6 +58,7 @@ fn wide(value: &[u8]) -> u32
     LittleEndian::read_u32(value)
 }
 
+#[inline(always)]
 fn long(value: &[u8]) -> u64
     requires { length value.now ≡ 8 }
     ensures { result ≡ unsigned value.now }
@@ -66,6 +67,7 @@ fn long(value: &[u8]) -> u64
 }
 
 // A number of 16 or 32 bits.
+#[inline(always)]
 fn id(value: &[u8]) -> u32
     requires { (length value.now ≡ 2) ⊎ (length value.now ≡ 4) }
     ensures { result ≡ unsigned value.now }
@@ -77,6 +79,7 @@ fn id(value: &[u8]) -> u32
 }
 
 /// The index that one byte or two hold.
+#[inline(always)]
 pub(crate) fn index(value: &[u8]) -> usize
     requires { length value.now ≡ 1 ⊎ length value.now ≡ 2 }
     ensures { result ≡ little_number (length value.now) value.now }

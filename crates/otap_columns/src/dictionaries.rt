@@ -16,6 +16,7 @@ use crate::resolved::ResolvedColumn;
 use arrow_arrays::{ArraySpec, Arrays, ColumnView};
 use arrow_ipc::BatchView;
 use arrow_schema::ArrowType;
+use otap_cells::Base;
 use std::alloc::{AllocError, Global};
 
 /// The dictionaries of arrays, each once, without values.
@@ -111,15 +112,17 @@ pub(crate) fn lead<'v>(
     dictionaries: &'v [Dictionary],
     kind: ArrowType,
     id: i64,
+    base: Base,
     stored: ColumnView<'v>,
 ) -> ResolvedColumn<'v>
     requires { HasIndexSizes stored }
     ensures values { (row : ℕ) → resolved_value result row ≡ value_at (values_for kind id dictionaries.now) (cell_seen stored.entry row) }
     ensures indexes { HasIndexes result }
+    ensures base { result.base ≡ base }
 {
     match find(dictionaries, kind, id) {
-        None => ResolvedColumn::missing(),
-        Some(dictionary) => ResolvedColumn::indexed(stored, dictionary),
+        None => ResolvedColumn::missing(base),
+        Some(dictionary) => ResolvedColumn::indexed(base, stored, dictionary),
     }
 }
 

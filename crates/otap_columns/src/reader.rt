@@ -12,7 +12,7 @@ use crate::{dictionaries, indexes, known};
 use arrow_arrays::{ArraySpec, Arrays};
 use arrow_ipc::{BatchView, Messages, rows_at};
 use arrow_schema::SchemaSpec;
-use otap_cells::{Coding, Kind, coding_of};
+use otap_cells::{Base, Coding, Kind, base_of, coding_of};
 use std::alloc::Global;
 use std::marker::Model;
 
@@ -240,25 +240,28 @@ impl Reader {
         requires fine { IsOk (arrays_check batch.now self.now.substream.arrays) }
         ensures { IsColumn self.now.kind self.now.substream batch.now column result }
     {
-        let _kind = self.kind;
+        let base = base_of(self.kind, column);
         match self.place_of(column) {
-            None => ResolvedColumn::missing(),
-            Some(place) => self.field(batch, place),
+            None => ResolvedColumn::missing(base),
+            Some(place) => self.field(batch, place, base),
         }
     }
 
-    // The column of the field at a place.
-    fn field<'v>(&'v self, batch: &BatchView<'v>, place: usize) -> ResolvedColumn<'v>
+    // The column of the field at a place, whose cells hold a base.
+    fn field<'v>(&'v self, batch: &BatchView<'v>, place: usize, base: Base) -> ResolvedColumn<'v>
         requires { IsOk (arrays_check batch.now self.now.substream.arrays) }
-        ensures { IsField self.now.substream batch.now place result }
+        ensures field { IsField self.now.substream batch.now place result }
+        ensures base { result.base ≡ base }
     {
         let Some(array) = self.arrays.get(place) else {
-            return ResolvedColumn::missing();
+            return ResolvedColumn::missing(base);
         };
         let stored = self.arrays.view(batch, place);
         match array.dict {
-            None => ResolvedColumn::plain(stored),
-            Some(dict) => dictionaries::lead(&self.dictionaries, array.kind, dict.id, stored),
+            None => ResolvedColumn::plain(base, stored),
+            Some(dict) => {
+                dictionaries::lead(&self.dictionaries, array.kind, dict.id, base, stored)
+            }
         }
     }
 

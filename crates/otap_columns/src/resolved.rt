@@ -1,17 +1,22 @@
 ghost use Rattle.std.specs.Prelude.{◌≡◌, ℕ, None};
-ghost use Rattle.std.specs.Option.{option_copied};
+ghost use Rattle.std.specs.Option.{ForSome, option_copied};
 ghost use Rattle.arrow_arrays.specs.Views.{cell_seen};
+ghost use Rattle.otap_cells.specs.Cells.{seen};
+ghost use Rattle.otap_columns.specs.Known.{FitsBase, stored_cell};
+ghost use Rattle.otap_columns.specs.Parts.{part_of};
 ghost use Rattle.otap_columns.specs.Resolved.{resolved_value, HasIndexSizes, HasIndexes};
 ghost use Rattle.otap_columns.specs.Substreams.{value_at};
 
-use crate::cells::index;
+use crate::cells::{self, index};
 use crate::dictionary::Dictionary;
 use arrow_arrays::ColumnView;
+use otap_cells::{Base, CellView};
 
-/// A column of a record batch that is found once, so that each of its cells is a test of bits and a slice, and for one with a
-/// dictionary an index and a slice.
+/// A column of a record batch that is found once, and what its cells hold. Each of them is then a test of bits and a slice, and
+/// for one with a dictionary an index and a slice.
 #[derive(Clone, Copy, Debug)]
 pub(crate) struct ResolvedColumn<'v> {
+    base: Base,
     stored: ColumnView<'v>,
     // The dictionary that the stored indexes lead into.
     dictionary: Option<&'v Dictionary>,
@@ -19,34 +24,44 @@ pub(crate) struct ResolvedColumn<'v> {
 
 impl<'v> ResolvedColumn<'v> {
     /// A column that is missing: null in each row.
-    pub(crate) fn missing() -> ResolvedColumn<'v>
+    pub(crate) fn missing(base: Base) -> ResolvedColumn<'v>
         ensures values { (row : ℕ) → resolved_value result row ≡ None }
         ensures indexes { HasIndexes result }
+        ensures base { result.base ≡ base }
     {
         ResolvedColumn {
+            base,
             stored: ColumnView::none(),
             dictionary: None,
         }
     }
 
     /// A column whose values stand in the array itself.
-    pub(crate) fn plain(stored: ColumnView<'v>) -> ResolvedColumn<'v>
+    pub(crate) fn plain(base: Base, stored: ColumnView<'v>) -> ResolvedColumn<'v>
         ensures values { (row : ℕ) → resolved_value result row ≡ cell_seen stored.entry row }
         ensures indexes { HasIndexes result }
+        ensures base { result.base ≡ base }
     {
         ResolvedColumn {
+            base,
             stored,
             dictionary: None,
         }
     }
 
     /// A column that stores indexes.
-    pub(crate) fn indexed(stored: ColumnView<'v>, dictionary: &'v Dictionary) -> ResolvedColumn<'v>
+    pub(crate) fn indexed(
+        base: Base,
+        stored: ColumnView<'v>,
+        dictionary: &'v Dictionary,
+    ) -> ResolvedColumn<'v>
         requires { HasIndexSizes stored }
         ensures values { (row : ℕ) → resolved_value result row ≡ value_at dictionary.now.values (cell_seen stored.entry row) }
         ensures indexes { HasIndexes result }
+        ensures base { result.base ≡ base }
     {
         ResolvedColumn {
+            base,
             stored,
             dictionary: Some(dictionary),
         }
@@ -62,6 +77,29 @@ impl<'v> ResolvedColumn<'v> {
         match self.dictionary {
             None => Some(stored),
             Some(dictionary) => dictionary.value(index(stored)),
+        }
+    }
+
+    /// The cell of a row; null where there is no such row.
+    #[inline(always)]
+    pub(crate) fn cell(&self, row: u64) -> CellView<'v>
+        requires indexes { HasIndexes self.now }
+        requires fits { ForSome (resolved_value self.now row) (FitsBase self.now.base) }
+        ensures { seen result ≡ stored_cell self.now.base (resolved_value self.now row) }
+    {
+        cells::cell(self.base, self.value(row))
+    }
+
+    /// The bytes of a row's cell; `None` where it has none, or there is no such row.
+    #[inline(always)]
+    pub(crate) fn part(&self, row: u64) -> Option<&'v [u8]>
+        requires { HasIndexes self.now }
+        ensures { option_copied result ≡ part_of (stored_cell self.now.base (resolved_value self.now row)) }
+    {
+        if self.base.has_bytes() {
+            self.value(row)
+        } else {
+            None
         }
     }
 }

@@ -2,11 +2,10 @@ ghost use Rattle.std.specs.Prelude.{◌≡◌, ◌<◌, Ok, length};
 ghost use Rattle.arrow_arrays.specs.Arrays.{arrays_check};
 ghost use Rattle.otap_cells.specs.Columns.{width_of};
 
-use crate::cells;
 use crate::reader::Reader;
 use crate::resolved::ResolvedColumn;
 use arrow_ipc::BatchView;
-use otap_cells::{CellView, Coding, Kind, Rows, base_of, columns};
+use otap_cells::{Base, CellView, Coding, Kind, Rows, columns};
 use std::marker::Model;
 
 /// The most columns that a table has.
@@ -37,17 +36,16 @@ impl<'v> Model for RowsView<'v> {
 impl<'v> RowsView<'v> {
     ghost use Rattle.otap_cells.specs.Tables.{IsTable, cell_in};
     ghost use Rattle.otap_columns.specs.Parts.{part_of};
-    ghost use Rattle.otap_columns.specs.Known.{FitsBase, stored_cell};
     ghost use Rattle.otap_columns.specs.Substreams.{table_in};
-    ghost use Rattle.otap_cells.specs.Columns.{base_at};
-    ghost use Rattle.std.specs.Option.{ForSome, option_copied};
+    ghost use Rattle.otap_columns.specs.Resolved.{ShowsColumn};
+    ghost use Rattle.std.specs.Option.{option_copied};
 
     pub(crate) fn new(reader: &'v Reader, batch: BatchView<'v>) -> RowsView<'v>
         requires fine { arrays_check batch reader.now.substream.arrays ≡ Ok tt }
         requires sound { IsTable (table_in reader.now.kind reader.now.substream batch) }
         ensures { result ≡ table_in reader.now.kind reader.now.substream batch.entry }
     {
-        let mut found = [ResolvedColumn::missing(); MAX_COLUMNS];
+        let mut found = [ResolvedColumn::missing(Base::Bool); MAX_COLUMNS];
         'columns: for column in 0..columns(reader.kind()).len() {
             found[column] = reader.column(&batch, column as u32);
         }
@@ -65,24 +63,16 @@ impl<'v> RowsView<'v> {
         requires row { row < length self.now.rows }
         ensures { option_copied result ≡ part_of (cell_in self.now.rows column row) }
     {
-        let value = self.value(column, row);
-        if base_of(self.reader.kind(), column).has_bytes() {
-            value
-        } else {
-            None
-        }
+        self.column(column).part(row)
     }
 
-    // What stands in a row of a column, in constant time.
     #[inline(always)]
-    fn value(&self, column: u32, row: u64) -> Option<&'v [u8]>
-        requires column { column < width_of self.now.kind }
-        requires row { row < length self.now.rows }
-        ensures cell { stored_cell (base_at self.now.kind column) (option_copied result) ≡ cell_in self.now.rows column row }
-        ensures fits { ForSome (option_copied result) (FitsBase (base_at self.now.kind column)) }
+    fn column(&self, column: u32) -> &ResolvedColumn<'v>
+        requires { column < width_of self.now.kind }
+        ensures { ShowsColumn self.now column result.now }
     {
         let columns = &self.columns[..];
-        columns[column as usize].value(row)
+        &columns[column as usize]
     }
 }
 
@@ -99,7 +89,7 @@ impl<'v> Rows for RowsView<'v> {
 
     #[inline(always)]
     fn cell(&self, column: u32, row: u64) -> CellView<'_> {
-        cells::cell(self.reader.kind(), column, self.value(column, row))
+        self.column(column).cell(row)
     }
 
     fn coding(&self, column: u32) -> Coding {
