@@ -15,13 +15,16 @@ use crate::strings::{key, octets, text};
 use otlp_model::{Items, MAX_DEPTH, Pair, Value};
 use std::alloc::Global;
 
+// For how many members room is found at once.
+const FIRST_ROOM: u64 = 32;
+
 /// The value of the bytes, all of them: one item of the read forms (RFC 8949) that is at most 32 deep.
 ///
 /// Read are heads of any width, strings, arrays and maps of definite and of indefinite length, integers of 64 bits with
 /// a sign, `false`, `true`, `null`, and floats of 16, 32 and 64 bits, which become doubles with the same number. Keys
 /// are texts and may repeat. Tags, `undefined` and other simple values are refused.
 ///
-/// It goes over the bytes once. It takes memory for members only once they are read, whatever number a head claims.
+/// It goes over the bytes once. Before members are read it takes memory for 32 of them at most, whatever number a head claims.
 pub fn read_value(alloc: Global, bytes: &[u8]) -> Result<Value, CborRefusal>
     // What is read is what the bytes stand for.
     ensures found { IfOk result (λ v. Cbor bytes.now v × (depth_of v ≤ depth_limit)) }
@@ -105,6 +108,11 @@ fn whole(n: u64) -> Result<i64, CborRefusal>
     i64::try_from(n).map_err(|_| CborRefusal::OutOfRange)
 }
 
+/// For how many members room is found before they are read, where a head claims this many.
+fn room(count: u64) -> usize {
+    count.min(FIRST_ROOM) as usize
+}
+
 /// `count` members of an array.
 #[cycle(read)]
 fn members(
@@ -116,6 +124,7 @@ fn members(
     ensures { Reads (λ x. (x.0, x.1.now)) result (many_at (item_at depth) count bytes.now) }
 {
     let mut members = Items::new(alloc);
+    members.reserve(room(count))?;
     let mut rest = bytes;
     for _ in 0..count {
         let (member, after) = item(alloc, depth, rest)?;
@@ -157,6 +166,7 @@ fn pairs(
     ensures { Reads (λ x. (x.0, x.1.now)) result (many_at (pair_at (item_at depth)) count bytes.now) }
 {
     let mut pairs = Items::new(alloc);
+    pairs.reserve(room(count))?;
     let mut rest = bytes;
     for _ in 0..count {
         let (pair, after) = pair(alloc, depth, rest)?;

@@ -13,7 +13,7 @@ item-returns-in_err-head t c =
 
 pub members-returns-in_err-member : goal.members-returns-in_err-member
 members-returns-in_err-member t c =
-    let p = err_from_is_err_and c.from_residual.result c.from_residual.ensures.1 in
+    let p = err_from_is_err_and c.from_residual-in_err-member.result c.from_residual-in_err-member.ensures.1 in
     rw (p.1, p.2) (ends (item_at c.args.depth) c.in_err-member.field-0.0 c.loop.members c.args.count c.loop.counter c.loop.rest.now
     (many_at (item_at c.args.depth) c.args.count c.args.bytes.now) c.loop-test.true c.in_err-member.ensures c.loop.invariant)
 
@@ -50,7 +50,7 @@ open_members-members-preserved t c = record {
 
 pub pairs-returns-in_err-pair : goal.pairs-returns-in_err-pair
 pairs-returns-in_err-pair t c =
-    let p = err_from_is_err_and c.from_residual.result c.from_residual.ensures.1 in
+    let p = err_from_is_err_and c.from_residual-in_err-pair.result c.from_residual-in_err-pair.ensures.1 in
     rw (p.1, p.2) (ends (pair_at (item_at c.args.depth)) c.in_err-pair.field-0.0 c.loop.pairs c.args.count c.loop.counter c.loop.rest.now
     (many_at (pair_at (item_at c.args.depth)) c.args.count c.args.bytes.now) c.loop-test.true c.in_err-pair.ensures c.loop.invariant)
 
