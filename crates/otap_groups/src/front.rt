@@ -133,8 +133,8 @@ impl<R: Rows> Front<'_, R> {
         ensures ids { IfOk result (λ ids. ids.items ≡ map (id_by level)
             (main_rows self.now.ids.now self.now.resource_ids.now self.now.scope_ids.now (R.table self.now.rows.now).rows)) }
     {
-        let mut ids = Vec::new(alloc);
         let to = self.len();
+        let mut ids = Vec::with_capacity(alloc, to)?;
         'rows: for place in 0..to {
             ids.push(self.id_by(level, place))?;
         }

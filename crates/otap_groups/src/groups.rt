@@ -112,6 +112,7 @@ impl<R: Rows, S: RowReader, P: Lookup<Child = Pair>> Main<'_, R, S, P> {
             (part (main_row_at self.now.front.ids.now self.now.front.resource_ids.now self.now.front.scope_ids.now (R.table self.now.front.rows.now).rows) from (to - from))) }
     {
         let mut items = Items::new(alloc);
+        items.reserve(to.saturating_sub(from))?;
         'items: for place in from..to {
             items.push(self.items.read(alloc, id_at(self.front.ids, place), place)?)?;
         }
