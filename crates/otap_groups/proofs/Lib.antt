@@ -27,5 +27,6 @@ pub mod RowsWeighed
 pub mod RunBlocks
 pub mod RunPlaces
 pub mod RunningIds
+pub mod StartLaws
 pub mod StoredRows
 pub mod WritableGroups

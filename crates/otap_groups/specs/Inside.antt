@@ -1,5 +1,5 @@
 -- Words of private contracts: rows by their places, and the index of children.
-use Rattle.std.specs.Prelude.{ℕ, suc, Bool, List, [], ◌∷◌, Option, None, Some, map, filter, ◌==◌, ◌&&◌, not}
+use Rattle.std.specs.Prelude.{ℕ, suc, ◌<◌, ◌≤◌, length, Bool, List, [], ◌∷◌, Option, None, Some, map, filter, ◌==◌, ◌&&◌, not}
 use Rattle.std.specs.List.{slice_index_or, range_with_len}
 use Rattle.otap_cells.specs.Cells.{Cell}
 use Rattle.otap_groups.specs.declared.entry.Entry.{Entry}
@@ -48,6 +48,16 @@ entry_before place (Some parent) entries = record { parent = parent; place = pla
 abbrev pub entries_from : ℕ → List (Option ℕ) → List Entry
 entries_from place [] = []
 entries_from place (parent ∷ parents) = entry_before place parent (entries_from (suc place) parents)
+
+-- the entries of a parent, and of those after it, begin at a place
+pub record Begins (entries : List Entry) (parent place : ℕ) : Type 0 where
+  pub within : place ≤ length entries
+  pub before : (k : ℕ) (d : Entry) → k < place → (slice_index_or entries k d).parent < parent
+  pub after : (k : ℕ) (d : Entry) → place ≤ k → k < length entries → parent ≤ (slice_index_or entries k d).parent
+
+-- those of each parent begin at its start
+abbrev pub AreStarts : List Entry → List ℕ → Type 0
+AreStarts entries starts = (parent d : ℕ) → parent < length starts → Begins entries parent (slice_index_or starts parent d)
 
 -- the part of the row at a place
 abbrev pub child_at : {C : Type 0} → (Option ℕ → List Cell → C) → List (Option ℕ) → List (List Cell) → ℕ → C

@@ -4,12 +4,13 @@ ghost use Rattle.std.specs.List.Sorted.{IsNonDecreasingBy};
 ghost use Rattle.otap_groups.specs.declared.entry.Entry.{Entry};
 ghost use Rattle.otap_groups.specs.Rows.{child_rows};
 ghost use Rattle.otap_groups.specs.Children.{children};
-ghost use Rattle.otap_groups.specs.Inside.{entries_of, finds_in, found, of_parent, weighs_in};
+ghost use Rattle.otap_groups.specs.Inside.{AreStarts, entries_of, finds_in, found, of_parent, weighs_in};
 
 use crate::entry::Entry;
 use crate::front::id_at;
-use crate::index::{entries_of, of_parent};
+use crate::index::entries_of;
 use crate::reading::{Lookup, RowReader};
+use crate::starts::{part_of, starts_of};
 use otlp_model::{Items, add_capped};
 use std::alloc::{AllocError, Global};
 
@@ -20,6 +21,8 @@ pub struct Children<'a, C: RowReader> {
     // Empty where the rows have no ids.
     pub ids: &'a [Option<u32>],
     pub entries: Vec<Entry>,
+    starts: Vec<usize>,
+    ghost begin: { AreStarts entries.items starts.items },
     ghost rising: { IsNonDecreasingBy (λ (e : Entry). e.parent) entries.items },
     ghost below: { All (λ (e : Entry). e.place < length (C.cells reader)) entries.items },
 }
@@ -38,10 +41,12 @@ impl<'a, C: RowReader> Children<'a, C> {
             ≡ children (C.item reader) (child_rows ids.now parents.now (C.cells reader)) parent) }
     {
         let entries = entries_of(alloc, parents)?;
+        let starts = starts_of(alloc, &entries)?;
         Ok(Children {
             reader,
             ids,
             entries,
+            starts,
         })
     }
 
@@ -51,7 +56,7 @@ impl<'a, C: RowReader> Children<'a, C> {
         ensures below { All (λ (e : Entry). e.place < length (C.cells self.now.reader)) result.now }
     {
         match parent {
-            Some(parent) => of_parent(&self.entries, parent),
+            Some(parent) => part_of(&self.entries, &self.starts, parent),
             None => &[],
         }
     }
@@ -67,6 +72,7 @@ impl<C: RowReader> Lookup for Children<'_, C> {
     fn of(&self, alloc: Global, parent: Option<u32>) -> Result<Items<C::Item>, AllocError> {
         let mut children = Items::new(alloc);
         let entries = self.entries_of(parent);
+        children.reserve(entries.len())?;
         'entries: for entry in entries {
             let id = id_at(self.ids, entry.place);
             children.push(self.reader.read(alloc, id, entry.place)?)?;

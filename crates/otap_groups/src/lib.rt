@@ -14,6 +14,7 @@ mod level;
 mod parts;
 mod reading;
 mod sources;
+mod starts;
 mod weighing;
 mod weights;
 mod writing;

@@ -8,5 +8,5 @@ use Rattle.otap_groups.proofs.children.Children.entries_of.Goals as goal
 pub returns-in-Some-clause-below : goal.returns-in-Some-clause-below
 returns-in-Some-clause-below g c =
     subst (λ (es : List Entry). All (λ (e : Entry). e.place < length (g.C.RowReader.cells c.args.self.now.reader)) es)
-    (sym (c.of_parent.ensures ∙ ap (of_parent c.in-Some.parent) c.deref.ensures.value))
+    (sym (c.part_of.ensures ∙ ap (of_parent c.in-Some.parent) c.deref.ensures.value))
     (found_below (length (g.C.RowReader.cells c.args.self.now.reader)) c.args.self.now.entries.items (Some c.in-Some.parent) c.args.self.now.below)

@@ -1,0 +1,61 @@
+//! Where the entries of each parent begin.
+ghost use Rattle.std.specs.Prelude.{◌≡◌, ◌≤◌, length, IfOk};
+ghost use Rattle.std.specs.List.Sorted.{IsNonDecreasingBy};
+ghost use Rattle.otap_groups.specs.declared.entry.Entry.{Entry};
+ghost use Rattle.otap_groups.specs.Inside.{AreStarts, of_parent};
+
+use crate::entry::Entry;
+use crate::index::of_parent;
+use std::alloc::{AllocError, Global};
+
+// How far above the number of the entries parents may be, where it's told where their entries begin.
+const SPREAD: usize = 4;
+
+// Where the entries of each parent begin, up to the parent behind the greatest; nothing where parents are far above the number
+// of the entries.
+pub(crate) fn starts_of(alloc: Global, entries: &[Entry]) -> Result<Vec<usize>, AllocError>
+    requires { IsNonDecreasingBy (λ (e : Entry). e.parent) entries.now }
+    ensures { IfOk result (λ starts. AreStarts entries.now starts.items) }
+{
+    if !are_dense(entries) {
+        return Ok(Vec::new(alloc));
+    }
+    let starts = starts_up_to_last(alloc, entries)?;
+    Ok(starts)
+}
+
+// Whether no parent is far above the number of the entries, the last of which has the greatest parent.
+fn are_dense(entries: &[Entry]) -> bool {
+    match entries.last() {
+        Some(entry) => entry.parent as usize / SPREAD <= entries.len(),
+        None => false,
+    }
+}
+
+fn starts_up_to_last(alloc: Global, entries: &[Entry]) -> Result<Vec<usize>, AllocError>
+    requires { IsNonDecreasingBy (λ (e : Entry). e.parent) entries.now }
+    ensures { IfOk result (λ starts. AreStarts entries.now starts.items) }
+{
+    let mut starts = Vec::new(alloc);
+    'entries: for place in 0..entries.len() {
+        starts.resize(entries[place].parent as usize + 1, place)?;
+    }
+    starts.push(entries.len())?;
+    Ok(starts)
+}
+
+// The part of the entries that has this parent, found at its start where that is told.
+pub(crate) fn part_of<'a>(entries: &'a [Entry], starts: &[usize], parent: u32) -> &'a [Entry]
+    requires rising { IsNonDecreasingBy (λ (e : Entry). e.parent) entries.now }
+    requires starts { AreStarts entries.now starts.now }
+    ensures { result.now ≡ of_parent parent entries.now }
+{
+    let at = parent as usize;
+    if at + 1 < starts.len() {
+        let start = starts[at];
+        let rest = entries.split_at(start).1;
+        rest.split_at(starts[at + 1] - start).0
+    } else {
+        of_parent(entries, parent)
+    }
+}
