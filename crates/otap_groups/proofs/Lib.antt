@@ -1,5 +1,6 @@
 mod Agreement
 pub mod AlikeLaws
+pub mod BlockLaws
 pub mod Bounds
 pub mod CellTests
 pub mod CellsOnly
@@ -14,6 +15,7 @@ pub mod IdColumns
 pub mod IndexLaws
 pub mod Joins
 pub mod LightGroups
+pub mod LinkLaws
 pub mod OrderLaws
 pub mod PartSteps
 pub mod PartTables

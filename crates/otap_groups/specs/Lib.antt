@@ -4,6 +4,7 @@ pub mod Flat
 pub mod Groups
 pub mod Inside
 pub mod Kinds
+pub mod Linking
 pub mod ProfileTables
 pub mod Rows
 pub mod Runs

@@ -28,7 +28,8 @@ pub struct Children<'a, C: RowReader> {
 }
 
 impl<'a, C: RowReader> Children<'a, C> {
-    /// The rows that a reader reads, with their ids, or none of them, and their parents. Takes n log n for n rows.
+    /// The rows that a reader reads, with their ids, or none of them, and their parents. Takes n log n for n rows, and time in
+    /// proportion to them where parents aren't far above their number.
     pub fn new(
         alloc: Global,
         reader: C,

@@ -11,6 +11,7 @@ mod groups;
 mod index;
 pub mod laws;
 mod level;
+mod linked;
 mod parts;
 mod reading;
 mod sources;

@@ -5,11 +5,8 @@ ghost use Rattle.otap_groups.specs.declared.entry.Entry.{Entry};
 ghost use Rattle.otap_groups.specs.Inside.{AreStarts, of_parent};
 
 use crate::entry::Entry;
-use crate::index::of_parent;
+use crate::index::{SPREAD, of_parent};
 use std::alloc::{AllocError, Global};
-
-// How far above the number of the entries parents may be, where it's told where their entries begin.
-const SPREAD: usize = 4;
 
 // Where the entries of each parent begin, up to the parent behind the greatest; nothing where parents are far above the number
 // of the entries.
