@@ -103,8 +103,9 @@ fn continuing_attributes<R: Rows>(alloc: Global, rows: &R) -> Result<Vec<bool>, 
     Ok(found)
 }
 
+/// Whether a row continues the run of the row before it.
 #[tactic(auto, using(crate::proofs::Flags::first_flag, crate::proofs::Flags::later_flag))]
-fn continues<R: Rows>(rows: &R, row: u64) -> bool
+pub fn continues<R: Rows>(rows: &R, row: u64) -> bool
     requires { row < length (R.table rows.now).rows }
     ensures { result ≡ slice_index_or (continues_in (R.table rows.now)) row false }
 {
