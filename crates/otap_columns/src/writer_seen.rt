@@ -216,7 +216,10 @@ fn observe_cell(ladder: &mut Ladder, cell: &CellBytes<'_>) -> Result<(), AllocEr
 {
     match cell.as_slice() {
         None => Ok(()),
-        Some(part) => ladder.observe(part),
+        Some(part) => {
+            ladder.observe(part)?;
+            Ok(())
+        }
     }
 }
 

@@ -1,5 +1,6 @@
+pub mod Found
 pub mod Keyed
 pub mod Larger
 pub mod Observing
 pub mod Once
-mod Repeated
+pub mod Repeated

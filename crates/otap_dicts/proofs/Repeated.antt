@@ -75,3 +75,10 @@ twice_by true form values value true false takes_is has_is =
 
 pub twice : (ladder : LadderIn) (value : List ℕ) → observed (observed ladder value) value ≡ observed ladder value
 twice ladder value = twice_by ladder.dictionary ladder.form ladder.values value (takes ladder) (list_any (bytes_eq value) ladder.values) refl refl
+
+pub known : (ladder : LadderIn) (value : List ℕ) → takes ladder ≡ true → list_any (bytes_eq value) ladder.values ≡ true → observed ladder value ≡ ladder
+known ladder value takes_is has = known_of ladder.dictionary ladder.form ladder.values value takes_is has
+
+pub unknown : (ladder : LadderIn) (value : List ℕ) → takes ladder ≡ true → list_any (bytes_eq value) ladder.values ≡ false → observed ladder value ≡ with_new ladder value
+unfolding observed
+unknown ladder value takes_is new = rw (takes_is, new) refl

@@ -1,4 +1,4 @@
-ghost use Rattle.std.specs.Prelude.{◌≡◌, ◌+◌, ◌<◌, ◌≤◌, [], length, position, bytes_eq, slice_get, true, false, OnOk, OnErr};
+ghost use Rattle.std.specs.Prelude.{◌≡◌, ◌+◌, ◌<◌, ◌≤◌, [], length, position, bytes_eq, slice_get, true, false, Some, IfOk, OnOk, OnErr};
 ghost use Rattle.std.specs.List.{list_any};
 ghost use Rattle.std.specs.Option.{option_copied};
 ghost use Rattle.otap_dicts.specs.Forms.{bytes_of};
@@ -82,10 +82,12 @@ impl Ladder {
         }
     }
 
-    /// Observes a value. After want of memory the ladder is as before.
+    /// Observes a value, and returns its place in the dictionary; `None` exactly where the column has none. Takes one look-up by
+    /// hash for a value that is known, and two for a new one. After want of memory the ladder is as before.
     #[tactic(auto, using(crate::proofs::Observing::stands_for_more))]
-    pub fn observe(&mut self, value: &[u8]) -> Result<(), AllocError>
+    pub fn observe(&mut self, value: &[u8]) -> Result<Option<u32>, AllocError>
         ensures ok { OnOk result (self.new ≡ observed self.old value.now) }
+        ensures place { IfOk result (λ place. place ≡ position (bytes_eq value.now) self.new.values) }
         ensures stands { OnOk result (StandsForMore self.old self.new value.now) }
         ensures err { OnErr result (self.new ≡ self.old) }
     {
@@ -93,16 +95,18 @@ impl Ladder {
     }
 
     #[tactic(auto, unfolding(crate::specs::Ladders::observed))]
-    fn step(&mut self, value: &[u8]) -> Result<(), AllocError>
+    fn step(&mut self, value: &[u8]) -> Result<Option<u32>, AllocError>
         ensures ok { OnOk result (self.new ≡ observed self.old value.now) }
+        ensures place { IfOk result (λ place. place ≡ position (bytes_eq value.now) self.new.values) }
         ensures err { OnErr result (self.new ≡ self.old) }
     {
         if !self.takes() {
             self.form = Form::Plain;
-            return Ok(());
+            return Ok(None);
         }
-        if self.has(value) {
-            return Ok(());
+        let known = self.index_of(value);
+        if known.is_some() {
+            return Ok(known);
         }
         self.add(value)
     }
@@ -114,18 +118,13 @@ impl Ladder {
         self.dictionary && self.form != Form::Plain
     }
 
-    fn has(&self, value: &[u8]) -> bool
-        ensures { result ≡ list_any (bytes_eq value.now) self.now.values }
-    {
-        self.values.contains(value)
-    }
-
     // Adds a value that the dictionary hasn't, or gives the dictionary up where it becomes too large.
     #[tactic(auto, unfolding(crate::specs::Ladders::with_new))]
-    fn add(&mut self, value: &[u8]) -> Result<(), AllocError>
+    fn add(&mut self, value: &[u8]) -> Result<Option<u32>, AllocError>
         requires takes { takes self.old ≡ true }
         requires new { list_any (bytes_eq value.now) self.old.values ≡ false }
         ensures ok { OnOk result (self.new ≡ with_new self.old value.now) }
+        ensures place { IfOk result (λ place. place ≡ position (bytes_eq value.now) self.new.values) }
         ensures err { OnErr result (self.new ≡ self.old) }
     {
         let form = match value.len().checked_add(self.bytes) {
@@ -136,24 +135,28 @@ impl Ladder {
             self.form = Form::Plain;
             self.bytes = 0;
             self.values = IndexSet::new(self.alloc);
-            return Ok(());
+            return Ok(None);
         }
-        self.insert(value, form)
+        let place = self.insert(value, form)?;
+        Ok(Some(place))
     }
 
-    fn insert(&mut self, value: &[u8], form: Form) -> Result<(), AllocError>
+    // Puts a value last, and returns its place.
+    fn insert(&mut self, value: &[u8], form: Form) -> Result<u32, AllocError>
         requires new { list_any (bytes_eq value.now) self.old.values ≡ false }
         requires dictionary { is_dictionary form ≡ true }
         requires marked { self.old.dictionary ≡ true }
         requires few { length self.old.values < 65536 }
         requires small { bytes_of self.old.values + length value.now ≤ 1048576 }
         ensures ok { OnOk result (self.new ≡ in_form self.old form value.now) }
+        ensures place { IfOk result (λ place. Some place ≡ position (bytes_eq value.now) self.new.values) }
         ensures err { OnErr result (self.new ≡ self.old) }
     {
+        let place = self.count();
         let key = Vec::from_slice(self.alloc, value)?;
         self.values.insert(key)?;
         self.form = form;
         self.bytes += value.len();
-        Ok(())
+        Ok(place)
     }
 }

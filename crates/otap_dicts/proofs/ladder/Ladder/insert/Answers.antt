@@ -1,9 +1,10 @@
-use Rattle.std.proofs.Common.{◌≡◌, ◌++◌, ◌∷◌, [], length, map, true≢false, bytes_eq, sym, ap, ◌∙◌, length-append, arith}
+use Rattle.std.proofs.Common.{◌≡◌, ℕ, false, Some, position, ◌++◌, ◌∷◌, [], length, map, true≢false, bytes_eq, sym, ap, ◌∙◌, length-append, arith}
 use Rattle.std.specs.List.{list_any}
 use Rattle.std.proofs.lemmas.List.Sums.{sum_by_push}
 use Rattle.otap_dicts.specs.Forms.{bytes_of}
 use Rattle.otap_dicts.specs.Ladders.{LadderIn}
 use Rattle.otap_dicts.specs.Inside.{ladder_in}
+use Rattle.otap_dicts.proofs.Found.{last_place}
 use Rattle.otap_dicts.proofs.Keyed.{inserted, in-form}
 use Rattle.otap_dicts.proofs.ladder.Ladder.insert.Goals as goal
 
@@ -28,3 +29,10 @@ invariant_of-self-2 c =
       marked = λ not_marked. absurd (true≢false (sym (ap (λ (l : LadderIn). l.dictionary) c.self.view_is ∙ c.requires.marked) ∙ not_marked));
       none = λ not_dictionary. absurd (true≢false (sym c.requires.dictionary ∙ not_dictionary));
     }
+
+pub returns-clause-place : goal.returns-clause-place
+returns-clause-place c =
+    let old = (ladder_in c.self.inside).values in
+    let none : list_any (bytes_eq c.args.value.now) old ≡ false = ap (λ (l : LadderIn). list_any (bytes_eq c.args.value.now) l.values) c.self.view_is ∙ c.requires.new in
+    ap (λ (n : ℕ). Some n) (c.count-place.ensures ∙ sym (ap (λ (l : LadderIn). length l.values) c.self.view_is))
+    ∙ sym (ap (position (bytes_eq c.args.value.now)) (keys c) ∙ last_place old c.args.value.now none)
