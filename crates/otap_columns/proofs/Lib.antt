@@ -32,6 +32,7 @@ pub mod Simulated
 pub mod ColumnsBuilt
 pub mod DictionariesAdded
 pub mod SeenOn
+pub mod NarrowSums
 pub mod HeldLess
 pub mod SchemaBuilt
 pub mod RowsBuilt

@@ -242,7 +242,7 @@ narrow how last before rows (None ∷ ns) (Some id ∷ ids) stand none k n at = 
 narrow how last before rows (Some m ∷ ns) (None ∷ ids) stand none k n at = absurd stand
 
 -- a stored number is that of the cell
-stored-cell : (rows : List (List Cell)) (column row : ℕ) → get_or (map id_in (column_in rows column)) row None ≡ id_in (cell_in rows column row)
+pub stored-cell : (rows : List (List Cell)) (column row : ℕ) → get_or (map id_in (column_in rows column)) row None ≡ id_in (cell_in rows column row)
 stored-cell [] column row = refl
 stored-cell (r ∷ rows) column zero = refl
 stored-cell (r ∷ rows) column (suc row) = stored-cell rows column row

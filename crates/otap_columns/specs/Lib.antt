@@ -12,6 +12,7 @@ pub mod Observed
 pub mod Policy
 pub mod TableSets
 pub mod Seen
+pub mod NarrowIds
 pub mod WrittenCells
 pub mod WrittenBatches
 pub mod WrittenGroups

@@ -22,6 +22,7 @@ mod writer_batches;
 mod writer_cells;
 mod writer_columns;
 mod writer_groups;
+mod writer_ids;
 pub mod writer_laws;
 mod writer_record;
 mod writer_rows;

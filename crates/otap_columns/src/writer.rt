@@ -3,7 +3,6 @@
 
 ghost use Rattle.std.specs.Prelude.{◌≡◌, ◌≤◌, ◌∷◌, ◌++◌, [], List, false, is_err, length, true, IfOk, OnOk};
 ghost use Rattle.otap_cells.specs.Columns.{width_of};
-ghost use Rattle.otap_cells.specs.Continuing.{continues_in};
 ghost use Rattle.otap_cells.specs.Tables.{Table};
 ghost use Rattle.otap_cells.specs.Weights.{row_weight_limit, weight_of_table};
 ghost use Rattle.otap_columns.specs.Limits.{record_limit};
@@ -14,7 +13,7 @@ use crate::forms::ColumnForm;
 use crate::writer_record::record_of;
 use crate::writer_rows::ladder_at;
 use crate::writer_seen::SeenColumn;
-use otap_cells::{Kind, LogicalTable, Rows, columns, continuing_rows};
+use otap_cells::{Kind, LogicalTable, Rows, columns};
 use std::alloc::{AllocError, Global};
 use std::marker::Model;
 
@@ -130,8 +129,7 @@ fn write_next(
     let kind = table.kind();
     let before = forms_of(alloc, kind, seen)?;
     let counts = counts_of(alloc, kind, seen)?;
-    let continues = continuing_rows(alloc, table)?;
-    observe_all(alloc, seen, table, &continues)?;
+    observe_all(alloc, seen, table)?;
     let forms = forms_of(alloc, kind, seen)?;
     let opens = is_opening(started, &before, &forms);
     let bytes = record_of(alloc, table, opens, &forms, &counts, seen)?;
@@ -171,16 +169,14 @@ fn observe_all(
     alloc: Global,
     seen: &mut [SeenColumn],
     table: &LogicalTable,
-    continues: &[bool],
 ) -> Result<(), AllocError>
     requires count { length seen.old ≡ width_of table.now.kind }
-    requires runs { continues.now ≡ continues_in table.now }
     requires writable { IsWritable table.now.kind table.now }
     ensures { OnOk result (SeesAll table.now.kind table.now seen.old seen.new) }
 {
     let count = columns(table.kind()).len() as u32;
     'columns: for column in 0..count {
-        seen[column as usize].observe(alloc, table, column, continues)?;
+        seen[column as usize].observe(alloc, table, column)?;
     }
     Ok(())
 }

@@ -13,9 +13,8 @@ ghost use Rattle.otap_columns.specs.WrittenCells.{shown};
 
 use crate::forms::ColumnForm;
 use crate::writer_cells::{CellBytes, bytes_for, is_same};
-use otap_cells::{
-    Base, CellView, Kind, LogicalTable, Rows, base_of, columns, stored_numbers, undo,
-};
+use crate::writer_ids::has_wide_id;
+use otap_cells::{Base, CellView, Kind, LogicalTable, Rows, base_of, columns};
 use otap_dicts::laws::a_value_again_changes_nothing;
 use otap_dicts::{Form, Ladder};
 use std::alloc::{AllocError, Global};
@@ -49,32 +48,22 @@ impl SeenColumn {
         }
     }
 
-    /// Observes a column of one table more. `continues` tells of each row whether it continues the run of the one before. After
-    /// want of memory it stands for no list of tables.
+    /// Observes a column of one table more. After want of memory it stands for no list of tables.
     pub(crate) fn observe(
         &mut self,
         alloc: Global,
         table: &LogicalTable,
         column: u32,
-        continues: &[bool],
     ) -> Result<(), AllocError>
         requires column { column < width_of table.now.kind }
-        requires runs { continues.now ≡ continues_in table.now }
         requires coded { is_id_at table.now.kind column ≡ true → coding_in table.now column ≡ coding_at table.now.kind column }
         ensures { OnOk result (SeesTable table.now.kind column table.now self.old self.new) }
     {
-        self.step(alloc, table, column, continues)
+        self.step(alloc, table, column)
     }
 
-    fn step(
-        &mut self,
-        alloc: Global,
-        table: &LogicalTable,
-        column: u32,
-        continues: &[bool],
-    ) -> Result<(), AllocError>
+    fn step(&mut self, alloc: Global, table: &LogicalTable, column: u32) -> Result<(), AllocError>
         requires column { column < width_of table.now.kind }
-        requires runs { continues.now ≡ continues_in table.now }
         requires coded { is_id_at table.now.kind column ≡ true → coding_in table.now column ≡ coding_at table.now.kind column }
         ensures { OnOk result (self.new ≡ record {
           ladder = fold observed_if self.old.ladder (map (bytes_for (base_at table.now.kind column) form.Wide) (column_in table.now.rows column));
@@ -82,8 +71,9 @@ impl SeenColumn {
         }) }
     {
         observe_values(&mut self.ladder, table, column)?;
-        let wide = needs_wide(alloc, table, column, continues)?;
-        self.wide |= wide;
+        if !self.wide {
+            self.wide = needs_wide(alloc, table, column)?;
+        }
         Ok(())
     }
 
@@ -164,21 +154,15 @@ fn is_main(kind: Kind) -> bool
 }
 
 // Whether a column holds ids of which one needs more than 16 bits.
-fn needs_wide(
-    alloc: Global,
-    table: &LogicalTable,
-    column: u32,
-    continues: &[bool],
-) -> Result<bool, AllocError>
+fn needs_wide(alloc: Global, table: &LogicalTable, column: u32) -> Result<bool, AllocError>
     requires column { column < width_of table.now.kind }
-    requires runs { continues.now ≡ continues_in table.now }
     requires coded { is_id_at table.now.kind column ≡ true → coding_in table.now column ≡ coding_at table.now.kind column }
     ensures { IfOk result (λ wide. wide ≡ (is_id_at table.now.kind column && has_wide_id table.now.kind column table.now)) }
 {
     if !base_of(table.kind(), column).is_id() {
         return Ok(false);
     }
-    has_wide_id(alloc, table, column, continues)
+    has_wide_id(alloc, table, column)
 }
 
 // Observes the cells of a column. Once the column is plain no cell is looked at, and a cell that is the same as the one before
@@ -221,28 +205,4 @@ fn observe_cell(ladder: &mut Ladder, cell: &CellBytes<'_>) -> Result<(), AllocEr
             Ok(())
         }
     }
-}
-
-// Whether an id of a column needs more than 16 bits.
-fn has_wide_id(
-    alloc: Global,
-    table: &LogicalTable,
-    column: u32,
-    continues: &[bool],
-) -> Result<bool, AllocError>
-    requires id { is_id_at table.now.kind column ≡ true }
-    requires runs { continues.now ≡ continues_in table.now }
-    requires coded { coding_in table.now column ≡ coding_at table.now.kind column }
-    ensures { IfOk result (λ wide. wide ≡ has_wide_id table.now.kind column table.now) }
-{
-    let mut ids = stored_numbers(alloc, table, column)?;
-    undo(table.coding(column), &mut ids, continues, u32::MAX);
-    let wide = is_above(&ids);
-    Ok(wide)
-}
-
-fn is_above(ids: &[Option<u32>]) -> bool
-    ensures { result ≡ list_any is_above ids.now }
-{
-    ids.iter().any(|id| matches!(id, Some(id) if *id > 65_535))
 }

@@ -1,0 +1,6 @@
+use Rattle.otap_columns.proofs.NarrowSums.{narrow_on}
+use Rattle.otap_columns.proofs.writer_ids.are_narrow.Goals as goal
+
+pub rows-preserved : goal.rows-preserved
+rows-preserved c =
+    narrow_on c.args.table.now c.args.column c.rows.row c.rows.most c.in-Some.next c.rows.invariant c.in-Some.ensures.stays c.in-Some.ensures.small
