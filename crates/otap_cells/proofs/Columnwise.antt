@@ -1,7 +1,7 @@
 -- A table kept column by column: rows added, cells written.
 use Rattle.std.proofs.Common.{◌≡◌, ℕ, zero, suc, true, pos, negsuc, ◌+◌, ◌-◌, ◌≤◌, ◌<◌, List, [], ◌∷◌, ◌++◌, length, get_or, set, replicate, map, refl, sym, ◌∙◌, ap, subst, inl, inr, arith, length-set, length-append}
 use Rattle.std.specs.List.{range_with_len}
-use Rattle.std.proofs.lemmas.Bool.{cases_eq}
+use Rattle.std.proofs.lemmas.Bool.{cases_eq, cases_lt}
 use Rattle.std.proofs.lemmas.List.{get_or_past, get_or_default, get_or-set_same, get_or-set_other, length-replicate}
 use Rattle.std.proofs.lemmas.List.FromFn.{length-range_with_len}
 use Rattle.otap_cells.specs.declared.payload.Kind.{Kind}
@@ -14,7 +14,7 @@ use Rattle.otap_cells.specs.Cells.{Cell, null, number, bits, flag, bytes, nat_in
 use Rattle.otap_cells.specs.Columns.{ColumnSpec, base_at, column_at, coding_at, is_id_at, width_of, is_run, allows}
 use Rattle.otap_cells.specs.Tables.{Table, IsTable, cell_in, coding_in, greatest_in, greatest_wide, row_by, rows_by, table_by, profile_table, by_columns, with_cell, null_row}
 use Rattle.otap_cells.specs.Kept.{IsKept, kept_table}
-use Rattle.otap_cells.proofs.ByPlace.{rows_by-more, rows_by-with_cell, cell_in-rows_by, IsTable-table_by, kind-table_by, rows-table_by, count-table_by, coding-table_by, greatest-table_by}
+use Rattle.otap_cells.proofs.ByPlace.{rows_by-more, rows_by-with_cell, cell_in-beyond, cell_in-rows_by, IsTable-table_by, kind-table_by, rows-table_by, count-table_by, coding-table_by, greatest-table_by}
 
 -- columns that read the same have the same cells
 pub same_cells : (columns later : List (List Cell)) → ((column : ℕ) → get_or later column [] ≡ get_or columns column []) → by_columns later ≡ by_columns columns
@@ -120,6 +120,19 @@ module _ (kind : Kind) (n : ℕ) (columns : List (List Cell)) (t : Table) (is_ta
 
   pub holds : IsKept kind n columns → (column row : ℕ) (x : Cell) → x ≡ by_columns columns column row → IsCellOf (base_at t.kind column) x
   holds kept column row x found = rw (found, ← same_kind) (kept.fits column row)
+
+  -- in the rows past a column's cells it is null
+  pub null_past : (column row : ℕ) → length (get_or columns column []) ≤ row → cell_in t.rows column row ≡ null
+  null_past column row past =
+      ap (λ t. cell_in t.rows column row) (sym is_table)
+      ∙ ap (λ rows. cell_in rows column row) (rows-table_by kind (coding_at kind) (λ column. greatest_wide) n (by_columns columns))
+      ∙ elim (cases_lt column (width_of kind)) [
+        | inl there ↦ elim (cases_lt row n) [
+          | inl within ↦ cell_in-rows_by kind n (by_columns columns) column row there within ∙ get_or_past (get_or columns column []) row null past
+          | inr low ↦ cell_in-beyond kind n (by_columns columns) column row (inr low)
+        ]
+        | inr wide ↦ cell_in-beyond kind n (by_columns columns) column row (inl wide)
+      ]
 
   pub fits_behind : IsKept kind n columns → (column : ℕ) → column < width_of t.kind → 0 < length t.rows
       → (cells d : List Cell) → cells ≡ get_or columns column d → length cells ≤ n - 1 + 1

@@ -47,6 +47,13 @@ impl Cells {
         }
     }
 
+    // How many rows there are up to the last one that was set.
+    pub fn reach(&self) -> u64
+        ensures { result ≡ length self.now }
+    {
+        self.slots.len() as u64
+    }
+
     // The cell of a row, null past the last one.
     pub fn get(&self, row: usize) -> CellView<'_>
         ensures { seen result ≡ slice_index_or self.now row null }

@@ -2,7 +2,7 @@ ghost use Rattle.std.specs.Prelude.{◌≡◌, ◌++◌, ◌∷◌, [], ◌<◌,
 ghost use Rattle.std.specs.List.{slice_index_or};
 ghost use Rattle.otap_cells.specs.Cells.{Cell, seen, null, IsCellOf};
 ghost use Rattle.otap_cells.specs.Columns.{columns_of, base_at, width_of};
-ghost use Rattle.otap_cells.specs.Tables.{IsRow, null_row, profile_table, with_cell};
+ghost use Rattle.otap_cells.specs.Tables.{IsRow, cell_in, null_row, profile_table, with_cell};
 
 use crate::kept::Cells;
 use crate::payload::Kind;
@@ -116,6 +116,17 @@ impl LogicalTable {
             self.set(column as u32, cells[column])?;
         }
         Ok(())
+    }
+
+    /// How many rows there are up to the last one in which a column was set. From there on its cells are null.
+    pub fn reach(&self, column: u32) -> u64
+        ensures { (row : ℕ) → result ≤ row → cell_in self.now.rows column row ≡ null }
+    {
+        let column = column as usize;
+        if column >= self.columns.len() {
+            return 0;
+        }
+        self.columns[column].reach()
     }
 }
 
