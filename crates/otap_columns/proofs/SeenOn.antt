@@ -1,9 +1,10 @@
 -- What is kept of a column after one table more, and the form that it tells.
-use Rattle.std.proofs.Common.{◌≡◌, ℕ, ◌+◌, ◌<◌, Bool, true, false, ◌||◌, List, [], ◌∷◌, ◌++◌, length, take, get_or, map, fold, nat_lt, Option, Some, None, refl, sym, ap, ◌∙◌, arith, append-nil, append_assoc}
+use Rattle.std.proofs.Common.{◌≡◌, ℕ, zero, suc, ◌+◌, ◌<◌, ◌≤◌, Bool, true, false, ◌||◌, List, [], ◌∷◌, ◌++◌, length, take, get_or, map, fold, nat_lt, Option, Some, None, refl, sym, ap, ◌∙◌, arith, append-nil, append_assoc}
 use Rattle.std.specs.Prelude.{◌&&◌, not, if◌then◌else◌, Result, Ok, Err, OnOk}
 use Rattle.std.specs.List.{list_any}
 use Rattle.std.proofs.Math.Bool.{or-false}
-use Rattle.std.proofs.lemmas.List.{length-map, take_more}
+use Rattle.std.proofs.lemmas.List.{length-map, take_more, get_or_past}
+use Rattle.std.proofs.Math.ListN.{get_or-map}
 use Rattle.std.proofs.lemmas.List.Folds.{list_any-append}
 use Rattle.std.proofs.lemmas.List.Sums.{fold-append}
 use Rattle.otap_cells.specs.declared.payload.Kind.{Kind}
@@ -44,6 +45,29 @@ pub plain_stays : ((l : LadderIn) (value : List ℕ) → l.form ≡ ladder.Plain
 plain_stays law l plain [] = refl
 plain_stays law l plain (None ∷ cells) = plain_stays law l plain cells
 plain_stays law l plain (Some value ∷ cells) = plain_stays law l plain cells ∙ sym (ap (λ (m : LadderIn). fold observed_if m cells) (law l value plain))
+
+-- null cells change nothing, so those after the last one that was set needn't be looked at
+nulls_change_nothing : (l : LadderIn) (cells : List (Option (List ℕ))) → ((k : ℕ) → get_or cells k None ≡ None) → l ≡ fold observed_if l cells
+nulls_change_nothing l [] none = refl
+nulls_change_nothing l (None ∷ cells) none = nulls_change_nothing l cells (λ k. none (suc k))
+nulls_change_nothing l (Some value ∷ cells) none = absurd (let wrong : Some value ≡ None = none 0 in cc)
+
+nulls_at_end : (l : LadderIn) (k : ℕ) (cells : List (Option (List ℕ))) → ((row : ℕ) → k ≤ row → get_or cells row None ≡ None) → fold observed_if l (take k cells) ≡ fold observed_if l cells
+nulls_at_end l zero cells none = nulls_change_nothing l cells (λ k. none k (omega arith))
+nulls_at_end l (suc k) [] none = refl
+nulls_at_end l (suc k) (x ∷ cells) none = nulls_at_end (observed_if l x) k cells (λ row le. none (suc row) (omega (arith, le)))
+
+null_cell : (holds : Base) (rows : List (List Cell)) (column row : ℕ) → cell_in rows column row ≡ null → get_or (map (bytes_for holds form.Wide) (column_in rows column)) row None ≡ None
+null_cell holds rows column row is =
+    get_or-map (bytes_for holds form.Wide) (column_in rows column) row null ∙ ap (bytes_for holds form.Wide) (get_or-map (λ cells. get_or cells column null) rows row [] ∙ is)
+
+pub seen_to_last : (holds : Base) (rows : List (List Cell)) (column k : ℕ) (start : LadderIn) → ((row : ℕ) → k ≤ row → cell_in rows column row ≡ null)
+    → fold observed_if start (take k (map (bytes_for holds form.Wide) (column_in rows column))) ≡ fold observed_if start (map (bytes_for holds form.Wide) (column_in rows column))
+seen_to_last holds rows column k start none = nulls_at_end start k (map (bytes_for holds form.Wide) (column_in rows column)) (λ row le. null_cell holds rows column row (none row le))
+
+-- no cell stands after the last row
+pub null_beyond : (rows : List (List Cell)) (column row : ℕ) → length rows ≤ row → cell_in rows column row ≡ null
+null_beyond rows column row all = ap (λ (cells : List Cell). get_or cells column null) (get_or_past rows row [] all)
 
 -- all cells of a column
 observes : (marked : Bool) (values : List (List ℕ)) (cells : List (Option (List ℕ))) → fold observed_if (ladder_of marked values) cells ≡ ladder_of marked (values ++ given cells)

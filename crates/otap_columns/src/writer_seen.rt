@@ -1,10 +1,11 @@
 //! What the writer keeps of a column of the tables that it wrote.
 
-ghost use Rattle.std.specs.Prelude.{◌≡◌, ◌<◌, ◌&&◌, ◌||◌, [], List, fold, map, true, if◌then◌else◌, IfOk, OnOk};
+ghost use Rattle.std.specs.Prelude.{◌≡◌, ◌<◌, ◌≤◌, ℕ, length, ◌&&◌, ◌||◌, [], List, fold, map, true, if◌then◌else◌, IfOk, OnOk};
 ghost use Rattle.std.specs.List.{list_any};
+ghost use Rattle.otap_cells.specs.Cells.{null};
 ghost use Rattle.otap_cells.specs.Columns.{base_at, coding_at, is_id_at, width_of};
 ghost use Rattle.otap_cells.specs.Continuing.{continues_in};
-ghost use Rattle.otap_cells.specs.Tables.{Table, coding_in, column_in};
+ghost use Rattle.otap_cells.specs.Tables.{Table, cell_in, coding_in, column_in};
 ghost use Rattle.otap_dicts.specs.declared.form.Form.TheVariants.{Plain};
 ghost use Rattle.otap_columns.specs.declared.forms.ColumnForm.TheVariants as form;
 ghost use Rattle.otap_columns.specs.Observed.{bytes_for, form_at, has_wide_id, is_above, is_main, is_own_id, is_wide, of_ladder};
@@ -165,8 +166,8 @@ fn needs_wide(alloc: Global, table: &LogicalTable, column: u32) -> Result<bool, 
     has_wide_id(alloc, table, column)
 }
 
-// Observes the cells of a column. Once the column is plain no cell is looked at, and a cell that is the same as the one before
-// isn't looked up.
+// Observes the cells of a column. Once the column is plain no cell is looked at, nor any after the last one that was set, and a
+// cell that is the same as the one before isn't looked up.
 fn observe_values(ladder: &mut Ladder, table: &LogicalTable, column: u32) -> Result<(), AllocError>
     requires { column < width_of table.now.kind }
     ensures { OnOk result (ladder.new ≡ fold observed_if ladder.old (map (bytes_for (base_at table.now.kind column) form.Wide) (column_in table.now.rows column))) }
@@ -177,7 +178,8 @@ fn observe_values(ladder: &mut Ladder, table: &LogicalTable, column: u32) -> Res
     }
     let base = base_of(table.kind(), column);
     let mut before = CellView::Null;
-    'rows: for row in 0..table.rows() {
+    let count = set_rows(table, column);
+    'rows: for row in 0..count {
         let cell = table.cell(column, row);
         if is_same(before, cell) {
             continue;
@@ -187,6 +189,16 @@ fn observe_values(ladder: &mut Ladder, table: &LogicalTable, column: u32) -> Res
         before = cell;
     }
     Ok(())
+}
+
+// How many rows there are up to the last one in which a column was set.
+fn set_rows(table: &LogicalTable, column: u32) -> u64
+    ensures within { result ≤ length table.now.rows }
+    ensures null { (row : ℕ) → result ≤ row → cell_in table.now.rows column row ≡ null }
+{
+    let reach = table.reach(column);
+    let rows = table.rows();
+    if reach < rows { reach } else { rows }
 }
 
 fn is_plain(form: Form) -> bool
