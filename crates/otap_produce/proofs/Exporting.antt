@@ -1,16 +1,13 @@
 -- An exporter that stands for requests stands for one more after it wrote its message.
-use Rattle.std.proofs.Common.{◌≡◌, ℕ, ◌+◌, false, List, [], ◌∷◌, ◌++◌, pos, sym, ap, ◌∙◌, arith, append-nil, length-append}
+use Rattle.std.proofs.Common.{◌≡◌, ℕ, ◌+◌, false, List, [], ◌∷◌, ◌++◌, pos, sym, ap, ◌∙◌, arith, length-append}
 use Rattle.std.specs.List.{flat_map}
-use Rattle.std.proofs.lemmas.Grind.{flat_map-append}
 use Rattle.lists.proofs.Growing.{each_after-push}
 use Rattle.otlp_model.specs.declared.request.Request.{Request}
 use Rattle.otap_cells.specs.Payload.{kinds_of}
 use Rattle.otap_produce.specs.Exporters.{ExporterIn, Exports, StandsFor, kinds_in}
 use Rattle.otap_produce.specs.Policy.{IsExported, IsMessageOf, Rows, payloads_of}
 use Rattle.otap_produce.specs.Sending.{SendsMessage}
-
-one_more : {A B : Type 0} (f : A → List B) (xs : List A) (x : A) → flat_map f (xs ++ x ∷ []) ≡ flat_map f xs ++ f x
-one_more f xs x = flat_map-append f xs (x ∷ []) ∙ ap (λ ys. flat_map f xs ++ ys) (append-nil (f x))
+use Rattle.otap_produce.proofs.Deciding.{one_more}
 
 pub exports : (rows : Rows) (q : Request) (old new : ExporterIn) (bytes : List ℕ) → old.signal ≡ rows.signal → old.broken ≡ false → IsExported rows q
     → SendsMessage old.batches (rows.tables q) old.sent new.sent bytes → new.signal ≡ old.signal → kinds_in new.sent.senders ≡ kinds_in old.sent.senders

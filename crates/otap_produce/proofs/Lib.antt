@@ -15,4 +15,5 @@ pub mod Adding
 pub mod Messages
 pub mod Ready
 pub mod Beginning
+pub mod Deciding
 pub mod Exporting
