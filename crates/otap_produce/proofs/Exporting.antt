@@ -7,7 +7,7 @@ use Rattle.otap_cells.specs.Payload.{kinds_of}
 use Rattle.otap_produce.specs.Exporters.{ExporterIn, Exports, StandsFor, kinds_in}
 use Rattle.otap_produce.specs.Policy.{IsExported, IsMessageOf, Rows, payloads_of}
 use Rattle.otap_produce.specs.Sending.{SendsMessage}
-use Rattle.otap_produce.proofs.Deciding.{one_more}
+use Rattle.otap_produce.proofs.Deciding.{one_more, stands_with}
 
 pub exports : (rows : Rows) (q : Request) (old new : ExporterIn) (bytes : List ℕ) → old.signal ≡ rows.signal → old.broken ≡ false → IsExported rows q
     → SendsMessage old.batches (rows.tables q) old.sent new.sent bytes → new.signal ≡ old.signal → kinds_in new.sent.senders ≡ kinds_in old.sent.senders
@@ -29,6 +29,8 @@ exports rows q old new bytes signal was_sound exported sends same kinds batches 
         (sends.sends.after (flat_map rows.tables requests) (flat_map payloads_of messages) stands.sent);
     policy = each_after-push (IsMessageOf rows) [] [] requests messages q bytes stands.policy (message requests messages stands);
   };
+  policy = λ requests messages others stands allowed.
+      each_after-push (IsMessageOf rows) [] [] requests others q bytes allowed (message requests others (stands_with rows requests messages others old stands allowed));
   sound = sound;
   batches = batches;
 }

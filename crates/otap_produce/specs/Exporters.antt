@@ -76,7 +76,7 @@ pub record IsNew (signal : Signal) (e : ExporterIn) : Type 0 where
 
 -- A REQUEST IS EXPORTED: the bytes are the canonical spelling of a batch whose id counts those before it, and short. Whatever
 -- requests and messages the exporter stood for, they are the message of this request after them, and now it stands for this one
--- too.
+-- too. And after all other messages that the policy allows for those requests, it allows these bytes for this request.
 pub record Exports (rows : Rows) (request : Request) (old new : ExporterIn) (bytes : List ℕ) : Type 0 where
   pub was_sound : old.broken ≡ false
   pub exported : IsExported rows request
@@ -85,6 +85,8 @@ pub record Exports (rows : Rows) (request : Request) (old new : ExporterIn) (byt
   pub short : length bytes ≤ longest_frame
   pub message : (requests : List Request) (messages : List (List ℕ)) → StandsFor rows requests messages old → IsMessageOf rows requests messages request bytes
   pub stands : (requests : List Request) (messages : List (List ℕ)) → StandsFor rows requests messages old → StandsFor rows (requests ++ request ∷ []) (messages ++ bytes ∷ []) new
+  pub policy : (requests : List Request) (messages others : List (List ℕ)) → StandsFor rows requests messages old → Policy rows requests others
+      → Policy rows (requests ++ request ∷ []) (others ++ bytes ∷ [])
   pub sound : new.broken ≡ false
   pub batches : new.batches ≡ old.batches + 1
 

@@ -18,6 +18,8 @@ use std::marker::Model;
 
 /// An exporter of the requests of a signal. Of a segment it keeps what decides the next messages: the columns and dictionaries
 /// of each kind of table, and the schema ids. A contract sees this state, and `StandsFor` ties it to the requests and messages.
+/// It stands for its requests with all messages that the policy allows for them
+/// ([`stands_for_all_messages`](crate::laws::stands_for_all_messages)).
 #[derive(Debug, Drop)]
 pub struct Exporter {
     alloc: Global,
