@@ -7,8 +7,8 @@ ghost use Rattle.otap_checks.specs.Inside.{Lacks};
 
 use std::alloc::{AllocError, Global};
 
-/// Whether a parent isn't among ids. Takes n log n for n ids and parents, and time in proportion to them where both rise and
-/// none is missing.
+/// Whether a parent isn't among ids. Takes n log n for n ids and parents, and time in proportion to them where none is missing and
+/// ids are counted from 0 or both rise.
 pub fn has_orphan(
     alloc: Global,
     parents: &[Option<u32>],
@@ -26,8 +26,8 @@ pub fn has_orphan(
     Ok(found)
 }
 
-// Whether each parent stands among ids from the place of the parent before it on. Where parents and ids rise, each that is there
-// does.
+// Whether each parent stands among ids at the place that it counts, or else from the place of the parent before it on. Where ids
+// are counted from 0, or where parents and ids rise, each that is there does.
 fn finds_all(ids: &[Option<u32>], parents: &[Option<u32>]) -> bool
     ensures { result ≡ true → OrphanIn parents.now ids.now → ⊥ }
 {
@@ -36,12 +36,23 @@ fn finds_all(ids: &[Option<u32>], parents: &[Option<u32>]) -> bool
         let Some(number) = parent else {
             continue;
         };
+        if stands_at_its_place(ids, *number) {
+            continue;
+        }
         at = find_from(ids, at, *number);
         if at == ids.len() {
             return false;
         }
     }
     true
+}
+
+// Whether a number is the id at the place that it counts.
+fn stands_at_its_place(ids: &[Option<u32>], number: u32) -> bool
+    ensures { result ≡ true → Contains ids.now (Some number) }
+{
+    let place = number as usize;
+    place < ids.len() && is_number(ids[place], number)
 }
 
 // The first place of a number among ids from a place on, or their end.
