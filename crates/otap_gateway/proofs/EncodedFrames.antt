@@ -6,7 +6,7 @@ use Rattle.otap_capture.specs.Capture.{Frame, Message, Packed, reset_frame, capt
 use Rattle.otap_capture.specs.Capture as capture
 use Rattle.otap_consume.specs.Meanings.{Meaning}
 use Rattle.otap_produce.specs.Exporters.{ExporterIn, StandsFor, IsNew}
-use Rattle.otap_produce.specs.Policy.{Rows}
+use Rattle.otap_produce.specs.Policy.{SignalRows}
 use Rattle.otap_transit.specs.Sendings.{Sending, Sent, Reset, AreAllowed, requests_since, messages_since}
 use Rattle.otlp_codec.specs.declared.refusal.ReadRefusal.{ReadRefusal}
 use Rattle.otlp_codec.specs.Refusals.{Names, refusal_of}
@@ -32,7 +32,7 @@ ok_more P Q more (Err e) so = tt
 
 -- ---- the exporter
 
-module _ (rows : Rows) where
+module _ (rows : SignalRows) where
   abbrev StandsSince : ExporterIn → List Sending → Type 0
   StandsSince e ss = StandsFor rows (requests_since ss) (messages_since ss) e
 
@@ -97,7 +97,7 @@ module _ (rows : Rows) where
 
 -- ---- and the far end
 
-module _ (rows : Rows) (m : Meaning) where
+module _ (rows : SignalRows) (m : Meaning) where
   pub encoded_only : (frames : List Frame) (os : List Encoded) → Gave (Encodes rows m) frames os → Gave (EncodedAfter rows) frames os
   encoded_only frames os each =
       each_after-weaker (λ past before f o. Encodes rows m before f o) (λ past before f o. EncodedAfter rows before f o) (λ past before f o both. both.gives) [] [] frames os each

@@ -11,7 +11,7 @@ use Rattle.otap_capture.specs.Outside.{AppendsFront}
 use Rattle.otap_capture.proofs.Known.{Keeps-refl, Appends-nil, Appends-trans, Appends-kept, front_more, front_of_all, front_of_none}
 use Rattle.otap_columns.specs.TableSets.{openings}
 use Rattle.otap_produce.specs.Exporters.{ExporterIn}
-use Rattle.otap_produce.specs.Policy.{IsExported, Rows, Policy, payloads_of}
+use Rattle.otap_produce.specs.Policy.{IsExported, SignalRows, Policy, payloads_of}
 use Rattle.otlp_load.specs.Load.{generated, items_each}
 use Rattle.otlp_model.specs.declared.request.Request.{Request}
 use Rattle.otlp_model.specs.declared.request.Signal.{Signal}
@@ -48,7 +48,7 @@ line_says s n items opened messages each many counted =
 
 -- ---- what is sent
 
-module _ (rows : Rows) where
+module _ (rows : SignalRows) where
   pub sent_none : (w : Option (List ℕ)) (e : ExporterIn) (o : Opened) → HasLoaded rows 0 [] e o → HasSent rows 0 w w e o
   sent_none w e o loaded = record { messages = []; loaded = loaded; out = Appends-nil w w (Keeps-refl w) }
 
@@ -63,9 +63,9 @@ module _ (rows : Rows) where
     out = subst (λ text. Appends old new text) (flat_map_more message_frame [] sent.messages message) (Appends-trans old mid new (frames_text sent.messages) (message_frame message) sent.out out);
   }
 
-module _ (load : Load) (rows : Rows) (same : rows ≡ rows_of load.signal) where
+module _ (load : Load) (rows : SignalRows) (same : rows ≡ rows_of load.signal) where
   policy_of : (n : ℕ) (messages : List (List ℕ)) → Policy rows (first_requests rows.signal n) messages → Policy (rows_of load.signal) (first_requests (rows_of load.signal).signal n) messages
-  policy_of n messages policy = subst (λ (r : Rows). Policy r (first_requests r.signal n) messages) same policy
+  policy_of n messages policy = subst (λ (r : SignalRows). Policy r (first_requests r.signal n) messages) same policy
 
   -- it stops before the first request
   pub leaves_none : (s : Sinks) → WritesLoadFront load s s
@@ -106,7 +106,7 @@ module _ (load : Load) (rows : Rows) (same : rows ≡ rows_of load.signal) where
     line_of : (messages : List (List ℕ)) (items opened : ℕ) → items ≡ 8192 * load.requests → opened ≡ openings (flat_map payloads_of messages)
         → line_by load.requests items opened ≡ load_line (requests_of load) messages
     line_of messages items opened many counted =
-        line_says rows.signal load.requests items opened messages each many counted ∙ ap (λ (r : Rows). load_line (first_requests r.signal load.requests) messages) same
+        line_says rows.signal load.requests items opened messages each many counted ∙ ap (λ (r : SignalRows). load_line (first_requests r.signal load.requests) messages) same
 
     -- or in the line
     pub leaves_line : (old new : Sinks) (items : ℕ) (e : ExporterIn) (o : Opened) → items ≡ 8192 * load.requests → HasSent rows load.requests old.out.written new.out.written e o
@@ -124,7 +124,7 @@ module _ (load : Load) (rows : Rows) (same : rows ≡ rows_of load.signal) where
         → Keeps out new.out.written → Keeps err new.err.written → OnOk answer (IsFlushed new) → LeavesLoad load old new answer
     leaves_load old new out err items e o (Ok x) many sent line keeps_out keeps_err flushed = record {
       messages = sent.messages;
-      exported = subst (λ (r : Rows). All (IsExported r) (first_requests r.signal load.requests)) same sent.loaded.exported;
+      exported = subst (λ (r : SignalRows). All (IsExported r) (first_requests r.signal load.requests)) same sent.loaded.exported;
       policy = policy_of load.requests sent.messages sent.loaded.stands.policy;
       out = Appends-kept _ _ _ _ sent.out keeps_out;
       err = subst (λ text. Appends old.err.written new.err.written text) (line_of sent.messages items o.count many sent.loaded.counted.count) (Appends-kept _ _ _ _ line keeps_err);

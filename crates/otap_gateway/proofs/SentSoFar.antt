@@ -9,7 +9,7 @@ use Rattle.lists.specs.Since.{since}
 use Rattle.lists.proofs.Growing.{all_after-push, each_after-keeps}
 use Rattle.lists.proofs.Latest.{since-append}
 use Rattle.otap_capture.specs.Capture.{Frame}
-use Rattle.otap_produce.specs.Policy.{Rows}
+use Rattle.otap_produce.specs.Policy.{SignalRows}
 use Rattle.otap_transit.specs.Sendings.{Sending, Sent, Reset, is_reset, request_if, message_if, requests_since, messages_since, AreAllowed, IsAllowed}
 use Rattle.otlp_model.specs.declared.request.Request.{Request}
 use Rattle.otap_gateway.specs.Encoding.{Encoded, Puts, Refuses, EncodedAfter, sending_if, sent}
@@ -82,7 +82,7 @@ few_requests os =
 
 -- ---- what was sent was allowed
 
-module _ (rows : Rows) where
+module _ (rows : SignalRows) where
   allowed_more : (os : List Encoded) (frame : Frame) (o : Encoded) → AreAllowed rows (sent os) → EncodedAfter rows os frame o → AreAllowed rows (sent (os ++ o ∷ []))
   allowed_more os frame o all EncodedAfter.compressed = rw (sent_still os _) all
   allowed_more os frame o all (EncodedAfter.unreadable bytes defect stands) = rw (sent_still os _) all

@@ -6,7 +6,7 @@ use Rattle.lists.specs.EachAfter.{EachAfter, AllAfter}
 use Rattle.otap_capture.specs.Capture.{Frame, IsFrame, AreFrames, IsCapture, Message, message_frame, reset_frame, longest_frame, capture_limit}
 use Rattle.otap_capture.specs.Capture as capture
 use Rattle.otap_consume.specs.Meanings.{Meaning}
-use Rattle.otap_produce.specs.Policy.{Rows}
+use Rattle.otap_produce.specs.Policy.{SignalRows}
 use Rattle.otap_transit.specs.Sendings.{Sending, Sent, Reset, AreAllowed, IsAllowed, frame_of}
 use Rattle.otlp_model.specs.declared.request.Signal.{Signal}
 use Rattle.otap_gateway.specs.declared.command.Command.TheVariants as command
@@ -35,7 +35,7 @@ out_told number (Refuses name ∷ os) = out_told (suc number) os
 abbrev pub MessagesAreRead : Type 0
 MessagesAreRead = (part : List ℕ) → length part ≤ longest_frame → IsFrame (message_frame part) (Message part)
 
-module _ (rows : Rows) (messages : MessagesAreRead) (resets : IsFrame reset_frame capture.Reset) where
+module _ (rows : SignalRows) (messages : MessagesAreRead) (resets : IsFrame reset_frame capture.Reset) where
   one_frame : (past : List Sending) (s : Sending) → IsAllowed rows past s → IsFrame (spelled s) (frame_of s)
   one_frame past (Sent q m) may = messages m may.message_of.short
   one_frame past Reset may = resets

@@ -10,7 +10,7 @@ use Rattle.otap_consume.specs.Receiving.{Received}
 use Rattle.otap_produce.specs.Exporters.{ExporterIn, StandsFor}
 use Rattle.otap_produce.specs.LogRows.{logs_rows}
 use Rattle.otap_produce.specs.MetricRows.{metrics_rows}
-use Rattle.otap_produce.specs.Policy.{Rows}
+use Rattle.otap_produce.specs.Policy.{SignalRows}
 use Rattle.otap_produce.specs.SpanRows.{spans_rows}
 use Rattle.otap_transit.specs.Sendings.{Sending, Sent, Reset, MaySend, Arrive, frame_of, requests_since, messages_since}
 use Rattle.otlp_codec.specs.Requests.{Reads, Stands}
@@ -27,7 +27,7 @@ use Rattle.otap_gateway.specs.RefusedRequests.{refused_request}
 use Rattle.otap_gateway.specs.Reply.{ReplyText}
 
 -- the tables that requests of a signal are written as
-abbrev pub rows_of : Signal → Rows
+abbrev pub rows_of : Signal → SignalRows
 rows_of signals.Traces = spans_rows
 rows_of signals.Logs = logs_rows
 rows_of signals.Metrics = metrics_rows
@@ -48,17 +48,17 @@ abbrev pub sent : List Encoded → List Sending
 sent outcomes = flat_map sending_if outcomes
 
 -- a request of few enough items whose tree, or the rows of whose tables, weigh too much
-pub record IsTooHeavy (rows : Rows) (request : Request) : Type 0 where
+pub record WeighsTooMuch (rows : SignalRows) (request : Request) : Type 0 where
   pub few : length (telemetry request) ≤ item_limit
   pub heavy : (weight_limit < weight_of request) ⊎ (row_weight_limit < weight_of_tables (rows.tables request))
 
 -- WHAT A FRAME GIVES after frames that gave these: a request within the limits is sent, by a message that the policy gives it
-pub data EncodedAfter (rows : Rows) (outcomes : List Encoded) : Frame → Encoded → Type 0 where
+pub data EncodedAfter (rows : SignalRows) (outcomes : List Encoded) : Frame → Encoded → Type 0 where
   compressed : EncodedAfter rows outcomes Packed (Refuses (codes "Compressed"))
   unreadable : (bytes : List ℕ) (defect : Defect) → Stands rows.signal bytes defect → EncodedAfter rows outcomes (Message bytes) (Refuses (defect_text defect))
   too_many : (bytes : List ℕ) (request : Request) → Reads rows.signal bytes request → item_limit < length (telemetry request)
       → EncodedAfter rows outcomes (Message bytes) (Refuses (codes "TooManyItems"))
-  too_heavy : (bytes : List ℕ) (request : Request) → Reads rows.signal bytes request → IsTooHeavy rows request
+  too_heavy : (bytes : List ℕ) (request : Request) → Reads rows.signal bytes request → WeighsTooMuch rows request
       → EncodedAfter rows outcomes (Message bytes) (Refuses (codes "TooHeavy"))
   sends : (bytes : List ℕ) (request : Request) (message : List ℕ) → Reads rows.signal bytes request → MaySend rows (sent outcomes) request message
       → EncodedAfter rows outcomes (Message bytes) (Puts (Sent request message))
@@ -80,10 +80,10 @@ pub record Arrives (m : Meaning) (sendings : List Sending) : Type 0 where
   pub all : (received : List Outcome) → Received m (map frame_of sendings) received → Arrive m sendings received
 
 -- WHAT `encode` MAKES OF A FRAME after frames that gave these, and the far end of all that is sent
-pub record Encodes (rows : Rows) (m : Meaning) (outcomes : List Encoded) (frame : Frame) (outcome : Encoded) : Type 0 where
+pub record Encodes (rows : SignalRows) (m : Meaning) (outcomes : List Encoded) (frame : Frame) (outcome : Encoded) : Type 0 where
   pub gives : EncodedAfter rows outcomes frame outcome
   pub arrives : Arrives m (sent (outcomes ++ outcome ∷ []))
 
 -- an exporter that stands for what was sent since the latest reset
-abbrev pub HasEncoded : Rows → ExporterIn → List Encoded → Type 0
+abbrev pub HasEncoded : SignalRows → ExporterIn → List Encoded → Type 0
 HasEncoded rows e outcomes = StandsFor rows (requests_since (sent outcomes)) (messages_since (sent outcomes)) e

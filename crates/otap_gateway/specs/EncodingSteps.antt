@@ -2,27 +2,27 @@
 use Rattle.std.specs.Prelude.{◌≡◌, ◌⊎◌, ◌<◌, ℕ, List, length, codes}
 use Rattle.otap_capture.specs.Capture.{Frame, message_frame}
 use Rattle.otap_produce.specs.Exporters.{ExporterIn, Exports}
-use Rattle.otap_produce.specs.Policy.{Rows}
+use Rattle.otap_produce.specs.Policy.{SignalRows}
 use Rattle.otlp_model.specs.Limits.{item_limit}
 use Rattle.otlp_model.specs.declared.request.Request.{Request}
 use Rattle.otlp_model.specs.Telemetry.{telemetry}
-use Rattle.otap_gateway.specs.Encoding.{Encoded, EncodedAfter, IsTooHeavy, HasEncoded, encoded}
+use Rattle.otap_gateway.specs.Encoding.{Encoded, EncodedAfter, WeighsTooMuch, HasEncoded, encoded}
 use Rattle.otap_gateway.specs.Lines.{printed}
 use Rattle.otap_gateway.specs.RefusedRequests.{refused_request}
 use Rattle.otap_gateway.specs.Reply.{ReplyText}
 use Rattle.otap_gateway.specs.Told.{HasMore}
 
 -- an exporter that stands for some outcomes
-pub record IsEncoding (rows : Rows) (e : ExporterIn) : Type 0 where
+pub record IsEncoding (rows : SignalRows) (e : ExporterIn) : Type 0 where
   pub outcomes : List Encoded
   pub stands : HasEncoded rows e outcomes
 
 -- one more frame, whatever the exporter stands for
-pub record EncodesFrame (rows : Rows) (old new : ExporterIn) (number : ℕ) (frame : Frame) (reply : ReplyText) : Type 0 where
+pub record EncodesFrame (rows : SignalRows) (old new : ExporterIn) (number : ℕ) (frame : Frame) (reply : ReplyText) : Type 0 where
   pub at : (outcomes : List Encoded) → HasEncoded rows old outcomes → HasMore (EncodedAfter rows) encoded (HasEncoded rows new) outcomes frame number reply
 
 -- one more request: its message is sent, or it is too large and the exporter is as before
-pub record SendsRequest (rows : Rows) (old new : ExporterIn) (request : Request) (reply : ReplyText) : Type 0 where
+pub record SendsRequest (rows : SignalRows) (old new : ExporterIn) (request : Request) (reply : ReplyText) : Type 0 where
   pub message : List ℕ
   pub exports : Exports rows request old new message
   pub text : reply ≡ printed (message_frame message)
@@ -32,11 +32,11 @@ pub record RefusesMany (old new : ExporterIn) (number : ℕ) (request : Request)
   pub same : new ≡ old
   pub text : reply ≡ refused_request number (codes "TooManyItems")
 
-pub record RefusesHeavy (rows : Rows) (old new : ExporterIn) (number : ℕ) (request : Request) (reply : ReplyText) : Type 0 where
-  pub heavy : IsTooHeavy rows request
+pub record RefusesHeavy (rows : SignalRows) (old new : ExporterIn) (number : ℕ) (request : Request) (reply : ReplyText) : Type 0 where
+  pub heavy : WeighsTooMuch rows request
   pub same : new ≡ old
   pub text : reply ≡ refused_request number (codes "TooHeavy")
 
-abbrev pub EncodesRequest : Rows → ExporterIn → ExporterIn → ℕ → Request → ReplyText → Type 0
+abbrev pub EncodesRequest : SignalRows → ExporterIn → ExporterIn → ℕ → Request → ReplyText → Type 0
 EncodesRequest rows old new number request reply =
     SendsRequest rows old new request reply ⊎ (RefusesMany old new number request reply ⊎ RefusesHeavy rows old new number request reply)

@@ -9,7 +9,7 @@ use Rattle.otap_capture.specs.Capture.{longest_frame}
 use Rattle.otap_columns.specs.Streams.{PayloadIn, open_id}
 use Rattle.otap_columns.specs.TableSets.{openings}
 use Rattle.otap_produce.specs.Exporters.{ExporterIn, StandsFor}
-use Rattle.otap_produce.specs.Policy.{Rows, IsExported, part_of, payloads_of}
+use Rattle.otap_produce.specs.Policy.{SignalRows, IsExported, part_of, payloads_of}
 use Rattle.otap_gateway.specs.declared.opened.Opened.{Opened}
 use Rattle.otap_gateway.specs.Loads.{first_requests, frames_text}
 
@@ -39,23 +39,23 @@ pub record CountsFront (all left : List PayloadContent) (old new : Opened) : Typ
 -- ---- the requests
 
 -- the first requests were exported as these messages, and the openings of these are counted
-pub record HasLoaded (rows : Rows) (count : ℕ) (messages : List (List ℕ)) (e : ExporterIn) (o : Opened) : Type 0 where
+pub record HasLoaded (rows : SignalRows) (count : ℕ) (messages : List (List ℕ)) (e : ExporterIn) (o : Opened) : Type 0 where
   pub stands : StandsFor rows (first_requests rows.signal count) messages e
   pub exported : All (IsExported rows) (first_requests rows.signal count)
   pub counted : HasCounted (flat_map payloads_of messages) o
 
 -- some messages
-pub record IsLoading (rows : Rows) (count : ℕ) (e : ExporterIn) (o : Opened) : Type 0 where
+pub record IsLoading (rows : SignalRows) (count : ℕ) (e : ExporterIn) (o : Opened) : Type 0 where
   pub messages : List (List ℕ)
   pub loaded : HasLoaded rows count messages e o
 
 -- the message of one more request
-pub record LoadsNext (rows : Rows) (count : ℕ) (e e' : ExporterIn) (o o' : Opened) (message : List ℕ) : Type 0 where
+pub record LoadsNext (rows : SignalRows) (count : ℕ) (e e' : ExporterIn) (o o' : Opened) (message : List ℕ) : Type 0 where
   pub after : (messages : List (List ℕ)) → HasLoaded rows count messages e o → HasLoaded rows (count + 1) (messages ++ message ∷ []) e' o'
   pub short : length message ≤ longest_frame
 
 -- out grew by the frames of the messages of the first requests
-pub record HasSent (rows : Rows) (count : ℕ) (old new : Option (List ℕ)) (e : ExporterIn) (o : Opened) : Type 0 where
+pub record HasSent (rows : SignalRows) (count : ℕ) (old new : Option (List ℕ)) (e : ExporterIn) (o : Opened) : Type 0 where
   pub messages : List (List ℕ)
   pub loaded : HasLoaded rows count messages e o
   pub out : Appends old new (frames_text messages)

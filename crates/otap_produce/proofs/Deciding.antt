@@ -17,7 +17,7 @@ use Rattle.otap_columns.specs.Streams.{PayloadIn, is_of, id_in, last_of, opens, 
 use Rattle.otap_columns.specs.TableSets.{ArePayloadsOf, IsPayloadOf, openings}
 use Rattle.otap_columns.proofs.Openings.{open_id-own, open_id-other}
 use Rattle.otap_produce.specs.Exporters.{ExporterIn, HasSent, HaveSent, SenderIn, SendersIn, StandsFor}
-use Rattle.otap_produce.specs.Policy.{IsMessageOf, Policy, Rows, payloads_of}
+use Rattle.otap_produce.specs.Policy.{IsMessageOf, Policy, SignalRows, payloads_of}
 use Rattle.otap_produce.proofs.Counting.{if_opens, openings-push}
 
 -- ---- one payload
@@ -100,7 +100,7 @@ pub one_more : {A B : Type 0} (f : A → List B) (xs : List A) (x : A) → flat_
 one_more f xs x = flat_map-append f xs (x ∷ []) ∙ ap (λ ys. flat_map f xs ++ ys) (append-nil (f x))
 
 -- the payloads of messages by the policy are those of all tables, one after the other
-all_payloads : (rows : Rows) (before : List Request) (past : List (List ℕ)) (requests : List Request) (messages : List (List ℕ))
+all_payloads : (rows : SignalRows) (before : List Request) (past : List (List ℕ)) (requests : List Request) (messages : List (List ℕ))
     → EachAfter (IsMessageOf rows) before past requests messages
     → ArePayloadsOf (flat_map rows.tables before) (flat_map payloads_of past) (flat_map rows.tables requests) (flat_map payloads_of messages)
 all_payloads rows before past [] [] each = tt
@@ -113,7 +113,7 @@ all_payloads rows before past (q ∷ qs) (m ∷ ms) each =
     (subst (λ (ps : List PayloadIn). ArePayloadsOf (flat_map rows.tables (before ++ q ∷ [])) ps (flat_map rows.tables qs) (flat_map payloads_of ms)) (one_more payloads_of past m)
     (all_payloads rows (before ++ q ∷ []) (past ++ m ∷ []) qs ms each.1)))
 
-messages_alike : (rows : Rows) (requests : List Request) (messages others : List (List ℕ)) → Policy rows requests messages → Policy rows requests others
+messages_alike : (rows : SignalRows) (requests : List Request) (messages others : List (List ℕ)) → Policy rows requests messages → Policy rows requests others
     → LookAlike (flat_map payloads_of messages) (flat_map payloads_of others)
 messages_alike rows requests messages others one other =
     all_alike [] [] [] (flat_map rows.tables requests) (flat_map payloads_of messages) (flat_map payloads_of others) (record { ids = λ type. refl; count = refl })
@@ -135,7 +135,7 @@ all_sent_alike tables past past' s alike sent = record {
 }
 
 -- with whatever messages the policy allows
-pub stands_with : (rows : Rows) (requests : List Request) (messages others : List (List ℕ)) (e : ExporterIn) → StandsFor rows requests messages e → Policy rows requests others
+pub stands_with : (rows : SignalRows) (requests : List Request) (messages others : List (List ℕ)) (e : ExporterIn) → StandsFor rows requests messages e → Policy rows requests others
     → StandsFor rows requests others e
 stands_with rows requests messages others e stands allowed = record {
   signal = stands.signal;

@@ -5,11 +5,11 @@ use Rattle.lists.proofs.Growing.{each_after-push}
 use Rattle.otlp_model.specs.declared.request.Request.{Request}
 use Rattle.otap_cells.specs.Payload.{kinds_of}
 use Rattle.otap_produce.specs.Exporters.{ExporterIn, Exports, StandsFor, kinds_in}
-use Rattle.otap_produce.specs.Policy.{IsExported, IsMessageOf, Rows, payloads_of}
+use Rattle.otap_produce.specs.Policy.{IsExported, IsMessageOf, SignalRows, payloads_of}
 use Rattle.otap_produce.specs.Sending.{SendsMessage}
 use Rattle.otap_produce.proofs.Deciding.{one_more, stands_with}
 
-pub exports : (rows : Rows) (q : Request) (old new : ExporterIn) (bytes : List ℕ) → old.signal ≡ rows.signal → old.broken ≡ false → IsExported rows q
+pub exports : (rows : SignalRows) (q : Request) (old new : ExporterIn) (bytes : List ℕ) → old.signal ≡ rows.signal → old.broken ≡ false → IsExported rows q
     → SendsMessage old.batches (rows.tables q) old.sent new.sent bytes → new.signal ≡ old.signal → kinds_in new.sent.senders ≡ kinds_in old.sent.senders
     → new.batches ≡ old.batches + 1 → new.broken ≡ false → Exports rows q old new bytes
 exports rows q old new bytes signal was_sound exported sends same kinds batches sound = record {

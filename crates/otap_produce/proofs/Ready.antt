@@ -11,7 +11,7 @@ use Rattle.otap_cells.specs.Payload.{kinds_of}
 use Rattle.otap_cells.specs.Tables.{Table}
 use Rattle.otap_cells.specs.Weights.{weight_of_table}
 use Rattle.otap_produce.specs.Exporters.{SendersIn, kinds_in}
-use Rattle.otap_produce.specs.Policy.{IsExported, Rows}
+use Rattle.otap_produce.specs.Policy.{IsExported, SignalRows}
 use Rattle.otap_produce.specs.Sending.{AreReadyForAll, HaveHistory}
 use Rattle.otap_produce.specs.Writable.{AreInOrder, AreWritableRows}
 use Rattle.otap_produce.proofs.Limited.{RecordsFit, tables_limited}
@@ -24,7 +24,7 @@ of_signal signal tables order k d low =
     subst (All (Contains (kinds_of signal))) (sym order.kinds) (All-filter order.has (Contains (kinds_of signal)) (kinds_of signal) (All-contains_itself (kinds_of signal))) in
     subst (Contains (kinds_of signal)) (get_or-map kind tables k d d.kind low) (all k d.kind (omega (arith, low, length-map tables kind)))
 
-module _ (rows : Rows) (q : Request) (exported : IsExported rows q) (writable : AreWritableRows rows) (fit : RecordsFit) where
+module _ (rows : SignalRows) (q : Request) (exported : IsExported rows q) (writable : AreWritableRows rows) (fit : RecordsFit) where
   pub few_tables : length (rows.tables q) ≤ 13
   few_tables = (tables_limited fit rows.signal (rows.tables q) (writable.tables q exported).order exported.row_weight).0
 

@@ -18,7 +18,7 @@ use Rattle.otap_columns.specs.TableSets.{of_kind, openings}
 use Rattle.otap_columns.specs.Writers.{HasWritten, WriterIn}
 use Rattle.otap_produce.specs.declared.refusal.ProduceRefusal.{ProduceRefusal}
 use Rattle.otap_produce.specs.declared.refusal.ProduceRefusal.TheVariants.{Broken, TooManyItems, TooHeavy, Memory}
-use Rattle.otap_produce.specs.Policy.{Rows, IsExported, IsMessageOf, Policy, payloads_of}
+use Rattle.otap_produce.specs.Policy.{SignalRows, IsExported, IsMessageOf, Policy, payloads_of}
 
 -- the sender of a kind: the writer of its records, and the number that is the schema id of its last payload
 pub record SenderIn : Type 0 where
@@ -57,7 +57,7 @@ pub record HaveSent (tables : List Table) (payloads : List PayloadIn) (s : Sende
   pub openings : s.openings ≡ openings payloads
 
 -- AN EXPORTER THAT STANDS FOR THE REQUESTS of its segment, and for messages that the policy gives them
-pub record StandsFor (rows : Rows) (requests : List Request) (messages : List (List ℕ)) (e : ExporterIn) : Type 0 where
+pub record StandsFor (rows : SignalRows) (requests : List Request) (messages : List (List ℕ)) (e : ExporterIn) : Type 0 where
   pub signal : e.signal ≡ rows.signal
   pub sound : e.broken ≡ false
   pub kinds : kinds_in e.sent.senders ≡ kinds_of e.signal
@@ -70,14 +70,14 @@ pub record IsNew (signal : Signal) (e : ExporterIn) : Type 0 where
   pub same : e.signal ≡ signal
   pub sound : e.broken ≡ false
   pub batches : e.batches ≡ 0
-  pub stands : (rows : Rows) → rows.signal ≡ signal → StandsFor rows [] [] e
+  pub stands : (rows : SignalRows) → rows.signal ≡ signal → StandsFor rows [] [] e
 
 -- ---- one more request
 
 -- A REQUEST IS EXPORTED: the bytes are the canonical spelling of a batch whose id counts those before it, and short. Whatever
 -- requests and messages the exporter stood for, they are the message of this request after them, and now it stands for this one
 -- too. And after all other messages that the policy allows for those requests, it allows these bytes for this request.
-pub record Exports (rows : Rows) (request : Request) (old new : ExporterIn) (bytes : List ℕ) : Type 0 where
+pub record Exports (rows : SignalRows) (request : Request) (old new : ExporterIn) (bytes : List ℕ) : Type 0 where
   pub was_sound : old.broken ≡ false
   pub exported : IsExported rows request
   pub canonical : bytes ≡ canon_batch (batch_in bytes)
@@ -91,7 +91,7 @@ pub record Exports (rows : Rows) (request : Request) (old new : ExporterIn) (byt
   pub batches : new.batches ≡ old.batches + 1
 
 -- WHY A REQUEST IS REFUSED: the first of these that stands; want of memory where none does
-abbrev pub Refuses : Rows → Request → Bool → ProduceRefusal → Type 0
+abbrev pub Refuses : SignalRows → Request → Bool → ProduceRefusal → Type 0
 Refuses rows q broken Broken = broken ≡ true
 Refuses rows q broken TooManyItems = (broken ≡ false) × (item_limit < length (telemetry q))
 Refuses rows q broken TooHeavy =

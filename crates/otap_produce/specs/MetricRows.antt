@@ -5,7 +5,7 @@ use Rattle.otlp_model.specs.declared.request.Request.TheVariants.{Traces, Logs, 
 use Rattle.otlp_model.specs.declared.request.Signal.TheVariants as signals
 use Rattle.otap_cells.specs.Tables.{Table}
 use Rattle.otap_hist.specs.Tables.{whole_tables}
-use Rattle.otap_produce.specs.Policy.{Rows}
+use Rattle.otap_produce.specs.Policy.{SignalRows}
 
 -- the tables of a request; those of another signal are not written
 abbrev pub metric_tables : Request → List Table
@@ -13,5 +13,5 @@ metric_tables (Metrics groups) = whole_tables groups
 metric_tables (Traces groups) = []
 metric_tables (Logs groups) = []
 
-abbrev pub metrics_rows : Rows
+abbrev pub metrics_rows : SignalRows
 metrics_rows = record { signal = signals.Metrics; tables = metric_tables }

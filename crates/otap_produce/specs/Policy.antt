@@ -17,12 +17,12 @@ use Rattle.otap_columns.specs.Streams.{PayloadIn}
 use Rattle.otap_columns.specs.TableSets.{ArePayloadsOf}
 
 -- A SIGNAL, and which tables its requests are written as
-pub record Rows : Type 0 where
+pub record SignalRows : Type 0 where
   pub signal : Signal
   pub tables : Request → List Table
 
 -- A REQUEST THAT IS EXPORTED: of the signal, real, of the profile, and within the limits on items, tree weight and row weight
-pub record IsExported (rows : Rows) (q : Request) : Type 0 where
+pub record IsExported (rows : SignalRows) (q : Request) : Type 0 where
   pub signal : signal_of q ≡ rows.signal
   pub real : IsReal q
   pub profile : IsProfile q
@@ -39,12 +39,12 @@ payloads_of message = map part_of (batch_in message).payloads
 
 -- THE MESSAGE OF A REQUEST, after the requests and the messages of its segment before it: the canonical spelling of a batch whose
 -- id counts these, and which has a payload for each table of the request. It fits into a frame.
-pub record IsMessageOf (rows : Rows) (requests : List Request) (messages : List (List ℕ)) (request : Request) (message : List ℕ) : Type 0 where
+pub record IsMessageOf (rows : SignalRows) (requests : List Request) (messages : List (List ℕ)) (request : Request) (message : List ℕ) : Type 0 where
   pub canonical : message ≡ canon_batch (batch_in message)
   pub id : (batch_in message).id ≡ pos (length requests)
   pub payloads : ArePayloadsOf (flat_map rows.tables requests) (flat_map payloads_of messages) (rows.tables request) (payloads_of message)
   pub short : length message ≤ longest_frame
 
 -- THE POLICY: the messages of the requests of a segment
-abbrev pub Policy : Rows → List Request → List (List ℕ) → Type 0
+abbrev pub Policy : SignalRows → List Request → List (List ℕ) → Type 0
 Policy rows requests messages = EachAfter (IsMessageOf rows) [] [] requests messages

@@ -15,7 +15,7 @@ use Rattle.otap_columns.specs.TableSets.{ArePayloadsOf}
 use Rattle.otap_produce.specs.declared.refusal.ProduceRefusal.{ProduceRefusal}
 use Rattle.otap_produce.specs.declared.refusal.ProduceRefusal.TheVariants.{Memory}
 use Rattle.otap_produce.specs.Exporters.{SendersIn, HaveSent, Refuses, kinds_in}
-use Rattle.otap_produce.specs.Policy.{Rows, part_of, payloads_of}
+use Rattle.otap_produce.specs.Policy.{SignalRows, part_of, payloads_of}
 use Rattle.otap_produce.specs.Sizes.{most_of, size_limit, size_of}
 
 -- some tables were sent, as some payloads
@@ -72,6 +72,6 @@ pub record SendsMessage (number : ℕ) (tables : List Table) (old new : SendersI
   pub short : length message ≤ longest_frame
 
 -- the request is refused before anything is written
-abbrev pub RefusesFirst : Rows → Request → Bool → ProduceRefusal → Type 0
+abbrev pub RefusesFirst : SignalRows → Request → Bool → ProduceRefusal → Type 0
 RefusesFirst rows q broken (Memory e) = ⊥
 RefusesFirst rows q broken why = Refuses rows q broken why

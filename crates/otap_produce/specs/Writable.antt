@@ -6,7 +6,7 @@ use Rattle.otap_cells.specs.declared.payload.Kind.{Kind}
 use Rattle.otap_cells.specs.Payload.{kinds_of}
 use Rattle.otap_cells.specs.Tables.{Table}
 use Rattle.otap_columns.specs.Policy.{IsWritable}
-use Rattle.otap_produce.specs.Policy.{Rows, IsExported}
+use Rattle.otap_produce.specs.Policy.{SignalRows, IsExported}
 
 -- tables stand in the order of the signal's kinds, each kind at most once
 pub record AreInOrder (signal : Signal) (tables : List Table) : Type 0 where
@@ -19,5 +19,5 @@ pub record HaveWritable (signal : Signal) (tables : List Table) : Type 0 where
   pub each : All (λ t. IsWritable t.kind t) tables
 
 -- THE ROWS CAN BE WRITTEN, of each request that is exported
-pub record AreWritableRows (rows : Rows) : Type 0 where
+pub record AreWritableRows (rows : SignalRows) : Type 0 where
   pub tables : (q : Request) → IsExported rows q → HaveWritable rows.signal (rows.tables q)

@@ -3,11 +3,11 @@
 ghost use Rattle.std.specs.Prelude.{ℕ, List};
 ghost use Rattle.otlp_model.specs.declared.request.Request.{Request};
 ghost use Rattle.otap_produce.specs.Exporters.{ExporterIn, StandsFor};
-ghost use Rattle.otap_produce.specs.Policy.{Rows, Policy};
+ghost use Rattle.otap_produce.specs.Policy.{SignalRows, Policy};
 
 /// The policy decides the schema ids. So an exporter that stands for requests with some messages stands for them with every list
 /// of messages that the policy allows.
 pub fn stands_for_all_messages()
-    ensures { (rows : Rows) (requests : List Request) (messages others : List (List ℕ)) (exporter : ExporterIn) → StandsFor rows requests messages exporter
+    ensures { (rows : SignalRows) (requests : List Request) (messages others : List (List ℕ)) (exporter : ExporterIn) → StandsFor rows requests messages exporter
         → Policy rows requests others → StandsFor rows requests others exporter }
 {}

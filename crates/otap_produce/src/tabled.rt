@@ -6,7 +6,7 @@ ghost use Rattle.otlp_model.specs.Limits.{weight_limit};
 ghost use Rattle.otlp_model.specs.Profile.{IsProfile};
 ghost use Rattle.otlp_model.specs.Telemetry.{signal_of};
 ghost use Rattle.otlp_model.specs.Weight.{weight_of};
-ghost use Rattle.otap_produce.specs.Policy.{Rows, IsExported};
+ghost use Rattle.otap_produce.specs.Policy.{SignalRows, IsExported};
 ghost use Rattle.otap_produce.specs.Writable.{AreWritableRows};
 
 use otap_cells::{LogicalTable, TableSet};
@@ -16,7 +16,7 @@ use std::alloc::{AllocError, Global};
 /// The tables that the requests of a signal are written as.
 pub trait Tabled {
     /// The rows of a request.
-    ghost rows: { Rows };
+    ghost rows: { SignalRows };
 
     /// The signal.
     fn signal() -> Signal

@@ -15,7 +15,7 @@ use Rattle.otap_consume.specs.Outcomes.{Outcome, Accepted, is_broken, payloads_a
 use Rattle.otap_consume.specs.Outcomes as outcomes
 use Rattle.otap_consume.specs.Receiving.{ReceivedAfter, Received}
 use Rattle.otap_consume.proofs.SegmentSteps.{payloads_accepted, broken_accepted, broken_reset, payloads_reset}
-use Rattle.otap_produce.specs.Policy.{Rows}
+use Rattle.otap_produce.specs.Policy.{SignalRows}
 use Rattle.otap_transit.specs.Faithful.{AreFaithful}
 use Rattle.otap_transit.specs.Sendings.{Sending, Sent, Reset, MaySend, IsAllowed, AreAllowed, IsAccepted, ArrivesAs, Arrive, frame_of, is_reset, request_if, message_if, requests_since, messages_since}
 use Rattle.otap_transit.specs.Transits.{payloads_in, payloads_in_all, tables_after}
@@ -50,26 +50,26 @@ messages_reset before = ap (flat_map message_if) (since-append is_reset before (
 -- ---- outcomes of what was sent
 
 -- no frame of the segment was refused, and its payloads are those that were sent
-pub record AreTold (rows : Rows) (before : List Sending) (told : List Outcome) : Type 0 where
+pub record AreTold (rows : SignalRows) (before : List Sending) (told : List Outcome) : Type 0 where
   pub whole : is_broken told ≡ false
   pub payloads : payloads_after told ≡ payloads_in_all (messages_since before)
   pub segment : IsSegment rows (requests_since before) (messages_since before)
 
-pub new_segment : (rows : Rows) → IsSegment rows [] []
+pub new_segment : (rows : SignalRows) → IsSegment rows [] []
 new_segment rows = record { so_far = nothing_so_far; few = omega arith }
 
-none_told : (rows : Rows) → AreTold rows [] []
+none_told : (rows : SignalRows) → AreTold rows [] []
 unfolding is_broken payloads_after requests_since messages_since
 none_told rows = record { whole = refl; payloads = refl; segment = new_segment rows }
 
-after_reset : (rows : Rows) (before : List Sending) (told : List Outcome) → AreTold rows (before ++ Reset ∷ []) (told ++ outcomes.Reset ∷ [])
+after_reset : (rows : SignalRows) (before : List Sending) (told : List Outcome) → AreTold rows (before ++ Reset ∷ []) (told ++ outcomes.Reset ∷ [])
 after_reset rows before told = record {
   whole = broken_reset told;
   payloads = payloads_reset told ∙ ap payloads_in_all (sym (messages_reset before));
   segment = rw (requests_reset before, messages_reset before) (new_segment rows);
 }
 
-module _ (far : FarEndReads) (m : Meaning) (rows : Rows) (faithful : AreFaithful m rows) where
+module _ (far : FarEndReads) (m : Meaning) (rows : SignalRows) (faithful : AreFaithful m rows) where
   abbrev tables : List Sending → List ℕ → List Table
   tables before message = tables_after m (messages_since before) message
 

@@ -18,7 +18,7 @@ use Rattle.otap_columns.specs.TableSets.{IsPayloadOf}
 use Rattle.otap_consume.specs.Defects.{Accepts, tables_of}
 use Rattle.otap_consume.specs.Meanings.{Meaning, HasFineRows}
 use Rattle.otap_consume.specs.Payloads.{parts_of, part_of}
-use Rattle.otap_produce.specs.Policy.{Rows, IsExported, IsMessageOf, payloads_of}
+use Rattle.otap_produce.specs.Policy.{SignalRows, IsExported, IsMessageOf, payloads_of}
 use Rattle.otap_produce.specs.Writable.{AreInOrder}
 use Rattle.otap_transit.specs.Faithful.{AreFaithful, MeanTheSame}
 use Rattle.otap_transit.specs.Transits.{IsReceivedAs, payloads_in, payloads_in_all, tables_after}
@@ -54,7 +54,7 @@ pub record Comes (m : Meaning) (requests : List Request) (messages : List (List 
   pub same : Same request (m.request (tables_after m messages message))
 
 -- what was sent so far in a segment
-pub record IsSegment (rows : Rows) (requests : List Request) (messages : List (List ℕ)) : Type 0 where
+pub record IsSegment (rows : SignalRows) (requests : List Request) (messages : List (List ℕ)) : Type 0 where
   pub so_far : AreSoFar (flat_map rows.tables requests) (payloads_in_all messages)
   pub few : length (payloads_in_all messages) ≤ 13 * length requests
 
@@ -67,7 +67,7 @@ received m requests messages request message comes = record {
   same = comes.same;
 }
 
-module _ (far : FarEndReads) (m : Meaning) (rows : Rows) (faithful : AreFaithful m rows) (requests : List Request) (messages : List (List ℕ)) (request : Request) (message : List ℕ)
+module _ (far : FarEndReads) (m : Meaning) (rows : SignalRows) (faithful : AreFaithful m rows) (requests : List Request) (messages : List (List ℕ)) (request : Request) (message : List ℕ)
     (segment : IsSegment rows requests messages) (exported : IsExported rows request) (is : IsMessageOf rows requests messages request message) where
   abbrev before : List Table
   before = flat_map rows.tables requests
@@ -140,7 +140,7 @@ module _ (far : FarEndReads) (m : Meaning) (rows : Rows) (faithful : AreFaithful
 
 -- ---- a whole segment
 
-module _ (far : FarEndReads) (m : Meaning) (rows : Rows) (faithful : AreFaithful m rows) where
+module _ (far : FarEndReads) (m : Meaning) (rows : SignalRows) (faithful : AreFaithful m rows) where
   pub all_received : (gone : List Request) (sent : List (List ℕ)) (requests : List Request) (messages : List (List ℕ)) → IsSegment rows gone sent
       → AllByRecursion (IsExported rows) requests → EachAfter (IsMessageOf rows) gone sent requests messages → EachAfter (IsReceivedAs m) gone sent requests messages
   all_received gone sent [] [] segment exported all = tt

@@ -18,7 +18,7 @@ use Rattle.otap_cells.specs.Tables.{Table}
 use Rattle.otap_groups.specs.ProfileTables.{IsProfileTable, HasProfileIds}
 use Rattle.otap_checks.specs.Reading.{HasAllIds}
 use Rattle.otap_consume.specs.Meanings.{Meaning}
-use Rattle.otap_produce.specs.Policy.{IsExported, Rows}
+use Rattle.otap_produce.specs.Policy.{IsExported, SignalRows}
 use Rattle.otap_produce.specs.Writable.{AreWritableRows}
 use Rattle.otap_transit.specs.Faithful.{AreFaithful, MeanTheSame}
 
@@ -36,7 +36,7 @@ pub few_rows : (kind : Kind) (ts : List Table) (q : Request) → length (table_n
 few_rows kind ts q each = omega (arith, ap length (named_rows kind ts), each)
 
 -- the tables of a request are of the profile, and mean what the request means
-pub record MeanIt (m : Meaning) (rows : Rows) (q : Request) : Type 0 where
+pub record MeanIt (m : Meaning) (rows : SignalRows) (q : Request) : Type 0 where
   pub items : length (rows_named (main_of rows.signal) (rows.tables q)) ≤ length (telemetry q)
   pub profile : All IsProfileTable (rows.tables q)
   pub mean : MeanTheSame m q (rows.tables q)
@@ -59,7 +59,7 @@ module _ (m : Meaning)
         }
 
     -- where cells and ids decide what tables mean, it is enough that the tables of each request mean it
-    pub faithful : (rows : Rows) → m.signal ≡ rows.signal → AreWritableRows rows → ((q : Request) → IsExported rows q → MeanIt m rows q) → AreFaithful m rows
+    pub faithful : (rows : SignalRows) → m.signal ≡ rows.signal → AreWritableRows rows → ((q : Request) → IsExported rows q → MeanIt m rows q) → AreFaithful m rows
     faithful rows signal written each = record {
       signal = signal;
       order = λ q exported. (written.tables q exported).order;

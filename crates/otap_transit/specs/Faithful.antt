@@ -10,7 +10,7 @@ use Rattle.otap_cells.specs.Payload.{main_of}
 use Rattle.otap_cells.specs.Sets.{rows_named}
 use Rattle.otap_cells.specs.Tables.{Table}
 use Rattle.otap_consume.specs.Meanings.{Meaning, AreClean}
-use Rattle.otap_produce.specs.Policy.{Rows, IsExported}
+use Rattle.otap_produce.specs.Policy.{SignalRows, IsExported}
 use Rattle.otap_produce.specs.Writable.{AreInOrder}
 
 -- tables that read as those of a request: nothing is wrong with their rows, and they mean the same telemetry
@@ -20,7 +20,7 @@ pub record MeanTheSame (m : Meaning) (q : Request) (tables : List Table) : Type 
   pub same : Same q (m.request tables)
 
 -- THE TABLES OF REQUESTS ARE FAITHFUL to what tables mean
-pub record AreFaithful (m : Meaning) (rows : Rows) : Type 0 where
+pub record AreFaithful (m : Meaning) (rows : SignalRows) : Type 0 where
   pub signal : m.signal ≡ rows.signal
   -- its kinds are among the signal's, none twice
   pub order : (q : Request) → IsExported rows q → AreInOrder rows.signal (rows.tables q)

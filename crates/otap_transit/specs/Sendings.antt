@@ -12,7 +12,7 @@ use Rattle.otap_cells.specs.Tables.{Table}
 use Rattle.otap_consume.specs.Meanings.{Meaning}
 use Rattle.otap_consume.specs.Outcomes.{Outcome, Accepted}
 use Rattle.otap_consume.specs.Outcomes as outcomes
-use Rattle.otap_produce.specs.Policy.{Rows, IsExported, IsMessageOf}
+use Rattle.otap_produce.specs.Policy.{SignalRows, IsExported, IsMessageOf}
 
 -- the message of a request is sent, or a reset
 pub data Sending : Type 0 where
@@ -47,15 +47,15 @@ messages_since sendings = flat_map message_if (since is_reset sendings)
 -- ---- what may be sent
 
 -- a request that is exported, by a message that the policy gives it in its segment
-pub record MaySend (rows : Rows) (before : List Sending) (request : Request) (message : List ℕ) : Type 0 where
+pub record MaySend (rows : SignalRows) (before : List Sending) (request : Request) (message : List ℕ) : Type 0 where
   pub exported : IsExported rows request
   pub message_of : IsMessageOf rows (requests_since before) (messages_since before) request message
 
-abbrev pub IsAllowed : Rows → List Sending → Sending → Type 0
+abbrev pub IsAllowed : SignalRows → List Sending → Sending → Type 0
 IsAllowed rows before (Sent request message) = MaySend rows before request message
 IsAllowed rows before Reset = ⊤
 
-abbrev pub AreAllowed : Rows → List Sending → Type 0
+abbrev pub AreAllowed : SignalRows → List Sending → Type 0
 AreAllowed rows sendings = AllAfter (IsAllowed rows) [] sendings
 
 -- ---- what arrives

@@ -11,7 +11,7 @@ ghost use Rattle.otap_consume.specs.Receiving.{Received};
 ghost use Rattle.otap_consume.specs.SpansMeaning.{spans_meaning};
 ghost use Rattle.otap_produce.specs.LogRows.{logs_rows};
 ghost use Rattle.otap_produce.specs.MetricRows.{metrics_rows};
-ghost use Rattle.otap_produce.specs.Policy.{Rows, IsExported, Policy};
+ghost use Rattle.otap_produce.specs.Policy.{SignalRows, IsExported, Policy};
 ghost use Rattle.otap_produce.specs.SpanRows.{spans_rows};
 ghost use Rattle.otap_transit.specs.Faithful.{AreFaithful};
 ghost use Rattle.otap_transit.specs.Sendings.{Sending, frame_of, AreAllowed, Arrive};
@@ -27,16 +27,16 @@ use otap_spans::{laws as spans, reading_laws as spans_read};
 /// segment, and all messages that the policy allows for them: each message is in the format after those before it, with the
 /// next batch id, and means the same telemetry as its request.
 pub fn both_ends<T: Telemetry>()
-    ensures { (rows : Rows) (requests : List Request) (messages : List (List ℕ)) → AreFaithful T.meaning rows → All (IsExported rows) requests
+    ensures { (rows : SignalRows) (requests : List Request) (messages : List (List ℕ)) → AreFaithful T.meaning rows → All (IsExported rows) requests
         → Policy rows requests messages → EachAfter (IsReceivedAs T.meaning) [] [] requests messages }
 {}
 
 /// The frames of what is sent, with resets between segments, have outcomes, and in all that they have each message is accepted
 /// and means the same telemetry as its request.
 pub fn what_is_sent_arrives<T: Telemetry>()
-    ensures some { (rows : Rows) (sendings : List Sending) → AreFaithful T.meaning rows → AreAllowed rows sendings
+    ensures some { (rows : SignalRows) (sendings : List Sending) → AreFaithful T.meaning rows → AreAllowed rows sendings
         → (outcomes : List Outcome) × Received T.meaning (map frame_of sendings) outcomes × Arrive T.meaning sendings outcomes }
-    ensures all { (rows : Rows) (sendings : List Sending) (outcomes : List Outcome) → AreFaithful T.meaning rows → AreAllowed rows sendings
+    ensures all { (rows : SignalRows) (sendings : List Sending) (outcomes : List Outcome) → AreFaithful T.meaning rows → AreAllowed rows sendings
         → Received T.meaning (map frame_of sendings) outcomes → Arrive T.meaning sendings outcomes }
 {}
 
