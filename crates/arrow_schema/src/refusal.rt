@@ -26,6 +26,7 @@ pub enum SchemaRefusal {
     /// Two fields have one dictionary and different types.
     #[error("a dictionary has two types")]
     DictionaryTypes,
+    /// Memory ran out.
     #[error("out of memory")]
     Memory(AllocError),
 }

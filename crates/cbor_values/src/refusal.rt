@@ -30,6 +30,7 @@ pub enum CborRefusal {
     /// Bytes follow the item.
     #[error("bytes after the item")]
     Trailing,
+    /// Memory ran out.
     #[error(transparent)]
     Memory(AllocError),
 }

@@ -30,9 +30,11 @@ pub enum RowRefusal {
     /// A point or an exemplar has an integer and a double.
     #[error("two values")]
     TwoValues,
-    /// A metric of no known kind, or a point that its metric can't have.
+    /// A metric of no known kind, a point that its metric can't have, or a point of a summary whose two lists have unequal
+    /// lengths.
     #[error("a metric of another kind")]
     BadKind,
+    /// Memory ran out.
     #[error("out of memory")]
     Memory(AllocError),
 }
@@ -80,8 +82,10 @@ impl From<CborRefusal> for RowRefusal {
 /// What is wrong with the rows of a batch: the table, and what is wrong with its rows.
 #[derive(Debug, Drop, Error)]
 pub enum CheckRefusal {
+    /// This is wrong with the rows of the table of this kind.
     #[error("the rows of payload {number}: {why}", number = kind.number())]
     Defect { kind: Kind, why: RowRefusal },
+    /// Memory ran out.
     #[error("out of memory")]
     Memory(AllocError),
 }

@@ -56,6 +56,7 @@ pub enum FramesRefusal {
     /// The source failed: its count of faults rose in that call.
     #[error("the source failed")]
     Source,
+    /// Memory ran out.
     #[error(transparent)]
     Memory(AllocError),
 }

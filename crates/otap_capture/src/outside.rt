@@ -20,6 +20,7 @@ pub enum SinkRefusal {
     /// The sink failed: its count of faults rose in that call.
     #[error("the sink failed")]
     Failed,
+    /// Memory ran out.
     #[error(transparent)]
     Memory(AllocError),
 }

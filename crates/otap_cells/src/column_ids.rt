@@ -22,6 +22,7 @@ use thiserror::Error;
 pub enum IdsRefusal {
     #[error("{0}")]
     Ids(IdFault),
+    /// Memory ran out.
     #[error("out of memory")]
     Memory(AllocError),
 }

@@ -28,6 +28,7 @@ pub enum ColumnRefusal {
     /// A dictionary has more than [`MAX_VALUES`](crate::MAX_VALUES) values.
     #[error("a dictionary has too many values")]
     DictionarySize,
+    /// Memory ran out.
     #[error("out of memory")]
     Memory(AllocError),
 }

@@ -13,6 +13,7 @@ use std::alloc::AllocError;
 pub(crate) enum NotTaken {
     /// A cause, and the type of the payload in which it stands, if it stands in one.
     Defect { cause: Cause, payload: Option<i32> },
+    /// Memory ran out.
     Memory(AllocError),
 }
 

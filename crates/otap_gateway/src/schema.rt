@@ -139,6 +139,7 @@ enum RecordRefusal {
     /// No message can be read at the start of the record of this payload type.
     #[error("the record of type {payload} begins with no message: {fault}")]
     Ipc { payload: i32, fault: IpcFault },
+    /// Memory ran out.
     #[error("out of memory")]
     Memory(AllocError),
 }

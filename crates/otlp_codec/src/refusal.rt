@@ -28,6 +28,7 @@ pub enum ReadRefusal {
     /// A member of an array or of a key-value list stands inside 32 of them.
     #[error("a value is nested too deep")]
     TooDeep,
+    /// Memory ran out.
     #[error(transparent)]
     Memory(AllocError),
 }
