@@ -40,7 +40,8 @@ pub fn tables_tell_the_same()
 {}
 
 /// Law: the request that tables make, among which those of a request stand, weighs no more than the request, where the points of
-/// its histograms and summaries are found so: `hists` and `summaries` find them as they are, and those that are found weigh the same.
+/// its histograms and summaries are found so: `hists` and `summaries` find them as they are, and those that are found weigh the
+/// same.
 pub fn tables_are_light()
     ensures { (groups : List (ResourceGroup Metric)) (tables : List Table) (hists found_hists : Option ℕ → List HistPoint) (summaries found_summaries : Option ℕ → List SumPoint)
         → IsReal (Metrics groups) → IsProfile (Metrics groups) → weight_of (Metrics groups) ≤ weight_limit → HoldMetrics groups tables
