@@ -4,6 +4,7 @@ pub mod CellFits
 pub mod FilledTables
 pub mod FoundLists
 pub mod MadeSums
+pub mod NameRanks
 pub mod PairRows
 pub mod PairsSaid
 pub mod SortedRows

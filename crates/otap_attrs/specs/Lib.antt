@@ -1,4 +1,5 @@
 pub mod Inside
+pub mod Names
 pub mod Refusals
 pub mod Sorting
 pub mod Tables

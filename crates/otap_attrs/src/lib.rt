@@ -3,6 +3,7 @@
 
 mod adding;
 mod laws;
+mod names;
 mod pairs;
 mod reading;
 mod refusal;
