@@ -35,7 +35,11 @@ fn starts_up_to_last(alloc: Global, entries: &[Entry]) -> Result<Vec<usize>, All
 {
     let mut starts = Vec::new(alloc);
     'entries: for place in 0..entries.len() {
-        starts.resize(entries[place].parent as usize + 1, place)?;
+        let parent = entries[place].parent as usize;
+        if parent < starts.len() {
+            continue;
+        }
+        starts.resize(parent + 1, place)?;
     }
     starts.push(entries.len())?;
     Ok(starts)
