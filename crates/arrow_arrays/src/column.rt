@@ -1,7 +1,7 @@
 //! A column of a record batch that is found once, so that each of its cells is a test of bits and a
 //! slice.
 
-ghost use Rattle.std.specs.Prelude.{◌≡◌, ℕ, ◌+◌, ◌*◌, ◌≤◌, length, None};
+ghost use Rattle.std.specs.Prelude.{◌≡◌, ℕ, ◌+◌, ◌*◌, ◌<◌, ◌≤◌, length, None};
 ghost use Rattle.std.specs.Option.{option_copied};
 ghost use Rattle.arrow_buffers.specs.Bits.{is_valid};
 ghost use Rattle.arrow_buffers.specs.Columns.{bit_byte};
@@ -17,7 +17,12 @@ pub(crate) enum Stored<'a> {
     /// No bytes for any row.
     Nothing,
     Bits(&'a [u8]),
-    /// Values of one width.
+    /// Values of 1, 2, 4 or 8 bytes.
+    One(&'a [u8]),
+    Two(&'a [u8]),
+    Four(&'a [u8]),
+    Eight(&'a [u8]),
+    /// Values of any one width.
     Fixed(&'a [u8], u32),
     /// Offsets, and the elements that they count, of one width.
     Spans(&'a [u8], &'a [u8], u32),
@@ -94,6 +99,20 @@ impl<'a> ColumnView<'a> {
 }
 
 impl<'a> Stored<'a> {
+    /// Values of one width.
+    #[tactic(auto, unfolding(crate::specs::Views::value_seen))]
+    pub(crate) fn fixed(bytes: &'a [u8], width: u32) -> Stored<'a>
+        ensures { (row : ℕ) → value_seen result row ≡ part_between bytes.now (row * width) ((row + 1) * width) }
+    {
+        match width {
+            1 => Stored::One(bytes),
+            2 => Stored::Two(bytes),
+            4 => Stored::Four(bytes),
+            8 => Stored::Eight(bytes),
+            _ => Stored::Fixed(bytes, width),
+        }
+    }
+
     #[inline(always)]
     #[tactic(auto, unfolding(crate::specs::Views::value_seen))]
     fn value(&self, row: u64) -> Option<&'a [u8]>
@@ -102,6 +121,10 @@ impl<'a> Stored<'a> {
         match *self {
             Stored::Nothing => Some(&[]),
             Stored::Bits(bytes) => Some(bit_byte(has(bytes, row))),
+            Stored::One(bytes) => part_in(bytes, row, 1),
+            Stored::Two(bytes) => part_in(bytes, row, 2),
+            Stored::Four(bytes) => part_in(bytes, row, 4),
+            Stored::Eight(bytes) => part_in(bytes, row, 8),
             Stored::Fixed(bytes, width) => part(bytes, row, width),
             Stored::Spans(offsets, values, width) => span(offsets, values, width, row),
         }
@@ -128,6 +151,19 @@ fn bit_byte(bit: bool) -> &'static [u8]
     ensures { result.now ≡ bit_byte bit }
 {
     if bit { &[1] } else { &[0] }
+}
+
+// The value of a row, where all have a width that is known when the program is built: to divide by it takes no division.
+#[inline(always)]
+fn part_in(bytes: &[u8], row: u64, width: usize) -> Option<&[u8]>
+    requires { 0 < width }
+    ensures { option_copied result ≡ part_between bytes.now (row * width) ((row + 1) * width) }
+{
+    if row >= (bytes.len() / width) as u64 {
+        return None;
+    }
+    let start = row as usize * width;
+    Some(&bytes[start..start + width])
 }
 
 // The value of a row, where all have one width.
