@@ -1,5 +1,5 @@
 -- A column that is resolved: the bytes that its cells are found in. A place outside these bytes gives no cell.
-use Rattle.std.specs.Prelude.{ℕ, ◌+◌, ◌*◌, nat_lt, nat_le, Bool, ◌&&◌, if◌then◌else◌, List, [], length, slice_range, Option, None, Some}
+use Rattle.std.specs.Prelude.{ℕ, ◌+◌, ◌*◌, nat_lt, nat_le, ◌==◌, Bool, ◌&&◌, if◌then◌else◌, List, [], length, slice_range, Option, None, Some}
 use Rattle.arrow_buffers.specs.Bits.{is_valid}
 use Rattle.arrow_buffers.specs.Columns.{bit_byte}
 use Rattle.arrow_buffers.specs.Offsets.{offset_at}
@@ -30,10 +30,16 @@ value_seen (stored.Eight bytes) row = part_between bytes.now (row * 8) ((row + 1
 value_seen (stored.Fixed bytes width) row = part_between bytes.now (row * width) ((row + 1) * width)
 value_seen (stored.Spans offsets values width) row = span_between offsets.now values.now width row
 
+-- whether a row is null in none of the bitmaps; in a column without any no row is
+abbrev pub is_valid_in : ColumnView → ℕ → Bool
+is_valid_in v row = is_valid v.own.now row && (is_valid v.above.now row && is_valid v.top.now row)
+
+abbrev pub is_whole : ColumnView → Bool
+is_whole v = length v.own.now == 0 && (length v.above.now == 0 && length v.top.now == 0)
+
 -- whether a row is there, and null in none of the bitmaps
 unfoldable pub is_there : ColumnView → ℕ → Bool
-is_there v row =
-    nat_lt row v.rows && (is_valid v.own.now row && (is_valid v.above.now row && is_valid v.top.now row))
+is_there v row = nat_lt row v.rows && is_valid_in v row
 
 -- THE CELL OF A ROW in a column that is resolved
 unfoldable pub cell_seen : ColumnView → ℕ → Option (List ℕ)

@@ -1,12 +1,12 @@
 //! A column of a record batch that is found once, so that each of its cells is a test of bits and a
 //! slice.
 
-ghost use Rattle.std.specs.Prelude.{◌≡◌, ℕ, ◌+◌, ◌*◌, ◌<◌, ◌≤◌, length, None};
+ghost use Rattle.std.specs.Prelude.{◌≡◌, ℕ, ◌+◌, ◌*◌, ◌<◌, ◌≤◌, true, length, None};
 ghost use Rattle.std.specs.Option.{option_copied};
 ghost use Rattle.arrow_buffers.specs.Bits.{is_valid};
 ghost use Rattle.arrow_buffers.specs.Columns.{bit_byte};
 ghost use Rattle.arrow_buffers.specs.Offsets.{offset_at};
-ghost use Rattle.arrow_arrays.specs.Views.{part_between, span_between, value_seen, is_there, cell_seen};
+ghost use Rattle.arrow_arrays.specs.Views.{part_between, span_between, value_seen, is_whole, is_valid_in, is_there, cell_seen};
 ghost use Rattle.arrow_arrays.specs.Found.{IsBelow, IsEmpty};
 
 use byteorder::{ByteOrder, LittleEndian};
@@ -65,11 +65,28 @@ impl<'a> ColumnView<'a> {
     /// The bytes of a row's cell; `None` where it is null, or there is no such row. A bit is one
     /// byte, 0 or 1; a struct has no bytes; a list has those of its elements.
     #[inline(always)]
-    #[tactic(auto, unfolding(crate::specs::Views::cell_seen))]
     pub fn cell(&self, row: u64) -> Option<&'a [u8]>
         ensures { option_copied result ≡ cell_seen self.now row }
     {
-        if self.is_there(row) {
+        self.cell_if(row, false)
+    }
+
+    /// Whether no bitmap has bytes: each row is valid then.
+    pub fn is_whole(&self) -> bool
+        ensures { result ≡ is_whole self.now }
+    {
+        self.own.is_empty() && self.above.is_empty() && self.top.is_empty()
+    }
+
+    /// The bytes of a row's cell, as `cell` answers them. Where the column is known to be whole no
+    /// bitmap is looked at.
+    #[inline(always)]
+    #[tactic(auto, unfolding(crate::specs::Views::cell_seen))]
+    pub fn cell_if(&self, row: u64, whole: bool) -> Option<&'a [u8]>
+        requires { whole ≡ true → is_whole self.now ≡ true }
+        ensures { option_copied result ≡ cell_seen self.now row }
+    {
+        if self.is_there(row, whole) {
             self.stored.value(row)
         } else {
             None
@@ -91,10 +108,18 @@ impl<'a> ColumnView<'a> {
 
     #[inline(always)]
     #[tactic(auto, unfolding(crate::specs::Views::is_there))]
-    fn is_there(&self, row: u64) -> bool
+    fn is_there(&self, row: u64, whole: bool) -> bool
+        requires { whole ≡ true → is_whole self.now ≡ true }
         ensures { result ≡ is_there self.now row }
     {
-        row < self.rows && has(self.own, row) && has(self.above, row) && has(self.top, row)
+        row < self.rows && (whole || self.is_valid(row))
+    }
+
+    #[inline(always)]
+    fn is_valid(&self, row: u64) -> bool
+        ensures { result ≡ is_valid_in self.now row }
+    {
+        has(self.own, row) && has(self.above, row) && has(self.top, row)
     }
 }
 
