@@ -20,7 +20,7 @@ use Rattle.otap_cells.specs.Tables.{Table, IsTable, cell_in}
 use Rattle.otap_columns.specs.declared.resolved.ResolvedColumn.{ResolvedColumn}
 use Rattle.otap_columns.specs.Dictionaries.{values_for}
 use Rattle.otap_columns.specs.Known.{FitsBase, place_at, columns_fit, stored_cell}
-use Rattle.otap_columns.specs.Resolved.{resolved_value, HasIndexSizes, HasIndexes, IsField, IsColumn, ShowsColumn}
+use Rattle.otap_columns.specs.Resolved.{resolved_value, HasIndexSizes, IsResolved, IsField, IsColumn, ShowsColumn}
 use Rattle.otap_columns.specs.Steps.{FitsIn}
 use Rattle.otap_columns.specs.Substreams.{SubstreamIn, IsIndexSize, value_at, replaced, field_value, column_cell, table_in}
 use Rattle.otap_columns.proofs.Placed.{column_value_is}
@@ -54,34 +54,34 @@ index_sizes arrays place a dict v at has fits row = by_cell (cell_seen v row) (f
 -- ---- the column of a field
 
 module _ (s : SubstreamIn) (batch : BatchIn) (place : ℕ) (c : ResolvedColumn) where
-  pub field_missing : slice_get s.arrays place ≡ None → ((row : ℕ) → resolved_value c row ≡ None) → HasIndexes c → IsField s batch place c
-  field_missing at values indexes = record { values = λ row. values row ∙ (λ i. field_value s batch row place (sym at i)); indexes = indexes }
+  pub field_missing : slice_get s.arrays place ≡ None → ((row : ℕ) → resolved_value c row ≡ None) → IsResolved c → IsField s batch place c
+  field_missing at values resolved = record { values = λ row. values row ∙ (λ i. field_value s batch row place (sym at i)); resolved = resolved }
 
   pub field_plain : (a : ArraySpec) (v : ColumnView) → slice_get s.arrays place ≡ Some a → a.dict ≡ None → ((row : ℕ) → cell_seen v row ≡ cell_of s.arrays batch place row)
-      → ((row : ℕ) → resolved_value c row ≡ cell_seen v row) → HasIndexes c → IsField s batch place c
-  field_plain a v at plain cells values indexes = record {
+      → ((row : ℕ) → resolved_value c row ≡ cell_seen v row) → IsResolved c → IsField s batch place c
+  field_plain a v at plain cells values resolved = record {
     values = λ row. values row ∙ cells row ∙ (λ i. replaced s.dictionaries a.kind (sym plain i) (cell_of s.arrays batch place row)) ∙ (λ i. field_value s batch row place (sym at i));
-    indexes = indexes;
+    resolved = resolved;
   }
 
   pub field_indexed : (a : ArraySpec) (dict : DictSpec) (v : ColumnView) → slice_get s.arrays place ≡ Some a → a.dict ≡ Some dict
       → ((row : ℕ) → cell_seen v row ≡ cell_of s.arrays batch place row) → ((row : ℕ) → resolved_value c row ≡ value_at (values_for a.kind dict.id s.dictionaries) (cell_seen v row))
-      → HasIndexes c → IsField s batch place c
-  field_indexed a dict v at has cells values indexes = record {
+      → IsResolved c → IsField s batch place c
+  field_indexed a dict v at has cells values resolved = record {
     values = λ row.
         values row ∙ ap (value_at (values_for a.kind dict.id s.dictionaries)) (cells row)
         ∙ (λ i. replaced s.dictionaries a.kind (sym has i) (cell_of s.arrays batch place row)) ∙ (λ i. field_value s batch row place (sym at i));
-    indexes = indexes;
+    resolved = resolved;
   }
 
 -- ---- the column of a table
 
 module _ (kind : Kind) (s : SubstreamIn) (batch : BatchIn) (types : columns_fit kind s.arrays ≡ true) (all : All FitsIn s.dictionaries) (fine : IsOk (arrays_check batch s.arrays)) where
-  pub column_missing : (column : ℕ) (c : ResolvedColumn) → place_at kind s.arrays column ≡ None → ((row : ℕ) → resolved_value c row ≡ None) → HasIndexes c
+  pub column_missing : (column : ℕ) (c : ResolvedColumn) → place_at kind s.arrays column ≡ None → ((row : ℕ) → resolved_value c row ≡ None) → IsResolved c
       → c.base ≡ base_at kind column → IsColumn kind s batch column c
-  column_missing column c at values indexes base = record {
+  column_missing column c at values resolved base = record {
     values = λ row. values row ∙ column_value_is kind s batch column row None at;
-    indexes = indexes;
+    resolved = resolved;
     base = base;
     fits = λ row. column_value_fits kind s batch types all fine column row;
   }
@@ -90,7 +90,7 @@ module _ (kind : Kind) (s : SubstreamIn) (batch : BatchIn) (types : columns_fit 
       → c.base ≡ base_at kind column → IsColumn kind s batch column c
   column_there column place c at field base = record {
     values = λ row. field.values row ∙ column_value_is kind s batch column row (Some place) at;
-    indexes = field.indexes;
+    resolved = field.resolved;
     base = base;
     fits = λ row. column_value_fits kind s batch types all fine column row;
   }
@@ -119,5 +119,5 @@ shows_column kind s batch t is sound column c here in_width = record {
   fits = λ row.
       subst (λ (b : Base). ForSome (resolved_value c row) (FitsBase b)) (sym here.base)
       (subst (λ (o : Option (List ℕ)). ForSome o (FitsBase (base_at kind column))) (sym (here.values row)) (here.fits row));
-  indexes = here.indexes;
+  resolved = here.resolved;
 }

@@ -1,9 +1,9 @@
 -- Columns that are found once, in the words of private contracts.
-use Rattle.std.specs.Prelude.{◌≡◌, ℕ, ◌<◌, ⊤, List, Option, None, Some, length, slice_get}
+use Rattle.std.specs.Prelude.{◌≡◌, ℕ, ◌<◌, ⊤, true, List, Option, None, Some, length, slice_get}
 use Rattle.std.specs.Option.{ForSome, option_copied}
 use Rattle.arrow_ipc.specs.Batches.{BatchIn}
 use Rattle.arrow_arrays.specs.declared.column.ColumnView.{ColumnView}
-use Rattle.arrow_arrays.specs.Views.{cell_seen}
+use Rattle.arrow_arrays.specs.Views.{is_whole, cell_seen}
 use Rattle.otap_cells.specs.declared.payload.Kind.{Kind}
 use Rattle.otap_cells.specs.Cells.{IsCellOf}
 use Rattle.otap_columns.specs.declared.resolved.ResolvedColumn.{ResolvedColumn}
@@ -31,18 +31,21 @@ abbrev pub LeadsBy : Option DictionaryIn → ColumnView → Type 0
 LeadsBy None v = ⊤
 LeadsBy (Some d) v = HasIndexSizes v
 
-abbrev pub HasIndexes : ResolvedColumn → Type 0
-HasIndexes c = LeadsBy (option_copied c.dictionary) c.stored
+-- what a column tells of itself is so: each cell holds an index where there is a dictionary, and no bitmap has bytes where it is
+-- whole
+pub record IsResolved (c : ResolvedColumn) : Type 0 where
+  pub indexes : LeadsBy (option_copied c.dictionary) c.stored
+  pub whole : c.whole ≡ true → is_whole c.stored ≡ true
 
 -- the column of the field at a place is this one
 pub record IsField (s : SubstreamIn) (batch : BatchIn) (place : ℕ) (c : ResolvedColumn) : Type 0 where
   pub values : (row : ℕ) → resolved_value c row ≡ field_value s batch row place (slice_get s.arrays place)
-  pub indexes : HasIndexes c
+  pub resolved : IsResolved c
 
 -- the column of a table is this one, and its cells hold the column's base
 pub record IsColumn (kind : Kind) (s : SubstreamIn) (batch : BatchIn) (column : ℕ) (c : ResolvedColumn) : Type 0 where
   pub values : (row : ℕ) → resolved_value c row ≡ column_value kind s batch column row
-  pub indexes : HasIndexes c
+  pub resolved : IsResolved c
   pub base : c.base ≡ base_at kind column
   pub fits : (row : ℕ) → ForSome (column_value kind s batch column row) (FitsBase (base_at kind column))
 
@@ -52,4 +55,4 @@ pub record ShowsColumn (t : Table) (column : ℕ) (c : ResolvedColumn) : Type 0 
   pub cells : (row : ℕ) → row < length t.rows → stored_cell c.base (resolved_value c row) ≡ cell_in t.rows column row
   pub holds : (row : ℕ) → IsCellOf (base_at t.kind column) (cell_in t.rows column row)
   pub fits : (row : ℕ) → ForSome (resolved_value c row) (FitsBase c.base)
-  pub indexes : HasIndexes c
+  pub resolved : IsResolved c

@@ -5,7 +5,7 @@ ghost use Rattle.std.specs.List.{list_any};
 ghost use Rattle.std.specs.Option.{option_copied};
 ghost use Rattle.arrow_arrays.specs.Views.{cell_seen};
 ghost use Rattle.otap_columns.specs.Dictionaries.{has_id, is_for, with_dictionary, empty_dictionaries, all_grown, held_weight, values_for};
-ghost use Rattle.otap_columns.specs.Resolved.{HasIndexSizes, HasIndexes, resolved_value};
+ghost use Rattle.otap_columns.specs.Resolved.{HasIndexSizes, IsResolved, resolved_value};
 ghost use Rattle.otap_columns.specs.Substreams.{value_at};
 ghost use Rattle.otap_columns.specs.Records.{IsFineBatch};
 ghost use Rattle.otap_columns.specs.Steps.{FitsIn, RefusesBatch};
@@ -117,7 +117,7 @@ pub(crate) fn lead<'v>(
 ) -> ResolvedColumn<'v>
     requires { HasIndexSizes stored }
     ensures values { (row : ℕ) → resolved_value result row ≡ value_at (values_for kind id dictionaries.now) (cell_seen stored.entry row) }
-    ensures indexes { HasIndexes result }
+    ensures resolved { IsResolved result }
     ensures base { result.base ≡ base }
 {
     match find(dictionaries, kind, id) {

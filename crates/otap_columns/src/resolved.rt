@@ -4,7 +4,7 @@ ghost use Rattle.arrow_arrays.specs.Views.{cell_seen};
 ghost use Rattle.otap_cells.specs.Cells.{seen};
 ghost use Rattle.otap_columns.specs.Known.{FitsBase, stored_cell};
 ghost use Rattle.otap_columns.specs.Parts.{part_of};
-ghost use Rattle.otap_columns.specs.Resolved.{resolved_value, HasIndexSizes, HasIndexes};
+ghost use Rattle.otap_columns.specs.Resolved.{resolved_value, HasIndexSizes, IsResolved};
 ghost use Rattle.otap_columns.specs.Substreams.{value_at};
 
 use crate::cells::{self, index};
@@ -18,6 +18,8 @@ use otap_cells::{Base, CellView};
 pub(crate) struct ResolvedColumn<'v> {
     base: Base,
     stored: ColumnView<'v>,
+    // No bitmap has bytes.
+    whole: bool,
     // The dictionary that the stored indexes lead into.
     dictionary: Option<&'v Dictionary>,
 }
@@ -26,12 +28,13 @@ impl<'v> ResolvedColumn<'v> {
     /// A column that is missing: null in each row.
     pub(crate) fn missing(base: Base) -> ResolvedColumn<'v>
         ensures values { (row : ℕ) → resolved_value result row ≡ None }
-        ensures indexes { HasIndexes result }
+        ensures resolved { IsResolved result }
         ensures base { result.base ≡ base }
     {
         ResolvedColumn {
             base,
             stored: ColumnView::none(),
+            whole: false,
             dictionary: None,
         }
     }
@@ -39,12 +42,13 @@ impl<'v> ResolvedColumn<'v> {
     /// A column whose values stand in the array itself.
     pub(crate) fn plain(base: Base, stored: ColumnView<'v>) -> ResolvedColumn<'v>
         ensures values { (row : ℕ) → resolved_value result row ≡ cell_seen stored.entry row }
-        ensures indexes { HasIndexes result }
+        ensures resolved { IsResolved result }
         ensures base { result.base ≡ base }
     {
         ResolvedColumn {
             base,
             stored,
+            whole: stored.is_whole(),
             dictionary: None,
         }
     }
@@ -57,12 +61,13 @@ impl<'v> ResolvedColumn<'v> {
     ) -> ResolvedColumn<'v>
         requires { HasIndexSizes stored }
         ensures values { (row : ℕ) → resolved_value result row ≡ value_at dictionary.now.values (cell_seen stored.entry row) }
-        ensures indexes { HasIndexes result }
+        ensures resolved { IsResolved result }
         ensures base { result.base ≡ base }
     {
         ResolvedColumn {
             base,
             stored,
+            whole: stored.is_whole(),
             dictionary: Some(dictionary),
         }
     }
@@ -70,10 +75,10 @@ impl<'v> ResolvedColumn<'v> {
     /// What stands in a row; `None` where it is null, or there is no such row.
     #[inline(always)]
     pub(crate) fn value(&self, row: u64) -> Option<&'v [u8]>
-        requires { HasIndexes self.now }
+        requires { IsResolved self.now }
         ensures { option_copied result ≡ resolved_value self.now row }
     {
-        let stored = self.stored.cell(row)?;
+        let stored = self.stored.cell_if(row, self.whole)?;
         match self.dictionary {
             None => Some(stored),
             Some(dictionary) => dictionary.value(index(stored)),
@@ -83,7 +88,7 @@ impl<'v> ResolvedColumn<'v> {
     /// The cell of a row; null where there is no such row.
     #[inline(always)]
     pub(crate) fn cell(&self, row: u64) -> CellView<'v>
-        requires indexes { HasIndexes self.now }
+        requires resolved { IsResolved self.now }
         requires fits { ForSome (resolved_value self.now row) (FitsBase self.now.base) }
         ensures { seen result ≡ stored_cell self.now.base (resolved_value self.now row) }
     {
@@ -93,7 +98,7 @@ impl<'v> ResolvedColumn<'v> {
     /// The bytes of a row's cell; `None` where it has none, or there is no such row.
     #[inline(always)]
     pub(crate) fn part(&self, row: u64) -> Option<&'v [u8]>
-        requires { HasIndexes self.now }
+        requires { IsResolved self.now }
         ensures { option_copied result ≡ part_of (stored_cell self.now.base (resolved_value self.now row)) }
     {
         if self.base.has_bytes() {

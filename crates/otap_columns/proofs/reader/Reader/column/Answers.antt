@@ -13,7 +13,7 @@ returns-in-None c =
     let values : All FitsIn c.args.self.now.substream.dictionaries = subst (λ (r : ReaderIn). All FitsIn r.substream.dictionaries) c.self.view_is c.self.invariant.values in
     let kind : base_at c.self.inside.kind c.args.column ≡ base_at c.args.self.now.kind c.args.column = ap (λ (r : ReaderIn). base_at r.kind c.args.column) c.self.view_is in
     column_missing c.args.self.now.kind c.args.self.now.substream c.args.batch.now types values c.requires.fine c.args.column c.missing.result
-    (sym c.place_of.ensures ∙ c.in-None.is) c.missing.ensures.values c.missing.ensures.indexes
+    (sym c.place_of.ensures ∙ c.in-None.is) c.missing.ensures.values c.missing.ensures.resolved
     (c.missing.ensures.base ∙ c.base_of-base.ensures ∙ kind)
 
 pub returns-in-Some : goal.returns-in-Some
