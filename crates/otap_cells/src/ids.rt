@@ -94,7 +94,7 @@ pub fn has_twice(alloc: Global, ids: &[Option<u32>]) -> Result<bool, AllocError>
 fn numbers(alloc: Global, ids: &[Option<u32>]) -> Result<Vec<u32>, AllocError>
     ensures { IfOk result (λ found. found.items ≡ numbers ids.now) }
 {
-    let mut found = Vec::new(alloc);
+    let mut found = Vec::with_capacity(alloc, ids.len())?;
     'ids: for id in ids {
         if let Some(number) = id {
             found.push(*number)?;
