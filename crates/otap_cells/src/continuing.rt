@@ -52,6 +52,7 @@ pub fn has_attributes(kind: Kind) -> bool
 }
 
 /// What a row of attributes says, where its cells are kept.
+#[inline(always)]
 #[tactic(auto, using(crate::proofs::AttributeColumns::attribute_width, crate::proofs::AttributeColumns::attribute_type, crate::proofs::Flags::after_one), unfolding(crate::specs::Continuing::attribute_in))]
 pub fn attribute_at<R: Rows>(rows: &R, row: u64) -> Attribute<'_>
     requires kind { has_attributes (R.table rows.now).kind ≡ true }
@@ -133,6 +134,7 @@ fn again<R: Rows>(rows: &R, before: u64, row: u64) -> bool
 }
 
 /// Whether an attribute continues the run of the one before it: it says the same, and is neither empty nor nested.
+#[inline(always)]
 pub fn says_again(before: &Attribute<'_>, row: &Attribute<'_>) -> bool
     ensures { result ≡ (is_run_kind row.now.kind && attribute_is (seen_attribute before.now) (seen_attribute row.now)) }
 {
