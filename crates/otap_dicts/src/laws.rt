@@ -1,8 +1,8 @@
 //! Laws of the definitions, each a function without a body whose clauses are the law.
-ghost use Rattle.std.specs.Prelude.{◌≡◌, ℕ, Bool, List, ◌∷◌, ◌++◌, [], length, drop, bytes_eq};
+ghost use Rattle.std.specs.Prelude.{◌≡◌, ℕ, Bool, List, ◌∷◌, ◌++◌, [], length, drop, bytes_eq, false, position, Some};
 ghost use Rattle.std.specs.List.{list_any, IsDistinct};
 ghost use Rattle.otap_dicts.specs.Forms.{distinct};
-ghost use Rattle.otap_dicts.specs.Ladders.{LadderIn, ladder_of, observed};
+ghost use Rattle.otap_dicts.specs.Ladders.{LadderIn, is_plain, ladder_of, observed};
 ghost use Rattle.otap_dicts.specs.declared.form.Form.TheVariants.{Plain};
 
 /// The distinct values of a list are its values, each once; more values only add to them, at their end.
@@ -21,4 +21,11 @@ pub fn ladders_follow_values()
 pub fn a_value_again_changes_nothing()
     ensures twice { (ladder : LadderIn) (value : List ℕ) → observed (observed ladder value) value ≡ observed ladder value }
     ensures plain { (ladder : LadderIn) (value : List ℕ) → ladder.form ≡ Plain → observed ladder value ≡ ladder }
+{}
+
+/// A value keeps its place in a dictionary as others are observed, and one that was observed has a place, until the dictionary is
+/// given up.
+pub fn places_stay()
+    ensures stay { (ladder : LadderIn) (value other : List ℕ) (place : ℕ) → is_plain (observed ladder value).form ≡ false → position (bytes_eq other) ladder.values ≡ Some place → position (bytes_eq other) (observed ladder value).values ≡ Some place }
+    ensures found { (ladder : LadderIn) (value : List ℕ) → is_plain (observed ladder value).form ≡ false → (place : ℕ) × (position (bytes_eq value) (observed ladder value).values ≡ Some place) }
 {}
