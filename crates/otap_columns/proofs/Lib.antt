@@ -33,6 +33,8 @@ pub mod ColumnsBuilt
 pub mod DictionariesAdded
 pub mod SeenOn
 pub mod NarrowSums
+pub mod Placing
+pub mod Indexed
 pub mod HeldLess
 pub mod SchemaBuilt
 pub mod RowsBuilt

@@ -14,12 +14,12 @@ use Rattle.otap_cells.specs.Columns.{column_at, base_at, is_id_at}
 use Rattle.otap_cells.specs.Tables.{Table, cell_in, column_in}
 use Rattle.otap_dicts.specs.declared.form.Form.TheVariants as ladder
 use Rattle.otap_dicts.specs.Forms.{distinct, bytes_of, is_too_large, form_of}
-use Rattle.otap_dicts.specs.Ladders.{LadderIn, ladder_of, observed}
+use Rattle.otap_dicts.specs.Ladders.{LadderIn, is_plain, ladder_of, observed}
 use Rattle.otap_dicts.proofs.Observing.{observed-push}
 use Rattle.otap_columns.specs.declared.forms.ColumnForm.{ColumnForm}
 use Rattle.otap_columns.specs.declared.forms.ColumnForm.TheVariants as form
 use Rattle.otap_columns.specs.Observed.{bytes_for, given, seen, has_wide_id, is_own_id, if_seen, id_form, form_at}
-use Rattle.otap_columns.specs.Seen.{SeenIn, seen_after, observed_if, SeesTable, is_absent, form_told}
+use Rattle.otap_columns.specs.Seen.{SeenIn, IsSeenAfter, observed_if, places_of, SeesTable, is_absent, form_told}
 use Rattle.otap_columns.proofs.ColumnsBuilt.{cell_at-map}
 use Rattle.otap_columns.proofs.ValuesSeen.{seen-push}
 
@@ -57,7 +57,7 @@ nulls_at_end l zero cells none = nulls_change_nothing l cells (λ k. none k (ome
 nulls_at_end l (suc k) [] none = refl
 nulls_at_end l (suc k) (x ∷ cells) none = nulls_at_end (observed_if l x) k cells (λ row le. none (suc row) (omega (arith, le)))
 
-null_cell : (holds : Base) (rows : List (List Cell)) (column row : ℕ) → cell_in rows column row ≡ null → get_or (map (bytes_for holds form.Wide) (column_in rows column)) row None ≡ None
+pub null_cell : (holds : Base) (rows : List (List Cell)) (column row : ℕ) → cell_in rows column row ≡ null → get_or (map (bytes_for holds form.Wide) (column_in rows column)) row None ≡ None
 null_cell holds rows column row is =
     get_or-map (bytes_for holds form.Wide) (column_in rows column) row null ∙ ap (bytes_for holds form.Wide) (get_or-map (λ cells. get_or cells column null) rows row [] ∙ is)
 
@@ -83,19 +83,20 @@ more_wide true a b = ap (λ c. a || c) (sym (or-false b))
 more_wide false a b = refl
 
 pub sees : (kind : Kind) (column : ℕ) (t : Table) (old new : SeenIn) → new.ladder ≡ fold observed_if old.ladder (map (bytes_for (base_at kind column) form.Wide) (column_in t.rows column))
-    → new.wide ≡ (old.wide || (is_id_at kind column && has_wide_id kind column t)) → SeesTable kind column t old new
-unfolding seen_after
-sees kind column t old new ladder_is wide_is = record {
+    → new.wide ≡ (old.wide || (is_id_at kind column && has_wide_id kind column t))
+    → (is_plain new.ladder.form ≡ false → new.places ≡ places_of (base_at kind column) form.Wide new.ladder.values (column_in t.rows column)) → SeesTable kind column t old new
+sees kind column t old new ladder_is wide_is placed = record {
+  placed = placed;
   at = λ tables is.
       let ladders : new.ladder ≡ ladder_of (column_at kind column).dictionary (seen kind (tables ++ t ∷ []) column) =
-      ladder_is ∙ ap (λ (s : SeenIn). fold observed_if s.ladder (map (bytes_for (base_at kind column) form.Wide) (column_in t.rows column))) is
+      ladder_is ∙ ap (λ (l : LadderIn). fold observed_if l (map (bytes_for (base_at kind column) form.Wide) (column_in t.rows column))) is.ladder_is
       ∙ observes (column_at kind column).dictionary (seen kind tables column) (map (bytes_for (base_at kind column) form.Wide) (column_in t.rows column))
       ∙ ap (ladder_of (column_at kind column).dictionary) (sym (seen-push kind tables t column)) in
       let wides : new.wide ≡ (is_id_at kind column && list_any (has_wide_id kind column) (tables ++ t ∷ [])) =
-      wide_is ∙ ap (λ (s : SeenIn). s.wide || (is_id_at kind column && has_wide_id kind column t)) is
+      wide_is ∙ ap (λ (b : Bool). b || (is_id_at kind column && has_wide_id kind column t)) is.wide_is
       ∙ more_wide (is_id_at kind column) (list_any (has_wide_id kind column) tables) (has_wide_id kind column t)
       ∙ ap (λ b. is_id_at kind column && b) (sym (list_any-append (has_wide_id kind column) tables (t ∷ []))) in
-      λ i. record { ladder = ladders i; wide = wides i };
+      record { ladder_is = ladders; wide_is = wides };
 }
 
 -- ---- the form
@@ -121,19 +122,30 @@ told_id own true (v ∷ vs) f =
     by true = refl
     by false = refl
 
-pub told_is : (kind : Kind) (tables : List Table) (column : ℕ) → form_told kind column (seen_after kind tables column) ≡ form_at kind tables column
+-- what a column that saw tables tells
+seen_after : Kind → List Table → ℕ → SeenIn
+seen_after kind tables column =
+    record { ladder = ladder_of (column_at kind column).dictionary (seen kind tables column); wide = is_id_at kind column && list_any (has_wide_id kind column) tables; places = [] }
+
+told_after : (kind : Kind) (tables : List Table) (column : ℕ) → form_told kind column (seen_after kind tables column) ≡ form_at kind tables column
 unfolding seen_after ladder_of form_at
-told_is kind tables column = by (is_id_at kind column) refl
+told_after kind tables column = by (is_id_at kind column) refl
   where
     by : (id : Bool) → is_id_at kind column ≡ id → form_told kind column (seen_after kind tables column) ≡ form_at kind tables column
     by true is = rw is (told_id (is_own_id kind column) (column_at kind column).dictionary (seen kind tables column) (id_form kind tables column))
     by false is = rw is refl
 
-pub stands : (kind : Kind) (column : ℕ) (s : SeenIn) (f : ColumnForm) → f ≡ form_told kind column s → (tables : List Table) → s ≡ seen_after kind tables column → f ≡ form_at kind tables column
-stands kind column s f told tables is = told ∙ ap (form_told kind column) is ∙ told_is kind tables column
+pub told_is : (kind : Kind) (tables : List Table) (column : ℕ) (s : SeenIn) → IsSeenAfter kind tables column s → form_told kind column s ≡ form_at kind tables column
+unfolding seen_after
+told_is kind tables column s is = (λ i. form_told kind column (record { ladder = is.ladder_is i; wide = is.wide_is i; places = [] })) ∙ told_after kind tables column
+
+pub stands : (kind : Kind) (column : ℕ) (s : SeenIn) (f : ColumnForm) → f ≡ form_told kind column s → (tables : List Table) → IsSeenAfter kind tables column s → f ≡ form_at kind tables column
+stands kind column s f told tables is = told ∙ told_is kind tables column s is
 
 pub sees_step : {E : Type 0} (kind : Kind) (column : ℕ) (t : Table) (old new : SeenIn) (r : Result (Unit {0}) E)
-    → OnOk r (new ≡ record { ladder = fold observed_if old.ladder (map (bytes_for (base_at kind column) form.Wide) (column_in t.rows column)); wide = old.wide || (is_id_at kind column && has_wide_id kind column t) })
+    → OnOk r (new.ladder ≡ fold observed_if old.ladder (map (bytes_for (base_at kind column) form.Wide) (column_in t.rows column)))
+    → OnOk r (new.wide ≡ (old.wide || (is_id_at kind column && has_wide_id kind column t)))
+    → OnOk r (is_plain new.ladder.form ≡ false → new.places ≡ places_of (base_at kind column) form.Wide new.ladder.values (column_in t.rows column))
     → OnOk r (SeesTable kind column t old new)
-sees_step kind column t old new (Ok x) is = sees kind column t old new (ap (λ (s : SeenIn). s.ladder) is) (ap (λ (s : SeenIn). s.wide) is)
-sees_step kind column t old new (Err e) is = tt
+sees_step kind column t old new (Ok x) ladder_is wide_is placed = sees kind column t old new ladder_is wide_is placed
+sees_step kind column t old new (Err e) ladder_is wide_is placed = tt

@@ -1,27 +1,32 @@
--- What the columns of a writer tell before and after one more table: its record is one by the policy.
-use Rattle.std.proofs.Common.{◌≡◌, ℕ, ◌<◌, ◌≤◌, true, List, [], ◌∷◌, ◌++◌, length, None, refl, sym, ap, ◌∙◌, arith, inl, inr, subst}
+-- What the columns of a writer tell before and after one table more: its record is one by the policy.
+use Rattle.std.proofs.Common.{◌≡◌, ℕ, ◌<◌, ◌≤◌, Bool, true, false, ◌||◌, List, [], ◌∷◌, ◌++◌, length, get_or, None, refl, sym, ap, ◌∙◌, arith, inl, inr, subst}
 use Rattle.std.proofs.lemmas.Bool.{cases_lt, false≢true}
 use Rattle.std.proofs.lemmas.List.{get_or_past}
 use Rattle.otap_cells.specs.declared.payload.Kind.{Kind}
-use Rattle.otap_cells.specs.Cells.{IsCellOf}
-use Rattle.otap_cells.specs.Columns.{base_at, column_at, width_of}
-use Rattle.otap_cells.specs.Tables.{Table, cell_in}
+use Rattle.otap_cells.specs.Cells.{Cell, IsCellOf}
+use Rattle.otap_cells.specs.Columns.{base_at, column_at, is_id_at, width_of}
+use Rattle.otap_cells.specs.Tables.{Table, cell_in, column_in}
 use Rattle.otap_cells.specs.Weights.{row_weight_limit, weight_of_table}
+use Rattle.otap_dicts.specs.Ladders.{LadderIn, is_plain}
+use Rattle.otap_dicts.specs.declared.form.Form.{Form}
+use Rattle.otap_dicts.specs.declared.form.Form.TheVariants as ladder
+use Rattle.otap_cells.specs.declared.profile.Base.{Base}
+use Rattle.otap_cells.specs.Bases.{is_id}
 use Rattle.otap_columns.specs.declared.forms.ColumnForm.{ColumnForm}
 use Rattle.otap_columns.specs.declared.forms.ColumnForm.TheVariants as form
 use Rattle.otap_columns.specs.Policy.{IsWritable}
 use Rattle.otap_columns.specs.Schemas.{FormsFit, fits_form, is_dictionary, is_there, item_in}
-use Rattle.otap_columns.specs.Observed.{FitsForm, bytes_for, form_at, values_at}
-use Rattle.otap_columns.specs.Seen.{SeenIn, form_told}
-use Rattle.otap_columns.specs.WrittenCells.{FitsIndexes}
+use Rattle.otap_columns.specs.Observed.{FitsForm, bytes_for, form_at, is_own_id, is_wide, of_ladder, values_at}
+use Rattle.otap_columns.specs.Seen.{SeenIn, form_told, id_form_told, is_absent, places_of}
+use Rattle.otap_columns.specs.WrittenCells.{FitsIndexes, place_in}
 use Rattle.otap_columns.specs.WrittenGroups.{forms_in}
 use Rattle.otap_columns.specs.WrittenRecords.{CanSend}
-use Rattle.otap_columns.specs.WrittenRows.{CanWrite, HasValues, IsKnownIn, columns_in}
+use Rattle.otap_columns.specs.WrittenRows.{CanWrite, HasValues, IsKnownIn, columns_in, unseen as unseen_column}
 use Rattle.otap_columns.specs.Writers.{AreForms, AreSeen, AreWritable, SeesAll, is_started}
 use Rattle.otap_columns.proofs.LookedUp.{Each}
 use Rattle.otap_columns.proofs.SeenOn.{told_is}
 use Rattle.otap_columns.proofs.ValuesSeen.{forms_fit, few_values, small_values, ids_fit}
-use Rattle.otap_columns.proofs.ValuesKept.{base_holds, kept_values, known_value, narrow_values, no_id, no_list, takes_one, values_are}
+use Rattle.otap_columns.proofs.ValuesKept.{base_holds, bytes_alike, kept_values, known_value, narrow_values, no_id, no_list, takes_one, values_are}
 
 -- each of them can be written
 pub writable_each : (kind : Kind) (tables : List Table) → AreWritable kind tables → Each (IsWritable kind) tables
@@ -48,10 +53,10 @@ past_forms forms column past = get_or_past forms column form.Absent past
 
 module _ (kind : Kind) (tables : List Table) (columns : List SeenIn) (forms : List ColumnForm) (seen : AreSeen kind tables columns) (told : AreForms kind columns forms) where
   pub form_is : (column : ℕ) → column < width_of kind → forms_in forms column ≡ form_at kind tables column
-  form_is column low = told.each column low ∙ ap (form_told kind column) (seen.each column low) ∙ told_is kind tables column
+  form_is column low = told.each column low ∙ told_is kind tables column _ (seen.each column low)
 
   pub values_is : (column : ℕ) → column < width_of kind → is_dictionary (forms_in forms column) ≡ true → columns_in columns column ≡ values_at kind tables column
-  values_is column low is = ap (λ (s : SeenIn). s.ladder.values) (seen.each column low) ∙ kept_values kind tables column (ap is_dictionary (sym (form_is column low)) ∙ is)
+  values_is column low is = ap (λ (l : LadderIn). l.values) (seen.each column low).ladder_is ∙ kept_values kind tables column (ap is_dictionary (sym (form_is column low)) ∙ is)
 
   pub forms_are_fit : FormsFit kind (forms_in forms)
   forms_are_fit column low = ap (λ (f : ColumnForm). fits_form (column_at kind column) f) (form_is column low) ∙ forms_fit kind tables column low
@@ -98,12 +103,58 @@ module _ (kind : Kind) (tables : List Table) (columns : List SeenIn) (forms : Li
         holds_type = base_holds (base_at kind column) (forms_in forms column) (values_at kind tables column) (no_id kind tables column one) (takes_one kind tables column low one) (values_are kind column tables writable);
       })
 
+-- ---- the places of values
+
+-- each column that isn't plain has the places of its cells
+abbrev pub ArePlaced : Kind → Table → List SeenIn → Type 0
+ArePlaced kind t columns = (column : ℕ) → column < width_of kind → is_plain (get_or columns column unseen_column).ladder.form ≡ false
+    → (get_or columns column unseen_column).places ≡ places_of (base_at kind column) form.Wide (get_or columns column unseen_column).ladder.values (column_in t.rows column)
+
+pub are_placed : (kind : Kind) (t : Table) (old new : List SeenIn) → SeesAll kind t old new → ArePlaced kind t new
+are_placed kind t old new sees = λ column low. (sees.each column low).placed
+
+-- a column that is written as a dictionary isn't plain
+dictionary_climbs : (kind : Kind) (column : ℕ) (s : SeenIn) → is_dictionary (form_told kind column s) ≡ true → is_plain s.ladder.form ≡ false
+dictionary_climbs kind column s is = by (is_id_at kind column) refl
+  where
+    of_id : (own absent wide : Bool) → is_dictionary (id_form_told own absent wide) ≡ true → is_plain s.ladder.form ≡ false
+    of_id true true true one = absurd (false≢true one)
+    of_id true true false one = absurd (false≢true one)
+    of_id true false true one = absurd (false≢true one)
+    of_id true false false one = absurd (false≢true one)
+    of_id false true true one = absurd (false≢true one)
+    of_id false true false one = absurd (false≢true one)
+    of_id false false true one = absurd (false≢true one)
+    of_id false false false one = absurd (false≢true one)
+
+    of_form : (f : Form) → is_dictionary (of_ladder f) ≡ true → is_plain f ≡ false
+    of_form ladder.Absent one = refl
+    of_form ladder.Dict8 one = refl
+    of_form ladder.Dict16 one = refl
+    of_form ladder.Plain one = absurd (false≢true one)
+
+    by : (id : Bool) → is_id_at kind column ≡ id → is_plain s.ladder.form ≡ false
+    by true here = of_id (is_own_id kind column) (is_absent s.ladder.form) (is_wide (base_at kind column) || s.wide) (rw here at is)
+    by false here = of_form s.ladder.form (rw here at is)
+
+places_alike : (holds : Base) (f g : ColumnForm) (values : List (List ℕ)) (cells : List Cell) → is_id holds ≡ false → places_of holds f values cells ≡ places_of holds g values cells
+places_alike holds f g values [] none = refl
+places_alike holds f g values (cell ∷ cells) none = λ i. place_in values (bytes_alike holds f g cell none i) ∷ places_alike holds f g values cells none i
+
 -- ---- the last of the tables
 
 module _ (kind : Kind) (before : List Table) (t : Table) (columns : List SeenIn) (forms : List ColumnForm) (seen : AreSeen kind (before ++ t ∷ []) columns) (told : AreForms kind columns forms)
     (writable : IsWritable kind t) where
-  pub can_write : weight_of_table t ≤ row_weight_limit → CanWrite (forms_in forms) columns t
-  can_write light = record {
+  pub can_write : weight_of_table t ≤ row_weight_limit → ArePlaced kind t columns → CanWrite (forms_in forms) columns t
+  can_write light placed = record {
+    placed = λ column low is.
+        let below : column < width_of kind = subst (λ (k : Kind). column < width_of k) writable.kind_is low in
+        let s = get_or columns column unseen_column in
+        let climbs : is_plain s.ladder.form ≡ false = dictionary_climbs kind column s (ap is_dictionary (sym (told.each column below)) ∙ is) in
+        let none : is_id (base_at kind column) ≡ false = no_id kind (before ++ t ∷ []) column (is_one kind (before ++ t ∷ []) columns forms seen told column is) in
+        placed column below climbs
+        ∙ places_alike (base_at kind column) form.Wide (forms_in forms column) s.ladder.values (column_in t.rows column) none
+        ∙ ap (λ k. places_of (base_at k column) (forms_in forms column) s.ladder.values (column_in t.rows column)) (sym writable.kind_is);
     table = writable.table;
     count = seen.count ∙ ap width_of (sym writable.kind_is);
     fits = λ column low there row in_rows.

@@ -32,7 +32,6 @@ use Rattle.otap_columns.specs.declared.forms.ColumnForm.TheVariants as form
 use Rattle.otap_columns.specs.Policy.{IsWritable}
 use Rattle.otap_columns.specs.Schemas.{fits_form, is_dictionary, item_in, type_in}
 use Rattle.otap_columns.specs.Observed.{bytes_for, given, values_in, seen, form_at, values_at, is_own_id, id_form_if, of_ladder}
-use Rattle.otap_columns.specs.Seen.{seen_after}
 use Rattle.otap_columns.specs.WrittenBatches.{IsSingle, HoldsType}
 use Rattle.otap_columns.specs.WrittenCells.{plain_width}
 use Rattle.otap_columns.specs.WrittenRows.{IsKnownIn}
@@ -218,8 +217,8 @@ kept_form ladder.Dict8 values is = refl
 kept_form ladder.Dict16 values is = refl
 kept_form ladder.Plain values is = absurd (false≢true is)
 
-pub kept_values : (kind : Kind) (tables : List Table) (column : ℕ) → is_dictionary (form_at kind tables column) ≡ true → (seen_after kind tables column).ladder.values ≡ values_at kind tables column
-unfolding seen_after ladder_of form_at values_at
+pub kept_values : (kind : Kind) (tables : List Table) (column : ℕ) → is_dictionary (form_at kind tables column) ≡ true → (ladder_of (columns.column_at kind column).dictionary (seen kind tables column)).values ≡ values_at kind tables column
+unfolding ladder_of form_at values_at
 kept_values kind tables column is =
     let none : columns.is_id_at kind column ≡ false = no_id kind tables column is in
     kept_form (form_of (columns.column_at kind column).dictionary (seen kind tables column)) (distinct (seen kind tables column)) (rw none at is)
@@ -246,7 +245,7 @@ narrow_values kind tables column is =
 -- ---- each value of the last table is in its dictionary
 
 -- but for ids the form doesn't matter
-bytes_alike : (holds : Base) (f g : ColumnForm) (cell : Cell) → is_id holds ≡ false → bytes_for holds f cell ≡ bytes_for holds g cell
+pub bytes_alike : (holds : Base) (f g : ColumnForm) (cell : Cell) → is_id holds ≡ false → bytes_for holds f cell ≡ bytes_for holds g cell
 bytes_alike holds f g null id = refl
 bytes_alike holds f g (bits n) id = refl
 bytes_alike holds f g (flag b) id = refl

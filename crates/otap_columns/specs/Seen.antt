@@ -1,34 +1,45 @@
 -- What the writer keeps of the columns of the tables that it wrote.
-use Rattle.std.specs.Prelude.{◌≡◌, ℕ, ◌&&◌, ◌||◌, not, Bool, true, false, if◌then◌else◌, List, ◌∷◌, ◌++◌, [], Option, None, Some}
+use Rattle.std.specs.Prelude.{◌≡◌, ℕ, map, ◌&&◌, ◌||◌, not, Bool, true, false, if◌then◌else◌, List, ◌∷◌, ◌++◌, [], Option, None, Some}
 use Rattle.std.specs.List.{list_any}
 use Rattle.otap_cells.specs.declared.payload.Kind.{Kind}
 use Rattle.otap_cells.specs.Columns.{column_at, base_at, is_id_at}
-use Rattle.otap_cells.specs.Tables.{Table}
-use Rattle.otap_dicts.specs.Ladders.{LadderIn, ladder_of, observed}
+use Rattle.otap_cells.specs.declared.profile.Base.{Base}
+use Rattle.otap_cells.specs.Cells.{Cell}
+use Rattle.otap_cells.specs.Tables.{Table, column_in}
+use Rattle.otap_dicts.specs.Ladders.{LadderIn, is_plain, ladder_of, observed}
 use Rattle.otap_dicts.specs.declared.form.Form.{Form}
 use Rattle.otap_dicts.specs.declared.form.Form.TheVariants as ladder
 use Rattle.otap_columns.specs.declared.forms.ColumnForm.{ColumnForm}
 use Rattle.otap_columns.specs.declared.forms.ColumnForm.TheVariants as form
-use Rattle.otap_columns.specs.Observed.{seen, has_wide_id, is_wide, is_own_id, of_ladder}
+use Rattle.otap_columns.specs.Observed.{bytes_for, seen, has_wide_id, is_wide, is_own_id, of_ladder}
+use Rattle.otap_columns.specs.WrittenCells.{place_in}
 
--- of a column: its ladder, and whether one of its ids needs more than 16 bits
+-- of a column: its ladder, whether one of its ids needs more than 16 bits, and of each cell of the last table the place of its
+-- value in the ladder's dictionary
 pub record SeenIn : Type 0 where
   pub ladder : LadderIn
   pub wide : Bool
+  pub places : List (Option ℕ)
 
 -- THE STATE of a column after tables
-unfoldable pub seen_after : Kind → List Table → ℕ → SeenIn
-seen_after kind tables column =
-    record { ladder = ladder_of (column_at kind column).dictionary (seen kind tables column); wide = is_id_at kind column && list_any (has_wide_id kind column) tables }
+pub record IsSeenAfter (kind : Kind) (tables : List Table) (column : ℕ) (s : SeenIn) : Type 0 where
+  pub ladder_is : s.ladder ≡ ladder_of (column_at kind column).dictionary (seen kind tables column)
+  pub wide_is : s.wide ≡ (is_id_at kind column && list_any (has_wide_id kind column) tables)
+
+-- the places of cells among values
+abbrev pub places_of : Base → ColumnForm → List (List ℕ) → List Cell → List (Option ℕ)
+places_of holds form values cells = map (λ cell. place_in values (bytes_for holds form cell)) cells
 
 -- a ladder after a cell, which null leaves as it was
 abbrev pub observed_if : LadderIn → Option (List ℕ) → LadderIn
 observed_if ladder None = ladder
 observed_if ladder (Some value) = observed ladder value
 
--- whatever tables the old state stands for, the new one stands for these and the table after them
+-- whatever tables the old state stands for, the new one stands for these and the table after them; unless the column became
+-- plain it has the places of the table's cells
 pub record SeesTable (kind : Kind) (column : ℕ) (t : Table) (old new : SeenIn) : Type 0 where
-  pub at : (tables : List Table) → old ≡ seen_after kind tables column → new ≡ seen_after kind (tables ++ t ∷ []) column
+  pub at : (tables : List Table) → IsSeenAfter kind tables column old → IsSeenAfter kind (tables ++ t ∷ []) column new
+  pub placed : is_plain new.ladder.form ≡ false → new.places ≡ places_of (base_at kind column) form.Wide new.ladder.values (column_in t.rows column)
 
 -- ---- forms
 

@@ -6,7 +6,7 @@ use Rattle.otap_cells.specs.Columns.{width_of}
 use Rattle.otap_cells.specs.Tables.{Table}
 use Rattle.otap_columns.specs.declared.forms.ColumnForm.{ColumnForm}
 use Rattle.otap_columns.specs.Policy.{IsRecord, IsWritable}
-use Rattle.otap_columns.specs.Seen.{SeenIn, SeesTable, form_told, seen_after}
+use Rattle.otap_columns.specs.Seen.{IsSeenAfter, SeenIn, SeesTable, form_told}
 use Rattle.otap_columns.specs.WrittenGroups.{forms_in}
 use Rattle.otap_columns.specs.WrittenRows.{columns_in, unseen}
 
@@ -30,7 +30,7 @@ is_started (t ∷ tables) = true
 -- what is kept of the columns of a kind is what these tables make
 pub record AreSeen (kind : Kind) (tables : List Table) (columns : List SeenIn) : Type 0 where
   pub count : length columns ≡ width_of kind
-  pub each : (column : ℕ) → column < width_of kind → slice_index_or columns column unseen ≡ seen_after kind tables column
+  pub each : (column : ℕ) → column < width_of kind → IsSeenAfter kind tables column (slice_index_or columns column unseen)
 
 -- the columns of a kind were observed in these tables, and each of them can be written
 pub record IsReady (tables : List Table) (kind : Kind) (started : Bool) (columns : List SeenIn) : Type 0 where

@@ -50,6 +50,10 @@ abbrev pub index_width : ColumnForm → ℕ
 index_width form.Dict8 = 1
 index_width other = 2
 
+-- the index of a place
+abbrev pub index_of : ColumnForm → Option ℕ → Option (List ℕ)
+index_of form place = option_map (little_bytes (index_width form)) place
+
 abbrev pub IsIndexFor : ColumnForm → Option ℕ → Type 0
 IsIndexFor form None = Unit {0}
 IsIndexFor form.Dict8 (Some place) = place < 256

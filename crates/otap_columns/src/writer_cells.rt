@@ -8,12 +8,11 @@ ghost use Rattle.byteorder.specs.Endian.{little_bytes};
 ghost use Rattle.otap_cells.specs.Cells.{IsCellOf, IsNumberOf, number, seen};
 ghost use Rattle.otap_columns.specs.Observed.{FitsForm, bytes_for, id_bits, id_width, number_bytes};
 ghost use Rattle.otap_columns.specs.Schemas.{is_dictionary};
-ghost use Rattle.otap_columns.specs.WrittenCells.{IsIndexFor, index_width, place_in, shown};
+ghost use Rattle.otap_columns.specs.WrittenCells.{IsIndexFor, index_width, shown};
 
 use crate::forms::ColumnForm;
 use arrow_buffers::ColumnBuilder;
 use otap_cells::{Base, CellView};
-use otap_dicts::Ladder;
 use std::alloc::AllocError;
 
 /// What is written for a cell: nothing where it is null, the bytes of a number, or a part of the table.
@@ -172,36 +171,6 @@ pub(crate) fn push_index(
                 built.push(Some(&(place as u16).to_le_bytes()))
             }
         },
-    }
-}
-
-/// The place of a cell's value in a dictionary, where that of another cell is known.
-pub(crate) fn place_after(
-    base: Base,
-    form: ColumnForm,
-    ladder: &Ladder,
-    before: CellView<'_>,
-    place: Option<u32>,
-    cell: CellView<'_>,
-) -> Option<u32>
-    requires base { IsCellOf base (seen cell) }
-    requires fits { FitsForm base form (seen cell) }
-    requires known { place ≡ place_in ladder.now.values (bytes_for base form (seen before)) }
-    ensures { result ≡ place_in ladder.now.values (bytes_for base form (seen cell.entry)) }
-{
-    if is_same(before, cell) {
-        return place;
-    }
-    place_of(ladder, &bytes_for(base, form, cell))
-}
-
-// The place of a cell's value in a dictionary.
-fn place_of(ladder: &Ladder, bytes: &CellBytes<'_>) -> Option<u32>
-    ensures { result ≡ place_in ladder.now.values (shown bytes.now) }
-{
-    match bytes.as_slice() {
-        None => None,
-        Some(part) => ladder.index_of(part),
     }
 }
 

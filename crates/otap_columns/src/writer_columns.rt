@@ -1,19 +1,23 @@
 //! The columns of a record batch, and what they add to it.
 
-ghost use Rattle.std.specs.Prelude.{◌≡◌, ◌+◌, ◌/◌, ◌<◌, ◌≤◌, ◌^◌, [], ◌∷◌, ◌++◌, false, length, pos, true, IfOk, OnOk};
+ghost use Rattle.std.specs.Prelude.{◌≡◌, ◌+◌, ◌/◌, ◌<◌, ◌≤◌, ◌^◌, [], ◌∷◌, ◌++◌, false, length, map, pos, true, ℕ, None, IfOk, OnOk};
+ghost use Rattle.std.specs.List.{slice_index_or};
 ghost use Rattle.arrow_buffers.specs.Columns.{cells_len};
 ghost use Rattle.arrow_ipc.specs.Limits.{max_body, max_parts};
 ghost use Rattle.arrow_ipc.specs.Written.{body_size, padded};
 ghost use Rattle.otap_cells.specs.Columns.{base_at, width_of};
+ghost use Rattle.arrow_buffers.specs.declared.width.Width.TheVariants.{Fixed};
+ghost use Rattle.otap_cells.specs.Tables.{column_in};
 ghost use Rattle.otap_columns.specs.Schemas.{is_dictionary};
-ghost use Rattle.otap_columns.specs.WrittenCells.{FitsColumn, FitsIndexes, HasRoom, parts_of, plain_width, stored_column, width_for, with_parts};
+ghost use Rattle.otap_columns.specs.Seen.{places_of};
+ghost use Rattle.otap_columns.specs.WrittenCells.{FitsColumn, FitsIndexes, HasRoom, IsIndexFor, index_of, index_width, parts_of, plain_width, stored_column, width_for, with_parts};
 
 use crate::forms::ColumnForm;
-use crate::writer_cells::{is_dictionary, place_after, push_index, push_value};
+use crate::writer_cells::{is_dictionary, push_index, push_value};
+use crate::writer_seen::SeenColumn;
 use arrow_buffers::{Buffers, ColumnBuilder, Width};
 use arrow_ipc::BatchBuilder;
-use otap_cells::{Base, CellView, LogicalTable, Rows, base_of};
-use otap_dicts::Ladder;
+use otap_cells::{Base, LogicalTable, Rows, base_of};
 use std::alloc::{AllocError, Global};
 
 /// How the cells of a column are stored.
@@ -54,16 +58,17 @@ pub(crate) fn column_for(
     table: &LogicalTable,
     column: u32,
     form: ColumnForm,
-    ladder: &Ladder,
+    seen: &SeenColumn,
 ) -> Result<ColumnBuilder, AllocError>
     requires column { column < width_of table.now.kind }
     requires fits { FitsColumn form table.now column }
-    requires few { FitsIndexes form (length ladder.now.values) }
-    requires room { cells_len (stored_column form ladder.now.values table.now column) < 2 ^ 31 }
-    ensures { IfOk result (λ built. built ≡ record { width = width_for (base_at table.now.kind column) form; cells = stored_column form ladder.now.values table.now column }) }
+    requires few { FitsIndexes form (length seen.now.ladder.values) }
+    requires placed { is_dictionary form ≡ true → seen.now.places ≡ places_of (base_at table.now.kind column) form seen.now.ladder.values (column_in table.now.rows column) }
+    requires room { cells_len (stored_column form seen.now.ladder.values table.now column) < 2 ^ 31 }
+    ensures { IfOk result (λ built. built ≡ record { width = width_for (base_at table.now.kind column) form; cells = stored_column form seen.now.ladder.values table.now column }) }
 {
     if is_dictionary(form) {
-        indexes_for(alloc, table, column, form, ladder)
+        indexes_for(alloc, form, &seen.places)
     } else {
         values_for(alloc, table, column, form)
     }
@@ -90,32 +95,31 @@ fn values_for(
     Ok(built)
 }
 
-// A column that is written as indexes. A cell that is the same as the one before isn't looked up again.
+// A column that is written as indexes: the places of its values.
 fn indexes_for(
     alloc: Global,
-    table: &LogicalTable,
-    column: u32,
     form: ColumnForm,
-    ladder: &Ladder,
+    places: &[Option<u32>],
 ) -> Result<ColumnBuilder, AllocError>
-    requires column { column < width_of table.now.kind }
-    requires fits { FitsColumn form table.now column }
-    requires few { FitsIndexes form (length ladder.now.values) }
-    requires dictionary { is_dictionary form ≡ true }
-    requires room { cells_len (stored_column form ladder.now.values table.now column) < 2 ^ 31 }
-    ensures { IfOk result (λ built. built ≡ record { width = width_for (base_at table.now.kind column) form; cells = stored_column form ladder.now.values table.now column }) }
+    requires reached { (row : ℕ) → IsIndexFor form (slice_index_or places.now row None) }
+    requires room { cells_len (map (index_of form) places.now) < 2 ^ 31 }
+    ensures { IfOk result (λ built. built ≡ record { width = Fixed (index_width form); cells = map (index_of form) places.now }) }
 {
-    let base = base_of(table.kind(), column);
-    let mut built = ColumnBuilder::new(alloc, width_for(base, form));
-    let mut before = CellView::Null;
-    let mut place = None;
-    'rows: for row in 0..table.rows() {
-        let cell = table.cell(column, row);
-        place = place_after(base, form, ladder, before, place, cell);
-        before = cell;
-        push_index(&mut built, form, place)?;
+    let mut built = ColumnBuilder::new(alloc, Width::Fixed(index_width(form)));
+    'rows: for row in 0..places.len() {
+        push_index(&mut built, form, places[row])?;
     }
     Ok(built)
+}
+
+// How many bytes an index has.
+fn index_width(form: ColumnForm) -> u32
+    ensures { result ≡ index_width form }
+{
+    match form {
+        ColumnForm::Dict8 => 1,
+        ColumnForm::Absent | ColumnForm::Plain | ColumnForm::Wide | ColumnForm::Dict16 => 2,
+    }
 }
 
 /// Adds a column to a batch.

@@ -54,10 +54,18 @@ fn add_member(
         return Ok(());
     }
     let width = width_for(base_of(table.kind(), member.column), form);
-    let ladder = ladder_at(columns, member.column);
-    let built = column_for(alloc, table, member.column, form, ladder)?;
+    let seen = seen_at(columns, member.column);
+    let built = column_for(alloc, table, member.column, form, seen)?;
     let buffers = built.finish()?;
     add_column(batch, width, &buffers)
+}
+
+// What is kept of a column.
+fn seen_at(columns: &[SeenColumn], column: u32) -> &SeenColumn
+    requires { column < length columns.now }
+    ensures { result.now ≡ slice_index_or columns.now column unseen }
+{
+    &columns[column as usize]
 }
 
 // The ladder of a column.

@@ -1,22 +1,23 @@
 //! What the writer keeps of a column of the tables that it wrote.
 
-ghost use Rattle.std.specs.Prelude.{◌≡◌, ◌<◌, ◌≤◌, ℕ, length, ◌&&◌, ◌||◌, [], List, fold, map, true, if◌then◌else◌, IfOk, OnOk};
+ghost use Rattle.std.specs.Prelude.{◌≡◌, ◌<◌, ◌≤◌, ℕ, false, length, ◌&&◌, ◌||◌, [], List, fold, map, true, if◌then◌else◌, IfOk, OnOk};
 ghost use Rattle.std.specs.List.{list_any};
-ghost use Rattle.otap_cells.specs.Cells.{null};
+ghost use Rattle.otap_cells.specs.Cells.{IsCellOf, null, seen};
 ghost use Rattle.otap_cells.specs.Columns.{base_at, coding_at, is_id_at, width_of};
 ghost use Rattle.otap_cells.specs.Continuing.{continues_in};
 ghost use Rattle.otap_cells.specs.Tables.{Table, cell_in, coding_in, column_in};
 ghost use Rattle.otap_dicts.specs.declared.form.Form.TheVariants.{Plain};
+ghost use Rattle.otap_dicts.specs.Ladders.{is_plain};
 ghost use Rattle.otap_columns.specs.declared.forms.ColumnForm.TheVariants as form;
 ghost use Rattle.otap_columns.specs.Observed.{bytes_for, form_at, has_wide_id, is_above, is_main, is_own_id, is_wide, of_ladder};
-ghost use Rattle.otap_columns.specs.Seen.{SeesTable, form_told, id_form_told, is_absent, observed_if, seen_after};
-ghost use Rattle.otap_columns.specs.WrittenCells.{shown};
+ghost use Rattle.otap_columns.specs.Seen.{IsSeenAfter, SeesTable, form_told, id_form_told, is_absent, observed_if, places_of};
+ghost use Rattle.otap_columns.specs.WrittenCells.{place_in, shown};
 
 use crate::forms::ColumnForm;
 use crate::writer_cells::{CellBytes, bytes_for, is_same};
 use crate::writer_ids::has_wide_id;
 use otap_cells::{Base, CellView, Kind, LogicalTable, Rows, base_of, columns};
-use otap_dicts::laws::a_value_again_changes_nothing;
+use otap_dicts::laws::{a_value_again_changes_nothing, places_stay};
 use otap_dicts::{Form, Ladder};
 use std::alloc::{AllocError, Global};
 use std::marker::Model;
@@ -26,6 +27,8 @@ use std::marker::Model;
 pub(crate) struct SeenColumn {
     pub(crate) ladder: Ladder,
     pub(crate) wide: bool,
+    // Of each row of the last table, the place of its value in the dictionary. Left open where the column is plain.
+    pub(crate) places: Vec<Option<u32>>,
 }
 
 impl Model for SeenColumn {
@@ -33,19 +36,20 @@ impl Model for SeenColumn {
 
     ghost Value = { SeenIn };
 
-    ghost view = { λ s. record { ladder = s.ladder; wide = s.wide } };
+    ghost view = { λ s. record { ladder = s.ladder; wide = s.wide; places = s.places.items } };
 }
 
 impl SeenColumn {
     /// A column that had no value.
-    #[tactic(auto, unfolding(crate::specs::Seen::seen_after, crate::specs::Observed::seen))]
+    #[tactic(auto, unfolding(crate::specs::Observed::seen))]
     pub(crate) fn new(alloc: Global, kind: Kind, column: u32) -> SeenColumn
         requires { column < width_of kind }
-        ensures { result ≡ seen_after kind [] column }
+        ensures { IsSeenAfter kind [] column result }
     {
         SeenColumn {
             ladder: Ladder::new(alloc, columns(kind)[column as usize].dictionary),
             wide: false,
+            places: Vec::new(alloc),
         }
     }
 
@@ -66,12 +70,11 @@ impl SeenColumn {
     fn step(&mut self, alloc: Global, table: &LogicalTable, column: u32) -> Result<(), AllocError>
         requires column { column < width_of table.now.kind }
         requires coded { is_id_at table.now.kind column ≡ true → coding_in table.now column ≡ coding_at table.now.kind column }
-        ensures { OnOk result (self.new ≡ record {
-          ladder = fold observed_if self.old.ladder (map (bytes_for (base_at table.now.kind column) form.Wide) (column_in table.now.rows column));
-          wide = self.old.wide || (is_id_at table.now.kind column && has_wide_id table.now.kind column table.now);
-        }) }
+        ensures ladder { OnOk result (self.new.ladder ≡ fold observed_if self.old.ladder (map (bytes_for (base_at table.now.kind column) form.Wide) (column_in table.now.rows column))) }
+        ensures wide { OnOk result (self.new.wide ≡ (self.old.wide || (is_id_at table.now.kind column && has_wide_id table.now.kind column table.now))) }
+        ensures placed { OnOk result (is_plain self.new.ladder.form ≡ false → self.new.places ≡ places_of (base_at table.now.kind column) form.Wide self.new.ladder.values (column_in table.now.rows column)) }
     {
-        observe_values(&mut self.ladder, table, column)?;
+        observe_values(&mut self.ladder, &mut self.places, table, column)?;
         if !self.wide {
             self.wide = needs_wide(alloc, table, column)?;
         }
@@ -81,7 +84,7 @@ impl SeenColumn {
     /// The form of the column after the tables that it stands for.
     pub(crate) fn form(&self, kind: Kind, column: u32) -> ColumnForm
         requires { column < width_of kind }
-        ensures { (tables : List Table) → self.now ≡ seen_after kind tables column → result ≡ form_at kind tables column }
+        ensures { (tables : List Table) → IsSeenAfter kind tables column self.now → result ≡ form_at kind tables column }
     {
         self.told(kind, column)
     }
@@ -166,29 +169,60 @@ fn needs_wide(alloc: Global, table: &LogicalTable, column: u32) -> Result<bool, 
     has_wide_id(alloc, table, column)
 }
 
-// Observes the cells of a column. Once the column is plain no cell is looked at, nor any after the last one that was set, and a
-// cell that is the same as the one before isn't looked up.
-fn observe_values(ladder: &mut Ladder, table: &LogicalTable, column: u32) -> Result<(), AllocError>
+// Observes the cells of a column, and notes their places. Once the column is plain no cell is looked at, nor any after the last
+// one that was set, and a cell that is the same as the one before isn't looked up.
+fn observe_values(
+    ladder: &mut Ladder,
+    places: &mut Vec<Option<u32>>,
+    table: &LogicalTable,
+    column: u32,
+) -> Result<(), AllocError>
     requires { column < width_of table.now.kind }
-    ensures { OnOk result (ladder.new ≡ fold observed_if ladder.old (map (bytes_for (base_at table.now.kind column) form.Wide) (column_in table.now.rows column))) }
+    ensures ladder { OnOk result (ladder.new ≡ fold observed_if ladder.old (map (bytes_for (base_at table.now.kind column) form.Wide) (column_in table.now.rows column))) }
+    ensures placed { OnOk result (is_plain ladder.new.form ≡ false → places.new.items ≡ places_of (base_at table.now.kind column) form.Wide ladder.new.values (column_in table.now.rows column)) }
 {
     a_value_again_changes_nothing();
+    places_stay();
+    places.clear();
     if is_plain(ladder.form()) {
         return Ok(());
     }
     let base = base_of(table.kind(), column);
     let mut before = CellView::Null;
+    let mut place = None;
     let count = set_rows(table, column);
     'rows: for row in 0..count {
         let cell = table.cell(column, row);
-        if is_same(before, cell) {
-            continue;
+        place = observe_after(ladder, base, before, place, cell)?;
+        if is_plain(ladder.form()) {
+            return Ok(());
         }
-        let bytes = bytes_for(base, ColumnForm::Wide, cell);
-        observe_cell(ladder, &bytes)?;
+        places.push(place)?;
         before = cell;
     }
+    places.resize(table.rows() as usize, None)?;
     Ok(())
+}
+
+// Observes a cell after another one, the place of whose value is known.
+fn observe_after(
+    ladder: &mut Ladder,
+    base: Base,
+    before: CellView<'_>,
+    place: Option<u32>,
+    cell: CellView<'_>,
+) -> Result<Option<u32>, AllocError>
+    requires base { IsCellOf base (seen cell) }
+    requires known { observed_if ladder.old (bytes_for base form.Wide (seen before)) ≡ ladder.old }
+    requires placed { place ≡ place_in ladder.old.values (bytes_for base form.Wide (seen before)) }
+    ensures ladder { OnOk result (ladder.new ≡ observed_if ladder.old (bytes_for base form.Wide (seen cell.entry))) }
+    ensures place { IfOk result (λ place. place ≡ place_in ladder.new.values (bytes_for base form.Wide (seen cell.entry))) }
+{
+    if is_same(before, cell) {
+        return Ok(place);
+    }
+    let bytes = bytes_for(base, ColumnForm::Wide, cell);
+    observe_cell(ladder, &bytes)
 }
 
 // How many rows there are up to the last one in which a column was set.
@@ -202,19 +236,18 @@ fn set_rows(table: &LogicalTable, column: u32) -> u64
 }
 
 fn is_plain(form: Form) -> bool
-    ensures { result ≡ true → form ≡ Plain }
+    ensures is { result ≡ is_plain form }
+    ensures plain { result ≡ true → form ≡ Plain }
 {
     matches!(form, Form::Plain)
 }
 
-fn observe_cell(ladder: &mut Ladder, cell: &CellBytes<'_>) -> Result<(), AllocError>
-    ensures { OnOk result (ladder.new ≡ observed_if ladder.old (shown cell.now)) }
+fn observe_cell(ladder: &mut Ladder, cell: &CellBytes<'_>) -> Result<Option<u32>, AllocError>
+    ensures ladder { OnOk result (ladder.new ≡ observed_if ladder.old (shown cell.now)) }
+    ensures place { IfOk result (λ place. place ≡ place_in ladder.new.values (shown cell.now)) }
 {
     match cell.as_slice() {
-        None => Ok(()),
-        Some(part) => {
-            ladder.observe(part)?;
-            Ok(())
-        }
+        None => Ok(None),
+        Some(part) => ladder.observe(part),
     }
 }

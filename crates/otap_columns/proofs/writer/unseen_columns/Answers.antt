@@ -1,18 +1,18 @@
 use Rattle.std.proofs.Common.{◌≡◌, [], List, sym, ◌∙◌, subst, arith, ◌+◌}
 use Rattle.otap_cells.specs.Columns.{width_of}
-use Rattle.otap_columns.specs.Seen.{SeenIn, seen_after}
+use Rattle.otap_columns.specs.Seen.{IsSeenAfter, SeenIn}
 use Rattle.otap_columns.specs.WrittenRows.{unseen}
 use Rattle.otap_columns.proofs.StateMade.{Made, made_none, made_more}
 use Rattle.otap_columns.proofs.writer.unseen_columns.Goals as goal
 
 pub columns-init : goal.columns-init
 columns-init c =
-    subst (λ (xs : List SeenIn). Made (λ column s. s ≡ seen_after c.args.kind [] column) unseen 0 xs) (sym c.new-seen.ensures.items) (made_none (λ column s. s ≡ seen_after c.args.kind [] column) unseen)
+    subst (λ (xs : List SeenIn). Made (λ column s. IsSeenAfter c.args.kind [] column s) unseen 0 xs) (sym c.new-seen.ensures.items) (made_none (λ column s. IsSeenAfter c.args.kind [] column s) unseen)
 
 pub columns-preserved : goal.columns-preserved
 columns-preserved c =
-    subst (λ (xs : List SeenIn). Made (λ column s. s ≡ seen_after c.args.kind [] column) unseen (c.columns.column + 1) xs) (sym c.in_ok-push.ensures.items)
-    (made_more (λ column s. s ≡ seen_after c.args.kind [] column) unseen c.columns.column c.columns.seen.items c.new.result c.columns.invariant c.new.ensures)
+    subst (λ (xs : List SeenIn). Made (λ column s. IsSeenAfter c.args.kind [] column s) unseen (c.columns.column + 1) xs) (sym c.in_ok-push.ensures.items)
+    (made_more (λ column s. IsSeenAfter c.args.kind [] column s) unseen c.columns.column c.columns.seen.items c.new.result c.columns.invariant c.new.ensures)
 
 pub returns : goal.returns
 returns c =

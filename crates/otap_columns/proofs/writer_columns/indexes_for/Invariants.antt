@@ -1,12 +1,7 @@
-use Rattle.std.proofs.Common.{◌≡◌, take}
-use Rattle.otap_cells.specs.Cells.{seen}
-use Rattle.otap_cells.specs.Columns.{base_at}
-use Rattle.otap_columns.specs.Observed.{bytes_for}
-use Rattle.otap_columns.specs.WrittenCells.{place_in, stored_column, width_for}
+use Rattle.std.proofs.Common.{◌≡◌, map, take}
+use Rattle.arrow_buffers.specs.declared.width.Width.TheVariants.{Fixed}
+use Rattle.otap_columns.specs.WrittenCells.{index_of, index_width}
 use Rattle.otap_columns.proofs.writer_columns.indexes_for.Given as goal
 
 abbrev pub invariant-rows : goal.invariant-rows
-invariant-rows l = record {
-  built : l.built ≡ record { width = width_for (base_at l.fn.table.kind l.fn.column) l.fn.form; cells = take l.row (stored_column l.fn.form l.fn.ladder.values l.fn.table l.fn.column) };
-  known : l.place ≡ place_in l.fn.ladder.values (bytes_for (base_at l.fn.table.kind l.fn.column) l.fn.form (seen l.before));
-}
+invariant-rows l = l.built ≡ record { width = Fixed (index_width l.fn.form); cells = map (index_of l.fn.form) (take l.row l.fn.places) }

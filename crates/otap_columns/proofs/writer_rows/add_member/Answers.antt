@@ -2,11 +2,12 @@ use Rattle.std.proofs.Common.{◌≡◌, true, length, arith, ap, ◌∙◌, sym
 use Rattle.arrow_buffers.specs.Columns.{ColumnIn, HasNoFault, cells_of, values_len}
 use Rattle.arrow_buffers.specs.declared.width.Width.{Width}
 use Rattle.otap_cells.specs.Columns.{base_at}
-use Rattle.otap_dicts.specs.Ladders.{LadderIn}
-use Rattle.otap_columns.specs.Schemas.{is_there}
+use Rattle.otap_cells.specs.Tables.{column_in}
+use Rattle.otap_columns.specs.Seen.{SeenIn, places_of}
+use Rattle.otap_columns.specs.Schemas.{is_dictionary, is_there}
 use Rattle.otap_columns.specs.WrittenCells.{column_most, stored_column, width_for}
 use Rattle.otap_columns.specs.WrittenGroups.{forms_in, member_in}
-use Rattle.otap_columns.specs.WrittenRows.{columns_in}
+use Rattle.otap_columns.specs.WrittenRows.{columns_in, unseen}
 use Rattle.otap_columns.proofs.BatchGrown.{member_grows, room_less, sizes}
 use Rattle.otap_columns.proofs.ColumnsShort.{column_short}
 use Rattle.otap_columns.proofs.PartsBuilt.{IsBuiltOf}
@@ -15,7 +16,17 @@ use Rattle.otap_columns.proofs.writer_rows.add_member.Goals as goal
 
 pub column_for-requires-clause-room : goal.column_for-requires-clause-room
 column_for-requires-clause-room c =
-    omega (arith, column_light c.form_of-form.result c.ladder_at-ladder.result.now.values c.args.table.now c.args.member.now.column, c.requires.can.light)
+    omega (arith, column_light c.form_of-form.result c.seen_at-seen.result.now.ladder.values c.args.table.now c.args.member.now.column, c.requires.can.light)
+
+pub column_for-requires-clause-placed : goal.column_for-requires-clause-placed
+column_for-requires-clause-placed c =
+    λ dictionary.
+    let t = c.args.table.now in
+    let column = c.args.member.now.column in
+    let form_is : c.form_of-form.result ≡ forms_in c.args.forms.now column = c.form_of-form.ensures in
+    ap (λ (s : SeenIn). s.places) c.seen_at-seen.ensures
+    ∙ c.requires.can.placed column c.requires.column (ap is_dictionary (sym form_is) ∙ dictionary)
+    ∙ sym (λ i. places_of (base_at t.kind column) (form_is i) (c.seen_at-seen.ensures i).ladder.values (column_in t.rows column))
 
 pub returns-clause-ok : goal.returns-clause-ok
 returns-clause-ok c =
@@ -24,7 +35,7 @@ returns-clause-ok c =
     let b = c.in_ok-buffers.buffers in
     let e = c.in_ok-buffers.ensures in
     let form_is : c.form_of-form.result ≡ forms_in c.args.forms.now c.args.member.now.column = c.form_of-form.ensures in
-    let values_is : c.ladder_at-ladder.result.now.values ≡ columns_in c.args.columns.now c.args.member.now.column = ap (λ (l : LadderIn). l.values) c.ladder_at-ladder.ensures in
+    let values_is : c.seen_at-seen.result.now.ladder.values ≡ columns_in c.args.columns.now c.args.member.now.column = ap (λ (s : SeenIn). s.ladder.values) c.seen_at-seen.ensures in
     let base_is : c.base_of.result ≡ base_at t.kind column = c.base_of.ensures ∙ ap (λ k. base_at k column) c.kind.ensures in
     let width_is : c.width_for-width.result ≡ width_for (base_at t.kind column) (forms_in c.args.forms.now column) = c.width_for-width.ensures ∙ (λ i. width_for (base_is i) (form_is i)) in
     let here : is_there (forms_in c.args.forms.now column) ≡ true = ap is_there (sym form_is) ∙ sym c.is_there.ensures ∙ c.if-not-is_there.false in
@@ -49,7 +60,7 @@ add_column-requires-clause-room c =
     let b = c.in_ok-buffers.buffers in
     let e = c.in_ok-buffers.ensures in
     room_less 1 (sizes b) (column_most t c.args.member.now.column) c.args.batch.now
-    (column_short c.form_of-form.result c.ladder_at-ladder.result.now.values t c.args.member.now.column c.requires.can.table b c.in_ok-built.built c.in_ok-built.ensures e.rows e.validity_len e.offsets_len e.values_len)
+    (column_short c.form_of-form.result c.seen_at-seen.result.now.ladder.values t c.args.member.now.column c.requires.can.table b c.in_ok-built.built c.in_ok-built.ensures e.rows e.validity_len e.offsets_len e.values_len)
     c.requires.room
 
 pub returns-clause-grows : goal.returns-clause-grows
@@ -58,5 +69,5 @@ returns-clause-grows c =
     let b = c.in_ok-buffers.buffers in
     let e = c.in_ok-buffers.ensures in
     member_grows (column_most t c.args.member.now.column) b c.args.batch.now c.add_column.new.batch c.width_for-width.result c.add_column.result
-    (column_short c.form_of-form.result c.ladder_at-ladder.result.now.values t c.args.member.now.column c.requires.can.table b c.in_ok-built.built c.in_ok-built.ensures e.rows e.validity_len e.offsets_len e.values_len)
+    (column_short c.form_of-form.result c.seen_at-seen.result.now.ladder.values t c.args.member.now.column c.requires.can.table b c.in_ok-built.built c.in_ok-built.ensures e.rows e.validity_len e.offsets_len e.values_len)
     c.add_column.ensures

@@ -1,0 +1,80 @@
+-- A column that is written as the places of its values.
+use Rattle.std.proofs.Common.{◌≡◌, ℕ, zero, suc, ◌+◌, ◌<◌, ◌≤◌, ◌^◌, true, false, List, [], ◌∷◌, ◌++◌, length, take, get_or, map, Option, Some, None, refl, sym, ap, ◌∙◌, subst, arith, position, bytes_eq}
+use Rattle.std.proofs.lemmas.Bool.{false≢true}
+use Rattle.std.proofs.lemmas.List.{map-append, take_more}
+use Rattle.std.proofs.lemmas.List.Quantifiers.{position-Some}
+use Rattle.std.proofs.lemmas.List.Sums.{sum_by-take-le, sum_by_push}
+use Rattle.arrow_buffers.specs.Columns.{ColumnIn, cell_len, cells_len}
+use Rattle.arrow_buffers.specs.declared.width.Width.{Width}
+use Rattle.arrow_buffers.specs.declared.width.Width.TheVariants.{Fixed}
+use Rattle.otap_cells.specs.declared.profile.Base.{Base}
+use Rattle.otap_cells.specs.Cells.{Cell}
+use Rattle.otap_cells.specs.Columns.{base_at}
+use Rattle.otap_cells.specs.Tables.{Table, column_in}
+use Rattle.otap_columns.specs.declared.forms.ColumnForm.{ColumnForm}
+use Rattle.otap_columns.specs.declared.forms.ColumnForm.TheVariants as form
+use Rattle.otap_columns.specs.Observed.{bytes_for}
+use Rattle.otap_columns.specs.Schemas.{is_dictionary}
+use Rattle.otap_columns.specs.Seen.{places_of}
+use Rattle.otap_columns.specs.WrittenCells.{FitsIndexes, IsIndexFor, index_of, index_width, place_in, stored_for, stored_column, width_for}
+use Rattle.otap_columns.proofs.ColumnsBuilt.{index_stored}
+
+-- ---- indexes, one after the other
+
+map_take : {A B : Type 0} (f : A → B) (k : ℕ) (xs : List A) → map f (take k xs) ≡ take k (map f xs)
+map_take f zero xs = refl
+map_take f (suc k) [] = refl
+map_take f (suc k) (x ∷ xs) = ap (λ ys. f x ∷ ys) (map_take f k xs)
+
+-- all that is written so far and the next index have room
+pub index_room : (f : ColumnForm) (places : List (Option ℕ)) (row : ℕ) (w : Width) (b : ColumnIn) → row < length places → b ≡ record { width = w; cells = map (index_of f) (take row places) }
+    → cells_len (map (index_of f) places) < 2 ^ 31 → cells_len b.cells + cell_len (index_of f (get_or places row None)) < 2 ^ 31
+index_room f places row w b low is room =
+    let x = index_of f (get_or places row None) in
+    let before = map (index_of f) (take row places) in
+    let sum : cells_len (before ++ x ∷ []) ≡ cells_len before + cell_len x = sum_by_push cell_len before x in
+    let more : before ++ x ∷ [] ≡ take (row + 1) (map (index_of f) places) =
+    sym (map-append (index_of f) (take row places) (get_or places row None ∷ [])) ∙ ap (map (index_of f)) (sym (take_more places row None low)) ∙ map_take (index_of f) (row + 1) places in
+    let short = sum_by-take-le cell_len (map (index_of f) places) (row + 1) in
+    omega (arith, sum, ap cells_len more, short, ap (λ (k : ColumnIn). cells_len k.cells) is, room)
+
+-- ---- places as indexes
+
+one_reached : (f : ColumnForm) (values : List (List ℕ)) (n : ℕ) → n < length values → is_dictionary f ≡ true → FitsIndexes f (length values) → IsIndexFor f (Some n)
+one_reached form.Dict8 values n low dictionary few = omega (arith, low, few)
+one_reached form.Dict16 values n low dictionary few = omega (arith, low, few)
+one_reached form.Absent values n low dictionary few = absurd (false≢true dictionary)
+one_reached form.Plain values n low dictionary few = absurd (false≢true dictionary)
+one_reached form.Wide values n low dictionary few = absurd (false≢true dictionary)
+
+place_reached : (f : ColumnForm) (values : List (List ℕ)) (x : Option (List ℕ)) → is_dictionary f ≡ true → FitsIndexes f (length values) → IsIndexFor f (place_in values x)
+place_reached f values None dictionary few = tt
+place_reached f values (Some value) dictionary few = by (position (bytes_eq value) values) refl
+  where
+    by : (place : Option ℕ) → position (bytes_eq value) values ≡ place → IsIndexFor f (position (bytes_eq value) values)
+    by None is = subst (IsIndexFor f) (sym is) tt
+    by (Some n) is = subst (IsIndexFor f) (sym is) (one_reached f values n (position-Some (bytes_eq value) values n [] is).0 dictionary few)
+
+-- the indexes of a form reach all places
+pub places_reached : (holds : Base) (f : ColumnForm) (values : List (List ℕ)) (cells : List Cell) → is_dictionary f ≡ true → FitsIndexes f (length values)
+    → (row : ℕ) → IsIndexFor f (get_or (places_of holds f values cells) row None)
+places_reached holds f values [] dictionary few row = tt
+places_reached holds f values (cell ∷ cells) dictionary few zero = place_reached f values (bytes_for holds f cell) dictionary few
+places_reached holds f values (cell ∷ cells) dictionary few (suc row) = places_reached holds f values cells dictionary few row
+
+indexes_stored : (holds : Base) (f : ColumnForm) (values : List (List ℕ)) (cells : List Cell) → is_dictionary f ≡ true → map (index_of f) (places_of holds f values cells) ≡ map (stored_for holds f values) cells
+indexes_stored holds f values [] dictionary = refl
+indexes_stored holds f values (cell ∷ cells) dictionary = λ i. index_stored holds f values cell dictionary i ∷ indexes_stored holds f values cells dictionary i
+
+-- and are what is written
+pub indexes_column : (f : ColumnForm) (values : List (List ℕ)) (t : Table) (column : ℕ) → is_dictionary f ≡ true
+    → map (index_of f) (places_of (base_at t.kind column) f values (column_in t.rows column)) ≡ stored_column f values t column
+unfolding stored_column
+indexes_column f values t column dictionary = indexes_stored (base_at t.kind column) f values (column_in t.rows column) dictionary
+
+pub index_fixed : (holds : Base) (f : ColumnForm) → is_dictionary f ≡ true → Fixed (index_width f) ≡ width_for holds f
+index_fixed holds form.Dict8 dictionary = refl
+index_fixed holds form.Dict16 dictionary = refl
+index_fixed holds form.Absent dictionary = absurd (false≢true dictionary)
+index_fixed holds form.Plain dictionary = absurd (false≢true dictionary)
+index_fixed holds form.Wide dictionary = absurd (false≢true dictionary)
