@@ -6,7 +6,7 @@ ghost use Rattle.std.specs.Option.{option_copied};
 ghost use Rattle.arrow_buffers.specs.Bits.{is_valid};
 ghost use Rattle.arrow_buffers.specs.Columns.{bit_byte};
 ghost use Rattle.arrow_buffers.specs.Offsets.{offset_at};
-ghost use Rattle.arrow_arrays.specs.Views.{part_between, span_between, value_seen, is_whole, is_valid_in, is_there, cell_seen};
+ghost use Rattle.arrow_arrays.specs.Views.{part_between, span_between, value_seen, is_whole, is_valid_in, cell_seen};
 ghost use Rattle.arrow_arrays.specs.Found.{IsBelow, IsEmpty};
 
 use byteorder::{ByteOrder, LittleEndian};
@@ -81,16 +81,18 @@ impl<'a> ColumnView<'a> {
     /// The bytes of a row's cell, as `cell` answers them. Where the column is known to be whole no
     /// bitmap is looked at.
     #[inline(always)]
-    #[tactic(auto, unfolding(crate::specs::Views::cell_seen))]
+    #[tactic(auto, unfolding(crate::specs::Views::cell_seen, crate::specs::Views::is_there))]
     pub fn cell_if(&self, row: u64, whole: bool) -> Option<&'a [u8]>
         requires { whole ≡ true → is_whole self.now ≡ true }
         ensures { option_copied result ≡ cell_seen self.now row }
     {
-        if self.is_there(row, whole) {
-            self.stored.value(row)
-        } else {
-            None
+        if row >= self.rows {
+            return None;
         }
+        if !whole && !self.is_valid(row) {
+            return None;
+        }
+        self.stored.value(row)
     }
 
     /// The same column below a struct, whose rows that are null are null in it.
@@ -104,15 +106,6 @@ impl<'a> ColumnView<'a> {
             top: above.above,
             stored: self.stored,
         }
-    }
-
-    #[inline(always)]
-    #[tactic(auto, unfolding(crate::specs::Views::is_there))]
-    fn is_there(&self, row: u64, whole: bool) -> bool
-        requires { whole ≡ true → is_whole self.now ≡ true }
-        ensures { result ≡ is_there self.now row }
-    {
-        row < self.rows && (whole || self.is_valid(row))
     }
 
     #[inline(always)]
