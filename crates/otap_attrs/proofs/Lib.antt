@@ -3,6 +3,7 @@ pub mod AttributesWeighed
 pub mod CellFits
 pub mod FilledTables
 pub mod FoundLists
+pub mod FrontOrder
 pub mod MadeSums
 pub mod NameRanks
 pub mod PairRows

@@ -1,3 +1,4 @@
+pub mod Fronts
 pub mod Inside
 pub mod Names
 pub mod Refusals

@@ -2,6 +2,7 @@
 #![tactic(auto)]
 
 mod adding;
+mod fronts;
 mod laws;
 mod names;
 mod pairs;
