@@ -1,5 +1,5 @@
 -- An exporter that stands for requests stands for one more after it wrote its message.
-use Rattle.std.proofs.Common.{◌≡◌, ℕ, ◌+◌, false, List, [], ◌∷◌, ◌++◌, pos, sym, ap, ◌∙◌, arith, length-append}
+use Rattle.std.proofs.Common.{◌≡◌, ℕ, ◌+◌, false, List, [], ◌∷◌, pos, sym, ap, ◌∙◌, arith, length-append}
 use Rattle.std.specs.List.{flat_map}
 use Rattle.lists.proofs.Growing.{each_after-push}
 use Rattle.otlp_model.specs.declared.request.Request.{Request}
