@@ -5,7 +5,7 @@ use Rattle.lists.proofs.Growing.{each_after-push, each_after-weaker, each_after-
 use Rattle.otap_capture.specs.Capture.{Frame, Message, Packed, reset_frame, capture_limit}
 use Rattle.otap_capture.specs.Capture as capture
 use Rattle.otap_consume.specs.Meanings.{Meaning}
-use Rattle.otap_produce.specs.Exporters.{ExporterIn, StandsFor, IsNew}
+use Rattle.otap_produce.specs.Exporters.{ExporterIn, StandsFor}
 use Rattle.otap_produce.specs.Policy.{SignalRows}
 use Rattle.otap_transit.specs.Sendings.{Sending, Sent, Reset, AreAllowed, requests_since, messages_since}
 use Rattle.otlp_codec.specs.declared.refusal.ReadRefusal.{ReadRefusal}
@@ -43,8 +43,8 @@ module _ (rows : SignalRows) where
       → StandsFor rows (requests_since (sent os) ++ q ∷ []) (messages_since (sent os) ++ m ∷ []) e → HasEncoded rows e (os ++ Puts (Sent q m) ∷ [])
   stands_on e os q m stands = rw (sent_on os (Sent q m), requests_more (sent os) q m, messages_more (sent os) q m) stands
 
-  stands_anew : (e : ExporterIn) (os : List Encoded) → IsNew rows.signal e → HasEncoded rows e (os ++ Puts Reset ∷ [])
-  stands_anew e os new = rw (sent_on os Reset, requests_none (sent os), messages_none (sent os)) (new.stands rows refl)
+  stands_anew : (e : ExporterIn) (os : List Encoded) → StandsFor rows [] [] e → HasEncoded rows e (os ++ Puts Reset ∷ [])
+  stands_anew e os new = rw (sent_on os Reset, requests_none (sent os), messages_none (sent os)) new
 
   -- the frame is refused, and the exporter stays as it is
   frame_refused : (e : ExporterIn) (number : ℕ) (frame : Frame) (name : List ℕ) → ((os : List Encoded) → EncodedAfter rows os frame (Refuses name))
@@ -75,7 +75,7 @@ module _ (rows : SignalRows) where
       (named_stands n.defect (Stands rows.signal bytes) (subst (λ (r : ReadRefusal). Names r (Stands rows.signal bytes)) n.same so))
       (says ∙ ap (refused_request number) n.text)
 
-  pub frame_reset : (old new : ExporterIn) (number : ℕ) (reply : ReplyText) → IsNew rows.signal new → reply ≡ printed reset_frame
+  pub frame_reset : (old new : ExporterIn) (number : ℕ) (reply : ReplyText) → StandsFor rows [] [] new → reply ≡ printed reset_frame
       → EncodesFrame rows old new number capture.Reset reply
   frame_reset old new number reply fresh says =
       record { at = λ os stands. record { outcome = Puts Reset; gives = EncodedAfter.resets; says = says; stands = stands_anew new os fresh } }
@@ -124,8 +124,8 @@ module _ (rows : SignalRows) (m : Meaning) where
       (λ past os before stands. both new frame number reply arrives past os before (step.at os stands))
 
   -- an exporter at its start
-  pub exporter_first : (e : ExporterIn) → IsNew rows.signal e → HasTold (Encodes rows m) encoded (HasEncoded rows e) [] []
-  exporter_first e new = record { outcomes = []; before = tt; so_far = refl; stood = rw (requests_first, messages_first) (new.stands rows refl) }
+  pub exporter_first : (e : ExporterIn) → StandsFor rows [] [] e → HasTold (Encodes rows m) encoded (HasEncoded rows e) [] []
+  exporter_first e new = record { outcomes = []; before = tt; so_far = refl; stood = rw (requests_first, messages_first) new }
 
   -- one that took frames
   pub is_encoding : (e : ExporterIn) (number : ℕ) → HasHistory (HasTold (Encodes rows m) encoded (HasEncoded rows e)) number → IsEncoding rows e

@@ -10,7 +10,7 @@ use Rattle.lists.specs.EachAfter.{EachAfter}
 use Rattle.otap_capture.specs.Batch.{ReadsBatch, batch_in}
 use Rattle.otap_cells.specs.Weights.{row_weight_limit, weight_of_tables}
 use Rattle.otap_consume.specs.Meanings.{Meaning}
-use Rattle.otap_produce.specs.Exporters.{ExporterIn, StandsFor, IsNew, Exports}
+use Rattle.otap_produce.specs.Exporters.{ExporterIn, StandsFor, Exports}
 use Rattle.otap_produce.specs.Policy.{SignalRows, IsExported, Policy, payloads_of}
 use Rattle.otap_transit.specs.Transits.{IsReceivedAs}
 use Rattle.otlp_load.specs.Load.{generated, requests_at_most, items_each}
@@ -50,8 +50,8 @@ pub requests_counted : (s : Signal) (n : ℕ) → length (first_requests s n) �
 requests_counted s n = length-map-range_with_len (generated s) 0 n
 
 module _ (rows : SignalRows) where
-  pub loaded_none : (e : ExporterIn) (o : Opened) → IsNew rows.signal e → HasCounted [] o → HasLoaded rows 0 [] e o
-  loaded_none e o new counted = record { stands = new.stands rows refl; exported = All-nil (IsExported rows); counted = counted }
+  pub loaded_none : (e : ExporterIn) (o : Opened) → StandsFor rows [] [] e → HasCounted [] o → HasLoaded rows 0 [] e o
+  loaded_none e o new counted = record { stands = new; exported = All-nil (IsExported rows); counted = counted }
 
   pub few_batches : (n : ℕ) (e : ExporterIn) (o : Opened) → n < requests_at_most → IsLoading rows n e o → e.batches < 2 ^ 40
   few_batches n e o few loading =

@@ -1,7 +1,7 @@
 //! `encode`: the batch message of each request.
-ghost use Rattle.std.specs.Prelude.{◌≡◌, ◌<◌, ◌^◌, IfOk};
+ghost use Rattle.std.specs.Prelude.{[], ◌≡◌, ◌<◌, ◌^◌, IfOk};
 ghost use Rattle.otap_capture.specs.Capture.{Message, frame_of};
-ghost use Rattle.otap_produce.specs.Exporters.{IsNew};
+ghost use Rattle.otap_produce.specs.Exporters.{StandsFor};
 ghost use Rattle.otlp_model.specs.Profile.{IsProfile};
 ghost use Rattle.otlp_model.specs.Telemetry.{signal_of};
 ghost use Rattle.otap_gateway.specs.declared.command.Command.TheVariants as command;
@@ -15,23 +15,23 @@ use crate::refused_requests::{refusal_name, refused};
 use crate::reply::Reply;
 use crate::sending::Sends;
 use otap_capture::Frame;
-use otap_produce::{Exporter, ProduceRefusal};
+use otap_produce::{Exporter, ProduceRefusal, Tabled};
 use otlp_codec::read_request;
 use otlp_model::Request;
 use std::alloc::{AllocError, Global};
 
 /// The job `encode` of a signal.
 #[derive(Drop)]
-pub(crate) struct Encoder<T> {
-    exporter: Exporter,
+pub(crate) struct Encoder<T: Tabled> {
+    exporter: Exporter<T>,
     tables: T,
 }
 
 impl<T: Sends + Drop> Encoder<T> {
     pub(crate) fn new(alloc: Global, tables: T) -> Result<Encoder<T>, AllocError>
-        ensures { IfOk result (λ encoder. IsNew T.rows.signal encoder.exporter) }
+        ensures { IfOk result (λ encoder. StandsFor T.rows [] [] encoder.exporter) }
     {
-        let exporter = Exporter::new(alloc, T::signal())?;
+        let exporter = Exporter::new(alloc)?;
         Ok(Encoder { exporter, tables })
     }
 }
@@ -43,13 +43,13 @@ impl<T: Sends> Job for Encoder<T> {
 
     fn step(&mut self, alloc: Global, number: u64, frame: &Frame<'_>) -> Result<Reply, AllocError> {
         T::what_is_sent_arrives();
-        encode_frame::<T>(alloc, &mut self.exporter, number, frame)
+        encode_frame(alloc, &mut self.exporter, number, frame)
     }
 }
 
 fn encode_frame<T: Sends>(
     alloc: Global,
-    exporter: &mut Exporter,
+    exporter: &mut Exporter<T>,
     number: u64,
     frame: &Frame<'_>,
 ) -> Result<Reply, AllocError>
@@ -58,7 +58,7 @@ fn encode_frame<T: Sends>(
     ensures { IfOk result (EncodesFrame T.rows exporter.old exporter.new number (frame_of frame.now)) }
 {
     match frame {
-        Frame::Message(bytes) => encode_message::<T>(alloc, exporter, number, bytes),
+        Frame::Message(bytes) => encode_message(alloc, exporter, number, bytes),
         Frame::Packed => refused(alloc, number, "Compressed"),
         Frame::Reset => {
             exporter.reset();
@@ -69,7 +69,7 @@ fn encode_frame<T: Sends>(
 
 fn encode_message<T: Sends>(
     alloc: Global,
-    exporter: &mut Exporter,
+    exporter: &mut Exporter<T>,
     number: u64,
     bytes: &[u8],
 ) -> Result<Reply, AllocError>
@@ -78,14 +78,14 @@ fn encode_message<T: Sends>(
     ensures { IfOk result (EncodesFrame T.rows exporter.old exporter.new number (Message bytes.now)) }
 {
     match read_request(alloc, T::signal(), bytes) {
-        Ok(request) => encode_request::<T>(alloc, exporter, number, &request),
+        Ok(request) => encode_request(alloc, exporter, number, &request),
         Err(refusal) => refused(alloc, number, refusal_name(refusal)?),
     }
 }
 
 fn encode_request<T: Sends>(
     alloc: Global,
-    exporter: &mut Exporter,
+    exporter: &mut Exporter<T>,
     number: u64,
     request: &Request,
 ) -> Result<Reply, AllocError>
@@ -95,7 +95,7 @@ fn encode_request<T: Sends>(
     requires profile { IsProfile request.now }
     ensures { IfOk result (EncodesRequest T.rows exporter.old exporter.new number request.now) }
 {
-    match exporter.encode::<T>(request) {
+    match exporter.encode(request) {
         Ok(message) => Reply::frame(alloc, &message),
         Err(ProduceRefusal::TooManyItems) => refused(alloc, number, "TooManyItems"),
         Err(ProduceRefusal::TooHeavy) => refused(alloc, number, "TooHeavy"),

@@ -21,23 +21,23 @@ use std::alloc::{AllocError, Global};
 
 /// The requests of a load, as they are exported one after the other.
 #[derive(Drop)]
-struct Loader {
-    exporter: Exporter,
+struct Loader<T: Loads> {
+    exporter: Exporter<T>,
     opened: Opened,
 }
 
-impl Loader {
-    fn new<T: Loads>(alloc: Global) -> Result<Loader, AllocError>
+impl<T: Loads> Loader<T> {
+    fn new(alloc: Global) -> Result<Loader<T>, AllocError>
         ensures { IfOk result (λ loader. HasLoaded T.rows 0 [] loader.exporter loader.opened) }
     {
         Ok(Loader {
-            exporter: Exporter::new(alloc, T::signal())?,
+            exporter: Exporter::new(alloc)?,
             opened: Opened::new(alloc),
         })
     }
 
     /// The message of the next request.
-    fn next<T: Loads>(&mut self, alloc: Global, request: u32) -> Result<Vec<u8>, AllocError>
+    fn next(&mut self, alloc: Global, request: u32) -> Result<Vec<u8>, AllocError>
         requires few { request < requests_at_most }
         requires stands { IsLoading T.rows request self.old.exporter self.old.opened }
         ensures { IfOk result (λ message. LoadsNext T.rows request self.old.exporter self.new.exporter self.old.opened self.new.opened message.items) }
@@ -47,7 +47,7 @@ impl Loader {
         requests_have_their_items();
         requests_are_within_the_limits();
         let request = generated(alloc, T::signal(), request)?;
-        let message = match self.exporter.encode::<T>(&request) {
+        let message = match self.exporter.encode(&request) {
             Ok(message) => message,
             Err(ProduceRefusal::Memory(error)) => return Err(error),
             Err(ProduceRefusal::Broken) => unreachable!(),
@@ -113,11 +113,11 @@ fn send_load<T: Loads, O: Sink, E: Sink>(
         (sinks O.Sink out.new E.Sink err.new) result }
 {
     requests_have_their_items();
-    let Ok(mut loader) = Loader::new::<T>(alloc) else {
+    let Ok(mut loader) = Loader::<T>::new(alloc) else {
         return Err(Stop::Memory);
     };
     'requests: for request in 0..load.requests {
-        let Ok(message) = loader.next::<T>(alloc, request) else {
+        let Ok(message) = loader.next(alloc, request) else {
             return Err(Stop::Memory);
         };
         write_frame(out, &message)?;

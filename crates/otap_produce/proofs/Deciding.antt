@@ -138,7 +138,6 @@ all_sent_alike tables past past' s alike sent = record {
 pub stands_with : (rows : SignalRows) (requests : List Request) (messages others : List (List ℕ)) (e : ExporterIn) → StandsFor rows requests messages e → Policy rows requests others
     → StandsFor rows requests others e
 stands_with rows requests messages others e stands allowed = record {
-  signal = stands.signal;
   sound = stands.sound;
   kinds = stands.kinds;
   batches = stands.batches;

@@ -1,18 +1,17 @@
 -- An exporter that stands for requests stands for one more after it wrote its message.
-use Rattle.std.proofs.Common.{◌≡◌, ℕ, ◌+◌, false, List, [], ◌∷◌, pos, sym, ap, ◌∙◌, arith, length-append}
+use Rattle.std.proofs.Common.{◌≡◌, ℕ, ◌+◌, false, List, [], ◌∷◌, pos, ap, ◌∙◌, arith, length-append}
 use Rattle.std.specs.List.{flat_map}
 use Rattle.lists.proofs.Growing.{each_after-push}
 use Rattle.otlp_model.specs.declared.request.Request.{Request}
-use Rattle.otap_cells.specs.Payload.{kinds_of}
 use Rattle.otap_produce.specs.Exporters.{ExporterIn, Exports, StandsFor, kinds_in}
 use Rattle.otap_produce.specs.Policy.{IsExported, IsMessageOf, SignalRows, payloads_of}
 use Rattle.otap_produce.specs.Sending.{SendsMessage}
 use Rattle.otap_produce.proofs.Deciding.{one_more, stands_with}
 
-pub exports : (rows : SignalRows) (q : Request) (old new : ExporterIn) (bytes : List ℕ) → old.signal ≡ rows.signal → old.broken ≡ false → IsExported rows q
-    → SendsMessage old.batches (rows.tables q) old.sent new.sent bytes → new.signal ≡ old.signal → kinds_in new.sent.senders ≡ kinds_in old.sent.senders
+pub exports : (rows : SignalRows) (q : Request) (old new : ExporterIn) (bytes : List ℕ) → old.broken ≡ false → IsExported rows q
+    → SendsMessage old.batches (rows.tables q) old.sent new.sent bytes → kinds_in new.sent.senders ≡ kinds_in old.sent.senders
     → new.batches ≡ old.batches + 1 → new.broken ≡ false → Exports rows q old new bytes
-exports rows q old new bytes signal was_sound exported sends same kinds batches sound = record {
+exports rows q old new bytes was_sound exported sends kinds batches sound = record {
   was_sound = was_sound;
   exported = exported;
   canonical = sends.canonical;
@@ -20,9 +19,8 @@ exports rows q old new bytes signal was_sound exported sends same kinds batches 
   short = sends.short;
   message = message;
   stands = λ requests messages stands. record {
-    signal = same ∙ signal;
     sound = sound;
-    kinds = kinds ∙ stands.kinds ∙ ap kinds_of (sym same);
+    kinds = kinds ∙ stands.kinds;
     batches = omega (arith, batches, stands.batches, length-append requests (q ∷ []));
     sent =
         rw (one_more rows.tables requests q, one_more payloads_of messages bytes)

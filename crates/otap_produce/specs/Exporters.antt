@@ -3,7 +3,6 @@ use Rattle.std.specs.Prelude.{◌≡◌, ◌≤◌, ◌<◌, ◌+◌, ◌⊎◌,
 use Rattle.std.specs.Fmt.{decimal}
 use Rattle.std.specs.List.{flat_map}
 use Rattle.otlp_model.specs.declared.request.Request.{Request}
-use Rattle.otlp_model.specs.declared.request.Signal.{Signal}
 use Rattle.otlp_model.specs.Limits.{item_limit, weight_limit}
 use Rattle.otlp_model.specs.Telemetry.{telemetry}
 use Rattle.otlp_model.specs.Weight.{weight_of}
@@ -32,7 +31,6 @@ pub record SendersIn : Type 0 where
 
 -- an exporter: of its segment it keeps the senders and how many batches there were, or that it is broken
 pub record ExporterIn : Type 0 where
-  pub signal : Signal
   pub sent : SendersIn
   pub batches : ℕ
   pub broken : Bool
@@ -58,19 +56,11 @@ pub record HaveSent (tables : List Table) (payloads : List PayloadIn) (s : Sende
 
 -- AN EXPORTER THAT STANDS FOR THE REQUESTS of its segment, and for messages that the policy gives them
 pub record StandsFor (rows : SignalRows) (requests : List Request) (messages : List (List ℕ)) (e : ExporterIn) : Type 0 where
-  pub signal : e.signal ≡ rows.signal
   pub sound : e.broken ≡ false
-  pub kinds : kinds_in e.sent.senders ≡ kinds_of e.signal
+  pub kinds : kinds_in e.sent.senders ≡ kinds_of rows.signal
   pub batches : e.batches ≡ length requests
   pub sent : HaveSent (flat_map rows.tables requests) (flat_map payloads_of messages) e.sent
   pub policy : Policy rows requests messages
-
--- an exporter at the beginning of a segment stands for no requests
-pub record IsNew (signal : Signal) (e : ExporterIn) : Type 0 where
-  pub same : e.signal ≡ signal
-  pub sound : e.broken ≡ false
-  pub batches : e.batches ≡ 0
-  pub stands : (rows : SignalRows) → rows.signal ≡ signal → StandsFor rows [] [] e
 
 -- ---- one more request
 

@@ -1,9 +1,9 @@
 //! Exports requests: a batch message for each, after those of its segment.
-ghost use Rattle.std.specs.Prelude.{◌≡◌, ◌≤◌, ◌<◌, ◌+◌, ◌^◌, ◌*◌, true, false, IfOk, IfErr, OnOk, OnErr};
+ghost use Rattle.std.specs.Prelude.{[], ◌≡◌, ◌≤◌, ◌<◌, ◌+◌, ◌^◌, ◌*◌, true, false, IfOk, IfErr, OnOk, OnErr};
 ghost use Rattle.otlp_model.specs.Profile.{IsProfile};
 ghost use Rattle.otlp_model.specs.Telemetry.{signal_of};
 ghost use Rattle.otap_cells.specs.Payload.{kinds_of};
-ghost use Rattle.otap_produce.specs.Exporters.{Exports, IsAfter, IsNew, Refuses, kinds_in};
+ghost use Rattle.otap_produce.specs.Exporters.{Exports, IsAfter, Refuses, StandsFor, kinds_in};
 ghost use Rattle.otap_produce.specs.Policy.{IsExported};
 ghost use Rattle.otap_produce.specs.Sending.{HaveHistory, RefusesFirst, SendsMessage};
 
@@ -12,61 +12,59 @@ use crate::senders::Senders;
 use crate::tabled::Tabled;
 use otap_cells::MAX_ROW_WEIGHT;
 use otap_columns::writer_laws::records_fit_a_message;
-use otlp_model::{MAX_ITEMS, MAX_TREE_WEIGHT, Request, Signal, items, weight};
+use otlp_model::{MAX_ITEMS, MAX_TREE_WEIGHT, Request, items, weight};
 use std::alloc::{AllocError, Global};
-use std::marker::Model;
+use std::marker::{Model, PhantomData};
 
 /// An exporter of the requests of a signal. Of a segment it keeps what decides the next messages: the columns and dictionaries
 /// of each kind of table, and the schema ids. A contract sees this state, and `StandsFor` ties it to the requests and messages.
 /// It stands for its requests with all messages that the policy allows for them
 /// ([`stands_for_all_messages`](crate::laws::stands_for_all_messages)).
 #[derive(Debug, Drop)]
-pub struct Exporter {
+pub struct Exporter<T: Tabled> {
     alloc: Global,
-    signal: Signal,
     senders: Senders,
     batches: u64,
     broken: bool,
+    tables: PhantomData<T>,
 }
 
-impl Model for Exporter {
+impl<T: Tabled> Model for Exporter<T> {
     ghost use Rattle.otap_produce.specs.Exporters.{ExporterIn};
 
     ghost Value = { ExporterIn };
 
-    ghost use Rattle.otap_produce.specs.Inside.{IsExporter, exporter_in};
+    ghost use Rattle.otap_produce.specs.Inside.{IsExporter};
 
-    ghost view = { exporter_in };
+    ghost view = { λ e. record { sent = e.senders; batches = e.batches; broken = e.broken } };
 
-    ghost invariant = { IsExporter };
+    ghost invariant = { λ e. IsExporter T.rows.signal e.senders e.batches e.broken };
 }
 
-impl Exporter {
+impl<T: Tabled> Exporter<T> {
     /// An exporter at the beginning of a segment.
-    pub fn new(alloc: Global, signal: Signal) -> Result<Exporter, AllocError>
-        ensures { IfOk result (IsNew signal) }
+    pub fn new(alloc: Global) -> Result<Exporter<T>, AllocError>
+        ensures { IfOk result (StandsFor T.rows [] []) }
     {
-        let senders = Senders::new(alloc, signal)?;
+        let senders = Senders::new(alloc, T::signal())?;
         Ok(Exporter {
             alloc,
-            signal,
             senders,
             batches: 0,
             broken: false,
+            tables: PhantomData,
         })
     }
 
     /// The batch message of one more request of the segment. A request that is too large leaves the exporter as it was; after
     /// want of memory it is broken until a reset.
-    pub fn encode<T: Tabled>(&mut self, request: &Request) -> Result<Vec<u8>, ProduceRefusal>
-        requires of_signal { self.old.signal ≡ T.rows.signal }
+    pub fn encode(&mut self, request: &Request) -> Result<Vec<u8>, ProduceRefusal>
         requires signal { signal_of request.now ≡ T.rows.signal }
         requires profile { IsProfile request.now }
         requires batches { self.old.batches < 2 ^ 40 }
         ensures exports { IfOk result (λ bytes. Exports T.rows request.now self.old self.new bytes.items) }
         ensures refuses { IfErr result (Refuses T.rows request.now self.old.broken) }
         ensures after { IfErr result (λ refusal. IsAfter refusal self.old self.new) }
-        ensures signal { self.new.signal ≡ self.old.signal }
     {
         check::<T>(self.broken, request)?;
         self.broken = true;
@@ -78,7 +76,7 @@ impl Exporter {
 
     /// Begins a new segment.
     pub fn reset(&mut self)
-        ensures { IsNew self.old.signal self.new }
+        ensures { StandsFor T.rows [] [] self.new }
     {
         self.senders.reset();
         self.batches = 0;

@@ -88,19 +88,19 @@ fn batches_and_schemas_are_counted(rt: HostRuntime) -> Result<(), Fail> {
     let plain = request(alloc, "x", None)?;
     let more = request(alloc, "y", Some("k"))?;
     assert!(rt; is_profile(&plain) && is_profile(&more));
-    let mut exporter = Exporter::new(alloc, Signal::Logs)?;
-    let first = exporter.encode::<LogTables>(&plain)?;
+    let mut exporter = Exporter::<LogTables>::new(alloc)?;
+    let first = exporter.encode(&plain)?;
     assert!(rt; is_batch(&first, 0, &[(30, "0")]));
-    let second = exporter.encode::<LogTables>(&more)?;
+    let second = exporter.encode(&more)?;
     assert!(rt; is_batch(&second, 1, &[(30, "0"), (31, "1")]));
-    let third = exporter.encode::<LogTables>(&plain)?;
+    let third = exporter.encode(&plain)?;
     assert!(rt; is_batch(&third, 2, &[(30, "0")]));
-    let fourth = exporter.encode::<LogTables>(&more)?;
+    let fourth = exporter.encode(&more)?;
     assert!(rt; is_batch(&fourth, 3, &[(30, "0"), (31, "1")]));
     assert_eq!(rt; exporter.batches(), 4);
     exporter.reset();
     assert_eq!(rt; exporter.batches(), 0);
-    let again = exporter.encode::<LogTables>(&more)?;
+    let again = exporter.encode(&more)?;
     assert!(rt; is_batch(&again, 0, &[(30, "0"), (31, "1")]));
     assert!(rt; !exporter.is_broken());
     Ok(())

@@ -6,5 +6,4 @@ returns-in-Packed g c = rw c.in-Packed.is (ok_more _ _ (frame_packed g.T.Tabled.
 
 pub returns-in-Reset : goal.returns-in-Reset
 returns-in-Reset g c =
-    let fresh = rw c.requires.history.stands.signal at c.reset.ensures in
-    rw c.in-Reset.is (ok_more _ _ (λ reply. frame_reset g.T.Tabled.rows _ _ _ reply fresh) _ c.reset-in-Reset.ensures)
+    rw c.in-Reset.is (ok_more _ _ (λ reply. frame_reset g.T.Tabled.rows _ _ _ reply c.reset.ensures) _ c.reset-in-Reset.ensures)

@@ -1,6 +1,5 @@
-use Rattle.std.proofs.Common.{◌+◌, false, refl, ap, ◌∙◌, subst, arith}
+use Rattle.std.proofs.Common.{◌+◌, false, refl, ◌∙◌, subst, arith}
 use Rattle.otap_produce.specs.Exporters.{ExporterIn, Exports}
-use Rattle.otap_produce.specs.Inside.{exporter_in}
 use Rattle.otap_produce.specs.Policy.{payloads_of}
 use Rattle.otap_produce.proofs.Batches.{history_after}
 use Rattle.otap_produce.proofs.Exporting.{exports}
@@ -19,7 +18,8 @@ invariant_of-self-2 g c =
 
 pub returns-clause-exports : goal.returns-clause-exports
 returns-clause-exports g c =
-    let new : ExporterIn = record { signal = c.self.inside.signal; sent = c.message_of.new.senders; batches = c.self.inside.batches + 1; broken = false } in
+    let old : ExporterIn = record { sent = c.self.inside.senders; batches = c.self.inside.batches; broken = c.self.inside.broken } in
+    let new : ExporterIn = record { sent = c.message_of.new.senders; batches = c.self.inside.batches + 1; broken = false } in
     subst (λ (o : ExporterIn). Exports g.T.Tabled.rows c.args.request.now o new c.in_ok-bytes.bytes.items) c.self.view_is
-    (exports g.T.Tabled.rows c.args.request.now (exporter_in c.self.inside) new c.in_ok-bytes.bytes.items (ap (λ (e : ExporterIn). e.signal) c.self.view_is ∙ c.requires.of_signal)
-    c.in_ok-check.ensures.sound c.in_ok-check.ensures.exported c.in_ok-bytes.ensures.sends refl c.in_ok-bytes.ensures.kinds refl refl)
+    (exports g.T.Tabled.rows c.args.request.now old new c.in_ok-bytes.bytes.items c.in_ok-check.ensures.sound c.in_ok-check.ensures.exported
+    c.in_ok-bytes.ensures.sends c.in_ok-bytes.ensures.kinds refl refl)
