@@ -1,8 +1,7 @@
 -- The places of a column's values in its dictionary, cell by cell.
-use Rattle.std.proofs.Common.{◌≡◌, ℕ, zero, suc, ◌+◌, ◌-◌, ◌<◌, ◌≤◌, Bool, true, false, true≢false, List, [], ◌∷◌, ◌++◌, length, take, drop, get_or, map, fold, All, Option, Some, None, refl, sym, ap, ◌∙◌, subst, arith, position, bytes_eq, replicate}
+use Rattle.std.proofs.Common.{◌≡◌, ℕ, zero, suc, ◌+◌, ◌-◌, ◌<◌, ◌≤◌, false, List, [], ◌∷◌, ◌++◌, length, take, drop, get_or, map, fold, Option, Some, None, refl, sym, ap, ◌∙◌, subst, arith, position, bytes_eq, replicate}
 use Rattle.std.proofs.lemmas.List.{length-map, map-append, take_more, take_all, take-append-drop, length-take-le}
 use Rattle.std.proofs.lemmas.List.Sums.{fold-append}
-use Rattle.std.proofs.lemmas.List.Elements.{All-append}
 use Rattle.otap_cells.specs.declared.profile.Base.{Base}
 use Rattle.otap_cells.specs.Cells.{Cell, null}
 use Rattle.otap_cells.specs.Tables.{cell_in, column_in}
@@ -13,7 +12,7 @@ use Rattle.otap_columns.specs.Observed.{bytes_for}
 use Rattle.otap_columns.specs.Seen.{observed_if, places_of}
 use Rattle.otap_columns.specs.WrittenCells.{place_in}
 use Rattle.otap_columns.proofs.ColumnsBuilt.{cell_at-map}
-use Rattle.otap_columns.proofs.SeenOn.{again_changes_nothing, cells_more, null_cell, plain_stays, seen_to_last}
+use Rattle.otap_columns.proofs.SeenOn.{again_changes_nothing, cells_more, null_cell, plain_stays}
 
 -- a value that has a place
 abbrev pub IsFound : List (List ℕ) → Option (List ℕ) → Type 0

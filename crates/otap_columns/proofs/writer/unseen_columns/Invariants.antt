@@ -1,4 +1,4 @@
-use Rattle.std.proofs.Common.{◌≡◌, []}
+use Rattle.std.proofs.Common.{[]}
 use Rattle.otap_columns.specs.Seen.{IsSeenAfter}
 use Rattle.otap_columns.specs.WrittenRows.{unseen}
 use Rattle.otap_columns.proofs.StateMade.{Made}

@@ -7,7 +7,7 @@ use Rattle.otap_columns.specs.Seen.{SeenIn, places_of}
 use Rattle.otap_columns.specs.Schemas.{is_dictionary, is_there}
 use Rattle.otap_columns.specs.WrittenCells.{column_most, stored_column, width_for}
 use Rattle.otap_columns.specs.WrittenGroups.{forms_in, member_in}
-use Rattle.otap_columns.specs.WrittenRows.{columns_in, unseen}
+use Rattle.otap_columns.specs.WrittenRows.{columns_in}
 use Rattle.otap_columns.proofs.BatchGrown.{member_grows, room_less, sizes}
 use Rattle.otap_columns.proofs.ColumnsShort.{column_short}
 use Rattle.otap_columns.proofs.PartsBuilt.{IsBuiltOf}

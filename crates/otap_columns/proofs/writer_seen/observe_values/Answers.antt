@@ -1,8 +1,7 @@
-use Rattle.std.proofs.Common.{◌≡◌, ◌<◌, ◌+◌, ◌++◌, ◌∷◌, [], List, Option, ℕ, false, length, map, arith, ap, sym, subst, ◌∙◌}
+use Rattle.std.proofs.Common.{◌≡◌, ◌<◌, ◌+◌, List, Option, ℕ, length, map, arith, ap, sym, subst, ◌∙◌}
 use Rattle.otap_cells.specs.Cells.{seen}
 use Rattle.otap_cells.specs.Columns.{base_at}
-use Rattle.otap_cells.specs.Tables.{cell_in, column_in}
-use Rattle.otap_dicts.specs.declared.form.Form.TheVariants as ladder
+use Rattle.otap_cells.specs.Tables.{column_in}
 use Rattle.otap_dicts.specs.Ladders.{is_plain}
 use Rattle.otap_columns.specs.declared.forms.ColumnForm.TheVariants as form
 use Rattle.otap_columns.specs.Observed.{bytes_for}

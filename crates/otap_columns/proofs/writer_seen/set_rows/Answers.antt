@@ -1,4 +1,4 @@
-use Rattle.std.proofs.Common.{arith, subst}
+use Rattle.std.proofs.Common.{arith}
 use Rattle.otap_columns.proofs.SeenOn.{null_beyond}
 use Rattle.otap_columns.proofs.writer_seen.set_rows.Goals as goal
 
