@@ -53,7 +53,7 @@ impl SeenColumn {
         }
     }
 
-    /// Observes a column of one table more. After want of memory it stands for no list of tables.
+    /// Observes a column of one more table. After want of memory it stands for no list of tables.
     pub(crate) fn observe(
         &mut self,
         alloc: Global,

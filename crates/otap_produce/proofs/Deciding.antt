@@ -8,8 +8,8 @@ use Rattle.std.specs.Ordering.{int_eq}
 use Rattle.std.proofs.lemmas.Bool.{cases_Bool, false≢true}
 use Rattle.std.proofs.lemmas.Grind.{flat_map-append}
 use Rattle.std.proofs.lemmas.Slice.Eq.{bytes_eq-Decides}
-use Rattle.histories.specs.EachAfter.{EachAfter}
-use Rattle.histories.proofs.Growing.{each_after-append}
+use Rattle.lists.specs.EachAfter.{EachAfter}
+use Rattle.lists.proofs.Growing.{each_after-append}
 use Rattle.otlp_model.specs.declared.request.Request.{Request}
 use Rattle.otap_cells.specs.Payload.{number_of}
 use Rattle.otap_cells.specs.Tables.{Table}
