@@ -5,7 +5,7 @@ mod checks;
 mod columns;
 mod indexes;
 pub mod laws;
-mod lists;
+mod numbers;
 mod points;
 mod reading;
 pub mod reading_laws;

@@ -11,7 +11,7 @@ ghost use Rattle.otap_metrics.specs.Tables.{CanWriteExemplar};
 ghost use Rattle.otap_hist.specs.Points.{hist_point_cells, optional_cell, sum_point_cells};
 ghost use Rattle.otap_hist.specs.Tables.{CanWriteHistPoint, CanWriteSumPoint};
 
-use crate::lists::{bytes_of, list_cell, quantile_bytes, value_bytes};
+use crate::numbers::{bytes_of, list_cell, quantile_bytes, value_bytes};
 use otap_cells::{CellView, Kind, LogicalTable, bits_cell, number_cell, octets_cell};
 use otap_groups::PartWriter;
 use otap_metrics::{double_value, id_cell, int_value};

@@ -13,7 +13,7 @@ ghost use Rattle.otap_hist.specs.Lists.{list_in};
 ghost use Rattle.otap_hist.specs.Points.{hist_point_of, optional_in, sum_point_of};
 
 use crate::columns::{hist_point, sum_point};
-use crate::lists::{numbers_in, quantiles_in};
+use crate::numbers::{numbers_in, quantiles_in};
 use crate::points::list_weight;
 use otap_cells::{CellView, Rows, bits_in, bytes_in, number_in};
 use otap_groups::{Lookup, RowReader};

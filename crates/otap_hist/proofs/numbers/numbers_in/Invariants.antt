@@ -1,7 +1,7 @@
 use Rattle.std.proofs.Common.{◌≡◌, ◌/◌, ◌++◌, length}
 use Rattle.otap_hist.specs.Lists.{numbers_in}
 use Rattle.otap_hist.proofs.ListBytes.{from}
-use Rattle.otap_hist.proofs.lists.numbers_in.Given as goal
+use Rattle.otap_hist.proofs.numbers.numbers_in.Given as goal
 
 abbrev pub invariant-numbers : goal.invariant-numbers
 invariant-numbers l = l.numbers ++ from l.bytes (length l.bytes / 8) l.place ≡ numbers_in (length l.bytes / 8) l.bytes

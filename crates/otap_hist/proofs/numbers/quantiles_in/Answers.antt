@@ -1,7 +1,7 @@
 use Rattle.std.proofs.Common.{◌*◌, ◌/◌, length, ap, ◌∙◌, arith}
 use Rattle.byteorder.specs.Endian.{little_number}
 use Rattle.otap_hist.proofs.ListBytes.{quantiles_end, quantiles_more, to_end}
-use Rattle.otap_hist.proofs.lists.quantiles_in.Goals as goal
+use Rattle.otap_hist.proofs.numbers.quantiles_in.Goals as goal
 
 pub quantiles-preserved : goal.quantiles-preserved
 quantiles-preserved c =

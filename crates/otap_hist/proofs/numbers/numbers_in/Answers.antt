@@ -1,7 +1,7 @@
 use Rattle.std.proofs.Common.{◌*◌, ap, ◌∙◌, arith}
 use Rattle.byteorder.specs.Endian.{little_number}
 use Rattle.otap_hist.proofs.ListBytes.{one_more, to_end}
-use Rattle.otap_hist.proofs.lists.numbers_in.Goals as goal
+use Rattle.otap_hist.proofs.numbers.numbers_in.Goals as goal
 
 pub numbers-preserved : goal.numbers-preserved
 numbers-preserved c =

@@ -2,7 +2,7 @@ use Rattle.std.proofs.Common.{◌≡◌, ◌/◌, ◌++◌, length}
 use Rattle.otap_hist.specs.Lists.{numbers_in}
 use Rattle.otap_hist.specs.Points.{quantiles_of}
 use Rattle.otap_hist.proofs.ListBytes.{from}
-use Rattle.otap_hist.proofs.lists.quantiles_in.Given as goal
+use Rattle.otap_hist.proofs.numbers.quantiles_in.Given as goal
 
 abbrev pub invariant-quantiles : goal.invariant-quantiles
 invariant-quantiles l = l.found ++ quantiles_of (from l.quantiles (length l.quantiles / 8) l.place) (from l.values (length l.values / 8) l.place)
