@@ -38,7 +38,7 @@ def run_cut_off(program, words, given):
 
 
 def wrong_reads(program, job, every):
-    """The numbers of bytes after which a failing read is answered otherwise than by what the whole frames give."""
+    """The numbers of bytes after which a failing read gives something other than what the whole frames give."""
     begins = ends(job.capture)
     whole = {place: run(program, Job(job.words, job.capture[:place])) for place in begins}
     tried = places(len(job.capture) + 1, every, begins)
@@ -51,7 +51,7 @@ def wrong_reads(program, job, every):
 
 
 def run_full(program, job, most, of_out):
-    """The job whose output, or else whose errors, go to a file that may have so many bytes."""
+    """The job whose output, or else whose errors, go to a file that may have `most` bytes."""
     with tempfile.TemporaryFile() as file:
         done = run_within(program, job, {resource.RLIMIT_FSIZE: most}, **{"out" if of_out else "err": file})
         file.seek(0)
@@ -59,7 +59,7 @@ def run_full(program, job, most, of_out):
 
 
 def wrong_writes(program, job, every, of_out):
-    """The numbers of bytes after which a failing write is answered otherwise than by a front of both texts."""
+    """The numbers of bytes after which a failing write gives something other than a front of both texts."""
     all_of_it = run(program, job)
     text, other = (all_of_it.out, all_of_it.err) if of_out else (all_of_it.err, all_of_it.out)
     tried = places(len(text), every)
