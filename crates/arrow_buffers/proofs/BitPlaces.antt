@@ -17,7 +17,7 @@ pushes count bit old new packed len bits = record {
 }
 
 -- bit i of a byte
-bit_in : ℕ → ℕ → Bool
+unfoldable pub bit_in : ℕ → ℕ → Bool
 bit_in byte i = byte / 2 ^ i % 2 == 1
 
 byte_of : Bool → ℕ
@@ -54,7 +54,7 @@ unfolding bit_at
 bit_at-past bytes k past = rw (get_or_past bytes (k / 8) 0 past, bit_at-zero (k % 8)) refl
 
 -- a bit of a byte that is there
-bit_at-in : (bytes : List ℕ) (k byte : ℕ) → get_or bytes (k / 8) 0 ≡ byte → bit_at bytes k ≡ bit_in byte (k % 8)
+pub bit_at-in : (bytes : List ℕ) (k byte : ℕ) → get_or bytes (k / 8) 0 ≡ byte → bit_at bytes k ≡ bit_in byte (k % 8)
 unfolding bit_at bit_in
 bit_at-in bytes k byte is = rw is refl
 

@@ -1,23 +1,23 @@
 -- A column without cells, and one that ends.
-use Rattle.std.proofs.Common.{◌≡◌, ℕ, ◌+◌, ◌*◌, ◌/◌, ◌<◌, ◌≤◌, ◌==◌, ◌&&◌, if◌then◌else◌, Bool, true, false, pos, List, [], length, is_none, Option, Some, None, Ok, get_or, refl, sym, ap, inl, inr, arith}
-use Rattle.std.proofs.lemmas.Bool.{cases_eq, cond-true, cond-false, eq-eqb, ne_eqb, le-ltb, and_right}
-use Rattle.std.proofs.lemmas.List.Sums.{get_or-le-sum_by}
+use Rattle.std.proofs.Common.{◌≡◌, ℕ, ◌+◌, ◌*◌, ◌/◌, ◌≤◌, ◌==◌, ◌&&◌, false, pos, List, [], length, Ok, refl, sym, ap, ◌∙◌, inl, inr, arith}
+use Rattle.std.proofs.lemmas.Bool.{cases_eq, cond-false, ne_eqb, le-ltb, and_right}
 use Rattle.std.proofs.Math.Nat.{zero-div, zero-mod}
 use Rattle.arrow_buffers.specs.declared.width.Width.{Width}
 use Rattle.arrow_buffers.specs.declared.width.Width.TheVariants.{Bit, Fixed, Var}
 use Rattle.arrow_buffers.specs.declared.width.Width.TheVariants as width
-use Rattle.arrow_buffers.specs.Bits.{is_valid, bits_of, validity_of}
+use Rattle.arrow_buffers.specs.Bits.{bits_of, validity_of}
 use Rattle.arrow_buffers.specs.Fixed.{fixed_of}
 use Rattle.arrow_buffers.specs.Offsets.{offset_at, offsets_check}
 use Rattle.arrow_buffers.specs.Lists.{lists_of}
 use Rattle.arrow_buffers.specs.Vars.{vars_of}
 use Rattle.arrow_buffers.specs.Packed.{IsPacked}
-use Rattle.arrow_buffers.specs.Columns.{HasElements, HasNoFault, cell_at, cells_of, offsets_len, value_at, values_len}
-use Rattle.arrow_buffers.specs.Building.{ended, ended_offsets, cells_so_far, HasSpans, HasValues, IsBuilt}
+use Rattle.arrow_buffers.specs.Flags.{HasFlags}
+use Rattle.arrow_buffers.specs.Columns.{HasElements, HasNoFault, cells_of, offsets_len, validity_len, values_len}
+use Rattle.arrow_buffers.specs.Building.{ended, ended_offsets, HasSpans, HasValues, IsBuilt}
 use Rattle.arrow_buffers.proofs.BitPlaces.{bit_at-past}
 use Rattle.arrow_buffers.proofs.Placing.{length-ended, offset_at-end}
 use Rattle.arrow_buffers.proofs.Spans.{fine-from}
-use Rattle.arrow_buffers.proofs.Growing.{get_or-cells_of, length-cells_of, nulls-le, same-below}
+use Rattle.arrow_buffers.proofs.Growing.{nulls-le}
 
 -- no bits
 packed-none : IsPacked 0 []
@@ -51,51 +51,30 @@ pub built-none : (width : Width) → HasElements width → IsBuilt width 0 0 [] 
 unfolding cells_of
 built-none width some = record {
   few = omega arith;
-  bitmap = packed-none;
+  flags = record { none = λ _. refl; some = λ some. absurd (omega arith) };
   stored = values-none width some;
   lengths = lengths-none width;
   counted = refl;
 }
 
--- a cell that is not counted as null is valid
-valid-from : (valid : Bool) (value : List ℕ) → (if is_none (if valid then Some value else None) then 1 else 0) ≤ 0 → valid ≡ true
-valid-from true value none = refl
-valid-from false value none = absurd (omega arith)
-
--- without nulls the bitmap may be left out
-pub reads-needed : (width : Width) (rows nulls : ℕ) (bitmap offsets values : List ℕ) → IsBuilt width rows nulls bitmap offsets values
-    → cells_of width (if nulls == 0 then [] else bitmap) (ended_offsets width offsets values) values rows ≡ cells_so_far width bitmap offsets values rows
-unfolding cells_of
-reads-needed width rows nulls bitmap offsets values built =
-    let ended = ended_offsets width offsets values in
-    let cells = cells_so_far width bitmap offsets values rows in
-    let cell : ℕ → Option (List ℕ) = cell_at width bitmap ended values in
-    let weight : Option (List ℕ) → ℕ = λ c. if is_none c then 1 else 0 in
+-- the bitmap of a column that ends
+pub bitmap-ends : (width : Width) (rows nulls : ℕ) (bitmap offsets values : List ℕ) → IsBuilt width rows nulls bitmap offsets values
+    → validity_of bitmap rows (pos nulls) ≡ Ok (record { bytes = bitmap; rows = rows })
+unfolding validity_of bits_of
+bitmap-ends width rows nulls bitmap offsets values built =
+    let le = nulls-le width rows nulls bitmap offsets values built in
     elim (cases_eq nulls 0) [
-      | inl none ↦
-          let all : (k : ℕ) → k < rows → cell_at width [] ended values k ≡ cell k =
-          λ k below.
-          let count = length-cells_of width bitmap ended values rows in
-          let is = get_or-cells_of width bitmap ended values rows k None below in
-          let one = get_or-le-sum_by weight cells k None (omega arith) in
-          let counted = built.counted in
-          let none_at : weight (get_or cells k None) ≤ 0 = omega arith in
-          let light : weight (cell k) ≤ 0 = rw is at none_at in
-          let valid : is_valid bitmap k ≡ true = valid-from (is_valid bitmap k) (value_at width ended values k) light in
-          ap (λ (v : Bool). if v then Some (value_at width ended values k) else None) (sym valid) in
-          rw (cond-true (nulls == 0) [] bitmap (eq-eqb nulls 0 none)) (same-below (cell_at width [] ended values) cell rows None all)
-      | inr some ↦ rw (cond-false (nulls == 0) [] bitmap (ne_eqb nulls 0 some)) refl
+      | inl none ↦ rw (built.flags.none none, none) refl
+      | inr some ↦
+          let len = (built.flags.some (omega arith)).len in
+          rw (ne_eqb (length bitmap) 0 (omega arith), le-ltb (length bitmap * 8) rows (omega arith)) refl
     ]
 
-pub bitmap-needed : (width : Width) (rows nulls : ℕ) (bitmap offsets values : List ℕ) → IsBuilt width rows nulls bitmap offsets values
-    → validity_of (if nulls == 0 then [] else bitmap) rows (pos nulls) ≡ Ok (record { bytes = if nulls == 0 then [] else bitmap; rows = rows })
-unfolding validity_of bits_of
-bitmap-needed width rows nulls bitmap offsets values built =
-    let le = nulls-le width rows nulls bitmap offsets values built in
-    let len = built.bitmap.len in
+pub bitmap-len : (nulls rows : ℕ) (bitmap : List ℕ) → HasFlags nulls rows bitmap → length bitmap ≡ validity_len nulls rows
+bitmap-len nulls rows bitmap flags =
     elim (cases_eq nulls 0) [
-      | inl none ↦ rw none refl
-      | inr some ↦ rw (ne_eqb nulls 0 some, ne_eqb (length bitmap) 0 (omega arith), le-ltb (length bitmap * 8) rows (omega arith)) refl
+      | inl none ↦ rw (flags.none none, none) refl
+      | inr some ↦ (flags.some (omega arith)).len ∙ sym (cond-false (nulls == 0) 0 ((rows + 7) / 8) (ne_eqb nulls 0 some))
     ]
 
 -- offsets that end here have no fault

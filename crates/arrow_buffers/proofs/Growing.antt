@@ -1,13 +1,14 @@
 -- One more cell: the column with it.
-use Rattle.std.proofs.Common.{◌≡◌, ℕ, ◌+◌, ◌^◌, ◌<◌, ◌≤◌, ◌==◌, if◌then◌else◌, Bool, true, List, [], ◌∷◌, ◌++◌, length, get_or, map, is_some, is_none, Option, Some, None, refl, sym, ap, ◌∙◌, arith}
+use Rattle.std.proofs.Common.{◌≡◌, ℕ, ◌+◌, ◌^◌, ◌<◌, ◌≤◌, ◌==◌, if◌then◌else◌, Bool, true, List, [], ◌∷◌, ◌++◌, length, get_or, map, is_some, is_none, Option, Some, None, refl, ap, ◌∙◌, arith}
 use Rattle.std.specs.List.{range_with_len}
 use Rattle.std.specs.Option.{ForSome}
-use Rattle.std.proofs.lemmas.Bool.{cond-true, cond-false, eq-eqb, ne_eqb}
+use Rattle.std.proofs.lemmas.Bool.{cond-false, ne_eqb}
 use Rattle.std.proofs.lemmas.List.FromFn.{fill_by_all, length-map-range_with_len, get_or-map-range_with_len, map-range_with_len_more}
 use Rattle.std.proofs.lemmas.List.Sums.{count_by-le-length, sum_by_push}
 use Rattle.arrow_buffers.specs.declared.width.Width.{Width}
 use Rattle.arrow_buffers.specs.Bits.{bit_at, is_valid}
-use Rattle.arrow_buffers.specs.Packed.{IsPacked, PushesBit}
+use Rattle.arrow_buffers.specs.Packed.{IsPacked}
+use Rattle.arrow_buffers.specs.Flags.{PushesFlag}
 use Rattle.arrow_buffers.specs.Columns.{cell_at, cells_of, value_at}
 use Rattle.arrow_buffers.specs.Building.{ended_offsets, cells_so_far, IsBuilt, PushesValue}
 
@@ -46,32 +47,33 @@ unfolding cell_by
 cell-there None valid value is same = rw is refl
 cell-there (Some v) valid value is same = rw (is, same v refl) refl
 
-pub cells-next : (width : Width) (rows : ℕ) (cell : Option (List ℕ)) (bitmap offsets values new_bitmap new_offsets new_values : List ℕ) → IsPacked rows bitmap
-    → PushesBit rows (is_some cell) bitmap new_bitmap → PushesValue width rows cell offsets values new_offsets new_values
+-- a row with a value is one that is not null
+null-count : (cell : Option (List ℕ)) → ◌≡◌ {A = ℕ} (if is_some cell then 0 else 1) (if is_none cell then 1 else 0)
+null-count None = refl
+null-count (Some value) = refl
+
+pub cells-next : (width : Width) (rows nulls : ℕ) (cell : Option (List ℕ)) (bitmap offsets values new_bitmap new_offsets new_values : List ℕ)
+    → PushesFlag nulls rows (is_some cell) bitmap new_bitmap → PushesValue width rows cell offsets values new_offsets new_values
     → cells_so_far width new_bitmap new_offsets new_values (rows + 1) ≡ cells_so_far width bitmap offsets values rows ++ cell ∷ []
 unfolding cell_by cells_of
-cells-next width rows cell bitmap offsets values new_bitmap new_offsets new_values packed bit value =
+cells-next width rows nulls cell bitmap offsets values new_bitmap new_offsets new_values flag value =
     let old : ℕ → Option (List ℕ) = cell_at width bitmap (ended_offsets width offsets values) values in
     let new : ℕ → Option (List ℕ) = cell_at width new_bitmap (ended_offsets width new_offsets new_values) new_values in
     let before : (k : ℕ) → k < rows → new k ≡ old k =
     λ k below.
-    let is : is_valid new_bitmap k ≡ is_valid bitmap k =
-    is_valid-bit (rows + 1) k new_bitmap bit.packed (omega arith) ∙ bit.bits k ∙ cond-false (k == rows) (is_some cell) (bit_at bitmap k) (ne_eqb k rows (omega arith)) ∙ sym (is_valid-bit rows k bitmap packed below) in
-    ap (λ (v : Bool). cell_by v (value_at width (ended_offsets width new_offsets new_values) new_values k)) is ∙ ap (cell_by (is_valid bitmap k)) (value.before k below) in
-    let is : is_valid new_bitmap rows ≡ is_some cell =
-    is_valid-bit (rows + 1) rows new_bitmap bit.packed (omega arith) ∙ bit.bits rows ∙ cond-true (rows == rows) (is_some cell) (bit_at bitmap rows) (eq-eqb rows rows refl) in
-    one-more new old rows cell before (cell-there cell (is_valid new_bitmap rows) (value_at width (ended_offsets width new_offsets new_values) new_values rows) is value.there)
+    ap (λ (v : Bool). cell_by v (value_at width (ended_offsets width new_offsets new_values) new_values k)) (flag.before k below) ∙ ap (cell_by (is_valid bitmap k)) (value.before k below) in
+    one-more new old rows cell before (cell-there cell (is_valid new_bitmap rows) (value_at width (ended_offsets width new_offsets new_values) new_values rows) flag.there value.there)
 
 pub built-next : (width : Width) (rows nulls : ℕ) (cell : Option (List ℕ)) (bitmap offsets values new_bitmap new_offsets new_values : List ℕ) → rows + 1 < 2 ^ 63
-    → IsBuilt width rows nulls bitmap offsets values → PushesBit rows (is_some cell) bitmap new_bitmap → PushesValue width rows cell offsets values new_offsets new_values
+    → IsBuilt width rows nulls bitmap offsets values → PushesFlag nulls rows (is_some cell) bitmap new_bitmap → PushesValue width rows cell offsets values new_offsets new_values
     → IsBuilt width (rows + 1) (nulls + (if is_none cell then 1 else 0)) new_bitmap new_offsets new_values
-built-next width rows nulls cell bitmap offsets values new_bitmap new_offsets new_values few built bit value =
-    let next = cells-next width rows cell bitmap offsets values new_bitmap new_offsets new_values built.bitmap bit value in
+built-next width rows nulls cell bitmap offsets values new_bitmap new_offsets new_values few built flag value =
+    let next = cells-next width rows nulls cell bitmap offsets values new_bitmap new_offsets new_values flag value in
     let cells = cells_so_far width bitmap offsets values rows in
     let count = length-cells_of width bitmap (ended_offsets width offsets values) values rows in
     record {
       few = few;
-      bitmap = bit.packed;
+      flags = rw (null-count cell) at flag.flags;
       stored = value.stored;
       lengths = rw next (value.grown cells count built.lengths);
       counted = rw (next, sum_by_push (λ c. if is_none c then 1 else 0) cells cell) (ap (λ n. n + (if is_none cell then 1 else 0)) built.counted);

@@ -3,6 +3,7 @@ pub mod CellLaws
 pub mod EachBelow
 pub mod Ending
 pub mod Faults
+pub mod Flagging
 pub mod Growing
 pub mod Joining
 pub mod Placing

@@ -5,6 +5,7 @@ use Rattle.arrow_buffers.specs.declared.width.Width.{Width}
 use Rattle.arrow_buffers.specs.declared.width.Width.TheVariants.{Bit, Fixed, Var}
 use Rattle.arrow_buffers.specs.declared.width.Width.TheVariants as width
 use Rattle.arrow_buffers.specs.Below.{all_below}
+use Rattle.arrow_buffers.specs.Flags.{HasFlags}
 use Rattle.arrow_buffers.specs.Offsets.{is_fine_at, offset_bytes}
 use Rattle.arrow_buffers.specs.Packed.{IsPacked}
 use Rattle.arrow_buffers.specs.Columns.{cells_of, value_at, values_len}
@@ -56,7 +57,7 @@ cells_so_far width validity offsets values rows =
 -- all of them together
 pub record IsBuilt (width : Width) (rows nulls : ℕ) (validity offsets values : List ℕ) : Type 0 where
   pub few : rows < 2 ^ 63
-  pub bitmap : IsPacked rows validity
+  pub flags : HasFlags nulls rows validity
   pub stored : HasValues width rows offsets values
   pub lengths : length values ≡ values_len width (cells_so_far width validity offsets values rows)
   pub counted : nulls ≡ count_by is_none (cells_so_far width validity offsets values rows)

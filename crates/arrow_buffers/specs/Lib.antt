@@ -3,6 +3,7 @@ pub mod Bits
 pub mod Building
 pub mod Columns
 pub mod Fixed
+pub mod Flags
 pub mod Lists
 pub mod Offsets
 pub mod Packed

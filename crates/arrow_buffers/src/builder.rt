@@ -1,11 +1,12 @@
-ghost use Rattle.std.specs.Prelude.{◌≡◌, ◌+◌, ◌^◌, ◌<◌, ◌==◌, if◌then◌else◌, [], ◌∷◌, ◌++◌, length, count_by, is_none, pos, Ok, IfOk, OnOk, OnErr};
+ghost use Rattle.std.specs.Prelude.{◌≡◌, ◌+◌, ◌^◌, ◌<◌, [], ◌∷◌, ◌++◌, length, count_by, is_none, pos, Ok, IfOk, OnOk, OnErr};
 ghost use Rattle.std.specs.Option.{ForSome, option_copied};
 ghost use Rattle.arrow_buffers.specs.Bits.{validity_of};
 ghost use Rattle.arrow_buffers.specs.Columns.{HasElements, HasWidth, HasNoFault, cell_len, cells_len, cells_of, is_one, validity_len, offsets_len, values_len};
 ghost use Rattle.arrow_buffers.specs.Building.{HasValues, OffsetsFit, PushesValue, ended_offsets};
 
 use crate::Width;
-use crate::packing::{push_bit, push_offset, push_part, push_span};
+use crate::flags::{push_flag, reserve_flag};
+use crate::packing::{push_bit, push_offset, push_part, push_span, reserve_bit};
 use std::alloc::{AllocError, Global};
 use std::marker::Model;
 
@@ -28,6 +29,7 @@ pub struct ColumnBuilder {
     width: Width,
     rows: u64,
     nulls: u64,
+    /// Without bytes until the first null.
     validity: Vec<u8>,
     /// Where each value begins. The end of the last is only known when the column ends.
     offsets: Vec<u8>,
@@ -75,7 +77,8 @@ impl ColumnBuilder {
         if self.rows == MAX_ROWS {
             return Err(AllocError);
         }
-        self.validity.reserve(1)?;
+        let valid = cell.is_some();
+        reserve_flag(&mut self.validity, self.nulls, self.rows, valid)?;
         push_value(
             self.width,
             self.rows,
@@ -83,7 +86,7 @@ impl ColumnBuilder {
             &mut self.offsets,
             &mut self.values,
         )?;
-        push_bit(&mut self.validity, self.rows, cell.is_some());
+        push_flag(&mut self.validity, self.nulls, self.rows, valid);
         self.rows += 1;
         self.nulls += u64::from(cell.is_none());
         Ok(())
@@ -114,7 +117,6 @@ impl ColumnBuilder {
             values,
         } = self;
         let offsets = end_offsets(width, offsets, values.as_slice())?;
-        let validity = needed_bitmap(validity, nulls);
         Ok(Buffers {
             rows,
             nulls,
@@ -141,7 +143,7 @@ fn push_value(
 {
     match width {
         Width::Bit => {
-            values.reserve(1)?;
+            reserve_bit(values, rows)?;
             push_bit(values, rows, is_one(cell));
             Ok(())
         }
@@ -177,14 +179,4 @@ fn end_offsets(width: Width, mut offsets: Vec<u8>, values: &[u8]) -> Result<Vec<
             Ok(offsets)
         }
     }
-}
-
-/// The bitmap, without its bytes where nothing is null.
-fn needed_bitmap(mut validity: Vec<u8>, nulls: u64) -> Vec<u8>
-    ensures { result.items ≡ (if nulls == 0 then [] else validity.items) }
-{
-    if nulls == 0 {
-        validity.clear();
-    }
-    validity
 }

@@ -5,6 +5,7 @@ mod bits;
 mod builder;
 mod fault;
 mod fixed;
+mod flags;
 pub mod laws;
 mod lists;
 mod offsets;

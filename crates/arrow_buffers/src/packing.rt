@@ -1,17 +1,27 @@
 //! Parts of buffers that grow: bits, offsets and values after those that are there.
 
-ghost use Rattle.std.specs.Prelude.{◌≡◌, ◌+◌, ◌/◌, ◌^◌, ◌<◌, ◌≤◌, [], ◌++◌, length, vec_len, vec_capacity, OnOk, OnErr, IsOk, unwrap_or, replicate};
+ghost use Rattle.std.specs.Prelude.{◌≡◌, ℕ, true, ◌+◌, ◌/◌, ◌^◌, ◌<◌, ◌≤◌, [], ◌++◌, length, vec_len, vec_capacity, OnOk, OnErr, IsOk, unwrap_or, replicate};
 ghost use Rattle.std.specs.Option.{option_copied};
+ghost use Rattle.arrow_buffers.specs.Bits.{bit_at};
 ghost use Rattle.arrow_buffers.specs.Offsets.{offset_bytes};
 ghost use Rattle.arrow_buffers.specs.Packed.{IsPacked, PushesBit};
 
 use byteorder::{ByteOrder, LittleEndian};
 use std::alloc::AllocError;
 
-/// Puts a bit after the first `count`. There is room for one more byte.
+/// Makes room for the bit after the first `count`.
+pub(crate) fn reserve_bit(bytes: &mut Vec<u8>, count: u64) -> Result<(), AllocError>
+    ensures items { bytes.new.items ≡ bytes.old.items }
+    ensures ok { OnOk result (count / 8 < vec_capacity bytes.new) }
+{
+    let len = (count / 8) as usize + 1;
+    bytes.reserve(len.saturating_sub(bytes.len()))
+}
+
+/// Puts a bit after the first `count`. There is room for it.
 pub(crate) fn push_bit(bytes: &mut Vec<u8>, count: u64, bit: bool)
     requires packed { IsPacked count bytes.old.items }
-    requires room { vec_len bytes.old < vec_capacity bytes.old }
+    requires room { count / 8 < vec_capacity bytes.old }
     ensures { PushesBit count bit bytes.old.items bytes.new.items }
 {
     let place = count % 8;
@@ -20,6 +30,22 @@ pub(crate) fn push_bit(bytes: &mut Vec<u8>, count: u64, bit: bool)
     } else if bit {
         let last = bytes.len() - 1;
         bytes[last] |= 1 << place;
+    }
+}
+
+/// Puts `count` bits that are 1 where there are none yet. There is room for them.
+pub(crate) fn fill_ones(bytes: &mut Vec<u8>, count: u64)
+    requires none { bytes.old.items ≡ [] }
+    requires room { count / 8 < vec_capacity bytes.old }
+    ensures packed { IsPacked count bytes.new.items }
+    ensures ones { (k : ℕ) → k < count → bit_at bytes.new.items k ≡ true }
+    ensures room { vec_capacity bytes.old ≤ vec_capacity bytes.new }
+{
+    let filled = bytes.resize((count / 8) as usize, u8::MAX);
+    prove!(filled.is_ok());
+    let rest = count % 8;
+    if rest != 0 {
+        bytes.push_reserved((1 << rest) - 1);
     }
 }
 

@@ -1,6 +1,6 @@
-use Rattle.std.proofs.Common.{sym}
+use Rattle.std.proofs.Common.{refl, sym}
 use Rattle.arrow_buffers.specs.Building.{ended_offsets}
-use Rattle.arrow_buffers.proofs.Ending.{reads-needed, bitmap-needed, no-fault, offsets_len-ended}
+use Rattle.arrow_buffers.proofs.Ending.{bitmap-ends, bitmap-len, no-fault, offsets_len-ended}
 use Rattle.arrow_buffers.proofs.Growing.{length-cells_of}
 use Rattle.arrow_buffers.proofs.builder.ColumnBuilder.finish.Goals as goal
 
@@ -11,14 +11,17 @@ returns-clause-rows c =
 
 pub returns-clause-reads : goal.returns-clause-reads
 returns-clause-reads c =
-    let b = c.self.inside in
-    let reads = reads-needed b.width b.rows b.nulls b.validity.items b.offsets.items b.values.items c.self.invariant in
-    rw (← c.self.view_is, c.needed_bitmap-validity.ensures, c.in_ok-offsets.ensures, c.as_slice.ensures.value) reads
+    rw (← c.self.view_is, c.in_ok-offsets.ensures, c.as_slice.ensures.value) refl
 
 pub returns-clause-bitmap : goal.returns-clause-bitmap
 returns-clause-bitmap c =
     let b = c.self.inside in
-    rw c.needed_bitmap-validity.ensures (bitmap-needed b.width b.rows b.nulls b.validity.items b.offsets.items b.values.items c.self.invariant)
+    bitmap-ends b.width b.rows b.nulls b.validity.items b.offsets.items b.values.items c.self.invariant
+
+pub returns-clause-validity_len : goal.returns-clause-validity_len
+returns-clause-validity_len c =
+    let b = c.self.inside in
+    bitmap-len b.nulls b.rows b.validity.items c.self.invariant.flags
 
 pub returns-clause-no_fault : goal.returns-clause-no_fault
 returns-clause-no_fault c =

@@ -1,7 +1,7 @@
 use Rattle.std.proofs.Common.{◌≡◌, ◌≤◌, Bool, true, false, not, is_some, is_none, if◌then◌else◌, List, ℕ, Option, Some, None, Bor, refl, ap, arith}
 use mir.Val.{bool_byte}
 use Rattle.std.specs.Option.{option_copied}
-use Rattle.arrow_buffers.specs.Packed.{PushesBit}
+use Rattle.arrow_buffers.specs.Flags.{PushesFlag}
 use Rattle.arrow_buffers.proofs.Growing.{built-next, cells-next, nulls-le}
 use Rattle.arrow_buffers.proofs.builder.ColumnBuilder.push.Goals as goal
 
@@ -32,17 +32,17 @@ pub invariant_of-self-2 : goal.invariant_of-self-2
 invariant_of-self-2 c =
     let inside = c.self.inside in
     let few = c.self.invariant.few in
-    let bit : PushesBit inside.rows (is_some (option_copied c.args.cell)) inside.validity.items c.push_bit.new.bytes.items = rw
-    (c.is_some.ensures, is_some-copied c.args.cell, c.reserve.ensures.items) at c.push_bit.ensures in
+    let flag : PushesFlag inside.nulls inside.rows (is_some (option_copied c.args.cell)) inside.validity.items c.push_flag.new.bitmap.items = rw
+    (c.is_some-valid.ensures, is_some-copied c.args.cell, c.reserve_flag.ensures.items) at c.push_flag.ensures in
     rw (c.from.ensures, null-byte c.args.cell c.is_none.result c.is_none.ensures) (built-next inside.width inside.rows inside.nulls
-    (option_copied c.args.cell) inside.validity.items inside.offsets.items inside.values.items c.push_bit.new.bytes.items c.push_value.new.offsets.items c.push_value.new.values.items
-    (omega arith) c.self.invariant bit c.in_ok-push_value.ensures.ok)
+    (option_copied c.args.cell) inside.validity.items inside.offsets.items inside.values.items c.push_flag.new.bitmap.items c.push_value.new.offsets.items c.push_value.new.values.items
+    (omega arith) c.self.invariant flag c.in_ok-push_value.ensures.ok)
 
 pub returns-clause-ok : goal.returns-clause-ok
 returns-clause-ok c =
     let inside = c.self.inside in
-    let bit : PushesBit inside.rows (is_some (option_copied c.args.cell)) inside.validity.items c.push_bit.new.bytes.items = rw
-    (c.is_some.ensures, is_some-copied c.args.cell, c.reserve.ensures.items) at c.push_bit.ensures in
-    let next = cells-next inside.width inside.rows (option_copied c.args.cell) inside.validity.items inside.offsets.items inside.values.items
-    c.push_bit.new.bytes.items c.push_value.new.offsets.items c.push_value.new.values.items c.self.invariant.bitmap bit c.in_ok-push_value.ensures.ok in
+    let flag : PushesFlag inside.nulls inside.rows (is_some (option_copied c.args.cell)) inside.validity.items c.push_flag.new.bitmap.items = rw
+    (c.is_some-valid.ensures, is_some-copied c.args.cell, c.reserve_flag.ensures.items) at c.push_flag.ensures in
+    let next = cells-next inside.width inside.rows inside.nulls (option_copied c.args.cell) inside.validity.items inside.offsets.items inside.values.items
+    c.push_flag.new.bitmap.items c.push_value.new.offsets.items c.push_value.new.values.items flag c.in_ok-push_value.ensures.ok in
     rw (← c.self.view_is) (ap (λ cells. record { width = inside.width; cells = cells }) next)
