@@ -28,6 +28,13 @@ pub record HasSpans (element rows : ℕ) (offsets values : List ℕ) : Type 0 wh
   pub fits : length values < 2 ^ 31
   pub fine : all_below (is_fine_at element (ended element offsets values) values) (rows + 1) ≡ true
 
+-- how long the values of some rows are where each has the same width
+abbrev pub sized_len : Width → ℕ → ℕ
+sized_len Bit rows = (rows + 7) / 8
+sized_len (Fixed width) rows = rows * width
+sized_len Var rows = 0
+sized_len (width.List element) rows = 0
+
 -- the buffers have a value for each of the rows
 abbrev pub HasValues : Width → ℕ → List ℕ → List ℕ → Type 0
 HasValues Bit rows offsets values = (offsets ≡ []) × IsPacked rows values

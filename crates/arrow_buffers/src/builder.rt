@@ -1,8 +1,8 @@
-ghost use Rattle.std.specs.Prelude.{◌≡◌, ◌+◌, ◌^◌, ◌<◌, [], ◌∷◌, ◌++◌, length, count_by, is_none, pos, Ok, IfOk, OnOk, OnErr};
+ghost use Rattle.std.specs.Prelude.{◌≡◌, ◌+◌, ◌-◌, ◌^◌, ◌<◌, min, [], ◌∷◌, ◌++◌, length, count_by, is_none, pos, Ok, IfOk, OnOk, OnErr};
 ghost use Rattle.std.specs.Option.{ForSome, option_copied};
 ghost use Rattle.arrow_buffers.specs.Bits.{validity_of};
 ghost use Rattle.arrow_buffers.specs.Columns.{HasElements, HasWidth, HasNoFault, cell_len, cells_len, cells_of, is_one, validity_len, offsets_len, values_len};
-ghost use Rattle.arrow_buffers.specs.Building.{HasValues, OffsetsFit, PushesValue, ended_offsets};
+ghost use Rattle.arrow_buffers.specs.Building.{HasValues, OffsetsFit, PushesValue, ended_offsets, sized_len};
 
 use crate::Width;
 use crate::flags::{push_flag, reserve_flag};
@@ -62,6 +62,25 @@ impl ColumnBuilder {
             offsets: Vec::new(alloc),
             values: Vec::new(alloc),
         }
+    }
+
+    /// A column without cells, with room for the values of some rows, or for their offsets where the
+    /// values differ in length: neither is moved while no more cells are pushed.
+    #[tactic(auto, unfolding(crate::specs::Columns::cells_of))]
+    pub fn for_rows(alloc: Global, width: Width, rows: usize) -> Result<ColumnBuilder, AllocError>
+        requires { HasElements width }
+        ensures { IfOk result (λ c. c ≡ record { width = width; cells = [] }) }
+    {
+        let offsets = Vec::with_capacity(alloc, offsets_room(width, rows))?;
+        let values = Vec::with_capacity(alloc, values_room(width, rows))?;
+        Ok(ColumnBuilder {
+            width,
+            rows: 0,
+            nulls: 0,
+            validity: Vec::new(alloc),
+            offsets,
+            values,
+        })
     }
 
     /// Adds a cell after the others; `None` is null. The cell has the column's width, and the
@@ -124,6 +143,27 @@ impl ColumnBuilder {
             offsets,
             values,
         })
+    }
+}
+
+/// How many bytes the offsets of some rows have, as far as that can be counted.
+fn offsets_room(width: Width, rows: usize) -> usize
+    ensures { result ≡ min (offsets_len width rows) (2 ^ 64 - 1) }
+{
+    match width {
+        Width::Bit | Width::Fixed(_) => 0,
+        Width::Var | Width::List(_) => rows.saturating_add(1).saturating_mul(4),
+    }
+}
+
+/// How many bytes the values of some rows have, where that doesn't depend on the values.
+fn values_room(width: Width, rows: usize) -> usize
+    ensures { result ≡ min (sized_len width rows) (2 ^ 64 - 1) }
+{
+    match width {
+        Width::Bit => rows.div_ceil(8),
+        Width::Fixed(width) => rows.saturating_mul(width as usize),
+        Width::Var | Width::List(_) => 0,
     }
 }
 

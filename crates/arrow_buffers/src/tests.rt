@@ -88,6 +88,27 @@ fn writes_columns_of_the_format(rt: HostRuntime) -> Result<(), Fail> {
 }
 
 #[test]
+fn makes_room_for_rows(rt: HostRuntime) -> Result<(), Fail> {
+    let mut ints = ColumnBuilder::for_rows(rt.alloc(), Width::Fixed(4), 2)?;
+    ints.push(Some(&[1, 0, 0, 0]))?;
+    ints.push(Some(&[2, 0, 0, 0]))?;
+    let ints = ints.finish()?;
+    assert_eq!(rt; ints.values.len(), 8);
+    assert_eq!(rt; ints.values.capacity(), 8);
+
+    let mut names = ColumnBuilder::for_rows(rt.alloc(), Width::Var, 2)?;
+    names.push(Some(b"joe"))?;
+    names.push(None)?;
+    let names = names.finish()?;
+    assert_eq!(rt; names.offsets.len(), 12);
+    assert_eq!(rt; names.offsets.capacity(), 12);
+
+    let too_many = ColumnBuilder::for_rows(rt.alloc(), Width::Fixed(4), usize::MAX);
+    assert!(rt; too_many.is_err());
+    Ok(())
+}
+
+#[test]
 fn writes_lists_of_the_format(rt: HostRuntime) -> Result<(), Fail> {
     let mut lists = ColumnBuilder::new(rt.alloc(), Width::List(1));
     lists.push(Some(&[12, 249, 25]))?;
