@@ -73,8 +73,26 @@ pub(crate) fn push_part(
     ensures err { OnErr result (values.new.items ≡ values.old.items) }
 {
     match cell {
-        Some(part) => values.extend_from_slice(part),
+        Some(part) => push_bytes(values, part),
         None => values.resize(values.len() + width as usize, 0),
+    }
+}
+
+/// Puts bytes after the others. The lengths of numbers stand by themselves, since a copy of a
+/// length that the compiler knows is no call.
+fn push_bytes(values: &mut Vec<u8>, part: &[u8]) -> Result<(), AllocError>
+    ensures ok { OnOk result (values.new.items ≡ values.old.items ++ part.now) }
+    ensures err { OnErr result (values.new.items ≡ values.old.items) }
+{
+    match part.len() {
+        1 => {
+            values.push(part[0])?;
+            Ok(())
+        }
+        2 => values.extend_from_slice(&part[..2]),
+        4 => values.extend_from_slice(&part[..4]),
+        8 => values.extend_from_slice(&part[..8]),
+        _ => values.extend_from_slice(part),
     }
 }
 
