@@ -44,7 +44,7 @@ unfolding bit_in
 set-other byte i j within ne = rw (bit_at_set_other w8 byte i within j ne) refl
 
 -- the same byte has the same bits
-bit_at-same : (new old : List ℕ) (k : ℕ) → get_or new (k / 8) 0 ≡ get_or old (k / 8) 0 → bit_at new k ≡ bit_at old k
+pub bit_at-same : (new old : List ℕ) (k : ℕ) → get_or new (k / 8) 0 ≡ get_or old (k / 8) 0 → bit_at new k ≡ bit_at old k
 unfolding bit_at
 bit_at-same new old k is = rw is refl
 

@@ -1,14 +1,14 @@
 -- Bits that are all 1, and the flag of one more row.
-use Rattle.std.proofs.Common.{◌≡◌, ℕ, ◌+◌, ◌-◌, ◌*◌, ◌/◌, ◌%◌, ◌^◌, ◌<◌, ◌≤◌, ◌==◌, Bool, true, false, if◌then◌else◌, List, [], ◌∷◌, ◌++◌, length, get_or, replicate, refl, sym, ap, ◌∙◌, inl, inr, arith}
-use Rattle.std.proofs.lemmas.Bool.{cases_lt, cond-true, cond-false, eq-eqb, ne_eqb}
-use Rattle.std.proofs.lemmas.List.{get_or_append_left, get_or_at, get_or_past, get_or-replicate, length-replicate, length_push}
+use Rattle.std.proofs.Common.{◌≡◌, ℕ, ◌+◌, ◌-◌, ◌*◌, ◌/◌, ◌%◌, ◌^◌, ◌<◌, ◌≤◌, true, false, List, [], ◌∷◌, ◌++◌, length, get_or, replicate, refl, sym, ap, ◌∙◌, inl, inr, arith}
+use Rattle.std.proofs.lemmas.Bool.{cases_lt}
+use Rattle.std.proofs.lemmas.List.{get_or_append_left, get_or_at, get_or_past, get_or-append_right, get_or-replicate, length-append, length-replicate, length_push}
 use Rattle.std.proofs.lemmas.Nat.Bits.{bit_at_ones, bit_at_ones_above}
 use Rattle.std.proofs.Math.Nat.{mod-eq_of_lt}
 use Rattle.std.proofs.Math.Pow.{pow-lt}
 use Rattle.arrow_buffers.specs.Bits.{bit_at, is_valid}
-use Rattle.arrow_buffers.specs.Packed.{IsPacked, PushesBit}
-use Rattle.arrow_buffers.specs.Flags.{HasFlags, PushesFlag}
-use Rattle.arrow_buffers.proofs.BitPlaces.{bit_in, bit_at-in, bit_at-past}
+use Rattle.arrow_buffers.specs.Packed.{IsPacked, PushesZeros}
+use Rattle.arrow_buffers.specs.Flags.{PushesFlag, PushesNullFlags}
+use Rattle.arrow_buffers.proofs.BitPlaces.{bit_in, bit_at-in, bit_at-past, bit_at-same}
 use Rattle.arrow_buffers.proofs.Growing.{is_valid-bit}
 
 -- the lowest n bits of a byte
@@ -71,36 +71,43 @@ rest-byte count =
     let one : 1 * 2 ^ (count % 8) ≡ 2 ^ (count % 8) = omega arith in
     rw (mod-eq_of_lt {n = 1 * 2 ^ (count % 8)} {m = 256} small, one) refl
 
--- no flag is needed while nothing is null
-pub no-flag : (nulls rows : ℕ) (bitmap : List ℕ) → HasFlags nulls rows bitmap → nulls ≡ 0 → PushesFlag nulls rows true bitmap bitmap
-no-flag nulls rows bitmap has none = record {
-  flags = record { none = λ _. has.none none; some = λ some. absurd (omega arith) };
-  before = λ k below. refl;
-  there = rw (has.none none) refl;
-}
-
--- the flags when the row's bit is there
-flags-from : (nulls rows : ℕ) (valid : Bool) (old new : List ℕ) → IsPacked (rows + 1) new → 0 < nulls + (if valid then 0 else 1) → HasFlags (nulls + (if valid then 0 else 1)) (rows + 1) new
-flags-from nulls rows valid old new packed some = record { none = λ none. absurd (omega arith); some = λ _. packed }
-
-pub next-flag : (nulls rows : ℕ) (valid : Bool) (old new : List ℕ) → HasFlags nulls rows old → (nulls ≡ 0 → ⊥) → PushesBit rows valid old new → PushesFlag nulls rows valid old new
-next-flag nulls rows valid old new has some bit =
-    let was = has.some (omega arith) in
+-- zeros after bits
+pub zeros-after : (count all : ℕ) (old : List ℕ) → IsPacked count old → count ≤ all → PushesZeros all old (old ++ replicate ((all + 7) / 8 - length old) 0)
+zeros-after count all old packed more =
+    let n = (all + 7) / 8 - length old in
+    let zeros : List ℕ = replicate n 0 in
+    let new = old ++ zeros in
+    let len = packed.len in
+    let all_len = length-append old zeros in
+    let zero_len = length-replicate {A = ℕ} n 0 in
+    let same : (k : ℕ) → bit_at new k ≡ bit_at old k =
+    λ k.
+    elim (cases_lt (k / 8) (length old)) [
+      | inl there ↦ bit_at-same new old k (get_or_append_left old zeros 0 (k / 8) there)
+      | inr past ↦
+          elim (cases_lt (k / 8) (length new)) [
+            | inl within ↦
+                bit_at-same new old k (get_or-append_right old zeros (length old) (k / 8) 0 refl past ∙ get_or-replicate n (k / 8 - length old) 0 0 (omega arith) ∙ sym (get_or_past old (k / 8) 0 past))
+            | inr behind ↦ bit_at-past new k behind ∙ sym (bit_at-past old k past)
+          ]
+    ] in
     record {
-      flags = flags-from nulls rows valid old new bit.packed (omega arith);
-      before = λ k below.
-          is_valid-bit (rows + 1) k new bit.packed (omega arith) ∙ bit.bits k ∙ cond-false (k == rows) valid (bit_at old k) (ne_eqb k rows (omega arith)) ∙ sym (is_valid-bit rows k old was below);
-      there = is_valid-bit (rows + 1) rows new bit.packed (omega arith) ∙ bit.bits rows ∙ cond-true (rows == rows) valid (bit_at old rows) (eq-eqb rows rows refl);
+      packed = record { len = omega arith; spare = λ k past. same k ∙ packed.spare k (omega arith) };
+      bits = same;
     }
 
--- the first null: the rows before it are valid
-pub first-flag : (nulls rows : ℕ) (old ones new : List ℕ) → HasFlags nulls rows old → nulls ≡ 0 → ((k : ℕ) → k < rows → bit_at ones k ≡ true) → PushesBit rows false ones new
-    → PushesFlag nulls rows false old new
-first-flag nulls rows old ones new has none valid bit =
-    let was = has.none none in
+-- the flags of nulls: that of the first, and zeros
+pub nulls-flagged : (nulls rows count : ℕ) (old mid new : List ℕ) → 1 ≤ count → PushesFlag nulls rows false old mid → PushesZeros (rows + count) mid new → PushesNullFlags nulls rows count old new
+nulls-flagged nulls rows count old mid new some flag zeros =
+    let was : IsPacked (rows + 1) mid = flag.flags.some (omega arith) in
+    let there : (k : ℕ) → k < rows + 1 → is_valid new k ≡ is_valid mid k =
+    λ k below. is_valid-bit (rows + count) k new zeros.packed (omega arith) ∙ zeros.bits k ∙ sym (is_valid-bit (rows + 1) k mid was below) in
     record {
-      flags = flags-from nulls rows false old new bit.packed (omega arith);
-      before = λ k below.
-          is_valid-bit (rows + 1) k new bit.packed (omega arith) ∙ bit.bits k ∙ cond-false (k == rows) false (bit_at ones k) (ne_eqb k rows (omega arith)) ∙ valid k below ∙ sym (ap (λ bytes. is_valid bytes k) was);
-      there = is_valid-bit (rows + 1) rows new bit.packed (omega arith) ∙ bit.bits rows ∙ cond-true (rows == rows) false (bit_at ones rows) (eq-eqb rows rows refl);
+      flags = record { none = λ none. absurd (omega arith); some = λ _. zeros.packed };
+      before = λ k below. there k (omega arith) ∙ flag.before k below;
+      null = λ k from below.
+          elim (cases_lt rows k) [
+            | inl later ↦ is_valid-bit (rows + count) k new zeros.packed below ∙ zeros.bits k ∙ was.spare k (omega arith)
+            | inr here ↦ let is : k ≡ rows = omega arith in rw is (there rows (omega arith) ∙ flag.there)
+          ];
     }

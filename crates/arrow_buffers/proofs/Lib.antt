@@ -6,6 +6,7 @@ pub mod Faults
 pub mod Flagging
 pub mod Growing
 pub mod Joining
+pub mod Nulling
 pub mod Placing
 pub mod Pushing
 pub mod Spans

@@ -54,7 +54,7 @@ part-len width None fits = length-replicate {A = ℕ} width 0
 part-len width (Some value) fits = fits value refl
 
 -- a part that is there
-part_at-append : (width rows k : ℕ) (values more : List ℕ) → length values ≡ rows * width → k < rows → part_at width (values ++ more) k ≡ part_at width values k
+pub part_at-append : (width rows k : ℕ) (values more : List ℕ) → length values ≡ rows * width → k < rows → part_at width (values ++ more) k ≡ part_at width values k
 part_at-append width rows k values more len below =
     let within : (k + 1) * width ≤ rows * width = mul-le-mul_right width (omega arith) in
     rw (drop-append-le (k * width) values more (omega arith)) (take-append-le width (drop (k * width) values) more (rw (length-drop (k * width) values) (omega arith)))

@@ -1,5 +1,5 @@
 -- What a column has in hand while it grows: its buffers but for the last offset.
-use Rattle.std.specs.Prelude.{◌≡◌, ℕ, ◌+◌, ◌*◌, ◌/◌, ◌%◌, ◌^◌, ◌<◌, ◌≤◌, ⊤, true, is_none, count_by, List, [], ◌∷◌, ◌++◌, length, Option}
+use Rattle.std.specs.Prelude.{◌≡◌, ℕ, zero, suc, ◌+◌, ◌*◌, ◌/◌, ◌%◌, ◌^◌, ◌<◌, ◌≤◌, ⊤, true, is_none, count_by, List, [], ◌∷◌, ◌++◌, length, replicate, Option, None}
 use Rattle.std.specs.Option.{ForSome}
 use Rattle.arrow_buffers.specs.declared.width.Width.{Width}
 use Rattle.arrow_buffers.specs.declared.width.Width.TheVariants.{Bit, Fixed, Var}
@@ -55,6 +55,17 @@ pub record PushesValue (width : Width) (rows : ℕ) (cell : Option (List ℕ)) (
   pub before : (k : ℕ) → k < rows → value_at width (ended_offsets width new_offsets new_values) new_values k ≡ value_at width (ended_offsets width offsets values) values k
   pub there : ForSome cell (λ value. value_at width (ended_offsets width new_offsets new_values) new_values rows ≡ value)
   pub grown : (cells : List (Option (List ℕ))) → length cells ≡ rows → length values ≡ values_len width cells → length new_values ≡ values_len width (cells ++ cell ∷ [])
+
+-- what stands for nulls after the values of the rows, which are as they were
+pub record PushesNulls (width : Width) (rows count : ℕ) (offsets values new_offsets new_values : List ℕ) : Type 0 where
+  pub stored : HasValues width (rows + count) new_offsets new_values
+  pub before : (k : ℕ) → k < rows → value_at width (ended_offsets width new_offsets new_values) new_values k ≡ value_at width (ended_offsets width offsets values) values k
+  pub grown : (cells : List (Option (List ℕ))) → length cells ≡ rows → length values ≡ values_len width cells → length new_values ≡ values_len width (cells ++ replicate count None)
+
+-- the offsets of some more values, each without elements
+abbrev pub ended_times : ℕ → ℕ → List ℕ → List ℕ → List ℕ
+ended_times element zero offsets values = offsets
+ended_times element (suc n) offsets values = ended element (ended_times element n offsets values) values
 
 -- the cells so far
 abbrev pub cells_so_far : Width → List ℕ → List ℕ → List ℕ → ℕ → List (Option (List ℕ))

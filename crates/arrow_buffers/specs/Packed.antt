@@ -11,3 +11,8 @@ pub record IsPacked (count : ℕ) (bytes : List ℕ) : Type 0 where
 pub record PushesBit (count : ℕ) (bit : Bool) (old new : List ℕ) : Type 0 where
   pub packed : IsPacked (count + 1) new
   pub bits : (k : ℕ) → bit_at new k ≡ (if k == count then bit else bit_at old k)
+
+-- more bits that are 0, up to a count, the others as they were
+pub record PushesZeros (count : ℕ) (old new : List ℕ) : Type 0 where
+  pub packed : IsPacked count new
+  pub bits : (k : ℕ) → bit_at new k ≡ bit_at old k

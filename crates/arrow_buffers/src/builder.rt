@@ -1,12 +1,13 @@
-ghost use Rattle.std.specs.Prelude.{◌≡◌, ◌+◌, ◌-◌, ◌^◌, ◌<◌, min, [], ◌∷◌, ◌++◌, length, count_by, is_none, pos, Ok, IfOk, OnOk, OnErr};
+ghost use Rattle.std.specs.Prelude.{◌≡◌, ◌+◌, ◌-◌, ◌^◌, ◌<◌, min, [], ◌∷◌, ◌++◌, length, replicate, count_by, is_none, None, pos, Ok, IfOk, OnOk, OnErr};
 ghost use Rattle.std.specs.Option.{ForSome, option_copied};
 ghost use Rattle.arrow_buffers.specs.Bits.{validity_of};
 ghost use Rattle.arrow_buffers.specs.Columns.{HasElements, HasWidth, HasNoFault, cell_len, cells_len, cells_of, is_one, validity_len, offsets_len, values_len};
-ghost use Rattle.arrow_buffers.specs.Building.{HasValues, OffsetsFit, PushesValue, ended_offsets, sized_len};
+ghost use Rattle.arrow_buffers.specs.Building.{HasValues, OffsetsFit, PushesNulls, PushesValue, ended_offsets, sized_len};
 
 use crate::Width;
-use crate::flags::{push_flag, reserve_flag};
-use crate::packing::{push_bit, push_offset, push_part, push_span, reserve_bit};
+use crate::flags::{push_flag, push_null_flags, reserve_flag};
+use crate::nulls::{push_null_parts, push_null_spans};
+use crate::packing::{push_bit, push_offset, push_part, push_span, push_zeros, reserve_bit};
 use std::alloc::{AllocError, Global};
 use std::marker::Model;
 
@@ -111,6 +112,33 @@ impl ColumnBuilder {
         Ok(())
     }
 
+    /// Adds some nulls after the other cells. Takes amortised constant time for each byte that the
+    /// buffers grow by. Want of memory is returned for rows that Arrow could not count too; after
+    /// it the column is as before.
+    pub fn push_nulls(&mut self, count: u64) -> Result<(), AllocError>
+        ensures ok { OnOk result (self.new ≡ record { width = self.old.width; cells = self.old.cells ++ replicate count None }) }
+        ensures err { OnErr result (self.new ≡ self.old) }
+    {
+        if count > MAX_ROWS - self.rows {
+            return Err(AllocError);
+        }
+        if count == 0 {
+            return Ok(());
+        }
+        reserve_bit(&mut self.validity, self.rows + count)?;
+        push_null_values(
+            self.width,
+            self.rows,
+            count,
+            &mut self.offsets,
+            &mut self.values,
+        )?;
+        push_null_flags(&mut self.validity, self.nulls, self.rows, count);
+        self.rows += count;
+        self.nulls += count;
+        Ok(())
+    }
+
     /// The buffers of the column. Where no cell is null the bitmap is left out; without rows there
     /// still is one offset. What stands for a null among the values is left open.
     pub fn finish(self) -> Result<Buffers, AllocError>
@@ -190,6 +218,27 @@ fn push_value(
         Width::Fixed(width) => push_part(values, width, cell),
         Width::Var => push_span(offsets, values, 1, cell),
         Width::List(element) => push_span(offsets, values, element, cell),
+    }
+}
+
+/// Puts what stands for nulls after the values of the first `rows`.
+fn push_null_values(
+    width: Width,
+    rows: u64,
+    count: u64,
+    offsets: &mut Vec<u8>,
+    values: &mut Vec<u8>,
+) -> Result<(), AllocError>
+    requires stored { HasValues width rows offsets.old.items values.old.items }
+    requires few { rows + count < 2 ^ 63 }
+    ensures ok { OnOk result (PushesNulls width rows count offsets.old.items values.old.items offsets.new.items values.new.items) }
+    ensures err { OnErr result ((offsets.new.items ≡ offsets.old.items) × (values.new.items ≡ values.old.items)) }
+{
+    match width {
+        Width::Bit => push_zeros(values, rows, rows + count),
+        Width::Fixed(width) => push_null_parts(values, width, count),
+        Width::Var => push_null_spans(offsets, values.as_slice(), 1, count),
+        Width::List(element) => push_null_spans(offsets, values.as_slice(), element, count),
     }
 }
 

@@ -8,6 +8,7 @@ mod fixed;
 mod flags;
 pub mod laws;
 mod lists;
+mod nulls;
 mod offsets;
 mod packing;
 mod vars;

@@ -4,7 +4,7 @@ ghost use Rattle.std.specs.Prelude.{◌≡◌, ℕ, true, ◌+◌, ◌/◌, ◌^
 ghost use Rattle.std.specs.Option.{option_copied};
 ghost use Rattle.arrow_buffers.specs.Bits.{bit_at};
 ghost use Rattle.arrow_buffers.specs.Offsets.{offset_bytes};
-ghost use Rattle.arrow_buffers.specs.Packed.{IsPacked, PushesBit};
+ghost use Rattle.arrow_buffers.specs.Packed.{IsPacked, PushesBit, PushesZeros};
 
 use byteorder::{ByteOrder, LittleEndian};
 use std::alloc::AllocError;
@@ -22,7 +22,8 @@ pub(crate) fn reserve_bit(bytes: &mut Vec<u8>, count: u64) -> Result<(), AllocEr
 pub(crate) fn push_bit(bytes: &mut Vec<u8>, count: u64, bit: bool)
     requires packed { IsPacked count bytes.old.items }
     requires room { count / 8 < vec_capacity bytes.old }
-    ensures { PushesBit count bit bytes.old.items bytes.new.items }
+    ensures bits { PushesBit count bit bytes.old.items bytes.new.items }
+    ensures room { vec_capacity bytes.new ≡ vec_capacity bytes.old }
 {
     let place = count % 8;
     if place == 0 {
@@ -49,6 +50,18 @@ pub(crate) fn fill_ones(bytes: &mut Vec<u8>, count: u64)
     }
 }
 
+/// Puts bits that are 0 after the first `count`, up to `all` bits.
+pub(crate) fn push_zeros(bytes: &mut Vec<u8>, count: u64, all: u64) -> Result<(), AllocError>
+    requires packed { IsPacked count bytes.old.items }
+    requires more { count ≤ all }
+    requires few { all < 2 ^ 63 }
+    ensures ok { OnOk result (PushesZeros all bytes.old.items bytes.new.items) }
+    ensures err { OnErr result (bytes.new.items ≡ bytes.old.items) }
+    ensures room { all / 8 < vec_capacity bytes.old → IsOk result }
+{
+    bytes.resize(all.div_ceil(8) as usize, 0)
+}
+
 /// Puts the offset of what follows `len` bytes of elements after the others.
 #[tactic(auto, unfolding(crate::specs::Offsets::offset_bytes))]
 pub(crate) fn push_offset(offsets: &mut Vec<u8>, element: u32, len: usize) -> Result<(), AllocError>
@@ -57,6 +70,7 @@ pub(crate) fn push_offset(offsets: &mut Vec<u8>, element: u32, len: usize) -> Re
     ensures ok { OnOk result (offsets.new.items ≡ offsets.old.items ++ offset_bytes (len / element)) }
     ensures err { OnErr result (offsets.new.items ≡ offsets.old.items) }
     ensures room { vec_len offsets.old + 4 ≤ vec_capacity offsets.old → IsOk result }
+    ensures capacity { vec_capacity offsets.old ≤ vec_capacity offsets.new }
 {
     let mut bytes = [0; 4];
     LittleEndian::write_u32(&mut bytes, (len / element as usize) as u32);

@@ -109,6 +109,29 @@ fn makes_room_for_rows(rt: HostRuntime) -> Result<(), Fail> {
 }
 
 #[test]
+fn adds_nulls_in_a_row(rt: HostRuntime) -> Result<(), Fail> {
+    let mut bytes = ColumnBuilder::new(rt.alloc(), Width::Fixed(1));
+    bytes.push(Some(&[7]))?;
+    bytes.push_nulls(9)?;
+    bytes.push(Some(&[8]))?;
+    let bytes = bytes.finish()?;
+    assert_eq!(rt; bytes.nulls, 9);
+    assert_eq!(rt; bytes.validity.as_slice(), [0b1, 0b100].as_slice());
+    assert_eq!(rt; bytes.values.len(), 11);
+
+    let mut names = ColumnBuilder::new(rt.alloc(), Width::Var);
+    names.push_nulls(2)?;
+    names.push(Some(b"joe"))?;
+    let names = names.finish()?;
+    assert_eq!(rt; names.validity.as_slice(), [0b100].as_slice());
+    assert_eq!(rt;
+        names.offsets.as_slice(),
+        [0, 0, 0, 0, 0, 0, 0, 0, 0, 0, 0, 0, 3, 0, 0, 0].as_slice()
+    );
+    Ok(())
+}
+
+#[test]
 fn writes_lists_of_the_format(rt: HostRuntime) -> Result<(), Fail> {
     let mut lists = ColumnBuilder::new(rt.alloc(), Width::List(1));
     lists.push(Some(&[12, 249, 25]))?;

@@ -9,7 +9,7 @@ use Rattle.arrow_buffers.proofs.builder.push_value.Goals as goal
 
 pub returns-in_ok-reserve_bit-in-Bit-clause-ok : goal.returns-in_ok-reserve_bit-in-Bit-clause-ok
 returns-in_ok-reserve_bit-in-Bit-clause-ok c =
-    let pushed : PushesBit c.args.rows (is_one (option_copied c.args.cell)) c.args.values.now.items c.push_bit.new.bytes.items = rw (c.is_one.ensures, c.reserve_bit.ensures.items) at c.push_bit.ensures in
+    let pushed : PushesBit c.args.rows (is_one (option_copied c.args.cell)) c.args.values.now.items c.push_bit.new.bytes.items = rw (c.is_one.ensures, c.reserve_bit.ensures.items) at c.push_bit.ensures.bits in
     rw c.in-Bit.is (pushes-bit c.args.rows (option_copied c.args.cell) c.args.offsets.now.items c.args.values.now.items c.push_bit.new.bytes.items (rw c.in-Bit.is at c.requires.stored)
     (rw c.in-Bit.is at c.requires.width) pushed)
 

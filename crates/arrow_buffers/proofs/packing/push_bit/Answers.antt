@@ -8,12 +8,12 @@ byte_is : (bit : Bool) → bool_byte bit ≡ (if bit then 1 else 0)
 byte_is true = refl
 byte_is false = refl
 
-pub returns-then-place-eq0 : goal.returns-then-place-eq0
-returns-then-place-eq0 c =
+pub returns-then-place-eq0-clause-bits : goal.returns-then-place-eq0-clause-bits
+returns-then-place-eq0-clause-bits c =
     rw (c.push_reserved.ensures.items, c.from.ensures, byte_is c.args.bit) (pushes-byte c.args.count c.args.bit c.args.bytes.now.items c.requires.packed c.if-place-eq0.true)
 
-pub returns-then-bit : goal.returns-then-bit
-returns-then-bit c =
+pub returns-then-bit-clause-bits : goal.returns-then-bit-clause-bits
+returns-then-bit-clause-bits c =
     let packed = c.requires.packed.len in
     let set = pushes-set c.args.count c.args.bytes.now.items (c.len-last.result - 1) c.index_mut.result.now c.requires.packed (λ e. c.if-place-eq0.false e) (omega arith)
     (get_or_read c.args.bytes.now.items (c.len-last.result - 1) c.index_mut.result.now (omega arith) c.index_mut.ensures.value 0) in

@@ -33,7 +33,7 @@ invariant_of-self-2 c =
     let inside = c.self.inside in
     let few = c.self.invariant.few in
     let flag : PushesFlag inside.nulls inside.rows (is_some (option_copied c.args.cell)) inside.validity.items c.push_flag.new.bitmap.items = rw
-    (c.is_some-valid.ensures, is_some-copied c.args.cell, c.reserve_flag.ensures.items) at c.push_flag.ensures in
+    (c.is_some-valid.ensures, is_some-copied c.args.cell, c.reserve_flag.ensures.items) at c.push_flag.ensures.flags in
     rw (c.from.ensures, null-byte c.args.cell c.is_none.result c.is_none.ensures) (built-next inside.width inside.rows inside.nulls
     (option_copied c.args.cell) inside.validity.items inside.offsets.items inside.values.items c.push_flag.new.bitmap.items c.push_value.new.offsets.items c.push_value.new.values.items
     (omega arith) c.self.invariant flag c.in_ok-push_value.ensures.ok)
@@ -42,7 +42,7 @@ pub returns-clause-ok : goal.returns-clause-ok
 returns-clause-ok c =
     let inside = c.self.inside in
     let flag : PushesFlag inside.nulls inside.rows (is_some (option_copied c.args.cell)) inside.validity.items c.push_flag.new.bitmap.items = rw
-    (c.is_some-valid.ensures, is_some-copied c.args.cell, c.reserve_flag.ensures.items) at c.push_flag.ensures in
+    (c.is_some-valid.ensures, is_some-copied c.args.cell, c.reserve_flag.ensures.items) at c.push_flag.ensures.flags in
     let next = cells-next inside.width inside.rows inside.nulls (option_copied c.args.cell) inside.validity.items inside.offsets.items inside.values.items
     c.push_flag.new.bitmap.items c.push_value.new.offsets.items c.push_value.new.values.items flag c.in_ok-push_value.ensures.ok in
     rw (← c.self.view_is) (ap (λ cells. record { width = inside.width; cells = cells }) next)
