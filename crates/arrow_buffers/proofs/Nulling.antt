@@ -16,9 +16,6 @@ use Rattle.arrow_buffers.proofs.Growing.{length-cells_of, same-below}
 use Rattle.arrow_buffers.proofs.Placing.{length-ended}
 use Rattle.arrow_buffers.proofs.Pushing.{part_at-append, pushes-list, pushes-span}
 
-nones : ℕ → List (Option (List ℕ))
-nones count = replicate count None
-
 -- a list whose later items are all null
 later-none : (f g : ℕ → Option (List ℕ)) (rows count : ℕ) → ((k : ℕ) → k < rows → f k ≡ g k) → ((k : ℕ) → rows ≤ k → k < rows + count → f k ≡ None)
     → map f (range_with_len 0 (rows + count)) ≡ map g (range_with_len 0 rows) ++ replicate count None
@@ -31,7 +28,8 @@ later-none f g rows (suc n) same null =
     let old = map g (range_with_len 0 rows) in
     let nones : List (Option (List ℕ)) = replicate n None in
     let before = later-none f g rows n same (λ k from below. null k from (omega arith)) in
-    rw next (map-range_with_len_more f 0 (rows + n) (rows + n) (omega arith) ∙ ap (λ xs. xs ++ f (rows + n) ∷ []) before ∙ ap (λ (x : Option (List ℕ)). (old ++ nones) ++ x ∷ []) (null (rows + n) (omega arith) (omega arith))
+    let last : f (rows + n) ≡ None = null (rows + n) (omega arith) (omega arith) in
+    rw next (map-range_with_len_more f 0 (rows + n) (rows + n) (omega arith) ∙ ap (λ xs. xs ++ f (rows + n) ∷ []) before ∙ ap (λ (x : Option (List ℕ)). (old ++ nones) ++ x ∷ []) last
     ∙ append_assoc old nones (None ∷ []) ∙ ap (λ xs. old ++ xs) (replicate_more n None ∙ ap (λ m. replicate m None) one))
 
 pub cells-nulls : (width : Width) (rows nulls count : ℕ) (bitmap offsets values new_bitmap new_offsets new_values : List ℕ)

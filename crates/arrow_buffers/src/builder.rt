@@ -66,7 +66,7 @@ impl ColumnBuilder {
     }
 
     /// A column without cells, with room for the values of some rows, or for their offsets where the
-    /// values differ in length: neither is moved while no more cells are pushed.
+    /// values differ in length: these are not moved until there are more cells.
     #[tactic(auto, unfolding(crate::specs::Columns::cells_of))]
     pub fn for_rows(alloc: Global, width: Width, rows: usize) -> Result<ColumnBuilder, AllocError>
         requires { HasElements width }
@@ -174,7 +174,7 @@ impl ColumnBuilder {
     }
 }
 
-/// How many bytes the offsets of some rows have, as far as that can be counted.
+// How many bytes the offsets of some rows have, as far as that can be counted.
 fn offsets_room(width: Width, rows: usize) -> usize
     ensures { result ≡ min (offsets_len width rows) (2 ^ 64 - 1) }
 {
@@ -184,7 +184,7 @@ fn offsets_room(width: Width, rows: usize) -> usize
     }
 }
 
-/// How many bytes the values of some rows have, where that doesn't depend on the values.
+// How many bytes the values of some rows have, where that doesn't depend on the values.
 fn values_room(width: Width, rows: usize) -> usize
     ensures { result ≡ min (sized_len width rows) (2 ^ 64 - 1) }
 {
@@ -195,7 +195,7 @@ fn values_room(width: Width, rows: usize) -> usize
     }
 }
 
-/// Puts a value after those of the first `rows`.
+// Puts a value after those of the first `rows`.
 fn push_value(
     width: Width,
     rows: u64,
@@ -221,7 +221,7 @@ fn push_value(
     }
 }
 
-/// Puts what stands for nulls after the values of the first `rows`.
+// Puts what stands for nulls after the values of the first `rows`.
 fn push_null_values(
     width: Width,
     rows: u64,
@@ -242,7 +242,7 @@ fn push_null_values(
     }
 }
 
-/// Whether a value is the bit 1.
+// Whether a value is the bit 1.
 fn is_one(cell: Option<&[u8]>) -> bool
     ensures { result ≡ is_one (option_copied cell.entry) }
 {
@@ -252,7 +252,7 @@ fn is_one(cell: Option<&[u8]>) -> bool
     }
 }
 
-/// The offsets with the last one after them, where there are offsets.
+// The offsets with the last one after them, where there are offsets.
 fn end_offsets(width: Width, mut offsets: Vec<u8>, values: &[u8]) -> Result<Vec<u8>, AllocError>
     requires { OffsetsFit width (length values.now) }
     ensures { IfOk result (λ v. v.items ≡ ended_offsets width offsets.items values.now) }

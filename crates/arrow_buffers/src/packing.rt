@@ -92,8 +92,8 @@ pub(crate) fn push_part(
     }
 }
 
-/// Puts bytes after the others. The lengths of numbers stand by themselves, since a copy of a
-/// length that the compiler knows is no call.
+// Puts bytes after the others. The lengths of numbers stand by themselves, since a copy of a length
+// that the compiler knows is no call.
 fn push_bytes(values: &mut Vec<u8>, part: &[u8]) -> Result<(), AllocError>
     ensures ok { OnOk result (values.new.items ≡ values.old.items ++ part.now) }
     ensures err { OnErr result (values.new.items ≡ values.old.items) }

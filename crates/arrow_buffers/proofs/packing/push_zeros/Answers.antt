@@ -18,5 +18,6 @@ returns-clause-ok c =
     let old = c.args.bytes.now.items in
     let was = c.requires.packed.len in
     let zeros = zeros-after c.args.count c.args.all old c.requires.packed c.requires.more in
-    let made = longer c.resize.result c.div_ceil.result (vec_len c.args.bytes.now) ((c.args.all + 7) / 8) old c.resize.new.self.items (grind (arith, c.div_ceil.ensures)) (omega arith) (omega arith) c.resize.ensures.items in
+    let len : c.div_ceil.result ≡ (c.args.all + 7) / 8 = grind (arith, c.div_ceil.ensures) in
+    let made = longer c.resize.result c.div_ceil.result (vec_len c.args.bytes.now) ((c.args.all + 7) / 8) old c.resize.new.self.items len (omega arith) (omega arith) c.resize.ensures.items in
     on_ok_weaker c.resize.result (λ (is : c.resize.new.self.items ≡ old ++ replicate ((c.args.all + 7) / 8 - length old) 0). rw is zeros) made
