@@ -14,7 +14,7 @@ use Rattle.otap_cells.specs.Columns.{column_at, base_at, is_id_at}
 use Rattle.otap_cells.specs.Tables.{Table, cell_in, column_in}
 use Rattle.otap_dicts.specs.declared.form.Form.TheVariants as ladder
 use Rattle.otap_dicts.specs.Forms.{distinct, bytes_of, is_too_large, form_of}
-use Rattle.otap_dicts.specs.Ladders.{LadderIn, is_plain, ladder_of, observed}
+use Rattle.otap_dicts.specs.Ladders.{LadderIn, is_dictionary, ladder_of, observed}
 use Rattle.otap_dicts.proofs.Observing.{observed-push}
 use Rattle.otap_columns.specs.declared.forms.ColumnForm.{ColumnForm}
 use Rattle.otap_columns.specs.declared.forms.ColumnForm.TheVariants as form
@@ -84,7 +84,7 @@ more_wide false a b = refl
 
 pub sees : (kind : Kind) (column : ℕ) (t : Table) (old new : SeenIn) → new.ladder ≡ fold observed_if old.ladder (map (bytes_for (base_at kind column) form.Wide) (column_in t.rows column))
     → new.wide ≡ (old.wide || (is_id_at kind column && has_wide_id kind column t))
-    → (is_plain new.ladder.form ≡ false → new.places ≡ places_of (base_at kind column) form.Wide new.ladder.values (column_in t.rows column)) → SeesTable kind column t old new
+    → (is_dictionary new.ladder.form ≡ true → new.places ≡ places_of (base_at kind column) form.Wide new.ladder.values (column_in t.rows column)) → SeesTable kind column t old new
 sees kind column t old new ladder_is wide_is placed = record {
   placed = placed;
   at = λ tables is.
@@ -145,7 +145,7 @@ stands kind column s f told tables is = told ∙ told_is kind tables column s is
 pub sees_step : {E : Type 0} (kind : Kind) (column : ℕ) (t : Table) (old new : SeenIn) (r : Result (Unit {0}) E)
     → OnOk r (new.ladder ≡ fold observed_if old.ladder (map (bytes_for (base_at kind column) form.Wide) (column_in t.rows column)))
     → OnOk r (new.wide ≡ (old.wide || (is_id_at kind column && has_wide_id kind column t)))
-    → OnOk r (is_plain new.ladder.form ≡ false → new.places ≡ places_of (base_at kind column) form.Wide new.ladder.values (column_in t.rows column))
+    → OnOk r (is_dictionary new.ladder.form ≡ true → new.places ≡ places_of (base_at kind column) form.Wide new.ladder.values (column_in t.rows column))
     → OnOk r (SeesTable kind column t old new)
 sees_step kind column t old new (Ok x) ladder_is wide_is placed = sees kind column t old new ladder_is wide_is placed
 sees_step kind column t old new (Err e) ladder_is wide_is placed = tt

@@ -7,7 +7,7 @@ use Rattle.otap_cells.specs.Cells.{Cell, IsCellOf}
 use Rattle.otap_cells.specs.Columns.{base_at, column_at, is_id_at, width_of}
 use Rattle.otap_cells.specs.Tables.{Table, cell_in, column_in}
 use Rattle.otap_cells.specs.Weights.{row_weight_limit, weight_of_table}
-use Rattle.otap_dicts.specs.Ladders.{LadderIn, is_plain}
+use Rattle.otap_dicts.specs.Ladders.{LadderIn, is_dictionary as has_dictionary}
 use Rattle.otap_dicts.specs.declared.form.Form.{Form}
 use Rattle.otap_dicts.specs.declared.form.Form.TheVariants as ladder
 use Rattle.otap_cells.specs.declared.profile.Base.{Base}
@@ -105,19 +105,19 @@ module _ (kind : Kind) (tables : List Table) (columns : List SeenIn) (forms : Li
 
 -- ---- the places of values
 
--- each column that isn't plain has the places of its cells
+-- each column that is a dictionary has the places of its cells
 abbrev pub ArePlaced : Kind → Table → List SeenIn → Type 0
-ArePlaced kind t columns = (column : ℕ) → column < width_of kind → is_plain (get_or columns column unseen_column).ladder.form ≡ false
+ArePlaced kind t columns = (column : ℕ) → column < width_of kind → has_dictionary (get_or columns column unseen_column).ladder.form ≡ true
     → (get_or columns column unseen_column).places ≡ places_of (base_at kind column) form.Wide (get_or columns column unseen_column).ladder.values (column_in t.rows column)
 
 pub are_placed : (kind : Kind) (t : Table) (old new : List SeenIn) → SeesAll kind t old new → ArePlaced kind t new
 are_placed kind t old new sees = λ column low. (sees.each column low).placed
 
--- a column that is written as a dictionary isn't plain
-dictionary_climbs : (kind : Kind) (column : ℕ) (s : SeenIn) → is_dictionary (form_told kind column s) ≡ true → is_plain s.ladder.form ≡ false
-dictionary_climbs kind column s is = by (is_id_at kind column) refl
+-- a column that is written as a dictionary is one
+dictionary_placed : (kind : Kind) (column : ℕ) (s : SeenIn) → is_dictionary (form_told kind column s) ≡ true → has_dictionary s.ladder.form ≡ true
+dictionary_placed kind column s is = by (is_id_at kind column) refl
   where
-    of_id : (own absent wide : Bool) → is_dictionary (id_form_told own absent wide) ≡ true → is_plain s.ladder.form ≡ false
+    of_id : (own absent wide : Bool) → is_dictionary (id_form_told own absent wide) ≡ true → has_dictionary s.ladder.form ≡ true
     of_id true true true one = absurd (false≢true one)
     of_id true true false one = absurd (false≢true one)
     of_id true false true one = absurd (false≢true one)
@@ -127,13 +127,13 @@ dictionary_climbs kind column s is = by (is_id_at kind column) refl
     of_id false false true one = absurd (false≢true one)
     of_id false false false one = absurd (false≢true one)
 
-    of_form : (f : Form) → is_dictionary (of_ladder f) ≡ true → is_plain f ≡ false
-    of_form ladder.Absent one = refl
+    of_form : (f : Form) → is_dictionary (of_ladder f) ≡ true → has_dictionary f ≡ true
+    of_form ladder.Absent one = absurd (false≢true one)
     of_form ladder.Dict8 one = refl
     of_form ladder.Dict16 one = refl
     of_form ladder.Plain one = absurd (false≢true one)
 
-    by : (id : Bool) → is_id_at kind column ≡ id → is_plain s.ladder.form ≡ false
+    by : (id : Bool) → is_id_at kind column ≡ id → has_dictionary s.ladder.form ≡ true
     by true here = of_id (is_own_id kind column) (is_absent s.ladder.form) (is_wide (base_at kind column) || s.wide) (rw here at is)
     by false here = of_form s.ladder.form (rw here at is)
 
@@ -150,9 +150,9 @@ module _ (kind : Kind) (before : List Table) (t : Table) (columns : List SeenIn)
     placed = λ column low is.
         let below : column < width_of kind = subst (λ (k : Kind). column < width_of k) writable.kind_is low in
         let s = get_or columns column unseen_column in
-        let climbs : is_plain s.ladder.form ≡ false = dictionary_climbs kind column s (ap is_dictionary (sym (told.each column below)) ∙ is) in
+        let own : has_dictionary s.ladder.form ≡ true = dictionary_placed kind column s (ap is_dictionary (sym (told.each column below)) ∙ is) in
         let none : is_id (base_at kind column) ≡ false = no_id kind (before ++ t ∷ []) column (is_one kind (before ++ t ∷ []) columns forms seen told column is) in
-        placed column below climbs
+        placed column below own
         ∙ places_alike (base_at kind column) form.Wide (forms_in forms column) s.ladder.values (column_in t.rows column) none
         ∙ ap (λ k. places_of (base_at k column) (forms_in forms column) s.ladder.values (column_in t.rows column)) (sym writable.kind_is);
     table = writable.table;

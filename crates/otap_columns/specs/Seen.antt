@@ -6,7 +6,7 @@ use Rattle.otap_cells.specs.Columns.{column_at, base_at, is_id_at}
 use Rattle.otap_cells.specs.declared.profile.Base.{Base}
 use Rattle.otap_cells.specs.Cells.{Cell}
 use Rattle.otap_cells.specs.Tables.{Table, column_in}
-use Rattle.otap_dicts.specs.Ladders.{LadderIn, is_plain, ladder_of, observed}
+use Rattle.otap_dicts.specs.Ladders.{LadderIn, is_dictionary, ladder_of, observed}
 use Rattle.otap_dicts.specs.declared.form.Form.{Form}
 use Rattle.otap_dicts.specs.declared.form.Form.TheVariants as ladder
 use Rattle.otap_columns.specs.declared.forms.ColumnForm.{ColumnForm}
@@ -15,7 +15,7 @@ use Rattle.otap_columns.specs.Observed.{bytes_for, seen, has_wide_id, is_wide, i
 use Rattle.otap_columns.specs.WrittenCells.{place_in}
 
 -- of a column: its ladder, whether one of its ids needs more than 16 bits, and of each cell of the last table the place of its
--- value in the ladder's dictionary
+-- value in the ladder's dictionary, where it has one
 pub record SeenIn : Type 0 where
   pub ladder : LadderIn
   pub wide : Bool
@@ -35,11 +35,11 @@ abbrev pub observed_if : LadderIn → Option (List ℕ) → LadderIn
 observed_if ladder None = ladder
 observed_if ladder (Some value) = observed ladder value
 
--- whatever tables the old state stands for, the new one stands for these and the table after them; unless the column became
--- plain it has the places of the table's cells
+-- whatever tables the old state stands for, the new one stands for these and the table after them; where the column is a
+-- dictionary it has the places of the table's cells
 pub record SeesTable (kind : Kind) (column : ℕ) (t : Table) (old new : SeenIn) : Type 0 where
   pub at : (tables : List Table) → IsSeenAfter kind tables column old → IsSeenAfter kind (tables ++ t ∷ []) column new
-  pub placed : is_plain new.ladder.form ≡ false → new.places ≡ places_of (base_at kind column) form.Wide new.ladder.values (column_in t.rows column)
+  pub placed : is_dictionary new.ladder.form ≡ true → new.places ≡ places_of (base_at kind column) form.Wide new.ladder.values (column_in t.rows column)
 
 -- ---- forms
 
