@@ -1,8 +1,9 @@
 -- Sums of the numbers that a column of ids stores, as bounds of its ids.
 use Rattle.std.proofs.Common.{◌≡◌, ℕ, zero, suc, ◌+◌, ◌≤◌, ◌<◌, nat_le, nat_lt, Bool, true, false, List, [], ◌∷◌, length, drop, get_or, Option, Some, None, refl, sym, ap, subst, ◌∙◌, arith, add-one, le-leb}
 use Rattle.std.specs.Prelude.{IfSome}
+use Rattle.std.specs.List.{list_any}
 use Rattle.std.proofs.lemmas.Bool.{le-ltb}
-use Rattle.std.proofs.lemmas.List.{length-map, drop_more, drop_all}
+use Rattle.std.proofs.lemmas.List.{length-map, drop_more, get_or-drop}
 use Rattle.otap_cells.specs.declared.profile.Coding.{Coding}
 use Rattle.otap_cells.specs.Cells.{null}
 use Rattle.otap_cells.specs.Columns.{coding_at}
@@ -11,7 +12,7 @@ use Rattle.otap_cells.specs.Continuing.{continues_in}
 use Rattle.otap_cells.specs.Ids.{base_of, goes_on, takes_null}
 use Rattle.otap_cells.specs.Tables.{Table, cell_in, column_in, greatest_wide, greatest_narrow}
 use Rattle.otap_columns.specs.NarrowIds.{is_wide_after, is_wide_from, StaysNarrow}
-use Rattle.otap_columns.specs.Observed.{has_wide_id}
+use Rattle.otap_columns.specs.Observed.{has_wide_id, is_above}
 use Rattle.otap_columns.proofs.ValuesSeen.{stored-cell}
 
 -- what is told of a row tells whether it goes on
@@ -106,7 +107,23 @@ narrow_on t column row most next so_far stays small =
     let on = stays.at so_far.before so_far.under in
     record { low = small; before = on.0; under = on.1; is = so_far.is ∙ on.2 }
 
-pub narrow_at_last : (t : Table) (column row most : ℕ) → IsNarrowSoFar t column row most → length t.rows ≤ row → has_wide_id t.kind column t ≡ false
-narrow_at_last t column row most so_far all =
-    let long : length (stored_in t column) ≡ length t.rows = length-map (column_in t.rows column) id_in ∙ length-map t.rows (λ cells. get_or cells column null) in
-    so_far.is ∙ ap (is_wide_after (coding_at t.kind column) so_far.before (drop row (continues_in t))) (drop_all row (stored_in t column) (omega (arith, long, all)))
+-- rows without an id have none that is wide, whether ids are still undone or not
+none_above : (ns : List (Option ℕ)) → ((k : ℕ) → get_or ns k None ≡ None) → list_any is_above ns ≡ false
+none_above [] none = refl
+none_above (None ∷ ns) none = none_above ns (λ k. none (suc k))
+none_above (Some n ∷ ns) none = absurd (let wrong : Some n ≡ None = none 0 in cc)
+
+none_wide : (how : Coding) (before : ℕ) (rows : List Bool) (ns : List (Option ℕ)) → ((k : ℕ) → get_or ns k None ≡ None) → is_wide_after how before rows ns ≡ false
+none_wide how before rows [] none = refl
+none_wide how before rows (None ∷ ns) none = by (takes_null how) refl (none_wide how before (drop 1 rows) ns (λ k. none (suc k)))
+  where
+    by : (takes : Bool) → takes_null how ≡ takes → is_wide_after how before (drop 1 rows) ns ≡ false → is_wide_after how before rows (None ∷ ns) ≡ false
+    by true is later = rw is later
+    by false is later = rw is (none_above ns (λ k. none (suc k)))
+none_wide how before rows (Some n ∷ ns) none = absurd (let wrong : Some n ≡ None = none 0 in cc)
+
+pub narrow_at_last : (t : Table) (column row most : ℕ) → IsNarrowSoFar t column row most → ((k : ℕ) → row ≤ k → cell_in t.rows column k ≡ null) → has_wide_id t.kind column t ≡ false
+narrow_at_last t column row most so_far none =
+    so_far.is
+    ∙ none_wide (coding_at t.kind column) so_far.before (drop row (continues_in t)) (drop row (stored_in t column))
+    (λ k. get_or-drop row (stored_in t column) k None ∙ stored-cell t.rows column (row + k) ∙ ap id_in (none (row + k) (omega arith)))

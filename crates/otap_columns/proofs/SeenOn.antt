@@ -3,12 +3,15 @@ use Rattle.std.proofs.Common.{◌≡◌, ℕ, zero, suc, ◌+◌, ◌<◌, ◌�
 use Rattle.std.specs.Prelude.{◌&&◌, not, if◌then◌else◌, Result, Ok, Err, OnOk}
 use Rattle.std.specs.List.{list_any}
 use Rattle.std.proofs.Math.Bool.{or-false}
+use Rattle.std.proofs.lemmas.Bool.{false≢true}
 use Rattle.std.proofs.lemmas.List.{length-map, take_more, get_or_past}
 use Rattle.std.proofs.Math.ListN.{get_or-map}
 use Rattle.std.proofs.lemmas.List.Folds.{list_any-append}
 use Rattle.std.proofs.lemmas.List.Sums.{fold-append}
 use Rattle.otap_cells.specs.declared.payload.Kind.{Kind}
 use Rattle.otap_cells.specs.declared.profile.Base.{Base}
+use Rattle.otap_cells.specs.declared.profile.Base.TheVariants as base
+use Rattle.otap_cells.specs.Bases.{is_id}
 use Rattle.otap_cells.specs.Cells.{Cell, null}
 use Rattle.otap_cells.specs.Columns.{column_at, base_at, is_id_at}
 use Rattle.otap_cells.specs.Tables.{Table, cell_in, column_in}
@@ -18,8 +21,8 @@ use Rattle.otap_dicts.specs.Ladders.{LadderIn, is_dictionary, ladder_of, observe
 use Rattle.otap_dicts.proofs.Observing.{observed-push}
 use Rattle.otap_columns.specs.declared.forms.ColumnForm.{ColumnForm}
 use Rattle.otap_columns.specs.declared.forms.ColumnForm.TheVariants as form
-use Rattle.otap_columns.specs.Observed.{bytes_for, given, seen, has_wide_id, is_own_id, if_seen, id_form, form_at}
-use Rattle.otap_columns.specs.Seen.{SeenIn, IsSeenAfter, observed_if, places_of, SeesTable, is_absent, form_told}
+use Rattle.otap_columns.specs.Observed.{bytes_for, given, seen, has_wide_id, is_own_id, is_wide, if_seen, id_form, form_at}
+use Rattle.otap_columns.specs.Seen.{SeenIn, IsSeenAfter, may_widen, observed_if, places_of, SeesTable, is_absent, form_told, id_form_told}
 use Rattle.otap_columns.proofs.ColumnsBuilt.{cell_at-map}
 use Rattle.otap_columns.proofs.ValuesSeen.{seen-push}
 
@@ -78,12 +81,12 @@ observes marked values (Some value ∷ cells) =
 
 -- ---- a table more
 
-more_wide : (id a b : Bool) → ((id && a) || (id && b)) ≡ (id && (a || (b || false)))
+more_wide : (widens a b : Bool) → ((widens && a) || (widens && b)) ≡ (widens && (a || (b || false)))
 more_wide true a b = ap (λ c. a || c) (sym (or-false b))
 more_wide false a b = refl
 
 pub sees : (kind : Kind) (column : ℕ) (t : Table) (old new : SeenIn) → new.ladder ≡ fold observed_if old.ladder (map (bytes_for (base_at kind column) form.Wide) (column_in t.rows column))
-    → new.wide ≡ (old.wide || (is_id_at kind column && has_wide_id kind column t))
+    → new.wide ≡ (old.wide || (may_widen (base_at kind column) && has_wide_id kind column t))
     → (is_dictionary new.ladder.form ≡ true → new.places ≡ places_of (base_at kind column) form.Wide new.ladder.values (column_in t.rows column)) → SeesTable kind column t old new
 sees kind column t old new ladder_is wide_is placed = record {
   placed = placed;
@@ -92,10 +95,10 @@ sees kind column t old new ladder_is wide_is placed = record {
       ladder_is ∙ ap (λ (l : LadderIn). fold observed_if l (map (bytes_for (base_at kind column) form.Wide) (column_in t.rows column))) is.ladder_is
       ∙ observes (column_at kind column).dictionary (seen kind tables column) (map (bytes_for (base_at kind column) form.Wide) (column_in t.rows column))
       ∙ ap (ladder_of (column_at kind column).dictionary) (sym (seen-push kind tables t column)) in
-      let wides : new.wide ≡ (is_id_at kind column && list_any (has_wide_id kind column) (tables ++ t ∷ [])) =
-      wide_is ∙ ap (λ (b : Bool). b || (is_id_at kind column && has_wide_id kind column t)) is.wide_is
-      ∙ more_wide (is_id_at kind column) (list_any (has_wide_id kind column) tables) (has_wide_id kind column t)
-      ∙ ap (λ b. is_id_at kind column && b) (sym (list_any-append (has_wide_id kind column) tables (t ∷ []))) in
+      let wides : new.wide ≡ (may_widen (base_at kind column) && list_any (has_wide_id kind column) (tables ++ t ∷ [])) =
+      wide_is ∙ ap (λ (b : Bool). b || (may_widen (base_at kind column) && has_wide_id kind column t)) is.wide_is
+      ∙ more_wide (may_widen (base_at kind column)) (list_any (has_wide_id kind column) tables) (has_wide_id kind column t)
+      ∙ ap (λ b. may_widen (base_at kind column) && b) (sym (list_any-append (has_wide_id kind column) tables (t ∷ []))) in
       record { ladder_is = ladders; wide_is = wides };
 }
 
@@ -122,17 +125,26 @@ told_id own true (v ∷ vs) f =
     by true = refl
     by false = refl
 
+-- ids that are wide anyway needn't be looked at
+wide_anyway : (b : Base) (any : Bool) → is_id b ≡ true → (is_wide b || (may_widen b && any)) ≡ (is_wide b || any)
+wide_anyway (base.Id true) any is = refl
+wide_anyway (base.Id false) any is = refl
+wide_anyway other any is = absurd (false≢true is)
+
 -- what a column that saw tables tells
 seen_after : Kind → List Table → ℕ → SeenIn
 seen_after kind tables column =
-    record { ladder = ladder_of (column_at kind column).dictionary (seen kind tables column); wide = is_id_at kind column && list_any (has_wide_id kind column) tables; places = [] }
+    record { ladder = ladder_of (column_at kind column).dictionary (seen kind tables column); wide = may_widen (base_at kind column) && list_any (has_wide_id kind column) tables; places = [] }
 
 told_after : (kind : Kind) (tables : List Table) (column : ℕ) → form_told kind column (seen_after kind tables column) ≡ form_at kind tables column
 unfolding seen_after ladder_of form_at
 told_after kind tables column = by (is_id_at kind column) refl
   where
     by : (id : Bool) → is_id_at kind column ≡ id → form_told kind column (seen_after kind tables column) ≡ form_at kind tables column
-    by true is = rw is (told_id (is_own_id kind column) (column_at kind column).dictionary (seen kind tables column) (id_form kind tables column))
+    by true is =
+        rw is
+        (ap (id_form_told (is_own_id kind column) (is_absent (form_of (column_at kind column).dictionary (seen kind tables column)))) (wide_anyway (base_at kind column) (list_any (has_wide_id kind column) tables) is)
+        ∙ told_id (is_own_id kind column) (column_at kind column).dictionary (seen kind tables column) (id_form kind tables column))
     by false is = rw is refl
 
 pub told_is : (kind : Kind) (tables : List Table) (column : ℕ) (s : SeenIn) → IsSeenAfter kind tables column s → form_told kind column s ≡ form_at kind tables column
@@ -144,7 +156,7 @@ stands kind column s f told tables is = told ∙ told_is kind tables column s is
 
 pub sees_step : {E : Type 0} (kind : Kind) (column : ℕ) (t : Table) (old new : SeenIn) (r : Result (Unit {0}) E)
     → OnOk r (new.ladder ≡ fold observed_if old.ladder (map (bytes_for (base_at kind column) form.Wide) (column_in t.rows column)))
-    → OnOk r (new.wide ≡ (old.wide || (is_id_at kind column && has_wide_id kind column t)))
+    → OnOk r (new.wide ≡ (old.wide || (may_widen (base_at kind column) && has_wide_id kind column t)))
     → OnOk r (is_dictionary new.ladder.form ≡ true → new.places ≡ places_of (base_at kind column) form.Wide new.ladder.values (column_in t.rows column))
     → OnOk r (SeesTable kind column t old new)
 sees_step kind column t old new (Ok x) ladder_is wide_is placed = sees kind column t old new ladder_is wide_is placed

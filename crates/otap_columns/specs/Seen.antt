@@ -4,6 +4,7 @@ use Rattle.std.specs.List.{list_any}
 use Rattle.otap_cells.specs.declared.payload.Kind.{Kind}
 use Rattle.otap_cells.specs.Columns.{column_at, base_at, is_id_at}
 use Rattle.otap_cells.specs.declared.profile.Base.{Base}
+use Rattle.otap_cells.specs.declared.profile.Base.TheVariants as base
 use Rattle.otap_cells.specs.Cells.{Cell}
 use Rattle.otap_cells.specs.Tables.{Table, column_in}
 use Rattle.otap_dicts.specs.Ladders.{LadderIn, is_dictionary, ladder_of, observed}
@@ -14,17 +15,22 @@ use Rattle.otap_columns.specs.declared.forms.ColumnForm.TheVariants as form
 use Rattle.otap_columns.specs.Observed.{bytes_for, seen, has_wide_id, is_wide, is_own_id, of_ladder}
 use Rattle.otap_columns.specs.WrittenCells.{place_in}
 
--- of a column: its ladder, whether one of its ids needs more than 16 bits, and of each cell of the last table the place of its
--- value in the ladder's dictionary, where it has one
+-- of a column: its ladder, whether its ids became wide, and of each cell of the last table the place of its value in the ladder's
+-- dictionary, where it has one
 pub record SeenIn : Type 0 where
   pub ladder : LadderIn
   pub wide : Bool
   pub places : List (Option ℕ)
 
+-- ids that are wide only from the first one on that needs more than 16 bits
+abbrev pub may_widen : Base → Bool
+may_widen (base.Id wide) = not wide
+may_widen other = false
+
 -- THE STATE of a column after tables
 pub record IsSeenAfter (kind : Kind) (tables : List Table) (column : ℕ) (s : SeenIn) : Type 0 where
   pub ladder_is : s.ladder ≡ ladder_of (column_at kind column).dictionary (seen kind tables column)
-  pub wide_is : s.wide ≡ (is_id_at kind column && list_any (has_wide_id kind column) tables)
+  pub wide_is : s.wide ≡ (may_widen (base_at kind column) && list_any (has_wide_id kind column) tables)
 
 -- the places of cells among values
 abbrev pub places_of : Base → ColumnForm → List (List ℕ) → List Cell → List (Option ℕ)

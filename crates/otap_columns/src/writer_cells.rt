@@ -1,18 +1,19 @@
 //! The bytes that are written for a cell, the lowest byte of a number first (Arrow columnar format, "Fixed-size primitive
 //! layout").
 
-ghost use Rattle.std.specs.Prelude.{◌≡◌, ◌+◌, ◌<◌, ◌^◌, [], ◌∷◌, ◌++◌, Some, length, option_map, true, OnOk};
+ghost use Rattle.std.specs.Prelude.{◌≡◌, ◌+◌, ◌<◌, ◌≤◌, ◌^◌, ℕ, [], ◌∷◌, ◌++◌, Some, length, option_map, true, OnOk};
 ghost use Rattle.arrow_buffers.specs.Columns.{HasWidth, cell_len, cells_len};
 ghost use Rattle.std.specs.Option.{ForSome, option_copied};
 ghost use Rattle.byteorder.specs.Endian.{little_bytes};
-ghost use Rattle.otap_cells.specs.Cells.{IsCellOf, IsNumberOf, number, seen};
+ghost use Rattle.otap_cells.specs.Cells.{IsCellOf, IsNumberOf, null, number, seen};
+ghost use Rattle.otap_cells.specs.Tables.{cell_in};
 ghost use Rattle.otap_columns.specs.Observed.{FitsForm, bytes_for, id_bits, id_width, number_bytes};
 ghost use Rattle.otap_columns.specs.Schemas.{is_dictionary};
 ghost use Rattle.otap_columns.specs.WrittenCells.{IsIndexFor, index_width, shown};
 
 use crate::forms::ColumnForm;
 use arrow_buffers::ColumnBuilder;
-use otap_cells::{Base, CellView};
+use otap_cells::{Base, CellView, LogicalTable, Rows};
 use std::alloc::AllocError;
 
 /// What is written for a cell: nothing where it is null, the bytes of a number, or a part of the table.
@@ -172,6 +173,16 @@ pub(crate) fn push_index(
             }
         },
     }
+}
+
+/// How many rows there are up to the last one in which a column was set.
+pub(crate) fn set_rows(table: &LogicalTable, column: u32) -> u64
+    ensures within { result ≤ length table.now.rows }
+    ensures null { (row : ℕ) → result ≤ row → cell_in table.now.rows column row ≡ null }
+{
+    let reach = table.reach(column);
+    let rows = table.rows();
+    if reach < rows { reach } else { rows }
 }
 
 /// Whether two cells are the same. Takes the time to compare their bytes.

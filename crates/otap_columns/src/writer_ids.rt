@@ -12,6 +12,7 @@ ghost use Rattle.otap_cells.specs.Tables.{cell_in, coding_in};
 ghost use Rattle.otap_columns.specs.NarrowIds.{StaysNarrow};
 ghost use Rattle.otap_columns.specs.Observed.{has_wide_id, is_above};
 
+use crate::writer_cells::set_rows;
 use otap_cells::{
     Base, CellView, Coding, LogicalTable, Rows, base_of, continues, continuing_rows,
     stored_numbers, undo,
@@ -60,7 +61,8 @@ fn is_above(ids: &[Option<u32>]) -> bool
     ids.iter().any(|id| matches!(id, Some(id) if *id > 65_535))
 }
 
-// Whether the sums of the stored numbers show that no id needs more than 16 bits. Takes no memory.
+// Whether the sums of the stored numbers show that no id needs more than 16 bits. Takes no memory, and looks at no row after the
+// last one in which the column was set.
 fn are_narrow(table: &LogicalTable, column: u32) -> bool
     requires column { column < width_of table.now.kind }
     requires id { is_id_at table.now.kind column ≡ true }
@@ -68,7 +70,8 @@ fn are_narrow(table: &LogicalTable, column: u32) -> bool
     ensures { result ≡ true → has_wide_id table.now.kind column table.now ≡ false }
 {
     let mut most = 0;
-    'rows: for row in 0..table.rows() {
+    let count = set_rows(table, column);
+    'rows: for row in 0..count {
         let Some(next) = most_after(table, column, row, most) else {
             return false;
         };

@@ -1,20 +1,21 @@
 //! What the writer keeps of a column of the tables that it wrote.
 
-ghost use Rattle.std.specs.Prelude.{◌≡◌, ◌<◌, ◌≤◌, ℕ, false, length, ◌&&◌, ◌||◌, [], List, fold, map, true, if◌then◌else◌, IfOk, OnOk};
+ghost use Rattle.std.specs.Prelude.{◌≡◌, ◌<◌, false, ◌&&◌, ◌||◌, [], List, fold, map, true, if◌then◌else◌, IfOk, OnOk};
 ghost use Rattle.std.specs.List.{list_any};
-ghost use Rattle.otap_cells.specs.Cells.{IsCellOf, null, seen};
+ghost use Rattle.otap_cells.specs.Bases.{is_id};
+ghost use Rattle.otap_cells.specs.Cells.{IsCellOf, seen};
 ghost use Rattle.otap_cells.specs.Columns.{base_at, coding_at, is_id_at, width_of};
 ghost use Rattle.otap_cells.specs.Continuing.{continues_in};
-ghost use Rattle.otap_cells.specs.Tables.{Table, cell_in, coding_in, column_in};
+ghost use Rattle.otap_cells.specs.Tables.{Table, coding_in, column_in};
 ghost use Rattle.otap_dicts.specs.declared.form.Form.TheVariants.{Plain};
 ghost use Rattle.otap_dicts.specs.Ladders.{is_dictionary, is_plain};
 ghost use Rattle.otap_columns.specs.declared.forms.ColumnForm.TheVariants as form;
 ghost use Rattle.otap_columns.specs.Observed.{bytes_for, form_at, has_wide_id, is_above, is_main, is_own_id, is_wide, of_ladder};
-ghost use Rattle.otap_columns.specs.Seen.{IsSeenAfter, SeesTable, form_told, id_form_told, is_absent, observed_if, places_of};
+ghost use Rattle.otap_columns.specs.Seen.{IsSeenAfter, SeesTable, form_told, id_form_told, is_absent, may_widen, observed_if, places_of};
 ghost use Rattle.otap_columns.specs.WrittenCells.{place_in, shown};
 
 use crate::forms::ColumnForm;
-use crate::writer_cells::{CellBytes, bytes_for, is_same};
+use crate::writer_cells::{CellBytes, bytes_for, is_same, set_rows};
 use crate::writer_ids::has_wide_id;
 use otap_cells::{Base, CellView, Kind, LogicalTable, Rows, base_of, columns};
 use otap_dicts::laws::{a_value_again_changes_nothing, places_stay};
@@ -22,7 +23,7 @@ use otap_dicts::{Form, Ladder};
 use std::alloc::{AllocError, Global};
 use std::marker::Model;
 
-/// The values that a column had, and whether one of its ids needs more than 16 bits.
+/// The values that a column had, and whether its ids became wide.
 #[derive(Debug, Drop)]
 pub(crate) struct SeenColumn {
     pub(crate) ladder: Ladder,
@@ -71,7 +72,7 @@ impl SeenColumn {
         requires column { column < width_of table.now.kind }
         requires coded { is_id_at table.now.kind column ≡ true → coding_in table.now column ≡ coding_at table.now.kind column }
         ensures ladder { OnOk result (self.new.ladder ≡ fold observed_if self.old.ladder (map (bytes_for (base_at table.now.kind column) form.Wide) (column_in table.now.rows column))) }
-        ensures wide { OnOk result (self.new.wide ≡ (self.old.wide || (is_id_at table.now.kind column && has_wide_id table.now.kind column table.now))) }
+        ensures wide { OnOk result (self.new.wide ≡ (self.old.wide || (may_widen (base_at table.now.kind column) && has_wide_id table.now.kind column table.now))) }
         ensures placed { OnOk result (is_dictionary self.new.ladder.form ≡ true → self.new.places ≡ places_of (base_at table.now.kind column) form.Wide self.new.ladder.values (column_in table.now.rows column)) }
     {
         observe_values(&mut self.ladder, &mut self.places, table, column)?;
@@ -143,6 +144,14 @@ fn is_wide(base: Base) -> bool
     matches!(base, Base::Id { wide: true })
 }
 
+// Whether ids are wide only from the first one on that needs more than 16 bits.
+fn may_widen(base: Base) -> bool
+    ensures is { result ≡ may_widen base }
+    ensures id { result ≡ true → is_id base ≡ true }
+{
+    matches!(base, Base::Id { wide: false })
+}
+
 // Whether a column holds the ids of the rows of a main table.
 fn is_own_id(kind: Kind, column: u32) -> bool
     requires { column < width_of kind }
@@ -157,13 +166,13 @@ fn is_main(kind: Kind) -> bool
     matches!(kind, Kind::Metrics | Kind::Logs | Kind::Spans)
 }
 
-// Whether a column holds ids of which one needs more than 16 bits.
+// Whether the ids of a column become wide: one of them needs more than 16 bits. Those that are always wide aren't looked at.
 fn needs_wide(alloc: Global, table: &LogicalTable, column: u32) -> Result<bool, AllocError>
     requires column { column < width_of table.now.kind }
     requires coded { is_id_at table.now.kind column ≡ true → coding_in table.now column ≡ coding_at table.now.kind column }
-    ensures { IfOk result (λ wide. wide ≡ (is_id_at table.now.kind column && has_wide_id table.now.kind column table.now)) }
+    ensures { IfOk result (λ wide. wide ≡ (may_widen (base_at table.now.kind column) && has_wide_id table.now.kind column table.now)) }
 {
-    if !base_of(table.kind(), column).is_id() {
+    if !may_widen(base_of(table.kind(), column)) {
         return Ok(false);
     }
     has_wide_id(alloc, table, column)
@@ -225,16 +234,6 @@ fn observe_after(
     }
     let bytes = bytes_for(base, ColumnForm::Wide, cell);
     observe_cell(ladder, &bytes)
-}
-
-// How many rows there are up to the last one in which a column was set.
-fn set_rows(table: &LogicalTable, column: u32) -> u64
-    ensures within { result ≤ length table.now.rows }
-    ensures null { (row : ℕ) → result ≤ row → cell_in table.now.rows column row ≡ null }
-{
-    let reach = table.reach(column);
-    let rows = table.rows();
-    if reach < rows { reach } else { rows }
 }
 
 fn is_plain(form: Form) -> bool
