@@ -8,7 +8,7 @@ ghost use Rattle.otap_cells.specs.Columns.{base_at, coding_at, is_id_at, width_o
 ghost use Rattle.otap_cells.specs.ColumnIds.{id_in};
 ghost use Rattle.otap_cells.specs.Continuing.{continues_in};
 ghost use Rattle.otap_cells.specs.Ids.{base_of, goes_on, takes_null};
-ghost use Rattle.otap_cells.specs.Tables.{cell_in, coding_in};
+ghost use Rattle.otap_cells.specs.Tables.{coding_in};
 ghost use Rattle.otap_columns.specs.NarrowIds.{StaysNarrow};
 ghost use Rattle.otap_columns.specs.Observed.{has_wide_id, is_above};
 
@@ -69,10 +69,12 @@ fn are_narrow(table: &LogicalTable, column: u32) -> bool
     requires coded { coding_in table.now column ≡ coding_at table.now.kind column }
     ensures { result ≡ true → has_wide_id table.now.kind column table.now ≡ false }
 {
+    let base = base_of(table.kind(), column);
+    let coding = table.coding(column);
     let mut most = 0;
     let count = set_rows(table, column);
     'rows: for row in 0..count {
-        let Some(next) = most_after(table, column, row, most) else {
+        let Some(next) = most_after(table, column, base, coding, row, most) else {
             return false;
         };
         most = next;
@@ -81,17 +83,24 @@ fn are_narrow(table: &LogicalTable, column: u32) -> bool
 }
 
 // A bound of the id before a row taken to one of the id before the next row, where it is seen to need no more than 16 bits.
-fn most_after(table: &LogicalTable, column: u32, row: u64, most: u64) -> Option<u64>
+fn most_after(
+    table: &LogicalTable,
+    column: u32,
+    base: Base,
+    coding: Coding,
+    row: u64,
+    most: u64,
+) -> Option<u64>
     requires column { column < width_of table.now.kind }
-    requires id { is_id_at table.now.kind column ≡ true }
-    requires coded { coding_in table.now column ≡ coding_at table.now.kind column }
+    requires base { base ≡ base_at table.now.kind column }
+    requires id { is_id base ≡ true }
+    requires coded { coding ≡ coding_at table.now.kind column }
     requires row { row < length table.now.rows }
     requires most { most ≤ 65535 }
     ensures small { IfSome result (λ next. next ≤ 65535) }
     ensures stays { IfSome result (StaysNarrow table.now column row most) }
 {
-    let coding = table.coding(column);
-    let Some(number) = stored_number(table, column, row) else {
+    let Some(number) = id_of(base, table.cell(column, row)) else {
         return without_id(coding, most);
     };
     let next = most_with(table, coding, row, most, number);
@@ -108,16 +117,7 @@ fn without_id(coding: Coding, most: u64) -> Option<u64>
     }
 }
 
-// The number that is stored in a column of ids.
-fn stored_number(table: &LogicalTable, column: u32, row: u64) -> Option<u32>
-    requires column { column < width_of table.now.kind }
-    requires id { is_id_at table.now.kind column ≡ true }
-    requires row { row < length table.now.rows }
-    ensures { result ≡ id_in (cell_in table.now.rows column row) }
-{
-    id_of(base_of(table.kind(), column), table.cell(column, row))
-}
-
+// The number that a cell of a column of ids stores.
 fn id_of(base: Base, cell: CellView<'_>) -> Option<u32>
     requires base { IsCellOf base (seen cell) }
     requires id { is_id base ≡ true }
