@@ -1,10 +1,12 @@
 -- A column of a table that is built row by row.
-use Rattle.std.proofs.Common.{◌≡◌, ℕ, suc, zero, ◌+◌, ◌<◌, ◌≤◌, Bool, true, false, List, [], ◌∷◌, ◌++◌, length, take, get_or, map, Option, Some, None, refl, sym, ap, ◌∙◌, subst, arith}
+use Rattle.std.proofs.Common.{◌≡◌, ℕ, suc, zero, ◌+◌, ◌*◌, ◌<◌, ◌≤◌, Bool, true, false, List, [], ◌∷◌, ◌++◌, length, take, get_or, map, Option, Some, None, refl, sym, ap, ◌∙◌, subst, arith, append_assoc, inl, inr, replicate}
 use Rattle.std.specs.Prelude.{ℤ, option_map, if◌then◌else◌, unsigned_abs}
 use Rattle.std.specs.Int.{w32, w64, cast_unsigned}
 use Rattle.std.specs.Option.{ForSome}
-use Rattle.std.proofs.lemmas.List.{length-map, take_more}
-use Rattle.std.proofs.lemmas.List.Sums.{sum_by-take-le, sum_by_push}
+use Rattle.std.proofs.lemmas.Bool.{cases_lt}
+use Rattle.std.proofs.lemmas.List.{get_or_past, length-map, replicate-append-replicate, take_more}
+use Rattle.std.proofs.lemmas.List.Folds.{sum_by-replicate}
+use Rattle.std.proofs.lemmas.List.Sums.{sum_by-append, sum_by-take-le, sum_by_push}
 use Rattle.byteorder.specs.Endian.{little_bytes}
 use Rattle.byteorder.specs.Numbers.{length-bytes_low_first}
 use Rattle.arrow_buffers.specs.declared.width.Width.{Width}
@@ -168,3 +170,40 @@ module _ (f : ColumnForm) (values : List (List ℕ)) (t : Table) (column : ℕ) 
       let more = stored_more row x low is in
       let short = sum_by-take-le cell_len (stored_column f values t column) (row + 1) in
       omega (arith, sum, ap cells_len more, short)
+
+-- ---- nulls at the end
+
+pub nulls_more : (n : ℕ) (cells : List (Option (List ℕ))) → (cells ++ replicate n None) ++ None ∷ [] ≡ cells ++ replicate (n + 1) None
+nulls_more n cells = append_assoc cells (replicate n None) (None ∷ []) ∙ ap (λ (xs : List (Option (List ℕ))). cells ++ xs) (replicate-append-replicate n 1 None)
+
+pub nulls_room : (n : ℕ) (cells : List (Option (List ℕ))) → cells_len (cells ++ replicate n None) ≡ cells_len cells
+nulls_room n cells =
+    let nothing : cells_len (replicate n None) ≡ n * 0 = sum_by-replicate cell_len n None in
+    let sum : cells_len (cells ++ replicate n None) ≡ cells_len cells + cells_len (replicate n None) = sum_by-append cell_len cells (replicate n None) in
+    omega (arith, nothing, sum)
+
+nones_at_end : (k n : ℕ) (cells : List (Option (List ℕ))) → ((row : ℕ) → k ≤ row → get_or cells row None ≡ None) → k + n ≡ length cells → take k cells ++ replicate n None ≡ cells
+nones_at_end zero n cells none all =
+    let same : n ≡ length cells = omega (arith, all) in
+    ap (λ (m : ℕ). replicate m None) same ∙ nones cells (λ k. none k (omega arith))
+  where
+    nones : (cells : List (Option (List ℕ))) → ((k : ℕ) → get_or cells k None ≡ None) → replicate (length cells) None ≡ cells
+    nones [] none = refl
+    nones (None ∷ cells) none = ap (λ (xs : List (Option (List ℕ))). None ∷ xs) (nones cells (λ k. none (suc k)))
+    nones (Some value ∷ cells) none = absurd (let wrong : Some value ≡ None = none 0 in cc)
+nones_at_end (suc k) n [] none all = absurd (omega (arith, all))
+nones_at_end (suc k) n (x ∷ cells) none all = ap (λ (xs : List (Option (List ℕ))). x ∷ xs) (nones_at_end k n cells (λ row le. none (suc row) (omega (arith, le))) (omega (arith, all)))
+
+-- where no cell was set from a row on, the values of the rows before it and nulls are the column
+module _ (f : ColumnForm) (t : Table) (column k : ℕ) (plain : is_dictionary f ≡ false) (none : (row : ℕ) → k ≤ row → cell_in t.rows column row ≡ null) where
+  stored_null : (row : ℕ) → k ≤ row → get_or (stored_column f [] t column) row None ≡ None
+  stored_null row le = elim (cases_lt row (length t.rows)) [
+    | inl low ↦
+        stored_at f [] t column row low
+        ∙ sym (plain_stored (base_at t.kind column) f [] (cell_in t.rows column row) plain)
+        ∙ ap (bytes_for (base_at t.kind column) f) (none row le)
+    | inr past ↦ get_or_past (stored_column f [] t column) row None (omega (arith, past, stored_len f [] t column))
+  ]
+
+  pub stored_to_last : (n : ℕ) → k + n ≡ length t.rows → take k (stored_column f [] t column) ++ replicate n None ≡ stored_column f [] t column
+  stored_to_last n all = nones_at_end k n (stored_column f [] t column) stored_null (omega (arith, all, stored_len f [] t column))

@@ -13,7 +13,7 @@ ghost use Rattle.otap_columns.specs.Seen.{places_of};
 ghost use Rattle.otap_columns.specs.WrittenCells.{FitsColumn, FitsIndexes, HasRoom, IsIndexFor, index_of, index_width, parts_of, plain_width, stored_column, width_for, with_parts};
 
 use crate::forms::ColumnForm;
-use crate::writer_cells::{is_dictionary, push_index, push_value};
+use crate::writer_cells::{is_dictionary, push_index, push_nulls, push_value, set_rows};
 use crate::writer_seen::SeenColumn;
 use arrow_buffers::{Buffers, ColumnBuilder, Width};
 use arrow_ipc::BatchBuilder;
@@ -74,7 +74,7 @@ pub(crate) fn column_for(
     }
 }
 
-// A column that is written as its values.
+// A column that is written as its values. No cell is looked at after the last one that was set.
 fn values_for(
     alloc: Global,
     table: &LogicalTable,
@@ -89,9 +89,11 @@ fn values_for(
 {
     let base = base_of(table.kind(), column);
     let mut built = ColumnBuilder::new(alloc, width_for(base, form));
-    'rows: for row in 0..table.rows() {
+    let count = set_rows(table, column);
+    'rows: for row in 0..count {
         push_value(&mut built, base, form, table.cell(column, row))?;
     }
+    push_nulls(&mut built, table.rows() - count)?;
     Ok(built)
 }
 
