@@ -51,8 +51,9 @@ fn values_column(
     requires room { bytes_of ladder.now.values < 2 ^ 31 }
     ensures { IfOk result (λ column. column ≡ record { width = width; cells = map (λ value. Some value) (drop from ladder.now.values) }) }
 {
-    let mut column = ColumnBuilder::new(alloc, width);
-    'values: for place in from..ladder.count() {
+    let count = ladder.count();
+    let mut column = ColumnBuilder::for_rows(alloc, width, (count - from) as usize)?;
+    'values: for place in from..count {
         column.push(ladder.value(place))?;
     }
     Ok(column)

@@ -88,12 +88,13 @@ fn values_for(
     ensures { IfOk result (λ built. built ≡ record { width = width_for (base_at table.now.kind column) form; cells = stored_column form [] table.now column }) }
 {
     let base = base_of(table.kind(), column);
-    let mut built = ColumnBuilder::new(alloc, width_for(base, form));
+    let rows = table.rows();
+    let mut built = ColumnBuilder::for_rows(alloc, width_for(base, form), rows as usize)?;
     let count = set_rows(table, column);
     'rows: for row in 0..count {
         push_value(&mut built, base, form, table.cell(column, row))?;
     }
-    push_nulls(&mut built, table.rows() - count)?;
+    push_nulls(&mut built, rows - count)?;
     Ok(built)
 }
 
@@ -107,7 +108,8 @@ fn indexes_for(
     requires room { cells_len (map (index_of form) places.now) < 2 ^ 31 }
     ensures { IfOk result (λ built. built ≡ record { width = Fixed (index_width form); cells = map (index_of form) places.now }) }
 {
-    let mut built = ColumnBuilder::new(alloc, Width::Fixed(index_width(form)));
+    let width = Width::Fixed(index_width(form));
+    let mut built = ColumnBuilder::for_rows(alloc, width, places.len())?;
     'rows: for row in 0..places.len() {
         push_index(&mut built, form, places[row])?;
     }

@@ -9,7 +9,7 @@ use Rattle.otap_columns.proofs.writer_batches.values_column.Goals as goal
 
 pub push-requires-clause-room : goal.push-requires-clause-room
 push-requires-clause-room c =
-    let low : c.values.place < length c.args.ladder.now.values = omega (arith, c.count-place-end.ensures) in
+    let low : c.values.place < length c.args.ladder.now.values = omega (arith, c.count-count.ensures) in
     let at = slice_get-get_or c.args.ladder.now.values c.values.place [] low in
     let part : option_copied c.value.result ≡ Some (get_or c.args.ladder.now.values c.values.place []) = c.value.ensures ∙ at in
     let room : cells_len (all_some (drop c.args.from (take c.values.place c.args.ladder.now.values))) + length (get_or c.args.ladder.now.values c.values.place []) ≤ bytes_of c.args.ladder.now.values =
@@ -19,7 +19,7 @@ push-requires-clause-room c =
 
 pub values-preserved : goal.values-preserved
 values-preserved c =
-    let low : c.values.place < length c.args.ladder.now.values = omega (arith, c.count-place-end.ensures) in
+    let low : c.values.place < length c.args.ladder.now.values = omega (arith, c.count-count.ensures) in
     let at = slice_get-get_or c.args.ladder.now.values c.values.place [] low in
     let part : option_copied c.value.result ≡ Some (get_or c.args.ladder.now.values c.values.place []) = c.value.ensures ∙ at in
     let more = values_more c.args.ladder.now.values c.args.from c.values.place (get_or c.args.ladder.now.values c.values.place []) c.values.invariant.0 at in (

@@ -38,7 +38,7 @@ push_nulls-requires c =
 pub returns : goal.returns
 returns c =
     let whole = stored_to_last c.args.form c.args.table.now c.args.column c.rows.row c.requires.plain (λ row le. c.set_rows-count.ensures.null row (omega (arith, le, c.rows-test.false)))
-    (c.rows-2.result - c.set_rows-count.result) (omega (arith, c.rows-2.ensures.count, c.set_rows-count.ensures.within, c.rows-test.false)) in
+    (c.rows-rows.result - c.set_rows-count.result) (omega (arith, c.rows-rows.ensures.count, c.set_rows-count.ensures.within, c.rows-test.false)) in
     c.in_ok-push_nulls.ensures
-    ∙ (λ i. record { width = (c.rows.invariant i).width; cells = (c.rows.invariant i).cells ++ replicate (c.rows-2.result - c.set_rows-count.result) None })
+    ∙ (λ i. record { width = (c.rows.invariant i).width; cells = (c.rows.invariant i).cells ++ replicate (c.rows-rows.result - c.set_rows-count.result) None })
     ∙ (λ i. record { width = width_for (base_at c.args.table.now.kind c.args.column) c.args.form; cells = whole i })
