@@ -1,12 +1,11 @@
 -- A column of a table that is built row by row.
-use Rattle.std.proofs.Common.{◌≡◌, ℕ, suc, zero, ◌+◌, ◌*◌, ◌<◌, ◌≤◌, Bool, true, false, List, [], ◌∷◌, ◌++◌, length, take, get_or, map, Option, Some, None, refl, sym, ap, ◌∙◌, subst, arith, append_assoc, inl, inr, replicate}
+use Rattle.std.proofs.Common.{◌≡◌, ℕ, suc, zero, ◌+◌, ◌<◌, ◌≤◌, Bool, true, false, List, [], ◌∷◌, ◌++◌, length, take, get_or, map, Option, Some, None, refl, sym, ap, ◌∙◌, subst, arith, inl, inr, replicate}
 use Rattle.std.specs.Prelude.{ℤ, option_map, if◌then◌else◌, unsigned_abs}
 use Rattle.std.specs.Int.{w32, w64, cast_unsigned}
 use Rattle.std.specs.Option.{ForSome}
 use Rattle.std.proofs.lemmas.Bool.{cases_lt}
-use Rattle.std.proofs.lemmas.List.{get_or_past, length-map, replicate-append-replicate, take_more}
-use Rattle.std.proofs.lemmas.List.Folds.{sum_by-replicate}
-use Rattle.std.proofs.lemmas.List.Sums.{sum_by-append, sum_by-take-le, sum_by_push}
+use Rattle.std.proofs.lemmas.List.{get_or_past, length-map, take_more}
+use Rattle.std.proofs.lemmas.List.Sums.{sum_by-take-le, sum_by_push}
 use Rattle.byteorder.specs.Endian.{little_bytes}
 use Rattle.byteorder.specs.Numbers.{length-bytes_low_first}
 use Rattle.arrow_buffers.specs.declared.width.Width.{Width}
@@ -172,15 +171,6 @@ module _ (f : ColumnForm) (values : List (List ℕ)) (t : Table) (column : ℕ) 
       omega (arith, sum, ap cells_len more, short)
 
 -- ---- nulls at the end
-
-pub nulls_more : (n : ℕ) (cells : List (Option (List ℕ))) → (cells ++ replicate n None) ++ None ∷ [] ≡ cells ++ replicate (n + 1) None
-nulls_more n cells = append_assoc cells (replicate n None) (None ∷ []) ∙ ap (λ (xs : List (Option (List ℕ))). cells ++ xs) (replicate-append-replicate n 1 None)
-
-pub nulls_room : (n : ℕ) (cells : List (Option (List ℕ))) → cells_len (cells ++ replicate n None) ≡ cells_len cells
-nulls_room n cells =
-    let nothing : cells_len (replicate n None) ≡ n * 0 = sum_by-replicate cell_len n None in
-    let sum : cells_len (cells ++ replicate n None) ≡ cells_len cells + cells_len (replicate n None) = sum_by-append cell_len cells (replicate n None) in
-    omega (arith, nothing, sum)
 
 nones_at_end : (k n : ℕ) (cells : List (Option (List ℕ))) → ((row : ℕ) → k ≤ row → get_or cells row None ≡ None) → k + n ≡ length cells → take k cells ++ replicate n None ≡ cells
 nones_at_end zero n cells none all =

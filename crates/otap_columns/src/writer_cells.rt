@@ -1,7 +1,7 @@
 //! The bytes that are written for a cell, the lowest byte of a number first (Arrow columnar format, "Fixed-size primitive
 //! layout").
 
-ghost use Rattle.std.specs.Prelude.{◌≡◌, ◌+◌, ◌<◌, ◌≤◌, ◌^◌, ℕ, [], ◌∷◌, ◌++◌, None, Some, length, option_map, replicate, true, OnOk};
+ghost use Rattle.std.specs.Prelude.{◌≡◌, ◌+◌, ◌<◌, ◌≤◌, ◌^◌, ℕ, [], ◌∷◌, ◌++◌, Some, length, option_map, true, OnOk};
 ghost use Rattle.arrow_buffers.specs.Columns.{HasWidth, cell_len, cells_len};
 ghost use Rattle.std.specs.Option.{ForSome, option_copied};
 ghost use Rattle.byteorder.specs.Endian.{little_bytes};
@@ -151,17 +151,6 @@ fn push_id(built: &mut ColumnBuilder, form: ColumnForm, id: u32) -> Result<(), A
             built.push(Some(&(id as u16).to_le_bytes()))
         }
     }
-}
-
-/// Adds nulls to a column.
-pub(crate) fn push_nulls(built: &mut ColumnBuilder, count: u64) -> Result<(), AllocError>
-    requires room { cells_len built.old.cells < 2 ^ 31 }
-    ensures { OnOk result (built.new ≡ record { width = built.old.width; cells = built.old.cells ++ replicate count None }) }
-{
-    'nulls: for _null in 0..count {
-        built.push(None)?;
-    }
-    Ok(())
 }
 
 /// Adds the index of a cell to a column; null has none.

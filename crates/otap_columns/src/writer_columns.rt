@@ -13,7 +13,7 @@ ghost use Rattle.otap_columns.specs.Seen.{places_of};
 ghost use Rattle.otap_columns.specs.WrittenCells.{FitsColumn, FitsIndexes, HasRoom, IsIndexFor, index_of, index_width, parts_of, plain_width, stored_column, width_for, with_parts};
 
 use crate::forms::ColumnForm;
-use crate::writer_cells::{is_dictionary, push_index, push_nulls, push_value, set_rows};
+use crate::writer_cells::{is_dictionary, push_index, push_value, set_rows};
 use crate::writer_seen::SeenColumn;
 use arrow_buffers::{Buffers, ColumnBuilder, Width};
 use arrow_ipc::BatchBuilder;
@@ -94,7 +94,7 @@ fn values_for(
     'rows: for row in 0..count {
         push_value(&mut built, base, form, table.cell(column, row))?;
     }
-    push_nulls(&mut built, rows - count)?;
+    built.push_nulls(rows - count)?;
     Ok(built)
 }
 

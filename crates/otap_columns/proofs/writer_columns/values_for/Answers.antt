@@ -1,5 +1,4 @@
 use Rattle.std.proofs.Common.{◌≡◌, ◌+◌, ◌-◌, ◌<◌, ◌≤◌, [], ◌∷◌, ◌++◌, None, length, take, replicate, arith, ap, ◌∙◌}
-use Rattle.std.proofs.lemmas.List.Sums.{sum_by-take-le}
 use Rattle.arrow_buffers.specs.Columns.{ColumnIn, cells_len, cell_len}
 use Rattle.otap_cells.specs.Cells.{seen}
 use Rattle.otap_cells.specs.Columns.{base_at}
@@ -30,15 +29,10 @@ rows-preserved c =
     c.in_ok-push_value.ensures ∙ (λ i. record { width = (c.rows.invariant i).width; cells = (c.rows.invariant i).cells ++ bytes_for c.base_of-base.result c.args.form (seen c.cell.result) ∷ [] })
     ∙ (λ i. record { width = width_for (base_at c.args.table.now.kind c.args.column) c.args.form; cells = more i })
 
-pub push_nulls-requires : goal.push_nulls-requires
-push_nulls-requires c =
-    let cells : cells_len c.rows.built.cells ≡ cells_len (take c.rows.row (stored_column c.args.form [] c.args.table.now c.args.column)) = ap (λ (b : ColumnIn). cells_len b.cells) c.rows.invariant in
-    omega (arith, cells, sum_by-take-le cell_len (stored_column c.args.form [] c.args.table.now c.args.column) c.rows.row, c.requires.room)
-
 pub returns : goal.returns
 returns c =
     let whole = stored_to_last c.args.form c.args.table.now c.args.column c.rows.row c.requires.plain (λ row le. c.set_rows-count.ensures.null row (omega (arith, le, c.rows-test.false)))
     (c.rows-rows.result - c.set_rows-count.result) (omega (arith, c.rows-rows.ensures.count, c.set_rows-count.ensures.within, c.rows-test.false)) in
-    c.in_ok-push_nulls.ensures
+    c.in_ok-push_nulls.ensures.ok
     ∙ (λ i. record { width = (c.rows.invariant i).width; cells = (c.rows.invariant i).cells ++ replicate (c.rows-rows.result - c.set_rows-count.result) None })
     ∙ (λ i. record { width = width_for (base_at c.args.table.now.kind c.args.column) c.args.form; cells = whole i })
