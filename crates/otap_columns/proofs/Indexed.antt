@@ -1,21 +1,21 @@
 -- A column that is written as the places of its values.
-use Rattle.std.proofs.Common.{◌≡◌, ℕ, zero, suc, ◌+◌, ◌<◌, ◌^◌, true, List, [], ◌∷◌, ◌++◌, length, take, get_or, map, Option, Some, None, refl, sym, ap, ◌∙◌, subst, arith, position, bytes_eq}
+use Rattle.std.proofs.Common.{◌≡◌, ℕ, zero, suc, ◌+◌, ◌-◌, ◌<◌, ◌≤◌, ◌^◌, true, replicate, List, [], ◌∷◌, ◌++◌, length, take, get_or, map, Option, Some, None, refl, sym, ap, ◌∙◌, subst, arith, position, bytes_eq}
 use Rattle.std.proofs.lemmas.Bool.{false≢true}
-use Rattle.std.proofs.lemmas.List.{map-append, take_more}
+use Rattle.std.proofs.lemmas.List.{length-append, length-map, map-append, take_more}
 use Rattle.std.proofs.lemmas.List.Quantifiers.{position-Some}
-use Rattle.std.proofs.lemmas.List.Sums.{sum_by-take-le, sum_by_push}
+use Rattle.std.proofs.lemmas.List.Sums.{sum_by-append, sum_by-take-le, sum_by_push}
 use Rattle.arrow_buffers.specs.Columns.{ColumnIn, cell_len, cells_len}
 use Rattle.arrow_buffers.specs.declared.width.Width.{Width}
 use Rattle.arrow_buffers.specs.declared.width.Width.TheVariants.{Fixed}
 use Rattle.otap_cells.specs.declared.profile.Base.{Base}
-use Rattle.otap_cells.specs.Cells.{Cell}
+use Rattle.otap_cells.specs.Cells.{Cell, null}
 use Rattle.otap_cells.specs.Columns.{base_at}
 use Rattle.otap_cells.specs.Tables.{Table, column_in}
 use Rattle.otap_columns.specs.declared.forms.ColumnForm.{ColumnForm}
 use Rattle.otap_columns.specs.declared.forms.ColumnForm.TheVariants as form
 use Rattle.otap_columns.specs.Observed.{bytes_for}
 use Rattle.otap_columns.specs.Schemas.{is_dictionary}
-use Rattle.otap_columns.specs.Seen.{places_of}
+use Rattle.otap_columns.specs.Seen.{filled, places_of}
 use Rattle.otap_columns.specs.WrittenCells.{FitsIndexes, IsIndexFor, index_of, index_width, place_in, stored_for, stored_column, width_for}
 use Rattle.otap_columns.proofs.ColumnsBuilt.{index_stored}
 
@@ -56,7 +56,7 @@ place_reached f values (Some value) dictionary few = by (position (bytes_eq valu
     by (Some n) is = subst (IsIndexFor f) (sym is) (one_reached f values n (position-Some (bytes_eq value) values n [] is).0 dictionary few)
 
 -- the indexes of a form reach all places
-pub places_reached : (holds : Base) (f : ColumnForm) (values : List (List ℕ)) (cells : List Cell) → is_dictionary f ≡ true → FitsIndexes f (length values)
+places_reached : (holds : Base) (f : ColumnForm) (values : List (List ℕ)) (cells : List Cell) → is_dictionary f ≡ true → FitsIndexes f (length values)
     → (row : ℕ) → IsIndexFor f (get_or (places_of holds f values cells) row None)
 places_reached holds f values [] dictionary few row = tt
 places_reached holds f values (cell ∷ cells) dictionary few zero = place_reached f values (bytes_for holds f cell) dictionary few
@@ -71,6 +71,43 @@ pub indexes_column : (f : ColumnForm) (values : List (List ℕ)) (t : Table) (co
     → map (index_of f) (places_of (base_at t.kind column) f values (column_in t.rows column)) ≡ stored_column f values t column
 unfolding stored_column
 indexes_column f values t column dictionary = indexes_stored (base_at t.kind column) f values (column_in t.rows column) dictionary
+
+-- ---- nulls after the places
+
+nothing_at : (n row : ℕ) (none : Option ℕ) → get_or (replicate n none) row none ≡ none
+nothing_at zero row none = refl
+nothing_at (suc n) zero none = refl
+nothing_at (suc n) (suc row) none = nothing_at n row none
+
+filled_at : (places : List (Option ℕ)) (n row : ℕ) → get_or (places ++ replicate n None) row None ≡ get_or places row None
+filled_at [] n row = nothing_at n row None
+filled_at (place ∷ places) n zero = refl
+filled_at (place ∷ places) n (suc row) = filled_at places n row
+
+no_indexes : (f : ColumnForm) (n : ℕ) → map (index_of f) (replicate n None) ≡ replicate n None
+no_indexes f zero = refl
+no_indexes f (suc n) = ap (λ (xs : List (Option (List ℕ))). None ∷ xs) (no_indexes f n)
+
+pub filled_indexes : (f : ColumnForm) (places : List (Option ℕ)) (n : ℕ) → map (index_of f) (places ++ replicate n None) ≡ map (index_of f) places ++ replicate n None
+filled_indexes f places n = map-append (index_of f) places (replicate n None) ∙ ap (λ (xs : List (Option (List ℕ))). map (index_of f) places ++ xs) (no_indexes f n)
+
+pub filled_room : (f : ColumnForm) (places : List (Option ℕ)) (n : ℕ) → cells_len (map (index_of f) places) ≤ cells_len (map (index_of f) (places ++ replicate n None))
+filled_room f places n =
+    let sum : cells_len (map (index_of f) places ++ replicate n None) ≡ cells_len (map (index_of f) places) + cells_len (replicate n None) = sum_by-append cell_len (map (index_of f) places) (replicate n None) in
+    omega (arith, ap cells_len (filled_indexes f places n), sum)
+
+module _ (holds : Base) (f : ColumnForm) (values : List (List ℕ)) (t : Table) (column : ℕ) (places : List (Option ℕ)) (is : filled (length t.rows) places ≡ places_of holds f values (column_in t.rows column)) where
+  pub filled_few : length places ≤ length t.rows
+  filled_few =
+      let all : length (filled (length t.rows) places) ≡ length t.rows =
+      ap length is ∙ length-map (column_in t.rows column) (λ cell. place_in values (bytes_for holds f cell)) ∙ length-map t.rows (λ cells. get_or cells column null) in
+      let sum : length (filled (length t.rows) places) ≡ length places + length (replicate (length t.rows - length places) None) = length-append places (replicate (length t.rows - length places) None) in
+      omega (arith, all, sum)
+
+  pub filled_reached : is_dictionary f ≡ true → FitsIndexes f (length values) → (row : ℕ) → IsIndexFor f (get_or places row None)
+  filled_reached dictionary few row =
+      subst (IsIndexFor f) (filled_at places (length t.rows - length places) row)
+      (subst (λ (ps : List (Option ℕ)). IsIndexFor f (get_or ps row None)) (sym is) (places_reached holds f values (column_in t.rows column) dictionary few row))
 
 pub index_fixed : (holds : Base) (f : ColumnForm) → is_dictionary f ≡ true → Fixed (index_width f) ≡ width_for holds f
 index_fixed holds form.Dict8 dictionary = refl

@@ -1,6 +1,6 @@
 -- The places of a column's values in its dictionary, cell by cell.
 use Rattle.std.proofs.Common.{◌≡◌, ℕ, zero, suc, ◌+◌, ◌-◌, ◌<◌, ◌≤◌, false, List, [], ◌∷◌, ◌++◌, length, take, drop, get_or, map, fold, Option, Some, None, refl, sym, ap, ◌∙◌, subst, arith, position, bytes_eq, replicate}
-use Rattle.std.proofs.lemmas.List.{length-map, map-append, take_more, take_all, take-append-drop, length-take-le}
+use Rattle.std.proofs.lemmas.List.{length-map, map-append, take_more, take-append-drop, length-take-le}
 use Rattle.std.proofs.lemmas.List.Sums.{fold-append}
 use Rattle.otap_cells.specs.declared.profile.Base.{Base}
 use Rattle.otap_cells.specs.Cells.{Cell, null}
@@ -9,7 +9,7 @@ use Rattle.otap_dicts.specs.Ladders.{LadderIn, is_plain, observed}
 use Rattle.otap_dicts.specs.declared.form.Form.TheVariants as ladder
 use Rattle.otap_columns.specs.declared.forms.ColumnForm.TheVariants as form
 use Rattle.otap_columns.specs.Observed.{bytes_for}
-use Rattle.otap_columns.specs.Seen.{observed_if, places_of}
+use Rattle.otap_columns.specs.Seen.{filled, observed_if, places_of}
 use Rattle.otap_columns.specs.WrittenCells.{place_in}
 use Rattle.otap_columns.proofs.ColumnsBuilt.{cell_at-map}
 use Rattle.otap_columns.proofs.SeenOn.{again_changes_nothing, cells_more, null_cell, plain_stays}
@@ -126,13 +126,11 @@ places_to_last holds rows column k values none low =
     twice [] = refl
     twice (cell ∷ cells) = ap (λ (ps : List (Option ℕ)). place_in values (bytes_for holds form.Wide cell) ∷ ps) (twice cells)
 
-pub all_placed : (holds : Base) (rows : List (List Cell)) (column row n len : ℕ) (values : List (List ℕ)) (places filled : List (Option ℕ)) → places ≡ map (place_in values) (take row (map (bytes_for holds form.Wide) (column_in rows column)))
-    → len ≡ length places → n ≡ length rows → row ≤ length rows → ((k : ℕ) → row ≤ k → cell_in rows column k ≡ null) → filled ≡ take n places ++ replicate (n - len) None
-    → filled ≡ places_of holds form.Wide values (column_in rows column)
-all_placed holds rows column row n len values places filled here long_is all low none is =
+pub all_placed : (holds : Base) (rows : List (List Cell)) (column row : ℕ) (values : List (List ℕ)) (places : List (Option ℕ))
+    → places ≡ map (place_in values) (take row (map (bytes_for holds form.Wide) (column_in rows column)))
+    → row ≤ length rows → ((k : ℕ) → row ≤ k → cell_in rows column k ≡ null) → filled (length rows) places ≡ places_of holds form.Wide values (column_in rows column)
+all_placed holds rows column row values places here low none =
     let cells = map (bytes_for holds form.Wide) (column_in rows column) in
     let long : length cells ≡ length rows = length-map (column_in rows column) (bytes_for holds form.Wide) ∙ length-map rows (λ row. get_or row column null) in
     let count : length places ≡ row = ap length here ∙ length-map (take row cells) (place_in values) ∙ length-take-le row cells (omega (arith, long, low)) in
-    let rest : n - len ≡ length rows - row = omega (arith, count, long_is, all, low) in
-    is ∙ (λ i. take_all n places (omega (arith, count, all, low)) i ++ replicate (rest i) None) ∙ ap (λ (ps : List (Option ℕ)). ps ++ replicate (length rows - row) None) here
-    ∙ places_to_last holds rows column row values none low
+    (λ i. here i ++ replicate (length rows - count i) None) ∙ places_to_last holds rows column row values none low

@@ -17,7 +17,7 @@ use Rattle.otap_columns.specs.declared.forms.ColumnForm.TheVariants as form
 use Rattle.otap_columns.specs.Policy.{IsWritable}
 use Rattle.otap_columns.specs.Schemas.{FormsFit, fits_form, is_dictionary, is_there, item_in}
 use Rattle.otap_columns.specs.Observed.{FitsForm, bytes_for, form_at, is_own_id, is_wide, of_ladder, values_at}
-use Rattle.otap_columns.specs.Seen.{SeenIn, form_told, id_form_told, is_absent, places_of}
+use Rattle.otap_columns.specs.Seen.{SeenIn, filled, form_told, id_form_told, is_absent, places_of}
 use Rattle.otap_columns.specs.WrittenCells.{FitsIndexes, place_in}
 use Rattle.otap_columns.specs.WrittenGroups.{forms_in}
 use Rattle.otap_columns.specs.WrittenRecords.{CanSend}
@@ -108,7 +108,7 @@ module _ (kind : Kind) (tables : List Table) (columns : List SeenIn) (forms : Li
 -- each column that is a dictionary has the places of its cells
 abbrev pub ArePlaced : Kind → Table → List SeenIn → Type 0
 ArePlaced kind t columns = (column : ℕ) → column < width_of kind → has_dictionary (get_or columns column unseen_column).ladder.form ≡ true
-    → (get_or columns column unseen_column).places ≡ places_of (base_at kind column) form.Wide (get_or columns column unseen_column).ladder.values (column_in t.rows column)
+    → filled (length t.rows) (get_or columns column unseen_column).places ≡ places_of (base_at kind column) form.Wide (get_or columns column unseen_column).ladder.values (column_in t.rows column)
 
 pub are_placed : (kind : Kind) (t : Table) (old new : List SeenIn) → SeesAll kind t old new → ArePlaced kind t new
 are_placed kind t old new sees = λ column low. (sees.each column low).placed

@@ -1,5 +1,5 @@
 -- What the writer keeps of the columns of the tables that it wrote.
-use Rattle.std.specs.Prelude.{◌≡◌, ℕ, map, ◌&&◌, ◌||◌, not, Bool, true, false, if◌then◌else◌, List, ◌∷◌, ◌++◌, [], Option, None, Some}
+use Rattle.std.specs.Prelude.{◌≡◌, ℕ, ◌-◌, length, map, replicate, ◌&&◌, ◌||◌, not, Bool, true, false, if◌then◌else◌, List, ◌∷◌, ◌++◌, [], Option, None, Some}
 use Rattle.std.specs.List.{list_any}
 use Rattle.otap_cells.specs.declared.payload.Kind.{Kind}
 use Rattle.otap_cells.specs.Columns.{column_at, base_at, is_id_at}
@@ -15,8 +15,8 @@ use Rattle.otap_columns.specs.declared.forms.ColumnForm.TheVariants as form
 use Rattle.otap_columns.specs.Observed.{bytes_for, seen, has_wide_id, is_wide, is_own_id, of_ladder}
 use Rattle.otap_columns.specs.WrittenCells.{place_in}
 
--- of a column: its ladder, whether its ids became wide, and of each cell of the last table the place of its value in the ladder's
--- dictionary, where it has one
+-- of a column: its ladder, whether its ids became wide, and of each cell of the last table, up to the last one that was set, the
+-- place of its value in the ladder's dictionary, where it has one
 pub record SeenIn : Type 0 where
   pub ladder : LadderIn
   pub wide : Bool
@@ -36,6 +36,10 @@ pub record IsSeenAfter (kind : Kind) (tables : List Table) (column : ℕ) (s : S
 abbrev pub places_of : Base → ColumnForm → List (List ℕ) → List Cell → List (Option ℕ)
 places_of holds form values cells = map (λ cell. place_in values (bytes_for holds form cell)) cells
 
+-- the places of a number of cells, where those of the first ones are told and the others have none
+abbrev pub filled : ℕ → List (Option ℕ) → List (Option ℕ)
+filled count places = places ++ replicate (count - length places) None
+
 -- a ladder after a cell, which null leaves as it was
 abbrev pub observed_if : LadderIn → Option (List ℕ) → LadderIn
 observed_if ladder None = ladder
@@ -45,7 +49,7 @@ observed_if ladder (Some value) = observed ladder value
 -- dictionary it has the places of the table's cells
 pub record SeesTable (kind : Kind) (column : ℕ) (t : Table) (old new : SeenIn) : Type 0 where
   pub at : (tables : List Table) → IsSeenAfter kind tables column old → IsSeenAfter kind (tables ++ t ∷ []) column new
-  pub placed : is_dictionary new.ladder.form ≡ true → new.places ≡ places_of (base_at kind column) form.Wide new.ladder.values (column_in t.rows column)
+  pub placed : is_dictionary new.ladder.form ≡ true → filled (length t.rows) new.places ≡ places_of (base_at kind column) form.Wide new.ladder.values (column_in t.rows column)
 
 -- ---- forms
 

@@ -11,7 +11,7 @@ use Rattle.otap_cells.specs.Weights.{row_weight_limit, weight_of_table}
 use Rattle.otap_dicts.specs.declared.form.Form.TheVariants as ladder
 use Rattle.otap_columns.specs.Schemas.{Forms, Slot, Struct, Column, Items, is_there, is_dictionary, type_in, dict_for, item_in, item_type}
 use Rattle.otap_columns.specs.Observed.{bytes_for}
-use Rattle.otap_columns.specs.Seen.{SeenIn, places_of}
+use Rattle.otap_columns.specs.Seen.{SeenIn, filled, places_of}
 use Rattle.otap_columns.specs.WrittenCells.{FitsColumn, FitsIndexes, stored_column, with_parts}
 
 -- a part is that of a slot of the schema, before the next part: a struct without nulls, a column of the table, or elements
@@ -60,7 +60,7 @@ pub record CanWrite (forms : Forms) (columns : List SeenIn) (t : Table) : Type 0
   pub few : (column : ℕ) → FitsIndexes (forms column) (length (columns_in columns column))
   pub single : (column : ℕ) → is_dictionary (forms column) ≡ true → item_in (base_at t.kind column) ≡ None
   pub placed : (column : ℕ) → column < width_of t.kind → is_dictionary (forms column) ≡ true
-      → (slice_index_or columns column unseen).places ≡ places_of (base_at t.kind column) (forms column) (columns_in columns column) (column_in t.rows column)
+      → filled (length t.rows) (slice_index_or columns column unseen).places ≡ places_of (base_at t.kind column) (forms column) (columns_in columns column) (column_in t.rows column)
   pub light : weight_of_table t ≤ row_weight_limit
 
 -- the parts of slots were added to a batch

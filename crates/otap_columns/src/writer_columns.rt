@@ -9,7 +9,7 @@ ghost use Rattle.otap_cells.specs.Columns.{base_at, width_of};
 ghost use Rattle.arrow_buffers.specs.declared.width.Width.TheVariants.{Fixed};
 ghost use Rattle.otap_cells.specs.Tables.{column_in};
 ghost use Rattle.otap_columns.specs.Schemas.{is_dictionary};
-ghost use Rattle.otap_columns.specs.Seen.{places_of};
+ghost use Rattle.otap_columns.specs.Seen.{filled, places_of};
 ghost use Rattle.otap_columns.specs.WrittenCells.{FitsColumn, FitsIndexes, HasRoom, IsIndexFor, index_of, index_width, parts_of, plain_width, stored_column, width_for, with_parts};
 
 use crate::forms::ColumnForm;
@@ -63,12 +63,12 @@ pub(crate) fn column_for(
     requires column { column < width_of table.now.kind }
     requires fits { FitsColumn form table.now column }
     requires few { FitsIndexes form (length seen.now.ladder.values) }
-    requires placed { is_dictionary form ≡ true → seen.now.places ≡ places_of (base_at table.now.kind column) form seen.now.ladder.values (column_in table.now.rows column) }
+    requires placed { is_dictionary form ≡ true → filled (length table.now.rows) seen.now.places ≡ places_of (base_at table.now.kind column) form seen.now.ladder.values (column_in table.now.rows column) }
     requires room { cells_len (stored_column form seen.now.ladder.values table.now column) < 2 ^ 31 }
     ensures { IfOk result (λ built. built ≡ record { width = width_for (base_at table.now.kind column) form; cells = stored_column form seen.now.ladder.values table.now column }) }
 {
     if is_dictionary(form) {
-        indexes_for(alloc, form, &seen.places)
+        indexes_for(alloc, form, &seen.places, table.rows())
     } else {
         values_for(alloc, table, column, form)
     }
@@ -98,21 +98,24 @@ fn values_for(
     Ok(built)
 }
 
-// A column that is written as indexes: the places of its values.
+// A column that is written as indexes: the places of its values, and nulls after these.
 fn indexes_for(
     alloc: Global,
     form: ColumnForm,
     places: &[Option<u32>],
+    rows: u64,
 ) -> Result<ColumnBuilder, AllocError>
+    requires few { length places.now ≤ rows }
     requires reached { (row : ℕ) → IsIndexFor form (slice_index_or places.now row None) }
-    requires room { cells_len (map (index_of form) places.now) < 2 ^ 31 }
-    ensures { IfOk result (λ built. built ≡ record { width = Fixed (index_width form); cells = map (index_of form) places.now }) }
+    requires room { cells_len (map (index_of form) (filled rows places.now)) < 2 ^ 31 }
+    ensures { IfOk result (λ built. built ≡ record { width = Fixed (index_width form); cells = map (index_of form) (filled rows places.now) }) }
 {
     let width = Width::Fixed(index_width(form));
-    let mut built = ColumnBuilder::for_rows(alloc, width, places.len())?;
+    let mut built = ColumnBuilder::for_rows(alloc, width, rows as usize)?;
     'rows: for row in 0..places.len() {
         push_index(&mut built, form, places[row])?;
     }
+    built.push_nulls(rows - places.len() as u64)?;
     Ok(built)
 }
 

@@ -1,6 +1,6 @@
 //! What the writer keeps of a column of the tables that it wrote.
 
-ghost use Rattle.std.specs.Prelude.{◌≡◌, ◌<◌, false, ◌&&◌, ◌||◌, [], List, fold, map, true, if◌then◌else◌, IfOk, OnOk};
+ghost use Rattle.std.specs.Prelude.{◌≡◌, ◌<◌, false, length, ◌&&◌, ◌||◌, [], List, fold, map, true, if◌then◌else◌, IfOk, OnOk};
 ghost use Rattle.std.specs.List.{list_any};
 ghost use Rattle.otap_cells.specs.Bases.{is_id};
 ghost use Rattle.otap_cells.specs.Cells.{IsCellOf, seen};
@@ -11,7 +11,7 @@ ghost use Rattle.otap_dicts.specs.declared.form.Form.TheVariants.{Plain};
 ghost use Rattle.otap_dicts.specs.Ladders.{is_dictionary, is_plain};
 ghost use Rattle.otap_columns.specs.declared.forms.ColumnForm.TheVariants as form;
 ghost use Rattle.otap_columns.specs.Observed.{bytes_for, form_at, has_wide_id, is_above, is_main, is_own_id, is_wide, of_ladder};
-ghost use Rattle.otap_columns.specs.Seen.{IsSeenAfter, SeesTable, form_told, id_form_told, is_absent, may_widen, observed_if, places_of};
+ghost use Rattle.otap_columns.specs.Seen.{IsSeenAfter, SeesTable, filled, form_told, id_form_told, is_absent, may_widen, observed_if, places_of};
 ghost use Rattle.otap_columns.specs.WrittenCells.{place_in, shown};
 
 use crate::forms::ColumnForm;
@@ -28,7 +28,8 @@ use std::marker::Model;
 pub(crate) struct SeenColumn {
     pub(crate) ladder: Ladder,
     pub(crate) wide: bool,
-    // Of each row of the last table, the place of its value in the dictionary. Left open where the column isn't one.
+    // Of each row of the last table, up to the last one in which the column was set, the place of its value in the dictionary. Left
+    // open where the column isn't one.
     pub(crate) places: Vec<Option<u32>>,
 }
 
@@ -73,7 +74,7 @@ impl SeenColumn {
         requires coded { is_id_at table.now.kind column ≡ true → coding_in table.now column ≡ coding_at table.now.kind column }
         ensures ladder { OnOk result (self.new.ladder ≡ fold observed_if self.old.ladder (map (bytes_for (base_at table.now.kind column) form.Wide) (column_in table.now.rows column))) }
         ensures wide { OnOk result (self.new.wide ≡ (self.old.wide || (may_widen (base_at table.now.kind column) && has_wide_id table.now.kind column table.now))) }
-        ensures placed { OnOk result (is_dictionary self.new.ladder.form ≡ true → self.new.places ≡ places_of (base_at table.now.kind column) form.Wide self.new.ladder.values (column_in table.now.rows column)) }
+        ensures placed { OnOk result (is_dictionary self.new.ladder.form ≡ true → filled (length table.now.rows) self.new.places ≡ places_of (base_at table.now.kind column) form.Wide self.new.ladder.values (column_in table.now.rows column)) }
     {
         observe_values(&mut self.ladder, &mut self.places, table, column)?;
         if !self.wide {
@@ -179,7 +180,7 @@ fn needs_wide(alloc: Global, table: &LogicalTable, column: u32) -> Result<bool, 
 }
 
 // Observes the cells of a column, and notes their places. Once the column is plain no cell is looked at, nor any after the last
-// one that was set, and a cell that is the same as the one before isn't looked up. A column without values has no places.
+// one that was set, and a cell that is the same as the one before isn't looked up.
 fn observe_values(
     ladder: &mut Ladder,
     places: &mut Vec<Option<u32>>,
@@ -188,7 +189,7 @@ fn observe_values(
 ) -> Result<(), AllocError>
     requires { column < width_of table.now.kind }
     ensures ladder { OnOk result (ladder.new ≡ fold observed_if ladder.old (map (bytes_for (base_at table.now.kind column) form.Wide) (column_in table.now.rows column))) }
-    ensures placed { OnOk result (is_dictionary ladder.new.form ≡ true → places.new.items ≡ places_of (base_at table.now.kind column) form.Wide ladder.new.values (column_in table.now.rows column)) }
+    ensures placed { OnOk result (is_dictionary ladder.new.form ≡ true → filled (length table.now.rows) places.new.items ≡ places_of (base_at table.now.kind column) form.Wide ladder.new.values (column_in table.now.rows column)) }
 {
     a_value_again_changes_nothing();
     places_stay();
@@ -208,9 +209,6 @@ fn observe_values(
         }
         places.push(place)?;
         before = cell;
-    }
-    if is_dictionary(ladder.form()) {
-        places.resize(table.rows() as usize, None)?;
     }
     Ok(())
 }
@@ -241,13 +239,6 @@ fn is_plain(form: Form) -> bool
     ensures plain { result ≡ true → form ≡ Plain }
 {
     matches!(form, Form::Plain)
-}
-
-// Whether a form is that of a dictionary.
-fn is_dictionary(form: Form) -> bool
-    ensures { result ≡ is_dictionary form }
-{
-    matches!(form, Form::Dict8 | Form::Dict16)
 }
 
 fn observe_cell(ladder: &mut Ladder, cell: &CellBytes<'_>) -> Result<Option<u32>, AllocError>

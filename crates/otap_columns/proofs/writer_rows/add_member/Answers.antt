@@ -3,7 +3,7 @@ use Rattle.arrow_buffers.specs.Columns.{ColumnIn, HasNoFault, cells_of, values_l
 use Rattle.arrow_buffers.specs.declared.width.Width.{Width}
 use Rattle.otap_cells.specs.Columns.{base_at}
 use Rattle.otap_cells.specs.Tables.{column_in}
-use Rattle.otap_columns.specs.Seen.{SeenIn, places_of}
+use Rattle.otap_columns.specs.Seen.{SeenIn, filled, places_of}
 use Rattle.otap_columns.specs.Schemas.{is_dictionary, is_there}
 use Rattle.otap_columns.specs.WrittenCells.{column_most, stored_column, width_for}
 use Rattle.otap_columns.specs.WrittenGroups.{forms_in, member_in}
@@ -24,7 +24,7 @@ column_for-requires-clause-placed c =
     let t = c.args.table.now in
     let column = c.args.member.now.column in
     let form_is : c.form_of-form.result ≡ forms_in c.args.forms.now column = c.form_of-form.ensures in
-    ap (λ (s : SeenIn). s.places) c.seen_at-seen.ensures
+    ap (λ (s : SeenIn). filled (length t.rows) s.places) c.seen_at-seen.ensures
     ∙ c.requires.can.placed column c.requires.column (ap is_dictionary (sym form_is) ∙ dictionary)
     ∙ sym (λ i. places_of (base_at t.kind column) (form_is i) (c.seen_at-seen.ensures i).ladder.values (column_in t.rows column))
 

@@ -51,18 +51,13 @@ rows-preserved c =
     c.in_ok-place.place (c.in_ok-place.ensures.place ∙ ap (λ b. place_in c.observe_after.new.ladder.values (bytes_for b form.Wide (seen c.cell-cell.result))) base_is)
     (ap is_plain (sym c.form-in-rows.ensures) ∙ sym c.is_plain-in-rows.ensures.is ∙ c.if-is_plain-2.false))
 
-pub returns-in_ok-resize-clause-ladder : goal.returns-in_ok-resize-clause-ladder
-returns-in_ok-resize-clause-ladder c =
+pub returns-clause-ladder : goal.returns-clause-ladder
+returns-clause-ladder c =
     c.rows.invariant.so_far
     ∙ seen_to_last (base_at c.args.table.now.kind c.args.column) c.args.table.now.rows c.args.column c.rows.row c.args.ladder.now (λ row le. c.set_rows-count.ensures.null row (omega (arith, le)))
 
-pub returns-else-is_dictionary-clause-ladder : goal.returns-else-is_dictionary-clause-ladder
-returns-else-is_dictionary-clause-ladder c =
-    c.rows.invariant.so_far
-    ∙ seen_to_last (base_at c.args.table.now.kind c.args.column) c.args.table.now.rows c.args.column c.rows.row c.args.ladder.now (λ row le. c.set_rows-count.ensures.null row (omega (arith, le)))
-
-pub returns-in_ok-resize-clause-placed : goal.returns-in_ok-resize-clause-placed
-returns-in_ok-resize-clause-placed c =
+pub returns-clause-placed : goal.returns-clause-placed
+returns-clause-placed c =
     λ dictionary.
-    all_placed (base_at c.args.table.now.kind c.args.column) c.args.table.now.rows c.args.column c.rows.row c.rows-then-is_dictionary.result c.rows.places.len c.rows.ladder.values c.rows.places.items c.resize.new.self.items
-    c.rows.invariant.here (omega (arith, c.rows.places.ok)) c.rows-then-is_dictionary.ensures.count (omega (arith, c.set_rows-count.ensures.within)) (λ row le. c.set_rows-count.ensures.null row (omega (arith, le))) c.in_ok-resize.ensures.items
+    all_placed (base_at c.args.table.now.kind c.args.column) c.args.table.now.rows c.args.column c.rows.row c.rows.ladder.values c.rows.places.items c.rows.invariant.here
+    (omega (arith, c.set_rows-count.ensures.within)) (λ row le. c.set_rows-count.ensures.null row (omega (arith, le)))
