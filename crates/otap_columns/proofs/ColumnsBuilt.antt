@@ -184,6 +184,30 @@ nones_at_end zero n cells none all =
 nones_at_end (suc k) n [] none all = absurd (omega (arith, all))
 nones_at_end (suc k) n (x ∷ cells) none all = ap (λ (xs : List (Option (List ℕ))). x ∷ xs) (nones_at_end k n cells (λ row le. none (suc row) (omega (arith, le))) (omega (arith, all)))
 
+-- the rows before the first one that was set
+pub nulls_on : (rows : List (List Cell)) (column row : ℕ) → ((k : ℕ) → k < row → cell_in rows column k ≡ null) → cell_in rows column row ≡ null → (k : ℕ) → k < row + 1 → cell_in rows column k ≡ null
+nulls_on rows column row none here k lt = elim (cases_lt k row) [
+  | inl low ↦ none k low
+  | inr ge ↦ let same : k ≡ row = omega (arith, lt, ge) in ap (cell_in rows column) same ∙ here
+]
+
+nones_at_first : (k : ℕ) (cells : List (Option (List ℕ))) → ((row : ℕ) → row < k → get_or cells row None ≡ None) → k ≤ length cells → replicate k None ≡ take k cells
+nones_at_first zero cells none low = refl
+nones_at_first (suc k) [] none low = absurd (omega (arith, low))
+nones_at_first (suc k) (None ∷ cells) none low =
+    ap (λ (xs : List (Option (List ℕ))). None ∷ xs) (nones_at_first k cells (λ row lt. none (suc row) (omega (arith, lt))) (omega (arith, low)))
+nones_at_first (suc k) (Some value ∷ cells) none low = absurd (let wrong : Some value ≡ None = none 0 (omega arith) in cc)
+
+pub nulls_first : (f : ColumnForm) (t : Table) (column k : ℕ) → is_dictionary f ≡ false
+    → ((row : ℕ) → row < k → cell_in t.rows column row ≡ null) → k ≤ length t.rows → replicate k None ≡ take k (stored_column f [] t column)
+nulls_first f t column k plain none low =
+    nones_at_first k (stored_column f [] t column)
+    (λ row lt.
+    stored_at f [] t column row (omega (arith, lt, low))
+    ∙ sym (plain_stored (base_at t.kind column) f [] (cell_in t.rows column row) plain)
+    ∙ ap (bytes_for (base_at t.kind column) f) (none row lt))
+    (omega (arith, low, stored_len f [] t column))
+
 -- where no cell was set from a row on, the values of the rows before it and nulls are the column
 module _ (f : ColumnForm) (t : Table) (column k : ℕ) (plain : is_dictionary f ≡ false) (none : (row : ℕ) → k ≤ row → cell_in t.rows column row ≡ null) where
   stored_null : (row : ℕ) → k ≤ row → get_or (stored_column f [] t column) row None ≡ None

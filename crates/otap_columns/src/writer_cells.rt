@@ -6,6 +6,7 @@ ghost use Rattle.arrow_buffers.specs.Columns.{HasWidth, cell_len, cells_len};
 ghost use Rattle.std.specs.Option.{ForSome, option_copied};
 ghost use Rattle.byteorder.specs.Endian.{little_bytes};
 ghost use Rattle.otap_cells.specs.Cells.{IsCellOf, IsNumberOf, null, number, seen};
+ghost use Rattle.otap_cells.specs.Columns.{width_of};
 ghost use Rattle.otap_cells.specs.Tables.{cell_in};
 ghost use Rattle.otap_columns.specs.Observed.{FitsForm, bytes_for, id_bits, id_width, number_bytes};
 ghost use Rattle.otap_columns.specs.Schemas.{is_dictionary};
@@ -183,6 +184,28 @@ pub(crate) fn set_rows(table: &LogicalTable, column: u32) -> u64
     let reach = table.reach(column);
     let rows = table.rows();
     if reach < rows { reach } else { rows }
+}
+
+/// How many of the first `count` rows there are before the first one in which a column was set.
+pub(crate) fn unset_rows(table: &LogicalTable, column: u32, count: u64) -> u64
+    requires column { column < width_of table.now.kind }
+    requires count { count ≤ length table.now.rows }
+    ensures within { result ≤ count }
+    ensures null { (row : ℕ) → row < result → cell_in table.now.rows column row ≡ null }
+{
+    'rows: for row in 0..count {
+        if !is_null(table.cell(column, row)) {
+            return row;
+        }
+    }
+    count
+}
+
+// Whether a cell is null.
+fn is_null(cell: CellView<'_>) -> bool
+    ensures { result ≡ true → seen cell.entry ≡ null }
+{
+    matches!(cell, CellView::Null)
 }
 
 /// Whether two cells are the same. Takes the time to compare their bytes.

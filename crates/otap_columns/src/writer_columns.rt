@@ -13,7 +13,7 @@ ghost use Rattle.otap_columns.specs.Seen.{filled, places_of};
 ghost use Rattle.otap_columns.specs.WrittenCells.{FitsColumn, FitsIndexes, HasRoom, IsIndexFor, index_of, index_width, parts_of, plain_width, stored_column, width_for, with_parts};
 
 use crate::forms::ColumnForm;
-use crate::writer_cells::{is_dictionary, push_index, push_value, set_rows};
+use crate::writer_cells::{is_dictionary, push_index, push_value, set_rows, unset_rows};
 use crate::writer_seen::SeenColumn;
 use arrow_buffers::{Buffers, ColumnBuilder, Width};
 use arrow_ipc::BatchBuilder;
@@ -74,7 +74,7 @@ pub(crate) fn column_for(
     }
 }
 
-// A column that is written as its values. No cell is looked at after the last one that was set.
+// A column that is written as its values. The nulls before the first cell that was set and after the last one are added at once.
 fn values_for(
     alloc: Global,
     table: &LogicalTable,
@@ -91,7 +91,9 @@ fn values_for(
     let rows = table.rows();
     let mut built = ColumnBuilder::for_rows(alloc, width_for(base, form), rows as usize)?;
     let count = set_rows(table, column);
-    'rows: for row in 0..count {
+    let first = unset_rows(table, column, count);
+    built.push_nulls(first)?;
+    'rows: for row in first..count {
         push_value(&mut built, base, form, table.cell(column, row))?;
     }
     built.push_nulls(rows - count)?;
