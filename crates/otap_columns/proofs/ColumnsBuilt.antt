@@ -185,13 +185,7 @@ nones_at_end (suc k) n [] none all = absurd (omega (arith, all))
 nones_at_end (suc k) n (x ∷ cells) none all = ap (λ (xs : List (Option (List ℕ))). x ∷ xs) (nones_at_end k n cells (λ row le. none (suc row) (omega (arith, le))) (omega (arith, all)))
 
 -- the rows before the first one that was set
-pub nulls_on : (rows : List (List Cell)) (column row : ℕ) → ((k : ℕ) → k < row → cell_in rows column k ≡ null) → cell_in rows column row ≡ null → (k : ℕ) → k < row + 1 → cell_in rows column k ≡ null
-nulls_on rows column row none here k lt = elim (cases_lt k row) [
-  | inl low ↦ none k low
-  | inr ge ↦ let same : k ≡ row = omega (arith, lt, ge) in ap (cell_in rows column) same ∙ here
-]
-
-nones_at_first : (k : ℕ) (cells : List (Option (List ℕ))) → ((row : ℕ) → row < k → get_or cells row None ≡ None) → k ≤ length cells → replicate k None ≡ take k cells
+pub nones_at_first : (k : ℕ) (cells : List (Option (List ℕ))) → ((row : ℕ) → row < k → get_or cells row None ≡ None) → k ≤ length cells → replicate k None ≡ take k cells
 nones_at_first zero cells none low = refl
 nones_at_first (suc k) [] none low = absurd (omega (arith, low))
 nones_at_first (suc k) (None ∷ cells) none low =

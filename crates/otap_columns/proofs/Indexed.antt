@@ -88,6 +88,16 @@ no_indexes : (f : ColumnForm) (n : ℕ) → map (index_of f) (replicate n None) 
 no_indexes f zero = refl
 no_indexes f (suc n) = ap (λ (xs : List (Option (List ℕ))). None ∷ xs) (no_indexes f n)
 
+nones_placed : (k : ℕ) (places : List (Option ℕ)) → ((row : ℕ) → row < k → get_or places row None ≡ None) → k ≤ length places → replicate k None ≡ take k places
+nones_placed zero places none low = refl
+nones_placed (suc k) [] none low = absurd (omega (arith, low))
+nones_placed (suc k) (None ∷ places) none low =
+    ap (λ (ps : List (Option ℕ)). None ∷ ps) (nones_placed k places (λ row lt. none (suc row) (omega (arith, lt))) (omega (arith, low)))
+nones_placed (suc k) (Some place ∷ places) none low = absurd (let wrong : Some place ≡ None = none 0 (omega arith) in cc)
+
+pub nulls_indexed : (f : ColumnForm) (k : ℕ) (places : List (Option ℕ)) → ((row : ℕ) → row < k → get_or places row None ≡ None) → k ≤ length places → replicate k None ≡ map (index_of f) (take k places)
+nulls_indexed f k places none low = sym (no_indexes f k) ∙ ap (map (index_of f)) (nones_placed k places none low)
+
 pub filled_indexes : (f : ColumnForm) (places : List (Option ℕ)) (n : ℕ) → map (index_of f) (places ++ replicate n None) ≡ map (index_of f) places ++ replicate n None
 filled_indexes f places n = map-append (index_of f) places (replicate n None) ∙ ap (λ (xs : List (Option (List ℕ))). map (index_of f) places ++ xs) (no_indexes f n)
 

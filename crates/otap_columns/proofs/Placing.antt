@@ -11,7 +11,7 @@ use Rattle.otap_columns.specs.declared.forms.ColumnForm.TheVariants as form
 use Rattle.otap_columns.specs.Observed.{bytes_for}
 use Rattle.otap_columns.specs.Seen.{filled, observed_if, places_of}
 use Rattle.otap_columns.specs.WrittenCells.{place_in}
-use Rattle.otap_columns.proofs.ColumnsBuilt.{cell_at-map}
+use Rattle.otap_columns.proofs.ColumnsBuilt.{cell_at-map, nones_at_first}
 use Rattle.otap_columns.proofs.SeenOn.{again_changes_nothing, cells_more, null_cell, plain_stays}
 
 -- a value that has a place
@@ -63,9 +63,43 @@ pub record IsObserved (holds : Base) (rows : List (List Cell)) (column row : ℕ
   pub found : AreFound now.values (take row (map (bytes_for holds form.Wide) (column_in rows column)))
   pub climbs : is_plain now.form ≡ false
 
-pub none_observed : (holds : Base) (rows : List (List Cell)) (column : ℕ) (start : LadderIn) (places : List (Option ℕ)) → places ≡ [] → is_plain start.form ≡ false
-    → IsObserved holds rows column 0 start start places None None
-none_observed holds rows column start places none climbs = record { so_far = refl; again = refl; placed = refl; here = none; found = tt; climbs = climbs }
+nones_change_nothing : (n : ℕ) (l : LadderIn) → l ≡ fold observed_if l (replicate n None)
+nones_change_nothing zero l = refl
+nones_change_nothing (suc n) l = nones_change_nothing n l
+
+no_places : (n : ℕ) (values : List (List ℕ)) → replicate n None ≡ map (place_in values) (replicate n None)
+no_places zero values = refl
+no_places (suc n) values = ap (λ (ps : List (Option ℕ)). None ∷ ps) (no_places n values)
+
+nones_found : (n : ℕ) (values : List (List ℕ)) → AreFound values (replicate n None)
+nones_found zero values = tt
+nones_found (suc n) values = (tt, nones_found n values)
+
+-- nothing was observed in the rows before the first one that was set
+pub none_observed : (holds : Base) (rows : List (List Cell)) (column first : ℕ) (start : LadderIn) (places : List (Option ℕ)) → places ≡ replicate first None → ((row : ℕ) → row < first → cell_in rows column row ≡ null)
+    → first ≤ length rows → is_plain start.form ≡ false → IsObserved holds rows column first start start places None None
+none_observed holds rows column first start places none null_first low climbs =
+    let cells = map (bytes_for holds form.Wide) (column_in rows column) in
+    let long : length cells ≡ length rows = length-map (column_in rows column) (bytes_for holds form.Wide) ∙ length-map rows (λ row. get_or row column null) in
+    let nones : replicate first None ≡ take first cells = nones_at_first first cells (λ row lt. null_cell holds rows column row (null_first row lt)) (omega (arith, long, low)) in
+    record {
+      so_far = nones_change_nothing first start ∙ ap (λ (cs : List (Option (List ℕ))). fold observed_if start cs) nones;
+      again = refl;
+      placed = refl;
+      here = none ∙ no_places first start.values ∙ ap (map (place_in start.values)) nones;
+      found = subst (AreFound start.values) nones (nones_found first start.values);
+      climbs = climbs;
+    }
+
+take_nothing : (n : ℕ) (old : List (Option ℕ)) → old ≡ [] → take n old ≡ []
+take_nothing zero old none = refl
+take_nothing (suc n) [] none = refl
+take_nothing (suc n) (place ∷ old) none = absurd (omega (arith, ap length none))
+
+pub emptied : (n len : ℕ) (old : List (Option ℕ)) → old ≡ [] → len ≡ length old → take n old ++ replicate (n - len) None ≡ replicate n None
+emptied n len old none is =
+    let no_len : n - len ≡ n = omega (arith, is, ap length none) in
+    λ i. take_nothing n old none i ++ replicate (no_len i) None
 
 module _ (laws : Laws) (holds : Base) (rows : List (List Cell)) (column row : ℕ) (start now next : LadderIn) (places : List (Option ℕ)) (last : Option (List ℕ)) (place : Option ℕ) (x : Option (List ℕ))
     (so_far : IsObserved holds rows column row start now places last place) (low : row < length rows) (is : x ≡ bytes_for holds form.Wide (cell_in rows column row)) (on : next ≡ observed_if now x) where

@@ -100,7 +100,8 @@ fn values_for(
     Ok(built)
 }
 
-// A column that is written as indexes: the places of its values, and nulls after these.
+// A column that is written as indexes: the places of its values. The nulls before the first place and after the last one are
+// added at once.
 fn indexes_for(
     alloc: Global,
     form: ColumnForm,
@@ -114,11 +115,26 @@ fn indexes_for(
 {
     let width = Width::Fixed(index_width(form));
     let mut built = ColumnBuilder::for_rows(alloc, width, rows as usize)?;
-    'rows: for row in 0..places.len() {
+    let first = unplaced_rows(places);
+    built.push_nulls(first as u64)?;
+    'rows: for row in first..places.len() {
         push_index(&mut built, form, places[row])?;
     }
     built.push_nulls(rows - places.len() as u64)?;
     Ok(built)
+}
+
+// How many rows there are before the first one that has a place.
+fn unplaced_rows(places: &[Option<u32>]) -> usize
+    ensures within { result ≤ length places.now }
+    ensures none { (row : ℕ) → row < result → slice_index_or places.now row None ≡ None }
+{
+    'rows: for row in 0..places.len() {
+        if places[row].is_some() {
+            return row;
+        }
+    }
+    places.len()
 }
 
 // How many bytes an index has.

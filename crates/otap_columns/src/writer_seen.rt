@@ -15,7 +15,7 @@ ghost use Rattle.otap_columns.specs.Seen.{IsSeenAfter, SeesTable, filled, form_t
 ghost use Rattle.otap_columns.specs.WrittenCells.{place_in, shown};
 
 use crate::forms::ColumnForm;
-use crate::writer_cells::{CellBytes, bytes_for, is_same, set_rows};
+use crate::writer_cells::{CellBytes, bytes_for, is_same, set_rows, unset_rows};
 use crate::writer_ids::has_wide_id;
 use otap_cells::{Base, CellView, Kind, LogicalTable, Rows, base_of, columns};
 use otap_dicts::laws::{a_value_again_changes_nothing, places_stay};
@@ -179,8 +179,8 @@ fn needs_wide(alloc: Global, table: &LogicalTable, column: u32) -> Result<bool, 
     has_wide_id(alloc, table, column)
 }
 
-// Observes the cells of a column, and notes their places. Once the column is plain no cell is looked at, nor any after the last
-// one that was set, and a cell that is the same as the one before isn't looked up.
+// Observes the cells of a column from the first one that was set to the last one, and notes their places. Once the column is
+// plain no cell is looked at, and a cell that is the same as the one before isn't looked up.
 fn observe_values(
     ladder: &mut Ladder,
     places: &mut Vec<Option<u32>>,
@@ -201,7 +201,9 @@ fn observe_values(
     let mut before = CellView::Null;
     let mut place = None;
     let count = set_rows(table, column);
-    'rows: for row in 0..count {
+    let first = unset_rows(table, column, count);
+    places.resize(first as usize, None)?;
+    'rows: for row in first..count {
         let cell = table.cell(column, row);
         place = observe_after(ladder, base, before, place, cell)?;
         if is_plain(ladder.form()) {

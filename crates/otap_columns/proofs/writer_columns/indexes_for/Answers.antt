@@ -1,9 +1,15 @@
-use Rattle.std.proofs.Common.{◌≡◌, ◌-◌, ◌++◌, List, Option, ℕ, None, length, map, take, replicate, arith, ap, sym, ◌∙◌}
+use Rattle.std.proofs.Common.{◌≡◌, ◌-◌, ◌++◌, None, length, map, take, replicate, arith, sym, ◌∙◌}
 use Rattle.std.proofs.lemmas.List.{take_all}
 use Rattle.arrow_buffers.specs.declared.width.Width.TheVariants.{Fixed}
 use Rattle.otap_columns.specs.WrittenCells.{index_of, index_width}
-use Rattle.otap_columns.proofs.Indexed.{filled_indexes, filled_room, index_room}
+use Rattle.otap_columns.proofs.Indexed.{filled_indexes, filled_room, index_room, nulls_indexed}
 use Rattle.otap_columns.proofs.writer_columns.indexes_for.Goals as goal
+
+pub rows-init : goal.rows-init
+rows-init c =
+    c.in_ok-push_nulls.ensures.ok
+    ∙ (λ i. record { width = (c.in_ok-built.ensures i).width; cells = (c.in_ok-built.ensures i).cells ++ replicate c.unplaced_rows-first.result None })
+    ∙ (λ i. record { width = Fixed (c.index_width.ensures i); cells = nulls_indexed c.args.form c.unplaced_rows-first.result c.args.places.now c.unplaced_rows-first.ensures.none c.unplaced_rows-first.ensures.within i })
 
 pub push_index-requires-clause-room : goal.push_index-requires-clause-room
 push_index-requires-clause-room c =
@@ -14,7 +20,7 @@ pub returns : goal.returns
 returns c =
     let n = c.args.rows - length c.args.places.now in
     let all : take c.rows.row c.args.places.now ≡ c.args.places.now = take_all c.rows.row c.args.places.now (omega arith) in
-    c.in_ok-push_nulls.ensures.ok
+    c.in_ok-push_nulls-2.ensures.ok
     ∙ (λ i. record { width = (c.rows.invariant i).width; cells = (c.rows.invariant i).cells ++ replicate n None })
     ∙ (λ i. record { width = Fixed (index_width c.args.form); cells = map (index_of c.args.form) (all i) ++ replicate n None })
     ∙ (λ i. record { width = Fixed (index_width c.args.form); cells = sym (filled_indexes c.args.form c.args.places.now n) i })

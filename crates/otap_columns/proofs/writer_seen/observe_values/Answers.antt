@@ -7,7 +7,7 @@ use Rattle.otap_columns.specs.declared.forms.ColumnForm.TheVariants as form
 use Rattle.otap_columns.specs.Observed.{bytes_for}
 use Rattle.otap_columns.specs.Seen.{observed_if}
 use Rattle.otap_columns.specs.WrittenCells.{place_in}
-use Rattle.otap_columns.proofs.Placing.{IsObserved, Laws, all_placed, one_more_observed, plain_from_here}
+use Rattle.otap_columns.proofs.Placing.{IsObserved, Laws, all_placed, emptied, none_observed, one_more_observed, plain_from_here}
 use Rattle.otap_columns.proofs.SeenOn.{plain_stays, seen_to_last}
 use Rattle.otap_columns.proofs.writer_seen.observe_values.Goals as goal
 
@@ -31,6 +31,13 @@ returns-then-is_plain-2-clause-ladder c =
     (bytes_for holds form.Wide (seen c.cell-cell.result)) c.rows.invariant low (ap (bytes_for holds form.Wide) c.cell-cell.ensures.value)
     (c.in_ok-place.ensures.ladder ∙ ap (λ b. observed_if c.rows.ladder (bytes_for b form.Wide (seen c.cell-cell.result))) base_is)
     (sym c.form-in-rows.ensures ∙ c.is_plain-in-rows.ensures.plain c.if-is_plain-2.true)
+
+pub rows-init : goal.rows-init
+rows-init c =
+    none_observed (base_at c.args.table.now.kind c.args.column) c.args.table.now.rows c.args.column c.unset_rows-first.result c.args.ladder.now c.resize.new.self.items
+    (c.in_ok-resize.ensures.items ∙ emptied c.unset_rows-first.result c.clear.new.self.len c.clear.new.self.items c.clear.ensures.items (omega (arith, c.clear.new.self.ok)))
+    c.unset_rows-first.ensures.null (omega (arith, c.unset_rows-first.ensures.within, c.set_rows-count.ensures.within))
+    (ap is_plain (sym c.form.ensures) ∙ sym c.is_plain.ensures.is ∙ c.if-is_plain.false)
 
 pub rows-preserved : goal.rows-preserved
 rows-preserved c =
