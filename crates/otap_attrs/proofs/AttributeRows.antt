@@ -81,6 +81,22 @@ pair_fits table.NumberExemplarAttrs parent key cells e p k v = (id_cell true tru
 pair_fits table.HistExemplarAttrs parent key cells e p k v = (id_cell true true parent p, (k, cells_row (drop 2 deep_attrs) value_bases cells refl v))
 pair_fits _ parent key cells e p k v = absurd cc
 
+-- the cell of a parent
+pub id_fits : (kind : Kind) → has_attributes kind ≡ true → (cell : Cell) → IsCellOf (base.Id true) cell → IsCellOf (base_at kind 0) cell
+unfolding attrs deep_attrs
+id_fits table.ResourceAttrs e cell p = id_cell true false cell p
+id_fits table.ScopeAttrs e cell p = id_cell true false cell p
+id_fits table.LogAttrs e cell p = id_cell true false cell p
+id_fits table.SpanAttrs e cell p = id_cell true false cell p
+id_fits table.EventAttrs e cell p = p
+id_fits table.LinkAttrs e cell p = p
+id_fits table.NumberPointAttrs e cell p = p
+id_fits table.SummaryPointAttrs e cell p = p
+id_fits table.HistPointAttrs e cell p = p
+id_fits table.NumberExemplarAttrs e cell p = p
+id_fits table.HistExemplarAttrs e cell p = p
+id_fits _ e cell p = absurd cc
+
 -- parents are stored in runs
 pub parents_run : (kind : Kind) → has_attributes kind ≡ true → coding_at kind 0 ≡ coding.Run
 unfolding attrs deep_attrs

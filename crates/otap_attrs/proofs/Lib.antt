@@ -1,3 +1,4 @@
+pub mod AttributeCells
 pub mod AttributeRows
 pub mod AttributesWeighed
 pub mod CellFits

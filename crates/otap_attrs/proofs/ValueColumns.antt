@@ -1,5 +1,5 @@
 -- The columns of a value, wherever they begin.
-use Rattle.std.proofs.Common.{◌≡◌, ℕ, suc, ◌+◌, ◌-◌, ◌<◌, ◌≤◌, true, List, [], ◌∷◌, map, take, drop, length, refl, sym, ap, ◌∙◌, arith, min}
+use Rattle.std.proofs.Common.{◌≡◌, ℕ, ◌+◌, ◌<◌, ◌≤◌, true, List, [], take, drop, length, sym, ap, ◌∙◌, arith}
 use Rattle.std.specs.List.{slice_index_or}
 use Rattle.std.proofs.Math.ListN.{get_or-map}
 use Rattle.std.proofs.lemmas.List.{get_or-take, get_or-drop, length-map, length-take, length-drop}
@@ -9,7 +9,7 @@ use Rattle.otap_cells.specs.declared.profile.Base.{Base}
 use Rattle.otap_cells.specs.declared.profile.Base.TheVariants as base
 use Rattle.otap_cells.specs.Cells.{Cell, null}
 use Rattle.otap_cells.specs.Scalars.{is_unsigned}
-use Rattle.otap_cells.specs.Columns.{ColumnSpec, plain, columns_of, column_at, base_at, width_of, attrs, deep_attrs, metrics, number_points, summary_points, hist_points, exemplars, logs, spans, span_events, span_links}
+use Rattle.otap_cells.specs.Columns.{ColumnSpec, plain, columns_of, base_at, width_of, attrs, deep_attrs, metrics, number_points, summary_points, hist_points, exemplars, logs, spans, span_events, span_links}
 use Rattle.otap_cells.specs.Continuing.{cell_at}
 use Rattle.otap_attrs.specs.Values.{HasValueAt, value_bases}
 
@@ -19,7 +19,7 @@ value_width kind column has =
     let part = drop column (columns_of kind) in
     omega (arith, ap length has.bases, length-map (take 7 part) (λ (c : ColumnSpec). c.base), length-take 7 part, length-drop column (columns_of kind))
 
-value_base : (kind : Kind) (column k : ℕ) → HasValueAt kind column → k < 7 → base_at kind (column + k) ≡ slice_index_or value_bases k base.Binary
+pub value_base : (kind : Kind) (column k : ℕ) → HasValueAt kind column → k < 7 → base_at kind (column + k) ≡ slice_index_or value_bases k base.Binary
 value_base kind column k has near =
     let part = drop column (columns_of kind) in
     let d = plain [] base.Binary in

@@ -1,16 +1,20 @@
 //! Pairs as rows of attributes.
-ghost use Rattle.std.specs.Prelude.{◌≡◌, ◌≤◌, ◌++◌, ◌∷◌, [], true, All, length, map, pos, take, IfOk, OnErr, OnOk};
+ghost use Rattle.std.specs.Prelude.{◌≡◌, ◌<◌, ◌≤◌, ◌++◌, ◌∷◌, [], true, suc, All, length, map, pos, take, IfOk, OnErr, OnOk};
 ghost use Rattle.otlp_model.specs.Limits.{weight_limit};
 ghost use Rattle.otlp_model.specs.Weight.{total, weight_of_pair, weight_of_value};
 ghost use Rattle.otap_cells.specs.declared.profile.Base.TheVariants as base;
 ghost use Rattle.otap_cells.specs.Cells.{IsCellOf, number, seen};
-ghost use Rattle.otap_cells.specs.Continuing.{has_attributes};
+ghost use Rattle.otap_cells.specs.Columns.{base_at, width_of};
+ghost use Rattle.otap_cells.specs.Continuing.{has_attributes, seen_attribute};
+ghost use Rattle.otap_cells.specs.Scalars.{text_cell};
 ghost use Rattle.otap_groups.specs.Flat.{placed_at};
-ghost use Rattle.otap_attrs.specs.Inside.{HasNested, seen_placed};
+ghost use Rattle.otap_attrs.specs.Inside.{HasNested, IsWritable, attribute_row, is_null, said_cell, seen_placed, value_place, with_some};
 ghost use Rattle.otap_attrs.specs.Values.{nested_of, pair_row};
 
 use crate::values::{nested_bytes, value_cells};
-use otap_cells::{CellView, LogicalTable, text_cell};
+use otap_cells::{
+    Attribute, CellView, LogicalTable, bits_cell, flag_cell, int_cell, number_cell, text_cell,
+};
 use otlp_model::{Items, Pair};
 use std::alloc::{AllocError, Global};
 
@@ -83,10 +87,86 @@ pub(crate) fn add_pair(
     ])
 }
 
-/// The cell of a parent, whose number stands there as it is.
+/// Appends the row of what an attribute of a parent says. The parent's number stands there as it is.
+pub(crate) fn add_attribute(
+    table: &mut LogicalTable,
+    parent: u32,
+    says: &Attribute<'_>,
+) -> Result<(), AllocError>
+    requires kind { has_attributes table.old.kind ≡ true }
+    requires fits { IsWritable (seen_attribute says.now) }
+    ensures { OnOk result (table.new ≡ record table.old { rows = table.old.rows ++ attribute_row parent (seen_attribute says.now) ∷ [] }) }
+{
+    table.push_row()?;
+    table.set(0, parent_cell(parent))?;
+    fill(table, 1, bytes_cell(says.key))?;
+    fill(table, 2, number_cell(says.kind))?;
+    fill(table, value_column(says.kind), value_cell(says))?;
+    Ok(())
+}
+
+// Writes a cell of the last row, unless it is null.
+fn fill(table: &mut LogicalTable, column: u32, cell: CellView<'_>) -> Result<(), AllocError>
+    requires column { column < width_of table.old.kind }
+    requires row { 0 < length table.old.rows }
+    requires base { IsCellOf (base_at table.old.kind column) (seen cell) }
+    ensures ok { OnOk result (table.new ≡ record table.old { rows = with_some column (seen cell.entry) table.old.rows }) }
+    ensures kind { table.new.kind ≡ table.old.kind }
+    ensures count { length table.new.rows ≡ length table.old.rows }
+{
+    if is_null(cell) {
+        return Ok(());
+    }
+    table.set(column, cell)
+}
+
+fn is_null(cell: CellView<'_>) -> bool
+    ensures { result ≡ is_null (seen cell.entry) }
+{
+    matches!(cell, CellView::Null)
+}
+
+// The cell of a parent, whose number stands there as it is.
 fn parent_cell<'a>(parent: u32) -> CellView<'a>
     ensures value { seen result ≡ number (pos parent) }
     ensures fits { IsCellOf (base.Id true) (seen result) }
 {
     CellView::Num(i64::from(parent))
+}
+
+// The cell of a key, a text or bytes.
+fn bytes_cell(bytes: &[u8]) -> CellView<'_>
+    ensures { seen result ≡ text_cell bytes.now }
+{
+    if bytes.is_empty() {
+        return CellView::Null;
+    }
+    CellView::Bytes(bytes)
+}
+
+// The column of the values of a type.
+fn value_column(kind: u32) -> u32
+    ensures { result ≡ suc (value_place kind) }
+{
+    match kind {
+        1 => 3,
+        2 => 4,
+        3 => 5,
+        4 => 6,
+        7 => 7,
+        _ => 8,
+    }
+}
+
+// The cell of the value in that column.
+fn value_cell<'a>(says: &Attribute<'a>) -> CellView<'a>
+    ensures { seen result ≡ said_cell (seen_attribute says.now) }
+{
+    match says.kind {
+        2 => int_cell(says.int),
+        3 => bits_cell(says.bits),
+        4 => flag_cell(says.bits == 1),
+        5 | 6 => CellView::Bytes(says.bytes),
+        _ => bytes_cell(says.bytes),
+    }
 }
