@@ -1,6 +1,7 @@
 -- The cells that are written for what an attribute says.
-use Rattle.std.proofs.Common.{◌≡◌, ℕ, zero, suc, ◌+◌, ◌<◌, pos, Bool, true, false, ◌==◌, ◌||◌, List, [], ◌∷◌, ◌++◌, get_or, set, replicate, refl, sym, ap, subst, ◌∙◌, arith, inl, inr}
+use Rattle.std.proofs.Common.{◌≡◌, ℕ, zero, suc, ◌+◌, ◌<◌, pos, Bool, true, false, ◌==◌, ◌||◌, List, [], ◌∷◌, ◌++◌, get_or, set, take, length, replicate, refl, sym, ap, subst, ◌∙◌, arith, inl, inr}
 use Rattle.std.specs.Str.{IsUtf8}
+use Rattle.std.proofs.Math.Seq.{take-append_seam}
 use Rattle.std.proofs.lemmas.Bool.{cases_Bool, cases_eq, ne_eqb}
 use Rattle.otlp_model.specs.declared.value.Value.{Value}
 use Rattle.otlp_model.specs.declared.value.Value as values
@@ -130,6 +131,38 @@ table_written before pushed first second third whole parent a column own key typ
     )
     )
     ∙ ap {B = Table} (λ rows. record before { rows = rows }) (row_written before.kind before.rows parent a is)
+
+-- ---- the former rows, whichever of these was the last
+
+-- rows, and one more
+abbrev pub IsLonger : List (List Cell) → List (List Cell) → Type 0
+IsLonger rows now = (row : List Cell) × (now ≡ rows ++ row ∷ [])
+
+pub longer_pushed : (before pushed : Table) → pushed ≡ record before { rows = before.rows ++ null_row before.kind ∷ [] } → IsLonger before.rows pushed.rows
+longer_pushed before pushed is = (null_row before.kind, ap (λ (t : Table). t.rows) is)
+
+pub longer_cell : (rows : List (List Cell)) (old new : Table) (column : ℕ) (x : Cell) → new ≡ record old { rows = with_cell column x old.rows } → IsLonger rows old.rows → IsLonger rows new.rows
+longer_cell rows old new column x is longer = (
+  set longer.0 column x,
+  ap (λ (t : Table). t.rows) is ∙ ap (with_cell column x) longer.1 ∙ with_cell-push column x rows longer.0,
+)
+
+some_longer : (rows : List (List Cell)) (row : List Cell) (column : ℕ) (x : Cell) → IsLonger rows (with_some column x (rows ++ row ∷ []))
+some_longer rows row column null = (row, refl)
+some_longer rows row column (number n) = (set row column (number n), with_cell-push column (number n) rows row)
+some_longer rows row column (bits n) = (set row column (bits n), with_cell-push column (bits n) rows row)
+some_longer rows row column (flag b) = (set row column (flag b), with_cell-push column (flag b) rows row)
+some_longer rows row column (bytes part) = (set row column (bytes part), with_cell-push column (bytes part) rows row)
+
+pub longer_some : (rows : List (List Cell)) (old new : Table) (column : ℕ) (x : Cell) → new ≡ record old { rows = with_some column x old.rows } → IsLonger rows old.rows → IsLonger rows new.rows
+longer_some rows old new column x is longer =
+    let more = some_longer rows longer.0 column x in
+    (more.0, ap (λ (t : Table). t.rows) is ∙ ap (with_some column x) longer.1 ∙ more.1)
+
+-- a table that is unchanged since
+pub former_stay : (rows : List (List Cell)) (old now : Table) → now ≡ old → IsLonger rows old.rows → take (length rows) now.rows ≡ rows
+former_stay rows old now same longer =
+    ap (λ (t : Table). take (length rows) t.rows) same ∙ ap (take (length rows)) longer.1 ∙ take-append_seam rows (longer.0 ∷ [])
 
 -- ---- they fit their columns
 

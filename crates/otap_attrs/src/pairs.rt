@@ -5,17 +5,15 @@ ghost use Rattle.otlp_model.specs.Weight.{total, weight_of_pair, weight_of_value
 ghost use Rattle.otap_cells.specs.declared.profile.Base.TheVariants as base;
 ghost use Rattle.otap_cells.specs.Cells.{IsCellOf, number, seen};
 ghost use Rattle.otap_cells.specs.Columns.{base_at, width_of};
-ghost use Rattle.otap_cells.specs.Continuing.{has_attributes, seen_attribute};
+ghost use Rattle.otap_cells.specs.Continuing.{attribute_in, has_attributes, seen_attribute};
 ghost use Rattle.otap_cells.specs.Scalars.{text_cell};
 ghost use Rattle.otap_groups.specs.Flat.{placed_at};
 ghost use Rattle.otap_attrs.specs.Inside.{HasNested, IsWritable, attribute_row, is_null, said_cell, seen_placed, value_place, with_some};
-ghost use Rattle.otap_attrs.specs.Values.{nested_of, pair_row};
+ghost use Rattle.otap_attrs.specs.Values.{nested_of, pair_cells, pair_row};
 
-use crate::values::{nested_bytes, value_cells};
-use otap_cells::{
-    Attribute, CellView, LogicalTable, bits_cell, flag_cell, int_cell, number_cell, text_cell,
-};
-use otlp_model::{Items, Pair};
+use crate::values::nested_bytes;
+use otap_cells::{Attribute, CellView, LogicalTable, bits_cell, flag_cell, int_cell, number_cell};
+use otlp_model::{Items, Pair, Value};
 use std::alloc::{AllocError, Global};
 
 // A pair of a parent, and the bytes of its value where that is nested.
@@ -73,22 +71,43 @@ pub(crate) fn add_pair(
     ensures err { OnErr result (take (length table.old.rows) table.new.rows ≡ table.old.rows) }
     ensures kind { table.new.kind ≡ table.old.kind }
 {
-    let key = text_cell(&pair.key);
-    let value = value_cells(&pair.value, nested);
-    table.push_cells(&[
-        parent_cell(parent),
-        key,
-        value[0],
-        value[1],
-        value[2],
-        value[3],
-        value[4],
-        value[5],
-        value[6],
-    ])
+    add_attribute(table, parent, &attribute_of(pair, nested))
 }
 
-/// Appends the row of what an attribute of a parent says. The parent's number stands there as it is.
+/// What the row of a pair says, where `nested` are the bytes of a nested value.
+#[tactic(auto, using(crate::proofs::PairsSaid::says_empty, crate::proofs::PairsSaid::says_str, crate::proofs::PairsSaid::says_int, crate::proofs::PairsSaid::says_double, crate::proofs::PairsSaid::says_bool, crate::proofs::PairsSaid::says_map, crate::proofs::PairsSaid::says_array, crate::proofs::PairsSaid::says_bytes, crate::proofs::ValueCells::nested_of_array, crate::proofs::ValueCells::nested_of_map))]
+pub(crate) fn attribute_of<'a>(pair: &'a Pair, nested: &'a [u8]) -> Attribute<'a>
+    requires { nested.now ≡ nested_of pair.now.value }
+    ensures says { seen_attribute result ≡ attribute_in (pair_cells pair.now) }
+    ensures fits { IsWritable (seen_attribute result) }
+{
+    let key = pair.key.as_slice();
+    match &pair.value {
+        Value::Empty => attribute(0, key, 0, 0, &[]),
+        Value::Str(text) => attribute(1, key, 0, 0, text.as_slice()),
+        Value::Int(number) => attribute(2, key, *number, 0, &[]),
+        Value::Double(bits) => attribute(3, key, 0, *bits, &[]),
+        Value::Bool(flag) => attribute(4, key, 0, u64::from(*flag), &[]),
+        Value::Map(_) => attribute(5, key, 0, 0, nested),
+        Value::Array(_) => attribute(6, key, 0, 0, nested),
+        Value::Bytes(octets) => attribute(7, key, 0, 0, octets.as_slice()),
+    }
+}
+
+fn attribute<'a>(kind: u32, key: &'a [u8], int: i64, bits: u64, bytes: &'a [u8]) -> Attribute<'a>
+    ensures { seen_attribute result ≡ record { kind = kind; key = key.now; int = int; bits = bits; bytes = bytes.now } }
+{
+    Attribute {
+        kind,
+        key,
+        int,
+        bits,
+        bytes,
+    }
+}
+
+/// Appends the row of what an attribute of a parent says. The parent's number stands there as it is. After want of memory the
+/// former rows stand first; whether a row follows them isn't told.
 pub(crate) fn add_attribute(
     table: &mut LogicalTable,
     parent: u32,
@@ -96,7 +115,9 @@ pub(crate) fn add_attribute(
 ) -> Result<(), AllocError>
     requires kind { has_attributes table.old.kind ≡ true }
     requires fits { IsWritable (seen_attribute says.now) }
-    ensures { OnOk result (table.new ≡ record table.old { rows = table.old.rows ++ attribute_row parent (seen_attribute says.now) ∷ [] }) }
+    ensures ok { OnOk result (table.new ≡ record table.old { rows = table.old.rows ++ attribute_row parent (seen_attribute says.now) ∷ [] }) }
+    ensures err { OnErr result (take (length table.old.rows) table.new.rows ≡ table.old.rows) }
+    ensures kind { table.new.kind ≡ table.old.kind }
 {
     table.push_row()?;
     table.set(0, parent_cell(parent))?;
@@ -112,6 +133,7 @@ fn fill(table: &mut LogicalTable, column: u32, cell: CellView<'_>) -> Result<(),
     requires row { 0 < length table.old.rows }
     requires base { IsCellOf (base_at table.old.kind column) (seen cell) }
     ensures ok { OnOk result (table.new ≡ record table.old { rows = with_some column (seen cell.entry) table.old.rows }) }
+    ensures err { OnErr result (table.new ≡ table.old) }
     ensures kind { table.new.kind ≡ table.old.kind }
     ensures count { length table.new.rows ≡ length table.old.rows }
 {
