@@ -1,4 +1,6 @@
+pub mod Defects
 pub mod Fronts
+pub mod Index
 pub mod Inside
 pub mod Names
 pub mod Refusals

@@ -2,9 +2,12 @@
 #![tactic(auto)]
 
 mod adding;
+mod appending;
 mod fronts;
+mod index;
 mod laws;
 mod names;
+mod orphans;
 mod pairs;
 mod reading;
 mod refusal;
@@ -15,6 +18,8 @@ mod values;
 mod written;
 
 pub use adding::{add_attributes, add_parts, add_resources, add_scopes};
+pub use appending::add_pairs;
+pub use index::{PairIndex, index_pairs};
 pub use laws::{
     attribute_tables_have_their_rows, attribute_tables_weigh_their_rows, written_values_come_back,
 };

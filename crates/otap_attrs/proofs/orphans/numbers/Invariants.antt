@@ -1,0 +1,6 @@
+use Rattle.std.proofs.Common.{◌≡◌, ◌++◌, drop}
+use Rattle.otap_cells.specs.Ids.{numbers}
+use Rattle.otap_attrs.proofs.orphans.numbers.Given as goal
+
+abbrev pub invariant-ids : goal.invariant-ids
+invariant-ids l = l.found.items ++ numbers (drop l.id-index l.ids) ≡ numbers l.ids

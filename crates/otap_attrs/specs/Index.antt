@@ -1,0 +1,44 @@
+-- The pairs of a parent in a table of attributes, and an index that finds them.
+use Rattle.std.specs.Prelude.{◌≡◌, ℕ, ◌^◌, ◌<◌, true, All, List, [], Option, map, drop, min}
+use Rattle.std.specs.List.Sorted.{IsNonDecreasingBy}
+use Rattle.otlp_model.specs.Weight.{weight_of_pair}
+use Rattle.otlp_model.specs.declared.value.Pair.{Pair}
+use Rattle.otap_cells.specs.Cells.{Cell}
+use Rattle.otap_cells.specs.Continuing.{has_attributes}
+use Rattle.otap_cells.specs.GivenIds.{ids_in}
+use Rattle.otap_cells.specs.Tables.{Table}
+use Rattle.otap_groups.specs.declared.entry.Entry.{Entry}
+use Rattle.otap_groups.specs.Children.{children}
+use Rattle.otap_groups.specs.Inside.{found}
+use Rattle.otap_groups.specs.Rows.{ChildRow, child_rows}
+use Rattle.otap_attrs.specs.Values.{pair_in}
+
+-- the rows of attributes, with the parents that their ids stand for
+abbrev pub attribute_rows_in : Table → List ChildRow
+attribute_rows_in t = child_rows [] (ids_in t 0) (map (drop 1) t.rows)
+
+-- THE PAIRS of a parent, in the order of their rows
+abbrev pub pairs_in : Table → Option ℕ → List Pair
+pairs_in t = children (λ id cells. pair_in cells) (attribute_rows_in t)
+
+-- what an index keeps: the rows that name a parent, and of each row what its pair weighs
+pub record IndexIn : Type 0 where
+  pub entries : List Entry
+  pub weights : List ℕ
+
+-- what the pair of a row weighs, or 2^63 where it is more
+abbrev pub row_weight : List Cell → ℕ
+row_weight row = min (weight_of_pair (pair_in (drop 1 row))) (2 ^ 63)
+
+-- AN INDEX OF A TABLE of attributes: it finds the pairs of each parent
+pub record IsIndexOf (t : Table) (index : IndexIn) : Type 0 where
+  pub attributes : has_attributes t.kind ≡ true
+  pub finds : (parent : Option ℕ) → found (λ id cells. pair_in cells) [] (map (drop 1) t.rows) index.entries parent ≡ pairs_in t parent
+  pub weights : index.weights ≡ map row_weight t.rows
+
+-- ---- the words of private contracts
+
+-- entries stand by parent, and name some of that many rows
+pub record IsByParent (entries : List Entry) (count : ℕ) : Type 0 where
+  pub rising : IsNonDecreasingBy (λ (e : Entry). e.parent) entries
+  pub below : All (λ (e : Entry). e.place < count) entries
