@@ -1,4 +1,4 @@
-use Rattle.std.proofs.Common.{◌≡◌, ◌∙◌, List, ℕ, [], Option, map, drop, length, sym, ap, subst}
+use Rattle.std.proofs.Common.{◌∙◌, List, ℕ, [], Option, map, drop, length, sym, ap, subst}
 use Rattle.std.proofs.lemmas.List.{length-map}
 use Rattle.otap_cells.specs.Continuing.{has_attributes}
 use Rattle.otap_cells.specs.GivenIds.{HasIds}
