@@ -12,6 +12,8 @@ pub mod NameRanks
 pub mod PairRows
 pub mod PairsSaid
 pub mod Parentless
+pub mod RecodedRows
+pub mod SortedBy
 pub mod SortedRows
 pub mod StableSort
 pub mod TableLaws

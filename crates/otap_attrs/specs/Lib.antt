@@ -3,6 +3,7 @@ pub mod Fronts
 pub mod Index
 pub mod Inside
 pub mod Names
+pub mod Recoding
 pub mod Refusals
 pub mod Sorting
 pub mod Tables

@@ -10,6 +10,7 @@ mod names;
 mod orphans;
 mod pairs;
 mod reading;
+mod recoding;
 mod refusal;
 mod sorting;
 #[cfg(test)]
@@ -24,6 +25,7 @@ pub use laws::{
     attribute_tables_have_their_rows, attribute_tables_weigh_their_rows, written_values_come_back,
 };
 pub use reading::Pairs;
+pub use recoding::code_parents;
 pub use refusal::{CheckRefusal, RowRefusal};
 pub use values::{check_value, nested_bytes, value_at, value_cells, weight_at};
 pub use written::{

@@ -85,3 +85,58 @@ fn a_nested_value_is_written_and_read(rt: HostRuntime) -> Result<(), Fail> {
     }
     Ok(())
 }
+
+// The attributes of two log records: b = "y" and a = "x" of the first, and a = "x" of the second.
+fn coded_pairs(alloc: Global) -> Result<LogicalTable, AllocError>
+    ensures { IfOk result (λ table. table.kind ≡ LogAttrs) }
+{
+    let x = parent(alloc, "a", text(alloc, "x")?)?;
+    let y = parent(alloc, "b", text(alloc, "y")?)?;
+    let mut table = LogicalTable::new(alloc, Kind::LogAttrs);
+    add_pairs(alloc, &mut table, 0, &y.pairs)?;
+    add_pairs(alloc, &mut table, 0, &x.pairs)?;
+    add_pairs(alloc, &mut table, 1, &x.pairs)?;
+    code_parents(alloc, &mut table)?;
+    Ok(table)
+}
+
+#[test]
+fn rows_that_are_appended_are_sorted_and_coded(rt: HostRuntime) -> Result<(), Fail> {
+    let alloc = rt.alloc();
+    let table = coded_pairs(alloc)?;
+    assert_eq!(rt; table.rows(), 3);
+    if table.rows() == 3 {
+        assert_eq!(rt; table.cell(0, 1), CellView::Num(1));
+        assert_eq!(rt; table.cell(1, 1), CellView::Bytes("a".as_bytes()));
+        assert_eq!(rt; table.cell(1, 2), CellView::Bytes("b".as_bytes()));
+    }
+    Ok(())
+}
+
+#[test]
+fn an_index_finds_the_pairs_of_a_parent(rt: HostRuntime) -> Result<(), Fail> {
+    let alloc = rt.alloc();
+    let table = coded_pairs(alloc)?;
+    let made = index_pairs(alloc, Kind::LogAttrs, &table, &[Some(0), Some(1)]);
+    assert!(rt; made.is_ok());
+    if let Ok(index) = made {
+        let pairs = index.pairs_of(alloc, &table, 0)?;
+        assert_eq!(rt; pairs.len(), 2);
+        if let Some(pair) = pairs.get(1) {
+            assert_eq!(rt; pair.key.as_str(), "b");
+        }
+        assert_eq!(rt; index.weight_of(0), 68);
+        assert_eq!(rt; index.weight_of(1), 34);
+        assert_eq!(rt; index.weight_of(2), 0);
+    }
+    Ok(())
+}
+
+#[test]
+fn an_index_needs_each_parent(rt: HostRuntime) -> Result<(), Fail> {
+    let alloc = rt.alloc();
+    let table = coded_pairs(alloc)?;
+    let made = index_pairs(alloc, Kind::LogAttrs, &table, &[Some(0)]);
+    assert!(rt; matches!(made, Err(RowRefusal::Orphan)));
+    Ok(())
+}
