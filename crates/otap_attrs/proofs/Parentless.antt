@@ -6,7 +6,7 @@ use Rattle.std.proofs.lemmas.List.{get_or_default}
 use Rattle.std.proofs.lemmas.List.Sorted.{Contains-permutation, IsPermutation-sym}
 use Rattle.otap_cells.specs.Ids.{numbers}
 use Rattle.otap_attrs.specs.Defects.{OrphanIn}
-use Rattle.otap_attrs.specs.Defects.{Lacks}
+use Rattle.otap_attrs.specs.Indexing.{Lacks}
 
 -- a number stands among ids where it stands among their numbers
 some_is : (a b : ℕ) → Some a ≡ Some b → a ≡ b

@@ -45,11 +45,3 @@ RefusesRow Wrong why.BadValueType = Wrong why.BadValueType
 RefusesRow Wrong (why.BadCbor refusal) = Wrong (why.BadCbor refusal)
 RefusesRow Wrong why.TwoValues = Wrong why.TwoValues
 RefusesRow Wrong why.BadKind = Wrong why.BadKind
-
--- ---- the words of private contracts
-
--- a parent isn't among numbers
-pub record Lacks (parents : List (Option ℕ)) (numbers : List ℕ) : Type 0 where
-  pub parent : ℕ
-  pub named : Contains parents (Some parent)
-  pub missing : Contains numbers parent → ⊥

@@ -1,6 +1,5 @@
 -- The pairs of a parent in a table of attributes, and an index that finds them.
-use Rattle.std.specs.Prelude.{◌≡◌, ℕ, ◌^◌, ◌<◌, true, All, List, [], Option, map, drop, min}
-use Rattle.std.specs.List.Sorted.{IsNonDecreasingBy}
+use Rattle.std.specs.Prelude.{◌≡◌, ℕ, ◌^◌, true, List, [], Option, map, drop, min}
 use Rattle.otlp_model.specs.Weight.{weight_of_pair}
 use Rattle.otlp_model.specs.declared.value.Pair.{Pair}
 use Rattle.otap_cells.specs.Cells.{Cell}
@@ -35,10 +34,3 @@ pub record IsIndexOf (t : Table) (index : IndexIn) : Type 0 where
   pub attributes : has_attributes t.kind ≡ true
   pub finds : (parent : Option ℕ) → found (λ id cells. pair_in cells) [] (map (drop 1) t.rows) index.entries parent ≡ pairs_in t parent
   pub weights : index.weights ≡ map row_weight t.rows
-
--- ---- the words of private contracts
-
--- entries stand by parent, and name some of that many rows
-pub record IsByParent (entries : List Entry) (count : ℕ) : Type 0 where
-  pub rising : IsNonDecreasingBy (λ (e : Entry). e.parent) entries
-  pub below : All (λ (e : Entry). e.place < count) entries

@@ -1,6 +1,7 @@
 pub mod Defects
 pub mod Fronts
 pub mod Index
+pub mod Indexing
 pub mod Inside
 pub mod Names
 pub mod Recoding

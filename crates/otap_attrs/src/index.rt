@@ -31,7 +31,8 @@ pub struct PairIndex {
 
 impl Model for PairIndex {
     ghost use Rattle.std.specs.Prelude.{length};
-    ghost use Rattle.otap_attrs.specs.Index.{IndexIn, IsByParent};
+    ghost use Rattle.otap_attrs.specs.Index.{IndexIn};
+    ghost use Rattle.otap_attrs.specs.Indexing.{IsByParent};
 
     ghost Value = { IndexIn };
 

@@ -3,7 +3,7 @@ ghost use Rattle.std.specs.Prelude.{◌≡◌, ◌↔◌, ◌<◌, ◌≤◌, le
 ghost use Rattle.std.specs.List.Sorted.{IsNonDecreasingBy};
 ghost use Rattle.otap_cells.specs.Ids.{numbers};
 ghost use Rattle.otap_attrs.specs.Defects.{OrphanIn};
-ghost use Rattle.otap_attrs.specs.Defects.{Lacks};
+ghost use Rattle.otap_attrs.specs.Indexing.{Lacks};
 
 use std::alloc::{AllocError, Global};
 
