@@ -79,71 +79,16 @@ pub fn value_cells<'a>(value: &'a Value, nested: &'a [u8]) -> [CellView<'a>; 7]
     ensures cells { map seen result ≡ value_cells value.now }
     ensures fits { AreCellsOf value_bases (map seen result) }
 {
+    let null = CellView::Null;
     match value {
-        Value::Empty => [CellView::Null; 7],
-        Value::Str(text) => value_row(
-            1,
-            text_cell(text),
-            CellView::Null,
-            CellView::Null,
-            CellView::Null,
-            CellView::Null,
-            CellView::Null,
-        ),
-        Value::Int(number) => value_row(
-            2,
-            CellView::Null,
-            int_cell(*number),
-            CellView::Null,
-            CellView::Null,
-            CellView::Null,
-            CellView::Null,
-        ),
-        Value::Double(bits) => value_row(
-            3,
-            CellView::Null,
-            CellView::Null,
-            bits_cell(*bits),
-            CellView::Null,
-            CellView::Null,
-            CellView::Null,
-        ),
-        Value::Bool(flag) => value_row(
-            4,
-            CellView::Null,
-            CellView::Null,
-            CellView::Null,
-            flag_cell(*flag),
-            CellView::Null,
-            CellView::Null,
-        ),
-        Value::Map(_) => value_row(
-            5,
-            CellView::Null,
-            CellView::Null,
-            CellView::Null,
-            CellView::Null,
-            CellView::Null,
-            CellView::Bytes(nested),
-        ),
-        Value::Array(_) => value_row(
-            6,
-            CellView::Null,
-            CellView::Null,
-            CellView::Null,
-            CellView::Null,
-            CellView::Null,
-            CellView::Bytes(nested),
-        ),
-        Value::Bytes(octets) => value_row(
-            7,
-            CellView::Null,
-            CellView::Null,
-            CellView::Null,
-            CellView::Null,
-            octets_cell(octets),
-            CellView::Null,
-        ),
+        Value::Empty => [null; 7],
+        Value::Str(text) => value_row(1, text_cell(text), null, null, null, null, null),
+        Value::Int(number) => value_row(2, null, int_cell(*number), null, null, null, null),
+        Value::Double(bits) => value_row(3, null, null, bits_cell(*bits), null, null, null),
+        Value::Bool(flag) => value_row(4, null, null, null, flag_cell(*flag), null, null),
+        Value::Map(_) => value_row(5, null, null, null, null, null, CellView::Bytes(nested)),
+        Value::Array(_) => value_row(6, null, null, null, null, null, CellView::Bytes(nested)),
+        Value::Bytes(octets) => value_row(7, null, null, null, null, octets_cell(octets), null),
     }
 }
 
