@@ -1,5 +1,5 @@
-pub mod AttributeCells
 pub mod AppendedPairs
+pub mod AttributeCells
 pub mod AttributeRows
 pub mod AttributesWeighed
 pub mod CellFits
