@@ -24,6 +24,7 @@ pub use index::{PairIndex, index_pairs};
 pub use laws::{
     attribute_tables_have_their_rows, attribute_tables_weigh_their_rows, written_values_come_back,
 };
+pub use orphans::has_orphan;
 pub use reading::Pairs;
 pub use recoding::code_parents;
 pub use refusal::{CheckRefusal, RowRefusal};

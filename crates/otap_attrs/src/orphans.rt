@@ -9,7 +9,7 @@ use std::alloc::{AllocError, Global};
 
 /// Whether a parent isn't among ids. Takes n log n for n ids and parents, and time in proportion to them where none is missing and
 /// ids are counted from 0 or both rise.
-pub(crate) fn has_orphan(
+pub fn has_orphan(
     alloc: Global,
     parents: &[Option<u32>],
     ids: &[Option<u32>],

@@ -6,7 +6,7 @@ use Rattle.otap_cells.specs.Cells.{Cell}
 use Rattle.otap_cells.specs.Ids.{Twice, times}
 use Rattle.otap_groups.specs.Rows.{MainRow, cells_are}
 use Rattle.otap_groups.specs.Disagree.{DifferBy}
-use Rattle.otap_checks.specs.IdDefects.{OrphanIn}
+use Rattle.otap_attrs.specs.Defects.{OrphanIn}
 
 -- ---- one of a list
 

@@ -19,7 +19,8 @@ use Rattle.otap_groups.proofs.StoredRows.{part_ids_of, part_parents_of}
 use Rattle.otap_attrs.specs.declared.refusal.RowRefusal.{RowRefusal}
 use Rattle.otap_attrs.specs.Tables.{attribute_table}
 use Rattle.otap_checks.specs.declared.links.Link.{Link}
-use Rattle.otap_checks.specs.IdDefects.{OrphanIn, WrongIn}
+use Rattle.otap_attrs.specs.Defects.{OrphanIn}
+use Rattle.otap_checks.specs.IdDefects.{WrongIn}
 use Rattle.otap_checks.specs.Inside.{AreGiven, IsGiven}
 use Rattle.otap_checks.specs.Links.{attributes, parts}
 use Rattle.otap_checks.proofs.GivenColumns.{no_orphan, nothing_wrong}

@@ -18,7 +18,7 @@ use Rattle.otap_attrs.specs.Tables.{attribute_table, row_of_pair}
 use Rattle.otap_attrs.specs.Values.{BadValue, value_cells}
 use Rattle.otap_attrs.proofs.StableSort.{sorted_moves}
 use Rattle.otap_attrs.proofs.ValueLaws.{value_fine}
-use Rattle.otap_checks.specs.ValueDefects.{WrongValue}
+use Rattle.otap_attrs.specs.Defects.{WrongValue}
 
 abbrev pub IsFine : List Cell → Type 0
 IsFine cells = (wrong : RowRefusal) → BadValue cells wrong → ⊥

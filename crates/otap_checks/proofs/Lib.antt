@@ -10,7 +10,6 @@ pub mod MissingRows
 pub mod NamedTables
 pub mod PairParents
 pub mod PairsAgain
-pub mod Parentless
 pub mod ReadAlike
 pub mod RowsAgain
 pub mod TableIds

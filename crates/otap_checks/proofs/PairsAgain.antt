@@ -29,7 +29,7 @@ use Rattle.otap_attrs.specs.Tables.{attribute_table}
 use Rattle.otap_attrs.specs.Values.{pair_cells, pair_in}
 use Rattle.otap_attrs.proofs.TableLaws.{table_has_rows}
 use Rattle.otap_attrs.proofs.ValueLaws.{value_again}
-use Rattle.otap_checks.specs.Reading.{pairs_in}
+use Rattle.otap_attrs.specs.Index.{pairs_in}
 use Rattle.otap_checks.proofs.TableIds.{ids_are}
 
 abbrev pub IsBackPair : Pair → Type 0

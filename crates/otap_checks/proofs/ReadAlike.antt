@@ -24,8 +24,9 @@ use Rattle.otap_checks.specs.declared.links.Parents.{Parents}
 use Rattle.otap_checks.specs.IdDefects.{PastType, DuplicateOf, OrphanOf, WrongIn, IdDefect}
 use Rattle.otap_checks.specs.Inside.{IsLinked, IsAboveOrNone, IsIdOrNone}
 use Rattle.otap_checks.specs.Links.{links_of}
-use Rattle.otap_checks.specs.Reading.{HasAllIds, main_rows_in, pairs_in, Disagrees}
-use Rattle.otap_checks.specs.ValueDefects.{WrongValue}
+use Rattle.otap_attrs.specs.Index.{pairs_in}
+use Rattle.otap_checks.specs.Reading.{HasAllIds, main_rows_in, Disagrees}
+use Rattle.otap_attrs.specs.Defects.{WrongValue}
 use Rattle.otap_checks.proofs.GivenColumns.{one_given}
 use Rattle.otap_checks.proofs.LinkedTables.{is_linked}
 use Rattle.otap_checks.proofs.TableIds.{ids_are}

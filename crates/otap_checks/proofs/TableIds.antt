@@ -29,7 +29,8 @@ use Rattle.otap_checks.specs.declared.links.Link.{Link}
 use Rattle.otap_checks.specs.Links.{links_of}
 use Rattle.otap_checks.specs.IdDefects.{IdDefect}
 use Rattle.otap_checks.specs.Inside.{AreGiven}
-use Rattle.otap_checks.specs.Reading.{main_rows_in, pairs_in, Disagrees}
+use Rattle.otap_attrs.specs.Index.{pairs_in}
+use Rattle.otap_checks.specs.Reading.{main_rows_in, Disagrees}
 
 -- the ids that a column has are its ids as a list
 pub ids_are : (t : Table) (column : ℕ) (ids : List (Option ℕ)) → HasIds t column ids → ids ≡ ids_in t column

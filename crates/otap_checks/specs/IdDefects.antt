@@ -14,6 +14,7 @@ use Rattle.otap_cells.specs.Named.{table_named}
 use Rattle.otap_checks.specs.declared.links.Link.{Link}
 use Rattle.otap_checks.specs.declared.links.Parents.{Parents}
 use Rattle.otap_checks.specs.Links.{links_of}
+use Rattle.otap_attrs.specs.Defects.{OrphanIn}
 
 -- an id would be above the greatest number of its column; in runs a null parent is another defect, and leaves no ids
 pub record PastType (t : Table) (column : ℕ) : Type 0 where
@@ -25,12 +26,6 @@ pub record Duplicate (t : Table) (column : ℕ) : Type 0 where
   pub ids : List (Option ℕ)
   pub are : HasIds t column ids
   pub twice : Twice ids
-
--- a parent that isn't among ids
-pub record OrphanIn (parents ids : List (Option ℕ)) : Type 0 where
-  pub parent : ℕ
-  pub named : Contains parents (Some parent)
-  pub missing : Contains ids (Some parent) → ⊥
 
 -- no row of the other table has the id of a parent
 pub record Orphan (t : Table) (column : ℕ) (other : Table) (at : ℕ) : Type 0 where

@@ -13,7 +13,8 @@ use Rattle.otap_cells.specs.Tables.{Table}
 use Rattle.otap_checks.specs.declared.links.Link.{Link}
 use Rattle.otap_checks.specs.declared.links.Parents.{Parents}
 use Rattle.otap_cells.specs.Named.{table_named}
-use Rattle.otap_checks.specs.IdDefects.{OrphanIn, PastType, Some_column}
+use Rattle.otap_attrs.specs.Defects.{OrphanIn}
+use Rattle.otap_checks.specs.IdDefects.{PastType, Some_column}
 use Rattle.otap_checks.specs.Known.{IsKnown, ids_named, is_column}
 use Rattle.otap_checks.specs.declared.known.ColumnIds.{ColumnIds}
 use Rattle.otap_cells.specs.Ids.{Twice}
@@ -97,14 +98,6 @@ KnownWrong known link kind wrong = (kind ≡ link.kind) × KnownFault known link
 
 abbrev pub KnownFaults : List ColumnIds → List Link → Kind → RowRefusal → Type 0
 KnownFaults known links kind wrong = (link : Link) × Contains links link × KnownWrong known link kind wrong
-
--- ---- numbers
-
--- a parent isn't among numbers
-pub record Lacks (parents : List (Option ℕ)) (numbers : List ℕ) : Type 0 where
-  pub parent : ℕ
-  pub named : Contains parents (Some parent)
-  pub missing : Contains numbers parent → ⊥
 
 -- ---- refusals
 

@@ -1,31 +1,21 @@
 -- The rows of tables, with the ids that their columns stand for, and what rests on them.
 use Rattle.std.specs.Prelude.{◌≡◌, ℕ, true, List, [], Option, map, drop, ◌⊎◌}
-use Rattle.otlp_model.specs.declared.value.Pair.{Pair}
 use Rattle.otap_cells.specs.Columns.{is_id_at}
 use Rattle.otap_cells.specs.GivenIds.{HasIds, ids_in}
 use Rattle.otap_cells.specs.Tables.{Table}
 use Rattle.otap_groups.specs.Rows.{MainRow, ChildRow, main_rows, child_rows}
-use Rattle.otap_groups.specs.Children.{children}
 use Rattle.otap_groups.specs.Disagree.{DifferBy}
-use Rattle.otap_attrs.specs.Values.{pair_in}
 
 -- the numbers of each column of ids stand for some
 abbrev pub HasAllIds : Table → Type 0
 HasAllIds t = (column : ℕ) → is_id_at t.kind column ≡ true → (ids : List (Option ℕ)) × HasIds t column ids
 
--- the rows of a main table; of parts, with their ids and parents; of attributes
+-- the rows of a main table; of parts, with their ids and parents
 abbrev pub main_rows_in : Table → List MainRow
 main_rows_in t = main_rows (ids_in t 0) (ids_in t 1) (ids_in t 4) t.rows
 
 abbrev pub part_rows_in : Table → List ChildRow
 part_rows_in t = child_rows (ids_in t 0) (ids_in t 1) (map (drop 2) t.rows)
-
-abbrev pub attribute_rows_in : Table → List ChildRow
-attribute_rows_in t = child_rows [] (ids_in t 0) (map (drop 1) t.rows)
-
--- THE PAIRS of a parent, in the order of their rows
-abbrev pub pairs_in : Table → Option ℕ → List Pair
-pairs_in t = children (λ id cells. pair_in cells) (attribute_rows_in t)
 
 -- rows of one resource id differ in another cell of `resource`, or rows of one scope id in another cell of `scope`
 pub record ResourcesDiffer (t : Table) : Type 0 where

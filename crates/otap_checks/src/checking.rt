@@ -14,8 +14,7 @@ ghost use Rattle.otap_checks.specs.Refusing.{RefusesCheck};
 
 use crate::known::{KnownIds, read_tables};
 use crate::links::{Link, links_of};
-use crate::orphans::has_orphan;
-use otap_attrs::{CheckRefusal, RowRefusal};
+use otap_attrs::{CheckRefusal, RowRefusal, has_orphan};
 use otap_cells::{IdFault, Kind, Rows, TableSet, has_twice};
 use otlp_model::Signal;
 use std::alloc::{AllocError, Global};

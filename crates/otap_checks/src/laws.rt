@@ -9,8 +9,9 @@ ghost use Rattle.otap_cells.specs.Tables.{Table};
 ghost use Rattle.otap_cells.specs.declared.payload.Kind.{Kind};
 ghost use Rattle.otap_checks.specs.Deciding.{CleanOrWrong, HasByteCells};
 ghost use Rattle.otap_checks.specs.IdDefects.{IdDefect};
-ghost use Rattle.otap_checks.specs.Reading.{Disagrees, HasAllIds, main_rows_in, pairs_in};
-ghost use Rattle.otap_checks.specs.ValueDefects.{WrongValue};
+ghost use Rattle.otap_attrs.specs.Index.{pairs_in};
+ghost use Rattle.otap_checks.specs.Reading.{Disagrees, HasAllIds, main_rows_in};
+ghost use Rattle.otap_attrs.specs.Defects.{WrongValue};
 
 /// Law: nothing is wrong with the rows of tables, or something is: with their ids, their values, and rows of one id.
 pub fn clean_or_wrong()

@@ -8,7 +8,7 @@ ghost use Rattle.otap_attrs.specs.Values.{pair_in};
 ghost use Rattle.otap_groups.specs.Inside.{found};
 ghost use Rattle.otap_checks.specs.Known.{Knows};
 ghost use Rattle.otap_checks.specs.Pairing.{cells_or};
-ghost use Rattle.otap_checks.specs.Reading.{pairs_in};
+ghost use Rattle.otap_attrs.specs.Index.{pairs_in};
 
 use crate::checking::table_of;
 use crate::known::KnownIds;
@@ -51,7 +51,7 @@ impl<R: Rows> RowReader for TablePairs<'_, R> {
 
 /// Finds the pairs of a parent in the table of a kind, by the parents of its rows. A table that isn't there has none. Takes
 /// n log n for n rows, and time in proportion to them where parents rise.
-pub fn index_pairs<'a, R: Rows>(
+pub fn find_pairs<'a, R: Rows>(
     alloc: Global,
     set: &'a TableSet<R>,
     kind: Kind,

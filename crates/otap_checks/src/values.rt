@@ -4,8 +4,9 @@ ghost use Rattle.otap_cells.specs.Named.{table_named};
 ghost use Rattle.otap_cells.specs.Sets.{IsSet, tables_in};
 ghost use Rattle.otap_attrs.specs.declared.refusal.RowRefusal.{RowRefusal};
 ghost use Rattle.otap_attrs.specs.Values.{HasValueAt};
-ghost use Rattle.otap_checks.specs.Refusing.{RefusesCheck, RefusesRow};
-ghost use Rattle.otap_checks.specs.ValueDefects.{WrongValue, WrongValueOf};
+ghost use Rattle.otap_attrs.specs.Defects.{RefusesRow, WrongValue};
+ghost use Rattle.otap_checks.specs.Refusing.{RefusesCheck};
+ghost use Rattle.otap_checks.specs.ValueDefects.{WrongValueOf};
 
 use crate::checking::{refused, table_of};
 use otap_attrs::{CheckRefusal, RowRefusal, check_value};

@@ -30,7 +30,8 @@ use Rattle.otap_groups.proofs.ReadLaws.{agree_two, agrees_with}
 use Rattle.otap_groups.proofs.RealGroups.{real_groups}
 use Rattle.otap_groups.proofs.WritableGroups.{all_items_can, few_items}
 use Rattle.otap_attrs.specs.Tables.{attribute_table}
-use Rattle.otap_checks.specs.Reading.{pairs_in, part_rows_in}
+use Rattle.otap_attrs.specs.Index.{pairs_in}
+use Rattle.otap_checks.specs.Reading.{part_rows_in}
 use Rattle.otap_checks.proofs.PairsAgain.{AreBack, IsBackResource, IsBackScope, all_every, pairs_agree, pairs_back, sorted_alike, sorted_weigh, unsorted}
 use Rattle.otap_checks.proofs.RowsAgain.{part_rows_again}
 use Rattle.otap_metrics.specs.Metrics.{hist_points_of, summary_points_of}

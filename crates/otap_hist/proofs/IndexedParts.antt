@@ -9,7 +9,8 @@ use Rattle.otap_cells.specs.Named.{table_named}
 use Rattle.otap_cells.specs.Tables.{Table}
 use Rattle.otap_groups.specs.Children.{children}
 use Rattle.otap_groups.specs.Rows.{child_rows}
-use Rattle.otap_checks.specs.Reading.{pairs_in, part_rows_in}
+use Rattle.otap_attrs.specs.Index.{pairs_in}
+use Rattle.otap_checks.specs.Reading.{part_rows_in}
 use Rattle.otap_checks.proofs.TableIds.{ids_are}
 use Rattle.otap_metrics.specs.Points.{exemplar_of}
 use Rattle.otap_hist.specs.Points.{hist_point_of, sum_point_of}

@@ -12,7 +12,7 @@ use Rattle.otap_checks.specs.Deciding.{CleanOrWrong, HaveByteCells}
 use Rattle.otap_checks.specs.IdDefects.{IdDefect}
 use Rattle.otap_checks.specs.Inside.{AreGiven}
 use Rattle.otap_checks.specs.Links.{items, links_of, parts}
-use Rattle.otap_checks.specs.ValueDefects.{WrongValue}
+use Rattle.otap_attrs.specs.Defects.{WrongValue}
 use Rattle.otap_checks.proofs.CleanOrWrong.{ids_clean_or_wrong, values_clean_or_wrong}
 use Rattle.otap_checks.proofs.TableIds.{clean_given}
 use Rattle.otap_metrics.specs.Inside.{HasFineValues}

@@ -15,8 +15,9 @@ use Rattle.otap_groups.specs.Children.{children}
 use Rattle.otap_attrs.specs.declared.refusal.RowRefusal.{RowRefusal}
 use Rattle.otap_attrs.specs.declared.refusal.RowRefusal.TheVariants as why
 use Rattle.otap_checks.specs.IdDefects.{IdDefect}
-use Rattle.otap_checks.specs.ValueDefects.{WrongValue}
-use Rattle.otap_checks.specs.Reading.{pairs_in, part_rows_in}
+use Rattle.otap_attrs.specs.Defects.{WrongValue}
+use Rattle.otap_attrs.specs.Index.{pairs_in}
+use Rattle.otap_checks.specs.Reading.{part_rows_in}
 use Rattle.otap_metrics.specs.Requests.{HasTwoValues, WrongMetrics, WrongParent, exemplars_in, has_hist_points, has_summary_points, is_other, regrouped_metrics}
 use Rattle.otap_hist.specs.Lists.{count_in}
 use Rattle.otap_hist.specs.Points.{hist_point_of, sum_point_of}

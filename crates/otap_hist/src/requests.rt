@@ -17,7 +17,7 @@ use crate::checks::has_uneven_lists;
 use crate::indexes::{index_hists, index_summaries};
 use otap_attrs::{CheckRefusal, RowRefusal};
 use otap_cells::{Kind, Rows, TableSet};
-use otap_checks::{Grouped, KnownIds, RegroupRefusal, check_values, index_pairs, known_ids};
+use otap_checks::{Grouped, KnownIds, RegroupRefusal, check_values, find_pairs, known_ids};
 use otap_metrics::{
     PointSort, check_metrics, has_other_parents, has_two_values, index_exemplars, regroup_with,
 };
@@ -38,11 +38,11 @@ pub fn regroup<R: Rows>(alloc: Global, set: &TableSet<R>) -> Result<Grouped<Metr
     ensures refused { IfErr result (RefusesRegroup (WrongWhole (tables_in R.table set.now.tables.items)) (weight_of (Metrics (regrouped_whole (tables_in R.table set.now.tables.items))))) }
 {
     let known = check_all(alloc, set)?;
-    let of_exemplars = index_pairs(alloc, set, Kind::HistExemplarAttrs, &known)?;
+    let of_exemplars = find_pairs(alloc, set, Kind::HistExemplarAttrs, &known)?;
     let exemplars = index_exemplars(alloc, set, Kind::HistExemplars, &known, of_exemplars)?;
-    let of_hists = index_pairs(alloc, set, Kind::HistPointAttrs, &known)?;
+    let of_hists = find_pairs(alloc, set, Kind::HistPointAttrs, &known)?;
     let hists = index_hists(alloc, set, &known, of_hists, exemplars)?;
-    let of_summaries = index_pairs(alloc, set, Kind::SummaryPointAttrs, &known)?;
+    let of_summaries = find_pairs(alloc, set, Kind::SummaryPointAttrs, &known)?;
     let summaries = index_summaries(alloc, set, &known, of_summaries)?;
     let made = regroup_with(alloc, set, &known, hists, summaries)?;
     Ok(made)

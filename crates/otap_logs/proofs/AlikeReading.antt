@@ -11,8 +11,9 @@ use Rattle.otap_cells.specs.Tables.{Table}
 use Rattle.otap_groups.specs.Groups.{regrouped}
 use Rattle.otap_attrs.specs.declared.refusal.RowRefusal.{RowRefusal}
 use Rattle.otap_attrs.specs.declared.refusal.RowRefusal.TheVariants as why
-use Rattle.otap_checks.specs.Reading.{HasAllIds, main_rows_in, pairs_in}
-use Rattle.otap_checks.specs.ValueDefects.{WrongValue}
+use Rattle.otap_attrs.specs.Index.{pairs_in}
+use Rattle.otap_checks.specs.Reading.{HasAllIds, main_rows_in}
+use Rattle.otap_attrs.specs.Defects.{WrongValue}
 use Rattle.otap_checks.proofs.ReadAlike.{all_ids_named, disagrees_told, id_defect_told, kind_named, main_rows_same, pairs_same, reads_named, value_told}
 use Rattle.otap_logs.specs.Records.{record_of}
 use Rattle.otap_logs.specs.Requests.{WrongCells, WrongLogs, regrouped_logs}

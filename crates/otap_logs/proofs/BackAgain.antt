@@ -26,7 +26,8 @@ use Rattle.otap_groups.specs.Stored.{main_table}
 use Rattle.otap_groups.proofs.GroupsTold.{groups_told}
 use Rattle.otap_groups.proofs.Grouping.{groups_back}
 use Rattle.otap_groups.proofs.WritableGroups.{all_items_can, all_resources_can, all_scopes_can, few_items, few_resources, few_scopes}
-use Rattle.otap_checks.specs.Reading.{main_rows_in, pairs_in}
+use Rattle.otap_attrs.specs.Index.{pairs_in}
+use Rattle.otap_checks.specs.Reading.{main_rows_in}
 use Rattle.otap_checks.proofs.PairsAgain.{AreBack, IsBackResource, IsBackScope, pairs_agree, sorted_alike, unsorted}
 use Rattle.otap_checks.proofs.RowsAgain.{main_rows_again}
 use Rattle.otap_attrs.specs.Tables.{attribute_table}

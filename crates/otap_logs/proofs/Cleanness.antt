@@ -16,7 +16,8 @@ use Rattle.otap_checks.specs.Inside.{AreGiven}
 use Rattle.otap_checks.specs.Known.{Knows}
 use Rattle.otap_checks.specs.Reading.{Disagrees}
 use Rattle.otap_checks.specs.Refusing.{RefusesCheck}
-use Rattle.otap_checks.specs.ValueDefects.{WrongValue, WrongValueOf}
+use Rattle.otap_attrs.specs.Defects.{WrongValue}
+use Rattle.otap_checks.specs.ValueDefects.{WrongValueOf}
 use Rattle.otap_checks.proofs.MissingRows.{none_differ}
 use Rattle.otap_checks.proofs.TableIds.{clean_given}
 use Rattle.otap_logs.specs.Inside.{AreWhole, IsUnlike, KnowsLogs}

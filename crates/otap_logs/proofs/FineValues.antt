@@ -22,7 +22,7 @@ use Rattle.otap_groups.proofs.WritableGroups.{all_items_can, all_resources_can, 
 use Rattle.otap_attrs.specs.declared.refusal.RowRefusal.{RowRefusal}
 use Rattle.otap_attrs.specs.Values.{value_cells}
 use Rattle.otap_attrs.proofs.ValueLaws.{value_fine}
-use Rattle.otap_checks.specs.ValueDefects.{WrongValue}
+use Rattle.otap_attrs.specs.Defects.{WrongValue}
 use Rattle.otap_checks.proofs.FinePairs.{IsFine, IsFineFrom, IsFineList, IsFinePair, attributes_fine, fine_rows, pairs_fine}
 use Rattle.otap_logs.specs.Records.{last_cells, record_cells}
 use Rattle.otap_logs.specs.Tables.{tables_of_logs}

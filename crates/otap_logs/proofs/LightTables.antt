@@ -15,7 +15,7 @@ use Rattle.otap_cells.specs.Tables.{Table}
 use Rattle.otap_groups.specs.Flat.{flat, numbered_rows}
 use Rattle.otap_groups.proofs.LightGroups.{kept_weigh, regrouped_weigh}
 use Rattle.otap_attrs.specs.Tables.{attribute_table}
-use Rattle.otap_checks.specs.Reading.{pairs_in}
+use Rattle.otap_attrs.specs.Index.{pairs_in}
 use Rattle.otap_checks.proofs.PairsAgain.{sorted_weigh, unsorted}
 use Rattle.otap_logs.specs.Records.{record_cells, record_of}
 use Rattle.otap_logs.specs.Requests.{regrouped_logs}

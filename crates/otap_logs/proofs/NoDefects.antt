@@ -29,7 +29,8 @@ use Rattle.otap_groups.proofs.StoredRows.{own_ids_of, resource_ids_of, scope_ids
 use Rattle.otap_attrs.specs.declared.refusal.RowRefusal.{RowRefusal}
 use Rattle.otap_attrs.specs.Tables.{attribute_table}
 use Rattle.otap_checks.specs.declared.links.Link.{Link}
-use Rattle.otap_checks.specs.IdDefects.{IdDefect, OrphanIn, WrongIn}
+use Rattle.otap_attrs.specs.Defects.{OrphanIn}
+use Rattle.otap_checks.specs.IdDefects.{IdDefect, WrongIn}
 use Rattle.otap_checks.specs.Inside.{AreGiven, IsGiven}
 use Rattle.otap_checks.specs.Links.{attributes, items, links_of}
 use Rattle.otap_checks.specs.Reading.{Disagrees}

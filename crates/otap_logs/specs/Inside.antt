@@ -12,7 +12,7 @@ use Rattle.otap_checks.specs.IdDefects.{IdDefect}
 use Rattle.otap_checks.specs.Known.{Knows}
 use Rattle.otap_checks.specs.Links.{links_of}
 use Rattle.otap_checks.specs.Reading.{Disagrees}
-use Rattle.otap_checks.specs.ValueDefects.{WrongValue}
+use Rattle.otap_attrs.specs.Defects.{WrongValue}
 
 -- nothing is wrong but that rows of one id may differ
 pub record AreWhole (tables : List Table) : Type 0 where

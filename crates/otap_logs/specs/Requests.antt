@@ -12,8 +12,9 @@ use Rattle.otap_groups.specs.Groups.{regrouped}
 use Rattle.otap_attrs.specs.declared.refusal.RowRefusal.{RowRefusal}
 use Rattle.otap_attrs.specs.declared.refusal.RowRefusal.TheVariants as why
 use Rattle.otap_checks.specs.IdDefects.{IdDefect}
-use Rattle.otap_checks.specs.ValueDefects.{WrongValue}
-use Rattle.otap_checks.specs.Reading.{main_rows_in, pairs_in, Disagrees}
+use Rattle.otap_attrs.specs.Defects.{WrongValue}
+use Rattle.otap_attrs.specs.Index.{pairs_in}
+use Rattle.otap_checks.specs.Reading.{main_rows_in, Disagrees}
 use Rattle.otap_logs.specs.Records.{record_of}
 
 -- the record of an id and own cells, with the pairs that a table has for the id

@@ -16,7 +16,7 @@ ghost use Rattle.otap_cells.specs.Named.{table_named};
 ghost use Rattle.otap_cells.specs.Payload.{is_kind, kinds_of, main_of};
 ghost use Rattle.otap_groups.specs.ProfileTables.{IsProfileTable};
 ghost use Rattle.otap_attrs.specs.declared.refusal.RowRefusal.{RowRefusal};
-ghost use Rattle.otap_checks.specs.ValueDefects.{WrongValue};
+ghost use Rattle.otap_attrs.specs.Defects.{WrongValue};
 ghost use Rattle.otap_logs.specs.Requests.{WrongLogs, regrouped_logs};
 ghost use Rattle.otap_logs.specs.Tables.{tables_of_logs};
 

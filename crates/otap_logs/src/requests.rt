@@ -11,7 +11,8 @@ ghost use Rattle.otap_groups.specs.Rows.{main_rows};
 ghost use Rattle.otap_attrs.specs.declared.refusal.RowRefusal.{RowRefusal};
 ghost use Rattle.otap_attrs.specs.Values.{pair_in};
 ghost use Rattle.otap_checks.specs.Pairing.{cells_or};
-ghost use Rattle.otap_checks.specs.Reading.{main_rows_in, pairs_in};
+ghost use Rattle.otap_attrs.specs.Index.{pairs_in};
+ghost use Rattle.otap_checks.specs.Reading.{main_rows_in};
 ghost use Rattle.otap_checks.specs.Refusing.{RefusesCheck};
 ghost use Rattle.otap_checks.specs.Regrouping.{RefusesRegroup};
 ghost use Rattle.otap_groups.specs.Disagree.{Disagree};
@@ -27,7 +28,7 @@ use otap_attrs::{CheckRefusal, RowRefusal};
 use otap_cells::{Kind, Rows, TableSet};
 use otap_checks::{
     Grouped, KnownIds, RegroupRefusal, TablePairs, check_values, disagrees, front_of,
-    groups_within, index_pairs, known_ids, table_of,
+    groups_within, find_pairs, known_ids, table_of,
 };
 use otap_groups::{Children, Front, Main};
 use otlp_model::{Items, LogRecord, ResourceGroup, Signal};
@@ -169,9 +170,9 @@ fn main_of<'a, R: Rows>(
         ≡ pairs_in (table_named table.LogAttrs (tables_in R.table set.now.tables.items)) parent) }
 {
     let rows = front.rows;
-    let resources = index_pairs(alloc, set, Kind::ResourceAttrs, known)?;
-    let scopes = index_pairs(alloc, set, Kind::ScopeAttrs, known)?;
-    let pairs = index_pairs(alloc, set, Kind::LogAttrs, known)?;
+    let resources = find_pairs(alloc, set, Kind::ResourceAttrs, known)?;
+    let scopes = find_pairs(alloc, set, Kind::ScopeAttrs, known)?;
+    let pairs = find_pairs(alloc, set, Kind::LogAttrs, known)?;
     Ok(Main {
         front,
         items: Records { rows, pairs },

@@ -16,7 +16,7 @@ use Rattle.otap_checks.specs.Deciding.{CleanOrWrong, HaveByteCells}
 use Rattle.otap_checks.specs.declared.links.Link.{Link}
 use Rattle.otap_checks.specs.IdDefects.{WrongIn}
 use Rattle.otap_checks.specs.Links.{links_of}
-use Rattle.otap_checks.specs.ValueDefects.{WrongValue}
+use Rattle.otap_attrs.specs.Defects.{WrongValue}
 use Rattle.otap_checks.proofs.CleanOrWrong.{SomeWrong, table_or_wrong, values_clean_or_wrong, disagrees_or_not}
 use Rattle.otap_checks.proofs.GivenColumns.{one_given}
 use Rattle.otap_metrics.specs.Inside.{HasFineValues, IsUnlike}

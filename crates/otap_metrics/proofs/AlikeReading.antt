@@ -18,8 +18,9 @@ use Rattle.otap_groups.specs.Kinds.{IsPart}
 use Rattle.otap_groups.specs.Rows.{child_rows}
 use Rattle.otap_attrs.specs.declared.refusal.RowRefusal.{RowRefusal}
 use Rattle.otap_attrs.specs.declared.refusal.RowRefusal.TheVariants as why
-use Rattle.otap_checks.specs.Reading.{HasAllIds, main_rows_in, part_rows_in, pairs_in}
-use Rattle.otap_checks.specs.ValueDefects.{WrongValue}
+use Rattle.otap_attrs.specs.Index.{pairs_in}
+use Rattle.otap_checks.specs.Reading.{HasAllIds, main_rows_in, part_rows_in}
+use Rattle.otap_attrs.specs.Defects.{WrongValue}
 use Rattle.otap_checks.proofs.ReadAlike.{all_ids_named, disagrees_told, id_defect_told, ids_same, ids_told, kind_named, main_rows_same, pairs_same, reads_named, value_told}
 use Rattle.otap_checks.proofs.TableIds.{attribute_id}
 use Rattle.otap_metrics.specs.Metrics.{metric_of}

@@ -31,7 +31,8 @@ use Rattle.otap_groups.proofs.AlikeLaws.{alike_children}
 use Rattle.otap_groups.proofs.GroupsTold.{groups_told}
 use Rattle.otap_groups.proofs.LightGroups.{children_weigh, kept_weigh, regrouped_weigh}
 use Rattle.otap_attrs.specs.Tables.{attribute_table}
-use Rattle.otap_checks.specs.Reading.{main_rows_in, pairs_in, part_rows_in}
+use Rattle.otap_attrs.specs.Index.{pairs_in}
+use Rattle.otap_checks.specs.Reading.{main_rows_in, part_rows_in}
 use Rattle.otap_checks.proofs.PairsAgain.{sorted_alike, sorted_weigh, unsorted}
 use Rattle.otap_checks.proofs.RowsAgain.{main_rows_again, part_rows_again}
 use Rattle.otap_metrics.specs.Metrics.{Below, metric_cells, metric_of, shape_of}

@@ -27,7 +27,7 @@ use Rattle.otap_groups.proofs.RealGroups.{real_groups, real_items}
 use Rattle.otap_groups.proofs.WritableGroups.{all_items_can, all_resources_can, all_scopes_can}
 use Rattle.otap_attrs.specs.declared.refusal.RowRefusal.{RowRefusal}
 use Rattle.otap_attrs.specs.Tables.{attribute_table}
-use Rattle.otap_checks.specs.ValueDefects.{WrongValue}
+use Rattle.otap_attrs.specs.Defects.{WrongValue}
 use Rattle.otap_checks.proofs.FinePairs.{IsFineList, attributes_fine, pairs_fine}
 use Rattle.otap_metrics.specs.Inside.{HasFineValues}
 use Rattle.otap_metrics.specs.Metrics.{points_of}

@@ -27,7 +27,8 @@ use Rattle.otap_checks.specs.declared.regrouping.RegroupRefusal.{RegroupRefusal}
 use Rattle.otap_checks.specs.declared.regrouping.RegroupRefusal.TheVariants as regroup
 use Rattle.otap_checks.specs.Inside.{Nothing}
 use Rattle.otap_checks.specs.Regrouping.{RefusesRegroup}
-use Rattle.otap_checks.specs.Reading.{main_rows_in, pairs_in, part_rows_in}
+use Rattle.otap_attrs.specs.Index.{pairs_in}
+use Rattle.otap_checks.specs.Reading.{main_rows_in, part_rows_in}
 use Rattle.otap_checks.proofs.TableIds.{ids_are}
 use Rattle.otap_metrics.specs.Metrics.{metric_of}
 use Rattle.otap_metrics.specs.Points.{exemplar_of, point_of}

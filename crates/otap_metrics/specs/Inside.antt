@@ -17,7 +17,7 @@ use Rattle.otap_checks.specs.declared.links.Link.{Link}
 use Rattle.otap_checks.specs.Known.{Knows}
 use Rattle.otap_checks.specs.Links.{links_of}
 use Rattle.otap_checks.specs.Reading.{Disagrees}
-use Rattle.otap_checks.specs.ValueDefects.{WrongValue}
+use Rattle.otap_attrs.specs.Defects.{WrongValue}
 use Rattle.otap_groups.specs.Rows.{id_at}
 use Rattle.otap_metrics.specs.declared.checks.PointSort.{PointSort}
 use Rattle.otap_metrics.specs.declared.checks.PointSort.TheVariants as sort

@@ -19,8 +19,9 @@ use Rattle.otap_groups.specs.Rows.{id_at}
 use Rattle.otap_attrs.specs.declared.refusal.RowRefusal.{RowRefusal}
 use Rattle.otap_attrs.specs.declared.refusal.RowRefusal.TheVariants as why
 use Rattle.otap_checks.specs.IdDefects.{IdDefect}
-use Rattle.otap_checks.specs.ValueDefects.{WrongValue}
-use Rattle.otap_checks.specs.Reading.{main_rows_in, pairs_in, part_rows_in, Disagrees}
+use Rattle.otap_attrs.specs.Defects.{WrongValue}
+use Rattle.otap_attrs.specs.Index.{pairs_in}
+use Rattle.otap_checks.specs.Reading.{main_rows_in, part_rows_in, Disagrees}
 use Rattle.otap_metrics.specs.Metrics.{metric_of}
 use Rattle.otap_metrics.specs.Numbers.{IsThere}
 use Rattle.otap_metrics.specs.Points.{exemplar_of, point_of}

@@ -15,7 +15,7 @@ ghost use Rattle.otap_groups.specs.Groups.{regrouped};
 ghost use Rattle.otap_groups.specs.Rows.{main_rows};
 ghost use Rattle.otap_attrs.specs.declared.refusal.CheckRefusal.TheVariants as check;
 ghost use Rattle.otap_attrs.specs.declared.refusal.RowRefusal.{RowRefusal};
-ghost use Rattle.otap_checks.specs.Reading.{pairs_in};
+ghost use Rattle.otap_attrs.specs.Index.{pairs_in};
 ghost use Rattle.otap_checks.specs.Refusing.{RefusesCheck};
 ghost use Rattle.otap_checks.specs.Regrouping.{RefusesRegroup};
 ghost use Rattle.otap_metrics.specs.Inside.{AreWhole, KnowsMetrics};
@@ -30,7 +30,7 @@ use otap_attrs::{CheckRefusal, RowRefusal};
 use otap_cells::{Kind, Rows, TableSet};
 use otap_checks::{
     Grouped, KnownIds, RegroupRefusal, check_values, disagrees, front_of, groups_within,
-    index_pairs, table_of,
+    find_pairs, table_of,
 };
 use otap_groups::{Lookup, Main};
 use otlp_model::{HistPoint, Items, Metric, Pair, Point, SumPoint};
@@ -102,9 +102,9 @@ pub fn regroup_with<R: Rows, H: Lookup<Child = HistPoint>, S: Lookup<Child = Sum
             tree: 0,
         });
     };
-    let of_exemplars = index_pairs(alloc, set, Kind::NumberExemplarAttrs, known)?;
+    let of_exemplars = find_pairs(alloc, set, Kind::NumberExemplarAttrs, known)?;
     let exemplars = index_exemplars(alloc, set, Kind::NumberExemplars, known, of_exemplars)?;
-    let of_points = index_pairs(alloc, set, Kind::NumberPointAttrs, known)?;
+    let of_points = find_pairs(alloc, set, Kind::NumberPointAttrs, known)?;
     let points = index_points(alloc, set, known, of_points, exemplars)?;
     let items = MetricRows {
         rows,
@@ -112,8 +112,8 @@ pub fn regroup_with<R: Rows, H: Lookup<Child = HistPoint>, S: Lookup<Child = Sum
         hist_points: hists,
         summary_points: summaries,
     };
-    let resources = index_pairs(alloc, set, Kind::ResourceAttrs, known)?;
-    let scopes = index_pairs(alloc, set, Kind::ScopeAttrs, known)?;
+    let resources = find_pairs(alloc, set, Kind::ResourceAttrs, known)?;
+    let scopes = find_pairs(alloc, set, Kind::ScopeAttrs, known)?;
     let made = main_groups(alloc, set, known, items, resources, scopes)?;
     Ok(made)
 }

@@ -19,7 +19,7 @@ use Rattle.otap_groups.specs.Flat.{flat, numbered_rows, part_rows, placed}
 use Rattle.otap_groups.specs.Rows.{ChildRow}
 use Rattle.otap_groups.proofs.LightGroups.{children_weigh, kept_weigh, regrouped_weigh}
 use Rattle.otap_attrs.specs.Tables.{attribute_table}
-use Rattle.otap_checks.specs.Reading.{pairs_in}
+use Rattle.otap_attrs.specs.Index.{pairs_in}
 use Rattle.otap_checks.proofs.PairsAgain.{sorted_weigh, unsorted}
 use Rattle.otap_spans.specs.Records.{event_cells, event_of, link_cells, link_of, span_cells, span_of}
 use Rattle.otap_spans.specs.Requests.{event_in, events_in, link_in, links_in, regrouped_spans}

@@ -41,7 +41,7 @@ use Rattle.otap_checks.specs.IdDefects.{IdDefect, WrongIn}
 use Rattle.otap_checks.specs.Inside.{AreGiven, IsGiven}
 use Rattle.otap_checks.specs.Links.{attributes, items, links_of, parts}
 use Rattle.otap_checks.specs.Reading.{Disagrees}
-use Rattle.otap_checks.specs.ValueDefects.{WrongValue}
+use Rattle.otap_attrs.specs.Defects.{WrongValue}
 use Rattle.otap_checks.proofs.FineLinks.{fine_attributes, fine_parts, settle}
 use Rattle.otap_checks.proofs.FinePairs.{IsFineList, attributes_fine, pairs_fine}
 use Rattle.otap_checks.proofs.GivenColumns.{nothing_wrong, own_once as once_in_column}

@@ -9,7 +9,8 @@ use Rattle.otap_cells.specs.Tables.{Table, profile_table}
 use Rattle.otap_groups.specs.Rows.{MainRow, main_rows}
 use Rattle.otap_groups.specs.Runs.{runs}
 use Rattle.otap_groups.specs.Groups.{regrouped}
-use Rattle.otap_checks.specs.Reading.{main_rows_in, pairs_in}
+use Rattle.otap_attrs.specs.Index.{pairs_in}
+use Rattle.otap_checks.specs.Reading.{main_rows_in}
 use Rattle.otap_spans.specs.Records.{span_of}
 use Rattle.otap_spans.specs.Requests.{events_in, links_in, regrouped_spans}
 

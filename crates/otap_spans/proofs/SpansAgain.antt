@@ -39,7 +39,8 @@ use Rattle.otap_groups.proofs.RealGroups.{real_groups, real_items}
 use Rattle.otap_groups.proofs.RunBlocks.{Every}
 use Rattle.otap_groups.proofs.WritableGroups.{all_flat_map, all_items_can, all_resources_can, all_scopes_can, few_items, few_parts, few_resources, few_scopes}
 use Rattle.otap_attrs.specs.Tables.{attribute_table}
-use Rattle.otap_checks.specs.Reading.{main_rows_in, part_rows_in, pairs_in}
+use Rattle.otap_attrs.specs.Index.{pairs_in}
+use Rattle.otap_checks.specs.Reading.{main_rows_in, part_rows_in}
 use Rattle.otap_checks.proofs.PairsAgain.{AreBack, IsBackResource, IsBackScope, all_every, pairs_agree, pairs_back, sorted_alike, unsorted}
 use Rattle.otap_checks.proofs.RowsAgain.{main_rows_again, part_rows_again}
 use Rattle.otap_spans.specs.Records.{event_cells, event_of, link_cells, link_of, span_cells, span_of}

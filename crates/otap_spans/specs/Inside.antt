@@ -20,7 +20,7 @@ use Rattle.otap_checks.specs.Known.{Knows}
 use Rattle.otap_checks.specs.Links.{links_of}
 use Rattle.otap_checks.specs.Pairing.{cells_or}
 use Rattle.otap_checks.specs.Reading.{Disagrees}
-use Rattle.otap_checks.specs.ValueDefects.{WrongValue}
+use Rattle.otap_attrs.specs.Defects.{WrongValue}
 use Rattle.otap_spans.specs.Records.{event_of, link_of}
 
 -- nothing is wrong with the values of the table of a kind

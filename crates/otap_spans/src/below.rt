@@ -7,7 +7,7 @@ ghost use Rattle.otap_cells.specs.Named.{table_named};
 ghost use Rattle.otap_cells.specs.Sets.{IsSet, tables_in};
 ghost use Rattle.otap_groups.specs.Inside.{finds_in};
 ghost use Rattle.otap_checks.specs.Known.{Knows};
-ghost use Rattle.otap_checks.specs.Reading.{pairs_in};
+ghost use Rattle.otap_attrs.specs.Index.{pairs_in};
 ghost use Rattle.otap_spans.specs.Inside.{events_by, links_by};
 ghost use Rattle.otap_spans.specs.Requests.{events_in, links_in};
 

@@ -12,7 +12,7 @@ ghost use Rattle.otap_groups.specs.Groups.{regrouped};
 ghost use Rattle.otap_groups.specs.Inside.{finds_in};
 ghost use Rattle.otap_groups.specs.Rows.{main_rows};
 ghost use Rattle.otap_attrs.specs.declared.refusal.RowRefusal.{RowRefusal};
-ghost use Rattle.otap_checks.specs.Reading.{pairs_in};
+ghost use Rattle.otap_attrs.specs.Index.{pairs_in};
 ghost use Rattle.otap_checks.specs.Refusing.{RefusesCheck};
 ghost use Rattle.otap_checks.specs.Regrouping.{RefusesRegroup};
 ghost use Rattle.otap_spans.specs.Inside.{AreWhole, KnowsSpans, events_by, links_by, pairs_by};
@@ -25,7 +25,7 @@ use otap_attrs::{CheckRefusal, RowRefusal};
 use otap_cells::{Kind, Rows, TableSet};
 use otap_checks::{
     Grouped, KnownIds, RegroupRefusal, check_values, disagrees, front_of, groups_within,
-    index_pairs, known_ids, table_of,
+    find_pairs, known_ids, table_of,
 };
 use otap_groups::{Front, Main};
 use otlp_model::{Items, ResourceGroup, Signal, Span};
@@ -179,12 +179,12 @@ fn main_of<'a, R: Rows>(
         ≡ links_in (table_named table.SpanLinks (tables_in R.table set.now.tables.items)) (table_named table.LinkAttrs (tables_in R.table set.now.tables.items)) parent) }
 {
     let rows = front.rows;
-    let resources = index_pairs(alloc, set, Kind::ResourceAttrs, known)?;
-    let scopes = index_pairs(alloc, set, Kind::ScopeAttrs, known)?;
-    let pairs = index_pairs(alloc, set, Kind::SpanAttrs, known)?;
-    let event_pairs = index_pairs(alloc, set, Kind::EventAttrs, known)?;
+    let resources = find_pairs(alloc, set, Kind::ResourceAttrs, known)?;
+    let scopes = find_pairs(alloc, set, Kind::ScopeAttrs, known)?;
+    let pairs = find_pairs(alloc, set, Kind::SpanAttrs, known)?;
+    let event_pairs = find_pairs(alloc, set, Kind::EventAttrs, known)?;
     let events = index_events(alloc, set, known, event_pairs)?;
-    let link_pairs = index_pairs(alloc, set, Kind::LinkAttrs, known)?;
+    let link_pairs = find_pairs(alloc, set, Kind::LinkAttrs, known)?;
     let links = index_links(alloc, set, known, link_pairs)?;
     Ok(Main {
         front,

@@ -6,8 +6,8 @@ use Rattle.otap_hist.proofs.HistColumns.{exemplars_are_parts}
 use Rattle.otap_hist.proofs.IndexedParts.{hists_are, summaries_are}
 use Rattle.otap_hist.proofs.requests.regroup.Goals as goal
 
-pub index_pairs-requires-clause-known : goal.index_pairs-requires-clause-known
-index_pairs-requires-clause-known g c = known_exemplar_pairs (tables_in g.R.Rows.table c.args.set.now.tables.items) c.in_ok-known.known.columns.items c.in_ok-known.ensures.known
+pub find_pairs-requires-clause-known : goal.find_pairs-requires-clause-known
+find_pairs-requires-clause-known g c = known_exemplar_pairs (tables_in g.R.Rows.table c.args.set.now.tables.items) c.in_ok-known.known.columns.items c.in_ok-known.ensures.known
 
 pub index_exemplars-requires-clause-part : goal.index_exemplars-requires-clause-part
 index_exemplars-requires-clause-part g c = exemplars_are_parts
@@ -18,14 +18,14 @@ index_exemplars-requires-clause-columns g c = refl
 pub index_exemplars-requires-clause-known : goal.index_exemplars-requires-clause-known
 index_exemplars-requires-clause-known g c = known_exemplars (tables_in g.R.Rows.table c.args.set.now.tables.items) c.in_ok-known.known.columns.items c.in_ok-known.ensures.known
 
-pub index_pairs-requires-2-clause-known : goal.index_pairs-requires-2-clause-known
-index_pairs-requires-2-clause-known g c = known_hist_pairs (tables_in g.R.Rows.table c.args.set.now.tables.items) c.in_ok-known.known.columns.items c.in_ok-known.ensures.known
+pub find_pairs-requires-2-clause-known : goal.find_pairs-requires-2-clause-known
+find_pairs-requires-2-clause-known g c = known_hist_pairs (tables_in g.R.Rows.table c.args.set.now.tables.items) c.in_ok-known.known.columns.items c.in_ok-known.ensures.known
 
 pub index_hists-requires-clause-known : goal.index_hists-requires-clause-known
 index_hists-requires-clause-known g c = known_hists (tables_in g.R.Rows.table c.args.set.now.tables.items) c.in_ok-known.known.columns.items c.in_ok-known.ensures.known
 
-pub index_pairs-requires-3-clause-known : goal.index_pairs-requires-3-clause-known
-index_pairs-requires-3-clause-known g c = known_summary_pairs (tables_in g.R.Rows.table c.args.set.now.tables.items) c.in_ok-known.known.columns.items c.in_ok-known.ensures.known
+pub find_pairs-requires-3-clause-known : goal.find_pairs-requires-3-clause-known
+find_pairs-requires-3-clause-known g c = known_summary_pairs (tables_in g.R.Rows.table c.args.set.now.tables.items) c.in_ok-known.known.columns.items c.in_ok-known.ensures.known
 
 pub index_summaries-requires-clause-known : goal.index_summaries-requires-clause-known
 index_summaries-requires-clause-known g c = known_summaries (tables_in g.R.Rows.table c.args.set.now.tables.items) c.in_ok-known.known.columns.items c.in_ok-known.ensures.known

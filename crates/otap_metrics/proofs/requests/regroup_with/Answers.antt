@@ -14,8 +14,8 @@ returns-in_default-clause-clean g c =
 pub returns-in_default-clause-groups : goal.returns-in_default-clause-groups
 returns-in_default-clause-groups g c = c.new.ensures ∙ sym (no_groups (tables_in g.R.Rows.table c.args.set.now.tables.items) _ _ c.in_default.ensures.table)
 
-pub index_pairs-requires-clause-known : goal.index_pairs-requires-clause-known
-index_pairs-requires-clause-known g c = known_exemplar_pairs (tables_in g.R.Rows.table c.args.set.now.tables.items) c.args.known.now.columns.items c.requires.known
+pub find_pairs-requires-clause-known : goal.find_pairs-requires-clause-known
+find_pairs-requires-clause-known g c = known_exemplar_pairs (tables_in g.R.Rows.table c.args.set.now.tables.items) c.args.known.now.columns.items c.requires.known
 
 pub index_exemplars-requires-clause-part : goal.index_exemplars-requires-clause-part
 index_exemplars-requires-clause-part g c = exemplars_are_parts
@@ -26,17 +26,17 @@ index_exemplars-requires-clause-columns g c = refl
 pub index_exemplars-requires-clause-known : goal.index_exemplars-requires-clause-known
 index_exemplars-requires-clause-known g c = known_exemplars (tables_in g.R.Rows.table c.args.set.now.tables.items) c.args.known.now.columns.items c.requires.known
 
-pub index_pairs-requires-2-clause-known : goal.index_pairs-requires-2-clause-known
-index_pairs-requires-2-clause-known g c = known_point_pairs (tables_in g.R.Rows.table c.args.set.now.tables.items) c.args.known.now.columns.items c.requires.known
+pub find_pairs-requires-2-clause-known : goal.find_pairs-requires-2-clause-known
+find_pairs-requires-2-clause-known g c = known_point_pairs (tables_in g.R.Rows.table c.args.set.now.tables.items) c.args.known.now.columns.items c.requires.known
 
 pub index_points-requires-clause-known : goal.index_points-requires-clause-known
 index_points-requires-clause-known g c = known_points (tables_in g.R.Rows.table c.args.set.now.tables.items) c.args.known.now.columns.items c.requires.known
 
-pub index_pairs-requires-3-clause-known : goal.index_pairs-requires-3-clause-known
-index_pairs-requires-3-clause-known g c = known_resources (tables_in g.R.Rows.table c.args.set.now.tables.items) c.args.known.now.columns.items c.requires.known
+pub find_pairs-requires-3-clause-known : goal.find_pairs-requires-3-clause-known
+find_pairs-requires-3-clause-known g c = known_resources (tables_in g.R.Rows.table c.args.set.now.tables.items) c.args.known.now.columns.items c.requires.known
 
-pub index_pairs-requires-4-clause-known : goal.index_pairs-requires-4-clause-known
-index_pairs-requires-4-clause-known g c = known_scopes (tables_in g.R.Rows.table c.args.set.now.tables.items) c.args.known.now.columns.items c.requires.known
+pub find_pairs-requires-4-clause-known : goal.find_pairs-requires-4-clause-known
+find_pairs-requires-4-clause-known g c = known_scopes (tables_in g.R.Rows.table c.args.set.now.tables.items) c.args.known.now.columns.items c.requires.known
 
 pub main_groups-requires-clause-points : goal.main_groups-requires-clause-points
 main_groups-requires-clause-points g c = λ parent.

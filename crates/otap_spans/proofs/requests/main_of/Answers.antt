@@ -4,20 +4,20 @@ use Rattle.otap_spans.proofs.Cleanness.{known_event_pairs, known_events, known_l
 use Rattle.otap_spans.proofs.SpanPlaces.{found_weigh}
 use Rattle.otap_spans.proofs.requests.main_of.Goals as goal
 
-pub index_pairs-requires-clause-known : goal.index_pairs-requires-clause-known
-index_pairs-requires-clause-known g c = known_resource_pairs (tables_in g.R.Rows.table c.args.set.now.tables.items) c.args.known.now.columns.items c.requires.known
+pub find_pairs-requires-clause-known : goal.find_pairs-requires-clause-known
+find_pairs-requires-clause-known g c = known_resource_pairs (tables_in g.R.Rows.table c.args.set.now.tables.items) c.args.known.now.columns.items c.requires.known
 
-pub index_pairs-requires-2-clause-known : goal.index_pairs-requires-2-clause-known
-index_pairs-requires-2-clause-known g c = known_scope_pairs (tables_in g.R.Rows.table c.args.set.now.tables.items) c.args.known.now.columns.items c.requires.known
+pub find_pairs-requires-2-clause-known : goal.find_pairs-requires-2-clause-known
+find_pairs-requires-2-clause-known g c = known_scope_pairs (tables_in g.R.Rows.table c.args.set.now.tables.items) c.args.known.now.columns.items c.requires.known
 
-pub index_pairs-requires-3-clause-known : goal.index_pairs-requires-3-clause-known
-index_pairs-requires-3-clause-known g c = known_span_pairs (tables_in g.R.Rows.table c.args.set.now.tables.items) c.args.known.now.columns.items c.requires.known
+pub find_pairs-requires-3-clause-known : goal.find_pairs-requires-3-clause-known
+find_pairs-requires-3-clause-known g c = known_span_pairs (tables_in g.R.Rows.table c.args.set.now.tables.items) c.args.known.now.columns.items c.requires.known
 
-pub index_pairs-requires-4-clause-known : goal.index_pairs-requires-4-clause-known
-index_pairs-requires-4-clause-known g c = known_event_pairs (tables_in g.R.Rows.table c.args.set.now.tables.items) c.args.known.now.columns.items c.requires.known
+pub find_pairs-requires-4-clause-known : goal.find_pairs-requires-4-clause-known
+find_pairs-requires-4-clause-known g c = known_event_pairs (tables_in g.R.Rows.table c.args.set.now.tables.items) c.args.known.now.columns.items c.requires.known
 
-pub index_pairs-requires-5-clause-known : goal.index_pairs-requires-5-clause-known
-index_pairs-requires-5-clause-known g c = known_link_pairs (tables_in g.R.Rows.table c.args.set.now.tables.items) c.args.known.now.columns.items c.requires.known
+pub find_pairs-requires-5-clause-known : goal.find_pairs-requires-5-clause-known
+find_pairs-requires-5-clause-known g c = known_link_pairs (tables_in g.R.Rows.table c.args.set.now.tables.items) c.args.known.now.columns.items c.requires.known
 
 pub index_events-requires-clause-known : goal.index_events-requires-clause-known
 index_events-requires-clause-known g c = known_events (tables_in g.R.Rows.table c.args.set.now.tables.items) c.args.known.now.columns.items c.requires.known
