@@ -8,7 +8,7 @@ use Rattle.otlp_model.specs.Weight.{total, weight_of_pair}
 use Rattle.otap_cells.specs.Cells.{Cell}
 use Rattle.otap_cells.specs.Tables.{Table}
 use Rattle.otap_groups.specs.declared.entry.Entry.{Entry}
-use Rattle.otap_groups.specs.Inside.{child_at, of_parent}
+use Rattle.otap_groups.specs.Found.{child_at, of_parent}
 use Rattle.otap_groups.proofs.IndexLaws.{found_below}
 use Rattle.otap_attrs.specs.Index.{IndexIn, IsIndexOf, pairs_in, row_weight}
 use Rattle.otap_attrs.specs.Values.{pair_in}

@@ -8,7 +8,7 @@ use Rattle.otap_cells.specs.GivenIds.{ids_in}
 use Rattle.otap_cells.specs.Tables.{Table}
 use Rattle.otap_groups.specs.declared.entry.Entry.{Entry}
 use Rattle.otap_groups.specs.Children.{children}
-use Rattle.otap_groups.specs.Inside.{found}
+use Rattle.otap_groups.specs.Found.{found}
 use Rattle.otap_groups.specs.Rows.{ChildRow, child_rows}
 use Rattle.otap_attrs.specs.Values.{pair_in}
 

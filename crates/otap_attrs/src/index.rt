@@ -5,7 +5,7 @@ ghost use Rattle.otlp_model.specs.Weight.{total, weight_of_pair};
 ghost use Rattle.otap_cells.specs.Continuing.{has_attributes};
 ghost use Rattle.otap_cells.specs.Tables.{Table};
 ghost use Rattle.otap_groups.specs.declared.entry.Entry.{Entry};
-ghost use Rattle.otap_groups.specs.Inside.{of_parent};
+ghost use Rattle.otap_groups.specs.Found.{of_parent};
 ghost use Rattle.otap_attrs.specs.declared.refusal.RowRefusal.{RowRefusal};
 ghost use Rattle.otap_attrs.specs.Defects.{PairDefect, RefusesRow, WrongValue};
 ghost use Rattle.otap_attrs.specs.Index.{IsIndexOf, pairs_in, row_weight};

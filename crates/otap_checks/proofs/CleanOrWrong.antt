@@ -35,7 +35,7 @@ use Rattle.otap_checks.specs.declared.links.Parents.{Parents}
 use Rattle.otap_checks.specs.Deciding.{CleanOrWrong, HasByteCells}
 use Rattle.otap_attrs.specs.Defects.{OrphanIn, WrongValue}
 use Rattle.otap_checks.specs.IdDefects.{PastType, Duplicate, Orphan, Some_column, DuplicateOf, OrphanOf, WrongIn, IdDefect}
-use Rattle.otap_checks.specs.Inside.{AreGiven, IsGiven}
+use Rattle.otap_checks.specs.Given.{AreGiven, IsGiven}
 use Rattle.otap_checks.specs.Links.{links_of}
 use Rattle.otap_checks.specs.Reading.{ResourcesDiffer, ScopesDiffer, Disagrees}
 use Rattle.otap_checks.proofs.Decided.{some_or_none, null_or_not, twice_or_not, orphan_or_not, differ_or_not}

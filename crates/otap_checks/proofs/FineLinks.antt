@@ -21,7 +21,7 @@ use Rattle.otap_attrs.specs.Tables.{attribute_table}
 use Rattle.otap_checks.specs.declared.links.Link.{Link}
 use Rattle.otap_attrs.specs.Defects.{OrphanIn}
 use Rattle.otap_checks.specs.IdDefects.{WrongIn}
-use Rattle.otap_checks.specs.Inside.{AreGiven, IsGiven}
+use Rattle.otap_checks.specs.Given.{AreGiven, IsGiven}
 use Rattle.otap_checks.specs.Links.{attributes, parts}
 use Rattle.otap_checks.proofs.GivenColumns.{no_orphan, nothing_wrong}
 use Rattle.otap_checks.proofs.GivenColumns as columns

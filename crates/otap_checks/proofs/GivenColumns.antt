@@ -18,7 +18,8 @@ use Rattle.otap_checks.specs.declared.links.Link.{Link}
 use Rattle.otap_checks.specs.declared.links.Parents.{Parents}
 use Rattle.otap_attrs.specs.Defects.{OrphanIn, RefusesRow}
 use Rattle.otap_checks.specs.IdDefects.{Duplicate, DuplicateOf, Orphan, OrphanOf, WrongIn}
-use Rattle.otap_checks.specs.Inside.{AreGiven, ColumnFault}
+use Rattle.otap_checks.specs.Inside.{ColumnFault}
+use Rattle.otap_checks.specs.Given.{AreGiven}
 
 -- a refusal to give a column's ids is a fault of the column
 pub column_refused : (t : Table) (column : ℕ) (continues : List Bool) (inner : IdsRefusal) → continues ≡ continues_in t → is_id_at t.kind column ≡ true

@@ -15,10 +15,10 @@ use Rattle.otap_attrs.specs.declared.refusal.CheckRefusal.{CheckRefusal}
 use Rattle.otap_attrs.specs.declared.refusal.CheckRefusal.TheVariants as check
 use Rattle.otap_checks.specs.declared.known.ColumnIds.{ColumnIds}
 use Rattle.otap_checks.specs.declared.links.Link.{Link}
-use Rattle.otap_checks.specs.Inside.{ColumnFault, ColumnWrong, ColumnsWrong, HasColumns, Keeps, KnownFault, KnownFaults, KnownWrong, refused_as}
+use Rattle.otap_checks.specs.Inside.{ColumnFault, ColumnWrong, ColumnsWrong, HasColumns, Keeps, KnownFault, KnownFaults, KnownWrong}
+use Rattle.otap_checks.specs.Refusing.{refused_as, RefusesCheck}
 use Rattle.otap_checks.specs.Known.{is_column}
 use Rattle.otap_attrs.specs.Defects.{RefusesRow}
-use Rattle.otap_checks.specs.Refusing.{RefusesCheck}
 
 -- the columns of ids below a place are there
 abbrev pub HasBelow : Kind → ℕ → List ColumnIds → Type 0

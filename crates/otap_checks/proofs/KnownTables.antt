@@ -19,7 +19,8 @@ use Rattle.otap_checks.specs.declared.known.ColumnIds.{ColumnIds}
 use Rattle.otap_checks.specs.declared.links.Link.{Link}
 use Rattle.otap_checks.specs.declared.links.Parents.{Parents}
 use Rattle.otap_checks.specs.IdDefects.{DuplicateOf, IdDefect, OrphanOf, WrongIn}
-use Rattle.otap_checks.specs.Inside.{AreGiven, ColumnFault, ColumnsWrong, HasColumns, IsLost, IsRight, KnownFault, KnownFaults, OwnTwice, IsAbove, IsAboveOrNone, IsIdOrNone}
+use Rattle.otap_checks.specs.Inside.{ColumnFault, ColumnsWrong, HasColumns, IsLost, IsRight, KnownFault, KnownFaults, OwnTwice, IsAbove, IsAboveOrNone, IsIdOrNone}
+use Rattle.otap_checks.specs.Given.{AreGiven}
 use Rattle.otap_checks.specs.Known.{IsKnown, Knows, ids_named, is_column}
 use Rattle.otap_checks.specs.Links.{links_of}
 use Rattle.otap_checks.specs.Refusing.{RefusesCheck}

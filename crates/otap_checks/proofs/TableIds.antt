@@ -28,7 +28,7 @@ use Rattle.otap_attrs.specs.Values.{pair_in, BadValue}
 use Rattle.otap_checks.specs.declared.links.Link.{Link}
 use Rattle.otap_checks.specs.Links.{links_of}
 use Rattle.otap_checks.specs.IdDefects.{IdDefect}
-use Rattle.otap_checks.specs.Inside.{AreGiven}
+use Rattle.otap_checks.specs.Given.{AreGiven}
 use Rattle.otap_attrs.specs.Index.{pairs_in}
 use Rattle.otap_checks.specs.Reading.{main_rows_in, Disagrees}
 

@@ -2,13 +2,10 @@
 use Rattle.std.specs.Prelude.{◌≡◌, ℕ, true, codes, List, Option, None, Some, Contains}
 use Rattle.otap_attrs.specs.declared.refusal.RowRefusal.{RowRefusal}
 use Rattle.otap_attrs.specs.declared.refusal.RowRefusal.TheVariants as why
-use Rattle.otap_attrs.specs.declared.refusal.CheckRefusal.{CheckRefusal}
-use Rattle.otap_attrs.specs.declared.refusal.CheckRefusal.TheVariants as check
 use Rattle.otap_cells.specs.declared.ids.IdFault.TheVariants as fault
 use Rattle.otap_cells.specs.declared.payload.Kind.{Kind}
 use Rattle.otap_cells.specs.Columns.{is_id_at, name_at}
 use Rattle.otap_cells.specs.ColumnIds.{HasNullParent}
-use Rattle.otap_cells.specs.GivenIds.{HasIds}
 use Rattle.otap_cells.specs.Tables.{Table}
 use Rattle.otap_checks.specs.declared.links.Link.{Link}
 use Rattle.otap_checks.specs.declared.links.Parents.{Parents}
@@ -41,16 +38,6 @@ pub record IsLinked (link : Link) : Type 0 where
   pub parents : IsAboveOrNone link.kind link.parents
 
 -- ---- columns
-
--- the ids of a column are given
-pub record IsGiven (t : Table) (column : ℕ) : Type 0 where
-  pub ids : List (Option ℕ)
-  pub are : HasIds t column ids
-  pub parents : HasNullParent t column → ⊥
-
--- those of each column are
-abbrev pub AreGiven : Table → Type 0
-AreGiven t = (column : ℕ) → is_id_at t.kind column ≡ true → IsGiven t column
 
 -- what is wrong with some column
 abbrev pub ColumnFault : Table → RowRefusal → Type 0
@@ -98,14 +85,3 @@ KnownWrong known link kind wrong = (kind ≡ link.kind) × KnownFault known link
 
 abbrev pub KnownFaults : List ColumnIds → List Link → Kind → RowRefusal → Type 0
 KnownFaults known links kind wrong = (link : Link) × Contains links link × KnownWrong known link kind wrong
-
--- ---- refusals
-
--- the refusal of a batch that a refusal of a table's rows is
-abbrev pub refused_as : Kind → RowRefusal → CheckRefusal
-refused_as kind (why.Memory error) = check.Memory error
-refused_as kind refusal = check.Defect kind refusal
-
--- nothing is wrong with rows
-abbrev pub Nothing : Kind → RowRefusal → Type 0
-Nothing kind wrong = ⊥

@@ -1,4 +1,5 @@
 pub mod Deciding
+pub mod Given
 pub mod IdDefects
 pub mod Inside
 pub mod Known

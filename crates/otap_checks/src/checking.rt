@@ -7,10 +7,10 @@ ghost use Rattle.otap_cells.specs.Tables.{profile_table};
 ghost use Rattle.otap_attrs.specs.declared.refusal.RowRefusal.{RowRefusal};
 ghost use Rattle.otap_checks.specs.declared.links.Link.{Link};
 ghost use Rattle.otap_checks.specs.IdDefects.{IdDefect};
-ghost use Rattle.otap_checks.specs.Inside.{IsLost, KnownFault, KnownFaults, KnownWrong, OwnTwice, refused_as};
+ghost use Rattle.otap_checks.specs.Inside.{IsLost, KnownFault, KnownFaults, KnownWrong, OwnTwice};
+ghost use Rattle.otap_checks.specs.Refusing.{refused_as, RefusesCheck};
 ghost use Rattle.otap_checks.specs.Known.{Knows};
 ghost use Rattle.otap_checks.specs.Links.{links_of};
-ghost use Rattle.otap_checks.specs.Refusing.{RefusesCheck};
 
 use crate::known::{KnownIds, read_tables};
 use crate::links::{Link, links_of};

@@ -3,7 +3,7 @@ ghost use Rattle.std.specs.Prelude.{◌≡◌, true, false, IfOk};
 ghost use Rattle.otap_groups.specs.Disagree.{Disagree};
 ghost use Rattle.otap_groups.specs.Kinds.{IsMain};
 ghost use Rattle.otap_groups.specs.Rows.{main_rows};
-ghost use Rattle.otap_checks.specs.Inside.{AreGiven};
+ghost use Rattle.otap_checks.specs.Given.{AreGiven};
 ghost use Rattle.otap_checks.specs.Known.{Knows};
 ghost use Rattle.otap_checks.specs.Reading.{Disagrees, main_rows_in};
 

@@ -5,7 +5,7 @@ ghost use Rattle.otap_cells.specs.Continuing.{has_attributes};
 ghost use Rattle.otap_cells.specs.Named.{table_named};
 ghost use Rattle.otap_cells.specs.Sets.{IsSet, tables_in};
 ghost use Rattle.otap_attrs.specs.Values.{pair_in};
-ghost use Rattle.otap_groups.specs.Inside.{found};
+ghost use Rattle.otap_groups.specs.Found.{found};
 ghost use Rattle.otap_checks.specs.Known.{Knows};
 ghost use Rattle.otap_checks.specs.Pairing.{cells_or};
 ghost use Rattle.otap_attrs.specs.Index.{pairs_in};

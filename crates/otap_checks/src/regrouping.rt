@@ -6,7 +6,7 @@ ghost use Rattle.otap_attrs.specs.declared.refusal.CheckRefusal.TheVariants as c
 ghost use Rattle.otap_groups.specs.Groups.{regrouped};
 ghost use Rattle.otap_groups.specs.Rows.{main_rows};
 ghost use Rattle.otap_groups.specs.Weighing.{weigh_resource_group};
-ghost use Rattle.otap_checks.specs.Inside.{Nothing};
+ghost use Rattle.otap_checks.specs.Refusing.{Nothing};
 ghost use Rattle.otap_checks.specs.Regrouping.{RefusesRegroup};
 ghost use Rattle.otap_checks.specs.declared.regrouping.RegroupRefusal.TheVariants as regroup;
 

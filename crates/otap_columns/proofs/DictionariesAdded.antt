@@ -21,7 +21,7 @@ use Rattle.arrow_arrays.specs.Layouts.{layout_of_values}
 use Rattle.arrow_arrays.proofs.ColumnLaws.{column_checks, column_cells}
 use Rattle.otap_dicts.specs.Forms.{bytes_of}
 use Rattle.otap_columns.specs.Dictionaries.{values_of}
-use Rattle.otap_columns.specs.Policy.{HoldsValues}
+use Rattle.otap_columns.specs.WrittenPayloads.{HoldsValues}
 use Rattle.otap_columns.specs.WrittenBatches.{IsSingle, AddsDictionary}
 use Rattle.otap_columns.specs.WrittenCells.{HasRoom, parts_of, with_parts}
 use Rattle.otap_columns.proofs.BatchGrown.{column_grows, message_short, sizes}

@@ -13,7 +13,7 @@ use Rattle.arrow_ipc.specs.declared.messages.IpcMessage.TheVariants.{Dictionary}
 use Rattle.arrow_ipc.specs.Batches.{BatchIn}
 use Rattle.arrow_arrays.specs.Cells.{array_check, place_of_values}
 use Rattle.otap_columns.specs.Dictionaries.{values_of, batch_of, batches_of, dictionary, kept}
-use Rattle.otap_columns.specs.Policy.{heads}
+use Rattle.otap_columns.specs.WrittenPayloads.{heads}
 use Rattle.otap_columns.proofs.Growing.{joined, joined-push}
 
 -- the values, none of them null

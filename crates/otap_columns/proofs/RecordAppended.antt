@@ -16,7 +16,7 @@ use Rattle.otap_cells.specs.declared.profile.Base.{Base}
 use Rattle.otap_cells.specs.Columns.{base_at, width_of}
 use Rattle.otap_cells.specs.Tables.{Table}
 use Rattle.otap_columns.specs.declared.forms.ColumnForm.{ColumnForm}
-use Rattle.otap_columns.specs.Policy.{HoldsRows, HoldsValues, batch_if, has_some, heads, schema_if}
+use Rattle.otap_columns.specs.WrittenPayloads.{HoldsRows, HoldsValues, batch_if, has_some, heads, schema_if}
 use Rattle.otap_columns.specs.Schemas.{Forms, is_dictionary, schema_for, type_in}
 use Rattle.otap_columns.specs.WrittenBatches.{AddsDictionary}
 use Rattle.otap_columns.specs.WrittenRecords.{Values, CanSend, AddsMessages, AddsHead, AddsHeads, IsRecordBy, from_in, is_sent, heads_by}

@@ -34,7 +34,7 @@ use Rattle.otap_columns.specs.Substreams.{field_value, value_if, column_value, c
 use Rattle.otap_columns.specs.Records.{IsFineBatch, IsFineIn, IsFine, is_fine_for}
 use Rattle.otap_columns.specs.Schemas.{Forms, FormsFit, IsFound, is_there, is_dictionary, type_in, dict_for, schema_for}
 use Rattle.otap_columns.specs.Observed.{bytes_for, FitsForm}
-use Rattle.otap_columns.specs.Policy.{LeadsTo, Stores, HoldsRows, heads}
+use Rattle.otap_columns.specs.WrittenPayloads.{LeadsTo, Stores, HoldsRows, heads}
 use Rattle.otap_columns.proofs.CellsBack.{cell_back}
 use Rattle.otap_columns.proofs.Growing.{dictionary-other, dictionaries_in-batch, schema_in-stays, substream_from}
 use Rattle.otap_columns.proofs.HeldLess.{all_light, few_dictionaries}

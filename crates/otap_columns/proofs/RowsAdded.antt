@@ -32,7 +32,7 @@ use Rattle.otap_columns.specs.Groups as groups
 use Rattle.otap_columns.specs.Schemas.{Forms, FormsFit, Slot, Struct, slots_for, is_there, members_there, slots_of_member, slots_under, slots_in}
 use Rattle.otap_columns.specs.WrittenGroups.{member_in, group_in}
 use Rattle.otap_columns.specs.WrittenCells.{place_in, width_for, stored_for, stored_column, parts_of, with_part, with_parts}
-use Rattle.otap_columns.specs.Policy.{HoldsRows}
+use Rattle.otap_columns.specs.WrittenPayloads.{HoldsRows}
 use Rattle.otap_columns.specs.Groups.{grouped}
 use Rattle.otap_columns.specs.WrittenRows.{AreSlotParts, AddsSlots, HasValues}
 use Rattle.otap_columns.proofs.PartsBuilt.{IsBuiltOf, column_parts}

@@ -36,7 +36,7 @@ use Rattle.otap_columns.specs.declared.forms.ColumnForm.TheVariants as form
 use Rattle.otap_columns.specs.Known.{known_column}
 use Rattle.otap_columns.specs.Observed.{bytes_for}
 use Rattle.otap_columns.specs.Schemas.{Forms, FormsFit, Slot, Struct, Column, Items, IsSlot, is_dictionary, is_items, slot_field, slot_column, slots_for, schema_for, type_in, item_in, item_type}
-use Rattle.otap_columns.specs.Policy.{LeadsTo, Stores, HoldsRows}
+use Rattle.otap_columns.specs.WrittenPayloads.{LeadsTo, Stores, HoldsRows}
 use Rattle.otap_columns.specs.Substreams.{value_at, is_index_below}
 use Rattle.otap_columns.specs.WrittenCells.{FitsIndexes, index_bytes, stored_column, stored_for}
 use Rattle.otap_columns.specs.WrittenRows.{HoldsSlot, first_of, AreSlotParts, IsKnownIn, HasValues}

@@ -29,7 +29,7 @@ use Rattle.otap_columns.specs.Substreams.{SubstreamIn, held_in, schema_in, subst
 use Rattle.otap_columns.specs.Records.{is_rows, IsFine, IsFineIn, IsRead}
 use Rattle.otap_columns.specs.Schemas.{Forms, is_dictionary, type_in, schema_for}
 use Rattle.otap_columns.specs.Observed.{form_at, values_at, new_at}
-use Rattle.otap_columns.specs.Policy.{has_some, is_wanted, batch_if, heads, schema_if, batches_for, messages_for, HoldsValues, IsWritable, GoesOn, IsRecord, IsWritten, Policy, IsReadAs}
+use Rattle.otap_columns.specs.WrittenPayloads.{has_some, is_wanted, batch_if, heads, schema_if, batches_for, messages_for, HoldsValues, IsWritable, GoesOn, IsRecord, IsWritten, AreWrittenAs, IsReadAs}
 use Rattle.otap_columns.proofs.Growing.{substream-none}
 use Rattle.otap_columns.proofs.HeldLess.{light}
 use Rattle.otap_columns.proofs.IdsRead.{ids_read}
@@ -313,5 +313,5 @@ all_read kind before past (t ∷ ts) (p ∷ ps) i each =
     let g : Goes kind before past t p = goes kind before past t p i each.0 in
     (g.read_as, all_read kind (before ++ t ∷ []) (past ++ p ∷ []) ts ps g.next each.1)
 
-pub far_end : (kind : Kind) (tables : List Table) (payloads : List PayloadIn) → Policy kind tables payloads → EachAfter (IsReadAs kind) [] [] tables payloads
+pub far_end : (kind : Kind) (tables : List Table) (payloads : List PayloadIn) → AreWrittenAs kind tables payloads → EachAfter (IsReadAs kind) [] [] tables payloads
 far_end kind tables payloads each = all_read kind [] [] tables payloads (record { current = λ some. absurd (some refl) }) each

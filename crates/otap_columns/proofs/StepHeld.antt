@@ -14,7 +14,7 @@ use Rattle.otap_cells.specs.declared.profile.Base.{Base}
 use Rattle.otap_cells.specs.Bases.{is_id}
 use Rattle.otap_columns.specs.declared.forms.ColumnForm.{ColumnForm}
 use Rattle.otap_columns.specs.declared.forms.ColumnForm.TheVariants as form
-use Rattle.otap_columns.specs.Policy.{IsWritable}
+use Rattle.otap_columns.specs.WrittenPayloads.{IsWritable}
 use Rattle.otap_columns.specs.Schemas.{FormsFit, fits_form, is_dictionary, is_there, item_in}
 use Rattle.otap_columns.specs.Observed.{FitsForm, bytes_for, form_at, is_own_id, is_wide, of_ladder, values_at}
 use Rattle.otap_columns.specs.Seen.{SeenIn, filled, form_told, id_form_told, is_absent, places_of}

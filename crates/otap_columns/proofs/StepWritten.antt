@@ -18,7 +18,7 @@ use Rattle.otap_cells.specs.Tables.{Table, cell_in}
 use Rattle.otap_columns.specs.declared.forms.ColumnForm.{ColumnForm}
 use Rattle.otap_columns.specs.declared.forms.ColumnForm.TheVariants as form
 use Rattle.otap_columns.specs.Known.{known_column}
-use Rattle.otap_columns.specs.Policy.{GoesOn, HoldsRows, HoldsValues, IsRecord, IsWritable, Stores, batch_if, has_some, heads, batches_for, is_wanted, messages_for, schema_if, wanted_values}
+use Rattle.otap_columns.specs.WrittenPayloads.{GoesOn, HoldsRows, HoldsValues, IsRecord, IsWritable, Stores, batch_if, has_some, heads, batches_for, is_wanted, messages_for, schema_if, wanted_values}
 use Rattle.otap_columns.specs.Schemas.{Forms, is_dictionary, schema_for, type_in}
 use Rattle.otap_columns.specs.Observed.{bytes_for, form_at, values_at, new_at}
 use Rattle.otap_columns.specs.Seen.{SeenIn}

@@ -29,7 +29,7 @@ use Rattle.otap_dicts.specs.Forms.{distinct, with_value, form_of, is_too_large, 
 use Rattle.otap_dicts.specs.Ladders.{ladder_of, kept_in}
 use Rattle.otap_columns.specs.declared.forms.ColumnForm.{ColumnForm}
 use Rattle.otap_columns.specs.declared.forms.ColumnForm.TheVariants as form
-use Rattle.otap_columns.specs.Policy.{IsWritable}
+use Rattle.otap_columns.specs.WrittenPayloads.{IsWritable}
 use Rattle.otap_columns.specs.Schemas.{fits_form, is_dictionary, item_in, type_in}
 use Rattle.otap_columns.specs.Observed.{bytes_for, given, values_in, seen, form_at, values_at, is_own_id, id_form_if, of_ladder}
 use Rattle.otap_columns.specs.WrittenBatches.{IsSingle, HoldsType}

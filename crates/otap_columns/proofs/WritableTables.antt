@@ -7,7 +7,7 @@ use Rattle.otap_cells.specs.Continuing.{continues_in}
 use Rattle.otap_cells.specs.Ids.{Ids}
 use Rattle.otap_cells.specs.Tables.{Table, IsTable, coding_in, greatest_wide}
 use Rattle.otap_cells.proofs.ByPlace.{id_within}
-use Rattle.otap_columns.specs.Policy.{IsWritable}
+use Rattle.otap_columns.specs.WrittenPayloads.{IsWritable}
 
 -- where a column holds ids, they are stored as the profile says, and its stored numbers stand for ids
 abbrev pub IsStored : Table → ℕ → Type 0

@@ -9,7 +9,7 @@ pub mod Parts
 pub mod Substreams
 pub mod Records
 pub mod Observed
-pub mod Policy
+pub mod WrittenPayloads
 pub mod TableSets
 pub mod Seen
 pub mod NarrowIds

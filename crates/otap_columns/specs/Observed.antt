@@ -83,8 +83,8 @@ abbrev pub is_own_id : Kind → ℕ → Bool
 is_own_id kind column = if is_main kind then bytes_eq (name_at kind column) (codes "id") else false
 
 -- the ids of a column, told by its stored numbers
-abbrev pub ids_in : Kind → ℕ → Table → List (Option ℕ)
-ids_in kind column t = undone (coding_at kind column) greatest_wide (continues_in t) (stored_in t column)
+abbrev pub profile_ids_in : Kind → ℕ → Table → List (Option ℕ)
+profile_ids_in kind column t = undone (coding_at kind column) greatest_wide (continues_in t) (stored_in t column)
 
 -- one of them needs more than 16 bits
 abbrev pub is_above : Option ℕ → Bool
@@ -92,7 +92,7 @@ is_above None = false
 is_above (Some id) = nat_lt greatest_narrow id
 
 abbrev pub has_wide_id : Kind → ℕ → Table → Bool
-has_wide_id kind column t = list_any is_above (ids_in kind column t)
+has_wide_id kind column t = list_any is_above (profile_ids_in kind column t)
 
 -- a base whose ids are always wide
 abbrev pub is_wide : Base → Bool

@@ -7,7 +7,7 @@ use Rattle.lists.specs.EachAfter.{EachAfter}
 use Rattle.otap_cells.specs.declared.payload.Kind.{Kind}
 use Rattle.otap_cells.specs.Payload.{is_kind}
 use Rattle.otap_cells.specs.Tables.{Table}
-use Rattle.otap_columns.specs.Policy.{IsWritten}
+use Rattle.otap_columns.specs.WrittenPayloads.{IsWritten}
 use Rattle.otap_columns.specs.Streams.{PayloadIn, opens}
 
 -- the tables of a kind

@@ -5,7 +5,7 @@ use Rattle.otap_cells.specs.declared.payload.Kind.{Kind}
 use Rattle.otap_cells.specs.Columns.{width_of}
 use Rattle.otap_cells.specs.Tables.{Table}
 use Rattle.otap_columns.specs.declared.forms.ColumnForm.{ColumnForm}
-use Rattle.otap_columns.specs.Policy.{IsRecord, IsWritable}
+use Rattle.otap_columns.specs.WrittenPayloads.{IsRecord, IsWritable}
 use Rattle.otap_columns.specs.Seen.{IsSeenAfter, SeenIn, SeesTable, form_told}
 use Rattle.otap_columns.specs.WrittenGroups.{forms_in}
 use Rattle.otap_columns.specs.WrittenRows.{columns_in, unseen}

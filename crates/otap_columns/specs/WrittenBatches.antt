@@ -9,7 +9,7 @@ use Rattle.arrow_ipc.specs.Batches.{BatchIn}
 use Rattle.arrow_ipc.specs.Written.{Appends, most_of}
 use Rattle.arrow_arrays.specs.Columns.{width_of, AreTexts}
 use Rattle.arrow_arrays.specs.Layouts.{layout_of_values}
-use Rattle.otap_columns.specs.Policy.{HoldsValues}
+use Rattle.otap_columns.specs.WrittenPayloads.{HoldsValues}
 
 -- values that aren't lists, and of which each has some bytes where all have as many
 abbrev pub IsSingle : Width → Type 0

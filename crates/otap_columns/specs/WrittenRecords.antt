@@ -12,7 +12,7 @@ use Rattle.otap_cells.specs.Columns.{base_at, width_of}
 use Rattle.otap_cells.specs.Tables.{Table}
 use Rattle.otap_dicts.specs.Forms.{bytes_of}
 use Rattle.otap_columns.specs.declared.forms.ColumnForm.{ColumnForm}
-use Rattle.otap_columns.specs.Policy.{HoldsRows, HoldsValues, batch_if, has_some, heads, schema_if}
+use Rattle.otap_columns.specs.WrittenPayloads.{HoldsRows, HoldsValues, batch_if, has_some, heads, schema_if}
 use Rattle.otap_columns.specs.Schemas.{Forms, is_dictionary, schema_for, type_in}
 use Rattle.otap_columns.specs.WrittenBatches.{HoldsType}
 use Rattle.otap_columns.specs.WrittenCells.{plain_width}

@@ -6,7 +6,7 @@ ghost use Rattle.otap_cells.specs.Columns.{width_of};
 ghost use Rattle.otap_cells.specs.Tables.{Table};
 ghost use Rattle.otap_cells.specs.Weights.{row_weight_limit, weight_of_table};
 ghost use Rattle.otap_columns.specs.Limits.{record_limit};
-ghost use Rattle.otap_columns.specs.Policy.{IsRecord, IsWritable};
+ghost use Rattle.otap_columns.specs.WrittenPayloads.{IsRecord, IsWritable};
 ghost use Rattle.otap_columns.specs.Writers.{AreCounts, AreForms, AreSeen, HasWritten, IsReady, SeesAll, WritesRecord, is_started};
 
 use crate::forms::ColumnForm;

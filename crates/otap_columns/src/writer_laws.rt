@@ -9,7 +9,7 @@ ghost use Rattle.otap_cells.specs.Tables.{Table};
 ghost use Rattle.otap_cells.specs.Weights.{row_weight_limit, weight_of_tables};
 ghost use Rattle.arrow_arrays.specs.Written.{PartIn, batch_of};
 ghost use Rattle.otap_columns.specs.Limits.{dictionary_columns, record_limit};
-ghost use Rattle.otap_columns.specs.Policy.{HoldsRows, IsReadAs, Policy};
+ghost use Rattle.otap_columns.specs.WrittenPayloads.{HoldsRows, IsReadAs, AreWrittenAs};
 ghost use Rattle.otap_columns.specs.Schemas.{Forms, FormsFit, slots_for};
 ghost use Rattle.otap_columns.specs.Streams.{PayloadIn};
 ghost use Rattle.otap_columns.specs.WrittenRows.{AreSlotParts, HasValues};
@@ -18,7 +18,7 @@ ghost use Rattle.otap_columns.specs.WrittenRows.{AreSlotParts, HasValues};
 /// and the table that a payload stands for has the cells, the codings and the ids of the one that was written. Its sub-stream
 /// has the schema of the columns' forms.
 pub fn far_end_reads()
-    ensures { (kind : Kind) (tables : List Table) (payloads : List PayloadIn) → Policy kind tables payloads → EachAfter (IsReadAs kind) [] [] tables payloads }
+    ensures { (kind : Kind) (tables : List Table) (payloads : List PayloadIn) → AreWrittenAs kind tables payloads → EachAfter (IsReadAs kind) [] [] tables payloads }
 {}
 
 /// A record batch that has a part for each slot of its schema holds the rows of the table: a struct without nulls, a column as

@@ -3,7 +3,7 @@
 ghost use Rattle.std.specs.Prelude.{◌≡◌, ◌<◌, ◌≤◌, ℕ, drop, length, not, true, IfOk, OnOk};
 ghost use Rattle.otap_cells.specs.Columns.{base_at, width_of};
 ghost use Rattle.otap_columns.specs.Limits.{record_limit};
-ghost use Rattle.otap_columns.specs.Policy.{schema_if};
+ghost use Rattle.otap_columns.specs.WrittenPayloads.{schema_if};
 ghost use Rattle.otap_columns.specs.Schemas.{FormsFit, is_dictionary, schema_for, type_in};
 ghost use Rattle.otap_columns.specs.WrittenGroups.{forms_in};
 ghost use Rattle.otap_columns.specs.WrittenRecords.{AddsAtMost, AddsHead, AddsHeads, AddsMessages, CanSend, IsRecordBy, from_in, head_most, heads_most, is_sent, schema_most};

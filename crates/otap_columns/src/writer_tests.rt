@@ -5,7 +5,7 @@ ghost use Rattle.otap_cells.specs.ColumnIds.{stored_in};
 ghost use Rattle.otap_cells.specs.Continuing.{continues_in};
 ghost use Rattle.otap_cells.specs.Ids.{Ids};
 ghost use Rattle.otap_cells.specs.Tables.{Table, coding_in, greatest_wide};
-ghost use Rattle.otap_columns.specs.Policy.{IsWritable};
+ghost use Rattle.otap_columns.specs.WrittenPayloads.{IsWritable};
 ghost use Rattle.otap_columns.specs.Writers.{HasWritten};
 
 use crate::{Writer, Written};

@@ -12,5 +12,5 @@ id_here (Some id) before = Some id
 abbrev pub open_id_in : OpenId → OpenIdIn
 open_id_in x = record { kind = x.stream.now.kind; id = id_here (option_map (λ id. id.now) x.here) (id_of x.stream.now) }
 
-abbrev pub ids_in : ids.Inside → List OpenIdIn
-ids_in s = map open_id_in s.ids.items
+abbrev pub open_ids : ids.Inside → List OpenIdIn
+open_ids s = map open_id_in s.ids.items

@@ -74,9 +74,9 @@ impl<'s, 'b> Model for OpenIds<'s, 'b> {
 
     ghost Value = { List OpenIdIn };
 
-    ghost use Rattle.otap_consume.specs.IdsInside.{ids_in};
+    ghost use Rattle.otap_consume.specs.IdsInside.{open_ids};
 
-    ghost view = { ids_in };
+    ghost view = { open_ids };
 }
 
 impl<'s, 'b> OpenIds<'s, 'b> {

@@ -11,7 +11,8 @@ use Rattle.otap_cells.specs.Cells.{Cell}
 use Rattle.otap_groups.specs.declared.entry.Entry.{Entry}
 use Rattle.otap_groups.specs.Rows.{MainRow, cells_are}
 use Rattle.otap_groups.specs.Disagree.{DifferBy}
-use Rattle.otap_groups.specs.Inside.{blank, clash, entries_from, of_parent, part}
+use Rattle.otap_groups.specs.Inside.{blank, clash, entries_from, part}
+use Rattle.otap_groups.specs.Found.{of_parent}
 use Rattle.otap_groups.proofs.CellTests.{cells_are_themselves, cells_told}
 
 -- ---- which entries there are

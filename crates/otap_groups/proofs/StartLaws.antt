@@ -7,7 +7,8 @@ use Rattle.std.proofs.lemmas.Bool.Decides.{nat_tests}
 use Rattle.std.proofs.Math.Seq.{get_or-append_seam}
 use Rattle.std.proofs.lemmas.List.{get_or_append_left, get_or_default, get_or-drop, length_push}
 use Rattle.otap_groups.specs.declared.entry.Entry.{Entry}
-use Rattle.otap_groups.specs.Inside.{AreStarts, Begins, blank, of_parent}
+use Rattle.otap_groups.specs.Inside.{AreStarts, Begins, blank}
+use Rattle.otap_groups.specs.Found.{of_parent}
 use Rattle.otap_groups.proofs.IndexLaws.{part_of_rest}
 
 is_below : (m n : ℕ) → m < n → nat_lt m n ≡ true

@@ -1,11 +1,11 @@
 -- Words of private contracts: rows by their places, and the index of children.
-use Rattle.std.specs.Prelude.{ℕ, suc, ◌<◌, ◌≤◌, length, Bool, List, [], ◌∷◌, Option, None, Some, map, filter, ◌==◌, ◌&&◌, not}
+use Rattle.std.specs.Prelude.{ℕ, suc, ◌<◌, ◌≤◌, length, Bool, List, [], ◌∷◌, Option, None, Some, map, ◌==◌, ◌&&◌, not}
 use Rattle.std.specs.List.{slice_index_or, range_with_len}
 use Rattle.otap_cells.specs.Cells.{Cell}
 use Rattle.otap_groups.specs.declared.entry.Entry.{Entry}
 use Rattle.otap_groups.specs.declared.level.Level.{Level}
 use Rattle.otap_groups.specs.declared.level.Level.TheVariants as level
-use Rattle.otap_groups.specs.Rows.{MainRow, cells_are, id_at, same_resource, same_scope}
+use Rattle.otap_groups.specs.Rows.{MainRow, cells_are, same_resource, same_scope}
 
 -- rows from a place on
 abbrev pub part : {A : Type 0} → (ℕ → A) → ℕ → ℕ → List A
@@ -32,14 +32,6 @@ blank = record { parent = 0; place = 0 }
 abbrev pub clash : (MainRow → List Cell) → (ℕ → MainRow) → Entry → Entry → Bool
 clash cells row a b = (a.parent == b.parent) && not (cells_are (cells (row a.place)) (cells (row b.place)))
 
--- the entries of a parent
-abbrev pub of_parent : ℕ → List Entry → List Entry
-of_parent parent entries = filter (λ (e : Entry). e.parent == parent) entries
-
-abbrev pub entries_of : Option ℕ → List Entry → List Entry
-entries_of None entries = []
-entries_of (Some parent) entries = of_parent parent entries
-
 abbrev pub entry_before : ℕ → Option ℕ → List Entry → List Entry
 entry_before place None entries = entries
 entry_before place (Some parent) entries = record { parent = parent; place = place } ∷ entries
@@ -58,20 +50,3 @@ pub record Begins (entries : List Entry) (parent place : ℕ) : Type 0 where
 -- those of each parent begin at its start
 abbrev pub AreStarts : List Entry → List ℕ → Type 0
 AreStarts entries starts = (parent d : ℕ) → parent < length starts → Begins entries parent (slice_index_or starts parent d)
-
--- the part of the row at a place
-abbrev pub child_at : {C : Type 0} → (Option ℕ → List Cell → C) → List (Option ℕ) → List (List Cell) → ℕ → C
-child_at item ids cells place = item (id_at ids place) (slice_index_or cells place [])
-
--- what an index finds for a parent
-abbrev pub found : {C : Type 0} → (Option ℕ → List Cell → C) → List (Option ℕ) → List (List Cell) → List Entry → Option ℕ → List C
-found item ids cells entries parent = map (λ (e : Entry). child_at item ids cells e.place) (entries_of parent entries)
-
--- what a lookup finds, where there may be none
-abbrev pub finds_in : {L C : Type 0} → (L → Option ℕ → List C) → Option L → Option ℕ → List C
-finds_in finds None parent = []
-finds_in finds (Some lookup) parent = finds lookup parent
-
-abbrev pub weighs_in : {L C : Type 0} → (L → C → ℕ) → Option L → C → ℕ
-weighs_in weigh None child = 0
-weighs_in weigh (Some lookup) child = weigh lookup child

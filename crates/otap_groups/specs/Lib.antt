@@ -1,6 +1,7 @@
 pub mod Children
 pub mod Disagree
 pub mod Flat
+pub mod Found
 pub mod Groups
 pub mod Inside
 pub mod Kinds

@@ -4,7 +4,8 @@ ghost use Rattle.std.specs.List.Sorted.{IsNonDecreasingBy};
 ghost use Rattle.otap_groups.specs.declared.entry.Entry.{Entry};
 ghost use Rattle.otap_groups.specs.Rows.{child_rows};
 ghost use Rattle.otap_groups.specs.Children.{children};
-ghost use Rattle.otap_groups.specs.Inside.{AreStarts, entries_of, finds_in, found, of_parent, weighs_in};
+ghost use Rattle.otap_groups.specs.Inside.{AreStarts};
+ghost use Rattle.otap_groups.specs.Found.{entries_of, finds_in, found, of_parent, weighs_in};
 
 use crate::entry::Entry;
 use crate::front::id_at;

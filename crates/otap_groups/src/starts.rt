@@ -2,7 +2,8 @@
 ghost use Rattle.std.specs.Prelude.{◌≡◌, ◌≤◌, length, IfOk};
 ghost use Rattle.std.specs.List.Sorted.{IsNonDecreasingBy};
 ghost use Rattle.otap_groups.specs.declared.entry.Entry.{Entry};
-ghost use Rattle.otap_groups.specs.Inside.{AreStarts, of_parent};
+ghost use Rattle.otap_groups.specs.Inside.{AreStarts};
+ghost use Rattle.otap_groups.specs.Found.{of_parent};
 
 use crate::entry::Entry;
 use crate::index::{SPREAD, of_parent};

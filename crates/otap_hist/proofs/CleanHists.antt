@@ -24,7 +24,7 @@ use Rattle.otap_checks.specs.Known.{Knows}
 use Rattle.otap_checks.specs.Links.{attributes, items, links_of, parts}
 use Rattle.otap_checks.specs.Refusing.{RefusesCheck}
 use Rattle.otap_checks.specs.Regrouping.{RefusesRegroup}
-use Rattle.otap_metrics.specs.Inside.{KnowsMetrics}
+use Rattle.otap_metrics.specs.Whole.{KnowsMetrics}
 use Rattle.otap_metrics.specs.Requests.{WrongIds, WrongMetrics, is_other, regrouped_metrics}
 use Rattle.otap_hist.specs.Inside.{AreFine, AreWholeHists, KnowsWhole}
 use Rattle.otap_hist.specs.Requests.{WrongHistCells, WrongHistIds, WrongHists, WrongWhole, hist_points_in, regrouped_whole, summary_points_in}

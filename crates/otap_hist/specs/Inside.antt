@@ -19,7 +19,8 @@ use Rattle.otap_checks.specs.declared.known.ColumnIds.{ColumnIds}
 use Rattle.otap_checks.specs.declared.links.Link.{Link}
 use Rattle.otap_checks.specs.Known.{Knows}
 use Rattle.otap_checks.specs.Links.{links_of}
-use Rattle.otap_metrics.specs.Inside.{HasFineValues, exemplar_weight}
+use Rattle.otap_metrics.specs.Inside.{exemplar_weight}
+use Rattle.otap_metrics.specs.Whole.{HasFineValues}
 use Rattle.otap_metrics.specs.Metrics.{hist_points_of, summary_points_of}
 use Rattle.otap_metrics.specs.Requests.{HasTwoValues, WrongParent, has_hist_points, has_summary_points}
 use Rattle.otap_hist.specs.Points.{hist_point_cells, sum_point_cells}

@@ -9,7 +9,7 @@ ghost use Rattle.otap_attrs.specs.declared.refusal.CheckRefusal.TheVariants as c
 ghost use Rattle.otap_attrs.specs.declared.refusal.RowRefusal.{RowRefusal};
 ghost use Rattle.otap_checks.specs.Refusing.{RefusesCheck};
 ghost use Rattle.otap_checks.specs.Regrouping.{RefusesRegroup};
-ghost use Rattle.otap_metrics.specs.Inside.{AreWhole};
+ghost use Rattle.otap_metrics.specs.Whole.{AreWhole};
 ghost use Rattle.otap_hist.specs.Inside.{AreFine, AreWholeHists, KnowsWhole};
 ghost use Rattle.otap_hist.specs.Requests.{WrongHistCells, WrongWhole, regrouped_whole};
 

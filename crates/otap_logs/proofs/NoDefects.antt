@@ -31,7 +31,7 @@ use Rattle.otap_attrs.specs.Tables.{attribute_table}
 use Rattle.otap_checks.specs.declared.links.Link.{Link}
 use Rattle.otap_attrs.specs.Defects.{OrphanIn}
 use Rattle.otap_checks.specs.IdDefects.{IdDefect, WrongIn}
-use Rattle.otap_checks.specs.Inside.{AreGiven, IsGiven}
+use Rattle.otap_checks.specs.Given.{AreGiven, IsGiven}
 use Rattle.otap_checks.specs.Links.{attributes, items, links_of}
 use Rattle.otap_checks.specs.Reading.{Disagrees}
 use Rattle.otap_checks.proofs.FineLinks.{fine_attributes, settle}

@@ -6,7 +6,7 @@ ghost use Rattle.otap_cells.specs.declared.payload.Kind.{Kind};
 ghost use Rattle.otap_cells.specs.declared.payload.Kind.TheVariants as table;
 ghost use Rattle.otap_cells.specs.Named.{table_named};
 ghost use Rattle.otap_cells.specs.Sets.{IsSet, tables_in};
-ghost use Rattle.otap_groups.specs.Inside.{found};
+ghost use Rattle.otap_groups.specs.Found.{found};
 ghost use Rattle.otap_groups.specs.Rows.{main_rows};
 ghost use Rattle.otap_attrs.specs.declared.refusal.RowRefusal.{RowRefusal};
 ghost use Rattle.otap_attrs.specs.Values.{pair_in};

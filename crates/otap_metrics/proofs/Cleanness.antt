@@ -9,12 +9,13 @@ use Rattle.otap_groups.specs.Rows.{main_rows}
 use Rattle.otap_attrs.specs.declared.refusal.RowRefusal.{RowRefusal}
 use Rattle.otap_attrs.specs.declared.refusal.RowRefusal.TheVariants as why
 use Rattle.otap_checks.specs.declared.known.ColumnIds.{ColumnIds}
-use Rattle.otap_checks.specs.Inside.{AreGiven}
+use Rattle.otap_checks.specs.Given.{AreGiven}
 use Rattle.otap_checks.specs.Known.{Knows}
 use Rattle.otap_checks.specs.Links.{attributes, items, links_of, parts}
 use Rattle.otap_checks.specs.Reading.{Disagrees}
 use Rattle.otap_checks.proofs.TableIds.{clean_given}
-use Rattle.otap_metrics.specs.Inside.{AreWhole, IsUnlike, KnowsMetrics}
+use Rattle.otap_metrics.specs.Inside.{IsUnlike}
+use Rattle.otap_metrics.specs.Whole.{AreWhole, KnowsMetrics}
 use Rattle.otap_metrics.specs.Requests.{WrongCells, WrongIds, WrongMetrics}
 
 -- no row has anything wrong

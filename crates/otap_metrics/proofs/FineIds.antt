@@ -30,7 +30,7 @@ use Rattle.otap_attrs.specs.declared.refusal.RowRefusal.{RowRefusal}
 use Rattle.otap_attrs.specs.Tables.{attribute_table}
 use Rattle.otap_checks.specs.declared.links.Link.{Link}
 use Rattle.otap_checks.specs.IdDefects.{WrongIn}
-use Rattle.otap_checks.specs.Inside.{AreGiven, IsGiven}
+use Rattle.otap_checks.specs.Given.{AreGiven, IsGiven}
 use Rattle.otap_checks.specs.Links.{attributes, items, links_of, parts}
 use Rattle.otap_checks.specs.Reading.{Disagrees}
 use Rattle.otap_checks.proofs.FineLinks.{fine_attributes, fine_parts, settle}

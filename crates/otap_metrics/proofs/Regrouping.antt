@@ -25,7 +25,7 @@ use Rattle.otap_attrs.specs.declared.refusal.RowRefusal.{RowRefusal}
 use Rattle.otap_cells.specs.declared.payload.Kind.{Kind}
 use Rattle.otap_checks.specs.declared.regrouping.RegroupRefusal.{RegroupRefusal}
 use Rattle.otap_checks.specs.declared.regrouping.RegroupRefusal.TheVariants as regroup
-use Rattle.otap_checks.specs.Inside.{Nothing}
+use Rattle.otap_checks.specs.Refusing.{Nothing}
 use Rattle.otap_checks.specs.Regrouping.{RefusesRegroup}
 use Rattle.otap_attrs.specs.Index.{pairs_in}
 use Rattle.otap_checks.specs.Reading.{main_rows_in, part_rows_in}

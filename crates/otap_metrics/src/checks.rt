@@ -8,7 +8,8 @@ ghost use Rattle.otap_cells.specs.Named.{table_named};
 ghost use Rattle.otap_cells.specs.Sets.{IsSet, tables_in};
 ghost use Rattle.otap_cells.specs.Cells.{seen};
 ghost use Rattle.otap_checks.specs.Known.{Knows};
-ghost use Rattle.otap_metrics.specs.Inside.{FindsOther, HoldsId, fits_of};
+ghost use Rattle.otap_metrics.specs.Inside.{FindsOther, HoldsId};
+ghost use Rattle.otap_metrics.specs.Whole.{fits_of};
 ghost use Rattle.otap_metrics.specs.Numbers.{IsThere};
 ghost use Rattle.otap_metrics.specs.Requests.{HasTwoValues, NamesOther, WrongParent, WrongType, is_type};
 

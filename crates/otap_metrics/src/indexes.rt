@@ -8,7 +8,7 @@ ghost use Rattle.otap_cells.specs.Columns.{columns_of, exemplars};
 ghost use Rattle.otap_cells.specs.Named.{table_named};
 ghost use Rattle.otap_cells.specs.Sets.{IsSet, tables_in};
 ghost use Rattle.otap_groups.specs.Children.{children};
-ghost use Rattle.otap_groups.specs.Inside.{found};
+ghost use Rattle.otap_groups.specs.Found.{found};
 ghost use Rattle.otap_groups.specs.Kinds.{IsPart};
 ghost use Rattle.otap_checks.specs.Known.{Knows};
 ghost use Rattle.otap_checks.specs.Pairing.{cells_or};

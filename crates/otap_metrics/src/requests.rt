@@ -18,7 +18,7 @@ ghost use Rattle.otap_attrs.specs.declared.refusal.RowRefusal.{RowRefusal};
 ghost use Rattle.otap_attrs.specs.Index.{pairs_in};
 ghost use Rattle.otap_checks.specs.Refusing.{RefusesCheck};
 ghost use Rattle.otap_checks.specs.Regrouping.{RefusesRegroup};
-ghost use Rattle.otap_metrics.specs.Inside.{AreWhole, KnowsMetrics};
+ghost use Rattle.otap_metrics.specs.Whole.{AreWhole, KnowsMetrics};
 ghost use Rattle.otap_metrics.specs.Metrics.{metric_of};
 ghost use Rattle.otap_metrics.specs.Requests.{WrongIds, WrongMetrics, points_in, regrouped_metrics};
 

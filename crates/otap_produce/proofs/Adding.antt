@@ -15,7 +15,7 @@ use Rattle.otap_cells.specs.Sets.{tables_in}
 use Rattle.otap_cells.specs.Tables.{Table}
 use Rattle.otap_produce.specs.Exporters.{SenderIn, SendersIn, kinds_in}
 use Rattle.otap_produce.specs.Policy.{part_of}
-use Rattle.otap_produce.specs.Sending.{Adds, AreReady, AreReadyForAll, CanSend}
+use Rattle.otap_produce.specs.SentMessages.{Adds, AreReady, AreReadyForAll, CanSend}
 use Rattle.otap_columns.specs.Limits.{record_limit}
 use Rattle.otap_produce.proofs.Batches.{adds_more, history_after}
 use Rattle.otap_produce.proofs.OneMore.{sends_one}

@@ -10,7 +10,7 @@ use Rattle.otap_columns.specs.Streams.{PayloadIn}
 use Rattle.otap_columns.specs.TableSets.{IsPayloadOf}
 use Rattle.otap_produce.specs.Exporters.{SendersIn}
 use Rattle.otap_produce.specs.Policy.{part_of}
-use Rattle.otap_produce.specs.Sending.{Adds, HaveHistory, Sends}
+use Rattle.otap_produce.specs.SentMessages.{Adds, HaveHistory, Sends}
 use Rattle.otap_produce.specs.Sizes.{most_of, size_of}
 
 pub sends_none : (s : SendersIn) → Sends [] s s []

@@ -5,7 +5,7 @@ use Rattle.lists.proofs.Growing.{each_after-push}
 use Rattle.otlp_model.specs.declared.request.Request.{Request}
 use Rattle.otap_produce.specs.Exporters.{ExporterIn, Exports, StandsFor, kinds_in}
 use Rattle.otap_produce.specs.Policy.{IsExported, IsMessageOf, SignalRows, payloads_of}
-use Rattle.otap_produce.specs.Sending.{SendsMessage}
+use Rattle.otap_produce.specs.SentMessages.{SendsMessage}
 use Rattle.otap_produce.proofs.Deciding.{one_more, stands_with}
 
 pub exports : (rows : SignalRows) (q : Request) (old new : ExporterIn) (bytes : List ℕ) → old.broken ≡ false → IsExported rows q

@@ -8,7 +8,7 @@ use Rattle.otap_capture.specs.Batch.{BatchContent, IsRealBatch, IsRealPayload, R
 use Rattle.otap_cells.specs.Tables.{Table}
 use Rattle.otap_produce.specs.Exporters.{SendersIn}
 use Rattle.otap_produce.specs.Policy.{part_of}
-use Rattle.otap_produce.specs.Sending.{Adds, Sends, SendsMessage}
+use Rattle.otap_produce.specs.SentMessages.{Adds, Sends, SendsMessage}
 use Rattle.otap_produce.specs.Sizes.{most_of, size_limit, size_of}
 use Rattle.otap_produce.proofs.Lengths.{batch_most}
 

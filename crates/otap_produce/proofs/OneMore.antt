@@ -9,7 +9,7 @@ use Rattle.otap_cells.specs.Payload.{is_kind, kinds_of}
 use Rattle.otap_cells.specs.Tables.{Table}
 use Rattle.otap_columns.specs.Streams.{PayloadIn}
 use Rattle.otap_produce.specs.Exporters.{HasSent, HaveSent, SenderIn, SendersIn, kinds_in}
-use Rattle.otap_produce.specs.Sending.{Sends}
+use Rattle.otap_produce.specs.SentMessages.{Sends}
 use Rattle.otap_produce.proofs.ApartKinds.{apart}
 use Rattle.otap_produce.proofs.Stepping.{SendsOne, count_after, other_after, own_after, payload_is}
 

@@ -12,7 +12,7 @@ use Rattle.otap_cells.specs.Tables.{Table}
 use Rattle.otap_cells.specs.Weights.{weight_of_table}
 use Rattle.otap_produce.specs.Exporters.{SendersIn, kinds_in}
 use Rattle.otap_produce.specs.Policy.{IsExported, SignalRows}
-use Rattle.otap_produce.specs.Sending.{AreReadyForAll, HaveHistory}
+use Rattle.otap_produce.specs.SentMessages.{AreReadyForAll, HaveHistory}
 use Rattle.otap_produce.specs.Writable.{AreInOrder, AreWritableRows}
 use Rattle.otap_produce.proofs.Limited.{RecordsFit, tables_limited}
 

@@ -12,7 +12,7 @@ use Rattle.std.proofs.lemmas.Slice.Eq.{bytes_eq-Decides}
 use Rattle.otap_cells.specs.declared.payload.Kind.{Kind}
 use Rattle.otap_cells.specs.Payload.{is_kind, number_of}
 use Rattle.otap_cells.specs.Tables.{Table}
-use Rattle.otap_columns.specs.Policy.{IsRecord, IsWritable}
+use Rattle.otap_columns.specs.WrittenPayloads.{IsRecord, IsWritable}
 use Rattle.otap_columns.specs.Streams.{PayloadIn, id_in, last_of, opens, opens_after, open_id}
 use Rattle.otap_columns.specs.TableSets.{IsPayloadOf, of_kind, openings}
 use Rattle.otap_columns.specs.Writers.{HasWritten, WritesRecord, is_started}

@@ -12,7 +12,7 @@ use Rattle.otap_cells.specs.Continuing.{continues_in}
 use Rattle.otap_cells.specs.ColumnIds.{stored_in}
 use Rattle.otap_cells.specs.Ids.{Ids}
 use Rattle.otap_groups.specs.ProfileTables.{HasProfileIds, IsProfileTable}
-use Rattle.otap_columns.specs.Policy.{IsWritable}
+use Rattle.otap_columns.specs.WrittenPayloads.{IsWritable}
 use Rattle.otap_produce.specs.Writable.{HaveWritable}
 
 -- a table of the profile can be written

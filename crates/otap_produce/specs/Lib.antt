@@ -5,5 +5,5 @@ pub mod MetricRows
 pub mod Writable
 pub mod Exporters
 pub mod Sizes
-pub mod Sending
+pub mod SentMessages
 pub mod Inside

@@ -5,7 +5,7 @@ use Rattle.otlp_model.specs.declared.request.Signal.{Signal}
 use Rattle.otap_cells.specs.declared.payload.Kind.{Kind}
 use Rattle.otap_cells.specs.Payload.{kinds_of}
 use Rattle.otap_cells.specs.Tables.{Table}
-use Rattle.otap_columns.specs.Policy.{IsWritable}
+use Rattle.otap_columns.specs.WrittenPayloads.{IsWritable}
 use Rattle.otap_produce.specs.Policy.{SignalRows, IsExported}
 
 -- tables stand in the order of the signal's kinds, each kind at most once

@@ -5,7 +5,7 @@ ghost use Rattle.otlp_model.specs.Telemetry.{signal_of};
 ghost use Rattle.otap_cells.specs.Payload.{kinds_of};
 ghost use Rattle.otap_produce.specs.Exporters.{Exports, IsAfter, Refuses, StandsFor, kinds_in};
 ghost use Rattle.otap_produce.specs.Policy.{IsExported};
-ghost use Rattle.otap_produce.specs.Sending.{HaveHistory, RefusesFirst, SendsMessage};
+ghost use Rattle.otap_produce.specs.SentMessages.{HaveHistory, RefusesFirst, SendsMessage};
 
 use crate::refusal::ProduceRefusal;
 use crate::senders::Senders;

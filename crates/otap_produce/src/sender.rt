@@ -3,7 +3,7 @@ ghost use Rattle.std.specs.Prelude.{◌≡◌, ◌≤◌, List, [], length, IfOk
 ghost use Rattle.otap_cells.specs.Tables.{Table};
 ghost use Rattle.otap_cells.specs.Weights.{row_weight_limit, weight_of_table};
 ghost use Rattle.otap_columns.specs.Limits.{record_limit};
-ghost use Rattle.otap_columns.specs.Policy.{IsWritable};
+ghost use Rattle.otap_columns.specs.WrittenPayloads.{IsWritable};
 ghost use Rattle.otap_columns.specs.Writers.{HasWritten, WritesRecord};
 
 use otap_cells::{Kind, LogicalTable};

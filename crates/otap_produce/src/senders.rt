@@ -4,7 +4,7 @@ ghost use Rattle.std.specs.List.{slice_index_or};
 ghost use Rattle.otap_cells.specs.Payload.{kinds_of};
 ghost use Rattle.otap_cells.specs.Sets.{tables_in};
 ghost use Rattle.otap_produce.specs.Exporters.{SenderIn, HasSent, HaveSent, kinds_in};
-ghost use Rattle.otap_produce.specs.Sending.{Adds, AreReady, AreReadyForAll, SendsMessage};
+ghost use Rattle.otap_produce.specs.SentMessages.{Adds, AreReady, AreReadyForAll, SendsMessage};
 
 use crate::sender::Sender;
 use otap_capture::{BatchWriter, written_batch_is_read};

@@ -8,7 +8,7 @@ use Rattle.otap_cells.specs.Tables.{Table, profile_table}
 use Rattle.otap_attrs.specs.declared.refusal.RowRefusal.{RowRefusal}
 use Rattle.otap_attrs.specs.declared.refusal.RowRefusal.TheVariants as why
 use Rattle.otap_checks.specs.declared.known.ColumnIds.{ColumnIds}
-use Rattle.otap_checks.specs.Inside.{AreGiven}
+use Rattle.otap_checks.specs.Given.{AreGiven}
 use Rattle.otap_checks.specs.Known.{Knows}
 use Rattle.otap_checks.specs.Links.{attributes, items, links_of, parts}
 use Rattle.otap_checks.specs.Reading.{Disagrees}

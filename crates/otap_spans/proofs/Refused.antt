@@ -6,7 +6,7 @@ use Rattle.otap_attrs.specs.declared.refusal.RowRefusal.{RowRefusal}
 use Rattle.otap_cells.specs.declared.payload.Kind.{Kind}
 use Rattle.otap_checks.specs.declared.regrouping.RegroupRefusal.{RegroupRefusal}
 use Rattle.otap_checks.specs.declared.regrouping.RegroupRefusal.TheVariants as regroup
-use Rattle.otap_checks.specs.Inside.{Nothing}
+use Rattle.otap_checks.specs.Refusing.{Nothing}
 use Rattle.otap_checks.specs.Regrouping.{RefusesRegroup}
 
 pub refused_so : (Wrong : Kind → RowRefusal → Type 0) (weight other : ℕ) (why : RegroupRefusal) → weight ≡ other → ((kind : Kind) (wrong : RowRefusal) → Wrong kind wrong → ⊥)

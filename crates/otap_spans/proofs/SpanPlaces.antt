@@ -10,7 +10,7 @@ use Rattle.otlp_model.specs.declared.spans.Link.{Link}
 use Rattle.otap_cells.specs.Cells.{Cell, null, bytes_in, nat_in}
 use Rattle.otap_cells.specs.Scalars.{int_in, bits_in}
 use Rattle.otap_cells.specs.Tables.{cell_in}
-use Rattle.otap_groups.specs.Inside.{finds_in, weighs_in}
+use Rattle.otap_groups.specs.Found.{finds_in, weighs_in}
 use Rattle.otap_groups.specs.Rows.{cell_at}
 use Rattle.otap_spans.specs.Records.{end_of, event_of, link_of, span_of}
 

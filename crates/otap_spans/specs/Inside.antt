@@ -10,7 +10,7 @@ use Rattle.otap_cells.specs.Cells.{Cell}
 use Rattle.otap_cells.specs.Named.{table_named}
 use Rattle.otap_cells.specs.Tables.{Table}
 use Rattle.otap_groups.specs.declared.entry.Entry.{Entry}
-use Rattle.otap_groups.specs.Inside.{found}
+use Rattle.otap_groups.specs.Found.{found}
 use Rattle.otap_attrs.specs.declared.refusal.RowRefusal.{RowRefusal}
 use Rattle.otap_attrs.specs.Values.{pair_in}
 use Rattle.otap_checks.specs.declared.known.ColumnIds.{ColumnIds}

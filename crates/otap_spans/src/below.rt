@@ -5,7 +5,7 @@ ghost use Rattle.otlp_model.specs.declared.value.Pair.{Pair};
 ghost use Rattle.otap_cells.specs.declared.payload.Kind.TheVariants as table;
 ghost use Rattle.otap_cells.specs.Named.{table_named};
 ghost use Rattle.otap_cells.specs.Sets.{IsSet, tables_in};
-ghost use Rattle.otap_groups.specs.Inside.{finds_in};
+ghost use Rattle.otap_groups.specs.Found.{finds_in};
 ghost use Rattle.otap_checks.specs.Known.{Knows};
 ghost use Rattle.otap_attrs.specs.Index.{pairs_in};
 ghost use Rattle.otap_spans.specs.Inside.{events_by, links_by};

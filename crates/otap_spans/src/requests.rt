@@ -9,7 +9,7 @@ ghost use Rattle.otap_cells.specs.Named.{table_named};
 ghost use Rattle.otap_cells.specs.Sets.{IsSet, tables_in};
 ghost use Rattle.otap_groups.specs.Disagree.{Disagree};
 ghost use Rattle.otap_groups.specs.Groups.{regrouped};
-ghost use Rattle.otap_groups.specs.Inside.{finds_in};
+ghost use Rattle.otap_groups.specs.Found.{finds_in};
 ghost use Rattle.otap_groups.specs.Rows.{main_rows};
 ghost use Rattle.otap_attrs.specs.declared.refusal.RowRefusal.{RowRefusal};
 ghost use Rattle.otap_attrs.specs.Index.{pairs_in};

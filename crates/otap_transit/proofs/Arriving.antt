@@ -17,7 +17,7 @@ use Rattle.otap_consume.specs.Receiving.{ReceivedAfter, Received}
 use Rattle.otap_consume.proofs.SegmentSteps.{payloads_accepted, broken_accepted, broken_reset, payloads_reset}
 use Rattle.otap_produce.specs.Policy.{SignalRows}
 use Rattle.otap_transit.specs.Faithful.{AreFaithful}
-use Rattle.otap_transit.specs.Sendings.{Sending, Sent, Reset, MaySend, IsAllowed, AreAllowed, IsAccepted, ArrivesAs, Arrive, frame_of, is_reset, request_if, message_if, requests_since, messages_since}
+use Rattle.otap_transit.specs.Sendings.{Sending, Sent, Reset, MaySend, IsAllowed, AreAllowed, IsAccepted, ArrivesAs, Arrive, frame_sent, is_reset, request_if, message_if, requests_since, messages_since}
 use Rattle.otap_transit.specs.Transits.{payloads_in, payloads_in_all, tables_after}
 use Rattle.otap_transit.proofs.Coming.{Comes, IsSegment, comes, longer}
 use Rattle.otap_transit.proofs.Projected.{FarEndReads}
@@ -107,7 +107,7 @@ module _ (far : FarEndReads) (m : Meaning) (rows : SignalRows) (faithful : AreFa
       only_accepted m told (payloads_in_all (messages_since before)) message outcome so_far.whole so_far.payloads c.reads c.accepts c.fine after
 
   pub all_arrive : (gone : List Frame) (before : List Sending) (told : List Outcome) (sendings : List Sending) (next : List Outcome) → AreTold rows before told
-      → AllAfter (IsAllowed rows) before sendings → EachAfter (λ past so_far frame outcome. ReceivedAfter m so_far frame outcome) gone told (map frame_of sendings) next
+      → AllAfter (IsAllowed rows) before sendings → EachAfter (λ past so_far frame outcome. ReceivedAfter m so_far frame outcome) gone told (map frame_sent sendings) next
       → EachAfter (λ so_far past sending outcome. ArrivesAs m so_far sending outcome) before told sendings next
   all_arrive gone before told [] [] so_far allowed each = tt
   all_arrive gone before told [] (outcome ∷ next) so_far allowed each = absurd each
@@ -125,13 +125,13 @@ module _ (far : FarEndReads) (m : Meaning) (rows : SignalRows) (faithful : AreFa
             (subst (λ (o : Outcome). AreTold rows (before ++ Reset ∷ []) (told ++ o ∷ [])) (sym is) (after_reset rows before told)) allowed.1 each.1,
       )
 
-  pub arrive : (sendings : List Sending) (told : List Outcome) → AreAllowed rows sendings → Received m (map frame_of sendings) told → Arrive m sendings told
+  pub arrive : (sendings : List Sending) (told : List Outcome) → AreAllowed rows sendings → Received m (map frame_sent sendings) told → Arrive m sendings told
   arrive sendings told allowed each = all_arrive [] [] [] sendings told (none_told rows) allowed each
 
   -- ---- there are some
 
   pub some_from : (gone : List Frame) (before : List Sending) (told : List Outcome) (sendings : List Sending) → AreTold rows before told → AllAfter (IsAllowed rows) before sendings
-      → (next : List Outcome) × EachAfter (λ past so_far frame outcome. ReceivedAfter m so_far frame outcome) gone told (map frame_of sendings) next
+      → (next : List Outcome) × EachAfter (λ past so_far frame outcome. ReceivedAfter m so_far frame outcome) gone told (map frame_sent sendings) next
   some_from gone before told [] so_far allowed = ([], tt)
   some_from gone before told (Sent request message ∷ sendings) so_far allowed =
       let c : Comes m (requests_since before) (messages_since before) request message = it_comes before told request message so_far allowed.0 in
@@ -144,7 +144,7 @@ module _ (far : FarEndReads) (m : Meaning) (rows : SignalRows) (faithful : AreFa
       let rest = some_from (gone ++ capture.Reset ∷ []) (before ++ Reset ∷ []) (told ++ outcomes.Reset ∷ []) sendings (after_reset rows before told) allowed.1 in
       (outcomes.Reset ∷ rest.0, (gives_reset m told so_far.whole, rest.1))
 
-  pub some : (sendings : List Sending) → AreAllowed rows sendings → (told : List Outcome) × Received m (map frame_of sendings) told × Arrive m sendings told
+  pub some : (sendings : List Sending) → AreAllowed rows sendings → (told : List Outcome) × Received m (map frame_sent sendings) told × Arrive m sendings told
   some sendings allowed =
-      let found : (told : List Outcome) × Received m (map frame_of sendings) told = some_from [] [] [] sendings (none_told rows) allowed in
+      let found : (told : List Outcome) × Received m (map frame_sent sendings) told = some_from [] [] [] sendings (none_told rows) allowed in
       (found.0, found.1, arrive sendings found.0 allowed found.1)

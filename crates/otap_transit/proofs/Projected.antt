@@ -11,7 +11,7 @@ use Rattle.otap_cells.specs.declared.payload.Kind.{Kind}
 use Rattle.otap_cells.specs.Payload.{number_of, is_kind}
 use Rattle.otap_cells.specs.Tables.{Table}
 use Rattle.otap_cells.specs.Columns.{width_of}
-use Rattle.otap_columns.specs.Policy.{IsWritten, IsRecord, IsReadAs, Policy}
+use Rattle.otap_columns.specs.WrittenPayloads.{IsWritten, IsRecord, IsReadAs, AreWrittenAs}
 use Rattle.otap_columns.specs.Records.{IsRead}
 use Rattle.otap_columns.specs.Substreams.{held_in, logical, schema_in}
 use Rattle.otap_columns.specs.Streams.{PayloadIn, is_of, of_type, opens, stream_of}
@@ -63,14 +63,14 @@ written_among kind before past t p w = record {
   record_is = subst (λ (b : Bool). IsRecord kind before t b p.bytes) (sym (opens_among (type_of kind) past p w.type)) w.record_is;
 }
 
-one_more : (kind : Kind) (before : List Table) (past : List PayloadIn) (t : Table) (p : PayloadIn) → Policy kind (of_kind kind before) (of_type (type_of kind) past) → IsPayloadOf before past t p
-    → Policy kind (of_kind kind (before ++ t ∷ [])) (of_type (type_of kind) (past ++ p ∷ []))
+one_more : (kind : Kind) (before : List Table) (past : List PayloadIn) (t : Table) (p : PayloadIn) → AreWrittenAs kind (of_kind kind before) (of_type (type_of kind) past) → IsPayloadOf before past t p
+    → AreWrittenAs kind (of_kind kind (before ++ t ∷ [])) (of_type (type_of kind) (past ++ p ∷ []))
 one_more kind before past t p each is = by_kind (cases_Bool (is_kind t.kind kind))
   where
     told : is_of (type_of kind) p ≡ is_kind t.kind kind
     told = ap (λ (type : ℤ). int_eq type (type_of kind)) is.written.type ∙ types_compared t.kind kind
 
-    by_kind : (is_kind t.kind kind ≡ true) ⊎ (is_kind t.kind kind ≡ false) → Policy kind (of_kind kind (before ++ t ∷ [])) (of_type (type_of kind) (past ++ p ∷ []))
+    by_kind : (is_kind t.kind kind ≡ true) ⊎ (is_kind t.kind kind ≡ false) → AreWrittenAs kind (of_kind kind (before ++ t ∷ [])) (of_type (type_of kind) (past ++ p ∷ []))
     by_kind (inl own) =
         let same : t.kind ≡ kind = same_kind t.kind kind own in
         let here : IsWritten kind (of_kind kind before) past t p = subst (λ (k : Kind). IsWritten k (of_kind k before) past t p) same is.written in
@@ -78,9 +78,9 @@ one_more kind before past t p each is = by_kind (cases_Bool (is_kind t.kind kind
         (each_after-push (IsWritten kind) [] [] (of_kind kind before) (of_type (type_of kind) past) t p each (written_among kind (of_kind kind before) past t p here))
     by_kind (inr other) = rw (of_kind-other kind before t other, of_type-other (type_of kind) past p (told ∙ other)) each
 
-pub each_kind : (kind : Kind) (tables : List Table) (payloads : List PayloadIn) → EachAfter IsPayloadOf [] [] tables payloads → Policy kind (of_kind kind tables) (of_type (type_of kind) payloads)
+pub each_kind : (kind : Kind) (tables : List Table) (payloads : List PayloadIn) → EachAfter IsPayloadOf [] [] tables payloads → AreWrittenAs kind (of_kind kind tables) (of_type (type_of kind) payloads)
 each_kind kind tables payloads each =
-    each_after-keeps IsPayloadOf (λ ts ps. Policy kind (of_kind kind ts) (of_type (type_of kind) ps)) (λ ts ps t p is here. one_more kind ts ps t p is here) [] [] tables payloads tt each
+    each_after-keeps IsPayloadOf (λ ts ps. AreWrittenAs kind (of_kind kind ts) (of_type (type_of kind) ps)) (λ ts ps t p is here. one_more kind ts ps t p is here) [] [] tables payloads tt each
 
 -- ---- the far end
 
@@ -104,16 +104,16 @@ read_among kind before past t p same r =
     }
 
 abbrev pub FarEndReads : Type 0
-FarEndReads = (kind : Kind) (tables : List Table) (payloads : List PayloadIn) → Policy kind tables payloads → EachAfter (IsReadAs kind) [] [] tables payloads
+FarEndReads = (kind : Kind) (tables : List Table) (payloads : List PayloadIn) → AreWrittenAs kind tables payloads → EachAfter (IsReadAs kind) [] [] tables payloads
 
 -- a payload after payloads of all kinds is read as its table
 pub read_as : FarEndReads → (before : List Table) (past : List PayloadIn) (t : Table) (p : PayloadIn) → EachAfter IsPayloadOf [] [] before past → IsPayloadOf before past t p
     → IsReadAs t.kind (of_kind t.kind before) past t p
 read_as far before past t p each is =
     let type : ℤ = type_of t.kind in
-    let front : Policy t.kind (of_kind t.kind before) (of_type type past) = each_kind t.kind before past each in
+    let front : AreWrittenAs t.kind (of_kind t.kind before) (of_type type past) = each_kind t.kind before past each in
     let own : is_of type p ≡ true = ap (λ (number : ℤ). int_eq number type) is.written.type ∙ types_compared t.kind t.kind ∙ is_itself t.kind in
-    let all : Policy t.kind (of_kind t.kind before ++ t ∷ []) (of_type type past ++ p ∷ [])
+    let all : AreWrittenAs t.kind (of_kind t.kind before ++ t ∷ []) (of_type type past ++ p ∷ [])
     = each_after-push (IsWritten t.kind) [] [] (of_kind t.kind before) (of_type type past) t p front (written_among t.kind (of_kind t.kind before) past t p is.written) in
     read_among t.kind (of_kind t.kind before) past t p is.written.type
     (in_step-last (IsReadAs t.kind) [] [] (of_kind t.kind before) (of_type type past) t p (far t.kind (of_kind t.kind before) (of_type type past) front)

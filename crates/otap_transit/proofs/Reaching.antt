@@ -19,7 +19,7 @@ use Rattle.otap_cells.specs.Columns.{width_of}
 use Rattle.otap_cells.specs.GivenIds.{ReadsAs}
 use Rattle.otap_cells.specs.Payload.{kinds_of, kind_numbered, number_of}
 use Rattle.otap_cells.specs.Tables.{Table}
-use Rattle.otap_columns.specs.Policy.{IsReadAs}
+use Rattle.otap_columns.specs.WrittenPayloads.{IsReadAs}
 use Rattle.otap_columns.specs.Records.{IsRead}
 use Rattle.otap_columns.specs.Streams.{PayloadIn, opens, stream_of}
 use Rattle.otap_columns.specs.Substreams.{held_in, logical, substream_in}

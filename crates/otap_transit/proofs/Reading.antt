@@ -7,7 +7,7 @@ use Rattle.otap_cells.specs.Continuing.{continues_in}
 use Rattle.otap_cells.specs.GivenIds.{HasIds, ReadsAs}
 use Rattle.otap_cells.specs.Ids.{Ids, IdsAfter}
 use Rattle.otap_cells.specs.Tables.{Table, greatest_in, greatest_wide}
-use Rattle.otap_columns.specs.Policy.{IsReadAs, IsWritable}
+use Rattle.otap_columns.specs.WrittenPayloads.{IsReadAs, IsWritable}
 use Rattle.otap_columns.specs.Streams.{PayloadIn}
 
 -- numbers stand for one list of ids, however great these may be

@@ -19,9 +19,9 @@ pub data Sending : Type 0 where
   Sent : Request → List ℕ → Sending
   Reset : Sending
 
-abbrev pub frame_of : Sending → Frame
-frame_of (Sent request message) = Message message
-frame_of Reset = capture.Reset
+abbrev pub frame_sent : Sending → Frame
+frame_sent (Sent request message) = Message message
+frame_sent Reset = capture.Reset
 
 -- ---- the segment so far
 

@@ -14,7 +14,7 @@ ghost use Rattle.otap_produce.specs.MetricRows.{metrics_rows};
 ghost use Rattle.otap_produce.specs.Policy.{SignalRows, IsExported, Policy};
 ghost use Rattle.otap_produce.specs.SpanRows.{spans_rows};
 ghost use Rattle.otap_transit.specs.Faithful.{AreFaithful};
-ghost use Rattle.otap_transit.specs.Sendings.{Sending, frame_of, AreAllowed, Arrive};
+ghost use Rattle.otap_transit.specs.Sendings.{Sending, frame_sent, AreAllowed, Arrive};
 ghost use Rattle.otap_transit.specs.Transits.{IsReceivedAs};
 
 use otap_consume::Telemetry;
@@ -35,9 +35,9 @@ pub fn both_ends<T: Telemetry>()
 /// and means the same telemetry as its request.
 pub fn what_is_sent_arrives<T: Telemetry>()
     ensures some { (rows : SignalRows) (sendings : List Sending) → AreFaithful T.meaning rows → AreAllowed rows sendings
-        → (outcomes : List Outcome) × Received T.meaning (map frame_of sendings) outcomes × Arrive T.meaning sendings outcomes }
+        → (outcomes : List Outcome) × Received T.meaning (map frame_sent sendings) outcomes × Arrive T.meaning sendings outcomes }
     ensures all { (rows : SignalRows) (sendings : List Sending) (outcomes : List Outcome) → AreFaithful T.meaning rows → AreAllowed rows sendings
-        → Received T.meaning (map frame_of sendings) outcomes → Arrive T.meaning sendings outcomes }
+        → Received T.meaning (map frame_sent sendings) outcomes → Arrive T.meaning sendings outcomes }
 {}
 
 /// The tables of requests of traces are faithful to what tables of spans mean.

@@ -2,7 +2,7 @@ use Rattle.std.proofs.Common.{◌∙◌, List, ℕ, [], Option, map, drop, lengt
 use Rattle.std.proofs.lemmas.List.{length-map}
 use Rattle.otap_cells.specs.Continuing.{has_attributes}
 use Rattle.otap_cells.specs.GivenIds.{HasIds}
-use Rattle.otap_groups.specs.Inside.{found}
+use Rattle.otap_groups.specs.Found.{found}
 use Rattle.otap_attrs.specs.Defects.{OrphanIn}
 use Rattle.otap_attrs.specs.Values.{pair_in}
 use Rattle.otap_attrs.proofs.TablePairs.{attribute_id, ids_long, nothing_wrong, pairs_are}

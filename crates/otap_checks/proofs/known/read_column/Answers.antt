@@ -3,9 +3,9 @@ use Rattle.otap_attrs.specs.Refusals.{refusal_of_ids}
 use Rattle.otap_cells.specs.Columns.{is_id_at}
 use Rattle.otap_cells.specs.Continuing.{continues_in}
 use Rattle.otap_cells.specs.Sets.{tables_in}
-use Rattle.otap_checks.specs.Inside.{ColumnFault, ColumnWrong, refused_as}
+use Rattle.otap_checks.specs.Inside.{ColumnFault, ColumnWrong}
+use Rattle.otap_checks.specs.Refusing.{refused_as, RefusesCheck}
 use Rattle.otap_attrs.specs.Defects.{RefusesRow}
-use Rattle.otap_checks.specs.Refusing.{RefusesCheck}
 use Rattle.otap_checks.proofs.GivenColumns.{column_refused}
 use Rattle.otap_checks.proofs.KnownSteps.{row_refused}
 use Rattle.otap_checks.proofs.known.read_column.Goals as goal

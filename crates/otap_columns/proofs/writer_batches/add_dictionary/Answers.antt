@@ -6,7 +6,7 @@ use Rattle.arrow_buffers.specs.Columns.{ColumnIn, HasNoFault, cells_of, offsets_
 use Rattle.arrow_buffers.specs.declared.width.Width.{Width}
 use Rattle.arrow_ipc.specs.Batches.{BatchIn}
 use Rattle.arrow_ipc.specs.Written.{most_of}
-use Rattle.otap_columns.specs.Policy.{HoldsValues}
+use Rattle.otap_columns.specs.WrittenPayloads.{HoldsValues}
 use Rattle.otap_columns.specs.WrittenCells.{HasRoom, parts_of, with_parts}
 use Rattle.otap_columns.proofs.BatchGrown.{sizes}
 use Rattle.otap_columns.proofs.DictionariesAdded.{adds, dictionary_message, dictionary_room, dictionary_short, holds_values}

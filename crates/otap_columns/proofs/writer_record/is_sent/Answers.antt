@@ -1,6 +1,6 @@
 use Rattle.std.proofs.Common.{◌∙◌, sym, ap, drop, nat_lt, ◌&&◌}
 use Rattle.std.specs.Prelude.{◌||◌}
-use Rattle.otap_columns.specs.Policy.{has_some}
+use Rattle.otap_columns.specs.WrittenPayloads.{has_some}
 use Rattle.otap_columns.proofs.RecordAppended.{some_left}
 use Rattle.otap_columns.proofs.writer_record.is_sent.Goals as goal
 

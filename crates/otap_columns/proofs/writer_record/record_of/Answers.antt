@@ -2,7 +2,7 @@ use Rattle.std.proofs.Common.{ℕ, List, [], subst}
 use Rattle.arrow_ipc.specs.Written.{most_of}
 use Rattle.otap_cells.specs.declared.payload.Kind.{Kind}
 use Rattle.otap_cells.specs.Columns.{width_of}
-use Rattle.otap_columns.specs.Policy.{schema_if}
+use Rattle.otap_columns.specs.WrittenPayloads.{schema_if}
 use Rattle.otap_columns.specs.Schemas.{schema_for}
 use Rattle.otap_columns.specs.WrittenGroups.{forms_in}
 use Rattle.otap_columns.specs.WrittenRecords.{AddsAtMost, AddsHeads, AddsMessages, heads_most, schema_most}

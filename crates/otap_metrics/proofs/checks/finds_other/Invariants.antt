@@ -1,6 +1,7 @@
 use Rattle.std.proofs.Common.{◌≡◌, ℕ, ◌<◌, false}
 use Rattle.otap_groups.specs.Rows.{id_at}
-use Rattle.otap_metrics.specs.Inside.{HoldsId, fits_of}
+use Rattle.otap_metrics.specs.Inside.{HoldsId}
+use Rattle.otap_metrics.specs.Whole.{fits_of}
 use Rattle.otap_metrics.specs.Requests.{type_at}
 use Rattle.otap_metrics.proofs.checks.finds_other.Given as goal
 

@@ -5,7 +5,7 @@ use Rattle.otap_cells.specs.Named.{table_named}
 use Rattle.otap_cells.specs.Sets.{tables_in}
 use Rattle.otap_checks.specs.Known.{ids_named}
 use Rattle.otap_checks.proofs.TableIds.{ids_long}
-use Rattle.otap_metrics.specs.Inside.{fits_of}
+use Rattle.otap_metrics.specs.Whole.{fits_of}
 use Rattle.otap_metrics.specs.Requests.{NamesOther}
 use Rattle.otap_metrics.proofs.AlikeOrWrong.{same_ids}
 use Rattle.otap_metrics.proofs.MetricColumns.{metrics_are_main}

@@ -1,7 +1,7 @@
 use Rattle.std.proofs.Common.{◌∙◌, sym, subst}
 use Rattle.otap_cells.specs.declared.payload.Kind.TheVariants as table
 use Rattle.otap_cells.specs.Sets.{tables_in}
-use Rattle.otap_checks.specs.Inside.{AreGiven}
+use Rattle.otap_checks.specs.Given.{AreGiven}
 use Rattle.otap_checks.specs.Known.{Knows}
 use Rattle.otap_checks.specs.Reading.{Disagrees}
 use Rattle.otap_metrics.proofs.Cleanness.{clean, given_metrics, known_metrics}

@@ -2,7 +2,7 @@ use Rattle.std.proofs.Common.{◌≡◌, List, length, sym, ap, ◌∙◌, subst
 use Rattle.std.proofs.lemmas.List.{length-map}
 use Rattle.otap_cells.specs.declared.payload.Kind.{Kind}
 use Rattle.otap_cells.specs.Tables.{Table}
-use Rattle.otap_produce.specs.Sending.{AreReadyForAll}
+use Rattle.otap_produce.specs.SentMessages.{AreReadyForAll}
 use Rattle.otap_produce.proofs.Adding.{tables}
 use Rattle.otap_produce.proofs.Ready.{few_tables, ready_for_all}
 use Rattle.otap_produce.proofs.exporter.message_of.Goals as goal

@@ -2,7 +2,8 @@ use Rattle.std.proofs.Common.{◌∙◌, ◌<◌, length, drop, sym, ap, subst, 
 use Rattle.std.proofs.lemmas.List.{length-map}
 use Rattle.std.proofs.lemmas.List.Elements.{All-get_or}
 use Rattle.otap_groups.specs.declared.entry.Entry.{Entry}
-use Rattle.otap_groups.specs.Inside.{blank, of_parent}
+use Rattle.otap_groups.specs.Inside.{blank}
+use Rattle.otap_groups.specs.Found.{of_parent}
 use Rattle.otap_attrs.specs.Index.{IsIndexOf}
 use Rattle.otap_attrs.proofs.IndexedPairs.{are_pairs, below_rows, pairs_done}
 use Rattle.otap_attrs.proofs.index.PairIndex.pairs_of.Goals as goal

@@ -1,7 +1,8 @@
 use Rattle.std.proofs.Common.{◌≡◌, ◌∙◌, ◌+◌, ◌<◌, ◌^◌, ℕ, length, min, get_or, sym, ap, subst, arith}
 use Rattle.std.proofs.lemmas.List.{get_or_default}
 use Rattle.otap_groups.specs.declared.entry.Entry.{Entry}
-use Rattle.otap_groups.specs.Inside.{blank, of_parent}
+use Rattle.otap_groups.specs.Inside.{blank}
+use Rattle.otap_groups.specs.Found.{of_parent}
 use Rattle.otap_attrs.specs.Index.{IsIndexOf}
 use Rattle.otap_attrs.proofs.IndexedPairs.{place_below, weigh_done, weigh_more, weighs_pairs}
 use Rattle.otap_attrs.proofs.index.PairIndex.weight_of.Goals as goal

@@ -2,7 +2,7 @@ use Rattle.std.proofs.Common.{◌≡◌, ◌∷◌, ◌++◌, [], List, length, 
 use Rattle.std.proofs.lemmas.List.{with_items_is}
 use Rattle.otap_cells.specs.declared.payload.Kind.{Kind}
 use Rattle.otap_cells.specs.Tables.{Table}
-use Rattle.otap_columns.specs.Policy.{IsRecord, IsWritable}
+use Rattle.otap_columns.specs.WrittenPayloads.{IsRecord, IsWritable}
 use Rattle.otap_columns.specs.Seen.{SeenIn}
 use Rattle.otap_columns.specs.Writers.{AreSeen, AreWritable, HasWritten, IsReady, WriterIn}
 use Rattle.otap_columns.proofs.StepHeld.{started_more, writable_more}

@@ -1,7 +1,7 @@
 use Rattle.std.proofs.Common.{Some, ◌<◌, length, sym, ◌∙◌, ap, subst, List}
 use Rattle.std.specs.Prelude.{All}
 use Rattle.otap_groups.specs.declared.entry.Entry.{Entry}
-use Rattle.otap_groups.specs.Inside.{of_parent}
+use Rattle.otap_groups.specs.Found.{of_parent}
 use Rattle.otap_groups.proofs.IndexLaws.{found_below}
 use Rattle.otap_groups.proofs.children.Children.entries_of.Goals as goal
 

@@ -1,6 +1,6 @@
 use Rattle.std.proofs.Common.{◌≡◌, ◌++◌, drop, map}
 use Rattle.otap_groups.specs.declared.entry.Entry.{Entry}
-use Rattle.otap_groups.specs.Inside.{child_at}
+use Rattle.otap_groups.specs.Found.{child_at}
 use Rattle.otap_groups.proofs.children.ChildrenLookup.of.Given as goal
 
 abbrev pub invariant-entries : goal.invariant-entries

@@ -1,7 +1,7 @@
 use Rattle.std.proofs.Common.{◌≡◌, ◌+◌, ◌≤◌, ◌^◌, min, drop, map}
 use Rattle.otlp_model.specs.Weight.{total}
 use Rattle.otap_groups.specs.declared.entry.Entry.{Entry}
-use Rattle.otap_groups.specs.Inside.{child_at}
+use Rattle.otap_groups.specs.Found.{child_at}
 use Rattle.otap_groups.proofs.children.ChildrenLookup.weight_of.Given as goal
 
 abbrev pub invariant-entries : goal.invariant-entries

@@ -9,7 +9,7 @@ use Rattle.otap_cells.specs.declared.payload.Kind.{Kind}
 use Rattle.otap_cells.specs.Payload.{number_of}
 use Rattle.otap_produce.specs.Exporters.{SenderIn, SendersIn, kinds_in}
 use Rattle.otap_produce.specs.Policy.{part_of}
-use Rattle.otap_produce.specs.Sending.{Adds}
+use Rattle.otap_produce.specs.SentMessages.{Adds}
 use Rattle.otap_produce.proofs.Adding.{adds_one, kinds_set}
 use Rattle.otap_produce.proofs.Stepping.{SendsOne}
 use Rattle.otap_produce.proofs.TypeNumbers.{number_fits}

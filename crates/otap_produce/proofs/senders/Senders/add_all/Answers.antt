@@ -1,7 +1,7 @@
 use Rattle.std.proofs.Common.{◌∷◌, [], ◌∙◌, sym, subst}
 use Rattle.otap_cells.specs.declared.payload.Kind.{Kind}
 use Rattle.otap_cells.specs.Tables.{Table}
-use Rattle.otap_produce.specs.Sending.{Adds, AreReady}
+use Rattle.otap_produce.specs.SentMessages.{Adds, AreReady}
 use Rattle.otap_produce.proofs.Adding.{adds_at, ready_at}
 use Rattle.otap_produce.proofs.senders.Senders.add_all.Goals as goal
 

@@ -1,7 +1,7 @@
 use Rattle.std.proofs.Common.{◌≡◌, take}
 use Rattle.otap_cells.specs.Sets.{tables_in}
 use Rattle.otap_produce.specs.Exporters.{kinds_in}
-use Rattle.otap_produce.specs.Sending.{Adds}
+use Rattle.otap_produce.specs.SentMessages.{Adds}
 use Rattle.otap_produce.proofs.senders.Senders.add_all.Given as goal
 
 abbrev pub invariant-tables : goal.invariant-tables

@@ -128,8 +128,8 @@ pub record IsWritten (kind : Kind) (before : List Table) (past : List PayloadIn)
   pub record_is : IsRecord kind before t (opens past p) p.bytes
 
 -- THE POLICY: the payloads of the tables of a kind, one for each
-abbrev pub Policy : Kind → List Table → List PayloadIn → Type 0
-Policy kind tables payloads = EachAfter (IsWritten kind) [] [] tables payloads
+abbrev pub AreWrittenAs : Kind → List Table → List PayloadIn → Type 0
+AreWrittenAs kind tables payloads = EachAfter (IsWritten kind) [] [] tables payloads
 
 -- ---- the far end
 

@@ -1,0 +1,44 @@
+-- What the checks of the rows of metrics tell: that nothing is wrong with them but that rows of one id may differ, and which
+-- metrics have points of a sort.
+use Rattle.std.specs.Prelude.{◌≡◌, ℕ, Bool, false, List, Contains}
+use Rattle.otlp_model.specs.declared.request.Signal.TheVariants as signal
+use Rattle.otap_cells.specs.declared.payload.Kind.{Kind}
+use Rattle.otap_cells.specs.declared.payload.Kind.TheVariants as table
+use Rattle.otap_cells.specs.Named.{table_named}
+use Rattle.otap_cells.specs.Tables.{Table}
+use Rattle.otap_attrs.specs.declared.refusal.RowRefusal.{RowRefusal}
+use Rattle.otap_checks.specs.declared.known.ColumnIds.{ColumnIds}
+use Rattle.otap_checks.specs.declared.links.Link.{Link}
+use Rattle.otap_checks.specs.Known.{Knows}
+use Rattle.otap_checks.specs.Links.{links_of}
+use Rattle.otap_attrs.specs.Defects.{WrongValue}
+use Rattle.otap_metrics.specs.declared.checks.PointSort.{PointSort}
+use Rattle.otap_metrics.specs.declared.checks.PointSort.TheVariants as sort
+use Rattle.otap_metrics.specs.Requests.{HasTwoValues, WrongIds, WrongParent, WrongType, is_other, has_hist_points, has_numbers, has_summary_points}
+
+-- nothing is wrong with the values of a kind's table
+abbrev pub HasFineValues : List Table → Kind → Type 0
+HasFineValues tables kind = (wrong : RowRefusal) → WrongValue (table_named kind tables) 2 wrong → ⊥
+
+-- nothing is wrong but that rows of one id may differ
+pub record AreWhole (tables : List Table) : Type 0 where
+  pub ids : (kind : Kind) (wrong : RowRefusal) → WrongIds tables kind wrong → ⊥
+  pub types : WrongType (table_named table.Metrics tables) → ⊥
+  pub parents : WrongParent has_numbers (table_named table.NumberPoints tables) (table_named table.Metrics tables) → ⊥
+  pub points : HasTwoValues (table_named table.NumberPoints tables) 4 → ⊥
+  pub exemplars : HasTwoValues (table_named table.NumberExemplars tables) 3 → ⊥
+  pub resources : HasFineValues tables table.ResourceAttrs
+  pub scopes : HasFineValues tables table.ScopeAttrs
+  pub of_points : HasFineValues tables table.NumberPointAttrs
+  pub of_exemplars : HasFineValues tables table.NumberExemplarAttrs
+
+-- which metrics have points of a sort
+abbrev pub fits_of : PointSort → ℕ → Bool
+fits_of sort.Numbers = has_numbers
+fits_of sort.Histograms = has_hist_points
+fits_of sort.Summaries = has_summary_points
+
+-- the ids of each table but those of histograms and summaries are known
+abbrev pub KnowsMetrics : List Table → List ColumnIds → Type 0
+KnowsMetrics tables known =
+    (link : Link) → Contains (links_of signal.Metrics) link → is_other link.kind ≡ false → Knows (table_named link.kind tables) link.kind known
