@@ -78,7 +78,7 @@ impl<'a> ColumnView<'a> {
         self.own.is_empty() && self.above.is_empty() && self.top.is_empty()
     }
 
-    /// The bytes of a row's cell, as `cell` answers them. Where the column is known to be whole no
+    /// The bytes of a row's cell, as `cell` returns them. Where the column is known to be whole no
     /// bitmap is looked at.
     #[inline(always)]
     #[tactic(auto, unfolding(crate::specs::Views::cell_seen, crate::specs::Views::is_there))]

@@ -84,7 +84,7 @@ impl<T: Drop> Items<T> {
     }
 
     /// Finds room for `more` items beside those that stand, so that pushing them allocates nothing. The list stays as it
-    /// is, and one that has no room at all gets exactly so much.
+    /// is, and one that has no room at all gets exactly that much.
     pub fn reserve(&mut self, more: usize) -> Result<(), AllocError>
         ensures { self.new ≡ self.old }
     {

@@ -34,7 +34,7 @@ pub fn check_ids<R: Rows>(
 }
 
 /// The ids of the tables of a batch, where nothing is wrong with them. Each column is read once. Takes n log n for n rows, and
-/// time in proportion to them where ids and parents rise.
+/// time in proportion to them where ids and parents rise or count from 0.
 pub fn known_ids<R: Rows>(
     alloc: Global,
     set: &TableSet<R>,

@@ -50,7 +50,7 @@ impl<R: Rows> RowReader for TablePairs<'_, R> {
 }
 
 /// Finds the pairs of a parent in the table of a kind, by the parents of its rows. A table that isn't there has none. Takes
-/// n log n for n rows, and time in proportion to them where parents rise.
+/// n log n for n rows, and time in proportion to them where parents rise or count from 0.
 pub fn find_pairs<'a, R: Rows>(
     alloc: Global,
     set: &'a TableSet<R>,

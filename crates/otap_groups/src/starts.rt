@@ -9,7 +9,7 @@ use crate::entry::Entry;
 use crate::index::{SPREAD, of_parent};
 use std::alloc::{AllocError, Global};
 
-// Where the entries of each parent begin, up to the parent behind the greatest; nothing where parents are far above the number
+// Where the entries of each parent begin, up to the parent after the greatest; nothing where parents are far above the number
 // of the entries.
 pub(crate) fn starts_of(alloc: Global, entries: &[Entry]) -> Result<Vec<usize>, AllocError>
     requires { IsNonDecreasingBy (λ (e : Entry). e.parent) entries.now }

@@ -21,7 +21,7 @@ use otlp_model::{Exemplar, Pair};
 use std::alloc::{AllocError, Global};
 
 /// Finds the points of a histogram. A table that isn't there has none. Takes n log n for n rows, and time in proportion to them
-/// where parents rise.
+/// where parents rise or count from 0.
 pub(crate) fn index_hists<'a, R: Rows, P: Lookup<Child = Pair>, X: Lookup<Child = Exemplar>>(
     alloc: Global,
     set: &'a TableSet<R>,

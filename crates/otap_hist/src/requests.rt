@@ -28,7 +28,7 @@ use std::alloc::{AllocError, Global};
 const VALUE: u32 = 3;
 
 /// The request of a batch of metrics and what it weighs, where nothing is wrong with the rows and it weighs at most the limit.
-/// It is built only then. Takes n log n for n rows, and time in proportion to them where ids and parents rise.
+/// It is built only then. Takes n log n for n rows, and time in proportion to them where ids and parents rise or count from 0.
 pub fn regroup<R: Rows>(alloc: Global, set: &TableSet<R>) -> Result<Grouped<Metric>, RegroupRefusal>
     requires { IsSet R.table set.now.tables.items }
     ensures clean { OnOk result ((kind : Kind) (why : RowRefusal) → WrongWhole (tables_in R.table set.now.tables.items) kind why → ⊥) }

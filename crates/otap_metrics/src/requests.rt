@@ -29,8 +29,8 @@ use crate::reading::Metrics as MetricRows;
 use otap_attrs::{CheckRefusal, RowRefusal};
 use otap_cells::{Kind, Rows, TableSet};
 use otap_checks::{
-    Grouped, KnownIds, RegroupRefusal, check_values, disagrees, front_of, groups_within,
-    find_pairs, table_of,
+    Grouped, KnownIds, RegroupRefusal, check_values, disagrees, find_pairs, front_of,
+    groups_within, table_of,
 };
 use otap_groups::{Lookup, Main};
 use otlp_model::{HistPoint, Items, Metric, Pair, Point, SumPoint};
@@ -76,7 +76,7 @@ fn defect(kind: Kind, why: RowRefusal) -> CheckRefusal
 
 /// The request of a batch and what it weighs, where nothing is wrong with the rows and it weighs at most the limit. It is built
 /// only then. The points of histograms and summaries are found by their metrics' ids. Takes n log n for n rows, and time in
-/// proportion to them where ids and parents rise.
+/// proportion to them where ids and parents rise or count from 0.
 pub fn regroup_with<R: Rows, H: Lookup<Child = HistPoint>, S: Lookup<Child = SumPoint>>(
     alloc: Global,
     set: &TableSet<R>,

@@ -24,8 +24,8 @@ use crate::reading::Spans;
 use otap_attrs::{CheckRefusal, RowRefusal};
 use otap_cells::{Kind, Rows, TableSet};
 use otap_checks::{
-    Grouped, KnownIds, RegroupRefusal, check_values, disagrees, front_of, groups_within,
-    find_pairs, known_ids, table_of,
+    Grouped, KnownIds, RegroupRefusal, check_values, disagrees, find_pairs, front_of,
+    groups_within, known_ids, table_of,
 };
 use otap_groups::{Front, Main};
 use otlp_model::{Items, ResourceGroup, Signal, Span};
@@ -56,7 +56,7 @@ pub fn check_rows<R: Rows>(alloc: Global, set: &TableSet<R>) -> Result<u64, Chec
 }
 
 /// The request of a batch of spans and what it weighs, where nothing is wrong with the rows and it weighs at most the limit.
-/// It is built only then. Takes n log n for n rows, and time in proportion to them where ids and parents rise.
+/// It is built only then. Takes n log n for n rows, and time in proportion to them where ids and parents rise or count from 0.
 pub fn regroup<R: Rows>(alloc: Global, set: &TableSet<R>) -> Result<Grouped<Span>, RegroupRefusal>
     requires { IsSet R.table set.now.tables.items }
     ensures clean { OnOk result ((kind : Kind) (why : RowRefusal) → WrongSpans (tables_in R.table set.now.tables.items) kind why → ⊥) }

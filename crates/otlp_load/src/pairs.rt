@@ -10,7 +10,7 @@ use std::num::f64_to_bits_with_nan;
 /// How many pairs an item has.
 const PAIRS: u32 = 12;
 
-/// The text with the number behind it.
+/// The text with the number after it.
 pub(crate) fn numbered(alloc: Global, text: &str, number: u32) -> Result<Text, AllocError>
     ensures { IfOk result (λ made. made ≡ numbered text.now number) }
 {
