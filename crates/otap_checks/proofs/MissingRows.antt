@@ -7,7 +7,7 @@ use Rattle.otap_cells.specs.Tables.{Table, profile_table}
 use Rattle.otap_groups.specs.Children.{children}
 use Rattle.otap_groups.specs.Rows.{child_rows, main_rows}
 use Rattle.otap_checks.specs.Reading.{Disagrees, part_rows_in}
-use Rattle.otap_checks.proofs.TableIds.{ids_are}
+use Rattle.otap_attrs.proofs.TablePairs.{ids_are}
 
 pub parts_are : {C : Type 0} (item : Option ℕ → List Cell → C) (t : Table) (ids parents : List (Option ℕ)) (parent : Option ℕ) → HasIds t 0 ids → HasIds t 1 parents
     → children item (child_rows ids parents (map (drop 2) t.rows)) parent ≡ children item (part_rows_in t) parent

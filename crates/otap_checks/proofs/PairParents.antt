@@ -31,7 +31,7 @@ use Rattle.otap_attrs.specs.Tables.{attribute_table, row_of_pair}
 use Rattle.otap_attrs.specs.Values.{pair_cells}
 use Rattle.otap_attrs.proofs.AttributeRows.{nine_columns, parents_run}
 use Rattle.otap_attrs.proofs.TableLaws.{table_has_rows}
-use Rattle.otap_checks.proofs.TableIds.{ids_long}
+use Rattle.otap_attrs.proofs.TablePairs.{ids_long}
 
 -- where no null is taken, none is stored
 no_null : (how : Coding) (last before : ℕ) (rows : List Bool) (ns ids : List (Option ℕ)) → takes_null how ≡ false → IdsAfter how last before rows ns ids → Contains ns None → ⊥

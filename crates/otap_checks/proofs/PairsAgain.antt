@@ -30,7 +30,7 @@ use Rattle.otap_attrs.specs.Values.{pair_cells, pair_in}
 use Rattle.otap_attrs.proofs.TableLaws.{table_has_rows}
 use Rattle.otap_attrs.proofs.ValueLaws.{value_again}
 use Rattle.otap_attrs.specs.Index.{pairs_in}
-use Rattle.otap_checks.proofs.TableIds.{ids_are}
+use Rattle.otap_attrs.proofs.TablePairs.{ids_are}
 
 abbrev pub IsBackPair : Pair → Type 0
 IsBackPair pair = pair_in (pair_cells pair) ≡ pair

@@ -29,7 +29,7 @@ use Rattle.otap_checks.specs.Reading.{HasAllIds, main_rows_in, Disagrees}
 use Rattle.otap_attrs.specs.Defects.{WrongValue}
 use Rattle.otap_checks.proofs.GivenColumns.{one_given}
 use Rattle.otap_checks.proofs.LinkedTables.{is_linked}
-use Rattle.otap_checks.proofs.TableIds.{ids_are}
+use Rattle.otap_attrs.proofs.TablePairs.{ids_are}
 
 -- ---- one table
 

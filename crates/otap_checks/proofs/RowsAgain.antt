@@ -12,7 +12,7 @@ use Rattle.otap_groups.specs.Rows.{child_rows, main_rows}
 use Rattle.otap_groups.specs.Stored.{main_table, part_table}
 use Rattle.otap_groups.proofs.StoredRows.{main_rows_of, part_rows_of}
 use Rattle.otap_checks.specs.Reading.{main_rows_in, part_rows_in}
-use Rattle.otap_checks.proofs.TableIds.{ids_are}
+use Rattle.otap_attrs.proofs.TablePairs.{ids_are}
 
 pub main_rows_again : {A : Type 0} (kind : Kind) (cells_of : A → List Cell) (groups : List (ResourceGroup A)) → IsMain kind → length (items_of groups) ≤ 2 ^ 32
     → numbered_rows cells_of 0 (flat groups) ≡ main_rows_in (main_table kind cells_of groups)

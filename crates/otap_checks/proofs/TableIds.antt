@@ -1,44 +1,34 @@
 -- The ids of a table's columns as lists, and what they give.
-use Rattle.std.proofs.Common.{◌≡◌, ◌∙◌, ℕ, suc, ◌+◌, ◌<◌, Bool, true, List, [], ◌∷◌, map, drop, length, get_or, Option, None, Some, inl, inr, refl, sym, ap, subst, arith}
+use Rattle.std.proofs.Common.{◌≡◌, ◌∙◌, ℕ, ◌<◌, true, List, [], map, length, get_or, Option, inl, inr, refl, sym, ap, subst, arith}
 use Rattle.std.specs.Prelude.{Contains}
 use Rattle.std.specs.List.{range_with_len}
 use Rattle.std.proofs.lemmas.List.FromFn.{get_or-map-range_with_len, length-map-range_with_len}
 use Rattle.std.proofs.lemmas.List.{length-map}
-use Rattle.std.proofs.lemmas.Bool.{false≢true, cases_Bool, cases_eq}
+use Rattle.std.proofs.lemmas.Bool.{false≢true, cases_Bool}
 use Rattle.otlp_model.specs.declared.request.Signal.{Signal}
 use Rattle.otap_cells.specs.Cells.{Cell, null}
-use Rattle.otap_cells.specs.declared.profile.Coding.{Coding}
-use Rattle.otap_cells.specs.declared.payload.Kind.TheVariants as table
 use Rattle.otap_cells.specs.declared.ids.IdFault.TheVariants as fault
-use Rattle.otap_cells.specs.Ids.{IdsAfter, fits_after, undone_after}
-use Rattle.otap_cells.specs.Columns.{is_id_at, attrs, deep_attrs}
+use Rattle.otap_cells.specs.Ids.{fits_after, undone_after}
 use Rattle.otap_cells.specs.Named.{table_named}
 use Rattle.otap_cells.specs.declared.payload.Kind.{Kind}
-use Rattle.otap_cells.specs.Tables.{Table, coding_in, greatest_in, column_in, profile_table}
-use Rattle.otap_cells.specs.ColumnIds.{HasNullParent, id_in, stored_in}
-use Rattle.otap_cells.specs.Continuing.{continues_in, has_attributes}
+use Rattle.otap_cells.specs.Tables.{Table, coding_in, greatest_in, profile_table}
+use Rattle.otap_cells.specs.ColumnIds.{HasNullParent, stored_in}
+use Rattle.otap_cells.specs.Continuing.{continues_in}
 use Rattle.otap_cells.specs.GivenIds.{HasIds, ids_in}
-use Rattle.otap_cells.proofs.IdLaws.{one_list, stands_fits, undone_stands}
+use Rattle.otap_cells.proofs.IdLaws.{stands_fits, undone_stands}
 use Rattle.otap_groups.specs.Rows.{MainRow, main_rows, main_row_at, child_rows, cells_are, id_at}
 use Rattle.otap_groups.specs.Children.{children}
 use Rattle.otap_groups.specs.Disagree.{DifferBy, Disagree}
 use Rattle.otap_attrs.specs.declared.refusal.RowRefusal.{RowRefusal}
 use Rattle.otap_attrs.specs.declared.refusal.RowRefusal.TheVariants as why
-use Rattle.otap_attrs.specs.Values.{pair_in, BadValue}
+use Rattle.otap_attrs.specs.Values.{pair_in}
 use Rattle.otap_checks.specs.declared.links.Link.{Link}
 use Rattle.otap_checks.specs.Links.{links_of}
 use Rattle.otap_checks.specs.IdDefects.{IdDefect}
 use Rattle.otap_checks.specs.Given.{AreGiven}
 use Rattle.otap_attrs.specs.Index.{pairs_in}
 use Rattle.otap_checks.specs.Reading.{main_rows_in, Disagrees}
-
--- the ids that a column has are its ids as a list
-pub ids_are : (t : Table) (column : ℕ) (ids : List (Option ℕ)) → HasIds t column ids → ids ≡ ids_in t column
-unfolding ids_in
-ids_are t column ids are =
-    one_list (coding_in t column) (greatest_in t column) 0 (continues_in t) (stored_in t column) ids _ are
-    (undone_stands (coding_in t column) (greatest_in t column) 0 (continues_in t) (stored_in t column)
-    (stands_fits (coding_in t column) (greatest_in t column) 0 (continues_in t) (stored_in t column) ids are))
+use Rattle.otap_attrs.proofs.TablePairs.{ids_are}
 
 pub has_them : (t : Table) (column : ℕ) (ids : List (Option ℕ)) → HasIds t column ids → HasIds t column (ids_in t column)
 has_them t column ids are = subst (HasIds t column) (ids_are t column ids are) are
@@ -47,10 +37,6 @@ pub main_rows_are : (t : Table) (ids resource_ids scope_ids : List (Option ℕ))
     → main_rows ids resource_ids scope_ids t.rows ≡ main_rows_in t
 main_rows_are t ids resource_ids scope_ids own resource scope =
     λ i. main_rows (ids_are t 0 ids own i) (ids_are t 1 resource_ids resource i) (ids_are t 4 scope_ids scope i) t.rows
-
-pub pairs_are : (t : Table) (parents : List (Option ℕ)) (parent : Option ℕ) → HasIds t 0 parents
-    → children (λ id cells. pair_in cells) (child_rows [] parents (map (drop 1) t.rows)) parent ≡ pairs_in t parent
-pairs_are t parents parent are = ap (λ ids. children (λ id cells. pair_in cells) (child_rows [] ids (map (drop 1) t.rows)) parent) (ids_are t 0 parents are)
 
 -- a missing table has no pairs
 pub no_pairs : (kind : Kind) (parent : Option ℕ) → pairs_in (profile_table kind []) parent ≡ children (λ id cells. pair_in cells) (child_rows [] [] []) parent
@@ -104,49 +90,6 @@ disagree_too t (inl d) = inl (differ_too (λ row. row.resource_id) (λ row. row.
     (main_row_at (ids_in t 0) (ids_in t 1) (ids_in t 4) t.rows) (λ k. ap (λ ids. id_at ids k) (ids_are t 1 d.ids d.are)) (λ k. refl) d.differ)
 disagree_too t (inr d) = inr (differ_too (λ row. row.scope_id) (λ row. row.scope) (length t.rows) (main_row_at [] [] d.ids t.rows)
     (main_row_at (ids_in t 0) (ids_in t 1) (ids_in t 4) t.rows) (λ k. ap (λ ids. id_at ids k) (ids_are t 4 d.ids d.are)) (λ k. refl) d.differ)
-
--- ---- columns
-
--- there is an id for each row
-after_long : (how : Coding) (last before : ℕ) (rows : List Bool) (ns ids : List (Option ℕ)) → IdsAfter how last before rows ns ids → length ids ≡ length ns
-after_long how last before rows [] [] is = refl
-after_long how last before rows (None ∷ ns) (None ∷ ids) is = ap suc (after_long how last before (drop 1 rows) ns ids is.1)
-after_long how last before rows (Some n ∷ ns) (Some id ∷ ids) is = ap suc (after_long how last id (drop 1 rows) ns ids is.2)
-after_long how last before rows [] (id ∷ ids) is = absurd is
-after_long how last before rows (n ∷ ns) [] is = absurd is
-after_long how last before rows (None ∷ ns) (Some id ∷ ids) is = absurd is
-after_long how last before rows (Some n ∷ ns) (None ∷ ids) is = absurd is
-
-pub ids_long : (t : Table) (column : ℕ) (ids : List (Option ℕ)) → HasIds t column ids → length ids ≡ length t.rows
-ids_long t column ids are =
-    after_long (coding_in t column) (greatest_in t column) 0 (continues_in t) (stored_in t column) ids are
-    ∙ length-map (column_in t.rows column) id_in ∙ length-map t.rows (λ row. get_or row column null)
-
--- the first column of attributes has ids
-pub attribute_id : (kind : Kind) → has_attributes kind ≡ true → is_id_at kind 0 ≡ true
-unfolding attrs deep_attrs
-attribute_id table.ResourceAttrs is = refl
-attribute_id table.ScopeAttrs is = refl
-attribute_id table.LogAttrs is = refl
-attribute_id table.SpanAttrs is = refl
-attribute_id table.EventAttrs is = refl
-attribute_id table.LinkAttrs is = refl
-attribute_id table.NumberPointAttrs is = refl
-attribute_id table.SummaryPointAttrs is = refl
-attribute_id table.HistPointAttrs is = refl
-attribute_id table.NumberExemplarAttrs is = refl
-attribute_id table.HistExemplarAttrs is = refl
-attribute_id _ is = absurd (false≢true is)
-
--- values that were looked at
-pub values_more : (rows : List (List Cell)) (column row : ℕ) → ((k : ℕ) → k < row → (why : RowRefusal) → BadValue (drop column (get_or rows k [])) why → ⊥)
-    → ((why : RowRefusal) → BadValue (drop column (get_or rows row [])) why → ⊥)
-    → (k : ℕ) → k < row + 1 → (why : RowRefusal) → BadValue (drop column (get_or rows k [])) why → ⊥
-values_more rows column row below here k less why bad =
-    elim (cases_eq k row) [
-      | inl equal ↦ here why (subst (λ (n : ℕ). BadValue (drop column (get_or rows n [])) why) equal bad)
-      | inr differ ↦ below k (omega (arith, differ)) why bad
-    ]
 
 -- ---- a table without defects
 

@@ -11,7 +11,7 @@ use Rattle.otap_groups.specs.Children.{children}
 use Rattle.otap_groups.specs.Rows.{child_rows}
 use Rattle.otap_attrs.specs.Index.{pairs_in}
 use Rattle.otap_checks.specs.Reading.{part_rows_in}
-use Rattle.otap_checks.proofs.TableIds.{ids_are}
+use Rattle.otap_attrs.proofs.TablePairs.{ids_are}
 use Rattle.otap_metrics.specs.Points.{exemplar_of}
 use Rattle.otap_hist.specs.Points.{hist_point_of, sum_point_of}
 use Rattle.otap_hist.specs.Requests.{hist_points_in, summary_points_in}

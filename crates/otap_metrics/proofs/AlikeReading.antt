@@ -22,7 +22,7 @@ use Rattle.otap_attrs.specs.Index.{pairs_in}
 use Rattle.otap_checks.specs.Reading.{HasAllIds, main_rows_in, part_rows_in}
 use Rattle.otap_attrs.specs.Defects.{WrongValue}
 use Rattle.otap_checks.proofs.ReadAlike.{all_ids_named, disagrees_told, id_defect_told, ids_same, ids_told, kind_named, main_rows_same, pairs_same, reads_named, value_told}
-use Rattle.otap_checks.proofs.TableIds.{attribute_id}
+use Rattle.otap_attrs.proofs.TablePairs.{attribute_id}
 use Rattle.otap_metrics.specs.Metrics.{metric_of}
 use Rattle.otap_metrics.specs.Numbers.{IsThere}
 use Rattle.otap_metrics.specs.Points.{exemplar_of, point_of}

@@ -29,7 +29,7 @@ use Rattle.otap_checks.specs.Refusing.{Nothing}
 use Rattle.otap_checks.specs.Regrouping.{RefusesRegroup}
 use Rattle.otap_attrs.specs.Index.{pairs_in}
 use Rattle.otap_checks.specs.Reading.{main_rows_in, part_rows_in}
-use Rattle.otap_checks.proofs.TableIds.{ids_are}
+use Rattle.otap_attrs.proofs.TablePairs.{ids_are}
 use Rattle.otap_metrics.specs.Metrics.{metric_of}
 use Rattle.otap_metrics.specs.Points.{exemplar_of, point_of}
 use Rattle.otap_metrics.specs.Requests.{WrongMetrics, points_in, regrouped_metrics}

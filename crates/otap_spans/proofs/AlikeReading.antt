@@ -19,7 +19,7 @@ use Rattle.otap_attrs.specs.Index.{pairs_in}
 use Rattle.otap_checks.specs.Reading.{HasAllIds, main_rows_in, part_rows_in}
 use Rattle.otap_attrs.specs.Defects.{WrongValue}
 use Rattle.otap_checks.proofs.ReadAlike.{all_ids_named, disagrees_told, id_defect_told, ids_same, kind_named, main_rows_same, pairs_same, reads_named, value_told}
-use Rattle.otap_checks.proofs.TableIds.{attribute_id}
+use Rattle.otap_attrs.proofs.TablePairs.{attribute_id}
 use Rattle.otap_spans.specs.Records.{event_of, link_of, span_of}
 use Rattle.otap_spans.specs.Requests.{WrongCells, WrongSpans, events_in, links_in, regrouped_spans}
 use Rattle.otap_spans.proofs.SpanColumns.{events_are_parts, links_are_parts, spans_are_main}

@@ -3,7 +3,8 @@ use Rattle.std.proofs.lemmas.List.{length-map}
 use Rattle.otap_cells.specs.GivenIds.{HasIds}
 use Rattle.otap_checks.specs.Known.{ids_named}
 use Rattle.otap_attrs.specs.Index.{pairs_in}
-use Rattle.otap_checks.proofs.TableIds.{attribute_id, ids_long, no_pairs, pairs_are}
+use Rattle.otap_attrs.proofs.TablePairs.{attribute_id, ids_long, pairs_are}
+use Rattle.otap_checks.proofs.TableIds.{no_pairs}
 use Rattle.otap_checks.proofs.pairs.find_pairs.Goals as goal
 
 pub returns-in_default : goal.returns-in_default

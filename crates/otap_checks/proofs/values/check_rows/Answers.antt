@@ -1,4 +1,4 @@
-use Rattle.otap_checks.proofs.TableIds.{values_more}
+use Rattle.otap_attrs.proofs.TablePairs.{values_more}
 use Rattle.otap_checks.proofs.values.check_rows.Goals as goal
 
 pub rows-preserved : goal.rows-preserved

@@ -7,7 +7,7 @@ use Rattle.otap_cells.specs.GivenIds.{HasIds}
 use Rattle.otap_groups.specs.Children.{children}
 use Rattle.otap_checks.specs.Known.{ids_named}
 use Rattle.otap_checks.specs.Reading.{part_rows_in}
-use Rattle.otap_checks.proofs.TableIds.{ids_long}
+use Rattle.otap_attrs.proofs.TablePairs.{ids_long}
 use Rattle.otap_hist.specs.Points.{sum_point_of}
 use Rattle.otap_hist.proofs.HistColumns.{summaries_are_parts}
 use Rattle.otap_hist.proofs.IndexedParts.{no_parts, parts_are}

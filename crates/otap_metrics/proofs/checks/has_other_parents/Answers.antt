@@ -4,7 +4,7 @@ use Rattle.otap_cells.specs.GivenIds.{HasIds}
 use Rattle.otap_cells.specs.Named.{table_named}
 use Rattle.otap_cells.specs.Sets.{tables_in}
 use Rattle.otap_checks.specs.Known.{ids_named}
-use Rattle.otap_checks.proofs.TableIds.{ids_long}
+use Rattle.otap_attrs.proofs.TablePairs.{ids_long}
 use Rattle.otap_metrics.specs.Whole.{fits_of}
 use Rattle.otap_metrics.specs.Requests.{NamesOther}
 use Rattle.otap_metrics.proofs.AlikeOrWrong.{same_ids}

@@ -6,7 +6,7 @@ use Rattle.otap_cells.specs.GivenIds.{HasIds}
 use Rattle.otap_groups.specs.Children.{children}
 use Rattle.otap_checks.specs.Known.{ids_named}
 use Rattle.otap_checks.specs.Reading.{part_rows_in}
-use Rattle.otap_checks.proofs.TableIds.{ids_long}
+use Rattle.otap_attrs.proofs.TablePairs.{ids_long}
 use Rattle.otap_metrics.specs.Points.{exemplar_of}
 use Rattle.otap_metrics.proofs.Regrouping.{no_parts, parts_are}
 use Rattle.otap_metrics.proofs.indexes.index_exemplars.Goals as goal

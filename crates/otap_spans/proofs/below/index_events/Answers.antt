@@ -8,7 +8,7 @@ use Rattle.otap_cells.specs.Tables.{Table}
 use Rattle.otap_groups.specs.Children.{children}
 use Rattle.otap_checks.specs.Reading.{part_rows_in}
 use Rattle.otap_checks.proofs.MissingRows.{no_parts, parts_are}
-use Rattle.otap_checks.proofs.TableIds.{ids_long}
+use Rattle.otap_attrs.proofs.TablePairs.{ids_long}
 use Rattle.otap_spans.specs.Records.{event_of}
 use Rattle.otap_spans.specs.Requests.{event_in, events_in}
 use Rattle.otap_spans.proofs.SpanColumns.{events_are_parts}
