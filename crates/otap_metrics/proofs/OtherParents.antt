@@ -6,7 +6,7 @@ use Rattle.std.proofs.lemmas.List.Sorted.{Contains-permutation, IsPermutation-sy
 use Rattle.otap_cells.specs.Ids.{numbers}
 use Rattle.otap_cells.specs.Tables.{Table}
 use Rattle.otap_groups.specs.Rows.{id_at}
-use Rattle.otap_checks.proofs.Parentless.{among_ids, number_among}
+use Rattle.otap_attrs.proofs.Parentless.{among_ids, number_among}
 use Rattle.otap_metrics.specs.Inside.{FindsOther, HoldsId}
 use Rattle.otap_metrics.specs.Requests.{NamesOther}
 
