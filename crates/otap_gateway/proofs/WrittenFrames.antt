@@ -7,7 +7,7 @@ use Rattle.otap_capture.specs.Capture.{Frame, IsFrame, AreFrames, IsCapture, Mes
 use Rattle.otap_capture.specs.Capture as capture
 use Rattle.otap_consume.specs.Meanings.{Meaning}
 use Rattle.otap_produce.specs.Policy.{SignalRows}
-use Rattle.otap_transit.specs.Sendings.{Sending, Sent, Reset, AreAllowed, IsAllowed, frame_of}
+use Rattle.otap_transit.specs.Sendings.{Sending, Sent, Reset, AreAllowed, IsAllowed, frame_sent}
 use Rattle.otlp_model.specs.declared.request.Signal.{Signal}
 use Rattle.otap_gateway.specs.declared.command.Command.TheVariants as command
 use Rattle.otap_gateway.specs.Commands.{ReplyOf}
@@ -36,12 +36,12 @@ abbrev pub MessagesAreRead : Type 0
 MessagesAreRead = (part : List ℕ) → length part ≤ longest_frame → IsFrame (message_frame part) (Message part)
 
 module _ (rows : SignalRows) (messages : MessagesAreRead) (resets : IsFrame reset_frame capture.Reset) where
-  one_frame : (past : List Sending) (s : Sending) → IsAllowed rows past s → IsFrame (spelled s) (frame_of s)
+  one_frame : (past : List Sending) (s : Sending) → IsAllowed rows past s → IsFrame (spelled s) (frame_sent s)
   one_frame past (Sent q m) may = messages m may.message_of.short
   one_frame past Reset may = resets
 
   frames_of : (past ss : List Sending) (place : ℕ) → AllAfter (IsAllowed rows) past ss → place + length (flat_map spelled ss) < capture_limit
-      → AreFrames place (flat_map spelled ss) (map frame_of ss)
+      → AreFrames place (flat_map spelled ss) (map frame_sent ss)
   frames_of past [] place each few = refl
   frames_of past (s ∷ ss) place each few =
       let size : length (spelled s ++ flat_map spelled ss) ≡ length (spelled s) + length (flat_map spelled ss) = length-append (spelled s) (flat_map spelled ss) in
@@ -49,7 +49,7 @@ module _ (rows : SignalRows) (messages : MessagesAreRead) (resets : IsFrame rese
       let behind : (place + length (spelled s)) + length (flat_map spelled ss) < capture_limit = omega (arith, few, size) in
       (spelled s, flat_map spelled ss, refl, begins, one_frame past s each.0, frames_of (past ++ s ∷ []) ss (place + length (spelled s)) each.1 behind)
 
-  capture_of : (ss : List Sending) → AreAllowed rows ss → length (flat_map spelled ss) < capture_limit → IsCapture (flat_map spelled ss) (map frame_of ss) None
+  capture_of : (ss : List Sending) → AreAllowed rows ss → length (flat_map spelled ss) < capture_limit → IsCapture (flat_map spelled ss) (map frame_sent ss) None
   capture_of ss allowed few = record {
     front = flat_map spelled ss;
     rest = [];
@@ -70,7 +70,7 @@ module _ (rows : SignalRows) (messages : MessagesAreRead) (resets : IsFrame rese
         texts = texts;
         allowed = allowed;
         arrives = arrives (sent os) allowed;
-        capture = subst (λ (l : List ℕ). length l < capture_limit → IsCapture l (map frame_of (sent os)) None) out (capture_of (sent os) allowed);
+        capture = subst (λ (l : List ℕ). length l < capture_limit → IsCapture l (map frame_sent (sent os)) None) out (capture_of (sent os) allowed);
       }
 
 pub read_back : (signal : Signal) → MessagesAreRead → IsFrame reset_frame capture.Reset → ((ss : List Sending) → AreAllowed (rows_of signal) ss → Arrives (meaning_of signal) ss)

@@ -12,7 +12,7 @@ use Rattle.otap_produce.specs.LogRows.{logs_rows}
 use Rattle.otap_produce.specs.MetricRows.{metrics_rows}
 use Rattle.otap_produce.specs.Policy.{SignalRows}
 use Rattle.otap_produce.specs.SpanRows.{spans_rows}
-use Rattle.otap_transit.specs.Sendings.{Sending, Sent, Reset, MaySend, Arrive, frame_of, requests_since, messages_since}
+use Rattle.otap_transit.specs.Sendings.{Sending, Sent, Reset, MaySend, Arrive, frame_sent, requests_since, messages_since}
 use Rattle.otlp_codec.specs.Requests.{Reads, Stands}
 use Rattle.otlp_messages.specs.declared.messages.Defect.{Defect}
 use Rattle.otlp_messages.specs.Names.{defect_text}
@@ -76,8 +76,8 @@ encoded number (Refuses name) = refused_request number name
 -- as its request
 pub record Arrives (m : Meaning) (sendings : List Sending) : Type 0 where
   pub received : List Outcome
-  pub some : Received m (map frame_of sendings) received
-  pub all : (received : List Outcome) → Received m (map frame_of sendings) received → Arrive m sendings received
+  pub some : Received m (map frame_sent sendings) received
+  pub all : (received : List Outcome) → Received m (map frame_sent sendings) received → Arrive m sendings received
 
 -- WHAT `encode` MAKES OF A FRAME after frames that gave these, and the far end of all that is sent
 pub record Encodes (rows : SignalRows) (m : Meaning) (outcomes : List Encoded) (frame : Frame) (outcome : Encoded) : Type 0 where

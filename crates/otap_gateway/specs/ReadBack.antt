@@ -3,7 +3,7 @@ use Rattle.std.specs.Prelude.{◌≡◌, ◌<◌, List, length, map, None}
 use Rattle.otap_capture.specs.Capture.{Frame, IsCapture, capture_limit}
 use Rattle.otap_consume.specs.Meanings.{Meaning}
 use Rattle.otap_produce.specs.Policy.{SignalRows}
-use Rattle.otap_transit.specs.Sendings.{AreAllowed, frame_of}
+use Rattle.otap_transit.specs.Sendings.{AreAllowed, frame_sent}
 use Rattle.otap_gateway.specs.Encoding.{Encoded, EncodedAfter, Arrives, encoded, sent}
 use Rattle.otap_gateway.specs.Reply.{ReplyText, out_text}
 use Rattle.otap_gateway.specs.Told.{Gave, told}
@@ -17,4 +17,4 @@ pub record IsReadBack (rows : SignalRows) (m : Meaning) (frames : List Frame) (r
   pub texts : replies ≡ told encoded 0 outcomes
   pub allowed : AreAllowed rows (sent outcomes)
   pub arrives : Arrives m (sent outcomes)
-  pub capture : length (out_text replies) < capture_limit → IsCapture (out_text replies) (map frame_of (sent outcomes)) None
+  pub capture : length (out_text replies) < capture_limit → IsCapture (out_text replies) (map frame_sent (sent outcomes)) None
