@@ -88,6 +88,7 @@ impl ColumnBuilder {
     /// values of all cells stay below 2^31 bytes together. Takes amortised constant time for each
     /// byte of the cell. Want of memory is returned for a row that Arrow could not count too; after
     /// it the column is as before.
+    #[inline(always)]
     pub fn push(&mut self, cell: Option<&[u8]>) -> Result<(), AllocError>
         requires width { ForSome (option_copied cell) (HasWidth self.old.width) }
         requires room { cells_len self.old.cells + cell_len (option_copied cell) < 2 ^ 31 }
@@ -196,6 +197,7 @@ fn values_room(width: Width, rows: usize) -> usize
 }
 
 // Puts a value after those of the first `rows`.
+#[inline(always)]
 fn push_value(
     width: Width,
     rows: u64,

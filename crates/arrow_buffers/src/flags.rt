@@ -7,6 +7,7 @@ use crate::packing::{fill_ones, push_bit, push_zeros, reserve_bit};
 use std::alloc::AllocError;
 
 /// Makes room for the flag of one more row, if the bitmap needs one.
+#[inline(always)]
 pub(crate) fn reserve_flag(
     bitmap: &mut Vec<u8>,
     nulls: u64,
@@ -23,6 +24,7 @@ pub(crate) fn reserve_flag(
 }
 
 /// Puts the flag of a row after those of the `rows` before it. There is room for it.
+#[inline(always)]
 pub(crate) fn push_flag(bitmap: &mut Vec<u8>, nulls: u64, rows: u64, valid: bool)
     requires flags { HasFlags nulls rows bitmap.old.items }
     requires room { 0 < nulls + (if valid then 0 else 1) → rows / 8 < vec_capacity bitmap.old }

@@ -10,6 +10,7 @@ use byteorder::{ByteOrder, LittleEndian};
 use std::alloc::AllocError;
 
 /// Makes room for the bit after the first `count`.
+#[inline(always)]
 pub(crate) fn reserve_bit(bytes: &mut Vec<u8>, count: u64) -> Result<(), AllocError>
     ensures items { bytes.new.items ≡ bytes.old.items }
     ensures ok { OnOk result (count / 8 < vec_capacity bytes.new) }
@@ -19,6 +20,7 @@ pub(crate) fn reserve_bit(bytes: &mut Vec<u8>, count: u64) -> Result<(), AllocEr
 }
 
 /// Puts a bit after the first `count`. There is room for it.
+#[inline(always)]
 pub(crate) fn push_bit(bytes: &mut Vec<u8>, count: u64, bit: bool)
     requires packed { IsPacked count bytes.old.items }
     requires room { count / 8 < vec_capacity bytes.old }
@@ -78,6 +80,7 @@ pub(crate) fn push_offset(offsets: &mut Vec<u8>, element: u32, len: usize) -> Re
 }
 
 /// Puts a value of one width after the others: zeros where it is null.
+#[inline(always)]
 pub(crate) fn push_part(
     values: &mut Vec<u8>,
     width: u32,
@@ -94,6 +97,7 @@ pub(crate) fn push_part(
 
 // Puts bytes after the others. The lengths of numbers stand by themselves, since a copy of a length
 // that the compiler knows is no call.
+#[inline(always)]
 fn push_bytes(values: &mut Vec<u8>, part: &[u8]) -> Result<(), AllocError>
     ensures ok { OnOk result (values.new.items ≡ values.old.items ++ part.now) }
     ensures err { OnErr result (values.new.items ≡ values.old.items) }

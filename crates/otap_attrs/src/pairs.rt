@@ -128,6 +128,7 @@ pub(crate) fn add_attribute(
 }
 
 // Writes a cell of the last row, unless it is null.
+#[inline(always)]
 fn fill(table: &mut LogicalTable, column: u32, cell: CellView<'_>) -> Result<(), AllocError>
     requires column { column < width_of table.old.kind }
     requires row { 0 < length table.old.rows }

@@ -72,6 +72,7 @@ impl Cells {
 
     // Writes the cell of a row after which no cell stands. The bytes of a cell that stood there keep their room. With the first
     // cell comes the room for that many.
+    #[inline(always)]
     pub fn set(&mut self, row: usize, cell: CellView<'_>, room: usize) -> Result<(), AllocError>
         requires last { length self.old ≤ row + 1 }
         requires below { row + 1 < 2 ^ 64 }
@@ -90,6 +91,7 @@ impl Cells {
 }
 
 // Puts a slot after the others.
+#[inline(always)]
 fn push_slot(slots: &mut Vec<Slot>, slot: Slot, room: usize) -> Result<(), AllocError>
     ensures ok { OnOk result (slots.new.items ≡ slots.old.items ++ slot ∷ []) }
     ensures err { OnErr result (slots.new.items ≡ slots.old.items) }
@@ -111,6 +113,7 @@ fn part_of(bytes: &[u8], from: u32, len: u32) -> &[u8]
 }
 
 // The slot of a cell, whose bytes come after those that are kept. A column has room for less than 2^32 bytes.
+#[inline(always)]
 fn keep(kept: &mut Vec<u8>, cell: CellView<'_>) -> Result<Slot, AllocError>
     ensures ok { OnOk result (kept.new.items ≡ kept.old.items ++ bytes_in (seen cell.entry)) }
     ensures err { OnErr result (kept.new.items ≡ kept.old.items) }

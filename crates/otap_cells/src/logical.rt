@@ -84,6 +84,7 @@ impl LogicalTable {
 
     /// Writes a cell of the last row, in amortised constant time and the time to copy its bytes. Where the cell had bytes
     /// before, they keep their room.
+    #[inline(always)]
     pub fn set(&mut self, column: u32, cell: CellView<'_>) -> Result<(), AllocError>
         requires column { column < width_of self.old.kind }
         requires row { 0 < length self.old.rows }
