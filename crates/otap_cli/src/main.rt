@@ -4,7 +4,7 @@
 
 use otap_capture::{ReadSource, WriteSink};
 use otap_gateway::{Words, run};
-use std::alloc::AllocError;
+use std::alloc::{AllocError, Global};
 use std::env;
 use std::env::Env;
 use std::io::{BufWriter, ErrorKind};
@@ -16,18 +16,29 @@ const BUFFER: usize = 1 << 16;
 /// The status where there is no memory to begin with.
 const NO_MEMORY: u8 = 6;
 
+/// How much room is asked for and given back at first.
+const FIRST_ROOM: usize = 1 << 23;
+
 fn main(rt: HostRuntime) -> ExitCode {
     ExitCode::from(start(&rt).unwrap_or(NO_MEMORY))
 }
 
 fn start(rt: &HostRuntime) -> Result<u8, AllocError> {
     let alloc = rt.alloc();
+    keep_freed_room(alloc);
     let words = words(rt)?;
     let mut source = ReadSource::new(rt.stdin());
     let out = BufWriter::with_capacity(alloc, BUFFER, rt.stdout()).map_err(|_| AllocError)?;
     let err = BufWriter::with_capacity(alloc, BUFFER, rt.stderr()).map_err(|_| AllocError)?;
     let (mut out, mut err) = (WriteSink::new(out), WriteSink::new(err));
     Ok(run(alloc, &words, &mut source, &mut out, &mut err))
+}
+
+/// Has the C library keep room that is freed, for what is asked for later. Otherwise each request's room goes back to the
+/// operating system, and comes again page by page. It keeps up to twice the largest room that was given back (mallopt(3),
+/// M_MMAP_THRESHOLD). No page of the room that is asked for here is touched, and nothing depends on getting it.
+fn keep_freed_room(alloc: Global) {
+    let _room = Vec::<u8>::with_capacity(alloc, FIRST_ROOM);
 }
 
 /// The arguments after the program's name; none where one of them isn't UTF-8.
