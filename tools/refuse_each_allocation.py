@@ -79,9 +79,9 @@ def wrong_refusals(program, job, whole, every):
     with tempfile.TemporaryDirectory() as room:
         log = os.path.join(room, "log")
         calls = trace(program, job, log, WITHOUT_HEAP)[1]
-        # The loader ends with the call that gives its cache back. Then the C library makes a cache of its own, without which it
-        # goes on.
-        _, *places = (n for n, call in enumerate(calls) if n > calls.index("munmap") and call != "munmap")
+        # The loader ends with the call that gives its cache back. Then the C library makes a cache of its own, and the program
+        # asks for room that it gives back at once. Without these two they go on.
+        _, _, *places = (n for n, call in enumerate(calls) if n > calls.index("munmap") and call != "munmap")
         tried, wrong = places[::every], []
         for place in tried:
             faults = WITHOUT_HEAP + refusal(calls[:place], calls[place])
