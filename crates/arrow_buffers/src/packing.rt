@@ -91,27 +91,68 @@ pub(crate) fn push_part(
 {
     match cell {
         Some(part) => push_bytes(values, part),
-        None => values.resize(values.len() + width as usize, 0),
+        None => push_null(values, width),
     }
 }
 
-// Puts bytes after the others. The lengths of numbers stand by themselves, since a copy of a length
-// that the compiler knows is no call.
+// Puts what stands for a null after the others.
+#[inline(always)]
+fn push_null(values: &mut Vec<u8>, width: u32) -> Result<(), AllocError>
+    ensures ok { OnOk result (values.new.items ≡ values.old.items ++ replicate width 0) }
+    ensures err { OnErr result (values.new.items ≡ values.old.items) }
+{
+    match width {
+        1 => push_bytes(values, &[0]),
+        2 => push_bytes(values, &[0; 2]),
+        8 => push_bytes(values, &[0; 8]),
+        _ => values.resize(values.len() + width as usize, 0),
+    }
+}
+
+// Puts bytes after the others. The bytes of numbers are put one by one, since that is no call and no copy.
 #[inline(always)]
 fn push_bytes(values: &mut Vec<u8>, part: &[u8]) -> Result<(), AllocError>
     ensures ok { OnOk result (values.new.items ≡ values.old.items ++ part.now) }
     ensures err { OnErr result (values.new.items ≡ values.old.items) }
 {
-    match part.len() {
-        1 => {
-            values.push(part[0])?;
+    match *part {
+        [byte] => {
+            values.push(byte)?;
             Ok(())
         }
-        2 => values.extend_from_slice(&part[..2]),
-        4 => values.extend_from_slice(&part[..4]),
-        8 => values.extend_from_slice(&part[..8]),
+        [low, high] => {
+            values.reserve(2)?;
+            values.push_reserved(low);
+            values.push_reserved(high);
+            Ok(())
+        }
+        [a, b, c, d] => {
+            values.reserve(4)?;
+            push_four(values, [a, b, c, d]);
+            Ok(())
+        }
+        [a, b, c, d, e, f, g, h] => {
+            values.reserve(8)?;
+            push_four(values, [a, b, c, d]);
+            push_four(values, [e, f, g, h]);
+            Ok(())
+        }
         _ => values.extend_from_slice(part),
     }
+}
+
+// Puts four bytes after the others. There is room for them.
+#[inline(always)]
+fn push_four(values: &mut Vec<u8>, bytes: [u8; 4])
+    requires { vec_len values.old + 4 ≤ vec_capacity values.old }
+    ensures items { values.new.items ≡ values.old.items ++ bytes }
+    ensures len { vec_len values.new ≡ vec_len values.old + 4 }
+    ensures capacity { vec_capacity values.new ≡ vec_capacity values.old }
+{
+    values.push_reserved(bytes[0]);
+    values.push_reserved(bytes[1]);
+    values.push_reserved(bytes[2]);
+    values.push_reserved(bytes[3]);
 }
 
 /// Puts a value after the others, and its offset, which counts elements: nothing where it is null.
