@@ -140,10 +140,10 @@ pub fn says_again(before: &Attribute<'_>, row: &Attribute<'_>) -> bool
 {
     is_run_kind(row.kind)
         && before.kind == row.kind
-        && before.key == row.key
         && before.int == row.int
         && before.bits == row.bits
         && before.bytes == row.bytes
+        && before.key == row.key
 }
 
 fn is_run_kind(kind: u32) -> bool

@@ -7,6 +7,9 @@ use crate::view::CellView;
 use std::alloc::{AllocError, Global};
 use std::marker::Model;
 
+// The most bytes for which there is room before they come.
+const MAX_ROOM: usize = 1 << 15;
+
 // A cell as a column keeps it; `Bytes` names a part of the column's bytes.
 #[derive(Clone, Copy, Debug)]
 pub enum Slot {
@@ -79,7 +82,7 @@ impl Cells {
         ensures ok { OnOk result (self.new ≡ slice_set (self.old ++ replicate (row + 1 - length self.old) null) row (seen cell.entry)) }
         ensures err { OnErr result (self.new ≡ self.old) }
     {
-        let slot = keep(&mut self.bytes, cell)?;
+        let slot = keep(&mut self.bytes, cell, room)?;
         if row == self.slots.len() {
             push_slot(&mut self.slots, slot, room)?;
             return Ok(());
@@ -114,7 +117,7 @@ fn part_of(bytes: &[u8], from: u32, len: u32) -> &[u8]
 
 // The slot of a cell, whose bytes come after those that are kept. A column has room for less than 2^32 bytes.
 #[inline(always)]
-fn keep(kept: &mut Vec<u8>, cell: CellView<'_>) -> Result<Slot, AllocError>
+fn keep(kept: &mut Vec<u8>, cell: CellView<'_>, room: usize) -> Result<Slot, AllocError>
     ensures ok { OnOk result (kept.new.items ≡ kept.old.items ++ bytes_in (seen cell.entry)) }
     ensures err { OnErr result (kept.new.items ≡ kept.old.items) }
     ensures value { IfOk result (λ slot. cell_of kept.new.items slot ≡ seen cell.entry) }
@@ -128,10 +131,18 @@ fn keep(kept: &mut Vec<u8>, cell: CellView<'_>) -> Result<Slot, AllocError>
         CellView::Bytes(part) => {
             let from = short(kept.len())?;
             let len = short(part.len())?;
+            if from == 0 {
+                kept.reserve(bytes_room(part.len(), room))?;
+            }
             kept.extend_from_slice(part)?;
             Ok(Slot::Bytes { from, len })
         }
     }
+}
+
+// The room in bytes that comes with a column's first cell of bytes.
+fn bytes_room(len: usize, room: usize) -> usize {
+    len.saturating_mul(room).min(MAX_ROOM)
 }
 
 fn short(len: usize) -> Result<u32, AllocError>

@@ -68,6 +68,7 @@ impl LogicalTable {
     }
 
     /// Appends a row in which every cell is null, in constant time. A table of 2^64 - 1 rows has no room for another one.
+    #[inline(always)]
     pub fn push_row(&mut self) -> Result<(), AllocError>
         ensures ok { OnOk result (self.new ≡ record self.old { rows = self.old.rows ++ null_row self.old.kind ∷ [] }) }
         ensures err { OnErr result (self.new ≡ self.old) }
@@ -103,6 +104,7 @@ impl LogicalTable {
 impl LogicalTable {
     /// Appends a row of these cells, one for each column. Takes the time to copy the bytes of those that aren't null, and
     /// constant time for each null. After want of memory the former rows stand first; whether a row follows them isn't told.
+    #[inline(always)]
     pub fn push_cells(&mut self, cells: &[CellView<'_>]) -> Result<(), AllocError>
         requires { IsRow (columns_of self.old.kind) (map seen cells.now) }
         ensures ok { OnOk result (self.new ≡ record self.old { rows = self.old.rows ++ map seen cells.now ∷ [] }) }
