@@ -137,12 +137,20 @@ fn placed_of<'a, P: Attributed>(
     ensures are { IfOk result (λ found. map seen_placed found.items ≡ placed (map (λ parent. P.pairs parent.now) parents.now)) }
     ensures nested { IfOk result (λ found. All HasNested found.items) }
 {
-    let mut found = Vec::new(alloc);
+    let mut found = Vec::with_capacity(alloc, pairs_in(parents))?;
     'parents: for place in 0..parents.len() {
         let pairs = parents[place].pairs();
         place_pairs(alloc, &mut found, place as u32, pairs)?;
     }
     Ok(found)
+}
+
+// How many pairs the parents have.
+fn pairs_in<P: Attributed>(parents: &[&P]) -> usize {
+    parents.iter().fold(
+        0,
+        |count, parent| parent.pairs().len().saturating_add(count),
+    )
 }
 
 /// Appends a table beside its kind, where it has rows.
