@@ -5,7 +5,7 @@ use Rattle.otap_dicts.specs.Forms.{bytes_of}
 use Rattle.otap_dicts.specs.Ladders.{LadderIn, is_dictionary}
 
 abbrev pub ladder_in : ladder.Inside → LadderIn
-ladder_in l = record { dictionary = l.dictionary; form = l.form; values = map (λ v. v.items) l.values.keys }
+ladder_in l = record { dictionary = l.dictionary; form = l.form; values = map (λ key. key.bytes.items) l.values.keys }
 
 pub record IsLadderInside (l : ladder.Inside) : Type 0 where
   pub counted : l.bytes ≡ bytes_of (ladder_in l).values

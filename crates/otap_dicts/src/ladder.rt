@@ -5,6 +5,7 @@ ghost use Rattle.otap_dicts.specs.Forms.{bytes_of};
 ghost use Rattle.otap_dicts.specs.Ladders.{StandsForMore, ladder_of, observed, with_new, in_form, is_dictionary, takes};
 
 use crate::form::{Form, dictionary_form};
+use crate::key::{Key, Sought};
 use indexmap::IndexSet;
 use std::alloc::{AllocError, Global};
 use std::marker::Model;
@@ -20,7 +21,7 @@ pub struct Ladder {
     form: Form,
     // The bytes of all values together.
     bytes: usize,
-    values: IndexSet<Vec<u8>>,
+    values: IndexSet<Key>,
 }
 
 impl Model for Ladder {
@@ -68,7 +69,7 @@ impl Ladder {
     pub fn index_of(&self, value: &[u8]) -> Option<u32>
         ensures { result ≡ position (bytes_eq value.now) self.now.values }
     {
-        let place = self.values.get_index_of(value)?;
+        let place = self.values.get_index_of(Sought { bytes: value })?;
         Some(place as u32)
     }
 
@@ -77,7 +78,7 @@ impl Ladder {
         ensures { option_copied result ≡ slice_get self.now.values place }
     {
         match self.values.get_index(place as usize) {
-            Some(value) => Some(value.as_slice()),
+            Some(key) => Some(key.bytes.as_slice()),
             None => None,
         }
     }
@@ -153,8 +154,8 @@ impl Ladder {
         ensures err { OnErr result (self.new ≡ self.old) }
     {
         let place = self.count();
-        let key = Vec::from_slice(self.alloc, value)?;
-        self.values.insert(key)?;
+        let bytes = Vec::from_slice(self.alloc, value)?;
+        self.values.insert(Key { bytes })?;
         self.form = form;
         self.bytes += value.len();
         Ok(place)

@@ -2,6 +2,7 @@
 #![tactic(auto)]
 
 mod form;
+mod key;
 mod ladder;
 pub mod laws;
 #[cfg(test)]

@@ -8,14 +8,14 @@ use Rattle.otap_dicts.proofs.Found.{last_place}
 use Rattle.otap_dicts.proofs.Keyed.{inserted, in-form}
 use Rattle.otap_dicts.proofs.ladder.Ladder.insert.Goals as goal
 
-keys : (c : goal.After-self-1) → map (λ v. v.items) c.insert.new.self.keys ≡ (ladder_in c.self.inside).values ++ c.args.value.now ∷ []
+keys : (c : goal.After-self-1) → map (λ key. key.bytes.items) c.insert.new.self.keys ≡ (ladder_in c.self.inside).values ++ c.args.value.now ∷ []
 keys c =
-    inserted (λ v. v.items) c.self.inside.values.keys c.insert.new.self.keys c.in_ok-key.key c.args.value.now c.in_ok-key.ensures.items
+    inserted (λ key. key.bytes.items) c.self.inside.values.keys c.insert.new.self.keys (record { bytes = c.in_ok-bytes.bytes }) c.args.value.now c.in_ok-bytes.ensures.items
     (ap (λ (l : LadderIn). list_any (bytes_eq c.args.value.now) l.values) c.self.view_is ∙ c.requires.new) c.in_ok-insert.ensures.keys
 
 pub returns-clause-ok : goal.returns-clause-ok
 returns-clause-ok c =
-    rw (← c.self.view_is) (in-form (ladder_in c.self.inside) c.args.form c.args.value.now (map (λ v. v.items) c.insert.new.self.keys) c.requires.dictionary (keys c))
+    rw (← c.self.view_is) (in-form (ladder_in c.self.inside) c.args.form c.args.value.now (map (λ key. key.bytes.items) c.insert.new.self.keys) c.requires.dictionary (keys c))
 
 pub invariant_of-self-2 : goal.invariant_of-self-2
 invariant_of-self-2 c =
