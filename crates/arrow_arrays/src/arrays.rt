@@ -58,7 +58,7 @@ impl Arrays {
         Ok(arrays)
     }
 
-    // Adds the arrays of fields and of their children after the others.
+    /// Adds the arrays of fields and of their children after the others.
     #[cycle(walk)]
     fn add_fields(
         &mut self,
@@ -92,7 +92,7 @@ impl Arrays {
         self.add_fields(alloc, below, field.children.as_slice())
     }
 
-    // Adds the array of one field.
+    /// Adds the array of one field.
     fn push(&mut self, alloc: Global, above: Above, field: &FieldSpec) -> Result<(), AllocError>
         requires { length self.old < max_fields }
         ensures { OnOk result (self.new ≡ self.old ++ array_after self.old above (name_in field.now) (kind_in field.now) (dict_in field.now) (encoding_in field.now) ∷ []) }
@@ -200,7 +200,7 @@ fn array_at(arrays: &[ArraySpec], place: usize) -> Option<&ArraySpec>
     arrays.get(place)
 }
 
-// Appends the names that lead to an array that stands so deep at most.
+/// Appends the names that lead to an array that stands so deep at most.
 #[tactic(auto, unfolding(crate::specs::Arrays::path_within))]
 fn push_path<'a>(
     arrays: &'a [ArraySpec],
@@ -225,7 +225,7 @@ fn push_path<'a>(
     Ok(())
 }
 
-// The column of an array that stands so deep at most.
+/// The column of an array that stands so deep at most.
 fn view_within<'v>(
     arrays: &[ArraySpec],
     batch: &BatchView<'v>,

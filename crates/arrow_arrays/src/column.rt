@@ -149,7 +149,7 @@ impl<'a> Stored<'a> {
     }
 }
 
-// Whether a bitmap has a row. One without bytes has each row.
+/// Whether a bitmap has a row. One without bytes has each row.
 #[inline(always)]
 #[tactic(auto, unfolding(arrow_buffers::specs::Bits::bit_at))]
 fn has(bytes: &[u8], row: u64) -> bool
@@ -171,7 +171,7 @@ fn bit_byte(bit: bool) -> &'static [u8]
     if bit { &[1] } else { &[0] }
 }
 
-// The value of a row, where all have a width that is known when the program is built: to divide by it takes no division.
+/// The value of a row, where all have a width that is known when the program is built: to divide by it takes no division.
 #[inline(always)]
 fn part_in(bytes: &[u8], row: u64, width: usize) -> Option<&[u8]>
     requires { 0 < width }
@@ -184,7 +184,7 @@ fn part_in(bytes: &[u8], row: u64, width: usize) -> Option<&[u8]>
     Some(&bytes[start..start + width])
 }
 
-// The value of a row, where all have one width.
+/// The value of a row, where all have one width.
 #[inline(always)]
 fn part(bytes: &[u8], row: u64, width: u32) -> Option<&[u8]>
     ensures { option_copied result ≡ part_between bytes.now (row * width) ((row + 1) * width) }
@@ -197,7 +197,7 @@ fn part(bytes: &[u8], row: u64, width: u32) -> Option<&[u8]>
     Some(&bytes[start as usize..end as usize])
 }
 
-// The elements from a row's offset to the next one.
+/// The elements from a row's offset to the next one.
 #[inline(always)]
 fn span<'a>(offsets: &[u8], values: &'a [u8], width: u32, row: u64) -> Option<&'a [u8]>
     ensures { option_copied result ≡ span_between offsets.now values.now width row }
@@ -211,7 +211,7 @@ fn span<'a>(offsets: &[u8], values: &'a [u8], width: u32, row: u64) -> Option<&'
     between(values, start, end)
 }
 
-// The offset at a place.
+/// The offset at a place.
 #[inline(always)]
 #[tactic(auto, unfolding(arrow_buffers::specs::Offsets::offset_at))]
 fn offset_at(offsets: &[u8], place: usize) -> u32

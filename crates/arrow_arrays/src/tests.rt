@@ -47,7 +47,7 @@ fn reads_what_another_writer_made(rt: HostRuntime) -> Result<(), Fail> {
     Ok(())
 }
 
-// A record batch with the texts joe, null and mark.
+/// A record batch with the texts joe, null and mark.
 fn texts(alloc: Global) -> Result<Vec<u8>, Fail> {
     let mut builder = BatchBuilder::new(alloc, 3);
     builder.add(3, 1)?;
@@ -74,8 +74,8 @@ fn reads_values_of_a_dictionary(rt: HostRuntime) -> Result<(), Fail> {
     Ok(())
 }
 
-// A record batch with the lists [1, 2], null and [3], and a fourth element of which the bits say
-// whether it is there.
+/// A record batch with the lists [1, 2], null and [3], and a fourth element of which the bits say
+/// whether it is there.
 fn lists(alloc: Global, there: u8, last: u8) -> Result<Vec<u8>, Fail> {
     let mut builder = BatchBuilder::new(alloc, 3);
     builder.add(3, 1)?;

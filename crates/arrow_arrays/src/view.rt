@@ -52,7 +52,7 @@ pub(crate) fn rows_in(batch: &BatchView<'_>, place: ArrayPlace) -> Result<u64, B
     Ok(batch.rows())
 }
 
-// The length of the node at a place, which isn't negative.
+/// The length of the node at a place, which isn't negative.
 #[tactic(auto, unfolding(crate::specs::Cells::length_in))]
 fn length_in(batch: &BatchView<'_>, place: u32) -> Result<u64, BufferFault>
     ensures { result ≡ length_in batch.now place }
@@ -64,7 +64,7 @@ fn length_in(batch: &BatchView<'_>, place: u32) -> Result<u64, BufferFault>
     }
 }
 
-// The null count of the node at a place, which counts the rows.
+/// The null count of the node at a place, which counts the rows.
 #[tactic(auto, unfolding(crate::specs::Cells::nulls_in))]
 fn nulls_in(batch: &BatchView<'_>, rows: u64, place: u32) -> Result<i64, BufferFault>
     ensures { result ≡ nulls_in batch.now rows place }
@@ -105,7 +105,7 @@ fn bits_in<'a>(batch: &BatchView<'a>, rows: u64, place: u32) -> Result<Values<'a
     Ok(Values::Bits(Bits::values(bytes, rows)?))
 }
 
-// Values of no bytes need none.
+/// Values of no bytes need none.
 #[tactic(auto, unfolding(crate::specs::Cells::fixed_in))]
 fn fixed_in<'a>(
     batch: &BatchView<'a>,
@@ -122,7 +122,7 @@ fn fixed_in<'a>(
     Ok(Values::Fixed(Fixed::new(bytes, width, rows)?))
 }
 
-// The offsets stand at the place, and the values after them.
+/// The offsets stand at the place, and the values after them.
 #[tactic(auto, unfolding(crate::specs::Cells::vars_in))]
 fn vars_in<'a>(batch: &BatchView<'a>, rows: u64, place: u32) -> Result<Values<'a>, BufferFault>
     requires { place + 1 < 2 ^ 32 }
@@ -143,7 +143,7 @@ pub(crate) fn elements<'a>(bytes: &'a [u8], count: u64) -> Result<&'a [u8], Buff
     Ok(&bytes[..count as usize * ELEMENT_LEN as usize])
 }
 
-// The elements of lists, by the node and the first buffer of their array.
+/// The elements of lists, by the node and the first buffer of their array.
 #[tactic(auto, unfolding(crate::specs::Cells::elements_in))]
 fn elements_in<'a>(
     batch: &BatchView<'a>,
@@ -174,7 +174,7 @@ fn lists_in<'a>(
     Ok(Values::Lists(lists, there))
 }
 
-// The values stand after the validity bitmap.
+/// The values stand after the validity bitmap.
 #[tactic(auto, unfolding(crate::specs::Cells::values_in))]
 fn values_in<'a>(
     batch: &BatchView<'a>,

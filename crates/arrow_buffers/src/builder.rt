@@ -175,7 +175,7 @@ impl ColumnBuilder {
     }
 }
 
-// How many bytes the offsets of some rows have, as far as that can be counted.
+/// How many bytes the offsets of some rows have, as far as that can be counted.
 fn offsets_room(width: Width, rows: usize) -> usize
     ensures { result ≡ min (offsets_len width rows) (2 ^ 64 - 1) }
 {
@@ -185,7 +185,7 @@ fn offsets_room(width: Width, rows: usize) -> usize
     }
 }
 
-// How many bytes the values of some rows have, where that doesn't depend on the values.
+/// How many bytes the values of some rows have, where that doesn't depend on the values.
 fn values_room(width: Width, rows: usize) -> usize
     ensures { result ≡ min (sized_len width rows) (2 ^ 64 - 1) }
 {
@@ -196,7 +196,7 @@ fn values_room(width: Width, rows: usize) -> usize
     }
 }
 
-// Puts a value after those of the first `rows`.
+/// Puts a value after those of the first `rows`.
 #[inline(always)]
 fn push_value(
     width: Width,
@@ -223,7 +223,7 @@ fn push_value(
     }
 }
 
-// Puts what stands for nulls after the values of the first `rows`.
+/// Puts what stands for nulls after the values of the first `rows`.
 fn push_null_values(
     width: Width,
     rows: u64,
@@ -244,7 +244,7 @@ fn push_null_values(
     }
 }
 
-// Whether a value is the bit 1.
+/// Whether a value is the bit 1.
 fn is_one(cell: Option<&[u8]>) -> bool
     ensures { result ≡ is_one (option_copied cell.entry) }
 {
@@ -254,7 +254,7 @@ fn is_one(cell: Option<&[u8]>) -> bool
     }
 }
 
-// The offsets with the last one after them, where there are offsets.
+/// The offsets with the last one after them, where there are offsets.
 fn end_offsets(width: Width, mut offsets: Vec<u8>, values: &[u8]) -> Result<Vec<u8>, AllocError>
     requires { OffsetsFit width (length values.now) }
     ensures { IfOk result (λ v. v.items ≡ ended_offsets width offsets.items values.now) }

@@ -95,7 +95,7 @@ pub(crate) fn push_part(
     }
 }
 
-// Puts what stands for a null after the others.
+/// Puts what stands for a null after the others.
 #[inline(always)]
 fn push_null(values: &mut Vec<u8>, width: u32) -> Result<(), AllocError>
     ensures ok { OnOk result (values.new.items ≡ values.old.items ++ replicate width 0) }
@@ -109,7 +109,7 @@ fn push_null(values: &mut Vec<u8>, width: u32) -> Result<(), AllocError>
     }
 }
 
-// Puts bytes after the others. The bytes of numbers are put one by one, since that is no call and no copy.
+/// Puts bytes after the others. The bytes of numbers are put one by one, since that is no call and no copy.
 #[inline(always)]
 fn push_bytes(values: &mut Vec<u8>, part: &[u8]) -> Result<(), AllocError>
     ensures ok { OnOk result (values.new.items ≡ values.old.items ++ part.now) }
@@ -141,7 +141,7 @@ fn push_bytes(values: &mut Vec<u8>, part: &[u8]) -> Result<(), AllocError>
     }
 }
 
-// Puts four bytes after the others. There is room for them.
+/// Puts four bytes after the others. There is room for them.
 #[inline(always)]
 fn push_four(values: &mut Vec<u8>, bytes: [u8; 4])
     requires { vec_len values.old + 4 ≤ vec_capacity values.old }

@@ -117,7 +117,7 @@ pub(crate) fn padded(len: usize) -> usize
     (len + 7) / 8 * 8
 }
 
-// Appends a part from an offset on, after zero bytes.
+/// Appends a part from an offset on, after zero bytes.
 fn append(body: &mut Vec<u8>, offset: usize, part: &[u8]) -> Result<(), AllocError>
     requires offset { vec_len body.old ≤ offset }
     requires room { offset + length part.now < 2 ^ 63 }

@@ -52,7 +52,7 @@ impl From<SchemaRefusal> for IpcFault {
 
     ghost from_gives = { λ refusal fault. fault ≡ fault_of refusal };
 
-    // Want of memory is a fault of its own.
+    /// Want of memory is a fault of its own.
     fn from(refusal: SchemaRefusal) -> IpcFault {
         match refusal {
             SchemaRefusal::Memory(e) => IpcFault::Memory(e),

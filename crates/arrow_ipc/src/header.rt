@@ -58,7 +58,7 @@ pub(crate) fn find(bytes: &[u8]) -> Result<Found<'_>, IpcFault>
     })
 }
 
-// The `size` bytes at `place`.
+/// The `size` bytes at `place`.
 #[tactic(auto, unfolding(flat_tables::specs::Bytes::part_at))]
 fn part(bytes: &[u8], place: usize, size: usize) -> Result<&[u8], IpcFault>
     ensures value { order.Gives (λ part. part.now) result (order.whole (part_at bytes.now place size)) }
@@ -76,7 +76,7 @@ fn number(bytes: &[u8], place: usize) -> Result<u32, IpcFault>
     Ok(LittleEndian::read_u32(part(bytes, place, 4)?))
 }
 
-// The metadata, where it and what stands before it are whole.
+/// The metadata, where it and what stands before it are whole.
 #[tactic(auto, unfolding(crate::specs::Order::metadata))]
 fn metadata(bytes: &[u8]) -> Result<&[u8], IpcFault>
     ensures value { order.Gives (λ part. part.now) result (order.metadata bytes.now) }
@@ -100,7 +100,7 @@ fn check_version(table: &TableView<'_>) -> Result<(), IpcFault>
     }
 }
 
-// The body, which begins at `place`.
+/// The body, which begins at `place`.
 #[tactic(auto, unfolding(crate::specs::Order::body, crate::specs::Messages::body_size_of))]
 fn body<'a>(bytes: &'a [u8], place: usize, table: &TableView<'_>) -> Result<&'a [u8], IpcFault>
     ensures value { order.Gives (λ part. part.now) result (order.body bytes.now place table.now) }
@@ -165,7 +165,7 @@ fn check_buffers(buffers: &Option<VectorView<'_>>, body: &[u8]) -> Result<(), Ip
     }
 }
 
-// Whether each buffer lies in a body of this size.
+/// Whether each buffer lies in a body of this size.
 fn all_lie_in(buffers: &VectorView<'_>, size: usize) -> bool
     requires { buffers.now.width ≡ 16 }
     ensures { result ≡ list_all (lies_in size) (pairs_in buffers.now) }

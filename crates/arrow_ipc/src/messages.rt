@@ -97,7 +97,7 @@ impl<'a> Messages<'a> {
     }
 }
 
-// The message that begins the bytes, and how many bytes it takes.
+/// The message that begins the bytes, and how many bytes it takes.
 fn message(alloc: Global, bytes: &[u8]) -> Result<(IpcMessage<'_>, usize), IpcFault>
     ensures message { IfOk result (λ found. IsMessage bytes.now found.0 found.1) }
     ensures within { IfOk result (λ found. (0 < found.1) × (found.1 ≤ length bytes.now)) }
@@ -120,7 +120,7 @@ fn message_of(alloc: Global, header: Header<'_>) -> Result<IpcMessage<'_>, IpcFa
     }
 }
 
-// The bytes from a place on.
+/// The bytes from a place on.
 fn rest(bytes: &[u8], place: usize) -> &[u8]
     ensures { result.now ≡ drop place bytes.now }
 {

@@ -26,7 +26,7 @@ const RECORD: [u8; 256] = [
     0x02, 0x00, 0x00, 0x00, 0x00, 0x00, 0x00, 0x00, 0x00, 0x00, 0x00, 0x00, 0x00, 0x00, 0x00, 0x00,
 ];
 
-// The next message, where it is a schema.
+/// The next message, where it is a schema.
 fn next_schema(messages: &mut Messages<'_>, alloc: Global) -> Option<SchemaSpec> {
     match messages.next(alloc)?.ok()? {
         IpcMessage::Schema(schema) => Some(schema),
@@ -34,7 +34,7 @@ fn next_schema(messages: &mut Messages<'_>, alloc: Global) -> Option<SchemaSpec>
     }
 }
 
-// The next message, where it is a dictionary batch.
+/// The next message, where it is a dictionary batch.
 fn next_dictionary<'a>(
     messages: &mut Messages<'a>,
     alloc: Global,
@@ -45,7 +45,7 @@ fn next_dictionary<'a>(
     }
 }
 
-// The next message, where it is a record batch.
+/// The next message, where it is a record batch.
 fn next_rows<'a>(messages: &mut Messages<'a>, alloc: Global) -> Option<BatchView<'a>> {
     match messages.next(alloc)?.ok()? {
         IpcMessage::Rows(batch) => Some(batch),
@@ -53,14 +53,14 @@ fn next_rows<'a>(messages: &mut Messages<'a>, alloc: Global) -> Option<BatchView
     }
 }
 
-// The schema that begins the bytes, and the place after it.
+/// The schema that begins the bytes, and the place after it.
 fn first_schema(alloc: Global, bytes: &[u8]) -> Option<(SchemaSpec, usize)> {
     let mut messages = Messages::new(bytes);
     let schema = next_schema(&mut messages, alloc)?;
     Some((schema, messages.place()))
 }
 
-// The record batch after a schema, and the place after it, where the bytes end.
+/// The record batch after a schema, and the place after it, where the bytes end.
 fn last_rows(alloc: Global, bytes: &[u8]) -> Option<(BatchView<'_>, usize)> {
     let mut messages = Messages::new(bytes);
     next_schema(&mut messages, alloc)?;
@@ -72,7 +72,7 @@ fn last_rows(alloc: Global, bytes: &[u8]) -> Option<(BatchView<'_>, usize)> {
     }
 }
 
-// How many rows the record batch at a place has.
+/// How many rows the record batch at a place has.
 fn count_at(bytes: &[u8], place: usize) -> Option<u64> {
     Some(rows_at(bytes, place)?.rows())
 }
@@ -116,7 +116,7 @@ fn finds_rows_at_their_place_alone(rt: HostRuntime) -> Result<(), Fail> {
     Ok(())
 }
 
-// The bytes with one of them changed.
+/// The bytes with one of them changed.
 fn changed(alloc: Global, bytes: &[u8], place: usize, byte: u8) -> Result<Vec<u8>, AllocError>
     requires { place < length bytes.now }
 {
@@ -125,7 +125,7 @@ fn changed(alloc: Global, bytes: &[u8], place: usize, byte: u8) -> Result<Vec<u8
     Ok(changed)
 }
 
-// The fault that stands at the start of the bytes.
+/// The fault that stands at the start of the bytes.
 fn fault(alloc: Global, bytes: &[u8]) -> Option<IpcFault> {
     match Messages::new(bytes).next(alloc)? {
         Ok(_) => None,
@@ -177,7 +177,7 @@ fn names_the_fault(rt: HostRuntime) -> Result<(), Fail> {
     Ok(())
 }
 
-// A batch of two rows, with one node and two buffers.
+/// A batch of two rows, with one node and two buffers.
 fn two_rows(alloc: Global) -> Result<BatchBuilder, AllocError> {
     let mut builder = BatchBuilder::new(alloc, 2);
     builder.add(2, 1)?;
@@ -186,8 +186,8 @@ fn two_rows(alloc: Global) -> Result<BatchBuilder, AllocError> {
     Ok(builder)
 }
 
-// A schema without fields, the two rows as a delta of a dictionary, and five rows without columns;
-// and the place of these.
+/// A schema without fields, the two rows as a delta of a dictionary, and five rows without columns;
+/// and the place of these.
 fn written(alloc: Global) -> Result<(Vec<u8>, usize), AllocError> {
     let mut bytes = Vec::new(alloc);
     write_schema(&mut bytes, &SchemaSpec::new(alloc))?;

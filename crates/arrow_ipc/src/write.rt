@@ -59,7 +59,7 @@ pub(crate) fn add_batch(
     Ok(table)
 }
 
-// The bytes of structs of two numbers, one after the other.
+/// The bytes of structs of two numbers, one after the other.
 fn pairs(alloc: Global, pairs: &[(i64, i64)]) -> Result<Vec<u8>, AllocError>
     requires { length pairs.now < 2 ^ 32 }
     ensures value { IfOk result (λ bytes. bytes.items ≡ laying.pairs_bytes pairs.now) }
@@ -114,7 +114,7 @@ pub(crate) fn write_message(
     Ok(())
 }
 
-// The metadata of a message: the table Message.
+/// The metadata of a message: the table Message.
 fn metadata(
     mut builder: Builder,
     kind: u8,
@@ -138,7 +138,7 @@ fn metadata(
     Ok(metadata)
 }
 
-// Appends metadata and a body, which is padded to a multiple of 8.
+/// Appends metadata and a body, which is padded to a multiple of 8.
 #[tactic(auto, unfolding(crate::specs::Laying::laid_out))]
 fn append_message(to: &mut Vec<u8>, metadata: &[u8], body: &[u8]) -> Result<(), AllocError>
     requires metadata { length metadata.now < 2 ^ 32 }

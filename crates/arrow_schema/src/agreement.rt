@@ -56,7 +56,7 @@ fn agrees(a: Use, b: Use) -> bool
     a.id != b.id || a.kind == b.kind
 }
 
-// Appends the uses of fields and of their children, depth first.
+/// Appends the uses of fields and of their children, depth first.
 fn push_uses(fields: &[FieldSpec], uses: &mut Vec<Use>) -> Result<(), AllocError>
     ensures { OnOk result (uses.new.items ≡ uses.old.items ++ uses_of fields.now) }
 {
@@ -67,7 +67,7 @@ fn push_uses(fields: &[FieldSpec], uses: &mut Vec<Use>) -> Result<(), AllocError
     Ok(())
 }
 
-// Appends the use of one field, where it has a dictionary.
+/// Appends the use of one field, where it has a dictionary.
 fn push_use(field: &FieldSpec, uses: &mut Vec<Use>) -> Result<(), AllocError>
     ensures { OnOk result (uses.new.items ≡ uses.old.items ++ use_of (kind_in field.now) (dict_in field.now)) }
 {

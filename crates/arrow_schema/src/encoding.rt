@@ -31,7 +31,7 @@ fn read_pairs(pairs: &VectorView<'_>) -> Result<Encoding, FlatFault>
     Ok(found)
 }
 
-// The encoding that a pair names, where none was named before it.
+/// The encoding that a pair names, where none was named before it.
 fn read_pair(pair: Option<TableView<'_>>, found: Encoding) -> Result<Encoding, FlatFault>
     ensures { result ≡ of_pair found pair.entry }
 {

@@ -13,7 +13,7 @@ use flat_tables::{FlatFault, TableView};
 use std::alloc::Global;
 use std::str::from_utf8;
 
-// The bytes of the name of a field; an absent one is empty.
+/// The bytes of the name of a field; an absent one is empty.
 fn name_bytes<'a>(field: &TableView<'a>) -> Result<&'a [u8], FlatFault>
     ensures { flat_reading.Gives (λ bytes. bytes.now) result (slots.name_slot field.now) }
 {
@@ -34,7 +34,7 @@ pub(crate) fn read_name(alloc: Global, field: &TableView<'_>) -> Result<Name, Sc
     }
 }
 
-// A number of the field's type; it has its default where the type's table is absent.
+/// A number of the field's type; it has its default where the type's table is absent.
 fn type_i16(field: &TableView<'_>, default: i16) -> Result<i16, FlatFault>
     ensures { result ≡ slots.type_slot w16 2 default field.now }
 {
@@ -107,7 +107,7 @@ pub(crate) fn read_type(field: &TableView<'_>) -> Result<ArrowType, SchemaRefusa
     }
 }
 
-// A type with one number, which is to be this one.
+/// A type with one number, which is to be this one.
 #[tactic(auto, unfolding(crate::specs::Reading::number_of))]
 fn read_number(
     read: Result<i16, FlatFault>,
@@ -124,7 +124,7 @@ fn read_number(
     }
 }
 
-// Whether the indexes of a dictionary have 16 bits, by the table of their type.
+/// Whether the indexes of a dictionary have 16 bits, by the table of their type.
 #[tactic(auto, unfolding(crate::specs::Reading::is_wide))]
 fn read_wide(index: &TableView<'_>) -> Result<bool, SchemaRefusal>
     ensures { reading.Gives (λ wide. wide) result (reading.is_wide index.now) }

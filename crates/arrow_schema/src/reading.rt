@@ -46,8 +46,8 @@ fn read_fields(alloc: Global, schema: &TableView<'_>) -> Result<FieldList<FieldS
     Ok(fields)
 }
 
-// The fields in a slot of a table, which may be nested `depth` deep, and how many more the schema
-// may have, of those that were `left`.
+/// The fields in a slot of a table, which may be nested `depth` deep, and how many more the schema
+/// may have, of those that were `left`.
 #[cycle(read)]
 #[tactic(auto, unfolding(crate::specs::Reading::slot_of))]
 fn read_slot(
@@ -91,7 +91,7 @@ fn read_vector(
     Ok((fields, left))
 }
 
-// The fields that the elements of a vector refer to.
+/// The fields that the elements of a vector refer to.
 #[cycle(read)]
 fn read_elements(
     alloc: Global,
@@ -115,7 +115,7 @@ fn read_elements(
     Ok((fields, left))
 }
 
-// The field of a table, whose children may be nested `depth` deep.
+/// The field of a table, whose children may be nested `depth` deep.
 #[cycle(read)]
 #[tactic(auto, unfolding(crate::specs::Reading::field_of))]
 fn read_field(
@@ -144,7 +144,7 @@ fn read_field(
     Ok((field, left))
 }
 
-// Whether a field of this type may have these children.
+/// Whether a field of this type may have these children.
 fn fits_children(kind: ArrowType, children: &[FieldSpec]) -> bool
     ensures { result ≡ fits_children kind children.now }
 {

@@ -17,7 +17,7 @@ const SCHEMA: [u8; 104] = [
     0x08, 0x00, 0x00, 0x00, 0x10, 0x00, 0x00, 0x00,
 ];
 
-// The schema in the header of a message.
+/// The schema in the header of a message.
 fn schema_in(alloc: Global, message: &[u8]) -> Result<SchemaSpec, SchemaRefusal> {
     match TableView::root(message)?.table_at(2)? {
         None => Err(SchemaRefusal::Unsupported),

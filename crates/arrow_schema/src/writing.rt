@@ -39,7 +39,7 @@ pub fn add_schema(builder: &mut Builder, spec: &SchemaSpec) -> Result<Place, All
     Ok(place)
 }
 
-// Adds the fields, and a vector of them.
+/// Adds the fields, and a vector of them.
 #[cycle(write)]
 #[tactic(auto, using(crate::proofs::FieldTrees::costs_more, flat_tables::proofs::Standing::grows_on))]
 fn add_fields(builder: &mut Builder, fields: &[FieldSpec]) -> Result<Place, AllocError>
@@ -86,7 +86,7 @@ fn add_field(builder: &mut Builder, field: &FieldSpec) -> Result<Place, AllocErr
     Ok(place)
 }
 
-// Adds the table of a type.
+/// Adds the table of a type.
 fn add_type(builder: &mut Builder, kind: ArrowType) -> Result<Place, AllocError>
     requires width { IsTrue (fits_width kind) }
     requires room { length builder.old < 2 ^ 24 }
@@ -109,7 +109,7 @@ fn add_type(builder: &mut Builder, kind: ArrowType) -> Result<Place, AllocError>
     }
 }
 
-// Adds the table of a dictionary, where there is one, and returns the slot for it.
+/// Adds the table of a dictionary, where there is one, and returns the slot for it.
 fn add_dictionary(builder: &mut Builder, dict: Option<DictSpec>) -> Result<Slot, AllocError>
     requires { length builder.old + 256 < 2 ^ 24 }
     ensures dict { IfOk result (DictionaryStands dict builder.new) }
@@ -136,7 +136,7 @@ fn add_dict(builder: &mut Builder, dict: DictSpec) -> Result<Place, AllocError>
     Ok(place)
 }
 
-// Adds the custom metadata that names an encoding, where there is one, and returns the slot for it.
+/// Adds the custom metadata that names an encoding, where there is one, and returns the slot for it.
 fn add_metadata(builder: &mut Builder, encoding: Encoding) -> Result<Slot, AllocError>
     requires named { IsTrue (is_named encoding) }
     requires room { length builder.old + 512 < 2 ^ 24 }
@@ -153,7 +153,7 @@ fn add_metadata(builder: &mut Builder, encoding: Encoding) -> Result<Slot, Alloc
     }
 }
 
-// Adds a vector of one pair, whose key is `encoding`.
+/// Adds a vector of one pair, whose key is `encoding`.
 #[tactic(auto, using(flat_tables::proofs::Standing::grows_on))]
 fn add_pair(builder: &mut Builder, value: &[u8]) -> Result<Place, AllocError>
     requires value { length value.now ≤ 8 }

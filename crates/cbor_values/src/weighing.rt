@@ -51,7 +51,7 @@ fn all(bytes: &[u8]) -> Result<Weighed, CborRefusal>
     Ok(told)
 }
 
-// What the item at the front tells, which may be `depth` deep, and the bytes after it.
+/// What the item at the front tells, which may be `depth` deep, and the bytes after it.
 #[cycle(weigh)]
 #[tactic(auto, unfolding(crate::specs::Reading::item_at))]
 fn item(depth: u64, bytes: &[u8]) -> Result<(Weighed, &[u8]), CborRefusal>
@@ -64,7 +64,7 @@ fn item(depth: u64, bytes: &[u8]) -> Result<(Weighed, &[u8]), CborRefusal>
     body(depth - 1, head, rest)
 }
 
-// What an item tells after its head. Its members may be `depth` deep.
+/// What an item tells after its head. Its members may be `depth` deep.
 #[cycle(weigh)]
 #[tactic(auto, unfolding(crate::specs::Reading::body_at))]
 fn body(depth: u64, head: Head, bytes: &[u8]) -> Result<(Weighed, &[u8]), CborRefusal>
@@ -135,7 +135,7 @@ fn told(nesting: Nesting, weight: u64) -> Weighed
     Weighed { nesting, weight }
 }
 
-// Refuses a number that isn't below 2^63.
+/// Refuses a number that isn't below 2^63.
 fn whole(n: u64) -> Result<(), CborRefusal>
     ensures { Exactly (λ unit. n) result (whole_of n) }
 {
@@ -146,7 +146,7 @@ fn whole(n: u64) -> Result<(), CborRefusal>
     }
 }
 
-// What `count` members of an array weigh.
+/// What `count` members of an array weigh.
 #[cycle(weigh)]
 fn members(depth: u64, count: u64, bytes: &[u8]) -> Result<(u64, &[u8]), CborRefusal>
     ensures { Tells (λ x. (x.0, x.1.now)) weight_of_members result (many_at (item_at depth) count bytes.now) }
@@ -161,7 +161,7 @@ fn members(depth: u64, count: u64, bytes: &[u8]) -> Result<(u64, &[u8]), CborRef
     Ok((weight, rest))
 }
 
-// What the members of an array up to its break weigh.
+/// What the members of an array up to its break weigh.
 #[cycle(weigh)]
 fn open_members(depth: u64, bytes: &[u8]) -> Result<(u64, &[u8]), CborRefusal>
     ensures { Tells (λ x. (x.0, x.1.now)) weight_of_members result (open_at (item_at depth) bytes.now) }
@@ -178,7 +178,7 @@ fn open_members(depth: u64, bytes: &[u8]) -> Result<(u64, &[u8]), CborRefusal>
     }
 }
 
-// What `count` pairs of a map weigh.
+/// What `count` pairs of a map weigh.
 #[cycle(weigh)]
 fn pairs(depth: u64, count: u64, bytes: &[u8]) -> Result<(u64, &[u8]), CborRefusal>
     ensures { Tells (λ x. (x.0, x.1.now)) weight_of_pairs result (many_at (pair_at (item_at depth)) count bytes.now) }
@@ -193,7 +193,7 @@ fn pairs(depth: u64, count: u64, bytes: &[u8]) -> Result<(u64, &[u8]), CborRefus
     Ok((weight, rest))
 }
 
-// What the pairs of a map up to its break weigh.
+/// What the pairs of a map up to its break weigh.
 #[cycle(weigh)]
 fn open_pairs(depth: u64, bytes: &[u8]) -> Result<(u64, &[u8]), CborRefusal>
     ensures { Tells (λ x. (x.0, x.1.now)) weight_of_pairs result (open_at (pair_at (item_at depth)) bytes.now) }
@@ -210,7 +210,7 @@ fn open_pairs(depth: u64, bytes: &[u8]) -> Result<(u64, &[u8]), CborRefusal>
     }
 }
 
-// What a key and its value weigh.
+/// What a key and its value weigh.
 #[cycle(weigh)]
 #[tactic(auto, unfolding(crate::specs::Reading::pair_at))]
 fn pair(depth: u64, bytes: &[u8]) -> Result<(u64, &[u8]), CborRefusal>
@@ -221,7 +221,7 @@ fn pair(depth: u64, bytes: &[u8]) -> Result<(u64, &[u8]), CborRefusal>
     Ok((add_capped(key, value.weight), rest))
 }
 
-// How long a key is.
+/// How long a key is.
 #[tactic(auto, unfolding(crate::specs::Reading::key_at))]
 fn key(bytes: &[u8]) -> Result<(u64, &[u8]), CborRefusal>
     ensures { Tells (λ x. (x.0, x.1.now)) long result (key_at bytes.now) }
@@ -233,7 +233,7 @@ fn key(bytes: &[u8]) -> Result<(u64, &[u8]), CborRefusal>
     }
 }
 
-// How long a byte string is.
+/// How long a byte string is.
 #[tactic(auto, unfolding(crate::specs::Reading::octets_at))]
 fn octets(length: Option<u64>, bytes: &[u8]) -> Result<(u64, &[u8]), CborRefusal>
     ensures { Tells (λ x. (x.0, x.1.now)) long result (octets_at length bytes.now) }
@@ -262,7 +262,7 @@ fn chunked_octets(bytes: &[u8]) -> Result<(u64, &[u8]), CborRefusal>
     }
 }
 
-// How long a text is.
+/// How long a text is.
 #[tactic(auto, unfolding(crate::specs::Reading::text_at))]
 fn text(length: Option<u64>, bytes: &[u8]) -> Result<(u64, &[u8]), CborRefusal>
     ensures { Tells (λ x. (x.0, x.1.now)) long result (text_at length bytes.now) }

@@ -57,7 +57,7 @@ impl Builder {
         self.reversed.len()
     }
 
-    // Puts a number, the content and zero bytes in front of all that is there.
+    /// Puts a number, the content and zero bytes in front of all that is there.
     fn put(&mut self, head: u32, content: &[u8], pad: usize) -> Result<Place, AllocError>
         requires { length self.old + (4 + length content.now + pad) < 2 ^ 25 }
         ensures ok { OnOk result (self.new ≡ piece head content.now pad ++ self.old) }

@@ -130,7 +130,7 @@ pub(crate) fn cells(alloc: Global, slots: &[Slot], from: usize) -> Result<Vec<u8
     Ok(bytes)
 }
 
-// Appends the vtable of a table.
+/// Appends the vtable of a table.
 fn push_vtable(bytes: &mut Vec<u8>, slots: &[Slot]) -> Result<(), AllocError>
     requires { length slots.now ≤ 16 }
     ensures ok { OnOk result (bytes.new.items ≡ bytes.old.items ++ layout.vtable slots.now) }
@@ -144,7 +144,7 @@ fn push_vtable(bytes: &mut Vec<u8>, slots: &[Slot]) -> Result<(), AllocError>
     Ok(())
 }
 
-// The vtable's entry of a slot.
+/// The vtable's entry of a slot.
 fn entry(slot: Slot, index: usize) -> u16
     requires { index < 16 }
     ensures { result ≡ layout.entry index slot }

@@ -18,7 +18,7 @@ fn holds_texts(rt: HostRuntime) -> Result<(), Fail> {
     Ok(())
 }
 
-// Short ones stand in the value itself, longer ones outside.
+/// Short ones stand in the value itself, longer ones outside.
 #[test]
 fn holds_short_and_long_ones(rt: HostRuntime) -> Result<(), Fail> {
     let alloc = rt.alloc();

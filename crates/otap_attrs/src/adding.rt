@@ -70,7 +70,7 @@ pub fn add_attributes<P: Attributed>(
     Ok(())
 }
 
-// Parts without their places.
+/// Parts without their places.
 fn parts_alone<'a, C>(alloc: Global, parts: &[Placed<'a, C>]) -> Result<Vec<&'a C>, AllocError>
     ensures { IfOk result (λ found. map (λ part. part.now) found.items ≡ map (λ placed. placed.part.now) parts.now) }
 {

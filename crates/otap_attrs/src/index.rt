@@ -104,7 +104,7 @@ impl PairIndex {
     }
 }
 
-// The part of the entries that has this parent.
+/// The part of the entries that has this parent.
 fn entries_of(entries: &[Entry], parent: u32) -> &[Entry]
     requires { IsNonDecreasingBy (λ (e : Entry). e.parent) entries.now }
     ensures { result.now ≡ of_parent parent entries.now }
@@ -126,7 +126,7 @@ fn check_values<R: Rows>(rows: &R) -> Result<(), RowRefusal>
     Ok(())
 }
 
-// Of each row what its pair weighs.
+/// Of each row what its pair weighs.
 fn weights_of<R: Rows>(alloc: Global, rows: &R) -> Result<Vec<u64>, AllocError>
     requires { has_attributes (R.table rows.now).kind ≡ true }
     ensures { IfOk result (λ weights. weights.items ≡ map row_weight (R.table rows.now).rows) }

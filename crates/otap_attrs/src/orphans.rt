@@ -26,8 +26,8 @@ pub fn has_orphan(
     Ok(found)
 }
 
-// Whether each parent stands among ids at the place that it counts, or else from the place of the parent before it on. Where ids
-// are counted from 0, or where parents and ids rise, each that is there does.
+/// Whether each parent stands among ids at the place that it counts, or else from the place of the parent before it on. Where ids
+/// are counted from 0, or where parents and ids rise, each that is there does.
 fn finds_all(ids: &[Option<u32>], parents: &[Option<u32>]) -> bool
     ensures { result ≡ true → OrphanIn parents.now ids.now → ⊥ }
 {
@@ -47,7 +47,7 @@ fn finds_all(ids: &[Option<u32>], parents: &[Option<u32>]) -> bool
     true
 }
 
-// Whether a number is the id at the place that it counts.
+/// Whether a number is the id at the place that it counts.
 fn stands_at_its_place(ids: &[Option<u32>], number: u32) -> bool
     ensures { result ≡ true → Contains ids.now (Some number) }
 {
@@ -55,7 +55,7 @@ fn stands_at_its_place(ids: &[Option<u32>], number: u32) -> bool
     place < ids.len() && is_number(ids[place], number)
 }
 
-// The first place of a number among ids from a place on, or their end.
+/// The first place of a number among ids from a place on, or their end.
 fn find_from(ids: &[Option<u32>], from: usize, number: u32) -> usize
     requires { from ≤ length ids.now }
     ensures within { result ≤ length ids.now }
@@ -90,7 +90,7 @@ fn numbers(alloc: Global, ids: &[Option<u32>]) -> Result<Vec<u32>, AllocError>
     Ok(found)
 }
 
-// Whether a parent isn't among sorted numbers.
+/// Whether a parent isn't among sorted numbers.
 fn lacks_one(sorted: &[u32], parents: &[Option<u32>]) -> bool
     requires { IsNonDecreasingBy (λ n. n) sorted.now }
     ensures yes { result ≡ true → Lacks parents.now sorted.now }

@@ -126,7 +126,7 @@ pub(crate) fn add_attribute(
     Ok(())
 }
 
-// Writes a cell of the last row, unless it is null.
+/// Writes a cell of the last row, unless it is null.
 #[inline(always)]
 fn fill(table: &mut LogicalTable, column: u32, cell: CellView<'_>) -> Result<(), AllocError>
     requires column { column < width_of table.old.kind }
@@ -149,7 +149,7 @@ fn is_null(cell: CellView<'_>) -> bool
     matches!(cell, CellView::Null)
 }
 
-// The cell of a parent, whose number stands there as it is.
+/// The cell of a parent, whose number stands there as it is.
 fn parent_cell<'a>(parent: u32) -> CellView<'a>
     ensures value { seen result ≡ number (pos parent) }
     ensures fits { IsCellOf (base.Id true) (seen result) }
@@ -157,7 +157,7 @@ fn parent_cell<'a>(parent: u32) -> CellView<'a>
     CellView::Num(i64::from(parent))
 }
 
-// The cell of a key, a text or bytes.
+/// The cell of a key, a text or bytes.
 fn bytes_cell(bytes: &[u8]) -> CellView<'_>
     ensures { seen result ≡ text_cell bytes.now }
 {
@@ -167,7 +167,7 @@ fn bytes_cell(bytes: &[u8]) -> CellView<'_>
     CellView::Bytes(bytes)
 }
 
-// The column of the values of a type.
+/// The column of the values of a type.
 fn value_column(kind: u32) -> u32
     ensures { result ≡ suc (value_place kind) }
 {
@@ -181,7 +181,7 @@ fn value_column(kind: u32) -> u32
     }
 }
 
-// The cell of the value in that column.
+/// The cell of the value in that column.
 fn value_cell<'a>(says: &Attribute<'a>) -> CellView<'a>
     ensures { seen result ≡ said_cell (seen_attribute says.now) }
 {

@@ -12,7 +12,7 @@ use otlp_model::{Items, Pair, Resource, Text, Value, value_weight};
 use std::alloc::{AllocError, Global};
 use std::test::Fail;
 
-// What has this pair, if it weighs little.
+/// What has this pair, if it weighs little.
 #[tactic(auto, using(crate::proofs::PairRows::one_pair))]
 fn parent(alloc: Global, key: &str, value: Value) -> Result<Resource, AllocError>
     ensures { IfOk result (λ parent. total 32 weight_of_pair parent.pairs ≤ weight_limit) }
@@ -30,7 +30,7 @@ fn parent(alloc: Global, key: &str, value: Value) -> Result<Resource, AllocError
     })
 }
 
-// The attributes of log records.
+/// The attributes of log records.
 #[tactic(auto, unfolding(crate::specs::Tables::attribute_table))]
 fn table_of(alloc: Global, parents: &[&Resource]) -> Result<LogicalTable, AllocError>
     requires few { length parents.now ≤ 2 ^ 32 }
@@ -86,7 +86,7 @@ fn a_nested_value_is_written_and_read(rt: HostRuntime) -> Result<(), Fail> {
     Ok(())
 }
 
-// The attributes of two log records: b = "y" and a = "x" of the first, and a = "x" of the second.
+/// The attributes of two log records: b = "y" and a = "x" of the first, and a = "x" of the second.
 fn coded_pairs(alloc: Global) -> Result<LogicalTable, AllocError>
     ensures { IfOk result (λ table. table.kind ≡ LogAttrs) }
 {

@@ -43,7 +43,7 @@ pub fn value_at<R: Rows>(
     }
 }
 
-// The value of the bytes, or the empty one where they have none.
+/// The value of the bytes, or the empty one where they have none.
 fn nested_value(alloc: Global, part: &[u8]) -> Result<Value, AllocError>
     ensures { IfOk result (λ value. value ≡ unwrap_or (value_of part.now) values.Empty) }
 {
@@ -146,7 +146,7 @@ pub fn check_value<R: Rows>(rows: &R, column: u32, row: u64) -> Result<(), RowRe
     }
 }
 
-// Refuses bytes that aren't a value of this shape.
+/// Refuses bytes that aren't a value of this shape.
 fn check_nested(nesting: Nesting, part: &[u8]) -> Result<(), RowRefusal>
     ensures ok { OnOk result ((why : RowRefusal) → BadNested nesting part.now why → ⊥) }
     ensures err { IfErr result (BadNested nesting part.now) }
@@ -162,7 +162,7 @@ fn check_nested(nesting: Nesting, part: &[u8]) -> Result<(), RowRefusal>
     }
 }
 
-// What the value of the bytes weighs, and 0 where they have none.
+/// What the value of the bytes weighs, and 0 where they have none.
 #[tactic(auto, using(crate::proofs::ValueCells::weight_of_empty))]
 fn nested_weight(part: &[u8]) -> u64
     ensures { result ≡ min (weight_of_value (unwrap_or (value_of part.now) values.Empty)) (2 ^ 63) }

@@ -126,7 +126,7 @@ pub fn write_attributes<P: Attributed>(
     coded_table(alloc, kind, &placed)
 }
 
-// The pairs of the parents, one parent after the other.
+/// The pairs of the parents, one parent after the other.
 #[tactic(auto, unfolding(otap_groups::specs::Flat::placed))]
 fn placed_of<'a, P: Attributed>(
     alloc: Global,
@@ -145,7 +145,7 @@ fn placed_of<'a, P: Attributed>(
     Ok(found)
 }
 
-// How many pairs the parents have.
+/// How many pairs the parents have.
 fn pairs_in<P: Attributed>(parents: &[&P]) -> usize {
     parents.iter().fold(
         0,

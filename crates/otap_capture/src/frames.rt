@@ -99,14 +99,14 @@ impl Frames {
         }
     }
 
-    // What stands at the front of the bytes that are kept.
+    /// What stands at the front of the bytes that are kept.
     fn front(&self) -> Front
         ensures { StandsAt self.now.handed self.now.kept result }
     {
         front_at(self.handed, &self.bytes[self.place..])
     }
 
-    // Reads until the next step is decided.
+    /// Reads until the next step is decided.
     fn fill<S: Source>(&mut self, source: &mut S) -> Result<(), FramesRefusal>
         requires { self.old.frame ≡ None }
         ensures fills { Fills self.old self.new (ahead self.old (S.left source.old)) (ahead self.new (S.left source.new)) }
@@ -122,7 +122,7 @@ impl Frames {
         Ok(())
     }
 
-    // Takes one more piece from the source, or finds that it is at its end.
+    /// Takes one more piece from the source, or finds that it is at its end.
     fn read_more<S: Source>(&mut self, source: &mut S) -> Result<(), FramesRefusal>
         requires waiting { IsWaiting self.old }
         requires shown { self.old.frame ≡ None }
@@ -137,8 +137,8 @@ impl Frames {
         Ok(())
     }
 
-    // Gives up the bytes that were handed out, where they are at least as many as those that are kept.
-    // So all bytes that are moved by this are at most those that were read.
+    /// Gives up the bytes that were handed out, where they are at least as many as those that are kept.
+    /// So all bytes that are moved by this are at most those that were read.
     fn let_go(&mut self)
         requires { self.old.frame ≡ None }
         ensures same { SameBut self.old self.new }
@@ -152,7 +152,7 @@ impl Frames {
         }
     }
 
-    // Takes the next step over the bytes that are kept.
+    /// Takes the next step over the bytes that are kept.
     fn cut(&mut self) -> Step
         requires { self.old.frame ≡ None }
         ensures cuts { Cuts self.old self.new result }
@@ -181,7 +181,7 @@ impl Frames {
     }
 }
 
-// Takes the first bytes away, which are at least as many as those that stay.
+/// Takes the first bytes away, which are at least as many as those that stay.
 fn remove_front(bytes: &mut Vec<u8>, count: usize)
     requires there { count ≤ length bytes.old.items }
     requires apart { length bytes.old.items ≤ count + count }
@@ -192,7 +192,7 @@ fn remove_front(bytes: &mut Vec<u8>, count: usize)
     bytes.truncate(kept);
 }
 
-// Copies the last bytes to the front.
+/// Copies the last bytes to the front.
 fn move_front(bytes: &mut [u8], count: usize, kept: usize)
     requires whole { count + kept ≡ length bytes.old }
     requires apart { kept ≤ count }
@@ -203,9 +203,9 @@ fn move_front(bytes: &mut [u8], count: usize, kept: usize)
     place.copy_from_slice(back);
 }
 
-// Appends what one read of the source gives. Returns whether the source is at its end. Room is made
-// before the read, so that a refusal loses nothing. It stays a call of its own, so that a step that reads nothing
-// doesn't touch the stack of its room.
+/// Appends what one read of the source gives. Returns whether the source is at its end. Room is made
+/// before the read, so that a refusal loses nothing. It stays a call of its own, so that a step that reads nothing
+/// doesn't touch the stack of its room.
 #[inline(never)]
 fn read_piece<S: Source>(bytes: &mut Vec<u8>, source: &mut S) -> Result<bool, FramesRefusal>
     ensures piece { GivesPiece bytes.old.items bytes.new.items (S.left source.old) (S.left source.new) result }

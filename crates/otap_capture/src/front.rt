@@ -24,7 +24,7 @@ pub(crate) enum Front {
 }
 
 impl Front {
-    // Whether more bytes could change it.
+    /// Whether more bytes could change it.
     pub(crate) fn is_open(&self) -> bool
         ensures { result ≡ leaves_open self.now }
     {
@@ -48,7 +48,7 @@ pub(crate) fn front_at(place: u64, bytes: &[u8]) -> Front
     }
 }
 
-// What a head is, with that number of bytes after it.
+/// What a head is, with that number of bytes after it.
 fn front_after(byte: u8, size: u32, left: usize) -> Front
     ensures { StandsAfter byte size left result }
 {

@@ -132,7 +132,7 @@ impl MemorySink {
         &self.bytes
     }
 
-    // Counts a call, and a fault where it is one of those that fail. Returns whether it is.
+    /// Counts a call, and a fault where it is one of those that fail. Returns whether it is.
     fn call_fails(&mut self) -> bool
         ensures fails { result ≡ fails self.old.calls }
         ensures after { self.new ≡ record self.old { calls = if result then failed self.old.calls else called self.old.calls } }
@@ -185,7 +185,7 @@ impl Sink for MemorySink {
     }
 }
 
-// How much of a room the call with this number fills at most.
+/// How much of a room the call with this number fills at most.
 fn piece_in(pieces: &[u32], number: u64, room: usize) -> usize
     ensures size { result ≡ size_in (slice_get pieces.now number) room }
     ensures bound { result ≤ room }

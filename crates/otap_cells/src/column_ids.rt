@@ -113,7 +113,7 @@ fn id_in(cell: CellView<'_>) -> Option<u32>
     }
 }
 
-// Whether a parent is null among the numbers of the column.
+/// Whether a parent is null among the numbers of the column.
 fn lacks_parent(kind: Kind, column: u32, numbers: &[Option<u32>]) -> bool
     requires { column < width_of kind }
     ensures { (result ≡ true) ↔ (name_at kind column ≡ codes "parent_id") × Contains numbers.now None }

@@ -84,7 +84,7 @@ pub fn continuing_rows<R: Rows>(alloc: Global, rows: &R) -> Result<Vec<bool>, Al
     Ok(found)
 }
 
-// The same of rows of attributes, each of which is read once.
+/// The same of rows of attributes, each of which is read once.
 fn continuing_attributes<R: Rows>(alloc: Global, rows: &R) -> Result<Vec<bool>, AllocError>
     requires { has_attributes (R.table rows.now).kind ≡ true }
     ensures { IfOk result (λ found. found.items ≡ continues_in (R.table rows.now)) }
@@ -113,7 +113,7 @@ pub fn continues<R: Rows>(rows: &R, row: u64) -> bool
     row > 0 && again(rows, row - 1, row)
 }
 
-// Whether a row continues the run of an earlier one that stands before it.
+/// Whether a row continues the run of an earlier one that stands before it.
 #[tactic(auto, using(crate::proofs::AttributeColumns::attribute_width, crate::proofs::AttributeColumns::event_width, crate::proofs::AttributeColumns::link_width, crate::proofs::Flags::after_two))]
 fn again<R: Rows>(rows: &R, before: u64, row: u64) -> bool
     requires before { before < length (R.table rows.now).rows }

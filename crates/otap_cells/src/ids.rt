@@ -103,7 +103,7 @@ fn numbers(alloc: Global, ids: &[Option<u32>]) -> Result<Vec<u32>, AllocError>
     Ok(found)
 }
 
-// Whether two neighbours are equal.
+/// Whether two neighbours are equal.
 fn has_pair(numbers: &[u32]) -> bool
     ensures yes { result ≡ true → HasPair numbers.now }
     ensures no { result ≡ false → HasPair numbers.now → ⊥ }
@@ -116,7 +116,7 @@ fn has_pair(numbers: &[u32]) -> bool
     false
 }
 
-// Writes the stored numbers of ids.
+/// Writes the stored numbers of ids.
 fn code(how: Coding, ids: &mut [Option<u32>], continues: &[bool])
     requires { Rise how continues.now ids.old }
     ensures stored { ids.new ≡ stored_after how 0 continues.now ids.old }
@@ -163,7 +163,7 @@ pub fn undo(how: Coding, ids: &mut [Option<u32>], continues: &[bool], last: u32)
     true
 }
 
-// The sum, where it is at most `last`.
+/// The sum, where it is at most `last`.
 fn next_id(base: u32, number: u32, last: u32) -> Option<u32>
     ensures { MatchOption result (last < base + number) (λ id. (id ≡ base + number) × (id ≤ last)) }
 {
@@ -184,7 +184,7 @@ fn base(how: Coding, continues: bool, before: u32) -> u32
     }
 }
 
-// Whether a row without an id is passed over.
+/// Whether a row without an id is passed over.
 fn takes_null(how: Coding) -> bool
     ensures { result ≡ takes_null how }
 {
@@ -194,7 +194,7 @@ fn takes_null(how: Coding) -> bool
     }
 }
 
-// Whether a row continues the run of the one before; one that nothing is told of doesn't.
+/// Whether a row continues the run of the one before; one that nothing is told of doesn't.
 fn continues_at(continues: &[bool], place: usize) -> bool
     ensures { result ≡ goes_on (drop place continues.now) }
 {

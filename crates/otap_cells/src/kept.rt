@@ -50,14 +50,14 @@ impl Cells {
         }
     }
 
-    // How many rows there are up to the last one that was set.
+    /// How many rows there are up to the last one that was set.
     pub fn reach(&self) -> u64
         ensures { result ≡ length self.now }
     {
         self.slots.len() as u64
     }
 
-    // The cell of a row, null past the last one.
+    /// The cell of a row, null past the last one.
     pub fn get(&self, row: usize) -> CellView<'_>
         ensures { seen result ≡ slice_index_or self.now row null }
     {
@@ -73,8 +73,8 @@ impl Cells {
         }
     }
 
-    // Writes the cell of a row after which no cell stands. The bytes of a cell that stood there keep their room. With the first
-    // cell comes the room for that many.
+    /// Writes the cell of a row after which no cell stands. The bytes of a cell that stood there keep their room. With the first
+    /// cell comes the room for that many.
     #[inline(always)]
     pub fn set(&mut self, row: usize, cell: CellView<'_>, room: usize) -> Result<(), AllocError>
         requires last { length self.old ≤ row + 1 }
@@ -93,7 +93,7 @@ impl Cells {
     }
 }
 
-// Puts a slot after the others.
+/// Puts a slot after the others.
 #[inline(always)]
 fn push_slot(slots: &mut Vec<Slot>, slot: Slot, room: usize) -> Result<(), AllocError>
     ensures ok { OnOk result (slots.new.items ≡ slots.old.items ++ slot ∷ []) }
@@ -115,7 +115,7 @@ fn part_of(bytes: &[u8], from: u32, len: u32) -> &[u8]
     &bytes[from..from + len]
 }
 
-// The slot of a cell, whose bytes come after those that are kept. A column has room for less than 2^32 bytes.
+/// The slot of a cell, whose bytes come after those that are kept. A column has room for less than 2^32 bytes.
 #[inline(always)]
 fn keep(kept: &mut Vec<u8>, cell: CellView<'_>, room: usize) -> Result<Slot, AllocError>
     ensures ok { OnOk result (kept.new.items ≡ kept.old.items ++ bytes_in (seen cell.entry)) }
@@ -140,7 +140,7 @@ fn keep(kept: &mut Vec<u8>, cell: CellView<'_>, room: usize) -> Result<Slot, All
     }
 }
 
-// The room in bytes that comes with a column's first cell of bytes.
+/// The room in bytes that comes with a column's first cell of bytes.
 fn bytes_room(len: usize, room: usize) -> usize {
     len.saturating_mul(room).min(MAX_ROOM)
 }

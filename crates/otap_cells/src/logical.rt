@@ -164,7 +164,7 @@ fn is_null(cell: CellView<'_>) -> bool
     matches!(cell, CellView::Null)
 }
 
-// Adds columns without cells until there is that number of them.
+/// Adds columns without cells until there is that number of them.
 fn widen(alloc: Global, columns: &mut Vec<Cells>, width: usize) -> Result<(), AllocError>
     requires { length columns.old.items ≤ width }
     ensures ok { OnOk result (length columns.new.items ≡ width) }

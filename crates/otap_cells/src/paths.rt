@@ -33,7 +33,7 @@ fn some_dot(path: &[&[u8]]) -> bool
     false
 }
 
-// Whether the names, joined by dots, are this one.
+/// Whether the names, joined by dots, are this one.
 fn is_joined(path: &[&[u8]], dotted: &[u8]) -> bool
     ensures { result ≡ bytes_eq (join_with_byte 46 (map (λ name. name.now) path.now)) dotted.now }
 {
@@ -49,7 +49,7 @@ fn is_joined(path: &[&[u8]], dotted: &[u8]) -> bool
     }
 }
 
-// What stands after the name and a dot.
+/// What stands after the name and a dot.
 fn behind_dot<'a>(dotted: &'a [u8], name: &[u8]) -> Option<&'a [u8]>
     ensures { MatchOption result ((rest : List ℕ) → dotted.now ≢ name.now ++ 46 ∷ rest) (λ rest. dotted.now ≡ name.now ++ 46 ∷ rest.now) }
 {

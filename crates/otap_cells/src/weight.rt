@@ -37,7 +37,7 @@ fn table_weight<R: Rows>(rows: &R) -> u64
     total
 }
 
-// The bytes of a column's cells. A column of another base isn't visited.
+/// The bytes of a column's cells. A column of another base isn't visited.
 fn column_weight<R: Rows>(rows: &R, column: u32) -> u64
     requires { column < width_of (R.table rows.now).kind }
     ensures { result ≡ min (sum_by cell_weight (column_in (R.table rows.now).rows column)) (2 ^ 63) }

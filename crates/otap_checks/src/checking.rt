@@ -83,7 +83,7 @@ fn check_link(alloc: Global, known: &KnownIds, link: &Link) -> Result<(), CheckR
     Ok(())
 }
 
-// Whether two rows have one id.
+/// Whether two rows have one id.
 fn has_id_twice(alloc: Global, known: &KnownIds, link: &Link) -> Result<bool, AllocError>
     ensures yes { IfOk result (λ found. found ≡ true → OwnTwice known.now.columns.items link.now link.now.own) }
     ensures no { IfOk result (λ found. found ≡ false → OwnTwice known.now.columns.items link.now link.now.own → ⊥) }
@@ -95,7 +95,7 @@ fn has_id_twice(alloc: Global, known: &KnownIds, link: &Link) -> Result<bool, Al
     Ok(found)
 }
 
-// Whether a row has a parent that isn't there.
+/// Whether a row has a parent that isn't there.
 fn has_lost_row(alloc: Global, known: &KnownIds, link: &Link) -> Result<bool, AllocError>
     ensures yes { IfOk result (λ found. found ≡ true → IsLost known.now.columns.items link.now link.now.parents) }
     ensures no { IfOk result (λ found. found ≡ false → IsLost known.now.columns.items link.now link.now.parents → ⊥) }

@@ -48,7 +48,7 @@ fn find(known: &[ColumnIds], kind: Kind, column: u32) -> &[Option<u32>]
     &[]
 }
 
-// Reads the ids of the tables that hang together in these ways.
+/// Reads the ids of the tables that hang together in these ways.
 #[tactic(auto, using(crate::proofs::KnownSteps::column_refusal))]
 pub(crate) fn read_tables<R: Rows>(
     alloc: Global,
@@ -67,7 +67,7 @@ pub(crate) fn read_tables<R: Rows>(
     Ok(KnownIds { columns: known })
 }
 
-// Reads the ids of the table of a kind.
+/// Reads the ids of the table of a kind.
 fn read_table<R: Rows>(
     alloc: Global,
     set: &TableSet<R>,
@@ -99,7 +99,7 @@ fn keep(known: &mut Vec<ColumnIds>, ids: ColumnIds) -> Result<(), AllocError>
     Ok(())
 }
 
-// The ids of a column. A table that isn't there has none.
+/// The ids of a column. A table that isn't there has none.
 fn read_column<R: Rows>(
     alloc: Global,
     set: &TableSet<R>,

@@ -66,7 +66,7 @@ fn long(value: &[u8]) -> u64
     LittleEndian::read_u64(value)
 }
 
-// A number of 16 or 32 bits.
+/// A number of 16 or 32 bits.
 #[inline(always)]
 fn id(value: &[u8]) -> u32
     requires { (length value.now ≡ 2) ⊎ (length value.now ≡ 4) }

@@ -32,7 +32,7 @@ pub(crate) fn empty(alloc: Global, arrays: &Arrays) -> Result<Vec<Dictionary>, A
     Ok(dictionaries)
 }
 
-// Adds the dictionary of an array, unless there is none, or it is there.
+/// Adds the dictionary of an array, unless there is none, or it is there.
 fn add(
     alloc: Global,
     dictionaries: &mut Vec<Dictionary>,

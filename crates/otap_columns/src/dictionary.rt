@@ -107,7 +107,7 @@ impl Dictionary {
         Ok(())
     }
 
-    // Takes the values of a batch: a delta is appended, another batch replaces what was there.
+    /// Takes the values of a batch: a delta is appended, another batch replaces what was there.
     fn take(&mut self, delta: bool, batch: &BatchView<'_>) -> Result<(), ColumnRefusal>
         ensures ok { OnOk result (self.new ≡ grown delta batch.now self.old) }
         ensures fine { OnOk result (IsOk (array_check batch.now (place_of_values self.old.kind))) }
@@ -125,7 +125,7 @@ impl Dictionary {
         Ok(())
     }
 
-    // Forgets the values, unless those that come are a delta.
+    /// Forgets the values, unless those that come are a delta.
     fn begin(&mut self, delta: bool)
         ensures { self.new ≡ record self.old { values = kept delta self.old.values } }
     {
@@ -135,7 +135,7 @@ impl Dictionary {
         }
     }
 
-    // Appends the cells of an array.
+    /// Appends the cells of an array.
     fn append(&mut self, array: ArrayPlace, batch: &BatchView<'_>) -> Result<(), AllocError>
         requires array { array ≡ place_of_values self.old.kind }
         requires fine { IsOk (array_check batch.now array) }
@@ -150,7 +150,7 @@ impl Dictionary {
         Ok(())
     }
 
-    // Appends a value. Where there are too many bytes there is no room for it.
+    /// Appends a value. Where there are too many bytes there is no room for it.
     fn push(&mut self, value: Option<&[u8]>) -> Result<(), AllocError>
         requires { length self.old.values < value_limit }
         ensures ok { OnOk result (self.new ≡ record self.old { values = self.old.values ++ option_copied value.entry ∷ [] }) }

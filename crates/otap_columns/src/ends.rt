@@ -40,7 +40,7 @@ fn part(bytes: &[u8], from: usize, to: usize) -> &[u8]
     &bytes[from..to]
 }
 
-// Where the value at a place begins.
+/// Where the value at a place begins.
 fn start(ends: &[End], place: usize) -> usize
     requires { place < length ends.now }
     ensures { result ≡ start_of 0 ends.now place }

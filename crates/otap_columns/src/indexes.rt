@@ -43,7 +43,7 @@ fn fit_at(arrays: &Arrays, dictionaries: &[Dictionary], batch: &BatchView<'_>, p
     are_below(&column, batch.rows(), count)
 }
 
-// Whether the indexes of a column are below a number.
+/// Whether the indexes of a column are below a number.
 fn are_below(column: &ColumnView<'_>, rows: u64, count: usize) -> bool
     requires { HasIndexSizes column.now }
     ensures { result ≡ all_below (λ row. is_index_below count (cell_seen column.now row)) rows }

@@ -81,7 +81,7 @@ pub(crate) fn columns_fit(kind: Kind, arrays: &Arrays, known: &[Option<u32>]) ->
     true
 }
 
-// The type of the elements of a list whose array stands at a place.
+/// The type of the elements of a list whose array stands at a place.
 fn elements(arrays: &Arrays, place: usize) -> Option<ArrowType>
     requires { place < max_fields }
     ensures { result ≡ elements_at arrays.now place }
@@ -143,7 +143,7 @@ fn is_allowed(column: &Column, encoding: Encoding) -> bool
     }
 }
 
-// Whether a type stores the values of a base; `elements` is that of a list's elements.
+/// Whether a type stores the values of a base; `elements` is that of a list's elements.
 fn stores(base: Base, kind: ArrowType, elements: Option<ArrowType>) -> bool
     ensures { result ≡ stores base kind elements }
 {

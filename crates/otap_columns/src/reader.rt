@@ -117,7 +117,7 @@ impl Reader {
     ghost use Rattle.otap_columns.specs.Reading.{RefusesOpen, opened, PassesRows, TakesBatch, RefusesMessage, TakesFront, RefusesFront, TakesRecord, RefusesRecord, FitsRows, RefusesRows};
     ghost use Rattle.otap_columns.specs.Views.{Keeps};
 
-    // A reader of a sub-stream with this schema, before any dictionary batch.
+    /// A reader of a sub-stream with this schema, before any dictionary batch.
     fn open(alloc: Global, kind: Kind, schema: &SchemaSpec) -> Result<Reader, ColumnRefusal>
         requires { IsReadable schema.now }
         ensures ok { IfOk result (λ reader. reader ≡ record { kind = kind; substream = opened schema.now; place = 0; broken = false }) }
@@ -142,7 +142,7 @@ impl Reader {
         })
     }
 
-    // Takes the messages of a record, those after the schema.
+    /// Takes the messages of a record, those after the schema.
     fn take_messages(&mut self, messages: &mut Messages<'_>) -> Result<(), ColumnRefusal>
         ensures ok { OnOk result (TakesRecord self.old messages.old self.new) }
         ensures kept { Keeps self.old self.new }
@@ -154,7 +154,7 @@ impl Reader {
         Ok(())
     }
 
-    // Takes the dictionary batches, and returns the record batch after them.
+    /// Takes the dictionary batches, and returns the record batch after them.
     fn take_dictionaries<'a>(
         &mut self,
         messages: &mut Messages<'a>,
@@ -171,7 +171,7 @@ impl Reader {
         }
     }
 
-    // Takes a dictionary batch, or returns a record batch.
+    /// Takes a dictionary batch, or returns a record batch.
     fn take_message<'a>(
         &mut self,
         messages: &mut Messages<'a>,
@@ -192,7 +192,7 @@ impl Reader {
         }
     }
 
-    // That the buffers of a record batch have no fault, and its indexes lead to values.
+    /// That the buffers of a record batch have no fault, and its indexes lead to values.
     fn check_rows(&self, batch: &BatchView<'_>) -> Result<(), ColumnRefusal>
         ensures ok { OnOk result (FitsRows self.now.substream batch.now) }
         ensures err { IfErr result (RefusesRows self.now.substream batch.now) }
@@ -247,7 +247,7 @@ impl Reader {
         }
     }
 
-    // The column of the field at a place, whose cells hold a base.
+    /// The column of the field at a place, whose cells hold a base.
     fn field<'v>(&'v self, batch: &BatchView<'v>, place: usize, base: Base) -> ResolvedColumn<'v>
         requires { IsOk (arrays_check batch.now self.now.substream.arrays) }
         ensures field { IsField self.now.substream batch.now place result }
@@ -265,7 +265,7 @@ impl Reader {
         }
     }
 
-    // The array of a column.
+    /// The array of a column.
     #[tactic(auto, unfolding(crate::specs::Known::array_of))]
     fn array(&self, column: u32) -> Option<&ArraySpec>
         requires { column < width_of self.now.kind }
@@ -277,7 +277,7 @@ impl Reader {
         }
     }
 
-    // The place of the array of a column.
+    /// The place of the array of a column.
     fn place_of(&self, column: u32) -> Option<usize>
         requires { column < width_of self.now.kind }
         ensures { result ≡ place_at self.now.kind self.now.substream.arrays column }

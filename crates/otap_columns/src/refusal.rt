@@ -55,7 +55,7 @@ impl From<IpcFault> for ColumnRefusal {
 
     ghost from_gives = { λ fault refusal. refusal ≡ refusal_of fault };
 
-    // Want of memory is a refusal of its own.
+    /// Want of memory is a refusal of its own.
     fn from(fault: IpcFault) -> ColumnRefusal {
         match fault {
             IpcFault::Memory(e) => ColumnRefusal::Memory(e),

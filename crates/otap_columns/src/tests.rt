@@ -7,7 +7,7 @@ use otap_cells::{CellView, Kind, Rows, columns};
 use std::alloc::{AllocError, Global};
 use std::test::Fail;
 
-// A column of texts that has a dictionary.
+/// A column of texts that has a dictionary.
 fn put_schema(alloc: Global, to: &mut Vec<u8>) -> Result<(), AllocError> {
     let mut spec = SchemaSpec::new(alloc);
     spec.push(FieldSpec {
@@ -20,7 +20,7 @@ fn put_schema(alloc: Global, to: &mut Vec<u8>) -> Result<(), AllocError> {
     write_schema(to, &spec)
 }
 
-// A batch of two texts, `a` and `bc`.
+/// A batch of two texts, `a` and `bc`.
 fn put_two(alloc: Global, to: &mut Vec<u8>) -> Result<(), AllocError> {
     let mut batch = BatchBuilder::new(alloc, 2);
     batch.add(2, 0)?;
@@ -30,7 +30,7 @@ fn put_two(alloc: Global, to: &mut Vec<u8>) -> Result<(), AllocError> {
     batch.finish_dictionary(to, 7, false)
 }
 
-// One more text, `d`.
+/// One more text, `d`.
 fn put_delta(alloc: Global, to: &mut Vec<u8>) -> Result<(), AllocError> {
     let mut batch = BatchBuilder::new(alloc, 1);
     batch.add(1, 0)?;
@@ -40,7 +40,7 @@ fn put_delta(alloc: Global, to: &mut Vec<u8>) -> Result<(), AllocError> {
     batch.finish_dictionary(to, 7, true)
 }
 
-// A record batch of one row.
+/// A record batch of one row.
 fn put_row(alloc: Global, to: &mut Vec<u8>, index: u8) -> Result<(), AllocError> {
     let mut batch = BatchBuilder::new(alloc, 1);
     batch.add(1, 0)?;
@@ -49,7 +49,7 @@ fn put_row(alloc: Global, to: &mut Vec<u8>, index: u8) -> Result<(), AllocError>
     batch.finish_rows(to)
 }
 
-// The cell of a row in the column `key`.
+/// The cell of a row in the column `key`.
 fn key<R: Rows>(rows: &R, row: u64) -> Option<CellView<'_>> {
     if columns(rows.kind()).len() < 2 || rows.rows() <= row {
         return None;
@@ -57,7 +57,7 @@ fn key<R: Rows>(rows: &R, row: u64) -> Option<CellView<'_>> {
     Some(rows.cell(1, row))
 }
 
-// The bytes of that cell, which outlive the view.
+/// The bytes of that cell, which outlive the view.
 fn key_part<'v>(reader: &'v Reader, bytes: &'v [u8], row: u64) -> Option<&'v [u8]>
     requires { Shows reader.now bytes.now }
 {

@@ -85,7 +85,7 @@ impl Writer {
     }
 }
 
-// Before the first table, what is kept of the columns is made.
+/// Before the first table, what is kept of the columns is made.
 fn begin(
     alloc: Global,
     kind: Kind,
@@ -100,7 +100,7 @@ fn begin(
     Ok(())
 }
 
-// Columns that had no value.
+/// Columns that had no value.
 fn unseen_columns(alloc: Global, kind: Kind) -> Result<Vec<SeenColumn>, AllocError>
     ensures { IfOk result (λ seen. AreSeen kind [] seen.items) }
 {
@@ -112,7 +112,7 @@ fn unseen_columns(alloc: Global, kind: Kind) -> Result<Vec<SeenColumn>, AllocErr
     Ok(seen)
 }
 
-// The record of one more table, after those that the columns were observed in.
+/// The record of one more table, after those that the columns were observed in.
 fn write_next(
     alloc: Global,
     started: bool,
@@ -136,7 +136,7 @@ fn write_next(
     Ok(Written { opens, bytes })
 }
 
-// The forms of the columns.
+/// The forms of the columns.
 fn forms_of(alloc: Global, kind: Kind, seen: &[SeenColumn]) -> Result<Vec<ColumnForm>, AllocError>
     requires count { length seen.now ≡ width_of kind }
     ensures { IfOk result (λ forms. AreForms kind seen.now forms.items) }
@@ -150,7 +150,7 @@ fn forms_of(alloc: Global, kind: Kind, seen: &[SeenColumn]) -> Result<Vec<Column
     Ok(forms)
 }
 
-// How many values the dictionary of each column has.
+/// How many values the dictionary of each column has.
 fn counts_of(alloc: Global, kind: Kind, seen: &[SeenColumn]) -> Result<Vec<u32>, AllocError>
     requires count { length seen.now ≡ width_of kind }
     ensures { IfOk result (λ counts. AreCounts kind seen.now counts.items) }
@@ -164,7 +164,7 @@ fn counts_of(alloc: Global, kind: Kind, seen: &[SeenColumn]) -> Result<Vec<u32>,
     Ok(counts)
 }
 
-// Observes all columns of a table.
+/// Observes all columns of a table.
 fn observe_all(
     alloc: Global,
     seen: &mut [SeenColumn],
@@ -181,7 +181,7 @@ fn observe_all(
     Ok(())
 }
 
-// Whether a record opens a sub-stream: the first one, and one for which the form of a column changed.
+/// Whether a record opens a sub-stream: the first one, and one for which the form of a column changed.
 fn is_opening(started: bool, before: &[ColumnForm], after: &[ColumnForm]) -> bool
     ensures stays { result ≡ false → (started ≡ true) × (before.now ≡ after.now) }
     ensures goes_on { started ≡ true → before.now ≡ after.now → result ≡ false }
@@ -189,7 +189,7 @@ fn is_opening(started: bool, before: &[ColumnForm], after: &[ColumnForm]) -> boo
     !started || !are_same(before, after)
 }
 
-// Whether two lists of forms are the same.
+/// Whether two lists of forms are the same.
 fn are_same(before: &[ColumnForm], after: &[ColumnForm]) -> bool
     ensures yes { result ≡ true → before.now ≡ after.now }
     ensures no { before.now ≡ after.now → result ≡ true }

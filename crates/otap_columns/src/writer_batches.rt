@@ -38,7 +38,7 @@ pub(crate) fn add_dictionary(
     batch.finish_dictionary(to, id, delta)
 }
 
-// The values of a ladder from a place on, as a column.
+/// The values of a ladder from a place on, as a column.
 fn values_column(
     alloc: Global,
     width: Width,

@@ -58,7 +58,7 @@ pub(crate) fn bytes_for(base: Base, form: ColumnForm, cell: CellView<'_>) -> Cel
     }
 }
 
-// A number of a base that has numbers.
+/// A number of a base that has numbers.
 fn number_bytes<'a>(base: Base, form: ColumnForm, n: i64) -> CellBytes<'a>
     requires base { IsNumberOf base n }
     requires fits { FitsForm base form (number n) }
@@ -75,7 +75,7 @@ fn number_bytes<'a>(base: Base, form: ColumnForm, n: i64) -> CellBytes<'a>
     }
 }
 
-// An id: 4 bytes where the form is wide, else 2.
+/// An id: 4 bytes where the form is wide, else 2.
 fn id_bytes<'a>(form: ColumnForm, id: u32) -> CellBytes<'a>
     requires { id < 2 ^ id_bits form }
     ensures { shown result ≡ Some (little_bytes (id_width form) id) }
@@ -201,7 +201,7 @@ pub(crate) fn unset_rows(table: &LogicalTable, column: u32, count: u64) -> u64
     count
 }
 
-// Whether a cell is null.
+/// Whether a cell is null.
 fn is_null(cell: CellView<'_>) -> bool
     ensures { result ≡ true → seen cell.entry ≡ null }
 {

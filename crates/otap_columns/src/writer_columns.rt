@@ -74,7 +74,7 @@ pub(crate) fn column_for(
     }
 }
 
-// A column that is written as its values. The nulls before the first cell that was set and after the last one are added at once.
+/// A column that is written as its values. The nulls before the first cell that was set and after the last one are added at once.
 fn values_for(
     alloc: Global,
     table: &LogicalTable,
@@ -100,8 +100,8 @@ fn values_for(
     Ok(built)
 }
 
-// A column that is written as indexes: the places of its values. The nulls before the first place and after the last one are
-// added at once.
+/// A column that is written as indexes: the places of its values. The nulls before the first place and after the last one are
+/// added at once.
 fn indexes_for(
     alloc: Global,
     form: ColumnForm,
@@ -124,7 +124,7 @@ fn indexes_for(
     Ok(built)
 }
 
-// How many rows there are before the first one that has a place.
+/// How many rows there are before the first one that has a place.
 fn unplaced_rows(places: &[Option<u32>]) -> usize
     ensures within { result ≤ length places.now }
     ensures none { (row : ℕ) → row < result → slice_index_or places.now row None ≡ None }
@@ -137,7 +137,7 @@ fn unplaced_rows(places: &[Option<u32>]) -> usize
     places.len()
 }
 
-// How many bytes an index has.
+/// How many bytes an index has.
 fn index_width(form: ColumnForm) -> u32
     ensures { result ≡ index_width form }
 {
@@ -177,7 +177,7 @@ fn add_spans(batch: &mut BatchBuilder, offsets: &[u8], values: &[u8]) -> Result<
     Ok(())
 }
 
-// The elements of lists have a node of their own, and no null.
+/// The elements of lists have a node of their own, and no null.
 fn add_lists(batch: &mut BatchBuilder, offsets: &[u8], values: &[u8]) -> Result<(), AllocError>
     requires nodes { length batch.old.nodes < max_parts }
     requires few { length batch.old.buffers + 3 ≤ max_parts }

@@ -42,7 +42,7 @@ pub(crate) fn has_wide_id(
     has_above(alloc, table, column)
 }
 
-// The same, told by the ids themselves.
+/// The same, told by the ids themselves.
 fn has_above(alloc: Global, table: &LogicalTable, column: u32) -> Result<bool, AllocError>
     requires id { is_id_at table.now.kind column ≡ true }
     requires coded { coding_in table.now column ≡ coding_at table.now.kind column }
@@ -61,8 +61,8 @@ fn is_above(ids: &[Option<u32>]) -> bool
     ids.iter().any(|id| matches!(id, Some(id) if *id > 65_535))
 }
 
-// Whether the sums of the stored numbers show that no id needs more than 16 bits. Takes no memory, and looks at no row after the
-// last one in which the column was set.
+/// Whether the sums of the stored numbers show that no id needs more than 16 bits. Takes no memory, and looks at no row after the
+/// last one in which the column was set.
 fn are_narrow(table: &LogicalTable, column: u32) -> bool
     requires column { column < width_of table.now.kind }
     requires id { is_id_at table.now.kind column ≡ true }
@@ -82,7 +82,7 @@ fn are_narrow(table: &LogicalTable, column: u32) -> bool
     true
 }
 
-// A bound of the id before a row taken to one of the id before the next row, where it is seen to need no more than 16 bits.
+/// A bound of the id before a row taken to one of the id before the next row, where it is seen to need no more than 16 bits.
 fn most_after(
     table: &LogicalTable,
     column: u32,
@@ -107,7 +107,7 @@ fn most_after(
     if next > MAX_NARROW { None } else { Some(next) }
 }
 
-// A row without an id is passed over, but where ids are stored in runs.
+/// A row without an id is passed over, but where ids are stored in runs.
 fn without_id(coding: Coding, most: u64) -> Option<u64>
     ensures { IfSome result (λ next. (next ≡ most) × (takes_null coding ≡ true)) }
 {
@@ -117,7 +117,7 @@ fn without_id(coding: Coding, most: u64) -> Option<u64>
     }
 }
 
-// The number that a cell of a column of ids stores.
+/// The number that a cell of a column of ids stores.
 fn id_of(base: Base, cell: CellView<'_>) -> Option<u32>
     requires base { IsCellOf base (seen cell) }
     requires id { is_id base ≡ true }
@@ -129,7 +129,7 @@ fn id_of(base: Base, cell: CellView<'_>) -> Option<u32>
     }
 }
 
-// A bound of the id for which a number is stored, told by one of the id before it.
+/// A bound of the id for which a number is stored, told by one of the id before it.
 fn most_with(table: &LogicalTable, coding: Coding, row: u64, most: u64, number: u32) -> u64
     requires row { row < length table.now.rows }
     requires most { most ≤ 65535 }
@@ -144,7 +144,7 @@ fn most_with(table: &LogicalTable, coding: Coding, row: u64, most: u64, number: 
     }
 }
 
-// Whether a run begins at a row. It is looked at only where the sum is large.
+/// Whether a run begins at a row. It is looked at only where the sum is large.
 fn begins(table: &LogicalTable, row: u64, sum: u64) -> bool
     requires { row < length table.now.rows }
     ensures { result ≡ true → goes_on (drop row (continues_in table.now)) ≡ false }

@@ -22,7 +22,7 @@ use otap_cells::{Kind, LogicalTable, Rows, base_of, columns};
 use otap_dicts::Ladder;
 use std::alloc::{AllocError, Global};
 
-// Appends the schema of a table whose columns have these forms, where the record opens a sub-stream.
+/// Appends the schema of a table whose columns have these forms, where the record opens a sub-stream.
 fn add_opening(
     alloc: Global,
     to: &mut Vec<u8>,
@@ -42,14 +42,14 @@ fn add_opening(
     write_schema(to, &schema)
 }
 
-// Whether the values of a column are written from a place on.
+/// Whether the values of a column are written from a place on.
 fn is_sent(opening: bool, form: ColumnForm, ladder: &Ladder, from: u32) -> bool
     ensures { result ≡ is_sent opening form (drop from ladder.now.values) }
 {
     is_dictionary(form) && (opening || from < ladder.count())
 }
 
-// Appends the values of a column from a place on, where it is a dictionary and has some.
+/// Appends the values of a column from a place on, where it is a dictionary and has some.
 fn add_head(
     alloc: Global,
     to: &mut Vec<u8>,
@@ -81,7 +81,7 @@ fn add_head(
     )
 }
 
-// From which value on a column is written.
+/// From which value on a column is written.
 fn from_of(opening: bool, counts: &[u32], column: u32) -> u32
     ensures { result ≡ from_in opening counts.now column }
 {
@@ -94,7 +94,7 @@ fn from_of(opening: bool, counts: &[u32], column: u32) -> u32
     }
 }
 
-// Appends the dictionaries of a table.
+/// Appends the dictionaries of a table.
 fn add_heads(
     alloc: Global,
     to: &mut Vec<u8>,

@@ -21,7 +21,7 @@ use otap_cells::{LogicalTable, Rows, base_of};
 use otap_dicts::Ladder;
 use std::alloc::{AllocError, Global};
 
-// Adds a struct in which no row is null.
+/// Adds a struct in which no row is null.
 #[tactic(auto, using(crate::proofs::BatchGrown::struct_grows))]
 fn add_struct(batch: &mut BatchBuilder, rows: u64) -> Result<(), AllocError>
     requires room { HasRoom batch.old 1 0 }
@@ -34,7 +34,7 @@ fn add_struct(batch: &mut BatchBuilder, rows: u64) -> Result<(), AllocError>
     Ok(())
 }
 
-// Adds a column of a table, where it is there.
+/// Adds a column of a table, where it is there.
 fn add_member(
     alloc: Global,
     batch: &mut BatchBuilder,
@@ -60,7 +60,7 @@ fn add_member(
     add_column(batch, width, &buffers)
 }
 
-// What is kept of a column.
+/// What is kept of a column.
 fn seen_at(columns: &[SeenColumn], column: u32) -> &SeenColumn
     requires { column < length columns.now }
     ensures { result.now ≡ slice_index_or columns.now column unseen }
@@ -68,7 +68,7 @@ fn seen_at(columns: &[SeenColumn], column: u32) -> &SeenColumn
     &columns[column as usize]
 }
 
-// The ladder of a column.
+/// The ladder of a column.
 pub(crate) fn ladder_at(columns: &[SeenColumn], column: u32) -> &Ladder
     requires { column < length columns.now }
     ensures { result.now ≡ (slice_index_or columns.now column unseen).ladder }
@@ -77,7 +77,7 @@ pub(crate) fn ladder_at(columns: &[SeenColumn], column: u32) -> &Ladder
     &seen.ladder
 }
 
-// Adds the columns of a struct that are there.
+/// Adds the columns of a struct that are there.
 fn add_members(
     alloc: Global,
     batch: &mut BatchBuilder,
@@ -98,7 +98,7 @@ fn add_members(
     Ok(())
 }
 
-// Whether one of the columns is there.
+/// Whether one of the columns is there.
 fn any_there(forms: &[ColumnForm], members: &[Member]) -> bool
     ensures { result ≡ list_any (λ member. is_there (forms_in forms.now member.column)) members.now }
 {
@@ -107,7 +107,7 @@ fn any_there(forms: &[ColumnForm], members: &[Member]) -> bool
         .any(|member| is_there(form_of(forms, member.column)))
 }
 
-// Adds a struct and its columns, where one is there.
+/// Adds a struct and its columns, where one is there.
 fn add_under(
     alloc: Global,
     batch: &mut BatchBuilder,

@@ -63,7 +63,7 @@ fn add_member(
     schema.push(leaf_field(alloc, kind, forms, member)?)
 }
 
-// A struct is there where one of its columns is.
+/// A struct is there where one of its columns is.
 fn add_struct(
     alloc: Global,
     schema: &mut SchemaSpec,
@@ -143,7 +143,7 @@ fn leaf_field(
     })
 }
 
-// The child of a list.
+/// The child of a list.
 fn items(alloc: Global, item: Option<ArrowType>) -> Result<FieldList<FieldSpec>, AllocError>
     ensures { IfOk result (λ fields. fields ≡ branches.items_of item) }
 {
@@ -216,7 +216,7 @@ fn int(bits: u8, signed: bool) -> ArrowType
     ArrowType::Int { bits, signed }
 }
 
-// The type of the elements of a list.
+/// The type of the elements of a list.
 fn item_of(base: Base) -> Option<ArrowType>
     ensures { result ≡ item_in base }
 {
@@ -227,7 +227,7 @@ fn item_of(base: Base) -> Option<ArrowType>
     }
 }
 
-// The id of a column's dictionary is its place among the columns.
+/// The id of a column's dictionary is its place among the columns.
 fn dict_of(column: u32, form: ColumnForm) -> Option<DictSpec>
     ensures { result ≡ dict_for column form }
 {

@@ -99,7 +99,7 @@ impl SeenColumn {
     }
 }
 
-// The form that is told by that of the ladder, and by whether an id needs more than 16 bits.
+/// The form that is told by that of the ladder, and by whether an id needs more than 16 bits.
 fn form_of(kind: Kind, column: u32, told: Form, wide: bool) -> ColumnForm
     requires { column < width_of kind }
     ensures { result ≡ (if is_id_at kind column then id_form_told (is_own_id kind column) (is_absent told) (is_wide (base_at kind column) || wide) else of_ladder told) }
@@ -145,7 +145,7 @@ fn is_wide(base: Base) -> bool
     matches!(base, Base::Id { wide: true })
 }
 
-// Whether ids are wide only from the first one on that needs more than 16 bits.
+/// Whether ids are wide only from the first one on that needs more than 16 bits.
 fn may_widen(base: Base) -> bool
     ensures is { result ≡ may_widen base }
     ensures id { result ≡ true → is_id base ≡ true }
@@ -153,7 +153,7 @@ fn may_widen(base: Base) -> bool
     matches!(base, Base::Id { wide: false })
 }
 
-// Whether a column holds the ids of the rows of a main table.
+/// Whether a column holds the ids of the rows of a main table.
 fn is_own_id(kind: Kind, column: u32) -> bool
     requires { column < width_of kind }
     ensures { result ≡ is_own_id kind column }
@@ -167,7 +167,7 @@ fn is_main(kind: Kind) -> bool
     matches!(kind, Kind::Metrics | Kind::Logs | Kind::Spans)
 }
 
-// Whether the ids of a column become wide: one of them needs more than 16 bits. Those that are always wide aren't looked at.
+/// Whether the ids of a column become wide: one of them needs more than 16 bits. Those that are always wide aren't looked at.
 fn needs_wide(alloc: Global, table: &LogicalTable, column: u32) -> Result<bool, AllocError>
     requires column { column < width_of table.now.kind }
     requires coded { is_id_at table.now.kind column ≡ true → coding_in table.now column ≡ coding_at table.now.kind column }
@@ -179,8 +179,8 @@ fn needs_wide(alloc: Global, table: &LogicalTable, column: u32) -> Result<bool, 
     has_wide_id(alloc, table, column)
 }
 
-// Observes the cells of a column from the first one that was set to the last one, and notes their places. Once the column is
-// plain no cell is looked at, and a cell that is the same as the one before isn't looked up.
+/// Observes the cells of a column from the first one that was set to the last one, and notes their places. Once the column is
+/// plain no cell is looked at, and a cell that is the same as the one before isn't looked up.
 fn observe_values(
     ladder: &mut Ladder,
     places: &mut Vec<Option<u32>>,
@@ -215,7 +215,7 @@ fn observe_values(
     Ok(())
 }
 
-// Observes a cell after another one, the place of whose value is known.
+/// Observes a cell after another one, the place of whose value is known.
 fn observe_after(
     ladder: &mut Ladder,
     base: Base,

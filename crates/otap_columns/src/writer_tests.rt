@@ -29,7 +29,7 @@ fn is_same(a: Coding, b: Coding) -> bool
     )
 }
 
-// Whether a column of ids is stored as the profile says, and its stored numbers stand for ids.
+/// Whether a column of ids is stored as the profile says, and its stored numbers stand for ids.
 fn has_ids(
     alloc: Global,
     table: &LogicalTable,
@@ -83,7 +83,7 @@ fn is_kind(a: Kind, b: Kind) -> bool
     )
 }
 
-// Writes the one table of a set, where it can be written.
+/// Writes the one table of a set, where it can be written.
 fn write(
     alloc: Global,
     writer: &mut Writer,
@@ -118,7 +118,7 @@ fn set_of(alloc: Global, table: LogicalTable) -> Result<TableSet<LogicalTable>, 
 
 const NAME: u32 = 15;
 
-// A span of this name, without an id.
+/// A span of this name, without an id.
 #[tactic(auto, unfolding(otap_cells::specs::Columns::spans))]
 fn add_span(table: &mut LogicalTable, name: &str) -> Result<(), AllocError>
     requires { table.old.kind ≡ Spans }
@@ -129,7 +129,7 @@ fn add_span(table: &mut LogicalTable, name: &str) -> Result<(), AllocError>
     Ok(())
 }
 
-// Spans named by numbers.
+/// Spans named by numbers.
 fn spans(alloc: Global, from: u32, to: u32) -> Result<TableSet<LogicalTable>, AllocError> {
     let mut table = LogicalTable::new(alloc, Kind::Spans);
     'names: for number in from..to {
@@ -139,7 +139,7 @@ fn spans(alloc: Global, from: u32, to: u32) -> Result<TableSet<LogicalTable>, Al
     set_of(alloc, table)
 }
 
-// A log record whose id stands at this distance from the one before it.
+/// A log record whose id stands at this distance from the one before it.
 #[tactic(auto, unfolding(otap_cells::specs::Columns::logs))]
 fn add_record(table: &mut LogicalTable, distance: u8) -> Result<(), AllocError>
     requires { table.old.kind ≡ Logs }
@@ -150,7 +150,7 @@ fn add_record(table: &mut LogicalTable, distance: u8) -> Result<(), AllocError>
     Ok(())
 }
 
-// Log records with the ids 0, 1, 2, and so on.
+/// Log records with the ids 0, 1, 2, and so on.
 fn records(alloc: Global, count: u32) -> Result<TableSet<LogicalTable>, AllocError> {
     let mut table = LogicalTable::new(alloc, Kind::Logs);
     'records: for number in 0..count {
@@ -159,7 +159,7 @@ fn records(alloc: Global, count: u32) -> Result<TableSet<LogicalTable>, AllocErr
     set_of(alloc, table)
 }
 
-// An event of the first span.
+/// An event of the first span.
 #[tactic(auto, unfolding(otap_cells::specs::Columns::span_events))]
 fn event(alloc: Global, name: &str) -> Result<TableSet<LogicalTable>, AllocError> {
     let mut table = LogicalTable::new(alloc, Kind::SpanEvents);
@@ -169,7 +169,7 @@ fn event(alloc: Global, name: &str) -> Result<TableSet<LogicalTable>, AllocError
     set_of(alloc, table)
 }
 
-// The name of a field, the bits of its numbers if it has some, and those of its indexes.
+/// The name of a field, the bits of its numbers if it has some, and those of its indexes.
 fn field_told(alloc: Global, field: &FieldSpec) -> Result<String, Fail> {
     let name = String::from_utf8_lossy(alloc, field.name.as_slice())?;
     let bits = match field.kind {
@@ -205,7 +205,7 @@ fn message_told(alloc: Global, message: &IpcMessage<'_>) -> Result<String, Fail>
     }
 }
 
-// The messages of a record.
+/// The messages of a record.
 fn told(alloc: Global, bytes: &[u8]) -> Result<String, Fail> {
     let mut messages = Messages::new(bytes);
     let mut told = String::new(alloc);

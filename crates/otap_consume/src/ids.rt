@@ -90,7 +90,7 @@ impl<'s, 'b> OpenIds<'s, 'b> {
         Ok(OpenIds { ids })
     }
 
-    // Whether the schema id of the payload is open for another type.
+    /// Whether the schema id of the payload is open for another type.
     fn has_other(&self, payload: &Payload<'_>) -> bool
         ensures { result ≡ has_other (content_of payload.now) self.now }
     {
@@ -102,7 +102,7 @@ impl<'s, 'b> OpenIds<'s, 'b> {
         false
     }
 
-    // The schema id of the payload is open for its type.
+    /// The schema id of the payload is open for its type.
     fn set(&mut self, payload: &Payload<'b>)
         ensures { self.new ≡ map (opened (content_of payload.now)) self.old }
     {

@@ -33,7 +33,7 @@ pub fn check_types(signal: Signal, batch: &Batch<'_>) -> Result<(), TypesRefusal
     Ok(())
 }
 
-// Whether two payloads of a batch have a type.
+/// Whether two payloads of a batch have a type.
 fn stands_twice(batch: &Batch<'_>, kind: i32) -> bool
     ensures { result ≡ nat_lt 1 (times kind batch.now.payloads) }
 {

@@ -89,7 +89,7 @@ impl<T: Telemetry> Receiver<T> {
         self.segment.is_broken()
     }
 
-    // Regroups the rows of the batch that the segment took last.
+    /// Regroups the rows of the batch that the segment took last.
     fn take_rows(&mut self, frame: &Frame<'_>, id: i64, rows: u64) -> Result<Taken, AllocError>
         requires { IsTaken (frame_of frame.now) self.old }
         ensures takes { IfOk result (TakesRows T.meaning (frame_of frame.now) id rows self.old self.new) }
@@ -107,7 +107,7 @@ impl<T: Telemetry> Receiver<T> {
     }
 }
 
-// The request of the batch that the segment took last.
+/// The request of the batch that the segment took last.
 fn regroup_last<T: Telemetry>(
     alloc: Global,
     segment: &Segment,
@@ -128,7 +128,7 @@ fn regroup_last<T: Telemetry>(
     regroup::<T>(alloc, &set)
 }
 
-// The request of the tables of a batch.
+/// The request of the tables of a batch.
 fn regroup<T: Telemetry>(alloc: Global, set: &TableSet<RowsView<'_>>) -> Result<Regrouped, NotTaken>
     requires { IsSet (λ table. table) set.now.tables.items }
     ensures regrouped { IfOk result (IsRegrouped T.meaning (tables_in (λ table. table) set.now.tables.items)) }
@@ -151,7 +151,7 @@ fn accepted(id: i64, rows: u64, kept: Regrouped) -> Taken
     }
 }
 
-// The result where the rows are not taken. Want of memory is handed on.
+/// The result where the rows are not taken. Want of memory is handed on.
 fn refused(id: i64, stop: NotTaken) -> Result<Taken, AllocError>
     ensures { IfOk result (RefusesBy id stop) }
 {

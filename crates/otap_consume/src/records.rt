@@ -33,7 +33,7 @@ pub(crate) fn take_records(
     Ok(())
 }
 
-// Each stream takes the payload: those of other types pass it over.
+/// Each stream takes the payload: those of other types pass it over.
 fn take_payload(
     alloc: Global,
     streams: &mut [Stream],

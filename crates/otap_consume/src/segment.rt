@@ -144,7 +144,7 @@ impl Segment {
         }
     }
 
-    // A frame whose message can't be read.
+    /// A frame whose message can't be read.
     fn refuse_unread(&mut self, cause: Cause) -> Seen
         ensures answer { result ≡ seen.Refused (refusal_of None (if self.old.broken then Broken else cause) None) }
         ensures broken { self.new ≡ record self.old { broken = true } }
@@ -168,7 +168,7 @@ fn refused(batch: &Batch<'_>, cause: Cause, payload: Option<i32>) -> Seen
     refusal(Some(batch.id()), cause, payload)
 }
 
-// The result where the payloads are not taken. Want of memory is handed on.
+/// The result where the payloads are not taken. Want of memory is handed on.
 fn stopped(batch: &Batch<'_>, stop: NotTaken) -> Result<Seen, AllocError>
     ensures { IfOk result (IsStopped stop batch.now) }
 {
@@ -194,7 +194,7 @@ fn unread_cause(refusal: BatchRefusal) -> Cause
     }
 }
 
-// No sub-stream is open any more.
+/// No sub-stream is open any more.
 fn close_all(streams: &mut [Stream])
     ensures { streams.new ≡ map closed streams.old }
 {

@@ -40,7 +40,7 @@ fn main_rows<R: Rows>(signal: Signal, set: &TableSet<R>) -> u64
     }
 }
 
-// How many rows all tables have.
+/// How many rows all tables have.
 fn count_rows<R: Rows>(set: &TableSet<R>) -> u64
     ensures { result ≡ min (count_of_rows (tables_in R.table set.now.tables.items)) (2 ^ 63) }
 {

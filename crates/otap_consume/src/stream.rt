@@ -92,7 +92,7 @@ impl Stream {
         }
     }
 
-    // Takes a further record of the sub-stream that is open. Where it is refused, none is open any more.
+    /// Takes a further record of the sub-stream that is open. Where it is refused, none is open any more.
     fn go_on(&mut self, payload: &Payload<'_>) -> Result<(), ColumnRefusal>
         requires of_type { int_eq payload.now.kind (type_of self.old.kind) ≡ true }
         requires same { is_id payload.now.schema_id.now (id_of self.old) ≡ true }
@@ -108,7 +108,7 @@ impl Stream {
         Ok(())
     }
 
-    // Opens a sub-stream in place of the one that is open.
+    /// Opens a sub-stream in place of the one that is open.
     fn begin(&mut self, alloc: Global, payload: &Payload<'_>) -> Result<(), ColumnRefusal>
         requires of_type { int_eq payload.now.kind (type_of self.old.kind) ≡ true }
         requires other { is_id payload.now.schema_id.now (id_of self.old) ≡ false }

@@ -44,7 +44,7 @@ pub(crate) fn take_payloads(
     check_sizes(alloc, signal, streams, batch)
 }
 
-// The row weight of a batch whose records were taken last, where it is within the limits.
+/// The row weight of a batch whose records were taken last, where it is within the limits.
 fn check_sizes(
     alloc: Global,
     signal: Signal,
@@ -66,7 +66,7 @@ fn check_sizes(
     }
 }
 
-// A limit that is passed is no payload's.
+/// A limit that is passed is no payload's.
 fn of_size(cause: Cause) -> NotTaken
     ensures { result ≡ Defect cause None }
 {

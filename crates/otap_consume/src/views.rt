@@ -40,7 +40,7 @@ fn view<'v>(streams: &'v [Stream], payload: &Payload<'v>) -> (Kind, RowsView<'v>
     (stream.kind(), reader.view(payload.bytes))
 }
 
-// The stream of a payload type.
+/// The stream of a payload type.
 fn stream_of(streams: &[Stream], kind: i32) -> Option<&Stream>
     ensures { option_copied result ≡ find (is_stream_of kind) streams.now }
 {

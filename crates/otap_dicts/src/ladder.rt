@@ -112,14 +112,14 @@ impl Ladder {
         self.add(value)
     }
 
-    // Whether a new value is put into the dictionary.
+    /// Whether a new value is put into the dictionary.
     fn takes(&self) -> bool
         ensures { result ≡ takes self.now }
     {
         self.dictionary && self.form != Form::Plain
     }
 
-    // Adds a value that the dictionary hasn't, or gives the dictionary up where it becomes too large.
+    /// Adds a value that the dictionary hasn't, or gives the dictionary up where it becomes too large.
     #[tactic(auto, unfolding(crate::specs::Ladders::with_new))]
     fn add(&mut self, value: &[u8]) -> Result<Option<u32>, AllocError>
         requires takes { takes self.old ≡ true }
@@ -142,7 +142,7 @@ impl Ladder {
         Ok(Some(place))
     }
 
-    // Puts a value last, and returns its place.
+    /// Puts a value last, and returns its place.
     fn insert(&mut self, value: &[u8], form: Form) -> Result<u32, AllocError>
         requires new { list_any (bytes_eq value.now) self.old.values ≡ false }
         requires dictionary { is_dictionary form ≡ true }

@@ -1,7 +1,7 @@
 use crate::{Form, Ladder};
 use std::test::Fail;
 
-// Observes the numbers from 0 to below `count`, each as its four bytes.
+/// Observes the numbers from 0 to below `count`, each as its four bytes.
 fn observe_numbers(ladder: &mut Ladder, count: u32) -> Result<(), Fail> {
     for number in 0..count {
         ladder.observe(&number.to_le_bytes())?;

@@ -45,7 +45,7 @@ impl<T: Serves> Job for Decoder<T> {
     }
 }
 
-// The reply to what a frame gave.
+/// The reply to what a frame gave.
 fn decode(alloc: Global, number: u64, taken: Taken) -> Result<Reply, AllocError>
     requires { IsSound taken }
     ensures { IfOk result (λ reply. reply ≡ decoded number taken) }

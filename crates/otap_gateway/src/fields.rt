@@ -24,7 +24,7 @@ pub(crate) fn push_fields(
     Ok(())
 }
 
-// The path of a field's children.
+/// The path of a field's children.
 fn inner_path(alloc: Global, path: &[u8], name: &[u8]) -> Result<Vec<u8>, AllocError>
     ensures { IfOk result (λ inner. inner.items ≡ inner_path path.now name.now) }
 {
@@ -59,7 +59,7 @@ fn push_type(alloc: Global, out: &mut Vec<u8>, kind: ArrowType) -> Result<(), Al
     out.extend_from_slice(word.as_bytes())
 }
 
-// The word for a type.
+/// The word for a type.
 fn type_word(alloc: Global, kind: ArrowType) -> Result<String, AllocError>
     ensures { IfOk result (λ word. string_bytes word ≡ type_word kind) }
 {
@@ -81,7 +81,7 @@ fn type_word(alloc: Global, kind: ArrowType) -> Result<String, AllocError>
     }
 }
 
-// What stands after the type of a field with this dictionary.
+/// What stands after the type of a field with this dictionary.
 fn dictionary_word(dict: Option<DictSpec>) -> &'static str
     ensures { result.now ≡ dictionary_word dict }
 {

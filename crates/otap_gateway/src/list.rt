@@ -74,7 +74,7 @@ fn list_message(
     }
 }
 
-// The line for a batch, in the memory of an earlier line.
+/// The line for a batch, in the memory of an earlier line.
 fn batch_line(mut line: Vec<u8>, number: u64, batch: &Batch<'_>) -> Result<Vec<u8>, AllocError>
     ensures { IfOk result (λ text. text.items ≡ batch_line number batch.now) }
 {
@@ -85,7 +85,7 @@ fn batch_line(mut line: Vec<u8>, number: u64, batch: &Batch<'_>) -> Result<Vec<u
     Ok(line)
 }
 
-// Appends each payload. A batch that has none isn't looked at again.
+/// Appends each payload. A batch that has none isn't looked at again.
 fn push_payloads(line: &mut Vec<u8>, batch: &Batch<'_>) -> Result<(), AllocError>
     ensures { OnOk result (line.new.items ≡ line.old.items ++ flat_map payload_text batch.now.payloads) }
 {

@@ -60,7 +60,7 @@ impl Opened {
         self.open(payload.kind, payload.schema_id)
     }
 
-    // Opens a sub-stream for a type.
+    /// Opens a sub-stream for a type.
     fn open(&mut self, kind: i32, schema_id: &str) -> Result<(), AllocError>
         ensures { OnOk result (Opens kind schema_id.now self.old self.new) }
     {
@@ -73,7 +73,7 @@ impl Opened {
         Ok(())
     }
 
-    // Whether the payload goes on with the sub-stream that is open for its type.
+    /// Whether the payload goes on with the sub-stream that is open for its type.
     fn is_open(&self, payload: &Payload<'_>) -> bool
         ensures { (past : List PayloadIn) → HasCounted past self.now → opens past (part_of (content_of payload.now)) ≡ not result }
     {

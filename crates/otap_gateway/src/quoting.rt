@@ -18,8 +18,8 @@ pub(crate) fn push_quoted(out: &mut Vec<u8>, text: &[u8]) -> Result<(), AllocErr
     }
 }
 
-// Whether a byte of the text is escaped. Most texts have none, and are appended as a whole; so all bytes are looked at, many
-// at a time.
+/// Whether a byte of the text is escaped. Most texts have none, and are appended as a whole; so all bytes are looked at, many
+/// at a time.
 fn has_special(text: &[u8]) -> bool
     ensures { result ≡ list_any is_special text.now }
 {

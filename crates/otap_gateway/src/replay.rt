@@ -48,7 +48,7 @@ impl<T: Serves> Job for Replayer<T> {
     }
 }
 
-// The reply to what a frame gave.
+/// The reply to what a frame gave.
 fn replay(alloc: Global, number: u64, taken: Taken) -> Result<Reply, AllocError>
     requires { IsSound taken }
     ensures { IfOk result (λ reply. reply ≡ replayed number taken) }
@@ -68,7 +68,7 @@ fn replay(alloc: Global, number: u64, taken: Taken) -> Result<Reply, AllocError>
     }
 }
 
-// How many items a request has that weighs no more than it may.
+/// How many items a request has that weighs no more than it may.
 fn count_items(request: &Request) -> u64
     requires { weight_of request.now ≤ weight_limit }
     ensures { result ≡ length (telemetry request.now) }
@@ -94,7 +94,7 @@ fn replay_line(
     Ok(line)
 }
 
-// Appends the weights, and ends the line.
+/// Appends the weights, and ends the line.
 fn push_weights(to: &mut Vec<u8>, rows: u64, tree: u64) -> Result<(), AllocError>
     ensures { OnOk result (to.new.items ≡ to.old.items ++ weights_text rows tree) }
 {

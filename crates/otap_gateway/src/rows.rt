@@ -106,7 +106,7 @@ fn push_text(to: &mut Vec<u8>, text: &[u8]) -> Result<(), AllocError>
     Ok(())
 }
 
-// Appends the elements of a list, 8 bytes each, between brackets.
+/// Appends the elements of a list, 8 bytes each, between brackets.
 fn push_list(to: &mut Vec<u8>, base: Base, part: &[u8]) -> Result<(), AllocError>
     ensures { OnOk result (to.new.items ≡ to.old.items ++ list_text base part.now) }
 {
@@ -116,7 +116,7 @@ fn push_list(to: &mut Vec<u8>, base: Base, part: &[u8]) -> Result<(), AllocError
     Ok(())
 }
 
-// Appends the elements, with commas between them.
+/// Appends the elements, with commas between them.
 fn push_elements(to: &mut Vec<u8>, base: Base, part: &[u8]) -> Result<(), AllocError>
     ensures { OnOk result (to.new.items ≡ to.old.items ++ elements_text base (elements part.now)) }
 {
@@ -129,7 +129,7 @@ fn push_elements(to: &mut Vec<u8>, base: Base, part: &[u8]) -> Result<(), AllocE
     Ok(())
 }
 
-// Appends each element after a comma.
+/// Appends each element after a comma.
 fn push_more(to: &mut Vec<u8>, base: Base, part: &[u8]) -> Result<(), AllocError>
     ensures { OnOk result (to.new.items ≡ to.old.items ++ after_commas base (elements part.now)) }
 {
@@ -143,7 +143,7 @@ fn push_more(to: &mut Vec<u8>, base: Base, part: &[u8]) -> Result<(), AllocError
     Ok(())
 }
 
-// Appends bytes as hexadecimal digits, two for each.
+/// Appends bytes as hexadecimal digits, two for each.
 fn push_hex(to: &mut Vec<u8>, part: &[u8]) -> Result<(), AllocError>
     ensures { OnOk result (to.new.items ≡ to.old.items ++ encode_lower part.now) }
 {

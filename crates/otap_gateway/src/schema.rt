@@ -152,7 +152,7 @@ impl From<AllocError> for RecordRefusal {
     }
 }
 
-// The lines for a batch.
+/// The lines for a batch.
 fn schemas_text(alloc: Global, number: u64, batch: &Batch<'_>) -> Result<Vec<u8>, RecordRefusal>
     ensures text { IfOk result (λ out. out.items ≡ batch_lines number batch.now) }
     ensures well { IfOk result (λ out. BeginWell batch.now.payloads) }

@@ -47,7 +47,7 @@ impl Job for Shower {
     }
 }
 
-// The reply to what the segment gave for a frame.
+/// The reply to what the segment gave for a frame.
 fn reply_to(
     alloc: Global,
     number: u64,
@@ -65,7 +65,7 @@ fn reply_to(
     }
 }
 
-// The reply to a batch, which the segment took last.
+/// The reply to a batch, which the segment took last.
 fn show_batch(
     alloc: Global,
     number: u64,

@@ -45,7 +45,7 @@ impl<T: Serves> Job for StatusTeller<T> {
     }
 }
 
-// The reply to what a frame gave.
+/// The reply to what a frame gave.
 fn tell(alloc: Global, number: u64, taken: Taken) -> Result<Reply, AllocError>
     ensures { IfOk result (λ reply. reply ≡ statused number taken) }
 {
@@ -63,7 +63,7 @@ fn tell(alloc: Global, number: u64, taken: Taken) -> Result<Reply, AllocError>
     }
 }
 
-// The status of a refused batch, beside the line that names the same cause.
+/// The status of a refused batch, beside the line that names the same cause.
 fn refuse(alloc: Global, number: u64, refusal: Refusal) -> Result<Reply, AllocError>
     ensures { IfOk result (λ reply. reply ≡ statused number (taken.Refused refusal)) }
 {
@@ -85,7 +85,7 @@ fn id_or_less(id: Option<i64>) -> i64
     id.unwrap_or(-1)
 }
 
-// The code of gRPC for a stage.
+/// The code of gRPC for a stage.
 fn code_of(stage: u8) -> i32
     ensures { result ≡ code_of stage }
 {
@@ -96,7 +96,7 @@ fn code_of(stage: u8) -> i32
     }
 }
 
-// What the line of a refusal says from its stage on.
+/// What the line of a refusal says from its stage on.
 fn refusal_text(
     alloc: Global,
     stage: u8,

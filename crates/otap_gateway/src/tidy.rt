@@ -66,7 +66,7 @@ fn tidy_message(
     }
 }
 
-// What is written is about as long as `len`, the length of what was read.
+/// What is written is about as long as `len`, the length of what was read.
 fn tidy_request(
     alloc: Global,
     number: u64,

@@ -52,7 +52,7 @@ impl<'a, C: RowReader> Children<'a, C> {
         })
     }
 
-    // The entries of a parent, in the order of their rows.
+    /// The entries of a parent, in the order of their rows.
     fn entries_of(&self, parent: Option<u32>) -> &[Entry]
         ensures found { result.now ≡ entries_of parent self.now.entries.items }
         ensures below { All (λ (e : Entry). e.place < length (C.cells self.now.reader)) result.now }

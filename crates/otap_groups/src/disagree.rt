@@ -50,8 +50,8 @@ impl<R: Rows> Front<'_, R> {
         Ok(found)
     }
 
-    // Whether rows of one id have cells beside it that aren't equal. Rows of one id stand together among the entries, so
-    // neighbours are compared.
+    /// Whether rows of one id have cells beside it that aren't equal. Rows of one id stand together among the entries, so
+    /// neighbours are compared.
     fn differ(&self, alloc: Global, level: Level) -> Result<bool, AllocError>
         ensures yes { IfOk result (λ found. found ≡ true → DifferBy (id_by level) (cells_by level)
             (main_rows self.now.ids.now self.now.resource_ids.now self.now.scope_ids.now (R.table self.now.rows.now).rows)) }
@@ -68,7 +68,7 @@ impl<R: Rows> Front<'_, R> {
         Ok(false)
     }
 
-    // Whether an entry has the parent of the one before it, and other cells.
+    /// Whether an entry has the parent of the one before it, and other cells.
     fn clash(&self, level: Level, entries: &[Entry], place: usize) -> bool
         requires below { All (λ (e : Entry). e.place < length (R.table self.now.rows.now).rows) entries.now }
         requires some { 1 ≤ place }

@@ -45,7 +45,7 @@ pub fn flatten<'a, I>(
     Ok(found)
 }
 
-// Appends the items of a group, and returns the next number of a scope.
+/// Appends the items of a group, and returns the next number of a scope.
 fn add_group<'a, I>(
     found: &mut Vec<Flat<'a, I>>,
     resource_id: u32,
@@ -85,7 +85,7 @@ fn add_items<'a, I>(
     Ok(())
 }
 
-// The next number, where these have the number `n`.
+/// The next number, where these have the number `n`.
 fn past<T>(n: u32, items: &[T]) -> u32
     requires { n + length items.now < 2 ^ 32 }
     ensures { result ≡ past n items.now }

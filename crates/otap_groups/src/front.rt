@@ -32,7 +32,7 @@ impl<R: Rows> Front<'_, R> {
         self.rows.rows() as usize
     }
 
-    // The end of the group that begins at a place, among the rows up to `to`.
+    /// The end of the group that begins at a place, among the rows up to `to`.
     pub(crate) fn run(&self, level: Level, from: usize, to: usize) -> usize
         requires agree { Disagree (main_rows self.now.ids.now self.now.resource_ids.now self.now.scope_ids.now (R.table self.now.rows.now).rows) → ⊥ }
         requires some { from < to }
@@ -50,7 +50,7 @@ impl<R: Rows> Front<'_, R> {
         end
     }
 
-    // Whether two rows stand in one group.
+    /// Whether two rows stand in one group.
     fn same(&self, level: Level, a: usize, b: usize) -> bool
         requires agree { Disagree (main_rows self.now.ids.now self.now.resource_ids.now self.now.scope_ids.now (R.table self.now.rows.now).rows) → ⊥ }
         requires a { a < length (R.table self.now.rows.now).rows }
@@ -65,7 +65,7 @@ impl<R: Rows> Front<'_, R> {
         }
     }
 
-    // Rows of one id agree, so cells are compared only where there is none.
+    /// Rows of one id agree, so cells are compared only where there is none.
     fn same_resource(&self, a: usize, b: usize) -> bool
         requires agree { Disagree (main_rows self.now.ids.now self.now.resource_ids.now self.now.scope_ids.now (R.table self.now.rows.now).rows) → ⊥ }
         requires a { a < length (R.table self.now.rows.now).rows }
@@ -84,7 +84,7 @@ impl<R: Rows> Front<'_, R> {
         }
     }
 
-    // As for resources, but the cell beside the scope is compared in any case.
+    /// As for resources, but the cell beside the scope is compared in any case.
     fn same_scope(&self, a: usize, b: usize) -> bool
         requires agree { Disagree (main_rows self.now.ids.now self.now.resource_ids.now self.now.scope_ids.now (R.table self.now.rows.now).rows) → ⊥ }
         requires a { a < length (R.table self.now.rows.now).rows }
@@ -106,7 +106,7 @@ impl<R: Rows> Front<'_, R> {
         }
     }
 
-    // Whether the cells beside an id are equal.
+    /// Whether the cells beside an id are equal.
     pub(crate) fn same_cells(&self, level: Level, a: usize, b: usize) -> bool
         requires a { a < length (R.table self.now.rows.now).rows }
         requires b { b < length (R.table self.now.rows.now).rows }
@@ -126,7 +126,7 @@ impl<R: Rows> Front<'_, R> {
         }
     }
 
-    // The ids of all rows.
+    /// The ids of all rows.
     #[tactic(auto, unfolding(crate::specs::Rows::main_rows), using(crate::proofs::PartSteps::part_next, crate::proofs::PartSteps::part_over))]
     pub(crate) fn ids_by(&self, alloc: Global, level: Level) -> Result<Vec<Option<u32>>, AllocError>
         ensures long { IfOk result (λ ids. length ids.items ≡ length (R.table self.now.rows.now).rows) }
@@ -151,7 +151,7 @@ impl<R: Rows> Front<'_, R> {
     }
 }
 
-// The id at a place, none past the end.
+/// The id at a place, none past the end.
 pub(crate) fn id_at(ids: &[Option<u32>], place: usize) -> Option<u32>
     ensures { result ≡ id_at ids.now place }
 {
@@ -176,7 +176,7 @@ fn same_cell<R: Rows>(rows: &R, column: u32, a: u64, b: u64) -> bool
     same_view(rows.cell(column, a), rows.cell(column, b))
 }
 
-// Whether two cells are equal.
+/// Whether two cells are equal.
 fn same_view(a: CellView<'_>, b: CellView<'_>) -> bool
     ensures { result ≡ cell_is (seen a.entry) (seen b.entry) }
 {

@@ -124,7 +124,7 @@ pub fn write_parts<W: PartWriter>(
     Ok(table)
 }
 
-// Whether a part's row continues the run of the row before it.
+/// Whether a part's row continues the run of the row before it.
 fn goes_on<W: PartWriter>(writer: &W, before: Option<&W::Part>, part: &W::Part) -> bool
     ensures { result ≡ goes_on_after (again_of W.kind) (option_map (λ p. W.cells_of p.now) before.entry) (W.cells_of part.now) }
 {
@@ -134,7 +134,7 @@ fn goes_on<W: PartWriter>(writer: &W, before: Option<&W::Part>, part: &W::Part) 
     }
 }
 
-// What a parent is stored as the distance from.
+/// What a parent is stored as the distance from.
 fn base(how: Coding, continues: bool, before: u32) -> u32
     ensures value { result ≡ base_of how continues before }
     ensures most { result ≤ before }

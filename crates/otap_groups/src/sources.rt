@@ -71,7 +71,7 @@ pub fn items_of<'a, I>(
     Ok(found)
 }
 
-// Whether some scope group has items.
+/// Whether some scope group has items.
 fn has_scopes<I>(group: &ResourceGroup<I>) -> bool
     ensures { result ≡ nat_lt 0 (length (filter (λ scope. nat_lt 0 (length scope.items)) group.now.scopes)) }
 {

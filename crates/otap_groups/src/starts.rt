@@ -9,8 +9,8 @@ use crate::entry::Entry;
 use crate::index::{SPREAD, of_parent};
 use std::alloc::{AllocError, Global};
 
-// Where the entries of each parent begin, up to the parent after the greatest; nothing where parents are far above the number
-// of the entries.
+/// Where the entries of each parent begin, up to the parent after the greatest; nothing where parents are far above the number
+/// of the entries.
 pub(crate) fn starts_of(alloc: Global, entries: &[Entry]) -> Result<Vec<usize>, AllocError>
     requires { IsNonDecreasingBy (λ (e : Entry). e.parent) entries.now }
     ensures { IfOk result (λ starts. AreStarts entries.now starts.items) }
@@ -22,7 +22,7 @@ pub(crate) fn starts_of(alloc: Global, entries: &[Entry]) -> Result<Vec<usize>, 
     Ok(starts)
 }
 
-// Whether no parent is far above the number of the entries, the last of which has the greatest parent.
+/// Whether no parent is far above the number of the entries, the last of which has the greatest parent.
 fn are_dense(entries: &[Entry]) -> bool {
     match entries.last() {
         Some(entry) => entry.parent as usize / SPREAD <= entries.len(),
@@ -46,7 +46,7 @@ fn starts_up_to_last(alloc: Global, entries: &[Entry]) -> Result<Vec<usize>, All
     Ok(starts)
 }
 
-// The part of the entries that has this parent, found at its start where that is told.
+/// The part of the entries that has this parent, found at its start where that is told.
 pub(crate) fn part_of<'a>(entries: &'a [Entry], starts: &[usize], parent: u32) -> &'a [Entry]
     requires rising { IsNonDecreasingBy (λ (e : Entry). e.parent) entries.now }
     requires starts { AreStarts entries.now starts.now }

@@ -192,7 +192,7 @@ impl PartWriter for ExemplarWriter {
     }
 }
 
-// A double that may be missing; zero is written.
+/// A double that may be missing; zero is written.
 fn optional_cell<'a>(bits: Option<u64>) -> CellView<'a>
     ensures value { seen result ≡ optional_cell bits }
     ensures fits { IsCellOf base.Double (seen result) }

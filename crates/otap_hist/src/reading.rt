@@ -187,7 +187,7 @@ fn sum_point_weight<R: Rows, P: Lookup<Child = Pair>>(
     sum_capped(&[quantiles_weight(asked, values), pairs.weight_of(id)])
 }
 
-// What as many quantiles weigh as both lists have, or `CAP` where it is more.
+/// What as many quantiles weigh as both lists have, or `CAP` where it is more.
 fn quantiles_weight(asked: usize, values: usize) -> u64
     ensures { result ≡ min (16 * min asked values) (2 ^ 63) }
 {
@@ -195,7 +195,7 @@ fn quantiles_weight(asked: usize, values: usize) -> u64
     (count as u64).saturating_mul(16).min(CAP)
 }
 
-// The double of a cell, where there is one.
+/// The double of a cell, where there is one.
 fn optional_at<R: Rows>(rows: &R, column: u32, row: u64) -> Option<u64>
     requires column { column < width_of (R.table rows.now).kind }
     requires row { row < length (R.table rows.now).rows }
@@ -207,7 +207,7 @@ fn optional_at<R: Rows>(rows: &R, column: u32, row: u64) -> Option<u64>
     }
 }
 
-// The numbers of a cell.
+/// The numbers of a cell.
 fn list_at<R: Rows>(
     alloc: Global,
     rows: &R,

@@ -65,7 +65,7 @@ pub fn request_of<R: Rows>(
     }
 }
 
-// Looks at all rows but whether those of one id agree, and returns the ids of the tables.
+/// Looks at all rows but whether those of one id agree, and returns the ids of the tables.
 fn check_all<R: Rows>(alloc: Global, set: &TableSet<R>) -> Result<KnownIds, CheckRefusal>
     requires { IsSet R.table set.now.tables.items }
     ensures metrics { OnOk result (AreWhole (tables_in R.table set.now.tables.items)) }
@@ -79,7 +79,7 @@ fn check_all<R: Rows>(alloc: Global, set: &TableSet<R>) -> Result<KnownIds, Chec
     Ok(known)
 }
 
-// Looks at the cells of the points of histograms and summaries, and of what is below them.
+/// Looks at the cells of the points of histograms and summaries, and of what is below them.
 fn check_hists<R: Rows>(
     alloc: Global,
     set: &TableSet<R>,

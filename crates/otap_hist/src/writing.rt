@@ -36,7 +36,7 @@ pub fn add_tables(
     Ok(())
 }
 
-// These tables alone.
+/// These tables alone.
 fn tables_of(
     alloc: Global,
     groups: &[ResourceGroup<Metric>],
@@ -65,7 +65,7 @@ fn tables_of(
     Ok(tables)
 }
 
-// Puts a table before the first of a greater payload type.
+/// Puts a table before the first of a greater payload type.
 fn put(
     tables: &mut Vec<(Kind, LogicalTable)>,
     kind: Kind,
@@ -78,14 +78,14 @@ fn put(
     Ok(())
 }
 
-// Whether the number of a payload type is below another's.
+/// Whether the number of a payload type is below another's.
 fn comes_before(kind: Kind, other: Kind) -> bool
     ensures { result ≡ nat_lt (number_of kind) (number_of other) }
 {
     kind.number() < other.number()
 }
 
-// The place of the first table of a greater payload type, or the end.
+/// The place of the first table of a greater payload type, or the end.
 fn place_for(kind: Kind, tables: &[(Kind, LogicalTable)]) -> usize
     ensures within { result ≤ length tables.now }
     ensures first { (one : Table) → put_in (kind, one) tables.now ≡ insert tables.now result (kind, one) }

@@ -122,7 +122,7 @@ pub fn tables_of(
     Ok(TableSet { tables })
 }
 
-// The records of some rows.
+/// The records of some rows.
 fn records_of<'a>(
     alloc: Global,
     rows: &[Flat<'a, LogRecord>],

@@ -30,7 +30,7 @@ pub enum PointSort {
 }
 
 impl PointSort {
-    // Whether metrics of this type have such points.
+    /// Whether metrics of this type have such points.
     fn fits(self, number: u32) -> bool
         ensures { result ≡ fits_of self number }
     {
@@ -166,7 +166,7 @@ fn numbers(alloc: Global, ids: &[Option<u32>]) -> Result<Vec<u32>, AllocError>
     Ok(found)
 }
 
-// Whether the id of a metric of another shape is among sorted numbers.
+/// Whether the id of a metric of another shape is among sorted numbers.
 #[tactic(auto, unfolding(otap_cells::specs::Columns::metrics))]
 fn finds_other<R: Rows>(rows: &R, ids: &[Option<u32>], named: &[u32], sort: PointSort) -> bool
     requires kind { (R.table rows.now).kind ≡ table.Metrics }

@@ -88,7 +88,7 @@ impl<
     H: Lookup<Child = HistPoint>,
     S: Lookup<Child = SumPoint>,
 > Metrics<'_, R, N, H, S> {
-    // The shape of a row with its points.
+    /// The shape of a row with its points.
     #[tactic(auto, unfolding(otap_cells::specs::Columns::metrics))]
     fn shape(&self, alloc: Global, id: Option<u32>, row: u64) -> Result<Shape, AllocError>
         requires { row < length (R.table self.now.rows.now).rows }
@@ -113,7 +113,7 @@ impl<
         Ok(shape)
     }
 
-    // What it weighs, or `CAP` where it is more.
+    /// What it weighs, or `CAP` where it is more.
     #[tactic(auto, unfolding(otap_cells::specs::Columns::metrics))]
     fn shape_weight(&self, id: Option<u32>, row: u64) -> u64
         requires { row < length (R.table self.now.rows.now).rows }

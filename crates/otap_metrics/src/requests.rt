@@ -118,7 +118,7 @@ pub fn regroup_with<R: Rows, H: Lookup<Child = HistPoint>, S: Lookup<Child = Sum
     Ok(made)
 }
 
-// The groups of the main rows, where rows of one id agree.
+/// The groups of the main rows, where rows of one id agree.
 fn main_groups<
     'a,
     R: Rows,
@@ -155,7 +155,7 @@ fn main_groups<
     Ok(made)
 }
 
-// The main rows, where rows of one id agree.
+/// The main rows, where rows of one id agree.
 fn clean_main<
     'a,
     R: Rows,

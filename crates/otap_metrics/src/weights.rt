@@ -50,7 +50,7 @@ impl RowWeights for MetricWeights {
     }
 }
 
-// The rows of points, and of all that is below them.
+/// The rows of points, and of all that is below them.
 fn points_weight(points: &[Point]) -> u64
     requires { All CanWritePoint points.now }
     ensures { result ≡ min (sum_by point_weight points.now) (2 ^ 63) }

@@ -179,7 +179,7 @@ impl PartWriter for ExemplarWriter {
     }
 }
 
-// The number of a shape.
+/// The number of a shape.
 fn type_of(shape: &Shape) -> u32
     ensures { result ≡ type_of shape.now }
 {

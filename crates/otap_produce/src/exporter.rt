@@ -98,7 +98,7 @@ impl<T: Tabled> Exporter<T> {
     }
 }
 
-// Whether a request is exported; nothing is written yet.
+/// Whether a request is exported; nothing is written yet.
 fn check<T: Tabled>(broken: bool, request: &Request) -> Result<(), ProduceRefusal>
     requires signal { signal_of request.now ≡ T.rows.signal }
     requires profile { IsProfile request.now }
@@ -118,7 +118,7 @@ fn check<T: Tabled>(broken: bool, request: &Request) -> Result<(), ProduceRefusa
     Ok(())
 }
 
-// The message of a request that is exported.
+/// The message of a request that is exported.
 fn message_of<T: Tabled>(
     alloc: Global,
     senders: &mut Senders,

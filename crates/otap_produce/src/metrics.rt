@@ -48,7 +48,7 @@ impl Tabled for MetricTables {
     }
 }
 
-// What all tables weigh, or 2^63 where it is more.
+/// What all tables weigh, or 2^63 where it is more.
 fn all_weight(groups: &Items<ResourceGroup<Metric>>) -> u64
     requires profile { IsProfile (Metrics groups.now) }
     requires light { weight_of (Metrics groups.now) ≤ weight_limit }
@@ -58,7 +58,7 @@ fn all_weight(groups: &Items<ResourceGroup<Metric>>) -> u64
     add_capped(table_weight(groups), points_weight(groups))
 }
 
-// All tables.
+/// All tables.
 fn all_tables(
     alloc: Global,
     groups: &Items<ResourceGroup<Metric>>,

@@ -77,7 +77,7 @@ impl Sender {
     }
 }
 
-// The number of a record's schema id.
+/// The number of a record's schema id.
 fn number_of(written: &Written, openings: u64, last: u64) -> u64
     ensures { result ≡ (if written.now.opens then openings else last) }
 {

@@ -73,7 +73,7 @@ impl Senders {
         Ok(batch.finish())
     }
 
-    // Adds a payload for each table to a batch.
+    /// Adds a payload for each table to a batch.
     fn add_all(
         &mut self,
         tables: &[(Kind, LogicalTable)],
@@ -89,7 +89,7 @@ impl Senders {
         Ok(())
     }
 
-    // Adds the payload of one more table.
+    /// Adds the payload of one more table.
     fn add(&mut self, table: &LogicalTable, batch: &mut BatchWriter) -> Result<(), AllocError>
         requires { AreReady table.now self.old }
         ensures adds { OnOk result (Adds (table.now ∷ []) self.old self.new batch.old batch.new) }
@@ -107,7 +107,7 @@ impl Senders {
     }
 }
 
-// How many openings there are after a record.
+/// How many openings there are after a record.
 fn openings_after(openings: u64, opens: bool) -> u64
     requires { openings + 1 < 2 ^ 64 }
     ensures { result ≡ (if opens then openings + 1 else openings) }
@@ -115,7 +115,7 @@ fn openings_after(openings: u64, opens: bool) -> u64
     if opens { openings + 1 } else { openings }
 }
 
-// Each sender sent nothing.
+/// Each sender sent nothing.
 fn begin_anew(alloc: Global, senders: &mut [Sender])
     ensures kinds { kinds_in senders.new ≡ kinds_in senders.old }
     ensures sent { All (HasSent [] []) senders.new }
@@ -126,7 +126,7 @@ fn begin_anew(alloc: Global, senders: &mut [Sender])
     }
 }
 
-// The place of the sender of a kind.
+/// The place of the sender of a kind.
 fn place_of(senders: &[Sender], kind: Kind) -> usize
     requires { Contains (kinds_in senders.now) kind }
     ensures inside { result < length senders.now }

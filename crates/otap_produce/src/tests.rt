@@ -11,7 +11,7 @@ use otlp_model::{
 use std::alloc::{AllocError, Global};
 use std::test::Fail;
 
-// A record of a text, with an attribute where a key is given.
+/// A record of a text, with an attribute where a key is given.
 fn record(alloc: Global, text: &str, key: Option<&str>) -> Result<LogRecord, AllocError> {
     let mut pairs = Items::new(alloc);
     if let Some(key) = key {
@@ -35,7 +35,7 @@ fn record(alloc: Global, text: &str, key: Option<&str>) -> Result<LogRecord, All
     })
 }
 
-// A request of one record.
+/// A request of one record.
 fn request(alloc: Global, text: &str, key: Option<&str>) -> Result<Request, AllocError>
     ensures { IfOk result (λ request. signal_of request ≡ Logs) }
 {
@@ -64,7 +64,7 @@ fn request(alloc: Global, text: &str, key: Option<&str>) -> Result<Request, Allo
     Ok(Request::Logs(groups))
 }
 
-// Whether a message is a batch of this id, whose payloads have these types and schema ids.
+/// Whether a message is a batch of this id, whose payloads have these types and schema ids.
 fn is_batch(message: &[u8], id: i64, payloads: &[(i32, &str)]) -> bool {
     let Ok(batch) = read_batch(message) else {
         return false;

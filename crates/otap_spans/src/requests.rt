@@ -94,7 +94,7 @@ pub fn request_of<R: Rows>(
     }
 }
 
-// Looks at all but whether rows of one id agree, and returns the ids of the tables.
+/// Looks at all but whether rows of one id agree, and returns the ids of the tables.
 fn check_cells<R: Rows>(alloc: Global, set: &TableSet<R>) -> Result<KnownIds, CheckRefusal>
     requires { IsSet R.table set.now.tables.items }
     ensures clean { OnOk result (AreWhole (tables_in R.table set.now.tables.items)) }
@@ -110,7 +110,7 @@ fn check_cells<R: Rows>(alloc: Global, set: &TableSet<R>) -> Result<KnownIds, Ch
     Ok(known)
 }
 
-// The main rows, where rows of one id agree.
+/// The main rows, where rows of one id agree.
 fn clean_main<'a, R: Rows>(
     alloc: Global,
     set: &'a TableSet<R>,
@@ -147,7 +147,7 @@ fn clean_main<'a, R: Rows>(
     Ok(main)
 }
 
-// The main rows of a front, with their spans and all that is below.
+/// The main rows of a front, with their spans and all that is below.
 fn main_of<'a, R: Rows>(
     alloc: Global,
     set: &'a TableSet<R>,

@@ -59,7 +59,7 @@ pub fn table_weight(groups: &Items<ResourceGroup<Span>>) -> u64
     rows_weight(&SpanWeights, groups.as_slice())
 }
 
-// What the rows of a span's attributes, events and links weigh, or `CAP` where it is more.
+/// What the rows of a span's attributes, events and links weigh, or `CAP` where it is more.
 fn below_weight(span: &Span) -> u64
     requires { CanWriteSpan span.now }
     ensures { result ≡ min (below_weight span.now) (2 ^ 63) }
@@ -71,7 +71,7 @@ fn below_weight(span: &Span) -> u64
     ])
 }
 
-// What the rows of events and of their attributes weigh, or `CAP` where it is more.
+/// What the rows of events and of their attributes weigh, or `CAP` where it is more.
 fn events_weight(events: &[Event]) -> u64
     requires { All CanWriteEvent events.now }
     ensures { result ≡ min (sum_by event_weight events.now) (2 ^ 63) }
@@ -85,7 +85,7 @@ fn events_weight(events: &[Event]) -> u64
     weight
 }
 
-// What the rows of links and of their attributes weigh, or `CAP` where it is more.
+/// What the rows of links and of their attributes weigh, or `CAP` where it is more.
 fn links_weight(links: &[Link]) -> u64
     requires { All CanWriteLink links.now }
     ensures { result ≡ min (sum_by link_weight links.now) (2 ^ 63) }
