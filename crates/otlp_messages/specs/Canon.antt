@@ -8,6 +8,7 @@ use Rattle.otlp_messages.specs.declared.messages.Message.{Message}
 use Rattle.otlp_wire.specs.Wire.{FieldValue, Varint, Fixed64, Bytes, Fixed32, Entry, Fits, spelling}
 use Rattle.otlp_messages.specs.Table.{kind_of, mark_of}
 use Rattle.otlp_wire.specs.Fields.{fields_of}
+use Rattle.otlp_wire.specs.Limits.{number_limit}
 use Rattle.otlp_messages.specs.Defects.{IsFine}
 use Rattle.otlp_messages.specs.Fine.{FineValue}
 use Rattle.otlp_messages.specs.Rows.{only}
@@ -82,7 +83,7 @@ apart m r s = nat_lt r.number s.number && one_mark_each m r s
 
 abbrev pub laid_out : Message → List Filled → Bool
 laid_out m [] = true
-laid_out m (r ∷ rows) = nat_lt 0 r.number && nat_lt r.number (2 ^ 29) && list_all (apart m r) rows && laid_out m rows
+laid_out m (r ∷ rows) = nat_lt 0 r.number && nat_lt r.number number_limit && list_all (apart m r) rows && laid_out m rows
 
 -- bytes that a length can tell; it follows for each part from the length of the whole
 abbrev pub IsShort : FieldValue → Type 0

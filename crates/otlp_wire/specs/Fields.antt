@@ -1,11 +1,12 @@
 -- The one reading of bytes, from the left: each reader takes what stands at the front off, or names what
 -- is wrong with it.
-use Rattle.std.specs.Prelude.{◌≡◌, ℕ, zero, suc, ◌+◌, ◌/◌, ◌%◌, ◌^◌, ◌==◌, ◌&&◌, nat_lt, if◌then◌else◌, List, [], ◌∷◌, length, take, drop, slice_index, Option, Some, None, Result, Ok, Err, MatchOption, MatchResult}
+use Rattle.std.specs.Prelude.{◌≡◌, ℕ, zero, suc, ◌+◌, ◌/◌, ◌%◌, ◌==◌, ◌&&◌, nat_lt, if◌then◌else◌, List, [], ◌∷◌, length, take, drop, slice_index, Option, Some, None, Result, Ok, Err, MatchOption, MatchResult}
 use Rattle.byteorder.specs.Endian.{little_number}
 use Rattle.otlp_wire.specs.declared.parts.WireError.{WireError}
 use Rattle.otlp_wire.specs.declared.parts.WireError.TheVariants.{Cut, BadVarint, BadWireType, BadTag}
 use Rattle.otlp_wire.specs.declared.parts.Field.{Field}
 use Rattle.otlp_wire.specs.Varint.{sevens}
+use Rattle.otlp_wire.specs.Limits.{number_limit}
 use Rattle.otlp_wire.specs.Wire.{FieldValue, Varint, Fixed64, Bytes, Fixed32, Entry, entry}
 
 -- what a reader takes, and the bytes after it; or what is wrong
@@ -51,7 +52,7 @@ with_number n (Ok x) = Ok (record { number = n; value = x.0 }, x.1)
 with_number n (Err e) = Err e
 
 abbrev pub after_tag : Taken ℕ → Taken Entry
-after_tag (Ok x) = if nat_lt 0 (x.0 / 8) && nat_lt (x.0 / 8) (2 ^ 29) then with_number (x.0 / 8) (first_value (x.0 % 8) x.1) else Err BadTag
+after_tag (Ok x) = if nat_lt 0 (x.0 / 8) && nat_lt (x.0 / 8) number_limit then with_number (x.0 / 8) (first_value (x.0 % 8) x.1) else Err BadTag
 after_tag (Err e) = Err e
 
 unfoldable pub first_field : List ℕ → Taken Entry

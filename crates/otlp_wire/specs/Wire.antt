@@ -5,6 +5,7 @@ use Rattle.otlp_wire.specs.declared.parts.Wire.{Wire}
 use Rattle.otlp_wire.specs.declared.parts.Wire.TheVariants as wire
 use Rattle.otlp_wire.specs.declared.parts.Field.{Field}
 use Rattle.otlp_wire.specs.Varint.{IsVarint, varint}
+use Rattle.otlp_wire.specs.Limits.{number_limit}
 
 -- the value of a field, by its wire type
 pub data FieldValue : Type 0 where
@@ -35,9 +36,9 @@ wire_type (Fixed64 n) = 1
 wire_type (Bytes part) = 2
 wire_type (Fixed32 n) = 5
 
--- a field number is from 1 to 2^29 - 1
+-- a field number is above 0 and below the limit
 abbrev pub IsNumber : ℕ → Type 0
-IsNumber n = (0 < n) × (n < 2 ^ 29)
+IsNumber n = (0 < n) × (n < number_limit)
 
 -- the bytes are a value
 abbrev pub IsValue : List ℕ → FieldValue → Type 0

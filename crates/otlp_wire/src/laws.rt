@@ -1,11 +1,18 @@
 //! What holds of the definitions themselves: each law is the contract of a function that does nothing.
 
 ghost use Rattle.std.specs.Prelude.{◌≡◌, ℕ, ◌+◌, ◌^◌, ◌<◌, ◌≤◌, List, ◌++◌, length, Option};
+ghost use Rattle.otlp_wire.specs.declared.parts.TheConstants.{MAX_NUMBER};
 ghost use Rattle.otlp_wire.specs.declared.parts.WireError.{WireError};
 ghost use Rattle.otlp_wire.specs.Varint.{IsVarint, varint};
 ghost use Rattle.otlp_wire.specs.Wire.{Entry, IsNumber, IsField, Fits, spelling};
 ghost use Rattle.otlp_wire.specs.Reading.{Reads, Spells};
 ghost use Rattle.otlp_wire.specs.Fields.{fields_of, end_of};
+ghost use Rattle.otlp_wire.specs.Limits.{number_limit};
+
+/// The greatest number of the code is the last one below the limit that the definitions name.
+pub fn limits()
+    ensures { MAX_NUMBER + 1 ≡ number_limit }
+{}
 
 /// Bytes have one reading at most.
 pub fn one_reading()

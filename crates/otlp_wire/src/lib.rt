@@ -7,7 +7,9 @@ mod reading;
 mod varint;
 mod writing;
 
-pub use laws::{joined_reading, one_reading, shortest_spelling, some_reading, written_is_read};
+pub use laws::{
+    joined_reading, limits, one_reading, shortest_spelling, some_reading, written_is_read,
+};
 pub use parts::{Field, MAX_NUMBER, Wire, WireError};
 pub use reading::Fields;
 pub use varint::{len_varint, put_varint};
