@@ -1,5 +1,5 @@
 -- What the fields of a message hold in which no defect stands.
-use Rattle.std.proofs.Common.{◌≡◌, ℕ, zero, suc, ◌%◌, true, false, List, [], ◌∷◌, ◌++◌, length, append_assoc, Option, Some, None, refl, sym, ◌∙◌, subst, inl, inr}
+use Rattle.std.proofs.Common.{◌≡◌, ℕ, zero, suc, ◌%◌, true, false, List, [], ◌∷◌, ◌++◌, length, append_assoc, refl, sym, ◌∙◌, subst, inl, inr}
 use Rattle.std.specs.Prelude.{fold, IsUtf8}
 use Rattle.std.specs.List.{AllByRecursion}
 use Rattle.std.specs.Str.{is_utf8}
@@ -10,12 +10,11 @@ use Rattle.otlp_messages.specs.declared.messages.FieldKind.{FieldKind}
 use Rattle.otlp_messages.specs.declared.messages.FieldKind.TheVariants.{Unknown, Varint, Fixed64, Fixed32, Packed64, Text, Octets, Id, Embedded, Member, Refused}
 use Rattle.otlp_messages.specs.declared.messages.Defect.{Defect}
 use Rattle.otlp_messages.specs.declared.messages.Defect.TheVariants.{BadMessage, BadUtf8, BadLength, Unsupported, TooDeep}
-use Rattle.otlp_wire.specs.declared.parts.WireError.{WireError}
 use Rattle.otlp_wire.specs.Wire as wire
-use Rattle.otlp_wire.specs.Wire.{FieldValue, Entry, wire_type}
-use Rattle.otlp_wire.specs.Fields.{fields_of, end_of}
+use Rattle.otlp_wire.specs.Wire.{FieldValue, Entry}
+use Rattle.otlp_wire.specs.Fields.{fields_of}
 use Rattle.otlp_messages.specs.Table.{kind_of}
-use Rattle.otlp_messages.specs.Defects.{has_type, Occurs, wire_error, IsFine}
+use Rattle.otlp_messages.specs.Defects.{has_type, Occurs, IsFine}
 use Rattle.otlp_messages.specs.Fine.{FinePart, FineValue, ValueStands}
 use Rattle.otlp_messages.specs.Rows.{only, said, bytes_in, parts_of}
 use Rattle.otlp_messages.proofs.Steps.{AllFine, value_stands}
@@ -75,13 +74,6 @@ all_behind P front (x ∷ rest) each =
 pub fine_fields : (m : Message) (l : ℕ) (bytes : List ℕ) → IsFine m l bytes → AllFine m l (fields_of bytes)
 fine_fields m l bytes fine =
     all_behind (λ f. FineValue (kind_of m f.number) l f.value) [] (fields_of bytes) (λ before after f is. fine_field m l bytes f fine (before, after, is))
-
-pub fine_end : (m : Message) (l : ℕ) (bytes : List ℕ) → IsFine m l bytes → end_of bytes ≡ None
-fine_end m l bytes fine = go (end_of bytes) refl
-  where
-    go : (end : Option WireError) → end_of bytes ≡ end → end_of bytes ≡ None
-    go None is = is
-    go (Some e) is = absurd (fine.none BadMessage (wire_error m l bytes e is))
 
 -- the values of one number
 pub only_fine : (m : Message) (l n : ℕ) (fs : List Entry) → AllFine m l fs → AllByRecursion (FineValue (kind_of m n) l) (only n fs)

@@ -4,14 +4,13 @@ use Rattle.std.specs.Prelude.{fold, FitsSigned}
 use Rattle.std.specs.Int.{w64, cast_unsigned}
 use Rattle.std.specs.List.{flat_map, AllByRecursion}
 use Rattle.std.proofs.lemmas.List.{length-append}
-use Rattle.std.proofs.lemmas.Int.{to_z-of_z}
 use Rattle.byteorder.specs.Endian.{little_bytes}
 use Rattle.byteorder.specs.Numbers.{little_number-reads_back, length-bytes_low_first}
 use Rattle.otlp_messages.specs.declared.messages.Message.{Message}
 use Rattle.otlp_messages.specs.declared.messages.FieldKind.TheVariants as kinds
 use Rattle.otlp_wire.specs.Wire.{Fixed64}
 use Rattle.otlp_messages.specs.Table.{kind_of}
-use Rattle.otlp_messages.specs.Rows.{numbers, packed_in, optional_in, sfixed64_in}
+use Rattle.otlp_messages.specs.Rows.{numbers, packed_in, optional_in}
 use Rattle.otlp_messages.specs.Canon.{row, packed_row, optional_row, RowFits}
 use Rattle.otlp_messages.proofs.RowKinds.{part_field_fits, none_fits, fixed64_field_fits, unsigned_small}
 
@@ -55,6 +54,3 @@ optional_fits m l n (Some v) is small = fixed64_field_fits m l n v is (small v r
 -- a signed number of 64 bits
 pub sfixed64_fits : (m : Message) (l n : ℕ) (z : ℤ) → kind_of m n ≡ kinds.Fixed64 → FitsSigned w64 z → RowFits m l (row n (Fixed64 (cast_unsigned w64 z) ∷ []))
 sfixed64_fits m l n z is fits = fixed64_field_fits m l n (cast_unsigned w64 z) is (unsigned_small z fits)
-
-pub sfixed64_back : (old z : ℤ) → FitsSigned w64 z → fold sfixed64_in old (Fixed64 (cast_unsigned w64 z) ∷ []) ≡ z
-sfixed64_back old z fits = to_z-of_z w64 z fits

@@ -14,7 +14,7 @@ use Rattle.otlp_messages.specs.declared.messages.Defect.{Defect}
 use Rattle.otlp_messages.specs.declared.messages.Defect.TheVariants.{Repeated}
 use Rattle.otlp_wire.specs.declared.parts.WireError.{WireError}
 use Rattle.otlp_wire.specs.Wire as wire
-use Rattle.otlp_wire.specs.Wire.{FieldValue, Entry, wire_type}
+use Rattle.otlp_wire.specs.Wire.{FieldValue, Entry}
 use Rattle.otlp_wire.specs.Fields.{fields_of, end_of}
 use Rattle.otlp_wire.proofs.FieldsOf.{part_is_shorter}
 use Rattle.otlp_wire.proofs.Readings.{part_len}

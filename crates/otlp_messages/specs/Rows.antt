@@ -43,10 +43,6 @@ abbrev pub bool_in : Bool → FieldValue → Bool
 bool_in old (Varint n) = not (n == 0)
 bool_in old value = old
 
-abbrev pub sfixed64_in : ℤ → FieldValue → ℤ
-sfixed64_in old (Fixed64 n) = cast_signed w64 n
-sfixed64_in old value = old
-
 -- 64 bits that are there, also where they are zero, or not there
 abbrev pub optional_in : Option ℕ → FieldValue → Option ℕ
 optional_in old (Fixed64 n) = Some n
