@@ -66,14 +66,14 @@ unfolding None_in
 fine_field m l bytes f fine occurs = fine_value (kind_of m f.number) l f.value (λ e s. fine.none e (value_stands m l bytes f.number f.value e occurs s))
 
 -- what holds of each element, whatever stands before and after it
-all_behind : {X : Type 0} (P : X → Type 0) (front rest : List X) → ((before after : List X) (x : X) → front ++ rest ≡ before ++ x ∷ after → P x) → AllByRecursion P rest
-all_behind P front [] each = tt
-all_behind P front (x ∷ rest) each =
-    (each front rest x refl, all_behind P (front ++ x ∷ []) rest (λ before after y is. each before after y (sym (append_assoc front (x ∷ []) rest) ∙ is)))
+all_after : {X : Type 0} (P : X → Type 0) (front rest : List X) → ((before after : List X) (x : X) → front ++ rest ≡ before ++ x ∷ after → P x) → AllByRecursion P rest
+all_after P front [] each = tt
+all_after P front (x ∷ rest) each =
+    (each front rest x refl, all_after P (front ++ x ∷ []) rest (λ before after y is. each before after y (sym (append_assoc front (x ∷ []) rest) ∙ is)))
 
 pub fine_fields : (m : Message) (l : ℕ) (bytes : List ℕ) → IsFine m l bytes → AllFine m l (fields_of bytes)
 fine_fields m l bytes fine =
-    all_behind (λ f. FineValue (kind_of m f.number) l f.value) [] (fields_of bytes) (λ before after f is. fine_field m l bytes f fine (before, after, is))
+    all_after (λ f. FineValue (kind_of m f.number) l f.value) [] (fields_of bytes) (λ before after f is. fine_field m l bytes f fine (before, after, is))
 
 -- the values of one number
 pub only_fine : (m : Message) (l n : ℕ) (fs : List Entry) → AllFine m l fs → AllByRecursion (FineValue (kind_of m n) l) (only n fs)
