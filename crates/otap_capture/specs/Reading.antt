@@ -1,5 +1,5 @@
 -- How far a capture is read, and what each step of it does.
-use Rattle.std.specs.Prelude.{◌≡◌, ℕ, ◌+◌, ◌^◌, ◌<◌, ◌≤◌, ⊤, Bool, true, false, if◌then◌else◌, List, length, Some, None, IfSome}
+use Rattle.std.specs.Prelude.{◌≡◌, ℕ, ◌+◌, ◌*◌, ◌<◌, ◌≤◌, ⊤, Bool, true, false, if◌then◌else◌, List, length, Some, None, IfSome}
 use Rattle.std.specs.declared.option.Option.{Option}
 use Rattle.std.specs.declared.result.Result.{Result}
 use Rattle.std.specs.declared.result.Result.TheVariants.{Ok, Err}
@@ -9,7 +9,7 @@ use Rattle.otap_capture.specs.declared.frame.Step.{Step}
 use Rattle.otap_capture.specs.declared.frame.Step.TheVariants as step
 use Rattle.otap_capture.specs.declared.frame.FramesRefusal.{FramesRefusal}
 use Rattle.otap_capture.specs.declared.frame.FramesRefusal.TheVariants.{Source, Memory}
-use Rattle.otap_capture.specs.Capture.{Frame, IsFrame, EndsAt, capture_limit}
+use Rattle.otap_capture.specs.Capture.{Frame, IsFrame, EndsAt, capture_limit, longest_frame}
 use Rattle.otap_capture.specs.Deciding.{IsOpen, IsLean, read_ahead}
 use Rattle.otap_capture.specs.Outside.{Rose}
 
@@ -111,6 +111,6 @@ KeepsRest new (Err refusal) = ⊤
 -- What a step leaves: all that was taken from the source is more than what was handed out before by one frame and 65,536
 -- bytes at most; those that are kept are one frame and 65,536 bytes at most; and few more are held in memory.
 pub record KeepsFew (old new : Reading) : Type 0 where
-  pub taken : new.handed + length new.kept ≤ old.handed + (2 ^ 29 + 65541)
+  pub taken : new.handed + length new.kept ≤ old.handed + (longest_frame + 5 + read_ahead)
   pub lean : IsLean new.kept
-  pub memory : new.held ≤ 2 ^ 30 + 65546
+  pub memory : new.held ≤ 2 * (longest_frame + 5) + read_ahead
