@@ -72,7 +72,7 @@ GoesOn old new before after (Err refusal) = Stays old new before after
 
 -- the same end again, and nothing is read
 pub record EndsAgain {S : Type 0} (old new : Reading) (source source' : S) (end : Step) (result : Result Step FramesRefusal) : Type 0 where
-  pub answer : result ≡ Ok end
+  pub returned : result ≡ Ok end
   pub unread : source' ≡ source
   pub same : new ≡ record old { frame = None }
 
