@@ -92,10 +92,6 @@ of_batch m levels bytes e is (twice _ _ _ mark some h) = tt
 of_batch m levels bytes e is (in_value _ _ _ f _ occurs h) = value_of_batch (kind_of m f.number) (simple m is f.number) levels f.value e h
 of_batch m levels bytes e is (within _ _ _ n part next deep _ occurs at h) = of_batch next deep part e (payload_inside (kind_of m n) (simple m is n) levels next deep at) h
 
--- a defect in a payload is one of those that can stand in a batch
-pub in_payload : (levels : ℕ) (part : List ℕ) (e : Defect) → Stands ArrowPayload levels part e → IsOfBatch e
-in_payload levels part e stands = of_batch ArrowPayload levels part e (inr refl) stands
-
 -- a defect in a batch is named by a refusal
 refused : (bytes : List ℕ) (e : Defect) → IsOfBatch e → Stands BatchArrowRecords level_limit bytes e → (refusal : BatchRefusal) × RefusesBatch bytes refusal
 refused bytes defects.BadMessage of stands = (refusals.BadMessage, stands)

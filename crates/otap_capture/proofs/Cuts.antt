@@ -8,7 +8,7 @@ use Rattle.otap_capture.specs.Cutting.{BeginsFrame, CutsFrame}
 use Rattle.otap_capture.specs.Inside.{reading_of, frame_in, IsSound}
 use Rattle.otap_capture.specs.Deciding.{read_ahead}
 use Rattle.otap_capture.specs.Reading.{KeepsFew}
-use Rattle.otap_capture.proofs.Decided.{few_lean, frame_bound, lean_length, lean_rest}
+use Rattle.otap_capture.proofs.Decided.{few_lean, frame_bound, lean_rest}
 use Rattle.otap_capture.proofs.Framing.{split}
 
 long : (bytes : List ℕ) (size : ℕ) → 5 + size ≤ length bytes → length (take 5 bytes ++ take size (drop 5 bytes)) ≡ 5 + size
@@ -56,14 +56,6 @@ sound_cut s k size sound b = record {
   lean = few_lean _ (rest_cut s k size sound b);
   few = sound.few;
   below = let bound = frame_bound _ _ b.is_frame in let e = long (drop s.place s.bytes.items) size b.room in let begins = b.begins in omega (arith, bound, e, begins);
-}
-
--- few bytes are kept, and little is held
-pub sound_few : (s : Inside) → IsSound s → KeepsFew (reading_of s) (reading_of s)
-sound_few s sound = record {
-  taken = let less = lean_length _ sound.lean in omega (arith, less);
-  lean = sound.lean;
-  memory = sound.few;
 }
 
 pub few_cut : (s : Inside) (k : Flag) (size : ℕ) → IsSound s → BeginsFrame s.handed (drop s.place s.bytes.items) k size
