@@ -27,15 +27,15 @@ cuts_frame s k size b =
       frame = frame_in k (take size (drop 5 bytes));
       is_frame = b.is_frame;
       begins = b.begins;
-      kept = split bytes size ∙ ap (λ l. (take 5 bytes ++ take size (drop 5 bytes)) ++ l) (drop-drop (5 + size) s.place s.bytes.items ∙ ap (λ n. drop n s.bytes.items) behind);
+      kept = split bytes size ∙ ap (λ l. (take 5 bytes ++ take size (drop 5 bytes)) ++ l) (drop-drop (5 + size) s.place s.bytes.items ∙ ap (λ n. drop n s.bytes.items) sums);
       handed = ap (λ n. s.handed + n) (sym (long bytes size b.room));
       shown = ap (λ l. Some (frame_in k l)) part;
       ended = refl;
       complete = refl;
     }
   where
-    behind : s.place + (5 + size) ≡ s.place + 5 + size
-    behind = omega arith
+    sums : s.place + (5 + size) ≡ s.place + 5 + size
+    sums = omega arith
 
     part : slice_range s.bytes.items (s.place + 5) (s.place + 5 + size) ≡ take size (drop 5 (drop s.place s.bytes.items))
     part = let width : s.place + 5 + size - (s.place + 5) ≡ size = omega arith in rw (width, drop-drop 5 s.place s.bytes.items) refl

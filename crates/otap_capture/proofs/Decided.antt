@@ -30,9 +30,9 @@ front_more (a ∷ []) more enough = absurd (enough (inr refl))
 front_more (a ∷ b ∷ []) more enough = absurd (enough (inr refl))
 front_more (a ∷ b ∷ c ∷ []) more enough = absurd (enough (inr refl))
 front_more (a ∷ b ∷ c ∷ d ∷ []) more enough = absurd (enough (inr refl))
-front_more (flag ∷ a ∷ b ∷ c ∷ d ∷ behind) more enough =
+front_more (flag ∷ a ∷ b ∷ c ∷ d ∷ after) more enough =
     let size = big_number 4 (a ∷ b ∷ c ∷ d ∷ []) in
-    ap (head_reason flag size) (length-append behind more) ∙ head_more flag size (length behind) (length more) (λ short. enough (inr short))
+    ap (head_reason flag size) (length-append after more) ∙ head_more flag size (length after) (length more) (λ short. enough (inr short))
 
 pub reason_more : (place : ℕ) (bytes more : List ℕ) → (IsOpen place bytes → ⊥) → reason_at place (bytes ++ more) ≡ reason_at place bytes
 reason_more place bytes more decided = by_place (cases_lt place capture_limit)

@@ -19,8 +19,8 @@ are_frames-push place bytes more [] frame none is_frame begins =
     let at : place < capture_limit = let e = ap length none in omega (arith, e) in
     (more, [], ap (λ l. l ++ more) none ∙ sym (append-nil more), at, is_frame, refl)
 are_frames-push place bytes more (f ∷ frames) frame each is_frame begins =
-    let behind : place + length each.0 + length each.1 < capture_limit = let e = ap length each.2 in omega (arith, e, length-append each.0 each.1) in
-    (each.0, each.1 ++ more, ap (λ l. l ++ more) each.2 ∙ append_assoc each.0 each.1 more, each.3, each.4, are_frames-push (place + length each.0) each.1 more frames frame each.5 is_frame behind)
+    let below : place + length each.0 + length each.1 < capture_limit = let e = ap length each.2 in omega (arith, e, length-append each.0 each.1) in
+    (each.0, each.1 ++ more, ap (λ l. l ++ more) each.2 ∙ append_assoc each.0 each.1 more, each.3, each.4, are_frames-push (place + length each.0) each.1 more frames frame each.5 is_frame below)
 
 -- the head, the bytes after it, and the rest
 pub split : (bytes : List ℕ) (size : ℕ) → bytes ≡ (take 5 bytes ++ take size (drop 5 bytes)) ++ drop (5 + size) bytes

@@ -61,8 +61,8 @@ one_frame front front' rest rest' f g whole p q =
     let b = parts_of front' g q in
     let spelled : a.flag ∷ (a.size ++ a.part ++ rest) ≡ b.flag ∷ (b.size ++ b.part ++ rest') = sym (ap (λ l. l ++ rest) a.whole) ∙ whole ∙ ap (λ l. l ++ rest') b.whole in
     let flag : a.flag ≡ b.flag = cc in
-    let behind : a.size ++ a.part ++ rest ≡ b.size ++ b.part ++ rest' = cc in
-    let sizes = same_front a.size b.size (a.part ++ rest) (b.part ++ rest') (a.four ∙ sym b.four) (sym (append_assoc a.size a.part rest) ∙ behind ∙ append_assoc b.size b.part rest') in
+    let tails : a.size ++ a.part ++ rest ≡ b.size ++ b.part ++ rest' = cc in
+    let sizes = same_front a.size b.size (a.part ++ rest) (b.part ++ rest') (a.four ∙ sym b.four) (sym (append_assoc a.size a.part rest) ∙ tails ∙ append_assoc b.size b.part rest') in
     let parts = same_front a.part b.part rest rest' (a.long ∙ ap (big_number 4) sizes.0 ∙ sym b.long) sizes.1 in
     let front_is : front ≡ front' = a.whole ∙ ap (λ l. a.flag ∷ (l ++ a.part)) sizes.0 ∙ ap (λ l. a.flag ∷ (b.size ++ l)) parts.0 ∙ ap (λ n. n ∷ (b.size ++ b.part)) flag ∙ sym b.whole in
     (front_is, parts.1, one_carried a.flag a.part f g a.carries (subst (λ l. Carries a.flag l g) (sym parts.0) (subst (λ n. Carries n b.part g) (sym flag) b.carries)))
@@ -109,9 +109,9 @@ one_end place rest (Some d) (Some e) p q =
     λ i. Some (record { at = at i; why = why i })
 
 -- where a frame stands in front of a capture's end, the end is that after it
-behind_frame : (place : ℕ) (front first more rest : List ℕ) (end : Option Damage) → front ≡ first ++ more → EndsAt (place + length front) rest end
+after_frame : (place : ℕ) (front first more rest : List ℕ) (end : Option Damage) → front ≡ first ++ more → EndsAt (place + length front) rest end
     → EndsAt (place + length first + length more) rest end
-behind_frame place front first more rest end whole ends =
+after_frame place front first more rest end whole ends =
     let at : place + length front ≡ place + length first + length more = let e = ap length whole in omega (arith, e, length-append first more) in
     subst (λ n. EndsAt n rest end) at ends
 
@@ -138,8 +138,8 @@ one_reading place front front' rest rest' (f ∷ fs) (g ∷ gs) end other whole 
     let one = one_frame p.0 q.0 (p.1 ++ rest) (q.1 ++ rest') f g both p.4 q.4 in
     let further = one_reading (place + length p.0) p.1 q.1 rest rest' fs gs end other one.1 p.5
     (subst (λ l. AreFrames (place + length l) q.1 gs) (sym one.0) q.5)
-    (behind_frame place front p.0 p.1 rest end p.2 ends)
-    (subst (λ l. EndsAt (place + length l + length q.1) rest' other) (sym one.0) (behind_frame place front' q.0 q.1 rest' other q.2 ends')) in
+    (after_frame place front p.0 p.1 rest end p.2 ends)
+    (subst (λ l. EndsAt (place + length l + length q.1) rest' other) (sym one.0) (after_frame place front' q.0 q.1 rest' other q.2 ends')) in
     ((λ i. one.2 i ∷ further.0 i), further.1)
 
 pub one_capture : (bytes : List ℕ) (frames others : List Frame) (end other : Option Damage) → IsCapture bytes frames end → IsCapture bytes others other → (frames ≡ others) × (end ≡ other)

@@ -52,28 +52,28 @@ record Begins (place : ℕ) (bytes : List ℕ) : Type 0 where
   shorter : length rest < length bytes
 
 -- bytes after a head
-behind_head : (place flag a b c d : ℕ) (behind : List ℕ) → place < capture_limit
-    → ((end : Option Damage) × EndsAt place (flag ∷ a ∷ b ∷ c ∷ d ∷ behind) end) ⊎ Begins place (flag ∷ a ∷ b ∷ c ∷ d ∷ behind)
-behind_head place flag a b c d behind below = by_head (head_of flag (big_number 4 (a ∷ b ∷ c ∷ d ∷ [])) (length behind))
+after_head : (place flag a b c d : ℕ) (after : List ℕ) → place < capture_limit
+    → ((end : Option Damage) × EndsAt place (flag ∷ a ∷ b ∷ c ∷ d ∷ after) end) ⊎ Begins place (flag ∷ a ∷ b ∷ c ∷ d ∷ after)
+after_head place flag a b c d after below = by_head (head_of flag (big_number 4 (a ∷ b ∷ c ∷ d ∷ [])) (length after))
   where
     size : ℕ
     size = big_number 4 (a ∷ b ∷ c ∷ d ∷ [])
 
-    by_head : ((why : Why) × (head_reason flag size (length behind) ≡ Some why)) ⊎ IsHead flag size (length behind)
-        → ((end : Option Damage) × EndsAt place (flag ∷ a ∷ b ∷ c ∷ d ∷ behind) end) ⊎ Begins place (flag ∷ a ∷ b ∷ c ∷ d ∷ behind)
+    by_head : ((why : Why) × (head_reason flag size (length after) ≡ Some why)) ⊎ IsHead flag size (length after)
+        → ((end : Option Damage) × EndsAt place (flag ∷ a ∷ b ∷ c ∷ d ∷ after) end) ⊎ Begins place (flag ∷ a ∷ b ∷ c ∷ d ∷ after)
     by_head (inl bad) = inl (Some (record { at = place; why = bad.0 }), (refl, rw (lt-leb capture_limit place below) bad.1))
     by_head (inr head) =
-        let part = take size behind in
-        let long : length part ≡ size = length-take-le size behind head.room in
+        let part = take size after in
+        let long : length part ≡ size = length-take-le size after head.room in
         let found = head.frame part long in
         inr (record {
           front = flag ∷ a ∷ b ∷ c ∷ d ∷ part;
-          rest = drop size behind;
+          rest = drop size after;
           frame = found.0;
-          whole = ap (λ l. flag ∷ a ∷ b ∷ c ∷ d ∷ l) (sym (take-append-drop size behind));
+          whole = ap (λ l. flag ∷ a ∷ b ∷ c ∷ d ∷ l) (sym (take-append-drop size after));
           begins = below;
           is_frame = (long, rw long head.fits, found.1);
-          shorter = omega (arith, length-drop size behind);
+          shorter = omega (arith, length-drop size after);
         })
 
 -- a frame stands at a place, or an end
@@ -89,7 +89,7 @@ here place bytes = by_place (cases_lt place capture_limit)
     by_bytes below (a ∷ b ∷ []) = inl (cut below (a ∷ b ∷ []) refl)
     by_bytes below (a ∷ b ∷ c ∷ []) = inl (cut below (a ∷ b ∷ c ∷ []) refl)
     by_bytes below (a ∷ b ∷ c ∷ d ∷ []) = inl (cut below (a ∷ b ∷ c ∷ d ∷ []) refl)
-    by_bytes below (flag ∷ a ∷ b ∷ c ∷ d ∷ behind) = behind_head place flag a b c d behind below
+    by_bytes below (flag ∷ a ∷ b ∷ c ∷ d ∷ after) = after_head place flag a b c d after below
 
     by_place : (place < capture_limit) ⊎ (capture_limit ≤ place) → ((end : Option Damage) × EndsAt place bytes end) ⊎ Begins place bytes
     by_place (inl below) = by_bytes below bytes
