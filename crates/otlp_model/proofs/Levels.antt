@@ -1,5 +1,5 @@
 -- The folds over a value, constructor by constructor.
-use Rattle.std.proofs.Common.{◌≡◌, ℕ, ◌+◌, ◌^◌, ◌&&◌, Bool, true, List, [], ◌∷◌, map, length, refl, ap, rules}
+use Rattle.std.proofs.Common.{◌≡◌, ℕ, ◌+◌, ◌^◌, ◌&&◌, Bool, List, [], ◌∷◌, map, length, refl, ap, rules}
 use Rattle.std.specs.Prelude.{nat_lt, ℤ}
 use Rattle.std.specs.List.{list_all}
 use Rattle.std.proofs.lemmas.List.{length-map}
@@ -65,14 +65,8 @@ weight_of_array members = search (rules, the_lemmas, total-map)
 pub weight_of_map : (pairs : List Pair) → weight_of_value (values.Map pairs) ≡ total 32 weight_of_pair pairs
 weight_of_map pairs = search (rules, the_lemmas, total-map)
 
-pub is_real_empty : is_real_value values.Empty ≡ true
-is_real_empty = search (rules, the_lemmas)
-
 pub is_real_str : (text : List ℕ) → is_real_value (values.Str text) ≡ is_real_text text
 is_real_str text = search (rules, the_lemmas)
-
-pub is_real_bool : (b : Bool) → is_real_value (values.Bool b) ≡ true
-is_real_bool b = search (rules, the_lemmas)
 
 pub is_real_int : (z : ℤ) → is_real_value (values.Int z) ≡ fits_i64 z
 is_real_int z = search (rules, the_lemmas)

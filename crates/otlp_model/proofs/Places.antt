@@ -18,14 +18,6 @@ steps (group ∷ groups) scope = 1 + (length group.scopes - scope) + steps group
 opened : {A : Type 0} (xs : List A) (i : ℕ) (x : A) → i < length xs → x ≡ get_or xs i x → drop i xs ≡ x ∷ drop (i + 1) xs
 opened xs i x h e = rw add-one (drop-cons xs i x h ∙ ap (λ y. y ∷ drop (suc i) xs) (sym e))
 
-pub steps_scope : {I : Type 0} (groups : List (ResourceGroup I)) (i p : ℕ) (g : ResourceGroup I) → i < length groups → g ≡ get_or groups i g
-    → p < length g.scopes → steps (drop i groups) (p + 1) < steps (drop i groups) p
-steps_scope groups i p g inside e h = rw (opened groups i g inside e) (omega arith)
-
-pub steps_group : {I : Type 0} (groups : List (ResourceGroup I)) (i p : ℕ) (g : ResourceGroup I) → i < length groups → g ≡ get_or groups i g
-    → steps (drop (i + 1) groups) 0 < steps (drop i groups) p
-steps_group groups i p g inside e = rw (opened groups i g inside e) (omega arith)
-
 scopes_start : {I : Type 0} (r : Resource) (scopes : List (ScopeGroup I)) → left_of_scopes r scopes 0 ≡ flat_map (entries_of_scope_group r) scopes
 scopes_start r [] = refl
 scopes_start r (s ∷ ss) = refl
