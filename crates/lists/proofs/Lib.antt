@@ -2,3 +2,4 @@ pub mod Growing
 pub mod Latest
 pub mod Lists
 pub mod RealBytes
+pub mod Zipped

@@ -2,7 +2,7 @@
 use Rattle.std.proofs.Common.{ℕ, List, [], ◌∷◌, Option, None, Some, map, refl}
 use Rattle.std.specs.Prelude.{filter}
 use Rattle.std.specs.List.{AllZip, flat_map}
-use Rattle.otlp_model.proofs.Zipped.{zipped_append}
+use Rattle.lists.proofs.Zipped.{zipped_append}
 use Rattle.otlp_model.specs.Same.{SameEntry, SameItem, SameOften, SameResource, SameScope}
 use Rattle.otlp_model.specs.Telemetry.{Entry, Item, entries_of, entries_of_scope_group, entry, told}
 use Rattle.otlp_model.specs.declared.value.Pair.{Pair}

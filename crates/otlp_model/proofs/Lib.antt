@@ -7,4 +7,3 @@ pub mod RealParts
 pub mod Runs
 pub mod Signals
 pub mod WithItems
-pub mod Zipped

@@ -6,7 +6,7 @@ use Rattle.std.proofs.lemmas.List.{take-append-drop, map-append, length-map, len
 use Rattle.otlp_model.specs.Same.{SameResource, SameScope, SameEntry}
 use Rattle.otlp_model.specs.Telemetry.{entry}
 use Rattle.otlp_model.specs.Walk.{left, IsRun, StartsSame}
-use Rattle.otlp_model.proofs.Zipped.{zipped_append, zipped_front, zipped_behind}
+use Rattle.lists.proofs.Zipped.{zipped_append, zipped_front, zipped_behind}
 use Rattle.otlp_model.specs.declared.groups.Resource.{Resource}
 use Rattle.otlp_model.specs.declared.groups.Scope.{Scope}
 use Rattle.otlp_model.specs.declared.groups.ResourceGroup.{ResourceGroup}

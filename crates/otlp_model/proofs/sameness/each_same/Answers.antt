@@ -1,5 +1,5 @@
 use Rattle.std.proofs.Common.{arith, refl}
-use Rattle.otlp_model.proofs.Zipped.{zipped_from_places}
+use Rattle.lists.proofs.Zipped.{zipped_from_places}
 use Rattle.otlp_model.proofs.sameness.each_same.Goals as goal
 
 pub returns : goal.returns
