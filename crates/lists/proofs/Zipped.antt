@@ -24,9 +24,9 @@ zipped_front R [] xs' (y ∷ ys) ys' long h = absurd (omega arith)
 zipped_front R (x ∷ xs) xs' [] ys' long h = absurd (omega arith)
 zipped_front R (x ∷ xs) xs' (y ∷ ys) ys' long h = (h.0, zipped_front R xs xs' ys ys' (omega arith) h.1)
 
-pub zipped_behind : {A B : Type 0} (R : A → B → Type 0) (xs xs' : List A) (ys ys' : List B)
+pub zipped_rest : {A B : Type 0} (R : A → B → Type 0) (xs xs' : List A) (ys ys' : List B)
     → length xs ≡ length ys → AllZip R (xs ++ xs') (ys ++ ys') → AllZip R xs' ys'
-zipped_behind R [] xs' [] ys' long h = h
-zipped_behind R [] xs' (y ∷ ys) ys' long h = absurd (omega arith)
-zipped_behind R (x ∷ xs) xs' [] ys' long h = absurd (omega arith)
-zipped_behind R (x ∷ xs) xs' (y ∷ ys) ys' long h = zipped_behind R xs xs' ys ys' (omega arith) h.1
+zipped_rest R [] xs' [] ys' long h = h
+zipped_rest R [] xs' (y ∷ ys) ys' long h = absurd (omega arith)
+zipped_rest R (x ∷ xs) xs' [] ys' long h = absurd (omega arith)
+zipped_rest R (x ∷ xs) xs' (y ∷ ys) ys' long h = zipped_rest R xs xs' ys ys' (omega arith) h.1

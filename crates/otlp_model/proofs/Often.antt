@@ -43,7 +43,7 @@ pub pair_is_itself : (p q : Pair) → p ≡ q → pair_is p q ≡ true
 unfolding pair_is
 pair_is_itself p q e = subst (λ x. code_is (contract.the_row.coded.code p) (contract.the_row.coded.code x) ≡ true) e (code_is_itself (contract.the_row.coded.code p))
 
--- an answer that says whether two pairs are the same is the test
+-- a result that says whether two pairs are the same is the test
 pub pair_is_told : (r : Bool) (p q : Pair) → ((r ≡ true) ↔ (p ≡ q)) → r ≡ pair_is p q
 pair_is_told true p q h = sym (pair_is_itself p q (h.0 refl))
 pair_is_told false p q h = by (pair_is p q) (λ e. h.1 (pair_same p q e)) where
@@ -86,8 +86,8 @@ pub each_as_often : (xs ys wanted : List Pair) → SameOften xs ys → Each (λ 
 each_as_often xs ys wanted same = record { at = λ k d h. same.each (slice_index_or wanted k d) }
 
 -- a common front doesn't count
-same_behind : (n : ℕ) (xs ys : List Pair) → take n xs ≡ take n ys → SameOften (drop n xs) (drop n ys) → SameOften xs ys
-same_behind n xs ys front same = record {
+same_after : (n : ℕ) (xs ys : List Pair) → take n xs ≡ take n ys → SameOften (drop n xs) (drop n ys) → SameOften xs ys
+same_after n xs ys front same = record {
   each = λ p.
       let a = occurrences-append p (take n xs) (drop n xs) in
       let b = occurrences-append p (take n ys) (drop n ys) in
@@ -110,7 +110,7 @@ same_without n xs ys front same = record {
       omega arith;
 }
 
--- an answer about what stands after a common front is one about the whole
+-- a result about what stands after a common front is one about the whole
 pub same_front : (n : ℕ) (xs ys : List Pair) (r : Bool) → take n xs ≡ take n ys
     → (IsTrue r ↔ SameOften (take (length xs - n) (drop n xs)) (take (length ys - n) (drop n ys))) → IsTrue r ↔ SameOften xs ys
 same_front n xs ys r front told =
@@ -119,7 +119,7 @@ same_front n xs ys r front told =
     let rest : IsTrue r ↔ SameOften (drop n xs) (drop n ys) =
     subst (λ l. IsTrue r ↔ SameOften l (drop n ys)) left
     (subst (λ l. IsTrue r ↔ SameOften (take (length xs - n) (drop n xs)) l) right told) in
-    (λ h. same_behind n xs ys front (rest.0 h), λ h. rest.1 (same_without n xs ys front h))
+    (λ h. same_after n xs ys front (rest.0 h), λ h. rest.1 (same_without n xs ys front h))
 
 -- the order of pairs doesn't count
 pub same_often_reordered : (xs ys : List Pair) → IsPermutation xs ys → SameOften xs ys

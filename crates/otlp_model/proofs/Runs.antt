@@ -6,7 +6,7 @@ use Rattle.std.proofs.lemmas.List.{take-append-drop, map-append, length-map, len
 use Rattle.otlp_model.specs.Same.{SameResource, SameScope, SameEntry}
 use Rattle.otlp_model.specs.Telemetry.{entry}
 use Rattle.otlp_model.specs.Walk.{left, IsRun, StartsSame}
-use Rattle.lists.proofs.Zipped.{zipped_append, zipped_front, zipped_behind}
+use Rattle.lists.proofs.Zipped.{zipped_append, zipped_front, zipped_rest}
 use Rattle.otlp_model.specs.declared.groups.Resource.{Resource}
 use Rattle.otlp_model.specs.declared.groups.Scope.{Scope}
 use Rattle.otlp_model.specs.declared.groups.ResourceGroup.{ResourceGroup}
@@ -85,7 +85,7 @@ module _ {I : Type 0} (SameOne : I → I → Type 0) (gs hs : List (ResourceGrou
   starts_gone start =
       let front = told_same SameOne r q s t (take n xs) (take n ys) start.resource start.scope start.items in (
         λ h. split.1 (zipped_append (SameEntry SameOne) _ _ _ _ front h),
-        λ h. zipped_behind (SameEntry SameOne) _ _ _ _ long (split.0 h),
+        λ h. zipped_rest (SameEntry SameOne) _ _ _ _ long (split.0 h),
       )
 
 -- whose resources were found to be the same, as far as two lists of groups have them
