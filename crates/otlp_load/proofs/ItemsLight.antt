@@ -26,10 +26,10 @@ total_at_most each bound weigh (part ∷ parts) light =
 pub counted_at_most : {A : Type 0} (n each bound : ℕ) (weigh : A → ℕ) (parts : List A) → length parts ≡ n → All (λ part. weigh part ≤ bound) parts → total each weigh parts ≤ n * (each + bound)
 counted_at_most n each bound weigh parts many light = subst (λ (k : ℕ). total each weigh parts ≤ k * (each + bound)) many (total_at_most each bound weigh parts light)
 
--- a text of at most `front` bytes with a number of at most `digits` digits behind it
+-- a text of at most `front` bytes with a number of at most `digits` digits after it
 pub numbered_at_most : (digits n : ℕ) (text : List ℕ) → 0 < digits → n < 10 ^ digits → n < 2 ^ 64 → length (numbered text n) ≤ length text + digits
 numbered_at_most digits n text some few fits =
-    let behind = length-decimal-le digits n some few fits in
+    let few_digits = length-decimal-le digits n some few fits in
     rw (length-append text (decimal n)) (omega arith)
 
 pub str_at_most : (text : List ℕ) (bound : ℕ) → length text ≤ bound → weight_of_value (values.Str text) ≤ bound

@@ -11,7 +11,7 @@ use Rattle.otlp_model.specs.declared.value.Pair.{Pair}
 abbrev pub double : ℕ → ℕ
 double number = to_bits binary64 (of_int binary64 (pos number))
 
--- a text with a number behind it, in decimal
+-- a text with a number after it, in decimal
 abbrev pub numbered : List ℕ → ℕ → List ℕ
 numbered text number = text ++ decimal number
 
