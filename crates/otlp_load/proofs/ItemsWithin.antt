@@ -4,8 +4,9 @@ use Rattle.std.specs.Prelude.{◌==◌, codes, pos}
 use Rattle.std.specs.List.{range_with_len}
 use Rattle.std.proofs.lemmas.List.Elements.{All-map, All-nil, All-cons}
 use Rattle.otlp_model.specs.Each.{Each}
-use Rattle.otlp_model.specs.Profile.{IsProfileValue, IsProfilePair, IsProfileEvent, IsProfileLink, IsProfileSpan, IsProfileLogRecord, IsProfilePoint, IsProfileExemplar, IsProfileShape, IsProfileMetric, IsProfileResource, IsProfileScopeGroup, IsProfileResourceGroup, IsProfile}
-use Rattle.otlp_model.specs.declared.value.Value.{Value, the_lemmas}
+use Rattle.otlp_model.specs.Profile.{IsProfileValue, IsProfilePair, IsProfileEvent, IsProfileLink, IsProfileSpan, IsProfileLogRecord, IsProfilePoint, IsProfileExemplar}
+use Rattle.otlp_model.specs.Profile.{IsProfileShape, IsProfileMetric, IsProfileResource, IsProfileScopeGroup, IsProfileResourceGroup, IsProfile}
+use Rattle.otlp_model.specs.declared.value.Value.{the_lemmas}
 use Rattle.otlp_model.specs.declared.value.Value as values
 use Rattle.otlp_model.specs.declared.metrics.Number.{Number}
 use Rattle.otlp_model.specs.declared.groups.ResourceGroup.{ResourceGroup}
