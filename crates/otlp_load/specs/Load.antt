@@ -22,9 +22,13 @@ items_each = 8192
 abbrev pub requests_at_most : ℕ
 requests_at_most = 1000
 
+-- the number of each item is below this
+abbrev pub numbers_end : ℕ
+numbers_end = items_each * requests_at_most
+
 -- the number of the item at the place k of request r
 abbrev pub number_at : ℕ → ℕ → ℕ
-number_at r k = 8192 * r + k
+number_at r k = items_each * r + k
 
 -- the places of group g below some place, in ascending order: those that leave g when they are divided by 3
 unfoldable pub places_below : ℕ → ℕ → List ℕ

@@ -1,6 +1,6 @@
 //! The groups of a request, for items of any signal.
 ghost use Rattle.std.specs.Prelude.{◌≡◌, ◌∷◌, [], ◌<◌, IfOk, map};
-ghost use Rattle.otlp_load.specs.Load.{items_each, number_at, places_below, resource_of, scope_of_all, group_of, groups_of};
+ghost use Rattle.otlp_load.specs.Load.{items_each, requests_at_most, number_at, places_below, resource_of, scope_of_all, group_of, groups_of};
 
 use crate::items::{Made, list_of_one};
 use crate::pairs::numbered;
@@ -17,7 +17,7 @@ pub(crate) fn groups<I: Made>(
     alloc: Global,
     request: u32,
 ) -> Result<Items<ResourceGroup<I>>, AllocError>
-    requires { request < 1000 }
+    requires { request < requests_at_most }
     ensures { IfOk result (λ groups. groups ≡ groups_of I.item_of request) }
 {
     let mut groups = Items::new(alloc);
@@ -29,7 +29,7 @@ pub(crate) fn groups<I: Made>(
 }
 
 fn group<I: Made>(alloc: Global, request: u32, place: u32) -> Result<ResourceGroup<I>, AllocError>
-    requires request { request < 1000 }
+    requires request { request < requests_at_most }
     requires place { place < 3 }
     ensures { IfOk result (λ group. group ≡ group_of I.item_of request place) }
 {
@@ -77,7 +77,7 @@ fn scope(alloc: Global) -> Result<Scope, AllocError>
 
 /// The items of a group: every third one, from the group's own place on.
 fn items<I: Made>(alloc: Global, request: u32, group: u32) -> Result<Items<I>, AllocError>
-    requires request { request < 1000 }
+    requires request { request < requests_at_most }
     requires group { group < 3 }
     ensures { IfOk result (λ items. items ≡ map (λ k. I.item_of request (number_at request k)) (places_below items_each group)) }
 {

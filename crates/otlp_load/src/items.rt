@@ -1,6 +1,7 @@
 //! The items: spans, log records and metrics.
 ghost use Rattle.std.specs.Prelude.{◌≡◌, ◌<◌, [], ◌∷◌, ◌++◌, IfOk, codes};
 ghost use Rattle.otlp_load.specs.Items.{time_of, id_of, event_at, span_of, log_record_of, point_of, shape_of, metric_of};
+ghost use Rattle.otlp_load.specs.Load.{numbers_end};
 
 use crate::pairs::{double, numbered, pairs};
 use otlp_model::{
@@ -17,7 +18,7 @@ pub(crate) trait Made: Drop + Sized {
 
     /// The item with this number.
     fn made(alloc: Global, request: u32, number: u32) -> Result<Self, AllocError>
-        requires { number < 8192000 }
+        requires { number < numbers_end }
         ensures { IfOk result (λ item. item ≡ item_of request number) };
 }
 
@@ -132,7 +133,7 @@ impl Made for Metric {
 
 /// What a metric measures: an odd number has a monotonic sum, an even one a gauge.
 fn shape(alloc: Global, request: u32, number: u32) -> Result<Shape, AllocError>
-    requires { number < 8192000 }
+    requires { number < numbers_end }
     ensures { IfOk result (λ shape. shape ≡ shape_of request number) }
 {
     if number % 2 == 1 {
@@ -150,7 +151,7 @@ fn shape(alloc: Global, request: u32, number: u32) -> Result<Shape, AllocError>
 }
 
 fn point(alloc: Global, request: u32, number: u32, value: Number) -> Result<Point, AllocError>
-    requires { number < 8192000 }
+    requires { number < numbers_end }
     ensures { IfOk result (λ point. point ≡ point_of request number value) }
 {
     Ok(Point {

@@ -1,6 +1,7 @@
 //! The texts and the pairs of an item.
 ghost use Rattle.std.specs.Prelude.{◌≡◌, ◌<◌, IfOk, codes};
 ghost use Rattle.std.specs.Fmt.{decimal};
+ghost use Rattle.otlp_load.specs.Load.{numbers_end};
 ghost use Rattle.otlp_load.specs.Pairs.{double, numbered, value_at, pair_at, pairs_of};
 
 use otlp_model::{Items, Pair, Text, Value};
@@ -28,7 +29,7 @@ pub(crate) fn double(number: u32) -> u64
 /// The twelve pairs of an item: its number, and that of its request.
 #[tactic(auto, using(crate::proofs::GroupPlaces::one_more), unfolding(crate::specs::Pairs::pairs_of))]
 pub(crate) fn pairs(alloc: Global, request: u32, number: u32) -> Result<Items<Pair>, AllocError>
-    requires { number < 8192000 }
+    requires { number < numbers_end }
     ensures { IfOk result (λ pairs. pairs ≡ pairs_of request number) }
 {
     let mut pairs = Items::new(alloc);
@@ -40,7 +41,7 @@ pub(crate) fn pairs(alloc: Global, request: u32, number: u32) -> Result<Items<Pa
 }
 
 fn pair(alloc: Global, request: u32, number: u32, place: u32) -> Result<Pair, AllocError>
-    requires number { number < 8192000 }
+    requires number { number < numbers_end }
     requires place { place < 12 }
     ensures { IfOk result (λ pair. pair ≡ pair_at request number place) }
 {
@@ -74,7 +75,7 @@ fn key(place: u32) -> &'static str
 
 /// The value at a place.
 fn value(alloc: Global, request: u32, number: u32, place: u32) -> Result<Value, AllocError>
-    requires number { number < 8192000 }
+    requires number { number < numbers_end }
     requires place { place < 12 }
     ensures { IfOk result (λ value. value ≡ value_at request number place) }
 {

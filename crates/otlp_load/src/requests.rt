@@ -1,5 +1,5 @@
 ghost use Rattle.std.specs.Prelude.{◌≡◌, ◌<◌, IfOk};
-ghost use Rattle.otlp_load.specs.Load.{generated};
+ghost use Rattle.otlp_load.specs.Load.{generated, requests_at_most};
 
 use crate::groups::groups;
 use otlp_model::{Request, Signal};
@@ -13,7 +13,7 @@ pub const REQUESTS: u32 = 1_000;
 
 /// Request number `request` of a signal. Linear in its items.
 pub fn generated(alloc: Global, signal: Signal, request: u32) -> Result<Request, AllocError>
-    requires { request < 1000 }
+    requires { request < requests_at_most }
     ensures { IfOk result (λ made. made ≡ generated signal request) }
 {
     Ok(match signal {
