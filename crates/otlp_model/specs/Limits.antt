@@ -8,6 +8,10 @@ item_limit = 1048576
 abbrev pub weight_limit : ℕ
 weight_limit = 2 ^ 26
 
+-- counts, weights and depths are returned up to this number
+abbrev pub count_cap : ℕ
+count_cap = 2 ^ 63
+
 -- how deep a value
 abbrev pub depth_limit : ℕ
 depth_limit = 32

@@ -1,4 +1,5 @@
-ghost use Rattle.std.specs.Prelude.{◌≡◌, ◌^◌, min, length};
+ghost use Rattle.std.specs.Prelude.{◌≡◌, min, length};
+ghost use Rattle.otlp_model.specs.Limits.{count_cap};
 ghost use Rattle.otlp_model.specs.Telemetry.{entries_of, entries_of_group};
 
 use crate::groups::ResourceGroup;
@@ -6,7 +7,7 @@ use crate::limits::add_capped;
 
 /// How many items the groups have.
 pub(crate) fn item_count<I>(groups: &[ResourceGroup<I>]) -> u64
-    ensures { result ≡ min (length (entries_of groups.now)) (2 ^ 63) }
+    ensures { result ≡ min (length (entries_of groups.now)) count_cap }
 {
     let mut count = 0;
     for group in groups {
@@ -16,7 +17,7 @@ pub(crate) fn item_count<I>(groups: &[ResourceGroup<I>]) -> u64
 }
 
 fn group_count<I>(group: &ResourceGroup<I>) -> u64
-    ensures { result ≡ min (length (entries_of_group group.now)) (2 ^ 63) }
+    ensures { result ≡ min (length (entries_of_group group.now)) count_cap }
 {
     let mut count = 0;
     for scope in group.scopes.as_slice() {

@@ -1,4 +1,5 @@
-ghost use Rattle.std.specs.Prelude.{◌≡◌, ◌^◌, min, map};
+ghost use Rattle.std.specs.Prelude.{◌≡◌, min, map};
+ghost use Rattle.otlp_model.specs.Limits.{count_cap};
 ghost use Rattle.otlp_model.specs.Depth.{depth_of, greatest, depth_of_pair};
 
 use crate::limits::add_capped;
@@ -11,7 +12,7 @@ use crate::value::{Pair, Value};
 #[cycle(depth)]
 #[tactic(auto, using(crate::proofs::Levels::depth_of_map))]
 pub fn depth(value: &Value) -> u64
-    ensures { result ≡ min (depth_of value.now) (2 ^ 63) }
+    ensures { result ≡ min (depth_of value.now) count_cap }
 {
     match value {
         Value::Array(members) => add_capped(deepest_member(members.as_slice()), 1),
@@ -22,7 +23,7 @@ pub fn depth(value: &Value) -> u64
 
 #[cycle(depth)]
 fn deepest_member(members: &[Value]) -> u64
-    ensures { result ≡ min (greatest (map depth_of members.now)) (2 ^ 63) }
+    ensures { result ≡ min (greatest (map depth_of members.now)) count_cap }
 {
     let mut deepest = 0;
     for member in members {
@@ -33,7 +34,7 @@ fn deepest_member(members: &[Value]) -> u64
 
 #[cycle(depth)]
 fn deepest_pair(pairs: &[Pair]) -> u64
-    ensures { result ≡ min (greatest (map depth_of_pair pairs.now)) (2 ^ 63) }
+    ensures { result ≡ min (greatest (map depth_of_pair pairs.now)) count_cap }
 {
     let mut deepest = 0;
     for pair in pairs {

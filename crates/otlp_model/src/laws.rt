@@ -2,8 +2,8 @@
 
 ghost use Rattle.std.specs.Prelude.{◌≡◌, ◌≢◌, ◌↔◌, [], List, IsTrue, IsPermutation};
 ghost use Rattle.otlp_model.specs.Equal.{pair_is};
-ghost use Rattle.otlp_model.specs.declared.limits.TheConstants.{MAX_ITEMS, MAX_TREE_WEIGHT, MAX_DEPTH};
-ghost use Rattle.otlp_model.specs.Limits.{item_limit, weight_limit, depth_limit};
+ghost use Rattle.otlp_model.specs.declared.limits.TheConstants.{MAX_ITEMS, MAX_TREE_WEIGHT, MAX_DEPTH, CAP};
+ghost use Rattle.otlp_model.specs.Limits.{item_limit, weight_limit, depth_limit, count_cap};
 ghost use Rattle.otlp_model.specs.Same.{Same, SameOften};
 ghost use Rattle.otlp_model.specs.Telemetry.{telemetry, signal_of, with_items};
 ghost use Rattle.otlp_model.specs.declared.value.Pair.{Pair};
@@ -14,6 +14,7 @@ pub fn limits()
     ensures items { MAX_ITEMS ≡ item_limit }
     ensures weight { MAX_TREE_WEIGHT ≡ weight_limit }
     ensures depth { MAX_DEPTH ≡ depth_limit }
+    ensures cap { CAP ≡ count_cap }
 {}
 
 /// Denoting the same telemetry is an equivalence of requests.

@@ -1,4 +1,5 @@
-ghost use Rattle.std.specs.Prelude.{◌≡◌, ◌+◌, ◌^◌, min, sum};
+ghost use Rattle.std.specs.Prelude.{◌≡◌, ◌+◌, min, sum};
+ghost use Rattle.otlp_model.specs.Limits.{count_cap};
 
 /// How many main items (spans, log records or metrics) a request may have.
 pub const MAX_ITEMS: u64 = 1_048_576;
@@ -14,14 +15,14 @@ pub const CAP: u64 = 1 << 63;
 
 /// The sum, or `CAP` where it is larger.
 pub fn add_capped(a: u64, b: u64) -> u64
-    ensures { result ≡ min (a + b) (2 ^ 63) }
+    ensures { result ≡ min (a + b) count_cap }
 {
     a.saturating_add(b).min(CAP)
 }
 
 /// The sum of all, or `CAP` where it is larger.
 pub fn sum_capped(weights: &[u64]) -> u64
-    ensures { result ≡ min (sum weights.now) (2 ^ 63) }
+    ensures { result ≡ min (sum weights.now) count_cap }
 {
     let mut total = 0;
     for weight in weights {

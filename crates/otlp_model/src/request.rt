@@ -1,4 +1,5 @@
-ghost use Rattle.std.specs.Prelude.{◌≡◌, ◌^◌, ◌↔◌, min, length, IsTrue};
+ghost use Rattle.std.specs.Prelude.{◌≡◌, ◌↔◌, min, length, IsTrue};
+ghost use Rattle.otlp_model.specs.Limits.{count_cap};
 ghost use Rattle.otlp_model.specs.Telemetry.{telemetry, signal_of};
 ghost use Rattle.otlp_model.specs.Weight.{weight_of};
 ghost use Rattle.otlp_model.specs.Real.{IsReal};
@@ -47,7 +48,7 @@ impl Request {
 
 /// How many items the request has (spans, log records or metrics), or `CAP` where there are more.
 pub fn items(request: &Request) -> u64
-    ensures { result ≡ min (length (telemetry request.now)) (2 ^ 63) }
+    ensures { result ≡ min (length (telemetry request.now)) count_cap }
 {
     match request {
         Request::Traces(groups) => item_count(groups.as_slice()),
@@ -63,7 +64,7 @@ pub fn items(request: &Request) -> u64
 /// The walk also tells a proof that the request is one that a program can hold: its texts are UTF-8 and its numbers
 /// fit their types. Linear in the request; it recurses as `depth` does.
 pub fn weight(request: &Request) -> u64
-    ensures weight { result ≡ min (weight_of request.now) (2 ^ 63) }
+    ensures weight { result ≡ min (weight_of request.now) count_cap }
     ensures real { IsReal request.now }
 {
     match request {

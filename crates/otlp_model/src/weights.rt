@@ -1,6 +1,7 @@
-ghost use Rattle.std.specs.Prelude.{◌≡◌, ℕ, ◌^◌, min, length, IsTrue};
+ghost use Rattle.std.specs.Prelude.{◌≡◌, ℕ, min, length, IsTrue};
 ghost use Rattle.std.specs.List.{list_all};
 ghost use Rattle.lists.specs.Bytes.{is_real_text, is_real_octets};
+ghost use Rattle.otlp_model.specs.Limits.{count_cap};
 ghost use Rattle.otlp_model.specs.Each.{Each};
 ghost use Rattle.otlp_model.specs.Weight.{weight_of_value, weight_of_pair, total};
 ghost use Rattle.otlp_model.specs.Real.{is_real_value, are_real_pairs};
@@ -19,7 +20,7 @@ pub(crate) const PART: u64 = 32;
 #[cycle(weight)]
 #[tactic(auto, using(crate::proofs::Levels::weight_of_array, crate::proofs::Levels::weight_of_map, crate::proofs::Levels::is_real_array, crate::proofs::Levels::is_real_map))]
 pub fn value_weight(value: &Value) -> u64
-    ensures weight { result ≡ min (weight_of_value value.now) (2 ^ 63) }
+    ensures weight { result ≡ min (weight_of_value value.now) count_cap }
     ensures real { IsTrue (is_real_value value.now) }
 {
     match value {
@@ -42,7 +43,7 @@ pub fn value_weight(value: &Value) -> u64
 /// The weight of the members of an array, with 32 for each.
 #[cycle(weight)]
 fn members_weight(members: &[Value]) -> u64
-    ensures weight { result ≡ min (total 32 weight_of_value members.now) (2 ^ 63) }
+    ensures weight { result ≡ min (total 32 weight_of_value members.now) count_cap }
     ensures real { IsTrue (list_all is_real_value members.now) }
 {
     let mut weight = 0;
@@ -55,7 +56,7 @@ fn members_weight(members: &[Value]) -> u64
 /// The weight of a list of pairs, with 32 for each.
 #[cycle(weight)]
 pub(crate) fn pairs_weight(pairs: &[Pair]) -> u64
-    ensures weight { result ≡ min (total 32 weight_of_pair pairs.now) (2 ^ 63) }
+    ensures weight { result ≡ min (total 32 weight_of_pair pairs.now) count_cap }
     ensures real { IsTrue (are_real_pairs pairs.now) }
 {
     let mut weight = 0;
@@ -76,7 +77,7 @@ pub(crate) trait Weighed {
     ghost is_real: { Self → Type 0 };
 
     fn weight(&self) -> u64
-        ensures weight { result ≡ min (weight_of self.now) (2 ^ 63) }
+        ensures weight { result ≡ min (weight_of self.now) count_cap }
         ensures real { is_real self.now };
 }
 
@@ -106,7 +107,7 @@ impl Weighed for Octets {
 
 /// The weight of some parts, with `each` for every one.
 pub(crate) fn parts_weight<P: Weighed>(each: u64, parts: &[P]) -> u64
-    ensures weight { result ≡ min (total each P.weight_of parts.now) (2 ^ 63) }
+    ensures weight { result ≡ min (total each P.weight_of parts.now) count_cap }
     ensures real { Each P.is_real parts.now }
 {
     let mut weight = 0;
