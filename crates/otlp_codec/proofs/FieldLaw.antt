@@ -9,7 +9,6 @@ use Rattle.byteorder.specs.Numbers.{length-bytes_low_first}
 use Rattle.otlp_wire.specs.Varint.{varint}
 use Rattle.otlp_wire.proofs.Shortest.{ten_at_most, length_varint}
 use Rattle.otlp_wire.specs.Wire as wire
-use Rattle.otlp_wire.specs.Wire.{FieldValue}
 use Rattle.otlp_messages.specs.declared.messages.Message.{Message}
 use Rattle.otlp_messages.specs.declared.messages.FieldKind.TheVariants as kinds
 use Rattle.otlp_codec.specs.Levels.{value_levels}

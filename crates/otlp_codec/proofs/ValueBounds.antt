@@ -107,7 +107,3 @@ value_bound v = holds ValueBounded (record {
     flag : (b : Bool) → ValueBounded (values.Bool b)
     flag true = record { at = λ real few. one_field (values.Bool true) (canon_row 2 (wire.Varint 1 ∷ [])) (canon_bool true) (omega (arith, varint_short 2 1 refl (omega arith))) }
     flag false = record { at = λ real few. one_field (values.Bool false) (canon_row 2 (wire.Varint 0 ∷ [])) (canon_bool false) (omega (arith, varint_short 2 0 refl (omega arith))) }
-
-all_values : (pairs : List Pair) → AllByRecursion (λ p. ValueBounded p.value) pairs
-all_values [] = tt
-all_values (p ∷ pairs) = (value_bound p.value, all_values pairs)
