@@ -5,7 +5,7 @@ use Rattle.std.specs.List.{All}
 use Rattle.otlp_messages.specs.declared.messages.Message.{Message}
 use Rattle.otlp_messages.specs.declared.messages.Message.TheVariants as messages
 use Rattle.otlp_messages.specs.declared.messages.FieldKind.TheVariants as kinds
-use Rattle.otlp_codec.specs.Levels.{value_levels}
+use Rattle.otlp_messages.specs.Limits.{level_limit}
 use Rattle.otlp_messages.specs.Table.{kind_of, mark_of}
 use Rattle.otlp_messages.specs.Rows.{many_in}
 use Rattle.otlp_messages.specs.Canon.{many_row}
@@ -22,15 +22,15 @@ use Rattle.otlp_codec.proofs.Lists.{all_from, tests_from, all_map}
 use Rattle.otlp_codec.proofs.ValueLaw.{value_law, pair_law}
 use Rattle.otlp_codec.proofs.ValueBounds.{value_bound, pair_bound}
 
-pub value_whole : {P : Type 0} (v : Value) → is_real_value v ≡ true → (P → IsProfileValue v) → Law P messages.AnyValue value_levels value_in canon_value v (weight_of_value v) 20
-value_whole v real deep = record { back = λ p. ((value_law v).at value_levels real (deep p)).at; bound = (value_bound v).at real }
+pub value_whole : {P : Type 0} (v : Value) → is_real_value v ≡ true → (P → IsProfileValue v) → Law P messages.AnyValue level_limit value_in canon_value v (weight_of_value v) 20
+value_whole v real deep = record { back = λ p. ((value_law v).at level_limit real (deep p)).at; bound = (value_bound v).at real }
 
-pair_whole : (p : Pair) → is_real_pair p ≡ true → Law (IsProfilePair p) messages.KeyValue value_levels pair_in canon_pair p (weight_of_pair p) 236
-pair_whole p real = record { back = λ deep. (pair_law value_levels p (value_law p.value) real deep).at; bound = (pair_bound p real (value_bound p.value)).at }
+pair_whole : (p : Pair) → is_real_pair p ≡ true → Law (IsProfilePair p) messages.KeyValue level_limit pair_in canon_pair p (weight_of_pair p) 236
+pair_whole p real = record { back = λ deep. (pair_law level_limit p (value_law p.value) real deep).at; bound = (pair_bound p real (value_bound p.value)).at }
 
 pub pairs_held : {P : Type 0} (m : Message) (n : ℕ) (pairs : List Pair) → kind_of m n ≡ kinds.Embedded messages.KeyValue → mark_of m n ≡ 0 → nat_lt n 2048 ≡ true
-    → are_real_pairs pairs ≡ true → (P → All IsProfilePair pairs) → Held P m value_levels n (many_in pair_in) [] pairs (many_row (map canon_pair pairs)) (total 32 weight_of_pair pairs) 0
+    → are_real_pairs pairs ≡ true → (P → All IsProfilePair pairs) → Held P m level_limit n (many_in pair_in) [] pairs (many_row (map canon_pair pairs)) (total 32 weight_of_pair pairs) 0
 pairs_held m n pairs is unmarked low real profile =
     many_held IsProfilePair m n messages.KeyValue pair_in canon_pair 32 weight_of_pair 236 pairs is unmarked low refl refl
-    (all_map (λ p. is_real_pair p ≡ true) (λ p. Law (IsProfilePair p) messages.KeyValue value_levels pair_in canon_pair p (weight_of_pair p) 236) pair_whole pairs (tests_from is_real_pair pairs real))
+    (all_map (λ p. is_real_pair p ≡ true) (λ p. Law (IsProfilePair p) messages.KeyValue level_limit pair_in canon_pair p (weight_of_pair p) 236) pair_whole pairs (tests_from is_real_pair pairs real))
     (λ p. all_from IsProfilePair pairs (profile p))

@@ -11,7 +11,7 @@ use Rattle.otlp_wire.proofs.Shortest.{ten_at_most, length_varint}
 use Rattle.otlp_wire.specs.Wire as wire
 use Rattle.otlp_messages.specs.declared.messages.Message.{Message}
 use Rattle.otlp_messages.specs.declared.messages.FieldKind.TheVariants as kinds
-use Rattle.otlp_codec.specs.Levels.{value_levels}
+use Rattle.otlp_messages.specs.Limits.{level_limit}
 use Rattle.otlp_messages.specs.Table.{kind_of, mark_of}
 use Rattle.otlp_messages.specs.Rows.{fixed64_in, fixed32_in, uint32_in, int32_in, bool_in, bytes_in, embedded_in, many_in}
 use Rattle.otlp_messages.specs.Canon.{canon_row, varint_row, signed_row, bool_row, fixed64_row, fixed32_row, bytes_row, many_row}
@@ -70,15 +70,15 @@ unsigned_small (pos n) h = omega (arith, h.sfits)
 unsigned_small (negsuc n) h = omega (arith, h.sfits)
 
 -- numbers
-pub uint32_held : {P : Type 0} (m : Message) (n x : ℕ) → kind_of m n ≡ kinds.Varint → nat_lt n 2048 ≡ true → x < 2 ^ 32 → Held P m value_levels n uint32_in 0 x (varint_row x) 0 12
+pub uint32_held : {P : Type 0} (m : Message) (n x : ℕ) → kind_of m n ≡ kinds.Varint → nat_lt n 2048 ≡ true → x < 2 ^ 32 → Held P m level_limit n uint32_in 0 x (varint_row x) 0 12
 uint32_held m n x is low small = record {
-  back = λ p short. (varint_fits m value_levels n x is (omega (arith, small)), uint32_back x small);
+  back = λ p short. (varint_fits m level_limit n x is (omega (arith, small)), uint32_back x small);
   bound = λ few. omega (arith, varint_row_short n x low (omega (arith, small)));
 }
 
-pub int32_held : {P : Type 0} (m : Message) (n : ℕ) (z : ℤ) → kind_of m n ≡ kinds.Varint → nat_lt n 2048 ≡ true → FitsSigned w32 z → Held P m value_levels n int32_in (pos 0) z (signed_row z) 0 12
+pub int32_held : {P : Type 0} (m : Message) (n : ℕ) (z : ℤ) → kind_of m n ≡ kinds.Varint → nat_lt n 2048 ≡ true → FitsSigned w32 z → Held P m level_limit n int32_in (pos 0) z (signed_row z) 0 12
 int32_held m n z is low fits = record {
-  back = λ p short. (signed_fits m value_levels n z is (wider z fits), int32_back z fits);
+  back = λ p short. (signed_fits m level_limit n z is (wider z fits), int32_back z fits);
   bound = λ few. omega (arith, varint_row_short n (cast_unsigned w64 z) low (unsigned_small z (wider z fits)));
 }
 
@@ -86,42 +86,42 @@ bool_row_short : (n : ℕ) (b : Bool) → nat_lt n 2048 ≡ true → length (can
 bool_row_short n true low = varint_short n 1 low (omega arith)
 bool_row_short n false low = omega arith
 
-pub bool_held : {P : Type 0} (m : Message) (n : ℕ) (b : Bool) → kind_of m n ≡ kinds.Varint → nat_lt n 2048 ≡ true → Held P m value_levels n bool_in false b (bool_row b) 0 12
-bool_held m n b is low = record { back = λ p short. (bool_fits m value_levels n b is, bool_back b); bound = λ few. omega (arith, bool_row_short n b low) }
+pub bool_held : {P : Type 0} (m : Message) (n : ℕ) (b : Bool) → kind_of m n ≡ kinds.Varint → nat_lt n 2048 ≡ true → Held P m level_limit n bool_in false b (bool_row b) 0 12
+bool_held m n b is low = record { back = λ p short. (bool_fits m level_limit n b is, bool_back b); bound = λ few. omega (arith, bool_row_short n b low) }
 
-pub fixed64_held : {P : Type 0} (m : Message) (n x : ℕ) → kind_of m n ≡ kinds.Fixed64 → nat_lt n 2048 ≡ true → x < 2 ^ 64 → Held P m value_levels n fixed64_in 0 x (fixed64_row x) 0 10
+pub fixed64_held : {P : Type 0} (m : Message) (n x : ℕ) → kind_of m n ≡ kinds.Fixed64 → nat_lt n 2048 ≡ true → x < 2 ^ 64 → Held P m level_limit n fixed64_in 0 x (fixed64_row x) 0 10
 fixed64_held m n x is low small = record {
-  back = λ p short. (fixed64_fits m value_levels n x is small, fixed64_back x);
+  back = λ p short. (fixed64_fits m level_limit n x is small, fixed64_back x);
   bound = λ few. omega (arith, fixed64_row_short n x low);
 }
 
-pub fixed32_held : {P : Type 0} (m : Message) (n x : ℕ) → kind_of m n ≡ kinds.Fixed32 → nat_lt n 2048 ≡ true → x < 2 ^ 32 → Held P m value_levels n fixed32_in 0 x (fixed32_row x) 0 6
+pub fixed32_held : {P : Type 0} (m : Message) (n x : ℕ) → kind_of m n ≡ kinds.Fixed32 → nat_lt n 2048 ≡ true → x < 2 ^ 32 → Held P m level_limit n fixed32_in 0 x (fixed32_row x) 0 6
 fixed32_held m n x is low small = record {
-  back = λ p short. (fixed32_fits m value_levels n x is small, fixed32_back x);
+  back = λ p short. (fixed32_fits m level_limit n x is small, fixed32_back x);
   bound = λ few. omega (arith, fixed32_row_short n x low);
 }
 
 -- a text, an id, and a message that occurs once
 pub text_held : {P : Type 0} (m : Message) (n : ℕ) (text : List ℕ) → kind_of m n ≡ kinds.Text → nat_lt n 2048 ≡ true → IsTrue (is_real_text text)
-    → Held P m value_levels n bytes_in [] text (bytes_row text) (length text) 12
+    → Held P m level_limit n bytes_in [] text (bytes_row text) (length text) 12
 text_held m n text is low real = record {
-  back = λ p short. (part_fits m value_levels n text (λ _. rw is (utf8_of_real text real)), bytes_back text);
+  back = λ p short. (part_fits m level_limit n text (λ _. rw is (utf8_of_real text real)), bytes_back text);
   bound = λ few. omega (arith, bytes_short n text low (omega (arith, few)));
 }
 
 pub id_held : {P : Type 0} (m : Message) (n size : ℕ) (id : List ℕ) → kind_of m n ≡ kinds.Id size → nat_lt n 2048 ≡ true → (P → IsTrue (is_id size id))
-    → Held P m value_levels n bytes_in [] id (bytes_row id) (length id) 12
+    → Held P m level_limit n bytes_in [] id (bytes_row id) (length id) 12
 id_held m n size id is low sized = record {
-  back = λ p short. (part_fits m value_levels n id (λ _. rw is (id_length size id (sized p))), bytes_back id);
+  back = λ p short. (part_fits m level_limit n id (λ _. rw is (id_length size id (sized p))), bytes_back id);
   bound = λ few. omega (arith, bytes_short n id low (omega (arith, few)));
 }
 
 pub embedded_held : {A P : Type 0} (m : Message) (n : ℕ) (item : Message) (read : List ℕ → A) (write : A → List ℕ) {none x : A} {w e : ℕ} → kind_of m n ≡ kinds.Embedded item → nat_lt n 2048 ≡ true
-    → Law P item value_levels read write x w e → none ≡ read [] → nat_lt e 4096 ≡ true → Held P m value_levels n (embedded_in read) none x (bytes_row (write x)) w (e + 12)
+    → Law P item level_limit read write x w e → none ≡ read [] → nat_lt e 4096 ≡ true → Held P m level_limit n (embedded_in read) none x (bytes_row (write x)) w (e + 12)
 embedded_held m n item read write {none = none} {x = x} is low law empty light = record {
   back = λ p short.
       let inner = law.back p (omega (arith, short, in_row n (write x))) in
-      (part_fits m value_levels n (write x) (λ _. rw is inner.0), embedded_back read none x (write x) empty inner.1);
+      (part_fits m level_limit n (write x) (λ _. rw is inner.0), embedded_back read none x (write x) empty inner.1);
   bound = λ few. omega (arith, law.bound few, few, ltb-true _ _ light, bytes_short n (write x) low (omega (arith, law.bound few, few, ltb-true _ _ light)));
 }
 
@@ -145,15 +145,15 @@ many_short write each weigh n e (x ∷ xs) low light below all few =
 
 pub many_held : {A P : Type 0} (Q : A → Type 0) (m : Message) (n : ℕ) (item : Message) (read : List ℕ → A) (write : A → List ℕ) (each : ℕ) (weigh : A → ℕ) (e : ℕ) (xs : List A)
     → kind_of m n ≡ kinds.Embedded item → mark_of m n ≡ 0 → nat_lt n 2048 ≡ true → nat_lt (e + 12) (8 * each + 1) ≡ true → nat_lt each 4096 ≡ true
-    → AllByRecursion (λ x. Law (Q x) item value_levels read write x (weigh x) e) xs → (P → AllByRecursion Q xs)
-    → Held P m value_levels n (many_in read) [] xs (many_row (map write xs)) (total each weigh xs) 0
+    → AllByRecursion (λ x. Law (Q x) item level_limit read write x (weigh x) e) xs → (P → AllByRecursion Q xs)
+    → Held P m level_limit n (many_in read) [] xs (many_row (map write xs)) (total each weigh xs) 0
 many_held Q m n item read write each weigh e xs is unmarked low light below laws profile = record {
   back = λ p short.
-      let returns = all_map (λ x. Law (Q x) item value_levels read write x (weigh x) e × Q x) (Returns item value_levels read write) (λ x h. record { at = h.0.back h.1 }) xs
-      (all_both (λ x. Law (Q x) item value_levels read write x (weigh x) e) Q xs laws (profile p)) in
-      let returned = each_returned item value_levels read write n xs returns short in
-      (returned_fits m value_levels n item value_levels read write xs unmarked (λ part fine. rw is fine) returned, returned_back item value_levels read write xs returned);
+      let returns = all_map (λ x. Law (Q x) item level_limit read write x (weigh x) e × Q x) (Returns item level_limit read write) (λ x h. record { at = h.0.back h.1 }) xs
+      (all_both (λ x. Law (Q x) item level_limit read write x (weigh x) e) Q xs laws (profile p)) in
+      let returned = each_returned item level_limit read write n xs returns short in
+      (returned_fits m level_limit n item level_limit read write xs unmarked (λ part fine. rw is fine) returned, returned_back item level_limit read write xs returned);
   bound = λ few.
-      let bounds = all_map (λ x. Law (Q x) item value_levels read write x (weigh x) e) (IsShortFor write weigh e) (λ x h. record { at = h.bound }) xs laws in
+      let bounds = all_map (λ x. Law (Q x) item level_limit read write x (weigh x) e) (IsShortFor write weigh e) (λ x h. record { at = h.bound }) xs laws in
       omega (arith, many_short write each weigh n e xs low light below bounds few);
 }

@@ -7,7 +7,7 @@ use Rattle.otlp_wire.specs.Wire.{FieldValue}
 use Rattle.otlp_messages.specs.declared.messages.Of.{Of}
 use Rattle.otlp_messages.specs.declared.messages.Message.{Message}
 use Rattle.otlp_messages.specs.declared.messages.Message.TheVariants as messages
-use Rattle.otlp_codec.specs.Levels.{value_levels}
+use Rattle.otlp_messages.specs.Limits.{level_limit}
 use Rattle.otlp_messages.specs.Table.{item_of}
 use Rattle.otlp_messages.specs.Rows.{bytes_in, embedded_in}
 use Rattle.otlp_messages.specs.Canon.{canon, bytes_row}
@@ -29,7 +29,7 @@ use Rattle.otlp_codec.proofs.Attributes.{pairs_held}
 
 -- the schema url stands in the group, so the resource is taken without it
 resource_law : (x : Resource) → IsRealResource x
-    → Law (IsProfileResource x) messages.Resource value_levels (resource_in []) (λ r. canon (resource_rows r)) (record x { schema_url = [] }) (weight_of_resource (record x { schema_url = [] })) 12
+    → Law (IsProfileResource x) messages.Resource level_limit (resource_in []) (λ r. canon (resource_rows r)) (record x { schema_url = [] }) (weight_of_resource (record x { schema_url = [] })) 12
 resource_law x real =
     let m = messages.Resource in
     law_of (resource_in []) (λ r. canon (resource_rows r))
@@ -38,7 +38,7 @@ resource_law x real =
     resource_passes refl refl (omega arith) (omega arith)
 
 scope_law : (x : Scope) → IsRealScope x
-    → Law (IsProfileScope x) messages.InstrumentationScope value_levels (scope_in []) (λ s. canon (scope_rows s)) (record x { schema_url = [] }) (weight_of_scope (record x { schema_url = [] })) 36
+    → Law (IsProfileScope x) messages.InstrumentationScope level_limit (scope_in []) (λ s. canon (scope_rows s)) (record x { schema_url = [] }) (weight_of_scope (record x { schema_url = [] })) 36
 scope_law x real =
     let m = messages.InstrumentationScope in
     law_of (scope_in []) (λ s. canon (scope_rows s))
@@ -51,7 +51,7 @@ scope_law x real =
 -- a message that is read beside a schema url that came before it
 part_held : {A P : Type 0} {m : Message} (read : A → FieldValue → A) (first : List ℕ → A) {none x : A} (part : List ℕ) {w e : ℕ}
     → ((bytes : List ℕ) → fold read none (bytes_row bytes) ≡ fold (embedded_in first) none (bytes_row bytes))
-    → Held P m value_levels 1 (embedded_in first) none x (bytes_row part) w e → Held P m value_levels 1 read none x (bytes_row part) w e
+    → Held P m level_limit 1 (embedded_in first) none x (bytes_row part) w e → Held P m level_limit 1 read none x (bytes_row part) w e
 part_held read first part same held = record { back = λ p short. (let h = held.back p short in (h.0, same part ∙ h.1)); bound = held.bound }
 
 scope_same : (bytes : List ℕ) → fold scope_part_in no_scope (bytes_row bytes) ≡ fold (embedded_in (scope_in [])) no_scope (bytes_row bytes)
@@ -78,8 +78,8 @@ resource_url read x a (wire.Fixed64 n) = refl
 resource_url read x a (wire.Fixed32 n) = refl
 
 scope_group_law : {I : Type 0} (Q : I → Type 0) (of : Of) (read : List ℕ → I) (write : I → List ℕ) (weigh : I → ℕ) (x : ScopeGroup I) → IsRealScope x.scope
-    → AllByRecursion (λ i. Law (Q i) (item_of of) value_levels read write i (weigh i) 236) x.items
-    → Law (IsProfileScopeGroup Q x) (messages.ScopeGroup of) value_levels (scope_group_in read) (canon_scope_group write) x (weight_of_scope_group weigh x) 236
+    → AllByRecursion (λ i. Law (Q i) (item_of of) level_limit read write i (weigh i) 236) x.items
+    → Law (IsProfileScopeGroup Q x) (messages.ScopeGroup of) level_limit (scope_group_in read) (canon_scope_group write) x (weight_of_scope_group weigh x) 236
 scope_group_law Q of read write weigh x real items =
     let m = messages.ScopeGroup of in
     law_of (scope_group_in read) (canon_scope_group write)
@@ -91,8 +91,8 @@ scope_group_law Q of read write weigh x real items =
     (scope_group_passes read) refl refl (omega arith) (omega arith)
 
 resource_group_law : {I : Type 0} (Q : I → Type 0) (of : Of) (read : List ℕ → I) (write : I → List ℕ) (weigh : I → ℕ) (x : ResourceGroup I) → IsRealResource x.resource
-    → AllByRecursion (λ s. Law (IsProfileScopeGroup Q s) (messages.ScopeGroup of) value_levels (scope_group_in read) (canon_scope_group write) s (weight_of_scope_group weigh s) 236) x.scopes
-    → Law (IsProfileResourceGroup Q x) (messages.ResourceGroup of) value_levels (resource_group_in read) (canon_resource_group write) x (weight_of_resource_group weigh x) 236
+    → AllByRecursion (λ s. Law (IsProfileScopeGroup Q s) (messages.ScopeGroup of) level_limit (scope_group_in read) (canon_scope_group write) s (weight_of_scope_group weigh s) 236) x.scopes
+    → Law (IsProfileResourceGroup Q x) (messages.ResourceGroup of) level_limit (resource_group_in read) (canon_resource_group write) x (weight_of_resource_group weigh x) 236
 resource_group_law Q of read write weigh x real scopes =
     let m = messages.ResourceGroup of in
     law_of (resource_group_in read) (canon_resource_group write)
@@ -107,24 +107,24 @@ resource_group_law Q of read write weigh x real scopes =
 
 -- a request, by the law of its items
 pub request_law : {I : Type 0} (Real Q : I → Type 0) (of : Of) (read : List ℕ → I) (write : I → List ℕ) (weigh : I → ℕ)
-    → ((i : I) → Real i → Law (Q i) (item_of of) value_levels read write i (weigh i) 236) → (x : List (ResourceGroup I)) → All (IsRealResourceGroup Real) x
-    → Law (All (IsProfileResourceGroup Q) x) (messages.Request of) value_levels (groups_in read) (canon_groups write) x (total 32 (weight_of_resource_group weigh) x) 0
+    → ((i : I) → Real i → Law (Q i) (item_of of) level_limit read write i (weigh i) 236) → (x : List (ResourceGroup I)) → All (IsRealResourceGroup Real) x
+    → Law (All (IsProfileResourceGroup Q) x) (messages.Request of) level_limit (groups_in read) (canon_groups write) x (total 32 (weight_of_resource_group weigh) x) 0
 request_law {I = I} Real Q of read write weigh item x real =
     let m = messages.Request of in
     law_of (groups_in read) (canon_groups write)
     (also (λ a r. a)
     (many_held (IsProfileResourceGroup Q) m 1 (messages.ResourceGroup of) (resource_group_in read) (canon_resource_group write) 32 (weight_of_resource_group weigh) 236 x refl refl refl refl refl
     (all_map (IsRealResourceGroup Real)
-    (λ g. Law (IsProfileResourceGroup Q g) (messages.ResourceGroup of) value_levels (resource_group_in read) (canon_resource_group write) g (weight_of_resource_group weigh g) 236)
+    (λ g. Law (IsProfileResourceGroup Q g) (messages.ResourceGroup of) level_limit (resource_group_in read) (canon_resource_group write) g (weight_of_resource_group weigh g) 236)
     group x (all_from (IsRealResourceGroup Real) x real)) (λ p. all_from (IsProfileResourceGroup Q) x p)) refl (λ a v. refl) last)
     (request_passes read) refl refl (omega arith) (omega arith)
   where
     scope_group : (s : ScopeGroup I) → IsRealScopeGroup Real s
-        → Law (IsProfileScopeGroup Q s) (messages.ScopeGroup of) value_levels (scope_group_in read) (canon_scope_group write) s (weight_of_scope_group weigh s) 236
-    scope_group s h = scope_group_law Q of read write weigh s h.scope (all_map Real (λ i. Law (Q i) (item_of of) value_levels read write i (weigh i) 236) item s.items (all_from Real s.items h.items.at))
+        → Law (IsProfileScopeGroup Q s) (messages.ScopeGroup of) level_limit (scope_group_in read) (canon_scope_group write) s (weight_of_scope_group weigh s) 236
+    scope_group s h = scope_group_law Q of read write weigh s h.scope (all_map Real (λ i. Law (Q i) (item_of of) level_limit read write i (weigh i) 236) item s.items (all_from Real s.items h.items.at))
 
     group : (g : ResourceGroup I) → IsRealResourceGroup Real g
-        → Law (IsProfileResourceGroup Q g) (messages.ResourceGroup of) value_levels (resource_group_in read) (canon_resource_group write) g (weight_of_resource_group weigh g) 236
+        → Law (IsProfileResourceGroup Q g) (messages.ResourceGroup of) level_limit (resource_group_in read) (canon_resource_group write) g (weight_of_resource_group weigh g) 236
     group g h = resource_group_law Q of read write weigh g h.resource
-        (all_map (IsRealScopeGroup Real) (λ s. Law (IsProfileScopeGroup Q s) (messages.ScopeGroup of) value_levels (scope_group_in read) (canon_scope_group write) s (weight_of_scope_group weigh s) 236)
+        (all_map (IsRealScopeGroup Real) (λ s. Law (IsProfileScopeGroup Q s) (messages.ScopeGroup of) level_limit (scope_group_in read) (canon_scope_group write) s (weight_of_scope_group weigh s) 236)
         scope_group g.scopes (all_from (IsRealScopeGroup Real) g.scopes h.scopes.at))

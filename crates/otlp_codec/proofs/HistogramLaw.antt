@@ -2,7 +2,7 @@
 use Rattle.std.proofs.Common.{◌<◌, ◌^◌, List, [], ◌∷◌, refl, arith}
 use Rattle.std.specs.List.{AllByRecursion}
 use Rattle.otlp_messages.specs.declared.messages.Message.TheVariants as messages
-use Rattle.otlp_codec.specs.Levels.{value_levels}
+use Rattle.otlp_messages.specs.Limits.{level_limit}
 use Rattle.otlp_model.specs.declared.histograms.HistPoint.{HistPoint}
 use Rattle.otlp_model.specs.declared.histograms.Quantile.{Quantile}
 use Rattle.otlp_model.specs.declared.histograms.SumPoint.{SumPoint}
@@ -19,7 +19,7 @@ use Rattle.otlp_codec.proofs.Attributes.{pairs_held}
 use Rattle.otlp_codec.proofs.NumberHeld.{optional_held, packed_held}
 use Rattle.otlp_codec.proofs.PointLaw.{exemplar_law}
 
-pub hist_point_law : (x : HistPoint) → IsRealHistPoint x → Law (IsProfileHistPoint x) messages.HistogramDataPoint value_levels hist_point_in canon_hist_point x (weight_of_hist_point x) 236
+pub hist_point_law : (x : HistPoint) → IsRealHistPoint x → Law (IsProfileHistPoint x) messages.HistogramDataPoint level_limit hist_point_in canon_hist_point x (weight_of_hist_point x) 236
 unfolding canon_hist_point
 hist_point_law x real =
     let m = messages.HistogramDataPoint in
@@ -43,7 +43,7 @@ all_any [] = tt
 all_any (x ∷ xs) = (tt, all_any xs)
 
 -- a quantile is within the profile whatever it is
-quantile_law : (x : Quantile) → IsRealQuantile x → Law (Unit {0}) messages.ValueAtQuantile value_levels quantile_in canon_quantile x (weight_of_quantile x) 20
+quantile_law : (x : Quantile) → IsRealQuantile x → Law (Unit {0}) messages.ValueAtQuantile level_limit quantile_in canon_quantile x (weight_of_quantile x) 20
 unfolding canon_quantile
 quantile_law x real =
     let m = messages.ValueAtQuantile in
@@ -52,7 +52,7 @@ quantile_law x real =
     (also (λ a r. record r { value = a }) (fixed64_held m 2 x.value refl refl real.value) refl (λ a v. refl) last))
     quantile_passes refl refl (omega arith) (omega arith)
 
-pub sum_point_law : (x : SumPoint) → IsRealSumPoint x → Law (IsProfileSumPoint x) messages.SummaryDataPoint value_levels sum_point_in canon_sum_point x (weight_of_sum_point x) 236
+pub sum_point_law : (x : SumPoint) → IsRealSumPoint x → Law (IsProfileSumPoint x) messages.SummaryDataPoint level_limit sum_point_in canon_sum_point x (weight_of_sum_point x) 236
 unfolding canon_sum_point
 sum_point_law x real =
     let m = messages.SummaryDataPoint in

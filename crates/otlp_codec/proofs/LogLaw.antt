@@ -1,7 +1,7 @@
 -- The law of a log record.
 use Rattle.std.proofs.Common.{refl, arith}
 use Rattle.otlp_messages.specs.declared.messages.Message.TheVariants as messages
-use Rattle.otlp_codec.specs.Levels.{value_levels}
+use Rattle.otlp_messages.specs.Limits.{level_limit}
 use Rattle.otlp_model.specs.declared.logs.LogRecord.{LogRecord}
 use Rattle.otlp_model.specs.Weight.{weight_of_log_record}
 use Rattle.otlp_model.specs.Real.{IsRealLogRecord}
@@ -15,7 +15,7 @@ use Rattle.otlp_codec.proofs.FieldLaw.{fixed64_held, int32_held, text_held, embe
 use Rattle.otlp_codec.proofs.ValueLaw.{no_value}
 use Rattle.otlp_codec.proofs.Attributes.{value_whole, pairs_held}
 
-pub log_record_law : (x : LogRecord) → IsRealLogRecord x → Law (IsProfileLogRecord x) messages.LogRecord value_levels log_record_in canon_log_record x (weight_of_log_record x) 236
+pub log_record_law : (x : LogRecord) → IsRealLogRecord x → Law (IsProfileLogRecord x) messages.LogRecord level_limit log_record_in canon_log_record x (weight_of_log_record x) 236
 unfolding canon_log_record
 log_record_law x real =
     let m = messages.LogRecord in
@@ -23,7 +23,7 @@ log_record_law x real =
     (also (λ a r. record r { time = a }) (fixed64_held m 1 x.time refl refl real.time) refl (λ a v. refl)
     (also (λ a r. record r { severity = a }) (int32_held m 2 x.severity refl refl real.severity) refl (λ a v. refl)
     (also (λ a r. record r { severity_text = a }) (text_held m 3 x.severity_text refl refl real.severity_text) refl (λ a v. refl)
-    (also (λ a r. record r { body = a }) (embedded_held m 5 messages.AnyValue value_in canon_value refl refl (value_whole x.body real.body (λ p. p.body)) (no_value value_levels) refl) refl (λ a v. refl)
+    (also (λ a r. record r { body = a }) (embedded_held m 5 messages.AnyValue value_in canon_value refl refl (value_whole x.body real.body (λ p. p.body)) (no_value level_limit) refl) refl (λ a v. refl)
     (also (λ a r. record r { pairs = a }) (pairs_held m 6 x.pairs refl refl refl real.pairs (λ p. p.pairs.at)) refl (λ a v. refl)
     (also (λ a r. record r { dropped = a }) (uint32_held m 7 x.dropped refl refl real.dropped) refl (λ a v. refl)
     (also (λ a r. record r { flags = a }) (fixed32_held m 8 x.flags refl refl real.flags) refl (λ a v. refl)

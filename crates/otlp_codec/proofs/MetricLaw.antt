@@ -3,7 +3,7 @@ use Rattle.std.proofs.Common.{◌≡◌, ℕ, ◌≤◌, List, true, refl, arith
 use Rattle.otlp_wire.specs.Wire.{Entry}
 use Rattle.otlp_messages.specs.declared.messages.Message.{Message}
 use Rattle.otlp_messages.specs.declared.messages.Message.TheVariants as messages
-use Rattle.otlp_codec.specs.Levels.{value_levels}
+use Rattle.otlp_messages.specs.Limits.{level_limit}
 use Rattle.otlp_messages.specs.Canon.{Filled, laid_out}
 use Rattle.otlp_model.specs.declared.metrics.Metric.{Metric}
 use Rattle.otlp_model.specs.declared.metrics.Shape.{Shape}
@@ -27,7 +27,7 @@ within weight extra rows lighter fewer = record { back = rows.back; bound = λ f
 
 -- the rows of the oneof, of which one is filled
 shape_held : {P : Type 0} (old : Metric) (shape : Shape) → IsRealShape shape → (P → IsProfileShape shape)
-    → Rows P messages.Metric value_levels metric_step (record old { shape = shapes.Empty }) (record old { shape = shape }) (shape_rows shape) (weight_of_shape shape) 36
+    → Rows P messages.Metric level_limit metric_step (record old { shape = shapes.Empty }) (record old { shape = shape }) (shape_rows shape) (weight_of_shape shape) 36
 shape_held old shapes.Empty real profile =
     within 0 36
     (also (λ a r. record r { shape = a }) (none_held {read = gauge_shape_in}) refl (λ a v. refl)
@@ -77,7 +77,7 @@ metric_laid x = elim x.shape as (λ s. laid_out messages.Metric (metric_rows (re
   | shapes.Summary points ↦ refl
 ]
 
-pub metric_law : (x : Metric) → IsRealMetric x → Law (IsProfileMetric x) messages.Metric value_levels metric_in canon_metric x (weight_of_metric x) 236
+pub metric_law : (x : Metric) → IsRealMetric x → Law (IsProfileMetric x) messages.Metric level_limit metric_in canon_metric x (weight_of_metric x) 236
 unfolding canon_metric
 metric_law x real =
     let m = messages.Metric in

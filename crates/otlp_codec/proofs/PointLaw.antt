@@ -1,7 +1,7 @@
 -- Exemplars and the points of gauges and sums: what is written reads back, and is short.
 use Rattle.std.proofs.Common.{◌≡◌, true, refl, arith}
 use Rattle.otlp_messages.specs.declared.messages.Message.TheVariants as messages
-use Rattle.otlp_codec.specs.Levels.{value_levels}
+use Rattle.otlp_messages.specs.Limits.{level_limit}
 use Rattle.otlp_messages.specs.Canon.{laid_out}
 use Rattle.otlp_model.specs.declared.metrics.Number.TheVariants.{Missing, Int, Double}
 use Rattle.otlp_model.specs.declared.metrics.Exemplar.{Exemplar}
@@ -21,7 +21,7 @@ use Rattle.otlp_codec.proofs.NumberHeld.{double_held, int_held}
 exemplar_laid : (x : Exemplar) → laid_out messages.Exemplar (exemplar_rows x) ≡ true
 exemplar_laid x = elim x.value as (λ v. laid_out messages.Exemplar (exemplar_rows (record x { value = v })) ≡ true) [ Missing ↦ refl | Int z ↦ refl | Double bits ↦ refl ]
 
-pub exemplar_law : (x : Exemplar) → IsRealExemplar x → Law (IsProfileExemplar x) messages.Exemplar value_levels exemplar_in canon_exemplar x (weight_of_exemplar x) 236
+pub exemplar_law : (x : Exemplar) → IsRealExemplar x → Law (IsProfileExemplar x) messages.Exemplar level_limit exemplar_in canon_exemplar x (weight_of_exemplar x) 236
 unfolding canon_exemplar
 exemplar_law x real =
     let m = messages.Exemplar in
@@ -37,7 +37,7 @@ exemplar_law x real =
 point_laid : (x : Point) → laid_out messages.NumberDataPoint (point_rows x) ≡ true
 point_laid x = elim x.value as (λ v. laid_out messages.NumberDataPoint (point_rows (record x { value = v })) ≡ true) [ Missing ↦ refl | Int z ↦ refl | Double bits ↦ refl ]
 
-pub point_law : (x : Point) → IsRealPoint x → Law (IsProfilePoint x) messages.NumberDataPoint value_levels point_in canon_point x (weight_of_point x) 236
+pub point_law : (x : Point) → IsRealPoint x → Law (IsProfilePoint x) messages.NumberDataPoint level_limit point_in canon_point x (weight_of_point x) 236
 unfolding canon_point
 point_law x real =
     let m = messages.NumberDataPoint in

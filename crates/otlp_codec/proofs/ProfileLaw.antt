@@ -13,7 +13,7 @@ use Rattle.otlp_messages.specs.declared.messages.Message.TheVariants as messages
 use Rattle.otlp_messages.specs.declared.messages.Of.{Of}
 use Rattle.otlp_messages.specs.declared.messages.FieldKind.{FieldKind}
 use Rattle.otlp_messages.specs.declared.messages.FieldKind.TheVariants as kinds
-use Rattle.otlp_codec.specs.Levels.{value_levels}
+use Rattle.otlp_messages.specs.Limits.{level_limit}
 use Rattle.otlp_messages.specs.Table.{kind_of, item_of}
 use Rattle.otlp_messages.specs.Defects.{IsFine}
 use Rattle.otlp_messages.specs.Fine.{FinePart, FineValue}
@@ -62,18 +62,18 @@ all_said : {A : Type 0} (P : A → Type 0) (read : List ℕ → A) → ((part : 
 all_said P read each n bytes = kept (All P) (many_in read) (λ old v p. many_kept P (λ v. ⊤) read (λ part _. each part) old v p tt) [] (only n (fields_of bytes)) (all_none P)
 
 -- the messages of a repeated field, where no defect stands
-pub each_said : {A : Type 0} (P : A → Type 0) (m : Message) (n : ℕ) (read : List ℕ → A) → ((part : List ℕ) → FinePart (kind_of m n) value_levels part → P (read part))
-    → (bytes : List ℕ) → IsFine m value_levels bytes → Each P (said n (many_in read) [] bytes)
+pub each_said : {A : Type 0} (P : A → Type 0) (m : Message) (n : ℕ) (read : List ℕ → A) → ((part : List ℕ) → FinePart (kind_of m n) level_limit part → P (read part))
+    → (bytes : List ℕ) → IsFine m level_limit bytes → Each P (said n (many_in read) [] bytes)
 each_said P m n read each bytes fine = record {
-  at = kept_fine (All P) (FineValue (kind_of m n) value_levels) (many_in read) (many_kept P (FineValue (kind_of m n) value_levels) read each) []
-      (only n (fields_of bytes)) (all_none P) (fine_only m value_levels n bytes fine);
+  at = kept_fine (All P) (FineValue (kind_of m n) level_limit) (many_in read) (many_kept P (FineValue (kind_of m n) level_limit) read each) []
+      (only n (fields_of bytes)) (all_none P) (fine_only m level_limit n bytes fine);
 }
 
 -- ids
 HasLength : ℕ → List ℕ → Type 0
 HasLength size id = (length id ≡ 0) ⊎ (length id ≡ size)
 
-id_kept : (size : ℕ) (old : List ℕ) (v : FieldValue) → HasLength size old → FineValue (kinds.Id size) value_levels v → HasLength size (bytes_in old v)
+id_kept : (size : ℕ) (old : List ℕ) (v : FieldValue) → HasLength size old → FineValue (kinds.Id size) level_limit v → HasLength size (bytes_in old v)
 unfolding HasLength
 id_kept size old (wire.Bytes part) p q = q
 id_kept size old (wire.Varint n) p q = p
@@ -89,12 +89,12 @@ unfolding HasLength
 id_is size id (inl none) = rw none refl
 id_is size id (inr whole) = rw (eq-eqb (length id) size whole) (or_true (length id == 0))
 
-pub id_said : (m : Message) (n size : ℕ) (bytes : List ℕ) → kind_of m n ≡ kinds.Id size → IsFine m value_levels bytes → IsTrue (is_id size (said n bytes_in [] bytes))
+pub id_said : (m : Message) (n size : ℕ) (bytes : List ℕ) → kind_of m n ≡ kinds.Id size → IsFine m level_limit bytes → IsTrue (is_id size (said n bytes_in [] bytes))
 unfolding HasLength
 id_said m n size bytes is fine =
     id_is size (said n bytes_in [] bytes)
-    (kept_fine (HasLength size) (FineValue (kinds.Id size) value_levels) bytes_in (id_kept size) [] (only n (fields_of bytes)) (inl refl)
-    (subst (λ (k : FieldKind). AllByRecursion (FineValue k value_levels) (only n (fields_of bytes))) is (fine_only m value_levels n bytes fine)))
+    (kept_fine (HasLength size) (FineValue (kinds.Id size) level_limit) bytes_in (id_kept size) [] (only n (fields_of bytes)) (inl refl)
+    (subst (λ (k : FieldKind). AllByRecursion (FineValue k level_limit) (only n (fields_of bytes))) is (fine_only m level_limit n bytes fine)))
 
 -- depths
 greatest_few : {A : Type 0} (f : A → ℕ) (n : ℕ) (xs : List A) → All (λ x. f x ≤ n) xs → greatest (map f xs) ≤ n
@@ -191,7 +191,7 @@ deep_at (suc l) bytes =
 
 pair_profile : (bytes : List ℕ) → IsProfilePair (pair_in bytes)
 unfolding pair_at Shallow
-pair_profile bytes = omega (arith, value_deep value_levels value_in (deep_at value_levels) 2 bytes)
+pair_profile bytes = omega (arith, value_deep level_limit value_in (deep_at level_limit) 2 bytes)
 
 pub pairs_profile : (n : ℕ) (bytes : List ℕ) → Each IsProfilePair (said n (many_in pair_in) [] bytes)
 pairs_profile n bytes = record { at = all_said IsProfilePair pair_in pair_profile n bytes }
@@ -202,20 +202,20 @@ resource_profile url bytes = record { pairs = pairs_profile 1 bytes }
 scope_profile : (url bytes : List ℕ) → IsProfileScope (scope_in url bytes)
 scope_profile url bytes = record { pairs = pairs_profile 3 bytes }
 
-pub log_record_profile : (bytes : List ℕ) → IsFine messages.LogRecord value_levels bytes → IsProfileLogRecord (log_record_in bytes)
+pub log_record_profile : (bytes : List ℕ) → IsFine messages.LogRecord level_limit bytes → IsProfileLogRecord (log_record_in bytes)
 unfolding log_record_in Shallow
 log_record_profile bytes fine = record {
   trace_id = id_said messages.LogRecord 9 16 bytes refl fine;
   span_id = id_said messages.LogRecord 10 8 bytes refl fine;
-  body = omega (arith, value_deep value_levels value_in (deep_at value_levels) 5 bytes);
+  body = omega (arith, value_deep level_limit value_in (deep_at level_limit) 5 bytes);
   pairs = pairs_profile 6 bytes;
 }
 
-event_profile : (bytes : List ℕ) → IsFine messages.Event value_levels bytes → IsProfileEvent (event_in bytes)
+event_profile : (bytes : List ℕ) → IsFine messages.Event level_limit bytes → IsProfileEvent (event_in bytes)
 unfolding event_in
 event_profile bytes fine = record { pairs = pairs_profile 3 bytes }
 
-link_profile : (bytes : List ℕ) → IsFine messages.Link value_levels bytes → IsProfileLink (link_in bytes)
+link_profile : (bytes : List ℕ) → IsFine messages.Link level_limit bytes → IsProfileLink (link_in bytes)
 unfolding link_in
 link_profile bytes fine = record {
   trace_id = id_said messages.Link 1 16 bytes refl fine;
@@ -223,7 +223,7 @@ link_profile bytes fine = record {
   pairs = pairs_profile 4 bytes;
 }
 
-pub span_profile : (bytes : List ℕ) → IsFine messages.Span value_levels bytes → IsProfileSpan (span_in bytes)
+pub span_profile : (bytes : List ℕ) → IsFine messages.Span level_limit bytes → IsProfileSpan (span_in bytes)
 unfolding span_in
 span_profile bytes fine = record {
   trace_id = id_said messages.Span 1 16 bytes refl fine;
@@ -235,20 +235,20 @@ span_profile bytes fine = record {
 }
 
 -- groups, whatever their items are
-scope_group_profile : {I : Type 0} (P : I → Type 0) (of : Of) (read : List ℕ → I) → ((part : List ℕ) → IsFine (item_of of) value_levels part → P (read part))
-    → (bytes : List ℕ) → IsFine (messages.ScopeGroup of) value_levels bytes → IsProfileScopeGroup P (scope_group_in read bytes)
+scope_group_profile : {I : Type 0} (P : I → Type 0) (of : Of) (read : List ℕ → I) → ((part : List ℕ) → IsFine (item_of of) level_limit part → P (read part))
+    → (bytes : List ℕ) → IsFine (messages.ScopeGroup of) level_limit bytes → IsProfileScopeGroup P (scope_group_in read bytes)
 scope_group_profile P of read each bytes fine = record {
   scope = scope_profile (said 3 bytes_in [] bytes) (said 1 bytes_in [] bytes);
   items = each_said P (messages.ScopeGroup of) 2 read each bytes fine;
 }
 
-resource_group_profile : {I : Type 0} (P : I → Type 0) (of : Of) (read : List ℕ → I) → ((part : List ℕ) → IsFine (item_of of) value_levels part → P (read part))
-    → (bytes : List ℕ) → IsFine (messages.ResourceGroup of) value_levels bytes → IsProfileResourceGroup P (resource_group_in read bytes)
+resource_group_profile : {I : Type 0} (P : I → Type 0) (of : Of) (read : List ℕ → I) → ((part : List ℕ) → IsFine (item_of of) level_limit part → P (read part))
+    → (bytes : List ℕ) → IsFine (messages.ResourceGroup of) level_limit bytes → IsProfileResourceGroup P (resource_group_in read bytes)
 resource_group_profile P of read each bytes fine = record {
   resource = resource_profile (said 3 bytes_in [] bytes) (said 1 bytes_in [] bytes);
   scopes = each_said (IsProfileScopeGroup P) (messages.ResourceGroup of) 2 (scope_group_in read) (scope_group_profile P of read each) bytes fine;
 }
 
-pub groups_profile : {I : Type 0} (P : I → Type 0) (of : Of) (read : List ℕ → I) → ((part : List ℕ) → IsFine (item_of of) value_levels part → P (read part))
-    → (bytes : List ℕ) → IsFine (messages.Request of) value_levels bytes → Each (IsProfileResourceGroup P) (groups_in read bytes)
+pub groups_profile : {I : Type 0} (P : I → Type 0) (of : Of) (read : List ℕ → I) → ((part : List ℕ) → IsFine (item_of of) level_limit part → P (read part))
+    → (bytes : List ℕ) → IsFine (messages.Request of) level_limit bytes → Each (IsProfileResourceGroup P) (groups_in read bytes)
 groups_profile P of read each bytes fine = each_said (IsProfileResourceGroup P) (messages.Request of) 1 (resource_group_in read) (resource_group_profile P of read each) bytes fine

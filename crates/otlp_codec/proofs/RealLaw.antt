@@ -28,7 +28,7 @@ use Rattle.lists.specs.Bytes.{is_real_text, is_real_octets}
 use Rattle.otlp_model.specs.Real.{fits_i64, is_real_value, is_real_pair, are_real_pairs}
 use Rattle.lists.proofs.RealBytes.{real_text}
 use Rattle.otlp_model.proofs.Levels.{is_real_array, is_real_map}
-use Rattle.otlp_codec.specs.Levels.{value_levels}
+use Rattle.otlp_messages.specs.Limits.{level_limit}
 use Rattle.otlp_codec.specs.Values.{string_in, bool_value_in, int_value_in, double_value_in, array_value_in, kvlist_value_in, bytes_value_in, any_in, any_of, pair_of, members_of, value_at, pair_at}
 use Rattle.otlp_codec.specs.Groups.{value_in, pair_in}
 use Rattle.otlp_codec.proofs.Lists.{all_both}
@@ -147,8 +147,8 @@ all_real : {A : Type 0} (P : A → Type 0) (m : Message) (l n : ℕ) (k : FieldK
 all_real P m l n k read is each bytes h = holds (All P) m l n k (many_in read) [] is (All-from_recursion P [] tt) (keeps_many P k l read each) bytes h
 
 pub each_real : {A : Type 0} (P : A → Type 0) (m : Message) (n : ℕ) (item : Message) (read : List ℕ → A) → kind_of m n ≡ kinds.Embedded item
-    → ((part : List ℕ) → Sound item value_levels part → P (read part)) → (bytes : List ℕ) → Sound m value_levels bytes → Each P (said n (many_in read) [] bytes)
-each_real P m n item read is each bytes h = record { at = all_real P m value_levels n (kinds.Embedded item) read is (λ part fine real. each part (record { fine = fine; real = real })) bytes h }
+    → ((part : List ℕ) → Sound item level_limit part → P (read part)) → (bytes : List ℕ) → Sound m level_limit bytes → Each P (said n (many_in read) [] bytes)
+each_real P m n item read is each bytes h = record { at = all_real P m level_limit n (kinds.Embedded item) read is (λ part fine real. each part (record { fine = fine; real = real })) bytes h }
 
 few_many : {A : Type 0} (read : List ℕ → A) (old : List A) (vs : List FieldValue) → length (fold (many_in read) old vs) ≤ length old + length vs
 few_many read old [] = omega arith
@@ -285,7 +285,7 @@ value_real (suc l) bytes h =
     (members_real is_real_pair messages.KeyValueList messages.KeyValue l (pair_of (value_at l)) refl (pair_real l (value_at l) (value_real l)))
     bytes h
 
-pub pairs_real : (m : Message) (n : ℕ) (bytes : List ℕ) → kind_of m n ≡ kinds.Embedded messages.KeyValue → Sound m value_levels bytes → are_real_pairs (said n (many_in pair_in) [] bytes) ≡ true
+pub pairs_real : (m : Message) (n : ℕ) (bytes : List ℕ) → kind_of m n ≡ kinds.Embedded messages.KeyValue → Sound m level_limit bytes → are_real_pairs (said n (many_in pair_in) [] bytes) ≡ true
 unfolding pair_at
 pairs_real m n bytes is h = list_all-from_AllPass is_real_pair (said n (many_in pair_in) [] bytes)
-    (each_real (λ p. is_real_pair p ≡ true) m n messages.KeyValue pair_in is (pair_real value_levels value_in (value_real value_levels)) bytes h).at
+    (each_real (λ p. is_real_pair p ≡ true) m n messages.KeyValue pair_in is (pair_real level_limit value_in (value_real level_limit)) bytes h).at

@@ -18,7 +18,7 @@ use Rattle.otlp_model.specs.Weight.{total, weight_of, weight_of_resource_group, 
 use Rattle.otlp_model.specs.Real.{IsReal, IsRealResourceGroup, IsRealSpan, IsRealLogRecord, IsRealMetric}
 use Rattle.otlp_model.specs.Profile.{IsProfile, IsProfileResourceGroup, IsProfileSpan, IsProfileLogRecord, IsProfileMetric}
 use Rattle.otlp_model.specs.Telemetry.{signal_of}
-use Rattle.otlp_codec.specs.Levels.{value_levels}
+use Rattle.otlp_messages.specs.Limits.{level_limit}
 use Rattle.otlp_codec.specs.Groups.{groups_in}
 use Rattle.otlp_codec.specs.Logs.{log_record_in}
 use Rattle.otlp_codec.specs.Spans.{span_in}
@@ -43,22 +43,22 @@ pub no_defect : (signal : Signal) (bytes : List ℕ) (q : Request) (e : Defect) 
 no_defect signal bytes q e a stands = a.0.none e stands
 
 traces_law : (groups : List (ResourceGroup Span)) → All (IsRealResourceGroup IsRealSpan) groups
-    → Law (All (IsProfileResourceGroup IsProfileSpan) groups) (messages.Request Spans) value_levels (groups_in span_in) (canon_groups canon_span) groups (total 32 (weight_of_resource_group weight_of_span) groups) 0
+    → Law (All (IsProfileResourceGroup IsProfileSpan) groups) (messages.Request Spans) level_limit (groups_in span_in) (canon_groups canon_span) groups (total 32 (weight_of_resource_group weight_of_span) groups) 0
 traces_law = request_law IsRealSpan IsProfileSpan Spans span_in canon_span weight_of_span span_law
 
 logs_law : (groups : List (ResourceGroup LogRecord)) → All (IsRealResourceGroup IsRealLogRecord) groups
-    → Law (All (IsProfileResourceGroup IsProfileLogRecord) groups) (messages.Request LogRecords) value_levels (groups_in log_record_in) (canon_groups canon_log_record) groups
+    → Law (All (IsProfileResourceGroup IsProfileLogRecord) groups) (messages.Request LogRecords) level_limit (groups_in log_record_in) (canon_groups canon_log_record) groups
     (total 32 (weight_of_resource_group weight_of_log_record) groups) 0
 logs_law = request_law IsRealLogRecord IsProfileLogRecord LogRecords log_record_in canon_log_record weight_of_log_record log_record_law
 
 metrics_law : (groups : List (ResourceGroup Metric)) → All (IsRealResourceGroup IsRealMetric) groups
-    → Law (All (IsProfileResourceGroup IsProfileMetric) groups) (messages.Request Metrics) value_levels (groups_in metric_in) (canon_groups canon_metric) groups
+    → Law (All (IsProfileResourceGroup IsProfileMetric) groups) (messages.Request Metrics) level_limit (groups_in metric_in) (canon_groups canon_metric) groups
     (total 32 (weight_of_resource_group weight_of_metric) groups) 0
 metrics_law = request_law IsRealMetric IsProfileMetric Metrics metric_in canon_metric weight_of_metric metric_law
 
 -- what is written of the groups is read as the request that they are
-of : {A P Q : Type 0} {m : Message} {read : List ℕ → A} {write : A → List ℕ} {x : A} {w : ℕ} (make : A → Request) → (Q → P) → Law P m value_levels read write x w 0 → Q → w ≤ weight_limit
-    → IsFine m value_levels (write x) × (make x ≡ make (read (write x)))
+of : {A P Q : Type 0} {m : Message} {read : List ℕ → A} {write : A → List ℕ} {x : A} {w : ℕ} (make : A → Request) → (Q → P) → Law P m level_limit read write x w 0 → Q → w ≤ weight_limit
+    → IsFine m level_limit (write x) × (make x ≡ make (read (write x)))
 of make profile law q few =
     let read = law.back (profile q) (omega (arith, law.bound few, few)) in
     (read.0, ap make (sym read.1))

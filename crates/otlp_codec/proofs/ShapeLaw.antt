@@ -3,7 +3,7 @@ use Rattle.std.proofs.Common.{List, refl, arith}
 use Rattle.std.specs.Prelude.{FitsSigned}
 use Rattle.std.specs.Int.{w32}
 use Rattle.otlp_messages.specs.declared.messages.Message.TheVariants as messages
-use Rattle.otlp_codec.specs.Levels.{value_levels}
+use Rattle.otlp_messages.specs.Limits.{level_limit}
 use Rattle.otlp_model.specs.Each.{Each}
 use Rattle.otlp_model.specs.declared.metrics.Point.{Point}
 use Rattle.otlp_model.specs.declared.histograms.SumPoint.{SumPoint}
@@ -22,7 +22,7 @@ use Rattle.otlp_codec.proofs.FieldLaw.{int32_held, bool_held, many_held}
 use Rattle.otlp_codec.proofs.PointLaw.{point_law}
 use Rattle.otlp_codec.proofs.HistogramLaw.{hist_point_law, sum_point_law}
 
-pub gauge_law : (points : List Point) → Each IsRealPoint points → Law (Each IsProfilePoint points) messages.Gauge value_levels gauge_in canon_gauge points (total 32 weight_of_point points) 24
+pub gauge_law : (points : List Point) → Each IsRealPoint points → Law (Each IsProfilePoint points) messages.Gauge level_limit gauge_in canon_gauge points (total 32 weight_of_point points) 24
 unfolding canon_gauge
 gauge_law points real =
     law_of gauge_in canon_gauge
@@ -31,7 +31,7 @@ gauge_law points real =
     gauge_passes refl refl (omega arith) (omega arith)
 
 pub sum_law : (x : Sum) → Each IsRealPoint x.points → FitsSigned w32 x.temporality
-    → Law (Each IsProfilePoint x.points) messages.Sum value_levels sum_in canon_sum x (total 32 weight_of_point x.points) 24
+    → Law (Each IsProfilePoint x.points) messages.Sum level_limit sum_in canon_sum x (total 32 weight_of_point x.points) 24
 unfolding canon_sum
 sum_law x real fits =
     let m = messages.Sum in
@@ -43,7 +43,7 @@ sum_law x real fits =
     sum_passes refl refl (omega arith) (omega arith)
 
 pub histogram_law : (x : Histogram) → Each IsRealHistPoint x.points → FitsSigned w32 x.temporality
-    → Law (Each IsProfileHistPoint x.points) messages.Histogram value_levels histogram_in canon_histogram x (total 32 weight_of_hist_point x.points) 24
+    → Law (Each IsProfileHistPoint x.points) messages.Histogram level_limit histogram_in canon_histogram x (total 32 weight_of_hist_point x.points) 24
 unfolding canon_histogram
 histogram_law x real fits =
     let m = messages.Histogram in
@@ -54,7 +54,7 @@ histogram_law x real fits =
     histogram_passes refl refl (omega arith) (omega arith)
 
 pub summary_law : (points : List SumPoint) → Each IsRealSumPoint points
-    → Law (Each IsProfileSumPoint points) messages.Summary value_levels summary_in canon_summary points (total 32 weight_of_sum_point points) 24
+    → Law (Each IsProfileSumPoint points) messages.Summary level_limit summary_in canon_summary points (total 32 weight_of_sum_point points) 24
 unfolding canon_summary
 summary_law points real =
     law_of summary_in canon_summary

@@ -12,7 +12,7 @@ use Rattle.otlp_model.specs.Weight.{weight_of_event, weight_of_link, weight_of_s
 use Rattle.otlp_model.specs.Real.{IsRealEvent, IsRealLink, IsRealSpan}
 use Rattle.otlp_model.specs.Profile.{IsProfileEvent, IsProfileLink, IsProfileSpan}
 use Rattle.otlp_codec.specs.declared.spans.Status.{Status}
-use Rattle.otlp_codec.specs.Levels.{value_levels}
+use Rattle.otlp_messages.specs.Limits.{level_limit}
 use Rattle.otlp_codec.specs.Spans.{event_in, link_in, no_status, status_in, span_in}
 use Rattle.otlp_codec.specs.SpanSteps.{status_step, status_of, span_step}
 use Rattle.otlp_codec.specs.SpanSpelling.{canon_event, canon_link, canon_status, canon_span}
@@ -23,7 +23,7 @@ use Rattle.otlp_codec.proofs.FieldLaw.{fixed64_held, fixed32_held, int32_held, u
 use Rattle.otlp_codec.proofs.Attributes.{pairs_held}
 use Rattle.otlp_codec.proofs.Lists.{all_from, all_map}
 
-event_law : (x : Event) → IsRealEvent x → Law (IsProfileEvent x) messages.Event value_levels event_in canon_event x (weight_of_event x) 236
+event_law : (x : Event) → IsRealEvent x → Law (IsProfileEvent x) messages.Event level_limit event_in canon_event x (weight_of_event x) 236
 unfolding canon_event
 event_law x real =
     let m = messages.Event in
@@ -34,7 +34,7 @@ event_law x real =
     (also (λ a r. record r { dropped = a }) (uint32_held m 4 x.dropped refl refl real.dropped) refl (λ a v. refl) last))))
     event_passes refl refl (omega arith) (omega arith)
 
-link_law : (x : Link) → IsRealLink x → Law (IsProfileLink x) messages.Link value_levels link_in canon_link x (weight_of_link x) 236
+link_law : (x : Link) → IsRealLink x → Law (IsProfileLink x) messages.Link level_limit link_in canon_link x (weight_of_link x) 236
 unfolding canon_link
 link_law x real =
     let m = messages.Link in
@@ -48,7 +48,7 @@ link_law x real =
     link_passes refl refl (omega arith) (omega arith)
 
 -- the status weighs what its message does
-status_law : {P : Type 0} (x : Span) → IsRealSpan x → Law P messages.Status value_levels status_in canon_status (status_of x) (length x.status_message) 24
+status_law : {P : Type 0} (x : Span) → IsRealSpan x → Law P messages.Status level_limit status_in canon_status (status_of x) (length x.status_message) 24
 status_law x real =
     let m = messages.Status in
     law_of status_in canon_status
@@ -68,12 +68,12 @@ status_heard old a (wire.Fixed32 n) = refl
 no_status_is : no_status ≡ status_in []
 no_status_is = sym (ap (fold status_step no_status) no_fields) ∙ status_passes []
 
-pub span_law : (x : Span) → IsRealSpan x → Law (IsProfileSpan x) messages.Span value_levels span_in canon_span x (weight_of_span x) 236
+pub span_law : (x : Span) → IsRealSpan x → Law (IsProfileSpan x) messages.Span level_limit span_in canon_span x (weight_of_span x) 236
 unfolding canon_span
 span_law x real =
     let m = messages.Span in
-    let events = all_map IsRealEvent (λ e. Law (IsProfileEvent e) messages.Event value_levels event_in canon_event e (weight_of_event e) 236) event_law x.events (all_from IsRealEvent x.events real.events.at) in
-    let links = all_map IsRealLink (λ l. Law (IsProfileLink l) messages.Link value_levels link_in canon_link l (weight_of_link l) 236) link_law x.links (all_from IsRealLink x.links real.links.at) in
+    let events = all_map IsRealEvent (λ e. Law (IsProfileEvent e) messages.Event level_limit event_in canon_event e (weight_of_event e) 236) event_law x.events (all_from IsRealEvent x.events real.events.at) in
+    let links = all_map IsRealLink (λ l. Law (IsProfileLink l) messages.Link level_limit link_in canon_link l (weight_of_link l) 236) link_law x.links (all_from IsRealLink x.links real.links.at) in
     law_of span_in canon_span
     (also (λ a r. record r { trace_id = a }) (id_held m 1 16 x.trace_id refl refl (λ p. p.trace_id)) refl (λ a v. refl)
     (also (λ a r. record r { span_id = a }) (id_held m 2 8 x.span_id refl refl (λ p. p.span_id)) refl (λ a v. refl)

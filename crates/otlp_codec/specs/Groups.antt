@@ -1,7 +1,7 @@
 -- What a resource and a scope say (OTLP, resource.proto and common.proto).
 use Rattle.std.specs.Prelude.{ℕ, List, []}
 use Rattle.otlp_messages.specs.Rows.{said, uint32_in, bytes_in, many_in}
-use Rattle.otlp_codec.specs.Levels.{value_levels}
+use Rattle.otlp_messages.specs.Limits.{level_limit}
 use Rattle.otlp_model.specs.declared.value.Value.{Value}
 use Rattle.otlp_model.specs.declared.value.Pair.{Pair}
 use Rattle.otlp_model.specs.declared.groups.Resource.{Resource}
@@ -12,10 +12,10 @@ use Rattle.otlp_codec.specs.Values.{value_at, pair_at}
 
 -- AnyValue and KeyValue outside of any array and key-value list
 abbrev pub value_in : List ℕ → Value
-value_in = value_at value_levels
+value_in = value_at level_limit
 
 abbrev pub pair_in : List ℕ → Pair
-pair_in = pair_at value_levels
+pair_in = pair_at level_limit
 
 -- Resource; its schema url stands in the group
 abbrev pub resource_in : List ℕ → List ℕ → Resource

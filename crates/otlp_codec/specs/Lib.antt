@@ -1,4 +1,4 @@
-pub mod Levels
+pub mod Limits
 pub mod Groups
 pub mod Logs
 pub mod Spans

@@ -10,7 +10,7 @@ use Rattle.otlp_model.specs.declared.request.Request.{Request}
 use Rattle.otlp_model.specs.declared.request.Request.TheVariants as requests
 use Rattle.otlp_model.specs.declared.request.Signal.{Signal}
 use Rattle.otlp_model.specs.declared.request.Signal.TheVariants as signals
-use Rattle.otlp_codec.specs.Levels.{value_levels}
+use Rattle.otlp_messages.specs.Limits.{level_limit}
 use Rattle.otlp_codec.specs.Groups.{groups_in}
 use Rattle.otlp_codec.specs.Logs.{log_record_in}
 use Rattle.otlp_codec.specs.Spans.{span_in}
@@ -33,11 +33,11 @@ request_in signals.Metrics bytes = requests.Metrics (groups_in metric_in bytes)
 
 -- the defect stands in the bytes of a request
 abbrev pub Stands : Signal → List ℕ → Defect → Type 0
-Stands signal bytes defect = defects.Stands (request_message signal) value_levels bytes defect
+Stands signal bytes defect = defects.Stands (request_message signal) level_limit bytes defect
 
 -- the bytes say the request, and no defect stands in them
 abbrev pub Reads : Signal → List ℕ → Request → Type 0
-Reads signal bytes request = IsFine (request_message signal) value_levels bytes × (request ≡ request_in signal bytes)
+Reads signal bytes request = IsFine (request_message signal) level_limit bytes × (request ≡ request_in signal bytes)
 
 -- the canonical spelling
 abbrev pub canon_request : Request → List ℕ

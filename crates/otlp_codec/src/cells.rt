@@ -8,7 +8,7 @@ ghost use Rattle.otlp_wire.specs.Wire.{value_of};
 ghost use Rattle.otlp_messages.specs.declared.messages.FieldKind.TheVariants as kinds;
 ghost use Rattle.otlp_messages.specs.Fine.{FineValue};
 ghost use Rattle.otlp_messages.specs.Rows.{fixed64_in, fixed32_in, uint32_in, int32_in, bytes_in};
-ghost use Rattle.otlp_codec.specs.Levels.{value_levels};
+ghost use Rattle.otlp_messages.specs.Limits.{level_limit};
 ghost use Rattle.otlp_codec.specs.PartRefusals.{RefusesValue};
 
 use crate::refusal::ReadRefusal;
@@ -20,8 +20,8 @@ use std::alloc::Global;
 #[inline]
 pub(crate) fn take_fixed64(to: &mut u64, value: &Wire<'_>) -> Result<(), ReadRefusal>
     ensures ok { OnOk result (to.new ≡ fixed64_in to.old (value_of value.now)) }
-    ensures fine { IfOk result (λ _. FineValue kinds.Fixed64 value_levels (value_of value.now)) }
-    ensures fault { IfErr result (RefusesValue kinds.Fixed64 value_levels (value_of value.now)) }
+    ensures fine { IfOk result (λ _. FineValue kinds.Fixed64 level_limit (value_of value.now)) }
+    ensures fault { IfErr result (RefusesValue kinds.Fixed64 level_limit (value_of value.now)) }
 {
     let Wire::Fixed64(number) = value else {
         return Err(ReadRefusal::BadMessage);
@@ -34,8 +34,8 @@ pub(crate) fn take_fixed64(to: &mut u64, value: &Wire<'_>) -> Result<(), ReadRef
 #[inline]
 pub(crate) fn take_fixed32(to: &mut u32, value: &Wire<'_>) -> Result<(), ReadRefusal>
     ensures ok { OnOk result (to.new ≡ fixed32_in to.old (value_of value.now)) }
-    ensures fine { IfOk result (λ _. FineValue kinds.Fixed32 value_levels (value_of value.now)) }
-    ensures fault { IfErr result (RefusesValue kinds.Fixed32 value_levels (value_of value.now)) }
+    ensures fine { IfOk result (λ _. FineValue kinds.Fixed32 level_limit (value_of value.now)) }
+    ensures fault { IfErr result (RefusesValue kinds.Fixed32 level_limit (value_of value.now)) }
 {
     let Wire::Fixed32(number) = value else {
         return Err(ReadRefusal::BadMessage);
@@ -48,8 +48,8 @@ pub(crate) fn take_fixed32(to: &mut u32, value: &Wire<'_>) -> Result<(), ReadRef
 #[inline]
 pub(crate) fn take_uint32(to: &mut u32, value: &Wire<'_>) -> Result<(), ReadRefusal>
     ensures ok { OnOk result (to.new ≡ uint32_in to.old (value_of value.now)) }
-    ensures fine { IfOk result (λ _. FineValue kinds.Varint value_levels (value_of value.now)) }
-    ensures fault { IfErr result (RefusesValue kinds.Varint value_levels (value_of value.now)) }
+    ensures fine { IfOk result (λ _. FineValue kinds.Varint level_limit (value_of value.now)) }
+    ensures fault { IfErr result (RefusesValue kinds.Varint level_limit (value_of value.now)) }
 {
     let Wire::Varint(number) = value else {
         return Err(ReadRefusal::BadMessage);
@@ -62,8 +62,8 @@ pub(crate) fn take_uint32(to: &mut u32, value: &Wire<'_>) -> Result<(), ReadRefu
 #[inline]
 pub(crate) fn take_int32(to: &mut i32, value: &Wire<'_>) -> Result<(), ReadRefusal>
     ensures ok { OnOk result (to.new ≡ int32_in to.old (value_of value.now)) }
-    ensures fine { IfOk result (λ _. FineValue kinds.Varint value_levels (value_of value.now)) }
-    ensures fault { IfErr result (RefusesValue kinds.Varint value_levels (value_of value.now)) }
+    ensures fine { IfOk result (λ _. FineValue kinds.Varint level_limit (value_of value.now)) }
+    ensures fault { IfErr result (RefusesValue kinds.Varint level_limit (value_of value.now)) }
 {
     let Wire::Varint(number) = value else {
         return Err(ReadRefusal::BadMessage);
@@ -76,8 +76,8 @@ pub(crate) fn take_int32(to: &mut i32, value: &Wire<'_>) -> Result<(), ReadRefus
 #[inline]
 pub(crate) fn take_text(alloc: Global, to: &mut Text, value: &Wire<'_>) -> Result<(), ReadRefusal>
     ensures ok { OnOk result (to.new ≡ bytes_in to.old (value_of value.now)) }
-    ensures fine { IfOk result (λ _. FineValue kinds.Text value_levels (value_of value.now)) }
-    ensures fault { IfErr result (RefusesValue kinds.Text value_levels (value_of value.now)) }
+    ensures fine { IfOk result (λ _. FineValue kinds.Text level_limit (value_of value.now)) }
+    ensures fault { IfErr result (RefusesValue kinds.Text level_limit (value_of value.now)) }
 {
     set_text(alloc, to, value)
 }
@@ -87,7 +87,7 @@ pub(crate) fn take_text(alloc: Global, to: &mut Text, value: &Wire<'_>) -> Resul
 pub(crate) fn set_text(alloc: Global, to: &mut Text, value: &Wire<'_>) -> Result<(), ReadRefusal>
     ensures ok { OnOk result (value_of value.now ≡ wire.Bytes to.new) }
     ensures fine { OnOk result (IsUtf8 to.new) }
-    ensures fault { IfErr result (RefusesValue kinds.Text value_levels (value_of value.now)) }
+    ensures fault { IfErr result (RefusesValue kinds.Text level_limit (value_of value.now)) }
 {
     let Wire::Bytes(part) = value else {
         return Err(ReadRefusal::BadMessage);
@@ -104,7 +104,7 @@ pub(crate) fn set_text(alloc: Global, to: &mut Text, value: &Wire<'_>) -> Result
 pub(crate) fn text_of(alloc: Global, value: &Wire<'_>) -> Result<Text, ReadRefusal>
     ensures ok { IfOk result (λ text. value_of value.now ≡ wire.Bytes text) }
     ensures fine { IfOk result (λ text. IsUtf8 text) }
-    ensures fault { IfErr result (RefusesValue kinds.Text value_levels (value_of value.now)) }
+    ensures fault { IfErr result (RefusesValue kinds.Text level_limit (value_of value.now)) }
 {
     let Wire::Bytes(part) = value else {
         return Err(ReadRefusal::BadMessage);
@@ -124,8 +124,8 @@ pub(crate) fn take_id(
     value: &Wire<'_>,
 ) -> Result<(), ReadRefusal>
     ensures ok { OnOk result (to.new ≡ bytes_in to.old (value_of value.now)) }
-    ensures fine { IfOk result (λ _. FineValue (kinds.Id size) value_levels (value_of value.now)) }
-    ensures fault { IfErr result (RefusesValue (kinds.Id size) value_levels (value_of value.now)) }
+    ensures fine { IfOk result (λ _. FineValue (kinds.Id size) level_limit (value_of value.now)) }
+    ensures fault { IfErr result (RefusesValue (kinds.Id size) level_limit (value_of value.now)) }
 {
     let Wire::Bytes(part) = value else {
         return Err(ReadRefusal::BadMessage);

@@ -4,7 +4,7 @@ ghost use Rattle.std.specs.Prelude.{◌≡◌, OnOk, IfOk, IfErr};
 ghost use Rattle.otlp_wire.specs.Wire.{value_of};
 ghost use Rattle.otlp_messages.specs.declared.messages.FieldKind.TheVariants as kinds;
 ghost use Rattle.otlp_messages.specs.declared.messages.Message.TheVariants as messages;
-ghost use Rattle.otlp_codec.specs.Levels.{value_levels};
+ghost use Rattle.otlp_messages.specs.Limits.{level_limit};
 ghost use Rattle.otlp_messages.specs.Fine.{FineValue};
 ghost use Rattle.otlp_codec.specs.PartRefusals.{RefusesValue};
 ghost use Rattle.otlp_codec.specs.Groups.{resource_in, scope_in, scope_group_in, resource_group_in, groups_in};
@@ -195,8 +195,8 @@ pub(crate) fn take_resource(
     value: &Wire<'_>,
 ) -> Result<(), ReadRefusal>
     ensures ok { OnOk result (to.new ≡ resource_part_in to.old (value_of value.now)) }
-    ensures fine { IfOk result (λ _. FineValue (kinds.Embedded messages.Resource) value_levels (value_of value.now)) }
-    ensures fault { IfErr result (RefusesValue (kinds.Embedded messages.Resource) value_levels (value_of value.now)) }
+    ensures fine { IfOk result (λ _. FineValue (kinds.Embedded messages.Resource) level_limit (value_of value.now)) }
+    ensures fault { IfErr result (RefusesValue (kinds.Embedded messages.Resource) level_limit (value_of value.now)) }
 {
     let Wire::Bytes(bytes) = value else {
         return Err(ReadRefusal::BadMessage);
@@ -215,8 +215,8 @@ pub(crate) fn take_resource(
 #[inline]
 pub(crate) fn take_scope(alloc: Global, to: &mut Scope, value: &Wire<'_>) -> Result<(), ReadRefusal>
     ensures ok { OnOk result (to.new ≡ scope_part_in to.old (value_of value.now)) }
-    ensures fine { IfOk result (λ _. FineValue (kinds.Embedded messages.InstrumentationScope) value_levels (value_of value.now)) }
-    ensures fault { IfErr result (RefusesValue (kinds.Embedded messages.InstrumentationScope) value_levels (value_of value.now)) }
+    ensures fine { IfOk result (λ _. FineValue (kinds.Embedded messages.InstrumentationScope) level_limit (value_of value.now)) }
+    ensures fault { IfErr result (RefusesValue (kinds.Embedded messages.InstrumentationScope) level_limit (value_of value.now)) }
 {
     let Wire::Bytes(bytes) = value else {
         return Err(ReadRefusal::BadMessage);

@@ -1,10 +1,11 @@
 //! How long canonical spellings are, without writing them. A length above 2^63 is returned as 2^63.
 
-ghost use Rattle.std.specs.Prelude.{◌≡◌, ◌≤◌, ◌+◌, ◌^◌, ℕ, List, min, length, map, sum, ◌∷◌, []};
+ghost use Rattle.std.specs.Prelude.{◌≡◌, ◌≤◌, ◌+◌, ℕ, List, min, length, map, sum, ◌∷◌, []};
 ghost use Rattle.otlp_wire.specs.Varint.{varint};
 ghost use Rattle.otlp_wire.specs.Wire as wire;
 ghost use Rattle.otlp_wire.specs.Wire.{IsNumber};
 ghost use Rattle.otlp_messages.specs.Canon.{canon, canon_row, varint_row, fixed64_row, fixed32_row, bytes_row, many_row};
+ghost use Rattle.otlp_model.specs.Limits.{count_cap};
 ghost use Rattle.otlp_codec.specs.Canonical.{canon_value, canon_pair, members_rows};
 ghost use Rattle.otlp_codec.specs.Lengths.{part_len};
 
@@ -15,7 +16,7 @@ use otlp_wire::len_varint;
 /// A field of wire type 2 whose part has `size` bytes.
 pub(crate) fn len_part(number: u32, size: u64) -> u64
     requires { IsNumber number }
-    ensures { result ≡ min (part_len number size) (2 ^ 63) }
+    ensures { result ≡ min (part_len number size) count_cap }
 {
     let head = len_varint(8 * u64::from(number) + 2) + len_varint(size);
     add_capped(head as u64, size)
@@ -24,7 +25,7 @@ pub(crate) fn len_part(number: u32, size: u64) -> u64
 /// Bytes as a field of wire type 2.
 fn len_bytes_field(number: u32, part: &[u8]) -> u64
     requires { IsNumber number }
-    ensures { result ≡ min (length (canon_row number (wire.Bytes part.now ∷ []))) (2 ^ 63) }
+    ensures { result ≡ min (length (canon_row number (wire.Bytes part.now ∷ []))) count_cap }
 {
     len_part(number, part.len() as u64)
 }
@@ -89,7 +90,7 @@ pub(crate) fn len_fixed32_row(number: u32, value: u32) -> u64
 /// A text or bytes.
 pub(crate) fn len_bytes_row(number: u32, part: &[u8]) -> u64
     requires { IsNumber number }
-    ensures { result ≡ min (length (canon_row number (bytes_row part.now))) (2 ^ 63) }
+    ensures { result ≡ min (length (canon_row number (bytes_row part.now))) count_cap }
 {
     if part.is_empty() {
         0
@@ -101,7 +102,7 @@ pub(crate) fn len_bytes_row(number: u32, part: &[u8]) -> u64
 /// A message that occurs once.
 pub(crate) fn len_one<P: Spelled>(number: u32, part: &P) -> u64
     requires { IsNumber number }
-    ensures { result ≡ min (length (canon_row number (bytes_row (P.spelled part.now)))) (2 ^ 63) }
+    ensures { result ≡ min (length (canon_row number (bytes_row (P.spelled part.now)))) count_cap }
 {
     let size = Spelled::len(part);
     if size == 0 { 0 } else { len_part(number, size) }
@@ -110,7 +111,7 @@ pub(crate) fn len_one<P: Spelled>(number: u32, part: &P) -> u64
 /// The messages of a repeated field.
 pub(crate) fn len_more<P: Spelled>(number: u32, parts: &[P]) -> u64
     requires { IsNumber number }
-    ensures { result ≡ min (length (canon_row number (many_row (map P.spelled parts.now)))) (2 ^ 63) }
+    ensures { result ≡ min (length (canon_row number (many_row (map P.spelled parts.now)))) count_cap }
 {
     let mut total = 0;
     for part in parts {
@@ -122,7 +123,7 @@ pub(crate) fn len_more<P: Spelled>(number: u32, parts: &[P]) -> u64
 /// An `AnyValue`.
 #[cycle(lengths)]
 pub(crate) fn len_value(value: &Value) -> u64
-    ensures { result ≡ min (length (canon_value value.now)) (2 ^ 63) }
+    ensures { result ≡ min (length (canon_value value.now)) count_cap }
 {
     match value {
         Value::Empty => 0,
@@ -139,7 +140,7 @@ pub(crate) fn len_value(value: &Value) -> u64
 /// An array as the member of the oneof that it is.
 #[cycle(lengths)]
 fn len_array(members: &Items<Value>) -> u64
-    ensures { result ≡ min (length (canon_row 5 (wire.Bytes (canon (members_rows (map canon_value members.now))) ∷ []))) (2 ^ 63) }
+    ensures { result ≡ min (length (canon_row 5 (wire.Bytes (canon (members_rows (map canon_value members.now))) ∷ []))) count_cap }
 {
     len_part(5, len_members(members.as_slice()))
 }
@@ -147,7 +148,7 @@ fn len_array(members: &Items<Value>) -> u64
 /// A key-value list as the member of the oneof that it is.
 #[cycle(lengths)]
 fn len_map(pairs: &Items<Pair>) -> u64
-    ensures { result ≡ min (length (canon_row 6 (wire.Bytes (canon (members_rows (map canon_pair pairs.now))) ∷ []))) (2 ^ 63) }
+    ensures { result ≡ min (length (canon_row 6 (wire.Bytes (canon (members_rows (map canon_pair pairs.now))) ∷ []))) count_cap }
 {
     len_part(6, len_pairs(1, pairs.as_slice()))
 }
@@ -155,7 +156,7 @@ fn len_map(pairs: &Items<Pair>) -> u64
 /// The members of an array.
 #[cycle(lengths)]
 fn len_members(members: &[Value]) -> u64
-    ensures { result ≡ min (length (canon_row 1 (many_row (map canon_value members.now)))) (2 ^ 63) }
+    ensures { result ≡ min (length (canon_row 1 (many_row (map canon_value members.now)))) count_cap }
 {
     let mut total = 0;
     for member in members {
@@ -168,7 +169,7 @@ fn len_members(members: &[Value]) -> u64
 #[cycle(lengths)]
 pub(crate) fn len_pairs(number: u32, pairs: &[Pair]) -> u64
     requires { IsNumber number }
-    ensures { result ≡ min (length (canon_row number (many_row (map canon_pair pairs.now)))) (2 ^ 63) }
+    ensures { result ≡ min (length (canon_row number (many_row (map canon_pair pairs.now)))) count_cap }
 {
     let mut total = 0;
     for pair in pairs {
@@ -180,7 +181,7 @@ pub(crate) fn len_pairs(number: u32, pairs: &[Pair]) -> u64
 /// A `KeyValue`.
 #[cycle(lengths)]
 fn len_pair(pair: &Pair) -> u64
-    ensures { result ≡ min (length (canon_pair pair.now)) (2 ^ 63) }
+    ensures { result ≡ min (length (canon_pair pair.now)) count_cap }
 {
     let value = len_value(&pair.value);
     let row = if value == 0 { 0 } else { len_part(2, value) };

@@ -19,7 +19,8 @@ mod values;
 mod writing;
 
 pub use laws::{
-    one_reading, read_is_real, some_reading, spelling_is_short, tidy_is_stable, written_is_read,
+    limits, one_reading, read_is_real, some_reading, spelling_is_short, tidy_is_stable,
+    written_is_read,
 };
 pub use refusal::ReadRefusal;
 pub use request::{len_request, put_request, read_request, write_request};

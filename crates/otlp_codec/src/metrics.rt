@@ -1,10 +1,10 @@
 //! Metrics.
 
-ghost use Rattle.std.specs.Prelude.{◌≡◌, ◌^◌, ◌++◌, min, length, OnOk};
+ghost use Rattle.std.specs.Prelude.{◌≡◌, ◌++◌, min, length, OnOk};
 ghost use Rattle.otlp_wire.specs.Wire.{value_of};
 ghost use Rattle.otlp_messages.specs.declared.messages.FieldKind.TheVariants as kinds;
 ghost use Rattle.otlp_messages.specs.declared.messages.Message.TheVariants as messages;
-ghost use Rattle.otlp_codec.specs.Levels.{value_levels};
+ghost use Rattle.otlp_messages.specs.Limits.{level_limit};
 ghost use Rattle.otlp_messages.specs.Canon.{canon};
 ghost use Rattle.otlp_codec.specs.PartRefusals.{RefusesValue};
 ghost use Rattle.otlp_codec.specs.Metrics.{metric_in};
@@ -13,6 +13,7 @@ ghost use Rattle.otlp_codec.specs.MetricSpelling.{shape_rows, canon_metric};
 ghost use Rattle.otlp_codec.specs.lemmas.MetricsPassed.{metric_passes};
 ghost use Rattle.otlp_messages.specs.declared.messages.Of.TheVariants as ofs;
 ghost use Rattle.std.proofs.Common.{refl};
+ghost use Rattle.otlp_model.specs.Limits.{count_cap};
 
 use crate::cells::take_text;
 use crate::lengths::len_bytes_row;
@@ -80,7 +81,7 @@ impl Item for Metric {
 
 /// Why a member of the oneof that is left out is refused.
 fn unsupported(value: &Wire<'_>) -> ReadRefusal
-    ensures { RefusesValue kinds.Refused value_levels (value_of value.now) result }
+    ensures { RefusesValue kinds.Refused level_limit (value_of value.now) result }
 {
     match value {
         Wire::Bytes(_) => ReadRefusal::Unsupported,
@@ -132,7 +133,7 @@ fn write_shape(to: &mut Backward, shape: &Shape) -> Result<(), AllocError>
 
 /// How many bytes the member of the oneof takes, or 2^63 where there are more.
 fn len_shape(shape: &Shape) -> u64
-    ensures { result ≡ min (length (canon (shape_rows shape.now))) (2 ^ 63) }
+    ensures { result ≡ min (length (canon (shape_rows shape.now))) count_cap }
 {
     match shape {
         Shape::Empty => 0,

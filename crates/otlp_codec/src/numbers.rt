@@ -1,12 +1,13 @@
 //! Fields that only points have: the oneof of a number, doubles that may be missing, packed numbers.
 
-ghost use Rattle.std.specs.Prelude.{◌≡◌, ◌≤◌, ◌^◌, ◌/◌, ◌++◌, min, length, OnOk, IfErr, IfOk};
+ghost use Rattle.std.specs.Prelude.{◌≡◌, ◌≤◌, ◌/◌, ◌++◌, min, length, OnOk, IfErr, IfOk};
 ghost use Rattle.otlp_wire.specs.Wire.{value_of, IsNumber};
 ghost use Rattle.otlp_messages.specs.declared.messages.FieldKind.TheVariants as kinds;
-ghost use Rattle.otlp_codec.specs.Levels.{value_levels};
+ghost use Rattle.otlp_messages.specs.Limits.{level_limit};
 ghost use Rattle.otlp_messages.specs.Fine.{FineValue};
 ghost use Rattle.otlp_messages.specs.Rows.{bool_in, optional_in, packed_in, numbers};
 ghost use Rattle.otlp_messages.specs.Canon.{canon_row, bool_row, optional_row, packed_row};
+ghost use Rattle.otlp_model.specs.Limits.{count_cap};
 ghost use Rattle.otlp_codec.specs.PartRefusals.{RefusesValue};
 ghost use Rattle.otlp_codec.specs.Numbers.{double_in, int_in, double_row, int_row};
 
@@ -22,8 +23,8 @@ use std::alloc::AllocError;
 #[inline]
 pub(crate) fn take_bool(to: &mut bool, value: &Wire<'_>) -> Result<(), ReadRefusal>
     ensures ok { OnOk result (to.new ≡ bool_in to.old (value_of value.now)) }
-    ensures fine { IfOk result (λ _. FineValue kinds.Varint value_levels (value_of value.now)) }
-    ensures fault { IfErr result (RefusesValue kinds.Varint value_levels (value_of value.now)) }
+    ensures fine { IfOk result (λ _. FineValue kinds.Varint level_limit (value_of value.now)) }
+    ensures fault { IfErr result (RefusesValue kinds.Varint level_limit (value_of value.now)) }
 {
     let Wire::Varint(number) = value else {
         return Err(ReadRefusal::BadMessage);
@@ -36,8 +37,8 @@ pub(crate) fn take_bool(to: &mut bool, value: &Wire<'_>) -> Result<(), ReadRefus
 #[inline]
 pub(crate) fn take_optional(to: &mut Option<u64>, value: &Wire<'_>) -> Result<(), ReadRefusal>
     ensures ok { OnOk result (to.new ≡ optional_in to.old (value_of value.now)) }
-    ensures fine { IfOk result (λ _. FineValue kinds.Fixed64 value_levels (value_of value.now)) }
-    ensures fault { IfErr result (RefusesValue kinds.Fixed64 value_levels (value_of value.now)) }
+    ensures fine { IfOk result (λ _. FineValue kinds.Fixed64 level_limit (value_of value.now)) }
+    ensures fault { IfErr result (RefusesValue kinds.Fixed64 level_limit (value_of value.now)) }
 {
     let Wire::Fixed64(bits) = value else {
         return Err(ReadRefusal::BadMessage);
@@ -50,8 +51,8 @@ pub(crate) fn take_optional(to: &mut Option<u64>, value: &Wire<'_>) -> Result<()
 #[inline]
 pub(crate) fn take_double(to: &mut Number, value: &Wire<'_>) -> Result<(), ReadRefusal>
     ensures ok { OnOk result (to.new ≡ double_in to.old (value_of value.now)) }
-    ensures fine { IfOk result (λ _. FineValue kinds.Fixed64 value_levels (value_of value.now)) }
-    ensures fault { IfErr result (RefusesValue kinds.Fixed64 value_levels (value_of value.now)) }
+    ensures fine { IfOk result (λ _. FineValue kinds.Fixed64 level_limit (value_of value.now)) }
+    ensures fault { IfErr result (RefusesValue kinds.Fixed64 level_limit (value_of value.now)) }
 {
     let Wire::Fixed64(bits) = value else {
         return Err(ReadRefusal::BadMessage);
@@ -64,8 +65,8 @@ pub(crate) fn take_double(to: &mut Number, value: &Wire<'_>) -> Result<(), ReadR
 #[inline]
 pub(crate) fn take_int(to: &mut Number, value: &Wire<'_>) -> Result<(), ReadRefusal>
     ensures ok { OnOk result (to.new ≡ int_in to.old (value_of value.now)) }
-    ensures fine { IfOk result (λ _. FineValue kinds.Fixed64 value_levels (value_of value.now)) }
-    ensures fault { IfErr result (RefusesValue kinds.Fixed64 value_levels (value_of value.now)) }
+    ensures fine { IfOk result (λ _. FineValue kinds.Fixed64 level_limit (value_of value.now)) }
+    ensures fault { IfErr result (RefusesValue kinds.Fixed64 level_limit (value_of value.now)) }
 {
     let Wire::Fixed64(bits) = value else {
         return Err(ReadRefusal::BadMessage);
@@ -78,8 +79,8 @@ pub(crate) fn take_int(to: &mut Number, value: &Wire<'_>) -> Result<(), ReadRefu
 #[inline]
 pub(crate) fn take_packed(to: &mut Items<u64>, value: &Wire<'_>) -> Result<(), ReadRefusal>
     ensures ok { OnOk result (to.new ≡ packed_in to.old (value_of value.now)) }
-    ensures fine { IfOk result (λ _. FineValue kinds.Packed64 value_levels (value_of value.now)) }
-    ensures fault { IfErr result (RefusesValue kinds.Packed64 value_levels (value_of value.now)) }
+    ensures fine { IfOk result (λ _. FineValue kinds.Packed64 level_limit (value_of value.now)) }
+    ensures fault { IfErr result (RefusesValue kinds.Packed64 level_limit (value_of value.now)) }
 {
     match value {
         Wire::Fixed64(bits) => to.push(*bits)?,
@@ -170,7 +171,7 @@ pub(crate) fn len_bool(number: u32, value: bool) -> u64
 /// How many bytes packed numbers take, or 2^63 where there are more.
 pub(crate) fn len_packed(number: u32, values: &[u64]) -> u64
     requires { IsNumber number }
-    ensures { result ≡ min (length (canon_row number (packed_row values.now))) (2 ^ 63) }
+    ensures { result ≡ min (length (canon_row number (packed_row values.now))) count_cap }
 {
     if values.is_empty() {
         return 0;

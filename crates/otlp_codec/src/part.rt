@@ -6,7 +6,7 @@ ghost use Rattle.otlp_wire.specs.Fields.{fields_of};
 ghost use Rattle.otlp_messages.specs.declared.messages.Message.{Message};
 ghost use Rattle.otlp_messages.specs.declared.messages.FieldKind.TheVariants as kinds;
 ghost use Rattle.otlp_messages.specs.declared.messages.Message.TheVariants as messages;
-ghost use Rattle.otlp_codec.specs.Levels.{value_levels};
+ghost use Rattle.otlp_messages.specs.Limits.{level_limit};
 ghost use Rattle.otlp_messages.specs.declared.messages.Of.{Of};
 ghost use Rattle.otlp_messages.specs.Table.{kind_of, item_of};
 ghost use Rattle.otlp_messages.specs.Defects.{IsFine};
@@ -17,13 +17,10 @@ ghost use Rattle.otlp_codec.specs.Groups.{value_in, pair_in};
 
 use crate::refusal::ReadRefusal;
 use crate::values::{empty_pair, fill_pair, fill_value};
-use otlp_messages::{MARKS, Message, Of, row_of};
-use otlp_model::{Items, MAX_DEPTH, Pair, Value};
+use otlp_messages::{LEVELS, MARKS, Message, Of, row_of};
+use otlp_model::{Items, Pair, Value};
 use otlp_wire::{Field, Fields, Wire};
 use std::alloc::Global;
-
-/// How many levels of members may stand below a value that is in no array and no key-value list.
-pub(crate) const LEVELS: u8 = (MAX_DEPTH - 1) as u8;
 
 /// Room for this number of attributes is found when the first one is read.
 const FIRST_PAIRS: usize = 8;
@@ -50,8 +47,8 @@ pub(crate) trait Part {
 
     fn take(&mut self, alloc: Global, field: &Field<'_>) -> Result<(), ReadRefusal>
         ensures ok { OnOk result (self.new ≡ step self.old (entry field.now)) }
-        ensures fine { IfOk result (λ _. FineValue (kind_of named field.now.number) value_levels (value_of field.now.value)) }
-        ensures fault { IfErr result (RefusesValue (kind_of named field.now.number) value_levels (value_of field.now.value)) };
+        ensures fine { IfOk result (λ _. FineValue (kind_of named field.now.number) level_limit (value_of field.now.value)) }
+        ensures fault { IfErr result (RefusesValue (kind_of named field.now.number) level_limit (value_of field.now.value)) };
 
     /// One field after the other gives what the bytes say.
     ghost passes: { (bytes : List ℕ) → fold step none (fields_of bytes) ≡ reads bytes };
@@ -71,8 +68,8 @@ pub(crate) trait Item: Part {
 /// Reads a message, in one pass over its bytes.
 #[inline]
 pub(crate) fn read_part<P: Part + Drop>(alloc: Global, bytes: &[u8]) -> Result<P, ReadRefusal>
-    ensures value { IfOk result (λ part. IsFine P.named value_levels bytes.now × (part ≡ P.reads bytes.now)) }
-    ensures fault { IfErr result (Refuses P.named value_levels bytes.now) }
+    ensures value { IfOk result (λ part. IsFine P.named level_limit bytes.now × (part ≡ P.reads bytes.now)) }
+    ensures fault { IfErr result (Refuses P.named level_limit bytes.now) }
 {
     let mut part = P::empty(alloc);
     fill(alloc, &mut part, bytes)?;
@@ -82,8 +79,8 @@ pub(crate) fn read_part<P: Part + Drop>(alloc: Global, bytes: &[u8]) -> Result<P
 /// Reads a message into one that is empty.
 fn fill<P: Part>(alloc: Global, part: &mut P, bytes: &[u8]) -> Result<(), ReadRefusal>
     requires { part.old ≡ P.none }
-    ensures value { OnOk result (IsFine P.named value_levels bytes.now × (part.new ≡ P.reads bytes.now)) }
-    ensures fault { IfErr result (Refuses P.named value_levels bytes.now) }
+    ensures value { OnOk result (IsFine P.named level_limit bytes.now × (part.new ≡ P.reads bytes.now)) }
+    ensures fault { IfErr result (Refuses P.named level_limit bytes.now) }
 {
     let mut seen = [false; MARKS];
     'fields: for next in Fields::new(bytes) {
@@ -108,8 +105,8 @@ pub(crate) fn take_more<P: Part + Drop>(
     value: &Wire<'_>,
 ) -> Result<(), ReadRefusal>
     ensures ok { OnOk result (to.new ≡ many_in P.reads to.old (value_of value.now)) }
-    ensures fine { IfOk result (λ _. FineValue (kinds.Embedded P.named) value_levels (value_of value.now)) }
-    ensures fault { IfErr result (RefusesValue (kinds.Embedded P.named) value_levels (value_of value.now)) }
+    ensures fine { IfOk result (λ _. FineValue (kinds.Embedded P.named) level_limit (value_of value.now)) }
+    ensures fault { IfErr result (RefusesValue (kinds.Embedded P.named) level_limit (value_of value.now)) }
 {
     let Wire::Bytes(bytes) = value else {
         return Err(ReadRefusal::BadMessage);
@@ -128,8 +125,8 @@ pub(crate) fn take_items<I: Item + Drop>(
     value: &Wire<'_>,
 ) -> Result<(), ReadRefusal>
     ensures ok { OnOk result (to.new ≡ many_in I.reads to.old (value_of value.now)) }
-    ensures fine { IfOk result (λ _. FineValue (kinds.Embedded (item_of I.of)) value_levels (value_of value.now)) }
-    ensures fault { IfErr result (RefusesValue (kinds.Embedded (item_of I.of)) value_levels (value_of value.now)) }
+    ensures fine { IfOk result (λ _. FineValue (kinds.Embedded (item_of I.of)) level_limit (value_of value.now)) }
+    ensures fault { IfErr result (RefusesValue (kinds.Embedded (item_of I.of)) level_limit (value_of value.now)) }
 {
     take_more(alloc, to, value)
 }
@@ -142,8 +139,8 @@ pub(crate) fn take_pairs(
     value: &Wire<'_>,
 ) -> Result<(), ReadRefusal>
     ensures ok { OnOk result (to.new ≡ many_in pair_in to.old (value_of value.now)) }
-    ensures fine { IfOk result (λ _. FineValue (kinds.Embedded messages.KeyValue) value_levels (value_of value.now)) }
-    ensures fault { IfErr result (RefusesValue (kinds.Embedded messages.KeyValue) value_levels (value_of value.now)) }
+    ensures fine { IfOk result (λ _. FineValue (kinds.Embedded messages.KeyValue) level_limit (value_of value.now)) }
+    ensures fault { IfErr result (RefusesValue (kinds.Embedded messages.KeyValue) level_limit (value_of value.now)) }
 {
     let Wire::Bytes(bytes) = value else {
         return Err(ReadRefusal::BadMessage);
@@ -161,8 +158,8 @@ pub(crate) fn take_pairs(
 #[inline]
 pub(crate) fn take_value(alloc: Global, to: &mut Value, value: &Wire<'_>) -> Result<(), ReadRefusal>
     ensures ok { OnOk result (to.new ≡ embedded_in value_in to.old (value_of value.now)) }
-    ensures fine { IfOk result (λ _. FineValue (kinds.Embedded messages.AnyValue) value_levels (value_of value.now)) }
-    ensures fault { IfErr result (RefusesValue (kinds.Embedded messages.AnyValue) value_levels (value_of value.now)) }
+    ensures fine { IfOk result (λ _. FineValue (kinds.Embedded messages.AnyValue) level_limit (value_of value.now)) }
+    ensures fault { IfErr result (RefusesValue (kinds.Embedded messages.AnyValue) level_limit (value_of value.now)) }
 {
     let Wire::Bytes(bytes) = value else {
         return Err(ReadRefusal::BadMessage);

@@ -1,10 +1,11 @@
 //! Requests, read and written.
 
-ghost use Rattle.std.specs.Prelude.{◌≡◌, ◌^◌, ◌≤◌, ◌++◌, ◌+◌, length, min, IfOk, IfErr, OnOk};
-ghost use Rattle.otlp_model.specs.Limits.{weight_limit};
+ghost use Rattle.std.specs.Prelude.{◌≡◌, ◌≤◌, ◌++◌, ◌+◌, length, min, IfOk, IfErr, OnOk};
+ghost use Rattle.otlp_model.specs.Limits.{count_cap, weight_limit};
 ghost use Rattle.otlp_model.specs.Weight.{weight_of};
 ghost use Rattle.otlp_model.specs.Profile.{IsProfile};
 ghost use Rattle.otlp_model.specs.Real.{IsReal};
+ghost use Rattle.otlp_codec.specs.Limits.{longest_request};
 ghost use Rattle.otlp_codec.specs.Refusals.{Names};
 ghost use Rattle.otlp_codec.specs.Requests.{Stands, Reads, canon_request};
 
@@ -36,7 +37,7 @@ pub fn read_request(alloc: Global, signal: Signal, bytes: &[u8]) -> Result<Reque
 /// How many bytes the canonical spelling of the request has, or 2^63 where there are more; a request that
 /// weighs at most `MAX_TREE_WEIGHT` has at most 2^29. One walk.
 pub fn len_request(request: &Request) -> u64
-    ensures { result ≡ min (length (canon_request request.now)) (2 ^ 63) }
+    ensures { result ≡ min (length (canon_request request.now)) count_cap }
 {
     match request {
         Request::Traces(groups) => len_more(1, groups.as_slice()),
@@ -51,7 +52,7 @@ pub fn len_request(request: &Request) -> u64
 /// A request that weighs at most `MAX_TREE_WEIGHT` takes at most 2^29 bytes.
 pub fn write_request(alloc: Global, request: &Request) -> Result<Vec<u8>, AllocError>
     ensures spelled { IfOk result (λ bytes. bytes.items ≡ canon_request request.now) }
-    ensures bound { IfOk result (λ bytes. IsReal request.now → weight_of request.now ≤ weight_limit → length bytes.items ≤ 2 ^ 29) }
+    ensures bound { IfOk result (λ bytes. IsReal request.now → weight_of request.now ≤ weight_limit → length bytes.items ≤ longest_request) }
 {
     let mut to = Backward::new(alloc);
     put_request(&mut to, request)?;
@@ -61,7 +62,7 @@ pub fn write_request(alloc: Global, request: &Request) -> Result<Vec<u8>, AllocE
 /// Writes the same before what is written, so that a head can be written before it without a copy.
 pub fn put_request(to: &mut Backward, request: &Request) -> Result<(), AllocError>
     ensures spelled { OnOk result (to.new ≡ canon_request request.now ++ to.old) }
-    ensures bound { OnOk result (IsReal request.now → weight_of request.now ≤ weight_limit → length to.new ≤ length to.old + 2 ^ 29) }
+    ensures bound { OnOk result (IsReal request.now → weight_of request.now ≤ weight_limit → length to.new ≤ length to.old + longest_request) }
 {
     put_groups(to, request)?;
     Ok(())

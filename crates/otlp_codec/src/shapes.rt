@@ -1,13 +1,14 @@
 //! Gauges, sums, histograms and summaries: the members of a metric's oneof.
 
-ghost use Rattle.std.specs.Prelude.{◌≡◌, ◌^◌, [], ◌∷◌, ◌++◌, min, length, OnOk, IfErr, IfOk};
+ghost use Rattle.std.specs.Prelude.{◌≡◌, [], ◌∷◌, ◌++◌, min, length, OnOk, IfErr, IfOk};
 ghost use Rattle.otlp_wire.specs.Wire as wire;
 ghost use Rattle.otlp_wire.specs.Wire.{value_of};
 ghost use Rattle.otlp_messages.specs.declared.messages.FieldKind.TheVariants as kinds;
 ghost use Rattle.otlp_messages.specs.declared.messages.Message.TheVariants as messages;
-ghost use Rattle.otlp_codec.specs.Levels.{value_levels};
+ghost use Rattle.otlp_messages.specs.Limits.{level_limit};
 ghost use Rattle.otlp_messages.specs.Fine.{FineValue};
 ghost use Rattle.otlp_messages.specs.Canon.{canon_row};
+ghost use Rattle.otlp_model.specs.Limits.{count_cap};
 ghost use Rattle.otlp_codec.specs.PartRefusals.{RefusesValue};
 ghost use Rattle.otlp_codec.specs.Metrics.{gauge_in, sum_in, histogram_in, summary_in, gauge_shape_in, sum_shape_in, histogram_shape_in, summary_shape_in};
 ghost use Rattle.otlp_codec.specs.MetricSteps.{gauge_step, no_sum, sum_step, no_histogram, histogram_step, summary_step};
@@ -163,8 +164,8 @@ impl Part for Items<SumPoint> {
 /// Reads a gauge.
 pub(crate) fn take_gauge(alloc: Global, to: &mut Shape, value: &Wire<'_>) -> Result<(), ReadRefusal>
     ensures ok { OnOk result (to.new ≡ gauge_shape_in to.old (value_of value.now)) }
-    ensures fine { IfOk result (λ _. FineValue (kinds.Embedded messages.Gauge) value_levels (value_of value.now)) }
-    ensures fault { IfErr result (RefusesValue (kinds.Embedded messages.Gauge) value_levels (value_of value.now)) }
+    ensures fine { IfOk result (λ _. FineValue (kinds.Embedded messages.Gauge) level_limit (value_of value.now)) }
+    ensures fault { IfErr result (RefusesValue (kinds.Embedded messages.Gauge) level_limit (value_of value.now)) }
 {
     let Wire::Bytes(part) = value else {
         return Err(ReadRefusal::BadMessage);
@@ -177,8 +178,8 @@ pub(crate) fn take_gauge(alloc: Global, to: &mut Shape, value: &Wire<'_>) -> Res
 /// Reads a sum.
 pub(crate) fn take_sum(alloc: Global, to: &mut Shape, value: &Wire<'_>) -> Result<(), ReadRefusal>
     ensures ok { OnOk result (to.new ≡ sum_shape_in to.old (value_of value.now)) }
-    ensures fine { IfOk result (λ _. FineValue (kinds.Embedded messages.Sum) value_levels (value_of value.now)) }
-    ensures fault { IfErr result (RefusesValue (kinds.Embedded messages.Sum) value_levels (value_of value.now)) }
+    ensures fine { IfOk result (λ _. FineValue (kinds.Embedded messages.Sum) level_limit (value_of value.now)) }
+    ensures fault { IfErr result (RefusesValue (kinds.Embedded messages.Sum) level_limit (value_of value.now)) }
 {
     let Wire::Bytes(part) = value else {
         return Err(ReadRefusal::BadMessage);
@@ -199,8 +200,8 @@ pub(crate) fn take_histogram(
     value: &Wire<'_>,
 ) -> Result<(), ReadRefusal>
     ensures ok { OnOk result (to.new ≡ histogram_shape_in to.old (value_of value.now)) }
-    ensures fine { IfOk result (λ _. FineValue (kinds.Embedded messages.Histogram) value_levels (value_of value.now)) }
-    ensures fault { IfErr result (RefusesValue (kinds.Embedded messages.Histogram) value_levels (value_of value.now)) }
+    ensures fine { IfOk result (λ _. FineValue (kinds.Embedded messages.Histogram) level_limit (value_of value.now)) }
+    ensures fault { IfErr result (RefusesValue (kinds.Embedded messages.Histogram) level_limit (value_of value.now)) }
 {
     let Wire::Bytes(part) = value else {
         return Err(ReadRefusal::BadMessage);
@@ -220,8 +221,8 @@ pub(crate) fn take_summary(
     value: &Wire<'_>,
 ) -> Result<(), ReadRefusal>
     ensures ok { OnOk result (to.new ≡ summary_shape_in to.old (value_of value.now)) }
-    ensures fine { IfOk result (λ _. FineValue (kinds.Embedded messages.Summary) value_levels (value_of value.now)) }
-    ensures fault { IfErr result (RefusesValue (kinds.Embedded messages.Summary) value_levels (value_of value.now)) }
+    ensures fine { IfOk result (λ _. FineValue (kinds.Embedded messages.Summary) level_limit (value_of value.now)) }
+    ensures fault { IfErr result (RefusesValue (kinds.Embedded messages.Summary) level_limit (value_of value.now)) }
 {
     let Wire::Bytes(part) = value else {
         return Err(ReadRefusal::BadMessage);
@@ -290,7 +291,7 @@ pub(crate) fn write_summary(to: &mut Backward, points: &Items<SumPoint>) -> Resu
 /// How many bytes a gauge takes as the member of the oneof, or 2^63 where there are more.
 #[tactic(auto, unfolding(crate::specs::MetricSpelling::canon_gauge))]
 pub(crate) fn len_gauge(points: &Items<Point>) -> u64
-    ensures { result ≡ min (length (canon_row 5 (wire.Bytes (canon_gauge points.now) ∷ []))) (2 ^ 63) }
+    ensures { result ≡ min (length (canon_row 5 (wire.Bytes (canon_gauge points.now) ∷ []))) count_cap }
 {
     len_part(5, len_more(1, points.as_slice()))
 }
@@ -298,7 +299,7 @@ pub(crate) fn len_gauge(points: &Items<Point>) -> u64
 /// How many bytes a sum takes as the member of the oneof, or 2^63 where there are more.
 #[tactic(auto, unfolding(crate::specs::MetricSpelling::canon_sum))]
 pub(crate) fn len_sum(points: &Items<Point>, temporality: i32, monotonic: bool) -> u64
-    ensures { result ≡ min (length (canon_row 7 (wire.Bytes (canon_sum (record { points = points.now; temporality = temporality; monotonic = monotonic })) ∷ []))) (2 ^ 63) }
+    ensures { result ≡ min (length (canon_row 7 (wire.Bytes (canon_sum (record { points = points.now; temporality = temporality; monotonic = monotonic })) ∷ []))) count_cap }
 {
     let size = sum_capped(&[
         len_more(1, points.as_slice()),
@@ -311,7 +312,7 @@ pub(crate) fn len_sum(points: &Items<Point>, temporality: i32, monotonic: bool) 
 /// How many bytes a histogram takes as the member of the oneof, or 2^63 where there are more.
 #[tactic(auto, unfolding(crate::specs::MetricSpelling::canon_histogram))]
 pub(crate) fn len_histogram(points: &Items<HistPoint>, temporality: i32) -> u64
-    ensures { result ≡ min (length (canon_row 9 (wire.Bytes (canon_histogram (record { points = points.now; temporality = temporality })) ∷ []))) (2 ^ 63) }
+    ensures { result ≡ min (length (canon_row 9 (wire.Bytes (canon_histogram (record { points = points.now; temporality = temporality })) ∷ []))) count_cap }
 {
     let size = sum_capped(&[
         len_more(1, points.as_slice()),
@@ -323,7 +324,7 @@ pub(crate) fn len_histogram(points: &Items<HistPoint>, temporality: i32) -> u64
 /// How many bytes a summary takes as the member of the oneof, or 2^63 where there are more.
 #[tactic(auto, unfolding(crate::specs::MetricSpelling::canon_summary))]
 pub(crate) fn len_summary(points: &Items<SumPoint>) -> u64
-    ensures { result ≡ min (length (canon_row 11 (wire.Bytes (canon_summary points.now) ∷ []))) (2 ^ 63) }
+    ensures { result ≡ min (length (canon_row 11 (wire.Bytes (canon_summary points.now) ∷ []))) count_cap }
 {
     len_part(11, len_more(1, points.as_slice()))
 }

@@ -1,6 +1,6 @@
 //! Spans, their events, links and statuses.
 
-ghost use Rattle.std.specs.Prelude.{◌≡◌, ◌++◌, ◌^◌, length, min, OnOk, IfOk, IfErr};
+ghost use Rattle.std.specs.Prelude.{◌≡◌, ◌++◌, length, min, OnOk, IfOk, IfErr};
 ghost use Rattle.std.proofs.Common.{refl};
 ghost use Rattle.otlp_messages.specs.Canon.{canon};
 ghost use Rattle.otlp_messages.specs.declared.messages.Message.TheVariants as messages;
@@ -9,7 +9,8 @@ ghost use Rattle.otlp_wire.specs.Wire.{value_of};
 ghost use Rattle.otlp_messages.specs.declared.messages.FieldKind.TheVariants as kinds;
 ghost use Rattle.otlp_messages.specs.Fine.{FineValue};
 ghost use Rattle.otlp_messages.specs.Rows.{embedded_in};
-ghost use Rattle.otlp_codec.specs.Levels.{value_levels};
+ghost use Rattle.otlp_messages.specs.Limits.{level_limit};
+ghost use Rattle.otlp_model.specs.Limits.{count_cap};
 ghost use Rattle.otlp_codec.specs.PartRefusals.{RefusesValue};
 ghost use Rattle.otlp_codec.specs.Spans.{event_in, link_in, no_status, status_in, span_in};
 ghost use Rattle.otlp_codec.specs.SpanSteps.{no_event, event_step, no_link, link_step, status_step, no_span, span_step};
@@ -234,8 +235,8 @@ fn take_status(
     value: &Wire<'_>,
 ) -> Result<(), ReadRefusal>
     ensures ok { OnOk result (record { message = message.new; code = code.new } ≡ embedded_in status_in (record { message = message.old; code = code.old }) (value_of value.now)) }
-    ensures fine { IfOk result (λ _. FineValue (kinds.Embedded messages.Status) value_levels (value_of value.now)) }
-    ensures fault { IfErr result (RefusesValue (kinds.Embedded messages.Status) value_levels (value_of value.now)) }
+    ensures fine { IfOk result (λ _. FineValue (kinds.Embedded messages.Status) level_limit (value_of value.now)) }
+    ensures fault { IfErr result (RefusesValue (kinds.Embedded messages.Status) level_limit (value_of value.now)) }
 {
     let Wire::Bytes(bytes) = value else {
         return Err(ReadRefusal::BadMessage);
@@ -352,7 +353,7 @@ fn ending(span: &Span) -> StatusOf<'_>
 
 /// How long the first half of a span's fields is.
 fn len_front(span: &Span) -> u64
-    ensures { result ≡ min (length (canon (span_front span.now))) (2 ^ 63) }
+    ensures { result ≡ min (length (canon (span_front span.now))) count_cap }
 {
     sum_capped(&[
         len_bytes_row(1, span.trace_id.as_slice()),
@@ -368,7 +369,7 @@ fn len_front(span: &Span) -> u64
 
 /// How long the second half of a span's fields is.
 fn len_back(span: &Span) -> u64
-    ensures { result ≡ min (length (canon (span_back span.now))) (2 ^ 63) }
+    ensures { result ≡ min (length (canon (span_back span.now))) count_cap }
 {
     sum_capped(&[
         len_pairs(9, span.pairs.as_slice()),

@@ -1,9 +1,10 @@
 //! Writing, from the last field to the first.
 
-ghost use Rattle.std.specs.Prelude.{◌≡◌, ◌^◌, ℕ, List, ◌++◌, [], ◌∷◌, min, length, map, OnOk};
+ghost use Rattle.std.specs.Prelude.{◌≡◌, ℕ, List, ◌++◌, [], ◌∷◌, min, length, map, OnOk};
 ghost use Rattle.otlp_wire.specs.Wire as wire;
 ghost use Rattle.otlp_wire.specs.Wire.{IsNumber};
 ghost use Rattle.otlp_messages.specs.Canon.{canon_row, canon, bytes_row, many_row};
+ghost use Rattle.otlp_model.specs.Limits.{count_cap};
 ghost use Rattle.otlp_codec.specs.Canonical.{canon_value, canon_pair, members_rows};
 
 use crate::lengths::len_value;
@@ -22,7 +23,7 @@ pub(crate) trait Spelled {
 
     /// How many bytes it has, or 2^63 where there are more.
     fn len(&self) -> u64
-        ensures { result ≡ min (length (spelled self.now)) (2 ^ 63) };
+        ensures { result ≡ min (length (spelled self.now)) count_cap };
 }
 
 /// Writes a message that occurs once.
