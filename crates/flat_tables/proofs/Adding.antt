@@ -6,6 +6,7 @@ use Rattle.std.proofs.lemmas.Bool.{lt-ltb}
 use Rattle.std.proofs.lemmas.List.{length-replicate}
 use Rattle.byteorder.specs.Endian.{little_bytes}
 use Rattle.byteorder.specs.Numbers.{length-bytes_low_first}
+use Rattle.flat_tables.specs.Limits.{max_held}
 use Rattle.flat_tables.specs.Bytes.{part_at}
 use Rattle.flat_tables.specs.Tables.{root_at, table_at, text_at, vector_at, referred, element_part, element_place}
 use Rattle.flat_tables.specs.Building.{Stands, IsText, IsParts, IsPlaces}
@@ -100,7 +101,7 @@ pub referred_is : (bytes : List ℕ) (place distance to : ℕ) → distance < 2 
 unfolding referred
 referred_is bytes place distance to fits e l = rw (number_at-lies 4 distance bytes place (omega arith) l) (ap Ok e)
 
-places_put : (places : List ℕ) (from pad after : ℕ) → from ≡ after + pad + 4 * length places → from < 2 ^ 25 → All (λ place. place ≤ after) places → (after + 4 * length places + pad) % 8 ≡ 0
+places_put : (places : List ℕ) (from pad after : ℕ) → from ≡ after + pad + 4 * length places → from < max_held → All (λ place. place ≤ after) places → (after + 4 * length places + pad) % 8 ≡ 0
     → (bytes : List ℕ) (at : ℕ) → Put (length places) (references from places) pad after bytes at → IsPlaces places bytes at
 unfolding vector_at element_place
 places_put places from pad after is fits within padded bytes at p =
@@ -121,7 +122,7 @@ places_put places from pad after is fits within padded bytes at p =
       aligned = λ whole. omega (arith, p.size, size);
     }
 
-pub places_stand : (places old new : List ℕ) (from pad place : ℕ) → from ≡ length old + pad + 4 * length places → from < 2 ^ 25 → All (λ place. place ≤ length old) places
+pub places_stand : (places old new : List ℕ) (from pad place : ℕ) → from ≡ length old + pad + 4 * length places → from < max_held → All (λ place. place ≤ length old) places
     → (length old + 4 * length places + pad) % 8 ≡ 0 → new ≡ piece (length places) (references from places) pad ++ old → place ≡ length new → Stands (IsPlaces places) new place
 places_stand places old new from pad place is fits within padded put here =
     stands_put (IsPlaces places) (length places) (references from places) old new pad place put here (places_put places from pad (length old) is fits within padded)

@@ -10,6 +10,7 @@ use Rattle.byteorder.specs.Endian.{little_bytes, little_number}
 use Rattle.byteorder.specs.Numbers.{length-bytes_low_first}
 use Rattle.flat_tables.specs.declared.place.Slot.{Slot}
 use Rattle.flat_tables.specs.declared.place.Slot.TheVariants.{Absent, U8, I16, I32, I64, At}
+use Rattle.flat_tables.specs.Limits.{max_slots, max_held}
 use Rattle.flat_tables.specs.Bytes.{part_at, number_at, signed_at}
 use Rattle.flat_tables.specs.Tables.{TableIn, table_at, vtable_at, size_at, distance_at, place_of, is_bad_size}
 use Rattle.flat_tables.specs.Slots.{Reaches, AllReach, IsSlot, Holds, alignment}
@@ -48,7 +49,7 @@ within : (t : TableIn) (k distance : ℕ) → 6 + 2 * k ≤ t.size → little_nu
 unfolding distance_at
 within t k distance le e = rw (le-ltb t.size (6 + 2 * k) le) e
 
-small_entry : (k : ℕ) (slot : Slot) → k ≤ 16 → entry k slot < 256 ^ 2
+small_entry : (k : ℕ) (slot : Slot) → k ≤ max_slots → entry k slot < 256 ^ 2
 small_entry k Absent le = omega arith
 small_entry k (U8 n) le = omega arith
 small_entry k (I16 z) le = omega arith
@@ -62,7 +63,7 @@ unfolding signed_at
 signed_is w n z bytes place fits e = rw e (ap Ok (to_z-of_z w z fits))
 
 -- where a slot's cell lies, it reads as the slot
-holds_there : (t : TableIn) (k from : ℕ) (slot : Slot) → distance_at t k ≡ entry k slot → from < 2 ^ 25 → t.place + 4 + from ≡ length t.bytes → 8 * k ≤ from
+holds_there : (t : TableIn) (k from : ℕ) (slot : Slot) → distance_at t k ≡ entry k slot → from < max_held → t.place + 4 + from ≡ length t.bytes → 8 * k ≤ from
     → IsSlot slot → Reaches (from - 8 * k) slot → Lies (little_bytes 8 (cell from k slot)) t.bytes (t.place + (4 + 8 * k)) → Holds t k slot
 holds_there t k from Absent e small end le fits reach l = absent t k e
 holds_there t k from (U8 n) e small end le fits reach l =
@@ -96,7 +97,7 @@ aligned_there t k (At place) e h = rw e (omega arith)
 good_size : (n : ℕ) → is_bad_size (4 + 2 * n) ≡ false
 good_size n = rw (le-ltb (4 + 2 * n) 4 (omega arith), eq-eqb ((4 + 2 * n) % 2) 0 (omega arith)) refl
 
-size_is : (slots : List Slot) (bytes : List ℕ) (place : ℕ) → length slots ≤ 16 → Lies (vtable slots) bytes place → size_at bytes place ≡ Ok (4 + 2 * length slots)
+size_is : (slots : List Slot) (bytes : List ℕ) (place : ℕ) → length slots ≤ max_slots → Lies (vtable slots) bytes place → size_at bytes place ≡ Ok (4 + 2 * length slots)
 unfolding size_at
 size_is slots bytes place few l =
     let n = length slots in
@@ -106,14 +107,14 @@ size_is slots bytes place few l =
     let whole : part_at bytes place (4 + 2 * n) ≡ Ok (vtable slots) = ap (part_at bytes place) (sym size) ∙ part_at-lies (vtable slots) bytes place l in
     rw (part_at-lies sizes bytes place head, number_at-lies 2 (4 + 2 * n) bytes place (omega arith) (lies_left (little_bytes 2 (4 + 2 * n)) (little_bytes 2 (4 + 8 * n)) bytes place head), good_size n, whole) refl
 
-vtable_is : (n : ℕ) (bytes : List ℕ) (place : ℕ) → n ≤ 16 → Lies (little_bytes 4 (2 ^ 32 - (4 + 8 * n))) bytes place → vtable_at bytes place ≡ Ok (place + (4 + 8 * n))
+vtable_is : (n : ℕ) (bytes : List ℕ) (place : ℕ) → n ≤ max_slots → Lies (little_bytes 4 (2 ^ 32 - (4 + 8 * n))) bytes place → vtable_at bytes place ≡ Ok (place + (4 + 8 * n))
 unfolding vtable_at signed_at
 vtable_is n bytes place few l =
     let distance : cast_signed w32 (2 ^ 32 - (4 + 8 * n)) ≡ negsuc (3 + 8 * n) = ap (λ (k : ℕ). cast_signed w32 (2 ^ 32 - k)) (omega arith) ∙ to_z-neg w32 (3 + 8 * n) (omega arith) in
     rw (number_at-lies 4 (2 ^ 32 - (4 + 8 * n)) bytes place (omega arith) l, distance) (ap Ok (omega arith))
 
 -- the distance of each slot's cell, further slots included
-distance_is : (slots : List Slot) (t : TableIn) (k : ℕ) → t.size ≡ 4 + 2 * length slots → length slots ≤ 16
+distance_is : (slots : List Slot) (t : TableIn) (k : ℕ) → t.size ≡ 4 + 2 * length slots → length slots ≤ max_slots
     → Lies (numbers 2 entry 0 slots) t.bytes (t.vtable + 4) → distance_at t k ≡ entry k (get_or slots k Absent)
 distance_is slots t k size few l =
     elim (cases_lt k (length slots)) [
@@ -126,7 +127,7 @@ distance_is slots t k size few l =
     ]
 
 -- the slots of a table that was put in front
-table_put : (slots : List Slot) (from pad after : ℕ) → length slots ≤ 16 → from ≡ after + pad + (10 * length slots + 4) → from < 2 ^ 25
+table_put : (slots : List Slot) (from pad after : ℕ) → length slots ≤ max_slots → from ≡ after + pad + (10 * length slots + 4) → from < max_held
     → ((k : ℕ) → IsSlot (get_or slots k Absent)) → AllReach after slots → (after + (10 * length slots + 4) + pad) % 8 ≡ 0
     → (bytes : List ℕ) (at : ℕ) → Put (2 ^ 32 - (4 + 8 * length slots)) (cells from slots ++ vtable slots) pad after bytes at → HasSlots slots bytes at
 unfolding table_at
@@ -162,7 +163,7 @@ table_put slots from pad after few is small fits reach padded bytes at p =
           };
     }
 
-pub table_stands : (slots : List Slot) (old new : List ℕ) (from pad place : ℕ) → length slots ≤ 16 → from ≡ length old + pad + (10 * length slots + 4) → from < 2 ^ 25
+pub table_stands : (slots : List Slot) (old new : List ℕ) (from pad place : ℕ) → length slots ≤ max_slots → from ≡ length old + pad + (10 * length slots + 4) → from < max_held
     → ((k : ℕ) → IsSlot (get_or slots k Absent)) → AllReach (length old) slots → (length old + (10 * length slots + 4) + pad) % 8 ≡ 0
     → new ≡ piece (2 ^ 32 - (4 + 8 * length slots)) (cells from slots ++ vtable slots) pad ++ old → place ≡ length new → Stands (HasSlots slots) new place
 table_stands slots old new from pad place few is small fits reach padded put here =

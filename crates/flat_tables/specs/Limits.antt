@@ -12,3 +12,7 @@ max_slots = 16
 -- what a builder holds before a part is added, that part included, is below this number of bytes
 abbrev pub max_size : ℕ
 max_size = 16777216
+
+-- and what it holds after a part was added, with what pads the part, is below this number
+abbrev pub max_held : ℕ
+max_held = 33554432

@@ -1,5 +1,5 @@
-ghost use Rattle.std.specs.Prelude.{◌≡◌, ◌+◌, ◌-◌, ◌*◌, ◌%◌, ◌≤◌, ◌<◌, ◌^◌, ◌++◌, [], ℕ, List, length, All, IfOk, OnOk, OnErr};
-ghost use Rattle.flat_tables.specs.Limits.{max_width, max_slots, max_size};
+ghost use Rattle.std.specs.Prelude.{◌≡◌, ◌+◌, ◌-◌, ◌*◌, ◌%◌, ◌≤◌, ◌<◌, ◌++◌, [], ℕ, List, length, All, IfOk, OnOk, OnErr};
+ghost use Rattle.flat_tables.specs.Limits.{max_width, max_slots, max_size, max_held};
 ghost use Rattle.flat_tables.specs.Tables.{root_at, table_at};
 ghost use Rattle.flat_tables.specs.Slots.{AllReach};
 ghost use Rattle.flat_tables.specs.Building.{Grows, Stands, IsText, IsParts, IsPlaces, HasSlots, IsAligned};
@@ -26,13 +26,14 @@ pub struct Builder {
 }
 
 impl Model for Builder {
-    ghost use Rattle.std.specs.Prelude.{ℕ, ◌<◌, ◌^◌, List, reverse, vec_len};
+    ghost use Rattle.std.specs.Prelude.{ℕ, ◌<◌, List, reverse, vec_len};
+    ghost use Rattle.flat_tables.specs.Limits.{max_held};
 
     ghost Value = { List ℕ };
 
     ghost view = { λ b. reverse b.reversed.items };
 
-    ghost invariant = { λ b. vec_len b.reversed < 2 ^ 25 };
+    ghost invariant = { λ b. vec_len b.reversed < max_held };
 }
 
 impl Builder {
@@ -52,14 +53,14 @@ impl Builder {
     /// How many bytes it holds.
     pub fn size(&self) -> usize
         ensures value { result ≡ length self.now }
-        ensures small { result < 2 ^ 25 }
+        ensures small { result < max_held }
     {
         self.reversed.len()
     }
 
     /// Puts a number, the content and zero bytes in front of all that is there.
     fn put(&mut self, head: u32, content: &[u8], pad: usize) -> Result<Place, AllocError>
-        requires { length self.old + (4 + length content.now + pad) < 2 ^ 25 }
+        requires { length self.old + (4 + length content.now + pad) < max_held }
         ensures ok { OnOk result (self.new ≡ piece head content.now pad ++ self.old) }
         ensures place { IfOk result (λ place. place ≡ length self.new) }
         ensures len { OnOk result (length self.new ≡ (4 + length content.now + pad) + length self.old) }

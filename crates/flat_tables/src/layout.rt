@@ -1,5 +1,6 @@
 ghost use Rattle.std.specs.Prelude.{◌≡◌, ◌+◌, ◌-◌, ◌*◌, ◌%◌, ◌≤◌, ◌<◌, ◌^◌, ◌++◌, [], ℕ, List, length, take, drop, reverse, slice_index_or, vec_len, All, IfOk, OnOk, OnErr};
 ghost use Rattle.byteorder.specs.Endian.{little_bytes};
+ghost use Rattle.flat_tables.specs.Limits.{max_slots, max_held};
 ghost use Rattle.flat_tables.specs.Slots.{Reaches, AllReach, IsSlot};
 ghost use Rattle.flat_tables.specs.Layout as layout;
 
@@ -84,7 +85,7 @@ pub(crate) fn references(
     places: &[Place],
     from: usize,
 ) -> Result<Vec<u8>, AllocError>
-    requires room { from < 2 ^ 25 }
+    requires room { from < max_held }
     requires given { All (λ place. place + 4 * length places.now ≤ from) places.now }
     ensures value { IfOk result (λ bytes. bytes.items ≡ layout.references from places.now) }
     ensures len { IfOk result (λ bytes. vec_len bytes ≡ 4 * length places.now) }
@@ -115,7 +116,7 @@ fn slot_number(slot: Slot, from: usize) -> u64
 
 /// The cells of a table and its vtable, where the first cell is `from` bytes from the end.
 pub(crate) fn cells(alloc: Global, slots: &[Slot], from: usize) -> Result<Vec<u8>, AllocError>
-    requires few { length slots.now ≤ 16 }
+    requires few { length slots.now ≤ max_slots }
     requires room { 8 * length slots.now ≤ from }
     requires given { AllReach (from - 8 * length slots.now) slots.now }
     ensures value { IfOk result (λ bytes. bytes.items ≡ layout.cells from slots.now ++ layout.vtable slots.now) }
@@ -132,7 +133,7 @@ pub(crate) fn cells(alloc: Global, slots: &[Slot], from: usize) -> Result<Vec<u8
 
 /// Appends the vtable of a table.
 fn push_vtable(bytes: &mut Vec<u8>, slots: &[Slot]) -> Result<(), AllocError>
-    requires { length slots.now ≤ 16 }
+    requires { length slots.now ≤ max_slots }
     ensures ok { OnOk result (bytes.new.items ≡ bytes.old.items ++ layout.vtable slots.now) }
     ensures len { OnOk result (vec_len bytes.new ≡ vec_len bytes.old + (2 * length slots.now + 4)) }
 {
@@ -146,7 +147,7 @@ fn push_vtable(bytes: &mut Vec<u8>, slots: &[Slot]) -> Result<(), AllocError>
 
 /// The vtable's entry of a slot.
 fn entry(slot: Slot, index: usize) -> u16
-    requires { index < 16 }
+    requires { index < max_slots }
     ensures { result ≡ layout.entry index slot }
 {
     match slot {
@@ -157,7 +158,7 @@ fn entry(slot: Slot, index: usize) -> u16
 
 /// How far the vtable stands after its table, as the table says it: below zero, since it subtracts.
 pub(crate) fn vtable_distance(slots: usize) -> u32
-    requires { slots ≤ 16 }
+    requires { slots ≤ max_slots }
     ensures { result ≡ 2 ^ 32 - (4 + 8 * slots) }
 {
     u32::MAX - (3 + 8 * slots as u32)
