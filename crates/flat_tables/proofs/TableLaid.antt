@@ -13,9 +13,9 @@ use Rattle.flat_tables.specs.declared.place.Slot.TheVariants.{Absent, U8, I16, I
 use Rattle.flat_tables.specs.Limits.{max_slots, max_held}
 use Rattle.flat_tables.specs.Bytes.{part_at, number_at, signed_at}
 use Rattle.flat_tables.specs.Tables.{TableIn, table_at, vtable_at, size_at, distance_at, place_of, is_bad_size}
-use Rattle.flat_tables.specs.Slots.{Reaches, AllReach, IsSlot, Holds, alignment}
+use Rattle.flat_tables.specs.Slots.{Reaches, AllReach, Holds, alignment}
 use Rattle.flat_tables.specs.Building.{Stands, HasSlots}
-use Rattle.flat_tables.specs.Layout.{numbers, cell, cells, entry, vtable, piece}
+use Rattle.flat_tables.specs.Layout.{IsSlot, numbers, cell, cells, entry, vtable, piece}
 use Rattle.flat_tables.proofs.Lying.{Lies, lies_left, lies_right, lies_at, part_at-lies, number_at-lies, little_number-lies, numbers_lie, length-numbers}
 use Rattle.flat_tables.proofs.Reaching.{reaches_at}
 use Rattle.flat_tables.proofs.Adding.{Put, stands_put, referred_is}

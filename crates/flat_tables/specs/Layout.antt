@@ -1,9 +1,18 @@
--- How the builder lays out what it adds. No caller needs to know.
-use Rattle.std.specs.Prelude.{ℕ, ◌+◌, ◌-◌, ◌*◌, List, [], ◌∷◌, ◌++◌, length, replicate}
+-- How the builder lays out what it adds: words of private contracts.
+use Rattle.std.specs.Prelude.{ℕ, ◌+◌, ◌-◌, ◌*◌, ◌<◌, ◌^◌, FitsSigned, List, [], ◌∷◌, ◌++◌, length, replicate}
 use Rattle.std.specs.Int.{w16, w32, w64, cast_unsigned}
 use Rattle.byteorder.specs.Endian.{little_bytes}
 use Rattle.flat_tables.specs.declared.place.Slot.{Slot}
 use Rattle.flat_tables.specs.declared.place.Slot.TheVariants.{Absent, U8, I16, I32, I64, At}
+
+-- the number of a slot is one of its type
+abbrev pub IsSlot : Slot → Type 0
+IsSlot Absent = Unit {0}
+IsSlot (U8 n) = n < 2 ^ 8
+IsSlot (I16 z) = FitsSigned w16 z
+IsSlot (I32 z) = FitsSigned w32 z
+IsSlot (I64 z) = FitsSigned w64 z
+IsSlot (At place) = Unit {0}
 
 -- each piece is a number of four bytes, a content, and zero bytes
 unfoldable pub piece : ℕ → List ℕ → ℕ → List ℕ

@@ -1,7 +1,6 @@
 -- What slots hold, and what they are aligned to.
-use Rattle.std.specs.Prelude.{◌≡◌, ℕ, ◌<◌, ◌≤◌, ◌^◌, ◌-◌, List, [], ◌∷◌, length, Ok, Some, None}
+use Rattle.std.specs.Prelude.{◌≡◌, ℕ, ◌≤◌, ◌-◌, List, [], ◌∷◌, length, Ok, Some, None}
 use Rattle.std.specs.Int.{w16, w32, w64}
-use Rattle.std.specs.Prelude.{FitsSigned}
 use Rattle.flat_tables.specs.declared.place.Slot.{Slot}
 use Rattle.flat_tables.specs.declared.place.Slot.TheVariants.{Absent, U8, I16, I32, I64, At}
 use Rattle.flat_tables.specs.Tables.{TableIn, place_of, byte_slot, signed_slot, reference_slot}
@@ -14,15 +13,6 @@ Reaches size slot = Unit {0}
 abbrev pub AllReach : ℕ → List Slot → Type 0
 AllReach size [] = Unit {0}
 AllReach size (slot ∷ slots) = Reaches size slot × AllReach size slots
-
--- the number of a slot is one of its type
-abbrev pub IsSlot : Slot → Type 0
-IsSlot Absent = Unit {0}
-IsSlot (U8 n) = n < 2 ^ 8
-IsSlot (I16 z) = FitsSigned w16 z
-IsSlot (I32 z) = FitsSigned w32 z
-IsSlot (I64 z) = FitsSigned w64 z
-IsSlot (At place) = Unit {0}
 
 -- A table's slot reads as this. A place that it refers to is counted from the end.
 abbrev pub Holds : TableIn → ℕ → Slot → Type 0

@@ -1,7 +1,7 @@
 ghost use Rattle.std.specs.Prelude.{◌≡◌, ◌+◌, ◌-◌, ◌*◌, ◌%◌, ◌≤◌, ◌<◌, ◌^◌, ◌++◌, [], ℕ, List, length, take, drop, reverse, slice_index_or, vec_len, All, IfOk, OnOk, OnErr};
 ghost use Rattle.byteorder.specs.Endian.{little_bytes};
 ghost use Rattle.flat_tables.specs.Limits.{max_slots, max_held};
-ghost use Rattle.flat_tables.specs.Slots.{Reaches, AllReach, IsSlot};
+ghost use Rattle.flat_tables.specs.Slots.{Reaches, AllReach};
 ghost use Rattle.flat_tables.specs.Layout as layout;
 
 use crate::place::{Place, Slot};
@@ -102,7 +102,7 @@ pub(crate) fn references(
 fn slot_number(slot: Slot, from: usize) -> u64
     requires { Reaches from slot }
     ensures value { result ≡ layout.slot_number from slot }
-    ensures fits { IsSlot slot }
+    ensures fits { layout.IsSlot slot }
 {
     match slot {
         Slot::Absent => 0,
@@ -121,7 +121,7 @@ pub(crate) fn cells(alloc: Global, slots: &[Slot], from: usize) -> Result<Vec<u8
     requires given { AllReach (from - 8 * length slots.now) slots.now }
     ensures value { IfOk result (λ bytes. bytes.items ≡ layout.cells from slots.now ++ layout.vtable slots.now) }
     ensures len { IfOk result (λ bytes. vec_len bytes ≡ 10 * length slots.now + 4) }
-    ensures fits { OnOk result ((k : ℕ) → IsSlot (slice_index_or slots.now k Slot.Absent)) }
+    ensures fits { OnOk result ((k : ℕ) → layout.IsSlot (slice_index_or slots.now k Slot.Absent)) }
 {
     let mut bytes = Vec::with_capacity(alloc, 10 * slots.len() + 4)?;
     for (index, slot) in slots.iter().enumerate() {

@@ -3,7 +3,8 @@ use Rattle.std.proofs.lemmas.Grind.{common_steps}
 use Rattle.std.proofs.lemmas.List.{get_or_read}
 use Rattle.flat_tables.specs.declared.place.Slot.{Slot}
 use Rattle.flat_tables.specs.declared.place.Slot.TheVariants.{Absent}
-use Rattle.flat_tables.specs.Slots.{Reaches, IsSlot}
+use Rattle.flat_tables.specs.Slots.{Reaches}
+use Rattle.flat_tables.specs.Layout.{IsSlot}
 use Rattle.flat_tables.proofs.Reaching.{reaches_at}
 use Rattle.flat_tables.proofs.layout.cells.Goals as goal
 

@@ -1,7 +1,6 @@
 use Rattle.std.proofs.Common.{◌≡◌, ℕ, ◌*◌, ◌<◌, ◌++◌, drop, get_or, vec_len}
 use Rattle.flat_tables.specs.declared.place.Slot.TheVariants.{Absent}
-use Rattle.flat_tables.specs.Layout.{numbers, cell, cells}
-use Rattle.flat_tables.specs.Slots.{IsSlot}
+use Rattle.flat_tables.specs.Layout.{IsSlot, numbers, cell, cells}
 use Rattle.flat_tables.proofs.layout.cells.Given as goal
 
 -- what is written and what is left to write are all cells, and the slots so far are in the range of their types
