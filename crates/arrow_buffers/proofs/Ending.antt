@@ -12,8 +12,8 @@ use Rattle.arrow_buffers.specs.Lists.{lists_of}
 use Rattle.arrow_buffers.specs.Vars.{vars_of}
 use Rattle.arrow_buffers.specs.Packed.{IsPacked}
 use Rattle.arrow_buffers.specs.Flags.{HasFlags}
-use Rattle.arrow_buffers.specs.Columns.{HasElements, HasNoFault, cells_of, offsets_len, validity_len, values_len}
-use Rattle.arrow_buffers.specs.Building.{ended, ended_offsets, HasSpans, HasValues, IsBuilt}
+use Rattle.arrow_buffers.specs.Columns.{HasElements, HasNoFault, cells_of, offsets_len, validity_len, values_len, ended, ended_offsets}
+use Rattle.arrow_buffers.specs.Building.{HasSpans, HasValues, IsBuilt}
 use Rattle.arrow_buffers.proofs.BitPlaces.{bit_at-past}
 use Rattle.arrow_buffers.proofs.Placing.{length-ended, offset_at-end}
 use Rattle.arrow_buffers.proofs.Spans.{fine-from}

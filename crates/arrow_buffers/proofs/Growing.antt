@@ -9,8 +9,8 @@ use Rattle.arrow_buffers.specs.declared.width.Width.{Width}
 use Rattle.arrow_buffers.specs.Bits.{bit_at, is_valid}
 use Rattle.arrow_buffers.specs.Packed.{IsPacked}
 use Rattle.arrow_buffers.specs.Flags.{PushesFlag}
-use Rattle.arrow_buffers.specs.Columns.{cell_at, cells_of, value_at}
-use Rattle.arrow_buffers.specs.Building.{ended_offsets, cells_so_far, IsBuilt, PushesValue}
+use Rattle.arrow_buffers.specs.Columns.{cell_at, cells_of, value_at, ended_offsets, cells_so_far}
+use Rattle.arrow_buffers.specs.Building.{IsBuilt, PushesValue}
 
 -- two lists that are made alike
 pub same-below : {X : Type 0} (f g : ℕ → X) (n : ℕ) (d : X) → ((k : ℕ) → k < n → f k ≡ g k) → map f (range_with_len 0 n) ≡ map g (range_with_len 0 n)

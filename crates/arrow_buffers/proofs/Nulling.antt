@@ -10,8 +10,8 @@ use Rattle.arrow_buffers.specs.declared.width.Width.TheVariants.{Bit, Fixed, Var
 use Rattle.arrow_buffers.specs.declared.width.Width.TheVariants as width
 use Rattle.arrow_buffers.specs.Flags.{PushesNullFlags}
 use Rattle.arrow_buffers.specs.Packed.{PushesZeros}
-use Rattle.arrow_buffers.specs.Columns.{cell_at, cells_of, values_len}
-use Rattle.arrow_buffers.specs.Building.{ended, ended_offsets, ended_times, cells_so_far, HasValues, IsBuilt, PushesNulls, PushesValue}
+use Rattle.arrow_buffers.specs.Columns.{cell_at, cells_of, values_len, ended, ended_offsets, cells_so_far}
+use Rattle.arrow_buffers.specs.Building.{ended_times, HasValues, IsBuilt, PushesNulls, PushesValue}
 use Rattle.arrow_buffers.proofs.Growing.{length-cells_of, same-below}
 use Rattle.arrow_buffers.proofs.Placing.{length-ended}
 use Rattle.arrow_buffers.proofs.Pushing.{part_at-append, pushes-list, pushes-span}

@@ -6,7 +6,8 @@ use Rattle.std.proofs.Math.Nat.{add-mod, zero-mod, div-add-mod', div-le_self, le
 use Rattle.byteorder.specs.Endian.{little_bytes, little_number}
 use Rattle.byteorder.specs.Numbers.{length-bytes_low_first, little_from-append, little_number-reads_back}
 use Rattle.arrow_buffers.specs.Offsets.{offset_at, offset_bytes, offset_before, is_fine, is_fine_at, span_at}
-use Rattle.arrow_buffers.specs.Building.{ended, HasSpans}
+use Rattle.arrow_buffers.specs.Building.{HasSpans}
+use Rattle.arrow_buffers.specs.Columns.{ended}
 use Rattle.arrow_buffers.proofs.EachBelow.{all_below-at, all_below-each}
 use Rattle.arrow_buffers.proofs.Spans.{IsFine, AllFine, fine-parts, fine-from, span-among}
 

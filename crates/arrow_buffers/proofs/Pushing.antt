@@ -11,8 +11,8 @@ use Rattle.arrow_buffers.specs.declared.width.Width.TheVariants as width
 use Rattle.arrow_buffers.specs.Bits.{bit_at}
 use Rattle.arrow_buffers.specs.Fixed.{part_at}
 use Rattle.arrow_buffers.specs.Packed.{PushesBit}
-use Rattle.arrow_buffers.specs.Columns.{HasWidth, cell_len, is_one}
-use Rattle.arrow_buffers.specs.Building.{ended, HasValues, PushesValue}
+use Rattle.arrow_buffers.specs.Columns.{HasWidth, cell_len, ended}
+use Rattle.arrow_buffers.specs.Building.{is_one, HasValues, PushesValue}
 use Rattle.arrow_buffers.proofs.Placing.{spans-next}
 
 -- a value that is one byte, which is 0 or 1

@@ -1,25 +1,14 @@
--- What a column has in hand while it grows: its buffers but for the last offset.
-use Rattle.std.specs.Prelude.{◌≡◌, ℕ, zero, suc, ◌+◌, ◌*◌, ◌/◌, ◌%◌, ◌^◌, ◌<◌, ◌≤◌, ⊤, true, is_none, count_by, List, [], ◌∷◌, ◌++◌, length, replicate, Option, None}
+-- What a column has in hand while it grows: words of private contracts.
+use Rattle.std.specs.Prelude.{◌≡◌, ℕ, zero, suc, ◌+◌, ◌*◌, ◌/◌, ◌%◌, ◌^◌, ◌<◌, ◌≤◌, ⊤, true, is_none, count_by, List, [], ◌∷◌, ◌++◌, length, replicate, Option, None, ◌==◌, Bool, false, slice_index, Some}
 use Rattle.std.specs.Option.{ForSome}
 use Rattle.arrow_buffers.specs.declared.width.Width.{Width}
 use Rattle.arrow_buffers.specs.declared.width.Width.TheVariants.{Bit, Fixed, Var}
 use Rattle.arrow_buffers.specs.declared.width.Width.TheVariants as width
 use Rattle.arrow_buffers.specs.Below.{all_below}
 use Rattle.arrow_buffers.specs.Flags.{HasFlags}
-use Rattle.arrow_buffers.specs.Offsets.{is_fine_at, offset_bytes}
+use Rattle.arrow_buffers.specs.Offsets.{is_fine_at}
 use Rattle.arrow_buffers.specs.Packed.{IsPacked}
-use Rattle.arrow_buffers.specs.Columns.{cells_of, value_at, values_len}
-
--- the offsets with one more, which counts the elements so far
-abbrev pub ended : ℕ → List ℕ → List ℕ → List ℕ
-ended element offsets values = offsets ++ offset_bytes (length values / element)
-
--- the offsets as they are when the column ends here
-abbrev pub ended_offsets : Width → List ℕ → List ℕ → List ℕ
-ended_offsets Bit offsets values = offsets
-ended_offsets (Fixed width) offsets values = offsets
-ended_offsets Var offsets values = ended 1 offsets values
-ended_offsets (width.List element) offsets values = ended element offsets values
+use Rattle.arrow_buffers.specs.Columns.{value_at, values_len, ended, ended_offsets, cells_so_far}
 
 -- the offsets of some rows, each fine, into whole elements
 pub record HasSpans (element rows : ℕ) (offsets values : List ℕ) : Type 0 where
@@ -67,11 +56,6 @@ abbrev pub ended_times : ℕ → ℕ → List ℕ → List ℕ → List ℕ
 ended_times element zero offsets values = offsets
 ended_times element (suc n) offsets values = ended element (ended_times element n offsets values) values
 
--- the cells so far
-abbrev pub cells_so_far : Width → List ℕ → List ℕ → List ℕ → ℕ → List (Option (List ℕ))
-cells_so_far width validity offsets values rows =
-    cells_of width validity (ended_offsets width offsets values) values rows
-
 -- all of them together
 pub record IsBuilt (width : Width) (rows nulls : ℕ) (validity offsets values : List ℕ) : Type 0 where
   pub few : rows < 2 ^ 63
@@ -79,3 +63,8 @@ pub record IsBuilt (width : Width) (rows nulls : ℕ) (validity offsets values :
   pub stored : HasValues width rows offsets values
   pub lengths : length values ≡ values_len width (cells_so_far width validity offsets values rows)
   pub counted : nulls ≡ count_by is_none (cells_so_far width validity offsets values rows)
+
+-- whether a value is the bit 1
+abbrev pub is_one : Option (List ℕ) → Bool
+is_one None = false
+is_one (Some value) = slice_index value 0 == 1

@@ -1,13 +1,13 @@
 -- A column of cells, and how they stand in its buffers (Arrow columnar format, "Physical memory
 -- layout").
-use Rattle.std.specs.Prelude.{◌≡◌, ℕ, ◌+◌, ◌*◌, ◌/◌, ◌%◌, ◌<◌, ◌≤◌, ◌==◌, Bool, false, ⊤, if◌then◌else◌, List, [], ◌∷◌, length, map, sum_by, slice_index, Option, Some, None, Ok}
+use Rattle.std.specs.Prelude.{◌≡◌, ℕ, ◌+◌, ◌*◌, ◌/◌, ◌%◌, ◌<◌, ◌≤◌, ◌==◌, Bool, ⊤, if◌then◌else◌, List, [], ◌∷◌, length, map, sum_by, slice_index, Option, Some, None, Ok, ◌++◌}
 use Rattle.std.specs.List.{range_with_len}
 use Rattle.arrow_buffers.specs.declared.width.Width.{Width}
 use Rattle.arrow_buffers.specs.declared.width.Width.TheVariants.{Bit, Fixed, Var}
 use Rattle.arrow_buffers.specs.declared.width.Width.TheVariants as width
 use Rattle.arrow_buffers.specs.Bits.{bit_at, is_valid, bits_of}
 use Rattle.arrow_buffers.specs.Fixed.{part_at, fixed_of}
-use Rattle.arrow_buffers.specs.Offsets.{span_at}
+use Rattle.arrow_buffers.specs.Offsets.{span_at, offset_bytes}
 use Rattle.arrow_buffers.specs.Vars.{vars_of}
 use Rattle.arrow_buffers.specs.Lists.{lists_of}
 
@@ -35,11 +35,6 @@ cell_len (Some value) = length value
 
 abbrev pub cells_len : List (Option (List ℕ)) → ℕ
 cells_len cells = sum_by cell_len cells
-
--- whether a value is the bit 1
-abbrev pub is_one : Option (List ℕ) → Bool
-is_one None = false
-is_one (Some value) = slice_index value 0 == 1
 
 -- the byte that a bit is given as
 abbrev pub bit_byte : Bool → List ℕ
@@ -86,3 +81,21 @@ values_len Bit cells = (length cells + 7) / 8
 values_len (Fixed width) cells = length cells * width
 values_len Var cells = cells_len cells
 values_len (width.List element) cells = cells_len cells
+
+-- ---- a column that grows has its buffers but for the last offset
+
+-- the offsets with one more, which counts the elements so far
+abbrev pub ended : ℕ → List ℕ → List ℕ → List ℕ
+ended element offsets values = offsets ++ offset_bytes (length values / element)
+
+-- the offsets as they are when the column ends here
+abbrev pub ended_offsets : Width → List ℕ → List ℕ → List ℕ
+ended_offsets Bit offsets values = offsets
+ended_offsets (Fixed width) offsets values = offsets
+ended_offsets Var offsets values = ended 1 offsets values
+ended_offsets (width.List element) offsets values = ended element offsets values
+
+-- the cells so far
+abbrev pub cells_so_far : Width → List ℕ → List ℕ → List ℕ → ℕ → List (Option (List ℕ))
+cells_so_far width validity offsets values rows =
+    cells_of width validity (ended_offsets width offsets values) values rows

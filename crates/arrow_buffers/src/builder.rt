@@ -1,8 +1,10 @@
 ghost use Rattle.std.specs.Prelude.{◌≡◌, ◌+◌, ◌-◌, ◌^◌, ◌<◌, min, [], ◌∷◌, ◌++◌, length, replicate, count_by, is_none, None, pos, Ok, IfOk, OnOk, OnErr};
 ghost use Rattle.std.specs.Option.{ForSome, option_copied};
 ghost use Rattle.arrow_buffers.specs.Bits.{validity_of};
-ghost use Rattle.arrow_buffers.specs.Columns.{HasElements, HasWidth, HasNoFault, cell_len, cells_len, cells_of, is_one, validity_len, offsets_len, values_len};
-ghost use Rattle.arrow_buffers.specs.Building.{HasValues, OffsetsFit, PushesNulls, PushesValue, ended_offsets, sized_len};
+ghost use Rattle.arrow_buffers.specs.Columns.{HasElements, HasWidth, HasNoFault, cell_len, cells_len, cells_of, validity_len, offsets_len, values_len};
+ghost use Rattle.arrow_buffers.specs.Building.{is_one};
+ghost use Rattle.arrow_buffers.specs.Building.{HasValues, OffsetsFit, PushesNulls, PushesValue, sized_len};
+ghost use Rattle.arrow_buffers.specs.Columns.{ended_offsets};
 
 use crate::Width;
 use crate::flags::{push_flag, push_null_flags, reserve_flag};
@@ -39,7 +41,8 @@ pub struct ColumnBuilder {
 
 impl Model for ColumnBuilder {
     ghost use Rattle.arrow_buffers.specs.Columns.{ColumnIn};
-    ghost use Rattle.arrow_buffers.specs.Building.{IsBuilt, cells_so_far};
+    ghost use Rattle.arrow_buffers.specs.Building.{IsBuilt};
+    ghost use Rattle.arrow_buffers.specs.Columns.{cells_so_far};
 
     ghost Value = { ColumnIn };
 

@@ -1,8 +1,8 @@
 use Rattle.std.proofs.Common.{◌≡◌, [], ◌++◌, unwrap_or, replicate}
 use Rattle.std.proofs.lemmas.Result.{on_ok_weaker}
 use Rattle.std.specs.Option.{option_copied}
-use Rattle.arrow_buffers.specs.Columns.{is_one}
-use Rattle.arrow_buffers.specs.Building.{ended}
+use Rattle.arrow_buffers.specs.Columns.{ended}
+use Rattle.arrow_buffers.specs.Building.{is_one}
 use Rattle.arrow_buffers.specs.Packed.{PushesBit}
 use Rattle.arrow_buffers.proofs.Pushing.{pushes-bit, pushes-part, pushes-span, pushes-list}
 use Rattle.arrow_buffers.proofs.builder.push_value.Goals as goal

@@ -1,5 +1,5 @@
 use Rattle.std.proofs.Common.{refl, sym}
-use Rattle.arrow_buffers.specs.Building.{ended_offsets}
+use Rattle.arrow_buffers.specs.Columns.{ended_offsets}
 use Rattle.arrow_buffers.proofs.Ending.{bitmap-ends, bitmap-len, no-fault, offsets_len-ended}
 use Rattle.arrow_buffers.proofs.Growing.{length-cells_of}
 use Rattle.arrow_buffers.proofs.builder.ColumnBuilder.finish.Goals as goal
