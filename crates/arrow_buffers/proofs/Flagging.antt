@@ -5,11 +5,9 @@ use Rattle.std.proofs.lemmas.List.{get_or_append_left, get_or_at, get_or_past, g
 use Rattle.std.proofs.lemmas.Nat.Bits.{bit_at_ones, bit_at_ones_above}
 use Rattle.std.proofs.Math.Nat.{mod-eq_of_lt}
 use Rattle.std.proofs.Math.Pow.{pow-lt}
-use Rattle.arrow_buffers.specs.Bits.{bit_at, is_valid}
+use Rattle.arrow_buffers.specs.Bits.{bit_at}
 use Rattle.arrow_buffers.specs.Packed.{IsPacked, PushesZeros}
-use Rattle.arrow_buffers.specs.Flags.{PushesFlag, PushesNullFlags}
 use Rattle.arrow_buffers.proofs.BitPlaces.{bit_in, bit_at-in, bit_at-past, bit_at-same}
-use Rattle.arrow_buffers.proofs.Growing.{is_valid-bit}
 
 -- the lowest n bits of a byte
 low-one : (n i : ℕ) → i < n → bit_in (2 ^ n - 1) i ≡ true
@@ -94,20 +92,4 @@ zeros-after count all old packed more =
     record {
       packed = record { len = omega arith; spare = λ k past. same k ∙ packed.spare k (omega arith) };
       bits = same;
-    }
-
--- the flags of nulls: that of the first, and zeros
-pub nulls-flagged : (nulls rows count : ℕ) (old mid new : List ℕ) → 1 ≤ count → PushesFlag nulls rows false old mid → PushesZeros (rows + count) mid new → PushesNullFlags nulls rows count old new
-nulls-flagged nulls rows count old mid new some flag zeros =
-    let was : IsPacked (rows + 1) mid = flag.flags.some (omega arith) in
-    let there : (k : ℕ) → k < rows + 1 → is_valid new k ≡ is_valid mid k =
-    λ k below. is_valid-bit (rows + count) k new zeros.packed (omega arith) ∙ zeros.bits k ∙ sym (is_valid-bit (rows + 1) k mid was below) in
-    record {
-      flags = record { none = λ none. absurd (omega arith); some = λ _. zeros.packed };
-      before = λ k below. there k (omega arith) ∙ flag.before k below;
-      null = λ k from below.
-          elim (cases_lt rows k) [
-            | inl later ↦ is_valid-bit (rows + count) k new zeros.packed below ∙ zeros.bits k ∙ was.spare k (omega arith)
-            | inr here ↦ let is : k ≡ rows = omega arith in rw is (there rows (omega arith) ∙ flag.there)
-          ];
     }
