@@ -1,13 +1,12 @@
 -- One more cell: the column with it.
-use Rattle.std.proofs.Common.{◌≡◌, ℕ, ◌+◌, ◌^◌, ◌<◌, ◌≤◌, ◌==◌, if◌then◌else◌, Bool, true, List, [], ◌∷◌, ◌++◌, length, get_or, map, is_some, is_none, Option, Some, None, refl, ap, ◌∙◌, arith}
+use Rattle.std.proofs.Common.{◌≡◌, ℕ, ◌+◌, ◌<◌, ◌≤◌, if◌then◌else◌, Bool, List, [], ◌∷◌, ◌++◌, length, get_or, map, is_some, is_none, Option, Some, None, refl, ap, ◌∙◌, arith}
 use Rattle.std.specs.List.{range_with_len}
 use Rattle.std.specs.Option.{ForSome}
-use Rattle.std.proofs.lemmas.Bool.{cond-false, ne_eqb}
 use Rattle.std.proofs.lemmas.List.FromFn.{fill_by_all, length-map-range_with_len, get_or-map-range_with_len, map-range_with_len_more}
 use Rattle.std.proofs.lemmas.List.Sums.{count_by-le-length, sum_by_push}
+use Rattle.arrow_buffers.specs.Limits.{max_rows}
 use Rattle.arrow_buffers.specs.declared.width.Width.{Width}
-use Rattle.arrow_buffers.specs.Bits.{bit_at, is_valid}
-use Rattle.arrow_buffers.specs.Packed.{IsPacked}
+use Rattle.arrow_buffers.specs.Bits.{is_valid}
 use Rattle.arrow_buffers.specs.Flags.{PushesFlag}
 use Rattle.arrow_buffers.specs.Columns.{cell_at, cells_of, value_at, ended_offsets, cells_so_far}
 use Rattle.arrow_buffers.specs.Building.{IsBuilt, PushesValue}
@@ -32,11 +31,6 @@ pub get_or-cells_of : (width : Width) (validity offsets values : List ℕ) (rows
 unfolding cells_of
 get_or-cells_of width validity offsets values rows row d below =
     get_or-map-range_with_len (cell_at width validity offsets values) 0 rows row row d below (omega arith)
-
--- a bitmap with a bit for each row says which rows are valid
-pub is_valid-bit : (rows k : ℕ) (bytes : List ℕ) → IsPacked rows bytes → k < rows → is_valid bytes k ≡ bit_at bytes k
-is_valid-bit rows k bytes packed below =
-    let len = packed.len in cond-false (length bytes == 0) true (bit_at bytes k) (ne_eqb (length bytes) 0 (omega arith))
 
 -- a cell by its two parts
 cell_by : Bool → List ℕ → Option (List ℕ)
@@ -64,7 +58,7 @@ cells-next width rows nulls cell bitmap offsets values new_bitmap new_offsets ne
     ap (λ (v : Bool). cell_by v (value_at width (ended_offsets width new_offsets new_values) new_values k)) (flag.before k below) ∙ ap (cell_by (is_valid bitmap k)) (value.before k below) in
     one-more new old rows cell before (cell-there cell (is_valid new_bitmap rows) (value_at width (ended_offsets width new_offsets new_values) new_values rows) flag.there value.there)
 
-pub built-next : (width : Width) (rows nulls : ℕ) (cell : Option (List ℕ)) (bitmap offsets values new_bitmap new_offsets new_values : List ℕ) → rows + 1 < 2 ^ 63
+pub built-next : (width : Width) (rows nulls : ℕ) (cell : Option (List ℕ)) (bitmap offsets values new_bitmap new_offsets new_values : List ℕ) → rows + 1 < max_rows
     → IsBuilt width rows nulls bitmap offsets values → PushesFlag nulls rows (is_some cell) bitmap new_bitmap → PushesValue width rows cell offsets values new_offsets new_values
     → IsBuilt width (rows + 1) (nulls + (if is_none cell then 1 else 0)) new_bitmap new_offsets new_values
 built-next width rows nulls cell bitmap offsets values new_bitmap new_offsets new_values few built flag value =

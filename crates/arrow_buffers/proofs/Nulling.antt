@@ -1,15 +1,15 @@
 -- Nulls in a row.
-use Rattle.std.proofs.Common.{◌≡◌, ℕ, zero, suc, ◌+◌, ◌*◌, ◌^◌, ◌<◌, ◌≤◌, if◌then◌else◌, Bool, List, [], ◌∷◌, ◌++◌, length, map, replicate, is_none, Option, None, refl, sym, ap, ◌∙◌, arith}
+use Rattle.std.proofs.Common.{◌≡◌, ℕ, zero, suc, ◌+◌, ◌*◌, ◌<◌, ◌≤◌, if◌then◌else◌, List, [], ◌∷◌, ◌++◌, length, map, replicate, is_none, Option, None, refl, sym, ap, ◌∙◌, arith}
 use Rattle.std.specs.List.{range_with_len}
 use Rattle.std.proofs.lemmas.List.{append-nil, append_assoc, length-append, length-replicate, replicate_more}
 use Rattle.std.proofs.lemmas.List.Folds.{sum_by-replicate}
 use Rattle.std.proofs.lemmas.List.FromFn.{map-range_with_len_more}
 use Rattle.std.proofs.lemmas.List.Sums.{sum_by-append}
+use Rattle.arrow_buffers.specs.Limits.{max_rows}
 use Rattle.arrow_buffers.specs.declared.width.Width.{Width}
-use Rattle.arrow_buffers.specs.declared.width.Width.TheVariants.{Bit, Fixed, Var}
+use Rattle.arrow_buffers.specs.declared.width.Width.TheVariants.{Fixed, Var}
 use Rattle.arrow_buffers.specs.declared.width.Width.TheVariants as width
 use Rattle.arrow_buffers.specs.Flags.{PushesNullFlags}
-use Rattle.arrow_buffers.specs.Packed.{PushesZeros}
 use Rattle.arrow_buffers.specs.Columns.{cell_at, cells_of, values_len, ended, ended_offsets, cells_so_far}
 use Rattle.arrow_buffers.specs.Building.{ended_times, HasValues, IsBuilt, PushesNulls, PushesValue}
 use Rattle.arrow_buffers.proofs.Growing.{length-cells_of, same-below}
@@ -45,7 +45,7 @@ cells-nulls width rows nulls count bitmap offsets values new_bitmap new_offsets 
     λ k from below. rw (flag.null k from below) refl in
     later-none new old rows count before null
 
-pub built-nulls : (width : Width) (rows nulls count : ℕ) (bitmap offsets values new_bitmap new_offsets new_values : List ℕ) → rows + count < 2 ^ 63
+pub built-nulls : (width : Width) (rows nulls count : ℕ) (bitmap offsets values new_bitmap new_offsets new_values : List ℕ) → rows + count < max_rows
     → IsBuilt width rows nulls bitmap offsets values → PushesNullFlags nulls rows count bitmap new_bitmap → PushesNulls width rows count offsets values new_offsets new_values
     → IsBuilt width (rows + count) (nulls + count) new_bitmap new_offsets new_values
 built-nulls width rows nulls count bitmap offsets values new_bitmap new_offsets new_values few built flag value =
@@ -119,15 +119,6 @@ nulls-parts width rows count offsets values has =
       stored = (has.0, omega arith);
       before = λ k below. part_at-append width rows k values zeros has.1 below;
       grown = λ cells same _. rw (length-append cells (replicate count None), same, length-replicate {A = Option (List ℕ)} count None) (omega arith);
-    }
-
-pub nulls-bits : (rows count : ℕ) (offsets values new : List ℕ) → HasValues Bit rows offsets values → PushesZeros (rows + count) values new → PushesNulls Bit rows count offsets values offsets new
-nulls-bits rows count offsets values new has zeros =
-    let byte : Bool → List ℕ = λ bit. (if bit then 1 else 0) ∷ [] in
-    record {
-      stored = (has.0, zeros.packed);
-      before = λ k below. ap byte (zeros.bits k);
-      grown = λ cells same _. let packed = zeros.packed.len in omega (arith, length-append cells (replicate count None), length-replicate {A = Option (List ℕ)} count None);
     }
 
 pub length-times : (element n : ℕ) (offsets values : List ℕ) → length (ended_times element n offsets values) ≡ length offsets + 4 * n

@@ -5,6 +5,7 @@ use Rattle.std.proofs.lemmas.List.{append-nil, drop_at, drop-append-le, take-app
 use Rattle.std.proofs.Math.Nat.{add-mod, zero-mod, div-add-mod', div-le_self, le_of_mul-le-mul_right, mul-le-mul_right}
 use Rattle.byteorder.specs.Endian.{little_bytes, little_number}
 use Rattle.byteorder.specs.Numbers.{length-bytes_low_first, little_from-append, little_number-reads_back}
+use Rattle.arrow_buffers.specs.Limits.{max_values}
 use Rattle.arrow_buffers.specs.Offsets.{offset_at, offset_bytes, offset_before, is_fine, is_fine_at, span_at}
 use Rattle.arrow_buffers.specs.Building.{HasSpans}
 use Rattle.arrow_buffers.specs.Columns.{ended}
@@ -68,7 +69,7 @@ fine-as b c o p width len more before at within fine =
     let reach = was.within in
     fine-at c p b o width more before at (record { fits = was.fits; order = was.order; within = omega arith })
 
-pub spans-next : (element rows : ℕ) (offsets values part : List ℕ) → 1 ≤ element → HasSpans element rows offsets values → length part % element ≡ 0 → length values + length part < 2 ^ 31
+pub spans-next : (element rows : ℕ) (offsets values part : List ℕ) → 1 ≤ element → HasSpans element rows offsets values → length part % element ≡ 0 → length values + length part < max_values
     → IsNext element rows offsets values part
 spans-next element rows offsets values part some has whole room =
     let old = ended element offsets values in

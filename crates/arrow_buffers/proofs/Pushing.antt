@@ -1,11 +1,12 @@
 -- One more value, for each way to store values.
-use Rattle.std.proofs.Common.{◌≡◌, ℕ, ◌+◌, ◌*◌, ◌%◌, ◌^◌, ◌<◌, ◌≤◌, ◌==◌, if◌then◌else◌, Bool, List, [], ◌∷◌, ◌++◌, length}
+use Rattle.std.proofs.Common.{◌≡◌, ℕ, ◌+◌, ◌*◌, ◌%◌, ◌<◌, ◌≤◌, ◌==◌, if◌then◌else◌, Bool, List, [], ◌∷◌, ◌++◌, length}
 use Rattle.std.proofs.Common.{take, drop, slice_index, replicate, unwrap_or, Option, Some, None, refl, sym, ap, ◌∙◌, inl, inr, arith}
 use Rattle.std.specs.Option.{ForSome}
 use Rattle.std.proofs.lemmas.Bool.{cases_eq, cond-true, cond-false, eq-eqb, ne_eqb}
 use Rattle.std.proofs.lemmas.List.{drop_at, drop-append-le, take-append-le, take_all, length-drop, length-append, length-replicate, length_push}
 use Rattle.std.proofs.lemmas.List.Sums.{sum_by_push}
 use Rattle.std.proofs.Math.Nat.{mod-one, mul-le-mul_right, zero-mod}
+use Rattle.arrow_buffers.specs.Limits.{max_values}
 use Rattle.arrow_buffers.specs.declared.width.Width.TheVariants.{Bit, Fixed, Var}
 use Rattle.arrow_buffers.specs.declared.width.Width.TheVariants as width
 use Rattle.arrow_buffers.specs.Bits.{bit_at}
@@ -83,7 +84,7 @@ whole-cell element None some fits = zero-mod element
 whole-cell element (Some value) some fits = fits value refl
 
 pub pushes-list : (element rows : ℕ) (cell : Option (List ℕ)) (offsets values : List ℕ) → HasValues (width.List element) rows offsets values → ForSome cell (HasWidth (width.List element))
-    → length values + cell_len cell < 2 ^ 31 → PushesValue (width.List element) rows cell offsets values (ended element offsets values) (values ++ unwrap_or cell [])
+    → length values + cell_len cell < max_values → PushesValue (width.List element) rows cell offsets values (ended element offsets values) (values ++ unwrap_or cell [])
 pushes-list element rows cell offsets values has fits room =
     let part = unwrap_or cell [] in
     let len = span-len cell in
@@ -96,7 +97,7 @@ pushes-list element rows cell offsets values has fits room =
       grown = λ cells count was. omega (arith, sum_by_push cell_len cells cell);
     }
 
-pub pushes-span : (rows : ℕ) (cell : Option (List ℕ)) (offsets values : List ℕ) → HasValues Var rows offsets values → length values + cell_len cell < 2 ^ 31
+pub pushes-span : (rows : ℕ) (cell : Option (List ℕ)) (offsets values : List ℕ) → HasValues Var rows offsets values → length values + cell_len cell < max_values
     → PushesValue Var rows cell offsets values (ended 1 offsets values) (values ++ unwrap_or cell [])
 pushes-span rows cell offsets values has room =
     let part = unwrap_or cell [] in

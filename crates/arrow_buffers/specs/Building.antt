@@ -1,9 +1,10 @@
 -- What a column has in hand while it grows: words of private contracts.
-use Rattle.std.specs.Prelude.{◌≡◌, ℕ, zero, suc, ◌+◌, ◌*◌, ◌/◌, ◌%◌, ◌^◌, ◌<◌, ◌≤◌, ⊤, true, is_none, count_by, List, [], ◌∷◌, ◌++◌, length, replicate, Option, None, ◌==◌, Bool, false, slice_index, Some}
+use Rattle.std.specs.Prelude.{◌≡◌, ℕ, zero, suc, ◌+◌, ◌*◌, ◌/◌, ◌%◌, ◌<◌, ◌≤◌, ⊤, true, is_none, count_by, List, [], ◌∷◌, ◌++◌, length, replicate, Option, None, ◌==◌, Bool, false, slice_index, Some}
 use Rattle.std.specs.Option.{ForSome}
 use Rattle.arrow_buffers.specs.declared.width.Width.{Width}
 use Rattle.arrow_buffers.specs.declared.width.Width.TheVariants.{Bit, Fixed, Var}
 use Rattle.arrow_buffers.specs.declared.width.Width.TheVariants as width
+use Rattle.arrow_buffers.specs.Limits.{max_rows, max_values}
 use Rattle.arrow_buffers.specs.Below.{all_below}
 use Rattle.arrow_buffers.specs.Flags.{HasFlags}
 use Rattle.arrow_buffers.specs.Offsets.{is_fine_at}
@@ -14,7 +15,7 @@ use Rattle.arrow_buffers.specs.Columns.{value_at, values_len, ended, ended_offse
 pub record HasSpans (element rows : ℕ) (offsets values : List ℕ) : Type 0 where
   pub offsets_len : length offsets ≡ 4 * rows
   pub whole : length values % element ≡ 0
-  pub fits : length values < 2 ^ 31
+  pub fits : length values < max_values
   pub fine : all_below (is_fine_at element (ended element offsets values) values) (rows + 1) ≡ true
 
 -- how long the values of some rows are where each has the same width
@@ -35,8 +36,8 @@ HasValues (width.List element) rows offsets values = (1 ≤ element) × HasSpans
 abbrev pub OffsetsFit : Width → ℕ → Type 0
 OffsetsFit Bit len = ⊤
 OffsetsFit (Fixed width) len = ⊤
-OffsetsFit Var len = len < 2 ^ 31
-OffsetsFit (width.List element) len = (1 ≤ element) × (len < 2 ^ 31)
+OffsetsFit Var len = len < max_values
+OffsetsFit (width.List element) len = (1 ≤ element) × (len < max_values)
 
 -- one more value after those of the rows, which are as they were
 pub record PushesValue (width : Width) (rows : ℕ) (cell : Option (List ℕ)) (offsets values new_offsets new_values : List ℕ) : Type 0 where
@@ -58,7 +59,7 @@ ended_times element (suc n) offsets values = ended element (ended_times element 
 
 -- all of them together
 pub record IsBuilt (width : Width) (rows nulls : ℕ) (validity offsets values : List ℕ) : Type 0 where
-  pub few : rows < 2 ^ 63
+  pub few : rows < max_rows
   pub flags : HasFlags nulls rows validity
   pub stored : HasValues width rows offsets values
   pub lengths : length values ≡ values_len width (cells_so_far width validity offsets values rows)

@@ -4,6 +4,7 @@ pub mod Building
 pub mod Columns
 pub mod Fixed
 pub mod Flags
+pub mod Limits
 pub mod Lists
 pub mod Offsets
 pub mod Packed

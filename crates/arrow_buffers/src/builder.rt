@@ -1,10 +1,9 @@
 ghost use Rattle.std.specs.Prelude.{◌≡◌, ◌+◌, ◌-◌, ◌^◌, ◌<◌, min, [], ◌∷◌, ◌++◌, length, replicate, count_by, is_none, None, pos, Ok, IfOk, OnOk, OnErr};
 ghost use Rattle.std.specs.Option.{ForSome, option_copied};
 ghost use Rattle.arrow_buffers.specs.Bits.{validity_of};
-ghost use Rattle.arrow_buffers.specs.Columns.{HasElements, HasWidth, HasNoFault, cell_len, cells_len, cells_of, validity_len, offsets_len, values_len};
-ghost use Rattle.arrow_buffers.specs.Building.{is_one};
-ghost use Rattle.arrow_buffers.specs.Building.{HasValues, OffsetsFit, PushesNulls, PushesValue, sized_len};
-ghost use Rattle.arrow_buffers.specs.Columns.{ended_offsets};
+ghost use Rattle.arrow_buffers.specs.Limits.{max_rows, max_values};
+ghost use Rattle.arrow_buffers.specs.Columns.{HasElements, HasWidth, HasNoFault, cell_len, cells_len, cells_of, ended_offsets, validity_len, offsets_len, values_len};
+ghost use Rattle.arrow_buffers.specs.Building.{HasValues, OffsetsFit, PushesNulls, PushesValue, is_one, sized_len};
 
 use crate::Width;
 use crate::flags::{push_flag, push_null_flags, reserve_flag};
@@ -13,8 +12,8 @@ use crate::packing::{push_bit, push_offset, push_part, push_span, push_zeros, re
 use std::alloc::{AllocError, Global};
 use std::marker::Model;
 
-/// The most rows of a column: Arrow counts them in signed numbers of 64 bits.
-const MAX_ROWS: u64 = i64::MAX as u64;
+/// A column has less than this number of rows: Arrow counts them in signed numbers of 64 bits.
+pub(crate) const MAX_ROWS: u64 = 1 << 63;
 
 /// The buffers of a column, and what its node says of them.
 #[derive(Debug, Drop)]
@@ -40,9 +39,8 @@ pub struct ColumnBuilder {
 }
 
 impl Model for ColumnBuilder {
-    ghost use Rattle.arrow_buffers.specs.Columns.{ColumnIn};
+    ghost use Rattle.arrow_buffers.specs.Columns.{ColumnIn, cells_so_far};
     ghost use Rattle.arrow_buffers.specs.Building.{IsBuilt};
-    ghost use Rattle.arrow_buffers.specs.Columns.{cells_so_far};
 
     ghost Value = { ColumnIn };
 
@@ -94,11 +92,11 @@ impl ColumnBuilder {
     #[inline(always)]
     pub fn push(&mut self, cell: Option<&[u8]>) -> Result<(), AllocError>
         requires width { ForSome (option_copied cell) (HasWidth self.old.width) }
-        requires room { cells_len self.old.cells + cell_len (option_copied cell) < 2 ^ 31 }
+        requires room { cells_len self.old.cells + cell_len (option_copied cell) < max_values }
         ensures ok { OnOk result (self.new ≡ record { width = self.old.width; cells = self.old.cells ++ option_copied cell.entry ∷ [] }) }
         ensures err { OnErr result (self.new ≡ self.old) }
     {
-        if self.rows == MAX_ROWS {
+        if self.rows + 1 == MAX_ROWS {
             return Err(AllocError);
         }
         let valid = cell.is_some();
@@ -123,7 +121,7 @@ impl ColumnBuilder {
         ensures ok { OnOk result (self.new ≡ record { width = self.old.width; cells = self.old.cells ++ replicate count None }) }
         ensures err { OnErr result (self.new ≡ self.old) }
     {
-        if count > MAX_ROWS - self.rows {
+        if count >= MAX_ROWS - self.rows {
             return Err(AllocError);
         }
         if count == 0 {
@@ -147,7 +145,7 @@ impl ColumnBuilder {
     /// still is one offset. What stands for a null among the values is left open.
     pub fn finish(self) -> Result<Buffers, AllocError>
         ensures rows { IfOk result (λ b. b.rows ≡ length self.cells) }
-        ensures few { IfOk result (λ b. b.rows < 2 ^ 63) }
+        ensures few { IfOk result (λ b. b.rows < max_rows) }
         ensures nulls { IfOk result (λ b. b.nulls ≡ count_by is_none self.cells) }
 
         // They read as the cells, and have no fault.
@@ -235,7 +233,7 @@ fn push_null_values(
     values: &mut Vec<u8>,
 ) -> Result<(), AllocError>
     requires stored { HasValues width rows offsets.old.items values.old.items }
-    requires few { rows + count < 2 ^ 63 }
+    requires few { rows + count < max_rows }
     ensures ok { OnOk result (PushesNulls width rows count offsets.old.items values.old.items offsets.new.items values.new.items) }
     ensures err { OnErr result ((offsets.new.items ≡ offsets.old.items) × (values.new.items ≡ values.old.items)) }
 {

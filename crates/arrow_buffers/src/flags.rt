@@ -1,6 +1,7 @@
 //! The validity bitmap of a column that grows: it has no bytes until the first null.
 
-ghost use Rattle.std.specs.Prelude.{◌≡◌, ◌+◌, ◌/◌, ◌^◌, ◌<◌, ◌≤◌, if◌then◌else◌, vec_capacity, OnOk};
+ghost use Rattle.std.specs.Prelude.{◌≡◌, ◌+◌, ◌/◌, ◌<◌, ◌≤◌, if◌then◌else◌, vec_capacity, OnOk};
+ghost use Rattle.arrow_buffers.specs.Limits.{max_rows};
 ghost use Rattle.arrow_buffers.specs.Flags.{HasFlags, PushesFlag, PushesNullFlags};
 
 use crate::packing::{fill_ones, push_bit, push_zeros, reserve_bit};
@@ -44,7 +45,7 @@ pub(crate) fn push_flag(bitmap: &mut Vec<u8>, nulls: u64, rows: u64, valid: bool
 pub(crate) fn push_null_flags(bitmap: &mut Vec<u8>, nulls: u64, rows: u64, count: u64)
     requires flags { HasFlags nulls rows bitmap.old.items }
     requires some { 1 ≤ count }
-    requires few { rows + count < 2 ^ 63 }
+    requires few { rows + count < max_rows }
     requires room { (rows + count) / 8 < vec_capacity bitmap.old }
     ensures { PushesNullFlags nulls rows count bitmap.old.items bitmap.new.items }
 {

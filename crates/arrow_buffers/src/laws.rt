@@ -6,6 +6,7 @@ ghost use Rattle.arrow_buffers.specs.declared.fault.BufferFault.TheVariants.{Sho
 ghost use Rattle.arrow_buffers.specs.declared.width.Width.{Width};
 ghost use Rattle.arrow_buffers.specs.declared.width.Width.TheVariants.{Bit, Fixed, Var};
 ghost use Rattle.arrow_buffers.specs.declared.width.Width.TheVariants as width;
+ghost use Rattle.arrow_buffers.specs.Limits.{max_rows};
 ghost use Rattle.arrow_buffers.specs.Below.{all_below};
 ghost use Rattle.arrow_buffers.specs.Bits.{bits_of, cell_where, flag_of};
 ghost use Rattle.arrow_buffers.specs.Columns.{bit_byte, cell_at, cells_of};
@@ -13,6 +14,13 @@ ghost use Rattle.arrow_buffers.specs.Fixed.{part_at, part_of};
 ghost use Rattle.arrow_buffers.specs.Lists.{elements_of};
 ghost use Rattle.arrow_buffers.specs.Offsets.{AreNone, AreOffsets, IsBad, offset_at, offsets_check, span_at};
 ghost use Rattle.arrow_buffers.specs.Vars.{is_text, span_of, utf8_check};
+
+use crate::builder::MAX_ROWS;
+
+/// The limit has its value.
+pub fn limits_hold()
+    ensures rows { MAX_ROWS ≡ max_rows }
+{}
 
 /// A test holds below a number where it holds at each place.
 pub fn below_is_at_each_place()
