@@ -3,6 +3,7 @@ use Rattle.std.specs.Prelude.{◌≡◌, ◌^◌, ℕ, zero, suc, nat_le, true, 
 use Rattle.std.specs.List.{list_all}
 use Rattle.std.proofs.Common.{refl, arith}
 use Rattle.std.proofs.lemmas.Bool.{leb-true, lt-ltb}
+use Rattle.arrow_schema.specs.Limits.{max_fixed}
 use Rattle.arrow_schema.specs.declared.spec.ArrowType.{ArrowType}
 use Rattle.arrow_schema.specs.declared.spec.ArrowType.TheVariants.{Fixed}
 use Rattle.arrow_schema.specs.declared.spec.FieldSpec.{FieldSpec}
@@ -14,7 +15,7 @@ use Rattle.arrow_schema.proofs.Only.{tests_of}
 use Rattle.arrow_schema.proofs.FieldTrees.{widths_in_is}
 
 supported_fits : (kind : ArrowType) → is_supported kind ≡ true → fits_width kind ≡ true
-supported_fits (Fixed width) h = lt-ltb width (2 ^ 31) (omega (arith, leb-true width 65536 (both_true (nat_le 1 width) (nat_le width 65536) h).1))
+supported_fits (Fixed width) h = lt-ltb width (2 ^ 31) (omega (arith, leb-true width max_fixed (both_true (nat_le 1 width) (nat_le width max_fixed) h).1))
 supported_fits kind h = refl
 
 each_fits : (depth : ℕ) → ((fields : List FieldSpec) → are_readable depth fields ≡ true → widths_fit fields ≡ true) → (fields : List FieldSpec)

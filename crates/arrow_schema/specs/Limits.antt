@@ -22,3 +22,7 @@ max_written_names = 1048576
 
 abbrev pub max_size_before : ℕ
 max_size_before = 4194304
+
+-- how many bytes a field that is written takes at most, beside its name
+abbrev pub max_field_size : ℕ
+max_field_size = 1500

@@ -1,7 +1,8 @@
-ghost use Rattle.std.specs.Prelude.{◌≡◌, ◌+◌, ◌*◌, ◌≤◌, ◌<◌, ◌^◌, ℕ, List, length, IfOk, IsTrue};
+ghost use Rattle.std.specs.Prelude.{◌≡◌, ◌+◌, ◌*◌, ◌≤◌, ◌<◌, ℕ, List, length, IfOk, IsTrue};
+ghost use Rattle.flat_tables.specs.Limits.{max_size};
 ghost use Rattle.flat_tables.specs.Slots.{Reaches};
 ghost use Rattle.flat_tables.specs.Building.{Grows, Stands, HasSlots};
-ghost use Rattle.arrow_schema.specs.Limits.{max_written_fields, max_written_names, max_size_before};
+ghost use Rattle.arrow_schema.specs.Limits.{max_written_fields, max_written_names, max_size_before, max_field_size};
 ghost use Rattle.arrow_schema.specs.Trees.{count_in, count_of};
 ghost use Rattle.arrow_schema.specs.Types.{type_number};
 ghost use Rattle.arrow_schema.specs.Writing.{names_in, names_of, fits_width, widths_in, widths_fit, is_named, named_in, encodings_named, type_slots, WritesDict, WritesPair, WritesField, WritesFields, IsSchemaTable};
@@ -32,7 +33,7 @@ pub fn add_schema(builder: &mut Builder, spec: &SchemaSpec) -> Result<Place, All
     requires room { length builder.old < max_size_before }
     ensures schema { IfOk result (Stands (IsSchemaTable spec.now) builder.new) }
     ensures grows { Grows builder.old builder.new }
-    ensures size { length builder.new ≤ length builder.old + names_of spec.now + 1500 * count_of spec.now + 512 }
+    ensures size { length builder.new ≤ length builder.old + names_of spec.now + max_field_size * count_of spec.now + 512 }
 {
     let fields = add_fields(builder, spec.as_slice())?;
     let place = builder.add_table(&[Slot::Absent, Slot::At(fields)])?;
@@ -45,10 +46,10 @@ pub fn add_schema(builder: &mut Builder, spec: &SchemaSpec) -> Result<Place, All
 fn add_fields(builder: &mut Builder, fields: &[FieldSpec]) -> Result<Place, AllocError>
     requires widths { IsTrue (widths_fit fields.now) }
     requires encodings { IsTrue (encodings_named fields.now) }
-    requires room { length builder.old + names_of fields.now + 1500 * count_of fields.now + 32 < 2 ^ 24 }
+    requires room { length builder.old + names_of fields.now + max_field_size * count_of fields.now + 32 < max_size }
     ensures fields { IfOk result (Stands (WritesFields fields.now) builder.new) }
     ensures grows { Grows builder.old builder.new }
-    ensures size { length builder.new ≤ length builder.old + names_of fields.now + 1500 * count_of fields.now + 32 }
+    ensures size { length builder.new ≤ length builder.old + names_of fields.now + max_field_size * count_of fields.now + 32 }
 {
     let mut places = Vec::with_capacity(builder.alloc(), fields.len())?;
     for field in fields {
@@ -63,10 +64,10 @@ fn add_fields(builder: &mut Builder, fields: &[FieldSpec]) -> Result<Place, Allo
 fn add_field(builder: &mut Builder, field: &FieldSpec) -> Result<Place, AllocError>
     requires widths { IsTrue (widths_in field.now) }
     requires encodings { IsTrue (named_in field.now) }
-    requires room { length builder.old + names_in field.now + 1500 * count_in field.now < 2 ^ 24 }
+    requires room { length builder.old + names_in field.now + max_field_size * count_in field.now < max_size }
     ensures field { IfOk result (Stands (WritesField field.now) builder.new) }
     ensures grows { Grows builder.old builder.new }
-    ensures size { length builder.new + 4 ≤ length builder.old + names_in field.now + 1500 * count_in field.now }
+    ensures size { length builder.new + 4 ≤ length builder.old + names_in field.now + max_field_size * count_in field.now }
 {
     let children = add_fields(builder, field.children.as_slice())?;
     let name = builder.add_text(field.name.as_slice())?;
@@ -89,7 +90,7 @@ fn add_field(builder: &mut Builder, field: &FieldSpec) -> Result<Place, AllocErr
 /// Adds the table of a type.
 fn add_type(builder: &mut Builder, kind: ArrowType) -> Result<Place, AllocError>
     requires width { IsTrue (fits_width kind) }
-    requires room { length builder.old < 2 ^ 24 }
+    requires room { length builder.old < max_size }
     ensures kind { IfOk result (Stands (HasSlots (type_slots kind)) builder.new) }
     ensures grows { Grows builder.old builder.new }
     ensures size { length builder.new ≤ length builder.old + 256 }
@@ -111,7 +112,7 @@ fn add_type(builder: &mut Builder, kind: ArrowType) -> Result<Place, AllocError>
 
 /// Adds the table of a dictionary, where there is one, and returns the slot for it.
 fn add_dictionary(builder: &mut Builder, dict: Option<DictSpec>) -> Result<Slot, AllocError>
-    requires { length builder.old + 256 < 2 ^ 24 }
+    requires { length builder.old + 256 < max_size }
     ensures dict { IfOk result (DictionaryStands dict builder.new) }
     ensures reaches { IfOk result (Reaches (length builder.new)) }
     ensures grows { Grows builder.old builder.new }
@@ -125,7 +126,7 @@ fn add_dictionary(builder: &mut Builder, dict: Option<DictSpec>) -> Result<Slot,
 
 #[tactic(auto, using(flat_tables::proofs::Standing::grows_on))]
 fn add_dict(builder: &mut Builder, dict: DictSpec) -> Result<Place, AllocError>
-    requires { length builder.old + 256 < 2 ^ 24 }
+    requires { length builder.old + 256 < max_size }
     ensures dict { IfOk result (Stands (WritesDict dict) builder.new) }
     ensures grows { Grows builder.old builder.new }
     ensures size { length builder.new ≤ length builder.old + 512 }
@@ -139,7 +140,7 @@ fn add_dict(builder: &mut Builder, dict: DictSpec) -> Result<Place, AllocError>
 /// Adds the custom metadata that names an encoding, where there is one, and returns the slot for it.
 fn add_metadata(builder: &mut Builder, encoding: Encoding) -> Result<Slot, AllocError>
     requires named { IsTrue (is_named encoding) }
-    requires room { length builder.old + 512 < 2 ^ 24 }
+    requires room { length builder.old + 512 < max_size }
     ensures metadata { IfOk result (MetadataStands encoding builder.new) }
     ensures reaches { IfOk result (Reaches (length builder.new)) }
     ensures grows { Grows builder.old builder.new }
@@ -157,7 +158,7 @@ fn add_metadata(builder: &mut Builder, encoding: Encoding) -> Result<Slot, Alloc
 #[tactic(auto, using(flat_tables::proofs::Standing::grows_on))]
 fn add_pair(builder: &mut Builder, value: &[u8]) -> Result<Place, AllocError>
     requires value { length value.now ≤ 8 }
-    requires room { length builder.old + 512 < 2 ^ 24 }
+    requires room { length builder.old + 512 < max_size }
     ensures pair { IfOk result (Stands (WritesPair value.now) builder.new) }
     ensures grows { Grows builder.old builder.new }
     ensures size { length builder.new ≤ length builder.old + 400 }

@@ -1,5 +1,6 @@
 use Rattle.std.proofs.Common.{◌≡◌, ◌+◌, ◌*◌, ◌≤◌, All, length, take, drop, vec_len}
 use Rattle.flat_tables.specs.Building.{Grows}
+use Rattle.arrow_schema.specs.Limits.{max_field_size}
 use Rattle.arrow_schema.specs.Trees.{count_in, count_of}
 use Rattle.arrow_schema.specs.Writing.{names_of}
 use Rattle.arrow_schema.proofs.FieldsStand.{AllStand}
@@ -18,6 +19,6 @@ invariant-add_fields-loop-field l = record {
   grown : Grows l.fn.builder l.builder;
   within : All (λ place. place ≤ length l.builder) l.places.items;
   size : vec_len l.places ≡ l.field-index;
-  cost : length l.builder + 4 * l.field-index + names_of (drop l.field-index l.fields) + 1500 * count_of (drop l.field-index l.fields)
-      ≤ length l.fn.builder + names_of l.fields + 1500 * count_of l.fields;
+  cost : length l.builder + 4 * l.field-index + names_of (drop l.field-index l.fields) + max_field_size * count_of (drop l.field-index l.fields)
+      ≤ length l.fn.builder + names_of l.fields + max_field_size * count_of l.fields;
 }
