@@ -13,9 +13,9 @@ use Rattle.arrow_schema.specs.Slots.{kind_slot, dictionary_slot, dictionary_id, 
 use Rattle.arrow_schema.specs.Says.{SaysIndex, SaysDict, SaysDictionary}
 use Rattle.arrow_schema.specs.Readable.{fits_dictionary}
 use Rattle.arrow_schema.specs.Reading.{flat, where_supported, is_wide, index_of, dict_of, dictionary_in, dictionary_of}
-use Rattle.arrow_schema.specs.Defects.{TypeFault, of_width, of_sign, of_precision, of_timestamp, of_fixed, of_duration, DictionaryFault, of_table, of_id, of_index}
-use Rattle.arrow_schema.specs.Defects.{of_index_width, of_index_sign, FieldFault, of_name, of_kind, of_type, of_dictionary, UnsupportedType, other_type, other_width, other_precision}
-use Rattle.arrow_schema.specs.Defects.{other_timestamp, other_fixed, other_duration, is_type_number, takes_no_dictionary, UnsupportedField, no_index, other_index, signed_index, with_children}
+use Rattle.arrow_schema.specs.Defects.{DictionaryFault, of_table, of_id, of_index}
+use Rattle.arrow_schema.specs.Defects.{of_index_width, of_index_sign, FieldFault, of_dictionary}
+use Rattle.arrow_schema.specs.Defects.{takes_no_dictionary, UnsupportedField, no_index, other_index, signed_index}
 use Rattle.arrow_schema.specs.Defects as defects
 use Rattle.arrow_schema.proofs.Steps.{bind_ok, bind_err, flat_ok, supported_ok, supported_err}
 use Rattle.arrow_schema.proofs.FieldParts.{OwnDefect, own_fault, own_unsupported, number_is}

@@ -16,8 +16,8 @@ use Rattle.arrow_schema.specs.Trees.{name_in, kind_in, dict_in, encoding_in, chi
 use Rattle.arrow_schema.specs.Says.{SaysNumbers, SaysDictionary, SaysEncoding, HasElements, HasTables, SaysField, says, SayFields, SaysSchema}
 use Rattle.arrow_schema.specs.Readable.{no_fields, is_readable, are_readable, IsReadable}
 use Rattle.arrow_schema.specs.Reading.{schema_of}
-use Rattle.arrow_schema.specs.Defects.{IsChild, IsField, IsParent, FieldFault, VectorFault, HasFlatFault, UnsupportedField, IsUnsupported, HasTooManyFields}
-use Rattle.arrow_schema.specs.Defects.{IsTooDeep, HasBadName, HasUse, HasTwoTypes, HasDefect, of_vector_in, of_table_in, below_elements, fields_below}
+use Rattle.arrow_schema.specs.Defects.{IsChild, IsField, IsParent, HasFlatFault, IsUnsupported}
+use Rattle.arrow_schema.specs.Defects.{IsTooDeep, HasBadName, HasUse, HasTwoTypes, HasDefect, below_elements, fields_below}
 use Rattle.arrow_schema.specs.Defects as defects
 use Rattle.arrow_schema.proofs.Elements.{inside, same_vector, no_vector_fault, one_of}
 use Rattle.arrow_schema.proofs.Folds.{count_in_is, uses_in_is}

@@ -16,9 +16,9 @@ use Rattle.arrow_schema.specs.Slots.{name_slot, kind_slot, int_width, int_sign, 
 use Rattle.arrow_schema.specs.Says.{SaysNumbers}
 use Rattle.arrow_schema.specs.Readable.{is_supported}
 use Rattle.arrow_schema.specs.Reading.{flat, name_of, int_of, fixed_of, number_of, type_with, type_of}
-use Rattle.arrow_schema.specs.Defects.{TypeFault, of_width, of_sign, of_precision, of_timestamp, of_fixed, of_duration, DictionaryFault, of_table, of_id, of_index}
-use Rattle.arrow_schema.specs.Defects.{of_index_width, of_index_sign, FieldFault, of_name, of_kind, of_type, of_dictionary, UnsupportedType, other_type, other_width, other_precision}
-use Rattle.arrow_schema.specs.Defects.{other_timestamp, other_fixed, other_duration, is_type_number, takes_no_dictionary, UnsupportedField, no_index, other_index, signed_index, with_children}
+use Rattle.arrow_schema.specs.Defects.{TypeFault, of_width, of_sign, of_precision, of_timestamp, of_fixed, of_duration}
+use Rattle.arrow_schema.specs.Defects.{FieldFault, of_name, of_kind, of_type, UnsupportedType, other_type, other_width, other_precision}
+use Rattle.arrow_schema.specs.Defects.{other_timestamp, other_fixed, other_duration, UnsupportedField}
 use Rattle.arrow_schema.specs.Defects as defects
 use Rattle.arrow_schema.proofs.Steps.{bind_ok, bind_err, flat_ok, flat_err, supported_ok, supported_err, chosen}
 

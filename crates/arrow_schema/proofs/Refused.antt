@@ -14,9 +14,9 @@ use Rattle.arrow_schema.specs.Trees.{name_in, field_with, names_differ, uses_of,
 use Rattle.arrow_schema.specs.Says.{SaysField, says}
 use Rattle.arrow_schema.specs.Readable.{fits_children}
 use Rattle.arrow_schema.specs.Reading.{flat, name_of, type_of, dictionary_of, encoding_of, Fields, in_slot, slot_of, field_of, of_element, fields_from, with_own_names, vector_of, with_agreeing_uses, schema_of}
-use Rattle.arrow_schema.specs.Defects.{IsChild, IsField, IsParent, FieldFault, VectorFault, HasFlatFault, UnsupportedElement, other_element, narrow_element}
-use Rattle.arrow_schema.specs.Defects.{signed_element, with_dictionary, UnsupportedField, with_children, no_child, other_count, other_child, IsUnsupported, HasTooManyFields}
-use Rattle.arrow_schema.specs.Defects.{IsTooDeep, HasBadName, HasUse, HasTwoTypes, HasDefect, of_vector_in, of_table_in, below_elements, fields_below}
+use Rattle.arrow_schema.specs.Defects.{IsChild, IsField, IsParent, FieldFault, VectorFault, HasFlatFault}
+use Rattle.arrow_schema.specs.Defects.{IsUnsupported}
+use Rattle.arrow_schema.specs.Defects.{IsTooDeep, HasBadName, HasDefect, of_vector_in, of_table_in, below_elements, fields_below}
 use Rattle.arrow_schema.specs.Defects as defects
 use Rattle.arrow_schema.proofs.Steps.{bind_ok, bind_err, flat_ok, flat_err, supported_ok, supported_err, chosen, ok_is}
 use Rattle.arrow_schema.proofs.FieldParts.{OwnDefect, faulty, unsupported, no_text, name_refused, type_reads, type_refused}

@@ -11,9 +11,8 @@ use Rattle.arrow_schema.specs.Slots.{kind_slot, fields_slot, children_slot}
 use Rattle.arrow_schema.specs.Trees.{kind_in, dict_in, children_in, names_differ, use_of, uses_in, uses_of}
 use Rattle.arrow_schema.specs.Says.{SaysNumbers, SaysDictionary, HasTables, SaysField, says, SayFields}
 use Rattle.arrow_schema.specs.Readable.{is_supported, is_readable, are_readable}
-use Rattle.arrow_schema.specs.Defects.{IsChild, IsField, IsParent, FieldFault, VectorFault, HasFlatFault, UnsupportedElement, other_element, narrow_element}
-use Rattle.arrow_schema.specs.Defects.{signed_element, with_dictionary, UnsupportedField, with_children, no_child, other_count, other_child, IsUnsupported, HasTooManyFields}
-use Rattle.arrow_schema.specs.Defects.{IsTooDeep, HasBadName, HasUse, HasTwoTypes, HasDefect, of_vector_in, of_table_in, below_elements, fields_below}
+use Rattle.arrow_schema.specs.Defects.{IsField}
+use Rattle.arrow_schema.specs.Defects.{HasUse, HasTwoTypes}
 use Rattle.arrow_schema.specs.Defects as defects
 use Rattle.arrow_schema.proofs.FieldParts.{type_says}
 use Rattle.arrow_schema.proofs.Elements.{parent_child}
