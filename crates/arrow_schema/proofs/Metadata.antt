@@ -8,7 +8,7 @@ use Rattle.flat_tables.specs.Tables.{TableIn, VectorIn, vector_slot, element_tab
 use Rattle.arrow_schema.specs.declared.spec.Encoding.{Encoding}
 use Rattle.arrow_schema.specs.declared.spec.Encoding.TheVariants as encoding
 use Rattle.arrow_schema.specs.Slots.{metadata_slot, key_slot, value_slot}
-use Rattle.arrow_schema.specs.Encodings.{Pair, is_encoding_key, encoding_named, encoding_by, encoding_of_pairs}
+use Rattle.arrow_schema.specs.Encodings.{KeyValue, is_encoding_key, encoding_named, encoding_by, encoding_of_pairs}
 use Rattle.arrow_schema.specs.Says.{HasTables, SaysPair, SayPairs, SaysEncoding}
 use Rattle.arrow_schema.specs.Reading.{encoding_with, of_pair, encoding_from, in_metadata, encoding_of}
 use Rattle.arrow_schema.specs.Defects.{IsChild, MetadataFault}
@@ -24,7 +24,7 @@ first encoding.Delta later = encoding.Delta
 first encoding.Run later = encoding.Run
 first encoding.Other later = encoding.Other
 
-abbrev after : Encoding → List Pair → Encoding
+abbrev after : Encoding → List KeyValue → Encoding
 after found [] = found
 after found (pair ∷ pairs) = after (encoding_with pair.key pair.value found) pairs
 
@@ -44,7 +44,7 @@ by_first : (value : Option (List ℕ)) (later : Encoding) → first (encoding_by
 by_first None later = refl
 by_first (Some value) later = named_first value later
 
-after_is : (found : Encoding) (pairs : List Pair) → after found pairs ≡ first found (encoding_of_pairs pairs)
+after_is : (found : Encoding) (pairs : List KeyValue) → after found pairs ≡ first found (encoding_of_pairs pairs)
 unfolding encoding_of_pairs
 after_is encoding.None [] = refl
 after_is encoding.Plain [] = refl
@@ -65,11 +65,11 @@ record PairsRead (v : VectorIn) (place n : ℕ) (found named : Encoding) : Type 
   tables : List TableIn
   size : length tables ≡ n
   at : (i : ℕ) (d : TableIn) → i < n → element_table v (place + i) ≡ Ok (Some (slice_index_or tables i d))
-  pairs : List Pair
+  pairs : List KeyValue
   say : SayPairs tables pairs
   is : after found pairs ≡ named
 
-one_more : (v : VectorIn) (place n : ℕ) (found named : Encoding) (t : TableIn) (pair : Pair) → element_table v place ≡ Ok (Some t) → SaysPair t pair
+one_more : (v : VectorIn) (place n : ℕ) (found named : Encoding) (t : TableIn) (pair : KeyValue) → element_table v place ≡ Ok (Some t) → SaysPair t pair
     → PairsRead v (place + 1) n (encoding_with pair.key pair.value found) named → PairsRead v place (suc n) found named
 one_more v place n found named t pair at says others = record {
   tables = t ∷ others.tables;
@@ -128,7 +128,7 @@ encoding_reads t named h =
         }
 
 -- ---- and what the pairs name is read
-pairs_again : (v : VectorIn) (place n : ℕ) (found : Encoding) (tables : List TableIn) (pairs : List Pair) → length tables ≡ n
+pairs_again : (v : VectorIn) (place n : ℕ) (found : Encoding) (tables : List TableIn) (pairs : List KeyValue) → length tables ≡ n
     → ((i : ℕ) (d : TableIn) → i < n → element_table v (place + i) ≡ Ok (Some (slice_index_or tables i d))) → SayPairs tables pairs
     → encoding_from v place n found ≡ Ok (after found pairs)
 unfolding encoding_from
@@ -147,7 +147,7 @@ pub encoding_says : (t : TableIn) (named : Encoding) → SaysEncoding t named �
 unfolding encoding_of encoding_of_pairs
 encoding_says t named s = from_has s.tables s.pairs s.has s.say s.names
   where
-    from_has : (tables : List TableIn) (pairs : List Pair) → HasTables metadata_slot t tables → SayPairs tables pairs → encoding_of_pairs pairs ≡ named
+    from_has : (tables : List TableIn) (pairs : List KeyValue) → HasTables metadata_slot t tables → SayPairs tables pairs → encoding_of_pairs pairs ≡ named
         → (vector_slot 4 t metadata_slot >>= in_metadata) ≡ Ok named
     from_has [] [] (inl none) say names = rw none.0 (ap Ok names)
     from_has [] (pair ∷ pairs) (inl none) say names = absurd say
@@ -197,13 +197,13 @@ encoding_refused t e h = elim (bind_err (vector_slot 4 t metadata_slot) in_metad
     from_found None at g = cc (g)
     from_found (Some v) at g = of_fault v at (pairs_fault v 0 v.count encoding.None e g)
 
-pair_said : (tables : List TableIn) (pairs : List Pair) (i : ℕ) (d : TableIn) → SayPairs tables pairs → i < length tables → (pair : Pair) × SaysPair (slice_index_or tables i d) pair
+pair_said : (tables : List TableIn) (pairs : List KeyValue) (i : ℕ) (d : TableIn) → SayPairs tables pairs → i < length tables → (pair : KeyValue) × SaysPair (slice_index_or tables i d) pair
 pair_said [] pairs i d say lt = absurd (omega (arith, lt))
 pair_said (t ∷ tables) [] i d say lt = absurd say
 pair_said (t ∷ tables) (pair ∷ pairs) zero d say lt = (pair, say.0)
 pair_said (t ∷ tables) (pair ∷ pairs) (suc i) d say lt = pair_said tables pairs i d say.1 (omega (arith, lt))
 
-child_said : (t pair : TableIn) (named : Encoding) → SaysEncoding t named → IsChild metadata_slot t pair → (p : Pair) × SaysPair pair p
+child_said : (t pair : TableIn) (named : Encoding) → SaysEncoding t named → IsChild metadata_slot t pair → (p : KeyValue) × SaysPair pair p
 child_said t pair named s c =
     let o = one_of metadata_slot t pair s.tables s.has c in
     let p = pair_said s.tables s.pairs o.0 t s.say o.1 in

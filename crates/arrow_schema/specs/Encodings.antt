@@ -4,7 +4,7 @@ use Rattle.arrow_schema.specs.declared.spec.Encoding.{Encoding}
 use Rattle.arrow_schema.specs.declared.spec.Encoding.TheVariants as encoding
 
 -- a pair: its key and its value, each of which may be absent
-pub record Pair : Type 0 where
+pub record KeyValue : Type 0 where
   pub key : Option (List ℕ)
   pub value : Option (List ℕ)
 
@@ -26,6 +26,6 @@ encoding_by None = encoding.Other
 encoding_by (Some value) = encoding_named value
 
 -- the encoding that pairs name: by the first one that has the key
-unfoldable pub encoding_of_pairs : List Pair → Encoding
+unfoldable pub encoding_of_pairs : List KeyValue → Encoding
 encoding_of_pairs [] = encoding.None
 encoding_of_pairs (pair ∷ pairs) = if is_encoding_key pair.key then encoding_by pair.value else encoding_of_pairs pairs

@@ -10,7 +10,7 @@ use Rattle.arrow_schema.specs.declared.spec.FieldSpec.{FieldSpec}
 use Rattle.arrow_schema.specs.Types.{type_number}
 use Rattle.arrow_schema.specs.Slots.{name_slot, kind_slot, int_width, int_sign, precision, timestamp_unit, duration_unit, byte_width, dictionary_slot, dictionary_id}
 use Rattle.arrow_schema.specs.Slots.{index_slot, index_width, index_sign, byte_order, fields_slot, children_slot, metadata_slot, key_slot, value_slot}
-use Rattle.arrow_schema.specs.Encodings.{Pair, encoding_of_pairs}
+use Rattle.arrow_schema.specs.Encodings.{KeyValue, encoding_of_pairs}
 use Rattle.arrow_schema.specs.Trees.{name_in, kind_in, dict_in, encoding_in, children_in}
 
 -- the numbers in the table of a field's type
@@ -48,11 +48,11 @@ HasTables slot t tables =
     ⊎ ((v : VectorIn) × (vector_slot 4 t slot ≡ Ok (Some v)) × HasElements v tables)
 
 -- a table KeyValue says a pair
-pub record SaysPair (t : TableIn) (pair : Pair) : Type 0 where
+pub record SaysPair (t : TableIn) (pair : KeyValue) : Type 0 where
   pub key : key_slot t ≡ Ok pair.key
   pub value : value_slot t ≡ Ok pair.value
 
-abbrev pub SayPairs : List TableIn → List Pair → Type 0
+abbrev pub SayPairs : List TableIn → List KeyValue → Type 0
 SayPairs [] [] = Unit {0}
 SayPairs (t ∷ tables) (pair ∷ pairs) = SaysPair t pair × SayPairs tables pairs
 SayPairs [] (pair ∷ pairs) = ⊥
@@ -62,7 +62,7 @@ SayPairs (t ∷ tables) [] = ⊥
 pub record SaysEncoding (t : TableIn) (encoding : Encoding) : Type 0 where
   pub tables : List TableIn
   pub has : HasTables metadata_slot t tables
-  pub pairs : List Pair
+  pub pairs : List KeyValue
   pub say : SayPairs tables pairs
   pub names : encoding_of_pairs pairs ≡ encoding
 
