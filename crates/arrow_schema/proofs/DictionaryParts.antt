@@ -20,11 +20,6 @@ use Rattle.arrow_schema.specs.Defects as defects
 use Rattle.arrow_schema.proofs.Steps.{bind_ok, bind_err, flat_ok, supported_ok, supported_err}
 use Rattle.arrow_schema.proofs.FieldParts.{OwnDefect, own_fault, own_unsupported, number_is}
 
-both : (a b : Bool) → (a && b) ≡ true → (a ≡ true) × (b ≡ true)
-both true true h = (refl, refl)
-both true false h = cc (h)
-both false b h = cc (h)
-
 either : (a b : Bool) → (a || b) ≡ true → (a ≡ true) ⊎ ((a ≡ false) × (b ≡ true))
 either true b h = inl refl
 either false b h = inr (refl, h)

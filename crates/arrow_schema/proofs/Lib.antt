@@ -17,7 +17,7 @@ mod FieldTrees
 mod FieldsStand
 mod Loop
 mod PairLoop
-mod Answered
+mod Returned
 mod Written
 mod Writable
 pub mod Branched

@@ -1,4 +1,4 @@
--- A step that answered, and one that refused.
+-- A step that gave a value, and one that refused.
 use Rattle.std.specs.Prelude.{◌≡◌, ◌⊎◌, ◌&&◌, ◌||◌, Bool, true, false, Result, Ok, Err, refl}
 use Rattle.std.proofs.Common.{ap, inl, inr, cond}
 use Rattle.flat_tables.specs.declared.fault.FlatFault.{FlatFault}

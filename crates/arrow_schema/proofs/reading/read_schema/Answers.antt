@@ -3,7 +3,7 @@ use Rattle.std.proofs.lemmas.Result.{err_from_is_err_and}
 use Rattle.arrow_schema.proofs.Found.{schema_found}
 use Rattle.arrow_schema.proofs.Only.{schema_again}
 use Rattle.arrow_schema.proofs.Exclusion.{read_has_none}
-use Rattle.arrow_schema.proofs.Answered.{refusal_stands, memory_only}
+use Rattle.arrow_schema.proofs.Returned.{refusal_stands, memory_only}
 use Rattle.arrow_schema.proofs.reading.read_schema.Goals as goal
 
 pub returns-in_err-fields-clause-refused : goal.returns-in_err-fields-clause-refused

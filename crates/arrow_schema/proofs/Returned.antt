@@ -1,4 +1,4 @@
--- What an answer that is exact says of the tables.
+-- What an exact result says of the tables.
 use Rattle.std.proofs.Common.{◌≡◌, Result, Ok, List, sym, ◌∙◌}
 use Rattle.flat_tables.specs.Tables.{TableIn}
 use Rattle.arrow_schema.specs.declared.spec.FieldSpec.{FieldSpec}
