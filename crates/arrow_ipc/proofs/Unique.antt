@@ -17,7 +17,6 @@ use Rattle.arrow_ipc.specs.Messages.{IsFramed, IsMessage, IsDictionary, IsConten
 use Rattle.arrow_ipc.specs.Faults
 use Rattle.arrow_ipc.specs.Faults.{HasTable, HasHeader, HasBatch, HasBody, Stands}
 use Rattle.arrow_ipc.specs.Order as order
-use Rattle.arrow_ipc.specs.Order.{◌>>=◌}
 use Rattle.arrow_ipc.proofs.Parts.{part_lies}
 
 -- ---- a message that stands is what reading gives

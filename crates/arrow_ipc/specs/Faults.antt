@@ -33,11 +33,6 @@ HasBatch bytes batch = HasHeader bytes 3 batch ⊎ ((header : TableIn) × HasHea
 abbrev pub HasBody : List ℕ → ℕ → Type 0
 HasBody bytes size = (table : TableIn) × (after : ℕ) × HasTable bytes table after × (body_size_of table ≡ Ok (pos size))
 
--- a place of a buffer begins or ends below zero
-abbrev pub IsNegative : ℤ → Type 0
-IsNegative (pos n) = ⊥
-IsNegative (negsuc n) = Unit {0}
-
 -- Each fault that stands at the start of bytes. Several may stand side by side, and at the end of the bytes none does.
 pub data Stands (bytes : List ℕ) : IpcFault → Type 0 where
   -- another mark stands there, or the mark, the size or the metadata runs past the bytes; or the body does
