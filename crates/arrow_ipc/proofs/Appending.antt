@@ -9,6 +9,8 @@ use Rattle.flat_tables.proofs.Standing.{stands_later}
 use Rattle.arrow_schema.specs.declared.spec.SchemaSpec.{SchemaSpec}
 use Rattle.arrow_schema.specs.Trees.{count_of}
 use Rattle.arrow_schema.specs.Writing.{names_of, IsSchemaTable}
+use Rattle.arrow_schema.specs.Limits.{max_written_fields, max_written_names, max_field_size}
+use Rattle.arrow_ipc.specs.Limits.{max_parts}
 use Rattle.arrow_ipc.specs.declared.messages.IpcMessage.{IpcMessage}
 use Rattle.arrow_ipc.specs.declared.messages.IpcMessage.TheVariants.{Schema, Dictionary, Rows}
 use Rattle.arrow_ipc.specs.Batches.{BatchIn, IsBatch, lies_in, buffer_in}
@@ -105,7 +107,7 @@ few_bytes rows nodes places body metadata small size =
     omega (arith, small, size, body_size-le (map (buffer_in body) places), length-map places (buffer_in body))
 
 pub rows_appended : (rows : ℕ) (nodes places : List (ℤ × ℤ)) (body built : List ℕ) (header : ℕ) (old new : List ℕ) → HasMessage built header 3 body old new
-    → Stands (IsBatchTable rows nodes places) built header → length built ≤ 16 * length nodes + 16 * length places + 320 → length nodes ≤ 65536 → length places ≤ 65536
+    → Stands (IsBatchTable rows nodes places) built header → length built ≤ 16 * length nodes + 16 * length places + 320 → length nodes ≤ max_parts → length places ≤ max_parts
     → list_all (lies_in (length body)) places ≡ true → list_all is_aligned places ≡ true → padded (length body) ≡ body_size (map (buffer_in body) places)
     → Appends (Rows (record { rows = rows; nodes = nodes; buffers = map (buffer_in body) places }))
     (most_of (record { rows = rows; nodes = nodes; buffers = map (buffer_in body) places })) old new
@@ -119,7 +121,7 @@ rows_appended rows nodes places body built header old new h stands small few_nod
 
 pub dictionary_appended : (id : ℤ) (delta : Bool) (rows : ℕ) (nodes places : List (ℤ × ℤ)) (body built : List ℕ) (header : ℕ) (old new : List ℕ)
     → HasMessage built header 2 body old new → Stands (IsDictionaryTable id delta rows nodes places) built header
-    → length built ≤ 16 * length nodes + 16 * length places + 576 → length nodes ≤ 65536 → length places ≤ 65536
+    → length built ≤ 16 * length nodes + 16 * length places + 576 → length nodes ≤ max_parts → length places ≤ max_parts
     → list_all (lies_in (length body)) places ≡ true → list_all is_aligned places ≡ true → padded (length body) ≡ body_size (map (buffer_in body) places)
     → Appends (Dictionary id delta (record { rows = rows; nodes = nodes; buffers = map (buffer_in body) places }))
     (most_of (record { rows = rows; nodes = nodes; buffers = map (buffer_in body) places })) old new
@@ -138,7 +140,7 @@ dictionary_appended id delta rows nodes places body built header old new h stand
     (few_bytes rows nodes places body (length h.metadata) (omega (arith, h.few, small)) size)
 
 pub schema_appended : (fields : SchemaSpec) (built : List ℕ) (header : ℕ) (old new : List ℕ) → HasMessage built header 1 [] old new
-    → Stands (IsSchemaTable fields) built header → length built ≤ names_of fields + 1500 * count_of fields + 512 → names_of fields ≤ 2 ^ 20 → count_of fields ≤ 2 ^ 10
+    → Stands (IsSchemaTable fields) built header → length built ≤ names_of fields + max_field_size * count_of fields + 512 → names_of fields ≤ max_written_names → count_of fields ≤ max_written_fields
     → AppendsSchema fields old new
 schema_appended fields built header old new h stands small few_names few_fields =
     let t : IsSchemaTable fields h.metadata (length h.metadata - header) = stands_later (IsSchemaTable fields) built h.metadata header h.is.grows stands in

@@ -1,8 +1,8 @@
 -- What a builder of a batch keeps.
-use Rattle.std.specs.Prelude.{◌≡◌, ◌≤◌, ◌<◌, ◌^◌, true, length, map}
+use Rattle.std.specs.Prelude.{◌≡◌, ◌≤◌, ◌<◌, true, length, map}
 use Rattle.std.specs.List.{list_all}
 use Rattle.arrow_ipc.specs.declared.builder.BatchBuilder.TheInside as building
-use Rattle.arrow_ipc.specs.Limits.{max_parts, max_body}
+use Rattle.arrow_ipc.specs.Limits.{max_parts, max_count, max_body}
 use Rattle.arrow_ipc.specs.Batches.{BatchIn, lies_in, buffer_in}
 use Rattle.arrow_ipc.specs.Written.{padded, body_size, is_aligned}
 
@@ -11,7 +11,7 @@ abbrev pub batch_built : building.Inside → BatchIn
 batch_built b = record { rows = b.rows; nodes = b.nodes.items; buffers = map (buffer_in b.body.items) b.places.items }
 
 pub record IsBuilding (b : building.Inside) : Type 0 where
-  pub rows : b.rows < 2 ^ 63
+  pub rows : b.rows < max_count
   pub few_nodes : length b.nodes.items ≤ max_parts
   pub few_buffers : length b.places.items ≤ max_parts
   pub inside : list_all (lies_in (length b.body.items)) b.places.items ≡ true

@@ -1,4 +1,4 @@
-ghost use Rattle.arrow_ipc.specs.Limits.{max_parts, max_body};
+ghost use Rattle.arrow_ipc.specs.Limits.{max_parts, max_count, max_body};
 ghost use Rattle.std.specs.Prelude.{◌≡◌, ◌+◌, ◌-◌, ◌*◌, ◌≤◌, ◌<◌, ◌^◌, ◌++◌, ◌∷◌, [], ℕ, length, replicate, vec_len, pos, IfOk, OnOk, OnErr};
 ghost use Rattle.flat_tables.specs.Building.{Grows, Stands};
 ghost use Rattle.arrow_ipc.specs.declared.messages.IpcMessage.TheVariants.{Dictionary, Rows};
@@ -41,7 +41,7 @@ impl Model for BatchBuilder {
 impl BatchBuilder {
     /// A batch of this number of rows, with no nodes and no buffers.
     pub fn new(alloc: Global, rows: u64) -> BatchBuilder
-        requires { rows < 2 ^ 63 }
+        requires { rows < max_count }
         ensures { result ≡ record { rows = rows; nodes = []; buffers = [] } }
     {
         BatchBuilder {
@@ -55,8 +55,8 @@ impl BatchBuilder {
     /// Adds a node: the number of rows of a column, and how many of them are null.
     pub fn add(&mut self, rows: u64, nulls: u64) -> Result<(), AllocError>
         requires few { length self.old.nodes < max_parts }
-        requires rows { rows < 2 ^ 63 }
-        requires nulls { nulls < 2 ^ 63 }
+        requires rows { rows < max_count }
+        requires nulls { nulls < max_count }
         ensures ok { OnOk result (self.new ≡ record self.old { nodes = self.old.nodes ++ (pos rows, pos nulls) ∷ [] }) }
         ensures err { OnErr result (self.new ≡ self.old) }
     {

@@ -1,10 +1,11 @@
 ghost use Rattle.std.specs.Prelude.{◌≡◌, ◌+◌, ◌-◌, ◌*◌, ◌%◌, ◌≤◌, ◌<◌, ◌^◌, ◌++◌, ℕ, length, replicate, vec_len, FitsSigned, IsTrue, IfOk, OnOk, OnErr};
 ghost use Rattle.std.specs.Int.{w64};
+ghost use Rattle.flat_tables.specs.Limits.{max_size};
 ghost use Rattle.flat_tables.specs.Building.{Stands};
 ghost use Rattle.arrow_schema.specs.Trees.{count_of};
 ghost use Rattle.arrow_schema.specs.Limits.{max_written_fields, max_written_names};
 ghost use Rattle.arrow_schema.specs.Writing.{names_of, widths_fit, encodings_named};
-ghost use Rattle.arrow_ipc.specs.Limits.{max_parts};
+ghost use Rattle.arrow_ipc.specs.Limits.{max_parts, max_count, max_body};
 ghost use Rattle.arrow_ipc.specs.Laying as laying;
 ghost use Rattle.arrow_ipc.specs.Written as written;
 
@@ -40,10 +41,10 @@ pub(crate) fn add_batch(
     nodes: &[(i64, i64)],
     places: &[(i64, i64)],
 ) -> Result<Place, AllocError>
-    requires rows { rows < 2 ^ 63 }
+    requires rows { rows < max_count }
     requires nodes { length nodes.now ≤ max_parts }
     requires places { length places.now ≤ max_parts }
-    requires room { length builder.old < 2 ^ 20 }
+    requires room { length builder.old + 32 * max_parts + 64 < max_size }
     ensures table { IfOk result (Stands (laying.IsBatchTable rows nodes.now places.now) builder.new) }
     ensures size { OnOk result (length builder.new ≤ length builder.old + 16 * length nodes.now + 16 * length places.now + 320) }
 {
@@ -104,8 +105,8 @@ pub(crate) fn write_message(
     body: &[u8],
 ) -> Result<(), AllocError>
     requires header { header ≤ length builder }
-    requires room { length builder < 2 ^ 24 }
-    requires body { length body.now < 2 ^ 30 }
+    requires room { length builder < max_size }
+    requires body { length body.now < max_body }
     ensures ok { OnOk result (laying.HasMessage builder header kind body.now to.old.items to.new.items) }
     ensures err { OnErr result (to.new.items ≡ to.old.items) }
 {
@@ -122,7 +123,7 @@ fn metadata(
     size: usize,
 ) -> Result<Vec<u8>, AllocError>
     requires header { header ≤ length builder }
-    requires room { length builder < 2 ^ 24 }
+    requires room { length builder < max_size }
     requires size { size < 2 ^ 63 }
     ensures is { IfOk result (λ metadata. laying.IsMetadata builder header kind size metadata.items) }
     ensures few { IfOk result (λ metadata. length metadata.items ≤ length builder + 288) }
