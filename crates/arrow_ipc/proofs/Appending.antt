@@ -19,9 +19,10 @@ use Rattle.arrow_ipc.proofs.Parts.{part_more, number_more}
 use Rattle.arrow_ipc.specs.Fronts.{Front, HasNoMessage}
 use Rattle.arrow_ipc.proofs.Fronting.{message_ends, no_message}
 use Rattle.arrow_ipc.specs.Written.{padded, body_size, most_of, most_of_schema, is_aligned, IsBatchAligned, AreBuffersAligned, IsHeaderAligned, Appends, AppendsSchema}
-use Rattle.arrow_ipc.specs.Laying.{laid_out, HoldsBatch, IsBatchTable, IsDictionaryTable, HasMessage}
+use Rattle.arrow_ipc.specs.Laying.{laid_out, HoldsBatch, IsBatchTable, HasMessage}
 use Rattle.arrow_ipc.proofs.Places.{all_lie_more, buffers_more, body_size-le}
 use Rattle.arrow_ipc.proofs.Laid.{zeros_after, length-laid_out, framed_laid, IsLaid, message_laid}
+use Rattle.arrow_ipc.proofs.TablesBuilt.{IsDictionaryTable}
 
 framed_more : (bytes more metadata : List ℕ) → IsFramed bytes metadata → IsFramed (bytes ++ more) metadata
 framed_more bytes more metadata f = record {

@@ -20,6 +20,7 @@ use Rattle.arrow_ipc.specs.Batches.{BatchIn, IsBatch, lies_in, rows_of, nodes_of
 use Rattle.arrow_ipc.specs.Messages.{IsFramed, IsMessage, IsDictionary, IsContent, continuation, version_of, kind_of, header_of, body_size_of, is_known, id_of, data_of, delta_of, kind_number}
 use Rattle.arrow_ipc.specs.Faults
 use Rattle.arrow_ipc.specs.Faults.{HasTable, HasHeader, HasBatch, HasBody, Stands, Refuses}
+use Rattle.arrow_ipc.specs.Returned.{RefusesHeader}
 use Rattle.arrow_ipc.specs.Order as order
 use Rattle.arrow_ipc.specs.Order.{◌>>=◌}
 use Rattle.arrow_ipc.proofs.Parts.{part_lies, part_past}
@@ -365,7 +366,7 @@ pub find_refuses : (bytes : List ℕ) (e : IpcFault) → order.find bytes ≡ Er
 find_refuses bytes e h filled =
     stands_refuses bytes e (subst (λ (r : Result Found IpcFault). MatchResult r (Finds bytes) (Faulty bytes)) h (find_decided bytes) filled)
 
-refuses_found : (bytes : List ℕ) (h : Header) (size : ℕ) (e : IpcFault) → IsFound bytes h size → order.RefusesHeader h e → Refuses bytes e
+refuses_found : (bytes : List ℕ) (h : Header) (size : ℕ) (e : IpcFault) → IsFound bytes h size → RefusesHeader h e → Refuses bytes e
 refuses_found bytes (header.Schema inner) size (Schema refusal) is r =
     let has : HasTable bytes is.table is.after = record { metadata = is.metadata; framed = is.framed; root = is.root; whole = is.whole } in
     Faults.bad_schema inner refusal (record {
@@ -385,7 +386,7 @@ refuses_found bytes (header.Schema inner) size Unsupported is r = absurd r
 refuses_found bytes (header.Dictionary id delta batch) size e is r = absurd r
 refuses_found bytes (header.Rows batch) size e is r = absurd r
 
-pub header_refuses : (bytes : List ℕ) (f : Found) (e : IpcFault) → order.find bytes ≡ Ok f → order.RefusesHeader f.header e → Refuses bytes e
+pub header_refuses : (bytes : List ℕ) (f : Found) (e : IpcFault) → order.find bytes ≡ Ok f → RefusesHeader f.header e → Refuses bytes e
 header_refuses bytes f e h r =
     refuses_found bytes f.header f.size e (subst (λ (r : Result Found IpcFault). MatchResult r (Finds bytes) (Faulty bytes)) h (find_decided bytes)) r
 

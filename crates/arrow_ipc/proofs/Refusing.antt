@@ -4,7 +4,8 @@ use Rattle.arrow_schema.specs.declared.refusal.SchemaRefusal.{SchemaRefusal}
 use Rattle.arrow_schema.specs.declared.refusal.SchemaRefusal.TheVariants.{Flat, Unsupported, TooManyFields, TooDeep, BadName, DictionaryTypes, Memory}
 use Rattle.arrow_schema.specs.Reading.{schema_of, Fails}
 use Rattle.arrow_schema.proofs.Refused.{schema_refused}
-use Rattle.arrow_ipc.specs.Order.{fault_of, RefusesSchema}
+use Rattle.arrow_ipc.specs.Order.{fault_of}
+use Rattle.arrow_ipc.specs.Returned.{RefusesSchema}
 
 pub refuses_schema : (table : TableIn) (refusal : SchemaRefusal) → Fails refusal (schema_of table) → RefusesSchema table (fault_of refusal)
 refuses_schema table (Memory e) h = tt

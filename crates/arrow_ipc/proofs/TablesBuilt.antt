@@ -1,5 +1,5 @@
 -- The tables of a message, as they are built.
-use Rattle.std.proofs.Common.{◌≡◌, ℕ, ◌+◌, ◌-◌, ◌%◌, Bool, List, [], ◌∷◌, ◌++◌, length, map, Ok, refl, sym, ap, ◌∙◌, subst}
+use Rattle.std.proofs.Common.{◌≡◌, ℕ, ◌+◌, ◌-◌, ◌%◌, Bool, List, [], ◌∷◌, ◌++◌, length, map, Ok, Some, refl, sym, ap, ◌∙◌, subst}
 use Rattle.std.proofs.Math.ListN.{get_or-map}
 use Rattle.std.specs.Prelude.{ℤ, pos, ◌==◌, not}
 use Rattle.flat_tables.specs.declared.place.Slot.{Slot}
@@ -11,8 +11,8 @@ use Rattle.flat_tables.specs.Building.{Grows, Stands, IsParts, HasSlots, IsPadde
 use Rattle.flat_tables.proofs.Standing.{grows_on, stands_later}
 use Rattle.arrow_ipc.specs.Batches.{rows_of, nodes_of, places_of}
 use Rattle.arrow_ipc.specs.Messages.{version_of, kind_of, header_of, body_size_of, id_of, data_of, delta_of}
-use Rattle.arrow_ipc.specs.Written.{IsAligned}
-use Rattle.arrow_ipc.specs.Laying.{AllFit, pairs_bytes, IsBatchTable, IsDictionaryTable, IsMetadata}
+use Rattle.arrow_ipc.specs.Written.{IsAligned, IsBatchAligned}
+use Rattle.arrow_ipc.specs.Laying.{AllFit, pairs_bytes, HoldsBatch, IsBatchTable, IsMetadata}
 use Rattle.arrow_ipc.proofs.PairsBack.{pairs_back}
 
 -- a table is aligned by the sizes of its slots
@@ -61,6 +61,18 @@ batch_stands rows z nodes places new n p place is s vn vp fn fp = record {
 -- table DictionaryBatch
 abbrev pub dictionary_slots : ℤ → ℕ → ℕ → List Slot
 dictionary_slots id batch flag = I64 id ∷ At batch ∷ U8 flag ∷ []
+
+-- a table DictionaryBatch, read at a place
+pub record IsDictionaryTable (id : ℤ) (delta : Bool) (rows : ℕ) (nodes places : List (ℤ × ℤ)) (bytes : List ℕ) (place : ℕ) : Type 0 where
+  pub table : TableIn
+  pub read : table_at bytes place ≡ Ok table
+  pub has_id : id_of table ≡ Ok id
+  pub has_delta : delta_of table ≡ Ok delta
+  pub inner : TableIn
+  pub has_inner : data_of table ≡ Ok (Some inner)
+  pub holds : HoldsBatch rows nodes places inner
+  pub aligned : IsPadded bytes → IsAligned (8 ∷ 4 ∷ 1 ∷ []) table
+  pub inner_aligned : IsPadded bytes → IsBatchAligned inner
 
 dictionary_table : (id z : ℤ) (delta : Bool) (rows : ℕ) (nodes places : List (ℤ × ℤ)) (bytes : List ℕ) (batch flag place : ℕ) → z ≡ id
     → HasSlots (dictionary_slots z batch flag) bytes place → IsBatchTable rows nodes places bytes (length bytes - batch) → not (flag == 0) ≡ delta

@@ -1,5 +1,5 @@
 -- How what is written is laid out: words of private contracts.
-use Rattle.std.specs.Prelude.{◌≡◌, ℕ, ◌+◌, ◌-◌, ◌%◌, ◌≤◌, ◌<◌, Bool, List, [], ◌∷◌, ◌++◌, length, replicate, slice_index_or, Ok, None, Some, ℤ, pos, FitsSigned}
+use Rattle.std.specs.Prelude.{◌≡◌, ℕ, ◌+◌, ◌-◌, ◌%◌, ◌≤◌, ◌<◌, List, ◌++◌, length, replicate, slice_index_or, Ok, None, Some, ℤ, pos, FitsSigned}
 use Rattle.std.specs.Int.{w64, cast_unsigned}
 use Rattle.std.specs.List.{flat_map}
 use Rattle.byteorder.specs.Endian.{little_bytes}
@@ -7,7 +7,7 @@ use Rattle.flat_tables.specs.Bytes.{◌>>=◌}
 use Rattle.flat_tables.specs.Tables.{TableIn, root_at, table_at, place_of}
 use Rattle.flat_tables.specs.Building.{Grows, IsPadded}
 use Rattle.arrow_ipc.specs.Batches.{rows_of, nodes_of, places_of}
-use Rattle.arrow_ipc.specs.Messages.{continuation, version_of, kind_of, header_of, body_size_of, id_of, data_of, delta_of}
+use Rattle.arrow_ipc.specs.Messages.{continuation, version_of, kind_of, header_of, body_size_of}
 use Rattle.arrow_ipc.specs.Written.{padded, version_5, message_sizes, IsAligned, IsBatchAligned}
 
 -- numbers of 64 bits
@@ -39,23 +39,12 @@ pub record HoldsBatch (rows : ℕ) (nodes places : List (ℤ × ℤ)) (table : T
   pub has_places : places_of table ≡ Ok places
   pub plain : place_of table 3 ≡ None
 
--- a table RecordBatch, and a table DictionaryBatch, read at a place
+-- a table RecordBatch, read at a place
 pub record IsBatchTable (rows : ℕ) (nodes places : List (ℤ × ℤ)) (bytes : List ℕ) (place : ℕ) : Type 0 where
   pub table : TableIn
   pub read : table_at bytes place ≡ Ok table
   pub holds : HoldsBatch rows nodes places table
   pub aligned : IsPadded bytes → IsBatchAligned table
-
-pub record IsDictionaryTable (id : ℤ) (delta : Bool) (rows : ℕ) (nodes places : List (ℤ × ℤ)) (bytes : List ℕ) (place : ℕ) : Type 0 where
-  pub table : TableIn
-  pub read : table_at bytes place ≡ Ok table
-  pub has_id : id_of table ≡ Ok id
-  pub has_delta : delta_of table ≡ Ok delta
-  pub inner : TableIn
-  pub has_inner : data_of table ≡ Ok (Some inner)
-  pub holds : HoldsBatch rows nodes places inner
-  pub aligned : IsPadded bytes → IsAligned (8 ∷ 4 ∷ 1 ∷ []) table
-  pub inner_aligned : IsPadded bytes → IsBatchAligned inner
 
 -- the metadata of a message whose header was built at a place, counted from the end, and whose body has this size
 pub record IsMetadata (built : List ℕ) (header kind size : ℕ) (metadata : List ℕ) : Type 0 where

@@ -3,6 +3,7 @@ pub mod Batches
 pub mod Messages
 pub mod Faults
 pub mod Order
+pub mod Returned
 pub mod Fronts
 pub mod Inside
 pub mod Written

@@ -1,5 +1,5 @@
 -- In which order a message is read. It decides which of several faults is returned, and no caller needs to know it.
-use Rattle.std.specs.Prelude.{◌≡◌, ℕ, ◌+◌, ◌==◌, List, length, map, if◌then◌else◌, Result, Ok, Err, Option, None, Some, is_some, ℤ, pos, negsuc}
+use Rattle.std.specs.Prelude.{ℕ, ◌+◌, ◌==◌, List, length, map, if◌then◌else◌, Result, Ok, Err, Option, None, Some, is_some, ℤ, pos, negsuc}
 use Rattle.std.specs.List.{list_all}
 use Rattle.flat_tables.specs.declared.fault.FlatFault.{FlatFault}
 use Rattle.flat_tables.specs.Bytes.{part_at, number_at}
@@ -8,7 +8,6 @@ use Rattle.arrow_schema.specs.declared.spec.SchemaSpec.{SchemaSpec}
 use Rattle.arrow_schema.specs.declared.refusal.SchemaRefusal.{SchemaRefusal}
 use Rattle.arrow_schema.specs.declared.refusal.SchemaRefusal.TheVariants as refusal
 use Rattle.arrow_schema.specs.Reading.{schema_of}
-use Rattle.arrow_schema.specs.Defects.{HasDefect}
 use Rattle.arrow_ipc.specs.declared.fault.IpcFault.{IpcFault}
 use Rattle.arrow_ipc.specs.declared.fault.IpcFault.TheVariants.{Cut, Flat, BadVersion, Compressed, BadBody, Unsupported, Schema, Memory}
 use Rattle.arrow_ipc.specs.declared.header.Header.{Header}
@@ -44,11 +43,6 @@ natural (negsuc n) = Err BadBody
 abbrev pub present : Option TableIn → Result TableIn IpcFault
 present (Some t) = Ok t
 present None = Err Unsupported
-
--- a call returned what reading gives, its value seen by view
-abbrev pub Gives : {X Y : Type 0} → (X → Y) → Result X IpcFault → Result Y IpcFault → Type 0
-Gives view (Ok x) read = read ≡ Ok (view x)
-Gives view (Err e) read = read ≡ Err e
 
 unfoldable pub metadata : List ℕ → Result (List ℕ) IpcFault
 metadata bytes =
@@ -120,13 +114,3 @@ message bytes = find bytes >>= λ found. message_of found.header >>= λ m. Ok (m
 abbrev pub fault_of : SchemaRefusal → IpcFault
 fault_of (refusal.Memory e) = Memory e
 fault_of other = Schema other
-
--- why a schema isn't given: it is refused, or memory ran out
-abbrev pub RefusesSchema : TableIn → IpcFault → Type 0
-RefusesSchema table (Schema refusal) = HasDefect table refusal
-RefusesSchema table (Memory e) = Unit {0}
-RefusesSchema table _ = ⊥
-
-abbrev pub RefusesHeader : Header → IpcFault → Type 0
-RefusesHeader (header.Schema table) fault = RefusesSchema table fault
-RefusesHeader _ fault = ⊥

@@ -3,6 +3,7 @@ ghost use Rattle.std.specs.List.{list_all};
 ghost use Rattle.flat_tables.specs.Bytes.{part_at, number_at};
 ghost use Rattle.arrow_ipc.specs.Batches.{pairs_in, pairs_of, lies_in};
 ghost use Rattle.arrow_ipc.specs.Inside.{HasPairs};
+ghost use Rattle.arrow_ipc.specs.Returned.{Gives};
 ghost use Rattle.arrow_ipc.specs.Order as order;
 
 use crate::batch::{BatchView, lies_in, pair_at};
@@ -61,7 +62,7 @@ pub(crate) fn find(bytes: &[u8]) -> Result<Found<'_>, IpcFault>
 /// The `size` bytes at `place`.
 #[tactic(auto, unfolding(flat_tables::specs::Bytes::part_at))]
 fn part(bytes: &[u8], place: usize, size: usize) -> Result<&[u8], IpcFault>
-    ensures value { order.Gives (λ part. part.now) result (order.whole (part_at bytes.now place size)) }
+    ensures value { Gives (λ part. part.now) result (order.whole (part_at bytes.now place size)) }
     ensures size { IfOk result (λ part. length part.now ≡ size) }
     ensures within { OnOk result (place + size ≤ length bytes.now) }
 {
@@ -79,7 +80,7 @@ fn number(bytes: &[u8], place: usize) -> Result<u32, IpcFault>
 /// The metadata, where it and what stands before it are whole.
 #[tactic(auto, unfolding(crate::specs::Order::metadata))]
 fn metadata(bytes: &[u8]) -> Result<&[u8], IpcFault>
-    ensures value { order.Gives (λ part. part.now) result (order.metadata bytes.now) }
+    ensures value { Gives (λ part. part.now) result (order.metadata bytes.now) }
     ensures within { IfOk result (λ part. 8 + length part.now ≤ length bytes.now) }
 {
     if number(bytes, 0)? != CONTINUATION {
@@ -103,7 +104,7 @@ fn check_version(table: &TableView<'_>) -> Result<(), IpcFault>
 /// The body, which begins at `place`.
 #[tactic(auto, unfolding(crate::specs::Order::body, crate::specs::Messages::body_size_of))]
 fn body<'a>(bytes: &'a [u8], place: usize, table: &TableView<'_>) -> Result<&'a [u8], IpcFault>
-    ensures value { order.Gives (λ part. part.now) result (order.body bytes.now place table.now) }
+    ensures value { Gives (λ part. part.now) result (order.body bytes.now place table.now) }
     ensures within { IfOk result (λ part. place + length part.now ≤ length bytes.now) }
 {
     let size = usize::try_from(table.i64_at(3, 0)?).map_err(|_| IpcFault::BadBody)?;

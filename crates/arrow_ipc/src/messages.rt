@@ -3,6 +3,7 @@ ghost use Rattle.arrow_ipc.specs.Batches.{BatchIn};
 ghost use Rattle.arrow_ipc.specs.Messages.{IsMessage};
 ghost use Rattle.arrow_ipc.specs.Faults.{Refuses};
 ghost use Rattle.arrow_ipc.specs.Fronts.{rest_of, Advances, Ends, TakesFirst, rows_in, HasRows};
+ghost use Rattle.arrow_ipc.specs.Returned.{RefusesHeader};
 ghost use Rattle.arrow_ipc.specs.Order as order;
 
 use crate::batch::BatchView;
@@ -111,7 +112,7 @@ fn message(alloc: Global, bytes: &[u8]) -> Result<(IpcMessage<'_>, usize), IpcFa
 #[tactic(auto, using(crate::proofs::Refusing::refuses_schema), unfolding(crate::specs::Order::message_of))]
 fn message_of(alloc: Global, header: Header<'_>) -> Result<IpcMessage<'_>, IpcFault>
     ensures message { IfOk result (λ message. order.message_of header.entry ≡ Ok message) }
-    ensures fault { IfErr result (λ fault. order.RefusesHeader header.entry fault) }
+    ensures fault { IfErr result (λ fault. RefusesHeader header.entry fault) }
 {
     match header {
         Header::Schema(table) => Ok(IpcMessage::Schema(read_schema(alloc, table)?)),

@@ -8,9 +8,9 @@ use Rattle.flat_tables.proofs.Standing.{stands_on}
 use Rattle.arrow_ipc.specs.declared.messages.IpcMessage.TheVariants.{Dictionary}
 use Rattle.arrow_ipc.specs.Batches.{BatchIn}
 use Rattle.arrow_ipc.specs.Written.{most_of, Appends}
-use Rattle.arrow_ipc.specs.Laying.{IsBatchTable, IsDictionaryTable, HasMessage}
+use Rattle.arrow_ipc.specs.Laying.{IsBatchTable, HasMessage}
 use Rattle.arrow_ipc.proofs.Appending.{dictionary_appended}
-use Rattle.arrow_ipc.proofs.TablesBuilt.{dictionary_stands}
+use Rattle.arrow_ipc.proofs.TablesBuilt.{IsDictionaryTable, dictionary_stands}
 use Rattle.arrow_ipc.proofs.builder.BatchBuilder.finish_dictionary.Goals as goal
 
 pub returns-clause-ok : goal.returns-clause-ok
