@@ -350,7 +350,7 @@ pub decided : (bytes : List ℕ) → MatchResult (order.message bytes) (λ found
 unfolding order.message
 decided bytes = found_message bytes (order.find bytes) (find_decided bytes)
 
--- ---- what a call may answer
+-- ---- what a call may return
 
 pub stands_refuses : (bytes : List ℕ) (e : IpcFault) → Stands bytes e → Refuses bytes e
 stands_refuses bytes Cut s = s
