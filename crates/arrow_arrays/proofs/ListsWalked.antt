@@ -28,9 +28,6 @@ list_is : (k : ArrowType) → is_list k ≡ true → k ≡ kind.List
 list_is kind.List is = refl
 list_is other is = absurd (false≢true is)
 
-not_list : (k : ArrowType) → is_list k ≡ false → k ≡ kind.List → ⊥
-not_list k is same = false≢true (sym is ∙ ap is_list same)
-
 element_layout : (k : ArrowType) → is_element_type k ≡ true → layout_of k None ≡ layout.Fixed element_len
 element_layout (kind.Int bits signed) is =
     let wide = eqb-true bits 64 (both_true (bits == 64) (not signed) is).0 in

@@ -54,14 +54,6 @@ add_field_is f above arrays =
     ap (λ (add : Adds). add above arrays) (step_is f)
     ∙ each_is (children_in f) (above_children (kind_in f) (length arrays)) (arrays ++ array_after arrays above (name_in f) (kind_in f) (dict_in f) (encoding_in f) ∷ [])
 
--- one more field
-pub walk_step : (fs : List FieldSpec) (i : ℕ) (f : FieldSpec) (above : Above) (arrays after all : List ArraySpec) → i < length fs → f ≡ get_or fs i f
-    → after ≡ add_field f above arrays → add_fields (drop i fs) above arrays ≡ all → add_fields (drop (i + 1) fs) above after ≡ all
-walk_step fs i f above arrays after all lt is added so_far =
-    let step : add_fields (drop i fs) above arrays ≡ add_fields (drop (i + 1) fs) above (add_field (get_or fs i f) above arrays) =
-    at_drop_more (λ (gs : List FieldSpec). add_fields gs above arrays) fs i f lt in
-    ap (add_fields (drop (i + 1) fs) above) (added ∙ ap (λ (g : FieldSpec). add_field g above arrays) is) ∙ sym step ∙ so_far
-
 pub count_step : (fs : List FieldSpec) (i : ℕ) (f : FieldSpec) → i < length fs → f ≡ get_or fs i f → count_of (drop i fs) ≡ count_in f + count_of (drop (i + 1) fs)
 count_step fs i f lt is = at_drop_more count_of fs i f lt ∙ ap (λ (g : FieldSpec). count_in g + count_of (drop (i + 1) fs)) (sym is)
 
