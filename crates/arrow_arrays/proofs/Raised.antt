@@ -24,7 +24,7 @@ use Rattle.arrow_arrays.proofs.Walking.{add_field_is}
 use Rattle.arrow_arrays.proofs.Walked.{array_for, each_walk, slice_get_front, slice_get_last}
 use Rattle.arrow_arrays.proofs.PathsWalked.{deep, one_extends, extends_walk, Extends}
 
--- ---- arrays that stand so deep at most, below structs
+-- ---- arrays that stand at most at that depth, below structs
 
 abbrev IsStructAt : List ArraySpec → ℕ → Type 0
 IsStructAt arrays place = (a : ArraySpec) × (slice_get arrays place ≡ Some a) × (layout_of a.kind a.dict ≡ layout.Struct)

@@ -94,7 +94,7 @@ abbrev pub path_to : (ℕ → List (List ℕ)) → Option ArraySpec → List (Li
 path_to path None = []
 path_to path (Some a) = path_below path a.above a.name
 
--- the names that lead to an array that stands so deep at most
+-- the names that lead to an array that stands at most at that depth
 unfoldable pub path_within : ℕ → List ArraySpec → ℕ → List (List ℕ)
 path_within zero arrays place = []
 path_within (suc depth) arrays place = path_to (path_within depth arrays) (slice_get arrays place)
@@ -130,7 +130,7 @@ abbrev pub cell_in_array : (ℕ → ℕ → Option (List ℕ)) → BatchIn → �
 cell_in_array cell batch row None = None
 cell_in_array cell batch row (Some a) = cell_below (cell_above cell a.above row) (own_cell batch (place_of a) row)
 
--- the cell of a row in an array that stands so deep at most
+-- the cell of a row in an array that stands at most at that depth
 unfoldable pub cell_within : ℕ → List ArraySpec → BatchIn → ℕ → ℕ → Option (List ℕ)
 cell_within zero arrays batch place row = None
 cell_within (suc depth) arrays batch place row = cell_in_array (cell_within depth arrays batch) batch row (slice_get arrays place)

@@ -200,7 +200,7 @@ fn array_at(arrays: &[ArraySpec], place: usize) -> Option<&ArraySpec>
     arrays.get(place)
 }
 
-/// Appends the names that lead to an array that stands so deep at most.
+/// Appends the names that lead to an array that stands at most at that depth.
 #[tactic(auto, unfolding(crate::specs::Arrays::path_within))]
 fn push_path<'a>(
     arrays: &'a [ArraySpec],
@@ -225,7 +225,7 @@ fn push_path<'a>(
     Ok(())
 }
 
-/// The column of an array that stands so deep at most.
+/// The column of an array that stands at most at that depth.
 fn view_within<'v>(
     arrays: &[ArraySpec],
     batch: &BatchView<'v>,
