@@ -1,7 +1,7 @@
 -- The array at a place of a record batch, what is wrong with it, and its cells (Arrow columnar format, "RecordBatch
 -- message" and "Physical memory layout"). Where several faults stand, it is the first one in the order of the parts: node,
 -- validity, values.
-use Rattle.std.specs.Prelude.{◌≡◌, ℕ, ◌+◌, ◌*◌, ◌==◌, ℤ, pos, negsuc, false, nat_lt, if◌then◌else◌, List, [], length, take, slice_get, Option, None, Some, option_map, Result, Ok, Err}
+use Rattle.std.specs.Prelude.{ℕ, ◌+◌, ◌*◌, ◌==◌, ℤ, pos, negsuc, false, nat_lt, if◌then◌else◌, List, [], length, take, slice_get, Option, None, Some, option_map, Result, Ok, Err}
 use Rattle.flat_tables.specs.Bytes.{◌>>=◌}
 use Rattle.arrow_schema.specs.declared.spec.ArrowType.{ArrowType}
 use Rattle.arrow_schema.specs.Types.{is_number}
@@ -21,11 +21,6 @@ use Rattle.arrow_arrays.specs.declared.view.Values.{Values}
 use Rattle.arrow_arrays.specs.declared.view.Values.TheVariants.{Nothing, Bits, Fixed, Vars, Lists}
 use Rattle.arrow_arrays.specs.declared.view.ArrayView.{ArrayView}
 use Rattle.arrow_arrays.specs.Layouts.{layout_of_values, element_len}
-
--- what a call returned, its value seen by view
-abbrev pub Gives : {X Y : Type 0} → (X → Y) → Result X BufferFault → Result Y BufferFault → Type 0
-Gives view (Ok x) read = read ≡ Ok (view x)
-Gives view (Err e) read = read ≡ Err e
 
 -- a part that is missing is too short
 abbrev pub or_short : {A : Type 0} → Option A → Result A BufferFault

@@ -1,4 +1,4 @@
--- How an array without a fault is found: the places of its bytes, before anything is told of them.
+-- How an array without a fault is found, by the places of its bytes, before anything is told of them: words of private contracts.
 use Rattle.std.specs.Prelude.{◌≡◌, ℕ, ◌+◌, ◌*◌, ◌<◌, min, List, [], slice_get, Option, Some, None, Result, Ok, Err, unwrap_or, IsSome}
 use Rattle.arrow_buffers.specs.declared.fault.BufferFault.{BufferFault}
 use Rattle.arrow_buffers.specs.Bits.{is_valid}
@@ -62,7 +62,7 @@ pub record Finds (batch : BatchIn) (a : ArrayPlace) (v : ColumnView) : Type 0 wh
   pub above : v.above.now ≡ []
   pub top : v.top.now ≡ []
 
--- a column of the cells of an array that stands so deep at most: with as many bitmaps
+-- a column of the cells of an array that stands at most at that depth: with at most one bitmap for each struct above
 pub record FindsWithin (depth : ℕ) (arrays : List ArraySpec) (batch : BatchIn) (place : ℕ) (v : ColumnView) : Type 0 where
   pub cells : (row : ℕ) → cell_seen v row ≡ cell_within depth arrays batch place row
   pub full : IsFull v

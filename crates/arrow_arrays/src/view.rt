@@ -1,7 +1,8 @@
 //! The array at a place of a batch, with its faults.
 
 ghost use Rattle.std.specs.Prelude.{◌≡◌, ◌+◌, ◌^◌, ◌<◌};
-ghost use Rattle.arrow_arrays.specs.Cells.{Gives, length_in, rows_in, nulls_in, buffer_in, validity_in, bits_in, fixed_in, vars_in, elements_in, elements_of, lists_in, values_in, array_in, content_check};
+ghost use Rattle.arrow_arrays.specs.Cells.{length_in, rows_in, nulls_in, buffer_in, validity_in, bits_in, fixed_in, vars_in, elements_in, elements_of, lists_in, values_in, array_in, content_check};
+ghost use Rattle.arrow_arrays.specs.Returned.{Gives};
 
 use crate::layout::{ELEMENT_LEN, Layout};
 use crate::place::ArrayPlace;
