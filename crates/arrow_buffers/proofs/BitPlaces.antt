@@ -11,7 +11,7 @@ pushes : (count : ℕ) (bit : Bool) (old new : List ℕ) → IsPacked count old 
 pushes count bit old new packed len bits = record {
   packed = record {
     len = omega arith;
-    spare = λ k behind. bits k ∙ cond-false (k == count) bit (bit_at old k) (ne_eqb k count (omega arith)) ∙ packed.spare k (omega arith);
+    spare = λ k beyond. bits k ∙ cond-false (k == count) bit (bit_at old k) (ne_eqb k count (omega arith)) ∙ packed.spare k (omega arith);
   };
   bits = bits;
 }

@@ -86,7 +86,7 @@ zeros-after count all old packed more =
           elim (cases_lt (k / 8) (length new)) [
             | inl within ↦
                 bit_at-same new old k (get_or-append_right old zeros (length old) (k / 8) 0 refl past ∙ get_or-replicate n (k / 8 - length old) 0 0 (omega arith) ∙ sym (get_or_past old (k / 8) 0 past))
-            | inr behind ↦ bit_at-past new k behind ∙ sym (bit_at-past old k past)
+            | inr beyond ↦ bit_at-past new k beyond ∙ sym (bit_at-past old k past)
           ]
     ] in
     record {

@@ -96,7 +96,7 @@ pub parts_stand : (width : ℕ) (parts old new : List ℕ) (pad place count : �
 parts_stand width parts old new pad place count whole fits padded put here =
     stands_put (IsParts width parts) count parts old new pad place put here (parts_put width count parts pad (length old) whole fits padded)
 
--- a reference of so many bytes leads as far from the end as the place that it is to refer to
+-- a reference of that number of bytes leads as far from the end as the place that it is to refer to
 pub referred_is : (bytes : List ℕ) (place distance to : ℕ) → distance < 2 ^ 32 → place + distance ≡ to → Lies (little_bytes 4 distance) bytes place → referred bytes place ≡ Ok to
 unfolding referred
 referred_is bytes place distance to fits e l = rw (number_at-lies 4 distance bytes place (omega arith) l) (ap Ok e)

@@ -63,9 +63,9 @@ lies_at part bytes place place' e l = subst (Lies part bytes) e l
 -- what stands within a part
 pub take-lies : (n i : ℕ) (part bytes : List ℕ) (place : ℕ) → i + n ≤ length part → Lies part bytes place → take n (drop (place + i) bytes) ≡ take n (drop i part)
 take-lies n i part bytes place h l =
-    let behind : drop (place + i) bytes ≡ drop i part ++ l.rest =
+    let from_there : drop (place + i) bytes ≡ drop i part ++ l.rest =
     sym (drop-drop i place bytes) ∙ ap (drop i) (lies_drop part bytes place l) ∙ drop-append-le i part l.rest (omega arith) in
-    ap (take n) behind ∙ take-append-le n (drop i part) l.rest (omega (arith, length-drop i part))
+    ap (take n) from_there ∙ take-append-le n (drop i part) l.rest (omega (arith, length-drop i part))
 
 -- each of the numbers of a list
 pub numbers_lie : {A : Type 0} (width : ℕ) (number : ℕ → A → ℕ) (index : ℕ) (xs : List A) (bytes : List ℕ) (place k : ℕ) (d : A) → k < length xs

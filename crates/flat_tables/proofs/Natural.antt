@@ -6,7 +6,7 @@ use Rattle.std.specs.Int.{w64, FitsUnsigned}
 use Rattle.flat_tables.specs.declared.fault.FlatFault.TheVariants.{OutOfRange}
 use Rattle.flat_tables.specs.Tables.{natural}
 
--- what `checked_sub_signed` answers, below the greatest number
+-- what `checked_sub_signed` returns, below the greatest number
 pub natural_place : (z : ℤ) (r : Option ℕ) → z <ℤ pos (2 ^ 64) → SomeIff r (FitsUnsigned w64 z) (unsigned_abs z) → ok_or r OutOfRange ≡ natural z
 natural_place (pos n) (Some x) lt h = ap Ok h.1
 natural_place (pos n) None lt h = absurd (h (omega (arith, ints), lt))
