@@ -1,5 +1,5 @@
 -- Steps of a reading that may fail.
-use Rattle.std.proofs.Common.{◌≡◌, ℕ, Bool, true, false, cond, List, Some, Result, Ok, Err, refl, ap, subst, ◌⊎◌, inl, inr}
+use Rattle.std.proofs.Common.{◌≡◌, ℕ, List, Some, Result, Ok, Err, refl, ap, subst, ◌⊎◌, inl, inr}
 use Rattle.cbor_values.specs.declared.refusal.CborRefusal.{CborRefusal}
 use Rattle.cbor_values.specs.Reading.{◌>>=◌, Reading}
 
@@ -20,11 +20,6 @@ pub bind_err : {A B : Type 0} (r : Result A CborRefusal) (f : A → Result B Cbo
     → (r >>= f) ≡ Err d → (r ≡ Err d) ⊎ ((x : A) × (r ≡ Ok x) × (f x ≡ Err d))
 bind_err (Ok x) f d e = inr (x, refl, e)
 bind_err {A} {B} (Err c) f d e = inl (ap (failed A) (err_is {A = B} c d e))
-
--- which way a choice went
-pub chosen : {A : Type 0} (b : Bool) (x y z : A) → cond b x y ≡ z → ((b ≡ true) × (x ≡ z)) ⊎ ((b ≡ false) × (y ≡ z))
-chosen true x y z e = inl (refl, e)
-chosen false x y z e = inr (refl, e)
 
 abbrev pub done : {A : Type 0} → A → Result A CborRefusal
 done x = Ok x

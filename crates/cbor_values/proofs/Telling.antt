@@ -1,10 +1,10 @@
 -- What is told of parts, one after the other, as loops do.
-use Rattle.std.proofs.Common.{◌≡◌, ℕ, suc, ◌+◌, ◌-◌, ◌^◌, ◌<◌, ◌≤◌, min, List, [], ◌∷◌, ◌++◌, Some, None, Ok, Err, refl, sym, ◌∙◌, arith}
+use Rattle.std.proofs.Common.{◌≡◌, ℕ, suc, ◌+◌, ◌-◌, ◌^◌, ◌<◌, ◌≤◌, min, List, [], ◌∷◌, ◌++◌, Some, None, Err, refl, sym, ◌∙◌, arith}
 use Rattle.std.proofs.lemmas.List.{length-append}
 use Rattle.otlp_model.specs.Weight.{total}
 use Rattle.cbor_values.specs.declared.refusal.CborRefusal.{CborRefusal}
 use Rattle.cbor_values.specs.declared.refusal.CborRefusal.TheVariants.{Cut}
-use Rattle.cbor_values.specs.Reading.{Reading, break_at, many_at, until_at, open_at, chunks_at}
+use Rattle.cbor_values.specs.Reading.{Reading, break_at, many_at, until_at, open_at}
 use Rattle.cbor_values.specs.Weighing.{IsTold, long}
 use Rattle.cbor_values.proofs.Steps.{got}
 use Rattle.cbor_values.proofs.Bytes.{IsBytes}
@@ -29,18 +29,6 @@ pub record ManyTold {X : Type 0} (weigh : X → ℕ) (one : List ℕ → Reading
   pub front : List X
   pub of : weight ≡ capped_total weigh front
   pub told : with_front front (many_at one (count - i) rest) ≡ all
-
-none_yet : {X : Type 0} (r : Reading (List X)) → with_front [] r ≡ r
-none_yet (Ok x) = refl
-none_yet (Err e) = refl
-
-pub many_begin : {X : Type 0} (weigh : X → ℕ) (one : List ℕ → Reading X) (count : ℕ) (bytes : List ℕ)
-    → ManyTold weigh one count 0 0 bytes (many_at one count bytes)
-many_begin weigh one count bytes = record {
-  front = [];
-  of = omega arith;
-  told = let left : count - 0 ≡ count = omega arith in rw left (none_yet (many_at one count bytes));
-}
 
 pub many_more : {X : Type 0} (weigh : X → ℕ) (one : List ℕ → Reading X) (count i weight new : ℕ) (rest : List ℕ) (x : X) (after : List ℕ) (all : Reading (List X))
     → i < count → ManyTold weigh one count i weight rest all → one rest ≡ got x after
@@ -74,10 +62,6 @@ pub record OpenTold {X : Type 0} (weigh : X → ℕ) (one : List ℕ → Reading
   pub of : weight ≡ capped_total weigh front
   pub told : with_front front (open_at one rest) ≡ all
   pub fits : IsBytes rest
-
-pub open_begin : {X : Type 0} (weigh : X → ℕ) (one : List ℕ → Reading X) (bytes : List ℕ) → IsBytes bytes
-    → OpenTold weigh one 0 bytes (open_at one bytes)
-open_begin weigh one bytes fits = record { front = []; of = omega arith; told = none_yet (open_at one bytes); fits = fits }
 
 pub open_more : {X : Type 0} (weigh : X → ℕ) (R : List ℕ → X → Type 0) (one : List ℕ → Reading X) → Reader R one
     → (weight new : ℕ) (rest : List ℕ) (x : X) (after : List ℕ) (all : Reading (List X))
@@ -117,9 +101,6 @@ pub record ChunksTold (one : List ℕ → Reading (List ℕ)) (len : ℕ) (rest 
   pub of : len ≡ long text
   pub told : with_text text (open_at one rest) ≡ all
   pub fits : IsBytes rest
-
-pub chunks_begin : (one : List ℕ → Reading (List ℕ)) (bytes : List ℕ) → IsBytes bytes → ChunksTold one 0 bytes (chunks_at one bytes)
-chunks_begin one bytes fits = record { text = []; of = omega arith; told = refl; fits = fits }
 
 pub chunks_more : (R : List ℕ → List ℕ → Type 0) (one : List ℕ → Reading (List ℕ)) → Reader R one
     → (len new : ℕ) (rest part after : List ℕ) (all : Reading (List ℕ)) → break_at rest ≡ None → ChunksTold one len rest all
