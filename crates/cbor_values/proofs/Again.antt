@@ -137,11 +137,11 @@ pub pair_start : (one : List ℕ → Reading Value) → Starts (pair_at one)
 unfolding pair_at key_at
 pair_start one = record { nothing = rw head_of_nothing refl; broken = λ rest. rw (head_of_break rest) refl }
 
--- an item whose value is at most so deep
+-- an item whose value has at most that depth
 abbrev pub Shallow : ℕ → List ℕ → Value → Type 0
 Shallow d bytes value = Cbor bytes value × (depth_of value ≤ d)
 
--- a pair whose value is at most so deep
+-- a pair whose value has at most that depth
 pub record ShallowPair (d : ℕ) (bytes : List ℕ) (pair : Pair) : Type 0 where
   pub key_bytes : List ℕ
   pub value_bytes : List ℕ

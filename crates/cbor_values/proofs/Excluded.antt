@@ -19,8 +19,8 @@ use Rattle.cbor_values.specs.Strings.{IsAny, Chunks}
 use Rattle.cbor_values.specs.Cbor.{Cbor}
 use Rattle.cbor_values.specs.Items.{IsItem, AreItems, ArePairs}
 use Rattle.cbor_values.specs.Refusals as places
-use Rattle.cbor_values.specs.Refusals.{Place, may_break, begins, IsCutHead, IsCutString, IsBadHead, IsBadKey, IsBadText, IsOutOfRange, IsTooDeep, Faults, IsOtherChunk, ChunkFaults}
-use Rattle.cbor_values.specs.Refusals.{GoesOn, definite, indefinite, Within, at_front, in_bytes, in_text, in_array, in_key, in_value, IsTrailing, Stands}
+use Rattle.cbor_values.specs.Refusals.{Due, may_break, begins, IsCutHead, IsCutString, IsBadHead, IsBadKey, IsBadText, IsOutOfRange, IsTooDeep, Faults, IsOtherChunk, ChunkFaults}
+use Rattle.cbor_values.specs.Refusals.{GoesOn, definite, indefinite, Within, at_front, in_bytes, in_text, in_array, in_key, in_value, Stands}
 use Rattle.cbor_values.specs.Reading.{◌>>=◌, Reading, part_at, argument_at, kind_of, head_at, break_at, many_at, until_at, open_at, joined, letters_at}
 use Rattle.cbor_values.specs.Reading.{octets_of_head, letters_of_head, octets_chunk_at, text_chunk_at, octets_at, text_at, key_of_head, key_at, pair_at, whole_of, body_at, item_at}
 use Rattle.cbor_values.proofs.Steps.{bind_ok, ok_is, got}
@@ -39,7 +39,7 @@ pub data Use (d : ℕ) (kind : Head) (inner : List ℕ) : Type 0 where
   as_key : (x : List ℕ × List ℕ) → key_of_head kind inner ≡ Ok x → Use d kind inner
 
 -- what is due there is read, d levels being left
-abbrev pub Reach : ℕ → Place → List ℕ → Type 0
+abbrev pub Reach : ℕ → Due → List ℕ → Type 0
 Reach d (places.item may) bytes = (x : Value × List ℕ) × (item_at d bytes ≡ Ok x)
 Reach d (places.key may) bytes = (x : Pair × List ℕ) × (pair_at (item_at d) bytes ≡ Ok x)
 Reach d places.value bytes = (x : Value × List ℕ) × (item_at d bytes ≡ Ok x)
@@ -71,7 +71,7 @@ key_read d bytes x read =
     make : List ℕ → Value → Pair
     make key value = record { key = key; value = value }
 
-was_read : (d : ℕ) (place : Place) (bytes : List ℕ) → Reach d place bytes → Read d bytes
+was_read : (d : ℕ) (place : Due) (bytes : List ℕ) → Reach d place bytes → Read d bytes
 was_read d (places.item may) bytes r = item_read d bytes r.0 r.1
 was_read d (places.key may) bytes r = key_read d bytes r.0 r.1
 was_read d places.value bytes r = item_read d bytes r.0 r.1
@@ -279,7 +279,7 @@ key_is_text d bytes x fits read =
     make : List ℕ → Value → Pair
     make key value = record { key = key; value = value }
 
-no_bad_key : (d : ℕ) (place : Place) (bytes : List ℕ) → IsBytes bytes → Reach d place bytes → IsBadKey place bytes → ⊥
+no_bad_key : (d : ℕ) (place : Due) (bytes : List ℕ) → IsBytes bytes → Reach d place bytes → IsBadKey place bytes → ⊥
 no_bad_key d place [] fits r bad = bad
 no_bad_key d (places.item may) (first ∷ rest) fits r bad = bad
 no_bad_key d (places.key may) (first ∷ rest) fits r bad = bad.0 (key_is_text d (first ∷ rest) r.0 fits r.1)
@@ -291,7 +291,7 @@ not_too_deep : (d inside : ℕ) (bytes : List ℕ) → d + inside ≡ 32 → 0 <
 not_too_deep d inside [] sum some deep = deep
 not_too_deep d inside (first ∷ rest) sum some deep = let far = deep.1 in absurd (omega arith)
 
-no_fault : (e : CborRefusal) (place : Place) (inside : ℕ) (bytes : List ℕ) (d : ℕ) → d + inside ≡ 32 → IsBytes bytes → Reach d place bytes
+no_fault : (e : CborRefusal) (place : Due) (inside : ℕ) (bytes : List ℕ) (d : ℕ) → d + inside ≡ 32 → IsBytes bytes → Reach d place bytes
     → Faults e place inside bytes → ⊥
 no_fault Cut place inside bytes d sum fits r (inl cut) = let read = was_read d place bytes r in whole_head bytes (read.kind, read.inner) cut read.front
 no_fault Cut place inside bytes d sum fits r (inr (inl cut)) = no_cut_octets d bytes (was_read d place bytes r) cut
@@ -320,7 +320,7 @@ break_is_whole bytes after is cut =
     let low = told.1 in
     absurd (omega arith)
 
-no_fault_at_break : (e : CborRefusal) (place : Place) (inside : ℕ) (bytes after : List ℕ) → may_break place ≡ true → bytes ≡ 255 ∷ after
+no_fault_at_break : (e : CborRefusal) (place : Due) (inside : ℕ) (bytes after : List ℕ) → may_break place ≡ true → bytes ≡ 255 ∷ after
     → Faults e place inside bytes → ⊥
 no_fault_at_break Cut place inside bytes after may is (inl cut) = break_is_whole bytes after is cut
 no_fault_at_break Cut place inside bytes after may is (inr (inl c)) = seven 2 bytes after (omega arith) is (head_told 2 c.n bytes c.head c.rest c.is c.is_head)
@@ -350,7 +350,7 @@ goes_major major k _ _ rest indefinite = let told : (32 * major + 31) / 32 ≡ m
 other_first : (first : ℕ) (bytes after : List ℕ) → first < 255 → first ∷ bytes ≡ 255 ∷ after → ⊥
 other_first first bytes after small is = let same : first ≡ 255 = cc in absurd (omega arith)
 
-not_at_break : (e : CborRefusal) (place : Place) (inside : ℕ) (bytes : List ℕ) → Within e place inside bytes → (after : List ℕ)
+not_at_break : (e : CborRefusal) (place : Due) (inside : ℕ) (bytes : List ℕ) → Within e place inside bytes → (after : List ℕ)
     → may_break place ≡ true → bytes ≡ 255 ∷ after → ⊥
 not_at_break e _ _ _ (at_front place inside bytes fault) after may is = no_fault_at_break e place inside bytes after may is fault
 not_at_break e _ _ _ (in_bytes place inside chunks joined rest are fault) after may is = other_first 95 (chunks ++ rest) after (omega arith) is
@@ -618,7 +618,7 @@ key_at_break key_bytes rest tail is broken =
 suffix : (head middle rest : List ℕ) → IsBytes (head ++ (middle ++ rest)) → IsBytes rest
 suffix head middle rest fits = IsBytes-suffix middle rest (IsBytes-suffix head (middle ++ rest) fits)
 
-pub excluded : (e : CborRefusal) (place : Place) (inside : ℕ) (bytes : List ℕ) → Within e place inside bytes
+pub excluded : (e : CborRefusal) (place : Due) (inside : ℕ) (bytes : List ℕ) → Within e place inside bytes
     → (d : ℕ) → d + inside ≡ 32 → IsBytes bytes → Reach d place bytes → ⊥
 excluded e _ _ _ (at_front place inside bytes fault) d sum fits r = no_fault e place inside bytes d sum fits r fault
 excluded e _ _ _ (in_bytes place inside chunks joined rest are fault) d sum fits r =

@@ -10,11 +10,11 @@ use Rattle.cbor_values.specs.declared.heads.Head.{Head}
 use Rattle.cbor_values.specs.declared.heads.Head.TheVariants as heads
 use Rattle.cbor_values.specs.Floats.{of_half, of_single}
 use Rattle.cbor_values.specs.Heads.{IsHead, short, long, argument_len}
-use Rattle.cbor_values.specs.Refusals.{Place, may_break, begins, IsCutHead, IsCutString, IsBadText, Faults, IsOtherChunk, ChunkFaults}
+use Rattle.cbor_values.specs.Refusals.{Due, may_break, begins, IsCutHead, IsCutString, IsBadText, Faults, IsOtherChunk, ChunkFaults}
 use Rattle.cbor_values.specs.Reading.{◌>>=◌, part_at, argument_at, number_of, kind_of, float_at, head_at, break_at, letters_at, octets_of_head, letters_of_head, octets_chunk_at, text_chunk_at}
 use Rattle.cbor_values.proofs.Steps.{bind_err, err_is, failed, got}
 use Rattle.cbor_values.proofs.Bytes.{IsBytes, IsBytes-tail}
-use Rattle.cbor_values.proofs.Takes.{IsArgument, direct, behind, none, IsFront, IsSized, IsDouble, half, single, double, argument_takes, head_takes, part_split}
+use Rattle.cbor_values.proofs.Takes.{IsArgument, direct, following, none, IsFront, IsSized, IsDouble, half, single, double, argument_takes, head_takes, part_split}
 
 -- ---- heads
 
@@ -103,7 +103,7 @@ argument_fails info bytes e fails = elim (cases_Bool (ltb info 24)) [
 number_fails : (make : ℕ → Head) (info : ℕ) (part : List ℕ) (argument : Option ℕ) (e : CborRefusal) → IsArgument info part argument
     → number_of make argument ≡ Err e → (BadHead ≡ e) × (info ≡ 31)
 number_fails make info _ _ e (direct small) fails = absurd cc
-number_fails make info _ _ e (behind n low high fits) fails = absurd cc
+number_fails make info _ _ e (following n low high fits) fails = absurd cc
 number_fails make info _ _ e (none open_ended) fails = (err_is {A = Head} BadHead e fails, open_ended)
 
 kind_fails : (first : ℕ) (part : List ℕ) (argument : Option ℕ) (e : CborRefusal)
@@ -212,7 +212,7 @@ closed_unbroken may [] unbroken = tt
 closed_unbroken may (first ∷ rest) unbroken = λ e. absurd (let clash = rw (eq-eqb first 255 e) at unbroken in cc)
 
 -- a head that isn't read is a fault at its place
-pub head_faults : (place : Place) (inside : ℕ) (bytes : List ℕ) (e : CborRefusal) → Closed (may_break place) bytes
+pub head_faults : (place : Due) (inside : ℕ) (bytes : List ℕ) (e : CborRefusal) → Closed (may_break place) bytes
     → HeadFails e bytes → Faults e place inside bytes
 head_faults place inside bytes e closed (inl cut) = subst (λ (d : CborRefusal). Faults d place inside bytes) cut.0 (inl cut.1)
 head_faults place inside [] e closed (inr bad) = absurd bad.1

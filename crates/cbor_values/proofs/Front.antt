@@ -10,7 +10,7 @@ use Rattle.cbor_values.specs.declared.heads.Head.TheVariants as heads
 use Rattle.cbor_values.specs.Heads.{IsHead, short, long, argument_len}
 use Rattle.cbor_values.specs.Reading.{◌>>=◌, part_at, argument_at, kind_of, float_at, head_at}
 
--- so many bytes are there
+-- exactly that number of bytes is there
 pub part_again : (part rest : List ℕ) (n : ℕ) → length part ≡ n → part_at n (part ++ rest) ≡ Ok (part, rest)
 part_again part rest n len =
     rw (le-ltb (length (part ++ rest)) n (omega (arith, length-append part rest)), take_at part rest n len, drop_at part rest n len) refl

@@ -1,4 +1,4 @@
--- A refusal that is answered stands in the bytes.
+-- A refusal that is returned stands in the bytes.
 use Rattle.std.proofs.Common.{◌≡◌, ℕ, zero, suc, ◌+◌, ◌^◌, ◌<◌, Bool, true, false, ltb, List, [], ◌∷◌, ◌++◌, length, Option, Some, None, Ok, Err, sym, ap, subst, ◌∙◌, arith, inl, inr}
 use Rattle.std.specs.Prelude.{pos, negsuc}
 use Rattle.std.specs.Str.{IsUtf8}
@@ -14,8 +14,8 @@ use Rattle.cbor_values.specs.Heads.{IsHead}
 use Rattle.cbor_values.specs.Strings.{IsAny}
 use Rattle.cbor_values.specs.Items.{ArePairs}
 use Rattle.cbor_values.specs.Refusals as places
-use Rattle.cbor_values.specs.Refusals.{Place, may_break, IsOutOfRange, IsBadKey, Faults, ChunkFaults, GoesOn, definite, indefinite, Within}
-use Rattle.cbor_values.specs.Refusals.{at_front, in_bytes, in_text, in_array, in_key, in_value, IsTrailing, Stands, Refuses}
+use Rattle.cbor_values.specs.Refusals.{Due, may_break, IsBadKey, Faults, GoesOn, definite, indefinite, Within}
+use Rattle.cbor_values.specs.Refusals.{at_front, in_bytes, in_text, in_array, in_key, in_value, IsTrailing, Stands}
 use Rattle.cbor_values.specs.Reading.{◌>>=◌, head_at, many_at, open_at, joined, octets_chunk_at, text_chunk_at, octets_at, text_at, key_of_head, key_at, pair_at, whole_of, body_at, item_at, whole_item, all_at}
 use Rattle.cbor_values.proofs.Steps.{bind_err, err_is, failed, got}
 use Rattle.cbor_values.proofs.Bytes.{IsBytes}
@@ -29,18 +29,18 @@ use Rattle.cbor_values.proofs.Faulty.{Closed, closed_never, closed_unbroken, hea
 use Rattle.cbor_values.proofs.Faulty.{cut_string, bad_text, octets_chunk_fails, text_chunk_fails, major_of, TellsMajor, front_major}
 
 -- a fault under its name
-fault : (place : Place) (inside : ℕ) (bytes : List ℕ) (d e : CborRefusal) → d ≡ e → Faults d place inside bytes
+fault : (place : Due) (inside : ℕ) (bytes : List ℕ) (d e : CborRefusal) → d ≡ e → Faults d place inside bytes
     → Within e place inside bytes
 fault place inside bytes d e same is = at_front place inside bytes (subst (λ (r : CborRefusal). Faults r place inside bytes) same is)
 
 -- bytes that are told apart
-at_bytes : (e : CborRefusal) (place : Place) (inside : ℕ) (bytes told : List ℕ) → bytes ≡ told → Within e place inside told
+at_bytes : (e : CborRefusal) (place : Due) (inside : ℕ) (bytes told : List ℕ) → bytes ≡ told → Within e place inside told
     → Within e place inside bytes
 at_bytes e place inside bytes told same is = subst (λ (b : List ℕ). Within e place inside b) (sym same) is
 
 -- ---- strings
 
-octets_refused : (place : Place) (inside : ℕ) (front : List ℕ) (size : Option ℕ) (bytes inner : List ℕ) (e : CborRefusal)
+octets_refused : (place : Due) (inside : ℕ) (front : List ℕ) (size : Option ℕ) (bytes inner : List ℕ) (e : CborRefusal)
     → bytes ≡ front ++ inner → IsBytes inner → IsSized 2 front size → octets_at size inner ≡ Err e → Within e place inside bytes
 unfolding octets_at
 octets_refused place inside front (Some n) bytes inner e parts fits is fails =
@@ -57,7 +57,7 @@ octets_refused place inside front None bytes inner e parts fits is fails =
       | inr never ↦ absurd (let clash = never.2 in cc)
     ]
 
-text_refused : (place : Place) (inside : ℕ) (front : List ℕ) (size : Option ℕ) (bytes inner : List ℕ) (e : CborRefusal)
+text_refused : (place : Due) (inside : ℕ) (front : List ℕ) (size : Option ℕ) (bytes inner : List ℕ) (e : CborRefusal)
     → bytes ≡ front ++ inner → IsBytes inner → IsSized 3 front size → text_at size inner ≡ Err e → Within e place inside bytes
 unfolding text_at
 text_refused place inside front (Some n) bytes inner e parts fits is fails = elim (letters_fail n inner e fits fails) [
@@ -117,7 +117,7 @@ key_refused may inside bytes e fits closed fails =
 -- ---- items
 
 -- an item that may be no deeper
-too_deep : (place : Place) (inside : ℕ) (bytes : List ℕ) (head : Head × List ℕ) → inside ≡ 32 → head_at bytes ≡ Ok head
+too_deep : (place : Due) (inside : ℕ) (bytes : List ℕ) (head : Head × List ℕ) → inside ≡ 32 → head_at bytes ≡ Ok head
     → Faults TooDeep place inside bytes
 unfolding item_at
 too_deep place inside bytes head deep read = go bytes read
@@ -129,7 +129,7 @@ too_deep place inside bytes head deep read = go bytes read
       omega arith,
     )
 
-out_of_range : (major n : ℕ) (make : ℕ → Value) (front bytes inner : List ℕ) (e : CborRefusal) (place : Place) (inside : ℕ) → major < 2
+out_of_range : (major n : ℕ) (make : ℕ → Value) (front bytes inner : List ℕ) (e : CborRefusal) (place : Due) (inside : ℕ) → major < 2
     → bytes ≡ front ++ inner → IsHead major n front → (whole_of n >>= λ n. got (make n) inner) ≡ Err e → Within e place inside bytes
 out_of_range major n make front bytes inner e place inside low parts is fails = elim (cases_Bool (ltb n (2 ^ 63))) [
   | inl small ↦ absurd (let clash = rw small at fails in cc)
@@ -140,11 +140,11 @@ out_of_range major n make front bytes inner e place inside low parts is fails = 
 
 -- what stands within an item, d levels being left
 abbrev pub ItemRefused : ℕ → ℕ → Type 0
-ItemRefused d inside = (place : Place) (bytes : List ℕ) (e : CborRefusal) → IsBytes bytes → Closed (may_break place) bytes
+ItemRefused d inside = (place : Due) (bytes : List ℕ) (e : CborRefusal) → IsBytes bytes → Closed (may_break place) bytes
     → item_at d bytes ≡ Err e → Within e place inside bytes
 
 -- what stopped a reading of pairs: a key, or a value after its key
-pair_refused : (d inside : ℕ) → ItemRefused d (suc inside) → (place : Place) (k : ℕ) (may : Bool) (head pairs rest : List ℕ) (e : CborRefusal)
+pair_refused : (d inside : ℕ) → ItemRefused d (suc inside) → (place : Due) (k : ℕ) (may : Bool) (head pairs rest : List ℕ) (e : CborRefusal)
     → GoesOn 5 k may head → ArePairs k pairs → IsBytes rest → Closed may rest → pair_at (item_at d) rest ≡ Err e
     → Within e place inside (head ++ (pairs ++ rest))
 unfolding pair_at
@@ -168,7 +168,7 @@ pair_refused d inside refused place k may head pairs rest e on are fits closed f
 split_front : (front bytes inner middle rest : List ℕ) → bytes ≡ front ++ inner → inner ≡ middle ++ rest → bytes ≡ front ++ (middle ++ rest)
 split_front front bytes inner middle rest parts split = parts ∙ ap (λ (t : List ℕ). front ++ t) split
 
-body_refused : (d inside : ℕ) → ItemRefused d (suc inside) → (place : Place) (front : List ℕ) (head : Head) (bytes inner : List ℕ) (e : CborRefusal)
+body_refused : (d inside : ℕ) → ItemRefused d (suc inside) → (place : Due) (front : List ℕ) (head : Head) (bytes inner : List ℕ) (e : CborRefusal)
     → bytes ≡ front ++ inner → IsBytes inner → IsFront front head → body_at (item_at d) head inner ≡ Err e → Within e place inside bytes
 unfolding body_at
 body_refused d inside refused place front heads.Null bytes inner e parts fits is fails = absurd cc
@@ -257,7 +257,7 @@ within_stands OutOfRange bytes is = is
 within_stands TooDeep bytes is = is
 within_stands Trailing bytes is = absurd (no_trailing (places.item false) 0 bytes is)
   where
-    no_trailing : (place : Place) (inside : ℕ) (bytes : List ℕ) → Within Trailing place inside bytes → ⊥
+    no_trailing : (place : Due) (inside : ℕ) (bytes : List ℕ) → Within Trailing place inside bytes → ⊥
     no_trailing _ _ _ (at_front place inside bytes fault) = fault
     no_trailing _ _ _ (in_bytes place inside chunks joined rest are fault) = fault
     no_trailing _ _ _ (in_text place inside chunks joined rest are fault) = fault
@@ -266,7 +266,7 @@ within_stands Trailing bytes is = absurd (no_trailing (places.item false) 0 byte
     no_trailing _ _ _ (in_value place inside k may head pairs key_bytes rest on are is_item inner) = no_trailing places.value (suc inside) rest inner
 within_stands (Memory error) bytes is = absurd (no_memory (places.item false) 0 bytes is)
   where
-    no_memory : (place : Place) (inside : ℕ) (bytes : List ℕ) → Within (Memory error) place inside bytes → ⊥
+    no_memory : (place : Due) (inside : ℕ) (bytes : List ℕ) → Within (Memory error) place inside bytes → ⊥
     no_memory _ _ _ (at_front place inside bytes fault) = fault
     no_memory _ _ _ (in_bytes place inside chunks joined rest are fault) = fault
     no_memory _ _ _ (in_text place inside chunks joined rest are fault) = fault

@@ -30,7 +30,7 @@ pub record Taken {X : Type 0} (R : List ℕ → X → Type 0) (bytes : List ℕ)
 
 -- ---- heads
 
--- so many bytes
+-- exactly n bytes
 pub record IsPart (n : ℕ) (front part : List ℕ) : Type 0 where
   pub same : front ≡ part
   pub size : length part ≡ n
@@ -52,10 +52,10 @@ part_takes n bytes part rest fits e = elim (cases_Bool (ltb (length bytes) n)) [
       got_is (Taken (IsPart n) bytes) (take n bytes) (drop n bytes) part rest read here
 ]
 
--- the argument that additional information stands for, in so many bytes
+-- the argument that additional information stands for, in that number of bytes
 pub data IsArgument (info : ℕ) : List ℕ → Option ℕ → Type 0 where
   direct : info < 24 → IsArgument info [] (Some info)
-  behind : (n : ℕ) → 24 ≤ info → info < 28 → n < 256 ^ argument_len info
+  following : (n : ℕ) → 24 ≤ info → info < 28 → n < 256 ^ argument_len info
       → IsArgument info (big_bytes (argument_len info) n) (Some n)
   none : info ≡ 31 → IsArgument info [] None
 
@@ -83,7 +83,7 @@ argument_takes info bytes argument rest fits e = elim (cases_Bool (ltb info 24))
         got_is (Taken (IsArgument info) bytes) (Some n) b.0.1 argument rest b.2
         (record {
           front = big_bytes (argument_len info) n;
-          is = behind n (ltb-false info 24 large) (ltb-true info 28 wide) spelled.1;
+          is = following n (ltb-false info 24 large) (ltb-true info 28 wide) spelled.1;
           parts = subst (λ (f : List ℕ). bytes ≡ f ++ b.0.1) same t.parts;
           fits = t.fits;
         })
@@ -124,7 +124,7 @@ sized_by : (first : ℕ) (part : List ℕ) (argument : Option ℕ) → IsArgumen
 sized_by first _ _ (direct small) =
     let whole_byte : 32 * (first / 32) + first % 32 ≡ first = omega arith in
     subst (λ (f : ℕ). IsHead (first / 32) (first % 32) (f ∷ [])) whole_byte (short small)
-sized_by first _ _ (behind n low high fits) =
+sized_by first _ _ (following n low high fits) =
     let whole_byte : 32 * (first / 32) + first % 32 ≡ first = omega arith in
     subst (λ (f : ℕ). IsHead (first / 32) n (f ∷ big_bytes (argument_len (first % 32)) n)) whole_byte (long (first % 32) low high fits)
 sized_by first _ _ (none open_ended) =
@@ -230,7 +230,7 @@ head_takes (first ∷ bytes) kind rest fits e =
 
 -- ---- rows
 
--- so many things
+-- exactly n things
 pub record TakenRow {X : Type 0} (R : List ℕ → X → Type 0) (bytes : List ℕ) (xs : List X) (rest : List ℕ) : Type 0 where
   pub front : List ℕ
   pub row : Row R front xs

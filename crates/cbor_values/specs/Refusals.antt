@@ -10,13 +10,13 @@ use Rattle.cbor_values.specs.Items.{IsItem, AreItems, ArePairs}
 
 -- What is due at a place, and whether a break may stand there: an item, alone or in an array; the key of a pair; the
 -- value of a pair.
-pub data Place : Type 0 where
-  item : Bool → Place
-  key : Bool → Place
-  value : Place
+pub data Due : Type 0 where
+  item : Bool → Due
+  key : Bool → Due
+  value : Due
 
 -- a break may stand there: it ends an array or a map of indefinite length
-abbrev pub may_break : Place → Bool
+abbrev pub may_break : Due → Bool
 may_break (item may) = may
 may_break (key may) = may
 may_break value = false
@@ -49,7 +49,7 @@ IsBadHead may [] = ⊥
 IsBadHead may (first ∷ rest) = (begins (first / 32) (first % 32) ≡ false) × (first ≡ 255 → may ≡ false)
 
 -- a key that is no text, and no break that may stand there, or a break in the place of a value
-abbrev pub IsBadKey : Place → List ℕ → Type 0
+abbrev pub IsBadKey : Due → List ℕ → Type 0
 IsBadKey place [] = ⊥
 IsBadKey (item may) (first ∷ rest) = ⊥
 IsBadKey (key may) (first ∷ rest) = (first / 32 ≢ 3) × (first ≡ 255 → may ≡ false)
@@ -81,7 +81,7 @@ IsTooDeep inside [] = ⊥
 IsTooDeep inside (first ∷ rest) = (first ≢ 255) × (depth_limit ≤ inside)
 
 -- what is wrong at the front of the bytes, where that is due, inside that number of arrays and maps
-abbrev pub Faults : CborRefusal → Place → ℕ → List ℕ → Type 0
+abbrev pub Faults : CborRefusal → Due → ℕ → List ℕ → Type 0
 Faults Cut place inside bytes = IsCutHead bytes ⊎ IsCutString 2 bytes ⊎ IsCutString 3 bytes
 Faults BadHead place inside bytes = IsBadHead (may_break place) bytes
 Faults BadKey place inside bytes = IsBadKey place bytes
@@ -110,20 +110,20 @@ pub data GoesOn (major k : ℕ) : Bool → List ℕ → Type 0 where
 
 -- The refusal stands at the front of the bytes, where that is due, inside that number of arrays and maps: in the front itself,
 -- or within the string, array or map that begins there, after chunks, items and pairs.
-pub data Within (refusal : CborRefusal) : Place → ℕ → List ℕ → Type 0 where
-  at_front : (place : Place) (inside : ℕ) (bytes : List ℕ) → Faults refusal place inside bytes
+pub data Within (refusal : CborRefusal) : Due → ℕ → List ℕ → Type 0 where
+  at_front : (place : Due) (inside : ℕ) (bytes : List ℕ) → Faults refusal place inside bytes
       → Within refusal place inside bytes
-  in_bytes : (place : Place) (inside : ℕ) (chunks joined rest : List ℕ) → Chunks 2 IsAny chunks joined
+  in_bytes : (place : Due) (inside : ℕ) (chunks joined rest : List ℕ) → Chunks 2 IsAny chunks joined
       → ChunkFaults refusal 2 rest → Within refusal place inside (95 ∷ (chunks ++ rest))
-  in_text : (place : Place) (inside : ℕ) (chunks joined rest : List ℕ) → Chunks 3 IsAny chunks joined
+  in_text : (place : Due) (inside : ℕ) (chunks joined rest : List ℕ) → Chunks 3 IsAny chunks joined
       → ChunkFaults refusal 3 rest → Within refusal place inside (127 ∷ (chunks ++ rest))
-  in_array : (place : Place) (inside k : ℕ) (may : Bool) (head members rest : List ℕ) → GoesOn 4 k may head
+  in_array : (place : Due) (inside k : ℕ) (may : Bool) (head members rest : List ℕ) → GoesOn 4 k may head
       → AreItems k members → Within refusal (item may) (suc inside) rest
       → Within refusal place inside (head ++ (members ++ rest))
-  in_key : (place : Place) (inside k : ℕ) (may : Bool) (head pairs rest : List ℕ) → GoesOn 5 k may head
+  in_key : (place : Due) (inside k : ℕ) (may : Bool) (head pairs rest : List ℕ) → GoesOn 5 k may head
       → ArePairs k pairs → Within refusal (key may) (suc inside) rest
       → Within refusal place inside (head ++ (pairs ++ rest))
-  in_value : (place : Place) (inside k : ℕ) (may : Bool) (head pairs key_bytes rest : List ℕ) → GoesOn 5 k may head
+  in_value : (place : Due) (inside k : ℕ) (may : Bool) (head pairs key_bytes rest : List ℕ) → GoesOn 5 k may head
       → ArePairs k pairs → IsItem key_bytes → Within refusal value (suc inside) rest
       → Within refusal place inside (head ++ (pairs ++ (key_bytes ++ rest)))
 
