@@ -3,7 +3,8 @@ use Rattle.std.proofs.Common.{◌≡◌, ℕ, zero, suc, ◌+◌, ◌-◌, ◌<�
 use Rattle.std.proofs.lemmas.List.{append-nil, length-append}
 use Rattle.cbor_values.specs.declared.refusal.CborRefusal.{CborRefusal}
 use Rattle.cbor_values.specs.declared.refusal.CborRefusal.TheVariants.{Cut, BadHead, BadKey, BadUtf8, OutOfRange, TooDeep, Trailing, Memory}
-use Rattle.cbor_values.specs.Reading.{◌>>=◌, Reading, Fails, head_at, break_at, many_at, until_at, open_at, joined, body_at, item_at}
+use Rattle.cbor_values.specs.Reading.{◌>>=◌, Reading, head_at, break_at, many_at, until_at, open_at, joined, body_at, item_at}
+use Rattle.cbor_values.specs.Returned.{Fails}
 use Rattle.cbor_values.proofs.Steps.{got}
 use Rattle.cbor_values.proofs.Bytes.{IsBytes}
 use Rattle.cbor_values.proofs.Rows.{Starts, some_bytes}
@@ -50,7 +51,7 @@ unfolding item_at
 item_fails zero e bytes fails = fails_bind e (head_at bytes) (λ head. Err TooDeep) fails
 item_fails (suc d) e bytes fails = fails_bind e (head_at bytes) (λ head. body_at (item_at d) head.0 head.1) fails
 
--- ---- so many
+-- ---- exactly n
 
 pub goes_on : {X : Type 0} (one : List ℕ → Reading X) (front : List X) (count i : ℕ) (bytes : List ℕ) (x : X) (after : List ℕ) (total : Reading (List X))
     → i < count → one bytes ≡ got x after → with_front front (many_at one (count - i) bytes) ≡ total

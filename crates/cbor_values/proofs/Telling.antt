@@ -5,7 +5,7 @@ use Rattle.otlp_model.specs.Weight.{total}
 use Rattle.cbor_values.specs.declared.refusal.CborRefusal.{CborRefusal}
 use Rattle.cbor_values.specs.declared.refusal.CborRefusal.TheVariants.{Cut}
 use Rattle.cbor_values.specs.Reading.{Reading, break_at, many_at, until_at, open_at}
-use Rattle.cbor_values.specs.Weighing.{IsTold, long}
+use Rattle.cbor_values.specs.Returned.{IsTold, long}
 use Rattle.cbor_values.proofs.Steps.{got}
 use Rattle.cbor_values.proofs.Bytes.{IsBytes}
 use Rattle.cbor_values.proofs.Rows.{Starts}

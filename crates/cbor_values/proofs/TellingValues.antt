@@ -17,7 +17,8 @@ use Rattle.cbor_values.specs.Refusals.{Stands}
 use Rattle.cbor_values.proofs.Bytes.{IsBytes}
 use Rattle.cbor_values.proofs.Refused.{all_refused}
 use Rattle.cbor_values.proofs.Told.{no_value}
-use Rattle.cbor_values.specs.Weighing.{IsTold, IsWeighed, TellsAll, long, pair_weighed, nesting_of, told_of, weighed, weight_of_members, weight_of_pairs}
+use Rattle.cbor_values.specs.Weighing.{IsWeighed, nesting_of, weighed}
+use Rattle.cbor_values.specs.Returned.{IsTold, TellsAll, long, pair_weighed, told_of, weight_of_members, weight_of_pairs}
 
 -- what is told of each
 told_is : (nested : Nesting) (weight : ℕ) (value : Value) → nesting_of value ≡ nested → weight ≡ min (weight_of_value value) (2 ^ 63) → told_of nested weight ≡ weighed value

@@ -9,7 +9,8 @@ use Rattle.cbor_values.specs.declared.refusal.CborRefusal.TheVariants.{Cut, BadH
 use Rattle.cbor_values.specs.Cbor.{Cbor}
 use Rattle.cbor_values.specs.Refusals.{Stands, Refuses}
 use Rattle.cbor_values.specs.Values.{value_in, value_of, Gives}
-use Rattle.cbor_values.specs.Reading.{Reads, item_at, whole_item, all_at}
+use Rattle.cbor_values.specs.Reading.{item_at, whole_item, all_at}
+use Rattle.cbor_values.specs.Returned.{Reads}
 use Rattle.cbor_values.proofs.Steps.{bind_ok, ok_is, done, some_is, got}
 use Rattle.cbor_values.proofs.Bytes.{IsBytes}
 use Rattle.cbor_values.proofs.Again.{item_again}
@@ -37,7 +38,7 @@ all_again bytes v cbor deep =
     let read : item_at 32 bytes ≡ got v [] = ap (item_at 32) (sym (append-nil bytes)) ∙ item_again 32 bytes v (cbor, deep) [] in
     rw read refl
 
--- ---- what an answer says
+-- ---- what a result says
 
 pub is_found : (bytes : List ℕ) (r : Result Value CborRefusal) → IsBytes bytes → Reads (λ v. v) r (all_at bytes)
     → IfOk r (λ v. Cbor bytes v × (depth_of v ≤ 32))

@@ -14,7 +14,8 @@ use Rattle.otlp_model.proofs.Induction.{holds}
 use Rattle.otlp_model.proofs.Levels.{is_real_str, is_real_bytes, is_real_array, is_real_map}
 use Rattle.lists.proofs.RealBytes.{bytes_of_real, utf8_of_real}
 use Rattle.cbor_values.specs.Heads.{argument_len}
-use Rattle.cbor_values.specs.Written.{head, string, all_of, int, cbor_of, cbor_of_pair}
+use Rattle.cbor_values.specs.Written.{head, string, all_of, int, cbor_of}
+use Rattle.cbor_values.specs.Lengths.{cbor_of_pair}
 use Rattle.cbor_values.proofs.WrittenForm.{written_empty, written_str, written_bool, written_int, written_double, written_bytes, written_array, written_map}
 
 abbrev Low : List ℕ → Type 0

@@ -7,7 +7,8 @@ use Rattle.byteorder.specs.Endian.{big_bytes}
 use Rattle.otlp_model.specs.declared.value.Value.{Value, the_lemmas}
 use Rattle.otlp_model.specs.declared.value.Value as values
 use Rattle.otlp_model.specs.declared.value.Pair.{Pair}
-use Rattle.cbor_values.specs.Written.{head, string, all_of, int, cbor_of, cbor_of_pair, head_len, lengths, int_argument}
+use Rattle.cbor_values.specs.Written.{head, string, all_of, int, cbor_of}
+use Rattle.cbor_values.specs.Lengths.{cbor_of_pair, head_len, lengths, int_argument}
 
 pub written_empty : cbor_of values.Empty ≡ 246 ∷ []
 written_empty = search (rules, the_lemmas)

@@ -17,7 +17,8 @@ use Rattle.lists.proofs.RealBytes.{utf8_of_real, length_of_real_text, length_of_
 use Rattle.cbor_values.specs.Heads.{IsHead, short, long}
 use Rattle.cbor_values.specs.Strings.{IsString, whole}
 use Rattle.cbor_values.specs.Cbor.{Cbor, Members, Pairs, is_null, is_false, is_true, is_whole, is_negative, is_double, is_bytes, is_text, is_array, is_map, no_member, one_member, no_pair, one_pair}
-use Rattle.cbor_values.specs.Written.{head, string, all_of, int, cbor_of, cbor_of_pair, lengths, int_argument}
+use Rattle.cbor_values.specs.Written.{head, string, all_of, int, cbor_of}
+use Rattle.cbor_values.specs.Lengths.{cbor_of_pair, lengths, int_argument}
 use Rattle.cbor_values.proofs.WrittenForm.{written_empty, written_str, written_bool, written_int, written_double, written_bytes, written_array, written_map, head_len_bound}
 use Rattle.cbor_values.proofs.WrittenForm.{length_empty, length_str, length_bool, length_int, length_double, length_bytes, length_array, length_pair, length_map}
 

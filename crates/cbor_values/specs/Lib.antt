@@ -5,6 +5,8 @@ pub mod Cbor
 pub mod Items
 pub mod Refusals
 pub mod Written
+pub mod Lengths
 pub mod Reading
 pub mod Values
 pub mod Weighing
+pub mod Returned

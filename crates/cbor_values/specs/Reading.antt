@@ -1,5 +1,5 @@
 -- Reading from left to right, with the first refusal that is met.
-use Rattle.std.specs.Prelude.{◌≡◌, ℕ, zero, suc, ◌/◌, ◌%◌, ◌^◌, ◌==◌, true, false, nat_lt, if◌then◌else◌, List, [], ◌∷◌, ◌++◌, length, take, drop, Option, Some, None, Result, Ok, Err, ℤ, pos, negsuc}
+use Rattle.std.specs.Prelude.{ℕ, zero, suc, ◌/◌, ◌%◌, ◌^◌, ◌==◌, true, false, nat_lt, if◌then◌else◌, List, [], ◌∷◌, ◌++◌, length, take, drop, Option, Some, None, Result, Ok, Err, pos, negsuc}
 use Rattle.std.specs.Str.{is_utf8}
 use Rattle.byteorder.specs.Endian.{big_number}
 use Rattle.otlp_model.specs.Limits.{depth_limit}
@@ -7,7 +7,7 @@ use Rattle.otlp_model.specs.declared.value.Value.{Value}
 use Rattle.otlp_model.specs.declared.value.Value as values
 use Rattle.otlp_model.specs.declared.value.Pair.{Pair}
 use Rattle.cbor_values.specs.declared.refusal.CborRefusal.{CborRefusal}
-use Rattle.cbor_values.specs.declared.refusal.CborRefusal.TheVariants.{Cut, BadHead, BadKey, BadUtf8, OutOfRange, TooDeep, Trailing, Memory}
+use Rattle.cbor_values.specs.declared.refusal.CborRefusal.TheVariants.{Cut, BadHead, BadKey, BadUtf8, OutOfRange, TooDeep, Trailing}
 use Rattle.cbor_values.specs.declared.heads.Head.{Head}
 use Rattle.cbor_values.specs.declared.heads.Head.TheVariants as heads
 use Rattle.cbor_values.specs.Floats.{of_half, of_single}
@@ -21,16 +21,6 @@ abbrev pub ◌>>=◌ : {A B : Type 0} → Result A CborRefusal → (A → Result
 -- a value and the bytes after it, or the first refusal
 abbrev pub Reading : Type 0 → Type 0
 Reading A = Result (A × List ℕ) CborRefusal
-
--- a refusal of the code: the one that is met first, or that memory ran out
-abbrev pub Fails : {Y : Type 0} → CborRefusal → Result Y CborRefusal → Type 0
-Fails (Memory error) reading = Unit {0}
-Fails refusal reading = reading ≡ Err refusal
-
--- a result of the code, seen by view, is what reading gives, unless memory ran out
-abbrev pub Reads : {X Y : Type 0} → (X → Y) → Result X CborRefusal → Result Y CborRefusal → Type 0
-Reads view (Ok x) reading = reading ≡ Ok (view x)
-Reads view (Err refusal) reading = Fails refusal reading
 
 abbrev pub part_at : ℕ → List ℕ → Reading (List ℕ)
 part_at n bytes = if nat_lt (length bytes) n then Err Cut else Ok (take n bytes, drop n bytes)
@@ -143,9 +133,6 @@ pair_at one bytes = key_at bytes >>= λ key. one key.1 >>= λ value. Ok (record 
 abbrev pub whole_of : ℕ → Result ℕ CborRefusal
 whole_of n = if nat_lt n (2 ^ 63) then Ok n else Err OutOfRange
 
-abbrev pub int_of : ℕ → Result ℤ CborRefusal
-int_of n = whole_of n >>= λ n. Ok (pos n)
-
 -- the value of an item after its head, one reading an item within it
 unfoldable pub body_at : (List ℕ → Reading Value) → Head → List ℕ → Reading Value
 body_at one heads.Null bytes = Ok (values.Empty, bytes)
@@ -160,7 +147,7 @@ body_at one (heads.Array None) bytes = open_at one bytes >>= λ members. Ok (val
 body_at one (heads.Map (Some n)) bytes = many_at (pair_at one) n bytes >>= λ pairs. Ok (values.Map pairs.0, pairs.1)
 body_at one (heads.Map None) bytes = open_at (pair_at one) bytes >>= λ pairs. Ok (values.Map pairs.0, pairs.1)
 
--- the value of an item that is at most so deep
+-- the value of an item, which has at most that depth
 unfoldable pub item_at : ℕ → List ℕ → Reading Value
 item_at zero bytes = head_at bytes >>= λ head. Err TooDeep
 item_at (suc depth) bytes = head_at bytes >>= λ head. body_at (item_at depth) head.0 head.1

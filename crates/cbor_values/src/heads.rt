@@ -2,8 +2,8 @@
 
 ghost use Rattle.std.specs.Prelude.{◌≡◌, ◌<◌};
 ghost use Rattle.std.specs.Option.{option_map};
-ghost use Rattle.cbor_values.specs.Weighing.{Exactly};
-ghost use Rattle.cbor_values.specs.Reading.{Reads, part_at, argument_at, kind_of, head_at, break_at};
+ghost use Rattle.cbor_values.specs.Returned.{Exactly, Reads};
+ghost use Rattle.cbor_values.specs.Reading.{part_at, argument_at, kind_of, head_at, break_at};
 
 use crate::floats::{half, single};
 use crate::refusal::CborRefusal;

@@ -7,7 +7,8 @@ ghost use Rattle.otlp_model.specs.Limits.{depth_limit};
 ghost use Rattle.cbor_values.specs.Cbor.{Cbor};
 ghost use Rattle.cbor_values.specs.Refusals.{Refuses};
 ghost use Rattle.cbor_values.specs.Values.{Gives, value_of};
-ghost use Rattle.cbor_values.specs.Reading.{Reads, int_of, many_at, open_at, pair_at, body_at, item_at, all_at};
+ghost use Rattle.cbor_values.specs.Reading.{many_at, open_at, pair_at, body_at, item_at, all_at};
+ghost use Rattle.cbor_values.specs.Returned.{Reads, int_of};
 
 use crate::heads::{Head, after_break, read_head};
 use crate::refusal::CborRefusal;

@@ -1,8 +1,8 @@
 //! Byte strings and texts, whole or in chunks (RFC 8949, section 3.2.3).
 
 ghost use Rattle.std.specs.Prelude.{◌≡◌, ◌++◌, OnOk};
-ghost use Rattle.cbor_values.specs.Weighing.{Exactly};
-ghost use Rattle.cbor_values.specs.Reading.{Reads, chunks_at, letters_at, octets_chunk_at, text_chunk_at, octets_at, text_at, key_at};
+ghost use Rattle.cbor_values.specs.Returned.{Exactly, Reads};
+ghost use Rattle.cbor_values.specs.Reading.{chunks_at, letters_at, octets_chunk_at, text_chunk_at, octets_at, text_at, key_at};
 
 use crate::heads::{Head, after_break, part, read_head};
 use crate::refusal::CborRefusal;

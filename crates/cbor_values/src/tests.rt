@@ -163,8 +163,8 @@ fn refuses_the_examples(rt: HostRuntime) -> Result<(), Fail> {
         match read_value(rt.alloc(), &bytes) {
             Ok(_) => assert!(rt; false, "{name} is missed"),
             Err(refusal) => {
-                let answer = format!(in rt.alloc(); "{refusal:?}")?;
-                assert_eq!(rt; answer.as_str(), *name);
+                let printed = format!(in rt.alloc(); "{refusal:?}")?;
+                assert_eq!(rt; printed.as_str(), *name);
             }
         }
     }

@@ -6,7 +6,8 @@ ghost use Rattle.cbor_values.specs.declared.refusal.CborRefusal.{CborRefusal};
 ghost use Rattle.cbor_values.specs.Refusals.{Stands};
 ghost use Rattle.cbor_values.specs.Values.{value_of};
 ghost use Rattle.cbor_values.specs.Reading.{all_at, body_at, chunks_at, item_at, key_at, many_at, octets_at, octets_chunk_at, open_at, pair_at, text_at, text_chunk_at, whole_of};
-ghost use Rattle.cbor_values.specs.Weighing.{Exactly, IsWeighed, Tells, TellsAll, long, pair_weighed, told_of, weight_of_members, weight_of_pairs, weighed};
+ghost use Rattle.cbor_values.specs.Weighing.{IsWeighed, weighed};
+ghost use Rattle.cbor_values.specs.Returned.{Exactly, Tells, TellsAll, long, pair_weighed, told_of, weight_of_members, weight_of_pairs};
 
 use crate::heads::{Head, after_break, part, read_head};
 use crate::refusal::CborRefusal;

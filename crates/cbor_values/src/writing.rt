@@ -7,7 +7,8 @@ ghost use Rattle.otlp_model.specs.Weight.{weight_of_value};
 ghost use Rattle.otlp_model.specs.declared.value.Value as values;
 ghost use Rattle.cbor_values.specs.Heads.{argument_len};
 ghost use Rattle.cbor_values.specs.Written as spec;
-ghost use Rattle.cbor_values.specs.Written.{cbor_of, cbor_of_pair, string, all_of, int_argument, head_len, lengths, long_head};
+ghost use Rattle.cbor_values.specs.Written.{cbor_of, string, all_of, long_head};
+ghost use Rattle.cbor_values.specs.Lengths.{cbor_of_pair, int_argument, head_len, lengths};
 
 use crate::heads::{ARRAY, BYTES, DOUBLE, FALSE, MAP, NEGATIVE, NULL, TEXT, TRUE, WHOLE};
 use byteorder::{BigEndian, ByteOrder};
@@ -103,7 +104,7 @@ fn len_string(len: usize) -> u64
 }
 
 /// The length of the shortest head with this argument.
-#[tactic(auto, unfolding(crate::specs::Written::head_len))]
+#[tactic(auto, unfolding(crate::specs::Lengths::head_len))]
 fn len_head(argument: u64) -> u64
     ensures value { result ≡ head_len argument }
     ensures short { result ≤ 9 }
@@ -228,7 +229,7 @@ fn put_string(to: &mut Vec<u8>, major: u8, part: &[u8])
 }
 
 /// The shortest head of this major type with this argument.
-#[tactic(auto, unfolding(crate::specs::Written::head, crate::specs::Written::head_len))]
+#[tactic(auto, unfolding(crate::specs::Written::head, crate::specs::Lengths::head_len))]
 fn put_head(to: &mut Vec<u8>, major: u8, argument: u64)
     requires major { major < 6 }
     requires room { vec_len to.old + head_len argument ≤ vec_capacity to.old }

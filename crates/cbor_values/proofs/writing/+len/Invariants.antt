@@ -1,5 +1,6 @@
 use Rattle.std.proofs.Common.{◌≡◌, ◌+◌, ◌≤◌, ◌^◌, min, drop}
-use Rattle.cbor_values.specs.Written.{cbor_of, cbor_of_pair, lengths}
+use Rattle.cbor_values.specs.Written.{cbor_of}
+use Rattle.cbor_values.specs.Lengths.{cbor_of_pair, lengths}
 use Rattle.cbor_values.proofs.writing.+len.Given as goal
 
 abbrev pub invariant-len_members-loop-member : goal.invariant-len_members-loop-member

@@ -1,7 +1,8 @@
 use Rattle.std.proofs.Common.{◌≡◌, ◌+◌, ◌≤◌, ◌++◌, length, drop, vec_len}
 use Rattle.std.specs.Prelude.{vec_capacity}
 use Rattle.otlp_model.specs.declared.value.Value as values
-use Rattle.cbor_values.specs.Written.{cbor_of, cbor_of_pair, all_of, lengths}
+use Rattle.cbor_values.specs.Written.{cbor_of, all_of}
+use Rattle.cbor_values.specs.Lengths.{cbor_of_pair, lengths}
 use Rattle.cbor_values.proofs.writing.+put.Given as goal
 
 abbrev pub invariant-put_members-loop-member : goal.invariant-put_members-loop-member
