@@ -4,7 +4,7 @@ use Rattle.std.specs.Prelude.{ℤ}
 use Rattle.std.specs.List.{list_all}
 use Rattle.std.proofs.lemmas.List.{drop-append-le, drop_all, length-map}
 use Rattle.flat_tables.specs.Tables.{TableIn, table_at}
-use Rattle.flat_tables.specs.Building.{Stands}
+use Rattle.flat_tables.specs.Building.{StaysAt}
 use Rattle.flat_tables.proofs.Standing.{stands_later}
 use Rattle.arrow_schema.specs.declared.spec.SchemaSpec.{SchemaSpec}
 use Rattle.arrow_schema.specs.Trees.{count_of}
@@ -108,7 +108,7 @@ few_bytes rows nodes places body metadata small size =
     omega (arith, small, size, body_size-le (map (buffer_in body) places), length-map places (buffer_in body))
 
 pub rows_appended : (rows : ℕ) (nodes places : List (ℤ × ℤ)) (body built : List ℕ) (header : ℕ) (old new : List ℕ) → HasMessage built header 3 body old new
-    → Stands (IsBatchTable rows nodes places) built header → length built ≤ 16 * length nodes + 16 * length places + 320 → length nodes ≤ max_parts → length places ≤ max_parts
+    → StaysAt (IsBatchTable rows nodes places) built header → length built ≤ 16 * length nodes + 16 * length places + 320 → length nodes ≤ max_parts → length places ≤ max_parts
     → list_all (lies_in (length body)) places ≡ true → list_all is_aligned places ≡ true → padded (length body) ≡ body_size (map (buffer_in body) places)
     → Appends (Rows (record { rows = rows; nodes = nodes; buffers = map (buffer_in body) places }))
     (most_of (record { rows = rows; nodes = nodes; buffers = map (buffer_in body) places })) old new
@@ -121,7 +121,7 @@ rows_appended rows nodes places body built header old new h stands small few_nod
     (few_bytes rows nodes places body (length h.metadata) (omega (arith, h.few, small)) size)
 
 pub dictionary_appended : (id : ℤ) (delta : Bool) (rows : ℕ) (nodes places : List (ℤ × ℤ)) (body built : List ℕ) (header : ℕ) (old new : List ℕ)
-    → HasMessage built header 2 body old new → Stands (IsDictionaryTable id delta rows nodes places) built header
+    → HasMessage built header 2 body old new → StaysAt (IsDictionaryTable id delta rows nodes places) built header
     → length built ≤ 16 * length nodes + 16 * length places + 576 → length nodes ≤ max_parts → length places ≤ max_parts
     → list_all (lies_in (length body)) places ≡ true → list_all is_aligned places ≡ true → padded (length body) ≡ body_size (map (buffer_in body) places)
     → Appends (Dictionary id delta (record { rows = rows; nodes = nodes; buffers = map (buffer_in body) places }))
@@ -141,7 +141,7 @@ dictionary_appended id delta rows nodes places body built header old new h stand
     (few_bytes rows nodes places body (length h.metadata) (omega (arith, h.few, small)) size)
 
 pub schema_appended : (fields : SchemaSpec) (built : List ℕ) (header : ℕ) (old new : List ℕ) → HasMessage built header 1 [] old new
-    → Stands (IsSchemaTable fields) built header → length built ≤ names_of fields + max_field_size * count_of fields + 512 → names_of fields ≤ max_written_names → count_of fields ≤ max_written_fields
+    → StaysAt (IsSchemaTable fields) built header → length built ≤ names_of fields + max_field_size * count_of fields + 512 → names_of fields ≤ max_written_names → count_of fields ≤ max_written_fields
     → AppendsSchema fields old new
 schema_appended fields built header old new h stands small few_names few_fields =
     let t : IsSchemaTable fields h.metadata (length h.metadata - header) = stands_later (IsSchemaTable fields) built h.metadata header h.is.grows stands in

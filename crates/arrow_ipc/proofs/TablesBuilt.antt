@@ -7,16 +7,16 @@ use Rattle.flat_tables.specs.declared.place.Slot.TheVariants.{U8, I16, I64, At}
 use Rattle.flat_tables.specs.declared.place.Slot.TheVariants.{Absent}
 use Rattle.flat_tables.specs.Tables.{TableIn, VectorIn, root_at, table_at, distance_at}
 use Rattle.flat_tables.specs.Slots.{alignment}
-use Rattle.flat_tables.specs.Building.{Grows, Stands, IsParts, HasSlots, IsPadded, IsTableAligned, vector_from}
+use Rattle.flat_tables.specs.Building.{Grows, StaysAt, IsParts, HasSlots, IsPadded, IsTableAligned, vector_from}
 use Rattle.flat_tables.proofs.Standing.{grows_on, stands_later}
 use Rattle.arrow_ipc.specs.Batches.{rows_of, nodes_of, places_of}
 use Rattle.arrow_ipc.specs.Messages.{version_of, kind_of, header_of, body_size_of, id_of, data_of, delta_of}
-use Rattle.arrow_ipc.specs.Written.{IsAligned, IsBatchAligned}
+use Rattle.arrow_ipc.specs.Written.{IsAlignedBy, IsBatchAligned}
 use Rattle.arrow_ipc.specs.Laying.{AllFit, pairs_bytes, HoldsBatch, IsBatchTable, IsMetadata}
 use Rattle.arrow_ipc.proofs.PairsBack.{pairs_back}
 
 -- a table is aligned by the sizes of its slots
-by_sizes : (slots : List Slot) (t : TableIn) → IsTableAligned slots t → IsAligned (map alignment slots) t
+by_sizes : (slots : List Slot) (t : TableIn) → IsTableAligned slots t → IsAlignedBy (map alignment slots) t
 by_sizes slots t a = record {
   table = a.table;
   vtable = a.vtable;
@@ -50,9 +50,9 @@ batch_table rows z nodes places bytes n p place is s vn vp fn fp = record {
   };
 }
 
-pub batch_stands : (rows : ℕ) (z : ℤ) (nodes places : List (ℤ × ℤ)) (new : List ℕ) (n p place : ℕ) → z ≡ pos rows → Stands (HasSlots (batch_slots z n p)) new place
-    → Stands (IsParts 16 (pairs_bytes nodes)) new n → Stands (IsParts 16 (pairs_bytes places)) new p → AllFit nodes → AllFit places
-    → Stands (IsBatchTable rows nodes places) new place
+pub batch_stands : (rows : ℕ) (z : ℤ) (nodes places : List (ℤ × ℤ)) (new : List ℕ) (n p place : ℕ) → z ≡ pos rows → StaysAt (HasSlots (batch_slots z n p)) new place
+    → StaysAt (IsParts 16 (pairs_bytes nodes)) new n → StaysAt (IsParts 16 (pairs_bytes places)) new p → AllFit nodes → AllFit places
+    → StaysAt (IsBatchTable rows nodes places) new place
 batch_stands rows z nodes places new n p place is s vn vp fn fp = record {
   inside = s.inside;
   always = λ front. batch_table rows z nodes places (front ++ new) n p (length (front ++ new) - place) is (s.always front) (vn.always front) (vp.always front) fn fp;
@@ -71,7 +71,7 @@ pub record IsDictionaryTable (id : ℤ) (delta : Bool) (rows : ℕ) (nodes place
   pub inner : TableIn
   pub has_inner : data_of table ≡ Ok (Some inner)
   pub holds : HoldsBatch rows nodes places inner
-  pub aligned : IsPadded bytes → IsAligned (8 ∷ 4 ∷ 1 ∷ []) table
+  pub aligned : IsPadded bytes → IsAlignedBy (8 ∷ 4 ∷ 1 ∷ []) table
   pub inner_aligned : IsPadded bytes → IsBatchAligned inner
 
 dictionary_table : (id z : ℤ) (delta : Bool) (rows : ℕ) (nodes places : List (ℤ × ℤ)) (bytes : List ℕ) (batch flag place : ℕ) → z ≡ id
@@ -91,8 +91,8 @@ dictionary_table id z delta rows nodes places bytes batch flag place id_is s b i
 }
 
 pub dictionary_stands : (id z : ℤ) (delta : Bool) (rows : ℕ) (nodes places : List (ℤ × ℤ)) (new : List ℕ) (batch flag place : ℕ) → z ≡ id
-    → Stands (HasSlots (dictionary_slots z batch flag)) new place → Stands (IsBatchTable rows nodes places) new batch → not (flag == 0) ≡ delta
-    → Stands (IsDictionaryTable id delta rows nodes places) new place
+    → StaysAt (HasSlots (dictionary_slots z batch flag)) new place → StaysAt (IsBatchTable rows nodes places) new batch → not (flag == 0) ≡ delta
+    → StaysAt (IsDictionaryTable id delta rows nodes places) new place
 dictionary_stands id z delta rows nodes places new batch flag place id_is s b is = record {
   inside = s.inside;
   always = λ front. dictionary_table id z delta rows nodes places (front ++ new) batch flag (length (front ++ new) - place) id_is (s.always front) (b.always front) is;
@@ -102,7 +102,7 @@ dictionary_stands id z delta rows nodes places new batch flag place id_is s b is
 abbrev pub message_slots : ℕ → ℕ → ℤ → List Slot
 message_slots kind header size = I16 (pos 4) ∷ U8 kind ∷ At header ∷ I64 size ∷ []
 
-pub metadata_built : (built more metadata : List ℕ) (kind header size root : ℕ) (z : ℤ) → z ≡ pos size → Grows built more → Stands (HasSlots (message_slots kind header z)) more root
+pub metadata_built : (built more metadata : List ℕ) (kind header size root : ℕ) (z : ℤ) → z ≡ pos size → Grows built more → StaysAt (HasSlots (message_slots kind header z)) more root
     → Grows more metadata → root_at metadata ≡ table_at metadata (length metadata - root) → IsPadded metadata → IsMetadata built header kind size metadata
 unfolding version_of kind_of header_of body_size_of
 metadata_built built more metadata kind header size root z size_is g s h is padded =

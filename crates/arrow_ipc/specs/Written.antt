@@ -34,7 +34,7 @@ most_of_schema fields = names_of fields + 2048 * count_of fields + 2048
 -- ---- alignment, as the verifiers of FlatBuffers want it, counted from the start of the metadata
 
 -- a table begins at a multiple of 4, its vtable at a multiple of 2, and the value of each slot at a multiple of its size
-pub record IsAligned (sizes : List ℕ) (t : TableIn) : Type 0 where
+pub record IsAlignedBy (sizes : List ℕ) (t : TableIn) : Type 0 where
   pub table : t.place % 4 ≡ 0
   pub vtable : t.vtable % 2 ≡ 0
   pub each : (k : ℕ) → (t.place + distance_at t k) % slice_index_or sizes k 1 ≡ 0
@@ -45,7 +45,7 @@ IsVectorAligned t slot = (v : VectorIn) → vector_slot 16 t slot ≡ Ok (Some v
 
 -- a table RecordBatch: i64, two references
 pub record IsBatchAligned (t : TableIn) : Type 0 where
-  pub slots : IsAligned (8 ∷ 4 ∷ 4 ∷ []) t
+  pub slots : IsAlignedBy (8 ∷ 4 ∷ 4 ∷ []) t
   pub nodes : IsVectorAligned t 1
   pub places : IsVectorAligned t 2
 
@@ -60,7 +60,7 @@ AreBuffersAligned t = (places : List (ℤ × ℤ)) → places_of t ≡ Ok places
 abbrev pub IsHeaderAligned : TableIn → IpcMessage → Type 0
 IsHeaderAligned header (Schema fields) = Unit {0}
 IsHeaderAligned header (Dictionary id delta batch) =
-    IsAligned (8 ∷ 4 ∷ 1 ∷ []) header × ((inner : TableIn) → data_of header ≡ Ok (Some inner) → IsBatchAligned inner × AreBuffersAligned inner)
+    IsAlignedBy (8 ∷ 4 ∷ 1 ∷ []) header × ((inner : TableIn) → data_of header ≡ Ok (Some inner) → IsBatchAligned inner × AreBuffersAligned inner)
 IsHeaderAligned header (Rows batch) = IsBatchAligned header × AreBuffersAligned header
 
 -- a table Message: i16, a byte, a reference, i64
@@ -83,7 +83,7 @@ pub record Appends (message : IpcMessage) (most : ℕ) (old new : List ℕ) : Ty
   pub body_even : (8 + length is.metadata) % 8 ≡ 0
   pub version : is.version ≡ version_5
   pub few : length written ≤ most
-  pub aligned : IsAligned message_sizes is.table
+  pub aligned : IsAlignedBy message_sizes is.table
   pub header_aligned : IsHeaderAligned is.header message
   pub extends : (messages : List IpcMessage) → Front old messages [] → Front new (messages ++ message ∷ []) []
 
@@ -99,7 +99,7 @@ pub record AppendsSchema (fields : SchemaSpec) (old new : List ℕ) : Type 0 whe
   pub no_body : body_size_of has_header.table ≡ Ok (pos 0)
   pub ends : has_header.after ≡ 0
   pub padded : IsPadded has_header.has_table.metadata
-  pub aligned : IsAligned message_sizes has_header.table
+  pub aligned : IsAlignedBy message_sizes has_header.table
   pub place : ℕ
   pub here : table_at has_header.has_table.metadata place ≡ Ok header
   pub writes : WritesSchema fields has_header.has_table.metadata place

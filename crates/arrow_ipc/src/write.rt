@@ -1,7 +1,7 @@
 ghost use Rattle.std.specs.Prelude.{◌≡◌, ◌+◌, ◌-◌, ◌*◌, ◌%◌, ◌≤◌, ◌<◌, ◌^◌, ◌++◌, ℕ, length, replicate, vec_len, FitsSigned, IsTrue, IfOk, OnOk, OnErr};
 ghost use Rattle.std.specs.Int.{w64};
 ghost use Rattle.flat_tables.specs.Limits.{max_size};
-ghost use Rattle.flat_tables.specs.Building.{Stands};
+ghost use Rattle.flat_tables.specs.Building.{StaysAt};
 ghost use Rattle.arrow_schema.specs.Trees.{count_of};
 ghost use Rattle.arrow_schema.specs.Limits.{max_written_fields, max_written_names};
 ghost use Rattle.arrow_schema.specs.Writing.{names_of, widths_fit, encodings_named};
@@ -45,7 +45,7 @@ pub(crate) fn add_batch(
     requires nodes { length nodes.now ≤ max_parts }
     requires places { length places.now ≤ max_parts }
     requires room { length builder.old + 32 * max_parts + 64 < max_size }
-    ensures table { IfOk result (Stands (laying.IsBatchTable rows nodes.now places.now) builder.new) }
+    ensures table { IfOk result (StaysAt (laying.IsBatchTable rows nodes.now places.now) builder.new) }
     ensures size { OnOk result (length builder.new ≤ length builder.old + 16 * length nodes.now + 16 * length places.now + 320) }
 {
     let node_bytes = pairs(builder.alloc(), nodes)?;

@@ -8,7 +8,7 @@ use Rattle.flat_tables.specs.declared.place.Slot.TheVariants.{Absent, I64, At}
 use Rattle.flat_tables.specs.Bytes.{◌>>=◌}
 use Rattle.flat_tables.specs.Tables.{TableIn, VectorIn, table_at, text_at, vector_at, each, or_default, table_slot, vector_slot, reference_slot, element_table, place_of}
 use Rattle.flat_tables.specs.Slots.{Holds}
-use Rattle.flat_tables.specs.Building.{Grows, Stands, IsText, IsPlaces, HasSlots, vector_from}
+use Rattle.flat_tables.specs.Building.{Grows, StaysAt, IsText, IsPlaces, HasSlots, vector_from}
 use Rattle.flat_tables.proofs.Standing.{stands_on, grows_on}
 use Rattle.arrow_schema.specs.declared.spec.ArrowType.{ArrowType}
 use Rattle.arrow_schema.specs.declared.spec.ArrowType.TheVariants.{Bool as Boolean, Int, Double, Utf8, Binary, Fixed, Timestamp, Duration, Struct, List as ListType}
@@ -84,8 +84,8 @@ dict_said (Some dict) t slot h holds =
       },
     )
 
-pub dict_stands : (old new : List ℕ) (index place : ℕ) (dict : DictSpec) → Stands (HasSlots (index_slots dict.wide)) old index → Grows old new
-    → Stands (HasSlots (I64 dict.id ∷ At index ∷ [])) new place → Stands (WritesDict dict) new place
+pub dict_stands : (old new : List ℕ) (index place : ℕ) (dict : DictSpec) → StaysAt (HasSlots (index_slots dict.wide)) old index → Grows old new
+    → StaysAt (HasSlots (I64 dict.id ∷ At index ∷ [])) new place → StaysAt (WritesDict dict) new place
 dict_stands old new index place dict i g s =
     let later = stands_on (HasSlots (index_slots dict.wide)) old new index g i in
     record { inside = s.inside; always = λ front. record { index = index; table = s.always front; index_table = later.always front } }
@@ -141,8 +141,8 @@ metadata_said encoding.Delta t slot h holds = pair_said (codes "delta") t h.0 h.
 metadata_said encoding.Run t slot h holds = pair_said (codes "run") t h.0 h.2 (subst (Holds t 6) h.1 holds)
 metadata_said encoding.Other t slot h holds = pair_said [] t h.0 h.2 (subst (Holds t 6) h.1 holds)
 
-pub pair_stands : (a b c bytes word : List ℕ) (key value pair place : ℕ) → Stands (IsText (codes "encoding")) a key → Grows a b → Stands (IsText word) b value → Grows b c
-    → Stands (HasSlots (At key ∷ At value ∷ [])) c pair → Grows c bytes → Stands (IsPlaces (pair ∷ [])) bytes place → Stands (WritesPair word) bytes place
+pub pair_stands : (a b c bytes word : List ℕ) (key value pair place : ℕ) → StaysAt (IsText (codes "encoding")) a key → Grows a b → StaysAt (IsText word) b value → Grows b c
+    → StaysAt (HasSlots (At key ∷ At value ∷ [])) c pair → Grows c bytes → StaysAt (IsPlaces (pair ∷ [])) bytes place → StaysAt (WritesPair word) bytes place
 pair_stands a b c bytes word key value pair place k g v h p i s =
     let table = stands_on (HasSlots (At key ∷ At value ∷ [])) c bytes pair i p in
     let value_text = stands_on (IsText word) b bytes value (grows_on b c bytes h i) v in
@@ -175,9 +175,9 @@ metadata_written encoding.Run bytes front slot h = (h.0, h.1, h.2.always front)
 metadata_written encoding.Other bytes front slot h = (h.0, h.1, h.2.always front)
 
 -- ---- fields
-pub field_stands : (bytes : List ℕ) (f : FieldSpec) (children name kind place : ℕ) (dict metadata : Slot) → Stands (WritesFields (children_in f)) bytes children → Stands (IsText (name_in f)) bytes name
-    → Stands (HasSlots (type_slots (kind_in f))) bytes kind → DictionaryStands (dict_in f) bytes dict → MetadataStands (encoding_in f) bytes metadata
-    → Stands (HasSlots (field_slots f name kind dict children metadata)) bytes place → Stands (WritesField f) bytes place
+pub field_stands : (bytes : List ℕ) (f : FieldSpec) (children name kind place : ℕ) (dict metadata : Slot) → StaysAt (WritesFields (children_in f)) bytes children → StaysAt (IsText (name_in f)) bytes name
+    → StaysAt (HasSlots (type_slots (kind_in f))) bytes kind → DictionaryStands (dict_in f) bytes dict → MetadataStands (encoding_in f) bytes metadata
+    → StaysAt (HasSlots (field_slots f name kind dict children metadata)) bytes place → StaysAt (WritesField f) bytes place
 field_stands bytes f children name kind place dict metadata c n k d m s = record {
   inside = s.inside;
   always = λ front.
@@ -201,7 +201,7 @@ as_many (f ∷ fs) (place ∷ places) bytes h = omega (arith, as_many fs places 
 as_many [] (place ∷ places) bytes h = absurd h
 as_many (f ∷ fs) [] bytes h = absurd h
 
-vector_stands : (bytes places : List ℕ) (fs : List FieldSpec) (place : ℕ) → AllStand fs places bytes → Stands (IsPlaces places) bytes place → Stands (WritesFields fs) bytes place
+vector_stands : (bytes places : List ℕ) (fs : List FieldSpec) (place : ℕ) → AllStand fs places bytes → StaysAt (IsPlaces places) bytes place → StaysAt (WritesFields fs) bytes place
 vector_stands bytes places fs place h s = record {
   inside = s.inside;
   always = λ front. record { places = places; vector = s.always front; long = as_many fs places bytes h; each = each_written fs places bytes front h };
@@ -209,10 +209,10 @@ vector_stands bytes places fs place h s = record {
 
 -- all fields stood when the loop ended
 pub all_fields_stand : (fs : List FieldSpec) (items places : List ℕ) (i place : ℕ) (old new : List ℕ) → length fs ≤ i → places ≡ items → AllStand (take i fs) items old → Grows old new
-    → Stands (IsPlaces places) new place → Stands (WritesFields fs) new place
+    → StaysAt (IsPlaces places) new place → StaysAt (WritesFields fs) new place
 all_fields_stand fs items places i place old new le same h g s =
     let all = subst (λ (fs : List FieldSpec). AllStand fs items old) (take_all i fs le) h in
-    vector_stands new items fs place (all_stand_on fs items old new g all) (subst (λ (places : List ℕ). Stands (IsPlaces places) new place) same s)
+    vector_stands new items fs place (all_stand_on fs items old new g all) (subst (λ (places : List ℕ). StaysAt (IsPlaces places) new place) same s)
 
 -- ---- what the tables of fields say
 record SaidField (f : FieldSpec) (bytes : List ℕ) (place : ℕ) : Type 0 where
@@ -307,8 +307,8 @@ schema_table bytes fields place w =
     no_order : (t : TableIn) → place_of t 0 ≡ None → byte_order t ≡ Ok (pos 0)
     no_order t e = rw e refl
 
-pub schema_stands : (old new : List ℕ) (fields : List FieldSpec) (vector place : ℕ) → Stands (WritesFields fields) old vector → Grows old new → Stands (HasSlots (Absent ∷ At vector ∷ [])) new place
-    → Stands (IsSchemaTable fields) new place
+pub schema_stands : (old new : List ℕ) (fields : List FieldSpec) (vector place : ℕ) → StaysAt (WritesFields fields) old vector → Grows old new → StaysAt (HasSlots (Absent ∷ At vector ∷ [])) new place
+    → StaysAt (IsSchemaTable fields) new place
 schema_stands old new fields vector place v g s =
     let later = stands_on (WritesFields fields) old new vector g v in
     record {

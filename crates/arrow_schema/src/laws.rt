@@ -2,7 +2,7 @@
 
 ghost use Rattle.std.specs.Prelude.{◌≡◌, ◌≤◌, ◌-◌, ◌⊎◌, ℕ, ℤ, true, List, length, map, Ok, IsTrue};
 ghost use Rattle.flat_tables.specs.Tables.{TableIn, table_at};
-ghost use Rattle.flat_tables.specs.Building.{Grows, Stands};
+ghost use Rattle.flat_tables.specs.Building.{Grows, StaysAt};
 ghost use Rattle.arrow_schema.specs.declared.spec.FieldSpec.{FieldSpec};
 ghost use Rattle.arrow_schema.specs.declared.refusal.SchemaRefusal.{SchemaRefusal};
 ghost use Rattle.arrow_schema.specs.Limits.{max_depth, max_fields, max_fixed, max_size_before, max_written_fields, max_written_names};
@@ -45,7 +45,7 @@ pub fn added_is_read()
     ensures few { (schema : List FieldSpec) → IsReadable schema → count_of schema ≤ max_written_fields }
     ensures widths { (schema : List FieldSpec) → IsReadable schema → IsTrue (widths_fit schema) }
     ensures again { (schema : List FieldSpec) (built bytes : List ℕ) (place : ℕ) → IsReadable schema
-        → Grows built bytes → Stands (IsSchemaTable schema) built place
+        → Grows built bytes → StaysAt (IsSchemaTable schema) built place
         → (t : TableIn) × (table_at bytes (length bytes - place) ≡ Ok t) × (schema_of t ≡ Ok schema) }
 {}
 

@@ -1,7 +1,7 @@
 ghost use Rattle.std.specs.Prelude.{◌≡◌, ◌+◌, ◌*◌, ◌≤◌, ◌<◌, ℕ, List, length, IfOk, IsTrue};
 ghost use Rattle.flat_tables.specs.Limits.{max_size};
 ghost use Rattle.flat_tables.specs.Slots.{Reaches};
-ghost use Rattle.flat_tables.specs.Building.{Grows, Stands, HasSlots};
+ghost use Rattle.flat_tables.specs.Building.{Grows, StaysAt, HasSlots};
 ghost use Rattle.arrow_schema.specs.Limits.{max_written_fields, max_written_names, max_size_before, max_field_size};
 ghost use Rattle.arrow_schema.specs.Trees.{count_in, count_of};
 ghost use Rattle.arrow_schema.specs.Types.{type_number};
@@ -31,7 +31,7 @@ pub fn add_schema(builder: &mut Builder, spec: &SchemaSpec) -> Result<Place, All
     requires widths { IsTrue (widths_fit spec.now) }
     requires encodings { IsTrue (encodings_named spec.now) }
     requires room { length builder.old < max_size_before }
-    ensures schema { IfOk result (Stands (IsSchemaTable spec.now) builder.new) }
+    ensures schema { IfOk result (StaysAt (IsSchemaTable spec.now) builder.new) }
     ensures grows { Grows builder.old builder.new }
     ensures size { length builder.new ≤ length builder.old + names_of spec.now + max_field_size * count_of spec.now + 512 }
 {
@@ -47,7 +47,7 @@ fn add_fields(builder: &mut Builder, fields: &[FieldSpec]) -> Result<Place, Allo
     requires widths { IsTrue (widths_fit fields.now) }
     requires encodings { IsTrue (encodings_named fields.now) }
     requires room { length builder.old + names_of fields.now + max_field_size * count_of fields.now + 32 < max_size }
-    ensures fields { IfOk result (Stands (WritesFields fields.now) builder.new) }
+    ensures fields { IfOk result (StaysAt (WritesFields fields.now) builder.new) }
     ensures grows { Grows builder.old builder.new }
     ensures size { length builder.new ≤ length builder.old + names_of fields.now + max_field_size * count_of fields.now + 32 }
 {
@@ -65,7 +65,7 @@ fn add_field(builder: &mut Builder, field: &FieldSpec) -> Result<Place, AllocErr
     requires widths { IsTrue (widths_in field.now) }
     requires encodings { IsTrue (named_in field.now) }
     requires room { length builder.old + names_in field.now + max_field_size * count_in field.now < max_size }
-    ensures field { IfOk result (Stands (WritesField field.now) builder.new) }
+    ensures field { IfOk result (StaysAt (WritesField field.now) builder.new) }
     ensures grows { Grows builder.old builder.new }
     ensures size { length builder.new + 4 ≤ length builder.old + names_in field.now + max_field_size * count_in field.now }
 {
@@ -91,7 +91,7 @@ fn add_field(builder: &mut Builder, field: &FieldSpec) -> Result<Place, AllocErr
 fn add_type(builder: &mut Builder, kind: ArrowType) -> Result<Place, AllocError>
     requires width { IsTrue (fits_width kind) }
     requires room { length builder.old < max_size }
-    ensures kind { IfOk result (Stands (HasSlots (type_slots kind)) builder.new) }
+    ensures kind { IfOk result (StaysAt (HasSlots (type_slots kind)) builder.new) }
     ensures grows { Grows builder.old builder.new }
     ensures size { length builder.new ≤ length builder.old + 256 }
 {
@@ -127,7 +127,7 @@ fn add_dictionary(builder: &mut Builder, dict: Option<DictSpec>) -> Result<Slot,
 #[tactic(auto, using(flat_tables::proofs::Standing::grows_on))]
 fn add_dict(builder: &mut Builder, dict: DictSpec) -> Result<Place, AllocError>
     requires { length builder.old + 256 < max_size }
-    ensures dict { IfOk result (Stands (WritesDict dict) builder.new) }
+    ensures dict { IfOk result (StaysAt (WritesDict dict) builder.new) }
     ensures grows { Grows builder.old builder.new }
     ensures size { length builder.new ≤ length builder.old + 512 }
 {
@@ -159,7 +159,7 @@ fn add_metadata(builder: &mut Builder, encoding: Encoding) -> Result<Slot, Alloc
 fn add_pair(builder: &mut Builder, value: &[u8]) -> Result<Place, AllocError>
     requires value { length value.now ≤ 8 }
     requires room { length builder.old + 512 < max_size }
-    ensures pair { IfOk result (Stands (WritesPair value.now) builder.new) }
+    ensures pair { IfOk result (StaysAt (WritesPair value.now) builder.new) }
     ensures grows { Grows builder.old builder.new }
     ensures size { length builder.new ≤ length builder.old + 400 }
 {

@@ -9,7 +9,7 @@ use Rattle.byteorder.specs.Numbers.{length-bytes_low_first}
 use Rattle.flat_tables.specs.Limits.{max_held}
 use Rattle.flat_tables.specs.Bytes.{part_at}
 use Rattle.flat_tables.specs.Tables.{root_at, table_at, text_at, vector_at, referred, element_part, element_place}
-use Rattle.flat_tables.specs.Building.{Stands, IsText, IsParts, IsPlaces}
+use Rattle.flat_tables.specs.Building.{StaysAt, IsText, IsParts, IsPlaces}
 use Rattle.flat_tables.specs.Layout.{piece, reference, references}
 use Rattle.flat_tables.proofs.Lying.{Lies, lies_left, lies_right, lies_at, part_at-lies, number_at-lies, take-lies, numbers_lie, length-numbers}
 
@@ -47,7 +47,7 @@ put_at head content old bytes pad place front whole here =
 
 -- what a piece stands for follows from where its parts lie
 pub stands_put : (P : List ℕ → ℕ → Type 0) (head : ℕ) (content old new : List ℕ) (pad place : ℕ) → new ≡ piece head content pad ++ old → place ≡ length new
-    → ((bytes : List ℕ) (at : ℕ) → Put head content pad (length old) bytes at → P bytes at) → Stands P new place
+    → ((bytes : List ℕ) (at : ℕ) → Put head content pad (length old) bytes at → P bytes at) → StaysAt P new place
 stands_put P head content old new pad place whole here h = record {
   inside = omega arith;
   always = λ front. h (front ++ new) (length (front ++ new) - place)
@@ -72,7 +72,7 @@ text_put text pad after fits padded bytes at p =
     }
 
 pub text_stands : (text old new : List ℕ) (pad place : ℕ) → length text < 2 ^ 32 → (length old + length text + 1 + pad) % 8 ≡ 0
-    → new ≡ piece (length text) text (1 + pad) ++ old → place ≡ length new → Stands (IsText text) new place
+    → new ≡ piece (length text) text (1 + pad) ++ old → place ≡ length new → StaysAt (IsText text) new place
 text_stands text old new pad place fits padded whole here =
     stands_put (IsText text) (length text) text old new (1 + pad) place whole here (text_put text pad (length old) fits padded)
 
@@ -92,7 +92,7 @@ parts_put width count parts pad after whole fits padded bytes at p =
     }
 
 pub parts_stand : (width : ℕ) (parts old new : List ℕ) (pad place count : ℕ) → count * width ≡ length parts → count < 2 ^ 32 → (length old + length parts + pad) % 8 ≡ 0
-    → new ≡ piece count parts pad ++ old → place ≡ length new → Stands (IsParts width parts) new place
+    → new ≡ piece count parts pad ++ old → place ≡ length new → StaysAt (IsParts width parts) new place
 parts_stand width parts old new pad place count whole fits padded put here =
     stands_put (IsParts width parts) count parts old new pad place put here (parts_put width count parts pad (length old) whole fits padded)
 
@@ -123,7 +123,7 @@ places_put places from pad after is fits within padded bytes at p =
     }
 
 pub places_stand : (places old new : List ℕ) (from pad place : ℕ) → from ≡ length old + pad + 4 * length places → from < max_held → All (λ place. place ≤ length old) places
-    → (length old + 4 * length places + pad) % 8 ≡ 0 → new ≡ piece (length places) (references from places) pad ++ old → place ≡ length new → Stands (IsPlaces places) new place
+    → (length old + 4 * length places + pad) % 8 ≡ 0 → new ≡ piece (length places) (references from places) pad ++ old → place ≡ length new → StaysAt (IsPlaces places) new place
 places_stand places old new from pad place is fits within padded put here =
     stands_put (IsPlaces places) (length places) (references from places) old new pad place put here (places_put places from pad (length old) is fits within padded)
 

@@ -7,7 +7,7 @@ use Rattle.byteorder.specs.Numbers.{little_from-take}
 use Rattle.flat_tables.specs.declared.fault.FlatFault.TheVariants.{OutOfRange, BadVtable}
 use Rattle.flat_tables.specs.Bytes.{part_at, number_in, number_at, signed_at}
 use Rattle.flat_tables.specs.Tables.{is_bad_size, table_at, vtable_at, size_at}
-use Rattle.flat_tables.specs.Words.{NamesVtable, IsTable, HasBadVtable}
+use Rattle.flat_tables.specs.Words.{NamesVtable, IsTableAt, HasBadVtable}
 
 -- a part lies in the bytes, or it doesn't
 part_in : (bytes : List ℕ) (place n : ℕ) → place + n ≤ length bytes → part_at bytes place n ≡ Ok (take n (drop place bytes))
@@ -51,7 +51,7 @@ unfolding size_at
 bad_size bytes vtable head h =
     rw (part_in bytes vtable 4 head, number_is 2 bytes vtable (omega arith), bad (number_in 2 bytes vtable) h) refl
 
-pub table_is : (bytes : List ℕ) (place vtable size : ℕ) → IsTable bytes place vtable size → table_at bytes place ≡ Ok (record { bytes = bytes; place = place; vtable = vtable; size = size })
+pub table_is : (bytes : List ℕ) (place vtable size : ℕ) → IsTableAt bytes place vtable size → table_at bytes place ≡ Ok (record { bytes = bytes; place = place; vtable = vtable; size = size })
 unfolding table_at
 table_is bytes place vtable size h =
     rw (names bytes place vtable h.names, good_size bytes vtable size h.names.head h.is h.least h.even h.whole) refl
@@ -61,7 +61,7 @@ unfolding table_at
 bad_vtable bytes place h = rw (names bytes place h.vtable h.names, bad_size bytes h.vtable h.names.head h.bad) refl
 
 -- the size of a vtable that isn't good is bad, or the vtable ends too late
-size_out : (bytes : List ℕ) (place vtable : ℕ) → NamesVtable bytes place vtable → ((v size : ℕ) → IsTable bytes place v size → ⊥) → (HasBadVtable bytes place → ⊥)
+size_out : (bytes : List ℕ) (place vtable : ℕ) → NamesVtable bytes place vtable → ((v size : ℕ) → IsTableAt bytes place v size → ⊥) → (HasBadVtable bytes place → ⊥)
     → size_at bytes vtable ≡ Err OutOfRange
 unfolding size_at
 size_out bytes place vtable h no_table no_bad =
@@ -83,7 +83,7 @@ unfolding size_at
 head_out bytes vtable lt = rw (part_out bytes vtable 4 lt) refl
 
 from_named : (bytes : List ℕ) (place : ℕ) (z : ℤ) → place + 4 ≤ length bytes → pos place -ℤ cast_signed w32 (number_in 4 bytes place) ≡ z
-    → ((v size : ℕ) → IsTable bytes place v size → ⊥) → (HasBadVtable bytes place → ⊥) → table_at bytes place ≡ Err OutOfRange
+    → ((v size : ℕ) → IsTableAt bytes place v size → ⊥) → (HasBadVtable bytes place → ⊥) → table_at bytes place ≡ Err OutOfRange
 unfolding table_at vtable_at signed_at
 from_named bytes place (negsuc n) distance named no_table no_bad = rw (number_is 4 bytes place distance, named) refl
 from_named bytes place (pos vtable) distance named no_table no_bad =
@@ -93,7 +93,7 @@ from_named bytes place (pos vtable) distance named no_table no_bad =
     ] in
     rw (number_is 4 bytes place distance, named, out) refl
 
-pub neither_is : (bytes : List ℕ) (place : ℕ) → ((v size : ℕ) → IsTable bytes place v size → ⊥) → (HasBadVtable bytes place → ⊥) → table_at bytes place ≡ Err OutOfRange
+pub neither_is : (bytes : List ℕ) (place : ℕ) → ((v size : ℕ) → IsTableAt bytes place v size → ⊥) → (HasBadVtable bytes place → ⊥) → table_at bytes place ≡ Err OutOfRange
 unfolding table_at vtable_at signed_at
 neither_is bytes place no_table no_bad = elim (cases_lt (length bytes) (place + 4)) [
   | inl lt ↦ rw (number_out 4 bytes place lt) refl

@@ -1,9 +1,9 @@
 -- What stood in a builder still stands.
 use Rattle.std.proofs.Common.{◌≡◌, ℕ, ◌-◌, List, [], ◌++◌, length, sym, ap, ◌∙◌, subst, append_assoc, length-append, arith}
-use Rattle.flat_tables.specs.Building.{Grows, Stands}
+use Rattle.flat_tables.specs.Building.{Grows, StaysAt}
 
 -- also after something was put in front
-pub stands_on : (P : List ℕ → ℕ → Type 0) (old new : List ℕ) (place : ℕ) → Grows old new → Stands P old place → Stands P new place
+pub stands_on : (P : List ℕ → ℕ → Type 0) (old new : List ℕ) (place : ℕ) → Grows old new → StaysAt P old place → StaysAt P new place
 stands_on P old new place g s = record {
   inside = omega (arith, ap length g.whole, length-append g.more old, s.inside);
   always = λ front.
@@ -12,7 +12,7 @@ stands_on P old new place g s = record {
 }
 
 -- in the bytes themselves
-pub stands_here : (P : List ℕ → ℕ → Type 0) (bytes : List ℕ) (place : ℕ) → Stands P bytes place → P bytes (length bytes - place)
+pub stands_here : (P : List ℕ → ℕ → Type 0) (bytes : List ℕ) (place : ℕ) → StaysAt P bytes place → P bytes (length bytes - place)
 stands_here P bytes place s = s.always []
 
 pub grows_on : (a b c : List ℕ) → Grows a b → Grows b c → Grows a c
@@ -22,5 +22,5 @@ grows_on a b c g h = record {
 }
 
 -- and in those that they end
-pub stands_later : (P : List ℕ → ℕ → Type 0) (old new : List ℕ) (place : ℕ) → Grows old new → Stands P old place → P new (length new - place)
+pub stands_later : (P : List ℕ → ℕ → Type 0) (old new : List ℕ) (place : ℕ) → Grows old new → StaysAt P old place → P new (length new - place)
 stands_later P old new place g s = stands_here P new place (stands_on P old new place g s)

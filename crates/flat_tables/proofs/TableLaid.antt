@@ -14,7 +14,7 @@ use Rattle.flat_tables.specs.Limits.{max_slots, max_held}
 use Rattle.flat_tables.specs.Bytes.{part_at, number_at, signed_at}
 use Rattle.flat_tables.specs.Tables.{TableIn, table_at, vtable_at, size_at, distance_at, place_of, is_bad_size}
 use Rattle.flat_tables.specs.Slots.{Reaches, AllReach, Holds, alignment}
-use Rattle.flat_tables.specs.Building.{Stands, HasSlots}
+use Rattle.flat_tables.specs.Building.{StaysAt, HasSlots}
 use Rattle.flat_tables.specs.Layout.{IsSlot, numbers, cell, cells, entry, vtable, piece}
 use Rattle.flat_tables.proofs.Lying.{Lies, lies_left, lies_right, lies_at, part_at-lies, number_at-lies, little_number-lies, numbers_lie, length-numbers}
 use Rattle.flat_tables.proofs.Reaching.{reaches_at}
@@ -165,7 +165,7 @@ table_put slots from pad after few is small fits reach padded bytes at p =
 
 pub table_stands : (slots : List Slot) (old new : List ℕ) (from pad place : ℕ) → length slots ≤ max_slots → from ≡ length old + pad + (10 * length slots + 4) → from < max_held
     → ((k : ℕ) → IsSlot (get_or slots k Absent)) → AllReach (length old) slots → (length old + (10 * length slots + 4) + pad) % 8 ≡ 0
-    → new ≡ piece (2 ^ 32 - (4 + 8 * length slots)) (cells from slots ++ vtable slots) pad ++ old → place ≡ length new → Stands (HasSlots slots) new place
+    → new ≡ piece (2 ^ 32 - (4 + 8 * length slots)) (cells from slots ++ vtable slots) pad ++ old → place ≡ length new → StaysAt (HasSlots slots) new place
 table_stands slots old new from pad place few is small fits reach padded put here =
     stands_put (HasSlots slots) (2 ^ 32 - (4 + 8 * length slots)) (cells from slots ++ vtable slots) old new pad place put here
     (table_put slots from pad (length old) few is small fits reach padded)

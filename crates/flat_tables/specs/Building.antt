@@ -13,7 +13,7 @@ pub record Grows (old new : List ℕ) : Type 0 where
 
 -- A place, counted from the end of the bytes, stands for what P says of the same place, counted from the start,
 -- whatever is put in front of the bytes.
-pub record Stands (P : List ℕ → ℕ → Type 0) (bytes : List ℕ) (place : ℕ) : Type 0 where
+pub record StaysAt (P : List ℕ → ℕ → Type 0) (bytes : List ℕ) (place : ℕ) : Type 0 where
   pub inside : place ≤ length bytes
   pub always : (front : List ℕ) → P (front ++ bytes) (length (front ++ bytes) - place)
 
@@ -64,8 +64,8 @@ pub record HasSlots (slots : List Slot) (bytes : List ℕ) (place : ℕ) : Type 
 -- them: what was built is padded, and each text, vector and table in it stands at its multiple.
 pub record IsAligned (built bytes : List ℕ) : Type 0 where
   pub padded : IsPadded bytes
-  pub texts : (text : List ℕ) (place : ℕ) → Stands (IsText text) built place → (length bytes - place) % 4 ≡ 0
-  pub parts : (width : ℕ) (parts : List ℕ) (place : ℕ) → Stands (IsParts width parts) built place → (length bytes - place + 4) % 8 ≡ 0
-  pub places : (places : List ℕ) (place : ℕ) → Stands (IsPlaces places) built place → (length bytes - place + 4) % 8 ≡ 0
-  pub tables : (slots : List Slot) (place : ℕ) (t : TableIn) → Stands (HasSlots slots) built place
+  pub texts : (text : List ℕ) (place : ℕ) → StaysAt (IsText text) built place → (length bytes - place) % 4 ≡ 0
+  pub parts : (width : ℕ) (parts : List ℕ) (place : ℕ) → StaysAt (IsParts width parts) built place → (length bytes - place + 4) % 8 ≡ 0
+  pub places : (places : List ℕ) (place : ℕ) → StaysAt (IsPlaces places) built place → (length bytes - place + 4) % 8 ≡ 0
+  pub tables : (slots : List Slot) (place : ℕ) (t : TableIn) → StaysAt (HasSlots slots) built place
       → table_at bytes (length bytes - place) ≡ Ok t → IsTableAligned slots t

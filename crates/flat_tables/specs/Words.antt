@@ -11,7 +11,7 @@ pub record NamesVtable (bytes : List ℕ) (place vtable : ℕ) : Type 0 where
   pub head : vtable + 4 ≤ length bytes
 
 -- a table stands at the place: the size of its vtable is even and at least 4, and the whole vtable lies in the bytes
-pub record IsTable (bytes : List ℕ) (place vtable size : ℕ) : Type 0 where
+pub record IsTableAt (bytes : List ℕ) (place vtable size : ℕ) : Type 0 where
   pub names : NamesVtable bytes place vtable
   pub is : number_in 2 bytes vtable ≡ size
   pub least : 4 ≤ size

@@ -2,7 +2,7 @@ ghost use Rattle.std.specs.Prelude.{◌≡◌, ◌+◌, ◌-◌, ◌*◌, ◌%�
 ghost use Rattle.flat_tables.specs.Limits.{max_width, max_slots, max_size, max_held};
 ghost use Rattle.flat_tables.specs.Tables.{root_at, table_at};
 ghost use Rattle.flat_tables.specs.Slots.{AllReach};
-ghost use Rattle.flat_tables.specs.Building.{Grows, Stands, IsText, IsParts, IsPlaces, HasSlots, IsAligned};
+ghost use Rattle.flat_tables.specs.Building.{Grows, StaysAt, IsText, IsParts, IsPlaces, HasSlots, IsAligned};
 ghost use Rattle.flat_tables.specs.Layout.{piece};
 
 use crate::layout::{append, cells, padding, references, turn, vtable_distance};
@@ -75,7 +75,7 @@ impl Builder {
     /// Adds a text, and a zero byte after it. The bytes need not be UTF-8.
     pub fn add_text(&mut self, part: &[u8]) -> Result<Place, AllocError>
         requires { length self.old + length part.now < max_size }
-        ensures text { IfOk result (Stands (IsText part.now) self.new) }
+        ensures text { IfOk result (StaysAt (IsText part.now) self.new) }
         ensures grows { Grows self.old self.new }
         ensures size { length self.new ≤ length self.old + length part.now + 32 }
         ensures err { OnErr result (self.new ≡ self.old) }
@@ -91,7 +91,7 @@ impl Builder {
         requires most { width ≤ max_width }
         requires whole { length parts.now % width ≡ 0 }
         requires room { length self.old + length parts.now < max_size }
-        ensures parts { IfOk result (Stands (IsParts width parts.now) self.new) }
+        ensures parts { IfOk result (StaysAt (IsParts width parts.now) self.new) }
         ensures grows { Grows self.old self.new }
         ensures size { length self.new ≤ length self.old + length parts.now + 32 }
         ensures err { OnErr result (self.new ≡ self.old) }
@@ -106,7 +106,7 @@ impl Builder {
     pub fn add_places(&mut self, places: &[Place]) -> Result<Place, AllocError>
         requires given { All (λ place. place ≤ length self.old) places.now }
         requires room { length self.old + 4 * length places.now < max_size }
-        ensures places { IfOk result (Stands (IsPlaces places.now) self.new) }
+        ensures places { IfOk result (StaysAt (IsPlaces places.now) self.new) }
         ensures grows { Grows self.old self.new }
         ensures size { length self.new ≤ length self.old + 4 * length places.now + 32 }
         ensures err { OnErr result (self.new ≡ self.old) }
@@ -123,7 +123,7 @@ impl Builder {
         requires few { length slots.now ≤ max_slots }
         requires given { AllReach (length self.old) slots.now }
         requires room { length self.old < max_size }
-        ensures slots { IfOk result (Stands (HasSlots slots.now) self.new) }
+        ensures slots { IfOk result (StaysAt (HasSlots slots.now) self.new) }
         ensures grows { Grows self.old self.new }
         ensures size { length self.new ≤ length self.old + 256 }
         ensures err { OnErr result (self.new ≡ self.old) }

@@ -1,7 +1,7 @@
 use Rattle.std.proofs.Common.{◌≡◌, ℕ, ◌∷◌, [], List, true, sym, ap, ◌∙◌, subst, arith}
 use Rattle.std.specs.Prelude.{IsTrue}
 use Rattle.flat_tables.specs.declared.place.Slot.TheVariants.{U8, At}
-use Rattle.flat_tables.specs.Building.{Stands, IsText, HasSlots}
+use Rattle.flat_tables.specs.Building.{StaysAt, IsText, HasSlots}
 use Rattle.flat_tables.proofs.Standing.{stands_on, grows_on}
 use Rattle.arrow_schema.specs.declared.spec.FieldSpec.{FieldSpec}
 use Rattle.arrow_schema.specs.Trees.{count_of, name_in, kind_in, dict_in, encoding_in, children_in}
@@ -67,13 +67,13 @@ add_field-returns-clause-field t c =
     let text : c.as_slice-2.result.now ≡ name_in f = c.as_slice-2.ensures.value in
     field_stands bytes f c.in_ok-children.children c.in_ok-name.name c.in_ok-kind.kind c.in_ok-place.place c.in_ok-dict.dict c.in_ok-metadata.metadata
     (stands_on (WritesFields (children_in f)) after_fields bytes c.in_ok-children.children from_fields
-    (subst (λ (fields : List FieldSpec). Stands (WritesFields fields) after_fields c.in_ok-children.children) own c.in_ok-children.ensures.fields))
+    (subst (λ (fields : List FieldSpec). StaysAt (WritesFields fields) after_fields c.in_ok-children.children) own c.in_ok-children.ensures.fields))
     (stands_on (IsText (name_in f)) after_text bytes c.in_ok-name.name from_text
-    (subst (λ (name : List ℕ). Stands (IsText name) after_text c.in_ok-name.name) text c.in_ok-name.ensures.text))
+    (subst (λ (name : List ℕ). StaysAt (IsText name) after_text c.in_ok-name.name) text c.in_ok-name.ensures.text))
     (stands_on (HasSlots (type_slots (kind_in f))) after_type bytes c.in_ok-kind.kind from_type c.in_ok-kind.ensures.kind)
     (dict_slot_on (dict_in f) after_dict bytes c.in_ok-dict.dict from_dict c.in_ok-dict.ensures.dict)
     (metadata_slot_on (encoding_in f) after_metadata bytes c.in_ok-metadata.metadata from_metadata c.in_ok-metadata.ensures.metadata)
-    (subst (λ (n : ℕ). Stands (HasSlots (At c.in_ok-name.name ∷ U8 1 ∷ U8 n ∷ At c.in_ok-kind.kind ∷ c.in_ok-dict.dict ∷ At c.in_ok-children.children ∷ c.in_ok-metadata.metadata ∷ [])) bytes c.in_ok-place.place)
+    (subst (λ (n : ℕ). StaysAt (HasSlots (At c.in_ok-name.name ∷ U8 1 ∷ U8 n ∷ At c.in_ok-kind.kind ∷ c.in_ok-dict.dict ∷ At c.in_ok-children.children ∷ c.in_ok-metadata.metadata ∷ [])) bytes c.in_ok-place.place)
     c.number.ensures c.in_ok-place.ensures.slots)
 
 pub add_fields-add_field-requires : goal.add_fields-add_field-requires

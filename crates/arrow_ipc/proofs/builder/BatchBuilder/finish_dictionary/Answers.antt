@@ -3,7 +3,7 @@ use Rattle.std.specs.Prelude.{ℤ}
 use Rattle.std.proofs.lemmas.Grind.{common_steps}
 use Rattle.std.specs.Int.{w64}
 use Rattle.std.proofs.lemmas.Int.{to_z-of_z}
-use Rattle.flat_tables.specs.Building.{Stands}
+use Rattle.flat_tables.specs.Building.{StaysAt}
 use Rattle.flat_tables.proofs.Standing.{stands_on}
 use Rattle.arrow_ipc.specs.declared.messages.IpcMessage.TheVariants.{Dictionary}
 use Rattle.arrow_ipc.specs.Batches.{BatchIn}
@@ -22,13 +22,13 @@ returns-clause-ok c =
     let empty : length c.new-builder.result ≡ 0 = ap length c.new-builder.ensures in
     let few : length built ≤ 16 * length c.self.inside.nodes.items + 16 * length c.self.inside.places.items + 320 =
     omega (arith, c.in_ok-batch.ensures.size, empty, ap length c.deref.ensures.value, ap length c.deref-2.ensures.value) in
-    let table : Stands (IsBatchTable c.self.inside.rows c.self.inside.nodes.items c.self.inside.places.items) built batch =
-    subst (λ (nodes : List (ℤ × ℤ)). Stands (IsBatchTable c.self.inside.rows nodes c.self.inside.places.items) built batch) c.deref.ensures.value
-    (subst (λ (places : List (ℤ × ℤ)). Stands (IsBatchTable c.self.inside.rows c.deref.result.now places) built batch) c.deref-2.ensures.value
+    let table : StaysAt (IsBatchTable c.self.inside.rows c.self.inside.nodes.items c.self.inside.places.items) built batch =
+    subst (λ (nodes : List (ℤ × ℤ)). StaysAt (IsBatchTable c.self.inside.rows nodes c.self.inside.places.items) built batch) c.deref.ensures.value
+    (subst (λ (places : List (ℤ × ℤ)). StaysAt (IsBatchTable c.self.inside.rows c.deref.result.now places) built batch) c.deref-2.ensures.value
     c.in_ok-batch.ensures.table) in
-    let still : Stands (IsBatchTable c.self.inside.rows c.self.inside.nodes.items c.self.inside.places.items) more batch =
+    let still : StaysAt (IsBatchTable c.self.inside.rows c.self.inside.nodes.items c.self.inside.places.items) more batch =
     stands_on (IsBatchTable c.self.inside.rows c.self.inside.nodes.items c.self.inside.places.items) built more batch c.in_ok-header.ensures.grows table in
-    let dictionary : Stands (IsDictionaryTable c.args.id c.args.delta c.self.inside.rows c.self.inside.nodes.items c.self.inside.places.items) more header =
+    let dictionary : StaysAt (IsDictionaryTable c.args.id c.args.delta c.self.inside.rows c.self.inside.nodes.items c.self.inside.places.items) more header =
     dictionary_stands c.args.id _ c.args.delta c.self.inside.rows c.self.inside.nodes.items c.self.inside.places.items more batch c.from.result header
     (to_z-of_z w64 c.args.id (search rules)) c.in_ok-header.ensures.slots still (grind (arith, common_steps)) in
     let message : HasMessage more header 2 c.self.inside.body.items c.args.to.now.items c.write_message.new.to.items =
