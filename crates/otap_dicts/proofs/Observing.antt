@@ -7,6 +7,7 @@ use Rattle.otap_dicts.specs.declared.form.Form.{Form}
 use Rattle.otap_dicts.specs.declared.form.Form.TheVariants.{Absent, Dict8, Dict16, Plain}
 use Rattle.otap_dicts.specs.Forms.{with_value, distinct, bytes_of, is_too_large, dictionary_form, form_of}
 use Rattle.otap_dicts.specs.Ladders.{LadderIn, StandsForMore, kept_in, ladder_of, takes, with_new, observed}
+use Rattle.otap_dicts.specs.Limits.{narrow_limit}
 use Rattle.otap_dicts.proofs.Larger.{large-plain, large-stays}
 
 pub distinct-push : (values : List (List ℕ)) (value : List ℕ) → distinct (values ++ value ∷ []) ≡ with_value (distinct values) value
@@ -56,7 +57,7 @@ no-more values value plain =
 
 any-form : (form : Form) (values : List (List ℕ)) (value : List ℕ) → form ≡ dictionary_form (length values) (bytes_of values) → observed (with_form form values) value ≡ ladder_by (with_value values value)
 unfolding with_form observed
-any-form Absent values value same = absurd (true≢false (ap is_absent same ∙ not-absent (is_too_large (length values) (bytes_of values)) (nat_lt 256 (length values))))
+any-form Absent values value same = absurd (true≢false (ap is_absent same ∙ not-absent (is_too_large (length values) (bytes_of values)) (nat_lt narrow_limit (length values))))
 any-form Dict8 values value same = in-dictionary Dict8 values value (list_any (bytes_eq value) values) refl refl refl same
 any-form Dict16 values value same = in-dictionary Dict16 values value (list_any (bytes_eq value) values) refl refl refl same
 any-form Plain values value same = no-more values value (sym same)

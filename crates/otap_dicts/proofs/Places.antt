@@ -7,6 +7,7 @@ use Rattle.std.proofs.lemmas.Iterator.Adapters.{position_from-zero}
 use Rattle.otap_dicts.specs.declared.form.Form.TheVariants.{Dict8, Dict16, Plain}
 use Rattle.otap_dicts.specs.Forms.{bytes_of, is_too_large}
 use Rattle.otap_dicts.specs.Ladders.{LadderIn, is_plain, kept_in, observed, takes, with_new}
+use Rattle.otap_dicts.specs.Limits.{narrow_limit}
 use Rattle.otap_dicts.proofs.Found.{last_place}
 use Rattle.otap_dicts.proofs.Repeated.{known, unknown}
 
@@ -44,7 +45,7 @@ not_plain false false values is = refl
 with_new_last : (ladder : LadderIn) (value : List ℕ) → is_plain (with_new ladder value).form ≡ false → (with_new ladder value).values ≡ ladder.values ++ value ∷ []
 unfolding with_new
 with_new_last ladder value is =
-    not_plain (is_too_large (length ladder.values + 1) (bytes_of ladder.values + length value)) (nat_lt 256 (length ladder.values + 1)) (ladder.values ++ value ∷ []) is
+    not_plain (is_too_large (length ladder.values + 1) (bytes_of ladder.values + length value)) (nat_lt narrow_limit (length ladder.values + 1)) (ladder.values ++ value ∷ []) is
 
 -- a ladder that takes no value becomes plain
 not_taken : (ladder : LadderIn) (value : List ℕ) → takes ladder ≡ false → is_plain (observed ladder value).form ≡ true

@@ -9,6 +9,7 @@ use Rattle.otap_dicts.specs.declared.form.Form.{Form}
 use Rattle.otap_dicts.specs.declared.form.Form.TheVariants.{Absent, Dict8, Dict16, Plain}
 use Rattle.otap_dicts.specs.Forms.{bytes_of, is_too_large, dictionary_form}
 use Rattle.otap_dicts.specs.Ladders.{LadderIn, in_form, takes, with_new, observed}
+use Rattle.otap_dicts.specs.Limits.{narrow_limit}
 
 -- a plain ladder stays as it is
 plain_of : (dictionary : Bool) (form : Form) (values : List (List ℕ)) (value : List ℕ) → form ≡ Plain
@@ -71,7 +72,7 @@ twice_by dictionary form values value true true takes_is has_is =
 twice_by false form values value true false takes_is has_is = cc
 twice_by true form values value true false takes_is has_is =
     again (record { dictionary = true; form = form; values = values }) _ value
-    (added true form values value takes_is has_is) (new_of form (is_too_large (length values + 1) (bytes_of values + length value)) (nat_lt 256 (length values + 1)) values value)
+    (added true form values value takes_is has_is) (new_of form (is_too_large (length values + 1) (bytes_of values + length value)) (nat_lt narrow_limit (length values + 1)) values value)
 
 pub twice : (ladder : LadderIn) (value : List ℕ) → observed (observed ladder value) value ≡ observed ladder value
 twice ladder value = twice_by ladder.dictionary ladder.form ladder.values value (takes ladder) (list_any (bytes_eq value) ladder.values) refl refl

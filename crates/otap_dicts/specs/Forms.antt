@@ -3,6 +3,7 @@ use Rattle.std.specs.Prelude.{ℕ, nat_lt, Bool, ◌||◌, if◌then◌else◌, 
 use Rattle.std.specs.List.{list_any}
 use Rattle.otap_dicts.specs.declared.form.Form.{Form}
 use Rattle.otap_dicts.specs.declared.form.Form.TheVariants.{Absent, Dict8, Dict16, Plain}
+use Rattle.otap_dicts.specs.Limits.{narrow_limit, value_limit, byte_limit}
 
 -- The distinct values in the order of their first occurrence: each value is put last unless it is there.
 abbrev pub with_value : List (List ℕ) → List ℕ → List (List ℕ)
@@ -17,10 +18,10 @@ bytes_of values = sum_by length values
 
 -- The form of a dictionary column, by the number of its distinct values and by the bytes that these have together.
 abbrev pub is_too_large : ℕ → ℕ → Bool
-is_too_large count bytes = nat_lt 65536 count || nat_lt 1048576 bytes
+is_too_large count bytes = nat_lt value_limit count || nat_lt byte_limit bytes
 
 abbrev pub dictionary_form : ℕ → ℕ → Form
-dictionary_form count bytes = if is_too_large count bytes then Plain else (if nat_lt 256 count then Dict16 else Dict8)
+dictionary_form count bytes = if is_too_large count bytes then Plain else (if nat_lt narrow_limit count then Dict16 else Dict8)
 
 -- The form of a column: absent without values; plain where it isn't written as a dictionary at all, or its dictionary would be too large.
 abbrev pub form_of : Bool → List (List ℕ) → Form

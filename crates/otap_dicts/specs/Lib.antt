@@ -1,3 +1,4 @@
 pub mod Forms
 pub mod Inside
 pub mod Ladders
+pub mod Limits

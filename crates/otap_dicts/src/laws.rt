@@ -4,6 +4,16 @@ ghost use Rattle.std.specs.List.{list_any, IsDistinct};
 ghost use Rattle.otap_dicts.specs.Forms.{distinct};
 ghost use Rattle.otap_dicts.specs.Ladders.{LadderIn, is_plain, ladder_of, observed};
 ghost use Rattle.otap_dicts.specs.declared.form.Form.TheVariants.{Plain};
+ghost use Rattle.otap_dicts.specs.Limits.{narrow_limit, value_limit, byte_limit};
+
+use crate::form::{MAX_BYTES, MAX_NARROW, MAX_VALUES};
+
+/// The limits have their values.
+pub fn limits_hold()
+    ensures narrow { MAX_NARROW ≡ narrow_limit }
+    ensures values { MAX_VALUES ≡ value_limit }
+    ensures bytes { MAX_BYTES ≡ byte_limit }
+{}
 
 /// The distinct values of a list are its values, each once; more values only add to them, at their end.
 pub fn distinct_values()
