@@ -5,7 +5,8 @@ use Rattle.otap_dicts.proofs.ladder.Ladder.index_of.Goals as goal
 
 pub returns-in_err-place : goal.returns-in_err-place
 returns-in_err-place c =
-    c.from_residual.ensures ∙ c.in_err-place.ensures.index ∙ position-map (λ key. key.bytes.items) c.args.value.now c.self.inside.values.keys ∙ ap (λ (l : LadderIn). position (bytes_eq c.args.value.now) l.values) c.self.view_is
+    c.from_residual.ensures ∙ c.in_err-place.ensures.index ∙ position-map (λ key. key.bytes.items) c.args.value.now c.self.inside.values.keys
+    ∙ ap (λ (l : LadderIn). position (bytes_eq c.args.value.now) l.values) c.self.view_is
 
 pub returns : goal.returns
 returns c =
