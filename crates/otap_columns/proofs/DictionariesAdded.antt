@@ -20,6 +20,7 @@ use Rattle.arrow_arrays.specs.Columns.{width_of, StandAt, IsColumn, AreTexts}
 use Rattle.arrow_arrays.specs.Layouts.{layout_of_values}
 use Rattle.arrow_arrays.proofs.ColumnLaws.{column_checks, column_cells}
 use Rattle.otap_dicts.specs.Forms.{bytes_of}
+use Rattle.otap_dicts.specs.Limits.{value_limit, byte_limit}
 use Rattle.otap_columns.specs.Dictionaries.{values_of}
 use Rattle.otap_columns.specs.WrittenPayloads.{HoldsValues}
 use Rattle.otap_columns.specs.WrittenBatches.{IsSingle, AddsDictionary}
@@ -164,14 +165,14 @@ validity_short nulls rows = by (nulls == 0) refl
 
 -- a dictionary's batch is small
 pub dictionary_short : (w : Width) (values : List (List ℕ)) (from : ℕ) (b : Buffers) → IsSingle w → ((place : ℕ) (value : List ℕ) → slice_get values place ≡ Some value → HasWidth w value)
-    → length values ≤ 65536 → bytes_of values ≤ 1048576 → b.rows ≡ length (all_some (drop from values)) → length b.validity.items ≡ validity_len b.nulls b.rows → length b.offsets.items ≡ offsets_len w b.rows
+    → length values ≤ value_limit → bytes_of values ≤ byte_limit → b.rows ≡ length (all_some (drop from values)) → length b.validity.items ≡ validity_len b.nulls b.rows → length b.offsets.items ≡ offsets_len w b.rows
     → length b.values.items ≡ values_len w (all_some (drop from values)) → sizes b ≤ 1441850
 dictionary_short w values from b single wide few small rows validity offsets bytes =
     let short : values_len w (all_some (drop from values)) ≤ bytes_of (drop from values) + length (drop from values) =
     values_short w (drop from values) single (λ place value at. wide (from + place) value (drop_at values from place value at)) in
-    let count : b.rows ≤ 65536 = omega (arith, length-map (drop from values) (λ (value : List ℕ). Some value), length-drop from values) in
-    let total : bytes_of (drop from values) ≤ 1048576 = omega (arith, sum_by-take-drop length values from) in
-    let left : length (drop from values) ≤ 65536 = omega (arith, length-drop from values) in
+    let count : b.rows ≤ value_limit = omega (arith, length-map (drop from values) (λ (value : List ℕ). Some value), length-drop from values) in
+    let total : bytes_of (drop from values) ≤ byte_limit = omega (arith, sum_by-take-drop length values from) in
+    let left : length (drop from values) ≤ value_limit = omega (arith, length-drop from values) in
     let a : padded (length b.validity.items) ≤ 65560 = omega (arith, padded_short (length b.validity.items), validity_short b.nulls b.rows) in
     let o : padded (length b.offsets.items) ≤ 262160 = omega (arith, padded_short (length b.offsets.items), offsets_short w b.rows) in
     let v : padded (length b.values.items) ≤ 1114130 = omega (arith, padded_short (length b.values.items)) in

@@ -6,6 +6,7 @@ use Rattle.std.proofs.lemmas.Bool.{le-ltb}
 use Rattle.std.proofs.lemmas.List.{map-append, length-map}
 use Rattle.std.proofs.lemmas.List.Folds.{list_any-append, list_all-append}
 use Rattle.arrow_ipc.specs.Batches.{BatchIn}
+use Rattle.otap_dicts.specs.Limits.{value_limit}
 use Rattle.otap_columns.specs.declared.refusal.ColumnRefusal.{ColumnRefusal}
 use Rattle.otap_columns.specs.declared.refusal.ColumnRefusal.TheVariants.{Order, Ipc, Column, Buffers, BadIndex, DictionarySize, Memory}
 use Rattle.otap_columns.specs.Dictionaries.{DictionaryIn, grown_if, all_grown, is_too_large}
@@ -138,5 +139,5 @@ module _ (id : ℤ) (delta : Bool) (batch : BatchIn) where
   refused_by old new place x (Memory e) n h = tt
 
   -- not too many are not too many
-  pub not_too_large : (d : DictionaryIn) → length d.values ≤ 65536 → is_too_large d ≡ false
-  not_too_large d h = le-ltb 65536 (length d.values) h
+  pub not_too_large : (d : DictionaryIn) → length d.values ≤ value_limit → is_too_large d ≡ false
+  not_too_large d h = le-ltb value_limit (length d.values) h

@@ -12,6 +12,7 @@ use Rattle.arrow_arrays.specs.Fields.{FieldIn, field_of}
 use Rattle.otap_cells.specs.declared.payload.Kind.{Kind}
 use Rattle.otap_cells.specs.Columns.{ColumnSpec, columns_of, column_at, width_of}
 use Rattle.otap_dicts.specs.Forms.{bytes_of}
+use Rattle.otap_dicts.specs.Limits.{value_limit, byte_limit}
 use Rattle.otap_columns.specs.Dictionaries.{DictionaryIn, is_for, with_dictionary, with_dictionaries, empty_dictionaries, value_weight, weight_of, held_weight}
 use Rattle.otap_columns.specs.Groups.{Member, Group, split, joined_to, group_before, grouped_from, grouped}
 use Rattle.otap_columns.specs.Groups as group
@@ -30,7 +31,7 @@ values_weigh (v ∷ vs) =
     sum : (a b n : ℕ) → (a + 8) + (b + 8 * n) ≡ (a + b) + 8 * suc n
     sum a b n = omega arith
 
-pub light : (values : List (List ℕ)) → length values ≤ 65536 → bytes_of values ≤ 1048576 → sum_by value_weight (all_some values) ≤ 1572864
+pub light : (values : List (List ℕ)) → length values ≤ value_limit → bytes_of values ≤ byte_limit → sum_by value_weight (all_some values) ≤ 1572864
 light values few small = omega (arith, values_weigh values)
 
 -- all of them

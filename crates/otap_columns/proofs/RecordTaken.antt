@@ -24,9 +24,9 @@ use Rattle.otap_cells.specs.Cells.{Cell, null, IsCellOf}
 use Rattle.otap_cells.specs.Columns.{base_at, coding_at, is_id_at, width_of}
 use Rattle.otap_cells.specs.Tables.{Table, IsTable, SameTable, cell_in, coding_in, row_by, rows_by}
 use Rattle.otap_cells.proofs.ByPlace.{id_within, rows-table_by}
+use Rattle.otap_dicts.specs.Limits.{value_limit}
 use Rattle.otap_columns.specs.declared.forms.ColumnForm.{ColumnForm}
 use Rattle.otap_columns.specs.declared.forms.ColumnForm.TheVariants as form
-use Rattle.otap_columns.specs.Limits.{value_limit}
 use Rattle.otap_columns.specs.Dictionaries.{value_weight, weight_of, dictionary, DictionaryIn, has_id, filled, empty_dictionaries, dictionaries_in, is_too_large, values_for}
 use Rattle.otap_columns.specs.Known.{place_at, column_coding, column_greatest, stored_cell}
 use Rattle.otap_columns.specs.Substreams.{SubstreamIn, held_if, held_in, schema_in, substream_of, substream_in, value_at, is_index_below, replaced}
@@ -55,8 +55,8 @@ pub record Step (kind : Kind) (forms : Forms) (values : ℕ → List (List ℕ))
   pub is : start ≡ Schema (schema_for kind forms) ∷ rest
   pub turns : Turns (type_at kind forms) (λ column. is_dictionary (forms column)) (width_of kind) start values head
   pub light : (column : ℕ) → column < width_of kind → is_dictionary (forms column) ≡ true → sum_by value_weight (all_some (values column)) ≤ 1572864
-  pub few : (column : ℕ) → column < width_of kind → is_dictionary (forms column) ≡ true → length (values column) ≤ 65536
-  pub small : (column : ℕ) → column < width_of kind → is_dictionary (forms column) ≡ true → length (dictionary (type_at kind forms column) (pos column) start) ≤ 65536
+  pub few : (column : ℕ) → column < width_of kind → is_dictionary (forms column) ≡ true → length (values column) ≤ value_limit
+  pub small : (column : ℕ) → column < width_of kind → is_dictionary (forms column) ≡ true → length (dictionary (type_at kind forms column) (pos column) start) ≤ value_limit
   pub holds : HoldsRows kind forms values t rows
   pub kind_is : t.kind ≡ kind
   pub table : IsTable t
@@ -121,9 +121,9 @@ module _ (kind : Kind) (forms : Forms) (values : ℕ → List (List ℕ)) (start
     where
       each : (d : DictionaryIn) → IsOwn d.kind d.id → nat_lt value_limit (length (dictionary d.kind d.id (start ++ heads head n))) ≡ false
       each d o =
-          let here : length (dictionary (type_in (base_at kind o.column) (forms o.column)) (pos o.column) (start ++ heads head n)) ≤ 65536 =
-          few_after (type_at kind forms) (λ column. is_dictionary (forms column)) (width_of kind) start values head s.turns 65536 o.column n low o.dict (s.few o.column o.below o.dict) (s.small o.column o.below o.dict) in
-          le-ltb 65536 (length (dictionary d.kind d.id (start ++ heads head n))) (rw (o.type_is, o.id_is) here)
+          let here : length (dictionary (type_in (base_at kind o.column) (forms o.column)) (pos o.column) (start ++ heads head n)) ≤ value_limit =
+          few_after (type_at kind forms) (λ column. is_dictionary (forms column)) (width_of kind) start values head s.turns value_limit o.column n low o.dict (s.few o.column o.below o.dict) (s.small o.column o.below o.dict) in
+          le-ltb value_limit (length (dictionary d.kind d.id (start ++ heads head n))) (rw (o.type_is, o.id_is) here)
 
   -- the values of a column's batch are fine for each dictionary of its id
   fine_for : (column : ℕ) (batch : BatchIn) (ms : List IpcMessage) → array_check batch (place_of_values (type_in (base_at kind column) (forms column))) ≡ Ok tt

@@ -19,6 +19,7 @@ use Rattle.otap_dicts.specs.declared.form.Form.TheVariants as ladder
 use Rattle.otap_dicts.specs.Forms.{distinct, bytes_of, is_too_large, form_of}
 use Rattle.otap_dicts.specs.Ladders.{LadderIn, is_dictionary, ladder_of, observed}
 use Rattle.otap_dicts.proofs.Observing.{observed-push}
+use Rattle.otap_dicts.specs.Limits.{narrow_limit}
 use Rattle.otap_columns.specs.declared.forms.ColumnForm.{ColumnForm}
 use Rattle.otap_columns.specs.declared.forms.ColumnForm.TheVariants as form
 use Rattle.otap_columns.specs.Observed.{bytes_for, given, seen, has_wide_id, is_own_id, is_wide, if_seen, id_form, form_at}
@@ -119,7 +120,7 @@ told_id own false (v ∷ vs) f = by own
     by true = refl
     by false = refl
 told_id own true (v ∷ vs) f =
-    rw (absent_ladder (is_too_large (length (distinct (v ∷ vs))) (bytes_of (distinct (v ∷ vs)))) (nat_lt 256 (length (distinct (v ∷ vs))))) (by own)
+    rw (absent_ladder (is_too_large (length (distinct (v ∷ vs))) (bytes_of (distinct (v ∷ vs)))) (nat_lt narrow_limit (length (distinct (v ∷ vs))))) (by own)
   where
     by : (own : Bool) → f ≡ (if own then f else f)
     by true = refl

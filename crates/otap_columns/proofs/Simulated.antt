@@ -22,6 +22,7 @@ use Rattle.otap_cells.specs.Cells.{IsCellOf}
 use Rattle.otap_cells.specs.Columns.{base_at, width_of}
 use Rattle.otap_cells.specs.Payload.{number_of}
 use Rattle.otap_cells.specs.Tables.{Table, cell_in}
+use Rattle.otap_dicts.specs.Limits.{value_limit}
 use Rattle.otap_columns.specs.Streams.{PayloadIn, is_of, last_of, opens_after, opens, stream_of}
 use Rattle.otap_columns.specs.Dictionaries.{dictionary}
 use Rattle.otap_columns.specs.Known.{columns_fit}
@@ -70,7 +71,7 @@ module _ (kind : Kind) (before : List Table) (t : Table) (bytes : List ℕ) wher
     quiet = λ column not. rw not refl;
   }
 
-  opened_empty : (fields : List FieldSpec) (type : ArrowType) (column : ℕ) → length (dictionary type (pos column) (Schema fields ∷ [])) ≤ 65536
+  opened_empty : (fields : List FieldSpec) (type : ArrowType) (column : ℕ) → length (dictionary type (pos column) (Schema fields ∷ [])) ≤ value_limit
   unfolding dictionary
   opened_empty fields type column = omega arith
 
@@ -145,7 +146,7 @@ module _ (kind : Kind) (before : List Table) (t : Table) (bytes : List ℕ) wher
         light = λ column below dict. light (values_at kind (before ++ t ∷ []) column) (few_values kind (before ++ t ∷ []) column dict) (small_values kind (before ++ t ∷ []) column dict);
         few = λ column below dict. few_values kind (before ++ t ∷ []) column dict;
         small = λ column below dict.
-            subst (λ (n : ℕ). n ≤ 65536) (sym (ap length (was column below dict) ∙ length-map (values_at kind before column) (λ (value : List ℕ). Some value)))
+            subst (λ (n : ℕ). n ≤ value_limit) (sym (ap length (was column below dict) ∙ length-map (values_at kind before column) (λ (value : List ℕ). Some value)))
             (few_values kind before column (was_dictionary column below dict));
         holds = r.holds;
         kind_is = w.kind_is;

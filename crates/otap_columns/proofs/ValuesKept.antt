@@ -27,6 +27,7 @@ use Rattle.otap_dicts.specs.declared.form.Form.{Form}
 use Rattle.otap_dicts.specs.declared.form.Form.TheVariants as ladder
 use Rattle.otap_dicts.specs.Forms.{distinct, with_value, form_of, is_too_large, bytes_of}
 use Rattle.otap_dicts.specs.Ladders.{ladder_of, kept_in}
+use Rattle.otap_dicts.specs.Limits.{narrow_limit}
 use Rattle.otap_columns.specs.declared.forms.ColumnForm.{ColumnForm}
 use Rattle.otap_columns.specs.declared.forms.ColumnForm.TheVariants as form
 use Rattle.otap_columns.specs.WrittenPayloads.{IsWritable}
@@ -228,15 +229,15 @@ narrow_ladder true wide is = absurd (cc)
 narrow_ladder false true is = absurd (cc)
 narrow_ladder false false is = refl
 
-narrow_form : (marked : Bool) (values : List (List ℕ)) → of_ladder (form_of marked values) ≡ form.Dict8 → length (distinct values) ≤ 256
+narrow_form : (marked : Bool) (values : List (List ℕ)) → of_ladder (form_of marked values) ≡ form.Dict8 → length (distinct values) ≤ narrow_limit
 narrow_form marked [] is = absurd (cc)
 narrow_form false (v ∷ vs) is = absurd (cc)
 narrow_form true (v ∷ vs) is =
-    ltb-false 256 (length (distinct (v ∷ vs)))
-    (narrow_ladder (is_too_large (length (distinct (v ∷ vs))) (bytes_of (distinct (v ∷ vs)))) (nat_lt 256 (length (distinct (v ∷ vs)))) is)
+    ltb-false narrow_limit (length (distinct (v ∷ vs)))
+    (narrow_ladder (is_too_large (length (distinct (v ∷ vs))) (bytes_of (distinct (v ∷ vs)))) (nat_lt narrow_limit (length (distinct (v ∷ vs)))) is)
 
 -- narrow indexes reach all values
-pub narrow_values : (kind : Kind) (tables : List Table) (column : ℕ) → form_at kind tables column ≡ form.Dict8 → length (values_at kind tables column) ≤ 256
+pub narrow_values : (kind : Kind) (tables : List Table) (column : ℕ) → form_at kind tables column ≡ form.Dict8 → length (values_at kind tables column) ≤ narrow_limit
 unfolding form_at values_at
 narrow_values kind tables column is =
     let none : columns.is_id_at kind column ≡ false = no_id kind tables column (ap is_dictionary is) in

@@ -20,6 +20,7 @@ use Rattle.otap_cells.specs.Tables.{Table, cell_in, column_in, greatest_wide, gr
 use Rattle.otap_dicts.specs.declared.form.Form.TheVariants as ladder
 use Rattle.otap_dicts.specs.Forms.{distinct, bytes_of, is_too_large, form_of}
 use Rattle.otap_dicts.proofs.Once.{grows-law}
+use Rattle.otap_dicts.specs.Limits.{narrow_limit, value_limit, byte_limit}
 use Rattle.otap_columns.specs.declared.forms.ColumnForm.{ColumnForm}
 use Rattle.otap_columns.specs.declared.forms.ColumnForm.TheVariants as form
 use Rattle.otap_columns.specs.Schemas.{is_there, is_dictionary, fits_form, FormsFit}
@@ -81,7 +82,7 @@ form_of_fits : (kind : Kind) (column : ℕ) (marked : Bool) (values : List (List
 form_of_fits kind column marked [] is = refl
 form_of_fits kind column false (v ∷ vs) is = refl
 form_of_fits kind column true (v ∷ vs) is =
-    dictionary_fits kind column (is_too_large (length (distinct (v ∷ vs))) (bytes_of (distinct (v ∷ vs)))) (nat_lt 256 (length (distinct (v ∷ vs)))) is
+    dictionary_fits kind column (is_too_large (length (distinct (v ∷ vs))) (bytes_of (distinct (v ∷ vs)))) (nat_lt narrow_limit (length (distinct (v ∷ vs)))) is
 
 pub forms_fit : (kind : Kind) (tables : List Table) → FormsFit kind (form_at kind tables)
 unfolding form_at
@@ -96,49 +97,49 @@ few_ladder : (large wide : Bool) → is_dictionary (of_ladder (if large then lad
 few_ladder true wide is = absurd (false≢true is)
 few_ladder false wide is = refl
 
-few_form : (marked : Bool) (values : List (List ℕ)) → is_dictionary (of_ladder (form_of marked values)) ≡ true → length (distinct values) ≤ 65536
+few_form : (marked : Bool) (values : List (List ℕ)) → is_dictionary (of_ladder (form_of marked values)) ≡ true → length (distinct values) ≤ value_limit
 few_form marked [] is = absurd (false≢true is)
 few_form false (v ∷ vs) is = absurd (false≢true is)
 few_form true (v ∷ vs) is =
     let n = length (distinct (v ∷ vs)) in
-    let small : is_too_large n (bytes_of (distinct (v ∷ vs))) ≡ false = few_ladder (is_too_large n (bytes_of (distinct (v ∷ vs)))) (nat_lt 256 n) is in
-    count n (nat_lt 1048576 (bytes_of (distinct (v ∷ vs)))) small
+    let small : is_too_large n (bytes_of (distinct (v ∷ vs))) ≡ false = few_ladder (is_too_large n (bytes_of (distinct (v ∷ vs)))) (nat_lt narrow_limit n) is in
+    count n (nat_lt byte_limit (bytes_of (distinct (v ∷ vs)))) small
   where
     or_none : (a b : Bool) → (a || b) ≡ false → a ≡ false
     or_none true b is = absurd (true≢false is)
     or_none false b is = refl
 
-    count : (n : ℕ) (long : Bool) → (nat_lt 65536 n || long) ≡ false → n ≤ 65536
-    count n long is = let low = ltb-false 65536 n (or_none (nat_lt 65536 n) long is) in omega arith
+    count : (n : ℕ) (long : Bool) → (nat_lt value_limit n || long) ≡ false → n ≤ value_limit
+    count n long is = let low = ltb-false value_limit n (or_none (nat_lt value_limit n) long is) in omega arith
 
 -- and at most 1,048,576 bytes
-small_form : (marked : Bool) (values : List (List ℕ)) → is_dictionary (of_ladder (form_of marked values)) ≡ true → bytes_of (distinct values) ≤ 1048576
+small_form : (marked : Bool) (values : List (List ℕ)) → is_dictionary (of_ladder (form_of marked values)) ≡ true → bytes_of (distinct values) ≤ byte_limit
 small_form marked [] is = absurd (false≢true is)
 small_form false (v ∷ vs) is = absurd (false≢true is)
 small_form true (v ∷ vs) is =
     let n = length (distinct (v ∷ vs)) in
-    let small : is_too_large n (bytes_of (distinct (v ∷ vs))) ≡ false = few_ladder (is_too_large n (bytes_of (distinct (v ∷ vs)))) (nat_lt 256 n) is in
-    bytes (nat_lt 65536 n) (bytes_of (distinct (v ∷ vs))) small
+    let small : is_too_large n (bytes_of (distinct (v ∷ vs))) ≡ false = few_ladder (is_too_large n (bytes_of (distinct (v ∷ vs)))) (nat_lt narrow_limit n) is in
+    bytes (nat_lt value_limit n) (bytes_of (distinct (v ∷ vs))) small
   where
-    bytes : (many : Bool) (b : ℕ) → (many || nat_lt 1048576 b) ≡ false → b ≤ 1048576
+    bytes : (many : Bool) (b : ℕ) → (many || nat_lt byte_limit b) ≡ false → b ≤ byte_limit
     bytes true b is = absurd (true≢false is)
-    bytes false b is = let low = ltb-false 1048576 b is in omega arith
+    bytes false b is = let low = ltb-false byte_limit b is in omega arith
 
-pub small_values : (kind : Kind) (tables : List Table) (column : ℕ) → is_dictionary (form_at kind tables column) ≡ true → bytes_of (values_at kind tables column) ≤ 1048576
+pub small_values : (kind : Kind) (tables : List Table) (column : ℕ) → is_dictionary (form_at kind tables column) ≡ true → bytes_of (values_at kind tables column) ≤ byte_limit
 unfolding form_at values_at
 small_values kind tables column is = by (is_id_at kind column) refl
   where
-    by : (id : Bool) → is_id_at kind column ≡ id → bytes_of (distinct (seen kind tables column)) ≤ 1048576
+    by : (id : Bool) → is_id_at kind column ≡ id → bytes_of (distinct (seen kind tables column)) ≤ byte_limit
     by true here =
         let none : is_dictionary (id_form_if (is_own_id kind column) kind tables column) ≡ false = ids_have (λ f. is_dictionary f ≡ false) (is_own_id kind column) kind tables column refl refl refl in
         absurd (false≢true (sym none ∙ rw here at is))
     by false here = small_form (column_at kind column).dictionary (seen kind tables column) (rw here at is)
 
-pub few_values : (kind : Kind) (tables : List Table) (column : ℕ) → is_dictionary (form_at kind tables column) ≡ true → length (values_at kind tables column) ≤ 65536
+pub few_values : (kind : Kind) (tables : List Table) (column : ℕ) → is_dictionary (form_at kind tables column) ≡ true → length (values_at kind tables column) ≤ value_limit
 unfolding form_at values_at
 few_values kind tables column is = by (is_id_at kind column) refl
   where
-    by : (id : Bool) → is_id_at kind column ≡ id → length (distinct (seen kind tables column)) ≤ 65536
+    by : (id : Bool) → is_id_at kind column ≡ id → length (distinct (seen kind tables column)) ≤ value_limit
     by true here =
         let none : is_dictionary (id_form_if (is_own_id kind column) kind tables column) ≡ false = ids_have (λ f. is_dictionary f ≡ false) (is_own_id kind column) kind tables column refl refl refl in
         absurd (false≢true (sym none ∙ rw here at is))
@@ -174,7 +175,7 @@ unseen_form : (marked : Bool) (values : List (List ℕ)) → is_there (of_ladder
 unseen_form marked [] is = refl
 unseen_form false (v ∷ vs) is = absurd (true≢false is)
 unseen_form true (v ∷ vs) is =
-    absurd (true≢false (sym (unseen_ladder (is_too_large (length (distinct (v ∷ vs))) (bytes_of (distinct (v ∷ vs)))) (nat_lt 256 (length (distinct (v ∷ vs))))) ∙ is))
+    absurd (true≢false (sym (unseen_ladder (is_too_large (length (distinct (v ∷ vs))) (bytes_of (distinct (v ∷ vs)))) (nat_lt narrow_limit (length (distinct (v ∷ vs))))) ∙ is))
 
 id_there : (kind : Kind) (tables : List Table) (column : ℕ) → is_there (id_form kind tables column) ≡ true
 id_there kind tables column = by (id_form_is kind tables column)

@@ -12,7 +12,7 @@ use Rattle.arrow_ipc.specs.declared.messages.IpcMessage.TheVariants.{Schema, Dic
 use Rattle.arrow_ipc.specs.Batches.{BatchIn}
 use Rattle.arrow_arrays.specs.declared.spec.ArraySpec.{ArraySpec}
 use Rattle.arrow_arrays.specs.Cells.{own_cell, place_of_values}
-use Rattle.otap_columns.specs.Limits.{value_limit}
+use Rattle.otap_dicts.specs.Limits.{value_limit}
 
 -- the values of a dictionary batch: the cells of its one array, each null or its bytes
 unfoldable pub values_of : ArrowType → BatchIn → List (Option (List ℕ))

@@ -1,8 +1,8 @@
 -- What the program's values keep.
 use Rattle.std.specs.Prelude.{◌≤◌, ◌^◌, length}
+use Rattle.otap_dicts.specs.Limits.{value_limit}
 use Rattle.otap_columns.specs.declared.dictionary.Dictionary.TheInside as dictionary
 use Rattle.otap_columns.specs.Dictionaries.{DictionaryIn}
-use Rattle.otap_columns.specs.Limits.{value_limit}
 use Rattle.otap_columns.specs.Ends.{values_by, AreEnds}
 
 abbrev pub dictionary_in : dictionary.Inside → DictionaryIn

@@ -5,10 +5,6 @@ use Rattle.otap_cells.specs.Columns.{columns_of}
 use Rattle.otap_cells.specs.Tables.{Table}
 use Rattle.otap_cells.specs.Weights.{weight_of_table}
 
--- how many values a dictionary has at most
-abbrev pub value_limit : ℕ
-value_limit = 65536
-
 -- how many columns of a kind may be dictionaries
 abbrev pub dictionary_columns : Kind → ℕ
 dictionary_columns kind = count_by (λ c. c.dictionary) (columns_of kind)

@@ -6,9 +6,9 @@ use Rattle.arrow_schema.specs.declared.spec.ArrowType.{ArrowType}
 use Rattle.arrow_ipc.specs.Batches.{BatchIn}
 use Rattle.arrow_arrays.specs.Cells.{array_check, place_of_values}
 use Rattle.arrow_arrays.specs.Layouts.{layout_of_values, FitsLayout}
+use Rattle.otap_dicts.specs.Limits.{value_limit}
 use Rattle.otap_columns.specs.declared.refusal.ColumnRefusal.{ColumnRefusal}
 use Rattle.otap_columns.specs.declared.refusal.ColumnRefusal.TheVariants.{Order, Buffers, DictionarySize, Memory}
-use Rattle.otap_columns.specs.Limits.{value_limit}
 use Rattle.otap_columns.specs.Dictionaries.{DictionaryIn, has_id, grown, grown_if, all_grown, is_too_large}
 use Rattle.otap_columns.specs.Records.{HasValueFault}
 

@@ -14,6 +14,7 @@ use Rattle.otap_cells.specs.Cells.{Cell}
 use Rattle.otap_cells.specs.Columns.{base_at}
 use Rattle.otap_cells.specs.Tables.{Table, cell_in, column_in}
 use Rattle.otap_cells.specs.Weights.{cell_weight, weight_of_table}
+use Rattle.otap_dicts.specs.Limits.{narrow_limit, value_limit}
 use Rattle.otap_columns.specs.declared.forms.ColumnForm.{ColumnForm}
 use Rattle.otap_columns.specs.declared.forms.ColumnForm.TheVariants as form
 use Rattle.otap_columns.specs.declared.writer_cells.CellBytes.{CellBytes}
@@ -41,8 +42,8 @@ index_bytes width values value = option_map (little_bytes width) (place_in value
 
 -- the indexes of a form reach all values
 abbrev pub FitsIndexes : ColumnForm → ℕ → Type 0
-FitsIndexes form.Dict8 count = count ≤ 256
-FitsIndexes form.Dict16 count = count ≤ 65536
+FitsIndexes form.Dict8 count = count ≤ narrow_limit
+FitsIndexes form.Dict16 count = count ≤ value_limit
 FitsIndexes form count = Unit {0}
 
 -- how many bytes an index has, and whether a place is one that the form reaches
@@ -56,8 +57,8 @@ index_of form place = option_map (little_bytes (index_width form)) place
 
 abbrev pub IsIndexFor : ColumnForm → Option ℕ → Type 0
 IsIndexFor form None = Unit {0}
-IsIndexFor form.Dict8 (Some place) = place < 256
-IsIndexFor other (Some place) = place < 65536
+IsIndexFor form.Dict8 (Some place) = place < narrow_limit
+IsIndexFor other (Some place) = place < value_limit
 
 -- WHAT IS WRITTEN for a cell: its index in a dictionary's form, else its bytes
 abbrev pub stored_for : Base → ColumnForm → List (List ℕ) → Cell → Option (List ℕ)

@@ -11,6 +11,7 @@ use Rattle.otap_cells.specs.declared.profile.Base.{Base}
 use Rattle.otap_cells.specs.Columns.{base_at, width_of}
 use Rattle.otap_cells.specs.Tables.{Table}
 use Rattle.otap_dicts.specs.Forms.{bytes_of}
+use Rattle.otap_dicts.specs.Limits.{value_limit, byte_limit}
 use Rattle.otap_columns.specs.declared.forms.ColumnForm.{ColumnForm}
 use Rattle.otap_columns.specs.WrittenPayloads.{HoldsRows, HoldsValues, batch_if, has_some, heads, schema_if}
 use Rattle.otap_columns.specs.Schemas.{Forms, is_dictionary, schema_for, type_in}
@@ -36,8 +37,8 @@ is_sent opening form values = is_dictionary form && (opening || has_some values)
 -- values of a column can be written from a place on as a dictionary
 pub record CanSend (holds : Base) (form : ColumnForm) (from : ℕ) (values : List (List ℕ)) : Type 0 where
   pub there : from ≤ length values
-  pub few : length values ≤ 65536
-  pub room : bytes_of values ≤ 1048576
+  pub few : length values ≤ value_limit
+  pub room : bytes_of values ≤ byte_limit
   pub holds_type : HoldsType (type_in holds form) (plain_width holds form) values
 
 -- the dictionary batch of a column was appended, where it has one

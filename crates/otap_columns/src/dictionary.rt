@@ -39,7 +39,7 @@ impl Model for Dictionary {
 impl Dictionary {
     ghost use Rattle.otap_columns.specs.Dictionaries.{has_id, is_for, kept, grown, grown_if, weight_of, values_of};
     ghost use Rattle.otap_columns.specs.Steps.{FitsIn, RefusesIf, RefusesValues};
-    ghost use Rattle.otap_columns.specs.Limits.{value_limit};
+    ghost use Rattle.otap_dicts.specs.Limits.{value_limit};
     ghost use Rattle.otap_columns.specs.Records.{is_fine_for};
 
     pub(crate) fn new(alloc: Global, id: i64, kind: ArrowType) -> Dictionary

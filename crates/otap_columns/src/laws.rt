@@ -4,9 +4,9 @@ ghost use Rattle.std.specs.Prelude.{◌≡◌, ◌+◌, ◌<◌, ◌++◌, ◌�
 ghost use Rattle.arrow_ipc.specs.declared.messages.IpcMessage.{IpcMessage};
 ghost use Rattle.arrow_ipc.specs.Fronts.{front_of};
 ghost use Rattle.otap_cells.specs.declared.payload.Kind.{Kind};
+ghost use Rattle.otap_dicts.specs.Limits.{value_limit};
 ghost use Rattle.otap_columns.specs.declared.refusal.ColumnRefusal.{ColumnRefusal};
 ghost use Rattle.otap_columns.specs.declared.dictionary.TheConstants.{MAX_VALUES};
-ghost use Rattle.otap_columns.specs.Limits.{value_limit};
 ghost use Rattle.otap_columns.specs.Records.{IsRead, Stands, CanGoOn, IsJudged};
 ghost use Rattle.otap_columns.specs.Schemas.{Forms, is_there, FormsFit, item_in, schema_for, slots_for, IsSlot, IsFound};
 ghost use Rattle.otap_columns.specs.Schemas.{Column, Items};

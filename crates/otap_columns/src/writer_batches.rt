@@ -3,6 +3,7 @@
 ghost use Rattle.std.specs.Prelude.{◌≡◌, ◌<◌, ◌≤◌, ◌^◌, ℕ, List, Some, drop, length, map, slice_get, IfOk, OnOk};
 ghost use Rattle.arrow_buffers.specs.Columns.{HasWidth};
 ghost use Rattle.otap_dicts.specs.Forms.{bytes_of};
+ghost use Rattle.otap_dicts.specs.Limits.{byte_limit, value_limit};
 ghost use Rattle.otap_columns.specs.WrittenBatches.{AddsDictionary, HoldsType, IsSingle};
 ghost use Rattle.otap_columns.specs.WrittenRecords.{AddsAtMost};
 
@@ -25,8 +26,8 @@ pub(crate) fn add_dictionary(
     delta: bool,
 ) -> Result<(), AllocError>
     requires there { from ≤ length ladder.now.values }
-    requires few { length ladder.now.values ≤ 65536 }
-    requires room { bytes_of ladder.now.values ≤ 1048576 }
+    requires few { length ladder.now.values ≤ value_limit }
+    requires room { bytes_of ladder.now.values ≤ byte_limit }
     requires holds { HoldsType kind width ladder.now.values }
     ensures adds { OnOk result (AddsDictionary kind id delta (drop from ladder.now.values) to.old.items to.new.items) }
     ensures short { OnOk result (AddsAtMost 1500000 to.old.items to.new.items) }
