@@ -9,11 +9,11 @@ use Rattle.otap_cells.specs.Columns.{logs, spans, metrics, attrs, deep_attrs, sp
 use Rattle.otap_cells.specs.Payload.{kinds_of}
 use Rattle.otap_cells.specs.Tables.{Table}
 use Rattle.otap_cells.specs.Weights.{row_weight_limit, weight_of_table, weight_of_tables}
-use Rattle.otap_columns.specs.Limits.{dictionary_columns, record_limit}
+use Rattle.otap_columns.specs.Limits.{dictionary_columns, record_limit, head_limit, row_limit, columns_limit, tables_limit, records_limit}
 use Rattle.otap_columns.proofs.RowsAdded.{rows_light}
 
 limits_are : (tables : List Table) → sum_by record_limit tables
-    ≡ 136 * sum_by (λ (t : Table). length t.rows) tables + weight_of_tables tables + 1500000 * sum_by (λ (t : Table). dictionary_columns t.kind) tables + 131072 * length tables
+    ≡ row_limit * sum_by (λ (t : Table). length t.rows) tables + weight_of_tables tables + head_limit * sum_by (λ (t : Table). dictionary_columns t.kind) tables + 131072 * length tables
 limits_are [] = omega arith
 limits_are (t ∷ tables) =
     omega (
@@ -29,7 +29,7 @@ rows_weigh : (tables : List Table) → 32 * sum_by (λ (t : Table). length t.row
 rows_weigh [] = omega arith
 rows_weigh (t ∷ tables) = omega (arith, sum_by-cons (λ (u : Table). length u.rows) t tables, sum_by-cons weight_of_table t tables, rows_light t, rows_weigh tables)
 
-pub batch_short : (tables : List Table) → weight_of_tables tables ≤ row_weight_limit → sum_by (λ t. dictionary_columns t.kind) tables ≤ 43 → length tables ≤ 13 → sum_by record_limit tables ≤ 418525472
+pub batch_short : (tables : List Table) → weight_of_tables tables ≤ row_weight_limit → sum_by (λ t. dictionary_columns t.kind) tables ≤ columns_limit → length tables ≤ tables_limit → sum_by record_limit tables ≤ records_limit
 batch_short tables light dictionaries few = omega (arith, limits_are tables, rows_weigh tables, light, dictionaries, few)
 
 -- ---- the tables of each signal
@@ -40,10 +40,10 @@ columns_counted signal.Traces = refl
 columns_counted signal.Logs = refl
 columns_counted signal.Metrics = refl
 
-pub few_columns : (s : Signal) → sum_by dictionary_columns (kinds_of s) ≤ 43
+pub few_columns : (s : Signal) → sum_by dictionary_columns (kinds_of s) ≤ columns_limit
 few_columns s = leb-true (sum_by dictionary_columns (kinds_of s)) 43 (columns_counted s)
 
-pub few_tables : (s : Signal) → length (kinds_of s) ≤ 13
+pub few_tables : (s : Signal) → length (kinds_of s) ≤ tables_limit
 few_tables signal.Traces = omega arith
 few_tables signal.Logs = omega arith
 few_tables signal.Metrics = omega arith

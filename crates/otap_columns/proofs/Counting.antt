@@ -12,6 +12,7 @@ use Rattle.otap_cells.specs.declared.payload.Kind.TheVariants as table
 use Rattle.otap_cells.specs.Columns.{ColumnSpec, base_at, columns_of, width_of, logs, spans, metrics, attrs, deep_attrs, span_events, span_links, number_points, summary_points, hist_points, exemplars}
 use Rattle.otap_cells.specs.Tables.{Table}
 use Rattle.otap_cells.specs.Weights.{row_weight_limit, weight_of_table}
+use Rattle.otap_columns.specs.Limits.{row_limit}
 use Rattle.otap_columns.specs.declared.writer_groups.Group as code
 use Rattle.otap_columns.specs.Groups.{Member, Group, Alone, Under, grouped}
 use Rattle.otap_columns.specs.WrittenCells.{HasRoom, row_most, column_weight, column_most, columns_most, group_parts, group_most}
@@ -127,7 +128,7 @@ at_most : (a b n : ℕ) → a ≤ b → a * n ≤ b * n
 at_most a b n low = grind arith
 
 -- THE COLUMNS TOGETHER take at most 136 bytes for each row, the row weight of the table, and 1,024 bytes more
-pub table_most : (t : Table) → sum_by (group_most t) (grouped (columns_of t.kind)) ≤ 136 * length t.rows + weight_of_table t + 1024
+pub table_most : (t : Table) → sum_by (group_most t) (grouped (columns_of t.kind)) ≤ row_limit * length t.rows + weight_of_table t + 1024
 table_most t =
     let counted : IsCounted (columns_of t.kind) = kinds_counted t.kind in
     let numbers : List ℕ = range_with_len 0 (width_of t.kind) in
@@ -158,9 +159,9 @@ module _ (t : Table) (gs : List code.Group) (are : map group_in gs ≡ grouped (
   pub groups_parts : sum_by (λ (g : code.Group). group_parts (group_in g)) gs ≤ 32
   groups_parts = omega (arith, sum_of-map group_parts group_in gs, ap (sum_by group_parts) are, table_parts t.kind)
 
-  pub groups_bytes : sum_by (λ (g : code.Group). group_most t (group_in g)) gs ≤ 136 * length t.rows + weight_of_table t + 1024
+  pub groups_bytes : sum_by (λ (g : code.Group). group_most t (group_in g)) gs ≤ row_limit * length t.rows + weight_of_table t + 1024
   groups_bytes = omega (arith, sum_of-map (group_most t) group_in gs, ap (sum_by (group_most t)) are, table_most t)
 
 -- a batch without parts has room for all
-pub room_for_all : (t : Table) → weight_of_table t ≤ row_weight_limit → HasRoom (record { rows = length t.rows; nodes = []; buffers = [] }) 32 (136 * length t.rows + weight_of_table t + 1024)
+pub room_for_all : (t : Table) → weight_of_table t ≤ row_weight_limit → HasRoom (record { rows = length t.rows; nodes = []; buffers = [] }) 32 (row_limit * length t.rows + weight_of_table t + 1024)
 room_for_all t light = record { nodes = omega arith; buffers = omega arith; body = omega (arith, light, rows_light t) }

@@ -21,6 +21,7 @@ use Rattle.arrow_arrays.specs.Layouts.{layout_of_values}
 use Rattle.arrow_arrays.proofs.ColumnLaws.{column_checks, column_cells}
 use Rattle.otap_dicts.specs.Forms.{bytes_of}
 use Rattle.otap_dicts.specs.Limits.{value_limit, byte_limit}
+use Rattle.otap_columns.specs.Limits.{head_limit}
 use Rattle.otap_columns.specs.Dictionaries.{values_of}
 use Rattle.otap_columns.specs.WrittenPayloads.{HoldsValues}
 use Rattle.otap_columns.specs.WrittenBatches.{IsSingle, AddsDictionary}
@@ -182,7 +183,7 @@ pub dictionary_room : (rows : ℕ) (b : Buffers) → sizes b ≤ 1441850 → Has
 dictionary_room rows b short = record { nodes = omega arith; buffers = omega arith; body = omega arith }
 
 -- and so is its message
-pub dictionary_message : (w : Width) (b : Buffers) → sizes b ≤ 1441850 → most_of (with_parts (record { rows = b.rows; nodes = []; buffers = [] }) (parts_of w b)) ≤ 1500000
+pub dictionary_message : (w : Width) (b : Buffers) → sizes b ≤ 1441850 → most_of (with_parts (record { rows = b.rows; nodes = []; buffers = [] }) (parts_of w b)) ≤ head_limit
 dictionary_message w b short =
     omega (
       arith,

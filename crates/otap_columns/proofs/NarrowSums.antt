@@ -36,7 +36,7 @@ passes_null : (how : Coding) (before : ℕ) (rows : List Bool) (ns : List (Optio
     → is_wide_after how before rows (None ∷ ns) ≡ is_wide_after how before (drop 1 rows) ns
 passes_null how before rows ns takes = rw takes refl
 
-passes_id : (how : Coding) (before : ℕ) (rows : List Bool) (ns : List (Option ℕ)) (n id : ℕ) → base_of how (goes_on rows) before + n ≡ id → id ≤ 65535
+passes_id : (how : Coding) (before : ℕ) (rows : List Bool) (ns : List (Option ℕ)) (n id : ℕ) → base_of how (goes_on rows) before + n ≡ id → id ≤ greatest_narrow
     → is_wide_after how before rows (Some n ∷ ns) ≡ is_wide_after how id (drop 1 rows) ns
 passes_id how before rows ns n id is low =
     let fits : nat_le id greatest_wide ≡ true = le-leb id greatest_wide (omega (arith, low)) in
@@ -64,7 +64,7 @@ module _ (t : Table) (column row : ℕ) (within : row < length t.rows) where
 
   -- a row with one
   pub stays_id : (most next n : ℕ) → id_in (cell_in t.rows column row) ≡ Some n
-      → ((before : ℕ) → before ≤ most → base_of (coding_at t.kind column) (goes_on (drop row (continues_in t))) before + n ≤ next) → next ≤ 65535 → StaysNarrow t column row most next
+      → ((before : ℕ) → before ≤ most → base_of (coding_at t.kind column) (goes_on (drop row (continues_in t))) before + n ≤ next) → next ≤ greatest_narrow → StaysNarrow t column row most next
   stays_id most next n some bound small = record {
     at = λ before low.
         let how = coding_at t.kind column in
@@ -86,7 +86,7 @@ module _ (t : Table) (column row : ℕ) (within : row < length t.rows) where
       subst (StaysNarrow t column row most) (sym told.0) (stays_null most (sym is) (ap takes_null (sym coded) ∙ told.1))
 
   pub stays_with : (how : Coding) (most next n : ℕ) → how ≡ coding_at t.kind column → Some n ≡ id_in (cell_in t.rows column row)
-      → ((before : ℕ) → before ≤ most → base_of how (goes_on (drop row (continues_in t))) before + n ≤ next) → next ≤ 65535 → StaysNarrow t column row most next
+      → ((before : ℕ) → before ≤ most → base_of how (goes_on (drop row (continues_in t))) before + n ≤ next) → next ≤ greatest_narrow → StaysNarrow t column row most next
   stays_with how most next n coded is bound small =
       stays_id most next n (sym is) (subst (λ (h : Coding). (before : ℕ) → before ≤ most → base_of h (goes_on (drop row (continues_in t))) before + n ≤ next) coded bound) small
 
@@ -94,7 +94,7 @@ module _ (t : Table) (column row : ℕ) (within : row < length t.rows) where
 
 -- some id up to `most` tells of the rows from one on whether a wide one follows
 pub record IsNarrowSoFar (t : Table) (column row most : ℕ) : Type 0 where
-  pub low : most ≤ 65535
+  pub low : most ≤ greatest_narrow
   pub before : ℕ
   pub under : before ≤ most
   pub is : has_wide_id t.kind column t ≡ is_wide_from t column row before
@@ -102,7 +102,7 @@ pub record IsNarrowSoFar (t : Table) (column row most : ℕ) : Type 0 where
 pub narrow_at_first : (t : Table) (column : ℕ) → IsNarrowSoFar t column 0 0
 narrow_at_first t column = record { low = omega arith; before = 0; under = omega arith; is = refl }
 
-pub narrow_on : (t : Table) (column row most next : ℕ) → IsNarrowSoFar t column row most → StaysNarrow t column row most next → next ≤ 65535 → IsNarrowSoFar t column (row + 1) next
+pub narrow_on : (t : Table) (column row most next : ℕ) → IsNarrowSoFar t column row most → StaysNarrow t column row most next → next ≤ greatest_narrow → IsNarrowSoFar t column (row + 1) next
 narrow_on t column row most next so_far stays small =
     let on = stays.at so_far.before so_far.under in
     record { low = small; before = on.0; under = on.1; is = so_far.is ∙ on.2 }

@@ -15,7 +15,7 @@ use Rattle.otap_cells.specs.Tables.{Table}
 use Rattle.otap_columns.specs.declared.forms.ColumnForm.{ColumnForm}
 use Rattle.otap_columns.specs.declared.forms.ColumnForm.TheVariants as form
 use Rattle.otap_columns.specs.Groups.{grouped}
-use Rattle.otap_columns.specs.Limits.{dictionary_columns, record_limit}
+use Rattle.otap_columns.specs.Limits.{dictionary_columns, record_limit, head_limit}
 use Rattle.otap_columns.specs.Schemas.{Forms, FormsFit, fits_form, schema_for}
 use Rattle.otap_columns.specs.WrittenCells.{rows_most}
 use Rattle.otap_columns.specs.WrittenRecords.{AddsAtMost, head_most, heads_most, is_sent, schema_most}
@@ -48,7 +48,7 @@ opening_ok kind forms schema old new (Err e) fit is appends = tt
 -- ---- dictionaries
 
 -- only a column in a dictionary's form has one
-head_sent : (opening : Bool) (f : ColumnForm) (values : List (List ℕ)) → is_sent opening f values ≡ true → head_most f ≡ 1500000
+head_sent : (opening : Bool) (f : ColumnForm) (values : List (List ℕ)) → is_sent opening f values ≡ true → head_most f ≡ head_limit
 head_sent opening form.Dict8 values is = refl
 head_sent opening form.Dict16 values is = refl
 head_sent opening form.Absent values is = absurd (false≢true is)
@@ -56,7 +56,7 @@ head_sent opening form.Plain values is = absurd (false≢true is)
 head_sent opening form.Wide values is = absurd (false≢true is)
 
 pub head_ok : {E : Type 0} (opening : Bool) (f : ColumnForm) (values : List (List ℕ)) (old new : List ℕ) (r : Result (Unit {0}) E) → is_sent opening f values ≡ true
-    → OnOk r (AddsAtMost 1500000 old new) → OnOk r (AddsAtMost (head_most f) old new)
+    → OnOk r (AddsAtMost head_limit old new) → OnOk r (AddsAtMost (head_most f) old new)
 head_ok opening f values old new r is adds = subst (λ (n : ℕ). OnOk r (AddsAtMost n old new)) (sym (head_sent opening f values is)) adds
 
 pub heads_short : (forms : Forms) (n : ℕ) (a b c : List ℕ) → AddsAtMost (heads_most forms n) a b → AddsAtMost (head_most (forms n)) b c → AddsAtMost (heads_most forms (n + 1)) a c
@@ -64,20 +64,20 @@ heads_short forms n a b c before one =
     omega (arith, before, one, ap (sum_by (λ (column : ℕ). head_most (forms column))) (range-more n), sum_by_push (λ (column : ℕ). head_most (forms column)) (range_with_len 0 n) n)
 
 -- a column in a dictionary's form may be one
-head_marked : (c : ColumnSpec) (f : ColumnForm) → fits_form c f ≡ true → head_most f ≤ mark c * 1500000
+head_marked : (c : ColumnSpec) (f : ColumnForm) → fits_form c f ≡ true → head_most f ≤ mark c * head_limit
 head_marked c form.Dict8 fits = let marked : mark c ≡ 1 = rw fits refl in omega (arith, marked)
 head_marked c form.Dict16 fits = let marked : mark c ≡ 1 = rw fits refl in omega (arith, marked)
 head_marked c form.Absent fits = omega arith
 head_marked c form.Plain fits = omega arith
 head_marked c form.Wide fits = omega arith
 
-heads_marked : (kind : Kind) (forms : Forms) → FormsFit kind forms → heads_most forms (width_of kind) ≤ 1500000 * dictionary_columns kind
+heads_marked : (kind : Kind) (forms : Forms) → FormsFit kind forms → heads_most forms (width_of kind) ≤ head_limit * dictionary_columns kind
 heads_marked kind forms fit =
     omega (
       arith,
-      sum_of-less (λ column. head_most (forms column)) (λ column. mark (column_at kind column) * 1500000) 0 (width_of kind)
+      sum_of-less (λ column. head_most (forms column)) (λ column. mark (column_at kind column) * head_limit) 0 (width_of kind)
           (λ column low. head_marked (column_at kind column) (forms column) (fit column (omega (arith, low)))),
-      sum_of-times (λ (column : ℕ). mark (column_at kind column)) 1500000 (range_with_len 0 (width_of kind)),
+      sum_of-times (λ (column : ℕ). mark (column_at kind column)) head_limit (range_with_len 0 (width_of kind)),
       (kinds_counted kind).marked,
     )
 

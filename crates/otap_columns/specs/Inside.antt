@@ -1,14 +1,14 @@
 -- What the program's values keep.
-use Rattle.std.specs.Prelude.{◌≤◌, ◌^◌, length}
+use Rattle.std.specs.Prelude.{◌≤◌, length}
 use Rattle.otap_dicts.specs.Limits.{value_limit}
 use Rattle.otap_columns.specs.declared.dictionary.Dictionary.TheInside as dictionary
 use Rattle.otap_columns.specs.Dictionaries.{DictionaryIn}
-use Rattle.otap_columns.specs.Ends.{values_by, AreEnds}
+use Rattle.otap_columns.specs.Ends.{kept_limit, values_by, AreEnds}
 
 abbrev pub dictionary_in : dictionary.Inside → DictionaryIn
 dictionary_in d = record { id = d.id; kind = d.kind; values = values_by d.bytes.items 0 d.ends.items }
 
 pub record IsDictionaryInside (d : dictionary.Inside) : Type 0 where
   pub few : length d.ends.items ≤ value_limit
-  pub small : length d.bytes.items ≤ 2 ^ 48
+  pub small : length d.bytes.items ≤ kept_limit
   pub ends : AreEnds 0 d.ends.items (length d.bytes.items)

@@ -1,4 +1,4 @@
--- The limits of sub-streams, and of the records that are written.
+-- The limits of the records that are written.
 use Rattle.std.specs.Prelude.{ℕ, ◌+◌, ◌*◌, length, count_by}
 use Rattle.otap_cells.specs.declared.payload.Kind.{Kind}
 use Rattle.otap_cells.specs.Columns.{columns_of}
@@ -9,7 +9,25 @@ use Rattle.otap_cells.specs.Weights.{weight_of_table}
 abbrev pub dictionary_columns : Kind → ℕ
 dictionary_columns kind = count_by (λ c. c.dictionary) (columns_of kind)
 
--- THE MOST BYTES OF A RECORD of a table: 136 for each row, the table's row weight, 1,500,000 for each column that may be a
--- dictionary, and 131,072 more
+-- how many bytes a row takes at most, the weight of its cells aside, and the dictionary batch of a column
+abbrev pub row_limit : ℕ
+row_limit = 136
+
+abbrev pub head_limit : ℕ
+head_limit = 1500000
+
+-- THE MOST BYTES OF A RECORD of a table: those of each row, the table's row weight, those of a dictionary batch for each column
+-- that may be a dictionary, and 131,072 more
 abbrev pub record_limit : Table → ℕ
-record_limit t = 136 * length t.rows + weight_of_table t + 1500000 * dictionary_columns t.kind + 131072
+record_limit t = row_limit * length t.rows + weight_of_table t + head_limit * dictionary_columns t.kind + 131072
+
+-- how many tables a signal has at most, how many of their columns may be dictionaries, and how many bytes their records take
+-- together, where they are within the row weight
+abbrev pub tables_limit : ℕ
+tables_limit = 13
+
+abbrev pub columns_limit : ℕ
+columns_limit = 43
+
+abbrev pub records_limit : ℕ
+records_limit = 418525472

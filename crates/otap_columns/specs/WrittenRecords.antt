@@ -12,6 +12,7 @@ use Rattle.otap_cells.specs.Columns.{base_at, width_of}
 use Rattle.otap_cells.specs.Tables.{Table}
 use Rattle.otap_dicts.specs.Forms.{bytes_of}
 use Rattle.otap_dicts.specs.Limits.{value_limit, byte_limit}
+use Rattle.otap_columns.specs.Limits.{head_limit}
 use Rattle.otap_columns.specs.declared.forms.ColumnForm.{ColumnForm}
 use Rattle.otap_columns.specs.WrittenPayloads.{HoldsRows, HoldsValues, batch_if, has_some, heads, schema_if}
 use Rattle.otap_columns.specs.Schemas.{Forms, is_dictionary, schema_for, type_in}
@@ -75,7 +76,7 @@ abbrev pub schema_most : ℕ
 schema_most = 81920
 
 abbrev pub head_most : ColumnForm → ℕ
-head_most form = if is_dictionary form then 1500000 else 0
+head_most form = if is_dictionary form then head_limit else 0
 
 -- for the dictionaries of the first n columns
 abbrev pub heads_most : Forms → ℕ → ℕ

@@ -3,6 +3,7 @@
 ghost use Rattle.std.specs.Prelude.{◌≡◌, ℕ, ◌+◌, ◌<◌, ◌≤◌, ◌^◌, ◌*◌, All, length, vec_len, find, OnOk, IfOk, IfErr};
 ghost use Rattle.std.specs.List.{list_any};
 ghost use Rattle.std.specs.Option.{option_copied};
+ghost use Rattle.arrow_schema.specs.Limits.{max_fields};
 ghost use Rattle.arrow_arrays.specs.Views.{cell_seen};
 ghost use Rattle.otap_columns.specs.Dictionaries.{has_id, is_for, with_dictionary, empty_dictionaries, all_grown, held_weight, values_for};
 ghost use Rattle.otap_columns.specs.Resolved.{HasIndexSizes, IsResolved, resolved_value};
@@ -86,9 +87,9 @@ pub(crate) fn take(
 
 /// What the dictionaries hold.
 pub(crate) fn held(dictionaries: &[Dictionary]) -> u64
-    requires { length dictionaries.now ≤ 128 }
+    requires { length dictionaries.now ≤ max_fields }
     ensures value { result ≡ held_weight dictionaries.now }
-    ensures few { result ≤ 128 * 2 ^ 50 }
+    ensures few { result ≤ max_fields * 2 ^ 50 }
 {
     let mut held = 0;
     'dictionaries: for dictionary in dictionaries {

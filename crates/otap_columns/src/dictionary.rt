@@ -3,7 +3,7 @@ ghost use Rattle.std.specs.List.{slice_index_or};
 ghost use Rattle.std.specs.Option.{option_copied};
 ghost use Rattle.arrow_arrays.specs.Cells.{array_check, place_of_values};
 
-use crate::ends::{End, MAX_BYTES, keep, value_in};
+use crate::ends::{End, keep, value_in};
 use crate::refusal::ColumnRefusal;
 use arrow_arrays::ArrayPlace;
 use arrow_ipc::BatchView;
@@ -12,7 +12,7 @@ use std::alloc::{AllocError, Global};
 use std::marker::Model;
 
 /// The most values that a dictionary has.
-pub const MAX_VALUES: u64 = 65_536;
+pub const MAX_VALUES: u64 = otap_dicts::MAX_VALUES as u64;
 
 /// A dictionary and its values. A contract sees the values, each null or its bytes.
 #[derive(Debug, Drop)]
@@ -97,7 +97,7 @@ impl Dictionary {
         ensures ok { OnOk result (self.new ≡ grown_if id delta batch.now self.old) }
         ensures fine { OnOk result (IsTrue (is_fine_for id batch.now self.old)) }
         ensures fits { FitsIn self.old → FitsIn self.new }
-        ensures few { OnOk result (length self.new.values ≤ MAX_VALUES) }
+        ensures few { OnOk result (length self.new.values ≤ value_limit) }
         ensures err { IfErr result (RefusesIf id delta batch.now self.old) }
     {
         if self.id != id {
@@ -112,7 +112,7 @@ impl Dictionary {
         ensures ok { OnOk result (self.new ≡ grown delta batch.now self.old) }
         ensures fine { OnOk result (IsOk (array_check batch.now (place_of_values self.old.kind))) }
         ensures fits { FitsIn self.old → FitsIn self.new }
-        ensures few { OnOk result (length self.new.values ≤ MAX_VALUES) }
+        ensures few { OnOk result (length self.new.values ≤ value_limit) }
         ensures err { IfErr result (RefusesValues delta batch.now self.old) }
     {
         let array = ArrayPlace::of_values(self.kind);

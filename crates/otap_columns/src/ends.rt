@@ -3,12 +3,12 @@
 ghost use Rattle.std.specs.Prelude.{◌≡◌, ◌-◌, ◌<◌, ◌≤◌, ◌++◌, take, drop, is_some, length, vec_len, IfOk, OnOk, OnErr};
 ghost use Rattle.std.specs.List.{slice_index_or};
 ghost use Rattle.std.specs.Option.{option_copied};
-ghost use Rattle.otap_columns.specs.Ends.{AreEnds, values_by, start_of, bytes_in};
+ghost use Rattle.otap_columns.specs.Ends.{kept_limit, AreEnds, values_by, start_of, bytes_in};
 
 use std::alloc::AllocError;
 
 /// The most bytes that the values of a dictionary have together. No memory is so large.
-pub(crate) const MAX_BYTES: usize = 1 << 48;
+const MAX_BYTES: usize = 1 << 48;
 
 /// Where a value ends, and whether it is there: one that is null has no bytes.
 #[derive(Clone, Copy, Debug)]
@@ -54,10 +54,10 @@ fn start(ends: &[End], place: usize) -> usize
 
 /// Appends the bytes of a value, and tells whether it is there. Where there are too many bytes there is no room for it.
 pub(crate) fn keep(kept: &mut Vec<u8>, value: Option<&[u8]>) -> Result<bool, AllocError>
-    requires { vec_len kept.old ≤ MAX_BYTES }
+    requires { vec_len kept.old ≤ kept_limit }
     ensures bytes { OnOk result (kept.new.items ≡ kept.old.items ++ bytes_in (option_copied value.entry)) }
     ensures there { IfOk result (λ there. there ≡ is_some (option_copied value.entry)) }
-    ensures small { vec_len kept.new ≤ MAX_BYTES }
+    ensures small { vec_len kept.new ≤ kept_limit }
     ensures err { OnErr result (kept.new.items ≡ kept.old.items) }
 {
     match value {
@@ -70,9 +70,9 @@ pub(crate) fn keep(kept: &mut Vec<u8>, value: Option<&[u8]>) -> Result<bool, All
 }
 
 fn append(kept: &mut Vec<u8>, value: &[u8]) -> Result<(), AllocError>
-    requires { vec_len kept.old ≤ MAX_BYTES }
+    requires { vec_len kept.old ≤ kept_limit }
     ensures bytes { OnOk result (kept.new.items ≡ kept.old.items ++ value.now) }
-    ensures small { vec_len kept.new ≤ MAX_BYTES }
+    ensures small { vec_len kept.new ≤ kept_limit }
     ensures err { OnErr result (kept.new.items ≡ kept.old.items) }
 {
     if value.len() > MAX_BYTES - kept.len() {

@@ -4,6 +4,7 @@ ghost use Rattle.std.specs.Prelude.{◌≡◌, ◌<◌, ◌≤◌, ◌^◌, ℕ,
 ghost use Rattle.arrow_buffers.specs.Columns.{HasWidth};
 ghost use Rattle.otap_dicts.specs.Forms.{bytes_of};
 ghost use Rattle.otap_dicts.specs.Limits.{byte_limit, value_limit};
+ghost use Rattle.otap_columns.specs.Limits.{head_limit};
 ghost use Rattle.otap_columns.specs.WrittenBatches.{AddsDictionary, HoldsType, IsSingle};
 ghost use Rattle.otap_columns.specs.WrittenRecords.{AddsAtMost};
 
@@ -30,7 +31,7 @@ pub(crate) fn add_dictionary(
     requires room { bytes_of ladder.now.values ≤ byte_limit }
     requires holds { HoldsType kind width ladder.now.values }
     ensures adds { OnOk result (AddsDictionary kind id delta (drop from ladder.now.values) to.old.items to.new.items) }
-    ensures short { OnOk result (AddsAtMost 1500000 to.old.items to.new.items) }
+    ensures short { OnOk result (AddsAtMost head_limit to.old.items to.new.items) }
 {
     let built = values_column(alloc, width, ladder, from)?;
     let buffers = built.finish()?;

@@ -8,7 +8,7 @@ ghost use Rattle.otap_cells.specs.Columns.{base_at, coding_at, is_id_at, width_o
 ghost use Rattle.otap_cells.specs.ColumnIds.{id_in};
 ghost use Rattle.otap_cells.specs.Continuing.{continues_in};
 ghost use Rattle.otap_cells.specs.Ids.{base_of, goes_on, takes_null};
-ghost use Rattle.otap_cells.specs.Tables.{coding_in};
+ghost use Rattle.otap_cells.specs.Tables.{coding_in, greatest_narrow};
 ghost use Rattle.otap_columns.specs.NarrowIds.{StaysNarrow};
 ghost use Rattle.otap_columns.specs.Observed.{has_wide_id, is_above};
 
@@ -58,7 +58,8 @@ fn has_above(alloc: Global, table: &LogicalTable, column: u32) -> Result<bool, A
 fn is_above(ids: &[Option<u32>]) -> bool
     ensures { result ≡ list_any is_above ids.now }
 {
-    ids.iter().any(|id| matches!(id, Some(id) if *id > 65_535))
+    ids.iter()
+        .any(|id| matches!(id, Some(id) if u64::from(*id) > MAX_NARROW))
 }
 
 /// Whether the sums of the stored numbers show that no id needs more than 16 bits. Takes no memory, and looks at no row after the
@@ -96,8 +97,8 @@ fn most_after(
     requires id { is_id base ≡ true }
     requires coded { coding ≡ coding_at table.now.kind column }
     requires row { row < length table.now.rows }
-    requires most { most ≤ 65535 }
-    ensures small { IfSome result (λ next. next ≤ 65535) }
+    requires most { most ≤ greatest_narrow }
+    ensures small { IfSome result (λ next. next ≤ greatest_narrow) }
     ensures stays { IfSome result (StaysNarrow table.now column row most) }
 {
     let Some(number) = id_of(base, table.cell(column, row)) else {
@@ -132,7 +133,7 @@ fn id_of(base: Base, cell: CellView<'_>) -> Option<u32>
 /// A bound of the id for which a number is stored, told by one of the id before it.
 fn most_with(table: &LogicalTable, coding: Coding, row: u64, most: u64, number: u32) -> u64
     requires row { row < length table.now.rows }
-    requires most { most ≤ 65535 }
+    requires most { most ≤ greatest_narrow }
     ensures { (before : ℕ) → before ≤ most → base_of coding (goes_on (drop row (continues_in table.now))) before + number ≤ result }
 {
     let number = u64::from(number);

@@ -8,7 +8,7 @@ ghost use Rattle.otap_cells.specs.Payload.{kinds_of};
 ghost use Rattle.otap_cells.specs.Tables.{Table};
 ghost use Rattle.otap_cells.specs.Weights.{row_weight_limit, weight_of_tables};
 ghost use Rattle.arrow_arrays.specs.Written.{PartIn, batch_of};
-ghost use Rattle.otap_columns.specs.Limits.{dictionary_columns, record_limit};
+ghost use Rattle.otap_columns.specs.Limits.{dictionary_columns, record_limit, tables_limit, columns_limit, records_limit};
 ghost use Rattle.otap_columns.specs.WrittenPayloads.{HoldsRows, IsReadAs, AreWrittenAs};
 ghost use Rattle.otap_columns.specs.Schemas.{Forms, FormsFit, slots_for};
 ghost use Rattle.otap_columns.specs.Streams.{PayloadIn};
@@ -31,8 +31,8 @@ pub fn rows_are_held()
 /// The records of tables that are within the row weight together have at most 418,525,472 bytes, where there are at most 13
 /// tables, and at most 43 of their columns may be dictionaries. No signal has more.
 pub fn records_fit_a_message()
-    ensures bound { (tables : List Table) → weight_of_tables tables ≤ row_weight_limit → sum_by (λ t. dictionary_columns t.kind) tables ≤ 43 → length tables ≤ 13
-        → sum_by record_limit tables ≤ 418525472 }
-    ensures columns { (signal : Signal) → sum_by dictionary_columns (kinds_of signal) ≤ 43 }
-    ensures tables { (signal : Signal) → length (kinds_of signal) ≤ 13 }
+    ensures bound { (tables : List Table) → weight_of_tables tables ≤ row_weight_limit → sum_by (λ t. dictionary_columns t.kind) tables ≤ columns_limit → length tables ≤ tables_limit
+        → sum_by record_limit tables ≤ records_limit }
+    ensures columns { (signal : Signal) → sum_by dictionary_columns (kinds_of signal) ≤ columns_limit }
+    ensures tables { (signal : Signal) → length (kinds_of signal) ≤ tables_limit }
 {}

@@ -3,6 +3,7 @@ use Rattle.std.specs.Prelude.{sum_by}
 use Rattle.std.proofs.lemmas.List.{take_all}
 use Rattle.otap_cells.specs.Columns.{columns_of}
 use Rattle.otap_cells.specs.Weights.{weight_of_table}
+use Rattle.otap_columns.specs.Limits.{row_limit}
 use Rattle.otap_columns.specs.declared.writer_groups.Group.{Group}
 use Rattle.otap_columns.specs.Groups.{grouped}
 use Rattle.otap_columns.specs.WrittenCells.{group_most, group_parts}
@@ -21,7 +22,7 @@ add_group-requires-clause-room c =
     let t = c.args.table.now in
     let gs = c.groups-groups.result.now in
     let are : map group_in gs ≡ grouped (columns_of t.kind) = c.groups-groups.ensures.are ∙ ap (λ k. grouped (columns_of k)) c.kind.ensures in
-    list_room (λ (g : Group). group_parts (group_in g)) (λ (g : Group). group_most t (group_in g)) gs c.groups.group-index _ 32 (136 * length t.rows + weight_of_table t + 1024)
+    list_room (λ (g : Group). group_parts (group_in g)) (λ (g : Group). group_most t (group_in g)) gs c.groups.group-index _ 32 (row_limit * length t.rows + weight_of_table t + 1024)
     (record { rows = length t.rows; nodes = []; buffers = [] }) c.groups.batch (omega arith) (groups_parts t gs are) (groups_bytes t gs are) (room_for_all t c.requires.can.light) c.groups.invariant.1
 
 pub groups-preserved : goal.groups-preserved
