@@ -9,7 +9,7 @@ use Rattle.arrow_buffers.specs.declared.width.Width.TheVariants as width
 use Rattle.arrow_ipc.specs.Batches.{BatchIn}
 use Rattle.arrow_ipc.specs.Written.{padded, body_size, most_of}
 use Rattle.arrow_arrays.specs.Written.{PartIn, struct_part, element_part}
-use Rattle.otap_columns.specs.WrittenCells.{HasRoom, GrowsBy, parts_of, with_part, with_parts}
+use Rattle.otap_columns.specs.BuiltCells.{HasRoom, GrowsBy, parts_of, with_part, with_parts}
 
 -- ---- one more part
 

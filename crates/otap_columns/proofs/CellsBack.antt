@@ -12,7 +12,8 @@ use Rattle.otap_cells.specs.Cells.{Cell, null, number, bits, flag, bytes, IsNumb
 use Rattle.otap_columns.specs.declared.forms.ColumnForm.{ColumnForm}
 use Rattle.otap_columns.specs.declared.forms.ColumnForm.TheVariants as form
 use Rattle.otap_columns.specs.Known.{unsigned, signed, stored, stored_cell}
-use Rattle.otap_columns.specs.Observed.{id_width, id_bits, FitsForm, number_bytes, bytes_for}
+use Rattle.otap_columns.specs.Observed.{id_width, number_bytes, bytes_for}
+use Rattle.otap_columns.specs.BuiltCells.{id_bits, FitsForm}
 
 long : (n x : ℕ) → length (little_bytes n x) ≡ n
 long n x = length-bytes_low_first 0 n x

@@ -20,7 +20,8 @@ use Rattle.otap_columns.specs.declared.forms.ColumnForm.{ColumnForm}
 use Rattle.otap_columns.specs.declared.forms.ColumnForm.TheVariants as form
 use Rattle.otap_columns.specs.Observed.{id_width, number_bytes, bytes_for}
 use Rattle.otap_columns.specs.Schemas.{is_dictionary}
-use Rattle.otap_columns.specs.WrittenCells.{index_width, place_in, stored_for, plain_width, width_for, stored_column}
+use Rattle.otap_columns.specs.WrittenCells.{place_in, stored_for, stored_column}
+use Rattle.otap_columns.specs.BuiltCells.{index_width, plain_width, width_for}
 
 -- ---- each cell has its column's width
 

@@ -17,7 +17,8 @@ use Rattle.otap_cells.specs.Weights.{cell_weight}
 use Rattle.otap_columns.specs.declared.forms.ColumnForm.{ColumnForm}
 use Rattle.otap_columns.specs.declared.forms.ColumnForm.TheVariants as form
 use Rattle.otap_columns.specs.Observed.{bytes_for}
-use Rattle.otap_columns.specs.WrittenCells.{plain_width, width_for, stored_for, stored_column, row_most, column_weight, column_most}
+use Rattle.otap_columns.specs.WrittenCells.{stored_for, stored_column}
+use Rattle.otap_columns.specs.BuiltCells.{plain_width, width_for, row_most, column_weight, column_most}
 use Rattle.otap_columns.proofs.ColumnsBuilt.{stored_len}
 
 -- ---- what a row takes in a width, its bit of the bitmap counted as a byte

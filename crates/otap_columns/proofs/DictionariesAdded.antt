@@ -25,7 +25,7 @@ use Rattle.otap_columns.specs.Limits.{head_limit}
 use Rattle.otap_columns.specs.Dictionaries.{values_of}
 use Rattle.otap_columns.specs.WrittenPayloads.{HoldsValues}
 use Rattle.otap_columns.specs.WrittenBatches.{IsSingle, AddsDictionary}
-use Rattle.otap_columns.specs.WrittenCells.{HasRoom, parts_of, with_parts}
+use Rattle.otap_columns.specs.BuiltCells.{HasRoom, parts_of, with_parts}
 use Rattle.otap_columns.proofs.BatchGrown.{column_grows, message_short, sizes}
 use Rattle.otap_columns.proofs.HeadsTaken.{all_some}
 

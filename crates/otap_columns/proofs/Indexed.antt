@@ -15,8 +15,9 @@ use Rattle.otap_columns.specs.declared.forms.ColumnForm.{ColumnForm}
 use Rattle.otap_columns.specs.declared.forms.ColumnForm.TheVariants as form
 use Rattle.otap_columns.specs.Observed.{bytes_for}
 use Rattle.otap_columns.specs.Schemas.{is_dictionary}
-use Rattle.otap_columns.specs.Seen.{filled, places_of}
-use Rattle.otap_columns.specs.WrittenCells.{FitsIndexes, IsIndexFor, index_of, index_width, place_in, stored_for, stored_column, width_for}
+use Rattle.otap_columns.specs.SeenInside.{filled, places_of}
+use Rattle.otap_columns.specs.WrittenCells.{FitsIndexes, place_in, stored_for, stored_column}
+use Rattle.otap_columns.specs.BuiltCells.{IsIndexFor, index_of, index_width, width_for}
 use Rattle.otap_columns.proofs.ColumnsBuilt.{index_stored}
 
 -- ---- indexes, one after the other

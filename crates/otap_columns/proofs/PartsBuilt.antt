@@ -28,7 +28,8 @@ use Rattle.otap_columns.specs.declared.forms.ColumnForm.TheVariants as form
 use Rattle.otap_columns.specs.Groups.{Member}
 use Rattle.otap_columns.specs.Observed.{bytes_for}
 use Rattle.otap_columns.specs.Schemas.{Forms, Column, Items, is_dictionary, type_in, dict_for, item_in, item_type, items_after, slots_of_member}
-use Rattle.otap_columns.specs.WrittenCells.{plain_width, width_for, stored_for, stored_column, parts_of}
+use Rattle.otap_columns.specs.WrittenCells.{stored_for, stored_column}
+use Rattle.otap_columns.specs.BuiltCells.{plain_width, width_for, parts_of}
 use Rattle.otap_columns.specs.WrittenRows.{AreSlotParts}
 use Rattle.otap_columns.proofs.ColumnsBuilt.{stored_len}
 

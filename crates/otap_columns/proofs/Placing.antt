@@ -9,7 +9,7 @@ use Rattle.otap_dicts.specs.Ladders.{LadderIn, is_plain, observed}
 use Rattle.otap_dicts.specs.declared.form.Form.TheVariants as ladder
 use Rattle.otap_columns.specs.declared.forms.ColumnForm.TheVariants as form
 use Rattle.otap_columns.specs.Observed.{bytes_for}
-use Rattle.otap_columns.specs.Seen.{filled, observed_if, places_of}
+use Rattle.otap_columns.specs.SeenInside.{filled, observed_if, places_of}
 use Rattle.otap_columns.specs.WrittenCells.{place_in}
 use Rattle.otap_columns.proofs.ColumnsBuilt.{cell_at-map, nones_at_first}
 use Rattle.otap_columns.proofs.SeenOn.{again_changes_nothing, cells_more, null_cell, plain_stays}

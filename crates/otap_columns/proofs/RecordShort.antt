@@ -17,7 +17,7 @@ use Rattle.otap_columns.specs.declared.forms.ColumnForm.TheVariants as form
 use Rattle.otap_columns.specs.Groups.{grouped}
 use Rattle.otap_columns.specs.Limits.{dictionary_columns, record_limit, head_limit}
 use Rattle.otap_columns.specs.Schemas.{Forms, FormsFit, fits_form, schema_for}
-use Rattle.otap_columns.specs.WrittenCells.{rows_most}
+use Rattle.otap_columns.specs.BuiltCells.{rows_most}
 use Rattle.otap_columns.specs.WrittenRecords.{AddsAtMost, head_most, heads_most, is_sent, schema_most}
 use Rattle.otap_columns.proofs.Counting.{kinds_counted, mark}
 use Rattle.otap_columns.proofs.Grouping.{group_size}

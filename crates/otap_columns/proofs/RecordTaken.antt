@@ -33,7 +33,8 @@ use Rattle.otap_columns.specs.Substreams.{SubstreamIn, held_if, held_in, schema_
 use Rattle.otap_columns.specs.Substreams.{field_value, value_if, column_value, column_cell, table_in, field_fits, field_fits_if, indexes_fit}
 use Rattle.otap_columns.specs.Records.{IsFineBatch, IsFineIn, IsFine, is_fine_for}
 use Rattle.otap_columns.specs.Schemas.{Forms, FormsFit, IsFound, is_there, is_dictionary, type_in, dict_for, schema_for}
-use Rattle.otap_columns.specs.Observed.{bytes_for, FitsForm}
+use Rattle.otap_columns.specs.Observed.{bytes_for}
+use Rattle.otap_columns.specs.BuiltCells.{FitsForm}
 use Rattle.otap_columns.specs.WrittenPayloads.{LeadsTo, Stores, HoldsRows, heads}
 use Rattle.otap_columns.proofs.CellsBack.{cell_back}
 use Rattle.otap_columns.proofs.Growing.{dictionary-other, dictionaries_in-batch, schema_in-stays, substream_from}

@@ -19,10 +19,10 @@ use Rattle.otap_cells.specs.declared.profile.Base.{Base}
 use Rattle.otap_cells.specs.Tables.{Table, IsTable, cell_in}
 use Rattle.otap_columns.specs.declared.resolved.ResolvedColumn.{ResolvedColumn}
 use Rattle.otap_columns.specs.Dictionaries.{values_for}
-use Rattle.otap_columns.specs.Known.{FitsBase, place_at, columns_fit, stored_cell}
-use Rattle.otap_columns.specs.Resolved.{resolved_value, HasIndexSizes, IsResolved, IsField, IsColumn, ShowsColumn}
+use Rattle.otap_columns.specs.Known.{place_at, columns_fit, stored_cell}
+use Rattle.otap_columns.specs.Resolved.{FitsBase, resolved_value, HasIndexSizes, IsResolved, IsField, IsColumn, ShowsColumn, IsIndexSize}
 use Rattle.otap_columns.specs.Steps.{FitsIn}
-use Rattle.otap_columns.specs.Substreams.{SubstreamIn, IsIndexSize, value_at, replaced, field_value, column_cell, table_in}
+use Rattle.otap_columns.specs.Substreams.{SubstreamIn, value_at, replaced, field_value, column_cell, table_in}
 use Rattle.otap_columns.proofs.Placed.{column_value_is}
 use Rattle.otap_columns.proofs.Showing.{column_value_fits}
 use Rattle.otap_columns.proofs.Tabled.{same_kind, shows, holds}

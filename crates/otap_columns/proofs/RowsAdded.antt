@@ -31,10 +31,12 @@ use Rattle.otap_columns.specs.declared.writer_groups.Member.{Member}
 use Rattle.otap_columns.specs.Groups as groups
 use Rattle.otap_columns.specs.Schemas.{Forms, FormsFit, Slot, Struct, slots_for, is_there, members_there, slots_of_member, slots_under, slots_in}
 use Rattle.otap_columns.specs.WrittenGroups.{member_in, group_in}
-use Rattle.otap_columns.specs.WrittenCells.{place_in, width_for, stored_for, stored_column, parts_of, with_part, with_parts}
+use Rattle.otap_columns.specs.WrittenCells.{place_in, stored_for, stored_column}
+use Rattle.otap_columns.specs.BuiltCells.{width_for, parts_of, with_part, with_parts}
 use Rattle.otap_columns.specs.WrittenPayloads.{HoldsRows}
 use Rattle.otap_columns.specs.Groups.{grouped}
-use Rattle.otap_columns.specs.WrittenRows.{AreSlotParts, AddsSlots, HasValues}
+use Rattle.otap_columns.specs.WrittenRows.{AreSlotParts, HasValues}
+use Rattle.otap_columns.specs.BuiltRows.{AddsSlots}
 use Rattle.otap_columns.proofs.PartsBuilt.{IsBuiltOf, column_parts}
 use Rattle.otap_columns.proofs.RowsBuilt.{slots-append, rows_held}
 

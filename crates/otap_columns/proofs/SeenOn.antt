@@ -23,7 +23,8 @@ use Rattle.otap_dicts.specs.Limits.{narrow_limit}
 use Rattle.otap_columns.specs.declared.forms.ColumnForm.{ColumnForm}
 use Rattle.otap_columns.specs.declared.forms.ColumnForm.TheVariants as form
 use Rattle.otap_columns.specs.Observed.{bytes_for, given, seen, has_wide_id, is_own_id, is_wide, if_seen, id_form, form_at}
-use Rattle.otap_columns.specs.Seen.{SeenIn, IsSeenAfter, filled, may_widen, observed_if, places_of, SeesTable, is_absent, form_told, id_form_told}
+use Rattle.otap_columns.specs.Seen.{SeenIn, IsSeenAfter, may_widen}
+use Rattle.otap_columns.specs.SeenInside.{filled, observed_if, places_of, SeesTable, is_absent, form_told, id_form_told}
 use Rattle.otap_columns.proofs.ColumnsBuilt.{cell_at-map}
 use Rattle.otap_columns.proofs.ValuesSeen.{seen-push}
 

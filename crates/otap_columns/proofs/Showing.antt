@@ -28,7 +28,8 @@ use Rattle.otap_cells.specs.Tables.{IsTable}
 use Rattle.otap_cells.proofs.ByPlace.{IsTable-table_by}
 use Rattle.otap_columns.specs.Dictionaries.{DictionaryIn, is_for, values_for}
 use Rattle.otap_columns.specs.Known.{known_column, known_columns, is_column, place_in, place_at, array_at, array_of, elements_at, stores, fits_encoding, fits_as, fits_column, fits_at, columns_fit}
-use Rattle.otap_columns.specs.Known.{coding_if, column_coding, greatest_if, column_greatest, FitsBase, stored_cell}
+use Rattle.otap_columns.specs.Known.{coding_if, column_coding, greatest_if, column_greatest, stored_cell}
+use Rattle.otap_columns.specs.Resolved.{FitsBase}
 use Rattle.otap_columns.specs.Steps.{FitsIn, FitsValue}
 use Rattle.otap_columns.specs.Substreams.{SubstreamIn, replaced, field_value, value_if, column_value, column_cell, table_in}
 use Rattle.otap_columns.proofs.Coding.{own_allowed, named_allowed, fits_allowed}

@@ -9,7 +9,8 @@ use Rattle.otap_cells.specs.Tables.{Table}
 use Rattle.otap_columns.specs.contracts.forms.ColumnFormPartialEq.TheImpl.{eq-value}
 use Rattle.otap_columns.specs.declared.forms.ColumnForm.{ColumnForm}
 use Rattle.otap_columns.specs.declared.forms.ColumnForm.TheVariants as form
-use Rattle.otap_columns.specs.Seen.{SeenIn, SeesTable}
+use Rattle.otap_columns.specs.Seen.{SeenIn}
+use Rattle.otap_columns.specs.SeenInside.{SeesTable}
 use Rattle.otap_columns.specs.WrittenRows.{unseen}
 use Rattle.otap_columns.specs.Writers.{AreSeen, is_started}
 

@@ -16,13 +16,17 @@ use Rattle.otap_columns.specs.declared.forms.ColumnForm.{ColumnForm}
 use Rattle.otap_columns.specs.declared.forms.ColumnForm.TheVariants as form
 use Rattle.otap_columns.specs.WrittenPayloads.{IsWritable}
 use Rattle.otap_columns.specs.Schemas.{FormsFit, fits_form, is_dictionary, is_there, item_in}
-use Rattle.otap_columns.specs.Observed.{FitsForm, bytes_for, form_at, is_own_id, is_wide, of_ladder, values_at}
-use Rattle.otap_columns.specs.Seen.{SeenIn, filled, form_told, id_form_told, is_absent, places_of}
+use Rattle.otap_columns.specs.Observed.{bytes_for, form_at, is_own_id, is_wide, of_ladder, values_at}
+use Rattle.otap_columns.specs.BuiltCells.{FitsForm}
+use Rattle.otap_columns.specs.Seen.{SeenIn}
+use Rattle.otap_columns.specs.SeenInside.{filled, form_told, id_form_told, is_absent, places_of}
 use Rattle.otap_columns.specs.WrittenCells.{FitsIndexes, place_in}
 use Rattle.otap_columns.specs.WrittenGroups.{forms_in}
 use Rattle.otap_columns.specs.WrittenRecords.{CanSend}
-use Rattle.otap_columns.specs.WrittenRows.{CanWrite, HasValues, IsKnownIn, columns_in, unseen as unseen_column}
-use Rattle.otap_columns.specs.Writers.{AreForms, AreSeen, AreWritable, SeesAll, is_started}
+use Rattle.otap_columns.specs.WrittenRows.{HasValues, IsKnownIn, unseen as unseen_column}
+use Rattle.otap_columns.specs.BuiltRows.{CanWrite, columns_in}
+use Rattle.otap_columns.specs.Writers.{AreSeen, AreWritable, is_started}
+use Rattle.otap_columns.specs.WriterInside.{AreForms, SeesAll}
 use Rattle.otap_columns.proofs.LookedUp.{Each}
 use Rattle.otap_columns.proofs.SeenOn.{told_is}
 use Rattle.otap_columns.proofs.ValuesSeen.{forms_fit, few_values, small_values, ids_fit}

@@ -24,8 +24,9 @@ use Rattle.otap_columns.specs.Observed.{bytes_for, form_at, values_at, new_at}
 use Rattle.otap_columns.specs.Seen.{SeenIn}
 use Rattle.otap_columns.specs.WrittenGroups.{forms_in}
 use Rattle.otap_columns.specs.WrittenRecords.{Values, CanSend, IsRecordBy, from_in, heads_by, is_sent}
-use Rattle.otap_columns.specs.WrittenRows.{columns_in}
-use Rattle.otap_columns.specs.Writers.{AreCounts, AreForms, AreSeen, AreWritable, IsReady, SeesAll, is_started}
+use Rattle.otap_columns.specs.BuiltRows.{columns_in}
+use Rattle.otap_columns.specs.Writers.{AreSeen, AreWritable, is_started}
+use Rattle.otap_columns.specs.WriterInside.{AreCounts, AreForms, IsReady, SeesAll}
 use Rattle.otap_columns.proofs.Finding.{known_column-below}
 use Rattle.otap_columns.proofs.RecordAppended.{heads_alike}
 use Rattle.otap_columns.proofs.StepHeld.{form_is, values_is, forms_are_fit, can_send, seen_more, writable_each, writable_more}

@@ -17,7 +17,8 @@ use Rattle.otap_cells.specs.declared.profile.Base.{Base}
 use Rattle.otap_cells.specs.declared.profile.Base.TheVariants as base
 use Rattle.otap_cells.specs.Bases.{is_id, holds_bytes}
 use Rattle.otap_cells.specs.Cells.{Cell, IsCellOf, nat_in}
-use Rattle.otap_columns.specs.Known.{is_list_of, stores, greatest_of, FitsBase, unsigned, signed, stored, stored_cell}
+use Rattle.otap_columns.specs.Known.{is_list_of, stores, greatest_of, unsigned, signed, stored, stored_cell}
+use Rattle.otap_columns.specs.Resolved.{FitsBase}
 use Rattle.otap_columns.specs.Parts.{part_of}
 
 -- ---- numbers

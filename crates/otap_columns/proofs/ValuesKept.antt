@@ -34,7 +34,7 @@ use Rattle.otap_columns.specs.WrittenPayloads.{IsWritable}
 use Rattle.otap_columns.specs.Schemas.{fits_form, is_dictionary, item_in, type_in}
 use Rattle.otap_columns.specs.Observed.{bytes_for, given, values_in, seen, form_at, values_at, is_own_id, id_form_if, of_ladder}
 use Rattle.otap_columns.specs.WrittenBatches.{IsSingle, HoldsType}
-use Rattle.otap_columns.specs.WrittenCells.{plain_width}
+use Rattle.otap_columns.specs.BuiltCells.{plain_width}
 use Rattle.otap_columns.specs.WrittenRows.{IsKnownIn}
 use Rattle.otap_columns.proofs.Grouping.{kinds_grouped, may_be_dictionary}
 use Rattle.otap_columns.proofs.Keeping.{marked_takes}

@@ -24,7 +24,8 @@ use Rattle.otap_dicts.specs.Limits.{narrow_limit, value_limit, byte_limit}
 use Rattle.otap_columns.specs.declared.forms.ColumnForm.{ColumnForm}
 use Rattle.otap_columns.specs.declared.forms.ColumnForm.TheVariants as form
 use Rattle.otap_columns.specs.Schemas.{is_there, is_dictionary, fits_form, FormsFit}
-use Rattle.otap_columns.specs.Observed.{bytes_for, id_bits, FitsForm, given, values_in, seen, is_own_id, is_above, is_wide, has_wide_id, if_seen, id_form, id_form_if, of_ladder, form_at, values_at, new_at}
+use Rattle.otap_columns.specs.Observed.{bytes_for, given, values_in, seen, is_own_id, is_above, is_wide, has_wide_id, if_seen, id_form, id_form_if, of_ladder, form_at, values_at, new_at}
+use Rattle.otap_columns.specs.BuiltCells.{id_bits, FitsForm}
 use Rattle.otap_columns.proofs.CellsBack.{null_bytes}
 
 -- ---- one more table

@@ -1,6 +1,6 @@
 -- The columns of a kind's tables among the fields of a schema: by their paths, their types, and how their ids are stored.
-use Rattle.std.specs.Prelude.{◌≡◌, ℕ, ◌+◌, ◌*◌, ◌%◌, ◌^◌, ◌==◌, ◌&&◌, ◌||◌, ◌⊎◌, ⊤, not, Bool, true, false, if◌then◌else◌, List, length, map, slice_get, slice_index, Option, Some, None, option_map}
-use Rattle.std.specs.Prelude.{position, ℤ, pos, IsUtf8}
+use Rattle.std.specs.Prelude.{ℕ, ◌+◌, ◌*◌, ◌%◌, ◌^◌, ◌==◌, ◌&&◌, ◌||◌, not, Bool, true, false, if◌then◌else◌, List, length, map, slice_get, slice_index, Option, Some, None, option_map}
+use Rattle.std.specs.Prelude.{position, ℤ, pos}
 use Rattle.std.specs.List.{range_with_len}
 use Rattle.std.specs.Int.{w32, w64, cast_signed}
 use Rattle.byteorder.specs.Endian.{little_number}
@@ -9,9 +9,7 @@ use Rattle.arrow_schema.specs.declared.spec.ArrowType.TheVariants as arrow
 use Rattle.arrow_schema.specs.declared.spec.Encoding.{Encoding}
 use Rattle.arrow_schema.specs.declared.spec.Encoding.TheVariants as encoding
 use Rattle.arrow_schema.specs.Types.{same_type}
-use Rattle.arrow_buffers.specs.declared.width.Width.TheVariants.{Bit}
 use Rattle.arrow_buffers.specs.Below.{all_below}
-use Rattle.arrow_buffers.specs.Columns.{HasWidth}
 use Rattle.arrow_arrays.specs.declared.spec.ArraySpec.{ArraySpec}
 use Rattle.arrow_arrays.specs.Arrays.{path_of}
 use Rattle.otap_cells.specs.declared.payload.Kind.{Kind}
@@ -143,26 +141,6 @@ abbrev pub column_greatest : Kind → List ArraySpec → ℕ → ℕ
 column_greatest kind arrays column = greatest_if (array_of kind arrays column)
 
 -- ---- cells
-
--- the bytes that a cell of a base is stored in, which isn't null
-abbrev pub FitsBase : Base → List ℕ → Type 0
-FitsBase base.U8 value = length value ≡ 1
-FitsBase base.U16 value = length value ≡ 2
-FitsBase base.U32 value = length value ≡ 4
-FitsBase base.U64 value = length value ≡ 8
-FitsBase base.I32 value = length value ≡ 4
-FitsBase base.I64 value = length value ≡ 8
-FitsBase base.Double value = length value ≡ 8
-FitsBase base.Bool value = HasWidth Bit value
-FitsBase base.Utf8 value = IsUtf8 value
-FitsBase base.Binary value = ⊤
-FitsBase base.Fixed16 value = length value ≡ 16
-FitsBase base.Fixed8 value = length value ≡ 8
-FitsBase base.Timestamp value = length value ≡ 8
-FitsBase base.Duration value = length value ≡ 8
-FitsBase base.ListU64 value = length value % 8 ≡ 0
-FitsBase base.ListF64 value = length value % 8 ≡ 0
-FitsBase (base.Id wide) value = (length value ≡ 2) ⊎ (length value ≡ 4)
 
 -- a number by its bytes, the lowest first; its width is that of the bytes
 abbrev pub unsigned : List ℕ → ℕ

@@ -23,6 +23,10 @@ pub mod Steps
 pub mod Views
 pub mod Reading
 pub mod Ends
+pub mod SeenInside
+pub mod BuiltCells
+pub mod BuiltRows
+pub mod WriterInside
 pub mod Inside
 pub mod ReaderInside
 pub mod Resolved

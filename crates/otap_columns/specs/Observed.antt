@@ -1,7 +1,7 @@
 -- The values that the columns of tables had, the bytes that store them, and the form in which a column is written after them
 -- (OpenTelemetry Arrow Protocol, "Schema and Dictionary Resets"; the forms and their limits are this gateway's profile).
 use Rattle.std.specs.Prelude.{ℕ, ◌||◌, Bool, true, false, nat_lt, if◌then◌else◌, List, [], ◌∷◌, length, map, drop, codes, bytes_eq, Option, Some, None, ℤ, unsigned_abs}
-use Rattle.std.specs.Int.{w32, w64, cast_unsigned, FitsUnsignedBits}
+use Rattle.std.specs.Int.{w32, w64, cast_unsigned}
 use Rattle.std.specs.List.{flat_map, list_any}
 use Rattle.byteorder.specs.Endian.{little_bytes}
 use Rattle.arrow_buffers.specs.Columns.{bit_byte}
@@ -27,15 +27,6 @@ use Rattle.otap_columns.specs.declared.forms.ColumnForm.TheVariants as form
 abbrev pub id_width : ColumnForm → ℕ
 id_width form.Wide = 4
 id_width other = 2
-
--- an id that fits a form
-abbrev pub id_bits : ColumnForm → ℕ
-id_bits form.Wide = 32
-id_bits other = 16
-
-abbrev pub FitsForm : Base → ColumnForm → Cell → Type 0
-FitsForm (base.Id wide) form (number n) = FitsUnsignedBits (id_bits form) n
-FitsForm holds form cell = Unit {0}
 
 -- the bytes of a number, the lowest first
 abbrev pub number_bytes : Base → ColumnForm → ℤ → List ℕ

@@ -21,7 +21,8 @@ use Rattle.otap_columns.specs.Known.{columns_fit}
 use Rattle.otap_columns.specs.Records.{is_schema, is_rows, IsFineBatch, IsFine}
 use Rattle.otap_columns.specs.Steps.{RefusesBatch}
 use Rattle.otap_columns.specs.Substreams.{SubstreamIn, substream_in, indexes_fit}
-use Rattle.otap_columns.specs.Views.{ReaderIn, Keeps}
+use Rattle.otap_columns.specs.Views.{ReaderIn}
+use Rattle.otap_columns.specs.ReaderInside.{Keeps}
 
 -- the message stands first in what was left to read, and was taken off
 pub record Passes (old new : MessagesIn) (m : IpcMessage) : Type 0 where

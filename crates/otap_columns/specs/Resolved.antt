@@ -1,17 +1,45 @@
 -- Columns that are found once, in the words of private contracts.
-use Rattle.std.specs.Prelude.{◌≡◌, ℕ, ◌<◌, ⊤, true, List, Option, None, Some, length, slice_get}
+use Rattle.std.specs.Prelude.{◌≡◌, ℕ, ◌<◌, ⊤, true, List, Option, None, Some, length, slice_get, ◌%◌, ◌⊎◌, IsUtf8}
 use Rattle.std.specs.Option.{ForSome, option_copied}
+use Rattle.arrow_buffers.specs.declared.width.Width.TheVariants.{Bit}
+use Rattle.arrow_buffers.specs.Columns.{HasWidth}
 use Rattle.arrow_ipc.specs.Batches.{BatchIn}
 use Rattle.arrow_arrays.specs.declared.column.ColumnView.{ColumnView}
 use Rattle.arrow_arrays.specs.Views.{is_whole, cell_seen}
 use Rattle.otap_cells.specs.declared.payload.Kind.{Kind}
 use Rattle.otap_cells.specs.Cells.{IsCellOf}
-use Rattle.otap_columns.specs.declared.resolved.ResolvedColumn.{ResolvedColumn}
 use Rattle.otap_cells.specs.Columns.{base_at}
 use Rattle.otap_cells.specs.Tables.{Table, cell_in}
-use Rattle.otap_columns.specs.Known.{FitsBase, stored_cell}
+use Rattle.otap_cells.specs.declared.profile.Base.{Base}
+use Rattle.otap_cells.specs.declared.profile.Base.TheVariants as base
+use Rattle.otap_columns.specs.declared.resolved.ResolvedColumn.{ResolvedColumn}
+use Rattle.otap_columns.specs.Known.{stored_cell}
 use Rattle.otap_columns.specs.Dictionaries.{DictionaryIn}
-use Rattle.otap_columns.specs.Substreams.{SubstreamIn, IsIndexSize, value_at, field_value, column_value}
+use Rattle.otap_columns.specs.Substreams.{SubstreamIn, value_at, field_value, column_value}
+
+-- the bytes that a cell of a base is stored in, which isn't null
+abbrev pub FitsBase : Base → List ℕ → Type 0
+FitsBase base.U8 value = length value ≡ 1
+FitsBase base.U16 value = length value ≡ 2
+FitsBase base.U32 value = length value ≡ 4
+FitsBase base.U64 value = length value ≡ 8
+FitsBase base.I32 value = length value ≡ 4
+FitsBase base.I64 value = length value ≡ 8
+FitsBase base.Double value = length value ≡ 8
+FitsBase base.Bool value = HasWidth Bit value
+FitsBase base.Utf8 value = IsUtf8 value
+FitsBase base.Binary value = ⊤
+FitsBase base.Fixed16 value = length value ≡ 16
+FitsBase base.Fixed8 value = length value ≡ 8
+FitsBase base.Timestamp value = length value ≡ 8
+FitsBase base.Duration value = length value ≡ 8
+FitsBase base.ListU64 value = length value % 8 ≡ 0
+FitsBase base.ListF64 value = length value % 8 ≡ 0
+FitsBase (base.Id wide) value = (length value ≡ 2) ⊎ (length value ≡ 4)
+
+-- the bytes that an index is stored in
+abbrev pub IsIndexSize : List ℕ → Type 0
+IsIndexSize index = (length index ≡ 1) ⊎ (length index ≡ 2)
 
 -- a cell, or the value to which it leads as an index
 abbrev pub led_to : Option DictionaryIn → Option (List ℕ) → Option (List ℕ)

@@ -1,19 +1,13 @@
 -- What the writer keeps of the columns of the tables that it wrote.
-use Rattle.std.specs.Prelude.{◌≡◌, ℕ, ◌-◌, length, map, replicate, ◌&&◌, ◌||◌, not, Bool, true, false, if◌then◌else◌, List, ◌∷◌, ◌++◌, [], Option, None, Some}
+use Rattle.std.specs.Prelude.{◌≡◌, ℕ, ◌&&◌, not, Bool, false, List, Option}
 use Rattle.std.specs.List.{list_any}
 use Rattle.otap_cells.specs.declared.payload.Kind.{Kind}
-use Rattle.otap_cells.specs.Columns.{column_at, base_at, is_id_at}
+use Rattle.otap_cells.specs.Columns.{column_at, base_at}
 use Rattle.otap_cells.specs.declared.profile.Base.{Base}
 use Rattle.otap_cells.specs.declared.profile.Base.TheVariants as base
-use Rattle.otap_cells.specs.Cells.{Cell}
-use Rattle.otap_cells.specs.Tables.{Table, column_in}
-use Rattle.otap_dicts.specs.Ladders.{LadderIn, is_dictionary, ladder_of, observed}
-use Rattle.otap_dicts.specs.declared.form.Form.{Form}
-use Rattle.otap_dicts.specs.declared.form.Form.TheVariants as ladder
-use Rattle.otap_columns.specs.declared.forms.ColumnForm.{ColumnForm}
-use Rattle.otap_columns.specs.declared.forms.ColumnForm.TheVariants as form
-use Rattle.otap_columns.specs.Observed.{bytes_for, seen, has_wide_id, is_wide, is_own_id, of_ladder}
-use Rattle.otap_columns.specs.WrittenCells.{place_in}
+use Rattle.otap_cells.specs.Tables.{Table}
+use Rattle.otap_dicts.specs.Ladders.{LadderIn, ladder_of}
+use Rattle.otap_columns.specs.Observed.{seen, has_wide_id}
 
 -- of a column: its ladder, whether its ids became wide, and of each cell of the last table, up to the last one that was set, the
 -- place of its value in the ladder's dictionary, where it has one
@@ -31,38 +25,3 @@ may_widen other = false
 pub record IsSeenAfter (kind : Kind) (tables : List Table) (column : ℕ) (s : SeenIn) : Type 0 where
   pub ladder_is : s.ladder ≡ ladder_of (column_at kind column).dictionary (seen kind tables column)
   pub wide_is : s.wide ≡ (may_widen (base_at kind column) && list_any (has_wide_id kind column) tables)
-
--- the places of cells among values
-abbrev pub places_of : Base → ColumnForm → List (List ℕ) → List Cell → List (Option ℕ)
-places_of holds form values cells = map (λ cell. place_in values (bytes_for holds form cell)) cells
-
--- the places of a number of cells, where those of the first ones are told and the others have none
-abbrev pub filled : ℕ → List (Option ℕ) → List (Option ℕ)
-filled count places = places ++ replicate (count - length places) None
-
--- a ladder after a cell, which null leaves as it was
-abbrev pub observed_if : LadderIn → Option (List ℕ) → LadderIn
-observed_if ladder None = ladder
-observed_if ladder (Some value) = observed ladder value
-
--- whatever tables the old state stands for, the new one stands for these and the table after them; where the column is a
--- dictionary it has the places of the table's cells
-pub record SeesTable (kind : Kind) (column : ℕ) (t : Table) (old new : SeenIn) : Type 0 where
-  pub at : (tables : List Table) → IsSeenAfter kind tables column old → IsSeenAfter kind (tables ++ t ∷ []) column new
-  pub placed : is_dictionary new.ladder.form ≡ true → filled (length t.rows) new.places ≡ places_of (base_at kind column) form.Wide new.ladder.values (column_in t.rows column)
-
--- ---- forms
-
--- no value was observed
-abbrev pub is_absent : Form → Bool
-is_absent ladder.Absent = true
-is_absent told = false
-
--- the form of a column of ids, and of any column, that a state tells
-abbrev pub id_form_told : Bool → Bool → Bool → ColumnForm
-id_form_told own absent wide = if absent && not own then form.Absent else (if wide then form.Wide else form.Plain)
-
-abbrev pub form_told : Kind → ℕ → SeenIn → ColumnForm
-form_told kind column s =
-    if is_id_at kind column then id_form_told (is_own_id kind column) (is_absent s.ladder.form) (is_wide (base_at kind column) || s.wide)
-    else of_ladder s.ladder.form

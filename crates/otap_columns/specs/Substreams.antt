@@ -1,5 +1,5 @@
 -- What a sub-stream is after some of its messages: the arrays of its schema, and its dictionaries.
-use Rattle.std.specs.Prelude.{◌≡◌, ℕ, Bool, true, false, is_some, nat_lt, List, [], ◌∷◌, length, Option, Some, None, option_map, slice_get, slice_index_or, ◌⊎◌}
+use Rattle.std.specs.Prelude.{ℕ, Bool, true, false, is_some, nat_lt, List, [], ◌∷◌, length, Option, Some, None, option_map, slice_get, slice_index_or}
 use Rattle.std.specs.List.{flat_map}
 use Rattle.byteorder.specs.Endian.{little_number}
 use Rattle.lists.specs.Since.{last_after}
@@ -96,10 +96,6 @@ field_fits_if s batch place (Some a) = field_fits s batch place a.kind a.dict
 -- each index of each field, known or not, leads to a value
 unfoldable pub indexes_fit : SubstreamIn → BatchIn → Bool
 indexes_fit s batch = all_below (λ place. field_fits_if s batch place (slice_get s.arrays place)) (length s.arrays)
-
--- the bytes that an index is stored in
-abbrev pub IsIndexSize : List ℕ → Type 0
-IsIndexSize index = (length index ≡ 1) ⊎ (length index ≡ 2)
 
 -- the array at a place holds indexes
 abbrev pub is_indexed : Option ArraySpec → Bool

@@ -35,8 +35,3 @@ pub record Shows (r : ReaderIn) (bytes : List ℕ) : Type 0 where
 -- stands for these and the record's own
 abbrev pub Takes : ReaderIn → List ℕ → ReaderIn → Type 0
 Takes old bytes new = (past : List IpcMessage) → StandsFor past old → IsRead old.kind past bytes × StandsAt (past ++ front_of bytes) bytes new
-
--- the kind, and whether it is broken, are as they were
-pub record Keeps (old new : ReaderIn) : Type 0 where
-  pub kind : new.kind ≡ old.kind
-  pub broken : new.broken ≡ old.broken

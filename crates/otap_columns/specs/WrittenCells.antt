@@ -1,36 +1,14 @@
--- What the writer keeps and writes for a cell.
-use Rattle.std.specs.Prelude.{ℕ, ◌+◌, ◌*◌, ◌/◌, ◌<◌, ◌≤◌, List, [], ◌∷◌, ◌++◌, length, map, sum_by, Option, Some, None, option_map, position, bytes_eq, pos}
+-- What is written for a cell.
+use Rattle.std.specs.Prelude.{ℕ, ◌≤◌, List, map, Option, Some, None, option_map, position, bytes_eq}
 use Rattle.byteorder.specs.Endian.{little_bytes}
-use Rattle.arrow_buffers.specs.declared.builder.Buffers.{Buffers}
-use Rattle.arrow_buffers.specs.declared.width.Width.{Width}
-use Rattle.arrow_buffers.specs.declared.width.Width.TheVariants as width
-use Rattle.arrow_ipc.specs.Batches.{BatchIn}
-use Rattle.arrow_ipc.specs.Limits.{max_parts, max_body}
-use Rattle.arrow_ipc.specs.Written.{body_size}
-use Rattle.arrow_arrays.specs.Written.{PartIn, element_part}
 use Rattle.otap_cells.specs.declared.profile.Base.{Base}
-use Rattle.otap_cells.specs.declared.profile.Base.TheVariants as base
 use Rattle.otap_cells.specs.Cells.{Cell}
 use Rattle.otap_cells.specs.Columns.{base_at}
-use Rattle.otap_cells.specs.Tables.{Table, cell_in, column_in}
-use Rattle.otap_cells.specs.Weights.{cell_weight, weight_of_table}
+use Rattle.otap_cells.specs.Tables.{Table, column_in}
 use Rattle.otap_dicts.specs.Limits.{narrow_limit, value_limit}
-use Rattle.otap_columns.specs.Limits.{row_limit}
 use Rattle.otap_columns.specs.declared.forms.ColumnForm.{ColumnForm}
 use Rattle.otap_columns.specs.declared.forms.ColumnForm.TheVariants as form
-use Rattle.otap_columns.specs.declared.writer_cells.CellBytes.{CellBytes}
-use Rattle.otap_columns.specs.declared.writer_cells.CellBytes.TheVariants as bytes
-use Rattle.otap_columns.specs.Groups.{Member, Group, Alone, Under}
-use Rattle.otap_columns.specs.Observed.{FitsForm, bytes_for, id_width}
-
--- the bytes that are written for a cell, none where it is null
-abbrev pub shown : CellBytes → Option (List ℕ)
-shown bytes.Null = None
-shown (bytes.One part) = Some part
-shown (bytes.Two part) = Some part
-shown (bytes.Four part) = Some part
-shown (bytes.Eight part) = Some part
-shown (bytes.Part part) = Some part.now
+use Rattle.otap_columns.specs.Observed.{bytes_for}
 
 -- the place of a value among values; null has none
 abbrev pub place_in : List (List ℕ) → Option (List ℕ) → Option ℕ
@@ -47,20 +25,6 @@ FitsIndexes form.Dict8 count = count ≤ narrow_limit
 FitsIndexes form.Dict16 count = count ≤ value_limit
 FitsIndexes form count = Unit {0}
 
--- how many bytes an index has, and whether a place is one that the form reaches
-abbrev pub index_width : ColumnForm → ℕ
-index_width form.Dict8 = 1
-index_width other = 2
-
--- the index of a place
-abbrev pub index_of : ColumnForm → Option ℕ → Option (List ℕ)
-index_of form place = option_map (little_bytes (index_width form)) place
-
-abbrev pub IsIndexFor : ColumnForm → Option ℕ → Type 0
-IsIndexFor form None = Unit {0}
-IsIndexFor form.Dict8 (Some place) = place < narrow_limit
-IsIndexFor other (Some place) = place < value_limit
-
 -- WHAT IS WRITTEN for a cell: its index in a dictionary's form, else its bytes
 abbrev pub stored_for : Base → ColumnForm → List (List ℕ) → Cell → Option (List ℕ)
 stored_for holds form.Dict8 values cell = index_bytes 1 values (bytes_for holds form.Dict8 cell)
@@ -69,116 +33,6 @@ stored_for holds form.Absent values cell = bytes_for holds form.Absent cell
 stored_for holds form.Plain values cell = bytes_for holds form.Plain cell
 stored_for holds form.Wide values cell = bytes_for holds form.Wide cell
 
--- ---- columns
-
--- how the cells of a column are stored
-abbrev pub plain_width : Base → ColumnForm → Width
-plain_width base.U8 form = width.Fixed 1
-plain_width base.U16 form = width.Fixed 2
-plain_width base.U32 form = width.Fixed 4
-plain_width base.U64 form = width.Fixed 8
-plain_width base.I32 form = width.Fixed 4
-plain_width base.I64 form = width.Fixed 8
-plain_width base.Double form = width.Fixed 8
-plain_width base.Bool form = width.Bit
-plain_width base.Utf8 form = width.Var
-plain_width base.Binary form = width.Var
-plain_width base.Fixed16 form = width.Fixed 16
-plain_width base.Fixed8 form = width.Fixed 8
-plain_width base.Timestamp form = width.Fixed 8
-plain_width base.Duration form = width.Fixed 8
-plain_width base.ListU64 form = width.List 8
-plain_width base.ListF64 form = width.List 8
-plain_width (base.Id wide) form = width.Fixed (id_width form)
-
-abbrev pub width_for : Base → ColumnForm → Width
-width_for holds form.Dict8 = width.Fixed 1
-width_for holds form.Dict16 = width.Fixed 2
-width_for holds form.Absent = plain_width holds form.Absent
-width_for holds form.Plain = plain_width holds form.Plain
-width_for holds form.Wide = plain_width holds form.Wide
-
 -- a column of a table, as it is written
 unfoldable pub stored_column : ColumnForm → List (List ℕ) → Table → ℕ → List (Option (List ℕ))
 stored_column form values t column = map (stored_for (base_at t.kind column) form values) (column_in t.rows column)
-
--- each of its cells fits the form
-abbrev pub FitsColumn : ColumnForm → Table → ℕ → Type 0
-FitsColumn form t column = (row : ℕ) → row < length t.rows → FitsForm (base_at t.kind column) form (cell_in t.rows column row)
-
--- ---- parts of a batch
-
--- what the buffers of a column add to a batch; the elements of lists are a part of their own
-abbrev pub parts_of : Width → Buffers → List PartIn
-parts_of width.Bit b = record { rows = b.rows; nulls = b.nulls; buffers = b.validity.items ∷ b.values.items ∷ [] } ∷ []
-parts_of (width.Fixed n) b = record { rows = b.rows; nulls = b.nulls; buffers = b.validity.items ∷ b.values.items ∷ [] } ∷ []
-parts_of width.Var b = record { rows = b.rows; nulls = b.nulls; buffers = b.validity.items ∷ b.offsets.items ∷ b.values.items ∷ [] } ∷ []
-parts_of (width.List n) b =
-    record { rows = b.rows; nulls = b.nulls; buffers = b.validity.items ∷ b.offsets.items ∷ [] } ∷ element_part (length b.values.items / 8) b.values.items ∷ []
-
--- a batch with one more part
-abbrev pub with_part : BatchIn → PartIn → BatchIn
-with_part batch p = record { rows = batch.rows; nodes = batch.nodes ++ (pos p.rows, pos p.nulls) ∷ []; buffers = batch.buffers ++ p.buffers }
-
-abbrev pub with_parts : BatchIn → List PartIn → BatchIn
-with_parts batch [] = batch
-with_parts batch (p ∷ parts) = with_parts (with_part batch p) parts
-
--- ---- how much a batch takes
-
--- there is room for this number of parts, each of at most two nodes and four buffers, and for the bytes of their buffers, each
--- padded
-pub record HasRoom (batch : BatchIn) (parts bytes : ℕ) : Type 0 where
-  pub nodes : length batch.nodes + 2 * parts ≤ max_parts
-  pub buffers : length batch.buffers + 4 * parts ≤ max_parts
-  pub body : body_size batch.buffers + bytes < max_body
-
--- a batch was given no more than these
-pub record GrowsBy (parts bytes : ℕ) (old new : BatchIn) : Type 0 where
-  pub nodes : length new.nodes ≤ length old.nodes + 2 * parts
-  pub buffers : length new.buffers ≤ length old.buffers + 4 * parts
-  pub body : body_size new.buffers ≤ body_size old.buffers + bytes
-
--- how many bytes of buffers each row of a column takes at most, whatever its form, the bytes of texts and lists aside: the bit of
--- the bitmap counts as a byte, an index has at most 2, an offset or a wide id 4
-abbrev pub row_most : Base → ℕ
-row_most base.U8 = 3
-row_most base.U16 = 3
-row_most base.U32 = 5
-row_most base.U64 = 9
-row_most base.I32 = 5
-row_most base.I64 = 9
-row_most base.Double = 9
-row_most base.Bool = 3
-row_most base.Utf8 = 5
-row_most base.Binary = 5
-row_most base.Fixed16 = 17
-row_most base.Fixed8 = 9
-row_most base.Timestamp = 9
-row_most base.Duration = 9
-row_most base.ListU64 = 5
-row_most base.ListF64 = 5
-row_most (base.Id wide) = 5
-
--- what the cells of a column weigh, and how many bytes its buffers take at most
-abbrev pub column_weight : Table → ℕ → ℕ
-column_weight t column = sum_by cell_weight (column_in t.rows column)
-
-abbrev pub column_most : Table → ℕ → ℕ
-column_most t column = row_most (base_at t.kind column) * length t.rows + column_weight t column + 32
-
--- the same for columns, and for a group: its parts, and the bytes of their buffers
-abbrev pub columns_most : Table → List Member → ℕ
-columns_most t members = sum_by (λ m. column_most t m.column) members
-
-abbrev pub group_parts : Group → ℕ
-group_parts (Alone m) = 1
-group_parts (Under struct members) = 1 + length members
-
-abbrev pub group_most : Table → Group → ℕ
-group_most t (Alone m) = column_most t m.column
-group_most t (Under struct members) = columns_most t members
-
--- how many bytes the record batch of a table takes at most
-abbrev pub rows_most : Table → ℕ
-rows_most t = row_limit * length t.rows + weight_of_table t + 8192

@@ -17,7 +17,7 @@ use Rattle.otap_columns.specs.declared.forms.ColumnForm.{ColumnForm}
 use Rattle.otap_columns.specs.WrittenPayloads.{HoldsRows, HoldsValues, batch_if, has_some, heads, schema_if}
 use Rattle.otap_columns.specs.Schemas.{Forms, is_dictionary, schema_for, type_in}
 use Rattle.otap_columns.specs.WrittenBatches.{HoldsType}
-use Rattle.otap_columns.specs.WrittenCells.{plain_width}
+use Rattle.otap_columns.specs.BuiltCells.{plain_width}
 
 -- the values of the dictionaries of columns
 abbrev pub Values : Type 0

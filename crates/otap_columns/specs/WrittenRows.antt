@@ -1,18 +1,16 @@
 -- The parts of a record batch of a table.
-use Rattle.std.specs.Prelude.{◌≡◌, ◌<◌, ◌≤◌, ℕ, ⊤, true, false, List, [], ◌∷◌, length, bytes_eq, Option, Some, None}
-use Rattle.std.specs.List.{list_any, slice_index_or}
-use Rattle.arrow_ipc.specs.Batches.{BatchIn}
+use Rattle.std.specs.Prelude.{◌≡◌, ◌<◌, ℕ, ⊤, true, false, List, [], ◌∷◌, length, bytes_eq, Option, Some, None}
+use Rattle.std.specs.List.{list_any}
 use Rattle.arrow_arrays.specs.Layouts.{layout_of, layout_of_values}
 use Rattle.arrow_arrays.specs.Written.{PartIn, struct_part, HoldsCells, IsPartOfElements}
 use Rattle.otap_cells.specs.declared.payload.Kind.{Kind}
-use Rattle.otap_cells.specs.Columns.{base_at, column_at, width_of}
-use Rattle.otap_cells.specs.Tables.{Table, IsTable, cell_in, column_in}
-use Rattle.otap_cells.specs.Weights.{row_weight_limit, weight_of_table}
+use Rattle.otap_cells.specs.Columns.{base_at, column_at}
+use Rattle.otap_cells.specs.Tables.{Table, cell_in}
 use Rattle.otap_dicts.specs.declared.form.Form.TheVariants as ladder
-use Rattle.otap_columns.specs.Schemas.{Forms, Slot, Struct, Column, Items, is_there, is_dictionary, type_in, dict_for, item_in, item_type}
+use Rattle.otap_columns.specs.Schemas.{Forms, Slot, Struct, Column, Items, is_dictionary, type_in, dict_for, item_in, item_type}
 use Rattle.otap_columns.specs.Observed.{bytes_for}
-use Rattle.otap_columns.specs.Seen.{SeenIn, filled, places_of}
-use Rattle.otap_columns.specs.WrittenCells.{FitsColumn, FitsIndexes, stored_column, with_parts}
+use Rattle.otap_columns.specs.Seen.{SeenIn}
+use Rattle.otap_columns.specs.WrittenCells.{FitsIndexes, stored_column}
 
 -- a part is that of a slot of the schema, before the next part: a struct without nulls, a column of the table, or elements
 abbrev pub HoldsSlot : Kind → Forms → (ℕ → List (List ℕ)) → Table → Slot → PartIn → Option PartIn → Type 0
@@ -43,28 +41,6 @@ pub record HasValues (kind : Kind) (forms : Forms) (values : ℕ → List (List 
       → IsKnownIn (values column) (bytes_for (base_at kind column) (forms column) (cell_in t.rows column row))
   pub few : (column : ℕ) → FitsIndexes (forms column) (length (values column))
 
--- ---- how a batch grows
-
--- a column that had no value, and the values of the dictionaries of columns, by a list of what is kept of them
+-- what is kept of a column that had no value
 abbrev pub unseen : SeenIn
 unseen = record { ladder = record { dictionary = false; form = ladder.Absent; values = [] }; wide = false; places = [] }
-
-abbrev pub columns_in : List SeenIn → ℕ → List (List ℕ)
-columns_in columns column = (slice_index_or columns column unseen).ladder.values
-
--- a table can be written in forms: each cell fits its form, indexes reach all values and are known, and the table is light
-pub record CanWrite (forms : Forms) (columns : List SeenIn) (t : Table) : Type 0 where
-  pub table : IsTable t
-  pub count : length columns ≡ width_of t.kind
-  pub fits : (column : ℕ) → column < width_of t.kind → is_there (forms column) ≡ true → FitsColumn (forms column) t column
-  pub few : (column : ℕ) → FitsIndexes (forms column) (length (columns_in columns column))
-  pub single : (column : ℕ) → is_dictionary (forms column) ≡ true → item_in (base_at t.kind column) ≡ None
-  pub placed : (column : ℕ) → column < width_of t.kind → is_dictionary (forms column) ≡ true
-      → filled (length t.rows) (slice_index_or columns column unseen).places ≡ places_of (base_at t.kind column) (forms column) (columns_in columns column) (column_in t.rows column)
-  pub light : weight_of_table t ≤ row_weight_limit
-
--- the parts of slots were added to a batch
-pub record AddsSlots (forms : Forms) (values : ℕ → List (List ℕ)) (t : Table) (slots : List Slot) (old new : BatchIn) : Type 0 where
-  pub parts : List PartIn
-  pub whole : new ≡ with_parts old parts
-  pub are : AreSlotParts t.kind forms values t slots parts

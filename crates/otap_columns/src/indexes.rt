@@ -5,8 +5,8 @@ ghost use Rattle.std.specs.Option.{ForSome, option_copied};
 ghost use Rattle.arrow_buffers.specs.Below.{all_below};
 ghost use Rattle.arrow_arrays.specs.Arrays.{arrays_check};
 ghost use Rattle.arrow_arrays.specs.Views.{cell_seen};
-ghost use Rattle.otap_columns.specs.Resolved.{HasIndexSizes};
-ghost use Rattle.otap_columns.specs.Substreams.{IsIndexSize, is_index_below, field_fits_if, indexes_fit};
+ghost use Rattle.otap_columns.specs.Resolved.{HasIndexSizes, IsIndexSize};
+ghost use Rattle.otap_columns.specs.Substreams.{is_index_below, field_fits_if, indexes_fit};
 
 use crate::cells::index;
 use crate::dictionaries::count_for;

@@ -36,7 +36,7 @@ impl Model for Reader {
 
     ghost Value = { ReaderIn };
 
-    ghost use Rattle.otap_columns.specs.ReaderInside.{reader_in, IsReaderInside};
+    ghost use Rattle.otap_columns.specs.ReaderInside.{reader_in, IsReaderInside, Keeps};
 
     ghost view = { reader_in };
 
@@ -115,7 +115,6 @@ impl Reader {
     ghost use Rattle.arrow_arrays.specs.Arrays.{arrays_of};
     ghost use Rattle.otap_columns.specs.Known.{columns_fit};
     ghost use Rattle.otap_columns.specs.Reading.{RefusesOpen, opened, PassesRows, TakesBatch, RefusesMessage, TakesFront, RefusesFront, TakesRecord, RefusesRecord, FitsRows, RefusesRows};
-    ghost use Rattle.otap_columns.specs.Views.{Keeps};
 
     /// A reader of a sub-stream with this schema, before any dictionary batch.
     fn open(alloc: Global, kind: Kind, schema: &SchemaSpec) -> Result<Reader, ColumnRefusal>

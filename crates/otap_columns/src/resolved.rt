@@ -2,9 +2,9 @@ ghost use Rattle.std.specs.Prelude.{◌≡◌, ℕ, None};
 ghost use Rattle.std.specs.Option.{ForSome, option_copied};
 ghost use Rattle.arrow_arrays.specs.Views.{cell_seen};
 ghost use Rattle.otap_cells.specs.Cells.{seen};
-ghost use Rattle.otap_columns.specs.Known.{FitsBase, stored_cell};
+ghost use Rattle.otap_columns.specs.Known.{stored_cell};
+ghost use Rattle.otap_columns.specs.Resolved.{FitsBase, resolved_value, HasIndexSizes, IsResolved};
 ghost use Rattle.otap_columns.specs.Parts.{part_of};
-ghost use Rattle.otap_columns.specs.Resolved.{resolved_value, HasIndexSizes, IsResolved};
 ghost use Rattle.otap_columns.specs.Substreams.{value_at};
 
 use crate::cells::{self, index};

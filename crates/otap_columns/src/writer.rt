@@ -7,7 +7,8 @@ ghost use Rattle.otap_cells.specs.Tables.{Table};
 ghost use Rattle.otap_cells.specs.Weights.{row_weight_limit, weight_of_table};
 ghost use Rattle.otap_columns.specs.Limits.{record_limit};
 ghost use Rattle.otap_columns.specs.WrittenPayloads.{IsRecord, IsWritable};
-ghost use Rattle.otap_columns.specs.Writers.{AreCounts, AreForms, AreSeen, HasWritten, IsReady, SeesAll, WritesRecord, is_started};
+ghost use Rattle.otap_columns.specs.Writers.{AreSeen, HasWritten, WritesRecord, is_started};
+ghost use Rattle.otap_columns.specs.WriterInside.{AreCounts, AreForms, IsReady, SeesAll};
 
 use crate::forms::ColumnForm;
 use crate::writer_record::record_of;

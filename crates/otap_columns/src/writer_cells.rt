@@ -8,9 +8,9 @@ ghost use Rattle.byteorder.specs.Endian.{little_bytes};
 ghost use Rattle.otap_cells.specs.Cells.{IsCellOf, IsNumberOf, null, number, seen};
 ghost use Rattle.otap_cells.specs.Columns.{width_of};
 ghost use Rattle.otap_cells.specs.Tables.{cell_in};
-ghost use Rattle.otap_columns.specs.Observed.{FitsForm, bytes_for, id_bits, id_width, number_bytes};
+ghost use Rattle.otap_columns.specs.Observed.{bytes_for, id_width, number_bytes};
+ghost use Rattle.otap_columns.specs.BuiltCells.{FitsForm, id_bits, IsIndexFor, index_width, shown};
 ghost use Rattle.otap_columns.specs.Schemas.{is_dictionary};
-ghost use Rattle.otap_columns.specs.WrittenCells.{IsIndexFor, index_width, shown};
 
 use crate::forms::ColumnForm;
 use arrow_buffers::ColumnBuilder;

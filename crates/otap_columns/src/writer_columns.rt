@@ -9,8 +9,9 @@ ghost use Rattle.otap_cells.specs.Columns.{base_at, width_of};
 ghost use Rattle.arrow_buffers.specs.declared.width.Width.TheVariants.{Fixed};
 ghost use Rattle.otap_cells.specs.Tables.{column_in};
 ghost use Rattle.otap_columns.specs.Schemas.{is_dictionary};
-ghost use Rattle.otap_columns.specs.Seen.{filled, places_of};
-ghost use Rattle.otap_columns.specs.WrittenCells.{FitsColumn, FitsIndexes, HasRoom, IsIndexFor, index_of, index_width, parts_of, plain_width, stored_column, width_for, with_parts};
+ghost use Rattle.otap_columns.specs.SeenInside.{filled, places_of};
+ghost use Rattle.otap_columns.specs.WrittenCells.{FitsIndexes, stored_column};
+ghost use Rattle.otap_columns.specs.BuiltCells.{FitsColumn, HasRoom, IsIndexFor, index_of, index_width, parts_of, plain_width, width_for, with_parts};
 
 use crate::forms::ColumnForm;
 use crate::writer_cells::{is_dictionary, push_index, push_value, set_rows, unset_rows};

@@ -7,7 +7,8 @@ ghost use Rattle.otap_columns.specs.WrittenPayloads.{schema_if};
 ghost use Rattle.otap_columns.specs.Schemas.{FormsFit, is_dictionary, schema_for, type_in};
 ghost use Rattle.otap_columns.specs.WrittenGroups.{forms_in};
 ghost use Rattle.otap_columns.specs.WrittenRecords.{AddsAtMost, AddsHead, AddsHeads, AddsMessages, CanSend, IsRecordBy, from_in, head_most, heads_most, is_sent, schema_most};
-ghost use Rattle.otap_columns.specs.WrittenRows.{CanWrite, HasValues, columns_in};
+ghost use Rattle.otap_columns.specs.WrittenRows.{HasValues};
+ghost use Rattle.otap_columns.specs.BuiltRows.{CanWrite, columns_in};
 
 use crate::forms::ColumnForm;
 use crate::writer_batches::add_dictionary;

@@ -5,11 +5,12 @@ ghost use Rattle.std.specs.List.{flat_map, list_any, slice_index_or};
 ghost use Rattle.arrow_ipc.specs.Written.{most_of};
 ghost use Rattle.arrow_arrays.specs.Written.{struct_part};
 ghost use Rattle.otap_cells.specs.Columns.{width_of};
-ghost use Rattle.otap_columns.specs.WrittenCells.{GrowsBy, HasRoom, column_most, columns_most, group_most, group_parts, rows_most, with_part};
+ghost use Rattle.otap_columns.specs.BuiltCells.{GrowsBy, HasRoom, column_most, columns_most, group_most, group_parts, rows_most, with_part};
 ghost use Rattle.otap_columns.specs.WrittenGroups.{IsWithin, forms_in, group_in, member_in};
 ghost use Rattle.otap_columns.specs.WrittenPayloads.{HoldsRows};
 ghost use Rattle.otap_columns.specs.Schemas.{FormsFit, is_there, members_there, slots_in, slots_of_member, slots_under};
-ghost use Rattle.otap_columns.specs.WrittenRows.{AddsSlots, CanWrite, HasValues, columns_in, unseen};
+ghost use Rattle.otap_columns.specs.WrittenRows.{HasValues, unseen};
+ghost use Rattle.otap_columns.specs.BuiltRows.{AddsSlots, CanWrite, columns_in};
 
 use crate::forms::ColumnForm;
 use crate::writer_columns::{add_column, column_for, width_for};

@@ -11,8 +11,10 @@ ghost use Rattle.otap_dicts.specs.declared.form.Form.TheVariants.{Plain};
 ghost use Rattle.otap_dicts.specs.Ladders.{is_dictionary, is_plain};
 ghost use Rattle.otap_columns.specs.declared.forms.ColumnForm.TheVariants as form;
 ghost use Rattle.otap_columns.specs.Observed.{bytes_for, form_at, has_wide_id, is_above, is_main, is_own_id, is_wide, of_ladder};
-ghost use Rattle.otap_columns.specs.Seen.{IsSeenAfter, SeesTable, filled, form_told, id_form_told, is_absent, may_widen, observed_if, places_of};
-ghost use Rattle.otap_columns.specs.WrittenCells.{place_in, shown};
+ghost use Rattle.otap_columns.specs.Seen.{IsSeenAfter, may_widen};
+ghost use Rattle.otap_columns.specs.SeenInside.{SeesTable, filled, form_told, id_form_told, is_absent, observed_if, places_of};
+ghost use Rattle.otap_columns.specs.WrittenCells.{place_in};
+ghost use Rattle.otap_columns.specs.BuiltCells.{shown};
 
 use crate::forms::ColumnForm;
 use crate::writer_cells::{CellBytes, bytes_for, is_same, set_rows, unset_rows};

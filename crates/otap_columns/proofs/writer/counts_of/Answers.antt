@@ -1,6 +1,6 @@
 use Rattle.std.proofs.Common.{◌≡◌, ℕ, List, length, sym, ap, ◌∙◌, subst, arith, ◌+◌}
 use Rattle.otap_dicts.specs.Ladders.{LadderIn}
-use Rattle.otap_columns.specs.WrittenRows.{columns_in}
+use Rattle.otap_columns.specs.BuiltRows.{columns_in}
 use Rattle.otap_columns.proofs.StateMade.{Made, made_none, made_more}
 use Rattle.otap_columns.proofs.writer.counts_of.Goals as goal
 

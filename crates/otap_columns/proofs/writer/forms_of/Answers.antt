@@ -2,7 +2,7 @@ use Rattle.std.proofs.Common.{◌≡◌, ◌<◌, List, length, get_or, sym, ap,
 use Rattle.otap_cells.specs.Columns.{width_of}
 use Rattle.otap_columns.specs.declared.forms.ColumnForm.{ColumnForm}
 use Rattle.otap_columns.specs.declared.forms.ColumnForm.TheVariants as form
-use Rattle.otap_columns.specs.Seen.{form_told}
+use Rattle.otap_columns.specs.SeenInside.{form_told}
 use Rattle.otap_columns.specs.WrittenRows.{unseen}
 use Rattle.otap_columns.proofs.StateMade.{Made, made_none, made_more, any_default}
 use Rattle.otap_columns.proofs.writer.forms_of.Goals as goal

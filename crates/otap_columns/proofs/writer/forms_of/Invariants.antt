@@ -1,6 +1,6 @@
 use Rattle.std.proofs.Common.{◌≡◌, get_or}
 use Rattle.otap_columns.specs.declared.forms.ColumnForm.TheVariants as form
-use Rattle.otap_columns.specs.Seen.{form_told}
+use Rattle.otap_columns.specs.SeenInside.{form_told}
 use Rattle.otap_columns.specs.WrittenRows.{unseen}
 use Rattle.otap_columns.proofs.StateMade.{Made}
 use Rattle.otap_columns.proofs.writer.forms_of.Given as goal

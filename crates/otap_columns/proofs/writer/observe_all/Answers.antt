@@ -1,6 +1,6 @@
 use Rattle.std.proofs.Common.{◌≡◌, ◌<◌, length, ap, subst, arith}
 use Rattle.otap_cells.specs.Columns.{width_of}
-use Rattle.otap_columns.specs.Seen.{SeesTable}
+use Rattle.otap_columns.specs.SeenInside.{SeesTable}
 use Rattle.otap_columns.specs.WrittenRows.{unseen}
 use Rattle.otap_columns.proofs.StateMade.{observed_none, observed_more, any_default}
 use Rattle.otap_columns.proofs.writer.observe_all.Goals as goal

@@ -5,8 +5,9 @@ use Rattle.otap_cells.specs.Columns.{base_at, width_of}
 use Rattle.otap_columns.specs.Schemas.{FormsFit, is_dictionary}
 use Rattle.otap_columns.specs.WrittenGroups.{forms_in}
 use Rattle.otap_columns.specs.WrittenRecords.{CanSend, IsRecordBy, from_in}
-use Rattle.otap_columns.specs.WrittenRows.{CanWrite, HasValues, columns_in}
-use Rattle.otap_columns.specs.Writers.{AreCounts, AreForms}
+use Rattle.otap_columns.specs.WrittenRows.{HasValues}
+use Rattle.otap_columns.specs.BuiltRows.{CanWrite, columns_in}
+use Rattle.otap_columns.specs.WriterInside.{AreCounts, AreForms}
 use Rattle.otap_columns.proofs.StepHeld.{are_placed, can_write, forms_are_fit, has_values, seen_more}
 use Rattle.otap_columns.proofs.StepWritten.{IsStep, is_record, sends, step_of}
 use Rattle.otap_columns.proofs.writer.write_next.Goals as goal

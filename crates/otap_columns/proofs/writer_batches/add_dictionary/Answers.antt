@@ -8,7 +8,7 @@ use Rattle.arrow_ipc.specs.Batches.{BatchIn}
 use Rattle.arrow_ipc.specs.Written.{most_of}
 use Rattle.otap_columns.specs.Limits.{head_limit}
 use Rattle.otap_columns.specs.WrittenPayloads.{HoldsValues}
-use Rattle.otap_columns.specs.WrittenCells.{HasRoom, parts_of, with_parts}
+use Rattle.otap_columns.specs.BuiltCells.{HasRoom, parts_of, with_parts}
 use Rattle.otap_columns.proofs.BatchGrown.{sizes}
 use Rattle.otap_columns.proofs.DictionariesAdded.{adds, dictionary_message, dictionary_room, dictionary_short, holds_values}
 use Rattle.otap_columns.proofs.RecordShort.{message_ok}

@@ -3,10 +3,12 @@ use Rattle.std.specs.Prelude.{IfOk}
 use Rattle.arrow_buffers.specs.Columns.{ColumnIn, cells_len}
 use Rattle.arrow_buffers.specs.declared.width.Width.TheVariants.{Fixed}
 use Rattle.otap_cells.specs.Tables.{column_in}
-use Rattle.otap_columns.specs.Seen.{SeenIn, filled, places_of}
+use Rattle.otap_columns.specs.Seen.{SeenIn}
+use Rattle.otap_columns.specs.SeenInside.{filled, places_of}
 use Rattle.otap_cells.specs.Columns.{base_at}
 use Rattle.otap_columns.specs.Schemas.{is_dictionary}
-use Rattle.otap_columns.specs.WrittenCells.{index_of, index_width, stored_column, width_for}
+use Rattle.otap_columns.specs.WrittenCells.{stored_column}
+use Rattle.otap_columns.specs.BuiltCells.{index_of, index_width, width_for}
 use Rattle.otap_columns.proofs.ColumnsBuilt.{plain_column}
 use Rattle.otap_columns.proofs.Indexed.{filled_few, filled_reached, index_fixed, indexes_column}
 use Rattle.otap_columns.proofs.writer_columns.column_for.Goals as goal

@@ -1,7 +1,7 @@
 use Rattle.std.proofs.Common.{◌≡◌, ◌-◌, ◌++◌, None, length, map, take, replicate, arith, sym, ◌∙◌}
 use Rattle.std.proofs.lemmas.List.{take_all}
 use Rattle.arrow_buffers.specs.declared.width.Width.TheVariants.{Fixed}
-use Rattle.otap_columns.specs.WrittenCells.{index_of, index_width}
+use Rattle.otap_columns.specs.BuiltCells.{index_of, index_width}
 use Rattle.otap_columns.proofs.Indexed.{filled_indexes, filled_room, index_room, nulls_indexed}
 use Rattle.otap_columns.proofs.writer_columns.indexes_for.Goals as goal
 

@@ -1,6 +1,6 @@
 use Rattle.std.proofs.Common.{◌≡◌, map, take}
 use Rattle.arrow_buffers.specs.declared.width.Width.TheVariants.{Fixed}
-use Rattle.otap_columns.specs.WrittenCells.{index_of, index_width}
+use Rattle.otap_columns.specs.BuiltCells.{index_of, index_width}
 use Rattle.otap_columns.proofs.writer_columns.indexes_for.Given as goal
 
 abbrev pub invariant-rows : goal.invariant-rows

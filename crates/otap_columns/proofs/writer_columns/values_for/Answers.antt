@@ -4,7 +4,8 @@ use Rattle.otap_cells.specs.Cells.{seen}
 use Rattle.otap_cells.specs.Columns.{base_at}
 use Rattle.otap_cells.specs.Tables.{cell_in}
 use Rattle.otap_columns.specs.Observed.{bytes_for}
-use Rattle.otap_columns.specs.WrittenCells.{stored_for, stored_column, width_for}
+use Rattle.otap_columns.specs.WrittenCells.{stored_for, stored_column}
+use Rattle.otap_columns.specs.BuiltCells.{width_for}
 use Rattle.otap_columns.proofs.ColumnsBuilt.{nulls_first, plain_stored, stored_more, stored_room, stored_to_last}
 use Rattle.otap_columns.proofs.writer_columns.values_for.Goals as goal
 

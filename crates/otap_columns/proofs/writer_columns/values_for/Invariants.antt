@@ -1,6 +1,7 @@
 use Rattle.std.proofs.Common.{◌≡◌, [], take}
 use Rattle.otap_cells.specs.Columns.{base_at}
-use Rattle.otap_columns.specs.WrittenCells.{stored_column, width_for}
+use Rattle.otap_columns.specs.WrittenCells.{stored_column}
+use Rattle.otap_columns.specs.BuiltCells.{width_for}
 use Rattle.otap_columns.proofs.writer_columns.values_for.Given as goal
 
 abbrev pub invariant-rows : goal.invariant-rows

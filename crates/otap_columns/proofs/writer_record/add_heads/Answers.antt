@@ -4,7 +4,7 @@ use Rattle.otap_dicts.specs.Ladders.{LadderIn}
 use Rattle.otap_columns.specs.declared.forms.ColumnForm.{ColumnForm}
 use Rattle.otap_columns.specs.WrittenGroups.{forms_in}
 use Rattle.otap_columns.specs.WrittenRecords.{AddsAtMost, from_in, head_most}
-use Rattle.otap_columns.specs.WrittenRows.{columns_in}
+use Rattle.otap_columns.specs.BuiltRows.{columns_in}
 use Rattle.otap_columns.proofs.RecordAppended.{heads_none, heads_more, head_as, send_as}
 use Rattle.otap_columns.proofs.RecordShort.{heads_short}
 use Rattle.otap_columns.proofs.writer_record.add_heads.Goals as goal

@@ -1,6 +1,6 @@
 use Rattle.otap_columns.specs.WrittenGroups.{forms_in}
 use Rattle.otap_columns.specs.WrittenRecords.{AddsAtMost, AddsHeads, heads_most}
-use Rattle.otap_columns.specs.WrittenRows.{columns_in}
+use Rattle.otap_columns.specs.BuiltRows.{columns_in}
 use Rattle.otap_columns.proofs.writer_record.add_heads.Given as goal
 
 abbrev pub invariant-columns : goal.invariant-columns

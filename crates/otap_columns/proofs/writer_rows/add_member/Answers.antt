@@ -3,11 +3,13 @@ use Rattle.arrow_buffers.specs.Columns.{ColumnIn, HasNoFault, cells_of, values_l
 use Rattle.arrow_buffers.specs.declared.width.Width.{Width}
 use Rattle.otap_cells.specs.Columns.{base_at}
 use Rattle.otap_cells.specs.Tables.{column_in}
-use Rattle.otap_columns.specs.Seen.{SeenIn, filled, places_of}
+use Rattle.otap_columns.specs.Seen.{SeenIn}
+use Rattle.otap_columns.specs.SeenInside.{filled, places_of}
 use Rattle.otap_columns.specs.Schemas.{is_dictionary, is_there}
-use Rattle.otap_columns.specs.WrittenCells.{column_most, stored_column, width_for}
+use Rattle.otap_columns.specs.WrittenCells.{stored_column}
+use Rattle.otap_columns.specs.BuiltCells.{column_most, width_for}
 use Rattle.otap_columns.specs.WrittenGroups.{forms_in, member_in}
-use Rattle.otap_columns.specs.WrittenRows.{columns_in}
+use Rattle.otap_columns.specs.BuiltRows.{columns_in}
 use Rattle.otap_columns.proofs.BatchGrown.{member_grows, room_less, sizes}
 use Rattle.otap_columns.proofs.ColumnsShort.{column_short}
 use Rattle.otap_columns.proofs.PartsBuilt.{IsBuiltOf}

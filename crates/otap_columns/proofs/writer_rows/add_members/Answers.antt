@@ -2,9 +2,9 @@ use Rattle.std.proofs.Common.{◌≡◌, length, map, take, arith, ap}
 use Rattle.std.specs.Prelude.{sum_by}
 use Rattle.std.proofs.lemmas.List.{take_all}
 use Rattle.otap_columns.specs.declared.writer_groups.Member.{Member}
-use Rattle.otap_columns.specs.WrittenCells.{column_most, columns_most}
+use Rattle.otap_columns.specs.BuiltCells.{column_most, columns_most}
 use Rattle.otap_columns.specs.WrittenGroups.{forms_in, member_in}
-use Rattle.otap_columns.specs.WrittenRows.{columns_in}
+use Rattle.otap_columns.specs.BuiltRows.{columns_in}
 use Rattle.otap_columns.proofs.BatchGrown.{grows_less, list_grows, list_room}
 use Rattle.otap_columns.proofs.RowsAdded.{members_step}
 use Rattle.otap_columns.proofs.Summing.{sum_of-map, sum_of-same}

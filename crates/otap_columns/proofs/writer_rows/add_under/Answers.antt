@@ -1,8 +1,8 @@
 use Rattle.std.proofs.Common.{length, map, arith, ap, ◌∙◌, sym}
 use Rattle.arrow_arrays.specs.Written.{struct_part}
-use Rattle.otap_columns.specs.WrittenCells.{columns_most, with_part}
+use Rattle.otap_columns.specs.BuiltCells.{columns_most, with_part}
 use Rattle.otap_columns.specs.WrittenGroups.{forms_in, member_in}
-use Rattle.otap_columns.specs.WrittenRows.{columns_in}
+use Rattle.otap_columns.specs.BuiltRows.{columns_in}
 use Rattle.otap_columns.proofs.BatchGrown.{under_grows}
 use Rattle.otap_columns.proofs.RowsAdded.{rows_light, under_none, under_ok}
 use Rattle.otap_columns.proofs.writer_rows.add_under.Goals as goal

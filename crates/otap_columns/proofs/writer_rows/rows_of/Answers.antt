@@ -6,9 +6,9 @@ use Rattle.otap_cells.specs.Weights.{weight_of_table}
 use Rattle.otap_columns.specs.Limits.{row_limit}
 use Rattle.otap_columns.specs.declared.writer_groups.Group.{Group}
 use Rattle.otap_columns.specs.Groups.{grouped}
-use Rattle.otap_columns.specs.WrittenCells.{group_most, group_parts}
+use Rattle.otap_columns.specs.BuiltCells.{group_most, group_parts}
 use Rattle.otap_columns.specs.WrittenGroups.{forms_in, group_in}
-use Rattle.otap_columns.specs.WrittenRows.{AddsSlots, columns_in}
+use Rattle.otap_columns.specs.BuiltRows.{AddsSlots, columns_in}
 use Rattle.otap_columns.proofs.BatchGrown.{list_grows, list_room, message_short}
 use Rattle.otap_columns.proofs.Counting.{groups_bytes, groups_parts, room_for_all}
 use Rattle.otap_columns.proofs.RowsAdded.{group_slots, groups_step, rows_given, rows_light}

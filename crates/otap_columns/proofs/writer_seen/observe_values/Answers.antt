@@ -5,7 +5,7 @@ use Rattle.otap_cells.specs.Tables.{column_in}
 use Rattle.otap_dicts.specs.Ladders.{is_plain}
 use Rattle.otap_columns.specs.declared.forms.ColumnForm.TheVariants as form
 use Rattle.otap_columns.specs.Observed.{bytes_for}
-use Rattle.otap_columns.specs.Seen.{observed_if}
+use Rattle.otap_columns.specs.SeenInside.{observed_if}
 use Rattle.otap_columns.specs.WrittenCells.{place_in}
 use Rattle.otap_columns.proofs.Placing.{IsObserved, Laws, all_placed, emptied, none_observed, one_more_observed, plain_from_here}
 use Rattle.otap_columns.proofs.SeenOn.{plain_stays, seen_to_last}

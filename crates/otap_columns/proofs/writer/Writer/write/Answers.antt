@@ -4,7 +4,8 @@ use Rattle.otap_cells.specs.declared.payload.Kind.{Kind}
 use Rattle.otap_cells.specs.Tables.{Table}
 use Rattle.otap_columns.specs.WrittenPayloads.{IsRecord, IsWritable}
 use Rattle.otap_columns.specs.Seen.{SeenIn}
-use Rattle.otap_columns.specs.Writers.{AreSeen, AreWritable, HasWritten, IsReady, WriterIn}
+use Rattle.otap_columns.specs.Writers.{AreSeen, AreWritable, HasWritten, WriterIn}
+use Rattle.otap_columns.specs.WriterInside.{IsReady}
 use Rattle.otap_columns.proofs.StepHeld.{started_more, writable_more}
 use Rattle.otap_columns.proofs.writer.Writer.write.Goals as goal
 
