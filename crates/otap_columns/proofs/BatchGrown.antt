@@ -56,9 +56,6 @@ column_grows batch (width.List n) b =
 
 -- ---- more of them
 
-pub grows_none : (p x : ℕ) (batch : BatchIn) → GrowsBy p x batch batch
-grows_none p x batch = record { nodes = omega arith; buffers = omega arith; body = omega arith }
-
 pub grows_less : (p q x y : ℕ) (a b : BatchIn) → p ≤ q → x ≤ y → GrowsBy p x a b → GrowsBy q y a b
 grows_less p q x y a b parts bytes g = record { nodes = omega (arith, g.nodes, parts); buffers = omega (arith, g.buffers, parts); body = omega (arith, g.body, bytes) }
 

@@ -25,10 +25,6 @@ use Rattle.otap_columns.specs.BuiltCells.{index_width, plain_width, width_for}
 
 -- ---- each cell has its column's width
 
-index_has_width : (n : ℕ) (o : Option ℕ) → ForSome (option_map (little_bytes n) o) (HasWidth (width.Fixed n))
-index_has_width n None = λ x is. absurd (cc)
-index_has_width n (Some place) = λ x is. let same : little_bytes n place ≡ x = cc in subst (λ (v : List ℕ). length v ≡ n) same (length-bytes_low_first 0 n place)
-
 long : (n x : ℕ) → length (little_bytes n x) ≡ n
 long n x = length-bytes_low_first 0 n x
 
@@ -101,19 +97,6 @@ plain_fits holds f (flag b) is = λ x some.
     let same : (if b then 1 else 0) ∷ [] ≡ x = cc in
     subst (HasWidth (plain_width holds f)) same (subst (λ (h : Base). HasWidth (plain_width h f) ((if b then 1 else 0) ∷ [])) (sym is) (flag_width b))
 plain_fits holds f (bytes part) is = λ x some. let same : part ≡ x = cc in subst (HasWidth (plain_width holds f)) same (bytes_width holds f part is)
-
-pub stored_fits : (holds : Base) (f : ColumnForm) (values : List (List ℕ)) (cell : Cell) → IsCellOf holds cell → ForSome (stored_for holds f values cell) (HasWidth (width_for holds f))
-stored_fits holds form.Dict8 values cell is = index_has_width 1 (place_in values (bytes_for holds form.Dict8 cell))
-stored_fits holds form.Dict16 values cell is = index_has_width 2 (place_in values (bytes_for holds form.Dict16 cell))
-stored_fits holds form.Absent values cell is = plain_fits holds form.Absent cell is
-stored_fits holds form.Plain values cell is = plain_fits holds form.Plain cell is
-stored_fits holds form.Wide values cell is = plain_fits holds form.Wide cell is
-
--- the cell that is pushed fits
-pub push_fits : (holds : Base) (f : ColumnForm) (values : List (List ℕ)) (cell : Cell) (b : ColumnIn) (cells : List (Option (List ℕ))) (part : Option (List ℕ)) → b ≡ record { width = width_for holds f; cells = cells }
-    → part ≡ stored_for holds f values cell → IsCellOf holds cell → ForSome part (HasWidth b.width)
-push_fits holds f values cell b cells part same is of =
-    subst (λ (w : Width). ForSome part (HasWidth w)) (ap (λ (c : ColumnIn). c.width) (sym same)) (subst (λ (o : Option (List ℕ)). ForSome o (HasWidth (width_for holds f))) (sym is) (stored_fits holds f values cell of))
 
 -- ---- what is written for a cell, by its form
 

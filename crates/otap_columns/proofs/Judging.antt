@@ -39,9 +39,6 @@ fine_as kind before m s h fine = subst (λ (o : Option SubstreamIn). IsFineIn ki
 
 -- ---- messages that are taken
 
-pub takes_none : (s : SubstreamIn) → TakesAll s [] s
-takes_none s = record { plain = refl; after = λ before h. ap (λ ms. substream_in ms) (append-nil before) ∙ h; each = λ kind before h. tt }
-
 pub takes_batch : (s : SubstreamIn) (id : ℤ) (delta : Bool) (batch : BatchIn) → IsFineBatch id delta batch s.dictionaries → TakesAll s (Dictionary id delta batch ∷ []) (with_batch id delta batch s)
 takes_batch s id delta batch fine = record {
   plain = refl;

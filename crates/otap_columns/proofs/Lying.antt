@@ -3,14 +3,15 @@ use Rattle.std.proofs.Common.{◌≡◌, ℕ, zero, suc, ◌+◌, ◌-◌, ◌*�
 use Rattle.std.specs.Prelude.{not, sum_by, is_some, if◌then◌else◌}
 use Rattle.std.proofs.lemmas.List.{take-append-le, drop-append-le, take_all, length-take, get_or_past}
 use Rattle.std.proofs.lemmas.List.Sums.{sum_by-cons}
+use Rattle.arrow_buffers.specs.Columns.{cell_len}
 use Rattle.otap_columns.specs.declared.ends.End.{End}
-use Rattle.otap_columns.specs.Dictionaries.{value_len, value_weight}
+use Rattle.otap_columns.specs.Dictionaries.{value_weight}
 use Rattle.otap_columns.specs.Ends.{value_between, values_by, start_of, IsEnd, AreEnds, bytes_in}
 
 -- the bytes of the values, and 8 for each
-pub weighs : (values : List (Option (List ℕ))) → sum_by value_weight values ≡ sum_by value_len values + 8 * length values
+pub weighs : (values : List (Option (List ℕ))) → sum_by value_weight values ≡ sum_by cell_len values + 8 * length values
 weighs [] = omega arith
-weighs (v ∷ values) = omega (arith, sum_by-cons value_weight v values, sum_by-cons value_len v values, weighs values)
+weighs (v ∷ values) = omega (arith, sum_by-cons value_weight v values, sum_by-cons cell_len v values, weighs values)
 
 -- there are as many values as ends
 pub values_len : (bytes : List ℕ) (from : ℕ) (ends : List End) → length (values_by bytes from ends) ≡ length ends
@@ -105,19 +106,19 @@ pushed old from (f ∷ ends) e value are at there =
 
 -- ---- how much they have
 
-len_between : (bytes : List ℕ) (from : ℕ) (e : End) (there : Bool) → e.there ≡ there → IsEnd from e → e.place ≤ length bytes → value_len (value_between bytes from e) + from ≡ e.place
+len_between : (bytes : List ℕ) (from : ℕ) (e : End) (there : Bool) → e.there ≡ there → IsEnd from e → e.place ≤ length bytes → cell_len (value_between bytes from e) + from ≡ e.place
 len_between bytes from e true there is within =
     let size : length (take (e.place - from) (drop from bytes)) ≡ e.place - from = omega (arith, length-take (e.place - from) (drop from bytes), length-drop from bytes, within) in
-    ap (λ (b : Bool). value_len (if b then Some (take (e.place - from) (drop from bytes)) else None) + from) there ∙ omega (arith, size, is.after)
+    ap (λ (b : Bool). cell_len (if b then Some (take (e.place - from) (drop from bytes)) else None) + from) there ∙ omega (arith, size, is.after)
 len_between bytes from e false there is within =
-    ap (λ (b : Bool). value_len (if b then Some (take (e.place - from) (drop from bytes)) else None) + from) there ∙ omega (arith, is.none there)
+    ap (λ (b : Bool). cell_len (if b then Some (take (e.place - from) (drop from bytes)) else None) + from) there ∙ omega (arith, is.none there)
 
-pub values_sum : (bytes : List ℕ) (from : ℕ) (ends : List End) → AreEnds from ends (length bytes) → sum_by value_len (values_by bytes from ends) + from ≡ length bytes
+pub values_sum : (bytes : List ℕ) (from : ℕ) (ends : List End) → AreEnds from ends (length bytes) → sum_by cell_len (values_by bytes from ends) + from ≡ length bytes
 values_sum bytes from [] are = omega (arith, are)
 values_sum bytes from (e ∷ ends) are =
     omega (
       arith,
-      sum_by-cons value_len (value_between bytes from e) (values_by bytes e.place ends),
+      sum_by-cons cell_len (value_between bytes from e) (values_by bytes e.place ends),
       len_between bytes from e e.there refl are.0 (first_before e.place ends (length bytes) are.1),
       values_sum bytes e.place ends are.1,
     )

@@ -15,13 +15,6 @@ use Rattle.otap_columns.specs.NarrowIds.{is_wide_after, is_wide_from, StaysNarro
 use Rattle.otap_columns.specs.Observed.{has_wide_id, is_above}
 use Rattle.otap_columns.proofs.ValuesSeen.{stored-cell}
 
--- what is told of a row tells whether it goes on
-pub goes_on-drop : (k : ℕ) (rows : List Bool) → goes_on (drop k rows) ≡ get_or rows k false
-goes_on-drop zero [] = refl
-goes_on-drop zero (row ∷ rows) = refl
-goes_on-drop (suc k) [] = refl
-goes_on-drop (suc k) (row ∷ rows) = goes_on-drop k rows
-
 drop_behind : (k : ℕ) (rows : List Bool) → drop 1 (drop k rows) ≡ drop (k + 1) rows
 drop_behind k rows = each k rows ∙ ap (λ n. drop n rows) (sym (add-one k))
   where
@@ -98,9 +91,6 @@ pub record IsNarrowSoFar (t : Table) (column row most : ℕ) : Type 0 where
   pub before : ℕ
   pub under : before ≤ most
   pub is : has_wide_id t.kind column t ≡ is_wide_from t column row before
-
-pub narrow_at_first : (t : Table) (column : ℕ) → IsNarrowSoFar t column 0 0
-narrow_at_first t column = record { low = omega arith; before = 0; under = omega arith; is = refl }
 
 pub narrow_on : (t : Table) (column row most next : ℕ) → IsNarrowSoFar t column row most → StaysNarrow t column row most next → next ≤ greatest_narrow → IsNarrowSoFar t column (row + 1) next
 narrow_on t column row most next so_far stays small =

@@ -34,10 +34,6 @@ pub open_id-own : (kind : ℤ) (ps : List PayloadIn) (p : PayloadIn) → is_of k
 unfolding open_id
 open_id-own kind ps p own = rw (of_type-own kind ps p own, last_after-push None (of_type kind ps) p) refl
 
--- the messages after a mark
-messages_in : Bool × PayloadIn → List IpcMessage
-messages_in m = front_of m.1.bytes
-
 -- the messages of marked payloads with one more
 stream_from : (ms : List (Bool × PayloadIn)) (b : Bool) (p : PayloadIn)
     → flat_map (λ m. front_of m.1.bytes) (since (λ m. m.0) (ms ++ (b, p) ∷ [])) ≡ (if b then front_of p.bytes else flat_map (λ m. front_of m.1.bytes) (since (λ m. m.0) ms) ++ front_of p.bytes)

@@ -44,15 +44,6 @@ sends_none type sent delta column values bytes none = record {
   holds = λ is. absurd (false≢true (sym none ∙ is));
 }
 
-pub sends_some : {E : Type 0} (type : ArrowType) (sent delta : Bool) (column : ℕ) (values : List (List ℕ)) (old new : List ℕ) (r : Result (Unit {0}) E) → sent ≡ true
-    → OnOk r (AddsDictionary type (pos column) delta values old new) → OnOk r (AddsHead type sent delta column values old new)
-sends_some type sent delta column values old new (Ok x) some adds = record {
-  batch = adds.batch;
-  adds = rw some (adds_one (Dictionary (pos column) delta adds.batch) (most_of adds.batch) old new adds.appends);
-  holds = λ is. adds.holds;
-}
-sends_some type sent delta column values old new (Err e) some adds = tt
-
 -- ---- those of more columns
 
 pub heads_alike : (f g : ℕ → List IpcMessage) (n : ℕ) → ((column : ℕ) → column < n → f column ≡ g column) → heads f n ≡ heads g n

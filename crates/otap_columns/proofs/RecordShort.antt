@@ -47,18 +47,6 @@ opening_ok kind forms schema old new (Err e) fit is appends = tt
 
 -- ---- dictionaries
 
--- only a column in a dictionary's form has one
-head_sent : (opening : Bool) (f : ColumnForm) (values : List (List ℕ)) → is_sent opening f values ≡ true → head_most f ≡ head_limit
-head_sent opening form.Dict8 values is = refl
-head_sent opening form.Dict16 values is = refl
-head_sent opening form.Absent values is = absurd (false≢true is)
-head_sent opening form.Plain values is = absurd (false≢true is)
-head_sent opening form.Wide values is = absurd (false≢true is)
-
-pub head_ok : {E : Type 0} (opening : Bool) (f : ColumnForm) (values : List (List ℕ)) (old new : List ℕ) (r : Result (Unit {0}) E) → is_sent opening f values ≡ true
-    → OnOk r (AddsAtMost head_limit old new) → OnOk r (AddsAtMost (head_most f) old new)
-head_ok opening f values old new r is adds = subst (λ (n : ℕ). OnOk r (AddsAtMost n old new)) (sym (head_sent opening f values is)) adds
-
 pub heads_short : (forms : Forms) (n : ℕ) (a b c : List ℕ) → AddsAtMost (heads_most forms n) a b → AddsAtMost (head_most (forms n)) b c → AddsAtMost (heads_most forms (n + 1)) a c
 heads_short forms n a b c before one =
     omega (arith, before, one, ap (sum_by (λ (column : ℕ). head_most (forms column))) (range-more n), sum_by_push (λ (column : ℕ). head_most (forms column)) (range_with_len 0 n) n)

@@ -27,53 +27,6 @@ use Rattle.otap_columns.proofs.Placed.{column_value_is}
 use Rattle.otap_columns.proofs.Showing.{column_value_fits}
 use Rattle.otap_columns.proofs.Tabled.{same_kind, shows, holds}
 
--- no index leads into a dictionary that isn't there
-pub leads_nowhere : (cell : Option (List ℕ)) → value_at [] cell ≡ None
-leads_nowhere None = refl
-leads_nowhere (Some index) = get_or_past [] (little_number (length index) index) None (omega arith)
-
--- the cells of an array of indexes hold indexes
-index_size : (type : ArrowType) (dict : DictSpec) (x : List ℕ) → FitsLayout (layout_of type (Some dict)) x → IsIndexSize x
-index_size type dict x fits =
-    elim (cases_Bool dict.wide) [
-      | inl wide ↦ inr (fits ∙ rw wide refl)
-      | inr narrow ↦ inl (fits ∙ rw narrow refl)
-    ]
-
-pub index_sizes : (arrays : List ArraySpec) (place : ℕ) (a : ArraySpec) (dict : DictSpec) (v : ColumnView) → slice_get arrays place ≡ Some a → a.dict ≡ Some dict
-    → ((row : ℕ) → IfSome (cell_seen v row) (FitsArray arrays place)) → HasIndexSizes v
-index_sizes arrays place a dict v at has fits row = by_cell (cell_seen v row) (fits row)
-  where
-    by_cell : (cell : Option (List ℕ)) → IfSome cell (FitsArray arrays place) → ForSome cell IsIndexSize
-    by_cell None h = λ x is. absurd (cc)
-    by_cell (Some y) h =
-        λ x is.
-        let same : y ≡ x = cc in
-        subst IsIndexSize same (index_size a.kind dict y (subst (λ (o : Option DictSpec). FitsLayout (layout_of a.kind o) y) has (subst (λ (o : Option ArraySpec). fits_if o y) at h)))
-
--- ---- the column of a field
-
-module _ (s : SubstreamIn) (batch : BatchIn) (place : ℕ) (c : ResolvedColumn) where
-  pub field_missing : slice_get s.arrays place ≡ None → ((row : ℕ) → resolved_value c row ≡ None) → IsResolved c → IsField s batch place c
-  field_missing at values resolved = record { values = λ row. values row ∙ (λ i. field_value s batch row place (sym at i)); resolved = resolved }
-
-  pub field_plain : (a : ArraySpec) (v : ColumnView) → slice_get s.arrays place ≡ Some a → a.dict ≡ None → ((row : ℕ) → cell_seen v row ≡ cell_of s.arrays batch place row)
-      → ((row : ℕ) → resolved_value c row ≡ cell_seen v row) → IsResolved c → IsField s batch place c
-  field_plain a v at plain cells values resolved = record {
-    values = λ row. values row ∙ cells row ∙ (λ i. replaced s.dictionaries a.kind (sym plain i) (cell_of s.arrays batch place row)) ∙ (λ i. field_value s batch row place (sym at i));
-    resolved = resolved;
-  }
-
-  pub field_indexed : (a : ArraySpec) (dict : DictSpec) (v : ColumnView) → slice_get s.arrays place ≡ Some a → a.dict ≡ Some dict
-      → ((row : ℕ) → cell_seen v row ≡ cell_of s.arrays batch place row) → ((row : ℕ) → resolved_value c row ≡ value_at (values_for a.kind dict.id s.dictionaries) (cell_seen v row))
-      → IsResolved c → IsField s batch place c
-  field_indexed a dict v at has cells values resolved = record {
-    values = λ row.
-        values row ∙ ap (value_at (values_for a.kind dict.id s.dictionaries)) (cells row)
-        ∙ (λ i. replaced s.dictionaries a.kind (sym has i) (cell_of s.arrays batch place row)) ∙ (λ i. field_value s batch row place (sym at i));
-    resolved = resolved;
-  }
-
 -- ---- the column of a table
 
 module _ (kind : Kind) (s : SubstreamIn) (batch : BatchIn) (types : columns_fit kind s.arrays ≡ true) (all : All FitsIn s.dictionaries) (fine : IsOk (arrays_check batch s.arrays)) where

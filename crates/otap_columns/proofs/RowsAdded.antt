@@ -230,11 +230,6 @@ member_ok forms values t table m b old new w (Ok x) here is same added =
     rw here (subst (λ (slots : List Slot). AddsSlots forms values t slots old new) (sym (append-nil (slots_of_member t.kind m))) one)
 member_ok forms values t table m b old new w (Err e) here is same added = tt
 
--- the batch begins without parts
-pub begins : (forms : Forms) (values : ℕ → List (List ℕ)) (t : Table) (batch : BatchIn) → batch ≡ record { rows = length t.rows; nodes = []; buffers = [] }
-    → AddsSlots forms values t [] (record { rows = length t.rows; nodes = []; buffers = [] }) batch
-begins forms values t batch is = record { parts = []; whole = is; are = tt }
-
 -- and ends with those of all slots
 pub rows_given : (forms : Forms) (values : ℕ → List (List ℕ)) (t : Table) (gs : List Group) (batch : BatchIn) → FormsFit t.kind forms → HasValues t.kind forms values t → map group_in gs ≡ grouped (columns_of t.kind)
     → AddsSlots forms values t (group_slots t.kind forms gs) (record { rows = length t.rows; nodes = []; buffers = [] }) batch → HoldsRows t.kind forms values t batch

@@ -169,10 +169,6 @@ no_rows-heads kind opening before now batches (suc n) =
     list_any-append is_rows (heads (batches_for kind opening before now batches) n) (batches_for kind opening before now batches n)
     ∙ rw (no_rows-heads kind opening before now batches n) (no_rows-batch (is_wanted opening kind before now n) (not opening) n (batches n))
 
-no_rows-schema : (opening : Bool) (fields : List FieldSpec) → list_any is_rows (schema_if opening fields) ≡ false
-no_rows-schema true fields = refl
-no_rows-schema false fields = refl
-
 last_rows-after : (start ms : List IpcMessage) (rows : BatchIn) → last_rows (start ++ (ms ++ Rows rows ∷ [])) ≡ Some rows
 unfolding last_rows
 last_rows-after start ms rows =

@@ -13,21 +13,3 @@ use Rattle.otap_columns.specs.WrittenPayloads.{IsWritable}
 abbrev pub IsStored : Table → ℕ → Type 0
 IsStored t column =
     is_id_at t.kind column ≡ true → (coding_in t column ≡ coding_at t.kind column) × ((ids : List (Option ℕ)) × Ids (coding_at t.kind column) greatest_wide (continues_in t) (stored_in t column) ids)
-
-pub stored_none : (t : Table) (column : ℕ) → column < 0 → IsStored t column
-stored_none t column low = absurd (omega (arith, low))
-
-pub stored_more : (t : Table) (n : ℕ) → ((column : ℕ) → column < n → IsStored t column) → IsStored t n → (column : ℕ) → column < n + 1 → IsStored t column
-stored_more t n before one column low = by (cases_lt column n)
-  where
-    by : (column < n) ⊎ (n ≤ column) → IsStored t column
-    by (inl less) = before column less
-    by (inr more) = let same : n ≡ column = omega (arith, low, more) in subst (IsStored t) same one
-
-pub writable : (t : Table) (n : ℕ) → IsTable t → width_of t.kind ≤ n → ((column : ℕ) → column < n → IsStored t column) → IsWritable t.kind t
-writable t n sound all each = record {
-  kind_is = refl;
-  table = sound;
-  coded = λ column id. (each column (omega (arith, id_within t.kind column id, all)) id).0;
-  ids = λ column id. (each column (omega (arith, id_within t.kind column id, all)) id).1;
-}

@@ -4,6 +4,7 @@ use Rattle.std.specs.Prelude.{ℕ, ◌+◌, Bool, not, ◌&&◌, nat_lt, List, [
 use Rattle.std.specs.List.{flat_map, list_any, range_with_len}
 use Rattle.std.specs.Ordering.{int_eq}
 use Rattle.lists.specs.Since.{since}
+use Rattle.arrow_buffers.specs.Columns.{cell_len}
 use Rattle.arrow_schema.specs.declared.spec.ArrowType.{ArrowType}
 use Rattle.arrow_schema.specs.declared.spec.DictSpec.{DictSpec}
 use Rattle.arrow_schema.specs.Types.{same_type}
@@ -90,12 +91,8 @@ is_too_large d = nat_lt value_limit (length d.values)
 -- ---- what is held
 
 -- the bytes of a value, and 8 more; null has no bytes
-abbrev pub value_len : Option (List ℕ) → ℕ
-value_len None = 0
-value_len (Some value) = length value
-
 abbrev pub value_weight : Option (List ℕ) → ℕ
-value_weight value = value_len value + 8
+value_weight value = cell_len value + 8
 
 abbrev pub weight_of : DictionaryIn → ℕ
 weight_of d = sum_by value_weight d.values

@@ -97,11 +97,6 @@ field_fits_if s batch place (Some a) = field_fits s batch place a.kind a.dict
 unfoldable pub indexes_fit : SubstreamIn → BatchIn → Bool
 indexes_fit s batch = all_below (λ place. field_fits_if s batch place (slice_get s.arrays place)) (length s.arrays)
 
--- the array at a place holds indexes
-abbrev pub is_indexed : Option ArraySpec → Bool
-is_indexed None = false
-is_indexed (Some a) = is_some a.dict
-
 -- ---- the table that a stream ends with
 
 abbrev pub rows_of : IpcMessage → List BatchIn
