@@ -19,7 +19,7 @@ use Rattle.otap_columns.specs.declared.refusal.ColumnRefusal.TheVariants.{Order,
 use Rattle.otap_columns.specs.Dictionaries.{DictionaryIn, has_id, all_grown, is_too_large}
 use Rattle.otap_columns.specs.Known.{columns_fit}
 use Rattle.otap_columns.specs.Reading.{opened, with_batch}
-use Rattle.otap_columns.specs.Records.{is_rows, is_fine_for, HasValueFault, begins_otherwise, behind_rows, no_rows, ends_badly, other_type, bad_buffers, IsRead, IsJudged, HasSchema, CanGoOn, IsFine}
+use Rattle.otap_columns.specs.Records.{is_rows, is_fine_for, HasValueFault, begins_otherwise, more_after_rows, no_rows, ends_badly, other_type, bad_buffers, IsRead, IsJudged, HasSchema, CanGoOn, IsFine}
 use Rattle.otap_columns.specs.Substreams.{SubstreamIn, schema_in, substream_of, indexes_fit}
 use Rattle.otap_columns.proofs.Excluding.{or_parts, not_first}
 use Rattle.otap_columns.proofs.Growing.{substream_from, schema_in-stays}
@@ -114,7 +114,7 @@ module _ (kind : Kind) (past : List IpcMessage) (bytes : List ℕ) (read : List 
 
       fine_rows : (after : List IpcMessage) → Read kind past bytes read (Rows batch ∷ after) s → arrays_check batch s.arrays ≡ Ok tt → IsJudged kind past bytes
       fine_rows [] q fine = last_one q fine
-      fine_rows (m ∷ later) q fine = inr (Order, behind_rows read later batch m q.front)
+      fine_rows (m ∷ later) q fine = inr (Order, more_after_rows read later batch m q.front)
 
       by_check : (c : Result (Unit {0}) BufferFault) → arrays_check batch s.arrays ≡ c → IsJudged kind past bytes
       by_check (Err fault) bad = inr (Buffers fault, bad_buffers read after (Rows batch) fault s r.front r.stands (first_fault batch s.arrays fault bad))

@@ -14,7 +14,7 @@ use Rattle.arrow_arrays.specs.Arrays.{arrays_of}
 use Rattle.otap_cells.specs.declared.payload.Kind.{Kind}
 use Rattle.otap_columns.specs.declared.refusal.ColumnRefusal.{ColumnRefusal}
 use Rattle.otap_columns.specs.Known.{columns_fit}
-use Rattle.otap_columns.specs.Records.{is_schema, is_rows, Stands, begins_otherwise, schema_later, behind_rows, no_rows, unknown_id, ends_badly, other_type, bad_buffers, bad_index, too_many_values}
+use Rattle.otap_columns.specs.Records.{is_schema, is_rows, Stands, begins_otherwise, schema_later, more_after_rows, no_rows, unknown_id, ends_badly, other_type, bad_buffers, bad_index, too_many_values}
 use Rattle.otap_columns.specs.Records.{IsFineBatch, IsFineIn, IsFine, IsRead}
 use Rattle.otap_columns.specs.Substreams.{SubstreamIn, substream_in, indexes_fit}
 use Rattle.otap_columns.proofs.Giving.{any_here}
@@ -75,12 +75,12 @@ module _ (kind : Kind) (past : List IpcMessage) (bytes : List ℕ) (q : IsRead k
       fine_at_start : (m : IpcMessage) (after : List IpcMessage) → front_of bytes ≡ m ∷ after → IsFine kind past m
       fine_at_start m after at = (subst (λ (ms : List IpcMessage). AllAfter (IsFine kind) past ms) at q.each).0
   never_both refusal (schema_later before after fields at some) = some (schema_fine kind (past ++ before) fields (fine_at before after (Schema fields) at)).0
-  never_both refusal (behind_rows before after batch m at) =
+  never_both refusal (more_after_rows before after batch m at) =
       let l : IsLast q.batch batch (m ∷ after) = is_last q.before q.batch before batch (m ∷ after) q.only (sym q.messages ∙ at) in
-      nothing_behind l.none
+      nothing_after l.none
     where
-      nothing_behind : {n : IpcMessage} {ms : List IpcMessage} → n ∷ ms ≡ [] → ⊥
-      nothing_behind h = cc
+      nothing_after : {n : IpcMessage} {ms : List IpcMessage} → n ∷ ms ≡ [] → ⊥
+      nothing_after h = cc
   never_both refusal (no_rows ends none) =
       false≢true (sym none ∙ ap (list_any is_rows) q.messages ∙ any_here is_rows q.before (Rows q.batch) [] refl)
   never_both refusal (unknown_id before after id delta batch s at stands unknown) =

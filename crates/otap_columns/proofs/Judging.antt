@@ -22,7 +22,7 @@ use Rattle.otap_columns.specs.declared.refusal.ColumnRefusal.{ColumnRefusal}
 use Rattle.otap_columns.specs.declared.refusal.ColumnRefusal.TheVariants.{Order, Ipc, Column, Buffers, BadIndex, DictionarySize, Memory}
 use Rattle.otap_columns.specs.Dictionaries.{DictionaryIn}
 use Rattle.otap_columns.specs.Known.{columns_fit}
-use Rattle.otap_columns.specs.Records.{is_schema, is_rows, is_fine_for, HasValueFault, HasFineBuffers, begins_otherwise, schema_later, behind_rows, no_rows, unknown_id, ends_badly, other_type}
+use Rattle.otap_columns.specs.Records.{is_schema, is_rows, is_fine_for, HasValueFault, HasFineBuffers, begins_otherwise, schema_later, more_after_rows, no_rows, unknown_id, ends_badly, other_type}
 use Rattle.otap_columns.specs.Records.{bad_buffers, bad_index, too_many_values, Refuses, IsFineBatch, IsFineIn, IsFine, IsRead}
 use Rattle.otap_columns.specs.Reading.{TakesBatch, GoneSoFar, TakesRecord, RefusesFirst, RefusesOrder, RefusesEnd, opened, RefusesOpen, with_batch, RefusesFirstBatch, RefusesMessage, TakesAll}
 use Rattle.otap_columns.specs.Reading.{FitsRows, RefusesRows, RefusesAtRows, RefusesRecord}
@@ -128,7 +128,7 @@ module _ (kind : Kind) (past : List IpcMessage) (bytes : List ℕ) (read rest : 
   -- why what follows a record batch is
   end_refused : (refusal : ColumnRefusal) (batch : BatchIn) (after : List IpcMessage) → rest ≡ Rows batch ∷ after → RefusesEnd after (left_of bytes) refusal → Refuses kind past bytes refusal
   end_refused Order batch after first (m, later, next, any) =
-      behind_rows read later batch m (r.front ∙ ap (λ ms. read ++ ms) (first ∙ ap (λ ms. Rows batch ∷ ms) next))
+      more_after_rows read later batch m (r.front ∙ ap (λ ms. read ++ ms) (first ∙ ap (λ ms. Rows batch ∷ ms) next))
   end_refused (Ipc fault) batch after first at = ends_badly fault at.1
   end_refused Column batch after first h = absurd h
   end_refused (Buffers fault) batch after first h = absurd h

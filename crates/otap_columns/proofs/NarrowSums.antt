@@ -15,8 +15,8 @@ use Rattle.otap_columns.specs.NarrowIds.{is_wide_after, is_wide_from, StaysNarro
 use Rattle.otap_columns.specs.Observed.{has_wide_id, is_above}
 use Rattle.otap_columns.proofs.ValuesSeen.{stored-cell}
 
-drop_behind : (k : ℕ) (rows : List Bool) → drop 1 (drop k rows) ≡ drop (k + 1) rows
-drop_behind k rows = each k rows ∙ ap (λ n. drop n rows) (sym (add-one k))
+drop_after : (k : ℕ) (rows : List Bool) → drop 1 (drop k rows) ≡ drop (k + 1) rows
+drop_after k rows = each k rows ∙ ap (λ n. drop n rows) (sym (add-one k))
   where
     each : (k : ℕ) (rows : List Bool) → drop 1 (drop k rows) ≡ drop (suc k) rows
     each zero rows = refl
@@ -51,7 +51,7 @@ module _ (t : Table) (column row : ℕ) (within : row < length t.rows) where
       low,
       ap (is_wide_after (coding_at t.kind column) before (drop row (continues_in t))) (rest None none)
           ∙ passes_null (coding_at t.kind column) before (drop row (continues_in t)) (drop (row + 1) (stored_in t column)) takes
-          ∙ ap (λ (rows : List Bool). is_wide_after (coding_at t.kind column) before rows (drop (row + 1) (stored_in t column))) (drop_behind row (continues_in t)),
+          ∙ ap (λ (rows : List Bool). is_wide_after (coding_at t.kind column) before rows (drop (row + 1) (stored_in t column))) (drop_after row (continues_in t)),
     );
   }
 
@@ -67,7 +67,7 @@ module _ (t : Table) (column row : ℕ) (within : row < length t.rows) where
           under,
           ap (is_wide_after how before (drop row (continues_in t))) (rest (Some n) some)
               ∙ passes_id how before (drop row (continues_in t)) (drop (row + 1) (stored_in t column)) n id refl (omega (arith, under, small))
-              ∙ ap (λ (rows : List Bool). is_wide_after how id rows (drop (row + 1) (stored_in t column))) (drop_behind row (continues_in t)),
+              ∙ ap (λ (rows : List Bool). is_wide_after how id rows (drop (row + 1) (stored_in t column))) (drop_after row (continues_in t)),
         );
   }
 

@@ -55,7 +55,7 @@ pub data Stands (kind : Kind) (past : List IpcMessage) (bytes : List ℕ) : Colu
   -- a schema stands after other messages
   schema_later : (before after : List IpcMessage) (fields : List FieldSpec) → front_of bytes ≡ before ++ Schema fields ∷ after → past ++ before ≢ [] → Stands kind past bytes Order
   -- a message stands after a record batch
-  behind_rows : (before after : List IpcMessage) (batch : BatchIn) (m : IpcMessage) → front_of bytes ≡ before ++ Rows batch ∷ m ∷ after → Stands kind past bytes Order
+  more_after_rows : (before after : List IpcMessage) (batch : BatchIn) (m : IpcMessage) → front_of bytes ≡ before ++ Rows batch ∷ m ∷ after → Stands kind past bytes Order
   -- the record ends without a record batch
   no_rows : left_of bytes ≡ [] → list_any is_rows (front_of bytes) ≡ false → Stands kind past bytes Order
   -- no field has the id of a dictionary batch

@@ -20,7 +20,7 @@ group_in (own.Under name members) = groups.Under name.now (map member_in members
 abbrev pub forms_in : List ColumnForm → Forms
 forms_in forms column = slice_index_or forms column form.Absent
 
--- the columns of a group are among so many
+-- the columns of a group are below this number
 abbrev pub IsWithin : ℕ → Group → Type 0
 IsWithin width (own.Alone m) = m.column < width
 IsWithin width (own.Under name members) = All (λ m. m.column < width) members.now
