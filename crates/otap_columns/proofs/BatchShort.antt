@@ -29,7 +29,8 @@ rows_weigh : (tables : List Table) → 32 * sum_by (λ (t : Table). length t.row
 rows_weigh [] = omega arith
 rows_weigh (t ∷ tables) = omega (arith, sum_by-cons (λ (u : Table). length u.rows) t tables, sum_by-cons weight_of_table t tables, rows_light t, rows_weigh tables)
 
-pub batch_short : (tables : List Table) → weight_of_tables tables ≤ row_weight_limit → sum_by (λ t. dictionary_columns t.kind) tables ≤ columns_limit → length tables ≤ tables_limit → sum_by record_limit tables ≤ records_limit
+pub batch_short : (tables : List Table) → weight_of_tables tables ≤ row_weight_limit → sum_by (λ t. dictionary_columns t.kind) tables ≤ columns_limit
+    → length tables ≤ tables_limit → sum_by record_limit tables ≤ records_limit
 batch_short tables light dictionaries few = omega (arith, limits_are tables, rows_weigh tables, light, dictionaries, few)
 
 -- ---- the tables of each signal

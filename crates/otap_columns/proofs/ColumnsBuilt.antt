@@ -8,9 +8,8 @@ use Rattle.std.proofs.lemmas.List.{get_or_past, length-map, take_more}
 use Rattle.std.proofs.lemmas.List.Sums.{sum_by-take-le, sum_by_push}
 use Rattle.byteorder.specs.Endian.{little_bytes}
 use Rattle.byteorder.specs.Numbers.{length-bytes_low_first}
-use Rattle.arrow_buffers.specs.declared.width.Width.{Width}
 use Rattle.arrow_buffers.specs.declared.width.Width.TheVariants as width
-use Rattle.arrow_buffers.specs.Columns.{ColumnIn, HasWidth, cell_len, cells_len}
+use Rattle.arrow_buffers.specs.Columns.{HasWidth, cell_len, cells_len}
 use Rattle.otap_cells.specs.declared.profile.Base.{Base}
 use Rattle.otap_cells.specs.declared.profile.Base.TheVariants as base
 use Rattle.otap_cells.specs.Cells.{Cell, null, number, bits, flag, bytes, IsNumberOf, IsBitsOf, IsBytesOf, IsCellOf}
@@ -21,7 +20,7 @@ use Rattle.otap_columns.specs.declared.forms.ColumnForm.TheVariants as form
 use Rattle.otap_columns.specs.Observed.{id_width, number_bytes, bytes_for}
 use Rattle.otap_columns.specs.Schemas.{is_dictionary}
 use Rattle.otap_columns.specs.WrittenCells.{place_in, stored_for, stored_column}
-use Rattle.otap_columns.specs.BuiltCells.{index_width, plain_width, width_for}
+use Rattle.otap_columns.specs.BuiltCells.{index_width, plain_width}
 
 -- ---- each cell has its column's width
 

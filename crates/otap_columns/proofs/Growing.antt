@@ -28,7 +28,11 @@ joined kind bs = flat_map (λ (b : Bool × BatchIn). values_of kind b.1) (since 
 
 pub joined-push : (kind : ArrowType) (bs : List (Bool × BatchIn)) (delta : Bool) (batch : BatchIn) → joined kind (bs ++ (delta, batch) ∷ []) ≡ kept delta (joined kind bs) ++ values_of kind batch
 joined-push kind bs true batch =
-    rw (since-append (λ (b : Bool × BatchIn). not b.0) bs ((true, batch) ∷ []), flat_map-append (λ (b : Bool × BatchIn). values_of kind b.1) (since (λ b. not b.0) bs) ((true, batch) ∷ []), append-nil (values_of kind batch)) refl
+    rw (
+      since-append (λ (b : Bool × BatchIn). not b.0) bs ((true, batch) ∷ []),
+      flat_map-append (λ (b : Bool × BatchIn). values_of kind b.1) (since (λ b. not b.0) bs) ((true, batch) ∷ []),
+      append-nil (values_of kind batch),
+    ) refl
 joined-push kind bs false batch =
     rw (since-append (λ (b : Bool × BatchIn). not b.0) bs ((false, batch) ∷ []), append-nil (values_of kind batch)) refl
 

@@ -6,7 +6,6 @@ use Rattle.std.proofs.lemmas.List.Elements.{filter-append}
 use Rattle.std.proofs.lemmas.Cmp.{int_eq_equiv}
 use Rattle.lists.specs.Since.{since, last_after}
 use Rattle.lists.proofs.Latest.{since-append, last_after-push}
-use Rattle.arrow_ipc.specs.declared.messages.IpcMessage.{IpcMessage}
 use Rattle.arrow_ipc.specs.Fronts.{front_of}
 use Rattle.otap_columns.specs.Streams.{PayloadIn, is_of, of_type, last_of, opens_after, open_id, marked_after, stream_of}
 

@@ -1,12 +1,12 @@
 -- Messages that are appended one after the other, and what they are together.
 use Rattle.std.proofs.Common.{◌≡◌, ℕ, zero, suc, ◌+◌, ◌<◌, ◌≤◌, Bool, true, false, List, [], ◌∷◌, ◌++◌, length, drop, refl, sym, ap, ◌∙◌, arith, ◌⊎◌, inl, inr, subst, append-nil, append_assoc}
-use Rattle.std.specs.Prelude.{pos, not, if◌then◌else◌, Result, Ok, Err, OnOk, nat_lt}
+use Rattle.std.specs.Prelude.{not, if◌then◌else◌, Result, Ok, Err, OnOk, nat_lt}
 use Rattle.std.proofs.lemmas.Bool.{cases_lt, false≢true, lt-ltb, le-ltb}
 use Rattle.arrow_schema.specs.declared.spec.ArrowType.{ArrowType}
 use Rattle.arrow_schema.specs.declared.spec.FieldSpec.{FieldSpec}
 use Rattle.arrow_schema.specs.Readable.{IsReadable}
 use Rattle.arrow_ipc.specs.declared.messages.IpcMessage.{IpcMessage}
-use Rattle.arrow_ipc.specs.declared.messages.IpcMessage.TheVariants.{Dictionary, Rows, Schema}
+use Rattle.arrow_ipc.specs.declared.messages.IpcMessage.TheVariants.{Rows, Schema}
 use Rattle.arrow_ipc.specs.Batches.{BatchIn}
 use Rattle.arrow_ipc.specs.Fronts.{Front}
 use Rattle.arrow_ipc.specs.Written.{Appends, AppendsSchema, most_of, most_of_schema}
@@ -18,7 +18,6 @@ use Rattle.otap_cells.specs.Tables.{Table}
 use Rattle.otap_columns.specs.declared.forms.ColumnForm.{ColumnForm}
 use Rattle.otap_columns.specs.WrittenPayloads.{HoldsRows, HoldsValues, batch_if, has_some, heads, schema_if}
 use Rattle.otap_columns.specs.Schemas.{Forms, is_dictionary, schema_for, type_in}
-use Rattle.otap_columns.specs.WrittenBatches.{AddsDictionary}
 use Rattle.otap_columns.specs.WrittenRecords.{Values, CanSend, AddsMessages, AddsHead, AddsHeads, IsRecordBy, from_in, is_sent, heads_by}
 
 -- ---- messages

@@ -1,8 +1,8 @@
 -- How long the record of a table is at most.
-use Rattle.std.proofs.Common.{◌≡◌, ℕ, ◌+◌, ◌*◌, ◌≤◌, Bool, true, List, [], ◌++◌, length, map, refl, sym, ap, arith, subst, length-append}
+use Rattle.std.proofs.Common.{◌≡◌, ℕ, ◌+◌, ◌*◌, ◌≤◌, true, List, [], ◌++◌, length, map, refl, ap, arith, length-append}
 use Rattle.std.specs.Prelude.{sum_by, Result, Ok, Err, OnOk}
 use Rattle.std.specs.List.{range_with_len}
-use Rattle.std.proofs.lemmas.Bool.{false≢true, leb-true}
+use Rattle.std.proofs.lemmas.Bool.{leb-true}
 use Rattle.std.proofs.lemmas.List.Sums.{sum_by_push}
 use Rattle.arrow_buffers.proofs.Joining.{range-more}
 use Rattle.arrow_schema.specs.declared.spec.FieldSpec.{FieldSpec}
@@ -18,7 +18,7 @@ use Rattle.otap_columns.specs.Groups.{grouped}
 use Rattle.otap_columns.specs.Limits.{dictionary_columns, record_limit, head_limit}
 use Rattle.otap_columns.specs.Schemas.{Forms, FormsFit, fits_form, schema_for}
 use Rattle.otap_columns.specs.BuiltCells.{rows_most}
-use Rattle.otap_columns.specs.WrittenRecords.{AddsAtMost, head_most, heads_most, is_sent, schema_most}
+use Rattle.otap_columns.specs.WrittenRecords.{AddsAtMost, head_most, heads_most, schema_most}
 use Rattle.otap_columns.proofs.Counting.{kinds_counted, mark}
 use Rattle.otap_columns.proofs.Grouping.{group_size}
 use Rattle.otap_columns.proofs.Keeping.{fields_few}

@@ -123,7 +123,8 @@ module _ (kind : Kind) (forms : Forms) (values : ℕ → List (List ℕ)) (start
       each : (d : DictionaryIn) → IsOwn d.kind d.id → nat_lt value_limit (length (dictionary d.kind d.id (start ++ heads head n))) ≡ false
       each d o =
           let here : length (dictionary (type_in (base_at kind o.column) (forms o.column)) (pos o.column) (start ++ heads head n)) ≤ value_limit =
-          few_after (type_at kind forms) (λ column. is_dictionary (forms column)) (width_of kind) start values head s.turns value_limit o.column n low o.dict (s.few o.column o.below o.dict) (s.small o.column o.below o.dict) in
+          few_after (type_at kind forms) (λ column. is_dictionary (forms column)) (width_of kind) start values head s.turns value_limit o.column n low o.dict
+          (s.few o.column o.below o.dict) (s.small o.column o.below o.dict) in
           le-ltb value_limit (length (dictionary d.kind d.id (start ++ heads head n))) (rw (o.type_is, o.id_is) here)
 
   -- the values of a column's batch are fine for each dictionary of its id

@@ -1,28 +1,20 @@
 -- Columns that are found once.
-use Rattle.std.proofs.Common.{◌≡◌, ℕ, ◌+◌, ◌<◌, true, List, [], length, get_or, set, Option, Some, None, IsOk, refl, sym, ap, ◌∙◌, subst, arith, inl, inr}
-use Rattle.std.specs.Prelude.{All, IfSome, slice_get}
+use Rattle.std.proofs.Common.{◌≡◌, ℕ, ◌+◌, ◌<◌, true, List, length, get_or, set, Option, Some, None, IsOk, refl, sym, ap, ◌∙◌, subst, arith, inl, inr}
+use Rattle.std.specs.Prelude.{All}
 use Rattle.std.specs.Option.{ForSome}
-use Rattle.std.proofs.lemmas.Bool.{cases_Bool, cases_eq}
-use Rattle.std.proofs.lemmas.List.{get_or-set_same, get_or-set_other, get_or_past}
-use Rattle.byteorder.specs.Endian.{little_number}
-use Rattle.arrow_schema.specs.declared.spec.ArrowType.{ArrowType}
-use Rattle.arrow_schema.specs.declared.spec.DictSpec.{DictSpec}
+use Rattle.std.proofs.lemmas.Bool.{cases_eq}
+use Rattle.std.proofs.lemmas.List.{get_or-set_same, get_or-set_other}
 use Rattle.arrow_ipc.specs.Batches.{BatchIn}
-use Rattle.arrow_arrays.specs.declared.column.ColumnView.{ColumnView}
-use Rattle.arrow_arrays.specs.declared.spec.ArraySpec.{ArraySpec}
-use Rattle.arrow_arrays.specs.Arrays.{arrays_check, cell_of, FitsArray, fits_if}
-use Rattle.arrow_arrays.specs.Layouts.{layout_of, FitsLayout}
-use Rattle.arrow_arrays.specs.Views.{cell_seen}
+use Rattle.arrow_arrays.specs.Arrays.{arrays_check}
 use Rattle.otap_cells.specs.declared.payload.Kind.{Kind}
 use Rattle.otap_cells.specs.Columns.{base_at, width_of}
 use Rattle.otap_cells.specs.declared.profile.Base.{Base}
 use Rattle.otap_cells.specs.Tables.{Table, IsTable, cell_in}
 use Rattle.otap_columns.specs.declared.resolved.ResolvedColumn.{ResolvedColumn}
-use Rattle.otap_columns.specs.Dictionaries.{values_for}
 use Rattle.otap_columns.specs.Known.{place_at, columns_fit, stored_cell}
-use Rattle.otap_columns.specs.Resolved.{FitsBase, resolved_value, HasIndexSizes, IsResolved, IsField, IsColumn, ShowsColumn, IsIndexSize}
+use Rattle.otap_columns.specs.Resolved.{FitsBase, resolved_value, IsResolved, IsField, IsColumn, ShowsColumn}
 use Rattle.otap_columns.specs.Steps.{FitsIn}
-use Rattle.otap_columns.specs.Substreams.{SubstreamIn, value_at, replaced, field_value, column_cell, table_in}
+use Rattle.otap_columns.specs.Substreams.{SubstreamIn, column_cell, table_in}
 use Rattle.otap_columns.proofs.Placed.{column_value_is}
 use Rattle.otap_columns.proofs.Showing.{column_value_fits}
 use Rattle.otap_columns.proofs.Tabled.{same_kind, shows, holds}

@@ -30,7 +30,7 @@ use Rattle.otap_columns.specs.Substreams.{SubstreamIn, held_in, schema_in, subst
 use Rattle.otap_columns.specs.Records.{is_rows, IsFine, IsFineIn, IsRead}
 use Rattle.otap_columns.specs.Schemas.{Forms, is_dictionary, type_in, schema_for}
 use Rattle.otap_columns.specs.Observed.{form_at, values_at, new_at}
-use Rattle.otap_columns.specs.WrittenPayloads.{has_some, is_wanted, batch_if, heads, schema_if, batches_for, messages_for, HoldsValues, IsWritable, GoesOn, IsRecord, IsWritten, AreWrittenAs, IsReadAs}
+use Rattle.otap_columns.specs.WrittenPayloads.{has_some, is_wanted, batch_if, heads, batches_for, messages_for, HoldsValues, IsWritable, GoesOn, IsRecord, IsWritten, AreWrittenAs, IsReadAs}
 use Rattle.otap_columns.proofs.Growing.{substream-none}
 use Rattle.otap_columns.proofs.HeldLess.{light}
 use Rattle.otap_columns.proofs.IdsRead.{ids_read}

@@ -218,7 +218,8 @@ kept_form ladder.Dict8 values is = refl
 kept_form ladder.Dict16 values is = refl
 kept_form ladder.Plain values is = absurd (false≢true is)
 
-pub kept_values : (kind : Kind) (tables : List Table) (column : ℕ) → is_dictionary (form_at kind tables column) ≡ true → (ladder_of (columns.column_at kind column).dictionary (seen kind tables column)).values ≡ values_at kind tables column
+pub kept_values : (kind : Kind) (tables : List Table) (column : ℕ) → is_dictionary (form_at kind tables column) ≡ true
+    → (ladder_of (columns.column_at kind column).dictionary (seen kind tables column)).values ≡ values_at kind tables column
 unfolding ladder_of form_at values_at
 kept_values kind tables column is =
     let none : columns.is_id_at kind column ≡ false = no_id kind tables column is in

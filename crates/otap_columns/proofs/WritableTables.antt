@@ -1,13 +1,10 @@
--- A table whose columns were tested one after the other can be written.
-use Rattle.std.proofs.Common.{◌≡◌, ℕ, ◌+◌, ◌<◌, ◌≤◌, true, List, Option, refl, subst, arith, ◌⊎◌, inl, inr}
-use Rattle.std.proofs.lemmas.Bool.{cases_lt}
-use Rattle.otap_cells.specs.Columns.{coding_at, is_id_at, width_of}
+-- What was tested of a column of a table.
+use Rattle.std.proofs.Common.{◌≡◌, ℕ, true, List, Option}
+use Rattle.otap_cells.specs.Columns.{coding_at, is_id_at}
 use Rattle.otap_cells.specs.ColumnIds.{stored_in}
 use Rattle.otap_cells.specs.Continuing.{continues_in}
 use Rattle.otap_cells.specs.Ids.{Ids}
-use Rattle.otap_cells.specs.Tables.{Table, IsTable, coding_in, greatest_wide}
-use Rattle.otap_cells.proofs.ByPlace.{id_within}
-use Rattle.otap_columns.specs.WrittenPayloads.{IsWritable}
+use Rattle.otap_cells.specs.Tables.{Table, coding_in, greatest_wide}
 
 -- where a column holds ids, they are stored as the profile says, and its stored numbers stand for ids
 abbrev pub IsStored : Table → ℕ → Type 0

@@ -1,5 +1,5 @@
 -- What a sub-stream is after some of its messages: the arrays of its schema, and its dictionaries.
-use Rattle.std.specs.Prelude.{ℕ, Bool, true, false, is_some, nat_lt, List, [], ◌∷◌, length, Option, Some, None, option_map, slice_get, slice_index_or}
+use Rattle.std.specs.Prelude.{ℕ, Bool, true, nat_lt, List, [], ◌∷◌, length, Option, Some, None, option_map, slice_get, slice_index_or}
 use Rattle.std.specs.List.{flat_map}
 use Rattle.byteorder.specs.Endian.{little_number}
 use Rattle.lists.specs.Since.{last_after}

@@ -2,7 +2,6 @@
 -- Protocol, "Schema and Dictionary Resets"; that they are counted is this gateway's profile).
 use Rattle.std.specs.Prelude.{◌≡◌, ℕ, suc, true, List, [], ◌∷◌, ◌++◌, filter, if◌then◌else◌}
 use Rattle.std.specs.Fmt.{decimal}
-use Rattle.std.specs.List.{flat_map}
 use Rattle.lists.specs.EachAfter.{EachAfter}
 use Rattle.otap_cells.specs.declared.payload.Kind.{Kind}
 use Rattle.otap_cells.specs.Payload.{is_kind}

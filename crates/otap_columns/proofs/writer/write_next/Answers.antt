@@ -20,7 +20,8 @@ record_of-requires-clause-can c =
     let tables = c.requires.ready.0 in
     let told : AreForms t.kind new forms = subst (λ (k : Kind). AreForms k new forms) c.kind-kind.ensures c.in_ok-forms.ensures in
     subst (λ (fs : List ColumnForm). CanWrite (forms_in fs) new t) (sym c.deref-3.ensures.value)
-    (can_write t.kind tables t new forms (seen_more t.kind tables t c.args.seen.now new c.in_ok-observe_all.ensures c.requires.ready.1.seen) told c.requires.writable c.requires.light (are_placed t.kind t c.args.seen.now new c.in_ok-observe_all.ensures))
+    (can_write t.kind tables t new forms (seen_more t.kind tables t c.args.seen.now new c.in_ok-observe_all.ensures c.requires.ready.1.seen)
+    told c.requires.writable c.requires.light (are_placed t.kind t c.args.seen.now new c.in_ok-observe_all.ensures))
 
 pub record_of-requires-clause-fit : goal.record_of-requires-clause-fit
 record_of-requires-clause-fit c =

@@ -23,9 +23,11 @@ pub push_value-requires-clause-room : goal.push_value-requires-clause-room
 push_value-requires-clause-room c =
     let base_is : c.base_of-base.result ≡ base_at c.args.table.now.kind c.args.column = c.base_of-base.ensures ∙ ap (λ k. base_at k c.args.column) c.kind.ensures in
     let part_is : bytes_for c.base_of-base.result c.args.form (seen c.cell.result) ≡ stored_for (base_at c.args.table.now.kind c.args.column) c.args.form [] (cell_in c.args.table.now.rows c.args.column c.rows.row) =
-    (λ i. bytes_for (base_is i) c.args.form (c.cell.ensures.value i)) ∙ plain_stored (base_at c.args.table.now.kind c.args.column) c.args.form [] (cell_in c.args.table.now.rows c.args.column c.rows.row) c.requires.plain in
+    (λ i. bytes_for (base_is i) c.args.form (c.cell.ensures.value i))
+    ∙ plain_stored (base_at c.args.table.now.kind c.args.column) c.args.form [] (cell_in c.args.table.now.rows c.args.column c.rows.row) c.requires.plain in
     let low : c.rows.row < length c.args.table.now.rows = omega (arith, c.set_rows-count.ensures.within) in
-    let room : cells_len (take c.rows.row (stored_column c.args.form [] c.args.table.now c.args.column)) + cell_len (bytes_for c.base_of-base.result c.args.form (seen c.cell.result)) ≤ cells_len (stored_column c.args.form [] c.args.table.now c.args.column) =
+    let room : cells_len (take c.rows.row (stored_column c.args.form [] c.args.table.now c.args.column)) + cell_len (bytes_for c.base_of-base.result c.args.form (seen c.cell.result))
+    ≤ cells_len (stored_column c.args.form [] c.args.table.now c.args.column) =
     stored_room c.args.form [] c.args.table.now c.args.column c.rows.row (bytes_for c.base_of-base.result c.args.form (seen c.cell.result)) low part_is in
     let cells : cells_len c.rows.built.cells ≡ cells_len (take c.rows.row (stored_column c.args.form [] c.args.table.now c.args.column)) = ap (λ (b : ColumnIn). cells_len b.cells) c.rows.invariant in
     omega (arith, room, cells, c.requires.room)
@@ -34,7 +36,8 @@ pub rows-preserved : goal.rows-preserved
 rows-preserved c =
     let base_is : c.base_of-base.result ≡ base_at c.args.table.now.kind c.args.column = c.base_of-base.ensures ∙ ap (λ k. base_at k c.args.column) c.kind.ensures in
     let part_is : bytes_for c.base_of-base.result c.args.form (seen c.cell.result) ≡ stored_for (base_at c.args.table.now.kind c.args.column) c.args.form [] (cell_in c.args.table.now.rows c.args.column c.rows.row) =
-    (λ i. bytes_for (base_is i) c.args.form (c.cell.ensures.value i)) ∙ plain_stored (base_at c.args.table.now.kind c.args.column) c.args.form [] (cell_in c.args.table.now.rows c.args.column c.rows.row) c.requires.plain in
+    (λ i. bytes_for (base_is i) c.args.form (c.cell.ensures.value i))
+    ∙ plain_stored (base_at c.args.table.now.kind c.args.column) c.args.form [] (cell_in c.args.table.now.rows c.args.column c.rows.row) c.requires.plain in
     let low : c.rows.row < length c.args.table.now.rows = omega (arith, c.set_rows-count.ensures.within) in
     let more = stored_more c.args.form [] c.args.table.now c.args.column c.rows.row (bytes_for c.base_of-base.result c.args.form (seen c.cell.result)) low part_is in
     c.in_ok-push_value.ensures ∙ (λ i. record { width = (c.rows.invariant i).width; cells = (c.rows.invariant i).cells ++ bytes_for c.base_of-base.result c.args.form (seen c.cell.result) ∷ [] })

@@ -62,7 +62,8 @@ add_column-requires-clause-room c =
     let b = c.in_ok-buffers.buffers in
     let e = c.in_ok-buffers.ensures in
     room_less 1 (sizes b) (column_most t c.args.member.now.column) c.args.batch.now
-    (column_short c.form_of-form.result c.seen_at-seen.result.now.ladder.values t c.args.member.now.column c.requires.can.table b c.in_ok-built.built c.in_ok-built.ensures e.rows e.validity_len e.offsets_len e.values_len)
+    (column_short c.form_of-form.result c.seen_at-seen.result.now.ladder.values t c.args.member.now.column c.requires.can.table b
+    c.in_ok-built.built c.in_ok-built.ensures e.rows e.validity_len e.offsets_len e.values_len)
     c.requires.room
 
 pub returns-clause-grows : goal.returns-clause-grows
@@ -71,5 +72,6 @@ returns-clause-grows c =
     let b = c.in_ok-buffers.buffers in
     let e = c.in_ok-buffers.ensures in
     member_grows (column_most t c.args.member.now.column) b c.args.batch.now c.add_column.new.batch c.width_for-width.result c.add_column.result
-    (column_short c.form_of-form.result c.seen_at-seen.result.now.ladder.values t c.args.member.now.column c.requires.can.table b c.in_ok-built.built c.in_ok-built.ensures e.rows e.validity_len e.offsets_len e.values_len)
+    (column_short c.form_of-form.result c.seen_at-seen.result.now.ladder.values t c.args.member.now.column c.requires.can.table b
+    c.in_ok-built.built c.in_ok-built.ensures e.rows e.validity_len e.offsets_len e.values_len)
     c.add_column.ensures

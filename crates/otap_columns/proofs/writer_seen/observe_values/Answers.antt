@@ -52,8 +52,8 @@ rows-preserved c =
     let low : c.rows.row < length c.args.table.now.rows = omega (arith, c.set_rows-count.ensures.within) in
     let x = bytes_for holds form.Wide (seen c.cell-cell.result) in
     subst (λ (ps : List (Option ℕ)). IsObserved holds c.args.table.now.rows c.args.column (c.rows.row + 1) c.args.ladder.now c.observe_after.new.ladder ps x c.in_ok-place.place) (sym c.in_ok-push.ensures.items)
-    (one_more_observed laws holds c.args.table.now.rows c.args.column c.rows.row c.args.ladder.now c.rows.ladder c.observe_after.new.ladder c.rows.places.items (bytes_for holds form.Wide (seen c.rows.before)) c.rows.place
-    x c.rows.invariant low (ap (bytes_for holds form.Wide) c.cell-cell.ensures.value)
+    (one_more_observed laws holds c.args.table.now.rows c.args.column c.rows.row c.args.ladder.now c.rows.ladder c.observe_after.new.ladder c.rows.places.items (bytes_for holds form.Wide (seen c.rows.before))
+    c.rows.place x c.rows.invariant low (ap (bytes_for holds form.Wide) c.cell-cell.ensures.value)
     (c.in_ok-place.ensures.ladder ∙ ap (λ b. observed_if c.rows.ladder (bytes_for b form.Wide (seen c.cell-cell.result))) base_is)
     c.in_ok-place.place (c.in_ok-place.ensures.place ∙ ap (λ b. place_in c.observe_after.new.ladder.values (bytes_for b form.Wide (seen c.cell-cell.result))) base_is)
     (ap is_plain (sym c.form-in-rows.ensures) ∙ sym c.is_plain-in-rows.ensures.is ∙ c.if-is_plain-2.false))
