@@ -15,7 +15,7 @@ use Rattle.otap_attrs.proofs.ValueCells.{cells_of_empty, cells_of_str, cells_of_
 abbrev says : ℕ → List ℕ → ℤ → ℕ → List ℕ → AttributeIn
 says kind key int bits part = record { kind = kind; key = key; int = int; bits = bits; bytes = part }
 
--- the cells of the value, behind that of the key
+-- the cells of the value, after that of the key
 by_cells : (key : List ℕ) (value : Value) (cells : List Cell) (kind : ℕ) (int : ℤ) (bits : ℕ) (part : List ℕ) → value_cells value ≡ cells
     → attribute_in (text_cell key ∷ cells) ≡ says kind (bytes_in (text_cell key)) int bits part
     → attribute_in (pair_cells (record { key = key; value = value })) ≡ says kind key int bits part

@@ -130,7 +130,7 @@ rows_by-with_cell kind count cell later column x there some here elsewhere =
     same_row : (row : ℕ) → (row ≡ count - 1 → ⊥) → row_by kind later row ≡ row_by kind cell row
     same_row row differs = λ i. map (λ other. elsewhere other row (λ h _. differs h) i) (range_with_len 0 (width_of kind))
 
--- a table that is given by its cells has this kind, so many rows, these rows
+-- a table that is given by its cells has this kind, this number of rows, these rows
 module _ (kind : Kind) (coding : ℕ → Coding) (greatest : ℕ → ℕ) (count : ℕ) (cell : ℕ → ℕ → Cell) where
   pub kind-table_by : (table_by kind coding greatest count cell).kind ≡ kind
   unfolding table_by

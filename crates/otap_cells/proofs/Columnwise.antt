@@ -134,9 +134,9 @@ module _ (kind : Kind) (n : ℕ) (columns : List (List Cell)) (t : Table) (is_ta
         | inr wide ↦ cell_in-beyond kind n (by_columns columns) column row (inl wide)
       ]
 
-  pub fits_behind : IsKept kind n columns → (column : ℕ) → column < width_of t.kind → 0 < length t.rows
+  pub fits_past : IsKept kind n columns → (column : ℕ) → column < width_of t.kind → 0 < length t.rows
       → (cells d : List Cell) → cells ≡ get_or columns column d → length cells ≤ n - 1 + 1
-  fits_behind kept column there some cells d is =
+  fits_past kept column there some cells d is =
       let reads : cells ≡ get_or columns column [] = is ∙ get_or_default columns column d [] (in_columns kept column there some) in
       let short : length cells ≤ n = rw reads (kept.short column) in
       omega (arith, same_count)

@@ -14,12 +14,12 @@ front_same [] j rest = refl
 front_same (x ∷ front) j rest = rw (eq-eqb x x refl) (front_same front j rest)
 
 -- names after the first one and a dot
-pub joined_behind : (path inner : List (Bor (List ℕ))) (first : Bor (List ℕ)) (dotted rest : List ℕ)
+pub joined_after : (path inner : List (Bor (List ℕ))) (first : Bor (List ℕ)) (dotted rest : List ℕ)
     → path ≡ first ∷ inner → eqb (length inner) 0 ≡ false → dotted ≡ first.now ++ 46 ∷ rest
     → bytes_eq (join_with_byte 46 (map (λ name. name.now) path)) dotted ≡ bytes_eq (join_with_byte 46 (map (λ name. name.now) inner)) rest
-joined_behind path [] first dotted rest is some behind = cc
-joined_behind path (next ∷ inner) first dotted rest is some behind =
-    rw (is, behind) (front_same first.now (join_with_byte 46 (map (λ name. name.now) (next ∷ inner))) rest)
+joined_after path [] first dotted rest is some after = cc
+joined_after path (next ∷ inner) first dotted rest is some after =
+    rw (is, after) (front_same first.now (join_with_byte 46 (map (λ name. name.now) (next ∷ inner))) rest)
 
 -- where the first name and a dot don't stand at the front
 pub joined_elsewhere : (path inner : List (Bor (List ℕ))) (first : Bor (List ℕ)) (dotted : List ℕ)
@@ -36,11 +36,11 @@ abbrev pub is_named : List (Bor (List ℕ)) → ColumnSpec → Bool
 is_named path column = bytes_eq (join_with_byte 46 (map (λ name. name.now) path)) column.name
 
 -- at a place before which no column has the path: what was told of the column there
-module _ (xs : List Column) (columns : List ColumnSpec) (place : ℕ) (d : Column) (path : List (Bor (List ℕ))) (name : List ℕ) (answer : Bool)
+module _ (xs : List Column) (columns : List ColumnSpec) (place : ℕ) (d : Column) (path : List (Bor (List ℕ))) (name : List ℕ) (returned : Bool)
     (is : map described xs ≡ columns) (within : place < length xs) (read : name ≡ (get_or xs place d).name.now)
-    (asked : answer ≡ bytes_eq (join_with_byte 46 (map (λ name. name.now) path)) name)
+    (asked : returned ≡ bytes_eq (join_with_byte 46 (map (λ name. name.now) path)) name)
     (so_far : position_from (is_named path) place (drop place columns) ≡ position_from (is_named path) 0 columns) where
-  tested : is_named path (get_or columns place (described d)) ≡ answer
+  tested : is_named path (get_or columns place (described d)) ≡ returned
   tested = ap (λ columns. is_named path (get_or columns place (described d))) (sym is)
       ∙ ap (is_named path) (get_or-map described xs place d (described d) within)
       ∙ ap (bytes_eq (join_with_byte 46 (map (λ name. name.now) path))) (sym read) ∙ sym asked
@@ -48,13 +48,13 @@ module _ (xs : List Column) (columns : List ColumnSpec) (place : ℕ) (d : Colum
   there : place < length columns
   there = omega (arith, within, length-map xs described, ap length is)
 
-  pub found_at : answer ≡ true → list_any has_dot (map (λ name. name.now) path) ≡ false → Some place ≡ place_of columns (map (λ name. name.now) path)
+  pub found_at : returned ≡ true → list_any has_dot (map (λ name. name.now) path) ≡ false → Some place ≡ place_of columns (map (λ name. name.now) path)
   found_at hit none =
       let here : position_from (is_named path) place (drop place columns) ≡ Some place
       = rw (drop-cons columns place (described d) there, tested, hit) refl in
       sym here ∙ so_far ∙ rw none refl
 
-  pub passed_at : answer ≡ false → position_from (is_named path) (place + 1) (drop (place + 1) columns) ≡ position_from (is_named path) 0 columns
+  pub passed_at : returned ≡ false → position_from (is_named path) (place + 1) (drop (place + 1) columns) ≡ position_from (is_named path) 0 columns
   passed_at miss =
       let here : position_from (is_named path) place (drop place columns) ≡ position_from (is_named path) (place + 1) (drop (place + 1) columns)
       = rw (drop-cons columns place (described d) there, tested, miss, add-one) refl in

@@ -7,8 +7,8 @@ use Rattle.otap_cells.specs.declared.profile.Coding.{Coding}
 use Rattle.otap_cells.specs.declared.profile.Coding.TheVariants.{Run}
 use Rattle.otap_cells.specs.Ids.{RiseAfter, base_of, goes_on, takes_null, stored_after, fits_after, undone_after}
 
-drop_behind : (k : ℕ) (rows : List Bool) → drop 1 (drop k rows) ≡ drop (k + 1) rows
-drop_behind k rows = each k rows ∙ ap (λ n. drop n rows) (sym (add-one k))
+drop_after : (k : ℕ) (rows : List Bool) → drop 1 (drop k rows) ≡ drop (k + 1) rows
+drop_after k rows = each k rows ∙ ap (λ n. drop n rows) (sym (add-one k))
   where
     each : (k : ℕ) (rows : List Bool) → drop 1 (drop k rows) ≡ drop (suc k) rows
     each zero rows = refl
@@ -32,23 +32,23 @@ module _ (ids : List (Option ℕ)) (k : ℕ) (d : Option ℕ) (rows : List Bool)
   module _ (how : Coding) (before : ℕ) (none : get_or ids k d ≡ None) where
     -- a row without an id is passed over
     pub rise_none : RiseAfter how before (drop k rows) (drop k ids) → RiseAfter how before (drop (k + 1) rows) (drop (k + 1) ids)
-    rise_none rise = rw (← drop_behind k rows) ((rw (at_place None none) at rise).1)
+    rise_none rise = rw (← drop_after k rows) ((rw (at_place None none) at rise).1)
 
     pub stored_none : (whole : List (Option ℕ)) → take k ids ++ stored_after how before (drop k rows) (drop k ids) ≡ whole
         → take (k + 1) ids ++ stored_after how before (drop (k + 1) rows) (drop (k + 1) ids) ≡ whole
     stored_none whole so_far =
         passes None (stored_after how before (drop (k + 1) rows) (drop (k + 1) ids)) whole none
-        (rw (← drop_behind k rows) (rw (at_place None none) at so_far))
+        (rw (← drop_after k rows) (rw (at_place None none) at so_far))
 
     module _ (last : ℕ) (takes : takes_null how ≡ true) where
       pub fits_none : (whole : Bool) → fits_after how last before (drop k rows) (drop k ids) ≡ whole → fits_after how last before (drop (k + 1) rows) (drop (k + 1) ids) ≡ whole
-      fits_none whole so_far = rw (← drop_behind k rows) (rw (at_place None none, takes) at so_far)
+      fits_none whole so_far = rw (← drop_after k rows) (rw (at_place None none, takes) at so_far)
 
       pub undone_none : (whole : List (Option ℕ)) → take k ids ++ undone_after how last before (drop k rows) (drop k ids) ≡ whole
           → take (k + 1) ids ++ undone_after how last before (drop (k + 1) rows) (drop (k + 1) ids) ≡ whole
       undone_none whole so_far =
           passes None (undone_after how last before (drop (k + 1) rows) (drop (k + 1) ids)) whole none
-          (rw (← drop_behind k rows) (rw (at_place None none, takes) at so_far))
+          (rw (← drop_after k rows) (rw (at_place None none, takes) at so_far))
 
   module _ (how : Coding) (before n : ℕ) (some : get_or ids k d ≡ Some n) where
     -- an id is stored
@@ -56,7 +56,7 @@ module _ (ids : List (Option ℕ)) (k : ℕ) (d : Option ℕ) (rows : List Bool)
     low_some rise = (rw (at_place (Some n) some) at rise).0
 
     pub rise_some : (x : Option ℕ) → RiseAfter how before (drop k rows) (drop k ids) → RiseAfter how n (drop (k + 1) rows) (drop (k + 1) (set ids k x))
-    rise_some x rise = rw (left x, ← drop_behind k rows) ((rw (at_place (Some n) some) at rise).1)
+    rise_some x rise = rw (left x, ← drop_after k rows) ((rw (at_place (Some n) some) at rise).1)
 
     pub stored_some : (b : ℕ) (whole : List (Option ℕ)) → b ≡ base_of how (goes_on (drop k rows)) before
         → take k ids ++ stored_after how before (drop k rows) (drop k ids) ≡ whole
@@ -64,7 +64,7 @@ module _ (ids : List (Option ℕ)) (k : ℕ) (d : Option ℕ) (rows : List Bool)
     stored_some b whole base so_far =
         rw (left (Some (n - b)))
         (writes (Some (n - b)) (stored_after how n (drop (k + 1) rows) (drop (k + 1) ids)) whole
-        (rw (base, ← drop_behind k rows) (rw (at_place (Some n) some) at so_far)))
+        (rw (base, ← drop_after k rows) (rw (at_place (Some n) some) at so_far)))
 
     -- a number is taken
     module _ (last id : ℕ) (is : id ≡ base_of how (goes_on (drop k rows)) before + n) where
@@ -72,14 +72,14 @@ module _ (ids : List (Option ℕ)) (k : ℕ) (d : Option ℕ) (rows : List Bool)
         pub fits_some : (whole : Bool) → fits_after how last before (drop k rows) (drop k ids) ≡ whole
             → fits_after how last id (drop (k + 1) rows) (drop (k + 1) (set ids k (Some id))) ≡ whole
         fits_some whole so_far =
-            rw (left (Some id), ← drop_behind k rows) (rw (at_place (Some n) some, ← is, le-leb id last low) at so_far)
+            rw (left (Some id), ← drop_after k rows) (rw (at_place (Some n) some, ← is, le-leb id last low) at so_far)
 
         pub undone_some : (whole : List (Option ℕ)) → take k ids ++ undone_after how last before (drop k rows) (drop k ids) ≡ whole
             → take (k + 1) (set ids k (Some id)) ++ undone_after how last id (drop (k + 1) rows) (drop (k + 1) (set ids k (Some id))) ≡ whole
         undone_some whole so_far =
             rw (left (Some id))
             (writes (Some id) (undone_after how last id (drop (k + 1) rows) (drop (k + 1) ids)) whole
-            (rw (← drop_behind k rows) (rw (at_place (Some n) some, ← is, le-leb id last low) at so_far)))
+            (rw (← drop_after k rows) (rw (at_place (Some n) some, ← is, le-leb id last low) at so_far)))
 
 -- the same for numbers of rows that all have one
 module _ (ids : List ℕ) (k : ℕ) (rows : List Bool) (within : k < length ids) (before : ℕ) where

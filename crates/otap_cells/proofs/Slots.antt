@@ -70,7 +70,7 @@ all_within old more kept ss ts cells row pad s within longer is short padded the
     (λ k d lt. near (get_or ss k d) (within k d lt))
     (All-replicate (λ t. reach t ≤ length kept) pad slot.Null (omega arith))))
 
--- the cells with one written right behind them
+-- the cells with one written right after them
 pub one_pushed : (old more kept : List ℕ) (ss ts : List Slot) (cells : List Cell) (row : ℕ) (s : Slot) (x : Cell)
     → All (λ t. reach t ≤ length old) ss → kept ≡ old ++ more → map (cell_of old) ss ≡ cells → row ≡ length ss → ts ≡ ss ++ s ∷ [] → cell_of kept s ≡ x
     → map (cell_of kept) ts ≡ set (cells ++ replicate (row + 1 - length cells) null) row x

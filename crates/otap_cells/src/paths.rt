@@ -43,14 +43,14 @@ fn is_joined(path: &[&[u8]], dotted: &[u8]) -> bool
     if inner.is_empty() {
         return *first == dotted;
     }
-    match behind_dot(dotted, first) {
+    match after_dot(dotted, first) {
         Some(rest) => is_joined(inner, rest),
         None => false,
     }
 }
 
 /// What stands after the name and a dot.
-fn behind_dot<'a>(dotted: &'a [u8], name: &[u8]) -> Option<&'a [u8]>
+fn after_dot<'a>(dotted: &'a [u8], name: &[u8]) -> Option<&'a [u8]>
     ensures { MatchOption result ((rest : List ℕ) → dotted.now ≢ name.now ++ 46 ∷ rest) (λ rest. dotted.now ≡ name.now ++ 46 ∷ rest.now) }
 {
     let rest = dotted.strip_prefix(name)?;

@@ -15,15 +15,15 @@ pub some_or_none : {A : Type 0} (P : A → Type 0) → ((x : A) → P x ⊎ (P x
 some_or_none P decide [] = inr (λ x at is. absurd (omega (arith, at.1)))
 some_or_none {A} P decide (x ∷ xs) = by_first (decide x) (some_or_none P decide xs)
   where
-    behind : (P x → ⊥) → ((y : A) → Contains xs y → P y → ⊥) → (y : A) → Contains (x ∷ xs) y → P y → ⊥
-    behind first none y (zero, within, at) is = first (subst P (sym at) is)
-    behind first none y (suc k, within, at) is = none y (k, omega arith, at) is
+    after : (P x → ⊥) → ((y : A) → Contains xs y → P y → ⊥) → (y : A) → Contains (x ∷ xs) y → P y → ⊥
+    after first none y (zero, within, at) is = first (subst P (sym at) is)
+    after first none y (suc k, within, at) is = none y (k, omega arith, at) is
 
     by_first : P x ⊎ (P x → ⊥) → ((y : A) × Contains xs y × P y) ⊎ ((y : A) → Contains xs y → P y → ⊥)
         → ((y : A) × Contains (x ∷ xs) y × P y) ⊎ ((y : A) → Contains (x ∷ xs) y → P y → ⊥)
     by_first (inl is) rest = inl (x, (0, omega arith, refl), is)
     by_first (inr first) (inl (y, (k, within, at), is)) = inl (y, (suc k, omega arith, at), is)
-    by_first (inr first) (inr none) = inr (behind first none)
+    by_first (inr first) (inr none) = inr (after first none)
 
 contains_or_not : {A : Type 0} (y : A) → ((x : A) → (x ≡ y) ⊎ (x ≡ y → ⊥)) → (xs : List A) → Contains xs y ⊎ (Contains xs y → ⊥)
 contains_or_not y decide xs = elim (some_or_none (λ x. x ≡ y) decide xs) [

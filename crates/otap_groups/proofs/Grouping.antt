@@ -22,7 +22,7 @@ use Rattle.otap_groups.specs.Flat.{FlatIn, flat, flat_at, flat_groups, flat_scop
 use Rattle.otap_groups.specs.Stored.{Rising}
 use Rattle.otap_groups.proofs.CellTests.{cell_is_itself, cells_are_themselves, id_is_itself}
 use Rattle.otap_groups.proofs.FlatSteps.{length_flat_scopes, rising_groups, rising_scopes}
-use Rattle.otap_groups.proofs.Joins.{agree_behind, agree_front, reads_behind, reads_front}
+use Rattle.otap_groups.proofs.Joins.{agree_after, agree_front, reads_after, reads_front}
 use Rattle.otap_groups.proofs.RunBlocks.{Every, First, block, every_append}
 
 resource_back : (resource : Resource) (pairs : List Pair) → pairs ≡ resource.pairs → resource_of (resource_cells resource) pairs ≡ resource
@@ -181,7 +181,7 @@ module _ {I : Type 0} (cells_of : I → List Cell) (resources scopes : Option �
       (in_scope cells_of n r s resource scope (x ∷ xs))
       (first_from (PastScope s) (λ y. (x : MainRow) → InScope s scope x → same_scope x y ≡ false) _ (λ y later x of_scope. next_scope_id s scope x y of_scope later)
       (past_scope cells_of (n + length (x ∷ xs)) r s _ rising)) in
-      let rest = ih (n + length (x ∷ xs)) (suc s) (reads_behind numbered cells_of item n (x ∷ xs) _ reads) agrees.1 in
+      let rest = ih (n + length (x ∷ xs)) (suc s) (reads_after numbered cells_of item n (x ∷ xs) _ reads) agrees.1 in
       let items = items_back n r s resource scope (x ∷ xs) (reads_front numbered cells_of item n (x ∷ xs) _ reads) in
       rw here (ap (λ rows. map (scope_group scopes item) (runs same_scope rows)) rows ∙ ap (map (scope_group scopes item)) cut
       ∙ (λ i. record { scope = scope_back scope (scopes (Some s)) agrees.0 i; items = items i } ∷ rest i))
@@ -235,7 +235,7 @@ module _ {I : Type 0} (cells_of : I → List Cell) (resources scopes : Option �
       let size : length (flat_map (λ (scope : ScopeGroup I). scope.items) group.scopes) ≡ 0 = sym (length_flat_scopes r s group.resource group.scopes) ∙ ap length is in
       let place : n + length (flat_map (λ (scope : ScopeGroup I). scope.items) group.scopes) ≡ n = omega (arith, size) in
       ap (λ t. map (resource_group resources scopes item) (runs same_resource (numbered_rows cells_of n (flat_groups r t groups)))) at
-      ∙ ih n r s (subst (λ m. Reads numbered cells_of item m (items_of groups)) place (reads_behind numbered cells_of item n _ (items_of groups) reads))
+      ∙ ih n r s (subst (λ m. Reads numbered cells_of item m (items_of groups)) place (reads_after numbered cells_of item n _ (items_of groups) reads))
       (subst (λ gs. Agree resources r (resource_pairs gs)) same of_resources) (subst (λ gs. Agree scopes s (scope_pairs (all_scopes gs))) same of_scopes)
       ∙ sym same
   one_group n r s group groups (f ∷ fs) is reads of_resources of_scopes ih =
@@ -260,8 +260,8 @@ module _ {I : Type 0} (cells_of : I → List Cell) (resources scopes : Option �
       (λ y later x of_resource. next_resource_id r group.resource x y of_resource later)
       (past_resource cells_of (n + length (f ∷ fs)) r (scopes_past s group.scopes) _ (rising_groups (suc r) (scopes_past s group.scopes) groups))) in
       let rest = ih (n + length (f ∷ fs)) (suc r) (scopes_past s group.scopes)
-      (subst (λ m. Reads numbered cells_of item m (items_of groups)) place (reads_behind numbered cells_of item n _ (items_of groups) reads))
-      resources_here.1 (subst (λ m. Agree scopes m (scope_pairs (all_scopes (groups_with_items groups)))) at (agree_behind scopes s _ _ scopes_here)) in
+      (subst (λ m. Reads numbered cells_of item m (items_of groups)) place (reads_after numbered cells_of item n _ (items_of groups) reads))
+      resources_here.1 (subst (λ m. Agree scopes m (scope_pairs (all_scopes (groups_with_items groups)))) at (agree_after scopes s _ _ scopes_here)) in
       let resource : resource_at resources (numbered_row cells_of n f) ≡ group.resource =
       (λ i. resource_of (inside.0.1 i) (resources (inside.0.0 i))) ∙ resource_back group.resource (resources (Some r)) resources_here.0 in
       ap (λ rows. map (resource_group resources scopes item) (runs same_resource rows)) (numbered_append cells_of n (f ∷ fs) (flat_groups (suc r) (scopes_past s group.scopes) groups))

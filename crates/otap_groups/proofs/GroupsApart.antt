@@ -48,10 +48,10 @@ at_front [] ys k y a = absurd a
 at_front (x ∷ xs) ys zero y a = a
 at_front (x ∷ xs) ys (suc k) y a = at_front xs ys k y a
 
-at_behind : {A : Type 0} (xs ys : List A) (k n : ℕ) (y : A) → n ≡ length xs + k → At ys k y → At (xs ++ ys) n y
-at_behind [] ys k n y is a = subst (λ n. At ys n y) (omega (arith, is)) a
-at_behind (x ∷ xs) ys k zero y is a = absurd (omega (arith, is))
-at_behind (x ∷ xs) ys k (suc n) y is a = at_behind xs ys k n y (omega (arith, is)) a
+at_after : {A : Type 0} (xs ys : List A) (k n : ℕ) (y : A) → n ≡ length xs + k → At ys k y → At (xs ++ ys) n y
+at_after [] ys k n y is a = subst (λ n. At ys n y) (omega (arith, is)) a
+at_after (x ∷ xs) ys k zero y is a = absurd (omega (arith, is))
+at_after (x ∷ xs) ys k (suc n) y is a = at_after xs ys k n y (omega (arith, is)) a
 
 not_empty : {A : Type 0} (x : A) (xs : List A) → nat_lt 0 (length (x ∷ xs)) ≡ true
 not_empty x xs = grind (arith, nat_tests)
@@ -137,17 +137,17 @@ module _ {I : Type 0} where
   scope_from r s p [] within = absurd (omega arith)
   scope_from r s p (group ∷ groups) within =
       let front : List (FlatIn I) = flat_scopes r s group.resource group.scopes in
-      let behind : List (FlatIn I) = flat_groups (past r front) (scopes_past s group.scopes) groups in
+      let after : List (FlatIn I) = flat_groups (past r front) (scopes_past s group.scopes) groups in
       let kept : List (ScopeGroup I) = filter has_items group.scopes in
       let size = ap length (scopes_step group groups) in
       let both = length-append (map (λ (scope : ScopeGroup I). scope.scope) kept) (scopes_of groups) in
       let here = length-map kept (λ (scope : ScopeGroup I). scope.scope) in
       let at = scopes_past_kept s group.scopes in
-      subst (λ xs. Contains xs (Some (s + p))) (sym (map-append (λ (f : FlatIn I). Some f.scope_id) front behind))
+      subst (λ xs. Contains xs (Some (s + p))) (sym (map-append (λ (f : FlatIn I). Some f.scope_id) front after))
       (elim (cases_lt p (length kept)) [
-        | inl low ↦ Contains-append_left (scope_numbers front) (scope_numbers behind) (Some (s + p)) (scope_in r s p group.resource group.scopes low)
-        | inr high ↦ Contains-append_right (scope_numbers front) (scope_numbers behind) (Some (s + p))
-            (subst (λ m. Contains (scope_numbers behind) (Some m)) (omega (arith, at, high))
+        | inl low ↦ Contains-append_left (scope_numbers front) (scope_numbers after) (Some (s + p)) (scope_in r s p group.resource group.scopes low)
+        | inr high ↦ Contains-append_right (scope_numbers front) (scope_numbers after) (Some (s + p))
+            (subst (λ m. Contains (scope_numbers after) (Some m)) (omega (arith, at, high))
             (scope_from (past r front) (scopes_past s group.scopes) (p - length kept) groups (omega (arith, size, both, here, high, within))))
       ])
 
@@ -201,16 +201,16 @@ module _ {I : Type 0} where
   from_scopes r s [] = tt
   from_scopes r s (group ∷ groups) =
       let front : List (FlatIn I) = flat_scopes r s group.resource group.scopes in
-      let behind : List (FlatIn I) = flat_groups (past r front) (scopes_past s group.scopes) groups in
+      let after : List (FlatIn I) = flat_groups (past r front) (scopes_past s group.scopes) groups in
       let xs : List Scope = map (λ (scope : ScopeGroup I). scope.scope) (filter has_items group.scopes) in
       let here = length-map (filter has_items group.scopes) (λ (scope : ScopeGroup I). scope.scope) in
       let at = scopes_past_kept s group.scopes in
-      subst (λ ys. Every (FromScope ys s) (front ++ behind)) (sym (scopes_step group groups))
-      (every_append (FromScope (xs ++ scopes_of groups) s) front behind
+      subst (λ ys. Every (FromScope ys s) (front ++ after)) (sym (scopes_step group groups))
+      (every_append (FromScope (xs ++ scopes_of groups) s) front after
       (every_weaker (FromScope xs s) (FromScope (xs ++ scopes_of groups) s) front (λ f from. (from.0, from.1, at_front xs (scopes_of groups) from.0 f.scope from.2))
       (in_scopes r s group.resource group.scopes))
-      (every_weaker (FromScope (scopes_of groups) (scopes_past s group.scopes)) (FromScope (xs ++ scopes_of groups) s) behind
-      (λ f from. (length xs + from.0, from.1 ∙ omega (arith, here, at), at_behind xs (scopes_of groups) from.0 (length xs + from.0) f.scope refl from.2))
+      (every_weaker (FromScope (scopes_of groups) (scopes_past s group.scopes)) (FromScope (xs ++ scopes_of groups) s) after
+      (λ f from. (length xs + from.0, from.1 ∙ omega (arith, here, at), at_after xs (scopes_of groups) from.0 (length xs + from.0) f.scope refl from.2))
       (from_scopes (past r front) (scopes_past s group.scopes) groups)))
 
 -- ---- the rows

@@ -17,18 +17,18 @@ pub agree_front : {C : Type 0} (find : Option ℕ → C) (k : ℕ) (xs ys : List
 agree_front find k [] ys agree = tt
 agree_front find k (x ∷ xs) ys agree = (agree.0, agree_front find (suc k) xs ys agree.1)
 
-pub agree_behind : {C : Type 0} (find : Option ℕ → C) (k : ℕ) (xs ys : List C) → Agree find k (xs ++ ys) → Agree find (k + length xs) ys
-agree_behind find k [] ys agree = subst (λ n. Agree find n ys) (omega arith) agree
-agree_behind find k (x ∷ xs) ys agree = subst (λ n. Agree find n ys) (omega arith) (agree_behind find (suc k) xs ys agree.1)
+pub agree_after : {C : Type 0} (find : Option ℕ → C) (k : ℕ) (xs ys : List C) → Agree find k (xs ++ ys) → Agree find (k + length xs) ys
+agree_after find k [] ys agree = subst (λ n. Agree find n ys) (omega arith) agree
+agree_after find k (x ∷ xs) ys agree = subst (λ n. Agree find n ys) (omega arith) (agree_after find (suc k) xs ys agree.1)
 
 module _ {C : Type 0} (own : ℕ → Option ℕ) (cells_of : C → List Cell) (item : Option ℕ → List Cell → C) where
   pub reads_front : (k : ℕ) (xs ys : List C) → Reads own cells_of item k (xs ++ ys) → Reads own cells_of item k xs
   reads_front k [] ys reads = tt
   reads_front k (x ∷ xs) ys reads = (reads.0, reads_front (suc k) xs ys reads.1)
 
-  pub reads_behind : (k : ℕ) (xs ys : List C) → Reads own cells_of item k (xs ++ ys) → Reads own cells_of item (k + length xs) ys
-  reads_behind k [] ys reads = subst (λ n. Reads own cells_of item n ys) (omega arith) reads
-  reads_behind k (x ∷ xs) ys reads = subst (λ n. Reads own cells_of item n ys) (omega arith) (reads_behind (suc k) xs ys reads.1)
+  pub reads_after : (k : ℕ) (xs ys : List C) → Reads own cells_of item k (xs ++ ys) → Reads own cells_of item (k + length xs) ys
+  reads_after k [] ys reads = subst (λ n. Reads own cells_of item n ys) (omega arith) reads
+  reads_after k (x ∷ xs) ys reads = subst (λ n. Reads own cells_of item n ys) (omega arith) (reads_after (suc k) xs ys reads.1)
 
   -- ---- rows of several parents
 
@@ -110,7 +110,7 @@ module _ {C : Type 0} (own : ℕ → Option ℕ) (cells_of : C → List Cell) (i
         subst (λ rows. Agree (children item rows) (suc k) lists) (sym split)
             (agrees_from (front ++ part_rows own cells_of n (map (placed_at k) parts)) (n + length parts) (suc k) lists
             (every_append (Below (suc k)) _ _ (weaker k (suc k) front (omega arith) low) (all_at n k (suc k) parts (omega arith)))
-            (reads_behind n parts (flat_map (λ parts. parts) lists) reads)),
+            (reads_after n parts (flat_map (λ parts. parts) lists) reads)),
       )
 
   pub agrees : (lists : List (List C)) → Reads own cells_of item 0 (flat_map (λ parts. parts) lists)

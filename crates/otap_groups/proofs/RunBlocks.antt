@@ -12,8 +12,8 @@ First P [] = Unit {0}
 First P (x ∷ xs) = P x
 
 pub every_append : {A : Type 0} (P : A → Type 0) (xs ys : List A) → Every P xs → Every P ys → Every P (xs ++ ys)
-every_append P [] ys front behind = behind
-every_append P (x ∷ xs) ys front behind = (front.0, every_append P xs ys front.1 behind)
+every_append P [] ys front after = after
+every_append P (x ∷ xs) ys front after = (front.0, every_append P xs ys front.1 after)
 
 module _ {A : Type 0} (same : A → A → Bool) where
   -- a run begins with the first element

@@ -5,7 +5,7 @@ use Rattle.std.proofs.lemmas.Bool.{cases_Bool}
 use Rattle.otap_groups.specs.Runs.{runs}
 use Rattle.otap_groups.specs.Inside.{part}
 
--- how many rows past a place belong to the run of its row, of so many
+-- how many of the n rows past a place belong to the run of its row
 unfoldable pub more : {A : Type 0} → (A → A → Bool) → (ℕ → A) → ℕ → ℕ → ℕ
 more same row from zero = 0
 more same row from (suc n) = if same (row from) (row (from + 1)) then suc (more same row (from + 1) n) else 0

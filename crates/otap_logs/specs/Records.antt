@@ -7,7 +7,7 @@ use Rattle.otap_cells.specs.Scalars.{text_cell, number_cell, int_cell, bits_cell
 use Rattle.otap_groups.specs.Rows.{cell_at}
 use Rattle.otap_attrs.specs.Values.{value_cells, value_in}
 
--- the cells of a record: those behind its body, and all
+-- the cells of a record: those after its body, and all
 abbrev pub last_cells : LogRecord → List Cell
 last_cells log = number_cell log.dropped ∷ number_cell log.flags ∷ text_cell log.event_name ∷ []
 

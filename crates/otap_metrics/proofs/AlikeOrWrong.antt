@@ -155,15 +155,15 @@ some_among : {A : Type 0} (P : A → Type 0) → ((x : A) → Decided (P x)) →
 some_among P decide [] = inr (λ x at is. absurd (omega (arith, at.1)))
 some_among {A} P decide (x ∷ xs) = by_first (decide x) (some_among P decide xs)
   where
-    behind : (P x → ⊥) → ((y : A) → Contains xs y → P y → ⊥) → (y : A) → Contains (x ∷ xs) y → P y → ⊥
-    behind first none y (zero, within, at) is = first (subst P (sym at) is)
-    behind first none y (suc k, within, at) is = none y (k, omega arith, at) is
+    after : (P x → ⊥) → ((y : A) → Contains xs y → P y → ⊥) → (y : A) → Contains (x ∷ xs) y → P y → ⊥
+    after first none y (zero, within, at) is = first (subst P (sym at) is)
+    after first none y (suc k, within, at) is = none y (k, omega arith, at) is
 
     by_first : Decided (P x) → ((y : A) × Contains xs y × P y) ⊎ ((y : A) → Contains xs y → P y → ⊥)
         → ((y : A) × Contains (x ∷ xs) y × P y) ⊎ ((y : A) → Contains (x ∷ xs) y → P y → ⊥)
     by_first (inl is) rest = inl (x, (0, omega arith, refl), is)
     by_first (inr first) (inl (y, at, is)) = inl (y, (suc at.0, omega (arith, at.1), at.2), is)
-    by_first (inr first) (inr none) = inr (behind first none)
+    by_first (inr first) (inr none) = inr (after first none)
 
 abbrev OwnWrong : List Table → Link → Type 0
 OwnWrong tables link = (is_other link.kind ≡ false) × SomeWrong tables (table_named link.kind tables) link

@@ -16,7 +16,7 @@ use Rattle.otap_metrics.specs.Metrics.{Below, metric_of, shape_of}
 use Rattle.otap_metrics.specs.Numbers.{measured_in}
 use Rattle.otap_metrics.specs.Points.{exemplar_of, point_of}
 
--- the own cells of a row, behind this many of the front
+-- the own cells of a row, after this many of the front
 abbrev pub own_cells : ℕ → List (List Cell) → ℕ → List Cell
 own_cells front rows row = get_or (map (drop front) rows) row []
 

@@ -66,7 +66,7 @@ link_own link real is = (
   (span_fits link.span_id is.span_id, (text_fits link.trace_state real.trace_state, (number_fits link.dropped real.dropped, (number_fits link.flags real.flags, tt)))),
 )
 
--- ---- the columns of ids, and the cells behind them
+-- ---- the columns of ids, and the cells after them
 
 pub span_ids : (P : ℕ → Type 0) → P 0 → P 1 → P 4 → (column : ℕ) → is_id_at table.Spans column ≡ true → P column
 unfolding spans

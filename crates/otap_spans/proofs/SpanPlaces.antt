@@ -14,7 +14,7 @@ use Rattle.otap_groups.specs.Found.{finds_in, weighs_in}
 use Rattle.otap_groups.specs.Rows.{cell_at}
 use Rattle.otap_spans.specs.Records.{end_of, event_of, link_of, span_of}
 
--- the own cells of a row, behind this many of the front
+-- the own cells of a row, after this many of the front
 abbrev pub own_cells : ℕ → List (List Cell) → ℕ → List Cell
 own_cells front rows row = get_or (map (drop front) rows) row []
 

@@ -1,6 +1,6 @@
 use Rattle.std.proofs.Common.{◌<◌, length, ◌∙◌, arith}
 use Rattle.otap_cells.proofs.ByPlace.{kind-table_by, count-table_by}
-use Rattle.otap_cells.proofs.Columnwise.{same_kind, same_count, in_columns, fits_behind, one_kept, one_shown}
+use Rattle.otap_cells.proofs.Columnwise.{same_kind, same_count, in_columns, fits_past, one_kept, one_shown}
 use Rattle.otap_cells.proofs.logical.LogicalTable.set.Goals as goal
 
 pub overflow_sub-row : goal.overflow_sub-row
@@ -13,7 +13,7 @@ index_mut-requires c =
     omega (arith, c.self.inside.columns.ok.0)
 
 pub set-requires-clause-last : goal.set-requires-clause-last
-set-requires-clause-last c = fits_behind _ _ _ _ c.self.view_is c.self.invariant _ c.requires.column c.requires.row _ _ c.index_mut.ensures.value
+set-requires-clause-last c = fits_past _ _ _ _ c.self.view_is c.self.invariant _ c.requires.column c.requires.row _ _ c.index_mut.ensures.value
 
 pub invariant_of-self-2 : goal.invariant_of-self-2
 invariant_of-self-2 c =

@@ -1,7 +1,7 @@
 use Rattle.std.proofs.Common.{◌∷◌, ◌++◌, ◌∙◌, ap, None, Some}
 use Rattle.std.proofs.lemmas.Bool.Decides.{Decides-eqb}
 use Rattle.std.proofs.lemmas.Slice.Eq.{strip_prefix_is}
-use Rattle.otap_cells.proofs.paths.behind_dot.Goals as goal
+use Rattle.otap_cells.proofs.paths.after_dot.Goals as goal
 
 pub returns-in_err-rest : goal.returns-in_err-rest
 returns-in_err-rest c = rw c.from_residual.ensures (λ rest. strip_prefix_is Decides-eqb _ _ None c.in_err-rest.ensures.cases (46 ∷ rest))
