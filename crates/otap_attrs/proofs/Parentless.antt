@@ -4,7 +4,7 @@ use Rattle.std.specs.Prelude.{Contains}
 use Rattle.std.specs.List.Sorted.{IsPermutation}
 use Rattle.std.proofs.lemmas.List.{get_or_default}
 use Rattle.std.proofs.lemmas.List.Sorted.{Contains-permutation, IsPermutation-sym}
-use Rattle.otap_cells.specs.Ids.{numbers}
+use Rattle.otap_cells.specs.Inside.{numbers}
 use Rattle.otap_attrs.specs.Defects.{OrphanIn}
 use Rattle.otap_attrs.specs.Indexing.{Lacks}
 

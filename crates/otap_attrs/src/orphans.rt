@@ -1,7 +1,7 @@
 //! Parents that aren't there.
 ghost use Rattle.std.specs.Prelude.{◌≡◌, ◌↔◌, ◌<◌, ◌≤◌, length, Some, true, false, Contains, IfOk};
 ghost use Rattle.std.specs.List.Sorted.{IsNonDecreasingBy};
-ghost use Rattle.otap_cells.specs.Ids.{numbers};
+ghost use Rattle.otap_cells.specs.Inside.{numbers};
 ghost use Rattle.otap_attrs.specs.Defects.{OrphanIn};
 ghost use Rattle.otap_attrs.specs.Indexing.{Lacks};
 

@@ -1,7 +1,8 @@
 -- Ids and the numbers that stand for them, one after the other.
 use Rattle.std.proofs.Common.{◌≡◌, ℕ, ◌+◌, ◌≤◌, nat_le, Bool, true, false, ◌&&◌, List, [], ◌∷◌, drop, Option, None, Some, refl, sym, ◌∙◌, ap, arith, leb-true, le-leb}
 use Rattle.otap_cells.specs.declared.profile.Coding.{Coding}
-use Rattle.otap_cells.specs.Ids.{IdsAfter, RiseAfter, AtMost, base_of, goes_on, takes_null, stored_after, fits_after, undone_after}
+use Rattle.otap_cells.specs.Ids.{IdsAfter, RiseAfter, AtMost, base_of, goes_on, takes_null, fits_after, undone_after}
+use Rattle.otap_cells.specs.Inside.{stored_after}
 
 both : (a b : Bool) → (a && b) ≡ true → (a ≡ true) × (b ≡ true)
 both true b h = (refl, h)

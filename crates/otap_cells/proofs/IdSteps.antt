@@ -5,7 +5,8 @@ use Rattle.std.proofs.lemmas.List.{drop_more, take_more, take_more_set, drop-set
 use Rattle.std.proofs.lemmas.Bool.{lt-leb}
 use Rattle.otap_cells.specs.declared.profile.Coding.{Coding}
 use Rattle.otap_cells.specs.declared.profile.Coding.TheVariants.{Run}
-use Rattle.otap_cells.specs.Ids.{RiseAfter, base_of, goes_on, takes_null, stored_after, fits_after, undone_after}
+use Rattle.otap_cells.specs.Ids.{RiseAfter, base_of, goes_on, takes_null, fits_after, undone_after}
+use Rattle.otap_cells.specs.Inside.{stored_after}
 
 drop_after : (k : ℕ) (rows : List Bool) → drop 1 (drop k rows) ≡ drop (k + 1) rows
 drop_after k rows = each k rows ∙ ap (λ n. drop n rows) (sym (add-one k))

@@ -6,7 +6,8 @@ use Rattle.std.specs.Ordering.{nat_cmp}
 use Rattle.std.proofs.lemmas.List.Sums.{sum_by-cons}
 use Rattle.std.proofs.lemmas.List.Sorted.{sum_by-IsPermutation, IsNonDecreasingBy-from_sort}
 use Rattle.std.proofs.lemmas.Bool.{cases_eq, cases_Bool, eqb-true}
-use Rattle.otap_cells.specs.Ids.{times, numbers, Twice, HasPair}
+use Rattle.otap_cells.specs.Ids.{times, Twice}
+use Rattle.otap_cells.specs.Inside.{numbers, HasPair}
 
 abbrev one_if : ℕ → ℕ → ℕ
 one_if n x = if nat_eq x n then 1 else 0

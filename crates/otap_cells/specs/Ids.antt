@@ -1,5 +1,5 @@
 -- Ids: the numbers of rows, and how a column stores them.
-use Rattle.std.specs.Prelude.{◌≡◌, ℕ, ◌+◌, ◌-◌, ◌≤◌, ◌<◌, suc, nat_le, nat_eq, Bool, true, false, ◌&&◌, if◌then◌else◌, List, [], ◌∷◌, length, slice_index, drop, Option, None, Some}
+use Rattle.std.specs.Prelude.{◌≡◌, ℕ, ◌+◌, ◌≤◌, ◌<◌, suc, nat_le, nat_eq, Bool, true, false, ◌&&◌, if◌then◌else◌, List, [], ◌∷◌, drop, Option, None, Some}
 use Rattle.otap_cells.specs.declared.profile.Coding.{Coding}
 use Rattle.otap_cells.specs.declared.profile.Coding.TheVariants as coding
 
@@ -62,6 +62,13 @@ undone_after how last before rows (Some n ∷ ns) =
 abbrev pub undone : Coding → ℕ → List Bool → List (Option ℕ) → List (Option ℕ)
 undone how last rows numbers = undone_after how last 0 rows numbers
 
+-- numbers that have ids
+abbrev pub fits_after : Coding → ℕ → ℕ → List Bool → List (Option ℕ) → Bool
+fits_after how last before rows [] = true
+fits_after how last before rows (None ∷ ns) = takes_null how && fits_after how last before (drop 1 rows) ns
+fits_after how last before rows (Some n ∷ ns) =
+    nat_le (base_of how (goes_on rows) before + n) last && fits_after how last (base_of how (goes_on rows) before + n) (drop 1 rows) ns
+
 -- how often a number stands among ids
 abbrev pub times : ℕ → List (Option ℕ) → ℕ
 times n [] = 0
@@ -71,28 +78,3 @@ times n (Some id ∷ ids) = if nat_eq id n then suc (times n ids) else times n i
 -- some number stands there twice
 abbrev pub Twice : List (Option ℕ) → Type 0
 Twice ids = (n : ℕ) × (1 < times n ids)
-
--- ---- the words of private contracts
-
--- the numbers among ids
-abbrev pub numbers : List (Option ℕ) → List ℕ
-numbers [] = []
-numbers (None ∷ ids) = numbers ids
-numbers (Some id ∷ ids) = id ∷ numbers ids
-
--- two neighbours among numbers are equal
-abbrev pub HasPair : List ℕ → Type 0
-HasPair ns = (k : ℕ) × (k + 1 < length ns) × (slice_index ns k ≡ slice_index ns (k + 1))
-
--- the numbers that are stored for ids
-abbrev pub stored_after : Coding → ℕ → List Bool → List (Option ℕ) → List (Option ℕ)
-stored_after how before rows [] = []
-stored_after how before rows (None ∷ ids) = None ∷ stored_after how before (drop 1 rows) ids
-stored_after how before rows (Some id ∷ ids) = Some (id - base_of how (goes_on rows) before) ∷ stored_after how id (drop 1 rows) ids
-
--- numbers that have ids
-abbrev pub fits_after : Coding → ℕ → ℕ → List Bool → List (Option ℕ) → Bool
-fits_after how last before rows [] = true
-fits_after how last before rows (None ∷ ns) = takes_null how && fits_after how last before (drop 1 rows) ns
-fits_after how last before rows (Some n ∷ ns) =
-    nat_le (base_of how (goes_on rows) before + n) last && fits_after how last (base_of how (goes_on rows) before + n) (drop 1 rows) ns

@@ -5,6 +5,7 @@ pub mod Columns
 pub mod Continuing
 pub mod GivenIds
 pub mod Ids
+pub mod Inside
 pub mod Kept
 pub mod Named
 pub mod Payload

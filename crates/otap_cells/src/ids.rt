@@ -2,7 +2,8 @@
 ghost use Rattle.std.specs.Prelude.{◌≡◌, ◌↔◌, ◌+◌, ◌≤◌, ◌^◌, ℕ, [], List, Option, Some, true, drop, length, map, IfErr, IfOk, MatchOption, OnOk, false, nat_le, ◌<◌};
 ghost use Rattle.otap_cells.specs.declared.ids.IdFault.TheVariants.{PastType};
 ghost use Rattle.otap_cells.specs.declared.profile.Coding.TheVariants.{Delta, Run};
-ghost use Rattle.otap_cells.specs.Ids.{AtMost, Ids, Rise, base_of, fits_after, goes_on, stored_after, takes_null, undone, undone_after, HasPair, Twice, numbers};
+ghost use Rattle.otap_cells.specs.Ids.{AtMost, Ids, Rise, base_of, fits_after, goes_on, takes_null, undone, undone_after, Twice};
+ghost use Rattle.otap_cells.specs.Inside.{stored_after, HasPair, numbers};
 
 use crate::profile::Coding;
 use std::alloc::{AllocError, Global};

@@ -1,7 +1,7 @@
 use Rattle.std.specs.List.Sorted.{IsPermutation, IsSorted}
 use Rattle.std.specs.Ordering.{nat_cmp}
 use Rattle.std.proofs.lemmas.List.Sorted.{IsNonDecreasingBy-from_sort}
-use Rattle.otap_cells.specs.Ids.{numbers}
+use Rattle.otap_cells.specs.Inside.{numbers}
 use Rattle.otap_attrs.proofs.Parentless.{lacks_orphan, orphan_lacks}
 use Rattle.otap_attrs.proofs.orphans.has_orphan.Goals as goal
 

@@ -1,5 +1,6 @@
 use Rattle.std.proofs.Common.{◌≡◌, ◌++◌, take, drop, length}
-use Rattle.otap_cells.specs.Ids.{RiseAfter, stored_after}
+use Rattle.otap_cells.specs.Ids.{RiseAfter}
+use Rattle.otap_cells.specs.Inside.{stored_after}
 use Rattle.otap_cells.proofs.ids.code.Given as goal
 
 abbrev pub invariant-ids : goal.invariant-ids

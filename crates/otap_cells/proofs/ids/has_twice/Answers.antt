@@ -1,6 +1,6 @@
 use Rattle.std.specs.List.Sorted.{IsPermutation, IsSorted}
 use Rattle.std.specs.Ordering.{nat_cmp}
-use Rattle.otap_cells.specs.Ids.{numbers}
+use Rattle.otap_cells.specs.Inside.{numbers}
 use Rattle.otap_cells.proofs.Twice.{pair_twice, no_pair_twice}
 use Rattle.otap_cells.proofs.ids.has_twice.Goals as goal
 

@@ -1,5 +1,5 @@
 use Rattle.std.proofs.Common.{◌≡◌, ◌++◌, drop}
-use Rattle.otap_cells.specs.Ids.{numbers}
+use Rattle.otap_cells.specs.Inside.{numbers}
 use Rattle.otap_cells.proofs.ids.numbers.Given as goal
 
 abbrev pub invariant-ids : goal.invariant-ids

@@ -1,6 +1,7 @@
 use Rattle.std.proofs.Common.{◌≡◌, ◌∙◌, Some, map, drop, refl, ap, arith, length-set}
 use Rattle.otap_cells.specs.declared.profile.Coding.TheVariants.{Run}
-use Rattle.otap_cells.specs.Ids.{base_of, stored_after}
+use Rattle.otap_cells.specs.Ids.{base_of}
+use Rattle.otap_cells.specs.Inside.{stored_after}
 use Rattle.otap_cells.proofs.IdSteps.{run_low, run_rise, run_stored, run_all}
 use Rattle.otap_cells.proofs.IdLaws.{stored_stands}
 use Rattle.otap_cells.proofs.ids.run_ids.Goals as goal

@@ -1,6 +1,7 @@
 use Rattle.std.proofs.Common.{◌≡◌, ◌++◌, take, drop, map, length, Some}
 use Rattle.otap_cells.specs.declared.profile.Coding.TheVariants.{Run}
-use Rattle.otap_cells.specs.Ids.{RiseAfter, stored_after}
+use Rattle.otap_cells.specs.Ids.{RiseAfter}
+use Rattle.otap_cells.specs.Inside.{stored_after}
 use Rattle.otap_cells.proofs.ids.run_ids.Given as goal
 
 abbrev pub invariant-ids : goal.invariant-ids

@@ -1,7 +1,7 @@
 use Rattle.std.specs.List.Sorted.{IsPermutation, IsSorted}
 use Rattle.std.specs.Ordering.{nat_cmp}
 use Rattle.std.proofs.lemmas.List.Sorted.{IsNonDecreasingBy-from_sort}
-use Rattle.otap_cells.specs.Ids.{numbers}
+use Rattle.otap_cells.specs.Inside.{numbers}
 use Rattle.otap_metrics.specs.Whole.{fits_of}
 use Rattle.otap_metrics.proofs.OtherParents.{finds_names, names_finds}
 use Rattle.otap_metrics.proofs.checks.names_other.Goals as goal

@@ -1,0 +1,20 @@
+-- Words of private contracts: the numbers among ids, and those that are stored for them.
+use Rattle.std.specs.Prelude.{◌≡◌, ℕ, ◌+◌, ◌-◌, ◌<◌, Bool, List, [], ◌∷◌, length, slice_index, drop, Option, None, Some}
+use Rattle.otap_cells.specs.declared.profile.Coding.{Coding}
+use Rattle.otap_cells.specs.Ids.{base_of, goes_on}
+
+-- the numbers among ids
+abbrev pub numbers : List (Option ℕ) → List ℕ
+numbers [] = []
+numbers (None ∷ ids) = numbers ids
+numbers (Some id ∷ ids) = id ∷ numbers ids
+
+-- two neighbours among numbers are equal
+abbrev pub HasPair : List ℕ → Type 0
+HasPair ns = (k : ℕ) × (k + 1 < length ns) × (slice_index ns k ≡ slice_index ns (k + 1))
+
+-- the numbers that are stored for ids
+abbrev pub stored_after : Coding → ℕ → List Bool → List (Option ℕ) → List (Option ℕ)
+stored_after how before rows [] = []
+stored_after how before rows (None ∷ ids) = None ∷ stored_after how before (drop 1 rows) ids
+stored_after how before rows (Some id ∷ ids) = Some (id - base_of how (goes_on rows) before) ∷ stored_after how id (drop 1 rows) ids
