@@ -11,7 +11,7 @@ use Rattle.otap_cells.specs.declared.profile.Base.TheVariants as base
 use Rattle.otap_cells.specs.Bases.{holds_bytes}
 use Rattle.otap_cells.specs.Cells.{Cell, null, number, bits, flag, bytes, IsCellOf}
 use Rattle.otap_cells.specs.Columns.{base_at, width_of}
-use Rattle.otap_cells.specs.Tables.{Table, IsTable, cell_in, column_in, columns_in}
+use Rattle.otap_cells.specs.Tables.{Table, IsTable, cell_in, column_in, each_column}
 use Rattle.otap_cells.specs.Weights.{cell_weight, weight_of_row, weight_of_table}
 
 -- what columns weigh
@@ -43,6 +43,10 @@ by_columns n (row ∷ rows) wide =
     let more = one_more row rows (range_with_len 0 n) in
     let cells : sum_by cell_weight row ≡ sum_by cell_weight (map (λ place. get_or row place null) (range_with_len 0 n)) = ap (sum_by cell_weight) here in
     omega (arith, rest, first, more, cells)
+
+-- the columns of a table
+abbrev columns_in : Table → List (List Cell)
+columns_in t = each_column t.kind (column_in t.rows)
 
 -- 32 for each row, and what the columns weigh
 pub weight_by_columns : (t : Table) → IsTable t → weight_of_table t ≡ 32 * length t.rows + column_weights (columns_in t)

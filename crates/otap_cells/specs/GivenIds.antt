@@ -1,9 +1,8 @@
 -- The ids of a table's columns, where the table itself tells which rows continue a run.
-use Rattle.std.specs.Prelude.{◌≡◌, ℕ, true, List, [], Option, None, Some}
+use Rattle.std.specs.Prelude.{◌≡◌, ℕ, true, List, Option}
 use Rattle.std.specs.List.{AllZip}
-use Rattle.otap_cells.specs.declared.payload.Kind.{Kind}
 use Rattle.otap_cells.specs.Columns.{is_id_at}
-use Rattle.otap_cells.specs.Tables.{Table, SameTable, profile_table, coding_in, greatest_in}
+use Rattle.otap_cells.specs.Tables.{Table, SameTable, coding_in, greatest_in}
 use Rattle.otap_cells.specs.Ids.{undone}
 use Rattle.otap_cells.specs.ColumnIds.{IdsOf, stored_in}
 use Rattle.otap_cells.specs.Continuing.{continues_in}
@@ -15,11 +14,6 @@ HasIds t column ids = IdsOf t column (continues_in t) ids
 -- the same as a list; it means nothing where the stored numbers stand for no ids
 unfoldable pub ids_in : Table → ℕ → List (Option ℕ)
 ids_in t column = undone (coding_in t column) (greatest_in t column) (continues_in t) (stored_in t column)
-
--- the table of rows; where there are none, one of this kind without rows
-abbrev pub table_or : {R : Type 0} → (R → Table) → Kind → Option R → Table
-table_or table kind None = profile_table kind []
-table_or table kind (Some rows) = table rows
 
 -- a table reads as another one: the same cells, and the ids that the other one has
 pub record ReadsAs (a b : Table) : Type 0 where

@@ -42,10 +42,6 @@ column_in rows column = map (λ row. slice_index_or row column null) rows
 abbrev pub each_column : {A : Type 0} → Kind → (ℕ → A) → List A
 each_column kind f = map f (range_with_len 0 (width_of kind))
 
--- the columns of a table
-abbrev pub columns_in : Table → List (List Cell)
-columns_in t = each_column t.kind (column_in t.rows)
-
 -- the table that has these cells, given by column and row; its rows, and one of them
 abbrev pub row_by : Kind → (ℕ → ℕ → Cell) → ℕ → List Cell
 row_by kind cell row = map (λ column. cell column row) (range_with_len 0 (width_of kind))
