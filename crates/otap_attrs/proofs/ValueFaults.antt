@@ -1,18 +1,16 @@
 -- What is wrong with the cells of a value, by its type.
-use Rattle.std.proofs.Common.{◌≡◌, ℕ, ◌+◌, ◌<◌, List, Option, Some, None, Result, Ok, Err, refl, sym, ap, subst, ◌∙◌, arith, inl, inr}
+use Rattle.std.proofs.Common.{◌≡◌, ℕ, List, Some, Result, Ok, Err, sym, ap, subst, ◌∙◌, arith, inl, inr}
 use Rattle.std.specs.Prelude.{OnOk}
-use Rattle.otlp_model.specs.declared.value.Value.{Value}
 use Rattle.cbor_values.specs.declared.refusal.CborRefusal.{CborRefusal}
 use Rattle.cbor_values.specs.declared.weighing.Nesting.{Nesting}
 use Rattle.cbor_values.specs.declared.weighing.Nesting.TheVariants as nesting
 use Rattle.cbor_values.specs.declared.weighing.Weighed.{Weighed}
 use Rattle.cbor_values.specs.Refusals.{Stands}
-use Rattle.cbor_values.specs.Values.{value_of}
 use Rattle.cbor_values.specs.Weighing.{IsWeighed, nesting_of}
 use Rattle.otap_cells.specs.Cells.{Cell}
 use Rattle.otap_attrs.specs.declared.refusal.RowRefusal.{RowRefusal}
 use Rattle.otap_attrs.specs.declared.refusal.RowRefusal.TheVariants as row
-use Rattle.otap_attrs.specs.Values.{BadNested, BadValue, IsOther, nested_in, type_in}
+use Rattle.otap_attrs.specs.Values.{BadNested, BadValue, nested_in, type_in}
 
 -- a nested value of the wanted shape
 pub nested_is_fine : (wanted : Nesting) (part : List ℕ) (told : Weighed) → IsWeighed part told → ((refusal : CborRefusal) → Stands refusal part → ⊥)

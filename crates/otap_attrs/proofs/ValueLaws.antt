@@ -1,7 +1,6 @@
 -- Values come back from their cells.
-use Rattle.std.proofs.Common.{◌≡◌, ℕ, ◌<◌, ◌≤◌, pos, true, false, List, [], ◌∷◌, Option, Some, None, refl, sym, ap, subst, ◌∙◌, arith, rules, inl, inr, ◌⊎◌}
-use Rattle.std.specs.Prelude.{ℤ, Bool, IsTrue, All, unwrap_or}
-use Rattle.std.specs.List.{AllByRecursion}
+use Rattle.std.proofs.Common.{◌≡◌, ℕ, ◌≤◌, true, List, [], ◌∷◌, Some, None, refl, sym, ap, subst, ◌∙◌, arith, rules, inl, inr, ◌⊎◌}
+use Rattle.std.specs.Prelude.{ℤ, Bool, IsTrue}
 use Rattle.otlp_model.specs.declared.value.Value.{Value, the_lemmas}
 use Rattle.otlp_model.specs.declared.value.Value as values
 use Rattle.otlp_model.specs.declared.value.Pair.{Pair}
@@ -9,10 +8,8 @@ use Rattle.otlp_model.specs.Depth.{depth_of}
 use Rattle.otlp_model.specs.Limits.{depth_limit}
 use Rattle.otlp_model.specs.Real.{is_real_value}
 use Rattle.otlp_model.proofs.Induction.{holds}
-use Rattle.cbor_values.specs.declared.refusal.CborRefusal.{CborRefusal}
 use Rattle.cbor_values.specs.declared.weighing.Nesting.{Nesting}
 use Rattle.cbor_values.specs.declared.weighing.Nesting.TheVariants as nesting
-use Rattle.cbor_values.specs.Refusals.{Stands}
 use Rattle.cbor_values.specs.Values.{value_of}
 use Rattle.cbor_values.specs.Weighing.{nesting_of}
 use Rattle.cbor_values.specs.Written.{cbor_of}

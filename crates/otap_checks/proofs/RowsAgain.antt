@@ -1,5 +1,5 @@
 -- The rows that are written for a request, and for parts, are those that their tables have.
-use Rattle.std.proofs.Common.{◌≡◌, ℕ, ◌≤◌, ◌^◌, List, length, map, drop, ◌∙◌}
+use Rattle.std.proofs.Common.{◌≡◌, ◌≤◌, ◌^◌, List, length, map, drop, ◌∙◌}
 use Rattle.std.specs.List.{flat_map}
 use Rattle.otlp_model.specs.declared.groups.ResourceGroup.{ResourceGroup}
 use Rattle.otap_cells.specs.declared.payload.Kind.{Kind}

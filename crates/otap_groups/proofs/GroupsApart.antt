@@ -1,8 +1,8 @@
 -- The groups of a request in its rows: each has rows, and rows of one group have the same cells.
-use Rattle.std.proofs.Common.{◌≡◌, ℕ, zero, suc, ◌+◌, ◌-◌, ◌≤◌, ◌<◌, Bool, true, List, [], ◌∷◌, ◌++◌, Option, Some, length, map, refl, sym, ◌∙◌, ap, subst, arith, inl, inr, eq-eqb, ne_eqb, length-append}
+use Rattle.std.proofs.Common.{◌≡◌, ℕ, zero, suc, ◌+◌, ◌-◌, ◌<◌, Bool, true, List, [], ◌∷◌, ◌++◌, Option, Some, length, map, refl, sym, ◌∙◌, ap, subst, arith, inl, inr, length-append}
 use Rattle.std.specs.Prelude.{Contains, filter, nat_lt}
 use Rattle.std.proofs.lemmas.Bool.Decides.{nat_tests}
-use Rattle.std.proofs.lemmas.Bool.{cases_eq, cases_lt, false≢true}
+use Rattle.std.proofs.lemmas.Bool.{cases_lt, false≢true}
 use Rattle.std.proofs.lemmas.List.{length-map, map-append}
 use Rattle.std.proofs.lemmas.List.Elements.{Contains-append_left, Contains-append_right}
 use Rattle.otlp_model.specs.declared.groups.Resource.{Resource}
@@ -19,7 +19,7 @@ use Rattle.otap_groups.proofs.CellTests.{cells_are_themselves}
 use Rattle.otap_groups.proofs.FlatItems.{scopes_step}
 use Rattle.otap_groups.proofs.Grouping.{none_kept, scopes_past_kept, some_kept}
 use Rattle.otap_groups.proofs.RunBlocks.{Every, every_append}
-use Rattle.otap_groups.proofs.RunningIds.{item_ids, later, running_once, running_there}
+use Rattle.otap_groups.proofs.RunningIds.{item_ids, running_once, running_there}
 
 -- ---- elements and their places
 

@@ -1,8 +1,7 @@
 -- Tables of parts: their ids and parents, and that they are tables of the profile.
-use Rattle.std.proofs.Common.{◌≡◌, ℕ, zero, suc, ◌+◌, ◌-◌, ◌≤◌, ◌<◌, ◌^◌, true, List, [], ◌∷◌, Option, None, Some, length, map, drop, refl, sym, ◌∙◌, ap, subst, arith}
+use Rattle.std.proofs.Common.{◌≡◌, ℕ, zero, suc, ◌-◌, ◌≤◌, ◌<◌, ◌^◌, true, List, [], ◌∷◌, Option, None, Some, length, map, sym, subst, arith}
 use Rattle.std.specs.Prelude.{All, Bool, Contains}
 use Rattle.std.specs.List.{flat_map}
-use Rattle.std.proofs.lemmas.List.{length-map}
 use Rattle.std.proofs.lemmas.List.Elements.{All-nil, All-cons}
 use Rattle.otap_cells.specs.declared.payload.Kind.{Kind}
 use Rattle.otap_cells.specs.declared.profile.Base.TheVariants as base
@@ -19,7 +18,7 @@ use Rattle.otap_groups.specs.Flat.{PlacedIn, part_rows, placed}
 use Rattle.otap_groups.specs.Kinds.{IsPart}
 use Rattle.otap_groups.specs.ProfileTables.{IsProfileTable}
 use Rattle.otap_groups.specs.Rows.{ChildRow}
-use Rattle.otap_groups.specs.Stored.{id_cell, part_table, stored_part, stored_parts}
+use Rattle.otap_groups.specs.Stored.{part_table, stored_part, stored_parts}
 use Rattle.otap_groups.proofs.Bounds.{BoundedParts, bounded_placed, size_of_placed}
 use Rattle.otap_groups.proofs.FlatItems.{parts_of_placed}
 use Rattle.otap_groups.proofs.ProfileRows.{is_profile_table}

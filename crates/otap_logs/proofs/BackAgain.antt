@@ -22,7 +22,6 @@ use Rattle.otap_cells.specs.Tables.{Table}
 use Rattle.otap_groups.specs.Children.{Agree, Reads, numbered}
 use Rattle.otap_groups.specs.Flat.{flat, items_of, numbered_rows, resources_of, scopes_of}
 use Rattle.otap_groups.specs.Groups.{regrouped}
-use Rattle.otap_groups.specs.Stored.{main_table}
 use Rattle.otap_groups.proofs.GroupsTold.{groups_told}
 use Rattle.otap_groups.proofs.Grouping.{groups_back}
 use Rattle.otap_groups.proofs.WritableGroups.{all_items_can, all_resources_can, all_scopes_can, few_items, few_resources, few_scopes}

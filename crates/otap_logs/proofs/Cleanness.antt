@@ -1,5 +1,5 @@
 -- What the checks of logs tell together.
-use Rattle.std.proofs.Common.{◌≡◌, ℕ, length, List, [], Option, refl, sym, inl, inr, subst, arith}
+use Rattle.std.proofs.Common.{◌≡◌, List, [], refl, sym, inl, inr, subst, arith}
 use Rattle.otlp_model.specs.declared.request.Signal.TheVariants as signal
 use Rattle.otap_cells.specs.declared.payload.Kind.{Kind}
 use Rattle.otap_cells.specs.declared.payload.Kind.TheVariants as table

@@ -1,5 +1,5 @@
 -- The request that the tables of a request make weighs no more than the request.
-use Rattle.std.proofs.Common.{◌≡◌, ℕ, ◌≤◌, ◌^◌, true, List, [], Option, length, map, drop, refl, sym, ◌∙◌, ap, subst, arith}
+use Rattle.std.proofs.Common.{◌≡◌, ◌≤◌, List, refl, sym, ◌∙◌, ap, arith}
 use Rattle.otlp_model.specs.Limits.{weight_limit}
 use Rattle.otlp_model.specs.Profile.{IsProfile}
 use Rattle.otlp_model.specs.Real.{IsReal}

@@ -1,11 +1,9 @@
 -- The columns of the tables of logs.
-use Rattle.std.proofs.Common.{◌≡◌, ℕ, true, List, refl, sym, subst, arith}
+use Rattle.std.proofs.Common.{◌≡◌, ℕ, true, refl, arith}
 use Rattle.otap_cells.specs.declared.payload.Kind.TheVariants as table
-use Rattle.otap_cells.specs.declared.payload.Kind.{Kind}
-use Rattle.otap_cells.specs.Columns.{ColumnSpec, attrs, columns_of, is_id_at, logs}
+use Rattle.otap_cells.specs.Columns.{attrs, is_id_at, logs}
 use Rattle.otap_groups.specs.Kinds.{IsMain}
-use Rattle.otap_groups.proofs.IdColumns.{each_id, id_places}
-use Rattle.otap_groups.proofs.RunBlocks.{Every}
+use Rattle.otap_groups.proofs.IdColumns.{each_id}
 use Rattle.otap_attrs.specs.Values.{HasValueAt}
 
 pub logs_are_main : IsMain table.Logs

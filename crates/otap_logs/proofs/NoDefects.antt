@@ -1,6 +1,5 @@
 -- Nothing is wrong with the rows of the tables of a request.
-use Rattle.std.proofs.Common.{◌≡◌, ℕ, zero, suc, ◌<◌, ◌≤◌, ◌^◌, true, List, get_or, length, map, Option, Some, refl, sym, ap, subst, arith}
-use Rattle.std.specs.Prelude.{Contains}
+use Rattle.std.proofs.Common.{◌≡◌, ℕ, zero, suc, ◌<◌, ◌≤◌, ◌^◌, List, get_or, length, map, Some, refl, sym, ap, subst, arith}
 use Rattle.std.proofs.lemmas.List.{length-map}
 use Rattle.otlp_model.specs.Limits.{weight_limit}
 use Rattle.otlp_model.specs.Profile.{IsProfile}
@@ -12,11 +11,9 @@ use Rattle.otlp_model.specs.declared.groups.ResourceGroup.{ResourceGroup}
 use Rattle.otlp_model.specs.declared.logs.LogRecord.{LogRecord}
 use Rattle.otlp_model.specs.declared.request.Request.TheVariants.{Logs}
 use Rattle.otlp_model.specs.declared.request.Signal.TheVariants as signal
-use Rattle.otlp_model.specs.declared.value.Pair.{Pair}
 use Rattle.otap_cells.specs.declared.payload.Kind.{Kind}
 use Rattle.otap_cells.specs.declared.payload.Kind.TheVariants as table
-use Rattle.otap_cells.specs.Columns.{attrs, columns_of, logs}
-use Rattle.otap_cells.specs.Continuing.{has_attributes}
+use Rattle.otap_cells.specs.Columns.{logs}
 use Rattle.otap_cells.specs.GivenIds.{HasIds}
 use Rattle.otap_cells.specs.Named.{table_named}
 use Rattle.otap_cells.specs.Tables.{Table}
@@ -29,7 +26,6 @@ use Rattle.otap_groups.proofs.StoredRows.{own_ids_of, resource_ids_of, scope_ids
 use Rattle.otap_attrs.specs.declared.refusal.RowRefusal.{RowRefusal}
 use Rattle.otap_attrs.specs.Tables.{attribute_table}
 use Rattle.otap_checks.specs.declared.links.Link.{Link}
-use Rattle.otap_attrs.specs.Defects.{OrphanIn}
 use Rattle.otap_checks.specs.IdDefects.{IdDefect, WrongIn}
 use Rattle.otap_checks.specs.Given.{AreGiven, IsGiven}
 use Rattle.otap_checks.specs.Links.{attributes, items, links_of}

@@ -1,5 +1,5 @@
 -- The cells of records fit their columns.
-use Rattle.std.proofs.Common.{List, drop, refl, take}
+use Rattle.std.proofs.Common.{drop, refl, take}
 use Rattle.otlp_model.specs.Profile.{IsProfileLogRecord}
 use Rattle.otlp_model.specs.Real.{IsRealLogRecord}
 use Rattle.otlp_model.specs.declared.logs.LogRecord.{LogRecord}
