@@ -10,7 +10,8 @@ use Rattle.cbor_values.specs.Weighing.{IsWeighed, nesting_of}
 use Rattle.otap_cells.specs.Cells.{Cell}
 use Rattle.otap_attrs.specs.declared.refusal.RowRefusal.{RowRefusal}
 use Rattle.otap_attrs.specs.declared.refusal.RowRefusal.TheVariants as row
-use Rattle.otap_attrs.specs.Values.{BadNested, BadValue, nested_in, type_in}
+use Rattle.otap_attrs.specs.Values.{BadValue, nested_in, type_in}
+use Rattle.otap_attrs.specs.Inside.{BadNested}
 
 -- a nested value of the wanted shape
 pub nested_is_fine : (wanted : Nesting) (part : List ℕ) (told : Weighed) → IsWeighed part told → ((refusal : CborRefusal) → Stands refusal part → ⊥)

@@ -21,7 +21,8 @@ use Rattle.otap_cells.specs.Scalars.{text_cell, int_cell, bits_cell, flag_cell}
 use Rattle.otap_cells.proofs.ScalarLaws.{text_back, int_back, bits_back, flag_back}
 use Rattle.otap_attrs.specs.declared.refusal.RowRefusal.{RowRefusal}
 use Rattle.otap_attrs.specs.declared.refusal.RowRefusal.TheVariants as row
-use Rattle.otap_attrs.specs.Values.{BadNested, BadValue, type_in, value_cells, value_in, value_row}
+use Rattle.otap_attrs.specs.Values.{BadValue, type_in, value_cells, value_in, value_row}
+use Rattle.otap_attrs.specs.Inside.{BadNested}
 use Rattle.otap_attrs.proofs.ValueCells.{cells_of_array, cells_of_bool, cells_of_bytes, cells_of_double, cells_of_empty, cells_of_int, cells_of_map, cells_of_str}
 use Rattle.otap_attrs.proofs.ValueFaults.{array_is_fine, map_is_fine}
 

@@ -93,6 +93,15 @@ cells_step (Value-F.Bytes octets) = value_row 7 null null null null (text_cell o
 unfoldable pub value_cells : Value → List Cell
 value_cells value = cells_step (out-Value value)
 
+-- the bytes that are written for a nested value
+abbrev pub nested_step : Value-F Value Pair → List ℕ
+nested_step (Value-F.Map pairs) = cbor_of (values.Map pairs)
+nested_step (Value-F.Array members) = cbor_of (values.Array members)
+nested_step _ = []
+
+abbrev pub nested_of : Value → List ℕ
+nested_of value = nested_step (out-Value value)
+
 -- cells that columns of these bases may hold
 abbrev pub AreCellsOf : List Base → List Cell → Type 0
 AreCellsOf [] [] = Unit {0}
@@ -111,20 +120,3 @@ pair_cells pair = text_cell pair.key ∷ value_cells pair.value
 -- the row of a pair whose parent isn't coded yet
 abbrev pub pair_row : ℕ → Pair → List Cell
 pair_row parent pair = number (pos parent) ∷ pair_cells pair
-
--- ---- the words of private contracts
-
--- the bytes that are written for a nested value
-abbrev pub nested_step : Value-F Value Pair → List ℕ
-nested_step (Value-F.Map pairs) = cbor_of (values.Map pairs)
-nested_step (Value-F.Array members) = cbor_of (values.Array members)
-nested_step _ = []
-
-abbrev pub nested_of : Value → List ℕ
-nested_of value = nested_step (out-Value value)
-
--- what is wrong with bytes that are to be a value of this shape
-abbrev pub BadNested : Nesting → List ℕ → RowRefusal → Type 0
-BadNested wanted part row.BadValueType = IsOther wanted part
-BadNested wanted part (row.BadCbor refusal) = Stands refusal part
-BadNested wanted part _ = ⊥

@@ -9,7 +9,8 @@ ghost use Rattle.std.specs.Int.{FitsUnsignedBits};
 ghost use Rattle.otap_cells.specs.declared.profile.Base.TheVariants as base;
 ghost use Rattle.otap_cells.specs.Cells.{number, seen, IsCellOf};
 ghost use Rattle.otap_attrs.specs.declared.refusal.RowRefusal.{RowRefusal};
-ghost use Rattle.otap_attrs.specs.Values.{AreCellsOf, BadNested, BadValue, HasValueAt, nested_of, value_bases, value_cells, value_in};
+ghost use Rattle.otap_attrs.specs.Values.{AreCellsOf, BadValue, HasValueAt, nested_of, value_bases, value_cells, value_in};
+ghost use Rattle.otap_attrs.specs.Inside.{BadNested};
 
 use crate::refusal::RowRefusal;
 use cbor_values::{CborRefusal, Nesting, read_value, weigh_value, write_value};

@@ -28,7 +28,8 @@ use Rattle.otap_groups.specs.Rows.{MainRow, main_rows}
 use Rattle.otap_groups.specs.Disagree.{DifferBy}
 use Rattle.otap_attrs.specs.declared.refusal.RowRefusal.{RowRefusal}
 use Rattle.otap_attrs.specs.declared.refusal.RowRefusal.TheVariants as why
-use Rattle.otap_attrs.specs.Values.{BadNested, BadValue, type_in, nested_in}
+use Rattle.otap_attrs.specs.Values.{BadValue, type_in, nested_in}
+use Rattle.otap_attrs.specs.Inside.{BadNested}
 use Rattle.otap_attrs.proofs.ValueFaults.{nested_is_fine, map_is_fine, array_is_fine}
 use Rattle.otap_checks.specs.declared.links.Link.{Link}
 use Rattle.otap_checks.specs.declared.links.Parents.{Parents}
