@@ -31,12 +31,14 @@ use Rattle.otap_attrs.proofs.FilledTables.{added, added_all, filled}
 use Rattle.otap_attrs.proofs.FoundLists.{map_over}
 use Rattle.otap_metrics.specs.Metrics.{hist_points_of, summary_points_of}
 use Rattle.otap_metrics.specs.Points.{exemplar_cells}
-use Rattle.otap_metrics.specs.Tables.{CanWriteExemplar, hist_lists, summary_lists}
+use Rattle.otap_metrics.specs.Tables.{hist_lists, summary_lists}
+use Rattle.otap_metrics.specs.Writable.{CanWriteExemplar}
 use Rattle.otap_metrics.proofs.WrittenParts.{all_joined, attribute_table_is, part_table_is}
 use Rattle.otap_metrics.proofs.WrittenWeight.{IsLightResource, IsLightScope}
 use Rattle.otap_hist.specs.Inside as inside
 use Rattle.otap_hist.specs.Points.{hist_point_cells, sum_point_cells}
-use Rattle.otap_hist.specs.Tables.{CanWriteHistPoint, CanWriteMetric, CanWriteSumPoint, all_hist_exemplars, all_hist_points, all_summary_points, hist_exemplar_lists, hist_exemplar_pairs, hist_pairs, hist_tables, summary_pairs}
+use Rattle.otap_hist.specs.Tables.{all_hist_exemplars, all_hist_points, all_summary_points, hist_exemplar_lists, hist_exemplar_pairs, hist_pairs, hist_tables, summary_pairs}
+use Rattle.otap_hist.specs.Writable.{CanWriteHistPoint, CanWriteMetric, CanWriteSumPoint}
 use Rattle.otap_hist.proofs.LightHists.{CanWrite, few_hist_exemplars, few_hist_points, few_summary_points}
 
 -- ---- the lists, as they are found

@@ -18,10 +18,11 @@ use Rattle.otap_groups.specs.Flat.{items_of}
 use Rattle.otap_groups.specs.Weighing.{CanWriteGroup}
 use Rattle.otap_groups.proofs.WritableGroups.{groups_can}
 use Rattle.otap_metrics.specs.Metrics.{hist_points_of, summary_points_of}
-use Rattle.otap_metrics.specs.Tables.{CanWriteExemplar}
+use Rattle.otap_metrics.specs.Writable.{CanWriteExemplar}
 use Rattle.otap_metrics.proofs.LightParts.{few_parts, items_light, parts_light}
 use Rattle.otap_metrics.proofs.WrittenWeight.{IsLightResource, IsLightScope}
-use Rattle.otap_hist.specs.Tables.{CanWriteHistPoint, CanWriteMetric, CanWriteSumPoint, all_hist_exemplars, all_hist_points, all_summary_points}
+use Rattle.otap_hist.specs.Tables.{all_hist_exemplars, all_hist_points, all_summary_points}
+use Rattle.otap_hist.specs.Writable.{CanWriteHistPoint, CanWriteMetric, CanWriteSumPoint}
 
 -- ---- how many there are
 

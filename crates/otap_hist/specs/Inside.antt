@@ -1,6 +1,6 @@
 -- Words of private contracts: the rows of points of histograms and summaries with all that is below them; and what the checks of these
 -- rows tell.
-use Rattle.std.specs.Prelude.{ℕ, ◌+◌, sum_by, All, Contains, List}
+use Rattle.std.specs.Prelude.{ℕ, ◌+◌, sum_by, Contains, List}
 use Rattle.otlp_model.specs.declared.groups.ScopeGroup.{ScopeGroup}
 use Rattle.otlp_model.specs.declared.groups.ResourceGroup.{ResourceGroup}
 use Rattle.otlp_model.specs.declared.histograms.HistPoint.{HistPoint}
@@ -25,7 +25,6 @@ use Rattle.otap_metrics.specs.Metrics.{hist_points_of, summary_points_of}
 use Rattle.otap_metrics.specs.Requests.{HasTwoValues, WrongParent, has_hist_points, has_summary_points}
 use Rattle.otap_hist.specs.Points.{hist_point_cells, sum_point_cells}
 use Rattle.otap_hist.specs.Requests.{HasUnevenLists, WrongHistIds}
-use Rattle.otap_hist.specs.Tables.{CanWriteMetric}
 
 abbrev pub hist_point_weight : HistPoint → ℕ
 hist_point_weight point = 32 + cells_weight (hist_point_cells point) + (parts_weight pair_cells point.pairs + sum_by exemplar_weight point.exemplars)
@@ -44,13 +43,6 @@ scope_weight group = sum_by metric_weight group.items
 
 abbrev pub group_weight : ResourceGroup Metric → ℕ
 group_weight group = sum_by scope_weight group.scopes
-
--- each metric of a group can be written
-pub record CanWriteScope (group : ScopeGroup Metric) : Type 0 where
-  pub items : All CanWriteMetric group.items
-
-pub record CanWriteGroup (group : ResourceGroup Metric) : Type 0 where
-  pub scopes : All CanWriteScope group.scopes
 
 -- nothing is wrong with the cells of the points of histograms and summaries, and of what is below them
 pub record AreFine (tables : List Table) : Type 0 where

@@ -3,3 +3,4 @@ pub mod Lists
 pub mod Points
 pub mod Requests
 pub mod Tables
+pub mod Writable

@@ -1,8 +1,6 @@
 -- The tables of the points of histograms and summaries, alone and among all tables of a request of metrics.
-use Rattle.std.specs.Prelude.{◌≡◌, ◌≤◌, ◌∷◌, [], List, All, map, nat_lt, if◌then◌else◌}
+use Rattle.std.specs.Prelude.{◌≡◌, ◌∷◌, [], List, map, nat_lt, if◌then◌else◌}
 use Rattle.std.specs.List.{flat_map}
-use Rattle.otlp_model.specs.Limits.{weight_limit}
-use Rattle.otlp_model.specs.Weight.{total, weight_of_pair}
 use Rattle.otlp_model.specs.declared.groups.ResourceGroup.{ResourceGroup}
 use Rattle.otlp_model.specs.declared.histograms.HistPoint.{HistPoint}
 use Rattle.otlp_model.specs.declared.histograms.SumPoint.{SumPoint}
@@ -16,9 +14,9 @@ use Rattle.otap_cells.specs.Payload.{number_of}
 use Rattle.otap_cells.specs.Tables.{Table}
 use Rattle.otap_groups.specs.Stored.{main_table, part_table}
 use Rattle.otap_attrs.specs.Tables.{attribute_table, where_rows}
-use Rattle.otap_metrics.specs.Metrics.{hist_points_of, metric_cells, summary_points_of}
+use Rattle.otap_metrics.specs.Metrics.{metric_cells}
 use Rattle.otap_metrics.specs.Points.{exemplar_cells, point_cells}
-use Rattle.otap_metrics.specs.Tables.{CanWriteExemplar, exemplar_lists, exemplar_pairs, hist_lists, point_lists, point_pairs, resource_pairs, scope_pairs, summary_lists}
+use Rattle.otap_metrics.specs.Tables.{exemplar_lists, exemplar_pairs, hist_lists, point_lists, point_pairs, resource_pairs, scope_pairs, summary_lists}
 use Rattle.otap_hist.specs.Points.{hist_point_cells, sum_point_cells}
 
 -- all points of histograms, and of summaries
@@ -95,15 +93,3 @@ pub record HoldHists (groups : List (ResourceGroup Metric)) (tables : List Table
   pub of_hist_points : table_named table.HistPointAttrs tables ≡ attribute_table table.HistPointAttrs (hist_pairs groups)
   pub exemplars : table_named table.HistExemplars tables ≡ part_table table.HistExemplars exemplar_cells (hist_exemplar_lists groups)
   pub of_exemplars : table_named table.HistExemplarAttrs tables ≡ attribute_table table.HistExemplarAttrs (hist_exemplar_pairs groups)
-
--- what can be written: the attributes of each weigh no more than the limit, and the exemplars can be written
-pub record CanWriteHistPoint (point : HistPoint) : Type 0 where
-  pub pairs : total 32 weight_of_pair point.pairs ≤ weight_limit
-  pub exemplars : All CanWriteExemplar point.exemplars
-
-pub record CanWriteSumPoint (point : SumPoint) : Type 0 where
-  pub pairs : total 32 weight_of_pair point.pairs ≤ weight_limit
-
-pub record CanWriteMetric (metric : Metric) : Type 0 where
-  pub hist_points : All CanWriteHistPoint (hist_points_of metric.shape)
-  pub summary_points : All CanWriteSumPoint (summary_points_of metric.shape)

@@ -7,9 +7,9 @@ ghost use Rattle.otap_groups.specs.Stored.{id_cell};
 ghost use Rattle.otap_groups.specs.Weighing.{cells_weight};
 ghost use Rattle.otap_metrics.specs.Metrics.{hist_points_of, summary_points_of};
 ghost use Rattle.otap_metrics.specs.Points.{exemplar_cells};
-ghost use Rattle.otap_metrics.specs.Tables.{CanWriteExemplar};
+ghost use Rattle.otap_metrics.specs.Writable.{CanWriteExemplar};
 ghost use Rattle.otap_hist.specs.Points.{hist_point_cells, optional_cell, sum_point_cells};
-ghost use Rattle.otap_hist.specs.Tables.{CanWriteHistPoint, CanWriteSumPoint};
+ghost use Rattle.otap_hist.specs.Writable.{CanWriteHistPoint, CanWriteSumPoint};
 
 use crate::numbers::{bytes_of, list_cell, quantile_bytes, value_bytes};
 use otap_cells::{CellView, Kind, LogicalTable, bits_cell, number_cell, octets_cell};

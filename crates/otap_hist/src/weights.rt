@@ -6,9 +6,10 @@ ghost use Rattle.otlp_model.specs.Weight.{weight_of};
 ghost use Rattle.otlp_model.specs.declared.request.Request.TheVariants.{Metrics};
 ghost use Rattle.otap_cells.specs.Weights.{weight_of_tables};
 ghost use Rattle.otap_metrics.specs.Inside.{exemplar_weight};
-ghost use Rattle.otap_metrics.specs.Tables.{CanWriteExemplar};
-ghost use Rattle.otap_hist.specs.Inside.{CanWriteGroup, CanWriteScope, group_weight, hist_point_weight, metric_weight, scope_weight, summary_point_weight};
-ghost use Rattle.otap_hist.specs.Tables.{CanWriteHistPoint, CanWriteMetric, CanWriteSumPoint, hist_tables};
+ghost use Rattle.otap_metrics.specs.Writable.{CanWriteExemplar};
+ghost use Rattle.otap_hist.specs.Inside.{group_weight, hist_point_weight, metric_weight, scope_weight, summary_point_weight};
+ghost use Rattle.otap_hist.specs.Writable.{CanWriteGroup, CanWriteScope, CanWriteHistPoint, CanWriteMetric, CanWriteSumPoint};
+ghost use Rattle.otap_hist.specs.Tables.{hist_tables};
 
 use crate::points::{
     ExemplarWriter, hist_cells_weight, hist_points_of, summary_cells_weight, summary_points_of,

@@ -23,7 +23,8 @@ use Rattle.otap_groups.proofs.WritableGroups.{all_items_can, all_resources_can, 
 use Rattle.otap_attrs.specs.Tables.{attribute_table, where_rows}
 use Rattle.otap_attrs.proofs.FoundLists.{found_all}
 use Rattle.otap_logs.specs.Records.{record_cells}
-use Rattle.otap_logs.specs.Tables.{CanWriteRecord, tables_of_logs}
+use Rattle.otap_logs.specs.Tables.{tables_of_logs}
+use Rattle.otap_logs.specs.Writable.{CanWriteRecord}
 use Rattle.otap_logs.proofs.WrittenWeight.{CanWrite, IsLightResource, IsLightScope}
 
 -- ---- what is found through references

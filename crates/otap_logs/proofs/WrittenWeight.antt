@@ -26,7 +26,8 @@ use Rattle.otap_attrs.specs.Values.{pair_cells}
 use Rattle.otap_attrs.proofs.AttributesWeighed.{table_weighs}
 use Rattle.otap_attrs.proofs.MadeSums.{sum_of_map}
 use Rattle.otap_logs.specs.Records.{record_cells}
-use Rattle.otap_logs.specs.Tables.{CanWriteRecord, tables_of_logs}
+use Rattle.otap_logs.specs.Tables.{tables_of_logs}
+use Rattle.otap_logs.specs.Writable.{CanWriteRecord}
 
 -- ---- what can be written
 

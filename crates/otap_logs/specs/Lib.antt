@@ -2,3 +2,4 @@ pub mod Inside
 pub mod Records
 pub mod Requests
 pub mod Tables
+pub mod Writable

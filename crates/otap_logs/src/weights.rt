@@ -8,7 +8,8 @@ ghost use Rattle.otap_cells.specs.Weights.{weight_of_tables};
 ghost use Rattle.otap_groups.specs.Weighing.{cells_weight, parts_weight};
 ghost use Rattle.otap_attrs.specs.Values.{pair_cells};
 ghost use Rattle.otap_logs.specs.Records.{record_cells};
-ghost use Rattle.otap_logs.specs.Tables.{CanWriteRecord, tables_of_logs};
+ghost use Rattle.otap_logs.specs.Tables.{tables_of_logs};
+ghost use Rattle.otap_logs.specs.Writable.{CanWriteRecord};
 
 use crate::writing::record_weight;
 use otap_attrs::attributes_weight;

@@ -8,7 +8,8 @@ ghost use Rattle.otap_cells.specs.declared.payload.Kind.TheVariants as table;
 ghost use Rattle.otap_cells.specs.Sets.{IsSet, tables_in};
 ghost use Rattle.otap_groups.specs.Weighing.{cells_weight};
 ghost use Rattle.otap_logs.specs.Records.{record_cells};
-ghost use Rattle.otap_logs.specs.Tables.{CanWriteRecord, tables_of_logs};
+ghost use Rattle.otap_logs.specs.Tables.{tables_of_logs};
+ghost use Rattle.otap_logs.specs.Writable.{CanWriteRecord};
 
 use otap_attrs::{nested_bytes, push_filled, value_cells, value_cells_weight, write_attributes};
 use otap_cells::{

@@ -15,7 +15,8 @@ use Rattle.otlp_model.specs.declared.metrics.Shape.{Shape}
 use Rattle.otlp_model.specs.declared.metrics.Shape.TheVariants as shapes
 use Rattle.otap_groups.specs.Flat.{items_of}
 use Rattle.otap_metrics.specs.Metrics.{points_of}
-use Rattle.otap_metrics.specs.Tables.{CanWriteExemplar, CanWriteMetric, CanWritePoint, all_exemplars, all_points}
+use Rattle.otap_metrics.specs.Tables.{all_exemplars, all_points}
+use Rattle.otap_metrics.specs.Writable.{CanWriteExemplar, CanWriteMetric, CanWritePoint}
 
 -- ---- any parts
 

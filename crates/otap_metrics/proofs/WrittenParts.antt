@@ -30,7 +30,8 @@ use Rattle.otap_attrs.specs.Tables.{attribute_table, beside_kind, where_rows}
 use Rattle.otap_attrs.proofs.FilledTables.{added, added_all, filled, filled_set, filled_tables}
 use Rattle.otap_metrics.specs.Metrics.{metric_cells, points_of}
 use Rattle.otap_metrics.specs.Points.{exemplar_cells, point_cells}
-use Rattle.otap_metrics.specs.Tables.{CanWriteExemplar, CanWriteMetric, CanWritePoint, all_exemplars, all_points, exemplar_lists, exemplar_pairs, point_lists, point_pairs, resource_pairs, scope_pairs, tables_below, tables_of_metrics}
+use Rattle.otap_metrics.specs.Tables.{all_exemplars, all_points, exemplar_lists, exemplar_pairs, point_lists, point_pairs, resource_pairs, scope_pairs, tables_below, tables_of_metrics}
+use Rattle.otap_metrics.specs.Writable.{CanWriteExemplar, CanWriteMetric, CanWritePoint}
 use Rattle.otap_metrics.proofs.LightParts.{few_exemplars, few_points}
 use Rattle.otap_metrics.proofs.WrittenWeight.{CanWrite, IsLightResource, IsLightScope}
 

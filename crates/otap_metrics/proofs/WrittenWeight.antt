@@ -29,7 +29,8 @@ use Rattle.otap_attrs.proofs.FilledTables.{filled_weigh}
 use Rattle.otap_metrics.specs.Inside.{exemplar_weight, metric_weight, point_weight}
 use Rattle.otap_metrics.specs.Metrics.{metric_cells, points_of}
 use Rattle.otap_metrics.specs.Points.{exemplar_cells, point_cells}
-use Rattle.otap_metrics.specs.Tables.{CanWriteMetric, all_exemplars, all_points, exemplar_lists, exemplar_pairs, point_lists, point_pairs, resource_pairs, scope_pairs, tables_below, tables_of_metrics}
+use Rattle.otap_metrics.specs.Tables.{all_exemplars, all_points, exemplar_lists, exemplar_pairs, point_lists, point_pairs, resource_pairs, scope_pairs, tables_below, tables_of_metrics}
+use Rattle.otap_metrics.specs.Writable.{CanWriteMetric}
 use Rattle.otap_metrics.proofs.LightParts.{metric_can}
 
 -- ---- what can be written

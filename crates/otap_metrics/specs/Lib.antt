@@ -5,3 +5,4 @@ pub mod Points
 pub mod Requests
 pub mod Tables
 pub mod Whole
+pub mod Writable

@@ -1,9 +1,6 @@
 -- The tables of a request of metrics, but for the points of its histograms and summaries.
-use Rattle.std.specs.Prelude.{◌≡◌, ◌≤◌, ◌∷◌, [], List, All, map}
+use Rattle.std.specs.Prelude.{◌≡◌, ◌∷◌, [], List, map}
 use Rattle.std.specs.List.{flat_map}
-use Rattle.otlp_model.specs.Limits.{weight_limit}
-use Rattle.otlp_model.specs.Profile.{IsTraceId, IsSpanId}
-use Rattle.otlp_model.specs.Weight.{total, weight_of_pair}
 use Rattle.otlp_model.specs.declared.groups.ResourceGroup.{ResourceGroup}
 use Rattle.otlp_model.specs.declared.histograms.HistPoint.{HistPoint}
 use Rattle.otlp_model.specs.declared.histograms.SumPoint.{SumPoint}
@@ -68,19 +65,6 @@ tables_below groups =
 -- THE TABLES of a request: its metrics, and what is below them where there are rows
 unfoldable pub tables_of_metrics : List (ResourceGroup Metric) → List Table
 tables_of_metrics groups = main_table table.Metrics metric_cells groups ∷ flat_map where_rows (tables_below groups)
-
--- what can be written: ids have their lengths, and the attributes of each weigh no more than the limit
-pub record CanWriteExemplar (exemplar : Exemplar) : Type 0 where
-  pub trace_id : IsTraceId exemplar.trace_id
-  pub span_id : IsSpanId exemplar.span_id
-  pub pairs : total 32 weight_of_pair exemplar.pairs ≤ weight_limit
-
-pub record CanWritePoint (point : Point) : Type 0 where
-  pub pairs : total 32 weight_of_pair point.pairs ≤ weight_limit
-  pub exemplars : All CanWriteExemplar point.exemplars
-
-abbrev pub CanWriteMetric : Metric → Type 0
-CanWriteMetric metric = All CanWritePoint (points_of metric.shape)
 
 -- AMONG THESE TABLES stand those of a request; one that has no rows may be missing
 pub record HoldMetrics (groups : List (ResourceGroup Metric)) (tables : List Table) : Type 0 where

@@ -8,7 +8,8 @@ ghost use Rattle.otap_cells.specs.Weights.{weight_of_tables};
 ghost use Rattle.otap_groups.specs.Weighing.{cells_weight, parts_weight};
 ghost use Rattle.otap_attrs.specs.Values.{pair_cells};
 ghost use Rattle.otap_metrics.specs.Inside.{exemplar_weight, metric_weight, point_weight};
-ghost use Rattle.otap_metrics.specs.Tables.{CanWriteExemplar, CanWriteMetric, CanWritePoint, tables_of_metrics};
+ghost use Rattle.otap_metrics.specs.Tables.{tables_of_metrics};
+ghost use Rattle.otap_metrics.specs.Writable.{CanWriteExemplar, CanWriteMetric, CanWritePoint};
 
 use crate::writing::{ExemplarWriter, MetricWriter, PointWriter, points_of};
 use otap_attrs::attributes_weight;

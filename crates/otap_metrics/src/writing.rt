@@ -9,7 +9,8 @@ ghost use Rattle.otap_cells.specs.Sets.{IsSet, tables_in};
 ghost use Rattle.otap_groups.specs.Weighing.{cells_weight};
 ghost use Rattle.otap_metrics.specs.Metrics.{is_monotonic, metric_cells, points_of, temporality_of, type_of};
 ghost use Rattle.otap_metrics.specs.Points.{exemplar_cells, point_cells};
-ghost use Rattle.otap_metrics.specs.Tables.{CanWriteExemplar, CanWriteMetric, CanWritePoint, tables_of_metrics};
+ghost use Rattle.otap_metrics.specs.Tables.{tables_of_metrics};
+ghost use Rattle.otap_metrics.specs.Writable.{CanWriteExemplar, CanWriteMetric, CanWritePoint};
 
 use crate::numbers::{double_value, id_cell, int_value};
 use otap_attrs::{add_attributes, add_parts, add_resources, add_scopes};

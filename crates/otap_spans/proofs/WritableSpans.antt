@@ -16,7 +16,8 @@ use Rattle.otap_groups.specs.Flat.{items_of, resources_of, scopes_of}
 use Rattle.otap_groups.specs.Weighing.{CanWriteGroup}
 use Rattle.otap_groups.proofs.WritableGroups.{all_flat_map, all_items_can, all_resources_can, all_scopes_can, few_items, few_parts, few_resources, few_scopes, groups_can}
 use Rattle.otap_groups.proofs.PartsCounted as counted
-use Rattle.otap_spans.specs.Tables.{CanWriteEvent, CanWriteLink, CanWriteSpan, all_events, all_links}
+use Rattle.otap_spans.specs.Tables.{all_events, all_links}
+use Rattle.otap_spans.specs.Writable.{CanWriteEvent, CanWriteLink, CanWriteSpan}
 
 -- ---- single parts
 

@@ -3,3 +3,4 @@ pub mod Records
 pub mod Requests
 pub mod Tables
 pub mod Weighing
+pub mod Writable

@@ -1,9 +1,6 @@
 -- The tables of a request of spans.
-use Rattle.std.specs.Prelude.{◌≤◌, ◌∷◌, [], List, map, All}
+use Rattle.std.specs.Prelude.{◌∷◌, [], List, map}
 use Rattle.std.specs.List.{flat_map}
-use Rattle.otlp_model.specs.Limits.{weight_limit}
-use Rattle.otlp_model.specs.Profile.{IsTraceId, IsSpanId}
-use Rattle.otlp_model.specs.Weight.{total, weight_of_pair}
 use Rattle.otlp_model.specs.declared.groups.ResourceGroup.{ResourceGroup}
 use Rattle.otlp_model.specs.declared.spans.Span.{Span}
 use Rattle.otlp_model.specs.declared.spans.Event.{Event}
@@ -60,20 +57,3 @@ tables_below groups =
 -- THE TABLES of a request: its spans, and of the tables below them those that have rows
 unfoldable pub tables_of_spans : List (ResourceGroup Span) → List Table
 tables_of_spans groups = main_table table.Spans span_cells groups ∷ flat_map where_rows (tables_below groups)
-
--- what can be written: ids have their lengths, and the attributes of each weigh no more than the limit
-pub record CanWriteEvent (event : Event) : Type 0 where
-  pub pairs : total 32 weight_of_pair event.pairs ≤ weight_limit
-
-pub record CanWriteLink (link : Link) : Type 0 where
-  pub trace_id : IsTraceId link.trace_id
-  pub span_id : IsSpanId link.span_id
-  pub pairs : total 32 weight_of_pair link.pairs ≤ weight_limit
-
-pub record CanWriteSpan (span : Span) : Type 0 where
-  pub trace_id : IsTraceId span.trace_id
-  pub span_id : IsSpanId span.span_id
-  pub parent_span_id : IsSpanId span.parent_span_id
-  pub pairs : total 32 weight_of_pair span.pairs ≤ weight_limit
-  pub events : All CanWriteEvent span.events
-  pub links : All CanWriteLink span.links

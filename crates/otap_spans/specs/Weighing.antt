@@ -1,4 +1,4 @@
--- What the rows below a span weigh.
+-- Words of private contracts: what the rows below a span weigh.
 use Rattle.std.specs.Prelude.{ℕ, ◌+◌, sum_by}
 use Rattle.otlp_model.specs.declared.spans.Span.{Span}
 use Rattle.otlp_model.specs.declared.spans.Event.{Event}

@@ -8,7 +8,8 @@ ghost use Rattle.otap_cells.specs.Weights.{weight_of_tables};
 ghost use Rattle.otap_groups.specs.Weighing.{cells_weight, parts_weight};
 ghost use Rattle.otap_attrs.specs.Values.{pair_cells};
 ghost use Rattle.otap_spans.specs.Records.{span_cells};
-ghost use Rattle.otap_spans.specs.Tables.{CanWriteEvent, CanWriteLink, CanWriteSpan, tables_of_spans};
+ghost use Rattle.otap_spans.specs.Tables.{tables_of_spans};
+ghost use Rattle.otap_spans.specs.Writable.{CanWriteEvent, CanWriteLink, CanWriteSpan};
 ghost use Rattle.otap_spans.specs.Weighing.{below_weight, event_weight, link_weight};
 
 use crate::writers::{event_weight, link_weight, span_weight};

@@ -3,7 +3,7 @@ ghost use Rattle.std.specs.Prelude.{◌≡◌, ◌^◌, min};
 ghost use Rattle.otap_cells.specs.declared.payload.Kind.TheVariants as table;
 ghost use Rattle.otap_groups.specs.Weighing.{cells_weight};
 ghost use Rattle.otap_spans.specs.Records.{event_cells, link_cells, span_cells};
-ghost use Rattle.otap_spans.specs.Tables.{CanWriteEvent, CanWriteLink, CanWriteSpan};
+ghost use Rattle.otap_spans.specs.Writable.{CanWriteEvent, CanWriteLink, CanWriteSpan};
 
 use otap_cells::{
     CellView, Kind, LogicalTable, bits_cell, int_cell, number_cell, octets_cell, text_cell,

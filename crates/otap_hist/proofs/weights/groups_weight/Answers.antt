@@ -2,7 +2,7 @@ use Rattle.std.proofs.Common.{List, sym, subst}
 use Rattle.std.specs.Prelude.{All}
 use Rattle.otlp_model.specs.declared.groups.ScopeGroup.{ScopeGroup}
 use Rattle.otlp_model.specs.declared.metrics.Metric.{Metric}
-use Rattle.otap_hist.specs.Inside.{CanWriteGroup, CanWriteScope}
+use Rattle.otap_hist.specs.Writable.{CanWriteGroup, CanWriteScope}
 use Rattle.otap_hist.proofs.weights.groups_weight.Goals as goal
 
 pub scopes_weight-requires : goal.scopes_weight-requires

@@ -1,5 +1,5 @@
 use Rattle.std.proofs.Common.{sym, subst}
-use Rattle.otap_hist.specs.Tables.{CanWriteMetric}
+use Rattle.otap_hist.specs.Writable.{CanWriteMetric}
 use Rattle.otap_hist.proofs.weights.metrics_weight.Goals as goal
 
 pub metric_weight-requires : goal.metric_weight-requires

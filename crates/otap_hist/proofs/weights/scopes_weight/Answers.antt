@@ -1,8 +1,7 @@
 use Rattle.std.proofs.Common.{List, sym, subst}
 use Rattle.std.specs.Prelude.{All}
 use Rattle.otlp_model.specs.declared.metrics.Metric.{Metric}
-use Rattle.otap_hist.specs.Inside.{CanWriteScope}
-use Rattle.otap_hist.specs.Tables.{CanWriteMetric}
+use Rattle.otap_hist.specs.Writable.{CanWriteScope, CanWriteMetric}
 use Rattle.otap_hist.proofs.weights.scopes_weight.Goals as goal
 
 pub metrics_weight-requires : goal.metrics_weight-requires

@@ -14,7 +14,8 @@ use Rattle.otap_groups.specs.Views.{seen_flat, seen_placed}
 use Rattle.otap_groups.proofs.FlatItems.{all_items}
 use Rattle.otap_attrs.proofs.FoundLists.{found_all}
 use Rattle.otap_spans.specs.Records.{event_cells, link_cells}
-use Rattle.otap_spans.specs.Tables.{CanWriteEvent, CanWriteLink, CanWriteSpan, all_events, all_links}
+use Rattle.otap_spans.specs.Tables.{all_events, all_links}
+use Rattle.otap_spans.specs.Writable.{CanWriteEvent, CanWriteLink, CanWriteSpan}
 use Rattle.otap_spans.proofs.WritableSpans.{all_can, all_events_can, all_links_can, event_pairs_can, events_few, link_pairs_can, links_few}
 use Rattle.otap_spans.proofs.WritableSpans.{resources_can, resources_few, scopes_can, scopes_few, span_pairs_can, spans_can, spans_few, spans_most}
 use Rattle.otap_spans.proofs.WrittenParts.{found_few, main_is, pairs_table, parts_seen, parts_table, pushed, rows_few, spans_seen, written, written_set}
