@@ -9,3 +9,11 @@ use Rattle.otap_attrs.specs.Defects.{WrongValue}
 -- a row of the table of a kind has a wrong value
 abbrev pub WrongValueOf : List Table → Kind → ℕ → Kind → RowRefusal → Type 0
 WrongValueOf tables kind column named wrong = (named ≡ kind) × WrongValue (table_named kind tables) column wrong
+
+-- nothing is wrong with the values of the table of a kind, whose columns stand from this one on
+abbrev pub HasFineValuesAt : ℕ → List Table → Kind → Type 0
+HasFineValuesAt column tables kind = (wrong : RowRefusal) → WrongValue (table_named kind tables) column wrong → ⊥
+
+-- nothing is wrong with those of a table of attributes
+abbrev pub HasFineValues : List Table → Kind → Type 0
+HasFineValues tables kind = HasFineValuesAt 2 tables kind

@@ -29,7 +29,7 @@ use Rattle.otap_groups.proofs.RealGroups.{real_groups, real_items}
 use Rattle.otap_groups.proofs.WritableGroups.{all_items_can}
 use Rattle.otap_attrs.specs.declared.refusal.RowRefusal.{RowRefusal}
 use Rattle.otap_checks.proofs.FinePairs.{IsFineList, pairs_fine}
-use Rattle.otap_metrics.specs.Whole.{HasFineValues}
+use Rattle.otap_checks.specs.ValueDefects.{HasFineValues}
 use Rattle.otap_metrics.specs.Metrics.{hist_points_of, summary_points_of, type_of}
 use Rattle.otap_metrics.specs.Requests.{HasTwoValues, WrongParent, has_hist_points, has_summary_points}
 use Rattle.otap_metrics.specs.Tables.{HoldMetrics, summary_lists}

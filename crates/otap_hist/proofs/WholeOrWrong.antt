@@ -15,7 +15,7 @@ use Rattle.otap_checks.specs.Links.{items, links_of, parts}
 use Rattle.otap_attrs.specs.Defects.{WrongValue}
 use Rattle.otap_checks.proofs.CleanOrWrong.{ids_clean_or_wrong, values_clean_or_wrong}
 use Rattle.otap_checks.proofs.TableIds.{clean_given}
-use Rattle.otap_metrics.specs.Whole.{HasFineValues}
+use Rattle.otap_checks.specs.ValueDefects.{HasFineValues}
 use Rattle.otap_metrics.specs.Requests.{HasTwoValues, WrongMetrics, WrongParent, has_hist_points, has_summary_points}
 use Rattle.otap_metrics.proofs.AlikeOrWrong.{Decided, is_false, parent_or_not, some_below, two_or_not}
 use Rattle.otap_metrics.proofs.AlikeReading.{id_named}

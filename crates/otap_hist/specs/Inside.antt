@@ -20,7 +20,7 @@ use Rattle.otap_checks.specs.declared.links.Link.{Link}
 use Rattle.otap_checks.specs.Known.{Knows}
 use Rattle.otap_checks.specs.Links.{links_of}
 use Rattle.otap_metrics.specs.Inside.{exemplar_weight}
-use Rattle.otap_metrics.specs.Whole.{HasFineValues}
+use Rattle.otap_checks.specs.ValueDefects.{HasFineValues}
 use Rattle.otap_metrics.specs.Metrics.{hist_points_of, summary_points_of}
 use Rattle.otap_metrics.specs.Requests.{HasTwoValues, WrongParent, has_hist_points, has_summary_points}
 use Rattle.otap_hist.specs.Points.{hist_point_cells, sum_point_cells}

@@ -12,15 +12,15 @@ use Rattle.otap_checks.specs.IdDefects.{IdDefect}
 use Rattle.otap_checks.specs.Known.{Knows}
 use Rattle.otap_checks.specs.Links.{links_of}
 use Rattle.otap_checks.specs.Reading.{Disagrees}
-use Rattle.otap_attrs.specs.Defects.{WrongValue}
+use Rattle.otap_checks.specs.ValueDefects.{HasFineValues, HasFineValuesAt}
 
 -- nothing is wrong but that rows of one id may differ
 pub record AreWhole (tables : List Table) : Type 0 where
   pub ids : (kind : Kind) (wrong : RowRefusal) → IdDefect signal.Logs tables kind wrong → ⊥
-  pub bodies : (wrong : RowRefusal) → WrongValue (table_named table.Logs tables) 15 wrong → ⊥
-  pub resources : (wrong : RowRefusal) → WrongValue (table_named table.ResourceAttrs tables) 2 wrong → ⊥
-  pub scopes : (wrong : RowRefusal) → WrongValue (table_named table.ScopeAttrs tables) 2 wrong → ⊥
-  pub records : (wrong : RowRefusal) → WrongValue (table_named table.LogAttrs tables) 2 wrong → ⊥
+  pub bodies : HasFineValuesAt 15 tables table.Logs
+  pub resources : HasFineValues tables table.ResourceAttrs
+  pub scopes : HasFineValues tables table.ScopeAttrs
+  pub records : HasFineValues tables table.LogAttrs
 
 -- rows of one id differ
 abbrev pub IsUnlike : List Table → Type 0

@@ -16,7 +16,7 @@ ghost use Rattle.otap_cells.specs.Named.{table_named};
 ghost use Rattle.otap_cells.specs.Payload.{is_kind, kinds_of, main_of};
 ghost use Rattle.otap_groups.specs.ProfileTables.{IsProfileTable};
 ghost use Rattle.otap_attrs.specs.declared.refusal.RowRefusal.{RowRefusal};
-ghost use Rattle.otap_attrs.specs.Defects.{WrongValue};
+ghost use Rattle.otap_checks.specs.ValueDefects.{HasFineValues, HasFineValuesAt};
 ghost use Rattle.otap_logs.specs.Requests.{WrongLogs, regrouped_logs};
 ghost use Rattle.otap_logs.specs.Tables.{tables_of_logs};
 
@@ -30,13 +30,13 @@ pub fn tables_tell_the_same()
 /// in column 2 of each table of attributes, `type`.
 pub fn tables_have_fine_values()
     ensures bodies { (groups : List (ResourceGroup LogRecord)) → IsReal (Logs groups) → IsProfile (Logs groups)
-        → (wrong : RowRefusal) → WrongValue (table_named table.Logs (tables_of_logs groups)) 15 wrong → ⊥ }
+        → HasFineValuesAt 15 (tables_of_logs groups) table.Logs }
     ensures resources { (groups : List (ResourceGroup LogRecord)) → IsReal (Logs groups) → IsProfile (Logs groups)
-        → (wrong : RowRefusal) → WrongValue (table_named table.ResourceAttrs (tables_of_logs groups)) 2 wrong → ⊥ }
+        → HasFineValues (tables_of_logs groups) table.ResourceAttrs }
     ensures scopes { (groups : List (ResourceGroup LogRecord)) → IsReal (Logs groups) → IsProfile (Logs groups)
-        → (wrong : RowRefusal) → WrongValue (table_named table.ScopeAttrs (tables_of_logs groups)) 2 wrong → ⊥ }
+        → HasFineValues (tables_of_logs groups) table.ScopeAttrs }
     ensures records { (groups : List (ResourceGroup LogRecord)) → IsReal (Logs groups) → IsProfile (Logs groups)
-        → (wrong : RowRefusal) → WrongValue (table_named table.LogAttrs (tables_of_logs groups)) 2 wrong → ⊥ }
+        → HasFineValues (tables_of_logs groups) table.LogAttrs }
 {}
 
 /// Law: nothing is wrong with the rows of the tables of a request.

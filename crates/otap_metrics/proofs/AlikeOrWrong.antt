@@ -20,7 +20,7 @@ use Rattle.otap_attrs.specs.Defects.{WrongValue}
 use Rattle.otap_checks.proofs.CleanOrWrong.{SomeWrong, table_or_wrong, values_clean_or_wrong, disagrees_or_not}
 use Rattle.otap_checks.proofs.GivenColumns.{one_given}
 use Rattle.otap_metrics.specs.Inside.{IsUnlike}
-use Rattle.otap_metrics.specs.Whole.{HasFineValues}
+use Rattle.otap_checks.specs.ValueDefects.{HasFineValues}
 use Rattle.otap_metrics.specs.Numbers.{IsThere}
 use Rattle.otap_metrics.specs.Requests.{HasTwoValues, NamesOther, WrongIds, WrongMetrics, WrongParent, WrongType, has_numbers, is_other, is_type, type_at}
 use Rattle.otap_metrics.proofs.AlikeReading.{id_named}

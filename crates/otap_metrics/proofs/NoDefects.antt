@@ -29,7 +29,7 @@ use Rattle.otap_attrs.specs.declared.refusal.RowRefusal.{RowRefusal}
 use Rattle.otap_attrs.specs.Tables.{attribute_table}
 use Rattle.otap_attrs.specs.Defects.{WrongValue}
 use Rattle.otap_checks.proofs.FinePairs.{IsFineList, attributes_fine, pairs_fine}
-use Rattle.otap_metrics.specs.Whole.{HasFineValues}
+use Rattle.otap_checks.specs.ValueDefects.{HasFineValues}
 use Rattle.otap_metrics.specs.Metrics.{points_of}
 use Rattle.otap_metrics.specs.Points.{point_cells}
 use Rattle.otap_metrics.specs.Requests.{HasTwoValues, WrongMetrics, WrongParent, WrongType, has_numbers}

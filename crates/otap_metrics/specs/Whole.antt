@@ -11,14 +11,10 @@ use Rattle.otap_checks.specs.declared.known.ColumnIds.{ColumnIds}
 use Rattle.otap_checks.specs.declared.links.Link.{Link}
 use Rattle.otap_checks.specs.Known.{Knows}
 use Rattle.otap_checks.specs.Links.{links_of}
-use Rattle.otap_attrs.specs.Defects.{WrongValue}
+use Rattle.otap_checks.specs.ValueDefects.{HasFineValues}
 use Rattle.otap_metrics.specs.declared.checks.PointSort.{PointSort}
 use Rattle.otap_metrics.specs.declared.checks.PointSort.TheVariants as sort
 use Rattle.otap_metrics.specs.Requests.{HasTwoValues, WrongIds, WrongParent, WrongType, is_other, has_hist_points, has_numbers, has_summary_points}
-
--- nothing is wrong with the values of a kind's table
-abbrev pub HasFineValues : List Table → Kind → Type 0
-HasFineValues tables kind = (wrong : RowRefusal) → WrongValue (table_named kind tables) 2 wrong → ⊥
 
 -- nothing is wrong but that rows of one id may differ
 pub record AreWhole (tables : List Table) : Type 0 where

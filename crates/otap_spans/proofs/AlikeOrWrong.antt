@@ -12,7 +12,8 @@ use Rattle.otap_checks.specs.Deciding.{CleanOrWrong, HaveByteCells}
 use Rattle.otap_checks.specs.IdDefects.{IdDefect}
 use Rattle.otap_attrs.specs.Defects.{WrongValue}
 use Rattle.otap_checks.proofs.CleanOrWrong.{ids_clean_or_wrong, values_clean_or_wrong, disagrees_or_not}
-use Rattle.otap_spans.specs.Inside.{HasFineValues, IsUnlike}
+use Rattle.otap_spans.specs.Inside.{IsUnlike}
+use Rattle.otap_checks.specs.ValueDefects.{HasFineValues}
 use Rattle.otap_spans.specs.Requests.{WrongSpans}
 use Rattle.otap_spans.proofs.Cleanness.{clean}
 

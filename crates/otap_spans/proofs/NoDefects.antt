@@ -47,7 +47,8 @@ use Rattle.otap_checks.proofs.FinePairs.{IsFineList, attributes_fine, pairs_fine
 use Rattle.otap_checks.proofs.GivenColumns.{nothing_wrong, own_once as once_in_column}
 use Rattle.otap_checks.proofs.RowsAgain.{main_rows_again}
 use Rattle.otap_checks.proofs.TableIds.{disagree_too}
-use Rattle.otap_spans.specs.Inside.{HasFineValues, IsUnlike}
+use Rattle.otap_spans.specs.Inside.{IsUnlike}
+use Rattle.otap_checks.specs.ValueDefects.{HasFineValues}
 use Rattle.otap_spans.specs.Records.{event_cells, link_cells, span_cells}
 use Rattle.otap_spans.specs.Requests.{WrongSpans}
 use Rattle.otap_spans.specs.Tables.{all_events, all_links, event_lists, event_pairs, link_lists, link_pairs, resource_pairs, scope_pairs, span_pairs, tables_of_spans}

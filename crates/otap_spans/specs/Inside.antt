@@ -20,12 +20,8 @@ use Rattle.otap_checks.specs.Known.{Knows}
 use Rattle.otap_checks.specs.Links.{links_of}
 use Rattle.otap_checks.specs.Pairing.{cells_or}
 use Rattle.otap_checks.specs.Reading.{Disagrees}
-use Rattle.otap_attrs.specs.Defects.{WrongValue}
+use Rattle.otap_checks.specs.ValueDefects.{HasFineValues}
 use Rattle.otap_spans.specs.Records.{event_of, link_of}
-
--- nothing is wrong with the values of the table of a kind
-abbrev pub HasFineValues : List Table → Kind → Type 0
-HasFineValues tables kind = (wrong : RowRefusal) → WrongValue (table_named kind tables) 2 wrong → ⊥
 
 -- nothing is wrong but that rows of one id may differ
 pub record AreWhole (tables : List Table) : Type 0 where
