@@ -1,6 +1,5 @@
 -- Nothing is wrong with the rows of all tables of metrics, or something is.
 use Rattle.std.proofs.Common.{◌≡◌, ◌==◌, false, List, length, refl, inl, inr, arith}
-use Rattle.std.specs.Prelude.{◌⊎◌}
 use Rattle.otlp_model.specs.declared.request.Signal.TheVariants as signal
 use Rattle.otap_cells.specs.declared.payload.Kind.{Kind}
 use Rattle.otap_cells.specs.declared.payload.Kind.TheVariants as table
@@ -12,10 +11,8 @@ use Rattle.otap_checks.specs.Deciding.{CleanOrWrong, HaveByteCells}
 use Rattle.otap_checks.specs.IdDefects.{IdDefect}
 use Rattle.otap_checks.specs.Given.{AreGiven}
 use Rattle.otap_checks.specs.Links.{items, links_of, parts}
-use Rattle.otap_attrs.specs.Defects.{WrongValue}
-use Rattle.otap_checks.proofs.CleanOrWrong.{ids_clean_or_wrong, values_clean_or_wrong}
+use Rattle.otap_checks.proofs.CleanOrWrong.{AreDecided, attributes_clean_or_wrong, ids_clean_or_wrong}
 use Rattle.otap_checks.proofs.TableIds.{clean_given}
-use Rattle.otap_checks.specs.ValueDefects.{HasFineValues}
 use Rattle.otap_metrics.specs.Requests.{HasTwoValues, WrongMetrics, WrongParent, has_hist_points, has_summary_points}
 use Rattle.otap_metrics.proofs.AlikeOrWrong.{Decided, is_false, parent_or_not, some_below, two_or_not}
 use Rattle.otap_metrics.proofs.AlikeReading.{id_named}
@@ -58,15 +55,12 @@ module _ (tables : List Table) (ids : (kind : Kind) (wrong : RowRefusal) → IdD
       let m = given_metrics 0 (id_named table.Metrics 0 metrics_are_main.id tables) in
       parent_or_not has_hist_points (table_named table.HistPoints tables) (table_named table.Metrics tables) p.ids m.ids p.are m.are
 
-abbrev AreDecided : List Table → Kind → Type 0
-AreDecided tables kind = HasFineValues tables kind ⊎ ((wrong : RowRefusal) × WrongValue (table_named kind tables) 2 wrong)
-
 pub clean_or_wrong : (tables : List Table) → HaveByteCells tables → CleanOrWrong (WrongMetrics tables) → CleanOrWrong (WrongWhole tables)
 clean_or_wrong tables octets (inr (kind, wrong, is)) = inr (kind, wrong, inl is)
 clean_or_wrong tables octets (inl metrics) = by_ids (ids_clean_or_wrong signal.Metrics tables)
   where
     decided : (kind : Kind) → AreDecided tables kind
-    decided kind = values_clean_or_wrong (table_named kind tables) 2 (octets kind)
+    decided = attributes_clean_or_wrong tables octets
 
     by_cells : ((kind : Kind) (wrong : RowRefusal) → IdDefect signal.Metrics tables kind wrong → ⊥)
         → Decided (WrongParent has_summary_points (table_named table.SummaryPoints tables) (table_named table.Metrics tables))

@@ -6,19 +6,13 @@ use Rattle.otap_cells.specs.declared.payload.Kind.{Kind}
 use Rattle.otap_cells.specs.declared.payload.Kind.TheVariants as table
 use Rattle.otap_cells.specs.Named.{table_named}
 use Rattle.otap_cells.specs.Tables.{Table}
-use Rattle.otap_attrs.specs.declared.refusal.RowRefusal.{RowRefusal}
 use Rattle.otap_attrs.specs.declared.refusal.RowRefusal.TheVariants as why
 use Rattle.otap_checks.specs.Deciding.{CleanOrWrong, HaveByteCells}
 use Rattle.otap_checks.specs.IdDefects.{IdDefect}
-use Rattle.otap_attrs.specs.Defects.{WrongValue}
-use Rattle.otap_checks.proofs.CleanOrWrong.{ids_clean_or_wrong, values_clean_or_wrong, disagrees_or_not}
+use Rattle.otap_checks.proofs.CleanOrWrong.{AreDecided, attributes_clean_or_wrong, ids_clean_or_wrong, disagrees_or_not}
 use Rattle.otap_spans.specs.Inside.{IsUnlike}
-use Rattle.otap_checks.specs.ValueDefects.{HasFineValues}
 use Rattle.otap_spans.specs.Requests.{WrongSpans}
 use Rattle.otap_spans.proofs.Cleanness.{clean}
-
-abbrev AreDecided : List Table → Kind → Type 0
-AreDecided tables kind = HasFineValues tables kind ⊎ ((wrong : RowRefusal) × WrongValue (table_named kind tables) 2 wrong)
 
 pub clean_or_wrong : (tables : List Table) → HaveByteCells tables → CleanOrWrong (WrongSpans tables)
 clean_or_wrong tables bytes =
@@ -26,7 +20,7 @@ clean_or_wrong tables bytes =
     (decided table.ResourceAttrs) (decided table.ScopeAttrs) (decided table.SpanAttrs) (decided table.EventAttrs) (decided table.LinkAttrs)
   where
     decided : (kind : Kind) → AreDecided tables kind
-    decided kind = values_clean_or_wrong (table_named kind tables) 2 (bytes kind)
+    decided = attributes_clean_or_wrong tables bytes
 
     by_parts : CleanOrWrong (IdDefect signal.Traces tables) → IsUnlike tables ⊎ (IsUnlike tables → ⊥)
         → AreDecided tables table.ResourceAttrs → AreDecided tables table.ScopeAttrs → AreDecided tables table.SpanAttrs
