@@ -7,7 +7,6 @@ pub mod FilledTables
 pub mod FoundLists
 pub mod FrontOrder
 pub mod IndexedPairs
-pub mod MadeSums
 pub mod NameRanks
 pub mod PairRows
 pub mod PairsSaid

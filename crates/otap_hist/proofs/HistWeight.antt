@@ -21,7 +21,7 @@ use Rattle.otap_groups.proofs.RowsWeighed.{parts_weigh}
 use Rattle.otap_attrs.specs.Tables.{attribute_table}
 use Rattle.otap_attrs.specs.Values.{pair_cells}
 use Rattle.otap_attrs.proofs.AttributesWeighed.{table_weighs}
-use Rattle.otap_attrs.proofs.MadeSums.{sum_of_both, sum_of_flat, sum_of_map}
+use Rattle.lists.proofs.MadeSums.{sum_of_both, sum_of_flat, sum_of_map}
 use Rattle.otap_metrics.specs.Inside.{exemplar_weight}
 use Rattle.otap_metrics.specs.Metrics.{hist_points_of, summary_points_of}
 use Rattle.otap_metrics.specs.Points.{exemplar_cells}

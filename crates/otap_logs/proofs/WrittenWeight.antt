@@ -24,7 +24,7 @@ use Rattle.otap_groups.proofs.WritableGroups.{groups_can}
 use Rattle.otap_attrs.specs.Tables.{attribute_table, where_rows}
 use Rattle.otap_attrs.specs.Values.{pair_cells}
 use Rattle.otap_attrs.proofs.AttributesWeighed.{table_weighs}
-use Rattle.otap_attrs.proofs.MadeSums.{sum_of_map}
+use Rattle.lists.proofs.MadeSums.{sum_of_map}
 use Rattle.otap_logs.specs.Records.{record_cells}
 use Rattle.otap_logs.specs.Tables.{tables_of_logs}
 use Rattle.otap_logs.specs.Writable.{CanWriteRecord}

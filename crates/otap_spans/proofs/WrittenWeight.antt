@@ -22,7 +22,7 @@ use Rattle.otap_groups.proofs.RowsWeighed.{main_weighs, parts_weigh}
 use Rattle.otap_attrs.specs.Tables.{attribute_table}
 use Rattle.otap_attrs.specs.Values.{pair_cells}
 use Rattle.otap_attrs.proofs.AttributesWeighed.{table_weighs}
-use Rattle.otap_attrs.proofs.MadeSums.{sum_of_both, sum_of_flat, sum_of_map}
+use Rattle.lists.proofs.MadeSums.{sum_of_both, sum_of_flat, sum_of_map}
 use Rattle.otap_attrs.proofs.FilledTables.{filled, filled_weigh}
 use Rattle.otap_spans.specs.Records.{event_cells, link_cells, span_cells}
 use Rattle.otap_spans.specs.Tables.{all_events, all_links, tables_below, tables_of_spans}
