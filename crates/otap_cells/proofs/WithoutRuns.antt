@@ -45,7 +45,8 @@ refused_too t column a b (refusal.Ids fault.PastType) back refuses = (refuses.0,
 refused_too t column a b (refusal.Ids fault.NullParent) back refuses = refuses
 refused_too t column a b (refusal.Ids fault.Duplicate) back refuses = refuses
 
-module _ {V : Type 0} (list : V → List (Option ℕ)) (t : Table) (column : ℕ) (a b : List Bool) (r : Result V IdsRefusal) (told : Coding) (is : (told ≡ coding.Plain) ⊎ (told ≡ coding.Delta)) (found : told ≡ coding_in t column) where
+module _ {V : Type 0} (list : V → List (Option ℕ)) (t : Table) (column : ℕ) (a b : List Bool) (r : Result V IdsRefusal) (told : Coding) (is : (told ≡ coding.Plain) ⊎ (told ≡ coding.Delta))
+    (found : told ≡ coding_in t column) where
   never : coding_in t column ≡ coding.Run → ⊥
   never runs = go is
     where

@@ -83,7 +83,8 @@ pub hist_weighs : (rows : List (List Cell)) (row : ℕ) (pairs : List Pair) (exe
     → total_weight ≡ min (sum (wa ∷ wb ∷ of_pairs ∷ of_exemplars ∷ [])) (2 ^ 63)
     → total_weight ≡ min (weight_of_hist_point (hist_point_of (own_cells 2 rows row) pairs exemplars)) (2 ^ 63)
 unfolding hist_point_of
-hist_weighs rows row pairs exemplars buckets bounds a b wa wb of_pairs of_exemplars total_weight weigh_pair weigh_exemplar inside is_buckets is_a is_wa is_bounds is_b is_wb same_pairs is_pairs same_exemplars is_exemplars is_total =
+hist_weighs rows row pairs exemplars buckets bounds a b wa wb of_pairs of_exemplars total_weight weigh_pair weigh_exemplar inside is_buckets is_a is_wa is_bounds is_b is_wb same_pairs is_pairs
+    same_exemplars is_exemplars is_total =
     let within : row < length rows = simp length-map at inside in
     hist_sum (a / 8) (b / 8) wa wb of_pairs of_exemplars total_weight (total 32 weight_of_pair pairs) (total 32 weight_of_exemplar exemplars) is_wa is_wb
     (below_weighs of_pairs weigh_pair weight_of_pair pairs same_pairs is_pairs) (below_weighs of_exemplars weigh_exemplar weight_of_exemplar exemplars same_exemplars is_exemplars) is_total

@@ -152,7 +152,8 @@ clean_or_wrong tables octets = by_ids (own_ids_clean_or_wrong tables)
     decided = attributes_clean_or_wrong tables octets
 
     by_parts : ((kind : Kind) (wrong : RowRefusal) → WrongIds tables kind wrong → ⊥) → IsUnlike tables ⊎ (IsUnlike tables → ⊥) → Decided (WrongType (table_named table.Metrics tables))
-        → Decided (WrongParent has_numbers (table_named table.NumberPoints tables) (table_named table.Metrics tables)) → Decided (HasTwoValues (table_named table.NumberPoints tables) 4) → Decided (HasTwoValues (table_named table.NumberExemplars tables) 3)
+        → Decided (WrongParent has_numbers (table_named table.NumberPoints tables) (table_named table.Metrics tables)) → Decided (HasTwoValues (table_named table.NumberPoints tables) 4)
+        → Decided (HasTwoValues (table_named table.NumberExemplars tables) 3)
         → AreDecided tables table.ResourceAttrs → AreDecided tables table.ScopeAttrs → AreDecided tables table.NumberPointAttrs
         → AreDecided tables table.NumberExemplarAttrs → CleanOrWrong (WrongMetrics tables)
     by_parts ids (inl differ) types parents two both resources scopes of_points of_exemplars = inr (table.Metrics, why.Disagree, inr differ)

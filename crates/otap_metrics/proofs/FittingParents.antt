@@ -128,7 +128,8 @@ module _ {C : Type 0} (fits : ℕ → Bool) (parts : Shape → List C) (fit : (s
       let parents : wrong.parents ≡ parents_of cells_of lists =
       one_given (part_table kind cells_of lists) 1 wrong.parents _ wrong.are (part_parents_of kind cells_of lists part few_lists) in
       let row : ℕ = wrong.is.row in
-      let id : Some wrong.is.id ≡ Some row = sym wrong.is.own ∙ ap (λ ids. id_at ids row) ids ∙ own_at 0 row (flat groups) (let size = size_is groups in let there = wrong.is.there in omega (arith, size, there)) ∙ ap Some (omega arith) in
+      let id : Some wrong.is.id ≡ Some row = sym wrong.is.own ∙ ap (λ ids. id_at ids row) ids
+      ∙ own_at 0 row (flat groups) (let size = size_is groups in let there = wrong.is.there in omega (arith, size, there)) ∙ ap Some (omega arith) in
       some_parts cells_of lists row (subst (λ ids. Contains ids (Some row)) parents (subst (Contains wrong.parents) id wrong.is.named))
       (none_below (items_of groups) row (ap fits (sym (type_is groups row wrong.is.there)) ∙ wrong.is.other))
 
