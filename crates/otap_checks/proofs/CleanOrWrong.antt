@@ -32,7 +32,7 @@ use Rattle.otap_attrs.specs.declared.refusal.RowRefusal.TheVariants as why
 use Rattle.otap_attrs.specs.Values.{BadValue, type_in, nested_in}
 use Rattle.otap_attrs.specs.Inside.{BadNested}
 use Rattle.otap_attrs.proofs.ValueFaults.{nested_is_fine, map_is_fine, array_is_fine}
-use Rattle.otap_checks.specs.declared.links.Link.{Link}
+use Rattle.otap_checks.specs.declared.links.TableLink.{TableLink}
 use Rattle.otap_checks.specs.declared.links.Parents.{Parents}
 use Rattle.otap_checks.specs.Deciding.{CleanOrWrong, HasByteCells, HaveByteCells}
 use Rattle.otap_attrs.specs.Defects.{OrphanIn, WrongValue}
@@ -136,10 +136,10 @@ parents_or_not tables t (Some p) = by_ids (ids_or_none t p.column) (ids_or_none 
 
 -- ---- tables
 
-abbrev pub SomeWrong : List Table → Table → Link → Type 0
+abbrev pub SomeWrong : List Table → Table → TableLink → Type 0
 SomeWrong tables t link = (wrong : RowRefusal) × WrongIn tables t link wrong
 
-pub table_or_wrong : (tables : List Table) (t : Table) (link : Link) → SomeWrong tables t link ⊎ (SomeWrong tables t link → ⊥)
+pub table_or_wrong : (tables : List Table) (t : Table) (link : TableLink) → SomeWrong tables t link ⊎ (SomeWrong tables t link → ⊥)
 table_or_wrong tables t link = by_parts (all_given t) (own_or_not t link.own) (parents_or_not tables t link.parents)
   where
     by_parts : AreGiven t ⊎ Faulty t → DuplicateOf t link.own ⊎ (DuplicateOf t link.own → ⊥) → OrphanOf tables t link.parents ⊎ (OrphanOf tables t link.parents → ⊥)

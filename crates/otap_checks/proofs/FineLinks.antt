@@ -18,7 +18,7 @@ use Rattle.otap_groups.proofs.PartTables as parts_in
 use Rattle.otap_groups.proofs.StoredRows.{part_ids_of, part_parents_of}
 use Rattle.otap_attrs.specs.declared.refusal.RowRefusal.{RowRefusal}
 use Rattle.otap_attrs.specs.Tables.{attribute_table}
-use Rattle.otap_checks.specs.declared.links.Link.{Link}
+use Rattle.otap_checks.specs.declared.links.TableLink.{TableLink}
 use Rattle.otap_attrs.specs.Defects.{OrphanIn}
 use Rattle.otap_checks.specs.IdDefects.{WrongIn}
 use Rattle.otap_checks.specs.Given.{AreGiven, IsGiven}
@@ -77,8 +77,8 @@ module _ {C : Type 0} (tables : List Table) (kind of : Kind) (at : ℕ) (cells_o
       (parts_in.parents_of cells_of lists) known refl above are part_known)
 
 -- what is wrong with the table of a link, where the link is this one and the table that one
-pub settle : (tables : List Table) (link here : Link) (kind : Kind) (t : Table) (wrong : RowRefusal) → here ≡ link → link.kind ≡ kind → table_named here.kind tables ≡ t
+pub settle : (tables : List Table) (link here : TableLink) (kind : Kind) (t : Table) (wrong : RowRefusal) → here ≡ link → link.kind ≡ kind → table_named here.kind tables ≡ t
     → (WrongIn tables t here wrong → ⊥) → WrongIn tables (table_named kind tables) link wrong → ⊥
 settle tables link here kind t wrong same names named fine is =
-    fine (subst (λ (t : Table). WrongIn tables t here wrong) named (subst (λ (link : Link). WrongIn tables (table_named link.kind tables) link wrong) (sym same)
+    fine (subst (λ (t : Table). WrongIn tables t here wrong) named (subst (λ (link : TableLink). WrongIn tables (table_named link.kind tables) link wrong) (sym same)
     (subst (λ (kind : Kind). WrongIn tables (table_named kind tables) link wrong) (sym names) is)))

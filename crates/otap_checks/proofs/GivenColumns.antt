@@ -14,7 +14,7 @@ use Rattle.otap_cells.specs.ColumnIds.{RefusesIds, stored_in}
 use Rattle.otap_cells.specs.Continuing.{continues_in}
 use Rattle.otap_cells.specs.GivenIds.{HasIds}
 use Rattle.otap_cells.proofs.IdLaws.{one_list}
-use Rattle.otap_checks.specs.declared.links.Link.{Link}
+use Rattle.otap_checks.specs.declared.links.TableLink.{TableLink}
 use Rattle.otap_checks.specs.declared.links.Parents.{Parents}
 use Rattle.otap_attrs.specs.Defects.{OrphanIn, RefusesRow}
 use Rattle.otap_checks.specs.IdDefects.{Duplicate, DuplicateOf, Orphan, OrphanOf, WrongIn}
@@ -35,7 +35,7 @@ pub one_given : (t : Table) (column : ℕ) (xs ys : List (Option ℕ)) → HasId
 one_given t column xs ys a b = one_list (coding_in t column) (greatest_in t column) 0 (continues_in t) (stored_in t column) xs ys a b
 
 -- nothing is wrong with a table whose columns, own ids and parents are fine
-pub nothing_wrong : (tables : List Table) (t : Table) (link : Link) → AreGiven t → (DuplicateOf t link.own → ⊥) → (OrphanOf tables t link.parents → ⊥)
+pub nothing_wrong : (tables : List Table) (t : Table) (link : TableLink) → AreGiven t → (DuplicateOf t link.own → ⊥) → (OrphanOf tables t link.parents → ⊥)
     → (wrong : RowRefusal) → WrongIn tables t link wrong → ⊥
 nothing_wrong tables t link given own parents (why.Ids fault.PastType) is = let here = given is.0 is.1 in is.2.none here.ids here.are
 nothing_wrong tables t link given own parents (why.Ids fault.NullParent) is = (given is.0 is.1).parents is.2

@@ -14,7 +14,7 @@ use Rattle.otap_attrs.specs.declared.refusal.RowRefusal.TheVariants as why
 use Rattle.otap_attrs.specs.declared.refusal.CheckRefusal.{CheckRefusal}
 use Rattle.otap_attrs.specs.declared.refusal.CheckRefusal.TheVariants as check
 use Rattle.otap_checks.specs.declared.known.ColumnIds.{ColumnIds}
-use Rattle.otap_checks.specs.declared.links.Link.{Link}
+use Rattle.otap_checks.specs.declared.links.TableLink.{TableLink}
 use Rattle.otap_checks.specs.Inside.{ColumnFault, ColumnWrong, ColumnsWrong, HasColumns, Keeps, KnownFault, KnownFaults, KnownWrong}
 use Rattle.otap_checks.specs.Refusing.{refused_as, RefusesCheck}
 use Rattle.otap_checks.specs.Known.{is_column}
@@ -50,23 +50,23 @@ one_column_more kind place known new ids is of at below k less id =
           (there.0, subst (λ xs. Contains xs there.0) (sym is) (Contains-append_left known (ids ∷ []) there.0 there.1), there.2)
     ]
 
-pub one_table_more : (links : List Link) (place : ℕ) (e : Link) (known new : List ColumnIds) → place < length links → Keeps known new
-    → ((k : ℕ) (d : Link) → k < place → HasColumns (get_or links k d).kind known) → HasColumns (get_or links place e).kind new
-    → (k : ℕ) (d : Link) → k < place + 1 → HasColumns (get_or links k d).kind new
+pub one_table_more : (links : List TableLink) (place : ℕ) (e : TableLink) (known new : List ColumnIds) → place < length links → Keeps known new
+    → ((k : ℕ) (d : TableLink) → k < place → HasColumns (get_or links k d).kind known) → HasColumns (get_or links place e).kind new
+    → (k : ℕ) (d : TableLink) → k < place + 1 → HasColumns (get_or links k d).kind new
 one_table_more links place e known new within keeps below here k d less =
     elim (cases_eq k place) [
-      | inl equal ↦ subst (λ (link : Link). HasColumns link.kind new) (sym (ap (λ n. get_or links n d) equal ∙ get_or_default links place d e within)) here
+      | inl equal ↦ subst (λ (link : TableLink). HasColumns link.kind new) (sym (ap (λ n. get_or links n d) equal ∙ get_or_default links place d e within)) here
       | inr differ ↦ λ column id. let there = below k d (omega (arith, differ)) column id in (there.0, keeps there.0 there.1, there.2)
     ]
 
 -- one more link has nothing wrong
-pub one_link_more : (known : List ColumnIds) (links : List Link) (place : ℕ) (e : Link) → place < length links
-    → ((k : ℕ) (d : Link) → k < place → (wrong : RowRefusal) → KnownFault known (get_or links k d) wrong → ⊥) → ((wrong : RowRefusal) → KnownFault known (get_or links place e) wrong → ⊥)
-    → (k : ℕ) (d : Link) → k < place + 1 → (wrong : RowRefusal) → KnownFault known (get_or links k d) wrong → ⊥
+pub one_link_more : (known : List ColumnIds) (links : List TableLink) (place : ℕ) (e : TableLink) → place < length links
+    → ((k : ℕ) (d : TableLink) → k < place → (wrong : RowRefusal) → KnownFault known (get_or links k d) wrong → ⊥) → ((wrong : RowRefusal) → KnownFault known (get_or links place e) wrong → ⊥)
+    → (k : ℕ) (d : TableLink) → k < place + 1 → (wrong : RowRefusal) → KnownFault known (get_or links k d) wrong → ⊥
 one_link_more known links place e within below here k d less =
     elim (cases_eq k place) [
       | inl equal ↦
-          subst (λ (link : Link). (wrong : RowRefusal) → KnownFault known link wrong → ⊥) (sym (ap (λ n. get_or links n d) equal ∙ get_or_default links place d e within)) here
+          subst (λ (link : TableLink). (wrong : RowRefusal) → KnownFault known link wrong → ⊥) (sym (ap (λ n. get_or links n d) equal ∙ get_or_default links place d e within)) here
       | inr differ ↦ below k d (omega (arith, differ))
     ]
 
@@ -83,14 +83,14 @@ row_refused tables kind (why.BadCbor refusal) refuses = (refl, refuses)
 row_refused tables kind why.TwoValues refuses = (refl, refuses)
 row_refused tables kind why.BadKind refuses = (refl, refuses)
 
-pub column_refusal : (tables : List Table) (links : List Link) (place : ℕ) (d : Link) (refusal : CheckRefusal) → place < length links
+pub column_refusal : (tables : List Table) (links : List TableLink) (place : ℕ) (d : TableLink) (refusal : CheckRefusal) → place < length links
     → RefusesCheck (ColumnWrong tables (get_or links place d).kind) refusal → RefusesCheck (ColumnsWrong tables links) refusal
 column_refusal tables links place d (check.Memory error) within refuses = tt
 column_refusal tables links place d (check.Defect kind wrong) within refuses =
-    let link : Link = get_or links place d in (link, (place, within, get_or_default links place link d within), refuses)
+    let link : TableLink = get_or links place d in (link, (place, within, get_or_default links place link d within), refuses)
 
-pub fault_refusal : (known : List ColumnIds) (links : List Link) (place : ℕ) (d : Link) (refusal : CheckRefusal) → place < length links
+pub fault_refusal : (known : List ColumnIds) (links : List TableLink) (place : ℕ) (d : TableLink) (refusal : CheckRefusal) → place < length links
     → RefusesCheck (KnownWrong known (get_or links place d)) refusal → RefusesCheck (KnownFaults known links) refusal
 fault_refusal known links place d (check.Memory error) within refuses = tt
 fault_refusal known links place d (check.Defect kind wrong) within refuses =
-    let link : Link = get_or links place d in (link, (place, within, get_or_default links place link d within), refuses)
+    let link : TableLink = get_or links place d in (link, (place, within, get_or_default links place link d within), refuses)

@@ -16,7 +16,7 @@ use Rattle.otap_attrs.specs.declared.refusal.RowRefusal.TheVariants as why
 use Rattle.otap_attrs.specs.declared.refusal.CheckRefusal.{CheckRefusal}
 use Rattle.otap_attrs.specs.declared.refusal.CheckRefusal.TheVariants as check
 use Rattle.otap_checks.specs.declared.known.ColumnIds.{ColumnIds}
-use Rattle.otap_checks.specs.declared.links.Link.{Link}
+use Rattle.otap_checks.specs.declared.links.TableLink.{TableLink}
 use Rattle.otap_checks.specs.declared.links.Parents.{Parents}
 use Rattle.otap_checks.specs.IdDefects.{DuplicateOf, IdDefect, OrphanOf, WrongIn}
 use Rattle.otap_checks.specs.Inside.{ColumnFault, ColumnsWrong, HasColumns, IsLost, IsRight, KnownFault, KnownFaults, OwnTwice, IsAbove, IsAboveOrNone, IsIdOrNone}
@@ -57,11 +57,11 @@ module _ (tables : List Table) (kind : Kind) (column : ℕ) where
 pub knows : (tables : List Table) (kind : Kind) (known : List ColumnIds) → All (IsRight tables) known → HasColumns kind known → Knows (table_named kind tables) kind known
 knows tables kind known right all column id = let there = all column id in found tables kind column known there.0 right there.1 there.2
 
-pub all_known : (of : Signal) (tables : List Table) (links : List Link) (known : List ColumnIds) → links ≡ links_of of → All (IsRight tables) known
-    → All (λ (link : Link). HasColumns link.kind known) links → (link : Link) → Contains (links_of of) link → Knows (table_named link.kind tables) link.kind known
+pub all_known : (of : Signal) (tables : List Table) (links : List TableLink) (known : List ColumnIds) → links ≡ links_of of → All (IsRight tables) known
+    → All (λ (link : TableLink). HasColumns link.kind known) links → (link : TableLink) → Contains (links_of of) link → Knows (table_named link.kind tables) link.kind known
 all_known of tables links known are right all link listed =
     let at : Contains links link = subst (λ links. Contains links link) (sym are) listed in
-    knows tables link.kind known right (subst (λ (one : Link). HasColumns one.kind known) at.2 (all at.0 link at.1))
+    knows tables link.kind known right (subst (λ (one : TableLink). HasColumns one.kind known) at.2 (all at.0 link at.1))
 
 -- a table that isn't there has no ids
 pub none_known : (tables : List Table) (kind : Kind) (column : ℕ) (ids : List (Option ℕ)) → table_named kind tables ≡ profile_table kind [] → ids ≡ []
@@ -78,7 +78,7 @@ given tables kind known are column id =
 -- ---- what is wrong
 
 -- a fault of a column is a defect of the ids
-column_wrong : (tables : List Table) (t : Table) (link : Link) (wrong : RowRefusal) → ColumnFault t wrong → WrongIn tables t link wrong
+column_wrong : (tables : List Table) (t : Table) (link : TableLink) (wrong : RowRefusal) → ColumnFault t wrong → WrongIn tables t link wrong
 column_wrong tables t link (why.Ids fault.PastType) is = is
 column_wrong tables t link (why.Ids fault.NullParent) is = is
 column_wrong tables t link (why.Ids fault.Duplicate) is = absurd is
@@ -90,19 +90,19 @@ column_wrong tables t link why.TwoValues is = is
 column_wrong tables t link why.BadKind is = is
 column_wrong tables t link (why.Memory error) is = is
 
-pub columns_refused : (of : Signal) (tables : List Table) (links : List Link) (refusal : CheckRefusal) → links ≡ links_of of
+pub columns_refused : (of : Signal) (tables : List Table) (links : List TableLink) (refusal : CheckRefusal) → links ≡ links_of of
     → RefusesCheck (ColumnsWrong tables links) refusal → RefusesCheck (IdDefect of tables) refusal
 columns_refused of tables links (check.Memory error) are refuses = tt
 columns_refused of tables links (check.Defect kind wrong) are refuses =
-    let link : Link = refuses.0 in record {
+    let link : TableLink = refuses.0 in record {
       link = link;
       listed = subst (λ links. Contains links link) are refuses.1;
       names = sym refuses.2.0;
       is = subst (λ kind. WrongIn tables (table_named kind tables) link wrong) (sym refuses.2.0) (column_wrong tables (table_named link.kind tables) link wrong refuses.2.1);
     }
 
-module _ (of : Signal) (tables : List Table) (known : List ColumnIds) (all : (link : Link) → Contains (links_of of) link → Knows (table_named link.kind tables) link.kind known) where
-  module _ (link : Link) (listed : Contains (links_of of) link) where
+module _ (of : Signal) (tables : List Table) (known : List ColumnIds) (all : (link : TableLink) → Contains (links_of of) link → Knows (table_named link.kind tables) link.kind known) where
+  module _ (link : TableLink) (listed : Contains (links_of of) link) where
     duplicate : (own : Option ℕ) → link.own ≡ own → OwnTwice known link own → DuplicateOf (table_named link.kind tables) own
     duplicate None is twice = absurd twice
     duplicate (Some column) is twice = record {
@@ -157,10 +157,10 @@ module _ (of : Signal) (tables : List Table) (known : List ColumnIds) (all : (li
         nothing_wrong tables (table_named link.kind tables) link (given tables link.kind known (all link listed)) (no_duplicate link.own refl (fine (why.Ids fault.Duplicate)))
         (none_lost link.parents refl (fine why.Orphan)) wrong is
 
-  pub faults_refused : (links : List Link) (refusal : CheckRefusal) → links ≡ links_of of → RefusesCheck (KnownFaults known links) refusal → RefusesCheck (IdDefect of tables) refusal
+  pub faults_refused : (links : List TableLink) (refusal : CheckRefusal) → links ≡ links_of of → RefusesCheck (KnownFaults known links) refusal → RefusesCheck (IdDefect of tables) refusal
   faults_refused links (check.Memory error) are refuses = tt
   faults_refused links (check.Defect kind wrong) are refuses =
-      let link : Link = refuses.0 in
+      let link : TableLink = refuses.0 in
       let listed : Contains (links_of of) link = subst (λ links. Contains links link) are refuses.1 in record {
         link = link;
         listed = listed;
@@ -168,9 +168,9 @@ module _ (of : Signal) (tables : List Table) (known : List ColumnIds) (all : (li
         is = subst (λ kind. WrongIn tables (table_named kind tables) link wrong) (sym refuses.2.0) (wrong_in link listed wrong refuses.2.1);
       }
 
-  pub no_defect : (links : List Link) → links ≡ links_of of → All (λ (link : Link). (wrong : RowRefusal) → KnownFault known link wrong → ⊥) links
+  pub no_defect : (links : List TableLink) → links ≡ links_of of → All (λ (link : TableLink). (wrong : RowRefusal) → KnownFault known link wrong → ⊥) links
       → (kind : Kind) (wrong : RowRefusal) → IdDefect of tables kind wrong → ⊥
   no_defect links are fine kind wrong defect =
       let at : Contains links defect.link = subst (λ links. Contains links defect.link) (sym are) defect.listed in
-      clean_in defect.link defect.listed (subst (λ (one : Link). (wrong : RowRefusal) → KnownFault known one wrong → ⊥) at.2 (fine at.0 defect.link at.1)) wrong
+      clean_in defect.link defect.listed (subst (λ (one : TableLink). (wrong : RowRefusal) → KnownFault known one wrong → ⊥) at.2 (fine at.0 defect.link at.1)) wrong
       (subst (λ kind. WrongIn tables (table_named kind tables) defect.link wrong) (sym defect.names) defect.is)

@@ -10,15 +10,15 @@ use Rattle.otap_cells.specs.declared.payload.Kind.{Kind}
 use Rattle.otap_cells.specs.declared.payload.Kind.TheVariants as table
 use Rattle.otap_checks.specs.declared.links.Parents.{Parents}
 use Rattle.otap_cells.specs.Columns.{is_id_at, name_at, logs, spans, metrics, attrs, deep_attrs, span_events, span_links, number_points, summary_points, hist_points, exemplars}
-use Rattle.otap_checks.specs.declared.links.Link.{Link}
+use Rattle.otap_checks.specs.declared.links.TableLink.{TableLink}
 use Rattle.otap_checks.specs.Links.{links_of, items, parts, attributes}
 use Rattle.otap_checks.specs.Inside.{IsLinked, IsAbove}
 
-abbrev AllLinked : List Link → Type 0
+abbrev AllLinked : List TableLink → Type 0
 AllLinked [] = Unit {0}
 AllLinked (link ∷ links) = IsLinked link × AllLinked links
 
-linked_at : (links : List Link) (k : ℕ) (d : Link) → AllLinked links → k < length links → IsLinked (get_or links k d)
+linked_at : (links : List TableLink) (k : ℕ) (d : TableLink) → AllLinked links → k < length links → IsLinked (get_or links k d)
 linked_at [] k d all within = absurd (omega arith)
 linked_at (link ∷ links) zero d all within = all.0
 linked_at (link ∷ links) (suc k) d all within = linked_at links k d all.1 (omega arith)
@@ -61,27 +61,27 @@ all_linked signal.Metrics = (
   tt,
 )
 
-pub is_linked : (of : Signal) (links : List Link) (k : ℕ) (d : Link) → links ≡ links_of of → k < length links → IsLinked (get_or links k d)
+pub is_linked : (of : Signal) (links : List TableLink) (k : ℕ) (d : TableLink) → links ≡ links_of of → k < length links → IsLinked (get_or links k d)
 is_linked of links k d are within = linked_at links k d (subst AllLinked (sym are) (all_linked of)) within
 
 -- ---- the tables of parents are there
 
-abbrev HasParents : List Link → Option Parents → Type 0
+abbrev HasParents : List TableLink → Option Parents → Type 0
 HasParents links None = Unit {0}
-HasParents links (Some parents) = (other : Link) × Contains links other × (other.kind ≡ parents.of)
+HasParents links (Some parents) = (other : TableLink) × Contains links other × (other.kind ≡ parents.of)
 
-abbrev AllHaveParents : List Link → List Link → Type 0
+abbrev AllHaveParents : List TableLink → List TableLink → Type 0
 AllHaveParents all [] = Unit {0}
 AllHaveParents all (link ∷ links) = HasParents all link.parents × AllHaveParents all links
 
-parents_at : (all links : List Link) (k : ℕ) (d : Link) → AllHaveParents all links → k < length links → HasParents all (get_or links k d).parents
+parents_at : (all links : List TableLink) (k : ℕ) (d : TableLink) → AllHaveParents all links → k < length links → HasParents all (get_or links k d).parents
 parents_at all [] k d have within = absurd (omega arith)
 parents_at all (link ∷ links) zero d have within = have.0
 parents_at all (link ∷ links) (suc k) d have within = parents_at all links k d have.1 (omega arith)
 
 -- below the link at a place of this list
-below_at : (all : List Link) (k : ℕ) (of : Kind) → k < length all → (get_or all k (items of)).kind ≡ of → (other : Link) × Contains all other × (other.kind ≡ of)
-below_at all k of within is = let other : Link = get_or all k (items of) in (other, (k, within, get_or_default all k other (items of) within), is)
+below_at : (all : List TableLink) (k : ℕ) (of : Kind) → k < length all → (get_or all k (items of)).kind ≡ of → (other : TableLink) × Contains all other × (other.kind ≡ of)
+below_at all k of within is = let other : TableLink = get_or all k (items of) in (other, (k, within, get_or_default all k other (items of) within), is)
 
 all_have_parents : (of : Signal) → AllHaveParents (links_of of) (links_of of)
 unfolding links_of
@@ -131,12 +131,12 @@ all_have_parents signal.Metrics =
     )
 
 -- the parents of a listed link are among the listed tables
-pub parents_listed : (of : Signal) (link : Link) (above : Parents) → Contains (links_of of) link → link.parents ≡ Some above
-    → (other : Link) × Contains (links_of of) other × (other.kind ≡ above.of)
+pub parents_listed : (of : Signal) (link : TableLink) (above : Parents) → Contains (links_of of) link → link.parents ≡ Some above
+    → (other : TableLink) × Contains (links_of of) other × (other.kind ≡ above.of)
 parents_listed of link above listed is =
     let have : HasParents (links_of of) link.parents =
-    subst (λ (l : Link). HasParents (links_of of) l.parents) listed.2 (parents_at (links_of of) (links_of of) listed.0 link (all_have_parents of) listed.1) in
+    subst (λ (l : TableLink). HasParents (links_of of) l.parents) listed.2 (parents_at (links_of of) (links_of of) listed.0 link (all_have_parents of) listed.1) in
     subst (HasParents (links_of of)) is have
 
-pub linked : (of : Signal) (link : Link) → Contains (links_of of) link → IsLinked link
+pub linked : (of : Signal) (link : TableLink) → Contains (links_of of) link → IsLinked link
 linked of link listed = subst IsLinked listed.2 (is_linked of (links_of of) listed.0 link refl listed.1)

@@ -19,7 +19,7 @@ use Rattle.otap_groups.specs.Rows.{MainRow, main_rows, child_rows}
 use Rattle.otap_attrs.specs.declared.refusal.RowRefusal.{RowRefusal}
 use Rattle.otap_attrs.specs.declared.refusal.RowRefusal.TheVariants as why
 use Rattle.otap_attrs.specs.Values.{BadValue, pair_in}
-use Rattle.otap_checks.specs.declared.links.Link.{Link}
+use Rattle.otap_checks.specs.declared.links.TableLink.{TableLink}
 use Rattle.otap_checks.specs.declared.links.Parents.{Parents}
 use Rattle.otap_checks.specs.IdDefects.{PastType, DuplicateOf, OrphanOf, WrongIn, IdDefect}
 use Rattle.otap_checks.specs.Inside.{IsLinked, IsAboveOrNone, IsIdOrNone}
@@ -172,7 +172,7 @@ module _ (of : Signal) (tables others : List Table) (reads : ReadAs tables other
     orphan = is.orphan;
   }
 
-  wrong_told : (link : Link) (wrong : RowRefusal) → IsLinked link → WrongIn tables (table_named link.kind tables) link wrong → WrongIn others (table_named link.kind others) link wrong
+  wrong_told : (link : TableLink) (wrong : RowRefusal) → IsLinked link → WrongIn tables (table_named link.kind tables) link wrong → WrongIn others (table_named link.kind others) link wrong
   wrong_told link wrong linked is = by_fault wrong is
     where
       a : Table

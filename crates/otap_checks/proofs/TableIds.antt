@@ -21,7 +21,7 @@ use Rattle.otap_groups.specs.Disagree.{DifferBy, Disagree}
 use Rattle.otap_attrs.specs.declared.refusal.RowRefusal.{RowRefusal}
 use Rattle.otap_attrs.specs.declared.refusal.RowRefusal.TheVariants as why
 use Rattle.otap_attrs.specs.Values.{pair_in}
-use Rattle.otap_checks.specs.declared.links.Link.{Link}
+use Rattle.otap_checks.specs.declared.links.TableLink.{TableLink}
 use Rattle.otap_checks.specs.Links.{links_of}
 use Rattle.otap_checks.specs.IdDefects.{IdDefect}
 use Rattle.otap_checks.specs.Given.{AreGiven}
@@ -93,7 +93,7 @@ disagree_too t (inr d) = inr (differ_too (λ row. row.scope_id) (λ row. row.sco
 -- ---- a table without defects
 
 -- where nothing is wrong with the ids of a table, they are given
-pub clean_given : (of : Signal) (tables : List Table) (kind : Kind) (link : Link) → Contains (links_of of) link → link.kind ≡ kind
+pub clean_given : (of : Signal) (tables : List Table) (kind : Kind) (link : TableLink) → Contains (links_of of) link → link.kind ≡ kind
     → ((wrong : RowRefusal) → IdDefect of tables kind wrong → ⊥) → AreGiven (table_named kind tables)
 clean_given of tables kind link listed names clean column id =
     let t : Table = table_named kind tables in

@@ -11,7 +11,7 @@ use Rattle.otap_cells.specs.Ids.{Twice, takes_null}
 use Rattle.otap_cells.specs.ColumnIds.{HasNullParent}
 use Rattle.otap_cells.specs.GivenIds.{HasIds}
 use Rattle.otap_cells.specs.Named.{table_named}
-use Rattle.otap_checks.specs.declared.links.Link.{Link}
+use Rattle.otap_checks.specs.declared.links.TableLink.{TableLink}
 use Rattle.otap_checks.specs.declared.links.Parents.{Parents}
 use Rattle.otap_checks.specs.Links.{links_of}
 use Rattle.otap_attrs.specs.Defects.{OrphanIn}
@@ -48,7 +48,7 @@ OrphanOf tables t None = ⊥
 OrphanOf tables t (Some parents) = Orphan t parents.column (table_named parents.of tables) parents.at
 
 -- what is wrong with a table that hangs together with others in this way
-abbrev pub WrongIn : List Table → Table → Link → RowRefusal → Type 0
+abbrev pub WrongIn : List Table → Table → TableLink → RowRefusal → Type 0
 WrongIn tables t link (why.Ids fault.PastType) = Some_column PastType t
 WrongIn tables t link (why.Ids fault.NullParent) = Some_column HasNullParent t
 WrongIn tables t link (why.Ids fault.Duplicate) = DuplicateOf t link.own
@@ -57,7 +57,7 @@ WrongIn tables t link _ = ⊥
 
 -- WHAT IS WRONG WITH THE IDS of the table of a kind among the tables of a signal
 pub record IdDefect (of : Signal) (tables : List Table) (kind : Kind) (wrong : RowRefusal) : Type 0 where
-  pub link : Link
+  pub link : TableLink
   pub listed : Contains (links_of of) link
   pub names : link.kind ≡ kind
   pub is : WrongIn tables (table_named kind tables) link wrong

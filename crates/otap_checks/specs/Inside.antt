@@ -7,7 +7,7 @@ use Rattle.otap_cells.specs.declared.payload.Kind.{Kind}
 use Rattle.otap_cells.specs.Columns.{is_id_at, name_at}
 use Rattle.otap_cells.specs.ColumnIds.{HasNullParent}
 use Rattle.otap_cells.specs.Tables.{Table}
-use Rattle.otap_checks.specs.declared.links.Link.{Link}
+use Rattle.otap_checks.specs.declared.links.TableLink.{TableLink}
 use Rattle.otap_checks.specs.declared.links.Parents.{Parents}
 use Rattle.otap_cells.specs.Named.{table_named}
 use Rattle.otap_attrs.specs.Defects.{OrphanIn}
@@ -33,7 +33,7 @@ abbrev pub IsAboveOrNone : Kind → Option Parents → Type 0
 IsAboveOrNone kind None = Unit {0}
 IsAboveOrNone kind (Some p) = IsAbove kind p
 
-pub record IsLinked (link : Link) : Type 0 where
+pub record IsLinked (link : TableLink) : Type 0 where
   pub own : IsIdOrNone link.kind link.own
   pub parents : IsAboveOrNone link.kind link.parents
 
@@ -49,8 +49,8 @@ ColumnFault t _ = ⊥
 abbrev pub ColumnWrong : List Table → Kind → Kind → RowRefusal → Type 0
 ColumnWrong tables kind named wrong = (named ≡ kind) × ColumnFault (table_named kind tables) wrong
 
-abbrev pub ColumnsWrong : List Table → List Link → Kind → RowRefusal → Type 0
-ColumnsWrong tables links kind wrong = (link : Link) × Contains links link × ColumnWrong tables link.kind kind wrong
+abbrev pub ColumnsWrong : List Table → List TableLink → Kind → RowRefusal → Type 0
+ColumnsWrong tables links kind wrong = (link : TableLink) × Contains links link × ColumnWrong tables link.kind kind wrong
 
 -- ---- ids that are known
 
@@ -66,22 +66,22 @@ abbrev pub Keeps : List ColumnIds → List ColumnIds → Type 0
 Keeps old new = (ids : ColumnIds) → Contains old ids → Contains new ids
 
 -- two rows have one id; a parent isn't there
-abbrev pub OwnTwice : List ColumnIds → Link → Option ℕ → Type 0
+abbrev pub OwnTwice : List ColumnIds → TableLink → Option ℕ → Type 0
 OwnTwice known link None = ⊥
 OwnTwice known link (Some column) = Twice (ids_named link.kind column known)
 
-abbrev pub IsLost : List ColumnIds → Link → Option Parents → Type 0
+abbrev pub IsLost : List ColumnIds → TableLink → Option Parents → Type 0
 IsLost known link None = ⊥
 IsLost known link (Some parents) = OrphanIn (ids_named link.kind parents.column known) (ids_named parents.of parents.at known)
 
 -- what is wrong with the ids of a table, where they are known
-abbrev pub KnownFault : List ColumnIds → Link → RowRefusal → Type 0
+abbrev pub KnownFault : List ColumnIds → TableLink → RowRefusal → Type 0
 KnownFault known link (why.Ids fault.Duplicate) = OwnTwice known link link.own
 KnownFault known link why.Orphan = IsLost known link link.parents
 KnownFault known link _ = ⊥
 
-abbrev pub KnownWrong : List ColumnIds → Link → Kind → RowRefusal → Type 0
+abbrev pub KnownWrong : List ColumnIds → TableLink → Kind → RowRefusal → Type 0
 KnownWrong known link kind wrong = (kind ≡ link.kind) × KnownFault known link wrong
 
-abbrev pub KnownFaults : List ColumnIds → List Link → Kind → RowRefusal → Type 0
-KnownFaults known links kind wrong = (link : Link) × Contains links link × KnownWrong known link kind wrong
+abbrev pub KnownFaults : List ColumnIds → List TableLink → Kind → RowRefusal → Type 0
+KnownFaults known links kind wrong = (link : TableLink) × Contains links link × KnownWrong known link kind wrong

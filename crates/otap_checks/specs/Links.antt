@@ -4,20 +4,20 @@ use Rattle.otlp_model.specs.declared.request.Signal.{Signal}
 use Rattle.otlp_model.specs.declared.request.Signal.TheVariants as signal
 use Rattle.otap_cells.specs.declared.payload.Kind.{Kind}
 use Rattle.otap_cells.specs.declared.payload.Kind.TheVariants as table
-use Rattle.otap_checks.specs.declared.links.Link.{Link}
+use Rattle.otap_checks.specs.declared.links.TableLink.{TableLink}
 
 -- items have ids; parts have ids and parents; attributes have parents. The ids of the parents stand in a column of a table
-abbrev pub items : Kind → Link
+abbrev pub items : Kind → TableLink
 items kind = record { kind = kind; own = Some 0; parents = None }
 
-abbrev pub parts : Kind → Kind → ℕ → Link
+abbrev pub parts : Kind → Kind → ℕ → TableLink
 parts kind of at = record { kind = kind; own = Some 0; parents = Some (record { column = 1; of = of; at = at }) }
 
-abbrev pub attributes : Kind → Kind → ℕ → Link
+abbrev pub attributes : Kind → Kind → ℕ → TableLink
 attributes kind of at = record { kind = kind; own = None; parents = Some (record { column = 0; of = of; at = at }) }
 
 -- the tables of a signal
-unfoldable pub links_of : Signal → List Link
+unfoldable pub links_of : Signal → List TableLink
 links_of signal.Logs = items table.Logs ∷ attributes table.ResourceAttrs table.Logs 1 ∷ attributes table.ScopeAttrs table.Logs 4
     ∷ attributes table.LogAttrs table.Logs 0 ∷ []
 links_of signal.Traces = items table.Spans ∷ attributes table.ResourceAttrs table.Spans 1 ∷ attributes table.ScopeAttrs table.Spans 4

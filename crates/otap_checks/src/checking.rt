@@ -5,7 +5,7 @@ ghost use Rattle.otap_cells.specs.Named.{table_named};
 ghost use Rattle.otap_cells.specs.Sets.{IsSet, tables_in};
 ghost use Rattle.otap_cells.specs.Tables.{profile_table};
 ghost use Rattle.otap_attrs.specs.declared.refusal.RowRefusal.{RowRefusal};
-ghost use Rattle.otap_checks.specs.declared.links.Link.{Link};
+ghost use Rattle.otap_checks.specs.declared.links.TableLink.{TableLink};
 ghost use Rattle.otap_checks.specs.IdDefects.{IdDefect};
 ghost use Rattle.otap_checks.specs.Inside.{IsLost, KnownFault, KnownFaults, KnownWrong, OwnTwice};
 ghost use Rattle.otap_checks.specs.Refusing.{refused_as, RefusesCheck};
@@ -13,7 +13,7 @@ ghost use Rattle.otap_checks.specs.Known.{Knows};
 ghost use Rattle.otap_checks.specs.Links.{links_of};
 
 use crate::known::{KnownIds, read_tables};
-use crate::links::{Link, links_of};
+use crate::links::{TableLink, links_of};
 use otap_attrs::{CheckRefusal, RowRefusal, has_orphan};
 use otap_cells::{IdFault, Kind, Rows, TableSet, has_twice};
 use otlp_model::Signal;
@@ -42,7 +42,7 @@ pub fn known_ids<R: Rows>(
 ) -> Result<KnownIds, CheckRefusal>
     requires { IsSet R.table set.now.tables.items }
     ensures clean { OnOk result ((kind : Kind) (why : RowRefusal) → IdDefect signal (tables_in R.table set.now.tables.items) kind why → ⊥) }
-    ensures known { IfOk result (λ known. (link : Link) → Contains (links_of signal) link
+    ensures known { IfOk result (λ known. (link : TableLink) → Contains (links_of signal) link
         → Knows (table_named link.kind (tables_in R.table set.now.tables.items)) link.kind known.columns.items) }
     ensures err { IfErr result (RefusesCheck (IdDefect signal (tables_in R.table set.now.tables.items))) }
 {
@@ -54,8 +54,8 @@ pub fn known_ids<R: Rows>(
     }
 }
 
-fn check_links(alloc: Global, known: &KnownIds, links: &[Link]) -> Result<(), CheckRefusal>
-    ensures ok { OnOk result (All (λ (link : Link). (why : RowRefusal) → KnownFault known.now.columns.items link why → ⊥) links.now) }
+fn check_links(alloc: Global, known: &KnownIds, links: &[TableLink]) -> Result<(), CheckRefusal>
+    ensures ok { OnOk result (All (λ (link : TableLink). (why : RowRefusal) → KnownFault known.now.columns.items link why → ⊥) links.now) }
     ensures err { IfErr result (RefusesCheck (KnownFaults known.now.columns.items links.now)) }
 {
     'links: for place in 0..links.len() {
@@ -64,7 +64,7 @@ fn check_links(alloc: Global, known: &KnownIds, links: &[Link]) -> Result<(), Ch
     Ok(())
 }
 
-fn check_link(alloc: Global, known: &KnownIds, link: &Link) -> Result<(), CheckRefusal>
+fn check_link(alloc: Global, known: &KnownIds, link: &TableLink) -> Result<(), CheckRefusal>
     ensures ok { OnOk result ((why : RowRefusal) → KnownFault known.now.columns.items link.now why → ⊥) }
     ensures err { IfErr result (RefusesCheck (KnownWrong known.now.columns.items link.now)) }
 {
@@ -84,7 +84,7 @@ fn check_link(alloc: Global, known: &KnownIds, link: &Link) -> Result<(), CheckR
 }
 
 /// Whether two rows have one id.
-fn has_id_twice(alloc: Global, known: &KnownIds, link: &Link) -> Result<bool, AllocError>
+fn has_id_twice(alloc: Global, known: &KnownIds, link: &TableLink) -> Result<bool, AllocError>
     ensures yes { IfOk result (λ found. found ≡ true → OwnTwice known.now.columns.items link.now link.now.own) }
     ensures no { IfOk result (λ found. found ≡ false → OwnTwice known.now.columns.items link.now link.now.own → ⊥) }
 {
@@ -96,7 +96,7 @@ fn has_id_twice(alloc: Global, known: &KnownIds, link: &Link) -> Result<bool, Al
 }
 
 /// Whether a row has a parent that isn't there.
-fn has_lost_row(alloc: Global, known: &KnownIds, link: &Link) -> Result<bool, AllocError>
+fn has_lost_row(alloc: Global, known: &KnownIds, link: &TableLink) -> Result<bool, AllocError>
     ensures yes { IfOk result (λ found. found ≡ true → IsLost known.now.columns.items link.now link.now.parents) }
     ensures no { IfOk result (λ found. found ≡ false → IsLost known.now.columns.items link.now link.now.parents → ⊥) }
 {

@@ -3,13 +3,13 @@ ghost use Rattle.std.specs.Prelude.{◌≡◌, ◌++◌, ◌∷◌, [], true, Al
 ghost use Rattle.otap_cells.specs.Columns.{is_id_at};
 ghost use Rattle.otap_cells.specs.Named.{table_named};
 ghost use Rattle.otap_cells.specs.Sets.{IsSet, tables_in};
-ghost use Rattle.otap_checks.specs.declared.links.Link.{Link};
+ghost use Rattle.otap_checks.specs.declared.links.TableLink.{TableLink};
 ghost use Rattle.otap_checks.specs.Inside.{ColumnsWrong, ColumnWrong, HasColumns, IsRight, Keeps};
 ghost use Rattle.otap_checks.specs.Known.{IsKnown, ids_named};
 ghost use Rattle.otap_checks.specs.Refusing.{RefusesCheck};
 
 use crate::checking::{refused, table_of};
-use crate::links::Link;
+use crate::links::TableLink;
 use otap_attrs::{CheckRefusal, RowRefusal};
 use otap_cells::{Kind, Rows, TableSet, base_of, columns, read_ids};
 use std::alloc::{AllocError, Global};
@@ -53,11 +53,11 @@ fn find(known: &[ColumnIds], kind: Kind, column: u32) -> &[Option<u32>]
 pub(crate) fn read_tables<R: Rows>(
     alloc: Global,
     set: &TableSet<R>,
-    links: &[Link],
+    links: &[TableLink],
 ) -> Result<KnownIds, CheckRefusal>
     requires { IsSet R.table set.now.tables.items }
     ensures right { IfOk result (λ known. All (IsRight (tables_in R.table set.now.tables.items)) known.columns.items) }
-    ensures all { IfOk result (λ known. All (λ (link : Link). HasColumns link.kind known.columns.items) links.now) }
+    ensures all { IfOk result (λ known. All (λ (link : TableLink). HasColumns link.kind known.columns.items) links.now) }
     ensures err { IfErr result (RefusesCheck (ColumnsWrong (tables_in R.table set.now.tables.items) links.now)) }
 {
     let mut known = Vec::new(alloc);

@@ -13,7 +13,7 @@ mod values;
 pub use checking::{check_ids, known_ids, refused, table_of};
 pub use fronts::{disagrees, front_of};
 pub use known::{ColumnIds, KnownIds};
-pub use links::{Link, Parents, links_of};
+pub use links::{Parents, TableLink, links_of};
 pub use pairs::{TablePairs, find_pairs};
 pub use regrouping::{Grouped, RegroupRefusal, groups_within};
 pub use values::check_values;

@@ -18,7 +18,7 @@ pub struct Parents {
 
 /// A table, and what its ids have to do with those of another.
 #[derive(Clone, Copy, Debug)]
-pub struct Link {
+pub struct TableLink {
     /// The payload type of the table.
     pub kind: Kind,
     /// The column of its rows' own ids, no two of which may be equal.
@@ -30,7 +30,7 @@ pub struct Link {
 // Items have ids.
 macro_rules! items {
     ($kind:ident) => {
-        Link {
+        TableLink {
             kind: Kind::$kind,
             own: Some(0),
             parents: None,
@@ -41,7 +41,7 @@ macro_rules! items {
 // Parts have ids and parents.
 macro_rules! parts {
     ($kind:ident of $of:ident $at:literal) => {
-        Link {
+        TableLink {
             kind: Kind::$kind,
             own: Some(0),
             parents: Some(Parents {
@@ -56,7 +56,7 @@ macro_rules! parts {
 // Attributes have parents.
 macro_rules! attributes {
     ($kind:ident of $of:ident $at:literal) => {
-        Link {
+        TableLink {
             kind: Kind::$kind,
             own: None,
             parents: Some(Parents {
@@ -68,14 +68,14 @@ macro_rules! attributes {
     };
 }
 
-static LOGS: &[Link] = &[
+static LOGS: &[TableLink] = &[
     items!(Logs),
     attributes!(ResourceAttrs of Logs 1),
     attributes!(ScopeAttrs of Logs 4),
     attributes!(LogAttrs of Logs 0),
 ];
 
-static SPANS: &[Link] = &[
+static SPANS: &[TableLink] = &[
     items!(Spans),
     attributes!(ResourceAttrs of Spans 1),
     attributes!(ScopeAttrs of Spans 4),
@@ -86,7 +86,7 @@ static SPANS: &[Link] = &[
     attributes!(LinkAttrs of SpanLinks 0),
 ];
 
-static METRICS: &[Link] = &[
+static METRICS: &[TableLink] = &[
     items!(Metrics),
     attributes!(ResourceAttrs of Metrics 1),
     attributes!(ScopeAttrs of Metrics 4),
@@ -104,7 +104,7 @@ static METRICS: &[Link] = &[
 
 /// The tables of a signal, its main table first.
 #[tactic(auto, unfolding(crate::specs::Links::links_of))]
-pub fn links_of(signal: Signal) -> &'static [Link]
+pub fn links_of(signal: Signal) -> &'static [TableLink]
     ensures { result.now ≡ links_of signal }
 {
     match signal {

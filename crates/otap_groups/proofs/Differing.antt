@@ -37,12 +37,12 @@ in_whole parent x (e ∷ es) there = by (e.parent == parent) there (in_whole par
   by true (inr there) ih = inr (ih there)
   by false there ih = inr (ih there)
 
-record Place (x : Entry) (es : List Entry) : Type 0 where
+record PlaceAmong (x : Entry) (es : List Entry) : Type 0 where
   at : ℕ
   within : at < length es
   is : (d : Entry) → get_or es at d ≡ x
 
-place_of : (x : Entry) (es : List Entry) → In x es → Place x es
+place_of : (x : Entry) (es : List Entry) → In x es → PlaceAmong x es
 place_of x [] there = absurd there
 place_of x (e ∷ es) (inl is) = record { at = 0; within = omega arith; is = λ d. is }
 place_of x (e ∷ es) (inr there) =
@@ -153,7 +153,7 @@ module _ (id : MainRow → Option ℕ) (cells : MainRow → List Cell) (row : �
       (within, sym (get_or-map-range_with_len row 0 n has.0 has.0 a within (omega arith)) ∙ has.2)
 
   entry_place : (n p k : ℕ) (a : MainRow) (ids : List (Option ℕ)) (es : List Entry) → ids ≡ map id (part row 0 n)
-      → ((parent : ℕ) → of_parent parent es ≡ of_parent parent (entries_from 0 ids)) → k < n → row k ≡ a → id a ≡ Some p → Place (record { parent = p; place = k }) es
+      → ((parent : ℕ) → of_parent parent es ≡ of_parent parent (entries_from 0 ids)) → k < n → row k ≡ a → id a ≡ Some p → PlaceAmong (record { parent = p; place = k }) es
   entry_place n p k a ids es are same within is named =
       let at : get_or ids k None ≡ Some p = id_of n k ids are within ∙ ap id is ∙ named in
       let e : 0 + k ≡ k = omega arith in
@@ -181,7 +181,7 @@ module _ (id : MainRow → Option ℕ) (cells : MainRow → List Cell) (row : �
         total : (i j : ℕ) → (i ≤ j) ⊎ (j ≤ i)
         total i j = grind (arith, nat_tests)
 
-        either : (x : Place (record { parent = h.shared; place = h.first.0 }) es) (y : Place (record { parent = h.shared; place = h.second.0 }) es)
+        either : (x : PlaceAmong (record { parent = h.shared; place = h.first.0 }) es) (y : PlaceAmong (record { parent = h.shared; place = h.second.0 }) es)
             → ((x.at ≤ y.at) ⊎ (y.at ≤ x.at)) → cells (row h.first.0) ≡ cells (row h.second.0)
         either x y (inl low) = meet es _ _ x.at y.at agree low y.within x.is y.is refl
         either x y (inr low) = sym (meet es _ _ y.at x.at agree low x.within y.is x.is refl)

@@ -26,7 +26,7 @@ use Rattle.otap_groups.proofs.PartTables.{ids_of, part_there}
 use Rattle.otap_groups.proofs.StoredRows.{part_ids_of}
 use Rattle.otap_attrs.specs.declared.refusal.RowRefusal.{RowRefusal}
 use Rattle.otap_attrs.specs.Tables.{attribute_table}
-use Rattle.otap_checks.specs.declared.links.Link.{Link}
+use Rattle.otap_checks.specs.declared.links.TableLink.{TableLink}
 use Rattle.otap_checks.specs.IdDefects.{WrongIn}
 use Rattle.otap_checks.specs.Links.{attributes, items, links_of, parts}
 use Rattle.otap_checks.proofs.FineLinks.{fine_attributes, fine_parts, settle}
@@ -42,8 +42,8 @@ use Rattle.otap_hist.proofs.FoundHists.{few_all_exemplars, few_all_hists, few_al
 use Rattle.otap_hist.proofs.HistColumns.{exemplar_ids, exemplars_are_parts, hist_ids, hists_are_parts, summaries_are_parts, summary_ids}
 
 -- the table of a link isn't one of the others
-theirs : {A : Type 0} (link here : Link) (kind : Kind) → here ≡ link → link.kind ≡ kind → is_other kind ≡ true → is_other here.kind ≡ false → A
-theirs link here kind same names other own = absurd (false≢true (sym own ∙ ap is_other (ap (λ (link : Link). link.kind) same ∙ names) ∙ other))
+theirs : {A : Type 0} (link here : TableLink) (kind : Kind) → here ≡ link → link.kind ≡ kind → is_other kind ≡ true → is_other here.kind ≡ false → A
+theirs link here kind same names other own = absurd (false≢true (sym own ∙ ap is_other (ap (λ (link : TableLink). link.kind) same ∙ names) ∙ other))
 
 module _ (groups : List (ResourceGroup Metric)) (tables : List Table) (metrics : HoldMetrics groups tables) (have : HoldHists groups tables) (light : weight_of (Metrics groups) ≤ weight_limit) where
   abbrev rows : List MainRow
@@ -124,7 +124,7 @@ module _ (groups : List (ResourceGroup Metric)) (tables : List Table) (metrics :
 
   -- ---- all tables
 
-  by_link : (k : ℕ) (kind : Kind) (link : Link) (wrong : RowRefusal) → k < 13 → get_or (links_of signal.Metrics) k link ≡ link → link.kind ≡ kind → is_other kind ≡ true
+  by_link : (k : ℕ) (kind : Kind) (link : TableLink) (wrong : RowRefusal) → k < 13 → get_or (links_of signal.Metrics) k link ≡ link → link.kind ≡ kind → is_other kind ≡ true
       → WrongIn tables (table_named kind tables) link wrong → ⊥
   unfolding links_of
   by_link zero kind link wrong less at names other is = theirs link (items table.Metrics) kind at names other refl

@@ -16,7 +16,7 @@ use Rattle.otap_groups.specs.Weighing.{cells_weight, parts_weight}
 use Rattle.otap_attrs.specs.Values.{pair_cells}
 use Rattle.otap_attrs.specs.declared.refusal.RowRefusal.{RowRefusal}
 use Rattle.otap_checks.specs.declared.known.ColumnIds.{ColumnIds}
-use Rattle.otap_checks.specs.declared.links.Link.{Link}
+use Rattle.otap_checks.specs.declared.links.TableLink.{TableLink}
 use Rattle.otap_checks.specs.Known.{Knows}
 use Rattle.otap_checks.specs.Links.{links_of}
 use Rattle.otap_metrics.specs.Inside.{exemplar_weight}
@@ -61,4 +61,4 @@ pub record AreWholeHists (tables : List Table) : Type 0 where
 
 -- the ids of all tables are known
 abbrev pub KnowsWhole : List Table → List ColumnIds → Type 0
-KnowsWhole tables known = (link : Link) → Contains (links_of signal.Metrics) link → Knows (table_named link.kind tables) link.kind known
+KnowsWhole tables known = (link : TableLink) → Contains (links_of signal.Metrics) link → Knows (table_named link.kind tables) link.kind known

@@ -25,7 +25,7 @@ use Rattle.otap_groups.proofs.GroupsApart.{item_there, own_once, resource_there,
 use Rattle.otap_groups.proofs.StoredRows.{own_ids_of, resource_ids_of, scope_ids_of}
 use Rattle.otap_attrs.specs.declared.refusal.RowRefusal.{RowRefusal}
 use Rattle.otap_attrs.specs.Tables.{attribute_table}
-use Rattle.otap_checks.specs.declared.links.Link.{Link}
+use Rattle.otap_checks.specs.declared.links.TableLink.{TableLink}
 use Rattle.otap_checks.specs.IdDefects.{IdDefect, WrongIn}
 use Rattle.otap_checks.specs.Given.{AreGiven, IsGiven}
 use Rattle.otap_checks.specs.Links.{attributes, items, links_of}
@@ -116,7 +116,7 @@ module _ (groups : List (ResourceGroup LogRecord)) (light : weight_of (Logs grou
       fine_attributes tables table.LogAttrs table.Logs 0 (record_pairs groups) refl (few_l groups light) (map (λ (row : MainRow). row.id) rows) own_known
       (λ p less. item_there record_cells groups p (omega (arith, less, length-map (items_of groups) (λ (log : LogRecord). log.pairs))))
 
-  by_link : (k : ℕ) (kind : Kind) (link : Link) (wrong : RowRefusal) → k < 4 → get_or (links_of signal.Logs) k link ≡ link → link.kind ≡ kind
+  by_link : (k : ℕ) (kind : Kind) (link : TableLink) (wrong : RowRefusal) → k < 4 → get_or (links_of signal.Logs) k link ≡ link → link.kind ≡ kind
       → WrongIn tables (table_named kind tables) link wrong → ⊥
   unfolding links_of
   by_link zero kind link wrong less at names is = settle tables link (items table.Logs) kind main wrong at names (named_main groups) (fine_main wrong) is

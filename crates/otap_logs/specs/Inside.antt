@@ -7,7 +7,7 @@ use Rattle.otap_cells.specs.Named.{table_named}
 use Rattle.otap_cells.specs.Tables.{Table}
 use Rattle.otap_attrs.specs.declared.refusal.RowRefusal.{RowRefusal}
 use Rattle.otap_checks.specs.declared.known.ColumnIds.{ColumnIds}
-use Rattle.otap_checks.specs.declared.links.Link.{Link}
+use Rattle.otap_checks.specs.declared.links.TableLink.{TableLink}
 use Rattle.otap_checks.specs.IdDefects.{IdDefect}
 use Rattle.otap_checks.specs.Known.{Knows}
 use Rattle.otap_checks.specs.Links.{links_of}
@@ -28,4 +28,4 @@ IsUnlike tables = Disagrees (table_named table.Logs tables)
 
 -- the ids of each table are known
 abbrev pub KnowsLogs : List Table → List ColumnIds → Type 0
-KnowsLogs tables known = (link : Link) → Contains (links_of signal.Logs) link → Knows (table_named link.kind tables) link.kind known
+KnowsLogs tables known = (link : TableLink) → Contains (links_of signal.Logs) link → Knows (table_named link.kind tables) link.kind known

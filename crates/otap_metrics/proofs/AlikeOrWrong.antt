@@ -13,7 +13,7 @@ use Rattle.otap_groups.specs.Rows.{id_at}
 use Rattle.otap_attrs.specs.declared.refusal.RowRefusal.{RowRefusal}
 use Rattle.otap_attrs.specs.declared.refusal.RowRefusal.TheVariants as why
 use Rattle.otap_checks.specs.Deciding.{CleanOrWrong, HaveByteCells}
-use Rattle.otap_checks.specs.declared.links.Link.{Link}
+use Rattle.otap_checks.specs.declared.links.TableLink.{TableLink}
 use Rattle.otap_checks.specs.IdDefects.{WrongIn}
 use Rattle.otap_checks.specs.Links.{links_of}
 use Rattle.otap_checks.proofs.CleanOrWrong.{AreDecided, attributes_clean_or_wrong, SomeWrong, table_or_wrong, disagrees_or_not}
@@ -129,7 +129,7 @@ module _ (fits : ℕ → Bool) (t main : Table) (parents ids : List (Option ℕ)
 
 -- ---- ids
 
-abbrev OwnWrong : List Table → Link → Type 0
+abbrev OwnWrong : List Table → TableLink → Type 0
 OwnWrong tables link = (is_other link.kind ≡ false) × SomeWrong tables (table_named link.kind tables) link
 
 own_ids_clean_or_wrong : (tables : List Table) → CleanOrWrong (WrongIds tables)

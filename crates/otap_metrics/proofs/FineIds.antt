@@ -28,7 +28,7 @@ use Rattle.otap_groups.proofs.PartTables.{ids_of, part_there}
 use Rattle.otap_groups.proofs.StoredRows.{own_ids_of, part_ids_of, resource_ids_of, scope_ids_of}
 use Rattle.otap_attrs.specs.declared.refusal.RowRefusal.{RowRefusal}
 use Rattle.otap_attrs.specs.Tables.{attribute_table}
-use Rattle.otap_checks.specs.declared.links.Link.{Link}
+use Rattle.otap_checks.specs.declared.links.TableLink.{TableLink}
 use Rattle.otap_checks.specs.IdDefects.{WrongIn}
 use Rattle.otap_checks.specs.Given.{AreGiven, IsGiven}
 use Rattle.otap_checks.specs.Links.{attributes, items, links_of, parts}
@@ -46,8 +46,8 @@ use Rattle.otap_metrics.proofs.FewParts.{few_all_exemplars, few_all_points, few_
 use Rattle.otap_metrics.proofs.MetricColumns.{exemplar_ids, exemplars_are_parts, metric_ids, metrics_are_main, point_ids, points_are_parts}
 
 -- the table of a link isn't one of these
-ours : {A : Type 0} (link here : Link) (kind : Kind) → here ≡ link → link.kind ≡ kind → is_other kind ≡ false → is_other here.kind ≡ true → A
-ours link here kind same names own other = absurd (false≢true (sym own ∙ sym (ap is_other (ap (λ (link : Link). link.kind) same ∙ names)) ∙ other))
+ours : {A : Type 0} (link here : TableLink) (kind : Kind) → here ≡ link → link.kind ≡ kind → is_other kind ≡ false → is_other here.kind ≡ true → A
+ours link here kind same names own other = absurd (false≢true (sym own ∙ sym (ap is_other (ap (λ (link : TableLink). link.kind) same ∙ names)) ∙ other))
 
 module _ (groups : List (ResourceGroup Metric)) (tables : List Table) (have : HoldMetrics groups tables) (light : weight_of (Metrics groups) ≤ weight_limit) where
   abbrev main : Table
@@ -160,7 +160,7 @@ module _ (groups : List (ResourceGroup Metric)) (tables : List Table) (have : Ho
 
   -- ---- all tables
 
-  by_link : (k : ℕ) (kind : Kind) (link : Link) (wrong : RowRefusal) → k < 13 → get_or (links_of signal.Metrics) k link ≡ link → link.kind ≡ kind → is_other kind ≡ false
+  by_link : (k : ℕ) (kind : Kind) (link : TableLink) (wrong : RowRefusal) → k < 13 → get_or (links_of signal.Metrics) k link ≡ link → link.kind ≡ kind → is_other kind ≡ false
       → WrongIn tables (table_named kind tables) link wrong → ⊥
   unfolding links_of
   by_link zero kind link wrong less at names own is = settle tables link (items table.Metrics) kind main wrong at names have.main (fine_main wrong) is

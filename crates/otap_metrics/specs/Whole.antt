@@ -8,7 +8,7 @@ use Rattle.otap_cells.specs.Named.{table_named}
 use Rattle.otap_cells.specs.Tables.{Table}
 use Rattle.otap_attrs.specs.declared.refusal.RowRefusal.{RowRefusal}
 use Rattle.otap_checks.specs.declared.known.ColumnIds.{ColumnIds}
-use Rattle.otap_checks.specs.declared.links.Link.{Link}
+use Rattle.otap_checks.specs.declared.links.TableLink.{TableLink}
 use Rattle.otap_checks.specs.Known.{Knows}
 use Rattle.otap_checks.specs.Links.{links_of}
 use Rattle.otap_checks.specs.ValueDefects.{HasFineValues}
@@ -37,4 +37,4 @@ fits_of sort.Summaries = has_summary_points
 -- the ids of each table but those of histograms and summaries are known
 abbrev pub KnowsMetrics : List Table → List ColumnIds → Type 0
 KnowsMetrics tables known =
-    (link : Link) → Contains (links_of signal.Metrics) link → is_other link.kind ≡ false → Knows (table_named link.kind tables) link.kind known
+    (link : TableLink) → Contains (links_of signal.Metrics) link → is_other link.kind ≡ false → Knows (table_named link.kind tables) link.kind known

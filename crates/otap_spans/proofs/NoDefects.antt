@@ -36,7 +36,7 @@ use Rattle.otap_groups.proofs.StoredRows.{own_ids_of, part_ids_of, resource_ids_
 use Rattle.otap_groups.proofs.WritableGroups.{all_flat_map, all_items_can, all_resources_can, all_scopes_can}
 use Rattle.otap_attrs.specs.declared.refusal.RowRefusal.{RowRefusal}
 use Rattle.otap_attrs.specs.Tables.{attribute_table}
-use Rattle.otap_checks.specs.declared.links.Link.{Link as Hang}
+use Rattle.otap_checks.specs.declared.links.TableLink.{TableLink}
 use Rattle.otap_checks.specs.IdDefects.{IdDefect, WrongIn}
 use Rattle.otap_checks.specs.Given.{AreGiven, IsGiven}
 use Rattle.otap_checks.specs.Links.{attributes, items, links_of, parts}
@@ -187,7 +187,7 @@ module _ (groups : List (ResourceGroup Span)) (light : weight_of (Traces groups)
 
   -- ---- all tables
 
-  by_link : (k : ℕ) (kind : Kind) (link : Hang) (wrong : RowRefusal) → k < 8 → get_or (links_of signal.Traces) k link ≡ link → link.kind ≡ kind
+  by_link : (k : ℕ) (kind : Kind) (link : TableLink) (wrong : RowRefusal) → k < 8 → get_or (links_of signal.Traces) k link ≡ link → link.kind ≡ kind
       → WrongIn tables (table_named kind tables) link wrong → ⊥
   unfolding links_of
   by_link zero kind link wrong less at names is = settle tables link (items table.Spans) kind main wrong at names (named_main groups) (fine_main wrong) is

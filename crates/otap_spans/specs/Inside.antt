@@ -14,7 +14,7 @@ use Rattle.otap_groups.specs.Found.{found}
 use Rattle.otap_attrs.specs.declared.refusal.RowRefusal.{RowRefusal}
 use Rattle.otap_attrs.specs.Values.{pair_in}
 use Rattle.otap_checks.specs.declared.known.ColumnIds.{ColumnIds}
-use Rattle.otap_checks.specs.declared.links.Link as hangs
+use Rattle.otap_checks.specs.declared.links.TableLink.{TableLink}
 use Rattle.otap_checks.specs.IdDefects.{IdDefect}
 use Rattle.otap_checks.specs.Known.{Knows}
 use Rattle.otap_checks.specs.Links.{links_of}
@@ -38,7 +38,7 @@ IsUnlike tables = Disagrees (table_named table.Spans tables)
 
 -- the ids of each table are known
 abbrev pub KnowsSpans : List Table → List ColumnIds → Type 0
-KnowsSpans tables known = (link : hangs.Link) → Contains (links_of signal.Traces) link → Knows (table_named link.kind tables) link.kind known
+KnowsSpans tables known = (link : TableLink) → Contains (links_of signal.Traces) link → Knows (table_named link.kind tables) link.kind known
 
 -- ---- what is found below a parent by an index
 

@@ -1,8 +1,8 @@
 use Rattle.std.proofs.Common.{ℕ, ◌<◌, get_or}
 use Rattle.otap_attrs.specs.declared.refusal.RowRefusal.{RowRefusal}
-use Rattle.otap_checks.specs.declared.links.Link.{Link}
+use Rattle.otap_checks.specs.declared.links.TableLink.{TableLink}
 use Rattle.otap_checks.specs.Inside.{KnownFault}
 use Rattle.otap_checks.proofs.checking.check_links.Given as goal
 
 abbrev pub invariant-links : goal.invariant-links
-invariant-links l = (k : ℕ) (d : Link) → k < l.place → (why : RowRefusal) → KnownFault l.known.columns.items (get_or l.links k d) why → ⊥
+invariant-links l = (k : ℕ) (d : TableLink) → k < l.place → (why : RowRefusal) → KnownFault l.known.columns.items (get_or l.links k d) why → ⊥
