@@ -3,7 +3,6 @@ use Rattle.std.proofs.Common.{◌≡◌, ◌∙◌, ℕ, suc, ◌+◌, ◌<◌, 
 use Rattle.std.proofs.lemmas.List.{length-map}
 use Rattle.std.proofs.lemmas.Bool.{false≢true, cases_eq}
 use Rattle.otap_cells.specs.Cells.{Cell, null}
-use Rattle.otap_cells.specs.declared.column_ids.IdsRefusal.{IdsRefusal}
 use Rattle.otap_cells.specs.declared.column_ids.IdsRefusal.TheVariants as ids
 use Rattle.otap_cells.specs.declared.ids.IdFault.{IdFault}
 use Rattle.otap_cells.specs.declared.ids.IdFault.TheVariants.{PastType, Duplicate, NullParent}
@@ -11,7 +10,7 @@ use Rattle.otap_cells.specs.declared.payload.Kind.{Kind}
 use Rattle.otap_cells.specs.declared.payload.Kind.TheVariants as table
 use Rattle.otap_cells.specs.declared.profile.Coding.{Coding}
 use Rattle.otap_cells.specs.Columns.{is_id_at, attrs, deep_attrs}
-use Rattle.otap_cells.specs.ColumnIds.{HasFault, HasNullParent, RefusesIds, id_in, stored_in}
+use Rattle.otap_cells.specs.ColumnIds.{HasFault, HasNullParent, id_in, stored_in}
 use Rattle.otap_cells.specs.Continuing.{continues_in, has_attributes}
 use Rattle.otap_cells.specs.GivenIds.{HasIds, ids_in}
 use Rattle.otap_cells.specs.Ids.{IdsAfter}
@@ -21,9 +20,8 @@ use Rattle.otap_groups.specs.Children.{children}
 use Rattle.otap_groups.specs.Rows.{child_rows}
 use Rattle.otap_attrs.specs.declared.refusal.RowRefusal.{RowRefusal}
 use Rattle.otap_attrs.specs.declared.refusal.RowRefusal.TheVariants as why
-use Rattle.otap_attrs.specs.Defects.{HasOrphan, OrphanIn, PairDefect, RefusesRow, WrongValue}
+use Rattle.otap_attrs.specs.Defects.{HasOrphan, OrphanIn, PairDefect, WrongValue}
 use Rattle.otap_attrs.specs.Index.{pairs_in}
-use Rattle.otap_attrs.specs.Refusals.{refusal_of_ids}
 use Rattle.otap_attrs.specs.Values.{BadValue, pair_in}
 
 -- the ids that a column has are its ids as a list
@@ -80,23 +78,6 @@ values_more rows column row below here k less why bad =
     ]
 
 -- ---- what is wrong, and what isn't
-
--- a refusal of ids refuses the rows
-pub ids_refused : (t : Table) (known : List (Option ℕ)) (inner : IdsRefusal) → RefusesIds t 0 (continues_in t) inner
-    → RefusesRow (PairDefect t known) (refusal_of_ids inner)
-ids_refused t known (ids.Memory error) refused = tt
-ids_refused t known (ids.Ids fault) refused = refused
-
--- a wrong value is a defect
-pub value_refused : (t : Table) (known : List (Option ℕ)) (wrong : RowRefusal) → WrongValue t 2 wrong → RefusesRow (PairDefect t known) wrong
-value_refused t known (why.Memory error) is = tt
-value_refused t known (why.Ids fault) is = absurd is.is
-value_refused t known why.Orphan is = absurd is.is
-value_refused t known why.Disagree is = absurd is.is
-value_refused t known why.BadValueType is = is
-value_refused t known (why.BadCbor refusal) is = is
-value_refused t known why.TwoValues is = absurd is.is
-value_refused t known why.BadKind is = absurd is.is
 
 module _ (t : Table) (known parents : List (Option ℕ)) (are : HasIds t 0 parents) where
   no_fault : (HasNullParent t 0 → ⊥) → (fault : IdFault) → HasFault t 0 (continues_in t) fault → ⊥

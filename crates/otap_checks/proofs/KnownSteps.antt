@@ -15,7 +15,7 @@ use Rattle.otap_attrs.specs.declared.refusal.CheckRefusal.{CheckRefusal}
 use Rattle.otap_attrs.specs.declared.refusal.CheckRefusal.TheVariants as check
 use Rattle.otap_checks.specs.declared.known.ColumnIds.{ColumnIds}
 use Rattle.otap_checks.specs.declared.links.TableLink.{TableLink}
-use Rattle.otap_checks.specs.Inside.{ColumnFault, ColumnWrong, ColumnsWrong, HasColumns, Keeps, KnownFault, KnownFaults, KnownWrong}
+use Rattle.otap_checks.specs.Inside.{ColumnFault, ColumnWrong, ColumnsWrong, HasColumns, Keeps, KnownFault}
 use Rattle.otap_checks.specs.Refusing.{refused_as, RefusesCheck}
 use Rattle.otap_checks.specs.Known.{is_column}
 use Rattle.otap_attrs.specs.Defects.{RefusesRow}
@@ -87,10 +87,4 @@ pub column_refusal : (tables : List Table) (links : List TableLink) (place : ℕ
     → RefusesCheck (ColumnWrong tables (get_or links place d).kind) refusal → RefusesCheck (ColumnsWrong tables links) refusal
 column_refusal tables links place d (check.Memory error) within refuses = tt
 column_refusal tables links place d (check.Defect kind wrong) within refuses =
-    let link : TableLink = get_or links place d in (link, (place, within, get_or_default links place link d within), refuses)
-
-pub fault_refusal : (known : List ColumnIds) (links : List TableLink) (place : ℕ) (d : TableLink) (refusal : CheckRefusal) → place < length links
-    → RefusesCheck (KnownWrong known (get_or links place d)) refusal → RefusesCheck (KnownFaults known links) refusal
-fault_refusal known links place d (check.Memory error) within refuses = tt
-fault_refusal known links place d (check.Defect kind wrong) within refuses =
     let link : TableLink = get_or links place d in (link, (place, within, get_or_default links place link d within), refuses)

@@ -10,7 +10,7 @@ use Rattle.otap_cells.specs.Columns.{is_id_at}
 use Rattle.otap_cells.specs.GivenIds.{HasIds}
 use Rattle.otap_cells.specs.Named.{table_named}
 use Rattle.otap_cells.specs.Payload.{is_kind}
-use Rattle.otap_cells.specs.Tables.{Table, profile_table}
+use Rattle.otap_cells.specs.Tables.{Table}
 use Rattle.otap_attrs.specs.declared.refusal.RowRefusal.{RowRefusal}
 use Rattle.otap_attrs.specs.declared.refusal.RowRefusal.TheVariants as why
 use Rattle.otap_attrs.specs.declared.refusal.CheckRefusal.{CheckRefusal}
@@ -19,7 +19,7 @@ use Rattle.otap_checks.specs.declared.known.ColumnIds.{ColumnIds}
 use Rattle.otap_checks.specs.declared.links.TableLink.{TableLink}
 use Rattle.otap_checks.specs.declared.links.Parents.{Parents}
 use Rattle.otap_checks.specs.IdDefects.{DuplicateOf, IdDefect, OrphanOf, WrongIn}
-use Rattle.otap_checks.specs.Inside.{ColumnFault, ColumnsWrong, HasColumns, IsLost, IsRight, KnownFault, KnownFaults, OwnTwice, IsAbove, IsAboveOrNone, IsIdOrNone}
+use Rattle.otap_checks.specs.Inside.{HasColumns, IsLost, IsRight, KnownFault, KnownFaults, OwnTwice, IsAbove, IsAboveOrNone, IsIdOrNone}
 use Rattle.otap_checks.specs.Given.{AreGiven}
 use Rattle.otap_checks.specs.Known.{IsKnown, Knows, ids_named, is_column}
 use Rattle.otap_checks.specs.Links.{links_of}
@@ -63,12 +63,6 @@ all_known of tables links known are right all link listed =
     let at : Contains links link = subst (λ links. Contains links link) (sym are) listed in
     knows tables link.kind known right (subst (λ (one : TableLink). HasColumns one.kind known) at.2 (all at.0 link at.1))
 
--- a table that isn't there has no ids
-pub none_known : (tables : List Table) (kind : Kind) (column : ℕ) (ids : List (Option ℕ)) → table_named kind tables ≡ profile_table kind [] → ids ≡ []
-    → IsKnown (table_named kind tables) column ids
-none_known tables kind column ids none empty =
-    subst (λ t. IsKnown t column ids) (sym none) (subst (IsKnown (profile_table kind []) column) (sym empty) (record { are = tt; parents = λ null. absurd (omega (arith, null.null.1)) }))
-
 -- what is known is given
 pub given : (tables : List Table) (kind : Kind) (known : List ColumnIds) → Knows (table_named kind tables) kind known → AreGiven (table_named kind tables)
 given tables kind known are column id =
@@ -76,30 +70,6 @@ given tables kind known are column id =
     record { ids = ids_named kind column known; are = here.are; parents = here.parents }
 
 -- ---- what is wrong
-
--- a fault of a column is a defect of the ids
-column_wrong : (tables : List Table) (t : Table) (link : TableLink) (wrong : RowRefusal) → ColumnFault t wrong → WrongIn tables t link wrong
-column_wrong tables t link (why.Ids fault.PastType) is = is
-column_wrong tables t link (why.Ids fault.NullParent) is = is
-column_wrong tables t link (why.Ids fault.Duplicate) is = absurd is
-column_wrong tables t link why.Orphan is = absurd is
-column_wrong tables t link why.Disagree is = is
-column_wrong tables t link why.BadValueType is = is
-column_wrong tables t link (why.BadCbor refusal) is = is
-column_wrong tables t link why.TwoValues is = is
-column_wrong tables t link why.BadKind is = is
-column_wrong tables t link (why.Memory error) is = is
-
-pub columns_refused : (of : Signal) (tables : List Table) (links : List TableLink) (refusal : CheckRefusal) → links ≡ links_of of
-    → RefusesCheck (ColumnsWrong tables links) refusal → RefusesCheck (IdDefect of tables) refusal
-columns_refused of tables links (check.Memory error) are refuses = tt
-columns_refused of tables links (check.Defect kind wrong) are refuses =
-    let link : TableLink = refuses.0 in record {
-      link = link;
-      listed = subst (λ links. Contains links link) are refuses.1;
-      names = sym refuses.2.0;
-      is = subst (λ kind. WrongIn tables (table_named kind tables) link wrong) (sym refuses.2.0) (column_wrong tables (table_named link.kind tables) link wrong refuses.2.1);
-    }
 
 module _ (of : Signal) (tables : List Table) (known : List ColumnIds) (all : (link : TableLink) → Contains (links_of of) link → Knows (table_named link.kind tables) link.kind known) where
   module _ (link : TableLink) (listed : Contains (links_of of) link) where

@@ -56,13 +56,6 @@ module _ {I : Type 0} where
       let c = scopes_past_most (past s group.items) groups in
       omega arith
 
-  -- one more scope group
-  pub scope_added : (groups : List (ScopeGroup I)) (k r s : ℕ) (resource : Resource) (group : ScopeGroup I) (old new whole : List (FlatIn I))
-      → drop k groups ≡ group ∷ drop (k + 1) groups → new ≡ old ++ map (flat_at r s resource group.scope) group.items
-      → old ++ flat_scopes r s resource (drop k groups) ≡ whole → new ++ flat_scopes r (past s group.items) resource (drop (k + 1) groups) ≡ whole
-  scope_added groups k r s resource group old new whole is grew so_far =
-      rw grew (append_assoc old _ _ ∙ sym (ap (λ gs. old ++ flat_scopes r s resource gs) is) ∙ so_far)
-
   -- one more resource group
   pub group_added : (groups : List (ResourceGroup I)) (k r s : ℕ) (group : ResourceGroup I) (old new whole : List (FlatIn I))
       → drop k groups ≡ group ∷ drop (k + 1) groups → new ≡ old ++ flat_scopes r s group.resource group.scopes

@@ -40,9 +40,6 @@ scope_back scope pairs is = λ i. record {
 abbrev has_items : {I : Type 0} → ScopeGroup I → Bool
 has_items group = nat_lt 0 (length group.items)
 
-abbrev has_scopes : {I : Type 0} → ResourceGroup I → Bool
-has_scopes group = nat_lt 0 (length group.scopes)
-
 positive : (n : ℕ) → nat_lt 0 (suc n) ≡ true
 positive n = grind (arith, nat_tests)
 

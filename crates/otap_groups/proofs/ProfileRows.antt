@@ -1,5 +1,5 @@
 -- Rows that fit the columns of a kind make a table of the profile; and the rows of a request's items fit.
-use Rattle.std.proofs.Common.{◌≡◌, ℕ, ◌^◌, ◌≤◌, ◌<◌, pos, negsuc, true, List, [], ◌∷◌, ◌++◌, get_or, Option, length, map, refl, ◌∙◌, ap, subst, arith, inl, inr}
+use Rattle.std.proofs.Common.{◌≡◌, ℕ, ◌^◌, ◌≤◌, ◌<◌, pos, negsuc, true, List, [], ◌∷◌, ◌++◌, get_or, Option, length, map, refl, ◌∙◌, ap, arith, inl, inr}
 use Rattle.std.specs.Prelude.{All, IsTrue, ◌==◌}
 use Rattle.std.proofs.lemmas.Bool.{cases_Bool, cases_lt, and_parts}
 use Rattle.std.proofs.lemmas.List.{get_or_past}
@@ -18,17 +18,14 @@ use Rattle.otap_cells.specs.declared.profile.Coding.{Coding}
 use Rattle.otap_cells.specs.declared.profile.Coding.TheVariants as coding
 use Rattle.otap_cells.specs.Bases.{is_id}
 use Rattle.otap_cells.specs.Cells.{Cell, IsCellOf, bits, bytes, flag, nat_in, null, number}
-use Rattle.otap_cells.specs.Columns.{ColumnSpec, allows, base_at, coding_at, column_at, columns_of, common, is_id_at, is_run, plain, width_of}
-use Rattle.otap_cells.specs.ColumnIds.{stored_in}
-use Rattle.otap_cells.specs.Continuing.{continues_in}
+use Rattle.otap_cells.specs.Columns.{ColumnSpec, allows, base_at, column_at, columns_of, common, is_id_at, is_run, plain, width_of}
 use Rattle.otap_cells.specs.GivenIds.{HasIds}
-use Rattle.otap_cells.specs.Ids.{Ids}
 use Rattle.otap_cells.specs.Scalars.{number_cell, text_cell}
-use Rattle.otap_cells.specs.Tables.{IsRow, IsTable, Table, cell_in, greatest_in, greatest_wide, profile_table}
+use Rattle.otap_cells.specs.Tables.{IsRow, IsTable, cell_in, greatest_wide, profile_table}
 use Rattle.otap_cells.proofs.ByPlace.{id_within}
 use Rattle.otap_cells.proofs.Rowwise.{IsRow-at, length-IsRow}
 use Rattle.otap_groups.specs.Flat.{FlatIn, flat, flat_at, flat_groups, flat_scopes, past, scopes_past}
-use Rattle.otap_groups.specs.ProfileTables.{HasProfileIds, IsProfileTable}
+use Rattle.otap_groups.specs.ProfileTables.{IsProfileTable}
 use Rattle.otap_groups.specs.Stored.{stored_row, stored_rows}
 use Rattle.otap_groups.specs.Weighing.{CanWriteGroup, CanWriteScope}
 use Rattle.otap_groups.proofs.Bounds.{Bounded}
@@ -81,12 +78,6 @@ module _ (kind : Kind) (rows : List (List Cell)) (fit : All (IsRow (columns_of k
       wide = greatest_is kind rows column (id_within kind column is);
     };
   }
-
--- the ids of its columns, in the profile's own words
-pub ids_stored : (t : Table) (column : ℕ) (has : HasProfileIds t column) → Ids (coding_at t.kind column) greatest_wide (continues_in t) (stored_in t column) has.ids
-ids_stored t column has =
-    subst (λ (last : ℕ). Ids (coding_at t.kind column) last (continues_in t) (stored_in t column) has.ids) has.wide
-    (subst (λ (how : Coding). Ids how (greatest_in t column) (continues_in t) (stored_in t column) has.ids) has.coded has.are)
 
 -- ---- cells
 

@@ -1,11 +1,10 @@
 -- Where the entries of parents begin: what stands between two starts is what one parent has.
-use Rattle.std.proofs.Common.{◌≡◌, ◌∙◌, ℕ, ◌+◌, ◌-◌, ◌<◌, ◌≤◌, true, false, List, [], ◌∷◌, ◌++◌, length, get_or, take, drop, inl, inr, sym, ap, arith, length-drop}
+use Rattle.std.proofs.Common.{◌≡◌, ◌∙◌, ℕ, ◌+◌, ◌-◌, ◌<◌, ◌≤◌, true, false, List, length, get_or, take, drop, inl, inr, sym, ap, arith, length-drop}
 use Rattle.std.specs.Prelude.{◌⊎◌, nat_lt, nat_le}
 use Rattle.std.specs.List.Sorted.{IsNonDecreasingBy}
 use Rattle.std.proofs.lemmas.Bool.{cases_Bool}
 use Rattle.std.proofs.lemmas.Bool.Decides.{nat_tests}
-use Rattle.std.proofs.Math.Seq.{get_or-append_seam}
-use Rattle.std.proofs.lemmas.List.{get_or_append_left, get_or_default, get_or-drop, length_push}
+use Rattle.std.proofs.lemmas.List.{get_or_default, get_or-drop}
 use Rattle.otap_groups.specs.declared.entry.Entry.{Entry}
 use Rattle.otap_groups.specs.Inside.{AreStarts, Begins, blank}
 use Rattle.otap_groups.specs.Found.{of_parent}
@@ -95,19 +94,3 @@ starts_next es old new place parent rising inside is long kept more before = rec
   by p d w (inr h) =
       let new_one : length old ≤ p = not_below_is p (length old) h in
       rw (more p d new_one w) (begins p new_one w)
-
--- and after the last, all entries stand before the next start
-pub starts_end : (es : List Entry) (old : List ℕ) (place : ℕ) → length es ≤ place → StartsBefore es old place → AreStarts es (old ++ length es ∷ [])
-starts_end es old place all before p d w = by (cases_Bool (nat_lt p (length old))) where
-  by : ((nat_lt p (length old) ≡ true) ⊎ (nat_lt p (length old) ≡ false)) → Begins es p (get_or (old ++ length es ∷ []) p d)
-  by (inl h) =
-      let known : p < length old = below_is p (length old) h in
-      rw (get_or_append_left old (length es ∷ []) d p known) (before.told p d known)
-  by (inr h) =
-      let last : p ≡ length old = omega (arith, not_below_is p (length old) h, w, length_push old (length es)) in
-      let e : get_or (old ++ length es ∷ []) p d ≡ length es = ap (λ n. get_or (old ++ length es ∷ []) n d) last ∙ get_or-append_seam old (length es) [] d in
-      rw e (record {
-        within = omega arith;
-        before = λ k d w. omega (arith, before.low k d (omega (arith, w, all)), last);
-        after = λ k d far within. absurd (omega (arith, far, within));
-      })

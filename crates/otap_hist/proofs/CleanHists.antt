@@ -88,14 +88,8 @@ wider : (Wrong Other : Kind → RowRefusal → Type 0) → ((kind : Kind) (wrong
 wider Wrong Other more (check.Memory error) is = is
 wider Wrong Other more (check.Defect kind wrong) is = more kind wrong is
 
-pub refuses_ids : (tables : List Table) (refusal : CheckRefusal) → RefusesCheck (IdDefect signal.Metrics tables) refusal → RefusesCheck (WrongWhole tables) refusal
-refuses_ids tables = wider (IdDefect signal.Metrics tables) (WrongWhole tables) (wrong_ids tables)
-
 pub refuses_metrics : (tables : List Table) (refusal : CheckRefusal) → RefusesCheck (WrongMetrics tables) refusal → RefusesCheck (WrongWhole tables) refusal
 refuses_metrics tables = wider (WrongMetrics tables) (WrongWhole tables) (λ kind wrong is. inl is)
-
-pub refuses_cells : (tables : List Table) (refusal : CheckRefusal) → RefusesCheck (WrongHistCells tables) refusal → RefusesCheck (WrongWhole tables) refusal
-refuses_cells tables = wider (WrongHistCells tables) (WrongWhole tables) (λ kind wrong is. inr (inr is))
 
 -- the request, where points are found as the tables have them
 pub whole_is : (tables : List Table) (hists : Option ℕ → List HistPoint) (summaries : Option ℕ → List SumPoint)

@@ -13,9 +13,6 @@ module _ {R : Type 0} where
   abbrev pub Past : Kind → ℕ → List (Kind × R) → Type 0
   Past kind place tables = (k : ℕ) (d : Kind × R) → k < place → nat_lt (number_of kind) (number_of (get_or tables k d).0) ≡ false
 
-  pub past_none : (kind : Kind) (tables : List (Kind × R)) → Past kind 0 tables
-  past_none kind tables k d low = absurd (omega (arith, low))
-
   -- one table further
   pub past_more : (kind : Kind) (tables : List (Kind × R)) (place : ℕ) (d : Kind × R) → place < length tables → Past kind place tables
       → nat_lt (number_of kind) (number_of (get_or tables place d).0) ≡ false → Past kind (place + 1) tables

@@ -1,5 +1,5 @@
 -- What the checks of logs tell together.
-use Rattle.std.proofs.Common.{◌≡◌, List, [], refl, sym, inl, inr, subst, arith}
+use Rattle.std.proofs.Common.{◌≡◌, List, [], refl, inl, inr, subst, arith}
 use Rattle.otlp_model.specs.declared.request.Signal.TheVariants as signal
 use Rattle.otap_cells.specs.declared.payload.Kind.{Kind}
 use Rattle.otap_cells.specs.declared.payload.Kind.TheVariants as table
@@ -7,17 +7,12 @@ use Rattle.otap_cells.specs.Named.{table_named}
 use Rattle.otap_cells.specs.Tables.{Table, profile_table}
 use Rattle.otap_attrs.specs.declared.refusal.RowRefusal.{RowRefusal}
 use Rattle.otap_attrs.specs.declared.refusal.RowRefusal.TheVariants as why
-use Rattle.otap_attrs.specs.declared.refusal.CheckRefusal.{CheckRefusal}
-use Rattle.otap_attrs.specs.declared.refusal.CheckRefusal.TheVariants as check
 use Rattle.otap_checks.specs.Links.{links_of, items, attributes}
-use Rattle.otap_checks.specs.IdDefects.{IdDefect}
 use Rattle.otap_checks.specs.declared.known.ColumnIds.{ColumnIds}
 use Rattle.otap_checks.specs.Given.{AreGiven}
 use Rattle.otap_checks.specs.Known.{Knows}
 use Rattle.otap_checks.specs.Reading.{Disagrees}
-use Rattle.otap_checks.specs.Refusing.{RefusesCheck}
 use Rattle.otap_attrs.specs.Defects.{WrongValue}
-use Rattle.otap_checks.specs.ValueDefects.{WrongValueOf}
 use Rattle.otap_checks.proofs.MissingRows.{none_differ}
 use Rattle.otap_checks.proofs.TableIds.{clean_given}
 use Rattle.otap_logs.specs.Inside.{AreWhole, IsUnlike, KnowsLogs}
@@ -64,11 +59,6 @@ whole tables clean = record {
     body why.BadKind is = is.is
     body (why.Memory error) is = is.is
 
--- a refusal of ids, or of values, is one of rows
-pub refuses_ids : (tables : List Table) (refusal : CheckRefusal) → RefusesCheck (IdDefect signal.Logs tables) refusal → RefusesCheck (WrongLogs tables) refusal
-refuses_ids tables (check.Memory error) is = tt
-refuses_ids tables (check.Defect kind wrong) is = inl is
-
 pub wrong_body : (tables : List Table) (wrong : RowRefusal) → WrongValue (table_named table.Logs tables) 15 wrong → WrongCells (table_named table.Logs tables) table.Logs wrong
 wrong_body tables why.Disagree is = absurd is.is
 wrong_body tables (why.Ids fault) is = is
@@ -78,22 +68,6 @@ wrong_body tables (why.BadCbor refusal) is = is
 wrong_body tables why.TwoValues is = is
 wrong_body tables why.BadKind is = is
 wrong_body tables (why.Memory error) is = is
-
-pub refuses_bodies : (tables : List Table) (refusal : CheckRefusal) → RefusesCheck (WrongValueOf tables table.Logs 15) refusal → RefusesCheck (WrongLogs tables) refusal
-refuses_bodies tables (check.Memory error) is = tt
-refuses_bodies tables (check.Defect kind wrong) is = subst (λ kind. WrongLogs tables kind wrong) (sym is.0) (inr (wrong_body tables wrong is.1))
-
-pub refuses_resources : (tables : List Table) (refusal : CheckRefusal) → RefusesCheck (WrongValueOf tables table.ResourceAttrs 2) refusal → RefusesCheck (WrongLogs tables) refusal
-refuses_resources tables (check.Memory error) is = tt
-refuses_resources tables (check.Defect kind wrong) is = subst (λ kind. WrongLogs tables kind wrong) (sym is.0) (inr is.1)
-
-pub refuses_scopes : (tables : List Table) (refusal : CheckRefusal) → RefusesCheck (WrongValueOf tables table.ScopeAttrs 2) refusal → RefusesCheck (WrongLogs tables) refusal
-refuses_scopes tables (check.Memory error) is = tt
-refuses_scopes tables (check.Defect kind wrong) is = subst (λ kind. WrongLogs tables kind wrong) (sym is.0) (inr is.1)
-
-pub refuses_records : (tables : List Table) (refusal : CheckRefusal) → RefusesCheck (WrongValueOf tables table.LogAttrs 2) refusal → RefusesCheck (WrongLogs tables) refusal
-refuses_records tables (check.Memory error) is = tt
-refuses_records tables (check.Defect kind wrong) is = subst (λ kind. WrongLogs tables kind wrong) (sym is.0) (inr is.1)
 
 -- the ids of each table are given
 module _ (tables : List Table) (is_whole : AreWhole tables) where

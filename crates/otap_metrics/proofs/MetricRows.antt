@@ -1,6 +1,5 @@
 -- The rows of metrics, points and exemplars: their cells fit their columns, and what they weigh.
 use Rattle.std.proofs.Common.{◌≡◌, ◌+◌, ◌<◌, Bool, true, false, List, [], ◌∷◌, ◌++◌, length, drop, refl, arith}
-use Rattle.otlp_model.specs.declared.metrics.Exemplar.{Exemplar}
 use Rattle.otlp_model.specs.declared.metrics.Metric.{Metric}
 use Rattle.otlp_model.specs.declared.metrics.Number.{Number}
 use Rattle.otlp_model.specs.declared.metrics.Number.TheVariants as numbers
@@ -20,7 +19,7 @@ use Rattle.otap_groups.proofs.ProfileRows.{rows_join}
 use Rattle.otap_attrs.proofs.AttributesWeighed.{text_weighs, number_weighs, int_weighs_nothing, bits_weigh}
 use Rattle.otap_metrics.specs.Metrics.{is_monotonic, metric_cells, temporality_of, type_of}
 use Rattle.otap_metrics.specs.Numbers.{double_value, int_value}
-use Rattle.otap_metrics.specs.Points.{exemplar_cells, point_cells}
+use Rattle.otap_metrics.specs.Points.{point_cells}
 
 pub small_type : (shape : Shape) → type_of shape < 256
 small_type shapes.Empty = omega arith
@@ -80,12 +79,4 @@ point_weighs point =
     let b = bits_weigh point.time in
     let c = number_is_light point.value in
     let d = number_weighs point.flags in
-    omega (arith, a, b, c, d)
-
-pub exemplar_weighs : (exemplar : Exemplar) → cells_weight (exemplar_cells exemplar) ≡ length exemplar.span_id + length exemplar.trace_id
-exemplar_weighs exemplar =
-    let a = bits_weigh exemplar.time in
-    let b = number_is_light exemplar.value in
-    let c = text_weighs exemplar.span_id in
-    let d = text_weighs exemplar.trace_id in
     omega (arith, a, b, c, d)
