@@ -23,10 +23,6 @@ stored_more t column row cell id before after within read is so_far pushed =
     = get_or-map id_in (column_in t.rows column) row null None cells ∙ ap id_in (get_or-map (λ row. get_or row column null) t.rows row [] null within ∙ sym read) in
     pushed ∙ (λ i. so_far i ++ (is ∙ sym here) i ∷ []) ∙ sym (take_more (stored_in t column) row None there)
 
-pub stored_all : (t : Table) (column row : ℕ) (found : List (Option ℕ)) → length t.rows ≤ row → found ≡ take row (stored_in t column) → found ≡ stored_in t column
-stored_all t column row found end so_far =
-    so_far ∙ take_all row (stored_in t column) (omega (arith, length-map t.rows (λ row. get_or row column null), length-map (column_in t.rows column) id_in))
-
 -- what was written over all of a list
 pub written_back : {X : Type 0} (n : ℕ) (xs ys : List X) → length ys ≡ length xs → n ≡ length xs → take n (ys ++ drop (length ys) xs) ≡ ys
 written_back n xs ys long all =
