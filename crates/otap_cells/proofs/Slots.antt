@@ -4,8 +4,8 @@ use Rattle.std.specs.Prelude.{All}
 use Rattle.std.proofs.Math.Seq.{set-append_seam}
 use Rattle.std.proofs.lemmas.List.{take-append-le, drop-append-le, length-map, take_all, map-append, map-set}
 use Rattle.std.proofs.lemmas.List.Elements.{All-set, All-append, All-replicate}
-use Rattle.otap_cells.specs.declared.kept.Slot.{Slot}
-use Rattle.otap_cells.specs.declared.kept.Slot.TheVariants as slot
+use Rattle.otap_cells.specs.declared.kept.KeptCell.{KeptCell}
+use Rattle.otap_cells.specs.declared.kept.KeptCell.TheVariants as slot
 use Rattle.otap_cells.specs.Cells.{Cell, null, bytes}
 use Rattle.otap_cells.specs.Kept.{cell_of, reach}
 
@@ -16,14 +16,14 @@ part_stays from len old more h =
     let within : len ≤ length (drop from old) = omega (arith, length-drop from old) in
     ap (take len) (drop-append-le from old more near) ∙ take-append-le len (drop from old) more within
 
-pub cell_stays : (old more : List ℕ) (s : Slot) → reach s ≤ length old → cell_of (old ++ more) s ≡ cell_of old s
+pub cell_stays : (old more : List ℕ) (s : KeptCell) → reach s ≤ length old → cell_of (old ++ more) s ≡ cell_of old s
 cell_stays old more slot.Null h = refl
 cell_stays old more (slot.Num n) h = refl
 cell_stays old more (slot.Bits n) h = refl
 cell_stays old more (slot.Flag b) h = refl
 cell_stays old more (slot.Bytes from len) h = ap bytes (part_stays from len old more h)
 
-pub cells_stay : (old more : List ℕ) (ss : List Slot) → All (λ s. reach s ≤ length old) ss → map (cell_of (old ++ more)) ss ≡ map (cell_of old) ss
+pub cells_stay : (old more : List ℕ) (ss : List KeptCell) → All (λ s. reach s ≤ length old) ss → map (cell_of (old ++ more)) ss ≡ map (cell_of old) ss
 cells_stay old more [] h = refl
 cells_stay old more (s ∷ ss) h =
     ap (λ cell. cell ∷ map (cell_of (old ++ more)) ss) (cell_stays old more s (h 0 s (omega arith)))
@@ -34,12 +34,12 @@ nulls_of kept zero = refl
 nulls_of kept (suc n) = ap (λ cells. null ∷ cells) (nulls_of kept n)
 
 -- bytes that come after leave the cells of the slots
-pub as_before : (old more kept : List ℕ) (ss ts : List Slot) (cells : List Cell)
+pub as_before : (old more kept : List ℕ) (ss ts : List KeptCell) (cells : List Cell)
     → All (λ t. reach t ≤ length old) ss → kept ≡ old ++ more → ts ≡ ss → map (cell_of old) ss ≡ cells → map (cell_of kept) ts ≡ cells
 as_before old more kept ss ts cells within longer same is = rw (longer, same) (cells_stay old more ss within ∙ is)
 
 -- the cells with one written in a row, after nulls where there were too few
-pub one_written : (old more kept : List ℕ) (ss ts : List Slot) (cells : List Cell) (row n : ℕ) (s : Slot) (x : Cell)
+pub one_written : (old more kept : List ℕ) (ss ts : List KeptCell) (cells : List Cell) (row n : ℕ) (s : KeptCell) (x : Cell)
     → All (λ t. reach t ≤ length old) ss → kept ≡ old ++ more → map (cell_of old) ss ≡ cells → length cells ≤ row + 1 → n ≡ length ss
     → ts ≡ take (row + 1) ss ++ replicate (row + 1 - n) slot.Null → cell_of kept s ≡ x
     → map (cell_of kept) (set ts row s) ≡ set (cells ++ replicate (row + 1 - length cells) null) row x
@@ -56,14 +56,14 @@ one_written old more kept ss ts cells row n s x within longer is short long padd
     map-set (cell_of kept) ts row s ∙ ap (λ xs. set xs row (cell_of kept s)) all ∙ ap (set (cells ++ replicate (row + 1 - length cells) null) row) there
 
 -- and each slot still lies within the bytes
-pub all_within : (old more kept : List ℕ) (ss ts : List Slot) (cells : List Cell) (row pad : ℕ) (s : Slot)
+pub all_within : (old more kept : List ℕ) (ss ts : List KeptCell) (cells : List Cell) (row pad : ℕ) (s : KeptCell)
     → All (λ t. reach t ≤ length old) ss → kept ≡ old ++ more → map (cell_of old) ss ≡ cells → length cells ≤ row + 1
     → ts ≡ take (row + 1) ss ++ replicate pad slot.Null → reach s ≤ length kept → All (λ t. reach t ≤ length kept) (set ts row s)
 all_within old more kept ss ts cells row pad s within longer is short padded there =
     let many : length cells ≡ length ss = ap length (sym is) ∙ length-map ss (cell_of old) in
     let few : length ss ≤ row + 1 = omega arith in
     let long : length kept ≡ length old + length more = ap length longer ∙ length-append old more in
-    let near : (t : Slot) → reach t ≤ length old → reach t ≤ length kept = λ t h. omega arith in
+    let near : (t : KeptCell) → reach t ≤ length old → reach t ≤ length kept = λ t h. omega arith in
     All-set (λ t. reach t ≤ length kept) ts row s there
     (rw (padded, take_all (row + 1) ss few)
     (All-append (λ t. reach t ≤ length kept) ss (replicate pad slot.Null)
@@ -71,7 +71,7 @@ all_within old more kept ss ts cells row pad s within longer is short padded the
     (All-replicate (λ t. reach t ≤ length kept) pad slot.Null (omega arith))))
 
 -- the cells with one written right after them
-pub one_pushed : (old more kept : List ℕ) (ss ts : List Slot) (cells : List Cell) (row : ℕ) (s : Slot) (x : Cell)
+pub one_pushed : (old more kept : List ℕ) (ss ts : List KeptCell) (cells : List Cell) (row : ℕ) (s : KeptCell) (x : Cell)
     → All (λ t. reach t ≤ length old) ss → kept ≡ old ++ more → map (cell_of old) ss ≡ cells → row ≡ length ss → ts ≡ ss ++ s ∷ [] → cell_of kept s ≡ x
     → map (cell_of kept) ts ≡ set (cells ++ replicate (row + 1 - length cells) null) row x
 one_pushed old more kept ss ts cells row s x within longer is last pushed there =
@@ -83,11 +83,11 @@ one_pushed old more kept ss ts cells row s x within longer is last pushed there 
     ∙ ap (λ y. cells ++ y ∷ []) there
     ∙ sym (ap (λ n. set (cells ++ replicate n null) row x) one ∙ ap (λ n. set (cells ++ null ∷ []) n x) here ∙ set-append_seam cells null [] x)
 
-pub pushed_within : (old more kept : List ℕ) (ss ts : List Slot) (s : Slot)
+pub pushed_within : (old more kept : List ℕ) (ss ts : List KeptCell) (s : KeptCell)
     → All (λ t. reach t ≤ length old) ss → kept ≡ old ++ more → ts ≡ ss ++ s ∷ [] → reach s ≤ length kept → All (λ t. reach t ≤ length kept) ts
 pushed_within old more kept ss ts s within longer pushed there =
     let long : length kept ≡ length old + length more = ap length longer ∙ length-append old more in
-    let near : (t : Slot) → reach t ≤ length old → reach t ≤ length kept = λ t h. omega arith in
+    let near : (t : KeptCell) → reach t ≤ length old → reach t ≤ length kept = λ t h. omega arith in
     rw pushed
     (All-append (λ t. reach t ≤ length kept) ss (s ∷ [])
     (λ k d lt. near (get_or ss k d) (within k d lt))

@@ -12,7 +12,7 @@ const MAX_ROOM: usize = 1 << 15;
 
 // A cell as a column keeps it; `Bytes` names a part of the column's bytes.
 #[derive(Clone, Copy, Debug)]
-pub enum Slot {
+pub enum KeptCell {
     Null,
     Num(i64),
     Bits(u64),
@@ -23,7 +23,7 @@ pub enum Slot {
 // The cells of one column, from the first row to the last one that was set.
 #[derive(Debug, Drop)]
 pub struct Cells {
-    slots: Vec<Slot>,
+    slots: Vec<KeptCell>,
     bytes: Vec<u8>,
 }
 
@@ -65,11 +65,11 @@ impl Cells {
             return CellView::Null;
         }
         match self.slots[row] {
-            Slot::Null => CellView::Null,
-            Slot::Num(number) => CellView::Num(number),
-            Slot::Bits(bits) => CellView::Bits(bits),
-            Slot::Flag(flag) => CellView::Flag(flag),
-            Slot::Bytes { from, len } => CellView::Bytes(part_of(&self.bytes, from, len)),
+            KeptCell::Null => CellView::Null,
+            KeptCell::Num(number) => CellView::Num(number),
+            KeptCell::Bits(bits) => CellView::Bits(bits),
+            KeptCell::Flag(flag) => CellView::Flag(flag),
+            KeptCell::Bytes { from, len } => CellView::Bytes(part_of(&self.bytes, from, len)),
         }
     }
 
@@ -87,7 +87,7 @@ impl Cells {
             push_slot(&mut self.slots, slot, room)?;
             return Ok(());
         }
-        self.slots.resize(row + 1, Slot::Null)?;
+        self.slots.resize(row + 1, KeptCell::Null)?;
         self.slots[row] = slot;
         Ok(())
     }
@@ -95,7 +95,7 @@ impl Cells {
 
 /// Puts a slot after the others.
 #[inline(always)]
-fn push_slot(slots: &mut Vec<Slot>, slot: Slot, room: usize) -> Result<(), AllocError>
+fn push_slot(slots: &mut Vec<KeptCell>, slot: KeptCell, room: usize) -> Result<(), AllocError>
     ensures ok { OnOk result (slots.new.items ≡ slots.old.items ++ slot ∷ []) }
     ensures err { OnErr result (slots.new.items ≡ slots.old.items) }
 {
@@ -117,17 +117,17 @@ fn part_of(bytes: &[u8], from: u32, len: u32) -> &[u8]
 
 /// The slot of a cell, whose bytes come after those that are kept. A column has room for less than 2^32 bytes.
 #[inline(always)]
-fn keep(kept: &mut Vec<u8>, cell: CellView<'_>, room: usize) -> Result<Slot, AllocError>
+fn keep(kept: &mut Vec<u8>, cell: CellView<'_>, room: usize) -> Result<KeptCell, AllocError>
     ensures ok { OnOk result (kept.new.items ≡ kept.old.items ++ bytes_in (seen cell.entry)) }
     ensures err { OnErr result (kept.new.items ≡ kept.old.items) }
     ensures value { IfOk result (λ slot. cell_of kept.new.items slot ≡ seen cell.entry) }
     ensures within { IfOk result (λ slot. reach slot ≤ length kept.new.items) }
 {
     match cell {
-        CellView::Null => Ok(Slot::Null),
-        CellView::Num(number) => Ok(Slot::Num(number)),
-        CellView::Bits(bits) => Ok(Slot::Bits(bits)),
-        CellView::Flag(flag) => Ok(Slot::Flag(flag)),
+        CellView::Null => Ok(KeptCell::Null),
+        CellView::Num(number) => Ok(KeptCell::Num(number)),
+        CellView::Bits(bits) => Ok(KeptCell::Bits(bits)),
+        CellView::Flag(flag) => Ok(KeptCell::Flag(flag)),
         CellView::Bytes(part) => {
             let from = short(kept.len())?;
             let len = short(part.len())?;
@@ -135,7 +135,7 @@ fn keep(kept: &mut Vec<u8>, cell: CellView<'_>, room: usize) -> Result<Slot, All
                 kept.reserve(bytes_room(part.len(), room))?;
             }
             kept.extend_from_slice(part)?;
-            Ok(Slot::Bytes { from, len })
+            Ok(KeptCell::Bytes { from, len })
         }
     }
 }
