@@ -18,7 +18,7 @@ use std::alloc::{AllocError, Global};
 
 // A pair of a parent, and the bytes of its value where that is nested.
 #[derive(Debug, Drop)]
-pub(crate) struct Placed<'a> {
+pub(crate) struct PlacedPair<'a> {
     pub(crate) parent: u32,
     pub(crate) pair: &'a Pair,
     pub(crate) nested: Vec<u8>,
@@ -27,7 +27,7 @@ pub(crate) struct Placed<'a> {
 /// Appends the pairs of a parent.
 pub(crate) fn place_pairs<'a>(
     alloc: Global,
-    placed: &mut Vec<Placed<'a>>,
+    placed: &mut Vec<PlacedPair<'a>>,
     parent: u32,
     pairs: &'a Items<Pair>,
 ) -> Result<(), AllocError>
@@ -42,14 +42,14 @@ pub(crate) fn place_pairs<'a>(
     Ok(())
 }
 
-fn place_pair<'a>(alloc: Global, parent: u32, pair: &'a Pair) -> Result<Placed<'a>, AllocError>
+fn place_pair<'a>(alloc: Global, parent: u32, pair: &'a Pair) -> Result<PlacedPair<'a>, AllocError>
     requires { weight_of_value pair.now.value ≤ weight_limit }
     ensures is { IfOk result (λ placed. seen_placed placed ≡ placed_at parent pair.now) }
     ensures nested { IfOk result HasNested }
 {
     let mut nested = Vec::new(alloc);
     nested_bytes(&mut nested, &pair.value)?;
-    Ok(Placed {
+    Ok(PlacedPair {
         parent,
         pair,
         nested,

@@ -10,7 +10,7 @@ ghost use Rattle.otap_attrs.specs.Inside.{HasNested, seen_placed};
 ghost use Rattle.otap_attrs.specs.Tables.{attribute_table, beside_kind, where_rows};
 ghost use Rattle.otap_attrs.specs.Values.{pair_cells, value_cells};
 
-use crate::pairs::{Placed, place_pairs};
+use crate::pairs::{PlacedPair, place_pairs};
 use crate::sorting::coded_table;
 use crate::values::capped_len;
 use cbor_values::len_value;
@@ -131,7 +131,7 @@ pub fn write_attributes<P: Attributed>(
 fn placed_of<'a, P: Attributed>(
     alloc: Global,
     parents: &[&'a P],
-) -> Result<Vec<Placed<'a>>, AllocError>
+) -> Result<Vec<PlacedPair<'a>>, AllocError>
     requires few { length parents.now ≤ 2 ^ 32 }
     requires weight { All (λ parent. total 32 weight_of_pair (P.pairs parent.now) ≤ weight_limit) parents.now }
     ensures are { IfOk result (λ found. map seen_placed found.items ≡ placed (map (λ parent. P.pairs parent.now) parents.now)) }
