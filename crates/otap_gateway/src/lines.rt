@@ -15,11 +15,18 @@ use std::alloc::{AllocError, Global};
 pub(crate) fn push_head(to: &mut Vec<u8>, number: u64, id: i64) -> Result<(), AllocError>
     ensures { OnOk result (to.new.items ≡ to.old.items ++ batch_head number (signed_decimal id)) }
 {
-    let mut digits = Buffer::new();
+    push_batch_head(to, number, Buffer::new().format(id).as_bytes())
+}
+
+/// Appends the head of a line for a batch, by the text of its id.
+#[inline(always)]
+fn push_batch_head(to: &mut Vec<u8>, number: u64, id: &[u8]) -> Result<(), AllocError>
+    ensures { OnOk result (to.new.items ≡ to.old.items ++ batch_head number id.now) }
+{
     to.extend_from_slice(b"frame ")?;
-    to.extend_from_slice(digits.format(number).as_bytes())?;
+    to.extend_from_slice(Buffer::new().format(number).as_bytes())?;
     to.extend_from_slice(b": batch ")?;
-    to.extend_from_slice(digits.format(id).as_bytes())
+    to.extend_from_slice(id)
 }
 
 /// Appends the line that the lines for a batch begin with.
@@ -58,14 +65,16 @@ pub(crate) fn refused_line(
     stage: u8,
     cause: &str,
     payload: Option<i64>,
-) -> Result<String, AllocError>
-    ensures { IfOk result (λ line. string_bytes line ≡ refused_line number id stage cause.now payload) }
+) -> Result<Vec<u8>, AllocError>
+    ensures { IfOk result (λ line. line.items ≡ refused_line number id stage cause.now payload) }
 {
     let id = or_dash(alloc, id)?;
     let payload = or_dash(alloc, payload)?;
-    Ok(format!(in alloc;
-        "frame {number}: batch {id} refused: stage {stage} {cause} payload {payload}\n"
-    )?)
+    let mut line = Vec::new(alloc);
+    push_batch_head(&mut line, number, id.as_bytes())?;
+    let rest = format!(in alloc; " refused: stage {stage} {cause} payload {payload}\n")?;
+    line.extend_from_slice(rest.as_bytes())?;
+    Ok(line)
 }
 
 /// A number, or a dash where there is none.
@@ -79,10 +88,11 @@ pub(crate) fn or_dash(alloc: Global, number: Option<i64>) -> Result<String, Allo
 }
 
 /// The line for a request that is refused.
-pub(crate) fn request_line(alloc: Global, number: u64, cause: &str) -> Result<String, AllocError>
-    ensures { IfOk result (λ line. string_bytes line ≡ request_line number cause.now) }
+pub(crate) fn request_line(alloc: Global, number: u64, cause: &str) -> Result<Vec<u8>, AllocError>
+    ensures { IfOk result (λ line. line.items ≡ request_line number cause.now) }
 {
-    Ok(format!(in alloc; "frame {number}: request refused: {cause}\n")?)
+    let line = format!(in alloc; "frame {number}: request refused: {cause}\n")?;
+    Ok(line.into_bytes())
 }
 
 /// The line for a damage of the capture.

@@ -81,12 +81,12 @@ impl Reply {
     }
 
     /// A refusal, by its line on err.
-    pub(crate) fn refusal(alloc: Global, line: String) -> Reply
-        ensures { result ≡ refuses (string_bytes line) }
+    pub(crate) fn refusal(alloc: Global, line: Vec<u8>) -> Reply
+        ensures { result ≡ refuses line.items }
     {
         Reply {
             out: Vec::new(alloc),
-            err: line.into_bytes(),
+            err: line,
             refused: true,
         }
     }
@@ -107,13 +107,13 @@ impl Reply {
     }
 
     /// The reply, to a frame that is refused by this line on err.
-    pub(crate) fn refusing(self, line: String) -> Reply
-        ensures { result ≡ record { out = self.out; err = string_bytes line; refused = true } }
+    pub(crate) fn refusing(self, line: Vec<u8>) -> Reply
+        ensures { result ≡ record { out = self.out; err = line.items; refused = true } }
     {
         let Reply { out, .. } = self;
         Reply {
             out,
-            err: line.into_bytes(),
+            err: line,
             refused: true,
         }
     }
