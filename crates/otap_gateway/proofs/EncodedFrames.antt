@@ -1,11 +1,12 @@
 -- What one frame makes of an exporter and of the far end.
-use Rattle.std.proofs.Common.{◌≡◌, inl, inr, ℕ, ◌<◌, ◌^◌, List, [], ◌∷◌, ◌++◌, length, IfOk, Result, Ok, Err, refl, sym, ap, ◌∙◌, subst, arith}
+use Rattle.std.proofs.Common.{◌≡◌, inl, inr, ℕ, ◌<◌, List, [], ◌∷◌, ◌++◌, length, IfOk, Result, Ok, Err, refl, sym, ap, ◌∙◌, subst, arith}
 use Rattle.std.specs.Prelude.{codes}
 use Rattle.lists.proofs.Growing.{each_after-push, each_after-weaker, each_after-length}
 use Rattle.otap_capture.specs.Capture.{Frame, Message, Packed, reset_frame, capture_limit}
 use Rattle.otap_capture.specs.Capture as capture
 use Rattle.otap_consume.specs.Meanings.{Meaning}
 use Rattle.otap_produce.specs.Exporters.{ExporterIn, StandsFor}
+use Rattle.otap_produce.specs.Limits.{batch_limit}
 use Rattle.otap_produce.specs.Policy.{SignalRows}
 use Rattle.otap_transit.specs.Sendings.{Sending, Sent, Reset, AreAllowed, requests_since, messages_since}
 use Rattle.otlp_codec.specs.declared.refusal.ReadRefusal.{ReadRefusal}
@@ -131,7 +132,7 @@ module _ (rows : SignalRows) (m : Meaning) where
   pub is_encoding : (e : ExporterIn) (number : ℕ) → HasHistory (HasTold (Encodes rows m) encoded (HasEncoded rows e)) number → IsEncoding rows e
   is_encoding e number h = record { outcomes = h.stood.outcomes; stands = h.stood.stood }
 
-  pub few_batches : (e : ExporterIn) (number : ℕ) → HasHistory (HasTold (Encodes rows m) encoded (HasEncoded rows e)) number → number < capture_limit → e.batches < 2 ^ 40
+  pub few_batches : (e : ExporterIn) (number : ℕ) → HasHistory (HasTold (Encodes rows m) encoded (HasEncoded rows e)) number → number < capture_limit → e.batches < batch_limit
   few_batches e number h few =
       let os : List Encoded = h.stood.outcomes in
       let long : length h.frames ≡ length os = each_after-length (λ past before f o. Encodes rows m before f o) [] [] h.frames os h.stood.before in

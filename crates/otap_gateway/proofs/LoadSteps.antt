@@ -1,5 +1,5 @@
 -- A load, as one request after the other is exported.
-use Rattle.std.proofs.Common.{◌≡◌, ◌⊎◌, inl, inr, ℕ, ◌+◌, ◌<◌, ◌≤◌, ◌^◌, true, List, [], ◌∷◌, ◌++◌, length, refl, sym, ◌∙◌, subst, append-nil, append_assoc, zero-add, arith}
+use Rattle.std.proofs.Common.{◌≡◌, ◌⊎◌, inl, inr, ℕ, ◌+◌, ◌<◌, ◌≤◌, true, List, [], ◌∷◌, ◌++◌, length, refl, sym, ◌∙◌, subst, append-nil, append_assoc, zero-add, arith}
 use Rattle.std.specs.Prelude.{All}
 use Rattle.std.specs.List.{flat_map}
 use Rattle.std.proofs.lemmas.List.{flat_map_more}
@@ -11,6 +11,7 @@ use Rattle.otap_capture.specs.Batch.{ReadsBatch, batch_in}
 use Rattle.otap_cells.specs.Weights.{row_weight_limit, weight_of_tables}
 use Rattle.otap_consume.specs.Meanings.{Meaning}
 use Rattle.otap_produce.specs.Exporters.{ExporterIn, StandsFor, Exports}
+use Rattle.otap_produce.specs.Limits.{batch_limit}
 use Rattle.otap_produce.specs.Policy.{SignalRows, IsExported, Policy, payloads_of}
 use Rattle.otap_transit.specs.Transits.{IsReceivedAs}
 use Rattle.otlp_load.specs.Load.{generated, requests_at_most, items_each}
@@ -53,7 +54,7 @@ module _ (rows : SignalRows) where
   pub loaded_none : (e : ExporterIn) (o : Opened) → StandsFor rows [] [] e → HasCounted [] o → HasLoaded rows 0 [] e o
   loaded_none e o new counted = record { stands = new; exported = All-nil (IsExported rows); counted = counted }
 
-  pub few_batches : (n : ℕ) (e : ExporterIn) (o : Opened) → n < requests_at_most → IsLoading rows n e o → e.batches < 2 ^ 40
+  pub few_batches : (n : ℕ) (e : ExporterIn) (o : Opened) → n < requests_at_most → IsLoading rows n e o → e.batches < batch_limit
   few_batches n e o few loading =
       let batches = loading.loaded.stands.batches in
       let many = requests_counted rows.signal n in

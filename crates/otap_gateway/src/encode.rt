@@ -1,7 +1,8 @@
 //! `encode`: the batch message of each request.
-ghost use Rattle.std.specs.Prelude.{[], ◌≡◌, ◌<◌, ◌^◌, IfOk};
+ghost use Rattle.std.specs.Prelude.{[], ◌≡◌, ◌<◌, IfOk};
 ghost use Rattle.otap_capture.specs.Capture.{Message, frame_of};
 ghost use Rattle.otap_produce.specs.Exporters.{StandsFor};
+ghost use Rattle.otap_produce.specs.Limits.{batch_limit};
 ghost use Rattle.otlp_model.specs.Profile.{IsProfile};
 ghost use Rattle.otlp_model.specs.Telemetry.{signal_of};
 ghost use Rattle.otap_gateway.specs.declared.command.Command.TheVariants as command;
@@ -54,7 +55,7 @@ fn encode_frame<T: Sends>(
     frame: &Frame<'_>,
 ) -> Result<Reply, AllocError>
     requires history { IsEncoding T.rows exporter.old }
-    requires few { exporter.old.batches < 2 ^ 40 }
+    requires few { exporter.old.batches < batch_limit }
     ensures { IfOk result (EncodesFrame T.rows exporter.old exporter.new number (frame_of frame.now)) }
 {
     match frame {
@@ -74,7 +75,7 @@ fn encode_message<T: Sends>(
     bytes: &[u8],
 ) -> Result<Reply, AllocError>
     requires history { IsEncoding T.rows exporter.old }
-    requires few { exporter.old.batches < 2 ^ 40 }
+    requires few { exporter.old.batches < batch_limit }
     ensures { IfOk result (EncodesFrame T.rows exporter.old exporter.new number (Message bytes.now)) }
 {
     match read_request(alloc, T::signal(), bytes) {
@@ -90,7 +91,7 @@ fn encode_request<T: Sends>(
     request: &Request,
 ) -> Result<Reply, AllocError>
     requires history { IsEncoding T.rows exporter.old }
-    requires few { exporter.old.batches < 2 ^ 40 }
+    requires few { exporter.old.batches < batch_limit }
     requires of_signal { signal_of request.now ≡ T.rows.signal }
     requires profile { IsProfile request.now }
     ensures { IfOk result (EncodesRequest T.rows exporter.old exporter.new number request.now) }

@@ -7,6 +7,7 @@ use Rattle.std.proofs.lemmas.Int.{fits_signed_from_abs}
 use Rattle.otap_capture.specs.Batch.{BatchContent, IsRealBatch, IsRealPayload, ReadsBatch, batch_in, canon_batch}
 use Rattle.otap_cells.specs.Tables.{Table}
 use Rattle.otap_produce.specs.Exporters.{SendersIn}
+use Rattle.otap_produce.specs.Limits.{batch_limit}
 use Rattle.otap_produce.specs.Policy.{part_of}
 use Rattle.otap_produce.specs.SentMessages.{Adds, Sends, SendsMessage}
 use Rattle.otap_produce.specs.Sizes.{most_of, size_limit, size_of}
@@ -15,7 +16,7 @@ use Rattle.otap_produce.proofs.Lengths.{batch_most}
 module _ (number : ℕ) (ts : List Table) (old new : SendersIn) (start batch : BatchContent) (bytes : List ℕ)
     (law : (b : BatchContent) → IsRealBatch b → length (canon_batch b) < 2 ^ 64 → ReadsBatch (canon_batch b) b)
     (begun : start ≡ record { id = pos number; payloads = [] }) (adds : Adds ts old new start batch) (spelled : bytes ≡ canon_batch batch)
-    (small : number < 2 ^ 40) (few : length ts ≤ 13) (size : most_of ts ≤ size_limit) where
+    (small : number < batch_limit) (few : length ts ≤ 13) (size : most_of ts ≤ size_limit) where
   payloads_are : batch.payloads ≡ adds.payloads
   payloads_are = adds.are ∙ ap (λ (b : BatchContent). b.payloads ++ adds.payloads) begun
 

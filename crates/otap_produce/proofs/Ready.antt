@@ -1,5 +1,5 @@
 -- The tables of a request that is exported can be sent.
-use Rattle.std.proofs.Common.{◌≡◌, ℕ, ◌*◌, ◌<◌, ◌≤◌, ◌^◌, List, length, get_or, sym, subst, arith}
+use Rattle.std.proofs.Common.{◌≡◌, ℕ, ◌*◌, ◌<◌, ◌≤◌, List, length, get_or, sym, subst, arith}
 use Rattle.std.specs.Prelude.{All, Contains, map}
 use Rattle.std.proofs.lemmas.List.{get_or-map, length-map}
 use Rattle.std.proofs.lemmas.List.Elements.{All-contains_itself, All-filter}
@@ -11,6 +11,7 @@ use Rattle.otap_cells.specs.Payload.{kinds_of}
 use Rattle.otap_cells.specs.Tables.{Table}
 use Rattle.otap_cells.specs.Weights.{weight_of_table}
 use Rattle.otap_produce.specs.Exporters.{SendersIn, kinds_in}
+use Rattle.otap_produce.specs.Limits.{batch_limit}
 use Rattle.otap_produce.specs.Policy.{IsExported, SignalRows}
 use Rattle.otap_produce.specs.SentMessages.{AreReadyForAll, HaveHistory}
 use Rattle.otap_produce.specs.Writable.{AreInOrder, AreWritableRows}
@@ -28,7 +29,7 @@ module _ (rows : SignalRows) (q : Request) (exported : IsExported rows q) (writa
   pub few_tables : length (rows.tables q) ≤ 13
   few_tables = (tables_limited fit rows.signal (rows.tables q) (writable.tables q exported).order exported.row_weight).0
 
-  pub ready_for_all : (s : SendersIn) (batches : ℕ) → kinds_in s.senders ≡ kinds_of rows.signal → HaveHistory s → s.openings ≤ 13 * batches → batches < 2 ^ 40 → AreReadyForAll (rows.tables q) s
+  pub ready_for_all : (s : SendersIn) (batches : ℕ) → kinds_in s.senders ≡ kinds_of rows.signal → HaveHistory s → s.openings ≤ 13 * batches → batches < batch_limit → AreReadyForAll (rows.tables q) s
   ready_for_all s batches kinds history few low =
       let have = writable.tables q exported in
       let limited = tables_limited fit rows.signal (rows.tables q) have.order exported.row_weight in

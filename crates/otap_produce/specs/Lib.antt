@@ -1,3 +1,4 @@
+pub mod Limits
 pub mod Policy
 pub mod LogRows
 pub mod SpanRows

@@ -1,9 +1,10 @@
 //! Exports requests: a batch message for each, after those of its segment.
-ghost use Rattle.std.specs.Prelude.{[], ◌≡◌, ◌≤◌, ◌<◌, ◌+◌, ◌^◌, ◌*◌, true, false, IfOk, IfErr, OnOk, OnErr};
+ghost use Rattle.std.specs.Prelude.{[], ◌≡◌, ◌≤◌, ◌<◌, ◌+◌, ◌*◌, true, false, IfOk, IfErr, OnOk, OnErr};
 ghost use Rattle.otlp_model.specs.Profile.{IsProfile};
 ghost use Rattle.otlp_model.specs.Telemetry.{signal_of};
 ghost use Rattle.otap_cells.specs.Payload.{kinds_of};
 ghost use Rattle.otap_produce.specs.Exporters.{Exports, IsAfter, Refuses, StandsFor, kinds_in};
+ghost use Rattle.otap_produce.specs.Limits.{batch_limit};
 ghost use Rattle.otap_produce.specs.Policy.{IsExported};
 ghost use Rattle.otap_produce.specs.SentMessages.{HaveHistory, RefusesFirst, SendsMessage};
 
@@ -61,7 +62,7 @@ impl<T: Tabled> Exporter<T> {
     pub fn encode(&mut self, request: &Request) -> Result<Vec<u8>, ProduceRefusal>
         requires signal { signal_of request.now ≡ T.rows.signal }
         requires profile { IsProfile request.now }
-        requires batches { self.old.batches < 2 ^ 40 }
+        requires batches { self.old.batches < batch_limit }
         ensures exports { IfOk result (λ bytes. Exports T.rows request.now self.old self.new bytes.items) }
         ensures refuses { IfErr result (Refuses T.rows request.now self.old.broken) }
         ensures after { IfErr result (λ refusal. IsAfter refusal self.old self.new) }
@@ -129,7 +130,7 @@ fn message_of<T: Tabled>(
     requires kinds { kinds_in senders.old.senders ≡ kinds_of T.rows.signal }
     requires history { HaveHistory senders.old }
     requires few { senders.old.openings ≤ 13 * batches }
-    requires batches { batches < 2 ^ 40 }
+    requires batches { batches < batch_limit }
     ensures sends { IfOk result (λ bytes. SendsMessage batches (T.rows.tables request.now) senders.old senders.new bytes.items) }
     ensures kinds { kinds_in senders.new.senders ≡ kinds_in senders.old.senders }
     ensures few { OnOk result (senders.new.openings ≤ senders.old.openings + 13) }

@@ -4,6 +4,7 @@ ghost use Rattle.std.specs.List.{slice_index_or};
 ghost use Rattle.otap_cells.specs.Payload.{kinds_of};
 ghost use Rattle.otap_cells.specs.Sets.{tables_in};
 ghost use Rattle.otap_produce.specs.Exporters.{SenderIn, HasSent, HaveSent, kinds_in};
+ghost use Rattle.otap_produce.specs.Limits.{batch_limit};
 ghost use Rattle.otap_produce.specs.SentMessages.{Adds, AreReady, AreReadyForAll, SendsMessage};
 
 use crate::sender::Sender;
@@ -62,7 +63,7 @@ impl Senders {
         tables: &[(Kind, LogicalTable)],
     ) -> Result<Vec<u8>, AllocError>
         requires ready { AreReadyForAll (tables_in (λ t. t) tables.now) self.old }
-        requires id { id < 2 ^ 40 }
+        requires id { id < batch_limit }
         ensures sends { IfOk result (λ bytes. SendsMessage id (tables_in (λ t. t) tables.now) self.old self.new bytes.items) }
         ensures openings { OnOk result (self.new.openings ≤ self.old.openings + length tables.now) }
         ensures kinds { kinds_in self.new.senders ≡ kinds_in self.old.senders }
