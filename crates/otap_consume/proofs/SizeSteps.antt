@@ -8,7 +8,7 @@ use Rattle.otap_cells.specs.declared.payload.Kind.{Kind}
 use Rattle.otap_cells.specs.Cells.{Cell}
 use Rattle.otap_cells.specs.Payload.{kinds_of}
 use Rattle.otap_cells.specs.Tables.{Table}
-use Rattle.otap_cells.specs.Weights.{weight_of_row, weight_of_table, weight_of_tables}
+use Rattle.otap_cells.specs.Weights.{row_weight_limit, weight_of_row, weight_of_table, weight_of_tables}
 use Rattle.lists.proofs.Latest.{last_after-none}
 use Rattle.otap_columns.specs.Streams.{PayloadIn, of_type, stream_of}
 use Rattle.otap_columns.specs.Substreams.{held_in, substream_in}
@@ -35,7 +35,7 @@ tables_weigh (table ∷ tables) =
     )
 
 -- the number of rows alone is too heavy
-pub too_many_rows : (tables : List Table) (count : ℕ) → count ≡ min (count_of_rows tables) (2 ^ 63) → 2097152 < count → 67108864 < weight_of_tables tables
+pub too_many_rows : (tables : List Table) (count : ℕ) → count ≡ min (count_of_rows tables) (2 ^ 63) → row_weight_limit < 32 * count → row_weight_limit < weight_of_tables tables
 too_many_rows tables count is many = omega (arith, tables_weigh tables)
 
 -- ---- what is held

@@ -1,5 +1,5 @@
 -- What the rows of a load's requests weigh at most, for items of any signal.
-use Rattle.std.proofs.Common.{◌≡◌, ◌⊎◌, inl, inr, ℕ, ◌+◌, ◌*◌, ◌%◌, ◌<◌, ◌≤◌, ◌^◌, Bool, true, false, List, [], ◌∷◌, length, get_or, refl, sym, ap, ◌∙◌, subst, rules, arith}
+use Rattle.std.proofs.Common.{◌≡◌, ◌⊎◌, inl, inr, ℕ, ◌+◌, ◌*◌, ◌%◌, ◌<◌, ◌≤◌, Bool, true, false, List, [], ◌∷◌, length, get_or, refl, sym, ap, ◌∙◌, subst, rules, arith}
 use Rattle.std.specs.Prelude.{◌==◌, codes, map, nat_lt, pos, sum_by, if◌then◌else◌}
 use Rattle.std.specs.List.{range_with_len}
 use Rattle.std.proofs.lemmas.Bool.{cases_Bool}
@@ -14,9 +14,10 @@ use Rattle.otlp_model.specs.declared.value.Pair.{Pair}
 use Rattle.otlp_model.specs.declared.value.Value.{Value, the_lemmas}
 use Rattle.otlp_model.specs.declared.value.Value as values
 use Rattle.otlp_load.specs.Pairs.{double, numbered, value_at, pair_at, pairs_of}
-use Rattle.otlp_load.specs.Load.{items_each, number_at, places_below, service_of, host_of, resource_of, scope_of_all, group_of, groups_of}
+use Rattle.otlp_load.specs.Load.{items_each, number_at, places_below, requests_at_most, service_of, host_of, resource_of, scope_of_all, group_of, groups_of}
 use Rattle.otlp_load.proofs.ItemsLight.{numbered_at_most, pairs_at_most}
 use Rattle.otlp_load.proofs.LoadCounted.{places_counted}
+use Rattle.otap_cells.specs.Weights.{row_weight_limit}
 use Rattle.otap_groups.specs.Weighing.{cells_weight, front_weight, parts_weight, rows_of_groups}
 use Rattle.otap_groups.proofs.RowSums.{rows_split, rows_some, rows_none}
 use Rattle.otap_attrs.specs.Values.{pair_cells, value_cells}
@@ -60,7 +61,7 @@ plain_rows pair_of plain (place ∷ places) =
     let others = plain_rows pair_of plain places in
     omega (arith, first, own, split, others)
 
-pub pairs_rows : (r n : ℕ) → r < 1000 → parts_weight pair_cells (pairs_of r n) ≤ 528
+pub pairs_rows : (r n : ℕ) → r < requests_at_most → parts_weight pair_cells (pairs_of r n) ≤ 528
 unfolding pairs_of
 pairs_rows r n request = subst (λ (weight : ℕ). weight ≤ 528) (sym (plain_rows (pair_at r n) (value_plain r n) (range_with_len 0 12))) (pairs_at_most r n request)
 
@@ -124,12 +125,12 @@ three_groups of_item a b c =
     let second = rows_split (λ (resource : Resource). parts_weight pair_cells resource.pairs) (λ (scope : Scope). parts_weight pair_cells scope.pairs) of_item b (c ∷ []) in
     first ∙ ap (λ n. rows_beside of_item (a ∷ []) + n) second
 
-bounded : (w a b c p q s n : ℕ) → w ≡ a + (b + c) → a ≤ 100 + p * 836 → b ≤ 100 + q * 836 → c ≤ 100 + s * 836 → p + q + s ≡ n → n ≡ 8192 → w ≤ 2 ^ 26
+bounded : (w a b c p q s n : ℕ) → w ≡ a + (b + c) → a ≤ 100 + p * 836 → b ≤ 100 + q * 836 → c ≤ 100 + s * 836 → p + q + s ≡ n → n ≡ items_each → w ≤ row_weight_limit
 bounded w a b c p q s n is fa fb fc all many = omega (arith, is, fa, fb, fc, all, many)
 
-pub load_rows : {I : Type 0} (of_item : I → ℕ) (item_of : ℕ → ℕ → I) (r : ℕ) → ((n : ℕ) → of_item (item_of r n) ≤ 800) → rows_beside of_item (groups_of item_of r) ≤ 2 ^ 26
+pub load_rows : {I : Type 0} (of_item : I → ℕ) (item_of : ℕ → ℕ → I) (r : ℕ) → ((n : ℕ) → of_item (item_of r n) ≤ 800) → rows_beside of_item (groups_of item_of r) ≤ row_weight_limit
 load_rows of_item item_of r each =
     let rows : (g : ℕ) → g < 10 → rows_beside of_item (group_of item_of r g ∷ []) ≤ 100 + length (places_below items_each g) * 836
     = λ g few. place_rows of_item g few (λ k. item_of r (number_at r k)) (λ k. each (number_at r k)) (places_below items_each g) in
-    bounded _ _ _ _ (length (places_below items_each 0)) (length (places_below items_each 1)) (length (places_below items_each 2)) 8192
-    (three_groups of_item (group_of item_of r 0) (group_of item_of r 1) (group_of item_of r 2)) (rows 0 (omega arith)) (rows 1 (omega arith)) (rows 2 (omega arith)) (places_counted 8192) refl
+    bounded _ _ _ _ (length (places_below items_each 0)) (length (places_below items_each 1)) (length (places_below items_each 2)) items_each
+    (three_groups of_item (group_of item_of r 0) (group_of item_of r 1) (group_of item_of r 2)) (rows 0 (omega arith)) (rows 1 (omega arith)) (rows 2 (omega arith)) (places_counted items_each) refl

@@ -29,7 +29,7 @@ use Rattle.otap_gateway.proofs.LoadSteps.{requests_counted}
 -- ---- the line
 
 items_counted : (s : Signal) → ((r : ℕ) → length (telemetry (generated s r)) ≡ items_each) → (a n : ℕ)
-    → sum_by (λ (q : Request). length (telemetry q)) (map (generated s) (range_with_len a n)) ≡ 8192 * n
+    → sum_by (λ (q : Request). length (telemetry q)) (map (generated s) (range_with_len a n)) ≡ items_each * n
 items_counted s each a zero = refl
 items_counted s each a (suc n) =
     let first = each a in
@@ -41,7 +41,7 @@ items_counted s each a (suc n) =
 abbrev pub line_by : ℕ → ℕ → ℕ → List ℕ
 line_by requests items opened = codes "requests " ++ decimal requests ++ codes " items " ++ decimal items ++ codes " openings " ++ decimal opened ++ line_feed
 
-pub line_says : (s : Signal) (n items opened : ℕ) (messages : List (List ℕ)) → ((r : ℕ) → length (telemetry (generated s r)) ≡ items_each) → items ≡ 8192 * n
+pub line_says : (s : Signal) (n items opened : ℕ) (messages : List (List ℕ)) → ((r : ℕ) → length (telemetry (generated s r)) ≡ items_each) → items ≡ items_each * n
     → opened ≡ openings (flat_map payloads_of messages) → line_by n items opened ≡ load_line (first_requests s n) messages
 line_says s n items opened messages each many counted =
     rw (requests_counted s n, items_counted s each 0 n, ← many, ← counted) refl
@@ -103,13 +103,13 @@ module _ (load : Load) (rows : SignalRows) (same : rows ≡ rows_of load.signal)
   })
 
   module _ (each : (r : ℕ) → length (telemetry (generated rows.signal r)) ≡ items_each) where
-    line_of : (messages : List (List ℕ)) (items opened : ℕ) → items ≡ 8192 * load.requests → opened ≡ openings (flat_map payloads_of messages)
+    line_of : (messages : List (List ℕ)) (items opened : ℕ) → items ≡ items_each * load.requests → opened ≡ openings (flat_map payloads_of messages)
         → line_by load.requests items opened ≡ load_line (requests_of load) messages
     line_of messages items opened many counted =
         line_says rows.signal load.requests items opened messages each many counted ∙ ap (λ (r : SignalRows). load_line (first_requests r.signal load.requests) messages) same
 
     -- or in the line
-    pub leaves_line : (old new : Sinks) (items : ℕ) (e : ExporterIn) (o : Opened) → items ≡ 8192 * load.requests → HasSent rows load.requests old.out.written new.out.written e o
+    pub leaves_line : (old new : Sinks) (items : ℕ) (e : ExporterIn) (o : Opened) → items ≡ items_each * load.requests → HasSent rows load.requests old.out.written new.out.written e o
         → AppendsFront old.err.written new.err.written (line_by load.requests items o.count) → WritesLoadFront load old new
     leaves_line old new items e o many sent err = inr (record {
       messages = sent.messages;
@@ -119,7 +119,7 @@ module _ (load : Load) (rows : SignalRows) (same : rows ≡ rows_of load.signal)
     })
 
     -- all is written, and then it is passed on
-    pub leaves_load : (old new : Sinks) (out err : Option (List ℕ)) (items : ℕ) (e : ExporterIn) (o : Opened) (answer : Result (Unit {0}) Stop) → items ≡ 8192 * load.requests
+    pub leaves_load : (old new : Sinks) (out err : Option (List ℕ)) (items : ℕ) (e : ExporterIn) (o : Opened) (answer : Result (Unit {0}) Stop) → items ≡ items_each * load.requests
         → HasSent rows load.requests old.out.written out e o → Appends old.err.written err (line_by load.requests items o.count)
         → Keeps out new.out.written → Keeps err new.err.written → OnOk answer (IsFlushed new) → LeavesLoad load old new answer
     leaves_load old new out err items e o (Ok x) many sent line keeps_out keeps_err flushed = record {

@@ -5,9 +5,9 @@ use Rattle.std.proofs.Math.Nat.{mod-lt}
 use Rattle.otlp_model.specs.declared.value.Value as values
 use Rattle.otlp_load.specs.Pairs.{numbered}
 use Rattle.otlp_load.specs.Items.{log_record_of}
-use Rattle.otlp_load.specs.Load.{groups_of}
+use Rattle.otlp_load.specs.Load.{groups_of, requests_at_most}
 use Rattle.otlp_load.proofs.ItemsLight.{numbered_at_most}
-use Rattle.otap_cells.specs.Weights.{weight_of_tables}
+use Rattle.otap_cells.specs.Weights.{row_weight_limit, weight_of_tables}
 use Rattle.otap_groups.specs.Weighing.{cells_weight, parts_weight}
 use Rattle.otap_attrs.specs.Values.{pair_cells, value_cells}
 use Rattle.otap_attrs.proofs.AttributesWeighed.{str_weighs}
@@ -17,7 +17,7 @@ use Rattle.otap_logs.proofs.RecordRows.{own_weight}
 use Rattle.otap_logs.proofs.WrittenWeight.{tables_weigh}
 use Rattle.otap_gateway.proofs.LoadRows.{pairs_rows, load_rows}
 
-record_rows : (r n : ℕ) → r < 1000 → cells_weight (record_cells (log_record_of r n)) + parts_weight pair_cells (log_record_of r n).pairs ≤ 800
+record_rows : (r n : ℕ) → r < requests_at_most → cells_weight (record_cells (log_record_of r n)) + parts_weight pair_cells (log_record_of r n).pairs ≤ 800
 record_rows r n request =
     let few : n % 5000 < 5000 = mod-lt n (omega arith) in
     let text : List ℕ = numbered (codes "message ") (n % 5000) in
@@ -28,7 +28,7 @@ record_rows r n request =
     let pairs = pairs_rows r n request in
     omega (arith, own, short, pairs)
 
-pub log_rows : (r : ℕ) → r < 1000 → weight_of_tables (tables_of_logs (groups_of log_record_of r)) ≤ 2 ^ 26
+pub log_rows : (r : ℕ) → r < requests_at_most → weight_of_tables (tables_of_logs (groups_of log_record_of r)) ≤ row_weight_limit
 log_rows r request =
-    subst (λ (weight : ℕ). weight ≤ 2 ^ 26) (tables_weigh (groups_of log_record_of r))
+    subst (λ (weight : ℕ). weight ≤ row_weight_limit) (tables_weigh (groups_of log_record_of r))
     (load_rows (λ log. cells_weight (record_cells log) + parts_weight pair_cells log.pairs) log_record_of r (λ n. record_rows r n request))

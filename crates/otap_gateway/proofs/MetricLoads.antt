@@ -1,5 +1,5 @@
 -- The tables of a load of metrics aren't too heavy.
-use Rattle.std.proofs.Common.{◌≡◌, ℕ, ◌+◌, ◌%◌, ◌<◌, ◌≤◌, ◌^◌, Bool, true, false, List, [], ◌∷◌, length, refl, arith}
+use Rattle.std.proofs.Common.{◌≡◌, ℕ, ◌+◌, ◌%◌, ◌<◌, ◌≤◌, Bool, true, false, List, [], ◌∷◌, length, refl, arith}
 use Rattle.std.specs.Prelude.{◌==◌, codes, map, pos, sum_by}
 use Rattle.std.specs.List.{range_with_len}
 use Rattle.std.proofs.Math.Nat.{mod-lt}
@@ -8,9 +8,9 @@ use Rattle.otlp_model.specs.declared.metrics.Number.{Number}
 use Rattle.otlp_model.specs.declared.metrics.Number.TheVariants as numbers
 use Rattle.otlp_load.specs.Pairs.{double, numbered}
 use Rattle.otlp_load.specs.Items.{metric_of, point_of, shape_of}
-use Rattle.otlp_load.specs.Load.{group_of, groups_of, items_each, number_at, places_below, scope_of_all}
+use Rattle.otlp_load.specs.Load.{group_of, groups_of, items_each, number_at, places_below, requests_at_most, scope_of_all}
 use Rattle.otlp_load.proofs.ItemsLight.{numbered_at_most}
-use Rattle.otap_cells.specs.Weights.{weight_of_tables}
+use Rattle.otap_cells.specs.Weights.{row_weight_limit, weight_of_tables}
 use Rattle.otap_metrics.specs.Inside.{metric_weight, point_weight}
 use Rattle.otap_metrics.specs.Metrics.{points_of}
 use Rattle.otap_metrics.proofs.MetricRows.{metric_weighs, point_weighs}
@@ -23,18 +23,18 @@ use Rattle.otap_gateway.proofs.LoadRows.{pairs_rows, load_rows}
 
 -- ---- metrics and their points
 
-point_rows : (r n : ℕ) (value : Number) → r < 1000 → sum_by point_weight (point_of r n value ∷ []) ≤ 560
+point_rows : (r n : ℕ) (value : Number) → r < requests_at_most → sum_by point_weight (point_of r n value ∷ []) ≤ 560
 point_rows r n value request =
     let pairs = pairs_rows r n request in
     let own = point_weighs (point_of r n value) in
     let split = sum_by-cons point_weight (point_of r n value) [] in
     omega (arith, pairs, own, split)
 
-shape_rows : (r n : ℕ) → r < 1000 → (b : Bool) → n % 2 == 1 ≡ b → sum_by point_weight (points_of (shape_of r n)) ≤ 560
+shape_rows : (r n : ℕ) → r < requests_at_most → (b : Bool) → n % 2 == 1 ≡ b → sum_by point_weight (points_of (shape_of r n)) ≤ 560
 shape_rows r n request true odd = rw odd (point_rows r n (numbers.Int (pos n)) request)
 shape_rows r n request false even = rw even (point_rows r n (numbers.Double (double n)) request)
 
-metric_rows : (r n : ℕ) → r < 1000 → metric_weight (metric_of r n) ≤ 800
+metric_rows : (r n : ℕ) → r < requests_at_most → metric_weight (metric_of r n) ≤ 800
 metric_rows r n request =
     let few : n % 300 < 300 = mod-lt n (omega arith) in
     let short : length (numbered (codes "m-") (n % 300)) ≤ 5 = numbered_at_most 3 (n % 300) (codes "m-") (omega arith) (omega arith) (omega arith) in
@@ -65,10 +65,10 @@ group_nothing r g =
 
 -- ---- all tables
 
-bounded : (whole metrics hists : ℕ) → whole ≡ metrics + hists → metrics ≤ 2 ^ 26 → hists ≡ 0 → whole ≤ 2 ^ 26
+bounded : (whole metrics hists : ℕ) → whole ≡ metrics + hists → metrics ≤ row_weight_limit → hists ≡ 0 → whole ≤ row_weight_limit
 bounded whole metrics hists is few none = omega (arith, is, few, none)
 
-pub metric_tables_rows : (r : ℕ) → r < 1000 → weight_of_tables (whole_tables (groups_of metric_of r)) ≤ 2 ^ 26
+pub metric_tables_rows : (r : ℕ) → r < requests_at_most → weight_of_tables (whole_tables (groups_of metric_of r)) ≤ row_weight_limit
 metric_tables_rows r request =
     let metrics = load_rows metric_weight metric_of r (λ n. metric_rows r n request) in
     let same = tables_weigh (groups_of metric_of r) in

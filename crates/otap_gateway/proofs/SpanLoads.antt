@@ -5,10 +5,10 @@ use Rattle.std.proofs.Math.Nat.{mod-lt}
 use Rattle.std.proofs.lemmas.List.Sums.{sum_by-cons}
 use Rattle.otlp_load.specs.Pairs.{numbered}
 use Rattle.otlp_load.specs.Items.{event_at, span_of, time_of}
-use Rattle.otlp_load.specs.Load.{groups_of}
+use Rattle.otlp_load.specs.Load.{groups_of, requests_at_most}
 use Rattle.otlp_load.proofs.ItemsLight.{numbered_at_most}
 use Rattle.otap_cells.specs.Scalars.{text_cell, number_cell, bits_cell}
-use Rattle.otap_cells.specs.Weights.{cell_weight, weight_of_tables}
+use Rattle.otap_cells.specs.Weights.{cell_weight, row_weight_limit, weight_of_tables}
 use Rattle.otap_groups.specs.Weighing.{cells_weight}
 use Rattle.otap_attrs.proofs.AttributesWeighed.{bits_weigh, number_weighs, text_weighs}
 use Rattle.otap_spans.specs.Records.{span_cells}
@@ -28,7 +28,7 @@ event_rows name time short =
     let s2 = sum_by-cons cell_weight (number_cell 0) [] in
     omega (arith, a, b, c, s0, s1, s2, short)
 
-below_rows : (r n : ℕ) → r < 1000 → below_weight (span_of r n) ≤ 600
+below_rows : (r n : ℕ) → r < requests_at_most → below_weight (span_of r n) ≤ 600
 below_rows r n request =
     let pairs = pairs_rows r n request in
     let first = event_rows (codes "e0") (time_of n) refl in
@@ -37,7 +37,7 @@ below_rows r n request =
     let s1 = sum_by-cons event_weight (event_at (codes "e1") (time_of n)) [] in
     omega (arith, pairs, first, second, s0, s1)
 
-span_rows : (r n : ℕ) → r < 1000 → cells_weight (span_cells (span_of r n)) + below_weight (span_of r n) ≤ 800
+span_rows : (r n : ℕ) → r < requests_at_most → cells_weight (span_cells (span_of r n)) + below_weight (span_of r n) ≤ 800
 span_rows r n request =
     let few : n % 300 < 300 = mod-lt n (omega arith) in
     let name : List ℕ = numbered (codes "op-") (n % 300) in
@@ -47,7 +47,7 @@ span_rows r n request =
     let below = below_rows r n request in
     omega (arith, own, short, below)
 
-pub span_tables_rows : (r : ℕ) → r < 1000 → weight_of_tables (tables_of_spans (groups_of span_of r)) ≤ 2 ^ 26
+pub span_tables_rows : (r : ℕ) → r < requests_at_most → weight_of_tables (tables_of_spans (groups_of span_of r)) ≤ row_weight_limit
 span_tables_rows r request =
-    subst (λ (weight : ℕ). weight ≤ 2 ^ 26) (tables_weigh (groups_of span_of r))
+    subst (λ (weight : ℕ). weight ≤ row_weight_limit) (tables_weigh (groups_of span_of r))
     (load_rows (λ span. cells_weight (span_cells span) + below_weight span) span_of r (λ n. span_rows r n request))

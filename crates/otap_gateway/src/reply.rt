@@ -42,7 +42,7 @@ impl Reply {
         requires { length part ≤ longest_frame }
         ensures { IfOk result (λ reply. reply ≡ printed (message_frame part)) }
     {
-        let mut head = [0; 5];
+        let mut head = [0; HEAD];
         BigEndian::write_u32(&mut head[1..], part.len() as u32);
         part.push_slice(&head)?;
         Ok(Reply::on_out(alloc, part.finish()))
@@ -99,7 +99,7 @@ impl Reply {
         let Ok(size) = u32::try_from(part.len()) else {
             return Err(AllocError);
         };
-        let mut head = [0; 5];
+        let mut head = [0; HEAD];
         BigEndian::write_u32(&mut head[1..], size);
         let mut out = head.to_vec(alloc)?;
         out.extend_from_slice(&part)?;

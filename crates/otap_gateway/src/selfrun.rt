@@ -1,7 +1,7 @@
 //! `selfrun`: the batch messages of a load that the program makes itself, and a line that counts them.
 ghost use Rattle.std.specs.Prelude.{◌≡◌, ◌≤◌, ◌<◌, ◌*◌, ◌++◌, [], codes, IfOk, string_bytes};
 ghost use Rattle.std.specs.Fmt.{decimal};
-ghost use Rattle.otlp_load.specs.Load.{requests_at_most};
+ghost use Rattle.otlp_load.specs.Load.{items_each, requests_at_most};
 ghost use Rattle.otap_gateway.specs.Lines.{line_feed};
 ghost use Rattle.otap_gateway.specs.Loading.{HasLoaded, IsLoading, LoadsNext};
 ghost use Rattle.otap_gateway.specs.Loads.{IsLoad, LeavesLoad, load_status};
@@ -61,7 +61,7 @@ impl<T: Loads> Loader<T> {
 
 /// How many items so many requests have.
 fn items_of(requests: u32) -> u64
-    ensures { result ≡ 8192 * requests }
+    ensures { result ≡ items_each * requests }
 {
     u64::from(ITEMS) * u64::from(requests)
 }

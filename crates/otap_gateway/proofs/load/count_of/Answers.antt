@@ -1,10 +1,11 @@
 use Rattle.std.proofs.Common.{◌≡◌, ◌<◌, ◌≤◌, ◌^◌, ℕ, List, sym, ◌∙◌, arith}
 use Rattle.std.specs.Fmt.{decimal}
 use Rattle.std.proofs.lemmas.Fmt.{decimal_injective}
+use Rattle.otlp_load.specs.Load.{requests_at_most}
 use Rattle.otap_gateway.proofs.load.count_of.Goals as goal
 use Rattle.otap_gateway.proofs.load.count_of.Goals.{then-count-eq0-via-then-count-eq0, then-count-eq0-via-else-count-eq0+then-count-gt-REQUESTS}
 
-same_number : (word : List ℕ) (count n : ℕ) → count < 2 ^ 32 → n ≤ 1000 → word ≡ decimal count → word ≡ decimal n → count ≡ n
+same_number : (word : List ℕ) (count n : ℕ) → count < 2 ^ 32 → n ≤ requests_at_most → word ≡ decimal count → word ≡ decimal n → count ≡ n
 same_number word count n fits few is says = decimal_injective count n (omega arith) (omega arith) (sym is ∙ says)
 
 pub returns-then-count-eq0 : goal.returns-then-count-eq0
