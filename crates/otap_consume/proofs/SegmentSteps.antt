@@ -21,10 +21,10 @@ use Rattle.otap_consume.specs.declared.not_taken.NotTaken.{NotTaken}
 use Rattle.otap_consume.specs.declared.not_taken.NotTaken.TheVariants.{Defect, Memory}
 use Rattle.otap_consume.specs.Defects.{Refuses, tables_of}
 use Rattle.otap_consume.specs.Outcomes.{Outcome, Accepted, Refused, Reset, Gives, StaysBroken, OutcomeAfter, is_reset, is_refused, payloads_if, segment, is_broken, payloads_after, refused, refusal_of, unread_cause}
-use Rattle.otap_consume.specs.Segments.{SegmentIn, StandsFor, HasNext, Next, NextBatch, IsNew}
+use Rattle.otap_consume.specs.Segments.{SegmentIn, StandsFor, HasNext, Next, IsNew}
 use Rattle.otap_consume.specs.Stops.{Stops}
 use Rattle.otap_consume.specs.Streams.{StreamIn, AreAfter}
-use Rattle.otap_consume.specs.Taking.{AcceptsBehind, IsStopped}
+use Rattle.otap_consume.specs.Taking.{AcceptsBehind, IsStopped, NextBatch}
 
 -- ---- one more outcome
 

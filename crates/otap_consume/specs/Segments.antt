@@ -45,10 +45,6 @@ pub record HasNext (signal : Signal) (outcomes : List Outcome) (frame : Frame) (
 pub record Next (old : SegmentIn) (frame : Frame) (new : SegmentIn) (answer : Seen) : Type 0 where
   pub at : (signal : Signal) (outcomes : List Outcome) → StandsFor signal outcomes old → HasNext signal outcomes frame answer new
 
--- the same for a message that says this batch
-pub record NextBatch (old : SegmentIn) (batch : BatchContent) (new : SegmentIn) (answer : Seen) : Type 0 where
-  pub at : (bytes : List ℕ) → ReadsBatch bytes batch → Next old (Message bytes) new answer
-
 -- the streams show the records of these payloads: of each type there is one, and it was taken last
 pub record CanShow (streams : List StreamIn) (payloads : List PayloadContent) : Type 0 where
   pub signal : Signal

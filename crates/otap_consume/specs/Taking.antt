@@ -1,7 +1,8 @@
 -- How the payloads of a batch are taken, in the words of private contracts.
 use Rattle.std.specs.Prelude.{◌≡◌, ℕ, List, ◌++◌, Some}
 use Rattle.otlp_model.specs.declared.request.Signal.{Signal}
-use Rattle.otap_capture.specs.Batch.{BatchContent, PayloadContent}
+use Rattle.otap_capture.specs.Batch.{BatchContent, PayloadContent, ReadsBatch}
+use Rattle.otap_capture.specs.Capture.{Message}
 use Rattle.otap_cells.specs.Weights.{weight_of_tables}
 use Rattle.otap_consume.specs.declared.seen.Seen.{Seen}
 use Rattle.otap_consume.specs.declared.seen.Seen.TheVariants as seen
@@ -9,6 +10,7 @@ use Rattle.otap_consume.specs.declared.not_taken.NotTaken.{NotTaken}
 use Rattle.otap_consume.specs.declared.not_taken.NotTaken.TheVariants.{Defect, Memory}
 use Rattle.otap_consume.specs.Defects.{Accepts, IsTooLarge, IsWithinLimits, tables_of, held_after}
 use Rattle.otap_consume.specs.Outcomes.{refusal_of}
+use Rattle.otap_consume.specs.Segments.{SegmentIn, Next}
 use Rattle.otap_consume.specs.Stops.{Stops, IsOfSize}
 use Rattle.otap_consume.specs.Streams.{StreamIn, AreAfter}
 
@@ -31,3 +33,7 @@ pub record AcceptsBehind (signal : Signal) (past payloads : List PayloadContent)
 abbrev pub IsStopped : NotTaken → BatchContent → Seen → Type 0
 IsStopped (Defect cause payload) batch answer = answer ≡ seen.Refused (refusal_of (Some batch.id) cause payload)
 IsStopped (Memory e) batch answer = ⊥
+
+-- the next frame is a message that says this batch
+pub record NextBatch (old : SegmentIn) (batch : BatchContent) (new : SegmentIn) (answer : Seen) : Type 0 where
+  pub at : (bytes : List ℕ) → ReadsBatch bytes batch → Next old (Message bytes) new answer

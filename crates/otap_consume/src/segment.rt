@@ -4,7 +4,7 @@ ghost use Rattle.otap_capture.specs.Capture.{frame_of, Message};
 ghost use Rattle.otap_consume.specs.declared.seen.Seen.TheVariants as seen;
 ghost use Rattle.otap_consume.specs.Outcomes.{refusal_of, unread_cause};
 ghost use Rattle.otap_consume.specs.Streams.{closed};
-ghost use Rattle.otap_consume.specs.Taking.{IsStopped};
+ghost use Rattle.otap_consume.specs.Taking.{IsStopped, NextBatch};
 
 use crate::not_taken::NotTaken;
 use crate::refusal::{Cause, Refusal};
@@ -43,7 +43,7 @@ impl Model for Segment {
 
 impl Segment {
     ghost use Rattle.otap_consume.specs.declared.refusal.Cause.TheVariants.{Broken};
-    ghost use Rattle.otap_consume.specs.Segments.{IsNew, Next, NextBatch, TakesIf, ShowsIf, CanShow, TablesOf};
+    ghost use Rattle.otap_consume.specs.Segments.{IsNew, Next, TakesIf, ShowsIf, CanShow, TablesOf};
 
     /// A segment in which no frame stands.
     pub fn new(alloc: Global, signal: Signal) -> Result<Segment, AllocError>

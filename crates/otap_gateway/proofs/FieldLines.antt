@@ -5,7 +5,8 @@ use Rattle.std.proofs.lemmas.List.{at_drop_more}
 use Rattle.arrow_schema.specs.declared.spec.FieldSpec.{FieldSpec}
 use Rattle.arrow_schema.specs.declared.spec.FieldSpec.TheFolds.{fold_out-FieldSpec}
 use Rattle.arrow_schema.specs.Trees.{name_in, children_in}
-use Rattle.otap_gateway.specs.Fields.{field_line, field_step, field_text, fields_text, inner_path}
+use Rattle.otap_gateway.specs.Fields.{field_step, field_text, fields_text, inner_path}
+use Rattle.otap_gateway.specs.FieldsInside.{field_line}
 
 flat_fields : (path : List ℕ) (fields : List FieldSpec) → flat_map (λ child. child path) (map field_text fields) ≡ fields_text path fields
 flat_fields path [] = refl

@@ -5,7 +5,8 @@ use Rattle.std.specs.List.{flat_map, join_with_byte}
 use Rattle.byteorder.specs.Endian.{little_number}
 use Rattle.hex.specs.Hex.{encode_with, encode_lower, lower_digits}
 use Rattle.otap_cells.specs.declared.profile.Base.{Base}
-use Rattle.otap_gateway.specs.Rows.{bits_text, elements, elements_text, after_commas}
+use Rattle.otap_gateway.specs.Rows.{bits_text, elements, elements_text}
+use Rattle.otap_gateway.specs.RowsInside.{after_commas}
 
 -- the first element of a list, and those after it
 pub elements_more : (part first rest : List ℕ) → 8 ≤ length part → first ≡ take 8 part → rest ≡ drop 8 part → elements part ≡ little_number 8 first ∷ elements rest

@@ -1,8 +1,12 @@
 -- What one frame makes of an exporter, in the words of the private contracts of `encode`.
-use Rattle.std.specs.Prelude.{◌≡◌, ◌⊎◌, ◌<◌, ℕ, List, length, codes}
+use Rattle.std.specs.Prelude.{◌≡◌, ◌⊎◌, ◌<◌, ℕ, List, [], ◌∷◌, ◌++◌, length, codes}
 use Rattle.otap_capture.specs.Capture.{Frame, message_frame}
 use Rattle.otap_produce.specs.Exporters.{ExporterIn, Exports}
 use Rattle.otap_produce.specs.Policy.{SignalRows}
+use Rattle.otlp_codec.specs.declared.refusal.ReadRefusal.{ReadRefusal}
+use Rattle.otlp_codec.specs.Refusals.{refusal_of}
+use Rattle.otlp_messages.specs.declared.messages.Defect.{Defect}
+use Rattle.otlp_messages.specs.Names.{defect_text}
 use Rattle.otlp_model.specs.Limits.{item_limit}
 use Rattle.otlp_model.specs.declared.request.Request.{Request}
 use Rattle.otlp_model.specs.Telemetry.{telemetry}
@@ -10,12 +14,25 @@ use Rattle.otap_gateway.specs.Encoding.{Encoded, EncodedAfter, WeighsTooMuch, Ha
 use Rattle.otap_gateway.specs.Lines.{printed}
 use Rattle.otap_gateway.specs.RefusedRequests.{refused_request}
 use Rattle.otap_gateway.specs.Reply.{ReplyText}
-use Rattle.otap_gateway.specs.Told.{HasMore}
+use Rattle.otap_gateway.specs.Told.{Giving}
+
+-- a refusal to read a request, and the name of its defect
+pub record NamesDefect (refusal : ReadRefusal) (name : List ℕ) : Type 0 where
+  pub defect : Defect
+  pub same : refusal ≡ refusal_of defect
+  pub text : name ≡ defect_text defect
 
 -- an exporter that stands for some outcomes
 pub record IsEncoding (rows : SignalRows) (e : ExporterIn) : Type 0 where
   pub outcomes : List Encoded
   pub stands : HasEncoded rows e outcomes
+
+-- one more frame: what it gives after outcomes, whose text is the reply, and the new state stands for one more outcome
+pub record HasMore {O : Type 0} (Gives : Giving O) (text : ℕ → O → ReplyText) (new : List O → Type 0) (outcomes : List O) (frame : Frame) (number : ℕ) (reply : ReplyText) : Type 0 where
+  pub outcome : O
+  pub gives : Gives outcomes frame outcome
+  pub says : reply ≡ text number outcome
+  pub stands : new (outcomes ++ outcome ∷ [])
 
 -- one more frame, whatever the exporter stands for
 pub record EncodesFrame (rows : SignalRows) (old new : ExporterIn) (number : ℕ) (frame : Frame) (reply : ReplyText) : Type 0 where

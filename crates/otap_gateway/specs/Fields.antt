@@ -7,7 +7,6 @@ use Rattle.arrow_schema.specs.declared.spec.ArrowType.TheVariants as type
 use Rattle.arrow_schema.specs.declared.spec.DictSpec.{DictSpec}
 use Rattle.arrow_schema.specs.declared.spec.FieldSpec.{FieldSpec, fold-FieldSpec}
 use Rattle.arrow_schema.specs.declared.spec.FieldSpec.TheOpen.{FieldSpec-F}
-use Rattle.arrow_schema.specs.Trees.{name_in, kind_in, dict_in}
 use Rattle.otap_gateway.specs.Lines.{line_feed}
 use Rattle.otap_gateway.specs.Quoting.{quoted}
 
@@ -31,9 +30,6 @@ dictionary_word (Some dict) = if dict.wide then codes " dict u16" else codes " d
 -- the line of a field below a path, which is empty or ends with a dot
 abbrev pub line_of : List ℕ → List ℕ → ArrowType → Option DictSpec → List ℕ
 line_of path name kind dict = codes "field " ++ quoted (path ++ name) ++ codes " " ++ type_word kind ++ dictionary_word dict ++ line_feed
-
-abbrev pub field_line : List ℕ → FieldSpec → List ℕ
-field_line path f = line_of path (name_in f) (kind_in f) (dict_in f)
 
 -- the path of a field's children
 abbrev pub inner_path : List ℕ → List ℕ → List ℕ

@@ -3,6 +3,7 @@ pub mod Commands
 pub mod Encoding
 pub mod EncodingSteps
 pub mod Fields
+pub mod FieldsInside
 pub mod Jobs
 pub mod Lines
 pub mod Listing
@@ -18,6 +19,7 @@ pub mod RefusedRequests
 pub mod Reply
 pub mod RowCauses
 pub mod Rows
+pub mod RowsInside
 pub mod Runs
 pub mod Schemas
 pub mod Showing

@@ -1,6 +1,6 @@
 -- The lines of a table's rows.
 use Rattle.std.specs.Prelude.{ℕ, ◌+◌, ◌/◌, if◌then◌else◌, List, [], ◌∷◌, ◌++◌, length, map, codes}
-use Rattle.std.specs.List.{flat_map, join_with_byte}
+use Rattle.std.specs.List.{join_with_byte}
 use Rattle.std.specs.Simd.{first_chunks}
 use Rattle.std.specs.Fmt.{decimal, signed_decimal}
 use Rattle.std.specs.Int.{w64, to_be_bytes}
@@ -67,9 +67,3 @@ row_lines columns place (row ∷ rows) = row_line columns place row ++ row_lines
 -- the lines of a table
 abbrev pub table_text : Table → List ℕ
 table_text table = row_lines (columns_of table.kind) 0 table.rows
-
--- ---- the words of private contracts
-
--- elements of a list, each after a comma
-abbrev pub after_commas : Base → List ℕ → List ℕ
-after_commas holds numbers = flat_map (λ n. 44 ∷ bits_text holds n) numbers

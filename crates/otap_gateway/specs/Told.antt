@@ -1,5 +1,5 @@
 -- Replies that tell what frames gave.
-use Rattle.std.specs.Prelude.{◌≡◌, ℕ, suc, List, [], ◌∷◌, ◌++◌, length}
+use Rattle.std.specs.Prelude.{◌≡◌, ℕ, suc, List, [], ◌∷◌, length}
 use Rattle.lists.specs.EachAfter.{EachAfter}
 use Rattle.otap_capture.specs.Capture.{Frame}
 use Rattle.otap_gateway.specs.Reply.{ReplyText}
@@ -33,10 +33,3 @@ pub record HasTold {O : Type 0} (Gives : Giving O) (text : ℕ → O → ReplyTe
   pub before : Gave Gives frames outcomes
   pub so_far : replies ≡ told text 0 outcomes
   pub stood : stands outcomes
-
--- one more frame: what it gives after outcomes, whose text is the reply, and the new state stands for one more outcome
-pub record HasMore {O : Type 0} (Gives : Giving O) (text : ℕ → O → ReplyText) (new : List O → Type 0) (outcomes : List O) (frame : Frame) (number : ℕ) (reply : ReplyText) : Type 0 where
-  pub outcome : O
-  pub gives : Gives outcomes frame outcome
-  pub says : reply ≡ text number outcome
-  pub stands : new (outcomes ++ outcome ∷ [])

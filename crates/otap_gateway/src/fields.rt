@@ -1,6 +1,7 @@
 //! The lines of a schema's fields.
 ghost use Rattle.std.specs.Prelude.{◌≡◌, ◌++◌, IfOk, OnOk, string_bytes};
-ghost use Rattle.otap_gateway.specs.Fields.{type_word, dictionary_word, field_line, fields_text, inner_path};
+ghost use Rattle.otap_gateway.specs.Fields.{type_word, dictionary_word, fields_text, inner_path};
+ghost use Rattle.otap_gateway.specs.FieldsInside.{field_line};
 
 use crate::quoting::push_quoted;
 use arrow_schema::{ArrowType, DictSpec, FieldSpec};

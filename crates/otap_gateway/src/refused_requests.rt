@@ -1,7 +1,8 @@
 //! The replies to requests that are refused.
 ghost use Rattle.std.specs.Prelude.{◌≡◌, IfOk};
 ghost use Rattle.otlp_codec.specs.Refusals.{refusal_of};
-ghost use Rattle.otap_gateway.specs.RefusedRequests.{NamesDefect, refused_request};
+ghost use Rattle.otap_gateway.specs.EncodingSteps.{NamesDefect};
+ghost use Rattle.otap_gateway.specs.RefusedRequests.{refused_request};
 
 use crate::lines::request_line;
 use crate::reply::Reply;

@@ -6,7 +6,8 @@ ghost use Rattle.otap_cells.specs.Cells.{seen};
 ghost use Rattle.otap_cells.specs.Columns.{columns_of, described};
 ghost use Rattle.otap_cells.specs.Tables.{IsTable};
 ghost use Rattle.otap_gateway.specs.Quoting.{quoted};
-ghost use Rattle.otap_gateway.specs.Rows.{after_commas, bits_text, bytes_text, cell_text, cells_text, elements, elements_text, list_text, named_cell, row_line, table_text};
+ghost use Rattle.otap_gateway.specs.Rows.{bits_text, bytes_text, cell_text, cells_text, elements, elements_text, list_text, named_cell, row_line, table_text};
+ghost use Rattle.otap_gateway.specs.RowsInside.{after_commas};
 
 use crate::numbers::{push_number, push_signed};
 use crate::quoting::push_quoted;

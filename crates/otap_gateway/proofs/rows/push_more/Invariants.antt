@@ -1,5 +1,6 @@
 use Rattle.std.proofs.Common.{◌≡◌, ◌++◌, length}
-use Rattle.otap_gateway.specs.Rows.{after_commas, elements}
+use Rattle.otap_gateway.specs.Rows.{elements}
+use Rattle.otap_gateway.specs.RowsInside.{after_commas}
 use Rattle.otap_gateway.proofs.rows.push_more.Given as goal
 
 abbrev pub invariant-elements : goal.invariant-elements

@@ -3,7 +3,8 @@ use Rattle.std.specs.Result.{is_err}
 use Rattle.std.specs.Vec.{with_items}
 use Rattle.std.proofs.lemmas.List.{with_items_is}
 use Rattle.otap_consume.specs.declared.seen.Seen.{Seen}
-use Rattle.otap_consume.specs.Segments.{SegmentIn, NextBatch}
+use Rattle.otap_consume.specs.Segments.{SegmentIn}
+use Rattle.otap_consume.specs.Taking.{NextBatch}
 use Rattle.otap_consume.specs.Streams.{StreamIn}
 use Rattle.otap_consume.proofs.SegmentSteps.{next_broken, accepted_parts, stopped_next}
 use Rattle.otap_consume.proofs.segment.Segment.take_batch.Goals.{in-Ok, in-Err}
