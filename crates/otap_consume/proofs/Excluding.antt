@@ -18,7 +18,7 @@ use Rattle.otap_columns.specs.Records.{IsRead}
 use Rattle.otap_columns.proofs.Excluding.{never_both}
 use Rattle.otap_consume.specs.declared.refusal.Cause.{Cause}
 use Rattle.otap_consume.specs.declared.refusal.Cause.TheVariants.{Compressed, BadMessage, Repeated, BadUtf8, PayloadType, PayloadTwice, SchemaIdTaken, Column, TooManyItems, RowsTooHeavy, HeldTooMuch, Row, TreeTooHeavy, Broken}
-use Rattle.otap_consume.specs.Defects.{Accepts, Refuses, StandsInList, HasFineList, StandsInRecord, HasFineRecords, IsReadBehind, IsTooLarge, IsWithinLimits, is_taken, tables_of, held_after}
+use Rattle.otap_consume.specs.Defects.{Accepts, Refuses, StandsInList, HasFineList, StandsInRecord, HasFineRecords, IsReadAfter, IsTooLarge, IsWithinLimits, is_taken, tables_of, held_after}
 use Rattle.otap_consume.specs.Outcomes.{stage_of}
 use Rattle.otap_consume.specs.Payloads.{messages_before}
 use Rattle.otap_consume.specs.PayloadTypes.{IsFineType, times}
@@ -79,8 +79,8 @@ module _ (signal : Signal) (past payloads : List PayloadContent) where
   -- nor with records that are
   records_not : HasFineRecords signal past payloads → (refusal : ColumnRefusal) (payload : Option ℤ) → StandsInRecord signal past payloads refusal payload → ⊥
   records_not fine refusal payload h =
-      let each : AllAfter (IsReadBehind signal) past (h.has.before ++ h.p ∷ h.has.after) = subst (λ (ps : List PayloadContent). AllAfter (IsReadBehind signal) past ps) h.has.is fine in
-      let read : IsRead h.kind (messages_before (past ++ h.has.before) h.p) h.p.bytes = all_after-at (IsReadBehind signal) past h.has.before h.has.after h.p each h.kind h.known in
+      let each : AllAfter (IsReadAfter signal) past (h.has.before ++ h.p ∷ h.has.after) = subst (λ (ps : List PayloadContent). AllAfter (IsReadAfter signal) past ps) h.has.is fine in
+      let read : IsRead h.kind (messages_before (past ++ h.has.before) h.p) h.p.bytes = all_after-at (IsReadAfter signal) past h.has.before h.has.after h.p each h.kind h.known in
       never_both h.kind (messages_before (past ++ h.has.before) h.p) h.p.bytes read refusal h.stands
 
   -- nor with a whole that is within the limits

@@ -14,7 +14,7 @@ use Rattle.otap_cells.specs.declared.payload.Kind.{Kind}
 use Rattle.otap_cells.specs.Payload.{kind_numbered}
 use Rattle.otap_cells.specs.Tables.{Table}
 use Rattle.otap_consume.specs.declared.refusal.Cause.TheVariants.{Compressed, Broken}
-use Rattle.otap_consume.specs.Defects.{IsReadBehind, IsTakenAfter, AreTaken, Accepts, tables_of}
+use Rattle.otap_consume.specs.Defects.{IsReadAfter, IsTakenAfter, AreTaken, Accepts, tables_of}
 use Rattle.otap_consume.specs.Outcomes.{Outcome, Accepted, Refused, Reset, refused, unread_cause, is_broken, payloads_after, Gives, StaysBroken, OutcomeAfter, Outcomes, IsRead}
 use Rattle.otap_consume.specs.PayloadTypes.{IsFineType}
 use Rattle.otap_consume.proofs.Judged.{are_judged}
@@ -23,7 +23,7 @@ use Rattle.otap_consume.proofs.SegmentSteps.{payloads_accepted, broken_accepted,
 -- ---- the payloads of accepted batches were taken
 
 -- those of one batch, after the others
-more_taken : (signal : Signal) (all before xs : List PayloadContent) → AllByRecursion (IsFineType signal all) xs → AllAfter (IsReadBehind signal) before xs → AllAfter (IsTakenAfter signal) before xs
+more_taken : (signal : Signal) (all before xs : List PayloadContent) → AllByRecursion (IsFineType signal all) xs → AllAfter (IsReadAfter signal) before xs → AllAfter (IsTakenAfter signal) before xs
 more_taken signal all before [] fine read = tt
 more_taken signal all before (p ∷ xs) fine read =
     (by_kind (kind_numbered signal p.kind) refl fine.0.known, more_taken signal all (before ++ p ∷ []) xs fine.1 read.1)

@@ -26,7 +26,7 @@ use Rattle.otap_consume.specs.declared.payload_types.TypesRefusal.TheVariants as
 use Rattle.otap_consume.specs.declared.refusal.Cause.{Cause}
 use Rattle.otap_consume.specs.declared.refusal.Cause.TheVariants.{PayloadType, PayloadTwice, SchemaIdTaken, Column, TooManyItems, RowsTooHeavy, HeldTooMuch}
 use Rattle.otap_consume.specs.Limits.{held_limit}
-use Rattle.otap_consume.specs.Defects.{is_taken, HasTakenId, StandsInList, HasFineList, StandsInRecord, IsReadBehind, HasFineRecords, IsTakenAfter, AreTaken, IsTooLarge, IsWithinLimits, tables_of, held_after, Refuses, AreJudged}
+use Rattle.otap_consume.specs.Defects.{is_taken, HasTakenId, StandsInList, HasFineList, StandsInRecord, IsReadAfter, HasFineRecords, IsTakenAfter, AreTaken, IsTooLarge, IsWithinLimits, tables_of, held_after, Refuses, AreJudged}
 use Rattle.otap_consume.specs.Payloads.{parts_of, part_of, last_in, messages_in, messages_before}
 use Rattle.otap_consume.specs.PayloadTypes.{IsFineType, HasFineTypes, StandsInTypes, times}
 use Rattle.otap_consume.proofs.Substreams.{messages_in-other, messages_in-own}
@@ -48,11 +48,11 @@ goes_on signal before p can t = by_test (opens_after (last_in p.kind before) (pa
     begins : messages_before before p ≡ [] → HasSchema (front_of p.bytes)
     begins none = opens_with t.kind p.bytes (subst (λ (ms : List IpcMessage). IsRead t.kind ms p.bytes) none t.read)
 
-    comes_behind : messages_before before p ≡ messages_in p.kind before → CanGoOn (messages_in p.kind before) → CanGoOn (messages_in p.kind before ++ front_of p.bytes)
-    comes_behind same (inl none) =
+    comes_after : messages_before before p ≡ messages_in p.kind before → CanGoOn (messages_in p.kind before) → CanGoOn (messages_in p.kind before ++ front_of p.bytes)
+    comes_after same (inl none) =
         let first : HasSchema (front_of p.bytes) = begins (same ∙ none) in
         inr (subst (λ (ms : List IpcMessage). HasSchema (ms ++ front_of p.bytes)) (sym none) first)
-    comes_behind same (inr has) = inr (has_schema-stays (messages_in p.kind before) (front_of p.bytes) has)
+    comes_after same (inr has) = inr (has_schema-stays (messages_in p.kind before) (front_of p.bytes) has)
 
     by_test : (b : Bool) → opens_after (last_in p.kind before) (part_of p) ≡ b → CanGoOn (messages_in p.kind (before ++ p ∷ []))
     by_test true is =
@@ -60,7 +60,7 @@ goes_on signal before p can t = by_test (opens_after (last_in p.kind before) (pa
         subst CanGoOn (sym (after ∙ ap (λ (b : Bool). if b then front_of p.bytes else messages_in p.kind before ++ front_of p.bytes) is)) (inr (begins none))
     by_test false is =
         let same : messages_before before p ≡ messages_in p.kind before = ap (λ (b : Bool). if b then [] else messages_in p.kind before) is in
-        subst CanGoOn (sym (after ∙ ap (λ (b : Bool). if b then front_of p.bytes else messages_in p.kind before ++ front_of p.bytes) is)) (comes_behind same can)
+        subst CanGoOn (sym (after ∙ ap (λ (b : Bool). if b then front_of p.bytes else messages_in p.kind before ++ front_of p.bytes) is)) (comes_after same can)
 
 all_go_on : (signal : Signal) (before : List PayloadContent) (p : PayloadContent) → ((type : ℤ) → CanGoOn (messages_in type before)) → IsTakenAfter signal before p
     → (type : ℤ) → CanGoOn (messages_in type (before ++ p ∷ []))
@@ -135,28 +135,28 @@ module _ (signal : Signal) (past payloads : List PayloadContent) where
   abbrev Unread : Type 0
   Unread = (refusal : ColumnRefusal) × (payload : Option ℤ) × StandsInRecord signal past payloads refusal payload
 
-  records_from : HasFineTypes signal payloads → (front xs : List PayloadContent) → payloads ≡ front ++ xs → AreTaken signal (past ++ front) → AllAfter (IsReadBehind signal) (past ++ front) xs ⊎ Unread
+  records_from : HasFineTypes signal payloads → (front xs : List PayloadContent) → payloads ≡ front ++ xs → AreTaken signal (past ++ front) → AllAfter (IsReadAfter signal) (past ++ front) xs ⊎ Unread
   records_from fine front [] is taken = inl tt
   records_from fine front (p ∷ xs) is taken = by_kind (kind_numbered signal p.kind) refl (fine_at signal payloads front xs p fine is).known (λ more. records_from fine (front ++ p ∷ []) xs (is ∙ sym (append_assoc front (p ∷ []) xs)) more)
     where
-      by_record : (kind : Kind) → kind_numbered signal p.kind ≡ Some kind → (AreTaken signal (past ++ (front ++ p ∷ [])) → AllAfter (IsReadBehind signal) (past ++ (front ++ p ∷ [])) xs ⊎ Unread)
+      by_record : (kind : Kind) → kind_numbered signal p.kind ≡ Some kind → (AreTaken signal (past ++ (front ++ p ∷ [])) → AllAfter (IsReadAfter signal) (past ++ (front ++ p ∷ [])) xs ⊎ Unread)
           → IsRead kind (messages_before (past ++ front) p) p.bytes ⊎ ((refusal : ColumnRefusal) × Stands kind (messages_before (past ++ front) p) p.bytes refusal)
-          → AllAfter (IsReadBehind signal) (past ++ front) (p ∷ xs) ⊎ Unread
+          → AllAfter (IsReadAfter signal) (past ++ front) (p ∷ xs) ⊎ Unread
       by_record kind at rest (inr bad) =
           inr (bad.0, Some p.kind, record { p = p; has = record { before = front; after = xs; is = is }; kind = kind; known = at; stands = bad.1; named = refl })
       by_record kind at rest (inl read) =
           let longer : past ++ (front ++ p ∷ []) ≡ (past ++ front) ++ p ∷ [] = sym (append_assoc past front (p ∷ [])) in
           let more : AreTaken signal (past ++ (front ++ p ∷ [])) =
           subst (AreTaken signal) (sym longer) (all_after-push (IsTakenAfter signal) [] (past ++ front) p taken (record { kind = kind; known = at; read = read })) in
-          let here : IsReadBehind signal (past ++ front) p =
+          let here : IsReadAfter signal (past ++ front) p =
           λ other known. let same : kind ≡ other = cc (at, known) in subst (λ (k : Kind). IsRead k (messages_before (past ++ front) p) p.bytes) same read in
           elim (rest more) [
-            | inl all ↦ inl (here, subst (λ (before : List PayloadContent). AllAfter (IsReadBehind signal) before xs) longer all)
+            | inl all ↦ inl (here, subst (λ (before : List PayloadContent). AllAfter (IsReadAfter signal) before xs) longer all)
             | inr bad ↦ inr bad
           ]
 
       by_kind : (o : Option Kind) → kind_numbered signal p.kind ≡ o → IsSome (kind_numbered signal p.kind)
-          → (AreTaken signal (past ++ (front ++ p ∷ [])) → AllAfter (IsReadBehind signal) (past ++ (front ++ p ∷ [])) xs ⊎ Unread) → AllAfter (IsReadBehind signal) (past ++ front) (p ∷ xs) ⊎ Unread
+          → (AreTaken signal (past ++ (front ++ p ∷ [])) → AllAfter (IsReadAfter signal) (past ++ (front ++ p ∷ [])) xs ⊎ Unread) → AllAfter (IsReadAfter signal) (past ++ front) (p ∷ xs) ⊎ Unread
       by_kind None at known rest = absurd (cc (subst (λ (o : Option Kind). IsSome o) at known))
       by_kind (Some kind) at known rest =
           by_record kind at rest (judged kind (messages_before (past ++ front) p) p.bytes (can_come (past ++ front) p (can_go_on signal (past ++ front) taken p.kind)))
@@ -164,7 +164,7 @@ module _ (signal : Signal) (past payloads : List PayloadContent) where
   judged_records : HasFineTypes signal payloads → AreTaken signal past → HasFineRecords signal past payloads ⊎ Unread
   judged_records fine taken =
       elim (records_from fine [] payloads refl (subst (AreTaken signal) (sym (append-nil past)) taken)) [
-        | inl all ↦ inl (subst (λ (before : List PayloadContent). AllAfter (IsReadBehind signal) before payloads) (append-nil past) all)
+        | inl all ↦ inl (subst (λ (before : List PayloadContent). AllAfter (IsReadAfter signal) before payloads) (append-nil past) all)
         | inr bad ↦ inr bad
       ]
 

@@ -16,7 +16,7 @@ use Rattle.otap_columns.specs.Streams.{PayloadIn}
 use Rattle.otap_consume.specs.declared.refusal.Cause.TheVariants.{Column}
 use Rattle.otap_consume.specs.declared.not_taken.NotTaken.{NotTaken}
 use Rattle.otap_consume.specs.declared.not_taken.NotTaken.TheVariants.{Defect}
-use Rattle.otap_consume.specs.Defects.{IsReadBehind, StandsInRecord}
+use Rattle.otap_consume.specs.Defects.{IsReadAfter, StandsInRecord}
 use Rattle.otap_consume.specs.Payloads.{type_of, messages_before}
 use Rattle.otap_consume.specs.Records.{EachTakes, OneRefuses, ShowsLast, ShowsAfter, TakesAll, kinds_in}
 use Rattle.otap_consume.specs.Stops.{Stops, StopOf, IsOfRecord}
@@ -57,7 +57,7 @@ takes_more old mid new done p before takes kinds = record {
       let inside' : k < length mid = omega (arith, takes.long) in
       shown done p (get_or mid k d) (get_or new k d) (before.shows k d inside') (takes.each k d inside');
   reads = λ signal past same are.
-      all_after-push (IsReadBehind signal) past done p (before.reads signal past same are)
+      all_after-push (IsReadAfter signal) past done p (before.reads signal past same are)
       (λ kind found.
       let number : HasNumber signal p.kind kind = has_number signal p.kind kind found in
       read signal past same are kind number);

@@ -29,17 +29,17 @@ use Rattle.otap_consume.proofs.SegmentSteps.{stands_broken}
 
 -- ---- the rows of a batch
 
-pub kept_rows : (m : Meaning) (frame : Frame) (id told : ℤ) (rows : ℕ) (seg old : SegmentIn) (kept : Regrouped) (answer : Taken) → seg ≡ old → told ≡ id
-    → answer ≡ taken.Accepted told kept.request rows kept.tree → IsLight kept → OfLast frame seg (λ tables. IsRegrouped m tables kept) → TakesRows m frame id rows old old answer
-kept_rows m frame id told rows seg old kept answer view same_id is light last =
+pub kept_rows : (m : Meaning) (frame : Frame) (id told : ℤ) (rows : ℕ) (seg old : SegmentIn) (kept : Regrouped) (returned : Taken) → seg ≡ old → told ≡ id
+    → returned ≡ taken.Accepted told kept.request rows kept.tree → IsLight kept → OfLast frame seg (λ tables. IsRegrouped m tables kept) → TakesRows m frame id rows old old returned
+kept_rows m frame id told rows seg old kept returned view same_id is light last =
     subst (TakesRows m frame id rows old old) (sym is)
     (same_id, refl, record { same = refl; light = light; of_last = subst (λ (s : SegmentIn). OfLast frame s (λ tables. IsRegrouped m tables kept)) view last })
 
 pub refused_rows : {E : Type 0} (r : Result Taken E) (m : Meaning) (frame : Frame) (id told : ℤ) (rows : ℕ) (seg old new : SegmentIn) (stop : NotTaken) → seg ≡ old → told ≡ id
     → IfOk r (RefusesBy told stop) → new ≡ record seg { broken = true } → OfLast frame seg (λ tables. Stops (StandsInRows m tables) stop) → IfOk r (TakesRows m frame id rows old new)
 refused_rows (Err e) m frame id told rows seg old new stop view same_id refuses broken last = tt
-refused_rows (Ok answer) m frame id told rows seg old new (Memory e) view same_id refuses broken last = absurd refuses
-refused_rows (Ok answer) m frame id told rows seg old new (Defect cause payload) view same_id refuses broken last =
+refused_rows (Ok returned) m frame id told rows seg old new (Memory e) view same_id refuses broken last = absurd refuses
+refused_rows (Ok returned) m frame id told rows seg old new (Defect cause payload) view same_id refuses broken last =
     subst (TakesRows m frame id rows old new) (sym refuses) (
       cause,
       payload,
@@ -106,9 +106,9 @@ told_batch : {id told : ℤ} {request made : Request} {rows light tree : ℕ} �
 told_batch {request} same_id same same_rows same_tree = rw (same_tree, same_id, same, same_rows) refl
 
 -- a batch whose rows are taken
-by_rows : (m : Meaning) (outcomes : List Outcome) (frame : Frame) (batch : BatchContent) (tables : List Table) (id : ℤ) (rows : ℕ) (mid new : SegmentIn) (answer : Taken)
+by_rows : (m : Meaning) (outcomes : List Outcome) (frame : Frame) (batch : BatchContent) (tables : List Table) (id : ℤ) (rows : ℕ) (mid new : SegmentIn) (returned : Taken)
     → OutcomeAfter m.signal outcomes frame (Accepted batch tables) → Tells (Accepted batch tables) (seen.Batch id rows)
-    → StandsFor m.signal (outcomes ++ Accepted batch tables ∷ []) mid → TakesRows m frame id rows mid new answer → HasReceived m outcomes frame new answer
+    → StandsFor m.signal (outcomes ++ Accepted batch tables ∷ []) mid → TakesRows m frame id rows mid new returned → HasReceived m outcomes frame new returned
 by_rows m outcomes frame batch tables id rows mid new (taken.Accepted told request light tree) after tells stands takes =
     let last : AreLast frame mid tables = are_last m.signal outcomes frame batch tables mid after stands in
     let kept : KeepsBatch m frame mid new (record { request = request; tree = tree }) = takes.2 in
@@ -138,25 +138,25 @@ by_rows m outcomes frame batch tables id rows mid new (taken.Refused refusal) af
     }
 by_rows m outcomes frame batch tables id rows mid new taken.Reset after tells stands takes = absurd takes
 
-from_batch : (m : Meaning) (outcomes : List Outcome) (frame : Frame) (outcome : Outcome) (id : ℤ) (rows : ℕ) (mid new : SegmentIn) (answer : Taken)
-    → OutcomeAfter m.signal outcomes frame outcome → Tells outcome (seen.Batch id rows) → StandsFor m.signal (outcomes ++ outcome ∷ []) mid → TakesRows m frame id rows mid new answer
-    → HasReceived m outcomes frame new answer
-from_batch m outcomes frame (Accepted batch tables) id rows mid new answer after tells stands takes = by_rows m outcomes frame batch tables id rows mid new answer after tells stands takes
-from_batch m outcomes frame (Refused refusal) id rows mid new answer after tells stands takes = absurd tells
-from_batch m outcomes frame Reset id rows mid new answer after tells stands takes = absurd tells
+from_batch : (m : Meaning) (outcomes : List Outcome) (frame : Frame) (outcome : Outcome) (id : ℤ) (rows : ℕ) (mid new : SegmentIn) (returned : Taken)
+    → OutcomeAfter m.signal outcomes frame outcome → Tells outcome (seen.Batch id rows) → StandsFor m.signal (outcomes ++ outcome ∷ []) mid → TakesRows m frame id rows mid new returned
+    → HasReceived m outcomes frame new returned
+from_batch m outcomes frame (Accepted batch tables) id rows mid new returned after tells stands takes = by_rows m outcomes frame batch tables id rows mid new returned after tells stands takes
+from_batch m outcomes frame (Refused refusal) id rows mid new returned after tells stands takes = absurd tells
+from_batch m outcomes frame Reset id rows mid new returned after tells stands takes = absurd tells
 
-receives_batch : (m : Meaning) (frame : Frame) (id : ℤ) (rows : ℕ) (old mid new : SegmentIn) (answer : Taken) → Next old frame mid (seen.Batch id rows) → TakesRows m frame id rows mid new answer
-    → Receives m old frame new answer
-receives_batch m frame id rows old mid new answer next takes = record {
+receives_batch : (m : Meaning) (frame : Frame) (id : ℤ) (rows : ℕ) (old mid new : SegmentIn) (returned : Taken) → Next old frame mid (seen.Batch id rows) → TakesRows m frame id rows mid new returned
+    → Receives m old frame new returned
+receives_batch m frame id rows old mid new returned next takes = record {
   at = λ outcomes stands.
       let n : HasNext m.signal outcomes frame (seen.Batch id rows) mid = next.at m.signal outcomes stands in
-      from_batch m outcomes frame n.outcome id rows mid new answer n.gives n.tells n.stands takes;
+      from_batch m outcomes frame n.outcome id rows mid new returned n.gives n.tells n.stands takes;
 }
 
-pub after_batch : {E : Type 0} (r : Result Taken E) (m : Meaning) (frame : Frame) (id told : ℤ) (rows : ℕ) (seg old mid new : SegmentIn) (answer : Seen) → seg ≡ old → told ≡ id
-    → answer ≡ seen.Batch id rows → Next seg frame mid answer → IfOk r (TakesRows m frame told rows mid new) → IfOk r (Receives m old frame new)
-after_batch (Err e) m frame id told rows seg old mid new answer view same_id is next takes = tt
-after_batch (Ok taken) m frame id told rows seg old mid new answer view same_id is next takes =
+pub after_batch : {E : Type 0} (r : Result Taken E) (m : Meaning) (frame : Frame) (id told : ℤ) (rows : ℕ) (seg old mid new : SegmentIn) (returned : Seen) → seg ≡ old → told ≡ id
+    → returned ≡ seen.Batch id rows → Next seg frame mid returned → IfOk r (TakesRows m frame told rows mid new) → IfOk r (Receives m old frame new)
+after_batch (Err e) m frame id told rows seg old mid new returned view same_id is next takes = tt
+after_batch (Ok taken) m frame id told rows seg old mid new returned view same_id is next takes =
     receives_batch m frame id rows old mid new taken
     (subst (λ (s : SegmentIn). Next s frame mid (seen.Batch id rows)) view (subst (Next seg frame mid) is next))
     (subst (λ (z : ℤ). TakesRows m frame z rows mid new taken) same_id takes)
@@ -176,9 +176,9 @@ receives_refused m frame refusal old new next = record {
       from_refused m outcomes frame n.outcome refusal new n.gives n.tells n.stands;
 }
 
-pub after_refused : (m : Meaning) (frame : Frame) (refusal : Refusal) (seg old new : SegmentIn) (answer : Seen) → seg ≡ old → answer ≡ seen.Refused refusal → Next seg frame new answer
+pub after_refused : (m : Meaning) (frame : Frame) (refusal : Refusal) (seg old new : SegmentIn) (returned : Seen) → seg ≡ old → returned ≡ seen.Refused refusal → Next seg frame new returned
     → Receives m old frame new (taken.Refused refusal)
-after_refused m frame refusal seg old new answer view is next =
+after_refused m frame refusal seg old new returned view is next =
     receives_refused m frame refusal old new (subst (λ (s : SegmentIn). Next s frame new (seen.Refused refusal)) view (subst (Next seg frame new) is next))
 
 from_reset : (m : Meaning) (outcomes : List Outcome) (frame : Frame) (outcome : Outcome) (new : SegmentIn)
@@ -195,6 +195,6 @@ receives_reset m frame old new next = record {
       from_reset m outcomes frame n.outcome new n.gives n.tells n.stands;
 }
 
-pub after_reset : (m : Meaning) (frame : Frame) (seg old new : SegmentIn) (answer : Seen) → seg ≡ old → answer ≡ seen.Reset → Next seg frame new answer → Receives m old frame new taken.Reset
-after_reset m frame seg old new answer view is next =
+pub after_reset : (m : Meaning) (frame : Frame) (seg old new : SegmentIn) (returned : Seen) → seg ≡ old → returned ≡ seen.Reset → Next seg frame new returned → Receives m old frame new taken.Reset
+after_reset m frame seg old new returned view is next =
     receives_reset m frame old new (subst (λ (s : SegmentIn). Next s frame new seen.Reset) view (subst (Next seg frame new) is next))

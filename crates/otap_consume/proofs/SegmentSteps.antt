@@ -24,7 +24,7 @@ use Rattle.otap_consume.specs.Outcomes.{Outcome, Accepted, Refused, Reset, Gives
 use Rattle.otap_consume.specs.Segments.{SegmentIn, StandsFor, HasNext, Next, IsNew}
 use Rattle.otap_consume.specs.Stops.{Stops}
 use Rattle.otap_consume.specs.Streams.{StreamIn, AreAfter}
-use Rattle.otap_consume.specs.Taking.{AcceptsBehind, IsStopped, NextBatch}
+use Rattle.otap_consume.specs.Taking.{AcceptsAfter, IsStopped, NextBatch}
 
 -- ---- one more outcome
 
@@ -185,15 +185,15 @@ next_refused old new batch cause payload whole broken same refuses = record {
 }
 
 pub next_accepted : (old new : SegmentIn) (batch : BatchContent) (rows : ℕ) → old.broken ≡ false → new.broken ≡ false → new.signal ≡ old.signal
-    → ((past : List PayloadContent) → AreAfter past old.streams → AcceptsBehind old.signal past batch.payloads new.streams rows)
+    → ((past : List PayloadContent) → AreAfter past old.streams → AcceptsAfter old.signal past batch.payloads new.streams rows)
     → NextBatch old batch new (seen.Batch batch.id rows)
 next_accepted old new batch rows whole whole' same accepts = record {
   at = λ bytes reads. record {
     at = λ signal outcomes stands.
         let past : List PayloadContent = payloads_after outcomes in
         let tables : List Table = tables_of signal past batch.payloads in
-        let a : AcceptsBehind signal past batch.payloads new.streams rows
-        = subst (λ (s : Signal). AcceptsBehind s past batch.payloads new.streams rows) stands.same (accepts past (stands.streams whole)) in
+        let a : AcceptsAfter signal past batch.payloads new.streams rows
+        = subst (λ (s : Signal). AcceptsAfter s past batch.payloads new.streams rows) stands.same (accepts past (stands.streams whole)) in
         record {
           outcome = Accepted batch tables;
           gives = when_whole signal outcomes (Message bytes) (Accepted batch tables) (sym stands.broken ∙ whole) (Gives.accepts bytes batch reads a.accepts);
@@ -211,12 +211,12 @@ next_accepted old new batch rows whole whole' same accepts = record {
 
 pub accepted_parts : (old new : SegmentIn) (batch : BatchContent) (rows : ℕ) (signal : Signal) (streams streams' : List StreamIn) → signal ≡ old.signal → streams ≡ old.streams → streams' ≡ new.streams
     → old.broken ≡ false → new.broken ≡ false → new.signal ≡ old.signal
-    → ((past : List PayloadContent) → AreAfter past streams → AcceptsBehind signal past batch.payloads streams' rows) → NextBatch old batch new (seen.Batch batch.id rows)
+    → ((past : List PayloadContent) → AreAfter past streams → AcceptsAfter signal past batch.payloads streams' rows) → NextBatch old batch new (seen.Batch batch.id rows)
 accepted_parts old new batch rows signal streams streams' same are are' whole whole' kept accepts =
     next_accepted old new batch rows whole whole' kept
     (λ past after.
-    subst (λ (s : Signal). AcceptsBehind s past batch.payloads new.streams rows) same
-    (subst (λ (ss : List StreamIn). AcceptsBehind signal past batch.payloads ss rows) are' (accepts past (subst (λ (ss : List StreamIn). AreAfter past ss) (sym are) after))))
+    subst (λ (s : Signal). AcceptsAfter s past batch.payloads new.streams rows) same
+    (subst (λ (ss : List StreamIn). AcceptsAfter signal past batch.payloads ss rows) are' (accepts past (subst (λ (ss : List StreamIn). AreAfter past ss) (sym are) after))))
 
 refused_parts : (old new : SegmentIn) (batch : BatchContent) (cause : Cause) (payload : Option ℤ) (signal : Signal) (streams : List StreamIn) → signal ≡ old.signal → streams ≡ old.streams
     → old.broken ≡ false → new.broken ≡ true → new.signal ≡ old.signal
@@ -232,6 +232,6 @@ pub stopped_next : {E : Type 0} (r : Result Seen E) (old new : SegmentIn) (batch
     → streams ≡ old.streams → old.broken ≡ false → new.broken ≡ true → new.signal ≡ old.signal
     → ((past : List PayloadContent) → AreAfter past streams → Stops (Refuses signal past batch.payloads) stop) → IfOk r (IsStopped stop batch) → IfOk r (NextBatch old batch new)
 stopped_next (Err e) old new batch stop signal streams same are whole broken kept refuses stopped = tt
-stopped_next (Ok answer) old new batch (Memory e) signal streams same are whole broken kept refuses stopped = absurd stopped
-stopped_next (Ok answer) old new batch (Defect cause payload) signal streams same are whole broken kept refuses stopped =
+stopped_next (Ok returned) old new batch (Memory e) signal streams same are whole broken kept refuses stopped = absurd stopped
+stopped_next (Ok returned) old new batch (Defect cause payload) signal streams same are whole broken kept refuses stopped =
     subst (NextBatch old batch new) (sym stopped) (refused_parts old new batch cause payload signal streams same are whole broken kept refuses)

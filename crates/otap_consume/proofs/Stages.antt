@@ -17,7 +17,7 @@ use Rattle.otap_consume.specs.Records.{TakesAll, kinds_in}
 use Rattle.otap_consume.specs.Segments.{CanShow}
 use Rattle.otap_consume.specs.Stops.{Stops, IsOfRecord, stop_of_types}
 use Rattle.otap_consume.specs.Streams.{StreamIn, AreAfter}
-use Rattle.otap_consume.specs.Taking.{Weighs, StopsBySize, AcceptsBehind}
+use Rattle.otap_consume.specs.Taking.{Weighs, StopsBySize, AcceptsAfter}
 use Rattle.otap_consume.proofs.IdSteps.{ids_are}
 
 -- the words of `check_ids` about ids that are free, and about one that is taken
@@ -59,7 +59,7 @@ module _ (signal : Signal) (payloads : List PayloadContent) (old : List StreamIn
     can_show = record { signal = signal; kinds = takes.kinds ∙ kinds; types = types; shows = takes.shows }
 
     pub accepts_if : (r : Result ℕ NotTaken) → IfOk r (λ rows. (past : List PayloadContent) → AreAfter (past ++ payloads) new → Weighs signal past payloads rows)
-        → IfOk r (λ rows. (past : List PayloadContent) → AreAfter past old → AcceptsBehind signal past payloads new rows)
+        → IfOk r (λ rows. (past : List PayloadContent) → AreAfter past old → AcceptsAfter signal past payloads new rows)
     accepts_if (Ok rows) weighs = λ past are.
         let after : AreAfter (past ++ payloads) new = takes.after past are in
         let w : Weighs signal past payloads rows = weighs past after in

@@ -65,11 +65,11 @@ pub record StandsInRecord (signal : Signal) (past payloads : List PayloadContent
   pub named : payload ≡ Some p.kind
 
 -- none has one
-abbrev pub IsReadBehind : Signal → List PayloadContent → PayloadContent → Type 0
-IsReadBehind signal before p = (kind : Kind) → kind_numbered signal p.kind ≡ Some kind → IsRead kind (messages_before before p) p.bytes
+abbrev pub IsReadAfter : Signal → List PayloadContent → PayloadContent → Type 0
+IsReadAfter signal before p = (kind : Kind) → kind_numbered signal p.kind ≡ Some kind → IsRead kind (messages_before before p) p.bytes
 
 abbrev pub HasFineRecords : Signal → List PayloadContent → List PayloadContent → Type 0
-HasFineRecords signal past payloads = AllAfter (IsReadBehind signal) past payloads
+HasFineRecords signal past payloads = AllAfter (IsReadAfter signal) past payloads
 
 -- ---- payloads that were taken, so that others can come after them
 

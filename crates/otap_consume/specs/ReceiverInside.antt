@@ -64,5 +64,5 @@ TakesRows m frame id rows old new taken.Reset = ⊥
 
 -- what is returned where the rows are not taken; want of memory is handed on
 abbrev pub RefusesBy : ℤ → NotTaken → Taken → Type 0
-RefusesBy id (Defect cause payload) answer = answer ≡ taken.Refused (refusal_of (Some id) cause payload)
-RefusesBy id (Memory e) answer = ⊥
+RefusesBy id (Defect cause payload) returned = returned ≡ taken.Refused (refusal_of (Some id) cause payload)
+RefusesBy id (Memory e) returned = ⊥

@@ -19,16 +19,16 @@ taken_of m (Refused refusal) = taken.Refused refusal
 taken_of m Reset = taken.Reset
 
 -- the next frame gives an outcome, for which this is returned, and the receiver stands for one more frame
-pub record HasReceived (m : Meaning) (outcomes : List Outcome) (frame : Frame) (new : SegmentIn) (answer : Taken) : Type 0 where
+pub record HasReceived (m : Meaning) (outcomes : List Outcome) (frame : Frame) (new : SegmentIn) (returned : Taken) : Type 0 where
   pub outcome : Outcome
   pub gives : ReceivedAfter m outcomes frame outcome
-  pub tells : answer ≡ taken_of m outcome
+  pub tells : returned ≡ taken_of m outcome
   pub stands : StandsFor m.signal (outcomes ++ outcome ∷ []) new
 
-pub record Receives (m : Meaning) (old : SegmentIn) (frame : Frame) (new : SegmentIn) (answer : Taken) : Type 0 where
-  pub at : (outcomes : List Outcome) → StandsFor m.signal outcomes old → HasReceived m outcomes frame new answer
+pub record Receives (m : Meaning) (old : SegmentIn) (frame : Frame) (new : SegmentIn) (returned : Taken) : Type 0 where
+  pub at : (outcomes : List Outcome) → StandsFor m.signal outcomes old → HasReceived m outcomes frame new returned
 
 -- a request that is returned is one that a program holds, and within its limit
 abbrev pub IsSound : Taken → Type 0
 IsSound (taken.Accepted id request rows tree) = IsReal request × (weight_of request ≤ weight_limit)
-IsSound answer = ⊤
+IsSound returned = ⊤

@@ -33,17 +33,17 @@ abbrev pub Tells : Outcome → Seen → Type 0
 Tells (Accepted batch tables) (seen.Batch id rows) = (id ≡ batch.id) × (rows ≡ weight_of_tables tables)
 Tells (Refused refusal) (seen.Refused told) = told ≡ refusal
 Tells Reset seen.Reset = ⊤
-Tells outcome answer = ⊥
+Tells outcome returned = ⊥
 
 -- the next frame gives an outcome, which is told, and the segment stands for one more frame
-pub record HasNext (signal : Signal) (outcomes : List Outcome) (frame : Frame) (answer : Seen) (new : SegmentIn) : Type 0 where
+pub record HasNext (signal : Signal) (outcomes : List Outcome) (frame : Frame) (returned : Seen) (new : SegmentIn) : Type 0 where
   pub outcome : Outcome
   pub gives : OutcomeAfter signal outcomes frame outcome
-  pub tells : Tells outcome answer
+  pub tells : Tells outcome returned
   pub stands : StandsFor signal (outcomes ++ outcome ∷ []) new
 
-pub record Next (old : SegmentIn) (frame : Frame) (new : SegmentIn) (answer : Seen) : Type 0 where
-  pub at : (signal : Signal) (outcomes : List Outcome) → StandsFor signal outcomes old → HasNext signal outcomes frame answer new
+pub record Next (old : SegmentIn) (frame : Frame) (new : SegmentIn) (returned : Seen) : Type 0 where
+  pub at : (signal : Signal) (outcomes : List Outcome) → StandsFor signal outcomes old → HasNext signal outcomes frame returned new
 
 -- the streams show the records of these payloads: of each type there is one, and it was taken last
 pub record CanShow (streams : List StreamIn) (payloads : List PayloadContent) : Type 0 where
@@ -66,11 +66,11 @@ IsTaken frame s = ⊥
 -- where a batch is returned, it is taken
 abbrev pub TakesIf : Frame → SegmentIn → Seen → Type 0
 TakesIf frame s (seen.Batch id rows) = IsTaken frame s
-TakesIf frame s answer = ⊤
+TakesIf frame s returned = ⊤
 
 abbrev pub ShowsIf : List PayloadContent → SegmentIn → Seen → Type 0
 ShowsIf payloads s (seen.Batch id rows) = (s.broken ≡ false) × CanShow s.streams payloads
-ShowsIf payloads s answer = ⊤
+ShowsIf payloads s returned = ⊤
 
 -- the tables of the payloads that were taken last, each beside its kind: wherever these are those of the last batch
 pub record TablesOf (s : SegmentIn) (payloads : List PayloadContent) (views : List (Kind × Table)) : Type 0 where

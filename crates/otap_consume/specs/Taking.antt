@@ -24,16 +24,16 @@ abbrev pub StopsBySize : Signal → List PayloadContent → List PayloadContent 
 StopsBySize signal past payloads = Stops (IsOfSize (IsTooLarge signal (tables_of signal past payloads) (held_after signal (past ++ payloads))))
 
 -- the payloads are accepted after these, and have this weight
-pub record AcceptsBehind (signal : Signal) (past payloads : List PayloadContent) (new : List StreamIn) (weight : ℕ) : Type 0 where
+pub record AcceptsAfter (signal : Signal) (past payloads : List PayloadContent) (new : List StreamIn) (weight : ℕ) : Type 0 where
   pub accepts : Accepts signal past payloads
   pub after : AreAfter (past ++ payloads) new
   pub rows : weight ≡ weight_of_tables (tables_of signal past payloads)
 
 -- what is returned where the payloads are not taken; want of memory is handed on
 abbrev pub IsStopped : NotTaken → BatchContent → Seen → Type 0
-IsStopped (Defect cause payload) batch answer = answer ≡ seen.Refused (refusal_of (Some batch.id) cause payload)
-IsStopped (Memory e) batch answer = ⊥
+IsStopped (Defect cause payload) batch returned = returned ≡ seen.Refused (refusal_of (Some batch.id) cause payload)
+IsStopped (Memory e) batch returned = ⊥
 
 -- the next frame is a message that says this batch
-pub record NextBatch (old : SegmentIn) (batch : BatchContent) (new : SegmentIn) (answer : Seen) : Type 0 where
-  pub at : (bytes : List ℕ) → ReadsBatch bytes batch → Next old (Message bytes) new answer
+pub record NextBatch (old : SegmentIn) (batch : BatchContent) (new : SegmentIn) (returned : Seen) : Type 0 where
+  pub at : (bytes : List ℕ) → ReadsBatch bytes batch → Next old (Message bytes) new returned

@@ -146,7 +146,7 @@ impl Segment {
 
     /// A frame whose message can't be read.
     fn refuse_unread(&mut self, cause: Cause) -> Seen
-        ensures answer { result ≡ seen.Refused (refusal_of None (if self.old.broken then Broken else cause) None) }
+        ensures returned { result ≡ seen.Refused (refusal_of None (if self.old.broken then Broken else cause) None) }
         ensures broken { self.new ≡ record self.old { broken = true } }
     {
         let cause = if self.broken { Cause::Broken } else { cause };

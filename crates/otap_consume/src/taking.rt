@@ -8,7 +8,7 @@ ghost use Rattle.otap_consume.specs.Records.{kinds_in};
 ghost use Rattle.otap_consume.specs.Segments.{CanShow};
 ghost use Rattle.otap_consume.specs.Stops.{Stops};
 ghost use Rattle.otap_consume.specs.Streams.{AreAfter};
-ghost use Rattle.otap_consume.specs.Taking.{AcceptsBehind, Weighs, StopsBySize};
+ghost use Rattle.otap_consume.specs.Taking.{AcceptsAfter, Weighs, StopsBySize};
 
 use crate::ids::check_ids;
 use crate::not_taken::NotTaken;
@@ -32,7 +32,7 @@ pub(crate) fn take_payloads(
 ) -> Result<u64, NotTaken>
     requires { kinds_in streams.old ≡ kinds_of signal }
     ensures accepts { IfOk result (λ rows. (past : List PayloadContent) → AreAfter past streams.old
-        → AcceptsBehind signal past batch.now.payloads streams.new rows) }
+        → AcceptsAfter signal past batch.now.payloads streams.new rows) }
     ensures refuses { IfErr result (λ stop. (past : List PayloadContent) → AreAfter past streams.old
         → Stops (Refuses signal past batch.now.payloads) stop) }
     ensures shows { OnOk result (CanShow streams.new batch.now.payloads) }

@@ -12,7 +12,7 @@ use Rattle.otap_gateway.proofs.EachWords.{each_words, same_words}
 abbrev load_of : Signal → ℕ → Load
 load_of signal requests = record { signal = signal; requests = requests }
 
--- the words are those of a load of a signal with so many requests at most, or of none of these
+-- the words are those of a load of a signal with at most this number of requests, or of none of these
 pub record IsOneOf (words : List (List ℕ)) (signal : Signal) (most : ℕ) : Type 0 where
   pub requests : ℕ
   pub some : 0 < requests

@@ -49,11 +49,11 @@ pub complete_runs : (job : Command) (old new : World) (status : ℕ) (bytes : Li
     → (Rose old.sinks.err.faults new.sinks.err.faults → ⊥)
     → (status ≡ 6) ⊎ Completes job frames old.sinks new.sinks status
 complete_runs job old new status bytes frames run told capture source out err =
-    subst (λ n. (n ≡ 6) ⊎ Completes job frames old.sinks new.sinks n) (sym run.same) (by_answer run.answer run.leaves run.faults)
+    subst (λ n. (n ≡ 6) ⊎ Completes job frames old.sinks new.sinks n) (sym run.same) (by_returned run.returned run.leaves run.faults)
   where
-    by_answer : (answer : Result Tally Stop) → Leaves job old.left old.sinks new.sinks answer → Faults old new answer
-        → (status_of answer ≡ 6) ⊎ Completes job frames old.sinks new.sinks (status_of answer)
-    by_answer (Ok tally) leaves faults = inr (completes job old.left old.sinks new.sinks tally bytes frames leaves told capture)
-    by_answer (Err stop.Source) leaves faults = absurd (source faults.0)
-    by_answer (Err stop.Sink) leaves faults = elim faults.1 [ inl failed ↦ absurd (out failed.out) | inr failed ↦ absurd (err failed.err) ]
-    by_answer (Err stop.Memory) leaves faults = inl refl
+    by_returned : (returned : Result Tally Stop) → Leaves job old.left old.sinks new.sinks returned → Faults old new returned
+        → (status_of returned ≡ 6) ⊎ Completes job frames old.sinks new.sinks (status_of returned)
+    by_returned (Ok tally) leaves faults = inr (completes job old.left old.sinks new.sinks tally bytes frames leaves told capture)
+    by_returned (Err stop.Source) leaves faults = absurd (source faults.0)
+    by_returned (Err stop.Sink) leaves faults = elim faults.1 [ inl failed ↦ absurd (out failed.out) | inr failed ↦ absurd (err failed.err) ]
+    by_returned (Err stop.Memory) leaves faults = inl refl

@@ -119,9 +119,9 @@ module _ (load : Load) (rows : SignalRows) (same : rows ≡ rows_of load.signal)
     })
 
     -- all is written, and then it is passed on
-    pub leaves_load : (old new : Sinks) (out err : Option (List ℕ)) (items : ℕ) (e : ExporterIn) (o : Opened) (answer : Result (Unit {0}) Stop) → items ≡ items_each * load.requests
+    pub leaves_load : (old new : Sinks) (out err : Option (List ℕ)) (items : ℕ) (e : ExporterIn) (o : Opened) (returned : Result (Unit {0}) Stop) → items ≡ items_each * load.requests
         → HasSent rows load.requests old.out.written out e o → Appends old.err.written err (line_by load.requests items o.count)
-        → Keeps out new.out.written → Keeps err new.err.written → OnOk answer (IsFlushed new) → LeavesLoad load old new answer
+        → Keeps out new.out.written → Keeps err new.err.written → OnOk returned (IsFlushed new) → LeavesLoad load old new returned
     leaves_load old new out err items e o (Ok x) many sent line keeps_out keeps_err flushed = record {
       messages = sent.messages;
       exported = subst (λ (r : SignalRows). All (IsExported r) (first_requests r.signal load.requests)) same sent.loaded.exported;

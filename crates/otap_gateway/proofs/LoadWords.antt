@@ -63,15 +63,15 @@ one_load a b is is' same =
     same_load a b (same_signal a.signal b.signal signal) (decimal_injective a.requests b.requests (omega arith) (omega arith) requests)
 
 -- a run for a load is one for its words
-pub load_named : {S : Type 0} (words : List (List ℕ)) (a : Load) (source : S) (old new : Sinks) (status : ℕ) (answer : Result (Unit {0}) Stop) → IsLoad a → words ≡ load_words a
-    → status ≡ load_status answer → LeavesLoad a old new answer → SinkFaults old new answer → (b : Load) → IsLoad b → words ≡ load_words b → RunsLoad b source source old new status
-load_named words a source old new status answer is named same leaves faults b is' named' =
+pub load_named : {S : Type 0} (words : List (List ℕ)) (a : Load) (source : S) (old new : Sinks) (status : ℕ) (returned : Result (Unit {0}) Stop) → IsLoad a → words ≡ load_words a
+    → status ≡ load_status returned → LeavesLoad a old new returned → SinkFaults old new returned → (b : Load) → IsLoad b → words ≡ load_words b → RunsLoad b source source old new status
+load_named words a source old new status returned is named same leaves faults b is' named' =
     subst (λ (load : Load). RunsLoad load source source old new status) (one_load a b is is' (sym named ∙ named'))
-    (record { answer = answer; same = same; unread = refl; leaves = leaves; faults = faults })
+    (record { returned = returned; same = same; unread = refl; leaves = leaves; faults = faults })
 
 -- ---- where nothing failed
 
-complete : (load : Load) (old new : Sinks) (status : ℕ) (answer : Result (Unit {0}) Stop) → status ≡ load_status answer → LeavesLoad load old new answer → SinkFaults old new answer
+complete : (load : Load) (old new : Sinks) (status : ℕ) (returned : Result (Unit {0}) Stop) → status ≡ load_status returned → LeavesLoad load old new returned → SinkFaults old new returned
     → (Rose old.out.faults new.out.faults → ⊥) → (Rose old.err.faults new.err.faults → ⊥) → (status ≡ 6) ⊎ ((status ≡ 0) × WritesLoad load old new)
 complete load old new status (Ok x) same leaves faults out err = inr (same, leaves)
 complete load old new status (Err stop.Source) same leaves faults out err = absurd faults
@@ -81,7 +81,7 @@ complete load old new status (Err stop.Memory) same leaves faults out err = inl 
 
 pub complete_loads : {S : Type 0} (load : Load) (source source' : S) (old new : Sinks) (status : ℕ) → RunsLoad load source source' old new status
     → (Rose old.out.faults new.out.faults → ⊥) → (Rose old.err.faults new.err.faults → ⊥) → (status ≡ 6) ⊎ ((status ≡ 0) × WritesLoad load old new)
-complete_loads load source source' old new status runs out err = complete load old new status runs.answer runs.same runs.leaves runs.faults out err
+complete_loads load source source' old new status runs out err = complete load old new status runs.returned runs.same runs.leaves runs.faults out err
 
 -- ---- the far end
 

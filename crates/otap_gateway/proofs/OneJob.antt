@@ -49,8 +49,8 @@ pub one_job : (a b : Command) → words_of a ≡ words_of b → a ≡ b
 one_job a b is = let same : Some a ≡ Some b = sym (is_named a) ∙ ap named is ∙ is_named b in cc
 
 -- a run for a job is one for its words
-pub runs_named : (words : List (List ℕ)) (a : Command) (old new : World) (status : ℕ) (answer : Result Tally Stop) → words ≡ words_of a → status ≡ status_of answer
-    → Leaves a old.left old.sinks new.sinks answer → Stops a old new answer → Faults old new answer → (b : Command) → words ≡ words_of b → Runs b old new status
-runs_named words a old new status answer named same leaves stops faults b named' =
+pub runs_named : (words : List (List ℕ)) (a : Command) (old new : World) (status : ℕ) (returned : Result Tally Stop) → words ≡ words_of a → status ≡ status_of returned
+    → Leaves a old.left old.sinks new.sinks returned → Stops a old new returned → Faults old new returned → (b : Command) → words ≡ words_of b → Runs b old new status
+runs_named words a old new status returned named same leaves stops faults b named' =
     subst (λ (job : Command). Runs job old new status) (one_job a b (sym named ∙ named'))
-    (record { answer = answer; same = same; leaves = leaves; stops = stops; faults = faults })
+    (record { returned = returned; same = same; leaves = leaves; stops = stops; faults = faults })

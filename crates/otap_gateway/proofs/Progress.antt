@@ -263,7 +263,7 @@ pub none_failed-trans : (a b c : Sinks) → NoneFailed a b → NoneFailed b c �
 none_failed-trans a b c p q = record { out = q.out ∙ p.out; err = q.err ∙ p.err }
 
 -- the line of words that aren't understood is written, and then all is passed on
-pub leaves_line : (old new : Sinks) (mid : Option (List ℕ)) (answer : Result (Unit {0}) Stop) → Appends old.err.written mid words_line → Keeps mid new.err.written
-    → OnOk answer (IsFlushed new) → LeavesLine old new answer
+pub leaves_line : (old new : Sinks) (mid : Option (List ℕ)) (returned : Result (Unit {0}) Stop) → Appends old.err.written mid words_line → Keeps mid new.err.written
+    → OnOk returned (IsFlushed new) → LeavesLine old new returned
 leaves_line old new mid (Ok x) line keeps flushed = (Appends-kept _ _ _ _ line keeps, flushed)
 leaves_line old new mid (Err why) line keeps flushed = front_of_all _ _ _ (Appends-kept _ _ _ _ line keeps)

@@ -1,4 +1,4 @@
--- What `show` replies, from what the segment answers.
+-- What `show` replies, from what the segment returns.
 use Rattle.std.proofs.Common.{◌≡◌, ℕ, Bool, true, false, List, [], ◌∷◌, ◌++◌, length, Some, None, Option, refl, sym, ap, ◌∙◌, subst, append-nil}
 use Rattle.std.specs.Prelude.{MatchBool, IfSome}
 use Rattle.std.specs.Io.KnownBytes.{Appends}
@@ -48,7 +48,7 @@ accepted_from signal outcomes frame o batch tables is false Gives.resets = absur
 
 -- the reply is that of the outcome
 module _ (signal : Signal) (outcomes : List Outcome) (frame : Frame) (number : ℕ) (new : SegmentIn) (reply : ReplyText) where
-  text_of : (answer : Seen) (o : Outcome) → OutcomeAfter signal outcomes frame o → Tells o answer → StandsFor signal (outcomes ++ o ∷ []) new → ShowsSeen frame new number answer reply
+  text_of : (returned : Seen) (o : Outcome) → OutcomeAfter signal outcomes frame o → Tells o returned → StandsFor signal (outcomes ++ o ∷ []) new → ShowsSeen frame new number returned reply
       → reply ≡ shown number o
   text_of (seen.Batch id rows) (Accepted batch tables) gives tells stands replies =
       let is : IsAccepted signal outcomes frame batch tables = accepted_from signal outcomes frame (Accepted batch tables) batch tables refl (is_broken outcomes) gives in
@@ -66,12 +66,12 @@ module _ (signal : Signal) (outcomes : List Outcome) (frame : Frame) (number : �
 abbrev pub Shown : SegmentIn → List Frame → List ReplyText → Type 0
 Shown s frames replies = (outcomes : List Outcome) × Outcomes s.signal frames outcomes × StandsFor s.signal outcomes s
 
-pub shows : (old new : SegmentIn) (frame : Frame) (answer : Seen) (number : ℕ) (reply : ReplyText) → Next old frame new answer → new.signal ≡ old.signal → ShowsSeen frame new number answer reply
+pub shows : (old new : SegmentIn) (frame : Frame) (returned : Seen) (number : ℕ) (reply : ReplyText) → Next old frame new returned → new.signal ≡ old.signal → ShowsSeen frame new number returned reply
     → (frames : List Frame) (replies : List ReplyText) → length frames ≡ number → Shown old frames replies
     → ShowsFrame old.signal frames frame reply × Shown new (frames ++ frame ∷ []) (replies ++ reply ∷ [])
-shows old new frame answer number reply next same replies frames before count history =
+shows old new frame returned number reply next same replies frames before count history =
     let outcomes : List Outcome = history.0 in
-    let n : HasNext old.signal outcomes frame answer new = next.at old.signal outcomes history.2 in
+    let n : HasNext old.signal outcomes frame returned new = next.at old.signal outcomes history.2 in
     let all : Outcomes old.signal (frames ++ frame ∷ []) (outcomes ++ n.outcome ∷ [])
     = each_after-push (λ past past' f o. OutcomeAfter old.signal past' f o) [] [] frames outcomes frame n.outcome history.1 n.gives in (
       record {
@@ -79,7 +79,7 @@ shows old new frame answer number reply next same replies frames before count hi
         before = history.1;
         outcome = n.outcome;
         gives = n.gives;
-        text = text_of old.signal outcomes frame number new reply answer n.outcome n.gives n.tells n.stands replies ∙ ap (λ k. shown k n.outcome) (sym count);
+        text = text_of old.signal outcomes frame number new reply returned n.outcome n.gives n.tells n.stands replies ∙ ap (λ k. shown k n.outcome) (sym count);
       },
       (
         outcomes ++ n.outcome ∷ [],

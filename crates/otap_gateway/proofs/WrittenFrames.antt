@@ -46,8 +46,8 @@ module _ (rows : SignalRows) (messages : MessagesAreRead) (resets : IsFrame rese
   frames_of past (s ∷ ss) place each few =
       let size : length (spelled s ++ flat_map spelled ss) ≡ length (spelled s) + length (flat_map spelled ss) = length-append (spelled s) (flat_map spelled ss) in
       let begins : place < capture_limit = omega (arith, few) in
-      let behind : (place + length (spelled s)) + length (flat_map spelled ss) < capture_limit = omega (arith, few, size) in
-      (spelled s, flat_map spelled ss, refl, begins, one_frame past s each.0, frames_of (past ++ s ∷ []) ss (place + length (spelled s)) each.1 behind)
+      let after : (place + length (spelled s)) + length (flat_map spelled ss) < capture_limit = omega (arith, few, size) in
+      (spelled s, flat_map spelled ss, refl, begins, one_frame past s each.0, frames_of (past ++ s ∷ []) ss (place + length (spelled s)) each.1 after)
 
   capture_of : (ss : List Sending) → AreAllowed rows ss → length (flat_map spelled ss) < capture_limit → IsCapture (flat_map spelled ss) (map frame_sent ss) None
   capture_of ss allowed few = record {

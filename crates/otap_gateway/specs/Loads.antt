@@ -99,8 +99,8 @@ load_status (Err stop) = stop_status stop
 
 -- A run for the words of a load. Nothing is read, and the source can't have failed.
 pub record RunsLoad {S : Type 0} (load : Load) (source source' : S) (old new : Sinks) (status : ℕ) : Type 0 where
-  pub answer : Result (Unit {0}) Stop
-  pub same : status ≡ load_status answer
+  pub returned : Result (Unit {0}) Stop
+  pub same : status ≡ load_status returned
   pub unread : source' ≡ source
-  pub leaves : LeavesLoad load old new answer
-  pub faults : SinkFaults old new answer
+  pub leaves : LeavesLoad load old new returned
+  pub faults : SinkFaults old new returned

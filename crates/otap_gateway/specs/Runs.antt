@@ -146,11 +146,11 @@ status_of (Err stop) = stop_status stop
 
 -- A run for the words of a job.
 pub record Runs (job : Command) (old new : World) (status : ℕ) : Type 0 where
-  pub answer : Result Tally Stop
-  pub same : status ≡ status_of answer
-  pub leaves : Leaves job old.left old.sinks new.sinks answer
-  pub stops : Stops job old new answer
-  pub faults : Faults old new answer
+  pub returned : Result Tally Stop
+  pub same : status ≡ status_of returned
+  pub leaves : Leaves job old.left old.sinks new.sinks returned
+  pub stops : Stops job old new returned
+  pub faults : Faults old new returned
 
 -- A run in which nothing failed, over a capture of these frames that ends well: each frame has a reply that the job
 -- allows, the sinks grew by the texts of these replies, all of it passed on, and the status is 0 exactly where none of them
@@ -174,9 +174,9 @@ words_status (Err stop) = stop_status stop
 
 -- A run for words that aren't understood. Nothing is read, and the source can't have failed.
 pub record RefusesWords {S : Type 0} (source source' : S) (old new : World) (status : ℕ) : Type 0 where
-  pub answer : Result (Unit {0}) Stop
-  pub same : status ≡ words_status answer
+  pub returned : Result (Unit {0}) Stop
+  pub same : status ≡ words_status returned
   pub unread : source' ≡ source
   pub out : Keeps old.sinks.out.written new.sinks.out.written
-  pub line : LeavesLine old.sinks new.sinks answer
-  pub faults : SinkFaults old.sinks new.sinks answer
+  pub line : LeavesLine old.sinks new.sinks returned
+  pub faults : SinkFaults old.sinks new.sinks returned

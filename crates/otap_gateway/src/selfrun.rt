@@ -59,7 +59,7 @@ impl<T: Loads> Loader<T> {
     }
 }
 
-/// How many items so many requests have.
+/// How many items this number of requests has.
 fn items_of(requests: u32) -> u64
     ensures { result ≡ items_each * requests }
 {

@@ -42,8 +42,8 @@ impl Job for Shower {
     ghost stands = { λ s frames replies. (outcomes : List Outcome) × Outcomes s.segment.signal frames outcomes × StandsFor s.segment.signal outcomes s.segment };
 
     fn step(&mut self, alloc: Global, number: u64, frame: &Frame<'_>) -> Result<Reply, AllocError> {
-        let answer = self.segment.take(frame)?;
-        reply_to(alloc, number, &self.segment, frame, answer)
+        let returned = self.segment.take(frame)?;
+        reply_to(alloc, number, &self.segment, frame, returned)
     }
 }
 
@@ -53,12 +53,12 @@ fn reply_to(
     number: u64,
     segment: &Segment,
     frame: &Frame<'_>,
-    answer: Seen,
+    returned: Seen,
 ) -> Result<Reply, AllocError>
-    requires { TakesIf (frame_of frame.now) segment.now answer }
-    ensures { IfOk result (ShowsSeen (frame_of frame.now) segment.now number answer) }
+    requires { TakesIf (frame_of frame.now) segment.now returned }
+    ensures { IfOk result (ShowsSeen (frame_of frame.now) segment.now number returned) }
 {
-    match answer {
+    match returned {
         Seen::Batch { .. } => show_batch(alloc, number, segment, frame),
         Seen::Refused(refusal) => refused(alloc, number, refusal),
         Seen::Reset => Ok(Reply::printed(alloc, reset_line(alloc, number)?)),

@@ -20,7 +20,7 @@ use Rattle.otap_cells.specs.Tables.{Table}
 use Rattle.otap_cells.specs.Weights.{row_weight_limit, weight_of_table, weight_of_row, weight_of_tables}
 use Rattle.otap_columns.specs.Records.{IsRead}
 use Rattle.otap_columns.specs.Substreams.{held_in, logical}
-use Rattle.otap_consume.specs.Defects.{Accepts, HasFineRecords, IsReadBehind, held_after, is_taken, table_of, tables_of}
+use Rattle.otap_consume.specs.Defects.{Accepts, HasFineRecords, IsReadAfter, held_after, is_taken, table_of, tables_of}
 use Rattle.otap_consume.specs.Limits.{held_limit}
 use Rattle.otap_consume.specs.Payloads.{type_of, messages_in, messages_before}
 use Rattle.otap_consume.specs.PayloadTypes.{IsFineType, times}
@@ -75,8 +75,8 @@ module _ (signal : Signal) where
   all_free before past (t ∷ ts) [] each = absurd each
   all_free before past (t ∷ ts) (p ∷ ps) each = (each.0.free, all_free (before ++ t ∷ []) (past ++ p ∷ []) ts ps each.1)
 
-  read_behind : (before : List Table) (past : List PayloadContent) (t : Table) (p : PayloadContent) → Reaches signal before past t p → IsReadBehind signal past p
-  read_behind before past t p r kind known =
+  read_after : (before : List Table) (past : List PayloadContent) (t : Table) (p : PayloadContent) → Reaches signal before past t p → IsReadAfter signal past p
+  read_after before past t p r kind known =
       let same : Some t.kind ≡ Some kind = sym r.known ∙ known in
       subst (λ (k : Kind). IsRead k (messages_before past p) p.bytes) (cc same) r.read
 
@@ -84,7 +84,7 @@ module _ (signal : Signal) where
   all_read before past [] [] each = tt
   all_read before past [] (p ∷ ps) each = absurd each
   all_read before past (t ∷ ts) [] each = absurd each
-  all_read before past (t ∷ ts) (p ∷ ps) each = (read_behind before past t p each.0, all_read (before ++ t ∷ []) (past ++ p ∷ []) ts ps each.1)
+  all_read before past (t ∷ ts) (p ∷ ps) each = (read_after before past t p each.0, all_read (before ++ t ∷ []) (past ++ p ∷ []) ts ps each.1)
 
   -- ---- the tables
 

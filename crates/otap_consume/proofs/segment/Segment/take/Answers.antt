@@ -7,7 +7,7 @@ use Rattle.otap_consume.proofs.segment.Segment.take.Goals as goal
 
 pub returns-in-Packed-clause-next : goal.returns-in-Packed-clause-next
 returns-in-Packed-clause-next c =
-    rw c.in-Packed.is (subst (λ (answer : Seen). Next c.args.self.now Packed c.refuse_unread.new.self answer) (sym c.refuse_unread.ensures.answer)
+    rw c.in-Packed.is (subst (λ (returned : Seen). Next c.args.self.now Packed c.refuse_unread.new.self returned) (sym c.refuse_unread.ensures.returned)
     (next_packed c.args.self.now c.refuse_unread.new.self c.refuse_unread.ensures.broken))
 
 pub returns-in-Reset-clause-next : goal.returns-in-Reset-clause-next

@@ -13,7 +13,7 @@ use Rattle.otap_consume.proofs.segment.Segment.take_batch.Goals as goal
 pub returns-then-self-clause-next : goal.returns-then-self-clause-next
 returns-then-self-clause-next c =
     let s = c.args.self.now in
-    subst (λ (answer : Seen). NextBatch s c.args.batch.now s answer) (sym c.refused.ensures)
+    subst (λ (returned : Seen). NextBatch s c.args.batch.now s returned) (sym c.refused.ensures)
     (next_broken s c.args.batch.now (sym (ap (λ (x : SegmentIn). x.broken) c.self.view_is) ∙ c.if-self.true))
 
 pub returns-clause-next : goal.returns-clause-next
@@ -31,7 +31,7 @@ returns-clause-next c =
       | in-Ok w ↦
           let long : length c.take_payloads-taken.new.streams ≡ c.self.inside.streams.len
           = omega (arith, c.take_payloads-taken.auto.streams, c.self.inside.streams.ok.0, ap (length {A = StreamIn}) c.deref_mut.ensures.value) in
-          rw w.result-is (subst (λ (answer : Seen). NextBatch s c.args.batch.now new answer) (sym w.accepted.ensures)
+          rw w.result-is (subst (λ (returned : Seen). NextBatch s c.args.batch.now new returned) (sym w.accepted.ensures)
           (accepted_parts s new c.args.batch.now w.in-Ok.rows c.self.inside.signal c.deref_mut.result.now c.take_payloads-taken.new.streams signal streams
           (sym (with_items_is c.self.inside.streams c.take_payloads-taken.new.streams long)) whole (c.is_err-self-inside.ensures.value ∙ ap is_err w.in-Ok.is) signal
           (rw w.in-Ok.is at c.take_payloads-taken.ensures.accepts)))

@@ -12,6 +12,6 @@ use Rattle.otap_consume.proofs.segment.Segment.take_message.Goals as goal
 pub returns-in-Err-clause-next : goal.returns-in-Err-clause-next
 returns-in-Err-clause-next c =
     let s = c.args.self.now in
-    subst (λ (answer : Seen). Next s (Message c.args.bytes.now) c.refuse_unread.new.self answer)
-    (sym (c.refuse_unread.ensures.answer ∙ ap (λ (cause : Cause). seen.Refused (refusal_of None (if s.broken then Broken else cause) None)) c.unread_cause.ensures))
+    subst (λ (returned : Seen). Next s (Message c.args.bytes.now) c.refuse_unread.new.self returned)
+    (sym (c.refuse_unread.ensures.returned ∙ ap (λ (cause : Cause). seen.Refused (refusal_of None (if s.broken then Broken else cause) None)) c.unread_cause.ensures))
     (next_unreadable c.args.bytes.now c.in-Err.refusal s c.refuse_unread.new.self c.in-Err.ensures.refused c.refuse_unread.ensures.broken)

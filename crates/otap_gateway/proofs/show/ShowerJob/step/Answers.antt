@@ -7,4 +7,4 @@ pub returns-clause-next : goal.returns-clause-next
 unfolding ReplyOf
 returns-clause-next c =
     extends_ok _ _ _ _ _ _ _ c.reply_to.ensures
-    (λ reply replies frames before count stands. shows _ _ _ _ _ reply c.in_ok-answer.ensures.next c.in_ok-answer.ensures.signal replies frames before count stands)
+    (λ reply replies frames before count stands. shows _ _ _ _ _ reply c.in_ok-returned.ensures.next c.in_ok-returned.ensures.signal replies frames before count stands)
