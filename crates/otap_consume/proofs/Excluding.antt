@@ -17,7 +17,8 @@ use Rattle.otap_columns.specs.declared.refusal.ColumnRefusal.{ColumnRefusal}
 use Rattle.otap_columns.specs.Records.{IsRead}
 use Rattle.otap_columns.proofs.Excluding.{never_both}
 use Rattle.otap_consume.specs.declared.refusal.Cause.{Cause}
-use Rattle.otap_consume.specs.declared.refusal.Cause.TheVariants.{Compressed, BadMessage, Repeated, BadUtf8, PayloadType, PayloadTwice, SchemaIdTaken, Column, TooManyItems, RowsTooHeavy, HeldTooMuch, Row, TreeTooHeavy, Broken}
+use Rattle.otap_consume.specs.declared.refusal.Cause.TheVariants.{Compressed, BadMessage, Repeated, BadUtf8, PayloadType, PayloadTwice, SchemaIdTaken}
+use Rattle.otap_consume.specs.declared.refusal.Cause.TheVariants.{Column, TooManyItems, RowsTooHeavy, HeldTooMuch, Row, TreeTooHeavy, Broken}
 use Rattle.otap_consume.specs.Defects.{Accepts, Refuses, StandsInList, HasFineList, StandsInRecord, HasFineRecords, IsReadAfter, IsTooLarge, IsWithinLimits, is_taken, tables_of, held_after}
 use Rattle.otap_consume.specs.Outcomes.{stage_of}
 use Rattle.otap_consume.specs.Payloads.{messages_before}

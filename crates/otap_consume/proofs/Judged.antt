@@ -26,7 +26,8 @@ use Rattle.otap_consume.specs.declared.payload_types.TypesRefusal.TheVariants as
 use Rattle.otap_consume.specs.declared.refusal.Cause.{Cause}
 use Rattle.otap_consume.specs.declared.refusal.Cause.TheVariants.{PayloadType, PayloadTwice, SchemaIdTaken, Column, TooManyItems, RowsTooHeavy, HeldTooMuch}
 use Rattle.otap_consume.specs.Limits.{held_limit}
-use Rattle.otap_consume.specs.Defects.{is_taken, HasTakenId, StandsInList, HasFineList, StandsInRecord, IsReadAfter, HasFineRecords, IsTakenAfter, AreTaken, IsTooLarge, IsWithinLimits, tables_of, held_after, Refuses, AreJudged}
+use Rattle.otap_consume.specs.Defects.{is_taken, HasTakenId, StandsInList, HasFineList, StandsInRecord, IsReadAfter, HasFineRecords, IsTakenAfter}
+use Rattle.otap_consume.specs.Defects.{AreTaken, IsTooLarge, IsWithinLimits, tables_of, held_after, Refuses, AreJudged}
 use Rattle.otap_consume.specs.Payloads.{parts_of, part_of, last_in, messages_in, messages_before}
 use Rattle.otap_consume.specs.PayloadTypes.{IsFineType, HasFineTypes, StandsInTypes, times}
 use Rattle.otap_consume.proofs.Substreams.{messages_in-other, messages_in-own}
@@ -137,7 +138,8 @@ module _ (signal : Signal) (past payloads : List PayloadContent) where
 
   records_from : HasFineTypes signal payloads → (front xs : List PayloadContent) → payloads ≡ front ++ xs → AreTaken signal (past ++ front) → AllAfter (IsReadAfter signal) (past ++ front) xs ⊎ Unread
   records_from fine front [] is taken = inl tt
-  records_from fine front (p ∷ xs) is taken = by_kind (kind_numbered signal p.kind) refl (fine_at signal payloads front xs p fine is).known (λ more. records_from fine (front ++ p ∷ []) xs (is ∙ sym (append_assoc front (p ∷ []) xs)) more)
+  records_from fine front (p ∷ xs) is taken =
+      by_kind (kind_numbered signal p.kind) refl (fine_at signal payloads front xs p fine is).known (λ more. records_from fine (front ++ p ∷ []) xs (is ∙ sym (append_assoc front (p ∷ []) xs)) more)
     where
       by_record : (kind : Kind) → kind_numbered signal p.kind ≡ Some kind → (AreTaken signal (past ++ (front ++ p ∷ [])) → AllAfter (IsReadAfter signal) (past ++ (front ++ p ∷ [])) xs ⊎ Unread)
           → IsRead kind (messages_before (past ++ front) p) p.bytes ⊎ ((refusal : ColumnRefusal) × Stands kind (messages_before (past ++ front) p) p.bytes refusal)

@@ -122,10 +122,6 @@ next_reset old new is = record {
 
 -- ---- frames whose message can't be read
 
--- the cause that is answered
-answered : Bool → Cause → Cause
-answered broken cause = if broken then Broken else cause
-
 unread : (frame : Frame) (cause : Cause) (old new : SegmentIn) → new ≡ record old { broken = true } → StaysBroken frame (refused None Broken None)
     → ((signal : Signal) (past : List PayloadContent) → Gives signal past frame (refused None cause None))
     → Next old frame new (seen.Refused (refusal_of None (if old.broken then Broken else cause) None))

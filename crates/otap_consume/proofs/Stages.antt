@@ -1,5 +1,5 @@
 -- The stages of a batch, one after the other.
-use Rattle.std.proofs.Common.{◌≡◌, ℕ, false, List, ◌++◌, Option, Some, ℤ, Result, Ok, Err, IfOk, IfErr, sym, ◌∙◌, subst}
+use Rattle.std.proofs.Common.{◌≡◌, ℕ, false, List, ◌++◌, Option, Some, ℤ, Result, Ok, Err, IfOk, IfErr, sym, subst}
 use Rattle.otlp_model.specs.declared.request.Signal.{Signal}
 use Rattle.otap_capture.specs.Batch.{PayloadContent}
 use Rattle.otap_cells.specs.Payload.{kinds_of}
@@ -14,7 +14,6 @@ use Rattle.otap_consume.specs.Ids.{ids_of, ids_after}
 use Rattle.lists.specs.EachAfter.{AllAfter}
 use Rattle.otap_consume.specs.PayloadTypes.{HasFineTypes, StandsInTypes}
 use Rattle.otap_consume.specs.Records.{TakesAll, kinds_in}
-use Rattle.otap_consume.specs.Segments.{CanShow}
 use Rattle.otap_consume.specs.Stops.{Stops, IsOfRecord, stop_of_types}
 use Rattle.otap_consume.specs.Streams.{StreamIn, AreAfter}
 use Rattle.otap_consume.specs.Taking.{Weighs, StopsBySize, AcceptsAfter}
@@ -55,9 +54,6 @@ module _ (signal : Signal) (payloads : List PayloadContent) (old : List StreamIn
   fine_list past are = record { types = types; ids = free signal past (ids_are signal past old kinds are) }
 
   module _ (new : List StreamIn) (takes : TakesAll old payloads new) where
-    pub can_show : CanShow new payloads
-    can_show = record { signal = signal; kinds = takes.kinds ∙ kinds; types = types; shows = takes.shows }
-
     pub accepts_if : (r : Result ℕ NotTaken) → IfOk r (λ rows. (past : List PayloadContent) → AreAfter (past ++ payloads) new → Weighs signal past payloads rows)
         → IfOk r (λ rows. (past : List PayloadContent) → AreAfter past old → AcceptsAfter signal past payloads new rows)
     accepts_if (Ok rows) weighs = λ past are.

@@ -1,7 +1,7 @@
 -- A step of a job, from what its reply is.
 use Rattle.std.proofs.Common.{◌≡◌, ℕ, List, [], ◌∷◌, ◌++◌, length, IfOk, Result, Ok, Err}
 use Rattle.otap_capture.specs.Capture.{Frame}
-use Rattle.otap_gateway.specs.Jobs.{Rule, History, Extends, Stays}
+use Rattle.otap_gateway.specs.Jobs.{Rule, History, Extends}
 use Rattle.otap_gateway.specs.Reply.{ReplyText}
 
 -- where the reply has P, and P is what the rule asks after each history, the step extends them
@@ -11,10 +11,3 @@ pub extends_ok : {F : Type 0} (r : Result ReplyText F) (R : Rule) (old new : His
     → IfOk r (Extends R old new number frame)
 extends_ok (Ok reply) R old new number frame P holds step = record { at = step reply holds }
 extends_ok (Err e) R old new number frame P holds step = tt
-
--- a new state that stands for as much as one that extends them does too
-pub extends_on : (R : Rule) (old mid new : History) (number : ℕ) (frame : Frame) (reply : ReplyText) → Extends R old mid number frame reply → Stays mid new
-    → Extends R old new number frame reply
-extends_on R old mid new number frame reply extends stays = record {
-  at = λ frames replies count stands. let next = extends.at frames replies count stands in (next.0, stays _ _ next.1);
-}

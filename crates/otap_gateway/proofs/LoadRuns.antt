@@ -8,7 +8,7 @@ use Rattle.std.proofs.lemmas.List.{flat_map_more}
 use Rattle.std.proofs.lemmas.List.Sums.{sum_by-cons}
 use Rattle.otap_capture.specs.Capture.{message_frame}
 use Rattle.otap_capture.specs.Outside.{AppendsFront}
-use Rattle.otap_capture.proofs.Known.{Keeps-refl, Appends-nil, Appends-trans, Appends-kept, front_more, front_of_all, front_of_none}
+use Rattle.otap_capture.proofs.Known.{Keeps-refl, Appends-trans, Appends-kept, front_more, front_of_all, front_of_none}
 use Rattle.otap_columns.specs.TableSets.{openings}
 use Rattle.otap_produce.specs.Exporters.{ExporterIn}
 use Rattle.otap_produce.specs.Policy.{IsExported, SignalRows, Policy, payloads_of}
@@ -21,7 +21,7 @@ use Rattle.otap_gateway.specs.declared.opened.Opened.{Opened}
 use Rattle.otap_gateway.specs.declared.stop.Stop.{Stop}
 use Rattle.otap_gateway.specs.Encoding.{rows_of}
 use Rattle.otap_gateway.specs.Lines.{line_feed}
-use Rattle.otap_gateway.specs.Loading.{HasLoaded, IsLoading, LoadsNext, HasSent}
+use Rattle.otap_gateway.specs.Loading.{HasLoaded, LoadsNext, HasSent}
 use Rattle.otap_gateway.specs.Loads.{first_requests, requests_of, frames_text, load_line, WritesLoadFront, LeavesLoad}
 use Rattle.otap_gateway.specs.Runs.{Sinks, IsFlushed}
 use Rattle.otap_gateway.proofs.LoadSteps.{requests_counted}
@@ -49,12 +49,6 @@ line_says s n items opened messages each many counted =
 -- ---- what is sent
 
 module _ (rows : SignalRows) where
-  pub sent_none : (w : Option (List ℕ)) (e : ExporterIn) (o : Opened) → HasLoaded rows 0 [] e o → HasSent rows 0 w w e o
-  sent_none w e o loaded = record { messages = []; loaded = loaded; out = Appends-nil w w (Keeps-refl w) }
-
-  pub is_loading : (n : ℕ) (old new : Option (List ℕ)) (e : ExporterIn) (o : Opened) → HasSent rows n old new e o → IsLoading rows n e o
-  is_loading n old new e o sent = record { messages = sent.messages; loaded = sent.loaded }
-
   pub sent_more : (n : ℕ) (old mid new : Option (List ℕ)) (e e' : ExporterIn) (o o' : Opened) (message : List ℕ) → HasSent rows n old mid e o → LoadsNext rows n e e' o o' message
       → Appends mid new (message_frame message) → HasSent rows (n + 1) old new e' o'
   sent_more n old mid new e e' o o' message sent next out = record {

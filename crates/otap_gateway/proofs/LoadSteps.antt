@@ -1,5 +1,5 @@
 -- A load, as one request after the other is exported.
-use Rattle.std.proofs.Common.{◌≡◌, ◌⊎◌, inl, inr, ℕ, ◌+◌, ◌<◌, ◌≤◌, true, List, [], ◌∷◌, ◌++◌, length, refl, sym, ◌∙◌, subst, append-nil, append_assoc, zero-add, arith}
+use Rattle.std.proofs.Common.{◌≡◌, ℕ, ◌+◌, ◌<◌, true, List, [], ◌∷◌, ◌++◌, length, sym, ◌∙◌, subst, append-nil, append_assoc, zero-add, arith}
 use Rattle.std.specs.Prelude.{All}
 use Rattle.std.specs.List.{flat_map}
 use Rattle.std.proofs.lemmas.List.{flat_map_more}
@@ -8,18 +8,14 @@ use Rattle.std.proofs.lemmas.List.FromFn.{length-map-range_with_len, map-range_w
 use Rattle.std.proofs.lemmas.Bool.{false≢true}
 use Rattle.lists.specs.EachAfter.{EachAfter}
 use Rattle.otap_capture.specs.Batch.{ReadsBatch, batch_in}
-use Rattle.otap_cells.specs.Weights.{row_weight_limit, weight_of_tables}
 use Rattle.otap_consume.specs.Meanings.{Meaning}
 use Rattle.otap_produce.specs.Exporters.{ExporterIn, StandsFor, Exports}
 use Rattle.otap_produce.specs.Limits.{batch_limit}
 use Rattle.otap_produce.specs.Policy.{SignalRows, IsExported, Policy, payloads_of}
 use Rattle.otap_transit.specs.Transits.{IsReceivedAs}
-use Rattle.otlp_load.specs.Load.{generated, requests_at_most, items_each}
+use Rattle.otlp_load.specs.Load.{generated, requests_at_most}
 use Rattle.otlp_model.specs.declared.request.Request.{Request}
 use Rattle.otlp_model.specs.declared.request.Signal.{Signal}
-use Rattle.otlp_model.specs.Limits.{item_limit, weight_limit}
-use Rattle.otlp_model.specs.Telemetry.{telemetry}
-use Rattle.otlp_model.specs.Weight.{weight_of}
 use Rattle.otap_gateway.specs.declared.opened.Opened.{Opened}
 use Rattle.otap_gateway.specs.Loading.{HasCounted, Counts, HasLoaded, IsLoading, LoadsNext}
 use Rattle.otap_gateway.specs.Loads.{first_requests}
@@ -87,11 +83,3 @@ module _ (rows : SignalRows) where
   -- it isn't refused
   pub not_broken : (n : ℕ) (e : ExporterIn) (o : Opened) → IsLoading rows n e o → e.broken ≡ true → ⊥
   not_broken n e o loading broken = false≢true (sym loading.loaded.stands.sound ∙ broken)
-
-  pub not_many : (q : Request) → length (telemetry q) ≡ items_each → item_limit < length (telemetry q) → ⊥
-  not_many q items many = omega arith
-
-  pub not_heavy : (q : Request) → weight_of q ≤ weight_limit → weight_of_tables (rows.tables q) ≤ row_weight_limit
-      → (weight_limit < weight_of q) ⊎ (row_weight_limit < weight_of_tables (rows.tables q)) → ⊥
-  not_heavy q tree row (inl heavy) = omega arith
-  not_heavy q tree row (inr heavy) = omega arith

@@ -43,9 +43,6 @@ no_job job load words is says =
 
 -- ---- one load
 
-first_word : (a b c d : List ℕ) → a ∷ b ∷ [] ≡ c ∷ d ∷ [] → b ≡ d
-first_word a b c d same = cc same
-
 same_signal : (a b : Signal) → signal_word a ≡ signal_word b → a ≡ b
 same_signal a b same =
     let job : command.Encode a ≡ command.Encode b = one_job (command.Encode a) (command.Encode b) (ap (λ (word : List ℕ). codes "encode" ∷ word ∷ []) same) in

@@ -1,5 +1,5 @@
 -- The openings of payloads, as they are counted one after the other.
-use Rattle.std.proofs.Common.{◌≡◌, inl, inr, ℕ, ◌+◌, Bool, true, false, List, [], ◌∷◌, ◌++◌, Option, Some, None, OnOk, Result, Ok, Err, ℤ, refl, sym, ap, ◌∙◌, subst, append-nil, append_assoc, arith}
+use Rattle.std.proofs.Common.{◌≡◌, inl, inr, ℕ, ◌+◌, Bool, true, false, List, [], ◌∷◌, ◌++◌, Option, Some, None, OnOk, Result, Ok, Err, ℤ, refl, sym, ap, ◌∙◌, subst, append_assoc, arith}
 use Rattle.std.specs.Prelude.{map, option_map, String, string_bytes, not, bytes_eq}
 use Rattle.std.specs.BTreeMap.{BTreeMap, get, Updates, IsEmpty}
 use Rattle.std.specs.Global.{Global}
@@ -80,9 +80,6 @@ opens_unknown o past p found has =
 
 -- ---- all payloads of a message
 
-pub front_none : (all : List PayloadContent) (o : Opened) → CountsFront all all o o
-front_none all o = record { done = []; split = refl; counts = record { after = λ past has. rw (append-nil past) has } }
-
 pub front_more : (all left : List PayloadContent) (p : PayloadContent) (old mid new : Opened) → CountsFront all (p ∷ left) old mid → Counts (part_of p ∷ []) mid new → CountsFront all left old new
 front_more all left p old mid new so_far one = record {
   done = so_far.done ++ p ∷ [];
@@ -93,9 +90,6 @@ front_more all left p old mid new so_far one = record {
         (one.after (past ++ map part_of so_far.done) (so_far.counts.after past has));
   };
 }
-
-pub front_all : (all : List PayloadContent) (old new : Opened) → CountsFront all [] old new → Counts (map part_of all) old new
-front_all all old new so_far = subst (λ ps. Counts (map part_of ps) old new) (sym (append-nil so_far.done) ∙ so_far.split) so_far.counts
 
 -- ---- an id that is put in
 

@@ -45,9 +45,6 @@ commas_go_on holds before after whole part first rest many front back so_far sho
     )
     (rw (elements_more part first rest many front back) at so_far))
 
-pub commas_end : (holds : Base) (before whole part : List ℕ) → length part < 8 → before ++ after_commas holds (elements part) ≡ whole → before ≡ whole
-commas_end holds before whole part few so_far = rw (elements_none part few, append-nil) at so_far
-
 pub elements_split : (holds : Base) (before between after part first rest : List ℕ) → 8 ≤ length part → first ≡ take 8 part → rest ≡ drop 8 part
     → between ≡ before ++ bits_text holds (little_number 8 first) → after ≡ between ++ after_commas holds (elements rest)
     → after ≡ before ++ elements_text holds (elements part)

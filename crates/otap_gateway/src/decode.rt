@@ -1,6 +1,5 @@
 //! `decode`: the request of each batch.
 ghost use Rattle.std.specs.Prelude.{◌≡◌, IfOk};
-ghost use Rattle.otap_capture.specs.Capture.{frame_of};
 ghost use Rattle.otap_consume.specs.Receivers.{IsSound};
 ghost use Rattle.otap_consume.specs.Segments.{IsNew};
 ghost use Rattle.otap_gateway.specs.declared.command.Command.TheVariants as command;

@@ -1,7 +1,6 @@
 //! The run of a job over a capture: frames are read, and replies are written and passed on.
 ghost use Rattle.std.specs.Prelude.{◌≡◌, ◌<◌, ◌≤◌, [], None, OnOk};
 ghost use Rattle.std.specs.Io.KnownBytes.{Keeps};
-ghost use Rattle.std.specs.declared.option.Option.{Option};
 ghost use Rattle.otap_capture.specs.Capture.{capture_limit, frame_of};
 ghost use Rattle.otap_gateway.specs.Commands.{ReplyOf};
 ghost use Rattle.otap_gateway.specs.Jobs.{HasHistory};

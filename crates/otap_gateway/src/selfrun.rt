@@ -1,5 +1,5 @@
 //! `selfrun`: the batch messages of a load that the program makes itself, and a line that counts them.
-ghost use Rattle.std.specs.Prelude.{◌≡◌, ◌≤◌, ◌<◌, ◌*◌, ◌++◌, [], codes, IfOk, string_bytes};
+ghost use Rattle.std.specs.Prelude.{◌≡◌, ◌<◌, ◌*◌, ◌++◌, [], codes, IfOk, string_bytes};
 ghost use Rattle.std.specs.Fmt.{decimal};
 ghost use Rattle.otlp_load.specs.Load.{items_each, requests_at_most};
 ghost use Rattle.otap_gateway.specs.Lines.{line_feed};

@@ -1,6 +1,5 @@
 //! `status`: what a Collector replies to each batch.
-ghost use Rattle.std.specs.Prelude.{◌≡◌, ◌≤◌, IfOk, length, string_bytes};
-ghost use Rattle.otap_capture.specs.Capture.{longest_frame, message_frame};
+ghost use Rattle.std.specs.Prelude.{◌≡◌, IfOk, string_bytes};
 ghost use Rattle.otap_consume.specs.declared.taken.Taken.TheVariants as taken;
 ghost use Rattle.otap_consume.specs.Segments.{IsNew};
 ghost use Rattle.otap_gateway.specs.declared.command.Command.TheVariants as command;

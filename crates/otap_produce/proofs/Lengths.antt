@@ -11,9 +11,6 @@ use Rattle.otlp_messages.proofs.RowKinds.{unsigned_small, wider}
 use Rattle.otap_capture.specs.Batch.{BatchContent, PayloadContent, IsRealBatch, IsRealPayload, canon_batch, canon_payload}
 use Rattle.otap_produce.specs.Sizes.{size_of}
 
-two_most : (a b : List ℕ) (n m : ℕ) → length a ≤ n → length b ≤ m → length (a ++ b) ≤ n + m
-two_most a b n m one two = omega (arith, length-append a b, one, two)
-
 part_most : (n : ℕ) (part : List ℕ) → n < 2 ^ 29 → length part < 2 ^ 64 → length (varint (8 * n + 2) ++ (varint (length part) ++ part)) ≤ 20 + length part
 part_most n part low small =
     let tag = ten_at_most (8 * n + 2) (omega (arith, low)) in

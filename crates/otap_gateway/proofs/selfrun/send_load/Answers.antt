@@ -39,7 +39,8 @@ pub returns-in_default-load_line-clause-leaves : goal.returns-in_default-load_li
 returns-in_default-load_line-clause-leaves g c =
     let before = sinks g.O.Sink c.args.out.now g.E.Sink c.args.err.now in
     let now = sinks g.O.Sink c.requests.out g.E.Sink c.args.err.now in
-    leaves_early c.args.load g.T.Tabled.rows (g.met.T.Sends.of_rows ∙ ap rows_of (sym c.requires.signal)) before now c.requests.request _ _ (omega (arith, c.requests.auto.request-end)) c.requests.invariant.sent (Keeps-refl _)
+    leaves_early c.args.load g.T.Tabled.rows (g.met.T.Sends.of_rows ∙ ap rows_of (sym c.requires.signal)) before now
+    c.requests.request _ _ (omega (arith, c.requests.auto.request-end)) c.requests.invariant.sent (Keeps-refl _)
 
 pub returns-in_err-write_whole-clause-leaves : goal.returns-in_err-write_whole-clause-leaves
 returns-in_err-write_whole-clause-leaves g c =
