@@ -30,6 +30,23 @@ module _ {A B : Type 0} (R : List A → List B → A → B → Type 0) where
   each_after-keeps I step past past' (x ∷ xs) (y ∷ ys) start each =
       rw (← append_assoc past (x ∷ []) xs, ← append_assoc past' (y ∷ []) ys) (each_after-keeps I step (past ++ x ∷ []) (past' ++ y ∷ []) xs ys (step past past' x y start each.0) each.1)
 
+  -- no list that has elements goes in step with one that has none
+  none_beside : (past : List A) (past' : List B) (ys : List B) (y : B) → EachAfter R past past' [] (ys ++ y ∷ []) → ⊥
+  none_beside past past' [] y each = each
+  none_beside past past' (y' ∷ ys) y each = each
+
+  beside_none : (past : List A) (past' : List B) (xs : List A) (x : A) → EachAfter R past past' (xs ++ x ∷ []) [] → ⊥
+  beside_none past past' [] x each = each
+  beside_none past past' (x' ∷ xs) x each = each
+
+  -- the last pair, after all before it
+  pub each_after-last : (past : List A) (past' : List B) (xs : List A) (ys : List B) (x : A) (y : B) → EachAfter R past past' (xs ++ x ∷ []) (ys ++ y ∷ []) → R (past ++ xs) (past' ++ ys) x y
+  each_after-last past past' [] [] x y each = rw (append-nil past, append-nil past') each.0
+  each_after-last past past' [] (y' ∷ ys) x y each = absurd (none_beside (past ++ x ∷ []) (past' ++ y' ∷ []) ys y each.1)
+  each_after-last past past' (x' ∷ xs) [] x y each = absurd (beside_none (past ++ x' ∷ []) (past' ++ y ∷ []) xs x each.1)
+  each_after-last past past' (x' ∷ xs) (y' ∷ ys) x y each =
+      rw (← append_assoc past (x' ∷ []) xs, ← append_assoc past' (y' ∷ []) ys) (each_after-last (past ++ x' ∷ []) (past' ++ y' ∷ []) xs ys x y each.1)
+
   -- there are as many of the one as of the other
   pub each_after-length : (past : List A) (past' : List B) (xs : List A) (ys : List B) → EachAfter R past past' xs ys → length xs ≡ length ys
   each_after-length past past' [] [] each = refl

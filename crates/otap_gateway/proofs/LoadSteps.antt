@@ -1,5 +1,5 @@
 -- A load, as one request after the other is exported.
-use Rattle.std.proofs.Common.{◌≡◌, ℕ, ◌+◌, ◌<◌, true, List, [], ◌∷◌, ◌++◌, length, sym, ◌∙◌, subst, append-nil, append_assoc, zero-add, arith}
+use Rattle.std.proofs.Common.{◌≡◌, ℕ, ◌+◌, ◌<◌, true, List, [], ◌∷◌, ◌++◌, length, sym, ◌∙◌, subst, zero-add, arith}
 use Rattle.std.specs.Prelude.{All}
 use Rattle.std.specs.List.{flat_map}
 use Rattle.std.proofs.lemmas.List.{flat_map_more}
@@ -7,6 +7,7 @@ use Rattle.std.proofs.lemmas.List.Elements.{All-nil, All-push}
 use Rattle.std.proofs.lemmas.List.FromFn.{length-map-range_with_len, map-range_with_len_more}
 use Rattle.std.proofs.lemmas.Bool.{false≢true}
 use Rattle.lists.specs.EachAfter.{EachAfter}
+use Rattle.lists.proofs.Growing.{each_after-last}
 use Rattle.otap_capture.specs.Batch.{ReadsBatch, batch_in}
 use Rattle.otap_consume.specs.Meanings.{Meaning}
 use Rattle.otap_produce.specs.Exporters.{ExporterIn, StandsFor, Exports}
@@ -19,26 +20,6 @@ use Rattle.otlp_model.specs.declared.request.Signal.{Signal}
 use Rattle.otap_gateway.specs.declared.opened.Opened.{Opened}
 use Rattle.otap_gateway.specs.Loading.{HasCounted, Counts, HasLoaded, IsLoading, LoadsNext}
 use Rattle.otap_gateway.specs.Loads.{first_requests}
-
--- ---- the last of what is in step
-
-last_alone : {A B : Type 0} (R : List A → List B → A → B → Type 0) (past : List A) (past' : List B) (ys : List B) (y : B) → EachAfter R past past' [] (ys ++ y ∷ []) → ⊥
-last_alone R past past' [] y each = each
-last_alone R past past' (z ∷ ys) y each = each
-
-alone_last : {A B : Type 0} (R : List A → List B → A → B → Type 0) (past : List A) (past' : List B) (xs : List A) (x : A) → EachAfter R past past' (xs ++ x ∷ []) [] → ⊥
-alone_last R past past' [] x each = each
-alone_last R past past' (z ∷ xs) x each = each
-
-last_of_each : {A B : Type 0} (R : List A → List B → A → B → Type 0) (past : List A) (past' : List B) (xs : List A) (ys : List B) (x : A) (y : B)
-    → EachAfter R past past' (xs ++ x ∷ []) (ys ++ y ∷ []) → R (past ++ xs) (past' ++ ys) x y
-last_of_each R past past' [] [] x y each = rw (append-nil past, append-nil past') each.0
-last_of_each R past past' [] (z ∷ ys) x y each = absurd (last_alone R (past ++ x ∷ []) (past' ++ z ∷ []) ys y each.1)
-last_of_each R past past' (z ∷ xs) [] x y each = absurd (alone_last R (past ++ z ∷ []) (past' ++ y ∷ []) xs x each.1)
-last_of_each R past past' (z ∷ xs) (w ∷ ys) x y each =
-    rw (← append_assoc past (z ∷ []) xs, ← append_assoc past' (w ∷ []) ys) (last_of_each R (past ++ z ∷ []) (past' ++ w ∷ []) xs ys x y each.1)
-
--- ---- one more request
 
 requests_more : (s : Signal) (n : ℕ) → first_requests s (n + 1) ≡ first_requests s n ++ generated s n ∷ []
 requests_more s n = map-range_with_len_more (generated s) 0 n n (zero-add n)
@@ -77,7 +58,7 @@ module _ (rows : SignalRows) where
       let messages = loading.messages in
       let stands = exports.stands requests messages loading.loaded.stands in
       let exported = All-push (IsExported rows) requests request loading.loaded.exported exports.exported in
-      let received = last_of_each (IsReceivedAs m) [] [] requests messages request message (law (requests ++ request ∷ []) (messages ++ message ∷ []) exported stands.policy) in
+      let received = each_after-last (IsReceivedAs m) [] [] requests messages request message (law (requests ++ request ∷ []) (messages ++ message ∷ []) exported stands.policy) in
       received.reads
 
   -- it isn't refused

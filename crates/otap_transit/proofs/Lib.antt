@@ -1,4 +1,3 @@
-pub mod InStep
 pub mod KindsApart
 pub mod Projected
 pub mod SchemaIds

@@ -5,7 +5,7 @@ use Rattle.std.specs.Ordering.{int_eq}
 use Rattle.std.proofs.lemmas.Bool.{cases_Bool}
 use Rattle.std.proofs.lemmas.List.Elements.{filter-append}
 use Rattle.lists.specs.EachAfter.{EachAfter}
-use Rattle.lists.proofs.Growing.{each_after-push, each_after-keeps}
+use Rattle.lists.proofs.Growing.{each_after-push, each_after-keeps, each_after-last}
 use Rattle.arrow_ipc.specs.declared.messages.IpcMessage.{IpcMessage}
 use Rattle.otap_cells.specs.declared.payload.Kind.{Kind}
 use Rattle.otap_cells.specs.Payload.{number_of, is_kind}
@@ -16,7 +16,6 @@ use Rattle.otap_columns.specs.Records.{IsRead}
 use Rattle.otap_columns.specs.Substreams.{held_in, logical, schema_in}
 use Rattle.otap_columns.specs.Streams.{PayloadIn, is_of, of_type, opens, stream_of}
 use Rattle.otap_columns.specs.TableSets.{IsPayloadOf, of_kind}
-use Rattle.otap_transit.proofs.InStep.{in_step-last}
 use Rattle.otap_transit.proofs.KindsApart.{same_kind, types_compared, is_itself}
 
 -- ---- filters
@@ -116,5 +115,5 @@ read_as far before past t p each is =
     let all : AreWrittenAs t.kind (of_kind t.kind before ++ t ∷ []) (of_type type past ++ p ∷ [])
     = each_after-push (IsWritten t.kind) [] [] (of_kind t.kind before) (of_type type past) t p front (written_among t.kind (of_kind t.kind before) past t p is.written) in
     read_among t.kind (of_kind t.kind before) past t p is.written.type
-    (in_step-last (IsReadAs t.kind) [] [] (of_kind t.kind before) (of_type type past) t p (far t.kind (of_kind t.kind before) (of_type type past) front)
+    (each_after-last (IsReadAs t.kind) [] [] (of_kind t.kind before) (of_type type past) t p
     (far t.kind (of_kind t.kind before ++ t ∷ []) (of_type type past ++ p ∷ []) all))
