@@ -15,8 +15,9 @@ use Rattle.otap_columns.specs.TableSets.{ArePayloadsOf}
 use Rattle.otap_produce.specs.declared.refusal.ProduceRefusal.{ProduceRefusal}
 use Rattle.otap_produce.specs.declared.refusal.ProduceRefusal.TheVariants.{Memory}
 use Rattle.otap_produce.specs.Exporters.{SendersIn, HaveSent, Refuses, kinds_in}
+use Rattle.otap_produce.specs.Limits.{kinds_at_most, size_limit}
 use Rattle.otap_produce.specs.Policy.{SignalRows, part_of, payloads_of}
-use Rattle.otap_produce.specs.Sizes.{most_of, size_limit, size_of}
+use Rattle.otap_produce.specs.Sizes.{most_of, size_of}
 
 -- some tables were sent, as some payloads
 pub record HaveHistory (s : SendersIn) : Type 0 where
@@ -45,7 +46,7 @@ pub record AreReadyForAll (tables : List Table) (s : SendersIn) : Type 0 where
   pub history : HaveHistory s
   pub each : All (CanSend (kinds_in s.senders)) tables
   pub room : s.openings + length tables < 2 ^ 64
-  pub few : length tables ≤ 13
+  pub few : length tables ≤ kinds_at_most
   pub size : most_of tables ≤ size_limit
 
 -- whatever tables were sent before, as some payloads: these are the payloads of these tables after them, and now they were sent too

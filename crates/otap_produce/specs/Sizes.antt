@@ -1,5 +1,5 @@
 -- How long messages may be.
-use Rattle.std.specs.Prelude.{ℕ, ◌+◌, ◌*◌, List, [], ◌∷◌, length}
+use Rattle.std.specs.Prelude.{ℕ, ◌+◌, List, [], ◌∷◌, length}
 use Rattle.otap_capture.specs.Batch.{PayloadContent}
 use Rattle.otap_cells.specs.Tables.{Table}
 use Rattle.otap_columns.specs.Limits.{record_limit}
@@ -13,7 +13,3 @@ size_of (p ∷ payloads) = length p.schema_id + length p.bytes + size_of payload
 abbrev pub most_of : List Table → ℕ
 most_of [] = 0
 most_of (t ∷ tables) = 20 + record_limit t + most_of tables
-
--- for the payloads of a request that is exported: 418,525,472 bytes of records, and a schema id for each of 13 tables
-abbrev pub size_limit : ℕ
-size_limit = 418525472 + 13 * 20

@@ -18,6 +18,7 @@ use Rattle.otap_columns.specs.TableSets.{IsPayloadOf}
 use Rattle.otap_consume.specs.Defects.{Accepts, tables_of}
 use Rattle.otap_consume.specs.Meanings.{Meaning, HasFineRows}
 use Rattle.otap_consume.specs.Payloads.{parts_of, part_of}
+use Rattle.otap_produce.specs.Limits.{kinds_at_most}
 use Rattle.otap_produce.specs.Policy.{SignalRows, IsExported, IsMessageOf, payloads_of}
 use Rattle.otap_produce.specs.Writable.{AreInOrder}
 use Rattle.otap_transit.specs.Faithful.{AreFaithful, MeanTheSame}
@@ -56,7 +57,7 @@ pub record Comes (m : Meaning) (requests : List Request) (messages : List (List 
 -- what was sent so far in a segment
 pub record IsSegment (rows : SignalRows) (requests : List Request) (messages : List (List ℕ)) : Type 0 where
   pub so_far : AreSoFar (flat_map rows.tables requests) (payloads_in_all messages)
-  pub few : length (payloads_in_all messages) ≤ 13 * length requests
+  pub few : length (payloads_in_all messages) ≤ kinds_at_most * length requests
 
 pub received : (m : Meaning) (requests : List Request) (messages : List (List ℕ)) (request : Request) (message : List ℕ) → Comes m requests messages request message
     → IsReceivedAs m requests messages request message
@@ -87,7 +88,7 @@ module _ (far : FarEndReads) (m : Meaning) (rows : SignalRows) (faithful : AreFa
   each : EachAfter Follows before past ts ps
   each = in_parts before past ts ps (subst (λ (now : List PayloadIn). EachAfter IsPayloadOf before now ts (parts_of ps)) (all_parts messages) is.payloads)
 
-  few_payloads : length ps ≤ 13
+  few_payloads : length ps ≤ kinds_at_most
   few_payloads = omega (arith, each_after-length Follows before past ts ps each, few_tables rows.signal ts order)
 
   -- the id tells that there were not too many
