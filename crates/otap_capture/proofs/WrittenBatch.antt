@@ -13,19 +13,20 @@ use Rattle.otlp_messages.specs.Rows.{said, int32_in, int64_in, bytes_in, parts_o
 use Rattle.otlp_messages.specs.Canon.{signed_row, bytes_row, many_row, canon_row, canon, IsReadBack}
 use Rattle.otlp_messages.proofs.Canonical.{rows_read}
 use Rattle.otlp_messages.proofs.RowKinds.{part_fits, signed_fits, many_fits, wider, bytes_back, int32_back, int64_back, map-back, short_parts, parts_of-many_row}
-use Rattle.otap_capture.specs.Batch.{PayloadContent, BatchContent, payload_in, payloads_in, batch_in, ReadsBatch, payload_rows, canon_payload, batch_rows, canon_batch, IsRealPayload, IsRealBatch}
+use Rattle.otap_capture.specs.Batch.{BatchContent, payload_in, payloads_in, batch_in, ReadsBatch, payload_rows, canon_payload, batch_rows, canon_batch, IsRealPayload, IsRealBatch}
 use Rattle.otap_capture.specs.BatchWriting.{fields_of_payload, with_payload}
 use Rattle.otlp_messages.proofs.Steps.{AllByRecursion-append}
 use Rattle.std.specs.Prelude.{FitsSigned}
 use Rattle.std.specs.Int.{w32, w64, cast_signed, cast_unsigned}
 use Rattle.std.proofs.lemmas.Int.{to_z-of_z}
+use Rattle.lists.specs.Payloads.{PayloadIn}
 
 pub canon_payload_is : (schema_id : List ℕ) (kind : ℤ) (bytes : List ℕ) → canon_payload (record { schema_id = schema_id; kind = kind; bytes = bytes }) ≡ fields_of_payload schema_id kind bytes
 unfolding canon_payload
 canon_payload_is schema_id kind bytes = ap (λ s. canon_row 1 (bytes_row schema_id) ++ (canon_row 2 (signed_row kind) ++ s)) (append-nil (canon_row 3 (bytes_row bytes)))
 
 -- a payload that is written reads back
-payload_read : (p : PayloadContent) → IsRealPayload p → length (canon_payload p) < 2 ^ 64 → IsReadBack ArrowPayload level_limit (payload_rows p)
+payload_read : (p : PayloadIn) → IsRealPayload p → length (canon_payload p) < 2 ^ 64 → IsReadBack ArrowPayload level_limit (payload_rows p)
 unfolding canon_payload
 payload_read p real small =
     rows_read ArrowPayload level_limit (payload_rows p) refl (
@@ -36,11 +37,11 @@ payload_read p real small =
       ),
     ) small
 
-payload_fine : (p : PayloadContent) → IsRealPayload p → length (canon_payload p) < 2 ^ 64 → IsFine ArrowPayload level_limit (canon_payload p)
+payload_fine : (p : PayloadIn) → IsRealPayload p → length (canon_payload p) < 2 ^ 64 → IsFine ArrowPayload level_limit (canon_payload p)
 unfolding canon_payload
 payload_fine p real small = (payload_read p real small).fine
 
-payload_back : (p : PayloadContent) → IsRealPayload p → length (canon_payload p) < 2 ^ 64 → payload_in (canon_payload p) ≡ p
+payload_back : (p : PayloadIn) → IsRealPayload p → length (canon_payload p) < 2 ^ 64 → payload_in (canon_payload p) ≡ p
 unfolding canon_payload
 payload_back p real small =
     let read = payload_read p real small in
@@ -50,12 +51,12 @@ payload_back p real small =
     λ i. record { schema_id = e1 i; kind = e2 i; bytes = e3 i }
 
 -- and so do those of a batch
-all_fine : (ps : List PayloadContent) → AllByRecursion IsRealPayload ps
+all_fine : (ps : List PayloadIn) → AllByRecursion IsRealPayload ps
     → AllByRecursion (λ part. length part < 2 ^ 64 → IsFine ArrowPayload level_limit part) (map canon_payload ps)
 all_fine [] real = tt
 all_fine (p ∷ ps) real = (payload_fine p real.0, all_fine ps real.1)
 
-all_back : (ps : List PayloadContent) → AllByRecursion IsRealPayload ps → AllByRecursion (λ part. length part < 2 ^ 64) (map canon_payload ps)
+all_back : (ps : List PayloadIn) → AllByRecursion IsRealPayload ps → AllByRecursion (λ part. length part < 2 ^ 64) (map canon_payload ps)
     → AllByRecursion (λ p. payload_in (canon_payload p) ≡ p) ps
 all_back [] real small = tt
 all_back (p ∷ ps) real small = (payload_back p real.0 small.0, all_back ps real.1 small.1)
@@ -91,7 +92,7 @@ pub payload_appended : (old x y z : List ℕ) (n : ℕ) (schema_id : List ℕ) (
     → z ≡ old ++ canon_row 2 (Bytes (canon_payload (record { schema_id = schema_id; kind = kind; bytes = bytes })) ∷ [])
 payload_appended old x y z n schema_id kind bytes first second third len =
     let fields = fields_of_payload schema_id kind bytes in
-    let p : PayloadContent = record { schema_id = schema_id; kind = kind; bytes = bytes } in
+    let p : PayloadIn = record { schema_id = schema_id; kind = kind; bytes = bytes } in
     let is = canon_payload_is schema_id kind bytes in
     three_appended old x y z (varint 18) (varint n) fields first second third
     ∙ ap (λ s. old ++ (varint 18 ++ s)) (ap (λ k. varint k ++ fields) (len ∙ ap length (sym is)) ∙ ap (λ s. varint (length (canon_payload p)) ++ s) (sym is))
@@ -114,7 +115,7 @@ unfolding canon_batch
 written_first bytes id fits is small =
     written bytes (record { id = id; payloads = [] }) (record { id = fits; payloads = tt }) (is ∙ sym (append-nil (canon_row 1 (signed_row id)))) small
 
-canon_more : (b : BatchContent) (p : PayloadContent) → canon_batch b ++ canon_row 2 (Bytes (canon_payload p) ∷ []) ≡ canon_batch (with_payload b p)
+canon_more : (b : BatchContent) (p : PayloadIn) → canon_batch b ++ canon_row 2 (Bytes (canon_payload p) ∷ []) ≡ canon_batch (with_payload b p)
 unfolding canon_batch
 canon_more b p =
     let front = canon_row 1 (signed_row b.id) in
@@ -127,7 +128,7 @@ canon_more b p =
     append_assoc front (rows ++ []) last ∙ ap (λ s. front ++ (s ++ last)) (append-nil rows)
     ∙ ap (λ s. front ++ s) (sym (append-nil (rows ++ last)) ∙ ap (λ s. s ++ []) (sym more))
 
-pub written_more : (old bytes : List ℕ) (b : BatchContent) (p : PayloadContent) → AreWritten old b → IsRealPayload p
+pub written_more : (old bytes : List ℕ) (b : BatchContent) (p : PayloadIn) → AreWritten old b → IsRealPayload p
     → bytes ≡ old ++ canon_row 2 (Bytes (canon_payload p) ∷ []) → length bytes < 2 ^ 64 → AreWritten bytes (with_payload b p)
 written_more old bytes b p h real is small =
     let reals = subst IsRealBatch h.read h.real in

@@ -2,6 +2,7 @@
 use Rattle.std.specs.Prelude.{◌≡◌, ℕ, List, [], ◌∷◌, map, ⊤, ℤ, pos, IsUtf8, FitsSigned}
 use Rattle.std.specs.List.{AllByRecursion}
 use Rattle.std.specs.Int.{w32, w64}
+use Rattle.lists.specs.Payloads.{PayloadIn}
 use Rattle.otlp_wire.specs.Fields.{fields_of}
 use Rattle.otlp_messages.specs.declared.messages.Message.TheVariants.{BatchArrowRecords}
 use Rattle.otlp_messages.specs.declared.messages.Defect.{Defect}
@@ -14,21 +15,16 @@ use Rattle.otap_capture.specs.declared.batch.BatchRefusal.{BatchRefusal}
 use Rattle.otap_capture.specs.declared.batch.BatchRefusal.TheVariants.{BadMessage, Repeated, BadUtf8}
 use Rattle.otap_capture.specs.declared.batch.Payload.{Payload}
 
--- a payload and a batch, without where their bytes lie in memory
-pub record PayloadContent : Type 0 where
-  pub schema_id : List ℕ
-  pub kind : ℤ
-  pub bytes : List ℕ
-
+-- a batch, without where its bytes lie in memory
 pub record BatchContent : Type 0 where
   pub id : ℤ
-  pub payloads : List PayloadContent
+  pub payloads : List PayloadIn
 
-abbrev pub content_of : Payload → PayloadContent
+abbrev pub content_of : Payload → PayloadIn
 content_of p = record { schema_id = p.schema_id.now; kind = p.kind; bytes = p.bytes.now }
 
 -- what the fields of a payload say: schema_id, type and record
-abbrev pub payload_in : List ℕ → PayloadContent
+abbrev pub payload_in : List ℕ → PayloadIn
 payload_in part = record {
   schema_id = said 1 bytes_in [] part;
   kind = said 2 int32_in (pos 0) part;
@@ -36,7 +32,7 @@ payload_in part = record {
 }
 
 -- the payloads, in order
-abbrev pub payloads_in : List ℕ → List PayloadContent
+abbrev pub payloads_in : List ℕ → List PayloadIn
 payloads_in bytes = map payload_in (parts_of (only 2 (fields_of bytes)))
 
 -- what the fields of a batch say: batch_id and arrow_payloads
@@ -65,10 +61,10 @@ abbrev pub RefusesBatch : List ℕ → BatchRefusal → Type 0
 RefusesBatch bytes refusal = Stands BatchArrowRecords level_limit bytes (defect_of refusal)
 
 -- the canonical spellings of a payload and of a batch
-abbrev pub payload_rows : PayloadContent → List Filled
+abbrev pub payload_rows : PayloadIn → List Filled
 payload_rows p = row 1 (bytes_row p.schema_id) ∷ row 2 (signed_row p.kind) ∷ row 3 (bytes_row p.bytes) ∷ []
 
-unfoldable pub canon_payload : PayloadContent → List ℕ
+unfoldable pub canon_payload : PayloadIn → List ℕ
 canon_payload p = canon (payload_rows p)
 
 abbrev pub batch_rows : BatchContent → List Filled
@@ -78,7 +74,7 @@ unfoldable pub canon_batch : BatchContent → List ℕ
 canon_batch b = canon (batch_rows b)
 
 -- what a program holds: numbers fit their types, and a schema id is UTF-8
-pub record IsRealPayload (p : PayloadContent) : Type 0 where
+pub record IsRealPayload (p : PayloadIn) : Type 0 where
   pub schema_id : IsUtf8 p.schema_id
   pub kind : FitsSigned w32 p.kind
 

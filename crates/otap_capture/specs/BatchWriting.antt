@@ -1,8 +1,9 @@
 -- What a batch message that is being written holds.
 use Rattle.std.specs.Prelude.{◌≡◌, ℕ, ℤ, List, [], ◌∷◌, ◌++◌}
+use Rattle.lists.specs.Payloads.{PayloadIn}
 use Rattle.otlp_messages.specs.Canon.{canon_row, bytes_row, signed_row}
 use Rattle.otap_capture.specs.declared.batch_writer.BatchWriter.TheInside.{Inside}
-use Rattle.otap_capture.specs.Batch.{PayloadContent, BatchContent, batch_in, canon_batch, IsRealBatch}
+use Rattle.otap_capture.specs.Batch.{BatchContent, batch_in, canon_batch, IsRealBatch}
 
 -- the batch that is written so far
 abbrev pub written_of : Inside → BatchContent
@@ -14,7 +15,7 @@ pub record IsWritten (w : Inside) : Type 0 where
   pub canonical : w.bytes.items ≡ canon_batch (written_of w)
 
 -- one more payload
-abbrev pub with_payload : BatchContent → PayloadContent → BatchContent
+abbrev pub with_payload : BatchContent → PayloadIn → BatchContent
 with_payload b p = record { id = b.id; payloads = b.payloads ++ p ∷ [] }
 
 -- the fields of a payload, one after the other

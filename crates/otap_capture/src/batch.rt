@@ -127,9 +127,9 @@ pub struct Payloads<'a> {
 
 impl<'a> Model for Payloads<'a> {
     ghost use Rattle.std.specs.Prelude.{List};
-    ghost use Rattle.otap_capture.specs.Batch.{PayloadContent};
+    ghost use Rattle.lists.specs.Payloads.{PayloadIn};
 
-    ghost Value = { List PayloadContent };
+    ghost Value = { List PayloadIn };
 
     ghost use Rattle.otap_capture.specs.Batch.{payloads_in};
     ghost use Rattle.otap_capture.specs.BatchInside.{HasFinePayloads};

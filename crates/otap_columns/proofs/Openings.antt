@@ -6,8 +6,9 @@ use Rattle.std.proofs.lemmas.List.Elements.{filter-append}
 use Rattle.std.proofs.lemmas.Cmp.{int_eq_equiv}
 use Rattle.lists.specs.Since.{since, last_after}
 use Rattle.lists.proofs.Latest.{since-append, last_after-push}
+use Rattle.lists.specs.Payloads.{PayloadIn}
 use Rattle.arrow_ipc.specs.Fronts.{front_of}
-use Rattle.otap_columns.specs.Streams.{PayloadIn, is_of, of_type, last_of, opens_after, open_id, marked_after, stream_of}
+use Rattle.otap_columns.specs.Streams.{is_of, of_type, last_of, opens_after, open_id, marked_after, stream_of}
 
 -- a payload of another type is passed over
 of_type-other : (kind : ℤ) (ps : List PayloadIn) (p : PayloadIn) → is_of kind p ≡ false → of_type kind (ps ++ p ∷ []) ≡ of_type kind ps

@@ -10,6 +10,7 @@ use Rattle.lists.specs.EachAfter.{EachAfter, AllAfter}
 use Rattle.lists.specs.Since.{last_after}
 use Rattle.lists.proofs.Growing.{all_after-append}
 use Rattle.lists.proofs.Latest.{last_after-push}
+use Rattle.lists.specs.Payloads.{PayloadIn}
 use Rattle.arrow_schema.specs.declared.spec.ArrowType.{ArrowType}
 use Rattle.arrow_schema.specs.declared.spec.FieldSpec.{FieldSpec}
 use Rattle.arrow_ipc.specs.declared.messages.IpcMessage.{IpcMessage}
@@ -23,7 +24,7 @@ use Rattle.otap_cells.specs.Columns.{base_at, width_of}
 use Rattle.otap_cells.specs.Payload.{number_of}
 use Rattle.otap_cells.specs.Tables.{Table, cell_in}
 use Rattle.otap_dicts.specs.Limits.{value_limit}
-use Rattle.otap_columns.specs.Streams.{PayloadIn, is_of, last_of, opens_after, opens, stream_of}
+use Rattle.otap_columns.specs.Streams.{is_of, last_of, opens_after, opens, stream_of}
 use Rattle.otap_columns.specs.Dictionaries.{dictionary}
 use Rattle.otap_columns.specs.Known.{columns_fit}
 use Rattle.otap_columns.specs.Substreams.{SubstreamIn, held_in, schema_in, substream_of, substream_in, last_rows, rows_of, logical, table_in}

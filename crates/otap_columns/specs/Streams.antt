@@ -3,14 +3,9 @@ use Rattle.std.specs.Prelude.{ℕ, Bool, true, not, List, [], ◌∷◌, Option,
 use Rattle.std.specs.List.{flat_map}
 use Rattle.std.specs.Ordering.{int_eq}
 use Rattle.lists.specs.Since.{since, last_after}
+use Rattle.lists.specs.Payloads.{PayloadIn}
 use Rattle.arrow_ipc.specs.declared.messages.IpcMessage.{IpcMessage}
 use Rattle.arrow_ipc.specs.Fronts.{front_of}
-
--- a payload of a batch: the id of its schema, the number of its type, and the bytes of its record
-pub record PayloadIn : Type 0 where
-  pub schema_id : List ℕ
-  pub kind : ℤ
-  pub bytes : List ℕ
 
 abbrev pub is_of : ℤ → PayloadIn → Bool
 is_of kind p = int_eq p.kind kind

@@ -3,11 +3,12 @@
 use Rattle.std.specs.Prelude.{◌≡◌, ℕ, suc, true, List, [], ◌∷◌, ◌++◌, filter, if◌then◌else◌}
 use Rattle.std.specs.Fmt.{decimal}
 use Rattle.lists.specs.EachAfter.{EachAfter}
+use Rattle.lists.specs.Payloads.{PayloadIn}
 use Rattle.otap_cells.specs.declared.payload.Kind.{Kind}
 use Rattle.otap_cells.specs.Payload.{is_kind}
 use Rattle.otap_cells.specs.Tables.{Table}
 use Rattle.otap_columns.specs.WrittenPayloads.{IsWritten}
-use Rattle.otap_columns.specs.Streams.{PayloadIn, opens}
+use Rattle.otap_columns.specs.Streams.{opens}
 
 -- the tables of a kind
 abbrev pub of_kind : Kind → List Table → List Table

@@ -2,6 +2,7 @@
 -- Protocol, "Schema and Dictionary Resets" and "Delta Dictionaries").
 use Rattle.std.specs.Prelude.{◌≡◌, ◌≢◌, ◌↔◌, ℕ, zero, suc, ◌*◌, ◌<◌, ◌≤◌, ⊤, Bool, true, false, not, ◌&&◌, if◌then◌else◌, List, [], ◌∷◌, ◌++◌, length, map, slice_get, Option, Some, pos, Ok}
 use Rattle.lists.specs.EachAfter.{EachAfter}
+use Rattle.lists.specs.Payloads.{PayloadIn}
 use Rattle.arrow_schema.specs.declared.spec.ArrowType.{ArrowType}
 use Rattle.arrow_schema.specs.declared.spec.ArrowType.TheVariants.{Struct}
 use Rattle.arrow_schema.specs.declared.spec.FieldSpec.{FieldSpec}
@@ -23,7 +24,7 @@ use Rattle.otap_cells.specs.Payload.{number_of}
 use Rattle.otap_cells.specs.Tables.{Table, IsTable, SameTable, cell_in, coding_in, greatest_wide}
 use Rattle.otap_columns.specs.declared.forms.ColumnForm.{ColumnForm}
 use Rattle.otap_columns.specs.declared.forms.ColumnForm.TheVariants as form
-use Rattle.otap_columns.specs.Streams.{PayloadIn, opens, stream_of}
+use Rattle.otap_columns.specs.Streams.{opens, stream_of}
 use Rattle.otap_columns.specs.Dictionaries.{values_of}
 use Rattle.otap_columns.specs.Known.{known_column}
 use Rattle.otap_columns.specs.Substreams.{held_in, value_at, is_index_below, logical, schema_in}

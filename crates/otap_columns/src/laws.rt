@@ -15,10 +15,11 @@ ghost use Rattle.otap_columns.specs.Known.{known_column, place_at, columns_fit};
 ghost use Rattle.otap_cells.specs.Columns.{column_at, has_dot, name_at, width_of};
 ghost use Rattle.arrow_arrays.specs.Arrays.{arrays_of, path_of};
 ghost use Rattle.std.specs.List.{join_with_byte, list_any};
+ghost use Rattle.lists.specs.Payloads.{PayloadIn};
 ghost use Rattle.arrow_arrays.specs.declared.spec.ArraySpec.{ArraySpec};
 ghost use Rattle.arrow_schema.specs.declared.spec.ArrowType.{ArrowType};
 ghost use Rattle.arrow_schema.specs.Readable.{IsReadable};
-ghost use Rattle.otap_columns.specs.Streams.{PayloadIn, is_of, opens, stream_of};
+ghost use Rattle.otap_columns.specs.Streams.{is_of, opens, stream_of};
 
 /// A record that is read has no defect, and one that isn't has one, after nothing and after messages that have a schema.
 pub fn read_or_refused()

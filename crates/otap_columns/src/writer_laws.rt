@@ -2,6 +2,7 @@
 
 ghost use Rattle.std.specs.Prelude.{◌≡◌, ◌≤◌, ℕ, List, [], length, sum_by};
 ghost use Rattle.lists.specs.EachAfter.{EachAfter};
+ghost use Rattle.lists.specs.Payloads.{PayloadIn};
 ghost use Rattle.otap_cells.specs.declared.payload.Kind.{Kind};
 ghost use Rattle.otlp_model.specs.declared.request.Signal.{Signal};
 ghost use Rattle.otap_cells.specs.Payload.{kinds_of};
@@ -11,7 +12,6 @@ ghost use Rattle.arrow_arrays.specs.Written.{PartIn, batch_of};
 ghost use Rattle.otap_columns.specs.Limits.{dictionary_columns, record_limit, tables_limit, columns_limit, records_limit};
 ghost use Rattle.otap_columns.specs.WrittenPayloads.{HoldsRows, IsReadAs, AreWrittenAs};
 ghost use Rattle.otap_columns.specs.Schemas.{Forms, FormsFit, slots_for};
-ghost use Rattle.otap_columns.specs.Streams.{PayloadIn};
 ghost use Rattle.otap_columns.specs.WrittenRows.{AreSlotParts, HasValues};
 
 /// For every list of tables, the payloads that the policy gives them are read as just these tables: no record has a defect,

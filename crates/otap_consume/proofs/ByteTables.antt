@@ -5,6 +5,7 @@ use Rattle.std.specs.List.{AllByRecursion, flat_map, range_with_len}
 use Rattle.std.specs.Ordering.{int_eq}
 use Rattle.std.proofs.lemmas.Bool.{cases_Bool}
 use Rattle.lists.specs.Since.{since}
+use Rattle.lists.specs.Payloads.{PayloadIn}
 use Rattle.otlp_model.specs.declared.request.Signal.{Signal}
 use Rattle.arrow_schema.specs.Limits.{max_depth}
 use Rattle.arrow_schema.specs.declared.spec.ArrowType.{ArrowType}
@@ -17,7 +18,6 @@ use Rattle.arrow_ipc.specs.Fronts.{front_of}
 use Rattle.arrow_arrays.specs.declared.spec.ArraySpec.{ArraySpec}
 use Rattle.arrow_arrays.specs.Arrays.{cell_of}
 use Rattle.arrow_arrays.specs.Cells.{own_cell, place_of_values}
-use Rattle.otap_capture.specs.Batch.{PayloadContent}
 use Rattle.otap_cells.specs.declared.payload.Kind.{Kind}
 use Rattle.otap_cells.specs.declared.profile.Base.{Base}
 use Rattle.otap_cells.specs.declared.profile.Base.TheVariants as base
@@ -28,7 +28,7 @@ use Rattle.otap_cells.specs.Tables.{Table, cell_in, row_by, rows_by, table_by}
 use Rattle.otap_checks.specs.Deciding.{HasByteCells, HaveByteCells}
 use Rattle.otap_columns.specs.Dictionaries.{DictionaryIn, values_of, batch_of, batches_of, dictionary, filled, empty_dictionaries, dictionaries_in, is_for, values_if, values_for}
 use Rattle.otap_columns.specs.Known.{place_at, stored_cell}
-use Rattle.otap_columns.specs.Streams.{PayloadIn, of_type, is_of, marked_after, stream_of}
+use Rattle.otap_columns.specs.Streams.{of_type, is_of, marked_after, stream_of}
 use Rattle.otap_columns.specs.Substreams.{SubstreamIn, substream_of, substream_in, schema_in, value_at, replaced, field_value, value_if, column_value, column_cell, table_in, rows_of, last_rows, table_if, logical}
 use Rattle.otap_consume.specs.Defects.{table_of, tables_of}
 use Rattle.otap_consume.specs.Payloads.{part_of, parts_of, messages_in}
@@ -168,7 +168,7 @@ logical_bytes kind messages fits = table_if_bytes kind (substream_in messages) (
 
 -- ---- payloads
 
-abbrev pub PayloadBytes : PayloadContent → Type 0
+abbrev pub PayloadBytes : PayloadIn → Type 0
 PayloadBytes p = Bytes p.bytes
 
 abbrev PartBytes : PayloadIn → Type 0
@@ -187,10 +187,10 @@ stream_bytes type ps fits =
     each_flat_map MarkedBytes MessageBytes (λ m. front_of m.1.bytes) (λ m own. front_bytes m.1.bytes own) (since (λ m. m.0) (marked_after None (of_type type ps)))
     (each_since MarkedBytes (λ m. m.0) (marked_after None (of_type type ps)) (marked_bytes None (of_type type ps) (each_filter PartBytes (is_of type) ps fits)))
 
-messages_bytes : (type : ℤ) (payloads : List PayloadContent) → AllByRecursion PayloadBytes payloads → AllByRecursion MessageBytes (messages_in type payloads)
+messages_bytes : (type : ℤ) (payloads : List PayloadIn) → AllByRecursion PayloadBytes payloads → AllByRecursion MessageBytes (messages_in type payloads)
 messages_bytes type payloads fits = stream_bytes type (parts_of payloads) (each_map PayloadBytes PartBytes part_of (λ p own. own) payloads fits)
 
-one_table : (signal : Signal) (all : List PayloadContent) (p : PayloadContent) → AllByRecursion PayloadBytes all → IfSome (table_of signal all p) HasByteCells
+one_table : (signal : Signal) (all : List PayloadIn) (p : PayloadIn) → AllByRecursion PayloadBytes all → IfSome (table_of signal all p) HasByteCells
 one_table signal all p fits = by_kind (kind_numbered signal p.kind)
   where
     by_kind : (o : Option Kind) → IfSome (option_and_then (λ kind. logical kind (messages_in p.kind all)) o) HasByteCells
@@ -205,7 +205,7 @@ named_bytes (t ∷ tables) fits kind = elim (cases_Bool (is_kind t.kind kind)) [
 ]
 
 -- THE TABLES of a batch
-pub tables_bytes : (signal : Signal) (past payloads : List PayloadContent) → AllByRecursion PayloadBytes past → AllByRecursion PayloadBytes payloads
+pub tables_bytes : (signal : Signal) (past payloads : List PayloadIn) → AllByRecursion PayloadBytes past → AllByRecursion PayloadBytes payloads
     → HaveByteCells (tables_of signal past payloads)
 unfolding tables_of
 tables_bytes signal past payloads before own =

@@ -8,8 +8,8 @@ use Rattle.std.proofs.lemmas.Bool.Decides.{Decides-int_eq}
 use Rattle.std.proofs.lemmas.List.Sums.{sum_by-cons}
 use Rattle.lists.specs.EachAfter.{AllAfter}
 use Rattle.lists.proofs.Growing.{all_after-at}
+use Rattle.lists.specs.Payloads.{PayloadIn}
 use Rattle.otlp_model.specs.declared.request.Signal.{Signal}
-use Rattle.otap_capture.specs.Batch.{PayloadContent}
 use Rattle.otap_cells.specs.declared.payload.Kind.{Kind}
 use Rattle.otap_cells.specs.Payload.{kind_numbered}
 use Rattle.otap_cells.specs.Tables.{Table}
@@ -26,16 +26,16 @@ use Rattle.otap_consume.specs.PayloadTypes.{IsFineType, times}
 use Rattle.otap_consume.proofs.ViewSteps.{fine_at}
 
 -- a type that is there stands once in a list of fine types
-once_at : (signal : Signal) (all : List PayloadContent) (type : ℤ) (xs : List PayloadContent) → AllByRecursion (IsFineType signal all) xs → 0 < times type xs → times type all ≤ 1
+once_at : (signal : Signal) (all : List PayloadIn) (type : ℤ) (xs : List PayloadIn) → AllByRecursion (IsFineType signal all) xs → 0 < times type xs → times type all ≤ 1
 once_at signal all type [] fine some = absurd (omega (arith, some))
 once_at signal all type (p ∷ xs) fine some =
-    let count : times type (p ∷ xs) ≡ (if int_eq p.kind type then 1 else 0) + times type xs = sum_by-cons (λ (q : PayloadContent). if int_eq q.kind type then 1 else 0) p xs in
+    let count : times type (p ∷ xs) ≡ (if int_eq p.kind type then 1 else 0) + times type xs = sum_by-cons (λ (q : PayloadIn). if int_eq q.kind type then 1 else 0) p xs in
     elim (cases_Bool (int_eq p.kind type)) [
       | inl own ↦ subst (λ (k : ℤ). times k all ≤ 1) ((Decides-int_eq p.kind type).0 own) fine.0.once
       | inr other ↦ once_at signal all type xs fine.1 (omega (arith, count ∙ ap (λ b. (if b then 1 else 0) + times type xs) other, some))
     ]
 
-module _ (signal : Signal) (past payloads : List PayloadContent) where
+module _ (signal : Signal) (past payloads : List PayloadIn) where
   -- nothing is wrong with a list that is fine
   list_not : HasFineList signal past payloads → (cause : Cause) (payload : Option ℤ) → StandsInList signal past payloads cause payload → ⊥
   list_not fine PayloadType (Some type) h =
@@ -44,7 +44,7 @@ module _ (signal : Signal) (past payloads : List PayloadContent) where
   list_not fine PayloadTwice (Some type) h = absurd (omega (arith, once_at signal payloads type payloads fine.types (omega (arith, h)), h))
   list_not fine SchemaIdTaken (Some type) h =
       let each : AllAfter (λ before p. is_taken signal before p ≡ false) past (h.has.before ++ h.p ∷ h.has.after)
-      = subst (λ (ps : List PayloadContent). AllAfter (λ before p. is_taken signal before p ≡ false) past ps) h.has.is fine.ids in
+      = subst (λ (ps : List PayloadIn). AllAfter (λ before p. is_taken signal before p ≡ false) past ps) h.has.is fine.ids in
       both_ways (is_taken signal (past ++ h.has.before) h.p) (all_after-at (λ before p. is_taken signal before p ≡ false) past h.has.before h.has.after h.p each) h.taken
   list_not fine PayloadType None h = h
   list_not fine PayloadTwice None h = h
@@ -80,7 +80,7 @@ module _ (signal : Signal) (past payloads : List PayloadContent) where
   -- nor with records that are
   records_not : HasFineRecords signal past payloads → (refusal : ColumnRefusal) (payload : Option ℤ) → StandsInRecord signal past payloads refusal payload → ⊥
   records_not fine refusal payload h =
-      let each : AllAfter (IsReadAfter signal) past (h.has.before ++ h.p ∷ h.has.after) = subst (λ (ps : List PayloadContent). AllAfter (IsReadAfter signal) past ps) h.has.is fine in
+      let each : AllAfter (IsReadAfter signal) past (h.has.before ++ h.p ∷ h.has.after) = subst (λ (ps : List PayloadIn). AllAfter (IsReadAfter signal) past ps) h.has.is fine in
       let read : IsRead h.kind (messages_before (past ++ h.has.before) h.p) h.p.bytes = all_after-at (IsReadAfter signal) past h.has.before h.has.after h.p each h.kind h.known in
       never_both h.kind (messages_before (past ++ h.has.before) h.p) h.p.bytes read refusal h.stands
 

@@ -6,8 +6,9 @@ use Rattle.std.specs.Option.{IsSome}
 use Rattle.std.proofs.lemmas.Bool.{both_ways}
 use Rattle.lists.specs.EachAfter.{AllAfter}
 use Rattle.lists.proofs.Growing.{each_after-keeps, all_after-append}
+use Rattle.lists.specs.Payloads.{PayloadIn}
 use Rattle.otlp_model.specs.declared.request.Signal.{Signal}
-use Rattle.otap_capture.specs.Batch.{BatchContent, PayloadContent}
+use Rattle.otap_capture.specs.Batch.{BatchContent}
 use Rattle.otap_capture.specs.Capture.{Frame, Message, Packed}
 use Rattle.otap_capture.specs.Capture as capture
 use Rattle.otap_cells.specs.declared.payload.Kind.{Kind}
@@ -23,7 +24,7 @@ use Rattle.otap_consume.proofs.SegmentSteps.{payloads_accepted, broken_accepted,
 -- ---- the payloads of accepted batches were taken
 
 -- those of one batch, after the others
-more_taken : (signal : Signal) (all before xs : List PayloadContent) → AllByRecursion (IsFineType signal all) xs → AllAfter (IsReadAfter signal) before xs → AllAfter (IsTakenAfter signal) before xs
+more_taken : (signal : Signal) (all before xs : List PayloadIn) → AllByRecursion (IsFineType signal all) xs → AllAfter (IsReadAfter signal) before xs → AllAfter (IsTakenAfter signal) before xs
 more_taken signal all before [] fine read = tt
 more_taken signal all before (p ∷ xs) fine read =
     (by_kind (kind_numbered signal p.kind) refl fine.0.known, more_taken signal all (before ++ p ∷ []) xs fine.1 read.1)
@@ -32,12 +33,12 @@ more_taken signal all before (p ∷ xs) fine read =
     by_kind None at known = absurd (cc (subst (λ (o : Option Kind). IsSome o) at known))
     by_kind (Some kind) at known = record { kind = kind; known = at; read = read.0 kind at }
 
-accepted_taken : (signal : Signal) (past payloads : List PayloadContent) → AreTaken signal past → Accepts signal past payloads → AreTaken signal (past ++ payloads)
+accepted_taken : (signal : Signal) (past payloads : List PayloadIn) → AreTaken signal past → Accepts signal past payloads → AreTaken signal (past ++ payloads)
 accepted_taken signal past payloads taken a =
     all_after-append (IsTakenAfter signal) [] past payloads taken (more_taken signal payloads past payloads a.list.types a.records)
 
 -- a batch that a frame gives was accepted
-gives_accepted : (signal : Signal) (past : List PayloadContent) (frame : Frame) (o : Outcome) (batch : BatchContent) (tables : List Table) → Gives signal past frame o → o ≡ Accepted batch tables
+gives_accepted : (signal : Signal) (past : List PayloadIn) (frame : Frame) (o : Outcome) (batch : BatchContent) (tables : List Table) → Gives signal past frame o → o ≡ Accepted batch tables
     → Accepts signal past batch.payloads
 gives_accepted signal past _ _ batch tables Gives.compressed is = absurd (cc is)
 gives_accepted signal past _ _ batch tables (Gives.unreadable bytes refusal bad) is = absurd (cc is)
@@ -81,7 +82,7 @@ still_broken (Message bytes) (inr (refusal, bad)) = (refused None Broken None, S
 still_broken Packed h = (refused None Broken None, StaysBroken.compressed)
 still_broken capture.Reset h = (Reset, StaysBroken.resets)
 
-gives_some : (signal : Signal) (past : List PayloadContent) → AreTaken signal past → (frame : Frame) → IsRead frame → (outcome : Outcome) × Gives signal past frame outcome
+gives_some : (signal : Signal) (past : List PayloadIn) → AreTaken signal past → (frame : Frame) → IsRead frame → (outcome : Outcome) × Gives signal past frame outcome
 gives_some signal past taken (Message bytes) (inl (batch, reads)) =
     elim (are_judged signal past batch.payloads taken) [
       | inl accepts ↦ (Accepted batch (tables_of signal past batch.payloads), Gives.accepts bytes batch reads accepts)

@@ -3,12 +3,13 @@ use Rattle.std.proofs.Common.{◌≡◌, ℕ, ◌<◌, ◌⊎◌, inl, inr, Bool
 use Rattle.std.specs.Prelude.{MatchBool, ◌↔◌}
 use Rattle.std.proofs.lemmas.Bool.{both_ways, cases_Bool, cases_lt}
 use Rattle.lists.proofs.Growing.{each_after-keeps}
+use Rattle.lists.specs.Payloads.{PayloadIn}
 use Rattle.otlp_model.specs.Limits.{weight_limit}
 use Rattle.otlp_model.specs.Weight.{weight_of}
 use Rattle.otlp_model.specs.declared.request.Signal.{Signal}
 use Rattle.otap_capture.specs.declared.batch.BatchRefusal.{BatchRefusal}
 use Rattle.otap_capture.specs.declared.batch.BatchRefusal.TheVariants as unread
-use Rattle.otap_capture.specs.Batch.{BatchContent, PayloadContent, ReadsBatch, RefusesBatch, batch_in, defect_of}
+use Rattle.otap_capture.specs.Batch.{BatchContent, ReadsBatch, RefusesBatch, batch_in, defect_of}
 use Rattle.otap_capture.specs.Capture.{Frame, Message, Packed}
 use Rattle.otap_capture.specs.Capture as capture
 use Rattle.otap_capture.proofs.BatchDefects.{read_or_refused}
@@ -95,7 +96,7 @@ rows_not m tables HeldTooMuch payload fine stands = stands
 rows_not m tables Broken payload fine stands = stands
 
 -- an accepted batch whose rows are fine
-module _ (m : Meaning) (past : List PayloadContent) (bytes : List ℕ) (batch : BatchContent) where
+module _ (m : Meaning) (past : List PayloadIn) (bytes : List ℕ) (batch : BatchContent) where
   no_defect : ReadsBatch bytes batch → Accepts m.signal past batch.payloads → HasFineRows m (tables_of m.signal past batch.payloads)
       → (frame : Frame) → frame ≡ Message bytes → (cause : Cause) (payload : Option ℤ) → HasDefect m past frame cause payload → ⊥
   no_defect reads accepts fine frame is cause payload HasDefect.compressed = cc is
@@ -138,7 +139,7 @@ accepted_message : (m : Meaning) (outcomes : List Outcome) (bytes : List ℕ) �
     → (batch : BatchContent) × (tables : List Table) × ReceivedAfter m outcomes (Message bytes) (Accepted batch tables)
 accepted_message m outcomes bytes taken whole fine = by_judgement (are_judged m.signal past batch.payloads taken)
   where
-    past : List PayloadContent
+    past : List PayloadIn
     past = payloads_after outcomes
 
     batch : BatchContent
@@ -176,10 +177,10 @@ accepted m frames outcomes frame each whole format =
 
 -- ---- what is refused
 
-abbrev Named : Meaning → List PayloadContent → Frame → Refusal → Type 0
+abbrev Named : Meaning → List PayloadIn → Frame → Refusal → Type 0
 Named m past frame refusal = HasDefect m past frame refusal.cause refusal.payload × (refusal.stage ≡ stage_of refusal.cause)
 
-named_early : (m : Meaning) (past : List PayloadContent) (frame : Frame) (o : Outcome) (refusal : Refusal) → o ≡ Refused refusal → Gives m.signal past frame o → Named m past frame refusal
+named_early : (m : Meaning) (past : List PayloadIn) (frame : Frame) (o : Outcome) (refusal : Refusal) → o ≡ Refused refusal → Gives m.signal past frame o → Named m past frame refusal
 named_early m past frame o refusal is Gives.compressed =
     let same : refusal_of None Compressed None ≡ refusal = cc is in
     subst (Named m past frame) same (HasDefect.compressed, refl)
@@ -192,7 +193,7 @@ named_early m past frame o refusal is (Gives.refuses bytes batch cause payload r
 named_early m past frame o refusal is (Gives.accepts bytes batch reads accepts) = absurd (cc is)
 named_early m past frame o refusal is Gives.resets = absurd (cc is)
 
-named_late : (m : Meaning) (past : List PayloadContent) (frame : Frame) (late : Refusal) (batch : BatchContent) (tables : List Table) (cause : Cause) (payload : Option ℤ)
+named_late : (m : Meaning) (past : List PayloadIn) (frame : Frame) (late : Refusal) (batch : BatchContent) (tables : List Table) (cause : Cause) (payload : Option ℤ)
     → GivesBatch m.signal past frame batch tables → StandsInRows m tables cause payload → late ≡ refusal_of (Some batch.id) cause payload → Named m past frame late
 named_late m past frame late batch tables cause payload g stands is =
     let here : HasDefect m past (Message g.bytes) cause payload
@@ -263,13 +264,13 @@ same_late m tables a b (inr x) (inl y) = absurd (x.0 y.0)
 same_late m tables a b (inr x) (inr y) = x.1 ∙ sym y.1
 
 -- what is wrong with a message
-pub data MessageDefect (m : Meaning) (past : List PayloadContent) (bytes : List ℕ) (cause : Cause) (payload : Option ℤ) : Type 0 where
+pub data MessageDefect (m : Meaning) (past : List PayloadIn) (bytes : List ℕ) (cause : Cause) (payload : Option ℤ) : Type 0 where
   unreadable : (refusal : BatchRefusal) → RefusesBatch bytes refusal → cause ≡ unread_cause refusal → MessageDefect m past bytes cause payload
   early : ReadsBatch bytes (batch_in bytes) → Refuses m.signal past (batch_in bytes).payloads cause payload → MessageDefect m past bytes cause payload
   late : ReadsBatch bytes (batch_in bytes) → Accepts m.signal past (batch_in bytes).payloads → StandsInRows m (tables_of m.signal past (batch_in bytes).payloads) cause payload
       → MessageDefect m past bytes cause payload
 
-of_message : (m : Meaning) (past : List PayloadContent) (frame : Frame) (bytes : List ℕ) (cause : Cause) (payload : Option ℤ) → frame ≡ Message bytes → HasDefect m past frame cause payload
+of_message : (m : Meaning) (past : List PayloadIn) (frame : Frame) (bytes : List ℕ) (cause : Cause) (payload : Option ℤ) → frame ≡ Message bytes → HasDefect m past frame cause payload
     → MessageDefect m past bytes cause payload
 of_message m past frame bytes cause payload is HasDefect.compressed = absurd (cc is)
 of_message m past frame bytes cause payload is (HasDefect.unreadable other refusal bad) =
@@ -284,7 +285,7 @@ of_message m past frame bytes cause payload is (HasDefect.late other b c p reads
     MessageDefect.late (subst (ReadsBatch bytes) here.1 here) (subst (λ (x : BatchContent). Accepts m.signal past x.payloads) here.1 accepts)
     (subst (λ (x : BatchContent). StandsInRows m (tables_of m.signal past x.payloads) c p) here.1 bad)
 
-message_stage : (m : Meaning) (past : List PayloadContent) (bytes : List ℕ) (a b : Cause) (p q : Option ℤ) → MessageDefect m past bytes a p → MessageDefect m past bytes b q → stage_of a ≡ stage_of b
+message_stage : (m : Meaning) (past : List PayloadIn) (bytes : List ℕ) (a b : Cause) (p q : Option ℤ) → MessageDefect m past bytes a p → MessageDefect m past bytes b q → stage_of a ≡ stage_of b
 message_stage m past bytes a b p q (MessageDefect.unreadable r bad is) (MessageDefect.unreadable s bad' is') = ap stage_of is ∙ unread_first r ∙ sym (ap stage_of is' ∙ unread_first s)
 message_stage m past bytes a b p q (MessageDefect.unreadable r bad is) (MessageDefect.early reads refuses) = absurd (not_unread bytes (batch_in bytes) r reads bad)
 message_stage m past bytes a b p q (MessageDefect.unreadable r bad is) (MessageDefect.late reads accepts stands) = absurd (not_unread bytes (batch_in bytes) r reads bad)
@@ -297,19 +298,19 @@ message_stage m past bytes a b p q (MessageDefect.late reads accepts stands) (Me
     let tables : List Table = tables_of m.signal past (batch_in bytes).payloads in
     same_late m tables a b (which_late m tables a p stands) (which_late m tables b q stands')
 
-packed_cause : (m : Meaning) (past : List PayloadContent) (frame : Frame) (cause : Cause) (payload : Option ℤ) → frame ≡ Packed → HasDefect m past frame cause payload → cause ≡ Compressed
+packed_cause : (m : Meaning) (past : List PayloadIn) (frame : Frame) (cause : Cause) (payload : Option ℤ) → frame ≡ Packed → HasDefect m past frame cause payload → cause ≡ Compressed
 packed_cause m past frame cause payload is HasDefect.compressed = refl
 packed_cause m past frame cause payload is (HasDefect.unreadable other refusal bad) = absurd (cc is)
 packed_cause m past frame cause payload is (HasDefect.early other b c p reads bad) = absurd (cc is)
 packed_cause m past frame cause payload is (HasDefect.late other b c p reads accepts bad) = absurd (cc is)
 
-reset_none : (m : Meaning) (past : List PayloadContent) (frame : Frame) (cause : Cause) (payload : Option ℤ) → frame ≡ capture.Reset → HasDefect m past frame cause payload → ⊥
+reset_none : (m : Meaning) (past : List PayloadIn) (frame : Frame) (cause : Cause) (payload : Option ℤ) → frame ≡ capture.Reset → HasDefect m past frame cause payload → ⊥
 reset_none m past frame cause payload is HasDefect.compressed = cc is
 reset_none m past frame cause payload is (HasDefect.unreadable other refusal bad) = cc is
 reset_none m past frame cause payload is (HasDefect.early other b c p reads bad) = cc is
 reset_none m past frame cause payload is (HasDefect.late other b c p reads accepts bad) = cc is
 
-pub defects_in_one : (m : Meaning) (past : List PayloadContent) (frame : Frame) (a b : Cause) (p q : Option ℤ) → HasDefect m past frame a p → HasDefect m past frame b q → stage_of a ≡ stage_of b
+pub defects_in_one : (m : Meaning) (past : List PayloadIn) (frame : Frame) (a b : Cause) (p q : Option ℤ) → HasDefect m past frame a p → HasDefect m past frame b q → stage_of a ≡ stage_of b
 defects_in_one m past (Message bytes) a b p q x y =
     message_stage m past bytes a b p q (of_message m past (Message bytes) bytes a p refl x) (of_message m past (Message bytes) bytes b q refl y)
 defects_in_one m past Packed a b p q x y = ap stage_of (packed_cause m past Packed a p refl x) ∙ sym (ap stage_of (packed_cause m past Packed b q refl y))
@@ -318,7 +319,7 @@ defects_in_one m past capture.Reset a b p q x y = absurd (reset_none m past capt
 -- ---- stage 0
 
 -- what is wrong with a frame stands in a stage after it
-has_stage : (m : Meaning) (past : List PayloadContent) (frame : Frame) (cause : Cause) (payload : Option ℤ) → HasDefect m past frame cause payload → 0 < stage_of cause
+has_stage : (m : Meaning) (past : List PayloadIn) (frame : Frame) (cause : Cause) (payload : Option ℤ) → HasDefect m past frame cause payload → 0 < stage_of cause
 has_stage m past frame cause payload HasDefect.compressed = omega arith
 has_stage m past frame cause payload (HasDefect.unreadable bytes refusal bad) = let first = unread_first refusal in omega (arith, first)
 has_stage m past frame cause payload (HasDefect.early bytes b c p reads bad) = let later = after_first m.signal past b.payloads c p bad in omega (arith, later)

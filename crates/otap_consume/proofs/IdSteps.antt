@@ -5,11 +5,11 @@ use Rattle.std.specs.List.{list_any}
 use Rattle.std.specs.Ordering.{int_eq}
 use Rattle.std.proofs.lemmas.Bool.{cases_Bool}
 use Rattle.std.proofs.lemmas.List.{get_or-map, length-map}
+use Rattle.lists.specs.Payloads.{PayloadIn}
 use Rattle.otlp_model.specs.declared.request.Signal.{Signal}
-use Rattle.otap_capture.specs.Batch.{PayloadContent}
 use Rattle.otap_cells.specs.declared.payload.Kind.{Kind}
 use Rattle.otap_cells.specs.Payload.{kinds_of}
-use Rattle.otap_columns.specs.Streams.{PayloadIn, open_id}
+use Rattle.otap_columns.specs.Streams.{open_id}
 use Rattle.otap_consume.specs.Defects.{is_taken, is_open_for}
 use Rattle.otap_consume.specs.Ids.{OpenIdIn, ids_of, ids_after, has_other, is_other, opened}
 use Rattle.otap_consume.specs.Payloads.{type_of, last_in, id_in}
@@ -26,7 +26,7 @@ kind_at signal streams k d e same inside = rw (← same) (get_or-map (λ (s : St
 pub count_of : (signal : Signal) (streams : List StreamIn) → kinds_in streams ≡ kinds_of signal → length streams ≡ length (kinds_of signal)
 count_of signal streams same = sym (length-map streams (λ (s : StreamIn). s.kind)) ∙ ap length same
 
-id_at : (past : List PayloadContent) (kind : Kind) (last : Option PayloadIn) (current : Option OpenIn) → last_in (type_of kind) past ≡ last → IsOpenAfter past kind last current
+id_at : (past : List PayloadIn) (kind : Kind) (last : Option PayloadIn) (current : Option OpenIn) → last_in (type_of kind) past ≡ last → IsOpenAfter past kind last current
     → id_if current ≡ id_in (type_of kind) past
 unfolding open_id
 id_at past kind None None is h = rw is refl
@@ -34,7 +34,7 @@ id_at past kind None (Some current) is h = absurd h
 id_at past kind (Some last) None is h = absurd h
 id_at past kind (Some last) (Some current) is h = rw is (ap Some h.id)
 
-pub ids_are : (signal : Signal) (past : List PayloadContent) (streams : List StreamIn) → kinds_in streams ≡ kinds_of signal → AreAfter past streams
+pub ids_are : (signal : Signal) (past : List PayloadIn) (streams : List StreamIn) → kinds_in streams ≡ kinds_of signal → AreAfter past streams
     → ids_of streams ≡ ids_after signal past
 ids_are signal past streams same are =
     map_same (λ (s : StreamIn). let x : OpenIdIn = record { kind = s.kind; id = id_of s } in x) (λ (kind : Kind). let x : OpenIdIn = record { kind = kind; id = id_in (type_of kind) past } in x)
@@ -44,7 +44,7 @@ ids_are signal past streams same are =
     (ap (λ (id : Option (List ℕ)). let x : OpenIdIn = record { kind = (get_or streams k a).kind; id = id } in x)
     (id_at past (get_or streams k a).kind (last_in (type_of (get_or streams k a).kind) past) (get_or streams k a).current refl (are k a inside).current)))
 
-opened_one : (ps : List PayloadContent) (p : PayloadContent) (kind : Kind)
+opened_one : (ps : List PayloadIn) (p : PayloadIn) (kind : Kind)
     → opened p (record { kind = kind; id = id_in (type_of kind) ps }) ≡ record { kind = kind; id = id_in (type_of kind) (ps ++ p ∷ []) }
 opened_one ps p kind = go (cases_Bool (int_eq p.kind (type_of kind)))
   where
@@ -53,18 +53,18 @@ opened_one ps p kind = go (cases_Bool (int_eq p.kind (type_of kind)))
     go (inl own) = rw (own, id_in-own (type_of kind) ps p own) refl
     go (inr other) = rw (other, id_in-other (type_of kind) ps p other) refl
 
-opened_all : (ps : List PayloadContent) (p : PayloadContent) (kinds : List Kind)
+opened_all : (ps : List PayloadIn) (p : PayloadIn) (kinds : List Kind)
     → map (opened p) (map (λ kind. record { kind = kind; id = id_in (type_of kind) ps }) kinds) ≡ map (λ kind. record { kind = kind; id = id_in (type_of kind) (ps ++ p ∷ []) }) kinds
 opened_all ps p [] = refl
 opened_all ps p (kind ∷ kinds) = λ i. opened_one ps p kind i ∷ opened_all ps p kinds i
 
-pub ids_step : (signal : Signal) (ps : List PayloadContent) (p : PayloadContent) → map (opened p) (ids_after signal ps) ≡ ids_after signal (ps ++ p ∷ [])
+pub ids_step : (signal : Signal) (ps : List PayloadIn) (p : PayloadIn) → map (opened p) (ids_after signal ps) ≡ ids_after signal (ps ++ p ∷ [])
 ids_step signal ps p = opened_all ps p (kinds_of signal)
 
-any_same : (ps : List PayloadContent) (p : PayloadContent) (kinds : List Kind)
+any_same : (ps : List PayloadIn) (p : PayloadIn) (kinds : List Kind)
     → list_any (is_other p) (map (λ kind. record { kind = kind; id = id_in (type_of kind) ps }) kinds) ≡ list_any (is_open_for ps p) kinds
 any_same ps p [] = refl
 any_same ps p (kind ∷ kinds) = ap (λ b. is_open_for ps p kind || b) (any_same ps p kinds)
 
-pub taken_is : (signal : Signal) (ps : List PayloadContent) (p : PayloadContent) → has_other p (ids_after signal ps) ≡ is_taken signal ps p
+pub taken_is : (signal : Signal) (ps : List PayloadIn) (p : PayloadIn) → has_other p (ids_after signal ps) ≡ is_taken signal ps p
 taken_is signal ps p = any_same ps p (kinds_of signal)

@@ -7,11 +7,11 @@ use Rattle.std.proofs.lemmas.Bool.{cases_Bool, cases_lt}
 use Rattle.std.proofs.lemmas.Bool.Decides.{Decides-int_eq}
 use Rattle.lists.specs.EachAfter.{AllAfter}
 use Rattle.lists.proofs.Growing.{each_after-keeps, all_after-push}
+use Rattle.lists.specs.Payloads.{PayloadIn}
 use Rattle.otlp_model.specs.Limits.{item_limit}
 use Rattle.otlp_model.specs.declared.request.Signal.{Signal}
 use Rattle.arrow_ipc.specs.declared.messages.IpcMessage.{IpcMessage}
 use Rattle.arrow_ipc.specs.Fronts.{front_of}
-use Rattle.otap_capture.specs.Batch.{PayloadContent}
 use Rattle.otap_cells.specs.declared.payload.Kind.{Kind}
 use Rattle.otap_cells.specs.Payload.{kind_numbered, main_of}
 use Rattle.otap_cells.specs.Sets.{rows_named}
@@ -36,7 +36,7 @@ use Rattle.otap_consume.proofs.ViewSteps.{fine_at}
 -- ---- the sub-stream of a type that was taken has a schema, or no messages
 
 -- one more payload
-goes_on : (signal : Signal) (before : List PayloadContent) (p : PayloadContent) → CanGoOn (messages_in p.kind before) → IsTakenAfter signal before p → CanGoOn (messages_in p.kind (before ++ p ∷ []))
+goes_on : (signal : Signal) (before : List PayloadIn) (p : PayloadIn) → CanGoOn (messages_in p.kind before) → IsTakenAfter signal before p → CanGoOn (messages_in p.kind (before ++ p ∷ []))
 unfolding opens
 goes_on signal before p can t = by_test (opens_after (last_in p.kind before) (part_of p)) refl
   where
@@ -63,7 +63,7 @@ goes_on signal before p can t = by_test (opens_after (last_in p.kind before) (pa
         let same : messages_before before p ≡ messages_in p.kind before = ap (λ (b : Bool). if b then [] else messages_in p.kind before) is in
         subst CanGoOn (sym (after ∙ ap (λ (b : Bool). if b then front_of p.bytes else messages_in p.kind before ++ front_of p.bytes) is)) (comes_after same can)
 
-all_go_on : (signal : Signal) (before : List PayloadContent) (p : PayloadContent) → ((type : ℤ) → CanGoOn (messages_in type before)) → IsTakenAfter signal before p
+all_go_on : (signal : Signal) (before : List PayloadIn) (p : PayloadIn) → ((type : ℤ) → CanGoOn (messages_in type before)) → IsTakenAfter signal before p
     → (type : ℤ) → CanGoOn (messages_in type (before ++ p ∷ []))
 all_go_on signal before p can t type =
     elim (cases_Bool (int_eq p.kind type)) [
@@ -75,12 +75,12 @@ none_yet : (type : ℤ) → CanGoOn (messages_in type [])
 unfolding stream_of
 none_yet type = inl refl
 
-can_go_on : (signal : Signal) (past : List PayloadContent) → AreTaken signal past → (type : ℤ) → CanGoOn (messages_in type past)
+can_go_on : (signal : Signal) (past : List PayloadIn) → AreTaken signal past → (type : ℤ) → CanGoOn (messages_in type past)
 can_go_on signal past taken =
     each_after-keeps (λ before same p again. IsTakenAfter signal before p) (λ before same. (type : ℤ) → CanGoOn (messages_in type before))
     (λ before same p again can t. all_go_on signal before p can t) [] [] past past none_yet taken
 
-can_come : (before : List PayloadContent) (p : PayloadContent) → CanGoOn (messages_in p.kind before) → CanGoOn (messages_before before p)
+can_come : (before : List PayloadIn) (p : PayloadIn) → CanGoOn (messages_in p.kind before) → CanGoOn (messages_before before p)
 can_come before p can = by_test (opens (parts_of before) (part_of p)) refl
   where
     by_test : (b : Bool) → opens (parts_of before) (part_of p) ≡ b → CanGoOn (messages_before before p)
@@ -89,8 +89,8 @@ can_come before p can = by_test (opens (parts_of before) (part_of p)) refl
 
 -- ---- stage by stage
 
-module _ (signal : Signal) (past payloads : List PayloadContent) where
-  types_from : (front xs : List PayloadContent) → payloads ≡ front ++ xs → AllByRecursion (IsFineType signal payloads) xs ⊎ ((r : TypesRefusal) × StandsInTypes signal payloads r)
+module _ (signal : Signal) (past payloads : List PayloadIn) where
+  types_from : (front xs : List PayloadIn) → payloads ≡ front ++ xs → AllByRecursion (IsFineType signal payloads) xs ⊎ ((r : TypesRefusal) × StandsInTypes signal payloads r)
   types_from front [] is = inl tt
   types_from front (p ∷ xs) is = by_kind (kind_numbered signal p.kind) refl (types_from (front ++ p ∷ []) xs (is ∙ sym (append_assoc front (p ∷ []) xs)))
     where
@@ -110,7 +110,7 @@ module _ (signal : Signal) (past payloads : List PayloadContent) where
   in_list (types.PayloadType type) h = (PayloadType, Some type, h)
   in_list (types.PayloadTwice type) h = (PayloadTwice, Some type, h)
 
-  ids_from : (front xs : List PayloadContent) → payloads ≡ front ++ xs
+  ids_from : (front xs : List PayloadIn) → payloads ≡ front ++ xs
       → AllAfter (λ before p. is_taken signal before p ≡ false) (past ++ front) xs ⊎ ((type : ℤ) × HasTakenId signal past payloads type)
   ids_from front [] is = inl tt
   ids_from front (p ∷ xs) is = by_test (cases_Bool (is_taken signal (past ++ front) p)) (ids_from (front ++ p ∷ []) xs (is ∙ sym (append_assoc front (p ∷ []) xs)))
@@ -121,7 +121,7 @@ module _ (signal : Signal) (past payloads : List PayloadContent) where
       by_test (inl taken) rest = inr (p.kind, record { p = p; has = record { before = front; after = xs; is = is }; taken = taken; of = refl })
       by_test (inr free) (inr bad) = inr bad
       by_test (inr free) (inl rest) =
-          inl (free, subst (λ (before : List PayloadContent). AllAfter (λ before p. is_taken signal before p ≡ false) before xs) (sym (append_assoc past front (p ∷ []))) rest)
+          inl (free, subst (λ (before : List PayloadIn). AllAfter (λ before p. is_taken signal before p ≡ false) before xs) (sym (append_assoc past front (p ∷ []))) rest)
 
   judged_list : HasFineList signal past payloads ⊎ ((cause : Cause) × (payload : Option ℤ) × StandsInList signal past payloads cause payload)
   judged_list =
@@ -129,14 +129,14 @@ module _ (signal : Signal) (past payloads : List PayloadContent) where
         | inr bad ↦ inr (in_list bad.0 bad.1)
         | inl fine ↦ elim (ids_from [] payloads refl) [
           | inr bad ↦ inr (SchemaIdTaken, Some bad.0, bad.1)
-          | inl free ↦ inl (record { types = fine; ids = subst (λ (before : List PayloadContent). AllAfter (λ before p. is_taken signal before p ≡ false) before payloads) (append-nil past) free })
+          | inl free ↦ inl (record { types = fine; ids = subst (λ (before : List PayloadIn). AllAfter (λ before p. is_taken signal before p ≡ false) before payloads) (append-nil past) free })
         ]
       ]
 
   abbrev Unread : Type 0
   Unread = (refusal : ColumnRefusal) × (payload : Option ℤ) × StandsInRecord signal past payloads refusal payload
 
-  records_from : HasFineTypes signal payloads → (front xs : List PayloadContent) → payloads ≡ front ++ xs → AreTaken signal (past ++ front) → AllAfter (IsReadAfter signal) (past ++ front) xs ⊎ Unread
+  records_from : HasFineTypes signal payloads → (front xs : List PayloadIn) → payloads ≡ front ++ xs → AreTaken signal (past ++ front) → AllAfter (IsReadAfter signal) (past ++ front) xs ⊎ Unread
   records_from fine front [] is taken = inl tt
   records_from fine front (p ∷ xs) is taken =
       by_kind (kind_numbered signal p.kind) refl (fine_at signal payloads front xs p fine is).known (λ more. records_from fine (front ++ p ∷ []) xs (is ∙ sym (append_assoc front (p ∷ []) xs)) more)
@@ -153,7 +153,7 @@ module _ (signal : Signal) (past payloads : List PayloadContent) where
           let here : IsReadAfter signal (past ++ front) p =
           λ other known. let same : kind ≡ other = cc (at, known) in subst (λ (k : Kind). IsRead k (messages_before (past ++ front) p) p.bytes) same read in
           elim (rest more) [
-            | inl all ↦ inl (here, subst (λ (before : List PayloadContent). AllAfter (IsReadAfter signal) before xs) longer all)
+            | inl all ↦ inl (here, subst (λ (before : List PayloadIn). AllAfter (IsReadAfter signal) before xs) longer all)
             | inr bad ↦ inr bad
           ]
 
@@ -166,7 +166,7 @@ module _ (signal : Signal) (past payloads : List PayloadContent) where
   judged_records : HasFineTypes signal payloads → AreTaken signal past → HasFineRecords signal past payloads ⊎ Unread
   judged_records fine taken =
       elim (records_from fine [] payloads refl (subst (AreTaken signal) (sym (append-nil past)) taken)) [
-        | inl all ↦ inl (subst (λ (before : List PayloadContent). AllAfter (IsReadAfter signal) before payloads) (append-nil past) all)
+        | inl all ↦ inl (subst (λ (before : List PayloadIn). AllAfter (IsReadAfter signal) before payloads) (append-nil past) all)
         | inr bad ↦ inr bad
       ]
 

@@ -2,12 +2,11 @@
 use Rattle.std.proofs.Common.{◌≡◌, ◌<◌, List, Option, Some, None, length, get_or, sym, ap, ◌∙◌, subst, arith}
 use Rattle.std.specs.Prelude.{find}
 use Rattle.std.proofs.lemmas.Bool.Decides.{Decides-int_eq}
+use Rattle.lists.specs.Payloads.{PayloadIn}
 use Rattle.arrow_ipc.specs.declared.messages.IpcMessage.{IpcMessage}
-use Rattle.otap_capture.specs.Batch.{PayloadContent}
 use Rattle.otap_cells.specs.declared.payload.Kind.{Kind}
 use Rattle.otap_cells.specs.Payload.{kinds_of, kind_numbered}
 use Rattle.otap_cells.specs.Tables.{Table}
-use Rattle.otap_columns.specs.Streams.{PayloadIn}
 use Rattle.otap_columns.specs.Substreams.{logical}
 use Rattle.otap_columns.specs.Views.{ReaderIn, StandsAt}
 use Rattle.otap_consume.specs.Payloads.{part_of, type_of, last_in, messages_in}
@@ -18,12 +17,12 @@ use Rattle.otap_consume.proofs.KindNumbers.{numbered}
 use Rattle.otap_consume.proofs.Lists.{Finds, finds}
 
 -- the reader of the sub-stream that the last payload of a type stands in has read to it
-read_by : (payloads : List PayloadContent) (kind : Kind) (last : PayloadIn) (current : Option OpenIn) (reader : ReaderIn) → reader_if current ≡ Some reader
+read_by : (payloads : List PayloadIn) (kind : Kind) (last : PayloadIn) (current : Option OpenIn) (reader : ReaderIn) → reader_if current ≡ Some reader
     → IsOpenAfter payloads kind (Some last) current → StandsAt (messages_in (type_of kind) payloads) last.bytes reader
 read_by payloads kind last None reader is h = absurd h
 read_by payloads kind last (Some current) reader is h = subst (λ (r : ReaderIn). StandsAt (messages_in (type_of kind) payloads) last.bytes r) (cc is) h.stands
 
-pub is_view : (streams : List StreamIn) (p : PayloadContent) (s : StreamIn) (reader : ReaderIn) (table : Table) → find (is_stream_of p.kind) streams ≡ Some s → reader_of s ≡ Some reader
+pub is_view : (streams : List StreamIn) (p : PayloadIn) (s : StreamIn) (reader : ReaderIn) (table : Table) → find (is_stream_of p.kind) streams ≡ Some s → reader_of s ≡ Some reader
     → reader.kind ≡ s.kind → ((messages : List IpcMessage) → StandsAt messages p.bytes reader → logical reader.kind messages ≡ Some table) → table.kind ≡ reader.kind
     → IsViewOf streams p (s.kind, table)
 is_view streams p s reader table found read of shown named =

@@ -5,14 +5,12 @@ use Rattle.std.specs.Ordering.{int_eq}
 use Rattle.std.proofs.lemmas.Bool.{cases_Bool}
 use Rattle.std.proofs.lemmas.List.{get_or-map, length-map}
 use Rattle.otlp_model.specs.declared.request.Signal.{Signal}
-use Rattle.otap_capture.specs.Batch.{PayloadContent}
 use Rattle.otap_cells.specs.declared.payload.Kind.{Kind}
 use Rattle.otap_cells.specs.declared.payload.Kind.TheVariants.{Logs}
 use Rattle.otap_cells.specs.Payload.{kinds_of, kind_numbered}
 use Rattle.otap_columns.specs.declared.refusal.ColumnRefusal.{ColumnRefusal}
 use Rattle.otap_columns.specs.declared.refusal.ColumnRefusal.TheVariants as refusal
 use Rattle.otap_columns.specs.Records.{IsRead, Stands}
-use Rattle.otap_columns.specs.Streams.{PayloadIn}
 use Rattle.otap_consume.specs.declared.refusal.Cause.TheVariants.{Column}
 use Rattle.otap_consume.specs.declared.not_taken.NotTaken.{NotTaken}
 use Rattle.otap_consume.specs.declared.not_taken.NotTaken.TheVariants.{Defect}
@@ -24,6 +22,7 @@ use Rattle.otap_consume.specs.Streams.{StreamIn, AreAfter, IsAfter, Takes, Refus
 use Rattle.otap_consume.proofs.IdSteps.{kind_at, count_of}
 use Rattle.otap_consume.proofs.KindNumbers.{HasNumber, has_number, numbered, same_kind_number}
 use Rattle.lists.proofs.Growing.{all_after-push}
+use Rattle.lists.specs.Payloads.{PayloadIn}
 use Rattle.otap_consume.proofs.Lists.{same_by_place}
 use Rattle.otap_consume.proofs.Substreams.{last_in-other, last_in-own}
 
@@ -33,11 +32,11 @@ takes_none streams = record {
   kinds = refl;
   shows = λ k d inside. tt;
   reads = λ signal past kinds are. tt;
-  after = λ past are k d inside. subst (λ (ps : List PayloadContent). IsAfter ps (get_or streams k d)) (sym (append-nil past)) (are k d inside);
+  after = λ past are k d inside. subst (λ (ps : List PayloadIn). IsAfter ps (get_or streams k d)) (sym (append-nil past)) (are k d inside);
 }
 
 -- what is shown after one more payload
-shown : (done : List PayloadContent) (p : PayloadContent) (old new : StreamIn) → ShowsAfter done old → Takes old p new → ShowsAfter (done ++ p ∷ []) new
+shown : (done : List PayloadIn) (p : PayloadIn) (old new : StreamIn) → ShowsAfter done old → Takes old p new → ShowsAfter (done ++ p ∷ []) new
 shown done p old new before takes = go (cases_Bool (int_eq p.kind (type_of old.kind)))
   where
     go : (int_eq p.kind (type_of old.kind) ≡ true) ⊎ (int_eq p.kind (type_of old.kind) ≡ false) → ShowsAfter (done ++ p ∷ []) new
@@ -49,7 +48,7 @@ shown done p old new before takes = go (cases_Bool (int_eq p.kind (type_of old.k
         subst (λ (s : StreamIn). ShowsAfter (done ++ p ∷ []) s) (sym same)
         (subst (λ (last : Option PayloadIn). ShowsLast last old.current) (sym (last_in-other (type_of old.kind) done p other)) before)
 
-pub takes_more : (old mid new : List StreamIn) (done : List PayloadContent) (p : PayloadContent) → TakesAll old done mid → EachTakes mid p new → kinds_in new ≡ kinds_in mid
+pub takes_more : (old mid new : List StreamIn) (done : List PayloadIn) (p : PayloadIn) → TakesAll old done mid → EachTakes mid p new → kinds_in new ≡ kinds_in mid
     → TakesAll old (done ++ p ∷ []) new
 takes_more old mid new done p before takes kinds = record {
   kinds = kinds ∙ before.kinds;
@@ -63,11 +62,11 @@ takes_more old mid new done p before takes kinds = record {
       read signal past same are kind number);
   after = λ past are k d inside.
       let inside' : k < length mid = omega (arith, takes.long) in
-      subst (λ (ps : List PayloadContent). IsAfter ps (get_or new k d)) (append_assoc past done (p ∷ []))
+      subst (λ (ps : List PayloadIn). IsAfter ps (get_or new k d)) (append_assoc past done (p ∷ []))
       ((takes.each k d inside').after (past ++ done) (before.after past are k d inside'));
 }
   where
-    read : (signal : Signal) (past : List PayloadContent) → kinds_in old ≡ kinds_of signal → AreAfter past old → (kind : Kind) → HasNumber signal p.kind kind
+    read : (signal : Signal) (past : List PayloadIn) → kinds_in old ≡ kinds_of signal → AreAfter past old → (kind : Kind) → HasNumber signal p.kind kind
         → IsRead kind (messages_before (past ++ done) p) p.bytes
     read signal past same are kind number =
         let d : StreamIn = record { kind = kind; current = None } in
@@ -81,7 +80,7 @@ takes_more old mid new done p before takes kinds = record {
 -- ---- a record that is refused
 
 -- the defect that a stream found in the payload after those that were taken
-defect_at : (signal : Signal) (past done rest payloads : List PayloadContent) (p : PayloadContent) (why : ColumnRefusal) (mid : List StreamIn) (i : ℕ) (d : StreamIn)
+defect_at : (signal : Signal) (past done rest payloads : List PayloadIn) (p : PayloadIn) (why : ColumnRefusal) (mid : List StreamIn) (i : ℕ) (d : StreamIn)
     → payloads ≡ done ++ p ∷ rest → kinds_in mid ≡ kinds_of signal → i < length mid
     → (int_eq p.kind (type_of (get_or mid i d).kind) ≡ true) × Stands (get_or mid i d).kind (messages_before (past ++ done) p) p.bytes why
     → StandsInRecord signal past payloads why (Some p.kind)
@@ -102,9 +101,9 @@ a_stream : StreamIn
 a_stream = record { kind = Logs; current = None }
 
 -- where a stream refuses the record of a payload, a defect stands in it, or memory ran out
-pub stops_at : (old mid : List StreamIn) (done rest payloads : List PayloadContent) (p : PayloadContent) (why : ColumnRefusal) (stop : NotTaken)
+pub stops_at : (old mid : List StreamIn) (done rest payloads : List PayloadIn) (p : PayloadIn) (why : ColumnRefusal) (stop : NotTaken)
     → TakesAll old done mid → payloads ≡ done ++ p ∷ rest → OneRefuses mid p why → StopOf why p.kind stop
-    → (signal : Signal) (past : List PayloadContent) → kinds_in old ≡ kinds_of signal → AreAfter past old → Stops (IsOfRecord signal past payloads) stop
+    → (signal : Signal) (past : List PayloadIn) → kinds_in old ≡ kinds_of signal → AreAfter past old → Stops (IsOfRecord signal past payloads) stop
 stops_at old mid done rest payloads p why stop before whole refuses of signal past same are =
     go why of (refuses.refuses a_stream (past ++ done) (before.after past are refuses.i a_stream refuses.inside))
   where

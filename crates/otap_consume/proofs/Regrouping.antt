@@ -1,11 +1,12 @@
 -- What a receiver returns for the next frame, from what its segment returns and from what is found in the rows.
 use Rattle.std.proofs.Common.{◌≡◌, ◌≤◌, ℕ, ℤ, Bool, true, false, List, [], ◌∷◌, ◌++◌, Some, Result, Ok, Err, IfOk, refl, sym, ap, ◌∙◌, subst}
 use Rattle.std.specs.Prelude.{MatchBool}
+use Rattle.lists.specs.Payloads.{PayloadIn}
 use Rattle.otlp_model.specs.Limits.{weight_limit}
 use Rattle.otlp_model.specs.Weight.{weight_of}
 use Rattle.otlp_model.specs.declared.request.Request.{Request}
 use Rattle.otlp_model.specs.declared.request.Signal.{Signal}
-use Rattle.otap_capture.specs.Batch.{BatchContent, PayloadContent, ReadsBatch}
+use Rattle.otap_capture.specs.Batch.{BatchContent, ReadsBatch}
 use Rattle.otap_capture.specs.Capture.{Frame, Message}
 use Rattle.otap_cells.specs.Tables.{Table}
 use Rattle.otap_consume.specs.declared.regrouped.Regrouped.{Regrouped}
@@ -53,7 +54,7 @@ refused_rows (Ok returned) m frame id told rows seg old new (Defect cause payloa
 -- ---- the batch that was accepted last
 
 -- a frame that gives an accepted batch
-pub record GivesBatch (signal : Signal) (past : List PayloadContent) (frame : Frame) (batch : BatchContent) (tables : List Table) : Type 0 where
+pub record GivesBatch (signal : Signal) (past : List PayloadIn) (frame : Frame) (batch : BatchContent) (tables : List Table) : Type 0 where
   pub bytes : List ℕ
   pub message : frame ≡ Message bytes
   pub reads : ReadsBatch bytes batch
@@ -66,7 +67,7 @@ not_broken frame o batch tables is (StaysBroken.unreadable bytes refusal stands)
 not_broken frame o batch tables is (StaysBroken.readable bytes other reads) = cc is
 not_broken frame o batch tables is StaysBroken.resets = cc is
 
-batch_given : (signal : Signal) (past : List PayloadContent) (frame : Frame) (o : Outcome) (batch : BatchContent) (tables : List Table) → o ≡ Accepted batch tables → Gives signal past frame o
+batch_given : (signal : Signal) (past : List PayloadIn) (frame : Frame) (o : Outcome) (batch : BatchContent) (tables : List Table) → o ≡ Accepted batch tables → Gives signal past frame o
     → GivesBatch signal past frame batch tables
 batch_given signal past frame o batch tables is Gives.compressed = absurd (cc is)
 batch_given signal past frame o batch tables is (Gives.unreadable bytes refusal stands) = absurd (cc is)

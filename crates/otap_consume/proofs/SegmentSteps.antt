@@ -6,9 +6,10 @@ use Rattle.std.proofs.lemmas.Bool.{both_ways}
 use Rattle.std.proofs.lemmas.Grind.{flat_map-append}
 use Rattle.std.proofs.lemmas.List.Folds.{list_any-append}
 use Rattle.lists.proofs.Latest.{since-append}
+use Rattle.lists.specs.Payloads.{PayloadIn}
 use Rattle.otlp_model.specs.declared.request.Signal.{Signal}
 use Rattle.otap_capture.specs.declared.batch.BatchRefusal.{BatchRefusal}
-use Rattle.otap_capture.specs.Batch.{BatchContent, PayloadContent, RefusesBatch}
+use Rattle.otap_capture.specs.Batch.{BatchContent, RefusesBatch}
 use Rattle.otap_capture.specs.Capture.{Frame, Message, Packed}
 use Rattle.otap_capture.specs.Capture as capture
 use Rattle.otap_cells.specs.Tables.{Table}
@@ -45,7 +46,7 @@ pub payloads_accepted : (outcomes : List Outcome) (batch : BatchContent) (tables
 unfolding payloads_after
 payloads_accepted outcomes batch tables =
     ap (flat_map payloads_if) (more outcomes (Accepted batch tables) refl) ∙ flat_map-append payloads_if (segment outcomes) (Accepted batch tables ∷ [])
-    ∙ ap (λ (ps : List PayloadContent). flat_map payloads_if (segment outcomes) ++ ps) (append-nil batch.payloads)
+    ∙ ap (λ (ps : List PayloadIn). flat_map payloads_if (segment outcomes) ++ ps) (append-nil batch.payloads)
 
 pub broken_accepted : (outcomes : List Outcome) (batch : BatchContent) (tables : List Table) → is_broken (outcomes ++ Accepted batch tables ∷ []) ≡ is_broken outcomes
 unfolding is_broken
@@ -82,7 +83,7 @@ pub stands_new : (signal : Signal) (outcomes : List Outcome) (s : SegmentIn) →
 stands_new signal outcomes s new = record {
   same = new.same;
   broken = new.whole ∙ sym (broken_reset outcomes);
-  streams = λ whole. subst (λ (ps : List PayloadContent). AreAfter ps s.streams) (sym (payloads_reset outcomes)) new.empty;
+  streams = λ whole. subst (λ (ps : List PayloadIn). AreAfter ps s.streams) (sym (payloads_reset outcomes)) new.empty;
 }
 
 pub stands_first : (signal : Signal) (s : SegmentIn) → IsNew signal s → StandsFor signal [] s
@@ -123,7 +124,7 @@ next_reset old new is = record {
 -- ---- frames whose message can't be read
 
 unread : (frame : Frame) (cause : Cause) (old new : SegmentIn) → new ≡ record old { broken = true } → StaysBroken frame (refused None Broken None)
-    → ((signal : Signal) (past : List PayloadContent) → Gives signal past frame (refused None cause None))
+    → ((signal : Signal) (past : List PayloadIn) → Gives signal past frame (refused None cause None))
     → Next old frame new (seen.Refused (refusal_of None (if old.broken then Broken else cause) None))
 unread frame cause old new is stays gives = record { at = λ signal outcomes stands. go signal outcomes stands old.broken refl }
   where
@@ -165,7 +166,7 @@ next_broken old batch broken = record {
 }
 
 pub next_refused : (old new : SegmentIn) (batch : BatchContent) (cause : Cause) (payload : Option ℤ) → old.broken ≡ false → new.broken ≡ true → new.signal ≡ old.signal
-    → ((past : List PayloadContent) → AreAfter past old.streams → Refuses old.signal past batch.payloads cause payload)
+    → ((past : List PayloadIn) → AreAfter past old.streams → Refuses old.signal past batch.payloads cause payload)
     → NextBatch old batch new (seen.Refused (refusal_of (Some batch.id) cause payload))
 next_refused old new batch cause payload whole broken same refuses = record {
   at = λ bytes reads. record {
@@ -181,12 +182,12 @@ next_refused old new batch cause payload whole broken same refuses = record {
 }
 
 pub next_accepted : (old new : SegmentIn) (batch : BatchContent) (rows : ℕ) → old.broken ≡ false → new.broken ≡ false → new.signal ≡ old.signal
-    → ((past : List PayloadContent) → AreAfter past old.streams → AcceptsAfter old.signal past batch.payloads new.streams rows)
+    → ((past : List PayloadIn) → AreAfter past old.streams → AcceptsAfter old.signal past batch.payloads new.streams rows)
     → NextBatch old batch new (seen.Batch batch.id rows)
 next_accepted old new batch rows whole whole' same accepts = record {
   at = λ bytes reads. record {
     at = λ signal outcomes stands.
-        let past : List PayloadContent = payloads_after outcomes in
+        let past : List PayloadIn = payloads_after outcomes in
         let tables : List Table = tables_of signal past batch.payloads in
         let a : AcceptsAfter signal past batch.payloads new.streams rows
         = subst (λ (s : Signal). AcceptsAfter s past batch.payloads new.streams rows) stands.same (accepts past (stands.streams whole)) in
@@ -197,7 +198,7 @@ next_accepted old new batch rows whole whole' same accepts = record {
           stands = record {
             same = same ∙ stands.same;
             broken = whole' ∙ sym (broken_accepted outcomes batch tables ∙ sym stands.broken ∙ whole);
-            streams = λ _. subst (λ (ps : List PayloadContent). AreAfter ps new.streams) (sym (payloads_accepted outcomes batch tables)) a.after;
+            streams = λ _. subst (λ (ps : List PayloadIn). AreAfter ps new.streams) (sym (payloads_accepted outcomes batch tables)) a.after;
           };
         };
   };
@@ -207,7 +208,7 @@ next_accepted old new batch rows whole whole' same accepts = record {
 
 pub accepted_parts : (old new : SegmentIn) (batch : BatchContent) (rows : ℕ) (signal : Signal) (streams streams' : List StreamIn) → signal ≡ old.signal → streams ≡ old.streams → streams' ≡ new.streams
     → old.broken ≡ false → new.broken ≡ false → new.signal ≡ old.signal
-    → ((past : List PayloadContent) → AreAfter past streams → AcceptsAfter signal past batch.payloads streams' rows) → NextBatch old batch new (seen.Batch batch.id rows)
+    → ((past : List PayloadIn) → AreAfter past streams → AcceptsAfter signal past batch.payloads streams' rows) → NextBatch old batch new (seen.Batch batch.id rows)
 accepted_parts old new batch rows signal streams streams' same are are' whole whole' kept accepts =
     next_accepted old new batch rows whole whole' kept
     (λ past after.
@@ -216,7 +217,7 @@ accepted_parts old new batch rows signal streams streams' same are are' whole wh
 
 refused_parts : (old new : SegmentIn) (batch : BatchContent) (cause : Cause) (payload : Option ℤ) (signal : Signal) (streams : List StreamIn) → signal ≡ old.signal → streams ≡ old.streams
     → old.broken ≡ false → new.broken ≡ true → new.signal ≡ old.signal
-    → ((past : List PayloadContent) → AreAfter past streams → Refuses signal past batch.payloads cause payload)
+    → ((past : List PayloadIn) → AreAfter past streams → Refuses signal past batch.payloads cause payload)
     → NextBatch old batch new (seen.Refused (refusal_of (Some batch.id) cause payload))
 refused_parts old new batch cause payload signal streams same are whole broken kept refuses =
     next_refused old new batch cause payload whole broken kept
@@ -226,7 +227,7 @@ refused_parts old new batch cause payload signal streams same are whole broken k
 -- a batch whose payloads are not taken
 pub stopped_next : {E : Type 0} (r : Result Seen E) (old new : SegmentIn) (batch : BatchContent) (stop : NotTaken) (signal : Signal) (streams : List StreamIn) → signal ≡ old.signal
     → streams ≡ old.streams → old.broken ≡ false → new.broken ≡ true → new.signal ≡ old.signal
-    → ((past : List PayloadContent) → AreAfter past streams → Stops (Refuses signal past batch.payloads) stop) → IfOk r (IsStopped stop batch) → IfOk r (NextBatch old batch new)
+    → ((past : List PayloadIn) → AreAfter past streams → Stops (Refuses signal past batch.payloads) stop) → IfOk r (IsStopped stop batch) → IfOk r (NextBatch old batch new)
 stopped_next (Err e) old new batch stop signal streams same are whole broken kept refuses stopped = tt
 stopped_next (Ok returned) old new batch (Memory e) signal streams same are whole broken kept refuses stopped = absurd stopped
 stopped_next (Ok returned) old new batch (Defect cause payload) signal streams same are whole broken kept refuses stopped =

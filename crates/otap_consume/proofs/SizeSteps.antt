@@ -3,14 +3,14 @@ use Rattle.std.proofs.Common.{◌≡◌, ℕ, ◌*◌, ◌^◌, ◌<◌, ◌≤�
 use Rattle.std.specs.Prelude.{sum_by}
 use Rattle.std.proofs.lemmas.List.Sums.{sum_by-cons}
 use Rattle.otlp_model.specs.declared.request.Signal.{Signal}
-use Rattle.otap_capture.specs.Batch.{PayloadContent}
 use Rattle.otap_cells.specs.declared.payload.Kind.{Kind}
 use Rattle.otap_cells.specs.Cells.{Cell}
 use Rattle.otap_cells.specs.Payload.{kinds_of}
 use Rattle.otap_cells.specs.Tables.{Table}
 use Rattle.otap_cells.specs.Weights.{row_weight_limit, weight_of_row, weight_of_table, weight_of_tables}
 use Rattle.lists.proofs.Latest.{last_after-none}
-use Rattle.otap_columns.specs.Streams.{PayloadIn, of_type, stream_of}
+use Rattle.lists.specs.Payloads.{PayloadIn}
+use Rattle.otap_columns.specs.Streams.{of_type, stream_of}
 use Rattle.otap_columns.specs.Substreams.{held_in, substream_in}
 use Rattle.otap_consume.specs.Defects.{held_after}
 use Rattle.otap_consume.specs.Payloads.{parts_of, type_of, last_in, messages_in}
@@ -41,7 +41,7 @@ too_many_rows tables count is many = omega (arith, tables_weigh tables)
 -- ---- what is held
 
 -- no message is in the sub-stream of a type of which no payload went before
-no_messages : (type : ℤ) (payloads : List PayloadContent) → last_in type payloads ≡ None → messages_in type payloads ≡ []
+no_messages : (type : ℤ) (payloads : List PayloadIn) → last_in type payloads ≡ None → messages_in type payloads ≡ []
 unfolding stream_of
 no_messages type payloads none = rw (last_after-none (of_type type (parts_of payloads)) none) refl
 
@@ -49,7 +49,7 @@ held_nothing : held_in [] ≡ 0
 unfolding held_in substream_in
 held_nothing = refl
 
-held_at : (payloads : List PayloadContent) (kind : Kind) (last : Option PayloadIn) (current : Option OpenIn) → last_in (type_of kind) payloads ≡ last
+held_at : (payloads : List PayloadIn) (kind : Kind) (last : Option PayloadIn) (current : Option OpenIn) → last_in (type_of kind) payloads ≡ last
     → IsOpenAfter payloads kind last current → held_if current ≡ held_in (messages_in (type_of kind) payloads)
 unfolding held_in
 held_at payloads kind None None is h = sym (ap held_in (no_messages (type_of kind) payloads is) ∙ held_nothing)
@@ -57,7 +57,7 @@ held_at payloads kind None (Some current) is h = absurd h
 held_at payloads kind (Some last) None is h = absurd h
 held_at payloads kind (Some last) (Some current) is h = rw h.stands.stands refl
 
-pub held_are : (signal : Signal) (payloads : List PayloadContent) (streams : List StreamIn) → kinds_in streams ≡ kinds_of signal → AreAfter payloads streams
+pub held_are : (signal : Signal) (payloads : List PayloadIn) (streams : List StreamIn) → kinds_in streams ≡ kinds_of signal → AreAfter payloads streams
     → sum_by held_of streams ≡ held_after signal payloads
 unfolding held_after
 held_are signal payloads streams same are =

@@ -1,7 +1,6 @@
 -- The stages of a batch, one after the other.
 use Rattle.std.proofs.Common.{◌≡◌, ℕ, false, List, ◌++◌, Option, Some, ℤ, Result, Ok, Err, IfOk, IfErr, sym, subst}
 use Rattle.otlp_model.specs.declared.request.Signal.{Signal}
-use Rattle.otap_capture.specs.Batch.{PayloadContent}
 use Rattle.otap_cells.specs.Payload.{kinds_of}
 use Rattle.otap_consume.specs.declared.payload_types.TypesRefusal.{TypesRefusal}
 use Rattle.otap_consume.specs.declared.payload_types.TypesRefusal.TheVariants as types
@@ -12,6 +11,7 @@ use Rattle.otap_consume.specs.declared.not_taken.NotTaken.TheVariants.{Defect, M
 use Rattle.otap_consume.specs.Defects.{HasFineList, HasFineRecords, StandsInList, Refuses, is_taken}
 use Rattle.otap_consume.specs.Ids.{ids_of, ids_after}
 use Rattle.lists.specs.EachAfter.{AllAfter}
+use Rattle.lists.specs.Payloads.{PayloadIn}
 use Rattle.otap_consume.specs.PayloadTypes.{HasFineTypes, StandsInTypes}
 use Rattle.otap_consume.specs.Records.{TakesAll, kinds_in}
 use Rattle.otap_consume.specs.Stops.{Stops, IsOfRecord, stop_of_types}
@@ -20,42 +20,42 @@ use Rattle.otap_consume.specs.Taking.{Weighs, StopsBySize, AcceptsAfter}
 use Rattle.otap_consume.proofs.IdSteps.{ids_are}
 
 -- the words of `check_ids` about ids that are free, and about one that is taken
-abbrev pub FreeIds : List StreamIn → List PayloadContent → Type 0
-FreeIds streams payloads = (signal : Signal) (past : List PayloadContent) → ids_of streams ≡ ids_after signal past → AllAfter (λ before p. is_taken signal before p ≡ false) past payloads
+abbrev pub FreeIds : List StreamIn → List PayloadIn → Type 0
+FreeIds streams payloads = (signal : Signal) (past : List PayloadIn) → ids_of streams ≡ ids_after signal past → AllAfter (λ before p. is_taken signal before p ≡ false) past payloads
 
-pub by_types : (signal : Signal) (past payloads : List PayloadContent) (why : TypesRefusal) → StandsInTypes signal payloads why → Stops (Refuses signal past payloads) (stop_of_types why)
+pub by_types : (signal : Signal) (past payloads : List PayloadIn) (why : TypesRefusal) → StandsInTypes signal payloads why → Stops (Refuses signal past payloads) (stop_of_types why)
 by_types signal past payloads (types.PayloadType kind) stands = Refuses.by_list PayloadType (Some kind) stands
 by_types signal past payloads (types.PayloadTwice kind) stands = Refuses.by_list PayloadTwice (Some kind) stands
 
-pub by_ids : (signal : Signal) (past payloads : List PayloadContent) (stop : NotTaken) → Stops (StandsInList signal past payloads) stop → Stops (Refuses signal past payloads) stop
+pub by_ids : (signal : Signal) (past payloads : List PayloadIn) (stop : NotTaken) → Stops (StandsInList signal past payloads) stop → Stops (Refuses signal past payloads) stop
 by_ids signal past payloads (Defect cause payload) stands = Refuses.by_list cause payload stands
 by_ids signal past payloads (Memory e) stands = tt
 
-of_record : (signal : Signal) (past payloads : List PayloadContent) (cause : Cause) (payload : Option ℤ) → HasFineList signal past payloads
+of_record : (signal : Signal) (past payloads : List PayloadIn) (cause : Cause) (payload : Option ℤ) → HasFineList signal past payloads
     → IsOfRecord signal past payloads cause payload → Refuses signal past payloads cause payload
 of_record signal past payloads (Column refusal) payload list stands = Refuses.by_record refusal payload list stands
 of_record signal past payloads _ payload list stands = absurd stands
 
-pub by_records : (signal : Signal) (past payloads : List PayloadContent) (stop : NotTaken) → HasFineList signal past payloads → Stops (IsOfRecord signal past payloads) stop
+pub by_records : (signal : Signal) (past payloads : List PayloadIn) (stop : NotTaken) → HasFineList signal past payloads → Stops (IsOfRecord signal past payloads) stop
     → Stops (Refuses signal past payloads) stop
 by_records signal past payloads (Defect cause payload) list stands = of_record signal past payloads cause payload list stands
 by_records signal past payloads (Memory e) list stands = tt
 
-by_size : (signal : Signal) (past payloads : List PayloadContent) (stop : NotTaken) → HasFineList signal past payloads → HasFineRecords signal past payloads
+by_size : (signal : Signal) (past payloads : List PayloadIn) (stop : NotTaken) → HasFineList signal past payloads → HasFineRecords signal past payloads
     → StopsBySize signal past payloads stop → Stops (Refuses signal past payloads) stop
 by_size signal past payloads (Defect cause payload) list records stands =
     subst (λ (named : Option ℤ). Refuses signal past payloads cause named) (sym stands.0) (Refuses.by_size cause list records stands.1)
 by_size signal past payloads (Memory e) list records stands = tt
 
-module _ (signal : Signal) (payloads : List PayloadContent) (old : List StreamIn) (kinds : kinds_in old ≡ kinds_of signal) (types : HasFineTypes signal payloads)
+module _ (signal : Signal) (payloads : List PayloadIn) (old : List StreamIn) (kinds : kinds_in old ≡ kinds_of signal) (types : HasFineTypes signal payloads)
     (free : FreeIds old payloads) where
   -- the list of payloads is fine after what the streams stand for
-  pub fine_list : (past : List PayloadContent) → AreAfter past old → HasFineList signal past payloads
+  pub fine_list : (past : List PayloadIn) → AreAfter past old → HasFineList signal past payloads
   fine_list past are = record { types = types; ids = free signal past (ids_are signal past old kinds are) }
 
   module _ (new : List StreamIn) (takes : TakesAll old payloads new) where
-    pub accepts_if : (r : Result ℕ NotTaken) → IfOk r (λ rows. (past : List PayloadContent) → AreAfter (past ++ payloads) new → Weighs signal past payloads rows)
-        → IfOk r (λ rows. (past : List PayloadContent) → AreAfter past old → AcceptsAfter signal past payloads new rows)
+    pub accepts_if : (r : Result ℕ NotTaken) → IfOk r (λ rows. (past : List PayloadIn) → AreAfter (past ++ payloads) new → Weighs signal past payloads rows)
+        → IfOk r (λ rows. (past : List PayloadIn) → AreAfter past old → AcceptsAfter signal past payloads new rows)
     accepts_if (Ok rows) weighs = λ past are.
         let after : AreAfter (past ++ payloads) new = takes.after past are in
         let w : Weighs signal past payloads rows = weighs past after in
@@ -66,8 +66,8 @@ module _ (signal : Signal) (payloads : List PayloadContent) (old : List StreamIn
         }
     accepts_if (Err stop) weighs = tt
 
-    pub refuses_if : (r : Result ℕ NotTaken) → IfErr r (λ stop. (past : List PayloadContent) → AreAfter (past ++ payloads) new → StopsBySize signal past payloads stop)
-        → IfErr r (λ stop. (past : List PayloadContent) → AreAfter past old → Stops (Refuses signal past payloads) stop)
+    pub refuses_if : (r : Result ℕ NotTaken) → IfErr r (λ stop. (past : List PayloadIn) → AreAfter (past ++ payloads) new → StopsBySize signal past payloads stop)
+        → IfErr r (λ stop. (past : List PayloadIn) → AreAfter past old → Stops (Refuses signal past payloads) stop)
     refuses_if (Ok rows) stops = tt
     refuses_if (Err stop) stops = λ past are.
         by_size signal past payloads stop (fine_list past are) (takes.reads signal past kinds are) (stops past (takes.after past are))

@@ -5,14 +5,14 @@ use Rattle.std.specs.Ordering.{int_eq}
 use Rattle.std.proofs.lemmas.Bool.{both_ways}
 use Rattle.std.proofs.lemmas.Bool.Decides.{Decides-int_eq}
 use Rattle.std.proofs.lemmas.Slice.Eq.{bytes_eq-Decides}
+use Rattle.lists.specs.Payloads.{PayloadIn}
 use Rattle.arrow_ipc.specs.declared.messages.IpcMessage.{IpcMessage}
 use Rattle.arrow_ipc.specs.Fronts.{front_of}
-use Rattle.otap_capture.specs.Batch.{PayloadContent}
 use Rattle.otap_cells.specs.declared.payload.Kind.{Kind}
 use Rattle.otap_columns.specs.declared.refusal.ColumnRefusal.{ColumnRefusal}
 use Rattle.otap_columns.specs.declared.refusal.ColumnRefusal.TheVariants as refusal
 use Rattle.otap_columns.specs.Records as records
-use Rattle.otap_columns.specs.Streams.{PayloadIn, opens_after, opens}
+use Rattle.otap_columns.specs.Streams.{opens_after, opens}
 use Rattle.otap_columns.specs.Views as views
 use Rattle.otap_columns.specs.Views.{ReaderIn, StandsFor, StandsAt, Shows}
 use Rattle.otap_consume.specs.Defects.{is_id}
@@ -21,7 +21,7 @@ use Rattle.otap_consume.specs.Streams.{OpenIn, StreamIn, IsOpenAfter, IsAfter, T
 use Rattle.otap_consume.proofs.Substreams.{last_in-other, last_in-own, messages_in-other, messages_in-own}
 
 -- what is open stays open after a payload of another type
-moved : (past : List PayloadContent) (p : PayloadContent) (kind : Kind) → int_eq p.kind (type_of kind) ≡ false → (last : Option PayloadIn) (current : Option OpenIn)
+moved : (past : List PayloadIn) (p : PayloadIn) (kind : Kind) → int_eq p.kind (type_of kind) ≡ false → (last : Option PayloadIn) (current : Option OpenIn)
     → IsOpenAfter past kind last current → IsOpenAfter (past ++ p ∷ []) kind last current
 moved past p kind other None None h = tt
 moved past p kind other None (Some current) h = absurd h
@@ -32,7 +32,7 @@ moved past p kind other (Some last) (Some current) h = record {
   shows = h.shows;
 }
 
-pub passes : (s : StreamIn) (p : PayloadContent) → int_eq p.kind (type_of s.kind) ≡ false → Takes s p s
+pub passes : (s : StreamIn) (p : PayloadIn) → int_eq p.kind (type_of s.kind) ≡ false → Takes s p s
 passes s p other = record {
   kind = refl;
   other = λ _. refl;
@@ -45,11 +45,11 @@ passes s p other = record {
 }
 
 -- the payload's type is that of the kind
-same_type : (p : PayloadContent) (kind : Kind) → int_eq p.kind (type_of kind) ≡ true → p.kind ≡ type_of kind
+same_type : (p : PayloadIn) (kind : Kind) → int_eq p.kind (type_of kind) ≡ true → p.kind ≡ type_of kind
 same_type p kind own = (Decides-int_eq p.kind (type_of kind)).0 own
 
 -- where the payload opens, its record stands after no messages; else after those of the sub-stream
-before_open : (past : List PayloadContent) (p : PayloadContent) (kind : Kind) (b : Bool) → p.kind ≡ type_of kind → opens_after (last_in (type_of kind) past) (part_of p) ≡ b
+before_open : (past : List PayloadIn) (p : PayloadIn) (kind : Kind) (b : Bool) → p.kind ≡ type_of kind → opens_after (last_in (type_of kind) past) (part_of p) ≡ b
     → messages_before past p ≡ (if b then [] else messages_in (type_of kind) past)
 unfolding opens
 before_open past p kind b same is =
@@ -57,12 +57,12 @@ before_open past p kind b same is =
     rw (here, same) refl
 
 -- a further record of the sub-stream that is open
-pub record GoesOn (past : List PayloadContent) (p : PayloadContent) (kind : Kind) (current : OpenIn) : Type 0 where
+pub record GoesOn (past : List PayloadIn) (p : PayloadIn) (kind : Kind) (current : OpenIn) : Type 0 where
   pub before : messages_before past p ≡ messages_in (type_of kind) past
   pub after : messages_in (type_of kind) (past ++ p ∷ []) ≡ messages_in (type_of kind) past ++ front_of p.bytes
   pub stands : StandsFor (messages_in (type_of kind) past) current.reader
 
-going : (past : List PayloadContent) (p : PayloadContent) (kind : Kind) (current : OpenIn) → int_eq p.kind (type_of kind) ≡ true → bytes_eq current.schema_id p.schema_id ≡ true
+going : (past : List PayloadIn) (p : PayloadIn) (kind : Kind) (current : OpenIn) → int_eq p.kind (type_of kind) ≡ true → bytes_eq current.schema_id p.schema_id ≡ true
     → (last : Option PayloadIn) → last_in (type_of kind) past ≡ last → IsOpenAfter past kind last (Some current) → GoesOn past p kind current
 going past p kind current own same None is h = absurd h
 going past p kind current own same (Some last) is h =
@@ -74,11 +74,11 @@ going past p kind current own same (Some last) is h =
     }
 
 -- one that opens another sub-stream
-pub record Begins (past : List PayloadContent) (p : PayloadContent) (kind : Kind) : Type 0 where
+pub record Begins (past : List PayloadIn) (p : PayloadIn) (kind : Kind) : Type 0 where
   pub before : messages_before past p ≡ []
   pub after : messages_in (type_of kind) (past ++ p ∷ []) ≡ front_of p.bytes
 
-beginning : (past : List PayloadContent) (p : PayloadContent) (kind : Kind) (current : Option OpenIn) → int_eq p.kind (type_of kind) ≡ true → is_id p.schema_id (id_if current) ≡ false
+beginning : (past : List PayloadIn) (p : PayloadIn) (kind : Kind) (current : Option OpenIn) → int_eq p.kind (type_of kind) ≡ true → is_id p.schema_id (id_if current) ≡ false
     → (last : Option PayloadIn) → last_in (type_of kind) past ≡ last → IsOpenAfter past kind last current → Begins past p kind
 beginning past p kind None own other None is h =
     let opens : opens_after (last_in (type_of kind) past) (part_of p) ≡ true = rw is refl in
@@ -90,7 +90,7 @@ beginning past p kind (Some current) own other (Some last) is h =
     record { before = before_open past p kind true (same_type p kind own) opens; after = messages_in-own (type_of kind) past p own ∙ rw opens refl }
 
 -- the sub-stream that the payload belongs to is open, and read to it
-read_to : (past : List PayloadContent) (p : PayloadContent) (kind : Kind) (id : List ℕ) (reader : ReaderIn) → int_eq p.kind (type_of kind) ≡ true → id ≡ p.schema_id
+read_to : (past : List PayloadIn) (p : PayloadIn) (kind : Kind) (id : List ℕ) (reader : ReaderIn) → int_eq p.kind (type_of kind) ≡ true → id ≡ p.schema_id
     → StandsAt (messages_in (type_of kind) (past ++ p ∷ [])) p.bytes reader → Shows reader p.bytes
     → IsAfter (past ++ p ∷ []) (record { kind = kind; current = Some (record { schema_id = id; reader = reader }) })
 read_to past p kind id reader own same stands shows = record {
@@ -98,12 +98,12 @@ read_to past p kind id reader own same stands shows = record {
       (record { id = same; stands = stands; shows = shows });
 }
 
-pub goes_on : (s : StreamIn) (current : OpenIn) (p : PayloadContent) (kind : Kind) (id : List ℕ) (reader : ReaderIn) → s.kind ≡ kind → s.current ≡ Some current → id ≡ current.schema_id
+pub goes_on : (s : StreamIn) (current : OpenIn) (p : PayloadIn) (kind : Kind) (id : List ℕ) (reader : ReaderIn) → s.kind ≡ kind → s.current ≡ Some current → id ≡ current.schema_id
     → current.reader.kind ≡ s.kind → int_eq p.kind (type_of s.kind) ≡ true → is_id p.schema_id (id_of s) ≡ true → views.Takes current.reader p.bytes reader → Shows reader p.bytes
     → Takes s p (record { kind = kind; current = Some (record { schema_id = id; reader = reader }) })
 goes_on s current p kind id reader kept there same of own has takes shows =
     let named : bytes_eq current.schema_id p.schema_id ≡ true = subst (λ (o : Option OpenIn). is_id p.schema_id (id_if o) ≡ true) there has in
-    let is_open : (past : List PayloadContent) → IsAfter past s → IsOpenAfter past s.kind (last_in (type_of s.kind) past) (Some current)
+    let is_open : (past : List PayloadIn) → IsAfter past s → IsOpenAfter past s.kind (last_in (type_of s.kind) past) (Some current)
     = λ past is. subst (λ (o : Option OpenIn). IsOpenAfter past s.kind (last_in (type_of s.kind) past) o) there is.current in
     subst (λ (k : Kind). Takes s p (record { kind = k; current = Some (record { schema_id = id; reader = reader }) })) kept
     (record {
@@ -120,11 +120,11 @@ goes_on s current p kind id reader kept there same of own has takes shows =
           (subst (λ (ms : List IpcMessage). StandsAt ms p.bytes reader) (sym on.after) (takes (messages_in (type_of s.kind) past) on.stands).1) shows;
     })
 
-pub begins : (s : StreamIn) (p : PayloadContent) (kind : Kind) (id : List ℕ) (reader : ReaderIn) → s.kind ≡ kind → id ≡ p.schema_id → int_eq p.kind (type_of s.kind) ≡ true
+pub begins : (s : StreamIn) (p : PayloadIn) (kind : Kind) (id : List ℕ) (reader : ReaderIn) → s.kind ≡ kind → id ≡ p.schema_id → int_eq p.kind (type_of s.kind) ≡ true
     → is_id p.schema_id (id_of s) ≡ false → records.IsRead kind [] p.bytes → StandsAt (front_of p.bytes) p.bytes reader → Shows reader p.bytes
     → Takes s p (record { kind = kind; current = Some (record { schema_id = id; reader = reader }) })
 begins s p kind id reader kept same own new read stands shows =
-    let opening : (past : List PayloadContent) → IsAfter past s → Begins past p s.kind = λ past is. beginning past p s.kind s.current own new (last_in (type_of s.kind) past) refl is.current in
+    let opening : (past : List PayloadIn) → IsAfter past s → Begins past p s.kind = λ past is. beginning past p s.kind s.current own new (last_in (type_of s.kind) past) refl is.current in
     subst (λ (k : Kind). Takes s p (record { kind = k; current = Some (record { schema_id = id; reader = reader }) })) kept
     (record {
       kind = refl;
@@ -137,7 +137,7 @@ begins s p kind id reader kept same own new read stands shows =
 
 -- ---- refusals
 
-refuses_for : (past : List PayloadContent) (kind : Kind) (p : PayloadContent) (why : ColumnRefusal) → int_eq p.kind (type_of kind) ≡ true
+refuses_for : (past : List PayloadIn) (kind : Kind) (p : PayloadIn) (why : ColumnRefusal) → int_eq p.kind (type_of kind) ≡ true
     → records.Refuses kind (messages_before past p) p.bytes why → RefusesFor past kind p why
 refuses_for past kind p refusal.Order own h = (own, h)
 refuses_for past kind p (refusal.Ipc fault) own h = (own, h)
@@ -147,7 +147,7 @@ refuses_for past kind p refusal.BadIndex own h = (own, h)
 refuses_for past kind p refusal.DictionarySize own h = (own, h)
 refuses_for past kind p (refusal.Memory e) own h = tt
 
-pub goes_on_not : (s : StreamIn) (current : OpenIn) (p : PayloadContent) (why : ColumnRefusal) → s.current ≡ Some current → current.reader.kind ≡ s.kind
+pub goes_on_not : (s : StreamIn) (current : OpenIn) (p : PayloadIn) (why : ColumnRefusal) → s.current ≡ Some current → current.reader.kind ≡ s.kind
     → int_eq p.kind (type_of s.kind) ≡ true → is_id p.schema_id (id_of s) ≡ true
     → ((past : List IpcMessage) → StandsFor past current.reader → records.Refuses current.reader.kind past p.bytes why) → DoesNotTake s p why
 goes_on_not s current p why there of own has refuses past is =
@@ -159,7 +159,7 @@ goes_on_not s current p why there of own has refuses past is =
     (subst (λ (k : Kind). records.Refuses k (messages_before past p) p.bytes why) of
     (subst (λ (ms : List IpcMessage). records.Refuses current.reader.kind ms p.bytes why) (sym on.before) (refuses (messages_in (type_of s.kind) past) on.stands)))
 
-pub begins_not : (s : StreamIn) (p : PayloadContent) (why : ColumnRefusal) (kind : Kind) → s.kind ≡ kind → int_eq p.kind (type_of s.kind) ≡ true
+pub begins_not : (s : StreamIn) (p : PayloadIn) (why : ColumnRefusal) (kind : Kind) → s.kind ≡ kind → int_eq p.kind (type_of s.kind) ≡ true
     → is_id p.schema_id (id_of s) ≡ false → records.Refuses kind [] p.bytes why → DoesNotTake s p why
 begins_not s p why kind kept own new refuses past is =
     refuses_for past s.kind p why own

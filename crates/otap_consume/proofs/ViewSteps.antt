@@ -7,14 +7,13 @@ use Rattle.std.proofs.lemmas.Bool.{cases_Bool, both_ways, ne_eqb, ltb-false}
 use Rattle.std.proofs.lemmas.Bool.Decides.{Decides-int_eq}
 use Rattle.std.proofs.lemmas.List.Elements.{All-from_recursion}
 use Rattle.std.proofs.lemmas.List.Sums.{sum_by-cons, sum_by-append}
+use Rattle.lists.specs.Payloads.{PayloadIn}
 use Rattle.otlp_model.specs.declared.request.Signal.{Signal}
 use Rattle.otlp_model.specs.declared.request.Signal.TheVariants.{Traces, Logs, Metrics}
-use Rattle.otap_capture.specs.Batch.{PayloadContent}
 use Rattle.otap_cells.specs.declared.payload.Kind.{Kind}
 use Rattle.otap_cells.specs.Payload.{number_of, kinds_of, kind_numbered}
 use Rattle.otap_cells.specs.Sets.{IsSet}
 use Rattle.otap_cells.specs.Tables.{Table}
-use Rattle.otap_columns.specs.Streams.{PayloadIn}
 use Rattle.otap_consume.specs.declared.refusal.Cause.{Cause}
 use Rattle.otap_consume.specs.declared.refusal.Cause.TheVariants.{TooManyItems, RowsTooHeavy}
 use Rattle.otap_consume.specs.Limits.{held_limit}
@@ -38,10 +37,10 @@ use Rattle.otap_consume.proofs.Substreams.{last_in-other, last_in-own}
 -- ---- the last payload of a type
 
 -- payloads of other types leave the last one of a type as it was
-last_in-none : (type : ℤ) (xs ys : List PayloadContent) → times type ys ≡ 0 → last_in type (xs ++ ys) ≡ last_in type xs
+last_in-none : (type : ℤ) (xs ys : List PayloadIn) → times type ys ≡ 0 → last_in type (xs ++ ys) ≡ last_in type xs
 last_in-none type xs [] none = ap (last_in type) (append-nil xs)
 last_in-none type xs (y ∷ ys) none =
-    let count : times type (y ∷ ys) ≡ (if int_eq y.kind type then 1 else 0) + times type ys = sum_by-cons (λ (p : PayloadContent). if int_eq p.kind type then 1 else 0) y ys in
+    let count : times type (y ∷ ys) ≡ (if int_eq y.kind type then 1 else 0) + times type ys = sum_by-cons (λ (p : PayloadIn). if int_eq p.kind type then 1 else 0) y ys in
     elim (cases_Bool (int_eq y.kind type)) [
       | inl own ↦ absurd (omega (arith, count ∙ ap (λ b. (if b then 1 else 0) + times type ys) own, none))
       | inr other ↦
@@ -51,11 +50,11 @@ last_in-none type xs (y ∷ ys) none =
     ]
 
 -- a payload whose type stands once is the last one of its type
-pub last_is : (past front rest : List PayloadContent) (p : PayloadContent) → times p.kind (front ++ p ∷ rest) ≤ 1
+pub last_is : (past front rest : List PayloadIn) (p : PayloadIn) → times p.kind (front ++ p ∷ rest) ≤ 1
     → last_in p.kind (past ++ (front ++ p ∷ rest)) ≡ Some (part_of p)
 last_is past front rest p once =
     let own : int_eq p.kind p.kind ≡ true = (Decides-int_eq p.kind p.kind).1 refl in
-    let test : PayloadContent → ℕ = λ q. if int_eq q.kind p.kind then 1 else 0 in
+    let test : PayloadIn → ℕ = λ q. if int_eq q.kind p.kind then 1 else 0 in
     let here : times p.kind (p ∷ rest) ≡ 1 + times p.kind rest = sum_by-cons test p rest ∙ rw own refl in
     let none : times p.kind rest ≡ 0 = omega (arith, sum_by-append test front (p ∷ rest), here, once) in
     ap (last_in p.kind) (sym (append_assoc past front (p ∷ rest)) ∙ sym (append_assoc (past ++ front) (p ∷ []) rest))
@@ -63,23 +62,23 @@ last_is past front rest p once =
 
 -- ---- the stream that shows a payload
 
-at_front : (P : PayloadContent → Type 0) (front rest : List PayloadContent) (p : PayloadContent) → AllByRecursion P (front ++ p ∷ rest) → P p
+at_front : (P : PayloadIn → Type 0) (front rest : List PayloadIn) (p : PayloadIn) → AllByRecursion P (front ++ p ∷ rest) → P p
 at_front P [] rest p all = all.0
 at_front P (q ∷ front) rest p all = at_front P front rest p all.1
 
 -- a payload of those that were taken last is fine
-pub fine_at : (signal : Signal) (payloads front rest : List PayloadContent) (p : PayloadContent) → HasFineTypes signal payloads → payloads ≡ front ++ p ∷ rest → IsFineType signal payloads p
+pub fine_at : (signal : Signal) (payloads front rest : List PayloadIn) (p : PayloadIn) → HasFineTypes signal payloads → payloads ≡ front ++ p ∷ rest → IsFineType signal payloads p
 fine_at signal payloads front rest p types whole =
-    at_front (IsFineType signal payloads) front rest p (subst (λ (ps : List PayloadContent). AllByRecursion (IsFineType signal payloads) ps) whole types)
+    at_front (IsFineType signal payloads) front rest p (subst (λ (ps : List PayloadIn). AllByRecursion (IsFineType signal payloads) ps) whole types)
 
-pub shown_at : (streams : List StreamIn) (payloads front rest : List PayloadContent) (p : PayloadContent) → CanShow streams payloads → payloads ≡ front ++ p ∷ rest → Shown streams p
+pub shown_at : (streams : List StreamIn) (payloads front rest : List PayloadIn) (p : PayloadIn) → CanShow streams payloads → payloads ≡ front ++ p ∷ rest → Shown streams p
 shown_at streams payloads front rest p can whole = known (kind_numbered can.signal p.kind) refl fine.known
   where
     fine : IsFineType can.signal payloads p
     fine = fine_at can.signal payloads front rest p can.types whole
 
     last : last_in p.kind payloads ≡ Some (part_of p)
-    last = ap (last_in p.kind) whole ∙ last_is [] front rest p (subst (λ (ps : List PayloadContent). times p.kind ps ≤ 1) whole fine.once)
+    last = ap (last_in p.kind) whole ∙ last_is [] front rest p (subst (λ (ps : List PayloadIn). times p.kind ps ≤ 1) whole fine.once)
 
     shows : (s : StreamIn) → Finds (is_stream_of p.kind) streams s → ShowsIf s.current p.bytes
     shows s there =
@@ -102,16 +101,16 @@ shown_at streams payloads front rest p can whole = known (kind_numbered can.sign
 
 -- ---- the tables
 
-module _ (signal : Signal) (past payloads : List PayloadContent) (streams : List StreamIn) (same : kinds_in streams ≡ kinds_of signal)
+module _ (signal : Signal) (past payloads : List PayloadIn) (streams : List StreamIn) (same : kinds_in streams ≡ kinds_of signal)
     (are : AreAfter (past ++ payloads) streams) (types : HasFineTypes signal payloads) where
-  table_is : (front rest : List PayloadContent) (p : PayloadContent) (view : Kind × Table) → payloads ≡ front ++ p ∷ rest → IsViewOf streams p view
+  table_is : (front rest : List PayloadIn) (p : PayloadIn) (view : Kind × Table) → payloads ≡ front ++ p ∷ rest → IsViewOf streams p view
       → table_of signal (past ++ payloads) p ≡ Some view.1
   table_is front rest p view whole is =
-      let once : times p.kind (front ++ p ∷ rest) ≤ 1 = subst (λ (ps : List PayloadContent). times p.kind ps ≤ 1) whole (fine_at signal payloads front rest p types whole).once in
-      let last : last_in p.kind (past ++ payloads) ≡ Some (part_of p) = ap (λ (ps : List PayloadContent). last_in p.kind (past ++ ps)) whole ∙ last_is past front rest p once in
+      let once : times p.kind (front ++ p ∷ rest) ≤ 1 = subst (λ (ps : List PayloadIn). times p.kind ps ≤ 1) whole (fine_at signal payloads front rest p types whole).once in
+      let last : last_in p.kind (past ++ payloads) ≡ Some (part_of p) = ap (λ (ps : List PayloadIn). last_in p.kind (past ++ ps)) whole ∙ last_is past front rest p once in
       rw (is.known signal same) (is.table (past ++ payloads) are last)
 
-  tables_from : (front rest : List PayloadContent) (views : List (Kind × Table)) → payloads ≡ front ++ rest → AllZip (IsViewOf streams) rest views
+  tables_from : (front rest : List PayloadIn) (views : List (Kind × Table)) → payloads ≡ front ++ rest → AllZip (IsViewOf streams) rest views
       → map (λ view. view.1) views ≡ filter_map (table_of signal (past ++ payloads)) rest
   tables_from front [] [] whole zip = refl
   tables_from front [] (view ∷ views) whole zip = absurd zip
@@ -127,7 +126,7 @@ module _ (signal : Signal) (past payloads : List PayloadContent) (streams : List
 
 -- ---- each stands beside its kind, and a kind once
 
-beside_from : (streams : List StreamIn) (payloads : List PayloadContent) (views : List (Kind × Table)) → AreViewsOf streams payloads views
+beside_from : (streams : List StreamIn) (payloads : List PayloadIn) (views : List (Kind × Table)) → AreViewsOf streams payloads views
     → AllByRecursion (λ view. view.1.kind ≡ view.0) views
 beside_from streams [] [] zip = tt
 beside_from streams [] (view ∷ views) zip = absurd zip
@@ -135,14 +134,14 @@ beside_from streams (p ∷ payloads) [] zip = absurd zip
 beside_from streams (p ∷ payloads) (view ∷ views) zip = (zip.0.kind, beside_from streams payloads views zip.1)
 
 -- none of these has the type
-others : (streams : List StreamIn) (p : PayloadContent) (view : Kind × Table) (payloads : List PayloadContent) (views : List (Kind × Table)) → type_of view.0 ≡ p.kind
+others : (streams : List StreamIn) (p : PayloadIn) (view : Kind × Table) (payloads : List PayloadIn) (views : List (Kind × Table)) → type_of view.0 ≡ p.kind
     → times p.kind payloads ≡ 0 → AllZip (IsViewOf streams) payloads views → AllByRecursion (λ n. nat_eq (number_of view.0) n ≡ false) (map (λ v. number_of v.0) views)
 others streams p view [] [] type none zip = tt
 others streams p view [] (v ∷ views) type none zip = absurd zip
 others streams p view (q ∷ payloads) [] type none zip = absurd zip
 others streams p view (q ∷ payloads) (v ∷ views) type none zip =
     let count : times p.kind (q ∷ payloads) ≡ (if int_eq q.kind p.kind then 1 else 0) + times p.kind payloads
-    = sum_by-cons (λ (r : PayloadContent). if int_eq r.kind p.kind then 1 else 0) q payloads in
+    = sum_by-cons (λ (r : PayloadIn). if int_eq r.kind p.kind then 1 else 0) q payloads in
     elim (cases_Bool (int_eq q.kind p.kind)) [
       | inl own ↦ absurd (omega (arith, count ∙ ap (λ b. (if b then 1 else 0) + times p.kind payloads) own, none))
       | inr other ↦ (
@@ -152,21 +151,21 @@ others streams p view (q ∷ payloads) (v ∷ views) type none zip =
       )
     ]
 
-distinct_from : (signal : Signal) (streams : List StreamIn) (payloads front rest : List PayloadContent) (views : List (Kind × Table)) → HasFineTypes signal payloads
+distinct_from : (signal : Signal) (streams : List StreamIn) (payloads front rest : List PayloadIn) (views : List (Kind × Table)) → HasFineTypes signal payloads
     → payloads ≡ front ++ rest → AllZip (IsViewOf streams) rest views → IsDistinct nat_eq (map (λ view. number_of view.0) views)
 unfolding IsDistinct
 distinct_from signal streams payloads front [] [] types whole zip = tt
 distinct_from signal streams payloads front [] (view ∷ views) types whole zip = absurd zip
 distinct_from signal streams payloads front (p ∷ rest) [] types whole zip = absurd zip
 distinct_from signal streams payloads front (p ∷ rest) (view ∷ views) types whole zip =
-    let test : PayloadContent → ℕ = λ q. if int_eq q.kind p.kind then 1 else 0 in
+    let test : PayloadIn → ℕ = λ q. if int_eq q.kind p.kind then 1 else 0 in
     let once : times p.kind payloads ≤ 1 = (fine_at signal payloads front rest p types whole).once in
     let own : int_eq p.kind p.kind ≡ true = (Decides-int_eq p.kind p.kind).1 refl in
     let here : times p.kind (p ∷ rest) ≡ 1 + times p.kind rest = sum_by-cons test p rest ∙ rw own refl in
     let none : times p.kind rest ≡ 0 = omega (arith, sum_by-append test front (p ∷ rest), here, ap (times p.kind) whole, once) in
     (others streams p view rest views zip.0.type none zip.1, distinct_from signal streams payloads (front ++ p ∷ []) rest views types (whole ∙ sym (append_assoc front (p ∷ []) rest)) zip.1)
 
-pub set_of : (signal : Signal) (streams : List StreamIn) (payloads : List PayloadContent) (views : List (Kind × Table)) → HasFineTypes signal payloads → AreViewsOf streams payloads views
+pub set_of : (signal : Signal) (streams : List StreamIn) (payloads : List PayloadIn) (views : List (Kind × Table)) → HasFineTypes signal payloads → AreViewsOf streams payloads views
     → IsSet (λ table. table) views
 set_of signal streams payloads views types zip = record {
   beside = All-from_recursion (λ (view : Kind × Table). view.1.kind ≡ view.0) views (beside_from streams payloads views zip);
@@ -186,13 +185,13 @@ one_signal Logs Metrics same = absurd (cc same)
 one_signal Metrics Traces same = absurd (cc same)
 one_signal Metrics Logs same = absurd (cc same)
 
-pub views_tables : (signal : Signal) (past payloads : List PayloadContent) (streams : List StreamIn) (views : List (Kind × Table)) → kinds_in streams ≡ kinds_of signal
+pub views_tables : (signal : Signal) (past payloads : List PayloadIn) (streams : List StreamIn) (views : List (Kind × Table)) → kinds_in streams ≡ kinds_of signal
     → AreAfter (past ++ payloads) streams → CanShow streams payloads → AreViewsOf streams payloads views → map (λ view. view.1) views ≡ tables_of signal past payloads
 views_tables signal past payloads streams views kinds are can zip =
     let types : HasFineTypes signal payloads = subst (λ (x : Signal). HasFineTypes x payloads) (one_signal can.signal signal (sym can.kinds ∙ kinds)) can.types in
     tables_are signal past payloads streams kinds are types views zip
 
-pub gives_tables : (s : SegmentIn) (payloads : List PayloadContent) (views : List (Kind × Table)) → kinds_in s.streams ≡ kinds_of s.signal → s.broken ≡ false
+pub gives_tables : (s : SegmentIn) (payloads : List PayloadIn) (views : List (Kind × Table)) → kinds_in s.streams ≡ kinds_of s.signal → s.broken ≡ false
     → CanShow s.streams payloads → AreViewsOf s.streams payloads views → TablesOf s payloads views
 gives_tables s payloads views kinds whole can zip = record {
   set = set_of can.signal s.streams payloads views can.types zip;
@@ -201,8 +200,8 @@ gives_tables s payloads views kinds whole can zip = record {
       let is : s.signal ≡ signal = stands.same in
       let kinds' : kinds_in s.streams ≡ kinds_of signal = kinds ∙ ap kinds_of is in
       let are : AreAfter (payloads_after outcomes ++ payloads) s.streams
-      = subst (λ (ps : List PayloadContent). AreAfter ps s.streams)
-      (payloads_accepted outcomes batch before ∙ ap (λ (ps : List PayloadContent). payloads_after outcomes ++ ps) same) (stands.streams whole) in
+      = subst (λ (ps : List PayloadIn). AreAfter ps s.streams)
+      (payloads_accepted outcomes batch before ∙ ap (λ (ps : List PayloadIn). payloads_after outcomes ++ ps) same) (stands.streams whole) in
       views_tables signal (payloads_after outcomes) payloads s.streams views kinds' are can zip;
 }
 
@@ -213,7 +212,7 @@ too_large signal tables these held TooManyItems same past = subst (λ (ts : List
 too_large signal tables these held RowsTooHeavy same past = subst (λ (ts : List Table). IsTooLarge signal ts held RowsTooHeavy) same past
 too_large signal tables these held _ same past = absurd past
 
-pub weighs : (signal : Signal) (past payloads : List PayloadContent) (streams : List StreamIn) (views : List (Kind × Table)) (weight : ℕ) → kinds_in streams ≡ kinds_of signal
+pub weighs : (signal : Signal) (past payloads : List PayloadIn) (streams : List StreamIn) (views : List (Kind × Table)) (weight : ℕ) → kinds_in streams ≡ kinds_of signal
     → AreAfter (past ++ payloads) streams → CanShow streams payloads → AreViewsOf streams payloads views → WithinLimits signal (map (λ view. view.1) views) weight
     → nat_lt held_limit (sum_by held_of streams) ≡ false → Weighs signal past payloads weight
 weighs signal past payloads streams views weight kinds are can zip within light =

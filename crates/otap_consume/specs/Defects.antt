@@ -4,8 +4,8 @@ use Rattle.std.specs.List.{list_any, filter_map}
 use Rattle.std.specs.Ordering.{int_eq}
 use Rattle.otlp_model.specs.Limits.{item_limit}
 use Rattle.lists.specs.EachAfter.{AllAfter}
+use Rattle.lists.specs.Payloads.{PayloadIn}
 use Rattle.otlp_model.specs.declared.request.Signal.{Signal}
-use Rattle.otap_capture.specs.Batch.{PayloadContent}
 use Rattle.otap_cells.specs.declared.payload.Kind.{Kind}
 use Rattle.otap_cells.specs.Payload.{kinds_of, kind_numbered, main_of}
 use Rattle.otap_cells.specs.Sets.{rows_named}
@@ -28,36 +28,36 @@ abbrev pub is_id : List ℕ → Option (List ℕ) → Bool
 is_id id None = false
 is_id id (Some current) = bytes_eq current id
 
-abbrev pub is_open_for : List PayloadContent → PayloadContent → Kind → Bool
+abbrev pub is_open_for : List PayloadIn → PayloadIn → Kind → Bool
 is_open_for before p kind = not (int_eq p.kind (type_of kind)) && is_id p.schema_id (id_in (type_of kind) before)
 
-abbrev pub is_taken : Signal → List PayloadContent → PayloadContent → Bool
+abbrev pub is_taken : Signal → List PayloadIn → PayloadIn → Bool
 is_taken signal before p = list_any (is_open_for before p) (kinds_of signal)
 
 -- the id of one of the payloads is taken; the payload has this type
-pub record HasTakenId (signal : Signal) (past payloads : List PayloadContent) (type : ℤ) : Type 0 where
-  pub p : PayloadContent
+pub record HasTakenId (signal : Signal) (past payloads : List PayloadIn) (type : ℤ) : Type 0 where
+  pub p : PayloadIn
   pub has : HasPayload payloads p
   pub taken : is_taken signal (past ++ has.before) p ≡ true
   pub of : p.kind ≡ type
 
 -- what is wrong with the list, by the cause and the type that is named
-abbrev pub StandsInList : Signal → List PayloadContent → List PayloadContent → Cause → Option ℤ → Type 0
+abbrev pub StandsInList : Signal → List PayloadIn → List PayloadIn → Cause → Option ℤ → Type 0
 StandsInList signal past payloads PayloadType (Some type) = StandsInTypes signal payloads (types.PayloadType type)
 StandsInList signal past payloads PayloadTwice (Some type) = StandsInTypes signal payloads (types.PayloadTwice type)
 StandsInList signal past payloads SchemaIdTaken (Some type) = HasTakenId signal past payloads type
 StandsInList signal past payloads cause payload = ⊥
 
 -- nothing is
-pub record HasFineList (signal : Signal) (past payloads : List PayloadContent) : Type 0 where
+pub record HasFineList (signal : Signal) (past payloads : List PayloadIn) : Type 0 where
   pub types : HasFineTypes signal payloads
   pub ids : AllAfter (λ before p. is_taken signal before p ≡ false) past payloads
 
 -- ---- the records, each read after the messages of its sub-stream
 
 -- the record of one of the payloads has a defect; the type of the payload is named
-pub record StandsInRecord (signal : Signal) (past payloads : List PayloadContent) (refusal : ColumnRefusal) (payload : Option ℤ) : Type 0 where
-  pub p : PayloadContent
+pub record StandsInRecord (signal : Signal) (past payloads : List PayloadIn) (refusal : ColumnRefusal) (payload : Option ℤ) : Type 0 where
+  pub p : PayloadIn
   pub has : HasPayload payloads p
   pub kind : Kind
   pub known : kind_numbered signal p.kind ≡ Some kind
@@ -65,35 +65,35 @@ pub record StandsInRecord (signal : Signal) (past payloads : List PayloadContent
   pub named : payload ≡ Some p.kind
 
 -- none has one
-abbrev pub IsReadAfter : Signal → List PayloadContent → PayloadContent → Type 0
+abbrev pub IsReadAfter : Signal → List PayloadIn → PayloadIn → Type 0
 IsReadAfter signal before p = (kind : Kind) → kind_numbered signal p.kind ≡ Some kind → IsRead kind (messages_before before p) p.bytes
 
-abbrev pub HasFineRecords : Signal → List PayloadContent → List PayloadContent → Type 0
+abbrev pub HasFineRecords : Signal → List PayloadIn → List PayloadIn → Type 0
 HasFineRecords signal past payloads = AllAfter (IsReadAfter signal) past payloads
 
 -- ---- payloads that were taken, so that others can come after them
 
 -- a payload of one of the signal's types, read after those before it
-pub record IsTakenAfter (signal : Signal) (before : List PayloadContent) (p : PayloadContent) : Type 0 where
+pub record IsTakenAfter (signal : Signal) (before : List PayloadIn) (p : PayloadIn) : Type 0 where
   pub kind : Kind
   pub known : kind_numbered signal p.kind ≡ Some kind
   pub read : IsRead kind (messages_before before p) p.bytes
 
-abbrev pub AreTaken : Signal → List PayloadContent → Type 0
+abbrev pub AreTaken : Signal → List PayloadIn → Type 0
 AreTaken signal payloads = AllAfter (IsTakenAfter signal) [] payloads
 
 -- ---- the tables that the payloads stand for, and what all sub-streams hold
 
 -- the table of a payload, after all payloads
-abbrev pub table_of : Signal → List PayloadContent → PayloadContent → Option Table
+abbrev pub table_of : Signal → List PayloadIn → PayloadIn → Option Table
 table_of signal all p = option_and_then (λ kind. logical kind (messages_in p.kind all)) (kind_numbered signal p.kind)
 
 -- THE LOGICAL TABLES of a batch, one for each payload, in the order of the payloads
-unfoldable pub tables_of : Signal → List PayloadContent → List PayloadContent → List Table
+unfoldable pub tables_of : Signal → List PayloadIn → List PayloadIn → List Table
 tables_of signal past payloads = filter_map (table_of signal (past ++ payloads)) payloads
 
 -- THE HELD WEIGHT: that of all dictionaries of all sub-streams that are open
-unfoldable pub held_after : Signal → List PayloadContent → ℕ
+unfoldable pub held_after : Signal → List PayloadIn → ℕ
 held_after signal payloads = sum_by (λ kind. held_in (messages_in (type_of kind) payloads)) (kinds_of signal)
 
 -- a batch is too large as a whole: its main table has too many rows, its rows weigh too much, or too much is held after it
@@ -112,7 +112,7 @@ pub record IsWithinLimits (signal : Signal) (tables : List Table) (held : ℕ) :
 -- ---- stage by stage
 
 -- THE PAYLOADS ARE REFUSED, by the first stage in which something is wrong: the list, then the records, then the whole
-pub data Refuses (signal : Signal) (past payloads : List PayloadContent) : Cause → Option ℤ → Type 0 where
+pub data Refuses (signal : Signal) (past payloads : List PayloadIn) : Cause → Option ℤ → Type 0 where
   by_list : (cause : Cause) (payload : Option ℤ) → StandsInList signal past payloads cause payload → Refuses signal past payloads cause payload
   by_record : (refusal : ColumnRefusal) (payload : Option ℤ) → HasFineList signal past payloads → StandsInRecord signal past payloads refusal payload
       → Refuses signal past payloads (Column refusal) payload
@@ -120,11 +120,11 @@ pub data Refuses (signal : Signal) (past payloads : List PayloadContent) : Cause
       → IsTooLarge signal (tables_of signal past payloads) (held_after signal (past ++ payloads)) cause → Refuses signal past payloads cause None
 
 -- THE PAYLOADS ARE ACCEPTED: nothing is wrong in any stage
-pub record Accepts (signal : Signal) (past payloads : List PayloadContent) : Type 0 where
+pub record Accepts (signal : Signal) (past payloads : List PayloadIn) : Type 0 where
   pub list : HasFineList signal past payloads
   pub records : HasFineRecords signal past payloads
   pub size : IsWithinLimits signal (tables_of signal past payloads) (held_after signal (past ++ payloads))
 
 -- they are one or the other
-abbrev pub AreJudged : Signal → List PayloadContent → List PayloadContent → Type 0
+abbrev pub AreJudged : Signal → List PayloadIn → List PayloadIn → Type 0
 AreJudged signal past payloads = Accepts signal past payloads ⊎ ((cause : Cause) × (payload : Option ℤ) × Refuses signal past payloads cause payload)

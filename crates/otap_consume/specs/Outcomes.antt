@@ -3,10 +3,11 @@ use Rattle.std.specs.Prelude.{◌⊎◌, ⊤, ℕ, ℤ, Bool, true, false, List,
 use Rattle.std.specs.List.{flat_map, list_any}
 use Rattle.lists.specs.EachAfter.{EachAfter}
 use Rattle.lists.specs.Since.{since}
+use Rattle.lists.specs.Payloads.{PayloadIn}
 use Rattle.otlp_model.specs.declared.request.Signal.{Signal}
 use Rattle.otap_capture.specs.declared.batch.BatchRefusal.{BatchRefusal}
 use Rattle.otap_capture.specs.declared.batch.BatchRefusal.TheVariants as unread
-use Rattle.otap_capture.specs.Batch.{BatchContent, PayloadContent, ReadsBatch, RefusesBatch}
+use Rattle.otap_capture.specs.Batch.{BatchContent, ReadsBatch, RefusesBatch}
 use Rattle.otap_capture.specs.Capture.{Frame, Message, Packed}
 use Rattle.otap_capture.specs.Capture as capture
 use Rattle.otap_cells.specs.Tables.{Table}
@@ -63,7 +64,7 @@ is_refused (Accepted batch tables) = false
 is_refused (Refused refusal) = true
 is_refused Reset = false
 
-abbrev pub payloads_if : Outcome → List PayloadContent
+abbrev pub payloads_if : Outcome → List PayloadIn
 payloads_if (Accepted batch tables) = batch.payloads
 payloads_if (Refused refusal) = []
 payloads_if Reset = []
@@ -77,13 +78,13 @@ unfoldable pub is_broken : List Outcome → Bool
 is_broken outcomes = list_any is_refused (segment outcomes)
 
 -- the payloads of the accepted batches of the segment, in order
-unfoldable pub payloads_after : List Outcome → List PayloadContent
+unfoldable pub payloads_after : List Outcome → List PayloadIn
 payloads_after outcomes = flat_map payloads_if (segment outcomes)
 
 -- ---- outcomes
 
 -- WHAT A FRAME GIVES after these payloads of the accepted batches of its segment, of which no frame was refused
-pub data Gives (signal : Signal) (past : List PayloadContent) : Frame → Outcome → Type 0 where
+pub data Gives (signal : Signal) (past : List PayloadIn) : Frame → Outcome → Type 0 where
   compressed : Gives signal past Packed (refused None Compressed None)
   unreadable : (bytes : List ℕ) (refusal : BatchRefusal) → RefusesBatch bytes refusal → Gives signal past (Message bytes) (refused None (unread_cause refusal) None)
   refuses : (bytes : List ℕ) (batch : BatchContent) (cause : Cause) (payload : Option ℤ) → ReadsBatch bytes batch

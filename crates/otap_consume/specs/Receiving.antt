@@ -2,8 +2,9 @@
 -- stage refuses it.
 use Rattle.std.specs.Prelude.{◌≡◌, ℕ, ℤ, List, [], Option, None, Some}
 use Rattle.lists.specs.EachAfter.{EachAfter}
+use Rattle.lists.specs.Payloads.{PayloadIn}
 use Rattle.otap_capture.specs.declared.batch.BatchRefusal.{BatchRefusal}
-use Rattle.otap_capture.specs.Batch.{BatchContent, PayloadContent, ReadsBatch, RefusesBatch}
+use Rattle.otap_capture.specs.Batch.{BatchContent, ReadsBatch, RefusesBatch}
 use Rattle.otap_capture.specs.Capture.{Frame, Message, Packed}
 use Rattle.otap_cells.specs.Tables.{Table}
 use Rattle.otap_consume.specs.declared.refusal.Cause.{Cause}
@@ -35,7 +36,7 @@ Received m frames outcomes = EachAfter (λ past before frame outcome. ReceivedAf
 
 -- WHAT IS WRONG WITH A FRAME after these payloads of the accepted batches of its segment, by cause and payload type; in a stage
 -- something is wrong only where nothing is in an earlier one
-pub data HasDefect (m : Meaning) (past : List PayloadContent) : Frame → Cause → Option ℤ → Type 0 where
+pub data HasDefect (m : Meaning) (past : List PayloadIn) : Frame → Cause → Option ℤ → Type 0 where
   compressed : HasDefect m past Packed Compressed None
   unreadable : (bytes : List ℕ) (refusal : BatchRefusal) → RefusesBatch bytes refusal → HasDefect m past (Message bytes) (unread_cause refusal) None
   early : (bytes : List ℕ) (batch : BatchContent) (cause : Cause) (payload : Option ℤ) → ReadsBatch bytes batch → Refuses m.signal past batch.payloads cause payload
@@ -44,7 +45,7 @@ pub data HasDefect (m : Meaning) (past : List PayloadContent) : Frame → Cause 
       → StandsInRows m (tables_of m.signal past batch.payloads) cause payload → HasDefect m past (Message bytes) cause payload
 
 -- A FRAME IS IN THE FORMAT: it is a message with which nothing is wrong in any stage
-pub record IsInFormat (m : Meaning) (past : List PayloadContent) (frame : Frame) : Type 0 where
+pub record IsInFormat (m : Meaning) (past : List PayloadIn) (frame : Frame) : Type 0 where
   pub bytes : List ℕ
   pub message : frame ≡ Message bytes
   pub fine : (cause : Cause) (payload : Option ℤ) → HasDefect m past frame cause payload → ⊥

@@ -1,7 +1,8 @@
 -- A segment: the sub-streams that are open, or that an earlier frame was refused.
 use Rattle.std.specs.Prelude.{◌≡◌, ⊤, ℕ, Bool, false, List, [], ◌∷◌, ◌++◌, length, All}
+use Rattle.lists.specs.Payloads.{PayloadIn}
 use Rattle.otlp_model.specs.declared.request.Signal.{Signal}
-use Rattle.otap_capture.specs.Batch.{BatchContent, PayloadContent, ReadsBatch}
+use Rattle.otap_capture.specs.Batch.{BatchContent, ReadsBatch}
 use Rattle.otap_capture.specs.Capture.{Frame, Message}
 use Rattle.otap_cells.specs.declared.payload.Kind.{Kind}
 use Rattle.otap_cells.specs.Payload.{kinds_of}
@@ -46,7 +47,7 @@ pub record Next (old : SegmentIn) (frame : Frame) (new : SegmentIn) (returned : 
   pub at : (signal : Signal) (outcomes : List Outcome) → StandsFor signal outcomes old → HasNext signal outcomes frame returned new
 
 -- the streams show the records of these payloads: of each type there is one, and it was taken last
-pub record CanShow (streams : List StreamIn) (payloads : List PayloadContent) : Type 0 where
+pub record CanShow (streams : List StreamIn) (payloads : List PayloadIn) : Type 0 where
   pub signal : Signal
   pub kinds : kinds_in streams ≡ kinds_of signal
   pub types : HasFineTypes signal payloads
@@ -68,12 +69,12 @@ abbrev pub TakesIf : Frame → SegmentIn → Seen → Type 0
 TakesIf frame s (seen.Batch id rows) = IsTaken frame s
 TakesIf frame s returned = ⊤
 
-abbrev pub ShowsIf : List PayloadContent → SegmentIn → Seen → Type 0
+abbrev pub ShowsIf : List PayloadIn → SegmentIn → Seen → Type 0
 ShowsIf payloads s (seen.Batch id rows) = (s.broken ≡ false) × CanShow s.streams payloads
 ShowsIf payloads s returned = ⊤
 
 -- the tables of the payloads that were taken last, each beside its kind: wherever these are those of the last batch
-pub record TablesOf (s : SegmentIn) (payloads : List PayloadContent) (views : List (Kind × Table)) : Type 0 where
+pub record TablesOf (s : SegmentIn) (payloads : List PayloadIn) (views : List (Kind × Table)) : Type 0 where
   pub set : IsSet (λ table. table) views
   pub long : length views ≡ length payloads
   pub tables : (signal : Signal) (outcomes : List Outcome) (batch : BatchContent) (before : List Table) → batch.payloads ≡ payloads

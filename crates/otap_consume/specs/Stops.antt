@@ -1,7 +1,7 @@
 -- The results of the stages, in the words of private contracts.
 use Rattle.std.specs.Prelude.{◌≡◌, ⊤, ℤ, List, None, Some, Option}
+use Rattle.lists.specs.Payloads.{PayloadIn}
 use Rattle.otlp_model.specs.declared.request.Signal.{Signal}
-use Rattle.otap_capture.specs.Batch.{PayloadContent}
 use Rattle.otap_columns.specs.declared.refusal.ColumnRefusal.{ColumnRefusal}
 use Rattle.otap_columns.specs.declared.refusal.ColumnRefusal.TheVariants as refusal
 use Rattle.otap_consume.specs.declared.refusal.Cause.{Cause}
@@ -19,7 +19,7 @@ Stops D (Defect cause payload) = D cause payload
 Stops D (Memory e) = ⊤
 
 -- a defect of a record is named by its column refusal
-abbrev pub IsOfRecord : Signal → List PayloadContent → List PayloadContent → Cause → Option ℤ → Type 0
+abbrev pub IsOfRecord : Signal → List PayloadIn → List PayloadIn → Cause → Option ℤ → Type 0
 IsOfRecord signal past payloads (Column refusal) payload = StandsInRecord signal past payloads refusal payload
 IsOfRecord signal past payloads cause payload = ⊥
 

@@ -1,7 +1,8 @@
 -- How the payloads of a batch are taken, in the words of private contracts.
 use Rattle.std.specs.Prelude.{◌≡◌, ℕ, List, ◌++◌, Some}
+use Rattle.lists.specs.Payloads.{PayloadIn}
 use Rattle.otlp_model.specs.declared.request.Signal.{Signal}
-use Rattle.otap_capture.specs.Batch.{BatchContent, PayloadContent, ReadsBatch}
+use Rattle.otap_capture.specs.Batch.{BatchContent, ReadsBatch}
 use Rattle.otap_capture.specs.Capture.{Message}
 use Rattle.otap_cells.specs.Weights.{weight_of_tables}
 use Rattle.otap_consume.specs.declared.seen.Seen.{Seen}
@@ -15,16 +16,16 @@ use Rattle.otap_consume.specs.Stops.{Stops, IsOfSize}
 use Rattle.otap_consume.specs.Streams.{StreamIn, AreAfter}
 
 -- as a whole the payloads are within the limits, and have this weight
-pub record Weighs (signal : Signal) (past payloads : List PayloadContent) (weight : ℕ) : Type 0 where
+pub record Weighs (signal : Signal) (past payloads : List PayloadIn) (weight : ℕ) : Type 0 where
   pub within : IsWithinLimits signal (tables_of signal past payloads) (held_after signal (past ++ payloads))
   pub rows : weight ≡ weight_of_tables (tables_of signal past payloads)
 
 -- or they aren't
-abbrev pub StopsBySize : Signal → List PayloadContent → List PayloadContent → NotTaken → Type 0
+abbrev pub StopsBySize : Signal → List PayloadIn → List PayloadIn → NotTaken → Type 0
 StopsBySize signal past payloads = Stops (IsOfSize (IsTooLarge signal (tables_of signal past payloads) (held_after signal (past ++ payloads))))
 
 -- the payloads are accepted after these, and have this weight
-pub record AcceptsAfter (signal : Signal) (past payloads : List PayloadContent) (new : List StreamIn) (weight : ℕ) : Type 0 where
+pub record AcceptsAfter (signal : Signal) (past payloads : List PayloadIn) (new : List StreamIn) (weight : ℕ) : Type 0 where
   pub accepts : Accepts signal past payloads
   pub after : AreAfter (past ++ payloads) new
   pub rows : weight ≡ weight_of_tables (tables_of signal past payloads)

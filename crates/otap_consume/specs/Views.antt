@@ -2,8 +2,8 @@
 use Rattle.std.specs.Prelude.{◌≡◌, ℤ, Bool, List, Option, Some, None, find}
 use Rattle.std.specs.List.{AllZip}
 use Rattle.std.specs.Ordering.{int_eq}
+use Rattle.lists.specs.Payloads.{PayloadIn}
 use Rattle.otlp_model.specs.declared.request.Signal.{Signal}
-use Rattle.otap_capture.specs.Batch.{PayloadContent}
 use Rattle.otap_cells.specs.declared.payload.Kind.{Kind}
 use Rattle.otap_cells.specs.Payload.{kinds_of, kind_numbered}
 use Rattle.otap_cells.specs.Tables.{Table}
@@ -13,24 +13,24 @@ use Rattle.otap_consume.specs.Records.{kinds_in}
 use Rattle.otap_consume.specs.Streams.{StreamIn, AreAfter, ShowsIf}
 
 -- the stream of a type shows the record of a payload
-abbrev pub ShownBy : Option StreamIn → PayloadContent → Type 0
+abbrev pub ShownBy : Option StreamIn → PayloadIn → Type 0
 ShownBy None p = ⊥
 ShownBy (Some s) p = ShowsIf s.current p.bytes
 
 abbrev pub is_stream_of : ℤ → StreamIn → Bool
 is_stream_of type s = int_eq type (type_of s.kind)
 
-abbrev pub Shown : List StreamIn → PayloadContent → Type 0
+abbrev pub Shown : List StreamIn → PayloadIn → Type 0
 Shown streams p = ShownBy (find (is_stream_of p.kind) streams) p
 
 -- a table beside its kind is that of a payload, wherever the payload is the last one of its type
-pub record IsViewOf (streams : List StreamIn) (p : PayloadContent) (view : Kind × Table) : Type 0 where
+pub record IsViewOf (streams : List StreamIn) (p : PayloadIn) (view : Kind × Table) : Type 0 where
   pub type : type_of view.0 ≡ p.kind
   pub kind : view.1.kind ≡ view.0
   pub known : (signal : Signal) → kinds_in streams ≡ kinds_of signal → kind_numbered signal p.kind ≡ Some view.0
-  pub table : (payloads : List PayloadContent) → AreAfter payloads streams → last_in p.kind payloads ≡ Some (part_of p)
+  pub table : (payloads : List PayloadIn) → AreAfter payloads streams → last_in p.kind payloads ≡ Some (part_of p)
       → logical view.0 (messages_in p.kind payloads) ≡ Some view.1
 
 -- each of these is that of its payload
-abbrev pub AreViewsOf : List StreamIn → List PayloadContent → List (Kind × Table) → Type 0
+abbrev pub AreViewsOf : List StreamIn → List PayloadIn → List (Kind × Table) → Type 0
 AreViewsOf streams payloads views = AllZip (IsViewOf streams) payloads views

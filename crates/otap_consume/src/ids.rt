@@ -1,9 +1,10 @@
 //! The schema ids of the payloads of a batch.
 ghost use Rattle.std.specs.Prelude.{◌≡◌, List, IfOk, IfErr, OnOk, map, false};
 ghost use Rattle.otlp_model.specs.declared.request.Signal.{Signal};
-ghost use Rattle.otap_capture.specs.Batch.{PayloadContent, content_of};
+ghost use Rattle.otap_capture.specs.Batch.{content_of};
 ghost use Rattle.otap_consume.specs.Defects.{StandsInList, is_id, is_taken};
 ghost use Rattle.lists.specs.EachAfter.{AllAfter};
+ghost use Rattle.lists.specs.Payloads.{PayloadIn};
 ghost use Rattle.otap_consume.specs.Ids.{ids_of, ids_after, has_other, is_other, opened};
 ghost use Rattle.otap_consume.specs.IdsInside.{open_id_in};
 ghost use Rattle.otap_consume.specs.Stops.{Stops};
@@ -21,9 +22,9 @@ pub(crate) fn check_ids(
     streams: &[Stream],
     batch: &Batch<'_>,
 ) -> Result<(), NotTaken>
-    ensures free { OnOk result ((signal : Signal) (past : List PayloadContent) → ids_of streams.now ≡ ids_after signal past
+    ensures free { OnOk result ((signal : Signal) (past : List PayloadIn) → ids_of streams.now ≡ ids_after signal past
         → AllAfter (λ before p. is_taken signal before p ≡ false) past batch.now.payloads) }
-    ensures stops { IfErr result (λ stop. (signal : Signal) (past : List PayloadContent) → ids_of streams.now ≡ ids_after signal past
+    ensures stops { IfErr result (λ stop. (signal : Signal) (past : List PayloadIn) → ids_of streams.now ≡ ids_after signal past
         → Stops (StandsInList signal past batch.now.payloads) stop) }
 {
     let mut ids = OpenIds::of(alloc, streams)?;

@@ -1,7 +1,7 @@
 //! What the definitions say of one another. The functions do nothing: their contracts are the laws.
 
 ghost use Rattle.std.specs.Prelude.{◌≡◌, ℤ, List, Option};
-ghost use Rattle.otap_capture.specs.Batch.{PayloadContent};
+ghost use Rattle.lists.specs.Payloads.{PayloadIn};
 ghost use Rattle.otap_capture.specs.Capture.{Frame};
 ghost use Rattle.otap_consume.specs.declared.refusal.Cause.{Cause};
 ghost use Rattle.otap_consume.specs.declared.refusal.TheConstants.{MAX_HELD};
@@ -12,8 +12,8 @@ ghost use Rattle.otlp_model.specs.declared.request.Signal.{Signal};
 
 /// Payloads that are accepted are not refused, and after payloads that were taken they are one or the other.
 pub fn accepted_or_refused()
-    ensures one { (signal : Signal) (past payloads : List PayloadContent) → AreTaken signal past → AreJudged signal past payloads }
-    ensures never_both { (signal : Signal) (past payloads : List PayloadContent) (cause : Cause) (payload : Option ℤ)
+    ensures one { (signal : Signal) (past payloads : List PayloadIn) → AreTaken signal past → AreJudged signal past payloads }
+    ensures never_both { (signal : Signal) (past payloads : List PayloadIn) (cause : Cause) (payload : Option ℤ)
         → Accepts signal past payloads → Refuses signal past payloads cause payload → ⊥ }
 {}
 
@@ -30,6 +30,6 @@ pub fn some_outcome()
 
 /// Payloads are refused in one stage only, whatever the cause.
 pub fn refused_in_one_stage()
-    ensures { (signal : Signal) (past payloads : List PayloadContent) (a b : Cause) (p q : Option ℤ)
+    ensures { (signal : Signal) (past payloads : List PayloadIn) (a b : Cause) (p q : Option ℤ)
         → Refuses signal past payloads a p → Refuses signal past payloads b q → stage_of a ≡ stage_of b }
 {}

@@ -1,7 +1,8 @@
 //! What the outcomes of a receiver say of the format. The functions do nothing: their contracts are the laws.
 
 ghost use Rattle.std.specs.Prelude.{◌≡◌, ◌<◌, ℕ, ℤ, ◌↔◌, true, false, All, List, Option};
-ghost use Rattle.otap_capture.specs.Batch.{BatchContent, PayloadContent};
+ghost use Rattle.lists.specs.Payloads.{PayloadIn};
+ghost use Rattle.otap_capture.specs.Batch.{BatchContent};
 ghost use Rattle.otap_capture.specs.declared.frame.Damage.{Damage};
 ghost use Rattle.otap_capture.specs.Capture.{Frame, IsCapture};
 ghost use Rattle.otap_cells.specs.Tables.{Table};
@@ -29,7 +30,7 @@ pub fn refused_by_what_is_wrong<T: Telemetry>()
     ensures named { (outcomes : List Outcome) (frame : Frame) (refusal : Refusal)
         → ReceivedAfter T.meaning outcomes frame (Refused refusal) → is_broken outcomes ≡ false
         → HasDefect T.meaning (payloads_after outcomes) frame refusal.cause refusal.payload × (refusal.stage ≡ stage_of refusal.cause) }
-    ensures one_stage { (past : List PayloadContent) (frame : Frame) (a b : Cause) (p q : Option ℤ)
+    ensures one_stage { (past : List PayloadIn) (frame : Frame) (a b : Cause) (p q : Option ℤ)
         → HasDefect T.meaning past frame a p → HasDefect T.meaning past frame b q → stage_of a ≡ stage_of b }
     ensures broken { (outcomes : List Outcome) (frame : Frame) (refusal : Refusal)
         → ReceivedAfter T.meaning outcomes frame (Refused refusal) → (refusal.stage ≡ 0) ↔ (is_broken outcomes ≡ true) }

@@ -1,8 +1,9 @@
 //! The records of the payloads of a batch.
 ghost use Rattle.std.specs.Prelude.{◌≡◌, List, IfErr, OnOk};
+ghost use Rattle.lists.specs.Payloads.{PayloadIn};
 ghost use Rattle.otlp_model.specs.declared.request.Signal.{Signal};
 ghost use Rattle.otap_cells.specs.Payload.{kinds_of};
-ghost use Rattle.otap_capture.specs.Batch.{PayloadContent, content_of};
+ghost use Rattle.otap_capture.specs.Batch.{content_of};
 ghost use Rattle.otap_consume.specs.Records.{EachTakes, OneRefuses, TakesAll, kinds_in};
 ghost use Rattle.otap_consume.specs.Streams.{AreAfter};
 ghost use Rattle.otap_consume.specs.Stops.{Stops, IsOfRecord, StopOf};
@@ -21,7 +22,7 @@ pub(crate) fn take_records(
     batch: &Batch<'_>,
 ) -> Result<(), NotTaken>
     ensures takes { OnOk result (TakesAll streams.old batch.now.payloads streams.new) }
-    ensures stops { IfErr result (λ stop. (signal : Signal) (past : List PayloadContent) → kinds_in streams.old ≡ kinds_of signal
+    ensures stops { IfErr result (λ stop. (signal : Signal) (past : List PayloadIn) → kinds_in streams.old ≡ kinds_of signal
         → AreAfter past streams.old → Stops (IsOfRecord signal past batch.now.payloads) stop) }
     ensures kinds { kinds_in streams.new ≡ kinds_in streams.old }
 {

@@ -1,6 +1,6 @@
 //! The payloads of a batch, taken after those of the accepted batches of its segment.
 ghost use Rattle.std.specs.Prelude.{◌≡◌, ◌++◌, None, List, IfOk, IfErr, OnOk};
-ghost use Rattle.otap_capture.specs.Batch.{PayloadContent};
+ghost use Rattle.lists.specs.Payloads.{PayloadIn};
 ghost use Rattle.otap_cells.specs.Payload.{kinds_of};
 ghost use Rattle.otap_consume.specs.declared.not_taken.NotTaken.TheVariants.{Defect};
 ghost use Rattle.otap_consume.specs.Defects.{Refuses};
@@ -31,9 +31,9 @@ pub(crate) fn take_payloads(
     batch: &Batch<'_>,
 ) -> Result<u64, NotTaken>
     requires { kinds_in streams.old ≡ kinds_of signal }
-    ensures accepts { IfOk result (λ rows. (past : List PayloadContent) → AreAfter past streams.old
+    ensures accepts { IfOk result (λ rows. (past : List PayloadIn) → AreAfter past streams.old
         → AcceptsAfter signal past batch.now.payloads streams.new rows) }
-    ensures refuses { IfErr result (λ stop. (past : List PayloadContent) → AreAfter past streams.old
+    ensures refuses { IfErr result (λ stop. (past : List PayloadIn) → AreAfter past streams.old
         → Stops (Refuses signal past batch.now.payloads) stop) }
     ensures shows { OnOk result (CanShow streams.new batch.now.payloads) }
     ensures kinds { kinds_in streams.new ≡ kinds_in streams.old }
@@ -53,9 +53,9 @@ fn check_sizes(
 ) -> Result<u64, NotTaken>
     requires shows { CanShow streams.now batch.now.payloads }
     requires kinds { kinds_in streams.now ≡ kinds_of signal }
-    ensures weighs { IfOk result (λ rows. (past : List PayloadContent) → AreAfter (past ++ batch.now.payloads) streams.now
+    ensures weighs { IfOk result (λ rows. (past : List PayloadIn) → AreAfter (past ++ batch.now.payloads) streams.now
         → Weighs signal past batch.now.payloads rows) }
-    ensures stops { IfErr result (λ stop. (past : List PayloadContent) → AreAfter (past ++ batch.now.payloads) streams.now
+    ensures stops { IfErr result (λ stop. (past : List PayloadIn) → AreAfter (past ++ batch.now.payloads) streams.now
         → StopsBySize signal past batch.now.payloads stop) }
 {
     let set = views(alloc, streams, batch)?;

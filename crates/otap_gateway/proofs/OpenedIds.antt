@@ -10,8 +10,8 @@ use Rattle.std.proofs.lemmas.Bool.{cases_Bool, false≢true}
 use Rattle.std.proofs.lemmas.Map.Lookups.{exact_signed}
 use Rattle.std.proofs.lemmas.List.{map-append}
 use Rattle.std.proofs.lemmas.Bool.Decides.{Decides-int_eq}
-use Rattle.otap_capture.specs.Batch.{PayloadContent}
-use Rattle.otap_columns.specs.Streams.{PayloadIn, is_of, open_id, opens, opens_after, last_of, id_in}
+use Rattle.lists.specs.Payloads.{PayloadIn}
+use Rattle.otap_columns.specs.Streams.{is_of, open_id, opens, opens_after, last_of, id_in}
 use Rattle.otap_columns.specs.TableSets.{openings}
 use Rattle.otap_columns.proofs.Openings.{open_id-own, open_id-other}
 use Rattle.otap_produce.proofs.Counting.{if_opens, openings-none, openings-push}
@@ -80,7 +80,7 @@ opens_unknown o past p found has =
 
 -- ---- all payloads of a message
 
-pub front_more : (all left : List PayloadContent) (p : PayloadContent) (old mid new : Opened) → CountsFront all (p ∷ left) old mid → Counts (part_of p ∷ []) mid new → CountsFront all left old new
+pub front_more : (all left : List PayloadIn) (p : PayloadIn) (old mid new : Opened) → CountsFront all (p ∷ left) old mid → Counts (part_of p ∷ []) mid new → CountsFront all left old new
 front_more all left p old mid new so_far one = record {
   done = so_far.done ++ p ∷ [];
   split = append_assoc so_far.done (p ∷ []) left ∙ so_far.split;

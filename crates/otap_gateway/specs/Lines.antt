@@ -2,10 +2,10 @@
 use Rattle.std.specs.Prelude.{ℕ, ℤ, true, false, List, [], ◌∷◌, ◌++◌, codes, Some, None}
 use Rattle.std.specs.Fmt.{decimal, signed_decimal}
 use Rattle.std.specs.declared.option.Option.{Option}
+use Rattle.lists.specs.Payloads.{PayloadIn}
 use Rattle.otap_capture.specs.declared.frame.Damage.{Damage}
 use Rattle.otap_capture.specs.declared.frame.Why.{Why}
 use Rattle.otap_capture.specs.declared.frame.Why.TheVariants as why
-use Rattle.otap_capture.specs.Batch.{PayloadContent}
 use Rattle.otap_gateway.specs.Quoting.{quoted}
 use Rattle.otap_gateway.specs.Reply.{ReplyText}
 
@@ -29,7 +29,7 @@ abbrev pub head_line : ℕ → ℤ → List ℕ
 head_line number id = batch_head number (signed_decimal id) ++ line_feed
 
 -- the head of a line for a payload: its type and its schema id
-abbrev pub payload_head : PayloadContent → List ℕ
+abbrev pub payload_head : PayloadIn → List ℕ
 payload_head payload = codes "payload " ++ signed_decimal payload.kind ++ codes " schema \"" ++ quoted payload.schema_id ++ codes "\""
 
 -- a refused batch: its id where it could be read, the stage and the cause, and the payload type that it stands in

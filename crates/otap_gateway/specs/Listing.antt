@@ -2,14 +2,15 @@
 use Rattle.std.specs.Prelude.{◌≡◌, ◌⊎◌, ℕ, List, ◌++◌, length, codes}
 use Rattle.std.specs.Fmt.{decimal, signed_decimal}
 use Rattle.std.specs.List.{flat_map}
-use Rattle.otap_capture.specs.Batch.{BatchContent, PayloadContent, ReadsBatch}
+use Rattle.lists.specs.Payloads.{PayloadIn}
+use Rattle.otap_capture.specs.Batch.{BatchContent, ReadsBatch}
 use Rattle.otap_capture.specs.Capture.{Frame, Message, Packed, Reset}
 use Rattle.otap_gateway.specs.Lines.{reset_line, line_feed, batch_head, printed}
 use Rattle.otap_gateway.specs.Reply.{ReplyText}
 use Rattle.otap_gateway.specs.Refused.{RefusesUnread, refused_unread}
 
 -- a payload's type and the length of its record
-abbrev pub payload_text : PayloadContent → List ℕ
+abbrev pub payload_text : PayloadIn → List ℕ
 payload_text payload = codes " " ++ signed_decimal payload.kind ++ codes ":" ++ decimal (length payload.bytes)
 
 abbrev pub batch_line : ℕ → BatchContent → List ℕ

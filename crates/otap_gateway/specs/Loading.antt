@@ -4,9 +4,9 @@ use Rattle.std.specs.BTreeMap.{get}
 use Rattle.std.specs.List.{flat_map}
 use Rattle.std.specs.Io.KnownBytes.{Appends}
 use Rattle.std.specs.Ordering.{int_cmp, int_eq}
-use Rattle.otap_capture.specs.Batch.{PayloadContent}
+use Rattle.lists.specs.Payloads.{PayloadIn}
 use Rattle.otap_capture.specs.Capture.{longest_frame}
-use Rattle.otap_columns.specs.Streams.{PayloadIn, open_id}
+use Rattle.otap_columns.specs.Streams.{open_id}
 use Rattle.otap_columns.specs.TableSets.{openings}
 use Rattle.otap_produce.specs.Exporters.{ExporterIn, StandsFor}
 use Rattle.otap_produce.specs.Policy.{SignalRows, IsExported, part_of, payloads_of}
@@ -31,8 +31,8 @@ pub record Opens (kind : ℤ) (id : List ℕ) (old new : Opened) : Type 0 where
   pub count : new.count ≡ old.count + 1
 
 -- some payloads of a message are counted, and these are left
-pub record CountsFront (all left : List PayloadContent) (old new : Opened) : Type 0 where
-  pub done : List PayloadContent
+pub record CountsFront (all left : List PayloadIn) (old new : Opened) : Type 0 where
+  pub done : List PayloadIn
   pub split : done ++ left ≡ all
   pub counts : Counts (map part_of done) old new
 

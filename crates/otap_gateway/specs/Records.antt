@@ -1,7 +1,7 @@
 -- What stands at the start of records, in the words of private contracts.
 use Rattle.std.specs.Prelude.{◌≡◌, ℕ, ℤ, List, Some}
+use Rattle.lists.specs.Payloads.{PayloadIn}
 use Rattle.arrow_ipc.specs.Faults.{Stands}
-use Rattle.otap_capture.specs.Batch.{PayloadContent}
 use Rattle.otap_gateway.specs.declared.schema.RecordRefusal.{RecordRefusal}
 use Rattle.otap_gateway.specs.declared.schema.RecordRefusal.TheVariants.{Ipc, Memory}
 use Rattle.otap_gateway.specs.Openings.{fault_name}
@@ -10,11 +10,11 @@ use Rattle.otap_gateway.specs.Reply.{ReplyText}
 use Rattle.otap_gateway.specs.Schemas.{HasFault}
 
 -- the refusal of one payload, and of one among several; memory may run out at any time
-abbrev pub RefusesPayload : PayloadContent → RecordRefusal → Type 0
+abbrev pub RefusesPayload : PayloadIn → RecordRefusal → Type 0
 RefusesPayload payload (Ipc kind fault) = (payload.kind ≡ kind) × Stands payload.bytes fault
 RefusesPayload payload (Memory e) = Unit {0}
 
-abbrev pub RefusesRecords : List PayloadContent → RecordRefusal → Type 0
+abbrev pub RefusesRecords : List PayloadIn → RecordRefusal → Type 0
 RefusesRecords payloads (Ipc kind fault) = HasFault payloads kind fault
 RefusesRecords payloads (Memory e) = Unit {0}
 

@@ -1,11 +1,12 @@
 -- The texts of `schema`: for each payload of a batch, the schema that its record begins with.
 use Rattle.std.specs.Prelude.{◌≡◌, ◌⊎◌, ℕ, ℤ, List, [], ◌++◌, codes, Option, None, Some}
 use Rattle.std.specs.List.{flat_map, AllByRecursion}
+use Rattle.lists.specs.Payloads.{PayloadIn}
 use Rattle.arrow_ipc.specs.declared.fault.IpcFault.{IpcFault}
 use Rattle.arrow_ipc.specs.Faults.{Stands}
 use Rattle.arrow_schema.specs.declared.spec.SchemaSpec.{SchemaSpec}
 use Rattle.otlp_model.specs.declared.request.Signal.{Signal}
-use Rattle.otap_capture.specs.Batch.{BatchContent, PayloadContent, ReadsBatch}
+use Rattle.otap_capture.specs.Batch.{BatchContent, ReadsBatch}
 use Rattle.otap_capture.specs.Capture.{Frame, Message, Packed, Reset}
 use Rattle.otap_consume.specs.declared.payload_types.TypesRefusal.{TypesRefusal}
 use Rattle.otap_consume.specs.declared.payload_types.TypesRefusal.TheVariants.{PayloadType, PayloadTwice}
@@ -17,25 +18,25 @@ use Rattle.otap_gateway.specs.Refused.{RefusesUnread, refused_unread, refused_ba
 use Rattle.otap_gateway.specs.Reply.{ReplyText}
 
 -- the lines of a payload whose record begins with this schema, or with none
-abbrev pub opening_text : PayloadContent → Option SchemaSpec → List ℕ
+abbrev pub opening_text : PayloadIn → Option SchemaSpec → List ℕ
 opening_text payload None = payload_head payload ++ codes " goes on" ++ line_feed
 opening_text payload (Some fields) = payload_head payload ++ line_feed ++ fields_text [] fields
 
-abbrev pub payload_lines : PayloadContent → List ℕ
+abbrev pub payload_lines : PayloadIn → List ℕ
 payload_lines payload = opening_text payload (opening_of payload.bytes)
 
 abbrev pub batch_lines : ℕ → BatchContent → List ℕ
 batch_lines number batch = head_line number batch.id ++ flat_map payload_lines batch.payloads
 
 -- a fault stands at the start of the record of a payload of this type
-pub record HasFault (payloads : List PayloadContent) (kind : ℤ) (fault : IpcFault) : Type 0 where
-  pub payload : PayloadContent
+pub record HasFault (payloads : List PayloadIn) (kind : ℤ) (fault : IpcFault) : Type 0 where
+  pub payload : PayloadIn
   pub has : HasPayload payloads payload
   pub same : payload.kind ≡ kind
   pub stands : Stands payload.bytes fault
 
 -- no record begins with one
-abbrev pub BeginWell : List PayloadContent → Type 0
+abbrev pub BeginWell : List PayloadIn → Type 0
 BeginWell payloads = AllByRecursion (λ payload. BeginsWell payload.bytes) payloads
 
 -- ---- the replies to a batch, by its number: the stages in their order, each over all payloads

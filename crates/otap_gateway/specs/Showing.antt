@@ -1,8 +1,9 @@
 -- The texts of `show`: the cells of each batch as they are stored.
 use Rattle.std.specs.Prelude.{◌≡◌, ℕ, List, [], ◌∷◌, ◌++◌, length, codes}
 use Rattle.std.specs.Fmt.{decimal}
+use Rattle.lists.specs.Payloads.{PayloadIn}
 use Rattle.otlp_model.specs.declared.request.Signal.{Signal}
-use Rattle.otap_capture.specs.Batch.{BatchContent, PayloadContent}
+use Rattle.otap_capture.specs.Batch.{BatchContent}
 use Rattle.otap_capture.specs.Capture.{Frame}
 use Rattle.otap_cells.specs.Tables.{Table}
 use Rattle.otap_consume.specs.Outcomes.{Outcome, Accepted, Refused, Reset, OutcomeAfter, Outcomes}
@@ -12,14 +13,14 @@ use Rattle.otap_gateway.specs.Reply.{ReplyText}
 use Rattle.otap_gateway.specs.Rows.{table_text}
 
 -- the line of a payload: how many rows its table has
-abbrev pub rows_line : PayloadContent → ℕ → List ℕ
+abbrev pub rows_line : PayloadIn → ℕ → List ℕ
 rows_line payload rows = payload_head payload ++ codes " rows " ++ decimal rows ++ line_feed
 
-abbrev pub payload_text : PayloadContent → Table → List ℕ
+abbrev pub payload_text : PayloadIn → Table → List ℕ
 payload_text payload table = rows_line payload (length table.rows) ++ table_text table
 
 -- payloads and their tables, in order
-abbrev pub payloads_text : List PayloadContent → List Table → List ℕ
+abbrev pub payloads_text : List PayloadIn → List Table → List ℕ
 payloads_text (payload ∷ payloads) (table ∷ tables) = payload_text payload table ++ payloads_text payloads tables
 payloads_text _ _ = []
 

@@ -1,7 +1,8 @@
 //! Counts the payloads that open a sub-stream.
 ghost use Rattle.std.specs.Prelude.{◌≡◌, ◌∷◌, [], List, OnOk, not};
+ghost use Rattle.lists.specs.Payloads.{PayloadIn};
 ghost use Rattle.otap_capture.specs.Batch.{ReadsBatch, batch_in, content_of};
-ghost use Rattle.otap_columns.specs.Streams.{PayloadIn, opens};
+ghost use Rattle.otap_columns.specs.Streams.{opens};
 ghost use Rattle.otap_produce.specs.Policy.{part_of, payloads_of};
 ghost use Rattle.otap_gateway.specs.Loading.{Counts, HasCounted, Opens};
 

@@ -6,8 +6,9 @@ use Rattle.std.specs.Int.{w32}
 use Rattle.std.proofs.Math.Seq.{map-set_same}
 use Rattle.std.proofs.lemmas.Fmt.{length-decimal-le}
 use Rattle.std.proofs.lemmas.List.{get_or-map, length-map, map-append, take_more}
+use Rattle.lists.specs.Payloads.{PayloadIn}
 use Rattle.otlp_model.specs.declared.request.Signal.{Signal}
-use Rattle.otap_capture.specs.Batch.{BatchContent, PayloadContent}
+use Rattle.otap_capture.specs.Batch.{BatchContent}
 use Rattle.otap_capture.specs.BatchWriting.{with_payload}
 use Rattle.otap_cells.specs.declared.payload.Kind.{Kind}
 use Rattle.otap_cells.specs.Payload.{kinds_of}
@@ -29,7 +30,7 @@ counted : (b : Bool) (n : ℕ) → (if b then n + 1 else n) ≤ n + 1
 counted true n = omega arith
 counted false n = omega arith
 
-module _ (signal : Signal) (old new : SendersIn) (place : ℕ) (s changed : SenderIn) (t : Table) (opened : Bool) (p : PayloadContent) (batch grown : BatchContent)
+module _ (signal : Signal) (old new : SendersIn) (place : ℕ) (s changed : SenderIn) (t : Table) (opened : Bool) (p : PayloadIn) (batch grown : BatchContent)
     (kinds : kinds_in old.senders ≡ kinds_of signal) (inside : place < length old.senders) (is : s ≡ get_or old.senders place s)
     (one : SendsOne s changed old.openings t opened (part_of p)) (senders : new.senders ≡ set old.senders place changed)
     (count : new.openings ≡ (if opened then old.openings + 1 else old.openings)) where

@@ -4,9 +4,9 @@ use Rattle.std.specs.Prelude.{map}
 use Rattle.std.specs.List.{AllByRecursion}
 use Rattle.std.proofs.lemmas.List.{map-append}
 use Rattle.lists.proofs.Growing.{each_after-append}
-use Rattle.otap_capture.specs.Batch.{BatchContent, PayloadContent, IsRealPayload}
+use Rattle.lists.specs.Payloads.{PayloadIn}
+use Rattle.otap_capture.specs.Batch.{BatchContent, IsRealPayload}
 use Rattle.otap_cells.specs.Tables.{Table}
-use Rattle.otap_columns.specs.Streams.{PayloadIn}
 use Rattle.otap_columns.specs.TableSets.{IsPayloadOf}
 use Rattle.otap_produce.specs.Exporters.{SendersIn}
 use Rattle.otap_produce.specs.Policy.{part_of}
@@ -26,11 +26,11 @@ sends_more ts us a b c ps qs one two = record {
   after = λ before past has. rw (← append_assoc before ts us, ← append_assoc past ps qs) (two.after (before ++ ts) (past ++ ps) (one.after before past has));
 }
 
-all_more : (ps qs : List PayloadContent) → AllByRecursion IsRealPayload ps → AllByRecursion IsRealPayload qs → AllByRecursion IsRealPayload (ps ++ qs)
+all_more : (ps qs : List PayloadIn) → AllByRecursion IsRealPayload ps → AllByRecursion IsRealPayload qs → AllByRecursion IsRealPayload (ps ++ qs)
 all_more [] qs one two = two
 all_more (p ∷ ps) qs one two = (one.0, all_more ps qs one.1 two)
 
-size_more : (ps qs : List PayloadContent) → size_of (ps ++ qs) ≡ size_of ps + size_of qs
+size_more : (ps qs : List PayloadIn) → size_of (ps ++ qs) ≡ size_of ps + size_of qs
 size_more [] qs = omega arith
 size_more (p ∷ ps) qs = omega (arith, size_more ps qs)
 
@@ -54,7 +54,7 @@ pub adds_more : (ts us : List Table) (a b c : SendersIn) (x y z : BatchContent) 
 adds_more ts us a b c x y z one two = record {
   payloads = one.payloads ++ two.payloads;
   id = two.id ∙ one.id;
-  are = two.are ∙ ap (λ (ps : List PayloadContent). ps ++ two.payloads) one.are ∙ append_assoc x.payloads one.payloads two.payloads;
+  are = two.are ∙ ap (λ (ps : List PayloadIn). ps ++ two.payloads) one.are ∙ append_assoc x.payloads one.payloads two.payloads;
   real = all_more one.payloads two.payloads one.real two.real;
   sends =
       subst (Sends (ts ++ us) a c) (sym (map-append part_of one.payloads two.payloads))

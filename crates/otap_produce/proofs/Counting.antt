@@ -1,6 +1,7 @@
 -- The openings of payloads, with one more.
 use Rattle.std.proofs.Common.{◌≡◌, ℕ, ◌+◌, ◌≤◌, suc, Bool, true, false, List, [], ◌∷◌, ◌++◌, if◌then◌else◌, refl, ap, ◌∙◌, append_assoc, append-nil, arith}
-use Rattle.otap_columns.specs.Streams.{PayloadIn, opens}
+use Rattle.lists.specs.Payloads.{PayloadIn}
+use Rattle.otap_columns.specs.Streams.{opens}
 use Rattle.otap_columns.specs.TableSets.{openings_after, openings}
 
 -- one, where it opens

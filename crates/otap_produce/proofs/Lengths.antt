@@ -3,12 +3,13 @@ use Rattle.std.proofs.Common.{ℕ, ◌+◌, ◌*◌, ◌<◌, ◌≤◌, ◌^◌
 use Rattle.std.specs.Prelude.{map, FitsSigned, ◌==◌, if◌then◌else◌}
 use Rattle.std.specs.Int.{w64, cast_unsigned}
 use Rattle.std.specs.List.{AllByRecursion}
+use Rattle.lists.specs.Payloads.{PayloadIn}
 use Rattle.otlp_wire.specs.Varint.{varint}
 use Rattle.otlp_wire.specs.Wire.{Varint}
 use Rattle.otlp_wire.proofs.Shortest.{ten_at_most}
 use Rattle.otlp_messages.specs.Canon.{bytes_row, canon_row, many_row, signed_row}
 use Rattle.otlp_messages.proofs.RowKinds.{unsigned_small, wider}
-use Rattle.otap_capture.specs.Batch.{BatchContent, PayloadContent, IsRealBatch, IsRealPayload, canon_batch, canon_payload}
+use Rattle.otap_capture.specs.Batch.{BatchContent, IsRealBatch, IsRealPayload, canon_batch, canon_payload}
 use Rattle.otap_produce.specs.Sizes.{size_of}
 
 part_most : (n : ℕ) (part : List ℕ) → n < 2 ^ 29 → length part < 2 ^ 64 → length (varint (8 * n + 2) ++ (varint (length part) ++ part)) ≤ 20 + length part
@@ -34,7 +35,7 @@ number_most n x false low small =
 signed_most : (n : ℕ) (z : ℤ) → n < 2 ^ 29 → FitsSigned w64 z → length (canon_row n (signed_row z)) ≤ 20
 signed_most n z low fits = number_most n (cast_unsigned w64 z) (cast_unsigned w64 z == 0) low (unsigned_small z fits)
 
-payload_most : (p : PayloadContent) → IsRealPayload p → length p.schema_id + length p.bytes < 2 ^ 60 → length (canon_payload p) ≤ 60 + (length p.schema_id + length p.bytes)
+payload_most : (p : PayloadIn) → IsRealPayload p → length p.schema_id + length p.bytes < 2 ^ 60 → length (canon_payload p) ≤ 60 + (length p.schema_id + length p.bytes)
 unfolding canon_payload
 payload_most p real small =
     let one = canon_row 1 (bytes_row p.schema_id) in
@@ -50,7 +51,7 @@ payload_most p real small =
       length-append three [],
     )
 
-parts_most : (ps : List PayloadContent) → AllByRecursion IsRealPayload ps → size_of ps < 2 ^ 60 → length (canon_row 2 (many_row (map canon_payload ps))) ≤ 80 * length ps + size_of ps
+parts_most : (ps : List PayloadIn) → AllByRecursion IsRealPayload ps → size_of ps < 2 ^ 60 → length (canon_row 2 (many_row (map canon_payload ps))) ≤ 80 * length ps + size_of ps
 parts_most [] real small = omega arith
 parts_most (p ∷ ps) real small =
     let first = payload_most p real.0 (omega (arith, small)) in

@@ -9,11 +9,12 @@ use Rattle.std.proofs.lemmas.Bool.Decides.{Decides-int_eq, Decides-eqb}
 use Rattle.std.proofs.lemmas.Fmt.{decimal_injective}
 use Rattle.std.proofs.lemmas.List.Elements.{filter-append}
 use Rattle.std.proofs.lemmas.Slice.Eq.{bytes_eq-Decides}
+use Rattle.lists.specs.Payloads.{PayloadIn}
 use Rattle.otap_cells.specs.declared.payload.Kind.{Kind}
 use Rattle.otap_cells.specs.Payload.{is_kind, number_of}
 use Rattle.otap_cells.specs.Tables.{Table}
 use Rattle.otap_columns.specs.WrittenPayloads.{IsRecord, IsWritable}
-use Rattle.otap_columns.specs.Streams.{PayloadIn, id_in, last_of, opens, opens_after, open_id}
+use Rattle.otap_columns.specs.Streams.{id_in, last_of, opens, opens_after, open_id}
 use Rattle.otap_columns.specs.TableSets.{IsPayloadOf, of_kind, openings}
 use Rattle.otap_columns.specs.Writers.{HasWritten, WritesRecord, is_started}
 use Rattle.otap_columns.proofs.Openings.{open_id-own, open_id-other}

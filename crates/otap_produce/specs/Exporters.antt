@@ -2,6 +2,7 @@
 use Rattle.std.specs.Prelude.{◌≡◌, ◌≤◌, ◌<◌, ◌+◌, ◌⊎◌, ℕ, Bool, true, false, List, [], ◌∷◌, ◌++◌, length, map, All, Option, Some, None, pos, if◌then◌else◌}
 use Rattle.std.specs.Fmt.{decimal}
 use Rattle.std.specs.List.{flat_map}
+use Rattle.lists.specs.Payloads.{PayloadIn}
 use Rattle.otlp_model.specs.declared.request.Request.{Request}
 use Rattle.otlp_model.specs.Limits.{item_limit, weight_limit}
 use Rattle.otlp_model.specs.Telemetry.{telemetry}
@@ -12,7 +13,7 @@ use Rattle.otap_cells.specs.declared.payload.Kind.{Kind}
 use Rattle.otap_cells.specs.Payload.{kinds_of, number_of}
 use Rattle.otap_cells.specs.Tables.{Table}
 use Rattle.otap_cells.specs.Weights.{row_weight_limit, weight_of_tables}
-use Rattle.otap_columns.specs.Streams.{PayloadIn, open_id}
+use Rattle.otap_columns.specs.Streams.{open_id}
 use Rattle.otap_columns.specs.TableSets.{of_kind, openings}
 use Rattle.otap_columns.specs.Writers.{HasWritten, WriterIn}
 use Rattle.otap_produce.specs.declared.refusal.ProduceRefusal.{ProduceRefusal}

@@ -2,6 +2,7 @@
 use Rattle.std.specs.Prelude.{◌≡◌, ◌≤◌, ℕ, pos, List, [], length, map}
 use Rattle.std.specs.List.{flat_map}
 use Rattle.lists.specs.EachAfter.{EachAfter}
+use Rattle.lists.specs.Payloads.{PayloadIn}
 use Rattle.otlp_model.specs.Limits.{item_limit, weight_limit}
 use Rattle.otlp_model.specs.Profile.{IsProfile}
 use Rattle.otlp_model.specs.Real.{IsReal}
@@ -9,11 +10,10 @@ use Rattle.otlp_model.specs.Telemetry.{signal_of, telemetry}
 use Rattle.otlp_model.specs.Weight.{weight_of}
 use Rattle.otlp_model.specs.declared.request.Request.{Request}
 use Rattle.otlp_model.specs.declared.request.Signal.{Signal}
-use Rattle.otap_capture.specs.Batch.{PayloadContent, batch_in, canon_batch}
+use Rattle.otap_capture.specs.Batch.{batch_in, canon_batch}
 use Rattle.otap_capture.specs.Capture.{longest_frame}
 use Rattle.otap_cells.specs.Tables.{Table}
 use Rattle.otap_cells.specs.Weights.{row_weight_limit, weight_of_tables}
-use Rattle.otap_columns.specs.Streams.{PayloadIn}
 use Rattle.otap_columns.specs.TableSets.{ArePayloadsOf}
 
 -- A SIGNAL, and which tables its requests are written as
@@ -31,7 +31,7 @@ pub record IsExported (rows : SignalRows) (q : Request) : Type 0 where
   pub row_weight : weight_of_tables (rows.tables q) ≤ row_weight_limit
 
 -- the payloads of a message, as sub-streams know them
-abbrev pub part_of : PayloadContent → PayloadIn
+abbrev pub part_of : PayloadIn → PayloadIn
 part_of p = record { schema_id = p.schema_id; kind = p.kind; bytes = p.bytes }
 
 abbrev pub payloads_of : List ℕ → List PayloadIn

@@ -1,16 +1,16 @@
 -- What a call does to what was sent.
 use Rattle.std.specs.Prelude.{◌≡◌, ◌<◌, ◌≤◌, ◌+◌, ◌^◌, ℕ, Bool, List, ◌++◌, length, map, pos, All, Contains}
 use Rattle.std.specs.List.{AllByRecursion}
+use Rattle.lists.specs.Payloads.{PayloadIn}
 use Rattle.otlp_model.specs.declared.request.Request.{Request}
 use Rattle.otlp_model.specs.declared.request.Signal.{Signal}
-use Rattle.otap_capture.specs.Batch.{BatchContent, PayloadContent, IsRealPayload, batch_in, canon_batch}
+use Rattle.otap_capture.specs.Batch.{BatchContent, IsRealPayload, batch_in, canon_batch}
 use Rattle.otap_capture.specs.Capture.{longest_frame}
 use Rattle.otap_cells.specs.declared.payload.Kind.{Kind}
 use Rattle.otap_cells.specs.Payload.{kinds_of}
 use Rattle.otap_cells.specs.Tables.{Table}
 use Rattle.otap_cells.specs.Weights.{row_weight_limit, weight_of_table}
 use Rattle.otap_columns.specs.WrittenPayloads.{IsWritable}
-use Rattle.otap_columns.specs.Streams.{PayloadIn}
 use Rattle.otap_columns.specs.TableSets.{ArePayloadsOf}
 use Rattle.otap_produce.specs.declared.refusal.ProduceRefusal.{ProduceRefusal}
 use Rattle.otap_produce.specs.declared.refusal.ProduceRefusal.TheVariants.{Memory}
@@ -56,7 +56,7 @@ pub record Sends (tables : List Table) (old new : SendersIn) (payloads : List Pa
 
 -- the payloads of tables were added to a batch
 pub record Adds (tables : List Table) (old new : SendersIn) (batch grown : BatchContent) : Type 0 where
-  pub payloads : List PayloadContent
+  pub payloads : List PayloadIn
   pub id : grown.id ≡ batch.id
   pub are : grown.payloads ≡ batch.payloads ++ payloads
   pub real : AllByRecursion IsRealPayload payloads

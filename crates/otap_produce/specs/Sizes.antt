@@ -1,11 +1,11 @@
 -- How long messages may be.
 use Rattle.std.specs.Prelude.{ℕ, ◌+◌, List, [], ◌∷◌, length}
-use Rattle.otap_capture.specs.Batch.{PayloadContent}
+use Rattle.lists.specs.Payloads.{PayloadIn}
 use Rattle.otap_cells.specs.Tables.{Table}
 use Rattle.otap_columns.specs.Limits.{record_limit}
 
 -- the bytes of the schema ids and the records of payloads
-abbrev pub size_of : List PayloadContent → ℕ
+abbrev pub size_of : List PayloadIn → ℕ
 size_of [] = 0
 size_of (p ∷ payloads) = length p.schema_id + length p.bytes + size_of payloads
 

@@ -7,9 +7,9 @@ use Rattle.std.specs.Ordering.{int_eq}
 use Rattle.std.proofs.lemmas.Bool.{cases_Bool}
 use Rattle.std.proofs.lemmas.List.Sums.{sum_by-cons}
 use Rattle.lists.specs.EachAfter.{EachAfter, AllAfter}
+use Rattle.lists.specs.Payloads.{PayloadIn}
 use Rattle.otlp_model.specs.Limits.{item_limit}
 use Rattle.otlp_model.specs.declared.request.Signal.{Signal}
-use Rattle.otap_capture.specs.Batch.{PayloadContent}
 use Rattle.otap_cells.specs.Cells.{Cell}
 use Rattle.otap_cells.specs.Columns.{width_of}
 use Rattle.otap_cells.specs.GivenIds.{ReadAs}
@@ -32,11 +32,11 @@ use Rattle.otap_transit.proofs.Reaching.{Reaches, AreHeld}
 module _ (signal : Signal) where
   -- ---- the types
 
-  told : (before : List Table) (past : List PayloadContent) (t : Table) (p : PayloadContent) (kind : Kind) → Reaches signal before past t p → int_eq p.kind (type_of kind) ≡ is_kind t.kind kind
+  told : (before : List Table) (past : List PayloadIn) (t : Table) (p : PayloadIn) (kind : Kind) → Reaches signal before past t p → int_eq p.kind (type_of kind) ≡ is_kind t.kind kind
   told before past t p kind r = ap (λ (type : ℤ). int_eq type (type_of kind)) r.type ∙ types_compared t.kind kind
 
   -- a type stands as often among payloads as its kind among their tables
-  as_often : (before : List Table) (past : List PayloadContent) (ts : List Table) (ps : List PayloadContent) (kind : Kind) → EachAfter (Reaches signal) before past ts ps
+  as_often : (before : List Table) (past : List PayloadIn) (ts : List Table) (ps : List PayloadIn) (kind : Kind) → EachAfter (Reaches signal) before past ts ps
       → times (type_of kind) ps ≡ count_by (λ t. is_kind t.kind kind) ts
   as_often before past [] [] kind each = refl
   as_often before past [] (p ∷ ps) kind each = absurd each
@@ -46,14 +46,14 @@ module _ (signal : Signal) where
       let same : int_eq p.kind (type_of kind) ≡ is_kind t.kind kind = told before past t p kind each.0 in
       elim (cases_Bool (is_kind t.kind kind)) [
         | inl own ↦
-            count_hit (λ (q : PayloadContent). int_eq q.kind (type_of kind)) p ps (same ∙ own) ∙ ap (λ (n : ℕ). 1 + n) later
+            count_hit (λ (q : PayloadIn). int_eq q.kind (type_of kind)) p ps (same ∙ own) ∙ ap (λ (n : ℕ). 1 + n) later
             ∙ sym (count_hit (λ (u : Table). is_kind u.kind kind) t ts own)
         | inr other ↦
-            count_miss (λ (q : PayloadContent). int_eq q.kind (type_of kind)) p ps (same ∙ other) ∙ later
+            count_miss (λ (q : PayloadIn). int_eq q.kind (type_of kind)) p ps (same ∙ other) ∙ later
             ∙ sym (count_miss (λ (u : Table). is_kind u.kind kind) t ts other)
       ]
 
-  fine_types : (all : List PayloadContent) → ((kind : Kind) → times (type_of kind) all ≤ 1) → (before : List Table) (past : List PayloadContent) (ts : List Table) (ps : List PayloadContent)
+  fine_types : (all : List PayloadIn) → ((kind : Kind) → times (type_of kind) all ≤ 1) → (before : List Table) (past : List PayloadIn) (ts : List Table) (ps : List PayloadIn)
       → EachAfter (Reaches signal) before past ts ps → AllByRecursion (IsFineType signal all) ps
   fine_types all once before past [] [] each = tt
   fine_types all once before past [] (p ∷ ps) each = absurd each
@@ -68,19 +68,19 @@ module _ (signal : Signal) where
 
   -- ---- the ids and the records
 
-  all_free : (before : List Table) (past : List PayloadContent) (ts : List Table) (ps : List PayloadContent) → EachAfter (Reaches signal) before past ts ps
+  all_free : (before : List Table) (past : List PayloadIn) (ts : List Table) (ps : List PayloadIn) → EachAfter (Reaches signal) before past ts ps
       → AllAfter (λ before p. is_taken signal before p ≡ false) past ps
   all_free before past [] [] each = tt
   all_free before past [] (p ∷ ps) each = absurd each
   all_free before past (t ∷ ts) [] each = absurd each
   all_free before past (t ∷ ts) (p ∷ ps) each = (each.0.free, all_free (before ++ t ∷ []) (past ++ p ∷ []) ts ps each.1)
 
-  read_after : (before : List Table) (past : List PayloadContent) (t : Table) (p : PayloadContent) → Reaches signal before past t p → IsReadAfter signal past p
+  read_after : (before : List Table) (past : List PayloadIn) (t : Table) (p : PayloadIn) → Reaches signal before past t p → IsReadAfter signal past p
   read_after before past t p r kind known =
       let same : Some t.kind ≡ Some kind = sym r.known ∙ known in
       subst (λ (k : Kind). IsRead k (messages_before past p) p.bytes) (cc same) r.read
 
-  all_read : (before : List Table) (past : List PayloadContent) (ts : List Table) (ps : List PayloadContent) → EachAfter (Reaches signal) before past ts ps → HasFineRecords signal past ps
+  all_read : (before : List Table) (past : List PayloadIn) (ts : List Table) (ps : List PayloadIn) → EachAfter (Reaches signal) before past ts ps → HasFineRecords signal past ps
   all_read before past [] [] each = tt
   all_read before past [] (p ∷ ps) each = absurd each
   all_read before past (t ∷ ts) [] each = absurd each
@@ -89,13 +89,13 @@ module _ (signal : Signal) where
   -- ---- the tables
 
   -- payloads of other types change no sub-stream
-  passed_over : (type : ℤ) (past ps : List PayloadContent) → times type ps ≡ 0 → messages_in type (past ++ ps) ≡ messages_in type past
+  passed_over : (type : ℤ) (past ps : List PayloadIn) → times type ps ≡ 0 → messages_in type (past ++ ps) ≡ messages_in type past
   passed_over type past [] none = ap (messages_in type) (append-nil past)
   passed_over type past (p ∷ ps) none =
       elim (cases_Bool (int_eq p.kind type)) [
-        | inl own ↦ absurd (omega (arith, none, count_hit (λ (q : PayloadContent). int_eq q.kind type) p ps own))
+        | inl own ↦ absurd (omega (arith, none, count_hit (λ (q : PayloadIn). int_eq q.kind type) p ps own))
         | inr other ↦
-            let rest : times type ps ≡ 0 = sym (count_miss (λ (q : PayloadContent). int_eq q.kind type) p ps other) ∙ none in
+            let rest : times type ps ≡ 0 = sym (count_miss (λ (q : PayloadIn). int_eq q.kind type) p ps other) ∙ none in
             ap (messages_in type) (sym (append_assoc past (p ∷ []) ps)) ∙ passed_over type (past ++ p ∷ []) ps rest ∙ messages_in-other type past p other
       ]
 
@@ -110,14 +110,14 @@ module _ (signal : Signal) where
   none_later t ts once = omega (arith, once t.kind, count_hit (λ (u : Table). is_kind u.kind t.kind) t ts (is_itself t.kind))
 
   -- the table that a payload stands for after all payloads of its batch
-  table_is : (before : List Table) (past : List PayloadContent) (t : Table) (p : PayloadContent) (later : List PayloadContent) → (r : Reaches signal before past t p) → times (type_of t.kind) later ≡ 0
+  table_is : (before : List Table) (past : List PayloadIn) (t : Table) (p : PayloadIn) (later : List PayloadIn) → (r : Reaches signal before past t p) → times (type_of t.kind) later ≡ 0
       → table_of signal (past ++ p ∷ later) p ≡ Some r.table
   table_is before past t p later r none =
       let stream : messages_in p.kind (past ++ p ∷ later) ≡ messages_in p.kind (past ++ p ∷ [])
       = ap (messages_in p.kind) (sym (append_assoc past (p ∷ []) later)) ∙ passed_over p.kind (past ++ p ∷ []) later (subst (λ (type : ℤ). times type later ≡ 0) (sym r.type) none) in
       rw r.known (ap (logical t.kind) stream ∙ r.gives)
 
-  pub all_tables : (before : List Table) (past : List PayloadContent) (ts : List Table) (ps : List PayloadContent) → EachAfter (Reaches signal) before past ts ps
+  pub all_tables : (before : List Table) (past : List PayloadIn) (ts : List Table) (ps : List PayloadIn) → EachAfter (Reaches signal) before past ts ps
       → ((kind : Kind) → count_by (λ t. is_kind t.kind kind) ts ≤ 1) → ReadAs (filter_map (table_of signal (past ++ ps)) ps) ts
   all_tables before past [] [] each once = tt
   all_tables before past [] (p ∷ ps) each once = absurd each
@@ -126,7 +126,7 @@ module _ (signal : Signal) where
       let none : times (type_of t.kind) ps ≡ 0 = as_often (before ++ t ∷ []) (past ++ p ∷ []) ts ps t.kind each.1 ∙ none_later t ts once in
       let later : ReadAs (filter_map (table_of signal ((past ++ p ∷ []) ++ ps)) ps) ts = all_tables (before ++ t ∷ []) (past ++ p ∷ []) ts ps each.1 (fewer_once t ts once) in
       let later_is : ReadAs (filter_map (table_of signal (past ++ p ∷ ps)) ps) ts
-      = subst (λ (all : List PayloadContent). ReadAs (filter_map (table_of signal all) ps) ts) (append_assoc past (p ∷ []) ps) later in
+      = subst (λ (all : List PayloadIn). ReadAs (filter_map (table_of signal all) ps) ts) (append_assoc past (p ∷ []) ps) later in
       rw (table_is before past t p ps each.0 none) (each.0.reads, later_is)
 
 -- ---- sizes
@@ -149,14 +149,14 @@ sum_below : {A : Type 0} (f g : A → ℕ) (xs : List A) → ((x : A) → f x �
 sum_below f g [] below = omega arith
 sum_below f g (x ∷ xs) below = omega (arith, below x, sum_below f g xs below, sum_by-cons f x xs, sum_by-cons g x xs)
 
-pub held_little : (signal : Signal) (all : List PayloadContent) → AreHeld all → held_after signal all ≤ held_limit
+pub held_little : (signal : Signal) (all : List PayloadIn) → AreHeld all → held_after signal all ≤ held_limit
 unfolding held_after
 held_little signal all held =
     omega (arith, all_columns signal, sum_below (λ kind. held_in (messages_in (type_of kind) all)) (λ kind. 1572864 * width_of kind) (kinds_of signal) held)
 
 -- ---- all together
 
-module _ (signal : Signal) (before : List Table) (past : List PayloadContent) (ts : List Table) (ps : List PayloadContent) (each : EachAfter (Reaches signal) before past ts ps)
+module _ (signal : Signal) (before : List Table) (past : List PayloadIn) (ts : List Table) (ps : List PayloadIn) (each : EachAfter (Reaches signal) before past ts ps)
     (once : (kind : Kind) → count_by (λ t. is_kind t.kind kind) ts ≤ 1) where
   pub tables_read : ReadAs (tables_of signal past ps) ts
   unfolding tables_of

@@ -5,8 +5,9 @@ use Rattle.std.proofs.lemmas.Grind.{flat_map-append}
 use Rattle.lists.specs.EachAfter.{EachAfter, AllAfter}
 use Rattle.lists.specs.Since.{since}
 use Rattle.lists.proofs.Latest.{since-append}
+use Rattle.lists.specs.Payloads.{PayloadIn}
 use Rattle.otlp_model.specs.declared.request.Request.{Request}
-use Rattle.otap_capture.specs.Batch.{PayloadContent, batch_in}
+use Rattle.otap_capture.specs.Batch.{batch_in}
 use Rattle.otap_capture.specs.Capture.{Frame, Message}
 use Rattle.otap_capture.specs.Capture as capture
 use Rattle.otap_cells.specs.Tables.{Table}
@@ -83,11 +84,11 @@ module _ (far : FarEndReads) (m : Meaning) (rows : SignalRows) (faithful : AreFa
   after_sent before told request message so_far may =
       let sent : payloads_in_all (messages_since (before ++ Sent request message ∷ [])) ≡ payloads_in_all (messages_since before) ++ payloads_in message
       = ap payloads_in_all (messages_sent before request message) ∙ flat_map-append payloads_in (messages_since before) (message ∷ [])
-      ∙ ap (λ (ps : List PayloadContent). payloads_in_all (messages_since before) ++ ps) (append-nil (payloads_in message)) in
+      ∙ ap (λ (ps : List PayloadIn). payloads_in_all (messages_since before) ++ ps) (append-nil (payloads_in message)) in
       record {
         whole = broken_accepted told (batch_in message) (tables before message) ∙ so_far.whole;
         payloads =
-            payloads_accepted told (batch_in message) (tables before message) ∙ ap (λ (ps : List PayloadContent). ps ++ payloads_in message) so_far.payloads ∙ sym sent;
+            payloads_accepted told (batch_in message) (tables before message) ∙ ap (λ (ps : List PayloadIn). ps ++ payloads_in message) so_far.payloads ∙ sym sent;
         segment = rw (requests_sent before request message, messages_sent before request message)
             (longer far m rows faithful (requests_since before) (messages_since before) request message so_far.segment may.exported may.message_of);
       }

@@ -7,13 +7,13 @@ use Rattle.std.proofs.lemmas.Grind.{flat_map-append}
 use Rattle.std.proofs.lemmas.List.{map-append}
 use Rattle.lists.specs.EachAfter.{EachAfter}
 use Rattle.lists.proofs.Growing.{each_after-length}
+use Rattle.lists.specs.Payloads.{PayloadIn}
 use Rattle.otlp_model.specs.Same.{Same}
 use Rattle.otlp_model.specs.declared.request.Request.{Request}
 use Rattle.otlp_model.specs.declared.request.Signal.{Signal}
-use Rattle.otap_capture.specs.Batch.{PayloadContent, IsRealBatch, IsRealPayload, ReadsBatch, batch_in}
+use Rattle.otap_capture.specs.Batch.{IsRealBatch, IsRealPayload, ReadsBatch, batch_in}
 use Rattle.otap_capture.proofs.WrittenBatch.{batch_back}
 use Rattle.otap_cells.specs.Tables.{Table}
-use Rattle.otap_columns.specs.Streams.{PayloadIn}
 use Rattle.otap_columns.specs.TableSets.{IsPayloadOf}
 use Rattle.otap_consume.specs.Defects.{Accepts, tables_of}
 use Rattle.otap_consume.specs.Meanings.{Meaning, HasFineRows}
@@ -36,7 +36,7 @@ all_parts [] = refl
 all_parts (message ∷ messages) = ap (λ (ps : List PayloadIn). payloads_of message ++ ps) (all_parts messages) ∙ sym (map-append part_of (payloads_in message) (payloads_in_all messages))
 
 -- payloads of which the far end finds all are real
-real_payloads : (signal : Signal) (before : List Table) (past : List PayloadContent) (ts : List Table) (ps : List PayloadContent) → EachAfter (Reaches signal) before past ts ps
+real_payloads : (signal : Signal) (before : List Table) (past : List PayloadIn) (ts : List Table) (ps : List PayloadIn) → EachAfter (Reaches signal) before past ts ps
     → AllByRecursion IsRealPayload ps
 real_payloads signal before past [] [] each = tt
 real_payloads signal before past [] (p ∷ ps) each = absurd each
@@ -73,13 +73,13 @@ module _ (far : FarEndReads) (m : Meaning) (rows : SignalRows) (faithful : AreFa
   abbrev before : List Table
   before = flat_map rows.tables requests
 
-  abbrev past : List PayloadContent
+  abbrev past : List PayloadIn
   past = payloads_in_all messages
 
   abbrev ts : List Table
   ts = rows.tables request
 
-  abbrev ps : List PayloadContent
+  abbrev ps : List PayloadIn
   ps = payloads_in message
 
   order : AreInOrder rows.signal ts
@@ -133,7 +133,7 @@ module _ (far : FarEndReads) (m : Meaning) (rows : SignalRows) (faithful : AreFa
       let tables : flat_map rows.tables (requests ++ request ∷ []) ≡ before ++ ts
       = flat_map-append rows.tables requests (request ∷ []) ∙ ap (λ (now : List Table). before ++ now) (append-nil ts) in
       let payloads : payloads_in_all (messages ++ message ∷ []) ≡ past ++ ps
-      = flat_map-append payloads_in messages (message ∷ []) ∙ ap (λ (now : List PayloadContent). past ++ now) (append-nil ps) in
+      = flat_map-append payloads_in messages (message ∷ []) ∙ ap (λ (now : List PayloadIn). past ++ now) (append-nil ps) in
       record {
         so_far = rw (tables, payloads) reached.1;
         few = omega (arith, ap length payloads, length-append past ps, segment.few, few_payloads, length-append requests (request ∷ []));

@@ -6,6 +6,7 @@ use Rattle.std.proofs.lemmas.Bool.{cases_Bool}
 use Rattle.std.proofs.lemmas.List.Elements.{filter-append}
 use Rattle.lists.specs.EachAfter.{EachAfter}
 use Rattle.lists.proofs.Growing.{each_after-push, each_after-keeps, each_after-last}
+use Rattle.lists.specs.Payloads.{PayloadIn}
 use Rattle.arrow_ipc.specs.declared.messages.IpcMessage.{IpcMessage}
 use Rattle.otap_cells.specs.declared.payload.Kind.{Kind}
 use Rattle.otap_cells.specs.Payload.{number_of, is_kind}
@@ -14,7 +15,7 @@ use Rattle.otap_cells.specs.Columns.{width_of}
 use Rattle.otap_columns.specs.WrittenPayloads.{IsWritten, IsRecord, IsReadAs, AreWrittenAs}
 use Rattle.otap_columns.specs.Records.{IsRead}
 use Rattle.otap_columns.specs.Substreams.{held_in, logical, schema_in}
-use Rattle.otap_columns.specs.Streams.{PayloadIn, is_of, of_type, opens, stream_of}
+use Rattle.otap_columns.specs.Streams.{is_of, of_type, opens, stream_of}
 use Rattle.otap_columns.specs.TableSets.{IsPayloadOf, of_kind}
 use Rattle.otap_transit.proofs.KindsApart.{same_kind, types_compared, is_itself}
 

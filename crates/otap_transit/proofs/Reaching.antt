@@ -11,9 +11,9 @@ use Rattle.std.proofs.lemmas.List.{map-append}
 use Rattle.std.proofs.lemmas.Slice.Eq.{bytes_eq-Decides}
 use Rattle.lists.specs.EachAfter.{EachAfter}
 use Rattle.lists.proofs.Growing.{each_after-push}
+use Rattle.lists.specs.Payloads.{PayloadIn}
 use Rattle.arrow_ipc.specs.declared.messages.IpcMessage.{IpcMessage}
 use Rattle.otlp_model.specs.declared.request.Signal.{Signal}
-use Rattle.otap_capture.specs.Batch.{PayloadContent}
 use Rattle.otap_cells.specs.declared.payload.Kind.{Kind}
 use Rattle.otap_cells.specs.Columns.{width_of}
 use Rattle.otap_cells.specs.GivenIds.{ReadsAs}
@@ -21,7 +21,7 @@ use Rattle.otap_cells.specs.Payload.{kinds_of, kind_numbered, number_of}
 use Rattle.otap_cells.specs.Tables.{Table}
 use Rattle.otap_columns.specs.WrittenPayloads.{IsReadAs}
 use Rattle.otap_columns.specs.Records.{IsRead}
-use Rattle.otap_columns.specs.Streams.{PayloadIn, opens, stream_of}
+use Rattle.otap_columns.specs.Streams.{opens, stream_of}
 use Rattle.otap_columns.specs.Substreams.{held_in, logical, substream_in}
 use Rattle.otap_columns.specs.TableSets.{IsPayloadOf, of_kind}
 use Rattle.otap_consume.specs.Defects.{is_id, is_open_for, is_taken}
@@ -32,20 +32,20 @@ use Rattle.otap_transit.proofs.Projected.{FarEndReads, read_as}
 use Rattle.otap_transit.proofs.Reading.{reads_as}
 use Rattle.otap_transit.proofs.SchemaIds.{AreApart, none_open, is_free, still_apart, id_is_text}
 
-pub parts-push : (ps : List PayloadContent) (p : PayloadContent) → parts_of (ps ++ p ∷ []) ≡ parts_of ps ++ part_of p ∷ []
+pub parts-push : (ps : List PayloadIn) (p : PayloadIn) → parts_of (ps ++ p ∷ []) ≡ parts_of ps ++ part_of p ∷ []
 parts-push ps p = map-append part_of ps (p ∷ [])
 
-parts-length : (ps : List PayloadContent) → length (parts_of ps) ≡ length ps
+parts-length : (ps : List PayloadIn) → length (parts_of ps) ≡ length ps
 parts-length [] = refl
 parts-length (p ∷ ps) = ap (λ (n : ℕ). suc n) (parts-length ps)
 
 -- ---- what was written so far
 
 -- all open sub-streams hold no more than their columns may
-abbrev pub AreHeld : List PayloadContent → Type 0
+abbrev pub AreHeld : List PayloadIn → Type 0
 AreHeld past = (kind : Kind) → held_in (messages_in (type_of kind) past) ≤ 1572864 * width_of kind
 
-pub record AreSoFar (before : List Table) (past : List PayloadContent) : Type 0 where
+pub record AreSoFar (before : List Table) (past : List PayloadIn) : Type 0 where
   pub each : EachAfter IsPayloadOf [] [] before (parts_of past)
   pub apart : AreApart (parts_of past)
   pub held : AreHeld past
@@ -60,11 +60,11 @@ nothing_so_far = record { each = tt; apart = none_open; held = none_held }
 -- ---- one payload
 
 -- a payload is that of a table, after tables and payloads
-abbrev pub Follows : List Table → List PayloadContent → Table → PayloadContent → Type 0
+abbrev pub Follows : List Table → List PayloadIn → Table → PayloadIn → Type 0
 Follows before past t p = IsPayloadOf before (parts_of past) t (part_of p)
 
 -- what the far end finds
-pub record Reaches (signal : Signal) (before : List Table) (past : List PayloadContent) (t : Table) (p : PayloadContent) : Type 0 where
+pub record Reaches (signal : Signal) (before : List Table) (past : List PayloadIn) (t : Table) (p : PayloadIn) : Type 0 where
   pub type : p.kind ≡ type_of t.kind
   pub known : kind_numbered signal p.kind ≡ Some t.kind
   pub text : IsUtf8 p.schema_id
@@ -78,7 +78,7 @@ none_passes : {A : Type 0} (test : A → Bool) (xs : List A) → ((x : A) → te
 none_passes test [] none = refl
 none_passes test (x ∷ xs) none = rw (none x) (none_passes test xs none)
 
-module _ (far : FarEndReads) (before : List Table) (past : List PayloadContent) (t : Table) (p : PayloadContent)
+module _ (far : FarEndReads) (before : List Table) (past : List PayloadIn) (t : Table) (p : PayloadIn)
     (so_far : AreSoFar before past) (follows : Follows before past t p) (few : length past < 10 ^ 64) where
   r : IsReadAs t.kind (of_kind t.kind before) (parts_of past) t (part_of p)
   r = read_as far before (parts_of past) t (part_of p) so_far.each follows
@@ -149,7 +149,7 @@ abbrev pub IsOf : Signal → Table → Type 0
 IsOf signal t = kind_numbered signal (type_of t.kind) ≡ Some t.kind
 
 -- those of a message as payloads are known to sub-streams
-pub in_parts : (before : List Table) (past : List PayloadContent) (ts : List Table) (ps : List PayloadContent) → EachAfter IsPayloadOf before (parts_of past) ts (parts_of ps)
+pub in_parts : (before : List Table) (past : List PayloadIn) (ts : List Table) (ps : List PayloadIn) → EachAfter IsPayloadOf before (parts_of past) ts (parts_of ps)
     → EachAfter Follows before past ts ps
 in_parts before past [] [] each = tt
 in_parts before past [] (p ∷ ps) each = absurd each
@@ -161,7 +161,7 @@ in_parts before past (t ∷ ts) (p ∷ ps) each = (
 )
 
 module _ (far : FarEndReads) (signal : Signal) where
-  pub all_reach : (before : List Table) (past : List PayloadContent) (ts : List Table) (ps : List PayloadContent) → AreSoFar before past → EachAfter Follows before past ts ps
+  pub all_reach : (before : List Table) (past : List PayloadIn) (ts : List Table) (ps : List PayloadIn) → AreSoFar before past → EachAfter Follows before past ts ps
       → AllByRecursion (IsOf signal) ts → length (past ++ ps) < 10 ^ 64 → EachAfter (Reaches signal) before past ts ps × AreSoFar (before ++ ts) (past ++ ps)
   all_reach before past [] [] so_far each known few = (tt, rw (append-nil before, append-nil past) so_far)
   all_reach before past [] (p ∷ ps) so_far each known few = absurd each

@@ -1,5 +1,6 @@
 -- A payload that is read as a table stands for one that reads as it.
 use Rattle.std.proofs.Common.{◌≡◌, ℕ, Bool, List, [], ◌∷◌, drop, Option, None, Some, refl, sym, ap, ◌∙◌, subst}
+use Rattle.lists.specs.Payloads.{PayloadIn}
 use Rattle.otap_cells.specs.declared.profile.Coding.{Coding}
 use Rattle.otap_cells.specs.ColumnIds.{stored_in}
 use Rattle.otap_cells.specs.Columns.{coding_at}
@@ -8,7 +9,6 @@ use Rattle.otap_cells.specs.GivenIds.{HasIds, ReadsAs}
 use Rattle.otap_cells.specs.Ids.{Ids, IdsAfter}
 use Rattle.otap_cells.specs.Tables.{Table, greatest_in, greatest_wide}
 use Rattle.otap_columns.specs.WrittenPayloads.{IsReadAs, IsWritable}
-use Rattle.otap_columns.specs.Streams.{PayloadIn}
 
 -- numbers stand for one list of ids, however great these may be
 one_list : (how : Coding) (last most before : ℕ) (rows : List Bool) (ns xs ys : List (Option ℕ)) → IdsAfter how last before rows ns xs → IdsAfter how most before rows ns ys → xs ≡ ys

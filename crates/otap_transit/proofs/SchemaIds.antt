@@ -10,7 +10,8 @@ use Rattle.std.proofs.lemmas.Bool.Decides.{Decides-int_eq}
 use Rattle.std.proofs.lemmas.Fmt.{decimal_is_IsNumeral_wide, IsAscii-decimal_wide}
 use Rattle.std.proofs.lemmas.Slice.Eq.{bytes_eq-Decides}
 use Rattle.std.proofs.lemmas.Str.{IsUtf8-from_ascii}
-use Rattle.otap_columns.specs.Streams.{PayloadIn, is_of, last_of, opens, opens_after, open_id, id_in}
+use Rattle.lists.specs.Payloads.{PayloadIn}
+use Rattle.otap_columns.specs.Streams.{is_of, last_of, opens, opens_after, open_id, id_in}
 use Rattle.otap_columns.specs.TableSets.{openings, openings_after}
 use Rattle.otap_columns.proofs.Openings.{open_id-other, open_id-own}
 

@@ -1,7 +1,8 @@
 -- What a receiver gives a message that is accepted, and a reset.
 use Rattle.std.proofs.Common.{◌≡◌, ℕ, Bool, false, List, refl, sym, ap, ◌∙◌, subst}
 use Rattle.std.specs.Prelude.{MatchBool}
-use Rattle.otap_capture.specs.Batch.{BatchContent, PayloadContent, ReadsBatch, batch_in}
+use Rattle.lists.specs.Payloads.{PayloadIn}
+use Rattle.otap_capture.specs.Batch.{BatchContent, ReadsBatch, batch_in}
 use Rattle.otap_capture.specs.Capture.{Frame, Message}
 use Rattle.otap_capture.specs.Capture as capture
 use Rattle.otap_cells.specs.Tables.{Table}
@@ -22,7 +23,7 @@ given_whole signal told frame o whole after = subst (λ (b : Bool). MatchBool b 
 
 -- ---- a message
 
-pub gives_accepted : (m : Meaning) (told : List Outcome) (past : List PayloadContent) (message : List ℕ) → is_broken told ≡ false → payloads_after told ≡ past → ReadsBatch message (batch_in message)
+pub gives_accepted : (m : Meaning) (told : List Outcome) (past : List PayloadIn) (message : List ℕ) → is_broken told ≡ false → payloads_after told ≡ past → ReadsBatch message (batch_in message)
     → Accepts m.signal past (batch_in message).payloads → HasFineRows m (tables_of m.signal past (batch_in message).payloads)
     → ReceivedAfter m told (Message message) (Accepted (batch_in message) (tables_of m.signal past (batch_in message).payloads))
 gives_accepted m told past message whole payloads reads accepts fine =
@@ -32,11 +33,11 @@ gives_accepted m told past message whole payloads reads accepts fine =
     record {
       seen = Accepted batch tables;
       gives = when_whole m.signal told (Message message) (Accepted batch tables) whole
-          (subst (λ (now : List PayloadContent). Gives m.signal now (Message message) (Accepted batch tables)) (sym payloads) here);
+          (subst (λ (now : List PayloadIn). Gives m.signal now (Message message) (Accepted batch tables)) (sym payloads) here);
       settles = Settles.accepted batch tables fine;
     }
 
-not_reset : (signal : Signal) (past : List PayloadContent) (message : List ℕ) (frame : Frame) (o : Outcome) → frame ≡ Message message → o ≡ Reset → Gives signal past frame o → ⊥
+not_reset : (signal : Signal) (past : List PayloadIn) (message : List ℕ) (frame : Frame) (o : Outcome) → frame ≡ Message message → o ≡ Reset → Gives signal past frame o → ⊥
 not_reset signal past message frame o is same Gives.compressed = cc is
 not_reset signal past message frame o is same (Gives.unreadable bytes refusal bad) = cc same
 not_reset signal past message frame o is same (Gives.refuses bytes batch cause payload reads bad) = cc same
@@ -49,7 +50,7 @@ settles_reset m seen o same (Settles.refuses batch tables cause payload stands) 
 settles_reset m seen o same (Settles.stays_refused refusal) = absurd (cc same)
 settles_reset m seen o same Settles.resets = refl
 
-pub only_accepted : (m : Meaning) (told : List Outcome) (past : List PayloadContent) (message : List ℕ) (outcome : Outcome) → is_broken told ≡ false → payloads_after told ≡ past
+pub only_accepted : (m : Meaning) (told : List Outcome) (past : List PayloadIn) (message : List ℕ) (outcome : Outcome) → is_broken told ≡ false → payloads_after told ≡ past
     → ReadsBatch message (batch_in message) → Accepts m.signal past (batch_in message).payloads → HasFineRows m (tables_of m.signal past (batch_in message).payloads)
     → ReceivedAfter m told (Message message) outcome → outcome ≡ Accepted (batch_in message) (tables_of m.signal past (batch_in message).payloads)
 only_accepted m told past message (Accepted batch tables) whole payloads reads accepts fine after =
@@ -59,12 +60,12 @@ only_accepted m told past message (Accepted batch tables) whole payloads reads a
     let bytes : message ≡ given.bytes = cc given.message in
     let one : batch ≡ batch_in message = given.reads.1 ∙ ap batch_in (sym bytes) in
     let are : tables ≡ tables_of m.signal past (batch_in message).payloads
-    = given.are ∙ ap (λ (now : List PayloadContent). tables_of m.signal now batch.payloads) payloads ∙ ap (λ (b : BatchContent). tables_of m.signal past b.payloads) one in
+    = given.are ∙ ap (λ (now : List PayloadIn). tables_of m.signal now batch.payloads) payloads ∙ ap (λ (b : BatchContent). tables_of m.signal past b.payloads) one in
     λ i. Accepted (one i) (are i)
 only_accepted m told past message (Refused refusal) whole payloads reads accepts fine after =
     let format : IsInFormat m past (Message message) = in_format_by m past message (batch_in message) reads accepts fine in
     let bad : HasDefect m past (Message message) refusal.cause refusal.payload
-    = subst (λ (now : List PayloadContent). HasDefect m now (Message message) refusal.cause refusal.payload) payloads (named m told (Message message) refusal after whole).0 in
+    = subst (λ (now : List PayloadIn). HasDefect m now (Message message) refusal.cause refusal.payload) payloads (named m told (Message message) refusal after whole).0 in
     absurd (format.fine refusal.cause refusal.payload bad)
 only_accepted m told past message Reset whole payloads reads accepts fine after =
     let seen : after.seen ≡ Reset = settles_reset m after.seen Reset refl after.settles in
@@ -79,7 +80,7 @@ gives_reset m told whole = record {
   settles = Settles.resets;
 }
 
-reset_given : (signal : Signal) (past : List PayloadContent) (frame : Frame) (o : Outcome) → frame ≡ capture.Reset → Gives signal past frame o → o ≡ Reset
+reset_given : (signal : Signal) (past : List PayloadIn) (frame : Frame) (o : Outcome) → frame ≡ capture.Reset → Gives signal past frame o → o ≡ Reset
 reset_given signal past frame o is Gives.compressed = absurd (cc is)
 reset_given signal past frame o is (Gives.unreadable bytes refusal bad) = absurd (cc is)
 reset_given signal past frame o is (Gives.refuses bytes batch cause payload reads bad) = absurd (cc is)

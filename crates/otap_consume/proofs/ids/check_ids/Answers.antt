@@ -1,5 +1,5 @@
 use Rattle.std.proofs.Common.{◌≡◌, ◌∙◌, ◌++◌, ◌∷◌, [], List, Some, map, sym, ap, subst, append_assoc, append-nil, false, refl, rules}
-use Rattle.otap_capture.specs.Batch.{PayloadContent, content_of}
+use Rattle.otap_capture.specs.Batch.{content_of}
 use Rattle.otap_consume.specs.declared.refusal.Cause.TheVariants.{SchemaIdTaken}
 use Rattle.otap_consume.specs.declared.not_taken.NotTaken.{NotTaken}
 use Rattle.otap_consume.specs.declared.not_taken.NotTaken.TheVariants.{Defect}
@@ -9,6 +9,7 @@ use Rattle.otap_consume.specs.Stops.{Stops}
 use Rattle.lists.proofs.Lists.{front_more}
 use Rattle.otap_consume.proofs.IdSteps.{ids_step, taken_is}
 use Rattle.lists.proofs.Growing.{all_after-push}
+use Rattle.lists.specs.Payloads.{PayloadIn}
 use Rattle.otap_consume.proofs.ids.check_ids.Goals as goal
 
 pub payloads-init : goal.payloads-init
@@ -47,7 +48,7 @@ returns-then-has_other-clause-stops c = λ signal past are.
         before = kept.front;
         after = c.next.new.self;
         is = sym (c.into_iter-payload-iterator.ensures.into_iter_gives ∙ c.payloads-payload-items.ensures) ∙ kept.whole
-            ∙ ap (λ (ps : List PayloadContent). kept.front ++ ps) c.in-Some.ensures.steps;
+            ∙ ap (λ (ps : List PayloadIn). kept.front ++ ps) c.in-Some.ensures.steps;
       };
       taken = sym (taken_is signal (past ++ kept.front) payload) ∙ ap (has_other payload) (sym (kept.ids signal past are)) ∙ sym c.has_other.ensures ∙ c.if-has_other.true;
       of = refl;

@@ -1,6 +1,7 @@
 use Rattle.std.proofs.Common.{◌∙◌, ◌++◌, ◌∷◌, [], List, sym, ap, refl}
-use Rattle.otap_capture.specs.Batch.{PayloadContent, content_of}
+use Rattle.otap_capture.specs.Batch.{content_of}
 use Rattle.lists.proofs.Lists.{front_more}
+use Rattle.lists.specs.Payloads.{PayloadIn}
 use Rattle.otap_consume.proofs.RecordSteps.{takes_none, takes_more, stops_at}
 use Rattle.otap_consume.proofs.records.take_records.Goals as goal
 
@@ -23,5 +24,5 @@ returns-in-Err-clause-stops c =
     let kept = c.payloads.invariant in
     let payload = content_of c.in-Some.payload in
     stops_at c.args.streams.now c.payloads.streams kept.front c.next.new.self c.args.batch.now.payloads payload c.in-Err.refusal c.stop_of.result kept.takes
-    (sym (c.into_iter-payload-iterator.ensures.into_iter_gives ∙ c.payloads-payload-items.ensures) ∙ kept.whole ∙ ap (λ (ps : List PayloadContent). kept.front ++ ps) c.in-Some.ensures.steps)
+    (sym (c.into_iter-payload-iterator.ensures.into_iter_gives ∙ c.payloads-payload-items.ensures) ∙ kept.whole ∙ ap (λ (ps : List PayloadIn). kept.front ++ ps) c.in-Some.ensures.steps)
     c.in-Err.ensures.refuses c.stop_of.ensures

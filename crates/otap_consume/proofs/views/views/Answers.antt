@@ -1,9 +1,10 @@
 use Rattle.std.proofs.Common.{◌∙◌, ◌∷◌, ◌++◌, List, [], sym, ap, subst}
-use Rattle.otap_capture.specs.Batch.{PayloadContent, content_of}
+use Rattle.otap_capture.specs.Batch.{content_of}
 use Rattle.otap_cells.specs.declared.payload.Kind.{Kind}
 use Rattle.otap_cells.specs.Tables.{Table}
 use Rattle.otap_consume.specs.Views.{IsViewOf, AreViewsOf}
 use Rattle.lists.proofs.Lists.{front_more}
+use Rattle.lists.specs.Payloads.{PayloadIn}
 use Rattle.otap_consume.proofs.Lists.{zip-push}
 use Rattle.otap_consume.proofs.ViewSteps.{shown_at}
 use Rattle.otap_consume.proofs.views.views.Goals as goal
@@ -12,7 +13,7 @@ pub view-requires : goal.view-requires
 view-requires c =
     let kept = c.payloads.invariant in
     shown_at c.args.streams.now c.args.batch.now.payloads kept.front c.next.new.self (content_of c.in-Some.payload) c.requires
-    (sym (c.into_iter-payload-iterator.ensures.into_iter_gives ∙ c.payloads-payload-items.ensures) ∙ kept.whole ∙ ap (λ (ps : List PayloadContent). kept.front ++ ps) c.in-Some.ensures.steps)
+    (sym (c.into_iter-payload-iterator.ensures.into_iter_gives ∙ c.payloads-payload-items.ensures) ∙ kept.whole ∙ ap (λ (ps : List PayloadIn). kept.front ++ ps) c.in-Some.ensures.steps)
 
 pub payloads-preserved : goal.payloads-preserved
 payloads-preserved c =

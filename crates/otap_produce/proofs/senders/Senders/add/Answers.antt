@@ -3,7 +3,7 @@ use Rattle.std.specs.Prelude.{IsUtf8}
 use Rattle.std.specs.Fmt.{decimal}
 use Rattle.std.specs.Int.{w32, cast_signed, cast_unsigned}
 use Rattle.std.proofs.lemmas.Int.{to_z-of_z}
-use Rattle.otap_capture.specs.Batch.{PayloadContent}
+use Rattle.lists.specs.Payloads.{PayloadIn}
 use Rattle.otap_capture.specs.BatchWriting.{with_payload}
 use Rattle.otap_cells.specs.declared.payload.Kind.{Kind}
 use Rattle.otap_cells.specs.Payload.{number_of}
@@ -44,7 +44,7 @@ returns-clause-adds c =
     let written = c.in_ok-written.written in
     let old : SendersIn = record { senders = c.self.inside.senders.items; openings = c.self.inside.openings } in
     let new : SendersIn = record { senders = set c.self.inside.senders.items place changed; openings = c.openings_after-self-inside.result } in
-    let p : PayloadContent = record { schema_id = decimal changed.last; kind = pos (number_of t.kind); bytes = written.bytes.items } in
+    let p : PayloadIn = record { schema_id = decimal changed.last; kind = pos (number_of t.kind); bytes = written.bytes.items } in
     let id_is : c.deref-2.result.now ≡ decimal changed.last = c.deref-2.ensures ∙ c.in_ok-schema_id.ensures.ok ∙ ap decimal c.last-number.ensures in
     let number_is : c.number.result ≡ pos (number_of t.kind) = c.number.ensures ∙ ap (λ (k : Kind). pos (number_of k)) c.kind-kind.ensures in
     let kind_is : cast_signed w32 (cast_unsigned w32 c.number.result) ≡ pos (number_of t.kind) =
