@@ -31,9 +31,8 @@ use Rattle.otap_columns.specs.Known.{place_at, stored_cell}
 use Rattle.otap_columns.specs.Streams.{of_type, is_of, marked_after, stream_of}
 use Rattle.otap_columns.specs.Substreams.{SubstreamIn, substream_of, substream_in, schema_in, value_at, replaced, field_value, value_if, column_value, column_cell, table_in, rows_of, last_rows, table_if, logical}
 use Rattle.otap_consume.specs.Defects.{table_of, tables_of}
-use Rattle.otap_consume.specs.Payloads.{part_of, parts_of, messages_in}
 use Rattle.otap_consume.proofs.ByteCells.{own_cell_bytes, cell_bytes}
-use Rattle.otap_consume.proofs.ByteLists.{Bytes, IfBytes, no_bytes, all_bytes, each_at, each_append, each_filter, each_since, each_last, each_made, each_map, each_flat_map, each_filter_map}
+use Rattle.otap_consume.proofs.ByteLists.{Bytes, IfBytes, no_bytes, all_bytes, each_at, each_append, each_filter, each_since, each_last, each_made, each_flat_map, each_filter_map}
 use Rattle.otap_consume.proofs.ByteMessages.{BatchBytes, MessageBytes, front_bytes}
 
 -- ---- dictionaries
@@ -171,31 +170,25 @@ logical_bytes kind messages fits = table_if_bytes kind (substream_in messages) (
 abbrev pub PayloadBytes : PayloadIn → Type 0
 PayloadBytes p = Bytes p.bytes
 
-abbrev PartBytes : PayloadIn → Type 0
-PartBytes p = Bytes p.bytes
-
 abbrev MarkedBytes : Bool × PayloadIn → Type 0
 MarkedBytes m = Bytes m.1.bytes
 
-marked_bytes : (last : Option PayloadIn) (ps : List PayloadIn) → AllByRecursion PartBytes ps → AllByRecursion MarkedBytes (marked_after last ps)
+marked_bytes : (last : Option PayloadIn) (ps : List PayloadIn) → AllByRecursion PayloadBytes ps → AllByRecursion MarkedBytes (marked_after last ps)
 marked_bytes last [] fits = tt
 marked_bytes last (p ∷ ps) fits = (fits.0, marked_bytes (Some p) ps fits.1)
 
-stream_bytes : (type : ℤ) (ps : List PayloadIn) → AllByRecursion PartBytes ps → AllByRecursion MessageBytes (stream_of type ps)
+stream_bytes : (type : ℤ) (ps : List PayloadIn) → AllByRecursion PayloadBytes ps → AllByRecursion MessageBytes (stream_of type ps)
 unfolding stream_of
 stream_bytes type ps fits =
     each_flat_map MarkedBytes MessageBytes (λ m. front_of m.1.bytes) (λ m own. front_bytes m.1.bytes own) (since (λ m. m.0) (marked_after None (of_type type ps)))
-    (each_since MarkedBytes (λ m. m.0) (marked_after None (of_type type ps)) (marked_bytes None (of_type type ps) (each_filter PartBytes (is_of type) ps fits)))
-
-messages_bytes : (type : ℤ) (payloads : List PayloadIn) → AllByRecursion PayloadBytes payloads → AllByRecursion MessageBytes (messages_in type payloads)
-messages_bytes type payloads fits = stream_bytes type (parts_of payloads) (each_map PayloadBytes PartBytes part_of (λ p own. own) payloads fits)
+    (each_since MarkedBytes (λ m. m.0) (marked_after None (of_type type ps)) (marked_bytes None (of_type type ps) (each_filter PayloadBytes (is_of type) ps fits)))
 
 one_table : (signal : Signal) (all : List PayloadIn) (p : PayloadIn) → AllByRecursion PayloadBytes all → IfSome (table_of signal all p) HasByteCells
 one_table signal all p fits = by_kind (kind_numbered signal p.kind)
   where
-    by_kind : (o : Option Kind) → IfSome (option_and_then (λ kind. logical kind (messages_in p.kind all)) o) HasByteCells
+    by_kind : (o : Option Kind) → IfSome (option_and_then (λ kind. logical kind (stream_of p.kind all)) o) HasByteCells
     by_kind None = tt
-    by_kind (Some kind) = logical_bytes kind (messages_in p.kind all) (messages_bytes p.kind all fits)
+    by_kind (Some kind) = logical_bytes kind (stream_of p.kind all) (stream_bytes p.kind all fits)
 
 named_bytes : (tables : List Table) → AllByRecursion HasByteCells tables → HaveByteCells tables
 named_bytes [] fits kind = at_each_place [] tt

@@ -19,7 +19,7 @@ use Rattle.otap_cells.specs.Tables.{Table}
 use Rattle.otap_cells.specs.Weights.{row_weight_limit, weight_of_tables}
 use Rattle.otap_columns.specs.declared.refusal.ColumnRefusal.{ColumnRefusal}
 use Rattle.otap_columns.specs.Records.{IsRead, Stands, HasSchema, CanGoOn}
-use Rattle.otap_columns.specs.Streams.{opens, opens_after, stream_of}
+use Rattle.otap_columns.specs.Streams.{opens, opens_after, stream_of, last_of}
 use Rattle.otap_columns.proofs.Deciding.{judged, opens_with, has_schema-stays}
 use Rattle.otap_consume.specs.declared.payload_types.TypesRefusal.{TypesRefusal}
 use Rattle.otap_consume.specs.declared.payload_types.TypesRefusal.TheVariants as types
@@ -28,64 +28,64 @@ use Rattle.otap_consume.specs.declared.refusal.Cause.TheVariants.{PayloadType, P
 use Rattle.otap_consume.specs.Limits.{held_limit}
 use Rattle.otap_consume.specs.Defects.{is_taken, HasTakenId, StandsInList, HasFineList, StandsInRecord, IsReadAfter, HasFineRecords, IsTakenAfter}
 use Rattle.otap_consume.specs.Defects.{AreTaken, IsTooLarge, IsWithinLimits, tables_of, held_after, Refuses, AreJudged}
-use Rattle.otap_consume.specs.Payloads.{parts_of, part_of, last_in, messages_in, messages_before}
+use Rattle.otap_consume.specs.Payloads.{messages_before}
 use Rattle.otap_consume.specs.PayloadTypes.{IsFineType, HasFineTypes, StandsInTypes, times}
-use Rattle.otap_consume.proofs.Substreams.{messages_in-other, messages_in-own}
+use Rattle.otap_columns.proofs.Openings.{stream_of-other, stream_of-own}
 use Rattle.otap_consume.proofs.ViewSteps.{fine_at}
 
 -- ---- the sub-stream of a type that was taken has a schema, or no messages
 
 -- one more payload
-goes_on : (signal : Signal) (before : List PayloadIn) (p : PayloadIn) → CanGoOn (messages_in p.kind before) → IsTakenAfter signal before p → CanGoOn (messages_in p.kind (before ++ p ∷ []))
+goes_on : (signal : Signal) (before : List PayloadIn) (p : PayloadIn) → CanGoOn (stream_of p.kind before) → IsTakenAfter signal before p → CanGoOn (stream_of p.kind (before ++ p ∷ []))
 unfolding opens
-goes_on signal before p can t = by_test (opens_after (last_in p.kind before) (part_of p)) refl
+goes_on signal before p can t = by_test (opens_after (last_of p.kind before) p) refl
   where
     own : int_eq p.kind p.kind ≡ true
     own = (Decides-int_eq p.kind p.kind).1 refl
 
-    after : messages_in p.kind (before ++ p ∷ []) ≡ (if opens_after (last_in p.kind before) (part_of p) then front_of p.bytes else messages_in p.kind before ++ front_of p.bytes)
-    after = messages_in-own p.kind before p own
+    after : stream_of p.kind (before ++ p ∷ []) ≡ (if opens_after (last_of p.kind before) p then front_of p.bytes else stream_of p.kind before ++ front_of p.bytes)
+    after = stream_of-own p.kind before p own
 
     begins : messages_before before p ≡ [] → HasSchema (front_of p.bytes)
     begins none = opens_with t.kind p.bytes (subst (λ (ms : List IpcMessage). IsRead t.kind ms p.bytes) none t.read)
 
-    comes_after : messages_before before p ≡ messages_in p.kind before → CanGoOn (messages_in p.kind before) → CanGoOn (messages_in p.kind before ++ front_of p.bytes)
+    comes_after : messages_before before p ≡ stream_of p.kind before → CanGoOn (stream_of p.kind before) → CanGoOn (stream_of p.kind before ++ front_of p.bytes)
     comes_after same (inl none) =
         let first : HasSchema (front_of p.bytes) = begins (same ∙ none) in
         inr (subst (λ (ms : List IpcMessage). HasSchema (ms ++ front_of p.bytes)) (sym none) first)
-    comes_after same (inr has) = inr (has_schema-stays (messages_in p.kind before) (front_of p.bytes) has)
+    comes_after same (inr has) = inr (has_schema-stays (stream_of p.kind before) (front_of p.bytes) has)
 
-    by_test : (b : Bool) → opens_after (last_in p.kind before) (part_of p) ≡ b → CanGoOn (messages_in p.kind (before ++ p ∷ []))
+    by_test : (b : Bool) → opens_after (last_of p.kind before) p ≡ b → CanGoOn (stream_of p.kind (before ++ p ∷ []))
     by_test true is =
-        let none : messages_before before p ≡ [] = ap (λ (b : Bool). if b then [] else messages_in p.kind before) is in
-        subst CanGoOn (sym (after ∙ ap (λ (b : Bool). if b then front_of p.bytes else messages_in p.kind before ++ front_of p.bytes) is)) (inr (begins none))
+        let none : messages_before before p ≡ [] = ap (λ (b : Bool). if b then [] else stream_of p.kind before) is in
+        subst CanGoOn (sym (after ∙ ap (λ (b : Bool). if b then front_of p.bytes else stream_of p.kind before ++ front_of p.bytes) is)) (inr (begins none))
     by_test false is =
-        let same : messages_before before p ≡ messages_in p.kind before = ap (λ (b : Bool). if b then [] else messages_in p.kind before) is in
-        subst CanGoOn (sym (after ∙ ap (λ (b : Bool). if b then front_of p.bytes else messages_in p.kind before ++ front_of p.bytes) is)) (comes_after same can)
+        let same : messages_before before p ≡ stream_of p.kind before = ap (λ (b : Bool). if b then [] else stream_of p.kind before) is in
+        subst CanGoOn (sym (after ∙ ap (λ (b : Bool). if b then front_of p.bytes else stream_of p.kind before ++ front_of p.bytes) is)) (comes_after same can)
 
-all_go_on : (signal : Signal) (before : List PayloadIn) (p : PayloadIn) → ((type : ℤ) → CanGoOn (messages_in type before)) → IsTakenAfter signal before p
-    → (type : ℤ) → CanGoOn (messages_in type (before ++ p ∷ []))
+all_go_on : (signal : Signal) (before : List PayloadIn) (p : PayloadIn) → ((type : ℤ) → CanGoOn (stream_of type before)) → IsTakenAfter signal before p
+    → (type : ℤ) → CanGoOn (stream_of type (before ++ p ∷ []))
 all_go_on signal before p can t type =
     elim (cases_Bool (int_eq p.kind type)) [
-      | inl own ↦ subst (λ (k : ℤ). CanGoOn (messages_in k (before ++ p ∷ []))) ((Decides-int_eq p.kind type).0 own) (goes_on signal before p (can p.kind) t)
-      | inr other ↦ subst CanGoOn (sym (messages_in-other type before p other)) (can type)
+      | inl own ↦ subst (λ (k : ℤ). CanGoOn (stream_of k (before ++ p ∷ []))) ((Decides-int_eq p.kind type).0 own) (goes_on signal before p (can p.kind) t)
+      | inr other ↦ subst CanGoOn (sym (stream_of-other type before p other)) (can type)
     ]
 
-none_yet : (type : ℤ) → CanGoOn (messages_in type [])
+none_yet : (type : ℤ) → CanGoOn (stream_of type [])
 unfolding stream_of
 none_yet type = inl refl
 
-can_go_on : (signal : Signal) (past : List PayloadIn) → AreTaken signal past → (type : ℤ) → CanGoOn (messages_in type past)
+can_go_on : (signal : Signal) (past : List PayloadIn) → AreTaken signal past → (type : ℤ) → CanGoOn (stream_of type past)
 can_go_on signal past taken =
-    each_after-keeps (λ before same p again. IsTakenAfter signal before p) (λ before same. (type : ℤ) → CanGoOn (messages_in type before))
+    each_after-keeps (λ before same p again. IsTakenAfter signal before p) (λ before same. (type : ℤ) → CanGoOn (stream_of type before))
     (λ before same p again can t. all_go_on signal before p can t) [] [] past past none_yet taken
 
-can_come : (before : List PayloadIn) (p : PayloadIn) → CanGoOn (messages_in p.kind before) → CanGoOn (messages_before before p)
-can_come before p can = by_test (opens (parts_of before) (part_of p)) refl
+can_come : (before : List PayloadIn) (p : PayloadIn) → CanGoOn (stream_of p.kind before) → CanGoOn (messages_before before p)
+can_come before p can = by_test (opens before p) refl
   where
-    by_test : (b : Bool) → opens (parts_of before) (part_of p) ≡ b → CanGoOn (messages_before before p)
-    by_test true is = inl (ap (λ (b : Bool). if b then [] else messages_in p.kind before) is)
-    by_test false is = subst CanGoOn (sym (ap (λ (b : Bool). if b then [] else messages_in p.kind before) is)) can
+    by_test : (b : Bool) → opens before p ≡ b → CanGoOn (messages_before before p)
+    by_test true is = inl (ap (λ (b : Bool). if b then [] else stream_of p.kind before) is)
+    by_test false is = subst CanGoOn (sym (ap (λ (b : Bool). if b then [] else stream_of p.kind before) is)) can
 
 -- ---- stage by stage
 

@@ -9,7 +9,8 @@ use Rattle.otap_cells.specs.Payload.{kinds_of, kind_numbered}
 use Rattle.otap_cells.specs.Tables.{Table}
 use Rattle.otap_columns.specs.Substreams.{logical}
 use Rattle.otap_columns.specs.Views.{ReaderIn, StandsAt}
-use Rattle.otap_consume.specs.Payloads.{part_of, type_of, last_in, messages_in}
+use Rattle.otap_columns.specs.Streams.{last_of, stream_of}
+use Rattle.otap_consume.specs.Payloads.{type_of}
 use Rattle.otap_consume.specs.Streams.{OpenIn, StreamIn, IsOpenAfter, IsAfter, reader_if, reader_of}
 use Rattle.otap_consume.specs.Views.{IsViewOf, is_stream_of}
 use Rattle.otap_consume.proofs.IdSteps.{kind_at, count_of}
@@ -18,9 +19,9 @@ use Rattle.otap_consume.proofs.Lists.{Finds, finds}
 
 -- the reader of the sub-stream that the last payload of a type stands in has read to it
 read_by : (payloads : List PayloadIn) (kind : Kind) (last : PayloadIn) (current : Option OpenIn) (reader : ReaderIn) → reader_if current ≡ Some reader
-    → IsOpenAfter payloads kind (Some last) current → StandsAt (messages_in (type_of kind) payloads) last.bytes reader
+    → IsOpenAfter payloads kind (Some last) current → StandsAt (stream_of (type_of kind) payloads) last.bytes reader
 read_by payloads kind last None reader is h = absurd h
-read_by payloads kind last (Some current) reader is h = subst (λ (r : ReaderIn). StandsAt (messages_in (type_of kind) payloads) last.bytes r) (cc is) h.stands
+read_by payloads kind last (Some current) reader is h = subst (λ (r : ReaderIn). StandsAt (stream_of (type_of kind) payloads) last.bytes r) (cc is) h.stands
 
 pub is_view : (streams : List StreamIn) (p : PayloadIn) (s : StreamIn) (reader : ReaderIn) (table : Table) → find (is_stream_of p.kind) streams ≡ Some s → reader_of s ≡ Some reader
     → reader.kind ≡ s.kind → ((messages : List IpcMessage) → StandsAt messages p.bytes reader → logical reader.kind messages ≡ Some table) → table.kind ≡ reader.kind
@@ -38,9 +39,9 @@ is_view streams p s reader table found read of shown named =
           ap (kind_numbered signal) same ∙ subst (λ (k : Kind). kind_numbered signal (type_of k) ≡ Some k) is (numbered signal there.at s.kind inside);
       table = λ payloads are last.
           let here : IsAfter payloads s = subst (IsAfter payloads) (there.is s) (are there.at s there.inside) in
-          let current : IsOpenAfter payloads s.kind (Some (part_of p)) s.current
-          = subst (λ (l : Option PayloadIn). IsOpenAfter payloads s.kind l s.current) (ap (λ type. last_in type payloads) (sym same) ∙ last) here.current in
-          subst (λ (k : Kind). logical k (messages_in p.kind payloads) ≡ Some table) of
-          (shown (messages_in p.kind payloads)
-          (subst (λ type. StandsAt (messages_in type payloads) p.bytes reader) (sym same) (read_by payloads s.kind (part_of p) s.current reader read current)));
+          let current : IsOpenAfter payloads s.kind (Some p) s.current
+          = subst (λ (l : Option PayloadIn). IsOpenAfter payloads s.kind l s.current) (ap (λ type. last_of type payloads) (sym same) ∙ last) here.current in
+          subst (λ (k : Kind). logical k (stream_of p.kind payloads) ≡ Some table) of
+          (shown (stream_of p.kind payloads)
+          (subst (λ type. StandsAt (stream_of type payloads) p.bytes reader) (sym same) (read_by payloads s.kind p s.current reader read current)));
     }

@@ -24,7 +24,7 @@ use Rattle.otap_consume.proofs.KindNumbers.{HasNumber, has_number, numbered, sam
 use Rattle.lists.proofs.Growing.{all_after-push}
 use Rattle.lists.specs.Payloads.{PayloadIn}
 use Rattle.otap_consume.proofs.Lists.{same_by_place}
-use Rattle.otap_consume.proofs.Substreams.{last_in-other, last_in-own}
+use Rattle.otap_consume.proofs.Substreams.{last_of-other, last_of-own}
 
 -- nothing is taken yet
 pub takes_none : (streams : List StreamIn) → TakesAll streams [] streams
@@ -42,11 +42,11 @@ shown done p old new before takes = go (cases_Bool (int_eq p.kind (type_of old.k
     go : (int_eq p.kind (type_of old.kind) ≡ true) ⊎ (int_eq p.kind (type_of old.kind) ≡ false) → ShowsAfter (done ++ p ∷ []) new
     go (inl own) =
         subst (λ (last : Option PayloadIn). ShowsLast last new.current)
-        (sym (last_in-own (type_of new.kind) done p (subst (λ (kind : Kind). int_eq p.kind (type_of kind) ≡ true) (sym takes.kind) own))) (takes.shows own)
+        (sym (last_of-own (type_of new.kind) done p (subst (λ (kind : Kind). int_eq p.kind (type_of kind) ≡ true) (sym takes.kind) own))) (takes.shows own)
     go (inr other) =
         let same : new ≡ old = takes.other other in
         subst (λ (s : StreamIn). ShowsAfter (done ++ p ∷ []) s) (sym same)
-        (subst (λ (last : Option PayloadIn). ShowsLast last old.current) (sym (last_in-other (type_of old.kind) done p other)) before)
+        (subst (λ (last : Option PayloadIn). ShowsLast last old.current) (sym (last_of-other (type_of old.kind) done p other)) before)
 
 pub takes_more : (old mid new : List StreamIn) (done : List PayloadIn) (p : PayloadIn) → TakesAll old done mid → EachTakes mid p new → kinds_in new ≡ kinds_in mid
     → TakesAll old (done ++ p ∷ []) new

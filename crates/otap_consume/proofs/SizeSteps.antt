@@ -10,10 +10,10 @@ use Rattle.otap_cells.specs.Tables.{Table}
 use Rattle.otap_cells.specs.Weights.{row_weight_limit, weight_of_row, weight_of_table, weight_of_tables}
 use Rattle.lists.proofs.Latest.{last_after-none}
 use Rattle.lists.specs.Payloads.{PayloadIn}
-use Rattle.otap_columns.specs.Streams.{of_type, stream_of}
+use Rattle.otap_columns.specs.Streams.{of_type, stream_of, last_of}
 use Rattle.otap_columns.specs.Substreams.{held_in, substream_in}
 use Rattle.otap_consume.specs.Defects.{held_after}
-use Rattle.otap_consume.specs.Payloads.{parts_of, type_of, last_in, messages_in}
+use Rattle.otap_consume.specs.Payloads.{type_of}
 use Rattle.otap_consume.specs.Records.{kinds_in}
 use Rattle.otap_consume.specs.Sizes.{count_of_rows}
 use Rattle.otap_consume.specs.Streams.{OpenIn, StreamIn, IsOpenAfter, AreAfter, held_if, held_of}
@@ -41,16 +41,16 @@ too_many_rows tables count is many = omega (arith, tables_weigh tables)
 -- ---- what is held
 
 -- no message is in the sub-stream of a type of which no payload went before
-no_messages : (type : ℤ) (payloads : List PayloadIn) → last_in type payloads ≡ None → messages_in type payloads ≡ []
+no_messages : (type : ℤ) (payloads : List PayloadIn) → last_of type payloads ≡ None → stream_of type payloads ≡ []
 unfolding stream_of
-no_messages type payloads none = rw (last_after-none (of_type type (parts_of payloads)) none) refl
+no_messages type payloads none = rw (last_after-none (of_type type payloads) none) refl
 
 held_nothing : held_in [] ≡ 0
 unfolding held_in substream_in
 held_nothing = refl
 
-held_at : (payloads : List PayloadIn) (kind : Kind) (last : Option PayloadIn) (current : Option OpenIn) → last_in (type_of kind) payloads ≡ last
-    → IsOpenAfter payloads kind last current → held_if current ≡ held_in (messages_in (type_of kind) payloads)
+held_at : (payloads : List PayloadIn) (kind : Kind) (last : Option PayloadIn) (current : Option OpenIn) → last_of (type_of kind) payloads ≡ last
+    → IsOpenAfter payloads kind last current → held_if current ≡ held_in (stream_of (type_of kind) payloads)
 unfolding held_in
 held_at payloads kind None None is h = sym (ap held_in (no_messages (type_of kind) payloads is) ∙ held_nothing)
 held_at payloads kind None (Some current) is h = absurd h
@@ -61,7 +61,7 @@ pub held_are : (signal : Signal) (payloads : List PayloadIn) (streams : List Str
     → sum_by held_of streams ≡ held_after signal payloads
 unfolding held_after
 held_are signal payloads streams same are =
-    let held : Kind → ℕ = λ kind. held_in (messages_in (type_of kind) payloads) in
+    let held : Kind → ℕ = λ kind. held_in (stream_of (type_of kind) payloads) in
     sum_same held_of (λ (s : StreamIn). held s.kind) streams
-    (λ k d inside. held_at payloads (get_or streams k d).kind (last_in (type_of (get_or streams k d).kind) payloads) (get_or streams k d).current refl (are k d inside).current)
+    (λ k d inside. held_at payloads (get_or streams k d).kind (last_of (type_of (get_or streams k d).kind) payloads) (get_or streams k d).current refl (are k d inside).current)
     ∙ sym (sum_map held (λ (s : StreamIn). s.kind) streams) ∙ ap (sum_by held) same

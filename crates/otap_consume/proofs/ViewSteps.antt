@@ -14,12 +14,13 @@ use Rattle.otap_cells.specs.declared.payload.Kind.{Kind}
 use Rattle.otap_cells.specs.Payload.{number_of, kinds_of, kind_numbered}
 use Rattle.otap_cells.specs.Sets.{IsSet}
 use Rattle.otap_cells.specs.Tables.{Table}
+use Rattle.otap_columns.specs.Streams.{last_of}
 use Rattle.otap_consume.specs.declared.refusal.Cause.{Cause}
 use Rattle.otap_consume.specs.declared.refusal.Cause.TheVariants.{TooManyItems, RowsTooHeavy}
 use Rattle.otap_consume.specs.Limits.{held_limit}
 use Rattle.otap_consume.specs.Defects.{IsTooLarge, table_of, tables_of, held_after}
 use Rattle.otap_consume.specs.Outcomes.{payloads_after}
-use Rattle.otap_consume.specs.Payloads.{part_of, type_of, last_in}
+use Rattle.otap_consume.specs.Payloads.{type_of}
 use Rattle.otap_consume.specs.PayloadTypes.{times, IsFineType, HasFineTypes}
 use Rattle.otap_consume.specs.Records.{ShowsAfter, ShowsLast, kinds_in}
 use Rattle.otap_consume.specs.Segments.{SegmentIn, CanShow, TablesOf}
@@ -32,33 +33,33 @@ use Rattle.otap_consume.proofs.KindNumbers.{HasNumber, has_number}
 use Rattle.otap_consume.proofs.Lists.{Finds, finds, found_some, zip-length}
 use Rattle.otap_consume.proofs.SegmentSteps.{payloads_accepted}
 use Rattle.otap_consume.proofs.SizeSteps.{held_are}
-use Rattle.otap_consume.proofs.Substreams.{last_in-other, last_in-own}
+use Rattle.otap_consume.proofs.Substreams.{last_of-other, last_of-own}
 
 -- ---- the last payload of a type
 
 -- payloads of other types leave the last one of a type as it was
-last_in-none : (type : ℤ) (xs ys : List PayloadIn) → times type ys ≡ 0 → last_in type (xs ++ ys) ≡ last_in type xs
-last_in-none type xs [] none = ap (last_in type) (append-nil xs)
-last_in-none type xs (y ∷ ys) none =
+last_of-none : (type : ℤ) (xs ys : List PayloadIn) → times type ys ≡ 0 → last_of type (xs ++ ys) ≡ last_of type xs
+last_of-none type xs [] none = ap (last_of type) (append-nil xs)
+last_of-none type xs (y ∷ ys) none =
     let count : times type (y ∷ ys) ≡ (if int_eq y.kind type then 1 else 0) + times type ys = sum_by-cons (λ (p : PayloadIn). if int_eq p.kind type then 1 else 0) y ys in
     elim (cases_Bool (int_eq y.kind type)) [
       | inl own ↦ absurd (omega (arith, count ∙ ap (λ b. (if b then 1 else 0) + times type ys) own, none))
       | inr other ↦
-          ap (last_in type) (sym (append_assoc xs (y ∷ []) ys))
-          ∙ last_in-none type (xs ++ y ∷ []) ys (omega (arith, count ∙ ap (λ b. (if b then 1 else 0) + times type ys) other, none))
-          ∙ last_in-other type xs y other
+          ap (last_of type) (sym (append_assoc xs (y ∷ []) ys))
+          ∙ last_of-none type (xs ++ y ∷ []) ys (omega (arith, count ∙ ap (λ b. (if b then 1 else 0) + times type ys) other, none))
+          ∙ last_of-other type xs y other
     ]
 
 -- a payload whose type stands once is the last one of its type
 pub last_is : (past front rest : List PayloadIn) (p : PayloadIn) → times p.kind (front ++ p ∷ rest) ≤ 1
-    → last_in p.kind (past ++ (front ++ p ∷ rest)) ≡ Some (part_of p)
+    → last_of p.kind (past ++ (front ++ p ∷ rest)) ≡ Some p
 last_is past front rest p once =
     let own : int_eq p.kind p.kind ≡ true = (Decides-int_eq p.kind p.kind).1 refl in
     let test : PayloadIn → ℕ = λ q. if int_eq q.kind p.kind then 1 else 0 in
     let here : times p.kind (p ∷ rest) ≡ 1 + times p.kind rest = sum_by-cons test p rest ∙ rw own refl in
     let none : times p.kind rest ≡ 0 = omega (arith, sum_by-append test front (p ∷ rest), here, once) in
-    ap (last_in p.kind) (sym (append_assoc past front (p ∷ rest)) ∙ sym (append_assoc (past ++ front) (p ∷ []) rest))
-    ∙ last_in-none p.kind ((past ++ front) ++ p ∷ []) rest none ∙ last_in-own p.kind (past ++ front) p own
+    ap (last_of p.kind) (sym (append_assoc past front (p ∷ rest)) ∙ sym (append_assoc (past ++ front) (p ∷ []) rest))
+    ∙ last_of-none p.kind ((past ++ front) ++ p ∷ []) rest none ∙ last_of-own p.kind (past ++ front) p own
 
 -- ---- the stream that shows a payload
 
@@ -77,14 +78,14 @@ shown_at streams payloads front rest p can whole = known (kind_numbered can.sign
     fine : IsFineType can.signal payloads p
     fine = fine_at can.signal payloads front rest p can.types whole
 
-    last : last_in p.kind payloads ≡ Some (part_of p)
-    last = ap (last_in p.kind) whole ∙ last_is [] front rest p (subst (λ (ps : List PayloadIn). times p.kind ps ≤ 1) whole fine.once)
+    last : last_of p.kind payloads ≡ Some p
+    last = ap (last_of p.kind) whole ∙ last_is [] front rest p (subst (λ (ps : List PayloadIn). times p.kind ps ≤ 1) whole fine.once)
 
     shows : (s : StreamIn) → Finds (is_stream_of p.kind) streams s → ShowsIf s.current p.bytes
     shows s there =
         let here : ShowsAfter payloads s = subst (ShowsAfter payloads) (there.is s) (can.shows there.at s there.inside) in
         let same : p.kind ≡ type_of s.kind = (Decides-int_eq p.kind (type_of s.kind)).0 there.passes in
-        subst (λ (l : Option PayloadIn). ShowsLast l s.current) (ap (λ (type : ℤ). last_in type payloads) (sym same) ∙ last) here
+        subst (λ (l : Option PayloadIn). ShowsLast l s.current) (ap (λ (type : ℤ). last_of type payloads) (sym same) ∙ last) here
 
     stream : (kind : Kind) → HasNumber can.signal p.kind kind → Shown streams p
     stream kind number =
@@ -107,7 +108,7 @@ module _ (signal : Signal) (past payloads : List PayloadIn) (streams : List Stre
       → table_of signal (past ++ payloads) p ≡ Some view.1
   table_is front rest p view whole is =
       let once : times p.kind (front ++ p ∷ rest) ≤ 1 = subst (λ (ps : List PayloadIn). times p.kind ps ≤ 1) whole (fine_at signal payloads front rest p types whole).once in
-      let last : last_in p.kind (past ++ payloads) ≡ Some (part_of p) = ap (λ (ps : List PayloadIn). last_in p.kind (past ++ ps)) whole ∙ last_is past front rest p once in
+      let last : last_of p.kind (past ++ payloads) ≡ Some p = ap (λ (ps : List PayloadIn). last_of p.kind (past ++ ps)) whole ∙ last_is past front rest p once in
       rw (is.known signal same) (is.table (past ++ payloads) are last)
 
   tables_from : (front rest : List PayloadIn) (views : List (Kind × Table)) → payloads ≡ front ++ rest → AllZip (IsViewOf streams) rest views

@@ -14,11 +14,12 @@ use Rattle.otap_cells.specs.Weights.{row_weight_limit, weight_of_tables}
 use Rattle.otap_columns.specs.declared.refusal.ColumnRefusal.{ColumnRefusal}
 use Rattle.otap_columns.specs.Records.{IsRead, Stands}
 use Rattle.otap_columns.specs.Substreams.{logical, held_in}
+use Rattle.otap_columns.specs.Streams.{open_id, stream_of}
 use Rattle.otap_consume.specs.declared.refusal.Cause.{Cause}
 use Rattle.otap_consume.specs.declared.refusal.Cause.TheVariants.{PayloadType, PayloadTwice, SchemaIdTaken, Column, TooManyItems, RowsTooHeavy, HeldTooMuch}
 use Rattle.otap_consume.specs.Limits.{held_limit}
 use Rattle.otap_consume.specs.declared.payload_types.TypesRefusal.TheVariants as types
-use Rattle.otap_consume.specs.Payloads.{type_of, id_in, messages_in, messages_before}
+use Rattle.otap_consume.specs.Payloads.{type_of, messages_before}
 use Rattle.otap_consume.specs.PayloadTypes.{HasPayload, StandsInTypes, HasFineTypes}
 
 -- ---- the list of payloads
@@ -29,7 +30,7 @@ is_id id None = false
 is_id id (Some current) = bytes_eq current id
 
 abbrev pub is_open_for : List PayloadIn → PayloadIn → Kind → Bool
-is_open_for before p kind = not (int_eq p.kind (type_of kind)) && is_id p.schema_id (id_in (type_of kind) before)
+is_open_for before p kind = not (int_eq p.kind (type_of kind)) && is_id p.schema_id (open_id (type_of kind) before)
 
 abbrev pub is_taken : Signal → List PayloadIn → PayloadIn → Bool
 is_taken signal before p = list_any (is_open_for before p) (kinds_of signal)
@@ -86,7 +87,7 @@ AreTaken signal payloads = AllAfter (IsTakenAfter signal) [] payloads
 
 -- the table of a payload, after all payloads
 abbrev pub table_of : Signal → List PayloadIn → PayloadIn → Option Table
-table_of signal all p = option_and_then (λ kind. logical kind (messages_in p.kind all)) (kind_numbered signal p.kind)
+table_of signal all p = option_and_then (λ kind. logical kind (stream_of p.kind all)) (kind_numbered signal p.kind)
 
 -- THE LOGICAL TABLES of a batch, one for each payload, in the order of the payloads
 unfoldable pub tables_of : Signal → List PayloadIn → List PayloadIn → List Table
@@ -94,7 +95,7 @@ tables_of signal past payloads = filter_map (table_of signal (past ++ payloads))
 
 -- THE HELD WEIGHT: that of all dictionaries of all sub-streams that are open
 unfoldable pub held_after : Signal → List PayloadIn → ℕ
-held_after signal payloads = sum_by (λ kind. held_in (messages_in (type_of kind) payloads)) (kinds_of signal)
+held_after signal payloads = sum_by (λ kind. held_in (stream_of (type_of kind) payloads)) (kinds_of signal)
 
 -- a batch is too large as a whole: its main table has too many rows, its rows weigh too much, or too much is held after it
 abbrev pub IsTooLarge : Signal → List Table → ℕ → Cause → Type 0

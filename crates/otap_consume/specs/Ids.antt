@@ -6,8 +6,9 @@ use Rattle.lists.specs.Payloads.{PayloadIn}
 use Rattle.otlp_model.specs.declared.request.Signal.{Signal}
 use Rattle.otap_cells.specs.declared.payload.Kind.{Kind}
 use Rattle.otap_cells.specs.Payload.{kinds_of}
+use Rattle.otap_columns.specs.Streams.{open_id}
 use Rattle.otap_consume.specs.Defects.{is_id}
-use Rattle.otap_consume.specs.Payloads.{type_of, id_in}
+use Rattle.otap_consume.specs.Payloads.{type_of}
 use Rattle.otap_consume.specs.Streams.{StreamIn, id_of}
 
 pub record OpenIdIn : Type 0 where
@@ -19,7 +20,7 @@ abbrev pub ids_of : List StreamIn → List OpenIdIn
 ids_of streams = map (λ s. record { kind = s.kind; id = id_of s }) streams
 
 abbrev pub ids_after : Signal → List PayloadIn → List OpenIdIn
-ids_after signal payloads = map (λ kind. record { kind = kind; id = id_in (type_of kind) payloads }) (kinds_of signal)
+ids_after signal payloads = map (λ kind. record { kind = kind; id = open_id (type_of kind) payloads }) (kinds_of signal)
 
 -- one of another type is that of the payload
 abbrev pub is_other : PayloadIn → OpenIdIn → Bool

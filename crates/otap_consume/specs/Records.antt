@@ -6,8 +6,9 @@ use Rattle.otlp_model.specs.declared.request.Signal.{Signal}
 use Rattle.otap_cells.specs.declared.payload.Kind.{Kind}
 use Rattle.otap_cells.specs.Payload.{kinds_of}
 use Rattle.otap_columns.specs.declared.refusal.ColumnRefusal.{ColumnRefusal}
+use Rattle.otap_columns.specs.Streams.{last_of}
 use Rattle.otap_consume.specs.Defects.{HasFineRecords}
-use Rattle.otap_consume.specs.Payloads.{type_of, last_in}
+use Rattle.otap_consume.specs.Payloads.{type_of}
 use Rattle.otap_consume.specs.Streams.{OpenIn, StreamIn, AreAfter, Takes, DoesNotTake, ShowsIf}
 
 abbrev pub kinds_in : List StreamIn → List Kind
@@ -30,7 +31,7 @@ ShowsLast None current = ⊤
 ShowsLast (Some last) current = ShowsIf current last.bytes
 
 abbrev pub ShowsAfter : List PayloadIn → StreamIn → Type 0
-ShowsAfter payloads s = ShowsLast (last_in (type_of s.kind) payloads) s.current
+ShowsAfter payloads s = ShowsLast (last_of (type_of s.kind) payloads) s.current
 
 -- the streams have taken payloads, one after the other
 pub record TakesAll (old : List StreamIn) (payloads : List PayloadIn) (new : List StreamIn) : Type 0 where

@@ -8,7 +8,8 @@ use Rattle.otap_columns.specs.declared.refusal.ColumnRefusal.TheVariants as refu
 use Rattle.otap_columns.specs.Records.{IsRead, Stands}
 use Rattle.otap_columns.specs.Dictionaries.{held_weight}
 use Rattle.otap_columns.specs.Views.{ReaderIn, StandsAt, Shows}
-use Rattle.otap_consume.specs.Payloads.{type_of, last_in, messages_in, messages_before}
+use Rattle.otap_columns.specs.Streams.{last_of, stream_of}
+use Rattle.otap_consume.specs.Payloads.{type_of, messages_before}
 
 -- a sub-stream that is open: its schema id, and its reader
 pub record OpenIn : Type 0 where
@@ -22,7 +23,7 @@ pub record StreamIn : Type 0 where
 -- it is that of the last payload of its type, and its reader has read to it
 pub record IsReadTo (payloads : List PayloadIn) (kind : Kind) (last : PayloadIn) (current : OpenIn) : Type 0 where
   pub id : current.schema_id ≡ last.schema_id
-  pub stands : StandsAt (messages_in (type_of kind) payloads) last.bytes current.reader
+  pub stands : StandsAt (stream_of (type_of kind) payloads) last.bytes current.reader
   pub shows : Shows current.reader last.bytes
 
 abbrev pub IsOpenAfter : List PayloadIn → Kind → Option PayloadIn → Option OpenIn → Type 0
@@ -33,7 +34,7 @@ IsOpenAfter payloads kind (Some last) (Some current) = IsReadTo payloads kind la
 
 -- THE STREAM OF A TYPE AFTER PAYLOADS: none is open where none of the type went before
 pub record IsAfter (payloads : List PayloadIn) (s : StreamIn) : Type 0 where
-  pub current : IsOpenAfter payloads s.kind (last_in (type_of s.kind) payloads) s.current
+  pub current : IsOpenAfter payloads s.kind (last_of (type_of s.kind) payloads) s.current
 
 abbrev pub AreAfter : List PayloadIn → List StreamIn → Type 0
 AreAfter payloads streams = All (IsAfter payloads) streams

@@ -8,7 +8,8 @@ use Rattle.otap_cells.specs.declared.payload.Kind.{Kind}
 use Rattle.otap_cells.specs.Payload.{kinds_of, kind_numbered}
 use Rattle.otap_cells.specs.Tables.{Table}
 use Rattle.otap_columns.specs.Substreams.{logical}
-use Rattle.otap_consume.specs.Payloads.{type_of, part_of, last_in, messages_in}
+use Rattle.otap_columns.specs.Streams.{last_of, stream_of}
+use Rattle.otap_consume.specs.Payloads.{type_of}
 use Rattle.otap_consume.specs.Records.{kinds_in}
 use Rattle.otap_consume.specs.Streams.{StreamIn, AreAfter, ShowsIf}
 
@@ -28,8 +29,8 @@ pub record IsViewOf (streams : List StreamIn) (p : PayloadIn) (view : Kind × Ta
   pub type : type_of view.0 ≡ p.kind
   pub kind : view.1.kind ≡ view.0
   pub known : (signal : Signal) → kinds_in streams ≡ kinds_of signal → kind_numbered signal p.kind ≡ Some view.0
-  pub table : (payloads : List PayloadIn) → AreAfter payloads streams → last_in p.kind payloads ≡ Some (part_of p)
-      → logical view.0 (messages_in p.kind payloads) ≡ Some view.1
+  pub table : (payloads : List PayloadIn) → AreAfter payloads streams → last_of p.kind payloads ≡ Some p
+      → logical view.0 (stream_of p.kind payloads) ≡ Some view.1
 
 -- each of these is that of its payload
 abbrev pub AreViewsOf : List StreamIn → List PayloadIn → List (Kind × Table) → Type 0

@@ -11,7 +11,8 @@ use Rattle.otap_capture.specs.Outside.{AppendsFront}
 use Rattle.otap_capture.proofs.Known.{Keeps-refl, Appends-trans, Appends-kept, front_more, front_of_all, front_of_none}
 use Rattle.otap_columns.specs.TableSets.{openings}
 use Rattle.otap_produce.specs.Exporters.{ExporterIn}
-use Rattle.otap_produce.specs.Policy.{IsExported, SignalRows, Policy, payloads_of}
+use Rattle.otap_capture.specs.Batch.{payloads_in}
+use Rattle.otap_produce.specs.Policy.{IsExported, SignalRows, Policy}
 use Rattle.otlp_load.specs.Load.{generated, items_each}
 use Rattle.otlp_model.specs.declared.request.Request.{Request}
 use Rattle.otlp_model.specs.declared.request.Signal.{Signal}
@@ -42,7 +43,7 @@ abbrev pub line_by : ℕ → ℕ → ℕ → List ℕ
 line_by requests items opened = codes "requests " ++ decimal requests ++ codes " items " ++ decimal items ++ codes " openings " ++ decimal opened ++ line_feed
 
 pub line_says : (s : Signal) (n items opened : ℕ) (messages : List (List ℕ)) → ((r : ℕ) → length (telemetry (generated s r)) ≡ items_each) → items ≡ items_each * n
-    → opened ≡ openings (flat_map payloads_of messages) → line_by n items opened ≡ load_line (first_requests s n) messages
+    → opened ≡ openings (flat_map payloads_in messages) → line_by n items opened ≡ load_line (first_requests s n) messages
 line_says s n items opened messages each many counted =
     rw (requests_counted s n, items_counted s each 0 n, ← many, ← counted) refl
 
@@ -97,7 +98,7 @@ module _ (load : Load) (rows : SignalRows) (same : rows ≡ rows_of load.signal)
   })
 
   module _ (each : (r : ℕ) → length (telemetry (generated rows.signal r)) ≡ items_each) where
-    line_of : (messages : List (List ℕ)) (items opened : ℕ) → items ≡ items_each * load.requests → opened ≡ openings (flat_map payloads_of messages)
+    line_of : (messages : List (List ℕ)) (items opened : ℕ) → items ≡ items_each * load.requests → opened ≡ openings (flat_map payloads_in messages)
         → line_by load.requests items opened ≡ load_line (requests_of load) messages
     line_of messages items opened many counted =
         line_says rows.signal load.requests items opened messages each many counted ∙ ap (λ (r : SignalRows). load_line (first_requests r.signal load.requests) messages) same

@@ -8,11 +8,11 @@ use Rattle.std.proofs.lemmas.List.FromFn.{length-map-range_with_len, map-range_w
 use Rattle.std.proofs.lemmas.Bool.{false≢true}
 use Rattle.lists.specs.EachAfter.{EachAfter}
 use Rattle.lists.proofs.Growing.{each_after-last}
-use Rattle.otap_capture.specs.Batch.{ReadsBatch, batch_in}
+use Rattle.otap_capture.specs.Batch.{ReadsBatch, batch_in, payloads_in}
 use Rattle.otap_consume.specs.Meanings.{Meaning}
 use Rattle.otap_produce.specs.Exporters.{ExporterIn, StandsFor, Exports}
 use Rattle.otap_produce.specs.Limits.{batch_limit}
-use Rattle.otap_produce.specs.Policy.{SignalRows, IsExported, Policy, payloads_of}
+use Rattle.otap_produce.specs.Policy.{SignalRows, IsExported, Policy}
 use Rattle.otap_transit.specs.Transits.{IsReceivedAs}
 use Rattle.otlp_load.specs.Load.{generated, requests_at_most}
 use Rattle.otlp_model.specs.declared.request.Request.{Request}
@@ -38,12 +38,12 @@ module _ (rows : SignalRows) where
       omega arith
 
   pub loads_next : (n : ℕ) (e e' : ExporterIn) (o o' : Opened) (message : List ℕ) → Exports rows (generated rows.signal n) e e' message
-      → Counts (payloads_of message) o o' → LoadsNext rows n e e' o o' message
+      → Counts (payloads_in message) o o' → LoadsNext rows n e e' o o' message
   loads_next n e e' o o' message exports counts = record {
     after = λ messages has. record {
       stands = subst (λ qs. StandsFor rows qs (messages ++ message ∷ []) e') (sym (requests_more rows.signal n)) (exports.stands (first_requests rows.signal n) messages has.stands);
       exported = subst (λ qs. All (IsExported rows) qs) (sym (requests_more rows.signal n)) (All-push (IsExported rows) (first_requests rows.signal n) (generated rows.signal n) has.exported exports.exported);
-      counted = subst (λ ps. HasCounted ps o') (flat_map_more payloads_of [] messages message) (counts.after (flat_map payloads_of messages) has.counted);
+      counted = subst (λ ps. HasCounted ps o') (flat_map_more payloads_in [] messages message) (counts.after (flat_map payloads_in messages) has.counted);
     };
     short = exports.short;
   }

@@ -1,6 +1,6 @@
 -- The openings of payloads, as they are counted one after the other.
 use Rattle.std.proofs.Common.{◌≡◌, inl, inr, ℕ, ◌+◌, Bool, true, false, List, [], ◌∷◌, ◌++◌, Option, Some, None, OnOk, Result, Ok, Err, ℤ, refl, sym, ap, ◌∙◌, subst, append_assoc, arith}
-use Rattle.std.specs.Prelude.{map, option_map, String, string_bytes, not, bytes_eq}
+use Rattle.std.specs.Prelude.{option_map, String, string_bytes, not, bytes_eq}
 use Rattle.std.specs.BTreeMap.{BTreeMap, get, Updates, IsEmpty}
 use Rattle.std.specs.Global.{Global}
 use Rattle.std.specs.declared.cmp.Ordering.{Ordering}
@@ -8,14 +8,12 @@ use Rattle.std.specs.declared.cmp.Ordering.TheVariants as ordering
 use Rattle.std.specs.Ordering.{int_cmp, int_eq, is_eq}
 use Rattle.std.proofs.lemmas.Bool.{cases_Bool, false≢true}
 use Rattle.std.proofs.lemmas.Map.Lookups.{exact_signed}
-use Rattle.std.proofs.lemmas.List.{map-append}
 use Rattle.std.proofs.lemmas.Bool.Decides.{Decides-int_eq}
 use Rattle.lists.specs.Payloads.{PayloadIn}
 use Rattle.otap_columns.specs.Streams.{is_of, open_id, opens, opens_after, last_of, id_in}
 use Rattle.otap_columns.specs.TableSets.{openings}
 use Rattle.otap_columns.proofs.Openings.{open_id-own, open_id-other}
 use Rattle.otap_produce.proofs.Counting.{if_opens, openings-none, openings-push}
-use Rattle.otap_produce.specs.Policy.{part_of}
 use Rattle.otap_transit.proofs.SchemaIds.{stays_open}
 use Rattle.otap_gateway.specs.declared.opened.Opened.{Opened}
 use Rattle.otap_gateway.specs.Loading.{HasCounted, Counts, CountsFront, Opens}
@@ -80,14 +78,14 @@ opens_unknown o past p found has =
 
 -- ---- all payloads of a message
 
-pub front_more : (all left : List PayloadIn) (p : PayloadIn) (old mid new : Opened) → CountsFront all (p ∷ left) old mid → Counts (part_of p ∷ []) mid new → CountsFront all left old new
+pub front_more : (all left : List PayloadIn) (p : PayloadIn) (old mid new : Opened) → CountsFront all (p ∷ left) old mid → Counts (p ∷ []) mid new → CountsFront all left old new
 front_more all left p old mid new so_far one = record {
   done = so_far.done ++ p ∷ [];
   split = append_assoc so_far.done (p ∷ []) left ∙ so_far.split;
   counts = record {
     after = λ past has. subst (λ ps. HasCounted ps new)
-        (append_assoc past (map part_of so_far.done) (part_of p ∷ []) ∙ ap (λ ps. past ++ ps) (sym (map-append part_of so_far.done (p ∷ []))))
-        (one.after (past ++ map part_of so_far.done) (so_far.counts.after past has));
+        (append_assoc past so_far.done (p ∷ []))
+        (one.after (past ++ so_far.done) (so_far.counts.after past has));
   };
 }
 

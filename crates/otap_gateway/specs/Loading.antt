@@ -1,5 +1,5 @@
 -- The steps of a load, in the words of its private contracts.
-use Rattle.std.specs.Prelude.{◌≡◌, ◌+◌, ◌≤◌, ℕ, ℤ, false, List, [], ◌∷◌, ◌++◌, length, map, All, Option, Some, option_map, string_bytes}
+use Rattle.std.specs.Prelude.{◌≡◌, ◌+◌, ◌≤◌, ℕ, ℤ, false, List, [], ◌∷◌, ◌++◌, length, All, Option, Some, option_map, string_bytes}
 use Rattle.std.specs.BTreeMap.{get}
 use Rattle.std.specs.List.{flat_map}
 use Rattle.std.specs.Io.KnownBytes.{Appends}
@@ -9,7 +9,8 @@ use Rattle.otap_capture.specs.Capture.{longest_frame}
 use Rattle.otap_columns.specs.Streams.{open_id}
 use Rattle.otap_columns.specs.TableSets.{openings}
 use Rattle.otap_produce.specs.Exporters.{ExporterIn, StandsFor}
-use Rattle.otap_produce.specs.Policy.{SignalRows, IsExported, part_of, payloads_of}
+use Rattle.otap_capture.specs.Batch.{payloads_in}
+use Rattle.otap_produce.specs.Policy.{SignalRows, IsExported}
 use Rattle.otap_gateway.specs.declared.opened.Opened.{Opened}
 use Rattle.otap_gateway.specs.Loads.{first_requests, frames_text}
 
@@ -34,7 +35,7 @@ pub record Opens (kind : ℤ) (id : List ℕ) (old new : Opened) : Type 0 where
 pub record CountsFront (all left : List PayloadIn) (old new : Opened) : Type 0 where
   pub done : List PayloadIn
   pub split : done ++ left ≡ all
-  pub counts : Counts (map part_of done) old new
+  pub counts : Counts done old new
 
 -- ---- the requests
 
@@ -42,7 +43,7 @@ pub record CountsFront (all left : List PayloadIn) (old new : Opened) : Type 0 w
 pub record HasLoaded (rows : SignalRows) (count : ℕ) (messages : List (List ℕ)) (e : ExporterIn) (o : Opened) : Type 0 where
   pub stands : StandsFor rows (first_requests rows.signal count) messages e
   pub exported : All (IsExported rows) (first_requests rows.signal count)
-  pub counted : HasCounted (flat_map payloads_of messages) o
+  pub counted : HasCounted (flat_map payloads_in messages) o
 
 -- some messages
 pub record IsLoading (rows : SignalRows) (count : ℕ) (e : ExporterIn) (o : Opened) : Type 0 where

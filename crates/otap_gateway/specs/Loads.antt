@@ -8,7 +8,8 @@ use Rattle.std.specs.Io.KnownBytes.{Appends, Keeps}
 use Rattle.otap_capture.specs.Capture.{message_frame}
 use Rattle.otap_capture.specs.Outside.{AppendsFront}
 use Rattle.otap_columns.specs.TableSets.{openings}
-use Rattle.otap_produce.specs.Policy.{IsExported, Policy, payloads_of}
+use Rattle.otap_capture.specs.Batch.{payloads_in}
+use Rattle.otap_produce.specs.Policy.{IsExported, Policy}
 use Rattle.otlp_load.specs.Load.{generated, requests_at_most}
 use Rattle.otlp_model.specs.declared.request.Request.{Request}
 use Rattle.otlp_model.specs.declared.request.Signal.{Signal}
@@ -57,7 +58,7 @@ abbrev pub load_line : List Request → List (List ℕ) → List ℕ
 load_line requests messages =
     codes "requests " ++ decimal (length requests)
     ++ codes " items " ++ decimal (sum_by (λ request. length (telemetry request)) requests)
-    ++ codes " openings " ++ decimal (openings (flat_map payloads_of messages)) ++ line_feed
+    ++ codes " openings " ++ decimal (openings (flat_map payloads_in messages)) ++ line_feed
 
 -- THE LOAD IS WRITTEN: its requests are exported, out grew by the frames of messages that the policy gives them, and err by the
 -- line; all of it is passed on

@@ -1,9 +1,8 @@
 //! Counts the payloads that open a sub-stream.
 ghost use Rattle.std.specs.Prelude.{◌≡◌, ◌∷◌, [], List, OnOk, not};
 ghost use Rattle.lists.specs.Payloads.{PayloadIn};
-ghost use Rattle.otap_capture.specs.Batch.{ReadsBatch, batch_in, content_of};
+ghost use Rattle.otap_capture.specs.Batch.{ReadsBatch, batch_in, content_of, payloads_in};
 ghost use Rattle.otap_columns.specs.Streams.{opens};
-ghost use Rattle.otap_produce.specs.Policy.{part_of, payloads_of};
 ghost use Rattle.otap_gateway.specs.Loading.{Counts, HasCounted, Opens};
 
 use otap_capture::{Payload, one_batch, read_batch};
@@ -40,7 +39,7 @@ impl Opened {
     /// Counts the payloads of a batch message.
     pub(crate) fn add(&mut self, message: &[u8]) -> Result<(), AllocError>
         requires { ReadsBatch message.now (batch_in message.now) }
-        ensures { OnOk result (Counts (payloads_of message.now) self.old self.new) }
+        ensures { OnOk result (Counts (payloads_in message.now) self.old self.new) }
     {
         one_batch();
         let Ok(batch) = read_batch(message) else {
@@ -53,7 +52,7 @@ impl Opened {
     }
 
     fn add_payload(&mut self, payload: &Payload<'_>) -> Result<(), AllocError>
-        ensures { OnOk result (Counts (part_of (content_of payload.now) ∷ []) self.old self.new) }
+        ensures { OnOk result (Counts (content_of payload.now ∷ []) self.old self.new) }
     {
         if self.is_open(payload) {
             return Ok(());
@@ -76,7 +75,7 @@ impl Opened {
 
     /// Whether the payload goes on with the sub-stream that is open for its type.
     fn is_open(&self, payload: &Payload<'_>) -> bool
-        ensures { (past : List PayloadIn) → HasCounted past self.now → opens past (part_of (content_of payload.now)) ≡ not result }
+        ensures { (past : List PayloadIn) → HasCounted past self.now → opens past (content_of payload.now) ≡ not result }
     {
         match self.last.get(&payload.kind) {
             Some(id) => id.as_str() == payload.schema_id,

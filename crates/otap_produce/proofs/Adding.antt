@@ -1,7 +1,7 @@
 -- A payload is added to a batch, and those of tables one after the other.
 use Rattle.std.proofs.Common.{◌≡◌, ℕ, ◌+◌, ◌<◌, ◌≤◌, ◌^◌, Bool, true, false, List, [], ◌∷◌}
 use Rattle.std.proofs.Common.{◌++◌, length, get_or, set, take, if◌then◌else◌, refl, sym, ap, ◌∙◌, subst, arith, length-take}
-use Rattle.std.specs.Prelude.{map, FitsSigned, IsUtf8}
+use Rattle.std.specs.Prelude.{FitsSigned, IsUtf8}
 use Rattle.std.specs.Int.{w32}
 use Rattle.std.proofs.Math.Seq.{map-set_same}
 use Rattle.std.proofs.lemmas.Fmt.{length-decimal-le}
@@ -15,7 +15,6 @@ use Rattle.otap_cells.specs.Payload.{kinds_of}
 use Rattle.otap_cells.specs.Sets.{tables_in}
 use Rattle.otap_cells.specs.Tables.{Table}
 use Rattle.otap_produce.specs.Exporters.{SenderIn, SendersIn, kinds_in}
-use Rattle.otap_produce.specs.Policy.{part_of}
 use Rattle.otap_produce.specs.SentMessages.{Adds, AreReady, AreReadyForAll, CanSend}
 use Rattle.otap_columns.specs.Limits.{record_limit}
 use Rattle.otap_produce.proofs.Batches.{adds_more, history_after}
@@ -32,7 +31,7 @@ counted false n = omega arith
 
 module _ (signal : Signal) (old new : SendersIn) (place : ℕ) (s changed : SenderIn) (t : Table) (opened : Bool) (p : PayloadIn) (batch grown : BatchContent)
     (kinds : kinds_in old.senders ≡ kinds_of signal) (inside : place < length old.senders) (is : s ≡ get_or old.senders place s)
-    (one : SendsOne s changed old.openings t opened (part_of p)) (senders : new.senders ≡ set old.senders place changed)
+    (one : SendsOne s changed old.openings t opened p) (senders : new.senders ≡ set old.senders place changed)
     (count : new.openings ≡ (if opened then old.openings + 1 else old.openings)) where
   pub adds_one : grown ≡ with_payload batch p → IsUtf8 p.schema_id → FitsSigned w32 p.kind → length p.bytes ≤ record_limit t → changed.last < 2 ^ 64 → Adds (t ∷ []) old new batch grown
   adds_one more utf8 fits limit small =
@@ -43,8 +42,8 @@ module _ (signal : Signal) (old new : SendersIn) (place : ℕ) (s changed : Send
         are = ap (λ (b : BatchContent). b.payloads) more;
         real = (record { schema_id = utf8; kind = fits }, tt);
         sends =
-            sends_one signal old new place s changed t opened (part_of p) kinds inside
-            (subst (λ (x : SenderIn). SendsOne x changed old.openings t opened (part_of p)) is one) senders count;
+            sends_one signal old new place s changed t opened p kinds inside
+            (subst (λ (x : SenderIn). SendsOne x changed old.openings t opened p) is one) senders count;
         openings = omega (arith, count, counted opened old.openings);
         size = omega (arith, digits, limit);
         count = refl;
@@ -66,7 +65,7 @@ module _ (pairs : List (Kind × Table)) (i : ℕ) (d : Kind × Table) (first now
       record {
         signal = ready.signal;
         kinds = kinds ∙ ready.kinds;
-        history = history_after (tables (take i pairs)) first now (map part_of adds.payloads) ready.history adds.sends;
+        history = history_after (tables (take i pairs)) first now adds.payloads ready.history adds.sends;
         can = subst (λ (ks : List Kind). CanSend ks (get_or pairs i d).1) (sym kinds) (subst (CanSend (kinds_in first.senders)) at can);
         room = omega (arith, adds.openings, ready.room, long, done, length-take i pairs, inside);
       }

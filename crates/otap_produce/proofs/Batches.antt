@@ -1,15 +1,12 @@
 -- Payloads are added to a batch one after the other, and the batch is written as a message.
-use Rattle.std.proofs.Common.{◌≡◌, ◌+◌, List, [], ◌∷◌, ◌++◌, refl, sym, ap, ◌∙◌, subst, arith, append_assoc, append-nil, length-append}
-use Rattle.std.specs.Prelude.{map}
+use Rattle.std.proofs.Common.{◌≡◌, ◌+◌, List, [], ◌∷◌, ◌++◌, refl, sym, ap, ◌∙◌, arith, append_assoc, append-nil, length-append}
 use Rattle.std.specs.List.{AllByRecursion}
-use Rattle.std.proofs.lemmas.List.{map-append}
 use Rattle.lists.proofs.Growing.{each_after-append}
 use Rattle.lists.specs.Payloads.{PayloadIn}
 use Rattle.otap_capture.specs.Batch.{BatchContent, IsRealPayload}
 use Rattle.otap_cells.specs.Tables.{Table}
 use Rattle.otap_columns.specs.TableSets.{IsPayloadOf}
 use Rattle.otap_produce.specs.Exporters.{SendersIn}
-use Rattle.otap_produce.specs.Policy.{part_of}
 use Rattle.otap_produce.specs.SentMessages.{Adds, HaveHistory, Sends}
 use Rattle.otap_produce.specs.Sizes.{most_of, size_of}
 
@@ -56,9 +53,7 @@ adds_more ts us a b c x y z one two = record {
   id = two.id ∙ one.id;
   are = two.are ∙ ap (λ (ps : List PayloadIn). ps ++ two.payloads) one.are ∙ append_assoc x.payloads one.payloads two.payloads;
   real = all_more one.payloads two.payloads one.real two.real;
-  sends =
-      subst (Sends (ts ++ us) a c) (sym (map-append part_of one.payloads two.payloads))
-      (sends_more ts us a b c (map part_of one.payloads) (map part_of two.payloads) one.sends two.sends);
+  sends = sends_more ts us a b c one.payloads two.payloads one.sends two.sends;
   openings = omega (arith, one.openings, two.openings, length-append ts us);
   size = omega (arith, one.size, two.size, size_more one.payloads two.payloads, most_more ts us);
   count = omega (arith, one.count, two.count, length-append one.payloads two.payloads, length-append ts us);

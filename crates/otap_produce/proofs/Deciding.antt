@@ -18,7 +18,8 @@ use Rattle.otap_columns.specs.Streams.{is_of, id_in, last_of, opens, opens_after
 use Rattle.otap_columns.specs.TableSets.{ArePayloadsOf, IsPayloadOf, openings}
 use Rattle.otap_columns.proofs.Openings.{open_id-own, open_id-other}
 use Rattle.otap_produce.specs.Exporters.{ExporterIn, HasSent, HaveSent, SenderIn, SendersIn, StandsFor}
-use Rattle.otap_produce.specs.Policy.{IsMessageOf, Policy, SignalRows, payloads_of}
+use Rattle.otap_capture.specs.Batch.{payloads_in}
+use Rattle.otap_produce.specs.Policy.{IsMessageOf, Policy, SignalRows}
 use Rattle.otap_produce.proofs.Counting.{if_opens, openings-push}
 
 -- ---- one payload
@@ -103,21 +104,21 @@ one_more f xs x = flat_map-append f xs (x ∷ []) ∙ ap (λ ys. flat_map f xs +
 -- the payloads of messages by the policy are those of all tables, one after the other
 all_payloads : (rows : SignalRows) (before : List Request) (past : List (List ℕ)) (requests : List Request) (messages : List (List ℕ))
     → EachAfter (IsMessageOf rows) before past requests messages
-    → ArePayloadsOf (flat_map rows.tables before) (flat_map payloads_of past) (flat_map rows.tables requests) (flat_map payloads_of messages)
+    → ArePayloadsOf (flat_map rows.tables before) (flat_map payloads_in past) (flat_map rows.tables requests) (flat_map payloads_in messages)
 all_payloads rows before past [] [] each = tt
 all_payloads rows before past [] (m ∷ ms) each = absurd each
 all_payloads rows before past (q ∷ qs) [] each = absurd each
 all_payloads rows before past (q ∷ qs) (m ∷ ms) each =
-    each_after-append IsPayloadOf (flat_map rows.tables before) (flat_map payloads_of past) (rows.tables q) (flat_map rows.tables qs) (payloads_of m) (flat_map payloads_of ms)
+    each_after-append IsPayloadOf (flat_map rows.tables before) (flat_map payloads_in past) (rows.tables q) (flat_map rows.tables qs) (payloads_in m) (flat_map payloads_in ms)
     each.0.payloads
-    (subst (λ (ts : List Table). ArePayloadsOf ts (flat_map payloads_of past ++ payloads_of m) (flat_map rows.tables qs) (flat_map payloads_of ms)) (one_more rows.tables before q)
-    (subst (λ (ps : List PayloadIn). ArePayloadsOf (flat_map rows.tables (before ++ q ∷ [])) ps (flat_map rows.tables qs) (flat_map payloads_of ms)) (one_more payloads_of past m)
+    (subst (λ (ts : List Table). ArePayloadsOf ts (flat_map payloads_in past ++ payloads_in m) (flat_map rows.tables qs) (flat_map payloads_in ms)) (one_more rows.tables before q)
+    (subst (λ (ps : List PayloadIn). ArePayloadsOf (flat_map rows.tables (before ++ q ∷ [])) ps (flat_map rows.tables qs) (flat_map payloads_in ms)) (one_more payloads_in past m)
     (all_payloads rows (before ++ q ∷ []) (past ++ m ∷ []) qs ms each.1)))
 
 messages_alike : (rows : SignalRows) (requests : List Request) (messages others : List (List ℕ)) → Policy rows requests messages → Policy rows requests others
-    → LookAlike (flat_map payloads_of messages) (flat_map payloads_of others)
+    → LookAlike (flat_map payloads_in messages) (flat_map payloads_in others)
 messages_alike rows requests messages others one other =
-    all_alike [] [] [] (flat_map rows.tables requests) (flat_map payloads_of messages) (flat_map payloads_of others) (record { ids = λ type. refl; count = refl })
+    all_alike [] [] [] (flat_map rows.tables requests) (flat_map payloads_in messages) (flat_map payloads_in others) (record { ids = λ type. refl; count = refl })
     (all_payloads rows [] [] requests messages one) (all_payloads rows [] [] requests others other)
 
 -- ---- what an exporter stands for
@@ -143,7 +144,7 @@ stands_with rows requests messages others e stands allowed = record {
   kinds = stands.kinds;
   batches = stands.batches;
   sent =
-      all_sent_alike (flat_map rows.tables requests) (flat_map payloads_of messages) (flat_map payloads_of others) e.sent
+      all_sent_alike (flat_map rows.tables requests) (flat_map payloads_in messages) (flat_map payloads_in others) e.sent
       (messages_alike rows requests messages others stands.policy allowed) stands.sent;
   policy = allowed;
 }

@@ -4,7 +4,8 @@ use Rattle.std.specs.List.{flat_map}
 use Rattle.lists.proofs.Growing.{each_after-push}
 use Rattle.otlp_model.specs.declared.request.Request.{Request}
 use Rattle.otap_produce.specs.Exporters.{ExporterIn, Exports, StandsFor, kinds_in}
-use Rattle.otap_produce.specs.Policy.{IsExported, IsMessageOf, SignalRows, payloads_of}
+use Rattle.otap_capture.specs.Batch.{payloads_in}
+use Rattle.otap_produce.specs.Policy.{IsExported, IsMessageOf, SignalRows}
 use Rattle.otap_produce.specs.SentMessages.{SendsMessage}
 use Rattle.otap_produce.proofs.Deciding.{one_more, stands_with}
 
@@ -23,8 +24,8 @@ exports rows q old new bytes was_sound exported sends kinds batches sound = reco
     kinds = kinds ∙ stands.kinds;
     batches = omega (arith, batches, stands.batches, length-append requests (q ∷ []));
     sent =
-        rw (one_more rows.tables requests q, one_more payloads_of messages bytes)
-        (sends.sends.after (flat_map rows.tables requests) (flat_map payloads_of messages) stands.sent);
+        rw (one_more rows.tables requests q, one_more payloads_in messages bytes)
+        (sends.sends.after (flat_map rows.tables requests) (flat_map payloads_in messages) stands.sent);
     policy = each_after-push (IsMessageOf rows) [] [] requests messages q bytes stands.policy (message requests messages stands);
   };
   policy = λ requests messages others stands allowed.
@@ -37,6 +38,6 @@ exports rows q old new bytes was_sound exported sends kinds batches sound = reco
     message requests messages stands = record {
       canonical = sends.canonical;
       id = sends.id ∙ ap pos stands.batches;
-      payloads = sends.sends.are (flat_map rows.tables requests) (flat_map payloads_of messages) stands.sent;
+      payloads = sends.sends.are (flat_map rows.tables requests) (flat_map payloads_in messages) stands.sent;
       short = sends.short;
     }

@@ -1,6 +1,6 @@
 -- A batch to which the payloads of tables were added is their message.
 use Rattle.std.proofs.Common.{◌≡◌, ℕ, ◌<◌, ◌≤◌, ◌^◌, List, [], ◌++◌, length, pos, sym, ap, ◌∙◌, subst, arith}
-use Rattle.std.specs.Prelude.{map, FitsSigned}
+use Rattle.std.specs.Prelude.{FitsSigned}
 use Rattle.std.specs.Int.{w64}
 use Rattle.std.specs.List.{AllByRecursion}
 use Rattle.std.proofs.lemmas.Int.{fits_signed_from_abs}
@@ -8,7 +8,6 @@ use Rattle.otap_capture.specs.Batch.{BatchContent, IsRealBatch, IsRealPayload, R
 use Rattle.otap_cells.specs.Tables.{Table}
 use Rattle.otap_produce.specs.Exporters.{SendersIn}
 use Rattle.otap_produce.specs.Limits.{batch_limit, kinds_at_most, size_limit}
-use Rattle.otap_produce.specs.Policy.{part_of}
 use Rattle.otap_produce.specs.SentMessages.{Adds, Sends, SendsMessage}
 use Rattle.otap_produce.specs.Sizes.{most_of, size_of}
 use Rattle.otap_produce.proofs.Lengths.{batch_most}
@@ -44,6 +43,6 @@ module _ (number : ℕ) (ts : List Table) (old new : SendersIn) (start batch : B
   message_sent = record {
     canonical = spelled ∙ ap canon_batch (sym read);
     id = ap (λ (b : BatchContent). b.id) read ∙ id_is;
-    sends = subst (Sends ts old new) (sym (ap (λ (b : BatchContent). map part_of b.payloads) read ∙ ap (map part_of) payloads_are)) adds.sends;
+    sends = subst (Sends ts old new) (sym (ap (λ (b : BatchContent). b.payloads) read ∙ payloads_are)) adds.sends;
     short = omega (arith, ap length spelled, short);
   }

@@ -7,7 +7,7 @@ use Rattle.otlp_model.specs.declared.request.Request.{Request}
 use Rattle.otlp_model.specs.Limits.{item_limit, weight_limit}
 use Rattle.otlp_model.specs.Telemetry.{telemetry}
 use Rattle.otlp_model.specs.Weight.{weight_of}
-use Rattle.otap_capture.specs.Batch.{batch_in, canon_batch}
+use Rattle.otap_capture.specs.Batch.{batch_in, canon_batch, payloads_in}
 use Rattle.otap_capture.specs.Capture.{longest_frame}
 use Rattle.otap_cells.specs.declared.payload.Kind.{Kind}
 use Rattle.otap_cells.specs.Payload.{kinds_of, number_of}
@@ -18,7 +18,7 @@ use Rattle.otap_columns.specs.TableSets.{of_kind, openings}
 use Rattle.otap_columns.specs.Writers.{HasWritten, WriterIn}
 use Rattle.otap_produce.specs.declared.refusal.ProduceRefusal.{ProduceRefusal}
 use Rattle.otap_produce.specs.declared.refusal.ProduceRefusal.TheVariants.{Broken, TooManyItems, TooHeavy, Memory}
-use Rattle.otap_produce.specs.Policy.{SignalRows, IsExported, IsMessageOf, Policy, payloads_of}
+use Rattle.otap_produce.specs.Policy.{SignalRows, IsExported, IsMessageOf, Policy}
 
 -- the sender of a kind: the writer of its records, and the number that is the schema id of its last payload
 pub record SenderIn : Type 0 where
@@ -60,7 +60,7 @@ pub record StandsFor (rows : SignalRows) (requests : List Request) (messages : L
   pub sound : e.broken ≡ false
   pub kinds : kinds_in e.sent.senders ≡ kinds_of rows.signal
   pub batches : e.batches ≡ length requests
-  pub sent : HaveSent (flat_map rows.tables requests) (flat_map payloads_of messages) e.sent
+  pub sent : HaveSent (flat_map rows.tables requests) (flat_map payloads_in messages) e.sent
   pub policy : Policy rows requests messages
 
 -- ---- one more request

@@ -1,8 +1,7 @@
 -- The policy of the exporter: the batch messages that the requests of a segment are written as, one for each.
-use Rattle.std.specs.Prelude.{◌≡◌, ◌≤◌, ℕ, pos, List, [], length, map}
+use Rattle.std.specs.Prelude.{◌≡◌, ◌≤◌, ℕ, pos, List, [], length}
 use Rattle.std.specs.List.{flat_map}
 use Rattle.lists.specs.EachAfter.{EachAfter}
-use Rattle.lists.specs.Payloads.{PayloadIn}
 use Rattle.otlp_model.specs.Limits.{item_limit, weight_limit}
 use Rattle.otlp_model.specs.Profile.{IsProfile}
 use Rattle.otlp_model.specs.Real.{IsReal}
@@ -10,7 +9,7 @@ use Rattle.otlp_model.specs.Telemetry.{signal_of, telemetry}
 use Rattle.otlp_model.specs.Weight.{weight_of}
 use Rattle.otlp_model.specs.declared.request.Request.{Request}
 use Rattle.otlp_model.specs.declared.request.Signal.{Signal}
-use Rattle.otap_capture.specs.Batch.{batch_in, canon_batch}
+use Rattle.otap_capture.specs.Batch.{batch_in, canon_batch, payloads_in}
 use Rattle.otap_capture.specs.Capture.{longest_frame}
 use Rattle.otap_cells.specs.Tables.{Table}
 use Rattle.otap_cells.specs.Weights.{row_weight_limit, weight_of_tables}
@@ -30,19 +29,12 @@ pub record IsExported (rows : SignalRows) (q : Request) : Type 0 where
   pub tree : weight_of q ≤ weight_limit
   pub row_weight : weight_of_tables (rows.tables q) ≤ row_weight_limit
 
--- the payloads of a message, as sub-streams know them
-abbrev pub part_of : PayloadIn → PayloadIn
-part_of p = record { schema_id = p.schema_id; kind = p.kind; bytes = p.bytes }
-
-abbrev pub payloads_of : List ℕ → List PayloadIn
-payloads_of message = map part_of (batch_in message).payloads
-
 -- THE MESSAGE OF A REQUEST, after the requests and the messages of its segment before it: the canonical spelling of a batch whose
 -- id counts these, and which has a payload for each table of the request. It fits into a frame.
 pub record IsMessageOf (rows : SignalRows) (requests : List Request) (messages : List (List ℕ)) (request : Request) (message : List ℕ) : Type 0 where
   pub canonical : message ≡ canon_batch (batch_in message)
   pub id : (batch_in message).id ≡ pos (length requests)
-  pub payloads : ArePayloadsOf (flat_map rows.tables requests) (flat_map payloads_of messages) (rows.tables request) (payloads_of message)
+  pub payloads : ArePayloadsOf (flat_map rows.tables requests) (flat_map payloads_in messages) (rows.tables request) (payloads_in message)
   pub short : length message ≤ longest_frame
 
 -- THE POLICY: the messages of the requests of a segment

@@ -1,10 +1,10 @@
 -- What a call does to what was sent.
-use Rattle.std.specs.Prelude.{◌≡◌, ◌<◌, ◌≤◌, ◌+◌, ◌^◌, ℕ, Bool, List, ◌++◌, length, map, pos, All, Contains}
+use Rattle.std.specs.Prelude.{◌≡◌, ◌<◌, ◌≤◌, ◌+◌, ◌^◌, ℕ, Bool, List, ◌++◌, length, pos, All, Contains}
 use Rattle.std.specs.List.{AllByRecursion}
 use Rattle.lists.specs.Payloads.{PayloadIn}
 use Rattle.otlp_model.specs.declared.request.Request.{Request}
 use Rattle.otlp_model.specs.declared.request.Signal.{Signal}
-use Rattle.otap_capture.specs.Batch.{BatchContent, IsRealPayload, batch_in, canon_batch}
+use Rattle.otap_capture.specs.Batch.{BatchContent, IsRealPayload, batch_in, canon_batch, payloads_in}
 use Rattle.otap_capture.specs.Capture.{longest_frame}
 use Rattle.otap_cells.specs.declared.payload.Kind.{Kind}
 use Rattle.otap_cells.specs.Payload.{kinds_of}
@@ -16,7 +16,7 @@ use Rattle.otap_produce.specs.declared.refusal.ProduceRefusal.{ProduceRefusal}
 use Rattle.otap_produce.specs.declared.refusal.ProduceRefusal.TheVariants.{Memory}
 use Rattle.otap_produce.specs.Exporters.{SendersIn, HaveSent, Refuses, kinds_in}
 use Rattle.otap_produce.specs.Limits.{kinds_at_most, size_limit}
-use Rattle.otap_produce.specs.Policy.{SignalRows, part_of, payloads_of}
+use Rattle.otap_produce.specs.Policy.{SignalRows}
 use Rattle.otap_produce.specs.Sizes.{most_of, size_of}
 
 -- some tables were sent, as some payloads
@@ -60,7 +60,7 @@ pub record Adds (tables : List Table) (old new : SendersIn) (batch grown : Batch
   pub id : grown.id ≡ batch.id
   pub are : grown.payloads ≡ batch.payloads ++ payloads
   pub real : AllByRecursion IsRealPayload payloads
-  pub sends : Sends tables old new (map part_of payloads)
+  pub sends : Sends tables old new payloads
   pub openings : new.openings ≤ old.openings + length tables
   pub size : size_of payloads ≤ most_of tables
   pub count : length payloads ≡ length tables
@@ -69,7 +69,7 @@ pub record Adds (tables : List Table) (old new : SendersIn) (batch grown : Batch
 pub record SendsMessage (number : ℕ) (tables : List Table) (old new : SendersIn) (message : List ℕ) : Type 0 where
   pub canonical : message ≡ canon_batch (batch_in message)
   pub id : (batch_in message).id ≡ pos number
-  pub sends : Sends tables old new (payloads_of message)
+  pub sends : Sends tables old new (payloads_in message)
   pub short : length message ≤ longest_frame
 
 -- the request is refused before anything is written

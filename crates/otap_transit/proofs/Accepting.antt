@@ -20,11 +20,12 @@ use Rattle.otap_cells.specs.Tables.{Table}
 use Rattle.otap_cells.specs.Weights.{row_weight_limit, weight_of_table, weight_of_row, weight_of_tables}
 use Rattle.otap_columns.specs.Records.{IsRead}
 use Rattle.otap_columns.specs.Substreams.{held_in, logical}
+use Rattle.otap_columns.specs.Streams.{stream_of}
 use Rattle.otap_consume.specs.Defects.{Accepts, HasFineRecords, IsReadAfter, held_after, is_taken, table_of, tables_of}
 use Rattle.otap_consume.specs.Limits.{held_limit}
-use Rattle.otap_consume.specs.Payloads.{type_of, messages_in, messages_before}
+use Rattle.otap_consume.specs.Payloads.{type_of, messages_before}
 use Rattle.otap_consume.specs.PayloadTypes.{IsFineType, times}
-use Rattle.otap_consume.proofs.Substreams.{messages_in-other}
+use Rattle.otap_columns.proofs.Openings.{stream_of-other}
 use Rattle.otap_transit.proofs.KindsApart.{is_itself, types_compared}
 use Rattle.otap_transit.proofs.Once.{count_hit, count_miss, all_columns}
 use Rattle.otap_transit.proofs.Reaching.{Reaches, AreHeld}
@@ -89,14 +90,14 @@ module _ (signal : Signal) where
   -- ---- the tables
 
   -- payloads of other types change no sub-stream
-  passed_over : (type : ℤ) (past ps : List PayloadIn) → times type ps ≡ 0 → messages_in type (past ++ ps) ≡ messages_in type past
-  passed_over type past [] none = ap (messages_in type) (append-nil past)
+  passed_over : (type : ℤ) (past ps : List PayloadIn) → times type ps ≡ 0 → stream_of type (past ++ ps) ≡ stream_of type past
+  passed_over type past [] none = ap (stream_of type) (append-nil past)
   passed_over type past (p ∷ ps) none =
       elim (cases_Bool (int_eq p.kind type)) [
         | inl own ↦ absurd (omega (arith, none, count_hit (λ (q : PayloadIn). int_eq q.kind type) p ps own))
         | inr other ↦
             let rest : times type ps ≡ 0 = sym (count_miss (λ (q : PayloadIn). int_eq q.kind type) p ps other) ∙ none in
-            ap (messages_in type) (sym (append_assoc past (p ∷ []) ps)) ∙ passed_over type (past ++ p ∷ []) ps rest ∙ messages_in-other type past p other
+            ap (stream_of type) (sym (append_assoc past (p ∷ []) ps)) ∙ passed_over type (past ++ p ∷ []) ps rest ∙ stream_of-other type past p other
       ]
 
   fewer_once : (t : Table) (ts : List Table) → ((kind : Kind) → count_by (λ u. is_kind u.kind kind) (t ∷ ts) ≤ 1) → (kind : Kind) → count_by (λ u. is_kind u.kind kind) ts ≤ 1
@@ -113,8 +114,8 @@ module _ (signal : Signal) where
   table_is : (before : List Table) (past : List PayloadIn) (t : Table) (p : PayloadIn) (later : List PayloadIn) → (r : Reaches signal before past t p) → times (type_of t.kind) later ≡ 0
       → table_of signal (past ++ p ∷ later) p ≡ Some r.table
   table_is before past t p later r none =
-      let stream : messages_in p.kind (past ++ p ∷ later) ≡ messages_in p.kind (past ++ p ∷ [])
-      = ap (messages_in p.kind) (sym (append_assoc past (p ∷ []) later)) ∙ passed_over p.kind (past ++ p ∷ []) later (subst (λ (type : ℤ). times type later ≡ 0) (sym r.type) none) in
+      let stream : stream_of p.kind (past ++ p ∷ later) ≡ stream_of p.kind (past ++ p ∷ [])
+      = ap (stream_of p.kind) (sym (append_assoc past (p ∷ []) later)) ∙ passed_over p.kind (past ++ p ∷ []) later (subst (λ (type : ℤ). times type later ≡ 0) (sym r.type) none) in
       rw r.known (ap (logical t.kind) stream ∙ r.gives)
 
   pub all_tables : (before : List Table) (past : List PayloadIn) (ts : List Table) (ps : List PayloadIn) → EachAfter (Reaches signal) before past ts ps
@@ -152,7 +153,7 @@ sum_below f g (x ∷ xs) below = omega (arith, below x, sum_below f g xs below, 
 pub held_little : (signal : Signal) (all : List PayloadIn) → AreHeld all → held_after signal all ≤ held_limit
 unfolding held_after
 held_little signal all held =
-    omega (arith, all_columns signal, sum_below (λ kind. held_in (messages_in (type_of kind) all)) (λ kind. 1572864 * width_of kind) (kinds_of signal) held)
+    omega (arith, all_columns signal, sum_below (λ kind. held_in (stream_of (type_of kind) all)) (λ kind. 1572864 * width_of kind) (kinds_of signal) held)
 
 -- ---- all together
 

@@ -7,7 +7,7 @@ use Rattle.lists.specs.Since.{since}
 use Rattle.lists.proofs.Latest.{since-append}
 use Rattle.lists.specs.Payloads.{PayloadIn}
 use Rattle.otlp_model.specs.declared.request.Request.{Request}
-use Rattle.otap_capture.specs.Batch.{batch_in}
+use Rattle.otap_capture.specs.Batch.{batch_in, payloads_in}
 use Rattle.otap_capture.specs.Capture.{Frame, Message}
 use Rattle.otap_capture.specs.Capture as capture
 use Rattle.otap_cells.specs.Tables.{Table}
@@ -19,7 +19,7 @@ use Rattle.otap_consume.proofs.SegmentSteps.{payloads_accepted, broken_accepted,
 use Rattle.otap_produce.specs.Policy.{SignalRows}
 use Rattle.otap_transit.specs.Faithful.{AreFaithful}
 use Rattle.otap_transit.specs.Sendings.{Sending, Sent, Reset, MaySend, IsAllowed, AreAllowed, IsAccepted, ArrivesAs, Arrive, frame_sent, is_reset, request_if, message_if, requests_since, messages_since}
-use Rattle.otap_transit.specs.Transits.{payloads_in, payloads_in_all, tables_after}
+use Rattle.otap_transit.specs.Transits.{payloads_in_all, tables_after}
 use Rattle.otap_transit.proofs.Coming.{Comes, IsSegment, comes, longer}
 use Rattle.otap_transit.proofs.Projected.{FarEndReads}
 use Rattle.otap_transit.proofs.Reaching.{nothing_so_far}

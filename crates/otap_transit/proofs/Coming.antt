@@ -1,39 +1,32 @@
 -- A message by the policy, after the requests and the messages of its segment: what the far end makes of it.
-use Rattle.std.proofs.Common.{◌≡◌, ℕ, ◌*◌, ◌^◌, ◌<◌, ◌≤◌, List, [], ◌∷◌, ◌++◌, length, ℤ, pos, refl, sym, ap, ◌∙◌, subst, append-nil, length-append, arith}
+use Rattle.std.proofs.Common.{◌≡◌, ℕ, ◌*◌, ◌^◌, ◌<◌, ◌≤◌, List, [], ◌∷◌, ◌++◌, length, ℤ, pos, sym, ap, ◌∙◌, subst, append-nil, length-append, arith}
 use Rattle.std.specs.Prelude.{FitsSigned}
 use Rattle.std.specs.Int.{w32, w64}
 use Rattle.std.specs.List.{AllByRecursion, flat_map}
 use Rattle.std.proofs.lemmas.Grind.{flat_map-append}
-use Rattle.std.proofs.lemmas.List.{map-append}
 use Rattle.lists.specs.EachAfter.{EachAfter}
 use Rattle.lists.proofs.Growing.{each_after-length}
 use Rattle.lists.specs.Payloads.{PayloadIn}
 use Rattle.otlp_model.specs.Same.{Same}
 use Rattle.otlp_model.specs.declared.request.Request.{Request}
 use Rattle.otlp_model.specs.declared.request.Signal.{Signal}
-use Rattle.otap_capture.specs.Batch.{IsRealBatch, IsRealPayload, ReadsBatch, batch_in}
+use Rattle.otap_capture.specs.Batch.{IsRealBatch, IsRealPayload, ReadsBatch, batch_in, payloads_in}
 use Rattle.otap_capture.proofs.WrittenBatch.{batch_back}
 use Rattle.otap_cells.specs.Tables.{Table}
 use Rattle.otap_columns.specs.TableSets.{IsPayloadOf}
 use Rattle.otap_consume.specs.Defects.{Accepts, tables_of}
 use Rattle.otap_consume.specs.Meanings.{Meaning, HasFineRows}
-use Rattle.otap_consume.specs.Payloads.{parts_of, part_of}
 use Rattle.otap_produce.specs.Limits.{kinds_at_most}
-use Rattle.otap_produce.specs.Policy.{SignalRows, IsExported, IsMessageOf, payloads_of}
+use Rattle.otap_produce.specs.Policy.{SignalRows, IsExported, IsMessageOf}
 use Rattle.otap_produce.specs.Writable.{AreInOrder}
 use Rattle.otap_transit.specs.Faithful.{AreFaithful, MeanTheSame}
-use Rattle.otap_transit.specs.Transits.{IsReceivedAs, payloads_in, payloads_in_all, tables_after}
+use Rattle.otap_transit.specs.Transits.{IsReceivedAs, payloads_in_all, tables_after}
 use Rattle.otap_transit.proofs.Accepting.{accepts, tables_read}
 use Rattle.otap_transit.proofs.InFormat.{in_format_by}
 use Rattle.otap_transit.proofs.Once.{kinds_once, few_tables, tables_known}
 use Rattle.otap_transit.proofs.Projected.{FarEndReads}
-use Rattle.otap_transit.proofs.Reaching.{AreSoFar, Follows, Reaches, in_parts, all_reach}
+use Rattle.otap_transit.proofs.Reaching.{AreSoFar, Reaches, all_reach}
 use Rattle.otap_transit.proofs.RealBatches.{id_fits, kind_fits}
-
--- the payloads of messages, as sub-streams know them
-all_parts : (messages : List (List ℕ)) → flat_map payloads_of messages ≡ parts_of (payloads_in_all messages)
-all_parts [] = refl
-all_parts (message ∷ messages) = ap (λ (ps : List PayloadIn). payloads_of message ++ ps) (all_parts messages) ∙ sym (map-append part_of (payloads_in message) (payloads_in_all messages))
 
 -- payloads of which the far end finds all are real
 real_payloads : (signal : Signal) (before : List Table) (past : List PayloadIn) (ts : List Table) (ps : List PayloadIn) → EachAfter (Reaches signal) before past ts ps
@@ -85,11 +78,11 @@ module _ (far : FarEndReads) (m : Meaning) (rows : SignalRows) (faithful : AreFa
   order : AreInOrder rows.signal ts
   order = faithful.order request exported
 
-  each : EachAfter Follows before past ts ps
-  each = in_parts before past ts ps (subst (λ (now : List PayloadIn). EachAfter IsPayloadOf before now ts (parts_of ps)) (all_parts messages) is.payloads)
+  each : EachAfter IsPayloadOf before past ts ps
+  each = is.payloads
 
   few_payloads : length ps ≤ kinds_at_most
-  few_payloads = omega (arith, each_after-length Follows before past ts ps each, few_tables rows.signal ts order)
+  few_payloads = omega (arith, each_after-length IsPayloadOf before past ts ps each, few_tables rows.signal ts order)
 
   -- the id tells that there were not too many
   few_requests : length requests < 2 ^ 63

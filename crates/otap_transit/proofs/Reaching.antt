@@ -7,7 +7,6 @@ use Rattle.std.specs.Ordering.{int_eq}
 use Rattle.std.specs.Str.{IsUtf8}
 use Rattle.std.proofs.lemmas.Bool.{cases_Bool}
 use Rattle.std.proofs.lemmas.Bool.Decides.{Decides-int_eq}
-use Rattle.std.proofs.lemmas.List.{map-append}
 use Rattle.std.proofs.lemmas.Slice.Eq.{bytes_eq-Decides}
 use Rattle.lists.specs.EachAfter.{EachAfter}
 use Rattle.lists.proofs.Growing.{each_after-push}
@@ -21,33 +20,26 @@ use Rattle.otap_cells.specs.Payload.{kinds_of, kind_numbered, number_of}
 use Rattle.otap_cells.specs.Tables.{Table}
 use Rattle.otap_columns.specs.WrittenPayloads.{IsReadAs}
 use Rattle.otap_columns.specs.Records.{IsRead}
-use Rattle.otap_columns.specs.Streams.{opens, stream_of}
+use Rattle.otap_columns.specs.Streams.{opens, stream_of, open_id}
 use Rattle.otap_columns.specs.Substreams.{held_in, logical, substream_in}
 use Rattle.otap_columns.specs.TableSets.{IsPayloadOf, of_kind}
 use Rattle.otap_consume.specs.Defects.{is_id, is_open_for, is_taken}
-use Rattle.otap_consume.specs.Payloads.{part_of, parts_of, type_of, id_in, messages_in, messages_before}
-use Rattle.otap_consume.proofs.Substreams.{messages_in-other}
+use Rattle.otap_consume.specs.Payloads.{type_of, messages_before}
+use Rattle.otap_columns.proofs.Openings.{stream_of-other}
 use Rattle.otap_transit.proofs.KindsApart.{same_number}
 use Rattle.otap_transit.proofs.Projected.{FarEndReads, read_as}
 use Rattle.otap_transit.proofs.Reading.{reads_as}
 use Rattle.otap_transit.proofs.SchemaIds.{AreApart, none_open, is_free, still_apart, id_is_text}
 
-pub parts-push : (ps : List PayloadIn) (p : PayloadIn) → parts_of (ps ++ p ∷ []) ≡ parts_of ps ++ part_of p ∷ []
-parts-push ps p = map-append part_of ps (p ∷ [])
-
-parts-length : (ps : List PayloadIn) → length (parts_of ps) ≡ length ps
-parts-length [] = refl
-parts-length (p ∷ ps) = ap (λ (n : ℕ). suc n) (parts-length ps)
-
 -- ---- what was written so far
 
 -- all open sub-streams hold no more than their columns may
 abbrev pub AreHeld : List PayloadIn → Type 0
-AreHeld past = (kind : Kind) → held_in (messages_in (type_of kind) past) ≤ 1572864 * width_of kind
+AreHeld past = (kind : Kind) → held_in (stream_of (type_of kind) past) ≤ 1572864 * width_of kind
 
 pub record AreSoFar (before : List Table) (past : List PayloadIn) : Type 0 where
-  pub each : EachAfter IsPayloadOf [] [] before (parts_of past)
-  pub apart : AreApart (parts_of past)
+  pub each : EachAfter IsPayloadOf [] [] before past
+  pub apart : AreApart past
   pub held : AreHeld past
 
 none_held : AreHeld []
@@ -59,10 +51,6 @@ nothing_so_far = record { each = tt; apart = none_open; held = none_held }
 
 -- ---- one payload
 
--- a payload is that of a table, after tables and payloads
-abbrev pub Follows : List Table → List PayloadIn → Table → PayloadIn → Type 0
-Follows before past t p = IsPayloadOf before (parts_of past) t (part_of p)
-
 -- what the far end finds
 pub record Reaches (signal : Signal) (before : List Table) (past : List PayloadIn) (t : Table) (p : PayloadIn) : Type 0 where
   pub type : p.kind ≡ type_of t.kind
@@ -71,7 +59,7 @@ pub record Reaches (signal : Signal) (before : List Table) (past : List PayloadI
   pub free : is_taken signal past p ≡ false
   pub read : IsRead t.kind (messages_before past p) p.bytes
   pub table : Table
-  pub gives : logical t.kind (messages_in p.kind (past ++ p ∷ [])) ≡ Some table
+  pub gives : logical t.kind (stream_of p.kind (past ++ p ∷ [])) ≡ Some table
   pub reads : ReadsAs table t
 
 none_passes : {A : Type 0} (test : A → Bool) (xs : List A) → ((x : A) → test x ≡ false) → list_any test xs ≡ false
@@ -79,18 +67,15 @@ none_passes test [] none = refl
 none_passes test (x ∷ xs) none = rw (none x) (none_passes test xs none)
 
 module _ (far : FarEndReads) (before : List Table) (past : List PayloadIn) (t : Table) (p : PayloadIn)
-    (so_far : AreSoFar before past) (follows : Follows before past t p) (few : length past < 10 ^ 64) where
-  r : IsReadAs t.kind (of_kind t.kind before) (parts_of past) t (part_of p)
-  r = read_as far before (parts_of past) t (part_of p) so_far.each follows
+    (so_far : AreSoFar before past) (follows : IsPayloadOf before past t p) (few : length past < 10 ^ 64) where
+  r : IsReadAs t.kind (of_kind t.kind before) past t p
+  r = read_as far before past t p so_far.each follows
 
-  few_parts : length (parts_of past) < 10 ^ 64
-  few_parts = omega (arith, few, parts-length past)
-
-  stream : stream_of (type_of t.kind) (parts_of past ++ part_of p ∷ []) ≡ messages_in p.kind (past ++ p ∷ [])
-  stream = rw (parts-push past p, follows.written.type) refl
+  stream : stream_of (type_of t.kind) (past ++ p ∷ []) ≡ stream_of p.kind (past ++ p ∷ [])
+  stream = rw follows.written.type refl
 
   -- its id is open for no other type
-  not_open : (kind : Kind) (open_id : Option (List ℕ)) → id_in (type_of kind) past ≡ open_id → (not (int_eq p.kind (type_of kind)) && is_id p.schema_id open_id) ≡ false
+  not_open : (kind : Kind) (id : Option (List ℕ)) → open_id (type_of kind) past ≡ id → (not (int_eq p.kind (type_of kind)) && is_id p.schema_id id) ≡ false
   not_open kind None is = and_false (not (int_eq p.kind (type_of kind)))
     where
       and_false : (b : Bool) → (b && false) ≡ false
@@ -101,7 +86,7 @@ module _ (far : FarEndReads) (before : List Table) (past : List PayloadIn) (t : 
         | inl equal ↦
             let same : current ≡ p.schema_id = (bytes_eq-Decides current p.schema_id).0 equal in
             let own : type_of kind ≡ p.kind
-            = is_free (parts_of past) (part_of p) so_far.apart few_parts follows.schema_id (type_of kind) (is ∙ ap (λ (id : List ℕ). Some id) same) in
+            = is_free past p so_far.apart few follows.schema_id (type_of kind) (is ∙ ap (λ (id : List ℕ). Some id) same) in
             rw (equal, (Decides-int_eq p.kind (type_of kind)).1 (sym own)) refl
         | inr differs ↦ rw differs (and_false (not (int_eq p.kind (type_of kind))))
       ]
@@ -114,12 +99,12 @@ module _ (far : FarEndReads) (before : List Table) (past : List PayloadIn) (t : 
   reaches signal known = record {
     type = follows.written.type;
     known = ap (kind_numbered signal) follows.written.type ∙ known;
-    text = id_is_text (parts_of past) (part_of p) so_far.apart few_parts follows.schema_id;
-    free = none_passes (is_open_for past p) (kinds_of signal) (λ kind. not_open kind (id_in (type_of kind) past) refl);
-    read = subst (λ (type : ℤ). IsRead t.kind (if opens (parts_of past) (part_of p) then [] else stream_of type (parts_of past)) p.bytes) (sym follows.written.type) r.read;
+    text = id_is_text past p so_far.apart few follows.schema_id;
+    free = none_passes (is_open_for past p) (kinds_of signal) (λ kind. not_open kind (open_id (type_of kind) past) refl);
+    read = subst (λ (type : ℤ). IsRead t.kind (if opens past p then [] else stream_of type past) p.bytes) (sym follows.written.type) r.read;
     table = r.table;
     gives = ap (logical t.kind) (sym stream) ∙ r.gives;
-    reads = reads_as (of_kind t.kind before) (parts_of past) t (part_of p) follows.written.writable r;
+    reads = reads_as (of_kind t.kind before) past t p follows.written.writable r;
   }
 
   still_held : AreHeld (past ++ p ∷ [])
@@ -128,18 +113,17 @@ module _ (far : FarEndReads) (before : List Table) (past : List PayloadIn) (t : 
         | inl own ↦
             let numbers : pos (number_of t.kind) ≡ pos (number_of kind) = sym follows.written.type ∙ (Decides-int_eq p.kind (type_of kind)).0 own in
             let same : t.kind ≡ kind = same_number t.kind kind (cc numbers) in
-            let here : held_in (messages_in p.kind (past ++ p ∷ [])) ≤ 1572864 * width_of t.kind
+            let here : held_in (stream_of p.kind (past ++ p ∷ [])) ≤ 1572864 * width_of t.kind
             = subst (λ (ms : List IpcMessage). held_in ms ≤ 1572864 * width_of t.kind) stream r.held in
-            subst (λ (k : Kind). held_in (messages_in (type_of k) (past ++ p ∷ [])) ≤ 1572864 * width_of k) same
-            (subst (λ (type : ℤ). held_in (messages_in type (past ++ p ∷ [])) ≤ 1572864 * width_of t.kind) follows.written.type here)
-        | inr other ↦ rw (messages_in-other (type_of kind) past p other) (so_far.held kind)
+            subst (λ (k : Kind). held_in (stream_of (type_of k) (past ++ p ∷ [])) ≤ 1572864 * width_of k) same
+            (subst (λ (type : ℤ). held_in (stream_of type (past ++ p ∷ [])) ≤ 1572864 * width_of t.kind) follows.written.type here)
+        | inr other ↦ rw (stream_of-other (type_of kind) past p other) (so_far.held kind)
       ]
 
   pub one_more : AreSoFar (before ++ t ∷ []) (past ++ p ∷ [])
   one_more = record {
-    each = subst (λ (ps : List PayloadIn). EachAfter IsPayloadOf [] [] (before ++ t ∷ []) ps) (sym (parts-push past p))
-        (each_after-push IsPayloadOf [] [] before (parts_of past) t (part_of p) so_far.each follows);
-    apart = subst (λ (ps : List PayloadIn). AreApart ps) (sym (parts-push past p)) (still_apart (parts_of past) (part_of p) so_far.apart few_parts follows.schema_id);
+    each = each_after-push IsPayloadOf [] [] before past t p so_far.each follows;
+    apart = still_apart past p so_far.apart few follows.schema_id;
     held = still_held;
   }
 
@@ -148,20 +132,8 @@ module _ (far : FarEndReads) (before : List Table) (past : List PayloadIn) (t : 
 abbrev pub IsOf : Signal → Table → Type 0
 IsOf signal t = kind_numbered signal (type_of t.kind) ≡ Some t.kind
 
--- those of a message as payloads are known to sub-streams
-pub in_parts : (before : List Table) (past : List PayloadIn) (ts : List Table) (ps : List PayloadIn) → EachAfter IsPayloadOf before (parts_of past) ts (parts_of ps)
-    → EachAfter Follows before past ts ps
-in_parts before past [] [] each = tt
-in_parts before past [] (p ∷ ps) each = absurd each
-in_parts before past (t ∷ ts) [] each = absurd each
-in_parts before past (t ∷ ts) (p ∷ ps) each = (
-  each.0,
-  in_parts (before ++ t ∷ []) (past ++ p ∷ []) ts ps
-      (subst (λ (now : List PayloadIn). EachAfter IsPayloadOf (before ++ t ∷ []) now ts (parts_of ps)) (sym (parts-push past p)) each.1),
-)
-
 module _ (far : FarEndReads) (signal : Signal) where
-  pub all_reach : (before : List Table) (past : List PayloadIn) (ts : List Table) (ps : List PayloadIn) → AreSoFar before past → EachAfter Follows before past ts ps
+  pub all_reach : (before : List Table) (past : List PayloadIn) (ts : List Table) (ps : List PayloadIn) → AreSoFar before past → EachAfter IsPayloadOf before past ts ps
       → AllByRecursion (IsOf signal) ts → length (past ++ ps) < 10 ^ 64 → EachAfter (Reaches signal) before past ts ps × AreSoFar (before ++ ts) (past ++ ps)
   all_reach before past [] [] so_far each known few = (tt, rw (append-nil before, append-nil past) so_far)
   all_reach before past [] (p ∷ ps) so_far each known few = absurd each

@@ -4,7 +4,7 @@ use Rattle.std.specs.List.{flat_map}
 use Rattle.lists.specs.Payloads.{PayloadIn}
 use Rattle.otlp_model.specs.Same.{Same}
 use Rattle.otlp_model.specs.declared.request.Request.{Request}
-use Rattle.otap_capture.specs.Batch.{ReadsBatch, batch_in}
+use Rattle.otap_capture.specs.Batch.{ReadsBatch, batch_in, payloads_in}
 use Rattle.otap_capture.specs.Capture.{Message}
 use Rattle.otap_cells.specs.Tables.{Table}
 use Rattle.otap_consume.specs.Defects.{tables_of}
@@ -12,9 +12,6 @@ use Rattle.otap_consume.specs.Meanings.{Meaning}
 use Rattle.otap_consume.specs.Receiving.{IsInFormat}
 
 -- the payloads of messages, in order
-abbrev pub payloads_in : List ℕ → List PayloadIn
-payloads_in message = (batch_in message).payloads
-
 abbrev pub payloads_in_all : List (List ℕ) → List PayloadIn
 payloads_in_all messages = flat_map payloads_in messages
 

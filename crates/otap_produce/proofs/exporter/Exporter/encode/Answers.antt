@@ -1,6 +1,6 @@
 use Rattle.std.proofs.Common.{◌+◌, false, refl, ◌∙◌, subst, arith}
 use Rattle.otap_produce.specs.Exporters.{ExporterIn, Exports}
-use Rattle.otap_produce.specs.Policy.{payloads_of}
+use Rattle.otap_capture.specs.Batch.{payloads_in}
 use Rattle.otap_produce.proofs.Batches.{history_after}
 use Rattle.otap_produce.proofs.Exporting.{exports}
 use Rattle.otap_produce.proofs.exporter.Exporter.encode.Goals as goal
@@ -11,7 +11,7 @@ invariant_of-self-2 g c =
     record {
       kinds = c.in_ok-bytes.ensures.kinds ∙ c.self.invariant.kinds;
       history = λ is.
-          history_after (g.T.Tabled.rows.tables c.args.request.now) c.self.inside.senders c.message_of.new.senders (payloads_of c.in_ok-bytes.bytes.items)
+          history_after (g.T.Tabled.rows.tables c.args.request.now) c.self.inside.senders c.message_of.new.senders (payloads_in c.in_ok-bytes.bytes.items)
           (c.self.invariant.history sound) c.in_ok-bytes.ensures.sends.sends;
       few = λ is. omega (arith, c.in_ok-bytes.ensures.few, c.self.invariant.few sound);
     }

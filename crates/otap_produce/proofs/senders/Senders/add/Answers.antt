@@ -8,7 +8,6 @@ use Rattle.otap_capture.specs.BatchWriting.{with_payload}
 use Rattle.otap_cells.specs.declared.payload.Kind.{Kind}
 use Rattle.otap_cells.specs.Payload.{number_of}
 use Rattle.otap_produce.specs.Exporters.{SenderIn, SendersIn, kinds_in}
-use Rattle.otap_produce.specs.Policy.{part_of}
 use Rattle.otap_produce.specs.SentMessages.{Adds}
 use Rattle.otap_produce.proofs.Adding.{adds_one, kinds_set}
 use Rattle.otap_produce.proofs.Stepping.{SendsOne}
@@ -50,7 +49,7 @@ returns-clause-adds c =
     let kind_is : cast_signed w32 (cast_unsigned w32 c.number.result) ≡ pos (number_of t.kind) =
     ap (λ z. cast_signed w32 (cast_unsigned w32 z)) number_is ∙ to_z-of_z w32 (pos (number_of t.kind)) (number_fits t.kind) in
     let small : c.last-number.result < 2 ^ 64 = c.last-number.type_inv in
-    let one : SendsOne s changed old.openings t written.opens (part_of p) = record {
+    let one : SendsOne s changed old.openings t written.opens p = record {
       kind =
           ap (λ (x : SenderIn). x.writer.kind) c.index_mut-sender.ensures.value ∙ ap (λ (xs : List SenderIn). (get_or xs place s).writer.kind) (sym c.deref.ensures.value)
           ∙ c.place_of-place.ensures.kind s ∙ c.kind-kind.ensures;
