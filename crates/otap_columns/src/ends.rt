@@ -8,7 +8,7 @@ ghost use Rattle.otap_columns.specs.Ends.{kept_limit, AreEnds, values_by, start_
 use std::alloc::AllocError;
 
 /// The most bytes that the values of a dictionary have together. No memory is so large.
-const MAX_BYTES: usize = 1 << 48;
+const MAX_KEPT: usize = 1 << 48;
 
 /// Where a value ends, and whether it is there: one that is null has no bytes.
 #[derive(Clone, Copy, Debug)]
@@ -75,7 +75,7 @@ fn append(kept: &mut Vec<u8>, value: &[u8]) -> Result<(), AllocError>
     ensures small { vec_len kept.new ≤ kept_limit }
     ensures err { OnErr result (kept.new.items ≡ kept.old.items) }
 {
-    if value.len() > MAX_BYTES - kept.len() {
+    if value.len() > MAX_KEPT - kept.len() {
         return Err(AllocError);
     }
     kept.extend_from_slice(value)?;

@@ -20,7 +20,7 @@ use otap_cells::{
 use std::alloc::{AllocError, Global};
 
 /// The greatest id of 16 bits.
-const MAX_NARROW: u64 = 65_535;
+const GREATEST_NARROW: u64 = 65_535;
 
 // Above this sum it is looked where a run begins.
 const LARGE_SUM: u64 = 32_767;
@@ -58,8 +58,7 @@ fn has_above(alloc: Global, table: &LogicalTable, column: u32) -> Result<bool, A
 fn is_above(ids: &[Option<u32>]) -> bool
     ensures { result ≡ list_any is_above ids.now }
 {
-    ids.iter()
-        .any(|id| matches!(id, Some(id) if u64::from(*id) > MAX_NARROW))
+    ids.iter().any(|id| matches!(id, Some(id) if u64::from(*id) > GREATEST_NARROW))
 }
 
 /// Whether the sums of the stored numbers show that no id needs more than 16 bits. Takes no memory, and looks at no row after the
@@ -105,7 +104,11 @@ fn most_after(
         return without_id(coding, most);
     };
     let next = most_with(table, coding, row, most, number);
-    if next > MAX_NARROW { None } else { Some(next) }
+    if next > GREATEST_NARROW {
+        None
+    } else {
+        Some(next)
+    }
 }
 
 /// A row without an id is passed over, but where ids are stored in runs.
