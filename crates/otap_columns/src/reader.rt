@@ -36,7 +36,7 @@ impl Model for Reader {
 
     ghost Value = { ReaderIn };
 
-    ghost use Rattle.otap_columns.specs.ReaderInside.{reader_in, IsReaderInside, Keeps};
+    ghost use Rattle.otap_columns.specs.ReaderInside.{reader_in, IsReaderInside};
 
     ghost view = { reader_in };
 
@@ -110,6 +110,7 @@ impl Reader {
 }
 
 impl Reader {
+    ghost use Rattle.otap_columns.specs.ReaderInside.{Keeps};
     ghost use Rattle.arrow_ipc.specs.Fronts.{left_of, rest_of};
     ghost use Rattle.arrow_schema.specs.Readable.{IsReadable};
     ghost use Rattle.arrow_arrays.specs.Arrays.{arrays_of};
