@@ -42,24 +42,9 @@ part {at = at} own id id_there name = record { own = own; parents = above 1 at i
 
 all_linked : (of : Signal) → AllLinked (links_of of)
 unfolding links_of logs spans metrics attrs deep_attrs span_events span_links number_points summary_points hist_points exemplars
-all_linked signal.Logs = (item refl, below refl refl refl, below refl refl refl, below refl refl refl, tt)
-all_linked signal.Traces = (item refl, below refl refl refl, below refl refl refl, below refl refl refl, part refl refl refl refl, part refl refl refl refl, below refl refl refl, below refl refl refl, tt)
-all_linked signal.Metrics = (
-  item refl,
-  below refl refl refl,
-  below refl refl refl,
-  part refl refl refl refl,
-  part refl refl refl refl,
-  part refl refl refl refl,
-  below refl refl refl,
-  below refl refl refl,
-  below refl refl refl,
-  part refl refl refl refl,
-  part refl refl refl refl,
-  below refl refl refl,
-  below refl refl refl,
-  tt,
-)
+all_linked signal.Logs = (item refl, (below refl refl refl, (below refl refl refl, (below refl refl refl, tt))))
+all_linked signal.Traces = (item refl, (below refl refl refl, (below refl refl refl, (below refl refl refl, (part refl refl refl refl, (part refl refl refl refl, (below refl refl refl, (below refl refl refl, tt))))))))
+all_linked signal.Metrics = (item refl, (below refl refl refl, (below refl refl refl, (part refl refl refl refl, (part refl refl refl refl, (part refl refl refl refl, (below refl refl refl, (below refl refl refl, (below refl refl refl, (part refl refl refl refl, (part refl refl refl refl, (below refl refl refl, (below refl refl refl, tt)))))))))))))
 
 pub is_linked : (of : Signal) (links : List TableLink) (k : ℕ) (d : TableLink) → links ≡ links_of of → k < length links → IsLinked (get_or links k d)
 is_linked of links k d are within = linked_at links k d (subst AllLinked (sym are) (all_linked of)) within
