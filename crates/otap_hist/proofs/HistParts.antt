@@ -35,7 +35,7 @@ use Rattle.otap_metrics.specs.Tables.{hist_lists, summary_lists}
 use Rattle.otap_metrics.specs.Writable.{CanWriteExemplar}
 use Rattle.otap_metrics.proofs.WrittenParts.{all_joined, attribute_table_is, part_table_is}
 use Rattle.otap_metrics.proofs.WrittenWeight.{IsLightResource, IsLightScope}
-use Rattle.otap_hist.specs.Inside as inside
+use Rattle.otap_hist.specs.Writable as writable
 use Rattle.otap_hist.specs.Points.{hist_point_cells, sum_point_cells}
 use Rattle.otap_hist.specs.Tables.{all_hist_exemplars, all_hist_points, all_summary_points, hist_exemplar_lists, hist_exemplar_pairs, hist_pairs, hist_tables, summary_pairs}
 use Rattle.otap_hist.specs.Writable.{CanWriteHistPoint, CanWriteMetric, CanWriteSumPoint}
@@ -139,10 +139,10 @@ module _ (gs : List (ResourceGroup Metric)) (can : All CanWrite gs) where
       (exemplars_can es is)
 
   -- group by group
-  pub groups_can_write : All inside.CanWriteGroup gs
+  pub groups_can_write : All writable.CanWriteGroup gs
   groups_can_write =
-      All-weaker CanWrite inside.CanWriteGroup
-      (λ group can. record { scopes = All-weaker (CanWriteScope IsLightScope CanWriteMetric) inside.CanWriteScope (λ scope can. record { items = can.1 }) group.scopes can.1 }) gs can
+      All-weaker CanWrite writable.CanWriteGroup
+      (λ group can. record { scopes = All-weaker (CanWriteScope IsLightScope CanWriteMetric) writable.CanWriteScope (λ scope can. record { items = can.1 }) group.scopes can.1 }) gs can
 
 -- ---- the tables, as they were added one after the other
 
