@@ -35,14 +35,14 @@ batch_short tables light dictionaries few = omega (arith, limits_are tables, row
 
 -- ---- the tables of each signal
 
-columns_counted : (s : Signal) → nat_le (sum_by dictionary_columns (kinds_of s)) 43 ≡ true
+columns_counted : (s : Signal) → nat_le (sum_by dictionary_columns (kinds_of s)) columns_limit ≡ true
 unfolding logs spans metrics attrs deep_attrs span_events span_links number_points summary_points hist_points exemplars
 columns_counted signal.Traces = refl
 columns_counted signal.Logs = refl
 columns_counted signal.Metrics = refl
 
 pub few_columns : (s : Signal) → sum_by dictionary_columns (kinds_of s) ≤ columns_limit
-few_columns s = leb-true (sum_by dictionary_columns (kinds_of s)) 43 (columns_counted s)
+few_columns s = leb-true (sum_by dictionary_columns (kinds_of s)) columns_limit (columns_counted s)
 
 pub few_tables : (s : Signal) → length (kinds_of s) ≤ tables_limit
 few_tables signal.Traces = omega arith

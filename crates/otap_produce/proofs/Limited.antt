@@ -9,17 +9,17 @@ use Rattle.otap_cells.specs.declared.payload.Kind.{Kind}
 use Rattle.otap_cells.specs.Payload.{kinds_of}
 use Rattle.otap_cells.specs.Tables.{Table}
 use Rattle.otap_cells.specs.Weights.{row_weight_limit, weight_of_tables}
-use Rattle.otap_columns.specs.Limits.{dictionary_columns, record_limit}
-use Rattle.otap_produce.specs.Limits.{kinds_at_most, records_limit, size_limit}
+use Rattle.otap_columns.specs.Limits.{columns_limit, dictionary_columns, record_limit, records_limit, tables_limit}
+use Rattle.otap_produce.specs.Limits.{size_limit}
 use Rattle.otap_produce.specs.Sizes.{most_of}
 use Rattle.otap_produce.specs.Writable.{AreInOrder}
 
 -- the records of the tables of a message are short together
 pub record RecordsFit : Type 0 where
-  pub bound : (tables : List Table) → weight_of_tables tables ≤ row_weight_limit → sum_by (λ (t : Table). dictionary_columns t.kind) tables ≤ 43 → length tables ≤ kinds_at_most
+  pub bound : (tables : List Table) → weight_of_tables tables ≤ row_weight_limit → sum_by (λ (t : Table). dictionary_columns t.kind) tables ≤ columns_limit → length tables ≤ tables_limit
       → sum_by record_limit tables ≤ records_limit
-  pub columns : (signal : Signal) → sum_by dictionary_columns (kinds_of signal) ≤ 43
-  pub tables : (signal : Signal) → length (kinds_of signal) ≤ kinds_at_most
+  pub columns : (signal : Signal) → sum_by dictionary_columns (kinds_of signal) ≤ columns_limit
+  pub tables : (signal : Signal) → length (kinds_of signal) ≤ tables_limit
 
 fewer : (has : Kind → Bool) (kinds : List Kind)
     → (length (filter has kinds) ≤ length kinds) × (sum_by dictionary_columns (filter has kinds) ≤ sum_by dictionary_columns kinds)
@@ -47,12 +47,12 @@ sizes [] = omega arith
 sizes (t ∷ tables) = omega (arith, sizes tables, sum_by-cons record_limit t tables)
 
 pub tables_limited : RecordsFit → (signal : Signal) (tables : List Table) → AreInOrder signal tables → weight_of_tables tables ≤ row_weight_limit
-    → (length tables ≤ kinds_at_most) × (most_of tables ≤ size_limit)
+    → (length tables ≤ tables_limit) × (most_of tables ≤ size_limit)
 tables_limited fit signal tables order light =
     let kinds : List Kind = map (λ (t : Table). t.kind) tables in
     let fewer_of = fewer order.has (kinds_of signal) in
     let count : length tables ≡ length kinds = sym (length-map tables (λ (t : Table). t.kind)) in
-    let few : length tables ≤ kinds_at_most = omega (arith, count, ap (λ (ks : List Kind). length ks) order.kinds, fewer_of.0, fit.tables signal) in
-    let columns : sum_by (λ (t : Table). dictionary_columns t.kind) tables ≤ 43 =
+    let few : length tables ≤ tables_limit = omega (arith, count, ap (λ (ks : List Kind). length ks) order.kinds, fewer_of.0, fit.tables signal) in
+    let columns : sum_by (λ (t : Table). dictionary_columns t.kind) tables ≤ columns_limit =
     omega (arith, columns_by_kind tables, ap (λ (ks : List Kind). sum_by dictionary_columns ks) order.kinds, fewer_of.1, fit.columns signal) in
     (few, omega (arith, sizes tables, fit.bound tables light columns few, few))

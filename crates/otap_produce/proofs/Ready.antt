@@ -10,8 +10,9 @@ use Rattle.otap_cells.specs.declared.payload.Kind.{Kind}
 use Rattle.otap_cells.specs.Payload.{kinds_of}
 use Rattle.otap_cells.specs.Tables.{Table}
 use Rattle.otap_cells.specs.Weights.{weight_of_table}
+use Rattle.otap_columns.specs.Limits.{tables_limit}
 use Rattle.otap_produce.specs.Exporters.{SendersIn, kinds_in}
-use Rattle.otap_produce.specs.Limits.{batch_limit, kinds_at_most}
+use Rattle.otap_produce.specs.Limits.{batch_limit}
 use Rattle.otap_produce.specs.Policy.{IsExported, SignalRows}
 use Rattle.otap_produce.specs.SentMessages.{AreReadyForAll, HaveHistory}
 use Rattle.otap_produce.specs.Writable.{AreInOrder, AreWritableRows}
@@ -26,10 +27,10 @@ of_signal signal tables order k d low =
     subst (Contains (kinds_of signal)) (get_or-map kind tables k d d.kind low) (all k d.kind (omega (arith, low, length-map tables kind)))
 
 module _ (rows : SignalRows) (q : Request) (exported : IsExported rows q) (writable : AreWritableRows rows) (fit : RecordsFit) where
-  pub few_tables : length (rows.tables q) ≤ kinds_at_most
+  pub few_tables : length (rows.tables q) ≤ tables_limit
   few_tables = (tables_limited fit rows.signal (rows.tables q) (writable.tables q exported).order exported.row_weight).0
 
-  pub ready_for_all : (s : SendersIn) (batches : ℕ) → kinds_in s.senders ≡ kinds_of rows.signal → HaveHistory s → s.openings ≤ kinds_at_most * batches → batches < batch_limit → AreReadyForAll (rows.tables q) s
+  pub ready_for_all : (s : SendersIn) (batches : ℕ) → kinds_in s.senders ≡ kinds_of rows.signal → HaveHistory s → s.openings ≤ tables_limit * batches → batches < batch_limit → AreReadyForAll (rows.tables q) s
   ready_for_all s batches kinds history few low =
       let have = writable.tables q exported in
       let limited = tables_limited fit rows.signal (rows.tables q) have.order exported.row_weight in

@@ -10,12 +10,13 @@ use Rattle.otap_cells.specs.declared.payload.Kind.{Kind}
 use Rattle.otap_cells.specs.Payload.{kinds_of}
 use Rattle.otap_cells.specs.Tables.{Table}
 use Rattle.otap_cells.specs.Weights.{row_weight_limit, weight_of_table}
+use Rattle.otap_columns.specs.Limits.{tables_limit}
 use Rattle.otap_columns.specs.WrittenPayloads.{IsWritable}
 use Rattle.otap_columns.specs.TableSets.{ArePayloadsOf}
 use Rattle.otap_produce.specs.declared.refusal.ProduceRefusal.{ProduceRefusal}
 use Rattle.otap_produce.specs.declared.refusal.ProduceRefusal.TheVariants.{Memory}
 use Rattle.otap_produce.specs.Exporters.{SendersIn, HaveSent, Refuses, kinds_in}
-use Rattle.otap_produce.specs.Limits.{kinds_at_most, size_limit}
+use Rattle.otap_produce.specs.Limits.{size_limit}
 use Rattle.otap_produce.specs.Policy.{SignalRows}
 use Rattle.otap_produce.specs.Sizes.{most_of, size_of}
 
@@ -46,7 +47,7 @@ pub record AreReadyForAll (tables : List Table) (s : SendersIn) : Type 0 where
   pub history : HaveHistory s
   pub each : All (CanSend (kinds_in s.senders)) tables
   pub room : s.openings + length tables < 2 ^ 64
-  pub few : length tables ≤ kinds_at_most
+  pub few : length tables ≤ tables_limit
   pub size : most_of tables ≤ size_limit
 
 -- whatever tables were sent before, as some payloads: these are the payloads of these tables after them, and now they were sent too

@@ -3,8 +3,9 @@ ghost use Rattle.std.specs.Prelude.{[], ◌≡◌, ◌≤◌, ◌<◌, ◌+◌, 
 ghost use Rattle.otlp_model.specs.Profile.{IsProfile};
 ghost use Rattle.otlp_model.specs.Telemetry.{signal_of};
 ghost use Rattle.otap_cells.specs.Payload.{kinds_of};
+ghost use Rattle.otap_columns.specs.Limits.{tables_limit};
 ghost use Rattle.otap_produce.specs.Exporters.{Exports, IsAfter, Refuses, StandsFor, kinds_in};
-ghost use Rattle.otap_produce.specs.Limits.{batch_limit, kinds_at_most};
+ghost use Rattle.otap_produce.specs.Limits.{batch_limit};
 ghost use Rattle.otap_produce.specs.Policy.{IsExported};
 ghost use Rattle.otap_produce.specs.SentMessages.{HaveHistory, RefusesFirst, SendsMessage};
 
@@ -129,11 +130,11 @@ fn message_of<T: Tabled>(
     requires exported { IsExported T.rows request.now }
     requires kinds { kinds_in senders.old.senders ≡ kinds_of T.rows.signal }
     requires history { HaveHistory senders.old }
-    requires few { senders.old.openings ≤ kinds_at_most * batches }
+    requires few { senders.old.openings ≤ tables_limit * batches }
     requires batches { batches < batch_limit }
     ensures sends { IfOk result (λ bytes. SendsMessage batches (T.rows.tables request.now) senders.old senders.new bytes.items) }
     ensures kinds { kinds_in senders.new.senders ≡ kinds_in senders.old.senders }
-    ensures few { OnOk result (senders.new.openings ≤ senders.old.openings + kinds_at_most) }
+    ensures few { OnOk result (senders.new.openings ≤ senders.old.openings + tables_limit) }
 {
     T::can_be_written();
     records_fit_a_message();

@@ -13,10 +13,10 @@ use Rattle.otlp_model.specs.declared.request.Signal.{Signal}
 use Rattle.otap_capture.specs.Batch.{IsRealBatch, IsRealPayload, ReadsBatch, batch_in, payloads_in}
 use Rattle.otap_capture.proofs.WrittenBatch.{batch_back}
 use Rattle.otap_cells.specs.Tables.{Table}
+use Rattle.otap_columns.specs.Limits.{tables_limit}
 use Rattle.otap_columns.specs.TableSets.{IsPayloadOf}
 use Rattle.otap_consume.specs.Defects.{Accepts, tables_of}
 use Rattle.otap_consume.specs.Meanings.{Meaning, HasFineRows}
-use Rattle.otap_produce.specs.Limits.{kinds_at_most}
 use Rattle.otap_produce.specs.Policy.{SignalRows, IsExported, IsMessageOf}
 use Rattle.otap_produce.specs.Writable.{AreInOrder}
 use Rattle.otap_transit.specs.Faithful.{AreFaithful, MeanTheSame}
@@ -50,7 +50,7 @@ pub record Comes (m : Meaning) (requests : List Request) (messages : List (List 
 -- what was sent so far in a segment
 pub record IsSegment (rows : SignalRows) (requests : List Request) (messages : List (List ℕ)) : Type 0 where
   pub so_far : AreSoFar (flat_map rows.tables requests) (payloads_in_all messages)
-  pub few : length (payloads_in_all messages) ≤ kinds_at_most * length requests
+  pub few : length (payloads_in_all messages) ≤ tables_limit * length requests
 
 pub received : (m : Meaning) (requests : List Request) (messages : List (List ℕ)) (request : Request) (message : List ℕ) → Comes m requests messages request message
     → IsReceivedAs m requests messages request message
@@ -81,7 +81,7 @@ module _ (far : FarEndReads) (m : Meaning) (rows : SignalRows) (faithful : AreFa
   each : EachAfter IsPayloadOf before past ts ps
   each = is.payloads
 
-  few_payloads : length ps ≤ kinds_at_most
+  few_payloads : length ps ≤ tables_limit
   few_payloads = omega (arith, each_after-length IsPayloadOf before past ts ps each, few_tables rows.signal ts order)
 
   -- the id tells that there were not too many

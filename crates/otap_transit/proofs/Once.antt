@@ -11,9 +11,9 @@ use Rattle.otap_cells.specs.declared.payload.Kind.{Kind}
 use Rattle.otap_cells.specs.Columns.{width_of, logs, spans, metrics, attrs, deep_attrs, span_events, span_links, number_points, summary_points, hist_points, exemplars}
 use Rattle.otap_cells.specs.Payload.{kinds_of, kind_numbered, is_kind}
 use Rattle.otap_cells.specs.Tables.{Table}
+use Rattle.otap_columns.specs.Limits.{tables_limit}
 use Rattle.otap_consume.specs.Limits.{held_limit}
 use Rattle.otap_consume.specs.Payloads.{type_of}
-use Rattle.otap_produce.specs.Limits.{kinds_at_most}
 use Rattle.otap_produce.specs.Writable.{AreInOrder}
 use Rattle.otap_transit.proofs.KindsApart.{same_kind}
 
@@ -92,12 +92,12 @@ module _ (signal : Signal) (ts : List Table) (order : AreInOrder signal ts) wher
       omega (arith, among, fewer order.has (λ k. is_kind k kind) (kinds_of signal), at_most_once kind (kinds_of signal) (kinds_distinct signal))
 
   -- there are no more of them than kinds
-  pub few_tables : length ts ≤ kinds_at_most
+  pub few_tables : length ts ≤ tables_limit
   few_tables =
       let long : length ts ≡ length (filter order.has (kinds_of signal)) = sym (length-map ts (λ t. t.kind)) ∙ ap length order.kinds in
       omega (arith, long, length-filter order.has (kinds_of signal), count_by-le-length order.has (kinds_of signal), few_kinds signal)
     where
-      few_kinds : (signal : Signal) → length (kinds_of signal) ≤ kinds_at_most
+      few_kinds : (signal : Signal) → length (kinds_of signal) ≤ tables_limit
       few_kinds Traces = lit≤ tt
       few_kinds Logs = lit≤ tt
       few_kinds Metrics = lit≤ tt
