@@ -1,10 +1,11 @@
 -- A column that is written as the places of its values.
-use Rattle.std.proofs.Common.{◌≡◌, ℕ, zero, suc, ◌+◌, ◌-◌, ◌<◌, ◌≤◌, ◌^◌, true, replicate, List, [], ◌∷◌, ◌++◌, length, take, get_or, map, Option, Some, None, refl, sym, ap, ◌∙◌, subst, arith, position, bytes_eq}
+use Rattle.std.proofs.Common.{◌≡◌, ℕ, zero, suc, ◌+◌, ◌-◌, ◌<◌, ◌≤◌, true, replicate, List, [], ◌∷◌, ◌++◌, length, take, get_or, map, Option, Some, None, refl, sym, ap, ◌∙◌, subst, arith, position, bytes_eq}
 use Rattle.std.proofs.lemmas.Bool.{false≢true}
 use Rattle.std.proofs.lemmas.List.{length-append, length-map, map-append, take_more}
 use Rattle.std.proofs.lemmas.List.Quantifiers.{position-Some}
 use Rattle.std.proofs.lemmas.List.Sums.{sum_by-append, sum_by-take-le, sum_by_push}
 use Rattle.arrow_buffers.specs.Columns.{ColumnIn, cell_len, cells_len}
+use Rattle.arrow_buffers.specs.Limits.{max_values}
 use Rattle.arrow_buffers.specs.declared.width.Width.{Width}
 use Rattle.arrow_buffers.specs.declared.width.Width.TheVariants.{Fixed}
 use Rattle.otap_cells.specs.declared.profile.Base.{Base}
@@ -29,7 +30,7 @@ map_take f (suc k) (x ∷ xs) = ap (λ ys. f x ∷ ys) (map_take f k xs)
 
 -- all that is written so far and the next index have room
 pub index_room : (f : ColumnForm) (places : List (Option ℕ)) (row : ℕ) (w : Width) (b : ColumnIn) → row < length places → b ≡ record { width = w; cells = map (index_of f) (take row places) }
-    → cells_len (map (index_of f) places) < 2 ^ 31 → cells_len b.cells + cell_len (index_of f (get_or places row None)) < 2 ^ 31
+    → cells_len (map (index_of f) places) < max_values → cells_len b.cells + cell_len (index_of f (get_or places row None)) < max_values
 index_room f places row w b low is room =
     let x = index_of f (get_or places row None) in
     let before = map (index_of f) (take row places) in

@@ -1,7 +1,8 @@
 //! The dictionary batches of a record.
 
-ghost use Rattle.std.specs.Prelude.{◌≡◌, ◌<◌, ◌≤◌, ◌^◌, ℕ, List, Some, drop, length, map, slice_get, IfOk, OnOk};
+ghost use Rattle.std.specs.Prelude.{◌≡◌, ◌<◌, ◌≤◌, ℕ, List, Some, drop, length, map, slice_get, IfOk, OnOk};
 ghost use Rattle.arrow_buffers.specs.Columns.{HasWidth};
+ghost use Rattle.arrow_buffers.specs.Limits.{max_values};
 ghost use Rattle.otap_dicts.specs.Forms.{bytes_of};
 ghost use Rattle.otap_dicts.specs.Limits.{byte_limit, value_limit};
 ghost use Rattle.otap_columns.specs.Limits.{head_limit};
@@ -50,7 +51,7 @@ fn values_column(
     requires there { from ≤ length ladder.now.values }
     requires wide { (place : ℕ) (value : List ℕ) → slice_get ladder.now.values place ≡ Some value → HasWidth width value }
     requires elements { IsSingle width }
-    requires room { bytes_of ladder.now.values < 2 ^ 31 }
+    requires room { bytes_of ladder.now.values < max_values }
     ensures { IfOk result (λ column. column ≡ record { width = width; cells = map (λ value. Some value) (drop from ladder.now.values) }) }
 {
     let count = ladder.count();

@@ -3,6 +3,7 @@
 
 ghost use Rattle.std.specs.Prelude.{◌≡◌, ◌+◌, ◌<◌, ◌≤◌, ◌^◌, ℕ, [], ◌∷◌, ◌++◌, Some, length, option_map, true, OnOk};
 ghost use Rattle.arrow_buffers.specs.Columns.{HasWidth, cell_len, cells_len};
+ghost use Rattle.arrow_buffers.specs.Limits.{max_values};
 ghost use Rattle.std.specs.Option.{ForSome, option_copied};
 ghost use Rattle.byteorder.specs.Endian.{little_bytes};
 ghost use Rattle.otap_cells.specs.Cells.{IsCellOf, IsNumberOf, null, number, seen};
@@ -105,7 +106,7 @@ pub(crate) fn push_value(
     requires base { IsCellOf base (seen cell) }
     requires fits { FitsForm base form (seen cell) }
     requires width { ForSome (bytes_for base form (seen cell)) (HasWidth built.old.width) }
-    requires room { cells_len built.old.cells + cell_len (bytes_for base form (seen cell)) < 2 ^ 31 }
+    requires room { cells_len built.old.cells + cell_len (bytes_for base form (seen cell)) < max_values }
     ensures { OnOk result (built.new ≡ record { width = built.old.width; cells = built.old.cells ++ bytes_for base form (seen cell.entry) ∷ [] }) }
 {
     match cell {
@@ -126,7 +127,7 @@ fn push_number(
     requires base { IsNumberOf base n }
     requires fits { FitsForm base form (number n) }
     requires width { HasWidth built.old.width (number_bytes base form n) }
-    requires room { cells_len built.old.cells + length (number_bytes base form n) < 2 ^ 31 }
+    requires room { cells_len built.old.cells + length (number_bytes base form n) < max_values }
     ensures { OnOk result (built.new ≡ record { width = built.old.width; cells = built.old.cells ++ Some (number_bytes base form n) ∷ [] }) }
 {
     match base {
@@ -143,7 +144,7 @@ fn push_number(
 fn push_id(built: &mut ColumnBuilder, form: ColumnForm, id: u32) -> Result<(), AllocError>
     requires fits { id < 2 ^ id_bits form }
     requires width { HasWidth built.old.width (little_bytes (id_width form) id) }
-    requires room { cells_len built.old.cells + length (little_bytes (id_width form) id) < 2 ^ 31 }
+    requires room { cells_len built.old.cells + length (little_bytes (id_width form) id) < max_values }
     ensures { OnOk result (built.new ≡ record { width = built.old.width; cells = built.old.cells ++ Some (little_bytes (id_width form) id) ∷ [] }) }
 {
     match form {
@@ -162,7 +163,7 @@ pub(crate) fn push_index(
 ) -> Result<(), AllocError>
     requires fits { IsIndexFor form place }
     requires width { ForSome (option_map (little_bytes (index_width form)) place) (HasWidth built.old.width) }
-    requires room { cells_len built.old.cells + cell_len (option_map (little_bytes (index_width form)) place) < 2 ^ 31 }
+    requires room { cells_len built.old.cells + cell_len (option_map (little_bytes (index_width form)) place) < max_values }
     ensures { OnOk result (built.new ≡ record { width = built.old.width; cells = built.old.cells ++ option_map (little_bytes (index_width form)) place ∷ [] }) }
 {
     match place {

@@ -1,8 +1,9 @@
 //! The columns of a record batch, and what they add to it.
 
-ghost use Rattle.std.specs.Prelude.{◌≡◌, ◌+◌, ◌/◌, ◌<◌, ◌≤◌, ◌^◌, [], ◌∷◌, ◌++◌, false, length, map, pos, true, ℕ, None, IfOk, OnOk};
+ghost use Rattle.std.specs.Prelude.{◌≡◌, ◌+◌, ◌/◌, ◌<◌, ◌≤◌, [], ◌∷◌, ◌++◌, false, length, map, pos, true, ℕ, None, IfOk, OnOk};
 ghost use Rattle.std.specs.List.{slice_index_or};
 ghost use Rattle.arrow_buffers.specs.Columns.{cells_len};
+ghost use Rattle.arrow_buffers.specs.Limits.{max_rows, max_values};
 ghost use Rattle.arrow_ipc.specs.Limits.{max_body, max_parts};
 ghost use Rattle.arrow_ipc.specs.Written.{body_size, padded};
 ghost use Rattle.otap_cells.specs.Columns.{base_at, width_of};
@@ -65,7 +66,7 @@ pub(crate) fn column_for(
     requires fits { FitsColumn form table.now column }
     requires few { FitsIndexes form (length seen.now.ladder.values) }
     requires placed { is_dictionary form ≡ true → filled (length table.now.rows) seen.now.places ≡ places_of (base_at table.now.kind column) form seen.now.ladder.values (column_in table.now.rows column) }
-    requires room { cells_len (stored_column form seen.now.ladder.values table.now column) < 2 ^ 31 }
+    requires room { cells_len (stored_column form seen.now.ladder.values table.now column) < max_values }
     ensures { IfOk result (λ built. built ≡ record { width = width_for (base_at table.now.kind column) form; cells = stored_column form seen.now.ladder.values table.now column }) }
 {
     if is_dictionary(form) {
@@ -85,7 +86,7 @@ fn values_for(
     requires column { column < width_of table.now.kind }
     requires fits { FitsColumn form table.now column }
     requires plain { is_dictionary form ≡ false }
-    requires room { cells_len (stored_column form [] table.now column) < 2 ^ 31 }
+    requires room { cells_len (stored_column form [] table.now column) < max_values }
     ensures { IfOk result (λ built. built ≡ record { width = width_for (base_at table.now.kind column) form; cells = stored_column form [] table.now column }) }
 {
     let base = base_of(table.kind(), column);
@@ -111,7 +112,7 @@ fn indexes_for(
 ) -> Result<ColumnBuilder, AllocError>
     requires few { length places.now ≤ rows }
     requires reached { (row : ℕ) → IsIndexFor form (slice_index_or places.now row None) }
-    requires room { cells_len (map (index_of form) (filled rows places.now)) < 2 ^ 31 }
+    requires room { cells_len (map (index_of form) (filled rows places.now)) < max_values }
     ensures { IfOk result (λ built. built ≡ record { width = Fixed (index_width form); cells = map (index_of form) (filled rows places.now) }) }
 {
     let width = Width::Fixed(index_width(form));
@@ -154,8 +155,8 @@ pub(crate) fn add_column(
     width: Width,
     buffers: &Buffers,
 ) -> Result<(), AllocError>
-    requires rows { buffers.now.rows < 2 ^ 63 }
-    requires nulls { buffers.now.nulls < 2 ^ 63 }
+    requires rows { buffers.now.rows < max_rows }
+    requires nulls { buffers.now.nulls < max_rows }
     requires room { HasRoom batch.old 1 (padded (length buffers.now.validity.items) + padded (length buffers.now.offsets.items) + padded (length buffers.now.values.items)) }
     ensures { OnOk result (batch.new ≡ with_parts batch.old (parts_of width buffers.now)) }
 {

@@ -1,7 +1,8 @@
 //! The record batch of a table.
 
-ghost use Rattle.std.specs.Prelude.{◌≡◌, ◌+◌, ◌<◌, ◌≤◌, ◌^◌, [], ◌∷◌, All, length, map, OnOk, IfOk};
+ghost use Rattle.std.specs.Prelude.{◌≡◌, ◌+◌, ◌<◌, ◌≤◌, [], ◌∷◌, All, length, map, OnOk, IfOk};
 ghost use Rattle.std.specs.List.{flat_map, list_any, slice_index_or};
+ghost use Rattle.arrow_buffers.specs.Limits.{max_rows};
 ghost use Rattle.arrow_ipc.specs.Written.{most_of};
 ghost use Rattle.arrow_arrays.specs.Written.{struct_part};
 ghost use Rattle.otap_cells.specs.Columns.{width_of};
@@ -26,7 +27,7 @@ use std::alloc::{AllocError, Global};
 #[tactic(auto, using(crate::proofs::BatchGrown::struct_grows))]
 fn add_struct(batch: &mut BatchBuilder, rows: u64) -> Result<(), AllocError>
     requires room { HasRoom batch.old 1 0 }
-    requires rows { rows < 2 ^ 63 }
+    requires rows { rows < max_rows }
     ensures ok { OnOk result (batch.new ≡ with_part batch.old (struct_part rows)) }
     ensures grows { OnOk result (GrowsBy 1 0 batch.old batch.new) }
 {

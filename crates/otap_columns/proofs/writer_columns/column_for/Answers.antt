@@ -1,6 +1,7 @@
-use Rattle.std.proofs.Common.{◌≡◌, ◌<◌, ◌^◌, ℕ, true, false, List, Option, length, map, ap, arith, sym, subst, ◌∙◌}
+use Rattle.std.proofs.Common.{◌≡◌, ◌<◌, ℕ, true, false, List, Option, length, map, ap, arith, sym, subst, ◌∙◌}
 use Rattle.std.specs.Prelude.{IfOk}
 use Rattle.arrow_buffers.specs.Columns.{ColumnIn, cells_len}
+use Rattle.arrow_buffers.specs.Limits.{max_values}
 use Rattle.arrow_buffers.specs.declared.width.Width.TheVariants.{Fixed}
 use Rattle.otap_cells.specs.Tables.{column_in}
 use Rattle.otap_columns.specs.Seen.{SeenIn}
@@ -16,7 +17,7 @@ use Rattle.otap_columns.proofs.writer_columns.column_for.Goals as goal
 pub values_for-requires-clause-room : goal.values_for-requires-clause-room
 values_for-requires-clause-room c =
     let plain : is_dictionary c.args.form ≡ false = sym c.is_dictionary.ensures ∙ c.if-is_dictionary.false in
-    subst (λ (cells : List (Option (List ℕ))). cells_len cells < 2 ^ 31) (sym (plain_column c.args.form c.args.seen.now.ladder.values c.args.table.now c.args.column plain)) c.requires.room
+    subst (λ (cells : List (Option (List ℕ))). cells_len cells < max_values) (sym (plain_column c.args.form c.args.seen.now.ladder.values c.args.table.now c.args.column plain)) c.requires.room
 
 pub returns-else-is_dictionary : goal.returns-else-is_dictionary
 returns-else-is_dictionary c =
@@ -43,7 +44,7 @@ indexes_for-requires-clause-room c =
     let dictionary : is_dictionary c.args.form ≡ true = sym c.is_dictionary.ensures ∙ c.if-is_dictionary.true in
     let is : filled c.rows.result c.deref.result.now ≡ places_of (base_at c.args.table.now.kind c.args.column) c.args.form c.args.seen.now.ladder.values (column_in c.args.table.now.rows c.args.column) =
     (λ i. filled (c.rows.ensures.count i) ((c.deref.ensures.value ∙ ap (λ (s : SeenIn). s.places) c.seen.view_is) i)) ∙ c.requires.placed dictionary in
-    subst (λ (cells : List (Option (List ℕ))). cells_len cells < 2 ^ 31)
+    subst (λ (cells : List (Option (List ℕ))). cells_len cells < max_values)
     (sym (ap (map (index_of c.args.form)) is ∙ indexes_column c.args.form c.args.seen.now.ladder.values c.args.table.now c.args.column dictionary)) c.requires.room
 
 pub returns-then-is_dictionary : goal.returns-then-is_dictionary
