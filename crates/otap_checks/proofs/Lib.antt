@@ -1,5 +1,5 @@
 pub mod CleanOrWrong
-mod Decided
+pub mod Decided
 pub mod FineLinks
 pub mod FinePairs
 pub mod GivenColumns

@@ -1,5 +1,5 @@
 -- Nothing is wrong with the rows of metrics, or something is.
-use Rattle.std.proofs.Common.{◌≡◌, ℕ, zero, suc, ◌+◌, ◌<◌, Bool, true, false, List, [], ◌∷◌, length, Option, None, Some, refl, sym, ◌∙◌, ap, subst, inl, inr, arith}
+use Rattle.std.proofs.Common.{◌≡◌, ℕ, zero, suc, ◌+◌, ◌<◌, Bool, true, false, List, length, Option, None, Some, refl, sym, ◌∙◌, ap, subst, inl, inr, arith}
 use Rattle.std.specs.Prelude.{◌⊎◌, Contains}
 use Rattle.std.proofs.lemmas.Bool.{cases_eq, false≢true}
 use Rattle.otlp_model.specs.declared.request.Signal.TheVariants as signal
@@ -17,6 +17,7 @@ use Rattle.otap_checks.specs.declared.links.TableLink.{TableLink}
 use Rattle.otap_checks.specs.IdDefects.{WrongIn}
 use Rattle.otap_checks.specs.Links.{links_of}
 use Rattle.otap_checks.proofs.CleanOrWrong.{AreDecided, attributes_clean_or_wrong, SomeWrong, table_or_wrong, disagrees_or_not}
+use Rattle.otap_checks.proofs.Decided.{number_or_not, some_or_none}
 use Rattle.otap_checks.proofs.GivenColumns.{one_given}
 use Rattle.otap_metrics.specs.Inside.{IsUnlike}
 use Rattle.otap_metrics.specs.Numbers.{IsThere}
@@ -79,27 +80,6 @@ two_or_not t column =
 
 -- ---- points of metrics of other types
 
-same_id : (a : Option ℕ) (id : ℕ) → Decided (a ≡ Some id)
-same_id None id = inr (λ e. absurd cc)
-same_id (Some a) id = elim (cases_eq a id) [
-  | inl equal ↦ inl (ap Some equal)
-  | inr differ ↦ inr (λ e. let same : a ≡ id = cc in differ same)
-]
-
-named_or_not : (parents : List (Option ℕ)) (id : ℕ) → Decided (Contains parents (Some id))
-named_or_not [] id = inr (λ at. absurd (omega (arith, at.1)))
-named_or_not (a ∷ parents) id = elim (same_id a id) [
-  | inl equal ↦ inl (0, omega arith, equal)
-  | inr differ ↦ elim (named_or_not parents id) [
-    | inl at ↦ inl (suc at.0, omega (arith, at.1), at.2)
-    | inr none ↦ inr (after differ none)
-  ]
-]
-  where
-    after : (a ≡ Some id → ⊥) → (Contains parents (Some id) → ⊥) → Contains (a ∷ parents) (Some id) → ⊥
-    after differ none (zero, within, at) = differ at
-    after differ none (suc k, within, at) = none (k, omega arith, at)
-
 -- the parents name this id
 abbrev pub Names : List (Option ℕ) → Option ℕ → Type 0
 Names parents None = ⊥
@@ -107,7 +87,7 @@ Names parents (Some id) = Contains parents (Some id)
 
 names_or_not : (parents : List (Option ℕ)) (id : Option ℕ) → Decided (Names parents id)
 names_or_not parents None = inr (λ is. is)
-names_or_not parents (Some id) = named_or_not parents id
+names_or_not parents (Some id) = number_or_not parents id
 
 has_id : (parents : List (Option ℕ)) (id : Option ℕ) → Names parents id → (n : ℕ) × (id ≡ Some n) × Contains parents (Some n)
 has_id parents None is = absurd is
@@ -149,26 +129,12 @@ module _ (fits : ℕ → Bool) (t main : Table) (parents ids : List (Option ℕ)
 
 -- ---- ids
 
-some_among : {A : Type 0} (P : A → Type 0) → ((x : A) → Decided (P x)) → (xs : List A) → ((x : A) × Contains xs x × P x) ⊎ ((x : A) → Contains xs x → P x → ⊥)
-some_among P decide [] = inr (λ x at is. absurd (omega (arith, at.1)))
-some_among {A} P decide (x ∷ xs) = by_first (decide x) (some_among P decide xs)
-  where
-    neither : (P x → ⊥) → ((y : A) → Contains xs y → P y → ⊥) → (y : A) → Contains (x ∷ xs) y → P y → ⊥
-    neither first none y (zero, within, at) is = first (subst P (sym at) is)
-    neither first none y (suc k, within, at) is = none y (k, omega arith, at) is
-
-    by_first : Decided (P x) → ((y : A) × Contains xs y × P y) ⊎ ((y : A) → Contains xs y → P y → ⊥)
-        → ((y : A) × Contains (x ∷ xs) y × P y) ⊎ ((y : A) → Contains (x ∷ xs) y → P y → ⊥)
-    by_first (inl is) rest = inl (x, (0, omega arith, refl), is)
-    by_first (inr first) (inl (y, at, is)) = inl (y, (suc at.0, omega (arith, at.1), at.2), is)
-    by_first (inr first) (inr none) = inr (neither first none)
-
 abbrev OwnWrong : List Table → TableLink → Type 0
 OwnWrong tables link = (is_other link.kind ≡ false) × SomeWrong tables (table_named link.kind tables) link
 
 own_ids_clean_or_wrong : (tables : List Table) → CleanOrWrong (WrongIds tables)
 own_ids_clean_or_wrong tables =
-    elim (some_among (OwnWrong tables) (λ link. both_or_not (is_other link.kind ≡ false) (SomeWrong tables (table_named link.kind tables) link) (is_false (is_other link.kind))
+    elim (some_or_none (OwnWrong tables) (λ link. both_or_not (is_other link.kind ≡ false) (SomeWrong tables (table_named link.kind tables) link) (is_false (is_other link.kind))
     (table_or_wrong tables (table_named link.kind tables) link)) (links_of signal.Metrics)) [
       | inl (link, listed, (own, (wrong, is))) ↦ inr (link.kind, wrong, (own, record { link = link; listed = listed; names = refl; is = is }))
       | inr none ↦ inl (λ kind wrong (d : WrongIds tables kind wrong). none d.1.link d.1.listed (
