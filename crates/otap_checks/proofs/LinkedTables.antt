@@ -1,5 +1,5 @@
 -- The tables of each signal hang together by columns of ids.
-use Rattle.std.proofs.Common.{◌≡◌, ◌∙◌, ℕ, zero, suc, ◌<◌, List, [], ◌∷◌, get_or, length, codes, Option, None, Some, true, false, refl, sym, ap, subst, arith}
+use Rattle.std.proofs.Common.{◌≡◌, ◌∙◌, ℕ, zero, suc, ◌<◌, List, [], ◌∷◌, drop, get_or, length, codes, Option, None, Some, true, false, refl, sym, ap, subst, arith}
 use Rattle.std.specs.Prelude.{Contains}
 use Rattle.std.specs.Str.{bytes_eq}
 use Rattle.std.proofs.lemmas.Bool.{false≢true}
@@ -40,11 +40,16 @@ below {at = at} id id_there own = record { own = tt; parents = above 0 at id id_
 part : {kind of : Kind} {at : ℕ} → is_id_at kind 0 ≡ true → is_id_at kind 1 ≡ true → is_id_at of at ≡ true → bytes_eq (name_at of at) (codes "parent_id") ≡ false → IsLinked (parts kind of at)
 part {at = at} own id id_there name = record { own = own; parents = above 1 at id id_there name }
 
+-- the tables of metrics that follow those of points
+under_points_linked : AllLinked (drop 6 (links_of signal.Metrics))
+unfolding links_of logs spans metrics attrs deep_attrs span_events span_links number_points summary_points hist_points exemplars
+under_points_linked = (below refl refl refl, (below refl refl refl, (below refl refl refl, (part refl refl refl refl, (part refl refl refl refl, (below refl refl refl, (below refl refl refl, tt)))))))
+
 all_linked : (of : Signal) → AllLinked (links_of of)
 unfolding links_of logs spans metrics attrs deep_attrs span_events span_links number_points summary_points hist_points exemplars
 all_linked signal.Logs = (item refl, (below refl refl refl, (below refl refl refl, (below refl refl refl, tt))))
 all_linked signal.Traces = (item refl, (below refl refl refl, (below refl refl refl, (below refl refl refl, (part refl refl refl refl, (part refl refl refl refl, (below refl refl refl, (below refl refl refl, tt))))))))
-all_linked signal.Metrics = (item refl, (below refl refl refl, (below refl refl refl, (part refl refl refl refl, (part refl refl refl refl, (part refl refl refl refl, (below refl refl refl, (below refl refl refl, (below refl refl refl, (part refl refl refl refl, (part refl refl refl refl, (below refl refl refl, (below refl refl refl, tt)))))))))))))
+all_linked signal.Metrics = (item refl, (below refl refl refl, (below refl refl refl, (part refl refl refl refl, (part refl refl refl refl, (part refl refl refl refl, under_points_linked))))))
 
 pub is_linked : (of : Signal) (links : List TableLink) (k : ℕ) (d : TableLink) → links ≡ links_of of → k < length links → IsLinked (get_or links k d)
 is_linked of links k d are within = linked_at links k d (subst AllLinked (sym are) (all_linked of)) within
