@@ -13,7 +13,7 @@ use std::alloc::Global;
 use std::marker::Model;
 
 // How many bytes a read asks for.
-const ROOM: usize = 1 << 16;
+pub(crate) const ROOM: usize = 1 << 16;
 
 /// The frames of a capture, as they come. It keeps the bytes of one frame and at most 65,536 bytes
 /// more, and asks the source only where the next step isn't decided by the bytes that it keeps.

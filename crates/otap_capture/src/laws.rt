@@ -3,9 +3,10 @@ ghost use Rattle.std.specs.Prelude.{◌≡◌, ◌≤◌, List, ℕ, ◌++◌, l
 ghost use Rattle.std.specs.declared.option.Option.{Option};
 ghost use Rattle.otap_capture.specs.Capture.{Frame, IsFrame, IsCapture, capture_limit, longest_frame, message_frame, reason_at, reset_frame};
 ghost use Rattle.otap_capture.specs.Capture as frame;
-ghost use Rattle.otap_capture.specs.Deciding.{IsOpen};
+ghost use Rattle.otap_capture.specs.Deciding.{IsOpen, read_ahead};
 
 use crate::frame::{Damage, MAX_CAPTURE, MAX_FRAME};
+use crate::frames::ROOM;
 
 /// Every list of bytes has a capture.
 pub fn some_capture()
@@ -33,4 +34,5 @@ pub fn written_is_read()
 pub fn limits_are_stated()
     ensures frame { MAX_FRAME ≡ longest_frame }
     ensures capture { MAX_CAPTURE ≡ capture_limit }
+    ensures ahead { ROOM ≡ read_ahead }
 {}
