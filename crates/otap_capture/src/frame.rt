@@ -5,6 +5,9 @@ ghost use Rattle.std.specs.Prelude.{◌≡◌};
 use std::alloc::AllocError;
 use thiserror::Error;
 
+/// How many bytes the head of a frame has: a flag, and four bytes of length.
+pub const FRAME_HEAD: usize = 5;
+
 /// A frame has at most this many bytes after its head.
 pub const MAX_FRAME: u32 = 1 << 29;
 

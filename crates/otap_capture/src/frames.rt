@@ -6,8 +6,8 @@ ghost use Rattle.otap_capture.specs.Deciding.{IsShort};
 ghost use Rattle.otap_capture.specs.Reading.{ahead, GoesOn, EndsAgain, StepCounts, KeepsFew, KeepsRest, Asked, Tells, IsWaiting};
 ghost use Rattle.otap_capture.specs.Cutting.{StandsAt, Cuts, Fills, IsDecided, Grows, SameBut, GivesPiece};
 
-use crate::frame::{Damage, Frame, FramesRefusal, Step};
-use crate::front::{Flag, Front, HEAD, front_at};
+use crate::frame::{Damage, FRAME_HEAD, Frame, FramesRefusal, Step};
+use crate::front::{Flag, Front, front_at};
 use crate::outside::Source;
 use std::alloc::Global;
 use std::marker::Model;
@@ -161,9 +161,9 @@ impl Frames {
     {
         match self.front() {
             Front::Frame(flag, size) => {
-                self.begin = self.place + HEAD;
+                self.begin = self.place + FRAME_HEAD;
                 self.place = self.begin + size;
-                self.handed += (HEAD + size) as u64;
+                self.handed += (FRAME_HEAD + size) as u64;
                 self.last = Some(flag);
                 Step::Frame
             }

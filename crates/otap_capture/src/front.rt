@@ -5,9 +5,6 @@ ghost use Rattle.otap_capture.specs.Cutting.{StandsAt, StandsAfter, leaves_open}
 use crate::frame::{MAX_CAPTURE, MAX_FRAME, Why};
 use byteorder::{BigEndian, ByteOrder};
 
-// A flag and four bytes of length.
-pub(crate) const HEAD: usize = 5;
-
 #[derive(Clone, Copy)]
 pub(crate) enum Flag {
     Message,

@@ -20,7 +20,7 @@ pub use adapters::{ReadSource, WriteSink};
 pub use batch::{Batch, BatchRefusal, Payload, Payloads, read_batch};
 pub use batch_laws::{one_batch, read_or_refused, written_batch_is_read};
 pub use batch_writer::BatchWriter;
-pub use frame::{Damage, Frame, FramesRefusal, MAX_CAPTURE, MAX_FRAME, Step, Why};
+pub use frame::{Damage, FRAME_HEAD, Frame, FramesRefusal, MAX_CAPTURE, MAX_FRAME, Step, Why};
 pub use frames::Frames;
 pub use laws::{decided_stays, limits_are_stated, one_capture, some_capture, written_is_read};
 pub use memory::{MemorySink, MemorySource};

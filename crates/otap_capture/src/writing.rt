@@ -4,6 +4,7 @@ ghost use Rattle.std.specs.Io.KnownBytes.{Appends, Keeps};
 ghost use Rattle.otap_capture.specs.Capture.{longest_frame, message_frame, reset_frame};
 ghost use Rattle.otap_capture.specs.Outside.{SinkCounts, AppendsFront};
 
+use crate::frame::FRAME_HEAD;
 use crate::outside::{Sink, SinkRefusal, write_whole};
 use byteorder::{BigEndian, ByteOrder};
 
@@ -15,7 +16,7 @@ pub fn write_frame<O: Sink>(sink: &mut O, part: &[u8]) -> Result<(), SinkRefusal
     ensures kept { Keeps (O.passed sink.old) (O.passed sink.new) }
     ensures count { SinkCounts (O.faults sink.old) (O.faults sink.new) result }
 {
-    let mut head = [0; 5];
+    let mut head = [0; FRAME_HEAD];
     BigEndian::write_u32(&mut head[1..], part.len() as u32);
     write_whole(sink, &head)?;
     write_whole(sink, part)

@@ -5,13 +5,10 @@ ghost use Rattle.otap_capture.specs.Statuses.{told, canon_status};
 ghost use Rattle.otap_gateway.specs.Lines.{printed, refuses};
 
 use byteorder::{BigEndian, ByteOrder};
-use otap_capture::{Status, write_status};
+use otap_capture::{FRAME_HEAD, Status, write_status};
 use otlp_messages::Backward;
 use std::alloc::{AllocError, Global};
 use std::marker::Model;
-
-/// How many bytes the head of a frame has.
-pub(crate) const HEAD: usize = 5;
 
 /// The bytes for out and for err, and whether the frame is refused.
 #[derive(Drop)]
@@ -42,7 +39,7 @@ impl Reply {
         requires { length part ≤ longest_frame }
         ensures { IfOk result (λ reply. reply ≡ printed (message_frame part)) }
     {
-        let mut head = [0; HEAD];
+        let mut head = [0; FRAME_HEAD];
         BigEndian::write_u32(&mut head[1..], part.len() as u32);
         part.push_slice(&head)?;
         Ok(Reply::on_out(alloc, part.finish()))
@@ -53,10 +50,10 @@ impl Reply {
         requires { length part.now ≤ longest_frame }
         ensures { IfOk result (λ reply. reply ≡ printed (message_frame part.now)) }
     {
-        let mut head = [0; HEAD];
+        let mut head = [0; FRAME_HEAD];
         BigEndian::write_u32(&mut head[1..], part.len() as u32);
         let mut out = Vec::new(alloc);
-        out.reserve(HEAD + part.len())?;
+        out.reserve(FRAME_HEAD + part.len())?;
         out.extend_from_slice(&head)?;
         out.extend_from_slice(part)?;
         Ok(Reply::on_out(alloc, out))
@@ -99,7 +96,7 @@ impl Reply {
         let Ok(size) = u32::try_from(part.len()) else {
             return Err(AllocError);
         };
-        let mut head = [0; HEAD];
+        let mut head = [0; FRAME_HEAD];
         BigEndian::write_u32(&mut head[1..], size);
         let mut out = head.to_vec(alloc)?;
         out.extend_from_slice(&part)?;

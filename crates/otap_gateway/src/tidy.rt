@@ -6,8 +6,8 @@ ghost use Rattle.otap_gateway.specs.Tidying.{TidiesFrame, TidiesMessage, tidied}
 
 use crate::job::Job;
 use crate::refused_requests::{refusal_name, refused};
-use crate::reply::{HEAD, Reply};
-use otap_capture::Frame;
+use crate::reply::Reply;
+use otap_capture::{FRAME_HEAD, Frame};
 use otlp_codec::{put_request, read_request};
 use otlp_messages::Backward;
 use otlp_model::{MAX_ITEMS, MAX_TREE_WEIGHT, Request, Signal, items, weight};
@@ -82,7 +82,7 @@ fn tidy_request(
         return refused(alloc, number, "TooHeavy");
     }
     let mut spelling = Backward::new(alloc);
-    spelling.reserve(len.saturating_add(HEAD))?;
+    spelling.reserve(len.saturating_add(FRAME_HEAD))?;
     put_request(&mut spelling, request)?;
     Reply::message(alloc, spelling)
 }
