@@ -17,7 +17,7 @@ use Rattle.arrow_arrays.specs.declared.spec.Above.{Above}
 use Rattle.arrow_arrays.specs.declared.spec.ArraySpec.{ArraySpec}
 use Rattle.arrow_arrays.specs.Layouts.{layout_of, own_buffers}
 use Rattle.arrow_arrays.specs.Cells.{array_check}
-use Rattle.arrow_arrays.specs.Arrays.{Adds, place_of, buffers_of, above_children, array_after, add_each, add_step, add_field, add_fields, path_below, path_to, path_within, arrays_check}
+use Rattle.arrow_arrays.specs.Arrays.{AddsArrays, place_of, buffers_of, above_children, array_after, add_each, add_step, add_field, add_fields, path_below, path_to, path_within, arrays_check}
 
 -- an array has at most three buffers
 own_few : (kind : Layout) → own_buffers kind ≤ 3
@@ -51,7 +51,7 @@ step_is f = search (rules, the_lemmas)
 pub add_field_is : (f : FieldSpec) (above : Above) (arrays : List ArraySpec)
     → add_field f above arrays ≡ add_fields (children_in f) (above_children (kind_in f) (length arrays)) (arrays ++ array_after arrays above (name_in f) (kind_in f) (dict_in f) (encoding_in f) ∷ [])
 add_field_is f above arrays =
-    ap (λ (add : Adds). add above arrays) (step_is f)
+    ap (λ (add : AddsArrays). add above arrays) (step_is f)
     ∙ each_is (children_in f) (above_children (kind_in f) (length arrays)) (arrays ++ array_after arrays above (name_in f) (kind_in f) (dict_in f) (encoding_in f) ∷ [])
 
 pub count_step : (fs : List FieldSpec) (i : ℕ) (f : FieldSpec) → i < length fs → f ≡ get_or fs i f → count_of (drop i fs) ≡ count_in f + count_of (drop (i + 1) fs)

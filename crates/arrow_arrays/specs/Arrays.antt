@@ -59,24 +59,24 @@ above_children kind.List place = parent.List
 above_children other place = parent.Struct place
 
 -- the arrays so far with those that are added, from what stands above
-abbrev pub Adds : Type 0
-Adds = Above → List ArraySpec → List ArraySpec
+abbrev pub AddsArrays : Type 0
+AddsArrays = Above → List ArraySpec → List ArraySpec
 
 -- one after the other
-abbrev pub add_each : List Adds → Adds
+abbrev pub add_each : List AddsArrays → AddsArrays
 add_each [] above arrays = arrays
 add_each (add ∷ adds) above arrays = add_each adds above (add above arrays)
 
 -- a field, and then its children below it
-abbrev pub add_step : FieldSpec-F Adds → Adds
+abbrev pub add_step : FieldSpec-F AddsArrays → AddsArrays
 add_step f above arrays =
     add_each f.children (above_children f.kind (length arrays))
     (arrays ++ array_after arrays above f.name f.kind f.dict f.encoding ∷ [])
 
-abbrev pub add_field : FieldSpec → Adds
-add_field = fold-FieldSpec Adds add_step
+abbrev pub add_field : FieldSpec → AddsArrays
+add_field = fold-FieldSpec AddsArrays add_step
 
-abbrev pub add_fields : List FieldSpec → Adds
+abbrev pub add_fields : List FieldSpec → AddsArrays
 add_fields [] above arrays = arrays
 add_fields (f ∷ fields) above arrays = add_fields fields above (add_field f above arrays)
 

@@ -18,7 +18,7 @@ use Rattle.arrow_schema.specs.Slots.{name_slot, kind_slot, byte_order, fields_sl
 use Rattle.arrow_schema.specs.Trees.{count_in, count_of, uses_of, uses_agree, names_differ, field_with}
 use Rattle.arrow_schema.specs.Says.{SaysNumbers, SaysDictionary, SaysEncoding, HasElements, HasTables, SaysField, says, SayFields, SaysSchema}
 use Rattle.arrow_schema.specs.Readable.{is_supported, fits_dictionary, fits_children, is_readable, are_readable, IsReadable}
-use Rattle.arrow_schema.specs.Reading.{flat, where_supported, name_of, type_of, dictionary_of, encoding_of, Fields, in_slot}
+use Rattle.arrow_schema.specs.Reading.{flat, where_supported, name_of, type_of, dictionary_of, encoding_of, FieldsRead, in_slot}
 use Rattle.arrow_schema.specs.Reading.{slot_of, field_of, of_element, fields_from, with_own_names, vector_of, with_agreeing_uses, schema_of}
 use Rattle.arrow_schema.proofs.Steps.{bind_ok, flat_ok, supported_ok, chosen, ok_is, pair_is}
 use Rattle.arrow_schema.proofs.Folds.{name_in_is, kind_in_is, dict_in_is, encoding_in_is, children_in_is, count_in_is}
@@ -183,7 +183,7 @@ elements_say depth vector v place (suc n) left fields rest end h =
         (one_more depth left v place n t f.0.0 f.0.1 fs.0.1 fs.0.0 at (field_says depth vector left t f.0.0 f.0.1 f.1) (others f.0.1 fs.0.0 fs.0.1 fs.1))
 
 -- ---- the fields of a vector
-empty_says : (depth left : ℕ) (v : VectorIn) (fields : List FieldSpec) (rest : ℕ) → v.count ≡ 0 → (let read : Result Fields SchemaRefusal = Ok ([], left) in read ≡ Ok (fields, rest))
+empty_says : (depth left : ℕ) (v : VectorIn) (fields : List FieldSpec) (rest : ℕ) → v.count ≡ 0 → (let read : Result FieldsRead SchemaRefusal = Ok ([], left) in read ≡ Ok (fields, rest))
     → VectorSays depth left v fields rest
 empty_says depth left v fields rest zero_count h = subst (λ (p : List FieldSpec × ℕ). VectorSays depth left v p.0 p.1) (ok_is ([], left) (fields, rest) h) (record {
   tables = [];
@@ -228,7 +228,7 @@ vector_says (suc depth) left v fields rest h = elim (chosen (v.count == 0) (Ok (
 ]
 
 -- ---- the schema
-uses_checked : (fields : Fields) (found : List FieldSpec) → with_agreeing_uses fields ≡ Ok found → (fields.0 ≡ found) × (uses_agree (uses_of found) ≡ true)
+uses_checked : (fields : FieldsRead) (found : List FieldSpec) → with_agreeing_uses fields ≡ Ok found → (fields.0 ≡ found) × (uses_agree (uses_of found) ≡ true)
 uses_checked fields found h = elim (chosen (uses_agree (uses_of fields.0)) (Ok fields.0) (Err DictionaryTypes) (Ok found) h) [
   | inl c ↦ let is : fields.0 ≡ found = ok_is fields.0 found c.1 in (is, ap (λ (fields : List FieldSpec). uses_agree (uses_of fields)) (sym is) ∙ c.0)
   | inr c ↦ cc (c.1)

@@ -9,20 +9,20 @@ use Rattle.arrow_schema.specs.declared.spec.FieldSpec.{FieldSpec}
 use Rattle.arrow_schema.specs.declared.refusal.SchemaRefusal.{SchemaRefusal}
 use Rattle.arrow_schema.specs.declared.refusal.SchemaRefusal.TheVariants.{Flat, Unsupported, TooManyFields, TooDeep, BadName, DictionaryTypes, Memory}
 use Rattle.arrow_schema.specs.Trees.{names_differ}
-use Rattle.arrow_schema.specs.Reading.{Fails, Fields, field_of, fields_from, vector_of, with_own_names}
+use Rattle.arrow_schema.specs.Reading.{Fails, FieldsRead, field_of, fields_from, vector_of, with_own_names}
 
 abbrev pub Reader : Type 0
 Reader = ℕ → TableIn → Result (FieldSpec × ℕ) SchemaRefusal
 
 -- what was read before, and what is still read
-abbrev pub with_front : List FieldSpec → Result Fields SchemaRefusal → Result Fields SchemaRefusal
+abbrev pub with_front : List FieldSpec → Result FieldsRead SchemaRefusal → Result FieldsRead SchemaRefusal
 with_front front read = read >>= λ fs. Ok (front ++ fs.0, fs.1)
 
-regroup : (front : List FieldSpec) (f : FieldSpec) (read : Result Fields SchemaRefusal) → with_front front (read >>= λ fs. Ok (f ∷ fs.0, fs.1)) ≡ with_front (front ++ f ∷ []) read
+regroup : (front : List FieldSpec) (f : FieldSpec) (read : Result FieldsRead SchemaRefusal) → with_front front (read >>= λ fs. Ok (f ∷ fs.0, fs.1)) ≡ with_front (front ++ f ∷ []) read
 regroup front f (Ok fs) = ap (λ (fields : List FieldSpec). Ok (fields, fs.1)) (sym (append_assoc front (f ∷ []) fs.0))
 regroup front f (Err e) = refl
 
-pub goes_on : (field : Reader) (v : VectorIn) (front : List FieldSpec) (count place left after : ℕ) (t : TableIn) (f : FieldSpec) (all : Result Fields SchemaRefusal) → place < count
+pub goes_on : (field : Reader) (v : VectorIn) (front : List FieldSpec) (count place left after : ℕ) (t : TableIn) (f : FieldSpec) (all : Result FieldsRead SchemaRefusal) → place < count
     → element_table v place ≡ Ok (Some t) → field left t ≡ Ok (f, after)
     → with_front front (fields_from field v place (count - place) left) ≡ all → with_front (front ++ f ∷ []) (fields_from field v (place + 1) (count - (place + 1)) after) ≡ all
 unfolding fields_from
@@ -42,7 +42,7 @@ fails_into TooDeep part whole h f = h f
 fails_into BadName part whole h f = h f
 fails_into DictionaryTypes part whole h f = h f
 
-pub element_fails : (field : Reader) (v : VectorIn) (front : List FieldSpec) (count place left : ℕ) (e : FlatFault) (all : Result Fields SchemaRefusal) → place < count
+pub element_fails : (field : Reader) (v : VectorIn) (front : List FieldSpec) (count place left : ℕ) (e : FlatFault) (all : Result FieldsRead SchemaRefusal) → place < count
     → element_table v place ≡ Err e → with_front front (fields_from field v place (count - place) left) ≡ all → all ≡ Err (Flat e)
 unfolding fields_from
 element_fails field v front count place left e all lt fault so_far =
@@ -50,7 +50,7 @@ element_fails field v front count place left e all lt fault so_far =
     let one : with_front front (fields_from field v place (count - place) left) ≡ Err (Flat e) = rw (k, fault) refl in
     sym so_far ∙ one
 
-pub field_fails : (field : Reader) (v : VectorIn) (front : List FieldSpec) (count place left : ℕ) (t : TableIn) (e : SchemaRefusal) (all : Result Fields SchemaRefusal) → place < count
+pub field_fails : (field : Reader) (v : VectorIn) (front : List FieldSpec) (count place left : ℕ) (t : TableIn) (e : SchemaRefusal) (all : Result FieldsRead SchemaRefusal) → place < count
     → element_table v place ≡ Ok (Some t) → with_front front (fields_from field v place (count - place) left) ≡ all → field left t ≡ Err e → all ≡ Err e
 unfolding fields_from
 field_fails field v front count place left t e all lt found so_far read =
@@ -58,7 +58,7 @@ field_fails field v front count place left t e all lt found so_far read =
     let one : with_front front (fields_from field v place (count - place) left) ≡ Err e = rw (k, found, read) refl in
     sym so_far ∙ one
 
-pub no_element : (field : Reader) (v : VectorIn) (front : List FieldSpec) (count place left : ℕ) (all : Result Fields SchemaRefusal) → place < count
+pub no_element : (field : Reader) (v : VectorIn) (front : List FieldSpec) (count place left : ℕ) (all : Result FieldsRead SchemaRefusal) → place < count
     → element_table v place ≡ Ok None → with_front front (fields_from field v place (count - place) left) ≡ all → all ≡ Ok (front, left)
 unfolding fields_from
 no_element field v front count place left all lt found so_far =
@@ -67,7 +67,7 @@ no_element field v front count place left all lt found so_far =
     rw (k, found) (ap (λ (fields : List FieldSpec). Ok (fields, left)) (append-nil front)) in
     sym so_far ∙ one
 
-pub is_done : (field : Reader) (v : VectorIn) (front : List FieldSpec) (count place left : ℕ) (all : Result Fields SchemaRefusal) → count ≤ place
+pub is_done : (field : Reader) (v : VectorIn) (front : List FieldSpec) (count place left : ℕ) (all : Result FieldsRead SchemaRefusal) → count ≤ place
     → with_front front (fields_from field v place (count - place) left) ≡ all → all ≡ Ok (front, left)
 unfolding fields_from
 is_done field v front count place left all le so_far =
@@ -101,8 +101,8 @@ inner_fields (suc depth) left inner rest v deep fits some =
     let n : left - v.count ≡ rest = omega arith in
     rw (ne_eqb v.count 0 some, le-ltb left v.count (omega arith), d, n) refl
 
-pub own_names : (fields : List FieldSpec) (left : ℕ) (read : Result Fields SchemaRefusal) → read ≡ Ok (fields, left) → names_differ fields ≡ true → (read >>= with_own_names) ≡ Ok (fields, left)
+pub own_names : (fields : List FieldSpec) (left : ℕ) (read : Result FieldsRead SchemaRefusal) → read ≡ Ok (fields, left) → names_differ fields ≡ true → (read >>= with_own_names) ≡ Ok (fields, left)
 own_names fields left read e differ = rw (e, differ) refl
 
-pub shared_names : (fields : List FieldSpec) (left : ℕ) (read : Result Fields SchemaRefusal) → read ≡ Ok (fields, left) → names_differ fields ≡ false → (read >>= with_own_names) ≡ Err BadName
+pub shared_names : (fields : List FieldSpec) (left : ℕ) (read : Result FieldsRead SchemaRefusal) → read ≡ Ok (fields, left) → names_differ fields ≡ false → (read >>= with_own_names) ≡ Err BadName
 shared_names fields left read e same = rw (e, same) refl

@@ -13,7 +13,7 @@ use Rattle.arrow_schema.specs.Slots.{name_slot, byte_order, fields_slot, childre
 use Rattle.arrow_schema.specs.Trees.{name_in, field_with, names_differ, uses_of, uses_agree}
 use Rattle.arrow_schema.specs.Says.{SaysField, says}
 use Rattle.arrow_schema.specs.Readable.{fits_children}
-use Rattle.arrow_schema.specs.Reading.{flat, name_of, type_of, dictionary_of, encoding_of, Fields, in_slot, slot_of, field_of, of_element, fields_from, with_own_names, vector_of, with_agreeing_uses, schema_of}
+use Rattle.arrow_schema.specs.Reading.{flat, name_of, type_of, dictionary_of, encoding_of, FieldsRead, in_slot, slot_of, field_of, of_element, fields_from, with_own_names, vector_of, with_agreeing_uses, schema_of}
 use Rattle.arrow_schema.specs.Defects.{IsChild, IsField, IsParent, FieldFault, VectorFault, HasFlatFault}
 use Rattle.arrow_schema.specs.Defects.{IsUnsupported}
 use Rattle.arrow_schema.specs.Defects.{IsTooDeep, HasBadName, HasDefect, of_vector_in, of_table_in, below_elements, fields_below}
@@ -88,14 +88,14 @@ elements_count depth counts v place (suc n) left fields rest end h =
         rw at (sums left f.0.1 fs.0.1 rest (fields_below (suc depth) children_slot t) (below_elements (fields_below (suc depth) children_slot) v (place + 1) n)
         (field_counts depth counts left t f.0.0 f.0.1 f.1) (others f.0.1 fs.0.0 fs.0.1 fs.1) same)
 
-no_elements : (depth left : ℕ) (v : VectorIn) (fields : List FieldSpec) (rest : ℕ) → v.count ≡ 0 → (let read : Result Fields SchemaRefusal = Ok ([], left) in read ≡ Ok (fields, rest))
+no_elements : (depth left : ℕ) (v : VectorIn) (fields : List FieldSpec) (rest : ℕ) → v.count ≡ 0 → (let read : Result FieldsRead SchemaRefusal = Ok ([], left) in read ≡ Ok (fields, rest))
     → left ≡ rest + below_vector depth v
 unfolding below_elements
 no_elements depth left v fields rest none h =
     let same : left ≡ rest = ap (λ (p : List FieldSpec × ℕ). p.1) (ok_is ([], left) (fields, rest) h) in
     rw none (omega (arith, same))
 
-own_rest : (read : Fields) (fields : List FieldSpec) (rest : ℕ) → with_own_names read ≡ Ok (fields, rest) → read.1 ≡ rest
+own_rest : (read : FieldsRead) (fields : List FieldSpec) (rest : ℕ) → with_own_names read ≡ Ok (fields, rest) → read.1 ≡ rest
 own_rest read fields rest h = elim (chosen (names_differ read.0) (Ok read) (Err BadName) (Ok (fields, rest)) h) [
   | inl c ↦ ap (λ (p : List FieldSpec × ℕ). p.1) (ok_is read (fields, rest) c.1)
   | inr c ↦ cc (c.1)

@@ -111,19 +111,19 @@ unfoldable pub encoding_of : TableIn → Result Encoding FlatFault
 encoding_of t = vector_slot 4 t metadata_slot >>= in_metadata
 
 -- Fields that were read, and how many more the schema may have.
-abbrev pub Fields : Type 0
-Fields = List FieldSpec × ℕ
+abbrev pub FieldsRead : Type 0
+FieldsRead = List FieldSpec × ℕ
 
 -- the fields in a slot of a table, whose vector is read so
-abbrev pub in_slot : (ℕ → VectorIn → Result Fields SchemaRefusal) → ℕ → Option VectorIn → Result Fields SchemaRefusal
+abbrev pub in_slot : (ℕ → VectorIn → Result FieldsRead SchemaRefusal) → ℕ → Option VectorIn → Result FieldsRead SchemaRefusal
 in_slot vector left None = Ok ([], left)
 in_slot vector left (Some v) = vector left v
 
-unfoldable pub slot_of : (ℕ → VectorIn → Result Fields SchemaRefusal) → ℕ → ℕ → TableIn → Result Fields SchemaRefusal
+unfoldable pub slot_of : (ℕ → VectorIn → Result FieldsRead SchemaRefusal) → ℕ → ℕ → TableIn → Result FieldsRead SchemaRefusal
 slot_of vector slot left t = flat (vector_slot 4 t slot) >>= in_slot vector left
 
 -- a field, the vector of whose children is read so
-unfoldable pub field_of : (ℕ → VectorIn → Result Fields SchemaRefusal) → ℕ → TableIn → Result (FieldSpec × ℕ) SchemaRefusal
+unfoldable pub field_of : (ℕ → VectorIn → Result FieldsRead SchemaRefusal) → ℕ → TableIn → Result (FieldSpec × ℕ) SchemaRefusal
 field_of vector left t =
     name_of t >>= λ name.
     type_of t >>= λ kind.
@@ -133,21 +133,21 @@ field_of vector left t =
     where_supported (fits_children kind fields.0) (field_with name kind dict named fields.0, fields.1)
 
 -- the field that an element of a vector refers to, and those after it
-abbrev pub of_element : (TableIn → Result Fields SchemaRefusal) → ℕ → Option TableIn → Result Fields SchemaRefusal
+abbrev pub of_element : (TableIn → Result FieldsRead SchemaRefusal) → ℕ → Option TableIn → Result FieldsRead SchemaRefusal
 of_element read left None = Ok ([], left)
 of_element read left (Some t) = read t
 
-unfoldable pub fields_from : (ℕ → TableIn → Result (FieldSpec × ℕ) SchemaRefusal) → VectorIn → ℕ → ℕ → ℕ → Result Fields SchemaRefusal
+unfoldable pub fields_from : (ℕ → TableIn → Result (FieldSpec × ℕ) SchemaRefusal) → VectorIn → ℕ → ℕ → ℕ → Result FieldsRead SchemaRefusal
 fields_from field v place zero left = Ok ([], left)
 fields_from field v place (suc n) left =
     flat (element_table v place) >>= of_element (λ t.
     field left t >>= λ f. fields_from field v (place + 1) n f.1 >>= λ fs. Ok (f.0 ∷ fs.0, fs.1)) left
 
-abbrev pub with_own_names : Fields → Result Fields SchemaRefusal
+abbrev pub with_own_names : FieldsRead → Result FieldsRead SchemaRefusal
 with_own_names fields = if names_differ fields.0 then Ok fields else Err BadName
 
 -- the fields of a vector, nested at most this deep; all are counted before any is read
-unfoldable pub vector_of : ℕ → ℕ → VectorIn → Result Fields SchemaRefusal
+unfoldable pub vector_of : ℕ → ℕ → VectorIn → Result FieldsRead SchemaRefusal
 vector_of zero left v =
     if v.count == 0 then Ok ([], left)
     else if nat_lt left v.count then Err TooManyFields
@@ -157,7 +157,7 @@ vector_of (suc depth) left v =
     else if nat_lt left v.count then Err TooManyFields
     else (fields_from (field_of (vector_of depth)) v 0 v.count (left - v.count) >>= with_own_names)
 
-abbrev pub with_agreeing_uses : Fields → Result (List FieldSpec) SchemaRefusal
+abbrev pub with_agreeing_uses : FieldsRead → Result (List FieldSpec) SchemaRefusal
 with_agreeing_uses fields = if uses_agree (uses_of fields.0) then Ok fields.0 else Err DictionaryTypes
 
 -- the schema of a table

@@ -17,7 +17,7 @@ use Rattle.cbor_values.specs.Heads.{IsHead}
 use Rattle.cbor_values.specs.Strings.{IsAny, Chunks, no_chunk, one_chunk, IsString, whole, chunked}
 use Rattle.cbor_values.specs.Cbor.{Cbor, Members, Pairs, is_null, is_false, is_true, is_whole, is_negative, is_half, is_single, is_double}
 use Rattle.cbor_values.specs.Cbor.{is_bytes, is_text, is_array, is_open_array, is_map, is_open_map, no_member, one_member, no_pair, one_pair}
-use Rattle.cbor_values.specs.Reading.{Reading, kind_of, head_at, open_at, joined, letters_at, octets_chunk_at, text_chunk_at, octets_at, text_at, key_at, pair_at, body_at, item_at}
+use Rattle.cbor_values.specs.Reading.{ValueReading, kind_of, head_at, open_at, joined, letters_at, octets_chunk_at, text_chunk_at, octets_at, text_at, key_at, pair_at, body_at, item_at}
 use Rattle.cbor_values.proofs.Rows.{Row, no_more, one_more, Starts, many_again, open_again}
 use Rattle.cbor_values.proofs.Front.{part_again, head_again, open_head, float_again, head_of_break, head_of_nothing}
 use Rattle.cbor_values.proofs.Steps.{ok_is}
@@ -79,7 +79,7 @@ text_chunk_again bytes part chunk rest =
     ∙ rw (head_again 3 (length part) chunk.head (heads.Text (Some (length part))) chunk.is_head (omega arith) refl (part ++ rest)) (letters_again part rest chunk.kind)
 
 -- the front is a head of that kind, after which the string is read
-pub record ReadsString (kind : Option ℕ → Head) (string_at : Option ℕ → List ℕ → Reading (List ℕ)) (bytes s rest : List ℕ) : Type 0 where
+pub record ReadsString (kind : Option ℕ → Head) (string_at : Option ℕ → List ℕ → ValueReading (List ℕ)) (bytes s rest : List ℕ) : Type 0 where
   pub size : Option ℕ
   pub inner : List ℕ
   pub front : head_at bytes ≡ Ok (kind size, inner)
@@ -133,7 +133,7 @@ unfolding item_at
 item_start zero = record { nothing = rw head_of_nothing refl; broken = λ rest. rw (head_of_break rest) refl }
 item_start (suc d) = record { nothing = rw head_of_nothing refl; broken = λ rest. rw (head_of_break rest) refl }
 
-pub pair_start : (one : List ℕ → Reading Value) → Starts (pair_at one)
+pub pair_start : (one : List ℕ → ValueReading Value) → Starts (pair_at one)
 unfolding pair_at key_at
 pair_start one = record { nothing = rw head_of_nothing refl; broken = λ rest. rw (head_of_break rest) refl }
 

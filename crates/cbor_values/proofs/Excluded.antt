@@ -21,7 +21,7 @@ use Rattle.cbor_values.specs.Items.{IsItem, AreItems, ArePairs}
 use Rattle.cbor_values.specs.Refusals as places
 use Rattle.cbor_values.specs.Refusals.{Due, may_break, begins, IsCutHead, IsCutString, IsBadHead, IsBadKey, IsBadText, IsOutOfRange, IsTooDeep, Faults, IsOtherChunk, ChunkFaults}
 use Rattle.cbor_values.specs.Refusals.{GoesOn, definite, indefinite, Within, at_front, in_bytes, in_text, in_array, in_key, in_value, Stands}
-use Rattle.cbor_values.specs.Reading.{◌>>=◌, Reading, part_at, argument_at, kind_of, head_at, break_at, many_at, until_at, open_at, joined, letters_at}
+use Rattle.cbor_values.specs.Reading.{◌>>=◌, ValueReading, part_at, argument_at, kind_of, head_at, break_at, many_at, until_at, open_at, joined, letters_at}
 use Rattle.cbor_values.specs.Reading.{octets_of_head, letters_of_head, octets_chunk_at, text_chunk_at, octets_at, text_at, key_of_head, key_at, pair_at, whole_of, body_at, item_at}
 use Rattle.cbor_values.proofs.Steps.{bind_ok, ok_is, got}
 use Rattle.cbor_values.proofs.Front.{part_again, head_again, open_head, head_of_break}
@@ -373,7 +373,7 @@ break_told (first ∷ bytes) after e = elim (cases_Bool (eqb first 255)) [
 ]
 
 -- the next one is read, where no break is due
-next_open : {X : Type 0} (one : List ℕ → Reading X) (rest after : List ℕ) → ((tail : List ℕ) → rest ≡ 255 ∷ tail → ⊥) → StillOpen one rest after
+next_open : {X : Type 0} (one : List ℕ → ValueReading X) (rest after : List ℕ) → ((tail : List ℕ) → rest ≡ 255 ∷ tail → ⊥) → StillOpen one rest after
     → (x : X × List ℕ) × (one rest ≡ Ok x)
 unfolding until_at
 next_open {X} one rest after unbroken (zero, (ys, read)) = go (break_at rest) refl
@@ -390,7 +390,7 @@ next_open {X} one rest after unbroken (suc fuel, (ys, read)) = go (break_at rest
         let a = bind_ok (one rest) (λ first. until_at one fuel first.1 >>= λ others. got (first.0 ∷ others.0) others.1) (ys, after) told in
         (a.0, a.1)
 
-next_of_many : {X : Type 0} (one : List ℕ → Reading X) (m : ℕ) (rest : List ℕ) (ys : List X) (after : List ℕ) → 0 < m → many_at one m rest ≡ got ys after
+next_of_many : {X : Type 0} (one : List ℕ → ValueReading X) (m : ℕ) (rest : List ℕ) (ys : List X) (after : List ℕ) → 0 < m → many_at one m rest ≡ got ys after
     → (x : X × List ℕ) × (one rest ≡ Ok x)
 unfolding many_at
 next_of_many one zero rest ys after some read = absurd (omega arith)

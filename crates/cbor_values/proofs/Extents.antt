@@ -15,14 +15,14 @@ use Rattle.cbor_values.specs.Heads.{IsHead}
 use Rattle.cbor_values.specs.Strings.{IsAny, Chunks, no_chunk, one_chunk, whole, chunked}
 use Rattle.cbor_values.specs.Items as items
 use Rattle.cbor_values.specs.Items.{IsItem, AreItems, ArePairs}
-use Rattle.cbor_values.specs.Reading.{◌>>=◌, Reading, part_at, kind_of, float_at, head_at, break_at, many_at, until_at, open_at, joined}
+use Rattle.cbor_values.specs.Reading.{◌>>=◌, ValueReading, part_at, kind_of, float_at, head_at, break_at, many_at, until_at, open_at, joined}
 use Rattle.cbor_values.specs.Reading.{letters_at, octets_chunk_at, text_chunk_at, octets_at, text_at, key_of_head, key_at, pair_at, whole_of, body_at, item_at}
 use Rattle.cbor_values.proofs.Steps.{bind_ok, ok_is, got}
 use Rattle.cbor_values.proofs.Rows.{Starts, unbroken}
 use Rattle.cbor_values.proofs.Front.{part_again, head_again, open_head, head_of_nothing, head_of_break}
 
 -- a reading goes just as far as the bytes do
-abbrev pub Ends : {X : Type 0} → (List ℕ → Reading X) → List ℕ → Type 0
+abbrev pub Ends : {X : Type 0} → (List ℕ → ValueReading X) → List ℕ → Type 0
 Ends {X} one bytes = (rest : List ℕ) (x : X) (after : List ℕ) → one (bytes ++ rest) ≡ got x after → after ≡ rest
 
 -- ---- parts, one after the other
@@ -31,7 +31,7 @@ pub data Parts (P : List ℕ → Type 0) : ℕ → List ℕ → Type 0 where
   no_part : Parts P zero []
   one_part : (n : ℕ) (bytes others : List ℕ) → P bytes → Parts P n others → Parts P (suc n) (bytes ++ others)
 
-pub many_pass : {X : Type 0} (P : List ℕ → Type 0) (one : List ℕ → Reading X) → ((bytes : List ℕ) → P bytes → Ends one bytes)
+pub many_pass : {X : Type 0} (P : List ℕ → Type 0) (one : List ℕ → ValueReading X) → ((bytes : List ℕ) → P bytes → Ends one bytes)
     → (n : ℕ) (bytes : List ℕ) → Parts P n bytes → (m k : ℕ) → k ≡ n + m → (rest : List ℕ) (xs : List X) (after : List ℕ)
     → many_at one k (bytes ++ rest) ≡ got xs after → (ys : List X) × (many_at one m rest ≡ got ys after)
 unfolding many_at
@@ -49,10 +49,10 @@ many_pass {X} P one ends _ _ (one_part n bytes others is more) m (suc k) sum res
     many_pass P one ends n others more m k (omega arith) rest b.0.0 after (there ∙ ap (got b.0.0) last)
 
 -- the same up to a break, which begins no part
-abbrev pub StillOpen : {X : Type 0} → (List ℕ → Reading X) → List ℕ → List ℕ → Type 0
+abbrev pub StillOpen : {X : Type 0} → (List ℕ → ValueReading X) → List ℕ → List ℕ → Type 0
 StillOpen {X} one rest after = (fuel : ℕ) × ((ys : List X) × (until_at one fuel rest ≡ got ys after))
 
-pub until_pass : {X : Type 0} (P : List ℕ → Type 0) (one : List ℕ → Reading X) → ((bytes : List ℕ) → P bytes → Ends one bytes)
+pub until_pass : {X : Type 0} (P : List ℕ → Type 0) (one : List ℕ → ValueReading X) → ((bytes : List ℕ) → P bytes → Ends one bytes)
     → ((bytes : List ℕ) → P bytes → (rest : List ℕ) → break_at (bytes ++ rest) ≡ None)
     → (n : ℕ) (bytes : List ℕ) → Parts P n bytes → (fuel : ℕ) (rest : List ℕ) (xs : List X) (after : List ℕ)
     → until_at one fuel (bytes ++ rest) ≡ got xs after → StillOpen one rest after
@@ -72,7 +72,7 @@ until_pass {X} P one ends begins _ _ (one_part n bytes others is more) (suc fuel
     until_pass P one ends begins n others more fuel rest b.0.0 after (there ∙ ap (got b.0.0) last)
 
 -- at the break the reading is done
-pub until_breaks : {X : Type 0} (one : List ℕ → Reading X) (rest after : List ℕ) → StillOpen one (255 ∷ rest) after → after ≡ rest
+pub until_breaks : {X : Type 0} (one : List ℕ → ValueReading X) (rest after : List ℕ) → StillOpen one (255 ∷ rest) after → after ≡ rest
 unfolding until_at
 until_breaks {X} one rest after (zero, (ys, read)) = sym (ap (λ (x : List X × List ℕ). x.1) (ok_is ([], rest) (ys, after) read))
 until_breaks {X} one rest after (suc fuel, (ys, read)) = sym (ap (λ (x : List X × List ℕ). x.1) (ok_is ([], rest) (ys, after) read))
@@ -311,7 +311,7 @@ key_ends bytes is rest s after read =
     let inner = rw f.front at read in
     key_of_ends f.kind f.inner rest s after f.holds inner
 
-pair_ends : (one : List ℕ → Reading Value) → ((bytes : List ℕ) → IsItem bytes → Ends one bytes) → (bytes : List ℕ) → IsPair bytes → Ends (pair_at one) bytes
+pair_ends : (one : List ℕ → ValueReading Value) → ((bytes : List ℕ) → IsItem bytes → Ends one bytes) → (bytes : List ℕ) → IsPair bytes → Ends (pair_at one) bytes
 unfolding pair_at
 pair_ends one ends bytes pair rest x after read =
     let told : pair_at one (pair.key ++ (pair.value ++ rest)) ≡ got x after = ap (pair_at one) (sym (ap (λ (b : List ℕ). b ++ rest) pair.is ∙ append_assoc pair.key pair.value rest)) ∙ read in
@@ -325,14 +325,14 @@ pair_ends one ends bytes pair rest x after read =
     make key value = record { key = key; value = value }
 
 -- as many as there are
-many_ends : {X : Type 0} (P : List ℕ → Type 0) (one : List ℕ → Reading X) → ((bytes : List ℕ) → P bytes → Ends one bytes)
+many_ends : {X : Type 0} (P : List ℕ → Type 0) (one : List ℕ → ValueReading X) → ((bytes : List ℕ) → P bytes → Ends one bytes)
     → (n : ℕ) (bytes rest : List ℕ) (xs : List X) (after : List ℕ) → Parts P n bytes → many_at one n (bytes ++ rest) ≡ got xs after → after ≡ rest
 unfolding many_at
 many_ends P one ends n bytes rest xs after parts read =
     let p = many_pass P one ends n bytes parts 0 n (omega arith) rest xs after read in
     second_is [] p.0 rest after p.1
 
-open_ends_at : {X : Type 0} (P : List ℕ → Type 0) (one : List ℕ → Reading X) → ((bytes : List ℕ) → P bytes → Ends one bytes)
+open_ends_at : {X : Type 0} (P : List ℕ → Type 0) (one : List ℕ → ValueReading X) → ((bytes : List ℕ) → P bytes → Ends one bytes)
     → ((bytes : List ℕ) → P bytes → (rest : List ℕ) → break_at (bytes ++ rest) ≡ None)
     → (n : ℕ) (bytes rest : List ℕ) (xs : List X) (after : List ℕ) → Parts P n bytes → open_at one (bytes ++ 255 ∷ rest) ≡ got xs after → after ≡ rest
 unfolding open_at

@@ -3,7 +3,7 @@ use Rattle.std.proofs.Common.{◌≡◌, ℕ, zero, suc, ◌<◌, ◌≤◌, Lis
 use Rattle.std.proofs.lemmas.Bool.{cases_eq, ne_eqb}
 use Rattle.std.proofs.lemmas.List.{length-append}
 use Rattle.cbor_values.specs.declared.refusal.CborRefusal.TheVariants.{Cut, BadHead}
-use Rattle.cbor_values.specs.Reading.{Reading, break_at, many_at, until_at, open_at}
+use Rattle.cbor_values.specs.Reading.{ValueReading, break_at, many_at, until_at, open_at}
 
 -- the bytes are the things, each in its relation to some of the bytes
 pub data Row {X : Type 0} (R : List ℕ → X → Type 0) : List ℕ → List X → Type 0 where
@@ -12,7 +12,7 @@ pub data Row {X : Type 0} (R : List ℕ → X → Type 0) : List ℕ → List X 
       → Row R (bytes ++ others) (x ∷ xs)
 
 -- what stands in a row is read again
-pub many_again : {X : Type 0} (R : List ℕ → X → Type 0) (one : List ℕ → Reading X)
+pub many_again : {X : Type 0} (R : List ℕ → X → Type 0) (one : List ℕ → ValueReading X)
     → ((bytes : List ℕ) (x : X) → R bytes x → (rest : List ℕ) → one (bytes ++ rest) ≡ Ok (x, rest))
     → (bytes : List ℕ) (xs : List X) → Row R bytes xs → (rest : List ℕ)
     → many_at one (length xs) (bytes ++ rest) ≡ Ok (xs, rest)
@@ -23,11 +23,11 @@ many_again R one again _ _ (one_more bytes others x xs r row) rest =
     ∙ rw (again bytes x r (others ++ rest), many_again R one again others xs row rest) refl
 
 -- a reader of things takes neither nothing nor a break
-pub record Starts {X : Type 0} (one : List ℕ → Reading X) : Type 0 where
+pub record Starts {X : Type 0} (one : List ℕ → ValueReading X) : Type 0 where
   pub nothing : one [] ≡ Err Cut
   pub broken : (rest : List ℕ) → one (255 ∷ rest) ≡ Err BadHead
 
-pub unbroken : {X : Type 0} (one : List ℕ → Reading X) → Starts one → (bytes : List ℕ) (x : X × List ℕ)
+pub unbroken : {X : Type 0} (one : List ℕ → ValueReading X) → Starts one → (bytes : List ℕ) (x : X × List ℕ)
     → one bytes ≡ Ok x → break_at bytes ≡ None
 unbroken one starts [] x e = refl
 unbroken {X} one starts (first ∷ rest) x e =
@@ -37,13 +37,13 @@ unbroken {X} one starts (first ∷ rest) x e =
       | inr other ↦ rw (ne_eqb first 255 other) refl
     ]
 
-pub some_bytes : {X : Type 0} (one : List ℕ → Reading X) → Starts one → (bytes : List ℕ) (x : X × List ℕ)
+pub some_bytes : {X : Type 0} (one : List ℕ → ValueReading X) → Starts one → (bytes : List ℕ) (x : X × List ℕ)
     → one bytes ≡ Ok x → 0 < length bytes
 some_bytes one starts [] x e = absurd (let clash : Err Cut ≡ Ok x = sym starts.nothing ∙ e in cc)
 some_bytes one starts (first ∷ rest) x e = omega arith
 
 -- the same up to a break
-pub until_again : {X : Type 0} (R : List ℕ → X → Type 0) (one : List ℕ → Reading X) → Starts one
+pub until_again : {X : Type 0} (R : List ℕ → X → Type 0) (one : List ℕ → ValueReading X) → Starts one
     → ((bytes : List ℕ) (x : X) → R bytes x → (rest : List ℕ) → one (bytes ++ rest) ≡ Ok (x, rest))
     → (bytes : List ℕ) (xs : List X) → Row R bytes xs → (fuel : ℕ) → length xs ≤ fuel → (rest : List ℕ)
     → until_at one fuel (bytes ++ 255 ∷ rest) ≡ Ok (xs, rest)
@@ -57,7 +57,7 @@ until_again R one starts again _ _ (one_more bytes others x xs r row) (suc fuel)
     ∙ rw (unbroken one starts (bytes ++ (others ++ 255 ∷ rest)) (x, others ++ 255 ∷ rest) here, here, until_again R one starts again others xs row fuel (omega arith) rest) refl
 
 -- each thing takes a byte at least
-row_len : {X : Type 0} (R : List ℕ → X → Type 0) (one : List ℕ → Reading X) → Starts one
+row_len : {X : Type 0} (R : List ℕ → X → Type 0) (one : List ℕ → ValueReading X) → Starts one
     → ((bytes : List ℕ) (x : X) → R bytes x → (rest : List ℕ) → one (bytes ++ rest) ≡ Ok (x, rest))
     → (bytes : List ℕ) (xs : List X) → Row R bytes xs → length xs ≤ length bytes
 row_len R one starts again _ _ no_more = omega arith
@@ -66,7 +66,7 @@ row_len R one starts again _ _ (one_more bytes others x xs r row) =
     let there = row_len R one starts again others xs row in
     omega (arith, length-append bytes others, length-append bytes [], here, there)
 
-pub open_again : {X : Type 0} (R : List ℕ → X → Type 0) (one : List ℕ → Reading X) → Starts one
+pub open_again : {X : Type 0} (R : List ℕ → X → Type 0) (one : List ℕ → ValueReading X) → Starts one
     → ((bytes : List ℕ) (x : X) → R bytes x → (rest : List ℕ) → one (bytes ++ rest) ≡ Ok (x, rest))
     → (bytes : List ℕ) (xs : List X) → Row R bytes xs → (rest : List ℕ)
     → open_at one (bytes ++ 255 ∷ rest) ≡ Ok (xs, rest)

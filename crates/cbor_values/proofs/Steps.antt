@@ -1,7 +1,7 @@
 -- Steps of a reading that may fail.
 use Rattle.std.proofs.Common.{◌≡◌, ℕ, List, Some, Result, Ok, Err, refl, ap, subst, ◌⊎◌, inl, inr}
 use Rattle.cbor_values.specs.declared.refusal.CborRefusal.{CborRefusal}
-use Rattle.cbor_values.specs.Reading.{◌>>=◌, Reading}
+use Rattle.cbor_values.specs.Reading.{◌>>=◌, ValueReading}
 
 -- the value of a step that did not fail
 pub bind_ok : {A B : Type 0} (r : Result A CborRefusal) (f : A → Result B CborRefusal) (y : B)
@@ -28,7 +28,7 @@ pub ok_is : {A : Type 0} (x y : A) → done x ≡ done y → x ≡ y
 ok_is x y e = cc
 
 -- a reading that did not fail
-abbrev pub got : {X : Type 0} → X → List ℕ → Reading X
+abbrev pub got : {X : Type 0} → X → List ℕ → ValueReading X
 got x rest = Ok (x, rest)
 
 -- what was got is what is told

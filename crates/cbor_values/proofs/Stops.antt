@@ -2,14 +2,14 @@
 use Rattle.std.proofs.Common.{◌≡◌, ℕ, zero, suc, ◌<◌, ◌≤◌, List, [], ◌∷◌, ◌++◌, length, Option, Some, None, Err, refl, sym, ap, ◌∙◌, append_assoc, arith, inl, inr}
 use Rattle.cbor_values.specs.declared.refusal.CborRefusal.{CborRefusal}
 use Rattle.cbor_values.specs.declared.refusal.CborRefusal.TheVariants.{Cut}
-use Rattle.cbor_values.specs.Reading.{◌>>=◌, Reading, break_at, many_at, until_at, open_at}
+use Rattle.cbor_values.specs.Reading.{◌>>=◌, ValueReading, break_at, many_at, until_at, open_at}
 use Rattle.cbor_values.proofs.Steps.{bind_err, err_is, failed, got}
 use Rattle.cbor_values.proofs.Bytes.{IsBytes}
 use Rattle.cbor_values.proofs.Rows.{Row, no_more, one_more}
 use Rattle.cbor_values.proofs.Loops.{Reader, shorter}
 
 -- things were read, and then the reading of one failed
-pub record Stopped {X : Type 0} (R : List ℕ → X → Type 0) (one : List ℕ → Reading X) (e : CborRefusal) (bytes : List ℕ) (xs : List X) : Type 0 where
+pub record Stopped {X : Type 0} (R : List ℕ → X → Type 0) (one : List ℕ → ValueReading X) (e : CborRefusal) (bytes : List ℕ) (xs : List X) : Type 0 where
   pub front : List ℕ
   pub rest : List ℕ
   pub row : Row R front xs
@@ -17,7 +17,7 @@ pub record Stopped {X : Type 0} (R : List ℕ → X → Type 0) (one : List ℕ 
   pub fits : IsBytes rest
   pub fails : one rest ≡ Err e
 
-stopped_more : {X : Type 0} (R : List ℕ → X → Type 0) (one : List ℕ → Reading X) (e : CborRefusal)
+stopped_more : {X : Type 0} (R : List ℕ → X → Type 0) (one : List ℕ → ValueReading X) (e : CborRefusal)
     → Reader R one → (bytes : List ℕ) (x : X) (after : List ℕ) (xs : List X) → IsBytes bytes → one bytes ≡ got x after
     → Stopped R one e after xs → Stopped R one e bytes (x ∷ xs)
 stopped_more R one e reader bytes x after xs fits read s =
@@ -31,11 +31,11 @@ stopped_more R one e reader bytes x after xs fits read s =
       fails = s.fails;
     }
 
-stopped_here : {X : Type 0} (R : List ℕ → X → Type 0) (one : List ℕ → Reading X) (e : CborRefusal) (bytes : List ℕ)
+stopped_here : {X : Type 0} (R : List ℕ → X → Type 0) (one : List ℕ → ValueReading X) (e : CborRefusal) (bytes : List ℕ)
     → IsBytes bytes → one bytes ≡ Err e → Stopped R one e bytes []
 stopped_here R one e bytes fits fails = record { front = []; rest = bytes; row = no_more; parts = refl; fits = fits; fails = fails }
 
-pub many_stops : {X : Type 0} (R : List ℕ → X → Type 0) (one : List ℕ → Reading X) (e : CborRefusal) → Reader R one
+pub many_stops : {X : Type 0} (R : List ℕ → X → Type 0) (one : List ℕ → ValueReading X) (e : CborRefusal) → Reader R one
     → (n : ℕ) (bytes : List ℕ) → IsBytes bytes → many_at one n bytes ≡ Err e
     → (xs : List X) × (length xs < n) × Stopped R one e bytes xs
 unfolding many_at
@@ -54,7 +54,7 @@ many_stops {X} R one e reader (suc n) bytes fits fails =
           ]
     ]
 
-pub until_stops : {X : Type 0} (R : List ℕ → X → Type 0) (one : List ℕ → Reading X) (e : CborRefusal) → Reader R one
+pub until_stops : {X : Type 0} (R : List ℕ → X → Type 0) (one : List ℕ → ValueReading X) (e : CborRefusal) → Reader R one
     → (fuel : ℕ) (bytes : List ℕ) → length bytes ≤ fuel → IsBytes bytes → until_at one fuel bytes ≡ Err e
     → (xs : List X) × ((s : Stopped R one e bytes xs) × (break_at s.rest ≡ None))
 unfolding until_at stopped_here stopped_more
@@ -84,7 +84,7 @@ until_stops {X} R one e reader (suc fuel) bytes enough fits fails =
               ]
         ]
 
-pub open_stops : {X : Type 0} (R : List ℕ → X → Type 0) (one : List ℕ → Reading X) (e : CborRefusal) → Reader R one
+pub open_stops : {X : Type 0} (R : List ℕ → X → Type 0) (one : List ℕ → ValueReading X) (e : CborRefusal) → Reader R one
     → (bytes : List ℕ) → IsBytes bytes → open_at one bytes ≡ Err e
     → (xs : List X) × ((s : Stopped R one e bytes xs) × (break_at s.rest ≡ None))
 unfolding open_at

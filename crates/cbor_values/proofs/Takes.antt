@@ -14,7 +14,7 @@ use Rattle.cbor_values.specs.declared.heads.Head.TheVariants as heads
 use Rattle.cbor_values.specs.Floats.{of_half, of_single}
 use Rattle.cbor_values.specs.Heads.{IsHead, short, long, argument_len}
 use Rattle.cbor_values.specs.Strings.{IsAny, Chunks, no_chunk, one_chunk, IsString, whole, chunked}
-use Rattle.cbor_values.specs.Reading.{◌>>=◌, Reading, part_at, argument_at, number_of, kind_of, float_at, head_at, break_at, many_at, until_at, open_at}
+use Rattle.cbor_values.specs.Reading.{◌>>=◌, ValueReading, part_at, argument_at, number_of, kind_of, float_at, head_at, break_at, many_at, until_at, open_at}
 use Rattle.cbor_values.specs.Reading.{joined, letters_at, octets_of_head, letters_of_head, octets_chunk_at, text_chunk_at, octets_at, text_at, key_of_head, key_at, pair_at, item_at}
 use Rattle.cbor_values.proofs.Steps.{bind_ok, ok_is, got, got_is}
 use Rattle.cbor_values.proofs.Bytes.{IsBytes, IsBytes-drop, IsBytes-take, IsBytes-tail, number_back, number_fits}
@@ -237,7 +237,7 @@ pub record TakenRow {X : Type 0} (R : List ℕ → X → Type 0) (bytes : List �
   pub parts : bytes ≡ front ++ rest
   pub fits : IsBytes rest
 
-abbrev pub Takes : {X : Type 0} → (List ℕ → X → Type 0) → (List ℕ → Reading X) → Type 0
+abbrev pub Takes : {X : Type 0} → (List ℕ → X → Type 0) → (List ℕ → ValueReading X) → Type 0
 Takes {X} R one = (bytes : List ℕ) (x : X) (rest : List ℕ) → IsBytes bytes → one bytes ≡ got x rest → Taken R bytes x rest
 
 taken_more : {X : Type 0} (R : List ℕ → X → Type 0) (bytes : List ℕ) (x : X) (middle : List ℕ) (xs : List X) (rest : List ℕ)
@@ -249,7 +249,7 @@ taken_more R bytes x middle xs rest first others = record {
   fits = others.fits;
 }
 
-pub many_takes : {X : Type 0} (R : List ℕ → X → Type 0) (one : List ℕ → Reading X) → Takes R one
+pub many_takes : {X : Type 0} (R : List ℕ → X → Type 0) (one : List ℕ → ValueReading X) → Takes R one
     → (n : ℕ) (bytes : List ℕ) (xs : List X) (rest : List ℕ) → IsBytes bytes → many_at one n bytes ≡ got xs rest
     → TakenRow R bytes xs rest × (length xs ≡ n)
 unfolding many_at
@@ -281,7 +281,7 @@ ended {X} R bytes after xs rest fits is e =
     got_is (λ ys r. TakenRow R bytes ys (255 ∷ r)) [] after xs rest e
     (record { front = []; row = no_more; parts = is; fits = subst (λ (b : List ℕ). IsBytes b) is fits })
 
-pub until_takes : {X : Type 0} (R : List ℕ → X → Type 0) (one : List ℕ → Reading X) → Takes R one
+pub until_takes : {X : Type 0} (R : List ℕ → X → Type 0) (one : List ℕ → ValueReading X) → Takes R one
     → (fuel : ℕ) (bytes : List ℕ) (xs : List X) (rest : List ℕ) → IsBytes bytes → until_at one fuel bytes ≡ got xs rest
     → TakenRow R bytes xs (255 ∷ rest)
 unfolding until_at
@@ -306,7 +306,7 @@ until_takes {X} R one takes (suc fuel) bytes xs rest fits e =
         got_is (λ ys r. TakenRow R bytes ys (255 ∷ r)) (a.0.0 ∷ b.0.0) b.0.1 xs rest b.2
         (taken_more R bytes a.0.0 a.0.1 b.0.0 (255 ∷ b.0.1) first others)
 
-pub open_takes : {X : Type 0} (R : List ℕ → X → Type 0) (one : List ℕ → Reading X) → Takes R one
+pub open_takes : {X : Type 0} (R : List ℕ → X → Type 0) (one : List ℕ → ValueReading X) → Takes R one
     → (bytes : List ℕ) (xs : List X) (rest : List ℕ) → IsBytes bytes → open_at one bytes ≡ got xs rest
     → TakenRow R bytes xs (255 ∷ rest)
 unfolding open_at

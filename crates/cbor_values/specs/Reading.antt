@@ -19,14 +19,14 @@ abbrev pub ◌>>=◌ : {A B : Type 0} → Result A CborRefusal → (A → Result
 (Err e) >>= f = Err e
 
 -- a value and the bytes after it, or the first refusal
-abbrev pub Reading : Type 0 → Type 0
-Reading A = Result (A × List ℕ) CborRefusal
+abbrev pub ValueReading : Type 0 → Type 0
+ValueReading A = Result (A × List ℕ) CborRefusal
 
-abbrev pub part_at : ℕ → List ℕ → Reading (List ℕ)
+abbrev pub part_at : ℕ → List ℕ → ValueReading (List ℕ)
 part_at n bytes = if nat_lt (length bytes) n then Err Cut else Ok (take n bytes, drop n bytes)
 
 -- the argument of a head, None for an indefinite length
-unfoldable pub argument_at : ℕ → List ℕ → Reading (Option ℕ)
+unfoldable pub argument_at : ℕ → List ℕ → ValueReading (Option ℕ)
 argument_at info bytes =
     if nat_lt info 24 then Ok (Some info, bytes)
     else if nat_lt info 28 then
@@ -48,10 +48,10 @@ kind_of major argument =
     else if major == 5 then Ok (heads.Map argument)
     else Err BadHead
 
-abbrev pub float_at : (ℕ → ℕ) → ℕ → List ℕ → Reading Head
+abbrev pub float_at : (ℕ → ℕ) → ℕ → List ℕ → ValueReading Head
 float_at widen width bytes = part_at width bytes >>= λ part. Ok (heads.Double (widen (big_number width part.0)), part.1)
 
-unfoldable pub head_at : List ℕ → Reading Head
+unfoldable pub head_at : List ℕ → ValueReading Head
 head_at [] = Err Cut
 head_at (first ∷ rest) =
     if first == 244 then Ok (heads.Bool false, rest)
@@ -68,22 +68,22 @@ abbrev pub break_at : List ℕ → Option (List ℕ)
 break_at [] = None
 break_at (first ∷ rest) = if first == 255 then Some rest else None
 
-abbrev pub unless_broken : {X : Type 0} → Option (List ℕ) → Reading (List X) → Reading (List X)
+abbrev pub unless_broken : {X : Type 0} → Option (List ℕ) → ValueReading (List X) → ValueReading (List X)
 unless_broken (Some rest) reading = Ok ([], rest)
 unless_broken None reading = reading
 
 -- exactly n of them
-unfoldable pub many_at : {X : Type 0} → (List ℕ → Reading X) → ℕ → List ℕ → Reading (List X)
+unfoldable pub many_at : {X : Type 0} → (List ℕ → ValueReading X) → ℕ → List ℕ → ValueReading (List X)
 many_at one zero bytes = Ok ([], bytes)
 many_at one (suc n) bytes = one bytes >>= λ first. many_at one n first.1 >>= λ others. Ok (first.0 ∷ others.0, others.1)
 
 -- up to a break; the number is above the number of those that can come, each having a byte
-unfoldable pub until_at : {X : Type 0} → (List ℕ → Reading X) → ℕ → List ℕ → Reading (List X)
+unfoldable pub until_at : {X : Type 0} → (List ℕ → ValueReading X) → ℕ → List ℕ → ValueReading (List X)
 until_at one zero bytes = unless_broken (break_at bytes) (Err Cut)
 until_at one (suc n) bytes = unless_broken (break_at bytes)
     (one bytes >>= λ first. until_at one n first.1 >>= λ others. Ok (first.0 ∷ others.0, others.1))
 
-unfoldable pub open_at : {X : Type 0} → (List ℕ → Reading X) → List ℕ → Reading (List X)
+unfoldable pub open_at : {X : Type 0} → (List ℕ → ValueReading X) → List ℕ → ValueReading (List X)
 open_at one bytes = until_at one (length bytes) bytes
 
 abbrev pub joined : List (List ℕ) → List ℕ
@@ -91,50 +91,50 @@ joined [] = []
 joined (part ∷ parts) = part ++ joined parts
 
 -- chunks up to a break, joined
-abbrev pub chunks_at : (List ℕ → Reading (List ℕ)) → List ℕ → Reading (List ℕ)
+abbrev pub chunks_at : (List ℕ → ValueReading (List ℕ)) → List ℕ → ValueReading (List ℕ)
 chunks_at one bytes = open_at one bytes >>= λ parts. Ok (joined parts.0, parts.1)
 
 -- a text of that length
-unfoldable pub letters_at : ℕ → List ℕ → Reading (List ℕ)
+unfoldable pub letters_at : ℕ → List ℕ → ValueReading (List ℕ)
 letters_at n bytes = part_at n bytes >>= λ part. if is_utf8 part.0 then Ok part else Err BadUtf8
 
-abbrev pub octets_of_head : Head → List ℕ → Reading (List ℕ)
+abbrev pub octets_of_head : Head → List ℕ → ValueReading (List ℕ)
 octets_of_head (heads.Bytes (Some n)) bytes = part_at n bytes
 octets_of_head _ bytes = Err BadHead
 
-abbrev pub letters_of_head : Head → List ℕ → Reading (List ℕ)
+abbrev pub letters_of_head : Head → List ℕ → ValueReading (List ℕ)
 letters_of_head (heads.Text (Some n)) bytes = letters_at n bytes
 letters_of_head _ bytes = Err BadHead
 
-unfoldable pub octets_chunk_at : List ℕ → Reading (List ℕ)
+unfoldable pub octets_chunk_at : List ℕ → ValueReading (List ℕ)
 octets_chunk_at bytes = head_at bytes >>= λ head. octets_of_head head.0 head.1
 
-unfoldable pub text_chunk_at : List ℕ → Reading (List ℕ)
+unfoldable pub text_chunk_at : List ℕ → ValueReading (List ℕ)
 text_chunk_at bytes = head_at bytes >>= λ head. letters_of_head head.0 head.1
 
-unfoldable pub octets_at : Option ℕ → List ℕ → Reading (List ℕ)
+unfoldable pub octets_at : Option ℕ → List ℕ → ValueReading (List ℕ)
 octets_at (Some n) bytes = part_at n bytes
 octets_at None bytes = chunks_at octets_chunk_at bytes
 
-unfoldable pub text_at : Option ℕ → List ℕ → Reading (List ℕ)
+unfoldable pub text_at : Option ℕ → List ℕ → ValueReading (List ℕ)
 text_at (Some n) bytes = letters_at n bytes
 text_at None bytes = chunks_at text_chunk_at bytes
 
-abbrev pub key_of_head : Head → List ℕ → Reading (List ℕ)
+abbrev pub key_of_head : Head → List ℕ → ValueReading (List ℕ)
 key_of_head (heads.Text length) bytes = text_at length bytes
 key_of_head _ bytes = Err BadKey
 
-unfoldable pub key_at : List ℕ → Reading (List ℕ)
+unfoldable pub key_at : List ℕ → ValueReading (List ℕ)
 key_at bytes = head_at bytes >>= λ head. key_of_head head.0 head.1
 
-unfoldable pub pair_at : (List ℕ → Reading Value) → List ℕ → Reading Pair
+unfoldable pub pair_at : (List ℕ → ValueReading Value) → List ℕ → ValueReading Pair
 pair_at one bytes = key_at bytes >>= λ key. one key.1 >>= λ value. Ok (record { key = key.0; value = value.0 }, value.1)
 
 abbrev pub whole_of : ℕ → Result ℕ CborRefusal
 whole_of n = if nat_lt n (2 ^ 63) then Ok n else Err OutOfRange
 
 -- the value of an item after its head, one reading an item within it
-unfoldable pub body_at : (List ℕ → Reading Value) → Head → List ℕ → Reading Value
+unfoldable pub body_at : (List ℕ → ValueReading Value) → Head → List ℕ → ValueReading Value
 body_at one heads.Null bytes = Ok (values.Empty, bytes)
 body_at one (heads.Bool flag) bytes = Ok (values.Bool flag, bytes)
 body_at one (heads.Whole n) bytes = whole_of n >>= λ n. Ok (values.Int (pos n), bytes)
@@ -148,7 +148,7 @@ body_at one (heads.Map (Some n)) bytes = many_at (pair_at one) n bytes >>= λ pa
 body_at one (heads.Map None) bytes = open_at (pair_at one) bytes >>= λ pairs. Ok (values.Map pairs.0, pairs.1)
 
 -- the value of an item, which has at most that depth
-unfoldable pub item_at : ℕ → List ℕ → Reading Value
+unfoldable pub item_at : ℕ → List ℕ → ValueReading Value
 item_at zero bytes = head_at bytes >>= λ head. Err TooDeep
 item_at (suc depth) bytes = head_at bytes >>= λ head. body_at (item_at depth) head.0 head.1
 

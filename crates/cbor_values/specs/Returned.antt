@@ -6,12 +6,12 @@ use Rattle.otlp_model.specs.Weight.{weight_of_value, weight_of_pair, total}
 use Rattle.cbor_values.specs.declared.refusal.CborRefusal.{CborRefusal}
 use Rattle.cbor_values.specs.declared.weighing.Nesting.{Nesting}
 use Rattle.cbor_values.specs.declared.weighing.Nesting.TheVariants as nesting
-use Rattle.cbor_values.specs.declared.weighing.Weighed.{Weighed}
-use Rattle.cbor_values.specs.Reading.{◌>>=◌, Reading, whole_of}
+use Rattle.cbor_values.specs.declared.weighing.WeighedValue.{WeighedValue}
+use Rattle.cbor_values.specs.Reading.{◌>>=◌, ValueReading, whole_of}
 use Rattle.cbor_values.specs.declared.refusal.CborRefusal.TheVariants.{Memory}
 
 -- what the code tells of a value, and of its parts
-abbrev pub told_of : Nesting → ℕ → Weighed
+abbrev pub told_of : Nesting → ℕ → WeighedValue
 told_of nested weight = record { nesting = nested; weight = weight }
 
 abbrev pub long : List ℕ → ℕ
@@ -27,13 +27,13 @@ abbrev pub pair_weighed : Pair → ℕ
 pair_weighed pair = min (weight_of_pair pair) (2 ^ 63)
 
 -- something is read, of which the code tells this, and these bytes are left
-pub record IsTold {X Y : Type 0} (tell : Y → X) (reading : Reading Y) (told : X) (rest : List ℕ) : Type 0 where
+pub record IsTold {X Y : Type 0} (tell : Y → X) (reading : ValueReading Y) (told : X) (rest : List ℕ) : Type 0 where
   pub value : Y
   pub is : reading ≡ Ok (value, rest)
   pub of : told ≡ tell value
 
 -- a result of the code tells of what reading gives
-abbrev pub Tells : {R X Y : Type 0} → (R → X × List ℕ) → (Y → X) → Result R CborRefusal → Reading Y → Type 0
+abbrev pub Tells : {R X Y : Type 0} → (R → X × List ℕ) → (Y → X) → Result R CborRefusal → ValueReading Y → Type 0
 Tells view tell (Ok found) reading = IsTold tell reading (view found).0 (view found).1
 Tells view tell (Err refusal) reading = reading ≡ Err refusal
 

@@ -6,7 +6,7 @@ use Rattle.otlp_model.specs.declared.value.Pair.{Pair}
 use Rattle.otlp_model.specs.Weight.{weight_of_value}
 use Rattle.cbor_values.specs.declared.weighing.Nesting.{Nesting}
 use Rattle.cbor_values.specs.declared.weighing.Nesting.TheVariants as nesting
-use Rattle.cbor_values.specs.declared.weighing.Weighed.{Weighed}
+use Rattle.cbor_values.specs.declared.weighing.WeighedValue.{WeighedValue}
 use Rattle.cbor_values.specs.Values.{value_of}
 
 -- whether a value holds others
@@ -19,11 +19,11 @@ abbrev pub nesting_of : Value → Nesting
 nesting_of value = nesting_step (out-Value value)
 
 -- what is told of a value, and what its parts weigh: at most 2^63
-abbrev pub weighed : Value → Weighed
+abbrev pub weighed : Value → WeighedValue
 weighed value = record { nesting = nesting_of value; weight = min (weight_of_value value) (2 ^ 63) }
 
 -- the value of these bytes is told of
-pub record IsWeighed (bytes : List ℕ) (told : Weighed) : Type 0 where
+pub record IsWeighed (bytes : List ℕ) (told : WeighedValue) : Type 0 where
   pub value : Value
   pub is : value_of bytes ≡ Some value
   pub of : told ≡ weighed value

@@ -13,7 +13,7 @@ mod writing;
 pub use laws::{one_value, same_number, value_or_refusal, written_form};
 pub use reading::read_value;
 pub use refusal::CborRefusal;
-pub use weighing::{Nesting, Weighed, weigh_value};
+pub use weighing::{Nesting, WeighedValue, weigh_value};
 pub use writing::{len_value, write_value};
 
 #[cfg(test)]

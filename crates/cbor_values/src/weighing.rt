@@ -24,7 +24,7 @@ pub enum Nesting {
 
 /// What is told of a value that isn't built.
 #[derive(Clone, Copy, Debug)]
-pub struct Weighed {
+pub struct WeighedValue {
     pub nesting: Nesting,
     /// The weight, or `CAP` where it is more.
     pub weight: u64,
@@ -32,7 +32,7 @@ pub struct Weighed {
 
 /// What the value of the bytes weighs, and whether it holds others. It builds nothing and takes no memory, and refuses what
 /// [`read_value`](crate::read_value) refuses.
-pub fn weigh_value(bytes: &[u8]) -> Result<Weighed, CborRefusal>
+pub fn weigh_value(bytes: &[u8]) -> Result<WeighedValue, CborRefusal>
     ensures found { IfOk result (IsWeighed bytes.now) }
     ensures fine { OnOk result ((refusal : CborRefusal) → Stands refusal bytes.now → ⊥) }
     ensures refused { IfErr result (λ refusal. Stands refusal bytes.now) }
@@ -42,7 +42,7 @@ pub fn weigh_value(bytes: &[u8]) -> Result<Weighed, CborRefusal>
 }
 
 #[tactic(auto, unfolding(crate::specs::Reading::all_at))]
-fn all(bytes: &[u8]) -> Result<Weighed, CborRefusal>
+fn all(bytes: &[u8]) -> Result<WeighedValue, CborRefusal>
     ensures { TellsAll weighed result (all_at bytes.now) }
 {
     let (told, rest) = item(MAX_DEPTH, bytes)?;
@@ -55,7 +55,7 @@ fn all(bytes: &[u8]) -> Result<Weighed, CborRefusal>
 /// What the item at the front tells, which may be `depth` deep, and the bytes after it.
 #[cycle(weigh)]
 #[tactic(auto, unfolding(crate::specs::Reading::item_at))]
-fn item(depth: u64, bytes: &[u8]) -> Result<(Weighed, &[u8]), CborRefusal>
+fn item(depth: u64, bytes: &[u8]) -> Result<(WeighedValue, &[u8]), CborRefusal>
     ensures { Tells (λ x. (x.0, x.1.now)) weighed result (item_at depth bytes.now) }
 {
     let (head, rest) = read_head(bytes)?;
@@ -68,7 +68,7 @@ fn item(depth: u64, bytes: &[u8]) -> Result<(Weighed, &[u8]), CborRefusal>
 /// What an item tells after its head. Its members may be `depth` deep.
 #[cycle(weigh)]
 #[tactic(auto, unfolding(crate::specs::Reading::body_at))]
-fn body(depth: u64, head: Head, bytes: &[u8]) -> Result<(Weighed, &[u8]), CborRefusal>
+fn body(depth: u64, head: Head, bytes: &[u8]) -> Result<(WeighedValue, &[u8]), CborRefusal>
     ensures { Tells (λ x. (x.0, x.1.now)) weighed result (body_at (item_at depth) head bytes.now) }
 {
     match head {
@@ -98,7 +98,7 @@ fn body(depth: u64, head: Head, bytes: &[u8]) -> Result<(Weighed, &[u8]), CborRe
 
 #[cycle(weigh)]
 #[tactic(auto, unfolding(crate::specs::Reading::body_at))]
-fn array(depth: u64, count: Option<u64>, bytes: &[u8]) -> Result<(Weighed, &[u8]), CborRefusal>
+fn array(depth: u64, count: Option<u64>, bytes: &[u8]) -> Result<(WeighedValue, &[u8]), CborRefusal>
     ensures { Tells (λ x. (x.0, x.1.now)) weighed result (body_at (item_at depth) (heads.Array count) bytes.now) }
 {
     match count {
@@ -115,7 +115,7 @@ fn array(depth: u64, count: Option<u64>, bytes: &[u8]) -> Result<(Weighed, &[u8]
 
 #[cycle(weigh)]
 #[tactic(auto, unfolding(crate::specs::Reading::body_at))]
-fn map(depth: u64, count: Option<u64>, bytes: &[u8]) -> Result<(Weighed, &[u8]), CborRefusal>
+fn map(depth: u64, count: Option<u64>, bytes: &[u8]) -> Result<(WeighedValue, &[u8]), CborRefusal>
     ensures { Tells (λ x. (x.0, x.1.now)) weighed result (body_at (item_at depth) (heads.Map count) bytes.now) }
 {
     match count {
@@ -130,10 +130,10 @@ fn map(depth: u64, count: Option<u64>, bytes: &[u8]) -> Result<(Weighed, &[u8]),
     }
 }
 
-fn told(nesting: Nesting, weight: u64) -> Weighed
+fn told(nesting: Nesting, weight: u64) -> WeighedValue
     ensures { result ≡ told_of nesting weight }
 {
-    Weighed { nesting, weight }
+    WeighedValue { nesting, weight }
 }
 
 /// Refuses a number that isn't below 2^63.

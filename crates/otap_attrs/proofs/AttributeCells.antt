@@ -17,7 +17,7 @@ use Rattle.otap_cells.specs.Scalars.{text_cell, number_cell, int_cell, bits_cell
 use Rattle.otap_cells.specs.Tables.{Table, null_row, with_cell}
 use Rattle.otap_cells.proofs.Rowwise.{with_cell-push}
 use Rattle.otap_attrs.specs.Values.{pair_cells, pair_row, value_bases}
-use Rattle.otap_attrs.specs.Inside.{IsWritable, attribute_cells, attribute_row, said_cell, value_place, with_some}
+use Rattle.otap_attrs.specs.Inside.{IsWritableAttribute, attribute_cells, attribute_row, said_cell, value_place, with_some}
 use Rattle.otap_attrs.proofs.AttributeRows.{has_value, id_fits, key_base, nine_columns}
 use Rattle.otap_attrs.proofs.CellFits.{bits_fit, flag_fits, int_fits, octets_fit}
 use Rattle.otap_attrs.proofs.PairsSaid.{says_array, says_bool, says_bytes, says_double, says_empty, says_int, says_map, says_str}
@@ -189,7 +189,7 @@ module _ (kind : Kind) (is : has_attributes kind ≡ true) where
       let here : 2 + k ≡ suc place = omega arith in
       subst (λ (column : ℕ). IsCellOf (base_at kind column) cell) here (subst (λ (b : Base). IsCellOf b cell) (sym (value_base kind 2 k (has_value kind is) low)) fits)
 
-  pub value_fits : (a : AttributeIn) → IsWritable a → IsCellOf (base_at kind (suc (value_place a.kind))) (said_cell a)
+  pub value_fits : (a : AttributeIn) → IsWritableAttribute a → IsCellOf (base_at kind (suc (value_place a.kind))) (said_cell a)
   value_fits a fine = elim (cases_eq a.kind 1) [
     | inl one ↦ rw one (at_place 2 1 (text_cell a.bytes) refl (omega arith) (text_fit a.bytes (fine.text one)))
     | inr no_one ↦ elim (cases_eq a.kind 2) [

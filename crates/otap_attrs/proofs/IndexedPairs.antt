@@ -7,14 +7,14 @@ use Rattle.otlp_model.specs.declared.value.Pair.{Pair}
 use Rattle.otlp_model.specs.Weight.{total, weight_of_pair}
 use Rattle.otap_cells.specs.Cells.{Cell}
 use Rattle.otap_cells.specs.Tables.{Table}
-use Rattle.otap_groups.specs.declared.entry.Entry.{Entry}
+use Rattle.otap_groups.specs.declared.entry.ChildEntry.{ChildEntry}
 use Rattle.otap_groups.specs.Found.{child_at, of_parent}
 use Rattle.otap_groups.proofs.IndexLaws.{found_below}
 use Rattle.otap_attrs.specs.Index.{IndexIn, IsIndexOf, pairs_in, row_weight}
 use Rattle.otap_attrs.specs.Values.{pair_in}
 
 -- the pair of a row
-abbrev pub pair_of : List (List Cell) → Entry → Pair
+abbrev pub pair_of : List (List Cell) → ChildEntry → Pair
 pair_of rows entry = child_at (λ id cells. pair_in cells) [] (map (drop 1) rows) entry.place
 
 -- what the pair of a row weighs
@@ -29,19 +29,19 @@ weights_more rows row weight old new within is pushed so_far =
     pushed ∙ (λ i. so_far i ++ (is ∙ weight_at rows row within) i ∷ []) ∙ sym (map_more row_weight rows row [] within)
 
 -- weights up to a number, summed up to it
-pub weigh_all : (rows : List (List Cell)) (entries : List Entry) → All (λ (e : Entry). e.place < length rows) entries
-    → min (total 32 (λ (e : Entry). get_or (map row_weight rows) e.place 0) entries) (2 ^ 63) ≡ min (total 32 weight_of_pair (map (pair_of rows) entries)) (2 ^ 63)
+pub weigh_all : (rows : List (List Cell)) (entries : List ChildEntry) → All (λ (e : ChildEntry). e.place < length rows) entries
+    → min (total 32 (λ (e : ChildEntry). get_or (map row_weight rows) e.place 0) entries) (2 ^ 63) ≡ min (total 32 weight_of_pair (map (pair_of rows) entries)) (2 ^ 63)
 weigh_all rows [] below = refl
 weigh_all rows (entry ∷ entries) below =
-    let within : entry.place < length rows = All-head (λ (e : Entry). e.place < length rows) entry entries below in
+    let within : entry.place < length rows = All-head (λ (e : ChildEntry). e.place < length rows) entry entries below in
     let here : get_or (map row_weight rows) entry.place 0 ≡ min (weight_of_pair (pair_of rows entry)) (2 ^ 63) =
     get_or-map row_weight rows entry.place [] 0 within ∙ sym (weight_at rows entry.place within) in
-    let more = weigh_all rows entries (All-tail (λ (e : Entry). e.place < length rows) entry entries below) in
+    let more = weigh_all rows entries (All-tail (λ (e : ChildEntry). e.place < length rows) entry entries below) in
     omega (arith, here, more)
 
 -- one more weight, and all of them
-module _ (weigh : Entry → ℕ) (entries : List Entry) where
-  pub weigh_more : (k : ℕ) (d : Entry) (so_far one sum : ℕ) → k < length entries → one ≡ min (32 + weigh (get_or entries k d)) (2 ^ 63)
+module _ (weigh : ChildEntry → ℕ) (entries : List ChildEntry) where
+  pub weigh_more : (k : ℕ) (d : ChildEntry) (so_far one sum : ℕ) → k < length entries → one ≡ min (32 + weigh (get_or entries k d)) (2 ^ 63)
       → sum ≡ min (so_far + one) (2 ^ 63) → min (so_far + total 32 weigh (drop k entries)) (2 ^ 63) ≡ min (total 32 weigh entries) (2 ^ 63)
       → min (sum + total 32 weigh (drop (k + 1) entries)) (2 ^ 63) ≡ min (total 32 weigh entries) (2 ^ 63)
   weigh_more k d so_far one sum within is added before =
@@ -56,35 +56,35 @@ module _ (weigh : Entry → ℕ) (entries : List Entry) where
       omega (arith, none, so_far, capped)
 
 -- all pairs
-pub pairs_done : (rows : List (List Cell)) (entries : List Entry) (pairs : List Pair) (k : ℕ) → length entries ≤ k
+pub pairs_done : (rows : List (List Cell)) (entries : List ChildEntry) (pairs : List Pair) (k : ℕ) → length entries ≤ k
     → pairs ++ map (pair_of rows) (drop k entries) ≡ map (pair_of rows) entries → pairs ≡ map (pair_of rows) entries
 pairs_done rows entries pairs k past so_far =
-    sym (append-nil pairs) ∙ sym (ap (λ (es : List Entry). pairs ++ map (pair_of rows) es) (drop_all k entries past)) ∙ so_far
+    sym (append-nil pairs) ∙ sym (ap (λ (es : List ChildEntry). pairs ++ map (pair_of rows) es) (drop_all k entries past)) ∙ so_far
 
 -- the rows of a parent are below what all rows are below
-pub place_below : (n parent : ℕ) (all entries : List Entry) (k : ℕ) (d : Entry) → entries ≡ of_parent parent all → All (λ (e : Entry). e.place < n) all
+pub place_below : (n parent : ℕ) (all entries : List ChildEntry) (k : ℕ) (d : ChildEntry) → entries ≡ of_parent parent all → All (λ (e : ChildEntry). e.place < n) all
     → k < length entries → (get_or entries k d).place < n
 place_below n parent all entries k d are below within =
-    All-get_or (λ (e : Entry). e.place < n) entries k d within
-    (subst (λ (es : List Entry). All (λ (e : Entry). e.place < n) es) (sym are) (found_below n all (Some parent) below))
+    All-get_or (λ (e : ChildEntry). e.place < n) entries k d within
+    (subst (λ (es : List ChildEntry). All (λ (e : ChildEntry). e.place < n) es) (sym are) (found_below n all (Some parent) below))
 
 module _ (t : Table) (index : IndexIn) (parent : ℕ) (is : IsIndexOf t index) where
-  pub below_rows : (entries : List Entry) → entries ≡ of_parent parent index.entries → All (λ (e : Entry). e.place < length index.weights) index.entries
-      → All (λ (e : Entry). e.place < length t.rows) entries
+  pub below_rows : (entries : List ChildEntry) → entries ≡ of_parent parent index.entries → All (λ (e : ChildEntry). e.place < length index.weights) index.entries
+      → All (λ (e : ChildEntry). e.place < length t.rows) entries
   below_rows entries are below =
       let long : length index.weights ≡ length t.rows = ap length is.weights ∙ length-map t.rows row_weight in
-      subst (λ (es : List Entry). All (λ (e : Entry). e.place < length t.rows) es) (sym are)
-      (found_below (length t.rows) index.entries (Some parent) (subst (λ n. All (λ (e : Entry). e.place < n) index.entries) long below))
+      subst (λ (es : List ChildEntry). All (λ (e : ChildEntry). e.place < length t.rows) es) (sym are)
+      (found_below (length t.rows) index.entries (Some parent) (subst (λ n. All (λ (e : ChildEntry). e.place < n) index.entries) long below))
 
   -- the weights of a parent's rows are those of its pairs
-  pub weighs_pairs : (entries : List Entry) → entries ≡ of_parent parent index.entries → All (λ (e : Entry). e.place < length index.weights) index.entries
-      → min (total 32 (λ (e : Entry). get_or index.weights e.place 0) entries) (2 ^ 63) ≡ min (total 32 weight_of_pair (pairs_in t (Some parent))) (2 ^ 63)
+  pub weighs_pairs : (entries : List ChildEntry) → entries ≡ of_parent parent index.entries → All (λ (e : ChildEntry). e.place < length index.weights) index.entries
+      → min (total 32 (λ (e : ChildEntry). get_or index.weights e.place 0) entries) (2 ^ 63) ≡ min (total 32 weight_of_pair (pairs_in t (Some parent))) (2 ^ 63)
   weighs_pairs entries are below =
-      ap (λ (weights : List ℕ). min (total 32 (λ (e : Entry). get_or weights e.place 0) entries) (2 ^ 63)) is.weights
+      ap (λ (weights : List ℕ). min (total 32 (λ (e : ChildEntry). get_or weights e.place 0) entries) (2 ^ 63)) is.weights
       ∙ weigh_all t.rows entries (below_rows entries are below)
-      ∙ ap (λ (es : List Entry). min (total 32 weight_of_pair (map (pair_of t.rows) es)) (2 ^ 63)) are
+      ∙ ap (λ (es : List ChildEntry). min (total 32 weight_of_pair (map (pair_of t.rows) es)) (2 ^ 63)) are
       ∙ ap (λ (pairs : List Pair). min (total 32 weight_of_pair pairs) (2 ^ 63)) (is.finds (Some parent))
 
   -- the pairs of a parent's rows
-  pub are_pairs : (entries : List Entry) → entries ≡ of_parent parent index.entries → map (pair_of t.rows) entries ≡ pairs_in t (Some parent)
+  pub are_pairs : (entries : List ChildEntry) → entries ≡ of_parent parent index.entries → map (pair_of t.rows) entries ≡ pairs_in t (Some parent)
   are_pairs entries are = ap (map (pair_of t.rows)) are ∙ is.finds (Some parent)

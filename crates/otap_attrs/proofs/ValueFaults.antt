@@ -4,7 +4,7 @@ use Rattle.std.specs.Prelude.{OnOk}
 use Rattle.cbor_values.specs.declared.refusal.CborRefusal.{CborRefusal}
 use Rattle.cbor_values.specs.declared.weighing.Nesting.{Nesting}
 use Rattle.cbor_values.specs.declared.weighing.Nesting.TheVariants as nesting
-use Rattle.cbor_values.specs.declared.weighing.Weighed.{Weighed}
+use Rattle.cbor_values.specs.declared.weighing.WeighedValue.{WeighedValue}
 use Rattle.cbor_values.specs.Refusals.{Stands}
 use Rattle.cbor_values.specs.Weighing.{IsWeighed, nesting_of}
 use Rattle.otap_cells.specs.Cells.{Cell}
@@ -14,12 +14,12 @@ use Rattle.otap_attrs.specs.Values.{BadValue, nested_in, type_in}
 use Rattle.otap_attrs.specs.Inside.{BadNested}
 
 -- a nested value of the wanted shape
-pub nested_is_fine : (wanted : Nesting) (part : List ℕ) (told : Weighed) → IsWeighed part told → ((refusal : CborRefusal) → Stands refusal part → ⊥)
+pub nested_is_fine : (wanted : Nesting) (part : List ℕ) (told : WeighedValue) → IsWeighed part told → ((refusal : CborRefusal) → Stands refusal part → ⊥)
     → told.nesting ≡ wanted → (why : RowRefusal) → BadNested wanted part why → ⊥
 nested_is_fine wanted part told weighed fine same row.BadValueType other =
     let one : Some other.value ≡ Some weighed.value = sym other.is ∙ weighed.is in
     let shape : nesting_of other.value ≡ wanted =
-    (let value : other.value ≡ weighed.value = cc in ap nesting_of value) ∙ sym (ap (λ (w : Weighed). w.nesting) weighed.of) ∙ same in
+    (let value : other.value ≡ weighed.value = cc in ap nesting_of value) ∙ sym (ap (λ (w : WeighedValue). w.nesting) weighed.of) ∙ same in
     other.other shape
 nested_is_fine wanted part told weighed fine same (row.BadCbor refusal) stands = fine refusal stands
 nested_is_fine wanted part told weighed fine same (row.Ids fault) bad = bad

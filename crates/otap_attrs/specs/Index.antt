@@ -6,7 +6,7 @@ use Rattle.otap_cells.specs.Cells.{Cell}
 use Rattle.otap_cells.specs.Continuing.{has_attributes}
 use Rattle.otap_cells.specs.GivenIds.{ids_in}
 use Rattle.otap_cells.specs.Tables.{Table}
-use Rattle.otap_groups.specs.declared.entry.Entry.{Entry}
+use Rattle.otap_groups.specs.declared.entry.ChildEntry.{ChildEntry}
 use Rattle.otap_groups.specs.Children.{children}
 use Rattle.otap_groups.specs.Found.{found}
 use Rattle.otap_groups.specs.Rows.{ChildRow, child_rows}
@@ -22,7 +22,7 @@ pairs_in t = children (λ id cells. pair_in cells) (attribute_rows_in t)
 
 -- what an index keeps: the rows that name a parent, and of each row what its pair weighs
 pub record IndexIn : Type 0 where
-  pub entries : List Entry
+  pub entries : List ChildEntry
   pub weights : List ℕ
 
 -- what the pair of a row weighs, or 2^63 where it is more

@@ -4,7 +4,7 @@ ghost use Rattle.std.specs.List.Sorted.{IsNonDecreasingBy};
 ghost use Rattle.otlp_model.specs.Weight.{total, weight_of_pair};
 ghost use Rattle.otap_cells.specs.Continuing.{has_attributes};
 ghost use Rattle.otap_cells.specs.Tables.{Table};
-ghost use Rattle.otap_groups.specs.declared.entry.Entry.{Entry};
+ghost use Rattle.otap_groups.specs.declared.entry.ChildEntry.{ChildEntry};
 ghost use Rattle.otap_groups.specs.Found.{of_parent};
 ghost use Rattle.otap_attrs.specs.declared.refusal.RowRefusal.{RowRefusal};
 ghost use Rattle.otap_attrs.specs.Defects.{PairDefect, RefusesRow, WrongValue};
@@ -15,7 +15,7 @@ use crate::reading::Pairs;
 use crate::refusal::RowRefusal;
 use crate::values::check_value;
 use otap_cells::{Kind, Rows, read_ids};
-use otap_groups::{Children, Entry, RowReader};
+use otap_groups::{Children, ChildEntry, RowReader};
 use otlp_model::{Items, Pair, add_capped};
 use std::alloc::{AllocError, Global};
 use std::marker::Model;
@@ -24,7 +24,7 @@ use std::marker::Model;
 #[derive(Debug, Drop)]
 pub struct PairIndex {
     // The rows by the parents that they name, and those of one parent in their order.
-    entries: Vec<Entry>,
+    entries: Vec<ChildEntry>,
     // Of each row what its pair weighs, or `CAP` where it is more.
     weights: Vec<u64>,
 }
@@ -105,8 +105,8 @@ impl PairIndex {
 }
 
 /// The part of the entries that has this parent.
-fn entries_of(entries: &[Entry], parent: u32) -> &[Entry]
-    requires { IsNonDecreasingBy (λ (e : Entry). e.parent) entries.now }
+fn entries_of(entries: &[ChildEntry], parent: u32) -> &[ChildEntry]
+    requires { IsNonDecreasingBy (λ (e : ChildEntry). e.parent) entries.now }
     ensures { result.now ≡ of_parent parent entries.now }
 {
     let first = entries.partition_point(|entry| entry.parent < parent);

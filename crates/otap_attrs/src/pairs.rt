@@ -8,7 +8,7 @@ ghost use Rattle.otap_cells.specs.Columns.{base_at, width_of};
 ghost use Rattle.otap_cells.specs.Continuing.{attribute_in, has_attributes, seen_attribute};
 ghost use Rattle.otap_cells.specs.Scalars.{text_cell};
 ghost use Rattle.otap_groups.specs.Flat.{placed_at};
-ghost use Rattle.otap_attrs.specs.Inside.{HasNested, IsWritable, attribute_row, is_null, said_cell, seen_placed, value_place, with_some};
+ghost use Rattle.otap_attrs.specs.Inside.{HasNested, IsWritableAttribute, attribute_row, is_null, said_cell, seen_placed, value_place, with_some};
 ghost use Rattle.otap_attrs.specs.Values.{nested_of, pair_cells, pair_row};
 
 use crate::values::nested_bytes;
@@ -78,7 +78,7 @@ pub(crate) fn add_pair(
 pub(crate) fn attribute_of<'a>(pair: &'a Pair, nested: &'a [u8]) -> Attribute<'a>
     requires { nested.now ≡ nested_of pair.now.value }
     ensures says { seen_attribute result ≡ attribute_in (pair_cells pair.now) }
-    ensures fits { IsWritable (seen_attribute result) }
+    ensures fits { IsWritableAttribute (seen_attribute result) }
 {
     let key = pair.key.as_slice();
     match &pair.value {
@@ -113,7 +113,7 @@ pub(crate) fn add_attribute(
     says: &Attribute<'_>,
 ) -> Result<(), AllocError>
     requires kind { has_attributes table.old.kind ≡ true }
-    requires fits { IsWritable (seen_attribute says.now) }
+    requires fits { IsWritableAttribute (seen_attribute says.now) }
     ensures ok { OnOk result (table.new ≡ record table.old { rows = table.old.rows ++ attribute_row parent (seen_attribute says.now) ∷ [] }) }
     ensures err { OnErr result (take (length table.old.rows) table.new.rows ≡ table.old.rows) }
     ensures kind { table.new.kind ≡ table.old.kind }

@@ -14,7 +14,7 @@ abbrev pub batch_of : Inside → BatchContent
 batch_of b = batch_in b.bytes.now
 
 -- no defect stands in its bytes, and it knows its id and how many payloads there are
-pub record IsBatch (b : Inside) : Type 0 where
+pub record HoldsBatch (b : Inside) : Type 0 where
   pub fine : IsFine BatchArrowRecords level_limit b.bytes.now
   pub id : b.id ≡ (batch_of b).id
   pub count : b.count ≡ length (batch_of b).payloads

@@ -10,7 +10,7 @@ abbrev pub written_of : Inside → BatchContent
 written_of w = batch_in w.bytes.items
 
 -- its bytes are the canonical spelling of a batch that a program holds
-pub record IsWritten (w : Inside) : Type 0 where
+pub record IsWrittenBatch (w : Inside) : Type 0 where
   pub real : IsRealBatch (written_of w)
   pub canonical : w.bytes.items ≡ canon_batch (written_of w)
 

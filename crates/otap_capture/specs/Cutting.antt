@@ -11,8 +11,8 @@ use Rattle.otap_capture.specs.declared.frame.Step.{Step}
 use Rattle.otap_capture.specs.declared.frame.Step.TheVariants as step
 use Rattle.otap_capture.specs.declared.front.Flag.{Flag}
 use Rattle.otap_capture.specs.declared.front.Flag.TheVariants as flags
-use Rattle.otap_capture.specs.declared.front.Front.{Front}
-use Rattle.otap_capture.specs.declared.front.Front.TheVariants as fronts
+use Rattle.otap_capture.specs.declared.front.NextFrame.{NextFrame}
+use Rattle.otap_capture.specs.declared.front.NextFrame.TheVariants as fronts
 use Rattle.otap_capture.specs.Capture.{Frame, IsFrame, EndsAt, reason_at, head_reason, longest_frame, capture_limit}
 use Rattle.otap_capture.specs.Deciding.{read_ahead}
 use Rattle.otap_capture.specs.Inside.{frame_in}
@@ -24,7 +24,7 @@ pub record BeginsFrame (place : ℕ) (bytes : List ℕ) (f : Flag) (size : ℕ) 
   pub room : 5 + size ≤ length bytes
   pub is_frame : IsFrame (take 5 bytes ++ take size (drop 5 bytes)) (frame_in f (take size (drop 5 bytes)))
 
-abbrev pub StandsAt : ℕ → List ℕ → Front → Type 0
+abbrev pub StandsAt : ℕ → List ℕ → NextFrame → Type 0
 StandsAt place bytes (fronts.Frame f size) = BeginsFrame place bytes f size
 StandsAt place bytes fronts.End = EndsAt place bytes None
 StandsAt place bytes (fronts.Nothing why) = reason_at place bytes ≡ Some why
@@ -35,7 +35,7 @@ HasFlag flags.Message flag size = flag ≡ 0
 HasFlag flags.Packed flag size = flag ≡ 1
 HasFlag flags.Reset flag size = (flag ≡ 2) × (size ≡ 0)
 
-abbrev pub StandsAfter : ℕ → ℕ → ℕ → Front → Type 0
+abbrev pub StandsAfter : ℕ → ℕ → ℕ → NextFrame → Type 0
 StandsAfter flag size left (fronts.Frame f n) = HasFlag f flag size × (n ≡ size) × (size ≤ longest_frame) × (size ≤ left)
 StandsAfter flag size left fronts.End = ⊥
 StandsAfter flag size left (fronts.Nothing why) = head_reason flag size left ≡ Some why
@@ -100,7 +100,7 @@ GivesPiece old new before after (Ok false) = TakesPiece old new before after
 GivesPiece old new before after (Err refusal) = (new ≡ old) × Keeps before after
 
 -- more bytes could change it
-abbrev pub leaves_open : Front → Bool
+abbrev pub leaves_open : NextFrame → Bool
 leaves_open (fronts.Frame f size) = false
 leaves_open fronts.End = true
 leaves_open (fronts.Nothing Truncated) = true

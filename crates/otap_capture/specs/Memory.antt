@@ -9,7 +9,7 @@ use Rattle.otap_capture.specs.declared.outside.SinkRefusal.{SinkRefusal}
 use Rattle.otap_capture.specs.declared.outside.SinkRefusal.TheVariants.{Failed, Memory}
 
 -- a sink in memory: the bytes written, and how many of them are passed on
-pub record Written : Type 0 where
+pub record SinkIn : Type 0 where
   pub bytes : List ℕ
   pub passed : ℕ
 

@@ -65,11 +65,11 @@ impl<'a> Model for Batch<'a> {
 
     ghost Value = { BatchContent };
 
-    ghost use Rattle.otap_capture.specs.BatchInside.{batch_of, IsBatch};
+    ghost use Rattle.otap_capture.specs.BatchInside.{batch_of, HoldsBatch};
 
     ghost view = { batch_of };
 
-    ghost invariant = { IsBatch };
+    ghost invariant = { HoldsBatch };
 }
 
 /// Reads a batch message (BatchArrowRecords), where it lies. It looks into the payloads and passes over

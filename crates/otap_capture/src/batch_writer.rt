@@ -24,11 +24,11 @@ impl Model for BatchWriter {
 
     ghost Value = { BatchContent };
 
-    ghost use Rattle.otap_capture.specs.BatchWriting.{written_of, IsWritten};
+    ghost use Rattle.otap_capture.specs.BatchWriting.{written_of, IsWrittenBatch};
 
     ghost view = { written_of };
 
-    ghost invariant = { IsWritten };
+    ghost invariant = { IsWrittenBatch };
 }
 
 impl BatchWriter {

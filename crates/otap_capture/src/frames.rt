@@ -7,7 +7,7 @@ ghost use Rattle.otap_capture.specs.Reading.{ahead, GoesOn, EndsAgain, StepCount
 ghost use Rattle.otap_capture.specs.Cutting.{StandsAt, Cuts, Fills, IsDecided, Grows, SameBut, GivesPiece};
 
 use crate::frame::{Damage, FRAME_HEAD, Frame, FramesRefusal, Step};
-use crate::front::{Flag, Front, front_at};
+use crate::front::{Flag, NextFrame, front_at};
 use crate::outside::Source;
 use std::alloc::Global;
 use std::marker::Model;
@@ -100,7 +100,7 @@ impl Frames {
     }
 
     /// What stands at the front of the bytes that are kept.
-    fn front(&self) -> Front
+    fn front(&self) -> NextFrame
         ensures { StandsAt self.now.handed self.now.kept result }
     {
         front_at(self.handed, &self.bytes[self.place..])
@@ -160,18 +160,18 @@ impl Frames {
         ensures rest { KeepsRest self.new (Ok result) }
     {
         match self.front() {
-            Front::Frame(flag, size) => {
+            NextFrame::Frame(flag, size) => {
                 self.begin = self.place + FRAME_HEAD;
                 self.place = self.begin + size;
                 self.handed += (FRAME_HEAD + size) as u64;
                 self.last = Some(flag);
                 Step::Frame
             }
-            Front::End => {
+            NextFrame::End => {
                 self.ended = Some(Step::End);
                 Step::End
             }
-            Front::Nothing(why) => {
+            NextFrame::Nothing(why) => {
                 let at = self.handed;
                 let end = Step::Damage(Damage { at, why });
                 self.ended = Some(end);

@@ -13,54 +13,54 @@ pub(crate) enum Flag {
 }
 
 #[derive(Clone, Copy)]
-pub(crate) enum Front {
+pub(crate) enum NextFrame {
     // A frame with that flag and that number of bytes after its head.
     Frame(Flag, usize),
     End,
     Nothing(Why),
 }
 
-impl Front {
+impl NextFrame {
     /// Whether more bytes could change it.
     pub(crate) fn is_open(&self) -> bool
         ensures { result ≡ leaves_open self.now }
     {
-        matches!(self, Front::End | Front::Nothing(Why::Truncated))
+        matches!(self, NextFrame::End | NextFrame::Nothing(Why::Truncated))
     }
 }
 
-pub(crate) fn front_at(place: u64, bytes: &[u8]) -> Front
+pub(crate) fn front_at(place: u64, bytes: &[u8]) -> NextFrame
     ensures { StandsAt place bytes.now result }
 {
     if place >= MAX_CAPTURE {
-        return Front::Nothing(Why::Endless);
+        return NextFrame::Nothing(Why::Endless);
     }
     match bytes {
-        [] => Front::End,
+        [] => NextFrame::End,
         [flag, a, b, c, d, rest @ ..] => {
             let size = BigEndian::read_u32(&[*a, *b, *c, *d]);
             front_after(*flag, size, rest.len())
         }
-        _ => Front::Nothing(Why::Truncated),
+        _ => NextFrame::Nothing(Why::Truncated),
     }
 }
 
 /// What a head is, with that number of bytes after it.
-fn front_after(byte: u8, size: u32, left: usize) -> Front
+fn front_after(byte: u8, size: u32, left: usize) -> NextFrame
     ensures { StandsAfter byte size left result }
 {
     let flag = match byte {
         0 => Flag::Message,
         1 => Flag::Packed,
         2 if size == 0 => Flag::Reset,
-        _ => return Front::Nothing(Why::BadFrame),
+        _ => return NextFrame::Nothing(Why::BadFrame),
     };
     if size > MAX_FRAME {
-        return Front::Nothing(Why::TooLong);
+        return NextFrame::Nothing(Why::TooLong);
     }
     let size = size as usize;
     if left < size {
-        return Front::Nothing(Why::Truncated);
+        return NextFrame::Nothing(Why::Truncated);
     }
-    Front::Frame(flag, size)
+    NextFrame::Frame(flag, size)
 }

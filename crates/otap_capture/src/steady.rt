@@ -63,9 +63,9 @@ pub struct SteadySink {
 
 impl Model for SteadySink {
     ghost use Rattle.std.specs.Prelude.{◌≤◌, length};
-    ghost use Rattle.otap_capture.specs.Memory.{Written};
+    ghost use Rattle.otap_capture.specs.Memory.{SinkIn};
 
-    ghost Value = { Written };
+    ghost Value = { SinkIn };
 
     ghost view = { λ s. record { bytes = s.bytes.items; passed = s.passed } };
 

@@ -15,7 +15,7 @@ use Rattle.otap_attrs.specs.declared.refusal.CheckRefusal.{CheckRefusal}
 use Rattle.otap_attrs.specs.declared.refusal.CheckRefusal.TheVariants as check
 use Rattle.otap_checks.specs.declared.known.ColumnIds.{ColumnIds}
 use Rattle.otap_checks.specs.declared.links.TableLink.{TableLink}
-use Rattle.otap_checks.specs.Inside.{ColumnFault, ColumnWrong, ColumnsWrong, HasColumns, Keeps, KnownFault}
+use Rattle.otap_checks.specs.Inside.{ColumnFault, ColumnWrong, ColumnsWrong, HasColumns, KeepsIds, KnownFault}
 use Rattle.otap_checks.specs.Refusing.{refused_as, RefusesCheck}
 use Rattle.otap_checks.specs.Known.{is_column}
 use Rattle.otap_attrs.specs.Defects.{RefusesRow}
@@ -34,7 +34,7 @@ passed_over kind place known other below k less id =
 its_column : (kind : Kind) (place : ℕ) (ids : ColumnIds) → ids.kind ≡ kind → ids.column ≡ place → is_column kind place ids ≡ true
 its_column kind place ids of at = rw (of, at, eq-eqb (number_of kind) (number_of kind) refl, eq-eqb place place refl) refl
 
-pub keeps_more : (old known new : List ColumnIds) (ids : ColumnIds) → new ≡ known ++ ids ∷ [] → Keeps old known → Keeps old new
+pub keeps_more : (old known new : List ColumnIds) (ids : ColumnIds) → new ≡ known ++ ids ∷ [] → KeepsIds old known → KeepsIds old new
 keeps_more old known new ids is keeps one there = subst (λ xs. Contains xs one) (sym is) (Contains-append_left known (ids ∷ []) one (keeps one there))
 
 pub one_column_more : (kind : Kind) (place : ℕ) (known new : List ColumnIds) (ids : ColumnIds) → new ≡ known ++ ids ∷ [] → ids.kind ≡ kind → ids.column ≡ place
@@ -50,7 +50,7 @@ one_column_more kind place known new ids is of at below k less id =
           (there.0, subst (λ xs. Contains xs there.0) (sym is) (Contains-append_left known (ids ∷ []) there.0 there.1), there.2)
     ]
 
-pub one_table_more : (links : List TableLink) (place : ℕ) (e : TableLink) (known new : List ColumnIds) → place < length links → Keeps known new
+pub one_table_more : (links : List TableLink) (place : ℕ) (e : TableLink) (known new : List ColumnIds) → place < length links → KeepsIds known new
     → ((k : ℕ) (d : TableLink) → k < place → HasColumns (get_or links k d).kind known) → HasColumns (get_or links place e).kind new
     → (k : ℕ) (d : TableLink) → k < place + 1 → HasColumns (get_or links k d).kind new
 one_table_more links place e known new within keeps below here k d less =

@@ -62,8 +62,8 @@ abbrev pub HasColumns : Kind → List ColumnIds → Type 0
 HasColumns kind known = (column : ℕ) → is_id_at kind column ≡ true → (ids : ColumnIds) × Contains known ids × (is_column kind column ids ≡ true)
 
 -- what was there is there
-abbrev pub Keeps : List ColumnIds → List ColumnIds → Type 0
-Keeps old new = (ids : ColumnIds) → Contains old ids → Contains new ids
+abbrev pub KeepsIds : List ColumnIds → List ColumnIds → Type 0
+KeepsIds old new = (ids : ColumnIds) → Contains old ids → Contains new ids
 
 -- two rows have one id; a parent isn't there
 abbrev pub OwnTwice : List ColumnIds → TableLink → Option ℕ → Type 0

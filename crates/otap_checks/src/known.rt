@@ -4,7 +4,7 @@ ghost use Rattle.otap_cells.specs.Columns.{is_id_at};
 ghost use Rattle.otap_cells.specs.Named.{table_named};
 ghost use Rattle.otap_cells.specs.Sets.{IsSet, tables_in};
 ghost use Rattle.otap_checks.specs.declared.links.TableLink.{TableLink};
-ghost use Rattle.otap_checks.specs.Inside.{ColumnsWrong, ColumnWrong, HasColumns, IsRight, Keeps};
+ghost use Rattle.otap_checks.specs.Inside.{ColumnsWrong, ColumnWrong, HasColumns, IsRight, KeepsIds};
 ghost use Rattle.otap_checks.specs.Known.{IsKnown, ids_named};
 ghost use Rattle.otap_checks.specs.Refusing.{RefusesCheck};
 
@@ -76,7 +76,7 @@ fn read_table<R: Rows>(
 ) -> Result<(), CheckRefusal>
     requires { IsSet R.table set.now.tables.items }
     ensures right { OnOk result (All (IsRight (tables_in R.table set.now.tables.items)) known.old.items → All (IsRight (tables_in R.table set.now.tables.items)) known.new.items) }
-    ensures kept { OnOk result (Keeps known.old.items known.new.items) }
+    ensures kept { OnOk result (KeepsIds known.old.items known.new.items) }
     ensures all { OnOk result (HasColumns kind known.new.items) }
     ensures err { IfErr result (RefusesCheck (ColumnWrong (tables_in R.table set.now.tables.items) kind)) }
 {

@@ -16,7 +16,7 @@ use Rattle.otap_dicts.specs.Limits.{value_limit, byte_limit}
 use Rattle.otap_columns.specs.Dictionaries.{DictionaryIn, is_for, with_dictionary, with_dictionaries, empty_dictionaries, value_weight, weight_of, held_weight}
 use Rattle.otap_columns.specs.Groups.{Member, Group, split, joined_to, group_before, grouped_from, grouped}
 use Rattle.otap_columns.specs.Groups as group
-use Rattle.otap_columns.specs.Schemas.{Forms, FormsFit, Slot, Struct, Column, Items, IsSlot, is_there, item_in, members_there, items_after, slots_of_member, slots_under, slots_in, slots_for, slot_field, schema_for}
+use Rattle.otap_columns.specs.Schemas.{Forms, FormsFit, ArraySlot, Struct, Column, Items, IsArraySlot, is_there, item_in, members_there, items_after, slots_of_member, slots_under, slots_in, slots_for, slot_field, schema_for}
 use Rattle.otap_columns.proofs.HeadsTaken.{all_some}
 use Rattle.otap_columns.proofs.Located.{count_is, slot_at}
 use Rattle.otap_columns.proofs.LookedUp.{Each}
@@ -75,7 +75,7 @@ count_less {A} {B} p q (x ∷ xs) (y ∷ ys) long each =
 abbrev has_dictionary : ArraySpec → Bool
 has_dictionary a = is_some a.dict
 
-abbrev is_column : Slot → Bool
+abbrev is_column : ArraySlot → Bool
 is_column (Struct name) = false
 is_column (Column m) = true
 is_column (Items column) = false
@@ -155,7 +155,7 @@ module _ (kind : Kind) (forms : Forms) where
   unfolding slots_for grouped
   columns_less = omega (arith, groups_less (grouped_from 0 (columns_of kind)), grouped_size 0 (columns_of kind))
 
-  by_slot : (a : ArraySpec) (slot : Slot) → field_of a ≡ slot_field kind forms slot → has_dictionary a ≡ true → is_column slot ≡ true
+  by_slot : (a : ArraySpec) (slot : ArraySlot) → field_of a ≡ slot_field kind forms slot → has_dictionary a ≡ true → is_column slot ≡ true
   by_slot a (Struct name) field is = absurd (false≢true (sym (ap (λ (f : FieldIn). is_some f.dict) field) ∙ is))
   by_slot a (Items column) field is = absurd (false≢true (sym (ap (λ (f : FieldIn). is_some f.dict) field) ∙ is))
   by_slot a (Column m) field is = refl
@@ -169,5 +169,5 @@ module _ (kind : Kind) (forms : Forms) where
         all_added [] (arrays_of (schema_for kind forms)),
         columns_less,
         count_less has_dictionary is_column (arrays_of (schema_for kind forms)) (slots_for kind forms) (count_is kind forms fit)
-            (λ place a at. let s : IsSlot kind forms place a = slot_at kind forms fit place a at in (s.slot, s.at, by_slot a s.slot s.field)),
+            (λ place a at. let s : IsArraySlot kind forms place a = slot_at kind forms fit place a at in (s.slot, s.at, by_slot a s.slot s.field)),
       )

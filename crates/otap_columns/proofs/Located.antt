@@ -29,8 +29,8 @@ use Rattle.otap_columns.specs.declared.forms.ColumnForm.TheVariants as form
 use Rattle.otap_columns.specs.Known.{is_column, known_column, known_columns, place_in, place_at, elements_at, stores, fits_encoding, fits_as, fits_column, fits_at, columns_fit}
 use Rattle.otap_columns.specs.Groups.{Member, Group, grouped}
 use Rattle.otap_columns.specs.Groups as group
-use Rattle.otap_columns.specs.Schemas.{Forms, is_there, FormsFit, id_type, type_in, item_in, dict_for, members_there, schema_for, Slot, Struct, Column, Items, items_after, slots_of_member}
-use Rattle.otap_columns.specs.Schemas.{slots_under, slots_in, slots_for, item_type, slot_field, slot_column, IsSlot, IsFound}
+use Rattle.otap_columns.specs.Schemas.{Forms, is_there, FormsFit, id_type, type_in, item_in, dict_for, members_there, schema_for, ArraySlot, Struct, Column, Items, items_after, slots_of_member}
+use Rattle.otap_columns.specs.Schemas.{slots_under, slots_in, slots_for, item_type, slot_field, slot_column, IsArraySlot, IsFound}
 use Rattle.otap_columns.proofs.Finding.{PassesAt, passes_at}
 use Rattle.otap_columns.proofs.Grouping.{members_of, is_of, has_column, kinds_grouped}
 use Rattle.otap_columns.proofs.Keeping.{schema_readable}
@@ -127,7 +127,7 @@ module _ (kind : Kind) (forms : Forms) where
   and_none true = refl
   and_none false = refl
 
-  any_one : (column : ℕ) (m : Member) (item : Option ArrowType) (rest : List Slot)
+  any_one : (column : ℕ) (m : Member) (item : Option ArrowType) (rest : List ArraySlot)
       → list_any (is_column column) (map slot_column (Column m ∷ items_after item m.column ++ rest)) ≡ (is_of column m || list_any (is_column column) (map slot_column rest))
   any_one column m None rest = refl
   any_one column m (Some type) rest = refl
@@ -176,14 +176,14 @@ module _ (kind : Kind) (forms : Forms) where
 
   -- ---- elements come after their lists
 
-  first_items : (s : Slot) (m : Member) (item : ArrowType) (slots : List Slot) → s ≡ Column m → item_in (column_at kind m.column).base ≡ Some item → HasItems kind forms s slots → slice_get slots 0 ≡ Some (Items m.column)
+  first_items : (s : ArraySlot) (m : Member) (item : ArrowType) (slots : List ArraySlot) → s ≡ Column m → item_in (column_at kind m.column).base ≡ Some item → HasItems kind forms s slots → slice_get slots 0 ≡ Some (Items m.column)
   unfolding HasItems FollowsItem
   first_items s m item slots is has h =
-      let own : FollowsItem kind forms (item_in (column_at kind m.column).base) m.column slots = subst (λ (t : Slot). HasItems kind forms t slots) is h in
+      let own : FollowsItem kind forms (item_in (column_at kind m.column).base) m.column slots = subst (λ (t : ArraySlot). HasItems kind forms t slots) is h in
       let more : FollowsItem kind forms (Some item) m.column slots = subst (λ (o : Option ArrowType). FollowsItem kind forms o m.column slots) has own in
-      ap (λ (ss : List Slot). slice_get ss 0) more.1
+      ap (λ (ss : List ArraySlot). slice_get ss 0) more.1
 
-  follow_at : (slots : List Slot) → Follow kind forms slots → (place next : ℕ) (m : Member) (item : ArrowType) → next ≡ place + 1 → slice_get slots place ≡ Some (Column m)
+  follow_at : (slots : List ArraySlot) → Follow kind forms slots → (place next : ℕ) (m : Member) (item : ArrowType) → next ≡ place + 1 → slice_get slots place ≡ Some (Column m)
       → item_in (column_at kind m.column).base ≡ Some item → slice_get slots next ≡ Some (Items m.column)
   unfolding Follow
   follow_at [] h place next m item is at has = absurd (cc (at))
@@ -198,7 +198,7 @@ module _ (kind : Kind) (forms : Forms) where
     abbrev arrays : List ArraySpec
     arrays = arrays_of (schema_for kind forms)
 
-    abbrev slots : List Slot
+    abbrev slots : List ArraySlot
     slots = slots_for kind forms
 
     fields_are : map field_of arrays ≡ map (slot_field kind forms) slots
@@ -219,7 +219,7 @@ module _ (kind : Kind) (forms : Forms) where
         map-comp (λ (f : Option ℕ × Bool). f.0) (λ (place : ℕ). fact_of kind forms (path_of arrays place)) (range_with_len 0 (length arrays))
         ∙ ap (map (λ (f : Option ℕ × Bool). f.0)) facts_are ∙ sym (map-comp (λ (f : Option ℕ × Bool). f.0) (slot_fact kind forms) slots)
 
-    fact_at : (place : ℕ) (s : Slot) → slice_get slots place ≡ Some s → fact_of kind forms (path_of arrays place) ≡ slot_fact kind forms s
+    fact_at : (place : ℕ) (s : ArraySlot) → slice_get slots place ≡ Some s → fact_of kind forms (path_of arrays place) ≡ slot_fact kind forms s
     fact_at place s at =
         let none : Option ℕ × Bool = (None, false) in
         let below : place < length arrays = omega (arith, slice_get_within slots place s at, count_is) in
@@ -231,7 +231,7 @@ module _ (kind : Kind) (forms : Forms) where
     field_there : (place : ℕ) → option_map field_of (slice_get arrays place) ≡ option_map (slot_field kind forms) (slice_get slots place)
     field_there place = sym (slice_get-map field_of arrays place) ∙ ap (λ (fs : List FieldIn). slice_get fs place) fields_are ∙ slice_get-map (slot_field kind forms) slots place
 
-    slot_is : (place : ℕ) (a : ArraySpec) (s : Slot) → slice_get arrays place ≡ Some a → slice_get slots place ≡ Some s → IsSlot kind forms place a
+    slot_is : (place : ℕ) (a : ArraySpec) (s : ArraySlot) → slice_get arrays place ≡ Some a → slice_get slots place ≡ Some s → IsArraySlot kind forms place a
     unfolding fact_of slot_fact
     slot_is place a s here there =
         let both : Some (field_of a) ≡ Some (slot_field kind forms s) = ap (option_map field_of) (sym here) ∙ field_there place ∙ ap (option_map (slot_field kind forms)) there in
@@ -247,10 +247,10 @@ module _ (kind : Kind) (forms : Forms) where
         some_is : (x y : FieldIn) → Some x ≡ Some y → x ≡ y
         some_is x y is = cc (is)
 
-    pub slot_at : (place : ℕ) (a : ArraySpec) → slice_get arrays place ≡ Some a → IsSlot kind forms place a
+    pub slot_at : (place : ℕ) (a : ArraySpec) → slice_get arrays place ≡ Some a → IsArraySlot kind forms place a
     slot_at place a here = by_slot (slice_get slots place) refl
       where
-        by_slot : (o : Option Slot) → slice_get slots place ≡ o → IsSlot kind forms place a
+        by_slot : (o : Option ArraySlot) → slice_get slots place ≡ o → IsArraySlot kind forms place a
         by_slot None there =
             absurd (missing (field_of a) (ap (option_map field_of) (sym here) ∙ field_there place ∙ ap (option_map (slot_field kind forms)) there))
           where
@@ -258,7 +258,7 @@ module _ (kind : Kind) (forms : Forms) where
             missing x is = cc (is)
         by_slot (Some s) there = slot_is place a s here there
 
-    pub array_at : (place : ℕ) (s : Slot) → slice_get slots place ≡ Some s → (a : ArraySpec) × (slice_get arrays place ≡ Some a)
+    pub array_at : (place : ℕ) (s : ArraySlot) → slice_get slots place ≡ Some s → (a : ArraySpec) × (slice_get arrays place ≡ Some a)
     array_at place s there = by_array (slice_get arrays place) refl
       where
         by_array : (o : Option ArraySpec) → slice_get arrays place ≡ o → (a : ArraySpec) × (slice_get arrays place ≡ Some a)
@@ -283,7 +283,7 @@ module _ (kind : Kind) (forms : Forms) where
 
     -- ---- each known column has its type
 
-    fits_slot : (place : ℕ) (a : ArraySpec) (s : Slot) → slice_get slots place ≡ Some s → field_of a ≡ slot_field kind forms s
+    fits_slot : (place : ℕ) (a : ArraySpec) (s : ArraySlot) → slice_get slots place ≡ Some s → field_of a ≡ slot_field kind forms s
         → fits_as kind a.kind a.encoding (elements_at arrays place) (slot_column s) ≡ true
     fits_slot place a (Struct name) there field = refl
     fits_slot place a (Items column) there field = refl
@@ -335,7 +335,7 @@ module _ (kind : Kind) (forms : Forms) where
         (below, column_is column (known_column kind arrays place) (ap (is_column column) (sym here) ∙ f.passes place None (omega arith)))
 
     -- the field of a column
-    column_field : (column : ℕ) (s : Slot) (a : ArraySpec) → slot_column s ≡ Some column → field_of a ≡ slot_field kind forms s
+    column_field : (column : ℕ) (s : ArraySlot) (a : ArraySpec) → slot_column s ≡ Some column → field_of a ≡ slot_field kind forms s
         → (a.kind ≡ type_in (column_at kind column).base (forms column)) × (a.dict ≡ dict_for column (forms column))
     column_field column (Struct name) a is field = absurd (cc (is))
     column_field column (Items of) a is field = absurd (cc (is))

@@ -18,7 +18,7 @@ use Rattle.otap_cells.specs.Tables.{Table}
 use Rattle.otap_columns.specs.declared.forms.ColumnForm.{ColumnForm}
 use Rattle.otap_columns.specs.WrittenPayloads.{HoldsRows, HoldsValues, batch_if, has_some, heads, schema_if}
 use Rattle.otap_columns.specs.Schemas.{Forms, is_dictionary, schema_for, type_in}
-use Rattle.otap_columns.specs.WrittenRecords.{Values, CanSend, AddsMessages, AddsHead, AddsHeads, IsRecordBy, from_in, is_sent, heads_by}
+use Rattle.otap_columns.specs.WrittenRecords.{Values, CanSendColumn, AddsMessages, AddsHead, AddsHeads, IsRecordBy, from_in, is_sent, heads_by}
 
 -- ---- messages
 
@@ -135,10 +135,10 @@ head_as holds opening column f g x y v w old new form_is from_is values_is adds 
     subst (λ (h : ColumnForm). AddsHead (type_in holds h) (is_sent opening h (drop y w)) (not opening) column (drop y w) old new) form_is
     (subst (λ (vs : List (List ℕ)). AddsHead (type_in holds f) (is_sent opening f vs) (not opening) column vs old new) (λ i. drop (from_is i) (values_is i)) adds)
 
-pub send_as : (holds : Base) (f g : ColumnForm) (x y : ℕ) (v w : List (List ℕ)) → f ≡ g → x ≡ y → v ≡ w → (is_dictionary f ≡ true → CanSend holds f x v) → is_dictionary g ≡ true → CanSend holds g y w
+pub send_as : (holds : Base) (f g : ColumnForm) (x y : ℕ) (v w : List (List ℕ)) → f ≡ g → x ≡ y → v ≡ w → (is_dictionary f ≡ true → CanSendColumn holds f x v) → is_dictionary g ≡ true → CanSendColumn holds g y w
 send_as holds f g x y v w form_is from_is values_is can is =
-    subst (λ (h : ColumnForm). CanSend holds h y w) form_is
-    (subst (λ (n : ℕ). CanSend holds f n w) from_is (subst (λ (vs : List (List ℕ)). CanSend holds f x vs) values_is (can (ap is_dictionary form_is ∙ is))))
+    subst (λ (h : ColumnForm). CanSendColumn holds h y w) form_is
+    (subst (λ (n : ℕ). CanSendColumn holds f n w) from_is (subst (λ (vs : List (List ℕ)). CanSendColumn holds f x vs) values_is (can (ap is_dictionary form_is ∙ is))))
 
 pub opening_adds : {E : Type 0} (opening : Bool) (schema fields : List FieldSpec) (old new : List ℕ) (r : Result (Unit {0}) E) → opening ≡ true → IsReadable fields → schema ≡ fields
     → OnOk r (AppendsSchema schema old new) → OnOk r (AddsMessages (schema_if opening fields) old new)

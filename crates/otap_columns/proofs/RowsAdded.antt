@@ -29,7 +29,7 @@ use Rattle.otap_cells.specs.declared.payload.Kind.{Kind}
 use Rattle.otap_columns.specs.declared.writer_groups.Group.{Group}
 use Rattle.otap_columns.specs.declared.writer_groups.Member.{Member}
 use Rattle.otap_columns.specs.Groups as groups
-use Rattle.otap_columns.specs.Schemas.{Forms, FormsFit, Slot, Struct, slots_for, is_there, members_there, slots_of_member, slots_under, slots_in}
+use Rattle.otap_columns.specs.Schemas.{Forms, FormsFit, ArraySlot, Struct, slots_for, is_there, members_there, slots_of_member, slots_under, slots_in}
 use Rattle.otap_columns.specs.WrittenGroups.{member_in, group_in}
 use Rattle.otap_columns.specs.WrittenCells.{place_in, stored_for, stored_column}
 use Rattle.otap_columns.specs.BuiltCells.{width_for, parts_of, with_part, with_parts}
@@ -50,7 +50,7 @@ with_parts-append old (p ∷ ps) qs = with_parts-append (with_part old p) ps qs
 pub adds_none : (forms : Forms) (values : ℕ → List (List ℕ)) (t : Table) (old : BatchIn) → AddsSlots forms values t [] old old
 adds_none forms values t old = record { parts = []; whole = refl; are = tt }
 
-pub adds_more : (forms : Forms) (values : ℕ → List (List ℕ)) (t : Table) (xs ys : List Slot) (old mid new : BatchIn) → AddsSlots forms values t xs old mid → AddsSlots forms values t ys mid new
+pub adds_more : (forms : Forms) (values : ℕ → List (List ℕ)) (t : Table) (xs ys : List ArraySlot) (old mid new : BatchIn) → AddsSlots forms values t xs old mid → AddsSlots forms values t ys mid new
     → AddsSlots forms values t (xs ++ ys) old new
 adds_more forms values t xs ys old mid new a b = record {
   parts = a.parts ++ b.parts;
@@ -117,10 +117,10 @@ column_light f vs t column = cells_light (stored_for (base_at t.kind column) f v
 
 -- ---- members and groups
 
-abbrev pub member_slots : Kind → Forms → List Member → List Slot
+abbrev pub member_slots : Kind → Forms → List Member → List ArraySlot
 member_slots kind forms ms = flat_map (slots_of_member kind) (members_there forms (map member_in ms))
 
-abbrev pub group_slots : Kind → Forms → List Group → List Slot
+abbrev pub group_slots : Kind → Forms → List Group → List ArraySlot
 group_slots kind forms gs = flat_map (slots_in kind forms) (map group_in gs)
 
 member_slots-append : (kind : Kind) (forms : Forms) (xs ys : List Member) → member_slots kind forms (xs ++ ys) ≡ member_slots kind forms xs ++ member_slots kind forms ys
@@ -139,7 +139,7 @@ members_step forms values t ms k d old mid new low a b =
     let m : Member = get_or ms k d in
     let all : member_slots t.kind forms (take k ms) ++ member_slots t.kind forms (m ∷ []) ≡ member_slots t.kind forms (take (k + 1) ms) =
     sym (ap (member_slots t.kind forms) (take_more ms k d low) ∙ member_slots-append t.kind forms (take k ms) (m ∷ [])) in
-    subst (λ (slots : List Slot). AddsSlots forms values t slots old new) all (adds_more forms values t (member_slots t.kind forms (take k ms)) (member_slots t.kind forms (m ∷ [])) old mid new a b)
+    subst (λ (slots : List ArraySlot). AddsSlots forms values t slots old new) all (adds_more forms values t (member_slots t.kind forms (take k ms)) (member_slots t.kind forms (m ∷ [])) old mid new a b)
 
 pub groups_step : (forms : Forms) (values : ℕ → List (List ℕ)) (t : Table) (gs : List Group) (k : ℕ) (d : Group) (old mid new : BatchIn) → k < length gs
     → AddsSlots forms values t (group_slots t.kind forms (take k gs)) old mid → AddsSlots forms values t (slots_in t.kind forms (group_in (get_or gs k d))) mid new
@@ -149,7 +149,7 @@ groups_step forms values t gs k d old mid new low a b =
     let all : group_slots t.kind forms (take k gs) ++ slots_in t.kind forms (group_in g) ≡ group_slots t.kind forms (take (k + 1) gs) =
     ap (λ slots. group_slots t.kind forms (take k gs) ++ slots) (sym (append-nil (slots_in t.kind forms (group_in g))))
     ∙ sym (ap (group_slots t.kind forms) (take_more gs k d low) ∙ group_slots-append t.kind forms (take k gs) (g ∷ [])) in
-    subst (λ (slots : List Slot). AddsSlots forms values t slots old new) all
+    subst (λ (slots : List ArraySlot). AddsSlots forms values t slots old new) all
     (adds_more forms values t (group_slots t.kind forms (take k gs)) (slots_in t.kind forms (group_in g)) old mid new a b)
 
 -- a struct is there where one of its columns is
@@ -174,14 +174,14 @@ some_there kind forms struct (m ∷ ms) some = by (is_there (forms m.column)) re
 pub under_none : (forms : Forms) (values : ℕ → List (List ℕ)) (t : Table) (struct : List ℕ) (ms : List Member) (old : BatchIn) → list_any (λ m. is_there (forms m.column)) ms ≡ false
     → AddsSlots forms values t (slots_under t.kind struct (members_there forms (map member_in ms))) old old
 under_none forms values t struct ms old none =
-    subst (λ (slots : List Slot). AddsSlots forms values t slots old old) (sym (ap (slots_under t.kind struct) (none_there forms ms none))) (adds_none forms values t old)
+    subst (λ (slots : List ArraySlot). AddsSlots forms values t slots old old) (sym (ap (slots_under t.kind struct) (none_there forms ms none))) (adds_none forms values t old)
 
 pub under_some : (forms : Forms) (values : ℕ → List (List ℕ)) (t : Table) (struct : List ℕ) (ms : List Member) (old mid new : BatchIn) → list_any (λ m. is_there (forms m.column)) ms ≡ true
     → mid ≡ with_part old (struct_part (length t.rows)) → AddsSlots forms values t (member_slots t.kind forms ms) mid new
     → AddsSlots forms values t (slots_under t.kind struct (members_there forms (map member_in ms))) old new
 under_some forms values t struct ms old mid new some first rest =
     let one : AddsSlots forms values t (Struct struct ∷ []) old mid = record { parts = struct_part (length t.rows) ∷ []; whole = first; are = (refl, tt) } in
-    subst (λ (slots : List Slot). AddsSlots forms values t slots old new) (sym (some_there t.kind forms struct ms some))
+    subst (λ (slots : List ArraySlot). AddsSlots forms values t slots old new) (sym (some_there t.kind forms struct ms some))
     (adds_more forms values t (Struct struct ∷ []) (member_slots t.kind forms ms) old mid new one rest)
 
 -- ---- the whole batch
@@ -227,7 +227,7 @@ member_ok forms values t table m b old new w (Ok x) here is same added =
       whole = added ∙ ap (λ (v : Width). with_parts old (parts_of v b)) same;
       are = column_parts forms values t table m b is;
     } in
-    rw here (subst (λ (slots : List Slot). AddsSlots forms values t slots old new) (sym (append-nil (slots_of_member t.kind m))) one)
+    rw here (subst (λ (slots : List ArraySlot). AddsSlots forms values t slots old new) (sym (append-nil (slots_of_member t.kind m))) one)
 member_ok forms values t table m b old new w (Err e) here is same added = tt
 
 -- and ends with those of all slots

@@ -35,7 +35,7 @@ use Rattle.otap_columns.specs.declared.forms.ColumnForm.{ColumnForm}
 use Rattle.otap_columns.specs.declared.forms.ColumnForm.TheVariants as form
 use Rattle.otap_columns.specs.Known.{known_column}
 use Rattle.otap_columns.specs.Observed.{bytes_for}
-use Rattle.otap_columns.specs.Schemas.{Forms, FormsFit, Slot, Struct, Column, Items, IsSlot, is_dictionary, is_items, slot_field, slot_column, slots_for, schema_for, type_in, item_in, item_type}
+use Rattle.otap_columns.specs.Schemas.{Forms, FormsFit, ArraySlot, Struct, Column, Items, IsArraySlot, is_dictionary, is_items, slot_field, slot_column, slots_for, schema_for, type_in, item_in, item_type}
 use Rattle.otap_columns.specs.WrittenPayloads.{LeadsTo, Stores, HoldsRows}
 use Rattle.otap_columns.specs.Substreams.{value_at, is_index_below}
 use Rattle.otap_columns.specs.WrittenCells.{FitsIndexes, index_bytes, stored_column, stored_for}
@@ -56,7 +56,7 @@ module _ (kind : Kind) (forms : Forms) (values : ℕ → List (List ℕ)) (t : T
       none : (p : PartIn) → None ≡ Some p → ⊥
       none p e = cc
 
-  holds_on : (slot : Slot) (p : PartIn) (next : Option PartIn) → HoldsSlot kind forms values t slot p None → HoldsSlot kind forms values t slot p next
+  holds_on : (slot : ArraySlot) (p : PartIn) (next : Option PartIn) → HoldsSlot kind forms values t slot p None → HoldsSlot kind forms values t slot p next
   holds_on (Struct name) p next h = h
   holds_on (Items column) p next h = h
   holds_on (Column m) p next h = record {
@@ -75,7 +75,7 @@ module _ (kind : Kind) (forms : Forms) (values : ℕ → List (List ℕ)) (t : T
     texts = h.texts;
   }
 
-  pub slots-append : (xs ys : List Slot) (ps qs : List PartIn) → AreSlotParts kind forms values t xs ps → AreSlotParts kind forms values t ys qs → AreSlotParts kind forms values t (xs ++ ys) (ps ++ qs)
+  pub slots-append : (xs ys : List ArraySlot) (ps qs : List PartIn) → AreSlotParts kind forms values t xs ps → AreSlotParts kind forms values t ys qs → AreSlotParts kind forms values t (xs ++ ys) (ps ++ qs)
   slots-append [] ys [] qs h k = k
   slots-append [] ys (p ∷ ps) qs h k = absurd h
   slots-append (x ∷ xs) ys [] qs h k = absurd h
@@ -84,7 +84,7 @@ module _ (kind : Kind) (forms : Forms) (values : ℕ → List (List ℕ)) (t : T
 
   -- ---- the part of a slot
 
-  record HasSlotPart (slot : Slot) (parts : List PartIn) (place : ℕ) : Type 0 where
+  record HasSlotPart (slot : ArraySlot) (parts : List PartIn) (place : ℕ) : Type 0 where
     pub part : PartIn
     pub at : slice_get parts place ≡ Some part
     pub holds : HoldsSlot kind forms values t slot part (slice_get parts (place + 1))
@@ -93,12 +93,12 @@ module _ (kind : Kind) (forms : Forms) (values : ℕ → List (List ℕ)) (t : T
   first_next [] = refl
   first_next (p ∷ parts) = refl
 
-  part_at : (slots : List Slot) (parts : List PartIn) (place : ℕ) (slot : Slot) → AreSlotParts kind forms values t slots parts → slice_get slots place ≡ Some slot → HasSlotPart slot parts place
+  part_at : (slots : List ArraySlot) (parts : List PartIn) (place : ℕ) (slot : ArraySlot) → AreSlotParts kind forms values t slots parts → slice_get slots place ≡ Some slot → HasSlotPart slot parts place
   part_at [] parts place slot h at = absurd (cc (at))
   part_at (s ∷ slots) [] place slot h at = absurd h
   part_at (s ∷ slots) (p ∷ parts) zero slot h at =
       let same : s ≡ slot = cc (at) in
-      record { part = p; at = refl; holds = subst (λ (x : Slot). HoldsSlot kind forms values t x p (slice_get parts 0)) same (subst (λ (n : Option PartIn). HoldsSlot kind forms values t s p n) (first_next parts) h.0) }
+      record { part = p; at = refl; holds = subst (λ (x : ArraySlot). HoldsSlot kind forms values t x p (slice_get parts 0)) same (subst (λ (n : Option PartIn). HoldsSlot kind forms values t s p n) (first_next parts) h.0) }
   part_at (s ∷ slots) (p ∷ parts) (suc place) slot h at =
       let r : HasSlotPart slot parts place = part_at slots parts place slot h.1 at in
       let next : suc place + 1 ≡ suc (place + 1) = omega arith in
@@ -148,7 +148,7 @@ module _ (kind : Kind) (forms : Forms) (values : ℕ → List (List ℕ)) (t : T
   abbrev layout_in : FieldIn → Layout
   layout_in f = layout_of f.kind f.dict
 
-  by_slot : (a : ArraySpec) (slot : Slot) (known : Option ℕ) (p : PartIn) (next : Option PartIn) → field_of a ≡ slot_field kind forms slot → known ≡ slot_column slot → is_element a.above ≡ is_items slot
+  by_slot : (a : ArraySpec) (slot : ArraySlot) (known : Option ℕ) (p : PartIn) (next : Option PartIn) → field_of a ≡ slot_field kind forms slot → known ≡ slot_column slot → is_element a.above ≡ is_items slot
       → HoldsSlot kind forms values t slot p next → HoldsArray (layout_of a.kind a.dict) a.above (length t.rows) (cells_if known) p next
   by_slot a (Struct name) known p next field is element h =
       subst (λ (l : Layout). HoldsArray l a.above (length t.rows) (cells_if known) p next) (sym (ap layout_in field)) h
@@ -163,7 +163,7 @@ module _ (kind : Kind) (forms : Forms) (values : ℕ → List (List ℕ)) (t : T
   module _ (fit : FormsFit kind forms) (parts : List PartIn) (are : AreSlotParts kind forms values t (slots_for kind forms) parts) where
     array_part : (place : ℕ) (a : ArraySpec) → slice_get (arrays_of (schema_for kind forms)) place ≡ Some a → HasPart (length t.rows) cells parts place a
     array_part place a at =
-        let s : IsSlot kind forms place a = slot_at kind forms fit place a at in
+        let s : IsArraySlot kind forms place a = slot_at kind forms fit place a at in
         let h : HasSlotPart s.slot parts place = part_at (slots_for kind forms) parts place s.slot are s.at in
         record { part = h.part; at = h.at; holds = by_slot a s.slot (known_column kind (arrays_of (schema_for kind forms)) place) h.part (slice_get parts (place + 1)) s.field s.known s.element h.holds }
 
@@ -266,7 +266,7 @@ no_struct (base.Id wide) form.Wide e = cc
 
 module _ (kind : Kind) (forms : Forms) (values : ℕ → List (List ℕ)) (t : Table) (parts : List PartIn) (fit : FormsFit kind forms) (of : t.kind ≡ kind) (has : HasValues kind forms values t)
     (are : AreSlotParts kind forms values t (slots_for kind forms) parts) where
-  column_slot : (a : ArraySpec) (slot : Slot) (column : ℕ) (p : PartIn) (next : Option PartIn) → field_of a ≡ slot_field kind forms slot → is_element a.above ≡ is_items slot → Some column ≡ slot_column slot
+  column_slot : (a : ArraySpec) (slot : ArraySlot) (column : ℕ) (p : PartIn) (next : Option PartIn) → field_of a ≡ slot_field kind forms slot → is_element a.above ≡ is_items slot → Some column ≡ slot_column slot
       → HoldsSlot kind forms values t slot p next → IsColumnArray a
   column_slot a (Struct name) column p next field element is h = absurd (cc (is))
   column_slot a (Items c) column p next field element is h = absurd (cc (is))
@@ -278,7 +278,7 @@ module _ (kind : Kind) (forms : Forms) (values : ℕ → List (List ℕ)) (t : T
 
   column_array_at : (column place : ℕ) (a : ArraySpec) → known_column kind (arrays_of (schema_for kind forms)) place ≡ Some column → slice_get (arrays_of (schema_for kind forms)) place ≡ Some a → IsColumnArray a
   column_array_at column place a known at =
-      let s : IsSlot kind forms place a = slot_at kind forms fit place a at in
+      let s : IsArraySlot kind forms place a = slot_at kind forms fit place a at in
       let h = part_at kind forms values t (slots_for kind forms) parts place s.slot are s.at in
       column_slot a s.slot column h.part (slice_get parts (place + 1)) s.field s.element (sym known ∙ s.known) h.holds
 
@@ -295,7 +295,7 @@ module _ (kind : Kind) (forms : Forms) (values : ℕ → List (List ℕ)) (t : T
       (stores (base_at kind column) (forms column) (values column) (cell_in t.rows column row) (has.few column) (λ dict. has.known column row dict low))
 
   -- a struct has no dictionary
-  struct_slot : (a : ArraySpec) (slot : Slot) → field_of a ≡ slot_field kind forms slot → a.kind ≡ arrow.Struct → layout_of a.kind a.dict ≡ layout.Struct
+  struct_slot : (a : ArraySpec) (slot : ArraySlot) → field_of a ≡ slot_field kind forms slot → a.kind ≡ arrow.Struct → layout_of a.kind a.dict ≡ layout.Struct
   struct_slot a (Struct name) field is = ap (λ (f : FieldIn). layout_of f.kind f.dict) field
   struct_slot a (Items c) field is = absurd (no_item (column_at kind c).base (sym (ap (λ (f : FieldIn). f.kind) field) ∙ is))
   struct_slot a (Column m) field is = absurd (no_struct (column_at kind m.column).base (forms m.column) (sym (ap (λ (f : FieldIn). f.kind) field) ∙ is))
@@ -307,7 +307,7 @@ module _ (kind : Kind) (forms : Forms) (values : ℕ → List (List ℕ)) (t : T
     fine = parts_check (schema_for kind forms) (length t.rows) (cells kind forms values t) parts (are_parts kind forms values t fit parts are);
     whole = parts_whole (schema_for kind forms) (length t.rows) (cells kind forms values t) parts (are_parts kind forms values t fit parts are);
     bitmaps = λ place a at is.
-        let s : IsSlot kind forms place a = slot_at kind forms fit place a at in
+        let s : IsArraySlot kind forms place a = slot_at kind forms fit place a at in
         parts_bitmaps (schema_for kind forms) (length t.rows) (cells kind forms values t) parts (are_parts kind forms values t fit parts are) place a at (struct_slot a s.slot s.field is);
     cells = cell_held;
   }

@@ -17,7 +17,7 @@ use Rattle.otap_cells.specs.Columns.{base_at, coding_at, width_of}
 use Rattle.otap_columns.specs.declared.forms.ColumnForm.{ColumnForm}
 use Rattle.otap_columns.specs.declared.forms.ColumnForm.TheVariants as form
 use Rattle.otap_columns.specs.Known.{known_column, coding_named, coding_if, array_at, array_of, column_coding}
-use Rattle.otap_columns.specs.Schemas.{Forms, FormsFit, IsFound, IsSlot, Slot, Struct, Column, Items, is_there, is_dictionary, type_in, dict_for, slot_field, slot_column, schema_for}
+use Rattle.otap_columns.specs.Schemas.{Forms, FormsFit, IsFound, IsArraySlot, ArraySlot, Struct, Column, Items, is_there, is_dictionary, type_in, dict_for, slot_field, slot_column, schema_for}
 use Rattle.otap_columns.proofs.Finding.{known_column-below}
 use Rattle.otap_columns.proofs.Keeping.{schema_readable}
 use Rattle.otap_columns.proofs.Located.{slot_at, column_found, column_absent}
@@ -53,7 +53,7 @@ module _ (kind : Kind) (forms : Forms) (fit : FormsFit kind forms) where
     pub type : a.kind ≡ type_in (base_at kind column) (forms column)
     pub dict : a.dict ≡ dict_for column (forms column)
 
-  by_slot : (place : ℕ) (a : ArraySpec) (d : DictSpec) (slot : Slot) → a.dict ≡ Some d → field_of a ≡ slot_field kind forms slot
+  by_slot : (place : ℕ) (a : ArraySpec) (d : DictSpec) (slot : ArraySlot) → a.dict ≡ Some d → field_of a ≡ slot_field kind forms slot
       → known_column kind (arrays_of (schema_for kind forms)) place ≡ slot_column slot → HasColumn place a
   by_slot place a d (Struct name) is field known = let none : None ≡ Some d = sym (ap (λ (f : FieldIn). f.dict) field) ∙ is in absurd (cc)
   by_slot place a d (Items column) is field known = let none : None ≡ Some d = sym (ap (λ (f : FieldIn). f.dict) field) ∙ is in absurd (cc)
@@ -67,11 +67,11 @@ module _ (kind : Kind) (forms : Forms) (fit : FormsFit kind forms) where
 
   pub has_column : (place : ℕ) (a : ArraySpec) (d : DictSpec) → slice_get (arrays_of (schema_for kind forms)) place ≡ Some a → a.dict ≡ Some d → HasColumn place a
   has_column place a d at is =
-      let s : IsSlot kind forms place a = slot_at kind forms fit place a at in
+      let s : IsArraySlot kind forms place a = slot_at kind forms fit place a at in
       by_slot place a d s.slot is s.field s.known
 
   -- no field names an encoding
-  plain_slot : (slot : Slot) (a : ArraySpec) → field_of a ≡ slot_field kind forms slot → a.encoding ≡ encoding.None
+  plain_slot : (slot : ArraySlot) (a : ArraySpec) → field_of a ≡ slot_field kind forms slot → a.encoding ≡ encoding.None
   plain_slot (Struct name) a field = ap (λ (f : FieldIn). f.encoding) field
   plain_slot (Column m) a field = ap (λ (f : FieldIn). f.encoding) field
   plain_slot (Items column) a field = ap (λ (f : FieldIn). f.encoding) field
@@ -84,7 +84,7 @@ module _ (kind : Kind) (forms : Forms) (fit : FormsFit kind forms) where
       by : (is_there (forms column) ≡ true) ⊎ (is_there (forms column) ≡ false) → column_coding kind (arrays_of (schema_for kind forms)) column ≡ coding_at kind column
       by (inl here) =
           let f : IsFound kind forms column = column_found kind forms fit column below here in
-          let s : IsSlot kind forms f.place f.array = slot_at kind forms fit f.place f.array f.at in
+          let s : IsArraySlot kind forms f.place f.array = slot_at kind forms fit f.place f.array f.at in
           (λ i. coding_if (coding_at kind column) (array_at (arrays_of (schema_for kind forms)) (f.found i))) ∙ (λ i. coding_if (coding_at kind column) (f.at i))
           ∙ ap (λ (e : Encoding). coding_named e (coding_at kind column)) (plain_slot s.slot f.array s.field)
       by (inr not) = λ i. coding_if (coding_at kind column) (array_at (arrays_of (schema_for kind forms)) (column_absent kind forms fit column not i))

@@ -31,7 +31,7 @@ use Rattle.otap_columns.specs.Substreams.{SubstreamIn, held_in, schema_in, subst
 use Rattle.otap_columns.specs.Records.{is_rows, IsFine, IsFineIn, IsRead}
 use Rattle.otap_columns.specs.Schemas.{Forms, is_dictionary, type_in, schema_for}
 use Rattle.otap_columns.specs.Observed.{form_at, values_at, new_at}
-use Rattle.otap_columns.specs.WrittenPayloads.{has_some, is_wanted, batch_if, heads, batches_for, messages_for, HoldsValues, IsWritable, GoesOn, IsRecord, IsWritten, AreWrittenAs, IsReadAs}
+use Rattle.otap_columns.specs.WrittenPayloads.{has_some, is_wanted, batch_if, heads, batches_for, messages_for, HoldsValues, IsWritableTable, GoesOn, IsRecord, IsWritten, AreWrittenAs, IsReadAs}
 use Rattle.otap_columns.proofs.Growing.{substream-none}
 use Rattle.otap_columns.proofs.HeldLess.{light}
 use Rattle.otap_columns.proofs.IdsRead.{ids_read}
@@ -76,7 +76,7 @@ module _ (kind : Kind) (before : List Table) (t : Table) (bytes : List ℕ) wher
   unfolding dictionary
   opened_empty fields type column = omega arith
 
-  module _ (w : IsWritable kind t) where
+  module _ (w : IsWritableTable kind t) where
     opening_step : (r : IsRecord kind before t true bytes)
         → Step kind (form_at kind (before ++ t ∷ [])) (values_at kind (before ++ t ∷ [])) (Schema (schema_for kind (form_at kind (before ++ t ∷ []))) ∷ [])
         (batches_for kind true before (before ++ t ∷ []) r.batches) r.rows t
@@ -267,7 +267,7 @@ module _ (kind : Kind) (before : List Table) (past : List PayloadIn) (t : Table)
   schema_fine : (forms : Forms) → columns_fit kind (arrays_of (schema_for kind forms)) ≡ true → AllAfter (IsFine kind) [] (Schema (schema_for kind forms) ∷ [])
   schema_fine forms fit = (subst (λ (o : Option SubstreamIn). IsFineIn kind [] o (Schema (schema_for kind forms))) (sym substream-none) (refl, fit), tt)
 
-  opened_goes : IsWritable kind t → IsRecord kind before t true p.bytes → opens past p ≡ true → Goes kind before past t p
+  opened_goes : IsWritableTable kind t → IsRecord kind before t true p.bytes → opens past p ≡ true → Goes kind before past t p
   unfolding messages_for
   opened_goes w r is =
       let fields = schema_for kind (form_at kind (before ++ t ∷ [])) in
@@ -277,7 +277,7 @@ module _ (kind : Kind) (before : List Table) (past : List PayloadIn) (t : Table)
       refl (schema_fine (form_at kind (before ++ t ∷ [])) (schema_fits kind (form_at kind (before ++ t ∷ [])) (forms_fit kind (before ++ t ∷ []))))
       (opening_step kind before t p.bytes w r) (rw is refl)
 
-  gone_goes : IsWritable kind t → InStep kind before past → IsRecord kind before t false p.bytes → opens past p ≡ false → past ≢ [] → Goes kind before past t p
+  gone_goes : IsWritableTable kind t → InStep kind before past → IsRecord kind before t false p.bytes → opens past p ≡ false → past ≢ [] → Goes kind before past t p
   unfolding messages_for
   gone_goes w i r is some =
       let head = batches_for kind false before (before ++ t ∷ []) r.batches in

@@ -24,7 +24,7 @@ use Rattle.otap_cells.specs.Columns.{columns_of, column_at, place_of}
 use Rattle.otap_columns.specs.Known.{is_column}
 use Rattle.otap_columns.specs.Groups.{Member, Group, grouped}
 use Rattle.otap_columns.specs.Groups as group
-use Rattle.otap_columns.specs.Schemas.{Forms, is_there, item_in, leaf_in, members_there, branches_under, branches_in, branches_for, schema_for, Slot, Struct, Column, Items, items_after}
+use Rattle.otap_columns.specs.Schemas.{Forms, is_there, item_in, leaf_in, members_there, branches_under, branches_in, branches_for, schema_for, ArraySlot, Struct, Column, Items, items_after}
 use Rattle.otap_columns.specs.Schemas.{slots_of_member, slots_under, slots_in, slots_for, item_type, slot_field, slot_column, is_items}
 use Rattle.otap_columns.proofs.Grouping.{under_tests, is_ascii, is_member, is_group, kinds_grouped}
 use Rattle.otap_columns.proofs.Keeping.{type_item, member_place}
@@ -109,41 +109,41 @@ module _ (kind : Kind) (forms : Forms) where
   unfoldable pub fact_of : List (List ℕ) → Option ℕ × Bool
   fact_of path = (place_of (columns_of kind) path, is_empty path)
 
-  unfoldable pub slot_fact : Slot → Option ℕ × Bool
+  unfoldable pub slot_fact : ArraySlot → Option ℕ × Bool
   slot_fact s = (slot_column s, is_items s)
 
   -- the elements of a list come after it
-  unfoldable pub FollowsItem : Option ArrowType → ℕ → List Slot → Type 0
+  unfoldable pub FollowsItem : Option ArrowType → ℕ → List ArraySlot → Type 0
   FollowsItem None column slots = Unit {0}
-  FollowsItem (Some item) column slots = (more : List Slot) × (slots ≡ Items column ∷ more)
+  FollowsItem (Some item) column slots = (more : List ArraySlot) × (slots ≡ Items column ∷ more)
 
-  unfoldable pub HasItems : Slot → List Slot → Type 0
+  unfoldable pub HasItems : ArraySlot → List ArraySlot → Type 0
   HasItems (Struct name) slots = Unit {0}
   HasItems (Column m) slots = FollowsItem (item_in (column_at kind m.column).base) m.column slots
   HasItems (Items column) slots = Unit {0}
 
-  unfoldable pub Follow : List Slot → Type 0
+  unfoldable pub Follow : List ArraySlot → Type 0
   Follow [] = Unit {0}
   Follow (s ∷ slots) = HasItems s slots × Follow slots
 
-  item_on : (item : Option ArrowType) (column : ℕ) (xs ys : List Slot) → FollowsItem item column xs → FollowsItem item column (xs ++ ys)
+  item_on : (item : Option ArrowType) (column : ℕ) (xs ys : List ArraySlot) → FollowsItem item column xs → FollowsItem item column (xs ++ ys)
   unfolding FollowsItem
   item_on None column xs ys h = tt
-  item_on (Some item) column xs ys h = (h.0 ++ ys, ap (λ (zs : List Slot). zs ++ ys) h.1)
+  item_on (Some item) column xs ys h = (h.0 ++ ys, ap (λ (zs : List ArraySlot). zs ++ ys) h.1)
 
-  has_on : (s : Slot) (xs ys : List Slot) → HasItems s xs → HasItems s (xs ++ ys)
+  has_on : (s : ArraySlot) (xs ys : List ArraySlot) → HasItems s xs → HasItems s (xs ++ ys)
   unfolding HasItems
   has_on (Struct name) xs ys h = tt
   has_on (Column m) xs ys h = item_on (item_in (column_at kind m.column).base) m.column xs ys h
   has_on (Items column) xs ys h = tt
 
-  follow-append : (xs ys : List Slot) → Follow xs → Follow ys → Follow (xs ++ ys)
+  follow-append : (xs ys : List ArraySlot) → Follow xs → Follow ys → Follow (xs ++ ys)
   unfolding Follow
   follow-append [] ys h later = later
   follow-append (s ∷ xs) ys h later = (has_on s xs ys h.0, follow-append xs ys h.1 later)
 
   -- fields, and what the arrays of each of them are
-  pub record AreSlots (above : Option (List (List ℕ))) (fields : List FieldSpec) (slots : List Slot) : Type 0 where
+  pub record AreSlots (above : Option (List (List ℕ))) (fields : List FieldSpec) (slots : List ArraySlot) : Type 0 where
     pub flat : depth_first fields ≡ map (slot_field kind forms) slots
     pub facts : map fact_of (paths_below fields above) ≡ map slot_fact slots
     pub follow : Follow slots
@@ -152,7 +152,7 @@ module _ (kind : Kind) (forms : Forms) where
   unfolding Follow
   slots_none above = record { flat = refl; facts = refl; follow = tt }
 
-  slots-append : (above : Option (List (List ℕ))) (f g : List FieldSpec) (s t : List Slot) → AreSlots above f s → AreSlots above g t → AreSlots above (f ++ g) (s ++ t)
+  slots-append : (above : Option (List (List ℕ))) (f g : List FieldSpec) (s t : List ArraySlot) → AreSlots above f s → AreSlots above g t → AreSlots above (f ++ g) (s ++ t)
   slots-append above f g s t one two = record {
     flat = flat_map-append depth_first_in f g ∙ (λ i. one.flat i ++ two.flat i) ∙ sym (map-append (slot_field kind forms) s t);
     facts = ap (map fact_of) (paths-append f g above) ∙ map-append fact_of (paths_below f above) (paths_below g above) ∙ (λ i. one.facts i ++ two.facts i) ∙ sym (map-append slot_fact s t);
@@ -211,7 +211,7 @@ module _ (kind : Kind) (forms : Forms) where
       ]
 
   -- a struct
-  struct_slots : (struct : List ℕ) (leaves : List FieldSpec) (slots : List Slot) → place_of (columns_of kind) (struct ∷ []) ≡ None → AreSlots (Some (struct ∷ [])) leaves slots
+  struct_slots : (struct : List ℕ) (leaves : List FieldSpec) (slots : List ArraySlot) → place_of (columns_of kind) (struct ∷ []) ≡ None → AreSlots (Some (struct ∷ [])) leaves slots
       → AreSlots (Some []) (field_with struct arrow.Struct None encoding.None leaves ∷ []) (Struct struct ∷ slots)
   unfolding Follow HasItems fact_of slot_fact is_empty
   struct_slots struct leaves slots none below = record {

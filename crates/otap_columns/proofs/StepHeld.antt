@@ -14,7 +14,7 @@ use Rattle.otap_cells.specs.declared.profile.Base.{Base}
 use Rattle.otap_cells.specs.Bases.{is_id}
 use Rattle.otap_columns.specs.declared.forms.ColumnForm.{ColumnForm}
 use Rattle.otap_columns.specs.declared.forms.ColumnForm.TheVariants as form
-use Rattle.otap_columns.specs.WrittenPayloads.{IsWritable}
+use Rattle.otap_columns.specs.WrittenPayloads.{IsWritableTable}
 use Rattle.otap_columns.specs.Schemas.{FormsFit, fits_form, is_dictionary, is_there, item_in}
 use Rattle.otap_columns.specs.Observed.{bytes_for, form_at, is_own_id, is_wide, of_ladder, values_at}
 use Rattle.otap_columns.specs.BuiltCells.{FitsForm}
@@ -22,7 +22,7 @@ use Rattle.otap_columns.specs.Seen.{SeenIn}
 use Rattle.otap_columns.specs.SeenInside.{filled, form_told, id_form_told, is_absent, places_of}
 use Rattle.otap_columns.specs.WrittenCells.{FitsIndexes, place_in}
 use Rattle.otap_columns.specs.WrittenGroups.{forms_in}
-use Rattle.otap_columns.specs.WrittenRecords.{CanSend}
+use Rattle.otap_columns.specs.WrittenRecords.{CanSendColumn}
 use Rattle.otap_columns.specs.WrittenRows.{HasValues, IsKnownIn, unseen as unseen_column}
 use Rattle.otap_columns.specs.BuiltRows.{CanWrite, columns_in}
 use Rattle.otap_columns.specs.Writers.{AreSeen, AreWritable, is_started}
@@ -33,11 +33,11 @@ use Rattle.otap_columns.proofs.ValuesSeen.{forms_fit, few_values, small_values, 
 use Rattle.otap_columns.proofs.ValuesKept.{base_holds, bytes_alike, kept_values, known_value, narrow_values, no_id, no_list, takes_one, values_are}
 
 -- each of them can be written
-pub writable_each : (kind : Kind) (tables : List Table) → AreWritable kind tables → Each (IsWritable kind) tables
+pub writable_each : (kind : Kind) (tables : List Table) → AreWritable kind tables → Each (IsWritableTable kind) tables
 writable_each kind [] all = tt
 writable_each kind (t ∷ tables) all = (all.0, writable_each kind tables all.1)
 
-pub writable_more : (kind : Kind) (tables : List Table) (t : Table) → AreWritable kind tables → IsWritable kind t → AreWritable kind (tables ++ t ∷ [])
+pub writable_more : (kind : Kind) (tables : List Table) (t : Table) → AreWritable kind tables → IsWritableTable kind t → AreWritable kind (tables ++ t ∷ [])
 writable_more kind [] t all one = (one, tt)
 writable_more kind (u ∷ tables) t all one = (all.0, writable_more kind tables t all.1 one)
 
@@ -95,12 +95,12 @@ module _ (kind : Kind) (tables : List Table) (columns : List SeenIn) (forms : Li
   is_single column is = no_list (base_at kind column) (takes_one kind tables column (dictionary_low column is) (is_one column is))
 
   -- the values of a dictionary can be written from a place on
-  pub can_send : Each (IsWritable kind) tables → (column from : ℕ) → is_dictionary (forms_in forms column) ≡ true → from ≤ length (values_at kind tables column)
-      → CanSend (base_at kind column) (forms_in forms column) from (columns_in columns column)
+  pub can_send : Each (IsWritableTable kind) tables → (column from : ℕ) → is_dictionary (forms_in forms column) ≡ true → from ≤ length (values_at kind tables column)
+      → CanSendColumn (base_at kind column) (forms_in forms column) from (columns_in columns column)
   can_send writable column from is there =
       let low : column < width_of kind = dictionary_low column is in
       let one = is_one column is in
-      subst (CanSend (base_at kind column) (forms_in forms column) from) (sym (values_is column low is)) (record {
+      subst (CanSendColumn (base_at kind column) (forms_in forms column) from) (sym (values_is column low is)) (record {
         there = there;
         few = few_values kind tables column one;
         room = small_values kind tables column one;
@@ -148,7 +148,7 @@ places_alike holds f g values (cell ∷ cells) none = λ i. place_in values (byt
 -- ---- the last of the tables
 
 module _ (kind : Kind) (before : List Table) (t : Table) (columns : List SeenIn) (forms : List ColumnForm) (seen : AreSeen kind (before ++ t ∷ []) columns) (told : AreForms kind columns forms)
-    (writable : IsWritable kind t) where
+    (writable : IsWritableTable kind t) where
   pub can_write : weight_of_table t ≤ row_weight_limit → ArePlaced kind t columns → CanWrite (forms_in forms) columns t
   can_write light placed = record {
     placed = λ column low is.

@@ -18,12 +18,12 @@ use Rattle.otap_cells.specs.Tables.{Table, cell_in}
 use Rattle.otap_columns.specs.declared.forms.ColumnForm.{ColumnForm}
 use Rattle.otap_columns.specs.declared.forms.ColumnForm.TheVariants as form
 use Rattle.otap_columns.specs.Known.{known_column}
-use Rattle.otap_columns.specs.WrittenPayloads.{GoesOn, HoldsRows, HoldsValues, IsRecord, IsWritable, Stores, batch_if, has_some, heads, batches_for, is_wanted, messages_for, schema_if, wanted_values}
+use Rattle.otap_columns.specs.WrittenPayloads.{GoesOn, HoldsRows, HoldsValues, IsRecord, IsWritableTable, Stores, batch_if, has_some, heads, batches_for, is_wanted, messages_for, schema_if, wanted_values}
 use Rattle.otap_columns.specs.Schemas.{Forms, is_dictionary, schema_for, type_in}
 use Rattle.otap_columns.specs.Observed.{bytes_for, form_at, values_at, new_at}
 use Rattle.otap_columns.specs.Seen.{SeenIn}
 use Rattle.otap_columns.specs.WrittenGroups.{forms_in}
-use Rattle.otap_columns.specs.WrittenRecords.{Values, CanSend, IsRecordBy, from_in, heads_by, is_sent}
+use Rattle.otap_columns.specs.WrittenRecords.{Values, CanSendColumn, IsRecordBy, from_in, heads_by, is_sent}
 use Rattle.otap_columns.specs.BuiltRows.{columns_in}
 use Rattle.otap_columns.specs.Writers.{AreSeen, AreWritable, is_started}
 use Rattle.otap_columns.specs.WriterInside.{AreCounts, AreForms, IsReady, SeesAll}
@@ -193,8 +193,8 @@ module _ (kind : Kind) (before : List Table) (t : Table) (old new : List SeenIn)
           (λ column low. ap (λ (b : Bool). batch_if b (not opens) column (r.batches column)) (sent_is column low))
 
   -- its dictionaries can be written
-  pub sends : AreWritable kind before → IsWritable kind t → (column : ℕ) → column < width_of kind → is_dictionary (forms_in forms column) ≡ true
-      → CanSend (base_at kind column) (forms_in forms column) (from_in opens counts column) (columns_in new column)
+  pub sends : AreWritable kind before → IsWritableTable kind t → (column : ℕ) → column < width_of kind → is_dictionary (forms_in forms column) ≡ true
+      → CanSendColumn (base_at kind column) (forms_in forms column) (from_in opens counts column) (columns_in new column)
   sends writable one column low is =
       can_send kind (before ++ t ∷ []) new forms s.seen_new s.told_new (writable_each kind (before ++ t ∷ []) (writable_more kind before t writable one)) column (from_in opens counts column) is
       (from_there column low is)

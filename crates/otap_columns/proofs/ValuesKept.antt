@@ -30,7 +30,7 @@ use Rattle.otap_dicts.specs.Ladders.{ladder_of, kept_in}
 use Rattle.otap_dicts.specs.Limits.{narrow_limit}
 use Rattle.otap_columns.specs.declared.forms.ColumnForm.{ColumnForm}
 use Rattle.otap_columns.specs.declared.forms.ColumnForm.TheVariants as form
-use Rattle.otap_columns.specs.WrittenPayloads.{IsWritable}
+use Rattle.otap_columns.specs.WrittenPayloads.{IsWritableTable}
 use Rattle.otap_columns.specs.Schemas.{fits_form, is_dictionary, item_in, type_in}
 use Rattle.otap_columns.specs.Observed.{bytes_for, given, values_in, seen, form_at, values_at, is_own_id, id_form_if, of_ladder}
 use Rattle.otap_columns.specs.WrittenBatches.{IsSingle, HoldsType}
@@ -86,7 +86,7 @@ cells_given holds (r ∷ rows) column each = by (bytes_for holds form.Wide (get_
     by None is rest = rw is rest
     by (Some value) is rest = rw is (value_of holds (get_or r column null) value (each 0 (omega arith)) is, rest)
 
-tables_given : (kind : Kind) (column : ℕ) (tables : List Table) → Each (IsWritable kind) tables → Each (IsValueOf (columns.base_at kind column)) (flat_map (values_in kind column) tables)
+tables_given : (kind : Kind) (column : ℕ) (tables : List Table) → Each (IsWritableTable kind) tables → Each (IsValueOf (columns.base_at kind column)) (flat_map (values_in kind column) tables)
 tables_given kind column [] each = tt
 tables_given kind column (t ∷ tables) each =
     each-append (IsValueOf (columns.base_at kind column)) (values_in kind column t) (flat_map (values_in kind column) tables)
@@ -102,7 +102,7 @@ each_distinct P known (v ∷ vs) have more =
       | inr new ↦ each_distinct P (with_value known v) vs (rw new (each-append P known (v ∷ []) have (more.0, tt))) more.1
     ]
 
-pub values_are : (kind : Kind) (column : ℕ) (tables : List Table) → Each (IsWritable kind) tables → Each (IsValueOf (columns.base_at kind column)) (values_at kind tables column)
+pub values_are : (kind : Kind) (column : ℕ) (tables : List Table) → Each (IsWritableTable kind) tables → Each (IsValueOf (columns.base_at kind column)) (values_at kind tables column)
 unfolding values_at distinct seen
 values_are kind column tables each =
     each_distinct (IsValueOf (columns.base_at kind column)) [] (flat_map (values_in kind column) tables) tt (tables_given kind column tables each)

@@ -6,7 +6,7 @@ use Rattle.arrow_arrays.specs.Written.{PartIn}
 use Rattle.otap_cells.specs.Columns.{base_at, width_of}
 use Rattle.otap_cells.specs.Tables.{Table, IsTable, column_in}
 use Rattle.otap_cells.specs.Weights.{row_weight_limit, weight_of_table}
-use Rattle.otap_columns.specs.Schemas.{Forms, Slot, is_there, is_dictionary, item_in}
+use Rattle.otap_columns.specs.Schemas.{Forms, ArraySlot, is_there, is_dictionary, item_in}
 use Rattle.otap_columns.specs.Seen.{SeenIn}
 use Rattle.otap_columns.specs.SeenInside.{filled, places_of}
 use Rattle.otap_columns.specs.WrittenCells.{FitsIndexes}
@@ -29,7 +29,7 @@ pub record CanWrite (forms : Forms) (columns : List SeenIn) (t : Table) : Type 0
   pub light : weight_of_table t ≤ row_weight_limit
 
 -- the parts of slots were added to a batch
-pub record AddsSlots (forms : Forms) (values : ℕ → List (List ℕ)) (t : Table) (slots : List Slot) (old new : BatchIn) : Type 0 where
+pub record AddsSlots (forms : Forms) (values : ℕ → List (List ℕ)) (t : Table) (slots : List ArraySlot) (old new : BatchIn) : Type 0 where
   pub parts : List PartIn
   pub whole : new ≡ with_parts old parts
   pub are : AreSlotParts t.kind forms values t slots parts

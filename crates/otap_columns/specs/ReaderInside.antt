@@ -24,6 +24,6 @@ pub record IsReaderInside (r : reader.Inside) : Type 0 where
   pub few : length r.dictionaries.items ≤ max_fields
 
 -- the kind, and whether it is broken, are as they were
-pub record Keeps (old new : ReaderIn) : Type 0 where
+pub record KeepsReader (old new : ReaderIn) : Type 0 where
   pub kind : new.kind ≡ old.kind
   pub broken : new.broken ≡ old.broken

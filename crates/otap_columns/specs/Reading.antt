@@ -22,7 +22,7 @@ use Rattle.otap_columns.specs.Records.{is_schema, is_rows, IsFineBatch, IsFine}
 use Rattle.otap_columns.specs.Steps.{RefusesBatch}
 use Rattle.otap_columns.specs.Substreams.{SubstreamIn, substream_in, indexes_fit}
 use Rattle.otap_columns.specs.Views.{ReaderIn}
-use Rattle.otap_columns.specs.ReaderInside.{Keeps}
+use Rattle.otap_columns.specs.ReaderInside.{KeepsReader}
 
 -- the message stands first in what was left to read, and was taken off
 pub record Passes (old new : MessagesIn) (m : IpcMessage) : Type 0 where
@@ -157,7 +157,7 @@ pub record GoneSoFar (old : ReaderIn) (m : MessagesIn) (new : ReaderIn) (m' : Me
   pub front : front_of (rest_of m) ≡ messages ++ front_of (rest_of m')
   pub left : left_of (rest_of m) ≡ left_of (rest_of m')
   pub bytes : m'.bytes ≡ m.bytes
-  pub keeps : Keeps old new
+  pub keeps : KeepsReader old new
 
 -- why they weren't: some were, and the next one is refused
 pub record RefusesFront (s : SubstreamIn) (front : List IpcMessage) (left : List ℕ) (refusal : ColumnRefusal) : Type 0 where

@@ -120,29 +120,29 @@ schema_for kind forms = fields_of (branches_for kind forms)
 -- ---- its arrays
 
 -- what an array of it is: a struct by its name, a column, or the elements of a column's lists
-pub data Slot : Type 0 where
-  Struct : List ℕ → Slot
-  Column : Member → Slot
-  Items : ℕ → Slot
+pub data ArraySlot : Type 0 where
+  Struct : List ℕ → ArraySlot
+  Column : Member → ArraySlot
+  Items : ℕ → ArraySlot
 
 -- the elements come after the lists
-abbrev pub items_after : Option ArrowType → ℕ → List Slot
+abbrev pub items_after : Option ArrowType → ℕ → List ArraySlot
 items_after None column = []
 items_after (Some item) column = Items column ∷ []
 
-abbrev pub slots_of_member : Kind → Member → List Slot
+abbrev pub slots_of_member : Kind → Member → List ArraySlot
 slots_of_member kind m = Column m ∷ items_after (item_in (column_at kind m.column).base) m.column
 
-abbrev pub slots_under : Kind → List ℕ → List Member → List Slot
+abbrev pub slots_under : Kind → List ℕ → List Member → List ArraySlot
 slots_under kind struct [] = []
 slots_under kind struct (m ∷ members) = Struct struct ∷ flat_map (slots_of_member kind) (m ∷ members)
 
-abbrev pub slots_in : Kind → Forms → Group → List Slot
+abbrev pub slots_in : Kind → Forms → Group → List ArraySlot
 slots_in kind forms (group.Alone m) = flat_map (slots_of_member kind) (members_there forms (m ∷ []))
 slots_in kind forms (group.Under struct members) = slots_under kind struct (members_there forms members)
 
 -- THE ARRAYS of the schema, in their order
-unfoldable pub slots_for : Kind → Forms → List Slot
+unfoldable pub slots_for : Kind → Forms → List ArraySlot
 slots_for kind forms = flat_map (slots_in kind forms) (grouped (columns_of kind))
 
 -- the field of each, without its children
@@ -150,7 +150,7 @@ abbrev pub item_type : Option ArrowType → ArrowType
 item_type None = arrow.Double
 item_type (Some kind) = kind
 
-abbrev pub slot_field : Kind → Forms → Slot → FieldIn
+abbrev pub slot_field : Kind → Forms → ArraySlot → FieldIn
 slot_field kind forms (Struct name) = record { name = name; kind = arrow.Struct; dict = None; encoding = encoding.None }
 slot_field kind forms (Column m) = record {
   name = m.name;
@@ -162,19 +162,19 @@ slot_field kind forms (Items column) =
     record { name = codes "item"; kind = item_type (item_in (column_at kind column).base); dict = None; encoding = encoding.None }
 
 -- the column that each is
-abbrev pub slot_column : Slot → Option ℕ
+abbrev pub slot_column : ArraySlot → Option ℕ
 slot_column (Struct name) = None
 slot_column (Column m) = Some m.column
 slot_column (Items column) = None
 
-abbrev pub is_items : Slot → Bool
+abbrev pub is_items : ArraySlot → Bool
 is_items (Struct name) = false
 is_items (Column m) = false
 is_items (Items column) = true
 
 -- what an array of the schema is
-pub record IsSlot (kind : Kind) (forms : Forms) (place : ℕ) (a : ArraySpec) : Type 0 where
-  pub slot : Slot
+pub record IsArraySlot (kind : Kind) (forms : Forms) (place : ℕ) (a : ArraySpec) : Type 0 where
+  pub slot : ArraySlot
   pub at : slice_get (slots_for kind forms) place ≡ Some slot
   pub field : field_of a ≡ slot_field kind forms slot
   pub known : known_column kind (arrays_of (schema_for kind forms)) place ≡ slot_column slot

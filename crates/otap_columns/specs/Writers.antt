@@ -4,7 +4,7 @@ use Rattle.std.specs.List.{slice_index_or}
 use Rattle.otap_cells.specs.declared.payload.Kind.{Kind}
 use Rattle.otap_cells.specs.Columns.{width_of}
 use Rattle.otap_cells.specs.Tables.{Table}
-use Rattle.otap_columns.specs.WrittenPayloads.{IsRecord, IsWritable}
+use Rattle.otap_columns.specs.WrittenPayloads.{IsRecord, IsWritableTable}
 use Rattle.otap_columns.specs.Seen.{IsSeenAfter, SeenIn}
 use Rattle.otap_columns.specs.WrittenRows.{unseen}
 
@@ -18,7 +18,7 @@ pub record WriterIn : Type 0 where
 -- each table can be written
 abbrev pub AreWritable : Kind → List Table → Type 0
 AreWritable kind [] = Unit {0}
-AreWritable kind (t ∷ tables) = IsWritable kind t × AreWritable kind tables
+AreWritable kind (t ∷ tables) = IsWritableTable kind t × AreWritable kind tables
 
 -- there is one
 abbrev pub is_started : List Table → Bool

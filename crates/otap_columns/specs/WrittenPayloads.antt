@@ -101,7 +101,7 @@ pub record HoldsRows (kind : Kind) (forms : Forms) (values : ℕ → List (List 
 -- ---- records and payloads
 
 -- a table that is written: its ids are stored as the profile says, and its stored numbers stand for ids
-pub record IsWritable (kind : Kind) (t : Table) : Type 0 where
+pub record IsWritableTable (kind : Kind) (t : Table) : Type 0 where
   pub kind_is : t.kind ≡ kind
   pub table : IsTable t
   pub coded : (column : ℕ) → is_id_at kind column ≡ true → coding_in t column ≡ coding_at kind column
@@ -125,7 +125,7 @@ pub record IsRecord (kind : Kind) (before : List Table) (t : Table) (opening : B
 -- a payload after others of its type
 pub record IsWritten (kind : Kind) (before : List Table) (past : List PayloadIn) (t : Table) (p : PayloadIn) : Type 0 where
   pub type : p.kind ≡ pos (number_of kind)
-  pub writable : IsWritable kind t
+  pub writable : IsWritableTable kind t
   pub record_is : IsRecord kind before t (opens past p) p.bytes
 
 -- THE POLICY: the payloads of the tables of a kind, one for each

@@ -36,7 +36,7 @@ abbrev pub is_sent : Bool → ColumnForm → List (List ℕ) → Bool
 is_sent opening form values = is_dictionary form && (opening || has_some values)
 
 -- values of a column can be written from a place on as a dictionary
-pub record CanSend (holds : Base) (form : ColumnForm) (from : ℕ) (values : List (List ℕ)) : Type 0 where
+pub record CanSendColumn (holds : Base) (form : ColumnForm) (from : ℕ) (values : List (List ℕ)) : Type 0 where
   pub there : from ≤ length values
   pub few : length values ≤ value_limit
   pub room : bytes_of values ≤ byte_limit

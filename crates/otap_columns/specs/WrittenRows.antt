@@ -7,13 +7,13 @@ use Rattle.otap_cells.specs.declared.payload.Kind.{Kind}
 use Rattle.otap_cells.specs.Columns.{base_at, column_at}
 use Rattle.otap_cells.specs.Tables.{Table, cell_in}
 use Rattle.otap_dicts.specs.declared.form.Form.TheVariants as ladder
-use Rattle.otap_columns.specs.Schemas.{Forms, Slot, Struct, Column, Items, is_dictionary, type_in, dict_for, item_in, item_type}
+use Rattle.otap_columns.specs.Schemas.{Forms, ArraySlot, Struct, Column, Items, is_dictionary, type_in, dict_for, item_in, item_type}
 use Rattle.otap_columns.specs.Observed.{bytes_for}
 use Rattle.otap_columns.specs.Seen.{SeenIn}
 use Rattle.otap_columns.specs.WrittenCells.{FitsIndexes, stored_column}
 
 -- a part is that of a slot of the schema, before the next part: a struct without nulls, a column of the table, or elements
-abbrev pub HoldsSlot : Kind → Forms → (ℕ → List (List ℕ)) → Table → Slot → PartIn → Option PartIn → Type 0
+abbrev pub HoldsSlot : Kind → Forms → (ℕ → List (List ℕ)) → Table → ArraySlot → PartIn → Option PartIn → Type 0
 HoldsSlot kind forms values t (Struct name) p next = p ≡ struct_part (length t.rows)
 HoldsSlot kind forms values t (Column m) p next =
     HoldsCells (layout_of (type_in (column_at kind m.column).base (forms m.column)) (dict_for m.column (forms m.column))) (length t.rows)
@@ -25,7 +25,7 @@ first_of [] = None
 first_of (p ∷ parts) = Some p
 
 -- EACH SLOT HAS ITS PART, one after the other
-abbrev pub AreSlotParts : Kind → Forms → (ℕ → List (List ℕ)) → Table → List Slot → List PartIn → Type 0
+abbrev pub AreSlotParts : Kind → Forms → (ℕ → List (List ℕ)) → Table → List ArraySlot → List PartIn → Type 0
 AreSlotParts kind forms values t [] [] = ⊤
 AreSlotParts kind forms values t [] (p ∷ parts) = ⊥
 AreSlotParts kind forms values t (slot ∷ slots) [] = ⊥

@@ -8,7 +8,7 @@ ghost use Rattle.otap_dicts.specs.Limits.{value_limit};
 ghost use Rattle.otap_columns.specs.declared.refusal.ColumnRefusal.{ColumnRefusal};
 ghost use Rattle.otap_columns.specs.declared.dictionary.TheConstants.{MAX_VALUES};
 ghost use Rattle.otap_columns.specs.Records.{IsRead, Stands, CanGoOn, IsJudged};
-ghost use Rattle.otap_columns.specs.Schemas.{Forms, is_there, FormsFit, item_in, schema_for, slots_for, IsSlot, IsFound};
+ghost use Rattle.otap_columns.specs.Schemas.{Forms, is_there, FormsFit, item_in, schema_for, slots_for, IsArraySlot, IsFound};
 ghost use Rattle.otap_columns.specs.Schemas.{Column, Items};
 ghost use Rattle.otap_columns.specs.Groups.{Member};
 ghost use Rattle.otap_columns.specs.Known.{known_column, place_at, columns_fit};
@@ -55,7 +55,7 @@ pub fn columns_make_a_schema()
     ensures readable { (kind : Kind) (forms : Forms) → FormsFit kind forms → IsReadable (schema_for kind forms) }
     ensures fits { (kind : Kind) (forms : Forms) → FormsFit kind forms → columns_fit kind (arrays_of (schema_for kind forms)) ≡ true }
     ensures count { (kind : Kind) (forms : Forms) → FormsFit kind forms → length (arrays_of (schema_for kind forms)) ≡ length (slots_for kind forms) }
-    ensures arrays { (kind : Kind) (forms : Forms) → FormsFit kind forms → (place : ℕ) (a : ArraySpec) → slice_get (arrays_of (schema_for kind forms)) place ≡ Some a → IsSlot kind forms place a }
+    ensures arrays { (kind : Kind) (forms : Forms) → FormsFit kind forms → (place : ℕ) (a : ArraySpec) → slice_get (arrays_of (schema_for kind forms)) place ≡ Some a → IsArraySlot kind forms place a }
     ensures items { (kind : Kind) (forms : Forms) → FormsFit kind forms → (place : ℕ) (m : Member) (item : ArrowType) → slice_get (slots_for kind forms) place ≡ Some (Column m)
         → item_in (column_at kind m.column).base ≡ Some item → slice_get (slots_for kind forms) (place + 1) ≡ Some (Items m.column) }
     ensures found { (kind : Kind) (forms : Forms) → FormsFit kind forms → (column : ℕ) → column < width_of kind → is_there (forms column) ≡ true → IsFound kind forms column }

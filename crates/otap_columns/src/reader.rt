@@ -110,7 +110,7 @@ impl Reader {
 }
 
 impl Reader {
-    ghost use Rattle.otap_columns.specs.ReaderInside.{Keeps};
+    ghost use Rattle.otap_columns.specs.ReaderInside.{KeepsReader};
     ghost use Rattle.arrow_ipc.specs.Fronts.{left_of, rest_of};
     ghost use Rattle.arrow_schema.specs.Readable.{IsReadable};
     ghost use Rattle.arrow_arrays.specs.Arrays.{arrays_of};
@@ -145,7 +145,7 @@ impl Reader {
     /// Takes the messages of a record, those after the schema.
     fn take_messages(&mut self, messages: &mut Messages<'_>) -> Result<(), ColumnRefusal>
         ensures ok { OnOk result (TakesRecord self.old messages.old self.new) }
-        ensures kept { Keeps self.old self.new }
+        ensures kept { KeepsReader self.old self.new }
         ensures err { IfErr result (RefusesRecord self.old.substream (front_of (rest_of messages.old)) (left_of (rest_of messages.old))) }
     {
         let batch = self.take_dictionaries(messages)?;
@@ -160,7 +160,7 @@ impl Reader {
         messages: &mut Messages<'a>,
     ) -> Result<BatchView<'a>, ColumnRefusal>
         ensures ok { IfOk result (TakesFront self.old messages.old self.new messages.new) }
-        ensures kept { Keeps self.old self.new }
+        ensures kept { KeepsReader self.old self.new }
         ensures err { IfErr result (RefusesFront self.old.substream (front_of (rest_of messages.old)) (left_of (rest_of messages.old))) }
     {
         'messages: loop {
@@ -179,7 +179,7 @@ impl Reader {
         ensures dictionary { IfOk result (λ found. IfNone found (TakesBatch self.old.substream messages.old messages.new self.new.substream)) }
         ensures rows { IfOk result (λ found. IfSome found (λ batch. PassesRows messages.old messages.new batch × (self.new.substream ≡ self.old.substream))) }
         ensures shorter { OnOk result (length (rest_of messages.new) < length (rest_of messages.old)) }
-        ensures kept { Keeps self.old self.new }
+        ensures kept { KeepsReader self.old self.new }
         ensures place { self.new.place ≡ self.old.place }
         ensures err { IfErr result (RefusesMessage self.old.substream (front_of (rest_of messages.old)) (left_of (rest_of messages.old))) }
     {

@@ -6,7 +6,7 @@ ghost use Rattle.otap_cells.specs.Columns.{width_of};
 ghost use Rattle.otap_cells.specs.Tables.{Table};
 ghost use Rattle.otap_cells.specs.Weights.{row_weight_limit, weight_of_table};
 ghost use Rattle.otap_columns.specs.Limits.{record_limit};
-ghost use Rattle.otap_columns.specs.WrittenPayloads.{IsRecord, IsWritable};
+ghost use Rattle.otap_columns.specs.WrittenPayloads.{IsRecord, IsWritableTable};
 ghost use Rattle.otap_columns.specs.Writers.{AreSeen, HasWritten, WritesRecord, is_started};
 ghost use Rattle.otap_columns.specs.WriterInside.{AreCounts, AreForms, IsReady, SeesAll};
 
@@ -63,7 +63,7 @@ impl Writer {
     /// is within `record_limit`, whatever was written before. After want of memory the writer is broken.
     pub fn write(&mut self, table: &LogicalTable) -> Result<Written, AllocError>
         requires wrote { (tables : List Table) × HasWritten tables self.old }
-        requires writable { IsWritable self.old.kind table.now }
+        requires writable { IsWritableTable self.old.kind table.now }
         requires light { weight_of_table table.now ≤ row_weight_limit }
         ensures writes { IfOk result (λ written. WritesRecord self.old table.now written.opens written.bytes.items self.new) }
         ensures bound { IfOk result (λ written. length written.bytes.items ≤ record_limit table.now) }
@@ -121,7 +121,7 @@ fn write_next(
     table: &LogicalTable,
 ) -> Result<Written, AllocError>
     requires ready { (tables : List Table) × IsReady tables table.now.kind started seen.old }
-    requires writable { IsWritable table.now.kind table.now }
+    requires writable { IsWritableTable table.now.kind table.now }
     requires light { weight_of_table table.now ≤ row_weight_limit }
     ensures record_is { IfOk result (λ written. (tables : List Table) → IsReady tables table.now.kind started seen.old → IsRecord table.now.kind tables table.now written.opens written.bytes.items) }
     ensures after { OnOk result ((tables : List Table) → IsReady tables table.now.kind started seen.old → AreSeen table.now.kind (tables ++ table.now ∷ []) seen.new) }
@@ -172,7 +172,7 @@ fn observe_all(
     table: &LogicalTable,
 ) -> Result<(), AllocError>
     requires count { length seen.old ≡ width_of table.now.kind }
-    requires writable { IsWritable table.now.kind table.now }
+    requires writable { IsWritableTable table.now.kind table.now }
     ensures { OnOk result (SeesAll table.now.kind table.now seen.old seen.new) }
 {
     let count = columns(table.kind()).len() as u32;

@@ -6,7 +6,7 @@ ghost use Rattle.otap_columns.specs.Limits.{record_limit};
 ghost use Rattle.otap_columns.specs.WrittenPayloads.{schema_if};
 ghost use Rattle.otap_columns.specs.Schemas.{FormsFit, is_dictionary, schema_for, type_in};
 ghost use Rattle.otap_columns.specs.WrittenGroups.{forms_in};
-ghost use Rattle.otap_columns.specs.WrittenRecords.{AddsAtMost, AddsHead, AddsHeads, AddsMessages, CanSend, IsRecordBy, from_in, head_most, heads_most, is_sent, schema_most};
+ghost use Rattle.otap_columns.specs.WrittenRecords.{AddsAtMost, AddsHead, AddsHeads, AddsMessages, CanSendColumn, IsRecordBy, from_in, head_most, heads_most, is_sent, schema_most};
 ghost use Rattle.otap_columns.specs.WrittenRows.{HasValues};
 ghost use Rattle.otap_columns.specs.BuiltRows.{CanWrite, columns_in};
 
@@ -62,7 +62,7 @@ fn add_head(
     from: u32,
 ) -> Result<(), AllocError>
     requires column { column < width_of kind }
-    requires can { is_dictionary form ≡ true → CanSend (base_at kind column) form from ladder.now.values }
+    requires can { is_dictionary form ≡ true → CanSendColumn (base_at kind column) form from ladder.now.values }
     ensures adds { OnOk result (AddsHead (type_in (base_at kind column) form) (is_sent opening form (drop from ladder.now.values)) (not opening) column (drop from ladder.now.values) to.old.items to.new.items) }
     ensures short { OnOk result (AddsAtMost (head_most form) to.old.items to.new.items) }
 {
@@ -107,7 +107,7 @@ fn add_heads(
 ) -> Result<(), AllocError>
     requires count { length seen.now ≡ width_of kind }
     requires can { (column : ℕ) → column < width_of kind → is_dictionary (forms_in forms.now column) ≡ true
-        → CanSend (base_at kind column) (forms_in forms.now column) (from_in opening counts.now column) (columns_in seen.now column) }
+        → CanSendColumn (base_at kind column) (forms_in forms.now column) (from_in opening counts.now column) (columns_in seen.now column) }
     ensures adds { OnOk result (AddsHeads kind opening (forms_in forms.now) (columns_in seen.now) counts.now (width_of kind) to.old.items to.new.items) }
     ensures short { OnOk result (AddsAtMost (heads_most (forms_in forms.now) (width_of kind)) to.old.items to.new.items) }
 {
@@ -135,7 +135,7 @@ pub(crate) fn record_of(
     requires fit { FormsFit table.now.kind (forms_in forms.now) }
     requires values { HasValues table.now.kind (forms_in forms.now) (columns_in seen.now) table.now }
     requires send { (column : ℕ) → column < width_of table.now.kind → is_dictionary (forms_in forms.now column) ≡ true
-        → CanSend (base_at table.now.kind column) (forms_in forms.now column) (from_in opening counts.now column) (columns_in seen.now column) }
+        → CanSendColumn (base_at table.now.kind column) (forms_in forms.now column) (from_in opening counts.now column) (columns_in seen.now column) }
     ensures record_is { IfOk result (λ bytes. IsRecordBy table.now.kind opening (forms_in forms.now) (columns_in seen.now) counts.now table.now bytes.items) }
     ensures short { IfOk result (λ bytes. length bytes.items ≤ record_limit table.now) }
 {

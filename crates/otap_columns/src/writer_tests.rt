@@ -5,7 +5,7 @@ ghost use Rattle.otap_cells.specs.ColumnIds.{stored_in};
 ghost use Rattle.otap_cells.specs.Continuing.{continues_in};
 ghost use Rattle.otap_cells.specs.Ids.{Ids};
 ghost use Rattle.otap_cells.specs.Tables.{Table, coding_in, greatest_wide};
-ghost use Rattle.otap_columns.specs.WrittenPayloads.{IsWritable};
+ghost use Rattle.otap_columns.specs.WrittenPayloads.{IsWritableTable};
 ghost use Rattle.otap_columns.specs.Writers.{HasWritten};
 
 use crate::{Writer, Written};
@@ -59,7 +59,7 @@ fn has_ids(
 }
 
 fn is_writable(alloc: Global, table: &LogicalTable) -> Result<bool, AllocError>
-    ensures { IfOk result (λ is. is ≡ true → IsWritable table.now.kind table.now) }
+    ensures { IfOk result (λ is. is ≡ true → IsWritableTable table.now.kind table.now) }
 {
     let continues = continuing_rows(alloc, table)?;
     if continues.len() as u64 != table.rows() {

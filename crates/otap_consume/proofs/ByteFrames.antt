@@ -4,7 +4,7 @@ use Rattle.std.specs.Prelude.{nat_lt, ◌==◌, ◌/◌, ◌%◌, ◌^◌, ◌&&
 use Rattle.std.specs.List.{AllByRecursion}
 use Rattle.otlp_wire.specs.declared.parts.WireError.{WireError}
 use Rattle.otlp_wire.specs.declared.parts.WireError.TheVariants.{Cut, BadVarint, BadTag}
-use Rattle.otlp_wire.specs.Fields.{Taken, going_on, first_varint, as_varint, as_part, as_fixed, first_value, with_number, after_tag, first_field, and_then, reading_in, fields_of}
+use Rattle.otlp_wire.specs.Fields.{WireRead, going_on, first_varint, as_varint, as_part, as_fixed, first_value, with_number, after_tag, first_field, and_then, reading_in, fields_of}
 use Rattle.otlp_wire.specs.Varint.{sevens}
 use Rattle.otlp_wire.specs.Wire.{FieldValue, Varint, Fixed64, Fixed32, Entry}
 use Rattle.otlp_wire.specs.Wire as wire
@@ -43,11 +43,11 @@ varint_bytes bytes fits =
 taken_ok : (value : FieldValue) (rest : List ℕ) → FieldBytes value → Bytes rest → IfOk {E = WireError} (Ok (value, rest)) ValueTaken
 taken_ok value rest own left = (own, left)
 
-as_varint_bytes : (r : Taken ℕ) → IfOk r NumberTaken → IfOk (as_varint r) ValueTaken
+as_varint_bytes : (r : WireRead ℕ) → IfOk r NumberTaken → IfOk (as_varint r) ValueTaken
 as_varint_bytes (Ok x) fits = (tt, fits)
 as_varint_bytes (Err e) fits = tt
 
-as_part_bytes : (r : Taken ℕ) → IfOk r NumberTaken → IfOk (as_part r) ValueTaken
+as_part_bytes : (r : WireRead ℕ) → IfOk r NumberTaken → IfOk (as_part r) ValueTaken
 as_part_bytes (Ok x) fits = ok_or ValueTaken (nat_lt (length x.1) x.0) Cut _ (taken_ok (wire.Bytes (take x.0 x.1)) (drop x.0 x.1) (bytes_take x.0 x.1 fits) (bytes_drop x.0 x.1 fits))
 as_part_bytes (Err e) fits = tt
 
@@ -61,11 +61,11 @@ value_taken t bytes fits =
     (either_or ValueTaken (t == 2) _ _ (as_part_bytes (first_varint bytes) (varint_bytes bytes fits))
     (either_or ValueTaken (t == 5) _ _ (as_fixed_bytes 4 (λ n. Fixed32 n) bytes (λ n. tt) fits) tt)))
 
-numbered_bytes : (n : ℕ) (r : Taken FieldValue) → IfOk r ValueTaken → IfOk (with_number n r) EntryTaken
+numbered_bytes : (n : ℕ) (r : WireRead FieldValue) → IfOk r ValueTaken → IfOk (with_number n r) EntryTaken
 numbered_bytes n (Ok x) fits = fits
 numbered_bytes n (Err e) fits = tt
 
-tag_bytes : (r : Taken ℕ) → IfOk r NumberTaken → IfOk (after_tag r) EntryTaken
+tag_bytes : (r : WireRead ℕ) → IfOk r NumberTaken → IfOk (after_tag r) EntryTaken
 tag_bytes (Ok x) fits =
     either_or EntryTaken (nat_lt 0 (x.0 / 8) && nat_lt (x.0 / 8) (2 ^ 29)) (with_number (x.0 / 8) (first_value (x.0 % 8) x.1)) (Err BadTag)
     (numbered_bytes (x.0 / 8) (first_value (x.0 % 8) x.1) (value_taken (x.0 % 8) x.1 fits)) tt
@@ -81,7 +81,7 @@ reading_bytes (suc most) [] fits = tt
 reading_bytes zero (byte ∷ bytes) fits = tt
 reading_bytes (suc most) (byte ∷ bytes) fits = go_on (first_field (byte ∷ bytes)) (field_taken (byte ∷ bytes) fits) (λ rest own. reading_bytes most rest own)
   where
-    go_on : (r : Taken Entry) → IfOk r EntryTaken → ((rest : List ℕ) → Bytes rest → AllByRecursion EntryBytes (reading_in most rest).fields)
+    go_on : (r : WireRead Entry) → IfOk r EntryTaken → ((rest : List ℕ) → Bytes rest → AllByRecursion EntryBytes (reading_in most rest).fields)
         → AllByRecursion EntryBytes (and_then (λ rest. reading_in most rest) r).fields
     go_on (Ok x) taken again = (taken.0, again x.1 taken.1)
     go_on (Err e) taken again = tt

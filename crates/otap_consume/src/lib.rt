@@ -23,15 +23,15 @@ mod taking;
 mod telemetry;
 mod views;
 
-pub use logs::Logs;
-pub use metrics::Metrics;
+pub use logs::LogTelemetry;
+pub use metrics::MetricTelemetry;
 pub use payload_types::{TypesRefusal, check_types};
 pub use receiver::Receiver;
 pub use refusal::{Cause, MAX_HELD, Refusal};
 pub use regrouped::Regrouped;
 pub use seen::Seen;
 pub use segment::Segment;
-pub use spans::Spans;
+pub use spans::SpanTelemetry;
 pub use taken::Taken;
 pub use telemetry::Telemetry;
 

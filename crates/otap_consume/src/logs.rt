@@ -13,9 +13,9 @@ use std::alloc::Global;
 
 /// Logs, as a receiver takes them.
 #[derive(Clone, Copy, Debug)]
-pub struct Logs;
+pub struct LogTelemetry;
 
-impl Telemetry for Logs {
+impl Telemetry for LogTelemetry {
     ghost meaning = { logs_meaning };
 
     fn signal() -> Signal {

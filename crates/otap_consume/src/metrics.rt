@@ -13,9 +13,9 @@ use std::alloc::Global;
 
 /// Metrics, as a receiver takes them.
 #[derive(Clone, Copy, Debug)]
-pub struct Metrics;
+pub struct MetricTelemetry;
 
-impl Telemetry for Metrics {
+impl Telemetry for MetricTelemetry {
     ghost meaning = { metrics_meaning };
 
     fn signal() -> Signal {

@@ -13,9 +13,9 @@ use std::alloc::Global;
 
 /// Spans, as a receiver takes them.
 #[derive(Clone, Copy, Debug)]
-pub struct Spans;
+pub struct SpanTelemetry;
 
-impl Telemetry for Spans {
+impl Telemetry for SpanTelemetry {
     ghost meaning = { spans_meaning };
 
     fn signal() -> Signal {

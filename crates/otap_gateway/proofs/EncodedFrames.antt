@@ -10,7 +10,7 @@ use Rattle.otap_produce.specs.Limits.{batch_limit}
 use Rattle.otap_produce.specs.Policy.{SignalRows}
 use Rattle.otap_transit.specs.Sendings.{Sending, Sent, Reset, AreAllowed, requests_since, messages_since}
 use Rattle.otlp_codec.specs.declared.refusal.ReadRefusal.{ReadRefusal}
-use Rattle.otlp_codec.specs.Refusals.{Names, refusal_of}
+use Rattle.otlp_codec.specs.Refusals.{HoldsNamed, refusal_of}
 use Rattle.otlp_codec.specs.Requests.{Reads, Stands}
 use Rattle.otlp_messages.specs.declared.messages.Defect.{Defect}
 use Rattle.otlp_messages.specs.declared.messages.Defect.TheVariants as defects
@@ -61,7 +61,7 @@ module _ (rows : SignalRows) where
   frame_unreadable e number bytes defect reply stands says =
       rw says (frame_refused e number (Message bytes) (defect_text defect) (λ os. EncodedAfter.unreadable bytes defect stands))
 
-  named_stands : (defect : Defect) (P : Defect → Type 0) → Names (refusal_of defect) P → P defect
+  named_stands : (defect : Defect) (P : Defect → Type 0) → HoldsNamed (refusal_of defect) P → P defect
   named_stands defects.BadMessage P so = so
   named_stands defects.Repeated P so = so
   named_stands defects.BadUtf8 P so = so
@@ -69,11 +69,11 @@ module _ (rows : SignalRows) where
   named_stands defects.Unsupported P so = so
   named_stands defects.TooDeep P so = so
 
-  pub frame_named : (e : ExporterIn) (number : ℕ) (bytes : List ℕ) (refusal : ReadRefusal) (name : List ℕ) → NamesDefect refusal name → Names refusal (Stands rows.signal bytes)
+  pub frame_named : (e : ExporterIn) (number : ℕ) (bytes : List ℕ) (refusal : ReadRefusal) (name : List ℕ) → NamesDefect refusal name → HoldsNamed refusal (Stands rows.signal bytes)
       → (reply : ReplyText) → reply ≡ refused_request number name → EncodesFrame rows e e number (Message bytes) reply
   frame_named e number bytes refusal name n so reply says =
       frame_unreadable e number bytes n.defect reply
-      (named_stands n.defect (Stands rows.signal bytes) (subst (λ (r : ReadRefusal). Names r (Stands rows.signal bytes)) n.same so))
+      (named_stands n.defect (Stands rows.signal bytes) (subst (λ (r : ReadRefusal). HoldsNamed r (Stands rows.signal bytes)) n.same so))
       (says ∙ ap (refused_request number) n.text)
 
   pub frame_reset : (old new : ExporterIn) (number : ℕ) (reply : ReplyText) → StandsFor rows [] [] new → reply ≡ printed reset_frame

@@ -18,7 +18,7 @@ use Rattle.otlp_load.specs.Load.{generated, requests_at_most}
 use Rattle.otlp_model.specs.declared.request.Request.{Request}
 use Rattle.otlp_model.specs.declared.request.Signal.{Signal}
 use Rattle.otap_gateway.specs.declared.opened.Opened.{Opened}
-use Rattle.otap_gateway.specs.Loading.{HasCounted, Counts, HasLoaded, IsLoading, LoadsNext}
+use Rattle.otap_gateway.specs.Loading.{HasCounted, CountsPayloads, HasLoaded, IsLoading, LoadsNext}
 use Rattle.otap_gateway.specs.Loads.{first_requests}
 
 requests_more : (s : Signal) (n : ℕ) → first_requests s (n + 1) ≡ first_requests s n ++ generated s n ∷ []
@@ -38,7 +38,7 @@ module _ (rows : SignalRows) where
       omega arith
 
   pub loads_next : (n : ℕ) (e e' : ExporterIn) (o o' : Opened) (message : List ℕ) → Exports rows (generated rows.signal n) e e' message
-      → Counts (payloads_in message) o o' → LoadsNext rows n e e' o o' message
+      → CountsPayloads (payloads_in message) o o' → LoadsNext rows n e e' o o' message
   loads_next n e e' o o' message exports counts = record {
     after = λ messages has. record {
       stands = subst (λ qs. StandsFor rows qs (messages ++ message ∷ []) e') (sym (requests_more rows.signal n)) (exports.stands (first_requests rows.signal n) messages has.stands);

@@ -16,7 +16,7 @@ use Rattle.otap_columns.proofs.Openings.{open_id-own, open_id-other}
 use Rattle.otap_produce.proofs.Counting.{if_opens, openings-none, openings-push}
 use Rattle.otap_transit.proofs.SchemaIds.{stays_open}
 use Rattle.otap_gateway.specs.declared.opened.Opened.{Opened}
-use Rattle.otap_gateway.specs.Loading.{HasCounted, Counts, CountsFront, Opens}
+use Rattle.otap_gateway.specs.Loading.{HasCounted, CountsPayloads, CountsFront, Opens}
 
 none_open : (kind : ℤ) → open_id kind [] ≡ None
 unfolding open_id
@@ -33,7 +33,7 @@ id_stays past p stays kind =
       | inr other ↦ open_id-other kind past p other
     ]
 
-pub counted_still : (o : Opened) (p : PayloadIn) → ((past : List PayloadIn) → HasCounted past o → opens past p ≡ false) → Counts (p ∷ []) o o
+pub counted_still : (o : Opened) (p : PayloadIn) → ((past : List PayloadIn) → HasCounted past o → opens past p ≡ false) → CountsPayloads (p ∷ []) o o
 counted_still o p stays = record {
   after = λ past has. record {
     ids = λ kind. has.ids kind ∙ sym (id_stays past p (stays past has) kind);
@@ -41,7 +41,7 @@ counted_still o p stays = record {
   };
 }
 
-pub counted_more : (old new : Opened) (p : PayloadIn) → ((past : List PayloadIn) → HasCounted past old → opens past p ≡ true) → Opens p.kind p.schema_id old new → Counts (p ∷ []) old new
+pub counted_more : (old new : Opened) (p : PayloadIn) → ((past : List PayloadIn) → HasCounted past old → opens past p ≡ true) → Opens p.kind p.schema_id old new → CountsPayloads (p ∷ []) old new
 counted_more old new p opened opens = record {
   after = λ past has. record {
     ids = λ kind. elim (cases_Bool (is_of kind p)) [
@@ -78,7 +78,7 @@ opens_unknown o past p found has =
 
 -- ---- all payloads of a message
 
-pub front_more : (all left : List PayloadIn) (p : PayloadIn) (old mid new : Opened) → CountsFront all (p ∷ left) old mid → Counts (p ∷ []) mid new → CountsFront all left old new
+pub front_more : (all left : List PayloadIn) (p : PayloadIn) (old mid new : Opened) → CountsFront all (p ∷ left) old mid → CountsPayloads (p ∷ []) mid new → CountsFront all left old new
 front_more all left p old mid new so_far one = record {
   done = so_far.done ++ p ∷ [];
   split = append_assoc so_far.done (p ∷ []) left ∙ so_far.split;
@@ -108,6 +108,6 @@ other_id m n k kind id put other =
     ]
 
 pub ok_counted : {E : Type 0} (old new : Opened) (p : PayloadIn) (r : Result (Unit {0}) E) → ((past : List PayloadIn) → HasCounted past old → opens past p ≡ true)
-    → OnOk r (Opens p.kind p.schema_id old new) → OnOk r (Counts (p ∷ []) old new)
+    → OnOk r (Opens p.kind p.schema_id old new) → OnOk r (CountsPayloads (p ∷ []) old new)
 ok_counted old new p (Ok x) opened opens = counted_more old new p opened opens
 ok_counted old new p (Err e) opened opens = tt

@@ -22,7 +22,7 @@ pub record HasCounted (payloads : List PayloadIn) (o : Opened) : Type 0 where
   pub count : o.count ≡ openings payloads
 
 -- whatever was counted before: these payloads are counted too
-pub record Counts (payloads : List PayloadIn) (old new : Opened) : Type 0 where
+pub record CountsPayloads (payloads : List PayloadIn) (old new : Opened) : Type 0 where
   pub after : (past : List PayloadIn) → HasCounted past old → HasCounted (past ++ payloads) new
 
 -- one more sub-stream is opened, for this type and by this id
@@ -35,7 +35,7 @@ pub record Opens (kind : ℤ) (id : List ℕ) (old new : Opened) : Type 0 where
 pub record CountsFront (all left : List PayloadIn) (old new : Opened) : Type 0 where
   pub done : List PayloadIn
   pub split : done ++ left ≡ all
-  pub counts : Counts done old new
+  pub counts : CountsPayloads done old new
 
 -- ---- the requests
 

@@ -3,7 +3,7 @@ ghost use Rattle.std.specs.Prelude.{◌≡◌, ◌∷◌, [], List, OnOk, not};
 ghost use Rattle.lists.specs.Payloads.{PayloadIn};
 ghost use Rattle.otap_capture.specs.Batch.{ReadsBatch, batch_in, content_of, payloads_in};
 ghost use Rattle.otap_columns.specs.Streams.{opens};
-ghost use Rattle.otap_gateway.specs.Loading.{Counts, HasCounted, Opens};
+ghost use Rattle.otap_gateway.specs.Loading.{CountsPayloads, HasCounted, Opens};
 
 use otap_capture::{Payload, one_batch, read_batch};
 use std::alloc::{AllocError, Global};
@@ -39,7 +39,7 @@ impl Opened {
     /// Counts the payloads of a batch message.
     pub(crate) fn add(&mut self, message: &[u8]) -> Result<(), AllocError>
         requires { ReadsBatch message.now (batch_in message.now) }
-        ensures { OnOk result (Counts (payloads_in message.now) self.old self.new) }
+        ensures { OnOk result (CountsPayloads (payloads_in message.now) self.old self.new) }
     {
         one_batch();
         let Ok(batch) = read_batch(message) else {
@@ -52,7 +52,7 @@ impl Opened {
     }
 
     fn add_payload(&mut self, payload: &Payload<'_>) -> Result<(), AllocError>
-        ensures { OnOk result (Counts (content_of payload.now ∷ []) self.old self.new) }
+        ensures { OnOk result (CountsPayloads (content_of payload.now ∷ []) self.old self.new) }
     {
         if self.is_open(payload) {
             return Ok(());

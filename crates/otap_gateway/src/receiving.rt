@@ -12,7 +12,7 @@ ghost use Rattle.otap_gateway.specs.Receptions.{line_of, meaning_of};
 use crate::causes::cause_name;
 use crate::lines::refused_line;
 use crate::reply::Reply;
-use otap_consume::{Logs, Metrics, Refusal, Spans, Telemetry};
+use otap_consume::{LogTelemetry, MetricTelemetry, Refusal, SpanTelemetry, Telemetry};
 use std::alloc::{AllocError, Global};
 
 /// A signal that the jobs of a receiver serve: its tables mean what the texts say of them.
@@ -25,7 +25,7 @@ pub(crate) trait Serves: Telemetry {
         → Receives Self.meaning old frame new taken → Receives (meaning_of served) old frame new taken };
 }
 
-impl Serves for Spans {
+impl Serves for SpanTelemetry {
     ghost use Rattle.std.specs.Prelude.{refl};
 
     ghost served = { signals.Traces };
@@ -35,7 +35,7 @@ impl Serves for Spans {
     ghost receives = { λ old frame new taken receives. receives };
 }
 
-impl Serves for Logs {
+impl Serves for LogTelemetry {
     ghost use Rattle.std.specs.Prelude.{refl};
 
     ghost served = { signals.Logs };
@@ -45,7 +45,7 @@ impl Serves for Logs {
     ghost receives = { λ old frame new taken receives. receives };
 }
 
-impl Serves for Metrics {
+impl Serves for MetricTelemetry {
     ghost use Rattle.std.specs.Prelude.{refl};
 
     ghost served = { signals.Metrics };

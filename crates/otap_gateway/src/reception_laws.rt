@@ -16,7 +16,7 @@ ghost use Rattle.otap_gateway.specs.Texts.{HaveTexts};
 ghost use Rattle.otap_gateway.specs.Told.{told};
 
 use otap_consume::receiving_laws::received_some_outcome;
-use otap_consume::{Logs, Metrics, Spans};
+use otap_consume::{LogTelemetry, MetricTelemetry, SpanTelemetry};
 
 /// One list of outcomes of the frames of a capture gives what `decode`, what `status` and what `replay` may write.
 pub fn outcomes_give_the_texts()
@@ -43,9 +43,9 @@ pub fn captures_have_texts()
     ensures { (signal : Signal) (bytes : List ℕ) (frames : List Frame) (end : Option Damage) → All (λ byte. byte < 256) bytes → IsCapture bytes frames end
         → HaveTexts signal frames }
 {
-    received_some_outcome::<Spans>();
-    received_some_outcome::<Logs>();
-    received_some_outcome::<Metrics>();
+    received_some_outcome::<SpanTelemetry>();
+    received_some_outcome::<LogTelemetry>();
+    received_some_outcome::<MetricTelemetry>();
 }
 
 /// The message of a refused batch's status is what the line of the refusal says from its stage on.

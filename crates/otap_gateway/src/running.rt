@@ -20,7 +20,7 @@ use crate::stop::{Stop, Tally, status, words_status};
 use crate::tidy::Tidier;
 use crate::words::Words;
 use otap_capture::{Sink, Source, write_whole};
-use otap_consume::{Logs, Metrics, Spans};
+use otap_consume::{LogTelemetry, MetricTelemetry, SpanTelemetry};
 use otap_produce::{LogTables, MetricTables, SpanTables};
 use otlp_model::Signal;
 use std::alloc::Global;
@@ -83,15 +83,15 @@ fn run_job<S: Source, O: Sink, E: Sink>(
         Command::Encode(Signal::Metrics) => encode(alloc, MetricTables, source, out, err),
         Command::Schema(signal) => drive(alloc, &mut SchemaLister::new(signal), source, out, err),
         Command::Show(signal) => show(alloc, signal, source, out, err),
-        Command::Decode(Signal::Traces) => decode(alloc, Spans, source, out, err),
-        Command::Decode(Signal::Logs) => decode(alloc, Logs, source, out, err),
-        Command::Decode(Signal::Metrics) => decode(alloc, Metrics, source, out, err),
-        Command::Status(Signal::Traces) => tell_statuses(alloc, Spans, source, out, err),
-        Command::Status(Signal::Logs) => tell_statuses(alloc, Logs, source, out, err),
-        Command::Status(Signal::Metrics) => tell_statuses(alloc, Metrics, source, out, err),
-        Command::Replay(Signal::Traces) => replay(alloc, Spans, source, out, err),
-        Command::Replay(Signal::Logs) => replay(alloc, Logs, source, out, err),
-        Command::Replay(Signal::Metrics) => replay(alloc, Metrics, source, out, err),
+        Command::Decode(Signal::Traces) => decode(alloc, SpanTelemetry, source, out, err),
+        Command::Decode(Signal::Logs) => decode(alloc, LogTelemetry, source, out, err),
+        Command::Decode(Signal::Metrics) => decode(alloc, MetricTelemetry, source, out, err),
+        Command::Status(Signal::Traces) => tell_statuses(alloc, SpanTelemetry, source, out, err),
+        Command::Status(Signal::Logs) => tell_statuses(alloc, LogTelemetry, source, out, err),
+        Command::Status(Signal::Metrics) => tell_statuses(alloc, MetricTelemetry, source, out, err),
+        Command::Replay(Signal::Traces) => replay(alloc, SpanTelemetry, source, out, err),
+        Command::Replay(Signal::Logs) => replay(alloc, LogTelemetry, source, out, err),
+        Command::Replay(Signal::Metrics) => replay(alloc, MetricTelemetry, source, out, err),
     }
 }
 

@@ -6,14 +6,14 @@ ghost use Rattle.otap_gateway.specs.Encoding.{Arrives, rows_of};
 ghost use Rattle.otap_gateway.specs.Receptions.{meaning_of};
 ghost use Rattle.otap_transit.specs.Sendings.{AreAllowed, Sending};
 
-use otap_consume::{Logs, Metrics, Spans};
+use otap_consume::{LogTelemetry, MetricTelemetry, SpanTelemetry};
 use otap_produce::{LogTables, MetricTables, SpanTables, Tabled};
 use otap_transit::laws::{
     logs_are_faithful, metrics_are_faithful, spans_are_faithful, what_is_sent_arrives,
 };
 
 /// A signal that the jobs of an exporter serve: its requests are written as tables that mean the same.
-pub(crate) trait Sends: Tabled {
+pub(crate) trait SendsLoad: Tabled {
     ghost served: { Signal };
 
     /// Law: what is sent arrives.
@@ -23,39 +23,39 @@ pub(crate) trait Sends: Tabled {
     ghost of_rows: { Self.rows ≡ rows_of served };
 }
 
-impl Sends for SpanTables {
+impl SendsLoad for SpanTables {
     ghost use Rattle.std.specs.Prelude.{refl};
 
     ghost served = { signals.Traces };
 
     fn what_is_sent_arrives() {
-        what_is_sent_arrives::<Spans>();
+        what_is_sent_arrives::<SpanTelemetry>();
         spans_are_faithful();
     }
 
     ghost of_rows = { refl };
 }
 
-impl Sends for LogTables {
+impl SendsLoad for LogTables {
     ghost use Rattle.std.specs.Prelude.{refl};
 
     ghost served = { signals.Logs };
 
     fn what_is_sent_arrives() {
-        what_is_sent_arrives::<Logs>();
+        what_is_sent_arrives::<LogTelemetry>();
         logs_are_faithful();
     }
 
     ghost of_rows = { refl };
 }
 
-impl Sends for MetricTables {
+impl SendsLoad for MetricTables {
     ghost use Rattle.std.specs.Prelude.{refl};
 
     ghost served = { signals.Metrics };
 
     fn what_is_sent_arrives() {
-        what_is_sent_arrives::<Metrics>();
+        what_is_sent_arrives::<MetricTelemetry>();
         metrics_are_faithful();
     }
 

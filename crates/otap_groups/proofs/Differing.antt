@@ -8,7 +8,7 @@ use Rattle.std.proofs.lemmas.Bool.{and_from, and_parts, cases_Bool, eq-eqb, eqb-
 use Rattle.std.proofs.lemmas.List.{get_or_default}
 use Rattle.std.proofs.lemmas.List.FromFn.{get_or-map-range_with_len, length-map-range_with_len}
 use Rattle.otap_cells.specs.Cells.{Cell}
-use Rattle.otap_groups.specs.declared.entry.Entry.{Entry}
+use Rattle.otap_groups.specs.declared.entry.ChildEntry.{ChildEntry}
 use Rattle.otap_groups.specs.Rows.{MainRow, cells_are}
 use Rattle.otap_groups.specs.Disagree.{DifferBy}
 use Rattle.otap_groups.specs.Inside.{blank, clash, entries_from, part}
@@ -17,19 +17,19 @@ use Rattle.otap_groups.proofs.CellTests.{cells_are_themselves, cells_told}
 
 -- ---- which entries there are
 
-abbrev In : Entry → List Entry → Type 0
+abbrev In : ChildEntry → List ChildEntry → Type 0
 In x [] = ⊥
 In x (y ∷ ys) = (y ≡ x) ⊎ In x ys
 
-in_filter : (parent : ℕ) (x : Entry) (es : List Entry) → In x es → (x.parent == parent) ≡ true → In x (of_parent parent es)
+in_filter : (parent : ℕ) (x : ChildEntry) (es : List ChildEntry) → In x es → (x.parent == parent) ≡ true → In x (of_parent parent es)
 in_filter parent x [] there passes = absurd there
-in_filter parent x (e ∷ es) (inl is) passes = let hit : (e.parent == parent) ≡ true = ap (λ (y : Entry). y.parent == parent) is ∙ passes in rw hit (inl is)
+in_filter parent x (e ∷ es) (inl is) passes = let hit : (e.parent == parent) ≡ true = ap (λ (y : ChildEntry). y.parent == parent) is ∙ passes in rw hit (inl is)
 in_filter parent x (e ∷ es) (inr there) passes = by (cases_Bool (e.parent == parent)) (in_filter parent x es there passes) where
   by : (((e.parent == parent) ≡ true) ⊎ ((e.parent == parent) ≡ false)) → In x (of_parent parent es) → In x (of_parent parent (e ∷ es))
   by (inl hit) rest = rw hit (inr rest)
   by (inr miss) rest = rw miss rest
 
-in_whole : (parent : ℕ) (x : Entry) (es : List Entry) → In x (of_parent parent es) → In x es
+in_whole : (parent : ℕ) (x : ChildEntry) (es : List ChildEntry) → In x (of_parent parent es) → In x es
 in_whole parent x [] there = absurd there
 in_whole parent x (e ∷ es) there = by (e.parent == parent) there (in_whole parent x es) where
   by : (b : Bool) → In x (cond b (e ∷ of_parent parent es) (of_parent parent es)) → (In x (of_parent parent es) → In x es) → (e ≡ x) ⊎ In x es
@@ -37,12 +37,12 @@ in_whole parent x (e ∷ es) there = by (e.parent == parent) there (in_whole par
   by true (inr there) ih = inr (ih there)
   by false there ih = inr (ih there)
 
-record PlaceAmong (x : Entry) (es : List Entry) : Type 0 where
+record PlaceAmong (x : ChildEntry) (es : List ChildEntry) : Type 0 where
   at : ℕ
   within : at < length es
-  is : (d : Entry) → get_or es at d ≡ x
+  is : (d : ChildEntry) → get_or es at d ≡ x
 
-place_of : (x : Entry) (es : List Entry) → In x es → PlaceAmong x es
+place_of : (x : ChildEntry) (es : List ChildEntry) → In x es → PlaceAmong x es
 place_of x [] there = absurd there
 place_of x (e ∷ es) (inl is) = record { at = 0; within = omega arith; is = λ d. is }
 place_of x (e ∷ es) (inr there) =
@@ -74,13 +74,13 @@ clash_no p q false h same = absurd (false≢true (sym h ∙ and_from (p == q) tr
 
 module _ (id : MainRow → Option ℕ) (cells : MainRow → List Cell) (row : ℕ → MainRow) where
   -- entries of one parent have equal cells
-  abbrev pub Agreeing : List Entry → ℕ → Type 0
-  Agreeing es n = (i j : ℕ) (d : Entry) → i ≤ j → j < n → (get_or es i d).parent ≡ (get_or es j d).parent → cells (row (get_or es i d).place) ≡ cells (row (get_or es j d).place)
+  abbrev pub Agreeing : List ChildEntry → ℕ → Type 0
+  Agreeing es n = (i j : ℕ) (d : ChildEntry) → i ≤ j → j < n → (get_or es i d).parent ≡ (get_or es j d).parent → cells (row (get_or es i d).place) ≡ cells (row (get_or es j d).place)
 
-  pub agreeing_first : (es : List Entry) → Agreeing es 1
+  pub agreeing_first : (es : List ChildEntry) → Agreeing es 1
   agreeing_first es i j d low within same = let e : i ≡ j = omega arith in ap (λ k. cells (row (get_or es k d).place)) e
 
-  at_last : (es : List Entry) (n i : ℕ) (d : Entry) → IsNonDecreasingBy (λ (e : Entry). e.parent) es → 0 < n → n < length es
+  at_last : (es : List ChildEntry) (n i : ℕ) (d : ChildEntry) → IsNonDecreasingBy (λ (e : ChildEntry). e.parent) es → 0 < n → n < length es
       → ((get_or es (n - 1) d).parent ≡ (get_or es n d).parent → cells (row (get_or es (n - 1) d).place) ≡ cells (row (get_or es n d).place))
       → Agreeing es n → i < n → (get_or es i d).parent ≡ (get_or es n d).parent → cells (row (get_or es i d).place) ≡ cells (row (get_or es n d).place)
   at_last es n i d rising some within step agree low same =
@@ -94,7 +94,7 @@ module _ (id : MainRow → Option ℕ) (cells : MainRow → List Cell) (row : �
   cases i n h = grind (arith, nat_tests)
 
   -- one more entry, which doesn't clash with the one before it
-  pub agreeing_more : (es : List Entry) (n : ℕ) → IsNonDecreasingBy (λ (e : Entry). e.parent) es → 1 ≤ n → n < length es
+  pub agreeing_more : (es : List ChildEntry) (n : ℕ) → IsNonDecreasingBy (λ (e : ChildEntry). e.parent) es → 1 ≤ n → n < length es
       → clash cells row (get_or es (n - 1) blank) (get_or es n blank) ≡ false → Agreeing es n → Agreeing es (n + 1)
   agreeing_more es n rising some within free agree i j d low below same = outer (cases j n (omega arith)) where
     step : (get_or es (n - 1) d).parent ≡ (get_or es n d).parent → cells (row (get_or es (n - 1) d).place) ≡ cells (row (get_or es n d).place)
@@ -102,8 +102,8 @@ module _ (id : MainRow → Option ℕ) (cells : MainRow → List Cell) (row : �
         let before : get_or es (n - 1) blank ≡ get_or es (n - 1) d = get_or_default es (n - 1) blank d (omega arith) in
         let here : get_or es n blank ≡ get_or es n d = get_or_default es n blank d within in
         let equal : cells_are (cells (row (get_or es (n - 1) blank).place)) (cells (row (get_or es n blank).place)) ≡ true =
-        clash_no _ _ _ free (ap (λ (e : Entry). e.parent) before ∙ one ∙ sym (ap (λ (e : Entry). e.parent) here)) in
-        sym (ap (λ (e : Entry). cells (row e.place)) before) ∙ cells_told _ _ equal ∙ ap (λ (e : Entry). cells (row e.place)) here
+        clash_no _ _ _ free (ap (λ (e : ChildEntry). e.parent) before ∙ one ∙ sym (ap (λ (e : ChildEntry). e.parent) here)) in
+        sym (ap (λ (e : ChildEntry). cells (row e.place)) before) ∙ cells_told _ _ equal ∙ ap (λ (e : ChildEntry). cells (row e.place)) here
 
     inner : (j ≡ n) → ((i < n) ⊎ (i ≡ n)) → cells (row (get_or es i d).place) ≡ cells (row (get_or es j d).place)
     inner last (inl earlier) =
@@ -122,7 +122,7 @@ module _ (id : MainRow → Option ℕ) (cells : MainRow → List Cell) (row : �
   id_of n p ids are within =
       ap (λ xs. get_or xs p None) (are ∙ map_map (range_with_len 0 n)) ∙ get_or-map-range_with_len (λ k. id (row k)) 0 n p p None within (omega arith)
 
-  yes_from : (n : ℕ) (a b : Entry) → a.place < n → b.place < n → id (row a.place) ≡ Some a.parent → id (row b.place) ≡ Some b.parent → a.parent ≡ b.parent
+  yes_from : (n : ℕ) (a b : ChildEntry) → a.place < n → b.place < n → id (row a.place) ≡ Some a.parent → id (row b.place) ≡ Some b.parent → a.parent ≡ b.parent
       → cells_are (cells (row a.place)) (cells (row b.place)) ≡ false → DifferBy id cells (part row 0 n)
   yes_from n a b in_a in_b named_a named_b same differ = record {
     shared = b.parent;
@@ -136,8 +136,8 @@ module _ (id : MainRow → Option ℕ) (cells : MainRow → List Cell) (row : �
   }
 
   -- entries that clash are rows that differ
-  pub yes_ : (n k : ℕ) (ids : List (Option ℕ)) (es : List Entry) → ids ≡ map id (part row 0 n) → 1 ≤ k → k < length es → All (λ (e : Entry). e.place < n) es
-      → All (λ (e : Entry). get_or ids e.place None ≡ Some e.parent) es
+  pub yes_ : (n k : ℕ) (ids : List (Option ℕ)) (es : List ChildEntry) → ids ≡ map id (part row 0 n) → 1 ≤ k → k < length es → All (λ (e : ChildEntry). e.place < n) es
+      → All (λ (e : ChildEntry). get_or ids e.place None ≡ Some e.parent) es
       → clash cells row (get_or es (k - 1) blank) (get_or es k blank) ≡ true → DifferBy id cells (part row 0 n)
   yes_ n k ids es are some within below named clashes =
       let told = clash_yes _ _ _ clashes in
@@ -152,7 +152,7 @@ module _ (id : MainRow → Option ℕ) (cells : MainRow → List Cell) (row : �
       let within : has.0 < n = subst (λ m. has.0 < m) (length-map-range_with_len row 0 n) has.1 in
       (within, sym (get_or-map-range_with_len row 0 n has.0 has.0 a within (omega arith)) ∙ has.2)
 
-  entry_place : (n p k : ℕ) (a : MainRow) (ids : List (Option ℕ)) (es : List Entry) → ids ≡ map id (part row 0 n)
+  entry_place : (n p k : ℕ) (a : MainRow) (ids : List (Option ℕ)) (es : List ChildEntry) → ids ≡ map id (part row 0 n)
       → ((parent : ℕ) → of_parent parent es ≡ of_parent parent (entries_from 0 ids)) → k < n → row k ≡ a → id a ≡ Some p → PlaceAmong (record { parent = p; place = k }) es
   entry_place n p k a ids es are same within is named =
       let at : get_or ids k None ≡ Some p = id_of n k ids are within ∙ ap id is ∙ named in
@@ -162,14 +162,14 @@ module _ (id : MainRow → Option ℕ) (cells : MainRow → List Cell) (row : �
       let filtered = in_filter p (record { parent = p; place = k }) (entries_from 0 ids) inside (eq-eqb p p refl) in
       place_of _ es (in_whole p (record { parent = p; place = k }) es (subst (λ xs. In (record { parent = p; place = k }) xs) (sym (same p)) filtered))
 
-  meet : (es : List Entry) (x y : Entry) (i j : ℕ) → Agreeing es (length es) → i ≤ j → j < length es → ((d : Entry) → get_or es i d ≡ x) → ((d : Entry) → get_or es j d ≡ y)
+  meet : (es : List ChildEntry) (x y : ChildEntry) (i j : ℕ) → Agreeing es (length es) → i ≤ j → j < length es → ((d : ChildEntry) → get_or es i d ≡ x) → ((d : ChildEntry) → get_or es j d ≡ y)
       → x.parent ≡ y.parent → cells (row x.place) ≡ cells (row y.place)
   meet es x y i j agree low within is_x is_y same =
-      sym (ap (λ (e : Entry). cells (row e.place)) (is_x x))
-      ∙ agree i j x low within (ap (λ (e : Entry). e.parent) (is_x x) ∙ same ∙ sym (ap (λ (e : Entry). e.parent) (is_y x)))
-      ∙ ap (λ (e : Entry). cells (row e.place)) (is_y x)
+      sym (ap (λ (e : ChildEntry). cells (row e.place)) (is_x x))
+      ∙ agree i j x low within (ap (λ (e : ChildEntry). e.parent) (is_x x) ∙ same ∙ sym (ap (λ (e : ChildEntry). e.parent) (is_y x)))
+      ∙ ap (λ (e : ChildEntry). cells (row e.place)) (is_y x)
 
-  pub no_ : (n : ℕ) (ids : List (Option ℕ)) (es : List Entry) → ids ≡ map id (part row 0 n)
+  pub no_ : (n : ℕ) (ids : List (Option ℕ)) (es : List ChildEntry) → ids ≡ map id (part row 0 n)
       → ((parent : ℕ) → of_parent parent es ≡ of_parent parent (entries_from 0 ids)) → Agreeing es (length es) → DifferBy id cells (part row 0 n) → ⊥
   no_ n ids es are same agree h =
       let in_a = placed_row n h.a h.first in

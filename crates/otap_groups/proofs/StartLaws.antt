@@ -5,8 +5,8 @@ use Rattle.std.specs.List.Sorted.{IsNonDecreasingBy}
 use Rattle.std.proofs.lemmas.Bool.{cases_Bool}
 use Rattle.std.proofs.lemmas.Bool.Decides.{nat_tests}
 use Rattle.std.proofs.lemmas.List.{get_or_default, get_or-drop}
-use Rattle.otap_groups.specs.declared.entry.Entry.{Entry}
-use Rattle.otap_groups.specs.Inside.{AreStarts, Begins, blank}
+use Rattle.otap_groups.specs.declared.entry.ChildEntry.{ChildEntry}
+use Rattle.otap_groups.specs.Inside.{AreStarts, BeginsParent, blank}
 use Rattle.otap_groups.specs.Found.{of_parent}
 use Rattle.otap_groups.proofs.IndexLaws.{part_of_rest}
 
@@ -28,7 +28,7 @@ below_is m n h = grind (arith, nat_tests)
 not_below_is : (m n : ℕ) → nat_lt m n ≡ false → n ≤ m
 not_below_is m n h = grind (arith, nat_tests)
 
-pub starts_rise : (parent : ℕ) (es : List Entry) (from to : ℕ) → Begins es parent from → Begins es (parent + 1) to → from ≤ to
+pub starts_rise : (parent : ℕ) (es : List ChildEntry) (from to : ℕ) → BeginsParent es parent from → BeginsParent es (parent + 1) to → from ≤ to
 starts_rise parent es from to low high = by (cases_Bool (nat_lt to from)) where
   by : ((nat_lt to from ≡ true) ⊎ (nat_lt to from ≡ false)) → from ≤ to
   by (inl h) =
@@ -38,7 +38,7 @@ starts_rise parent es from to low high = by (cases_Bool (nat_lt to from)) where
       absurd (omega (arith, low.before to blank w, high.after to blank same inside))
   by (inr h) = not_below_is to from h
 
-pub part_between : (parent : ℕ) (es rest : List Entry) (from to : ℕ) → rest ≡ drop from es → Begins es parent from → Begins es (parent + 1) to
+pub part_between : (parent : ℕ) (es rest : List ChildEntry) (from to : ℕ) → rest ≡ drop from es → BeginsParent es parent from → BeginsParent es (parent + 1) to
     → take (to - from) rest ≡ of_parent parent es
 part_between parent es rest from to is low high =
     let in_rest : to - from ≤ length rest = omega (arith, ap length is, length-drop from es, high.within) in
@@ -56,12 +56,12 @@ part_between parent es rest from to is low high =
     )
 
 -- the starts that are told once the entries before a place were looked at
-pub record StartsBefore (es : List Entry) (starts : List ℕ) (place : ℕ) : Type 0 where
+pub record StartsBefore (es : List ChildEntry) (starts : List ℕ) (place : ℕ) : Type 0 where
   pub told : AreStarts es starts
-  pub low : (k : ℕ) (d : Entry) → k < place → (get_or es k d).parent < length starts
-  pub high : (k : ℕ) (d : Entry) → place ≤ k → k < length es → length starts ≤ (get_or es k d).parent + 1
+  pub low : (k : ℕ) (d : ChildEntry) → k < place → (get_or es k d).parent < length starts
+  pub high : (k : ℕ) (d : ChildEntry) → place ≤ k → k < length es → length starts ≤ (get_or es k d).parent + 1
 
-pub starts_next : (es : List Entry) (old new : List ℕ) (place parent : ℕ) → IsNonDecreasingBy (λ (e : Entry). e.parent) es → place < length es
+pub starts_next : (es : List ChildEntry) (old new : List ℕ) (place parent : ℕ) → IsNonDecreasingBy (λ (e : ChildEntry). e.parent) es → place < length es
     → parent ≡ (get_or es place blank).parent → length new ≡ parent + 1
     → ((k d : ℕ) → k < parent + 1 → k < length old → get_or new k d ≡ get_or old k d)
     → ((k d : ℕ) → length old ≤ k → k < parent + 1 → get_or new k d ≡ place)
@@ -71,23 +71,23 @@ starts_next es old new place parent rising inside is long kept more before = rec
   low = λ k d w. low k d (rising k place d (omega (arith, w)) inside) (at d);
   high = λ k d far within. high (get_or es k d).parent (rising place k d (omega (arith, far)) within) (at d);
 } where
-  at : (d : Entry) → (get_or es place d).parent ≡ parent
-  at d = ap (λ (e : Entry). e.parent) (get_or_default es place d blank inside) ∙ sym is
+  at : (d : ChildEntry) → (get_or es place d).parent ≡ parent
+  at d = ap (λ (e : ChildEntry). e.parent) (get_or_default es place d blank inside) ∙ sym is
 
-  low : (k : ℕ) (d : Entry) → (get_or es k d).parent ≤ (get_or es place d).parent → (get_or es place d).parent ≡ parent → (get_or es k d).parent < length new
+  low : (k : ℕ) (d : ChildEntry) → (get_or es k d).parent ≤ (get_or es place d).parent → (get_or es place d).parent ≡ parent → (get_or es k d).parent < length new
   low k d up at = omega (arith, up, at, long)
 
   high : (n : ℕ) {m : ℕ} → m ≤ n → m ≡ parent → length new ≤ n + 1
   high n up at = omega (arith, up, at, long)
 
-  begins : (p : ℕ) → length old ≤ p → p < parent + 1 → Begins es p place
+  begins : (p : ℕ) → length old ≤ p → p < parent + 1 → BeginsParent es p place
   begins p from to = record {
     within = omega (arith, inside);
     before = λ k d w. omega (arith, before.low k d w, from);
     after = λ k d far within. omega (arith, to, at d, rising place k d far within);
   }
 
-  by : (p d : ℕ) → p < parent + 1 → ((nat_lt p (length old) ≡ true) ⊎ (nat_lt p (length old) ≡ false)) → Begins es p (get_or new p d)
+  by : (p d : ℕ) → p < parent + 1 → ((nat_lt p (length old) ≡ true) ⊎ (nat_lt p (length old) ≡ false)) → BeginsParent es p (get_or new p d)
   by p d w (inl h) =
       let known : p < length old = below_is p (length old) h in
       rw (kept p d w known) (before.told p d known)

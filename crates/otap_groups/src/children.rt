@@ -1,13 +1,13 @@
 //! The children of a parent, by an index of the rows of a table.
 ghost use Rattle.std.specs.Prelude.{◌≡◌, ◌<◌, ℕ, Option, All, length, IfOk};
 ghost use Rattle.std.specs.List.Sorted.{IsNonDecreasingBy};
-ghost use Rattle.otap_groups.specs.declared.entry.Entry.{Entry};
+ghost use Rattle.otap_groups.specs.declared.entry.ChildEntry.{ChildEntry};
 ghost use Rattle.otap_groups.specs.Rows.{child_rows};
 ghost use Rattle.otap_groups.specs.Children.{children};
 ghost use Rattle.otap_groups.specs.Inside.{AreStarts};
 ghost use Rattle.otap_groups.specs.Found.{entries_of, finds_in, found, of_parent, weighs_in};
 
-use crate::entry::Entry;
+use crate::entry::ChildEntry;
 use crate::front::id_at;
 use crate::index::entries_of;
 use crate::reading::{Lookup, RowReader};
@@ -21,11 +21,11 @@ pub struct Children<'a, C: RowReader> {
     pub reader: C,
     // Empty where the rows have no ids.
     pub ids: &'a [Option<u32>],
-    pub entries: Vec<Entry>,
+    pub entries: Vec<ChildEntry>,
     starts: Vec<usize>,
     ghost begin: { AreStarts entries.items starts.items },
-    ghost rising: { IsNonDecreasingBy (λ (e : Entry). e.parent) entries.items },
-    ghost below: { All (λ (e : Entry). e.place < length (C.cells reader)) entries.items },
+    ghost rising: { IsNonDecreasingBy (λ (e : ChildEntry). e.parent) entries.items },
+    ghost below: { All (λ (e : ChildEntry). e.place < length (C.cells reader)) entries.items },
 }
 
 impl<'a, C: RowReader> Children<'a, C> {
@@ -53,9 +53,9 @@ impl<'a, C: RowReader> Children<'a, C> {
     }
 
     /// The entries of a parent, in the order of their rows.
-    fn entries_of(&self, parent: Option<u32>) -> &[Entry]
+    fn entries_of(&self, parent: Option<u32>) -> &[ChildEntry]
         ensures found { result.now ≡ entries_of parent self.now.entries.items }
-        ensures below { All (λ (e : Entry). e.place < length (C.cells self.now.reader)) result.now }
+        ensures below { All (λ (e : ChildEntry). e.place < length (C.cells self.now.reader)) result.now }
     {
         match parent {
             Some(parent) => part_of(&self.entries, &self.starts, parent),

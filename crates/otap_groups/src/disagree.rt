@@ -1,19 +1,19 @@
 //! Whether rows of one id differ in another cell.
 ghost use Rattle.std.specs.Prelude.{◌≡◌, ◌-◌, ◌<◌, ◌≤◌, true, false, length, All, IfOk};
 ghost use Rattle.std.specs.List.{slice_index_or};
-ghost use Rattle.otap_groups.specs.declared.entry.Entry.{Entry};
+ghost use Rattle.otap_groups.specs.declared.entry.ChildEntry.{ChildEntry};
 ghost use Rattle.otap_groups.specs.Rows.{main_row_at, main_rows};
 ghost use Rattle.otap_groups.specs.Disagree.{DifferBy, Disagree};
 ghost use Rattle.otap_groups.specs.Inside.{blank, cells_by, clash, id_by};
 
-use crate::entry::Entry;
-use crate::front::Front;
+use crate::entry::ChildEntry;
+use crate::front::FrontColumns;
 use crate::index::entries_of;
 use crate::level::Level;
 use otap_cells::Rows;
 use std::alloc::{AllocError, Global};
 
-impl<R: Rows> Front<'_, R> {
+impl<R: Rows> FrontColumns<'_, R> {
     /// Whether rows of one resource id, or of one scope id, differ in another cell of `resource` or of `scope`.
     pub fn disagrees(&self, alloc: Global) -> Result<bool, AllocError>
         ensures yes { IfOk result (λ found. found ≡ true → Disagree
@@ -69,8 +69,8 @@ impl<R: Rows> Front<'_, R> {
     }
 
     /// Whether an entry has the parent of the one before it, and other cells.
-    fn clash(&self, level: Level, entries: &[Entry], place: usize) -> bool
-        requires below { All (λ (e : Entry). e.place < length (R.table self.now.rows.now).rows) entries.now }
+    fn clash(&self, level: Level, entries: &[ChildEntry], place: usize) -> bool
+        requires below { All (λ (e : ChildEntry). e.place < length (R.table self.now.rows.now).rows) entries.now }
         requires some { 1 ≤ place }
         requires within { place < length entries.now }
         ensures { result ≡ clash (cells_by level)

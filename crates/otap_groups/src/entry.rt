@@ -1,6 +1,6 @@
 /// A row that names a parent.
 #[derive(Clone, Copy, Debug)]
-pub struct Entry {
+pub struct ChildEntry {
     pub parent: u32,
     pub place: usize,
 }

@@ -16,7 +16,7 @@ use std::alloc::{AllocError, Global};
 
 /// The rows of a main table with their ids. It checks nothing.
 #[derive(Drop)]
-pub struct Front<'a, R: Rows> {
+pub struct FrontColumns<'a, R: Rows> {
     pub rows: &'a R,
     pub ids: &'a [Option<u32>],
     pub resource_ids: &'a [Option<u32>],
@@ -24,7 +24,7 @@ pub struct Front<'a, R: Rows> {
     ghost main: { IsMain (R.table rows.now).kind },
 }
 
-impl<R: Rows> Front<'_, R> {
+impl<R: Rows> FrontColumns<'_, R> {
     /// How many rows there are.
     pub fn len(&self) -> usize
         ensures { result ≡ length (R.table self.now.rows.now).rows }

@@ -9,7 +9,7 @@ ghost use Rattle.otap_groups.specs.Inside.{part};
 ghost use Rattle.otlp_model.specs.Limits.{weight_limit};
 ghost use Rattle.otlp_model.specs.Weight.{total};
 
-use crate::front::{Front, id_at};
+use crate::front::{FrontColumns, id_at};
 use crate::level::Level;
 use crate::reading::{Lookup, RowReader};
 use otap_cells::{Rows, number_in, text_in};
@@ -19,7 +19,7 @@ use std::alloc::{AllocError, Global};
 /// The main rows of a batch, where those of one id agree, the reader of their items, and where the pairs of resources and of scopes are found.
 #[derive(Drop)]
 pub struct Main<'a, R: Rows, S: RowReader, P: Lookup<Child = Pair>> {
-    pub front: Front<'a, R>,
+    pub front: FrontColumns<'a, R>,
     pub items: S,
     pub resources: P,
     pub scopes: P,

@@ -22,9 +22,9 @@ mod writing;
 
 pub use cells::FrontCells;
 pub use children::Children;
-pub use entry::Entry;
+pub use entry::ChildEntry;
 pub use flat::{Flat, Placed, flatten};
-pub use front::Front;
+pub use front::FrontColumns;
 pub use groups::Main;
 pub use parts::{PartWriter, parts_of, write_parts};
 pub use reading::{Lookup, RowReader};

@@ -1,18 +1,18 @@
 //! Where the entries of each parent begin.
 ghost use Rattle.std.specs.Prelude.{◌≡◌, ◌≤◌, length, IfOk};
 ghost use Rattle.std.specs.List.Sorted.{IsNonDecreasingBy};
-ghost use Rattle.otap_groups.specs.declared.entry.Entry.{Entry};
+ghost use Rattle.otap_groups.specs.declared.entry.ChildEntry.{ChildEntry};
 ghost use Rattle.otap_groups.specs.Inside.{AreStarts};
 ghost use Rattle.otap_groups.specs.Found.{of_parent};
 
-use crate::entry::Entry;
+use crate::entry::ChildEntry;
 use crate::index::{SPREAD, of_parent};
 use std::alloc::{AllocError, Global};
 
 /// Where the entries of each parent begin, up to the parent after the greatest; nothing where parents are far above the number
 /// of the entries.
-pub(crate) fn starts_of(alloc: Global, entries: &[Entry]) -> Result<Vec<usize>, AllocError>
-    requires { IsNonDecreasingBy (λ (e : Entry). e.parent) entries.now }
+pub(crate) fn starts_of(alloc: Global, entries: &[ChildEntry]) -> Result<Vec<usize>, AllocError>
+    requires { IsNonDecreasingBy (λ (e : ChildEntry). e.parent) entries.now }
     ensures { IfOk result (λ starts. AreStarts entries.now starts.items) }
 {
     if !are_dense(entries) {
@@ -23,15 +23,15 @@ pub(crate) fn starts_of(alloc: Global, entries: &[Entry]) -> Result<Vec<usize>, 
 }
 
 /// Whether no parent is far above the number of the entries, the last of which has the greatest parent.
-fn are_dense(entries: &[Entry]) -> bool {
+fn are_dense(entries: &[ChildEntry]) -> bool {
     match entries.last() {
         Some(entry) => entry.parent as usize / SPREAD <= entries.len(),
         None => false,
     }
 }
 
-fn starts_up_to_last(alloc: Global, entries: &[Entry]) -> Result<Vec<usize>, AllocError>
-    requires { IsNonDecreasingBy (λ (e : Entry). e.parent) entries.now }
+fn starts_up_to_last(alloc: Global, entries: &[ChildEntry]) -> Result<Vec<usize>, AllocError>
+    requires { IsNonDecreasingBy (λ (e : ChildEntry). e.parent) entries.now }
     ensures { IfOk result (λ starts. AreStarts entries.now starts.items) }
 {
     let mut starts = Vec::new(alloc);
@@ -47,8 +47,8 @@ fn starts_up_to_last(alloc: Global, entries: &[Entry]) -> Result<Vec<usize>, All
 }
 
 /// The part of the entries that has this parent, found at its start where that is told.
-pub(crate) fn part_of<'a>(entries: &'a [Entry], starts: &[usize], parent: u32) -> &'a [Entry]
-    requires rising { IsNonDecreasingBy (λ (e : Entry). e.parent) entries.now }
+pub(crate) fn part_of<'a>(entries: &'a [ChildEntry], starts: &[usize], parent: u32) -> &'a [ChildEntry]
+    requires rising { IsNonDecreasingBy (λ (e : ChildEntry). e.parent) entries.now }
     requires starts { AreStarts entries.now starts.now }
     ensures { result.now ≡ of_parent parent entries.now }
 {

@@ -32,7 +32,7 @@ pub(crate) struct SumPointWriter {
 
 /// Writes the rows of the exemplars of histograms.
 #[derive(Clone, Copy, Debug)]
-pub(crate) struct ExemplarWriter;
+pub(crate) struct HistExemplarWriter;
 
 impl PartWriter for HistPointWriter {
     type Parent = Metric;
@@ -141,7 +141,7 @@ impl PartWriter for SumPointWriter {
     }
 }
 
-impl PartWriter for ExemplarWriter {
+impl PartWriter for HistExemplarWriter {
     type Parent = HistPoint;
 
     type Part = Exemplar;

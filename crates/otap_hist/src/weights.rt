@@ -12,7 +12,7 @@ ghost use Rattle.otap_hist.specs.Writable.{CanWriteGroup, CanWriteScope, CanWrit
 ghost use Rattle.otap_hist.specs.Tables.{hist_tables};
 
 use crate::points::{
-    ExemplarWriter, hist_cells_weight, hist_points_of, summary_cells_weight, summary_points_of,
+    HistExemplarWriter, hist_cells_weight, hist_points_of, summary_cells_weight, summary_points_of,
 };
 use otap_attrs::attributes_weight;
 use otap_groups::PartWriter;
@@ -129,6 +129,6 @@ fn exemplar_weight(exemplar: &Exemplar) -> u64
     requires { CanWriteExemplar exemplar.now }
     ensures { result ≡ min (exemplar_weight exemplar.now) (2 ^ 63) }
 {
-    let own = add_capped(32, ExemplarWriter.weight(exemplar));
+    let own = add_capped(32, HistExemplarWriter.weight(exemplar));
     add_capped(own, attributes_weight(&exemplar.pairs))
 }

@@ -10,7 +10,7 @@ ghost use Rattle.otap_cells.specs.Tables.{Table};
 ghost use Rattle.otap_attrs.specs.Tables.{beside_kind, where_rows};
 ghost use Rattle.otap_hist.specs.Tables.{hist_tables, put_all, put_in};
 
-use crate::points::{ExemplarWriter, HistPointWriter, SumPointWriter};
+use crate::points::{HistExemplarWriter, HistPointWriter, SumPointWriter};
 use otap_attrs::{add_attributes, add_parts};
 use otap_cells::{Kind, LogicalTable, TableSet};
 use otap_groups::{flatten, items_of, parts_of};
@@ -49,7 +49,7 @@ fn tables_of(
     let metrics = items_of(alloc, &rows)?;
     let summary_points = parts_of(alloc, &SumPointWriter { alloc }, &metrics)?;
     let hist_points = parts_of(alloc, &HistPointWriter { alloc }, &metrics)?;
-    let exemplars = parts_of(alloc, &ExemplarWriter, &hist_points)?;
+    let exemplars = parts_of(alloc, &HistExemplarWriter, &hist_points)?;
     let mut tables = Vec::new(alloc);
     add_parts(
         alloc,
@@ -60,7 +60,7 @@ fn tables_of(
     add_parts(alloc, &mut tables, &HistPointWriter { alloc }, &hist_points)?;
     add_attributes(alloc, &mut tables, Kind::SummaryPointAttrs, &summary_points)?;
     add_attributes(alloc, &mut tables, Kind::HistPointAttrs, &hist_points)?;
-    add_parts(alloc, &mut tables, &ExemplarWriter, &exemplars)?;
+    add_parts(alloc, &mut tables, &HistExemplarWriter, &exemplars)?;
     add_attributes(alloc, &mut tables, Kind::HistExemplarAttrs, &exemplars)?;
     Ok(tables)
 }

@@ -8,7 +8,7 @@ use Rattle.otlp_model.specs.Limits.{weight_limit}
 use Rattle.otlp_model.specs.Profile.{IsProfile}
 use Rattle.otlp_model.specs.Real.{IsReal}
 use Rattle.otlp_model.specs.Same.{Same, SameLogRecord, SameOften, SameTelemetry}
-use Rattle.otlp_model.specs.Telemetry.{Entry, Item, groups_with_items, log_record, telemetry}
+use Rattle.otlp_model.specs.Telemetry.{ItemEntry, Item, groups_with_items, log_record, telemetry}
 use Rattle.otlp_model.specs.Weight.{weight_of, weight_of_log_record}
 use Rattle.otlp_model.specs.declared.groups.Resource.{Resource}
 use Rattle.otlp_model.specs.declared.groups.Scope.{Scope}
@@ -106,7 +106,7 @@ module _ (groups : List (ResourceGroup LogRecord)) (back : All IsBack groups) wh
       (λ id cells. record_of cells (unsorted (record_pairs groups) id)) (λ id cells. record_of cells (pairs_in l id)) groups items_read resources_agree scopes_agree
       (sorted_alike table.ResourceAttrs (resource_pairs groups) refl (few_r groups light)) (sorted_alike table.ScopeAttrs (scope_pairs groups) refl (few_s groups light))
       (λ id cells. same_record cells (unsorted (record_pairs groups) id) (pairs_in l id) (sorted_alike table.LogAttrs (record_pairs groups) refl (few_l groups light) id)) in
-      subst (λ (xs : List (Entry Item)). SameTelemetry xs (telemetry (Logs (regrouped_logs (tables_of_logs groups))))) (telemetry_kept (Logs groups))
+      subst (λ (xs : List (ItemEntry Item)). SameTelemetry xs (telemetry (Logs (regrouped_logs (tables_of_logs groups))))) (telemetry_kept (Logs groups))
       (subst (λ (gs : List (ResourceGroup LogRecord)). SameTelemetry (telemetry (Logs (groups_with_items groups))) (telemetry (Logs gs))) (regrouped_is groups light) found)
 
 pub same_again : (groups : List (ResourceGroup LogRecord)) → IsReal (Logs groups) → IsProfile (Logs groups) → weight_of (Logs groups) ≤ weight_limit

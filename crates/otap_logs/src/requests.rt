@@ -30,7 +30,7 @@ use otap_checks::{
     Grouped, KnownIds, RegroupRefusal, TablePairs, check_values, disagrees, find_pairs, front_of,
     groups_within, known_ids, table_of,
 };
-use otap_groups::{Children, Front, Main};
+use otap_groups::{Children, FrontColumns, Main};
 use otlp_model::{Items, LogRecord, ResourceGroup, Signal};
 use std::alloc::{AllocError, Global};
 
@@ -150,7 +150,7 @@ fn clean_main<'a, R: Rows>(
 fn main_of<'a, R: Rows>(
     alloc: Global,
     set: &'a TableSet<R>,
-    front: Front<'a, R>,
+    front: FrontColumns<'a, R>,
     known: &'a KnownIds,
 ) -> Result<LogRows<'a, R>, AllocError>
     requires set { IsSet R.table set.now.tables.items }

@@ -8,7 +8,7 @@ use Rattle.otlp_model.specs.Limits.{weight_limit}
 use Rattle.otlp_model.specs.Profile.{IsProfile}
 use Rattle.otlp_model.specs.Real.{IsReal}
 use Rattle.otlp_model.specs.Same.{Same, SameExemplar, SameHistPoint, SameMetric, SameOften, SamePoint, SameShape, SameSumPoint, SameTelemetry}
-use Rattle.otlp_model.specs.Telemetry.{Entry, Item, groups_with_items, metric, telemetry}
+use Rattle.otlp_model.specs.Telemetry.{ItemEntry, Item, groups_with_items, metric, telemetry}
 use Rattle.otlp_model.specs.Weight.{total, weight_of, weight_of_exemplar, weight_of_hist_point, weight_of_metric, weight_of_pair, weight_of_point, weight_of_resource_group, weight_of_shape, weight_of_sum_point}
 use Rattle.otlp_model.specs.declared.groups.ResourceGroup.{ResourceGroup}
 use Rattle.otlp_model.specs.declared.histograms.HistPoint.{HistPoint}
@@ -208,7 +208,7 @@ same_again groups tables hists found_hists summaries found_summaries real is lig
     (resources_agree groups back) (scopes_agree groups back)
     (sorted_alike table.ResourceAttrs (resource_pairs groups) refl (few_resource_pairs groups light)) (sorted_alike table.ScopeAttrs (scope_pairs groups) refl (few_scope_pairs groups light))
     (λ id cells. same_metric cells _ _ (record { points = points_alike groups light id; hist_points = alike_hists id; summary_points = alike_summaries id })) in
-    subst (λ (xs : List (Entry Item)). SameTelemetry xs (telemetry (Metrics (regrouped_metrics found_hists found_summaries tables)))) (telemetry_kept (Metrics groups))
+    subst (λ (xs : List (ItemEntry Item)). SameTelemetry xs (telemetry (Metrics (regrouped_metrics found_hists found_summaries tables)))) (telemetry_kept (Metrics groups))
     (subst (λ (gs : List (ResourceGroup Metric)). SameTelemetry (telemetry (Metrics (groups_with_items groups))) (telemetry (Metrics gs)))
     (regrouped_is groups light tables hold found_hists found_summaries) found)
 

@@ -13,7 +13,7 @@ use Rattle.lists.specs.Payloads.{PayloadIn}
 use Rattle.otap_cells.specs.declared.payload.Kind.{Kind}
 use Rattle.otap_cells.specs.Payload.{is_kind, number_of}
 use Rattle.otap_cells.specs.Tables.{Table}
-use Rattle.otap_columns.specs.WrittenPayloads.{IsRecord, IsWritable}
+use Rattle.otap_columns.specs.WrittenPayloads.{IsRecord, IsWritableTable}
 use Rattle.otap_columns.specs.Streams.{id_in, last_of, opens, opens_after, open_id}
 use Rattle.otap_columns.specs.TableSets.{IsPayloadOf, of_kind, openings}
 use Rattle.otap_columns.specs.Writers.{HasWritten, WritesRecord, is_started}
@@ -74,7 +74,7 @@ pub record SendsOne (s new : SenderIn) (count : ℕ) (t : Table) (opened : Bool)
   pub writes : WritesRecord s.writer t opened p.bytes new.writer
   pub last : new.last ≡ (if opened then count else s.last)
   pub kept : new.writer.kind ≡ s.writer.kind
-  pub writable : IsWritable t.kind t
+  pub writable : IsWritableTable t.kind t
   pub schema_id : p.schema_id ≡ decimal new.last
   pub type : p.kind ≡ pos (number_of t.kind)
   pub room : count < 2 ^ 64

@@ -12,11 +12,11 @@ use Rattle.otap_cells.specs.Continuing.{continues_in}
 use Rattle.otap_cells.specs.ColumnIds.{stored_in}
 use Rattle.otap_cells.specs.Ids.{Ids}
 use Rattle.otap_groups.specs.ProfileTables.{HasProfileIds, IsProfileTable}
-use Rattle.otap_columns.specs.WrittenPayloads.{IsWritable}
+use Rattle.otap_columns.specs.WrittenPayloads.{IsWritableTable}
 use Rattle.otap_produce.specs.Writable.{HaveWritable}
 
 -- a table of the profile can be written
-can_be_written : (t : Table) → IsProfileTable t → IsWritable t.kind t
+can_be_written : (t : Table) → IsProfileTable t → IsWritableTable t.kind t
 can_be_written t profile = record {
   kind_is = λ i. t.kind;
   table = profile.table;
@@ -39,5 +39,5 @@ pub writable : (signal : Signal) (ts : List Table)
 unfolding kept
 writable signal ts kinds profile = record {
   order = record { has = kept signal ts; kinds = kinds };
-  each = All-weaker IsProfileTable (λ (t : Table). IsWritable t.kind t) can_be_written ts profile;
+  each = All-weaker IsProfileTable (λ (t : Table). IsWritableTable t.kind t) can_be_written ts profile;
 }

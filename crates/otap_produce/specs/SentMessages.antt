@@ -11,7 +11,7 @@ use Rattle.otap_cells.specs.Payload.{kinds_of}
 use Rattle.otap_cells.specs.Tables.{Table}
 use Rattle.otap_cells.specs.Weights.{row_weight_limit, weight_of_table}
 use Rattle.otap_columns.specs.Limits.{tables_limit}
-use Rattle.otap_columns.specs.WrittenPayloads.{IsWritable}
+use Rattle.otap_columns.specs.WrittenPayloads.{IsWritableTable}
 use Rattle.otap_columns.specs.TableSets.{ArePayloadsOf}
 use Rattle.otap_produce.specs.declared.refusal.ProduceRefusal.{ProduceRefusal}
 use Rattle.otap_produce.specs.declared.refusal.ProduceRefusal.TheVariants.{Memory}
@@ -29,7 +29,7 @@ pub record HaveHistory (s : SendersIn) : Type 0 where
 -- a table for which there is a sender can be written
 pub record CanSend (kinds : List Kind) (t : Table) : Type 0 where
   pub there : Contains kinds t.kind
-  pub writable : IsWritable t.kind t
+  pub writable : IsWritableTable t.kind t
   pub light : weight_of_table t ≤ row_weight_limit
 
 -- the senders are ready for one more table

@@ -5,7 +5,7 @@ use Rattle.otlp_model.specs.declared.request.Signal.{Signal}
 use Rattle.otap_cells.specs.declared.payload.Kind.{Kind}
 use Rattle.otap_cells.specs.Payload.{kinds_of}
 use Rattle.otap_cells.specs.Tables.{Table}
-use Rattle.otap_columns.specs.WrittenPayloads.{IsWritable}
+use Rattle.otap_columns.specs.WrittenPayloads.{IsWritableTable}
 use Rattle.otap_produce.specs.Policy.{SignalRows, IsExported}
 
 -- tables stand in the order of the signal's kinds, each kind at most once
@@ -16,7 +16,7 @@ pub record AreInOrder (signal : Signal) (tables : List Table) : Type 0 where
 -- the tables of a request stand in order, and each can be written
 pub record HaveWritable (signal : Signal) (tables : List Table) : Type 0 where
   pub order : AreInOrder signal tables
-  pub each : All (λ t. IsWritable t.kind t) tables
+  pub each : All (λ t. IsWritableTable t.kind t) tables
 
 -- THE ROWS CAN BE WRITTEN, of each request that is exported
 pub record AreWritableRows (rows : SignalRows) : Type 0 where

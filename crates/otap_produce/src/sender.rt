@@ -3,7 +3,7 @@ ghost use Rattle.std.specs.Prelude.{◌≡◌, ◌≤◌, List, [], length, IfOk
 ghost use Rattle.otap_cells.specs.Tables.{Table};
 ghost use Rattle.otap_cells.specs.Weights.{row_weight_limit, weight_of_table};
 ghost use Rattle.otap_columns.specs.Limits.{record_limit};
-ghost use Rattle.otap_columns.specs.WrittenPayloads.{IsWritable};
+ghost use Rattle.otap_columns.specs.WrittenPayloads.{IsWritableTable};
 ghost use Rattle.otap_columns.specs.Writers.{HasWritten, WritesRecord};
 
 use otap_cells::{Kind, LogicalTable};
@@ -64,7 +64,7 @@ impl Sender {
         openings: u64,
     ) -> Result<Written, AllocError>
         requires wrote { (tables : List Table) × HasWritten tables self.old.writer }
-        requires writable { IsWritable self.old.writer.kind table.now }
+        requires writable { IsWritableTable self.old.writer.kind table.now }
         requires light { weight_of_table table.now ≤ row_weight_limit }
         ensures writes { IfOk result (λ written. WritesRecord self.old.writer table.now written.opens written.bytes.items self.new.writer) }
         ensures last { IfOk result (λ written. self.new.last ≡ (if written.opens then openings else self.old.last)) }

@@ -10,7 +10,7 @@ use Rattle.otlp_model.specs.Limits.{weight_limit}
 use Rattle.otlp_model.specs.Profile.{IsProfile, IsProfileEvent, IsProfileLink, IsProfileSpan}
 use Rattle.otlp_model.specs.Real.{IsReal, IsRealEvent, IsRealLink, IsRealSpan}
 use Rattle.otlp_model.specs.Same.{Same, SameEvent, SameLink, SameOften, SameSpan, SameTelemetry}
-use Rattle.otlp_model.specs.Telemetry.{Entry, Item, groups_with_items, telemetry}
+use Rattle.otlp_model.specs.Telemetry.{ItemEntry, Item, groups_with_items, telemetry}
 use Rattle.otlp_model.specs.Telemetry as tells
 use Rattle.otlp_model.specs.Weight.{weight_of, weight_of_event, weight_of_link, weight_of_span}
 use Rattle.otlp_model.specs.declared.groups.Resource.{Resource}
@@ -299,7 +299,7 @@ module _ (groups : List (ResourceGroup Span)) (light : weight_of (Traces groups)
       (unsorted_span groups) (span_from groups) groups (items_read groups back) (resources_agree groups back) (scopes_agree groups back)
       (sorted_alike table.ResourceAttrs (resource_pairs groups) refl (few_r groups light)) (sorted_alike table.ScopeAttrs (scope_pairs groups) refl (few_s groups light))
       spans_alike in
-      subst (λ (xs : List (Entry Item)). SameTelemetry xs (telemetry (Traces (regrouped_spans (tables_of_spans groups))))) (telemetry_kept (Traces groups))
+      subst (λ (xs : List (ItemEntry Item)). SameTelemetry xs (telemetry (Traces (regrouped_spans (tables_of_spans groups))))) (telemetry_kept (Traces groups))
       (subst (λ (gs : List (ResourceGroup Span)). SameTelemetry (telemetry (Traces (groups_with_items groups))) (telemetry (Traces gs))) regrouped_is found)
 
 pub same_again : (groups : List (ResourceGroup Span)) → IsReal (Traces groups) → IsProfile (Traces groups) → weight_of (Traces groups) ≤ weight_limit

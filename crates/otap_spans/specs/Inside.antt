@@ -9,7 +9,7 @@ use Rattle.otap_cells.specs.declared.payload.Kind.TheVariants as table
 use Rattle.otap_cells.specs.Cells.{Cell}
 use Rattle.otap_cells.specs.Named.{table_named}
 use Rattle.otap_cells.specs.Tables.{Table}
-use Rattle.otap_groups.specs.declared.entry.Entry.{Entry}
+use Rattle.otap_groups.specs.declared.entry.ChildEntry.{ChildEntry}
 use Rattle.otap_groups.specs.Found.{found}
 use Rattle.otap_attrs.specs.declared.refusal.RowRefusal.{RowRefusal}
 use Rattle.otap_attrs.specs.Values.{pair_in}
@@ -43,12 +43,12 @@ KnowsSpans tables known = (link : TableLink) → Contains (links_of signal.Trace
 -- ---- what is found below a parent by an index
 
 -- the pairs, where the rows may be missing
-abbrev pub pairs_by : {P : Type 0} → (P → List (List Cell)) → List (Option ℕ) → Option P → List Entry → Option ℕ → List Pair
+abbrev pub pairs_by : {P : Type 0} → (P → List (List Cell)) → List (Option ℕ) → Option P → List ChildEntry → Option ℕ → List Pair
 pairs_by cells ids rows entries parent = found (λ id own. pair_in own) ids (cells_or cells rows) entries parent
 
 -- the events, and the links, whose pairs are found in this way
-abbrev pub events_by : (Option ℕ → List Pair) → List (Option ℕ) → List (List Cell) → List Entry → Option ℕ → List Event
+abbrev pub events_by : (Option ℕ → List Pair) → List (Option ℕ) → List (List Cell) → List ChildEntry → Option ℕ → List Event
 events_by pairs ids cells entries parent = found (λ id own. event_of own (pairs id)) ids cells entries parent
 
-abbrev pub links_by : (Option ℕ → List Pair) → List (Option ℕ) → List (List Cell) → List Entry → Option ℕ → List Link
+abbrev pub links_by : (Option ℕ → List Pair) → List (Option ℕ) → List (List Cell) → List ChildEntry → Option ℕ → List Link
 links_by pairs ids cells entries parent = found (λ id own. link_of own (pairs id)) ids cells entries parent

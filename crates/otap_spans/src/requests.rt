@@ -27,7 +27,7 @@ use otap_checks::{
     Grouped, KnownIds, RegroupRefusal, check_values, disagrees, find_pairs, front_of,
     groups_within, known_ids, table_of,
 };
-use otap_groups::{Front, Main};
+use otap_groups::{FrontColumns, Main};
 use otlp_model::{Items, ResourceGroup, Signal, Span};
 use std::alloc::{AllocError, Global};
 
@@ -151,7 +151,7 @@ fn clean_main<'a, R: Rows>(
 fn main_of<'a, R: Rows>(
     alloc: Global,
     set: &'a TableSet<R>,
-    front: Front<'a, R>,
+    front: FrontColumns<'a, R>,
     known: &'a KnownIds,
 ) -> Result<SpanRows<'a, R>, AllocError>
     requires set { IsSet R.table set.now.tables.items }

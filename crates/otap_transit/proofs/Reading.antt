@@ -8,7 +8,7 @@ use Rattle.otap_cells.specs.Continuing.{continues_in}
 use Rattle.otap_cells.specs.GivenIds.{HasIds, ReadsAs}
 use Rattle.otap_cells.specs.Ids.{Ids, IdsAfter}
 use Rattle.otap_cells.specs.Tables.{Table, greatest_in, greatest_wide}
-use Rattle.otap_columns.specs.WrittenPayloads.{IsReadAs, IsWritable}
+use Rattle.otap_columns.specs.WrittenPayloads.{IsReadAs, IsWritableTable}
 
 -- numbers stand for one list of ids, however great these may be
 one_list : (how : Coding) (last most before : ℕ) (rows : List Bool) (ns xs ys : List (Option ℕ)) → IdsAfter how last before rows ns xs → IdsAfter how most before rows ns ys → xs ≡ ys
@@ -27,7 +27,7 @@ one_list how last most before rows (None ∷ ns) (None ∷ xs) (Some y ∷ ys) a
 one_list how last most before rows (Some n ∷ ns) (Some x ∷ xs) [] a b = absurd b
 one_list how last most before rows (Some n ∷ ns) (Some x ∷ xs) (None ∷ ys) a b = absurd b
 
-pub reads_as : (before : List Table) (past : List PayloadIn) (t : Table) (p : PayloadIn) → IsWritable t.kind t → (r : IsReadAs t.kind before past t p) → ReadsAs r.table t
+pub reads_as : (before : List Table) (past : List PayloadIn) (t : Table) (p : PayloadIn) → IsWritableTable t.kind t → (r : IsReadAs t.kind before past t p) → ReadsAs r.table t
 reads_as before past t p w r = record {
   same = r.same;
   ids = λ column ids is_id has.

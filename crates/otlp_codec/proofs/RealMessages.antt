@@ -10,7 +10,7 @@ use Rattle.otlp_model.specs.declared.value.Value.TheVariants as values
 use Rattle.otlp_model.specs.Real.{IsRealResource, IsRealScope, IsRealScopeGroup, IsRealResourceGroup, IsRealLogRecord, IsRealEvent, IsRealLink, IsRealSpan}
 use Rattle.lists.specs.Bytes.{is_real_text}
 use Rattle.otlp_model.specs.Each.{Each}
-use Rattle.otlp_codec.specs.declared.spans.Status.{Status}
+use Rattle.otlp_codec.specs.declared.spans.SpanStatus.{SpanStatus}
 use Rattle.otlp_messages.specs.Limits.{level_limit}
 use Rattle.otlp_codec.specs.Groups.{value_in, resource_in, scope_in, scope_group_in, resource_group_in, groups_in}
 use Rattle.otlp_codec.specs.Logs.{log_record_in}
@@ -69,7 +69,7 @@ link_real bytes h = record {
   dropped = uint32_real messages.Link level_limit 5 bytes h;
 }
 
-record RealStatus (status : Status) : Type 0 where
+record RealStatus (status : SpanStatus) : Type 0 where
   message : IsTrue (is_real_text status.message)
   code : FitsSigned w32 status.code
 

@@ -11,7 +11,7 @@ use Rattle.otlp_model.specs.declared.spans.Link.{Link}
 use Rattle.otlp_model.specs.Weight.{weight_of_event, weight_of_link, weight_of_span}
 use Rattle.otlp_model.specs.Real.{IsRealEvent, IsRealLink, IsRealSpan}
 use Rattle.otlp_model.specs.Profile.{IsProfileEvent, IsProfileLink, IsProfileSpan}
-use Rattle.otlp_codec.specs.declared.spans.Status.{Status}
+use Rattle.otlp_codec.specs.declared.spans.SpanStatus.{SpanStatus}
 use Rattle.otlp_messages.specs.Limits.{level_limit}
 use Rattle.otlp_codec.specs.Spans.{event_in, link_in, no_status, status_in, span_in}
 use Rattle.otlp_codec.specs.SpanSteps.{status_step, status_of, span_step}
@@ -57,7 +57,7 @@ status_law x real =
     status_passes refl refl (omega arith) (omega arith)
 
 -- the status, whose parts stand in the span
-status_heard : (old : Span) (a : Status) (v : FieldValue)
+status_heard : (old : Span) (a : SpanStatus) (v : FieldValue)
     → span_step (record old { status_message = a.message; status_code = a.code }) (record { number = 15; value = v })
     ≡ record old { status_message = (embedded_in status_in a v).message; status_code = (embedded_in status_in a v).code }
 status_heard old a (wire.Bytes part) = refl
@@ -91,7 +91,7 @@ span_law x real =
     (also (λ a r. record r { links = a }) (many_held IsProfileLink m 13 messages.Link link_in canon_link 32 weight_of_link 236 x.links refl refl refl refl refl links
     (λ p. all_from IsProfileLink x.links p.links.at)) refl (λ a v. refl)
     (also (λ a r. record r { dropped_links = a }) (uint32_held m 14 x.dropped_links refl refl real.dropped_links) refl (λ a v. refl)
-    (also (λ (a : Status) r. record r { status_message = a.message; status_code = a.code })
+    (also (λ (a : SpanStatus) r. record r { status_message = a.message; status_code = a.code })
     (embedded_held m 15 messages.Status status_in canon_status refl refl (status_law x real) no_status_is refl) refl (status_heard (record x { flags = 0 }))
     (also (λ a r. record r { flags = a }) (fixed32_held m 16 x.flags refl refl real.flags) refl (λ a v. refl) last))))))))))))))))
     span_passes refl refl (omega arith) (omega arith)

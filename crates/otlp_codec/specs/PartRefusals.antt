@@ -6,12 +6,12 @@ use Rattle.otlp_wire.specs.Wire.{FieldValue}
 use Rattle.otlp_messages.specs.Defects.{Stands}
 use Rattle.otlp_messages.specs.Fine.{ValueStands}
 use Rattle.otlp_codec.specs.declared.refusal.ReadRefusal.{ReadRefusal}
-use Rattle.otlp_codec.specs.Refusals.{Names}
+use Rattle.otlp_codec.specs.Refusals.{HoldsNamed}
 
 -- the defect that is named stands in the bytes
 abbrev pub Refuses : Message → ℕ → List ℕ → ReadRefusal → Type 0
-Refuses message levels bytes refusal = Names refusal (Stands message levels bytes)
+Refuses message levels bytes refusal = HoldsNamed refusal (Stands message levels bytes)
 
 -- the same of a value of a field
 abbrev pub RefusesValue : FieldKind → ℕ → FieldValue → ReadRefusal → Type 0
-RefusesValue kind levels value refusal = Names refusal (ValueStands kind levels value)
+RefusesValue kind levels value refusal = HoldsNamed refusal (ValueStands kind levels value)

@@ -15,11 +15,11 @@ refusal_of defect.Unsupported = Unsupported
 refusal_of defect.TooDeep = TooDeep
 
 -- what a refusal names is so, and want of memory says nothing
-abbrev pub Names : ReadRefusal → (Defect → Type 0) → Type 0
-Names BadMessage IsSo = IsSo defect.BadMessage
-Names Repeated IsSo = IsSo defect.Repeated
-Names BadUtf8 IsSo = IsSo defect.BadUtf8
-Names BadLength IsSo = IsSo defect.BadLength
-Names Unsupported IsSo = IsSo defect.Unsupported
-Names TooDeep IsSo = IsSo defect.TooDeep
-Names (Memory error) IsSo = ⊤
+abbrev pub HoldsNamed : ReadRefusal → (Defect → Type 0) → Type 0
+HoldsNamed BadMessage IsSo = IsSo defect.BadMessage
+HoldsNamed Repeated IsSo = IsSo defect.Repeated
+HoldsNamed BadUtf8 IsSo = IsSo defect.BadUtf8
+HoldsNamed BadLength IsSo = IsSo defect.BadLength
+HoldsNamed Unsupported IsSo = IsSo defect.Unsupported
+HoldsNamed TooDeep IsSo = IsSo defect.TooDeep
+HoldsNamed (Memory error) IsSo = ⊤

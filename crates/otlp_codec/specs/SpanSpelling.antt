@@ -4,7 +4,7 @@ use Rattle.otlp_messages.specs.Canon.{Filled, row, canon, varint_row, signed_row
 use Rattle.otlp_model.specs.declared.spans.Span.{Span}
 use Rattle.otlp_model.specs.declared.spans.Event.{Event}
 use Rattle.otlp_model.specs.declared.spans.Link.{Link}
-use Rattle.otlp_codec.specs.declared.spans.Status.{Status}
+use Rattle.otlp_codec.specs.declared.spans.SpanStatus.{SpanStatus}
 use Rattle.otlp_codec.specs.Canonical.{canon_pair}
 use Rattle.otlp_codec.specs.SpanSteps.{status_of}
 
@@ -32,13 +32,13 @@ link_rows link =
 unfoldable pub canon_link : Link → List ℕ
 canon_link link = canon (link_rows link)
 
-abbrev pub status_rows : Status → List Filled
+abbrev pub status_rows : SpanStatus → List Filled
 status_rows status =
     row 2 (bytes_row status.message)
     ∷ row 3 (signed_row status.code)
     ∷ []
 
-abbrev pub canon_status : Status → List ℕ
+abbrev pub canon_status : SpanStatus → List ℕ
 canon_status status = canon (status_rows status)
 
 -- the first half of a span's fields, and the second

@@ -5,7 +5,7 @@ use Rattle.otlp_messages.specs.Rows.{at, fixed64_in, fixed32_in, uint32_in, int3
 use Rattle.otlp_model.specs.declared.spans.Span.{Span}
 use Rattle.otlp_model.specs.declared.spans.Event.{Event}
 use Rattle.otlp_model.specs.declared.spans.Link.{Link}
-use Rattle.otlp_codec.specs.declared.spans.Status.{Status}
+use Rattle.otlp_codec.specs.declared.spans.SpanStatus.{SpanStatus}
 use Rattle.otlp_codec.specs.Groups.{pair_in}
 use Rattle.otlp_codec.specs.Spans.{event_in, link_in, status_in}
 
@@ -33,7 +33,7 @@ link_step old f = record {
   flags = at 6 fixed32_in old.flags f;
 }
 
-abbrev pub status_step : Status → Entry → Status
+abbrev pub status_step : SpanStatus → Entry → SpanStatus
 status_step old f = record {
   message = at 2 bytes_in old.message f;
   code = at 3 int32_in old.code f;
@@ -61,7 +61,7 @@ no_span = record {
 }
 
 -- the status, whose parts stand in the span
-abbrev pub status_of : Span → Status
+abbrev pub status_of : Span → SpanStatus
 status_of span = record { message = span.status_message; code = span.status_code }
 
 abbrev pub span_step : Span → Entry → Span

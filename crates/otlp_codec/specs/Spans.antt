@@ -4,7 +4,7 @@ use Rattle.otlp_messages.specs.Rows.{said, fixed64_in, fixed32_in, uint32_in, in
 use Rattle.otlp_model.specs.declared.spans.Span.{Span}
 use Rattle.otlp_model.specs.declared.spans.Event.{Event}
 use Rattle.otlp_model.specs.declared.spans.Link.{Link}
-use Rattle.otlp_codec.specs.declared.spans.Status.{Status}
+use Rattle.otlp_codec.specs.declared.spans.SpanStatus.{SpanStatus}
 use Rattle.otlp_codec.specs.Groups.{pair_in}
 
 -- Span.Event
@@ -28,10 +28,10 @@ link_in bytes = record {
 }
 
 -- Status
-abbrev pub no_status : Status
+abbrev pub no_status : SpanStatus
 no_status = record { message = []; code = pos 0 }
 
-unfoldable pub status_in : List ℕ → Status
+unfoldable pub status_in : List ℕ → SpanStatus
 status_in bytes = record {
   message = said 2 bytes_in [] bytes;
   code = said 3 int32_in (pos 0) bytes;

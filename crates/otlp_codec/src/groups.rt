@@ -16,7 +16,7 @@ ghost use Rattle.otlp_codec.specs.Canonical.{resource_rows, scope_rows, canon_sc
 
 use crate::cells::{take_text, take_uint32};
 use crate::lengths::{len_bytes_row, len_more, len_one, len_pairs, len_varint_row};
-use crate::part::{Item, Part, read_part, take_items, take_more, take_pairs};
+use crate::part::{ItemPart, Part, read_part, take_items, take_more, take_pairs};
 use crate::refusal::ReadRefusal;
 use crate::writing::{Spelled, write_more, write_one, write_pairs};
 use otlp_messages::{Backward, Message};
@@ -94,7 +94,7 @@ impl Part for Scope {
     }
 }
 
-impl<I: Item + Drop> Part for ScopeGroup<I> {
+impl<I: ItemPart + Drop> Part for ScopeGroup<I> {
     ghost named = { messages.ScopeGroup I.of };
 
     ghost none = { no_scope_group };
@@ -127,7 +127,7 @@ impl<I: Item + Drop> Part for ScopeGroup<I> {
     }
 }
 
-impl<I: Item + Drop> Part for ResourceGroup<I> {
+impl<I: ItemPart + Drop> Part for ResourceGroup<I> {
     ghost named = { messages.ResourceGroup I.of };
 
     ghost none = { no_resource_group };
@@ -160,7 +160,7 @@ impl<I: Item + Drop> Part for ResourceGroup<I> {
     }
 }
 
-impl<I: Item + Drop> Part for Items<ResourceGroup<I>> {
+impl<I: ItemPart + Drop> Part for Items<ResourceGroup<I>> {
     ghost named = { messages.Request I.of };
 
     ghost none = { [] };

@@ -17,7 +17,7 @@ ghost use Rattle.otlp_model.specs.Limits.{count_cap};
 
 use crate::cells::take_text;
 use crate::lengths::len_bytes_row;
-use crate::part::{Item, Part};
+use crate::part::{ItemPart, Part};
 use crate::refusal::ReadRefusal;
 use crate::shapes::{
     len_gauge, len_histogram, len_sum, len_summary, take_gauge, take_histogram, take_sum,
@@ -69,7 +69,7 @@ impl Part for Metric {
     }
 }
 
-impl Item for Metric {
+impl ItemPart for Metric {
     ghost of = { ofs.Metrics };
 
     ghost is_item = { refl };

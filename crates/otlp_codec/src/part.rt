@@ -55,7 +55,7 @@ pub(crate) trait Part {
 }
 
 /// A message that is a main item of a request.
-pub(crate) trait Item: Part {
+pub(crate) trait ItemPart: Part {
     /// Which of the three it is.
     ghost of: { Of };
 
@@ -119,7 +119,7 @@ pub(crate) fn take_more<P: Part + Drop>(
 
 /// Reads one more main item.
 #[inline]
-pub(crate) fn take_items<I: Item + Drop>(
+pub(crate) fn take_items<I: ItemPart + Drop>(
     alloc: Global,
     to: &mut Items<I>,
     value: &Wire<'_>,

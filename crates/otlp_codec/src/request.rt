@@ -6,7 +6,7 @@ ghost use Rattle.otlp_model.specs.Weight.{weight_of};
 ghost use Rattle.otlp_model.specs.Profile.{IsProfile};
 ghost use Rattle.otlp_model.specs.Real.{IsReal};
 ghost use Rattle.otlp_codec.specs.Limits.{longest_request};
-ghost use Rattle.otlp_codec.specs.Refusals.{Names};
+ghost use Rattle.otlp_codec.specs.Refusals.{HoldsNamed};
 ghost use Rattle.otlp_codec.specs.Requests.{Stands, Reads, canon_request};
 
 use crate::lengths::len_more;
@@ -25,7 +25,7 @@ use std::alloc::{AllocError, Global};
 pub fn read_request(alloc: Global, signal: Signal, bytes: &[u8]) -> Result<Request, ReadRefusal>
     ensures reads { IfOk result (Reads signal bytes.now) }
     ensures profile { IfOk result IsProfile }
-    ensures fault { IfErr result (λ refusal. Names refusal (Stands signal bytes.now)) }
+    ensures fault { IfErr result (λ refusal. HoldsNamed refusal (Stands signal bytes.now)) }
 {
     match signal {
         Signal::Traces => Ok(Request::Traces(read_part(alloc, bytes)?)),

@@ -21,7 +21,7 @@ use crate::cells::{take_fixed32, take_fixed64, take_id, take_int32, take_text, t
 use crate::lengths::{
     len_bytes_row, len_fixed32_row, len_fixed64_row, len_more, len_one, len_pairs, len_varint_row,
 };
-use crate::part::{Item, Part, read_part, take_more, take_pairs};
+use crate::part::{ItemPart, Part, read_part, take_more, take_pairs};
 use crate::refusal::ReadRefusal;
 use crate::writing::{Spelled, write_more, write_one, write_pairs};
 use otlp_messages::{Backward, Message, Of};
@@ -29,16 +29,16 @@ use otlp_model::{Event, Items, Link, Octets, Span, Text, add_capped, sum_capped}
 use otlp_wire::{Field, Wire};
 use std::alloc::{AllocError, Global};
 
-/// How a span ended (OTLP `Status`); the model holds its parts in the span.
+/// How a span ended (OTLP `SpanStatus`); the model holds its parts in the span.
 #[derive(Drop)]
-pub(crate) struct Status {
+pub(crate) struct SpanStatus {
     message: Text,
     code: i32,
 }
 
 /// The same, as it is written.
 #[derive(Clone, Copy)]
-struct StatusOf<'a> {
+struct SpanStatusOf<'a> {
     message: &'a Text,
     code: i32,
 }
@@ -119,7 +119,7 @@ impl Part for Link {
     }
 }
 
-impl Part for Status {
+impl Part for SpanStatus {
     ghost named = { messages.Status };
 
     ghost none = { no_status };
@@ -135,7 +135,7 @@ impl Part for Status {
     }
 
     fn empty(alloc: Global) -> Self {
-        Status {
+        SpanStatus {
             message: Text::new(alloc),
             code: 0,
         }
@@ -217,7 +217,7 @@ impl Part for Span {
     }
 }
 
-impl Item for Span {
+impl ItemPart for Span {
     ghost of = { ofs.Spans };
 
     ghost is_item = { refl };
@@ -241,7 +241,7 @@ fn take_status(
     let Wire::Bytes(bytes) = value else {
         return Err(ReadRefusal::BadMessage);
     };
-    let status: Status = read_part(alloc, bytes)?;
+    let status: SpanStatus = read_part(alloc, bytes)?;
     *message = status.message;
     *code = status.code;
     Ok(())
@@ -324,7 +324,7 @@ impl Spelled for Span {
     }
 }
 
-impl Spelled for StatusOf<'_> {
+impl Spelled for SpanStatusOf<'_> {
     ghost spelled = { λ s. canon_status (record { message = s.message.now; code = s.code }) };
 
     fn write(&self, to: &mut Backward) -> Result<(), AllocError> {
@@ -341,11 +341,11 @@ impl Spelled for StatusOf<'_> {
 }
 
 /// The status of a span, as it is written.
-fn ending(span: &Span) -> StatusOf<'_>
+fn ending(span: &Span) -> SpanStatusOf<'_>
     ensures message { result.message.now ≡ span.now.status_message }
     ensures code { result.code ≡ span.now.status_code }
 {
-    StatusOf {
+    SpanStatusOf {
         message: &span.status_message,
         code: span.status_code,
     }

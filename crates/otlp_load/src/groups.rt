@@ -2,7 +2,7 @@
 ghost use Rattle.std.specs.Prelude.{◌≡◌, ◌∷◌, [], ◌<◌, IfOk, map};
 ghost use Rattle.otlp_load.specs.Load.{items_each, requests_at_most, number_at, places_below, resource_of, scope_of_all, group_of, groups_of};
 
-use crate::items::{Made, list_of_one};
+use crate::items::{LoadItem, list_of_one};
 use crate::pairs::numbered;
 use crate::requests::ITEMS;
 use otlp_model::{Items, Pair, Resource, ResourceGroup, Scope, ScopeGroup, Text, Value};
@@ -13,7 +13,7 @@ const GROUPS: u32 = 3;
 
 /// The groups of a request.
 #[tactic(auto, using(crate::proofs::GroupPlaces::one_more))]
-pub(crate) fn groups<I: Made>(
+pub(crate) fn groups<I: LoadItem>(
     alloc: Global,
     request: u32,
 ) -> Result<Items<ResourceGroup<I>>, AllocError>
@@ -28,7 +28,7 @@ pub(crate) fn groups<I: Made>(
     Ok(groups)
 }
 
-fn group<I: Made>(alloc: Global, request: u32, place: u32) -> Result<ResourceGroup<I>, AllocError>
+fn group<I: LoadItem>(alloc: Global, request: u32, place: u32) -> Result<ResourceGroup<I>, AllocError>
     requires request { request < requests_at_most }
     requires place { place < 3 }
     ensures { IfOk result (λ group. group ≡ group_of I.item_of request place) }
@@ -76,7 +76,7 @@ fn scope(alloc: Global) -> Result<Scope, AllocError>
 }
 
 /// The items of a group: every third one, from the group's own place on.
-fn items<I: Made>(alloc: Global, request: u32, group: u32) -> Result<Items<I>, AllocError>
+fn items<I: LoadItem>(alloc: Global, request: u32, group: u32) -> Result<Items<I>, AllocError>
     requires request { request < requests_at_most }
     requires group { group < 3 }
     ensures { IfOk result (λ items. items ≡ map (λ k. I.item_of request (number_at request k)) (places_below items_each group)) }

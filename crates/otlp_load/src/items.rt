@@ -10,7 +10,7 @@ use otlp_model::{
 use std::alloc::{AllocError, Global};
 
 /// An item that the load is made of.
-pub(crate) trait Made: Drop + Sized {
+pub(crate) trait LoadItem: Drop + Sized {
     ghost use Rattle.std.specs.Prelude.{ℕ};
 
     /// The item, by the number of its request and its own.
@@ -40,7 +40,7 @@ pub(crate) fn list_of_one<T: Drop>(alloc: Global, item: T) -> Result<Items<T>, A
     Ok(items)
 }
 
-impl Made for Span {
+impl LoadItem for Span {
     ghost item_of = { span_of };
 
     fn made(alloc: Global, request: u32, number: u32) -> Result<Span, AllocError> {
@@ -98,7 +98,7 @@ fn event(alloc: Global, name: &str, time: u64) -> Result<Event, AllocError>
     })
 }
 
-impl Made for LogRecord {
+impl LoadItem for LogRecord {
     ghost item_of = { log_record_of };
 
     fn made(alloc: Global, request: u32, number: u32) -> Result<LogRecord, AllocError> {
@@ -118,7 +118,7 @@ impl Made for LogRecord {
     }
 }
 
-impl Made for Metric {
+impl LoadItem for Metric {
     ghost item_of = { metric_of };
 
     fn made(alloc: Global, request: u32, number: u32) -> Result<Metric, AllocError> {

@@ -2,7 +2,7 @@
 use Rattle.std.specs.Prelude.{◌≡◌, ℕ, List, count_by}
 use Rattle.std.specs.List.{AllZip}
 use Rattle.otlp_model.specs.Equal.{pair_is}
-use Rattle.otlp_model.specs.Telemetry.{Entry, Item, span, log_record, metric, telemetry}
+use Rattle.otlp_model.specs.Telemetry.{ItemEntry, Item, span, log_record, metric, telemetry}
 use Rattle.otlp_model.specs.declared.value.Pair.{Pair}
 use Rattle.otlp_model.specs.declared.groups.Resource.{Resource}
 use Rattle.otlp_model.specs.declared.groups.Scope.{Scope}
@@ -91,13 +91,13 @@ SameItem (log_record a) (log_record b) = SameLogRecord a b
 SameItem (metric a) (metric b) = SameMetric a b
 SameItem _ _ = ⊥
 
-pub record SameEntry {I : Type 0} (SameOne : I → I → Type 0) (a b : Entry I) : Type 0 where
+pub record SameEntry {I : Type 0} (SameOne : I → I → Type 0) (a b : ItemEntry I) : Type 0 where
   pub resource : SameResource a.resource b.resource
   pub scope : SameScope a.scope b.scope
   pub item : SameOne a.item b.item
 
 -- entry by entry
-abbrev pub SameTelemetry : List (Entry Item) → List (Entry Item) → Type 0
+abbrev pub SameTelemetry : List (ItemEntry Item) → List (ItemEntry Item) → Type 0
 SameTelemetry xs ys = AllZip (SameEntry SameItem) xs ys
 
 -- both requests tell the same

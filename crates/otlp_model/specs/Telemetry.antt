@@ -14,21 +14,21 @@ use Rattle.otlp_model.specs.declared.request.Signal.TheVariants as signals
 use Rattle.otlp_model.specs.declared.request.Request.TheVariants.{Traces, Logs, Metrics}
 
 -- an item with what it comes from
-pub record Entry (I : Type 0) : Type 0 where
+pub record ItemEntry (I : Type 0) : Type 0 where
   pub resource : Resource
   pub scope : Scope
   pub item : I
 
-abbrev pub entry : {I : Type 0} → Resource → Scope → I → Entry I
+abbrev pub entry : {I : Type 0} → Resource → Scope → I → ItemEntry I
 entry resource scope item = record { resource = resource; scope = scope; item = item }
 
-abbrev pub entries_of_scope_group : {I : Type 0} → Resource → ScopeGroup I → List (Entry I)
+abbrev pub entries_of_scope_group : {I : Type 0} → Resource → ScopeGroup I → List (ItemEntry I)
 entries_of_scope_group resource group = map (entry resource group.scope) group.items
 
-abbrev pub entries_of_group : {I : Type 0} → ResourceGroup I → List (Entry I)
+abbrev pub entries_of_group : {I : Type 0} → ResourceGroup I → List (ItemEntry I)
 entries_of_group group = flat_map (entries_of_scope_group group.resource) group.scopes
 
-abbrev pub entries_of : {I : Type 0} → List (ResourceGroup I) → List (Entry I)
+abbrev pub entries_of : {I : Type 0} → List (ResourceGroup I) → List (ItemEntry I)
 entries_of groups = flat_map entries_of_group groups
 
 -- an item of any signal
@@ -37,11 +37,11 @@ pub data Item : Type 0 where
   log_record : LogRecord → Item
   metric : Metric → Item
 
-abbrev pub told : {I : Type 0} → (I → Item) → Entry I → Entry Item
+abbrev pub told : {I : Type 0} → (I → Item) → ItemEntry I → ItemEntry Item
 told kind e = entry e.resource e.scope (kind e.item)
 
 -- all items of the request in order, over all groups
-abbrev pub telemetry : Request → List (Entry Item)
+abbrev pub telemetry : Request → List (ItemEntry Item)
 telemetry (Traces groups) = map (told span) (entries_of groups)
 telemetry (Logs groups) = map (told log_record) (entries_of groups)
 telemetry (Metrics groups) = map (told metric) (entries_of groups)

@@ -7,7 +7,7 @@ use crate::limits::sum_capped;
 use crate::profile::{Profiled, all_profile};
 use crate::sameness::{Alike, same_pairs};
 use crate::value::Pair;
-use crate::weights::{PART, Weighed, pairs_weight, parts_weight};
+use crate::weights::{PART, HasWeight, pairs_weight, parts_weight};
 use lists::{Items, Text};
 
 /// What telemetry comes from (OTLP `Resource`, with the schema url of its `ResourceSpans`, `ResourceLogs` or
@@ -44,7 +44,7 @@ pub struct ResourceGroup<I> {
     pub scopes: Items<ScopeGroup<I>>,
 }
 
-impl Weighed for Resource {
+impl HasWeight for Resource {
     ghost weight_of = { weight_of_resource };
 
     ghost is_real = { IsRealResource };
@@ -58,7 +58,7 @@ impl Weighed for Resource {
     }
 }
 
-impl Weighed for Scope {
+impl HasWeight for Scope {
     ghost weight_of = { weight_of_scope };
 
     ghost is_real = { IsRealScope };
@@ -74,7 +74,7 @@ impl Weighed for Scope {
     }
 }
 
-impl<I: Weighed> Weighed for ScopeGroup<I> {
+impl<I: HasWeight> HasWeight for ScopeGroup<I> {
     ghost weight_of = { weight_of_scope_group I.weight_of };
 
     ghost is_real = { IsRealScopeGroup I.is_real };
@@ -87,7 +87,7 @@ impl<I: Weighed> Weighed for ScopeGroup<I> {
     }
 }
 
-impl<I: Weighed> Weighed for ResourceGroup<I> {
+impl<I: HasWeight> HasWeight for ResourceGroup<I> {
     ghost weight_of = { weight_of_resource_group I.weight_of };
 
     ghost is_real = { IsRealResourceGroup I.is_real };

@@ -11,7 +11,7 @@ use crate::metrics::Exemplar;
 use crate::profile::{Profiled, all_profile};
 use crate::sameness::{Alike, each_same, same_pairs};
 use crate::value::Pair;
-use crate::weights::{PART, Weighed, pairs_weight, parts_weight};
+use crate::weights::{PART, HasWeight, pairs_weight, parts_weight};
 use lists::Items;
 
 /// What a bucket count and a bound weigh.
@@ -76,7 +76,7 @@ fn touch(bits: &Option<u64>)
     }
 }
 
-impl Weighed for HistPoint {
+impl HasWeight for HistPoint {
     ghost weight_of = { weight_of_hist_point };
 
     ghost is_real = { IsRealHistPoint };
@@ -98,7 +98,7 @@ impl Weighed for HistPoint {
     }
 }
 
-impl Weighed for Quantile {
+impl HasWeight for Quantile {
     ghost weight_of = { weight_of_quantile };
 
     ghost is_real = { IsRealQuantile };
@@ -110,7 +110,7 @@ impl Weighed for Quantile {
     }
 }
 
-impl Weighed for SumPoint {
+impl HasWeight for SumPoint {
     ghost weight_of = { weight_of_sum_point };
 
     ghost is_real = { IsRealSumPoint };

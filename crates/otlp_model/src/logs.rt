@@ -7,7 +7,7 @@ use crate::limits::sum_capped;
 use crate::profile::{Profiled, all_profile, is_span_id, is_trace_id};
 use crate::sameness::{Alike, same_pairs, same_value};
 use crate::value::{Pair, Value};
-use crate::weights::{Weighed, pairs_weight, value_weight};
+use crate::weights::{HasWeight, pairs_weight, value_weight};
 use lists::{Items, Octets, Text};
 
 /// A log record (OTLP `LogRecord`). Times are nanoseconds since the Unix epoch.
@@ -26,7 +26,7 @@ pub struct LogRecord {
     pub event_name: Text,
 }
 
-impl Weighed for LogRecord {
+impl HasWeight for LogRecord {
     ghost weight_of = { weight_of_log_record };
 
     ghost is_real = { IsRealLogRecord };

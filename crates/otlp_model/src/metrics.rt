@@ -9,7 +9,7 @@ use crate::limits::sum_capped;
 use crate::profile::{Profiled, all_profile, is_span_id, is_trace_id};
 use crate::sameness::{Alike, each_same, same_pairs};
 use crate::value::Pair;
-use crate::weights::{PART, Weighed, pairs_weight, parts_weight};
+use crate::weights::{PART, HasWeight, pairs_weight, parts_weight};
 use lists::{Items, Octets, Text};
 
 /// A metric (OTLP `Metric`).
@@ -67,7 +67,7 @@ pub struct Exemplar {
     pub pairs: Items<Pair>,
 }
 
-impl Weighed for Number {
+impl HasWeight for Number {
     ghost weight_of = { λ _. 0 };
 
     ghost is_real = { λ number. IsTrue (is_real_number number) };
@@ -86,7 +86,7 @@ impl Weighed for Number {
     }
 }
 
-impl Weighed for Exemplar {
+impl HasWeight for Exemplar {
     ghost weight_of = { weight_of_exemplar };
 
     ghost is_real = { IsRealExemplar };
@@ -102,7 +102,7 @@ impl Weighed for Exemplar {
     }
 }
 
-impl Weighed for Point {
+impl HasWeight for Point {
     ghost weight_of = { weight_of_point };
 
     ghost is_real = { IsRealPoint };
@@ -119,7 +119,7 @@ impl Weighed for Point {
     }
 }
 
-impl Weighed for Shape {
+impl HasWeight for Shape {
     ghost weight_of = { weight_of_shape };
 
     ghost is_real = { IsRealShape };
@@ -148,7 +148,7 @@ impl Weighed for Shape {
     }
 }
 
-impl Weighed for Metric {
+impl HasWeight for Metric {
     ghost weight_of = { weight_of_metric };
 
     ghost is_real = { IsRealMetric };

@@ -7,7 +7,7 @@ use crate::limits::sum_capped;
 use crate::profile::{Profiled, all_profile, is_span_id, is_trace_id};
 use crate::sameness::{Alike, each_same, same_pairs};
 use crate::value::Pair;
-use crate::weights::{PART, Weighed, pairs_weight, parts_weight};
+use crate::weights::{PART, HasWeight, pairs_weight, parts_weight};
 use lists::{Items, Octets, Text};
 
 /// A span (OTLP `Span`). Times are nanoseconds since the Unix epoch.
@@ -52,7 +52,7 @@ pub struct Link {
     pub dropped: u32,
 }
 
-impl Weighed for Event {
+impl HasWeight for Event {
     ghost weight_of = { weight_of_event };
 
     ghost is_real = { IsRealEvent };
@@ -64,7 +64,7 @@ impl Weighed for Event {
     }
 }
 
-impl Weighed for Link {
+impl HasWeight for Link {
     ghost weight_of = { weight_of_link };
 
     ghost is_real = { IsRealLink };
@@ -81,7 +81,7 @@ impl Weighed for Link {
     }
 }
 
-impl Weighed for Span {
+impl HasWeight for Span {
     ghost weight_of = { weight_of_span };
 
     ghost is_real = { IsRealSpan };

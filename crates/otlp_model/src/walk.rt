@@ -9,7 +9,7 @@ use crate::sameness::{Alike, each_same};
 
 /// A place among the items of some groups, by the numbers of the group, of its scope group and of its item.
 #[derive(Drop)]
-struct Place<'a, I> {
+struct ItemCursor<'a, I> {
     groups: &'a [ResourceGroup<I>],
     group: usize,
     scope: usize,
@@ -25,12 +25,12 @@ struct Run<'a, I> {
     items: &'a [I],
 }
 
-impl<'a, I> Place<'a, I> {
+impl<'a, I> ItemCursor<'a, I> {
     fn new(groups: &'a [ResourceGroup<I>]) -> Self
         ensures groups { result.groups.now ≡ groups.now }
         ensures all { left result.groups.now result.group result.scope result.item ≡ entries_of groups.now }
     {
-        Place {
+        ItemCursor {
             groups,
             group: 0,
             scope: 0,
@@ -92,8 +92,8 @@ fn starts_same<I: Alike>(x: &Run<'_, I>, y: &Run<'_, I>, n: usize, known: bool) 
 pub(crate) fn same_groups<I: Alike>(a: &[ResourceGroup<I>], b: &[ResourceGroup<I>]) -> bool
     ensures { IsTrue result ↔ AllZip (SameEntry I.alike) (entries_of a.now) (entries_of b.now) }
 {
-    let mut left = Place::new(a);
-    let mut right = Place::new(b);
+    let mut left = ItemCursor::new(a);
+    let mut right = ItemCursor::new(b);
     let mut compared = (a.len(), b.len());
     'runs: loop {
         let Some(x) = left.run() else {

@@ -71,7 +71,7 @@ pub(crate) fn pairs_weight(pairs: &[Pair]) -> u64
 /// byte string, which weighs its bytes.
 ///
 /// An `impl` reads the part's numbers too, which tells a proof that they fit their types.
-pub(crate) trait Weighed {
+pub(crate) trait HasWeight {
     ghost weight_of: { Self → ℕ };
 
     ghost is_real: { Self → Type 0 };
@@ -81,7 +81,7 @@ pub(crate) trait Weighed {
         ensures real { is_real self.now };
 }
 
-impl Weighed for Text {
+impl HasWeight for Text {
     ghost weight_of = { λ text. length text };
 
     ghost is_real = { λ text. IsTrue (is_real_text text) };
@@ -93,7 +93,7 @@ impl Weighed for Text {
     }
 }
 
-impl Weighed for Octets {
+impl HasWeight for Octets {
     ghost weight_of = { λ octets. length octets };
 
     ghost is_real = { λ octets. IsTrue (is_real_octets octets) };
@@ -106,7 +106,7 @@ impl Weighed for Octets {
 }
 
 /// The weight of some parts, with `each` for every one.
-pub(crate) fn parts_weight<P: Weighed>(each: u64, parts: &[P]) -> u64
+pub(crate) fn parts_weight<P: HasWeight>(each: u64, parts: &[P]) -> u64
     ensures weight { result ≡ min (total each P.weight_of parts.now) count_cap }
     ensures real { Each P.is_real parts.now }
 {

@@ -4,7 +4,7 @@ use Rattle.std.proofs.lemmas.List.{length-append}
 use Rattle.otlp_wire.specs.declared.parts.WireError.{WireError}
 use Rattle.otlp_wire.specs.Wire.{FieldValue, Varint, Fixed64, Bytes, Fixed32, Entry, IsValue, IsField}
 use Rattle.otlp_wire.specs.Reading.{Begins, Faults, Reads, Spells}
-use Rattle.otlp_wire.specs.Fields.{Reading, and_then, reading_in, first_field}
+use Rattle.otlp_wire.specs.Fields.{FieldsReading, and_then, reading_in, first_field}
 use Rattle.otlp_wire.proofs.Values.{field_ok, field_err, FieldIs, first_field_is, field_long}
 
 -- bytes that begin with a field are not empty
@@ -58,7 +58,7 @@ shorter : (bytes rest : List ℕ) (f : Entry) → Begins (λ front. IsField fron
 shorter bytes rest f b = rw b.1 (omega (arith, length-append b.0 rest, field_long b.0 f b.2))
 
 -- a reading of the rest after the field is one of the whole
-read_on : (bytes : List ℕ) (read : List ℕ → Reading) → 0 < length bytes → ((rest : List ℕ) → length rest < length bytes → Reads rest (read rest).fields (read rest).end)
+read_on : (bytes : List ℕ) (read : List ℕ → FieldsReading) → 0 < length bytes → ((rest : List ℕ) → length rest < length bytes → Reads rest (read rest).fields (read rest).end)
     → (x : Result (Entry × List ℕ) WireError) → FieldIs bytes x → Reads bytes (and_then read x).fields (and_then read x).end
 read_on bytes read long others (Ok x) b = (x.1, b, others x.1 (shorter bytes x.1 x.0 b))
 read_on bytes read long others (Err e) f = (long, f)

@@ -10,7 +10,7 @@ use Rattle.otlp_wire.specs.declared.parts.WireError.TheVariants.{Cut, BadVarint,
 use Rattle.otlp_wire.specs.Varint.{IsVarint, IsCutVarint, IsLongVarint}
 use Rattle.otlp_wire.specs.Wire.{FieldValue, Varint, Fixed64, Bytes, Fixed32, Entry, wire_type, IsNumber, IsValue, IsField}
 use Rattle.otlp_wire.specs.Reading.{Begins, VarintFaults, IsCutPart, ValueFaults, TagFaults, Faults}
-use Rattle.otlp_wire.specs.Fields.{Taken, first_varint, as_varint, as_part, as_fixed, first_value, with_number, after_tag, first_field}
+use Rattle.otlp_wire.specs.Fields.{WireRead, first_varint, as_varint, as_part, as_fixed, first_value, with_number, after_tag, first_field}
 use Rattle.otlp_wire.proofs.Varints.{VarintIs, one_varint_result, first_varint_is}
 
 -- a length, and as many bytes
@@ -37,7 +37,7 @@ field_after bytes rest left tag v head value number kind =
       },
     )
 
-the_varint : (bytes : List ℕ) (x : Taken ℕ) → VarintIs bytes x → first_varint bytes ≡ x
+the_varint : (bytes : List ℕ) (x : WireRead ℕ) → VarintIs bytes x → first_varint bytes ≡ x
 the_varint bytes x h = one_varint_result bytes (first_varint bytes) x (first_varint_is bytes) h
 
 fixed_ok : (n : ℕ) (value : ℕ → FieldValue) (bytes front rest : List ℕ) → bytes ≡ front ++ rest → length front ≡ n → as_fixed n value bytes ≡ Ok (value (little_number n front), rest)
@@ -93,12 +93,12 @@ value_err t bytes BadWireType f = bad_type t bytes f
 value_err t bytes BadTag f = absurd f
 
 -- some value or fault is there
-abbrev ValueIs : ℕ → List ℕ → Taken FieldValue → Type 0
+abbrev ValueIs : ℕ → List ℕ → WireRead FieldValue → Type 0
 ValueIs t bytes (Ok x) = (wire_type x.0 ≡ t) × Begins (λ front. IsValue front x.0) bytes x.1
 ValueIs t bytes (Err e) = ValueFaults t bytes e
 
 SomeValue : ℕ → List ℕ → Type 0
-SomeValue t bytes = (x : Taken FieldValue) × ValueIs t bytes x
+SomeValue t bytes = (x : WireRead FieldValue) × ValueIs t bytes x
 
 number_value : (bytes : List ℕ) (x : Result (ℕ × List ℕ) WireError) → VarintIs bytes x → SomeValue 0 bytes
 unfolding SomeValue
@@ -189,12 +189,12 @@ field_err bytes e (inr f) =
     after tag rest (inl h) = rw (no_number (tag / 8) h.0) (ap (λ d. Err d) (sym h.1))
     after tag rest (inr h) = rw (number_test (tag / 8) h.0) (ap (with_number (tag / 8)) (value_err (tag % 8) rest e h.1))
 
-abbrev pub FieldIs : List ℕ → (Taken Entry) → Type 0
+abbrev pub FieldIs : List ℕ → (WireRead Entry) → Type 0
 FieldIs bytes (Ok x) = Begins (λ front. IsField front x.0) bytes x.1
 FieldIs bytes (Err e) = Faults bytes e
 
 abbrev SomeField : List ℕ → Type 0
-SomeField bytes = (x : Taken Entry) × FieldIs bytes x
+SomeField bytes = (x : WireRead Entry) × FieldIs bytes x
 
 number_or_not : (n : ℕ) → IsNumber n ⊎ (IsNumber n → ⊥)
 number_or_not n =
@@ -204,7 +204,7 @@ number_or_not n =
     ]
 
 some_after : (bytes rest : List ℕ) (tag : ℕ) → Begins (λ front. IsVarint front tag) bytes rest → IsNumber (tag / 8)
-    → (x : Taken FieldValue) → ValueIs (tag % 8) rest x → SomeField bytes
+    → (x : WireRead FieldValue) → ValueIs (tag % 8) rest x → SomeField bytes
 some_after bytes rest tag b number (Ok x) v =
     (Ok (record { number = tag / 8; value = x.0 }, x.1), field_after bytes rest x.1 tag x.0 b v.1 number v.0)
 some_after bytes rest tag b number (Err e) f = (Err e, inr (tag, rest, b, inr (number, f)))
@@ -225,7 +225,7 @@ some_field bytes = some_tagged bytes (first_varint bytes) (first_varint_is bytes
 pub first_field_is : (bytes : List ℕ) → FieldIs bytes (first_field bytes)
 first_field_is bytes = go (some_field bytes).0 (some_field bytes).1
   where
-    go : (x : Taken Entry) → FieldIs bytes x → FieldIs bytes (first_field bytes)
+    go : (x : WireRead Entry) → FieldIs bytes x → FieldIs bytes (first_field bytes)
     go (Ok x) b = subst (FieldIs bytes) (sym (field_ok x.0 bytes x.1 b)) b
     go (Err e) f = subst (FieldIs bytes) (sym (field_err bytes e f)) f
 

@@ -4,7 +4,7 @@ use Rattle.arrow_schema.specs.declared.spec.FieldSpec.{FieldSpec}
 use Rattle.flat_tables.specs.Bytes.{◌>>=◌}
 use Rattle.arrow_schema.specs.declared.refusal.SchemaRefusal.{SchemaRefusal}
 use Rattle.arrow_schema.specs.Trees.{names_differ}
-use Rattle.arrow_schema.specs.Reading.{Fields, with_own_names, field_of, vector_of}
+use Rattle.arrow_schema.specs.Reading.{FieldsRead, with_own_names, field_of, vector_of}
 use Rattle.arrow_schema.proofs.Loop.{goes_on, fails_into, element_fails, field_fails, no_element, is_done, empty_vector, many_fields, deep_fields, inner_fields, own_names, shared_names}
 use Rattle.arrow_schema.proofs.reading.+read.Goals as goal
 
@@ -51,7 +51,7 @@ read_vector-returns-in_err-fields t c =
     let p = err_from_is_err_and c.from_residual.result c.from_residual.ensures.1 in
     let inner = inner_fields c.args.depth c.args.left (c.args.depth - 1) (c.args.left - c.len-3.result) c.args.vector.now (omega arith) (omega arith) (omega arith) in
     rw (p.1, p.2) (fails_into c.in_err-fields.field-0.0 _ (vector_of c.args.depth c.args.left c.args.vector.now)
-    (λ e. inner ∙ ap (λ (fields : Result Fields SchemaRefusal). fields >>= with_own_names) e) c.in_err-fields.ensures)
+    (λ e. inner ∙ ap (λ (fields : Result FieldsRead SchemaRefusal). fields >>= with_own_names) e) c.in_err-fields.ensures)
 
 pub read_vector-returns-then-not-names_differ : goal.read_vector-returns-then-not-names_differ
 read_vector-returns-then-not-names_differ t c =

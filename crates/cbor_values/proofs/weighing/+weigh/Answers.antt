@@ -1,7 +1,7 @@
 use Rattle.std.proofs.Common.{sym, ap, arith}
 use Rattle.std.proofs.lemmas.Result.{err_from_is_err_and}
 use Rattle.otlp_model.specs.Weight.{weight_of_value, weight_of_pair}
-use Rattle.cbor_values.specs.declared.weighing.Weighed.{Weighed}
+use Rattle.cbor_values.specs.declared.weighing.WeighedValue.{WeighedValue}
 use Rattle.cbor_values.specs.Reading.{many_at, open_at, pair_at, item_at}
 use Rattle.cbor_values.proofs.Again.{Shallow, ShallowPair, item_start, pair_start}
 use Rattle.cbor_values.proofs.ItemTakes.{item_reader, pair_reader}
@@ -78,7 +78,7 @@ members-loop-preserved t c =
     many_more weight_of_value (item_at c.args.depth) c.args.count c.loop.counter c.loop.weight _ c.loop.rest.now c.in_ok-member.ensures.value c.in_ok-member.after.now
     (many_at (item_at c.args.depth) c.args.count c.args.bytes.now)
     c.loop-test.true c.loop.invariant c.in_ok-member.ensures.is
-    (let own = ap (λ (w : Weighed). w.weight) c.in_ok-member.ensures.of in omega arith)
+    (let own = ap (λ (w : WeighedValue). w.weight) c.in_ok-member.ensures.of in omega arith)
 
 pub members-returns : goal.members-returns
 members-returns t c =
@@ -103,7 +103,7 @@ open_members-members-preserved t c =
     open_more weight_of_value (Shallow c.args.depth) (item_at c.args.depth) (item_reader c.args.depth) c.members.weight _ c.members.rest.now c.in_ok-member.ensures.value c.in_ok-member.after.now
     (open_at (item_at c.args.depth) c.args.bytes.now)
     (sym c.in_default.ensures) c.members.invariant c.in_ok-member.ensures.is
-    (let own = ap (λ (w : Weighed). w.weight) c.in_ok-member.ensures.of in omega arith)
+    (let own = ap (λ (w : WeighedValue). w.weight) c.in_ok-member.ensures.of in omega arith)
 
 pub pairs-returns-in_err-own : goal.pairs-returns-in_err-own
 pairs-returns-in_err-own t c =

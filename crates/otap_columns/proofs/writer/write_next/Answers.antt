@@ -4,7 +4,7 @@ use Rattle.otap_columns.specs.declared.forms.ColumnForm.{ColumnForm}
 use Rattle.otap_cells.specs.Columns.{base_at, width_of}
 use Rattle.otap_columns.specs.Schemas.{FormsFit, is_dictionary}
 use Rattle.otap_columns.specs.WrittenGroups.{forms_in}
-use Rattle.otap_columns.specs.WrittenRecords.{CanSend, IsRecordBy, from_in}
+use Rattle.otap_columns.specs.WrittenRecords.{CanSendColumn, IsRecordBy, from_in}
 use Rattle.otap_columns.specs.WrittenRows.{HasValues}
 use Rattle.otap_columns.specs.BuiltRows.{CanWrite, columns_in}
 use Rattle.otap_columns.specs.WriterInside.{AreCounts, AreForms}
@@ -60,9 +60,9 @@ record_of-requires-clause-send c =
     (λ none. let s = c.is_opening-opens.ensures.stays none in (s.0, sym c.deref.ensures.value ∙ s.1 ∙ c.deref-2.ensures.value))
     (λ begun same. c.is_opening-opens.ensures.goes_on begun (c.deref.ensures.value ∙ same ∙ sym c.deref-2.ensures.value)) in
     subst (λ (fs : List ColumnForm). (column : ℕ) → column < width_of t.kind → is_dictionary (forms_in fs column) ≡ true
-    → CanSend (base_at t.kind column) (forms_in fs column) (from_in opens c.deref-4.result.now column) (columns_in new column)) (sym c.deref-3.ensures.value)
+    → CanSendColumn (base_at t.kind column) (forms_in fs column) (from_in opens c.deref-4.result.now column) (columns_in new column)) (sym c.deref-3.ensures.value)
     (subst (λ (ns : List ℕ). (column : ℕ) → column < width_of t.kind → is_dictionary (forms_in forms column) ≡ true
-    → CanSend (base_at t.kind column) (forms_in forms column) (from_in opens ns column) (columns_in new column)) (sym c.deref-4.ensures.value)
+    → CanSendColumn (base_at t.kind column) (forms_in forms column) (from_in opens ns column) (columns_in new column)) (sym c.deref-4.ensures.value)
     (sends t.kind tables t old new had forms counts c.args.started opens step c.requires.ready.1.writable c.requires.writable))
 
 pub returns-clause-record_is : goal.returns-clause-record_is

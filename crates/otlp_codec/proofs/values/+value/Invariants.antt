@@ -3,7 +3,7 @@ use Rattle.otlp_wire.specs.Wire.{value_of}
 use Rattle.otlp_wire.proofs.Readings.{part_len}
 use Rattle.otlp_messages.specs.declared.messages.Message.TheVariants as messages
 use Rattle.otlp_model.specs.declared.value.Value.TheVariants.{Empty}
-use Rattle.otlp_codec.specs.Passes.{Passes}
+use Rattle.otlp_codec.specs.Passes.{PassesFields}
 use Rattle.otlp_codec.specs.Values.{any_in}
 use Rattle.otlp_codec.specs.Steps.{array_at, map_at, no_pair, pair_step, array_step, map_step}
 use Rattle.otlp_codec.proofs.values.+value.Given as goal
@@ -15,7 +15,7 @@ abbrev pub decreases-take_member : goal.decreases-take_member
 decreases-take_member l = 6 * part_len (value_of l.field.now.value) + 4
 
 abbrev pub invariant-fill_value-fields : goal.invariant-fill_value-fields
-invariant-fill_value-fields l = Passes messages.AnyValue l.levels (any_in (array_at l.levels) (map_at l.levels)) Empty l.bytes l.seen l.next-iterator l.value
+invariant-fill_value-fields l = PassesFields messages.AnyValue l.levels (any_in (array_at l.levels) (map_at l.levels)) Empty l.bytes l.seen l.next-iterator l.value
 
 abbrev pub decreases-read_array : goal.decreases-read_array
 decreases-read_array l = 6 * length l.bytes.now + 1
@@ -24,7 +24,7 @@ abbrev pub decreases-take_array : goal.decreases-take_array
 decreases-take_array l = 6 * part_len (value_of l.field.now.value) + 4
 
 abbrev pub invariant-read_array-fields : goal.invariant-read_array-fields
-invariant-read_array-fields l = Passes messages.ArrayValue l.levels (array_step l.levels) [] l.bytes l.seen l.next-iterator l.values
+invariant-read_array-fields l = PassesFields messages.ArrayValue l.levels (array_step l.levels) [] l.bytes l.seen l.next-iterator l.values
 
 abbrev pub decreases-read_map : goal.decreases-read_map
 decreases-read_map l = 6 * length l.bytes.now + 1
@@ -33,7 +33,7 @@ abbrev pub decreases-take_map : goal.decreases-take_map
 decreases-take_map l = 6 * part_len (value_of l.field.now.value) + 4
 
 abbrev pub invariant-read_map-fields : goal.invariant-read_map-fields
-invariant-read_map-fields l = Passes messages.KeyValueList l.levels (map_step l.levels) [] l.bytes l.seen l.next-iterator l.pairs
+invariant-read_map-fields l = PassesFields messages.KeyValueList l.levels (map_step l.levels) [] l.bytes l.seen l.next-iterator l.pairs
 
 abbrev pub decreases-fill_pair : goal.decreases-fill_pair
 decreases-fill_pair l = 6 * length l.bytes.now + 1
@@ -42,4 +42,4 @@ abbrev pub decreases-take_pair : goal.decreases-take_pair
 decreases-take_pair l = 6 * part_len (value_of l.field.now.value) + 4
 
 abbrev pub invariant-fill_pair-fields : goal.invariant-fill_pair-fields
-invariant-fill_pair-fields l = Passes messages.KeyValue l.levels (pair_step l.levels) no_pair l.bytes l.seen l.next-iterator l.pair
+invariant-fill_pair-fields l = PassesFields messages.KeyValue l.levels (pair_step l.levels) no_pair l.bytes l.seen l.next-iterator l.pair

@@ -5,4 +5,4 @@ use Rattle.otlp_load.specs.Load.{group_of}
 use Rattle.otlp_load.proofs.groups.groups.Given as goal
 
 abbrev pub invariant-groups : goal.invariant-groups
-invariant-groups g l = l.groups ≡ map (group_of g.I.Made.item_of l.request) (range_with_len 0 l.place)
+invariant-groups g l = l.groups ≡ map (group_of g.I.LoadItem.item_of l.request) (range_with_len 0 l.place)

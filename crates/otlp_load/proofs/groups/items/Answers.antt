@@ -11,9 +11,9 @@ places-init g c = rw (no_places c.args.group) (search rules)
 pub places-preserved : goal.places-preserved
 places-preserved g c = elim c.if-place-group.branch [
   | then-place-group+in_ok-made+in_ok-push w ↦
-      let made = made_for_one (λ k. g.I.Made.item_of c.args.request (number_at c.args.request k)) c.args.group c.places.place c.places.items c.places.invariant w.if-place-group.true in
+      let made = made_for_one (λ k. g.I.LoadItem.item_of c.args.request (number_at c.args.request k)) c.args.group c.places.place c.places.items c.places.invariant w.if-place-group.true in
       grind (arith, common_steps, made, w.items-is, w.push.ensures.ok, w.in_ok-push.was, w.in_ok-made.ensures)
   | else-place-group w ↦
-      let made = made_for_none (λ k. g.I.Made.item_of c.args.request (number_at c.args.request k)) c.args.group c.places.place c.places.items c.places.invariant w.if-place-group.false in
+      let made = made_for_none (λ k. g.I.LoadItem.item_of c.args.request (number_at c.args.request k)) c.args.group c.places.place c.places.items c.places.invariant w.if-place-group.false in
       rw (w.items-is) made
 ]

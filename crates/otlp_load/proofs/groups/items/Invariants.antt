@@ -4,4 +4,4 @@ use Rattle.otlp_load.specs.Load.{number_at, places_below}
 use Rattle.otlp_load.proofs.groups.items.Given as goal
 
 abbrev pub invariant-places : goal.invariant-places
-invariant-places g l = l.items ≡ map (λ k. g.I.Made.item_of l.request (number_at l.request k)) (places_below l.place l.group)
+invariant-places g l = l.items ≡ map (λ k. g.I.LoadItem.item_of l.request (number_at l.request k)) (places_below l.place l.group)

@@ -6,7 +6,7 @@ use Rattle.otlp_model.proofs.weights.parts_weight.Given as goal
 abbrev pub invariant-loop-part : goal.invariant-loop-part
 invariant-loop-part g l = record {
   capped : l.weight ≤ 2 ^ 63;
-  weight : min (l.weight + total l.each g.P.Weighed.weight_of (drop l.part-index l.parts)) (2 ^ 63)
-      ≡ min (total l.each g.P.Weighed.weight_of l.parts) (2 ^ 63);
-  real : All g.P.Weighed.is_real (take l.part-index l.parts);
+  weight : min (l.weight + total l.each g.P.HasWeight.weight_of (drop l.part-index l.parts)) (2 ^ 63)
+      ≡ min (total l.each g.P.HasWeight.weight_of l.parts) (2 ^ 63);
+  real : All g.P.HasWeight.is_real (take l.part-index l.parts);
 }

@@ -1,6 +1,6 @@
 use Rattle.std.proofs.Common.{◌≡◌, ◌∙◌, ◌+◌, ◌<◌, ◌^◌, ℕ, length, min, get_or, sym, ap, subst, arith}
 use Rattle.std.proofs.lemmas.List.{get_or_default}
-use Rattle.otap_groups.specs.declared.entry.Entry.{Entry}
+use Rattle.otap_groups.specs.declared.entry.ChildEntry.{ChildEntry}
 use Rattle.otap_groups.specs.Inside.{blank}
 use Rattle.otap_groups.specs.Found.{of_parent}
 use Rattle.otap_attrs.specs.Index.{IsIndexOf}
@@ -26,13 +26,13 @@ entries-preserved c =
     c.index.ensures ∙ get_or_default weights (get_or entries k blank).place c.index.result.now 0 low in
     record {
       capped = omega (arith, c.add_capped-weight.ensures);
-      so_far = weigh_more (λ (e : Entry). get_or weights e.place 0) entries k blank c.entries.weight c.add_capped.result c.add_capped-weight.result (omega arith)
+      so_far = weigh_more (λ (e : ChildEntry). get_or weights e.place 0) entries k blank c.entries.weight c.add_capped.result c.add_capped-weight.result (omega arith)
           (c.add_capped.ensures ∙ ap (λ (w : ℕ). min (32 + w) (2 ^ 63)) here) c.add_capped-weight.ensures c.entries.invariant.so_far;
     }
 
 pub returns : goal.returns
 returns c = λ t is.
     let are = c.entries_of-entries.ensures ∙ ap (of_parent c.args.parent) c.deref.ensures.value in
-    weigh_done (λ (e : Entry). get_or c.self.inside.weights.items e.place 0) c.entries_of-entries.result.now c.entries.entry-index c.entries.weight (omega arith)
+    weigh_done (λ (e : ChildEntry). get_or c.self.inside.weights.items e.place 0) c.entries_of-entries.result.now c.entries.entry-index c.entries.weight (omega arith)
     c.entries.invariant.capped c.entries.invariant.so_far
     ∙ weighs_pairs t _ c.args.parent (subst (IsIndexOf t) (sym c.self.view_is) is) c.entries_of-entries.result.now are c.self.invariant.below

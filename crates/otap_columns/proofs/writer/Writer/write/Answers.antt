@@ -2,7 +2,7 @@ use Rattle.std.proofs.Common.{◌≡◌, ◌∷◌, ◌++◌, [], List, length, 
 use Rattle.std.proofs.lemmas.List.{with_items_is}
 use Rattle.otap_cells.specs.declared.payload.Kind.{Kind}
 use Rattle.otap_cells.specs.Tables.{Table}
-use Rattle.otap_columns.specs.WrittenPayloads.{IsRecord, IsWritable}
+use Rattle.otap_columns.specs.WrittenPayloads.{IsRecord, IsWritableTable}
 use Rattle.otap_columns.specs.Seen.{SeenIn}
 use Rattle.otap_columns.specs.Writers.{AreSeen, AreWritable, HasWritten, WriterIn}
 use Rattle.otap_columns.specs.WriterInside.{IsReady}
@@ -28,7 +28,7 @@ write_next-requires-clause-ready c =
     )
 
 pub write_next-requires-clause-writable : goal.write_next-requires-clause-writable
-write_next-requires-clause-writable c = subst (λ (k : Kind). IsWritable k c.args.table.now) (sym c.requires.writable.kind_is) c.requires.writable
+write_next-requires-clause-writable c = subst (λ (k : Kind). IsWritableTable k c.args.table.now) (sym c.requires.writable.kind_is) c.requires.writable
 
 pub returns-clause-writes : goal.returns-clause-writes
 returns-clause-writes c =

@@ -1,5 +1,0 @@
-use Rattle.otlp_model.proofs.Places.{left_start}
-use Rattle.otlp_model.proofs.walk.Place.new.Goals as goal
-
-pub returns-clause-all : goal.returns-clause-all
-returns-clause-all g c = left_start c.args.groups.now
