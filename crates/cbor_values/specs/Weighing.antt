@@ -1,5 +1,6 @@
 -- What is told of a value that isn't built.
-use Rattle.std.specs.Prelude.{◌≡◌, ℕ, ◌^◌, min, List, Some}
+use Rattle.std.specs.Prelude.{◌≡◌, ℕ, min, List, Some}
+use Rattle.otlp_model.specs.Limits.{count_cap}
 use Rattle.otlp_model.specs.declared.value.Value.{Value, out-Value}
 use Rattle.otlp_model.specs.declared.value.Value.TheOpen.{Value-F}
 use Rattle.otlp_model.specs.declared.value.Pair.{Pair}
@@ -20,7 +21,7 @@ nesting_of value = nesting_step (out-Value value)
 
 -- what is told of a value, and what its parts weigh: at most 2^63
 abbrev pub weighed : Value → WeighedValue
-weighed value = record { nesting = nesting_of value; weight = min (weight_of_value value) (2 ^ 63) }
+weighed value = record { nesting = nesting_of value; weight = min (weight_of_value value) count_cap }
 
 -- the value of these bytes is told of
 pub record IsWeighed (bytes : List ℕ) (told : WeighedValue) : Type 0 where

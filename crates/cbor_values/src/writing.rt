@@ -2,7 +2,7 @@
 
 ghost use Rattle.std.specs.Prelude.{◌≡◌, ◌+◌, ◌^◌, ◌<◌, ◌≤◌, [], ◌∷◌, ◌++◌, length, min, vec_len, vec_capacity, OnOk, OnErr};
 ghost use Rattle.byteorder.specs.Endian.{big_bytes};
-ghost use Rattle.otlp_model.specs.Limits.{weight_limit};
+ghost use Rattle.otlp_model.specs.Limits.{weight_limit, count_cap};
 ghost use Rattle.otlp_model.specs.Weight.{weight_of_value};
 ghost use Rattle.otlp_model.specs.declared.value.Value as values;
 ghost use Rattle.cbor_values.specs.Heads.{argument_len};
@@ -46,7 +46,7 @@ pub fn write_value(to: &mut Vec<u8>, value: &Value) -> Result<(), AllocError>
 #[cycle(len)]
 #[tactic(auto, using(crate::proofs::WrittenForm::length_empty, crate::proofs::WrittenForm::length_bool, crate::proofs::WrittenForm::length_int, crate::proofs::WrittenForm::length_double, crate::proofs::WrittenForm::length_str, crate::proofs::WrittenForm::length_bytes, crate::proofs::WrittenForm::length_array, crate::proofs::WrittenForm::length_map))]
 fn len(value: &Value) -> u64
-    ensures { result ≡ min (length (cbor_of value.now)) (2 ^ 63) }
+    ensures { result ≡ min (length (cbor_of value.now)) count_cap }
 {
     match value {
         Value::Empty | Value::Bool(_) => 1,
@@ -67,7 +67,7 @@ fn len(value: &Value) -> u64
 
 #[cycle(len)]
 fn len_members(members: &[Value]) -> u64
-    ensures { result ≡ min (lengths cbor_of members.now) (2 ^ 63) }
+    ensures { result ≡ min (lengths cbor_of members.now) count_cap }
 {
     let mut total = 0;
     for member in members {
@@ -78,7 +78,7 @@ fn len_members(members: &[Value]) -> u64
 
 #[cycle(len)]
 fn len_pairs(pairs: &[Pair]) -> u64
-    ensures { result ≡ min (lengths cbor_of_pair pairs.now) (2 ^ 63) }
+    ensures { result ≡ min (lengths cbor_of_pair pairs.now) count_cap }
 {
     let mut total = 0;
     for pair in pairs {
@@ -90,14 +90,14 @@ fn len_pairs(pairs: &[Pair]) -> u64
 #[cycle(len)]
 #[tactic(auto, using(crate::proofs::WrittenForm::length_pair))]
 fn len_pair(pair: &Pair) -> u64
-    ensures { result ≡ min (length (cbor_of_pair pair.now)) (2 ^ 63) }
+    ensures { result ≡ min (length (cbor_of_pair pair.now)) count_cap }
 {
     add_capped(len_string(pair.key.len()), len(&pair.value))
 }
 
 /// The length of a string of `len` bytes, with its head.
 fn len_string(len: usize) -> u64
-    ensures { result ≡ min (head_len len + len) (2 ^ 63) }
+    ensures { result ≡ min (head_len len + len) count_cap }
 {
     let len = len as u64;
     add_capped(len_head(len), len)

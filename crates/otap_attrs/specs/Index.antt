@@ -1,5 +1,6 @@
 -- The pairs of a parent in a table of attributes, and an index that finds them.
-use Rattle.std.specs.Prelude.{◌≡◌, ℕ, ◌^◌, true, List, [], Option, map, drop, min}
+use Rattle.std.specs.Prelude.{◌≡◌, ℕ, true, List, [], Option, map, drop, min}
+use Rattle.otlp_model.specs.Limits.{count_cap}
 use Rattle.otlp_model.specs.Weight.{weight_of_pair}
 use Rattle.otlp_model.specs.declared.value.Pair.{Pair}
 use Rattle.otap_cells.specs.Cells.{Cell}
@@ -27,7 +28,7 @@ pub record IndexIn : Type 0 where
 
 -- what the pair of a row weighs, or 2^63 where it is more
 abbrev pub row_weight : List Cell → ℕ
-row_weight row = min (weight_of_pair (pair_in (drop 1 row))) (2 ^ 63)
+row_weight row = min (weight_of_pair (pair_in (drop 1 row))) count_cap
 
 -- AN INDEX OF A TABLE of attributes: it finds the pairs of each parent
 pub record IsIndexOf (t : Table) (index : IndexIn) : Type 0 where

@@ -1,7 +1,7 @@
 //! Values in cells, both ways: the type, then a cell for a text, an integer, a double, a truth value, bytes, and a nested value.
-ghost use Rattle.std.specs.Prelude.{◌≡◌, ◌<◌, ◌≤◌, ◌^◌, ◌∷◌, [], drop, length, map, min, unwrap_or, IfErr, IfOk, OnOk};
+ghost use Rattle.std.specs.Prelude.{◌≡◌, ◌<◌, ◌≤◌, ◌∷◌, [], drop, length, map, min, unwrap_or, IfErr, IfOk, OnOk};
 ghost use Rattle.std.specs.List.{slice_index_or};
-ghost use Rattle.otlp_model.specs.Limits.{weight_limit};
+ghost use Rattle.otlp_model.specs.Limits.{weight_limit, count_cap};
 ghost use Rattle.otlp_model.specs.Weight.{weight_of_value};
 ghost use Rattle.otlp_model.specs.declared.value.Value as values;
 ghost use Rattle.cbor_values.specs.Values.{value_of};
@@ -120,7 +120,7 @@ fn value_row<'a>(
 pub fn weight_at<R: Rows>(rows: &R, column: u32, row: u64) -> u64
     requires columns { HasValueAt (R.table rows.now).kind column }
     requires row { row < length (R.table rows.now).rows }
-    ensures { result ≡ min (weight_of_value (value_in (drop column (slice_index_or (R.table rows.now).rows row [])))) (2 ^ 63) }
+    ensures { result ≡ min (weight_of_value (value_in (drop column (slice_index_or (R.table rows.now).rows row [])))) count_cap }
 {
     match number_in(rows, column, row) {
         1 => capped_len(bytes_in(rows, column + 1, row)),
@@ -166,7 +166,7 @@ fn check_nested(nesting: Nesting, part: &[u8]) -> Result<(), RowRefusal>
 /// What the value of the bytes weighs, and 0 where they have none.
 #[tactic(auto, using(crate::proofs::ValueCells::weight_of_empty))]
 fn nested_weight(part: &[u8]) -> u64
-    ensures { result ≡ min (weight_of_value (unwrap_or (value_of part.now) values.Empty)) (2 ^ 63) }
+    ensures { result ≡ min (weight_of_value (unwrap_or (value_of part.now) values.Empty)) count_cap }
 {
     match weigh_value(part) {
         Ok(told) => told.weight,
@@ -175,7 +175,7 @@ fn nested_weight(part: &[u8]) -> u64
 }
 
 pub(crate) fn capped_len(part: &[u8]) -> u64
-    ensures { result ≡ min (length part.now) (2 ^ 63) }
+    ensures { result ≡ min (length part.now) count_cap }
 {
     (part.len() as u64).min(CAP)
 }

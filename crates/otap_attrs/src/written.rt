@@ -1,7 +1,7 @@
 //! The tables of attributes of a request, and what their rows weigh.
 ghost use Rattle.std.specs.Prelude.{◌≡◌, ◌≤◌, ◌++◌, ◌^◌, List, true, All, length, map, min, IfOk, OnOk};
 ghost use Rattle.otlp_model.specs.declared.value.Pair.{Pair};
-ghost use Rattle.otlp_model.specs.Limits.{weight_limit};
+ghost use Rattle.otlp_model.specs.Limits.{weight_limit, count_cap};
 ghost use Rattle.otlp_model.specs.Weight.{total, weight_of_pair, weight_of_value};
 ghost use Rattle.otap_cells.specs.Continuing.{has_attributes};
 ghost use Rattle.otap_groups.specs.Weighing.{cells_weight, parts_weight};
@@ -171,7 +171,7 @@ pub fn push_filled(
 /// What the rows of attributes weigh, or `CAP` where it is more. It writes nothing.
 pub fn attributes_weight(pairs: &Items<Pair>) -> u64
     requires { total 32 weight_of_pair pairs.now ≤ weight_limit }
-    ensures { result ≡ min (parts_weight pair_cells pairs.now) (2 ^ 63) }
+    ensures { result ≡ min (parts_weight pair_cells pairs.now) count_cap }
 {
     let mut weight = 0;
     'pairs: for pair in pairs.as_slice() {
@@ -183,7 +183,7 @@ pub fn attributes_weight(pairs: &Items<Pair>) -> u64
 #[tactic(auto, using(crate::proofs::AttributesWeighed::pair_weighs))]
 fn pair_weight(pair: &Pair) -> u64
     requires { weight_of_value pair.now.value ≤ weight_limit }
-    ensures { result ≡ min (cells_weight (pair_cells pair.now)) (2 ^ 63) }
+    ensures { result ≡ min (cells_weight (pair_cells pair.now)) count_cap }
 {
     add_capped(
         capped_len(pair.key.as_slice()),
@@ -195,7 +195,7 @@ fn pair_weight(pair: &Pair) -> u64
 #[tactic(auto, using(crate::proofs::AttributesWeighed::empty_weighs, crate::proofs::AttributesWeighed::str_weighs, crate::proofs::AttributesWeighed::bool_weighs, crate::proofs::AttributesWeighed::int_weighs, crate::proofs::AttributesWeighed::double_weighs, crate::proofs::AttributesWeighed::bytes_weighs, crate::proofs::AttributesWeighed::array_weighs, crate::proofs::AttributesWeighed::map_weighs))]
 pub fn value_cells_weight(value: &Value) -> u64
     requires { weight_of_value value.now ≤ weight_limit }
-    ensures { result ≡ min (cells_weight (value_cells value.now)) (2 ^ 63) }
+    ensures { result ≡ min (cells_weight (value_cells value.now)) count_cap }
 {
     match value {
         Value::Empty | Value::Bool(_) | Value::Int(_) | Value::Double(_) => 0,

@@ -1,4 +1,5 @@
-ghost use Rattle.std.specs.Prelude.{◌≡◌, ◌<◌, ◌^◌, ◌*◌, ◌+◌, length, map, min, sum_by};
+ghost use Rattle.std.specs.Prelude.{◌≡◌, ◌<◌, ◌*◌, ◌+◌, length, map, min, sum_by};
+ghost use Rattle.otlp_model.specs.Limits.{count_cap};
 ghost use Rattle.otap_cells.specs.Cells.{seen};
 ghost use Rattle.otap_cells.specs.Columns.{width_of};
 ghost use Rattle.otap_cells.specs.Tables.{Table, column_in};
@@ -17,7 +18,7 @@ pub const MAX_ROW_WEIGHT: u64 = 1 << 26;
 /// The row weight of a set of tables, or `CAP` where it is larger: 32 for each row, and the bytes of each text,
 /// binary and fixed cell that isn't null. Visits each of these cells once.
 pub fn row_weight<R: Rows>(set: &TableSet<R>) -> u64
-    ensures { result ≡ min (weight_of_tables (tables_in R.table set.now.tables.items)) (2 ^ 63) }
+    ensures { result ≡ min (weight_of_tables (tables_in R.table set.now.tables.items)) count_cap }
 {
     let mut total = 0;
     'tables: for (_, rows) in &set.tables {
@@ -27,7 +28,7 @@ pub fn row_weight<R: Rows>(set: &TableSet<R>) -> u64
 }
 
 fn table_weight<R: Rows>(rows: &R) -> u64
-    ensures { result ≡ min (weight_of_table (R.table rows.now)) (2 ^ 63) }
+    ensures { result ≡ min (weight_of_table (R.table rows.now)) count_cap }
 {
     let width = columns(rows.kind()).len();
     let mut total = rows.rows().saturating_mul(32).min(CAP);
@@ -40,7 +41,7 @@ fn table_weight<R: Rows>(rows: &R) -> u64
 /// The bytes of a column's cells. A column of another base isn't visited.
 fn column_weight<R: Rows>(rows: &R, column: u32) -> u64
     requires { column < width_of (R.table rows.now).kind }
-    ensures { result ≡ min (sum_by cell_weight (column_in (R.table rows.now).rows column)) (2 ^ 63) }
+    ensures { result ≡ min (sum_by cell_weight (column_in (R.table rows.now).rows column)) count_cap }
 {
     let count = rows.rows();
     if !base_of(rows.kind(), column).has_bytes() {

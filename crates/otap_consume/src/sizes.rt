@@ -1,5 +1,6 @@
 //! How much a batch has, weighs and holds as a whole.
-ghost use Rattle.std.specs.Prelude.{◌≡◌, ◌^◌, length, sum_by, min, nat_lt, MatchResult};
+ghost use Rattle.std.specs.Prelude.{◌≡◌, length, sum_by, min, nat_lt, MatchResult};
+ghost use Rattle.otlp_model.specs.Limits.{count_cap};
 ghost use Rattle.otap_cells.specs.Payload.{main_of};
 ghost use Rattle.otap_cells.specs.Sets.{IsSet, tables_in, rows_named};
 ghost use Rattle.otap_consume.specs.Limits.{held_limit};
@@ -42,7 +43,7 @@ fn main_rows<R: Rows>(signal: Signal, set: &TableSet<R>) -> u64
 
 /// How many rows all tables have.
 fn count_rows<R: Rows>(set: &TableSet<R>) -> u64
-    ensures { result ≡ min (count_of_rows (tables_in R.table set.now.tables.items)) (2 ^ 63) }
+    ensures { result ≡ min (count_of_rows (tables_in R.table set.now.tables.items)) count_cap }
 {
     let mut total = 0;
     'tables: for (_, rows) in &set.tables {

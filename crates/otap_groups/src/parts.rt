@@ -1,6 +1,7 @@
 //! The tables of parts: events, links, points and exemplars, below the rows of another table.
 ghost use Rattle.std.specs.Prelude.{◌≡◌, ◌++◌, ◌∷◌, [], ◌≤◌, ◌^◌, ℕ, Bool, List, length, map, min, All, None, option_map, IfOk, OnOk};
 ghost use Rattle.std.specs.List.{flat_map};
+ghost use Rattle.otlp_model.specs.Limits.{count_cap};
 ghost use Rattle.otap_cells.specs.declared.payload.Kind.{Kind};
 ghost use Rattle.otap_cells.specs.Cells.{Cell};
 ghost use Rattle.otap_cells.specs.Continuing.{again_of, goes_on_after};
@@ -64,7 +65,7 @@ pub trait PartWriter {
     /// The bytes of the part's own cells, or `CAP` where they are more.
     fn weight(&self, part: &Self::Part) -> u64
         requires { CanWrite part.now }
-        ensures { result ≡ min (cells_weight (cells_of part.now)) (2 ^ 63) };
+        ensures { result ≡ min (cells_weight (cells_of part.now)) count_cap };
 }
 
 /// The parts of some parents in order, each with the place of its parent.

@@ -1,6 +1,7 @@
 //! What a signal brings to read its rows.
-ghost use Rattle.std.specs.Prelude.{◌≡◌, ◌<◌, ◌^◌, ℕ, List, [], Option, length, min, IfOk};
+ghost use Rattle.std.specs.Prelude.{◌≡◌, ◌<◌, ℕ, List, [], Option, length, min, IfOk};
 ghost use Rattle.std.specs.List.{slice_index_or};
+ghost use Rattle.otlp_model.specs.Limits.{count_cap};
 ghost use Rattle.otlp_model.specs.Weight.{total};
 ghost use Rattle.otap_cells.specs.Cells.{Cell};
 
@@ -28,7 +29,7 @@ pub trait RowReader: Drop {
     /// What the item of a row weighs, or `CAP` where it is more. It builds nothing.
     fn weight(&self, id: Option<u32>, row: usize) -> u64
         requires { row < length (cells self.now) }
-        ensures { result ≡ min (weigh self.now (item self.now id (slice_index_or (cells self.now) row []))) (2 ^ 63) };
+        ensures { result ≡ min (weigh self.now (item self.now id (slice_index_or (cells self.now) row []))) count_cap };
 }
 
 /// Finds the children of a parent.
@@ -46,5 +47,5 @@ pub trait Lookup: Drop {
 
     /// What the children weigh, with 32 for each, or `CAP` where it is more. It builds nothing.
     fn weight_of(&self, parent: Option<u32>) -> u64
-        ensures { result ≡ min (total 32 (weigh self.now) (finds self.now parent)) (2 ^ 63) };
+        ensures { result ≡ min (total 32 (weigh self.now) (finds self.now parent)) count_cap };
 }

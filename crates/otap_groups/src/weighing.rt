@@ -1,5 +1,6 @@
 //! What the rows of a request weigh, without making them.
-ghost use Rattle.std.specs.Prelude.{◌≡◌, ◌∷◌, [], ◌^◌, ℕ, map, min, All};
+ghost use Rattle.std.specs.Prelude.{◌≡◌, ◌∷◌, [], ℕ, map, min, All};
+ghost use Rattle.otlp_model.specs.Limits.{count_cap};
 ghost use Rattle.otlp_model.specs.declared.groups.Resource.{Resource};
 ghost use Rattle.otlp_model.specs.declared.groups.Scope.{Scope};
 ghost use Rattle.otap_cells.specs.Cells.{seen};
@@ -31,22 +32,22 @@ pub trait RowWeights {
 
     fn resource(&self, resource: &Resource) -> u64
         requires { CanWriteResource resource.now }
-        ensures { result ≡ min (of_resource resource.now) (2 ^ 63) };
+        ensures { result ≡ min (of_resource resource.now) count_cap };
 
     fn scope(&self, scope: &Scope) -> u64
         requires { CanWriteScope scope.now }
-        ensures { result ≡ min (of_scope scope.now) (2 ^ 63) };
+        ensures { result ≡ min (of_scope scope.now) count_cap };
 
     fn item(&self, item: &Self::Item) -> u64
         requires { CanWriteItem item.now }
-        ensures { result ≡ min (of_item item.now) (2 ^ 63) };
+        ensures { result ≡ min (of_item item.now) count_cap };
 }
 
 /// What the rows of a request weigh, or `CAP` where it is more. It makes no table. Groups without items have no rows.
 #[tactic(auto, using(crate::proofs::RowSums::rows_split))]
 pub fn rows_weight<W: RowWeights>(writer: &W, groups: &[ResourceGroup<W::Item>]) -> u64
     requires { All (CanWriteGroup W.CanWriteResource W.CanWriteScope W.CanWriteItem) groups.now }
-    ensures { result ≡ min (rows_of_groups W.of_resource W.of_scope W.of_item groups.now) (2 ^ 63) }
+    ensures { result ≡ min (rows_of_groups W.of_resource W.of_scope W.of_item groups.now) count_cap }
 {
     let mut weight = 0;
     'groups: for group in groups {
@@ -58,7 +59,7 @@ pub fn rows_weight<W: RowWeights>(writer: &W, groups: &[ResourceGroup<W::Item>])
 #[tactic(auto, using(crate::proofs::RowSums::rows_some, crate::proofs::RowSums::rows_none))]
 fn group_weight<W: RowWeights>(writer: &W, group: &ResourceGroup<W::Item>) -> u64
     requires { CanWriteGroup W.CanWriteResource W.CanWriteScope W.CanWriteItem group.now }
-    ensures { result ≡ min (rows_of_groups W.of_resource W.of_scope W.of_item (group.now ∷ [])) (2 ^ 63) }
+    ensures { result ≡ min (rows_of_groups W.of_resource W.of_scope W.of_item (group.now ∷ [])) count_cap }
 {
     let mut weight = 0;
     let mut some = false;
@@ -77,7 +78,7 @@ fn group_weight<W: RowWeights>(writer: &W, group: &ResourceGroup<W::Item>) -> u6
 
 fn scope_weight<W: RowWeights>(writer: &W, resource: &Resource, group: &ScopeGroup<W::Item>) -> u64
     requires { CanWriteScope W.CanWriteScope W.CanWriteItem group.now }
-    ensures { result ≡ min (rows_of_scope W.of_scope W.of_item resource.now group.now) (2 ^ 63) }
+    ensures { result ≡ min (rows_of_scope W.of_scope W.of_item resource.now group.now) count_cap }
 {
     let front = front_weight(resource, &group.scope);
     let mut weight = writer.scope(&group.scope);
@@ -88,7 +89,7 @@ fn scope_weight<W: RowWeights>(writer: &W, resource: &Resource, group: &ScopeGro
 }
 
 fn front_weight(resource: &Resource, scope: &Scope) -> u64
-    ensures { result ≡ min (front_weight resource.now scope.now) (2 ^ 63) }
+    ensures { result ≡ min (front_weight resource.now scope.now) count_cap }
 {
     sum_capped(&[
         32,
@@ -101,7 +102,7 @@ fn front_weight(resource: &Resource, scope: &Scope) -> u64
 
 /// The bytes of cells, or `CAP` where they are more.
 pub fn cells_weight(cells: &[CellView<'_>]) -> u64
-    ensures { result ≡ min (cells_weight (map seen cells.now)) (2 ^ 63) }
+    ensures { result ≡ min (cells_weight (map seen cells.now)) count_cap }
 {
     let mut weight = 0;
     'cells: for cell in cells {

@@ -1,5 +1,6 @@
 //! What the groups of main rows weigh, without building anything.
-ghost use Rattle.std.specs.Prelude.{◌≡◌, ◌-◌, ◌<◌, ◌≤◌, ◌^◌, length, map, min};
+ghost use Rattle.std.specs.Prelude.{◌≡◌, ◌-◌, ◌<◌, ◌≤◌, length, map, min};
+ghost use Rattle.otlp_model.specs.Limits.{count_cap};
 ghost use Rattle.otlp_model.specs.Weight.{total};
 ghost use Rattle.otap_groups.specs.Rows.{main_row_at, main_rows, same_scope};
 ghost use Rattle.otap_groups.specs.Runs.{runs};
@@ -20,7 +21,7 @@ impl<R: Rows, S: RowReader, P: Lookup<Child = Pair>> Main<'_, R, S, P> {
     pub fn weight(&self) -> u64
         ensures { result ≡ min (total 32 (weigh_resource_group (P.weigh self.now.resources) (P.weigh self.now.scopes) (S.weigh self.now.items))
             (regrouped (P.finds self.now.resources) (P.finds self.now.scopes) (S.item self.now.items)
-            (main_rows self.now.front.ids.now self.now.front.resource_ids.now self.now.front.scope_ids.now (R.table self.now.front.rows.now).rows))) (2 ^ 63) }
+            (main_rows self.now.front.ids.now self.now.front.resource_ids.now self.now.front.scope_ids.now (R.table self.now.front.rows.now).rows))) count_cap }
     {
         let mut weight = 0;
         let mut at = 0;
@@ -39,7 +40,7 @@ impl<R: Rows, S: RowReader, P: Lookup<Child = Pair>> Main<'_, R, S, P> {
         requires within { to ≤ length (R.table self.now.front.rows.now).rows }
         ensures { result ≡ min (weigh_resource_group (P.weigh self.now.resources) (P.weigh self.now.scopes) (S.weigh self.now.items)
             (resource_group (P.finds self.now.resources) (P.finds self.now.scopes) (S.item self.now.items)
-            (part (main_row_at self.now.front.ids.now self.now.front.resource_ids.now self.now.front.scope_ids.now (R.table self.now.front.rows.now).rows) from (to - from)))) (2 ^ 63) }
+            (part (main_row_at self.now.front.ids.now self.now.front.resource_ids.now self.now.front.scope_ids.now (R.table self.now.front.rows.now).rows) from (to - from)))) count_cap }
     {
         add_capped(
             self.resource_weight(from),
@@ -53,7 +54,7 @@ impl<R: Rows, S: RowReader, P: Lookup<Child = Pair>> Main<'_, R, S, P> {
         requires within { to ≤ length (R.table self.now.front.rows.now).rows }
         ensures { result ≡ min (total 32 (weigh_scope_group (P.weigh self.now.scopes) (S.weigh self.now.items))
             (map (scope_group (P.finds self.now.scopes) (S.item self.now.items))
-            (runs same_scope (part (main_row_at self.now.front.ids.now self.now.front.resource_ids.now self.now.front.scope_ids.now (R.table self.now.front.rows.now).rows) from (to - from))))) (2 ^ 63) }
+            (runs same_scope (part (main_row_at self.now.front.ids.now self.now.front.resource_ids.now self.now.front.scope_ids.now (R.table self.now.front.rows.now).rows) from (to - from))))) count_cap }
     {
         let mut weight = 0;
         let mut at = from;
@@ -71,7 +72,7 @@ impl<R: Rows, S: RowReader, P: Lookup<Child = Pair>> Main<'_, R, S, P> {
         requires within { to ≤ length (R.table self.now.front.rows.now).rows }
         ensures { result ≡ min (weigh_scope_group (P.weigh self.now.scopes) (S.weigh self.now.items)
             (scope_group (P.finds self.now.scopes) (S.item self.now.items)
-            (part (main_row_at self.now.front.ids.now self.now.front.resource_ids.now self.now.front.scope_ids.now (R.table self.now.front.rows.now).rows) from (to - from)))) (2 ^ 63) }
+            (part (main_row_at self.now.front.ids.now self.now.front.resource_ids.now self.now.front.scope_ids.now (R.table self.now.front.rows.now).rows) from (to - from)))) count_cap }
     {
         add_capped(self.scope_weight(from), self.items_weight(from, to))
     }
@@ -80,7 +81,7 @@ impl<R: Rows, S: RowReader, P: Lookup<Child = Pair>> Main<'_, R, S, P> {
     fn items_weight(&self, from: usize, to: usize) -> u64
         requires { to ≤ length (R.table self.now.front.rows.now).rows }
         ensures { result ≡ min (total 32 (S.weigh self.now.items) (map (item_of_row (S.item self.now.items))
-            (part (main_row_at self.now.front.ids.now self.now.front.resource_ids.now self.now.front.scope_ids.now (R.table self.now.front.rows.now).rows) from (to - from)))) (2 ^ 63) }
+            (part (main_row_at self.now.front.ids.now self.now.front.resource_ids.now self.now.front.scope_ids.now (R.table self.now.front.rows.now).rows) from (to - from)))) count_cap }
     {
         let mut weight = 0;
         'items: for place in from..to {
@@ -93,7 +94,7 @@ impl<R: Rows, S: RowReader, P: Lookup<Child = Pair>> Main<'_, R, S, P> {
     fn resource_weight(&self, place: usize) -> u64
         requires { place < length (R.table self.now.front.rows.now).rows }
         ensures { result ≡ min (weigh_resource (P.weigh self.now.resources) (resource_at (P.finds self.now.resources)
-            (main_row_at self.now.front.ids.now self.now.front.resource_ids.now self.now.front.scope_ids.now (R.table self.now.front.rows.now).rows place))) (2 ^ 63) }
+            (main_row_at self.now.front.ids.now self.now.front.resource_ids.now self.now.front.scope_ids.now (R.table self.now.front.rows.now).rows place))) count_cap }
     {
         let id = id_at(self.front.resource_ids, place);
         sum_capped(&[
@@ -105,7 +106,7 @@ impl<R: Rows, S: RowReader, P: Lookup<Child = Pair>> Main<'_, R, S, P> {
     fn scope_weight(&self, place: usize) -> u64
         requires { place < length (R.table self.now.front.rows.now).rows }
         ensures { result ≡ min (weigh_scope (P.weigh self.now.scopes) (scope_at (P.finds self.now.scopes)
-            (main_row_at self.now.front.ids.now self.now.front.resource_ids.now self.now.front.scope_ids.now (R.table self.now.front.rows.now).rows place))) (2 ^ 63) }
+            (main_row_at self.now.front.ids.now self.now.front.resource_ids.now self.now.front.scope_ids.now (R.table self.now.front.rows.now).rows place))) count_cap }
     {
         let id = id_at(self.front.scope_ids, place);
         let row = place as u64;

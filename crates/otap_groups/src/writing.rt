@@ -1,5 +1,6 @@
 //! The main table of a request.
-ghost use Rattle.std.specs.Prelude.{◌≡◌, ◌++◌, ◌∷◌, [], ◌≤◌, ◌^◌, ℕ, pos, List, map, min, All, IfOk, OnOk};
+ghost use Rattle.std.specs.Prelude.{◌≡◌, ◌++◌, ◌∷◌, [], ◌≤◌, ℕ, pos, List, map, min, All, IfOk, OnOk};
+ghost use Rattle.otlp_model.specs.Limits.{count_cap};
 ghost use Rattle.otap_cells.specs.declared.payload.Kind.{Kind};
 ghost use Rattle.otap_cells.specs.Cells.{Cell};
 ghost use Rattle.otap_cells.specs.Columns.{common};
@@ -47,7 +48,7 @@ pub trait RowWriter {
     /// The bytes of the item's own cells, or `CAP` where they are more.
     fn weight(&self, item: &Self::Item) -> u64
         requires { CanWrite item.now }
-        ensures { result ≡ min (cells_weight (cells_of item.now)) (2 ^ 63) };
+        ensures { result ≡ min (cells_weight (cells_of item.now)) count_cap };
 }
 
 /// The main table of a request's items.

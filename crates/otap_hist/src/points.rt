@@ -1,5 +1,6 @@
 //! The rows of points of histograms and summaries, and of exemplars.
-ghost use Rattle.std.specs.Prelude.{◌≡◌, ◌*◌, ◌^◌, min, Bool};
+ghost use Rattle.std.specs.Prelude.{◌≡◌, ◌*◌, min, Bool};
+ghost use Rattle.otlp_model.specs.Limits.{count_cap};
 ghost use Rattle.otap_cells.specs.declared.payload.Kind.TheVariants as table;
 ghost use Rattle.otap_cells.specs.declared.profile.Base.TheVariants as base;
 ghost use Rattle.otap_cells.specs.Cells.{seen, IsCellOf};
@@ -205,7 +206,7 @@ fn optional_cell<'a>(bits: Option<u64>) -> CellView<'a>
 
 /// The bytes of a point's own cells, or `CAP` where they are more.
 pub(crate) fn hist_cells_weight(point: &HistPoint) -> u64
-    ensures { result ≡ min (cells_weight (hist_point_cells point.now)) (2 ^ 63) }
+    ensures { result ≡ min (cells_weight (hist_point_cells point.now)) count_cap }
 {
     add_capped(
         list_weight(point.buckets.len()),
@@ -215,7 +216,7 @@ pub(crate) fn hist_cells_weight(point: &HistPoint) -> u64
 
 /// The same of a summary's point.
 pub(crate) fn summary_cells_weight(point: &SumPoint) -> u64
-    ensures { result ≡ min (cells_weight (sum_point_cells point.now)) (2 ^ 63) }
+    ensures { result ≡ min (cells_weight (sum_point_cells point.now)) count_cap }
 {
     let list = list_weight(point.quantiles.len());
     add_capped(list, list)
@@ -223,7 +224,7 @@ pub(crate) fn summary_cells_weight(point: &SumPoint) -> u64
 
 /// The bytes of a list of this many numbers, or `CAP` where they are more.
 pub(crate) fn list_weight(len: usize) -> u64
-    ensures { result ≡ min (8 * len) (2 ^ 63) }
+    ensures { result ≡ min (8 * len) count_cap }
 {
     (len as u64).saturating_mul(8).min(CAP)
 }

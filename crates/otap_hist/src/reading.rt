@@ -1,7 +1,8 @@
 //! The points of histograms and summaries, read from the rows of their tables.
-ghost use Rattle.std.specs.Prelude.{◌≡◌, ◌<◌, ◌*◌, ◌/◌, ◌^◌, [], length, map, min, drop, IfOk};
+ghost use Rattle.std.specs.Prelude.{◌≡◌, ◌<◌, ◌*◌, ◌/◌, [], length, map, min, drop, IfOk};
 ghost use Rattle.std.specs.List.{slice_index_or};
 ghost use Rattle.std.specs.Option.{ForSome};
+ghost use Rattle.otlp_model.specs.Limits.{count_cap};
 ghost use Rattle.otlp_model.specs.Weight.{weight_of_exemplar, weight_of_hist_point, weight_of_pair, weight_of_sum_point};
 ghost use Rattle.otlp_model.specs.declared.metrics.Exemplar.{Exemplar};
 ghost use Rattle.otlp_model.specs.declared.value.Pair.{Pair};
@@ -98,7 +99,7 @@ fn hist_point_weight<R: Rows, P: Lookup<Child = Pair>, X: Lookup<Child = Exempla
     requires row { row < length (map (drop 2) (R.table rows.now).rows) }
     requires pairs_weighed { (pair : Pair) → P.weigh pairs.now pair ≡ weight_of_pair pair }
     requires exemplars_weighed { (exemplar : Exemplar) → X.weigh exemplars.now exemplar ≡ weight_of_exemplar exemplar }
-    ensures { result ≡ min (weight_of_hist_point (hist_point_of (slice_index_or (map (drop 2) (R.table rows.now).rows) row []) (P.finds pairs.now id) (X.finds exemplars.now id))) (2 ^ 63) }
+    ensures { result ≡ min (weight_of_hist_point (hist_point_of (slice_index_or (map (drop 2) (R.table rows.now).rows) row []) (P.finds pairs.now id) (X.finds exemplars.now id))) count_cap }
 {
     let at = row as u64;
     sum_capped(&[
@@ -179,7 +180,7 @@ fn sum_point_weight<R: Rows, P: Lookup<Child = Pair>>(
     requires kind { (R.table rows.now).kind ≡ table.SummaryPoints }
     requires row { row < length (map (drop 2) (R.table rows.now).rows) }
     requires weighed { (pair : Pair) → P.weigh pairs.now pair ≡ weight_of_pair pair }
-    ensures { result ≡ min (weight_of_sum_point (sum_point_of (slice_index_or (map (drop 2) (R.table rows.now).rows) row []) (P.finds pairs.now id))) (2 ^ 63) }
+    ensures { result ≡ min (weight_of_sum_point (sum_point_of (slice_index_or (map (drop 2) (R.table rows.now).rows) row []) (P.finds pairs.now id))) count_cap }
 {
     let at = row as u64;
     let asked = bytes_in(rows, sum_point::QUANTILES, at).len() / 8;
@@ -189,7 +190,7 @@ fn sum_point_weight<R: Rows, P: Lookup<Child = Pair>>(
 
 /// What as many quantiles weigh as both lists have, or `CAP` where it is more.
 fn quantiles_weight(asked: usize, values: usize) -> u64
-    ensures { result ≡ min (16 * min asked values) (2 ^ 63) }
+    ensures { result ≡ min (16 * min asked values) count_cap }
 {
     let count = if asked < values { asked } else { values };
     (count as u64).saturating_mul(16).min(CAP)

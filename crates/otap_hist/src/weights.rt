@@ -1,6 +1,6 @@
 //! What the rows of the points of histograms and summaries weigh, without making them.
-ghost use Rattle.std.specs.Prelude.{◌≡◌, ◌≤◌, ◌^◌, min, sum_by, All};
-ghost use Rattle.otlp_model.specs.Limits.{weight_limit};
+ghost use Rattle.std.specs.Prelude.{◌≡◌, ◌≤◌, min, sum_by, All};
+ghost use Rattle.otlp_model.specs.Limits.{weight_limit, count_cap};
 ghost use Rattle.otlp_model.specs.Profile.{IsProfile};
 ghost use Rattle.otlp_model.specs.Weight.{weight_of};
 ghost use Rattle.otlp_model.specs.declared.request.Request.TheVariants.{Metrics};
@@ -24,14 +24,14 @@ use otlp_model::{
 pub fn points_weight(groups: &Items<ResourceGroup<Metric>>) -> u64
     requires profile { IsProfile (Metrics groups.now) }
     requires weight { weight_of (Metrics groups.now) ≤ weight_limit }
-    ensures { result ≡ min (weight_of_tables (hist_tables groups.now)) (2 ^ 63) }
+    ensures { result ≡ min (weight_of_tables (hist_tables groups.now)) count_cap }
 {
     groups_weight(groups.as_slice())
 }
 
 fn groups_weight(groups: &[ResourceGroup<Metric>]) -> u64
     requires { All CanWriteGroup groups.now }
-    ensures { result ≡ min (sum_by group_weight groups.now) (2 ^ 63) }
+    ensures { result ≡ min (sum_by group_weight groups.now) count_cap }
 {
     let mut weight = 0;
     'groups: for group in groups {
@@ -42,7 +42,7 @@ fn groups_weight(groups: &[ResourceGroup<Metric>]) -> u64
 
 fn scopes_weight(scopes: &[ScopeGroup<Metric>]) -> u64
     requires { All CanWriteScope scopes.now }
-    ensures { result ≡ min (sum_by scope_weight scopes.now) (2 ^ 63) }
+    ensures { result ≡ min (sum_by scope_weight scopes.now) count_cap }
 {
     let mut weight = 0;
     'scopes: for scope in scopes {
@@ -53,7 +53,7 @@ fn scopes_weight(scopes: &[ScopeGroup<Metric>]) -> u64
 
 fn metrics_weight(metrics: &[Metric]) -> u64
     requires { All CanWriteMetric metrics.now }
-    ensures { result ≡ min (sum_by metric_weight metrics.now) (2 ^ 63) }
+    ensures { result ≡ min (sum_by metric_weight metrics.now) count_cap }
 {
     let mut weight = 0;
     'metrics: for metric in metrics {
@@ -64,7 +64,7 @@ fn metrics_weight(metrics: &[Metric]) -> u64
 
 fn metric_weight(metric: &Metric) -> u64
     requires { CanWriteMetric metric.now }
-    ensures { result ≡ min (metric_weight metric.now) (2 ^ 63) }
+    ensures { result ≡ min (metric_weight metric.now) count_cap }
 {
     add_capped(
         hist_points_weight(hist_points_of(&metric.shape)),
@@ -74,7 +74,7 @@ fn metric_weight(metric: &Metric) -> u64
 
 fn hist_points_weight(points: &[HistPoint]) -> u64
     requires { All CanWriteHistPoint points.now }
-    ensures { result ≡ min (sum_by hist_point_weight points.now) (2 ^ 63) }
+    ensures { result ≡ min (sum_by hist_point_weight points.now) count_cap }
 {
     let mut weight = 0;
     'points: for point in points {
@@ -85,7 +85,7 @@ fn hist_points_weight(points: &[HistPoint]) -> u64
 
 fn hist_point_weight(point: &HistPoint) -> u64
     requires { CanWriteHistPoint point.now }
-    ensures { result ≡ min (hist_point_weight point.now) (2 ^ 63) }
+    ensures { result ≡ min (hist_point_weight point.now) count_cap }
 {
     let own = add_capped(32, hist_cells_weight(point));
     let below = add_capped(
@@ -97,7 +97,7 @@ fn hist_point_weight(point: &HistPoint) -> u64
 
 fn summary_points_weight(points: &[SumPoint]) -> u64
     requires { All CanWriteSumPoint points.now }
-    ensures { result ≡ min (sum_by summary_point_weight points.now) (2 ^ 63) }
+    ensures { result ≡ min (sum_by summary_point_weight points.now) count_cap }
 {
     let mut weight = 0;
     'points: for point in points {
@@ -108,7 +108,7 @@ fn summary_points_weight(points: &[SumPoint]) -> u64
 
 fn summary_point_weight(point: &SumPoint) -> u64
     requires { CanWriteSumPoint point.now }
-    ensures { result ≡ min (summary_point_weight point.now) (2 ^ 63) }
+    ensures { result ≡ min (summary_point_weight point.now) count_cap }
 {
     let own = add_capped(32, summary_cells_weight(point));
     add_capped(own, attributes_weight(&point.pairs))
@@ -116,7 +116,7 @@ fn summary_point_weight(point: &SumPoint) -> u64
 
 fn exemplars_weight(exemplars: &[Exemplar]) -> u64
     requires { All CanWriteExemplar exemplars.now }
-    ensures { result ≡ min (sum_by exemplar_weight exemplars.now) (2 ^ 63) }
+    ensures { result ≡ min (sum_by exemplar_weight exemplars.now) count_cap }
 {
     let mut weight = 0;
     'exemplars: for exemplar in exemplars {
@@ -127,7 +127,7 @@ fn exemplars_weight(exemplars: &[Exemplar]) -> u64
 
 fn exemplar_weight(exemplar: &Exemplar) -> u64
     requires { CanWriteExemplar exemplar.now }
-    ensures { result ≡ min (exemplar_weight exemplar.now) (2 ^ 63) }
+    ensures { result ≡ min (exemplar_weight exemplar.now) count_cap }
 {
     let own = add_capped(32, HistExemplarWriter.weight(exemplar));
     add_capped(own, attributes_weight(&exemplar.pairs))

@@ -1,5 +1,5 @@
 //! The request of the tables of a batch.
-ghost use Rattle.std.specs.Prelude.{◌≡◌, ◌≤◌, ◌^◌, ℕ, Option, drop, map, min, IfErr, IfOk, OnOk};
+ghost use Rattle.std.specs.Prelude.{◌≡◌, ◌≤◌, ℕ, Option, drop, map, min, IfErr, IfOk, OnOk};
 ghost use Rattle.otlp_model.specs.Weight.{weight_of};
 ghost use Rattle.otlp_model.specs.declared.request.Request.TheVariants.{Logs};
 ghost use Rattle.otap_cells.specs.declared.payload.Kind.{Kind};
@@ -17,7 +17,7 @@ ghost use Rattle.otap_checks.specs.Refusing.{RefusesCheck};
 ghost use Rattle.otap_checks.specs.Regrouping.{RefusesRegroup};
 ghost use Rattle.otap_groups.specs.Disagree.{Disagree};
 ghost use Rattle.otap_groups.specs.Groups.{regrouped};
-ghost use Rattle.otlp_model.specs.Limits.{weight_limit};
+ghost use Rattle.otlp_model.specs.Limits.{weight_limit, count_cap};
 ghost use Rattle.otap_logs.specs.Inside.{AreWhole, KnowsLogs};
 ghost use Rattle.otap_logs.specs.Records.{record_of};
 ghost use Rattle.otap_logs.specs.Requests.{WrongLogs, regrouped_logs};
@@ -47,7 +47,7 @@ type LogRows<'a, R> = Main<
 pub fn check_rows<R: Rows>(alloc: Global, set: &TableSet<R>) -> Result<u64, CheckRefusal>
     requires { IsSet R.table set.now.tables.items }
     ensures clean { OnOk result ((kind : Kind) (why : RowRefusal) → WrongLogs (tables_in R.table set.now.tables.items) kind why → ⊥) }
-    ensures weight { IfOk result (λ weight. weight ≡ min (weight_of (Logs (regrouped_logs (tables_in R.table set.now.tables.items)))) (2 ^ 63)) }
+    ensures weight { IfOk result (λ weight. weight ≡ min (weight_of (Logs (regrouped_logs (tables_in R.table set.now.tables.items)))) count_cap) }
     ensures refused { IfErr result (RefusesCheck (WrongLogs (tables_in R.table set.now.tables.items))) }
 {
     let known = check_cells(alloc, set)?;

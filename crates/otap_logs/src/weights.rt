@@ -1,6 +1,6 @@
 //! What the tables of a request of logs weigh, without making them.
-ghost use Rattle.std.specs.Prelude.{◌≡◌, ◌≤◌, ◌+◌, ◌^◌, min};
-ghost use Rattle.otlp_model.specs.Limits.{weight_limit};
+ghost use Rattle.std.specs.Prelude.{◌≡◌, ◌≤◌, ◌+◌, min};
+ghost use Rattle.otlp_model.specs.Limits.{weight_limit, count_cap};
 ghost use Rattle.otlp_model.specs.Profile.{IsProfile};
 ghost use Rattle.otlp_model.specs.Weight.{total, weight_of, weight_of_pair};
 ghost use Rattle.otlp_model.specs.declared.request.Request.TheVariants.{Logs};
@@ -52,7 +52,7 @@ impl RowWeights for LogWeights {
 pub fn table_weight(groups: &Items<ResourceGroup<LogRecord>>) -> u64
     requires profile { IsProfile (Logs groups.now) }
     requires weight { weight_of (Logs groups.now) ≤ weight_limit }
-    ensures { result ≡ min (weight_of_tables (tables_of_logs groups.now)) (2 ^ 63) }
+    ensures { result ≡ min (weight_of_tables (tables_of_logs groups.now)) count_cap }
 {
     rows_weight(&LogWeights, groups.as_slice())
 }

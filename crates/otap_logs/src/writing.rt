@@ -1,6 +1,6 @@
 //! The tables of a request of logs.
-ghost use Rattle.std.specs.Prelude.{◌≡◌, ◌≤◌, ◌^◌, map, min, IfOk};
-ghost use Rattle.otlp_model.specs.Limits.{weight_limit};
+ghost use Rattle.std.specs.Prelude.{◌≡◌, ◌≤◌, map, min, IfOk};
+ghost use Rattle.otlp_model.specs.Limits.{weight_limit, count_cap};
 ghost use Rattle.otlp_model.specs.Profile.{IsProfile};
 ghost use Rattle.otlp_model.specs.Weight.{weight_of};
 ghost use Rattle.otlp_model.specs.declared.request.Request.TheVariants.{Logs};
@@ -84,7 +84,7 @@ impl RowWriter for RecordWriter {
 /// The bytes of a record's own cells, or `CAP` where they are more.
 pub(crate) fn record_weight(log: &LogRecord) -> u64
     requires { CanWriteRecord log.now }
-    ensures { result ≡ min (cells_weight (record_cells log.now)) (2 ^ 63) }
+    ensures { result ≡ min (cells_weight (record_cells log.now)) count_cap }
 {
     sum_capped(&[
         log.trace_id.len() as u64,

@@ -2,6 +2,7 @@
 ghost use Rattle.std.specs.Prelude.{◌≡◌, ◌<◌, ◌+◌, ◌^◌, [], length, map, min, drop, IfOk};
 ghost use Rattle.std.specs.List.{slice_index_or};
 ghost use Rattle.std.specs.Option.{ForSome};
+ghost use Rattle.otlp_model.specs.Limits.{count_cap};
 ghost use Rattle.otlp_model.specs.Weight.{weight_of_exemplar, weight_of_hist_point, weight_of_metric, weight_of_pair, weight_of_point, weight_of_shape, weight_of_sum_point};
 ghost use Rattle.otlp_model.specs.declared.histograms.HistPoint.{HistPoint};
 ghost use Rattle.otlp_model.specs.declared.histograms.SumPoint.{SumPoint};
@@ -118,7 +119,7 @@ impl<
     fn shape_weight(&self, id: Option<u32>, row: u64) -> u64
         requires { row < length (R.table self.now.rows.now).rows }
         ensures { result ≡ min (weight_of_shape (shape_of (nat_in (cell_in (R.table self.now.rows.now).rows 9 row)) (int_in (cell_in (R.table self.now.rows.now).rows 13 row)) (flag_in (cell_in (R.table self.now.rows.now).rows 14 row))
-            (record { points = N.finds self.now.points id; hist_points = H.finds self.now.hist_points id; summary_points = S.finds self.now.summary_points id }))) (2 ^ 63) }
+            (record { points = N.finds self.now.points id; hist_points = H.finds self.now.hist_points id; summary_points = S.finds self.now.summary_points id }))) count_cap }
     {
         match number_in(self.rows, metric::TYPE, row) {
             1 | 2 => self.points.weight_of(id),
@@ -255,7 +256,7 @@ fn exemplar_weight<R: Rows, P: Lookup<Child = Pair>>(
     requires columns { columns_of (R.table rows.now).kind ≡ exemplars }
     requires row { row < length (map (drop 2) (R.table rows.now).rows) }
     requires weighed { (pair : Pair) → P.weigh pairs.now pair ≡ weight_of_pair pair }
-    ensures { result ≡ min (weight_of_exemplar (exemplar_of (slice_index_or (map (drop 2) (R.table rows.now).rows) row []) (P.finds pairs.now id))) (2 ^ 63) }
+    ensures { result ≡ min (weight_of_exemplar (exemplar_of (slice_index_or (map (drop 2) (R.table rows.now).rows) row []) (P.finds pairs.now id))) count_cap }
 {
     let at = row as u64;
     sum_capped(&[

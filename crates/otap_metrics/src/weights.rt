@@ -1,6 +1,6 @@
 //! What the tables of a request of metrics weigh, without making them.
-ghost use Rattle.std.specs.Prelude.{◌≡◌, ◌≤◌, ◌+◌, ◌^◌, min, sum_by, All};
-ghost use Rattle.otlp_model.specs.Limits.{weight_limit};
+ghost use Rattle.std.specs.Prelude.{◌≡◌, ◌≤◌, ◌+◌, min, sum_by, All};
+ghost use Rattle.otlp_model.specs.Limits.{weight_limit, count_cap};
 ghost use Rattle.otlp_model.specs.Profile.{IsProfile};
 ghost use Rattle.otlp_model.specs.Weight.{total, weight_of, weight_of_pair};
 ghost use Rattle.otlp_model.specs.declared.request.Request.TheVariants.{Metrics};
@@ -54,7 +54,7 @@ impl RowWeights for MetricWeights {
 /// The rows of points, and of all that is below them.
 fn points_weight(points: &[Point]) -> u64
     requires { All CanWritePoint points.now }
-    ensures { result ≡ min (sum_by point_weight points.now) (2 ^ 63) }
+    ensures { result ≡ min (sum_by point_weight points.now) count_cap }
 {
     let mut weight = 0;
     'points: for point in points {
@@ -65,7 +65,7 @@ fn points_weight(points: &[Point]) -> u64
 
 fn point_weight(point: &Point) -> u64
     requires { CanWritePoint point.now }
-    ensures { result ≡ min (point_weight point.now) (2 ^ 63) }
+    ensures { result ≡ min (point_weight point.now) count_cap }
 {
     let own = add_capped(32, PointWriter.weight(point));
     let below = add_capped(
@@ -77,7 +77,7 @@ fn point_weight(point: &Point) -> u64
 
 fn exemplars_weight(exemplars: &[Exemplar]) -> u64
     requires { All CanWriteExemplar exemplars.now }
-    ensures { result ≡ min (sum_by exemplar_weight exemplars.now) (2 ^ 63) }
+    ensures { result ≡ min (sum_by exemplar_weight exemplars.now) count_cap }
 {
     let mut weight = 0;
     'exemplars: for exemplar in exemplars {
@@ -88,7 +88,7 @@ fn exemplars_weight(exemplars: &[Exemplar]) -> u64
 
 fn exemplar_weight(exemplar: &Exemplar) -> u64
     requires { CanWriteExemplar exemplar.now }
-    ensures { result ≡ min (exemplar_weight exemplar.now) (2 ^ 63) }
+    ensures { result ≡ min (exemplar_weight exemplar.now) count_cap }
 {
     let own = add_capped(32, ExemplarWriter.weight(exemplar));
     add_capped(own, attributes_weight(&exemplar.pairs))
@@ -99,7 +99,7 @@ fn exemplar_weight(exemplar: &Exemplar) -> u64
 pub fn table_weight(groups: &Items<ResourceGroup<Metric>>) -> u64
     requires profile { IsProfile (Metrics groups.now) }
     requires weight { weight_of (Metrics groups.now) ≤ weight_limit }
-    ensures { result ≡ min (weight_of_tables (tables_of_metrics groups.now)) (2 ^ 63) }
+    ensures { result ≡ min (weight_of_tables (tables_of_metrics groups.now)) count_cap }
 {
     rows_weight(&MetricWeights, groups.as_slice())
 }

@@ -4,7 +4,7 @@ ghost use Rattle.otap_cells.specs.Sets.{tables_in};
 ghost use Rattle.otap_cells.specs.Weights.{weight_of_tables};
 ghost use Rattle.otap_hist.specs.Tables.{whole_tables};
 ghost use Rattle.otap_produce.specs.MetricRows.{metrics_rows};
-ghost use Rattle.otlp_model.specs.Limits.{weight_limit};
+ghost use Rattle.otlp_model.specs.Limits.{weight_limit, count_cap};
 ghost use Rattle.otlp_model.specs.Profile.{IsProfile};
 ghost use Rattle.otlp_model.specs.Weight.{weight_of};
 ghost use Rattle.otlp_model.specs.declared.request.Request.TheVariants.{Metrics};
@@ -52,7 +52,7 @@ impl Tabled for MetricTables {
 fn all_weight(groups: &Items<ResourceGroup<Metric>>) -> u64
     requires profile { IsProfile (Metrics groups.now) }
     requires light { weight_of (Metrics groups.now) ≤ weight_limit }
-    ensures { result ≡ min (weight_of_tables (whole_tables groups.now)) (2 ^ 63) }
+    ensures { result ≡ min (weight_of_tables (whole_tables groups.now)) count_cap }
 {
     tables_are_whole();
     add_capped(table_weight(groups), points_weight(groups))

@@ -2,7 +2,7 @@
 ghost use Rattle.std.specs.Prelude.{◌≡◌, ◌≤◌, ◌^◌, min, IfOk};
 ghost use Rattle.otap_cells.specs.Sets.{tables_in};
 ghost use Rattle.otap_cells.specs.Weights.{weight_of_tables};
-ghost use Rattle.otlp_model.specs.Limits.{weight_limit};
+ghost use Rattle.otlp_model.specs.Limits.{weight_limit, count_cap};
 ghost use Rattle.otlp_model.specs.Profile.{IsProfile};
 ghost use Rattle.otlp_model.specs.Telemetry.{signal_of};
 ghost use Rattle.otlp_model.specs.Weight.{weight_of};
@@ -27,7 +27,7 @@ pub trait Tabled {
         requires signal { signal_of request.now ≡ rows.signal }
         requires profile { IsProfile request.now }
         requires light { weight_of request.now ≤ weight_limit }
-        ensures { result ≡ min (weight_of_tables (rows.tables request.now)) (2 ^ 63) };
+        ensures { result ≡ min (weight_of_tables (rows.tables request.now)) count_cap };
 
     /// The tables of a request.
     fn tables(alloc: Global, request: &Request) -> Result<TableSet<LogicalTable>, AllocError>

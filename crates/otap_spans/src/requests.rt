@@ -1,6 +1,6 @@
 //! The request of the tables of a batch.
-ghost use Rattle.std.specs.Prelude.{◌≡◌, ◌≤◌, ◌^◌, ℕ, Option, drop, map, min, IfErr, IfOk, OnOk};
-ghost use Rattle.otlp_model.specs.Limits.{weight_limit};
+ghost use Rattle.std.specs.Prelude.{◌≡◌, ◌≤◌, ℕ, Option, drop, map, min, IfErr, IfOk, OnOk};
+ghost use Rattle.otlp_model.specs.Limits.{weight_limit, count_cap};
 ghost use Rattle.otlp_model.specs.Weight.{weight_of};
 ghost use Rattle.otlp_model.specs.declared.request.Request.TheVariants.{Traces};
 ghost use Rattle.otap_cells.specs.declared.payload.Kind.{Kind};
@@ -44,7 +44,7 @@ type SpanRows<'a, R> = Main<
 pub fn check_rows<R: Rows>(alloc: Global, set: &TableSet<R>) -> Result<u64, CheckRefusal>
     requires { IsSet R.table set.now.tables.items }
     ensures clean { OnOk result ((kind : Kind) (why : RowRefusal) → WrongSpans (tables_in R.table set.now.tables.items) kind why → ⊥) }
-    ensures weight { IfOk result (λ weight. weight ≡ min (weight_of (Traces (regrouped_spans (tables_in R.table set.now.tables.items)))) (2 ^ 63)) }
+    ensures weight { IfOk result (λ weight. weight ≡ min (weight_of (Traces (regrouped_spans (tables_in R.table set.now.tables.items)))) count_cap) }
     ensures refused { IfErr result (RefusesCheck (WrongSpans (tables_in R.table set.now.tables.items))) }
 {
     let known = check_cells(alloc, set)?;

@@ -1,6 +1,6 @@
 //! What the tables of a request of spans weigh, without making them.
-ghost use Rattle.std.specs.Prelude.{◌≡◌, ◌≤◌, ◌+◌, ◌^◌, All, min, sum_by};
-ghost use Rattle.otlp_model.specs.Limits.{weight_limit};
+ghost use Rattle.std.specs.Prelude.{◌≡◌, ◌≤◌, ◌+◌, All, min, sum_by};
+ghost use Rattle.otlp_model.specs.Limits.{weight_limit, count_cap};
 ghost use Rattle.otlp_model.specs.Profile.{IsProfile};
 ghost use Rattle.otlp_model.specs.Weight.{total, weight_of, weight_of_pair};
 ghost use Rattle.otlp_model.specs.declared.request.Request.TheVariants.{Traces};
@@ -55,7 +55,7 @@ impl RowWeights for SpanWeights {
 pub fn table_weight(groups: &Items<ResourceGroup<Span>>) -> u64
     requires profile { IsProfile (Traces groups.now) }
     requires weight { weight_of (Traces groups.now) ≤ weight_limit }
-    ensures { result ≡ min (weight_of_tables (tables_of_spans groups.now)) (2 ^ 63) }
+    ensures { result ≡ min (weight_of_tables (tables_of_spans groups.now)) count_cap }
 {
     rows_weight(&SpanWeights, groups.as_slice())
 }
@@ -63,7 +63,7 @@ pub fn table_weight(groups: &Items<ResourceGroup<Span>>) -> u64
 /// What the rows of a span's attributes, events and links weigh, or `CAP` where it is more.
 fn below_weight(span: &Span) -> u64
     requires { CanWriteSpan span.now }
-    ensures { result ≡ min (below_weight span.now) (2 ^ 63) }
+    ensures { result ≡ min (below_weight span.now) count_cap }
 {
     sum_capped(&[
         attributes_weight(&span.pairs),
@@ -75,7 +75,7 @@ fn below_weight(span: &Span) -> u64
 /// What the rows of events and of their attributes weigh, or `CAP` where it is more.
 fn events_weight(events: &[Event]) -> u64
     requires { All CanWriteEvent events.now }
-    ensures { result ≡ min (sum_by event_weight events.now) (2 ^ 63) }
+    ensures { result ≡ min (sum_by event_weight events.now) count_cap }
 {
     let mut weight = 0;
     'events: for event in events {
@@ -89,7 +89,7 @@ fn events_weight(events: &[Event]) -> u64
 /// What the rows of links and of their attributes weigh, or `CAP` where it is more.
 fn links_weight(links: &[Link]) -> u64
     requires { All CanWriteLink links.now }
-    ensures { result ≡ min (sum_by link_weight links.now) (2 ^ 63) }
+    ensures { result ≡ min (sum_by link_weight links.now) count_cap }
 {
     let mut weight = 0;
     'links: for link in links {

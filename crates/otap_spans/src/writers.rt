@@ -1,5 +1,6 @@
 //! The rows of spans, of events and of links, written and weighed.
-ghost use Rattle.std.specs.Prelude.{◌≡◌, ◌^◌, min};
+ghost use Rattle.std.specs.Prelude.{◌≡◌, min};
+ghost use Rattle.otlp_model.specs.Limits.{count_cap};
 ghost use Rattle.otap_cells.specs.declared.payload.Kind.TheVariants as table;
 ghost use Rattle.otap_groups.specs.Weighing.{cells_weight};
 ghost use Rattle.otap_spans.specs.Records.{event_cells, link_cells, span_cells};
@@ -171,7 +172,7 @@ impl PartWriter for LinkWriter {
 
 /// The bytes of a span's own cells, or `CAP` where they are more.
 pub(crate) fn span_weight(span: &Span) -> u64
-    ensures { result ≡ min (cells_weight (span_cells span.now)) (2 ^ 63) }
+    ensures { result ≡ min (cells_weight (span_cells span.now)) count_cap }
 {
     sum_capped(&[
         span.trace_id.len() as u64,
@@ -185,14 +186,14 @@ pub(crate) fn span_weight(span: &Span) -> u64
 
 /// The bytes of an event's own cells, or `CAP` where they are more.
 pub(crate) fn event_weight(event: &Event) -> u64
-    ensures { result ≡ min (cells_weight (event_cells event.now)) (2 ^ 63) }
+    ensures { result ≡ min (cells_weight (event_cells event.now)) count_cap }
 {
     sum_capped(&[event.name.len() as u64])
 }
 
 /// The bytes of a link's own cells, or `CAP` where they are more.
 pub(crate) fn link_weight(link: &Link) -> u64
-    ensures { result ≡ min (cells_weight (link_cells link.now)) (2 ^ 63) }
+    ensures { result ≡ min (cells_weight (link_cells link.now)) count_cap }
 {
     sum_capped(&[
         link.trace_id.len() as u64,
