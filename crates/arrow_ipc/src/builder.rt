@@ -1,5 +1,5 @@
 ghost use Rattle.arrow_ipc.specs.Limits.{max_parts, max_count, max_body};
-ghost use Rattle.std.specs.Prelude.{◌≡◌, ◌+◌, ◌-◌, ◌*◌, ◌≤◌, ◌<◌, ◌^◌, ◌++◌, ◌∷◌, [], ℕ, length, replicate, vec_len, pos, IfOk, OnOk, OnErr};
+ghost use Rattle.std.specs.Prelude.{◌≡◌, ◌+◌, ◌-◌, ◌*◌, ◌≤◌, ◌<◌, ◌^◌, ◌++◌, ◌∷◌, [], length, replicate, vec_len, pos, OnOk, OnErr};
 ghost use Rattle.arrow_ipc.specs.declared.messages.IpcMessage.TheVariants.{Dictionary, Rows};
 ghost use Rattle.arrow_ipc.specs.Written.{padded, body_size, most_of, Appends};
 

@@ -1,4 +1,4 @@
-ghost use Rattle.std.specs.Prelude.{◌≡◌, ◌≢◌, ◌+◌, ◌<◌, ◌≤◌, ◌↔◌, ℕ, [], false, length, drop, IsNone, IfSome, IfNone, OnSome, IfOk, IfErr};
+ghost use Rattle.std.specs.Prelude.{◌≡◌, ◌≢◌, ◌+◌, ◌<◌, ◌≤◌, ◌↔◌, [], false, length, drop, IsNone, IfSome, IfNone, OnSome, IfOk, IfErr};
 ghost use Rattle.arrow_ipc.specs.Batches.{BatchIn};
 ghost use Rattle.arrow_ipc.specs.Messages.{IsMessage};
 ghost use Rattle.arrow_ipc.specs.Faults.{Refuses};

@@ -1,8 +1,8 @@
 //! What the fields of a schema must not do together.
 
-ghost use Rattle.std.specs.Prelude.{◌≡◌, ◌++◌, ℕ, ℤ, List, IfOk, OnOk};
+ghost use Rattle.std.specs.Prelude.{◌≡◌, ◌++◌, IfOk, OnOk};
 ghost use Rattle.arrow_schema.specs.declared.spec.FieldSpec.{FieldSpec};
-ghost use Rattle.arrow_schema.specs.Trees.{lacks_name, names_differ, use_of, uses_in, uses_of, uses_agree, dict_in, kind_in, agrees, agrees_with};
+ghost use Rattle.arrow_schema.specs.Trees.{lacks_name, names_differ, use_of, uses_of, uses_agree, dict_in, kind_in, agrees, agrees_with};
 
 use crate::spec::{ArrowType, FieldSpec};
 use std::alloc::{AllocError, Global};

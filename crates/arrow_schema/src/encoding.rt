@@ -1,6 +1,6 @@
 //! The encoding that the custom metadata of a field names.
 
-ghost use Rattle.std.specs.Prelude.{◌≡◌, List, ℕ, Option};
+ghost use Rattle.std.specs.Prelude.{◌≡◌, Option};
 ghost use Rattle.std.specs.Option.{option_copied};
 ghost use Rattle.arrow_schema.specs.Encodings as encodings;
 ghost use Rattle.arrow_schema.specs.Reading.{encoding_of, encoding_from, encoding_with, of_pair};

@@ -1,6 +1,6 @@
 //! What the table of a field says of itself.
 
-ghost use Rattle.std.specs.Prelude.{◌≡◌, ℕ, ℤ, pos, unsigned_abs, List};
+ghost use Rattle.std.specs.Prelude.{◌≡◌, pos, unsigned_abs, List};
 ghost use Rattle.std.specs.Int.{w16, w32, IsNonNegative};
 ghost use Rattle.flat_tables.specs.Bytes as flat_reading;
 ghost use Rattle.arrow_schema.specs.Slots as slots;

@@ -1,7 +1,6 @@
-ghost use Rattle.std.specs.Prelude.{◌≡◌, ◌≤◌, ℕ, List, Ok, IfOk, IfErr};
-ghost use Rattle.flat_tables.specs.Tables.{TableIn, VectorIn};
+ghost use Rattle.std.specs.Prelude.{◌≡◌, List, Ok, IfOk, IfErr};
 ghost use Rattle.arrow_schema.specs.declared.spec.FieldSpec.{FieldSpec};
-ghost use Rattle.arrow_schema.specs.Trees.{names_differ, uses_of, uses_agree};
+ghost use Rattle.arrow_schema.specs.Trees.{names_differ, uses_agree};
 ghost use Rattle.arrow_schema.specs.declared.refusal.SchemaRefusal.{SchemaRefusal};
 ghost use Rattle.arrow_schema.specs.Says.{SaysSchema};
 ghost use Rattle.arrow_schema.specs.Readable.{IsReadable, fits_children};

@@ -1,10 +1,9 @@
-ghost use Rattle.std.specs.Prelude.{◌≡◌, ◌+◌, ◌*◌, ◌≤◌, ◌<◌, ℕ, List, length, IfOk, IsTrue};
+ghost use Rattle.std.specs.Prelude.{◌+◌, ◌*◌, ◌≤◌, ◌<◌, List, length, IfOk, IsTrue};
 ghost use Rattle.flat_tables.specs.Limits.{max_size};
 ghost use Rattle.flat_tables.specs.Slots.{Reaches};
 ghost use Rattle.flat_tables.specs.Building.{Grows, StaysAt, HasSlots};
 ghost use Rattle.arrow_schema.specs.Limits.{max_written_fields, max_written_names, max_size_before, max_field_size};
 ghost use Rattle.arrow_schema.specs.Trees.{count_in, count_of};
-ghost use Rattle.arrow_schema.specs.Types.{type_number};
 ghost use Rattle.arrow_schema.specs.Writing.{names_in, names_of, fits_width, widths_in, widths_fit, is_named, named_in, encodings_named, type_slots, WritesDict, WritesPair, WritesField, WritesFields, IsSchemaTable};
 ghost use Rattle.arrow_schema.specs.Standing.{DictionaryStands, MetadataStands};
 

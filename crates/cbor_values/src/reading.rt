@@ -1,6 +1,6 @@
 //! Values from bytes.
 
-ghost use Rattle.std.specs.Prelude.{◌≡◌, ◌≤◌, Some, IfOk, IfErr};
+ghost use Rattle.std.specs.Prelude.{◌≤◌, Some, IfOk, IfErr};
 ghost use Rattle.otlp_model.specs.declared.value.Value.{Value};
 ghost use Rattle.otlp_model.specs.Depth.{depth_of};
 ghost use Rattle.otlp_model.specs.Limits.{depth_limit};

@@ -1,6 +1,5 @@
 //! What bytes hold, told without building the value.
-ghost use Rattle.std.specs.Prelude.{◌≡◌, ◌^◌, List, ℕ, None, IfErr, IfOk, OnOk, min, length};
-ghost use Rattle.otlp_model.specs.declared.value.Value.{Value};
+ghost use Rattle.std.specs.Prelude.{◌≡◌, None, IfErr, IfOk, OnOk, min, length};
 ghost use Rattle.cbor_values.specs.declared.heads.Head.TheVariants as heads;
 ghost use Rattle.cbor_values.specs.declared.refusal.CborRefusal.{CborRefusal};
 ghost use Rattle.cbor_values.specs.Refusals.{Stands};

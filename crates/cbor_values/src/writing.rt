@@ -1,13 +1,13 @@
 //! Bytes of values.
 
-ghost use Rattle.std.specs.Prelude.{◌≡◌, ◌+◌, ◌^◌, ◌<◌, ◌≤◌, [], ◌∷◌, ◌++◌, length, min, vec_len, vec_capacity, OnOk, OnErr};
+ghost use Rattle.std.specs.Prelude.{◌≡◌, ◌+◌, ◌^◌, ◌<◌, ◌≤◌, ◌∷◌, ◌++◌, length, min, vec_len, vec_capacity, OnOk, OnErr};
 ghost use Rattle.byteorder.specs.Endian.{big_bytes};
 ghost use Rattle.otlp_model.specs.Limits.{weight_limit, count_cap};
 ghost use Rattle.otlp_model.specs.Weight.{weight_of_value};
 ghost use Rattle.otlp_model.specs.declared.value.Value as values;
 ghost use Rattle.cbor_values.specs.Heads.{argument_len};
 ghost use Rattle.cbor_values.specs.Written as spec;
-ghost use Rattle.cbor_values.specs.Written.{cbor_of, string, all_of, long_head};
+ghost use Rattle.cbor_values.specs.Written.{cbor_of, string, long_head};
 ghost use Rattle.cbor_values.specs.Lengths.{cbor_of_pair, int_argument, head_len, lengths};
 
 use crate::heads::{ARRAY, BYTES, DOUBLE, FALSE, MAP, NEGATIVE, NULL, TEXT, TRUE, WHOLE};

@@ -1,4 +1,4 @@
-ghost use Rattle.std.specs.Prelude.{◌≡◌, ◌+◌, ◌-◌, ◌*◌, ◌%◌, ◌≤◌, ◌<◌, ◌^◌, ◌++◌, [], ℕ, List, length, take, drop, reverse, slice_index_or, vec_len, All, IfOk, OnOk, OnErr};
+ghost use Rattle.std.specs.Prelude.{◌≡◌, ◌+◌, ◌-◌, ◌*◌, ◌%◌, ◌≤◌, ◌<◌, ◌^◌, ◌++◌, ℕ, length, take, drop, reverse, slice_index_or, vec_len, All, IfOk, OnOk, OnErr};
 ghost use Rattle.byteorder.specs.Endian.{little_bytes};
 ghost use Rattle.flat_tables.specs.Limits.{max_slots, max_held};
 ghost use Rattle.flat_tables.specs.Slots.{Reaches, AllReach};

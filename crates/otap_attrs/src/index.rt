@@ -1,5 +1,5 @@
 //! The pairs of parents, found in a table of attributes.
-ghost use Rattle.std.specs.Prelude.{◌≡◌, ◌^◌, Some, true, map, min, IfErr, IfOk, OnOk};
+ghost use Rattle.std.specs.Prelude.{◌≡◌, Some, true, map, min, IfErr, IfOk, OnOk};
 ghost use Rattle.std.specs.List.Sorted.{IsNonDecreasingBy};
 ghost use Rattle.otlp_model.specs.Limits.{count_cap};
 ghost use Rattle.otlp_model.specs.Weight.{total, weight_of_pair};

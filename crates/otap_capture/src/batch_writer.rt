@@ -1,6 +1,6 @@
 //! Writes batch messages of the OpenTelemetry Arrow Protocol.
 
-ghost use Rattle.std.specs.Prelude.{◌≡◌, ℕ, ◌+◌, ◌<◌, ◌≤◌, ◌∷◌, [], ◌++◌, length, vec_len, vec_capacity, IfOk, OnOk, OnErr};
+ghost use Rattle.std.specs.Prelude.{◌≡◌, ◌+◌, ◌<◌, ◌≤◌, ◌∷◌, [], ◌++◌, length, vec_len, vec_capacity, IfOk, OnOk, OnErr};
 ghost use Rattle.otlp_wire.specs.Wire.{IsNumber, Bytes};
 ghost use Rattle.otlp_messages.specs.Canon.{canon_row, bytes_row, signed_row};
 ghost use Rattle.otap_capture.specs.Batch.{canon_payload, canon_batch};

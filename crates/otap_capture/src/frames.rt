@@ -2,7 +2,6 @@
 ghost use Rattle.std.specs.Prelude.{◌≡◌, ◌+◌, ◌++◌, ◌*◌, ◌<◌, ◌≤◌, [], drop, length, IfNone, IfSome, None, Some, OnOk, OnErr, Ok, false};
 ghost use Rattle.std.specs.Option.{option_map};
 ghost use Rattle.otap_capture.specs.Capture.{frame_of};
-ghost use Rattle.otap_capture.specs.Deciding.{IsShort};
 ghost use Rattle.otap_capture.specs.Reading.{ahead, GoesOn, EndsAgain, StepCounts, KeepsFew, KeepsRest, Asked, Tells, IsWaiting};
 ghost use Rattle.otap_capture.specs.Cutting.{StandsAt, Cuts, Fills, IsDecided, Grows, SameBut, GivesPiece};
 

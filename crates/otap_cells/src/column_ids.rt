@@ -3,7 +3,7 @@ ghost use Rattle.std.specs.Prelude.{◌≡◌, ◌<◌, ◌↔◌, true, codes, 
 ghost use Rattle.otap_cells.specs.declared.column_ids.IdsRefusal.TheVariants.{Memory};
 ghost use Rattle.otap_cells.specs.declared.profile.Base.TheVariants as base;
 ghost use Rattle.otap_cells.specs.Cells.{seen, IsCellOf};
-ghost use Rattle.otap_cells.specs.Columns.{base_at, is_id_at, name_at, width_of};
+ghost use Rattle.otap_cells.specs.Columns.{is_id_at, name_at, width_of};
 ghost use Rattle.otap_cells.specs.ColumnIds.{HasNullParent, IdsOf, RefusesIds, id_in, stored_in};
 ghost use Rattle.otap_cells.specs.Continuing.{continues_in};
 ghost use Rattle.otap_cells.specs.GivenIds.{HasIds};

@@ -1,5 +1,5 @@
 //! Ids, and the numbers that a column stores for them.
-ghost use Rattle.std.specs.Prelude.{◌≡◌, ◌↔◌, ◌+◌, ◌≤◌, ◌^◌, ℕ, [], List, Option, Some, true, drop, length, map, IfErr, IfOk, MatchOption, OnOk, false, nat_le, ◌<◌};
+ghost use Rattle.std.specs.Prelude.{◌≡◌, ◌+◌, ◌≤◌, ℕ, [], List, Option, Some, true, drop, length, map, IfErr, IfOk, MatchOption, OnOk, false, ◌<◌};
 ghost use Rattle.otap_cells.specs.declared.ids.IdFault.TheVariants.{PastType};
 ghost use Rattle.otap_cells.specs.declared.profile.Coding.TheVariants.{Delta, Run};
 ghost use Rattle.otap_cells.specs.Ids.{AtMost, Ids, Rise, base_of, fits_after, goes_on, takes_null, undone, undone_after, Twice};

@@ -1,4 +1,4 @@
-ghost use Rattle.std.specs.Prelude.{◌≡◌, [], ◌∷◌, ◌++◌, ◌+◌, ◌-◌, ◌<◌, ◌≤◌, ◌^◌, ℕ, drop, length, take, replicate, slice_set, OnOk, OnErr, IfOk};
+ghost use Rattle.std.specs.Prelude.{◌≡◌, [], ◌∷◌, ◌++◌, ◌+◌, ◌-◌, ◌<◌, ◌≤◌, ◌^◌, drop, length, take, replicate, slice_set, OnOk, OnErr, IfOk};
 ghost use Rattle.std.specs.List.{slice_index_or};
 ghost use Rattle.otap_cells.specs.Cells.{seen, null, bytes_in};
 ghost use Rattle.otap_cells.specs.Kept.{cell_of, reach};
@@ -28,7 +28,7 @@ pub struct Cells {
 }
 
 impl Model for Cells {
-    ghost use Rattle.std.specs.Prelude.{ℕ, ◌≤◌, List, length, map, All};
+    ghost use Rattle.std.specs.Prelude.{◌≤◌, List, length, map, All};
     ghost use Rattle.otap_cells.specs.Cells.{Cell};
 
     ghost Value = { List Cell };

@@ -1,6 +1,6 @@
-ghost use Rattle.std.specs.Prelude.{◌≡◌, ◌++◌, ◌∷◌, [], ◌<◌, ◌≤◌, ◌+◌, ◌^◌, ℕ, length, map, take, true, OnOk, OnErr, IfOk};
+ghost use Rattle.std.specs.Prelude.{◌≡◌, ◌++◌, ◌∷◌, [], ◌<◌, ◌≤◌, ◌+◌, ℕ, length, map, take, true, OnOk, OnErr};
 ghost use Rattle.std.specs.List.{slice_index_or};
-ghost use Rattle.otap_cells.specs.Cells.{Cell, seen, null, IsCellOf};
+ghost use Rattle.otap_cells.specs.Cells.{seen, null, IsCellOf};
 ghost use Rattle.otap_cells.specs.Columns.{columns_of, base_at, width_of};
 ghost use Rattle.otap_cells.specs.Tables.{IsRow, cell_in, null_row, profile_table, with_cell};
 

@@ -1,8 +1,8 @@
-ghost use Rattle.std.specs.Prelude.{◌≡◌, ◌<◌, ◌*◌, ◌+◌, length, map, min, sum_by};
+ghost use Rattle.std.specs.Prelude.{◌≡◌, ◌<◌, min, sum_by};
 ghost use Rattle.otlp_model.specs.Limits.{count_cap};
 ghost use Rattle.otap_cells.specs.Cells.{seen};
 ghost use Rattle.otap_cells.specs.Columns.{width_of};
-ghost use Rattle.otap_cells.specs.Tables.{Table, column_in};
+ghost use Rattle.otap_cells.specs.Tables.{column_in};
 ghost use Rattle.otap_cells.specs.Sets.{tables_in};
 ghost use Rattle.otap_cells.specs.Weights.{cell_weight, weight_of_table, weight_of_tables};
 

@@ -1,5 +1,5 @@
 //! The ids of the tables of a batch, each read once.
-ghost use Rattle.std.specs.Prelude.{◌≡◌, ◌++◌, ◌∷◌, [], true, All, Contains, IfErr, IfOk, OnOk};
+ghost use Rattle.std.specs.Prelude.{◌≡◌, ◌++◌, ◌∷◌, [], true, All, IfErr, IfOk, OnOk};
 ghost use Rattle.otap_cells.specs.Columns.{is_id_at};
 ghost use Rattle.otap_cells.specs.Named.{table_named};
 ghost use Rattle.otap_cells.specs.Sets.{IsSet, tables_in};

@@ -1,10 +1,10 @@
 //! What is wrong with the values of a table's rows.
-ghost use Rattle.std.specs.Prelude.{◌≡◌, IfErr, OnOk};
+ghost use Rattle.std.specs.Prelude.{IfErr, OnOk};
 ghost use Rattle.otap_cells.specs.Named.{table_named};
 ghost use Rattle.otap_cells.specs.Sets.{IsSet, tables_in};
 ghost use Rattle.otap_attrs.specs.declared.refusal.RowRefusal.{RowRefusal};
 ghost use Rattle.otap_attrs.specs.Values.{HasValueAt};
-ghost use Rattle.otap_attrs.specs.Defects.{RefusesRow, WrongValue};
+ghost use Rattle.otap_attrs.specs.Defects.{WrongValue};
 ghost use Rattle.otap_checks.specs.Refusing.{RefusesCheck};
 ghost use Rattle.otap_checks.specs.ValueDefects.{WrongValueOf};
 

@@ -5,7 +5,7 @@ ghost use Rattle.std.specs.Prelude.{◌≡◌, ◌⊎◌, length};
 ghost use Rattle.std.specs.Option.{ForSome, option_copied};
 ghost use Rattle.byteorder.specs.Endian.{little_number};
 ghost use Rattle.otap_cells.specs.Cells.{seen};
-ghost use Rattle.otap_columns.specs.Known.{unsigned, signed, stored, stored_cell};
+ghost use Rattle.otap_columns.specs.Known.{unsigned, stored, stored_cell};
 ghost use Rattle.otap_columns.specs.Resolved.{FitsBase};
 
 use byteorder::{ByteOrder, LittleEndian};

@@ -1,12 +1,12 @@
 //! The columns of a kind among the arrays of a schema.
 
-ghost use Rattle.std.specs.Prelude.{◌≡◌, ◌<◌, ◌≤◌, length, map, slice_get, IfOk, OnOk};
+ghost use Rattle.std.specs.Prelude.{◌≡◌, ◌<◌, ◌≤◌, length, map, IfOk, OnOk};
 ghost use Rattle.std.specs.List.{range_with_len};
 ghost use Rattle.std.specs.Option.{ForSome, option_copied};
 ghost use Rattle.arrow_schema.specs.Limits.{max_fields};
 ghost use Rattle.arrow_schema.specs.declared.spec.ArrowType.TheVariants.{Int};
 ghost use Rattle.otap_cells.specs.Columns.{column_at, described, width_of};
-ghost use Rattle.otap_columns.specs.Known.{known_columns, place_in, is_column, elements_at, columns_fit, fits_at, fits_column, fits_as, fits_encoding, is_allowed, stores, is_list_of, coding_named, coding_if, greatest_of, greatest_if};
+ghost use Rattle.otap_columns.specs.Known.{known_columns, place_in, is_column, elements_at, columns_fit, fits_column, fits_as, fits_encoding, is_allowed, stores, is_list_of, coding_named, coding_if, greatest_of, greatest_if};
 
 use arrow_arrays::{ArraySpec, Arrays};
 use arrow_schema::{ArrowType, Encoding};

@@ -1,4 +1,4 @@
-ghost use Rattle.std.specs.Prelude.{◌≡◌, ◌<◌, ◌^◌, [], true, false, is_err, length, slice_get, Some, OnOk, IfOk, IfErr, IfSome, IfNone, List, IsOk};
+ghost use Rattle.std.specs.Prelude.{◌≡◌, ◌<◌, ◌^◌, [], true, false, is_err, length, Some, OnOk, IfOk, IfErr, IfSome, IfNone, List, IsOk};
 ghost use Rattle.std.specs.Option.{option_copied};
 ghost use Rattle.arrow_ipc.specs.declared.messages.IpcMessage.{IpcMessage};
 ghost use Rattle.arrow_ipc.specs.Fronts.{front_of};

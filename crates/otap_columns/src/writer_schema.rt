@@ -1,6 +1,6 @@
 //! The schema of a record.
 
-ghost use Rattle.std.specs.Prelude.{◌≡◌, ◌<◌, ◌++◌, ◌∷◌, [], length, map, All, IfOk, OnOk};
+ghost use Rattle.std.specs.Prelude.{◌≡◌, ◌<◌, ◌++◌, ◌∷◌, [], map, All, IfOk, OnOk};
 ghost use Rattle.arrow_schema.specs.Branches as branches;
 ghost use Rattle.arrow_schema.specs.declared.spec.ArrowType.TheVariants as arrow;
 ghost use Rattle.otap_cells.specs.Columns.{width_of};

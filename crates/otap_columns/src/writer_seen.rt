@@ -1,16 +1,14 @@
 //! What the writer keeps of a column of the tables that it wrote.
 
 ghost use Rattle.std.specs.Prelude.{◌≡◌, ◌<◌, false, length, ◌&&◌, ◌||◌, [], List, fold, map, true, if◌then◌else◌, IfOk, OnOk};
-ghost use Rattle.std.specs.List.{list_any};
 ghost use Rattle.otap_cells.specs.Bases.{is_id};
 ghost use Rattle.otap_cells.specs.Cells.{IsCellOf, seen};
 ghost use Rattle.otap_cells.specs.Columns.{base_at, coding_at, is_id_at, width_of};
-ghost use Rattle.otap_cells.specs.Continuing.{continues_in};
 ghost use Rattle.otap_cells.specs.Tables.{Table, coding_in, column_in};
 ghost use Rattle.otap_dicts.specs.declared.form.Form.TheVariants.{Plain};
 ghost use Rattle.otap_dicts.specs.Ladders.{is_dictionary, is_plain};
 ghost use Rattle.otap_columns.specs.declared.forms.ColumnForm.TheVariants as form;
-ghost use Rattle.otap_columns.specs.Observed.{bytes_for, form_at, has_wide_id, is_above, is_main, is_own_id, is_wide, of_ladder};
+ghost use Rattle.otap_columns.specs.Observed.{bytes_for, form_at, has_wide_id, is_main, is_own_id, is_wide, of_ladder};
 ghost use Rattle.otap_columns.specs.Seen.{IsSeenAfter, may_widen};
 ghost use Rattle.otap_columns.specs.SeenInside.{SeesTable, filled, form_told, id_form_told, is_absent, observed_if, places_of};
 ghost use Rattle.otap_columns.specs.WrittenCells.{place_in};

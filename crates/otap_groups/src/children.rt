@@ -5,7 +5,7 @@ ghost use Rattle.otap_groups.specs.declared.entry.ChildEntry.{ChildEntry};
 ghost use Rattle.otap_groups.specs.Rows.{child_rows};
 ghost use Rattle.otap_groups.specs.Children.{children};
 ghost use Rattle.otap_groups.specs.Inside.{AreStarts};
-ghost use Rattle.otap_groups.specs.Found.{entries_of, finds_in, found, of_parent, weighs_in};
+ghost use Rattle.otap_groups.specs.Found.{entries_of, finds_in, found, weighs_in};
 
 use crate::entry::ChildEntry;
 use crate::front::id_at;

@@ -3,7 +3,7 @@ ghost use Rattle.std.specs.Prelude.{◌≡◌, ◌<◌, ◌+◌, ◌++◌, ◌^�
 ghost use Rattle.std.specs.List.{flat_map};
 ghost use Rattle.otap_groups.specs.Flat.{flat, flat_at, flat_scopes, items_of, past, scopes_past};
 ghost use Rattle.otap_groups.specs.Stored.{Rising};
-ghost use Rattle.otap_groups.specs.Views.{seen_flat, seen_placed};
+ghost use Rattle.otap_groups.specs.Views.{seen_flat};
 
 use otlp_model::{Resource, ResourceGroup, Scope, ScopeGroup};
 use std::alloc::{AllocError, Global};

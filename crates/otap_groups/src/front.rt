@@ -1,6 +1,5 @@
 //! The front of a main table: the ids of its rows, and the cells of their resources and scopes.
-ghost use Rattle.std.specs.Prelude.{◌≡◌, ◌+◌, ◌-◌, ◌<◌, ◌≤◌, ◌^◌, ◌∷◌, length, map, IfOk};
-ghost use Rattle.std.specs.List.{slice_index_or};
+ghost use Rattle.std.specs.Prelude.{◌≡◌, ◌+◌, ◌-◌, ◌<◌, ◌≤◌, ◌∷◌, length, map, IfOk};
 ghost use Rattle.otap_cells.specs.Columns.{width_of};
 ghost use Rattle.otap_cells.specs.Cells.{seen};
 ghost use Rattle.otap_cells.specs.Tables.{cell_in};

@@ -1,18 +1,17 @@
 //! The tables of parts: events, links, points and exemplars, below the rows of another table.
-ghost use Rattle.std.specs.Prelude.{◌≡◌, ◌++◌, ◌∷◌, [], ◌≤◌, ◌^◌, ℕ, Bool, List, length, map, min, All, None, option_map, IfOk, OnOk};
-ghost use Rattle.std.specs.List.{flat_map};
+ghost use Rattle.std.specs.Prelude.{◌≡◌, ◌++◌, ◌∷◌, [], ◌≤◌, ◌^◌, List, length, map, min, All, None, option_map, IfOk, OnOk};
 ghost use Rattle.otlp_model.specs.Limits.{count_cap};
 ghost use Rattle.otap_cells.specs.declared.payload.Kind.{Kind};
 ghost use Rattle.otap_cells.specs.Cells.{Cell};
 ghost use Rattle.otap_cells.specs.Continuing.{again_of, goes_on_after};
-ghost use Rattle.otap_cells.specs.Columns.{coding_at, width_of};
+ghost use Rattle.otap_cells.specs.Columns.{coding_at};
 ghost use Rattle.otap_cells.specs.Tables.{profile_table};
 ghost use Rattle.otap_groups.specs.Flat.{placed, placed_at};
 ghost use Rattle.otap_cells.specs.Ids.{base_of};
 ghost use Rattle.otap_groups.specs.Kinds.{IsPart};
-ghost use Rattle.otap_groups.specs.Stored.{RisingParts, id_cell, part_table, stored_parts};
+ghost use Rattle.otap_groups.specs.Stored.{RisingParts, id_cell, stored_parts};
 ghost use Rattle.otap_groups.specs.Views.{seen_placed};
-ghost use Rattle.otap_groups.specs.Weighing.{cells_weight, parts_weight};
+ghost use Rattle.otap_groups.specs.Weighing.{cells_weight};
 
 use crate::flat::Placed;
 use otap_cells::{Coding, Kind, LogicalTable, coding_of};

@@ -1,5 +1,5 @@
 //! The main table of a request.
-ghost use Rattle.std.specs.Prelude.{◌≡◌, ◌++◌, ◌∷◌, [], ◌≤◌, ℕ, pos, List, map, min, All, IfOk, OnOk};
+ghost use Rattle.std.specs.Prelude.{◌≡◌, ◌++◌, ◌∷◌, [], List, map, min, All, IfOk, OnOk};
 ghost use Rattle.otlp_model.specs.Limits.{count_cap};
 ghost use Rattle.otap_cells.specs.declared.payload.Kind.{Kind};
 ghost use Rattle.otap_cells.specs.Cells.{Cell};

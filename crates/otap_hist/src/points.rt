@@ -1,5 +1,5 @@
 //! The rows of points of histograms and summaries, and of exemplars.
-ghost use Rattle.std.specs.Prelude.{◌≡◌, ◌*◌, min, Bool};
+ghost use Rattle.std.specs.Prelude.{◌≡◌, ◌*◌, min};
 ghost use Rattle.otlp_model.specs.Limits.{count_cap};
 ghost use Rattle.otap_cells.specs.declared.payload.Kind.TheVariants as table;
 ghost use Rattle.otap_cells.specs.declared.profile.Base.TheVariants as base;

@@ -1,5 +1,5 @@
 //! Log records, read from the rows of their table.
-ghost use Rattle.std.specs.Prelude.{◌≡◌, ◌<◌, length, map, drop, IfOk};
+ghost use Rattle.std.specs.Prelude.{◌≡◌, ◌<◌, map, drop};
 ghost use Rattle.otlp_model.specs.Weight.{weight_of_log_record, weight_of_pair};
 ghost use Rattle.otlp_model.specs.declared.value.Pair.{Pair};
 ghost use Rattle.otap_cells.specs.declared.payload.Kind.TheVariants as table;

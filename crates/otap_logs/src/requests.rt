@@ -12,7 +12,6 @@ ghost use Rattle.otap_attrs.specs.declared.refusal.RowRefusal.{RowRefusal};
 ghost use Rattle.otap_attrs.specs.Values.{pair_in};
 ghost use Rattle.otap_checks.specs.Pairing.{cells_or};
 ghost use Rattle.otap_attrs.specs.Index.{pairs_in};
-ghost use Rattle.otap_checks.specs.Reading.{main_rows_in};
 ghost use Rattle.otap_checks.specs.Refusing.{RefusesCheck};
 ghost use Rattle.otap_checks.specs.Regrouping.{RefusesRegroup};
 ghost use Rattle.otap_groups.specs.Disagree.{Disagree};

@@ -1,7 +1,7 @@
 //! The request of the tables of a batch of metrics, where the points of histograms and summaries are found in given ways.
 ghost use Rattle.std.specs.Prelude.{◌≡◌, ◌≤◌, ℕ, Option, IfErr, IfOk, OnOk};
 ghost use Rattle.otlp_model.specs.Limits.{weight_limit};
-ghost use Rattle.otlp_model.specs.Weight.{weight_of, weight_of_hist_point, weight_of_pair, weight_of_point, weight_of_sum_point};
+ghost use Rattle.otlp_model.specs.Weight.{weight_of, weight_of_hist_point, weight_of_pair, weight_of_sum_point};
 ghost use Rattle.otlp_model.specs.declared.histograms.HistPoint.{HistPoint};
 ghost use Rattle.otlp_model.specs.declared.histograms.SumPoint.{SumPoint};
 ghost use Rattle.otlp_model.specs.declared.metrics.Point.{Point};

@@ -1,11 +1,11 @@
 //! What the tables of a request of metrics weigh, without making them.
-ghost use Rattle.std.specs.Prelude.{◌≡◌, ◌≤◌, ◌+◌, min, sum_by, All};
+ghost use Rattle.std.specs.Prelude.{◌≡◌, ◌≤◌, min, sum_by, All};
 ghost use Rattle.otlp_model.specs.Limits.{weight_limit, count_cap};
 ghost use Rattle.otlp_model.specs.Profile.{IsProfile};
 ghost use Rattle.otlp_model.specs.Weight.{total, weight_of, weight_of_pair};
 ghost use Rattle.otlp_model.specs.declared.request.Request.TheVariants.{Metrics};
 ghost use Rattle.otap_cells.specs.Weights.{weight_of_tables};
-ghost use Rattle.otap_groups.specs.Weighing.{cells_weight, parts_weight};
+ghost use Rattle.otap_groups.specs.Weighing.{parts_weight};
 ghost use Rattle.otap_attrs.specs.Values.{pair_cells};
 ghost use Rattle.otap_metrics.specs.Inside.{exemplar_weight, metric_weight, point_weight};
 ghost use Rattle.otap_metrics.specs.Tables.{tables_of_metrics};

@@ -1,5 +1,5 @@
 //! The tables of metrics.
-ghost use Rattle.std.specs.Prelude.{◌≡◌, ◌≤◌, ◌^◌, min, IfOk};
+ghost use Rattle.std.specs.Prelude.{◌≡◌, ◌≤◌, min, IfOk};
 ghost use Rattle.otap_cells.specs.Sets.{tables_in};
 ghost use Rattle.otap_cells.specs.Weights.{weight_of_tables};
 ghost use Rattle.otap_hist.specs.Tables.{whole_tables};

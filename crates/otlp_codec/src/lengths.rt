@@ -1,7 +1,6 @@
 //! How long canonical spellings are, without writing them. A length above 2^63 is returned as 2^63.
 
-ghost use Rattle.std.specs.Prelude.{◌≡◌, ◌≤◌, ◌+◌, ℕ, List, min, length, map, sum, ◌∷◌, []};
-ghost use Rattle.otlp_wire.specs.Varint.{varint};
+ghost use Rattle.std.specs.Prelude.{◌≡◌, ◌≤◌, ◌+◌, ℕ, min, length, map, ◌∷◌, []};
 ghost use Rattle.otlp_wire.specs.Wire as wire;
 ghost use Rattle.otlp_wire.specs.Wire.{IsNumber};
 ghost use Rattle.otlp_messages.specs.Canon.{canon, canon_row, varint_row, fixed64_row, fixed32_row, bytes_row, many_row};

@@ -1,6 +1,6 @@
 //! Spans, their events, links and statuses.
 
-ghost use Rattle.std.specs.Prelude.{◌≡◌, ◌++◌, length, min, OnOk, IfOk, IfErr};
+ghost use Rattle.std.specs.Prelude.{◌≡◌, length, min, OnOk, IfOk, IfErr};
 ghost use Rattle.std.proofs.Common.{refl};
 ghost use Rattle.otlp_messages.specs.Canon.{canon};
 ghost use Rattle.otlp_messages.specs.declared.messages.Message.TheVariants as messages;

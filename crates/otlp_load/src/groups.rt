@@ -1,5 +1,5 @@
 //! The groups of a request, for items of any signal.
-ghost use Rattle.std.specs.Prelude.{◌≡◌, ◌∷◌, [], ◌<◌, IfOk, map};
+ghost use Rattle.std.specs.Prelude.{◌≡◌, ◌<◌, IfOk, map};
 ghost use Rattle.otlp_load.specs.Load.{items_each, requests_at_most, number_at, places_below, resource_of, scope_of_all, group_of, groups_of};
 
 use crate::items::{LoadItem, list_of_one};

@@ -1,6 +1,6 @@
 //! The items: spans, log records and metrics.
 ghost use Rattle.std.specs.Prelude.{◌≡◌, ◌<◌, [], ◌∷◌, ◌++◌, IfOk, codes};
-ghost use Rattle.otlp_load.specs.Items.{time_of, id_of, event_at, span_of, log_record_of, point_of, shape_of, metric_of};
+ghost use Rattle.otlp_load.specs.Items.{time_of, event_at, span_of, log_record_of, point_of, shape_of, metric_of};
 ghost use Rattle.otlp_load.specs.Load.{numbers_end};
 
 use crate::pairs::{double, numbered, pairs};

@@ -1,6 +1,5 @@
 //! The texts and the pairs of an item.
 ghost use Rattle.std.specs.Prelude.{◌≡◌, ◌<◌, IfOk, codes};
-ghost use Rattle.std.specs.Fmt.{decimal};
 ghost use Rattle.otlp_load.specs.Load.{numbers_end};
 ghost use Rattle.otlp_load.specs.Pairs.{double, numbered, value_at, pair_at, pairs_of};
 
