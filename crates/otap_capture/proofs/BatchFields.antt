@@ -7,8 +7,7 @@ use Rattle.otlp_wire.specs.Wire as wire
 use Rattle.otlp_wire.specs.Wire.{FieldValue, Entry}
 use Rattle.otlp_wire.specs.Fields.{fields_of, end_of}
 use Rattle.otlp_messages.specs.declared.messages.Message.TheVariants.{BatchArrowRecords}
-use Rattle.otlp_messages.specs.Limits.{level_limit}
-use Rattle.otlp_messages.specs.declared.table.TheConstants.{MARKS}
+use Rattle.otlp_messages.specs.Limits.{level_limit, mark_limit}
 use Rattle.otlp_messages.specs.Table.{kind_of, mark_of}
 use Rattle.otlp_messages.specs.Fine.{FineValue}
 use Rattle.otlp_messages.specs.Rows.{only, at, int64_in, part_at, part_in, parts_of}
@@ -31,8 +30,8 @@ no_mark n other = by_number (cases_Bool (nat_eq n 2))
 
 pub scanned_none : (bytes : List ℕ) (scan : Scan) → scan.seen ≡ false → scan.id ≡ pos 0 → scan.count ≡ 0 → Scanned bytes scan bytes
 scanned_none bytes scan seen id count = record {
-  marks = replicate 32 false;
-  checked = checked_none BatchArrowRecords level_limit bytes (replicate 32 false) refl (none_seen 32);
+  marks = replicate mark_limit false;
+  checked = checked_none BatchArrowRecords level_limit bytes (replicate mark_limit false) refl (none_seen mark_limit);
   first = sym seen;
   id = rw id refl;
   count = omega (arith, count);
@@ -88,7 +87,7 @@ fresh_mark marks seen n first none once = elim (cases_eq n 1) [
   | inr other ↦ rw (no_mark n other) none
 ]
 
-few_marks : (n : ℕ) → mark_of BatchArrowRecords n < MARKS
+few_marks : (n : ℕ) → mark_of BatchArrowRecords n < mark_limit
 few_marks n = elim (cases_eq n 1) [
   | inl one ↦ rw (id_mark n one) (omega arith)
   | inr other ↦ rw (no_mark n other) (omega arith)

@@ -5,7 +5,7 @@ use Rattle.otlp_wire.specs.Wire.{Entry}
 use Rattle.otlp_wire.specs.Fields.{fields_of, end_of}
 use Rattle.otlp_messages.specs.declared.messages.Message.{Message}
 use Rattle.otlp_messages.specs.declared.messages.Defect.{Defect}
-use Rattle.otlp_messages.specs.declared.table.TheConstants.{MARKS}
+use Rattle.otlp_messages.specs.Limits.{mark_limit}
 use Rattle.otlp_messages.specs.Table.{kind_of, mark_of}
 use Rattle.otlp_messages.specs.Defects.{IsFine}
 use Rattle.otlp_messages.specs.Fine.{FineValue, Checked}
@@ -26,15 +26,15 @@ names_map TooDeep P Q f h = f _ h
 names_map (Memory error) P Q f h = h
 
 pub passes_none : {A : Type 0} (m : Message) (l : ℕ) (step : A → Entry → A) (none : A) (bytes : List ℕ) (seen : List Bool)
-    → length seen ≡ MARKS → ((k : ℕ) → slice_index_or seen k false ≡ false) → PassesFields m l step none bytes seen bytes none
+    → length seen ≡ mark_limit → ((k : ℕ) → slice_index_or seen k false ≡ false) → PassesFields m l step none bytes seen bytes none
 passes_none m l step none bytes seen size unseen = record { checked = checked_none m l bytes seen size unseen; read = refl }
 
 pub passes_more : {A : Type 0} (m : Message) (l : ℕ) (step : A → Entry → A) (none : A) (bytes rest new : List ℕ) (seen : List Bool) (old now : A) (f : Entry) (mark : ℕ)
     → PassesFields m l step none bytes seen rest old → (fields_of rest ≡ f ∷ fields_of new) × (end_of rest ≡ end_of new)
-    → mark ≡ mark_of m f.number → mark < MARKS → slice_index_or seen mark false ≡ false → now ≡ step old f → FineValue (kind_of m f.number) l f.value
+    → mark ≡ mark_of m f.number → mark < mark_limit → slice_index_or seen mark false ≡ false → now ≡ step old f → FineValue (kind_of m f.number) l f.value
     → PassesFields m l step none bytes (set seen mark (not (mark == 0))) new now
 passes_more m l step none bytes rest new seen old now f mark h first is few fresh said fine = record {
-  checked = subst (λ (k : ℕ). k < MARKS → slice_index_or seen k false ≡ false → Checked m l bytes (set seen k (not (k == 0))) new) (sym is)
+  checked = subst (λ (k : ℕ). k < mark_limit → slice_index_or seen k false ≡ false → Checked m l bytes (set seen k (not (k == 0))) new) (sym is)
       (λ few' fresh'. checked_more m l bytes rest new seen f h.checked first.0 first.1 few' fresh' fine) few fresh;
   read = ap (λ a. fold step a (fields_of new)) said ∙ sym (ap (fold step old) first.0) ∙ h.read;
 }

@@ -9,7 +9,7 @@ use Rattle.std.proofs.lemmas.List.Sums.{sum_by-append}
 use Rattle.otlp_messages.specs.declared.messages.Message.{Message}
 use Rattle.otlp_messages.specs.declared.messages.FieldKind.{FieldKind}
 use Rattle.otlp_messages.specs.declared.messages.FieldKind.TheVariants.{Unknown, Varint, Fixed64, Fixed32, Packed64, Text, Octets, Id, Embedded, Member, Refused}
-use Rattle.otlp_messages.specs.declared.table.TheConstants.{MARKS}
+use Rattle.otlp_messages.specs.Limits.{mark_limit}
 use Rattle.otlp_messages.specs.declared.messages.Defect.{Defect}
 use Rattle.otlp_messages.specs.declared.messages.Defect.TheVariants.{Repeated}
 use Rattle.otlp_wire.specs.declared.parts.WireError.{WireError}
@@ -44,7 +44,7 @@ AllByRecursion-at P [] after x a = a.0
 AllByRecursion-at P (y ∷ before) after x a = AllByRecursion-at P before after x a.1
 
 -- no mark is seen at first
-pub checked_none : (m : Message) (l : ℕ) (bytes : List ℕ) (seen : List Bool) → length seen ≡ MARKS → ((k : ℕ) → slice_index_or seen k false ≡ false) → Checked m l bytes seen bytes
+pub checked_none : (m : Message) (l : ℕ) (bytes : List ℕ) (seen : List Bool) → length seen ≡ mark_limit → ((k : ℕ) → slice_index_or seen k false ≡ false) → Checked m l bytes seen bytes
 checked_none m l bytes seen size none = record {
   done = [];
   whole = refl;
@@ -117,7 +117,7 @@ count-last m q f n = ap (λ k. n + k) (count-one (λ g. mark_of m g.number == q)
 
 -- one more field
 pub checked_more : (m : Message) (l : ℕ) (bytes rest new : List ℕ) (seen : List Bool) (f : Entry) → Checked m l bytes seen rest
-    → fields_of rest ≡ f ∷ fields_of new → end_of rest ≡ end_of new → mark_of m f.number < MARKS
+    → fields_of rest ≡ f ∷ fields_of new → end_of rest ≡ end_of new → mark_of m f.number < mark_limit
     → slice_index_or seen (mark_of m f.number) false ≡ false → FineValue (kind_of m f.number) l f.value
     → Checked m l bytes (set seen (mark_of m f.number) (not (mark_of m f.number == 0))) new
 checked_more m l bytes rest new seen f h first end few fresh fine =

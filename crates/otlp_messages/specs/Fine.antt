@@ -5,7 +5,7 @@ use Rattle.otlp_messages.specs.declared.messages.Message.{Message}
 use Rattle.otlp_messages.specs.declared.messages.FieldKind.{FieldKind}
 use Rattle.otlp_messages.specs.declared.messages.FieldKind.TheVariants.{Unknown, Packed64, Text, Octets, Id, Embedded, Member}
 use Rattle.otlp_messages.specs.declared.messages.Defect.{Defect}
-use Rattle.otlp_messages.specs.declared.table.TheConstants.{MARKS}
+use Rattle.otlp_messages.specs.Limits.{mark_limit}
 use Rattle.otlp_wire.specs.Wire as wire
 use Rattle.otlp_wire.specs.Wire.{FieldValue, Entry, wire_type}
 use Rattle.otlp_wire.specs.Fields.{fields_of, end_of}
@@ -46,4 +46,4 @@ pub record Checked (message : Message) (levels : ℕ) (bytes : List ℕ) (seen :
   pub fine : AllByRecursion (λ f. FineValue (kind_of message f.number) levels f.value) done
   pub once : (k : ℕ) → 0 < k → count_by (λ f. mark_of message f.number == k) done ≡ cond (slice_index_or seen k false) 1 0
   pub none : slice_index_or seen 0 false ≡ false
-  pub size : length seen ≡ MARKS
+  pub size : length seen ≡ mark_limit

@@ -4,8 +4,9 @@ ghost use Rattle.std.specs.Prelude.{◌≡◌, ℕ, ◌^◌, ◌<◌, List, true
 ghost use Rattle.std.specs.List.{AllByRecursion};
 ghost use Rattle.otlp_messages.specs.declared.messages.Message.{Message};
 ghost use Rattle.otlp_messages.specs.declared.checking.TheConstants.{LEVELS};
+ghost use Rattle.otlp_messages.specs.declared.table.TheConstants.{MARKS};
 ghost use Rattle.otlp_messages.specs.Defects.{IsDecided};
-ghost use Rattle.otlp_messages.specs.Limits.{level_limit};
+ghost use Rattle.otlp_messages.specs.Limits.{level_limit, mark_limit};
 ghost use Rattle.otlp_messages.specs.Canon.{Filled, canon, laid_out, RowFits, IsReadBack};
 
 /// Rows that are written are the fields that are read, and no defect stands in them.
@@ -14,9 +15,10 @@ pub fn rows_are_read()
         → AllByRecursion (RowFits m levels) rows → length (canon rows) < 2 ^ 64 → IsReadBack m levels rows }
 {}
 
-/// The limit of the code is the one that the definitions name.
+/// The limits of the code are those that the definitions name.
 pub fn limits()
-    ensures { LEVELS ≡ level_limit }
+    ensures levels { LEVELS ≡ level_limit }
+    ensures marks { MARKS ≡ mark_limit }
 {}
 
 /// Whatever the bytes are, they are the message, or a defect stands in them.

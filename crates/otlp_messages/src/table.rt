@@ -1,6 +1,7 @@
 //! The table of the messages, as code looks a field up: a function for each message.
 
 ghost use Rattle.std.specs.Prelude.{◌≡◌, ◌<◌};
+ghost use Rattle.otlp_messages.specs.Limits.{mark_limit};
 ghost use Rattle.otlp_messages.specs.Table as table;
 ghost use Rattle.otlp_messages.specs.Table.{row_in};
 
@@ -17,7 +18,7 @@ pub const MARKS: usize = 32;
 #[inline]
 pub fn row_of(message: Message, number: u32) -> Row
     ensures row { result ≡ row_in message number }
-    ensures few { result.mark < MARKS }
+    ensures few { result.mark < mark_limit }
 {
     match message {
         Message::BatchArrowRecords => batch_arrow_records(number),

@@ -6,13 +6,14 @@ use Rattle.otlp_messages.specs.declared.messages.Message.{Message}
 use Rattle.otlp_messages.specs.declared.messages.Row.{Row}
 use Rattle.otlp_messages.specs.Table.{mark_of}
 use Rattle.otlp_messages.specs.Defects.{wire_error}
+use Rattle.otlp_messages.specs.Limits.{mark_limit}
 use Rattle.otlp_messages.proofs.Steps.{none_seen, twice_stands}
 use Rattle.otlp_codec.proofs.Passing.{passes_none, passes_more, passes_all, refused_value}
 use Rattle.otlp_codec.proofs.part.fill.Goals as goal
 
 pub fields-init : goal.fields-init
 fields-init g c =
-    rw (c.into_iter-next-iterator.ensures.into_iter_gives, c.new-next-items.ensures, c.requires) (passes_none _ _ _ _ _ _ refl (none_seen 32))
+    rw (c.into_iter-next-iterator.ensures.into_iter_gives, c.new-next-items.ensures, c.requires) (passes_none _ _ _ _ _ _ refl (none_seen mark_limit))
 
 pub returns-in_default-clause-fault : goal.returns-in_default-clause-fault
 returns-in_default-clause-fault g c =

@@ -5,13 +5,14 @@ use Rattle.otlp_wire.proofs.Readings.{part_len}
 use Rattle.otlp_wire.specs.Wire.{entry, value_of}
 use Rattle.otlp_messages.specs.declared.messages.FieldKind.{FieldKind}
 use Rattle.otlp_messages.specs.Defects.{wire_error}
+use Rattle.otlp_messages.specs.Limits.{mark_limit}
 use Rattle.otlp_messages.specs.Fine.{FineValue, ValueStands, Checked}
 use Rattle.otlp_messages.proofs.Steps.{checked_none, none_seen, first_occurs, value_stands, twice_stands, checked_more, fine_from, value_is_shorter, member_stands, IfErr-map}
 use Rattle.otlp_messages.proofs.checking.+check.Goals as goal
 
 pub check-fields-init : goal.check-fields-init
 check-fields-init t c =
-    rw (c.into_iter-next-iterator.ensures.into_iter_gives, c.new-next-items.ensures) (checked_none _ _ _ _ refl (none_seen 32))
+    rw (c.into_iter-next-iterator.ensures.into_iter_gives, c.new-next-items.ensures) (checked_none _ _ _ _ refl (none_seen mark_limit))
 
 pub check-returns-in_default-clause-fault : goal.check-returns-in_default-clause-fault
 check-returns-in_default-clause-fault t c =
