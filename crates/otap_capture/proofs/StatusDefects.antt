@@ -12,12 +12,13 @@ use Rattle.otlp_messages.specs.declared.messages.Defect.TheVariants as defects
 use Rattle.otlp_messages.specs.Limits.{level_limit}
 use Rattle.otlp_messages.specs.Defects.{Stands, wire_error, twice, in_value, within, ValueFaults, PartFaults, inside}
 use Rattle.otlp_messages.specs.Table.{kind_of}
+use Rattle.otlp_messages.proofs.Deciding.{decided}
 use Rattle.otlp_wire.specs.Wire as wire
 use Rattle.otlp_wire.specs.Wire.{FieldValue}
 use Rattle.otap_capture.specs.declared.batch.BatchRefusal.{BatchRefusal}
 use Rattle.otap_capture.specs.declared.batch.BatchRefusal.TheVariants as refusals
 use Rattle.otap_capture.specs.Batch.{IsOfBatch}
-use Rattle.otap_capture.specs.Statuses.{ReadsStatus, RefusesStatus, status_in}
+use Rattle.otap_capture.specs.Statuses.{StatusContent, ReadsStatus, RefusesStatus, status_in}
 
 -- the kinds of its fields
 abbrev Plain : FieldKind → Type 0
@@ -80,3 +81,11 @@ refused bytes defects.TooDeep of stands = absurd of
 
 pub status_or_refused : (bytes : List ℕ) → ((refusal : BatchRefusal) → RefusesStatus bytes refusal → ⊥) → ReadsStatus bytes (status_in bytes)
 status_or_refused bytes none = (record { none = λ e stands. let r = refused bytes e (of_status level_limit bytes e stands) stands in none r.0 r.1 }, refl)
+
+-- each list of bytes is read or refused
+pub status_or_not : (bytes : List ℕ) → ((status : StatusContent) × ReadsStatus bytes status) ⊎ ((refusal : BatchRefusal) × RefusesStatus bytes refusal)
+status_or_not bytes =
+    elim (decided BatchStatus level_limit bytes) [
+      | inl fine ↦ inl (status_in bytes, (fine, refl))
+      | inr d ↦ inr (refused bytes d.0 (of_status level_limit bytes d.0 d.1) d.1)
+    ]

@@ -1,6 +1,6 @@
 //! What holds of the definitions of statuses: each law is the contract of a function that does nothing.
 
-ghost use Rattle.std.specs.Prelude.{◌≡◌, ℕ, ◌^◌, ◌<◌, List, length};
+ghost use Rattle.std.specs.Prelude.{◌≡◌, ◌⊎◌, ℕ, ◌^◌, ◌<◌, List, length};
 ghost use Rattle.otap_capture.specs.declared.batch.BatchRefusal.{BatchRefusal};
 ghost use Rattle.otap_capture.specs.Statuses.{StatusContent, ReadsStatus, RefusesStatus, IsRealStatus, status_in, canon_status};
 
@@ -11,9 +11,10 @@ pub fn one_status()
         → ReadsStatus bytes status → RefusesStatus bytes refusal → ⊥ }
 {}
 
-/// Bytes in which no defect stands are read as a status.
+/// Bytes in which no defect stands are read as a status, and all others are refused.
 pub fn status_or_refused()
-    ensures { (bytes : List ℕ) → ((refusal : BatchRefusal) → RefusesStatus bytes refusal → ⊥) → ReadsStatus bytes (status_in bytes) }
+    ensures read { (bytes : List ℕ) → ((refusal : BatchRefusal) → RefusesStatus bytes refusal → ⊥) → ReadsStatus bytes (status_in bytes) }
+    ensures either { (bytes : List ℕ) → ((status : StatusContent) × ReadsStatus bytes status) ⊎ ((refusal : BatchRefusal) × RefusesStatus bytes refusal) }
 {}
 
 /// The canonical spelling of a status is read as the status.
