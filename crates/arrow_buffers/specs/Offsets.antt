@@ -1,10 +1,11 @@
 -- Offsets into values whose elements have one width (Arrow columnar format, "Variable-size binary
 -- layout" and "Variable-size list layout"). An offset counts elements.
-use Rattle.std.specs.Prelude.{◌≡◌, ℕ, ◌+◌, ◌-◌, ◌*◌, ◌^◌, ◌<◌, ◌≤◌, ◌==◌, ◌⊎◌, nat_lt, nat_le, Bool, ◌&&◌, if◌then◌else◌, List, length, drop, slice_range, Result, Ok, Err}
+use Rattle.std.specs.Prelude.{◌≡◌, ℕ, ◌+◌, ◌-◌, ◌*◌, ◌<◌, ◌≤◌, ◌==◌, ◌⊎◌, nat_lt, nat_le, Bool, ◌&&◌, if◌then◌else◌, List, length, drop, slice_range, Result, Ok, Err}
 use Rattle.byteorder.specs.Endian.{little_bytes, little_number}
 use Rattle.arrow_buffers.specs.declared.fault.BufferFault.{BufferFault}
 use Rattle.arrow_buffers.specs.declared.fault.BufferFault.TheVariants.{Short, BadOffsets}
 use Rattle.arrow_buffers.specs.Below.{all_below}
+use Rattle.arrow_buffers.specs.Limits.{max_values}
 
 -- the offset at a place: 32 bits, the lowest byte first
 unfoldable pub offset_at : List ℕ → ℕ → ℕ
@@ -22,7 +23,7 @@ span_at width offsets values row =
 -- an offset is fine that is not negative, not less than the one before, and not past the values
 abbrev pub is_fine : ℕ → ℕ → ℕ → ℕ → Bool
 is_fine before offset width len =
-    nat_lt offset (2 ^ 31) && (nat_le before offset && nat_le (offset * width) len)
+    nat_lt offset max_values && (nat_le before offset && nat_le (offset * width) len)
 
 -- the offset before a place, or 0 at the first
 abbrev pub offset_before : List ℕ → ℕ → ℕ
@@ -51,12 +52,12 @@ AreNone offsets rows = (rows ≡ 0) × (length offsets ≡ 0)
 -- the one before, and the last within the values
 pub record AreOffsets (width : ℕ) (offsets values : List ℕ) (rows : ℕ) : Type 0 where
   pub enough : 4 * (rows + 1) ≤ length offsets
-  pub not_negative : (place : ℕ) → place ≤ rows → offset_at offsets place < 2 ^ 31
+  pub not_negative : (place : ℕ) → place ≤ rows → offset_at offsets place < max_values
   pub rising : (row : ℕ) → row < rows → offset_at offsets row ≤ offset_at offsets (row + 1)
   pub within : offset_at offsets rows * width ≤ length values
 
 -- an offset that is negative, less than the one before, or past the values
 abbrev pub IsBad : ℕ → List ℕ → List ℕ → ℕ → Type 0
 IsBad width offsets values place =
-    (2 ^ 31 ≤ offset_at offsets place) ⊎ ((offset_at offsets place < offset_before offsets place)
+    (max_values ≤ offset_at offsets place) ⊎ ((offset_at offsets place < offset_before offsets place)
     ⊎ (length values < offset_at offsets place * width))
