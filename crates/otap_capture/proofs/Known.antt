@@ -1,9 +1,14 @@
 -- What writes and reads, one after the other, do to known bytes.
-use Rattle.std.proofs.Common.{ℕ, List, [], ◌++◌, None, Some, take, drop, refl, sym, ap, ◌∙◌, append_assoc, append-nil, take-append-drop}
+use Rattle.std.proofs.Common.{◌≡◌, ℕ, List, [], ◌++◌, None, Some, take, drop, refl, sym, ap, ◌∙◌, append_assoc, append-nil, take-append-drop}
 use Rattle.std.specs.declared.option.Option.{Option}
 use Rattle.std.specs.Io.KnownBytes.{Keeps, Appends}
 use Rattle.otap_capture.specs.Outside.{AppendsFront}
-use Rattle.otap_capture.specs.Writing.{IsPartWritten}
+
+-- all of the text but the rest is written
+pub record IsPartWritten (old new : Option (List ℕ)) (text rest : List ℕ) : Type 0 where
+  pub front : List ℕ
+  pub whole : text ≡ front ++ rest
+  pub grown : Appends old new front
 
 pub Keeps-refl : (a : Option (List ℕ)) → Keeps a a
 Keeps-refl None = tt

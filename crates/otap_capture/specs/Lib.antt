@@ -11,4 +11,3 @@ pub mod Memory
 pub mod Outside
 pub mod Reading
 pub mod Statuses
-pub mod Writing

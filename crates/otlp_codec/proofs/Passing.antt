@@ -14,7 +14,11 @@ use Rattle.otlp_codec.specs.declared.refusal.ReadRefusal.{ReadRefusal}
 use Rattle.otlp_codec.specs.declared.refusal.ReadRefusal.TheVariants.{BadMessage, Repeated, BadUtf8, BadLength, Unsupported, TooDeep, Memory}
 use Rattle.otlp_codec.specs.Refusals.{HoldsNamed}
 use Rattle.otlp_codec.specs.PartRefusals.{Refuses, RefusesValue}
-use Rattle.otlp_codec.specs.Passes.{PassesFields}
+
+-- what is read so far, and what is left; no defect stands in the fields that are read
+pub record PassesFields {A : Type 0} (message : Message) (levels : ℕ) (step : A → Entry → A) (none : A) (bytes : List ℕ) (seen : List Bool) (rest : List ℕ) (now : A) : Type 0 where
+  pub checked : Checked message levels bytes seen rest
+  pub read : fold step now (fields_of rest) ≡ fold step none (fields_of bytes)
 
 pub names_map : (refusal : ReadRefusal) (P Q : Defect → Type 0) → ((e : Defect) → P e → Q e) → HoldsNamed refusal P → HoldsNamed refusal Q
 names_map BadMessage P Q f h = f _ h

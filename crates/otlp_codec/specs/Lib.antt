@@ -13,7 +13,6 @@ pub mod Refusals
 pub mod PartRefusals
 pub mod Values
 pub mod Steps
-pub mod Passes
 pub mod Canonical
 pub mod Requests
 pub mod Lengths

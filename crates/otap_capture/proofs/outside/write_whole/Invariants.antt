@@ -1,6 +1,6 @@
 use Rattle.std.proofs.Common.{◌≡◌, [], length}
 use Rattle.std.specs.Io.KnownBytes.{Keeps}
-use Rattle.otap_capture.specs.Writing.{IsPartWritten}
+use Rattle.otap_capture.proofs.Known.{IsPartWritten}
 use Rattle.otap_capture.proofs.outside.write_whole.Given as goal
 
 abbrev pub invariant-parts : goal.invariant-parts

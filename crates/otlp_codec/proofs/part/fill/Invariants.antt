@@ -1,5 +1,5 @@
 use Rattle.otlp_messages.specs.Limits.{level_limit}
-use Rattle.otlp_codec.specs.Passes.{PassesFields}
+use Rattle.otlp_codec.proofs.Passing.{PassesFields}
 use Rattle.otlp_codec.proofs.part.fill.Given as goal
 
 abbrev pub invariant-fields : goal.invariant-fields

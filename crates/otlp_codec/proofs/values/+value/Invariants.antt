@@ -3,7 +3,7 @@ use Rattle.otlp_wire.specs.Wire.{value_of}
 use Rattle.otlp_wire.proofs.Readings.{part_len}
 use Rattle.otlp_messages.specs.declared.messages.Message.TheVariants as messages
 use Rattle.otlp_model.specs.declared.value.Value.TheVariants.{Empty}
-use Rattle.otlp_codec.specs.Passes.{PassesFields}
+use Rattle.otlp_codec.proofs.Passing.{PassesFields}
 use Rattle.otlp_codec.specs.Values.{any_in}
 use Rattle.otlp_codec.specs.Steps.{array_at, map_at, no_pair, pair_step, array_step, map_step}
 use Rattle.otlp_codec.proofs.values.+value.Given as goal
