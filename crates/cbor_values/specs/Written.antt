@@ -3,7 +3,6 @@ use Rattle.std.specs.Prelude.{ℕ, ◌+◌, ◌*◌, ◌^◌, nat_lt, if◌then�
 use Rattle.byteorder.specs.Endian.{big_bytes}
 use Rattle.otlp_model.specs.declared.value.Value.{Value, fold-Value}
 use Rattle.otlp_model.specs.declared.value.Value.TheOpen.{Value-F, Pair-F}
-use Rattle.otlp_model.specs.declared.value.Pair.{Pair}
 use Rattle.cbor_values.specs.Heads.{argument_len}
 
 -- a head whose argument stands after the first byte

@@ -1,17 +1,15 @@
--- The words of loads are those of one load at most, and of no job over a capture; and what a load's run leaves where nothing
--- failed.
-use Rattle.std.proofs.Common.{◌≡◌, ◌⊎◌, inl, inr, ℕ, ◌≤◌, List, [], ◌∷◌, length, Result, Ok, Err, refl, sym, ap, ◌∙◌, subst, arith}
+-- The words of loads are those of one load at most; and what a load's run leaves where nothing failed.
+use Rattle.std.proofs.Common.{◌≡◌, ◌⊎◌, inl, inr, ℕ, List, [], ◌∷◌, Result, Ok, Err, refl, sym, ap, ◌∙◌, subst, arith}
 use Rattle.std.specs.Prelude.{All, codes}
 use Rattle.std.specs.Fmt.{decimal}
 use Rattle.std.proofs.lemmas.Fmt.{decimal_injective}
 use Rattle.otap_capture.specs.Outside.{Rose}
-use Rattle.otap_gateway.specs.declared.command.Command.{Command}
 use Rattle.otap_gateway.specs.declared.command.Command.TheVariants as command
 use Rattle.otlp_model.specs.declared.request.Signal.{Signal}
 use Rattle.otap_gateway.specs.declared.load.Load.{Load}
 use Rattle.otap_gateway.specs.declared.stop.Stop.{Stop}
 use Rattle.otap_gateway.specs.declared.stop.Stop.TheVariants as stop
-use Rattle.otap_gateway.specs.Commands.{signal_word, words_of}
+use Rattle.otap_gateway.specs.Commands.{signal_word}
 use Rattle.otap_gateway.specs.Loads.{IsLoad, LeavesLoad, RunsLoad, WritesLoad, load_status, load_words}
 use Rattle.otap_gateway.specs.Runs.{Sinks, SinkFaults}
 use Rattle.otap_gateway.specs.Receptions.{meaning_of}
@@ -22,24 +20,6 @@ use Rattle.otlp_model.specs.declared.request.Signal.TheVariants as signals
 use Rattle.otlp_model.specs.declared.request.Request.{Request}
 use Rattle.lists.specs.EachAfter.{EachAfter}
 use Rattle.otap_gateway.proofs.OneJob.{one_job}
-
--- ---- a job has two words at most
-
-short : (job : Command) → length (words_of job) ≤ 2
-short command.List = omega arith
-short (command.Tidy signal) = omega arith
-short (command.Encode signal) = omega arith
-short (command.Schema signal) = omega arith
-short (command.Show signal) = omega arith
-short (command.Decode signal) = omega arith
-short (command.Status signal) = omega arith
-short (command.Replay signal) = omega arith
-
-pub no_job : (job : Command) (load : Load) (words : List (List ℕ)) → words ≡ words_of job → words ≡ load_words load → ⊥
-no_job job load words is says =
-    let few = short job in
-    let same : length (words_of job) ≡ length (load_words load) = ap length (sym is ∙ says) in
-    omega (arith, few, same)
 
 -- ---- one load
 

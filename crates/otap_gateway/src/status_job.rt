@@ -10,7 +10,7 @@ use crate::job::Job;
 use crate::lines::{or_dash, refused_line};
 use crate::receiving::Serves;
 use crate::reply::Reply;
-use otap_capture::{Frame, Status, write_status};
+use otap_capture::{Frame, Status};
 use otap_consume::{Receiver, Refusal, Taken, Telemetry};
 use std::alloc::{AllocError, Global};
 

@@ -29,5 +29,5 @@ pub use groups::Main;
 pub use parts::{PartWriter, parts_of, write_parts};
 pub use reading::{Lookup, RowReader};
 pub use sources::{items_of, resources_of, scopes_of};
-pub use weighing::{RowWeights, cells_weight, rows_weight};
+pub use weighing::{RowWeights, rows_weight};
 pub use writing::{RowWriter, write_rows};

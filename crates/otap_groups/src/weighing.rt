@@ -1,11 +1,11 @@
 //! What the rows of a request weigh, without making them.
-ghost use Rattle.std.specs.Prelude.{◌≡◌, ◌∷◌, [], ℕ, map, min, All};
+ghost use Rattle.std.specs.Prelude.{◌≡◌, ◌∷◌, [], ℕ, min, All};
 ghost use Rattle.otlp_model.specs.Limits.{count_cap};
 ghost use Rattle.otlp_model.specs.declared.groups.Resource.{Resource};
 ghost use Rattle.otlp_model.specs.declared.groups.Scope.{Scope};
 ghost use Rattle.otap_cells.specs.Cells.{seen};
 ghost use Rattle.otap_cells.specs.Weights.{cell_weight};
-ghost use Rattle.otap_groups.specs.Weighing.{CanWriteGroup, CanWriteScope, cells_weight, front_weight, rows_of_groups, rows_of_scope};
+ghost use Rattle.otap_groups.specs.Weighing.{CanWriteGroup, CanWriteScope, front_weight, rows_of_groups, rows_of_scope};
 
 use crate::sources::has_items;
 use otap_cells::CellView;
@@ -98,17 +98,6 @@ fn front_weight(resource: &Resource, scope: &Scope) -> u64
         scope.version.len() as u64,
         scope.schema_url.len() as u64,
     ])
-}
-
-/// The bytes of cells, or `CAP` where they are more.
-pub fn cells_weight(cells: &[CellView<'_>]) -> u64
-    ensures { result ≡ min (cells_weight (map seen cells.now)) count_cap }
-{
-    let mut weight = 0;
-    'cells: for cell in cells {
-        weight = add_capped(weight, bytes_of(*cell));
-    }
-    weight
 }
 
 fn bytes_of(cell: CellView<'_>) -> u64

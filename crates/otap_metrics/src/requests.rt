@@ -34,7 +34,7 @@ use otap_checks::{
 };
 use otap_groups::{Lookup, Main};
 use otlp_model::{HistPoint, Items, Metric, Pair, Point, SumPoint};
-use std::alloc::{AllocError, Global};
+use std::alloc::Global;
 
 /// Looks at the rows of a batch, whose ids are known and have nothing wrong: at all but whether rows of one id agree. It passes
 /// over the points of histograms and summaries, and builds nothing. Takes n log n for n rows.

@@ -1,5 +1,5 @@
 -- Payloads are added to a batch one after the other, and the batch is written as a message.
-use Rattle.std.proofs.Common.{◌≡◌, ◌+◌, List, [], ◌∷◌, ◌++◌, refl, sym, ap, ◌∙◌, arith, append_assoc, append-nil, length-append}
+use Rattle.std.proofs.Common.{◌≡◌, ◌+◌, List, [], ◌∷◌, ◌++◌, ap, ◌∙◌, arith, append_assoc, length-append}
 use Rattle.std.specs.List.{AllByRecursion}
 use Rattle.lists.proofs.Growing.{each_after-append}
 use Rattle.lists.specs.Payloads.{PayloadIn}
@@ -9,12 +9,6 @@ use Rattle.otap_columns.specs.TableSets.{IsPayloadOf}
 use Rattle.otap_produce.specs.Exporters.{SendersIn}
 use Rattle.otap_produce.specs.SentMessages.{Adds, HaveHistory, Sends}
 use Rattle.otap_produce.specs.Sizes.{most_of, size_of}
-
-pub sends_none : (s : SendersIn) → Sends [] s s []
-sends_none s = record {
-  are = λ before past has. tt;
-  after = λ before past has. rw (append-nil before, append-nil past) has;
-}
 
 pub sends_more : (ts us : List Table) (a b c : SendersIn) (ps qs : List PayloadIn) → Sends ts a b ps → Sends us b c qs → Sends (ts ++ us) a c (ps ++ qs)
 sends_more ts us a b c ps qs one two = record {
@@ -34,18 +28,6 @@ size_more (p ∷ ps) qs = omega (arith, size_more ps qs)
 most_more : (ts us : List Table) → most_of (ts ++ us) ≡ most_of ts + most_of us
 most_more [] us = omega arith
 most_more (t ∷ ts) us = omega (arith, most_more ts us)
-
-pub adds_none : (s : SendersIn) (b : BatchContent) → Adds [] s s b b
-adds_none s b = record {
-  payloads = [];
-  id = refl;
-  are = sym (append-nil b.payloads);
-  real = tt;
-  sends = sends_none s;
-  openings = omega arith;
-  size = omega arith;
-  count = refl;
-}
 
 pub adds_more : (ts us : List Table) (a b c : SendersIn) (x y z : BatchContent) → Adds ts a b x y → Adds us b c y z → Adds (ts ++ us) a c x z
 adds_more ts us a b c x y z one two = record {

@@ -5,8 +5,8 @@ ghost use Rattle.otlp_model.specs.declared.request.Signal.TheVariants.{Logs};
 use super::*;
 use otap_capture::read_batch;
 use otlp_model::{
-    Items, LogRecord, Octets, Pair, Request, Resource, ResourceGroup, Scope, ScopeGroup, Signal,
-    Text, Value, is_profile,
+    Items, LogRecord, Octets, Pair, Request, Resource, ResourceGroup, Scope, ScopeGroup, Text,
+    Value, is_profile,
 };
 use std::alloc::{AllocError, Global};
 use std::test::Fail;

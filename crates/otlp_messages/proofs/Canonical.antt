@@ -26,10 +26,6 @@ both true true h = (refl, refl)
 both true false h = absurd (false≢true h)
 both false b h = absurd (false≢true h)
 
-either : (a b : Bool) → (a || b) ≡ true → (a ≡ true) ⊎ (b ≡ true)
-either true b h = inl refl
-either false b h = inr h
-
 record LaidOut (m : Message) (r : Filled) (rows : List Filled) : Type 0 where
   number : IsNumber r.number
   apart_from : list_all (apart m r) rows ≡ true

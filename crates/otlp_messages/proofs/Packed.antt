@@ -1,5 +1,5 @@
 -- What is written of packed numbers, optional numbers and signed 64 bits fits the table and reads back.
-use Rattle.std.proofs.Common.{◌≡◌, ℕ, ◌*◌, ◌/◌, ◌%◌, ◌^◌, ◌<◌, List, [], ◌∷◌, length, drop, ℤ, Option, Some, None, refl, ap, ◌∙◌, arith}
+use Rattle.std.proofs.Common.{◌≡◌, ℕ, ◌*◌, ◌/◌, ◌%◌, ◌^◌, ◌<◌, List, [], ◌∷◌, length, drop, ℤ, refl, ap, ◌∙◌, arith}
 use Rattle.std.specs.Prelude.{fold, FitsSigned}
 use Rattle.std.specs.Int.{w64, cast_unsigned}
 use Rattle.std.specs.List.{flat_map, AllByRecursion}
@@ -10,8 +10,8 @@ use Rattle.otlp_messages.specs.declared.messages.Message.{Message}
 use Rattle.otlp_messages.specs.declared.messages.FieldKind.TheVariants as kinds
 use Rattle.otlp_wire.specs.Wire.{Fixed64}
 use Rattle.otlp_messages.specs.Table.{kind_of}
-use Rattle.otlp_messages.specs.Rows.{numbers, packed_in, optional_in}
-use Rattle.otlp_messages.specs.Canon.{row, packed_row, optional_row, RowFits}
+use Rattle.otlp_messages.specs.Rows.{numbers, packed_in}
+use Rattle.otlp_messages.specs.Canon.{row, packed_row, RowFits}
 use Rattle.otlp_messages.proofs.RowKinds.{part_field_fits, none_fits, fixed64_field_fits, unsigned_small}
 
 -- the bytes of numbers
@@ -42,14 +42,6 @@ packed_back (n ∷ ns) small =
 pub packed_fits : (m : Message) (l n : ℕ) (ns : List ℕ) → kind_of m n ≡ kinds.Packed64 → RowFits m l (row n (packed_row ns))
 packed_fits m l n [] is = none_fits m l n
 packed_fits m l n (x ∷ ns) is = part_field_fits m l n (run (x ∷ ns)) (λ short. rw is (ap (λ size. size % 8) (length-run (x ∷ ns)) ∙ whole (length (x ∷ ns))))
-
-pub optional_back : (x : Option ℕ) → fold optional_in None (optional_row x) ≡ x
-optional_back None = refl
-optional_back (Some n) = refl
-
-pub optional_fits : (m : Message) (l n : ℕ) (x : Option ℕ) → kind_of m n ≡ kinds.Fixed64 → ((v : ℕ) → x ≡ Some v → v < 2 ^ 64) → RowFits m l (row n (optional_row x))
-optional_fits m l n None is small = none_fits m l n
-optional_fits m l n (Some v) is small = fixed64_field_fits m l n v is (small v refl)
 
 -- a signed number of 64 bits
 pub sfixed64_fits : (m : Message) (l n : ℕ) (z : ℤ) → kind_of m n ≡ kinds.Fixed64 → FitsSigned w64 z → RowFits m l (row n (Fixed64 (cast_unsigned w64 z) ∷ []))
