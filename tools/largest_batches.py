@@ -5,7 +5,7 @@
 
 Each batch has as many rows, as many values or bytes in a dictionary, or as much weight as docs/PROFILE.md says, or one
 more. The first give the requests and the lines that stand here, the others are refused. REFERENCE, if given, is the
-command of a reference implementation, which is run with the same words on the same captures and must answer the same.
+command of a reference implementation, which is run with the same words on the same captures and must give the same.
 These captures have up to 256 MiB, so the gate leaves them out. It prints each case, and the status is 1 where one of them
 gave another answer.
 """
@@ -150,7 +150,7 @@ def answer(command, job, capture):
 
 
 def right(case, commands):
-    """Whether each command answers to the batch of a case as expected; prints the case."""
+    """Whether each command gives what is expected for the batch of a case; prints the case."""
     capture, fine = frame(case.batch), True
     for job in ("decode", "replay"):
         for command in commands:

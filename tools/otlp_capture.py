@@ -2,7 +2,7 @@
 """Turns a Collector's file of OTLP requests into a capture, and back.
 
 The Collector's file exporter with `format: proto` (and no compression) writes
-each export request behind its length, a four-byte big-endian number. A capture
+each export request after its length, a four-byte big-endian number. A capture
 has one flag byte before that length: 0 for a message.
 
     tools/otlp_capture.py to-capture   < otlp.bin > otlp.capture
