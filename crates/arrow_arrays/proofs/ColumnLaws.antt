@@ -18,8 +18,8 @@ use Rattle.arrow_ipc.specs.Batches.{BatchIn}
 use Rattle.arrow_arrays.specs.declared.layout.Layout.{Layout}
 use Rattle.arrow_arrays.specs.declared.layout.Layout.TheVariants as layout
 use Rattle.arrow_arrays.specs.declared.place.ArrayPlace.{ArrayPlace}
-use Rattle.arrow_arrays.specs.declared.view.ArrayValues.{ArrayValues}
-use Rattle.arrow_arrays.specs.declared.view.ArrayValues.TheVariants.{Bits, Fixed, Vars, Lists}
+use Rattle.arrow_arrays.specs.declared.view.RowValues.{RowValues}
+use Rattle.arrow_arrays.specs.declared.view.RowValues.TheVariants.{Bits, Fixed, Vars, Lists}
 use Rattle.arrow_arrays.specs.declared.view.ArrayView.{ArrayView}
 use Rattle.arrow_arrays.specs.Layouts.{element_len}
 use Rattle.arrow_arrays.specs.Cells.{length_in, nulls_in, validity_in, bits_in, fixed_in, vars_in, elements_in, lists_in, values_by, values_in, array_in, content_check, array_check, cell_in, cell_if, own_cell}
@@ -29,7 +29,7 @@ use Rattle.arrow_arrays.specs.Columns.{width_of, AreElements, StandAt, IsColumn,
 unfoldable pub flags_for : List ℕ → ℕ → BitsIn
 flags_for validity rows = record { bytes = validity; rows = rows }
 
-values_for : Width → List ℕ → List ℕ → ℕ → ℕ → ArrayValues
+values_for : Width → List ℕ → List ℕ → ℕ → ℕ → RowValues
 values_for width.Bit offsets values count rows = Bits (record { bytes = values; rows = rows })
 values_for (width.Fixed n) offsets values count rows = Fixed (record { bytes = values; width = n; rows = rows })
 values_for width.Var offsets values count rows = Vars (record { offsets = offsets; values = values; rows = rows })

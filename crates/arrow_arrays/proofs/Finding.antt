@@ -18,8 +18,8 @@ use Rattle.arrow_ipc.specs.Batches.{BatchIn}
 use Rattle.arrow_arrays.specs.declared.layout.Layout.{Layout}
 use Rattle.arrow_arrays.specs.declared.layout.Layout.TheVariants as layout
 use Rattle.arrow_arrays.specs.declared.place.ArrayPlace.{ArrayPlace}
-use Rattle.arrow_arrays.specs.declared.view.ArrayValues.{ArrayValues}
-use Rattle.arrow_arrays.specs.declared.view.ArrayValues.TheVariants.{Nothing}
+use Rattle.arrow_arrays.specs.declared.view.RowValues.{RowValues}
+use Rattle.arrow_arrays.specs.declared.view.RowValues.TheVariants.{Nothing}
 use Rattle.arrow_arrays.specs.declared.view.ArrayView.{ArrayView}
 use Rattle.arrow_arrays.specs.declared.column.ColumnView.{ColumnView}
 use Rattle.arrow_arrays.specs.Layouts.{element_len}
@@ -98,12 +98,12 @@ lists_value offsets values front rows row len below enough is fine = record {
 }
 
 -- the value of a row that is there
-value_found : (kind : Layout) (batch : BatchIn) (a : ArrayPlace) (rows row : ℕ) (values : ArrayValues) → values_by batch rows a kind ≡ Ok values → row < rows
+value_found : (kind : Layout) (batch : BatchIn) (a : ArrayPlace) (rows row : ℕ) (values : RowValues) → values_by batch rows a kind ≡ Ok values → row < rows
     → HasValue (value_at batch (a.buffer + 1) kind row) (value_in values row)
 unfolding flag_of span_of elements_of
 value_found layout.Struct batch a rows row values is below =
     let e : Nothing ≡ values = cc (is) in
-    record { value = []; found = refl; given = ap (λ (v : ArrayValues). value_in v row) (sym e) }
+    record { value = []; found = refl; given = ap (λ (v : RowValues). value_in v row) (sym e) }
 value_found layout.Bits batch a rows row values is below =
     let bytes = bytes_at batch (a.buffer + 1) in
     let e = bits_are batch rows (a.buffer + 1) values is in
@@ -111,29 +111,29 @@ value_found layout.Bits batch a rows row values is below =
     record {
       value = bit_byte (is_valid bytes row);
       found = refl;
-      given = ap (λ (v : ArrayValues). value_in v row) (sym e) ∙ ap (λ (f : Option Bool). option_map bit_byte f) flag;
+      given = ap (λ (v : RowValues). value_in v row) (sym e) ∙ ap (λ (f : Option Bool). option_map bit_byte f) flag;
     }
 value_found (layout.Fixed width) batch a rows row values is below =
     let bytes = bytes_at batch (a.buffer + 1) in
     elim (fixed_are batch rows (a.buffer + 1) width values is) [
-      | none zero_wide e ↦ subst (λ (v : ArrayValues). HasValue (part_between bytes (row * width) ((row + 1) * width)) (value_in v row)) e (nothing_value bytes width row zero_wide)
-      | some enough e ↦ subst (λ (v : ArrayValues). HasValue (part_between bytes (row * width) ((row + 1) * width)) (value_in v row)) e (fixed_value bytes width rows row below enough)
+      | none zero_wide e ↦ subst (λ (v : RowValues). HasValue (part_between bytes (row * width) ((row + 1) * width)) (value_in v row)) e (nothing_value bytes width row zero_wide)
+      | some enough e ↦ subst (λ (v : RowValues). HasValue (part_between bytes (row * width) ((row + 1) * width)) (value_in v row)) e (fixed_value bytes width rows row below enough)
     ]
 value_found layout.Binary batch a rows row values is below =
     let v = vars_are batch rows (a.buffer + 1) values is in
     let offsets = bytes_at batch (a.buffer + 1) in
     let texts = bytes_at batch (a.buffer + 1 + 1) in
-    subst (λ (w : ArrayValues). HasValue (span_between offsets texts 1 row) (value_in w row)) v.are (vars_value offsets texts rows row below v.fine)
+    subst (λ (w : RowValues). HasValue (span_between offsets texts 1 row) (value_in w row)) v.are (vars_value offsets texts rows row below v.fine)
 value_found layout.Text batch a rows row values is below =
     let v = vars_are batch rows (a.buffer + 1) values is in
     let offsets = bytes_at batch (a.buffer + 1) in
     let texts = bytes_at batch (a.buffer + 1 + 1) in
-    subst (λ (w : ArrayValues). HasValue (span_between offsets texts 1 row) (value_in w row)) v.are (vars_value offsets texts rows row below v.fine)
+    subst (λ (w : RowValues). HasValue (span_between offsets texts 1 row) (value_in w row)) v.are (vars_value offsets texts rows row below v.fine)
 value_found layout.List batch a rows row values is below =
     let l = lists_are batch rows a values is in
     let offsets = bytes_at batch (a.buffer + 1) in
     let bytes = bytes_at batch (a.buffer + 1 + 2) in
-    subst (λ (w : ArrayValues). HasValue (span_between offsets bytes element_len row) (value_in w row)) l.are (lists_value offsets bytes l.elements rows row l.len below l.enough l.front l.fine)
+    subst (λ (w : RowValues). HasValue (span_between offsets bytes element_len row) (value_in w row)) l.are (lists_value offsets bytes l.elements rows row l.len below l.enough l.front l.fine)
 
 -- ---- a row's cell
 
@@ -156,13 +156,13 @@ pub record IsOwn (batch : BatchIn) (a : ArrayPlace) (v : ColumnView) : Type 0 wh
   pub stored : (row : ℕ) → value_seen v.stored row ≡ value_at batch (a.buffer + 1) a.layout row
 
 -- how a cell is read where the row is there, and where it isn't
-cell_read : (bytes : List ℕ) (rows row : ℕ) (values : ArrayValues) (value : List ℕ) → row < rows → value_in values row ≡ Some value
+cell_read : (bytes : List ℕ) (rows row : ℕ) (values : RowValues) (value : List ℕ) → row < rows → value_in values row ≡ Some value
     → cell_in (record { valid = record { bytes = bytes; rows = rows }; values = values }) row ≡ (if is_valid bytes row then Some value else None)
 unfolding flag_of
 cell_read bytes rows row values value below is =
     rw (lt-ltb row rows below, is) (by_flag (is_valid bytes row) value)
 
-cell_past : (bytes : List ℕ) (rows row : ℕ) (values : ArrayValues) → rows ≤ row
+cell_past : (bytes : List ℕ) (rows row : ℕ) (values : RowValues) → rows ≤ row
     → cell_in (record { valid = record { bytes = bytes; rows = rows }; values = values }) row ≡ None
 unfolding flag_of
 cell_past bytes rows row values past = rw (le-ltb row rows past) refl

@@ -24,8 +24,8 @@ use Rattle.arrow_arrays.specs.declared.layout.Layout.{Layout}
 use Rattle.arrow_arrays.specs.declared.layout.Layout.TheVariants as layout
 use Rattle.arrow_arrays.specs.declared.place.ArrayPlace.{ArrayPlace}
 use Rattle.arrow_arrays.specs.declared.spec.ArraySpec.{ArraySpec}
-use Rattle.arrow_arrays.specs.declared.view.ArrayValues.{ArrayValues}
-use Rattle.arrow_arrays.specs.declared.view.ArrayValues.TheVariants.{Nothing}
+use Rattle.arrow_arrays.specs.declared.view.RowValues.{RowValues}
+use Rattle.arrow_arrays.specs.declared.view.RowValues.TheVariants.{Nothing}
 use Rattle.arrow_arrays.specs.declared.view.ArrayView.{ArrayView}
 use Rattle.arrow_arrays.specs.Layouts.{FitsLayout, element_len}
 use Rattle.arrow_arrays.specs.Cells.{values_by, array_in, content_in, content_check, array_check, value_in, cell_in, cell_if, own_cell}
@@ -116,28 +116,28 @@ values_fit : (kind : Layout) (batch : BatchIn) (a : ArrayPlace) (rows row : ℕ)
     → flag_of view.valid row ≡ Some true → value_in view.values row ≡ Some value → FitsLayout kind value
 values_fit layout.Struct batch a rows row view value is content flag has =
     let e : Nothing ≡ view.values = ok_is {E = BufferFault} Nothing view.values is in
-    let none : Some [] ≡ Some value = ap (λ (v : ArrayValues). value_in v row) e ∙ has in
+    let none : Some [] ≡ Some value = ap (λ (v : RowValues). value_in v row) e ∙ has in
     cc (none)
 values_fit layout.Bits batch a rows row view value is content flag has =
     let bits : BitsIn = record { bytes = bytes_at batch (a.buffer + 1); rows = rows } in
     let e = bits_are batch rows (a.buffer + 1) view.values is in
-    bit_fits (flag_of bits row) value (ap (λ (v : ArrayValues). value_in v row) e ∙ has)
+    bit_fits (flag_of bits row) value (ap (λ (v : RowValues). value_in v row) e ∙ has)
 values_fit (layout.Fixed width) batch a rows row view value is content flag has =
     elim (fixed_are batch rows (a.buffer + 1) width view.values is) [
       | none zero_wide e ↦
-          let nothing : Some [] ≡ Some value = ap (λ (v : ArrayValues). value_in v row) e ∙ has in
+          let nothing : Some [] ≡ Some value = ap (λ (v : RowValues). value_in v row) e ∙ has in
           let empty : [] ≡ value = cc (nothing) in
           ap length (sym empty) ∙ sym zero_wide
-      | some enough e ↦ part_fits (bytes_at batch (a.buffer + 1)) width rows row value enough (ap (λ (v : ArrayValues). value_in v row) e ∙ has)
+      | some enough e ↦ part_fits (bytes_at batch (a.buffer + 1)) width rows row value enough (ap (λ (v : RowValues). value_in v row) e ∙ has)
     ]
 values_fit layout.Binary batch a rows row view value is content flag has = tt
 values_fit layout.Text batch a rows row view value is content flag has =
     let v = vars_are batch rows (a.buffer + 1) view.values is in
     let parts : VarsIn = record { offsets = bytes_at batch (a.buffer + 1); values = bytes_at batch (a.buffer + 1 + 1); rows = rows } in
-    IsUtf8-from_is_utf8 value (text_fits view.valid parts row value (ap (content_in layout.Text view.valid) v.are ∙ content) flag (ap (λ (w : ArrayValues). value_in w row) v.are ∙ has))
+    IsUtf8-from_is_utf8 value (text_fits view.valid parts row value (ap (content_in layout.Text view.valid) v.are ∙ content) flag (ap (λ (w : RowValues). value_in w row) v.are ∙ has))
 values_fit layout.List batch a rows row view value is content flag has =
     let l = lists_are batch rows a view.values is in
-    list_fits (bytes_at batch (a.buffer + 1)) l.elements rows row value l.fine (ap (λ (w : ArrayValues). value_in w row) l.are ∙ has)
+    list_fits (bytes_at batch (a.buffer + 1)) l.elements rows row value l.fine (ap (λ (w : RowValues). value_in w row) l.are ∙ has)
 
 -- a cell of an array without a fault fits its layout
 pub own_fits : (batch : BatchIn) (a : ArrayPlace) (row : ℕ) (value : List ℕ) → IsOk (array_check batch a) → own_cell batch a row ≡ Some value → FitsLayout a.layout value

@@ -23,7 +23,7 @@ use Rattle.arrow_arrays.specs.declared.layout.Layout.TheVariants as layout
 use Rattle.arrow_arrays.specs.declared.spec.Above.{Above}
 use Rattle.arrow_arrays.specs.declared.spec.Above.TheVariants as parent
 use Rattle.arrow_arrays.specs.declared.spec.ArraySpec.{ArraySpec}
-use Rattle.arrow_arrays.specs.declared.view.ArrayValues.TheVariants.{Nothing}
+use Rattle.arrow_arrays.specs.declared.view.RowValues.TheVariants.{Nothing}
 use Rattle.arrow_arrays.specs.declared.view.ArrayView.{ArrayView}
 use Rattle.arrow_arrays.specs.Layouts.{layout_of, layout_of_values, own_buffers, element_len}
 use Rattle.arrow_arrays.specs.Cells.{length_in, rows_in, validity_in, values_in, array_in, content_check, array_check, cell_if, own_cell, place_of_values}

@@ -13,8 +13,8 @@ use Rattle.arrow_buffers.specs.Vars.{VarsIn, vars_of}
 use Rattle.arrow_buffers.specs.Lists.{ListsIn, lists_of}
 use Rattle.arrow_ipc.specs.Batches.{BatchIn}
 use Rattle.arrow_arrays.specs.declared.place.ArrayPlace.{ArrayPlace}
-use Rattle.arrow_arrays.specs.declared.view.ArrayValues.{ArrayValues}
-use Rattle.arrow_arrays.specs.declared.view.ArrayValues.TheVariants.{Nothing, Bits, Fixed, Vars, Lists}
+use Rattle.arrow_arrays.specs.declared.view.RowValues.{RowValues}
+use Rattle.arrow_arrays.specs.declared.view.RowValues.TheVariants.{Nothing, Bits, Fixed, Vars, Lists}
 use Rattle.arrow_arrays.specs.declared.view.ArrayView.{ArrayView}
 use Rattle.arrow_arrays.specs.Layouts.{element_len}
 use Rattle.arrow_arrays.specs.Cells.{or_short, length_in, rows_in, nulls_in, buffer_in, validity_in, bits_in, fixed_in, vars_in, elements_of, elements_in, lists_in, values_by, values_in, array_in}
@@ -64,7 +64,7 @@ valid_is batch rows node buffer bits is =
 
 -- ---- values
 
-pub bits_are : (batch : BatchIn) (rows place : ℕ) (values : ArrayValues) → bits_in batch rows place ≡ Ok values → Bits (bits_with (bytes_at batch place) rows) ≡ values
+pub bits_are : (batch : BatchIn) (rows place : ℕ) (values : RowValues) → bits_in batch rows place ≡ Ok values → Bits (bits_with (bytes_at batch place) rows) ≡ values
 unfolding bits_in
 bits_are batch rows place values is =
     let b = bind_ok (buffer_in batch place) (λ (bytes : List ℕ). bits_of bytes rows >>= λ (bits : BitsIn). Ok (Bits bits)) values is in
@@ -75,7 +75,7 @@ abbrev fixed_with : List ℕ → ℕ → ℕ → FixedIn
 fixed_with bytes width rows = record { bytes = bytes; width = width; rows = rows }
 
 -- values of one width: none of width 0, else the parts of a buffer
-pub data AreFixed (batch : BatchIn) (rows place width : ℕ) (values : ArrayValues) : Type 0 where
+pub data AreFixed (batch : BatchIn) (rows place width : ℕ) (values : RowValues) : Type 0 where
   none : width ≡ 0 → Nothing ≡ values → AreFixed batch rows place width values
   some : rows * width ≤ length (bytes_at batch place) → Fixed (fixed_with (bytes_at batch place) width rows) ≡ values → AreFixed batch rows place width values
 
@@ -87,10 +87,10 @@ fixed_of_is bytes width rows parts is =
       | inr h ↦ (ltb-false (length bytes) (rows * width) h.0, ok_is {E = BufferFault} (fixed_with bytes width rows) parts h.1)
     ]
 
-pub fixed_are : (batch : BatchIn) (rows place width : ℕ) (values : ArrayValues) → fixed_in batch rows place width ≡ Ok values → AreFixed batch rows place width values
+pub fixed_are : (batch : BatchIn) (rows place width : ℕ) (values : RowValues) → fixed_in batch rows place width ≡ Ok values → AreFixed batch rows place width values
 unfolding fixed_in
 fixed_are batch rows place width values is =
-    let rest : List ℕ → Result ArrayValues BufferFault = λ bytes. fixed_of bytes width rows >>= λ (parts : FixedIn). Ok (Fixed parts) in
+    let rest : List ℕ → Result RowValues BufferFault = λ bytes. fixed_of bytes width rows >>= λ (parts : FixedIn). Ok (Fixed parts) in
     let b = bind_ok (buffer_in batch place) (λ (bytes : List ℕ). if width == 0 then Ok Nothing else rest bytes) values is in
     let at = buffer_is batch place b.0 b.1 in
     elim (chosen (width == 0) (Ok Nothing) (rest b.0) (Ok values) b.2) [
@@ -110,7 +110,7 @@ abbrev vars_with : List ℕ → List ℕ → ℕ → VarsIn
 vars_with offsets values rows = record { offsets = offsets; values = values; rows = rows }
 
 -- values by offsets
-pub record AreVars (batch : BatchIn) (rows place : ℕ) (values : ArrayValues) : Type 0 where
+pub record AreVars (batch : BatchIn) (rows place : ℕ) (values : RowValues) : Type 0 where
   pub fine : IsOk (offsets_check 1 (bytes_at batch place) (bytes_at batch (place + 1)) rows)
   pub are : Vars (vars_with (bytes_at batch place) (bytes_at batch (place + 1)) rows) ≡ values
 
@@ -118,10 +118,10 @@ vars_of_is : (offsets values : List ℕ) (rows : ℕ) (parts : VarsIn) → vars_
 unfolding vars_of
 vars_of_is offsets values rows parts is = and_is (offsets_check 1 offsets values rows) (vars_with offsets values rows) parts is
 
-pub vars_are : (batch : BatchIn) (rows place : ℕ) (values : ArrayValues) → vars_in batch rows place ≡ Ok values → AreVars batch rows place values
+pub vars_are : (batch : BatchIn) (rows place : ℕ) (values : RowValues) → vars_in batch rows place ≡ Ok values → AreVars batch rows place values
 unfolding vars_in
 vars_are batch rows place values is =
-    let last : List ℕ → List ℕ → Result ArrayValues BufferFault = λ offsets texts. vars_of offsets texts rows >>= λ (parts : VarsIn). Ok (Vars parts) in
+    let last : List ℕ → List ℕ → Result RowValues BufferFault = λ offsets texts. vars_of offsets texts rows >>= λ (parts : VarsIn). Ok (Vars parts) in
     let o = bind_ok (buffer_in batch place) (λ (offsets : List ℕ). buffer_in batch (place + 1) >>= λ (texts : List ℕ). last offsets texts) values is in
     let t = bind_ok (buffer_in batch (place + 1)) (last o.0) values o.2 in
     let v = bind_ok (vars_of o.0 t.0 rows) (λ (parts : VarsIn). Ok (Vars parts)) values t.2 in
@@ -137,7 +137,7 @@ abbrev lists_with : List ℕ → List ℕ → ℕ → ListsIn
 lists_with offsets values rows = record { offsets = offsets; values = values; width = element_len; rows = rows }
 
 -- lists: the offsets lead into the elements, which are the front of a buffer
-pub record AreLists (batch : BatchIn) (rows place : ℕ) (values : ArrayValues) : Type 0 where
+pub record AreLists (batch : BatchIn) (rows place : ℕ) (values : RowValues) : Type 0 where
   pub elements : List ℕ
   pub there : BitsIn
   pub len : ℕ
@@ -182,11 +182,11 @@ elements_are batch node buffer found is =
     let first : Elements → List ℕ = λ p. p.0 in
     record { len = c.0 * element_len; enough = rw at f.0; front = rw at (f.1 ∙ ap first pair) }
 
-pub lists_are : (batch : BatchIn) (rows : ℕ) (a : ArrayPlace) (values : ArrayValues) → lists_in batch rows a ≡ Ok values → AreLists batch rows (a.buffer + 1) values
+pub lists_are : (batch : BatchIn) (rows : ℕ) (a : ArrayPlace) (values : RowValues) → lists_in batch rows a ≡ Ok values → AreLists batch rows (a.buffer + 1) values
 unfolding lists_in
 lists_are batch rows a values is =
-    let made : BitsIn → ListsIn → Result ArrayValues BufferFault = λ there all. Ok (Lists all there) in
-    let read : List ℕ → Elements → Result ArrayValues BufferFault = λ offsets elements. lists_of offsets elements.0 element_len rows >>= made elements.1 in
+    let made : BitsIn → ListsIn → Result RowValues BufferFault = λ there all. Ok (Lists all there) in
+    let read : List ℕ → Elements → Result RowValues BufferFault = λ offsets elements. lists_of offsets elements.0 element_len rows >>= made elements.1 in
     let o = bind_ok (buffer_in batch (a.buffer + 1)) (λ (offsets : List ℕ). elements_in batch (a.node + 1) (a.buffer + 2) >>= read offsets) values is in
     let e = bind_ok (elements_in batch (a.node + 1) (a.buffer + 2)) (read o.0) values o.2 in
     let l = bind_ok (lists_of o.0 e.0.0 element_len rows) (made e.0.1) values e.2 in
@@ -206,7 +206,7 @@ lists_are batch rows a values is =
 
 -- ---- the array
 
-view_with : BitsIn → ArrayValues → ArrayView
+view_with : BitsIn → RowValues → ArrayView
 view_with valid values = record { valid = valid; values = values }
 
 -- an array without a fault: how many rows it has, its bitmap and its values
@@ -219,12 +219,12 @@ pub record IsRead (batch : BatchIn) (a : ArrayPlace) (view : ArrayView) : Type 0
 pub array_is : (batch : BatchIn) (a : ArrayPlace) (view : ArrayView) → array_in batch a ≡ Ok view → IsRead batch a view
 unfolding array_in values_in view_with
 array_is batch a view is =
-    let made : BitsIn → ArrayValues → Result ArrayView BufferFault = λ valid values. Ok (view_with valid values) in
+    let made : BitsIn → RowValues → Result ArrayView BufferFault = λ valid values. Ok (view_with valid values) in
     let rest : ℕ → BitsIn → Result ArrayView BufferFault = λ rows valid. values_in batch rows a >>= made valid in
     let r = bind_ok (rows_in batch a) (λ (rows : ℕ). validity_in batch rows a.node a.buffer >>= rest rows) view is in
     let v = bind_ok (validity_in batch r.0 a.node a.buffer) (rest r.0) view r.2 in
     let w = bind_ok (values_in batch r.0 a) (made v.0) view v.2 in
     let same : view_with v.0 w.0 ≡ view = ok_is {E = BufferFault} (view_with v.0 w.0) view w.2 in
     let bits_in_view : ArrayView → Result BitsIn BufferFault = λ x. Ok x.valid in
-    let values_in_view : ArrayView → Result ArrayValues BufferFault = λ x. Ok x.values in
+    let values_in_view : ArrayView → Result RowValues BufferFault = λ x. Ok x.values in
     record { rows = r.0; counted = r.1; valid = v.1 ∙ ap bits_in_view same; values = w.1 ∙ ap values_in_view same }

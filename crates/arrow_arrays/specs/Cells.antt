@@ -17,8 +17,8 @@ use Rattle.arrow_ipc.specs.Batches.{BatchIn}
 use Rattle.arrow_arrays.specs.declared.layout.Layout.{Layout}
 use Rattle.arrow_arrays.specs.declared.layout.Layout.TheVariants as layout
 use Rattle.arrow_arrays.specs.declared.place.ArrayPlace.{ArrayPlace}
-use Rattle.arrow_arrays.specs.declared.view.ArrayValues.{ArrayValues}
-use Rattle.arrow_arrays.specs.declared.view.ArrayValues.TheVariants.{Nothing, Bits, Fixed, Vars, Lists}
+use Rattle.arrow_arrays.specs.declared.view.RowValues.{RowValues}
+use Rattle.arrow_arrays.specs.declared.view.RowValues.TheVariants.{Nothing, Bits, Fixed, Vars, Lists}
 use Rattle.arrow_arrays.specs.declared.view.ArrayView.{ArrayView}
 use Rattle.arrow_arrays.specs.Layouts.{layout_of_values, element_len}
 
@@ -55,15 +55,15 @@ validity_in batch rows node buffer =
     nulls_in batch rows node >>= λ nulls. buffer_in batch buffer >>= λ bytes. validity_of bytes rows nulls
 
 -- its values, whose first buffer has this place
-unfoldable pub bits_in : BatchIn → ℕ → ℕ → Result ArrayValues BufferFault
+unfoldable pub bits_in : BatchIn → ℕ → ℕ → Result RowValues BufferFault
 bits_in batch rows place = buffer_in batch place >>= λ bytes. bits_of bytes rows >>= λ bits. Ok (Bits bits)
 
-unfoldable pub fixed_in : BatchIn → ℕ → ℕ → ℕ → Result ArrayValues BufferFault
+unfoldable pub fixed_in : BatchIn → ℕ → ℕ → ℕ → Result RowValues BufferFault
 fixed_in batch rows place width =
     buffer_in batch place >>= λ bytes.
     if width == 0 then Ok Nothing else (fixed_of bytes width rows >>= λ parts. Ok (Fixed parts))
 
-unfoldable pub vars_in : BatchIn → ℕ → ℕ → Result ArrayValues BufferFault
+unfoldable pub vars_in : BatchIn → ℕ → ℕ → Result RowValues BufferFault
 vars_in batch rows place =
     buffer_in batch place >>= λ offsets. buffer_in batch (place + 1) >>= λ values.
     vars_of offsets values rows >>= λ parts. Ok (Vars parts)
@@ -80,13 +80,13 @@ elements_in batch node buffer =
     elements_of bytes count >>= λ elements. Ok (elements, there)
 
 -- lists: after their own validity bitmap stand the offsets, and then their elements, which are the next array
-unfoldable pub lists_in : BatchIn → ℕ → ArrayPlace → Result ArrayValues BufferFault
+unfoldable pub lists_in : BatchIn → ℕ → ArrayPlace → Result RowValues BufferFault
 lists_in batch rows a =
     buffer_in batch (a.buffer + 1) >>= λ offsets. elements_in batch (a.node + 1) (a.buffer + 2) >>= λ elements.
     lists_of offsets elements.0 element_len rows >>= λ all. Ok (Lists all elements.1)
 
 -- its values stand after its validity bitmap; a struct has none of its own
-abbrev pub values_by : BatchIn → ℕ → ArrayPlace → Layout → Result ArrayValues BufferFault
+abbrev pub values_by : BatchIn → ℕ → ArrayPlace → Layout → Result RowValues BufferFault
 values_by batch rows a layout.Struct = Ok Nothing
 values_by batch rows a layout.Bits = bits_in batch rows (a.buffer + 1)
 values_by batch rows a (layout.Fixed width) = fixed_in batch rows (a.buffer + 1) width
@@ -94,7 +94,7 @@ values_by batch rows a layout.Binary = vars_in batch rows (a.buffer + 1)
 values_by batch rows a layout.Text = vars_in batch rows (a.buffer + 1)
 values_by batch rows a layout.List = lists_in batch rows a
 
-unfoldable pub values_in : BatchIn → ℕ → ArrayPlace → Result ArrayValues BufferFault
+unfoldable pub values_in : BatchIn → ℕ → ArrayPlace → Result RowValues BufferFault
 values_in batch rows a = values_by batch rows a a.layout
 
 -- THE ARRAY AT A PLACE, or its fault
@@ -105,7 +105,7 @@ array_in batch a =
 
 -- Where the values are texts, each that the array's own bitmap has is UTF-8. Where they are lists, none that it has has a
 -- null among its elements.
-abbrev pub content_in : Layout → BitsIn → ArrayValues → Result (Unit {0}) BufferFault
+abbrev pub content_in : Layout → BitsIn → RowValues → Result (Unit {0}) BufferFault
 content_in layout.Text valid (Vars parts) = utf8_check parts valid
 content_in layout.List valid (Lists all there) = nulls_check all valid there
 content_in other valid values = Ok tt
@@ -118,7 +118,7 @@ unfoldable pub array_check : BatchIn → ArrayPlace → Result (Unit {0}) Buffer
 array_check batch a = array_in batch a >>= content_check a.layout
 
 -- a row's value, whether it is null or not
-abbrev pub value_in : ArrayValues → ℕ → Option (List ℕ)
+abbrev pub value_in : RowValues → ℕ → Option (List ℕ)
 value_in Nothing row = Some []
 value_in (Bits bits) row = option_map bit_byte (flag_of bits row)
 value_in (Fixed parts) row = part_of parts row

@@ -11,7 +11,7 @@ use arrow_ipc::BatchView;
 
 /// The values of an array, by its layout.
 #[derive(Debug, Drop)]
-pub(crate) enum ArrayValues<'a> {
+pub(crate) enum RowValues<'a> {
     /// No bytes for any row.
     Nothing,
     Bits(Bits<'a>),
@@ -25,7 +25,7 @@ pub(crate) enum ArrayValues<'a> {
 #[derive(Debug, Drop)]
 pub(crate) struct ArrayView<'a> {
     pub(crate) valid: Bits<'a>,
-    pub(crate) values: ArrayValues<'a>,
+    pub(crate) values: RowValues<'a>,
 }
 
 /// The array at a place of a batch, or its first fault.
@@ -99,11 +99,11 @@ fn validity_in<'a>(
 }
 
 #[tactic(auto, unfolding(crate::specs::Cells::bits_in))]
-fn bits_in<'a>(batch: &BatchView<'a>, rows: u64, place: u32) -> Result<ArrayValues<'a>, BufferFault>
+fn bits_in<'a>(batch: &BatchView<'a>, rows: u64, place: u32) -> Result<RowValues<'a>, BufferFault>
     ensures { result ≡ bits_in batch.now rows place }
 {
     let bytes = buffer_in(batch, place)?;
-    Ok(ArrayValues::Bits(Bits::values(bytes, rows)?))
+    Ok(RowValues::Bits(Bits::values(bytes, rows)?))
 }
 
 /// Values of no bytes need none.
@@ -113,25 +113,25 @@ fn fixed_in<'a>(
     rows: u64,
     place: u32,
     width: u32,
-) -> Result<ArrayValues<'a>, BufferFault>
+) -> Result<RowValues<'a>, BufferFault>
     ensures { result ≡ fixed_in batch.now rows place width }
 {
     let bytes = buffer_in(batch, place)?;
     if width == 0 {
-        return Ok(ArrayValues::Nothing);
+        return Ok(RowValues::Nothing);
     }
-    Ok(ArrayValues::Fixed(Fixed::new(bytes, width, rows)?))
+    Ok(RowValues::Fixed(Fixed::new(bytes, width, rows)?))
 }
 
 /// The offsets stand at the place, and the values after them.
 #[tactic(auto, unfolding(crate::specs::Cells::vars_in))]
-fn vars_in<'a>(batch: &BatchView<'a>, rows: u64, place: u32) -> Result<ArrayValues<'a>, BufferFault>
+fn vars_in<'a>(batch: &BatchView<'a>, rows: u64, place: u32) -> Result<RowValues<'a>, BufferFault>
     requires { place + 1 < 2 ^ 32 }
     ensures { result ≡ vars_in batch.now rows place }
 {
     let offsets = buffer_in(batch, place)?;
     let values = buffer_in(batch, place + 1)?;
-    Ok(ArrayValues::Vars(Vars::new(offsets, values, rows)?))
+    Ok(RowValues::Vars(Vars::new(offsets, values, rows)?))
 }
 
 /// The bytes of the elements: `Short` where there are fewer.
@@ -165,14 +165,14 @@ fn lists_in<'a>(
     batch: &BatchView<'a>,
     rows: u64,
     place: ArrayPlace,
-) -> Result<ArrayValues<'a>, BufferFault>
+) -> Result<RowValues<'a>, BufferFault>
     ensures { result ≡ lists_in batch.now rows place }
 {
     let first = u32::from(place.buffer) + 1;
     let offsets = buffer_in(batch, first)?;
     let (values, there) = elements_in(batch, u32::from(place.node) + 1, first + 1)?;
     let lists = Lists::new(offsets, values, ELEMENT_LEN, rows)?;
-    Ok(ArrayValues::Lists(lists, there))
+    Ok(RowValues::Lists(lists, there))
 }
 
 /// The values stand after the validity bitmap.
@@ -181,12 +181,12 @@ fn values_in<'a>(
     batch: &BatchView<'a>,
     rows: u64,
     place: ArrayPlace,
-) -> Result<ArrayValues<'a>, BufferFault>
+) -> Result<RowValues<'a>, BufferFault>
     ensures { result ≡ values_in batch.now rows place }
 {
     let first = u32::from(place.buffer) + 1;
     match place.layout {
-        Layout::Struct => Ok(ArrayValues::Nothing),
+        Layout::Struct => Ok(RowValues::Nothing),
         Layout::Bits => bits_in(batch, rows, first),
         Layout::Fixed(width) => fixed_in(batch, rows, first, width),
         Layout::Binary | Layout::Text => vars_in(batch, rows, first),
@@ -201,8 +201,8 @@ impl<'a> ArrayView<'a> {
         ensures { result ≡ content_check layout self.now }
     {
         match (layout, &self.values) {
-            (Layout::Text, ArrayValues::Vars(texts)) => texts.check_utf8(&self.valid),
-            (Layout::List, ArrayValues::Lists(lists, there)) => lists.check_nulls(&self.valid, there),
+            (Layout::Text, RowValues::Vars(texts)) => texts.check_utf8(&self.valid),
+            (Layout::List, RowValues::Lists(lists, there)) => lists.check_nulls(&self.valid, there),
             _ => Ok(()),
         }
     }
