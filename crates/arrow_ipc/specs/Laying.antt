@@ -7,7 +7,7 @@ use Rattle.flat_tables.specs.Bytes.{◌>>=◌}
 use Rattle.flat_tables.specs.Tables.{TableIn, root_at, table_at, place_of}
 use Rattle.flat_tables.specs.Building.{Grows, IsPadded}
 use Rattle.arrow_ipc.specs.Batches.{rows_of, nodes_of, places_of}
-use Rattle.arrow_ipc.specs.Messages.{continuation, version_of, kind_of, header_of, body_size_of}
+use Rattle.arrow_ipc.specs.Messages.{continuation, version_of, kind_of, header_table_of, body_size_of}
 use Rattle.arrow_ipc.specs.Written.{padded, version_5, message_sizes, IsAlignedBy, IsBatchAligned}
 
 -- numbers of 64 bits
@@ -53,7 +53,7 @@ pub record IsMetadata (built : List ℕ) (header kind size : ℕ) (metadata : Li
   pub root : root_at metadata ≡ Ok table
   pub has_version : version_of table ≡ Ok version_5
   pub has_kind : kind_of table ≡ Ok kind
-  pub has_header : header_of table ≡ (table_at metadata (length metadata - header) >>= λ inner. Ok (Some inner))
+  pub has_header : header_table_of table ≡ (table_at metadata (length metadata - header) >>= λ inner. Ok (Some inner))
   pub has_size : body_size_of table ≡ Ok (pos size)
   pub aligned : IsAlignedBy message_sizes table
 

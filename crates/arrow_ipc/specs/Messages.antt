@@ -26,8 +26,8 @@ version_of t = or_default (pos 0) (signed_slot w16 2 t 0)
 unfoldable pub kind_of : TableIn → Result ℕ FlatFault
 kind_of t = or_default 0 (byte_slot t 1)
 
-unfoldable pub header_of : TableIn → Result (Option TableIn) FlatFault
-header_of t = table_slot t 2
+unfoldable pub header_table_of : TableIn → Result (Option TableIn) FlatFault
+header_table_of t = table_slot t 2
 
 unfoldable pub body_size_of : TableIn → Result ℤ FlatFault
 body_size_of t = or_default (pos 0) (signed_slot w64 8 t 3)
@@ -77,7 +77,7 @@ pub record IsMessage (bytes : List ℕ) (message : IpcMessage) (size : ℕ) : Ty
   pub known : is_known version ≡ true
   pub kind : kind_of table ≡ Ok (kind_number message)
   pub header : TableIn
-  pub has_header : header_of table ≡ Ok (Some header)
+  pub has_header : header_table_of table ≡ Ok (Some header)
   pub body : List ℕ
   pub body_size : body_size_of table ≡ Ok (pos (length body))
   pub has_body : part_at bytes (8 + length metadata) (length body) ≡ Ok body

@@ -85,7 +85,7 @@ header_by kind table part =
 unfoldable pub header_of : TableIn → List ℕ → Result Header IpcFault
 header_of table part =
     flat (messages.kind_of table) >>= λ kind.
-    flat (messages.header_of table) >>= present >>= λ inner.
+    flat (messages.header_table_of table) >>= present >>= λ inner.
     header_by kind inner part
 
 unfoldable pub find : List ℕ → Result Found IpcFault

@@ -112,7 +112,7 @@ fn body<'a>(bytes: &'a [u8], place: usize, table: &TableView<'_>) -> Result<&'a 
     Ok(body)
 }
 
-#[tactic(auto, unfolding(crate::specs::Order::header_of, crate::specs::Messages::kind_of, crate::specs::Messages::header_of))]
+#[tactic(auto, unfolding(crate::specs::Order::header_of, crate::specs::Messages::kind_of, crate::specs::Messages::header_table_of))]
 fn header_of<'a>(table: &TableView<'a>, body: &'a [u8]) -> Result<Header<'a>, IpcFault>
     ensures { result ≡ order.header_of table.now body.now }
 {

@@ -15,9 +15,9 @@ use Rattle.arrow_schema.specs.declared.spec.Encoding.TheVariants as encoding
 use Rattle.arrow_schema.specs.declared.spec.FieldSpec.{FieldSpec}
 use Rattle.arrow_schema.specs.declared.agreement.Use.{Use}
 use Rattle.arrow_schema.specs.Types.{is_struct, is_element_type, same_type}
-use Rattle.arrow_schema.specs.Trees.{total, field_with, name_in, count_in, count_of, use_of, uses_in, uses_of, agrees, agrees_with, uses_agree, lacks_name, names_differ}
+use Rattle.arrow_schema.specs.Trees.{sum_of, field_with, name_in, count_in, count_of, use_of, uses_in, uses_of, agrees, agrees_with, uses_agree, lacks_name, names_differ}
 use Rattle.arrow_schema.specs.Readable.{is_supported, fits_dictionary, is_element, fits_children, is_readable, are_readable, IsReadable}
-use Rattle.arrow_schema.specs.Branches.{Leaf, Branch, One, Under, items_of, leaf_field, branch_field, fields_of, lacks, are_apart, name_of, items_in}
+use Rattle.arrow_schema.specs.Branches.{Leaf, Branch, One, Under, items_of, leaf_field, branch_field, fields_of, lacks, are_apart, name_of_branch, items_in}
 use Rattle.arrow_schema.specs.Branches.{leaf_size, branch_size, leaf_names, branch_names, is_branch_named, FitsTypes, FitsItem, IsLeaf, AreLeaves, IsBranch, AreEach, AreBranches}
 use Rattle.arrow_schema.specs.Writing.{names_in, names_of, is_named, named_in, encodings_named}
 use Rattle.arrow_schema.proofs.Steps.{both_true, or_true}
@@ -40,7 +40,7 @@ differ_same field name is (x ∷ xs) = rw (is x, lacks_same field name is (name 
 leaf_name : (l : Leaf) → name_in (leaf_field l) ≡ l.name
 leaf_name l = name_in_is l.name l.kind l.dict l.encoding (items_of l.item)
 
-branch_name : (b : Branch) → name_in (branch_field b) ≡ name_of b
+branch_name : (b : Branch) → name_in (branch_field b) ≡ name_of_branch b
 branch_name (One l) = leaf_name l
 branch_name (Under name leaves) = name_in_is name Struct None encoding.None (map leaf_field leaves)
 
@@ -116,7 +116,7 @@ items_count (Some kind) =
 leaf_count : (l : Leaf) → count_in (leaf_field l) ≡ leaf_size l
 leaf_count l = omega (arith, count_in_is (leaf_field l), ap count_of (children_in_is l.name l.kind l.dict l.encoding (items_of l.item)), items_count l.item)
 
-leaves_count : (leaves : List Leaf) → count_of (map leaf_field leaves) ≡ total (map leaf_size leaves)
+leaves_count : (leaves : List Leaf) → count_of (map leaf_field leaves) ≡ sum_of (map leaf_size leaves)
 leaves_count [] = refl
 leaves_count (l ∷ leaves) = omega (arith, leaf_count l, leaves_count leaves)
 
@@ -125,7 +125,7 @@ branch_count (One l) = leaf_count l
 branch_count (Under name leaves) =
     omega (arith, count_in_is (branch_field (Under name leaves)), ap count_of (children_in_is name Struct None encoding.None (map leaf_field leaves)), leaves_count leaves)
 
-pub branches_count : (branches : List Branch) → count_of (fields_of branches) ≡ total (map branch_size branches)
+pub branches_count : (branches : List Branch) → count_of (fields_of branches) ≡ sum_of (map branch_size branches)
 branches_count [] = refl
 branches_count (b ∷ branches) = omega (arith, branch_count b, branches_count branches)
 
@@ -205,7 +205,7 @@ pub branches_readable : (types : ℤ → ArrowType) (branches : List Branch) →
 unfolding are_readable
 branches_readable types branches h = record {
   count = omega (arith, branches_count branches, h.few);
-  each = rw (differ_same branch_field name_of branch_name branches ∙ h.apart, each_readable types branches h.each) refl;
+  each = rw (differ_same branch_field name_of_branch branch_name branches ∙ h.apart, each_readable types branches h.each) refl;
   uses = typed_agree types (uses_of (fields_of branches)) (each_typed types branches h.each);
 }
 
@@ -251,7 +251,7 @@ leaf_names_are : (l : Leaf) → names_in (leaf_field l) ≡ leaf_names l
 leaf_names_are l =
     omega (arith, names_in_is (leaf_field l), ap length (leaf_name l), ap names_of (children_in_is l.name l.kind l.dict l.encoding (items_of l.item)), items_names l.item)
 
-leaves_names : (leaves : List Leaf) → names_of (map leaf_field leaves) ≡ total (map leaf_names leaves)
+leaves_names : (leaves : List Leaf) → names_of (map leaf_field leaves) ≡ sum_of (map leaf_names leaves)
 leaves_names [] = refl
 leaves_names (l ∷ leaves) = omega (arith, leaf_names_are l, leaves_names leaves)
 
@@ -266,6 +266,6 @@ branch_names_are (Under name leaves) =
       leaves_names leaves,
     )
 
-pub branches_names : (branches : List Branch) → names_of (fields_of branches) ≡ total (map branch_names branches)
+pub branches_names : (branches : List Branch) → names_of (fields_of branches) ≡ sum_of (map branch_names branches)
 branches_names [] = refl
 branches_names (b ∷ branches) = omega (arith, branch_names_are b, branches_names branches)

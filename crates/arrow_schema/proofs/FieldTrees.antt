@@ -5,7 +5,7 @@ use Rattle.std.proofs.Common.{◌≡◌, ◌≤◌, ℕ, zero, suc, arith, ◌+�
 use Rattle.std.proofs.lemmas.List.{at_drop_more}
 use Rattle.arrow_schema.specs.declared.spec.FieldSpec.{FieldSpec, the_lemmas}
 use Rattle.arrow_schema.specs.declared.agreement.Use.{Use}
-use Rattle.arrow_schema.specs.Trees.{total, count_in, count_of, use_of, uses_in, uses_of, name_in, kind_in, dict_in, encoding_in, children_in}
+use Rattle.arrow_schema.specs.Trees.{sum_of, count_in, count_of, use_of, uses_in, uses_of, name_in, kind_in, dict_in, encoding_in, children_in}
 use Rattle.arrow_schema.specs.Writing.{names_in, names_of, fits_width, widths_in, widths_fit, is_named, named_in, encodings_named}
 use Rattle.arrow_schema.proofs.Steps.{both_true}
 use Rattle.arrow_schema.proofs.Folds.{count_in_is, uses_in_is}
@@ -21,7 +21,7 @@ push_step before between after all fs i f children lt is own one rest so_far =
     ap (λ (uses : List Use). uses ++ uses_of (drop (i + 1) fs)) whole ∙ append_assoc before (uses_in f) (uses_of (drop (i + 1) fs))
     ∙ ap (λ (uses : List Use). before ++ uses) (sym step) ∙ so_far
 
-names_total : (fs : List FieldSpec) → total (map names_in fs) ≡ names_of fs
+names_total : (fs : List FieldSpec) → sum_of (map names_in fs) ≡ names_of fs
 names_total [] = refl
 names_total (f ∷ fs) = ap (λ (n : ℕ). names_in f + n) (names_total fs)
 

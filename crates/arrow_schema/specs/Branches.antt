@@ -10,7 +10,7 @@ use Rattle.arrow_schema.specs.declared.spec.Encoding.TheVariants as encoding
 use Rattle.arrow_schema.specs.declared.spec.FieldSpec.{FieldSpec}
 use Rattle.arrow_schema.specs.Limits.{max_fields}
 use Rattle.arrow_schema.specs.Types.{is_list, is_element_type, takes_dictionary}
-use Rattle.arrow_schema.specs.Trees.{total, field_with}
+use Rattle.arrow_schema.specs.Trees.{sum_of, field_with}
 use Rattle.arrow_schema.specs.Readable.{is_supported}
 use Rattle.arrow_schema.specs.Writing.{is_named}
 
@@ -50,9 +50,9 @@ unfoldable pub are_apart : List (List ℕ) → Bool
 are_apart [] = true
 are_apart (name ∷ names) = lacks name names && are_apart names
 
-abbrev pub name_of : Branch → List ℕ
-name_of (One l) = l.name
-name_of (Under name leaves) = name
+abbrev pub name_of_branch : Branch → List ℕ
+name_of_branch (One l) = l.name
+name_of_branch (Under name leaves) = name
 
 -- how many fields they are, and how many bytes their names have
 abbrev pub items_in : Option ArrowType → ℕ
@@ -64,14 +64,14 @@ leaf_size l = 1 + items_in l.item
 
 abbrev pub branch_size : Branch → ℕ
 branch_size (One l) = leaf_size l
-branch_size (Under name leaves) = 1 + total (map leaf_size leaves)
+branch_size (Under name leaves) = 1 + sum_of (map leaf_size leaves)
 
 abbrev pub leaf_names : Leaf → ℕ
 leaf_names l = length l.name + 4 * items_in l.item
 
 abbrev pub branch_names : Branch → ℕ
 branch_names (One l) = leaf_names l
-branch_names (Under name leaves) = length name + total (map leaf_names leaves)
+branch_names (Under name leaves) = length name + sum_of (map leaf_names leaves)
 
 -- no column has an encoding that isn't named
 abbrev pub is_branch_named : Branch → Bool
@@ -108,6 +108,6 @@ AreEach types (b ∷ branches) = IsBranch types b × AreEach types branches
 
 -- columns that make a schema, where each dictionary has the type of its id
 pub record AreBranches (types : ℤ → ArrowType) (branches : List Branch) : Type 0 where
-  pub apart : are_apart (map name_of branches) ≡ true
+  pub apart : are_apart (map name_of_branch branches) ≡ true
   pub each : AreEach types branches
-  pub few : total (map branch_size branches) ≤ max_fields
+  pub few : sum_of (map branch_size branches) ≤ max_fields

@@ -32,13 +32,13 @@ field_with name kind dict encoding children =
     roll-FieldSpec (record { name = name; kind = kind; dict = dict; encoding = encoding; children = children })
 
 -- the sum of numbers
-abbrev pub total : List ℕ → ℕ
-total [] = 0
-total (n ∷ ns) = n + total ns
+abbrev pub sum_of : List ℕ → ℕ
+sum_of [] = 0
+sum_of (n ∷ ns) = n + sum_of ns
 
 -- how many fields there are, children counted
 abbrev pub count_step : FieldSpec-F ℕ → ℕ
-count_step f = 1 + total f.children
+count_step f = 1 + sum_of f.children
 
 abbrev pub count_in : FieldSpec → ℕ
 count_in = fold-FieldSpec ℕ count_step

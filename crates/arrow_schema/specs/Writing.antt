@@ -13,14 +13,14 @@ use Rattle.arrow_schema.specs.declared.spec.Encoding.TheVariants as encoding
 use Rattle.arrow_schema.specs.declared.spec.FieldSpec.{FieldSpec, fold-FieldSpec}
 use Rattle.arrow_schema.specs.declared.spec.FieldSpec.TheOpen.{FieldSpec-F}
 use Rattle.arrow_schema.specs.Types.{type_number}
-use Rattle.arrow_schema.specs.Trees.{total, name_in, kind_in, dict_in, encoding_in, children_in}
+use Rattle.arrow_schema.specs.Trees.{sum_of, name_in, kind_in, dict_in, encoding_in, children_in}
 use Rattle.arrow_schema.specs.Says.{SaysSchema}
 use Rattle.arrow_schema.specs.Readable.{IsReadable}
 use Rattle.arrow_schema.specs.Reading.{schema_of}
 
 -- the bytes of the names of fields, children included
 abbrev pub names_step : FieldSpec-F ℕ → ℕ
-names_step f = length f.name + total f.children
+names_step f = length f.name + sum_of f.children
 
 abbrev pub names_in : FieldSpec → ℕ
 names_in = fold-FieldSpec ℕ names_step

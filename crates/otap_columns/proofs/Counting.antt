@@ -6,7 +6,7 @@ use Rattle.std.proofs.lemmas.Bool.{leb-true}
 use Rattle.std.proofs.lemmas.List.{map-append}
 use Rattle.std.proofs.lemmas.List.FromFn.{length-range_with_len}
 use Rattle.std.proofs.lemmas.List.Sums.{sum_by-cons, sum_by-append}
-use Rattle.arrow_schema.specs.Trees.{total}
+use Rattle.arrow_schema.specs.Trees.{sum_of}
 use Rattle.otap_cells.specs.declared.payload.Kind.{Kind}
 use Rattle.otap_cells.specs.declared.payload.Kind.TheVariants as table
 use Rattle.otap_cells.specs.Columns.{ColumnSpec, base_at, columns_of, width_of, logs, spans, metrics, attrs, deep_attrs, span_events, span_links, number_points, summary_points, hist_points, exemplars}
@@ -29,7 +29,7 @@ mark c = if c.dictionary then 1 else 0
 pub record IsCounted (columns : List ColumnSpec) : Type 0 where
   pub order : map (λ (m : Member). m.column) (flat_map members_of (grouped columns)) ≡ range_with_len 0 (length columns)
   pub parts : nat_le (sum_by group_parts (grouped columns)) 32 ≡ true
-  pub fields : nat_le (total (map (group_size columns) (grouped columns))) 32 ≡ true
+  pub fields : nat_le (sum_of (map (group_size columns) (grouped columns))) 32 ≡ true
   pub width : nat_le (length columns) 32 ≡ true
   pub rows : nat_le (sum_by (λ (column : ℕ). row_most (spec_at columns column).base) (range_with_len 0 (length columns))) 168 ≡ true
   pub marked : sum_by (λ (column : ℕ). mark (spec_at columns column)) (range_with_len 0 (length columns)) ≡ count_by (λ (c : ColumnSpec). c.dictionary) columns

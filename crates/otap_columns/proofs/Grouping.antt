@@ -7,7 +7,7 @@ use Rattle.std.specs.Str.{is_utf8, IsAscii}
 use Rattle.std.proofs.lemmas.Bool.{and_parts, ltb-true}
 use Rattle.std.proofs.lemmas.Str.{IsUtf8-from_ascii, is_utf8-from_IsUtf8}
 use Rattle.arrow_schema.specs.Types.{takes_dictionary}
-use Rattle.arrow_schema.specs.Trees.{total}
+use Rattle.arrow_schema.specs.Trees.{sum_of}
 use Rattle.arrow_schema.specs.Branches.{are_apart, items_in}
 use Rattle.arrow_buffers.specs.Below.{all_below}
 use Rattle.otap_cells.specs.declared.payload.Kind.{Kind}
@@ -77,7 +77,7 @@ member_size columns m = 1 + items_in (item_in (spec_at columns m.column).base)
 
 abbrev pub group_size : List ColumnSpec → Group → ℕ
 group_size columns (Alone m) = member_size columns m
-group_size columns (Under struct members) = 1 + total (map (member_size columns) members)
+group_size columns (Under struct members) = 1 + sum_of (map (member_size columns) members)
 
 -- a column is in one of the groups
 abbrev pub is_of : ℕ → Member → Bool
@@ -92,7 +92,7 @@ may_be_dictionary c = not c.dictionary || takes_dictionary (type_in c.base form.
 pub record IsGrouped (columns : List ColumnSpec) : Type 0 where
   pub apart : are_apart (map group_name (grouped columns)) ≡ true
   pub each : list_all (is_group columns) (grouped columns) ≡ true
-  pub few : nat_le (total (map (group_size columns) (grouped columns))) 128 ≡ true
+  pub few : nat_le (sum_of (map (group_size columns) (grouped columns))) 128 ≡ true
   pub root : place_of columns [] ≡ None
   pub all : all_below (has_column (grouped columns)) (length columns) ≡ true
   pub dictionaries : all_below (λ (column : ℕ). may_be_dictionary (spec_at columns column)) (length columns) ≡ true

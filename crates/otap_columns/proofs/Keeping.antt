@@ -6,9 +6,9 @@ use Rattle.std.proofs.lemmas.Bool.{cases_Bool, and_parts, and_from, eqb-true, le
 use Rattle.arrow_schema.specs.declared.spec.ArrowType.{ArrowType}
 use Rattle.arrow_schema.specs.declared.spec.ArrowType.TheVariants as arrow
 use Rattle.arrow_schema.specs.Types.{is_list, takes_dictionary}
-use Rattle.arrow_schema.specs.Trees.{total, count_of}
+use Rattle.arrow_schema.specs.Trees.{sum_of, count_of}
 use Rattle.arrow_schema.specs.Readable.{is_supported, IsReadable}
-use Rattle.arrow_schema.specs.Branches.{Leaf, Branch, One, Under, lacks, are_apart, name_of, leaf_size, branch_size, FitsTypes, FitsItem, IsLeaf, AreLeaves, IsBranch, AreEach}
+use Rattle.arrow_schema.specs.Branches.{Leaf, Branch, One, Under, lacks, are_apart, name_of_branch, leaf_size, branch_size, FitsTypes, FitsItem, IsLeaf, AreLeaves, IsBranch, AreEach}
 use Rattle.arrow_schema.proofs.Branched.{branches_count, branches_readable}
 use Rattle.arrow_buffers.proofs.EachBelow.{all_below-at}
 use Rattle.otap_cells.specs.declared.payload.Kind.{Kind}
@@ -187,11 +187,11 @@ module _ (kind : Kind) (forms : Forms) (fit : FormsFit kind forms) where
         | inr gone ↦ rw gone rest
       ]
 
-  leaves_few : (members : List Member) → total (map leaf_size (leaves_of members)) ≤ total (map (member_size (columns_of kind)) members)
+  leaves_few : (members : List Member) → sum_of (map leaf_size (leaves_of members)) ≤ sum_of (map (member_size (columns_of kind)) members)
   unfolding leaves_of
   leaves_few [] = omega arith
   leaves_few (m ∷ members) =
-      let rest : total (map leaf_size (leaves_of members)) ≤ total (map (member_size (columns_of kind)) members) = leaves_few members in
+      let rest : sum_of (map leaf_size (leaves_of members)) ≤ sum_of (map (member_size (columns_of kind)) members) = leaves_few members in
       elim (cases_Bool (is_there (forms m.column))) [
         | inl there ↦ rw there (omega (arith, rest))
         | inr gone ↦ rw gone (omega (arith, rest))
@@ -201,10 +201,10 @@ module _ (kind : Kind) (forms : Forms) (fit : FormsFit kind forms) where
 
   data IsKept (g : Group) (branches : List Branch) : Type 0 where
     gone : branches ≡ [] → IsKept g branches
-    stays : (b : Branch) → branches ≡ b ∷ [] → name_of b ≡ group_name g → branch_size b ≤ group_size (columns_of kind) g → IsBranch types b → IsKept g branches
+    stays : (b : Branch) → branches ≡ b ∷ [] → name_of_branch b ≡ group_name g → branch_size b ≤ group_size (columns_of kind) g → IsBranch types b → IsKept g branches
 
   under_kept : (struct : List ℕ) (members there : List Member) → is_ascii struct ≡ true → AreLeaves types (map (leaf_in kind forms) there)
-      → are_apart (map (λ (l : Leaf). l.name) (map (leaf_in kind forms) there)) ≡ true → total (map leaf_size (map (leaf_in kind forms) there)) ≤ total (map (member_size (columns_of kind)) members)
+      → are_apart (map (λ (l : Leaf). l.name) (map (leaf_in kind forms) there)) ≡ true → sum_of (map leaf_size (map (leaf_in kind forms) there)) ≤ sum_of (map (member_size (columns_of kind)) members)
       → IsKept (group.Under struct members) (branches_under kind forms struct there)
   under_kept struct members [] text leaves apart few = gone refl
   under_kept struct members (m ∷ there) text leaves apart few =
@@ -226,7 +226,7 @@ module _ (kind : Kind) (forms : Forms) (fit : FormsFit kind forms) where
   kept_of : List Group → List Branch
   kept_of groups = flat_map (branches_in kind forms) groups
 
-  kept_lack : (own : List ℕ) (groups : List Group) → list_all (is_group (columns_of kind)) groups ≡ true → lacks own (map group_name groups) ≡ true → lacks own (map name_of (kept_of groups)) ≡ true
+  kept_lack : (own : List ℕ) (groups : List Group) → list_all (is_group (columns_of kind)) groups ≡ true → lacks own (map group_name groups) ≡ true → lacks own (map name_of_branch (kept_of groups)) ≡ true
   unfolding kept_of
   kept_lack own [] all is = refl
   kept_lack own (g ∷ groups) all is =
@@ -235,10 +235,10 @@ module _ (kind : Kind) (forms : Forms) (fit : FormsFit kind forms) where
       let rest = kept_lack own groups tests.1 parts.1 in
       elim (group_kept g tests.0) [
         | gone none ↦ rw none rest
-        | stays b one name size fine ↦ rw (one, name) (and_from (not (bytes_eq own (group_name g))) (lacks own (map name_of (kept_of groups))) parts.0 rest)
+        | stays b one name size fine ↦ rw (one, name) (and_from (not (bytes_eq own (group_name g))) (lacks own (map name_of_branch (kept_of groups))) parts.0 rest)
       ]
 
-  kept_apart : (groups : List Group) → list_all (is_group (columns_of kind)) groups ≡ true → are_apart (map group_name groups) ≡ true → are_apart (map name_of (kept_of groups)) ≡ true
+  kept_apart : (groups : List Group) → list_all (is_group (columns_of kind)) groups ≡ true → are_apart (map group_name groups) ≡ true → are_apart (map name_of_branch (kept_of groups)) ≡ true
   unfolding kept_of are_apart
   kept_apart [] all is = refl
   kept_apart (g ∷ groups) all is =
@@ -248,7 +248,7 @@ module _ (kind : Kind) (forms : Forms) (fit : FormsFit kind forms) where
       elim (group_kept g tests.0) [
         | gone none ↦ rw none rest
         | stays b one name size fine ↦
-            rw (one, name) (and_from (lacks (group_name g) (map name_of (kept_of groups))) (are_apart (map name_of (kept_of groups))) (kept_lack (group_name g) groups tests.1 parts.0) rest)
+            rw (one, name) (and_from (lacks (group_name g) (map name_of_branch (kept_of groups))) (are_apart (map name_of_branch (kept_of groups))) (kept_lack (group_name g) groups tests.1 parts.0) rest)
       ]
 
   kept_each : (groups : List Group) → list_all (is_group (columns_of kind)) groups ≡ true → AreEach types (kept_of groups)
@@ -262,19 +262,19 @@ module _ (kind : Kind) (forms : Forms) (fit : FormsFit kind forms) where
         | stays b one name size fine ↦ rw one (fine, rest)
       ]
 
-  kept_few : (groups : List Group) → list_all (is_group (columns_of kind)) groups ≡ true → total (map branch_size (kept_of groups)) ≤ total (map (group_size (columns_of kind)) groups)
+  kept_few : (groups : List Group) → list_all (is_group (columns_of kind)) groups ≡ true → sum_of (map branch_size (kept_of groups)) ≤ sum_of (map (group_size (columns_of kind)) groups)
   unfolding kept_of
   kept_few [] all = omega arith
   kept_few (g ∷ groups) all =
       let tests = and_parts (is_group (columns_of kind) g) (list_all (is_group (columns_of kind)) groups) all in
-      let rest : total (map branch_size (kept_of groups)) ≤ total (map (group_size (columns_of kind)) groups) = kept_few groups tests.1 in
+      let rest : sum_of (map branch_size (kept_of groups)) ≤ sum_of (map (group_size (columns_of kind)) groups) = kept_few groups tests.1 in
       elim (group_kept g tests.0) [
         | gone none ↦ rw none (omega (arith, rest))
         | stays b one name size fine ↦ rw one (omega (arith, rest, size))
       ]
 
   -- how many fields it has at most
-  pub fields_few : count_of (schema_for kind forms) ≤ total (map (group_size (columns_of kind)) (grouped (columns_of kind)))
+  pub fields_few : count_of (schema_for kind forms) ≤ sum_of (map (group_size (columns_of kind)) (grouped (columns_of kind)))
   unfolding schema_for branches_for kept_of
   fields_few = omega (arith, branches_count (kept_of (grouped (columns_of kind))), kept_few (grouped (columns_of kind)) (kinds_grouped kind).each)
 
@@ -284,7 +284,7 @@ module _ (kind : Kind) (forms : Forms) (fit : FormsFit kind forms) where
   schema_readable =
       let g = kinds_grouped kind in
       let groups = grouped (columns_of kind) in
-      let few : total (map (group_size (columns_of kind)) groups) ≤ 128 = leb-true (total (map (group_size (columns_of kind)) groups)) 128 g.few in
+      let few : sum_of (map (group_size (columns_of kind)) groups) ≤ 128 = leb-true (sum_of (map (group_size (columns_of kind)) groups)) 128 g.few in
       branches_readable types (kept_of groups) (record {
         apart = kept_apart groups g.each g.apart;
         each = kept_each groups g.each;

@@ -4,7 +4,7 @@ use Rattle.std.specs.Prelude.{nat_le}
 use Rattle.std.specs.List.{flat_map, list_all}
 use Rattle.std.proofs.lemmas.Bool.{cases_Bool, and_from, and_parts, leb-true}
 use Rattle.arrow_schema.specs.declared.spec.ArrowType.{ArrowType}
-use Rattle.arrow_schema.specs.Trees.{total}
+use Rattle.arrow_schema.specs.Trees.{sum_of}
 use Rattle.arrow_schema.specs.Writing.{names_of, encodings_named, is_named}
 use Rattle.arrow_schema.specs.Branches.{Branch, Leaf, items_in, leaf_names, branch_names, is_branch_named}
 use Rattle.arrow_schema.proofs.Branched.{branches_names, branches_named}
@@ -22,10 +22,10 @@ member_names m = length m.name + 4
 
 group_names : Group → ℕ
 group_names (group.Alone m) = member_names m
-group_names (group.Under struct members) = length struct + total (map member_names members)
+group_names (group.Under struct members) = length struct + sum_of (map member_names members)
 
 abbrev are_short : List ColumnSpec → Bool
-are_short columns = nat_le (total (map group_names (grouped columns))) 4096
+are_short columns = nat_le (sum_of (map group_names (grouped columns))) 4096
 
 logs_short : are_short logs ≡ true
 unfolding grouped logs group_names member_names
@@ -101,22 +101,22 @@ one_item None = omega arith
 one_item (Some kind) = omega arith
 
 module _ (kind : Kind) (forms : Forms) where
-  leaves_short : (members : List Member) → total (map leaf_names (map (leaf_in kind forms) (members_there forms members))) ≤ total (map member_names members)
+  leaves_short : (members : List Member) → sum_of (map leaf_names (map (leaf_in kind forms) (members_there forms members))) ≤ sum_of (map member_names members)
   unfolding member_names
   leaves_short [] = omega arith
   leaves_short (m ∷ members) =
-      let rest : total (map leaf_names (map (leaf_in kind forms) (members_there forms members))) ≤ total (map member_names members) = leaves_short members in
+      let rest : sum_of (map leaf_names (map (leaf_in kind forms) (members_there forms members))) ≤ sum_of (map member_names members) = leaves_short members in
       elim (cases_Bool (is_there (forms m.column))) [
         | inl there ↦ rw there (omega (arith, rest, one_item (item_in (column_at kind m.column).base)))
         | inr gone ↦ rw gone (omega (arith, rest))
       ]
 
-  under_short : (struct : List ℕ) (members there : List Member) → total (map leaf_names (map (leaf_in kind forms) there)) ≤ total (map member_names members)
-      → total (map branch_names (branches_under kind forms struct there)) ≤ length struct + total (map member_names members)
+  under_short : (struct : List ℕ) (members there : List Member) → sum_of (map leaf_names (map (leaf_in kind forms) there)) ≤ sum_of (map member_names members)
+      → sum_of (map branch_names (branches_under kind forms struct there)) ≤ length struct + sum_of (map member_names members)
   under_short struct members [] few = omega arith
   under_short struct members (m ∷ there) few = omega (arith, few)
 
-  group_short : (g : Group) → total (map branch_names (branches_in kind forms g)) ≤ group_names g
+  group_short : (g : Group) → sum_of (map branch_names (branches_in kind forms g)) ≤ group_names g
   unfolding member_names group_names
   group_short (group.Alone m) =
       elim (cases_Bool (is_there (forms m.column))) [
@@ -125,11 +125,11 @@ module _ (kind : Kind) (forms : Forms) where
       ]
   group_short (group.Under struct members) = under_short struct members (members_there forms members) (leaves_short members)
 
-  names-append : (bs cs : List Branch) → total (map branch_names (bs ++ cs)) ≡ total (map branch_names bs) + total (map branch_names cs)
+  names-append : (bs cs : List Branch) → sum_of (map branch_names (bs ++ cs)) ≡ sum_of (map branch_names bs) + sum_of (map branch_names cs)
   names-append [] cs = omega arith
   names-append (b ∷ bs) cs = omega (arith, names-append bs cs)
 
-  groups_short : (gs : List Group) → total (map branch_names (flat_map (branches_in kind forms) gs)) ≤ total (map group_names gs)
+  groups_short : (gs : List Group) → sum_of (map branch_names (flat_map (branches_in kind forms) gs)) ≤ sum_of (map group_names gs)
   groups_short [] = omega arith
   groups_short (g ∷ gs) = omega (arith, names-append (branches_in kind forms g) (flat_map (branches_in kind forms) gs), group_short g, groups_short gs)
 
@@ -140,7 +140,7 @@ module _ (kind : Kind) (forms : Forms) where
         arith,
         branches_names (flat_map (branches_in kind forms) (grouped (columns_of kind))),
         groups_short (grouped (columns_of kind)),
-        leb-true (total (map group_names (grouped (columns_of kind)))) 4096 (kinds_short kind),
+        leb-true (sum_of (map group_names (grouped (columns_of kind)))) 4096 (kinds_short kind),
       )
 
   -- ---- encodings

@@ -6,7 +6,7 @@ use Rattle.std.proofs.lemmas.Bool.{leb-true}
 use Rattle.std.proofs.lemmas.List.Sums.{sum_by_push}
 use Rattle.arrow_buffers.proofs.Joining.{range-more}
 use Rattle.arrow_schema.specs.declared.spec.FieldSpec.{FieldSpec}
-use Rattle.arrow_schema.specs.Trees.{total}
+use Rattle.arrow_schema.specs.Trees.{sum_of}
 use Rattle.arrow_ipc.specs.declared.messages.IpcMessage.{IpcMessage}
 use Rattle.arrow_ipc.specs.Written.{Appends, AppendsSchema, most_of_schema}
 use Rattle.otap_cells.specs.declared.payload.Kind.{Kind}
@@ -37,7 +37,7 @@ message_ok m limit most old new (Err e) short appends = tt
 -- a schema
 schema_short : (kind : Kind) (forms : Forms) → FormsFit kind forms → most_of_schema (schema_for kind forms) ≤ schema_most
 schema_short kind forms fit =
-    omega (arith, names_short kind forms, fields_few kind forms fit, leb-true (total (map (group_size (columns_of kind)) (grouped (columns_of kind)))) 32 (kinds_counted kind).fields)
+    omega (arith, names_short kind forms, fields_few kind forms fit, leb-true (sum_of (map (group_size (columns_of kind)) (grouped (columns_of kind)))) 32 (kinds_counted kind).fields)
 
 pub opening_ok : {E : Type 0} (kind : Kind) (forms : Forms) (schema : List FieldSpec) (old new : List ℕ) (r : Result (Unit {0}) E) → FormsFit kind forms → schema ≡ schema_for kind forms
     → OnOk r (AppendsSchema schema old new) → OnOk r (AddsAtMost schema_most old new)
