@@ -19,7 +19,7 @@ use Rattle.otap_columns.specs.declared.forms.ColumnForm.{ColumnForm}
 use Rattle.otap_columns.specs.declared.forms.ColumnForm.TheVariants as form
 use Rattle.otap_columns.specs.Observed.{id_width, number_bytes, bytes_for}
 use Rattle.otap_columns.specs.Schemas.{is_dictionary}
-use Rattle.otap_columns.specs.WrittenCells.{place_in, stored_for, stored_column}
+use Rattle.otap_columns.specs.WrittenCells.{place_among, stored_for, stored_column}
 use Rattle.otap_columns.specs.BuiltCells.{index_width, plain_width}
 
 -- ---- each cell has its column's width
@@ -107,7 +107,7 @@ plain_stored holds form.Dict8 values cell plain = cc
 plain_stored holds form.Dict16 values cell plain = cc
 
 pub index_stored : (holds : Base) (f : ColumnForm) (values : List (List ℕ)) (cell : Cell) → is_dictionary f ≡ true
-    → option_map (little_bytes (index_width f)) (place_in values (bytes_for holds f cell)) ≡ stored_for holds f values cell
+    → option_map (little_bytes (index_width f)) (place_among values (bytes_for holds f cell)) ≡ stored_for holds f values cell
 index_stored holds form.Dict8 values cell dictionary = refl
 index_stored holds form.Dict16 values cell dictionary = refl
 index_stored holds form.Absent values cell dictionary = cc

@@ -16,8 +16,8 @@ use Rattle.otap_columns.specs.declared.forms.ColumnForm.{ColumnForm}
 use Rattle.otap_columns.specs.declared.forms.ColumnForm.TheVariants as form
 use Rattle.otap_columns.specs.Observed.{bytes_for}
 use Rattle.otap_columns.specs.Schemas.{is_dictionary}
-use Rattle.otap_columns.specs.SeenInside.{filled, places_of}
-use Rattle.otap_columns.specs.WrittenCells.{FitsIndexes, place_in, stored_for, stored_column}
+use Rattle.otap_columns.specs.SeenInside.{filled_up, places_of}
+use Rattle.otap_columns.specs.WrittenCells.{FitsIndexes, place_among, stored_for, stored_column}
 use Rattle.otap_columns.specs.BuiltCells.{IsIndexFor, index_of, index_width, width_for}
 use Rattle.otap_columns.proofs.ColumnsBuilt.{index_stored}
 
@@ -49,7 +49,7 @@ one_reached form.Absent values n low dictionary few = absurd (false≢true dicti
 one_reached form.Plain values n low dictionary few = absurd (false≢true dictionary)
 one_reached form.Wide values n low dictionary few = absurd (false≢true dictionary)
 
-place_reached : (f : ColumnForm) (values : List (List ℕ)) (x : Option (List ℕ)) → is_dictionary f ≡ true → FitsIndexes f (length values) → IsIndexFor f (place_in values x)
+place_reached : (f : ColumnForm) (values : List (List ℕ)) (x : Option (List ℕ)) → is_dictionary f ≡ true → FitsIndexes f (length values) → IsIndexFor f (place_among values x)
 place_reached f values None dictionary few = tt
 place_reached f values (Some value) dictionary few = by (position (bytes_eq value) values) refl
   where
@@ -108,12 +108,12 @@ filled_room f places n =
     let sum : cells_len (map (index_of f) places ++ replicate n None) ≡ cells_len (map (index_of f) places) + cells_len (replicate n None) = sum_by-append cell_len (map (index_of f) places) (replicate n None) in
     omega (arith, ap cells_len (filled_indexes f places n), sum)
 
-module _ (holds : Base) (f : ColumnForm) (values : List (List ℕ)) (t : Table) (column : ℕ) (places : List (Option ℕ)) (is : filled (length t.rows) places ≡ places_of holds f values (column_in t.rows column)) where
+module _ (holds : Base) (f : ColumnForm) (values : List (List ℕ)) (t : Table) (column : ℕ) (places : List (Option ℕ)) (is : filled_up (length t.rows) places ≡ places_of holds f values (column_in t.rows column)) where
   pub filled_few : length places ≤ length t.rows
   filled_few =
-      let all : length (filled (length t.rows) places) ≡ length t.rows =
-      ap length is ∙ length-map (column_in t.rows column) (λ cell. place_in values (bytes_for holds f cell)) ∙ length-map t.rows (λ cells. get_or cells column null) in
-      let sum : length (filled (length t.rows) places) ≡ length places + length (replicate (length t.rows - length places) None) = length-append places (replicate (length t.rows - length places) None) in
+      let all : length (filled_up (length t.rows) places) ≡ length t.rows =
+      ap length is ∙ length-map (column_in t.rows column) (λ cell. place_among values (bytes_for holds f cell)) ∙ length-map t.rows (λ cells. get_or cells column null) in
+      let sum : length (filled_up (length t.rows) places) ≡ length places + length (replicate (length t.rows - length places) None) = length-append places (replicate (length t.rows - length places) None) in
       omega (arith, all, sum)
 
   pub filled_reached : is_dictionary f ≡ true → FitsIndexes f (length values) → (row : ℕ) → IsIndexFor f (get_or places row None)

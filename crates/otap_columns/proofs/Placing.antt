@@ -9,8 +9,8 @@ use Rattle.otap_dicts.specs.Ladders.{LadderIn, is_plain, observed}
 use Rattle.otap_dicts.specs.declared.form.Form.TheVariants as ladder
 use Rattle.otap_columns.specs.declared.forms.ColumnForm.TheVariants as form
 use Rattle.otap_columns.specs.Observed.{bytes_for}
-use Rattle.otap_columns.specs.SeenInside.{filled, observed_if, places_of}
-use Rattle.otap_columns.specs.WrittenCells.{place_in}
+use Rattle.otap_columns.specs.SeenInside.{filled_up, observed_if, places_of}
+use Rattle.otap_columns.specs.WrittenCells.{place_among}
 use Rattle.otap_columns.proofs.ColumnsBuilt.{cell_at-map, nones_at_first}
 use Rattle.otap_columns.proofs.SeenOn.{again_changes_nothing, cells_more, null_cell, plain_stays}
 
@@ -31,11 +31,11 @@ found_more values (y ∷ xs) x all one = (all.0, found_more values xs x all.1 on
 abbrev pub Stays : List (List ℕ) → List (List ℕ) → Type 0
 Stays old new = (other : List ℕ) (place : ℕ) → position (bytes_eq other) old ≡ Some place → position (bytes_eq other) new ≡ Some place
 
-place_stays : (old new : List (List ℕ)) (x : Option (List ℕ)) → Stays old new → IsFound old x → (place_in old x ≡ place_in new x) × IsFound new x
+place_stays : (old new : List (List ℕ)) (x : Option (List ℕ)) → Stays old new → IsFound old x → (place_among old x ≡ place_among new x) × IsFound new x
 place_stays old new None stays is = (refl, tt)
 place_stays old new (Some value) stays is = let at = stays value is.0 is.1 in (is.1 ∙ sym at, (is.0, at))
 
-places_stay : (old new : List (List ℕ)) (xs : List (Option (List ℕ))) → Stays old new → AreFound old xs → (map (place_in old) xs ≡ map (place_in new) xs) × AreFound new xs
+places_stay : (old new : List (List ℕ)) (xs : List (Option (List ℕ))) → Stays old new → AreFound old xs → (map (place_among old) xs ≡ map (place_among new) xs) × AreFound new xs
 places_stay old new [] stays all = (refl, tt)
 places_stay old new (x ∷ xs) stays all =
     let one = place_stays old new x stays all.0 in
@@ -58,8 +58,8 @@ one_stays laws l (Some value) climbs = ((λ other place is. laws.stay l value ot
 pub record IsObserved (holds : Base) (rows : List (List Cell)) (column row : ℕ) (start now : LadderIn) (places : List (Option ℕ)) (last : Option (List ℕ)) (place : Option ℕ) : Type 0 where
   pub so_far : now ≡ fold observed_if start (take row (map (bytes_for holds form.Wide) (column_in rows column)))
   pub again : observed_if now last ≡ now
-  pub placed : place ≡ place_in now.values last
-  pub here : places ≡ map (place_in now.values) (take row (map (bytes_for holds form.Wide) (column_in rows column)))
+  pub placed : place ≡ place_among now.values last
+  pub here : places ≡ map (place_among now.values) (take row (map (bytes_for holds form.Wide) (column_in rows column)))
   pub found : AreFound now.values (take row (map (bytes_for holds form.Wide) (column_in rows column)))
   pub climbs : is_plain now.form ≡ false
 
@@ -67,7 +67,7 @@ nones_change_nothing : (n : ℕ) (l : LadderIn) → l ≡ fold observed_if l (re
 nones_change_nothing zero l = refl
 nones_change_nothing (suc n) l = nones_change_nothing n l
 
-no_places : (n : ℕ) (values : List (List ℕ)) → replicate n None ≡ map (place_in values) (replicate n None)
+no_places : (n : ℕ) (values : List (List ℕ)) → replicate n None ≡ map (place_among values) (replicate n None)
 no_places zero values = refl
 no_places (suc n) values = ap (λ (ps : List (Option ℕ)). None ∷ ps) (no_places n values)
 
@@ -86,7 +86,7 @@ none_observed holds rows column first start places none null_first low climbs =
       so_far = nones_change_nothing first start ∙ ap (λ (cs : List (Option (List ℕ))). fold observed_if start cs) nones;
       again = refl;
       placed = refl;
-      here = none ∙ no_places first start.values ∙ ap (map (place_in start.values)) nones;
+      here = none ∙ no_places first start.values ∙ ap (map (place_among start.values)) nones;
       found = subst (AreFound start.values) nones (nones_found first start.values);
       climbs = climbs;
     }
@@ -106,7 +106,7 @@ module _ (laws : Laws) (holds : Base) (rows : List (List Cell)) (column row : �
   pub next_is : next ≡ fold observed_if start (take (row + 1) (map (bytes_for holds form.Wide) (column_in rows column)))
   next_is = on ∙ ap (λ (l : LadderIn). observed_if l x) so_far.so_far ∙ cells_more holds rows column row x start low is
 
-  pub one_more_observed : (after : Option ℕ) → after ≡ place_in next.values x → is_plain next.form ≡ false
+  pub one_more_observed : (after : Option ℕ) → after ≡ place_among next.values x → is_plain next.form ≡ false
       → IsObserved holds rows column (row + 1) start next (places ++ after ∷ []) x after
   one_more_observed after after_is climbs =
       let cells = map (bytes_for holds form.Wide) (column_in rows column) in
@@ -120,7 +120,7 @@ module _ (laws : Laws) (holds : Base) (rows : List (List Cell)) (column row : �
         so_far = next_is;
         again = ap (λ (l : LadderIn). observed_if l x) on ∙ again_changes_nothing laws.twice now x ∙ sym on;
         placed = after_is;
-        here = (λ i. (so_far.here ∙ kept.0) i ++ after_is i ∷ []) ∙ sym (map-append (place_in next.values) (take row cells) (x ∷ [])) ∙ sym (ap (map (place_in next.values)) one);
+        here = (λ i. (so_far.here ∙ kept.0) i ++ after_is i ∷ []) ∙ sym (map-append (place_among next.values) (take row cells) (x ∷ [])) ∙ sym (ap (map (place_among next.values)) one);
         found = subst (AreFound next.values) (sym one) (found_more next.values (take row cells) x kept.1 stays.1);
         climbs = climbs;
       }
@@ -136,35 +136,35 @@ module _ (laws : Laws) (holds : Base) (rows : List (List Cell)) (column row : �
 
 -- the rows after the last one that was set have no place
 none_after : (values : List (List ℕ)) (k n : ℕ) (cells : List (Option (List ℕ))) → ((row : ℕ) → k ≤ row → get_or cells row None ≡ None) → k + n ≡ length cells
-    → map (place_in values) (take k cells) ++ replicate n None ≡ map (place_in values) cells
+    → map (place_among values) (take k cells) ++ replicate n None ≡ map (place_among values) cells
 none_after values zero n cells none all =
     let same : n ≡ length cells = omega (arith, all) in
     ap (λ (m : ℕ). replicate m None) same ∙ nulls cells (λ k. none k (omega arith))
   where
-    nulls : (cells : List (Option (List ℕ))) → ((k : ℕ) → get_or cells k None ≡ None) → replicate (length cells) None ≡ map (place_in values) cells
+    nulls : (cells : List (Option (List ℕ))) → ((k : ℕ) → get_or cells k None ≡ None) → replicate (length cells) None ≡ map (place_among values) cells
     nulls [] none = refl
     nulls (None ∷ cells) none = ap (λ (ps : List (Option ℕ)). None ∷ ps) (nulls cells (λ k. none (suc k)))
     nulls (Some value ∷ cells) none = absurd (let wrong : Some value ≡ None = none 0 in cc)
 none_after values (suc k) n [] none all = absurd (omega (arith, all))
-none_after values (suc k) n (x ∷ cells) none all = ap (λ (ps : List (Option ℕ)). place_in values x ∷ ps) (none_after values k n cells (λ row le. none (suc row) (omega (arith, le))) (omega (arith, all)))
+none_after values (suc k) n (x ∷ cells) none all = ap (λ (ps : List (Option ℕ)). place_among values x ∷ ps) (none_after values k n cells (λ row le. none (suc row) (omega (arith, le))) (omega (arith, all)))
 
 pub places_to_last : (holds : Base) (rows : List (List Cell)) (column k : ℕ) (values : List (List ℕ)) → ((row : ℕ) → k ≤ row → cell_in rows column row ≡ null) → k ≤ length rows
-    → map (place_in values) (take k (map (bytes_for holds form.Wide) (column_in rows column))) ++ replicate (length rows - k) None ≡ places_of holds form.Wide values (column_in rows column)
+    → map (place_among values) (take k (map (bytes_for holds form.Wide) (column_in rows column))) ++ replicate (length rows - k) None ≡ places_of holds form.Wide values (column_in rows column)
 places_to_last holds rows column k values none low =
     let cells = map (bytes_for holds form.Wide) (column_in rows column) in
     let long : length cells ≡ length rows = length-map (column_in rows column) (bytes_for holds form.Wide) ∙ length-map rows (λ row. get_or row column null) in
     none_after values k (length rows - k) cells (λ row le. null_cell holds rows column row (none row le)) (omega (arith, long, low))
     ∙ twice (column_in rows column)
   where
-    twice : (cells : List Cell) → map (place_in values) (map (bytes_for holds form.Wide) cells) ≡ places_of holds form.Wide values cells
+    twice : (cells : List Cell) → map (place_among values) (map (bytes_for holds form.Wide) cells) ≡ places_of holds form.Wide values cells
     twice [] = refl
-    twice (cell ∷ cells) = ap (λ (ps : List (Option ℕ)). place_in values (bytes_for holds form.Wide cell) ∷ ps) (twice cells)
+    twice (cell ∷ cells) = ap (λ (ps : List (Option ℕ)). place_among values (bytes_for holds form.Wide cell) ∷ ps) (twice cells)
 
 pub all_placed : (holds : Base) (rows : List (List Cell)) (column row : ℕ) (values : List (List ℕ)) (places : List (Option ℕ))
-    → places ≡ map (place_in values) (take row (map (bytes_for holds form.Wide) (column_in rows column)))
-    → row ≤ length rows → ((k : ℕ) → row ≤ k → cell_in rows column k ≡ null) → filled (length rows) places ≡ places_of holds form.Wide values (column_in rows column)
+    → places ≡ map (place_among values) (take row (map (bytes_for holds form.Wide) (column_in rows column)))
+    → row ≤ length rows → ((k : ℕ) → row ≤ k → cell_in rows column k ≡ null) → filled_up (length rows) places ≡ places_of holds form.Wide values (column_in rows column)
 all_placed holds rows column row values places here low none =
     let cells = map (bytes_for holds form.Wide) (column_in rows column) in
     let long : length cells ≡ length rows = length-map (column_in rows column) (bytes_for holds form.Wide) ∙ length-map rows (λ row. get_or row column null) in
-    let count : length places ≡ row = ap length here ∙ length-map (take row cells) (place_in values) ∙ length-take-le row cells (omega (arith, long, low)) in
+    let count : length places ≡ row = ap length here ∙ length-map (take row cells) (place_among values) ∙ length-take-le row cells (omega (arith, long, low)) in
     (λ i. here i ++ replicate (length rows - count i) None) ∙ places_to_last holds rows column row values none low

@@ -31,7 +31,7 @@ use Rattle.otap_columns.specs.declared.writer_groups.Member.{Member}
 use Rattle.otap_columns.specs.Groups as groups
 use Rattle.otap_columns.specs.Schemas.{Forms, FormsFit, ArraySlot, Struct, slots_for, is_there, members_there, slots_of_member, slots_under, slots_in}
 use Rattle.otap_columns.specs.WrittenGroups.{member_in, group_in}
-use Rattle.otap_columns.specs.WrittenCells.{place_in, stored_for, stored_column}
+use Rattle.otap_columns.specs.WrittenCells.{place_among, stored_for, stored_column}
 use Rattle.otap_columns.specs.BuiltCells.{width_for, parts_of, with_part, with_parts}
 use Rattle.otap_columns.specs.WrittenPayloads.{HoldsRows}
 use Rattle.otap_columns.specs.Groups.{grouped}
@@ -95,8 +95,8 @@ bytes_light holds f (flag b) = omega arith
 bytes_light holds f (bytes part) = omega arith
 
 stored_light : (holds : Base) (f : ColumnForm) (vs : List (List ℕ)) (cell : Cell) → cell_len (stored_for holds f vs cell) ≤ 8 + cell_weight cell
-stored_light holds form.Dict8 vs cell = omega (arith, index_short 1 (place_in vs (bytes_for holds form.Dict8 cell)) (omega arith))
-stored_light holds form.Dict16 vs cell = omega (arith, index_short 2 (place_in vs (bytes_for holds form.Dict16 cell)) (omega arith))
+stored_light holds form.Dict8 vs cell = omega (arith, index_short 1 (place_among vs (bytes_for holds form.Dict8 cell)) (omega arith))
+stored_light holds form.Dict16 vs cell = omega (arith, index_short 2 (place_among vs (bytes_for holds form.Dict16 cell)) (omega arith))
 stored_light holds form.Absent vs cell = bytes_light holds form.Absent cell
 stored_light holds form.Plain vs cell = bytes_light holds form.Plain cell
 stored_light holds form.Wide vs cell = bytes_light holds form.Wide cell

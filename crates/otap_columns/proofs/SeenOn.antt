@@ -25,7 +25,7 @@ use Rattle.otap_columns.specs.declared.forms.ColumnForm.{ColumnForm}
 use Rattle.otap_columns.specs.declared.forms.ColumnForm.TheVariants as form
 use Rattle.otap_columns.specs.Observed.{bytes_for, given, seen, has_wide_id, is_own_id, is_wide, if_seen, id_form, form_at}
 use Rattle.otap_columns.specs.Seen.{SeenIn, IsSeenAfter, may_widen}
-use Rattle.otap_columns.specs.SeenInside.{filled, observed_if, places_of, SeesTable, is_absent, form_told, id_form_told}
+use Rattle.otap_columns.specs.SeenInside.{filled_up, observed_if, places_of, SeesTable, is_absent, form_told, id_form_told}
 use Rattle.otap_columns.proofs.ColumnsBuilt.{cell_at-map}
 use Rattle.otap_columns.proofs.ValuesSeen.{seen-push}
 
@@ -90,7 +90,7 @@ more_wide false a b = refl
 
 pub sees : (kind : Kind) (column : ℕ) (t : Table) (old new : SeenIn) → new.ladder ≡ fold observed_if old.ladder (map (bytes_for (base_at kind column) form.Wide) (column_in t.rows column))
     → new.wide ≡ (old.wide || (may_widen (base_at kind column) && has_wide_id kind column t))
-    → (is_dictionary new.ladder.form ≡ true → filled (length t.rows) new.places ≡ places_of (base_at kind column) form.Wide new.ladder.values (column_in t.rows column)) → SeesTable kind column t old new
+    → (is_dictionary new.ladder.form ≡ true → filled_up (length t.rows) new.places ≡ places_of (base_at kind column) form.Wide new.ladder.values (column_in t.rows column)) → SeesTable kind column t old new
 sees kind column t old new ladder_is wide_is placed = record {
   placed = placed;
   at = λ tables is.
@@ -160,7 +160,7 @@ stands kind column s f told tables is = told ∙ told_is kind tables column s is
 pub sees_step : {E : Type 0} (kind : Kind) (column : ℕ) (t : Table) (old new : SeenIn) (r : Result (Unit {0}) E)
     → OnOk r (new.ladder ≡ fold observed_if old.ladder (map (bytes_for (base_at kind column) form.Wide) (column_in t.rows column)))
     → OnOk r (new.wide ≡ (old.wide || (may_widen (base_at kind column) && has_wide_id kind column t)))
-    → OnOk r (is_dictionary new.ladder.form ≡ true → filled (length t.rows) new.places ≡ places_of (base_at kind column) form.Wide new.ladder.values (column_in t.rows column))
+    → OnOk r (is_dictionary new.ladder.form ≡ true → filled_up (length t.rows) new.places ≡ places_of (base_at kind column) form.Wide new.ladder.values (column_in t.rows column))
     → OnOk r (SeesTable kind column t old new)
 sees_step kind column t old new (Ok x) ladder_is wide_is placed = sees kind column t old new ladder_is wide_is placed
 sees_step kind column t old new (Err e) ladder_is wide_is placed = tt

@@ -19,8 +19,8 @@ use Rattle.otap_columns.specs.Schemas.{FormsFit, fits_form, is_dictionary, is_th
 use Rattle.otap_columns.specs.Observed.{bytes_for, form_at, is_own_id, is_wide, of_ladder, values_at}
 use Rattle.otap_columns.specs.BuiltCells.{FitsForm}
 use Rattle.otap_columns.specs.Seen.{SeenIn}
-use Rattle.otap_columns.specs.SeenInside.{filled, form_told, id_form_told, is_absent, places_of}
-use Rattle.otap_columns.specs.WrittenCells.{FitsIndexes, place_in}
+use Rattle.otap_columns.specs.SeenInside.{filled_up, form_told, id_form_told, is_absent, places_of}
+use Rattle.otap_columns.specs.WrittenCells.{FitsIndexes, place_among}
 use Rattle.otap_columns.specs.WrittenGroups.{forms_in}
 use Rattle.otap_columns.specs.WrittenRecords.{CanSendColumn}
 use Rattle.otap_columns.specs.WrittenRows.{HasValues, IsKnownIn, unseen as unseen_column}
@@ -112,7 +112,7 @@ module _ (kind : Kind) (tables : List Table) (columns : List SeenIn) (forms : Li
 -- each column that is a dictionary has the places of its cells
 abbrev pub ArePlaced : Kind → Table → List SeenIn → Type 0
 ArePlaced kind t columns = (column : ℕ) → column < width_of kind → has_dictionary (get_or columns column unseen_column).ladder.form ≡ true
-    → filled (length t.rows) (get_or columns column unseen_column).places ≡ places_of (base_at kind column) form.Wide (get_or columns column unseen_column).ladder.values (column_in t.rows column)
+    → filled_up (length t.rows) (get_or columns column unseen_column).places ≡ places_of (base_at kind column) form.Wide (get_or columns column unseen_column).ladder.values (column_in t.rows column)
 
 pub are_placed : (kind : Kind) (t : Table) (old new : List SeenIn) → SeesAll kind t old new → ArePlaced kind t new
 are_placed kind t old new sees = λ column low. (sees.each column low).placed
@@ -143,7 +143,7 @@ dictionary_placed kind column s is = by (is_id_at kind column) refl
 
 places_alike : (holds : Base) (f g : ColumnForm) (values : List (List ℕ)) (cells : List Cell) → is_id holds ≡ false → places_of holds f values cells ≡ places_of holds g values cells
 places_alike holds f g values [] none = refl
-places_alike holds f g values (cell ∷ cells) none = λ i. place_in values (bytes_alike holds f g cell none i) ∷ places_alike holds f g values cells none i
+places_alike holds f g values (cell ∷ cells) none = λ i. place_among values (bytes_alike holds f g cell none i) ∷ places_alike holds f g values cells none i
 
 -- ---- the last of the tables
 

@@ -34,13 +34,13 @@ FitsForm (base.Id wide) form (number n) = FitsUnsignedBits (id_bits form) n
 FitsForm holds form cell = Unit {0}
 
 -- the bytes that are written for a cell, none where it is null
-abbrev pub shown : CellBytes → Option (List ℕ)
-shown bytes.Null = None
-shown (bytes.One part) = Some part
-shown (bytes.Two part) = Some part
-shown (bytes.Four part) = Some part
-shown (bytes.Eight part) = Some part
-shown (bytes.Part part) = Some part.now
+abbrev pub shown_bytes : CellBytes → Option (List ℕ)
+shown_bytes bytes.Null = None
+shown_bytes (bytes.One part) = Some part
+shown_bytes (bytes.Two part) = Some part
+shown_bytes (bytes.Four part) = Some part
+shown_bytes (bytes.Eight part) = Some part
+shown_bytes (bytes.Part part) = Some part.now
 
 -- how many bytes an index has
 abbrev pub index_width : ColumnForm → ℕ

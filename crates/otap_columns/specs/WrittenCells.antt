@@ -11,13 +11,13 @@ use Rattle.otap_columns.specs.declared.forms.ColumnForm.TheVariants as form
 use Rattle.otap_columns.specs.Observed.{bytes_for}
 
 -- the place of a value among values; null has none
-abbrev pub place_in : List (List ℕ) → Option (List ℕ) → Option ℕ
-place_in values None = None
-place_in values (Some value) = position (bytes_eq value) values
+abbrev pub place_among : List (List ℕ) → Option (List ℕ) → Option ℕ
+place_among values None = None
+place_among values (Some value) = position (bytes_eq value) values
 
 -- its index, in this number of bytes
 abbrev pub index_bytes : ℕ → List (List ℕ) → Option (List ℕ) → Option (List ℕ)
-index_bytes width values value = option_map (little_bytes width) (place_in values value)
+index_bytes width values value = option_map (little_bytes width) (place_among values value)
 
 -- the indexes of a form reach all values
 abbrev pub FitsIndexes : ColumnForm → ℕ → Type 0

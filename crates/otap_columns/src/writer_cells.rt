@@ -10,7 +10,7 @@ ghost use Rattle.otap_cells.specs.Cells.{IsCellOf, IsNumberOf, null, number, see
 ghost use Rattle.otap_cells.specs.Columns.{width_of};
 ghost use Rattle.otap_cells.specs.Tables.{cell_in};
 ghost use Rattle.otap_columns.specs.Observed.{bytes_for, id_width, number_bytes};
-ghost use Rattle.otap_columns.specs.BuiltCells.{FitsForm, id_bits, IsIndexFor, index_width, shown};
+ghost use Rattle.otap_columns.specs.BuiltCells.{FitsForm, id_bits, IsIndexFor, index_width, shown_bytes};
 ghost use Rattle.otap_columns.specs.Schemas.{is_dictionary};
 
 use crate::forms::ColumnForm;
@@ -31,7 +31,7 @@ pub(crate) enum CellBytes<'a> {
 
 impl CellBytes<'_> {
     pub(crate) fn as_slice(&self) -> Option<&[u8]>
-        ensures { option_copied result ≡ shown self.now }
+        ensures { option_copied result ≡ shown_bytes self.now }
     {
         match self {
             CellBytes::Null => None,
@@ -48,7 +48,7 @@ impl CellBytes<'_> {
 pub(crate) fn bytes_for(base: Base, form: ColumnForm, cell: CellView<'_>) -> CellBytes<'_>
     requires base { IsCellOf base (seen cell) }
     requires fits { FitsForm base form (seen cell) }
-    ensures { shown result ≡ bytes_for base form (seen cell.entry) }
+    ensures { shown_bytes result ≡ bytes_for base form (seen cell.entry) }
 {
     match cell {
         CellView::Null => CellBytes::Null,
@@ -63,7 +63,7 @@ pub(crate) fn bytes_for(base: Base, form: ColumnForm, cell: CellView<'_>) -> Cel
 fn number_bytes<'a>(base: Base, form: ColumnForm, n: i64) -> CellBytes<'a>
     requires base { IsNumberOf base n }
     requires fits { FitsForm base form (number n) }
-    ensures { shown result ≡ Some (number_bytes base form n) }
+    ensures { shown_bytes result ≡ Some (number_bytes base form n) }
 {
     match base {
         Base::U8 => CellBytes::One([n as u8]),
@@ -79,7 +79,7 @@ fn number_bytes<'a>(base: Base, form: ColumnForm, n: i64) -> CellBytes<'a>
 /// An id: 4 bytes where the form is wide, else 2.
 fn id_bytes<'a>(form: ColumnForm, id: u32) -> CellBytes<'a>
     requires { id < 2 ^ id_bits form }
-    ensures { shown result ≡ Some (little_bytes (id_width form) id) }
+    ensures { shown_bytes result ≡ Some (little_bytes (id_width form) id) }
 {
     match form {
         ColumnForm::Wide => CellBytes::Four(id.to_le_bytes()),

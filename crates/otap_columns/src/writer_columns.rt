@@ -10,7 +10,7 @@ ghost use Rattle.otap_cells.specs.Columns.{base_at, width_of};
 ghost use Rattle.arrow_buffers.specs.declared.width.Width.TheVariants.{Fixed};
 ghost use Rattle.otap_cells.specs.Tables.{column_in};
 ghost use Rattle.otap_columns.specs.Schemas.{is_dictionary};
-ghost use Rattle.otap_columns.specs.SeenInside.{filled, places_of};
+ghost use Rattle.otap_columns.specs.SeenInside.{filled_up, places_of};
 ghost use Rattle.otap_columns.specs.WrittenCells.{FitsIndexes, stored_column};
 ghost use Rattle.otap_columns.specs.BuiltCells.{FitsColumn, HasRoom, IsIndexFor, index_of, index_width, parts_of, plain_width, width_for, with_parts};
 
@@ -65,7 +65,7 @@ pub(crate) fn column_for(
     requires column { column < width_of table.now.kind }
     requires fits { FitsColumn form table.now column }
     requires few { FitsIndexes form (length seen.now.ladder.values) }
-    requires placed { is_dictionary form ≡ true → filled (length table.now.rows) seen.now.places ≡ places_of (base_at table.now.kind column) form seen.now.ladder.values (column_in table.now.rows column) }
+    requires placed { is_dictionary form ≡ true → filled_up (length table.now.rows) seen.now.places ≡ places_of (base_at table.now.kind column) form seen.now.ladder.values (column_in table.now.rows column) }
     requires room { cells_len (stored_column form seen.now.ladder.values table.now column) < max_values }
     ensures { IfOk result (λ built. built ≡ record { width = width_for (base_at table.now.kind column) form; cells = stored_column form seen.now.ladder.values table.now column }) }
 {
@@ -112,8 +112,8 @@ fn indexes_for(
 ) -> Result<ColumnBuilder, AllocError>
     requires few { length places.now ≤ rows }
     requires reached { (row : ℕ) → IsIndexFor form (slice_index_or places.now row None) }
-    requires room { cells_len (map (index_of form) (filled rows places.now)) < max_values }
-    ensures { IfOk result (λ built. built ≡ record { width = Fixed (index_width form); cells = map (index_of form) (filled rows places.now) }) }
+    requires room { cells_len (map (index_of form) (filled_up rows places.now)) < max_values }
+    ensures { IfOk result (λ built. built ≡ record { width = Fixed (index_width form); cells = map (index_of form) (filled_up rows places.now) }) }
 {
     let width = Width::Fixed(index_width(form));
     let mut built = ColumnBuilder::for_rows(alloc, width, rows as usize)?;

@@ -10,9 +10,9 @@ ghost use Rattle.otap_dicts.specs.Ladders.{is_dictionary, is_plain};
 ghost use Rattle.otap_columns.specs.declared.forms.ColumnForm.TheVariants as form;
 ghost use Rattle.otap_columns.specs.Observed.{bytes_for, form_at, has_wide_id, is_main, is_own_id, is_wide, of_ladder};
 ghost use Rattle.otap_columns.specs.Seen.{IsSeenAfter, may_widen};
-ghost use Rattle.otap_columns.specs.SeenInside.{SeesTable, filled, form_told, id_form_told, is_absent, observed_if, places_of};
-ghost use Rattle.otap_columns.specs.WrittenCells.{place_in};
-ghost use Rattle.otap_columns.specs.BuiltCells.{shown};
+ghost use Rattle.otap_columns.specs.SeenInside.{SeesTable, filled_up, form_told, id_form_told, is_absent, observed_if, places_of};
+ghost use Rattle.otap_columns.specs.WrittenCells.{place_among};
+ghost use Rattle.otap_columns.specs.BuiltCells.{shown_bytes};
 
 use crate::forms::ColumnForm;
 use crate::writer_cells::{CellBytes, bytes_for, is_same, set_rows, unset_rows};
@@ -74,7 +74,7 @@ impl SeenColumn {
         requires coded { is_id_at table.now.kind column ≡ true → coding_in table.now column ≡ coding_at table.now.kind column }
         ensures ladder { OnOk result (self.new.ladder ≡ fold observed_if self.old.ladder (map (bytes_for (base_at table.now.kind column) form.Wide) (column_in table.now.rows column))) }
         ensures wide { OnOk result (self.new.wide ≡ (self.old.wide || (may_widen (base_at table.now.kind column) && has_wide_id table.now.kind column table.now))) }
-        ensures placed { OnOk result (is_dictionary self.new.ladder.form ≡ true → filled (length table.now.rows) self.new.places ≡ places_of (base_at table.now.kind column) form.Wide self.new.ladder.values (column_in table.now.rows column)) }
+        ensures placed { OnOk result (is_dictionary self.new.ladder.form ≡ true → filled_up (length table.now.rows) self.new.places ≡ places_of (base_at table.now.kind column) form.Wide self.new.ladder.values (column_in table.now.rows column)) }
     {
         observe_values(&mut self.ladder, &mut self.places, table, column)?;
         if !self.wide {
@@ -189,7 +189,7 @@ fn observe_values(
 ) -> Result<(), AllocError>
     requires { column < width_of table.now.kind }
     ensures ladder { OnOk result (ladder.new ≡ fold observed_if ladder.old (map (bytes_for (base_at table.now.kind column) form.Wide) (column_in table.now.rows column))) }
-    ensures placed { OnOk result (is_dictionary ladder.new.form ≡ true → filled (length table.now.rows) places.new.items ≡ places_of (base_at table.now.kind column) form.Wide ladder.new.values (column_in table.now.rows column)) }
+    ensures placed { OnOk result (is_dictionary ladder.new.form ≡ true → filled_up (length table.now.rows) places.new.items ≡ places_of (base_at table.now.kind column) form.Wide ladder.new.values (column_in table.now.rows column)) }
 {
     a_value_again_changes_nothing();
     places_stay();
@@ -225,9 +225,9 @@ fn observe_after(
 ) -> Result<Option<u32>, AllocError>
     requires base { IsCellOf base (seen cell) }
     requires known { observed_if ladder.old (bytes_for base form.Wide (seen before)) ≡ ladder.old }
-    requires placed { place ≡ place_in ladder.old.values (bytes_for base form.Wide (seen before)) }
+    requires placed { place ≡ place_among ladder.old.values (bytes_for base form.Wide (seen before)) }
     ensures ladder { OnOk result (ladder.new ≡ observed_if ladder.old (bytes_for base form.Wide (seen cell.entry))) }
-    ensures place { IfOk result (λ place. place ≡ place_in ladder.new.values (bytes_for base form.Wide (seen cell.entry))) }
+    ensures place { IfOk result (λ place. place ≡ place_among ladder.new.values (bytes_for base form.Wide (seen cell.entry))) }
 {
     if is_same(before, cell) {
         return Ok(place);
@@ -244,8 +244,8 @@ fn is_plain(form: Form) -> bool
 }
 
 fn observe_cell(ladder: &mut Ladder, cell: &CellBytes<'_>) -> Result<Option<u32>, AllocError>
-    ensures ladder { OnOk result (ladder.new ≡ observed_if ladder.old (shown cell.now)) }
-    ensures place { IfOk result (λ place. place ≡ place_in ladder.new.values (shown cell.now)) }
+    ensures ladder { OnOk result (ladder.new ≡ observed_if ladder.old (shown_bytes cell.now)) }
+    ensures place { IfOk result (λ place. place ≡ place_among ladder.new.values (shown_bytes cell.now)) }
 {
     match cell.as_slice() {
         None => Ok(None),

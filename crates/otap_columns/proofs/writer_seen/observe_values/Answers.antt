@@ -6,7 +6,7 @@ use Rattle.otap_dicts.specs.Ladders.{is_plain}
 use Rattle.otap_columns.specs.declared.forms.ColumnForm.TheVariants as form
 use Rattle.otap_columns.specs.Observed.{bytes_for}
 use Rattle.otap_columns.specs.SeenInside.{observed_if}
-use Rattle.otap_columns.specs.WrittenCells.{place_in}
+use Rattle.otap_columns.specs.WrittenCells.{place_among}
 use Rattle.otap_columns.proofs.Placing.{IsObserved, Laws, all_placed, emptied, none_observed, one_more_observed, plain_from_here}
 use Rattle.otap_columns.proofs.SeenOn.{plain_stays, seen_to_last}
 use Rattle.otap_columns.proofs.writer_seen.observe_values.Goals as goal
@@ -55,7 +55,7 @@ rows-preserved c =
     (one_more_observed laws holds c.args.table.now.rows c.args.column c.rows.row c.args.ladder.now c.rows.ladder c.observe_after.new.ladder c.rows.places.items (bytes_for holds form.Wide (seen c.rows.before))
     c.rows.place x c.rows.invariant low (ap (bytes_for holds form.Wide) c.cell-cell.ensures.value)
     (c.in_ok-place.ensures.ladder ∙ ap (λ b. observed_if c.rows.ladder (bytes_for b form.Wide (seen c.cell-cell.result))) base_is)
-    c.in_ok-place.place (c.in_ok-place.ensures.place ∙ ap (λ b. place_in c.observe_after.new.ladder.values (bytes_for b form.Wide (seen c.cell-cell.result))) base_is)
+    c.in_ok-place.place (c.in_ok-place.ensures.place ∙ ap (λ b. place_among c.observe_after.new.ladder.values (bytes_for b form.Wide (seen c.cell-cell.result))) base_is)
     (ap is_plain (sym c.form-in-rows.ensures) ∙ sym c.is_plain-in-rows.ensures.is ∙ c.if-is_plain-2.false))
 
 pub returns-clause-ladder : goal.returns-clause-ladder
