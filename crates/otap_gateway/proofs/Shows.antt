@@ -17,7 +17,7 @@ use Rattle.otap_consume.proofs.SegmentSteps.{stands_first}
 use Rattle.otap_gateway.specs.Reply.{ReplyText}
 use Rattle.otap_gateway.specs.Runs.{Sinks, BeginsWith, WritesFront}
 use Rattle.otap_gateway.specs.declared.command.Command.{Command}
-use Rattle.otap_gateway.specs.Showing.{ShowsFrame, shown}
+use Rattle.otap_gateway.specs.Showing.{ShowsFrame, show_reply}
 use Rattle.otap_gateway.specs.ShowingSeen.{ShowsSeen}
 
 -- a frame that gives an accepted batch
@@ -49,14 +49,14 @@ accepted_from signal outcomes frame o batch tables is false Gives.resets = absur
 -- the reply is that of the outcome
 module _ (signal : Signal) (outcomes : List Outcome) (frame : Frame) (number : ℕ) (new : SegmentIn) (reply : ReplyText) where
   text_of : (returned : Seen) (o : Outcome) → OutcomeAfter signal outcomes frame o → Tells o returned → StandsFor signal (outcomes ++ o ∷ []) new → ShowsSeen frame new number returned reply
-      → reply ≡ shown number o
+      → reply ≡ show_reply number o
   text_of (seen.Batch id rows) (Accepted batch tables) gives tells stands replies =
       let is : IsAccepted signal outcomes frame batch tables = accepted_from signal outcomes frame (Accepted batch tables) batch tables refl (is_broken outcomes) gives in
-      replies.at signal outcomes is.bytes batch tables is.message is.reads stands ∙ ap (λ (ts : List Table). shown number (Accepted batch ts)) (sym is.same)
+      replies.at signal outcomes is.bytes batch tables is.message is.reads stands ∙ ap (λ (ts : List Table). show_reply number (Accepted batch ts)) (sym is.same)
   text_of (seen.Batch id rows) (Refused refusal) gives tells stands replies = absurd tells
   text_of (seen.Batch id rows) Reset gives tells stands replies = absurd tells
   text_of (seen.Refused told) (Accepted batch tables) gives tells stands replies = absurd tells
-  text_of (seen.Refused told) (Refused refusal) gives tells stands replies = replies ∙ ap (λ r. shown number (Refused r)) tells
+  text_of (seen.Refused told) (Refused refusal) gives tells stands replies = replies ∙ ap (λ r. show_reply number (Refused r)) tells
   text_of (seen.Refused told) Reset gives tells stands replies = absurd tells
   text_of seen.Reset (Accepted batch tables) gives tells stands replies = absurd tells
   text_of seen.Reset (Refused refusal) gives tells stands replies = absurd tells
@@ -79,7 +79,7 @@ shows old new frame returned number reply next same replies frames before count 
         before = history.1;
         outcome = n.outcome;
         gives = n.gives;
-        text = text_of old.signal outcomes frame number new reply returned n.outcome n.gives n.tells n.stands replies ∙ ap (λ k. shown k n.outcome) (sym count);
+        text = text_of old.signal outcomes frame number new reply returned n.outcome n.gives n.tells n.stands replies ∙ ap (λ k. show_reply k n.outcome) (sym count);
       },
       (
         outcomes ++ n.outcome ∷ [],

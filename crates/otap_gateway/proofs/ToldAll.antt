@@ -15,7 +15,7 @@ use Rattle.otap_gateway.specs.Causes.{cause_name}
 use Rattle.otap_gateway.specs.Commands.{ReplyOf}
 use Rattle.otap_gateway.specs.Encoding.{Encoded, Encodes, encoded, rows_of}
 use Rattle.otap_gateway.specs.Lines.{batch_head, or_dash, line_feed}
-use Rattle.otap_gateway.specs.Receptions.{as_taken, decoded, statused, replayed, meaning_of, line_of, refusal_status}
+use Rattle.otap_gateway.specs.Receptions.{as_taken, decoded, statused, replayed, meaning_of, refusal_line, refusal_status}
 use Rattle.otap_gateway.specs.Reply.{ReplyText}
 use Rattle.otap_gateway.specs.Texts.{HaveTexts}
 use Rattle.otap_gateway.specs.Told.{Giving, Gave, told, Tells}
@@ -112,7 +112,7 @@ regrouped : (head says stage number blank cause payload dash end : List ℕ)
     → head ++ (says ++ stage) ++ number ++ blank ++ cause ++ payload ++ dash ++ end ≡ head ++ (says ++ ((stage ++ number ++ blank ++ cause ++ payload ++ dash) ++ end))
 regrouped head says stage number blank cause payload dash end = simp append_assoc
 
-pub from_the_stage_on : (number : ℕ) (refusal : Refusal) → line_of number refusal ≡ batch_head number (or_dash refusal.id) ++ (codes " refused: " ++ ((refusal_status refusal).message ++ line_feed))
+pub from_the_stage_on : (number : ℕ) (refusal : Refusal) → refusal_line number refusal ≡ batch_head number (or_dash refusal.id) ++ (codes " refused: " ++ ((refusal_status refusal).message ++ line_feed))
 from_the_stage_on number refusal =
     regrouped (batch_head number (or_dash refusal.id)) (codes " refused: ") (codes "stage ") (decimal refusal.stage) (codes " ") (cause_name refusal.cause) (codes " payload ")
     (or_dash refusal.payload) line_feed

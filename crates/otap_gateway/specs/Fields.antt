@@ -28,8 +28,8 @@ dictionary_word None = []
 dictionary_word (Some dict) = if dict.wide then codes " dict u16" else codes " dict u8"
 
 -- the line of a field below a path, which is empty or ends with a dot
-abbrev pub line_of : List ℕ → List ℕ → ArrowType → Option DictSpec → List ℕ
-line_of path name kind dict = codes "field " ++ quoted (path ++ name) ++ codes " " ++ type_word kind ++ dictionary_word dict ++ line_feed
+abbrev pub field_line_of : List ℕ → List ℕ → ArrowType → Option DictSpec → List ℕ
+field_line_of path name kind dict = codes "field " ++ quoted (path ++ name) ++ codes " " ++ type_word kind ++ dictionary_word dict ++ line_feed
 
 -- the path of a field's children
 abbrev pub inner_path : List ℕ → List ℕ → List ℕ
@@ -37,7 +37,7 @@ inner_path path name = path ++ name ++ codes "."
 
 -- the lines of a field and of its children, depth first
 abbrev pub field_step : FieldSpec-F (List ℕ → List ℕ) → List ℕ → List ℕ
-field_step f path = line_of path f.name f.kind f.dict ++ flat_map (λ child. child (inner_path path f.name)) f.children
+field_step f path = field_line_of path f.name f.kind f.dict ++ flat_map (λ child. child (inner_path path f.name)) f.children
 
 abbrev pub field_text : FieldSpec → List ℕ → List ℕ
 field_text = fold-FieldSpec (List ℕ → List ℕ) field_step

@@ -33,13 +33,13 @@ meaning_of signals.Metrics = metrics_meaning
 
 -- ---- what each job prints of what a frame gave
 
-abbrev pub line_of : ℕ → Refusal → List ℕ
-line_of number refusal = refused_line number refusal.id refusal.stage (cause_name refusal.cause) refusal.payload
+abbrev pub refusal_line : ℕ → Refusal → List ℕ
+refusal_line number refusal = refused_line number refusal.id refusal.stage (cause_name refusal.cause) refusal.payload
 
 -- `decode`: the canonical request of a batch
 abbrev pub decoded : ℕ → Taken → ReplyText
 decoded number (Accepted id request rows tree) = printed (message_frame (canon_request request))
-decoded number (Refused refusal) = refuses (line_of number refusal)
+decoded number (Refused refusal) = refuses (refusal_line number refusal)
 decoded number Reset = printed reset_frame
 
 -- `replay`: a line with the items of the request, the row weight and the tree weight
@@ -51,7 +51,7 @@ replay_line number id items rows tree = batch_head number (signed_decimal id) ++
 
 abbrev pub replayed : ℕ → Taken → ReplyText
 replayed number (Accepted id request rows tree) = printed (replay_line number id (length (telemetry request)) rows tree)
-replayed number (Refused refusal) = refuses (line_of number refusal)
+replayed number (Refused refusal) = refuses (refusal_line number refusal)
 replayed number Reset = printed (reset_line number)
 
 -- `status`: the status of a batch. The codes are those of gRPC: ABORTED, RESOURCE_EXHAUSTED and INVALID_ARGUMENT
@@ -78,7 +78,7 @@ fine_status id = record { id = id; code = pos 0; message = [] }
 
 abbrev pub statused : ℕ → Taken → ReplyText
 statused number (Accepted id request rows tree) = printed (message_frame (canon_status (fine_status id)))
-statused number (Refused refusal) = record { out = message_frame (canon_status (refusal_status refusal)); err = line_of number refusal; refused = true }
+statused number (Refused refusal) = record { out = message_frame (canon_status (refusal_status refusal)); err = refusal_line number refusal; refused = true }
 statused number Reset = printed reset_frame
 
 -- the text of what is returned for an outcome

@@ -16,22 +16,22 @@ use Rattle.otap_gateway.specs.Rows.{table_text}
 abbrev pub rows_line : PayloadIn → ℕ → List ℕ
 rows_line payload rows = payload_head payload ++ codes " rows " ++ decimal rows ++ line_feed
 
-abbrev pub payload_text : PayloadIn → Table → List ℕ
-payload_text payload table = rows_line payload (length table.rows) ++ table_text table
+abbrev pub payload_rows_text : PayloadIn → Table → List ℕ
+payload_rows_text payload table = rows_line payload (length table.rows) ++ table_text table
 
 -- payloads and their tables, in order
 abbrev pub payloads_text : List PayloadIn → List Table → List ℕ
-payloads_text (payload ∷ payloads) (table ∷ tables) = payload_text payload table ++ payloads_text payloads tables
+payloads_text (payload ∷ payloads) (table ∷ tables) = payload_rows_text payload table ++ payloads_text payloads tables
 payloads_text _ _ = []
 
 abbrev pub batch_text : ℕ → BatchContent → List Table → List ℕ
 batch_text number batch tables = head_line number batch.id ++ payloads_text batch.payloads tables
 
 -- the reply to a frame that gave this
-abbrev pub shown : ℕ → Outcome → ReplyText
-shown number (Accepted batch tables) = printed (batch_text number batch tables)
-shown number (Refused refusal) = refuses (refused_line number refusal.id refusal.stage (cause_name refusal.cause) refusal.payload)
-shown number Reset = printed (reset_line number)
+abbrev pub show_reply : ℕ → Outcome → ReplyText
+show_reply number (Accepted batch tables) = printed (batch_text number batch tables)
+show_reply number (Refused refusal) = refuses (refused_line number refusal.id refusal.stage (cause_name refusal.cause) refusal.payload)
+show_reply number Reset = printed (reset_line number)
 
 -- What `show` replies to a frame after these: that of what the frame gives after what they gave.
 pub record ShowsFrame (signal : Signal) (frames : List Frame) (frame : Frame) (reply : ReplyText) : Type 0 where
@@ -39,4 +39,4 @@ pub record ShowsFrame (signal : Signal) (frames : List Frame) (frame : Frame) (r
   pub before : Outcomes signal frames outcomes
   pub outcome : Outcome
   pub gives : OutcomeAfter signal outcomes frame outcome
-  pub text : reply ≡ shown (length frames) outcome
+  pub text : reply ≡ show_reply (length frames) outcome

@@ -7,7 +7,7 @@ ghost use Rattle.otap_consume.specs.Segments.{SegmentIn};
 ghost use Rattle.otlp_model.specs.declared.request.Signal.{Signal};
 ghost use Rattle.otlp_model.specs.declared.request.Signal.TheVariants as signals;
 ghost use Rattle.otap_gateway.specs.Lines.{refuses};
-ghost use Rattle.otap_gateway.specs.Receptions.{line_of, meaning_of};
+ghost use Rattle.otap_gateway.specs.Receptions.{refusal_line, meaning_of};
 
 use crate::causes::cause_name;
 use crate::lines::refused_line;
@@ -57,7 +57,7 @@ impl Serves for MetricTelemetry {
 
 /// The reply to a frame that is refused.
 pub(crate) fn refused(alloc: Global, number: u64, refusal: Refusal) -> Result<Reply, AllocError>
-    ensures { IfOk result (λ reply. reply ≡ refuses (line_of number refusal)) }
+    ensures { IfOk result (λ reply. reply ≡ refuses (refusal_line number refusal)) }
 {
     let payload = refusal.payload.map(i64::from);
     let cause = cause_name(refusal.cause)?;

@@ -10,7 +10,7 @@ ghost use Rattle.otap_gateway.specs.declared.command.Command.TheVariants as comm
 ghost use Rattle.otlp_model.specs.declared.request.Signal.{Signal};
 ghost use Rattle.otap_gateway.specs.Commands.{ReplyOf};
 ghost use Rattle.otap_gateway.specs.Lines.{batch_head, or_dash, line_feed};
-ghost use Rattle.otap_gateway.specs.Receptions.{decoded, statused, replayed, as_taken, meaning_of, line_of, refusal_status};
+ghost use Rattle.otap_gateway.specs.Receptions.{decoded, statused, replayed, as_taken, meaning_of, refusal_line, refusal_status};
 ghost use Rattle.otap_gateway.specs.Reply.{ReplyText};
 ghost use Rattle.otap_gateway.specs.Texts.{HaveTexts};
 ghost use Rattle.otap_gateway.specs.Told.{told};
@@ -51,5 +51,5 @@ pub fn captures_have_texts()
 /// The message of a refused batch's status is what the line of the refusal says from its stage on.
 pub fn status_says_the_line()
     ensures { (number : ℕ) (refusal : Refusal)
-        → line_of number refusal ≡ batch_head number (or_dash refusal.id) ++ (codes " refused: " ++ ((refusal_status refusal).message ++ line_feed)) }
+        → refusal_line number refusal ≡ batch_head number (or_dash refusal.id) ++ (codes " refused: " ++ ((refusal_status refusal).message ++ line_feed)) }
 {}

@@ -6,7 +6,7 @@ ghost use Rattle.otap_cells.specs.Sets.{tables_in};
 ghost use Rattle.otap_consume.specs.Outcomes.{Outcome, Outcomes, Refused};
 ghost use Rattle.otap_consume.specs.Segments.{IsNew, IsTaken, StandsFor, TakesIf};
 ghost use Rattle.otap_gateway.specs.declared.command.Command.TheVariants as command;
-ghost use Rattle.otap_gateway.specs.Showing.{rows_line, payload_text, batch_text, shown};
+ghost use Rattle.otap_gateway.specs.Showing.{rows_line, payload_rows_text, batch_text, show_reply};
 ghost use Rattle.otap_gateway.specs.ShowingSeen.{ShowsSeen, ShowsTaken};
 
 use crate::causes::cause_name;
@@ -112,7 +112,7 @@ fn push_payload<R: Rows>(
     payload: &Payload<'_>,
     rows: &R,
 ) -> Result<(), AllocError>
-    ensures { OnOk result (out.new.items ≡ out.old.items ++ payload_text (content_of payload.now) (R.table rows.now)) }
+    ensures { OnOk result (out.new.items ≡ out.old.items ++ payload_rows_text (content_of payload.now) (R.table rows.now)) }
 {
     push_rows_line(out, payload, rows.rows())?;
     push_rows(out, rows)
@@ -129,7 +129,7 @@ fn push_rows_line(out: &mut Vec<u8>, payload: &Payload<'_>, rows: u64) -> Result
 }
 
 fn refused(alloc: Global, number: u64, refusal: Refusal) -> Result<Reply, AllocError>
-    ensures { IfOk result (λ reply. reply ≡ shown number (Refused refusal)) }
+    ensures { IfOk result (λ reply. reply ≡ show_reply number (Refused refusal)) }
 {
     let payload = refusal.payload.map(i64::from);
     let cause = cause_name(refusal.cause)?;
