@@ -5,8 +5,7 @@ use Rattle.otlp_model.specs.declared.value.Pair.{Pair}
 use Rattle.otlp_model.specs.Weight.{total, weight_of_pair, weight_of_value}
 use Rattle.std.proofs.Common.{map, drop}
 use Rattle.std.proofs.Math.ListN.{get_or-map}
-use Rattle.otap_cells.specs.Cells.{Cell, null, bytes_in}
-use Rattle.otap_cells.specs.Continuing.{cell_at}
+use Rattle.otap_cells.specs.Cells.{Cell, null, bytes_in, cell_at}
 use Rattle.otap_cells.specs.Tables.{cell_in}
 use Rattle.otap_attrs.specs.Values.{pair_in, value_in}
 

@@ -9,9 +9,8 @@ use Rattle.otlp_model.specs.declared.value.Pair.{Pair}
 use Rattle.otlp_model.specs.Weight.{weight_of_value}
 use Rattle.cbor_values.specs.Values.{value_of}
 use Rattle.cbor_values.specs.Written.{cbor_of}
-use Rattle.otap_cells.specs.Cells.{Cell, null, bytes, bytes_in}
+use Rattle.otap_cells.specs.Cells.{Cell, null, bytes, bytes_in, cell_at}
 use Rattle.otap_cells.specs.Scalars.{text_cell, int_cell, bits_cell, flag_cell, int_in, bits_in, flag_in}
-use Rattle.otap_cells.specs.Continuing.{cell_at}
 use Rattle.otap_attrs.specs.Values.{nested_in, nested_of, type_in, value_cells, value_in, value_row}
 
 pub cells_of_empty : value_cells values.Empty ≡ null ∷ null ∷ null ∷ null ∷ null ∷ null ∷ null ∷ []

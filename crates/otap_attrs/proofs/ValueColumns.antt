@@ -7,10 +7,9 @@ use Rattle.otap_cells.specs.declared.payload.Kind.{Kind}
 use Rattle.otap_cells.specs.declared.payload.Kind.TheVariants as table
 use Rattle.otap_cells.specs.declared.profile.Base.{Base}
 use Rattle.otap_cells.specs.declared.profile.Base.TheVariants as base
-use Rattle.otap_cells.specs.Cells.{Cell, null}
+use Rattle.otap_cells.specs.Cells.{Cell, null, cell_at}
 use Rattle.otap_cells.specs.Scalars.{is_unsigned}
 use Rattle.otap_cells.specs.Columns.{ColumnSpec, plain, columns_of, base_at, width_of, attrs, deep_attrs, metrics, number_points, summary_points, hist_points, exemplars, logs, spans, span_events, span_links}
-use Rattle.otap_cells.specs.Continuing.{cell_at}
 use Rattle.otap_attrs.specs.Values.{HasValueAt, value_bases}
 
 -- all columns of a value are there

@@ -13,10 +13,9 @@ use Rattle.cbor_values.specs.Weighing.{nesting_of}
 use Rattle.otap_cells.specs.declared.payload.Kind.{Kind}
 use Rattle.otap_cells.specs.declared.profile.Base.{Base}
 use Rattle.otap_cells.specs.declared.profile.Base.TheVariants as base
-use Rattle.otap_cells.specs.Cells.{Cell, null, number, bytes, bytes_in, nat_in, IsCellOf}
+use Rattle.otap_cells.specs.Cells.{Cell, null, number, bytes, bytes_in, nat_in, IsCellOf, cell_at}
 use Rattle.otap_cells.specs.Scalars.{text_cell, int_cell, bits_cell, flag_cell, int_in, bits_in, flag_in}
 use Rattle.otap_cells.specs.Columns.{ColumnSpec, columns_of}
-use Rattle.otap_cells.specs.Continuing.{cell_at}
 use Rattle.otap_attrs.specs.declared.refusal.RowRefusal.{RowRefusal}
 use Rattle.otap_attrs.specs.declared.refusal.RowRefusal.TheVariants as row
 

@@ -16,7 +16,7 @@ use crate::reading::Pairs;
 use crate::refusal::RowRefusal;
 use crate::values::check_value;
 use otap_cells::{Kind, Rows, read_ids};
-use otap_groups::{Children, ChildEntry, RowReader};
+use otap_groups::{ChildEntry, Children, RowReader};
 use otlp_model::{Items, Pair, add_capped};
 use std::alloc::{AllocError, Global};
 use std::marker::Model;

@@ -2,8 +2,8 @@
 use Rattle.std.proofs.Common.{◌≡◌, ℕ, zero, suc, ◌+◌, ◌-◌, ◌<◌, ◌≤◌, Bool, false, List, [], ◌∷◌, ◌++◌, Option, Some, None, map, drop, take, length, refl, sym, ap, ◌∙◌, arith}
 use Rattle.std.proofs.lemmas.List.{take_all, take_more}
 use Rattle.std.specs.List.{slice_index_or}
-use Rattle.otap_cells.specs.Cells.{Cell, null}
-use Rattle.otap_cells.specs.Continuing.{cell_at, continues_after, continues_of}
+use Rattle.otap_cells.specs.Cells.{Cell, null, cell_at}
+use Rattle.otap_cells.specs.Continuing.{continues_after, continues_of}
 
 -- cells after the first one, and after two
 pub after_one : (cells : List Cell) (k : ℕ) → cell_at (drop 1 cells) k ≡ slice_index_or cells (suc k) null

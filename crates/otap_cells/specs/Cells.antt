@@ -1,6 +1,7 @@
 -- Cells: what stands in one row of one column.
 use Rattle.std.specs.Prelude.{◌≡◌, ℕ, ◌^◌, ◌%◌, ◌<◌, ℤ, pos, Bool, List, [], length, FitsSigned}
 use Rattle.std.specs.Int.{w32, w64, FitsUnsignedBits}
+use Rattle.std.specs.List.{slice_index_or}
 use Rattle.std.specs.Str.{IsUtf8}
 use Rattle.otap_cells.specs.declared.profile.Base.{Base}
 use Rattle.otap_cells.specs.declared.profile.Base.TheVariants as base
@@ -35,6 +36,10 @@ bytes_in (bytes part) = part
 abbrev pub nat_in : Cell → ℕ
 nat_in (number (pos n)) = n
 nat_in _ = 0
+
+-- a cell of a row, null where there is none
+abbrev pub cell_at : List Cell → ℕ → Cell
+cell_at cells place = slice_index_or cells place null
 
 -- the numbers that a base holds
 abbrev pub IsNumberOf : Base → ℤ → Type 0

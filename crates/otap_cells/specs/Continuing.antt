@@ -1,12 +1,11 @@
 -- Which rows continue the run of the row before them.
 use Rattle.std.specs.Prelude.{ℕ, ℤ, pos, Bool, true, false, ◌==◌, ◌&&◌, ◌||◌, if◌then◌else◌, List, [], ◌∷◌, Option, None, Some, map, drop}
-use Rattle.std.specs.List.{slice_index_or}
 use Rattle.std.specs.Ordering.{int_eq}
 use Rattle.std.specs.Str.{bytes_eq}
 use Rattle.otap_cells.specs.declared.payload.Kind.{Kind}
 use Rattle.otap_cells.specs.declared.payload.Kind.TheVariants as table
 use Rattle.otap_cells.specs.declared.continuing.Attribute.{Attribute}
-use Rattle.otap_cells.specs.Cells.{Cell, null, bytes_in, nat_in}
+use Rattle.otap_cells.specs.Cells.{Cell, bytes_in, cell_at, nat_in}
 use Rattle.otap_cells.specs.Scalars.{int_in, bits_in, flag_in}
 use Rattle.otap_cells.specs.Payload.{is_kind}
 use Rattle.otap_cells.specs.Tables.{Table}
@@ -35,10 +34,6 @@ pub record AttributeIn : Type 0 where
   pub int : ℤ
   pub bits : ℕ
   pub bytes : List ℕ
-
--- a cell of a row, null where there is none
-abbrev pub cell_at : List Cell → ℕ → Cell
-cell_at cells place = slice_index_or cells place null
 
 -- an integer; the bits of a double, or 1 for `true`; the bytes of a text, of bytes, or of a nested value
 abbrev pub int_of : ℕ → List Cell → ℤ

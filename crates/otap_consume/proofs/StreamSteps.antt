@@ -15,7 +15,7 @@ use Rattle.otap_columns.specs.Records as records
 use Rattle.otap_columns.specs.Streams.{opens_after, opens, last_of, stream_of}
 use Rattle.otap_columns.specs.Views as views
 use Rattle.otap_columns.specs.Views.{ReaderIn, StandsFor, StandsAt, Shows}
-use Rattle.otap_consume.specs.Defects.{is_id}
+use Rattle.otap_consume.specs.Defects.{is_open_id}
 use Rattle.otap_consume.specs.Payloads.{type_of, messages_before}
 use Rattle.otap_consume.specs.Streams.{OpenIn, StreamIn, IsOpenAfter, IsAfter, Takes, DoesNotTake, RefusesFor, id_if, id_of}
 use Rattle.otap_columns.proofs.Openings.{stream_of-other, stream_of-own}
@@ -79,7 +79,7 @@ pub record Begins (past : List PayloadIn) (p : PayloadIn) (kind : Kind) : Type 0
   pub before : messages_before past p ≡ []
   pub after : stream_of (type_of kind) (past ++ p ∷ []) ≡ front_of p.bytes
 
-beginning : (past : List PayloadIn) (p : PayloadIn) (kind : Kind) (current : Option OpenIn) → int_eq p.kind (type_of kind) ≡ true → is_id p.schema_id (id_if current) ≡ false
+beginning : (past : List PayloadIn) (p : PayloadIn) (kind : Kind) (current : Option OpenIn) → int_eq p.kind (type_of kind) ≡ true → is_open_id p.schema_id (id_if current) ≡ false
     → (last : Option PayloadIn) → last_of (type_of kind) past ≡ last → IsOpenAfter past kind last current → Begins past p kind
 beginning past p kind None own other None is h =
     let opens : opens_after (last_of (type_of kind) past) p ≡ true = rw is refl in
@@ -100,10 +100,10 @@ read_to past p kind id reader own same stands shows = record {
 }
 
 pub goes_on : (s : StreamIn) (current : OpenIn) (p : PayloadIn) (kind : Kind) (id : List ℕ) (reader : ReaderIn) → s.kind ≡ kind → s.current ≡ Some current → id ≡ current.schema_id
-    → current.reader.kind ≡ s.kind → int_eq p.kind (type_of s.kind) ≡ true → is_id p.schema_id (id_of s) ≡ true → views.Takes current.reader p.bytes reader → Shows reader p.bytes
+    → current.reader.kind ≡ s.kind → int_eq p.kind (type_of s.kind) ≡ true → is_open_id p.schema_id (id_of s) ≡ true → views.Takes current.reader p.bytes reader → Shows reader p.bytes
     → Takes s p (record { kind = kind; current = Some (record { schema_id = id; reader = reader }) })
 goes_on s current p kind id reader kept there same of own has takes shows =
-    let named : bytes_eq current.schema_id p.schema_id ≡ true = subst (λ (o : Option OpenIn). is_id p.schema_id (id_if o) ≡ true) there has in
+    let named : bytes_eq current.schema_id p.schema_id ≡ true = subst (λ (o : Option OpenIn). is_open_id p.schema_id (id_if o) ≡ true) there has in
     let is_open : (past : List PayloadIn) → IsAfter past s → IsOpenAfter past s.kind (last_of (type_of s.kind) past) (Some current)
     = λ past is. subst (λ (o : Option OpenIn). IsOpenAfter past s.kind (last_of (type_of s.kind) past) o) there is.current in
     subst (λ (k : Kind). Takes s p (record { kind = k; current = Some (record { schema_id = id; reader = reader }) })) kept
@@ -122,7 +122,7 @@ goes_on s current p kind id reader kept there same of own has takes shows =
     })
 
 pub begins : (s : StreamIn) (p : PayloadIn) (kind : Kind) (id : List ℕ) (reader : ReaderIn) → s.kind ≡ kind → id ≡ p.schema_id → int_eq p.kind (type_of s.kind) ≡ true
-    → is_id p.schema_id (id_of s) ≡ false → records.IsRead kind [] p.bytes → StandsAt (front_of p.bytes) p.bytes reader → Shows reader p.bytes
+    → is_open_id p.schema_id (id_of s) ≡ false → records.IsRead kind [] p.bytes → StandsAt (front_of p.bytes) p.bytes reader → Shows reader p.bytes
     → Takes s p (record { kind = kind; current = Some (record { schema_id = id; reader = reader }) })
 begins s p kind id reader kept same own new read stands shows =
     let opening : (past : List PayloadIn) → IsAfter past s → Begins past p s.kind = λ past is. beginning past p s.kind s.current own new (last_of (type_of s.kind) past) refl is.current in
@@ -149,10 +149,10 @@ refuses_for past kind p refusal.DictionarySize own h = (own, h)
 refuses_for past kind p (refusal.Memory e) own h = tt
 
 pub goes_on_not : (s : StreamIn) (current : OpenIn) (p : PayloadIn) (why : ColumnRefusal) → s.current ≡ Some current → current.reader.kind ≡ s.kind
-    → int_eq p.kind (type_of s.kind) ≡ true → is_id p.schema_id (id_of s) ≡ true
+    → int_eq p.kind (type_of s.kind) ≡ true → is_open_id p.schema_id (id_of s) ≡ true
     → ((past : List IpcMessage) → StandsFor past current.reader → records.Refuses current.reader.kind past p.bytes why) → DoesNotTake s p why
 goes_on_not s current p why there of own has refuses past is =
-    let named : bytes_eq current.schema_id p.schema_id ≡ true = subst (λ (o : Option OpenIn). is_id p.schema_id (id_if o) ≡ true) there has in
+    let named : bytes_eq current.schema_id p.schema_id ≡ true = subst (λ (o : Option OpenIn). is_open_id p.schema_id (id_if o) ≡ true) there has in
     let is_open : IsOpenAfter past s.kind (last_of (type_of s.kind) past) (Some current)
     = subst (λ (o : Option OpenIn). IsOpenAfter past s.kind (last_of (type_of s.kind) past) o) there is.current in
     let on : GoesOn past p s.kind current = going past p s.kind current own named (last_of (type_of s.kind) past) refl is_open in
@@ -161,7 +161,7 @@ goes_on_not s current p why there of own has refuses past is =
     (subst (λ (ms : List IpcMessage). records.Refuses current.reader.kind ms p.bytes why) (sym on.before) (refuses (stream_of (type_of s.kind) past) on.stands)))
 
 pub begins_not : (s : StreamIn) (p : PayloadIn) (why : ColumnRefusal) (kind : Kind) → s.kind ≡ kind → int_eq p.kind (type_of s.kind) ≡ true
-    → is_id p.schema_id (id_of s) ≡ false → records.Refuses kind [] p.bytes why → DoesNotTake s p why
+    → is_open_id p.schema_id (id_of s) ≡ false → records.Refuses kind [] p.bytes why → DoesNotTake s p why
 begins_not s p why kind kept own new refuses past is =
     refuses_for past s.kind p why own
     (subst (λ (ms : List IpcMessage). records.Refuses s.kind ms p.bytes why) (sym (beginning past p s.kind s.current own new (last_of (type_of s.kind) past) refl is.current).before)

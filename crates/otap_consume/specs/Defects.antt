@@ -25,12 +25,12 @@ use Rattle.otap_consume.specs.PayloadTypes.{HasPayload, StandsInTypes, HasFineTy
 -- ---- the list of payloads
 
 -- the schema id of a payload is open for another type of the signal's; openings before it in its own batch count
-abbrev pub is_id : List ℕ → Option (List ℕ) → Bool
-is_id id None = false
-is_id id (Some current) = bytes_eq current id
+abbrev pub is_open_id : List ℕ → Option (List ℕ) → Bool
+is_open_id id None = false
+is_open_id id (Some current) = bytes_eq current id
 
 abbrev pub is_open_for : List PayloadIn → PayloadIn → Kind → Bool
-is_open_for before p kind = not (int_eq p.kind (type_of kind)) && is_id p.schema_id (open_id (type_of kind) before)
+is_open_for before p kind = not (int_eq p.kind (type_of kind)) && is_open_id p.schema_id (open_id (type_of kind) before)
 
 abbrev pub is_taken : Signal → List PayloadIn → PayloadIn → Bool
 is_taken signal before p = list_any (is_open_for before p) (kinds_of signal)

@@ -7,7 +7,7 @@ use Rattle.otlp_model.specs.declared.request.Signal.{Signal}
 use Rattle.otap_cells.specs.declared.payload.Kind.{Kind}
 use Rattle.otap_cells.specs.Payload.{kinds_of}
 use Rattle.otap_columns.specs.Streams.{open_id}
-use Rattle.otap_consume.specs.Defects.{is_id}
+use Rattle.otap_consume.specs.Defects.{is_open_id}
 use Rattle.otap_consume.specs.Payloads.{type_of}
 use Rattle.otap_consume.specs.Streams.{StreamIn, id_of}
 
@@ -24,7 +24,7 @@ ids_after signal payloads = map (λ kind. record { kind = kind; id = open_id (ty
 
 -- one of another type is that of the payload
 abbrev pub is_other : PayloadIn → OpenIdIn → Bool
-is_other p x = not (int_eq p.kind (type_of x.kind)) && is_id p.schema_id x.id
+is_other p x = not (int_eq p.kind (type_of x.kind)) && is_open_id p.schema_id x.id
 
 abbrev pub has_other : PayloadIn → List OpenIdIn → Bool
 has_other p ids = list_any (is_other p) ids

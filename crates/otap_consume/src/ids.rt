@@ -2,7 +2,7 @@
 ghost use Rattle.std.specs.Prelude.{◌≡◌, List, IfOk, IfErr, OnOk, map, false};
 ghost use Rattle.otlp_model.specs.declared.request.Signal.{Signal};
 ghost use Rattle.otap_capture.specs.Batch.{content_of};
-ghost use Rattle.otap_consume.specs.Defects.{StandsInList, is_id, is_taken};
+ghost use Rattle.otap_consume.specs.Defects.{StandsInList, is_open_id, is_taken};
 ghost use Rattle.lists.specs.EachAfter.{AllAfter};
 ghost use Rattle.lists.specs.Payloads.{PayloadIn};
 ghost use Rattle.otap_consume.specs.Ids.{ids_of, ids_after, has_other, is_other, opened};
@@ -46,7 +46,7 @@ struct OpenId<'s, 'b> {
 
 impl<'s, 'b> OpenId<'s, 'b> {
     fn is(&self, schema_id: &str) -> bool
-        ensures { result ≡ is_id schema_id.now (open_id_in self.now).id }
+        ensures { result ≡ is_open_id schema_id.now (open_id_in self.now).id }
     {
         match self.here {
             Some(id) => id == schema_id,

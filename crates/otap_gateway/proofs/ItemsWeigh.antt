@@ -5,7 +5,7 @@ use Rattle.std.specs.List.{flat_map}
 use Rattle.std.proofs.Math.Nat.{min-eq_left}
 use Rattle.std.proofs.lemmas.List.{length-append, length-map}
 use Rattle.otlp_model.specs.Limits.{weight_limit}
-use Rattle.otlp_model.specs.Telemetry.{entry, entries_of, entries_of_group, entries_of_scope_group, telemetry, told, span, log_record, metric}
+use Rattle.otlp_model.specs.Telemetry.{entry, entries_of, entries_of_group, entries_of_scope_group, telemetry, told_as, span, log_record, metric}
 use Rattle.otlp_model.specs.Weight.{total, weight_of, weight_of_scope_group, weight_of_resource_group, weight_of_span, weight_of_log_record, weight_of_metric}
 use Rattle.otlp_model.specs.declared.groups.Resource.{Resource}
 use Rattle.otlp_model.specs.declared.groups.ResourceGroup.{ResourceGroup}
@@ -39,9 +39,9 @@ module _ {I : Type 0} (weigh : I → ℕ) where
       omega (arith, size, here, rest)
 
 few_items : (request : Request) → length (telemetry request) ≤ weight_of request
-few_items (Traces groups) = let same = length-map (entries_of groups) (told span) in let few = few_in_groups weight_of_span groups in omega (arith, same, few)
-few_items (Logs groups) = let same = length-map (entries_of groups) (told log_record) in let few = few_in_groups weight_of_log_record groups in omega (arith, same, few)
-few_items (Metrics groups) = let same = length-map (entries_of groups) (told metric) in let few = few_in_groups weight_of_metric groups in omega (arith, same, few)
+few_items (Traces groups) = let same = length-map (entries_of groups) (told_as span) in let few = few_in_groups weight_of_span groups in omega (arith, same, few)
+few_items (Logs groups) = let same = length-map (entries_of groups) (told_as log_record) in let few = few_in_groups weight_of_log_record groups in omega (arith, same, few)
+few_items (Metrics groups) = let same = length-map (entries_of groups) (told_as metric) in let few = few_in_groups weight_of_metric groups in omega (arith, same, few)
 
 pub items_counted : (request : Request) → weight_of request ≤ weight_limit → min (length (telemetry request)) (2 ^ 63) ≡ length (telemetry request)
 items_counted request light = let few = few_items request in min-eq_left (omega (arith, few, light))

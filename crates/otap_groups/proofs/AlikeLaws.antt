@@ -4,7 +4,7 @@ use Rattle.std.specs.Prelude.{filter}
 use Rattle.std.specs.List.{AllZip, flat_map}
 use Rattle.lists.proofs.Zipped.{zipped_append}
 use Rattle.otlp_model.specs.Same.{SameEntry, SameItem, SameOften, SameResource, SameScope}
-use Rattle.otlp_model.specs.Telemetry.{ItemEntry, Item, entries_of, entries_of_scope_group, entry, told}
+use Rattle.otlp_model.specs.Telemetry.{ItemEntry, Item, entries_of, entries_of_scope_group, entry, told_as}
 use Rattle.otlp_model.specs.declared.value.Pair.{Pair}
 use Rattle.otlp_model.specs.declared.groups.Resource.{Resource}
 use Rattle.otlp_model.specs.declared.groups.Scope.{Scope}
@@ -62,7 +62,7 @@ module _ {I : Type 0} (SameOne : I → I → Type 0) (d d' e e' : Option ℕ →
 
 -- entries that are alike tell the same
 pub alike_told : {I : Type 0} (SameOne : I → I → Type 0) (kind : I → Item) → ((a b : I) → SameOne a b → SameItem (kind a) (kind b)) → (xs ys : List (ItemEntry I))
-    → AllZip (SameEntry SameOne) xs ys → AllZip (SameEntry SameItem) (map (told kind) xs) (map (told kind) ys)
+    → AllZip (SameEntry SameOne) xs ys → AllZip (SameEntry SameItem) (map (told_as kind) xs) (map (told_as kind) ys)
 alike_told SameOne kind same [] [] alike = tt
 alike_told SameOne kind same [] (y ∷ ys) alike = absurd alike
 alike_told SameOne kind same (x ∷ xs) [] alike = absurd alike

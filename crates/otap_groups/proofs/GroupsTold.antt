@@ -1,7 +1,7 @@
 -- The groups of rows tell the same, in whatever order the pairs of a parent are found.
 use Rattle.std.proofs.Common.{ℕ, List, Option, map, subst}
 use Rattle.otlp_model.specs.Same.{SameItem, SameOften, SameTelemetry}
-use Rattle.otlp_model.specs.Telemetry.{Item, entries_of, groups_with_items, told}
+use Rattle.otlp_model.specs.Telemetry.{Item, entries_of, groups_with_items, told_as}
 use Rattle.otlp_model.specs.declared.groups.Resource.{Resource}
 use Rattle.otlp_model.specs.declared.groups.Scope.{Scope}
 use Rattle.otlp_model.specs.declared.groups.ResourceGroup.{ResourceGroup}
@@ -20,10 +20,10 @@ pub groups_told : {I : Type 0} (kind : I → Item) (cells_of : I → List Cell) 
     → Agree scopes 0 (map (λ (scope : Scope). scope.pairs) (scopes_of groups))
     → ((id : Option ℕ) → SameOften (resources id) (found_resources id)) → ((id : Option ℕ) → SameOften (scopes id) (found_scopes id))
     → ((id : Option ℕ) (cells : List Cell) → SameItem (kind (item id cells)) (kind (found_item id cells)))
-    → SameTelemetry (map (told kind) (entries_of (groups_with_items groups)))
-    (map (told kind) (entries_of (regrouped found_resources found_scopes found_item (numbered_rows cells_of 0 (flat groups)))))
+    → SameTelemetry (map (told_as kind) (entries_of (groups_with_items groups)))
+    (map (told_as kind) (entries_of (regrouped found_resources found_scopes found_item (numbered_rows cells_of 0 (flat groups)))))
 groups_told {I} kind cells_of d d' e e' item item' groups reads of_resources of_scopes resources scopes items =
-    subst (λ (gs : List (ResourceGroup I)). SameTelemetry (map (told kind) (entries_of gs)) (map (told kind) (entries_of (regrouped d' e' item' (numbered_rows cells_of 0 (flat groups))))))
+    subst (λ (gs : List (ResourceGroup I)). SameTelemetry (map (told_as kind) (entries_of gs)) (map (told_as kind) (entries_of (regrouped d' e' item' (numbered_rows cells_of 0 (flat groups))))))
     (groups_back cells_of d e item groups reads of_resources of_scopes)
     (alike_told (λ a b. SameItem (kind a) (kind b)) kind (λ a b same. same) _ _
     (alike_regrouped (λ a b. SameItem (kind a) (kind b)) d d' e e' item item' resources scopes items (numbered_rows cells_of 0 (flat groups))))

@@ -5,8 +5,8 @@ use Rattle.otlp_model.specs.declared.groups.Resource.{Resource}
 use Rattle.otlp_model.specs.declared.groups.Scope.{Scope}
 use Rattle.otlp_model.specs.declared.groups.ScopeGroup.{ScopeGroup}
 use Rattle.otlp_model.specs.declared.groups.ResourceGroup.{ResourceGroup}
-use Rattle.otap_cells.specs.Cells.{Cell, null, bytes_in, nat_in}
-use Rattle.otap_groups.specs.Rows.{MainRow, cell_at, same_resource, same_scope}
+use Rattle.otap_cells.specs.Cells.{Cell, null, bytes_in, nat_in, cell_at}
+use Rattle.otap_groups.specs.Rows.{MainRow, same_resource, same_scope}
 use Rattle.otap_groups.specs.Runs.{runs}
 
 -- the resource that cells of `resource` and pairs make; null reads as the default

@@ -2,7 +2,7 @@
 use Rattle.std.specs.Prelude.{ℕ, Bool, true, false, not, ◌==◌, ◌&&◌, bytes_eq, List, [], ◌∷◌, Option, None, Some, length, map, drop}
 use Rattle.std.specs.List.{slice_index_or, range_with_len}
 use Rattle.std.specs.Ordering.{int_eq}
-use Rattle.otap_cells.specs.Cells.{Cell, null, number, bits, flag, bytes}
+use Rattle.otap_cells.specs.Cells.{Cell, null, number, bits, flag, bytes, cell_at}
 
 -- a row of a main table; `own` are the cells of its item
 pub record MainRow : Type 0 where
@@ -21,10 +21,6 @@ pub record ChildRow : Type 0 where
   pub cells : List Cell
 
 -- ---- the rows of a table's cells
-
--- a cell of a row, null where there is none
-abbrev pub cell_at : List Cell → ℕ → Cell
-cell_at row column = slice_index_or row column null
 
 -- the row of a main table that has these ids and cells
 abbrev pub main_row : Option ℕ → Option ℕ → Option ℕ → List Cell → MainRow

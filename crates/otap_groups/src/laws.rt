@@ -2,7 +2,7 @@
 ghost use Rattle.std.specs.Prelude.{◌≡◌, ◌+◌, ◌≤◌, ◌^◌, ℕ, true, List, Option, length, map, sum_by, IsPermutation};
 ghost use Rattle.std.specs.List.{flat_map};
 ghost use Rattle.otlp_model.specs.Same.{SameItem, SameOften, SameTelemetry};
-ghost use Rattle.otlp_model.specs.Telemetry.{Item, entries_of, groups_with_items, told};
+ghost use Rattle.otlp_model.specs.Telemetry.{Item, entries_of, groups_with_items, told_as};
 ghost use Rattle.otlp_model.specs.declared.value.Pair.{Pair};
 ghost use Rattle.otlp_model.specs.declared.groups.Resource.{Resource};
 ghost use Rattle.otlp_model.specs.declared.groups.Scope.{Scope};
@@ -40,8 +40,8 @@ pub fn groups_tell_the_same<I>()
         → Agree scopes 0 (map (λ (scope : Scope). scope.pairs) (scopes_of groups))
         → ((id : Option ℕ) → SameOften (resources id) (found_resources id)) → ((id : Option ℕ) → SameOften (scopes id) (found_scopes id))
         → ((id : Option ℕ) (cells : List Cell) → SameItem (kind (item id cells)) (kind (found_item id cells)))
-        → SameTelemetry (map (told kind) (entries_of (groups_with_items groups)))
-        (map (told kind) (entries_of (regrouped found_resources found_scopes found_item (numbered_rows cells_of 0 (flat groups))))) }
+        → SameTelemetry (map (told_as kind) (entries_of (groups_with_items groups)))
+        (map (told_as kind) (entries_of (regrouped found_resources found_scopes found_item (numbered_rows cells_of 0 (flat groups))))) }
 {}
 
 /// Law: the parts of each parent are found in the rows that are written for them.

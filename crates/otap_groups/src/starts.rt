@@ -47,7 +47,11 @@ fn starts_up_to_last(alloc: Global, entries: &[ChildEntry]) -> Result<Vec<usize>
 }
 
 /// The part of the entries that has this parent, found at its start where that is told.
-pub(crate) fn part_of<'a>(entries: &'a [ChildEntry], starts: &[usize], parent: u32) -> &'a [ChildEntry]
+pub(crate) fn part_of<'a>(
+    entries: &'a [ChildEntry],
+    starts: &[usize],
+    parent: u32,
+) -> &'a [ChildEntry]
     requires rising { IsNonDecreasingBy (λ (e : ChildEntry). e.parent) entries.now }
     requires starts { AreStarts entries.now starts.now }
     ensures { result.now ≡ of_parent parent entries.now }

@@ -19,11 +19,10 @@ use Rattle.otlp_model.specs.declared.metrics.Shape.TheVariants as shapes
 use Rattle.otlp_model.specs.declared.request.Request.TheVariants.{Metrics}
 use Rattle.otap_cells.specs.declared.payload.Kind.{Kind}
 use Rattle.otap_cells.specs.declared.payload.Kind.TheVariants as table
-use Rattle.otap_cells.specs.Cells.{Cell}
+use Rattle.otap_cells.specs.Cells.{Cell, cell_at}
 use Rattle.otap_cells.specs.Tables.{Table}
 use Rattle.otap_cells.proofs.ScalarLaws.{text_back}
 use Rattle.otap_groups.specs.Flat.{items_of, placed}
-use Rattle.otap_groups.specs.Rows.{cell_at}
 use Rattle.otap_groups.specs.Stored.{part_table}
 use Rattle.otap_groups.proofs.RealGroups.{real_groups, real_items}
 use Rattle.otap_groups.proofs.WritableGroups.{all_items_can}

@@ -7,10 +7,9 @@ use Rattle.otlp_model.specs.declared.histograms.HistPoint.{HistPoint}
 use Rattle.otlp_model.specs.declared.histograms.SumPoint.{SumPoint}
 use Rattle.otlp_model.specs.declared.metrics.Exemplar.{Exemplar}
 use Rattle.otlp_model.specs.declared.value.Pair.{Pair}
-use Rattle.otap_cells.specs.Cells.{Cell, null, bytes_in, nat_in}
+use Rattle.otap_cells.specs.Cells.{Cell, null, bytes_in, nat_in, cell_at}
 use Rattle.otap_cells.specs.Scalars.{bits_in}
 use Rattle.otap_cells.specs.Tables.{cell_in}
-use Rattle.otap_groups.specs.Rows.{cell_at}
 use Rattle.otap_metrics.proofs.MetricPlaces.{below_weighs, own_cells}
 use Rattle.otap_hist.specs.Lists.{count_in, list_in, numbers_in}
 use Rattle.otap_hist.specs.Points.{hist_point_of, optional_in, quantiles_of, sum_point_of}

@@ -5,9 +5,8 @@ use Rattle.otlp_model.specs.declared.histograms.Quantile.{Quantile}
 use Rattle.otlp_model.specs.declared.histograms.SumPoint.{SumPoint}
 use Rattle.otlp_model.specs.declared.metrics.Exemplar.{Exemplar}
 use Rattle.otlp_model.specs.declared.value.Pair.{Pair}
-use Rattle.otap_cells.specs.Cells.{Cell, null, bits, nat_in}
+use Rattle.otap_cells.specs.Cells.{Cell, null, bits, nat_in, cell_at}
 use Rattle.otap_cells.specs.Scalars.{number_cell, bits_cell, bits_in}
-use Rattle.otap_groups.specs.Rows.{cell_at}
 use Rattle.otap_hist.specs.Lists.{list_cell, list_in}
 
 -- ---- doubles that may be missing: null is none, and zero is written

@@ -5,10 +5,9 @@ use Rattle.std.proofs.lemmas.List.{get_or-map, get_or-drop, length-map, drop-dro
 use Rattle.otlp_model.specs.Weight.{total, weight_of_log_record, weight_of_pair, weight_of_value}
 use Rattle.otlp_model.specs.declared.value.Pair.{Pair}
 use Rattle.otlp_model.specs.declared.logs.LogRecord.{LogRecord}
-use Rattle.otap_cells.specs.Cells.{Cell, null, bytes_in, nat_in}
+use Rattle.otap_cells.specs.Cells.{Cell, null, bytes_in, nat_in, cell_at}
 use Rattle.otap_cells.specs.Scalars.{int_in, bits_in}
 use Rattle.otap_cells.specs.Tables.{cell_in}
-use Rattle.otap_groups.specs.Rows.{cell_at}
 use Rattle.otap_attrs.specs.Values.{value_in}
 use Rattle.otap_logs.specs.Records.{record_of}
 

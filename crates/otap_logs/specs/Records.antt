@@ -2,9 +2,8 @@
 use Rattle.std.specs.Prelude.{List, [], ◌∷◌, ◌++◌, drop}
 use Rattle.otlp_model.specs.declared.value.Pair.{Pair}
 use Rattle.otlp_model.specs.declared.logs.LogRecord.{LogRecord}
-use Rattle.otap_cells.specs.Cells.{Cell, bytes_in, nat_in}
+use Rattle.otap_cells.specs.Cells.{Cell, bytes_in, nat_in, cell_at}
 use Rattle.otap_cells.specs.Scalars.{text_cell, number_cell, int_cell, bits_cell, int_in, bits_in}
-use Rattle.otap_groups.specs.Rows.{cell_at}
 use Rattle.otap_attrs.specs.Values.{value_cells, value_in}
 
 -- the cells of a record: those after its body, and all

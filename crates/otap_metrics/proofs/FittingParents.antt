@@ -9,13 +9,13 @@ use Rattle.otlp_model.specs.declared.metrics.Shape.{Shape}
 use Rattle.otlp_model.specs.declared.metrics.Shape.TheVariants as shapes
 use Rattle.otap_cells.specs.declared.payload.Kind.{Kind}
 use Rattle.otap_cells.specs.declared.payload.Kind.TheVariants as table
-use Rattle.otap_cells.specs.Cells.{Cell, nat_in}
+use Rattle.otap_cells.specs.Cells.{Cell, nat_in, cell_at}
 use Rattle.otap_cells.proofs.ScalarLaws.{number_back}
 use Rattle.otap_cells.specs.Tables.{Table}
 use Rattle.otap_groups.specs.Children.{numbered}
 use Rattle.otap_groups.specs.Flat.{FlatIn, PlacedIn, flat, items_of, numbered_rows, part_rows, placed, placed_at, placed_from}
 use Rattle.otap_groups.specs.Kinds.{IsPart}
-use Rattle.otap_groups.specs.Rows.{ChildRow, MainRow, cell_at, id_at}
+use Rattle.otap_groups.specs.Rows.{ChildRow, MainRow, id_at}
 use Rattle.otap_groups.specs.Stored.{main_table, part_table, stored_rows}
 use Rattle.otap_groups.proofs.FlatItems.{items_of_flat}
 use Rattle.otap_groups.proofs.PartTables.{parents_of}

@@ -8,10 +8,9 @@ use Rattle.otlp_model.specs.declared.metrics.Metric.{Metric}
 use Rattle.otlp_model.specs.declared.metrics.Point.{Point}
 use Rattle.otlp_model.specs.declared.metrics.Shape.{Shape}
 use Rattle.otlp_model.specs.declared.value.Pair.{Pair}
-use Rattle.otap_cells.specs.Cells.{Cell, null, bytes_in, nat_in}
+use Rattle.otap_cells.specs.Cells.{Cell, null, bytes_in, nat_in, cell_at}
 use Rattle.otap_cells.specs.Scalars.{bits_in, flag_in, int_in}
 use Rattle.otap_cells.specs.Tables.{cell_in}
-use Rattle.otap_groups.specs.Rows.{cell_at}
 use Rattle.otap_metrics.specs.Metrics.{Below, metric_of, shape_of}
 use Rattle.otap_metrics.specs.Numbers.{measured_in}
 use Rattle.otap_metrics.specs.Points.{exemplar_of, point_of}

@@ -19,13 +19,13 @@ use Rattle.otlp_model.specs.declared.metrics.Point.{Point}
 use Rattle.otlp_model.specs.declared.request.Request.TheVariants.{Metrics}
 use Rattle.otlp_model.specs.declared.value.Pair.{Pair}
 use Rattle.otap_cells.specs.declared.payload.Kind.TheVariants as table
-use Rattle.otap_cells.specs.Cells.{Cell, nat_in}
+use Rattle.otap_cells.specs.Cells.{Cell, nat_in, cell_at}
 use Rattle.otap_cells.specs.Scalars.{flag_in, int_in}
 use Rattle.otap_cells.specs.Tables.{Table}
 use Rattle.otap_groups.specs.Children.{Agree, children, numbered}
 use Rattle.otap_groups.specs.Flat.{flat, numbered_rows, part_rows, placed}
 use Rattle.otap_groups.specs.Groups.{regrouped}
-use Rattle.otap_groups.specs.Rows.{ChildRow, cell_at}
+use Rattle.otap_groups.specs.Rows.{ChildRow}
 use Rattle.otap_groups.specs.Stored.{part_table}
 use Rattle.otap_groups.proofs.AlikeLaws.{alike_children}
 use Rattle.otap_groups.proofs.GroupsTold.{groups_told}

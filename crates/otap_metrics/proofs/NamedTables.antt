@@ -2,7 +2,7 @@
 use Rattle.std.proofs.Common.{◌≡◌, ℕ, suc, Bool, true, false, List, [], ◌∷◌, length, map, filter, refl, sym, ◌∙◌, ap}
 use Rattle.std.specs.Prelude.{if◌then◌else◌, nat_lt}
 use Rattle.std.proofs.lemmas.List.{length-map}
-use Rattle.otlp_model.specs.Telemetry.{entries_of, metric, telemetry, told}
+use Rattle.otlp_model.specs.Telemetry.{entries_of, metric, telemetry, told_as}
 use Rattle.otlp_model.specs.declared.groups.ResourceGroup.{ResourceGroup}
 use Rattle.otlp_model.specs.declared.metrics.Metric.{Metric}
 use Rattle.otlp_model.specs.declared.request.Request.TheVariants.{Metrics}
@@ -149,4 +149,4 @@ module _ (groups : List (ResourceGroup Metric)) where
 
   pub rows_for_metrics : length (table_named table.Metrics (tables_of_metrics groups)).rows ≡ length (telemetry (Metrics groups))
   rows_for_metrics =
-      ap (λ (t : Table). length t.rows) named_main ∙ size_of_main ∙ size_of_flat 0 groups ∙ sym (length_entries groups) ∙ sym (length-map (entries_of groups) (told metric))
+      ap (λ (t : Table). length t.rows) named_main ∙ size_of_main ∙ size_of_flat 0 groups ∙ sym (length_entries groups) ∙ sym (length-map (entries_of groups) (told_as metric))

@@ -8,9 +8,8 @@ use Rattle.otlp_model.specs.declared.metrics.Number.TheVariants as numbers
 use Rattle.otlp_model.specs.declared.metrics.Point.{Point}
 use Rattle.otap_cells.specs.declared.payload.Kind.{Kind}
 use Rattle.otap_cells.specs.declared.profile.Coding.{Coding}
-use Rattle.otap_cells.specs.Cells.{Cell}
+use Rattle.otap_cells.specs.Cells.{Cell, cell_at}
 use Rattle.otap_groups.specs.Flat.{PlacedIn, placed}
-use Rattle.otap_groups.specs.Rows.{cell_at}
 use Rattle.otap_groups.specs.Stored.{part_table, stored_parts}
 use Rattle.otap_metrics.specs.Numbers.{IsThere, double_value, int_value}
 use Rattle.otap_metrics.specs.Points.{exemplar_cells, point_cells}

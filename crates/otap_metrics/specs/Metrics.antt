@@ -6,9 +6,8 @@ use Rattle.otlp_model.specs.declared.metrics.Metric.{Metric}
 use Rattle.otlp_model.specs.declared.metrics.Point.{Point}
 use Rattle.otlp_model.specs.declared.metrics.Shape.{Shape}
 use Rattle.otlp_model.specs.declared.metrics.Shape.TheVariants as shapes
-use Rattle.otap_cells.specs.Cells.{Cell, bytes_in, nat_in}
+use Rattle.otap_cells.specs.Cells.{Cell, bytes_in, nat_in, cell_at}
 use Rattle.otap_cells.specs.Scalars.{text_cell, number_cell, int_cell, flag_cell, int_in, flag_in}
-use Rattle.otap_groups.specs.Rows.{cell_at}
 
 -- ---- what a metric is written as
 

@@ -3,9 +3,8 @@ use Rattle.std.specs.Prelude.{List, [], ◌∷◌}
 use Rattle.otlp_model.specs.declared.value.Pair.{Pair}
 use Rattle.otlp_model.specs.declared.metrics.Exemplar.{Exemplar}
 use Rattle.otlp_model.specs.declared.metrics.Point.{Point}
-use Rattle.otap_cells.specs.Cells.{Cell, bytes_in, nat_in}
+use Rattle.otap_cells.specs.Cells.{Cell, bytes_in, nat_in, cell_at}
 use Rattle.otap_cells.specs.Scalars.{text_cell, number_cell, bits_cell, bits_in}
-use Rattle.otap_groups.specs.Rows.{cell_at}
 use Rattle.otap_metrics.specs.Numbers.{double_value, int_value, measured_in}
 
 -- ---- points

@@ -7,11 +7,10 @@ use Rattle.otlp_model.specs.declared.value.Pair.{Pair}
 use Rattle.otlp_model.specs.declared.spans.Span.{Span}
 use Rattle.otlp_model.specs.declared.spans.Event.{Event}
 use Rattle.otlp_model.specs.declared.spans.Link.{Link}
-use Rattle.otap_cells.specs.Cells.{Cell, null, bytes_in, nat_in}
+use Rattle.otap_cells.specs.Cells.{Cell, null, bytes_in, nat_in, cell_at}
 use Rattle.otap_cells.specs.Scalars.{int_in, bits_in}
 use Rattle.otap_cells.specs.Tables.{cell_in}
 use Rattle.otap_groups.specs.Found.{finds_in, weighs_in}
-use Rattle.otap_groups.specs.Rows.{cell_at}
 use Rattle.otap_spans.specs.Records.{end_of, event_of, link_of, span_of}
 
 -- the own cells of a row, after this many of the front

@@ -4,9 +4,8 @@ use Rattle.otlp_model.specs.declared.value.Pair.{Pair}
 use Rattle.otlp_model.specs.declared.spans.Span.{Span}
 use Rattle.otlp_model.specs.declared.spans.Event.{Event}
 use Rattle.otlp_model.specs.declared.spans.Link.{Link}
-use Rattle.otap_cells.specs.Cells.{Cell, bytes_in, nat_in}
+use Rattle.otap_cells.specs.Cells.{Cell, bytes_in, nat_in, cell_at}
 use Rattle.otap_cells.specs.Scalars.{text_cell, number_cell, int_cell, bits_cell, int_in, bits_in}
-use Rattle.otap_groups.specs.Rows.{cell_at}
 
 -- ---- times: a duration is the end minus the start modulo 2^64, also where the end is before the start
 

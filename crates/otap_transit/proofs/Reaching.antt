@@ -23,7 +23,7 @@ use Rattle.otap_columns.specs.Records.{IsRead}
 use Rattle.otap_columns.specs.Streams.{opens, stream_of, open_id}
 use Rattle.otap_columns.specs.Substreams.{held_in, logical, substream_in}
 use Rattle.otap_columns.specs.TableSets.{IsPayloadOf, of_kind}
-use Rattle.otap_consume.specs.Defects.{is_id, is_open_for, is_taken}
+use Rattle.otap_consume.specs.Defects.{is_open_id, is_open_for, is_taken}
 use Rattle.otap_consume.specs.Payloads.{type_of, messages_before}
 use Rattle.otap_columns.proofs.Openings.{stream_of-other}
 use Rattle.otap_transit.proofs.KindsApart.{same_number}
@@ -75,7 +75,7 @@ module _ (far : FarEndReads) (before : List Table) (past : List PayloadIn) (t : 
   stream = rw follows.written.type refl
 
   -- its id is open for no other type
-  not_open : (kind : Kind) (id : Option (List ℕ)) → open_id (type_of kind) past ≡ id → (not (int_eq p.kind (type_of kind)) && is_id p.schema_id id) ≡ false
+  not_open : (kind : Kind) (id : Option (List ℕ)) → open_id (type_of kind) past ≡ id → (not (int_eq p.kind (type_of kind)) && is_open_id p.schema_id id) ≡ false
   not_open kind None is = and_false (not (int_eq p.kind (type_of kind)))
     where
       and_false : (b : Bool) → (b && false) ≡ false

@@ -17,7 +17,7 @@ use Rattle.otlp_messages.specs.Rows.{fixed64_in, fixed32_in, uint32_in, int32_in
 use Rattle.otlp_messages.specs.Canon.{canon_row, varint_row, signed_row, bool_row, fixed64_row, fixed32_row, bytes_row, many_row}
 use Rattle.otlp_messages.proofs.RowKinds.{varint_fits, signed_fits, bool_fits, wider, fixed64_fits, fixed32_fits, part_fits, uint32_back, int32_back, bool_back, fixed64_back, fixed32_back, bytes_back, embedded_back}
 use Rattle.lists.specs.Bytes.{is_real_text}
-use Rattle.otlp_model.specs.Profile.{is_id}
+use Rattle.otlp_model.specs.Profile.{is_id_of}
 use Rattle.otlp_model.specs.Limits.{weight_limit}
 use Rattle.otlp_model.specs.Weight.{total}
 use Rattle.lists.proofs.RealBytes.{utf8_of_real}
@@ -109,7 +109,7 @@ text_held m n text is low real = record {
   bound = λ few. omega (arith, bytes_short n text low (omega (arith, few)));
 }
 
-pub id_held : {P : Type 0} (m : Message) (n size : ℕ) (id : List ℕ) → kind_of m n ≡ kinds.Id size → nat_lt n 2048 ≡ true → (P → IsTrue (is_id size id))
+pub id_held : {P : Type 0} (m : Message) (n size : ℕ) (id : List ℕ) → kind_of m n ≡ kinds.Id size → nat_lt n 2048 ≡ true → (P → IsTrue (is_id_of size id))
     → Held P m level_limit n bytes_in [] id (bytes_row id) (length id) 12
 id_held m n size id is low sized = record {
   back = λ p short. (part_fits m level_limit n id (λ _. rw is (id_length size id (sized p))), bytes_back id);

@@ -24,7 +24,7 @@ use Rattle.otlp_model.specs.declared.value.Value.TheVariants as values
 use Rattle.otlp_model.specs.declared.value.Pair.{Pair}
 use Rattle.otlp_model.specs.Each.{Each}
 use Rattle.otlp_model.specs.Depth.{depth_of, depth_of_pair, greatest}
-use Rattle.otlp_model.specs.Profile.{is_id, IsProfilePair, IsProfileResource, IsProfileScope, IsProfileLogRecord, IsProfileEvent, IsProfileLink, IsProfileSpan, IsProfileScopeGroup, IsProfileResourceGroup}
+use Rattle.otlp_model.specs.Profile.{is_id_of, IsProfilePair, IsProfileResource, IsProfileScope, IsProfileLogRecord, IsProfileEvent, IsProfileLink, IsProfileSpan, IsProfileScopeGroup, IsProfileResourceGroup}
 use Rattle.otlp_model.proofs.Levels.{depth_of_empty, depth_of_str, depth_of_bool, depth_of_int, depth_of_double, depth_of_bytes, depth_of_array, depth_of_map}
 use Rattle.otlp_codec.specs.Values.{string_in, bool_value_in, int_value_in, double_value_in, array_value_in, kvlist_value_in, bytes_value_in, any_in, any_of, pair_of, members_of, value_at, pair_at}
 use Rattle.otlp_codec.specs.Groups.{value_in, pair_in, resource_in, scope_in, scope_group_in, resource_group_in, groups_in}
@@ -84,12 +84,12 @@ or_true : (b : Bool) → (b || true) ≡ true
 or_true true = refl
 or_true false = refl
 
-id_is : (size : ℕ) (id : List ℕ) → HasLength size id → IsTrue (is_id size id)
+id_is : (size : ℕ) (id : List ℕ) → HasLength size id → IsTrue (is_id_of size id)
 unfolding HasLength
 id_is size id (inl none) = rw none refl
 id_is size id (inr whole) = rw (eq-eqb (length id) size whole) (or_true (length id == 0))
 
-pub id_said : (m : Message) (n size : ℕ) (bytes : List ℕ) → kind_of m n ≡ kinds.Id size → IsFine m level_limit bytes → IsTrue (is_id size (said n bytes_in [] bytes))
+pub id_said : (m : Message) (n size : ℕ) (bytes : List ℕ) → kind_of m n ≡ kinds.Id size → IsFine m level_limit bytes → IsTrue (is_id_of size (said n bytes_in [] bytes))
 unfolding HasLength
 id_said m n size bytes is fine =
     id_is size (said n bytes_in [] bytes)

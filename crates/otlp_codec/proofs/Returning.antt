@@ -2,7 +2,7 @@
 use Rattle.std.proofs.Common.{◌≡◌, ℕ, ◌+◌, ◌*◌, ◌^◌, ◌<◌, ◌≤◌, List, [], ◌∷◌, ◌++◌, map, length, refl, ap, ◌∙◌, arith, length-append, append-nil, subst, Bool, true, false, inl, inr, ◌⊎◌}
 use Rattle.std.specs.Prelude.{fold, ◌==◌, ◌||◌, IsTrue}
 use Rattle.std.proofs.lemmas.Bool.{eqb-true}
-use Rattle.otlp_model.specs.Profile.{is_id}
+use Rattle.otlp_model.specs.Profile.{is_id_of}
 use Rattle.otlp_codec.specs.Values.{members_of}
 use Rattle.otlp_codec.specs.Canonical.{members_rows}
 use Rattle.otlp_messages.proofs.Canonical.{rows_read}
@@ -74,7 +74,7 @@ repeated_returns whole levels m l read write xs unmarked fine all short =
     (back.fine, ap (fold (many_in read) []) (back.only 1) ∙ returned_back m l read write xs each)
 
 -- an id has no bytes or its own length
-pub id_length : (size : ℕ) (id : List ℕ) → IsTrue (is_id size id) → (length id ≡ 0) ⊎ (length id ≡ size)
+pub id_length : (size : ℕ) (id : List ℕ) → IsTrue (is_id_of size id) → (length id ≡ 0) ⊎ (length id ≡ size)
 id_length size id h = go (length id == 0) (length id == size) refl refl h
   where
     go : (a b : Bool) → (length id == 0) ≡ a → (length id == size) ≡ b → (a || b) ≡ true → (length id ≡ 0) ⊎ (length id ≡ size)

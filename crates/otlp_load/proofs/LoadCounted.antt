@@ -3,7 +3,7 @@ use Rattle.std.proofs.Common.{◌≡◌, ◌<◌, ℕ, zero, suc, ◌+◌, ◌%�
 use Rattle.std.specs.Prelude.{◌==◌, map, if◌then◌else◌}
 use Rattle.std.proofs.lemmas.List.{length-map}
 use Rattle.std.proofs.lemmas.List.Concat.{length-flat_map}
-use Rattle.otlp_model.specs.Telemetry.{Item, span, log_record, metric, telemetry, signal_of, entries_of, entries_of_group, told}
+use Rattle.otlp_model.specs.Telemetry.{Item, span, log_record, metric, telemetry, signal_of, entries_of, entries_of_group, told_as}
 use Rattle.otlp_model.specs.declared.groups.ResourceGroup.{ResourceGroup}
 use Rattle.otlp_model.specs.declared.request.Signal.{Signal}
 use Rattle.otlp_model.specs.declared.request.Signal.TheVariants as signals
@@ -48,8 +48,8 @@ entries_counted item_of r =
     let all = places_counted 8192 in
     length-flat_map entries_of_group (groups_of item_of r) ∙ omega arith
 
-told_counted : {I : Type 0} (kind : I → Item) (groups : List (ResourceGroup I)) → length (map (told kind) (entries_of groups)) ≡ length (entries_of groups)
-told_counted kind groups = length-map (entries_of groups) (told kind)
+told_counted : {I : Type 0} (kind : I → Item) (groups : List (ResourceGroup I)) → length (map (told_as kind) (entries_of groups)) ≡ length (entries_of groups)
+told_counted kind groups = length-map (entries_of groups) (told_as kind)
 
 pub is_counted : (s : Signal) (r : ℕ) → length (telemetry (generated s r)) ≡ 8192
 is_counted signals.Traces r = told_counted span (groups_of span_of r) ∙ entries_counted span_of r

@@ -28,7 +28,11 @@ pub(crate) fn groups<I: LoadItem>(
     Ok(groups)
 }
 
-fn group<I: LoadItem>(alloc: Global, request: u32, place: u32) -> Result<ResourceGroup<I>, AllocError>
+fn group<I: LoadItem>(
+    alloc: Global,
+    request: u32,
+    place: u32,
+) -> Result<ResourceGroup<I>, AllocError>
     requires request { request < requests_at_most }
     requires place { place < 3 }
     ensures { IfOk result (λ group. group ≡ group_of I.item_of request place) }

@@ -2,7 +2,7 @@
 use Rattle.std.proofs.Common.{◌≡◌, ℕ, ◌^◌, min, List, [], ◌∷◌, length, map, refl, ap, arith}
 use Rattle.std.specs.Prelude.{◌↔◌, ◌≢◌, IsTrue, Bool}
 use Rattle.std.specs.List.{AllZip}
-use Rattle.otlp_model.specs.Telemetry.{ItemEntry, Item, span, log_record, metric, told, entries_of, telemetry, signal_of}
+use Rattle.otlp_model.specs.Telemetry.{ItemEntry, Item, span, log_record, metric, told_as, entries_of, telemetry, signal_of}
 use Rattle.otlp_model.specs.Same.{SameItem, SameSpan, SameLogRecord, SameMetric, SameEntry, Same}
 use Rattle.otlp_model.specs.declared.groups.ResourceGroup.{ResourceGroup}
 use Rattle.otlp_model.specs.declared.spans.Span.{Span}
@@ -14,7 +14,7 @@ use Rattle.otlp_model.specs.declared.request.Request.TheVariants.{Traces, Logs, 
 -- entries of one kind tell the same as items of any kind exactly where they do as such
 module _ {I : Type 0} (kind : I → Item) (SameOne : I → I → Type 0) where
   pub kept : ((x y : I) → SameOne x y → SameItem (kind x) (kind y)) → (xs ys : List (ItemEntry I))
-      → AllZip (SameEntry SameOne) xs ys → AllZip (SameEntry SameItem) (map (told kind) xs) (map (told kind) ys)
+      → AllZip (SameEntry SameOne) xs ys → AllZip (SameEntry SameItem) (map (told_as kind) xs) (map (told_as kind) ys)
   kept f [] [] h = tt
   kept f [] (y ∷ ys) h = absurd h
   kept f (x ∷ xs) [] h = absurd h
@@ -22,7 +22,7 @@ module _ {I : Type 0} (kind : I → Item) (SameOne : I → I → Type 0) where
       (record { resource = h.0.resource; scope = h.0.scope; item = f x.item y.item h.0.item }, kept f xs ys h.1)
 
   pub kept_back : ((x y : I) → SameItem (kind x) (kind y) → SameOne x y) → (xs ys : List (ItemEntry I))
-      → AllZip (SameEntry SameItem) (map (told kind) xs) (map (told kind) ys) → AllZip (SameEntry SameOne) xs ys
+      → AllZip (SameEntry SameItem) (map (told_as kind) xs) (map (told_as kind) ys) → AllZip (SameEntry SameOne) xs ys
   kept_back f [] [] h = tt
   kept_back f [] (y ∷ ys) h = absurd h
   kept_back f (x ∷ xs) [] h = absurd h
@@ -46,8 +46,8 @@ same_metrics a b x y xs ys r ax by' xx yy h = rw (ax, by', ← xx, ← yy)
 
 -- entries of two kinds tell the same only where there are none
 unlike : {I J : Type 0} (kind : I → Item) (other : J → Item) → ((x : I) (y : J) → SameItem (kind x) (other y) → ⊥)
-    → (xs : List (ItemEntry I)) (ys : List (ItemEntry J)) → AllZip (SameEntry SameItem) (map (told kind) xs) (map (told other) ys)
-    → (length (map (told kind) xs) ≡ 0) × (length (map (told other) ys) ≡ 0)
+    → (xs : List (ItemEntry I)) (ys : List (ItemEntry J)) → AllZip (SameEntry SameItem) (map (told_as kind) xs) (map (told_as other) ys)
+    → (length (map (told_as kind) xs) ≡ 0) × (length (map (told_as other) ys) ≡ 0)
 unlike kind other f [] [] h = (refl, refl)
 unlike kind other f [] (y ∷ ys) h = absurd h
 unlike kind other f (x ∷ xs) [] h = absurd h

@@ -4,7 +4,7 @@ use Rattle.std.specs.Prelude.{nat_lt, ◌⊎◌}
 use Rattle.std.specs.List.{flat_map, AllZip}
 use Rattle.std.proofs.lemmas.Bool.{cases_Bool, ltb-false}
 use Rattle.std.proofs.lemmas.List.Folds.{flat_map-map}
-use Rattle.otlp_model.specs.Telemetry.{entry, told, entries_of_scope_group, entries_of_group, entries_of, trimmed, groups_with_items, with_items, telemetry, span, log_record, metric}
+use Rattle.otlp_model.specs.Telemetry.{entry, told_as, entries_of_scope_group, entries_of_group, entries_of, trimmed, groups_with_items, with_items, telemetry, span, log_record, metric}
 use Rattle.otlp_model.specs.Same.{SameItem, SameEntry, Same}
 use Rattle.otlp_model.proofs.Equivalence.{same}
 use Rattle.otlp_model.specs.declared.groups.ResourceGroup.{ResourceGroup}
@@ -37,9 +37,9 @@ module _ {I : Type 0} where
       ∙ (λ i. flat_map (λ group. scopes_kept group i) groups)
 
 pub telemetry_kept : (q : Request) → telemetry (with_items q) ≡ telemetry q
-telemetry_kept (Traces groups) = ap (map (told span)) (groups_kept groups)
-telemetry_kept (Logs groups) = ap (map (told log_record)) (groups_kept groups)
-telemetry_kept (Metrics groups) = ap (map (told metric)) (groups_kept groups)
+telemetry_kept (Traces groups) = ap (map (told_as span)) (groups_kept groups)
+telemetry_kept (Logs groups) = ap (map (told_as log_record)) (groups_kept groups)
+telemetry_kept (Metrics groups) = ap (map (told_as metric)) (groups_kept groups)
 
 pub same_kept : (q : Request) → Same q (with_items q)
 same_kept q = subst (λ entries. AllZip (SameEntry SameItem) (telemetry q) entries) (sym (telemetry_kept q)) (same.itself q)

@@ -24,14 +24,14 @@ use Rattle.otlp_model.specs.declared.request.Request.{Request}
 use Rattle.otlp_model.specs.declared.request.Request.TheVariants.{Traces, Logs, Metrics}
 
 -- an id is absent or has its size: 16 bytes for a trace, 8 for a span (W3C Trace Context)
-abbrev pub is_id : ℕ → List ℕ → Bool
-is_id size id = (length id == 0) || (length id == size)
+abbrev pub is_id_of : ℕ → List ℕ → Bool
+is_id_of size id = (length id == 0) || (length id == size)
 
 abbrev pub IsTraceId : List ℕ → Type 0
-IsTraceId id = IsTrue (is_id 16 id)
+IsTraceId id = IsTrue (is_id_of 16 id)
 
 abbrev pub IsSpanId : List ℕ → Type 0
-IsSpanId id = IsTrue (is_id 8 id)
+IsSpanId id = IsTrue (is_id_of 8 id)
 
 abbrev pub IsProfileValue : Value → Type 0
 IsProfileValue value = depth_of value ≤ depth_limit

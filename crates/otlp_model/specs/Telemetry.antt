@@ -37,14 +37,14 @@ pub data Item : Type 0 where
   log_record : LogRecord → Item
   metric : Metric → Item
 
-abbrev pub told : {I : Type 0} → (I → Item) → ItemEntry I → ItemEntry Item
-told kind e = entry e.resource e.scope (kind e.item)
+abbrev pub told_as : {I : Type 0} → (I → Item) → ItemEntry I → ItemEntry Item
+told_as kind e = entry e.resource e.scope (kind e.item)
 
 -- all items of the request in order, over all groups
 abbrev pub telemetry : Request → List (ItemEntry Item)
-telemetry (Traces groups) = map (told span) (entries_of groups)
-telemetry (Logs groups) = map (told log_record) (entries_of groups)
-telemetry (Metrics groups) = map (told metric) (entries_of groups)
+telemetry (Traces groups) = map (told_as span) (entries_of groups)
+telemetry (Logs groups) = map (told_as log_record) (entries_of groups)
+telemetry (Metrics groups) = map (told_as metric) (entries_of groups)
 
 abbrev pub signal_of : Request → Signal
 signal_of (Traces groups) = signals.Traces

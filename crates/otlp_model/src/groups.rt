@@ -7,7 +7,7 @@ use crate::limits::sum_capped;
 use crate::profile::{Profiled, all_profile};
 use crate::sameness::{Alike, same_pairs};
 use crate::value::Pair;
-use crate::weights::{PART, HasWeight, pairs_weight, parts_weight};
+use crate::weights::{HasWeight, PART, pairs_weight, parts_weight};
 use lists::{Items, Text};
 
 /// What telemetry comes from (OTLP `Resource`, with the schema url of its `ResourceSpans`, `ResourceLogs` or

@@ -11,7 +11,7 @@ use crate::metrics::Exemplar;
 use crate::profile::{Profiled, all_profile};
 use crate::sameness::{Alike, each_same, same_pairs};
 use crate::value::Pair;
-use crate::weights::{PART, HasWeight, pairs_weight, parts_weight};
+use crate::weights::{HasWeight, PART, pairs_weight, parts_weight};
 use lists::Items;
 
 /// What a bucket count and a bound weigh.

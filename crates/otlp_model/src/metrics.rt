@@ -9,7 +9,7 @@ use crate::limits::sum_capped;
 use crate::profile::{Profiled, all_profile, is_span_id, is_trace_id};
 use crate::sameness::{Alike, each_same, same_pairs};
 use crate::value::Pair;
-use crate::weights::{PART, HasWeight, pairs_weight, parts_weight};
+use crate::weights::{HasWeight, PART, pairs_weight, parts_weight};
 use lists::{Items, Octets, Text};
 
 /// A metric (OTLP `Metric`).
