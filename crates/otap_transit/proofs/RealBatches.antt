@@ -1,6 +1,6 @@
 -- A batch message is one that a program holds: its id fits 64 bits.
-use Rattle.std.proofs.Common.{◌≡◌, ℕ, zero, suc, ◌+◌, ◌*◌, ◌^◌, ◌<◌, ◌≤◌, List, [], ◌∷◌, length, ℤ, pos, inl, inr, arith, lit<}
-use Rattle.std.specs.Prelude.{◌⊎◌, ⊤, FitsSigned, slice_index, fold, Option, ◌==◌}
+use Rattle.std.proofs.Common.{ℕ, ◌^◌, ◌<◌, List, [], ◌∷◌, ℤ, pos, inl, inr, arith, lit<}
+use Rattle.std.specs.Prelude.{⊤, FitsSigned, fold, Option, ◌==◌}
 use Rattle.std.specs.List.{AllByRecursion}
 use Rattle.std.specs.Int.{w32, w64}
 use Rattle.std.proofs.lemmas.Bool.{cases_Bool}
@@ -8,38 +8,15 @@ use Rattle.std.proofs.Math.Facts.{sfits_to_z}
 use Rattle.otlp_wire.specs.declared.parts.WireError.{WireError}
 use Rattle.otlp_wire.specs.Fields.{fields_of, end_of}
 use Rattle.otlp_wire.specs.Reading.{Reads}
-use Rattle.otlp_wire.specs.Varint.{sevens, IsVarint}
 use Rattle.otlp_wire.specs.Wire as wire
 use Rattle.otlp_wire.specs.Wire.{FieldValue, Entry, IsValue, IsField}
 use Rattle.otlp_wire.proofs.FieldsOf.{fields_of-reads}
+use Rattle.otlp_wire.proofs.Sevens.{varint_below}
 use Rattle.otlp_messages.specs.Rows.{only, int64_in}
 use Rattle.otap_capture.specs.Batch.{batch_in}
 use Rattle.otap_cells.specs.declared.payload.Kind.{Kind}
 use Rattle.otap_cells.specs.declared.payload.Kind.TheVariants as table
 use Rattle.otap_cells.specs.Payload.{number_of}
-
--- seven bits of each byte of a varint, and one of a tenth
-sevens_below : (k : ℕ) (bytes : List ℕ) → length bytes ≤ k → sevens bytes < 128 ^ k
-sevens_below zero [] few = omega arith
-sevens_below zero (byte ∷ bytes) few = absurd (omega (arith, few))
-sevens_below (suc k) [] few = (let rest = sevens_below k [] (omega arith) in omega (arith, rest))
-sevens_below (suc k) (byte ∷ bytes) few = (let rest = sevens_below k bytes (omega (arith, few)) in omega (arith, rest))
-
-sevens_last : (k : ℕ) (bytes : List ℕ) → length bytes ≡ k + 1 → slice_index bytes k ≤ 1 → sevens bytes < 2 * 128 ^ k
-sevens_last k [] size last = absurd (omega (arith, size))
-sevens_last zero (byte ∷ []) size last = omega (arith, last)
-sevens_last zero (byte ∷ (more ∷ bytes)) size last = absurd (omega (arith, size))
-sevens_last (suc k) (byte ∷ bytes) size last = (let rest = sevens_last k bytes (omega (arith, size)) last in omega (arith, rest))
-
-varint_below : (bytes : List ℕ) (n : ℕ) → IsVarint bytes n → n < 2 ^ 64
-varint_below bytes n v = go (nine_or_ten v.last v.at_most_ten)
-  where
-    nine_or_ten : (k : ℕ) → k < 10 → (k < 9) ⊎ (k ≡ 9)
-    nine_or_ten k h = grind arith
-
-    go : (v.last < 9) ⊎ (v.last ≡ 9) → n < 2 ^ 64
-    go (inl short) = (let small = sevens_below 9 bytes (omega (arith, v.size, short)) in omega (arith, v.value, small))
-    go (inr ten) = (let small = sevens_last 9 bytes (omega (arith, v.size, ten)) v.tenth in omega (arith, v.value, small))
 
 -- a varint that is read fits 64 bits
 abbrev Fits : FieldValue → Type 0

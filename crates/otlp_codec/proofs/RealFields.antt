@@ -1,17 +1,17 @@
 -- The fields of bytes hold what a program can hold: numbers of 64 or 32 bits, and bytes.
-use Rattle.std.proofs.Common.{◌≡◌, ℕ, zero, suc, ◌+◌, ◌*◌, ◌^◌, ◌<◌, ◌≤◌, List, [], ◌∷◌, ◌++◌, length, drop, true, ap, subst, arith, length-append, inl, inr, ◌⊎◌}
+use Rattle.std.proofs.Common.{◌≡◌, ℕ, zero, suc, ◌+◌, ◌^◌, ◌<◌, ◌≤◌, List, [], ◌∷◌, ◌++◌, length, drop, true, ap, subst, arith, length-append, inl, inr}
 use Rattle.std.specs.Prelude.{slice_index, Option}
 use Rattle.std.specs.List.{AllByRecursion}
 use Rattle.std.proofs.lemmas.List.Elements.{All-from_recursion}
 use Rattle.std.proofs.lemmas.Bool.{cases_eq, ne_eqb, eq-eqb}
 use Rattle.byteorder.specs.Numbers.{little_from-lt}
 use Rattle.otlp_wire.specs.declared.parts.WireError.{WireError}
-use Rattle.otlp_wire.specs.Varint.{sevens, IsVarint}
 use Rattle.otlp_wire.specs.Wire as wire
 use Rattle.otlp_wire.specs.Wire.{FieldValue, Entry, IsValue, IsField}
 use Rattle.otlp_wire.specs.Reading.{Reads}
 use Rattle.otlp_wire.specs.Fields.{fields_of, end_of}
 use Rattle.otlp_wire.proofs.FieldsOf.{fields_of-reads}
+use Rattle.otlp_wire.proofs.Sevens.{varint_below}
 use Rattle.otlp_messages.specs.Rows.{only}
 use Rattle.lists.specs.Bytes.{is_real_octets}
 use Rattle.lists.proofs.RealBytes.{real_octets, bytes_of_real, length_of_real_octets}
@@ -58,29 +58,6 @@ pub drop_octets : (n : ℕ) (bytes : List ℕ) → AllByRecursion (λ byte. byte
 drop_octets zero bytes h = h
 drop_octets (suc n) [] h = tt
 drop_octets (suc n) (byte ∷ bytes) h = drop_octets n bytes h.1
-
--- a varint: seven bits of each byte, and one of a tenth
-sevens_below : (k : ℕ) (bytes : List ℕ) → length bytes ≤ k → sevens bytes < 128 ^ k
-sevens_below zero [] few = omega arith
-sevens_below zero (byte ∷ bytes) few = absurd (omega (arith, few))
-sevens_below (suc k) [] few = (let rest = sevens_below k [] (omega arith) in omega (arith, rest))
-sevens_below (suc k) (byte ∷ bytes) few = (let rest = sevens_below k bytes (omega (arith, few)) in omega (arith, rest))
-
-sevens_last : (k : ℕ) (bytes : List ℕ) → length bytes ≡ k + 1 → slice_index bytes k ≤ 1 → sevens bytes < 2 * 128 ^ k
-sevens_last k [] size last = absurd (omega (arith, size))
-sevens_last zero (byte ∷ []) size last = omega (arith, last)
-sevens_last zero (byte ∷ (more ∷ bytes)) size last = absurd (omega (arith, size))
-sevens_last (suc k) (byte ∷ bytes) size last = (let rest = sevens_last k bytes (omega (arith, size)) last in omega (arith, rest))
-
-varint_below : (bytes : List ℕ) (n : ℕ) → IsVarint bytes n → n < 2 ^ 64
-varint_below bytes n v = go (nine_or_ten v.last v.at_most_ten)
-  where
-    nine_or_ten : (k : ℕ) → k < 10 → (k < 9) ⊎ (k ≡ 9)
-    nine_or_ten k h = grind arith
-
-    go : (v.last < 9) ⊎ (v.last ≡ 9) → n < 2 ^ 64
-    go (inl short) = (let small = sevens_below 9 bytes (omega (arith, v.size, short)) in omega (arith, v.value, small))
-    go (inr ten) = (let small = sevens_last 9 bytes (omega (arith, v.size, ten)) v.tenth in omega (arith, v.value, small))
 
 real_value : (bytes : List ℕ) (v : FieldValue) → IsValue bytes v → Octets bytes → RealField v
 real_value bytes (wire.Varint n) is h = varint_below bytes n is

@@ -1,5 +1,6 @@
 -- What a loop over the bytes of a varint keeps.
-use Rattle.std.proofs.Common.{◌≡◌, ℕ, zero, suc, ◌+◌, ◌*◌, ◌%◌, ◌^◌, ◌<◌, ◌≤◌, ◌-◌, List, [], ◌∷◌, length, get_or, take, drop, refl, ap, ◌∙◌, arith, add-one, pow-add, lit<, inl, inr}
+use Rattle.std.proofs.Common.{◌≡◌, ℕ, zero, suc, ◌+◌, ◌*◌, ◌%◌, ◌^◌, ◌<◌, ◌≤◌, ◌-◌, List, [], ◌∷◌, length, get_or, take, drop, refl, ap, ◌∙◌, arith, add-one, pow-add, lit<, inl, inr, ◌⊎◌}
+use Rattle.std.specs.Prelude.{slice_index}
 use Rattle.std.proofs.Math.Nat.{pow-le-pow_right, mul-le-mul_right, mod-eq_of_lt}
 use Rattle.std.proofs.lemmas.Bool.{cases_eq, cases_lt}
 use Rattle.std.proofs.lemmas.List.{take_rest}
@@ -75,3 +76,26 @@ ends_before bytes i v below nine goes_on last tenth value =
 pub one_byte : (bytes : List ℕ) (v : ℕ) → 1 ≤ length bytes → get_or bytes 0 0 < 128 → v ≡ get_or bytes 0 0 → v ≡ sevens (take 1 bytes)
 one_byte [] v some small is = absurd (omega arith)
 one_byte (b ∷ bytes) v some small is = omega arith
+
+-- seven bits of each byte of a varint, and one of a tenth
+sevens_below : (k : ℕ) (bytes : List ℕ) → length bytes ≤ k → sevens bytes < 128 ^ k
+sevens_below zero [] few = omega arith
+sevens_below zero (byte ∷ bytes) few = absurd (omega (arith, few))
+sevens_below (suc k) [] few = (let rest = sevens_below k [] (omega arith) in omega (arith, rest))
+sevens_below (suc k) (byte ∷ bytes) few = (let rest = sevens_below k bytes (omega (arith, few)) in omega (arith, rest))
+
+sevens_last : (k : ℕ) (bytes : List ℕ) → length bytes ≡ k + 1 → slice_index bytes k ≤ 1 → sevens bytes < 2 * 128 ^ k
+sevens_last k [] size last = absurd (omega (arith, size))
+sevens_last zero (byte ∷ []) size last = omega (arith, last)
+sevens_last zero (byte ∷ (more ∷ bytes)) size last = absurd (omega (arith, size))
+sevens_last (suc k) (byte ∷ bytes) size last = (let rest = sevens_last k bytes (omega (arith, size)) last in omega (arith, rest))
+
+pub varint_below : (bytes : List ℕ) (n : ℕ) → IsVarint bytes n → n < 2 ^ 64
+varint_below bytes n v = go (nine_or_ten v.last v.at_most_ten)
+  where
+    nine_or_ten : (k : ℕ) → k < 10 → (k < 9) ⊎ (k ≡ 9)
+    nine_or_ten k h = grind arith
+
+    go : (v.last < 9) ⊎ (v.last ≡ 9) → n < 2 ^ 64
+    go (inl short) = (let small = sevens_below 9 bytes (omega (arith, v.size, short)) in omega (arith, v.value, small))
+    go (inr ten) = (let small = sevens_last 9 bytes (omega (arith, v.size, ten)) v.tenth in omega (arith, v.value, small))
