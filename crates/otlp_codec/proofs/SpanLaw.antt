@@ -3,6 +3,7 @@ use Rattle.std.proofs.Common.{◌≡◌, [], length, refl, sym, ap, ◌∙◌, a
 use Rattle.std.specs.Prelude.{fold}
 use Rattle.otlp_wire.specs.Wire as wire
 use Rattle.otlp_wire.specs.Wire.{FieldValue}
+use Rattle.otlp_wire.proofs.FieldsOf.{fields_of_nothing}
 use Rattle.otlp_messages.specs.declared.messages.Message.TheVariants as messages
 use Rattle.otlp_messages.specs.Rows.{embedded_in}
 use Rattle.otlp_model.specs.declared.spans.Span.{Span}
@@ -16,7 +17,6 @@ use Rattle.otlp_messages.specs.Limits.{level_limit}
 use Rattle.otlp_codec.specs.Spans.{event_in, link_in, no_status, status_in, span_in}
 use Rattle.otlp_codec.specs.SpanSteps.{status_step, status_of, span_step}
 use Rattle.otlp_codec.specs.SpanSpelling.{canon_event, canon_link, canon_status, canon_span}
-use Rattle.otlp_codec.specs.lemmas.Passed.{no_fields}
 use Rattle.otlp_codec.specs.lemmas.SpansPassed.{event_passes, link_passes, status_passes, span_passes}
 use Rattle.otlp_codec.proofs.Chain.{Law, last, also, law_of}
 use Rattle.otlp_codec.proofs.FieldLaw.{fixed64_held, fixed32_held, int32_held, uint32_held, text_held, id_held, embedded_held, many_held}
@@ -66,7 +66,7 @@ status_heard old a (wire.Fixed64 n) = refl
 status_heard old a (wire.Fixed32 n) = refl
 
 no_status_is : no_status ≡ status_in []
-no_status_is = sym (ap (fold status_step no_status) no_fields) ∙ status_passes []
+no_status_is = sym (ap (fold status_step no_status) fields_of_nothing) ∙ status_passes []
 
 pub span_law : (x : Span) → IsRealSpan x → Law (IsProfileSpan x) messages.Span level_limit span_in canon_span x (weight_of_span x) 236
 unfolding canon_span

@@ -7,6 +7,7 @@ use Rattle.std.proofs.lemmas.Bool.{ltb-true, and_parts}
 use Rattle.std.proofs.lemmas.Int.{to_z-of_z}
 use Rattle.otlp_wire.specs.Wire as wire
 use Rattle.otlp_wire.specs.Varint.{varint}
+use Rattle.otlp_wire.proofs.FieldsOf.{fields_of_nothing}
 use Rattle.otlp_messages.specs.declared.messages.Message.TheVariants as messages
 use Rattle.otlp_messages.specs.Defects.{IsFine}
 use Rattle.otlp_messages.specs.Rows.{said, bytes_in, embedded_in}
@@ -26,7 +27,6 @@ use Rattle.otlp_codec.specs.Values.{any_in, value_at, pair_at}
 use Rattle.otlp_codec.specs.Steps.{array_at, map_at}
 use Rattle.otlp_codec.specs.Canonical.{canon_value, canon_pair, pair_rows, members_rows}
 use Rattle.otlp_codec.proofs.Folded.{value_is}
-use Rattle.otlp_codec.specs.lemmas.Passed.{no_fields}
 use Rattle.otlp_codec.proofs.Lists.{tests_from, all_map, all_both, below_greatest}
 use Rattle.otlp_codec.proofs.Returning.{Returns, repeated_returns, in_row}
 
@@ -49,7 +49,7 @@ by_rows l v rows is laid fits = record {
 }
 
 pub no_value : (l : ℕ) → values.Empty ≡ value_at l []
-no_value l = sym (sym (value_is l []) ∙ ap (λ fs. fold (any_in (array_at l) (map_at l)) values.Empty fs) no_fields)
+no_value l = sym (sym (value_is l []) ∙ ap (λ fs. fold (any_in (array_at l) (map_at l)) values.Empty fs) fields_of_nothing)
 
 -- the spelling of each shape of value
 pub canon_empty : canon_value values.Empty ≡ canon []

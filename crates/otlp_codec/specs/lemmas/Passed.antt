@@ -1,11 +1,10 @@
 -- What one pass over the fields gives is what the message says. Here, since an impl cites it, which can cite specs alone.
 use Rattle.std.proofs.Common.{◌≡◌, ℕ, List, [], ◌∷◌, Bool, true, false, refl, sym, ap, ◌∙◌}
-use Rattle.std.specs.Prelude.{fold, ◌==◌, if◌then◌else◌, Option, None}
-use Rattle.otlp_wire.specs.declared.parts.WireError.{WireError}
+use Rattle.std.specs.Prelude.{fold, ◌==◌, if◌then◌else◌}
 use Rattle.otlp_wire.specs.Wire as wire
 use Rattle.otlp_wire.specs.Wire.{FieldValue, Entry}
 use Rattle.otlp_wire.specs.Fields.{fields_of}
-use Rattle.otlp_wire.proofs.FieldsOf.{fields_of-only}
+use Rattle.otlp_wire.proofs.FieldsOf.{fields_of_nothing}
 use Rattle.otlp_messages.specs.Rows.{only, said, at, fixed64_in, fixed32_in, uint32_in, int32_in, bytes_in, embedded_in, many_in}
 use Rattle.otlp_messages.proofs.Parts.{part_of}
 use Rattle.otlp_codec.specs.Groups.{value_in, pair_in, resource_in, scope_in, scope_group_in, resource_group_in, groups_in}
@@ -23,12 +22,6 @@ goes_by step get by each r (f ∷ fs) = goes_by step get by each (step r f) fs �
 stays : {R A : Type 0} (step : R → Entry → R) (get : R → A) → ((r : R) (f : Entry) → get (step r f) ≡ get r) → (r : R) (fs : List Entry) → get (fold step r fs) ≡ get r
 stays step get each r [] = refl
 stays step get each r (f ∷ fs) = stays step get each (step r f) fs ∙ each r f
-
-abbrev no_error : Option WireError
-no_error = None
-
-pub no_fields : fields_of [] ≡ []
-no_fields = (fields_of-only [] [] no_error refl).0
 
 pub scope_passes : (bytes : List ℕ) → fold scope_step no_scope (fields_of bytes) ≡ scope_in [] bytes
 scope_passes bytes =
@@ -116,14 +109,14 @@ no_scope_is = sym (ap (λ (fs : List Entry). record {
   version = fold bytes_in [] (only 2 fs);
   dropped = fold uint32_in 0 (only 4 fs);
   pairs = fold (many_in pair_in) [] (only 3 fs);
-}) no_fields)
+}) fields_of_nothing)
 
 pub no_resource_is : no_resource ≡ resource_in [] []
 no_resource_is = sym (ap (λ (fs : List Entry). record {
   schema_url = [];
   dropped = fold uint32_in 0 (only 2 fs);
   pairs = fold (many_in pair_in) [] (only 1 fs);
-}) no_fields)
+}) fields_of_nothing)
 
 pub scope_group_passes : {I : Type 0} (item : List ℕ → I) (bytes : List ℕ) → fold (scope_group_step item) no_scope_group (fields_of bytes) ≡ scope_group_in item bytes
 scope_group_passes item bytes =
