@@ -8,6 +8,7 @@ use Rattle.std.proofs.lemmas.Bool.{cases_Bool}
 use Rattle.std.specs.Str.{IsAscii}
 use Rattle.std.proofs.lemmas.Str.{IsUtf8-from_ascii, is_utf8-from_IsUtf8}
 use Rattle.std.proofs.lemmas.Bool.Decides.{Decides-int_eq}
+use Rattle.std.proofs.Math.Bool.{or-true}
 use Rattle.arrow_schema.specs.declared.spec.ArrowType.{ArrowType}
 use Rattle.arrow_schema.specs.declared.spec.ArrowType.TheVariants.{Struct}
 use Rattle.arrow_schema.specs.declared.spec.DictSpec.{DictSpec}
@@ -20,7 +21,7 @@ use Rattle.arrow_schema.specs.Readable.{is_supported, fits_dictionary, is_elemen
 use Rattle.arrow_schema.specs.Branches.{Leaf, Branch, One, Under, items_of, leaf_field, branch_field, fields_of, lacks, are_apart, name_of_branch, items_in}
 use Rattle.arrow_schema.specs.Branches.{leaf_size, branch_size, leaf_names, branch_names, is_branch_named, FitsTypes, FitsItem, IsLeaf, AreLeaves, IsBranch, AreEach, AreBranches}
 use Rattle.arrow_schema.specs.Writing.{names_in, names_of, is_named, named_in, encodings_named}
-use Rattle.arrow_schema.proofs.Steps.{both_true, or_true}
+use Rattle.arrow_schema.proofs.Steps.{both_true}
 use Rattle.arrow_schema.proofs.Clear.{element_is}
 use Rattle.arrow_schema.proofs.FieldTrees.{names_in_is, named_in_is}
 use Rattle.arrow_schema.proofs.Folds.{name_in_is, kind_in_is, dict_in_is, encoding_in_is, children_in_is, count_in_is, uses_in_is}
@@ -79,7 +80,7 @@ item_fits kind h =
     rw (kind_in_is (codes "item") kind None encoding.None [], dict_in_is (codes "item") kind None encoding.None [], h) refl
 
 items_fit : (kind : ArrowType) (item : Option ArrowType) → FitsItem kind item → fits_children kind (items_of item) ≡ true
-items_fit kind None h = rw (h, or_true (is_struct kind)) refl
+items_fit kind None h = rw (h, or-true (is_struct kind)) refl
 items_fit kind (Some item) h = rw (h.0, item_fits item h.1) refl
 
 dict_fits : (types : ℤ → ArrowType) (kind : ArrowType) (dict : Option DictSpec) → FitsTypes types kind dict → fits_dictionary kind dict ≡ true

@@ -2,6 +2,7 @@
 use Rattle.std.specs.Prelude.{◌≡◌, ℕ, ◌<◌, ◌&&◌, ◌||◌, true, false, List, [], ◌∷◌, length, slice_index_or, Ok, Option, None, Some, pos}
 use Rattle.std.proofs.Common.{refl, sym, ap, ◌∙◌, inl, inr, eqb, arith}
 use Rattle.std.proofs.lemmas.Bool.{cases_Bool}
+use Rattle.std.proofs.Math.Bool.{or-true}
 use Rattle.flat_tables.specs.Tables.{TableIn}
 use Rattle.arrow_schema.specs.declared.spec.ArrowType.{ArrowType}
 use Rattle.arrow_schema.specs.declared.spec.ArrowType.TheVariants.{Bool as Boolean, Int, Double, Utf8, Binary, Fixed, Timestamp, Duration, Struct, List as ListType}
@@ -13,7 +14,7 @@ use Rattle.arrow_schema.specs.Trees.{kind_in, dict_in}
 use Rattle.arrow_schema.specs.Says.{SaysNumbers, SaysDictionary, SaysField, says}
 use Rattle.arrow_schema.specs.Readable.{has_none, is_element, is_one_element, no_fields, fits_children}
 use Rattle.arrow_schema.specs.Defects.{UnsupportedElement, other_element, narrow_element, signed_element, with_dictionary, UnsupportedField, with_children, no_child, other_count, other_child}
-use Rattle.arrow_schema.proofs.Steps.{and_true, or_true, or_false}
+use Rattle.arrow_schema.proofs.Steps.{and_true, or_false}
 use Rattle.arrow_schema.proofs.Found.{SlotSays}
 
 no_struct_number : (kind : ArrowType) → is_struct kind ≡ false → type_number kind ≡ 13 → ⊥
@@ -74,7 +75,7 @@ lacks_one t (g ∷ h ∷ fields) depth left rest read fits s = elim s.has [
 
 with_others : (t : TableIn) (kind : ArrowType) (children : List FieldSpec) (depth left rest : ℕ) → kind_slot t ≡ Ok (type_number kind) → is_list kind ≡ false
     → (is_struct kind || no_fields children) ≡ false → SlotSays depth children_slot left t children rest → UnsupportedField t
-with_others t kind [] depth left rest read listless fits s = absurd (cc (fits, or_true (is_struct kind)))
+with_others t kind [] depth left rest read listless fits s = absurd (cc (fits, or-true (is_struct kind)))
 with_others t kind (g ∷ fields) depth left rest read listless fits s = elim s.has [
   | inl empty ↦ absurd (omega (arith, s.say.long, ap length empty.1))
   | inr h ↦ with_children (type_number kind) h.0 read (no_list_number kind listless) (no_struct_number kind (sym (or_false (is_struct kind)) ∙ fits)) h.1

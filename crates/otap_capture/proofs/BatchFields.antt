@@ -3,6 +3,7 @@ use Rattle.std.proofs.Common.{◌≡◌, ℕ, ◌+◌, ◌<◌, ◌≤◌, true,
 use Rattle.std.specs.Prelude.{nat_eq, is_some, fold, ◌||◌, ◌==◌, not, slice_index_or, ℤ}
 use Rattle.std.proofs.lemmas.Bool.{cases_eq, cases_Bool, ne_eqb}
 use Rattle.std.proofs.lemmas.List.{get_or-set_same, get_or-set_other}
+use Rattle.std.proofs.Math.Bool.{or-true}
 use Rattle.otlp_wire.specs.Wire as wire
 use Rattle.otlp_wire.specs.Wire.{FieldValue, Entry}
 use Rattle.otlp_wire.specs.Fields.{fields_of, end_of}
@@ -68,14 +69,10 @@ one_at_most false = omega arith
 marks_more : (marks : List Bool) (seen : Bool) (n : ℕ) → slice_index_or marks 1 false ≡ seen → 1 < length marks
     → slice_index_or (set marks (mark_of BatchArrowRecords n) (not (mark_of BatchArrowRecords n == 0))) 1 false ≡ (seen || n == 1)
 marks_more marks seen n first room = elim (cases_eq n 1) [
-  | inl one ↦ rw (one, mark_of) (get_or-set_same marks 1 true false room ∙ sym (or_true seen))
+  | inl one ↦ rw (one, mark_of) (get_or-set_same marks 1 true false room ∙ sym (or-true seen))
   | inr other ↦ rw (no_mark n other, ne_eqb n 1 other) (get_or-set_other marks 0 1 false false (λ e. omega (arith, e)) ∙ first ∙ sym (or_false seen))
 ]
   where
-    or_true : (b : Bool) → (b || true) ≡ true
-    or_true true = refl
-    or_true false = refl
-
     or_false : (b : Bool) → (b || false) ≡ b
     or_false true = refl
     or_false false = refl

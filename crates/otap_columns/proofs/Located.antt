@@ -8,6 +8,7 @@ use Rattle.std.proofs.lemmas.List.{length-map, map-append}
 use Rattle.std.proofs.lemmas.List.Folds.{list_any-append}
 use Rattle.std.proofs.lemmas.List.FromFn.{length-map-range_with_len, get_or-map-range_with_len}
 use Rattle.std.proofs.lemmas.Option.{slice_get-map, slice_get_within, get_or_from_slice_get}
+use Rattle.std.proofs.Math.Bool.{or-true}
 use Rattle.arrow_schema.specs.declared.spec.ArrowType.{ArrowType}
 use Rattle.arrow_schema.specs.declared.spec.ArrowType.TheVariants as arrow
 use Rattle.arrow_schema.specs.declared.spec.Encoding.TheVariants as encoding
@@ -111,10 +112,6 @@ type_stored base.Duration f elements items = refl
 type_stored base.ListU64 f elements items = rw (items (arrow.Int 64 false) refl) refl
 type_stored base.ListF64 f elements items = rw (items arrow.Double refl) refl
 type_stored (base.Id wide) f elements items = id_stored f wide elements
-
-or_true : (b : Bool) → (b || true) ≡ true
-or_true true = refl
-or_true false = refl
 
 module _ (kind : Kind) (forms : Forms) where
   -- ---- which columns are there
@@ -293,7 +290,7 @@ module _ (kind : Kind) (forms : Forms) where
         and_from (stores (base_at kind m.column) a.kind (elements_at arrays place)) (fits_encoding (column_at kind m.column) a.encoding)
         (ap (λ (t : ArrowType). stores (base_at kind m.column) t (elements_at arrays place)) type
         ∙ type_stored (column_at kind m.column).base (forms m.column) (elements_at arrays place) (λ item has. elements_are place m item there has))
-        (ap (fits_encoding (column_at kind m.column)) named ∙ or_true (not (is_id (column_at kind m.column).base)))
+        (ap (fits_encoding (column_at kind m.column)) named ∙ or-true (not (is_id (column_at kind m.column).base)))
 
     fits_place : (place : ℕ) (o : Option ArraySpec) → slice_get arrays place ≡ o → fits_column kind o (elements_at arrays place) (known_column kind arrays place) ≡ true
     fits_place place None here = refl

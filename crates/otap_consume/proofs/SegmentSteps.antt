@@ -5,6 +5,7 @@ use Rattle.std.specs.List.{flat_map, list_any}
 use Rattle.std.proofs.lemmas.Bool.{both_ways}
 use Rattle.std.proofs.lemmas.Grind.{flat_map-append}
 use Rattle.std.proofs.lemmas.List.Folds.{list_any-append}
+use Rattle.std.proofs.Math.Bool.{or-true}
 use Rattle.lists.proofs.Latest.{since-append}
 use Rattle.lists.specs.Payloads.{PayloadIn}
 use Rattle.otlp_model.specs.declared.request.Signal.{Signal}
@@ -33,10 +34,6 @@ or_false : (b : Bool) → (b || false) ≡ b
 or_false true = refl
 or_false false = refl
 
-or_true : (b : Bool) → (b || true) ≡ true
-or_true true = refl
-or_true false = refl
-
 -- one that is no reset stands in the segment of those before it
 more : (outcomes : List Outcome) (o : Outcome) → is_reset o ≡ false → segment (outcomes ++ o ∷ []) ≡ segment outcomes ++ o ∷ []
 more outcomes o stays = since-append is_reset outcomes (o ∷ []) ∙ rw stays refl
@@ -58,7 +55,7 @@ pub broken_refused : (outcomes : List Outcome) (refusal : Refusal) → is_broken
 unfolding is_broken
 broken_refused outcomes refusal =
     ap (list_any is_refused) (more outcomes (Refused refusal) refl) ∙ list_any-append is_refused (segment outcomes) (Refused refusal ∷ [])
-    ∙ or_true (list_any is_refused (segment outcomes))
+    ∙ or-true (list_any is_refused (segment outcomes))
 
 pub broken_reset : (outcomes : List Outcome) → is_broken (outcomes ++ Reset ∷ []) ≡ false
 unfolding is_broken

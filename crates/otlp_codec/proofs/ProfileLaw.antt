@@ -1,9 +1,10 @@
 -- What is read is within the profile: ids have their lengths, and values are at most 32 deep.
-use Rattle.std.proofs.Common.{◌≡◌, ℕ, zero, suc, ◌+◌, ◌≤◌, List, [], ◌∷◌, map, length, Bool, true, false, refl, subst, arith, inl, inr, ◌⊎◌}
-use Rattle.std.specs.Prelude.{fold, not, ◌==◌, ◌||◌, if◌then◌else◌, IsTrue, ⊤}
+use Rattle.std.proofs.Common.{◌≡◌, ℕ, zero, suc, ◌+◌, ◌≤◌, List, [], ◌∷◌, map, length, true, false, refl, subst, arith, inl, inr, ◌⊎◌}
+use Rattle.std.specs.Prelude.{fold, not, ◌==◌, if◌then◌else◌, IsTrue, ⊤}
 use Rattle.std.specs.Int.{w64, cast_signed}
 use Rattle.std.specs.List.{All, AllByRecursion}
 use Rattle.std.proofs.lemmas.Bool.{eq-eqb}
+use Rattle.std.proofs.Math.Bool.{or-true}
 use Rattle.std.proofs.lemmas.List.Elements.{All-from_recursion, All-head, All-tail, All-push}
 use Rattle.otlp_wire.specs.Wire as wire
 use Rattle.otlp_wire.specs.Wire.{FieldValue, Entry}
@@ -80,14 +81,10 @@ id_kept size old (wire.Varint n) p q = p
 id_kept size old (wire.Fixed64 n) p q = p
 id_kept size old (wire.Fixed32 n) p q = p
 
-or_true : (b : Bool) → (b || true) ≡ true
-or_true true = refl
-or_true false = refl
-
 id_is : (size : ℕ) (id : List ℕ) → HasLength size id → IsTrue (is_id_of size id)
 unfolding HasLength
 id_is size id (inl none) = rw none refl
-id_is size id (inr whole) = rw (eq-eqb (length id) size whole) (or_true (length id == 0))
+id_is size id (inr whole) = rw (eq-eqb (length id) size whole) (or-true (length id == 0))
 
 pub id_said : (m : Message) (n size : ℕ) (bytes : List ℕ) → kind_of m n ≡ kinds.Id size → IsFine m level_limit bytes → IsTrue (is_id_of size (said n bytes_in [] bytes))
 unfolding HasLength
