@@ -1,7 +1,7 @@
 -- How much the far end holds of what is written.
 use Rattle.std.proofs.Common.{◌≡◌, ℕ, suc, ◌+◌, ◌*◌, ◌≤◌, Bool, true, false, List, [], ◌∷◌, ◌++◌, length, map, Option, Some, None, refl, sym, ap, ◌∙◌, arith, length-append}
 use Rattle.std.specs.Prelude.{slice_get, sum_by, is_some, bytes_eq}
-use Rattle.std.specs.List.{flat_map, list_any}
+use Rattle.std.specs.List.{AllByRecursion, flat_map, list_any}
 use Rattle.std.proofs.lemmas.Bool.{false≢true}
 use Rattle.std.proofs.lemmas.List.Sums.{sum_by-cons}
 use Rattle.arrow_schema.specs.declared.spec.ArrowType.{ArrowType}
@@ -19,7 +19,6 @@ use Rattle.otap_columns.specs.Groups as group
 use Rattle.otap_columns.specs.Schemas.{Forms, FormsFit, ArraySlot, Struct, Column, Items, IsArraySlot, is_there, item_in, members_there, items_after, slots_of_member, slots_under, slots_in, slots_for, slot_field, schema_for}
 use Rattle.otap_columns.proofs.HeadsTaken.{all_some}
 use Rattle.otap_columns.proofs.Located.{count_is, slot_at}
-use Rattle.otap_columns.proofs.LookedUp.{Each}
 
 -- ---- one dictionary
 
@@ -35,7 +34,7 @@ pub light : (values : List (List ℕ)) → length values ≤ value_limit → byt
 light values few small = omega (arith, values_weigh values)
 
 -- all of them
-pub all_light : {A : Type 0} (f : A → DictionaryIn) (most : ℕ) (xs : List A) → Each (λ x. weight_of (f x) ≤ most) xs → held_weight (map f xs) ≤ most * length xs
+pub all_light : {A : Type 0} (f : A → DictionaryIn) (most : ℕ) (xs : List A) → AllByRecursion (λ x. weight_of (f x) ≤ most) xs → held_weight (map f xs) ≤ most * length xs
 all_light f most [] each = omega arith
 all_light f most (x ∷ xs) each = omega (arith, sum_by-cons weight_of (f x) (map f xs), all_light f most xs each.1, each.0, one_more most (length xs))
   where

@@ -1,7 +1,7 @@
 -- The dictionaries of a schema's fields, and looking one up.
 use Rattle.std.proofs.Common.{◌≡◌, ℕ, suc, zero, Bool, true, false, List, [], ◌∷◌, ◌++◌, Option, Some, None, refl, sym, ap, ◌∙◌, ◌⊎◌, inl, inr}
 use Rattle.std.specs.Prelude.{ℤ, map, slice_get, find}
-use Rattle.std.specs.List.{list_any, list_all}
+use Rattle.std.specs.List.{AllByRecursion, list_any, list_all}
 use Rattle.std.specs.Ordering.{int_eq}
 use Rattle.std.proofs.lemmas.Bool.{cases_Bool, and_parts, and_from, or_cases, or_left, or_right, false≢true}
 use Rattle.std.proofs.lemmas.Bool.Decides.{Decides-int_eq}
@@ -15,25 +15,20 @@ use Rattle.arrow_ipc.specs.declared.messages.IpcMessage.{IpcMessage}
 use Rattle.arrow_arrays.specs.declared.spec.ArraySpec.{ArraySpec}
 use Rattle.otap_columns.specs.Dictionaries.{dictionary, DictionaryIn, has_id, is_for, with_dictionary, with_dictionaries, empty_dictionaries, filled, dictionaries_in, values_if, values_for}
 
--- what holds of each
-abbrev pub Each : {A : Type 0} → (A → Type 0) → List A → Type 0
-Each P [] = Unit {0}
-Each P (x ∷ xs) = P x × Each P xs
-
-pub each-append : {A : Type 0} (P : A → Type 0) (xs ys : List A) → Each P xs → Each P ys → Each P (xs ++ ys)
+pub each-append : {A : Type 0} (P : A → Type 0) (xs ys : List A) → AllByRecursion P xs → AllByRecursion P ys → AllByRecursion P (xs ++ ys)
 each-append P [] ys h k = k
 each-append P (x ∷ xs) ys h k = (h.0, each-append P xs ys h.1 k)
 
 -- tests of all
-pub all_by : {A B : Type 0} (test : B → Bool) (f : A → B) (xs : List A) → Each (λ x. test (f x) ≡ true) xs → list_all test (map f xs) ≡ true
+pub all_by : {A B : Type 0} (test : B → Bool) (f : A → B) (xs : List A) → AllByRecursion (λ x. test (f x) ≡ true) xs → list_all test (map f xs) ≡ true
 all_by test f [] h = refl
 all_by test f (x ∷ xs) h = and_from (test (f x)) (list_all test (map f xs)) h.0 (all_by test f xs h.1)
 
-pub none_by : {A B : Type 0} (test : B → Bool) (f : A → B) (xs : List A) → Each (λ x. test (f x) ≡ false) xs → list_any test (map f xs) ≡ false
+pub none_by : {A B : Type 0} (test : B → Bool) (f : A → B) (xs : List A) → AllByRecursion (λ x. test (f x) ≡ false) xs → list_any test (map f xs) ≡ false
 none_by test f [] h = refl
 none_by test f (x ∷ xs) h = rw h.0 (none_by test f xs h.1)
 
-pub each_weaker : {A : Type 0} (P Q : A → Type 0) → ((x : A) → P x → Q x) → (xs : List A) → Each P xs → Each Q xs
+pub each_weaker : {A : Type 0} (P Q : A → Type 0) → ((x : A) → P x → Q x) → (xs : List A) → AllByRecursion P xs → AllByRecursion Q xs
 each_weaker P Q weaker [] h = tt
 each_weaker P Q weaker (x ∷ xs) h = (weaker x h.0, each_weaker P Q weaker xs h.1)
 
@@ -111,23 +106,24 @@ id_known arrays ms place a dict at is = known_filled a.kind dict.id ms (with_dic
 
 -- ---- each dictionary is some field's
 
-each_with-one : (Q : ArrowType → ℤ → Type 0) (ds : List DictionaryIn) (kind : ArrowType) (dict : Option DictSpec) → Each (λ (d : DictionaryIn). Q d.kind d.id) ds
-    → ((own : DictSpec) → dict ≡ Some own → Q kind own.id) → Each (λ (d : DictionaryIn). Q d.kind d.id) (with_dictionary ds kind dict)
+each_with-one : (Q : ArrowType → ℤ → Type 0) (ds : List DictionaryIn) (kind : ArrowType) (dict : Option DictSpec) → AllByRecursion (λ (d : DictionaryIn). Q d.kind d.id) ds
+    → ((own : DictSpec) → dict ≡ Some own → Q kind own.id) → AllByRecursion (λ (d : DictionaryIn). Q d.kind d.id) (with_dictionary ds kind dict)
 each_with-one Q ds kind None h here = h
 each_with-one Q ds kind (Some dict) h here = by (cases_Bool (list_any (is_for kind dict.id) ds))
   where
-    by : (list_any (is_for kind dict.id) ds ≡ true) ⊎ (list_any (is_for kind dict.id) ds ≡ false) → Each (λ (d : DictionaryIn). Q d.kind d.id) (with_dictionary ds kind (Some dict))
+    by : (list_any (is_for kind dict.id) ds ≡ true) ⊎ (list_any (is_for kind dict.id) ds ≡ false)
+        → AllByRecursion (λ (d : DictionaryIn). Q d.kind d.id) (with_dictionary ds kind (Some dict))
     by (inl there) = rw there h
     by (inr none) = rw none (each-append (λ (d : DictionaryIn). Q d.kind d.id) ds (record { id = dict.id; kind = kind; values = [] } ∷ []) h (here dict refl, tt))
 
-each_with : (Q : ArrowType → ℤ → Type 0) (ds : List DictionaryIn) (arrays : List ArraySpec) → Each (λ (d : DictionaryIn). Q d.kind d.id) ds
+each_with : (Q : ArrowType → ℤ → Type 0) (ds : List DictionaryIn) (arrays : List ArraySpec) → AllByRecursion (λ (d : DictionaryIn). Q d.kind d.id) ds
     → ((place : ℕ) (a : ArraySpec) (dict : DictSpec) → slice_get arrays place ≡ Some a → a.dict ≡ Some dict → Q a.kind dict.id)
-    → Each (λ (d : DictionaryIn). Q d.kind d.id) (with_dictionaries ds arrays)
+    → AllByRecursion (λ (d : DictionaryIn). Q d.kind d.id) (with_dictionaries ds arrays)
 each_with Q ds [] h here = h
 each_with Q ds (a ∷ arrays) h here =
     each_with Q (with_dictionary ds a.kind a.dict) arrays (each_with-one Q ds a.kind a.dict h (λ own is. here 0 a own refl is)) (λ place b dict at is. here (suc place) b dict at is)
 
 pub each_dictionary : (Q : ArrowType → ℤ → Type 0) (arrays : List ArraySpec) → ((place : ℕ) (a : ArraySpec) (dict : DictSpec) → slice_get arrays place ≡ Some a → a.dict ≡ Some dict → Q a.kind dict.id)
-    → Each (λ (d : DictionaryIn). Q d.kind d.id) (empty_dictionaries arrays)
+    → AllByRecursion (λ (d : DictionaryIn). Q d.kind d.id) (empty_dictionaries arrays)
 unfolding empty_dictionaries
 each_dictionary Q arrays here = each_with Q [] arrays tt here

@@ -1,7 +1,7 @@
 -- A record that the policy gives is read: no message of it has a defect, and its record batch is the table.
 use Rattle.std.proofs.Common.{◌≡◌, ℕ, suc, zero, ◌*◌, ◌<◌, ◌≤◌, Bool, true, false, ◌||◌, List, [], ◌∷◌, ◌++◌, length, get_or, Option, Some, None, refl, sym, ap, ◌∙◌, subst, arith, append_assoc, nat_lt, ◌⊎◌, inl, inr}
 use Rattle.std.specs.Prelude.{sum_by, ℤ, pos, not, Ok, is_ok, slice_get, All}
-use Rattle.std.specs.List.{list_any, list_all}
+use Rattle.std.specs.List.{AllByRecursion, list_any, list_all}
 use Rattle.std.specs.Ordering.{int_eq}
 use Rattle.std.proofs.lemmas.Bool.{cases_Bool, false≢true, le-ltb}
 use Rattle.std.proofs.lemmas.Bool.Decides.{Decides-int_eq}
@@ -40,7 +40,7 @@ use Rattle.otap_columns.proofs.CellsBack.{cell_back}
 use Rattle.otap_columns.proofs.Growing.{dictionary-other, dictionaries_in-batch, schema_in-stays, substream_from}
 use Rattle.otap_columns.proofs.HeldLess.{all_light, few_dictionaries}
 use Rattle.otap_columns.proofs.HeadsTaken.{all_some, Turn, stays, gets, Turns, after_turn, few_after}
-use Rattle.otap_columns.proofs.LookedUp.{Each, all_by, none_by, each_weaker, values_found, id_known, each_dictionary}
+use Rattle.otap_columns.proofs.LookedUp.{all_by, none_by, each_weaker, values_found, id_known, each_dictionary}
 use Rattle.otap_columns.proofs.SchemaFacts.{HasColumn, has_column, coded, own_cells, dict_told, dict_there, form_there}
 use Rattle.otap_columns.proofs.Located.{column_found, column_absent}
 use Rattle.otap_columns.proofs.Tabled.{table_kind, table_coding}
@@ -110,7 +110,7 @@ module _ (kind : Kind) (forms : Forms) (values : ℕ → List (List ℕ)) (start
       let told = dict_told h.column (forms h.column) d (sym h.dict ∙ is) in
       record { column = h.column; below = h.below; dict = told.0; id_is = told.1; type_is = h.type }
 
-  each_owned : Each (λ (d : DictionaryIn). IsOwn d.kind d.id) (empty_dictionaries (arrays_of (schema_for kind forms)))
+  each_owned : AllByRecursion (λ (d : DictionaryIn). IsOwn d.kind d.id) (empty_dictionaries (arrays_of (schema_for kind forms)))
   each_owned = each_dictionary IsOwn (arrays_of (schema_for kind forms)) owned
 
   -- no dictionary has too many values

@@ -1,5 +1,6 @@
 -- What the columns of a writer tell before and after one more table: its record is one by the policy.
 use Rattle.std.proofs.Common.{◌≡◌, ℕ, ◌<◌, ◌≤◌, Bool, true, false, ◌||◌, List, [], ◌∷◌, ◌++◌, length, get_or, None, refl, sym, ap, ◌∙◌, arith, inl, inr, subst}
+use Rattle.std.specs.List.{AllByRecursion}
 use Rattle.std.proofs.lemmas.Bool.{cases_lt, false≢true}
 use Rattle.std.proofs.lemmas.List.{get_or_past}
 use Rattle.otap_cells.specs.declared.payload.Kind.{Kind}
@@ -27,13 +28,12 @@ use Rattle.otap_columns.specs.WrittenRows.{HasValues, IsKnownIn, unseen as unsee
 use Rattle.otap_columns.specs.BuiltRows.{CanWrite, columns_in}
 use Rattle.otap_columns.specs.Writers.{AreSeen, AreWritable, is_started}
 use Rattle.otap_columns.specs.WriterInside.{AreForms, SeesAll}
-use Rattle.otap_columns.proofs.LookedUp.{Each}
 use Rattle.otap_columns.proofs.SeenOn.{told_is}
 use Rattle.otap_columns.proofs.ValuesSeen.{forms_fit, few_values, small_values, ids_fit}
 use Rattle.otap_columns.proofs.ValuesKept.{base_holds, bytes_alike, kept_values, known_value, narrow_values, no_id, no_list, takes_one, values_are}
 
 -- each of them can be written
-pub writable_each : (kind : Kind) (tables : List Table) → AreWritable kind tables → Each (IsWritableTable kind) tables
+pub writable_each : (kind : Kind) (tables : List Table) → AreWritable kind tables → AllByRecursion (IsWritableTable kind) tables
 writable_each kind [] all = tt
 writable_each kind (t ∷ tables) all = (all.0, writable_each kind tables all.1)
 
@@ -95,7 +95,7 @@ module _ (kind : Kind) (tables : List Table) (columns : List SeenIn) (forms : Li
   is_single column is = no_list (base_at kind column) (takes_one kind tables column (dictionary_low column is) (is_one column is))
 
   -- the values of a dictionary can be written from a place on
-  pub can_send : Each (IsWritableTable kind) tables → (column from : ℕ) → is_dictionary (forms_in forms column) ≡ true → from ≤ length (values_at kind tables column)
+  pub can_send : AllByRecursion (IsWritableTable kind) tables → (column from : ℕ) → is_dictionary (forms_in forms column) ≡ true → from ≤ length (values_at kind tables column)
       → CanSendColumn (base_at kind column) (forms_in forms column) from (columns_in columns column)
   can_send writable column from is there =
       let low : column < width_of kind = dictionary_low column is in

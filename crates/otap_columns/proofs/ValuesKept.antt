@@ -1,7 +1,7 @@
 -- What the values of a column's dictionary are: bytes of cells, few of them, and none of ids or lists.
 use Rattle.std.proofs.Common.{◌≡◌, ℕ, zero, suc, ◌<◌, ◌≤◌, Bool, true, false, List, [], ◌∷◌, ◌++◌, length, map, drop, fold, get_or, Option, Some, None, refl, sym, ap, ◌∙◌, arith, inl, inr, subst}
 use Rattle.std.specs.Prelude.{slice_get, nat_lt, bytes_eq, if◌then◌else◌}
-use Rattle.std.specs.List.{list_any, list_all, flat_map}
+use Rattle.std.specs.List.{AllByRecursion, list_any, list_all, flat_map}
 use Rattle.std.proofs.lemmas.Bool.{cases_Bool, and_from, and_parts, or_left, or_right, ltb-false, false≢true, true≢false}
 use Rattle.std.proofs.lemmas.Slice.Eq.{bytes_eq-Decides}
 use Rattle.std.proofs.lemmas.List.Folds.{list_any-append}
@@ -38,7 +38,7 @@ use Rattle.otap_columns.specs.BuiltCells.{plain_width}
 use Rattle.otap_columns.specs.WrittenRows.{IsKnownIn}
 use Rattle.otap_columns.proofs.Grouping.{kinds_grouped, may_be_dictionary}
 use Rattle.otap_columns.proofs.Keeping.{marked_takes}
-use Rattle.otap_columns.proofs.LookedUp.{Each, each-append}
+use Rattle.otap_columns.proofs.LookedUp.{each-append}
 use Rattle.otap_columns.proofs.HeadsTaken.{all_some}
 use Rattle.otap_columns.proofs.ColumnsBuilt.{plain_fits}
 use Rattle.otap_columns.proofs.PartsBuilt.{text_cell}
@@ -77,16 +77,18 @@ value_of holds cell value is at = (plain_fits holds form.Wide cell is value at, 
 -- ---- those of a column, of tables, and the distinct ones
 
 cells_given : (holds : Base) (rows : List (List Cell)) (column : ℕ) → ((row : ℕ) → row < length rows → IsCellOf holds (cell_in rows column row))
-    → Each (IsValueOf holds) (given (map (bytes_for holds form.Wide) (column_in rows column)))
+    → AllByRecursion (IsValueOf holds) (given (map (bytes_for holds form.Wide) (column_in rows column)))
 cells_given holds [] column each = tt
 cells_given holds (r ∷ rows) column each = by (bytes_for holds form.Wide (get_or r column null)) refl (cells_given holds rows column (λ row low. each (suc row) (omega arith)))
   where
-    by : (o : Option (List ℕ)) → bytes_for holds form.Wide (get_or r column null) ≡ o → Each (IsValueOf holds) (given (map (bytes_for holds form.Wide) (column_in rows column)))
-        → Each (IsValueOf holds) (given (map (bytes_for holds form.Wide) (column_in (r ∷ rows) column)))
+    by : (o : Option (List ℕ)) → bytes_for holds form.Wide (get_or r column null) ≡ o
+        → AllByRecursion (IsValueOf holds) (given (map (bytes_for holds form.Wide) (column_in rows column)))
+        → AllByRecursion (IsValueOf holds) (given (map (bytes_for holds form.Wide) (column_in (r ∷ rows) column)))
     by None is rest = rw is rest
     by (Some value) is rest = rw is (value_of holds (get_or r column null) value (each 0 (omega arith)) is, rest)
 
-tables_given : (kind : Kind) (column : ℕ) (tables : List Table) → Each (IsWritableTable kind) tables → Each (IsValueOf (columns.base_at kind column)) (flat_map (values_in kind column) tables)
+tables_given : (kind : Kind) (column : ℕ) (tables : List Table) → AllByRecursion (IsWritableTable kind) tables
+    → AllByRecursion (IsValueOf (columns.base_at kind column)) (flat_map (values_in kind column) tables)
 tables_given kind column [] each = tt
 tables_given kind column (t ∷ tables) each =
     each-append (IsValueOf (columns.base_at kind column)) (values_in kind column t) (flat_map (values_in kind column) tables)
@@ -94,7 +96,7 @@ tables_given kind column (t ∷ tables) each =
     (λ row low. subst (λ (k : Kind). IsCellOf (columns.base_at k column) (cell_in t.rows column row)) each.0.kind_is (each.0.table.fits column row)))
     (tables_given kind column tables each.1)
 
-each_distinct : (P : List ℕ → Type 0) (known values : List (List ℕ)) → Each P known → Each P values → Each P (fold with_value known values)
+each_distinct : (P : List ℕ → Type 0) (known values : List (List ℕ)) → AllByRecursion P known → AllByRecursion P values → AllByRecursion P (fold with_value known values)
 each_distinct P known [] have more = have
 each_distinct P known (v ∷ vs) have more =
     elim (cases_Bool (list_any (bytes_eq v) known)) [
@@ -102,28 +104,29 @@ each_distinct P known (v ∷ vs) have more =
       | inr new ↦ each_distinct P (with_value known v) vs (rw new (each-append P known (v ∷ []) have (more.0, tt))) more.1
     ]
 
-pub values_are : (kind : Kind) (column : ℕ) (tables : List Table) → Each (IsWritableTable kind) tables → Each (IsValueOf (columns.base_at kind column)) (values_at kind tables column)
+pub values_are : (kind : Kind) (column : ℕ) (tables : List Table) → AllByRecursion (IsWritableTable kind) tables
+    → AllByRecursion (IsValueOf (columns.base_at kind column)) (values_at kind tables column)
 unfolding values_at distinct seen
 values_are kind column tables each =
     each_distinct (IsValueOf (columns.base_at kind column)) [] (flat_map (values_in kind column) tables) tt (tables_given kind column tables each)
 
 -- ---- as values of a type
 
-each_at : (P : List ℕ → Type 0) (values : List (List ℕ)) → Each P values → (place : ℕ) (value : List ℕ) → slice_get values place ≡ Some value → P value
+each_at : (P : List ℕ → Type 0) (values : List (List ℕ)) → AllByRecursion P values → (place : ℕ) (value : List ℕ) → slice_get values place ≡ Some value → P value
 each_at P [] each place value at = absurd (cc)
 each_at P (v ∷ vs) each zero value at = let same : v ≡ value = cc in subst P same each.0
 each_at P (v ∷ vs) each (suc place) value at = each_at P vs each.1 place value at
 
-each_drop : (P : List ℕ → Type 0) (from : ℕ) (values : List (List ℕ)) → Each P values → Each P (drop from values)
+each_drop : (P : List ℕ → Type 0) (from : ℕ) (values : List (List ℕ)) → AllByRecursion P values → AllByRecursion P (drop from values)
 each_drop P zero values each = each
 each_drop P (suc from) [] each = tt
 each_drop P (suc from) (v ∷ vs) each = each_drop P from vs each.1
 
-each_texts : (values : List (List ℕ)) → Each (λ value. list_all is_text (Some value ∷ []) ≡ true) values → list_all is_text (all_some values) ≡ true
+each_texts : (values : List (List ℕ)) → AllByRecursion (λ value. list_all is_text (Some value ∷ []) ≡ true) values → list_all is_text (all_some values) ≡ true
 each_texts [] each = refl
 each_texts (v ∷ vs) each = and_from (is_text (Some v)) (list_all is_text (all_some vs)) (and_parts (is_text (Some v)) true each.0).0 (each_texts vs each.1)
 
-all_texts : (l : Layout) (values : List (List ℕ)) → Each (λ value. AreTexts l (Some value ∷ [])) values → AreTexts l (all_some values)
+all_texts : (l : Layout) (values : List (List ℕ)) → AllByRecursion (λ value. AreTexts l (Some value ∷ [])) values → AreTexts l (all_some values)
 all_texts layout.Struct values each = tt
 all_texts layout.Bits values each = tt
 all_texts (layout.Fixed n) values each = tt
@@ -132,7 +135,7 @@ all_texts layout.Text values each = each_texts values each
 all_texts layout.List values each = tt
 
 type_holds : (type : ArrowType) (w : Width) (values : List (List ℕ)) → width_of (layout_of_values type) ≡ Some w → IsSingle w
-    → Each (λ value. HasWidth w value × AreTexts (layout_of_values type) (Some value ∷ [])) values → HoldsType type w values
+    → AllByRecursion (λ value. HasWidth w value × AreTexts (layout_of_values type) (Some value ∷ [])) values → HoldsType type w values
 type_holds type w values stored single each = record {
   stored = stored;
   single = single;
@@ -140,11 +143,13 @@ type_holds type w values stored single each = record {
   texts = λ from. all_texts (layout_of_values type) (drop from values) (second (drop from values) (each_drop (λ v. HasWidth w v × AreTexts (layout_of_values type) (Some v ∷ [])) from values each));
 }
   where
-    second : (vs : List (List ℕ)) → Each (λ v. HasWidth w v × AreTexts (layout_of_values type) (Some v ∷ [])) vs → Each (λ v. AreTexts (layout_of_values type) (Some v ∷ [])) vs
+    second : (vs : List (List ℕ)) → AllByRecursion (λ v. HasWidth w v × AreTexts (layout_of_values type) (Some v ∷ [])) vs
+        → AllByRecursion (λ v. AreTexts (layout_of_values type) (Some v ∷ [])) vs
     second [] h = tt
     second (v ∷ vs) h = (h.0.1, second vs h.1)
 
-pub base_holds : (holds : Base) (f : ColumnForm) (values : List (List ℕ)) → is_id holds ≡ false → takes_dictionary (type_in holds form.Plain) ≡ true → Each (IsValueOf holds) values
+pub base_holds : (holds : Base) (f : ColumnForm) (values : List (List ℕ)) → is_id holds ≡ false → takes_dictionary (type_in holds form.Plain) ≡ true
+    → AllByRecursion (IsValueOf holds) values
     → HoldsType (type_in holds f) (plain_width holds f) values
 base_holds base.U8 f values id takes each = type_holds _ _ values refl (omega arith) each
 base_holds base.U16 f values id takes each = type_holds _ _ values refl (omega arith) each
