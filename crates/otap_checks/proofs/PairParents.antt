@@ -1,6 +1,7 @@
 -- The parents of a table of attributes: none is null, and each is one of those that it was written for.
 use Rattle.std.proofs.Common.{◌≡◌, ℕ, zero, suc, ◌<◌, ◌≤◌, ◌^◌, Bool, true, false, List, [], ◌∷◌, map, drop, length, Option, Some, None, refl, sym, ◌∙◌, ap, subst, arith}
 use Rattle.std.specs.Prelude.{Contains}
+use Rattle.std.specs.List.{AllByRecursion}
 use Rattle.std.proofs.lemmas.Bool.{false≢true}
 use Rattle.std.proofs.lemmas.List.{get_or_default, length-map}
 use Rattle.std.proofs.lemmas.List.FromFn.{get_or-map-range_with_len, length-map-range_with_len}
@@ -24,7 +25,6 @@ use Rattle.otap_groups.specs.Stored.{IsPairRows}
 use Rattle.otap_groups.proofs.Bounds.{BoundedParts, bounded_placed}
 use Rattle.otap_groups.proofs.GroupsApart.{every_contained}
 use Rattle.otap_groups.proofs.IdColumns.{each_id}
-use Rattle.otap_groups.proofs.RunBlocks.{Every}
 use Rattle.otap_groups.proofs.StoredRows.{coding_is}
 use Rattle.otap_attrs.specs.Sorting.{coded_rows}
 use Rattle.otap_attrs.specs.Tables.{attribute_table, row_of_pair}
@@ -48,7 +48,7 @@ no_null how last before rows (Some n ∷ ns) (Some id ∷ ids) runs is (suc k, w
 abbrev AtMost : ℕ → ChildRow → Type 0
 AtMost last row = (p : ℕ) × (row.parent ≡ Some p) × (p ≤ last)
 
-parts_low : (n last : ℕ) (ps : List (PlacedIn Pair)) → BoundedParts last ps → Every (AtMost last) (part_rows unnumbered pair_cells n ps)
+parts_low : (n last : ℕ) (ps : List (PlacedIn Pair)) → BoundedParts last ps → AllByRecursion (AtMost last) (part_rows unnumbered pair_cells n ps)
 parts_low n last [] all = tt
 parts_low n last (p ∷ ps) all = ((p.parent, refl, all.0), parts_low (suc n) last ps all.1)
 
@@ -64,7 +64,7 @@ row_of parents cells p long at =
     (row, is, (at.0, omega (arith, size, within), get_or-map-range_with_len (child_row_at [] parents cells) 0 (length cells) at.0 at.0 row within (omega arith)))
 
 -- what holds of the rows that are written holds of a row with each parent
-parent_written : (t : Table) (P : ChildRow → Type 0) (xs rows : List ChildRow) (have : IsPairRows t rows) → IsPermutation xs rows → Every P xs
+parent_written : (t : Table) (P : ChildRow → Type 0) (xs rows : List ChildRow) (have : IsPairRows t rows) → IsPermutation xs rows → AllByRecursion P xs
     → (p : ℕ) → Contains have.parents (Some p) → (row : ChildRow) × (row.parent ≡ Some p) × P row
 parent_written t P xs rows have moved all p at =
     let cells : List (List Cell) = map (drop 1) t.rows in

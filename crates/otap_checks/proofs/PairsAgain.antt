@@ -1,7 +1,7 @@
 -- Pairs that are written for parents are found again, in whatever order their rows stand.
 use Rattle.std.proofs.Common.{◌≡◌, ℕ, ◌≤◌, ◌^◌, true, List, [], ◌∷◌, Option, length, map, drop, ap, ◌∙◌, subst}
 use Rattle.std.specs.Prelude.{All, IsTrue}
-use Rattle.std.specs.List.{flat_map}
+use Rattle.std.specs.List.{AllByRecursion, flat_map}
 use Rattle.std.proofs.lemmas.Bool.{and_parts}
 use Rattle.std.proofs.lemmas.List.Elements.{All-head, All-tail}
 use Rattle.otlp_model.specs.Depth.{depth_of}
@@ -24,7 +24,7 @@ use Rattle.otap_groups.proofs.Joins.{agrees}
 use Rattle.otap_groups.proofs.LightGroups.{reordered_weigh}
 use Rattle.otap_groups.proofs.OrderLaws.{reordered}
 use Rattle.otap_groups.proofs.ReadLaws.{reads_alone}
-use Rattle.otap_groups.proofs.RunBlocks.{Every, every_append}
+use Rattle.otap_groups.proofs.RunBlocks.{every_append}
 use Rattle.otap_attrs.specs.Tables.{attribute_table}
 use Rattle.otap_attrs.specs.Values.{pair_cells, pair_in}
 use Rattle.otap_attrs.proofs.TableLaws.{table_has_rows}
@@ -36,7 +36,7 @@ abbrev pub IsBackPair : Pair → Type 0
 IsBackPair pair = pair_in (pair_cells pair) ≡ pair
 
 abbrev pub AreBack : List Pair → Type 0
-AreBack pairs = Every IsBackPair pairs
+AreBack pairs = AllByRecursion IsBackPair pairs
 
 abbrev item_of_pair : Option ℕ → List Cell → Pair
 item_of_pair id cells = pair_in cells
@@ -58,12 +58,12 @@ abbrev pub IsBackScope : Scope → Type 0
 IsBackScope scope = AreBack scope.pairs
 
 -- what holds of each element of each list holds of all
-pub every_list : {A : Type 0} (P : A → Type 0) (lists : List (List A)) → All (λ xs. Every P xs) lists → Every P (flat_map (λ (xs : List A). xs) lists)
+pub every_list : {A : Type 0} (P : A → Type 0) (lists : List (List A)) → All (λ xs. AllByRecursion P xs) lists → AllByRecursion P (flat_map (λ (xs : List A). xs) lists)
 every_list P [] all = tt
 every_list {A = A} P (xs ∷ lists) all =
-    every_append P xs (flat_map (λ (xs : List A). xs) lists) (All-head (λ xs. Every P xs) xs lists all) (every_list P lists (All-tail (λ xs. Every P xs) xs lists all))
+    every_append P xs (flat_map (λ (xs : List A). xs) lists) (All-head (λ xs. AllByRecursion P xs) xs lists all) (every_list P lists (All-tail (λ xs. AllByRecursion P xs) xs lists all))
 
-pub all_every : {A : Type 0} (P : A → Type 0) (xs : List A) → All P xs → Every P xs
+pub all_every : {A : Type 0} (P : A → Type 0) (xs : List A) → All P xs → AllByRecursion P xs
 all_every P [] all = tt
 all_every P (x ∷ xs) all = (All-head P x xs all, all_every P xs (All-tail P x xs all))
 

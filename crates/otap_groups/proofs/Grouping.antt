@@ -1,7 +1,7 @@
 -- The rows of a request make its groups that have items.
 use Rattle.std.proofs.Common.{◌≡◌, ℕ, suc, ◌+◌, ◌<◌, ◌≤◌, Bool, true, false, ◌&&◌, List, [], ◌∷◌, ◌++◌, Option, Some, length, map, refl, sym, ◌∙◌, ap, subst, arith, append-nil}
 use Rattle.std.specs.Prelude.{◌==◌, nat_lt, filter}
-use Rattle.std.specs.List.{flat_map}
+use Rattle.std.specs.List.{AllByRecursion, flat_map}
 use Rattle.std.proofs.lemmas.Bool.Decides.{nat_tests}
 use Rattle.std.proofs.lemmas.Bool.{and_from}
 use Rattle.std.proofs.lemmas.List.{length-map, map-append}
@@ -23,7 +23,7 @@ use Rattle.otap_groups.specs.Stored.{Rising}
 use Rattle.otap_groups.proofs.CellTests.{cell_is_itself, cells_are_themselves, id_is_itself}
 use Rattle.otap_groups.proofs.FlatSteps.{length_flat_scopes, rising_groups, rising_scopes}
 use Rattle.otap_groups.proofs.Joins.{agree_after, agree_front, reads_after, reads_front}
-use Rattle.otap_groups.proofs.RunBlocks.{Every, First, block, every_append}
+use Rattle.otap_groups.proofs.RunBlocks.{First, block, every_append}
 
 resource_back : (resource : Resource) (pairs : List Pair) → pairs ≡ resource.pairs → resource_of (resource_cells resource) pairs ≡ resource
 resource_back resource pairs is = λ i. record { schema_url = text_back resource.schema_url i; dropped = number_back resource.dropped i; pairs = is i }
@@ -93,15 +93,18 @@ module _ {I : Type 0} (cells_of : I → List Cell) where
       ap (λ rows. numbered_row cells_of n f ∷ rows)
       (numbered_append (suc n) fs gs ∙ ap (λ m. numbered_rows cells_of (suc n) fs ++ numbered_rows cells_of m gs) (omega arith))
 
-  in_scope : (n r s : ℕ) (resource : Resource) (scope : Scope) (items : List I) → Every (InScope s scope) (numbered_rows cells_of n (map (flat_at r s resource scope) items))
+  in_scope : (n r s : ℕ) (resource : Resource) (scope : Scope) (items : List I)
+      → AllByRecursion (InScope s scope) (numbered_rows cells_of n (map (flat_at r s resource scope) items))
   in_scope n r s resource scope [] = tt
   in_scope n r s resource scope (item ∷ items) = ((refl, refl, refl), in_scope (suc n) r s resource scope items)
 
-  one_resource : (n r s : ℕ) (resource : Resource) (scope : Scope) (items : List I) → Every (InResource r resource) (numbered_rows cells_of n (map (flat_at r s resource scope) items))
+  one_resource : (n r s : ℕ) (resource : Resource) (scope : Scope) (items : List I)
+      → AllByRecursion (InResource r resource) (numbered_rows cells_of n (map (flat_at r s resource scope) items))
   one_resource n r s resource scope [] = tt
   one_resource n r s resource scope (item ∷ items) = ((refl, refl), one_resource (suc n) r s resource scope items)
 
-  in_resource : (n r s : ℕ) (resource : Resource) (groups : List (ScopeGroup I)) → Every (InResource r resource) (numbered_rows cells_of n (flat_scopes r s resource groups))
+  in_resource : (n r s : ℕ) (resource : Resource) (groups : List (ScopeGroup I))
+      → AllByRecursion (InResource r resource) (numbered_rows cells_of n (flat_scopes r s resource groups))
   in_resource n r s resource [] = tt
   in_resource n r s resource (group ∷ groups) =
       rw (numbered_append n (map (flat_at r s resource group.scope) group.items) (flat_scopes r (past s group.items) resource groups))
@@ -246,8 +249,8 @@ module _ {I : Type 0} (cells_of : I → List Cell) (resources scopes : Option �
       (subst (λ gs. Agree scopes s (scope_pairs (all_scopes gs))) same of_scopes) in
       let at : s + length (scope_pairs (filter has_items group.scopes)) ≡ scopes_past s group.scopes =
       ap (λ m. s + m) (length-map (filter has_items group.scopes) (λ (group : ScopeGroup I). group.scope.pairs)) ∙ sym (scopes_past_kept s group.scopes) in
-      let inside : Every (InResource r group.resource) (numbered_rows cells_of n (f ∷ fs)) =
-      subst (λ fs. Every (InResource r group.resource) (numbered_rows cells_of n fs)) is (in_resource cells_of n r s group.resource group.scopes) in
+      let inside : AllByRecursion (InResource r group.resource) (numbered_rows cells_of n (f ∷ fs)) =
+      subst (λ fs. AllByRecursion (InResource r group.resource) (numbered_rows cells_of n fs)) is (in_resource cells_of n r s group.resource group.scopes) in
       let scopes_are : map (scope_group scopes item) (runs same_scope (numbered_rows cells_of n (f ∷ fs))) ≡ filter has_items group.scopes =
       subst (λ fs. map (scope_group scopes item) (runs same_scope (numbered_rows cells_of n fs)) ≡ filter has_items group.scopes) is
       (scopes_back n r s group.resource group.scopes (reads_front numbered cells_of item n _ (items_of groups) reads) (agree_front scopes s _ _ scopes_here)) in

@@ -1,6 +1,7 @@
 -- The groups of a request in its rows: each has rows, and rows of one group have the same cells.
 use Rattle.std.proofs.Common.{◌≡◌, ℕ, zero, suc, ◌+◌, ◌-◌, ◌<◌, Bool, true, List, [], ◌∷◌, ◌++◌, Option, Some, length, map, refl, sym, ◌∙◌, ap, subst, arith, inl, inr, length-append}
 use Rattle.std.specs.Prelude.{Contains, filter, nat_lt}
+use Rattle.std.specs.List.{AllByRecursion}
 use Rattle.std.proofs.lemmas.Bool.Decides.{nat_tests}
 use Rattle.std.proofs.lemmas.Bool.{cases_lt, false≢true}
 use Rattle.std.proofs.lemmas.List.{length-map, map-append}
@@ -18,17 +19,17 @@ use Rattle.otap_groups.proofs.Bounds.{size_of_flat}
 use Rattle.otap_groups.proofs.CellTests.{cells_are_themselves}
 use Rattle.otap_groups.proofs.FlatItems.{scopes_step}
 use Rattle.otap_groups.proofs.Grouping.{none_kept, scopes_past_kept, some_kept}
-use Rattle.otap_groups.proofs.RunBlocks.{Every, every_append}
+use Rattle.otap_groups.proofs.RunBlocks.{every_append}
 use Rattle.otap_groups.proofs.RunningIds.{item_ids, running_once, running_there}
 
 -- ---- elements and their places
 
-pub every_contained : {A : Type 0} (P : A → Type 0) (xs : List A) (x : A) → Every P xs → Contains xs x → P x
+pub every_contained : {A : Type 0} (P : A → Type 0) (xs : List A) (x : A) → AllByRecursion P xs → Contains xs x → P x
 every_contained P [] x all (k, within, at) = absurd (omega arith)
 every_contained P (y ∷ ys) x all (zero, within, at) = subst P at all.0
 every_contained P (y ∷ ys) x all (suc k, within, at) = every_contained P ys x all.1 (k, omega arith, at)
 
-pub every_weaker : {A : Type 0} (P Q : A → Type 0) (xs : List A) → ((x : A) → P x → Q x) → Every P xs → Every Q xs
+pub every_weaker : {A : Type 0} (P Q : A → Type 0) (xs : List A) → ((x : A) → P x → Q x) → AllByRecursion P xs → AllByRecursion Q xs
 every_weaker P Q [] weaker all = tt
 every_weaker P Q (x ∷ xs) weaker all = (weaker x all.0, every_weaker P Q xs weaker all.1)
 
@@ -82,11 +83,11 @@ module _ {I : Type 0} where
   abbrev OfResource : ℕ → Resource → FlatIn I → Type 0
   OfResource r resource f = (f.resource_id ≡ r) × (f.resource ≡ resource)
 
-  of_items : (r s : ℕ) (resource : Resource) (scope : Scope) (items : List I) → Every (OfResource r resource) (map (flat_at r s resource scope) items)
+  of_items : (r s : ℕ) (resource : Resource) (scope : Scope) (items : List I) → AllByRecursion (OfResource r resource) (map (flat_at r s resource scope) items)
   of_items r s resource scope [] = tt
   of_items r s resource scope (item ∷ items) = ((refl, refl), of_items r s resource scope items)
 
-  of_scopes : (r s : ℕ) (resource : Resource) (groups : List (ScopeGroup I)) → Every (OfResource r resource) (flat_scopes r s resource groups)
+  of_scopes : (r s : ℕ) (resource : Resource) (groups : List (ScopeGroup I)) → AllByRecursion (OfResource r resource) (flat_scopes r s resource groups)
   of_scopes r s resource [] = tt
   of_scopes r s resource (group ∷ groups) =
       every_append (OfResource r resource) (map (flat_at r s resource group.scope) group.items) _ (of_items r s resource group.scope group.items) (of_scopes r (past s group.items) resource groups)
@@ -108,7 +109,7 @@ module _ {I : Type 0} where
             → Contains (resource_numbers (fs ++ flat_groups (past r fs) (scopes_past s group.scopes) groups)) (Some (r + p))
         by p [] none within after = after r p (subst (λ xs. p < length xs) (none_more group groups r s none) within)
         by zero (f ∷ fs) some within after =
-            let all : Every (OfResource r group.resource) (f ∷ fs) = subst (Every (OfResource r group.resource)) some (of_scopes r s group.resource group.scopes) in
+            let all : AllByRecursion (OfResource r group.resource) (f ∷ fs) = subst (AllByRecursion (OfResource r group.resource)) some (of_scopes r s group.resource group.scopes) in
             (0, omega arith, ap Some (all.0.0 ∙ omega arith))
         by (suc p) (f ∷ fs) some within after =
             let size : length (resources_of (group ∷ groups)) ≡ suc (length (resources_of groups)) = ap length (one_more group groups r s (omega (arith, ap length some))) in
@@ -159,45 +160,45 @@ module _ {I : Type 0} where
   abbrev FromScope : List Scope → ℕ → FlatIn I → Type 0
   FromScope xs s f = (k : ℕ) × (f.scope_id ≡ s + k) × At xs k f.scope
 
-  from_resources : (r s : ℕ) (groups : List (ResourceGroup I)) → Every (FromResource (resources_of groups) r) (flat_groups r s groups)
+  from_resources : (r s : ℕ) (groups : List (ResourceGroup I)) → AllByRecursion (FromResource (resources_of groups) r) (flat_groups r s groups)
   from_resources r s [] = tt
   from_resources r s (group ∷ groups) = by (flat_scopes r s group.resource group.scopes) refl (λ r. from_resources r (scopes_past s group.scopes) groups) where
     by : (fs : List (FlatIn I)) → flat_scopes r s group.resource group.scopes ≡ fs
-        → ((r : ℕ) → Every (FromResource (resources_of groups) r) (flat_groups r (scopes_past s group.scopes) groups))
-        → Every (FromResource (resources_of (group ∷ groups)) r) (fs ++ flat_groups (past r fs) (scopes_past s group.scopes) groups)
+        → ((r : ℕ) → AllByRecursion (FromResource (resources_of groups) r) (flat_groups r (scopes_past s group.scopes) groups))
+        → AllByRecursion (FromResource (resources_of (group ∷ groups)) r) (fs ++ flat_groups (past r fs) (scopes_past s group.scopes) groups)
     by [] none after =
-        subst (λ xs. Every (FromResource xs r) (flat_groups r (scopes_past s group.scopes) groups)) (sym (none_more group groups r s none)) (after r)
+        subst (λ xs. AllByRecursion (FromResource xs r) (flat_groups r (scopes_past s group.scopes) groups)) (sym (none_more group groups r s none)) (after r)
     by (f ∷ fs) some after =
-        subst (λ xs. Every (FromResource xs r) ((f ∷ fs) ++ flat_groups (suc r) (scopes_past s group.scopes) groups)) (sym (one_more group groups r s (omega (arith, ap length some))))
+        subst (λ xs. AllByRecursion (FromResource xs r) ((f ∷ fs) ++ flat_groups (suc r) (scopes_past s group.scopes) groups)) (sym (one_more group groups r s (omega (arith, ap length some))))
         (every_append (FromResource (group.resource ∷ resources_of groups) r) (f ∷ fs) (flat_groups (suc r) (scopes_past s group.scopes) groups)
         (every_weaker (OfResource r group.resource) (FromResource (group.resource ∷ resources_of groups) r) (f ∷ fs) (λ f of. (0, of.0 ∙ omega arith, sym of.1))
-        (subst (Every (OfResource r group.resource)) some (of_scopes r s group.resource group.scopes)))
+        (subst (AllByRecursion (OfResource r group.resource)) some (of_scopes r s group.resource group.scopes)))
         (every_weaker (FromResource (resources_of groups) (suc r)) (FromResource (group.resource ∷ resources_of groups) r) (flat_groups (suc r) (scopes_past s group.scopes) groups)
         (λ f from. (suc from.0, from.1 ∙ omega arith, from.2)) (after (suc r))))
 
-  in_items : (r s : ℕ) (resource : Resource) (scope : Scope) (xs : List Scope) (items : List I) → Every (FromScope (scope ∷ xs) s) (map (flat_at r s resource scope) items)
+  in_items : (r s : ℕ) (resource : Resource) (scope : Scope) (xs : List Scope) (items : List I) → AllByRecursion (FromScope (scope ∷ xs) s) (map (flat_at r s resource scope) items)
   in_items r s resource scope xs [] = tt
   in_items r s resource scope xs (item ∷ items) = ((0, omega arith, refl), in_items r s resource scope xs items)
 
   in_scopes : (r s : ℕ) (resource : Resource) (groups : List (ScopeGroup I))
-      → Every (FromScope (map (λ (scope : ScopeGroup I). scope.scope) (filter has_items groups)) s) (flat_scopes r s resource groups)
+      → AllByRecursion (FromScope (map (λ (scope : ScopeGroup I). scope.scope) (filter has_items groups)) s) (flat_scopes r s resource groups)
   in_scopes r s resource [] = tt
   in_scopes r s resource (group ∷ groups) = by group.scope group.items (λ s. in_scopes r s resource groups) where
     by : (scope : Scope) (items : List I)
-        → ((s : ℕ) → Every (FromScope (map (λ (scope : ScopeGroup I). scope.scope) (filter has_items groups)) s) (flat_scopes r s resource groups))
-        → Every (FromScope (map (λ (scope : ScopeGroup I). scope.scope) (filter has_items (record { scope = scope; items = items } ∷ groups))) s)
+        → ((s : ℕ) → AllByRecursion (FromScope (map (λ (scope : ScopeGroup I). scope.scope) (filter has_items groups)) s) (flat_scopes r s resource groups))
+        → AllByRecursion (FromScope (map (λ (scope : ScopeGroup I). scope.scope) (filter has_items (record { scope = scope; items = items } ∷ groups))) s)
         (map (flat_at r s resource scope) items ++ flat_scopes r (past s items) resource groups)
     by scope [] after = after s
     by scope (item ∷ items) after =
         let xs : List Scope = map (λ (scope : ScopeGroup I). scope.scope) (filter has_items groups) in
         let are : map (λ (scope : ScopeGroup I). scope.scope) (filter has_items (record { scope = scope; items = item ∷ items } ∷ groups)) ≡ scope ∷ xs = rw (not_empty item items) refl in
-        subst (λ ys. Every (FromScope ys s) (map (flat_at r s resource scope) (item ∷ items) ++ flat_scopes r (suc s) resource groups)) (sym are)
+        subst (λ ys. AllByRecursion (FromScope ys s) (map (flat_at r s resource scope) (item ∷ items) ++ flat_scopes r (suc s) resource groups)) (sym are)
         (every_append (FromScope (scope ∷ xs) s) (map (flat_at r s resource scope) (item ∷ items)) (flat_scopes r (suc s) resource groups)
         (in_items r s resource scope xs (item ∷ items))
         (every_weaker (FromScope xs (suc s)) (FromScope (scope ∷ xs) s) (flat_scopes r (suc s) resource groups) (λ f from. (suc from.0, from.1 ∙ omega arith, from.2))
         (after (suc s))))
 
-  from_scopes : (r s : ℕ) (groups : List (ResourceGroup I)) → Every (FromScope (scopes_of groups) s) (flat_groups r s groups)
+  from_scopes : (r s : ℕ) (groups : List (ResourceGroup I)) → AllByRecursion (FromScope (scopes_of groups) s) (flat_groups r s groups)
   from_scopes r s [] = tt
   from_scopes r s (group ∷ groups) =
       let front : List (FlatIn I) = flat_scopes r s group.resource group.scopes in
@@ -205,7 +206,7 @@ module _ {I : Type 0} where
       let xs : List Scope = map (λ (scope : ScopeGroup I). scope.scope) (filter has_items group.scopes) in
       let here = length-map (filter has_items group.scopes) (λ (scope : ScopeGroup I). scope.scope) in
       let at = scopes_past_kept s group.scopes in
-      subst (λ ys. Every (FromScope ys s) (front ++ after)) (sym (scopes_step group groups))
+      subst (λ ys. AllByRecursion (FromScope ys s) (front ++ after)) (sym (scopes_step group groups))
       (every_append (FromScope (xs ++ scopes_of groups) s) front after
       (every_weaker (FromScope xs s) (FromScope (xs ++ scopes_of groups) s) front (λ f from. (from.0, from.1, at_front xs (scopes_of groups) from.0 f.scope from.2))
       (in_scopes r s group.resource group.scopes))
@@ -227,7 +228,7 @@ come_alike cells_of xs m id id' cells cells' a b is is' =
     (λ i. cells_are ((a.4 ∙ ap cells_of same) i) (b.4 i)) ∙ cells_are_themselves (cells_of b.1)
 
 none_differ : {A : Type 0} (cells_of : A → List Cell) (xs : List A) (id : MainRow → Option ℕ) (cells : MainRow → List Cell) (rows : List MainRow)
-    → Every (λ row. Comes cells_of xs (id row) (cells row)) rows → DifferBy id cells rows → ⊥
+    → AllByRecursion (λ row. Comes cells_of xs (id row) (cells row)) rows → DifferBy id cells rows → ⊥
 none_differ cells_of xs id cells rows all d =
     let a = every_contained (λ row. Comes cells_of xs (id row) (cells row)) rows d.a all d.first in
     let b = every_contained (λ row. Comes cells_of xs (id row) (cells row)) rows d.b all d.second in
@@ -256,13 +257,13 @@ module _ {I : Type 0} (cells_of : I → List Cell) where
       subst (λ ids. Contains ids (Some p)) (sym (scope_ids_are 0 (flat_groups 0 0 groups)))
       (subst (λ m. Contains (scope_numbers (flat_groups 0 0 groups)) (Some m)) (omega arith) (scope_from 0 0 p groups within))
 
-  resources_come : (xs : List Resource) (n : ℕ) (fs : List (FlatIn I)) → Every (FromResource xs 0) fs
-      → Every (λ (row : MainRow). Comes resource_cells xs row.resource_id row.resource) (numbered_rows cells_of n fs)
+  resources_come : (xs : List Resource) (n : ℕ) (fs : List (FlatIn I)) → AllByRecursion (FromResource xs 0) fs
+      → AllByRecursion (λ (row : MainRow). Comes resource_cells xs row.resource_id row.resource) (numbered_rows cells_of n fs)
   resources_come xs n [] all = tt
   resources_come xs n (f ∷ fs) all = ((all.0.0, f.resource, ap Some (all.0.1 ∙ omega arith), all.0.2, refl), resources_come xs (suc n) fs all.1)
 
-  scopes_come : (xs : List Scope) (n : ℕ) (fs : List (FlatIn I)) → Every (FromScope xs 0) fs
-      → Every (λ (row : MainRow). Comes scope_cells xs row.scope_id row.scope) (numbered_rows cells_of n fs)
+  scopes_come : (xs : List Scope) (n : ℕ) (fs : List (FlatIn I)) → AllByRecursion (FromScope xs 0) fs
+      → AllByRecursion (λ (row : MainRow). Comes scope_cells xs row.scope_id row.scope) (numbered_rows cells_of n fs)
   scopes_come xs n [] all = tt
   scopes_come xs n (f ∷ fs) all = ((all.0.0, f.scope, ap Some (all.0.1 ∙ omega arith), all.0.2, refl), scopes_come xs (suc n) fs all.1)
 

@@ -1,7 +1,7 @@
 -- What is found below each parent, one after the other.
 use Rattle.std.proofs.Common.{◌≡◌, ℕ, suc, ◌+◌, ◌<◌, ◌≤◌, true, false, List, [], ◌∷◌, ◌++◌, Option, Some, length, map, refl, sym, ◌∙◌, ap, subst, arith, append-nil, append_assoc}
 use Rattle.std.specs.Prelude.{filter, ◌==◌}
-use Rattle.std.specs.List.{flat_map}
+use Rattle.std.specs.List.{AllByRecursion, flat_map}
 use Rattle.std.proofs.lemmas.Bool.Decides.{nat_tests}
 use Rattle.std.proofs.lemmas.List.{length-map}
 use Rattle.std.proofs.lemmas.List.Elements.{filter-append}
@@ -9,7 +9,7 @@ use Rattle.otap_cells.specs.Cells.{Cell}
 use Rattle.otap_groups.specs.Rows.{ChildRow, child_row, id_is, is_child_of}
 use Rattle.otap_groups.specs.Children.{Agree, Reads, child_of_row, children}
 use Rattle.otap_groups.specs.Flat.{PlacedIn, part_rows, placed, placed_at, placed_from}
-use Rattle.otap_groups.proofs.RunBlocks.{Every, every_append}
+use Rattle.otap_groups.proofs.RunBlocks.{every_append}
 
 -- ---- lists one after the other
 
@@ -48,14 +48,14 @@ module _ {C : Type 0} (own : ℕ → Option ℕ) (cells_of : C → List Cell) (i
   miss : (p k : ℕ) (row : ChildRow) → row.parent ≡ Some p → (p == k) ≡ false → is_child_of k row ≡ false
   miss p k row is other = ap (λ q. id_is q (Some k)) is ∙ other
 
-  none_below : (k : ℕ) (rows : List ChildRow) → Every (Below k) rows → filter (is_child_of k) rows ≡ []
+  none_below : (k : ℕ) (rows : List ChildRow) → AllByRecursion (Below k) rows → filter (is_child_of k) rows ≡ []
   none_below k [] all = refl
   none_below k (row ∷ rows) all =
       let low : all.0.0 < k = all.0.2 in
       let other : (all.0.0 == k) ≡ false = grind (arith, nat_tests, low) in
       rw (miss all.0.0 k row all.0.1 other) (none_below k rows all.1)
 
-  none_above : (k : ℕ) (rows : List ChildRow) → Every (Above (suc k)) rows → filter (is_child_of k) rows ≡ []
+  none_above : (k : ℕ) (rows : List ChildRow) → AllByRecursion (Above (suc k)) rows → filter (is_child_of k) rows ≡ []
   none_above k [] all = refl
   none_above k (row ∷ rows) all =
       let high : suc k ≤ all.0.0 = all.0.2 in
@@ -69,27 +69,27 @@ module _ {C : Type 0} (own : ℕ → Option ℕ) (cells_of : C → List Cell) (i
       let hit : (k == k) ≡ true = grind (arith, nat_tests) in
       rw hit (λ i. reads.0 i ∷ own_parts (suc n) k parts reads.1 i)
 
-  all_at : (n k m : ℕ) (parts : List C) → k < m → Every (Below m) (part_rows own cells_of n (map (placed_at k) parts))
+  all_at : (n k m : ℕ) (parts : List C) → k < m → AllByRecursion (Below m) (part_rows own cells_of n (map (placed_at k) parts))
   all_at n k m [] low = tt
   all_at n k m (part ∷ parts) low = ((k, refl, low), all_at (suc n) k m parts low)
 
-  all_above : (n k m : ℕ) (parts : List C) → m ≤ k → Every (Above m) (part_rows own cells_of n (map (placed_at k) parts))
+  all_above : (n k m : ℕ) (parts : List C) → m ≤ k → AllByRecursion (Above m) (part_rows own cells_of n (map (placed_at k) parts))
   all_above n k m [] low = tt
   all_above n k m (part ∷ parts) low = ((k, refl, low), all_above (suc n) k m parts low)
 
-  rest_above : (n k m : ℕ) (lists : List (List C)) → m ≤ k → Every (Above m) (part_rows own cells_of n (placed_from k lists))
+  rest_above : (n k m : ℕ) (lists : List (List C)) → m ≤ k → AllByRecursion (Above m) (part_rows own cells_of n (placed_from k lists))
   rest_above n k m [] low = tt
   rest_above n k m (parts ∷ lists) low =
       rw (part_rows_append n (map (placed_at k) parts) (placed_from (suc k) lists))
       (every_append (Above m) _ _ (all_above n k m parts low) (rest_above (n + length (map (placed_at k) parts)) (suc k) m lists (omega arith)))
 
-  weaker : (k m : ℕ) (rows : List ChildRow) → k ≤ m → Every (Below k) rows → Every (Below m) rows
+  weaker : (k m : ℕ) (rows : List ChildRow) → k ≤ m → AllByRecursion (Below k) rows → AllByRecursion (Below m) rows
   weaker k m [] low all = tt
   weaker k m (row ∷ rows) low all =
       let first : all.0.0 < k = all.0.2 in
       ((all.0.0, all.0.1, omega arith), weaker k m rows low all.1)
 
-  agrees_from : (front : List ChildRow) (n k : ℕ) (lists : List (List C)) → Every (Below k) front → Reads own cells_of item n (flat_map (λ parts. parts) lists)
+  agrees_from : (front : List ChildRow) (n k : ℕ) (lists : List (List C)) → AllByRecursion (Below k) front → Reads own cells_of item n (flat_map (λ parts. parts) lists)
       → Agree (children item (front ++ part_rows own cells_of n (placed_from k lists))) k lists
   agrees_from front n k [] low reads = tt
   agrees_from front n k (parts ∷ lists) low reads =

@@ -1,7 +1,7 @@
 -- Tables of parts: their ids and parents, and that they are tables of the profile.
 use Rattle.std.proofs.Common.{◌≡◌, ℕ, zero, suc, ◌-◌, ◌≤◌, ◌<◌, ◌^◌, true, List, [], ◌∷◌, Option, None, Some, length, map, sym, subst, arith}
 use Rattle.std.specs.Prelude.{All, Bool, Contains}
-use Rattle.std.specs.List.{flat_map}
+use Rattle.std.specs.List.{AllByRecursion, flat_map}
 use Rattle.std.proofs.lemmas.List.Elements.{All-nil, All-cons}
 use Rattle.otap_cells.specs.declared.payload.Kind.{Kind}
 use Rattle.otap_cells.specs.declared.profile.Base.TheVariants as base
@@ -22,7 +22,6 @@ use Rattle.otap_groups.specs.Stored.{part_table, stored_part, stored_parts}
 use Rattle.otap_groups.proofs.Bounds.{BoundedParts, bounded_placed, size_of_placed}
 use Rattle.otap_groups.proofs.FlatItems.{parts_of_placed}
 use Rattle.otap_groups.proofs.ProfileRows.{is_profile_table}
-use Rattle.otap_groups.proofs.RunBlocks.{Every}
 use Rattle.otap_groups.proofs.RunningIds.{part_ids, running_once, running_there}
 use Rattle.otap_groups.proofs.StoredRows.{part_ids_of, part_parents_of}
 
@@ -80,7 +79,7 @@ module _ {C : Type 0} (cells_of : C → List Cell) (columns own : List ColumnSpe
   abbrev Fits : PlacedIn C → Type 0
   Fits p = IsRow own (cells_of p.part)
 
-  parts_fit : (step parent : ℕ) (before : Option (List Cell)) (ps : List (PlacedIn C)) → step < 2 ^ 32 → BoundedParts 4294967295 ps → Every Fits ps
+  parts_fit : (step parent : ℕ) (before : Option (List Cell)) (ps : List (PlacedIn C)) → step < 2 ^ 32 → BoundedParts 4294967295 ps → AllByRecursion Fits ps
       → All (IsRow columns) (stored_parts how test cells_of step parent before ps)
   parts_fit step parent before [] low few all = All-nil (IsRow columns)
   parts_fit step parent before (p ∷ ps) low few all =
@@ -88,7 +87,7 @@ module _ {C : Type 0} (cells_of : C → List Cell) (columns own : List ColumnSpe
       All-cons (IsRow columns) (stored_part how test cells_of step parent before p) (stored_parts how test cells_of 1 p.parent (Some (cells_of p.part)) ps)
       (join _ _ (cells_of p.part) low (omega (arith, most)) all.0) (parts_fit 1 p.parent (Some (cells_of p.part)) ps (omega arith) few.1 all.1)
 
-placed_all : {C : Type 0} (P : C → Type 0) (ps : List (PlacedIn C)) → Every P (map (λ (p : PlacedIn C). p.part) ps) → Every (λ (p : PlacedIn C). P p.part) ps
+placed_all : {C : Type 0} (P : C → Type 0) (ps : List (PlacedIn C)) → AllByRecursion P (map (λ (p : PlacedIn C). p.part) ps) → AllByRecursion (λ (p : PlacedIn C). P p.part) ps
 placed_all P [] all = tt
 placed_all P (p ∷ ps) all = (all.0, placed_all P ps all.1)
 
@@ -96,12 +95,13 @@ placed_all P (p ∷ ps) all = (all.0, placed_all P ps all.1)
 pub part_written : {C : Type 0} (kind : Kind) (cells_of : C → List Cell) (own : List ColumnSpec) (lists : List (List C)) → IsPart kind
     → ((id parent : Cell) (cells : List Cell) → IsCellOf (base.Id true) id → IsCellOf (base.Id true) parent → IsRow own cells → IsRow (columns_of kind) (id ∷ parent ∷ cells))
     → ((P : ℕ → Type 0) → P 0 → P 1 → (column : ℕ) → is_id_at kind column ≡ true → P column)
-    → length lists ≤ 2 ^ 32 → length (flat_map (λ (parts : List C). parts) lists) ≤ 2 ^ 32 → Every (λ part. IsRow own (cells_of part)) (flat_map (λ (parts : List C). parts) lists)
+    → length lists ≤ 2 ^ 32 → length (flat_map (λ (parts : List C). parts) lists) ≤ 2 ^ 32
+    → AllByRecursion (λ part. IsRow own (cells_of part)) (flat_map (λ (parts : List C). parts) lists)
     → IsProfileTable (part_table kind cells_of lists)
 unfolding part_table
 part_written {C} kind cells_of own lists part join columns few_lists few all =
     is_profile_table kind (stored_parts (coding_at kind 1) (again_of kind) cells_of 0 0 None (placed lists))
     (parts_fit cells_of (columns_of kind) own join (coding_at kind 1) (again_of kind) 0 0 None (placed lists) (omega arith) (bounded_placed 4294967295 lists (omega arith))
-    (placed_all (λ part. IsRow own (cells_of part)) (placed lists) (subst (Every (λ part. IsRow own (cells_of part))) (sym (parts_of_placed lists)) all)))
+    (placed_all (λ part. IsRow own (cells_of part)) (placed lists) (subst (AllByRecursion (λ part. IsRow own (cells_of part))) (sym (parts_of_placed lists)) all)))
     (columns (λ column. (ids : List (Option ℕ)) × HasIds (part_table kind cells_of lists) column ids)
     (ids_of cells_of lists, part_ids_of kind cells_of lists part few) (parents_of cells_of lists, part_parents_of kind cells_of lists part few_lists))

@@ -1,6 +1,7 @@
 -- Rows that fit the columns of a kind make a table of the profile; and the rows of a request's items fit.
 use Rattle.std.proofs.Common.{◌≡◌, ℕ, ◌^◌, ◌≤◌, ◌<◌, pos, negsuc, true, List, [], ◌∷◌, ◌++◌, get_or, Option, length, map, refl, ◌∙◌, ap, arith, inl, inr}
 use Rattle.std.specs.Prelude.{All, IsTrue, ◌==◌}
+use Rattle.std.specs.List.{AllByRecursion}
 use Rattle.std.proofs.lemmas.Bool.{cases_Bool, cases_lt, and_parts}
 use Rattle.std.proofs.lemmas.List.{get_or_past}
 use Rattle.std.proofs.lemmas.List.Elements.{All-nil, All-cons, All-head, All-tail, All-get_or, All-weaker}
@@ -29,7 +30,7 @@ use Rattle.otap_groups.specs.ProfileTables.{IsProfileTable}
 use Rattle.otap_groups.specs.Stored.{stored_row, stored_rows}
 use Rattle.otap_groups.specs.Weighing.{CanWriteGroup, CanWriteScope}
 use Rattle.otap_groups.proofs.Bounds.{Bounded}
-use Rattle.otap_groups.proofs.RunBlocks.{Every, every_append}
+use Rattle.otap_groups.proofs.RunBlocks.{every_append}
 use Rattle.otap_groups.proofs.StoredRows.{coding_is, greatest_is}
 
 -- ---- tables
@@ -100,12 +101,12 @@ module _ {I : Type 0} (OfResource : Resource → Type 0) (OfScope : Scope → Ty
   OfFlat f = OfResource f.resource × OfScope f.scope × OfItem f.item
 
   of_items : (r s : ℕ) (resource : Resource) (scope : Scope) (items : List I) → OfResource resource → OfScope scope → All OfItem items
-      → Every OfFlat (map (flat_at r s resource scope) items)
+      → AllByRecursion OfFlat (map (flat_at r s resource scope) items)
   of_items r s resource scope [] a b all = tt
   of_items r s resource scope (item ∷ items) a b all = ((a, b, All-head OfItem item items all), of_items r s resource scope items a b (All-tail OfItem item items all))
 
   of_scopes : (r s : ℕ) (resource : Resource) (groups : List (ScopeGroup I)) → OfResource resource → All (CanWriteScope OfScope OfItem) groups
-      → Every OfFlat (flat_scopes r s resource groups)
+      → AllByRecursion OfFlat (flat_scopes r s resource groups)
   of_scopes r s resource [] a all = tt
   of_scopes r s resource (group ∷ groups) a all =
       let head : CanWriteScope OfScope OfItem group = All-head (CanWriteScope OfScope OfItem) group groups all in
@@ -113,7 +114,7 @@ module _ {I : Type 0} (OfResource : Resource → Type 0) (OfScope : Scope → Ty
       (of_items r s resource group.scope group.items a head.0 head.1)
       (of_scopes r (past s group.items) resource groups a (All-tail (CanWriteScope OfScope OfItem) group groups all))
 
-  of_groups : (r s : ℕ) (groups : List (ResourceGroup I)) → All (CanWriteGroup OfResource OfScope OfItem) groups → Every OfFlat (flat_groups r s groups)
+  of_groups : (r s : ℕ) (groups : List (ResourceGroup I)) → All (CanWriteGroup OfResource OfScope OfItem) groups → AllByRecursion OfFlat (flat_groups r s groups)
   of_groups r s [] all = tt
   of_groups r s (group ∷ groups) all =
       let head : CanWriteGroup OfResource OfScope OfItem group = All-head (CanWriteGroup OfResource OfScope OfItem) group groups all in
@@ -122,7 +123,7 @@ module _ {I : Type 0} (OfResource : Resource → Type 0) (OfScope : Scope → Ty
       (of_groups (past r (flat_scopes r s group.resource group.scopes)) (scopes_past s group.scopes) groups
       (All-tail (CanWriteGroup OfResource OfScope OfItem) group groups all))
 
-  pub of_flat : (groups : List (ResourceGroup I)) → All (CanWriteGroup OfResource OfScope OfItem) groups → Every OfFlat (flat groups)
+  pub of_flat : (groups : List (ResourceGroup I)) → All (CanWriteGroup OfResource OfScope OfItem) groups → AllByRecursion OfFlat (flat groups)
   unfolding flat
   of_flat groups all = of_groups 0 0 groups all
 
@@ -159,7 +160,7 @@ module _ {I : Type 0} (cells_of : I → List Cell) (own : List ColumnSpec) where
     ),
   )
 
-  pub rows_fit : (step r s : ℕ) (fs : List (FlatIn I)) → step < 2 ^ 32 → Bounded 4294967295 fs → Every (OfFlat IsRealResource IsRealScope OwnFit) fs
+  pub rows_fit : (step r s : ℕ) (fs : List (FlatIn I)) → step < 2 ^ 32 → Bounded 4294967295 fs → AllByRecursion (OfFlat IsRealResource IsRealScope OwnFit) fs
       → All (IsRow (common ++ own)) (stored_rows cells_of step r s fs)
   rows_fit step r s [] low few all = All-nil (IsRow (common ++ own))
   rows_fit step r s (f ∷ fs) low few all =

@@ -1,21 +1,20 @@
 -- How a signal shows that its parts are read from their cells as they are.
 use Rattle.std.proofs.Common.{◌≡◌, ℕ, suc, List, [], ◌∷◌, Option, map, ap, ◌∙◌}
-use Rattle.std.specs.List.{flat_map}
+use Rattle.std.specs.List.{AllByRecursion, flat_map}
 use Rattle.otap_cells.specs.Cells.{Cell}
 use Rattle.otap_groups.specs.Children.{Agree, Reads, children, numbered}
 use Rattle.otap_groups.specs.Flat.{part_rows, placed}
 use Rattle.otap_groups.proofs.Joins.{agrees}
-use Rattle.otap_groups.proofs.RunBlocks.{Every}
 
 -- parts with nothing below
 pub reads_alone : {C : Type 0} (own : ℕ → Option ℕ) (cells_of : C → List Cell) (item : Option ℕ → List Cell → C) (P : C → Type 0)
-    → ((n : ℕ) (part : C) → P part → item (own n) (cells_of part) ≡ part) → (k : ℕ) (parts : List C) → Every P parts → Reads own cells_of item k parts
+    → ((n : ℕ) (part : C) → P part → item (own n) (cells_of part) ≡ part) → (k : ℕ) (parts : List C) → AllByRecursion P parts → Reads own cells_of item k parts
 reads_alone own cells_of item P back k [] all = tt
 reads_alone own cells_of item P back k (part ∷ parts) all = (back k part all.0, reads_alone own cells_of item P back (suc k) parts all.1)
 
 -- parts with something below, which is found by their ids
 pub reads_with : {C D : Type 0} (cells_of : C → List Cell) (item : List Cell → D → C) (below : C → D) (lookup : Option ℕ → D) (P : C → Type 0)
-    → ((part : C) → P part → item (cells_of part) (below part) ≡ part) → (k : ℕ) (parts : List C) → Every P parts → Agree lookup k (map below parts)
+    → ((part : C) → P part → item (cells_of part) (below part) ≡ part) → (k : ℕ) (parts : List C) → AllByRecursion P parts → Agree lookup k (map below parts)
     → Reads numbered cells_of (λ id cells. item cells (lookup id)) k parts
 reads_with cells_of item below lookup P back k [] all agree = tt
 reads_with cells_of item below lookup P back k (part ∷ parts) all agree =
@@ -23,7 +22,7 @@ reads_with cells_of item below lookup P back k (part ∷ parts) all agree =
 
 -- one level further: the parts of each parent are found, with what is below them
 pub agrees_with : {C D : Type 0} (cells_of : C → List Cell) (item : List Cell → D → C) (below : C → D) (lookup : Option ℕ → D) (P : C → Type 0)
-    → ((part : C) → P part → item (cells_of part) (below part) ≡ part) → (lists : List (List C)) → Every P (flat_map (λ (parts : List C). parts) lists)
+    → ((part : C) → P part → item (cells_of part) (below part) ≡ part) → (lists : List (List C)) → AllByRecursion P (flat_map (λ (parts : List C). parts) lists)
     → Agree lookup 0 (map below (flat_map (λ (parts : List C). parts) lists))
     → Agree (children (λ id cells. item cells (lookup id)) (part_rows numbered cells_of 0 (placed lists))) 0 lists
 agrees_with {C = C} cells_of item below lookup P back lists all agree =

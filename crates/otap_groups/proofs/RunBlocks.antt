@@ -1,17 +1,14 @@
 -- A block of rows that are the same, before other rows, is a run of its own.
 use Rattle.std.proofs.Common.{◌≡◌, Bool, true, false, List, [], ◌∷◌, ◌++◌, cond, refl, sym, ◌∙◌, ap}
+use Rattle.std.specs.List.{AllByRecursion}
 use Rattle.otap_groups.specs.Runs.{before_runs, runs}
 
--- what holds of each element, and of the first one
-abbrev pub Every : {A : Type 0} → (A → Type 0) → List A → Type 0
-Every P [] = Unit {0}
-Every P (x ∷ xs) = P x × Every P xs
-
+-- what holds of the first element
 abbrev pub First : {A : Type 0} → (A → Type 0) → List A → Type 0
 First P [] = Unit {0}
 First P (x ∷ xs) = P x
 
-pub every_append : {A : Type 0} (P : A → Type 0) (xs ys : List A) → Every P xs → Every P ys → Every P (xs ++ ys)
+pub every_append : {A : Type 0} (P : A → Type 0) (xs ys : List A) → AllByRecursion P xs → AllByRecursion P ys → AllByRecursion P (xs ++ ys)
 every_append P [] ys front after = after
 every_append P (x ∷ xs) ys front after = (front.0, every_append P xs ys front.1 after)
 
@@ -41,7 +38,7 @@ module _ {A : Type 0} (same : A → A → Bool) where
   last x (y ∷ rest) first = apart x y (runs same (y ∷ rest)) (begins_before y (runs same rest)) first
 
   module _ (P : A → Type 0) (joined : (x y : A) → P x → P y → same x y ≡ true) where
-    pub block : (x : A) (xs rest : List A) → Every P (x ∷ xs) → First (λ y. (x : A) → P x → same x y ≡ false) rest
+    pub block : (x : A) (xs rest : List A) → AllByRecursion P (x ∷ xs) → First (λ y. (x : A) → P x → same x y ≡ false) rest
         → runs same ((x ∷ xs) ++ rest) ≡ (x ∷ xs) ∷ runs same rest
     unfolding runs
     block x [] rest all first = last x rest (here rest first) where

@@ -1,6 +1,7 @@
 -- All tables of a request of metrics are tables of the profile.
 use Rattle.std.proofs.Common.{◌≡◌, ℕ, ◌^◌, ◌<◌, ◌≤◌, true, List, [], ◌∷◌, Option, None, Some, inl, inr, drop, refl}
 use Rattle.std.specs.Prelude.{◌==◌, All, IsTrue}
+use Rattle.std.specs.List.{AllByRecursion}
 use Rattle.std.proofs.lemmas.Bool.{cases_Bool, ltb-true}
 use Rattle.std.proofs.lemmas.List.Elements.{All-cons, All-map, All-nil, All-weaker}
 use Rattle.otlp_model.specs.Limits.{weight_limit}
@@ -27,7 +28,6 @@ use Rattle.otap_groups.specs.Stored.{main_table, part_table}
 use Rattle.otap_groups.proofs.PartTables.{part_written}
 use Rattle.otap_groups.proofs.ProfileRows.{number_fits}
 use Rattle.otap_groups.proofs.RealGroups.{real_groups, real_items}
-use Rattle.otap_groups.proofs.RunBlocks.{Every}
 use Rattle.otap_groups.proofs.WritableGroups.{all_items_can}
 use Rattle.otap_attrs.proofs.CellFits.{bits_fit}
 use Rattle.otap_attrs.proofs.FilledTables.{filled, filled_all}
@@ -207,7 +207,7 @@ module _ (groups : List (ResourceGroup Metric)) (real : IsReal (Metrics groups))
       (all_every (λ (exemplar : Exemplar). IsRow (drop 2 exemplar_columns) (exemplar_cells exemplar)) (all_hist_exemplars groups)
       (All-weaker IsFitExemplar (λ (exemplar : Exemplar). IsRow (drop 2 exemplar_columns) (exemplar_cells exemplar)) (λ exemplar fit. fit.own) (all_hist_exemplars groups) fit_exemplars))
 
-  below_written : Every IsProfileTable (tables_below_all groups)
+  below_written : AllByRecursion IsProfileTable (tables_below_all groups)
   below_written =
       let (resources, (scopes, (points, (of_points, (exemplars, (of_exemplars, none)))))) = below_are_written groups real is light in (
         resources,

@@ -1,6 +1,7 @@
 -- The tables of a request of metrics are tables of the profile.
 use Rattle.std.proofs.Common.{ℕ, ◌^◌, ◌≤◌, List, [], ◌∷◌, Option, length, map, drop, refl, arith}
 use Rattle.std.specs.Prelude.{All}
+use Rattle.std.specs.List.{AllByRecursion}
 use Rattle.std.proofs.lemmas.List.Elements.{All-nil, All-cons, All-head, All-tail, All-map, All-weaker}
 use Rattle.otlp_model.specs.Limits.{weight_limit}
 use Rattle.otlp_model.specs.Profile.{IsProfile, IsProfileExemplar, IsProfileMetric, IsProfilePoint, IsProfileResourceGroup, IsProfileScopeGroup, IsProfileShape}
@@ -30,7 +31,6 @@ use Rattle.otap_groups.proofs.GroupsApart.{every_weaker}
 use Rattle.otap_groups.proofs.PartTables.{part_written}
 use Rattle.otap_groups.proofs.ProfileRows.{OfFlat, OwnFit, is_profile_table, of_flat, rows_fit}
 use Rattle.otap_groups.proofs.RealGroups.{real_items}
-use Rattle.otap_groups.proofs.RunBlocks.{Every}
 use Rattle.otap_groups.proofs.StoredRows.{own_ids_of, resource_ids_of, scope_ids_of}
 use Rattle.otap_groups.proofs.WritableGroups.{all_items_can, all_resources_can, all_scopes_can}
 use Rattle.otap_attrs.proofs.FilledTables.{filled, filled_all}
@@ -103,7 +103,7 @@ groups_fit (group ∷ groups) real is =
 
 -- ---- all of a request
 
-pub every_all : {A : Type 0} (P : A → Type 0) (xs : List A) → Every P xs → All P xs
+pub every_all : {A : Type 0} (P : A → Type 0) (xs : List A) → AllByRecursion P xs → All P xs
 every_all P [] all = All-nil P
 every_all P (x ∷ xs) all = All-cons P x xs all.0 (every_all P xs all.1)
 
@@ -168,7 +168,7 @@ module _ (groups : List (ResourceGroup Metric)) (fit : All IsFit groups) (light 
       (all_every (λ (exemplar : Exemplar). IsRow (drop 2 exemplars) (exemplar_cells exemplar)) (all_exemplars groups)
       (All-weaker IsFitExemplar (λ (exemplar : Exemplar). IsRow (drop 2 exemplars) (exemplar_cells exemplar)) (λ exemplar fit. fit.own) (all_exemplars groups) fit_exemplars))
 
-  below_written : Every IsProfileTable (tables_below groups)
+  below_written : AllByRecursion IsProfileTable (tables_below groups)
   below_written = (
     attributes_written table.ResourceAttrs (resource_pairs groups) refl (few_resource_pairs groups light) real_resources,
     (
@@ -196,5 +196,5 @@ module _ (groups : List (ResourceGroup Metric)) (real : IsReal (Metrics groups))
   pub main_is_written : IsProfileTable (main_table table.Metrics metric_cells groups)
   main_is_written = main_written groups (groups_fit groups real.at is.at) light
 
-  pub below_are_written : Every IsProfileTable (tables_below groups)
+  pub below_are_written : AllByRecursion IsProfileTable (tables_below groups)
   below_are_written = below_written groups (groups_fit groups real.at is.at) light

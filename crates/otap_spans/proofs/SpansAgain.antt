@@ -1,7 +1,7 @@
 -- The tables of a request tell what the request tells.
 use Rattle.std.proofs.Common.{◌≡◌, ℕ, ◌*◌, ◌<◌, ◌≤◌, ◌^◌, List, Option, length, map, refl, sym, ap, ◌∙◌, subst, arith}
 use Rattle.std.specs.Prelude.{All}
-use Rattle.std.specs.List.{AllZip, flat_map}
+use Rattle.std.specs.List.{AllByRecursion, AllZip, flat_map}
 use Rattle.std.proofs.lemmas.List.{length-map}
 use Rattle.std.proofs.lemmas.List.Elements.{All-map, All-weaker}
 use Rattle.std.proofs.lemmas.List.Folds.{flat_map-map}
@@ -36,7 +36,6 @@ use Rattle.otap_groups.proofs.Grouping.{groups_back}
 use Rattle.otap_groups.proofs.PartsCounted as counted
 use Rattle.otap_groups.proofs.ReadLaws.{agree_two, agrees_with, reads_with}
 use Rattle.otap_groups.proofs.RealGroups.{real_groups, real_items}
-use Rattle.otap_groups.proofs.RunBlocks.{Every}
 use Rattle.otap_groups.proofs.WritableGroups.{all_flat_map, all_items_can, all_resources_can, all_scopes_can, few_items, few_parts, few_resources, few_scopes}
 use Rattle.otap_attrs.specs.Tables.{attribute_table}
 use Rattle.otap_attrs.specs.Index.{pairs_in}
@@ -183,13 +182,13 @@ module _ (groups : List (ResourceGroup Span)) (back : All IsBack groups) where
   events_agree : Agree (unsorted_events (event_lists groups) (event_pairs groups)) 0 (event_lists groups)
   events_agree =
       agrees_with event_cells event_of (λ (event : Event). event.pairs) (unsorted (event_pairs groups)) IsBackEvent (λ event is. event_back event) (event_lists groups)
-      (subst (Every IsBackEvent) (sym (events_joined groups)) (all_every IsBackEvent (all_events groups) events_back))
+      (subst (AllByRecursion IsBackEvent) (sym (events_joined groups)) (all_every IsBackEvent (all_events groups) events_back))
       (subst (λ (events : List Event). Agree (unsorted (event_pairs groups)) 0 (map (λ (event : Event). event.pairs) events)) (sym (events_joined groups)) event_pairs_agree)
 
   links_agree : Agree (unsorted_links (link_lists groups) (link_pairs groups)) 0 (link_lists groups)
   links_agree =
       agrees_with link_cells link_of (λ (link : Link). link.pairs) (unsorted (link_pairs groups)) IsBackLink (λ link is. link_back link) (link_lists groups)
-      (subst (Every IsBackLink) (sym (links_joined groups)) (all_every IsBackLink (all_links groups) links_back))
+      (subst (AllByRecursion IsBackLink) (sym (links_joined groups)) (all_every IsBackLink (all_links groups) links_back))
       (subst (λ (links : List Link). Agree (unsorted (link_pairs groups)) 0 (map (λ (link : Link). link.pairs) links)) (sym (links_joined groups)) link_pairs_agree)
 
   span_pairs_agree : Agree (unsorted (span_pairs groups)) 0 (span_pairs groups)

@@ -1,6 +1,7 @@
 -- The tables of a request are tables of the profile.
 use Rattle.std.proofs.Common.{ℕ, ◌^◌, ◌≤◌, List, [], ◌∷◌, Option, length, map, drop, refl, sym, subst, arith}
 use Rattle.std.specs.Prelude.{All}
+use Rattle.std.specs.List.{AllByRecursion}
 use Rattle.std.proofs.lemmas.List.Elements.{All-nil, All-cons, All-head, All-tail, All-map, All-weaker}
 use Rattle.otlp_model.specs.Limits.{weight_limit}
 use Rattle.otlp_model.specs.Profile.{IsProfile, IsProfileEvent, IsProfileLink, IsProfileResourceGroup, IsProfileScopeGroup, IsProfileSpan}
@@ -28,7 +29,6 @@ use Rattle.otap_groups.proofs.GroupsApart.{every_weaker}
 use Rattle.otap_groups.proofs.PartTables.{part_written}
 use Rattle.otap_groups.proofs.ProfileRows.{OfFlat, OwnFit, is_profile_table, of_flat, rows_fit}
 use Rattle.otap_groups.proofs.RealGroups.{real_items}
-use Rattle.otap_groups.proofs.RunBlocks.{Every}
 use Rattle.otap_groups.proofs.StoredRows.{own_ids_of, resource_ids_of, scope_ids_of}
 use Rattle.otap_groups.proofs.WritableGroups.{all_flat_map, all_items_can, all_resources_can, all_scopes_can}
 use Rattle.otap_attrs.proofs.FilledTables.{filled, filled_all}
@@ -94,7 +94,7 @@ groups_fit (group ∷ groups) real is =
 
 -- ---- all of a request
 
-every_all : {A : Type 0} (P : A → Type 0) (xs : List A) → Every P xs → All P xs
+every_all : {A : Type 0} (P : A → Type 0) (xs : List A) → AllByRecursion P xs → All P xs
 every_all P [] all = All-nil P
 every_all P (x ∷ xs) all = All-cons P x xs all.0 (every_all P xs all.1)
 
@@ -156,7 +156,7 @@ module _ (groups : List (ResourceGroup Span)) (fit : All IsFit groups) (light : 
   events_written =
       part_written table.SpanEvents event_cells (drop 2 event_columns) (event_lists groups) events_are_parts event_row event_ids (few_event_lists groups light)
       (subst (λ (events : List Event). length events ≤ 2 ^ 32) (sym (events_joined groups)) (few_events groups light))
-      (subst (Every (λ (event : Event). IsRow (drop 2 event_columns) (event_cells event))) (sym (events_joined groups))
+      (subst (AllByRecursion (λ (event : Event). IsRow (drop 2 event_columns) (event_cells event))) (sym (events_joined groups))
       (all_every (λ (event : Event). IsRow (drop 2 event_columns) (event_cells event)) (all_events groups)
       (All-weaker IsFitEvent (λ (event : Event). IsRow (drop 2 event_columns) (event_cells event)) (λ event fit. fit.own) (all_events groups) fit_events)))
 
@@ -164,11 +164,11 @@ module _ (groups : List (ResourceGroup Span)) (fit : All IsFit groups) (light : 
   links_written =
       part_written table.SpanLinks link_cells (drop 2 link_columns) (link_lists groups) links_are_parts link_row link_ids (few_link_lists groups light)
       (subst (λ (links : List Link). length links ≤ 2 ^ 32) (sym (links_joined groups)) (few_links groups light))
-      (subst (Every (λ (link : Link). IsRow (drop 2 link_columns) (link_cells link))) (sym (links_joined groups))
+      (subst (AllByRecursion (λ (link : Link). IsRow (drop 2 link_columns) (link_cells link))) (sym (links_joined groups))
       (all_every (λ (link : Link). IsRow (drop 2 link_columns) (link_cells link)) (all_links groups)
       (All-weaker IsFitLink (λ (link : Link). IsRow (drop 2 link_columns) (link_cells link)) (λ link fit. fit.own) (all_links groups) fit_links)))
 
-  below_written : Every IsProfileTable (tables_below groups)
+  below_written : AllByRecursion IsProfileTable (tables_below groups)
   below_written = (
     attributes_written table.ResourceAttrs (resource_pairs groups) refl (few_r groups light) real_resources,
     (
