@@ -17,7 +17,8 @@ use Rattle.otlp_wire.specs.Wire as wire
 use Rattle.otlp_wire.specs.Wire.{FieldValue}
 use Rattle.otap_capture.specs.declared.batch.BatchRefusal.{BatchRefusal}
 use Rattle.otap_capture.specs.declared.batch.BatchRefusal.TheVariants as refusals
-use Rattle.otap_capture.specs.Batch.{BatchContent, IsOfBatch, ReadsBatch, RefusesBatch, batch_in}
+use Rattle.otap_capture.specs.Batch.{BatchContent, ReadsBatch, RefusesBatch, batch_in}
+use Rattle.otap_capture.specs.BatchScanning.{IsOfBatch}
 
 -- the messages of a batch, and the kinds of their fields
 abbrev InBatch : Message → Type 0

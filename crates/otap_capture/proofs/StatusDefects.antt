@@ -17,7 +17,7 @@ use Rattle.otlp_wire.specs.Wire as wire
 use Rattle.otlp_wire.specs.Wire.{FieldValue}
 use Rattle.otap_capture.specs.declared.batch.BatchRefusal.{BatchRefusal}
 use Rattle.otap_capture.specs.declared.batch.BatchRefusal.TheVariants as refusals
-use Rattle.otap_capture.specs.Batch.{IsOfBatch}
+use Rattle.otap_capture.specs.BatchScanning.{IsOfBatch}
 use Rattle.otap_capture.specs.Statuses.{StatusContent, ReadsStatus, RefusesStatus, status_in}
 
 -- the kinds of its fields

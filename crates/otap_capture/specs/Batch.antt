@@ -1,5 +1,5 @@
 -- What a batch message says (BatchArrowRecords of the OpenTelemetry Arrow Protocol).
-use Rattle.std.specs.Prelude.{◌≡◌, ℕ, List, [], ◌∷◌, map, ⊤, ℤ, pos, IsUtf8, FitsSigned}
+use Rattle.std.specs.Prelude.{◌≡◌, ℕ, List, [], ◌∷◌, map, ℤ, pos, IsUtf8, FitsSigned}
 use Rattle.std.specs.List.{AllByRecursion}
 use Rattle.std.specs.Int.{w32, w64}
 use Rattle.lists.specs.Payloads.{PayloadIn}
@@ -48,13 +48,6 @@ abbrev pub defect_of : BatchRefusal → Defect
 defect_of BadMessage = defects.BadMessage
 defect_of Repeated = defects.Repeated
 defect_of BadUtf8 = defects.BadUtf8
-
--- the defects that can stand in a batch message
-abbrev pub IsOfBatch : Defect → Type 0
-IsOfBatch defects.BadMessage = ⊤
-IsOfBatch defects.Repeated = ⊤
-IsOfBatch defects.BadUtf8 = ⊤
-IsOfBatch defect = ⊥
 
 -- a defect stands in the bytes, read as a batch message
 abbrev pub RefusesBatch : List ℕ → BatchRefusal → Type 0

@@ -1,8 +1,10 @@
 -- What a reader knows of a batch while it looks at its fields one by one.
-use Rattle.std.specs.Prelude.{◌≡◌, ◌⊎◌, ℕ, ◌+◌, ◌||◌, ◌==◌, Bool, true, false, cond, is_some, List, length, slice_index_or, pos, fold}
+use Rattle.std.specs.Prelude.{◌≡◌, ◌⊎◌, ⊤, ℕ, ◌+◌, ◌||◌, ◌==◌, Bool, true, false, cond, is_some, List, length, slice_index_or, pos, fold}
 use Rattle.otlp_wire.specs.Wire.{Entry}
 use Rattle.otlp_wire.specs.Fields.{fields_of}
 use Rattle.otlp_messages.specs.declared.messages.Message.TheVariants.{BatchArrowRecords}
+use Rattle.otlp_messages.specs.declared.messages.Defect.{Defect}
+use Rattle.otlp_messages.specs.declared.messages.Defect.TheVariants as defects
 use Rattle.otlp_messages.specs.Limits.{level_limit}
 use Rattle.otlp_messages.specs.Table.{kind_of}
 use Rattle.otlp_messages.specs.Fine.{ValueStands, Checked}
@@ -34,3 +36,10 @@ pub record Scanned (bytes : List ℕ) (scan : Scan) (rest : List ℕ) : Type 0 w
   pub first : slice_index_or marks 1 false ≡ scan.seen
   pub id : fold int64_in scan.id (only 1 (fields_of rest)) ≡ said 1 int64_in (pos 0) bytes
   pub count : scan.count + length (payloads_in rest) ≡ length (payloads_in bytes)
+
+-- the defects that can stand in a batch message
+abbrev pub IsOfBatch : Defect → Type 0
+IsOfBatch defects.BadMessage = ⊤
+IsOfBatch defects.Repeated = ⊤
+IsOfBatch defects.BadUtf8 = ⊤
+IsOfBatch defect = ⊥

@@ -9,8 +9,8 @@ ghost use Rattle.otlp_messages.specs.Defects.{IsFine};
 ghost use Rattle.otlp_messages.specs.Limits.{level_limit};
 ghost use Rattle.otlp_messages.specs.Fine.{FineValue};
 ghost use Rattle.otlp_messages.specs.Rows.{said, at, bytes_in, int32_in, part_at};
-ghost use Rattle.otap_capture.specs.Batch.{content_of, payload_in, batch_in, defect_of, IsOfBatch, ReadsBatch, RefusesBatch};
-ghost use Rattle.otap_capture.specs.BatchScanning.{Says, SaysMore, FieldFaults};
+ghost use Rattle.otap_capture.specs.Batch.{content_of, payload_in, batch_in, defect_of, ReadsBatch, RefusesBatch};
+ghost use Rattle.otap_capture.specs.BatchScanning.{Says, SaysMore, FieldFaults, IsOfBatch};
 
 use otlp_messages::{Defect, LEVELS, Message, check};
 use otlp_wire::{Field, Fields, Wire};
