@@ -14,8 +14,8 @@ use Rattle.otlp_model.specs.Real.{IsRealEvent, IsRealLink, IsRealSpan}
 use Rattle.otlp_model.specs.Profile.{IsProfileEvent, IsProfileLink, IsProfileSpan}
 use Rattle.otlp_codec.specs.declared.spans.SpanStatus.{SpanStatus}
 use Rattle.otlp_messages.specs.Limits.{level_limit}
-use Rattle.otlp_codec.specs.Spans.{event_in, link_in, no_status, status_in, span_in}
-use Rattle.otlp_codec.specs.SpanSteps.{status_step, status_of, span_step}
+use Rattle.otlp_codec.specs.Spans.{event_in, link_in, no_status, status_in, span_in, status_of}
+use Rattle.otlp_codec.specs.SpanSteps.{status_step, span_step}
 use Rattle.otlp_codec.specs.SpanSpelling.{canon_event, canon_link, canon_status, canon_span}
 use Rattle.otlp_codec.specs.lemmas.SpansPassed.{event_passes, link_passes, status_passes, span_passes}
 use Rattle.otlp_codec.proofs.Chain.{Law, last, also, law_of}

@@ -6,7 +6,7 @@ use Rattle.otlp_model.specs.declared.spans.Event.{Event}
 use Rattle.otlp_model.specs.declared.spans.Link.{Link}
 use Rattle.otlp_codec.specs.declared.spans.SpanStatus.{SpanStatus}
 use Rattle.otlp_codec.specs.Canonical.{canon_pair}
-use Rattle.otlp_codec.specs.SpanSteps.{status_of}
+use Rattle.otlp_codec.specs.Spans.{status_of}
 
 abbrev pub event_rows : Event → List Filled
 event_rows event =

@@ -7,7 +7,7 @@ use Rattle.otlp_model.specs.declared.spans.Event.{Event}
 use Rattle.otlp_model.specs.declared.spans.Link.{Link}
 use Rattle.otlp_codec.specs.declared.spans.SpanStatus.{SpanStatus}
 use Rattle.otlp_codec.specs.Groups.{pair_in}
-use Rattle.otlp_codec.specs.Spans.{event_in, link_in, status_in}
+use Rattle.otlp_codec.specs.Spans.{event_in, link_in, status_in, status_of}
 
 abbrev pub no_event : Event
 no_event = record { time = 0; name = []; pairs = []; dropped = 0 }
@@ -59,10 +59,6 @@ no_span = record {
   status_code = pos 0;
   status_message = [];
 }
-
--- the status, whose parts stand in the span
-abbrev pub status_of : Span → SpanStatus
-status_of span = record { message = span.status_message; code = span.status_code }
 
 abbrev pub span_step : Span → Entry → Span
 span_step old f = record {

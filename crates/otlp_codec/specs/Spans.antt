@@ -58,3 +58,7 @@ span_in bytes = record {
   status_code = (said 15 (embedded_in status_in) no_status bytes).code;
   flags = said 16 fixed32_in 0 bytes;
 }
+
+-- the status, whose parts stand in the span
+abbrev pub status_of : Span → SpanStatus
+status_of span = record { message = span.status_message; code = span.status_code }

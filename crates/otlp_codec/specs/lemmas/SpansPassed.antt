@@ -5,8 +5,8 @@ use Rattle.otlp_wire.specs.Fields.{fields_of}
 use Rattle.otlp_messages.specs.Rows.{fixed64_in, fixed32_in, uint32_in, int32_in, bytes_in, embedded_in, many_in}
 use Rattle.otlp_messages.proofs.Parts.{part_of}
 use Rattle.otlp_codec.specs.Groups.{pair_in}
-use Rattle.otlp_codec.specs.Spans.{event_in, link_in, no_status, status_in, span_in}
-use Rattle.otlp_codec.specs.SpanSteps.{no_event, event_step, no_link, link_step, status_step, no_span, status_of, span_step}
+use Rattle.otlp_codec.specs.Spans.{event_in, link_in, no_status, status_in, span_in, status_of}
+use Rattle.otlp_codec.specs.SpanSteps.{no_event, event_step, no_link, link_step, status_step, no_span, span_step}
 
 pub event_passes : (bytes : List ℕ) → fold event_step no_event (fields_of bytes) ≡ event_in bytes
 unfolding event_in
