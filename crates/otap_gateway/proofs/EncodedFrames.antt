@@ -16,13 +16,14 @@ use Rattle.otlp_messages.specs.declared.messages.Defect.{Defect}
 use Rattle.otlp_messages.specs.declared.messages.Defect.TheVariants as defects
 use Rattle.otlp_messages.specs.Names.{defect_text}
 use Rattle.otlp_model.specs.declared.request.Request.{Request}
-use Rattle.otap_gateway.specs.Encoding.{Encoded, Puts, Refuses, EncodedAfter, Encodes, Arrives, HasEncoded, encoded, sent}
-use Rattle.otap_gateway.specs.EncodingSteps.{EncodesFrame, EncodesRequest, HasMore, IsEncoding, NamesDefect}
+use Rattle.otap_gateway.specs.Encoding.{Encoded, Puts, Refuses, EncodedAfter, Encodes, Arrives, encoded, sent}
+use Rattle.otap_gateway.specs.EncodingSteps.{EncodesFrame, EncodesRequest, HasMore, IsEncoding, NamesDefect, HasEncoded}
 use Rattle.otap_gateway.specs.Jobs.{HasHistory}
 use Rattle.otap_gateway.specs.Lines.{printed}
 use Rattle.otap_gateway.specs.RefusedRequests.{refused_request}
 use Rattle.otap_gateway.specs.Reply.{ReplyText}
-use Rattle.otap_gateway.specs.Told.{Gave, HasTold, Tells}
+use Rattle.otap_gateway.specs.Told.{Gave, Tells}
+use Rattle.otap_gateway.specs.JobStates.{HasTold}
 use Rattle.otap_gateway.proofs.SentSoFar.{sent_on, sent_still, requests_more, messages_more, requests_none, messages_none, requests_first, messages_first, few_requests, are_allowed}
 use Rattle.otap_gateway.proofs.Telling.{tells_more}
 

@@ -10,10 +10,11 @@ use Rattle.otap_consume.specs.Receivers.{HasReceived, Receives}
 use Rattle.otap_consume.specs.Receiving.{ReceivedAfter}
 use Rattle.otap_consume.specs.Segments.{SegmentIn, StandsFor, IsNew}
 use Rattle.otap_consume.proofs.SegmentSteps.{stands_first}
-use Rattle.otap_gateway.specs.Receptions.{as_taken, HasReplied}
+use Rattle.otap_gateway.specs.Receptions.{as_taken}
+use Rattle.otap_gateway.specs.JobStates.{HasReplied, HasTold}
 use Rattle.otap_gateway.specs.Reply.{ReplyText}
 use Rattle.otap_gateway.specs.EncodingSteps.{HasMore}
-use Rattle.otap_gateway.specs.Told.{Giving, Gave, told, Tells, HasTold}
+use Rattle.otap_gateway.specs.Told.{Giving, Gave, told, Tells}
 
 pub told_more : {O : Type 0} (text : ℕ → O → ReplyText) (number : ℕ) (os : List O) (o : O) → told text number (os ++ o ∷ []) ≡ told text number os ++ text (number + length os) o ∷ []
 told_more text number [] o = let same : number ≡ number + 0 = omega arith in ap (λ k. text k o ∷ []) same

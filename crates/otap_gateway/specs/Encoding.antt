@@ -7,12 +7,11 @@ use Rattle.otap_cells.specs.Weights.{row_weight_limit, weight_of_tables}
 use Rattle.otap_consume.specs.Meanings.{Meaning}
 use Rattle.otap_consume.specs.Outcomes.{Outcome}
 use Rattle.otap_consume.specs.Receiving.{Received}
-use Rattle.otap_produce.specs.Exporters.{ExporterIn, StandsFor}
 use Rattle.otap_produce.specs.LogRows.{logs_rows}
 use Rattle.otap_produce.specs.MetricRows.{metrics_rows}
 use Rattle.otap_produce.specs.Policy.{SignalRows}
 use Rattle.otap_produce.specs.SpanRows.{spans_rows}
-use Rattle.otap_transit.specs.Sendings.{Sending, Sent, Reset, MaySend, Arrive, frame_sent, requests_since, messages_since}
+use Rattle.otap_transit.specs.Sendings.{Sending, Sent, Reset, MaySend, Arrive, frame_sent}
 use Rattle.otlp_codec.specs.Requests.{Reads, Stands}
 use Rattle.otlp_messages.specs.declared.messages.Defect.{Defect}
 use Rattle.otlp_messages.specs.Names.{defect_text}
@@ -83,7 +82,3 @@ pub record Arrives (m : Meaning) (sendings : List Sending) : Type 0 where
 pub record Encodes (rows : SignalRows) (m : Meaning) (outcomes : List Encoded) (frame : Frame) (outcome : Encoded) : Type 0 where
   pub gives : EncodedAfter rows outcomes frame outcome
   pub arrives : Arrives m (sent (outcomes ++ outcome ∷ []))
-
--- an exporter that stands for what was sent since the latest reset
-abbrev pub HasEncoded : SignalRows → ExporterIn → List Encoded → Type 0
-HasEncoded rows e outcomes = StandsFor rows (requests_since (sent outcomes)) (messages_since (sent outcomes)) e

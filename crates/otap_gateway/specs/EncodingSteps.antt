@@ -1,8 +1,9 @@
 -- What one frame makes of an exporter, in the words of the private contracts of `encode`.
 use Rattle.std.specs.Prelude.{◌≡◌, ◌⊎◌, ◌<◌, ℕ, List, [], ◌∷◌, ◌++◌, length, codes}
 use Rattle.otap_capture.specs.Capture.{Frame, message_frame}
-use Rattle.otap_produce.specs.Exporters.{ExporterIn, Exports}
+use Rattle.otap_produce.specs.Exporters.{ExporterIn, StandsFor, Exports}
 use Rattle.otap_produce.specs.Policy.{SignalRows}
+use Rattle.otap_transit.specs.Sendings.{requests_since, messages_since}
 use Rattle.otlp_codec.specs.declared.refusal.ReadRefusal.{ReadRefusal}
 use Rattle.otlp_codec.specs.Refusals.{refusal_of}
 use Rattle.otlp_messages.specs.declared.messages.Defect.{Defect}
@@ -10,7 +11,7 @@ use Rattle.otlp_messages.specs.Names.{defect_text}
 use Rattle.otlp_model.specs.Limits.{item_limit}
 use Rattle.otlp_model.specs.declared.request.Request.{Request}
 use Rattle.otlp_model.specs.Telemetry.{telemetry}
-use Rattle.otap_gateway.specs.Encoding.{Encoded, EncodedAfter, WeighsTooMuch, HasEncoded, encoded}
+use Rattle.otap_gateway.specs.Encoding.{Encoded, EncodedAfter, WeighsTooMuch, encoded, sent}
 use Rattle.otap_gateway.specs.Lines.{printed}
 use Rattle.otap_gateway.specs.RefusedRequests.{refused_request}
 use Rattle.otap_gateway.specs.Reply.{ReplyText}
@@ -21,6 +22,10 @@ pub record NamesDefect (refusal : ReadRefusal) (name : List ℕ) : Type 0 where
   pub defect : Defect
   pub same : refusal ≡ refusal_of defect
   pub text : name ≡ defect_text defect
+
+-- an exporter that stands for what was sent since the latest reset
+abbrev pub HasEncoded : SignalRows → ExporterIn → List Encoded → Type 0
+HasEncoded rows e outcomes = StandsFor rows (requests_since (sent outcomes)) (messages_since (sent outcomes)) e
 
 -- an exporter that stands for some outcomes
 pub record IsEncoding (rows : SignalRows) (e : ExporterIn) : Type 0 where

@@ -4,6 +4,7 @@ pub mod Encoding
 pub mod EncodingSteps
 pub mod Fields
 pub mod FieldsInside
+pub mod JobStates
 pub mod Jobs
 pub mod Lines
 pub mod Listing

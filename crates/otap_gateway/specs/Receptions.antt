@@ -5,7 +5,7 @@ use Rattle.std.specs.declared.option.Option.{Option}
 use Rattle.std.specs.declared.option.Option.TheVariants.{Some, None}
 use Rattle.otlp_codec.specs.Requests.{canon_request}
 use Rattle.otlp_model.specs.Telemetry.{telemetry}
-use Rattle.otap_capture.specs.Capture.{Frame, message_frame, reset_frame}
+use Rattle.otap_capture.specs.Capture.{message_frame, reset_frame}
 use Rattle.otap_capture.specs.Statuses.{StatusContent, canon_status}
 use Rattle.otap_consume.specs.declared.refusal.Refusal.{Refusal}
 use Rattle.otap_consume.specs.declared.taken.Taken.{Taken}
@@ -15,15 +15,12 @@ use Rattle.otap_consume.specs.Meanings.{Meaning}
 use Rattle.otap_consume.specs.MetricsMeaning.{metrics_meaning}
 use Rattle.otap_consume.specs.Outcomes.{Outcome}
 use Rattle.otap_consume.specs.Receivers.{taken_of}
-use Rattle.otap_consume.specs.Receiving.{ReceivedAfter}
-use Rattle.otap_consume.specs.Segments.{SegmentIn, StandsFor}
 use Rattle.otap_consume.specs.SpansMeaning.{spans_meaning}
 use Rattle.otlp_model.specs.declared.request.Signal.{Signal}
 use Rattle.otlp_model.specs.declared.request.Signal.TheVariants as signals
 use Rattle.otap_gateway.specs.Causes.{cause_name}
 use Rattle.otap_gateway.specs.Lines.{reset_line, batch_head, refused_line, or_dash, line_feed, printed, refuses}
 use Rattle.otap_gateway.specs.Reply.{ReplyText}
-use Rattle.otap_gateway.specs.Told.{HasTold}
 
 -- what the tables of a signal mean
 abbrev pub meaning_of : Signal → Meaning
@@ -84,7 +81,3 @@ statused number Reset = printed reset_frame
 -- the text of what is returned for an outcome
 abbrev pub as_taken : Meaning → (ℕ → Taken → ReplyText) → ℕ → Outcome → ReplyText
 as_taken m text number outcome = text number (taken_of m outcome)
-
--- the frames and the replies that a receiver stands for
-abbrev pub HasReplied : Meaning → (ℕ → Taken → ReplyText) → SegmentIn → List Frame → List ReplyText → Type 0
-HasReplied m text s frames replies = HasTold (ReceivedAfter m) (as_taken m text) (λ outcomes. StandsFor m.signal outcomes s) frames replies

@@ -26,10 +26,3 @@ pub record Tells {O : Type 0} (Gives : Giving O) (text : ℕ → O → ReplyText
   pub outcome : O
   pub gives : Gives outcomes frame outcome
   pub says : reply ≡ text (length frames) outcome
-
--- the frames and the replies that a state stands for which stands for outcomes
-pub record HasTold {O : Type 0} (Gives : Giving O) (text : ℕ → O → ReplyText) (stands : List O → Type 0) (frames : List Frame) (replies : List ReplyText) : Type 0 where
-  pub outcomes : List O
-  pub before : Gave Gives frames outcomes
-  pub so_far : replies ≡ told text 0 outcomes
-  pub stood : stands outcomes

@@ -3,7 +3,8 @@ ghost use Rattle.std.specs.Prelude.{◌≡◌, IfOk};
 ghost use Rattle.otap_consume.specs.Receivers.{IsSound};
 ghost use Rattle.otap_consume.specs.Segments.{IsNew};
 ghost use Rattle.otap_gateway.specs.declared.command.Command.TheVariants as command;
-ghost use Rattle.otap_gateway.specs.Receptions.{decoded, meaning_of, HasReplied};
+ghost use Rattle.otap_gateway.specs.Receptions.{decoded, meaning_of};
+ghost use Rattle.otap_gateway.specs.JobStates.{HasReplied};
 
 use crate::job::Job;
 use crate::receiving::{Serves, refused};

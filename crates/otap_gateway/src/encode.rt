@@ -6,10 +6,10 @@ ghost use Rattle.otap_produce.specs.Limits.{batch_limit};
 ghost use Rattle.otlp_model.specs.Profile.{IsProfile};
 ghost use Rattle.otlp_model.specs.Telemetry.{signal_of};
 ghost use Rattle.otap_gateway.specs.declared.command.Command.TheVariants as command;
-ghost use Rattle.otap_gateway.specs.Encoding.{encoded, rows_of, Encodes, HasEncoded};
-ghost use Rattle.otap_gateway.specs.EncodingSteps.{EncodesFrame, EncodesRequest, IsEncoding};
+ghost use Rattle.otap_gateway.specs.Encoding.{encoded, rows_of, Encodes};
+ghost use Rattle.otap_gateway.specs.EncodingSteps.{EncodesFrame, EncodesRequest, IsEncoding, HasEncoded};
 ghost use Rattle.otap_gateway.specs.Receptions.{meaning_of};
-ghost use Rattle.otap_gateway.specs.Told.{HasTold};
+ghost use Rattle.otap_gateway.specs.JobStates.{HasTold};
 
 use crate::job::Job;
 use crate::refused_requests::{refusal_name, refused};

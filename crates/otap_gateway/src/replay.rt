@@ -6,7 +6,8 @@ ghost use Rattle.otlp_model.specs.Weight.{weight_of};
 ghost use Rattle.otap_consume.specs.Receivers.{IsSound};
 ghost use Rattle.otap_consume.specs.Segments.{IsNew};
 ghost use Rattle.otap_gateway.specs.declared.command.Command.TheVariants as command;
-ghost use Rattle.otap_gateway.specs.Receptions.{meaning_of, replayed, replay_line, weights_text, HasReplied};
+ghost use Rattle.otap_gateway.specs.Receptions.{meaning_of, replayed, replay_line, weights_text};
+ghost use Rattle.otap_gateway.specs.JobStates.{HasReplied};
 
 use crate::job::Job;
 use crate::lines::{push_head, reset_line};

@@ -3,7 +3,8 @@ ghost use Rattle.std.specs.Prelude.{◌≡◌, IfOk, string_bytes};
 ghost use Rattle.otap_consume.specs.declared.taken.Taken.TheVariants as taken;
 ghost use Rattle.otap_consume.specs.Segments.{IsNew};
 ghost use Rattle.otap_gateway.specs.declared.command.Command.TheVariants as command;
-ghost use Rattle.otap_gateway.specs.Receptions.{code_of, id_or_less, meaning_of, refusal_text, statused, HasReplied};
+ghost use Rattle.otap_gateway.specs.Receptions.{code_of, id_or_less, meaning_of, refusal_text, statused};
+ghost use Rattle.otap_gateway.specs.JobStates.{HasReplied};
 
 use crate::causes::cause_name;
 use crate::job::Job;

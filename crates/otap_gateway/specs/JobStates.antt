@@ -1,0 +1,21 @@
+-- What the states of jobs stand for, in the words of private contracts.
+use Rattle.std.specs.Prelude.{◌≡◌, ℕ, List}
+use Rattle.otap_capture.specs.Capture.{Frame}
+use Rattle.otap_consume.specs.declared.taken.Taken.{Taken}
+use Rattle.otap_consume.specs.Meanings.{Meaning}
+use Rattle.otap_consume.specs.Receiving.{ReceivedAfter}
+use Rattle.otap_consume.specs.Segments.{SegmentIn, StandsFor}
+use Rattle.otap_gateway.specs.Receptions.{as_taken}
+use Rattle.otap_gateway.specs.Reply.{ReplyText}
+use Rattle.otap_gateway.specs.Told.{Giving, Gave, told}
+
+-- the frames and the replies that a state stands for which stands for outcomes
+pub record HasTold {O : Type 0} (Gives : Giving O) (text : ℕ → O → ReplyText) (stands : List O → Type 0) (frames : List Frame) (replies : List ReplyText) : Type 0 where
+  pub outcomes : List O
+  pub before : Gave Gives frames outcomes
+  pub so_far : replies ≡ told text 0 outcomes
+  pub stood : stands outcomes
+
+-- the frames and the replies that a receiver stands for
+abbrev pub HasReplied : Meaning → (ℕ → Taken → ReplyText) → SegmentIn → List Frame → List ReplyText → Type 0
+HasReplied m text s frames replies = HasTold (ReceivedAfter m) (as_taken m text) (λ outcomes. StandsFor m.signal outcomes s) frames replies
