@@ -11,7 +11,8 @@ use Rattle.otap_columns.specs.Substreams.{logical}
 use Rattle.otap_columns.specs.Views.{ReaderIn, StandsAt}
 use Rattle.otap_columns.specs.Streams.{last_of, stream_of}
 use Rattle.otap_consume.specs.Payloads.{type_of}
-use Rattle.otap_consume.specs.Streams.{OpenIn, StreamIn, IsOpenAfter, IsAfter, reader_if, reader_of}
+use Rattle.otap_consume.specs.Streams.{OpenIn, StreamIn, IsOpenAfter, IsAfter}
+use Rattle.otap_consume.specs.StreamSteps.{reader_if, reader_of}
 use Rattle.otap_consume.specs.Views.{IsViewOf, is_stream_of}
 use Rattle.otap_consume.proofs.IdSteps.{kind_at, count_of}
 use Rattle.otap_consume.proofs.KindNumbers.{numbered}

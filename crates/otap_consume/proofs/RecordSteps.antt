@@ -18,7 +18,8 @@ use Rattle.otap_consume.specs.Defects.{IsReadAfter, StandsInRecord}
 use Rattle.otap_consume.specs.Payloads.{type_of, messages_before}
 use Rattle.otap_consume.specs.Records.{EachTakes, OneRefuses, ShowsLast, ShowsAfter, TakesAll, kinds_in}
 use Rattle.otap_consume.specs.Stops.{Stops, StopOf, IsOfRecord}
-use Rattle.otap_consume.specs.Streams.{StreamIn, AreAfter, IsAfter, Takes, RefusesFor, closed}
+use Rattle.otap_consume.specs.Streams.{StreamIn, AreAfter, IsAfter}
+use Rattle.otap_consume.specs.StreamSteps.{Takes, RefusesFor, closed}
 use Rattle.otap_consume.proofs.IdSteps.{kind_at, count_of}
 use Rattle.otap_consume.proofs.KindNumbers.{HasNumber, has_number, numbered, same_kind_number}
 use Rattle.lists.proofs.Growing.{all_after-push}

@@ -16,7 +16,8 @@ use Rattle.otap_consume.specs.Defects.{held_after}
 use Rattle.otap_consume.specs.Payloads.{type_of}
 use Rattle.otap_consume.specs.Records.{kinds_in}
 use Rattle.otap_consume.specs.Sizes.{count_of_rows}
-use Rattle.otap_consume.specs.Streams.{OpenIn, StreamIn, IsOpenAfter, AreAfter, held_if, held_of}
+use Rattle.otap_consume.specs.Streams.{OpenIn, StreamIn, IsOpenAfter, AreAfter}
+use Rattle.otap_consume.specs.StreamSteps.{held_if, held_of}
 use Rattle.otap_consume.proofs.Lists.{sum_same, sum_map}
 
 rows_weigh : (rows : List (List Cell)) → 32 * length rows ≤ sum_by weight_of_row rows

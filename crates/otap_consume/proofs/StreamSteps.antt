@@ -17,7 +17,8 @@ use Rattle.otap_columns.specs.Views as views
 use Rattle.otap_columns.specs.Views.{ReaderIn, StandsFor, StandsAt, Shows}
 use Rattle.otap_consume.specs.Defects.{is_open_id}
 use Rattle.otap_consume.specs.Payloads.{type_of, messages_before}
-use Rattle.otap_consume.specs.Streams.{OpenIn, StreamIn, IsOpenAfter, IsAfter, Takes, DoesNotTake, RefusesFor, id_if, id_of}
+use Rattle.otap_consume.specs.Streams.{OpenIn, StreamIn, IsOpenAfter, IsAfter}
+use Rattle.otap_consume.specs.StreamSteps.{Takes, DoesNotTake, RefusesFor, id_if, id_of}
 use Rattle.otap_columns.proofs.Openings.{stream_of-other, stream_of-own}
 use Rattle.otap_consume.proofs.Substreams.{last_of-other, last_of-own}
 

@@ -9,7 +9,8 @@ use Rattle.otap_cells.specs.Payload.{kinds_of}
 use Rattle.otap_columns.specs.Streams.{open_id}
 use Rattle.otap_consume.specs.Defects.{is_open_id}
 use Rattle.otap_consume.specs.Payloads.{type_of}
-use Rattle.otap_consume.specs.Streams.{StreamIn, id_of}
+use Rattle.otap_consume.specs.Streams.{StreamIn}
+use Rattle.otap_consume.specs.StreamSteps.{id_of}
 
 pub record OpenIdIn : Type 0 where
   pub kind : Kind

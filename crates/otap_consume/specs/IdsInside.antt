@@ -3,7 +3,7 @@ use Rattle.std.specs.Prelude.{ℕ, List, map, Option, None, Some, option_map}
 use Rattle.otap_consume.specs.declared.ids.OpenId.{OpenId}
 use Rattle.otap_consume.specs.declared.ids.OpenIds.TheInside as ids
 use Rattle.otap_consume.specs.Ids.{OpenIdIn}
-use Rattle.otap_consume.specs.Streams.{id_of}
+use Rattle.otap_consume.specs.StreamSteps.{id_of}
 
 abbrev pub id_here : Option (List ℕ) → Option (List ℕ) → Option (List ℕ)
 id_here None before = before

@@ -4,6 +4,7 @@ pub mod PayloadTypes
 pub mod Defects
 pub mod Outcomes
 pub mod Streams
+pub mod StreamSteps
 pub mod StreamInside
 pub mod Stops
 pub mod Ids

@@ -9,7 +9,8 @@ use Rattle.otap_columns.specs.declared.refusal.ColumnRefusal.{ColumnRefusal}
 use Rattle.otap_columns.specs.Streams.{last_of}
 use Rattle.otap_consume.specs.Defects.{HasFineRecords}
 use Rattle.otap_consume.specs.Payloads.{type_of}
-use Rattle.otap_consume.specs.Streams.{OpenIn, StreamIn, AreAfter, Takes, DoesNotTake, ShowsIf}
+use Rattle.otap_consume.specs.Streams.{OpenIn, StreamIn, AreAfter, ShowsIf}
+use Rattle.otap_consume.specs.StreamSteps.{Takes, DoesNotTake}
 
 abbrev pub kinds_in : List StreamIn → List Kind
 kinds_in streams = map (λ s. s.kind) streams

@@ -69,10 +69,6 @@ abbrev pub TakesIf : Frame → SegmentIn → Seen → Type 0
 TakesIf frame s (seen.Batch id rows) = IsTaken frame s
 TakesIf frame s returned = ⊤
 
-abbrev pub ShowsIf : List PayloadIn → SegmentIn → Seen → Type 0
-ShowsIf payloads s (seen.Batch id rows) = (s.broken ≡ false) × CanShow s.streams payloads
-ShowsIf payloads s returned = ⊤
-
 -- the tables of the payloads that were taken last, each beside its kind: wherever these are those of the last batch
 pub record TablesOf (s : SegmentIn) (payloads : List PayloadIn) (views : List (Kind × Table)) : Type 0 where
   pub set : IsSet (λ table. table) views

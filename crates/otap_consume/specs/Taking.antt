@@ -1,5 +1,5 @@
 -- How the payloads of a batch are taken, in the words of private contracts.
-use Rattle.std.specs.Prelude.{◌≡◌, ℕ, List, ◌++◌, Some}
+use Rattle.std.specs.Prelude.{◌≡◌, ⊤, ℕ, false, List, ◌++◌, Some}
 use Rattle.lists.specs.Payloads.{PayloadIn}
 use Rattle.otlp_model.specs.declared.request.Signal.{Signal}
 use Rattle.otap_capture.specs.Batch.{BatchContent, ReadsBatch}
@@ -11,7 +11,7 @@ use Rattle.otap_consume.specs.declared.not_taken.NotTaken.{NotTaken}
 use Rattle.otap_consume.specs.declared.not_taken.NotTaken.TheVariants.{Defect, Memory}
 use Rattle.otap_consume.specs.Defects.{Accepts, IsTooLarge, IsWithinLimits, tables_of, held_after}
 use Rattle.otap_consume.specs.Outcomes.{refusal_of}
-use Rattle.otap_consume.specs.Segments.{SegmentIn, Next}
+use Rattle.otap_consume.specs.Segments.{SegmentIn, Next, CanShow}
 use Rattle.otap_consume.specs.Stops.{Stops, IsOfSize}
 use Rattle.otap_consume.specs.Streams.{StreamIn, AreAfter}
 
@@ -38,3 +38,8 @@ IsStopped (Memory e) batch returned = ⊥
 -- the next frame is a message that says this batch
 pub record NextBatch (old : SegmentIn) (batch : BatchContent) (new : SegmentIn) (returned : Seen) : Type 0 where
   pub at : (bytes : List ℕ) → ReadsBatch bytes batch → Next old (Message bytes) new returned
+
+-- where a batch is returned, the segment shows its payloads
+abbrev pub ShowsTables : List PayloadIn → SegmentIn → Seen → Type 0
+ShowsTables payloads s (seen.Batch id rows) = (s.broken ≡ false) × CanShow s.streams payloads
+ShowsTables payloads s returned = ⊤

@@ -3,8 +3,8 @@ ghost use Rattle.std.specs.Prelude.{◌≡◌, map, None, Some, IfOk, OnErr, tru
 ghost use Rattle.otap_capture.specs.Capture.{frame_of, Message};
 ghost use Rattle.otap_consume.specs.declared.seen.Seen.TheVariants as seen;
 ghost use Rattle.otap_consume.specs.Outcomes.{refusal_of, unread_cause};
-ghost use Rattle.otap_consume.specs.Streams.{closed};
-ghost use Rattle.otap_consume.specs.Taking.{IsStopped, NextBatch};
+ghost use Rattle.otap_consume.specs.StreamSteps.{closed};
+ghost use Rattle.otap_consume.specs.Taking.{IsStopped, NextBatch, ShowsTables};
 
 use crate::not_taken::NotTaken;
 use crate::refusal::{Cause, Refusal};
@@ -43,7 +43,7 @@ impl Model for Segment {
 
 impl Segment {
     ghost use Rattle.otap_consume.specs.declared.refusal.Cause.TheVariants.{Broken};
-    ghost use Rattle.otap_consume.specs.Segments.{IsNew, Next, TakesIf, ShowsIf, CanShow, TablesOf};
+    ghost use Rattle.otap_consume.specs.Segments.{IsNew, Next, TakesIf, CanShow, TablesOf};
 
     /// A segment in which no frame stands.
     pub fn new(alloc: Global, signal: Signal) -> Result<Segment, AllocError>
@@ -129,7 +129,7 @@ impl Segment {
 
     fn take_batch(&mut self, batch: &Batch<'_>) -> Result<Seen, AllocError>
         ensures next { IfOk result (NextBatch self.old batch.now self.new) }
-        ensures taken { IfOk result (ShowsIf batch.now.payloads self.new) }
+        ensures taken { IfOk result (ShowsTables batch.now.payloads self.new) }
         ensures memory { OnErr result (self.new.broken ≡ true) }
         ensures signal { self.new.signal ≡ self.old.signal }
     {

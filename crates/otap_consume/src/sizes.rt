@@ -5,7 +5,7 @@ ghost use Rattle.otap_cells.specs.Payload.{main_of};
 ghost use Rattle.otap_cells.specs.Sets.{IsSet, tables_in, rows_named};
 ghost use Rattle.otap_consume.specs.Limits.{held_limit};
 ghost use Rattle.otap_consume.specs.Sizes.{WithinLimits, PastLimit, count_of_rows};
-ghost use Rattle.otap_consume.specs.Streams.{held_of};
+ghost use Rattle.otap_consume.specs.StreamSteps.{held_of};
 
 use crate::refusal::{Cause, MAX_HELD};
 use crate::stream::Stream;

@@ -41,7 +41,7 @@ impl Stream {
     ghost use Rattle.std.specs.Ordering.{int_eq};
     ghost use Rattle.otap_consume.specs.Defects.{is_open_id};
     ghost use Rattle.otap_consume.specs.Payloads.{type_of};
-    ghost use Rattle.otap_consume.specs.Streams.{Takes, DoesNotTake, closed, id_of, held_of, reader_of};
+    ghost use Rattle.otap_consume.specs.StreamSteps.{Takes, DoesNotTake, closed, id_of, held_of, reader_of};
 
     /// No sub-stream is open.
     pub(crate) fn new(kind: Kind) -> Stream

@@ -1,6 +1,7 @@
 use Rattle.std.proofs.Common.{◌∙◌, arith, refl}
 use Rattle.otap_capture.specs.Batch.{content_of}
-use Rattle.otap_consume.specs.Streams.{StreamIn, Takes}
+use Rattle.otap_consume.specs.Streams.{StreamIn}
+use Rattle.otap_consume.specs.StreamSteps.{Takes}
 use Rattle.otap_consume.proofs.Lists.{up_to_none, up_to_more}
 use Rattle.otap_consume.proofs.RecordSteps.{kinds_set}
 use Rattle.otap_consume.proofs.records.take_payload.Goals as goal

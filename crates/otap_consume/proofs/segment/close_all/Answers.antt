@@ -1,6 +1,7 @@
 use Rattle.std.proofs.Common.{◌≡◌, ◌+◌, arith}
 use Rattle.std.specs.Prelude.{slice_set}
-use Rattle.otap_consume.specs.Streams.{StreamIn, closed}
+use Rattle.otap_consume.specs.Streams.{StreamIn}
+use Rattle.otap_consume.specs.StreamSteps.{closed}
 use Rattle.otap_consume.proofs.Lists.{UpTo, up_to_more}
 use Rattle.otap_consume.proofs.RecordSteps.{closed_all}
 use Rattle.otap_consume.proofs.segment.close_all.Goals as goal

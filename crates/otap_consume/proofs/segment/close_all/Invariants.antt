@@ -1,5 +1,6 @@
 use Rattle.std.proofs.Common.{◌≡◌, ℕ, ◌<◌, ◌≤◌, get_or}
-use Rattle.otap_consume.specs.Streams.{StreamIn, closed}
+use Rattle.otap_consume.specs.Streams.{StreamIn}
+use Rattle.otap_consume.specs.StreamSteps.{closed}
 use Rattle.otap_consume.proofs.segment.close_all.Given as goal
 
 abbrev pub invariant-streams : goal.invariant-streams

@@ -4,7 +4,7 @@ use Rattle.std.proofs.lemmas.Bool.{ltb-true}
 use Rattle.otap_consume.specs.Limits.{held_limit}
 use Rattle.otap_consume.specs.declared.not_taken.NotTaken.{NotTaken}
 use Rattle.otap_consume.specs.Defects.{tables_of, held_after}
-use Rattle.otap_consume.specs.Streams.{held_of}
+use Rattle.otap_consume.specs.StreamSteps.{held_of}
 use Rattle.otap_consume.specs.Taking.{StopsBySize}
 use Rattle.otap_consume.proofs.SizeSteps.{held_are}
 use Rattle.otap_consume.proofs.ViewSteps.{set_of, too_large, views_tables, weighs}

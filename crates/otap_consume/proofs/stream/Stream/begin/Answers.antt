@@ -2,7 +2,8 @@ use Rattle.std.proofs.Common.{sym, ap, subst}
 use Rattle.std.proofs.lemmas.Result.{err_from_is_err_and}
 use Rattle.otap_capture.specs.Batch.{content_of}
 use Rattle.otap_columns.specs.declared.refusal.ColumnRefusal.{ColumnRefusal}
-use Rattle.otap_consume.specs.Streams.{StreamIn, DoesNotTake}
+use Rattle.otap_consume.specs.Streams.{StreamIn}
+use Rattle.otap_consume.specs.StreamSteps.{DoesNotTake}
 use Rattle.otap_consume.proofs.StreamSteps.{begins, begins_not}
 use Rattle.otap_consume.proofs.stream.Stream.begin.Goals as goal
 

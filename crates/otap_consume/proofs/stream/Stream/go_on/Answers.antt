@@ -4,7 +4,8 @@ use Rattle.otap_capture.specs.Batch.{content_of}
 use Rattle.otap_columns.specs.declared.refusal.ColumnRefusal.{ColumnRefusal}
 use Rattle.otap_consume.specs.declared.stream.Substream.{Substream}
 use Rattle.otap_consume.specs.StreamInside.{HasReader, open_in}
-use Rattle.otap_consume.specs.Streams.{OpenIn, StreamIn, DoesNotTake}
+use Rattle.otap_consume.specs.Streams.{OpenIn, StreamIn}
+use Rattle.otap_consume.specs.StreamSteps.{DoesNotTake}
 use Rattle.otap_consume.proofs.StreamSteps.{goes_on, goes_on_not}
 use Rattle.otap_consume.proofs.stream.Stream.go_on.Goals as goal
 
