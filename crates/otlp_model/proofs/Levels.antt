@@ -8,7 +8,8 @@ use Rattle.otlp_model.specs.declared.value.Value.{Value, the_lemmas}
 use Rattle.otlp_model.specs.declared.value.Value as values
 use Rattle.otlp_model.specs.declared.value.Pair.{Pair}
 use Rattle.lists.specs.Bytes.{is_real_text, is_real_octets}
-use Rattle.otlp_model.specs.Depth.{depth_of, depth_of_pair, greatest}
+use Rattle.otlp_model.specs.Depth.{depth_of, greatest}
+use Rattle.otlp_model.specs.PairDepth.{depth_of_pair}
 use Rattle.otlp_model.specs.Weight.{weight_of_value, weight_of_pair, total}
 use Rattle.otlp_model.specs.Real.{is_real_value, is_real_pair, fits_i64}
 

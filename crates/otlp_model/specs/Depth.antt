@@ -2,7 +2,6 @@
 use Rattle.std.specs.Prelude.{ℕ, ◌+◌, max, List, [], ◌∷◌}
 use Rattle.otlp_model.specs.declared.value.Value.{Value, fold-Value}
 use Rattle.otlp_model.specs.declared.value.Value.TheOpen.{Value-F}
-use Rattle.otlp_model.specs.declared.value.Pair.{Pair}
 
 -- the greatest of some numbers, and 0 of none
 abbrev pub greatest : List ℕ → ℕ
@@ -18,6 +17,3 @@ depth_step _ = 1
 -- 1, and for an array or a key-value list 1 more than its deepest member
 abbrev pub depth_of : Value → ℕ
 depth_of = fold-Value ℕ ℕ depth_step (λ pair. pair.value)
-
-abbrev pub depth_of_pair : Pair → ℕ
-depth_of_pair pair = depth_of pair.value

@@ -1,6 +1,7 @@
 ghost use Rattle.std.specs.Prelude.{◌≡◌, min, map};
 ghost use Rattle.otlp_model.specs.Limits.{count_cap};
-ghost use Rattle.otlp_model.specs.Depth.{depth_of, greatest, depth_of_pair};
+ghost use Rattle.otlp_model.specs.Depth.{depth_of, greatest};
+ghost use Rattle.otlp_model.specs.PairDepth.{depth_of_pair};
 
 use crate::limits::add_capped;
 use crate::value::{Pair, Value};

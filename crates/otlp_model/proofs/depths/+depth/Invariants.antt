@@ -1,5 +1,6 @@
 use Rattle.std.proofs.Common.{◌≡◌, ◌^◌, max, min, map, drop}
-use Rattle.otlp_model.specs.Depth.{depth_of, greatest, depth_of_pair}
+use Rattle.otlp_model.specs.Depth.{depth_of, greatest}
+use Rattle.otlp_model.specs.PairDepth.{depth_of_pair}
 use Rattle.otlp_model.proofs.depths.+depth.Given as goal
 
 abbrev pub invariant-deepest_member-loop-member : goal.invariant-deepest_member-loop-member
