@@ -8,7 +8,8 @@ use Rattle.byteorder.specs.Endian.{big_bytes}
 use Rattle.otlp_model.specs.declared.value.Value.{Value, fold_out-Value}
 use Rattle.otlp_model.specs.declared.value.Value.TheOpen.{Value-F}
 use Rattle.otlp_model.specs.declared.value.Pair.{Pair}
-use Rattle.otlp_model.specs.Depth.{depth_of, depth_of_pair, depth_step, greatest}
+use Rattle.otlp_model.specs.Depth.{depth_of, depth_step, greatest}
+use Rattle.otlp_model.specs.PairDepth.{depth_of_pair}
 use Rattle.otlp_model.proofs.Levels.{depth_of_array, depth_of_map}
 use Rattle.cbor_values.specs.declared.heads.Head.{Head}
 use Rattle.cbor_values.specs.declared.heads.Head.TheVariants as heads

@@ -5,7 +5,8 @@ use Rattle.std.proofs.lemmas.Bool.{ltb-true, cases_Bool}
 use Rattle.otlp_model.specs.declared.value.Value.{Value}
 use Rattle.otlp_model.specs.declared.value.Value as values
 use Rattle.otlp_model.specs.declared.value.Pair.{Pair}
-use Rattle.otlp_model.specs.Depth.{depth_of, depth_of_pair, greatest}
+use Rattle.otlp_model.specs.Depth.{depth_of, greatest}
+use Rattle.otlp_model.specs.PairDepth.{depth_of_pair}
 use Rattle.otlp_model.proofs.Levels.{depth_of_empty, depth_of_str, depth_of_bool, depth_of_int, depth_of_double, depth_of_bytes, depth_of_array, depth_of_map}
 use Rattle.cbor_values.specs.declared.refusal.CborRefusal.TheVariants.{TooDeep}
 use Rattle.cbor_values.specs.declared.heads.Head.{Head}
