@@ -24,7 +24,8 @@ use Rattle.otlp_model.specs.declared.value.Value.{Value}
 use Rattle.otlp_model.specs.declared.value.Value.TheVariants as values
 use Rattle.otlp_model.specs.declared.value.Pair.{Pair}
 use Rattle.otlp_model.specs.Each.{Each}
-use Rattle.otlp_model.specs.Depth.{depth_of, depth_of_pair, greatest}
+use Rattle.otlp_model.specs.Depth.{depth_of, greatest}
+use Rattle.otlp_model.specs.PairDepth.{depth_of_pair}
 use Rattle.otlp_model.specs.Profile.{is_id_of, IsProfilePair, IsProfileResource, IsProfileScope, IsProfileLogRecord, IsProfileEvent, IsProfileLink, IsProfileSpan, IsProfileScopeGroup, IsProfileResourceGroup}
 use Rattle.otlp_model.proofs.Levels.{depth_of_empty, depth_of_str, depth_of_bool, depth_of_int, depth_of_double, depth_of_bytes, depth_of_array, depth_of_map}
 use Rattle.otlp_codec.specs.Values.{string_in, bool_value_in, int_value_in, double_value_in, array_value_in, kvlist_value_in, bytes_value_in, any_in, any_of, pair_of, members_of, value_at, pair_at}

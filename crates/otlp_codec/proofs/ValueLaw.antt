@@ -17,7 +17,8 @@ use Rattle.otlp_messages.proofs.RowKinds.{varint_field_fits, fixed64_field_fits,
 use Rattle.otlp_model.specs.declared.value.Value.{Value, the_lemmas}
 use Rattle.otlp_model.specs.declared.value.Value.TheVariants as values
 use Rattle.otlp_model.specs.declared.value.Pair.{Pair}
-use Rattle.otlp_model.specs.Depth.{depth_of, depth_of_pair, greatest}
+use Rattle.otlp_model.specs.Depth.{depth_of, greatest}
+use Rattle.otlp_model.specs.PairDepth.{depth_of_pair}
 use Rattle.otlp_model.specs.Real.{is_real_value, is_real_pair, fits_i64}
 use Rattle.lists.specs.Bytes.{is_real_text}
 use Rattle.otlp_model.proofs.Levels.{depth_of_array, depth_of_map, is_real_array, is_real_map}
