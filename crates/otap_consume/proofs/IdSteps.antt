@@ -13,8 +13,7 @@ use Rattle.otap_columns.specs.Streams.{open_id, last_of}
 use Rattle.otap_consume.specs.Defects.{is_taken, is_open_for}
 use Rattle.otap_consume.specs.Ids.{OpenIdIn, ids_of, ids_after, has_other, is_other, opened}
 use Rattle.otap_consume.specs.Payloads.{type_of}
-use Rattle.otap_consume.specs.Records.{kinds_in}
-use Rattle.otap_consume.specs.Streams.{OpenIn, StreamIn, AreAfter, IsOpenAfter}
+use Rattle.otap_consume.specs.Streams.{OpenIn, StreamIn, AreAfter, IsOpenAfter, kinds_in}
 use Rattle.otap_consume.specs.StreamSteps.{id_if, id_of}
 use Rattle.otap_consume.proofs.Lists.{map_same}
 use Rattle.otap_columns.proofs.Openings.{open_id-other, open_id-own}

@@ -16,9 +16,9 @@ use Rattle.otap_consume.specs.declared.not_taken.NotTaken.{NotTaken}
 use Rattle.otap_consume.specs.declared.not_taken.NotTaken.TheVariants.{Defect}
 use Rattle.otap_consume.specs.Defects.{IsReadAfter, StandsInRecord}
 use Rattle.otap_consume.specs.Payloads.{type_of, messages_before}
-use Rattle.otap_consume.specs.Records.{EachTakes, OneRefuses, ShowsLast, ShowsAfter, TakesAll, kinds_in}
+use Rattle.otap_consume.specs.Records.{EachTakes, OneRefuses, TakesAll}
 use Rattle.otap_consume.specs.Stops.{Stops, StopOf, IsOfRecord}
-use Rattle.otap_consume.specs.Streams.{StreamIn, AreAfter, IsAfter}
+use Rattle.otap_consume.specs.Streams.{StreamIn, AreAfter, IsAfter, kinds_in, ShowsLast, ShowsAfter}
 use Rattle.otap_consume.specs.StreamSteps.{Takes, RefusesFor, closed}
 use Rattle.otap_consume.proofs.IdSteps.{kind_at, count_of}
 use Rattle.otap_consume.proofs.KindNumbers.{HasNumber, has_number, numbered, same_kind_number}

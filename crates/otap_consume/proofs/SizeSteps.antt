@@ -14,9 +14,8 @@ use Rattle.otap_columns.specs.Streams.{of_type, stream_of, last_of}
 use Rattle.otap_columns.specs.Substreams.{held_in, substream_in}
 use Rattle.otap_consume.specs.Defects.{held_after}
 use Rattle.otap_consume.specs.Payloads.{type_of}
-use Rattle.otap_consume.specs.Records.{kinds_in}
 use Rattle.otap_consume.specs.Sizes.{count_of_rows}
-use Rattle.otap_consume.specs.Streams.{OpenIn, StreamIn, IsOpenAfter, AreAfter}
+use Rattle.otap_consume.specs.Streams.{OpenIn, StreamIn, IsOpenAfter, AreAfter, kinds_in}
 use Rattle.otap_consume.specs.StreamSteps.{held_if, held_of}
 use Rattle.otap_consume.proofs.Lists.{sum_same, sum_map}
 

@@ -13,9 +13,9 @@ use Rattle.otap_consume.specs.Ids.{ids_of, ids_after}
 use Rattle.lists.specs.EachAfter.{AllAfter}
 use Rattle.lists.specs.Payloads.{PayloadIn}
 use Rattle.otap_consume.specs.PayloadTypes.{HasFineTypes, StandsInTypes}
-use Rattle.otap_consume.specs.Records.{TakesAll, kinds_in}
+use Rattle.otap_consume.specs.Records.{TakesAll}
 use Rattle.otap_consume.specs.Stops.{Stops, IsOfRecord, stop_of_types}
-use Rattle.otap_consume.specs.Streams.{StreamIn, AreAfter}
+use Rattle.otap_consume.specs.Streams.{StreamIn, AreAfter, kinds_in}
 use Rattle.otap_consume.specs.Taking.{Weighs, StopsBySize, AcceptsAfter}
 use Rattle.otap_consume.proofs.IdSteps.{ids_are}
 

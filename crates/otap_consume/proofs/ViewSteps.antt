@@ -22,10 +22,9 @@ use Rattle.otap_consume.specs.Defects.{IsTooLarge, table_of, tables_of, held_aft
 use Rattle.otap_consume.specs.Outcomes.{payloads_after}
 use Rattle.otap_consume.specs.Payloads.{type_of}
 use Rattle.otap_consume.specs.PayloadTypes.{times, IsFineType, HasFineTypes}
-use Rattle.otap_consume.specs.Records.{ShowsAfter, ShowsLast, kinds_in}
 use Rattle.otap_consume.specs.Segments.{SegmentIn, CanShow, TablesOf}
 use Rattle.otap_consume.specs.Sizes.{PastLimit, WithinLimits}
-use Rattle.otap_consume.specs.Streams.{StreamIn, AreAfter, ShowsIf}
+use Rattle.otap_consume.specs.Streams.{StreamIn, AreAfter, ShowsIf, kinds_in, ShowsLast, ShowsAfter}
 use Rattle.otap_consume.specs.StreamSteps.{held_of}
 use Rattle.otap_consume.specs.Taking.{Weighs}
 use Rattle.otap_consume.specs.Views.{IsViewOf, AreViewsOf, Shown, ShownBy, is_stream_of}

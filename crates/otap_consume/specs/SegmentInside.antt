@@ -2,7 +2,7 @@
 use Rattle.std.specs.Prelude.{◌≡◌}
 use Rattle.otap_cells.specs.Payload.{kinds_of}
 use Rattle.otap_consume.specs.declared.segment.Segment.TheInside as segment
-use Rattle.otap_consume.specs.Records.{kinds_in}
+use Rattle.otap_consume.specs.Streams.{kinds_in}
 use Rattle.otap_consume.specs.Segments.{SegmentIn}
 
 abbrev pub segment_in : segment.Inside → SegmentIn

@@ -14,8 +14,7 @@ use Rattle.otap_consume.specs.declared.seen.Seen.TheVariants as seen
 use Rattle.otap_consume.specs.Defects.{tables_of}
 use Rattle.otap_consume.specs.Outcomes.{Outcome, Accepted, Refused, Reset, OutcomeAfter, is_broken, payloads_after}
 use Rattle.otap_consume.specs.PayloadTypes.{HasFineTypes}
-use Rattle.otap_consume.specs.Records.{ShowsAfter, kinds_in}
-use Rattle.otap_consume.specs.Streams.{StreamIn, AreAfter}
+use Rattle.otap_consume.specs.Streams.{StreamIn, AreAfter, kinds_in, ShowsAfter}
 
 pub record SegmentIn : Type 0 where
   pub signal : Signal

@@ -1,5 +1,5 @@
 -- The sub-streams of the types of a signal, as a segment keeps them: of each the one that is open, with its reader.
-use Rattle.std.specs.Prelude.{◌≡◌, ⊤, ℕ, List, All, Option, Some, None}
+use Rattle.std.specs.Prelude.{◌≡◌, ⊤, ℕ, List, map, All, Option, Some, None}
 use Rattle.lists.specs.Payloads.{PayloadIn}
 use Rattle.otap_cells.specs.declared.payload.Kind.{Kind}
 use Rattle.otap_columns.specs.Views.{ReaderIn, StandsAt, Shows}
@@ -38,3 +38,14 @@ AreAfter payloads streams = All (IsAfter payloads) streams
 abbrev pub ShowsIf : Option OpenIn → List ℕ → Type 0
 ShowsIf None bytes = ⊥
 ShowsIf (Some current) bytes = Shows current.reader bytes
+
+-- the sub-stream that is open shows the record of the last payload of its type among these
+abbrev pub ShowsLast : Option PayloadIn → Option OpenIn → Type 0
+ShowsLast None current = ⊤
+ShowsLast (Some last) current = ShowsIf current last.bytes
+
+abbrev pub ShowsAfter : List PayloadIn → StreamIn → Type 0
+ShowsAfter payloads s = ShowsLast (last_of (type_of s.kind) payloads) s.current
+
+abbrev pub kinds_in : List StreamIn → List Kind
+kinds_in streams = map (λ s. s.kind) streams

@@ -10,8 +10,7 @@ use Rattle.otap_cells.specs.Tables.{Table}
 use Rattle.otap_columns.specs.Substreams.{logical}
 use Rattle.otap_columns.specs.Streams.{last_of, stream_of}
 use Rattle.otap_consume.specs.Payloads.{type_of}
-use Rattle.otap_consume.specs.Records.{kinds_in}
-use Rattle.otap_consume.specs.Streams.{StreamIn, AreAfter, ShowsIf}
+use Rattle.otap_consume.specs.Streams.{StreamIn, AreAfter, ShowsIf, kinds_in}
 
 -- the stream of a type shows the record of a payload
 abbrev pub ShownBy : Option StreamIn → PayloadIn → Type 0

@@ -4,8 +4,8 @@ ghost use Rattle.lists.specs.Payloads.{PayloadIn};
 ghost use Rattle.otlp_model.specs.declared.request.Signal.{Signal};
 ghost use Rattle.otap_cells.specs.Payload.{kinds_of};
 ghost use Rattle.otap_capture.specs.Batch.{content_of};
-ghost use Rattle.otap_consume.specs.Records.{EachTakes, OneRefuses, TakesAll, kinds_in};
-ghost use Rattle.otap_consume.specs.Streams.{AreAfter};
+ghost use Rattle.otap_consume.specs.Records.{EachTakes, OneRefuses, TakesAll};
+ghost use Rattle.otap_consume.specs.Streams.{AreAfter, kinds_in};
 ghost use Rattle.otap_consume.specs.Stops.{Stops, IsOfRecord, StopOf};
 
 use crate::not_taken::{NotTaken, defect};

@@ -4,10 +4,9 @@ ghost use Rattle.lists.specs.Payloads.{PayloadIn};
 ghost use Rattle.otap_cells.specs.Payload.{kinds_of};
 ghost use Rattle.otap_consume.specs.declared.not_taken.NotTaken.TheVariants.{Defect};
 ghost use Rattle.otap_consume.specs.Defects.{Refuses};
-ghost use Rattle.otap_consume.specs.Records.{kinds_in};
 ghost use Rattle.otap_consume.specs.Segments.{CanShow};
 ghost use Rattle.otap_consume.specs.Stops.{Stops};
-ghost use Rattle.otap_consume.specs.Streams.{AreAfter};
+ghost use Rattle.otap_consume.specs.Streams.{AreAfter, kinds_in};
 ghost use Rattle.otap_consume.specs.Taking.{AcceptsAfter, Weighs, StopsBySize};
 
 use crate::ids::check_ids;

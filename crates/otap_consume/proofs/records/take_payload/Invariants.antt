@@ -1,7 +1,6 @@
 use Rattle.std.proofs.Common.{◌≡◌}
 use Rattle.otap_capture.specs.Batch.{content_of}
-use Rattle.otap_consume.specs.Records.{kinds_in}
-use Rattle.otap_consume.specs.Streams.{StreamIn}
+use Rattle.otap_consume.specs.Streams.{StreamIn, kinds_in}
 use Rattle.otap_consume.specs.StreamSteps.{Takes}
 use Rattle.otap_consume.proofs.Lists.{UpTo}
 use Rattle.otap_consume.proofs.records.take_payload.Given as goal

@@ -1,6 +1,7 @@
 use Rattle.std.proofs.Common.{◌≡◌, ◌++◌, List}
 use Rattle.lists.specs.Payloads.{PayloadIn}
-use Rattle.otap_consume.specs.Records.{TakesAll, kinds_in}
+use Rattle.otap_consume.specs.Streams.{kinds_in}
+use Rattle.otap_consume.specs.Records.{TakesAll}
 use Rattle.otap_consume.proofs.records.take_records.Given as goal
 
 -- the payloads so far are taken, and stand before those that are left

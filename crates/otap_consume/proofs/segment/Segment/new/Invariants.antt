@@ -1,6 +1,5 @@
 use Rattle.std.proofs.Common.{◌≡◌, [], take}
-use Rattle.otap_consume.specs.Records.{kinds_in}
-use Rattle.otap_consume.specs.Streams.{AreAfter}
+use Rattle.otap_consume.specs.Streams.{AreAfter, kinds_in}
 use Rattle.otap_consume.proofs.segment.Segment.new.Given as goal
 
 abbrev pub invariant-kinds : goal.invariant-kinds

@@ -1,8 +1,7 @@
 use Rattle.std.proofs.Common.{◌≡◌, ◌∙◌, ap, subst, List}
 use Rattle.otap_cells.specs.Payload.{kinds_of}
-use Rattle.otap_consume.specs.Records.{kinds_in}
 use Rattle.otap_consume.specs.Segments.{SegmentIn}
-use Rattle.otap_consume.specs.Streams.{StreamIn}
+use Rattle.otap_consume.specs.Streams.{StreamIn, kinds_in}
 use Rattle.otap_consume.specs.Views.{AreViewsOf}
 use Rattle.otap_consume.proofs.ViewSteps.{gives_tables}
 use Rattle.otap_consume.proofs.segment.Segment.tables.Goals as goal
