@@ -16,7 +16,8 @@ use Rattle.otap_dicts.specs.Limits.{value_limit, byte_limit}
 use Rattle.otap_columns.specs.Dictionaries.{DictionaryIn, is_for, with_dictionary, with_dictionaries, empty_dictionaries, value_weight, weight_of, held_weight}
 use Rattle.otap_columns.specs.Groups.{Member, Group, split, joined_to, group_before, grouped_from, grouped}
 use Rattle.otap_columns.specs.Groups as group
-use Rattle.otap_columns.specs.Schemas.{Forms, FormsFit, ArraySlot, Struct, Column, Items, IsArraySlot, is_there, item_in, members_there, items_after, slots_of_member, slots_under, slots_in, slots_for, slot_field, schema_for}
+use Rattle.otap_columns.specs.Schemas.{Forms, FormsFit, ArraySlot, Struct, Column, Items, IsArraySlot, is_there, item_in, members_there, items_after, schema_for}
+use Rattle.otap_columns.specs.Schemas.{slots_of_member, slots_under, slots_in, slots_for, slot_field}
 use Rattle.otap_columns.proofs.HeadsTaken.{all_some}
 use Rattle.otap_columns.proofs.Located.{count_is, slot_at}
 

@@ -173,7 +173,8 @@ module _ (kind : Kind) (forms : Forms) where
 
   -- ---- elements come after their lists
 
-  first_items : (s : ArraySlot) (m : Member) (item : ArrowType) (slots : List ArraySlot) → s ≡ Column m → item_in (column_at kind m.column).base ≡ Some item → HasItems kind forms s slots → slice_get slots 0 ≡ Some (Items m.column)
+  first_items : (s : ArraySlot) (m : Member) (item : ArrowType) (slots : List ArraySlot) → s ≡ Column m → item_in (column_at kind m.column).base ≡ Some item
+      → HasItems kind forms s slots → slice_get slots 0 ≡ Some (Items m.column)
   unfolding HasItems FollowsItem
   first_items s m item slots is has h =
       let own : FollowsItem kind forms (item_in (column_at kind m.column).base) m.column slots = subst (λ (t : ArraySlot). HasItems kind forms t slots) is h in

@@ -98,7 +98,8 @@ module _ (kind : Kind) (forms : Forms) (values : ℕ → List (List ℕ)) (t : T
   part_at (s ∷ slots) [] place slot h at = absurd h
   part_at (s ∷ slots) (p ∷ parts) zero slot h at =
       let same : s ≡ slot = cc (at) in
-      record { part = p; at = refl; holds = subst (λ (x : ArraySlot). HoldsSlot kind forms values t x p (slice_get parts 0)) same (subst (λ (n : Option PartIn). HoldsSlot kind forms values t s p n) (first_next parts) h.0) }
+      let next = subst (λ (n : Option PartIn). HoldsSlot kind forms values t s p n) (first_next parts) h.0 in
+      record { part = p; at = refl; holds = subst (λ (x : ArraySlot). HoldsSlot kind forms values t x p (slice_get parts 0)) same next }
   part_at (s ∷ slots) (p ∷ parts) (suc place) slot h at =
       let r : HasSlotPart slot parts place = part_at slots parts place slot h.1 at in
       let next : suc place + 1 ≡ suc (place + 1) = omega arith in

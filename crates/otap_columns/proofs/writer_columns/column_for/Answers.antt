@@ -28,14 +28,16 @@ returns-else-is_dictionary c =
 pub indexes_for-requires-clause-reached : goal.indexes_for-requires-clause-reached
 indexes_for-requires-clause-reached c =
     let dictionary : is_dictionary c.args.form ≡ true = sym c.is_dictionary.ensures ∙ c.if-is_dictionary.true in
-    let is : filled_up (length c.args.table.now.rows) c.deref.result.now ≡ places_of (base_at c.args.table.now.kind c.args.column) c.args.form c.args.seen.now.ladder.values (column_in c.args.table.now.rows c.args.column) =
+    let is : filled_up (length c.args.table.now.rows) c.deref.result.now
+    ≡ places_of (base_at c.args.table.now.kind c.args.column) c.args.form c.args.seen.now.ladder.values (column_in c.args.table.now.rows c.args.column) =
     ap (filled_up (length c.args.table.now.rows)) (c.deref.ensures.value ∙ ap (λ (s : SeenIn). s.places) c.seen.view_is) ∙ c.requires.placed dictionary in
     filled_reached (base_at c.args.table.now.kind c.args.column) c.args.form c.args.seen.now.ladder.values c.args.table.now c.args.column c.deref.result.now is dictionary c.requires.few
 
 pub indexes_for-requires-clause-few : goal.indexes_for-requires-clause-few
 indexes_for-requires-clause-few c =
     let dictionary : is_dictionary c.args.form ≡ true = sym c.is_dictionary.ensures ∙ c.if-is_dictionary.true in
-    let is : filled_up (length c.args.table.now.rows) c.deref.result.now ≡ places_of (base_at c.args.table.now.kind c.args.column) c.args.form c.args.seen.now.ladder.values (column_in c.args.table.now.rows c.args.column) =
+    let is : filled_up (length c.args.table.now.rows) c.deref.result.now
+    ≡ places_of (base_at c.args.table.now.kind c.args.column) c.args.form c.args.seen.now.ladder.values (column_in c.args.table.now.rows c.args.column) =
     ap (filled_up (length c.args.table.now.rows)) (c.deref.ensures.value ∙ ap (λ (s : SeenIn). s.places) c.seen.view_is) ∙ c.requires.placed dictionary in
     omega (arith, filled_few (base_at c.args.table.now.kind c.args.column) c.args.form c.args.seen.now.ladder.values c.args.table.now c.args.column c.deref.result.now is, c.rows.ensures.count)
 
