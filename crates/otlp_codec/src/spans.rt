@@ -29,7 +29,7 @@ use otlp_model::{Event, Items, Link, Octets, Span, Text, add_capped, sum_capped}
 use otlp_wire::{Field, Wire};
 use std::alloc::{AllocError, Global};
 
-/// How a span ended (OTLP `SpanStatus`); the model holds its parts in the span.
+/// How a span ended (OTLP `Status`); the model holds its parts in the span.
 #[derive(Drop)]
 pub(crate) struct SpanStatus {
     message: Text,
