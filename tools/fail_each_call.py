@@ -77,7 +77,7 @@ def run_on(program, words, **objects):
 
 
 def wrong_objects(program, job):
-    """The objects that fail at once, and end with another status or by more than a front."""
+    """The objects that fail at once, and lead to another status or to more than a front."""
     all_of_it, wrong = run(program, job), []
     with open("/dev/full", "wb") as full:
         done = run_on(program, job.words, input=job.capture, stdout=full, stderr=subprocess.PIPE)
