@@ -1,5 +1,5 @@
 -- One field after another: how the messages are read in one pass over their fields. That this gives
--- what they say is a law of each (`lemmas/PassesFields`).
+-- what they say is a law of each (`lemmas/Passed`, `lemmas/SpansPassed`, `lemmas/MetricsPassed`).
 use Rattle.std.specs.Prelude.{ℕ, zero, suc, List, [], pos}
 use Rattle.otlp_wire.specs.Wire as wire
 use Rattle.otlp_wire.specs.Wire.{FieldValue, Entry}
