@@ -8,7 +8,7 @@ use Rattle.flat_tables.specs.Bytes.{part_at, number_at}
 use Rattle.flat_tables.specs.Tables.{TableIn, table_at}
 use Rattle.arrow_ipc.specs.declared.messages.IpcMessage.{IpcMessage}
 use Rattle.arrow_ipc.specs.Messages.{IsFramed, IsMessage, IsContent, continuation, kind_number}
-use Rattle.arrow_ipc.specs.Written.{padded, version_5, message_sizes, IsAlignedBy, IsHeaderAligned}
+use Rattle.arrow_ipc.specs.Written.{padded, version_5, message_sizes, IsTableOf, IsHeaderAligned}
 use Rattle.arrow_ipc.specs.Laying.{laid_out, IsMetadata}
 use Rattle.arrow_ipc.proofs.Parts.{lies_part}
 
@@ -84,7 +84,7 @@ pub record IsLaid (metadata written : List ℕ) (message : IpcMessage) : Type 0 
   pub is : IsMessage written message (length written)
   pub same : is.metadata ≡ metadata
   pub version : is.version ≡ version_5
-  pub aligned : IsAlignedBy message_sizes is.table
+  pub aligned : IsTableOf message_sizes is.table
   pub header_aligned : IsHeaderAligned is.header message
 
 pub message_laid : (built : List ℕ) (header : ℕ) (body metadata : List ℕ) (m : IpcMessage) (inner : TableIn)

@@ -1,27 +1,33 @@
 -- The tables of a message, as they are built.
-use Rattle.std.proofs.Common.{◌≡◌, ℕ, ◌+◌, ◌-◌, ◌%◌, Bool, List, [], ◌∷◌, ◌++◌, length, map, Ok, Some, refl, sym, ap, ◌∙◌, subst}
-use Rattle.std.proofs.Math.ListN.{get_or-map}
+use Rattle.std.proofs.Common.{◌≡◌, ℕ, ◌+◌, ◌-◌, ◌%◌, ◌≤◌, Bool, List, [], ◌∷◌, ◌++◌, length, map, Ok, Some, refl, sym, ap, ◌∙◌, subst}
+use Rattle.std.proofs.Math.ListN.{get_or-map, get_or-eq_default}
+use Rattle.std.proofs.lemmas.List.{length-map}
 use Rattle.std.specs.Prelude.{ℤ, pos, ◌==◌, not}
 use Rattle.flat_tables.specs.declared.place.Slot.{Slot}
 use Rattle.flat_tables.specs.declared.place.Slot.TheVariants.{U8, I16, I64, At}
 use Rattle.flat_tables.specs.declared.place.Slot.TheVariants.{Absent}
 use Rattle.flat_tables.specs.Tables.{TableIn, VectorIn, root_at, table_at, distance_at}
-use Rattle.flat_tables.specs.Slots.{alignment}
+use Rattle.flat_tables.specs.Slots.{Holds, alignment}
 use Rattle.flat_tables.specs.Building.{Grows, StaysAt, IsParts, HasSlots, IsPadded, IsTableAligned, vector_from}
 use Rattle.flat_tables.proofs.Standing.{grows_on, stands_later}
 use Rattle.arrow_ipc.specs.Batches.{rows_of, nodes_of, places_of}
 use Rattle.arrow_ipc.specs.Messages.{version_of, kind_of, header_table_of, body_size_of, id_of, data_of, delta_of}
-use Rattle.arrow_ipc.specs.Written.{IsAlignedBy, IsBatchAligned}
+use Rattle.arrow_ipc.specs.Written.{IsTableOf, IsBatchAligned}
 use Rattle.arrow_ipc.specs.Laying.{AllFit, pairs_bytes, HoldsBatch, IsBatchTable, IsMetadata}
 use Rattle.arrow_ipc.proofs.PairsBack.{pairs_back}
 
--- a table is aligned by the sizes of its slots
-by_sizes : (slots : List Slot) (t : TableIn) → IsTableAligned slots t → IsAlignedBy (map alignment slots) t
-by_sizes slots t a = record {
-  table = a.table;
-  vtable = a.vtable;
-  each = λ k. subst (λ (size : ℕ). (t.place + distance_at t k) % size ≡ 0) (sym (get_or-map alignment slots k Absent)) (a.each k);
-}
+-- a table has the slots that it was built with, by their sizes
+by_sizes : (slots : List Slot) (bytes : List ℕ) (place : ℕ) (s : HasSlots slots bytes place) → IsPadded bytes
+    → IsTableOf (map alignment slots) (record { bytes = bytes; place = place; vtable = s.vtable; size = s.size })
+by_sizes slots bytes place s padded =
+    let t : TableIn = record { bytes = bytes; place = place; vtable = s.vtable; size = s.size } in
+    let a : IsTableAligned slots t = s.aligned padded in
+    record {
+      table = a.table;
+      vtable = a.vtable;
+      each = λ k. subst (λ (size : ℕ). (t.place + distance_at t k) % size ≡ 0) (sym (get_or-map alignment slots k Absent)) (a.each k);
+      no_further = λ k past. subst (Holds t k) (get_or-eq_default slots Absent (subst (λ (n : ℕ). n ≤ k) (length-map slots alignment) past)) (s.each k);
+    }
 
 first_aligned : (v w : VectorIn) → v ≡ w → v.first % 8 ≡ 0 → w.first % 8 ≡ 0
 first_aligned v w same h = subst (λ (x : VectorIn). x.first % 8 ≡ 0) same h
@@ -44,7 +50,7 @@ batch_table rows z nodes places bytes n p place is s vn vp fn fp = record {
     plain = s.each 3;
   };
   aligned = λ padded. record {
-    slots = by_sizes (batch_slots z n p) (record { bytes = bytes; place = place; vtable = s.vtable; size = s.size }) (s.aligned padded);
+    slots = by_sizes (batch_slots z n p) bytes place s padded;
     nodes = λ v here. first_aligned (vector_from 16 vn.count bytes (length bytes - n)) v (cc (rw (s.each 1, vn.read) at here)) (vn.aligned padded);
     places = λ v here. first_aligned (vector_from 16 vp.count bytes (length bytes - p)) v (cc (rw (s.each 2, vp.read) at here)) (vp.aligned padded);
   };
@@ -71,7 +77,7 @@ pub record IsDictionaryTable (id : ℤ) (delta : Bool) (rows : ℕ) (nodes place
   pub inner : TableIn
   pub has_inner : data_of table ≡ Ok (Some inner)
   pub holds : HoldsBatch rows nodes places inner
-  pub aligned : IsPadded bytes → IsAlignedBy (8 ∷ 4 ∷ 1 ∷ []) table
+  pub aligned : IsPadded bytes → IsTableOf (8 ∷ 4 ∷ 1 ∷ []) table
   pub inner_aligned : IsPadded bytes → IsBatchAligned inner
 
 dictionary_table : (id z : ℤ) (delta : Bool) (rows : ℕ) (nodes places : List (ℤ × ℤ)) (bytes : List ℕ) (batch flag place : ℕ) → z ≡ id
@@ -86,7 +92,7 @@ dictionary_table id z delta rows nodes places bytes batch flag place id_is s b i
   inner = b.table;
   has_inner = rw (s.each 1, b.read) refl;
   holds = b.holds;
-  aligned = λ padded. by_sizes (dictionary_slots z batch flag) (record { bytes = bytes; place = place; vtable = s.vtable; size = s.size }) (s.aligned padded);
+  aligned = λ padded. by_sizes (dictionary_slots z batch flag) bytes place s padded;
   inner_aligned = b.aligned;
 }
 
@@ -115,6 +121,5 @@ metadata_built built more metadata kind header size root z size_is g s h is padd
       has_kind = rw (t.each 1) refl;
       has_header = rw (t.each 2) refl;
       has_size = rw (t.each 3) (ap Ok size_is);
-      aligned = by_sizes (message_slots kind header z)
-          (record { bytes = metadata; place = length metadata - root; vtable = t.vtable; size = t.size }) (t.aligned padded);
+      aligned = by_sizes (message_slots kind header z) metadata (length metadata - root) t padded;
     }

@@ -8,7 +8,7 @@ use Rattle.flat_tables.specs.Tables.{TableIn, root_at, table_at, place_of}
 use Rattle.flat_tables.specs.Building.{Grows, IsPadded}
 use Rattle.arrow_ipc.specs.Batches.{rows_of, nodes_of, places_of}
 use Rattle.arrow_ipc.specs.Messages.{continuation, version_of, kind_of, header_table_of, body_size_of}
-use Rattle.arrow_ipc.specs.Written.{padded, version_5, message_sizes, IsAlignedBy, IsBatchAligned}
+use Rattle.arrow_ipc.specs.Written.{padded, version_5, message_sizes, IsTableOf, IsBatchAligned}
 
 -- numbers of 64 bits
 abbrev pub FitsPair : ℤ × ℤ → Type 0
@@ -55,7 +55,7 @@ pub record IsMetadata (built : List ℕ) (header kind size : ℕ) (metadata : Li
   pub has_kind : kind_of table ≡ Ok kind
   pub has_header : header_table_of table ≡ (table_at metadata (length metadata - header) >>= λ inner. Ok (Some inner))
   pub has_size : body_size_of table ≡ Ok (pos size)
-  pub aligned : IsAlignedBy message_sizes table
+  pub aligned : IsTableOf message_sizes table
 
 -- a message with such metadata and this body was appended
 pub record HasMessage (built : List ℕ) (header kind : ℕ) (body old new : List ℕ) : Type 0 where

@@ -1,7 +1,7 @@
 -- What is written for a message, and what it reads as.
-use Rattle.std.specs.Prelude.{◌≡◌, ℕ, ◌+◌, ◌*◌, ◌/◌, ◌%◌, ◌≤◌, ◌==◌, Bool, true, List, [], ◌∷◌, ◌++◌, length, sum_by, slice_index_or, Ok, Some, ℤ, pos, unsigned_abs}
+use Rattle.std.specs.Prelude.{◌≡◌, ℕ, ◌+◌, ◌*◌, ◌/◌, ◌%◌, ◌≤◌, ◌==◌, Bool, true, List, [], ◌∷◌, ◌++◌, length, sum_by, slice_index_or, Ok, None, Some, ℤ, pos, unsigned_abs}
 use Rattle.std.specs.List.{list_all}
-use Rattle.flat_tables.specs.Tables.{TableIn, VectorIn, table_at, distance_at, vector_slot}
+use Rattle.flat_tables.specs.Tables.{TableIn, VectorIn, table_at, distance_at, place_of, vector_slot}
 use Rattle.flat_tables.specs.Building.{IsPadded}
 use Rattle.arrow_schema.specs.declared.spec.SchemaSpec.{SchemaSpec}
 use Rattle.arrow_schema.specs.Trees.{count_of}
@@ -31,13 +31,15 @@ most_of batch = sum_by (λ part. length part) batch.buffers + 16 * length batch.
 abbrev pub most_of_schema : SchemaSpec → ℕ
 most_of_schema fields = names_of fields + 2048 * count_of fields + 2048
 
--- ---- alignment, as the verifiers of FlatBuffers want it, counted from the start of the metadata
+-- ---- the tables that are written, aligned as the verifiers of FlatBuffers want it, counted from the start of the metadata
 
--- a table begins at a multiple of 4, its vtable at a multiple of 2, and the value of each slot at a multiple of its size
-pub record IsAlignedBy (sizes : List ℕ) (t : TableIn) : Type 0 where
+-- a table has slots of these sizes at most: it begins at a multiple of 4, its vtable at a multiple of 2, and the value of each
+-- slot at a multiple of its size
+pub record IsTableOf (sizes : List ℕ) (t : TableIn) : Type 0 where
   pub table : t.place % 4 ≡ 0
   pub vtable : t.vtable % 2 ≡ 0
   pub each : (k : ℕ) → (t.place + distance_at t k) % slice_index_or sizes k 1 ≡ 0
+  pub no_further : (k : ℕ) → length sizes ≤ k → place_of t k ≡ None
 
 -- the structs of a vector begin at a multiple of 8
 abbrev pub IsVectorAligned : TableIn → ℕ → Type 0
@@ -45,7 +47,7 @@ IsVectorAligned t slot = (v : VectorIn) → vector_slot 16 t slot ≡ Ok (Some v
 
 -- a table RecordBatch: i64, two references
 pub record IsBatchAligned (t : TableIn) : Type 0 where
-  pub slots : IsAlignedBy (8 ∷ 4 ∷ 4 ∷ []) t
+  pub slots : IsTableOf (8 ∷ 4 ∷ 4 ∷ []) t
   pub nodes : IsVectorAligned t 1
   pub places : IsVectorAligned t 2
 
@@ -60,10 +62,10 @@ AreBuffersAligned t = (places : List (ℤ × ℤ)) → places_of t ≡ Ok places
 abbrev pub IsHeaderAligned : TableIn → IpcMessage → Type 0
 IsHeaderAligned header (Schema fields) = Unit {0}
 IsHeaderAligned header (Dictionary id delta batch) =
-    IsAlignedBy (8 ∷ 4 ∷ 1 ∷ []) header × ((inner : TableIn) → data_of header ≡ Ok (Some inner) → IsBatchAligned inner × AreBuffersAligned inner)
+    IsTableOf (8 ∷ 4 ∷ 1 ∷ []) header × ((inner : TableIn) → data_of header ≡ Ok (Some inner) → IsBatchAligned inner × AreBuffersAligned inner)
 IsHeaderAligned header (Rows batch) = IsBatchAligned header × AreBuffersAligned header
 
--- a table Message: i16, a byte, a reference, i64
+-- a table Message: i16, a byte, a reference, i64; it has no metadata of its own
 abbrev pub message_sizes : List ℕ
 message_sizes = 2 ∷ 1 ∷ 4 ∷ 8 ∷ []
 
@@ -83,7 +85,7 @@ pub record Appends (message : IpcMessage) (most : ℕ) (old new : List ℕ) : Ty
   pub body_even : (8 + length is.metadata) % 8 ≡ 0
   pub version : is.version ≡ version_5
   pub few : length written ≤ most
-  pub aligned : IsAlignedBy message_sizes is.table
+  pub aligned : IsTableOf message_sizes is.table
   pub header_aligned : IsHeaderAligned is.header message
   pub extends : (messages : List IpcMessage) → Front old messages [] → Front new (messages ++ message ∷ []) []
 
@@ -99,7 +101,7 @@ pub record AppendsSchema (fields : SchemaSpec) (old new : List ℕ) : Type 0 whe
   pub no_body : body_size_of has_header.table ≡ Ok (pos 0)
   pub ends : has_header.after ≡ 0
   pub padded : IsPadded has_header.has_table.metadata
-  pub aligned : IsAlignedBy message_sizes has_header.table
+  pub aligned : IsTableOf message_sizes has_header.table
   pub place : ℕ
   pub here : table_at has_header.has_table.metadata place ≡ Ok header
   pub writes : WritesSchema fields has_header.has_table.metadata place
