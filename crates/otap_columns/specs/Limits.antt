@@ -1,9 +1,13 @@
--- The limits of the records that are written.
-use Rattle.std.specs.Prelude.{ℕ, ◌+◌, ◌*◌, length, count_by}
+-- The limits of the dictionaries that are read, and of the records that are written.
+use Rattle.std.specs.Prelude.{ℕ, ◌+◌, ◌*◌, ◌^◌, length, count_by}
 use Rattle.otap_cells.specs.declared.payload.Kind.{Kind}
 use Rattle.otap_cells.specs.Columns.{columns_of}
 use Rattle.otap_cells.specs.Tables.{Table}
 use Rattle.otap_cells.specs.Weights.{weight_of_table}
+
+-- how many bytes the values of a dictionary have together at most, which no memory has
+abbrev pub kept_limit : ℕ
+kept_limit = 2 ^ 48
 
 -- how many columns of a kind may be dictionaries
 abbrev pub dictionary_columns : Kind → ℕ

@@ -3,12 +3,13 @@
 ghost use Rattle.std.specs.Prelude.{◌≡◌, ◌-◌, ◌<◌, ◌≤◌, ◌++◌, take, drop, is_some, length, vec_len, IfOk, OnOk, OnErr};
 ghost use Rattle.std.specs.List.{slice_index_or};
 ghost use Rattle.std.specs.Option.{option_copied};
-ghost use Rattle.otap_columns.specs.Ends.{kept_limit, AreEnds, values_by, start_of, bytes_in};
+ghost use Rattle.otap_columns.specs.Limits.{kept_limit};
+ghost use Rattle.otap_columns.specs.Ends.{AreEnds, values_by, start_of, bytes_in};
 
 use std::alloc::AllocError;
 
 /// The most bytes that the values of a dictionary have together. No memory is so large.
-const MAX_KEPT: usize = 1 << 48;
+pub(crate) const MAX_KEPT: usize = 1 << 48;
 
 /// Where a value ends, and whether it is there: one that is null has no bytes.
 #[derive(Clone, Copy, Debug)]

@@ -7,6 +7,8 @@ ghost use Rattle.otap_cells.specs.declared.payload.Kind.{Kind};
 ghost use Rattle.otap_dicts.specs.Limits.{value_limit};
 ghost use Rattle.otap_columns.specs.declared.refusal.ColumnRefusal.{ColumnRefusal};
 ghost use Rattle.otap_columns.specs.declared.dictionary.TheConstants.{MAX_VALUES};
+ghost use Rattle.otap_columns.specs.declared.ends.TheConstants.{MAX_KEPT};
+ghost use Rattle.otap_columns.specs.Limits.{kept_limit};
 ghost use Rattle.otap_columns.specs.Records.{IsRead, Stands, CanGoOn, IsJudged};
 ghost use Rattle.otap_columns.specs.Schemas.{Forms, is_there, FormsFit, item_in, schema_for, slots_for, IsArraySlot, IsFound};
 ghost use Rattle.otap_columns.specs.Schemas.{Column, Items};
@@ -27,9 +29,10 @@ pub fn read_or_refused()
     ensures never_both { (kind : Kind) (past : List IpcMessage) (bytes : List ℕ) (refusal : ColumnRefusal) → IsRead kind past bytes → Stands kind past bytes refusal → ⊥ }
 {}
 
-/// The constant is the limit of the profile.
+/// The constants are the limits: how many values a dictionary has at most, and how many bytes these have together.
 pub fn values_are_limited()
-    ensures { MAX_VALUES ≡ value_limit }
+    ensures count { MAX_VALUES ≡ value_limit }
+    ensures bytes { MAX_KEPT ≡ kept_limit }
 {}
 
 /// A payload changes only the sub-stream of its own type: it opens another one, or its messages come after the open one's.
