@@ -4,10 +4,15 @@ use Rattle.otap_cells.specs.declared.payload.Kind.{Kind}
 use Rattle.otap_cells.specs.Columns.{columns_of}
 use Rattle.otap_cells.specs.Tables.{Table}
 use Rattle.otap_cells.specs.Weights.{weight_of_table}
+use Rattle.otap_dicts.specs.Limits.{value_limit, byte_limit}
 
 -- how many bytes the values of a dictionary have together at most, which no memory has
 abbrev pub kept_limit : ℕ
 kept_limit = 2 ^ 48
+
+-- how much the far end holds at most for a dictionary that is written: its bytes, and 8 for each value
+abbrev pub held_most : ℕ
+held_most = byte_limit + 8 * value_limit
 
 -- how many columns of a kind may be dictionaries
 abbrev pub dictionary_columns : Kind → ℕ
