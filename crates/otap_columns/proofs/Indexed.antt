@@ -76,10 +76,10 @@ indexes_column f values t column dictionary = indexes_stored (base_at t.kind col
 
 -- ---- nulls after the places
 
-nothing_at : (n row : ℕ) (none : Option ℕ) → get_or (replicate n none) row none ≡ none
-nothing_at zero row none = refl
-nothing_at (suc n) zero none = refl
-nothing_at (suc n) (suc row) none = nothing_at n row none
+nothing_at : (n row : ℕ) (cell : Option ℕ) → get_or (replicate n cell) row cell ≡ cell
+nothing_at zero row cell = refl
+nothing_at (suc n) zero cell = refl
+nothing_at (suc n) (suc row) cell = nothing_at n row cell
 
 filled_at : (places : List (Option ℕ)) (n row : ℕ) → get_or (places ++ replicate n None) row None ≡ get_or places row None
 filled_at [] n row = nothing_at n row None
