@@ -19,7 +19,8 @@ use Rattle.otap_columns.specs.BuiltCells.{HasRoom, row_most, column_weight, colu
 use Rattle.otap_columns.specs.WrittenGroups.{group_in}
 use Rattle.otap_columns.proofs.Grouping.{spec_at, members_of, group_size}
 use Rattle.otap_columns.proofs.RowsAdded.{rows_light}
-use Rattle.otap_columns.proofs.Summing.{sum_of-map, sum_of-plus, sum_of-times, sum_of-same, columns_weigh}
+use Rattle.lists.proofs.MadeSums.{sum_of_map, sum_of_both}
+use Rattle.otap_columns.proofs.Summing.{sum_of-times, sum_of-same, columns_weigh}
 
 -- 1 for a column that may be a dictionary
 abbrev pub mark : ColumnSpec → ℕ
@@ -104,7 +105,7 @@ kinds_counted table.LinkAttrs = deep_attrs_counted
 -- ---- the bytes of the columns of a table
 
 members_most : (t : Table) (ms : List Member) → columns_most t ms ≡ sum_by (column_most t) (map (λ (m : Member). m.column) ms)
-members_most t ms = sym (sum_of-map (column_most t) (λ (m : Member). m.column) ms)
+members_most t ms = sym (sum_of_map (column_most t) (λ (m : Member). m.column) ms)
 
 one_most : (t : Table) (g : Group) → group_most t g ≡ sum_by (column_most t) (map (λ (m : Member). m.column) (members_of g))
 one_most t (Alone m) = omega (arith, sum_by-cons (column_most t) m.column [])
@@ -140,8 +141,8 @@ table_most t =
       arith,
       groups_most t (grouped (columns_of t.kind)),
       ap (sum_by (column_most t)) counted.order,
-      sum_of-plus (λ (column : ℕ). rows column + weights column) (λ (column : ℕ). 32) numbers,
-      sum_of-plus rows weights numbers,
+      sum_of_both (λ (column : ℕ). rows column + weights column) (λ (column : ℕ). 32) numbers,
+      sum_of_both rows weights numbers,
       sum_of-times (λ (column : ℕ). row_most (base_at t.kind column)) (length t.rows) numbers,
       sum_of-same 32 numbers,
       length-range_with_len 0 (width_of t.kind),
@@ -157,10 +158,10 @@ table_parts kind = leb-true (sum_by group_parts (grouped (columns_of kind))) 32 
 
 module _ (t : Table) (gs : List code.Group) (are : map group_in gs ≡ grouped (columns_of t.kind)) where
   pub groups_parts : sum_by (λ (g : code.Group). group_parts (group_in g)) gs ≤ 32
-  groups_parts = omega (arith, sum_of-map group_parts group_in gs, ap (sum_by group_parts) are, table_parts t.kind)
+  groups_parts = omega (arith, sum_of_map group_parts group_in gs, ap (sum_by group_parts) are, table_parts t.kind)
 
   pub groups_bytes : sum_by (λ (g : code.Group). group_most t (group_in g)) gs ≤ row_limit * length t.rows + weight_of_table t + 1024
-  groups_bytes = omega (arith, sum_of-map (group_most t) group_in gs, ap (sum_by (group_most t)) are, table_most t)
+  groups_bytes = omega (arith, sum_of_map (group_most t) group_in gs, ap (sum_by (group_most t)) are, table_most t)
 
 -- a batch without parts has room for all
 pub room_for_all : (t : Table) → weight_of_table t ≤ row_weight_limit → HasRoom (record { rows = length t.rows; nodes = []; buffers = [] }) 32 (row_limit * length t.rows + weight_of_table t + 1024)

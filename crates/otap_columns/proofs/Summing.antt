@@ -1,21 +1,14 @@
 -- Sums over columns, and over the cells of their rows.
-use Rattle.std.proofs.Common.{◌≡◌, ℕ, zero, suc, ◌+◌, ◌*◌, ◌<◌, ◌≤◌, List, [], ◌∷◌, length, map, get_or, refl, sym, ap, ◌∙◌, arith}
+use Rattle.std.proofs.Common.{◌≡◌, ℕ, zero, suc, ◌+◌, ◌*◌, ◌<◌, ◌≤◌, List, [], ◌∷◌, length, get_or, refl, sym, ap, ◌∙◌, arith}
 use Rattle.std.specs.Prelude.{sum_by}
 use Rattle.std.specs.List.{range_with_len}
 use Rattle.std.proofs.lemmas.List.Sums.{sum_by-cons}
+use Rattle.lists.proofs.MadeSums.{sum_of_both}
 use Rattle.otap_cells.specs.Cells.{Cell, null}
 use Rattle.otap_cells.specs.Tables.{column_in}
 use Rattle.otap_cells.specs.Weights.{cell_weight, weight_of_row}
 
 -- ---- sums
-
-pub sum_of-map : {A B : Type 0} (f : B → ℕ) (g : A → B) (xs : List A) → sum_by f (map g xs) ≡ sum_by (λ x. f (g x)) xs
-sum_of-map f g [] = refl
-sum_of-map f g (x ∷ xs) = sum_by-cons f (g x) (map g xs) ∙ ap (λ (n : ℕ). f (g x) + n) (sum_of-map f g xs) ∙ sym (sum_by-cons (λ x. f (g x)) x xs)
-
-pub sum_of-plus : {A : Type 0} (f g : A → ℕ) (xs : List A) → sum_by (λ x. f x + g x) xs ≡ sum_by f xs + sum_by g xs
-sum_of-plus f g [] = refl
-sum_of-plus f g (x ∷ xs) = omega (arith, sum_by-cons (λ x. f x + g x) x xs, sum_by-cons f x xs, sum_by-cons g x xs, sum_of-plus f g xs)
 
 distribute : (a b k : ℕ) → (a + b) * k ≡ a * k + b * k
 distribute a b k = grind arith
@@ -69,7 +62,7 @@ columns_weigh (r ∷ rows) n =
       arith,
       sum_of-less (λ (column : ℕ). sum_by cell_weight (column_in (r ∷ rows) column)) (λ column. first column + rest column) 0 n
           (λ column low. omega (arith, sum_by-cons cell_weight (get_or r column null) (column_in rows column))),
-      sum_of-plus first rest (range_with_len 0 n),
+      sum_of_both first rest (range_with_len 0 n),
       row_cells r n,
       columns_weigh rows n,
       sum_by-cons weight_of_row r rows,

@@ -65,10 +65,6 @@ sum_same f g [] same = refl
 sum_same f g (x ∷ xs) same =
     sum_by-cons f x xs ∙ omega (arith, same 0 x (omega arith), sum_same f g xs (λ k d within. same (suc k) d (omega arith)), sum_by-cons g x xs)
 
-pub sum_map : {A B : Type 0} (f : B → ℕ) (g : A → B) (xs : List A) → sum_by f (map g xs) ≡ sum_by (λ x. f (g x)) xs
-sum_map f g [] = refl
-sum_map f g (x ∷ xs) = sum_by-cons f (g x) (map g xs) ∙ omega (arith, sum_map f g xs, sum_by-cons (λ y. f (g y)) x xs)
-
 -- two lists that agree at each place are one
 pub same_by_place : {A : Type 0} (xs ys : List A) → length xs ≡ length ys → ((k : ℕ) (d : A) → k < length xs → get_or xs k d ≡ get_or ys k d) → xs ≡ ys
 same_by_place [] [] long same = refl

@@ -1,11 +1,11 @@
 -- The next frame of a segment.
 use Rattle.std.proofs.Common.{◌≡◌, ℕ, Bool, true, false, List, [], ◌∷◌, ◌++◌, Option, Some, None, ℤ, Result, Ok, Err, IfOk, refl, sym, ap, ◌∙◌, subst, append-nil}
-use Rattle.std.specs.Prelude.{MatchBool, ◌||◌, if◌then◌else◌}
+use Rattle.std.specs.Prelude.{MatchBool, if◌then◌else◌}
 use Rattle.std.specs.List.{flat_map, list_any}
 use Rattle.std.proofs.lemmas.Bool.{both_ways}
 use Rattle.std.proofs.lemmas.Grind.{flat_map-append}
 use Rattle.std.proofs.lemmas.List.Folds.{list_any-append}
-use Rattle.std.proofs.Math.Bool.{or-true}
+use Rattle.std.proofs.Math.Bool.{or-true, or-false}
 use Rattle.lists.proofs.Latest.{since-append}
 use Rattle.lists.specs.Payloads.{PayloadIn}
 use Rattle.otlp_model.specs.declared.request.Signal.{Signal}
@@ -30,10 +30,6 @@ use Rattle.otap_consume.specs.Taking.{AcceptsAfter, IsStopped, NextBatch}
 
 -- ---- one more outcome
 
-or_false : (b : Bool) → (b || false) ≡ b
-or_false true = refl
-or_false false = refl
-
 -- one that is no reset stands in the segment of those before it
 more : (outcomes : List Outcome) (o : Outcome) → is_reset o ≡ false → segment (outcomes ++ o ∷ []) ≡ segment outcomes ++ o ∷ []
 more outcomes o stays = since-append is_reset outcomes (o ∷ []) ∙ rw stays refl
@@ -49,7 +45,7 @@ pub broken_accepted : (outcomes : List Outcome) (batch : BatchContent) (tables :
 unfolding is_broken
 broken_accepted outcomes batch tables =
     ap (list_any is_refused) (more outcomes (Accepted batch tables) refl) ∙ list_any-append is_refused (segment outcomes) (Accepted batch tables ∷ [])
-    ∙ or_false (list_any is_refused (segment outcomes))
+    ∙ or-false (list_any is_refused (segment outcomes))
 
 pub broken_refused : (outcomes : List Outcome) (refusal : Refusal) → is_broken (outcomes ++ Refused refusal ∷ []) ≡ true
 unfolding is_broken

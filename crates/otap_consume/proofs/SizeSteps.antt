@@ -17,7 +17,8 @@ use Rattle.otap_consume.specs.Payloads.{type_of}
 use Rattle.otap_consume.specs.Sizes.{count_of_rows}
 use Rattle.otap_consume.specs.Streams.{OpenIn, StreamIn, IsOpenAfter, AreAfter, kinds_in}
 use Rattle.otap_consume.specs.StreamSteps.{held_if, held_of}
-use Rattle.otap_consume.proofs.Lists.{sum_same, sum_map}
+use Rattle.lists.proofs.MadeSums.{sum_of_map}
+use Rattle.otap_consume.proofs.Lists.{sum_same}
 
 rows_weigh : (rows : List (List Cell)) → 32 * length rows ≤ sum_by weight_of_row rows
 rows_weigh [] = omega arith
@@ -64,4 +65,4 @@ held_are signal payloads streams same are =
     let held : Kind → ℕ = λ kind. held_in (stream_of (type_of kind) payloads) in
     sum_same held_of (λ (s : StreamIn). held s.kind) streams
     (λ k d inside. held_at payloads (get_or streams k d).kind (last_of (type_of (get_or streams k d).kind) payloads) (get_or streams k d).current refl (are k d inside).current)
-    ∙ sym (sum_map held (λ (s : StreamIn). s.kind) streams) ∙ ap (sum_by held) same
+    ∙ sym (sum_of_map held (λ (s : StreamIn). s.kind) streams) ∙ ap (sum_by held) same

@@ -7,7 +7,8 @@ use Rattle.otap_columns.specs.WrittenGroups.{forms_in, member_in}
 use Rattle.otap_columns.specs.BuiltRows.{columns_in}
 use Rattle.otap_columns.proofs.BatchGrown.{grows_less, list_grows, list_room}
 use Rattle.otap_columns.proofs.RowsAdded.{members_step}
-use Rattle.otap_columns.proofs.Summing.{sum_of-map, sum_of-same}
+use Rattle.lists.proofs.MadeSums.{sum_of_map}
+use Rattle.otap_columns.proofs.Summing.{sum_of-same}
 use Rattle.otap_columns.proofs.writer_rows.add_members.Goals as goal
 
 pub add_member-requires-clause-room : goal.add_member-requires-clause-room
@@ -15,7 +16,7 @@ add_member-requires-clause-room c =
     let t = c.args.table.now in
     let ms = c.args.members.now in
     list_room (λ (m : Member). 1) (λ (m : Member). column_most t m.column) ms c.members.member-index _ (length ms) (columns_most t (map member_in ms)) c.args.batch.now c.members.batch (omega arith)
-    (omega (arith, sum_of-same 1 ms)) (omega (arith, sum_of-map (λ m. column_most t m.column) member_in ms)) c.requires.room c.members.invariant.1
+    (omega (arith, sum_of-same 1 ms)) (omega (arith, sum_of_map (λ m. column_most t m.column) member_in ms)) c.requires.room c.members.invariant.1
 
 pub members-preserved : goal.members-preserved
 members-preserved c = (
@@ -32,4 +33,4 @@ returns-clause-grows c =
     let all : take c.members.member-index ms ≡ ms = take_all c.members.member-index ms (omega arith) in
     grows_less _ (length ms) _ (columns_most t (map member_in ms)) c.args.batch.now c.members.batch
     (omega (arith, ap (sum_by (λ (m : Member). 1)) all, sum_of-same 1 ms))
-    (omega (arith, ap (sum_by (λ (m : Member). column_most t m.column)) all, sum_of-map (λ m. column_most t m.column) member_in ms)) c.members.invariant.1
+    (omega (arith, ap (sum_by (λ (m : Member). column_most t m.column)) all, sum_of_map (λ m. column_most t m.column) member_in ms)) c.members.invariant.1
