@@ -1,6 +1,6 @@
 -- Each frame has an outcome after frames with outcomes.
 use Rattle.std.proofs.Common.{◌≡◌, Bool, true, false, List, [], ◌∷◌, ◌++◌, Option, Some, None, refl, sym, ◌∙◌, subst, inl, inr}
-use Rattle.std.specs.Prelude.{MatchBool}
+use Rattle.std.specs.Prelude.{MatchBool, ◌⊎◌, ⊤}
 use Rattle.std.specs.List.{AllByRecursion}
 use Rattle.std.specs.Option.{IsSome}
 use Rattle.std.proofs.lemmas.Bool.{both_ways}
@@ -8,18 +8,31 @@ use Rattle.lists.specs.EachAfter.{AllAfter}
 use Rattle.lists.proofs.Growing.{each_after-keeps, all_after-append}
 use Rattle.lists.specs.Payloads.{PayloadIn}
 use Rattle.otlp_model.specs.declared.request.Signal.{Signal}
-use Rattle.otap_capture.specs.Batch.{BatchContent}
+use Rattle.otap_capture.specs.declared.batch.BatchRefusal.{BatchRefusal}
+use Rattle.otap_capture.specs.Batch.{BatchContent, ReadsBatch, RefusesBatch}
 use Rattle.otap_capture.specs.Capture.{Frame, Message, Packed}
 use Rattle.otap_capture.specs.Capture as capture
+use Rattle.otap_capture.proofs.BatchDefects.{read_or_not}
 use Rattle.otap_cells.specs.declared.payload.Kind.{Kind}
 use Rattle.otap_cells.specs.Payload.{kind_numbered}
 use Rattle.otap_cells.specs.Tables.{Table}
 use Rattle.otap_consume.specs.declared.refusal.Cause.TheVariants.{Compressed, Broken}
 use Rattle.otap_consume.specs.Defects.{IsReadAfter, IsTakenAfter, AreTaken, Accepts, tables_of}
-use Rattle.otap_consume.specs.Outcomes.{Outcome, Accepted, Refused, Reset, refused, unread_cause, is_broken, payloads_after, Gives, StaysBroken, OutcomeAfter, Outcomes, IsRead}
+use Rattle.otap_consume.specs.Outcomes.{Outcome, Accepted, Refused, Reset, refused, unread_cause, is_broken, payloads_after, Gives, StaysBroken, OutcomeAfter, Outcomes}
 use Rattle.otap_consume.specs.PayloadTypes.{IsFineType}
 use Rattle.otap_consume.proofs.Judged.{are_judged}
 use Rattle.otap_consume.proofs.SegmentSteps.{payloads_accepted, broken_accepted, broken_refused, payloads_reset}
+
+-- ---- a message is a batch, or a defect stands in it
+
+abbrev pub IsReadOrRefused : Frame → Type 0
+IsReadOrRefused (Message bytes) = ((batch : BatchContent) × ReadsBatch bytes batch) ⊎ ((refusal : BatchRefusal) × RefusesBatch bytes refusal)
+IsReadOrRefused frame = ⊤
+
+pub is_read_or_refused : (frame : Frame) → IsReadOrRefused frame
+is_read_or_refused (Message bytes) = read_or_not bytes
+is_read_or_refused Packed = tt
+is_read_or_refused capture.Reset = tt
 
 -- ---- the payloads of accepted batches were taken
 
@@ -76,13 +89,13 @@ taken_after signal frames outcomes each =
 abbrev pub Has : Signal → List Outcome → Frame → Type 0
 Has signal outcomes frame = (outcome : Outcome) × OutcomeAfter signal outcomes frame outcome
 
-still_broken : (frame : Frame) → IsRead frame → (outcome : Outcome) × StaysBroken frame outcome
+still_broken : (frame : Frame) → IsReadOrRefused frame → (outcome : Outcome) × StaysBroken frame outcome
 still_broken (Message bytes) (inl (batch, reads)) = (refused (Some batch.id) Broken None, StaysBroken.readable bytes batch reads)
 still_broken (Message bytes) (inr (refusal, bad)) = (refused None Broken None, StaysBroken.unreadable bytes refusal bad)
 still_broken Packed h = (refused None Broken None, StaysBroken.compressed)
 still_broken capture.Reset h = (Reset, StaysBroken.resets)
 
-gives_some : (signal : Signal) (past : List PayloadIn) → AreTaken signal past → (frame : Frame) → IsRead frame → (outcome : Outcome) × Gives signal past frame outcome
+gives_some : (signal : Signal) (past : List PayloadIn) → AreTaken signal past → (frame : Frame) → IsReadOrRefused frame → (outcome : Outcome) × Gives signal past frame outcome
 gives_some signal past taken (Message bytes) (inl (batch, reads)) =
     elim (are_judged signal past batch.payloads taken) [
       | inl accepts ↦ (Accepted batch (tables_of signal past batch.payloads), Gives.accepts bytes batch reads accepts)
@@ -92,7 +105,7 @@ gives_some signal past taken (Message bytes) (inr (refusal, bad)) = (refused Non
 gives_some signal past taken Packed h = (refused None Compressed None, Gives.compressed)
 gives_some signal past taken capture.Reset h = (Reset, Gives.resets)
 
-pub by_break : (signal : Signal) (outcomes : List Outcome) (frame : Frame) (b : Bool) → is_broken outcomes ≡ b → Taken signal outcomes → IsRead frame → Has signal outcomes frame
+pub by_break : (signal : Signal) (outcomes : List Outcome) (frame : Frame) (b : Bool) → is_broken outcomes ≡ b → Taken signal outcomes → IsReadOrRefused frame → Has signal outcomes frame
 by_break signal outcomes frame true is taken read =
     let h : (outcome : Outcome) × StaysBroken frame outcome = still_broken frame read in
     (h.0, subst (λ (b : Bool). MatchBool b (StaysBroken frame h.0) (Gives signal (payloads_after outcomes) frame h.0)) (sym is) h.1)
@@ -100,5 +113,5 @@ by_break signal outcomes frame false is taken read =
     let h : (outcome : Outcome) × Gives signal (payloads_after outcomes) frame outcome = gives_some signal (payloads_after outcomes) (taken is) frame read in
     (h.0, subst (λ (b : Bool). MatchBool b (StaysBroken frame h.0) (Gives signal (payloads_after outcomes) frame h.0)) (sym is) h.1)
 
-pub some_after : (signal : Signal) (frames : List Frame) (outcomes : List Outcome) (frame : Frame) → Outcomes signal frames outcomes → IsRead frame → (outcome : Outcome) × OutcomeAfter signal outcomes frame outcome
+pub some_after : (signal : Signal) (frames : List Frame) (outcomes : List Outcome) (frame : Frame) → Outcomes signal frames outcomes → IsReadOrRefused frame → (outcome : Outcome) × OutcomeAfter signal outcomes frame outcome
 some_after signal frames outcomes frame each read = by_break signal outcomes frame (is_broken outcomes) refl (taken_after signal frames outcomes each) read

@@ -6,30 +6,22 @@ use Rattle.lists.specs.EachAfter.{EachAfter}
 use Rattle.otlp_model.specs.Limits.{weight_limit}
 use Rattle.otlp_model.specs.Weight.{weight_of}
 use Rattle.otap_capture.specs.Batch.{BatchContent}
-use Rattle.otap_capture.specs.Capture.{Frame, Message, Packed}
-use Rattle.otap_capture.specs.Capture as capture
-use Rattle.otap_capture.proofs.BatchDefects.{read_or_not}
+use Rattle.otap_capture.specs.Capture.{Frame}
 use Rattle.otap_cells.specs.Tables.{Table}
 use Rattle.otap_checks.specs.Deciding.{CleanOrWrong, HaveByteCells}
 use Rattle.otap_consume.specs.declared.refusal.Cause.TheVariants.{Row, TreeTooHeavy}
 use Rattle.otap_consume.specs.Bytes.{HasBytes}
 use Rattle.otap_consume.specs.Meanings.{Meaning}
-use Rattle.otap_consume.specs.Outcomes.{Outcome, Accepted, Refused, Reset, OutcomeAfter, IsRead, refused, is_broken, payloads_after}
+use Rattle.otap_consume.specs.Outcomes.{Outcome, Accepted, Refused, Reset, OutcomeAfter, refused, is_broken, payloads_after}
 use Rattle.otap_consume.specs.Payloads.{type_of}
 use Rattle.otap_consume.specs.Receiving.{Settles, ReceivedAfter, Received}
 use Rattle.otap_consume.proofs.ByteFrames.{payloads_bytes}
 use Rattle.otap_consume.proofs.ByteLists.{bytes_of_all, each_append}
 use Rattle.otap_consume.proofs.ByteTables.{PayloadBytes, tables_bytes}
-use Rattle.otap_consume.proofs.Following.{Taken, by_break, none_taken}
+use Rattle.otap_consume.proofs.Following.{Taken, is_read_or_refused, by_break, none_taken}
 use Rattle.otap_consume.proofs.Formats.{settles_accepted, still_taken, taken_received}
 use Rattle.otap_consume.proofs.Regrouping.{GivesBatch, accepted_batch}
 use Rattle.otap_consume.proofs.SegmentSteps.{payloads_accepted, broken_accepted, broken_refused, payloads_reset}
-
--- each message is a batch, or a defect stands in it
-is_read : (frame : Frame) → IsRead frame
-is_read (Message bytes) = read_or_not bytes
-is_read Packed = tt
-is_read capture.Reset = tt
 
 -- ---- the payloads of accepted batches are bytes
 
@@ -89,7 +81,7 @@ module _ (m : Meaning) (decided : (tables : List Table) → HaveByteCells tables
 
   next : (outcomes : List Outcome) (frame : Frame) → Taken m.signal outcomes → Held outcomes → HasBytes frame → Receives m outcomes frame
   next outcomes frame taken held bytes =
-      let seen : (outcome : Outcome) × OutcomeAfter m.signal outcomes frame outcome = by_break m.signal outcomes frame (is_broken outcomes) refl taken (is_read frame) in
+      let seen : (outcome : Outcome) × OutcomeAfter m.signal outcomes frame outcome = by_break m.signal outcomes frame (is_broken outcomes) refl taken (is_read_or_refused frame) in
       of_seen outcomes frame seen.0 seen.1 held bytes
 
   -- ---- all frames

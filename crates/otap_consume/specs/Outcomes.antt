@@ -1,5 +1,5 @@
 -- What each frame of a capture gives. Nothing is kept from frame to frame: each outcome looks back over those before it.
-use Rattle.std.specs.Prelude.{◌⊎◌, ⊤, ℕ, ℤ, Bool, true, false, List, [], Option, Some, None, MatchBool}
+use Rattle.std.specs.Prelude.{ℕ, ℤ, Bool, true, false, List, [], Option, Some, None, MatchBool}
 use Rattle.std.specs.List.{flat_map, list_any}
 use Rattle.lists.specs.EachAfter.{EachAfter}
 use Rattle.lists.specs.Since.{since}
@@ -108,8 +108,3 @@ OutcomeAfter signal outcomes frame outcome =
 -- THE OUTCOMES of the frames of a capture
 abbrev pub Outcomes : Signal → List Frame → List Outcome → Type 0
 Outcomes signal frames outcomes = EachAfter (λ past before frame outcome. OutcomeAfter signal before frame outcome) [] [] frames outcomes
-
--- a message is a batch, or a defect stands in it
-abbrev pub IsRead : Frame → Type 0
-IsRead (Message bytes) = ((batch : BatchContent) × ReadsBatch bytes batch) ⊎ ((refusal : BatchRefusal) × RefusesBatch bytes refusal)
-IsRead frame = ⊤
