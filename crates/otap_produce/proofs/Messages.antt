@@ -8,9 +8,9 @@ use Rattle.otap_capture.specs.Batch.{BatchContent, IsRealBatch, IsRealPayload, R
 use Rattle.otap_cells.specs.Tables.{Table}
 use Rattle.otap_columns.specs.Limits.{tables_limit}
 use Rattle.otap_produce.specs.Exporters.{SendersIn}
-use Rattle.otap_produce.specs.Limits.{batch_limit, size_limit}
+use Rattle.otap_produce.specs.Limits.{batch_limit}
 use Rattle.otap_produce.specs.SentMessages.{Adds, Sends, SendsMessage}
-use Rattle.otap_produce.specs.Sizes.{most_of, size_of}
+use Rattle.otap_produce.specs.Sizes.{most_of, size_of, size_limit}
 use Rattle.otap_produce.proofs.Lengths.{batch_most}
 
 module _ (number : ℕ) (ts : List Table) (old new : SendersIn) (start batch : BatchContent) (bytes : List ℕ)

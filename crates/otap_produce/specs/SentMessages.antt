@@ -16,9 +16,8 @@ use Rattle.otap_columns.specs.TableSets.{ArePayloadsOf}
 use Rattle.otap_produce.specs.declared.refusal.ProduceRefusal.{ProduceRefusal}
 use Rattle.otap_produce.specs.declared.refusal.ProduceRefusal.TheVariants.{Memory}
 use Rattle.otap_produce.specs.Exporters.{SendersIn, HaveSent, Refuses, kinds_in}
-use Rattle.otap_produce.specs.Limits.{size_limit}
 use Rattle.otap_produce.specs.Policy.{SignalRows}
-use Rattle.otap_produce.specs.Sizes.{most_of, size_of}
+use Rattle.otap_produce.specs.Sizes.{most_of, size_of, size_limit}
 
 -- some tables were sent, as some payloads
 pub record HaveHistory (s : SendersIn) : Type 0 where

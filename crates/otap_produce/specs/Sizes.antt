@@ -1,8 +1,8 @@
 -- How long messages may be.
-use Rattle.std.specs.Prelude.{ℕ, ◌+◌, List, [], ◌∷◌, length}
+use Rattle.std.specs.Prelude.{ℕ, ◌+◌, ◌*◌, List, [], ◌∷◌, length}
 use Rattle.lists.specs.Payloads.{PayloadIn}
 use Rattle.otap_cells.specs.Tables.{Table}
-use Rattle.otap_columns.specs.Limits.{record_limit}
+use Rattle.otap_columns.specs.Limits.{record_limit, records_limit, tables_limit}
 
 -- the bytes of the schema ids and the records of payloads
 abbrev pub size_of : List PayloadIn → ℕ
@@ -13,3 +13,7 @@ size_of (p ∷ payloads) = length p.schema_id + length p.bytes + size_of payload
 abbrev pub most_of : List Table → ℕ
 most_of [] = 0
 most_of (t ∷ tables) = 20 + record_limit t + most_of tables
+
+-- and for the tables of a request
+abbrev pub size_limit : ℕ
+size_limit = records_limit + tables_limit * 20
