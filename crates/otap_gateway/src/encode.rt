@@ -14,7 +14,7 @@ ghost use Rattle.otap_gateway.specs.JobStates.{HasTold};
 use crate::job::Job;
 use crate::refused_requests::{refusal_name, refused};
 use crate::reply::Reply;
-use crate::sending::SendsLoad;
+use crate::sending::ExportsRows;
 use otap_capture::Frame;
 use otap_produce::{Exporter, ProduceRefusal, Tabled};
 use otlp_codec::read_request;
@@ -28,7 +28,7 @@ pub(crate) struct Encoder<T: Tabled> {
     tables: T,
 }
 
-impl<T: SendsLoad + Drop> Encoder<T> {
+impl<T: ExportsRows + Drop> Encoder<T> {
     pub(crate) fn new(alloc: Global, tables: T) -> Result<Encoder<T>, AllocError>
         ensures { IfOk result (λ encoder. StandsFor T.rows [] [] encoder.exporter) }
     {
@@ -37,7 +37,7 @@ impl<T: SendsLoad + Drop> Encoder<T> {
     }
 }
 
-impl<T: SendsLoad> Job for Encoder<T> {
+impl<T: ExportsRows> Job for Encoder<T> {
     ghost command = { λ s. command.Encode T.served };
 
     ghost stands = { λ s. HasTold (Encodes (rows_of T.served) (meaning_of T.served)) encoded (HasEncoded (rows_of T.served) s.exporter) };
@@ -48,7 +48,7 @@ impl<T: SendsLoad> Job for Encoder<T> {
     }
 }
 
-fn encode_frame<T: SendsLoad>(
+fn encode_frame<T: ExportsRows>(
     alloc: Global,
     exporter: &mut Exporter<T>,
     number: u64,
@@ -68,7 +68,7 @@ fn encode_frame<T: SendsLoad>(
     }
 }
 
-fn encode_message<T: SendsLoad>(
+fn encode_message<T: ExportsRows>(
     alloc: Global,
     exporter: &mut Exporter<T>,
     number: u64,
@@ -84,7 +84,7 @@ fn encode_message<T: SendsLoad>(
     }
 }
 
-fn encode_request<T: SendsLoad>(
+fn encode_request<T: ExportsRows>(
     alloc: Global,
     exporter: &mut Exporter<T>,
     number: u64,

@@ -8,13 +8,13 @@ ghost use Rattle.otap_gateway.specs.Receptions.{meaning_of};
 ghost use Rattle.otap_produce.specs.Policy.{IsExported, Policy};
 ghost use Rattle.otap_transit.specs.Transits.{IsReceivedAs};
 
-use crate::sending::SendsLoad;
+use crate::sending::ExportsRows;
 use otap_consume::{LogTelemetry, MetricTelemetry, SpanTelemetry};
 use otap_produce::{LogTables, MetricTables, SpanTables};
 use otap_transit::laws::{both_ends, logs_are_faithful, metrics_are_faithful, spans_are_faithful};
 
 /// A signal of which the program makes loads.
-pub(crate) trait Loads: SendsLoad {
+pub(crate) trait Loads: ExportsRows {
     /// Law: the tables of a load's requests aren't too heavy.
     fn loads_are_light()
         ensures { (r : ℕ) → r < requests_at_most → weight_of_tables (Self.rows.tables (generated Self.rows.signal r)) ≤ row_weight_limit };

@@ -13,7 +13,7 @@ use otap_transit::laws::{
 };
 
 /// A signal that the jobs of an exporter serve: its requests are written as tables that mean the same.
-pub(crate) trait SendsLoad: Tabled {
+pub(crate) trait ExportsRows: Tabled {
     ghost served: { Signal };
 
     /// Law: what is sent arrives.
@@ -23,7 +23,7 @@ pub(crate) trait SendsLoad: Tabled {
     ghost of_rows: { Self.rows ≡ rows_of served };
 }
 
-impl SendsLoad for SpanTables {
+impl ExportsRows for SpanTables {
     ghost use Rattle.std.specs.Prelude.{refl};
 
     ghost served = { signals.Traces };
@@ -36,7 +36,7 @@ impl SendsLoad for SpanTables {
     ghost of_rows = { refl };
 }
 
-impl SendsLoad for LogTables {
+impl ExportsRows for LogTables {
     ghost use Rattle.std.specs.Prelude.{refl};
 
     ghost served = { signals.Logs };
@@ -49,7 +49,7 @@ impl SendsLoad for LogTables {
     ghost of_rows = { refl };
 }
 
-impl SendsLoad for MetricTables {
+impl ExportsRows for MetricTables {
     ghost use Rattle.std.specs.Prelude.{refl};
 
     ghost served = { signals.Metrics };

@@ -11,7 +11,7 @@ ghost use Rattle.otap_gateway.specs.Receptions.{meaning_of};
 ghost use Rattle.otap_gateway.specs.Reply.{ReplyText};
 ghost use Rattle.otap_gateway.specs.Told.{Gave, told};
 
-use crate::sending::SendsLoad;
+use crate::sending::ExportsRows;
 use otap_capture::written_is_read;
 use otap_produce::{LogTables, MetricTables, SpanTables};
 

@@ -4,13 +4,13 @@ ghost use Rattle.otap_gateway.specs.Runs.{sinks, world, Leaves, Stops, Faults};
 
 use crate::drive::drive;
 use crate::encode::Encoder;
-use crate::sending::SendsLoad;
+use crate::sending::ExportsRows;
 use crate::stop::{Stop, Tally};
 use otap_capture::{Sink, Source};
 use std::alloc::Global;
 
 /// Runs `encode`.
-pub(crate) fn encode<T: SendsLoad + Drop, S: Source, O: Sink, E: Sink>(
+pub(crate) fn encode<T: ExportsRows + Drop, S: Source, O: Sink, E: Sink>(
     alloc: Global,
     tables: T,
     source: &mut S,

@@ -8,7 +8,7 @@ encode-requires-clause-batches g c = few_batches g.T.Tabled.rows c.args.request 
 pub add-requires : goal.add-requires
 add-requires g c =
     let exports = rw (c.in_ok-request.ensures, c.signal.ensures) at c.in-Ok.ensures.exports in
-    rw c.deref.ensures.value (message_read g.T.Tabled.rows (meaning_of g.T.SendsLoad.served) c.args.request _ _ _ _ c.messages_are_received.ensures exports c.requires.stands)
+    rw c.deref.ensures.value (message_read g.T.Tabled.rows (meaning_of g.T.ExportsRows.served) c.args.request _ _ _ _ c.messages_are_received.ensures exports c.requires.stands)
 
 pub returns : goal.returns
 returns g c =

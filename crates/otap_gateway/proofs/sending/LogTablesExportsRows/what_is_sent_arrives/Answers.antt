@@ -1,5 +1,5 @@
 use Rattle.otap_produce.specs.LogRows.{logs_rows}
-use Rattle.otap_gateway.proofs.sending.LogTablesSendsLoad.what_is_sent_arrives.Goals as goal
+use Rattle.otap_gateway.proofs.sending.LogTablesExportsRows.what_is_sent_arrives.Goals as goal
 
 pub returns : goal.returns
 returns c sendings allowed =

@@ -1,5 +1,5 @@
 use Rattle.otap_produce.specs.MetricRows.{metrics_rows}
-use Rattle.otap_gateway.proofs.sending.MetricTablesSendsLoad.what_is_sent_arrives.Goals as goal
+use Rattle.otap_gateway.proofs.sending.MetricTablesExportsRows.what_is_sent_arrives.Goals as goal
 
 pub returns : goal.returns
 returns c sendings allowed =
