@@ -5,6 +5,6 @@ use Rattle.std.specs.Prelude.{ℕ}
 abbrev pub max_rows : ℕ
 max_rows = 9223372036854775808
 
--- where it has offsets, its values have less than this number of bytes: offsets are signed numbers of 32 bits
+-- an offset is less than this, and so is the number of bytes of values that have offsets: these are signed numbers of 32 bits
 abbrev pub max_values : ℕ
 max_values = 2147483648
