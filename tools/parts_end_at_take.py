@@ -2,7 +2,7 @@
 """Checks that the bytes of a cell can't be kept over a further record.
 
 `RowsView::part` hands out bytes that stay for as long as the reader is lent. In a copy of the crates this adds to a test
-of otap_columns a part that is used after `Reader::take`, which the compiler must refuse, since it borrows the reader twice.
+of column_tests a part that is used after `Reader::take`, which the compiler must refuse, since it borrows the reader twice.
 """
 
 import os
@@ -12,12 +12,12 @@ import sys
 import tempfile
 
 TOP = os.path.dirname(os.path.dirname(os.path.abspath(__file__)))
-TESTS = os.path.join("crates", "otap_columns", "src", "tests.rt")
+TESTS = os.path.join("crates", "column_tests", "src", "columns.rt")
 
 # A part is taken before a further record, and used after it.
 CHANGES = [
-    ('    assert_eq!(rt; key_part(&reader, &second, 0), Some(b"d".as_slice()));\n',
-     "    let part = key_part(&reader, &second, 0);\n"),
+    ("    let refusal = reader.take(&third);\n",
+     "    let part = reader.view(&second).part(1, 0);\n    let refusal = reader.take(&third);\n"),
     ("    assert!(rt; reader.is_broken());\n",
      "    assert!(rt; part.is_some());\n"),
 ]
@@ -46,7 +46,7 @@ def main():
     with tempfile.TemporaryDirectory(prefix="finavoluth-") as room:
         copy(room)
         change(room)
-        crate = os.path.join(room, "crates", "otap_columns")
+        crate = os.path.join(room, "crates", "column_tests")
         run = subprocess.run(["rt", "try", "--test"], cwd=crate, capture_output=True, text=True)
         said = run.stdout + run.stderr
     if "borrow-e0502" not in said:

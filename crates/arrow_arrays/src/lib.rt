@@ -9,8 +9,6 @@ pub mod laws;
 mod layout;
 mod place;
 mod spec;
-#[cfg(test)]
-mod tests;
 mod view;
 
 pub use crate::arrays::Arrays;

@@ -21,6 +21,3 @@ pub use fixed::Fixed;
 pub use lists::Lists;
 pub use vars::Vars;
 pub use width::Width;
-
-#[cfg(test)]
-mod tests;

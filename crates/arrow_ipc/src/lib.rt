@@ -7,8 +7,6 @@ mod fault;
 mod header;
 pub mod laws;
 mod messages;
-#[cfg(test)]
-mod tests;
 mod write;
 
 pub use crate::batch::BatchView;

@@ -8,8 +8,6 @@ pub mod laws;
 mod reading;
 mod refusal;
 mod spec;
-#[cfg(test)]
-mod tests;
 mod writing;
 
 pub use crate::reading::read_schema;

@@ -15,6 +15,3 @@ pub use reading::read_value;
 pub use refusal::CborRefusal;
 pub use weighing::{Nesting, WeighedValue, weigh_value};
 pub use writing::{len_value, write_value};
-
-#[cfg(test)]
-mod tests;

@@ -7,8 +7,6 @@ pub mod laws;
 mod layout;
 mod place;
 mod reading;
-#[cfg(test)]
-mod tests;
 mod views;
 
 pub use crate::builder::{Builder, MAX_SIZE, MAX_SLOTS};

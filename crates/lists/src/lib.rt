@@ -6,8 +6,6 @@
 
 mod items;
 mod octets;
-#[cfg(test)]
-mod tests;
 mod text;
 
 pub use items::Items;

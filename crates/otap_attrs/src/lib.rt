@@ -13,8 +13,6 @@ mod reading;
 mod recoding;
 mod refusal;
 mod sorting;
-#[cfg(test)]
-mod tests;
 mod values;
 mod written;
 

@@ -29,10 +29,3 @@ pub use status::{Status, read_status, write_status};
 pub use status_laws::{one_status, status_or_refused, written_status_is_read};
 pub use steady::{SteadySink, SteadySource};
 pub use writing::{write_frame, write_reset};
-
-#[cfg(test)]
-mod batch_tests;
-#[cfg(test)]
-mod status_tests;
-#[cfg(test)]
-mod tests;

@@ -14,8 +14,6 @@ mod reads;
 mod rows;
 mod scalars;
 mod sets;
-#[cfg(test)]
-mod tests;
 mod view;
 mod weight;
 

@@ -14,8 +14,6 @@ mod messages;
 mod reader;
 mod refusal;
 mod resolved;
-#[cfg(test)]
-mod tests;
 mod view;
 mod writer;
 mod writer_batches;
@@ -28,8 +26,6 @@ mod writer_record;
 mod writer_rows;
 mod writer_schema;
 mod writer_seen;
-#[cfg(test)]
-mod writer_tests;
 
 pub use dictionary::MAX_VALUES;
 pub use forms::ColumnForm;

@@ -34,6 +34,3 @@ pub use segment::Segment;
 pub use spans::SpanTelemetry;
 pub use taken::Taken;
 pub use telemetry::Telemetry;
-
-#[cfg(test)]
-mod tests;

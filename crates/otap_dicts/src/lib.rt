@@ -5,8 +5,6 @@ mod form;
 mod key;
 mod ladder;
 pub mod laws;
-#[cfg(test)]
-mod tests;
 
 pub use crate::form::{Form, MAX_BYTES, MAX_NARROW, MAX_VALUES};
 pub use crate::ladder::Ladder;

@@ -47,6 +47,3 @@ pub use reception_laws::{
 pub use running::run;
 pub use sending_laws::{encoded_texts_have_outcomes, what_is_written_is_read};
 pub use words::Words;
-
-#[cfg(test)]
-mod tests;

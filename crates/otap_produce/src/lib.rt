@@ -10,8 +10,6 @@ mod sender;
 mod senders;
 mod spans;
 mod tabled;
-#[cfg(test)]
-mod tests;
 
 pub use exporter::Exporter;
 pub use logs::LogTables;

@@ -24,8 +24,3 @@ pub use laws::{
 };
 pub use refusal::ReadRefusal;
 pub use request::{len_request, put_request, read_request, write_request};
-
-#[cfg(test)]
-mod metric_tests;
-#[cfg(test)]
-mod tests;

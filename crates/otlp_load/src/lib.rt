@@ -8,6 +8,3 @@ mod pairs;
 mod requests;
 
 pub use requests::{ITEMS, REQUESTS, generated};
-
-#[cfg(test)]
-mod tests;

@@ -14,11 +14,8 @@ mod table;
 
 pub use backward::Backward;
 pub use checking::{LEVELS, check, is_text};
-pub use laws::{limits, rows_are_read};
+pub use laws::{fine_or_defect, limits, rows_are_read};
 pub use messages::{Defect, FieldKind, Message, Of, Row};
 pub use names::defect_name;
 pub use single::{bytes_of, int32_of, int64_of};
 pub use table::{MARKS, row_of};
-
-#[cfg(test)]
-mod tests;

@@ -28,8 +28,3 @@ pub use request::{Request, Signal, is_profile, items, same, weight};
 pub use spans::{Event, Link, Span};
 pub use value::{Pair, Value};
 pub use weights::value_weight;
-
-#[cfg(test)]
-mod samples;
-#[cfg(test)]
-mod tests;

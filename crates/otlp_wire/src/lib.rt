@@ -14,6 +14,3 @@ pub use parts::{Field, MAX_NUMBER, Wire, WireError};
 pub use reading::Fields;
 pub use varint::{len_varint, put_varint};
 pub use writing::{put_bytes_field, put_fixed32_field, put_fixed64_field, put_varint_field};
-
-#[cfg(test)]
-mod tests;

@@ -1,0 +1,349 @@
+//! Runs over sources and sinks in memory whose calls fail, and over captures in pieces.
+ghost use Rattle.std.specs.Prelude.{◌<◌, ◌≤◌};
+
+use otap_capture::{MemorySink, MemorySource};
+use otap_gateway::*;
+use std::alloc::{AllocError, Global};
+use std::process::Abort;
+use std::test::Fail;
+
+/// A batch with the id 7.
+const BATCH: [u8; 7] = [0, 0, 0, 0, 2, 0x08, 0x07];
+
+/// That batch twice.
+const TWICE: [u8; 14] = [0, 0, 0, 0, 2, 0x08, 0x07, 0, 0, 0, 0, 2, 0x08, 0x07];
+
+/// A request with a log record whose body is a text.
+const REQUEST: [u8; 17] = [
+    0, 0, 0, 0, 12, 0x0a, 10, 0x12, 8, 0x12, 6, 0x2a, 4, 0x0a, 2, 0x68, 0x69,
+];
+
+/// The calls that fail, of the source, of out and of err.
+#[derive(Clone, Copy)]
+struct Failing<'a> {
+    source: &'a [u64],
+    out: &'a [u64],
+    err: &'a [u64],
+}
+
+const NONE: Failing<'static> = Failing {
+    source: &[],
+    out: &[],
+    err: &[],
+};
+
+/// What a run leaves.
+#[derive(Clone, Copy)]
+struct Left<'a> {
+    out: &'a [u8],
+    err: &'a str,
+    status: u8,
+}
+
+fn words_of(alloc: Global, job: &[&str]) -> Result<Words, AllocError> {
+    let mut words = Words::new(alloc);
+    for word in job {
+        words.push(word)?;
+    }
+    Ok(words)
+}
+
+/// Runs a job over a capture that comes in pieces of that size.
+fn runs<R: Abort + AllocGlobal>(
+    rt: &R,
+    job: &[&str],
+    capture: &[u8],
+    piece: u32,
+    failing: Failing<'_>,
+    left: Left<'_>,
+) -> Result<(), Fail>
+    requires { 0 < piece }
+{
+    let alloc = rt.alloc();
+    let words = words_of(alloc, job)?;
+    let pieces = vec![in alloc; piece; capture.len()]?;
+    let failing_reads = failing.source.to_vec(alloc)?;
+    let mut source = MemorySource::new(capture.to_vec(alloc)?, pieces, failing_reads);
+    let mut out = MemorySink::new(alloc, failing.out.to_vec(alloc)?);
+    let mut err = MemorySink::new(alloc, failing.err.to_vec(alloc)?);
+    let status = run(alloc, &words, &mut source, &mut out, &mut err);
+    assert_eq!(rt; out.bytes(), left.out);
+    assert_eq!(rt; err.bytes(), left.err.as_bytes());
+    assert_eq!(rt; status, left.status);
+    Ok(())
+}
+
+#[test]
+fn failing_calls_and_other_words_have_their_status(rt: HostRuntime) -> Result<(), Fail> {
+    let left = |status| Left {
+        out: &[],
+        err: "",
+        status,
+    };
+    let source = Failing {
+        source: &[0],
+        ..NONE
+    };
+    let out = Failing { out: &[0], ..NONE };
+    let err = Failing { err: &[0], ..NONE };
+    runs(&rt, &["list"], &BATCH, 9, source, left(3))?;
+    runs(&rt, &["list"], &BATCH, 9, out, left(4))?;
+    runs(&rt, &["list"], &[], 9, out, left(4))?;
+    runs(&rt, &["list"], &[], 9, err, left(4))?;
+    let refused = Left {
+        err: "otap: words not understood\n",
+        ..left(2)
+    };
+    runs(&rt, &["list", "x"], &BATCH, 9, NONE, refused)?;
+    runs(&rt, &["list", "logs"], &BATCH, 9, NONE, refused)?;
+    runs(&rt, &["tidy"], &BATCH, 9, NONE, refused)?;
+    runs(&rt, &["tidy", "x"], &BATCH, 9, NONE, refused)?;
+    runs(&rt, &["schema", "x"], &BATCH, 9, NONE, refused)?;
+    runs(&rt, &["selfrun", "logs", "0"], &BATCH, 9, NONE, refused)?;
+    runs(&rt, &["selfrun", "traces", "01"], &BATCH, 9, NONE, refused)?;
+    runs(&rt, &["selfrun", "logs", "1001"], &BATCH, 9, NONE, refused)?;
+    runs(&rt, &[], &BATCH, 9, NONE, refused)
+}
+
+#[test]
+fn frames_are_handled_as_they_come(rt: HostRuntime) -> Result<(), Fail> {
+    let line = Left {
+        out: b"frame 0: batch 7\n",
+        err: "",
+        status: 0,
+    };
+    runs(&rt, &["list"], &BATCH, 1, NONE, line)?;
+    let tidied = Left {
+        out: &REQUEST,
+        ..line
+    };
+    runs(&rt, &["tidy", "logs"], &REQUEST, 1, NONE, tidied)?;
+    // The tenth byte doesn't come, and then the seventh.
+    let ninth = Failing {
+        source: &[9],
+        ..NONE
+    };
+    let first = Left { status: 3, ..line };
+    runs(&rt, &["list"], &TWICE, 1, ninth, first)?;
+    let sixth = Failing {
+        source: &[6],
+        ..NONE
+    };
+    let nothing = Left { out: &[], ..first };
+    runs(&rt, &["list"], &TWICE, 1, sixth, nothing)?;
+    // What was written for the first frame is passed on before the second is asked for.
+    let flush = Failing { out: &[1], ..NONE };
+    let unpassed = Left { status: 4, ..line };
+    runs(&rt, &["list"], &TWICE, 7, flush, unpassed)?;
+    // Both come at once: the second call is the write of the second line.
+    runs(&rt, &["list"], &TWICE, 14, flush, unpassed)
+}
+
+/// A batch of logs with a record that has an id and nothing else.
+const LOGS: [u8; 272] = [
+    0, 0, 0, 1, 0x0b, 0x12, 0x88, 2, 0x0a, 1, 0x30, 0x10, 0x1e, 0x1a, 0x80, 2, 0xff, 0xff, 0xff,
+    0xff, 0x68, 0, 0, 0, 0x10, 0, 0, 0, 0x0a, 0, 0x0c, 0, 8, 0, 0x0a, 0, 4, 0, 0, 0, 0x0c, 0, 0, 0,
+    0x10, 0, 0, 0, 4, 0, 1, 0, 8, 0, 8, 0, 0, 0, 4, 0, 8, 0, 0, 0, 4, 0, 0, 0, 1, 0, 0, 0, 0x10, 0,
+    0, 0, 0x0c, 0, 0x10, 0, 4, 0, 0x0d, 0, 0x0c, 0, 8, 0, 0x0c, 0, 0, 0, 0x0c, 0, 0, 0, 0x18, 0, 0,
+    0, 2, 1, 0, 0, 2, 0, 0, 0, 0x69, 0x64, 0, 0, 6, 0, 8, 0, 4, 0, 0, 0, 8, 0, 0, 0, 0x10, 0, 0, 0,
+    0xff, 0xff, 0xff, 0xff, 0x80, 0, 0, 0, 0x10, 0, 0, 0, 0x0c, 0, 0x14, 0, 0x10, 0, 0x12, 0, 4, 0,
+    8, 0, 0x0c, 0, 0, 0, 0x1c, 0, 0, 0, 8, 0, 0, 0, 0, 0, 0, 0, 4, 0, 3, 0, 0x0a, 0, 0x14, 0, 8, 0,
+    4, 0, 0x10, 0, 0, 0, 0x0c, 0, 0, 0, 0x10, 0, 0, 0, 1, 0, 0, 0, 0, 0, 0, 0, 0x1c, 0, 0, 0, 1, 0,
+    0, 0, 1, 0, 0, 0, 0, 0, 0, 0, 0, 0, 0, 0, 0, 0, 0, 0, 0, 0, 0, 0, 2, 0, 0, 0, 0, 0, 0, 0, 0, 0,
+    0, 0, 0, 0, 0, 0, 0, 0, 0, 0, 0, 0, 0, 0, 0, 0, 0, 0, 2, 0, 0, 0, 0, 0, 0, 0, 0, 0, 0, 0, 0, 0,
+    0, 0,
+];
+
+/// The request that it denotes, and the text of a reset.
+const DECODED: [u8; 27] = [
+    0, 0, 0, 0, 6, 0x0a, 4, 0x12, 2, 0x12, 0, 2, 0, 0, 0, 0, 0, 0, 0, 0, 6, 0x0a, 4, 0x12, 2, 0x12,
+    0,
+];
+
+/// A capture of 549 bytes: a batch, a reset, and the batch again.
+fn capture(alloc: Global) -> Result<Vec<u8>, AllocError> {
+    let mut capture = LOGS.to_vec(alloc)?;
+    capture.extend_from_slice(&[2, 0, 0, 0, 0])?;
+    capture.extend_from_slice(&LOGS)?;
+    Ok(capture)
+}
+
+/// A job that runs over this capture.
+#[derive(Clone, Copy)]
+enum Over {
+    List,
+    Decode,
+}
+
+impl Over {
+    fn words(self) -> &'static [&'static str] {
+        match self {
+            Over::List => &["list"],
+            Over::Decode => &["decode", "logs"],
+        }
+    }
+
+    /// What it writes for the frames that are whole in that number of bytes.
+    fn written_in(self, bytes: usize) -> &'static [u8] {
+        match self {
+            Over::List => match bytes {
+                0..272 => b"",
+                272..277 => b"frame 0: batch 0 30:256\n",
+                277..549 => b"frame 0: batch 0 30:256\nframe 1: reset\n",
+                _ => b"frame 0: batch 0 30:256\nframe 1: reset\nframe 2: batch 0 30:256\n",
+            },
+            Over::Decode => match bytes {
+                0..272 => &[],
+                272..277 => &DECODED[..11],
+                277..549 => &DECODED[..16],
+                _ => &DECODED,
+            },
+        }
+    }
+}
+
+fn each_cut_is_told<R: Abort + AllocGlobal>(rt: &R, job: Over) -> Result<(), Fail> {
+    let capture = capture(rt.alloc())?;
+    assert_eq!(rt; capture.len(), 549);
+    for cut in 0..550usize {
+        assert!(rt; cut <= capture.len());
+        let (err, status) = match cut {
+            0 | 272 | 277 | 549 => ("", 0),
+            1..272 => ("damage at 0: Truncated\n", 5),
+            273..277 => ("damage at 272: Truncated\n", 5),
+            _ => ("damage at 277: Truncated\n", 5),
+        };
+        let left = Left {
+            out: job.written_in(cut),
+            err,
+            status,
+        };
+        runs(rt, job.words(), &capture[..cut], 1 << 16, NONE, left)?;
+    }
+    Ok(())
+}
+
+#[test]
+fn each_cut_has_its_texts(rt: HostRuntime) -> Result<(), Fail> {
+    each_cut_is_told(&rt, Over::List)?;
+    each_cut_is_told(&rt, Over::Decode)
+}
+
+fn each_failing_read_is_told<R: Abort + AllocGlobal>(rt: &R, job: Over) -> Result<(), Fail> {
+    let capture = capture(rt.alloc())?;
+    for call in 0..550u64 {
+        let failing = Failing {
+            source: &[call],
+            ..NONE
+        };
+        let left = Left {
+            out: job.written_in(call as usize),
+            err: "",
+            status: 3,
+        };
+        runs(rt, job.words(), &capture, 1, failing, left)?;
+    }
+    Ok(())
+}
+
+#[test]
+fn each_failing_read_leaves_whole_texts(rt: HostRuntime) -> Result<(), Fail> {
+    each_failing_read_is_told(&rt, Over::List)?;
+    each_failing_read_is_told(&rt, Over::Decode)
+}
+
+fn each_failing_write_is_told<R: Abort + AllocGlobal>(rt: &R, job: Over) -> Result<(), Fail> {
+    let capture = capture(rt.alloc())?;
+    // In pieces of one byte each text is written and passed on, and all is passed on at the end. All at once the texts are
+    // passed on together, before the source says that it is at its end.
+    for (call, bytes) in [0, 272, 272, 277, 277, 549, 549].into_iter().enumerate() {
+        let failing = Failing {
+            out: &[call as u64],
+            ..NONE
+        };
+        let left = Left {
+            out: job.written_in(bytes),
+            err: "",
+            status: 4,
+        };
+        runs(rt, job.words(), &capture, 1, failing, left)?;
+    }
+    let left = Left {
+        out: job.written_in(549),
+        err: "",
+        status: 0,
+    };
+    let failing = Failing { out: &[7], ..NONE };
+    runs(rt, job.words(), &capture, 1, failing, left)?;
+    let failing = Failing { out: &[5], ..NONE };
+    runs(rt, job.words(), &capture, 1 << 16, failing, left)
+}
+
+#[test]
+fn each_failing_write_leaves_a_front(rt: HostRuntime) -> Result<(), Fail> {
+    each_failing_write_is_told(&rt, Over::List)?;
+    each_failing_write_is_told(&rt, Over::Decode)
+}
+
+/// Encodes a capture of 27 bytes in pieces of one byte (a request, a reset, and the request again), and decodes what is
+/// written: it is the capture's front of that length.
+fn encodes<R: Abort + AllocGlobal>(
+    rt: &R,
+    failing: Failing<'_>,
+    front: usize,
+    status: u8,
+) -> Result<(), Fail>
+    requires { front ≤ 27 }
+{
+    let alloc = rt.alloc();
+    let words = words_of(alloc, &["encode", "logs"])?;
+    let pieces = vec![in alloc; 1; DECODED.len()]?;
+    let mut source = MemorySource::new(
+        DECODED.to_vec(alloc)?,
+        pieces,
+        failing.source.to_vec(alloc)?,
+    );
+    let mut out = MemorySink::new(alloc, failing.out.to_vec(alloc)?);
+    let mut err = MemorySink::new(alloc, failing.err.to_vec(alloc)?);
+    assert_eq!(rt; run(alloc, &words, &mut source, &mut out, &mut err), status);
+    assert!(rt; err.bytes().is_empty());
+    let left = Left {
+        out: &DECODED[..front],
+        err: "",
+        status: 0,
+    };
+    runs(rt, &["decode", "logs"], out.bytes(), 1 << 16, NONE, left)
+}
+
+#[test]
+fn each_failing_read_leaves_whole_batches(rt: HostRuntime) -> Result<(), Fail> {
+    for call in 0..28u64 {
+        let failing = Failing {
+            source: &[call],
+            ..NONE
+        };
+        let front = match call {
+            0..11 => 0,
+            11..16 => 11,
+            16..27 => 16,
+            _ => 27,
+        };
+        encodes(&rt, failing, front, 3)?;
+    }
+    Ok(())
+}
+
+#[test]
+fn each_failing_write_leaves_whole_batches(rt: HostRuntime) -> Result<(), Fail> {
+    // Each batch is written and passed on, and all is passed on at the end.
+    for (call, front) in [0, 11, 11, 16, 16, 27, 27].into_iter().enumerate() {
+        let failing = Failing {
+            out: &[call as u64],
+            ..NONE
+        };
+        assert!(rt; front <= 27);
+        encodes(&rt, failing, front, 4)?;
+    }
+    let failing = Failing { out: &[7], ..NONE };
+    encodes(&rt, failing, 27, 0)
+}
