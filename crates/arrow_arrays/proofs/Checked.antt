@@ -6,7 +6,7 @@ use Rattle.arrow_buffers.specs.declared.fault.BufferFault.{BufferFault}
 use Rattle.arrow_ipc.specs.Batches.{BatchIn}
 use Rattle.arrow_arrays.specs.declared.spec.ArraySpec.{ArraySpec}
 use Rattle.arrow_arrays.specs.Cells.{array_check}
-use Rattle.arrow_arrays.specs.Arrays.{place_of, arrays_check, HasFault, HasNoFault}
+use Rattle.arrow_arrays.specs.Arrays.{array_place, arrays_check, HasFault, HasNoFault}
 
 pub ok_value : {A E : Type 0} (r : Result A E) → IsOk r → (x : A) × (r ≡ Ok x)
 ok_value (Ok x) ok = (x, refl)
@@ -33,30 +33,30 @@ pub first_at : {A : Type 0} (x y : A) (xs : List A) → slice_get (x ∷ xs) zer
 first_at x y xs is = cc
 
 -- where no array has a fault, the one at a place has none
-pub check_at : (batch : BatchIn) (arrays : List ArraySpec) (place : ℕ) (a : ArraySpec) → IsOk (arrays_check batch arrays) → slice_get arrays place ≡ Some a → IsOk (array_check batch (place_of a))
+pub check_at : (batch : BatchIn) (arrays : List ArraySpec) (place : ℕ) (a : ArraySpec) → IsOk (arrays_check batch arrays) → slice_get arrays place ≡ Some a → IsOk (array_check batch (array_place a))
 unfolding arrays_check
 check_at batch [] place a ok at = absurd (cc)
 check_at batch (b ∷ arrays) zero a ok at =
-    subst (λ (c : ArraySpec). IsOk (array_check batch (place_of c))) (first_at b a arrays at) (and_ok (array_check batch (place_of b)) (arrays_check batch arrays) ok).0
+    subst (λ (c : ArraySpec). IsOk (array_check batch (array_place c))) (first_at b a arrays at) (and_ok (array_check batch (array_place b)) (arrays_check batch arrays) ok).0
 check_at batch (b ∷ arrays) (suc place) a ok at =
-    check_at batch arrays place a (and_ok (array_check batch (place_of b)) (arrays_check batch arrays) ok).1 at
+    check_at batch arrays place a (and_ok (array_check batch (array_place b)) (arrays_check batch arrays) ok).1 at
 
 pub none_have_faults : (batch : BatchIn) (arrays : List ArraySpec) → IsOk (arrays_check batch arrays) → HasNoFault batch arrays
-none_have_faults batch arrays ok place a at = is_ok_tt (array_check batch (place_of a)) (check_at batch arrays place a ok at)
+none_have_faults batch arrays ok place a at = is_ok_tt (array_check batch (array_place a)) (check_at batch arrays place a ok at)
 
 -- and the other way round
 pub no_fault_checks : (batch : BatchIn) (arrays : List ArraySpec) → HasNoFault batch arrays → arrays_check batch arrays ≡ Ok tt
 unfolding arrays_check
 no_fault_checks batch [] none = refl
 no_fault_checks batch (a ∷ arrays) none =
-    from_and (array_check batch (place_of a)) (arrays_check batch arrays) (none zero a refl) (no_fault_checks batch arrays (λ place b at. none (suc place) b at))
+    from_and (array_check batch (array_place a)) (arrays_check batch arrays) (none zero a refl) (no_fault_checks batch arrays (λ place b at. none (suc place) b at))
 
 -- the first fault is the fault of an array
 pub first_fault : (batch : BatchIn) (arrays : List ArraySpec) (e : BufferFault) → arrays_check batch arrays ≡ Err e → HasFault batch arrays e
 unfolding arrays_check
 first_fault batch [] e is = absurd (cc)
 first_fault batch (a ∷ arrays) e is =
-    elim (and_err (array_check batch (place_of a)) (arrays_check batch arrays) e is) [
+    elim (and_err (array_check batch (array_place a)) (arrays_check batch arrays) e is) [
       | inl here ↦ (zero, a, refl, here)
       | inr later ↦ let w = first_fault batch arrays e later in (suc w.0, w.1, w.2, w.3)
     ]
@@ -64,7 +64,7 @@ first_fault batch (a ∷ arrays) e is =
 -- where an array has a fault, the check is not Ok
 pub fault_fails : (batch : BatchIn) (arrays : List ArraySpec) (e : BufferFault) → HasFault batch arrays e → IsOk (arrays_check batch arrays) → ⊥
 fault_fails batch arrays e has ok =
-    let fine : array_check batch (place_of has.1) ≡ Ok tt = none_have_faults batch arrays ok has.0 has.1 has.2 in
+    let fine : array_check batch (array_place has.1) ≡ Ok tt = none_have_faults batch arrays ok has.0 has.1 has.2 in
     cc (fine, has.3)
 
 -- a check that is Ok finds no fault

@@ -22,8 +22,8 @@ use Rattle.arrow_arrays.specs.declared.view.RowValues.{RowValues}
 use Rattle.arrow_arrays.specs.declared.view.RowValues.TheVariants.{Bits, Fixed, Vars, Lists}
 use Rattle.arrow_arrays.specs.declared.view.ArrayView.{ArrayView}
 use Rattle.arrow_arrays.specs.Layouts.{element_len}
-use Rattle.arrow_arrays.specs.Cells.{length_in, nulls_in, validity_in, bits_in, fixed_in, vars_in, elements_in, lists_in, values_by, values_in, array_in, content_check, array_check, cell_in, cell_if, own_cell}
-use Rattle.arrow_arrays.specs.Columns.{width_of, AreElements, StandAt, IsColumn, AreTexts}
+use Rattle.arrow_arrays.specs.Cells.{length_in, nulls_in, validity_in, bit_values, fixed_in, vars_in, elements_in, lists_in, values_by, values_in, array_in, content_check, array_check, cell_in, cell_if, own_cell}
+use Rattle.arrow_arrays.specs.Columns.{stored_width, AreElements, StandAt, HoldsColumn, AreTexts}
 
 -- the views of a column; each element of its lists is there
 unfoldable pub flags_for : List ℕ → ℕ → BitsIn
@@ -49,8 +49,8 @@ unfolding validity_in nulls_in flags_for
 valid_there batch rows node buffer nulls validity counted bitmap valid = rw (counted, eq-eqb rows rows refl, bitmap) valid
 
 bits_there : (batch : BatchIn) (a : ArrayPlace) (rows count : ℕ) (offsets values : List ℕ) → StandAt batch a width.Bit offsets values → HasNoFault width.Bit offsets values rows
-    → bits_in batch rows (a.buffer + 1) ≡ Ok (values_for width.Bit offsets values count rows)
-unfolding bits_in values_for
+    → bit_values batch rows (a.buffer + 1) ≡ Ok (values_for width.Bit offsets values count rows)
+unfolding bit_values values_for
 bits_there batch a rows count offsets values stand fine = rw (stand, fine) refl
 
 fixed_there : (batch : BatchIn) (a : ArrayPlace) (n rows count : ℕ) (offsets values : List ℕ) → StandAt batch a (width.Fixed n) offsets values → HasNoFault (width.Fixed n) offsets values rows
@@ -90,7 +90,7 @@ AreThere : BatchIn → ArrayPlace → ℕ → List ℕ → List ℕ → ℕ → 
 AreThere batch a rows offsets values n = (stand : StandAt batch a (width.List n) offsets values) → HasNoFault (width.List n) offsets values rows
     → lists_in batch rows a ≡ Ok (values_for (width.List n) offsets values (count_for (width.List n) batch a offsets values stand) rows)
 
-values_there : (kind : Layout) (width : Width) (batch : BatchIn) (a : ArrayPlace) (rows : ℕ) (offsets values : List ℕ) → width_of kind ≡ Some width → (stand : StandAt batch a width offsets values)
+values_there : (kind : Layout) (width : Width) (batch : BatchIn) (a : ArrayPlace) (rows : ℕ) (offsets values : List ℕ) → stored_width kind ≡ Some width → (stand : StandAt batch a width offsets values)
     → HasNoFault width offsets values rows → values_by batch rows a kind ≡ Ok (values_for width offsets values (count_for width batch a offsets values stand) rows)
 unfolding count_for AreThere
 values_there layout.Bits width.Bit batch a rows offsets values is stand fine = bits_there batch a rows 0 offsets values stand fine
@@ -104,10 +104,10 @@ values_there layout.List (width.List n) batch a rows offsets values is stand fin
     subst (AreThere batch a rows offsets values) same (lists_there batch a rows offsets values) stand fine
 values_there kind width batch a rows offsets values is stand fine = absurd (cc (is))
 
-abbrev column_count : (batch : BatchIn) (a : ArrayPlace) (width : Width) (rows : ℕ) (validity offsets values : List ℕ) → IsColumn batch a width rows validity offsets values → ℕ
+abbrev column_count : (batch : BatchIn) (a : ArrayPlace) (width : Width) (rows : ℕ) (validity offsets values : List ℕ) → HoldsColumn batch a width rows validity offsets values → ℕ
 column_count batch a width rows validity offsets values is = count_for width batch a offsets values is.stand
 
-column_view : (batch : BatchIn) (a : ArrayPlace) (width : Width) (rows : ℕ) (validity offsets values : List ℕ) (is : IsColumn batch a width rows validity offsets values)
+column_view : (batch : BatchIn) (a : ArrayPlace) (width : Width) (rows : ℕ) (validity offsets values : List ℕ) (is : HoldsColumn batch a width rows validity offsets values)
     → array_in batch a ≡ Ok (view_for width validity offsets values (column_count batch a width rows validity offsets values is) rows)
 unfolding array_in values_in view_for flags_for
 column_view batch a width rows validity offsets values is =
@@ -130,7 +130,7 @@ all_there l valid count =
     (λ k below. none_null (nat_lt (offset_at l.offsets row + k) count)) in
     rw (all_below-each (is_full_at l valid (record { bytes = []; rows = count })) l.rows (λ row below. either_full (is_set (flag_of valid row)) (is_full l (record { bytes = []; rows = count }) row) (full row))) refl
 
-content_fine : (kind : Layout) (width : Width) (validity offsets values : List ℕ) (count rows : ℕ) → width_of kind ≡ Some width → AreTexts kind (cells_of width validity offsets values rows)
+content_fine : (kind : Layout) (width : Width) (validity offsets values : List ℕ) (count rows : ℕ) → stored_width kind ≡ Some width → AreTexts kind (cells_of width validity offsets values rows)
     → content_check kind (view_for width validity offsets values count rows) ≡ Ok tt
 unfolding view_for values_for flags_for
 content_fine layout.Text width.Var validity offsets values count rows is texts =
@@ -142,7 +142,7 @@ content_fine layout.List (width.List n) validity offsets values count rows is te
     all_there (record { offsets = offsets; values = values; width = n; rows = rows }) (flags_for validity rows) count
 content_fine kind width validity offsets values count rows is texts = refl
 
-pub column_checks : (batch : BatchIn) (a : ArrayPlace) (width : Width) (rows : ℕ) (validity offsets values : List ℕ) → IsColumn batch a width rows validity offsets values
+pub column_checks : (batch : BatchIn) (a : ArrayPlace) (width : Width) (rows : ℕ) (validity offsets values : List ℕ) → HoldsColumn batch a width rows validity offsets values
     → AreTexts a.layout (cells_of width validity offsets values rows) → array_check batch a ≡ Ok tt
 unfolding array_check
 column_checks batch a width rows validity offsets values is texts =
@@ -158,7 +158,7 @@ value_cell (width.Fixed n) validity offsets values count rows row below fine = f
 value_cell width.Var validity offsets values count rows row below fine = var-cell validity offsets values rows row below
 value_cell (width.List n) validity offsets values count rows row below fine = list-cell n validity offsets values rows row below
 
-pub column_cells : (batch : BatchIn) (a : ArrayPlace) (width : Width) (rows : ℕ) (validity offsets values : List ℕ) → IsColumn batch a width rows validity offsets values
+pub column_cells : (batch : BatchIn) (a : ArrayPlace) (width : Width) (rows : ℕ) (validity offsets values : List ℕ) → HoldsColumn batch a width rows validity offsets values
     → (row : ℕ) → row < rows → slice_get (cells_of width validity offsets values rows) row ≡ Some (own_cell batch a row)
 unfolding own_cell
 column_cells batch a width rows validity offsets values is row below =

@@ -1,19 +1,20 @@
 -- The column that is found has the cells of the definition.
-use Rattle.std.proofs.Common.{◌≡◌, ℕ, ◌+◌, ◌-◌, ◌*◌, ◌<◌, ◌≤◌, nat_lt, nat_le, ◌&&◌, Bool, true, false, List, [], ◌++◌, length, take, drop, slice_range, Option, Some, None, option_map, Result, Ok}
+use Rattle.std.proofs.Common.{◌≡◌, ℕ, ◌+◌, ◌-◌, ◌*◌, ◌<◌, ◌≤◌, nat_lt, nat_le, ◌&&◌, Bool, List, [], ◌++◌, length, take, drop, slice_range, Option, Some, None, option_map, Result, Ok}
 use Rattle.std.proofs.Common.{IsOk, is_some, if◌then◌else◌, refl, sym, ap, ◌∙◌, subst, inl, inr, arith}
 use Rattle.std.proofs.lemmas.Bool.{cases_lt, lt-ltb, le-ltb, le-leb, and_from}
 use Rattle.std.proofs.Math.Bool.{and-true}
 use Rattle.std.proofs.lemmas.List.{length-append, take-append-drop, take_all}
 use Rattle.std.proofs.Math.Nat.{mul-le-mul_right}
 use Rattle.arrow_buffers.specs.declared.fault.BufferFault.{BufferFault}
-use Rattle.arrow_buffers.specs.Bits.{BitsIn, is_valid, flag_of, cell_where}
+use Rattle.arrow_buffers.specs.Bits.{BitsIn, is_valid, flag_of}
 use Rattle.arrow_buffers.specs.Columns.{bit_byte}
 use Rattle.arrow_buffers.specs.Fixed.{part_of}
 use Rattle.arrow_buffers.specs.Offsets.{offset_at, offsets_check, span_at}
-use Rattle.arrow_buffers.specs.Vars.{span_of}
+use Rattle.arrow_buffers.specs.Vars.{row_span}
 use Rattle.arrow_buffers.specs.Lists.{elements_of}
 use Rattle.arrow_buffers.proofs.Spans.{span-fits}
 use Rattle.arrow_buffers.proofs.Placing.{slice_range-append}
+use Rattle.arrow_buffers.proofs.CellLaws.{where-some}
 use Rattle.arrow_ipc.specs.Batches.{BatchIn}
 use Rattle.arrow_arrays.specs.declared.layout.Layout.{Layout}
 use Rattle.arrow_arrays.specs.declared.layout.Layout.TheVariants as layout
@@ -25,7 +26,7 @@ use Rattle.arrow_arrays.specs.declared.column.ColumnView.{ColumnView}
 use Rattle.arrow_arrays.specs.Layouts.{element_len}
 use Rattle.arrow_arrays.specs.Cells.{values_by, array_in, value_in, cell_in, cell_if, own_cell}
 use Rattle.arrow_arrays.specs.Views.{part_between, span_between, value_seen, is_there, cell_seen}
-use Rattle.arrow_arrays.specs.Found.{or_zero, rows_at, bytes_at, value_at, Finds}
+use Rattle.arrow_arrays.specs.Found.{or_zero, rows_at, bytes_at, value_by_buffers, Finds}
 use Rattle.arrow_arrays.proofs.Checked.{ok_value}
 use Rattle.arrow_arrays.proofs.Parts.{none, some, array_is, valid_is, bits_are, fixed_are, vars_are, lists_are}
 
@@ -80,8 +81,8 @@ span_found offsets values front width rows row len below enough is fine =
     (part_found values a b order slice.0 ∙ ap (λ (xs : List ℕ). Some xs) slice.1)
 
 vars_value : (offsets values : List ℕ) (rows row : ℕ) → row < rows → IsOk (offsets_check 1 offsets values rows)
-    → HasValue (span_between offsets values 1 row) (span_of (record { offsets = offsets; values = values; rows = rows }) row)
-unfolding span_of
+    → HasValue (span_between offsets values 1 row) (row_span (record { offsets = offsets; values = values; rows = rows }) row)
+unfolding row_span
 vars_value offsets values rows row below fine = record {
   value = span_at 1 offsets values row;
   found = span_found offsets values values 1 rows row (length values) below (omega arith) (take_all (length values) values (omega arith)) fine;
@@ -99,8 +100,8 @@ lists_value offsets values front rows row len below enough is fine = record {
 
 -- the value of a row that is there
 value_found : (kind : Layout) (batch : BatchIn) (a : ArrayPlace) (rows row : ℕ) (values : RowValues) → values_by batch rows a kind ≡ Ok values → row < rows
-    → HasValue (value_at batch (a.buffer + 1) kind row) (value_in values row)
-unfolding flag_of span_of elements_of
+    → HasValue (value_by_buffers batch (a.buffer + 1) kind row) (value_in values row)
+unfolding flag_of row_span elements_of
 value_found layout.Struct batch a rows row values is below =
     let e : Nothing ≡ values = cc (is) in
     record { value = []; found = refl; given = ap (λ (v : RowValues). value_in v row) (sym e) }
@@ -137,10 +138,6 @@ value_found layout.List batch a rows row values is below =
 
 -- ---- a row's cell
 
-by_flag : (there : Bool) (value : List ℕ) → cell_where (Some there) (Some value) ≡ (if there then Some value else None)
-by_flag true value = refl
-by_flag false value = refl
-
 -- without structs above, a row is there by its own bitmap
 alone : (v : ColumnView) (row : ℕ) → v.above.now ≡ [] → v.top.now ≡ [] → is_there v row ≡ (nat_lt row v.rows && is_valid v.own.now row)
 unfolding is_there
@@ -153,14 +150,14 @@ pub record IsOwn (batch : BatchIn) (a : ArrayPlace) (v : ColumnView) : Type 0 wh
   pub own : v.own.now ≡ bytes_at batch a.buffer
   pub above : v.above.now ≡ []
   pub top : v.top.now ≡ []
-  pub stored : (row : ℕ) → value_seen v.stored row ≡ value_at batch (a.buffer + 1) a.layout row
+  pub stored : (row : ℕ) → value_seen v.stored row ≡ value_by_buffers batch (a.buffer + 1) a.layout row
 
 -- how a cell is read where the row is there, and where it isn't
 cell_read : (bytes : List ℕ) (rows row : ℕ) (values : RowValues) (value : List ℕ) → row < rows → value_in values row ≡ Some value
     → cell_in (record { valid = record { bytes = bytes; rows = rows }; values = values }) row ≡ (if is_valid bytes row then Some value else None)
 unfolding flag_of
 cell_read bytes rows row values value below is =
-    rw (lt-ltb row rows below, is) (by_flag (is_valid bytes row) value)
+    rw (lt-ltb row rows below, is) (where-some (is_valid bytes row) value)
 
 cell_past : (bytes : List ℕ) (rows row : ℕ) (values : RowValues) → rows ≤ row
     → cell_in (record { valid = record { bytes = bytes; rows = rows }; values = values }) row ≡ None

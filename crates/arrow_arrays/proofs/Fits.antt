@@ -6,16 +6,18 @@ use Rattle.std.proofs.lemmas.Bool.{ltb-true}
 use Rattle.std.proofs.lemmas.List.{length-take-le, length-drop}
 use Rattle.std.proofs.lemmas.Str.{IsUtf8-from_is_utf8}
 use Rattle.std.proofs.Math.Nat.{mul_comm, mul-le-mul_right, mul-mod_left, mul-sub}
-use Rattle.arrow_schema.proofs.Steps.{bind_ok, chosen, ok_is}
+use Rattle.lists.proofs.Truths.{chosen}
+use Rattle.lists.proofs.Equals.{ok_is}
+use Rattle.arrow_schema.proofs.Steps.{bind_ok}
 use Rattle.arrow_buffers.specs.declared.fault.BufferFault.{BufferFault}
 use Rattle.arrow_buffers.specs.declared.fault.BufferFault.TheVariants.{BadUtf8}
 use Rattle.arrow_buffers.specs.declared.width.Width.TheVariants.{Bit}
 use Rattle.arrow_buffers.specs.Below.{all_below}
 use Rattle.arrow_buffers.specs.Bits.{BitsIn, flag_of, cell_where}
 use Rattle.arrow_buffers.specs.Columns.{HasWidth, bit_byte}
-use Rattle.arrow_buffers.specs.Fixed.{part_of, part_at}
+use Rattle.arrow_buffers.specs.Fixed.{part_of, row_part}
 use Rattle.arrow_buffers.specs.Offsets.{offset_at, offsets_check, span_at}
-use Rattle.arrow_buffers.specs.Vars.{VarsIn, span_of, is_text, is_text_at, utf8_check}
+use Rattle.arrow_buffers.specs.Vars.{VarsIn, row_span, is_text, is_text_at, utf8_check}
 use Rattle.arrow_buffers.specs.Lists.{elements_of}
 use Rattle.arrow_buffers.proofs.EachBelow.{all_below-at}
 use Rattle.arrow_buffers.proofs.Spans.{span-fits}
@@ -29,7 +31,7 @@ use Rattle.arrow_arrays.specs.declared.view.RowValues.TheVariants.{Nothing}
 use Rattle.arrow_arrays.specs.declared.view.ArrayView.{ArrayView}
 use Rattle.arrow_arrays.specs.Layouts.{FitsLayout, element_len}
 use Rattle.arrow_arrays.specs.Cells.{values_by, array_in, content_in, content_check, array_check, value_in, cell_in, cell_if, own_cell}
-use Rattle.arrow_arrays.specs.Arrays.{place_of, arrays_check, cell_above, cell_below, cell_in_array, cell_within, FitsArray}
+use Rattle.arrow_arrays.specs.Arrays.{array_place, arrays_check, cell_above, cell_below, cell_in_array, cell_within, FitsArray}
 use Rattle.arrow_arrays.specs.Found.{bytes_at}
 use Rattle.arrow_arrays.proofs.Checked.{ok_value, check_at}
 use Rattle.arrow_arrays.proofs.Parts.{none, some, IsRead, array_is, bits_are, fixed_are, vars_are, lists_are}
@@ -73,7 +75,7 @@ row_there {A} row rows x value is =
       | inr h ↦ absurd (cc (h.1))
     ]
 
-part_long : (width rows row : ℕ) (bytes : List ℕ) → row < rows → rows * width ≤ length bytes → length (part_at width bytes row) ≡ width
+part_long : (width rows row : ℕ) (bytes : List ℕ) → row < rows → rows * width ≤ length bytes → length (row_part width bytes row) ≡ width
 part_long width rows row bytes below enough =
     let next : (row + 1) * width ≤ rows * width = mul-le-mul_right width (omega arith) in
     length-take-le width (drop (row * width) bytes) (simp length-drop (omega (arith, next)))
@@ -81,18 +83,18 @@ part_long width rows row bytes below enough =
 part_fits : (bytes : List ℕ) (width rows row : ℕ) (value : List ℕ) → rows * width ≤ length bytes → part_of (record { bytes = bytes; width = width; rows = rows }) row ≡ Some value → length value ≡ width
 unfolding part_of
 part_fits bytes width rows row value enough has =
-    let there = row_there row rows (part_at width bytes row) value has in
+    let there = row_there row rows (row_part width bytes row) value has in
     ap length (sym there.1) ∙ part_long width rows row bytes there.0 enough
 
-text_fits : (valid : BitsIn) (parts : VarsIn) (row : ℕ) (value : List ℕ) → utf8_check parts valid ≡ Ok tt → flag_of valid row ≡ Some true → span_of parts row ≡ Some value → is_utf8 value ≡ true
-unfolding utf8_check span_of
+text_fits : (valid : BitsIn) (parts : VarsIn) (row : ℕ) (value : List ℕ) → utf8_check parts valid ≡ Ok tt → flag_of valid row ≡ Some true → row_span parts row ≡ Some value → is_utf8 value ≡ true
+unfolding utf8_check row_span
 text_fits valid parts row value checked flag has =
     elim (chosen (all_below (is_text_at parts valid) parts.rows) (Ok tt) (Err BadUtf8) (Ok tt) checked) [
       | inr h ↦ absurd (cc (h.1))
       | inl h ↦
           let there = row_there row parts.rows (span_at 1 parts.offsets parts.values row) value has in
           let one : is_text_at parts valid row ≡ true = all_below-at (is_text_at parts valid) parts.rows row h.0 there.0 in
-          let cell : cell_where (flag_of valid row) (span_of parts row) ≡ Some value = ap (λ (f : Option Bool). cell_where f (span_of parts row)) flag ∙ has in
+          let cell : cell_where (flag_of valid row) (row_span parts row) ≡ Some value = ap (λ (f : Option Bool). cell_where f (row_span parts row)) flag ∙ has in
           sym (ap is_text cell) ∙ one
     ]
 
@@ -159,7 +161,7 @@ found_fits : (batch : BatchIn) (arrays : List ArraySpec) (place row : ℕ) (cell
     → cell_in_array cell batch row found ≡ Some value → FitsArray arrays place value
 found_fits batch arrays place row cell value ok None at has = absurd (cc)
 found_fits batch arrays place row cell value ok (Some a) at has =
-    rw at (own_fits batch (place_of a) row value (check_at batch arrays place a ok at) (below_there (cell_above cell a.above row) (own_cell batch (place_of a) row) value has))
+    rw at (own_fits batch (array_place a) row value (check_at batch arrays place a ok at) (below_there (cell_above cell a.above row) (own_cell batch (array_place a) row) value has))
 
 -- a cell in a batch without a fault fits its array
 pub cell_fits : (depth : ℕ) (arrays : List ArraySpec) (batch : BatchIn) (place row : ℕ) (value : List ℕ) → IsOk (arrays_check batch arrays) → cell_within depth arrays batch place row ≡ Some value

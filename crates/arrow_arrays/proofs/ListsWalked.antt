@@ -1,6 +1,6 @@
 -- The array after a list's holds the list's elements.
 use Rattle.std.proofs.Common.{◌≡◌, ◌+◌, ◌==◌, ℕ, true, false, not, List, [], ◌∷◌, ◌++◌, length, slice_get, Option, Some, None, refl, sym, ap, ◌∙◌, subst, inl, inr, arith}
-use Rattle.std.proofs.lemmas.Bool.{cases_Bool, eqb-true, false≢true}
+use Rattle.std.proofs.lemmas.Bool.{cases_Bool, eqb-true, false≢true, and_parts}
 use Rattle.std.proofs.lemmas.List.{length_push}
 use Rattle.std.proofs.lemmas.List.Sums.{sum_by_push}
 use Rattle.std.proofs.lemmas.Option.{slice_get_within}
@@ -11,26 +11,26 @@ use Rattle.arrow_schema.specs.declared.spec.FieldSpec.{FieldSpec}
 use Rattle.arrow_schema.specs.Types.{is_struct, is_list, is_element_type}
 use Rattle.arrow_schema.specs.Trees.{count_of, kind_in, dict_in, children_in}
 use Rattle.arrow_schema.specs.Readable.{IsReadable, are_readable, is_one_element, is_element, has_none, no_fields, fits_dictionary}
-use Rattle.arrow_schema.proofs.Steps.{both_true}
+use Rattle.arrow_schema.proofs.Clear.{has_no_dict}
 use Rattle.arrow_arrays.specs.declared.layout.Layout.TheVariants as layout
 use Rattle.arrow_arrays.specs.declared.spec.Above.{Above}
 use Rattle.arrow_arrays.specs.declared.spec.Above.TheVariants as parent
 use Rattle.arrow_arrays.specs.declared.spec.ArraySpec.{ArraySpec}
-use Rattle.arrow_arrays.specs.Layouts.{layout_of, own_buffers, element_len}
-use Rattle.arrow_arrays.specs.Arrays.{buffers_of, above_children, add_field, add_fields, arrays_of, place_of, place_of_elements, HoldsElements}
-use Rattle.arrow_arrays.proofs.Walking.{add_field_is}
+use Rattle.arrow_arrays.specs.Layouts.{layout_of, element_len}
+use Rattle.arrow_arrays.specs.Arrays.{buffers_of, above_children, add_field, add_fields, arrays_of, array_place, place_of_elements, HoldsElements}
+use Rattle.arrow_arrays.proofs.Walking.{add_field_is, own_of}
 use Rattle.arrow_arrays.proofs.Walked.{array_for, each_walk, slice_get_front, slice_get_last, front, last, among}
 use Rattle.arrow_arrays.proofs.PathsWalked.{deep}
 
 -- ---- lists and their children
 
-list_is : (k : ArrowType) → is_list k ≡ true → k ≡ kind.List
+pub list_is : (k : ArrowType) → is_list k ≡ true → k ≡ kind.List
 list_is kind.List is = refl
 list_is other is = absurd (false≢true is)
 
 element_layout : (k : ArrowType) → is_element_type k ≡ true → layout_of k None ≡ layout.Fixed element_len
 element_layout (kind.Int bits signed) is =
-    let wide = eqb-true bits 64 (both_true (bits == 64) (not signed) is).0 in
+    let wide = eqb-true bits 64 (and_parts (bits == 64) (not signed) is).0 in
     rw wide refl
 element_layout kind.Double is = refl
 element_layout other is = absurd (false≢true is)
@@ -40,11 +40,7 @@ element_struct (kind.Int bits signed) is = (refl, refl)
 element_struct kind.Double is = (refl, refl)
 element_struct other is = absurd (false≢true is)
 
-none_is : (dict : Option DictSpec) → has_none dict ≡ true → dict ≡ None
-none_is None is = refl
-none_is (Some dict) is = absurd (false≢true is)
-
-no_fields_is : (fields : List FieldSpec) → no_fields fields ≡ true → fields ≡ []
+pub no_fields_is : (fields : List FieldSpec) → no_fields fields ≡ true → fields ≡ []
 no_fields_is [] is = refl
 no_fields_is (f ∷ fields) is = absurd (false≢true is)
 
@@ -56,12 +52,12 @@ record IsElement (g : FieldSpec) : Type 0 where
 
 element_of : (inner : ℕ) (g : FieldSpec) → is_element g ≡ true → are_readable inner (g ∷ []) ≡ true → IsElement g
 element_of inner g is readable =
-    let parts = both_true (is_element_type (kind_in g)) (has_none (dict_in g)) is in
+    let parts = and_parts (is_element_type (kind_in g)) (has_none (dict_in g)) is in
     let plain = element_struct (kind_in g) parts.0 in
     let d = deep inner g [] readable in
     let fits : no_fields (children_in g) ≡ true = rw (plain.0, plain.1) at d.fits in
     record {
-      layout = rw (none_is (dict_in g) parts.1) (element_layout (kind_in g) parts.0);
+      layout = rw (has_no_dict (dict_in g) parts.1) (element_layout (kind_in g) parts.0);
       other = plain.0;
       childless = no_fields_is (children_in g) fits;
     }
@@ -85,7 +81,7 @@ one_other arrays x has other place a at is =
     ]
 
 -- a list, and its elements
-list_and_elements : (arrays : List ArraySpec) (x y : ArraySpec) → HasElements arrays → place_of y ≡ place_of_elements x → is_list y.kind ≡ false → HasElements ((arrays ++ x ∷ []) ++ y ∷ [])
+list_and_elements : (arrays : List ArraySpec) (x y : ArraySpec) → HasElements arrays → array_place y ≡ place_of_elements x → is_list y.kind ≡ false → HasElements ((arrays ++ x ∷ []) ++ y ∷ [])
 unfolding HasElements
 list_and_elements arrays x y has placed other place a at is =
     elim (among (arrays ++ x ∷ []) y place a at) [
@@ -98,11 +94,8 @@ list_and_elements arrays x y has placed other place a at is =
       ]
     ]
 
-own_of : ArraySpec → ℕ
-own_of a = own_buffers (layout_of a.kind a.dict)
-
 elements_placed : (f g : FieldSpec) (above : Above) (arrays : List ArraySpec) → kind_in f ≡ kind.List → dict_in f ≡ None → IsElement g
-    → place_of (array_for g parent.List (arrays ++ array_for f above arrays ∷ [])) ≡ place_of_elements (array_for f above arrays)
+    → array_place (array_for g parent.List (arrays ++ array_for f above arrays ∷ [])) ≡ place_of_elements (array_for f above arrays)
 unfolding own_of
 elements_placed f g above arrays list none element =
     let x = array_for f above arrays in

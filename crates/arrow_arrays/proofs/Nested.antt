@@ -9,7 +9,7 @@ use Rattle.arrow_arrays.specs.declared.spec.Above.{Above}
 use Rattle.arrow_arrays.specs.declared.spec.Above.TheVariants as parent
 use Rattle.arrow_arrays.specs.declared.spec.ArraySpec.{ArraySpec}
 use Rattle.arrow_arrays.specs.Cells.{own_cell}
-use Rattle.arrow_arrays.specs.Arrays.{place_of, cell_above, cell_below, cell_in_array, cell_within}
+use Rattle.arrow_arrays.specs.Arrays.{array_place, cell_above, cell_below, cell_in_array, cell_within}
 use Rattle.arrow_arrays.specs.Views.{value_seen, is_there, cell_seen}
 use Rattle.arrow_arrays.specs.Found.{IsBelow, IsEmpty, Finds, FindsWithin}
 
@@ -71,7 +71,7 @@ missing_within arrays batch place (suc depth) v is empty =
 
 -- an array that stands in a list, with its place
 cell_is : (depth : ℕ) (arrays : List ArraySpec) (batch : BatchIn) (place row : ℕ) (a : ArraySpec) → Some a ≡ slice_get arrays place
-    → cell_within (suc depth) arrays batch place row ≡ cell_below (cell_above (cell_within depth arrays batch) a.above row) (own_cell batch (place_of a) row)
+    → cell_within (suc depth) arrays batch place row ≡ cell_below (cell_above (cell_within depth arrays batch) a.above row) (own_cell batch (array_place a) row)
 unfolding cell_within
 cell_is depth arrays batch place row a at = ap (cell_in_array (cell_within depth arrays batch) batch row) (sym at)
 
@@ -85,12 +85,12 @@ above_alone cell above row (at_top is) = ap (λ (b : Above). cell_above cell b r
 above_alone cell above row (in_list is) = ap (λ (b : Above). cell_above cell b row) is
 
 pub alone_within : (depth : ℕ) (arrays : List ArraySpec) (batch : BatchIn) (place : ℕ) (a : ArraySpec) (v : ColumnView) → (depth ≡ 0 → ⊥) → Some a ≡ slice_get arrays place → IsAlone a.above
-    → Finds batch (place_of a) v → FindsWithin depth arrays batch place v
+    → Finds batch (array_place a) v → FindsWithin depth arrays batch place v
 alone_within zero arrays batch place a v some at above finds = absurd (some refl)
 alone_within (suc depth) arrays batch place a v some at above finds = record {
   cells = λ row.
       finds.cells row ∙ sym (cell_is depth arrays batch place row a at
-      ∙ ap (λ (c : Option (List ℕ)). cell_below c (own_cell batch (place_of a) row)) (above_alone (cell_within depth arrays batch) a.above row above));
+      ∙ ap (λ (c : Option (List ℕ)). cell_below c (own_cell batch (array_place a) row)) (above_alone (cell_within depth arrays batch) a.above row above));
   full = finds.full;
   own = λ shallow. absurd (omega (arith, shallow));
   above = λ _. finds.above;
@@ -120,7 +120,7 @@ below_seen outer inner v row is above top shallow full =
 
 pub below_within : (depth : ℕ) (arrays : List ArraySpec) (batch : BatchIn) (place p : ℕ) (a : ArraySpec) (outer inner v : ColumnView) → (depth ≡ 0 → ⊥) → depth ≤ 3 → Some a ≡ slice_get arrays place
     → a.above ≡ parent.Struct p
-    → Finds batch (place_of a) inner → FindsWithin (depth - 1) arrays batch p outer → IsBelow outer inner v → FindsWithin depth arrays batch place v
+    → Finds batch (array_place a) inner → FindsWithin (depth - 1) arrays batch p outer → IsBelow outer inner v → FindsWithin depth arrays batch place v
 below_within zero arrays batch place p a outer inner v some deep at above finds within is = absurd (some refl)
 below_within (suc depth) arrays batch place p a outer inner v some deep at above finds within is =
     let less : suc depth - 1 ≡ depth = omega arith in
@@ -130,7 +130,7 @@ below_within (suc depth) arrays batch place p a outer inner v some deep at above
           below_seen outer inner v row is finds.above finds.top (within.top (omega arith)) (within.full row)
           ∙ rw (cells row, finds.cells row) refl
           ∙ sym (cell_is depth arrays batch place row a at
-          ∙ ap (λ (b : Above). cell_below (cell_above (cell_within depth arrays batch) b row) (own_cell batch (place_of a) row)) above);
+          ∙ ap (λ (b : Above). cell_below (cell_above (cell_within depth arrays batch) b row) (own_cell batch (array_place a) row)) above);
       full = λ row below.
           let rows = is.rows in
           let le = min-le_left inner.rows outer.rows in

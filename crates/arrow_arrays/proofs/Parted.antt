@@ -27,9 +27,9 @@ use Rattle.arrow_arrays.specs.declared.view.RowValues.TheVariants.{Nothing}
 use Rattle.arrow_arrays.specs.declared.view.ArrayView.{ArrayView}
 use Rattle.arrow_arrays.specs.Layouts.{layout_of, layout_of_values, own_buffers, element_len}
 use Rattle.arrow_arrays.specs.Cells.{length_in, rows_in, validity_in, values_in, array_in, content_check, array_check, cell_if, own_cell, place_of_values}
-use Rattle.arrow_arrays.specs.Arrays.{is_element, buffers_of, arrays_of, place_of, arrays_check}
-use Rattle.arrow_arrays.specs.Columns.{width_of, AreElements, StandAt, IsColumn, AreTexts}
-use Rattle.arrow_arrays.specs.Written.{PartIn, batch_of, struct_part, column_buffers, IsWide, IsElementPart, IsPartOfElements, ElementsFollow, HoldsCells, HoldsBelow, HoldsArray, AreParts, IsColumnArray, HasWholeStructs}
+use Rattle.arrow_arrays.specs.Arrays.{is_below_list, buffers_of, arrays_of, array_place, arrays_check}
+use Rattle.arrow_arrays.specs.Columns.{stored_width, AreElements, StandAt, HoldsColumn, AreTexts}
+use Rattle.arrow_arrays.specs.Written.{PartIn, batch_of_parts, struct_part, column_buffers, IsWide, IsElementPart, IsPartOfElements, ElementsFollow, HoldsCells, HoldsBelow, HoldsArray, AreParts, IsColumnArray, HasWholeStructs}
 use Rattle.arrow_arrays.proofs.Checked.{no_fault_checks}
 use Rattle.arrow_arrays.proofs.Walked.{slice_get_front, places_law}
 use Rattle.arrow_arrays.proofs.ColumnLaws.{flags_for, valid_there, no_bitmap, column_checks, column_cells}
@@ -109,7 +109,7 @@ before_is (a ∷ arrays) (p ∷ parts) counted (suc place) within =
 
 -- ---- how many buffers a part has
 
-column_len : (kind : Layout) (width : Width) (validity offsets values : List ℕ) → width_of kind ≡ Some width → length (column_buffers width validity offsets values) ≡ own_buffers kind
+column_len : (kind : Layout) (width : Width) (validity offsets values : List ℕ) → stored_width kind ≡ Some width → length (column_buffers width validity offsets values) ≡ own_buffers kind
 column_len layout.Bits width.Bit validity offsets values is = refl
 column_len (layout.Fixed n) (width.Fixed m) validity offsets values is = refl
 column_len layout.Binary width.Var validity offsets values is = refl
@@ -138,7 +138,7 @@ part_len layout.List above rows cells p next h = below_len above layout.List row
 data Shape (kind : Layout) (above : Above) (rows : ℕ) (cells : List (Option (List ℕ))) (p : PartIn) (next : Option PartIn) : Type 0 where
   struct : kind ≡ layout.Struct → p ≡ struct_part rows → Shape kind above rows cells p next
   elements : above ≡ parent.List → IsPartOfElements kind p → Shape kind above rows cells p next
-  column : is_element above ≡ false → HoldsCells kind rows cells p next → Shape kind above rows cells p next
+  column : is_below_list above ≡ false → HoldsCells kind rows cells p next → Shape kind above rows cells p next
 
 shape_below : (above : Above) (kind : Layout) (rows : ℕ) (cells : List (Option (List ℕ))) (p : PartIn) (next : Option PartIn) → HoldsBelow above kind rows cells p next → Shape kind above rows cells p next
 shape_below parent.List kind rows cells p next h = elements refl h
@@ -172,7 +172,7 @@ no_bitmap_law count = no_bitmap count
 
 module _ (fields : List FieldSpec) (rows : ℕ) (cells : ℕ → List (Option (List ℕ))) (parts : List PartIn) (are : AreParts (arrays_of fields) rows cells parts) where
   abbrev batch : BatchIn
-  batch = batch_of rows parts
+  batch = batch_of_parts rows parts
 
   all_counted : Counted (arrays_of fields) parts
   unfolding Counted
@@ -181,7 +181,7 @@ module _ (fields : List FieldSpec) (rows : ℕ) (cells : ℕ → List (Option (L
       (h.part, h.at, part_len (layout_of a.kind a.dict) a.above rows (cells place) h.part (slice_get parts (place + 1)) h.holds)
 
   node_at : (place : ℕ) (p : PartIn) → slice_get parts place ≡ Some p → slice_get batch.nodes place ≡ Some (pos p.rows, pos p.nulls)
-  unfolding batch_of
+  unfolding batch_of_parts
   node_at place p at = slice_get-map (λ (q : PartIn). (pos q.rows, pos q.nulls)) parts place ∙ ap (option_map (λ (q : PartIn). (pos q.rows, pos q.nulls))) at
 
   -- the first buffer of an array's part, and the later ones
@@ -191,7 +191,7 @@ module _ (fields : List FieldSpec) (rows : ℕ) (cells : ℕ → List (Option (L
 
   buffer_of_part : (place k i : ℕ) (p : PartIn) (buffers : List (List ℕ)) (b : List ℕ) → slice_get parts place ≡ Some p → p.buffers ≡ buffers → slice_get buffers k ≡ Some b → i ≡ before parts place + k
       → slice_get batch.buffers i ≡ Some b
-  unfolding batch_of buffers_in
+  unfolding batch_of_parts buffers_in
   buffer_of_part place k i p buffers b there are_buffers has is =
       let long : k < length p.buffers = omega (arith, slice_get_within buffers k b has, ap (λ (bs : List (List ℕ)). length bs) are_buffers) in
       buffer_at parts place i k p there is long ∙ ap (λ (bs : List (List ℕ)). slice_get bs k) are_buffers ∙ has
@@ -230,7 +230,7 @@ module _ (fields : List FieldSpec) (rows : ℕ) (cells : ℕ → List (Option (L
       }
 
   stands : (width : Width) (place : ℕ) (a : ArraySpec) (p : PartIn) (validity offsets values : List ℕ) → slice_get (arrays_of fields) place ≡ Some a → slice_get parts place ≡ Some p → IsWide width
-      → p.buffers ≡ column_buffers width validity offsets values → ElementsFollow width values (slice_get parts (place + 1)) → StandAt batch (place_of a) width offsets values
+      → p.buffers ≡ column_buffers width validity offsets values → ElementsFollow width values (slice_get parts (place + 1)) → StandAt batch (array_place a) width offsets values
   stands width.Bit place a p validity offsets values at there wide are_buffers follow =
       buffer_of_part place 1 (a.buffer + 1) p (validity ∷ values ∷ []) values there are_buffers refl (omega (arith, buffer_is place a at))
   stands (width.Fixed n) place a p validity offsets values at there wide are_buffers follow =
@@ -244,9 +244,9 @@ module _ (fields : List FieldSpec) (rows : ℕ) (cells : ℕ → List (Option (L
     elements_stand place a p follow.0 values at there (ap (λ (bs : List (List ℕ)). length bs) are_buffers) follow.1 follow.2,
   )
 
-  column_is : (place : ℕ) (a : ArraySpec) (p : PartIn) → slice_get (arrays_of fields) place ≡ Some a → slice_get parts place ≡ Some p → is_element a.above ≡ false
-      → (h : HoldsCells (layout_of a.kind a.dict) rows (cells place) p (slice_get parts (place + 1))) → IsColumn batch (place_of a) h.width rows h.validity h.offsets h.values
-  unfolding rows_in batch_of
+  column_is : (place : ℕ) (a : ArraySpec) (p : PartIn) → slice_get (arrays_of fields) place ≡ Some a → slice_get parts place ≡ Some p → is_below_list a.above ≡ false
+      → (h : HoldsCells (layout_of a.kind a.dict) rows (cells place) p (slice_get parts (place + 1))) → HoldsColumn batch (array_place a) h.width rows h.validity h.offsets h.values
+  unfolding rows_in batch_of_parts
   column_is place a p at there other h = record {
     layout = h.stored;
     counted = rw other refl;
@@ -259,7 +259,7 @@ module _ (fields : List FieldSpec) (rows : ℕ) (cells : ℕ → List (Option (L
   }
 
   element_is : (place : ℕ) (a : ArraySpec) (p : PartIn) → slice_get (arrays_of fields) place ≡ Some a → slice_get parts place ≡ Some p → a.above ≡ parent.List
-      → (h : IsPartOfElements (layout_of a.kind a.dict) p) → IsColumn batch (place_of a) (width.Fixed element_len) h.part.count [] [] h.values
+      → (h : IsPartOfElements (layout_of a.kind a.dict) p) → HoldsColumn batch (array_place a) (width.Fixed element_len) h.part.count [] [] h.values
   unfolding rows_in length_in fixed_of
   element_is place a p at there above h =
       let e = h.part in
@@ -267,7 +267,7 @@ module _ (fields : List FieldSpec) (rows : ℕ) (cells : ℕ → List (Option (L
       let own : p.buffers ≡ [] ∷ h.values ∷ [] = ap (λ (r : PartIn). r.buffers) e.is in
       let enough : nat_lt (length h.values) (e.count * element_len) ≡ false = le-ltb (length h.values) (e.count * element_len) (omega (arith, e.len)) in
       record {
-        layout = ap width_of h.fixed;
+        layout = ap stored_width h.fixed;
         counted = rw (above, node) refl;
         nulls = pos 0;
         node = node;
@@ -279,29 +279,29 @@ module _ (fields : List FieldSpec) (rows : ℕ) (cells : ℕ → List (Option (L
 
   -- ---- structs
 
-  struct_rows : (a : ArraySpec) (b : Bool) → is_element a.above ≡ b → slice_get batch.nodes a.node ≡ Some (pos rows, pos 0) → rows_in batch (place_of a) ≡ Ok rows
-  unfolding rows_in length_in batch_of
+  struct_rows : (a : ArraySpec) (b : Bool) → is_below_list a.above ≡ b → slice_get batch.nodes a.node ≡ Some (pos rows, pos 0) → rows_in batch (array_place a) ≡ Ok rows
+  unfolding rows_in length_in batch_of_parts
   struct_rows a true is node = rw (is, node) refl
   struct_rows a false is node = rw is refl
 
   struct_view : (place : ℕ) (a : ArraySpec) (p : PartIn) → slice_get (arrays_of fields) place ≡ Some a → slice_get parts place ≡ Some p → layout_of a.kind a.dict ≡ layout.Struct → p ≡ struct_part rows
-      → array_in batch (place_of a) ≡ Ok (record { valid = record { bytes = []; rows = rows }; values = Nothing })
+      → array_in batch (array_place a) ≡ Ok (record { valid = record { bytes = []; rows = rows }; values = Nothing })
   unfolding array_in values_in
   struct_view place a p at there kind is =
       let node : slice_get batch.nodes a.node ≡ Some (pos rows, pos 0) = own_node place a p at there ∙ (λ i. Some (pos (is i).rows, pos (is i).nulls)) in
       let bitmap : slice_get batch.buffers a.buffer ≡ Some [] = buffer_of_part place 0 a.buffer p ([] ∷ []) [] there (ap (λ (r : PartIn). r.buffers) is) refl (omega (arith, buffer_is place a at)) in
       let valid : validity_in batch rows a.node a.buffer ≡ Ok (record { bytes = []; rows = rows }) = no_nulls batch rows a.node a.buffer node bitmap in
-      rw (struct_rows a (is_element a.above) refl node, valid, kind) refl
+      rw (struct_rows a (is_below_list a.above) refl node, valid, kind) refl
 
   struct_checks : (place : ℕ) (a : ArraySpec) (p : PartIn) → slice_get (arrays_of fields) place ≡ Some a → slice_get parts place ≡ Some p → layout_of a.kind a.dict ≡ layout.Struct → p ≡ struct_part rows
-      → array_check batch (place_of a) ≡ Ok tt
+      → array_check batch (array_place a) ≡ Ok tt
   unfolding array_check
   struct_checks place a p at there kind is =
       ap (λ (r : Result ArrayView BufferFault). r >>= content_check (layout_of a.kind a.dict)) (struct_view place a p at there kind is)
       ∙ ap (λ (k : Layout). content_check k (record { valid = record { bytes = []; rows = rows }; values = Nothing })) kind
 
   struct_cell : (place : ℕ) (a : ArraySpec) (p : PartIn) → slice_get (arrays_of fields) place ≡ Some a → slice_get parts place ≡ Some p → layout_of a.kind a.dict ≡ layout.Struct → p ≡ struct_part rows
-      → (row : ℕ) → row < rows → own_cell batch (place_of a) row ≡ Some []
+      → (row : ℕ) → row < rows → own_cell batch (array_place a) row ≡ Some []
   unfolding own_cell flag_of
   struct_cell place a p at there kind is row below =
       ap (λ (r : Result ArrayView BufferFault). cell_if r row) (struct_view place a p at there kind is) ∙ rw (lt-ltb row rows below) refl
@@ -313,16 +313,16 @@ module _ (fields : List FieldSpec) (rows : ℕ) (cells : ℕ → List (Option (L
   shape place a at =
       let h = are.each place a at in shape_of (layout_of a.kind a.dict) a.above rows (cells place) h.part (slice_get parts (place + 1)) h.holds
 
-  array_fine : (place : ℕ) (a : ArraySpec) → slice_get (arrays_of fields) place ≡ Some a → array_check batch (place_of a) ≡ Ok tt
+  array_fine : (place : ℕ) (a : ArraySpec) → slice_get (arrays_of fields) place ≡ Some a → array_check batch (array_place a) ≡ Ok tt
   array_fine place a at =
       let h = are.each place a at in
       elim (shape place a at) [
         | struct kind is ↦ struct_checks place a h.part at h.at kind is
         | elements above e ↦
-            column_checks batch (place_of a) (width.Fixed element_len) e.part.count [] [] e.values (element_is place a h.part at h.at above e)
+            column_checks batch (array_place a) (width.Fixed element_len) e.part.count [] [] e.values (element_is place a h.part at h.at above e)
             (subst (λ (k : Layout). AreTexts k (cells_of (width.Fixed element_len) [] [] e.values e.part.count)) (sym e.fixed) tt)
         | column other c ↦
-            column_checks batch (place_of a) c.width rows c.validity c.offsets c.values (column_is place a h.part at h.at other c)
+            column_checks batch (array_place a) c.width rows c.validity c.offsets c.values (column_is place a h.part at h.at other c)
             (subst (λ (cs : List (Option (List ℕ))). AreTexts (layout_of a.kind a.dict) cs) (sym c.reads) c.texts)
       ]
 
@@ -330,24 +330,24 @@ module _ (fields : List FieldSpec) (rows : ℕ) (cells : ℕ → List (Option (L
   parts_check = no_fault_checks batch (arrays_of fields) array_fine
 
   pub parts_cells : (place : ℕ) (a : ArraySpec) → slice_get (arrays_of fields) place ≡ Some a → IsColumnArray a → (row : ℕ) → row < rows
-      → slice_get (cells place) row ≡ Some (own_cell batch (place_of a) row)
+      → slice_get (cells place) row ≡ Some (own_cell batch (array_place a) row)
   parts_cells place a at is row below =
       let h = are.each place a at in
       elim (shape place a at) [
-        | struct kind s ↦ absurd (cc (ap width_of kind, is.stored))
+        | struct kind s ↦ absurd (cc (ap stored_width kind, is.stored))
         | elements above e ↦ absurd (is.above above)
         | column other c ↦
             ap (λ (cs : List (Option (List ℕ))). slice_get cs row) (sym c.reads)
-            ∙ column_cells batch (place_of a) c.width rows c.validity c.offsets c.values (column_is place a h.part at h.at other c) row below
+            ∙ column_cells batch (array_place a) c.width rows c.validity c.offsets c.values (column_is place a h.part at h.at other c) row below
       ]
 
-  whole : (row : ℕ) → row < rows → (place : ℕ) (a : ArraySpec) → slice_get (arrays_of fields) place ≡ Some a → layout_of a.kind a.dict ≡ layout.Struct → own_cell batch (place_of a) row ≡ Some []
+  whole : (row : ℕ) → row < rows → (place : ℕ) (a : ArraySpec) → slice_get (arrays_of fields) place ≡ Some a → layout_of a.kind a.dict ≡ layout.Struct → own_cell batch (array_place a) row ≡ Some []
   whole row below place a at kind =
       let h = are.each place a at in
       elim (shape place a at) [
         | struct same is ↦ struct_cell place a h.part at h.at kind is row below
         | elements above e ↦ absurd (cc (kind, e.fixed))
-        | column other c ↦ absurd (cc (ap width_of kind, c.stored))
+        | column other c ↦ absurd (cc (ap stored_width kind, c.stored))
       ]
 
   pub parts_whole : (row : ℕ) → row < rows → HasWholeStructs (arrays_of fields) batch row
@@ -356,18 +356,18 @@ module _ (fields : List FieldSpec) (rows : ℕ) (cells : ℕ → List (Option (L
 -- ---- a batch of one part: the values of a dictionary
 
 module _ (type : ArrowType) (rows : ℕ) (cells : List (Option (List ℕ))) (p : PartIn) (h : HoldsCells (layout_of_values type) rows cells p None) where
-  one_buffer : (k : ℕ) (b : List ℕ) → slice_get (column_buffers h.width h.validity h.offsets h.values) k ≡ Some b → slice_get (batch_of rows (p ∷ [])).buffers k ≡ Some b
-  unfolding batch_of
+  one_buffer : (k : ℕ) (b : List ℕ) → slice_get (column_buffers h.width h.validity h.offsets h.values) k ≡ Some b → slice_get (batch_of_parts rows (p ∷ [])).buffers k ≡ Some b
+  unfolding batch_of_parts
   one_buffer k b has = ap (λ (bs : List (List ℕ)). slice_get bs k) (append-nil p.buffers ∙ h.buffers) ∙ has
 
-  one_stands : (width : Width) → h.width ≡ width → IsWide width → ElementsFollow width h.values None → StandAt (batch_of rows (p ∷ [])) (place_of_values type) width h.offsets h.values
+  one_stands : (width : Width) → h.width ≡ width → IsWide width → ElementsFollow width h.values None → StandAt (batch_of_parts rows (p ∷ [])) (place_of_values type) width h.offsets h.values
   one_stands width.Bit is wide follow = one_buffer 1 h.values (rw is refl)
   one_stands (width.Fixed n) is wide follow = (wide, one_buffer 1 h.values (rw is refl))
   one_stands width.Var is wide follow = (one_buffer 1 h.offsets (rw is refl), one_buffer 2 h.values (rw is refl))
   one_stands (width.List n) is wide follow = absurd (cc (follow.1))
 
-  one_is : IsColumn (batch_of rows (p ∷ [])) (place_of_values type) h.width rows h.validity h.offsets h.values
-  unfolding rows_in batch_of
+  one_is : HoldsColumn (batch_of_parts rows (p ∷ [])) (place_of_values type) h.width rows h.validity h.offsets h.values
+  unfolding rows_in batch_of_parts
   one_is = record {
     layout = h.stored;
     counted = refl;
@@ -379,10 +379,10 @@ module _ (type : ArrowType) (rows : ℕ) (cells : List (Option (List ℕ))) (p :
     fine = h.fine;
   }
 
-  pub one_part : (array_check (batch_of rows (p ∷ [])) (place_of_values type) ≡ Ok tt) × (map (own_cell (batch_of rows (p ∷ [])) (place_of_values type)) (range_with_len 0 rows) ≡ cells)
+  pub one_part : (array_check (batch_of_parts rows (p ∷ [])) (place_of_values type) ≡ Ok tt) × (map (own_cell (batch_of_parts rows (p ∷ [])) (place_of_values type)) (range_with_len 0 rows) ≡ cells)
   unfolding cells_of
   one_part =
-      let batch = batch_of rows (p ∷ []) in
+      let batch = batch_of_parts rows (p ∷ []) in
       let a = place_of_values type in
       let check = column_checks batch a h.width rows h.validity h.offsets h.values one_is (subst (λ (cs : List (Option (List ℕ))). AreTexts (layout_of_values type) cs) (sym h.reads) h.texts) in
       let long : length cells ≡ rows = ap (λ (cs : List (Option (List ℕ))). length cs) (sym h.reads) ∙ length-map-range_with_len (cell_at h.width h.validity h.offsets h.values) 0 rows in

@@ -2,8 +2,10 @@
 use Rattle.std.proofs.Common.{◌≡◌, ℕ, ◌+◌, ◌*◌, ◌≤◌, ◌==◌, nat_lt, ℤ, pos, int_lt, if◌then◌else◌, List, [], length, take, slice_get, Option, Some, None, unwrap_or, Result, Ok, Err, IsOk, refl, ap, ◌∙◌, inl, inr, arith}
 use Rattle.std.specs.Result.{result_and}
 use Rattle.std.proofs.lemmas.Bool.{eqb-true, ltb-false}
+use Rattle.lists.proofs.Truths.{chosen}
+use Rattle.lists.proofs.Equals.{ok_is}
 use Rattle.flat_tables.specs.Bytes.{◌>>=◌}
-use Rattle.arrow_schema.proofs.Steps.{bind_ok, chosen, ok_is}
+use Rattle.arrow_schema.proofs.Steps.{bind_ok}
 use Rattle.arrow_buffers.specs.declared.fault.BufferFault.{BufferFault}
 use Rattle.arrow_buffers.specs.declared.fault.BufferFault.TheVariants.{Short, BadNulls}
 use Rattle.arrow_buffers.specs.Bits.{BitsIn, bits_of, validity_of}
@@ -17,7 +19,7 @@ use Rattle.arrow_arrays.specs.declared.view.RowValues.{RowValues}
 use Rattle.arrow_arrays.specs.declared.view.RowValues.TheVariants.{Nothing, Bits, Fixed, Vars, Lists}
 use Rattle.arrow_arrays.specs.declared.view.ArrayView.{ArrayView}
 use Rattle.arrow_arrays.specs.Layouts.{element_len}
-use Rattle.arrow_arrays.specs.Cells.{or_short, length_in, rows_in, nulls_in, buffer_in, validity_in, bits_in, fixed_in, vars_in, elements_of, elements_in, lists_in, values_by, values_in, array_in}
+use Rattle.arrow_arrays.specs.Cells.{or_short, length_in, rows_in, nulls_in, buffer_in, validity_in, bit_values, fixed_in, vars_in, element_bytes, elements_in, lists_in, values_by, values_in, array_in}
 use Rattle.arrow_arrays.specs.Found.{bytes_at}
 
 short_is : (found : Option (List ℕ)) (bytes : List ℕ) → or_short found ≡ Ok bytes → unwrap_or found [] ≡ bytes
@@ -64,8 +66,8 @@ valid_is batch rows node buffer bits is =
 
 -- ---- values
 
-pub bits_are : (batch : BatchIn) (rows place : ℕ) (values : RowValues) → bits_in batch rows place ≡ Ok values → Bits (bits_with (bytes_at batch place) rows) ≡ values
-unfolding bits_in
+pub bits_are : (batch : BatchIn) (rows place : ℕ) (values : RowValues) → bit_values batch rows place ≡ Ok values → Bits (bits_with (bytes_at batch place) rows) ≡ values
+unfolding bit_values
 bits_are batch rows place values is =
     let b = bind_ok (buffer_in batch place) (λ (bytes : List ℕ). bits_of bytes rows >>= λ (bits : BitsIn). Ok (Bits bits)) values is in
     let v = bind_ok (bits_of b.0 rows) (λ (bits : BitsIn). Ok (Bits bits)) values b.2 in
@@ -156,7 +158,7 @@ record AreElements (batch : BatchIn) (buffer : ℕ) (elements : List ℕ) : Type
   enough : len ≤ length (bytes_at batch (buffer + 1))
   front : take len (bytes_at batch (buffer + 1)) ≡ elements
 
-elements_of_is : (bytes : List ℕ) (count : ℕ) (elements : List ℕ) → elements_of bytes count ≡ Ok elements → (count * element_len ≤ length bytes) × (take (count * element_len) bytes ≡ elements)
+elements_of_is : (bytes : List ℕ) (count : ℕ) (elements : List ℕ) → element_bytes bytes count ≡ Ok elements → (count * element_len ≤ length bytes) × (take (count * element_len) bytes ≡ elements)
 elements_of_is bytes count elements is =
     elim (chosen (nat_lt (length bytes) (count * element_len)) (Err Short) (Ok (take (count * element_len) bytes)) (Ok elements) is) [
       | inl h ↦ absurd (cc (h.1))
@@ -170,12 +172,12 @@ elements_are : (batch : BatchIn) (node buffer : ℕ) (found : Elements) → elem
 unfolding elements_in
 elements_are batch node buffer found is =
     let made : BitsIn → List ℕ → Result Elements BufferFault = λ there elements. Ok (elements, there) in
-    let cut : ℕ → BitsIn → List ℕ → Result Elements BufferFault = λ count there bytes. elements_of bytes count >>= made there in
+    let cut : ℕ → BitsIn → List ℕ → Result Elements BufferFault = λ count there bytes. element_bytes bytes count >>= made there in
     let bytes_then : ℕ → BitsIn → Result Elements BufferFault = λ count there. buffer_in batch (buffer + 1) >>= cut count there in
     let c = bind_ok (length_in batch node) (λ (count : ℕ). validity_in batch count node buffer >>= bytes_then count) found is in
     let t = bind_ok (validity_in batch c.0 node buffer) (bytes_then c.0) found c.2 in
     let b = bind_ok (buffer_in batch (buffer + 1)) (cut c.0 t.0) found t.2 in
-    let e = bind_ok (elements_of b.0 c.0) (made t.0) found b.2 in
+    let e = bind_ok (element_bytes b.0 c.0) (made t.0) found b.2 in
     let f = elements_of_is b.0 c.0 e.0 e.1 in
     let at = buffer_is batch (buffer + 1) b.0 b.1 in
     let pair : (e.0, t.0) ≡ found = ok_is {E = BufferFault} (e.0, t.0) found e.2 in

@@ -3,7 +3,8 @@ use Rattle.std.specs.Prelude.{true, ◌&&◌}
 use Rattle.std.specs.List.{list_all, range_with_len}
 use Rattle.std.proofs.Common.{◌≡◌, ◌≤◌, ◌<◌, ◌+◌, ℕ, zero, suc, List, [], ◌∷◌, ◌++◌, map, length, slice_get, append_assoc, Option, Some, None, refl, sym, ap, ◌∙◌, subst, arith, rules}
 use Rattle.std.proofs.lemmas.List.{append-nil, length-append, length_push}
-use Rattle.std.proofs.lemmas.List.FromFn.{fill_by_all, length-map-range_with_len, get_or-map-range_with_len, map-range_with_len_more}
+use Rattle.std.proofs.lemmas.Bool.{and_parts}
+use Rattle.arrow_buffers.proofs.Growing.{one-more}
 use Rattle.arrow_schema.specs.Limits.{max_depth}
 use Rattle.arrow_schema.specs.declared.spec.ArrowType.{ArrowType}
 use Rattle.arrow_schema.specs.declared.spec.ArrowType.TheVariants as kind
@@ -11,7 +12,6 @@ use Rattle.arrow_schema.specs.declared.spec.FieldSpec.{FieldSpec, the_lemmas}
 use Rattle.arrow_schema.specs.Trees.{count_of, name_in, kind_in, dict_in, encoding_in, children_in, names_differ, lacks_name}
 use Rattle.arrow_schema.specs.Readable.{IsReadable, are_readable, is_readable, fits_children, fits_dictionary}
 use Rattle.arrow_schema.proofs.Only.{tests_of}
-use Rattle.arrow_schema.proofs.Steps.{both_true}
 use Rattle.arrow_arrays.specs.declared.spec.Above.{Above}
 use Rattle.arrow_arrays.specs.declared.spec.Above.TheVariants as parent
 use Rattle.arrow_arrays.specs.declared.spec.ArraySpec.{ArraySpec}
@@ -101,13 +101,6 @@ one_before f above arrays before inside place a p at is =
 
 -- ---- the paths of all arrays
 
--- a list that is made of one more number
-one_more : {X : Type 0} (f g : ℕ → X) (n : ℕ) (x : X) → ((k : ℕ) → k < n → f k ≡ g k) → f n ≡ x → map f (range_with_len 0 (n + 1)) ≡ map g (range_with_len 0 n) ++ x ∷ []
-one_more f g n x each here =
-    let same : map f (range_with_len 0 n) ≡ map g (range_with_len 0 n) =
-    fill_by_all g (map f (range_with_len 0 n)) n x (length-map-range_with_len f 0 n) (λ k below. get_or-map-range_with_len f 0 n k k x below (omega arith) ∙ each k below) in
-    map-range_with_len_more f 0 n n (omega arith) ∙ ap (λ xs. xs ++ f n ∷ []) same ∙ ap (λ y. map g (range_with_len 0 n) ++ y ∷ []) here
-
 all_paths : List ArraySpec → List (List (List ℕ))
 all_paths arrays = map (path_of arrays) (range_with_len 0 (length arrays))
 
@@ -117,7 +110,7 @@ unfolding all_paths
 one_path level f above arrays path lt before inside is =
     let x = array_for f above arrays in
     ap (λ (n : ℕ). map (path_of (arrays ++ x ∷ [])) (range_with_len 0 n)) (length_push arrays x)
-    ∙ one_more (path_of (arrays ++ x ∷ [])) (path_of arrays) (length arrays) (path_in path (name_in f))
+    ∙ one-more (path_of (arrays ++ x ∷ [])) (path_of arrays) (length arrays) (path_in path (name_in f))
     (λ k below. path_front max_depth arrays (x ∷ []) before k below)
     (own_path level f above arrays path before inside is max_depth lt)
 
@@ -146,9 +139,9 @@ pub deep : (depth : ℕ) (f : FieldSpec) (fs : List FieldSpec) → are_readable 
 unfolding are_readable names_differ
 deep zero f fs h = absurd (cc (h))
 deep (suc inner) f fs h =
-    let parts = both_true (lacks_name (name_in f) fs && names_differ fs) (is_readable (are_readable inner) f && list_all (is_readable (are_readable inner)) fs) h in
-    let names = both_true (lacks_name (name_in f) fs) (names_differ fs) parts.0 in
-    let each = both_true (is_readable (are_readable inner) f) (list_all (is_readable (are_readable inner)) fs) parts.1 in
+    let parts = and_parts (lacks_name (name_in f) fs && names_differ fs) (is_readable (are_readable inner) f && list_all (is_readable (are_readable inner)) fs) h in
+    let names = and_parts (lacks_name (name_in f) fs) (names_differ fs) parts.0 in
+    let each = and_parts (is_readable (are_readable inner) f) (list_all (is_readable (are_readable inner)) fs) parts.1 in
     let tests = tests_of inner f each.0 in
     record {
       inner = inner;

@@ -18,11 +18,12 @@ use Rattle.arrow_arrays.specs.declared.spec.Above.TheVariants as parent
 use Rattle.arrow_arrays.specs.declared.spec.ArraySpec.{ArraySpec}
 use Rattle.arrow_arrays.specs.Layouts.{layout_of}
 use Rattle.arrow_arrays.specs.Cells.{own_cell}
-use Rattle.arrow_arrays.specs.Arrays.{above_children, add_field, add_fields, arrays_of, place_of, cell_above, cell_below, cell_in_array, cell_within, cell_of}
+use Rattle.arrow_arrays.specs.Arrays.{above_children, add_field, add_fields, arrays_of, array_place, cell_above, cell_below, cell_in_array, cell_within, cell_of}
 use Rattle.arrow_arrays.specs.Written.{HasWholeStructs}
 use Rattle.arrow_arrays.proofs.Walking.{add_field_is}
 use Rattle.arrow_arrays.proofs.Walked.{array_for, each_walk, slice_get_front, slice_get_last}
 use Rattle.arrow_arrays.proofs.PathsWalked.{deep, one_extends, extends_walk, Extends}
+use Rattle.arrow_arrays.proofs.ListsWalked.{list_is, no_fields_is}
 
 -- ---- arrays that stand at most at that depth, below structs
 
@@ -56,14 +57,6 @@ raised_front (suc depth) arrays more place is =
     (is.0, get_front arrays more place is.0 is.1, by_front (IsRaised depth arrays) (IsRaised depth (arrays ++ more)) arrays more is.0.above (raised_front depth arrays more) is.2)
 
 -- ---- the walk
-
-no_fields_is : (fields : List FieldSpec) → no_fields fields ≡ true → fields ≡ []
-no_fields_is [] is = refl
-no_fields_is (f ∷ fields) is = absurd (false≢true is)
-
-list_is : (k : ArrowType) → is_list k ≡ true → k ≡ kind.List
-list_is kind.List is = refl
-list_is other is = absurd (false≢true is)
 
 struct_layout : (k : ArrowType) (dict : Option DictSpec) → is_struct k ≡ true → fits_dictionary k dict ≡ true → (k ≡ kind.Struct) × (layout_of k dict ≡ layout.Struct)
 struct_layout kind.Struct None is fits = (refl, refl)
@@ -149,14 +142,14 @@ all_raised fields readable =
 -- ---- cells
 
 above_whole : (cell : ℕ → ℕ → Option (List ℕ)) (raised : ℕ → Type 0) (arrays : List ArraySpec) (batch : BatchIn) (row : ℕ) (above : Above) → HasWholeStructs arrays batch row → IsRaisedBy raised arrays above
-    → ((place : ℕ) (a : ArraySpec) → raised place → slice_get arrays place ≡ Some a → cell place row ≡ own_cell batch (place_of a) row) → cell_above cell above row ≡ Some []
+    → ((place : ℕ) (a : ArraySpec) → raised place → slice_get arrays place ≡ Some a → cell place row ≡ own_cell batch (array_place a) row) → cell_above cell above row ≡ Some []
 above_whole cell raised arrays batch row parent.Top whole by is = refl
 above_whole cell raised arrays batch row (parent.Struct place) whole by is =
     is place by.0.0 by.1 by.0.1 ∙ whole.each place by.0.0 by.0.1 by.0.2
 above_whole cell raised arrays batch row parent.List whole by is = refl
 
 raised_cell : (depth limit : ℕ) (arrays : List ArraySpec) (batch : BatchIn) (row : ℕ) → HasWholeStructs arrays batch row → depth ≤ limit → (place : ℕ) (a : ArraySpec) → IsRaised depth arrays place
-    → slice_get arrays place ≡ Some a → cell_within limit arrays batch place row ≡ own_cell batch (place_of a) row
+    → slice_get arrays place ≡ Some a → cell_within limit arrays batch place row ≡ own_cell batch (array_place a) row
 unfolding IsRaised cell_within
 raised_cell zero limit arrays batch row whole within place a is at = absurd is
 raised_cell (suc depth) zero arrays batch row whole within place a is at = absurd (omega (arith, within))
@@ -166,11 +159,11 @@ raised_cell (suc depth) (suc limit) arrays batch row whole within place a is at 
     above_whole (cell_within limit arrays batch) (IsRaised depth arrays) arrays batch row is.0.above whole is.2
     (λ p b raised there. raised_cell depth limit arrays batch row whole (omega (arith, within)) p b raised there) in
     ap (cell_in_array (cell_within limit arrays batch) batch row) is.1
-    ∙ ap (λ (above : Option (List ℕ)). cell_below above (own_cell batch (place_of is.0) row)) none
-    ∙ ap (λ (b : ArraySpec). own_cell batch (place_of b) row) same
+    ∙ ap (λ (above : Option (List ℕ)). cell_below above (own_cell batch (array_place is.0) row)) none
+    ∙ ap (λ (b : ArraySpec). own_cell batch (array_place b) row) same
 
 pub whole_cells : (fields : List FieldSpec) (batch : BatchIn) (row : ℕ) → IsReadable fields → HasWholeStructs (arrays_of fields) batch row → (place : ℕ) (a : ArraySpec) → slice_get (arrays_of fields) place ≡ Some a
-    → cell_of (arrays_of fields) batch place row ≡ own_cell batch (place_of a) row
+    → cell_of (arrays_of fields) batch place row ≡ own_cell batch (array_place a) row
 unfolding AreRaised
 whole_cells fields batch row readable whole place a at =
     let raised = all_raised fields readable place (slice_get_within (arrays_of fields) place a at) in

@@ -11,7 +11,7 @@ use Rattle.arrow_arrays.specs.declared.spec.Above.{Above}
 use Rattle.arrow_arrays.specs.declared.spec.Above.TheVariants as parent
 use Rattle.arrow_arrays.specs.declared.spec.ArraySpec.{ArraySpec}
 use Rattle.arrow_arrays.specs.Arrays.{buffers_of, above_children, array_after, add_field, add_fields, arrays_of}
-use Rattle.arrow_arrays.specs.Fields.{FieldIn, field_of, depth_first_in, depth_first}
+use Rattle.arrow_arrays.specs.Fields.{FieldIn, field_of_array, depth_first_in, depth_first}
 use Rattle.arrow_arrays.proofs.Walking.{add_field_is}
 
 -- the array of a field after others
@@ -44,26 +44,26 @@ unfolding own_field
 depth_first_is f = search (rules, the_lemmas, flat_fields)
 
 AreFields : List FieldSpec → Above → List ArraySpec → Type 0
-AreFields fields above arrays = map field_of (add_fields fields above arrays) ≡ map field_of arrays ++ depth_first fields
+AreFields fields above arrays = map field_of_array (add_fields fields above arrays) ≡ map field_of_array arrays ++ depth_first fields
 
 one_field : (f : FieldSpec) (above : Above) (arrays : List ArraySpec) → AreFields (children_in f) (above_children (kind_in f) (length arrays)) (arrays ++ array_for f above arrays ∷ [])
-    → map field_of (add_field f above arrays) ≡ map field_of arrays ++ depth_first_in f
+    → map field_of_array (add_field f above arrays) ≡ map field_of_array arrays ++ depth_first_in f
 unfolding AreFields own_field
 one_field f above arrays below =
     let children : List FieldIn = depth_first (children_in f) in
-    let before : List FieldIn = map field_of arrays in
-    ap (map field_of) (add_field_is f above arrays) ∙ below
-    ∙ ap (λ (fields : List FieldIn). fields ++ children) (map-append field_of arrays (array_for f above arrays ∷ []))
+    let before : List FieldIn = map field_of_array arrays in
+    ap (map field_of_array) (add_field_is f above arrays) ∙ below
+    ∙ ap (λ (fields : List FieldIn). fields ++ children) (map-append field_of_array arrays (array_for f above arrays ∷ []))
     ∙ append_assoc before (own_field f ∷ []) children ∙ ap (λ (fields : List FieldIn). before ++ fields) (sym (depth_first_is f))
 
 fields_walk : (n : ℕ) (fields : List FieldSpec) → count_of fields ≤ n → (above : Above) (arrays : List ArraySpec) → AreFields fields above arrays
 unfolding AreFields
 fields_walk = each_walk AreFields
-    (λ above arrays. sym (append-nil (map field_of arrays)))
+    (λ above arrays. sym (append-nil (map field_of_array arrays)))
     (λ f fs above arrays below rest.
-    rest ∙ ap (λ (fields : List FieldIn). fields ++ depth_first fs) (one_field f above arrays below) ∙ append_assoc (map field_of arrays) (depth_first_in f) (depth_first fs))
+    rest ∙ ap (λ (fields : List FieldIn). fields ++ depth_first fs) (one_field f above arrays below) ∙ append_assoc (map field_of_array arrays) (depth_first_in f) (depth_first fs))
 
-pub fields_law : (fields : List FieldSpec) → map field_of (arrays_of fields) ≡ depth_first fields
+pub fields_law : (fields : List FieldSpec) → map field_of_array (arrays_of fields) ≡ depth_first fields
 unfolding AreFields arrays_of
 fields_law fields = fields_walk (count_of fields) fields (omega arith) parent.Top []
 

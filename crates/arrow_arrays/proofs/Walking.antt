@@ -7,7 +7,7 @@ use Rattle.std.proofs.lemmas.List.Sums.{sum_by-cons}
 use Rattle.arrow_schema.specs.declared.spec.ArrowType.{ArrowType}
 use Rattle.arrow_schema.specs.declared.spec.DictSpec.{DictSpec}
 use Rattle.arrow_schema.specs.declared.spec.FieldSpec.{FieldSpec, the_lemmas}
-use Rattle.arrow_schema.specs.Trees.{count_in, count_of, name_in, kind_in, dict_in, encoding_in, children_in}
+use Rattle.arrow_schema.specs.Trees.{field_count, count_of, name_in, kind_in, dict_in, encoding_in, children_in}
 use Rattle.arrow_buffers.specs.declared.fault.BufferFault.{BufferFault}
 use Rattle.arrow_ipc.specs.Batches.{BatchIn}
 use Rattle.arrow_arrays.specs.declared.layout.Layout.{Layout}
@@ -17,7 +17,7 @@ use Rattle.arrow_arrays.specs.declared.spec.Above.{Above}
 use Rattle.arrow_arrays.specs.declared.spec.ArraySpec.{ArraySpec}
 use Rattle.arrow_arrays.specs.Layouts.{layout_of, own_buffers}
 use Rattle.arrow_arrays.specs.Cells.{array_check}
-use Rattle.arrow_arrays.specs.Arrays.{AddsArrays, place_of, buffers_of, above_children, array_after, add_each, add_step, add_field, add_fields, path_below, path_to, path_within, arrays_check}
+use Rattle.arrow_arrays.specs.Arrays.{AddsArrays, array_place, buffers_of, above_children, array_after, add_each, add_step, add_field, add_fields, path_below, path_to, path_within, arrays_check}
 
 -- an array has at most three buffers
 own_few : (kind : Layout) → own_buffers kind ≤ 3
@@ -28,7 +28,7 @@ own_few Binary = omega arith
 own_few Text = omega arith
 own_few layout.List = omega arith
 
-own_of : ArraySpec → ℕ
+unfoldable pub own_of : ArraySpec → ℕ
 own_of a = own_buffers (layout_of a.kind a.dict)
 
 buffers_few : (arrays : List ArraySpec) → sum_by own_of arrays ≤ 3 * length arrays
@@ -54,29 +54,24 @@ add_field_is f above arrays =
     ap (λ (add : AddsArrays). add above arrays) (step_is f)
     ∙ each_is (children_in f) (above_children (kind_in f) (length arrays)) (arrays ++ array_after arrays above (name_in f) (kind_in f) (dict_in f) (encoding_in f) ∷ [])
 
-pub count_step : (fs : List FieldSpec) (i : ℕ) (f : FieldSpec) → i < length fs → f ≡ get_or fs i f → count_of (drop i fs) ≡ count_in f + count_of (drop (i + 1) fs)
-count_step fs i f lt is = at_drop_more count_of fs i f lt ∙ ap (λ (g : FieldSpec). count_in g + count_of (drop (i + 1) fs)) (sym is)
-
-pub count_within : (fs : List FieldSpec) (i : ℕ) (f : FieldSpec) → i < length fs → f ≡ get_or fs i f → count_in f ≤ count_of fs
-count_within [] i f lt is = absurd (omega (arith, lt))
-count_within (g ∷ fs) zero f lt is = rw is (omega arith)
-count_within (g ∷ fs) (suc i) f lt is = omega (arith, count_within fs i f (omega (arith, lt)) is)
+pub count_step : (fs : List FieldSpec) (i : ℕ) (f : FieldSpec) → i < length fs → f ≡ get_or fs i f → count_of (drop i fs) ≡ field_count f + count_of (drop (i + 1) fs)
+count_step fs i f lt is = at_drop_more count_of fs i f lt ∙ ap (λ (g : FieldSpec). field_count g + count_of (drop (i + 1) fs)) (sym is)
 
 -- one more array, without a fault or with one
 check_first : (batch : BatchIn) (arrays : List ArraySpec) (i : ℕ) (a : ArraySpec) → i < length arrays → a ≡ get_or arrays i a
-    → arrays_check batch (drop i arrays) ≡ result_and (array_check batch (place_of a)) (arrays_check batch (drop (i + 1) arrays))
+    → arrays_check batch (drop i arrays) ≡ result_and (array_check batch (array_place a)) (arrays_check batch (drop (i + 1) arrays))
 unfolding arrays_check
 check_first batch arrays i a lt is =
     at_drop_more (arrays_check batch) arrays i a lt
-    ∙ ap (λ (b : ArraySpec). result_and (array_check batch (place_of b)) (arrays_check batch (drop (i + 1) arrays))) (sym is)
+    ∙ ap (λ (b : ArraySpec). result_and (array_check batch (array_place b)) (arrays_check batch (drop (i + 1) arrays))) (sym is)
 
 pub check_step : (batch : BatchIn) (arrays : List ArraySpec) (i : ℕ) (a : ArraySpec) (all : Result (Unit {0}) BufferFault) → i < length arrays → a ≡ get_or arrays i a
-    → Ok tt ≡ array_check batch (place_of a) → arrays_check batch (drop i arrays) ≡ all → arrays_check batch (drop (i + 1) arrays) ≡ all
+    → Ok tt ≡ array_check batch (array_place a) → arrays_check batch (drop i arrays) ≡ all → arrays_check batch (drop (i + 1) arrays) ≡ all
 check_step batch arrays i a all lt is fine so_far =
     ap (λ (r : Result (Unit {0}) BufferFault). result_and r (arrays_check batch (drop (i + 1) arrays))) fine ∙ sym (check_first batch arrays i a lt is) ∙ so_far
 
 pub check_fails : (batch : BatchIn) (arrays : List ArraySpec) (i : ℕ) (a : ArraySpec) (e : BufferFault) (all : Result (Unit {0}) BufferFault) → i < length arrays → a ≡ get_or arrays i a
-    → Err e ≡ array_check batch (place_of a) → arrays_check batch (drop i arrays) ≡ all → Err e ≡ all
+    → Err e ≡ array_check batch (array_place a) → arrays_check batch (drop i arrays) ≡ all → Err e ≡ all
 check_fails batch arrays i a e all lt is bad so_far =
     ap (λ (r : Result (Unit {0}) BufferFault). result_and r (arrays_check batch (drop (i + 1) arrays))) bad ∙ sym (check_first batch arrays i a lt is) ∙ so_far
 

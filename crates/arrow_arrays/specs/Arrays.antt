@@ -20,14 +20,14 @@ use Rattle.arrow_arrays.specs.Layouts.{layout_of, own_buffers, element_len, Fits
 use Rattle.arrow_arrays.specs.Cells.{array_check, own_cell}
 
 -- what a list is above holds the list's elements
-abbrev pub is_element : Above → Bool
-is_element parent.List = true
-is_element other = false
+abbrev pub is_below_list : Above → Bool
+is_below_list parent.List = true
+is_below_list other = false
 
 -- where the array of a field stands
-abbrev pub place_of : ArraySpec → ArrayPlace
-place_of a =
-    record { layout = layout_of a.kind a.dict; node = a.node; buffer = a.buffer; element = is_element a.above }
+abbrev pub array_place : ArraySpec → ArrayPlace
+array_place a =
+    record { layout = layout_of a.kind a.dict; node = a.node; buffer = a.buffer; element = is_below_list a.above }
 
 -- where the elements of a list stand: in the next array
 abbrev pub place_of_elements : ArraySpec → ArrayPlace
@@ -35,7 +35,7 @@ place_of_elements a =
     record { layout = layout.Fixed element_len; node = a.node + 1; buffer = a.buffer + 2; element = true }
 
 abbrev pub HoldsElements : List ArraySpec → ℕ → ArraySpec → Type 0
-HoldsElements arrays place a = (e : ArraySpec) × (slice_get arrays (place + 1) ≡ Some e) × (place_of e ≡ place_of_elements a)
+HoldsElements arrays place a = (e : ArraySpec) × (slice_get arrays (place + 1) ≡ Some e) × (array_place e ≡ place_of_elements a)
 
 -- how many buffers arrays have
 abbrev pub buffers_of : List ArraySpec → ℕ
@@ -106,15 +106,15 @@ path_of arrays place = path_within max_depth arrays place
 -- THE FIRST FAULT of arrays in a batch, depth first
 unfoldable pub arrays_check : BatchIn → List ArraySpec → Result (Unit {0}) BufferFault
 arrays_check batch [] = Ok tt
-arrays_check batch (a ∷ arrays) = result_and (array_check batch (place_of a)) (arrays_check batch arrays)
+arrays_check batch (a ∷ arrays) = result_and (array_check batch (array_place a)) (arrays_check batch arrays)
 
 -- one of the arrays has the fault
 abbrev pub HasFault : BatchIn → List ArraySpec → BufferFault → Type 0
-HasFault batch arrays fault = (place : ℕ) × (a : ArraySpec) × (slice_get arrays place ≡ Some a) × (array_check batch (place_of a) ≡ Err fault)
+HasFault batch arrays fault = (place : ℕ) × (a : ArraySpec) × (slice_get arrays place ≡ Some a) × (array_check batch (array_place a) ≡ Err fault)
 
 -- none of them has a fault
 abbrev pub HasNoFault : BatchIn → List ArraySpec → Type 0
-HasNoFault batch arrays = (place : ℕ) (a : ArraySpec) → slice_get arrays place ≡ Some a → array_check batch (place_of a) ≡ Ok tt
+HasNoFault batch arrays = (place : ℕ) (a : ArraySpec) → slice_get arrays place ≡ Some a → array_check batch (array_place a) ≡ Ok tt
 
 -- the cell of the struct above: where none is above, nothing is null by it
 abbrev pub cell_above : (ℕ → ℕ → Option (List ℕ)) → Above → ℕ → Option (List ℕ)
@@ -128,7 +128,7 @@ cell_below (Some value) own = own
 
 abbrev pub cell_in_array : (ℕ → ℕ → Option (List ℕ)) → BatchIn → ℕ → Option ArraySpec → Option (List ℕ)
 cell_in_array cell batch row None = None
-cell_in_array cell batch row (Some a) = cell_below (cell_above cell a.above row) (own_cell batch (place_of a) row)
+cell_in_array cell batch row (Some a) = cell_below (cell_above cell a.above row) (own_cell batch (array_place a) row)
 
 -- the cell of a row in an array that stands at most at that depth
 unfoldable pub cell_within : ℕ → List ArraySpec → BatchIn → ℕ → ℕ → Option (List ℕ)

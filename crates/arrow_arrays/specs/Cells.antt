@@ -9,7 +9,7 @@ use Rattle.arrow_buffers.specs.declared.fault.BufferFault.{BufferFault}
 use Rattle.arrow_buffers.specs.declared.fault.BufferFault.TheVariants.{Short}
 use Rattle.arrow_buffers.specs.Bits.{BitsIn, bits_of, validity_of, flag_of, cell_where}
 use Rattle.arrow_buffers.specs.Fixed.{fixed_of, part_of}
-use Rattle.arrow_buffers.specs.Vars.{vars_of, span_of, utf8_check}
+use Rattle.arrow_buffers.specs.Vars.{vars_of, row_span, utf8_check}
 use Rattle.arrow_buffers.specs.Lists.{lists_of, nulls_check}
 use Rattle.arrow_buffers.specs.Lists as lists
 use Rattle.arrow_buffers.specs.Columns.{bit_byte}
@@ -55,8 +55,8 @@ validity_in batch rows node buffer =
     nulls_in batch rows node >>= λ nulls. buffer_in batch buffer >>= λ bytes. validity_of bytes rows nulls
 
 -- its values, whose first buffer has this place
-unfoldable pub bits_in : BatchIn → ℕ → ℕ → Result RowValues BufferFault
-bits_in batch rows place = buffer_in batch place >>= λ bytes. bits_of bytes rows >>= λ bits. Ok (Bits bits)
+unfoldable pub bit_values : BatchIn → ℕ → ℕ → Result RowValues BufferFault
+bit_values batch rows place = buffer_in batch place >>= λ bytes. bits_of bytes rows >>= λ bits. Ok (Bits bits)
 
 unfoldable pub fixed_in : BatchIn → ℕ → ℕ → ℕ → Result RowValues BufferFault
 fixed_in batch rows place width =
@@ -69,15 +69,15 @@ vars_in batch rows place =
     vars_of offsets values rows >>= λ parts. Ok (Vars parts)
 
 -- the bytes of the elements of lists: none of those after them
-abbrev pub elements_of : List ℕ → ℕ → Result (List ℕ) BufferFault
-elements_of bytes count =
+abbrev pub element_bytes : List ℕ → ℕ → Result (List ℕ) BufferFault
+element_bytes bytes count =
     if nat_lt (length bytes) (count * element_len) then Err Short else Ok (take (count * element_len) bytes)
 
 -- the elements of lists, whose array has this node and this first buffer: their bytes, and which of them are there
 unfoldable pub elements_in : BatchIn → ℕ → ℕ → Result (List ℕ × BitsIn) BufferFault
 elements_in batch node buffer =
     length_in batch node >>= λ count. validity_in batch count node buffer >>= λ there. buffer_in batch (buffer + 1) >>= λ bytes.
-    elements_of bytes count >>= λ elements. Ok (elements, there)
+    element_bytes bytes count >>= λ elements. Ok (elements, there)
 
 -- lists: after their own validity bitmap stand the offsets, and then their elements, which are the next array
 unfoldable pub lists_in : BatchIn → ℕ → ArrayPlace → Result RowValues BufferFault
@@ -88,7 +88,7 @@ lists_in batch rows a =
 -- its values stand after its validity bitmap; a struct has none of its own
 abbrev pub values_by : BatchIn → ℕ → ArrayPlace → Layout → Result RowValues BufferFault
 values_by batch rows a layout.Struct = Ok Nothing
-values_by batch rows a layout.Bits = bits_in batch rows (a.buffer + 1)
+values_by batch rows a layout.Bits = bit_values batch rows (a.buffer + 1)
 values_by batch rows a (layout.Fixed width) = fixed_in batch rows (a.buffer + 1) width
 values_by batch rows a layout.Binary = vars_in batch rows (a.buffer + 1)
 values_by batch rows a layout.Text = vars_in batch rows (a.buffer + 1)
@@ -122,7 +122,7 @@ abbrev pub value_in : RowValues → ℕ → Option (List ℕ)
 value_in Nothing row = Some []
 value_in (Bits bits) row = option_map bit_byte (flag_of bits row)
 value_in (Fixed parts) row = part_of parts row
-value_in (Vars parts) row = span_of parts row
+value_in (Vars parts) row = row_span parts row
 value_in (Lists all there) row = lists.elements_of all row
 
 -- a row's cell: null where the array's own bitmap says so

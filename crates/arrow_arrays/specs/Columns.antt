@@ -14,13 +14,13 @@ use Rattle.arrow_arrays.specs.Layouts.{element_len}
 use Rattle.arrow_arrays.specs.Cells.{rows_in}
 
 -- how a column is stored whose array has a layout
-abbrev pub width_of : Layout → Option Width
-width_of layout.Struct = None
-width_of layout.Bits = Some width.Bit
-width_of (layout.Fixed n) = Some (width.Fixed n)
-width_of layout.Binary = Some width.Var
-width_of layout.Text = Some width.Var
-width_of layout.List = Some (width.List element_len)
+abbrev pub stored_width : Layout → Option Width
+stored_width layout.Struct = None
+stored_width layout.Bits = Some width.Bit
+stored_width (layout.Fixed n) = Some (width.Fixed n)
+stored_width layout.Binary = Some width.Var
+stored_width layout.Text = Some width.Var
+stored_width layout.List = Some (width.List element_len)
 
 -- the elements of lists stand in the array of this node and this first buffer, each of them there
 pub record AreElements (batch : BatchIn) (place buffer : ℕ) (values : List ℕ) : Type 0 where
@@ -38,8 +38,8 @@ StandAt batch a width.Var offsets values = (slice_get batch.buffers (a.buffer + 
 StandAt batch a (width.List n) offsets values = (slice_get batch.buffers (a.buffer + 1) ≡ Some offsets) × AreElements batch (a.node + 1) (a.buffer + 2) values
 
 -- a column of some rows, without a fault, stands in a batch as the array at a place
-pub record IsColumn (batch : BatchIn) (a : ArrayPlace) (width : Width) (rows : ℕ) (validity offsets values : List ℕ) : Type 0 where
-  pub layout : width_of a.layout ≡ Some width
+pub record HoldsColumn (batch : BatchIn) (a : ArrayPlace) (width : Width) (rows : ℕ) (validity offsets values : List ℕ) : Type 0 where
+  pub layout : stored_width a.layout ≡ Some width
   pub counted : rows_in batch a ≡ Ok rows
   pub nulls : ℤ
   pub node : slice_get batch.nodes a.node ≡ Some (pos rows, nulls)

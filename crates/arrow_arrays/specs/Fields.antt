@@ -17,8 +17,8 @@ pub record FieldIn : Type 0 where
   pub encoding : Encoding
 
 -- the field of an array
-abbrev pub field_of : ArraySpec → FieldIn
-field_of a = record { name = a.name; kind = a.kind; dict = a.dict; encoding = a.encoding }
+abbrev pub field_of_array : ArraySpec → FieldIn
+field_of_array a = record { name = a.name; kind = a.kind; dict = a.dict; encoding = a.encoding }
 
 -- a field, then its children's fields
 abbrev pub depth_first_step : FieldSpec-F (List FieldIn) → List FieldIn

@@ -27,13 +27,13 @@ abbrev pub bytes_at : BatchIn → ℕ → List ℕ
 bytes_at batch place = unwrap_or (slice_get batch.buffers place) []
 
 -- a row's value, by the buffers from a place on
-abbrev pub value_at : BatchIn → ℕ → Layout → ℕ → Option (List ℕ)
-value_at batch place layout.Struct row = Some []
-value_at batch place layout.Bits row = Some (bit_byte (is_valid (bytes_at batch place) row))
-value_at batch place (layout.Fixed width) row = part_between (bytes_at batch place) (row * width) ((row + 1) * width)
-value_at batch place layout.Binary row = span_between (bytes_at batch place) (bytes_at batch (place + 1)) 1 row
-value_at batch place layout.Text row = span_between (bytes_at batch place) (bytes_at batch (place + 1)) 1 row
-value_at batch place layout.List row = span_between (bytes_at batch place) (bytes_at batch (place + 2)) element_len row
+abbrev pub value_by_buffers : BatchIn → ℕ → Layout → ℕ → Option (List ℕ)
+value_by_buffers batch place layout.Struct row = Some []
+value_by_buffers batch place layout.Bits row = Some (bit_byte (is_valid (bytes_at batch place) row))
+value_by_buffers batch place (layout.Fixed width) row = part_between (bytes_at batch place) (row * width) ((row + 1) * width)
+value_by_buffers batch place layout.Binary row = span_between (bytes_at batch place) (bytes_at batch (place + 1)) 1 row
+value_by_buffers batch place layout.Text row = span_between (bytes_at batch place) (bytes_at batch (place + 1)) 1 row
+value_by_buffers batch place layout.List row = span_between (bytes_at batch place) (bytes_at batch (place + 2)) element_len row
 
 -- a column without rows
 pub record IsEmpty (v : ColumnView) : Type 0 where

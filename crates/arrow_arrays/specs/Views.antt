@@ -34,8 +34,8 @@ value_seen (stored.Spans offsets values width) row = span_between offsets.now va
 abbrev pub is_valid_in : ColumnView → ℕ → Bool
 is_valid_in v row = is_valid v.own.now row && (is_valid v.above.now row && is_valid v.top.now row)
 
-abbrev pub is_whole : ColumnView → Bool
-is_whole v = length v.own.now == 0 && (length v.above.now == 0 && length v.top.now == 0)
+abbrev pub has_no_bitmap : ColumnView → Bool
+has_no_bitmap v = length v.own.now == 0 && (length v.above.now == 0 && length v.top.now == 0)
 
 -- whether a row is there, and null in none of the bitmaps
 unfoldable pub is_there : ColumnView → ℕ → Bool

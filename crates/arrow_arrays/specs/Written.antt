@@ -13,8 +13,8 @@ use Rattle.arrow_arrays.specs.declared.spec.Above.TheVariants as parent
 use Rattle.arrow_arrays.specs.declared.spec.ArraySpec.{ArraySpec}
 use Rattle.arrow_arrays.specs.Layouts.{layout_of, element_len}
 use Rattle.arrow_arrays.specs.Cells.{own_cell}
-use Rattle.arrow_arrays.specs.Arrays.{place_of}
-use Rattle.arrow_arrays.specs.Columns.{width_of, AreTexts}
+use Rattle.arrow_arrays.specs.Arrays.{array_place}
+use Rattle.arrow_arrays.specs.Columns.{stored_width, AreTexts}
 
 -- what an array adds to a batch: its rows, how many of them are null, and its buffers
 pub record PartIn : Type 0 where
@@ -23,8 +23,8 @@ pub record PartIn : Type 0 where
   pub buffers : List (List ℕ)
 
 -- THE BATCH that parts make
-unfoldable pub batch_of : ℕ → List PartIn → BatchIn
-batch_of rows parts =
+unfoldable pub batch_of_parts : ℕ → List PartIn → BatchIn
+batch_of_parts rows parts =
     record { rows = rows; nodes = map (λ p. (pos p.rows, pos p.nulls)) parts; buffers = flat_map (λ p. p.buffers) parts }
 
 -- the part of a struct in which nothing is null: it has an empty bitmap
@@ -32,8 +32,8 @@ abbrev pub struct_part : ℕ → PartIn
 struct_part rows = record { rows = rows; nulls = 0; buffers = [] ∷ [] }
 
 -- the part of elements of lists, each of them there
-abbrev pub element_part : ℕ → List ℕ → PartIn
-element_part count values = record { rows = count; nulls = 0; buffers = [] ∷ values ∷ [] }
+abbrev pub elements_part : ℕ → List ℕ → PartIn
+elements_part count values = record { rows = count; nulls = 0; buffers = [] ∷ values ∷ [] }
 
 -- the buffers of a column in its part; the elements of lists stand in the next one
 abbrev pub column_buffers : Width → List ℕ → List ℕ → List ℕ → List (List ℕ)
@@ -51,7 +51,7 @@ IsWide other = ⊤
 pub record IsElementPart (values : List ℕ) (p : PartIn) : Type 0 where
   pub count : ℕ
   pub len : length values ≡ count * element_len
-  pub is : p ≡ element_part count values
+  pub is : p ≡ elements_part count values
 
 pub record IsPartOfElements (kind : Layout) (p : PartIn) : Type 0 where
   pub fixed : kind ≡ layout.Fixed element_len
@@ -66,7 +66,7 @@ ElementsFollow other values next = ⊤
 -- a part holds a column of cells without a fault
 pub record HoldsCells (kind : Layout) (rows : ℕ) (cells : List (Option (List ℕ))) (p : PartIn) (next : Option PartIn) : Type 0 where
   pub width : Width
-  pub stored : width_of kind ≡ Some width
+  pub stored : stored_width kind ≡ Some width
   pub wide : IsWide width
   pub count : p.rows ≡ rows
   pub validity : List ℕ
@@ -100,9 +100,9 @@ pub record AreParts (arrays : List ArraySpec) (rows : ℕ) (cells : ℕ → List
 -- an array holds a column: it is no struct, and no elements of lists
 pub record IsColumnArray (a : ArraySpec) : Type 0 where
   pub width : Width
-  pub stored : width_of (layout_of a.kind a.dict) ≡ Some width
+  pub stored : stored_width (layout_of a.kind a.dict) ≡ Some width
   pub above : a.above ≡ parent.List → ⊥
 
 -- in no struct of a batch is a row null
 pub record HasWholeStructs (arrays : List ArraySpec) (batch : BatchIn) (row : ℕ) : Type 0 where
-  pub each : (place : ℕ) (a : ArraySpec) → slice_get arrays place ≡ Some a → layout_of a.kind a.dict ≡ layout.Struct → own_cell batch (place_of a) row ≡ Some []
+  pub each : (place : ℕ) (a : ArraySpec) → slice_get arrays place ≡ Some a → layout_of a.kind a.dict ≡ layout.Struct → own_cell batch (array_place a) row ≡ Some []

@@ -2,7 +2,7 @@ ghost use Rattle.std.specs.Prelude.{◌≡◌, ◌+◌, ◌++◌, ◌∷◌, ◌
 ghost use Rattle.std.specs.Option.{option_copied};
 ghost use Rattle.arrow_schema.specs.Limits.{max_fields};
 ghost use Rattle.arrow_schema.specs.Readable.{IsReadable};
-ghost use Rattle.arrow_schema.specs.Trees.{name_in, kind_in, dict_in, encoding_in, count_in, count_of};
+ghost use Rattle.arrow_schema.specs.Trees.{name_in, kind_in, dict_in, encoding_in, field_count, count_of};
 ghost use Rattle.arrow_arrays.specs.Arrays.{array_after, add_field, add_fields, arrays_of, path_within, path_of, arrays_check, HasFault, HasNoFault, cell_of, FitsArray};
 ghost use Rattle.arrow_arrays.specs.Views.{cell_seen};
 ghost use Rattle.arrow_arrays.specs.Found.{FindsWithin};
@@ -83,9 +83,9 @@ impl Arrays {
         above: Above,
         field: &FieldSpec,
     ) -> Result<(), AllocError>
-        requires { length self.old + count_in field.now ≤ max_fields }
+        requires { length self.old + field_count field.now ≤ max_fields }
         ensures arrays { OnOk result (self.new ≡ add_field field.now above self.old) }
-        ensures len { OnOk result (length self.new ≡ length self.old + count_in field.now) }
+        ensures len { OnOk result (length self.new ≡ length self.old + field_count field.now) }
     {
         let below = Above::of_children(field.kind, self.arrays.len());
         self.push(alloc, above, field)?;

@@ -6,7 +6,7 @@ ghost use Rattle.std.specs.Option.{option_copied};
 ghost use Rattle.arrow_buffers.specs.Bits.{is_valid};
 ghost use Rattle.arrow_buffers.specs.Columns.{bit_byte};
 ghost use Rattle.arrow_buffers.specs.Offsets.{offset_at};
-ghost use Rattle.arrow_arrays.specs.Views.{part_between, span_between, value_seen, is_whole, is_valid_in, cell_seen};
+ghost use Rattle.arrow_arrays.specs.Views.{part_between, span_between, value_seen, has_no_bitmap, is_valid_in, cell_seen};
 ghost use Rattle.arrow_arrays.specs.Found.{IsBelow, IsEmpty};
 
 use byteorder::{ByteOrder, LittleEndian};
@@ -73,7 +73,7 @@ impl<'a> ColumnView<'a> {
 
     /// Whether no bitmap has bytes: each row is valid then.
     pub fn is_whole(&self) -> bool
-        ensures { result ≡ is_whole self.now }
+        ensures { result ≡ has_no_bitmap self.now }
     {
         self.own.is_empty() && self.above.is_empty() && self.top.is_empty()
     }
@@ -83,7 +83,7 @@ impl<'a> ColumnView<'a> {
     #[inline(always)]
     #[tactic(auto, unfolding(crate::specs::Views::cell_seen, crate::specs::Views::is_there))]
     pub fn cell_if(&self, row: u64, whole: bool) -> Option<&'a [u8]>
-        requires { whole ≡ true → is_whole self.now ≡ true }
+        requires { whole ≡ true → has_no_bitmap self.now ≡ true }
         ensures { option_copied result ≡ cell_seen self.now row }
     {
         if row >= self.rows {

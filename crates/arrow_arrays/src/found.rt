@@ -3,7 +3,7 @@
 ghost use Rattle.std.specs.Prelude.{◌≡◌, ℕ, ◌+◌, ◌^◌, ◌<◌, IsOk};
 ghost use Rattle.arrow_arrays.specs.Cells.{array_in};
 ghost use Rattle.arrow_arrays.specs.Views.{value_seen};
-ghost use Rattle.arrow_arrays.specs.Found.{bytes_at, rows_at, value_at, Finds};
+ghost use Rattle.arrow_arrays.specs.Found.{bytes_at, rows_at, value_by_buffers, Finds};
 
 use crate::column::{ColumnView, Stored};
 use crate::layout::{ELEMENT_LEN, Layout};
@@ -50,7 +50,7 @@ fn bytes_at<'v>(batch: &BatchView<'v>, place: u32) -> &'v [u8]
 #[tactic(auto, unfolding(crate::specs::Views::value_seen))]
 fn stored_at<'v>(batch: &BatchView<'v>, place: u32, layout: Layout) -> Stored<'v>
     requires { place + 2 < 2 ^ 32 }
-    ensures { (row : ℕ) → value_seen result row ≡ value_at batch.now place layout row }
+    ensures { (row : ℕ) → value_seen result row ≡ value_by_buffers batch.now place layout row }
 {
     match layout {
         Layout::Struct => Stored::Nothing,

@@ -14,16 +14,16 @@ ghost use Rattle.arrow_arrays.specs.declared.spec.ArraySpec.{ArraySpec};
 ghost use Rattle.arrow_arrays.specs.declared.layout.Layout.TheVariants as layout;
 ghost use Rattle.arrow_arrays.specs.Layouts.{layout_of, layout_of_values};
 ghost use Rattle.arrow_arrays.specs.Cells.{array_check, own_cell, place_of_values};
-ghost use Rattle.arrow_arrays.specs.Arrays.{HoldsElements, buffers_of, arrays_of, path_of, place_of, cell_of, arrays_check, HasNoFault};
-ghost use Rattle.arrow_arrays.specs.Fields.{field_of, depth_first, paths_below};
-ghost use Rattle.arrow_arrays.specs.Columns.{IsColumn, AreTexts};
-ghost use Rattle.arrow_arrays.specs.Written.{PartIn, batch_of, HoldsCells, AreParts, IsColumnArray, HasWholeStructs};
+ghost use Rattle.arrow_arrays.specs.Arrays.{HoldsElements, buffers_of, arrays_of, path_of, array_place, cell_of, arrays_check, HasNoFault};
+ghost use Rattle.arrow_arrays.specs.Fields.{field_of_array, depth_first, paths_below};
+ghost use Rattle.arrow_arrays.specs.Columns.{HoldsColumn, AreTexts};
+ghost use Rattle.arrow_arrays.specs.Written.{PartIn, batch_of_parts, HoldsCells, AreParts, IsColumnArray, HasWholeStructs};
 
 /// The arrays of a schema are those of its fields, depth first. The node of each has the array's
 /// place in that order, and its first buffer comes after all buffers of the arrays before it. The
 /// path of each array is the path of its field. The array after a list's holds the list's elements.
 pub fn arrays_stand_depth_first()
-    ensures fields { (fields : List FieldSpec) → map field_of (arrays_of fields) ≡ depth_first fields }
+    ensures fields { (fields : List FieldSpec) → map field_of_array (arrays_of fields) ≡ depth_first fields }
     ensures places { (fields : List FieldSpec) (place : ℕ) (a : ArraySpec) → slice_get (arrays_of fields) place ≡ Some a
         → (a.node ≡ place) × (a.buffer ≡ buffers_of (take place (arrays_of fields))) }
     ensures paths { (fields : List FieldSpec) → IsReadable fields
@@ -39,30 +39,30 @@ pub fn faults_are_found()
 
 /// A column that stands in a batch has no fault, and its cells are read row by row.
 pub fn columns_are_read()
-    ensures check { (batch : BatchIn) (a : ArrayPlace) (width : Width) (rows : ℕ) (validity offsets values : List ℕ) → IsColumn batch a width rows validity offsets values
+    ensures check { (batch : BatchIn) (a : ArrayPlace) (width : Width) (rows : ℕ) (validity offsets values : List ℕ) → HoldsColumn batch a width rows validity offsets values
         → AreTexts a.layout (cells_of width validity offsets values rows) → array_check batch a ≡ Ok tt }
-    ensures cells { (batch : BatchIn) (a : ArrayPlace) (width : Width) (rows : ℕ) (validity offsets values : List ℕ) → IsColumn batch a width rows validity offsets values
+    ensures cells { (batch : BatchIn) (a : ArrayPlace) (width : Width) (rows : ℕ) (validity offsets values : List ℕ) → HoldsColumn batch a width rows validity offsets values
         → (row : ℕ) → row < rows → slice_get (cells_of width validity offsets values rows) row ≡ Some (own_cell batch a row) }
 {}
 
 /// Where no struct has a null in a row, each cell of the row is the one that its own array has.
 pub fn cells_stand_below_whole_structs()
     ensures { (fields : List FieldSpec) (batch : BatchIn) (row : ℕ) → IsReadable fields → HasWholeStructs (arrays_of fields) batch row
-        → (place : ℕ) (a : ArraySpec) → slice_get (arrays_of fields) place ≡ Some a → cell_of (arrays_of fields) batch place row ≡ own_cell batch (place_of a) row }
+        → (place : ℕ) (a : ArraySpec) → slice_get (arrays_of fields) place ≡ Some a → cell_of (arrays_of fields) batch place row ≡ own_cell batch (array_place a) row }
 {}
 
 /// A batch that is put together from a part for each array has no fault. Its columns hold the cells
 /// that their parts hold, and no row of a struct is null. One part alone makes a batch of values.
 pub fn parts_are_read()
     ensures check { (fields : List FieldSpec) (rows : ℕ) (cells : ℕ → List (Option (List ℕ))) (parts : List PartIn) → AreParts (arrays_of fields) rows cells parts
-        → arrays_check (batch_of rows parts) (arrays_of fields) ≡ Ok tt }
+        → arrays_check (batch_of_parts rows parts) (arrays_of fields) ≡ Ok tt }
     ensures cells { (fields : List FieldSpec) (rows : ℕ) (cells : ℕ → List (Option (List ℕ))) (parts : List PartIn) → AreParts (arrays_of fields) rows cells parts
         → (place : ℕ) (a : ArraySpec) → slice_get (arrays_of fields) place ≡ Some a → IsColumnArray a
-        → (row : ℕ) → row < rows → slice_get (cells place) row ≡ Some (own_cell (batch_of rows parts) (place_of a) row) }
+        → (row : ℕ) → row < rows → slice_get (cells place) row ≡ Some (own_cell (batch_of_parts rows parts) (array_place a) row) }
     ensures structs { (fields : List FieldSpec) (rows : ℕ) (cells : ℕ → List (Option (List ℕ))) (parts : List PartIn) → AreParts (arrays_of fields) rows cells parts
-        → (row : ℕ) → row < rows → HasWholeStructs (arrays_of fields) (batch_of rows parts) row }
+        → (row : ℕ) → row < rows → HasWholeStructs (arrays_of fields) (batch_of_parts rows parts) row }
     ensures bitmaps { (fields : List FieldSpec) (rows : ℕ) (cells : ℕ → List (Option (List ℕ))) (parts : List PartIn) → AreParts (arrays_of fields) rows cells parts
-        → (place : ℕ) (a : ArraySpec) → slice_get (arrays_of fields) place ≡ Some a → layout_of a.kind a.dict ≡ layout.Struct → slice_get (batch_of rows parts).buffers a.buffer ≡ Some [] }
+        → (place : ℕ) (a : ArraySpec) → slice_get (arrays_of fields) place ≡ Some a → layout_of a.kind a.dict ≡ layout.Struct → slice_get (batch_of_parts rows parts).buffers a.buffer ≡ Some [] }
     ensures dictionary { (type : ArrowType) (rows : ℕ) (cells : List (Option (List ℕ))) (part : PartIn) → HoldsCells (layout_of_values type) rows cells part None
-        → (array_check (batch_of rows (part ∷ [])) (place_of_values type) ≡ Ok tt) × (map (own_cell (batch_of rows (part ∷ [])) (place_of_values type)) (range_with_len 0 rows) ≡ cells) }
+        → (array_check (batch_of_parts rows (part ∷ [])) (place_of_values type) ≡ Ok tt) × (map (own_cell (batch_of_parts rows (part ∷ [])) (place_of_values type)) (range_with_len 0 rows) ≡ cells) }
 {}

@@ -1,5 +1,5 @@
 ghost use Rattle.std.specs.Prelude.{◌≡◌};
-ghost use Rattle.arrow_arrays.specs.Arrays.{above_children, is_element, place_of};
+ghost use Rattle.arrow_arrays.specs.Arrays.{above_children, is_below_list, array_place};
 
 use crate::layout::Layout;
 use crate::place::ArrayPlace;
@@ -28,7 +28,7 @@ impl Above {
     }
 
     fn is_list(self) -> bool
-        ensures { result ≡ is_element self }
+        ensures { result ≡ is_below_list self }
     {
         match self {
             Above::List => true,
@@ -56,7 +56,7 @@ pub struct ArraySpec {
 impl ArraySpec {
     /// Where it stands, and how its values are stored.
     pub fn place(&self) -> ArrayPlace
-        ensures { result ≡ place_of self.now }
+        ensures { result ≡ array_place self.now }
     {
         ArrayPlace {
             layout: Layout::of(self.kind, self.dict),

@@ -1,7 +1,7 @@
 //! The array at a place of a batch, with its faults.
 
 ghost use Rattle.std.specs.Prelude.{◌≡◌, ◌+◌, ◌^◌, ◌<◌};
-ghost use Rattle.arrow_arrays.specs.Cells.{length_in, rows_in, nulls_in, buffer_in, validity_in, bits_in, fixed_in, vars_in, elements_in, elements_of, lists_in, values_in, array_in, content_check};
+ghost use Rattle.arrow_arrays.specs.Cells.{length_in, rows_in, nulls_in, buffer_in, validity_in, bit_values, fixed_in, vars_in, elements_in, element_bytes, lists_in, values_in, array_in, content_check};
 ghost use Rattle.arrow_arrays.specs.Returned.{Gives};
 
 use crate::layout::{ELEMENT_LEN, Layout};
@@ -98,9 +98,9 @@ fn validity_in<'a>(
     Bits::validity(bytes, rows, nulls)
 }
 
-#[tactic(auto, unfolding(crate::specs::Cells::bits_in))]
+#[tactic(auto, unfolding(crate::specs::Cells::bit_values))]
 fn bits_in<'a>(batch: &BatchView<'a>, rows: u64, place: u32) -> Result<RowValues<'a>, BufferFault>
-    ensures { result ≡ bits_in batch.now rows place }
+    ensures { result ≡ bit_values batch.now rows place }
 {
     let bytes = buffer_in(batch, place)?;
     Ok(RowValues::Bits(Bits::values(bytes, rows)?))
@@ -136,7 +136,7 @@ fn vars_in<'a>(batch: &BatchView<'a>, rows: u64, place: u32) -> Result<RowValues
 
 /// The bytes of the elements: `Short` where there are fewer.
 pub(crate) fn elements<'a>(bytes: &'a [u8], count: u64) -> Result<&'a [u8], BufferFault>
-    ensures { Gives (λ bytes. bytes.now) result (elements_of bytes.now count) }
+    ensures { Gives (λ bytes. bytes.now) result (element_bytes bytes.now count) }
 {
     if (bytes.len() as u128) < u128::from(count) * u128::from(ELEMENT_LEN) {
         return Err(BufferFault::Short);

@@ -15,13 +15,13 @@ use Rattle.arrow_buffers.specs.Bits.{bit_at, bits_of, cell_where, flag_of, is_va
 use Rattle.arrow_buffers.specs.Columns.{bit_byte, cell_at, cells_of, value_at}
 use Rattle.arrow_buffers.specs.Fixed.{part_of}
 use Rattle.arrow_buffers.specs.Lists.{elements_of}
-use Rattle.arrow_buffers.specs.Vars.{is_text, is_text_at, span_of, utf8_check}
+use Rattle.arrow_buffers.specs.Vars.{is_text, is_text_at, row_span, utf8_check}
 use Rattle.arrow_buffers.proofs.Growing.{get_or-cells_of, length-cells_of}
 use Rattle.arrow_buffers.proofs.Joining.{range-more}
 use Rattle.arrow_buffers.proofs.EachBelow.{all_below-same}
 
 -- a flag and a value make a cell
-where-some : (valid : Bool) (value : List ℕ) → cell_where (Some valid) (Some value) ≡ (if valid then Some value else None)
+pub where-some : (valid : Bool) (value : List ℕ) → cell_where (Some valid) (Some value) ≡ (if valid then Some value else None)
 where-some true value = refl
 where-some false value = refl
 
@@ -32,8 +32,8 @@ fixed-cell width validity offsets values rows row below =
     rw (lt-ltb row rows below) (where-some (is_valid validity row) (value_at (Fixed width) offsets values row))
 
 pub var-cell : (validity offsets values : List ℕ) (rows row : ℕ) → row < rows → cell_where (flag_of (record { bytes = validity; rows = rows }) row)
-    (span_of (record { offsets = offsets; values = values; rows = rows }) row) ≡ cell_at Var validity offsets values row
-unfolding flag_of span_of
+    (row_span (record { offsets = offsets; values = values; rows = rows }) row) ≡ cell_at Var validity offsets values row
+unfolding flag_of row_span
 var-cell validity offsets values rows row below =
     rw (lt-ltb row rows below) (where-some (is_valid validity row) (value_at Var offsets values row))
 

@@ -12,8 +12,8 @@ use Rattle.arrow_buffers.specs.Lists.{lists_of}
 use Rattle.arrow_buffers.specs.Vars.{vars_of}
 use Rattle.arrow_buffers.specs.Packed.{IsPacked}
 use Rattle.arrow_buffers.specs.Flags.{HasFlags}
-use Rattle.arrow_buffers.specs.Columns.{HasElements, HasNoFault, cells_of, offsets_len, validity_len, values_len, ended, ended_offsets}
-use Rattle.arrow_buffers.specs.Building.{HasSpans, HasValues, IsBuilt}
+use Rattle.arrow_buffers.specs.Columns.{HasElementSize, HasNoFault, cells_of, offsets_len, validity_len, values_len, ended, ended_offsets}
+use Rattle.arrow_buffers.specs.Building.{HasSpans, HasValueForEach, IsBuilt}
 use Rattle.arrow_buffers.proofs.BitPlaces.{bit_at-past}
 use Rattle.arrow_buffers.proofs.Placing.{length-ended, offset_at-end}
 use Rattle.arrow_buffers.proofs.Spans.{fine-from}
@@ -35,7 +35,7 @@ spans-none element some =
       fine = rw first (fine-from 0 0 element 0 (record { fits = omega arith; order = omega arith; within = omega arith }));
     }
 
-values-none : (width : Width) → HasElements width → HasValues width 0 [] []
+values-none : (width : Width) → HasElementSize width → HasValueForEach width 0 [] []
 values-none Bit some = (refl, packed-none)
 values-none (Fixed width) some = (refl, omega arith)
 values-none Var some = spans-none 1 (omega arith)
@@ -47,7 +47,7 @@ lengths-none (Fixed width) = omega arith
 lengths-none Var = refl
 lengths-none (width.List element) = refl
 
-pub built-none : (width : Width) → HasElements width → IsBuilt width 0 0 [] [] []
+pub built-none : (width : Width) → HasElementSize width → IsBuilt width 0 0 [] [] []
 unfolding cells_of
 built-none width some = record {
   few = omega arith;
@@ -88,14 +88,14 @@ spans-fine element rows offsets values has =
     rw (some, le-ltb (length all) (4 * (rows + 1)) (omega arith), has.fine) refl
 
 -- no fault stands in what is stored
-pub no-fault : (width : Width) (rows : ℕ) (offsets values : List ℕ) → HasValues width rows offsets values → HasNoFault width (ended_offsets width offsets values) values rows
+pub no-fault : (width : Width) (rows : ℕ) (offsets values : List ℕ) → HasValueForEach width rows offsets values → HasNoFault width (ended_offsets width offsets values) values rows
 unfolding bits_of fixed_of vars_of lists_of
 no-fault Bit rows offsets values has = let len = has.1.len in rw (le-ltb (length values * 8) rows (omega arith)) refl
 no-fault (Fixed width) rows offsets values has = rw (le-ltb (length values) (rows * width) (omega (arith, has.1))) refl
 no-fault Var rows offsets values has = rw (spans-fine 1 rows offsets values has) refl
 no-fault (width.List element) rows offsets values has = rw (spans-fine element rows offsets values has.1) refl
 
-pub offsets_len-ended : (width : Width) (rows : ℕ) (offsets values : List ℕ) → HasValues width rows offsets values → length (ended_offsets width offsets values) ≡ offsets_len width rows
+pub offsets_len-ended : (width : Width) (rows : ℕ) (offsets values : List ℕ) → HasValueForEach width rows offsets values → length (ended_offsets width offsets values) ≡ offsets_len width rows
 offsets_len-ended Bit rows offsets values has = ap length has.0
 offsets_len-ended (Fixed width) rows offsets values has = ap length has.0
 offsets_len-ended Var rows offsets values has =

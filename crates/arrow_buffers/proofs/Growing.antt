@@ -16,7 +16,7 @@ pub same-below : {X : Type 0} (f g : ℕ → X) (n : ℕ) (d : X) → ((k : ℕ)
 same-below f g n d each =
     fill_by_all g (map f (range_with_len 0 n)) n d (length-map-range_with_len f 0 n) (λ k below. get_or-map-range_with_len f 0 n k k d below (omega arith) ∙ each k below)
 
-one-more : {X : Type 0} (f g : ℕ → X) (n : ℕ) (x : X) → ((k : ℕ) → k < n → f k ≡ g k) → f n ≡ x → map f (range_with_len 0 (n + 1)) ≡ map g (range_with_len 0 n) ++ x ∷ []
+pub one-more : {X : Type 0} (f g : ℕ → X) (n : ℕ) (x : X) → ((k : ℕ) → k < n → f k ≡ g k) → f n ≡ x → map f (range_with_len 0 (n + 1)) ≡ map g (range_with_len 0 n) ++ x ∷ []
 one-more f g n x each here =
     map-range_with_len_more f 0 n n (omega arith) ∙ ap (λ xs. xs ++ f n ∷ []) (same-below f g n x each) ∙ ap (λ y. map g (range_with_len 0 n) ++ y ∷ []) here
 

@@ -6,7 +6,7 @@ use Rattle.std.proofs.lemmas.List.{append-nil, drop-drop, map-id}
 use Rattle.std.proofs.lemmas.List.FromFn.{map-range_with_len_more}
 use Rattle.std.proofs.Math.Nat.{mul-le-mul_right}
 use Rattle.std.proofs.Math.Seq.{take-add}
-use Rattle.arrow_buffers.specs.Fixed.{part_at}
+use Rattle.arrow_buffers.specs.Fixed.{row_part}
 use Rattle.arrow_buffers.specs.Offsets.{offset_at, offsets_check, span_at}
 use Rattle.arrow_buffers.proofs.Spans.{check-cases}
 use Rattle.arrow_buffers.proofs.Faults.{fine-offsets}
@@ -52,10 +52,10 @@ spans-join width offsets values rows ok =
       | inr all ↦ mul-le-mul_right width ((fine-offsets width offsets values rows all).rising k below)
     ])).1
 
-pub parts-join : (width : ℕ) (bytes : List ℕ) (rows : ℕ) → flat_map (part_at width bytes) (range_with_len 0 rows) ≡ take (rows * width) bytes
+pub parts-join : (width : ℕ) (bytes : List ℕ) (rows : ℕ) → flat_map (row_part width bytes) (range_with_len 0 rows) ≡ take (rows * width) bytes
 parts-join width bytes zero = let none : 0 * width ≡ 0 = omega arith in rw none refl
 parts-join width bytes (suc n) =
     let next : n + 1 ≡ suc n = omega arith in
     let len : n * width + width ≡ suc n * width = omega arith in
-    let f : ℕ → List ℕ = part_at width bytes in
+    let f : ℕ → List ℕ = row_part width bytes in
     ap (λ m. flat_map f (range_with_len 0 m)) (sym next) ∙ joined-more f n ∙ ap (λ ys. ys ++ f n) (parts-join width bytes n) ∙ sym (take-add (n * width) width bytes) ∙ ap (λ k. take k bytes) len

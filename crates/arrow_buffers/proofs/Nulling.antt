@@ -11,10 +11,10 @@ use Rattle.arrow_buffers.specs.declared.width.Width.TheVariants.{Fixed, Var}
 use Rattle.arrow_buffers.specs.declared.width.Width.TheVariants as width
 use Rattle.arrow_buffers.specs.Flags.{PushesNullFlags}
 use Rattle.arrow_buffers.specs.Columns.{cell_at, cells_of, values_len, ended, ended_offsets, cells_so_far}
-use Rattle.arrow_buffers.specs.Building.{ended_times, HasValues, IsBuilt, PushesNulls, PushesValue}
+use Rattle.arrow_buffers.specs.Building.{ended_times, HasValueForEach, IsBuilt, PushesNulls, PushesValue}
 use Rattle.arrow_buffers.proofs.Growing.{length-cells_of, same-below}
 use Rattle.arrow_buffers.proofs.Placing.{length-ended}
-use Rattle.arrow_buffers.proofs.Pushing.{part_at-append, pushes-list, pushes-span}
+use Rattle.arrow_buffers.proofs.Pushing.{row_part-append, pushes-list, pushes-span}
 
 -- a list whose later items are all null
 later-none : (f g : ℕ → Option (List ℕ)) (rows count : ℕ) → ((k : ℕ) → k < rows → f k ≡ g k) → ((k : ℕ) → rows ≤ k → k < rows + count → f k ≡ None)
@@ -64,7 +64,7 @@ built-nulls width rows nulls count bitmap offsets values new_bitmap new_offsets 
     }
 
 -- no nulls, and one more
-no-nulls : (width : Width) (rows : ℕ) (offsets values : List ℕ) → HasValues width rows offsets values → PushesNulls width rows 0 offsets values offsets values
+no-nulls : (width : Width) (rows : ℕ) (offsets values : List ℕ) → HasValueForEach width rows offsets values → PushesNulls width rows 0 offsets values offsets values
 no-nulls width rows offsets values has =
     let none : rows + 0 ≡ rows = omega arith in
     record {
@@ -89,7 +89,7 @@ more-nulls width rows n offsets values mid_offsets mid_values new_offsets new_va
     }
 
 -- values without elements
-pub nulls-list : (element rows n : ℕ) (offsets values : List ℕ) → HasValues (width.List element) rows offsets values
+pub nulls-list : (element rows n : ℕ) (offsets values : List ℕ) → HasValueForEach (width.List element) rows offsets values
     → PushesNulls (width.List element) rows n offsets values (ended_times element n offsets values) values
 nulls-list element rows zero offsets values has = no-nulls (width.List element) rows offsets values has
 nulls-list element rows (suc n) offsets values has =
@@ -99,7 +99,7 @@ nulls-list element rows (suc n) offsets values has =
     let one = pushes-list element (rows + n) None offsets_n values before.stored (λ value is. cc) (omega arith) in
     more-nulls (width.List element) rows n offsets values offsets_n values (ended element offsets_n values) values before (rw (append-nil values) at one)
 
-pub nulls-var : (rows n : ℕ) (offsets values : List ℕ) → HasValues Var rows offsets values → PushesNulls Var rows n offsets values (ended_times 1 n offsets values) values
+pub nulls-var : (rows n : ℕ) (offsets values : List ℕ) → HasValueForEach Var rows offsets values → PushesNulls Var rows n offsets values (ended_times 1 n offsets values) values
 nulls-var rows zero offsets values has = no-nulls Var rows offsets values has
 nulls-var rows (suc n) offsets values has =
     let before = nulls-var rows n offsets values has in
@@ -109,7 +109,7 @@ nulls-var rows (suc n) offsets values has =
     more-nulls Var rows n offsets values offsets_n values (ended 1 offsets_n values) values before (rw (append-nil values) at one)
 
 -- values of one width
-pub nulls-parts : (width rows count : ℕ) (offsets values : List ℕ) → HasValues (Fixed width) rows offsets values → PushesNulls (Fixed width) rows count offsets values offsets (values ++ replicate (count * width) 0)
+pub nulls-parts : (width rows count : ℕ) (offsets values : List ℕ) → HasValueForEach (Fixed width) rows offsets values → PushesNulls (Fixed width) rows count offsets values offsets (values ++ replicate (count * width) 0)
 nulls-parts width rows count offsets values has =
     let zeros : List ℕ = replicate (count * width) 0 in
     let was = has.1 in
@@ -117,7 +117,7 @@ nulls-parts width rows count offsets values has =
     let zero_len = length-replicate {A = ℕ} (count * width) 0 in
     record {
       stored = (has.0, omega arith);
-      before = λ k below. part_at-append width rows k values zeros has.1 below;
+      before = λ k below. row_part-append width rows k values zeros has.1 below;
       grown = λ cells same _. rw (length-append cells (replicate count None), same, length-replicate {A = Option (List ℕ)} count None) (omega arith);
     }
 

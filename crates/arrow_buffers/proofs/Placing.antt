@@ -18,7 +18,7 @@ unfolding offset_at
 offset_at-append offsets more place there =
     rw (drop-append-le (4 * place) offsets more (omega arith)) (little_from-append 4 (drop (4 * place) offsets) more (rw (length-drop (4 * place) offsets) (omega arith)))
 
-read-back : (n x : ℕ) → x < 256 ^ n → little_number n (little_bytes n x) ≡ x
+pub read-back : (n x : ℕ) → x < 256 ^ n → little_number n (little_bytes n x) ≡ x
 read-back n x fits =
     ap (little_number n) (sym (append-nil (little_bytes n x))) ∙ little_number-reads_back n x [] fits
 

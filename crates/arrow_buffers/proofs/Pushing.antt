@@ -10,10 +10,10 @@ use Rattle.arrow_buffers.specs.Limits.{max_values}
 use Rattle.arrow_buffers.specs.declared.width.Width.TheVariants.{Bit, Fixed, Var}
 use Rattle.arrow_buffers.specs.declared.width.Width.TheVariants as width
 use Rattle.arrow_buffers.specs.Bits.{bit_at}
-use Rattle.arrow_buffers.specs.Fixed.{part_at}
+use Rattle.arrow_buffers.specs.Fixed.{row_part}
 use Rattle.arrow_buffers.specs.Packed.{PushesBit}
 use Rattle.arrow_buffers.specs.Columns.{HasWidth, cell_len, ended}
-use Rattle.arrow_buffers.specs.Building.{is_one, HasValues, PushesValue}
+use Rattle.arrow_buffers.specs.Building.{is_one, HasValueForEach, PushesValue}
 use Rattle.arrow_buffers.proofs.Placing.{spans-next}
 
 -- a value that is one byte, which is 0 or 1
@@ -38,7 +38,7 @@ bit-value (Some given) width =
     let same : given ≡ value = cc in
     ap (λ b. b ∷ []) (bit-byte (slice_index given 0) w.1) ∙ sym (one-byte given w.0) ∙ same
 
-pub pushes-bit : (rows : ℕ) (cell : Option (List ℕ)) (offsets values new : List ℕ) → HasValues Bit rows offsets values → ForSome cell (HasWidth Bit) → PushesBit rows (is_one cell) values new
+pub pushes-bit : (rows : ℕ) (cell : Option (List ℕ)) (offsets values new : List ℕ) → HasValueForEach Bit rows offsets values → ForSome cell (HasWidth Bit) → PushesBit rows (is_one cell) values new
     → PushesValue Bit rows cell offsets values offsets new
 pushes-bit rows cell offsets values new stored width pushed =
     let byte : Bool → List ℕ = λ bit. (if bit then 1 else 0) ∷ [] in
@@ -55,12 +55,12 @@ part-len width None fits = length-replicate {A = ℕ} width 0
 part-len width (Some value) fits = fits value refl
 
 -- a part that is there
-pub part_at-append : (width rows k : ℕ) (values more : List ℕ) → length values ≡ rows * width → k < rows → part_at width (values ++ more) k ≡ part_at width values k
-part_at-append width rows k values more len below =
+pub row_part-append : (width rows k : ℕ) (values more : List ℕ) → length values ≡ rows * width → k < rows → row_part width (values ++ more) k ≡ row_part width values k
+row_part-append width rows k values more len below =
     let within : (k + 1) * width ≤ rows * width = mul-le-mul_right width (omega arith) in
     rw (drop-append-le (k * width) values more (omega arith)) (take-append-le width (drop (k * width) values) more (rw (length-drop (k * width) values) (omega arith)))
 
-pub pushes-part : (width rows : ℕ) (cell : Option (List ℕ)) (offsets values : List ℕ) → HasValues (Fixed width) rows offsets values → ForSome cell (HasWidth (Fixed width))
+pub pushes-part : (width rows : ℕ) (cell : Option (List ℕ)) (offsets values : List ℕ) → HasValueForEach (Fixed width) rows offsets values → ForSome cell (HasWidth (Fixed width))
     → PushesValue (Fixed width) rows cell offsets values offsets (values ++ unwrap_or cell (replicate width 0))
 pushes-part width rows cell offsets values stored fits =
     let part = unwrap_or cell (replicate width 0) in
@@ -69,7 +69,7 @@ pushes-part width rows cell offsets values stored fits =
     let all_len = length-append values part in
     record {
       stored = (stored.0, omega arith);
-      before = λ k below. part_at-append width rows k values part stored.1 below;
+      before = λ k below. row_part-append width rows k values part stored.1 below;
       there = λ value is. ap (take width) (drop_at values part (rows * width) stored.1) ∙ take_all width part (omega arith) ∙ ap (λ c. unwrap_or c (replicate width 0)) is;
       grown = λ cells count _. rw (length_push cells cell, count) (omega arith);
     }
@@ -83,7 +83,7 @@ whole-cell : (element : ℕ) (cell : Option (List ℕ)) → 1 ≤ element → Fo
 whole-cell element None some fits = zero-mod element
 whole-cell element (Some value) some fits = fits value refl
 
-pub pushes-list : (element rows : ℕ) (cell : Option (List ℕ)) (offsets values : List ℕ) → HasValues (width.List element) rows offsets values → ForSome cell (HasWidth (width.List element))
+pub pushes-list : (element rows : ℕ) (cell : Option (List ℕ)) (offsets values : List ℕ) → HasValueForEach (width.List element) rows offsets values → ForSome cell (HasWidth (width.List element))
     → length values + cell_len cell < max_values → PushesValue (width.List element) rows cell offsets values (ended element offsets values) (values ++ unwrap_or cell [])
 pushes-list element rows cell offsets values has fits room =
     let part = unwrap_or cell [] in
@@ -97,7 +97,7 @@ pushes-list element rows cell offsets values has fits room =
       grown = λ cells count was. omega (arith, sum_by_push cell_len cells cell);
     }
 
-pub pushes-span : (rows : ℕ) (cell : Option (List ℕ)) (offsets values : List ℕ) → HasValues Var rows offsets values → length values + cell_len cell < max_values
+pub pushes-span : (rows : ℕ) (cell : Option (List ℕ)) (offsets values : List ℕ) → HasValueForEach Var rows offsets values → length values + cell_len cell < max_values
     → PushesValue Var rows cell offsets values (ended 1 offsets values) (values ++ unwrap_or cell [])
 pushes-span rows cell offsets values has room =
     let part = unwrap_or cell [] in

@@ -1,4 +1,4 @@
--- What a column has in hand while it grows: words of private contracts.
+-- What a column has in hand while it grows: words of an invariant and of private contracts.
 use Rattle.std.specs.Prelude.{◌≡◌, ℕ, zero, suc, ◌+◌, ◌*◌, ◌/◌, ◌%◌, ◌<◌, ◌≤◌, ⊤, true, is_none, count_by, List, [], ◌∷◌, ◌++◌, length, replicate, Option, None, ◌==◌, Bool, false, slice_index, Some}
 use Rattle.std.specs.Option.{ForSome}
 use Rattle.arrow_buffers.specs.declared.width.Width.{Width}
@@ -26,11 +26,11 @@ sized_len Var rows = 0
 sized_len (width.List element) rows = 0
 
 -- the buffers have a value for each of the rows
-abbrev pub HasValues : Width → ℕ → List ℕ → List ℕ → Type 0
-HasValues Bit rows offsets values = (offsets ≡ []) × IsPacked rows values
-HasValues (Fixed width) rows offsets values = (offsets ≡ []) × (length values ≡ rows * width)
-HasValues Var rows offsets values = HasSpans 1 rows offsets values
-HasValues (width.List element) rows offsets values = (1 ≤ element) × HasSpans element rows offsets values
+abbrev pub HasValueForEach : Width → ℕ → List ℕ → List ℕ → Type 0
+HasValueForEach Bit rows offsets values = (offsets ≡ []) × IsPacked rows values
+HasValueForEach (Fixed width) rows offsets values = (offsets ≡ []) × (length values ≡ rows * width)
+HasValueForEach Var rows offsets values = HasSpans 1 rows offsets values
+HasValueForEach (width.List element) rows offsets values = (1 ≤ element) × HasSpans element rows offsets values
 
 -- offsets can count these bytes, where there are offsets
 abbrev pub OffsetsFit : Width → ℕ → Type 0
@@ -41,14 +41,14 @@ OffsetsFit (width.List element) len = (1 ≤ element) × (len < max_values)
 
 -- one more value after those of the rows, which are as they were
 pub record PushesValue (width : Width) (rows : ℕ) (cell : Option (List ℕ)) (offsets values new_offsets new_values : List ℕ) : Type 0 where
-  pub stored : HasValues width (rows + 1) new_offsets new_values
+  pub stored : HasValueForEach width (rows + 1) new_offsets new_values
   pub before : (k : ℕ) → k < rows → value_at width (ended_offsets width new_offsets new_values) new_values k ≡ value_at width (ended_offsets width offsets values) values k
   pub there : ForSome cell (λ value. value_at width (ended_offsets width new_offsets new_values) new_values rows ≡ value)
   pub grown : (cells : List (Option (List ℕ))) → length cells ≡ rows → length values ≡ values_len width cells → length new_values ≡ values_len width (cells ++ cell ∷ [])
 
 -- what stands for nulls after the values of the rows, which are as they were
 pub record PushesNulls (width : Width) (rows count : ℕ) (offsets values new_offsets new_values : List ℕ) : Type 0 where
-  pub stored : HasValues width (rows + count) new_offsets new_values
+  pub stored : HasValueForEach width (rows + count) new_offsets new_values
   pub before : (k : ℕ) → k < rows → value_at width (ended_offsets width new_offsets new_values) new_values k ≡ value_at width (ended_offsets width offsets values) values k
   pub grown : (cells : List (Option (List ℕ))) → length cells ≡ rows → length values ≡ values_len width cells → length new_values ≡ values_len width (cells ++ replicate count None)
 
@@ -61,7 +61,7 @@ ended_times element (suc n) offsets values = ended element (ended_times element 
 pub record IsBuilt (width : Width) (rows nulls : ℕ) (validity offsets values : List ℕ) : Type 0 where
   pub few : rows < max_rows
   pub flags : HasFlags nulls rows validity
-  pub stored : HasValues width rows offsets values
+  pub stored : HasValueForEach width rows offsets values
   pub lengths : length values ≡ values_len width (cells_so_far width validity offsets values rows)
   pub counted : nulls ≡ count_by is_none (cells_so_far width validity offsets values rows)
 

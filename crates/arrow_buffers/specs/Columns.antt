@@ -6,7 +6,7 @@ use Rattle.arrow_buffers.specs.declared.width.Width.{Width}
 use Rattle.arrow_buffers.specs.declared.width.Width.TheVariants.{Bit, Fixed, Var}
 use Rattle.arrow_buffers.specs.declared.width.Width.TheVariants as width
 use Rattle.arrow_buffers.specs.Bits.{bit_at, is_valid, bits_of}
-use Rattle.arrow_buffers.specs.Fixed.{part_at, fixed_of}
+use Rattle.arrow_buffers.specs.Fixed.{row_part, fixed_of}
 use Rattle.arrow_buffers.specs.Offsets.{span_at, offset_bytes}
 use Rattle.arrow_buffers.specs.Vars.{vars_of}
 use Rattle.arrow_buffers.specs.Lists.{lists_of}
@@ -17,9 +17,9 @@ pub record ColumnIn : Type 0 where
   pub cells : List (Option (List ℕ))
 
 -- an element of a list has at least one byte
-abbrev pub HasElements : Width → Type 0
-HasElements (width.List element) = 1 ≤ element
-HasElements other = ⊤
+abbrev pub HasElementSize : Width → Type 0
+HasElementSize (width.List element) = 1 ≤ element
+HasElementSize other = ⊤
 
 -- a value has the column's width: for bits it is one byte, 0 or 1, and for lists whole elements
 abbrev pub HasWidth : Width → List ℕ → Type 0
@@ -43,7 +43,7 @@ bit_byte bit = (if bit then 1 else 0) ∷ []
 -- a row's value by its place in the buffers
 abbrev pub value_at : Width → List ℕ → List ℕ → ℕ → List ℕ
 value_at Bit offsets values row = bit_byte (bit_at values row)
-value_at (Fixed width) offsets values row = part_at width values row
+value_at (Fixed width) offsets values row = row_part width values row
 value_at Var offsets values row = span_at 1 offsets values row
 value_at (width.List element) offsets values row = span_at element offsets values row
 

@@ -10,8 +10,8 @@ pub record FixedIn : Type 0 where
   pub rows : ℕ
 
 -- a row's value: the width bytes at row * width
-abbrev pub part_at : ℕ → List ℕ → ℕ → List ℕ
-part_at width bytes row = take width (drop (row * width) bytes)
+abbrev pub row_part : ℕ → List ℕ → ℕ → List ℕ
+row_part width bytes row = take width (drop (row * width) bytes)
 
 -- there is a value for each row
 unfoldable pub fixed_of : List ℕ → ℕ → ℕ → Result FixedIn BufferFault
@@ -22,4 +22,4 @@ fixed_of bytes width rows =
 
 -- what is returned for a row
 unfoldable pub part_of : FixedIn → ℕ → Option (List ℕ)
-part_of f row = if nat_lt row f.rows then Some (part_at f.width f.bytes row) else None
+part_of f row = if nat_lt row f.rows then Some (row_part f.width f.bytes row) else None

@@ -20,8 +20,8 @@ vars_of offsets values rows =
     result_and (offsets_check 1 offsets values rows) (Ok (record { offsets = offsets; values = values; rows = rows }))
 
 -- what is returned for a row
-unfoldable pub span_of : VarsIn → ℕ → Option (List ℕ)
-span_of v row = if nat_lt row v.rows then Some (span_at 1 v.offsets v.values row) else None
+unfoldable pub row_span : VarsIn → ℕ → Option (List ℕ)
+row_span v row = if nat_lt row v.rows then Some (span_at 1 v.offsets v.values row) else None
 
 -- whether a cell is UTF-8, which null is
 abbrev pub is_text : Option (List ℕ) → Bool
@@ -30,7 +30,7 @@ is_text (Some text) = is_utf8 text
 
 -- whether the cell of a row is
 abbrev pub is_text_at : VarsIn → BitsIn → ℕ → Bool
-is_text_at v valid row = is_text (cell_where (flag_of valid row) (span_of v row))
+is_text_at v valid row = is_text (cell_where (flag_of valid row) (row_span v row))
 
 -- each cell is UTF-8, taken by itself
 unfoldable pub utf8_check : VarsIn → BitsIn → Result (Unit {0}) BufferFault

@@ -2,8 +2,8 @@ ghost use Rattle.std.specs.Prelude.{◌≡◌, ◌+◌, ◌-◌, ◌^◌, ◌<�
 ghost use Rattle.std.specs.Option.{ForSome, option_copied};
 ghost use Rattle.arrow_buffers.specs.Bits.{validity_of};
 ghost use Rattle.arrow_buffers.specs.Limits.{max_rows, max_values};
-ghost use Rattle.arrow_buffers.specs.Columns.{HasElements, HasWidth, HasNoFault, cell_len, cells_len, cells_of, ended_offsets, validity_len, offsets_len, values_len};
-ghost use Rattle.arrow_buffers.specs.Building.{HasValues, OffsetsFit, PushesNulls, PushesValue, is_one, sized_len};
+ghost use Rattle.arrow_buffers.specs.Columns.{HasElementSize, HasWidth, HasNoFault, cell_len, cells_len, cells_of, ended_offsets, validity_len, offsets_len, values_len};
+ghost use Rattle.arrow_buffers.specs.Building.{HasValueForEach, OffsetsFit, PushesNulls, PushesValue, is_one, sized_len};
 
 use crate::Width;
 use crate::flags::{push_flag, push_null_flags, reserve_flag};
@@ -53,7 +53,7 @@ impl ColumnBuilder {
     /// A column without cells.
     #[tactic(auto, unfolding(crate::specs::Columns::cells_of))]
     pub fn new(alloc: Global, width: Width) -> ColumnBuilder
-        requires { HasElements width }
+        requires { HasElementSize width }
         ensures { result ≡ record { width = width; cells = [] } }
     {
         ColumnBuilder {
@@ -70,7 +70,7 @@ impl ColumnBuilder {
     /// values differ in length: these are not moved until there are more cells.
     #[tactic(auto, unfolding(crate::specs::Columns::cells_of))]
     pub fn for_rows(alloc: Global, width: Width, rows: usize) -> Result<ColumnBuilder, AllocError>
-        requires { HasElements width }
+        requires { HasElementSize width }
         ensures { IfOk result (λ c. c ≡ record { width = width; cells = [] }) }
     {
         let offsets = Vec::with_capacity(alloc, offsets_room(width, rows))?;
@@ -206,7 +206,7 @@ fn push_value(
     offsets: &mut Vec<u8>,
     values: &mut Vec<u8>,
 ) -> Result<(), AllocError>
-    requires stored { HasValues width rows offsets.old.items values.old.items }
+    requires stored { HasValueForEach width rows offsets.old.items values.old.items }
     requires width { ForSome (option_copied cell) (HasWidth width) }
     requires room { OffsetsFit width (length values.old.items + cell_len (option_copied cell)) }
     ensures ok { OnOk result (PushesValue width rows (option_copied cell.entry) offsets.old.items values.old.items offsets.new.items values.new.items) }
@@ -232,7 +232,7 @@ fn push_null_values(
     offsets: &mut Vec<u8>,
     values: &mut Vec<u8>,
 ) -> Result<(), AllocError>
-    requires stored { HasValues width rows offsets.old.items values.old.items }
+    requires stored { HasValueForEach width rows offsets.old.items values.old.items }
     requires few { rows + count < max_rows }
     ensures ok { OnOk result (PushesNulls width rows count offsets.old.items values.old.items offsets.new.items values.new.items) }
     ensures err { OnErr result ((offsets.new.items ≡ offsets.old.items) × (values.new.items ≡ values.old.items)) }

@@ -10,10 +10,10 @@ ghost use Rattle.arrow_buffers.specs.Limits.{max_rows};
 ghost use Rattle.arrow_buffers.specs.Below.{all_below};
 ghost use Rattle.arrow_buffers.specs.Bits.{bits_of, cell_where, flag_of};
 ghost use Rattle.arrow_buffers.specs.Columns.{bit_byte, cell_at, cells_of};
-ghost use Rattle.arrow_buffers.specs.Fixed.{part_at, part_of};
+ghost use Rattle.arrow_buffers.specs.Fixed.{row_part, part_of};
 ghost use Rattle.arrow_buffers.specs.Lists.{elements_of};
 ghost use Rattle.arrow_buffers.specs.Offsets.{AreNone, AreOffsets, IsBad, offset_at, offsets_check, span_at};
-ghost use Rattle.arrow_buffers.specs.Vars.{is_text, span_of, utf8_check};
+ghost use Rattle.arrow_buffers.specs.Vars.{is_text, row_span, utf8_check};
 
 use crate::builder::MAX_ROWS;
 
@@ -41,7 +41,7 @@ pub fn offsets_have_their_faults()
 /// No byte is left out and none is given twice: the values of all rows, joined, are those of the
 /// buffer.
 pub fn values_are_joined()
-    ensures fixed { (width : ℕ) (bytes : List ℕ) (rows : ℕ) → flat_map (part_at width bytes) (range_with_len 0 rows) ≡ take (rows * width) bytes }
+    ensures fixed { (width : ℕ) (bytes : List ℕ) (rows : ℕ) → flat_map (row_part width bytes) (range_with_len 0 rows) ≡ take (rows * width) bytes }
     ensures spans { (width : ℕ) (offsets values : List ℕ) (rows : ℕ) → IsOk (offsets_check width offsets values rows)
         → flat_map (span_at width offsets values) (range_with_len 0 rows) ≡ slice_range values (offset_at offsets 0 * width) (offset_at offsets rows * width) }
 {}
@@ -60,7 +60,7 @@ pub fn views_read_the_cells()
     ensures fixed { (width : ℕ) (validity offsets values : List ℕ) (rows row : ℕ) → row < rows
         → cell_where (flag_of (record { bytes = validity; rows = rows }) row) (part_of (record { bytes = values; width = width; rows = rows }) row) ≡ cell_at (Fixed width) validity offsets values row }
     ensures var { (validity offsets values : List ℕ) (rows row : ℕ) → row < rows
-        → cell_where (flag_of (record { bytes = validity; rows = rows }) row) (span_of (record { offsets = offsets; values = values; rows = rows }) row) ≡ cell_at Var validity offsets values row }
+        → cell_where (flag_of (record { bytes = validity; rows = rows }) row) (row_span (record { offsets = offsets; values = values; rows = rows }) row) ≡ cell_at Var validity offsets values row }
     ensures list { (element : ℕ) (validity offsets values : List ℕ) (rows row : ℕ) → row < rows
         → cell_where (flag_of (record { bytes = validity; rows = rows }) row) (elements_of (record { offsets = offsets; values = values; width = element; rows = rows }) row) ≡ cell_at (width.List element) validity offsets values row }
 {}

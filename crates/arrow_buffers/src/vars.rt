@@ -1,7 +1,7 @@
 ghost use Rattle.std.specs.Prelude.{◌≡◌, IfOk, IsOk};
 ghost use Rattle.std.specs.Option.{option_copied};
 ghost use Rattle.std.specs.Str.{is_utf8};
-ghost use Rattle.arrow_buffers.specs.Vars.{vars_of, span_of, is_text_at, utf8_check};
+ghost use Rattle.arrow_buffers.specs.Vars.{vars_of, row_span, is_text_at, utf8_check};
 
 use crate::{Bits, BufferFault, offsets};
 use std::marker::Model;
@@ -58,9 +58,9 @@ impl<'a> Vars<'a> {
     }
 
     /// The bytes of a row, or `None` where there is no such row.
-    #[tactic(auto, unfolding(crate::specs::Vars::span_of))]
+    #[tactic(auto, unfolding(crate::specs::Vars::row_span))]
     pub fn get(&self, row: u64) -> Option<&'a [u8]>
-        ensures { option_copied result ≡ span_of self.now row }
+        ensures { option_copied result ≡ row_span self.now row }
     {
         if row >= self.rows {
             return None;

@@ -16,8 +16,8 @@ use Rattle.arrow_ipc.specs.declared.messages.IpcMessage.TheVariants as content
 use Rattle.arrow_ipc.specs.declared.header.Header.{Header}
 use Rattle.arrow_ipc.specs.declared.header.Header.TheVariants as header
 use Rattle.arrow_ipc.specs.declared.header.Found.{Found}
-use Rattle.arrow_ipc.specs.Batches.{BatchIn, IsBatch, lies_in, rows_of, nodes_of, places_of}
-use Rattle.arrow_ipc.specs.Messages.{IsFramed, IsMessage, IsDictionary, IsContent, continuation, version_of, kind_of, header_table_of, body_size_of, is_known, id_of, data_of, delta_of, kind_number}
+use Rattle.arrow_ipc.specs.Batches.{BatchIn, IsBatch, lies_in, row_count, nodes_of, places_of}
+use Rattle.arrow_ipc.specs.Messages.{IsFramed, IsMessage, IsDictionary, IsContent, continuation, version_of, header_kind, header_table_of, body_size_of, is_known, id_of, data_of, delta_of, kind_number}
 use Rattle.arrow_ipc.specs.Faults
 use Rattle.arrow_ipc.specs.Faults.{HasTable, HasHeader, HasBatch, HasBody, Stands, Refuses}
 use Rattle.arrow_ipc.specs.Returned.{RefusesHeader}
@@ -46,7 +46,7 @@ batch_decided : (bytes : List ℕ) (table : TableIn) (part : List ℕ) → HasBa
     → MatchResult (order.batch_of table part) (IsBatch table part) (Stands bytes)
 unfolding order.batch_of
 batch_decided bytes table part has body =
-    elim (read (rows_of table)) [
+    elim (read (row_count table)) [
       | bad e h1 ↦ rw h1 (Faults.bad_rows table e has h1)
       | good (negsuc n) h1 ↦ rw h1 (Faults.negative_rows table n has h1)
       | good (pos rows) h1 ↦ elim (read (nodes_of table)) [
@@ -110,16 +110,16 @@ rows_from bytes table part (Err e) h = h
 record IsHeader (table : TableIn) (part : List ℕ) (h : Header) : Type 0 where
   inner : TableIn
   has_header : header_table_of table ≡ Ok (Some inner)
-  has_kind : kind_of table ≡ Ok (kind_in h)
+  has_kind : header_kind table ≡ Ok (kind_in h)
   content : HasContent inner part h
 
-holds_header : (bytes : List ℕ) (table inner : TableIn) (part : List ℕ) (kind : ℕ) → header_table_of table ≡ Ok (Some inner) → kind_of table ≡ Ok kind
+holds_header : (bytes : List ℕ) (table inner : TableIn) (part : List ℕ) (kind : ℕ) → header_table_of table ≡ Ok (Some inner) → header_kind table ≡ Ok kind
     → (r : Result Header IpcFault) → MatchResult r (Holds kind inner part) (Stands bytes) → MatchResult r (IsHeader table part) (Stands bytes)
 holds_header bytes table inner part kind h1 h2 (Ok h) holds = record { inner = inner; has_header = h1; has_kind = h2 ∙ ap Ok holds.0; content = holds.1 }
 holds_header bytes table inner part kind h1 h2 (Err e) stands = stands
 
 kind_decided : (bytes : List ℕ) (table inner : TableIn) (after : ℕ) (part : List ℕ) (kind : ℕ) → HasTable bytes table after → HasBody bytes (length part)
-    → header_table_of table ≡ Ok (Some inner) → kind_of table ≡ Ok kind → MatchResult (order.header_by kind inner part) (Holds kind inner part) (Stands bytes)
+    → header_table_of table ≡ Ok (Some inner) → header_kind table ≡ Ok kind → MatchResult (order.header_by kind inner part) (Holds kind inner part) (Stands bytes)
 kind_decided bytes table inner after part kind has body h1 h2 =
     elim (cases_eq kind 1) [
       | inl e ↦ subst (λ (k : ℕ). MatchResult (order.header_by k inner part) (Holds k inner part) (Stands bytes)) (sym e) (refl, refl)
@@ -139,7 +139,7 @@ header_decided : (bytes : List ℕ) (table : TableIn) (after : ℕ) (part : List
     → MatchResult (order.header_of table part) (IsHeader table part) (Stands bytes)
 unfolding order.header_of
 header_decided bytes table after part has size =
-    elim (read (kind_of table)) [
+    elim (read (header_kind table)) [
       | bad e h1 ↦ rw h1 (Faults.bad_kind table after e has h1)
       | good kind h1 ↦ elim (read (header_table_of table)) [
         | bad e h2 ↦ rw (h1, h2) (Faults.bad_header table after e has h2)
@@ -292,7 +292,7 @@ unfolding order.find
 find_decided bytes = find_from bytes (order.metadata bytes) (metadata_decided bytes)
 
 -- the message of a header
-message_is : (bytes : List ℕ) (h : Header) (size : ℕ) (is : IsFound bytes h size) (m : IpcMessage) → kind_of is.table ≡ Ok (kind_number m)
+message_is : (bytes : List ℕ) (h : Header) (size : ℕ) (is : IsFound bytes h size) (m : IpcMessage) → header_kind is.table ≡ Ok (kind_number m)
     → IsContent is.has_header.inner is.part m → IsMessage bytes m size
 message_is bytes h size is m kind content = record {
   metadata = is.metadata;

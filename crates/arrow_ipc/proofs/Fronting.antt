@@ -11,7 +11,7 @@ use Rattle.arrow_ipc.specs.declared.header.Found.{Found}
 use Rattle.arrow_ipc.specs.Batches.{BatchIn}
 use Rattle.arrow_ipc.specs.Messages.{IsMessage}
 use Rattle.arrow_ipc.specs.Faults.{Stands, Refuses}
-use Rattle.arrow_ipc.specs.Fronts.{HasNoMessage, Front, FrontRead, read_further, read_front, front_of, left_of, MessagesIn, rest_of, Advances, EndsFront, rows_held, rows_found, rows_in, HasRows}
+use Rattle.arrow_ipc.specs.Fronts.{HasNoMessage, Front, FrontRead, read_further, read_front, front_of, left_of, MessagesIn, rest_of, Advances, EndsFront, rows_held, rows_found, record_batch_in, HasRows}
 use Rattle.arrow_ipc.specs.Order as order
 use Rattle.arrow_ipc.proofs.Parts.{part_lies}
 use Rattle.arrow_ipc.proofs.Decided.{decided}
@@ -115,12 +115,12 @@ takes_fault bytes (Schema e) r = fault_none bytes (Schema e) r
 
 -- ---- finding a record batch again
 
-pub rows_in-message : (bytes : List ℕ) (batch : BatchIn) → HasRows bytes batch → rows_in bytes ≡ Some batch
-unfolding rows_in
+pub rows_in-message : (bytes : List ℕ) (batch : BatchIn) → HasRows bytes batch → record_batch_in bytes ≡ Some batch
+unfolding record_batch_in
 rows_in-message bytes batch (size, h) = ap rows_found (find_read bytes (content.Rows batch) size h)
 
-pub rows_in-is : (bytes : List ℕ) (batch : BatchIn) → rows_in bytes ≡ Some batch → HasRows bytes batch
-unfolding rows_in order.message order.message_of
+pub rows_in-is : (bytes : List ℕ) (batch : BatchIn) → record_batch_in bytes ≡ Some batch → HasRows bytes batch
+unfolding record_batch_in order.message order.message_of
 rows_in-is bytes batch h = go (order.find bytes) refl h
   where
     rows : (held : Header) (size : ℕ) → order.find bytes ≡ Ok (record { header = held; size = size }) → rows_held held ≡ Some batch → HasRows bytes batch
@@ -138,10 +138,10 @@ rows_in-is bytes batch h = go (order.find bytes) refl h
     go (Ok found) e h = rows found.header found.size e h
     go (Err fault) e h = absurd (cc h)
 
-pub rows_some : (bytes : List ℕ) (found : Option BatchIn) → found ≡ rows_in bytes → IfSome found (HasRows bytes)
+pub rows_some : (bytes : List ℕ) (found : Option BatchIn) → found ≡ record_batch_in bytes → IfSome found (HasRows bytes)
 rows_some bytes None h = tt
 rows_some bytes (Some batch) h = rows_in-is bytes batch (sym h)
 
-pub rows_none : (bytes : List ℕ) (found : Option BatchIn) → found ≡ rows_in bytes → IfNone found ((batch : BatchIn) → HasRows bytes batch → ⊥)
+pub rows_none : (bytes : List ℕ) (found : Option BatchIn) → found ≡ record_batch_in bytes → IfNone found ((batch : BatchIn) → HasRows bytes batch → ⊥)
 rows_none bytes None h = λ batch has. cc (h, rows_in-message bytes batch has)
 rows_none bytes (Some batch) h = tt

@@ -10,7 +10,7 @@ use Rattle.arrow_ipc.specs.declared.messages.IpcMessage.{IpcMessage}
 use Rattle.arrow_ipc.specs.Messages.{IsFramed, IsMessage, IsContent, continuation, kind_number}
 use Rattle.arrow_ipc.specs.Written.{padded, version_5, message_sizes, IsTableOf, IsHeaderAligned}
 use Rattle.arrow_ipc.specs.Laying.{laid_out, IsMetadata}
-use Rattle.arrow_ipc.proofs.Parts.{lies_part}
+use Rattle.flat_tables.proofs.InWords.{lies_part}
 
 -- a part between others
 part_in : (front part rest : List ℕ) (place : ℕ) → length front ≡ place → part_at (front ++ (part ++ rest)) place (length part) ≡ Ok part

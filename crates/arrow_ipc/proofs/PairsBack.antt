@@ -9,7 +9,7 @@ use Rattle.byteorder.specs.Endian.{little_number}
 use Rattle.byteorder.specs.Numbers.{length-bytes_low_first, little_number-reads_back}
 use Rattle.flat_tables.specs.Tables.{element_part}
 use Rattle.flat_tables.specs.Building.{vector_from, IsParts}
-use Rattle.arrow_ipc.specs.Batches.{pair_of, pair_at, pairs_in}
+use Rattle.arrow_ipc.specs.Batches.{struct_of, struct_at, structs_in}
 use Rattle.arrow_ipc.specs.Laying.{FitsPair, AllFit, number_bytes, pair_bytes, pairs_bytes}
 
 signed_back : (z : ℤ) (rest : List ℕ) → FitsSigned w64 z → cast_signed w64 (little_number 8 (number_bytes z ++ rest)) ≡ z
@@ -22,7 +22,7 @@ length-number_bytes : (z : ℤ) → length (number_bytes z) ≡ 8
 unfolding number_bytes
 length-number_bytes z = length-bytes_low_first 0 8 (cast_unsigned w64 z)
 
-pair_back : (p : ℤ × ℤ) → FitsPair p → pair_of (pair_bytes p) ≡ p
+pair_back : (p : ℤ × ℤ) → FitsPair p → struct_of (pair_bytes p) ≡ p
 pair_back p fits =
     let second : drop 8 (pair_bytes p) ≡ number_bytes p.1 ++ [] =
     drop_at (number_bytes p.0) (number_bytes p.1) 8 (length-number_bytes p.0) ∙ sym (append-nil (number_bytes p.1)) in
@@ -51,11 +51,11 @@ part_back (p ∷ ps) (suc i) d h =
 
 -- a vector of them
 pub pairs_back : (ps : List (ℤ × ℤ)) (bytes : List ℕ) (place : ℕ) (v : IsParts 16 (pairs_bytes ps) bytes place) → AllFit ps
-    → pairs_in (vector_from 16 v.count bytes place) ≡ ps
+    → structs_in (vector_from 16 v.count bytes place) ≡ ps
 pairs_back ps bytes place v fits =
     let count : length ps ≡ v.count = omega (arith, v.whole, length-pairs_bytes ps) in
     let d : ℤ × ℤ = (pos 0, pos 0) in
-    sym (fill_by_all (pair_at (vector_from 16 v.count bytes place)) ps v.count d count (λ k h.
+    sym (fill_by_all (struct_at (vector_from 16 v.count bytes place)) ps v.count d count (λ k h.
     let here : element_part (vector_from 16 v.count bytes place) k ≡ Some (pair_bytes (get_or ps k d)) =
     v.each k h ∙ ap Some (part_back ps k d (omega (arith, count, h))) in
-    sym (ap (λ found. pair_of (unwrap_or found [])) here ∙ pair_back (get_or ps k d) (fits k (omega (arith, count, h))))))
+    sym (ap (λ found. struct_of (unwrap_or found [])) here ∙ pair_back (get_or ps k d) (fits k (omega (arith, count, h))))))

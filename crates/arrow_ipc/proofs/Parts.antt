@@ -1,10 +1,11 @@
 -- Parts that were read lie in the bytes, and stay where they are when bytes are added after them.
 use Rattle.std.proofs.Common.{◌≡◌, ℕ, ◌+◌, ◌<◌, ◌≤◌, ltb, List, ◌++◌, length, take, drop, Result, Ok, Err, inl, inr, refl, sym, ap, ◌∙◌, length-append, arith}
-use Rattle.std.proofs.lemmas.Bool.{cases_Bool, ltb-true, ltb-false, le-ltb}
-use Rattle.std.proofs.lemmas.List.{length-take-le, take-append-le, drop-append-le}
 use Rattle.std.proofs.Common.{length-drop}
+use Rattle.std.proofs.lemmas.Bool.{cases_Bool, ltb-true, ltb-false}
+use Rattle.std.proofs.lemmas.List.{length-take-le, take-append-le, drop-append-le}
 use Rattle.flat_tables.specs.declared.fault.FlatFault.{FlatFault}
 use Rattle.flat_tables.specs.Bytes.{part_at, number_at}
+use Rattle.flat_tables.proofs.InWords.{lies_part}
 
 pub record Lies (bytes : List ℕ) (place n : ℕ) (part : List ℕ) : Type 0 where
   pub inside : place + n ≤ length bytes
@@ -25,10 +26,6 @@ part_lies bytes place n part h =
             size = ap length (sym is) ∙ length-take-le n (drop place bytes) (omega (arith, length-drop place bytes));
           }
     ]
-
-pub lies_part : (bytes : List ℕ) (place n : ℕ) → place + n ≤ length bytes → part_at bytes place n ≡ Ok (take n (drop place bytes))
-unfolding part_at
-lies_part bytes place n inside = rw (le-ltb (length bytes) (place + n) inside) refl
 
 pub part_more : (bytes more : List ℕ) (place n : ℕ) (part : List ℕ) → part_at bytes place n ≡ Ok part → part_at (bytes ++ more) place n ≡ Ok part
 part_more bytes more place n part h =

@@ -1,19 +1,13 @@
 -- Buffers in a body that grows.
-use Rattle.std.proofs.Common.{◌≡◌, ℕ, ◌+◌, ◌*◌, ◌≤◌, Bool, true, false, ◌&&◌, List, [], ◌∷◌, ◌++◌, length, map, take, take_all, drop, refl, sym, ap, ◌∙◌, length-drop, arith}
+use Rattle.std.proofs.Common.{◌≡◌, ℕ, ◌+◌, ◌*◌, ◌≤◌, true, List, [], ◌∷◌, ◌++◌, length, map, take, take_all, drop, refl, ap, ◌∙◌, length-drop, arith}
 use Rattle.std.specs.Prelude.{ℤ, pos, negsuc, unsigned_abs, sum_by}
 use Rattle.std.specs.List.{list_all}
-use Rattle.std.proofs.lemmas.Bool.{leb-true, le-leb, true≢false}
+use Rattle.std.proofs.lemmas.Bool.{leb-true, le-leb, and_parts}
 use Rattle.std.proofs.lemmas.List.{take-append-le, drop-append-le, drop_at}
 use Rattle.std.proofs.lemmas.List.Sums.{sum_by-cons}
 use Rattle.arrow_ipc.specs.Batches.{lies_from, lies_in, buffer_in}
 use Rattle.arrow_ipc.specs.Written.{padded, body_size}
 use Rattle.arrow_ipc.proofs.Pairs.{lies_within}
-
--- both of two tests
-pub both : (a b : Bool) → (a && b) ≡ true → (a ≡ true) × (b ≡ true)
-both true true h = (refl, refl)
-both true false h = absurd (true≢false (sym h))
-both false b h = absurd (true≢false (sym h))
 
 lies_from_more : (a b : ℕ) (offset len : ℤ) → a ≤ b → lies_from a offset len ≡ true → lies_from b offset len ≡ true
 lies_from_more a b (pos x) (pos y) le h = le-leb (x + y) b (omega (arith, leb-true (x + y) a h, le))
@@ -23,7 +17,7 @@ lies_from_more a b (negsuc x) y le h = h
 pub all_lie_more : (a b : ℕ) (places : List (ℤ × ℤ)) → a ≤ b → list_all (lies_in a) places ≡ true → list_all (lies_in b) places ≡ true
 all_lie_more a b [] le h = refl
 all_lie_more a b (p ∷ ps) le h =
-    let hs : (lies_in a p ≡ true) × (list_all (lies_in a) ps ≡ true) = both (lies_in a p) (list_all (lies_in a) ps) h in
+    let hs : (lies_in a p ≡ true) × (list_all (lies_in a) ps ≡ true) = and_parts (lies_in a p) (list_all (lies_in a) ps) h in
     rw (lies_from_more a b p.0 p.1 le hs.0, all_lie_more a b ps le hs.1) refl
 
 buffer_more : (body more : List ℕ) (p : ℤ × ℤ) → lies_in (length body) p ≡ true → buffer_in (body ++ more) p ≡ buffer_in body p
@@ -37,7 +31,7 @@ pub buffers_more : (body more : List ℕ) (places : List (ℤ × ℤ)) → list_
     → map (buffer_in (body ++ more)) places ≡ map (buffer_in body) places
 buffers_more body more [] h = refl
 buffers_more body more (p ∷ ps) h =
-    let hs : (lies_in (length body) p ≡ true) × (list_all (lies_in (length body)) ps ≡ true) = both (lies_in (length body) p) (list_all (lies_in (length body)) ps) h in
+    let hs : (lies_in (length body) p ≡ true) × (list_all (lies_in (length body)) ps ≡ true) = and_parts (lies_in (length body) p) (list_all (lies_in (length body)) ps) h in
     λ i. buffer_more body more p hs.0 i ∷ buffers_more body more ps hs.1 i
 
 -- and the last one is what was put there

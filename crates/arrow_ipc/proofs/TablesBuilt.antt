@@ -10,8 +10,8 @@ use Rattle.flat_tables.specs.Tables.{TableIn, VectorIn, root_at, table_at, dista
 use Rattle.flat_tables.specs.Slots.{Holds, alignment}
 use Rattle.flat_tables.specs.Building.{Grows, StaysAt, IsParts, HasSlots, IsPadded, IsTableAligned, vector_from}
 use Rattle.flat_tables.proofs.Standing.{grows_on, stands_later}
-use Rattle.arrow_ipc.specs.Batches.{rows_of, nodes_of, places_of}
-use Rattle.arrow_ipc.specs.Messages.{version_of, kind_of, header_table_of, body_size_of, id_of, data_of, delta_of}
+use Rattle.arrow_ipc.specs.Batches.{row_count, nodes_of, places_of}
+use Rattle.arrow_ipc.specs.Messages.{version_of, header_kind, header_table_of, body_size_of, id_of, data_of, delta_of}
 use Rattle.arrow_ipc.specs.Written.{IsTableOf, IsBatchAligned}
 use Rattle.arrow_ipc.specs.Laying.{AllFit, pairs_bytes, HoldsBatch, IsBatchTable, IsMetadata}
 use Rattle.arrow_ipc.proofs.PairsBack.{pairs_back}
@@ -39,7 +39,7 @@ batch_slots rows nodes places = I64 rows ∷ At nodes ∷ At places ∷ []
 batch_table : (rows : ℕ) (z : ℤ) (nodes places : List (ℤ × ℤ)) (bytes : List ℕ) (n p place : ℕ) → z ≡ pos rows → HasSlots (batch_slots z n p) bytes place
     → IsParts 16 (pairs_bytes nodes) bytes (length bytes - n) → IsParts 16 (pairs_bytes places) bytes (length bytes - p) → AllFit nodes → AllFit places
     → IsBatchTable rows nodes places bytes place
-unfolding rows_of nodes_of places_of
+unfolding row_count nodes_of places_of
 batch_table rows z nodes places bytes n p place is s vn vp fn fp = record {
   table = record { bytes = bytes; place = place; vtable = s.vtable; size = s.size };
   read = s.read;
@@ -110,7 +110,7 @@ message_slots kind header size = I16 (pos 4) ∷ U8 kind ∷ At header ∷ I64 s
 
 pub metadata_built : (built more metadata : List ℕ) (kind header size root : ℕ) (z : ℤ) → z ≡ pos size → Grows built more → StaysAt (HasSlots (message_slots kind header z)) more root
     → Grows more metadata → root_at metadata ≡ table_at metadata (length metadata - root) → IsPadded metadata → IsMetadata built header kind size metadata
-unfolding version_of kind_of header_table_of body_size_of
+unfolding version_of header_kind header_table_of body_size_of
 metadata_built built more metadata kind header size root z size_is g s h is padded =
     let t : HasSlots (message_slots kind header z) metadata (length metadata - root) = stands_later (HasSlots (message_slots kind header z)) more metadata root h s in
     record {

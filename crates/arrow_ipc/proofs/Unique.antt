@@ -13,7 +13,7 @@ use Rattle.arrow_ipc.specs.declared.messages.IpcMessage.TheVariants as content
 use Rattle.arrow_ipc.specs.declared.header.Header.{Header}
 use Rattle.arrow_ipc.specs.declared.header.Header.TheVariants as header
 use Rattle.arrow_ipc.specs.Batches.{BatchIn, IsBatch, lies_in}
-use Rattle.arrow_ipc.specs.Messages.{IsFramed, IsMessage, IsDictionary, IsContent, version_of, kind_of, header_table_of, body_size_of, is_known, kind_number}
+use Rattle.arrow_ipc.specs.Messages.{IsFramed, IsMessage, IsDictionary, IsContent, version_of, header_kind, header_table_of, body_size_of, is_known, kind_number}
 use Rattle.arrow_ipc.specs.Faults
 use Rattle.arrow_ipc.specs.Faults.{HasTable, HasHeader, HasBatch, HasBody, Stands}
 use Rattle.arrow_ipc.specs.Order as order
@@ -37,7 +37,7 @@ header_in table (content.Schema fields) = header.Schema table
 header_in table (content.Dictionary id delta batch) = header.Dictionary id delta batch
 header_in table (content.Rows batch) = header.Rows batch
 
-header_read : (table inner : TableIn) (part : List ℕ) (m : IpcMessage) → header_table_of table ≡ Ok (Some inner) → kind_of table ≡ Ok (kind_number m)
+header_read : (table inner : TableIn) (part : List ℕ) (m : IpcMessage) → header_table_of table ≡ Ok (Some inner) → header_kind table ≡ Ok (kind_number m)
     → IsContent inner part m → order.header_of table part ≡ Ok (header_in inner m)
 unfolding order.header_of
 header_read table inner part (content.Schema fields) h1 h2 h = rw (h2, h1) refl
@@ -100,7 +100,7 @@ same_header : (bytes : List ℕ) (m : IpcMessage) (size : ℕ) (h : IsMessage by
     → (kind ≡ kind_number m) × (table ≡ h.header)
 same_header bytes m size h kind table has =
     let same : has.table ≡ h.table = same_table bytes m size h has.table has.after has.has_table in
-    (cc (ap kind_of same, has.has_kind, h.kind), cc (ap header_table_of same, has.has_header, h.has_header))
+    (cc (ap header_kind same, has.has_kind, h.kind), cc (ap header_table_of same, has.has_header, h.has_header))
 
 same_size : (bytes : List ℕ) (m : IpcMessage) (size : ℕ) (h : IsMessage bytes m size) (n : ℕ) → HasBody bytes n → n ≡ length h.body
 same_size bytes m size h n (table, after, has, is) =
@@ -162,7 +162,7 @@ alone bytes m size e h (Faults.no_body table after n has is short) =
     omega (arith, inside, same_size bytes m size h n (table, after, has, is), same_after bytes m size h table after has, short)
 alone bytes m size e h (Faults.bad_root metadata fault f is) = cc (ap root_at (same_metadata bytes metadata h.metadata f h.framed), is, h.root)
 alone bytes m size e h (Faults.bad_version table after fault has is) = cc (ap version_of (same_table bytes m size h table after has), is, h.has_version)
-alone bytes m size e h (Faults.bad_kind table after fault has is) = cc (ap kind_of (same_table bytes m size h table after has), is, h.kind)
+alone bytes m size e h (Faults.bad_kind table after fault has is) = cc (ap header_kind (same_table bytes m size h table after has), is, h.kind)
 alone bytes m size e h (Faults.bad_header table after fault has is) = cc (ap header_table_of (same_table bytes m size h table after has), is, h.has_header)
 alone bytes m size e h (Faults.bad_body_size table after fault has is) =
     cc (ap body_size_of (same_table bytes m size h table after has), is, h.body_size)
@@ -187,7 +187,7 @@ alone bytes m size e h (Faults.outside table places n has body is bad) =
     true≢false (sym b.inside ∙ sym all_same ∙ bad)
 alone bytes m size e h (Faults.no_header table after has is) = cc (ap header_table_of (same_table bytes m size h table after has), is, h.has_header)
 alone bytes m size e h (Faults.unknown_kind table after kind has is one two three) =
-    known_kind m kind (cc (ap kind_of (same_table bytes m size h table after has), is, h.kind)) one two three
+    known_kind m kind (cc (ap header_kind (same_table bytes m size h table after has), is, h.kind)) one two three
 alone bytes m size e h (Faults.no_data table has is) = cc (is, (dictionary_told bytes m size h table has).is.has_table)
 alone bytes m size e h (Faults.bad_schema table refusal has is) =
     let told : (fields : SchemaSpec) × (schema_of table ≡ Ok fields) = schema_told bytes m size h table has in

@@ -14,21 +14,21 @@ pub record BatchIn : Type 0 where
   pub buffers : List (List ℕ)
 
 -- a struct of two 64-bit numbers: FieldNode (length, null count), Buffer (offset, length)
-abbrev pub pair_of : List ℕ → ℤ × ℤ
-pair_of part = (cast_signed w64 (little_number 8 part), cast_signed w64 (little_number 8 (drop 8 part)))
+abbrev pub struct_of : List ℕ → ℤ × ℤ
+struct_of part = (cast_signed w64 (little_number 8 part), cast_signed w64 (little_number 8 (drop 8 part)))
 
 -- the struct at a place of a vector
-abbrev pub pair_at : VectorIn → ℕ → ℤ × ℤ
-pair_at v i = pair_of (unwrap_or (element_part v i) [])
+abbrev pub struct_at : VectorIn → ℕ → ℤ × ℤ
+struct_at v i = struct_of (unwrap_or (element_part v i) [])
 
 -- the structs of a vector
-abbrev pub pairs_in : VectorIn → List (ℤ × ℤ)
-pairs_in v = map (pair_at v) (range_with_len 0 v.count)
+abbrev pub structs_in : VectorIn → List (ℤ × ℤ)
+structs_in v = map (struct_at v) (range_with_len 0 v.count)
 
 -- a vector that is absent has none
-abbrev pub pairs_of : Option VectorIn → List (ℤ × ℤ)
-pairs_of None = []
-pairs_of (Some v) = pairs_in v
+abbrev pub structs_of : Option VectorIn → List (ℤ × ℤ)
+structs_of None = []
+structs_of (Some v) = structs_in v
 
 -- a buffer from an offset on, of a length, lies in a body of this size
 abbrev pub lies_from : ℕ → ℤ → ℤ → Bool
@@ -43,19 +43,19 @@ abbrev pub buffer_in : List ℕ → ℤ × ℤ → List ℕ
 buffer_in body place = take (unsigned_abs place.1) (drop (unsigned_abs place.0) body)
 
 -- table RecordBatch: the number of rows (slot 0), the nodes (1), the places of the buffers (2)
-unfoldable pub rows_of : TableIn → Result ℤ FlatFault
-rows_of t = or_default (pos 0) (signed_slot w64 8 t 0)
+unfoldable pub row_count : TableIn → Result ℤ FlatFault
+row_count t = or_default (pos 0) (signed_slot w64 8 t 0)
 
 unfoldable pub nodes_of : TableIn → Result (List (ℤ × ℤ)) FlatFault
-nodes_of t = vector_slot 16 t 1 >>= λ nodes. Ok (pairs_of nodes)
+nodes_of t = vector_slot 16 t 1 >>= λ nodes. Ok (structs_of nodes)
 
 unfoldable pub places_of : TableIn → Result (List (ℤ × ℤ)) FlatFault
-places_of t = vector_slot 16 t 2 >>= λ buffers. Ok (pairs_of buffers)
+places_of t = vector_slot 16 t 2 >>= λ buffers. Ok (structs_of buffers)
 
 -- The table and the body hold this record batch: its rows aren't below zero, each buffer lies in the body, and none is
 -- compressed (slot 3 is absent).
 pub record IsBatch (table : TableIn) (body : List ℕ) (batch : BatchIn) : Type 0 where
-  pub rows : rows_of table ≡ Ok (pos batch.rows)
+  pub rows : row_count table ≡ Ok (pos batch.rows)
   pub nodes : nodes_of table ≡ Ok batch.nodes
   pub places : List (ℤ × ℤ)
   pub has_places : places_of table ≡ Ok places

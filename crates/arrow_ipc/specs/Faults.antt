@@ -7,8 +7,8 @@ use Rattle.arrow_schema.specs.declared.refusal.SchemaRefusal.{SchemaRefusal}
 use Rattle.arrow_schema.specs.Defects.{HasDefect}
 use Rattle.arrow_ipc.specs.declared.fault.IpcFault.{IpcFault}
 use Rattle.arrow_ipc.specs.declared.fault.IpcFault.TheVariants.{Cut, Flat, BadVersion, Compressed, BadBody, Unsupported, Schema, Memory}
-use Rattle.arrow_ipc.specs.Batches.{lies_in, rows_of, nodes_of, places_of}
-use Rattle.arrow_ipc.specs.Messages.{IsFramed, version_of, kind_of, header_table_of, body_size_of, is_known, id_of, data_of, delta_of}
+use Rattle.arrow_ipc.specs.Batches.{lies_in, row_count, nodes_of, places_of}
+use Rattle.arrow_ipc.specs.Messages.{IsFramed, version_of, header_kind, header_table_of, body_size_of, is_known, id_of, data_of, delta_of}
 
 -- the root table of the metadata, and how many bytes stand after the metadata
 pub record HasTable (bytes : List ℕ) (table : TableIn) (after : ℕ) : Type 0 where
@@ -22,7 +22,7 @@ pub record HasHeader (bytes : List ℕ) (kind : ℕ) (header : TableIn) : Type 0
   pub table : TableIn
   pub after : ℕ
   pub has_table : HasTable bytes table after
-  pub has_kind : kind_of table ≡ Ok kind
+  pub has_kind : header_kind table ≡ Ok kind
   pub has_header : header_table_of table ≡ Ok (Some header)
 
 -- a record batch: that of a record batch message, or the one inside a dictionary batch
@@ -41,7 +41,7 @@ pub data Stands (bytes : List ℕ) : IpcFault → Type 0 where
   -- a part that is needed can't be read: of the table Message ..
   bad_root : (metadata : List ℕ) (e : FlatFault) → IsFramed bytes metadata → root_at metadata ≡ Err e → Stands bytes (Flat e)
   bad_version : (table : TableIn) (after : ℕ) (e : FlatFault) → HasTable bytes table after → version_of table ≡ Err e → Stands bytes (Flat e)
-  bad_kind : (table : TableIn) (after : ℕ) (e : FlatFault) → HasTable bytes table after → kind_of table ≡ Err e → Stands bytes (Flat e)
+  bad_kind : (table : TableIn) (after : ℕ) (e : FlatFault) → HasTable bytes table after → header_kind table ≡ Err e → Stands bytes (Flat e)
   bad_header : (table : TableIn) (after : ℕ) (e : FlatFault) → HasTable bytes table after → header_table_of table ≡ Err e → Stands bytes (Flat e)
   bad_body_size : (table : TableIn) (after : ℕ) (e : FlatFault) → HasTable bytes table after → body_size_of table ≡ Err e → Stands bytes (Flat e)
   -- .. of the table DictionaryBatch ..
@@ -49,7 +49,7 @@ pub data Stands (bytes : List ℕ) : IpcFault → Type 0 where
   bad_data : (header : TableIn) (e : FlatFault) → HasHeader bytes 2 header → data_of header ≡ Err e → Stands bytes (Flat e)
   bad_delta : (header : TableIn) (e : FlatFault) → HasHeader bytes 2 header → delta_of header ≡ Err e → Stands bytes (Flat e)
   -- .. or of a table RecordBatch
-  bad_rows : (batch : TableIn) (e : FlatFault) → HasBatch bytes batch → rows_of batch ≡ Err e → Stands bytes (Flat e)
+  bad_rows : (batch : TableIn) (e : FlatFault) → HasBatch bytes batch → row_count batch ≡ Err e → Stands bytes (Flat e)
   bad_nodes : (batch : TableIn) (e : FlatFault) → HasBatch bytes batch → nodes_of batch ≡ Err e → Stands bytes (Flat e)
   bad_places : (batch : TableIn) (e : FlatFault) → HasBatch bytes batch → places_of batch ≡ Err e → Stands bytes (Flat e)
   -- the version is neither V4 nor V5
@@ -59,12 +59,12 @@ pub data Stands (bytes : List ℕ) : IpcFault → Type 0 where
   compressed : (batch : TableIn) → HasBatch bytes batch → IsSome (place_of batch 3) → Stands bytes Compressed
   -- the size of the body or the number of rows is below zero, or a buffer doesn't lie in the body
   negative_body : (table : TableIn) (after n : ℕ) → HasTable bytes table after → body_size_of table ≡ Ok (negsuc n) → Stands bytes BadBody
-  negative_rows : (batch : TableIn) (n : ℕ) → HasBatch bytes batch → rows_of batch ≡ Ok (negsuc n) → Stands bytes BadBody
+  negative_rows : (batch : TableIn) (n : ℕ) → HasBatch bytes batch → row_count batch ≡ Ok (negsuc n) → Stands bytes BadBody
   outside : (batch : TableIn) (places : List (ℤ × ℤ)) (size : ℕ) → HasBatch bytes batch → HasBody bytes size → places_of batch ≡ Ok places
       → list_all (lies_in size) places ≡ false → Stands bytes BadBody
   -- the header is absent or of another kind, or a dictionary batch has no data
   no_header : (table : TableIn) (after : ℕ) → HasTable bytes table after → header_table_of table ≡ Ok None → Stands bytes Unsupported
-  unknown_kind : (table : TableIn) (after kind : ℕ) → HasTable bytes table after → kind_of table ≡ Ok kind → kind ≢ 1 → kind ≢ 2 → kind ≢ 3 → Stands bytes Unsupported
+  unknown_kind : (table : TableIn) (after kind : ℕ) → HasTable bytes table after → header_kind table ≡ Ok kind → kind ≢ 1 → kind ≢ 2 → kind ≢ 3 → Stands bytes Unsupported
   no_data : (header : TableIn) → HasHeader bytes 2 header → data_of header ≡ Ok None → Stands bytes Unsupported
   -- the schema is refused
   bad_schema : (header : TableIn) (refusal : SchemaRefusal) → HasHeader bytes 1 header → HasDefect header refusal → Stands bytes (Schema refusal)

@@ -63,8 +63,8 @@ pub record Advances (old new : MessagesIn) (message : IpcMessage) : Type 0 where
   pub moved : new ≡ record { bytes = old.bytes; place = old.place + size; ended = false }
 
 -- it stays where it was, and reads no further
-abbrev pub Ends : MessagesIn → MessagesIn → Type 0
-Ends old new = new ≡ record { bytes = old.bytes; place = old.place; ended = true }
+abbrev pub ReadsNoFurther : MessagesIn → MessagesIn → Type 0
+ReadsNoFurther old new = new ≡ record { bytes = old.bytes; place = old.place; ended = true }
 
 -- no message stands in front, unless memory ran out
 abbrev pub EndsFront : List ℕ → IpcFault → Type 0
@@ -90,8 +90,8 @@ rows_found (Ok found) = rows_held found.header
 rows_found (Err fault) = None
 
 -- the batch of the record batch message that stands at the start of the bytes
-unfoldable pub rows_in : List ℕ → Option BatchIn
-rows_in bytes = rows_found (order.find bytes)
+unfoldable pub record_batch_in : List ℕ → Option BatchIn
+record_batch_in bytes = rows_found (order.find bytes)
 
 -- a record batch message stands at the start of the bytes
 abbrev pub HasRows : List ℕ → BatchIn → Type 0

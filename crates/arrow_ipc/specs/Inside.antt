@@ -5,10 +5,10 @@ use Rattle.flat_tables.specs.Tables.{VectorIn}
 use Rattle.arrow_ipc.specs.declared.batch.BatchView.TheInside as batch
 use Rattle.arrow_ipc.specs.declared.messages.Messages.TheInside as messages
 use Rattle.arrow_ipc.specs.Fronts.{MessagesIn}
-use Rattle.arrow_ipc.specs.Batches.{BatchIn, pairs_of, lies_in, buffer_in}
+use Rattle.arrow_ipc.specs.Batches.{BatchIn, structs_of, lies_in, buffer_in}
 
 abbrev pub batch_in : batch.Inside → BatchIn
-batch_in b = record { rows = b.rows; nodes = pairs_of b.nodes; buffers = map (buffer_in b.body.now) (pairs_of b.buffers) }
+batch_in b = record { rows = b.rows; nodes = structs_of b.nodes; buffers = map (buffer_in b.body.now) (structs_of b.buffers) }
 
 -- a vector of structs of two 64-bit numbers
 abbrev pub HasPairs : Option VectorIn → Type 0
@@ -19,7 +19,7 @@ HasPairs (Some v) = v.width ≡ 16
 pub record IsBatchInside (b : batch.Inside) : Type 0 where
   pub nodes : HasPairs b.nodes
   pub buffers : HasPairs b.buffers
-  pub inside : list_all (lies_in (length b.body.now)) (pairs_of b.buffers) ≡ true
+  pub inside : list_all (lies_in (length b.body.now)) (structs_of b.buffers) ≡ true
 
 abbrev pub messages_in : messages.Inside → MessagesIn
 messages_in m = record { bytes = m.bytes.now; place = m.place; ended = m.ended }

@@ -6,8 +6,8 @@ use Rattle.byteorder.specs.Endian.{little_bytes}
 use Rattle.flat_tables.specs.Bytes.{◌>>=◌}
 use Rattle.flat_tables.specs.Tables.{TableIn, root_at, table_at, place_of}
 use Rattle.flat_tables.specs.Building.{Grows, IsPadded}
-use Rattle.arrow_ipc.specs.Batches.{rows_of, nodes_of, places_of}
-use Rattle.arrow_ipc.specs.Messages.{continuation, version_of, kind_of, header_table_of, body_size_of}
+use Rattle.arrow_ipc.specs.Batches.{row_count, nodes_of, places_of}
+use Rattle.arrow_ipc.specs.Messages.{continuation, version_of, header_kind, header_table_of, body_size_of}
 use Rattle.arrow_ipc.specs.Written.{padded, version_5, message_sizes, IsTableOf, IsBatchAligned}
 
 -- numbers of 64 bits
@@ -34,7 +34,7 @@ laid_out metadata body =
 
 -- a table says this of a batch
 pub record HoldsBatch (rows : ℕ) (nodes places : List (ℤ × ℤ)) (table : TableIn) : Type 0 where
-  pub has_rows : rows_of table ≡ Ok (pos rows)
+  pub has_rows : row_count table ≡ Ok (pos rows)
   pub has_nodes : nodes_of table ≡ Ok nodes
   pub has_places : places_of table ≡ Ok places
   pub plain : place_of table 3 ≡ None
@@ -52,7 +52,7 @@ pub record IsMetadata (built : List ℕ) (header kind size : ℕ) (metadata : Li
   pub table : TableIn
   pub root : root_at metadata ≡ Ok table
   pub has_version : version_of table ≡ Ok version_5
-  pub has_kind : kind_of table ≡ Ok kind
+  pub has_kind : header_kind table ≡ Ok kind
   pub has_header : header_table_of table ≡ (table_at metadata (length metadata - header) >>= λ inner. Ok (Some inner))
   pub has_size : body_size_of table ≡ Ok (pos size)
   pub aligned : IsTableOf message_sizes table

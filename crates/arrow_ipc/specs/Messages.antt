@@ -23,8 +23,8 @@ pub record IsFramed (bytes metadata : List ℕ) : Type 0 where
 unfoldable pub version_of : TableIn → Result ℤ FlatFault
 version_of t = or_default (pos 0) (signed_slot w16 2 t 0)
 
-unfoldable pub kind_of : TableIn → Result ℕ FlatFault
-kind_of t = or_default 0 (byte_slot t 1)
+unfoldable pub header_kind : TableIn → Result ℕ FlatFault
+header_kind t = or_default 0 (byte_slot t 1)
 
 unfoldable pub header_table_of : TableIn → Result (Option TableIn) FlatFault
 header_table_of t = table_slot t 2
@@ -75,7 +75,7 @@ pub record IsMessage (bytes : List ℕ) (message : IpcMessage) (size : ℕ) : Ty
   pub version : ℤ
   pub has_version : version_of table ≡ Ok version
   pub known : is_known version ≡ true
-  pub kind : kind_of table ≡ Ok (kind_number message)
+  pub kind : header_kind table ≡ Ok (kind_number message)
   pub header : TableIn
   pub has_header : header_table_of table ≡ Ok (Some header)
   pub body : List ℕ

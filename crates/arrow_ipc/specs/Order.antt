@@ -15,7 +15,7 @@ use Rattle.arrow_ipc.specs.declared.header.Header.TheVariants as header
 use Rattle.arrow_ipc.specs.declared.header.Found.{Found}
 use Rattle.arrow_ipc.specs.declared.messages.IpcMessage.{IpcMessage}
 use Rattle.arrow_ipc.specs.declared.messages.IpcMessage.TheVariants as content
-use Rattle.arrow_ipc.specs.Batches.{BatchIn, lies_in, buffer_in, rows_of, nodes_of, places_of}
+use Rattle.arrow_ipc.specs.Batches.{BatchIn, lies_in, buffer_in, row_count, nodes_of, places_of}
 use Rattle.arrow_ipc.specs.Messages as messages
 
 infixl 10 ◌>>=◌
@@ -60,7 +60,7 @@ check_buffers places part = if list_all (lies_in (length part)) places then Ok t
 
 unfoldable pub batch_of : TableIn → List ℕ → Result BatchIn IpcFault
 batch_of table part =
-    flat (rows_of table) >>= natural >>= λ rows.
+    flat (row_count table) >>= natural >>= λ rows.
     flat (nodes_of table) >>= λ nodes.
     flat (places_of table) >>= λ places.
     check_buffers places part >>= λ _.
@@ -84,7 +84,7 @@ header_by kind table part =
 
 unfoldable pub header_of : TableIn → List ℕ → Result Header IpcFault
 header_of table part =
-    flat (messages.kind_of table) >>= λ kind.
+    flat (messages.header_kind table) >>= λ kind.
     flat (messages.header_table_of table) >>= present >>= λ inner.
     header_by kind inner part
 

@@ -1,6 +1,6 @@
 ghost use Rattle.std.specs.Prelude.{◌≡◌, ◌≤◌, true, length, slice_get, Some};
 ghost use Rattle.std.specs.Option.{option_copied};
-ghost use Rattle.arrow_ipc.specs.Batches.{pair_of, pairs_in, lies_in, buffer_in};
+ghost use Rattle.arrow_ipc.specs.Batches.{struct_of, structs_in, lies_in, buffer_in};
 
 use byteorder::{ByteOrder, LittleEndian};
 use flat_tables::VectorView;
@@ -55,7 +55,7 @@ impl<'a> BatchView<'a> {
 #[tactic(auto, using(crate::proofs::Pairs::slice_get_pairs))]
 pub(crate) fn pair_at(vector: &VectorView<'_>, place: u32) -> Option<(i64, i64)>
     requires { vector.now.width ≡ 16 }
-    ensures { result ≡ slice_get (pairs_in vector.now) place }
+    ensures { result ≡ slice_get (structs_in vector.now) place }
 {
     let part = vector.part(place)?;
     Some(pair_of(part))
@@ -63,7 +63,7 @@ pub(crate) fn pair_at(vector: &VectorView<'_>, place: u32) -> Option<(i64, i64)>
 
 fn pair_of(part: &[u8]) -> (i64, i64)
     requires { 16 ≤ length part.now }
-    ensures { result ≡ pair_of part.now }
+    ensures { result ≡ struct_of part.now }
 {
     (
         LittleEndian::read_i64(part),

@@ -1,7 +1,7 @@
 ghost use Rattle.std.specs.Prelude.{◌≡◌, ◌+◌, ◌≤◌, length, IfOk, OnOk};
 ghost use Rattle.std.specs.List.{list_all};
 ghost use Rattle.flat_tables.specs.Bytes.{part_at, number_at};
-ghost use Rattle.arrow_ipc.specs.Batches.{pairs_in, pairs_of, lies_in};
+ghost use Rattle.arrow_ipc.specs.Batches.{structs_in, structs_of, lies_in};
 ghost use Rattle.arrow_ipc.specs.Inside.{HasPairs};
 ghost use Rattle.arrow_ipc.specs.Returned.{Gives};
 ghost use Rattle.arrow_ipc.specs.Order as order;
@@ -112,7 +112,7 @@ fn body<'a>(bytes: &'a [u8], place: usize, table: &TableView<'_>) -> Result<&'a 
     Ok(body)
 }
 
-#[tactic(auto, unfolding(crate::specs::Order::header_of, crate::specs::Messages::kind_of, crate::specs::Messages::header_table_of))]
+#[tactic(auto, unfolding(crate::specs::Order::header_of, crate::specs::Messages::header_kind, crate::specs::Messages::header_table_of))]
 fn header_of<'a>(table: &TableView<'a>, body: &'a [u8]) -> Result<Header<'a>, IpcFault>
     ensures { result ≡ order.header_of table.now body.now }
 {
@@ -137,7 +137,7 @@ fn dictionary_of<'a>(table: &TableView<'a>, body: &'a [u8]) -> Result<Header<'a>
     Ok(Header::Dictionary { id, delta, batch })
 }
 
-#[tactic(auto, unfolding(crate::specs::Order::batch_of, crate::specs::Batches::rows_of, crate::specs::Batches::nodes_of, crate::specs::Batches::places_of))]
+#[tactic(auto, unfolding(crate::specs::Order::batch_of, crate::specs::Batches::row_count, crate::specs::Batches::nodes_of, crate::specs::Batches::places_of))]
 fn batch_of<'a>(table: &TableView<'a>, body: &'a [u8]) -> Result<BatchView<'a>, IpcFault>
     ensures { result ≡ order.batch_of table.now body.now }
 {
@@ -158,7 +158,7 @@ fn batch_of<'a>(table: &TableView<'a>, body: &'a [u8]) -> Result<BatchView<'a>, 
 
 fn check_buffers(buffers: &Option<VectorView<'_>>, body: &[u8]) -> Result<(), IpcFault>
     requires { HasPairs buffers.now }
-    ensures { result ≡ order.check_buffers (pairs_of buffers.now) body.now }
+    ensures { result ≡ order.check_buffers (structs_of buffers.now) body.now }
 {
     match buffers {
         Some(buffers) if !all_lie_in(buffers, body.len()) => Err(IpcFault::BadBody),
@@ -169,7 +169,7 @@ fn check_buffers(buffers: &Option<VectorView<'_>>, body: &[u8]) -> Result<(), Ip
 /// Whether each buffer lies in a body of this size.
 fn all_lie_in(buffers: &VectorView<'_>, size: usize) -> bool
     requires { buffers.now.width ≡ 16 }
-    ensures { result ≡ list_all (lies_in size) (pairs_in buffers.now) }
+    ensures { result ≡ list_all (lies_in size) (structs_in buffers.now) }
 {
     for place in 0..buffers.len() {
         let buffer = pair_at(buffers, place).unwrap();

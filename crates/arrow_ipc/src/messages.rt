@@ -2,7 +2,7 @@ ghost use Rattle.std.specs.Prelude.{◌≡◌, ◌≢◌, ◌+◌, ◌<◌, ◌�
 ghost use Rattle.arrow_ipc.specs.Batches.{BatchIn};
 ghost use Rattle.arrow_ipc.specs.Messages.{IsMessage};
 ghost use Rattle.arrow_ipc.specs.Faults.{Refuses};
-ghost use Rattle.arrow_ipc.specs.Fronts.{rest_of, Advances, Ends, TakesFirst, rows_in, HasRows};
+ghost use Rattle.arrow_ipc.specs.Fronts.{rest_of, Advances, ReadsNoFurther, TakesFirst, record_batch_in, HasRows};
 ghost use Rattle.arrow_ipc.specs.Returned.{RefusesHeader};
 ghost use Rattle.arrow_ipc.specs.Order as order;
 
@@ -72,7 +72,7 @@ impl<'a> Messages<'a> {
     /// memory.
     pub fn next(&mut self, alloc: Global) -> Option<Result<IpcMessage<'a>, IpcFault>>
         ensures message { IfSome result (λ r. IfOk r (Advances self.old self.new)) }
-        ensures fault { IfSome result (λ r. IfErr r (λ fault. Refuses (rest_of self.old) fault × Ends self.old self.new)) }
+        ensures fault { IfSome result (λ r. IfErr r (λ fault. Refuses (rest_of self.old) fault × ReadsNoFurther self.old self.new)) }
         ensures end { IsNone result ↔ (rest_of self.old ≡ []) }
         ensures stays { IfNone result (self.new ≡ self.old) }
         ensures shorter { OnSome result (length (rest_of self.new) < length (rest_of self.old)) }
@@ -131,7 +131,7 @@ fn rest(bytes: &[u8], place: usize) -> &[u8]
 /// The record batch message that stands at a place; `None` where no such message stands there
 /// without a fault. It takes no memory.
 pub fn rows_at<'a>(bytes: &'a [u8], place: usize) -> Option<BatchView<'a>>
-    ensures value { result ≡ rows_in (drop place bytes.now) }
+    ensures value { result ≡ record_batch_in (drop place bytes.now) }
     ensures some { IfSome result (HasRows (drop place bytes.now)) }
     ensures none { IfNone result ((batch : BatchIn) → HasRows (drop place bytes.now) batch → ⊥) }
 {
@@ -139,9 +139,9 @@ pub fn rows_at<'a>(bytes: &'a [u8], place: usize) -> Option<BatchView<'a>>
     batch
 }
 
-#[tactic(auto, unfolding(crate::specs::Fronts::rows_in))]
+#[tactic(auto, unfolding(crate::specs::Fronts::record_batch_in))]
 fn rows(bytes: &[u8]) -> Option<BatchView<'_>>
-    ensures { result ≡ rows_in bytes.now }
+    ensures { result ≡ record_batch_in bytes.now }
 {
     match find(bytes) {
         Ok(

@@ -1,11 +1,11 @@
 -- Schemas of columns can be read.
 use Rattle.std.specs.Prelude.{◌≡◌, ℕ, zero, suc, ◌*◌, Bool, true, List, [], ◌∷◌, ◌++◌, length, map, codes, Option, None, Some, ℤ}
 use Rattle.std.specs.Str.{is_utf8}
+use Rattle.std.specs.Str.{IsAscii}
 use Rattle.std.specs.List.{list_all}
 use Rattle.std.specs.Ordering.{int_eq}
 use Rattle.std.proofs.Common.{refl, sym, ap, ◌∙◌, subst, inl, inr, arith}
-use Rattle.std.proofs.lemmas.Bool.{cases_Bool}
-use Rattle.std.specs.Str.{IsAscii}
+use Rattle.std.proofs.lemmas.Bool.{cases_Bool, and_parts}
 use Rattle.std.proofs.lemmas.Str.{IsUtf8-from_ascii, is_utf8-from_IsUtf8}
 use Rattle.std.proofs.lemmas.Bool.Decides.{Decides-int_eq}
 use Rattle.std.proofs.Math.Bool.{or-true}
@@ -16,12 +16,11 @@ use Rattle.arrow_schema.specs.declared.spec.Encoding.TheVariants as encoding
 use Rattle.arrow_schema.specs.declared.spec.FieldSpec.{FieldSpec}
 use Rattle.arrow_schema.specs.declared.agreement.Use.{Use}
 use Rattle.arrow_schema.specs.Types.{is_struct, is_element_type, same_type}
-use Rattle.arrow_schema.specs.Trees.{sum_of, field_with, name_in, count_in, count_of, use_of, uses_in, uses_of, agrees, agrees_with, uses_agree, lacks_name, names_differ}
+use Rattle.arrow_schema.specs.Trees.{sum_of, field_with, name_in, field_count, count_of, use_of, uses_in, uses_of, agrees, agrees_with, uses_agree, lacks_name, names_differ}
 use Rattle.arrow_schema.specs.Readable.{is_supported, fits_dictionary, is_element, fits_children, is_readable, are_readable, IsReadable}
-use Rattle.arrow_schema.specs.Branches.{Leaf, Branch, One, Under, items_of, leaf_field, branch_field, fields_of, lacks, are_apart, name_of_branch, items_in}
+use Rattle.arrow_schema.specs.Branches.{Leaf, Branch, One, Under, branch_items, leaf_field, branch_field, branch_fields, lacks, are_apart, name_of_branch, items_in}
 use Rattle.arrow_schema.specs.Branches.{leaf_size, branch_size, leaf_names, branch_names, is_branch_named, FitsTypes, FitsItem, IsLeaf, AreLeaves, IsBranch, AreEach, AreBranches}
 use Rattle.arrow_schema.specs.Writing.{names_in, names_of, is_named, named_in, encodings_named}
-use Rattle.arrow_schema.proofs.Steps.{both_true}
 use Rattle.arrow_schema.proofs.Clear.{element_is}
 use Rattle.arrow_schema.proofs.FieldTrees.{names_in_is, named_in_is}
 use Rattle.arrow_schema.proofs.Folds.{name_in_is, kind_in_is, dict_in_is, encoding_in_is, children_in_is, count_in_is, uses_in_is}
@@ -39,7 +38,7 @@ differ_same field name is [] = refl
 differ_same field name is (x ∷ xs) = rw (is x, lacks_same field name is (name x) xs, differ_same field name is xs) refl
 
 leaf_name : (l : Leaf) → name_in (leaf_field l) ≡ l.name
-leaf_name l = name_in_is l.name l.kind l.dict l.encoding (items_of l.item)
+leaf_name l = name_in_is l.name l.kind l.dict l.encoding (branch_items l.item)
 
 branch_name : (b : Branch) → name_in (branch_field b) ≡ name_of_branch b
 branch_name (One l) = leaf_name l
@@ -70,7 +69,7 @@ one_name : (f : FieldSpec) → names_differ (f ∷ []) ≡ true
 unfolding names_differ
 one_name f = refl
 
-items_readable : (depth : ℕ) (kind : ArrowType) (item : Option ArrowType) → FitsItem kind item → are_readable (suc depth) (items_of item) ≡ true
+items_readable : (depth : ℕ) (kind : ArrowType) (item : Option ArrowType) → FitsItem kind item → are_readable (suc depth) (branch_items item) ≡ true
 unfolding are_readable
 items_readable depth kind None h = none_readable (suc depth)
 items_readable depth kind (Some item) h = rw (one_name (field_with (codes "item") item None encoding.None []), item_readable depth item h.1) refl
@@ -79,7 +78,7 @@ item_fits : (kind : ArrowType) → is_element_type kind ≡ true → is_element 
 item_fits kind h =
     rw (kind_in_is (codes "item") kind None encoding.None [], dict_in_is (codes "item") kind None encoding.None [], h) refl
 
-items_fit : (kind : ArrowType) (item : Option ArrowType) → FitsItem kind item → fits_children kind (items_of item) ≡ true
+items_fit : (kind : ArrowType) (item : Option ArrowType) → FitsItem kind item → fits_children kind (branch_items item) ≡ true
 items_fit kind None h = rw (h, or-true (is_struct kind)) refl
 items_fit kind (Some item) h = rw (h.0, item_fits item h.1) refl
 
@@ -89,7 +88,7 @@ dict_fits types kind (Some dict) h = h.0
 
 leaf_readable : (depth : ℕ) (types : ℤ → ArrowType) (l : Leaf) → IsLeaf types l → is_readable (are_readable (suc depth)) (leaf_field l) ≡ true
 leaf_readable depth types l h =
-    readable_with (suc depth) l.name l.kind l.dict l.encoding (items_of l.item) h.text h.supported (dict_fits types l.kind l.dict h.dictionary)
+    readable_with (suc depth) l.name l.kind l.dict l.encoding (branch_items l.item) h.text h.supported (dict_fits types l.kind l.dict h.dictionary)
     (items_fit l.kind l.item h.item) (items_readable depth l.kind l.item h.item)
 
 leaves_readable : (depth : ℕ) (types : ℤ → ArrowType) (leaves : List Leaf) → AreLeaves types leaves → list_all (is_readable (are_readable (suc depth))) (map leaf_field leaves) ≡ true
@@ -104,29 +103,29 @@ branch_readable types (Under name leaves) h =
     let inner : are_readable 2 (map leaf_field leaves) ≡ true = rw (apart, leaves_readable 0 types leaves h.2) refl in
     readable_with 2 name Struct None encoding.None (map leaf_field leaves) h.0 refl refl refl inner
 
-each_readable : (types : ℤ → ArrowType) (branches : List Branch) → AreEach types branches → list_all (is_readable (are_readable 2)) (fields_of branches) ≡ true
+each_readable : (types : ℤ → ArrowType) (branches : List Branch) → AreEach types branches → list_all (is_readable (are_readable 2)) (branch_fields branches) ≡ true
 each_readable types [] h = refl
 each_readable types (b ∷ branches) h = rw (branch_readable types b h.0, each_readable types branches h.1) refl
 
 -- ---- the count
-items_count : (item : Option ArrowType) → count_of (items_of item) ≡ items_in item
+items_count : (item : Option ArrowType) → count_of (branch_items item) ≡ items_in item
 items_count None = refl
 items_count (Some kind) =
     omega (arith, count_in_is (field_with (codes "item") kind None encoding.None []), ap count_of (children_in_is (codes "item") kind None encoding.None []))
 
-leaf_count : (l : Leaf) → count_in (leaf_field l) ≡ leaf_size l
-leaf_count l = omega (arith, count_in_is (leaf_field l), ap count_of (children_in_is l.name l.kind l.dict l.encoding (items_of l.item)), items_count l.item)
+leaf_count : (l : Leaf) → field_count (leaf_field l) ≡ leaf_size l
+leaf_count l = omega (arith, count_in_is (leaf_field l), ap count_of (children_in_is l.name l.kind l.dict l.encoding (branch_items l.item)), items_count l.item)
 
 leaves_count : (leaves : List Leaf) → count_of (map leaf_field leaves) ≡ sum_of (map leaf_size leaves)
 leaves_count [] = refl
 leaves_count (l ∷ leaves) = omega (arith, leaf_count l, leaves_count leaves)
 
-branch_count : (b : Branch) → count_in (branch_field b) ≡ branch_size b
+branch_count : (b : Branch) → field_count (branch_field b) ≡ branch_size b
 branch_count (One l) = leaf_count l
 branch_count (Under name leaves) =
     omega (arith, count_in_is (branch_field (Under name leaves)), ap count_of (children_in_is name Struct None encoding.None (map leaf_field leaves)), leaves_count leaves)
 
-pub branches_count : (branches : List Branch) → count_of (fields_of branches) ≡ sum_of (map branch_size branches)
+pub branches_count : (branches : List Branch) → count_of (branch_fields branches) ≡ sum_of (map branch_size branches)
 branches_count [] = refl
 branches_count (b ∷ branches) = omega (arith, branch_count b, branches_count branches)
 
@@ -167,7 +166,7 @@ own_typed : (types : ℤ → ArrowType) (kind : ArrowType) (dict : Option DictSp
 own_typed types kind None h = tt
 own_typed types kind (Some dict) h = (h.1, tt)
 
-items_use_none : (item : Option ArrowType) → uses_of (items_of item) ≡ []
+items_use_none : (item : Option ArrowType) → uses_of (branch_items item) ≡ []
 items_use_none None = refl
 items_use_none (Some kind) =
     let f = field_with (codes "item") kind None encoding.None [] in
@@ -179,9 +178,9 @@ leaf_typed types l h =
     let f = leaf_field l in
     let uses : uses_in f ≡ use_of l.kind l.dict ++ [] =
     uses_in_is f ∙ rw (
-      kind_in_is l.name l.kind l.dict l.encoding (items_of l.item),
-      dict_in_is l.name l.kind l.dict l.encoding (items_of l.item),
-      children_in_is l.name l.kind l.dict l.encoding (items_of l.item),
+      kind_in_is l.name l.kind l.dict l.encoding (branch_items l.item),
+      dict_in_is l.name l.kind l.dict l.encoding (branch_items l.item),
+      children_in_is l.name l.kind l.dict l.encoding (branch_items l.item),
       items_use_none l.item,
     ) refl in
     subst (AreTyped types) (sym uses) (typed_both types (use_of l.kind l.dict) [] (own_typed types l.kind l.dict h.dictionary) tt)
@@ -198,20 +197,20 @@ branch_typed types (Under name leaves) h =
     uses_in_is f ∙ rw (dict_in_is name Struct None encoding.None (map leaf_field leaves), children_in_is name Struct None encoding.None (map leaf_field leaves)) refl in
     subst (AreTyped types) (sym uses) (leaves_typed types leaves h.2)
 
-each_typed : (types : ℤ → ArrowType) (branches : List Branch) → AreEach types branches → AreTyped types (uses_of (fields_of branches))
+each_typed : (types : ℤ → ArrowType) (branches : List Branch) → AreEach types branches → AreTyped types (uses_of (branch_fields branches))
 each_typed types [] h = tt
-each_typed types (b ∷ branches) h = typed_both types (uses_in (branch_field b)) (uses_of (fields_of branches)) (branch_typed types b h.0) (each_typed types branches h.1)
+each_typed types (b ∷ branches) h = typed_both types (uses_in (branch_field b)) (uses_of (branch_fields branches)) (branch_typed types b h.0) (each_typed types branches h.1)
 
-pub branches_readable : (types : ℤ → ArrowType) (branches : List Branch) → AreBranches types branches → IsReadable (fields_of branches)
+pub branches_readable : (types : ℤ → ArrowType) (branches : List Branch) → AreBranches types branches → IsReadable (branch_fields branches)
 unfolding are_readable
 branches_readable types branches h = record {
   count = omega (arith, branches_count branches, h.few);
   each = rw (differ_same branch_field name_of_branch branch_name branches ∙ h.apart, each_readable types branches h.each) refl;
-  uses = typed_agree types (uses_of (fields_of branches)) (each_typed types branches h.each);
+  uses = typed_agree types (uses_of (branch_fields branches)) (each_typed types branches h.each);
 }
 
 -- ---- what they are written with
-items_named : (item : Option ArrowType) → encodings_named (items_of item) ≡ true
+items_named : (item : Option ArrowType) → encodings_named (branch_items item) ≡ true
 items_named None = refl
 items_named (Some kind) =
     let f = field_with (codes "item") kind None encoding.None [] in
@@ -222,12 +221,12 @@ items_named (Some kind) =
 leaf_named : (l : Leaf) → is_named l.encoding ≡ true → named_in (leaf_field l) ≡ true
 leaf_named l h =
     named_in_is (leaf_field l)
-    ∙ rw (encoding_in_is l.name l.kind l.dict l.encoding (items_of l.item), children_in_is l.name l.kind l.dict l.encoding (items_of l.item), h, items_named l.item) refl
+    ∙ rw (encoding_in_is l.name l.kind l.dict l.encoding (branch_items l.item), children_in_is l.name l.kind l.dict l.encoding (branch_items l.item), h, items_named l.item) refl
 
 leaves_named : (leaves : List Leaf) → list_all (λ l. is_named l.encoding) leaves ≡ true → encodings_named (map leaf_field leaves) ≡ true
 leaves_named [] h = refl
 leaves_named (l ∷ leaves) h =
-    let both = both_true (is_named l.encoding) (list_all (λ l. is_named l.encoding) leaves) h in
+    let both = and_parts (is_named l.encoding) (list_all (λ l. is_named l.encoding) leaves) h in
     rw (leaf_named l both.0, leaves_named leaves both.1) refl
 
 branch_named : (b : Branch) → is_branch_named b ≡ true → named_in (branch_field b) ≡ true
@@ -236,13 +235,13 @@ branch_named (Under name leaves) h =
     named_in_is (branch_field (Under name leaves))
     ∙ rw (encoding_in_is name Struct None encoding.None (map leaf_field leaves), children_in_is name Struct None encoding.None (map leaf_field leaves), leaves_named leaves h) refl
 
-pub branches_named : (branches : List Branch) → list_all is_branch_named branches ≡ true → encodings_named (fields_of branches) ≡ true
+pub branches_named : (branches : List Branch) → list_all is_branch_named branches ≡ true → encodings_named (branch_fields branches) ≡ true
 branches_named [] h = refl
 branches_named (b ∷ branches) h =
-    let both = both_true (is_branch_named b) (list_all is_branch_named branches) h in
+    let both = and_parts (is_branch_named b) (list_all is_branch_named branches) h in
     rw (branch_named b both.0, branches_named branches both.1) refl
 
-items_names : (item : Option ArrowType) → names_of (items_of item) ≡ 4 * items_in item
+items_names : (item : Option ArrowType) → names_of (branch_items item) ≡ 4 * items_in item
 items_names None = refl
 items_names (Some kind) =
     let f = field_with (codes "item") kind None encoding.None [] in
@@ -250,7 +249,7 @@ items_names (Some kind) =
 
 leaf_names_are : (l : Leaf) → names_in (leaf_field l) ≡ leaf_names l
 leaf_names_are l =
-    omega (arith, names_in_is (leaf_field l), ap length (leaf_name l), ap names_of (children_in_is l.name l.kind l.dict l.encoding (items_of l.item)), items_names l.item)
+    omega (arith, names_in_is (leaf_field l), ap length (leaf_name l), ap names_of (children_in_is l.name l.kind l.dict l.encoding (branch_items l.item)), items_names l.item)
 
 leaves_names : (leaves : List Leaf) → names_of (map leaf_field leaves) ≡ sum_of (map leaf_names leaves)
 leaves_names [] = refl
@@ -267,6 +266,6 @@ branch_names_are (Under name leaves) =
       leaves_names leaves,
     )
 
-pub branches_names : (branches : List Branch) → names_of (fields_of branches) ≡ sum_of (map branch_names branches)
+pub branches_names : (branches : List Branch) → names_of (branch_fields branches) ≡ sum_of (map branch_names branches)
 branches_names [] = refl
 branches_names (b ∷ branches) = omega (arith, branch_names_are b, branches_names branches)

@@ -2,8 +2,9 @@
 use Rattle.std.specs.Prelude.{◌≡◌, ◌≢◌, ◌⊎◌, ℕ, ◌<◌, ◌&&◌, ◌||◌, not, Bool, true, false, List, [], ◌∷◌, slice_index_or, Ok, Option, None, Some, ℤ, pos}
 use Rattle.std.specs.Str.{is_utf8}
 use Rattle.std.proofs.Common.{length, if◌then◌else◌, eqb, inl, inr, refl, sym, ap, ◌∙◌, subst, arith}
-use Rattle.std.proofs.lemmas.Bool.{eq-eqb, eqb-true}
+use Rattle.std.proofs.lemmas.Bool.{eq-eqb, eqb-true, and_parts}
 use Rattle.std.proofs.lemmas.Str.{IsUtf8-from_is_utf8}
+use Rattle.lists.proofs.Truths.{and_false}
 use Rattle.flat_tables.specs.declared.fault.FlatFault.{FlatFault}
 use Rattle.flat_tables.specs.Tables.{TableIn, VectorIn, vector_slot}
 use Rattle.arrow_schema.specs.declared.spec.ArrowType.{ArrowType}
@@ -16,7 +17,6 @@ use Rattle.arrow_schema.specs.Says.{SaysNumbers, SaysIndex, SaysDict, SaysDictio
 use Rattle.arrow_schema.specs.Says as saying
 use Rattle.arrow_schema.specs.Trees.{kind_in, dict_in}
 use Rattle.arrow_schema.specs.Readable.{is_supported, fits_dictionary, has_none, is_element, is_one_element, no_fields, fits_children}
-use Rattle.arrow_schema.proofs.Steps.{both_true, and_false}
 use Rattle.arrow_schema.proofs.Elements.{same_vector, one_of}
 use Rattle.arrow_schema.proofs.Metadata.{no_metadata_fault}
 use Rattle.arrow_schema.proofs.FieldParts.{OwnDefect, faulty, unsupported, no_text}
@@ -211,11 +211,11 @@ element_is (Int bits signed) h = inl (int_is bits signed h)
 
     int_is : (bits : ℕ) (signed : Bool) → (eqb bits 64 && not signed) ≡ true → Int bits signed ≡ Int 64 false
     int_is bits true h = absurd (cc (h, and_false (eqb bits 64)))
-    int_is bits false h = width_is bits false ((both_true (eqb bits 64) true h).0) refl
+    int_is bits false h = width_is bits false ((and_parts (eqb bits 64) true h).0) refl
 element_is Double h = inr refl
 element_is kind h = cc (h)
 
-has_no_dict : (dict : Option DictSpec) → has_none dict ≡ true → dict ≡ None
+pub has_no_dict : (dict : Option DictSpec) → has_none dict ≡ true → dict ≡ None
 has_no_dict None h = refl
 has_no_dict (Some dict) h = cc (h)
 
@@ -297,7 +297,7 @@ no_unsupported t name kind dict children encoding tables c has say fits (defects
     other (omega (arith, say.long, one, counted children_slot t tables v has slot))
 no_unsupported t name kind dict children encoding tables c has say fits (defects.UnsupportedField.other_child u k child bad) =
     let one = one_child t u children tables has say (list_fits t kind children c.has_kind k fits) child in
-    let both = both_true (is_element_type (kind_in one.0)) (has_none (dict_in one.0)) one.1.fits in
+    let both = and_parts (is_element_type (kind_in one.0)) (has_none (dict_in one.0)) one.1.fits in
     no_bad_element u one.0 one.1.says_it both.0 both.1 bad
 
 -- a field that is read has no defect of its own

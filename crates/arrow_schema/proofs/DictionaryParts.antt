@@ -12,7 +12,7 @@ use Rattle.arrow_schema.specs.Types.{type_number, takes_dictionary, is_number}
 use Rattle.arrow_schema.specs.Slots.{kind_slot, dictionary_slot, dictionary_id, index_slot, index_width, index_sign}
 use Rattle.arrow_schema.specs.Says.{SaysIndex, SaysDict, SaysDictionary}
 use Rattle.arrow_schema.specs.Readable.{fits_dictionary}
-use Rattle.arrow_schema.specs.Reading.{flat, where_supported, is_wide, index_of, dict_of, dictionary_in, dictionary_of}
+use Rattle.arrow_schema.specs.Reading.{flat, where_supported, is_wide_index, index_type_of, dict_of, dict_spec_in, dict_spec_of}
 use Rattle.arrow_schema.specs.Defects.{DictionaryFault, of_table, of_id, of_index}
 use Rattle.arrow_schema.specs.Defects.{of_index_width, of_index_sign, FieldFault, of_dictionary}
 use Rattle.arrow_schema.specs.Defects.{takes_no_dictionary, UnsupportedField, no_index, other_index, signed_index}
@@ -36,20 +36,20 @@ index_reads u bits false width sign fits = elim (either (is_number 8 bits) (is_n
       subst (λ (z : ℤ). SaysIndex u (is_number 16 z)) (sym is) (record { width = width ∙ ap Ok is; sign = sign })
 ]
 
-wide_reads : (u : TableIn) (wide : Bool) → is_wide u ≡ Ok wide → SaysIndex u wide
-unfolding is_wide
+wide_reads : (u : TableIn) (wide : Bool) → is_wide_index u ≡ Ok wide → SaysIndex u wide
+unfolding is_wide_index
 wide_reads u wide h =
     let a = bind_ok (flat (index_width u)) _ wide h in
     let b = bind_ok (flat (index_sign u)) _ wide a.2 in
     let s = supported_ok (not b.0 && (is_number 8 a.0 || is_number 16 a.0)) (is_number 16 a.0) wide b.2 in
     subst (SaysIndex u) s.1 (index_reads u a.0 b.0 (flat_ok (index_width u) a.0 a.1) (flat_ok (index_sign u) b.0 b.1) s.0)
 
-wide_says : (u : TableIn) (wide : Bool) → SaysIndex u wide → is_wide u ≡ Ok wide
-unfolding is_wide
+wide_says : (u : TableIn) (wide : Bool) → SaysIndex u wide → is_wide_index u ≡ Ok wide
+unfolding is_wide_index
 wide_says u true says = rw (says.width, says.sign) refl
 wide_says u false says = rw (says.width, says.sign) refl
 
-index_of_reads : (found : Option TableIn) (wide : Bool) → index_of found ≡ Ok wide → (u : TableIn) × (found ≡ Some u) × SaysIndex u wide
+index_of_reads : (found : Option TableIn) (wide : Bool) → index_type_of found ≡ Ok wide → (u : TableIn) × (found ≡ Some u) × SaysIndex u wide
 index_of_reads None wide h = cc (h)
 index_of_reads (Some u) wide h = (u, refl, wide_reads u wide h)
 
@@ -57,8 +57,8 @@ dict_reads : (d : TableIn) (dict : DictSpec) → dict_of d ≡ Ok dict → SaysD
 unfolding dict_of
 dict_reads d dict h =
     let a = bind_ok (flat (dictionary_id d)) _ dict h in
-    let w = bind_ok (flat (index_slot d) >>= index_of) _ dict a.2 in
-    let f = bind_ok (flat (index_slot d)) index_of w.0 w.1 in
+    let w = bind_ok (flat (index_slot d) >>= index_type_of) _ dict a.2 in
+    let f = bind_ok (flat (index_slot d)) index_type_of w.0 w.1 in
     let u = index_of_reads f.0 w.0 f.2 in
     let is : record { id = a.0; wide = w.0 } ≡ dict = cc (w.2) in
     subst (SaysDict d) is (record {
@@ -72,13 +72,13 @@ dict_says : (d : TableIn) (dict : DictSpec) → SaysDict d dict → dict_of d �
 unfolding dict_of
 dict_says d dict says = rw (says.id, says.at, wide_says says.index dict.wide says.says) refl
 
-pub dictionary_reads : (t : TableIn) (kind : ArrowType) (dict : Option DictSpec) → dictionary_of kind t ≡ Ok dict → SaysDictionary t dict × (fits_dictionary kind dict ≡ true)
-unfolding dictionary_of
+pub dictionary_reads : (t : TableIn) (kind : ArrowType) (dict : Option DictSpec) → dict_spec_of kind t ≡ Ok dict → SaysDictionary t dict × (fits_dictionary kind dict ≡ true)
+unfolding dict_spec_of
 dictionary_reads t kind dict h =
-    let a = bind_ok (flat (dictionary_slot t)) (dictionary_in kind) dict h in
+    let a = bind_ok (flat (dictionary_slot t)) (dict_spec_in kind) dict h in
     found_reads t kind dict a.0 (flat_ok (dictionary_slot t) a.0 a.1) a.2
   where
-    found_reads : (t : TableIn) (kind : ArrowType) (dict : Option DictSpec) (found : Option TableIn) → dictionary_slot t ≡ Ok found → dictionary_in kind found ≡ Ok dict
+    found_reads : (t : TableIn) (kind : ArrowType) (dict : Option DictSpec) (found : Option TableIn) → dictionary_slot t ≡ Ok found → dict_spec_in kind found ≡ Ok dict
         → SaysDictionary t dict × (fits_dictionary kind dict ≡ true)
     found_reads t kind dict None slot h =
         let is : None ≡ dict = cc (h) in
@@ -91,8 +91,8 @@ dictionary_reads t kind dict h =
         subst (λ (dict : Option DictSpec). SaysDictionary t dict × (fits_dictionary kind dict ≡ true)) is
         ((d, slot, dict_reads d w.0 (ap dict_of s.1 ∙ f.2)), s.0)
 
-pub dictionary_says : (t : TableIn) (kind : ArrowType) (dict : Option DictSpec) → SaysDictionary t dict → fits_dictionary kind dict ≡ true → dictionary_of kind t ≡ Ok dict
-unfolding dictionary_of
+pub dictionary_says : (t : TableIn) (kind : ArrowType) (dict : Option DictSpec) → SaysDictionary t dict → fits_dictionary kind dict ≡ true → dict_spec_of kind t ≡ Ok dict
+unfolding dict_spec_of
 dictionary_says t kind None says fits = rw says refl
 dictionary_says t kind (Some dict) says fits = rw (says.1, fits, dict_says says.0 dict says.2) refl
 
@@ -117,8 +117,8 @@ other_sign : (t d u : TableIn) (bits : ℤ) (signed : Bool) → dictionary_slot 
 other_sign t d u bits true slot index width sign fits = signed_index d u slot index sign
 other_sign t d u bits false slot index width sign fits = other_index d u bits slot index width fits
 
-index_refused : (t d u : TableIn) (e : SchemaRefusal) → dictionary_slot t ≡ Ok (Some d) → index_slot d ≡ Ok (Some u) → is_wide u ≡ Err e → OwnDefect t e
-unfolding is_wide
+index_refused : (t d u : TableIn) (e : SchemaRefusal) → dictionary_slot t ≡ Ok (Some d) → index_slot d ≡ Ok (Some u) → is_wide_index u ≡ Err e → OwnDefect t e
+unfolding is_wide_index
 index_refused t d u e slot index h = elim (bind_err (flat (index_width u)) _ e h) [
   | inl fault ↦ own_dictionary_fault t (index_width u) e (λ f r. of_index_width d u slot index r) fault
   | inr a ↦ elim (bind_err (flat (index_sign u)) _ e a.2) [
@@ -129,7 +129,7 @@ index_refused t d u e slot index h = elim (bind_err (flat (index_width u)) _ e h
   ]
 ]
 
-index_of_refused : (t d : TableIn) (found : Option TableIn) (e : SchemaRefusal) → dictionary_slot t ≡ Ok (Some d) → index_slot d ≡ Ok found → index_of found ≡ Err e → OwnDefect t e
+index_of_refused : (t d : TableIn) (found : Option TableIn) (e : SchemaRefusal) → dictionary_slot t ≡ Ok (Some d) → index_slot d ≡ Ok found → index_type_of found ≡ Err e → OwnDefect t e
 index_of_refused t d None e slot index h = own_unsupported t e (no_index d slot index) (cc (h))
 index_of_refused t d (Some u) e slot index h = index_refused t d u e slot index h
 
@@ -137,8 +137,8 @@ dict_refused : (t d : TableIn) (e : SchemaRefusal) → dictionary_slot t ≡ Ok 
 unfolding dict_of
 dict_refused t d e slot h = elim (bind_err (flat (dictionary_id d)) _ e h) [
   | inl fault ↦ own_dictionary_fault t (dictionary_id d) e (λ f r. of_id d slot r) fault
-  | inr a ↦ elim (bind_err (flat (index_slot d) >>= index_of) _ e a.2) [
-    | inl fails ↦ elim (bind_err (flat (index_slot d)) index_of e fails) [
+  | inr a ↦ elim (bind_err (flat (index_slot d) >>= index_type_of) _ e a.2) [
+    | inl fails ↦ elim (bind_err (flat (index_slot d)) index_type_of e fails) [
       | inl fault ↦ own_dictionary_fault t (index_slot d) e (λ f r. of_index d slot r) fault
       | inr b ↦ index_of_refused t d b.0 e slot (flat_ok (index_slot d) b.0 b.1) b.2
     ]
@@ -147,7 +147,7 @@ dict_refused t d e slot h = elim (bind_err (flat (dictionary_id d)) _ e h) [
 ]
 
 in_refused : (t : TableIn) (kind : ArrowType) (found : Option TableIn) (e : SchemaRefusal) → kind_slot t ≡ Ok (type_number kind) → dictionary_slot t ≡ Ok found
-    → dictionary_in kind found ≡ Err e → OwnDefect t e
+    → dict_spec_in kind found ≡ Err e → OwnDefect t e
 in_refused t kind None e read slot h = cc (h)
 in_refused t kind (Some d) e read slot h = elim (bind_err (where_supported (takes_dictionary kind) d >>= dict_of) _ e h) [
   | inl fails ↦ elim (bind_err (where_supported (takes_dictionary kind) d) dict_of e fails) [
@@ -161,9 +161,9 @@ in_refused t kind (Some d) e read slot h = elim (bind_err (where_supported (take
   | inr b ↦ cc (b.2)
 ]
 
-pub dictionary_refused : (t : TableIn) (kind : ArrowType) (e : SchemaRefusal) → kind_slot t ≡ Ok (type_number kind) → dictionary_of kind t ≡ Err e → OwnDefect t e
-unfolding dictionary_of
-dictionary_refused t kind e read h = elim (bind_err (flat (dictionary_slot t)) (dictionary_in kind) e h) [
+pub dictionary_refused : (t : TableIn) (kind : ArrowType) (e : SchemaRefusal) → kind_slot t ≡ Ok (type_number kind) → dict_spec_of kind t ≡ Err e → OwnDefect t e
+unfolding dict_spec_of
+dictionary_refused t kind e read h = elim (bind_err (flat (dictionary_slot t)) (dict_spec_in kind) e h) [
   | inl fault ↦ own_dictionary_fault t (dictionary_slot t) e (λ f r. of_table r) fault
   | inr b ↦ in_refused t kind b.0 e read (flat_ok (dictionary_slot t) b.0 b.1) b.2
 ]

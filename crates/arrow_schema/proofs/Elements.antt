@@ -2,13 +2,14 @@
 use Rattle.std.specs.Prelude.{◌≡◌, ℕ, ◌+◌, ◌*◌, ◌<◌, ◌≤◌, List, length, slice_index_or, Ok, Option, None, Some}
 use Rattle.std.proofs.Common.{refl, sym, ap, subst, inl, inr, arith}
 use Rattle.std.proofs.lemmas.Bool.{cases_lt, lt-ltb, le-ltb}
+use Rattle.lists.proofs.Equals.{ok_is}
 use Rattle.flat_tables.specs.declared.fault.FlatFault.{FlatFault}
 use Rattle.flat_tables.specs.Bytes.{◌>>=◌}
 use Rattle.flat_tables.specs.Tables.{TableIn, VectorIn, vector_slot, element_table, element_place, referred, table_at, each}
 use Rattle.arrow_schema.specs.Says.{HasElements, HasTables}
 use Rattle.arrow_schema.specs.Defects.{IsChild, VectorFault}
 use Rattle.arrow_schema.specs.Defects as defects
-use Rattle.arrow_schema.proofs.Steps.{bind_ok, ok_is}
+use Rattle.arrow_schema.proofs.Steps.{bind_ok}
 
 -- an element that is there refers to something
 no_table : (v : VectorIn) (place : ℕ) → (table_at v.bytes place >>= λ t. Ok (Some t)) ≡ Ok None → ⊥

@@ -1,6 +1,7 @@
 -- Where tables say a schema within the limits, no defect stands.
 use Rattle.std.specs.Prelude.{◌≡◌, ℕ, zero, suc, ◌+◌, ◌<◌, ◌≤◌, true, false, List, [], ◌∷◌, length, slice_index_or, Ok, Option, None, Some, ℤ, pos}
 use Rattle.std.proofs.Common.{refl, sym, ap, ◌∙◌, subst, inl, inr, arith}
+use Rattle.std.proofs.lemmas.Bool.{and_parts}
 use Rattle.flat_tables.specs.declared.fault.FlatFault.{FlatFault}
 use Rattle.flat_tables.specs.Tables.{TableIn, VectorIn, element_table, each}
 use Rattle.arrow_schema.specs.Limits.{max_depth}
@@ -12,7 +13,7 @@ use Rattle.arrow_schema.specs.declared.refusal.SchemaRefusal.TheVariants.{Flat, 
 use Rattle.arrow_schema.specs.declared.agreement.Use.{Use}
 use Rattle.arrow_schema.specs.Types.{type_number, is_number}
 use Rattle.arrow_schema.specs.Slots.{name_slot, kind_slot, dictionary_id, fields_slot, children_slot}
-use Rattle.arrow_schema.specs.Trees.{name_in, kind_in, dict_in, encoding_in, children_in, count_in, count_of, names_differ, use_of, uses_in, uses_of}
+use Rattle.arrow_schema.specs.Trees.{name_in, kind_in, dict_in, encoding_in, children_in, field_count, count_of, names_differ, use_of, uses_in, uses_of}
 use Rattle.arrow_schema.specs.Says.{SaysNumbers, SaysDictionary, SaysEncoding, HasElements, HasTables, SaysField, says, SayFields, SaysSchema}
 use Rattle.arrow_schema.specs.Readable.{no_fields, is_readable, are_readable, IsReadable}
 use Rattle.arrow_schema.specs.Reading.{schema_of}
@@ -24,7 +25,6 @@ use Rattle.arrow_schema.proofs.Folds.{count_in_is, uses_in_is}
 use Rattle.arrow_schema.proofs.FieldParts.{OwnDefect, faulty, unsupported, no_text, type_says}
 use Rattle.arrow_schema.proofs.Clear.{IsClear, no_own_defect}
 use Rattle.arrow_schema.proofs.Found.{schema_found}
-use Rattle.arrow_schema.proofs.Steps.{both_true}
 use Rattle.arrow_schema.proofs.Only.{Tests, tests_of}
 use Rattle.arrow_schema.proofs.Lists.{names_once, IsIn, in_left, in_right, use_in, uses_alike}
 use Rattle.arrow_schema.proofs.UsesStand.{readable_at}
@@ -121,7 +121,7 @@ own_of schema fields _ _ _ s r (defects.IsParent.field depth t f) =
 -- ---- the count
 below_none : (count : TableIn → ℕ) (v : VectorIn) (place : ℕ) (tables : List TableIn) (fields : List FieldSpec) → SayFields tables fields
     → ((i : ℕ) (d : TableIn) → i < length tables → element_table v (place + i) ≡ Ok (Some (slice_index_or tables i d)))
-    → ((i : ℕ) (u : TableIn) (g : FieldSpec) → i < length tables → count (slice_index_or tables i u) + 1 ≤ count_in (slice_index_or fields i g))
+    → ((i : ℕ) (u : TableIn) (g : FieldSpec) → i < length tables → count (slice_index_or tables i u) + 1 ≤ field_count (slice_index_or fields i g))
     → length tables + below_elements count v place (length tables) ≤ count_of fields
 unfolding below_elements
 below_none count v place [] [] say at each_is = omega arith
@@ -129,14 +129,14 @@ below_none count v place [] (f ∷ fields) say at each_is = absurd (omega (arith
 below_none count v place (t ∷ tables) [] say at each_is = absurd (omega (arith, say.long))
 below_none count v place (t ∷ tables) (f ∷ fields) say at each_is =
     let here : element_table v place ≡ Ok (Some t) = ap (element_table v) (omega arith) ∙ at 0 t (omega arith) in
-    let one : count t + 1 ≤ count_in f = each_is 0 t f (omega arith) in
+    let one : count t + 1 ≤ field_count f = each_is 0 t f (omega arith) in
     let same_size : length tables ≡ length fields = omega (arith, say.long) in
     let others = below_none count v (place + 1) tables fields (record { long = same_size; each = λ i u g lt. say.each (suc i) u g (omega arith) })
     (λ i d lt. ap (element_table v) (omega arith) ∙ at (suc i) d (omega arith)) (λ i u g lt. each_is (suc i) u g (omega arith)) in
     rw here (omega (arith, one, others))
 
 slot_below : (depth slot : ℕ) (t : TableIn) (tables : List TableIn) (fields : List FieldSpec) → HasTables slot t tables → SayFields tables fields
-    → ((i : ℕ) (u : TableIn) (g : FieldSpec) → i < length tables → fields_below depth children_slot (slice_index_or tables i u) + 1 ≤ count_in (slice_index_or fields i g))
+    → ((i : ℕ) (u : TableIn) (g : FieldSpec) → i < length tables → fields_below depth children_slot (slice_index_or tables i u) + 1 ≤ field_count (slice_index_or fields i g))
     → fields_below (suc depth) slot t ≤ count_of fields
 unfolding fields_below
 slot_below depth slot t tables fields (inl empty) say each_is = rw empty.0 (omega arith)
@@ -145,7 +145,7 @@ slot_below depth slot t tables fields (inr h) say each_is =
     let all = subst (λ (n : ℕ). n + below_elements (fields_below depth children_slot) h.0 0 n ≤ count_of fields) (sym h.2.count) b in
     rw h.1 all
 
-below_field : (depth : ℕ) (t : TableIn) (f : FieldSpec) → SaysField t f → fields_below depth children_slot t + 1 ≤ count_in f
+below_field : (depth : ℕ) (t : TableIn) (f : FieldSpec) → SaysField t f → fields_below depth children_slot t + 1 ≤ field_count f
 unfolding fields_below
 below_field zero _ _ (says t f tables n k numbers d e has long each) = omega (arith, count_in_is f)
 below_field (suc depth) _ _ (says t f tables n k numbers d e has long each) =
@@ -195,7 +195,7 @@ named_so tables own v i t f name say e lt at named =
 own_names : (level : ℕ) (f : FieldSpec) (own : List FieldSpec) → are_readable level (f ∷ own) ≡ true → names_differ (f ∷ own) ≡ true
 unfolding are_readable
 own_names zero f own h = cc (h)
-own_names (suc level) f own h = (both_true (names_differ (f ∷ own)) _ h).0
+own_names (suc level) f own h = (and_parts (names_differ (f ∷ own)) _ h).0
 
 not_twice : (own : List FieldSpec) (tables : List TableIn) (v : VectorIn) (i j : ℕ) (t u : TableIn) (name : List ℕ) (level : ℕ) → SayFields tables own → HasElements v tables
     → are_readable level own ≡ true → i < j → i < length tables → j < length tables → element_table v i ≡ Ok (Some t) → element_table v j ≡ Ok (Some u) → name_slot t ≡ Ok name

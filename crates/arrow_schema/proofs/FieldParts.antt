@@ -5,6 +5,7 @@ use Rattle.std.proofs.Common.{refl, sym, ap, ◌∙◌, subst, inl, inr, eqb}
 use Rattle.std.proofs.lemmas.Bool.{eqb-true}
 use Rattle.std.proofs.lemmas.Bool.Decides.{eqb_tells}
 use Rattle.std.proofs.lemmas.Str.{is_utf8-from_IsUtf8}
+use Rattle.lists.proofs.Truths.{chosen}
 use Rattle.flat_tables.specs.declared.fault.FlatFault.{FlatFault}
 use Rattle.flat_tables.specs.Tables.{TableIn}
 use Rattle.arrow_schema.specs.declared.spec.ArrowType.{ArrowType}
@@ -15,12 +16,12 @@ use Rattle.arrow_schema.specs.Types.{type_number, is_number, is_int_width, is_fi
 use Rattle.arrow_schema.specs.Slots.{name_slot, kind_slot, int_width, int_sign, precision, timestamp_unit, duration_unit, byte_width}
 use Rattle.arrow_schema.specs.Says.{SaysNumbers}
 use Rattle.arrow_schema.specs.Readable.{is_supported}
-use Rattle.arrow_schema.specs.Reading.{flat, name_of, int_of, fixed_of, number_of, type_with, type_of}
+use Rattle.arrow_schema.specs.Reading.{flat, name_of, int_type_of, fixed_type_of, numbered_type, type_with, type_of}
 use Rattle.arrow_schema.specs.Defects.{TypeFault, of_width, of_sign, of_precision, of_timestamp, of_fixed, of_duration}
 use Rattle.arrow_schema.specs.Defects.{FieldFault, of_name, of_kind, of_type, UnsupportedType, other_type, other_width, other_precision}
 use Rattle.arrow_schema.specs.Defects.{other_timestamp, other_fixed, other_duration, UnsupportedField}
 use Rattle.arrow_schema.specs.Defects as defects
-use Rattle.arrow_schema.proofs.Steps.{bind_ok, bind_err, flat_ok, flat_err, supported_ok, supported_err, chosen}
+use Rattle.arrow_schema.proofs.Steps.{bind_ok, bind_err, flat_ok, flat_err, supported_ok, supported_err}
 
 -- a defect of one field, whatever is around it
 pub data OwnDefect (t : TableIn) : SchemaRefusal → Type 0 where
@@ -130,8 +131,8 @@ view_of n = elim (eqb_tells n 2) [
 abbrev Typed : TableIn → ℕ → ArrowType → Type 0
 Typed t n kind = (n ≡ type_number kind) × SaysNumbers t kind × (is_supported kind ≡ true)
 
-int_reads : (t : TableIn) (kind : ArrowType) → int_of t ≡ Ok kind → Typed t 2 kind
-unfolding int_of
+int_reads : (t : TableIn) (kind : ArrowType) → int_type_of t ≡ Ok kind → Typed t 2 kind
+unfolding int_type_of
 int_reads t kind h =
     let a = bind_ok (flat (int_width t)) _ kind h in
     let b = bind_ok (flat (int_sign t)) _ kind a.2 in
@@ -142,8 +143,8 @@ int_reads t kind h =
     int_typed t (pos n) signed width sign fits = (refl, (width, sign), fits)
     int_typed t (negsuc n) signed width sign fits = cc (fits)
 
-fixed_reads : (t : TableIn) (kind : ArrowType) → fixed_of t ≡ Ok kind → Typed t 15 kind
-unfolding fixed_of
+fixed_reads : (t : TableIn) (kind : ArrowType) → fixed_type_of t ≡ Ok kind → Typed t 15 kind
+unfolding fixed_type_of
 fixed_reads t kind h =
     let a = bind_ok (flat (byte_width t)) _ kind h in
     let s = supported_ok (is_fixed_width a.0) (Fixed (unsigned_abs a.0)) kind a.2 in
@@ -158,8 +159,8 @@ pub number_is : (n : ℕ) (z : ℤ) → is_number n z ≡ true → z ≡ pos n
 number_is n (pos m) h = ap pos (eqb-true m n h)
 number_is n (negsuc m) h = cc (h)
 
-number_reads : (n : ℕ) (kind found : ArrowType) (read : Result ℤ FlatFault) → number_of n kind read ≡ Ok found → (read ≡ Ok (pos n)) × (kind ≡ found)
-unfolding number_of
+number_reads : (n : ℕ) (kind found : ArrowType) (read : Result ℤ FlatFault) → numbered_type n kind read ≡ Ok found → (read ≡ Ok (pos n)) × (kind ≡ found)
+unfolding numbered_type
 number_reads n kind found read h =
     let a = bind_ok (flat read) _ found h in
     let s = supported_ok (is_number n a.0) kind found a.2 in
@@ -190,7 +191,7 @@ int_width_is : (bits : ℕ) (signed : Bool) → is_supported (Int bits signed) �
 int_width_is bits signed h = h
 
 pub type_says : (t : TableIn) (kind : ArrowType) → kind_slot t ≡ Ok (type_number kind) → SaysNumbers t kind → is_supported kind ≡ true → type_of t ≡ Ok kind
-unfolding type_of type_with int_of fixed_of number_of
+unfolding type_of type_with int_type_of fixed_type_of numbered_type
 type_says t (Int bits signed) read says fits = rw (read, says.0, says.1, int_width_is bits signed fits) refl
 type_says t (Fixed width) read says fits = rw (read, says, fits) refl
 type_says t Double read says fits = rw (read, says) refl
@@ -208,8 +209,8 @@ own_type_fault t r e fault h = own_fault t r e (λ f is. of_type (fault f is)) h
 own_type : (t : TableIn) (e : SchemaRefusal) → UnsupportedType t → e ≡ Unsupported → OwnDefect t e
 own_type t e h is = own_unsupported t e (defects.UnsupportedField.of_type h) is
 
-int_refused : (t : TableIn) (e : SchemaRefusal) → kind_slot t ≡ Ok 2 → int_of t ≡ Err e → OwnDefect t e
-unfolding int_of
+int_refused : (t : TableIn) (e : SchemaRefusal) → kind_slot t ≡ Ok 2 → int_type_of t ≡ Err e → OwnDefect t e
+unfolding int_type_of
 int_refused t e kind h = elim (bind_err (flat (int_width t)) _ e h) [
   | inl fault ↦ own_type_fault t (int_width t) e (λ f r. of_width kind r) fault
   | inr a ↦ elim (bind_err (flat (int_sign t)) _ e a.2) [
@@ -220,8 +221,8 @@ int_refused t e kind h = elim (bind_err (flat (int_width t)) _ e h) [
   ]
 ]
 
-fixed_refused : (t : TableIn) (e : SchemaRefusal) → kind_slot t ≡ Ok 15 → fixed_of t ≡ Err e → OwnDefect t e
-unfolding fixed_of
+fixed_refused : (t : TableIn) (e : SchemaRefusal) → kind_slot t ≡ Ok 15 → fixed_type_of t ≡ Err e → OwnDefect t e
+unfolding fixed_type_of
 fixed_refused t e kind h = elim (bind_err (flat (byte_width t)) _ e h) [
   | inl fault ↦ own_type_fault t (byte_width t) e (λ f r. of_fixed kind r) fault
   | inr a ↦
@@ -230,8 +231,8 @@ fixed_refused t e kind h = elim (bind_err (flat (byte_width t)) _ e h) [
 ]
 
 number_refused : (t : TableIn) (n : ℕ) (kind : ArrowType) (read : Result ℤ FlatFault) (e : SchemaRefusal) → ((f : FlatFault) → read ≡ Err f → TypeFault f t)
-    → ((z : ℤ) → read ≡ Ok z → is_number n z ≡ false → UnsupportedType t) → number_of n kind read ≡ Err e → OwnDefect t e
-unfolding number_of
+    → ((z : ℤ) → read ≡ Ok z → is_number n z ≡ false → UnsupportedType t) → numbered_type n kind read ≡ Err e → OwnDefect t e
+unfolding numbered_type
 number_refused t n kind read e fault differs h = elim (bind_err (flat read) _ e h) [
   | inl f ↦ own_type_fault t read e fault f
   | inr a ↦

@@ -3,11 +3,11 @@ use Rattle.std.specs.Prelude.{IsTrue, Bool, ◌&&◌}
 use Rattle.std.specs.List.{list_all}
 use Rattle.std.proofs.Common.{◌≡◌, ◌≤◌, ℕ, zero, suc, arith, ◌+◌, ◌<◌, List, [], ◌∷◌, ◌++◌, map, length, drop, get_or, append_assoc, refl, sym, ap, ◌∙◌, rules}
 use Rattle.std.proofs.lemmas.List.{at_drop_more}
+use Rattle.std.proofs.lemmas.Bool.{and_parts}
 use Rattle.arrow_schema.specs.declared.spec.FieldSpec.{FieldSpec, the_lemmas}
 use Rattle.arrow_schema.specs.declared.agreement.Use.{Use}
-use Rattle.arrow_schema.specs.Trees.{sum_of, count_in, count_of, use_of, uses_in, uses_of, name_in, kind_in, dict_in, encoding_in, children_in}
+use Rattle.arrow_schema.specs.Trees.{sum_of, field_count, count_of, use_of, uses_in, uses_of, name_in, kind_in, dict_in, encoding_in, children_in}
 use Rattle.arrow_schema.specs.Writing.{names_in, names_of, fits_width, widths_in, widths_fit, is_named, named_in, encodings_named}
-use Rattle.arrow_schema.proofs.Steps.{both_true}
 use Rattle.arrow_schema.proofs.Folds.{count_in_is, uses_in_is}
 
 pub push_step : (before between after all : List Use) (fs : List FieldSpec) (i : ℕ) (f : FieldSpec) (children : List FieldSpec) → i < length fs → f ≡ get_or fs i f → children ≡ children_in f
@@ -43,23 +43,23 @@ pub named_in_is : (f : FieldSpec) → named_in f ≡ (is_named (encoding_in f) &
 named_in_is f = search (rules, the_lemmas, named_all)
 
 pub named_below : (f : FieldSpec) → IsTrue (named_in f) → IsTrue (is_named (encoding_in f)) × IsTrue (encodings_named (children_in f))
-named_below f h = both_true (is_named (encoding_in f)) (encodings_named (children_in f)) (sym (named_in_is f) ∙ h)
+named_below f h = and_parts (is_named (encoding_in f)) (encodings_named (children_in f)) (sym (named_in_is f) ∙ h)
 
 pub widths_below : (f : FieldSpec) → IsTrue (widths_in f) → IsTrue (widths_fit (children_in f))
-widths_below f h = (both_true (fits_width (kind_in f)) (widths_fit (children_in f)) (sym (widths_in_is f) ∙ h)).1
+widths_below f h = (and_parts (fits_width (kind_in f)) (widths_fit (children_in f)) (sym (widths_in_is f) ∙ h)).1
 
 -- what a field costs, in bytes of names and in fields, and what the fields from a place on do
-pub costs : (f : FieldSpec) → (names_in f ≡ length (name_in f) + names_of (children_in f)) × (count_in f ≡ 1 + count_of (children_in f))
+pub costs : (f : FieldSpec) → (names_in f ≡ length (name_in f) + names_of (children_in f)) × (field_count f ≡ 1 + count_of (children_in f))
 costs f = (names_in_is f, count_in_is f)
 
 pub costs_more : (fs : List FieldSpec) (i : ℕ) (f : FieldSpec) → i < length fs → f ≡ get_or fs i f
-    → (names_of (drop i fs) ≡ names_in f + names_of (drop (i + 1) fs)) × (count_of (drop i fs) ≡ count_in f + count_of (drop (i + 1) fs))
+    → (names_of (drop i fs) ≡ names_in f + names_of (drop (i + 1) fs)) × (count_of (drop i fs) ≡ field_count f + count_of (drop (i + 1) fs))
 costs_more fs i f lt is = (
   at_drop_more names_of fs i f lt ∙ ap (λ (g : FieldSpec). names_in g + names_of (drop (i + 1) fs)) (sym is),
-  at_drop_more count_of fs i f lt ∙ ap (λ (g : FieldSpec). count_in g + count_of (drop (i + 1) fs)) (sym is),
+  at_drop_more count_of fs i f lt ∙ ap (λ (g : FieldSpec). field_count g + count_of (drop (i + 1) fs)) (sym is),
 )
 
-pub counts_in : (fs : List FieldSpec) (i : ℕ) (f : FieldSpec) → i < length fs → f ≡ get_or fs i f → count_in f ≤ count_of fs
+pub counts_in : (fs : List FieldSpec) (i : ℕ) (f : FieldSpec) → i < length fs → f ≡ get_or fs i f → field_count f ≤ count_of fs
 counts_in [] i f lt is = absurd (omega (arith, lt))
 counts_in (g ∷ fs) zero f lt is = rw is (omega arith)
 counts_in (g ∷ fs) (suc i) f lt is = omega (arith, counts_in fs i f (omega (arith, lt)) is)

@@ -4,6 +4,8 @@ use Rattle.std.specs.Str.{is_utf8}
 use Rattle.std.specs.List.{list_all}
 use Rattle.std.proofs.Common.{refl, sym, ap, ◌∙◌, subst, inl, inr, get_or, arith}
 use Rattle.std.proofs.lemmas.Bool.{eqb-true, ltb-false}
+use Rattle.lists.proofs.Truths.{chosen}
+use Rattle.lists.proofs.Equals.{ok_is, pair_is}
 use Rattle.flat_tables.specs.Bytes.{◌>>=◌}
 use Rattle.flat_tables.specs.Tables.{TableIn, VectorIn, vector_slot, element_table}
 use Rattle.arrow_schema.specs.Limits.{max_depth, max_fields}
@@ -15,12 +17,12 @@ use Rattle.arrow_schema.specs.declared.refusal.SchemaRefusal.{SchemaRefusal}
 use Rattle.arrow_schema.specs.declared.refusal.SchemaRefusal.TheVariants.{TooManyFields, TooDeep, BadName, DictionaryTypes}
 use Rattle.arrow_schema.specs.Types.{type_number, is_number}
 use Rattle.arrow_schema.specs.Slots.{name_slot, kind_slot, byte_order, fields_slot, children_slot}
-use Rattle.arrow_schema.specs.Trees.{count_in, count_of, uses_of, uses_agree, names_differ, field_with}
+use Rattle.arrow_schema.specs.Trees.{field_count, count_of, uses_of, uses_agree, names_differ, field_with}
 use Rattle.arrow_schema.specs.Says.{SaysNumbers, SaysDictionary, SaysEncoding, HasElements, HasTables, SaysField, says, SayFields, SaysSchema}
 use Rattle.arrow_schema.specs.Readable.{is_supported, fits_dictionary, fits_children, is_readable, are_readable, IsReadable}
-use Rattle.arrow_schema.specs.Reading.{flat, where_supported, name_of, type_of, dictionary_of, encoding_of, FieldsRead, in_slot}
+use Rattle.arrow_schema.specs.Reading.{flat, where_supported, name_of, type_of, dict_spec_of, encoding_of, FieldsRead, in_slot}
 use Rattle.arrow_schema.specs.Reading.{slot_of, field_of, of_element, fields_from, with_own_names, vector_of, with_agreeing_uses, schema_of}
-use Rattle.arrow_schema.proofs.Steps.{bind_ok, flat_ok, supported_ok, chosen, ok_is, pair_is}
+use Rattle.arrow_schema.proofs.Steps.{bind_ok, flat_ok, supported_ok}
 use Rattle.arrow_schema.proofs.Folds.{name_in_is, kind_in_is, dict_in_is, encoding_in_is, children_in_is, count_in_is}
 use Rattle.arrow_schema.proofs.Elements.{element_there}
 use Rattle.arrow_schema.proofs.Metadata.{encoding_reads}
@@ -38,7 +40,7 @@ pub record VectorSays (depth left : ℕ) (v : VectorIn) (fields : List FieldSpec
 pub record FieldSays (depth left : ℕ) (t : TableIn) (f : FieldSpec) (rest : ℕ) : Type 0 where
   pub says_it : SaysField t f
   pub readable : is_readable (are_readable depth) f ≡ true
-  pub left_is : left + 1 ≡ rest + count_in f
+  pub left_is : left + 1 ≡ rest + field_count f
 
 pub record SlotSays (depth slot left : ℕ) (t : TableIn) (fields : List FieldSpec) (rest : ℕ) : Type 0 where
   pub tables : List TableIn
@@ -102,7 +104,7 @@ slot_says depth vector slot left t fields rest h =
     found_says depth vector slot left t fields rest b.0 (flat_ok (vector_slot 4 t slot) b.0 b.1) b.2
 
 field_made : (depth left : ℕ) (t : TableIn) (name : List ℕ) (kind : ArrowType) (dict : Option DictSpec) (encoding : Encoding) (children : List FieldSpec) (rest : ℕ) → VectorsSay depth
-    → name_of t ≡ Ok name → type_of t ≡ Ok kind → dictionary_of kind t ≡ Ok dict → encoding_of t ≡ Ok encoding → slot_of (vector_of depth) children_slot left t ≡ Ok (children, rest) → fits_children kind children ≡ true
+    → name_of t ≡ Ok name → type_of t ≡ Ok kind → dict_spec_of kind t ≡ Ok dict → encoding_of t ≡ Ok encoding → slot_of (vector_of depth) children_slot left t ≡ Ok (children, rest) → fits_children kind children ≡ true
     → FieldSays depth left t (field_with name kind dict encoding children) rest
 field_made depth left t name kind dict encoding children rest vector n k d e c fits =
     let named = name_reads t name n in
@@ -120,7 +122,7 @@ unfolding field_of
 field_says depth vector left t f rest h =
     let n = bind_ok (name_of t) _ (f, rest) h in
     let k = bind_ok (type_of t) _ (f, rest) n.2 in
-    let d = bind_ok (dictionary_of k.0 t) _ (f, rest) k.2 in
+    let d = bind_ok (dict_spec_of k.0 t) _ (f, rest) k.2 in
     let e = bind_ok (flat (encoding_of t)) _ (f, rest) d.2 in
     let c = bind_ok (slot_of (vector_of depth) children_slot left t) _ (f, rest) e.2 in
     let s = supported_ok (fits_children k.0 c.0.0) (field_with n.0 k.0 d.0 e.0 c.0.0, c.0.1) (f, rest) c.2 in

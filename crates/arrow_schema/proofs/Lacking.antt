@@ -3,6 +3,7 @@ use Rattle.std.specs.Prelude.{◌≡◌, ℕ, ◌<◌, ◌&&◌, ◌||◌, true,
 use Rattle.std.proofs.Common.{refl, sym, ap, ◌∙◌, inl, inr, eqb, arith}
 use Rattle.std.proofs.lemmas.Bool.{cases_Bool}
 use Rattle.std.proofs.Math.Bool.{or-true}
+use Rattle.lists.proofs.Truths.{and_true, or_false}
 use Rattle.flat_tables.specs.Tables.{TableIn}
 use Rattle.arrow_schema.specs.declared.spec.ArrowType.{ArrowType}
 use Rattle.arrow_schema.specs.declared.spec.ArrowType.TheVariants.{Bool as Boolean, Int, Double, Utf8, Binary, Fixed, Timestamp, Duration, Struct, List as ListType}
@@ -14,7 +15,6 @@ use Rattle.arrow_schema.specs.Trees.{kind_in, dict_in}
 use Rattle.arrow_schema.specs.Says.{SaysNumbers, SaysDictionary, SaysField, says}
 use Rattle.arrow_schema.specs.Readable.{has_none, is_element, is_one_element, no_fields, fits_children}
 use Rattle.arrow_schema.specs.Defects.{UnsupportedElement, other_element, narrow_element, signed_element, with_dictionary, UnsupportedField, with_children, no_child, other_count, other_child}
-use Rattle.arrow_schema.proofs.Steps.{and_true, or_false}
 use Rattle.arrow_schema.proofs.Found.{SlotSays}
 
 no_struct_number : (kind : ArrowType) → is_struct kind ≡ false → type_number kind ≡ 13 → ⊥

@@ -5,7 +5,7 @@ mod Elements
 mod Metadata
 mod FieldParts
 mod DictionaryParts
-mod Clear
+pub mod Clear
 pub mod Found
 pub mod Only
 mod Lacking
@@ -13,7 +13,7 @@ pub mod UsesStand
 pub mod Refused
 pub mod Exclusion
 mod Naming
-mod FieldTrees
+pub mod FieldTrees
 mod FieldsStand
 mod Loop
 mod PairLoop

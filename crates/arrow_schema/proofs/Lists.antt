@@ -3,31 +3,16 @@ use Rattle.std.specs.Prelude.{◌≡◌, ◌≢◌, ◌⊎◌, ℕ, zero, suc, �
 use Rattle.std.specs.Ordering.{int_eq}
 use Rattle.std.specs.List.{list_all}
 use Rattle.std.proofs.Common.{refl, sym, ap, ◌∙◌, subst, inl, inr, arith}
-use Rattle.std.proofs.lemmas.Bool.{eqb-true, eq-eqb}
+use Rattle.std.proofs.lemmas.Bool.{eqb-true, eq-eqb, cases_Bool}
 use Rattle.std.proofs.lemmas.Bool.Decides.{Decides-int_eq}
 use Rattle.std.proofs.lemmas.Slice.Eq.{bytes_eq-Decides}
+use Rattle.lists.proofs.Every.{all_pass_at}
 use Rattle.arrow_schema.specs.declared.spec.ArrowType.{ArrowType}
 use Rattle.arrow_schema.specs.declared.spec.ArrowType.TheVariants.{Bool as Boolean, Int, Double, Utf8, Binary, Fixed, Timestamp, Duration, Struct, List as ListType}
 use Rattle.arrow_schema.specs.declared.spec.FieldSpec.{FieldSpec}
 use Rattle.arrow_schema.specs.declared.agreement.Use.{Use}
 use Rattle.arrow_schema.specs.Types.{same_bool, same_type}
 use Rattle.arrow_schema.specs.Trees.{name_in, lacks_name, names_differ, uses_in, uses_of, agrees, agrees_with, uses_agree}
-
-or_true : (b : Bool) → (b ≡ true) ⊎ (b ≡ false)
-or_true true = inl refl
-or_true false = inr refl
-
--- ---- a test that some element of a list fails
-pub list_all_at : {A : Type 0} (p : A → Bool) (xs : List A) (i : ℕ) (d : A) → list_all p xs ≡ true → i < length xs → p (slice_index_or xs i d) ≡ true
-list_all_at p [] i d h lt = absurd (omega (arith, lt))
-list_all_at p (x ∷ xs) zero d h lt = first p x xs h
-  where
-    first : {A : Type 0} (p : A → Bool) (x : A) (xs : List A) → (p x && list_all p xs) ≡ true → p x ≡ true
-    first p x xs h = elim (or_true (p x)) [ inl passes ↦ passes | inr fails ↦ cc (rw fails at h) ]
-list_all_at p (x ∷ xs) (suc i) d h lt = list_all_at p xs i d (rest p x xs h) (omega (arith, lt))
-  where
-    rest : {A : Type 0} (p : A → Bool) (x : A) (xs : List A) → (p x && list_all p xs) ≡ true → list_all p xs ≡ true
-    rest p x xs h = elim (or_true (p x)) [ inl passes ↦ rw passes at h | inr fails ↦ cc (rw fails at h) ]
 
 -- ---- names
 pub record Twice (fields : List FieldSpec) : Type 0 where
@@ -39,7 +24,7 @@ pub record Twice (fields : List FieldSpec) : Type 0 where
 
 found_name : (name : List ℕ) (fields : List FieldSpec) → lacks_name name fields ≡ false → (j : ℕ) × (j < length fields) × ((d : FieldSpec) → name ≡ name_in (slice_index_or fields j d))
 found_name name [] h = cc (h)
-found_name name (f ∷ fields) h = elim (or_true (bytes_eq name (name_in f))) [
+found_name name (f ∷ fields) h = elim (cases_Bool (bytes_eq name (name_in f))) [
   | inl is ↦ (0, omega arith, λ d. (bytes_eq-Decides name (name_in f)).0 is)
   | inr differs ↦
       let r = found_name name fields (rw differs at h) in
@@ -49,7 +34,7 @@ found_name name (f ∷ fields) h = elim (or_true (bytes_eq name (name_in f))) [
 pub names_twice : (fields : List FieldSpec) → names_differ fields ≡ false → Twice fields
 unfolding names_differ
 names_twice [] h = cc (h)
-names_twice (f ∷ fields) h = elim (or_true (lacks_name (name_in f) fields)) [
+names_twice (f ∷ fields) h = elim (cases_Bool (lacks_name (name_in f) fields)) [
   | inr found ↦
       let r = found_name (name_in f) fields found in
       record { i = 0; j = suc r.0; before = omega arith; inside = omega (arith, r.1); same = λ d. r.2 d }
@@ -60,7 +45,7 @@ names_twice (f ∷ fields) h = elim (or_true (lacks_name (name_in f) fields)) [
 
 lacks_at : (name : List ℕ) (fields : List FieldSpec) (j : ℕ) (d : FieldSpec) → lacks_name name fields ≡ true → j < length fields → name ≡ name_in (slice_index_or fields j d) → ⊥
 lacks_at name fields j d h lt same =
-    let t = list_all_at (λ f. not (bytes_eq name (name_in f))) fields j d h lt in
+    let t = all_pass_at (λ f. not (bytes_eq name (name_in f))) fields j d h lt in
     let e = (bytes_eq-Decides name (name_in (slice_index_or fields j d))).1 same in
     cc (rw e at t)
 
@@ -69,11 +54,11 @@ pub names_once : (fields : List FieldSpec) (i j : ℕ) (d : FieldSpec) → names
 unfolding names_differ
 names_once [] i j d h lt within same = omega (arith, within)
 names_once (f ∷ fields) i zero d h lt within same = omega (arith, lt)
-names_once (f ∷ fields) zero (suc j) d h lt within same = elim (or_true (lacks_name (name_in f) fields)) [
+names_once (f ∷ fields) zero (suc j) d h lt within same = elim (cases_Bool (lacks_name (name_in f) fields)) [
   | inl lacks ↦ lacks_at (name_in f) fields j d lacks (omega (arith, within)) same
   | inr found ↦ cc (rw found at h)
 ]
-names_once (f ∷ fields) (suc i) (suc j) d h lt within same = elim (or_true (lacks_name (name_in f) fields)) [
+names_once (f ∷ fields) (suc i) (suc j) d h lt within same = elim (cases_Bool (lacks_name (name_in f) fields)) [
   | inl lacks ↦ names_once fields i j d (rw lacks at h) (omega (arith, lt)) (omega (arith, within)) same
   | inr found ↦ cc (rw found at h)
 ]
@@ -90,7 +75,7 @@ same_bool_refl true = refl
 same_bool_refl false = refl
 
 int_same : (a b : ℕ) (s t : Bool) → ((a == b) && same_bool s t) ≡ true → Int a s ≡ Int b t
-int_same a b s t h = elim (or_true (a == b)) [
+int_same a b s t h = elim (cases_Bool (a == b)) [
   | inl same ↦ int_is a b s t (eqb-true a b same) (same_bool_is s t (rw same at h))
   | inr differs ↦ cc (rw differs at h)
 ]
@@ -166,14 +151,14 @@ use_in u (f ∷ fields) (suc i) d lt h = in_right u (uses_in f) (uses_of fields)
 
 fails_somewhere : {A : Type 0} (p : A → Bool) (xs : List A) → list_all p xs ≡ false → (x : A) × IsIn x xs × (p x ≡ false)
 fails_somewhere p [] h = cc (h)
-fails_somewhere p (x ∷ xs) h = elim (or_true (p x)) [
+fails_somewhere p (x ∷ xs) h = elim (cases_Bool (p x)) [
   | inl passes ↦ let r = fails_somewhere p xs (rw passes at h) in (r.0, inr r.1, r.2)
   | inr fails ↦ (x, inl refl, fails)
 ]
 
 passes_everywhere : {A : Type 0} (p : A → Bool) (xs : List A) (x : A) → list_all p xs ≡ true → IsIn x xs → p x ≡ true
 passes_everywhere p [] x h member = absurd member
-passes_everywhere p (y ∷ ys) x h member = elim (or_true (p y)) [
+passes_everywhere p (y ∷ ys) x h member = elim (cases_Bool (p y)) [
   | inl passes ↦ elim member [
     | inl same ↦ ap p same ∙ passes
     | inr later ↦ passes_everywhere p ys x (rw passes at h) later
@@ -191,7 +176,7 @@ pub record Disagree (uses : List Use) : Type 0 where
   pub differ : a.kind ≢ b.kind
 
 disagreeing : (a b : Use) → agrees a b ≡ false → (a.id ≡ b.id) × (a.kind ≢ b.kind)
-disagreeing a b h = elim (or_true (int_eq a.id b.id)) [
+disagreeing a b h = elim (cases_Bool (int_eq a.id b.id)) [
   | inl same ↦ ((Decides-int_eq a.id b.id).0 same, λ e. kinds_differ a b e (rw same at h))
   | inr differs ↦ cc (rw differs at h)
 ]

@@ -2,6 +2,7 @@
 use Rattle.std.specs.Prelude.{◌≡◌, ℕ, zero, suc, ◌+◌, ◌<◌, List, [], ◌∷◌, length, slice_index_or, codes, bytes_eq, Ok, Err, Option, None, Some}
 use Rattle.std.proofs.Common.{refl, sym, ap, ◌∙◌, subst, inl, inr, arith}
 use Rattle.std.proofs.lemmas.Bool.{cases_Bool}
+use Rattle.lists.proofs.Equals.{ok_is}
 use Rattle.flat_tables.specs.declared.fault.FlatFault.{FlatFault}
 use Rattle.flat_tables.specs.Bytes.{◌>>=◌}
 use Rattle.flat_tables.specs.Tables.{TableIn, VectorIn, vector_slot, element_table}
@@ -13,7 +14,7 @@ use Rattle.arrow_schema.specs.Says.{HasTables, SaysPair, SayPairs, SaysEncoding}
 use Rattle.arrow_schema.specs.Reading.{encoding_with, of_pair, encoding_from, in_metadata, encoding_of}
 use Rattle.arrow_schema.specs.Defects.{IsChild, MetadataFault}
 use Rattle.arrow_schema.specs.Defects as defects
-use Rattle.arrow_schema.proofs.Steps.{bind_ok, bind_err, ok_is}
+use Rattle.arrow_schema.proofs.Steps.{bind_ok, bind_err}
 use Rattle.arrow_schema.proofs.Elements.{element_there, no_vector_fault, one_of}
 
 -- ---- the pairs that name it

@@ -3,16 +3,15 @@ use Rattle.std.specs.Prelude.{◌≡◌, ℕ, zero, suc, ◌+◌, ◌-◌, ◌<�
 use Rattle.std.specs.Str.{is_utf8}
 use Rattle.std.specs.List.{list_all}
 use Rattle.std.proofs.Common.{refl, sym, ap, ◌∙◌, inl, inr, arith}
-use Rattle.std.proofs.lemmas.Bool.{eq-eqb, ne_eqb, le-ltb}
+use Rattle.std.proofs.lemmas.Bool.{eq-eqb, ne_eqb, le-ltb, and_parts}
 use Rattle.flat_tables.specs.Tables.{TableIn, VectorIn, element_table}
 use Rattle.arrow_schema.specs.Limits.{max_depth, max_fields}
 use Rattle.arrow_schema.specs.declared.spec.FieldSpec.{FieldSpec}
 use Rattle.arrow_schema.specs.Slots.{fields_slot, children_slot}
-use Rattle.arrow_schema.specs.Trees.{count_in, count_of, names_differ, name_in, kind_in, dict_in, encoding_in, children_in}
+use Rattle.arrow_schema.specs.Trees.{field_count, count_of, names_differ, name_in, kind_in, dict_in, encoding_in, children_in}
 use Rattle.arrow_schema.specs.Says.{HasElements, HasTables, SaysField, says, SayFields, SaysSchema}
 use Rattle.arrow_schema.specs.Readable.{is_supported, fits_dictionary, fits_children, is_readable, are_readable, IsReadable}
 use Rattle.arrow_schema.specs.Reading.{slot_of, field_of, fields_from, vector_of, schema_of}
-use Rattle.arrow_schema.proofs.Steps.{both_true}
 use Rattle.arrow_schema.proofs.Metadata.{encoding_says}
 use Rattle.arrow_schema.proofs.Folds.{made_again, count_in_is}
 use Rattle.arrow_schema.proofs.FieldParts.{name_says, type_says}
@@ -28,10 +27,10 @@ pub record Tests (depth : ℕ) (f : FieldSpec) : Type 0 where
 
 pub tests_of : (depth : ℕ) (f : FieldSpec) → is_readable (are_readable depth) f ≡ true → Tests depth f
 tests_of depth f h =
-    let a = both_true _ (are_readable depth (children_in f)) h in
-    let b = both_true _ (fits_children (kind_in f) (children_in f)) a.0 in
-    let c = both_true _ (fits_dictionary (kind_in f) (dict_in f)) b.0 in
-    let d = both_true (is_utf8 (name_in f)) (is_supported (kind_in f)) c.0 in
+    let a = and_parts _ (are_readable depth (children_in f)) h in
+    let b = and_parts _ (fits_children (kind_in f) (children_in f)) a.0 in
+    let c = and_parts _ (fits_dictionary (kind_in f) (dict_in f)) b.0 in
+    let d = and_parts (is_utf8 (name_in f)) (is_supported (kind_in f)) c.0 in
     record { text = d.0; supported = d.1; dictionary = c.1; fits = b.1; children = a.1 }
 
 -- each field counts
@@ -50,14 +49,14 @@ slot_again depth reads slot left t tables [] (inl empty) say readable le = rw em
 slot_again depth reads slot left t tables (f ∷ fields) (inl empty) say readable le = absurd (omega (arith, say.long, ap length empty.1))
 slot_again depth reads slot left t tables fields (inr h) say readable le = rw h.1 (reads left h.0 tables fields h.2 say readable le)
 
-field_again : (depth : ℕ) → Reads depth → (left : ℕ) (t : TableIn) (f : FieldSpec) → SaysField t f → is_readable (are_readable depth) f ≡ true → count_in f ≤ left + 1
-    → field_of (vector_of depth) left t ≡ Ok (f, left + 1 - count_in f)
+field_again : (depth : ℕ) → Reads depth → (left : ℕ) (t : TableIn) (f : FieldSpec) → SaysField t f → is_readable (are_readable depth) f ≡ true → field_count f ≤ left + 1
+    → field_of (vector_of depth) left t ≡ Ok (f, left + 1 - field_count f)
 unfolding field_of
 field_again depth reads left _ _ (says t f tables n k numbers d e has long each) readable le =
     let test = tests_of depth f readable in
     let count = count_in_is f in
     let children = slot_again depth reads children_slot left t tables (children_in f) has (record { long = long; each = each }) test.children (omega (arith, count)) in
-    let rest : left - count_of (children_in f) ≡ left + 1 - count_in f = omega (arith, count) in
+    let rest : left - count_of (children_in f) ≡ left + 1 - field_count f = omega (arith, count) in
     rw (
       name_says t (name_in f) n test.text,
       type_says t (kind_in f) k numbers test.supported,
@@ -80,16 +79,16 @@ elements_again depth reads v place zero left tables (f ∷ fields) size at say r
 elements_again depth reads v place (suc n) left tables [] size at say readable le = absurd (omega (arith, say.long, size))
 elements_again depth reads v place (suc n) left [] (f ∷ fields) size at say readable le = absurd (omega (arith, size))
 elements_again depth reads v place (suc n) left (t ∷ tables) (f ∷ fields) size at say readable le =
-    let both = both_true (is_readable (are_readable depth) f) (list_all (is_readable (are_readable depth)) fields) readable in
+    let both = and_parts (is_readable (are_readable depth) f) (list_all (is_readable (are_readable depth)) fields) readable in
     let here : element_table v place ≡ Ok (Some t) = ap (element_table v) (omega arith) ∙ at 0 t (omega arith) in
     let longer = length_le_count fields in
     let same_size : length tables ≡ length fields = omega (arith, say.long) in
     let one = field_again depth reads left t f (say.each 0 t f (omega arith)) both.0 (omega (arith, size)) in
-    let others = elements_again depth reads v (place + 1) n (left + 1 - count_in f) tables fields (omega (arith, size))
+    let others = elements_again depth reads v (place + 1) n (left + 1 - field_count f) tables fields (omega (arith, size))
     (λ i d lt. ap (element_table v) (omega arith) ∙ at (suc i) d (omega arith))
     (record { long = same_size; each = λ i u g lt. say.each (suc i) u g (omega arith) })
     both.1 (omega (arith, size)) in
-    let rest : left + 1 - count_in f + n - count_of fields ≡ left + suc n - (count_in f + count_of fields) = omega (arith, size) in
+    let rest : left + 1 - field_count f + n - count_of fields ≡ left + suc n - (field_count f + count_of fields) = omega (arith, size) in
     rw (here, one, others, rest) refl
 
 pub vector_again : (depth : ℕ) → Reads depth
@@ -98,7 +97,7 @@ vector_again zero left v tables [] has say readable le = rw (eq-eqb v.count 0 (o
 vector_again zero left v tables (f ∷ fields) has say readable le = cc (readable)
 vector_again (suc depth) left v tables [] has say readable le = rw (eq-eqb v.count 0 (omega (arith, has.count, say.long))) (ap (λ (n : ℕ). Ok ([], n)) (omega arith))
 vector_again (suc depth) left v tables (f ∷ fields) has say readable le =
-    let both = both_true (names_differ (f ∷ fields)) (list_all (is_readable (are_readable depth)) (f ∷ fields)) readable in
+    let both = and_parts (names_differ (f ∷ fields)) (list_all (is_readable (are_readable depth)) (f ∷ fields)) readable in
     let longer = length_le_count (f ∷ fields) in
     let size : length tables ≡ v.count = sym has.count in
     let fits : v.count ≤ left = omega (arith, say.long) in

@@ -2,6 +2,8 @@
 use Rattle.std.specs.Prelude.{◌≡◌, ◌≢◌, ◌⊎◌, ℕ, zero, suc, ◌+◌, ◌-◌, ◌<◌, ◌≤◌, ◌==◌, nat_lt, Bool, true, false, List, [], ◌∷◌, length, slice_index_or, Result, Ok, Err, Option, None, Some}
 use Rattle.std.proofs.Common.{refl, sym, ap, ◌∙◌, subst, inl, inr, arith}
 use Rattle.std.proofs.lemmas.Bool.{eqb-true, eqb-false, ltb-true, ltb-false}
+use Rattle.lists.proofs.Truths.{chosen}
+use Rattle.lists.proofs.Equals.{ok_is}
 use Rattle.flat_tables.specs.Bytes.{◌>>=◌}
 use Rattle.flat_tables.specs.Tables.{TableIn, VectorIn, vector_slot, element_table}
 use Rattle.arrow_schema.specs.Limits.{max_depth, max_fields}
@@ -13,12 +15,12 @@ use Rattle.arrow_schema.specs.Slots.{name_slot, byte_order, fields_slot, childre
 use Rattle.arrow_schema.specs.Trees.{name_in, field_with, names_differ, uses_of, uses_agree}
 use Rattle.arrow_schema.specs.Says.{SaysField, says}
 use Rattle.arrow_schema.specs.Readable.{fits_children}
-use Rattle.arrow_schema.specs.Reading.{flat, name_of, type_of, dictionary_of, encoding_of, FieldsRead, in_slot, slot_of, field_of, of_element, fields_from, with_own_names, vector_of, with_agreeing_uses, schema_of}
+use Rattle.arrow_schema.specs.Reading.{flat, name_of, type_of, dict_spec_of, encoding_of, FieldsRead, in_slot, slot_of, field_of, of_element, fields_from, with_own_names, vector_of, with_agreeing_uses, schema_of}
 use Rattle.arrow_schema.specs.Defects.{IsChild, IsField, IsParent, FieldFault, VectorFault, HasFlatFault}
 use Rattle.arrow_schema.specs.Defects.{IsUnsupported}
 use Rattle.arrow_schema.specs.Defects.{IsTooDeep, HasBadName, HasDefect, of_vector_in, of_table_in, below_elements, fields_below}
 use Rattle.arrow_schema.specs.Defects as defects
-use Rattle.arrow_schema.proofs.Steps.{bind_ok, bind_err, flat_ok, flat_err, supported_ok, supported_err, chosen, ok_is}
+use Rattle.arrow_schema.proofs.Steps.{bind_ok, bind_err, flat_ok, flat_err, supported_ok, supported_err}
 use Rattle.arrow_schema.proofs.FieldParts.{OwnDefect, faulty, unsupported, no_text, name_refused, type_reads, type_refused}
 use Rattle.arrow_schema.proofs.DictionaryParts.{dictionary_refused}
 use Rattle.arrow_schema.proofs.Elements.{element_there}
@@ -56,7 +58,7 @@ unfolding field_of
 field_counts depth counts left t f rest h =
     let n = bind_ok (name_of t) _ (f, rest) h in
     let k = bind_ok (type_of t) _ (f, rest) n.2 in
-    let d = bind_ok (dictionary_of k.0 t) _ (f, rest) k.2 in
+    let d = bind_ok (dict_spec_of k.0 t) _ (f, rest) k.2 in
     let e = bind_ok (flat (encoding_of t)) _ (f, rest) d.2 in
     let c = bind_ok (slot_of (vector_of depth) children_slot left t) _ (f, rest) e.2 in
     let s = supported_ok (fits_children k.0 c.0.0) (field_with n.0 k.0 d.0 e.0 c.0.0, c.0.1) (f, rest) c.2 in
@@ -179,7 +181,7 @@ field_refused rest refuse schema depth left t e f deep h = elim (bind_err (name_
     | inl fails ↦ stands e (own_stands schema depth t e f (type_refused t e fails))
     | inr k ↦
         let kind = type_reads t k.0 k.1 in
-        elim (bind_err (dictionary_of k.0 t) _ e k.2) [
+        elim (bind_err (dict_spec_of k.0 t) _ e k.2) [
           | inl fails ↦ stands e (own_stands schema depth t e f (dictionary_refused t k.0 e kind.0 fails))
           | inr d ↦ elim (bind_err (flat (encoding_of t)) _ e d.2) [
             | inl fails ↦

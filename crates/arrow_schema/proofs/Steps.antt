@@ -1,6 +1,6 @@
 -- A step that gave a value, and one that refused.
-use Rattle.std.specs.Prelude.{◌≡◌, ◌⊎◌, ◌&&◌, ◌||◌, Bool, true, false, Result, Ok, Err, refl}
-use Rattle.std.proofs.Common.{ap, inl, inr, cond}
+use Rattle.std.specs.Prelude.{◌≡◌, ◌⊎◌, Bool, true, false, Result, Ok, Err, refl}
+use Rattle.std.proofs.Common.{inl, inr}
 use Rattle.flat_tables.specs.declared.fault.FlatFault.{FlatFault}
 use Rattle.flat_tables.specs.Bytes.{◌>>=◌}
 use Rattle.arrow_schema.specs.declared.refusal.SchemaRefusal.{SchemaRefusal}
@@ -30,30 +30,3 @@ supported_ok false x y h = cc
 pub supported_err : {A : Type 0} (b : Bool) (x : A) (e : SchemaRefusal) → where_supported b x ≡ Err e → (b ≡ false) × (e ≡ Unsupported)
 supported_err true x e h = cc
 supported_err false x e h = (refl, cc)
-
-pub chosen : {A : Type 0} (b : Bool) (x y z : A) → cond b x y ≡ z → ((b ≡ true) × (x ≡ z)) ⊎ ((b ≡ false) × (y ≡ z))
-chosen true x y z h = inl (refl, h)
-chosen false x y z h = inr (refl, h)
-
-pub ok_is : {A E : Type 0} (x y : A) → (let r : Result A E = Ok x in r ≡ Ok y) → x ≡ y
-ok_is x y h = cc (h)
-
-pub pair_is : {A B : Type 0} (x y : A × B) → x ≡ y → (x.0 ≡ y.0) × (x.1 ≡ y.1)
-pair_is {A} {B} x y h = (ap (λ (p : A × B). p.0) h, ap (λ (p : A × B). p.1) h)
-
-pub both_true : (a b : Bool) → (a && b) ≡ true → (a ≡ true) × (b ≡ true)
-both_true true true h = (refl, refl)
-both_true true false h = cc (h)
-both_true false b h = cc (h)
-
-pub and_false : (b : Bool) → (b && false) ≡ false
-and_false true = refl
-and_false false = refl
-
-pub and_true : (b : Bool) → (b && true) ≡ b
-and_true true = refl
-and_true false = refl
-
-pub or_false : (b : Bool) → (b || false) ≡ b
-or_false true = refl
-or_false false = refl

@@ -1,6 +1,8 @@
 -- Uses of dictionaries stand at fields of the schema.
 use Rattle.std.specs.Prelude.{◌≡◌, ℕ, zero, suc, ◌<◌, true, List, [], ◌∷◌, length, slice_index_or, Ok, Option, None, Some, ℤ}
 use Rattle.std.proofs.Common.{refl, sym, subst, inl, inr, arith}
+use Rattle.std.proofs.lemmas.Bool.{and_parts}
+use Rattle.lists.proofs.Every.{all_pass_at}
 use Rattle.flat_tables.specs.Tables.{TableIn}
 use Rattle.arrow_schema.specs.Limits.{max_depth}
 use Rattle.arrow_schema.specs.declared.spec.ArrowType.{ArrowType}
@@ -16,10 +18,9 @@ use Rattle.arrow_schema.specs.Defects.{HasUse, HasTwoTypes}
 use Rattle.arrow_schema.specs.Defects as defects
 use Rattle.arrow_schema.proofs.FieldParts.{type_says}
 use Rattle.arrow_schema.proofs.Elements.{parent_child}
-use Rattle.arrow_schema.proofs.Steps.{both_true}
 use Rattle.arrow_schema.proofs.Only.{tests_of}
 use Rattle.arrow_schema.proofs.Folds.{uses_in_is}
-use Rattle.arrow_schema.proofs.Lists.{list_all_at, IsIn, in_either, use_at, Disagree}
+use Rattle.arrow_schema.proofs.Lists.{IsIn, in_either, use_at, Disagree}
 use Rattle.arrow_schema.specs.declared.agreement.Use.{Use}
 
 -- a use of a field or below it, by the field that has it
@@ -46,7 +47,7 @@ pub readable_at : (depth : ℕ) (fields : List FieldSpec) (i : ℕ) (d : FieldSp
 unfolding are_readable
 readable_at zero [] i d h lt = absurd (omega (arith, lt))
 readable_at zero (f ∷ fields) i d h lt = cc (h)
-readable_at (suc inner) fields i d h lt = (inner, refl, list_all_at (is_readable (are_readable inner)) fields i d (both_true (names_differ fields) _ h).1 lt)
+readable_at (suc inner) fields i d h lt = (inner, refl, all_pass_at (is_readable (are_readable inner)) fields i d (and_parts (names_differ fields) _ h).1 lt)
 
 use_found : (schema : TableIn) (depth inner : ℕ) (t : TableIn) (f : FieldSpec) (u : Use) → SaysField t f → IsField schema depth t → is_readable (are_readable inner) f ≡ true → IsIn u (uses_in f)
     → UseStands schema u

@@ -28,19 +28,19 @@ pub data Branch : Type 0 where
   Under : List ℕ → List Leaf → Branch
 
 -- the child of a list, and the fields of columns
-abbrev pub items_of : Option ArrowType → List FieldSpec
-items_of None = []
-items_of (Some kind) = field_with (codes "item") kind None encoding.None [] ∷ []
+abbrev pub branch_items : Option ArrowType → List FieldSpec
+branch_items None = []
+branch_items (Some kind) = field_with (codes "item") kind None encoding.None [] ∷ []
 
 abbrev pub leaf_field : Leaf → FieldSpec
-leaf_field l = field_with l.name l.kind l.dict l.encoding (items_of l.item)
+leaf_field l = field_with l.name l.kind l.dict l.encoding (branch_items l.item)
 
 abbrev pub branch_field : Branch → FieldSpec
 branch_field (One l) = leaf_field l
 branch_field (Under name leaves) = field_with name Struct None encoding.None (map leaf_field leaves)
 
-abbrev pub fields_of : List Branch → List FieldSpec
-fields_of branches = map branch_field branches
+abbrev pub branch_fields : List Branch → List FieldSpec
+branch_fields branches = map branch_field branches
 
 -- names of which no two are one
 abbrev pub lacks : List ℕ → List (List ℕ) → Bool

@@ -42,52 +42,52 @@ where_supported false x = Err Unsupported
 unfoldable pub name_of : TableIn → Result (List ℕ) SchemaRefusal
 name_of t = flat (name_slot t) >>= λ name. if is_utf8 name then Ok name else Err BadName
 
-unfoldable pub int_of : TableIn → Result ArrowType SchemaRefusal
-int_of t = flat (int_width t) >>= λ bits. flat (int_sign t) >>= λ signed. where_supported (is_int_width bits) (Int (unsigned_abs bits) signed)
+unfoldable pub int_type_of : TableIn → Result ArrowType SchemaRefusal
+int_type_of t = flat (int_width t) >>= λ bits. flat (int_sign t) >>= λ signed. where_supported (is_int_width bits) (Int (unsigned_abs bits) signed)
 
-unfoldable pub fixed_of : TableIn → Result ArrowType SchemaRefusal
-fixed_of t = flat (byte_width t) >>= λ width. where_supported (is_fixed_width width) (Fixed (unsigned_abs width))
+unfoldable pub fixed_type_of : TableIn → Result ArrowType SchemaRefusal
+fixed_type_of t = flat (byte_width t) >>= λ width. where_supported (is_fixed_width width) (Fixed (unsigned_abs width))
 
 -- a type with one number, which is to be this one
-unfoldable pub number_of : ℕ → ArrowType → Result ℤ FlatFault → Result ArrowType SchemaRefusal
-number_of n kind read = flat read >>= λ number. where_supported (is_number n number) kind
+unfoldable pub numbered_type : ℕ → ArrowType → Result ℤ FlatFault → Result ArrowType SchemaRefusal
+numbered_type n kind read = flat read >>= λ number. where_supported (is_number n number) kind
 
 unfoldable pub type_with : TableIn → ℕ → Result ArrowType SchemaRefusal
 type_with t kind =
-    if kind == 2 then int_of t
-    else if kind == 3 then number_of 2 Double (precision t)
+    if kind == 2 then int_type_of t
+    else if kind == 3 then numbered_type 2 Double (precision t)
     else if kind == 4 then Ok Binary
     else if kind == 5 then Ok Utf8
     else if kind == 6 then Ok Boolean
-    else if kind == 10 then number_of 3 Timestamp (timestamp_unit t)
+    else if kind == 10 then numbered_type 3 Timestamp (timestamp_unit t)
     else if kind == 12 then Ok ListType
     else if kind == 13 then Ok Struct
-    else if kind == 15 then fixed_of t
-    else if kind == 18 then number_of 3 Duration (duration_unit t)
+    else if kind == 15 then fixed_type_of t
+    else if kind == 18 then numbered_type 3 Duration (duration_unit t)
     else Err Unsupported
 
 unfoldable pub type_of : TableIn → Result ArrowType SchemaRefusal
 type_of t = flat (kind_slot t) >>= type_with t
 
 -- whether the indexes of a dictionary have 16 bits
-unfoldable pub is_wide : TableIn → Result Bool SchemaRefusal
-is_wide u =
+unfoldable pub is_wide_index : TableIn → Result Bool SchemaRefusal
+is_wide_index u =
     flat (index_width u) >>= λ bits. flat (index_sign u) >>= λ signed.
     where_supported (not signed && (is_number 8 bits || is_number 16 bits)) (is_number 16 bits)
 
-abbrev pub index_of : Option TableIn → Result Bool SchemaRefusal
-index_of None = Err Unsupported
-index_of (Some u) = is_wide u
+abbrev pub index_type_of : Option TableIn → Result Bool SchemaRefusal
+index_type_of None = Err Unsupported
+index_type_of (Some u) = is_wide_index u
 
 unfoldable pub dict_of : TableIn → Result DictSpec SchemaRefusal
-dict_of d = flat (dictionary_id d) >>= λ id. flat (index_slot d) >>= index_of >>= λ wide. Ok (record { id = id; wide = wide })
+dict_of d = flat (dictionary_id d) >>= λ id. flat (index_slot d) >>= index_type_of >>= λ wide. Ok (record { id = id; wide = wide })
 
-abbrev pub dictionary_in : ArrowType → Option TableIn → Result (Option DictSpec) SchemaRefusal
-dictionary_in kind None = Ok None
-dictionary_in kind (Some d) = where_supported (takes_dictionary kind) d >>= dict_of >>= λ dict. Ok (Some dict)
+abbrev pub dict_spec_in : ArrowType → Option TableIn → Result (Option DictSpec) SchemaRefusal
+dict_spec_in kind None = Ok None
+dict_spec_in kind (Some d) = where_supported (takes_dictionary kind) d >>= dict_of >>= λ dict. Ok (Some dict)
 
-unfoldable pub dictionary_of : ArrowType → TableIn → Result (Option DictSpec) SchemaRefusal
-dictionary_of kind t = flat (dictionary_slot t) >>= dictionary_in kind
+unfoldable pub dict_spec_of : ArrowType → TableIn → Result (Option DictSpec) SchemaRefusal
+dict_spec_of kind t = flat (dictionary_slot t) >>= dict_spec_in kind
 
 -- the encoding that a pair names, where none was named before it
 abbrev pub encoding_with : Option (List ℕ) → Option (List ℕ) → Encoding → Encoding
@@ -127,7 +127,7 @@ unfoldable pub field_of : (ℕ → VectorIn → Result FieldsRead SchemaRefusal)
 field_of vector left t =
     name_of t >>= λ name.
     type_of t >>= λ kind.
-    dictionary_of kind t >>= λ dict.
+    dict_spec_of kind t >>= λ dict.
     flat (encoding_of t) >>= λ named.
     slot_of vector children_slot left t >>= λ fields.
     where_supported (fits_children kind fields.0) (field_with name kind dict named fields.0, fields.1)

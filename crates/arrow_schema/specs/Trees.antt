@@ -40,12 +40,12 @@ sum_of (n ∷ ns) = n + sum_of ns
 abbrev pub count_step : FieldSpec-F ℕ → ℕ
 count_step f = 1 + sum_of f.children
 
-abbrev pub count_in : FieldSpec → ℕ
-count_in = fold-FieldSpec ℕ count_step
+abbrev pub field_count : FieldSpec → ℕ
+field_count = fold-FieldSpec ℕ count_step
 
 abbrev pub count_of : List FieldSpec → ℕ
 count_of [] = 0
-count_of (f ∷ fields) = count_in f + count_of fields
+count_of (f ∷ fields) = field_count f + count_of fields
 
 -- the dictionaries of fields, with the types of their values, children included
 abbrev pub use_of : ArrowType → Option DictSpec → List Use

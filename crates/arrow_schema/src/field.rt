@@ -62,9 +62,9 @@ fn type_sign(field: &TableView<'_>) -> Result<bool, FlatFault>
     }
 }
 
-#[tactic(auto, unfolding(crate::specs::Reading::int_of))]
+#[tactic(auto, unfolding(crate::specs::Reading::int_type_of))]
 fn read_int(field: &TableView<'_>) -> Result<ArrowType, SchemaRefusal>
-    ensures { reading.Gives (λ kind. kind) result (reading.int_of field.now) }
+    ensures { reading.Gives (λ kind. kind) result (reading.int_type_of field.now) }
 {
     let bits = type_i32(field)?;
     let signed = type_sign(field)?;
@@ -77,9 +77,9 @@ fn read_int(field: &TableView<'_>) -> Result<ArrowType, SchemaRefusal>
     }
 }
 
-#[tactic(auto, unfolding(crate::specs::Reading::fixed_of))]
+#[tactic(auto, unfolding(crate::specs::Reading::fixed_type_of))]
 fn read_fixed(field: &TableView<'_>) -> Result<ArrowType, SchemaRefusal>
-    ensures { reading.Gives (λ kind. kind) result (reading.fixed_of field.now) }
+    ensures { reading.Gives (λ kind. kind) result (reading.fixed_type_of field.now) }
 {
     match type_i32(field)? {
         width if width >= 1 && width as u32 <= MAX_FIXED => Ok(ArrowType::Fixed(width as u32)),
@@ -88,7 +88,7 @@ fn read_fixed(field: &TableView<'_>) -> Result<ArrowType, SchemaRefusal>
 }
 
 /// The type of a field.
-#[tactic(auto, unfolding(crate::specs::Reading::type_of, crate::specs::Reading::type_with, crate::specs::Reading::number_of))]
+#[tactic(auto, unfolding(crate::specs::Reading::type_of, crate::specs::Reading::type_with, crate::specs::Reading::numbered_type))]
 pub(crate) fn read_type(field: &TableView<'_>) -> Result<ArrowType, SchemaRefusal>
     ensures { reading.Gives (λ kind. kind) result (reading.type_of field.now) }
 {
@@ -108,14 +108,14 @@ pub(crate) fn read_type(field: &TableView<'_>) -> Result<ArrowType, SchemaRefusa
 }
 
 /// A type with one number, which is to be this one.
-#[tactic(auto, unfolding(crate::specs::Reading::number_of))]
+#[tactic(auto, unfolding(crate::specs::Reading::numbered_type))]
 fn read_number(
     read: Result<i16, FlatFault>,
     number: i16,
     kind: ArrowType,
 ) -> Result<ArrowType, SchemaRefusal>
     requires { IsNonNegative number }
-    ensures { reading.Gives (λ kind. kind) result (reading.number_of (unsigned_abs number) kind read) }
+    ensures { reading.Gives (λ kind. kind) result (reading.numbered_type (unsigned_abs number) kind read) }
 {
     if read? == number {
         Ok(kind)
@@ -125,9 +125,9 @@ fn read_number(
 }
 
 /// Whether the indexes of a dictionary have 16 bits, by the table of their type.
-#[tactic(auto, unfolding(crate::specs::Reading::is_wide))]
+#[tactic(auto, unfolding(crate::specs::Reading::is_wide_index))]
 fn read_wide(index: &TableView<'_>) -> Result<bool, SchemaRefusal>
-    ensures { reading.Gives (λ wide. wide) result (reading.is_wide index.now) }
+    ensures { reading.Gives (λ wide. wide) result (reading.is_wide_index index.now) }
 {
     let bits = index.i32_at(0, 0)?;
     let signed = index.u8_at(1, 0)? != 0;
@@ -153,12 +153,12 @@ fn read_dict(dictionary: &TableView<'_>) -> Result<DictSpec, SchemaRefusal>
 }
 
 /// The dictionary of a field of this type.
-#[tactic(auto, unfolding(crate::specs::Reading::dictionary_of))]
+#[tactic(auto, unfolding(crate::specs::Reading::dict_spec_of))]
 pub(crate) fn read_dictionary(
     field: &TableView<'_>,
     kind: ArrowType,
 ) -> Result<Option<DictSpec>, SchemaRefusal>
-    ensures { reading.Gives (λ dict. dict) result (reading.dictionary_of kind field.now) }
+    ensures { reading.Gives (λ dict. dict) result (reading.dict_spec_of kind field.now) }
 {
     match field.table_at(4)? {
         None => Ok(None),

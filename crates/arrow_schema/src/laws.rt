@@ -12,7 +12,7 @@ ghost use Rattle.arrow_schema.specs.Readable.{IsReadable};
 ghost use Rattle.arrow_schema.specs.Defects.{HasDefect};
 ghost use Rattle.arrow_schema.specs.Reading.{schema_of};
 ghost use Rattle.arrow_schema.specs.Writing.{names_of, widths_fit, encodings_named, IsSchemaTable};
-ghost use Rattle.arrow_schema.specs.Branches.{Branch, AreBranches, fields_of, branch_size, branch_names, is_branch_named};
+ghost use Rattle.arrow_schema.specs.Branches.{Branch, AreBranches, branch_fields, branch_size, branch_names, is_branch_named};
 ghost use Rattle.arrow_schema.specs.Trees.{sum_of};
 ghost use Rattle.arrow_schema.specs.declared.spec.ArrowType.{ArrowType};
 ghost use Rattle.std.specs.List.{list_all};
@@ -52,8 +52,8 @@ pub fn added_is_read()
 /// Any columns, and structs of columns, with names that differ, supported types and one type for
 /// each dictionary id, make a schema that can be read: at most 128 fields, whatever is left out.
 pub fn columns_are_readable()
-    ensures readable { (types : ℤ → ArrowType) (branches : List Branch) → AreBranches types branches → IsReadable (fields_of branches) }
-    ensures count { (branches : List Branch) → count_of (fields_of branches) ≡ sum_of (map branch_size branches) }
-    ensures names { (branches : List Branch) → names_of (fields_of branches) ≡ sum_of (map branch_names branches) }
-    ensures encodings { (branches : List Branch) → list_all is_branch_named branches ≡ true → IsTrue (encodings_named (fields_of branches)) }
+    ensures readable { (types : ℤ → ArrowType) (branches : List Branch) → AreBranches types branches → IsReadable (branch_fields branches) }
+    ensures count { (branches : List Branch) → count_of (branch_fields branches) ≡ sum_of (map branch_size branches) }
+    ensures names { (branches : List Branch) → names_of (branch_fields branches) ≡ sum_of (map branch_names branches) }
+    ensures encodings { (branches : List Branch) → list_all is_branch_named branches ≡ true → IsTrue (encodings_named (branch_fields branches)) }
 {}

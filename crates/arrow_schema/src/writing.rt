@@ -3,7 +3,7 @@ ghost use Rattle.flat_tables.specs.Limits.{max_size};
 ghost use Rattle.flat_tables.specs.Slots.{Reaches};
 ghost use Rattle.flat_tables.specs.Building.{Grows, StaysAt, HasSlots};
 ghost use Rattle.arrow_schema.specs.Limits.{max_written_fields, max_written_names, max_size_before, max_field_size};
-ghost use Rattle.arrow_schema.specs.Trees.{count_in, count_of};
+ghost use Rattle.arrow_schema.specs.Trees.{field_count, count_of};
 ghost use Rattle.arrow_schema.specs.Writing.{names_in, names_of, fits_width, widths_in, widths_fit, is_named, named_in, encodings_named, type_slots, WritesDict, WritesPair, WritesField, WritesFields, IsSchemaTable};
 ghost use Rattle.arrow_schema.specs.Standing.{DictionaryStands, MetadataStands};
 
@@ -63,10 +63,10 @@ fn add_fields(builder: &mut Builder, fields: &[FieldSpec]) -> Result<Place, Allo
 fn add_field(builder: &mut Builder, field: &FieldSpec) -> Result<Place, AllocError>
     requires widths { IsTrue (widths_in field.now) }
     requires encodings { IsTrue (named_in field.now) }
-    requires room { length builder.old + names_in field.now + max_field_size * count_in field.now < max_size }
+    requires room { length builder.old + names_in field.now + max_field_size * field_count field.now < max_size }
     ensures field { IfOk result (StaysAt (WritesField field.now) builder.new) }
     ensures grows { Grows builder.old builder.new }
-    ensures size { length builder.new + 4 ≤ length builder.old + names_in field.now + max_field_size * count_in field.now }
+    ensures size { length builder.new + 4 ≤ length builder.old + names_in field.now + max_field_size * field_count field.now }
 {
     let children = add_fields(builder, field.children.as_slice())?;
     let name = builder.add_text(field.name.as_slice())?;

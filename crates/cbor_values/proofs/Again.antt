@@ -18,7 +18,7 @@ use Rattle.cbor_values.specs.Heads.{IsHead}
 use Rattle.cbor_values.specs.Strings.{IsAny, Chunks, no_chunk, one_chunk, IsString, whole, chunked}
 use Rattle.cbor_values.specs.Cbor.{Cbor, Members, Pairs, is_null, is_false, is_true, is_whole, is_negative, is_half, is_single, is_double}
 use Rattle.cbor_values.specs.Cbor.{is_bytes, is_text, is_array, is_open_array, is_map, is_open_map, no_member, one_member, no_pair, one_pair}
-use Rattle.cbor_values.specs.Reading.{ValueReading, kind_of, head_at, open_at, joined, letters_at, octets_chunk_at, text_chunk_at, octets_at, text_at, key_at, pair_at, body_at, item_at}
+use Rattle.cbor_values.specs.Reading.{ValueReading, head_by, head_at, open_at, joined, letters_at, octets_chunk_at, text_chunk_at, octets_at, text_at, key_at, pair_at, body_at, item_at}
 use Rattle.cbor_values.proofs.Rows.{Row, no_more, one_more, Starts, many_again, open_again}
 use Rattle.cbor_values.proofs.Front.{part_again, head_again, open_head, float_again, head_of_break, head_of_nothing}
 use Rattle.cbor_values.proofs.Steps.{ok_is}
@@ -57,7 +57,7 @@ octets_start = record { nothing = rw head_of_nothing refl; broken = λ rest. rw 
 
 pub octets_chunk_again : (P : List ℕ → Type 0) (bytes part : List ℕ) → IsChunk 2 P bytes part → (rest : List ℕ)
     → octets_chunk_at (bytes ++ rest) ≡ Ok (part, rest)
-unfolding octets_chunk_at kind_of
+unfolding octets_chunk_at head_by
 octets_chunk_again P bytes part chunk rest =
     let front : bytes ++ rest ≡ chunk.head ++ (part ++ rest) = rw chunk.is (append_assoc chunk.head part rest) in
     ap octets_chunk_at front
@@ -73,7 +73,7 @@ letters_again s rest utf8 = rw (part_again s rest (length s) refl, is_utf8-from_
 
 pub text_chunk_again : (bytes part : List ℕ) → IsChunk 3 IsUtf8 bytes part → (rest : List ℕ)
     → text_chunk_at (bytes ++ rest) ≡ Ok (part, rest)
-unfolding text_chunk_at kind_of
+unfolding text_chunk_at head_by
 text_chunk_again bytes part chunk rest =
     let front : bytes ++ rest ≡ chunk.head ++ (part ++ rest) = rw chunk.is (append_assoc chunk.head part rest) in
     ap text_chunk_at front
@@ -91,7 +91,7 @@ behind_break bytes rest = append_assoc bytes (255 ∷ []) rest
 
 pub octets_again : (P : List ℕ → Type 0) (bytes s : List ℕ) → IsString 2 P bytes s → (rest : List ℕ)
     → ReadsString heads.Bytes octets_at (bytes ++ rest) s rest
-unfolding octets_at kind_of
+unfolding octets_at head_by
 octets_again P _ _ (whole head s is_head kind) rest = record {
   size = Some (length s);
   inner = s ++ rest;
@@ -110,7 +110,7 @@ octets_again P _ _ (chunked bytes s chunks) rest =
 
 pub text_again : (bytes s : List ℕ) → IsString 3 IsUtf8 bytes s → (rest : List ℕ)
     → ReadsString heads.Text text_at (bytes ++ rest) s rest
-unfolding text_at kind_of
+unfolding text_at head_by
 text_again _ _ (whole head s is_head kind) rest = record {
   size = Some (length s);
   inner = s ++ rest;
@@ -198,7 +198,7 @@ item_by_head d bytes head rest e = rw e refl
 
 pub item_again : (d : ℕ) (bytes : List ℕ) (value : Value) → Shallow d bytes value → (rest : List ℕ)
     → item_at d (bytes ++ rest) ≡ Ok (value, rest)
-unfolding body_at kind_of head_at
+unfolding body_at head_by head_at
 item_again zero bytes value shallow rest = absurd (let some = some_depth value in omega (arith, shallow.1))
 item_again (suc d) _ _ (is_null, deep) rest = item_by_head d (246 ∷ rest) heads.Null rest refl
 item_again (suc d) _ _ (is_false, deep) rest = item_by_head d (244 ∷ rest) (heads.Bool false) rest refl

@@ -1,31 +1,11 @@
--- Lists of bytes, and numbers in them.
-use Rattle.std.proofs.Common.{◌≡◌, ℕ, zero, suc, ◌+◌, ◌*◌, ◌/◌, ◌%◌, ◌^◌, ◌<◌, List, [], ◌∷◌, ◌++◌, length, get_or, take, drop, refl, sym, ap, ◌∙◌, arith, inl, inr}
+-- Numbers in lists of bytes.
+use Rattle.std.proofs.Common.{◌≡◌, ℕ, zero, suc, ◌+◌, ◌*◌, ◌/◌, ◌%◌, ◌^◌, ◌<◌, List, [], ◌∷◌, length, refl, sym, ap, ◌∙◌, arith}
 use Rattle.std.proofs.Math.Nat.{div-one, mod-eq_of_lt, mul_assoc, mul-add-div_right, one-le-pow, pow-succ'}
-use Rattle.std.proofs.lemmas.Bool.{cases_lt}
 use Rattle.std.proofs.lemmas.Nat.{div-mul-add}
-use Rattle.std.proofs.lemmas.List.{get_or-drop, get_or-take, get_or_past, length-take}
 use Rattle.std.specs.Int.{byte_at, bytes_high_first}
 use Rattle.byteorder.specs.Endian.{big_bytes, big_number}
 use Rattle.byteorder.specs.Numbers.{big_from-cons, big_from-lt}
-
-abbrev pub IsBytes : List ℕ → Type 0
-IsBytes bytes = (i : ℕ) → get_or bytes i 0 < 256
-
-pub IsBytes-drop : (n : ℕ) (bytes : List ℕ) → IsBytes bytes → IsBytes (drop n bytes)
-IsBytes-drop n bytes fits i = rw get_or-drop (fits (n + i))
-
-pub IsBytes-take : (n : ℕ) (bytes : List ℕ) → IsBytes bytes → IsBytes (take n bytes)
-IsBytes-take n bytes fits i = elim (cases_lt i n) [
-  | inl below ↦ rw (get_or-take n bytes i 0 below) (fits i)
-  | inr past ↦ rw (get_or_past (take n bytes) i 0 (omega (arith, length-take n bytes))) (omega arith)
-]
-
-pub IsBytes-tail : (first : ℕ) (bytes : List ℕ) → IsBytes (first ∷ bytes) → IsBytes bytes
-IsBytes-tail first bytes fits i = fits (suc i)
-
-pub IsBytes-suffix : (front rest : List ℕ) → IsBytes (front ++ rest) → IsBytes rest
-IsBytes-suffix [] rest fits = fits
-IsBytes-suffix (first ∷ front) rest fits = IsBytes-suffix front rest (IsBytes-tail first (front ++ rest) fits)
+use Rattle.lists.proofs.AllBytes.{IsBytes, IsBytes-tail}
 
 byte_is : (k n : ℕ) → byte_at k n ≡ n / 256 ^ k % 256
 byte_is zero n = ap (λ (m : ℕ). m % 256) (sym (div-one n))

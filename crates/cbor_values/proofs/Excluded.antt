@@ -6,6 +6,7 @@ use Rattle.std.specs.Str.{IsUtf8, is_utf8}
 use Rattle.std.proofs.lemmas.Bool.{ltb-true, le-ltb, lt-ltb, eqb-true, ne_eqb, cases_Bool, cases_eq, false_from_ne_true}
 use Rattle.std.proofs.lemmas.List.{append-nil}
 use Rattle.std.proofs.lemmas.Str.{IsUtf8-from_is_utf8}
+use Rattle.lists.proofs.AllBytes.{IsBytes, IsBytes-suffix}
 use Rattle.otlp_model.specs.declared.value.Value.{Value}
 use Rattle.otlp_model.specs.declared.value.Value as values
 use Rattle.otlp_model.specs.declared.value.Pair.{Pair}
@@ -20,14 +21,13 @@ use Rattle.cbor_values.specs.Cbor.{Cbor}
 use Rattle.cbor_values.specs.Items.{IsItem, AreItems, ArePairs}
 use Rattle.cbor_values.specs.Refusals as places
 use Rattle.cbor_values.specs.Refusals.{Due, may_break, begins, IsCutHead, IsCutString, IsBadHead, IsBadKey, IsBadText, IsOutOfRange, IsTooDeep, Faults, IsOtherChunk, ChunkFaults}
-use Rattle.cbor_values.specs.Refusals.{GoesOn, definite, indefinite, Within, at_front, in_bytes, in_text, in_array, in_key, in_value, Stands}
-use Rattle.cbor_values.specs.Reading.{◌>>=◌, ValueReading, part_at, argument_at, kind_of, head_at, break_at, many_at, until_at, open_at, joined, letters_at}
+use Rattle.cbor_values.specs.Refusals.{HasNextMember, definite, indefinite, Within, at_front, in_bytes, in_text, in_array, in_key, in_value, Stands}
+use Rattle.cbor_values.specs.Reading.{◌>>=◌, ValueReading, front_part, argument_at, head_by, head_at, break_at, many_at, until_at, open_at, joined, letters_at}
 use Rattle.cbor_values.specs.Reading.{octets_of_head, letters_of_head, octets_chunk_at, text_chunk_at, octets_at, text_at, key_of_head, key_at, pair_at, whole_of, body_at, item_at}
 use Rattle.cbor_values.proofs.Steps.{bind_ok, ok_is, got}
 use Rattle.cbor_values.proofs.Front.{part_again, head_again, open_head, head_of_break}
 use Rattle.cbor_values.proofs.Again.{item_again}
-use Rattle.cbor_values.proofs.Bytes.{IsBytes, IsBytes-suffix}
-use Rattle.cbor_values.proofs.Takes.{IsFront, IsSized, IsDouble, half, single, double, head_takes}
+use Rattle.cbor_values.proofs.Takes.{IsFront, IsSized, IsDouble, half, single, double, head_takes, break_is}
 use Rattle.cbor_values.proofs.Faulty.{TellsMajor, major_of_head, front_major}
 use Rattle.cbor_values.proofs.Extents.{many_pass, until_pass, StillOpen, octets_pass, text_pass, IsPair, item_parts, pair_parts, item_begins, pair_begins, key_ends, item_ends, pair_ends_at}
 
@@ -136,20 +136,20 @@ whole_head (first ∷ rest) x cut read =
       ]
     ]
 
-whole_part : (n : ℕ) (bytes : List ℕ) (s : List ℕ × List ℕ) → length bytes < n → part_at n bytes ≡ Ok s → ⊥
+whole_part : (n : ℕ) (bytes : List ℕ) (s : List ℕ × List ℕ) → length bytes < n → front_part n bytes ≡ Ok s → ⊥
 whole_part n bytes s few read = absurd (let clash = rw (lt-ltb (length bytes) n few) at read in cc)
 
 -- a string of definite length, known by its head
 octets_known : (d n : ℕ) (bytes head rest : List ℕ) → Read d bytes → bytes ≡ head ++ rest → IsHead 2 n head
-    → (s : List ℕ × List ℕ) × (part_at n rest ≡ Ok s)
-unfolding kind_of octets_at
+    → (s : List ℕ × List ℕ) × (front_part n rest ≡ Ok s)
+unfolding head_by octets_at
 octets_known d n bytes head rest r is is_head =
     octets_use d (Some n) rest (known_use d bytes (heads.Bytes (Some n)) rest r
     (ap head_at is ∙ head_again 2 n head (heads.Bytes (Some n)) is_head (omega arith) refl rest))
 
 letters_known : (d n : ℕ) (bytes head rest : List ℕ) → Read d bytes → bytes ≡ head ++ rest → IsHead 3 n head
     → (s : List ℕ × List ℕ) × (letters_at n rest ≡ Ok s)
-unfolding kind_of text_at
+unfolding head_by text_at
 letters_known d n bytes head rest r is is_head =
     text_use d (Some n) rest (known_use d bytes (heads.Text (Some n)) rest r
     (ap head_at is ∙ head_again 3 n head (heads.Text (Some n)) is_head (omega arith) refl rest))
@@ -157,7 +157,7 @@ letters_known d n bytes head rest r is is_head =
 letters_whole : (n : ℕ) (rest : List ℕ) (s : List ℕ × List ℕ) → length rest < n → letters_at n rest ≡ Ok s → ⊥
 unfolding letters_at
 letters_whole n rest s few read =
-    let b = bind_ok (part_at n rest) (λ part. cond (is_utf8 part.0) (Ok part) (Err BadUtf8)) s read in
+    let b = bind_ok (front_part n rest) (λ part. cond (is_utf8 part.0) (Ok part) (Err BadUtf8)) s read in
     whole_part n rest b.0 few b.1
 
 letters_good : (text rest : List ℕ) (s : List ℕ × List ℕ) → (IsUtf8 text → ⊥) → letters_at (length text) (text ++ rest) ≡ Ok s → ⊥
@@ -182,7 +182,7 @@ no_bad_text d bytes r b =
     letters_good b.text b.rest s.0 b.bad s.1
 
 no_large : (d : ℕ) (bytes : List ℕ) → Read d bytes → IsOutOfRange bytes → ⊥
-unfolding kind_of
+unfolding head_by
 no_large d bytes r o = elim (cases_eq o.major 0) [
   | inl is ↦
       let is_head : IsHead 0 o.n o.head = subst (λ (m : ℕ). IsHead m o.n o.head) is o.is_head in
@@ -343,7 +343,7 @@ no_fault_at_break TooDeep place inside bytes after may is deep =
 no_fault_at_break Trailing place inside bytes after may is fault = fault
 no_fault_at_break (Memory error) place inside bytes after may is fault = fault
 
-goes_major : (major k : ℕ) (may : Bool) (head rest : List ℕ) → GoesOn major k may head → TellsMajor major (head ++ rest)
+goes_major : (major k : ℕ) (may : Bool) (head rest : List ℕ) → HasNextMember major k may head → TellsMajor major (head ++ rest)
 goes_major major k _ _ rest (definite n head is more) = major_of_head major n head rest is
 goes_major major k _ _ rest indefinite = let told : (32 * major + 31) / 32 ≡ major = omega arith in told
 
@@ -362,16 +362,6 @@ not_at_break e _ _ _ (in_value place inside k m head pairs key_bytes rest on are
 
 -- ---- chunks
 
-break_told : (bytes after : List ℕ) → break_at bytes ≡ Some after → bytes ≡ 255 ∷ after
-break_told [] after e = absurd cc
-break_told (first ∷ bytes) after e = elim (cases_Bool (eqb first 255)) [
-  | inl same ↦
-      let told : Some bytes ≡ Some after = rw same at e in
-      let tail : bytes ≡ after = cc in
-      ap (λ (f : ℕ). f ∷ bytes) (eqb-true first 255 same) ∙ ap (λ (t : List ℕ). 255 ∷ t) tail
-  | inr other ↦ absurd (let clash = rw other at e in cc)
-]
-
 -- the next one is read, where no break is due
 next_open : {X : Type 0} (one : List ℕ → ValueReading X) (rest after : List ℕ) → ((tail : List ℕ) → rest ≡ 255 ∷ tail → ⊥) → StillOpen one rest after
     → (x : X × List ℕ) × (one rest ≡ Ok x)
@@ -379,12 +369,12 @@ unfolding until_at
 next_open {X} one rest after unbroken (zero, (ys, read)) = go (break_at rest) refl
   where
     go : (o : Option (List ℕ)) → break_at rest ≡ o → (x : X × List ℕ) × (one rest ≡ Ok x)
-    go (Some tail) is = absurd (unbroken tail (break_told rest tail is))
+    go (Some tail) is = absurd (unbroken tail (break_is rest tail is))
     go None is = absurd (let clash = rw is at read in cc)
 next_open {X} one rest after unbroken (suc fuel, (ys, read)) = go (break_at rest) refl
   where
     go : (o : Option (List ℕ)) → break_at rest ≡ o → (x : X × List ℕ) × (one rest ≡ Ok x)
-    go (Some tail) is = absurd (unbroken tail (break_told rest tail is))
+    go (Some tail) is = absurd (unbroken tail (break_is rest tail is))
     go None is =
         let told = rw is at read in
         let a = bind_ok (one rest) (λ first. until_at one fuel first.1 >>= λ others. got (first.0 ∷ others.0) others.1) (ys, after) told in
@@ -468,7 +458,7 @@ same_head : (A : Head → List ℕ → Type 0) (bytes : List ℕ) (h k : Head ×
 same_head A bytes h k read known a = subst (λ (x : Head × List ℕ). A x.0 x.1) (ok_is h k (sym read ∙ known)) a
 
 octets_faulty : (e : CborRefusal) (bytes : List ℕ) (x : List ℕ × List ℕ) → IsBytes bytes → octets_chunk_at bytes ≡ Ok x → ChunkFaults e 2 bytes → ⊥
-unfolding kind_of
+unfolding head_by
 octets_faulty Cut bytes x fits read (inl cut) = let h = octets_chunk_read bytes x read in whole_head bytes h.0 cut h.1.0
 octets_faulty Cut bytes x fits read (inr c) =
     let h = octets_chunk_read bytes x read in
@@ -487,7 +477,7 @@ octets_faulty Trailing bytes x fits read fault = fault
 octets_faulty (Memory error) bytes x fits read fault = fault
 
 text_faulty : (e : CborRefusal) (bytes : List ℕ) (x : List ℕ × List ℕ) → IsBytes bytes → text_chunk_at bytes ≡ Ok x → ChunkFaults e 3 bytes → ⊥
-unfolding kind_of
+unfolding head_by
 text_faulty Cut bytes x fits read (inl cut) = let h = text_chunk_read bytes x read in whole_head bytes h.0 cut h.1.0
 text_faulty Cut bytes x fits read (inr c) =
     let h = text_chunk_read bytes x read in
@@ -512,7 +502,7 @@ text_faulty (Memory error) bytes x fits read fault = fault
 
 octets_excluded : (e : CborRefusal) (d : ℕ) (chunks joined rest : List ℕ) → Chunks 2 IsAny chunks joined → ChunkFaults e 2 rest → IsBytes rest
     → Read d (95 ∷ (chunks ++ rest)) → ⊥
-unfolding kind_of octets_at open_at
+unfolding head_by octets_at open_at
 octets_excluded e d chunks s rest are fault fits r =
     let inner = chunks ++ rest in
     let used = known_use d (95 ∷ inner) (heads.Bytes None) inner r (open_head 2 (heads.Bytes None) (omega arith) refl inner) in
@@ -524,7 +514,7 @@ octets_excluded e d chunks s rest are fault fits r =
 
 text_excluded : (e : CborRefusal) (d : ℕ) (chunks joined rest : List ℕ) → Chunks 3 IsAny chunks joined → ChunkFaults e 3 rest → IsBytes rest
     → Read d (127 ∷ (chunks ++ rest)) → ⊥
-unfolding kind_of text_at open_at
+unfolding head_by text_at open_at
 text_excluded e d chunks s rest are fault fits r =
     let inner = chunks ++ rest in
     let used = known_use d (127 ∷ inner) (heads.Text None) inner r (open_head 3 (heads.Text None) (omega arith) refl inner) in
@@ -549,9 +539,9 @@ record NextPair (d : ℕ) (rest : List ℕ) : Type 0 where
   pub x : Pair × List ℕ
   pub read : pair_at (item_at left) rest ≡ Ok x
 
-next_member : (d k : ℕ) (may : Bool) (head members rest : List ℕ) → GoesOn 4 k may head → AreItems k members
+next_member : (d k : ℕ) (may : Bool) (head members rest : List ℕ) → HasNextMember 4 k may head → AreItems k members
     → ((tail : List ℕ) → may ≡ true → rest ≡ 255 ∷ tail → ⊥) → Read d (head ++ (members ++ rest)) → NextMember d rest
-unfolding kind_of body_at open_at
+unfolding head_by body_at open_at
 next_member d k _ _ members rest (definite n head is_head more) are unbroken r =
     go (known_use d (head ++ (members ++ rest)) (heads.Array (Some n)) (members ++ rest) r (head_again 4 n head (heads.Array (Some n)) is_head (omega arith) refl (members ++ rest)))
   where
@@ -573,9 +563,9 @@ next_member d k _ _ members rest indefinite are unbroken r =
         record { left = e; is = is; x = y.0; read = y.1 }
     go (as_key x read) = absurd cc
 
-next_pair : (d k : ℕ) (may : Bool) (head pairs rest : List ℕ) → GoesOn 5 k may head → ArePairs k pairs
+next_pair : (d k : ℕ) (may : Bool) (head pairs rest : List ℕ) → HasNextMember 5 k may head → ArePairs k pairs
     → ((tail : List ℕ) → may ≡ true → rest ≡ 255 ∷ tail → ⊥) → Read d (head ++ (pairs ++ rest)) → NextPair d rest
-unfolding kind_of body_at open_at
+unfolding head_by body_at open_at
 next_pair d k _ _ pairs rest (definite n head is_head more) are unbroken r =
     go (known_use d (head ++ (pairs ++ rest)) (heads.Map (Some n)) (pairs ++ rest) r (head_again 5 n head (heads.Map (Some n)) is_head (omega arith) refl (pairs ++ rest)))
   where

@@ -15,7 +15,7 @@ use Rattle.cbor_values.specs.Heads.{IsHead}
 use Rattle.cbor_values.specs.Strings.{IsAny, Chunks, no_chunk, one_chunk, whole, chunked}
 use Rattle.cbor_values.specs.Items as items
 use Rattle.cbor_values.specs.Items.{IsItem, AreItems, ArePairs}
-use Rattle.cbor_values.specs.Reading.{◌>>=◌, ValueReading, part_at, kind_of, float_at, head_at, break_at, many_at, until_at, open_at, joined}
+use Rattle.cbor_values.specs.Reading.{◌>>=◌, ValueReading, front_part, head_by, float_at, head_at, break_at, many_at, until_at, open_at, joined}
 use Rattle.cbor_values.specs.Reading.{letters_at, octets_chunk_at, text_chunk_at, octets_at, text_at, key_of_head, key_at, pair_at, whole_of, body_at, item_at}
 use Rattle.cbor_values.proofs.Steps.{bind_ok, ok_is, got}
 use Rattle.cbor_values.proofs.Rows.{Starts, unbroken}
@@ -93,7 +93,7 @@ chunk_parts major _ _ (one_chunk head part bytes s is_head kind chunks) =
     (suc rest.0, subst (λ (b : List ℕ). Parts (IsAnyChunk major) (suc rest.0) b) (append_assoc head part bytes) (one_part rest.0 (head ++ part) bytes here rest.1))
 
 octets_end : (bytes : List ℕ) → IsAnyChunk 2 bytes → Ends octets_chunk_at bytes
-unfolding octets_chunk_at kind_of
+unfolding octets_chunk_at head_by
 octets_end bytes chunk rest x after read =
     let front : bytes ++ rest ≡ chunk.head ++ (chunk.part ++ rest) = ap (λ (b : List ℕ). b ++ rest) chunk.is ∙ append_assoc chunk.head chunk.part rest in
     let told : octets_chunk_at (chunk.head ++ (chunk.part ++ rest)) ≡ got x after = ap octets_chunk_at (sym front) ∙ read in
@@ -112,7 +112,7 @@ letters_end s rest x after read =
     ]
 
 text_end : (bytes : List ℕ) → IsAnyChunk 3 bytes → Ends text_chunk_at bytes
-unfolding text_chunk_at kind_of
+unfolding text_chunk_at head_by
 text_end bytes chunk rest x after read =
     let front : bytes ++ rest ≡ chunk.head ++ (chunk.part ++ rest) = ap (λ (b : List ℕ). b ++ rest) chunk.is ∙ append_assoc chunk.head chunk.part rest in
     let told : text_chunk_at (chunk.head ++ (chunk.part ++ rest)) ≡ got x after = ap text_chunk_at (sym front) ∙ read in
@@ -126,7 +126,7 @@ head_start = record { nothing = head_of_nothing; broken = head_of_break }
 pub head_unbroken : (bytes : List ℕ) (kind : Head) (inner : List ℕ) → head_at bytes ≡ Ok (kind, inner) → break_at bytes ≡ None
 head_unbroken bytes kind inner e = unbroken head_at head_start bytes (kind, inner) e
 
-chunk_begins : (major : ℕ) (kind : Option ℕ → Head) → major < 6 → ((size : Option ℕ) → kind_of major size ≡ Ok (kind size))
+chunk_begins : (major : ℕ) (kind : Option ℕ → Head) → major < 6 → ((size : Option ℕ) → head_by major size ≡ Ok (kind size))
     → (bytes : List ℕ) → IsAnyChunk major bytes → (rest : List ℕ) → break_at (bytes ++ rest) ≡ None
 chunk_begins major kind low is bytes chunk rest =
     let front : bytes ++ rest ≡ chunk.head ++ (chunk.part ++ rest) = ap (λ (b : List ℕ). b ++ rest) chunk.is ∙ append_assoc chunk.head chunk.part rest in
@@ -135,14 +135,14 @@ chunk_begins major kind low is bytes chunk rest =
 
 pub octets_pass : (chunks s : List ℕ) → Chunks 2 IsAny chunks s → (fuel : ℕ) (rest : List ℕ) (xs : List (List ℕ)) (after : List ℕ)
     → until_at octets_chunk_at fuel (chunks ++ rest) ≡ got xs after → StillOpen octets_chunk_at rest after
-unfolding kind_of
+unfolding head_by
 octets_pass chunks s are fuel rest xs after read =
     let p = chunk_parts 2 chunks s are in
     until_pass (IsAnyChunk 2) octets_chunk_at octets_end (chunk_begins 2 heads.Bytes (omega arith) (λ size. refl)) p.0 chunks p.1 fuel rest xs after read
 
 pub text_pass : (chunks s : List ℕ) → Chunks 3 IsAny chunks s → (fuel : ℕ) (rest : List ℕ) (xs : List (List ℕ)) (after : List ℕ)
     → until_at text_chunk_at fuel (chunks ++ rest) ≡ got xs after → StillOpen text_chunk_at rest after
-unfolding kind_of
+unfolding head_by
 text_pass chunks s are fuel rest xs after read =
     let p = chunk_parts 3 chunks s are in
     until_pass (IsAnyChunk 3) text_chunk_at text_end (chunk_begins 3 heads.Text (omega arith) (λ size. refl)) p.0 chunks p.1 fuel rest xs after read
@@ -198,7 +198,7 @@ float_front : (widen : ℕ → ℕ) (width : ℕ) (bits rest : List ℕ) → len
 float_front widen width bits rest size = rw (part_again bits rest width size) refl
 
 pub item_front : (bytes : List ℕ) → IsItem bytes → (rest : List ℕ) → ItemFront bytes rest
-unfolding kind_of head_at
+unfolding head_by head_at
 item_front _ items.item_null rest = record { kind = heads.Null; inner = rest; front = refl; holds = refl }
 item_front _ items.item_false rest = record { kind = heads.Bool false; inner = rest; front = refl; holds = refl }
 item_front _ items.item_true rest = record { kind = heads.Bool true; inner = rest; front = refl; holds = refl }
@@ -275,7 +275,7 @@ second_is {X} x y rest after e = sym (ap (λ (p : X × List ℕ). p.1) (ok_is (x
 string_octets : (size : Option ℕ) (inner rest s after : List ℕ) → HoldsString 2 size inner rest → octets_at size inner ≡ got s after → after ≡ rest
 unfolding octets_at open_at
 string_octets (Some n) inner rest s after holds read =
-    second_is holds.0 s rest after (sym (ap (part_at n) holds.2 ∙ part_again holds.0 rest n holds.1) ∙ read)
+    second_is holds.0 s rest after (sym (ap (front_part n) holds.2 ∙ part_again holds.0 rest n holds.1) ∙ read)
 string_octets None inner rest s after holds read =
     let told : octets_at None (holds.0 ++ 255 ∷ rest) ≡ got s after = ap (octets_at None) (sym holds.3) ∙ read in
     let b = bind_ok (until_at octets_chunk_at (length (holds.0 ++ 255 ∷ rest)) (holds.0 ++ 255 ∷ rest)) (λ parts. got (joined parts.0) parts.1) (s, after) told in

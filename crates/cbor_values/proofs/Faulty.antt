@@ -4,6 +4,7 @@ use Rattle.std.specs.Str.{IsUtf8, is_utf8}
 use Rattle.std.proofs.lemmas.Bool.{ltb-false, ltb-true, le-ltb, lt-ltb, eqb-true, eqb-false, ne_eqb, cases_Bool, cases_eq, eq-eqb, or_parts}
 use Rattle.byteorder.specs.Endian.{big_number}
 use Rattle.std.proofs.lemmas.Str.{is_utf8-from_IsUtf8}
+use Rattle.lists.proofs.AllBytes.{IsBytes, IsBytes-tail}
 use Rattle.cbor_values.specs.declared.refusal.CborRefusal.{CborRefusal}
 use Rattle.cbor_values.specs.declared.refusal.CborRefusal.TheVariants.{Cut, BadHead, BadUtf8}
 use Rattle.cbor_values.specs.declared.heads.Head.{Head}
@@ -11,9 +12,8 @@ use Rattle.cbor_values.specs.declared.heads.Head.TheVariants as heads
 use Rattle.cbor_values.specs.Floats.{of_half, of_single}
 use Rattle.cbor_values.specs.Heads.{IsHead, short, long, argument_len}
 use Rattle.cbor_values.specs.Refusals.{Due, may_break, begins, IsCutHead, IsCutString, IsBadText, Faults, IsOtherChunk, ChunkFaults}
-use Rattle.cbor_values.specs.Reading.{◌>>=◌, part_at, argument_at, number_of, kind_of, float_at, head_at, break_at, letters_at, octets_of_head, letters_of_head, octets_chunk_at, text_chunk_at}
+use Rattle.cbor_values.specs.Reading.{◌>>=◌, front_part, argument_at, head_of_argument, head_by, float_at, head_at, break_at, letters_at, octets_of_head, letters_of_head, octets_chunk_at, text_chunk_at}
 use Rattle.cbor_values.proofs.Steps.{bind_err, err_is, failed, got}
-use Rattle.cbor_values.proofs.Bytes.{IsBytes, IsBytes-tail}
 use Rattle.cbor_values.proofs.Takes.{IsArgument, direct, following, none, IsFront, IsSized, IsDouble, half, single, double, argument_takes, head_takes, part_split}
 
 -- ---- heads
@@ -73,7 +73,7 @@ begins_high first high n0 n1 n2 n3 n4 n5 = elim (cases_Bool (eqb (first / 32) 7)
   | inr f ↦ rw (le-ltb (first / 32) 2 (omega arith), le-ltb (first / 32) 6 high, f) refl
 ]
 
-pub part_fails : (n : ℕ) (bytes : List ℕ) (e : CborRefusal) → part_at n bytes ≡ Err e → (Cut ≡ e) × (length bytes < n)
+pub part_fails : (n : ℕ) (bytes : List ℕ) (e : CborRefusal) → front_part n bytes ≡ Err e → (Cut ≡ e) × (length bytes < n)
 part_fails n bytes e fails = elim (cases_Bool (ltb (length bytes) n)) [
   | inl few ↦ (err_is {A = List ℕ × List ℕ} Cut e (rw few at fails), ltb-true (length bytes) n few)
   | inr enough ↦ absurd (let clash = rw enough at fails in cc)
@@ -87,7 +87,7 @@ argument_fails info bytes e fails = elim (cases_Bool (ltb info 24)) [
   | inr large ↦ elim (cases_Bool (ltb info 28)) [
     | inl wide ↦
         let stops = rw (large, wide) at fails in
-        elim (bind_err (part_at (argument_len info) bytes) (λ part. got (Some (big_number (argument_len info) part.0)) part.1) e stops) [
+        elim (bind_err (front_part (argument_len info) bytes) (λ part. got (Some (big_number (argument_len info) part.0)) part.1) e stops) [
           | inl here ↦
               let p = part_fails (argument_len info) bytes e here in
               inl (p.0, ltb-false info 24 large, ltb-true info 28 wide, p.1)
@@ -101,16 +101,16 @@ argument_fails info bytes e fails = elim (cases_Bool (ltb info 24)) [
 ]
 
 number_fails : (make : ℕ → Head) (info : ℕ) (part : List ℕ) (argument : Option ℕ) (e : CborRefusal) → IsArgument info part argument
-    → number_of make argument ≡ Err e → (BadHead ≡ e) × (info ≡ 31)
+    → head_of_argument make argument ≡ Err e → (BadHead ≡ e) × (info ≡ 31)
 number_fails make info _ _ e (direct small) fails = absurd cc
 number_fails make info _ _ e (following n low high fits) fails = absurd cc
 number_fails make info _ _ e (none open_ended) fails = (err_is {A = Head} BadHead e fails, open_ended)
 
 kind_fails : (first : ℕ) (part : List ℕ) (argument : Option ℕ) (e : CborRefusal)
     → (first ≡ 244 → ⊥) → (first ≡ 245 → ⊥) → (first ≡ 246 → ⊥) → (first ≡ 249 → ⊥) → (first ≡ 250 → ⊥) → (first ≡ 251 → ⊥)
-    → IsArgument (first % 32) part argument → kind_of (first / 32) argument ≡ Err e
+    → IsArgument (first % 32) part argument → head_by (first / 32) argument ≡ Err e
     → (BadHead ≡ e) × (begins (first / 32) (first % 32) ≡ false)
-unfolding kind_of
+unfolding head_by
 kind_fails first part argument e n0 n1 n2 n3 n4 n5 is fails =
     elim (cases_Bool (eqb (first / 32) 0)) [
       | inl t0 ↦
@@ -146,7 +146,7 @@ kind_fails first part argument e n0 n1 n2 n3 n4 n5 is fails =
 float_fails : (widen : ℕ → ℕ) (width : ℕ) (bytes : List ℕ) (e : CborRefusal) → float_at widen width bytes ≡ Err e
     → (Cut ≡ e) × (length bytes < width)
 float_fails widen width bytes e fails =
-    elim (bind_err (part_at width bytes) (λ part. got (heads.Double (widen (big_number width part.0))) part.1) e fails) [
+    elim (bind_err (front_part width bytes) (λ part. got (heads.Double (widen (big_number width part.0))) part.1) e fails) [
       | inl here ↦ part_fails width bytes e here
       | inr never ↦ absurd (let clash = never.2 in cc)
     ]
@@ -176,14 +176,14 @@ head_fails (first ∷ bytes) e fits fails =
                 | inl t5 ↦ float_head 251 (λ bits. bits) 8 first bytes e (eqb-true first 251 t5) (omega arith, omega arith, refl) (rw (f0, f1, f2, f3, f4, t5) at fails)
                 | inr f5 ↦
                     let stops = rw (f0, f1, f2, f3, f4, f5) at fails in
-                    elim (bind_err (argument_at (first % 32) bytes) (λ argument. kind_of (first / 32) argument.0 >>= λ head. got head argument.1) e stops) [
+                    elim (bind_err (argument_at (first % 32) bytes) (λ argument. head_by (first / 32) argument.0 >>= λ head. got head argument.1) e stops) [
                       | inl here ↦ elim (argument_fails (first % 32) bytes e here) [
                         | inl cut ↦ inl (cut.0, (cut.1, cut.2, cut.3))
                         | inr bad ↦ inr (bad.0, begins_reserved (first / 32) (first % 32) bad.1 bad.2)
                       ]
                       | inr there ↦
                           let t = argument_takes (first % 32) bytes there.0.0 there.0.1 (IsBytes-tail first bytes fits) there.1 in
-                          elim (bind_err (kind_of (first / 32) there.0.0) (λ head. got head there.0.1) e there.2) [
+                          elim (bind_err (head_by (first / 32) there.0.0) (λ head. got head there.0.1) e there.2) [
                             | inl bad ↦ inr (kind_fails first t.front there.0.0 e (eqb-false first 244 f0) (eqb-false first 245 f1) (eqb-false first 246 f2) (eqb-false first 249 f3)
                                 (eqb-false first 250 f4) (eqb-false first 251 f5) t.is bad)
                             | inr never ↦ absurd (let clash = never.2 in cc)
@@ -278,7 +278,7 @@ pub letters_fail : (n : ℕ) (inner : List ℕ) (e : CborRefusal) → IsBytes in
     → ((Cut ≡ e) × (length inner < n)) ⊎ ((BadUtf8 ≡ e) × BadLetters n inner)
 unfolding letters_at
 letters_fail n inner e fits fails =
-    elim (bind_err (part_at n inner) (λ part. cond (is_utf8 part.0) (Ok part) (Err BadUtf8)) e fails) [
+    elim (bind_err (front_part n inner) (λ part. cond (is_utf8 part.0) (Ok part) (Err BadUtf8)) e fails) [
       | inl here ↦ inl (part_fails n inner e here)
       | inr later ↦
           let part = later.0 in

@@ -8,10 +8,10 @@ use Rattle.cbor_values.specs.declared.refusal.CborRefusal.TheVariants.{Cut, BadH
 use Rattle.cbor_values.specs.declared.heads.Head.{Head}
 use Rattle.cbor_values.specs.declared.heads.Head.TheVariants as heads
 use Rattle.cbor_values.specs.Heads.{IsHead, short, long, argument_len}
-use Rattle.cbor_values.specs.Reading.{◌>>=◌, part_at, argument_at, kind_of, float_at, head_at}
+use Rattle.cbor_values.specs.Reading.{◌>>=◌, front_part, argument_at, head_by, float_at, head_at}
 
 -- exactly that number of bytes is there
-pub part_again : (part rest : List ℕ) (n : ℕ) → length part ≡ n → part_at n (part ++ rest) ≡ Ok (part, rest)
+pub part_again : (part rest : List ℕ) (n : ℕ) → length part ≡ n → front_part n (part ++ rest) ≡ Ok (part, rest)
 part_again part rest n len =
     rw (le-ltb (length (part ++ rest)) n (omega (arith, length-append part rest)), take_at part rest n len, drop_at part rest n len) refl
 
@@ -21,7 +21,7 @@ number_again width n fits =
 
 -- a first byte that isn't one of those that stand for themselves
 head_by_argument : (first : ℕ) (rest : List ℕ) → first < 224
-    → head_at (first ∷ rest) ≡ (argument_at (first % 32) rest >>= λ argument. kind_of (first / 32) argument.0 >>= λ head. Ok (head, argument.1))
+    → head_at (first ∷ rest) ≡ (argument_at (first % 32) rest >>= λ argument. head_by (first / 32) argument.0 >>= λ head. Ok (head, argument.1))
 unfolding head_at
 head_by_argument first rest small =
     rw (
@@ -46,7 +46,7 @@ argument_long info n rest low high fits =
 
 -- a head of a major type below 6
 pub head_again : (major n : ℕ) (head : List ℕ) (kind : Head) → IsHead major n head → major < 6
-    → kind_of major (Some n) ≡ Ok kind → (rest : List ℕ) → head_at (head ++ rest) ≡ Ok (kind, rest)
+    → head_by major (Some n) ≡ Ok kind → (rest : List ℕ) → head_at (head ++ rest) ≡ Ok (kind, rest)
 head_again major n _ kind (short small) low known rest =
     let info : (32 * major + n) % 32 ≡ n = omega arith in
     let upper : (32 * major + n) / 32 ≡ major = omega arith in
@@ -58,7 +58,7 @@ head_again major n _ kind (long info least most fits) low known rest =
     ∙ rw (lower, upper, argument_long info n rest least most fits, known) refl
 
 -- the head of a string, an array or a map of indefinite length
-pub open_head : (major : ℕ) (kind : Head) → major < 6 → kind_of major None ≡ Ok kind
+pub open_head : (major : ℕ) (kind : Head) → major < 6 → head_by major None ≡ Ok kind
     → (rest : List ℕ) → head_at ((32 * major + 31) ∷ rest) ≡ Ok (kind, rest)
 unfolding argument_at
 open_head major kind low known rest =
@@ -74,7 +74,7 @@ float_again widen width bits rest fits =
 
 -- a break is no head
 pub head_of_break : (rest : List ℕ) → head_at (255 ∷ rest) ≡ Err BadHead
-unfolding head_at argument_at kind_of
+unfolding head_at argument_at head_by
 head_of_break rest = refl
 
 pub head_of_nothing : head_at [] ≡ Err Cut

@@ -1,5 +1,5 @@
 -- An item that is read is one of the bytes that it took, and at most as deep as was allowed.
-use Rattle.std.proofs.Common.{◌≡◌, ℕ, zero, suc, ◌^◌, ◌<◌, ◌≤◌, Bool, true, false, cond, ltb, List, [], ◌∷◌, ◌++◌, map, Option, Some, None, Err, refl, sym, ap, subst, ◌∙◌, append_assoc, arith, inl, inr}
+use Rattle.std.proofs.Common.{◌≡◌, ℕ, zero, suc, ◌^◌, ◌<◌, ◌≤◌, ltb, List, [], ◌∷◌, ◌++◌, map, Option, Some, None, Err, refl, sym, ap, subst, ◌∙◌, append_assoc, arith, inl, inr}
 use Rattle.std.specs.Prelude.{pos, negsuc}
 use Rattle.std.proofs.lemmas.Bool.{ltb-true, cases_Bool}
 use Rattle.otlp_model.specs.declared.value.Value.{Value}
@@ -12,17 +12,18 @@ use Rattle.cbor_values.specs.declared.refusal.CborRefusal.TheVariants.{TooDeep}
 use Rattle.cbor_values.specs.declared.heads.Head.{Head}
 use Rattle.cbor_values.specs.declared.heads.Head.TheVariants as heads
 use Rattle.cbor_values.specs.Heads.{IsHead}
-use Rattle.cbor_values.specs.Cbor.{Cbor, Members, Pairs, is_null, is_false, is_true, is_whole, is_negative, is_half, is_single, is_double}
+use Rattle.cbor_values.specs.Cbor.{Cbor, Members, Pairs, is_null, is_whole, is_negative, is_half, is_single, is_double}
 use Rattle.cbor_values.specs.Cbor.{is_bytes, is_text, is_array, is_open_array, is_map, is_open_map, no_member, one_member, no_pair, one_pair}
 use Rattle.cbor_values.specs.Reading.{◌>>=◌, head_at, many_at, open_at, octets_at, text_at, octets_chunk_at, text_chunk_at, pair_at, whole_of, body_at, item_at}
 use Rattle.cbor_values.specs.Strings.{IsAny}
 use Rattle.std.specs.Str.{IsUtf8}
+use Rattle.lists.proofs.AllBytes.{IsBytes, IsBytes-tail}
 use Rattle.cbor_values.proofs.Steps.{bind_ok, got, got_is}
-use Rattle.cbor_values.proofs.Bytes.{IsBytes, IsBytes-tail}
 use Rattle.cbor_values.proofs.Rows.{Row, no_more, one_more}
 use Rattle.cbor_values.proofs.Again.{IsChunk, Shallow, ShallowPair, octets_start, octets_chunk_again, text_start, text_chunk_again, item_start, item_again, pair_start, pair_again}
 use Rattle.cbor_values.proofs.Takes.{Taken, IsFront, IsSized, IsDouble, half, single, double, head_takes, many_takes, open_takes, octets_chunk_takes, text_chunk_takes, octets_takes, text_takes, pair_takes}
 use Rattle.cbor_values.proofs.Loops.{Reader}
+use Rattle.cbor_values.proofs.WrittenLaws.{cbor_bool}
 
 row_members : (d : ℕ) (bytes : List ℕ) (members : List Value) → Row (Shallow d) bytes members
     → Members bytes members × (greatest (map depth_of members) ≤ d)
@@ -41,10 +42,6 @@ row_pairs d _ _ (one_more bytes others pair pairs shallow row) =
           (one_pair shallow.key_bytes shallow.value_bytes others pair.key pair.value pairs shallow.is_key shallow.is_value rest.0),
       omega (arith, shallow.shallow, rest.1),
     )
-
-cbor_bool : (flag : Bool) → Cbor ((cond flag 245 244) ∷ []) (values.Bool flag)
-cbor_bool true = is_true
-cbor_bool false = is_false
 
 cbor_double : (front : List ℕ) (wide : ℕ) → IsDouble front wide → Cbor front (values.Double wide)
 cbor_double _ _ (half bits fits) = is_half bits fits

@@ -6,7 +6,7 @@ use Rattle.std.proofs.lemmas.Bool.{false_from_ne_true}
 use Rattle.std.proofs.lemmas.List.{append-nil}
 use Rattle.std.proofs.lemmas.Str.{is_utf8-from_IsUtf8, IsUtf8-from_is_utf8}
 use Rattle.cbor_values.specs.declared.refusal.CborRefusal.TheVariants.{BadUtf8}
-use Rattle.cbor_values.specs.Reading.{part_at, letters_at}
+use Rattle.cbor_values.specs.Reading.{front_part, letters_at}
 use Rattle.cbor_values.proofs.Steps.{got}
 
 encode_utf8_all-push : (letters : List ℕ) (letter : ℕ)
@@ -24,12 +24,12 @@ letter_pushed before text new letters letter is pushed =
     ∙ append_assoc before (encode_utf8_all letters) (encode_utf8 letter)
     ∙ ap (λ (t : List ℕ). before ++ t) (sym (encode_utf8_all-push letters letter))
 
-pub letters_read : (n : ℕ) (bytes part letters rest : List ℕ) → part_at n bytes ≡ got part rest → letters ≡ part → IsUtf8 part
+pub letters_read : (n : ℕ) (bytes part letters rest : List ℕ) → front_part n bytes ≡ got part rest → letters ≡ part → IsUtf8 part
     → letters_at n bytes ≡ got letters rest
 unfolding letters_at
 letters_read n bytes part letters rest e same utf8 = rw (e, is_utf8-from_IsUtf8 part utf8) (ap (λ (t : List ℕ). got t rest) (sym same))
 
-pub letters_refused : (n : ℕ) (bytes part rest : List ℕ) → part_at n bytes ≡ got part rest → (IsUtf8 part → ⊥)
+pub letters_refused : (n : ℕ) (bytes part rest : List ℕ) → front_part n bytes ≡ got part rest → (IsUtf8 part → ⊥)
     → letters_at n bytes ≡ Err BadUtf8
 unfolding letters_at
 letters_refused n bytes part rest e bad =

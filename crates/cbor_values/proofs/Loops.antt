@@ -1,12 +1,12 @@
 -- Reading one after the other, as loops do.
 use Rattle.std.proofs.Common.{◌≡◌, ℕ, zero, suc, ◌+◌, ◌-◌, ◌<◌, ◌≤◌, List, [], ◌∷◌, ◌++◌, length, Option, Some, None, Result, Ok, Err, refl, sym, ap, subst, ◌∙◌, append_assoc, arith}
 use Rattle.std.proofs.lemmas.List.{append-nil, length-append}
+use Rattle.lists.proofs.AllBytes.{IsBytes}
 use Rattle.cbor_values.specs.declared.refusal.CborRefusal.{CborRefusal}
 use Rattle.cbor_values.specs.declared.refusal.CborRefusal.TheVariants.{Cut, BadHead, BadKey, BadUtf8, OutOfRange, TooDeep, Trailing, Memory}
 use Rattle.cbor_values.specs.Reading.{◌>>=◌, ValueReading, head_at, break_at, many_at, until_at, open_at, joined, body_at, item_at}
 use Rattle.cbor_values.specs.Returned.{Fails}
 use Rattle.cbor_values.proofs.Steps.{got}
-use Rattle.cbor_values.proofs.Bytes.{IsBytes}
 use Rattle.cbor_values.proofs.Rows.{Starts, some_bytes}
 use Rattle.cbor_values.proofs.Takes.{Taken}
 

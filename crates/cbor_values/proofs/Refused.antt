@@ -3,6 +3,7 @@ use Rattle.std.proofs.Common.{◌≡◌, ℕ, zero, suc, ◌+◌, ◌^◌, ◌<�
 use Rattle.std.specs.Prelude.{pos, negsuc}
 use Rattle.std.specs.Str.{IsUtf8}
 use Rattle.std.proofs.lemmas.Bool.{ltb-false, cases_Bool}
+use Rattle.lists.proofs.AllBytes.{IsBytes}
 use Rattle.otlp_model.specs.declared.value.Value.{Value}
 use Rattle.otlp_model.specs.declared.value.Value as values
 use Rattle.otlp_model.specs.declared.value.Pair.{Pair}
@@ -14,11 +15,10 @@ use Rattle.cbor_values.specs.Heads.{IsHead}
 use Rattle.cbor_values.specs.Strings.{IsAny}
 use Rattle.cbor_values.specs.Items.{ArePairs}
 use Rattle.cbor_values.specs.Refusals as places
-use Rattle.cbor_values.specs.Refusals.{Due, may_break, IsBadKey, Faults, GoesOn, definite, indefinite, Within}
+use Rattle.cbor_values.specs.Refusals.{Due, may_break, IsBadKey, Faults, HasNextMember, definite, indefinite, Within}
 use Rattle.cbor_values.specs.Refusals.{at_front, in_bytes, in_text, in_array, in_key, in_value, IsTrailing, Stands}
 use Rattle.cbor_values.specs.Reading.{◌>>=◌, head_at, many_at, open_at, joined, octets_chunk_at, text_chunk_at, octets_at, text_at, key_of_head, key_at, pair_at, whole_of, body_at, item_at, whole_item, all_at}
 use Rattle.cbor_values.proofs.Steps.{bind_err, err_is, failed, got}
-use Rattle.cbor_values.proofs.Bytes.{IsBytes}
 use Rattle.cbor_values.proofs.Front.{head_of_break, head_of_nothing}
 use Rattle.cbor_values.proofs.Again.{IsChunk, Shallow, ShallowPair}
 use Rattle.cbor_values.proofs.Takes.{IsFront, IsSized, head_takes, row_chunks, key_takes}
@@ -145,7 +145,7 @@ ItemRefused d inside = (place : Due) (bytes : List ℕ) (e : CborRefusal) → Is
 
 -- what stopped a reading of pairs: a key, or a value after its key
 pair_refused : (d inside : ℕ) → ItemRefused d (suc inside) → (place : Due) (k : ℕ) (may : Bool) (head pairs rest : List ℕ) (e : CborRefusal)
-    → GoesOn 5 k may head → ArePairs k pairs → IsBytes rest → Closed may rest → pair_at (item_at d) rest ≡ Err e
+    → HasNextMember 5 k may head → ArePairs k pairs → IsBytes rest → Closed may rest → pair_at (item_at d) rest ≡ Err e
     → Within e place inside (head ++ (pairs ++ rest))
 unfolding pair_at
 pair_refused d inside refused place k may head pairs rest e on are fits closed fails =

@@ -1,5 +1,5 @@
 -- Steps of a reading that may fail.
-use Rattle.std.proofs.Common.{◌≡◌, ℕ, List, Some, Result, Ok, Err, refl, ap, subst, ◌⊎◌, inl, inr}
+use Rattle.std.proofs.Common.{◌≡◌, ℕ, List, Result, Ok, Err, refl, ap, subst, ◌⊎◌, inl, inr}
 use Rattle.cbor_values.specs.declared.refusal.CborRefusal.{CborRefusal}
 use Rattle.cbor_values.specs.Reading.{◌>>=◌, ValueReading}
 
@@ -35,6 +35,3 @@ got x rest = Ok (x, rest)
 pub got_is : {X : Type 0} (P : X → List ℕ → Type 0) (x : X) (bytes : List ℕ) (y : X) (rest : List ℕ)
     → got x bytes ≡ got y rest → P x bytes → P y rest
 got_is {X} P x bytes y rest e p = subst (λ (z : X × List ℕ). P z.0 z.1) (ok_is (x, bytes) (y, rest) e) p
-
-pub some_is : {A : Type 0} (x y : A) → Some x ≡ Some y → x ≡ y
-some_is x y e = cc

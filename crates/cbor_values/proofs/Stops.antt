@@ -1,10 +1,10 @@
 -- Where a reading of one after the other stops.
 use Rattle.std.proofs.Common.{◌≡◌, ℕ, zero, suc, ◌<◌, ◌≤◌, List, [], ◌∷◌, ◌++◌, length, Option, Some, None, Err, refl, sym, ap, ◌∙◌, append_assoc, arith, inl, inr}
+use Rattle.lists.proofs.AllBytes.{IsBytes}
 use Rattle.cbor_values.specs.declared.refusal.CborRefusal.{CborRefusal}
 use Rattle.cbor_values.specs.declared.refusal.CborRefusal.TheVariants.{Cut}
 use Rattle.cbor_values.specs.Reading.{◌>>=◌, ValueReading, break_at, many_at, until_at, open_at}
 use Rattle.cbor_values.proofs.Steps.{bind_err, err_is, failed, got}
-use Rattle.cbor_values.proofs.Bytes.{IsBytes}
 use Rattle.cbor_values.proofs.Rows.{Row, no_more, one_more}
 use Rattle.cbor_values.proofs.Loops.{Reader, shorter}
 

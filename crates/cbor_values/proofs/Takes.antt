@@ -6,6 +6,7 @@ use Rattle.std.proofs.lemmas.Bool.{ltb-false, ltb-true, eqb-true, cases_Bool}
 use Rattle.std.proofs.lemmas.List.{take-append-drop, length-take}
 use Rattle.std.proofs.lemmas.Str.{IsUtf8-from_is_utf8}
 use Rattle.byteorder.specs.Endian.{big_bytes, big_number}
+use Rattle.lists.proofs.AllBytes.{IsBytes, IsBytes-drop, IsBytes-take, IsBytes-tail}
 use Rattle.otlp_model.specs.declared.value.Value.{Value}
 use Rattle.otlp_model.specs.declared.value.Pair.{Pair}
 use Rattle.cbor_values.specs.declared.refusal.CborRefusal.TheVariants.{BadUtf8}
@@ -14,10 +15,10 @@ use Rattle.cbor_values.specs.declared.heads.Head.TheVariants as heads
 use Rattle.cbor_values.specs.Floats.{of_half, of_single}
 use Rattle.cbor_values.specs.Heads.{IsHead, short, long, argument_len}
 use Rattle.cbor_values.specs.Strings.{IsAny, Chunks, no_chunk, one_chunk, IsString, whole, chunked}
-use Rattle.cbor_values.specs.Reading.{◌>>=◌, ValueReading, part_at, argument_at, number_of, kind_of, float_at, head_at, break_at, many_at, until_at, open_at}
+use Rattle.cbor_values.specs.Reading.{◌>>=◌, ValueReading, front_part, argument_at, head_of_argument, head_by, float_at, head_at, break_at, many_at, until_at, open_at}
 use Rattle.cbor_values.specs.Reading.{joined, letters_at, octets_of_head, letters_of_head, octets_chunk_at, text_chunk_at, octets_at, text_at, key_of_head, key_at, pair_at, item_at}
 use Rattle.cbor_values.proofs.Steps.{bind_ok, ok_is, got, got_is}
-use Rattle.cbor_values.proofs.Bytes.{IsBytes, IsBytes-drop, IsBytes-take, IsBytes-tail, number_back, number_fits}
+use Rattle.cbor_values.proofs.Bytes.{number_back, number_fits}
 use Rattle.cbor_values.proofs.Rows.{Row, no_more, one_more}
 use Rattle.cbor_values.proofs.Again.{IsChunk, Shallow, ShallowPair}
 
@@ -36,7 +37,7 @@ pub record IsPart (n : ℕ) (front part : List ℕ) : Type 0 where
   pub size : length part ≡ n
   pub bytes : IsBytes part
 
-pub part_takes : (n : ℕ) (bytes part rest : List ℕ) → IsBytes bytes → part_at n bytes ≡ Ok (part, rest)
+pub part_takes : (n : ℕ) (bytes part rest : List ℕ) → IsBytes bytes → front_part n bytes ≡ Ok (part, rest)
     → Taken (IsPart n) bytes part rest
 part_takes n bytes part rest fits e = elim (cases_Bool (ltb (length bytes) n)) [
   | inl few ↦ absurd (let clash = rw few at e in cc)
@@ -75,7 +76,7 @@ argument_takes info bytes argument rest fits e = elim (cases_Bool (ltb info 24))
   | inr large ↦ elim (cases_Bool (ltb info 28)) [
     | inl wide ↦
         let read = rw (large, wide) at e in
-        let b = bind_ok (part_at (argument_len info) bytes) (λ part. Ok (Some (big_number (argument_len info) part.0), part.1)) (argument, rest) read in
+        let b = bind_ok (front_part (argument_len info) bytes) (λ part. Ok (Some (big_number (argument_len info) part.0), part.1)) (argument, rest) read in
         let t = part_takes (argument_len info) bytes b.0.0 b.0.1 fits b.1 in
         let n = big_number (argument_len info) b.0.0 in
         let spelled = number_of_part (argument_len info) b.0.0 t.is.size t.is.bytes in
@@ -133,14 +134,14 @@ sized_by first _ _ (none open_ended) =
 
 number_takes : (make : ℕ → Head) (major first : ℕ) (part : List ℕ) (argument : Option ℕ) (kind : Head)
     → ((n : ℕ) → IsHead major n (first ∷ part) → IsFront (first ∷ part) (make n))
-    → IsSized major (first ∷ part) argument → number_of make argument ≡ Ok kind → IsFront (first ∷ part) kind
+    → IsSized major (first ∷ part) argument → head_of_argument make argument ≡ Ok kind → IsFront (first ∷ part) kind
 number_takes make major first part (Some n) kind front sized e =
     subst (λ (k : Head). IsFront (first ∷ part) k) (ok_is (make n) kind e) (front n sized)
 number_takes make major first part None kind front sized e = absurd cc
 
 kind_takes : (first : ℕ) (part : List ℕ) (argument : Option ℕ) (kind : Head) → IsArgument (first % 32) part argument
-    → kind_of (first / 32) argument ≡ Ok kind → IsFront (first ∷ part) kind
-unfolding kind_of
+    → head_by (first / 32) argument ≡ Ok kind → IsFront (first ∷ part) kind
+unfolding head_by
 kind_takes first part argument kind is e =
     let sized : (major : ℕ) → first / 32 ≡ major → IsSized major (first ∷ part) argument = λ major same. subst (λ (m : ℕ). IsSized m (first ∷ part) argument) same (sized_by first part argument is) in
     elim (cases_Bool (eqb (first / 32) 0)) [
@@ -167,7 +168,7 @@ float_takes : (widen : ℕ → ℕ) (width first : ℕ) (bytes : List ℕ) (kind
     → ((bits : ℕ) → bits < 256 ^ width → IsDouble (first ∷ big_bytes width bits) (widen bits))
     → IsBytes bytes → float_at widen width bytes ≡ Ok (kind, rest) → Taken IsFront (first ∷ bytes) kind rest
 float_takes widen width first bytes kind rest is fits e =
-    let b = bind_ok (part_at width bytes) (λ part. Ok (heads.Double (widen (big_number width part.0)), part.1)) (kind, rest) e in
+    let b = bind_ok (front_part width bytes) (λ part. Ok (heads.Double (widen (big_number width part.0)), part.1)) (kind, rest) e in
     let t = part_takes width bytes b.0.0 b.0.1 fits b.1 in
     let n = big_number width b.0.0 in
     let spelled = number_of_part width b.0.0 t.is.size t.is.bytes in
@@ -188,11 +189,11 @@ alone byte made kind first bytes rest fits same is e =
     (record { front = byte ∷ []; is = is; parts = ap (λ (f : ℕ). f ∷ bytes) same; fits = fits })
 
 by_argument : (first : ℕ) (bytes : List ℕ) (kind : Head) (rest : List ℕ) → IsBytes bytes
-    → (argument_at (first % 32) bytes >>= λ argument. kind_of (first / 32) argument.0 >>= λ head. got head argument.1) ≡ got kind rest
+    → (argument_at (first % 32) bytes >>= λ argument. head_by (first / 32) argument.0 >>= λ head. got head argument.1) ≡ got kind rest
     → Taken IsFront (first ∷ bytes) kind rest
 by_argument first bytes kind rest fits e =
-    let a = bind_ok (argument_at (first % 32) bytes) (λ argument. kind_of (first / 32) argument.0 >>= λ head. Ok (head, argument.1)) (kind, rest) e in
-    let k = bind_ok (kind_of (first / 32) a.0.0) (λ head. Ok (head, a.0.1)) (kind, rest) a.2 in
+    let a = bind_ok (argument_at (first % 32) bytes) (λ argument. head_by (first / 32) argument.0 >>= λ head. Ok (head, argument.1)) (kind, rest) e in
+    let k = bind_ok (head_by (first / 32) a.0.0) (λ head. Ok (head, a.0.1)) (kind, rest) a.2 in
     let t = argument_takes (first % 32) bytes a.0.0 a.0.1 fits a.1 in
     got_is (Taken IsFront (first ∷ bytes)) k.0 a.0.1 kind rest k.2
     (record {
@@ -265,7 +266,7 @@ many_takes {X} R one takes (suc n) bytes xs rest fits e =
     (taken_more R bytes a.0.0 a.0.1 b.0.0 b.0.1 first others.0, ap suc others.1)
 
 -- things up to a break
-break_is : (bytes rest : List ℕ) → break_at bytes ≡ Some rest → bytes ≡ 255 ∷ rest
+pub break_is : (bytes rest : List ℕ) → break_at bytes ≡ Some rest → bytes ≡ 255 ∷ rest
 break_is [] rest e = absurd cc
 break_is (first ∷ bytes) rest e = elim (cases_Bool (eqb first 255)) [
   | inl same ↦
@@ -333,7 +334,7 @@ behind_head major n P front bytes inner part rest parts split size kind is_head 
   fits = fits;
 }
 
-pub part_split : (n : ℕ) (inner part rest : List ℕ) → IsBytes inner → part_at n inner ≡ got part rest
+pub part_split : (n : ℕ) (inner part rest : List ℕ) → IsBytes inner → front_part n inner ≡ got part rest
     → (inner ≡ part ++ rest) × (length part ≡ n) × IsBytes rest
 part_split n inner part rest fits e =
     let t = part_takes n inner part rest fits e in
@@ -343,7 +344,7 @@ pub letters_split : (n : ℕ) (inner s rest : List ℕ) → IsBytes inner → le
     → (inner ≡ s ++ rest) × (length s ≡ n) × IsBytes rest × IsUtf8 s
 unfolding letters_at
 letters_split n inner s rest fits e =
-    let b = bind_ok (part_at n inner) (λ part. cond (is_utf8 part.0) (Ok part) (Err BadUtf8)) (s, rest) e in
+    let b = bind_ok (front_part n inner) (λ part. cond (is_utf8 part.0) (Ok part) (Err BadUtf8)) (s, rest) e in
     let p = part_split n inner b.0.0 b.0.1 fits b.1 in
     elim (cases_Bool (is_utf8 b.0.0)) [
       | inl utf8 ↦

@@ -1,13 +1,13 @@
 -- What is told of parts, one after the other, as loops do.
 use Rattle.std.proofs.Common.{◌≡◌, ℕ, suc, ◌+◌, ◌-◌, ◌^◌, ◌<◌, ◌≤◌, min, List, [], ◌∷◌, ◌++◌, Some, None, Err, refl, sym, ◌∙◌, arith}
 use Rattle.std.proofs.lemmas.List.{length-append}
+use Rattle.lists.proofs.AllBytes.{IsBytes}
 use Rattle.otlp_model.specs.Weight.{total}
 use Rattle.cbor_values.specs.declared.refusal.CborRefusal.{CborRefusal}
 use Rattle.cbor_values.specs.declared.refusal.CborRefusal.TheVariants.{Cut}
 use Rattle.cbor_values.specs.Reading.{ValueReading, break_at, many_at, until_at, open_at}
 use Rattle.cbor_values.specs.Returned.{IsTold, long}
 use Rattle.cbor_values.proofs.Steps.{got}
-use Rattle.cbor_values.proofs.Bytes.{IsBytes}
 use Rattle.cbor_values.proofs.Rows.{Starts}
 use Rattle.cbor_values.proofs.Loops.{Reader, shorter, with_front, with_text, goes_on, is_done, open_goes_on, open_is_done, chunks_go_on, chunks_are_done}
 

@@ -1,6 +1,7 @@
 -- What is told of a value, by what is told of its parts.
 use Rattle.std.proofs.Common.{◌≡◌, ℕ, zero, suc, ◌+◌, ◌^◌, min, List, Option, Some, None, Result, Ok, Err, refl, sym, ap, ◌∙◌, arith, rules}
 use Rattle.std.specs.Prelude.{ℤ, pos, negsuc, Bool, IfOk, IfErr, OnOk}
+use Rattle.lists.proofs.AllBytes.{IsBytes}
 use Rattle.otlp_model.specs.declared.value.Value.{Value, the_lemmas}
 use Rattle.otlp_model.specs.declared.value.Value as values
 use Rattle.otlp_model.specs.declared.value.Pair.{Pair}
@@ -14,7 +15,6 @@ use Rattle.cbor_values.specs.declared.weighing.WeighedValue.{WeighedValue}
 use Rattle.cbor_values.specs.Reading.{ValueReading, head_at, key_at, octets_at, text_at, many_at, open_at, pair_at, body_at, item_at, all_at, whole_of}
 use Rattle.cbor_values.specs.Values.{value_in, value_of}
 use Rattle.cbor_values.specs.Refusals.{Stands}
-use Rattle.cbor_values.proofs.Bytes.{IsBytes}
 use Rattle.cbor_values.proofs.Refused.{all_refused}
 use Rattle.cbor_values.proofs.Told.{no_value}
 use Rattle.cbor_values.specs.Weighing.{IsWeighed, nesting_of, weighed}
@@ -42,10 +42,10 @@ nesting_double bits = search (rules, the_lemmas)
 nesting_bytes : (octets : List ℕ) → nesting_of (values.Bytes octets) ≡ nesting.Plain
 nesting_bytes octets = search (rules, the_lemmas)
 
-nesting_array : (members : List Value) → nesting_of (values.Array members) ≡ nesting.Array
+pub nesting_array : (members : List Value) → nesting_of (values.Array members) ≡ nesting.Array
 nesting_array members = search (rules, the_lemmas)
 
-nesting_map : (pairs : List Pair) → nesting_of (values.Map pairs) ≡ nesting.Map
+pub nesting_map : (pairs : List Pair) → nesting_of (values.Map pairs) ≡ nesting.Map
 nesting_map pairs = search (rules, the_lemmas)
 
 pub told_empty : told_of nesting.Plain 0 ≡ weighed values.Empty

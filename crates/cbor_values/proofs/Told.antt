@@ -1,7 +1,6 @@
 -- The value of bytes, the relation and the refusals tell the same.
-use Rattle.std.proofs.Common.{◌≡◌, ℕ, ◌<◌, ◌≤◌, ◌↔◌, List, length, Option, Some, None, All, refl, true, arith, inl, inr}
-use Rattle.std.proofs.lemmas.Bool.{cases_lt}
-use Rattle.std.proofs.lemmas.List.{get_or_past}
+use Rattle.std.proofs.Common.{◌≡◌, ℕ, ◌<◌, ◌≤◌, ◌↔◌, List, Option, Some, None, All, refl, true}
+use Rattle.lists.proofs.AllBytes.{IsBytes, IsBytes-from_all}
 use Rattle.otlp_model.specs.declared.value.Value.{Value}
 use Rattle.otlp_model.specs.Depth.{depth_of}
 use Rattle.otlp_model.specs.Real.{is_real_value}
@@ -10,20 +9,13 @@ use Rattle.cbor_values.specs.Cbor.{Cbor}
 use Rattle.cbor_values.specs.Refusals.{Stands}
 use Rattle.cbor_values.specs.Values.{value_of}
 use Rattle.cbor_values.specs.Written.{cbor_of}
-use Rattle.cbor_values.proofs.Bytes.{IsBytes}
 use Rattle.cbor_values.proofs.Whole.{value_again, value_takes, refusal_stands}
 use Rattle.cbor_values.proofs.Excluded.{never_both}
 use Rattle.cbor_values.proofs.WrittenLaws.{written_is}
 
-pub are_bytes : (bytes : List ℕ) → All (λ byte. byte < 256) bytes → IsBytes bytes
-are_bytes bytes all i = elim (cases_lt i (length bytes)) [
-  | inl inside ↦ all i 0 inside
-  | inr past ↦ rw (get_or_past bytes i 0 past) (omega arith)
-]
-
 pub value_told : (bytes : List ℕ) (v : Value) → All (λ byte. byte < 256) bytes
     → value_of bytes ≡ Some v ↔ (Cbor bytes v × (depth_of v ≤ 32))
-value_told bytes v all = (λ e. value_takes bytes v (are_bytes bytes all) e, λ cbor. value_again bytes v cbor.0 cbor.1)
+value_told bytes v all = (λ e. value_takes bytes v (IsBytes-from_all bytes all) e, λ cbor. value_again bytes v cbor.0 cbor.1)
 
 pub no_value : (bytes : List ℕ) → IsBytes bytes → (refusal : CborRefusal) → Stands refusal bytes
     → (found : Option Value) → value_of bytes ≡ found → found ≡ None
@@ -35,7 +27,7 @@ no_value bytes fits refusal stands (Some v) is =
 pub refusal_told : (bytes : List ℕ) → All (λ byte. byte < 256) bytes
     → value_of bytes ≡ None ↔ ((refusal : CborRefusal) × Stands refusal bytes)
 refusal_told bytes all =
-    let fits = are_bytes bytes all in
+    let fits = IsBytes-from_all bytes all in
     (refusal_stands bytes fits, λ some. no_value bytes fits some.0 some.1 (value_of bytes) refl)
 
 pub written_again : (v : Value) → is_real_value v ≡ true → depth_of v ≤ 32 → value_of (cbor_of v) ≡ Some v

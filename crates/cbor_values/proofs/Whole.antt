@@ -2,6 +2,8 @@
 use Rattle.std.proofs.Common.{◌≡◌, ℕ, ◌≤◌, List, [], ◌∷◌, Option, Some, None, Result, Ok, Err, refl, sym, ap, subst, ◌∙◌}
 use Rattle.std.specs.Prelude.{IfOk, IfErr}
 use Rattle.std.proofs.lemmas.List.{append-nil}
+use Rattle.std.proofs.lemmas.Option.{same_Some}
+use Rattle.lists.proofs.AllBytes.{IsBytes}
 use Rattle.otlp_model.specs.declared.value.Value.{Value}
 use Rattle.otlp_model.specs.Depth.{depth_of}
 use Rattle.cbor_values.specs.declared.refusal.CborRefusal.{CborRefusal}
@@ -10,9 +12,8 @@ use Rattle.cbor_values.specs.Cbor.{Cbor}
 use Rattle.cbor_values.specs.Refusals.{Stands, Refuses}
 use Rattle.cbor_values.specs.Values.{value_in, value_of, Gives}
 use Rattle.cbor_values.specs.Reading.{item_at, whole_item, all_at}
-use Rattle.cbor_values.specs.Returned.{Reads}
-use Rattle.cbor_values.proofs.Steps.{bind_ok, ok_is, done, some_is, got}
-use Rattle.cbor_values.proofs.Bytes.{IsBytes}
+use Rattle.cbor_values.specs.Returned.{ReturnsReading}
+use Rattle.cbor_values.proofs.Steps.{bind_ok, ok_is, done, got}
 use Rattle.cbor_values.proofs.Again.{item_again}
 use Rattle.cbor_values.proofs.ItemTakes.{item_takes}
 use Rattle.cbor_values.proofs.Refused.{all_refused}
@@ -40,12 +41,12 @@ all_again bytes v cbor deep =
 
 -- ---- what a result says
 
-pub is_found : (bytes : List ℕ) (r : Result Value CborRefusal) → IsBytes bytes → Reads (λ v. v) r (all_at bytes)
+pub is_found : (bytes : List ℕ) (r : Result Value CborRefusal) → IsBytes bytes → ReturnsReading (λ v. v) r (all_at bytes)
     → IfOk r (λ v. Cbor bytes v × (depth_of v ≤ 32))
 is_found bytes (Ok v) fits reads = all_takes bytes v fits reads
 is_found bytes (Err e) fits reads = tt
 
-pub is_refused : (bytes : List ℕ) (r : Result Value CborRefusal) → IsBytes bytes → Reads (λ v. v) r (all_at bytes)
+pub is_refused : (bytes : List ℕ) (r : Result Value CborRefusal) → IsBytes bytes → ReturnsReading (λ v. v) r (all_at bytes)
     → IfErr r (Refuses bytes)
 is_refused bytes (Ok v) fits reads = tt
 is_refused bytes (Err Cut) fits reads = all_refused bytes Cut fits reads
@@ -57,7 +58,7 @@ is_refused bytes (Err TooDeep) fits reads = all_refused bytes TooDeep fits reads
 is_refused bytes (Err Trailing) fits reads = all_refused bytes Trailing fits reads
 is_refused bytes (Err (Memory error)) fits reads = tt
 
-gives_value : (r reading : Result Value CborRefusal) → Reads (λ v. v) r reading → Gives r (value_in reading)
+gives_value : (r reading : Result Value CborRefusal) → ReturnsReading (λ v. v) r reading → Gives r (value_in reading)
 gives_value (Ok v) reading reads = ap value_in reads
 gives_value (Err Cut) reading reads = ap value_in reads
 gives_value (Err BadHead) reading reads = ap value_in reads
@@ -68,7 +69,7 @@ gives_value (Err TooDeep) reading reads = ap value_in reads
 gives_value (Err Trailing) reading reads = ap value_in reads
 gives_value (Err (Memory error)) reading reads = tt
 
-pub is_value : (bytes : List ℕ) (r : Result Value CborRefusal) → Reads (λ v. v) r (all_at bytes) → Gives r (value_of bytes)
+pub is_value : (bytes : List ℕ) (r : Result Value CborRefusal) → ReturnsReading (λ v. v) r (all_at bytes) → Gives r (value_of bytes)
 unfolding value_of
 is_value bytes r reads = gives_value r (all_at bytes) reads
 
@@ -84,7 +85,7 @@ value_takes bytes v fits e = go (all_at bytes) refl
   where
     go : (r : Result Value CborRefusal) → all_at bytes ≡ r → Cbor bytes v × (depth_of v ≤ 32)
     go (Ok w) is =
-        let same : w ≡ v = some_is w v (ap value_in (sym is) ∙ e) in
+        let same : w ≡ v = same_Some w v (ap value_in (sym is) ∙ e) in
         all_takes bytes v fits (is ∙ ap done same)
     go (Err d) is = absurd (let clash : None ≡ Some v = ap value_in (sym is) ∙ e in cc)
 

@@ -65,9 +65,9 @@ pairs_are (pair ∷ pairs) written real =
     (text_is pair.key (length_of_real_text pair.key parts.0) (utf8_of_real pair.key parts.0))
     (written.0 parts.1) (pairs_are pairs written.1 both.1))
 
-flag_is : (flag : Bool) → Cbor ((cond flag 245 244) ∷ []) (values.Bool flag)
-flag_is true = is_true
-flag_is false = is_false
+pub cbor_bool : (flag : Bool) → Cbor ((cond flag 245 244) ∷ []) (values.Bool flag)
+cbor_bool true = is_true
+cbor_bool false = is_false
 
 int_is : (z : ℤ) → fits_i64 z ≡ true → Cbor (int z) (values.Int z)
 int_is (pos n) fits = let small = ltb-true n (2 ^ 63) fits in is_whole n (head 0 n) (head_is 0 n (omega arith)) small
@@ -83,7 +83,7 @@ written_is = holds IsWritten (record {
   str = λ text real.
       let known = sym (is_real_str text) ∙ real in
       told (values.Str text) (string 3 text) (written_str text) (is_text (string 3 text) text (text_is text (length_of_real_text text known) (utf8_of_real text known)));
-  flag = λ flag real. told (values.Bool flag) ((cond flag 245 244) ∷ []) (written_bool flag) (flag_is flag);
+  flag = λ flag real. told (values.Bool flag) ((cond flag 245 244) ∷ []) (written_bool flag) (cbor_bool flag);
   int = λ z real. told (values.Int z) (int z) (written_int z) (int_is z (sym (is_real_int z) ∙ real));
   double = λ bits real.
       let fits = ltb-true bits (2 ^ 64) (sym (is_real_double bits) ∙ real) in

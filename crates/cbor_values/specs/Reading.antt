@@ -22,26 +22,26 @@ abbrev pub ◌>>=◌ : {A B : Type 0} → Result A CborRefusal → (A → Result
 abbrev pub ValueReading : Type 0 → Type 0
 ValueReading A = Result (A × List ℕ) CborRefusal
 
-abbrev pub part_at : ℕ → List ℕ → ValueReading (List ℕ)
-part_at n bytes = if nat_lt (length bytes) n then Err Cut else Ok (take n bytes, drop n bytes)
+abbrev pub front_part : ℕ → List ℕ → ValueReading (List ℕ)
+front_part n bytes = if nat_lt (length bytes) n then Err Cut else Ok (take n bytes, drop n bytes)
 
 -- the argument of a head, None for an indefinite length
 unfoldable pub argument_at : ℕ → List ℕ → ValueReading (Option ℕ)
 argument_at info bytes =
     if nat_lt info 24 then Ok (Some info, bytes)
     else if nat_lt info 28 then
-    (part_at (argument_len info) bytes >>= λ part. Ok (Some (big_number (argument_len info) part.0), part.1))
+    (front_part (argument_len info) bytes >>= λ part. Ok (Some (big_number (argument_len info) part.0), part.1))
     else if info == 31 then Ok (None, bytes)
     else Err BadHead
 
-abbrev pub number_of : (ℕ → Head) → Option ℕ → Result Head CborRefusal
-number_of make (Some n) = Ok (make n)
-number_of make None = Err BadHead
+abbrev pub head_of_argument : (ℕ → Head) → Option ℕ → Result Head CborRefusal
+head_of_argument make (Some n) = Ok (make n)
+head_of_argument make None = Err BadHead
 
-unfoldable pub kind_of : ℕ → Option ℕ → Result Head CborRefusal
-kind_of major argument =
-    if major == 0 then number_of heads.Whole argument
-    else if major == 1 then number_of heads.Negative argument
+unfoldable pub head_by : ℕ → Option ℕ → Result Head CborRefusal
+head_by major argument =
+    if major == 0 then head_of_argument heads.Whole argument
+    else if major == 1 then head_of_argument heads.Negative argument
     else if major == 2 then Ok (heads.Bytes argument)
     else if major == 3 then Ok (heads.Text argument)
     else if major == 4 then Ok (heads.Array argument)
@@ -49,7 +49,7 @@ kind_of major argument =
     else Err BadHead
 
 abbrev pub float_at : (ℕ → ℕ) → ℕ → List ℕ → ValueReading Head
-float_at widen width bytes = part_at width bytes >>= λ part. Ok (heads.Double (widen (big_number width part.0)), part.1)
+float_at widen width bytes = front_part width bytes >>= λ part. Ok (heads.Double (widen (big_number width part.0)), part.1)
 
 unfoldable pub head_at : List ℕ → ValueReading Head
 head_at [] = Err Cut
@@ -61,7 +61,7 @@ head_at (first ∷ rest) =
     else if first == 250 then float_at of_single 4 rest
     else if first == 251 then float_at (λ bits. bits) 8 rest
     else (argument_at (first % 32) rest >>= λ argument.
-    kind_of (first / 32) argument.0 >>= λ head. Ok (head, argument.1))
+    head_by (first / 32) argument.0 >>= λ head. Ok (head, argument.1))
 
 -- the bytes after a break
 abbrev pub break_at : List ℕ → Option (List ℕ)
@@ -96,10 +96,10 @@ chunks_at one bytes = open_at one bytes >>= λ parts. Ok (joined parts.0, parts.
 
 -- a text of that length
 unfoldable pub letters_at : ℕ → List ℕ → ValueReading (List ℕ)
-letters_at n bytes = part_at n bytes >>= λ part. if is_utf8 part.0 then Ok part else Err BadUtf8
+letters_at n bytes = front_part n bytes >>= λ part. if is_utf8 part.0 then Ok part else Err BadUtf8
 
 abbrev pub octets_of_head : Head → List ℕ → ValueReading (List ℕ)
-octets_of_head (heads.Bytes (Some n)) bytes = part_at n bytes
+octets_of_head (heads.Bytes (Some n)) bytes = front_part n bytes
 octets_of_head _ bytes = Err BadHead
 
 abbrev pub letters_of_head : Head → List ℕ → ValueReading (List ℕ)
@@ -113,7 +113,7 @@ unfoldable pub text_chunk_at : List ℕ → ValueReading (List ℕ)
 text_chunk_at bytes = head_at bytes >>= λ head. letters_of_head head.0 head.1
 
 unfoldable pub octets_at : Option ℕ → List ℕ → ValueReading (List ℕ)
-octets_at (Some n) bytes = part_at n bytes
+octets_at (Some n) bytes = front_part n bytes
 octets_at None bytes = chunks_at octets_chunk_at bytes
 
 unfoldable pub text_at : Option ℕ → List ℕ → ValueReading (List ℕ)

@@ -104,9 +104,9 @@ ChunkFaults BadUtf8 major bytes = (major ≡ 3) × IsBadText bytes
 ChunkFaults _ major bytes = ⊥
 
 -- The head of an array or a map that goes on after k members or pairs, and whether a break may stand there.
-pub data GoesOn (major k : ℕ) : Bool → List ℕ → Type 0 where
-  definite : (n : ℕ) (head : List ℕ) → IsHead major n head → k < n → GoesOn major k false head
-  indefinite : GoesOn major k true ((32 * major + 31) ∷ [])
+pub data HasNextMember (major k : ℕ) : Bool → List ℕ → Type 0 where
+  definite : (n : ℕ) (head : List ℕ) → IsHead major n head → k < n → HasNextMember major k false head
+  indefinite : HasNextMember major k true ((32 * major + 31) ∷ [])
 
 -- The refusal stands at the front of the bytes, where that is due, inside that number of arrays and maps: in the front itself,
 -- or within the string, array or map that begins there, after chunks, items and pairs.
@@ -117,13 +117,13 @@ pub data Within (refusal : CborRefusal) : Due → ℕ → List ℕ → Type 0 wh
       → ChunkFaults refusal 2 rest → Within refusal place inside (95 ∷ (chunks ++ rest))
   in_text : (place : Due) (inside : ℕ) (chunks joined rest : List ℕ) → Chunks 3 IsAny chunks joined
       → ChunkFaults refusal 3 rest → Within refusal place inside (127 ∷ (chunks ++ rest))
-  in_array : (place : Due) (inside k : ℕ) (may : Bool) (head members rest : List ℕ) → GoesOn 4 k may head
+  in_array : (place : Due) (inside k : ℕ) (may : Bool) (head members rest : List ℕ) → HasNextMember 4 k may head
       → AreItems k members → Within refusal (item may) (suc inside) rest
       → Within refusal place inside (head ++ (members ++ rest))
-  in_key : (place : Due) (inside k : ℕ) (may : Bool) (head pairs rest : List ℕ) → GoesOn 5 k may head
+  in_key : (place : Due) (inside k : ℕ) (may : Bool) (head pairs rest : List ℕ) → HasNextMember 5 k may head
       → ArePairs k pairs → Within refusal (key may) (suc inside) rest
       → Within refusal place inside (head ++ (pairs ++ rest))
-  in_value : (place : Due) (inside k : ℕ) (may : Bool) (head pairs key_bytes rest : List ℕ) → GoesOn 5 k may head
+  in_value : (place : Due) (inside k : ℕ) (may : Bool) (head pairs key_bytes rest : List ℕ) → HasNextMember 5 k may head
       → ArePairs k pairs → IsItem key_bytes → Within refusal value (suc inside) rest
       → Within refusal place inside (head ++ (pairs ++ (key_bytes ++ rest)))
 

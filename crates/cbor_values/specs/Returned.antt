@@ -34,9 +34,9 @@ pub record IsTold {X Y : Type 0} (tell : Y → X) (reading : ValueReading Y) (to
   pub of : told ≡ tell value
 
 -- a result of the code tells of what reading gives
-abbrev pub Tells : {R X Y : Type 0} → (R → X × List ℕ) → (Y → X) → Result R CborRefusal → ValueReading Y → Type 0
-Tells view tell (Ok found) reading = IsTold tell reading (view found).0 (view found).1
-Tells view tell (Err refusal) reading = reading ≡ Err refusal
+abbrev pub TellsReading : {R X Y : Type 0} → (R → X × List ℕ) → (Y → X) → Result R CborRefusal → ValueReading Y → Type 0
+TellsReading view tell (Ok found) reading = IsTold tell reading (view found).0 (view found).1
+TellsReading view tell (Err refusal) reading = reading ≡ Err refusal
 
 -- the same of all bytes
 abbrev pub TellsAll : {X Y : Type 0} → (Y → X) → Result X CborRefusal → Result Y CborRefusal → Type 0
@@ -54,9 +54,9 @@ Fails (Memory error) reading = Unit {0}
 Fails refusal reading = reading ≡ Err refusal
 
 -- a result of the code, seen by view, is what reading gives, unless memory ran out
-abbrev pub Reads : {X Y : Type 0} → (X → Y) → Result X CborRefusal → Result Y CborRefusal → Type 0
-Reads view (Ok x) reading = reading ≡ Ok (view x)
-Reads view (Err refusal) reading = Fails refusal reading
+abbrev pub ReturnsReading : {X Y : Type 0} → (X → Y) → Result X CborRefusal → Result Y CborRefusal → Type 0
+ReturnsReading view (Ok x) reading = reading ≡ Ok (view x)
+ReturnsReading view (Err refusal) reading = Fails refusal reading
 
 -- an integer, where it is in range
 abbrev pub int_of : ℕ → Result ℤ CborRefusal

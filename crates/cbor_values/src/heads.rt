@@ -2,8 +2,8 @@
 
 ghost use Rattle.std.specs.Prelude.{◌≡◌, ◌<◌};
 ghost use Rattle.std.specs.Option.{option_map};
-ghost use Rattle.cbor_values.specs.Returned.{Exactly, Reads};
-ghost use Rattle.cbor_values.specs.Reading.{part_at, argument_at, kind_of, head_at, break_at};
+ghost use Rattle.cbor_values.specs.Returned.{Exactly, ReturnsReading};
+ghost use Rattle.cbor_values.specs.Reading.{front_part, argument_at, head_by, head_at, break_at};
 
 use crate::floats::{half, single};
 use crate::refusal::CborRefusal;
@@ -56,7 +56,7 @@ pub(crate) enum Head {
 /// The head at the front of the bytes, and the bytes after it.
 #[tactic(auto, unfolding(crate::specs::Reading::head_at))]
 pub(crate) fn read_head(bytes: &[u8]) -> Result<(Head, &[u8]), CborRefusal>
-    ensures reads { Reads (λ x. (x.0, x.1.now)) result (head_at bytes.now) }
+    ensures reads { ReturnsReading (λ x. (x.0, x.1.now)) result (head_at bytes.now) }
     ensures exact { Exactly (λ x. (x.0, x.1.now)) result (head_at bytes.now) }
 {
     let Some((&first, rest)) = bytes.split_first() else {
@@ -86,10 +86,10 @@ pub(crate) fn read_head(bytes: &[u8]) -> Result<(Head, &[u8]), CborRefusal>
 }
 
 /// The head of this major type below 6 with this argument.
-#[tactic(auto, unfolding(crate::specs::Reading::kind_of))]
+#[tactic(auto, unfolding(crate::specs::Reading::head_by))]
 fn kind(major: u8, argument: Option<u64>) -> Result<Head, CborRefusal>
-    ensures reads { Reads (λ head. head) result (kind_of major argument) }
-    ensures exact { Exactly (λ head. head) result (kind_of major argument) }
+    ensures reads { ReturnsReading (λ head. head) result (head_by major argument) }
+    ensures exact { Exactly (λ head. head) result (head_by major argument) }
 {
     match (major, argument) {
         (WHOLE, Some(n)) => Ok(Head::Whole(n)),
@@ -105,7 +105,7 @@ fn kind(major: u8, argument: Option<u64>) -> Result<Head, CborRefusal>
 /// The argument that the additional information stands for, and the bytes after it; `None` for an indefinite length.
 #[tactic(auto, using(crate::proofs::Fractions::width_small), unfolding(crate::specs::Reading::argument_at))]
 fn argument(info: u8, bytes: &[u8]) -> Result<(Option<u64>, &[u8]), CborRefusal>
-    ensures reads { Reads (λ x. (x.0, x.1.now)) result (argument_at info bytes.now) }
+    ensures reads { ReturnsReading (λ x. (x.0, x.1.now)) result (argument_at info bytes.now) }
     ensures exact { Exactly (λ x. (x.0, x.1.now)) result (argument_at info bytes.now) }
 {
     match info {
@@ -122,8 +122,8 @@ fn argument(info: u8, bytes: &[u8]) -> Result<(Option<u64>, &[u8]), CborRefusal>
 
 /// The first `len` bytes, and the bytes after them.
 pub(crate) fn part(len: u64, bytes: &[u8]) -> Result<(&[u8], &[u8]), CborRefusal>
-    ensures reads { Reads (λ x. (x.0.now, x.1.now)) result (part_at len bytes.now) }
-    ensures exact { Exactly (λ x. (x.0.now, x.1.now)) result (part_at len bytes.now) }
+    ensures reads { ReturnsReading (λ x. (x.0.now, x.1.now)) result (front_part len bytes.now) }
+    ensures exact { Exactly (λ x. (x.0.now, x.1.now)) result (front_part len bytes.now) }
 {
     if len > bytes.len() as u64 {
         return Err(CborRefusal::Cut);

@@ -8,7 +8,7 @@ ghost use Rattle.cbor_values.specs.Cbor.{Cbor};
 ghost use Rattle.cbor_values.specs.Refusals.{Refuses};
 ghost use Rattle.cbor_values.specs.Values.{Gives, value_of};
 ghost use Rattle.cbor_values.specs.Reading.{many_at, open_at, pair_at, body_at, item_at, all_at};
-ghost use Rattle.cbor_values.specs.Returned.{Reads, int_of};
+ghost use Rattle.cbor_values.specs.Returned.{ReturnsReading, int_of};
 
 use crate::heads::{Head, after_break, read_head};
 use crate::refusal::CborRefusal;
@@ -41,7 +41,7 @@ pub fn read_value(alloc: Global, bytes: &[u8]) -> Result<Value, CborRefusal>
 
 #[tactic(auto, unfolding(crate::specs::Reading::all_at))]
 fn all(alloc: Global, bytes: &[u8]) -> Result<Value, CborRefusal>
-    ensures { Reads (λ v. v) result (all_at bytes.now) }
+    ensures { ReturnsReading (λ v. v) result (all_at bytes.now) }
 {
     let (value, rest) = item(alloc, MAX_DEPTH, bytes)?;
     if !rest.is_empty() {
@@ -54,7 +54,7 @@ fn all(alloc: Global, bytes: &[u8]) -> Result<Value, CborRefusal>
 #[cycle(read)]
 #[tactic(auto, unfolding(crate::specs::Reading::item_at))]
 fn item(alloc: Global, depth: u64, bytes: &[u8]) -> Result<(Value, &[u8]), CborRefusal>
-    ensures { Reads (λ x. (x.0, x.1.now)) result (item_at depth bytes.now) }
+    ensures { ReturnsReading (λ x. (x.0, x.1.now)) result (item_at depth bytes.now) }
 {
     let (head, rest) = read_head(bytes)?;
     if depth == 0 {
@@ -67,7 +67,7 @@ fn item(alloc: Global, depth: u64, bytes: &[u8]) -> Result<(Value, &[u8]), CborR
 #[cycle(read)]
 #[tactic(auto, unfolding(crate::specs::Reading::body_at))]
 fn body(alloc: Global, depth: u64, head: Head, bytes: &[u8]) -> Result<(Value, &[u8]), CborRefusal>
-    ensures { Reads (λ x. (x.0, x.1.now)) result (body_at (item_at depth) head bytes.now) }
+    ensures { ReturnsReading (λ x. (x.0, x.1.now)) result (body_at (item_at depth) head bytes.now) }
 {
     match head {
         Head::Null => Ok((Value::Empty, bytes)),
@@ -104,7 +104,7 @@ fn body(alloc: Global, depth: u64, head: Head, bytes: &[u8]) -> Result<(Value, &
 
 /// The number, where it is below 2^63.
 fn whole(n: u64) -> Result<i64, CborRefusal>
-    ensures { Reads (λ n. n) result (int_of n) }
+    ensures { ReturnsReading (λ n. n) result (int_of n) }
 {
     i64::try_from(n).map_err(|_| CborRefusal::OutOfRange)
 }
@@ -122,7 +122,7 @@ fn members(
     count: u64,
     bytes: &[u8],
 ) -> Result<(Items<Value>, &[u8]), CborRefusal>
-    ensures { Reads (λ x. (x.0, x.1.now)) result (many_at (item_at depth) count bytes.now) }
+    ensures { ReturnsReading (λ x. (x.0, x.1.now)) result (many_at (item_at depth) count bytes.now) }
 {
     let mut members = Items::new(alloc);
     members.reserve(room(count))?;
@@ -142,7 +142,7 @@ fn open_members(
     depth: u64,
     bytes: &[u8],
 ) -> Result<(Items<Value>, &[u8]), CborRefusal>
-    ensures { Reads (λ x. (x.0, x.1.now)) result (open_at (item_at depth) bytes.now) }
+    ensures { ReturnsReading (λ x. (x.0, x.1.now)) result (open_at (item_at depth) bytes.now) }
 {
     let mut members = Items::new(alloc);
     let mut rest = bytes;
@@ -164,7 +164,7 @@ fn pairs(
     count: u64,
     bytes: &[u8],
 ) -> Result<(Items<Pair>, &[u8]), CborRefusal>
-    ensures { Reads (λ x. (x.0, x.1.now)) result (many_at (pair_at (item_at depth)) count bytes.now) }
+    ensures { ReturnsReading (λ x. (x.0, x.1.now)) result (many_at (pair_at (item_at depth)) count bytes.now) }
 {
     let mut pairs = Items::new(alloc);
     pairs.reserve(room(count))?;
@@ -180,7 +180,7 @@ fn pairs(
 /// The pairs of a map up to its break.
 #[cycle(read)]
 fn open_pairs(alloc: Global, depth: u64, bytes: &[u8]) -> Result<(Items<Pair>, &[u8]), CborRefusal>
-    ensures { Reads (λ x. (x.0, x.1.now)) result (open_at (pair_at (item_at depth)) bytes.now) }
+    ensures { ReturnsReading (λ x. (x.0, x.1.now)) result (open_at (pair_at (item_at depth)) bytes.now) }
 {
     let mut pairs = Items::new(alloc);
     let mut rest = bytes;
@@ -198,7 +198,7 @@ fn open_pairs(alloc: Global, depth: u64, bytes: &[u8]) -> Result<(Items<Pair>, &
 #[cycle(read)]
 #[tactic(auto, unfolding(crate::specs::Reading::pair_at))]
 fn pair(alloc: Global, depth: u64, bytes: &[u8]) -> Result<(Pair, &[u8]), CborRefusal>
-    ensures { Reads (λ x. (x.0, x.1.now)) result (pair_at (item_at depth) bytes.now) }
+    ensures { ReturnsReading (λ x. (x.0, x.1.now)) result (pair_at (item_at depth) bytes.now) }
 {
     let (key, rest) = key(alloc, bytes)?;
     let (value, rest) = item(alloc, depth, rest)?;

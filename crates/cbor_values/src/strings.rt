@@ -1,7 +1,7 @@
 //! Byte strings and texts, whole or in chunks (RFC 8949, section 3.2.3).
 
 ghost use Rattle.std.specs.Prelude.{◌≡◌, ◌++◌, OnOk};
-ghost use Rattle.cbor_values.specs.Returned.{Exactly, Reads};
+ghost use Rattle.cbor_values.specs.Returned.{Exactly, ReturnsReading};
 ghost use Rattle.cbor_values.specs.Reading.{chunks_at, letters_at, octets_chunk_at, text_chunk_at, octets_at, text_at, key_at};
 
 use crate::heads::{Head, after_break, part, read_head};
@@ -16,7 +16,7 @@ pub(crate) fn octets(
     length: Option<u64>,
     bytes: &[u8],
 ) -> Result<(Octets, &[u8]), CborRefusal>
-    ensures { Reads (λ x. (x.0, x.1.now)) result (octets_at length bytes.now) }
+    ensures { ReturnsReading (λ x. (x.0, x.1.now)) result (octets_at length bytes.now) }
 {
     match length {
         Some(len) => {
@@ -28,7 +28,7 @@ pub(crate) fn octets(
 }
 
 fn chunked_octets(alloc: Global, bytes: &[u8]) -> Result<(Octets, &[u8]), CborRefusal>
-    ensures { Reads (λ x. (x.0, x.1.now)) result (chunks_at octets_chunk_at bytes.now) }
+    ensures { ReturnsReading (λ x. (x.0, x.1.now)) result (chunks_at octets_chunk_at bytes.now) }
 {
     let mut octets = Octets::new(alloc);
     let mut rest = bytes;
@@ -44,7 +44,7 @@ fn chunked_octets(alloc: Global, bytes: &[u8]) -> Result<(Octets, &[u8]), CborRe
 
 #[tactic(auto, unfolding(crate::specs::Reading::octets_chunk_at))]
 pub(crate) fn octets_chunk(bytes: &[u8]) -> Result<(&[u8], &[u8]), CborRefusal>
-    ensures reads { Reads (λ x. (x.0.now, x.1.now)) result (octets_chunk_at bytes.now) }
+    ensures reads { ReturnsReading (λ x. (x.0.now, x.1.now)) result (octets_chunk_at bytes.now) }
     ensures exact { Exactly (λ x. (x.0.now, x.1.now)) result (octets_chunk_at bytes.now) }
 {
     let (head, rest) = read_head(bytes)?;
@@ -66,7 +66,7 @@ fn append_octets(octets: &mut Octets, part: &[u8]) -> Result<(), AllocError>
 /// The key of a pair, and the bytes after it.
 #[tactic(auto, unfolding(crate::specs::Reading::key_at))]
 pub(crate) fn key(alloc: Global, bytes: &[u8]) -> Result<(Text, &[u8]), CborRefusal>
-    ensures { Reads (λ x. (x.0, x.1.now)) result (key_at bytes.now) }
+    ensures { ReturnsReading (λ x. (x.0, x.1.now)) result (key_at bytes.now) }
 {
     let (head, rest) = read_head(bytes)?;
     match head {
@@ -82,7 +82,7 @@ pub(crate) fn text(
     length: Option<u64>,
     bytes: &[u8],
 ) -> Result<(Text, &[u8]), CborRefusal>
-    ensures { Reads (λ x. (x.0, x.1.now)) result (text_at length bytes.now) }
+    ensures { ReturnsReading (λ x. (x.0, x.1.now)) result (text_at length bytes.now) }
 {
     match length {
         Some(len) => {
@@ -94,7 +94,7 @@ pub(crate) fn text(
 }
 
 fn chunked_text(alloc: Global, bytes: &[u8]) -> Result<(Text, &[u8]), CborRefusal>
-    ensures { Reads (λ x. (x.0, x.1.now)) result (chunks_at text_chunk_at bytes.now) }
+    ensures { ReturnsReading (λ x. (x.0, x.1.now)) result (chunks_at text_chunk_at bytes.now) }
 {
     let mut text = Text::new(alloc);
     let mut rest = bytes;
@@ -110,7 +110,7 @@ fn chunked_text(alloc: Global, bytes: &[u8]) -> Result<(Text, &[u8]), CborRefusa
 
 #[tactic(auto, unfolding(crate::specs::Reading::text_chunk_at))]
 pub(crate) fn text_chunk(bytes: &[u8]) -> Result<(&str, &[u8]), CborRefusal>
-    ensures reads { Reads (λ x. (x.0.now, x.1.now)) result (text_chunk_at bytes.now) }
+    ensures reads { ReturnsReading (λ x. (x.0.now, x.1.now)) result (text_chunk_at bytes.now) }
     ensures exact { Exactly (λ x. (x.0.now, x.1.now)) result (text_chunk_at bytes.now) }
 {
     let (head, rest) = read_head(bytes)?;
@@ -132,7 +132,7 @@ fn append_letters(text: &mut Text, letters: &str) -> Result<(), AllocError>
 /// The first `len` bytes, which are to be UTF-8, and the bytes after them.
 #[tactic(auto, unfolding(crate::specs::Reading::letters_at))]
 pub(crate) fn letters(len: u64, bytes: &[u8]) -> Result<(&str, &[u8]), CborRefusal>
-    ensures reads { Reads (λ x. (x.0.now, x.1.now)) result (letters_at len bytes.now) }
+    ensures reads { ReturnsReading (λ x. (x.0.now, x.1.now)) result (letters_at len bytes.now) }
     ensures exact { Exactly (λ x. (x.0.now, x.1.now)) result (letters_at len bytes.now) }
 {
     let (part, rest) = part(len, bytes)?;

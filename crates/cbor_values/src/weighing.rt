@@ -6,7 +6,7 @@ ghost use Rattle.cbor_values.specs.Refusals.{Stands};
 ghost use Rattle.cbor_values.specs.Values.{value_of};
 ghost use Rattle.cbor_values.specs.Reading.{all_at, body_at, chunks_at, item_at, key_at, many_at, octets_at, octets_chunk_at, open_at, pair_at, text_at, text_chunk_at, whole_of};
 ghost use Rattle.cbor_values.specs.Weighing.{IsWeighed, weighed};
-ghost use Rattle.cbor_values.specs.Returned.{Exactly, Tells, TellsAll, long, pair_weighed, told_of, weight_of_members, weight_of_pairs};
+ghost use Rattle.cbor_values.specs.Returned.{Exactly, TellsReading, TellsAll, long, pair_weighed, told_of, weight_of_members, weight_of_pairs};
 
 use crate::heads::{Head, after_break, part, read_head};
 use crate::refusal::CborRefusal;
@@ -55,7 +55,7 @@ fn all(bytes: &[u8]) -> Result<WeighedValue, CborRefusal>
 #[cycle(weigh)]
 #[tactic(auto, unfolding(crate::specs::Reading::item_at))]
 fn item(depth: u64, bytes: &[u8]) -> Result<(WeighedValue, &[u8]), CborRefusal>
-    ensures { Tells (λ x. (x.0, x.1.now)) weighed result (item_at depth bytes.now) }
+    ensures { TellsReading (λ x. (x.0, x.1.now)) weighed result (item_at depth bytes.now) }
 {
     let (head, rest) = read_head(bytes)?;
     if depth == 0 {
@@ -68,7 +68,7 @@ fn item(depth: u64, bytes: &[u8]) -> Result<(WeighedValue, &[u8]), CborRefusal>
 #[cycle(weigh)]
 #[tactic(auto, unfolding(crate::specs::Reading::body_at))]
 fn body(depth: u64, head: Head, bytes: &[u8]) -> Result<(WeighedValue, &[u8]), CborRefusal>
-    ensures { Tells (λ x. (x.0, x.1.now)) weighed result (body_at (item_at depth) head bytes.now) }
+    ensures { TellsReading (λ x. (x.0, x.1.now)) weighed result (body_at (item_at depth) head bytes.now) }
 {
     match head {
         Head::Null => Ok((told(Nesting::Plain, 0), bytes)),
@@ -98,7 +98,7 @@ fn body(depth: u64, head: Head, bytes: &[u8]) -> Result<(WeighedValue, &[u8]), C
 #[cycle(weigh)]
 #[tactic(auto, unfolding(crate::specs::Reading::body_at))]
 fn array(depth: u64, count: Option<u64>, bytes: &[u8]) -> Result<(WeighedValue, &[u8]), CborRefusal>
-    ensures { Tells (λ x. (x.0, x.1.now)) weighed result (body_at (item_at depth) (heads.Array count) bytes.now) }
+    ensures { TellsReading (λ x. (x.0, x.1.now)) weighed result (body_at (item_at depth) (heads.Array count) bytes.now) }
 {
     match count {
         Some(count) => {
@@ -115,7 +115,7 @@ fn array(depth: u64, count: Option<u64>, bytes: &[u8]) -> Result<(WeighedValue, 
 #[cycle(weigh)]
 #[tactic(auto, unfolding(crate::specs::Reading::body_at))]
 fn map(depth: u64, count: Option<u64>, bytes: &[u8]) -> Result<(WeighedValue, &[u8]), CborRefusal>
-    ensures { Tells (λ x. (x.0, x.1.now)) weighed result (body_at (item_at depth) (heads.Map count) bytes.now) }
+    ensures { TellsReading (λ x. (x.0, x.1.now)) weighed result (body_at (item_at depth) (heads.Map count) bytes.now) }
 {
     match count {
         Some(count) => {
@@ -149,7 +149,7 @@ fn whole(n: u64) -> Result<(), CborRefusal>
 /// What `count` members of an array weigh.
 #[cycle(weigh)]
 fn members(depth: u64, count: u64, bytes: &[u8]) -> Result<(u64, &[u8]), CborRefusal>
-    ensures { Tells (λ x. (x.0, x.1.now)) weight_of_members result (many_at (item_at depth) count bytes.now) }
+    ensures { TellsReading (λ x. (x.0, x.1.now)) weight_of_members result (many_at (item_at depth) count bytes.now) }
 {
     let mut weight = 0;
     let mut rest = bytes;
@@ -164,7 +164,7 @@ fn members(depth: u64, count: u64, bytes: &[u8]) -> Result<(u64, &[u8]), CborRef
 /// What the members of an array up to its break weigh.
 #[cycle(weigh)]
 fn open_members(depth: u64, bytes: &[u8]) -> Result<(u64, &[u8]), CborRefusal>
-    ensures { Tells (λ x. (x.0, x.1.now)) weight_of_members result (open_at (item_at depth) bytes.now) }
+    ensures { TellsReading (λ x. (x.0, x.1.now)) weight_of_members result (open_at (item_at depth) bytes.now) }
 {
     let mut weight = 0;
     let mut rest = bytes;
@@ -181,7 +181,7 @@ fn open_members(depth: u64, bytes: &[u8]) -> Result<(u64, &[u8]), CborRefusal>
 /// What `count` pairs of a map weigh.
 #[cycle(weigh)]
 fn pairs(depth: u64, count: u64, bytes: &[u8]) -> Result<(u64, &[u8]), CborRefusal>
-    ensures { Tells (λ x. (x.0, x.1.now)) weight_of_pairs result (many_at (pair_at (item_at depth)) count bytes.now) }
+    ensures { TellsReading (λ x. (x.0, x.1.now)) weight_of_pairs result (many_at (pair_at (item_at depth)) count bytes.now) }
 {
     let mut weight = 0;
     let mut rest = bytes;
@@ -196,7 +196,7 @@ fn pairs(depth: u64, count: u64, bytes: &[u8]) -> Result<(u64, &[u8]), CborRefus
 /// What the pairs of a map up to its break weigh.
 #[cycle(weigh)]
 fn open_pairs(depth: u64, bytes: &[u8]) -> Result<(u64, &[u8]), CborRefusal>
-    ensures { Tells (λ x. (x.0, x.1.now)) weight_of_pairs result (open_at (pair_at (item_at depth)) bytes.now) }
+    ensures { TellsReading (λ x. (x.0, x.1.now)) weight_of_pairs result (open_at (pair_at (item_at depth)) bytes.now) }
 {
     let mut weight = 0;
     let mut rest = bytes;
@@ -214,7 +214,7 @@ fn open_pairs(depth: u64, bytes: &[u8]) -> Result<(u64, &[u8]), CborRefusal>
 #[cycle(weigh)]
 #[tactic(auto, unfolding(crate::specs::Reading::pair_at))]
 fn pair(depth: u64, bytes: &[u8]) -> Result<(u64, &[u8]), CborRefusal>
-    ensures { Tells (λ x. (x.0, x.1.now)) pair_weighed result (pair_at (item_at depth) bytes.now) }
+    ensures { TellsReading (λ x. (x.0, x.1.now)) pair_weighed result (pair_at (item_at depth) bytes.now) }
 {
     let (key, rest) = key(bytes)?;
     let (value, rest) = item(depth, rest)?;
@@ -224,7 +224,7 @@ fn pair(depth: u64, bytes: &[u8]) -> Result<(u64, &[u8]), CborRefusal>
 /// How long a key is.
 #[tactic(auto, unfolding(crate::specs::Reading::key_at))]
 fn key(bytes: &[u8]) -> Result<(u64, &[u8]), CborRefusal>
-    ensures { Tells (λ x. (x.0, x.1.now)) long result (key_at bytes.now) }
+    ensures { TellsReading (λ x. (x.0, x.1.now)) long result (key_at bytes.now) }
 {
     let (head, rest) = read_head(bytes)?;
     match head {
@@ -236,7 +236,7 @@ fn key(bytes: &[u8]) -> Result<(u64, &[u8]), CborRefusal>
 /// How long a byte string is.
 #[tactic(auto, unfolding(crate::specs::Reading::octets_at))]
 fn octets(length: Option<u64>, bytes: &[u8]) -> Result<(u64, &[u8]), CborRefusal>
-    ensures { Tells (λ x. (x.0, x.1.now)) long result (octets_at length bytes.now) }
+    ensures { TellsReading (λ x. (x.0, x.1.now)) long result (octets_at length bytes.now) }
 {
     match length {
         Some(len) => {
@@ -248,7 +248,7 @@ fn octets(length: Option<u64>, bytes: &[u8]) -> Result<(u64, &[u8]), CborRefusal
 }
 
 fn chunked_octets(bytes: &[u8]) -> Result<(u64, &[u8]), CborRefusal>
-    ensures { Tells (λ x. (x.0, x.1.now)) long result (chunks_at octets_chunk_at bytes.now) }
+    ensures { TellsReading (λ x. (x.0, x.1.now)) long result (chunks_at octets_chunk_at bytes.now) }
 {
     let mut len = 0;
     let mut rest = bytes;
@@ -265,7 +265,7 @@ fn chunked_octets(bytes: &[u8]) -> Result<(u64, &[u8]), CborRefusal>
 /// How long a text is.
 #[tactic(auto, unfolding(crate::specs::Reading::text_at))]
 fn text(length: Option<u64>, bytes: &[u8]) -> Result<(u64, &[u8]), CborRefusal>
-    ensures { Tells (λ x. (x.0, x.1.now)) long result (text_at length bytes.now) }
+    ensures { TellsReading (λ x. (x.0, x.1.now)) long result (text_at length bytes.now) }
 {
     match length {
         Some(len) => {
@@ -277,7 +277,7 @@ fn text(length: Option<u64>, bytes: &[u8]) -> Result<(u64, &[u8]), CborRefusal>
 }
 
 fn chunked_text(bytes: &[u8]) -> Result<(u64, &[u8]), CborRefusal>
-    ensures { Tells (λ x. (x.0, x.1.now)) long result (chunks_at text_chunk_at bytes.now) }
+    ensures { TellsReading (λ x. (x.0, x.1.now)) long result (chunks_at text_chunk_at bytes.now) }
 {
     let mut len = 0;
     let mut rest = bytes;

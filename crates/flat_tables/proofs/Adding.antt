@@ -1,7 +1,7 @@
 -- What each piece that the builder adds stands for.
 use Rattle.std.proofs.Common.{◌≡◌, ℕ, ◌+◌, ◌-◌, ◌*◌, ◌%◌, ◌<◌, ◌≤◌, ◌^◌, suc, List, [], ◌∷◌, ◌++◌, length, replicate, Ok, refl, ap, ◌∙◌, subst, length-append, All, arith}
-use Rattle.std.specs.Prelude.{slice_index}
 use Rattle.std.proofs.Common.{mul-le-mul_right}
+use Rattle.std.specs.Prelude.{slice_index}
 use Rattle.std.proofs.lemmas.Bool.{lt-ltb}
 use Rattle.std.proofs.lemmas.List.{length-replicate}
 use Rattle.byteorder.specs.Endian.{little_bytes}

@@ -10,9 +10,9 @@ use Rattle.flat_tables.specs.Tables.{is_bad_size, table_at, vtable_at, size_at}
 use Rattle.flat_tables.specs.Words.{NamesVtable, IsTableAt, HasBadVtable}
 
 -- a part lies in the bytes, or it doesn't
-part_in : (bytes : List ℕ) (place n : ℕ) → place + n ≤ length bytes → part_at bytes place n ≡ Ok (take n (drop place bytes))
+pub lies_part : (bytes : List ℕ) (place n : ℕ) → place + n ≤ length bytes → part_at bytes place n ≡ Ok (take n (drop place bytes))
 unfolding part_at
-part_in bytes place n le = rw (le-ltb (length bytes) (place + n) le) refl
+lies_part bytes place n le = rw (le-ltb (length bytes) (place + n) le) refl
 
 part_out : (bytes : List ℕ) (place n : ℕ) → length bytes < place + n → part_at bytes place n ≡ Err OutOfRange
 unfolding part_at
@@ -20,7 +20,7 @@ part_out bytes place n lt = rw (lt-ltb (length bytes) (place + n) lt) refl
 
 number_is : (n : ℕ) (bytes : List ℕ) (place : ℕ) → place + n ≤ length bytes → number_at n bytes place ≡ Ok (number_in n bytes place)
 unfolding number_at
-number_is n bytes place le = rw (part_in bytes place n le) (ap Ok (little_from-take 0 n n (drop place bytes) (omega arith)))
+number_is n bytes place le = rw (lies_part bytes place n le) (ap Ok (little_from-take 0 n n (drop place bytes) (omega arith)))
 
 number_out : (n : ℕ) (bytes : List ℕ) (place : ℕ) → length bytes < place + n → number_at n bytes place ≡ Err OutOfRange
 unfolding number_at
@@ -44,12 +44,12 @@ bad n (inr odd) = elim (cases_lt n 4) [
 good_size : (bytes : List ℕ) (vtable size : ℕ) → vtable + 4 ≤ length bytes → number_in 2 bytes vtable ≡ size → 4 ≤ size → size % 2 ≡ 0 → vtable + size ≤ length bytes → size_at bytes vtable ≡ Ok size
 unfolding size_at
 good_size bytes vtable size head is least even whole =
-    rw (part_in bytes vtable 4 head, number_is 2 bytes vtable (omega arith), is, good size least even, part_in bytes vtable size whole) refl
+    rw (lies_part bytes vtable 4 head, number_is 2 bytes vtable (omega arith), is, good size least even, lies_part bytes vtable size whole) refl
 
 bad_size : (bytes : List ℕ) (vtable : ℕ) → vtable + 4 ≤ length bytes → (number_in 2 bytes vtable < 4) ⊎ (number_in 2 bytes vtable % 2 ≢ 0) → size_at bytes vtable ≡ Err BadVtable
 unfolding size_at
 bad_size bytes vtable head h =
-    rw (part_in bytes vtable 4 head, number_is 2 bytes vtable (omega arith), bad (number_in 2 bytes vtable) h) refl
+    rw (lies_part bytes vtable 4 head, number_is 2 bytes vtable (omega arith), bad (number_in 2 bytes vtable) h) refl
 
 pub table_is : (bytes : List ℕ) (place vtable size : ℕ) → IsTableAt bytes place vtable size → table_at bytes place ≡ Ok (record { bytes = bytes; place = place; vtable = vtable; size = size })
 unfolding table_at
@@ -71,7 +71,7 @@ size_out bytes place vtable h no_table no_bad =
       | inr least ↦ elim (cases_eq (size % 2) 0) [
         | inr odd ↦ absurd (no_bad (record { vtable = vtable; names = h; bad = inr odd }))
         | inl even ↦ elim (cases_lt (length bytes) (vtable + size)) [
-          | inl lt ↦ rw (part_in bytes vtable 4 h.head, number_is 2 bytes vtable (omega (arith, h.head)), good size least even, part_out bytes vtable size lt) refl
+          | inl lt ↦ rw (lies_part bytes vtable 4 h.head, number_is 2 bytes vtable (omega (arith, h.head)), good size least even, part_out bytes vtable size lt) refl
           | inr whole ↦ absurd (no_table vtable size (record { names = h; is = refl; least = least; even = even; whole = whole }))
         ]
       ]

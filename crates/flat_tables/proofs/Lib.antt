@@ -2,6 +2,6 @@ mod Natural
 mod Lying
 pub mod Standing
 mod Reaching
-mod InWords
+pub mod InWords
 mod Adding
 mod TableLaid

@@ -5,7 +5,7 @@ use Rattle.std.proofs.lemmas.List.{take_at, drop_at, append-nil, drop-drop, drop
 use Rattle.byteorder.specs.Endian.{little_bytes, little_number}
 use Rattle.byteorder.specs.Numbers.{length-bytes_low_first, little_number-reads_back}
 use Rattle.flat_tables.specs.Bytes.{part_at, number_at}
-use Rattle.flat_tables.specs.Layout.{numbers}
+use Rattle.flat_tables.specs.Layout.{bytes_of_numbers}
 
 pub record Lies (part bytes : List ℕ) (place : ℕ) : Type 0 where
   pub before : List ℕ
@@ -69,23 +69,23 @@ take-lies n i part bytes place h l =
 
 -- each of the numbers of a list
 pub numbers_lie : {A : Type 0} (width : ℕ) (number : ℕ → A → ℕ) (index : ℕ) (xs : List A) (bytes : List ℕ) (place k : ℕ) (d : A) → k < length xs
-    → Lies (numbers width number index xs) bytes place → Lies (little_bytes width (number (index + k) (get_or xs k d))) bytes (place + width * k)
+    → Lies (bytes_of_numbers width number index xs) bytes place → Lies (little_bytes width (number (index + k) (get_or xs k d))) bytes (place + width * k)
 numbers_lie width number index [] bytes place k d lt l = absurd (omega arith)
 numbers_lie {A = A} width number index (x ∷ xs) bytes place zero d lt l =
     let i : index ≡ index + 0 = omega arith in
     let p : place ≡ place + width * 0 = omega arith in
     lies_at (little_bytes width (number (index + 0) x)) bytes place (place + width * 0) p
-    (subst (λ (n : ℕ). Lies (little_bytes width (number n x)) bytes place) i (lies_left (little_bytes width (number index x)) (numbers width number (index + 1) xs) bytes place l))
+    (subst (λ (n : ℕ). Lies (little_bytes width (number n x)) bytes place) i (lies_left (little_bytes width (number index x)) (bytes_of_numbers width number (index + 1) xs) bytes place l))
 numbers_lie {A = A} width number index (x ∷ xs) bytes place (suc k) d lt l =
     let first : length (little_bytes width (number index x)) ≡ width = length-bytes_low_first 0 width (number index x) in
-    let rest = lies_right (little_bytes width (number index x)) (numbers width number (index + 1) xs) bytes place l in
+    let rest = lies_right (little_bytes width (number index x)) (bytes_of_numbers width number (index + 1) xs) bytes place l in
     let i : index + 1 + k ≡ index + suc k = omega arith in
     let p : place + length (little_bytes width (number index x)) + width * k ≡ place + width * suc k = omega (arith, first) in
     lies_at (little_bytes width (number (index + suc k) (get_or xs k d))) bytes _ (place + width * suc k) p
     (subst (λ (n : ℕ). Lies (little_bytes width (number n (get_or xs k d))) bytes (place + length (little_bytes width (number index x)) + width * k)) i
     (numbers_lie width number (index + 1) xs bytes (place + length (little_bytes width (number index x))) k d (omega arith) rest))
 
-pub length-numbers : {A : Type 0} (width : ℕ) (number : ℕ → A → ℕ) (index : ℕ) (xs : List A) → length (numbers width number index xs) ≡ width * length xs
+pub length-numbers : {A : Type 0} (width : ℕ) (number : ℕ → A → ℕ) (index : ℕ) (xs : List A) → length (bytes_of_numbers width number index xs) ≡ width * length xs
 length-numbers width number index [] = omega arith
 length-numbers width number index (x ∷ xs) =
-    omega (arith, length-append (little_bytes width (number index x)) (numbers width number (index + 1) xs), length-bytes_low_first 0 width (number index x), length-numbers width number (index + 1) xs)
+    omega (arith, length-append (little_bytes width (number index x)) (bytes_of_numbers width number (index + 1) xs), length-bytes_low_first 0 width (number index x), length-numbers width number (index + 1) xs)

@@ -15,7 +15,7 @@ use Rattle.flat_tables.specs.Bytes.{part_at, number_at, signed_at}
 use Rattle.flat_tables.specs.Tables.{TableIn, table_at, vtable_at, size_at, distance_at, place_of, is_bad_size}
 use Rattle.flat_tables.specs.Slots.{Reaches, AllReach, Holds, alignment}
 use Rattle.flat_tables.specs.Building.{StaysAt, HasSlots}
-use Rattle.flat_tables.specs.Layout.{IsSlot, numbers, cell, cells, entry, vtable, piece}
+use Rattle.flat_tables.specs.Layout.{IsSlot, bytes_of_numbers, cell, cells, vtable_entry, vtable, piece}
 use Rattle.flat_tables.proofs.Lying.{Lies, lies_left, lies_right, lies_at, part_at-lies, number_at-lies, little_number-lies, numbers_lie, length-numbers}
 use Rattle.flat_tables.proofs.Reaching.{reaches_at}
 use Rattle.flat_tables.proofs.Adding.{Put, stands_put, referred_is}
@@ -49,7 +49,7 @@ within : (t : TableIn) (k distance : ℕ) → 6 + 2 * k ≤ t.size → little_nu
 unfolding distance_at
 within t k distance le e = rw (le-ltb t.size (6 + 2 * k) le) e
 
-small_entry : (k : ℕ) (slot : Slot) → k ≤ max_slots → entry k slot < 256 ^ 2
+small_entry : (k : ℕ) (slot : Slot) → k ≤ max_slots → vtable_entry k slot < 256 ^ 2
 small_entry k Absent le = omega arith
 small_entry k (U8 n) le = omega arith
 small_entry k (I16 z) le = omega arith
@@ -63,7 +63,7 @@ unfolding signed_at
 signed_is w n z bytes place fits e = rw e (ap Ok (to_z-of_z w z fits))
 
 -- where a slot's cell lies, it reads as the slot
-holds_there : (t : TableIn) (k from : ℕ) (slot : Slot) → distance_at t k ≡ entry k slot → from < max_held → t.place + 4 + from ≡ length t.bytes → 8 * k ≤ from
+holds_there : (t : TableIn) (k from : ℕ) (slot : Slot) → distance_at t k ≡ vtable_entry k slot → from < max_held → t.place + 4 + from ≡ length t.bytes → 8 * k ≤ from
     → IsSlot slot → Reaches (from - 8 * k) slot → Lies (little_bytes 8 (cell from k slot)) t.bytes (t.place + (4 + 8 * k)) → Holds t k slot
 holds_there t k from Absent e small end le fits reach l = absent t k e
 holds_there t k from (U8 n) e small end le fits reach l =
@@ -85,7 +85,7 @@ holds_there t k from (At place) e small end le fits reach l =
           (number_in_front 4 4 (from - 8 * k - place) t.bytes _ l),
     ) refl
 
-aligned_there : (t : TableIn) (k : ℕ) (slot : Slot) → distance_at t k ≡ entry k slot → (t.place + 4) % 8 ≡ 0 → (t.place + distance_at t k) % alignment slot ≡ 0
+aligned_there : (t : TableIn) (k : ℕ) (slot : Slot) → distance_at t k ≡ vtable_entry k slot → (t.place + 4) % 8 ≡ 0 → (t.place + distance_at t k) % alignment slot ≡ 0
 aligned_there t k Absent e h = omega arith
 aligned_there t k (U8 n) e h = omega arith
 aligned_there t k (I16 z) e h = rw e (omega arith)
@@ -102,8 +102,8 @@ unfolding size_at
 size_is slots bytes place few l =
     let n = length slots in
     let sizes = little_bytes 2 (4 + 2 * n) ++ little_bytes 2 (4 + 8 * n) in
-    let head : Lies sizes bytes place = lies_left sizes (numbers 2 entry 0 slots) bytes place l in
-    let size : length (vtable slots) ≡ 4 + 2 * n = omega (arith, length-append sizes (numbers 2 entry 0 slots), length-numbers 2 entry 0 slots) in
+    let head : Lies sizes bytes place = lies_left sizes (bytes_of_numbers 2 vtable_entry 0 slots) bytes place l in
+    let size : length (vtable slots) ≡ 4 + 2 * n = omega (arith, length-append sizes (bytes_of_numbers 2 vtable_entry 0 slots), length-numbers 2 vtable_entry 0 slots) in
     let whole : part_at bytes place (4 + 2 * n) ≡ Ok (vtable slots) = ap (part_at bytes place) (sym size) ∙ part_at-lies (vtable slots) bytes place l in
     rw (part_at-lies sizes bytes place head, number_at-lies 2 (4 + 2 * n) bytes place (omega arith) (lies_left (little_bytes 2 (4 + 2 * n)) (little_bytes 2 (4 + 8 * n)) bytes place head), good_size n, whole) refl
 
@@ -115,15 +115,15 @@ vtable_is n bytes place few l =
 
 -- the distance of each slot's cell, further slots included
 distance_is : (slots : List Slot) (t : TableIn) (k : ℕ) → t.size ≡ 4 + 2 * length slots → length slots ≤ max_slots
-    → Lies (numbers 2 entry 0 slots) t.bytes (t.vtable + 4) → distance_at t k ≡ entry k (get_or slots k Absent)
+    → Lies (bytes_of_numbers 2 vtable_entry 0 slots) t.bytes (t.vtable + 4) → distance_at t k ≡ vtable_entry k (get_or slots k Absent)
 distance_is slots t k size few l =
     elim (cases_lt k (length slots)) [
       | inl lt ↦
-          let here : Lies (little_bytes 2 (entry (0 + k) (get_or slots k Absent))) t.bytes (t.vtable + 4 + 2 * k) = numbers_lie 2 entry 0 slots t.bytes (t.vtable + 4) k Absent lt l in
-          let same : entry (0 + k) (get_or slots k Absent) ≡ entry k (get_or slots k Absent) = ap (λ (j : ℕ). entry j (get_or slots k Absent)) (zero-add k) in
-          within t k (entry k (get_or slots k Absent)) (omega (arith, size))
-          (little_number-lies 2 (entry (0 + k) (get_or slots k Absent)) t.bytes (t.vtable + 4 + 2 * k) (small_entry (0 + k) (get_or slots k Absent) (omega arith)) here ∙ same)
-      | inr le ↦ past t k (omega (arith, size)) ∙ ap (entry k) (sym (get_or_past slots k Absent le))
+          let here : Lies (little_bytes 2 (vtable_entry (0 + k) (get_or slots k Absent))) t.bytes (t.vtable + 4 + 2 * k) = numbers_lie 2 vtable_entry 0 slots t.bytes (t.vtable + 4) k Absent lt l in
+          let same : vtable_entry (0 + k) (get_or slots k Absent) ≡ vtable_entry k (get_or slots k Absent) = ap (λ (j : ℕ). vtable_entry j (get_or slots k Absent)) (zero-add k) in
+          within t k (vtable_entry k (get_or slots k Absent)) (omega (arith, size))
+          (little_number-lies 2 (vtable_entry (0 + k) (get_or slots k Absent)) t.bytes (t.vtable + 4 + 2 * k) (small_entry (0 + k) (get_or slots k Absent) (omega arith)) here ∙ same)
+      | inr le ↦ past t k (omega (arith, size)) ∙ ap (vtable_entry k) (sym (get_or_past slots k Absent le))
     ]
 
 -- the slots of a table that was put in front
@@ -140,10 +140,12 @@ table_put slots from pad after few is small fits reach padded bytes at p =
     (lies_right (cells from slots) (vtable slots) bytes (at + 4) p.content_lies) in
     let sizes = little_bytes 2 (4 + 2 * n) ++ little_bytes 2 (4 + 8 * n) in
     let four : length sizes ≡ 4 = omega (arith, length-append (little_bytes 2 (4 + 2 * n)) (little_bytes 2 (4 + 8 * n)), length-bytes_low_first 0 2 (4 + 2 * n), length-bytes_low_first 0 2 (4 + 8 * n)) in
-    let entries_lie : Lies (numbers 2 entry 0 slots) bytes (at + (4 + 8 * n) + 4) = lies_at (numbers 2 entry 0 slots) bytes (at + (4 + 8 * n) + length sizes) (at + (4 + 8 * n) + 4) (omega (arith, four))
-    (lies_right sizes (numbers 2 entry 0 slots) bytes (at + (4 + 8 * n)) vtable_lies) in
-    let end : at + 4 + from ≡ length bytes = omega (arith, p.size, is, cells_size, length-append (cells from slots) (vtable slots), length-append sizes (numbers 2 entry 0 slots), length-numbers 2 entry 0 slots, four) in
-    let distance : (k : ℕ) → distance_at t k ≡ entry k (get_or slots k Absent) = λ k. distance_is slots t k refl few entries_lie in
+    let entries_lie : Lies (bytes_of_numbers 2 vtable_entry 0 slots) bytes (at + (4 + 8 * n) + 4) =
+    lies_at (bytes_of_numbers 2 vtable_entry 0 slots) bytes (at + (4 + 8 * n) + length sizes) (at + (4 + 8 * n) + 4) (omega (arith, four))
+    (lies_right sizes (bytes_of_numbers 2 vtable_entry 0 slots) bytes (at + (4 + 8 * n)) vtable_lies) in
+    let end : at + 4 + from ≡ length bytes =
+    omega (arith, p.size, is, cells_size, length-append (cells from slots) (vtable slots), length-append sizes (bytes_of_numbers 2 vtable_entry 0 slots), length-numbers 2 vtable_entry 0 slots, four) in
+    let distance : (k : ℕ) → distance_at t k ≡ vtable_entry k (get_or slots k Absent) = λ k. distance_is slots t k refl few entries_lie in
     record {
       vtable = at + (4 + 8 * n);
       size = 4 + 2 * n;

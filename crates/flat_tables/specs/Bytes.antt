@@ -1,10 +1,10 @@
 -- Parts of bytes, and the numbers in them.
 use Rattle.std.specs.Prelude.{◌≡◌, ℕ, ◌+◌, List, length, take, drop, nat_lt, if◌then◌else◌, Result, Ok, Err}
+use Rattle.std.specs.Prelude.{ℤ}
 use Rattle.std.specs.Int.{Width, cast_signed}
 use Rattle.byteorder.specs.Endian.{little_number}
 use Rattle.flat_tables.specs.declared.fault.FlatFault.{FlatFault}
 use Rattle.flat_tables.specs.declared.fault.FlatFault.TheVariants.{OutOfRange}
-use Rattle.std.specs.Prelude.{ℤ}
 
 infixl 10 ◌>>=◌
 -- what follows on a value; an error stays

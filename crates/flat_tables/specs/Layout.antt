@@ -19,16 +19,16 @@ unfoldable pub piece : ℕ → List ℕ → ℕ → List ℕ
 piece head content pad = little_bytes 4 head ++ (content ++ replicate pad 0)
 
 -- a number of this width for each item of a list, by its index and the item; the first index is given
-abbrev pub numbers : {A : Type 0} → ℕ → (ℕ → A → ℕ) → ℕ → List A → List ℕ
-numbers width number index [] = []
-numbers width number index (x ∷ xs) = little_bytes width (number index x) ++ numbers width number (index + 1) xs
+abbrev pub bytes_of_numbers : {A : Type 0} → ℕ → (ℕ → A → ℕ) → ℕ → List A → List ℕ
+bytes_of_numbers width number index [] = []
+bytes_of_numbers width number index (x ∷ xs) = little_bytes width (number index x) ++ bytes_of_numbers width number (index + 1) xs
 
 -- references to places; the first reference is `from` bytes from the end
 abbrev pub reference : ℕ → ℕ → ℕ → ℕ
 reference from index place = from - 4 * index - place
 
 abbrev pub references : ℕ → List ℕ → List ℕ
-references from places = numbers 4 (reference from) 0 places
+references from places = bytes_of_numbers 4 (reference from) 0 places
 
 -- the number of a slot whose value is `from` bytes from the end
 abbrev pub slot_number : ℕ → Slot → ℕ
@@ -44,13 +44,13 @@ abbrev pub cell : ℕ → ℕ → Slot → ℕ
 cell from index slot = slot_number (from - 8 * index) slot
 
 abbrev pub cells : ℕ → List Slot → List ℕ
-cells from slots = numbers 8 (cell from) 0 slots
+cells from slots = bytes_of_numbers 8 (cell from) 0 slots
 
 -- the vtable's entry of a slot: how far its cell is from the table's place
-abbrev pub entry : ℕ → Slot → ℕ
-entry index Absent = 0
-entry index slot = 4 + 8 * index
+abbrev pub vtable_entry : ℕ → Slot → ℕ
+vtable_entry index Absent = 0
+vtable_entry index slot = 4 + 8 * index
 
 -- the vtable: its own size, the table's size, and the entries
 abbrev pub vtable : List Slot → List ℕ
-vtable slots = (little_bytes 2 (4 + 2 * length slots) ++ little_bytes 2 (4 + 8 * length slots)) ++ numbers 2 entry 0 slots
+vtable slots = (little_bytes 2 (4 + 2 * length slots) ++ little_bytes 2 (4 + 8 * length slots)) ++ bytes_of_numbers 2 vtable_entry 0 slots

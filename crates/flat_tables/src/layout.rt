@@ -148,7 +148,7 @@ fn push_vtable(bytes: &mut Vec<u8>, slots: &[Slot]) -> Result<(), AllocError>
 /// The vtable's entry of a slot.
 fn entry(slot: Slot, index: usize) -> u16
     requires { index < max_slots }
-    ensures { result ≡ layout.entry index slot }
+    ensures { result ≡ layout.vtable_entry index slot }
 {
     match slot {
         Slot::Absent => 0,

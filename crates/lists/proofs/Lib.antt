@@ -1,6 +1,15 @@
+pub mod AllBytes
+pub mod Contained
+pub mod Equals
+pub mod Every
+pub mod Folds
 pub mod Growing
+pub mod Known
 pub mod Latest
 pub mod Lists
 pub mod MadeSums
+pub mod Numbers
+pub mod Parts
 pub mod RealBytes
+pub mod Truths
 pub mod Zipped

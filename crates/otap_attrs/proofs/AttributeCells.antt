@@ -16,9 +16,10 @@ use Rattle.otap_cells.specs.Continuing.{AttributeIn, attribute_in, has_attribute
 use Rattle.otap_cells.specs.Scalars.{text_cell, number_cell, int_cell, bits_cell, flag_cell}
 use Rattle.otap_cells.specs.Tables.{Table, null_row, with_cell}
 use Rattle.otap_cells.proofs.Rowwise.{with_cell-push}
+use Rattle.otap_cells.proofs.AttributeColumns.{attribute_width}
 use Rattle.otap_attrs.specs.Values.{pair_cells, pair_row, value_bases}
 use Rattle.otap_attrs.specs.Inside.{IsWritableAttribute, attribute_cells, attribute_row, said_cell, value_place, with_some}
-use Rattle.otap_attrs.proofs.AttributeRows.{has_value, id_fits, key_base, nine_columns}
+use Rattle.otap_attrs.proofs.AttributeRows.{has_value, id_fits, key_base}
 use Rattle.otap_attrs.proofs.CellFits.{bits_fit, flag_fits, int_fits, octets_fit}
 use Rattle.otap_attrs.proofs.PairsSaid.{says_array, says_bool, says_bytes, says_double, says_empty, says_int, says_map, says_str}
 use Rattle.otap_attrs.proofs.ValueCells.{cells_of_array, cells_of_bool, cells_of_bytes, cells_of_double, cells_of_empty, cells_of_int, cells_of_map, cells_of_str}
@@ -97,7 +98,7 @@ pub row_written : (kind : Kind) (rows : List (List Cell)) (parent : ℕ) (a : At
     ≡ rows ++ attribute_row parent a ∷ []
 row_written kind rows parent a is =
     ap (λ (n : ℕ). with_some (suc (value_place a.kind)) (said_cell a) (with_some 2 (number_cell a.kind) (with_some 1 (text_cell a.key) (with_cell 0 (number (pos parent)) (rows ++ replicate n null ∷ [])))))
-    (nine_columns kind is)
+    (attribute_width kind is)
     ∙ ap (λ (all : List (List Cell)). with_some (suc (value_place a.kind)) (said_cell a) (with_some 2 (number_cell a.kind) (with_some 1 (text_cell a.key) all)))
     (with_cell-push 0 (number (pos parent)) rows (replicate 9 null))
     ∙ ap (λ (all : List (List Cell)). with_some (suc (value_place a.kind)) (said_cell a) (with_some 2 (number_cell a.kind) all))

@@ -3,23 +3,24 @@ use Rattle.std.proofs.Common.{◌≡◌, Bool, true, false, List, [], ◌∷◌,
 use Rattle.std.specs.List.{slice_index_or}
 use Rattle.otap_cells.specs.declared.payload.Kind.{Kind}
 use Rattle.otap_cells.specs.declared.payload.Kind.TheVariants as table
-use Rattle.otap_cells.specs.declared.profile.Base.{Base}
 use Rattle.otap_cells.specs.declared.profile.Base.TheVariants as base
 use Rattle.otap_cells.specs.Cells.{Cell, null, number, bits, flag, bytes, seen, IsCellOf}
 use Rattle.otap_cells.specs.declared.view.CellView.{CellView}
-use Rattle.otap_cells.specs.Columns.{ColumnSpec, attrs, deep_attrs, base_at, coding_at, columns_of, width_of}
+use Rattle.otap_cells.specs.Columns.{attrs, deep_attrs, base_at, coding_at, columns_of, width_of}
 use Rattle.otap_cells.specs.declared.profile.Coding.TheVariants as coding
 use Rattle.otap_cells.specs.Continuing.{has_attributes}
 use Rattle.otap_cells.specs.Tables.{IsRow}
 use Rattle.otap_attrs.specs.Values.{AreCellsOf, HasValueAt, value_bases}
+use Rattle.otap_cells.proofs.AttributeColumns.{attribute_width}
+use Rattle.otap_attrs.proofs.CellFits.{cells_row}
 
 -- the first column has numbers of 32 bits, whatever their width on the wire
-id_cell : (v w : Bool) (cell : Cell) → IsCellOf (base.Id v) cell → IsCellOf (base.Id w) cell
-id_cell v w null fits = tt
-id_cell v w (number n) fits = fits
-id_cell v w (bits n) fits = fits
-id_cell v w (flag b) fits = absurd cc
-id_cell v w (bytes part) fits = fits
+pub either_width : (v w : Bool) (cell : Cell) → IsCellOf (base.Id v) cell → IsCellOf (base.Id w) cell
+either_width v w null fits = tt
+either_width v w (number n) fits = fits
+either_width v w (bits n) fits = fits
+either_width v w (flag b) fits = absurd cc
+either_width v w (bytes part) fits = fits
 
 -- what the other columns hold
 pub key_base : (kind : Kind) → has_attributes kind ≡ true → base_at kind 1 ≡ base.Utf8
@@ -37,57 +38,30 @@ key_base table.NumberExemplarAttrs e = refl
 key_base table.HistExemplarAttrs e = refl
 key_base _ e = absurd cc
 
-pub nine_columns : (kind : Kind) → has_attributes kind ≡ true → width_of kind ≡ 9
-unfolding attrs deep_attrs
-nine_columns table.ResourceAttrs e = refl
-nine_columns table.ScopeAttrs e = refl
-nine_columns table.LogAttrs e = refl
-nine_columns table.SpanAttrs e = refl
-nine_columns table.EventAttrs e = refl
-nine_columns table.LinkAttrs e = refl
-nine_columns table.NumberPointAttrs e = refl
-nine_columns table.SummaryPointAttrs e = refl
-nine_columns table.HistPointAttrs e = refl
-nine_columns table.NumberExemplarAttrs e = refl
-nine_columns table.HistExemplarAttrs e = refl
-nine_columns _ e = absurd cc
-
--- the cells of a value in columns of its bases
-cells_row : (columns : List ColumnSpec) (bases : List Base) (cells : List Cell) → map (λ (c : ColumnSpec). c.base) columns ≡ bases → AreCellsOf bases cells → IsRow columns cells
-cells_row [] [] [] same fits = tt
-cells_row [] [] (cell ∷ cells) same fits = fits
-cells_row [] (b ∷ bases) cells same fits = absurd cc
-cells_row (c ∷ columns) [] cells same fits = absurd cc
-cells_row (c ∷ columns) (b ∷ bases) [] same fits = fits
-cells_row (c ∷ columns) (b ∷ bases) (cell ∷ cells) same fits =
-    let one : c.base ≡ b = cc in
-    let more : map (λ (c : ColumnSpec). c.base) columns ≡ bases = cc in
-    (subst (λ (holds : Base). IsCellOf holds cell) (sym one) fits.0, cells_row columns bases cells more fits.1)
-
 -- the row of a pair
 pub pair_fits : (kind : Kind) (parent key : Cell) (cells : List Cell) → has_attributes kind ≡ true → IsCellOf (base.Id true) parent → IsCellOf base.Utf8 key
     → AreCellsOf value_bases cells → IsRow (columns_of kind) (parent ∷ key ∷ cells)
 unfolding attrs deep_attrs
-pair_fits table.ResourceAttrs parent key cells e p k v = (id_cell true false parent p, (k, cells_row (drop 2 attrs) value_bases cells refl v))
-pair_fits table.ScopeAttrs parent key cells e p k v = (id_cell true false parent p, (k, cells_row (drop 2 attrs) value_bases cells refl v))
-pair_fits table.LogAttrs parent key cells e p k v = (id_cell true false parent p, (k, cells_row (drop 2 attrs) value_bases cells refl v))
-pair_fits table.SpanAttrs parent key cells e p k v = (id_cell true false parent p, (k, cells_row (drop 2 attrs) value_bases cells refl v))
-pair_fits table.EventAttrs parent key cells e p k v = (id_cell true true parent p, (k, cells_row (drop 2 deep_attrs) value_bases cells refl v))
-pair_fits table.LinkAttrs parent key cells e p k v = (id_cell true true parent p, (k, cells_row (drop 2 deep_attrs) value_bases cells refl v))
-pair_fits table.NumberPointAttrs parent key cells e p k v = (id_cell true true parent p, (k, cells_row (drop 2 deep_attrs) value_bases cells refl v))
-pair_fits table.SummaryPointAttrs parent key cells e p k v = (id_cell true true parent p, (k, cells_row (drop 2 deep_attrs) value_bases cells refl v))
-pair_fits table.HistPointAttrs parent key cells e p k v = (id_cell true true parent p, (k, cells_row (drop 2 deep_attrs) value_bases cells refl v))
-pair_fits table.NumberExemplarAttrs parent key cells e p k v = (id_cell true true parent p, (k, cells_row (drop 2 deep_attrs) value_bases cells refl v))
-pair_fits table.HistExemplarAttrs parent key cells e p k v = (id_cell true true parent p, (k, cells_row (drop 2 deep_attrs) value_bases cells refl v))
+pair_fits table.ResourceAttrs parent key cells e p k v = (either_width true false parent p, (k, cells_row (drop 2 attrs) value_bases cells refl v))
+pair_fits table.ScopeAttrs parent key cells e p k v = (either_width true false parent p, (k, cells_row (drop 2 attrs) value_bases cells refl v))
+pair_fits table.LogAttrs parent key cells e p k v = (either_width true false parent p, (k, cells_row (drop 2 attrs) value_bases cells refl v))
+pair_fits table.SpanAttrs parent key cells e p k v = (either_width true false parent p, (k, cells_row (drop 2 attrs) value_bases cells refl v))
+pair_fits table.EventAttrs parent key cells e p k v = (either_width true true parent p, (k, cells_row (drop 2 deep_attrs) value_bases cells refl v))
+pair_fits table.LinkAttrs parent key cells e p k v = (either_width true true parent p, (k, cells_row (drop 2 deep_attrs) value_bases cells refl v))
+pair_fits table.NumberPointAttrs parent key cells e p k v = (either_width true true parent p, (k, cells_row (drop 2 deep_attrs) value_bases cells refl v))
+pair_fits table.SummaryPointAttrs parent key cells e p k v = (either_width true true parent p, (k, cells_row (drop 2 deep_attrs) value_bases cells refl v))
+pair_fits table.HistPointAttrs parent key cells e p k v = (either_width true true parent p, (k, cells_row (drop 2 deep_attrs) value_bases cells refl v))
+pair_fits table.NumberExemplarAttrs parent key cells e p k v = (either_width true true parent p, (k, cells_row (drop 2 deep_attrs) value_bases cells refl v))
+pair_fits table.HistExemplarAttrs parent key cells e p k v = (either_width true true parent p, (k, cells_row (drop 2 deep_attrs) value_bases cells refl v))
 pair_fits _ parent key cells e p k v = absurd cc
 
 -- the cell of a parent
 pub id_fits : (kind : Kind) → has_attributes kind ≡ true → (cell : Cell) → IsCellOf (base.Id true) cell → IsCellOf (base_at kind 0) cell
 unfolding attrs deep_attrs
-id_fits table.ResourceAttrs e cell p = id_cell true false cell p
-id_fits table.ScopeAttrs e cell p = id_cell true false cell p
-id_fits table.LogAttrs e cell p = id_cell true false cell p
-id_fits table.SpanAttrs e cell p = id_cell true false cell p
+id_fits table.ResourceAttrs e cell p = either_width true false cell p
+id_fits table.ScopeAttrs e cell p = either_width true false cell p
+id_fits table.LogAttrs e cell p = either_width true false cell p
+id_fits table.SpanAttrs e cell p = either_width true false cell p
 id_fits table.EventAttrs e cell p = p
 id_fits table.LinkAttrs e cell p = p
 id_fits table.NumberPointAttrs e cell p = p
@@ -145,7 +119,7 @@ seven_fit (x0 ∷ x1 ∷ x2 ∷ x3 ∷ x4 ∷ x5 ∷ x6 ∷ x7 ∷ more) d fits 
 
 -- attributes of log records
 pub log_width : (kind : Kind) → kind ≡ table.LogAttrs → width_of kind ≡ 9
-log_width kind e = subst (λ (k : Kind). width_of k ≡ 9) (sym e) (nine_columns table.LogAttrs refl)
+log_width kind e = subst (λ (k : Kind). width_of k ≡ 9) (sym e) (attribute_width table.LogAttrs refl)
 
 pub log_value : (kind : Kind) → kind ≡ table.LogAttrs → HasValueAt kind 2
 log_value kind e = subst (λ (k : Kind). HasValueAt k 2) (sym e) (has_value table.LogAttrs refl)

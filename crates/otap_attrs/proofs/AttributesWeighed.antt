@@ -1,6 +1,6 @@
 -- What attributes weigh as rows: the cells of values, pairs, and whole tables, in whatever order and however coded.
-use Rattle.std.proofs.Common.{◌≡◌, ℕ, suc, pos, negsuc, ◌+◌, true, false, inl, inr, Bool, List, [], ◌∷◌, length, map, drop, Option, None, Some, refl, ap, ◌∙◌, arith}
-use Rattle.std.specs.Prelude.{ℤ, sum_by, ◌==◌}
+use Rattle.std.proofs.Common.{◌≡◌, ℕ, suc, ◌+◌, inl, inr, Bool, List, [], ◌∷◌, length, map, drop, Option, None, Some, refl, ap, ◌∙◌, arith}
+use Rattle.std.specs.Prelude.{ℤ, sum_by}
 use Rattle.std.proofs.lemmas.Bool.{cases_Bool}
 use Rattle.std.proofs.lemmas.List.Sums.{sum_by-append, sum_by-cons}
 use Rattle.std.proofs.lemmas.List.{map-append}
@@ -10,7 +10,7 @@ use Rattle.otlp_model.specs.declared.value.Pair.{Pair}
 use Rattle.cbor_values.specs.Written.{cbor_of}
 use Rattle.otap_cells.specs.declared.payload.Kind.{Kind}
 use Rattle.otap_cells.specs.Cells.{Cell}
-use Rattle.otap_cells.specs.Scalars.{text_cell, int_cell, number_cell, flag_cell, bits_cell}
+use Rattle.otap_cells.specs.Scalars.{text_cell}
 use Rattle.otap_cells.specs.Weights.{cell_weight, weight_of_row, weight_of_table}
 use Rattle.otap_groups.specs.Flat.{placed, placed_at, placed_from}
 use Rattle.otap_groups.specs.Weighing.{cells_weight, parts_weight}
@@ -18,26 +18,7 @@ use Rattle.otap_attrs.specs.Sorting.{coded_after, coded_rows, is_before, parent_
 use Rattle.otap_attrs.specs.Tables.{attribute_table, row_of_pair}
 use Rattle.otap_attrs.specs.Values.{pair_cells, value_cells}
 use Rattle.otap_attrs.proofs.ValueCells.{cells_of_empty, cells_of_str, cells_of_int, cells_of_double, cells_of_bool, cells_of_map, cells_of_array, cells_of_bytes}
-
--- ---- single cells
-
-pub text_weighs : (text : List ℕ) → cell_weight (text_cell text) ≡ length text
-text_weighs [] = refl
-text_weighs (byte ∷ more) = refl
-
-pub number_weighs : (n : ℕ) → cell_weight (number_cell n) ≡ 0
-number_weighs n = elim (cases_Bool (n == 0)) [ inl t ↦ rw t refl | inr f ↦ rw f refl ]
-
-pub int_weighs_nothing : (z : ℤ) → cell_weight (int_cell z) ≡ 0
-int_weighs_nothing (pos n) = number_weighs n
-int_weighs_nothing (negsuc n) = refl
-
-pub bits_weigh : (n : ℕ) → cell_weight (bits_cell n) ≡ 0
-bits_weigh n = elim (cases_Bool (n == 0)) [ inl t ↦ rw t refl | inr f ↦ rw f refl ]
-
-flag_weighs : (b : Bool) → cell_weight (flag_cell b) ≡ 0
-flag_weighs true = refl
-flag_weighs false = refl
+use Rattle.otap_cells.proofs.ScalarLaws.{text_weighs, int_weighs_nothing, bits_weigh, flag_weighs}
 
 -- ---- values
 

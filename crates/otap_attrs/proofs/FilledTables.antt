@@ -2,13 +2,12 @@
 use Rattle.std.proofs.Common.{◌≡◌, ℕ, true, false, Bool, List, [], ◌∷◌, ◌++◌, length, map, refl, sym, ap, ◌∙◌, subst, arith, inl, inr, append-nil, append_assoc}
 use Rattle.std.specs.Prelude.{All, ◌==◌, ◌&&◌, not, if◌then◌else◌, filter, nat_eq, nat_lt, sum_by}
 use Rattle.std.specs.List.{AllByRecursion, IsDistinct, flat_map}
-use Rattle.std.proofs.lemmas.Bool.{and_parts, cases_Bool, ltb-false}
+use Rattle.std.proofs.lemmas.Bool.{and_parts, cases_Bool, ltb-false, not-true}
 use Rattle.std.proofs.lemmas.Bool.Decides.{nat_tests}
 use Rattle.std.proofs.lemmas.List.{map-append}
 use Rattle.std.proofs.lemmas.List.Elements.{All-nil, All-cons, All-head, All-tail}
 use Rattle.std.proofs.lemmas.List.Sums.{sum_by-cons}
 use Rattle.otap_cells.specs.declared.payload.Kind.{Kind}
-use Rattle.otap_cells.specs.declared.payload.Kind.TheVariants as table
 use Rattle.otap_cells.specs.Cells.{Cell}
 use Rattle.otap_cells.specs.Named.{table_named}
 use Rattle.otap_cells.specs.Payload.{is_kind, number_of}
@@ -16,6 +15,7 @@ use Rattle.otap_cells.specs.Sets.{IsSet, tables_in}
 use Rattle.otap_cells.specs.Tables.{Table, profile_table}
 use Rattle.otap_cells.specs.Weights.{weight_of_row, weight_of_table, weight_of_tables}
 use Rattle.otap_attrs.specs.Tables.{beside_kind, where_rows}
+use Rattle.otap_cells.proofs.KindsApart.{same_kind}
 
 abbrev pub filled : List Table → List Table
 filled tables = flat_map where_rows tables
@@ -38,64 +38,8 @@ abbrev pub Formed : List Table → Type 0
 Formed [] = Unit {0}
 Formed (t ∷ ts) = (t ≡ profile_table t.kind t.rows) × Formed ts
 
-abbrev kind_numbered : ℕ → Kind
-kind_numbered n =
-    if n == 1 then table.ResourceAttrs
-    else if n == 2 then table.ScopeAttrs
-    else if n == 10 then table.Metrics
-    else if n == 11 then table.NumberPoints
-    else if n == 12 then table.SummaryPoints
-    else if n == 13 then table.HistPoints
-    else if n == 15 then table.NumberPointAttrs
-    else if n == 16 then table.SummaryPointAttrs
-    else if n == 17 then table.HistPointAttrs
-    else if n == 19 then table.NumberExemplars
-    else if n == 20 then table.HistExemplars
-    else if n == 22 then table.NumberExemplarAttrs
-    else if n == 23 then table.HistExemplarAttrs
-    else if n == 30 then table.Logs
-    else if n == 31 then table.LogAttrs
-    else if n == 40 then table.Spans
-    else if n == 41 then table.SpanAttrs
-    else if n == 42 then table.SpanEvents
-    else if n == 43 then table.SpanLinks
-    else if n == 44 then table.EventAttrs
-    else table.LinkAttrs
-
-numbered_again : (kind : Kind) → kind_numbered (number_of kind) ≡ kind
-numbered_again table.ResourceAttrs = refl
-numbered_again table.ScopeAttrs = refl
-numbered_again table.Metrics = refl
-numbered_again table.NumberPoints = refl
-numbered_again table.SummaryPoints = refl
-numbered_again table.HistPoints = refl
-numbered_again table.NumberPointAttrs = refl
-numbered_again table.SummaryPointAttrs = refl
-numbered_again table.HistPointAttrs = refl
-numbered_again table.NumberExemplars = refl
-numbered_again table.HistExemplars = refl
-numbered_again table.NumberExemplarAttrs = refl
-numbered_again table.HistExemplarAttrs = refl
-numbered_again table.Logs = refl
-numbered_again table.LogAttrs = refl
-numbered_again table.Spans = refl
-numbered_again table.SpanAttrs = refl
-numbered_again table.SpanEvents = refl
-numbered_again table.SpanLinks = refl
-numbered_again table.EventAttrs = refl
-numbered_again table.LinkAttrs = refl
-
-same_kind : (a b : Kind) → is_kind a b ≡ true → a ≡ b
-same_kind a b same =
-    let equal : number_of a ≡ number_of b = grind (arith, nat_tests, same) in
-    sym (numbered_again a) ∙ ap kind_numbered equal ∙ numbered_again b
-
 flipped : (n m : ℕ) → (n == m) ≡ false → (m == n) ≡ false
 flipped n m differ = grind (arith, nat_tests, differ)
-
-off : (b : Bool) → not b ≡ true → b ≡ false
-off true is = sym is
-off false is = refl
 
 -- ---- the table of a kind
 
@@ -110,7 +54,7 @@ missing_named : (kind : Kind) (ts : List Table) → missing (number_of kind) (nu
 missing_named kind [] far = refl
 missing_named kind (t ∷ ts) far =
     let both = and_parts (not (number_of kind == number_of t.kind)) (missing (number_of kind) (numbers ts)) far in
-    let other : is_kind t.kind kind ≡ false = flipped (number_of kind) (number_of t.kind) (off _ both.0) in
+    let other : is_kind t.kind kind ≡ false = flipped (number_of kind) (number_of t.kind) (not-true _ both.0) in
     let more = missing_named kind ts both.1 in elim (cases_Bool (nat_lt 0 (length t.rows))) [
       | inl some ↦ rw some (rw other more)
       | inr none ↦ rw none more
@@ -169,12 +113,12 @@ apart_filled (t ∷ ts) far =
       | inr none ↦ rw none more
     ]
 
-abbrev In : Kind × Table → Type 0
-In pair = pair.1.kind ≡ pair.0
+abbrev pub IsBeside : Kind × Table → Type 0
+IsBeside pair = pair.1.kind ≡ pair.0
 
-all_beside : (ts : List Table) → All In (map beside_kind ts)
-all_beside [] = All-nil In
-all_beside (t ∷ ts) = All-cons In (beside_kind t) (map beside_kind ts) refl (all_beside ts)
+pub all_beside : (ts : List Table) → All IsBeside (map beside_kind ts)
+all_beside [] = All-nil IsBeside
+all_beside (t ∷ ts) = All-cons IsBeside (beside_kind t) (map beside_kind ts) refl (all_beside ts)
 
 abbrev numbers_beside : List Table → List ℕ
 numbers_beside ts = map (λ (pair : Kind × Table). number_of pair.0) (map beside_kind ts)
@@ -190,7 +134,7 @@ distinct (t ∷ ts) far =
     others [] far = tt
     others (u ∷ us) far =
         let both = and_parts (not (number_of t.kind == number_of u.kind)) (missing (number_of t.kind) (numbers us)) far in
-        (off _ both.0, others us both.1)
+        (not-true _ both.0, others us both.1)
 
 tables_beside : (ts : List Table) → tables_in (λ t. t) (map beside_kind ts) ≡ ts
 tables_beside [] = refl
@@ -219,7 +163,7 @@ added_all all = sym (append-nil all)
 
 -- ---- their weight
 
-no_weight : (rows : List (List Cell)) → nat_lt 0 (length rows) ≡ false → sum_by weight_of_row rows ≡ 0
+pub no_weight : (rows : List (List Cell)) → nat_lt 0 (length rows) ≡ false → sum_by weight_of_row rows ≡ 0
 no_weight [] none = refl
 no_weight (row ∷ rows) none = absurd (omega (arith, ltb-false 0 (length (row ∷ rows)) none))
 

@@ -2,18 +2,11 @@
 use Rattle.std.proofs.Common.{◌≡◌, List, [], ◌∷◌, map, refl, sym, ap, ◌∙◌, subst}
 use Rattle.std.specs.Prelude.{All}
 use Rattle.std.proofs.lemmas.List.Elements.{All-map}
+use Rattle.lists.proofs.Every.{found_all, map_over}
 use Rattle.otlp_model.specs.declared.value.Pair.{Pair}
 use Rattle.otap_cells.specs.declared.payload.Kind.{Kind}
 use Rattle.otap_cells.specs.Tables.{Table}
-use Rattle.otap_groups.proofs.FlatItems.{all_unmapped}
 use Rattle.otap_attrs.specs.Tables.{attribute_table}
-
-pub found_all : {B X : Type 0} (deref : B → X) (P : X → Type 0) (found : List B) (xs : List X) → map deref found ≡ xs → All P xs → All (λ b. P (deref b)) found
-found_all deref P found xs is all = all_unmapped P deref found (subst (All P) (sym is) all)
-
-pub map_over : {B X Y : Type 0} (deref : B → X) (f : X → Y) (found : List B) → map (λ b. f (deref b)) found ≡ map f (map deref found)
-map_over deref f [] = refl
-map_over deref f (b ∷ bs) = ap (λ ys. f (deref b) ∷ ys) (map_over deref f bs)
 
 pub found_table : {B X : Type 0} (kind : Kind) (deref : B → X) (pairs : X → List Pair) (found : List B) (xs : List X) (t : Table) → map deref found ≡ xs
     → t ≡ attribute_table kind (map (λ b. pairs (deref b)) found) → t ≡ attribute_table kind (map pairs xs)

@@ -1,9 +1,9 @@
 -- Pairs, one after the other, and what each of them weighs.
 use Rattle.std.proofs.Common.{◌≡◌, ℕ, zero, suc, ◌<◌, ◌≤◌, List, [], ◌∷◌, length, refl, ap, ◌∙◌, arith}
+use Rattle.std.proofs.Common.{map, drop}
 use Rattle.std.specs.List.{slice_index_or}
 use Rattle.otlp_model.specs.declared.value.Pair.{Pair}
 use Rattle.otlp_model.specs.Weight.{total, weight_of_pair, weight_of_value}
-use Rattle.std.proofs.Common.{map, drop}
 use Rattle.std.proofs.Math.ListN.{get_or-map}
 use Rattle.otap_cells.specs.Cells.{Cell, null, bytes_in, cell_at}
 use Rattle.otap_cells.specs.Tables.{cell_in}
@@ -18,7 +18,7 @@ value_weight (pair ∷ pairs) (suc k) n d all within = value_weight pairs k n d 
 -- ---- reading
 
 -- cells after two, and after one and one more
-after_both : (row : List Cell) → drop 1 (drop 1 row) ≡ drop 2 row
+pub after_both : (row : List Cell) → drop 1 (drop 1 row) ≡ drop 2 row
 after_both [] = refl
 after_both (a ∷ []) = refl
 after_both (a ∷ b ∷ row) = refl

@@ -4,19 +4,17 @@ use Rattle.std.specs.Prelude.{Contains}
 use Rattle.std.specs.List.Sorted.{IsPermutation}
 use Rattle.std.proofs.lemmas.List.{get_or_default}
 use Rattle.std.proofs.lemmas.List.Sorted.{Contains-permutation, IsPermutation-sym}
+use Rattle.std.proofs.lemmas.Option.{same_Some}
 use Rattle.otap_cells.specs.Inside.{numbers}
 use Rattle.otap_attrs.specs.Defects.{OrphanIn}
 use Rattle.otap_attrs.specs.Indexing.{Lacks}
 
 -- a number stands among ids where it stands among their numbers
-some_is : (a b : ℕ) → Some a ≡ Some b → a ≡ b
-some_is a b e = cc
-
 pub number_among : (ids : List (Option ℕ)) (n : ℕ) → Contains ids (Some n) → Contains (numbers ids) n
 number_among [] n (k, within, at) = absurd (omega arith)
 number_among (None ∷ ids) n (zero, within, at) = absurd (cc)
 number_among (None ∷ ids) n (suc k, within, at) = number_among ids n (k, omega arith, at)
-number_among (Some id ∷ ids) n (zero, within, at) = (0, omega arith, some_is id n at)
+number_among (Some id ∷ ids) n (zero, within, at) = (0, omega arith, same_Some id n at)
 number_among (Some id ∷ ids) n (suc k, within, at) =
     let rest = number_among ids n (k, omega arith, at) in (suc rest.0, omega arith, rest.2)
 

@@ -1,18 +1,19 @@
 -- The table of the pairs of parents has a row for each pair.
-use Rattle.std.proofs.Common.{◌≡◌, ℕ, zero, suc, ◌+◌, ◌-◌, ◌^◌, ◌<◌, ◌≤◌, true, false, ◌&&◌, List, [], ◌∷◌, ◌++◌, length, map, drop, Option, Some, None, refl, sym, ap, subst, ◌∙◌, arith, inl, inr}
+use Rattle.std.proofs.Common.{◌≡◌, ℕ, zero, suc, ◌+◌, ◌^◌, ◌<◌, ◌≤◌, true, false, ◌&&◌, List, [], ◌∷◌, ◌++◌, length, map, drop, Option, Some, None, refl, sym, ap, subst, ◌∙◌, arith, inl, inr}
 use Rattle.std.specs.Prelude.{◌==◌, if◌then◌else◌, IsPermutation}
 use Rattle.std.specs.List.{slice_index_or}
 use Rattle.std.specs.Str.{bytes_eq}
 use Rattle.std.specs.Ordering.{is_lt, int_eq, nat_cmp, ordering_then}
 use Rattle.std.specs.declared.cmp.Ordering.{Ordering}
 use Rattle.std.specs.declared.cmp.Ordering.TheVariants.{Equal}
-use Rattle.std.proofs.lemmas.Bool.{and_parts, cases_Bool, cases_lt, lt-ltb}
+use Rattle.std.proofs.lemmas.Bool.{and_parts, cases_Bool}
 use Rattle.std.proofs.lemmas.Bool.Decides.{Decides-eqb, Decides-int_eq}
 use Rattle.std.proofs.lemmas.Slice.Eq.{bytes_eq-Decides}
 use Rattle.std.proofs.lemmas.Cmp.{tied_itself}
 use Rattle.std.proofs.lemmas.List.{length-map, map-append}
 use Rattle.std.proofs.lemmas.List.FromFn.{fill_by_all, get_or-map-range_with_len}
 use Rattle.std.proofs.lemmas.List.Sorted.{IsPermutation-map}
+use Rattle.std.proofs.lemmas.Map.Keys.{ge_from_not_lt}
 use Rattle.otlp_model.specs.declared.value.Pair.{Pair}
 use Rattle.otap_cells.specs.declared.payload.Kind.{Kind}
 use Rattle.otap_cells.specs.declared.profile.Coding.TheVariants as coding
@@ -29,9 +30,10 @@ use Rattle.otap_groups.specs.Stored.{IsPairRows}
 use Rattle.otap_attrs.specs.Sorting.{attribute_cmp, coded_after, coded_rows, is_before, parent_in, placed_by, sorted_by, sorted_rows}
 use Rattle.otap_attrs.specs.Tables.{attribute_table, row_of_pair}
 use Rattle.otap_attrs.specs.Values.{pair_cells}
-use Rattle.otap_attrs.proofs.AttributeRows.{nine_columns, parents_run}
+use Rattle.otap_attrs.proofs.AttributeRows.{parents_run}
 use Rattle.otap_attrs.proofs.SortedRows.{attribute_total, rows_order}
 use Rattle.otap_attrs.proofs.StableSort.{NoneBefore, Rises, sorted_moves, sorted_rises}
+use Rattle.otap_cells.proofs.AttributeColumns.{attribute_width}
 
 -- ---- parents of rows in their order
 
@@ -49,19 +51,13 @@ same_attribute a b same =
       bytes = (bytes_eq-Decides a.bytes b.bytes).0 p.1 i;
     }
 
-not_below : (a b : ℕ) → is_lt (nat_cmp b a) ≡ false → a ≤ b
-not_below a b rising = elim (cases_lt b a) [
-  | inl below ↦ absurd (let clash : true ≡ false = sym (rw (lt-ltb b a below) refl) ∙ rising in cc)
-  | inr fine ↦ fine
-]
-
 parent_rises : (a b : List Cell) → is_before b a ≡ false → says_again (drop 1 a) (drop 1 b) ≡ true → parent_in a ≤ parent_in b
 parent_rises a b rising again =
     let one = attribute_in (drop 1 a) in
     let other = attribute_in (drop 1 b) in
     let same : one ≡ other = same_attribute one other (and_parts (is_run_kind other.kind) (attribute_is one other) again).1 in
     let tied : attribute_cmp other one ≡ Equal = subst (λ (x : AttributeIn). attribute_cmp other x ≡ Equal) (sym same) (tied_itself attribute_total other) in
-    not_below (parent_in a) (parent_in b) (sym (ap (λ (o : Ordering). is_lt (ordering_then o (nat_cmp (parent_in b) (parent_in a)))) tied) ∙ rising)
+    ge_from_not_lt (parent_in b) (parent_in a) (sym (ap (λ (o : Ordering). is_lt (ordering_then o (nat_cmp (parent_in b) (parent_in a)))) tied) ∙ rising)
 
 -- no parent is above the greatest number
 abbrev Small : List (List Cell) → Type 0
@@ -145,10 +141,10 @@ small_sorted (x ∷ xs) small = small_placed x (sorted_by is_before xs) small.0 
 
 coding_is : (kind : Kind) (rows : List (List Cell)) → has_attributes kind ≡ true → coding_in (profile_table kind rows) 0 ≡ coding.Run
 coding_is kind rows kinds =
-    get_or-map-range_with_len (coding_at kind) 0 (width_of kind) 0 0 coding.Plain (omega (arith, nine_columns kind kinds)) (omega arith) ∙ parents_run kind kinds
+    get_or-map-range_with_len (coding_at kind) 0 (width_of kind) 0 0 coding.Plain (omega (arith, attribute_width kind kinds)) (omega arith) ∙ parents_run kind kinds
 
 greatest_is : (kind : Kind) (rows : List (List Cell)) → has_attributes kind ≡ true → greatest_in (profile_table kind rows) 0 ≡ greatest_wide
-greatest_is kind rows kinds = get_or-map-range_with_len (λ column. greatest_wide) 0 (width_of kind) 0 0 0 (omega (arith, nine_columns kind kinds)) (omega arith)
+greatest_is kind rows kinds = get_or-map-range_with_len (λ column. greatest_wide) 0 (width_of kind) 0 0 0 (omega (arith, attribute_width kind kinds)) (omega arith)
 
 again_same : (kind : Kind) → has_attributes kind ≡ true → (before cells : List Cell) → again_of kind before cells ≡ says_again before cells
 again_same kind kinds before cells = rw kinds refl

@@ -10,7 +10,7 @@ use Rattle.otap_cells.specs.declared.payload.Kind.{Kind}
 use Rattle.otap_cells.specs.declared.payload.Kind.TheVariants as table
 use Rattle.otap_cells.specs.declared.profile.Coding.{Coding}
 use Rattle.otap_cells.specs.Columns.{is_id_at, attrs, deep_attrs}
-use Rattle.otap_cells.specs.ColumnIds.{HasFault, HasNullParent, id_in, stored_in}
+use Rattle.otap_cells.specs.ColumnIds.{HasIdFault, HasNullParent, id_in, stored_in}
 use Rattle.otap_cells.specs.Continuing.{continues_in, has_attributes}
 use Rattle.otap_cells.specs.GivenIds.{HasIds, ids_in}
 use Rattle.otap_cells.specs.Ids.{IdsAfter}
@@ -80,7 +80,7 @@ values_more rows column row below here k less why bad =
 -- ---- what is wrong, and what isn't
 
 module _ (t : Table) (known parents : List (Option ℕ)) (are : HasIds t 0 parents) where
-  no_fault : (HasNullParent t 0 → ⊥) → (fault : IdFault) → HasFault t 0 (continues_in t) fault → ⊥
+  no_fault : (HasNullParent t 0 → ⊥) → (fault : IdFault) → HasIdFault t 0 (continues_in t) fault → ⊥
   no_fault there NullParent lacking = there lacking
   no_fault there PastType past = past.1 parents are
   no_fault there Duplicate never = never

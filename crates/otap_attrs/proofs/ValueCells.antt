@@ -1,7 +1,7 @@
 -- The cells of values, constructor by constructor, and what they weigh.
 use Rattle.std.proofs.Common.{◌≡◌, ◌≢◌, ℕ, List, [], ◌∷◌, length, refl, rules}
-use Rattle.std.specs.Prelude.{ℤ, Bool, unwrap_or}
 use Rattle.std.proofs.Common.{inl, inr}
+use Rattle.std.specs.Prelude.{ℤ, Bool, unwrap_or}
 use Rattle.std.proofs.lemmas.Bool.{cases_eq, ne_eqb}
 use Rattle.otlp_model.specs.declared.value.Value.{Value, the_lemmas}
 use Rattle.otlp_model.specs.declared.value.Value as values
@@ -11,7 +11,8 @@ use Rattle.cbor_values.specs.Values.{value_of}
 use Rattle.cbor_values.specs.Written.{cbor_of}
 use Rattle.otap_cells.specs.Cells.{Cell, null, bytes, bytes_in, cell_at}
 use Rattle.otap_cells.specs.Scalars.{text_cell, int_cell, bits_cell, flag_cell, int_in, bits_in, flag_in}
-use Rattle.otap_attrs.specs.Values.{nested_in, nested_of, type_in, value_cells, value_in, value_row}
+use Rattle.otap_attrs.specs.Values.{nested_in, nested_of, value_type_in, value_cells, value_in, value_row}
+use Rattle.otlp_model.proofs.Levels.{weight_of_str, weight_of_bytes, weight_of_empty, weight_of_bool, weight_of_int, weight_of_double}
 
 pub cells_of_empty : value_cells values.Empty ≡ null ∷ null ∷ null ∷ null ∷ null ∷ null ∷ null ∷ []
 unfolding value_cells
@@ -54,50 +55,32 @@ nested_of_array members = search (rules, the_lemmas)
 
 -- ---- what they weigh
 
-pub weight_of_empty : weight_of_value values.Empty ≡ 0
-weight_of_empty = search (rules, the_lemmas)
-
-weight_of_str : (text : List ℕ) → weight_of_value (values.Str text) ≡ length text
-weight_of_str text = search (rules, the_lemmas)
-
-weight_of_int : (z : ℤ) → weight_of_value (values.Int z) ≡ 0
-weight_of_int z = search (rules, the_lemmas)
-
-weight_of_double : (n : ℕ) → weight_of_value (values.Double n) ≡ 0
-weight_of_double n = search (rules, the_lemmas)
-
-weight_of_bool : (b : Bool) → weight_of_value (values.Bool b) ≡ 0
-weight_of_bool b = search (rules, the_lemmas)
-
-weight_of_bytes : (octets : List ℕ) → weight_of_value (values.Bytes octets) ≡ length octets
-weight_of_bytes octets = search (rules, the_lemmas)
-
-pub weight_of_text : (cells : List Cell) → type_in cells ≡ 1 → weight_of_value (value_in cells) ≡ length (bytes_in (cell_at cells 1))
+pub weight_of_text : (cells : List Cell) → value_type_in cells ≡ 1 → weight_of_value (value_in cells) ≡ length (bytes_in (cell_at cells 1))
 unfolding value_in
 weight_of_text cells e = rw e (weight_of_str (bytes_in (cell_at cells 1)))
 
-pub weight_of_octets : (cells : List Cell) → type_in cells ≡ 7 → weight_of_value (value_in cells) ≡ length (bytes_in (cell_at cells 5))
+pub weight_of_octets : (cells : List Cell) → value_type_in cells ≡ 7 → weight_of_value (value_in cells) ≡ length (bytes_in (cell_at cells 5))
 unfolding value_in
 weight_of_octets cells e = rw e (weight_of_bytes (bytes_in (cell_at cells 5)))
 
-pub weight_of_map : (cells : List Cell) → type_in cells ≡ 5 → weight_of_value (value_in cells) ≡ weight_of_value (unwrap_or (value_of (nested_in cells)) values.Empty)
+pub weight_of_map : (cells : List Cell) → value_type_in cells ≡ 5 → weight_of_value (value_in cells) ≡ weight_of_value (unwrap_or (value_of (nested_in cells)) values.Empty)
 unfolding value_in
 weight_of_map cells e = rw e refl
 
-pub weight_of_array : (cells : List Cell) → type_in cells ≡ 6 → weight_of_value (value_in cells) ≡ weight_of_value (unwrap_or (value_of (nested_in cells)) values.Empty)
+pub weight_of_array : (cells : List Cell) → value_type_in cells ≡ 6 → weight_of_value (value_in cells) ≡ weight_of_value (unwrap_or (value_of (nested_in cells)) values.Empty)
 unfolding value_in
 weight_of_array cells e = rw e refl
 
-pub weight_of_other : (cells : List Cell) → type_in cells ≢ 1 → type_in cells ≢ 7 → type_in cells ≢ 5 → type_in cells ≢ 6 → weight_of_value (value_in cells) ≡ 0
+pub weight_of_other : (cells : List Cell) → value_type_in cells ≢ 1 → value_type_in cells ≢ 7 → value_type_in cells ≢ 5 → value_type_in cells ≢ 6 → weight_of_value (value_in cells) ≡ 0
 unfolding value_in
 weight_of_other cells a b c d =
-    rw (ne_eqb (type_in cells) 1 a, ne_eqb (type_in cells) 7 b, ne_eqb (type_in cells) 5 c, ne_eqb (type_in cells) 6 d) (elim (cases_eq (type_in cells) 2) [
+    rw (ne_eqb (value_type_in cells) 1 a, ne_eqb (value_type_in cells) 7 b, ne_eqb (value_type_in cells) 5 c, ne_eqb (value_type_in cells) 6 d) (elim (cases_eq (value_type_in cells) 2) [
       | inl two ↦ rw two (weight_of_int (int_in (cell_at cells 2)))
-      | inr no_two ↦ rw (ne_eqb (type_in cells) 2 no_two) (elim (cases_eq (type_in cells) 3) [
+      | inr no_two ↦ rw (ne_eqb (value_type_in cells) 2 no_two) (elim (cases_eq (value_type_in cells) 3) [
         | inl three ↦ rw three (weight_of_double (bits_in (cell_at cells 3)))
-        | inr no_three ↦ rw (ne_eqb (type_in cells) 3 no_three) (elim (cases_eq (type_in cells) 4) [
+        | inr no_three ↦ rw (ne_eqb (value_type_in cells) 3 no_three) (elim (cases_eq (value_type_in cells) 4) [
           | inl four ↦ rw four (weight_of_bool (flag_in (cell_at cells 4)))
-          | inr no_four ↦ rw (ne_eqb (type_in cells) 4 no_four) weight_of_empty
+          | inr no_four ↦ rw (ne_eqb (value_type_in cells) 4 no_four) weight_of_empty
         ])
       ])
     ])

@@ -10,7 +10,7 @@ use Rattle.cbor_values.specs.Weighing.{IsWeighed, nesting_of}
 use Rattle.otap_cells.specs.Cells.{Cell}
 use Rattle.otap_attrs.specs.declared.refusal.RowRefusal.{RowRefusal}
 use Rattle.otap_attrs.specs.declared.refusal.RowRefusal.TheVariants as row
-use Rattle.otap_attrs.specs.Values.{BadValue, nested_in, type_in}
+use Rattle.otap_attrs.specs.Values.{BadValue, nested_in, value_type_in}
 use Rattle.otap_attrs.specs.Inside.{BadNested}
 
 -- a nested value of the wanted shape
@@ -30,7 +30,7 @@ nested_is_fine wanted part told weighed fine same row.BadKind bad = bad
 nested_is_fine wanted part told weighed fine same (row.Memory error) bad = bad
 
 -- cells of a map and of an array whose nested value is fine
-pub map_is_fine : (cells : List Cell) → type_in cells ≡ 5 → ((why : RowRefusal) → BadNested nesting.Map (nested_in cells) why → ⊥)
+pub map_is_fine : (cells : List Cell) → value_type_in cells ≡ 5 → ((why : RowRefusal) → BadNested nesting.Map (nested_in cells) why → ⊥)
     → (why : RowRefusal) → BadValue cells why → ⊥
 map_is_fine cells is fine row.BadValueType (inl high) = omega arith
 map_is_fine cells is fine row.BadValueType (inr (inl map)) = fine row.BadValueType map.1
@@ -43,7 +43,7 @@ map_is_fine cells is fine row.TwoValues bad = bad
 map_is_fine cells is fine row.BadKind bad = bad
 map_is_fine cells is fine (row.Memory error) bad = bad
 
-pub array_is_fine : (cells : List Cell) → type_in cells ≡ 6 → ((why : RowRefusal) → BadNested nesting.Array (nested_in cells) why → ⊥)
+pub array_is_fine : (cells : List Cell) → value_type_in cells ≡ 6 → ((why : RowRefusal) → BadNested nesting.Array (nested_in cells) why → ⊥)
     → (why : RowRefusal) → BadValue cells why → ⊥
 array_is_fine cells is fine row.BadValueType (inl high) = omega arith
 array_is_fine cells is fine row.BadValueType (inr (inl map)) = let five = map.0 in omega arith
@@ -57,12 +57,12 @@ array_is_fine cells is fine row.BadKind bad = bad
 array_is_fine cells is fine (row.Memory error) bad = bad
 
 -- what a check of the nested value says of the cells
-pub map_fine : (cells : List Cell) (part : List ℕ) (r : Result (Unit {0}) RowRefusal) → type_in cells ≡ 5 → part ≡ nested_in cells
+pub map_fine : (cells : List Cell) (part : List ℕ) (r : Result (Unit {0}) RowRefusal) → value_type_in cells ≡ 5 → part ≡ nested_in cells
     → OnOk r ((why : RowRefusal) → BadNested nesting.Map part why → ⊥) → OnOk r ((why : RowRefusal) → BadValue cells why → ⊥)
 map_fine cells part (Ok done) is same fine = map_is_fine cells is (subst (λ (b : List ℕ). (why : RowRefusal) → BadNested nesting.Map b why → ⊥) same fine)
 map_fine cells part (Err why) is same fine = tt
 
-pub array_fine : (cells : List Cell) (part : List ℕ) (r : Result (Unit {0}) RowRefusal) → type_in cells ≡ 6 → part ≡ nested_in cells
+pub array_fine : (cells : List Cell) (part : List ℕ) (r : Result (Unit {0}) RowRefusal) → value_type_in cells ≡ 6 → part ≡ nested_in cells
     → OnOk r ((why : RowRefusal) → BadNested nesting.Array part why → ⊥) → OnOk r ((why : RowRefusal) → BadValue cells why → ⊥)
 array_fine cells part (Ok done) is same fine = array_is_fine cells is (subst (λ (b : List ℕ). (why : RowRefusal) → BadNested nesting.Array b why → ⊥) same fine)
 array_fine cells part (Err why) is same fine = tt

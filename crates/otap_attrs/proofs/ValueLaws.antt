@@ -1,9 +1,9 @@
 -- Values come back from their cells.
-use Rattle.std.proofs.Common.{◌≡◌, ℕ, ◌≤◌, true, List, [], ◌∷◌, Some, None, refl, sym, ap, subst, ◌∙◌, arith, rules, inl, inr, ◌⊎◌}
+use Rattle.std.proofs.Common.{◌≡◌, ℕ, ◌≤◌, true, List, [], ◌∷◌, Some, None, refl, sym, ap, subst, ◌∙◌, arith, inl, inr, ◌⊎◌}
 use Rattle.std.specs.Prelude.{ℤ, Bool, IsTrue}
-use Rattle.otlp_model.specs.declared.value.Value.{Value, the_lemmas}
+use Rattle.otlp_model.specs.declared.value.Value.{Value}
+use Rattle.lists.proofs.AllBytes.{IsBytes, IsBytes-from_all}
 use Rattle.otlp_model.specs.declared.value.Value as values
-use Rattle.otlp_model.specs.declared.value.Pair.{Pair}
 use Rattle.otlp_model.specs.Depth.{depth_of}
 use Rattle.otlp_model.specs.Limits.{depth_limit}
 use Rattle.otlp_model.specs.Real.{is_real_value}
@@ -14,34 +14,34 @@ use Rattle.cbor_values.specs.Values.{value_of}
 use Rattle.cbor_values.specs.Weighing.{nesting_of}
 use Rattle.cbor_values.specs.Written.{cbor_of}
 use Rattle.cbor_values.proofs.WrittenBytes.{written_in_bytes}
-use Rattle.cbor_values.proofs.Told.{are_bytes, no_value, written_again}
-use Rattle.cbor_values.proofs.Bytes.{IsBytes}
+use Rattle.cbor_values.proofs.Told.{no_value, written_again}
+use Rattle.cbor_values.proofs.TellingValues.{nesting_array, nesting_map}
 use Rattle.otap_cells.specs.Cells.{Cell, null, bytes}
 use Rattle.otap_cells.specs.Scalars.{text_cell, int_cell, bits_cell, flag_cell}
 use Rattle.otap_cells.proofs.ScalarLaws.{text_back, int_back, bits_back, flag_back}
 use Rattle.otap_attrs.specs.declared.refusal.RowRefusal.{RowRefusal}
 use Rattle.otap_attrs.specs.declared.refusal.RowRefusal.TheVariants as row
-use Rattle.otap_attrs.specs.Values.{BadValue, type_in, value_cells, value_in, value_row}
+use Rattle.otap_attrs.specs.Values.{BadValue, value_type_in, value_cells, value_in, value_row}
 use Rattle.otap_attrs.specs.Inside.{BadNested}
 use Rattle.otap_attrs.proofs.ValueCells.{cells_of_array, cells_of_bool, cells_of_bytes, cells_of_double, cells_of_empty, cells_of_int, cells_of_map, cells_of_str}
 use Rattle.otap_attrs.proofs.ValueFaults.{array_is_fine, map_is_fine}
 
 -- a value that can be written comes back, and nothing is wrong with its cells
-record IsBack (value : Value) : Type 0 where
+record IsValueBack (value : Value) : Type 0 where
   again : value_in (value_cells value) ≡ value
   fine : (why : RowRefusal) → BadValue (value_cells value) why → ⊥
 
 abbrev ComesBack : Value → Type 0
-ComesBack value = is_real_value value ≡ true → depth_of value ≤ depth_limit → IsBack value
+ComesBack value = is_real_value value ≡ true → depth_of value ≤ depth_limit → IsValueBack value
 
 -- nothing is wrong with a value that isn't nested
-flat_is_fine : (cells : List Cell) → type_in cells ≤ 7 → (type_in cells ≡ 5 → ⊥) → (type_in cells ≡ 6 → ⊥) → (why : RowRefusal) → BadValue cells why → ⊥
+pub flat_is_fine : (cells : List Cell) → value_type_in cells ≤ 7 → (value_type_in cells ≡ 5 → ⊥) → (value_type_in cells ≡ 6 → ⊥) → (why : RowRefusal) → BadValue cells why → ⊥
 flat_is_fine cells low a b row.BadValueType (inl high) = omega arith
 flat_is_fine cells low a b row.BadValueType (inr (inl map)) = a map.0
 flat_is_fine cells low a b row.BadValueType (inr (inr array)) = b array.0
 flat_is_fine cells low a b (row.BadCbor refusal) bad = nested bad.0
   where
-    nested : (type_in cells ≡ 5) ⊎ (type_in cells ≡ 6) → ⊥
+    nested : (value_type_in cells ≡ 5) ⊎ (value_type_in cells ≡ 6) → ⊥
     nested (inl five) = a five
     nested (inr six) = b six
 flat_is_fine cells low a b (row.Ids fault) bad = bad
@@ -67,12 +67,6 @@ shape_is_fine wanted part value fits is same row.Disagree bad = bad
 shape_is_fine wanted part value fits is same row.TwoValues bad = bad
 shape_is_fine wanted part value fits is same row.BadKind bad = bad
 shape_is_fine wanted part value fits is same (row.Memory error) bad = bad
-
-nesting_of_map : (pairs : List Pair) → nesting_of (values.Map pairs) ≡ nesting.Map
-nesting_of_map pairs = search (rules, the_lemmas)
-
-nesting_of_array : (members : List Value) → nesting_of (values.Array members) ≡ nesting.Array
-nesting_of_array members = search (rules, the_lemmas)
 
 text_again : (text : List ℕ) → value_in (value_row 1 (text_cell text) null null null null null) ≡ values.Str text
 unfolding value_in
@@ -106,8 +100,8 @@ array_again : (part : List ℕ) (value : Value) → value_of part ≡ Some value
 unfolding value_in
 array_again part value e = rw e refl
 
-flat_back : (value : Value) (cells : List Cell) → value_cells value ≡ cells → value_in cells ≡ value → type_in cells ≤ 7 → (type_in cells ≡ 5 → ⊥) → (type_in cells ≡ 6 → ⊥)
-    → IsBack value
+flat_back : (value : Value) (cells : List Cell) → value_cells value ≡ cells → value_in cells ≡ value → value_type_in cells ≤ 7 → (value_type_in cells ≡ 5 → ⊥) → (value_type_in cells ≡ 6 → ⊥)
+    → IsValueBack value
 flat_back value cells are again low a b = record {
   again = ap value_in are ∙ again;
   fine = subst (λ (cs : List Cell). (why : RowRefusal) → BadValue cs why → ⊥) (sym are) (flat_is_fine cells low a b);
@@ -124,14 +118,14 @@ each_comes_back = holds ComesBack (record {
   array = λ members each real deep. record {
     again = ap value_in (cells_of_array members) ∙ array_again (cbor_of (values.Array members)) (values.Array members) (written_again (values.Array members) real deep);
     fine = subst (λ (cs : List Cell). (why : RowRefusal) → BadValue cs why → ⊥) (sym (cells_of_array members)) (array_is_fine (value_row 6 null null null null null (bytes (cbor_of (values.Array members)))) refl
-        (shape_is_fine nesting.Array (cbor_of (values.Array members)) (values.Array members) (are_bytes (cbor_of (values.Array members)) (written_in_bytes (values.Array members) real))
-        (written_again (values.Array members) real deep) (nesting_of_array members)));
+        (shape_is_fine nesting.Array (cbor_of (values.Array members)) (values.Array members) (IsBytes-from_all (cbor_of (values.Array members)) (written_in_bytes (values.Array members) real))
+        (written_again (values.Array members) real deep) (nesting_array members)));
   };
   pairs = λ pairs each real deep. record {
     again = ap value_in (cells_of_map pairs) ∙ map_again (cbor_of (values.Map pairs)) (values.Map pairs) (written_again (values.Map pairs) real deep);
     fine = subst (λ (cs : List Cell). (why : RowRefusal) → BadValue cs why → ⊥) (sym (cells_of_map pairs)) (map_is_fine (value_row 5 null null null null null (bytes (cbor_of (values.Map pairs)))) refl
-        (shape_is_fine nesting.Map (cbor_of (values.Map pairs)) (values.Map pairs) (are_bytes (cbor_of (values.Map pairs)) (written_in_bytes (values.Map pairs) real))
-        (written_again (values.Map pairs) real deep) (nesting_of_map pairs)));
+        (shape_is_fine nesting.Map (cbor_of (values.Map pairs)) (values.Map pairs) (IsBytes-from_all (cbor_of (values.Map pairs)) (written_in_bytes (values.Map pairs) real))
+        (written_again (values.Map pairs) real deep) (nesting_map pairs)));
   };
 })
 

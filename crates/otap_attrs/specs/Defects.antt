@@ -1,7 +1,7 @@
 -- What may be wrong with a table of attributes.
 use Rattle.std.specs.Prelude.{ℕ, ◌<◌, length, drop, List, [], Option, Some, Contains}
 use Rattle.std.specs.List.{slice_index_or}
-use Rattle.otap_cells.specs.ColumnIds.{HasFault}
+use Rattle.otap_cells.specs.ColumnIds.{HasIdFault}
 use Rattle.otap_cells.specs.Continuing.{continues_in}
 use Rattle.otap_cells.specs.GivenIds.{HasIds}
 use Rattle.otap_cells.specs.Tables.{Table}
@@ -29,7 +29,7 @@ pub record WrongValue (t : Table) (column : ℕ) (wrong : RowRefusal) : Type 0 w
 
 -- WHAT IS WRONG with a table of attributes whose parents are to stand among these ids
 abbrev pub PairDefect : Table → List (Option ℕ) → RowRefusal → Type 0
-PairDefect t ids (why.Ids fault) = HasFault t 0 (continues_in t) fault
+PairDefect t ids (why.Ids fault) = HasIdFault t 0 (continues_in t) fault
 PairDefect t ids why.Orphan = HasOrphan t ids
 PairDefect t ids why.BadValueType = WrongValue t 2 why.BadValueType
 PairDefect t ids (why.BadCbor refusal) = WrongValue t 2 (why.BadCbor refusal)

@@ -1,4 +1,4 @@
--- Words of private contracts: rows by the parents that they name, and parents among numbers.
+-- Words of an invariant and of private contracts: rows by the parents that they name, and parents among numbers.
 use Rattle.std.specs.Prelude.{ℕ, ◌<◌, All, List, Option, Some, Contains}
 use Rattle.std.specs.List.Sorted.{IsNonDecreasingBy}
 use Rattle.otap_groups.specs.declared.entry.ChildEntry.{ChildEntry}

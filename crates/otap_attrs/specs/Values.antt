@@ -26,8 +26,8 @@ abbrev pub value_bases : List Base
 value_bases = base.U8 ∷ base.Utf8 ∷ base.I64 ∷ base.Double ∷ base.Bool ∷ base.Binary ∷ base.Binary ∷ []
 
 -- the type of the value, and the bytes of a nested one
-abbrev pub type_in : List Cell → ℕ
-type_in cells = nat_in (cell_at cells 0)
+abbrev pub value_type_in : List Cell → ℕ
+value_type_in cells = nat_in (cell_at cells 0)
 
 abbrev pub nested_in : List Cell → List ℕ
 nested_in cells = bytes_in (cell_at cells 6)
@@ -45,7 +45,7 @@ value_of_type kind cells =
 
 -- THE VALUE that the cell of its type says; cells of other types are passed over. Where the cells are wrong it is empty
 unfoldable pub value_in : List Cell → Value
-value_in cells = value_of_type (type_in cells) cells
+value_in cells = value_of_type (value_type_in cells) cells
 
 -- the columns of a value stand from this one on
 pub record HasValueAt (kind : Kind) (column : ℕ) : Type 0 where
@@ -62,14 +62,14 @@ pub record IsOther (wanted : Nesting) (part : List ℕ) : Type 0 where
 -- the type is that of a map or an array, and the nested value has another shape
 abbrev pub IsOtherNested : List Cell → Type 0
 IsOtherNested cells =
-    ((type_in cells ≡ 5) × IsOther nesting.Map (nested_in cells)) ⊎ ((type_in cells ≡ 6) × IsOther nesting.Array (nested_in cells))
+    ((value_type_in cells ≡ 5) × IsOther nesting.Map (nested_in cells)) ⊎ ((value_type_in cells ≡ 6) × IsOther nesting.Array (nested_in cells))
 
 abbrev pub IsNested : List Cell → Type 0
-IsNested cells = (type_in cells ≡ 5) ⊎ (type_in cells ≡ 6)
+IsNested cells = (value_type_in cells ≡ 5) ⊎ (value_type_in cells ≡ 6)
 
 -- WHAT IS WRONG with the cells of a value: a type above 7, a nested value of another shape, or one that can't be read
 abbrev pub BadValue : List Cell → RowRefusal → Type 0
-BadValue cells row.BadValueType = (7 < type_in cells) ⊎ IsOtherNested cells
+BadValue cells row.BadValueType = (7 < value_type_in cells) ⊎ IsOtherNested cells
 BadValue cells (row.BadCbor refusal) = IsNested cells × Stands refusal (nested_in cells)
 BadValue cells _ = ⊥
 

@@ -33,7 +33,7 @@ impl<R: Rows> RowReader for Pairs<'_, R> {
         Ok(Pair { key, value })
     }
 
-    #[tactic(auto, using(crate::proofs::AttributeRows::nine_columns, crate::proofs::AttributeRows::has_value, crate::proofs::PairRows::pair_at))]
+    #[tactic(auto, using(otap_cells::proofs::AttributeColumns::attribute_width, crate::proofs::AttributeRows::has_value, crate::proofs::PairRows::pair_at))]
     fn weight(&self, _id: Option<u32>, row: usize) -> u64 {
         let key = capped_len(bytes_in(self.rows, 1, row as u64));
         add_capped(key, weight_at(self.rows, 2, row as u64))

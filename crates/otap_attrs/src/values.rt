@@ -164,7 +164,7 @@ fn check_nested(nesting: Nesting, part: &[u8]) -> Result<(), RowRefusal>
 }
 
 /// What the value of the bytes weighs, and 0 where they have none.
-#[tactic(auto, using(crate::proofs::ValueCells::weight_of_empty))]
+#[tactic(auto, using(otlp_model::proofs::Levels::weight_of_empty))]
 fn nested_weight(part: &[u8]) -> u64
     ensures { result ≡ min (weight_of_value (unwrap_or (value_of part.now) values.Empty)) count_cap }
 {

@@ -17,7 +17,7 @@ use Rattle.otlp_wire.specs.Wire as wire
 use Rattle.otlp_wire.specs.Wire.{FieldValue}
 use Rattle.otap_capture.specs.declared.batch.BatchRefusal.{BatchRefusal}
 use Rattle.otap_capture.specs.declared.batch.BatchRefusal.TheVariants as refusals
-use Rattle.otap_capture.specs.Batch.{BatchContent, ReadsBatch, RefusesBatch, batch_in}
+use Rattle.otap_capture.specs.Batch.{BatchContent, ReadsBatch, RefusesBatch, batch_content}
 use Rattle.otap_capture.specs.BatchScanning.{IsOfBatch}
 
 -- the messages of a batch, and the kinds of their fields
@@ -49,10 +49,10 @@ simple : (m : Message) → InBatch m → (n : ℕ) → Simple (kind_of m n)
 simple m (inl batch) n = rw batch (simple_of_batch n)
 simple m (inr payload) n = rw payload (simple_of_payload n)
 
-bad_message : (e : Defect) → e ≡ defects.BadMessage → IsOfBatch e
+pub bad_message : (e : Defect) → e ≡ defects.BadMessage → IsOfBatch e
 bad_message e is = rw is tt
 
-bad_text : (e : Defect) → e ≡ defects.BadUtf8 → IsOfBatch e
+pub bad_text : (e : Defect) → e ≡ defects.BadUtf8 → IsOfBatch e
 bad_text e is = rw is tt
 
 part_of_batch : (k : FieldKind) → Simple k → (levels : ℕ) (part : List ℕ) (e : Defect) → PartFaults k levels part e → IsOfBatch e
@@ -102,13 +102,13 @@ refused bytes defects.BadLength of stands = absurd of
 refused bytes defects.Unsupported of stands = absurd of
 refused bytes defects.TooDeep of stands = absurd of
 
-pub read_or_refused : (bytes : List ℕ) → ((refusal : BatchRefusal) → RefusesBatch bytes refusal → ⊥) → ReadsBatch bytes (batch_in bytes)
+pub read_or_refused : (bytes : List ℕ) → ((refusal : BatchRefusal) → RefusesBatch bytes refusal → ⊥) → ReadsBatch bytes (batch_content bytes)
 read_or_refused bytes none = (record { none = λ e stands. let r = refused bytes e (of_batch BatchArrowRecords level_limit bytes e (inl refl) stands) stands in none r.0 r.1 }, refl)
 
 -- all bytes are read, or refused
 pub read_or_not : (bytes : List ℕ) → ((batch : BatchContent) × ReadsBatch bytes batch) ⊎ ((refusal : BatchRefusal) × RefusesBatch bytes refusal)
 read_or_not bytes =
     elim (decided BatchArrowRecords level_limit bytes) [
-      | inl fine ↦ inl (batch_in bytes, (fine, refl))
+      | inl fine ↦ inl (batch_content bytes, (fine, refl))
       | inr d ↦ inr (refused bytes d.0 (of_batch BatchArrowRecords level_limit bytes d.0 (inl refl) d.1) d.1)
     ]

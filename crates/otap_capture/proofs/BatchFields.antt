@@ -4,6 +4,7 @@ use Rattle.std.specs.Prelude.{nat_eq, is_some, fold, ◌||◌, ◌==◌, not, sl
 use Rattle.std.proofs.lemmas.Bool.{cases_eq, cases_Bool, ne_eqb}
 use Rattle.std.proofs.lemmas.List.{get_or-set_same, get_or-set_other}
 use Rattle.std.proofs.Math.Bool.{or-true}
+use Rattle.lists.proofs.Parts.{same_all_over}
 use Rattle.otlp_wire.specs.Wire as wire
 use Rattle.otlp_wire.specs.Wire.{FieldValue, Entry}
 use Rattle.otlp_wire.specs.Fields.{fields_of, end_of}
@@ -11,12 +12,20 @@ use Rattle.otlp_messages.specs.declared.messages.Message.TheVariants.{BatchArrow
 use Rattle.otlp_messages.specs.Limits.{level_limit, mark_limit}
 use Rattle.otlp_messages.specs.Table.{kind_of, mark_of}
 use Rattle.otlp_messages.specs.Fine.{FineValue}
-use Rattle.otlp_messages.specs.Rows.{only, at, int64_in, part_at, part_in, parts_of}
-use Rattle.otlp_messages.proofs.Steps.{checked_none, none_seen, checked_more, first_occurs, value_stands, twice_stands}
+use Rattle.otlp_messages.specs.Rows.{only, at, int64_in, parts_of, said}
+use Rattle.otlp_messages.proofs.Steps.{checked_none, checked_more, first_occurs, value_stands, twice_stands, Checked}
 use Rattle.otap_capture.specs.declared.batch.BatchRefusal.{BatchRefusal}
 use Rattle.otap_capture.specs.declared.batch.Scan.{Scan}
 use Rattle.otap_capture.specs.Batch.{defect_of, payload_in, payloads_in, RefusesBatch}
-use Rattle.otap_capture.specs.BatchScanning.{Scanned, SaysMore, FieldFaults}
+use Rattle.otap_capture.specs.BatchScanning.{SaysMore, FieldFaults, part_in, numbered_part}
+
+-- the fields before the rest are looked at
+pub record Scanned (bytes : List ℕ) (scan : Scan) (rest : List ℕ) : Type 0 where
+  pub marks : List Bool
+  pub checked : Checked BatchArrowRecords level_limit bytes marks rest
+  pub first : slice_index_or marks 1 false ≡ scan.seen
+  pub id : fold int64_in scan.id (only 1 (fields_of rest)) ≡ said 1 int64_in (pos 0) bytes
+  pub count : scan.count + length (payloads_in rest) ≡ length (payloads_in bytes)
 
 -- the id alone has a mark
 id_mark : (n : ℕ) → n ≡ 1 → mark_of BatchArrowRecords n ≡ 1
@@ -32,7 +41,7 @@ no_mark n other = by_number (cases_Bool (nat_eq n 2))
 pub scanned_none : (bytes : List ℕ) (scan : Scan) → scan.seen ≡ false → scan.id ≡ pos 0 → scan.count ≡ 0 → Scanned bytes scan bytes
 scanned_none bytes scan seen id count = record {
   marks = replicate mark_limit false;
-  checked = checked_none BatchArrowRecords level_limit bytes (replicate mark_limit false) refl (none_seen mark_limit);
+  checked = checked_none BatchArrowRecords level_limit bytes (replicate mark_limit false) refl (same_all_over mark_limit false);
   first = sym seen;
   id = rw id refl;
   count = omega (arith, count);
@@ -53,13 +62,13 @@ part_first (wire.Fixed32 n) vs = omega arith
 part_first (wire.Bytes part) vs = omega arith
 
 count_first : (f : Entry) (fs : List Entry)
-    → length (map payload_in (parts_of (only 2 (f ∷ fs)))) ≡ cond (is_some (part_at 2 f)) 1 0 + length (map payload_in (parts_of (only 2 fs)))
+    → length (map payload_in (parts_of (only 2 (f ∷ fs)))) ≡ cond (is_some (numbered_part 2 f)) 1 0 + length (map payload_in (parts_of (only 2 fs)))
 count_first f fs = by_number (cases_Bool (nat_eq f.number 2))
   where
     by_number : (nat_eq f.number 2 ≡ true) ⊎ (nat_eq f.number 2 ≡ false)
-        → length (map payload_in (parts_of (only 2 (f ∷ fs)))) ≡ cond (is_some (part_at 2 f)) 1 0 + length (map payload_in (parts_of (only 2 fs)))
-    by_number (inl is) = rw (only, part_at, is) (part_first f.value (only 2 fs))
-    by_number (inr is) = rw (only, part_at, is) (omega arith)
+        → length (map payload_in (parts_of (only 2 (f ∷ fs)))) ≡ cond (is_some (numbered_part 2 f)) 1 0 + length (map payload_in (parts_of (only 2 fs)))
+    by_number (inl is) = rw (only, numbered_part, is) (part_first f.value (only 2 fs))
+    by_number (inr is) = rw (only, numbered_part, is) (omega arith)
 
 pub one_at_most : (b : Bool) → cond b 1 0 ≤ 1
 one_at_most true = omega arith

@@ -1,18 +1,11 @@
 -- No list of bytes has two captures.
-use Rattle.std.proofs.Common.{◌≡◌, ℕ, ◌+◌, ◌<◌, ◌≤◌, List, [], ◌∷◌, ◌++◌, length, take, drop, Some, None, refl, sym, ap, ◌∙◌, subst, append_assoc, length-append, zero-add, arith}
+use Rattle.std.proofs.Common.{◌≡◌, ℕ, ◌+◌, ◌<◌, ◌≤◌, List, [], ◌∷◌, ◌++◌, length, Some, None, refl, sym, ap, ◌∙◌, subst, append_assoc, length-append, zero-add, arith}
 use Rattle.std.specs.declared.option.Option.{Option}
 use Rattle.std.proofs.lemmas.Bool.{le-ltb, lt-leb}
-use Rattle.std.proofs.Math.Seq.{take-append_seam, drop-append_seam}
 use Rattle.byteorder.specs.Endian.{big_number}
+use Rattle.otlp_wire.proofs.Varints.{same_front}
 use Rattle.otap_capture.specs.declared.frame.Damage.{Damage}
 use Rattle.otap_capture.specs.Capture.{Frame, Message, Packed, Reset, Carries, IsFrame, AreFrames, EndsAt, IsCapture, head_reason, front_reason, longest_frame, capture_limit}
-
--- two fronts of one length of one list
-same_front : (s s' t t' : List ℕ) → length s ≡ length s' → s ++ t ≡ s' ++ t' → (s ≡ s') × (t ≡ t')
-same_front s s' t t' long whole = (
-  sym (take-append_seam s t) ∙ ap (take (length s)) whole ∙ ap (λ n. take n (s' ++ t')) long ∙ take-append_seam s' t',
-  sym (drop-append_seam s t) ∙ ap (drop (length s)) whole ∙ ap (λ n. drop n (s' ++ t')) long ∙ drop-append_seam s' t',
-)
 
 -- a flag and the bytes after a head stand for one frame
 one_carried : (flag : ℕ) (part : List ℕ) (f g : Frame) → Carries flag part f → Carries flag part g → f ≡ g
@@ -62,8 +55,8 @@ one_frame front front' rest rest' f g whole p q =
     let spelled : a.flag ∷ (a.size ++ a.part ++ rest) ≡ b.flag ∷ (b.size ++ b.part ++ rest') = sym (ap (λ l. l ++ rest) a.whole) ∙ whole ∙ ap (λ l. l ++ rest') b.whole in
     let flag : a.flag ≡ b.flag = cc in
     let tails : a.size ++ a.part ++ rest ≡ b.size ++ b.part ++ rest' = cc in
-    let sizes = same_front a.size b.size (a.part ++ rest) (b.part ++ rest') (a.four ∙ sym b.four) (sym (append_assoc a.size a.part rest) ∙ tails ∙ append_assoc b.size b.part rest') in
-    let parts = same_front a.part b.part rest rest' (a.long ∙ ap (big_number 4) sizes.0 ∙ sym b.long) sizes.1 in
+    let sizes = same_front a.size b.size (a.part ++ rest) (b.part ++ rest') (sym (append_assoc a.size a.part rest) ∙ tails ∙ append_assoc b.size b.part rest') (a.four ∙ sym b.four) in
+    let parts = same_front a.part b.part rest rest' sizes.1 (a.long ∙ ap (big_number 4) sizes.0 ∙ sym b.long) in
     let front_is : front ≡ front' = a.whole ∙ ap (λ l. a.flag ∷ (l ++ a.part)) sizes.0 ∙ ap (λ l. a.flag ∷ (b.size ++ l)) parts.0 ∙ ap (λ n. n ∷ (b.size ++ b.part)) flag ∙ sym b.whole in
     (front_is, parts.1, one_carried a.flag a.part f g a.carries (subst (λ l. Carries a.flag l g) (sym parts.0) (subst (λ n. Carries n b.part g) (sym flag) b.carries)))
 

@@ -19,6 +19,7 @@ use Rattle.otap_capture.specs.declared.batch.BatchRefusal.{BatchRefusal}
 use Rattle.otap_capture.specs.declared.batch.BatchRefusal.TheVariants as refusals
 use Rattle.otap_capture.specs.BatchScanning.{IsOfBatch}
 use Rattle.otap_capture.specs.Statuses.{StatusContent, ReadsStatus, RefusesStatus, status_in}
+use Rattle.otap_capture.proofs.BatchDefects.{bad_message, bad_text}
 
 -- the kinds of its fields
 abbrev Plain : FieldKind → Type 0
@@ -36,12 +37,6 @@ plain n = by_number (cases_Bool (nat_eq n 1)) (cases_Bool (nat_eq n 2)) (cases_B
 
 plain_of : (m : Message) → m ≡ BatchStatus → (n : ℕ) → Plain (kind_of m n)
 plain_of m is n = rw is (plain n)
-
-bad_message : (e : Defect) → e ≡ defects.BadMessage → IsOfBatch e
-bad_message e is = rw is tt
-
-bad_text : (e : Defect) → e ≡ defects.BadUtf8 → IsOfBatch e
-bad_text e is = rw is tt
 
 of_part : (k : FieldKind) → Plain k → (levels : ℕ) (part : List ℕ) (e : Defect) → PartFaults k levels part e → IsOfBatch e
 of_part k (inl is) levels part e fault = absurd (rw is at fault)

@@ -9,7 +9,7 @@ use Rattle.otap_capture.specs.declared.frame.Step.TheVariants as step
 use Rattle.otap_capture.specs.Capture.{EndsAt}
 use Rattle.otap_capture.specs.Cutting.{Cuts, CutsFrame, CutsEnd, Fills, IsDecided}
 use Rattle.otap_capture.specs.Deciding.{IsOpen}
-use Rattle.otap_capture.specs.Reading.{Reading, ahead, GoesOn, TakesFrame, ComesToEnd}
+use Rattle.otap_capture.specs.Reading.{Reading, ahead, ReadsOn, TakesFrame, ComesToEnd}
 use Rattle.otap_capture.proofs.Decided.{ends_more}
 use Rattle.otap_capture.proofs.Framing.{frame_length}
 
@@ -65,10 +65,10 @@ module _ (old mid new : Reading) (left left' : Option (List ℕ))
   }
 
   -- a step is taken where no end was returned before
-  pub goes_on : (s : Step) → Cuts mid new s → IfNone old.ended (GoesOn old new (ahead old left) (ahead new left') (Ok s))
+  pub goes_on : (s : Step) → Cuts mid new s → IfNone old.ended (ReadsOn old new (ahead old left) (ahead new left') (Ok s))
   goes_on s cut = unless_ended old.ended refl s cut
     where
-      unless_ended : (ended : Option Step) → old.ended ≡ ended → (s : Step) → Cuts mid new s → IfNone ended (GoesOn old new (ahead old left) (ahead new left') (Ok s))
+      unless_ended : (ended : Option Step) → old.ended ≡ ended → (s : Step) → Cuts mid new s → IfNone ended (ReadsOn old new (ahead old left) (ahead new left') (Ok s))
       unless_ended (Some x) is s cut = tt
       unless_ended None is step.Frame cut = takes_frame is cut
       unless_ended None is step.End cut = comes_to_end is None cut

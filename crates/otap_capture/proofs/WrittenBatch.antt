@@ -1,6 +1,7 @@
 -- What is written of a batch is read back as the batch.
 use Rattle.std.proofs.Common.{◌≡◌, ℕ, ◌<◌, ◌^◌, List, [], ◌∷◌, ◌++◌, length, append_assoc, append-nil, ℤ, pos, refl, sym, ap, ◌∙◌, subst, arith}
 use Rattle.std.specs.Prelude.{map, fold}
+use Rattle.std.specs.Prelude.{FitsSigned}
 use Rattle.std.specs.List.{AllByRecursion}
 use Rattle.std.proofs.lemmas.List.{length-append, map-append}
 use Rattle.std.proofs.lemmas.Grind.{flat_map-append}
@@ -12,14 +13,15 @@ use Rattle.otlp_messages.specs.Defects.{IsFine}
 use Rattle.otlp_messages.specs.Rows.{said, int32_in, int64_in, bytes_in, parts_of}
 use Rattle.otlp_messages.specs.Canon.{signed_row, bytes_row, many_row, canon_row, canon, IsReadBack}
 use Rattle.otlp_messages.proofs.Canonical.{rows_read}
-use Rattle.otlp_messages.proofs.RowKinds.{part_fits, signed_fits, many_fits, wider, bytes_back, int32_back, int64_back, map-back, short_parts, parts_of-many_row}
-use Rattle.otap_capture.specs.Batch.{BatchContent, payload_in, payloads_in, batch_in, ReadsBatch, payload_rows, canon_payload, batch_rows, canon_batch, IsRealPayload, IsRealBatch}
-use Rattle.otap_capture.specs.BatchWriting.{fields_of_payload, with_payload}
-use Rattle.otlp_messages.proofs.Steps.{AllByRecursion-append}
-use Rattle.std.specs.Prelude.{FitsSigned}
+use Rattle.otlp_messages.proofs.RowKinds.{part_fits, signed_fits, many_fits, bytes_back, int32_back, int64_back, short_parts, parts_of-many_row}
+use Rattle.otap_capture.specs.Batch.{BatchContent, payload_in, payloads_in, batch_content, ReadsBatch, payload_rows, canon_payload, batch_rows, canon_batch, IsRealPayload, IsRealBatch}
+use Rattle.otap_capture.specs.BatchWriting.{with_payload}
+use Rattle.otap_capture.specs.BatchScanning.{fields_of_payload}
 use Rattle.std.specs.Int.{w32, w64, cast_signed, cast_unsigned}
 use Rattle.std.proofs.lemmas.Int.{to_z-of_z}
+use Rattle.lists.proofs.Every.{every_append, map_back}
 use Rattle.lists.specs.Payloads.{PayloadIn}
+use Rattle.lists.proofs.Numbers.{wider}
 
 pub canon_payload_is : (schema_id : List ℕ) (kind : ℤ) (bytes : List ℕ) → canon_payload (record { schema_id = schema_id; kind = kind; bytes = bytes }) ≡ fields_of_payload schema_id kind bytes
 unfolding canon_payload
@@ -75,8 +77,8 @@ batch_back b real small =
     let id : said 1 int64_in (pos 0) (canon (batch_rows b)) ≡ b.id = ap (fold int64_in (pos 0)) (read.only 1) ∙ int64_back b.id real.id in
     let payloads : payloads_in (canon (batch_rows b)) ≡ b.payloads =
     ap (λ vs. map payload_in (parts_of vs)) (read.only 2) ∙ ap (map payload_in) (parts_of-many_row parts)
-    ∙ map-back payload_in canon_payload b.payloads (all_back b.payloads real.payloads parts_small) in
-    let same : batch_in (canon (batch_rows b)) ≡ b = λ i. record { id = id i; payloads = payloads i } in
+    ∙ map_back payload_in canon_payload b.payloads (all_back b.payloads real.payloads parts_small) in
+    let same : batch_content (canon (batch_rows b)) ≡ b = λ i. record { id = id i; payloads = payloads i } in
     (read.fine, sym same)
 
 -- a number of 32 bits, as it is passed on
@@ -100,13 +102,13 @@ payload_appended old x y z n schema_id kind bytes first second third len =
 
 -- bytes that are the canonical spelling of a batch are read as it
 pub record AreWritten (bytes : List ℕ) (b : BatchContent) : Type 0 where
-  pub read : batch_in bytes ≡ b
-  pub real : IsRealBatch (batch_in bytes)
-  pub canonical : bytes ≡ canon_batch (batch_in bytes)
+  pub read : batch_content bytes ≡ b
+  pub real : IsRealBatch (batch_content bytes)
+  pub canonical : bytes ≡ canon_batch (batch_content bytes)
 
 pub written : (bytes : List ℕ) (b : BatchContent) → IsRealBatch b → bytes ≡ canon_batch b → length bytes < 2 ^ 64 → AreWritten bytes b
 written bytes b real is small =
-    let read : batch_in bytes ≡ b = ap batch_in is ∙ sym (batch_back b real (rw is at small)).1 in
+    let read : batch_content bytes ≡ b = ap batch_content is ∙ sym (batch_back b real (rw is at small)).1 in
     record { read = read; real = subst IsRealBatch (sym read) real; canonical = is ∙ ap canon_batch (sym read) }
 
 -- a batch without payloads, and one more payload
@@ -132,5 +134,5 @@ pub written_more : (old bytes : List ℕ) (b : BatchContent) (p : PayloadIn) →
     → bytes ≡ old ++ canon_row 2 (Bytes (canon_payload p) ∷ []) → length bytes < 2 ^ 64 → AreWritten bytes (with_payload b p)
 written_more old bytes b p h real is small =
     let reals = subst IsRealBatch h.read h.real in
-    written bytes (with_payload b p) (record { id = reals.id; payloads = AllByRecursion-append IsRealPayload b.payloads (p ∷ []) reals.payloads (real, tt) })
+    written bytes (with_payload b p) (record { id = reals.id; payloads = every_append IsRealPayload b.payloads (p ∷ []) reals.payloads (real, tt) })
     (is ∙ ap (λ s. s ++ canon_row 2 (Bytes (canon_payload p) ∷ [])) (h.canonical ∙ ap canon_batch h.read) ∙ canon_more b p) small

@@ -1,12 +1,13 @@
 -- What is written of a status is read back as the status.
 use Rattle.std.proofs.Common.{◌≡◌, ℕ, ◌<◌, ◌^◌, [], length, ◌++◌, List, ℤ, pos, refl, sym, ap, ◌∙◌}
 use Rattle.std.specs.Prelude.{fold}
+use Rattle.lists.proofs.Numbers.{wider}
 use Rattle.otlp_messages.specs.declared.messages.Message.TheVariants.{BatchStatus}
 use Rattle.otlp_messages.specs.Limits.{level_limit}
 use Rattle.otlp_messages.specs.Rows.{said, int32_in, int64_in, bytes_in}
 use Rattle.otlp_messages.specs.Canon.{signed_row, bytes_row, canon_row, canon}
 use Rattle.otlp_messages.proofs.Canonical.{rows_read}
-use Rattle.otlp_messages.proofs.RowKinds.{part_fits, signed_fits, wider, bytes_back, int32_back, int64_back}
+use Rattle.otlp_messages.proofs.RowKinds.{part_fits, signed_fits, bytes_back, int32_back, int64_back}
 use Rattle.otap_capture.specs.Statuses.{StatusContent, status_in, ReadsStatus, status_rows, canon_status, IsRealStatus}
 
 pub status_back : (s : StatusContent) → IsRealStatus s → length (canon_status s) < 2 ^ 64 → ReadsStatus (canon_status s) s

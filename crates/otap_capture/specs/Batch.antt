@@ -36,12 +36,12 @@ abbrev pub payloads_in : List ℕ → List PayloadIn
 payloads_in bytes = map payload_in (parts_of (only 2 (fields_of bytes)))
 
 -- what the fields of a batch say: batch_id and arrow_payloads
-abbrev pub batch_in : List ℕ → BatchContent
-batch_in bytes = record { id = said 1 int64_in (pos 0) bytes; payloads = payloads_in bytes }
+abbrev pub batch_content : List ℕ → BatchContent
+batch_content bytes = record { id = said 1 int64_in (pos 0) bytes; payloads = payloads_in bytes }
 
 -- the bytes are a batch message, which says this
 abbrev pub ReadsBatch : List ℕ → BatchContent → Type 0
-ReadsBatch bytes batch = IsFine BatchArrowRecords level_limit bytes × (batch ≡ batch_in bytes)
+ReadsBatch bytes batch = IsFine BatchArrowRecords level_limit bytes × (batch ≡ batch_content bytes)
 
 -- the defect that a refusal names
 abbrev pub defect_of : BatchRefusal → Defect

@@ -7,17 +7,17 @@ use Rattle.otlp_messages.specs.Limits.{level_limit}
 use Rattle.otlp_messages.specs.Defects.{IsFine}
 use Rattle.otlp_messages.specs.Rows.{only, parts_of}
 use Rattle.otap_capture.specs.declared.batch.Batch.TheInside.{Inside}
-use Rattle.otap_capture.specs.Batch.{BatchContent, batch_in}
+use Rattle.otap_capture.specs.Batch.{BatchContent, batch_content}
 
 -- what its bytes say
-abbrev pub batch_of : Inside → BatchContent
-batch_of b = batch_in b.bytes.now
+abbrev pub message_content : Inside → BatchContent
+message_content b = batch_content b.bytes.now
 
 -- no defect stands in its bytes, and it knows its id and how many payloads there are
-pub record HoldsBatch (b : Inside) : Type 0 where
+pub record HoldsMessage (b : Inside) : Type 0 where
   pub fine : IsFine BatchArrowRecords level_limit b.bytes.now
-  pub id : b.id ≡ (batch_of b).id
-  pub count : b.count ≡ length (batch_of b).payloads
+  pub id : b.id ≡ (message_content b).id
+  pub count : b.count ≡ length (message_content b).payloads
 
 -- no defect stands in the payloads of the bytes
 abbrev pub HasFinePayloads : List ℕ → Type 0

@@ -1,4 +1,4 @@
--- The steps in which a capture is read: bytes are taken from the source, and frames are cut from them.
+-- The steps in which a capture is read, in the words of private contracts: bytes are taken from the source, and frames are cut from them.
 use Rattle.std.specs.Prelude.{◌≡◌, ◌⊎◌, ℕ, ◌+◌, ◌<◌, ◌≤◌, Bool, true, false, List, ◌++◌, length, take, drop, Some, None}
 use Rattle.std.specs.declared.option.Option.{Option}
 use Rattle.std.specs.declared.result.Result.{Result}
@@ -82,8 +82,8 @@ abbrev pub SameBut : Reading → Reading → Type 0
 SameBut old new = new ≡ record old { held = new.held }
 
 -- the source is at its end, or more bytes are kept
-abbrev pub Grows : Reading → Reading → Type 0
-Grows old new = (new.complete ≡ true) ⊎ (length old.kept < length new.kept)
+abbrev pub KeepsMore : Reading → Reading → Type 0
+KeepsMore old new = (new.complete ≡ true) ⊎ (length old.kept < length new.kept)
 
 -- a piece is taken from the source and appended
 pub record TakesPiece (old new : List ℕ) (before after : Option (List ℕ)) : Type 0 where

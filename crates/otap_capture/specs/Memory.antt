@@ -43,11 +43,11 @@ abbrev pub size_in : Option ℕ → ℕ → ℕ
 size_in None room = room
 size_in (Some piece) room = min piece room
 
-abbrev pub given : Supply → ℕ → ℕ
-given supply room = min (length supply.left) (size_in (slice_get supply.pieces supply.calls.made) room)
+abbrev pub bytes_given : Supply → ℕ → ℕ
+bytes_given supply room = min (length supply.left) (size_in (slice_get supply.pieces supply.calls.made) room)
 
 abbrev pub ReadsByNumber : Supply → Supply → Result ℕ ReadFailed → ℕ → Type 0
-ReadsByNumber old new (Ok count) room = (fails old.calls ≡ false) × (count ≡ given old room)
+ReadsByNumber old new (Ok count) room = (fails old.calls ≡ false) × (count ≡ bytes_given old room)
     × (new ≡ record { left = drop count old.left; pieces = old.pieces; calls = called old.calls })
 ReadsByNumber old new (Err e) room = (fails old.calls ≡ true) × (new ≡ record old { calls = failed old.calls })
 

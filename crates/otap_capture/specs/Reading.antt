@@ -58,17 +58,17 @@ pub record ComesToEnd (old new : Reading) (before after : Option (List ℕ)) (en
   pub ended : new.ended ≡ Some (end_step end)
 
 -- nothing is handed out, and nothing is lost
-pub record Stays (old new : Reading) (before after : Option (List ℕ)) : Type 0 where
+pub record LosesNothing (old new : Reading) (before after : Option (List ℕ)) : Type 0 where
   pub same : Keeps before after
   pub handed : new.handed ≡ old.handed
   pub shown : new.frame ≡ None
   pub goes_on : new.ended ≡ None
 
-abbrev pub GoesOn : Reading → Reading → Option (List ℕ) → Option (List ℕ) → Result Step FramesRefusal → Type 0
-GoesOn old new before after (Ok step.Frame) = TakesFrame old new before after
-GoesOn old new before after (Ok step.End) = ComesToEnd old new before after None
-GoesOn old new before after (Ok (step.Damage damage)) = ComesToEnd old new before after (Some damage)
-GoesOn old new before after (Err refusal) = Stays old new before after
+abbrev pub ReadsOn : Reading → Reading → Option (List ℕ) → Option (List ℕ) → Result Step FramesRefusal → Type 0
+ReadsOn old new before after (Ok step.Frame) = TakesFrame old new before after
+ReadsOn old new before after (Ok step.End) = ComesToEnd old new before after None
+ReadsOn old new before after (Ok (step.Damage damage)) = ComesToEnd old new before after (Some damage)
+ReadsOn old new before after (Err refusal) = LosesNothing old new before after
 
 -- the same end again, and nothing is read
 pub record EndsAgain {S : Type 0} (old new : Reading) (source source' : S) (end : Step) (result : Result Step FramesRefusal) : Type 0 where
@@ -83,9 +83,9 @@ StepCounts before now (Err Source) = Rose before now
 StepCounts before now (Err (Memory e)) = now ≡ before
 
 -- a test returns whether a fact holds
-abbrev pub Tells : Bool → Type 0 → Type 0
-Tells true P = P
-Tells false P = P → ⊥
+abbrev pub TellsWhether : Bool → Type 0 → Type 0
+TellsWhether true P = P
+TellsWhether false P = P → ⊥
 
 -- the next step isn't decided by the bytes that are kept, and the source may have more
 pub record IsWaiting (reading : Reading) : Type 0 where

@@ -16,8 +16,8 @@ pub record StatusContent : Type 0 where
   pub code : ℤ
   pub message : List ℕ
 
-abbrev pub told : Status → StatusContent
-told s = record { id = s.id; code = s.code; message = s.message.now }
+abbrev pub status_content : Status → StatusContent
+status_content s = record { id = s.id; code = s.code; message = s.message.now }
 
 -- what the fields of a status say: batch_id, status_code and status_message
 abbrev pub status_in : List ℕ → StatusContent

@@ -8,9 +8,9 @@ ghost use Rattle.otlp_messages.specs.Table.{kind_of};
 ghost use Rattle.otlp_messages.specs.Defects.{IsFine};
 ghost use Rattle.otlp_messages.specs.Limits.{level_limit};
 ghost use Rattle.otlp_messages.specs.Fine.{FineValue};
-ghost use Rattle.otlp_messages.specs.Rows.{said, at, bytes_in, int32_in, part_at};
-ghost use Rattle.otap_capture.specs.Batch.{content_of, payload_in, batch_in, defect_of, ReadsBatch, RefusesBatch};
-ghost use Rattle.otap_capture.specs.BatchScanning.{Says, SaysMore, FieldFaults, IsOfBatch};
+ghost use Rattle.otlp_messages.specs.Rows.{said, at, bytes_in, int32_in};
+ghost use Rattle.otap_capture.specs.Batch.{content_of, payload_in, batch_content, defect_of, ReadsBatch, RefusesBatch};
+ghost use Rattle.otap_capture.specs.BatchScanning.{Says, SaysMore, FieldFaults, IsOfBatch, numbered_part};
 
 use otlp_messages::{Defect, LEVELS, Message, check};
 use otlp_wire::{Field, Fields, Wire};
@@ -65,11 +65,11 @@ impl<'a> Model for Batch<'a> {
 
     ghost Value = { BatchContent };
 
-    ghost use Rattle.otap_capture.specs.BatchInside.{batch_of, HoldsBatch};
+    ghost use Rattle.otap_capture.specs.BatchInside.{message_content, HoldsMessage};
 
-    ghost view = { batch_of };
+    ghost view = { message_content };
 
-    ghost invariant = { HoldsBatch };
+    ghost invariant = { HoldsMessage };
 }
 
 /// Reads a batch message (BatchArrowRecords), where it lies. It looks into the payloads and passes over
@@ -162,7 +162,7 @@ impl<'a> Iterator for Payloads<'a> {
 
 /// The bytes of a payload, where the field of a batch is one.
 fn payload_in_field<'a>(field: &Field<'a>) -> Option<&'a [u8]>
-    ensures { option_map (λ part. part.now) result ≡ part_at 2 (entry field.now) }
+    ensures { option_map (λ part. part.now) result ≡ numbered_part 2 (entry field.now) }
 {
     match (field.number, field.value) {
         (2, Wire::Bytes(part)) => Some(part),
@@ -181,7 +181,7 @@ struct Scan {
 /// Looks at each field of a batch once.
 fn scan_fields(bytes: &[u8]) -> Result<Scan, BatchRefusal>
     ensures fine { IfOk result (λ scan. IsFine Message.BatchArrowRecords level_limit bytes.now) }
-    ensures says { IfOk result (Says (batch_in bytes.now)) }
+    ensures says { IfOk result (Says (batch_content bytes.now)) }
     ensures refused { IfErr result (RefusesBatch bytes.now) }
 {
     let mut scan = Scan {

@@ -3,7 +3,7 @@
 
 ghost use Rattle.std.specs.Prelude.{◌≡◌, ◌⊎◌, ℕ, ◌^◌, ◌<◌, List, length};
 ghost use Rattle.otap_capture.specs.declared.batch.BatchRefusal.{BatchRefusal};
-ghost use Rattle.otap_capture.specs.Batch.{BatchContent, ReadsBatch, RefusesBatch, IsRealBatch, batch_in, canon_batch};
+ghost use Rattle.otap_capture.specs.Batch.{BatchContent, ReadsBatch, RefusesBatch, IsRealBatch, batch_content, canon_batch};
 
 /// A batch message is read in one way at most, and is not refused where it is read.
 pub fn one_batch()
@@ -14,7 +14,7 @@ pub fn one_batch()
 
 /// Bytes in which no defect stands are read as a batch message, and all others are refused.
 pub fn read_or_refused()
-    ensures read { (bytes : List ℕ) → ((refusal : BatchRefusal) → RefusesBatch bytes refusal → ⊥) → ReadsBatch bytes (batch_in bytes) }
+    ensures read { (bytes : List ℕ) → ((refusal : BatchRefusal) → RefusesBatch bytes refusal → ⊥) → ReadsBatch bytes (batch_content bytes) }
     ensures either { (bytes : List ℕ) → ((batch : BatchContent) × ReadsBatch bytes batch) ⊎ ((refusal : BatchRefusal) × RefusesBatch bytes refusal) }
 {}
 

@@ -4,7 +4,8 @@ ghost use Rattle.std.specs.Prelude.{◌≡◌, ◌+◌, ◌<◌, ◌≤◌, ◌�
 ghost use Rattle.otlp_wire.specs.Wire.{IsNumber, Bytes};
 ghost use Rattle.otlp_messages.specs.Canon.{canon_row, bytes_row, signed_row};
 ghost use Rattle.otap_capture.specs.Batch.{canon_payload, canon_batch};
-ghost use Rattle.otap_capture.specs.BatchWriting.{with_payload, fields_of_payload};
+ghost use Rattle.otap_capture.specs.BatchWriting.{with_payload};
+ghost use Rattle.otap_capture.specs.BatchScanning.{fields_of_payload};
 
 use otlp_wire::{len_varint, put_bytes_field, put_varint, put_varint_field};
 use std::alloc::{AllocError, Global};

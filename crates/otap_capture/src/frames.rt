@@ -2,8 +2,8 @@
 ghost use Rattle.std.specs.Prelude.{◌≡◌, ◌+◌, ◌++◌, ◌*◌, ◌<◌, ◌≤◌, [], drop, length, IfNone, IfSome, None, Some, OnOk, OnErr, Ok, false};
 ghost use Rattle.std.specs.Option.{option_map};
 ghost use Rattle.otap_capture.specs.Capture.{frame_of};
-ghost use Rattle.otap_capture.specs.Reading.{ahead, GoesOn, EndsAgain, StepCounts, KeepsFew, KeepsRest, Asked, Tells, IsWaiting};
-ghost use Rattle.otap_capture.specs.Cutting.{StandsAt, Cuts, Fills, IsDecided, Grows, SameBut, GivesPiece};
+ghost use Rattle.otap_capture.specs.Reading.{ahead, ReadsOn, EndsAgain, StepCounts, KeepsFew, KeepsRest, Asked, TellsWhether, IsWaiting};
+ghost use Rattle.otap_capture.specs.Cutting.{StandsAt, Cuts, Fills, IsDecided, KeepsMore, SameBut, GivesPiece};
 
 use crate::frame::{Damage, FRAME_HEAD, Frame, FramesRefusal, Step};
 use crate::front::{Flag, NextFrame, front_at};
@@ -62,7 +62,7 @@ impl Frames {
     /// again. After a refusal nothing is lost, and a further call goes on.
     pub fn next<S: Source>(&mut self, source: &mut S) -> Result<Step, FramesRefusal>
         ensures step { IfNone self.old.ended
-            (GoesOn self.old self.new (ahead self.old (S.left source.old)) (ahead self.new (S.left source.new)) result) }
+            (ReadsOn self.old self.new (ahead self.old (S.left source.old)) (ahead self.new (S.left source.new)) result) }
         ensures again { IfSome self.old.ended (λ end. EndsAgain self.old self.new source.old source.new end result) }
         ensures count { StepCounts (S.faults source.old) (S.faults source.new) result }
         // The bytes taken from the source, less those handed out before.
@@ -81,7 +81,7 @@ impl Frames {
 
     /// Whether the next call of [`Frames::next`] asks the source for bytes.
     pub fn asks(&self) -> bool
-        ensures { Tells result (IsWaiting self.now) }
+        ensures { TellsWhether result (IsWaiting self.now) }
     {
         self.ended.is_none() && !self.complete && self.front().is_open()
     }
@@ -126,7 +126,7 @@ impl Frames {
         requires waiting { IsWaiting self.old }
         requires shown { self.old.frame ≡ None }
         ensures fills { Fills self.old self.new (ahead self.old (S.left source.old)) (ahead self.new (S.left source.new)) }
-        ensures grows { OnOk result (Grows self.old self.new) }
+        ensures grows { OnOk result (KeepsMore self.old self.new) }
         ensures same { OnErr result (SameBut self.old self.new) }
         ensures few { KeepsFew self.old self.new }
         ensures count { StepCounts (S.faults source.old) (S.faults source.new) result }

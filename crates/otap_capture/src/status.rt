@@ -5,7 +5,7 @@ ghost use Rattle.otlp_messages.specs.declared.messages.Message.{Message};
 ghost use Rattle.otlp_messages.specs.Defects.{Stands};
 ghost use Rattle.otlp_messages.specs.Limits.{level_limit};
 ghost use Rattle.otap_capture.specs.Batch.{defect_of};
-ghost use Rattle.otap_capture.specs.Statuses.{told, canon_status, ReadsStatus, RefusesStatus};
+ghost use Rattle.otap_capture.specs.Statuses.{status_content, canon_status, ReadsStatus, RefusesStatus};
 
 use crate::batch::BatchRefusal;
 use otlp_messages::{Backward, Defect, LEVELS, Message, bytes_of, check, int32_of, int64_of};
@@ -21,7 +21,7 @@ pub struct Status<'a> {
 
 /// Reads a status (BatchStatus), where it lies.
 pub fn read_status(bytes: &[u8]) -> Result<Status<'_>, BatchRefusal>
-    ensures read { IfOk result (λ status. ReadsStatus bytes.now (told status)) }
+    ensures read { IfOk result (λ status. ReadsStatus bytes.now (status_content status)) }
     ensures refused { IfErr result (RefusesStatus bytes.now) }
 {
     if let Err(defect) = check(Message::BatchStatus, LEVELS, bytes) {
@@ -39,7 +39,7 @@ pub fn read_status(bytes: &[u8]) -> Result<Status<'_>, BatchRefusal>
 
 /// The canonical spelling of a status.
 pub fn write_status(alloc: Global, status: &Status<'_>) -> Result<Vec<u8>, AllocError>
-    ensures { IfOk result (λ bytes. bytes.items ≡ canon_status (told status.now)) }
+    ensures { IfOk result (λ bytes. bytes.items ≡ canon_status (status_content status.now)) }
 {
     let Status { id, code, message } = *status;
     let mut to = Backward::new(alloc);

@@ -50,7 +50,7 @@ padded_reads (cell ∷ cells) p zero = refl
 padded_reads (cell ∷ cells) p (suc k) = padded_reads cells p k
 
 -- a column allows the way in which the profile itself stores its ids
-allows_own : (c : ColumnSpec) → is_id c.base ≡ true → allows c c.coding ≡ true
+pub allows_own : (c : ColumnSpec) → is_id c.base ≡ true → allows c c.coding ≡ true
 allows_own c is = each c.coding refl
   where
     each : (how : Coding) → c.coding ≡ how → allows c how ≡ true
@@ -59,29 +59,29 @@ allows_own c is = each c.coding refl
     each coding.Run same = ap is_run same
 
 -- a number of 32 bits is at most the greatest
-at_most : (holds : Base) (cell : Cell) → is_id holds ≡ true → IsCellOf holds cell → nat_in cell ≤ greatest_wide
-at_most (base.Id wide) (number (pos n)) is fits = omega (arith, fits)
-at_most (base.Id wide) (number (negsuc n)) is fits = omega arith
-at_most base.U8 (number n) is fits = cc
-at_most base.U16 (number n) is fits = cc
-at_most base.U32 (number n) is fits = cc
-at_most base.U64 (number n) is fits = cc
-at_most base.I32 (number n) is fits = cc
-at_most base.I64 (number n) is fits = cc
-at_most base.Double (number n) is fits = cc
-at_most base.Bool (number n) is fits = cc
-at_most base.Utf8 (number n) is fits = cc
-at_most base.Binary (number n) is fits = cc
-at_most base.Fixed16 (number n) is fits = cc
-at_most base.Fixed8 (number n) is fits = cc
-at_most base.Timestamp (number n) is fits = cc
-at_most base.Duration (number n) is fits = cc
-at_most base.ListU64 (number n) is fits = cc
-at_most base.ListF64 (number n) is fits = cc
-at_most holds null is fits = omega arith
-at_most holds (bits n) is fits = omega arith
-at_most holds (flag b) is fits = omega arith
-at_most holds (bytes part) is fits = omega arith
+pub id_at_most : (holds : Base) (cell : Cell) → is_id holds ≡ true → IsCellOf holds cell → nat_in cell ≤ greatest_wide
+id_at_most (base.Id wide) (number (pos n)) is fits = omega (arith, fits)
+id_at_most (base.Id wide) (number (negsuc n)) is fits = omega arith
+id_at_most base.U8 (number n) is fits = cc
+id_at_most base.U16 (number n) is fits = cc
+id_at_most base.U32 (number n) is fits = cc
+id_at_most base.U64 (number n) is fits = cc
+id_at_most base.I32 (number n) is fits = cc
+id_at_most base.I64 (number n) is fits = cc
+id_at_most base.Double (number n) is fits = cc
+id_at_most base.Bool (number n) is fits = cc
+id_at_most base.Utf8 (number n) is fits = cc
+id_at_most base.Binary (number n) is fits = cc
+id_at_most base.Fixed16 (number n) is fits = cc
+id_at_most base.Fixed8 (number n) is fits = cc
+id_at_most base.Timestamp (number n) is fits = cc
+id_at_most base.Duration (number n) is fits = cc
+id_at_most base.ListU64 (number n) is fits = cc
+id_at_most base.ListF64 (number n) is fits = cc
+id_at_most holds null is fits = omega arith
+id_at_most holds (bits n) is fits = omega arith
+id_at_most holds (flag b) is fits = omega arith
+id_at_most holds (bytes part) is fits = omega arith
 
 -- a table is of the kind, and has the rows, by which its cells are kept
 module _ (kind : Kind) (n : ℕ) (columns : List (List Cell)) (t : Table) (is_table : kept_table kind n columns ≡ t) where
@@ -100,7 +100,7 @@ module _ (kind : Kind) (n : ℕ) (columns : List (List Cell)) (t : Table) (is_ta
   pub is_sound : IsKept kind n columns → IsTable t
   is_sound kept = subst IsTable is_table (IsTable-table_by kind (coding_at kind) (λ column. greatest_wide) n (by_columns columns) kept.fits
       (λ column is. allows_own (column_at kind column) is)
-      (λ column row is. at_most (base_at kind column) (by_columns columns column row) is (kept.fits column row)))
+      (λ column row is. id_at_most (base_at kind column) (by_columns columns column row) is (kept.fits column row)))
 
   pub id_here : (column : ℕ) → is_id_at t.kind column ≡ true → is_id_at kind column ≡ true
   id_here column is = rw same_kind is

@@ -7,7 +7,7 @@ use Rattle.std.proofs.lemmas.Bool.{eq-eqb, false_from_ne_true}
 use Rattle.std.proofs.lemmas.Slice.Eq.{bytes_eq-Decides}
 use Rattle.std.proofs.lemmas.List.{get_or-map, length-map}
 use Rattle.otap_cells.specs.declared.profile.Column.{Column}
-use Rattle.otap_cells.specs.Columns.{ColumnSpec, described, has_dot, place_of}
+use Rattle.otap_cells.specs.Columns.{ColumnSpec, described, has_dot, place_of_path}
 
 front_same : (front j rest : List ℕ) → bytes_eq (front ++ 46 ∷ j) (front ++ 46 ∷ rest) ≡ bytes_eq j rest
 front_same [] j rest = refl
@@ -48,7 +48,7 @@ module _ (xs : List Column) (columns : List ColumnSpec) (place : ℕ) (d : Colum
   there : place < length columns
   there = omega (arith, within, length-map xs described, ap length is)
 
-  pub found_at : returned ≡ true → list_any has_dot (map (λ name. name.now) path) ≡ false → Some place ≡ place_of columns (map (λ name. name.now) path)
+  pub found_at : returned ≡ true → list_any has_dot (map (λ name. name.now) path) ≡ false → Some place ≡ place_of_path columns (map (λ name. name.now) path)
   found_at hit none =
       let here : position_from (is_named path) place (drop place columns) ≡ Some place
       = rw (drop-cons columns place (described d) there, tested, hit) refl in

@@ -3,7 +3,8 @@ use Rattle.std.proofs.Common.{◌≡◌, ℕ, zero, suc, ◌+◌, ◌-◌, ◌<�
 use Rattle.std.proofs.lemmas.List.{take_all, take_more}
 use Rattle.std.specs.List.{slice_index_or}
 use Rattle.otap_cells.specs.Cells.{Cell, null, cell_at}
-use Rattle.otap_cells.specs.Continuing.{continues_after, continues_of}
+use Rattle.otap_cells.specs.Continuing.{continues_after, continues_of, continues_in, again_of, ids_in_front}
+use Rattle.otap_cells.specs.Tables.{Table, SameTable}
 
 -- cells after the first one, and after two
 pub after_one : (cells : List Cell) (k : ℕ) → cell_at (drop 1 cells) k ≡ slice_index_or cells (suc k) null
@@ -71,3 +72,7 @@ pub flags_done : (test : List Cell → List Cell → Bool) (f : List Cell → Li
     → length rows ≤ k → found ≡ take k (continues_of test (map f rows)) → found ≡ continues_of test (map f rows)
 flags_done test f rows k found all so_far =
     so_far ∙ take_all k (continues_of test (map f rows)) (omega (arith, flags_long test f rows))
+
+-- the same cells have the same runs
+pub continues_alike : (t u : Table) → SameTable t u → continues_in u ≡ continues_in t
+continues_alike t u same = λ i. continues_of (again_of (sym same.kind i)) (map (drop (ids_in_front (sym same.kind i))) (sym same.rows i))

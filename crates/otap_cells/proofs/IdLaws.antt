@@ -1,12 +1,9 @@
 -- Ids and the numbers that stand for them, one after the other.
-use Rattle.std.proofs.Common.{◌≡◌, ℕ, ◌+◌, ◌≤◌, nat_le, Bool, true, false, ◌&&◌, List, [], ◌∷◌, drop, Option, None, Some, refl, sym, ◌∙◌, ap, arith, leb-true, le-leb}
+use Rattle.std.proofs.Common.{◌≡◌, ℕ, ◌+◌, ◌≤◌, nat_le, Bool, true, List, [], ◌∷◌, drop, Option, None, Some, refl, sym, ◌∙◌, ap, arith, leb-true, le-leb}
+use Rattle.std.proofs.lemmas.Bool.{and_parts}
 use Rattle.otap_cells.specs.declared.profile.Coding.{Coding}
 use Rattle.otap_cells.specs.Ids.{IdsAfter, RiseAfter, AtMost, base_of, goes_on, takes_null, fits_after, undone_after}
 use Rattle.otap_cells.specs.Inside.{stored_after}
-
-both : (a b : Bool) → (a && b) ≡ true → (a ≡ true) × (b ≡ true)
-both true b h = (refl, h)
-both false b h = absurd (cc)
 
 -- what is stored for ids that rise stands for them
 pub stored_stands : (how : Coding) (last before : ℕ) (rows : List Bool) (ids : List (Option ℕ)) → RiseAfter how before rows ids → AtMost last ids
@@ -21,10 +18,10 @@ pub undone_stands : (how : Coding) (last before : ℕ) (rows : List Bool) (ns : 
     → IdsAfter how last before rows ns (undone_after how last before rows ns)
 undone_stands how last before rows [] fits = tt
 undone_stands how last before rows (None ∷ ns) fits =
-    let parts = both (takes_null how) (fits_after how last before (drop 1 rows) ns) fits in
+    let parts = and_parts (takes_null how) (fits_after how last before (drop 1 rows) ns) fits in
     rw parts.0 (refl, undone_stands how last before (drop 1 rows) ns parts.1)
 undone_stands how last before rows (Some n ∷ ns) fits =
-    let parts = both (nat_le (base_of how (goes_on rows) before + n) last) (fits_after how last (base_of how (goes_on rows) before + n) (drop 1 rows) ns) fits in
+    let parts = and_parts (nat_le (base_of how (goes_on rows) before + n) last) (fits_after how last (base_of how (goes_on rows) before + n) (drop 1 rows) ns) fits in
     rw parts.0 (refl, leb-true (base_of how (goes_on rows) before + n) last parts.0, undone_stands how last (base_of how (goes_on rows) before + n) (drop 1 rows) ns parts.1)
 
 -- numbers that have ids fit

@@ -1,20 +1,12 @@
 -- One more row of ids, as loops go over them.
-use Rattle.std.proofs.Common.{◌≡◌, ℕ, zero, suc, ◌+◌, ◌-◌, ◌≤◌, ◌<◌, nat_le, Bool, true, false, List, [], ◌∷◌, ◌++◌, take, drop, set, get_or, map, length, Option, None, Some, refl, sym, ◌∙◌, ap, arith}
-use Rattle.std.proofs.Common.{add-one, append_assoc, append-nil, le-leb}
-use Rattle.std.proofs.lemmas.List.{drop_more, take_more, take_more_set, drop-set-lt, take-append-drop, length-map, map-set, get_or-map, take_all, drop_all}
+use Rattle.std.proofs.Common.{◌≡◌, ℕ, ◌+◌, ◌-◌, ◌≤◌, ◌<◌, nat_le, Bool, true, false, List, [], ◌∷◌, ◌++◌, take, drop, set, get_or, map, length, Option, None, Some, refl, sym, ◌∙◌, ap, arith}
+use Rattle.std.proofs.Common.{append_assoc, append-nil, le-leb}
+use Rattle.std.proofs.lemmas.List.{drop_more, take_more, take_more_set, drop-set-lt, take-append-drop, length-map, map-set, get_or-map, take_all, drop_all, drop-drop}
 use Rattle.std.proofs.lemmas.Bool.{lt-leb}
 use Rattle.otap_cells.specs.declared.profile.Coding.{Coding}
 use Rattle.otap_cells.specs.declared.profile.Coding.TheVariants.{Run}
 use Rattle.otap_cells.specs.Ids.{RiseAfter, base_of, goes_on, takes_null, fits_after, undone_after}
 use Rattle.otap_cells.specs.Inside.{stored_after}
-
-drop_after : (k : ℕ) (rows : List Bool) → drop 1 (drop k rows) ≡ drop (k + 1) rows
-drop_after k rows = each k rows ∙ ap (λ n. drop n rows) (sym (add-one k))
-  where
-    each : (k : ℕ) (rows : List Bool) → drop 1 (drop k rows) ≡ drop (suc k) rows
-    each zero rows = refl
-    each (suc k) [] = refl
-    each (suc k) (row ∷ rows) = each k rows
 
 module _ (ids : List (Option ℕ)) (k : ℕ) (d : Option ℕ) (rows : List Bool) (within : k < length ids) where
   -- the rest after an element that is there, or that was written
@@ -33,23 +25,23 @@ module _ (ids : List (Option ℕ)) (k : ℕ) (d : Option ℕ) (rows : List Bool)
   module _ (how : Coding) (before : ℕ) (none : get_or ids k d ≡ None) where
     -- a row without an id is passed over
     pub rise_none : RiseAfter how before (drop k rows) (drop k ids) → RiseAfter how before (drop (k + 1) rows) (drop (k + 1) ids)
-    rise_none rise = rw (← drop_after k rows) ((rw (at_place None none) at rise).1)
+    rise_none rise = rw (← drop-drop 1 k rows) ((rw (at_place None none) at rise).1)
 
     pub stored_none : (whole : List (Option ℕ)) → take k ids ++ stored_after how before (drop k rows) (drop k ids) ≡ whole
         → take (k + 1) ids ++ stored_after how before (drop (k + 1) rows) (drop (k + 1) ids) ≡ whole
     stored_none whole so_far =
         passes None (stored_after how before (drop (k + 1) rows) (drop (k + 1) ids)) whole none
-        (rw (← drop_after k rows) (rw (at_place None none) at so_far))
+        (rw (← drop-drop 1 k rows) (rw (at_place None none) at so_far))
 
     module _ (last : ℕ) (takes : takes_null how ≡ true) where
       pub fits_none : (whole : Bool) → fits_after how last before (drop k rows) (drop k ids) ≡ whole → fits_after how last before (drop (k + 1) rows) (drop (k + 1) ids) ≡ whole
-      fits_none whole so_far = rw (← drop_after k rows) (rw (at_place None none, takes) at so_far)
+      fits_none whole so_far = rw (← drop-drop 1 k rows) (rw (at_place None none, takes) at so_far)
 
       pub undone_none : (whole : List (Option ℕ)) → take k ids ++ undone_after how last before (drop k rows) (drop k ids) ≡ whole
           → take (k + 1) ids ++ undone_after how last before (drop (k + 1) rows) (drop (k + 1) ids) ≡ whole
       undone_none whole so_far =
           passes None (undone_after how last before (drop (k + 1) rows) (drop (k + 1) ids)) whole none
-          (rw (← drop_after k rows) (rw (at_place None none, takes) at so_far))
+          (rw (← drop-drop 1 k rows) (rw (at_place None none, takes) at so_far))
 
   module _ (how : Coding) (before n : ℕ) (some : get_or ids k d ≡ Some n) where
     -- an id is stored
@@ -57,7 +49,7 @@ module _ (ids : List (Option ℕ)) (k : ℕ) (d : Option ℕ) (rows : List Bool)
     low_some rise = (rw (at_place (Some n) some) at rise).0
 
     pub rise_some : (x : Option ℕ) → RiseAfter how before (drop k rows) (drop k ids) → RiseAfter how n (drop (k + 1) rows) (drop (k + 1) (set ids k x))
-    rise_some x rise = rw (left x, ← drop_after k rows) ((rw (at_place (Some n) some) at rise).1)
+    rise_some x rise = rw (left x, ← drop-drop 1 k rows) ((rw (at_place (Some n) some) at rise).1)
 
     pub stored_some : (b : ℕ) (whole : List (Option ℕ)) → b ≡ base_of how (goes_on (drop k rows)) before
         → take k ids ++ stored_after how before (drop k rows) (drop k ids) ≡ whole
@@ -65,7 +57,7 @@ module _ (ids : List (Option ℕ)) (k : ℕ) (d : Option ℕ) (rows : List Bool)
     stored_some b whole base so_far =
         rw (left (Some (n - b)))
         (writes (Some (n - b)) (stored_after how n (drop (k + 1) rows) (drop (k + 1) ids)) whole
-        (rw (base, ← drop_after k rows) (rw (at_place (Some n) some) at so_far)))
+        (rw (base, ← drop-drop 1 k rows) (rw (at_place (Some n) some) at so_far)))
 
     -- a number is taken
     module _ (last id : ℕ) (is : id ≡ base_of how (goes_on (drop k rows)) before + n) where
@@ -73,14 +65,14 @@ module _ (ids : List (Option ℕ)) (k : ℕ) (d : Option ℕ) (rows : List Bool)
         pub fits_some : (whole : Bool) → fits_after how last before (drop k rows) (drop k ids) ≡ whole
             → fits_after how last id (drop (k + 1) rows) (drop (k + 1) (set ids k (Some id))) ≡ whole
         fits_some whole so_far =
-            rw (left (Some id), ← drop_after k rows) (rw (at_place (Some n) some, ← is, le-leb id last low) at so_far)
+            rw (left (Some id), ← drop-drop 1 k rows) (rw (at_place (Some n) some, ← is, le-leb id last low) at so_far)
 
         pub undone_some : (whole : List (Option ℕ)) → take k ids ++ undone_after how last before (drop k rows) (drop k ids) ≡ whole
             → take (k + 1) (set ids k (Some id)) ++ undone_after how last id (drop (k + 1) rows) (drop (k + 1) (set ids k (Some id))) ≡ whole
         undone_some whole so_far =
             rw (left (Some id))
             (writes (Some id) (undone_after how last id (drop (k + 1) rows) (drop (k + 1) ids)) whole
-            (rw (← drop_after k rows) (rw (at_place (Some n) some, ← is, le-leb id last low) at so_far)))
+            (rw (← drop-drop 1 k rows) (rw (at_place (Some n) some, ← is, le-leb id last low) at so_far)))
 
 -- the same for numbers of rows that all have one
 module _ (ids : List ℕ) (k : ℕ) (rows : List Bool) (within : k < length ids) (before : ℕ) where

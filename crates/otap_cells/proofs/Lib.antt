@@ -10,6 +10,9 @@ pub mod Flags
 pub mod Found
 pub mod IdLaws
 pub mod IdSteps
+pub mod KindNamed
+pub mod KindsApart
+pub mod OwnCells
 pub mod Rowwise
 pub mod ScalarLaws
 pub mod Slots

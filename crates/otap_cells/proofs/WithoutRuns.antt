@@ -20,19 +20,19 @@ plain last before other a b (n ∷ ns) [] is = absurd is
 plain last before other a b (None ∷ ns) (Some id ∷ ids) is = absurd is
 plain last before other a b (Some n ∷ ns) (None ∷ ids) is = absurd is
 
-delta : (last before : ℕ) (a b : List Bool) (ns ids : List (Option ℕ)) → IdsAfter coding.Delta last before a ns ids → IdsAfter coding.Delta last before b ns ids
-delta last before a b [] [] is = tt
-delta last before a b (None ∷ ns) (None ∷ ids) is = (is.0, delta last before (drop 1 a) (drop 1 b) ns ids is.1)
-delta last before a b (Some n ∷ ns) (Some id ∷ ids) is = (is.0, is.1, delta last id (drop 1 a) (drop 1 b) ns ids is.2)
-delta last before a b [] (id ∷ ids) is = absurd is
-delta last before a b (n ∷ ns) [] is = absurd is
-delta last before a b (None ∷ ns) (Some id ∷ ids) is = absurd is
-delta last before a b (Some n ∷ ns) (None ∷ ids) is = absurd is
+pub delta_too : (last before : ℕ) (a b : List Bool) (ns ids : List (Option ℕ)) → IdsAfter coding.Delta last before a ns ids → IdsAfter coding.Delta last before b ns ids
+delta_too last before a b [] [] is = tt
+delta_too last before a b (None ∷ ns) (None ∷ ids) is = (is.0, delta_too last before (drop 1 a) (drop 1 b) ns ids is.1)
+delta_too last before a b (Some n ∷ ns) (Some id ∷ ids) is = (is.0, is.1, delta_too last id (drop 1 a) (drop 1 b) ns ids is.2)
+delta_too last before a b [] (id ∷ ids) is = absurd is
+delta_too last before a b (n ∷ ns) [] is = absurd is
+delta_too last before a b (None ∷ ns) (Some id ∷ ids) is = absurd is
+delta_too last before a b (Some n ∷ ns) (None ∷ ids) is = absurd is
 
 -- whichever of the two it is
 either : (how : Coding) (last : ℕ) (a b : List Bool) (ns ids : List (Option ℕ)) → (how ≡ coding.Run → ⊥) → IdsAfter how last 0 a ns ids → IdsAfter how last 0 b ns ids
 either coding.Plain last a b ns ids other is = plain last 0 0 a b ns ids is
-either coding.Delta last a b ns ids other is = delta last 0 a b ns ids is
+either coding.Delta last a b ns ids other is = delta_too last 0 a b ns ids is
 either coding.Run last a b ns ids other is = absurd (other refl)
 
 ids_too : (t : Table) (column : ℕ) (a b : List Bool) (ids : List (Option ℕ)) → (coding_in t column ≡ coding.Run → ⊥) → IdsOf t column a ids → IdsOf t column b ids

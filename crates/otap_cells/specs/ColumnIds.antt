@@ -29,12 +29,12 @@ pub record HasNullParent (t : Table) (column : ℕ) : Type 0 where
   pub null : Contains (stored_in t column) None
 
 -- why a column has no ids: a null parent, or else a number that would be above the greatest
-abbrev pub HasFault : Table → ℕ → List Bool → IdFault → Type 0
-HasFault t column rows NullParent = HasNullParent t column
-HasFault t column rows PastType = (HasNullParent t column → ⊥) × ((ids : List (Option ℕ)) → IdsOf t column rows ids → ⊥)
-HasFault t column rows Duplicate = ⊥
+abbrev pub HasIdFault : Table → ℕ → List Bool → IdFault → Type 0
+HasIdFault t column rows NullParent = HasNullParent t column
+HasIdFault t column rows PastType = (HasNullParent t column → ⊥) × ((ids : List (Option ℕ)) → IdsOf t column rows ids → ⊥)
+HasIdFault t column rows Duplicate = ⊥
 
 -- want of memory says nothing of the column
 abbrev pub RefusesIds : Table → ℕ → List Bool → IdsRefusal → Type 0
-RefusesIds t column rows (refusal.Ids fault) = HasFault t column rows fault
+RefusesIds t column rows (refusal.Ids fault) = HasIdFault t column rows fault
 RefusesIds t column rows (refusal.Memory error) = Unit {0}

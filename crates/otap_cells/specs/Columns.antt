@@ -242,5 +242,5 @@ abbrev pub has_dot : List ℕ → Bool
 has_dot name = list_any (λ byte. byte == 46) name
 
 -- the first column with this path of names, joined by dots; a name that holds a dot is on no path
-abbrev pub place_of : List ColumnSpec → List (List ℕ) → Option ℕ
-place_of columns path = if list_any has_dot path then None else position_from (λ column. bytes_eq (join_with_byte 46 path) column.name) 0 columns
+abbrev pub place_of_path : List ColumnSpec → List (List ℕ) → Option ℕ
+place_of_path columns path = if list_any has_dot path then None else position_from (λ column. bytes_eq (join_with_byte 46 path) column.name) 0 columns

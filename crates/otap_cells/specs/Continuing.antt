@@ -36,17 +36,17 @@ pub record AttributeIn : Type 0 where
   pub bytes : List ℕ
 
 -- an integer; the bits of a double, or 1 for `true`; the bytes of a text, of bytes, or of a nested value
-abbrev pub int_of : ℕ → List Cell → ℤ
-int_of kind cells = if kind == 2 then int_in (cell_at cells 3) else pos 0
+abbrev pub int_by : ℕ → List Cell → ℤ
+int_by kind cells = if kind == 2 then int_in (cell_at cells 3) else pos 0
 
-abbrev pub bits_of : ℕ → List Cell → ℕ
-bits_of kind cells =
+abbrev pub bits_by : ℕ → List Cell → ℕ
+bits_by kind cells =
     if kind == 3 then bits_in (cell_at cells 4)
     else if kind == 4 && flag_in (cell_at cells 5) then 1
     else 0
 
-abbrev pub bytes_of : ℕ → List Cell → List ℕ
-bytes_of kind cells =
+abbrev pub bytes_by : ℕ → List Cell → List ℕ
+bytes_by kind cells =
     if kind == 1 then bytes_in (cell_at cells 2)
     else if kind == 7 then bytes_in (cell_at cells 6)
     else if kind == 5 || kind == 6 then bytes_in (cell_at cells 7)
@@ -57,9 +57,9 @@ unfoldable pub attribute_in : List Cell → AttributeIn
 attribute_in cells = record {
   kind = nat_in (cell_at cells 1);
   key = bytes_in (cell_at cells 0);
-  int = int_of (nat_in (cell_at cells 1)) cells;
-  bits = bits_of (nat_in (cell_at cells 1)) cells;
-  bytes = bytes_of (nat_in (cell_at cells 1)) cells;
+  int = int_by (nat_in (cell_at cells 1)) cells;
+  bits = bits_by (nat_in (cell_at cells 1)) cells;
+  bytes = bytes_by (nat_in (cell_at cells 1)) cells;
 }
 
 abbrev pub seen_attribute : Attribute → AttributeIn

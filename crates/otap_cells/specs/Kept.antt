@@ -1,25 +1,10 @@
--- How a table keeps its cells: column by column, the bytes of a column's cells in one place.
-use Rattle.std.specs.Prelude.{◌≡◌, ℕ, ◌+◌, ◌<◌, ◌≤◌, List, [], take, drop, length}
+-- How a table keeps its cells: column by column.
+use Rattle.std.specs.Prelude.{◌≡◌, ℕ, ◌<◌, ◌≤◌, List, [], length}
 use Rattle.std.specs.List.{slice_index_or}
 use Rattle.otap_cells.specs.declared.payload.Kind.{Kind}
-use Rattle.otap_cells.specs.declared.kept.KeptCell.{KeptCell}
-use Rattle.otap_cells.specs.declared.kept.KeptCell.TheVariants as slot
-use Rattle.otap_cells.specs.Cells.{Cell, null, number, bits, flag, bytes, IsCellOf}
+use Rattle.otap_cells.specs.Cells.{Cell, IsCellOf}
 use Rattle.otap_cells.specs.Tables.{Table, table_by, by_columns, greatest_wide}
 use Rattle.otap_cells.specs.Columns.{base_at, coding_at, width_of}
-
--- the cell of a slot, over the bytes of its column
-abbrev pub cell_of : List ℕ → KeptCell → Cell
-cell_of kept slot.Null = null
-cell_of kept (slot.Num n) = number n
-cell_of kept (slot.Bits n) = bits n
-cell_of kept (slot.Flag b) = flag b
-cell_of kept (slot.Bytes from len) = bytes (take len (drop from kept))
-
--- how many of these bytes must be there for the slot
-abbrev pub reach : KeptCell → ℕ
-reach (slot.Bytes from len) = from + len
-reach _ = 0
 
 -- columns that make a table of this number of rows
 pub record IsKept (kind : Kind) (rows : ℕ) (columns : List (List Cell)) : Type 0 where

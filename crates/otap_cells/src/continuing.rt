@@ -1,7 +1,7 @@
 //! Which rows continue the run of the row before them.
 ghost use Rattle.std.specs.Prelude.{◌≡◌, ◌<◌, ◌&&◌, [], true, drop, false, length, IfOk};
 ghost use Rattle.std.specs.List.{slice_index_or};
-ghost use Rattle.otap_cells.specs.Continuing.{again_of, attribute_in, attribute_is, bits_of, bytes_of, continues_in, has_attributes, ids_in_front, int_of, is_run_kind, seen_attribute};
+ghost use Rattle.otap_cells.specs.Continuing.{again_of, attribute_in, attribute_is, bits_by, bytes_by, continues_in, has_attributes, ids_in_front, int_by, is_run_kind, seen_attribute};
 
 use crate::payload::Kind;
 use crate::reads::{bits_in, bytes_in, flag_in, int_in, number_in};
@@ -156,7 +156,7 @@ fn is_run_kind(kind: u32) -> bool
 fn int_of<R: Rows>(rows: &R, kind: u32, row: u64) -> i64
     requires kind { has_attributes (R.table rows.now).kind ≡ true }
     requires row { row < length (R.table rows.now).rows }
-    ensures { result ≡ int_of kind (drop 1 (slice_index_or (R.table rows.now).rows row [])) }
+    ensures { result ≡ int_by kind (drop 1 (slice_index_or (R.table rows.now).rows row [])) }
 {
     if kind == 2 { int_in(rows, 4, row) } else { 0 }
 }
@@ -165,7 +165,7 @@ fn int_of<R: Rows>(rows: &R, kind: u32, row: u64) -> i64
 fn bits_of<R: Rows>(rows: &R, kind: u32, row: u64) -> u64
     requires kind { has_attributes (R.table rows.now).kind ≡ true }
     requires row { row < length (R.table rows.now).rows }
-    ensures { result ≡ bits_of kind (drop 1 (slice_index_or (R.table rows.now).rows row [])) }
+    ensures { result ≡ bits_by kind (drop 1 (slice_index_or (R.table rows.now).rows row [])) }
 {
     if kind == 3 {
         return bits_in(rows, 5, row);
@@ -181,7 +181,7 @@ fn bits_of<R: Rows>(rows: &R, kind: u32, row: u64) -> u64
 fn bytes_of<R: Rows>(rows: &R, kind: u32, row: u64) -> &[u8]
     requires kind { has_attributes (R.table rows.now).kind ≡ true }
     requires row { row < length (R.table rows.now).rows }
-    ensures { result.now ≡ bytes_of kind (drop 1 (slice_index_or (R.table rows.now).rows row [])) }
+    ensures { result.now ≡ bytes_by kind (drop 1 (slice_index_or (R.table rows.now).rows row [])) }
 {
     match kind {
         1 => bytes_in(rows, 3, row),

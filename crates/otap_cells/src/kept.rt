@@ -1,7 +1,7 @@
 ghost use Rattle.std.specs.Prelude.{◌≡◌, [], ◌∷◌, ◌++◌, ◌+◌, ◌-◌, ◌<◌, ◌≤◌, ◌^◌, drop, length, take, replicate, slice_set, OnOk, OnErr, IfOk};
 ghost use Rattle.std.specs.List.{slice_index_or};
 ghost use Rattle.otap_cells.specs.Cells.{seen, null, bytes_in};
-ghost use Rattle.otap_cells.specs.Kept.{cell_of, reach};
+ghost use Rattle.otap_cells.specs.Inside.{cell_of_slot, reach};
 
 use crate::view::CellView;
 use std::alloc::{AllocError, Global};
@@ -33,9 +33,9 @@ impl Model for Cells {
 
     ghost Value = { List Cell };
 
-    ghost use Rattle.otap_cells.specs.Kept.{cell_of, reach};
+    ghost use Rattle.otap_cells.specs.Inside.{cell_of_slot, reach};
 
-    ghost view = { λ a. map (cell_of a.bytes.items) a.slots.items };
+    ghost view = { λ a. map (cell_of_slot a.bytes.items) a.slots.items };
 
     ghost invariant = { λ a. All (λ slot. reach slot ≤ length a.bytes.items) a.slots.items };
 }
@@ -120,7 +120,7 @@ fn part_of(bytes: &[u8], from: u32, len: u32) -> &[u8]
 fn keep(kept: &mut Vec<u8>, cell: CellView<'_>, room: usize) -> Result<KeptCell, AllocError>
     ensures ok { OnOk result (kept.new.items ≡ kept.old.items ++ bytes_in (seen cell.entry)) }
     ensures err { OnErr result (kept.new.items ≡ kept.old.items) }
-    ensures value { IfOk result (λ slot. cell_of kept.new.items slot ≡ seen cell.entry) }
+    ensures value { IfOk result (λ slot. cell_of_slot kept.new.items slot ≡ seen cell.entry) }
     ensures within { IfOk result (λ slot. reach slot ≤ length kept.new.items) }
 {
     match cell {

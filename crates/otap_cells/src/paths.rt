@@ -1,14 +1,14 @@
 ghost use Rattle.std.specs.Prelude.{◌≡◌, ◌≢◌, ◌∷◌, ◌++◌, ◌==◌, ℕ, List, map, MatchOption};
 ghost use Rattle.std.specs.List.{list_any, join_with_byte};
 ghost use Rattle.std.specs.Str.{bytes_eq};
-ghost use Rattle.otap_cells.specs.Columns.{columns_of, has_dot, place_of};
+ghost use Rattle.otap_cells.specs.Columns.{columns_of, has_dot, place_of_path};
 
 use crate::payload::Kind;
 use crate::profile::columns;
 
 /// The place of the column with this path of names, the outermost struct's first. A name that holds a dot is on no path.
 pub fn column_of(kind: Kind, path: &[&[u8]]) -> Option<u32>
-    ensures { result ≡ place_of (columns_of kind) (map (λ name. name.now) path.now) }
+    ensures { result ≡ place_of_path (columns_of kind) (map (λ name. name.now) path.now) }
 {
     if some_dot(path) {
         return None;

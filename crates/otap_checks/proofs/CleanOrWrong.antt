@@ -5,6 +5,8 @@ use Rattle.std.specs.Str.{bytes_eq}
 use Rattle.std.proofs.lemmas.Bool.{cases_Bool, cases_eq, cases_lt, false≢true}
 use Rattle.std.proofs.lemmas.List.{get_or-drop}
 use Rattle.std.proofs.lemmas.Slice.Eq.{bytes_eq-Decides}
+use Rattle.lists.proofs.Every.{some_or_none}
+use Rattle.lists.proofs.Contained.{null_or_not}
 use Rattle.otlp_model.specs.declared.request.Signal.{Signal}
 use Rattle.otlp_model.specs.declared.value.Value.{Value}
 use Rattle.cbor_values.specs.declared.weighing.Nesting.{Nesting}
@@ -29,9 +31,10 @@ use Rattle.otap_groups.specs.Rows.{MainRow, main_rows}
 use Rattle.otap_groups.specs.Disagree.{DifferBy}
 use Rattle.otap_attrs.specs.declared.refusal.RowRefusal.{RowRefusal}
 use Rattle.otap_attrs.specs.declared.refusal.RowRefusal.TheVariants as why
-use Rattle.otap_attrs.specs.Values.{BadValue, type_in, nested_in}
+use Rattle.otap_attrs.specs.Values.{BadValue, value_type_in, nested_in}
 use Rattle.otap_attrs.specs.Inside.{BadNested}
 use Rattle.otap_attrs.proofs.ValueFaults.{nested_is_fine, map_is_fine, array_is_fine}
+use Rattle.otap_attrs.proofs.ValueLaws.{flat_is_fine}
 use Rattle.otap_checks.specs.declared.links.TableLink.{TableLink}
 use Rattle.otap_checks.specs.declared.links.Parents.{Parents}
 use Rattle.otap_checks.specs.Deciding.{CleanOrWrong, HasByteCells, HaveByteCells}
@@ -41,7 +44,7 @@ use Rattle.otap_checks.specs.Given.{AreGiven, IsGiven}
 use Rattle.otap_checks.specs.Links.{links_of}
 use Rattle.otap_checks.specs.Reading.{ResourcesDiffer, ScopesDiffer, Disagrees}
 use Rattle.otap_checks.specs.ValueDefects.{HasFineValues}
-use Rattle.otap_checks.proofs.Decided.{some_or_none, null_or_not, twice_or_not, orphan_or_not, differ_or_not}
+use Rattle.otap_checks.proofs.Decided.{twice_or_not, orphan_or_not, differ_or_not}
 use Rattle.otap_checks.proofs.GivenColumns.{nothing_wrong, one_given}
 
 -- ---- the ids of columns
@@ -188,7 +191,7 @@ nested_or_wrong wanted part bytes = by_value (value_of part) refl
       | inr other ↦ inr (why.BadValueType, record { value = value; is = is; other = other })
     ]
 
-map_is_bad : (cells : List Cell) → type_in cells ≡ 5 → (wrong : RowRefusal) → BadNested nesting.Map (nested_in cells) wrong → BadValue cells wrong
+map_is_bad : (cells : List Cell) → value_type_in cells ≡ 5 → (wrong : RowRefusal) → BadNested nesting.Map (nested_in cells) wrong → BadValue cells wrong
 map_is_bad cells is why.BadValueType bad = inr (inl (is, bad))
 map_is_bad cells is (why.BadCbor refusal) bad = (inl is, bad)
 map_is_bad cells is (why.Ids fault) bad = absurd bad
@@ -198,7 +201,7 @@ map_is_bad cells is why.TwoValues bad = absurd bad
 map_is_bad cells is why.BadKind bad = absurd bad
 map_is_bad cells is (why.Memory error) bad = absurd bad
 
-array_is_bad : (cells : List Cell) → type_in cells ≡ 6 → (wrong : RowRefusal) → BadNested nesting.Array (nested_in cells) wrong → BadValue cells wrong
+array_is_bad : (cells : List Cell) → value_type_in cells ≡ 6 → (wrong : RowRefusal) → BadNested nesting.Array (nested_in cells) wrong → BadValue cells wrong
 array_is_bad cells is why.BadValueType bad = inr (inr (is, bad))
 array_is_bad cells is (why.BadCbor refusal) bad = (inr is, bad)
 array_is_bad cells is (why.Ids fault) bad = absurd bad
@@ -208,26 +211,13 @@ array_is_bad cells is why.TwoValues bad = absurd bad
 array_is_bad cells is why.BadKind bad = absurd bad
 array_is_bad cells is (why.Memory error) bad = absurd bad
 
-plain_is_fine : (cells : List Cell) → type_in cells ≤ 7 → (type_in cells ≡ 5 → ⊥) → (type_in cells ≡ 6 → ⊥) → (wrong : RowRefusal) → BadValue cells wrong → ⊥
-plain_is_fine cells low no_map no_array why.BadValueType (inl high) = omega arith
-plain_is_fine cells low no_map no_array why.BadValueType (inr (inl map)) = no_map map.0
-plain_is_fine cells low no_map no_array why.BadValueType (inr (inr array)) = no_array array.0
-plain_is_fine cells low no_map no_array (why.BadCbor refusal) (inl map, bad) = no_map map
-plain_is_fine cells low no_map no_array (why.BadCbor refusal) (inr array, bad) = no_array array
-plain_is_fine cells low no_map no_array (why.Ids fault) bad = bad
-plain_is_fine cells low no_map no_array why.Orphan bad = bad
-plain_is_fine cells low no_map no_array why.Disagree bad = bad
-plain_is_fine cells low no_map no_array why.TwoValues bad = bad
-plain_is_fine cells low no_map no_array why.BadKind bad = bad
-plain_is_fine cells low no_map no_array (why.Memory error) bad = bad
-
 abbrev ValueDecided : List Cell → Type 0
 ValueDecided cells = ((wrong : RowRefusal) → BadValue cells wrong → ⊥) ⊎ ((wrong : RowRefusal) × BadValue cells wrong)
 
 value_or_wrong : (cells : List Cell) → All (λ byte. byte < 256) (nested_in cells) → ValueDecided cells
-value_or_wrong cells bytes = by_type (cases_lt 7 (type_in cells)) (cases_eq (type_in cells) 5) (cases_eq (type_in cells) 6)
+value_or_wrong cells bytes = by_type (cases_lt 7 (value_type_in cells)) (cases_eq (value_type_in cells) 5) (cases_eq (value_type_in cells) 6)
   where
-    by_type : (7 < type_in cells) ⊎ (type_in cells ≤ 7) → (type_in cells ≡ 5) ⊎ (type_in cells ≡ 5 → ⊥) → (type_in cells ≡ 6) ⊎ (type_in cells ≡ 6 → ⊥) → ValueDecided cells
+    by_type : (7 < value_type_in cells) ⊎ (value_type_in cells ≤ 7) → (value_type_in cells ≡ 5) ⊎ (value_type_in cells ≡ 5 → ⊥) → (value_type_in cells ≡ 6) ⊎ (value_type_in cells ≡ 6 → ⊥) → ValueDecided cells
     by_type (inl high) map array = inr (why.BadValueType, inl high)
     by_type (inr low) (inl map) array = elim (nested_or_wrong nesting.Map (nested_in cells) bytes) [
       | inl fine ↦ inl (map_is_fine cells map fine)
@@ -237,7 +227,7 @@ value_or_wrong cells bytes = by_type (cases_lt 7 (type_in cells)) (cases_eq (typ
       | inl fine ↦ inl (array_is_fine cells array fine)
       | inr bad ↦ inr (bad.0, array_is_bad cells array bad.0 bad.1)
     ]
-    by_type (inr low) (inr no_map) (inr no_array) = inl (plain_is_fine cells low no_map no_array)
+    by_type (inr low) (inr no_map) (inr no_array) = inl (flat_is_fine cells low no_map no_array)
 
 -- the values of a table's rows, up to a row
 module _ (t : Table) (column : ℕ) (cells : HasByteCells t) where

@@ -2,54 +2,14 @@
 use Rattle.std.proofs.Common.{◌≡◌, ◌∙◌, ℕ, zero, suc, ◌<◌, ◌≤◌, nat_eq, false, List, [], ◌∷◌, Option, Some, None, refl, sym, ap, subst, arith, inl, inr, eq-eqb, ne_eqb}
 use Rattle.std.specs.Prelude.{Contains, ◌⊎◌}
 use Rattle.std.proofs.lemmas.Bool.{cases_Bool, cases_eq, cases_lt, true≢false}
+use Rattle.std.proofs.lemmas.Option.{same_Some}
+use Rattle.lists.proofs.Every.{some_or_none}
+use Rattle.lists.proofs.Contained.{number_or_not}
 use Rattle.otap_cells.specs.Cells.{Cell}
 use Rattle.otap_cells.specs.Ids.{Twice, times}
 use Rattle.otap_groups.specs.Rows.{MainRow, cells_are}
 use Rattle.otap_groups.specs.Disagree.{DifferBy}
 use Rattle.otap_attrs.specs.Defects.{OrphanIn}
-
--- ---- one of a list
-
-pub some_or_none : {A : Type 0} (P : A → Type 0) → ((x : A) → P x ⊎ (P x → ⊥)) → (xs : List A)
-    → ((x : A) × Contains xs x × P x) ⊎ ((x : A) → Contains xs x → P x → ⊥)
-some_or_none P decide [] = inr (λ x at is. absurd (omega (arith, at.1)))
-some_or_none {A} P decide (x ∷ xs) = by_first (decide x) (some_or_none P decide xs)
-  where
-    after : (P x → ⊥) → ((y : A) → Contains xs y → P y → ⊥) → (y : A) → Contains (x ∷ xs) y → P y → ⊥
-    after first none y (zero, within, at) is = first (subst P (sym at) is)
-    after first none y (suc k, within, at) is = none y (k, omega arith, at) is
-
-    by_first : P x ⊎ (P x → ⊥) → ((y : A) × Contains xs y × P y) ⊎ ((y : A) → Contains xs y → P y → ⊥)
-        → ((y : A) × Contains (x ∷ xs) y × P y) ⊎ ((y : A) → Contains (x ∷ xs) y → P y → ⊥)
-    by_first (inl is) rest = inl (x, (0, omega arith, refl), is)
-    by_first (inr first) (inl (y, (k, within, at), is)) = inl (y, (suc k, omega arith, at), is)
-    by_first (inr first) (inr none) = inr (after first none)
-
-contains_or_not : {A : Type 0} (y : A) → ((x : A) → (x ≡ y) ⊎ (x ≡ y → ⊥)) → (xs : List A) → Contains xs y ⊎ (Contains xs y → ⊥)
-contains_or_not y decide xs = elim (some_or_none (λ x. x ≡ y) decide xs) [
-  | inl found ↦ inl (subst (Contains xs) found.2 found.1)
-  | inr none ↦ inr (λ at. none y at refl)
-]
-
-is_none : (x : Option ℕ) → (x ≡ None) ⊎ (x ≡ None → ⊥)
-is_none None = inl refl
-is_none (Some n) = inr (λ e. cc)
-
-some_is : (a b : ℕ) → Some a ≡ Some b → a ≡ b
-some_is a b e = cc
-
-is_some_of : (n : ℕ) (x : Option ℕ) → (x ≡ Some n) ⊎ (x ≡ Some n → ⊥)
-is_some_of n None = inr (λ e. cc)
-is_some_of n (Some m) = elim (cases_eq m n) [
-  | inl same ↦ inl (ap (λ k. Some k) same)
-  | inr differ ↦ inr (λ e. differ (some_is m n e))
-]
-
-pub null_or_not : (ids : List (Option ℕ)) → Contains ids None ⊎ (Contains ids None → ⊥)
-null_or_not ids = contains_or_not None is_none ids
-
-pub number_or_not : (ids : List (Option ℕ)) (n : ℕ) → Contains ids (Some n) ⊎ (Contains ids (Some n) → ⊥)
-number_or_not ids n = contains_or_not (Some n) (is_some_of n) ids
 
 -- ---- ids
 
@@ -113,7 +73,7 @@ module _ (id : MainRow → Option ℕ) (cells : MainRow → List Cell) where
       by_ids None y first second = inr (λ apart. let clash = sym first ∙ apart.first in absurd cc)
       by_ids (Some n) None first second = inr (λ apart. let clash = sym second ∙ apart.second in absurd cc)
       by_ids (Some n) (Some m) first second = elim (cases_eq m n) [
-        | inr other ↦ inr (λ apart. other (some_is m apart.shared (sym second ∙ apart.second) ∙ some_is apart.shared n (sym apart.first ∙ first)))
+        | inr other ↦ inr (λ apart. other (same_Some m apart.shared (sym second ∙ apart.second) ∙ same_Some apart.shared n (sym apart.first ∙ first)))
         | inl same ↦ elim (cases_Bool (cells_are (cells a) (cells b))) [
           | inl equal ↦ inr (λ apart. absurd (true≢false (sym equal ∙ apart.differ)))
           | inr differ ↦ inl (record { shared = n; first = first; second = second ∙ ap (λ k. Some k) same; differ = differ })

@@ -22,7 +22,7 @@ use Rattle.otap_checks.specs.declared.links.TableLink.{TableLink}
 use Rattle.otap_attrs.specs.Defects.{OrphanIn}
 use Rattle.otap_checks.specs.IdDefects.{WrongIn}
 use Rattle.otap_checks.specs.Given.{AreGiven, IsGiven}
-use Rattle.otap_checks.specs.Links.{attributes, parts}
+use Rattle.otap_checks.specs.Links.{attributes_link, parts}
 use Rattle.otap_checks.proofs.GivenColumns.{no_orphan, nothing_wrong}
 use Rattle.otap_checks.proofs.GivenColumns as columns
 use Rattle.otap_checks.proofs.PairParents.{HasParents, attribute_ids, parents_of}
@@ -41,8 +41,8 @@ module _ (tables : List Table) (kind of : Kind) (at : ℕ) (lists : List (List P
   parents_known lost = lost.missing (all lost.parent (have.low lost.parent lost.named))
 
   -- nothing is wrong with its ids
-  pub fine_attributes : (wrong : RowRefusal) → WrongIn tables (attribute_table kind lists) (attributes kind of at) wrong → ⊥
-  fine_attributes = nothing_wrong tables (attribute_table kind lists) (attributes kind of at) parents_given (λ is. is)
+  pub fine_attributes : (wrong : RowRefusal) → WrongIn tables (attribute_table kind lists) (attributes_link kind of at) wrong → ⊥
+  fine_attributes = nothing_wrong tables (attribute_table kind lists) (attributes_link kind of at) parents_given (λ is. is)
       (no_orphan tables (attribute_table kind lists) (Some (record { column = 0; of = of; at = at })) (record { column = 0; of = of; at = at })
       have.parents known refl have.are are parents_known)
 

@@ -17,12 +17,12 @@ use Rattle.otap_checks.specs.declared.known.ColumnIds.{ColumnIds}
 use Rattle.otap_checks.specs.declared.links.TableLink.{TableLink}
 use Rattle.otap_checks.specs.Inside.{ColumnFault, ColumnWrong, ColumnsWrong, HasColumns, KeepsIds, KnownFault}
 use Rattle.otap_checks.specs.Refusing.{refused_as, RefusesCheck}
-use Rattle.otap_checks.specs.Known.{is_column}
+use Rattle.otap_checks.specs.Known.{is_of_column}
 use Rattle.otap_attrs.specs.Defects.{RefusesRow}
 
 -- the columns of ids below a place are there
 abbrev pub HasBelow : Kind → ℕ → List ColumnIds → Type 0
-HasBelow kind place known = (k : ℕ) → k < place → is_id_at kind k ≡ true → (ids : ColumnIds) × Contains known ids × (is_column kind k ids ≡ true)
+HasBelow kind place known = (k : ℕ) → k < place → is_id_at kind k ≡ true → (ids : ColumnIds) × Contains known ids × (is_of_column kind k ids ≡ true)
 
 pub passed_over : (kind : Kind) (place : ℕ) (known : List ColumnIds) → is_id_at kind place ≡ false → HasBelow kind place known → HasBelow kind (place + 1) known
 passed_over kind place known other below k less id =
@@ -31,7 +31,7 @@ passed_over kind place known other below k less id =
       | inr differ ↦ below k (omega (arith, differ)) id
     ]
 
-its_column : (kind : Kind) (place : ℕ) (ids : ColumnIds) → ids.kind ≡ kind → ids.column ≡ place → is_column kind place ids ≡ true
+its_column : (kind : Kind) (place : ℕ) (ids : ColumnIds) → ids.kind ≡ kind → ids.column ≡ place → is_of_column kind place ids ≡ true
 its_column kind place ids of at = rw (of, at, eq-eqb (number_of kind) (number_of kind) refl, eq-eqb place place refl) refl
 
 pub keeps_more : (old known new : List ColumnIds) (ids : ColumnIds) → new ≡ known ++ ids ∷ [] → KeepsIds old known → KeepsIds old new

@@ -1,7 +1,7 @@
 -- Ids that are known, and what they tell of the tables of a batch.
-use Rattle.std.proofs.Common.{◌≡◌, ℕ, zero, suc, Bool, true, false, ◌&&◌, List, [], ◌∷◌, Option, None, Some, inl, inr, refl, sym, ◌∙◌, ap, subst, arith}
+use Rattle.std.proofs.Common.{◌≡◌, ℕ, zero, suc, true, false, List, [], ◌∷◌, Option, None, Some, inl, inr, refl, sym, ◌∙◌, ap, subst, arith}
 use Rattle.std.specs.Prelude.{All, Contains, ◌==◌}
-use Rattle.std.proofs.lemmas.Bool.{cases_Bool, eqb-true, false≢true}
+use Rattle.std.proofs.lemmas.Bool.{cases_Bool, eqb-true, false≢true, and_parts}
 use Rattle.std.proofs.lemmas.List.Elements.{All-head, All-tail}
 use Rattle.otlp_model.specs.declared.request.Signal.{Signal}
 use Rattle.otap_cells.specs.declared.ids.IdFault.TheVariants as fault
@@ -19,37 +19,34 @@ use Rattle.otap_checks.specs.declared.known.ColumnIds.{ColumnIds}
 use Rattle.otap_checks.specs.declared.links.TableLink.{TableLink}
 use Rattle.otap_checks.specs.declared.links.Parents.{Parents}
 use Rattle.otap_checks.specs.IdDefects.{DuplicateOf, IdDefect, OrphanOf, WrongIn}
-use Rattle.otap_checks.specs.Inside.{HasColumns, IsLost, IsRight, KnownFault, KnownFaults, OwnTwice, IsAbove, IsAboveOrNone, IsIdOrNone}
+use Rattle.otap_checks.specs.Inside.{HasColumns, IsLost, IsRight, KnownFault, KnownFaults, OwnTwice}
 use Rattle.otap_checks.specs.Given.{AreGiven}
-use Rattle.otap_checks.specs.Known.{IsKnown, Knows, ids_named, is_column}
+use Rattle.otap_checks.specs.Known.{IsKnown, Knows, ids_named, is_of_column}
 use Rattle.otap_checks.specs.Links.{links_of}
 use Rattle.otap_checks.specs.Refusing.{RefusesCheck}
 use Rattle.otap_checks.proofs.GivenColumns.{an_orphan, no_orphan, nothing_wrong, own_once}
-use Rattle.otap_checks.proofs.LinkedTables.{linked, parents_listed}
-use Rattle.otap_checks.proofs.ReadAlike.{kind_named, same_kind}
-
-both : (a b : Bool) → (a && b) ≡ true → (a ≡ true) × (b ≡ true)
-both true b h = (refl, h)
-both false b h = absurd (false≢true h)
+use Rattle.otap_checks.proofs.LinkedTables.{linked, parents_listed, IsIdOrNone, IsAbove, IsAboveOrNone}
+use Rattle.otap_cells.proofs.KindsApart.{same_kind}
+use Rattle.otap_cells.proofs.KindNamed.{kind_named}
 
 -- ---- a column among those that are known
 
 module _ (tables : List Table) (kind : Kind) (column : ℕ) where
-  here : (ids : ColumnIds) → is_column kind column ids ≡ true → IsRight tables ids → IsKnown (table_named kind tables) column ids.ids.items
+  here : (ids : ColumnIds) → is_of_column kind column ids ≡ true → IsRight tables ids → IsKnown (table_named kind tables) column ids.ids.items
   here ids is right =
-      let told = both (is_kind ids.kind kind) (ids.column == column) is in
+      let told = and_parts (is_kind ids.kind kind) (ids.column == column) is in
       subst (λ kind. IsKnown (table_named kind tables) column ids.ids.items) (same_kind ids.kind kind told.0)
       (subst (λ column. IsKnown (table_named ids.kind tables) column ids.ids.items) (eqb-true ids.column column told.1) right)
 
-  later : (first ids : ColumnIds) (known : List ColumnIds) → is_column kind column first ≡ false → is_column kind column ids ≡ true → Contains (first ∷ known) ids → Contains known ids
-  later first ids known miss is (zero, within, at) = absurd (false≢true (sym miss ∙ ap (is_column kind column) at ∙ is))
+  later : (first ids : ColumnIds) (known : List ColumnIds) → is_of_column kind column first ≡ false → is_of_column kind column ids ≡ true → Contains (first ∷ known) ids → Contains known ids
+  later first ids known miss is (zero, within, at) = absurd (false≢true (sym miss ∙ ap (is_of_column kind column) at ∙ is))
   later first ids known miss is (suc k, within, at) = (k, omega arith, at)
 
-  found : (known : List ColumnIds) (ids : ColumnIds) → All (IsRight tables) known → Contains known ids → is_column kind column ids ≡ true
+  found : (known : List ColumnIds) (ids : ColumnIds) → All (IsRight tables) known → Contains known ids → is_of_column kind column ids ≡ true
       → IsKnown (table_named kind tables) column (ids_named kind column known)
   found [] ids right at is = absurd (omega (arith, at.1))
   found (first ∷ known) ids right at is =
-      elim (cases_Bool (is_column kind column first)) [
+      elim (cases_Bool (is_of_column kind column first)) [
         | inl hit ↦ rw hit (here first hit (All-head (IsRight tables) first known right))
         | inr miss ↦ rw miss (found known ids (All-tail (IsRight tables) first known right) (later first ids known miss is at) is)
       ]

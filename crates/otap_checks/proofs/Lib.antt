@@ -7,6 +7,7 @@ pub mod KnownSteps
 pub mod KnownTables
 pub mod LinkedTables
 pub mod MissingRows
+pub mod NamedAlike
 pub mod NamedTables
 pub mod PairParents
 pub mod PairsAgain

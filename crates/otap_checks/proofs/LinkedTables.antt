@@ -11,8 +11,26 @@ use Rattle.otap_cells.specs.declared.payload.Kind.TheVariants as table
 use Rattle.otap_checks.specs.declared.links.Parents.{Parents}
 use Rattle.otap_cells.specs.Columns.{is_id_at, name_at, logs, spans, metrics, attrs, deep_attrs, span_events, span_links, number_points, summary_points, hist_points, exemplars}
 use Rattle.otap_checks.specs.declared.links.TableLink.{TableLink}
-use Rattle.otap_checks.specs.Links.{links_of, items, parts, attributes}
-use Rattle.otap_checks.specs.Inside.{IsLinked, IsAbove}
+use Rattle.otap_checks.specs.Links.{links_of, items, parts, attributes_link}
+
+-- a column that is named is one of ids
+abbrev pub IsIdOrNone : Kind → Option ℕ → Type 0
+IsIdOrNone kind None = Unit {0}
+IsIdOrNone kind (Some column) = is_id_at kind column ≡ true
+
+-- parents stand in a column of ids, and their ids in another table's column, which isn't one of parents
+pub record IsAbove (kind : Kind) (p : Parents) : Type 0 where
+  pub column : is_id_at kind p.column ≡ true
+  pub at : is_id_at p.of p.at ≡ true
+  pub own : name_at p.of p.at ≡ codes "parent_id" → ⊥
+
+abbrev pub IsAboveOrNone : Kind → Option Parents → Type 0
+IsAboveOrNone kind None = Unit {0}
+IsAboveOrNone kind (Some p) = IsAbove kind p
+
+pub record IsLinked (link : TableLink) : Type 0 where
+  pub own : IsIdOrNone link.kind link.own
+  pub parents : IsAboveOrNone link.kind link.parents
 
 abbrev AllLinked : List TableLink → Type 0
 AllLinked [] = Unit {0}
@@ -34,7 +52,7 @@ above : {kind of : Kind} (column at : ℕ) → is_id_at kind column ≡ true →
     → IsAbove kind (record { column = column; of = of; at = at })
 above {of = of} column at id id_there own = record { column = id; at = id_there; own = differs (name_at of at) own }
 
-below : {kind of : Kind} {at : ℕ} → is_id_at kind 0 ≡ true → is_id_at of at ≡ true → bytes_eq (name_at of at) (codes "parent_id") ≡ false → IsLinked (attributes kind of at)
+below : {kind of : Kind} {at : ℕ} → is_id_at kind 0 ≡ true → is_id_at of at ≡ true → bytes_eq (name_at of at) (codes "parent_id") ≡ false → IsLinked (attributes_link kind of at)
 below {at = at} id id_there own = record { own = tt; parents = above 0 at id id_there own }
 
 part : {kind of : Kind} {at : ℕ} → is_id_at kind 0 ≡ true → is_id_at kind 1 ≡ true → is_id_at of at ≡ true → bytes_eq (name_at of at) (codes "parent_id") ≡ false → IsLinked (parts kind of at)

@@ -9,9 +9,9 @@ use Rattle.otap_groups.specs.Rows.{child_rows, main_rows}
 use Rattle.otap_checks.specs.Reading.{Disagrees, part_rows_in}
 use Rattle.otap_attrs.proofs.TablePairs.{ids_are}
 
-pub parts_are : {C : Type 0} (item : Option ℕ → List Cell → C) (t : Table) (ids parents : List (Option ℕ)) (parent : Option ℕ) → HasIds t 0 ids → HasIds t 1 parents
+pub parts_are : {C : Type 0} (item : Option ℕ → List Cell → C) (t : Table) (ids parents : List (Option ℕ)) → HasIds t 0 ids → HasIds t 1 parents → (parent : Option ℕ)
     → children item (child_rows ids parents (map (drop 2) t.rows)) parent ≡ children item (part_rows_in t) parent
-parts_are item t ids parents parent own above = λ i. children item (child_rows (ids_are t 0 ids own i) (ids_are t 1 parents above i) (map (drop 2) t.rows)) parent
+parts_are item t ids parents own above parent = λ i. children item (child_rows (ids_are t 0 ids own i) (ids_are t 1 parents above i) (map (drop 2) t.rows)) parent
 
 pub no_parts : {C : Type 0} (item : Option ℕ → List Cell → C) (kind : Kind) (parent : Option ℕ) → [] ≡ children item (part_rows_in (profile_table kind [])) parent
 unfolding child_rows

@@ -7,6 +7,7 @@ use Rattle.std.proofs.lemmas.List.{get_or_default, length-map}
 use Rattle.std.proofs.lemmas.List.FromFn.{get_or-map-range_with_len, length-map-range_with_len}
 use Rattle.std.specs.List.Sorted.{IsPermutation}
 use Rattle.std.proofs.lemmas.List.Sorted.{Contains-permutation, IsPermutation-sym}
+use Rattle.lists.proofs.Every.{every_contained}
 use Rattle.otlp_model.specs.declared.value.Pair.{Pair}
 use Rattle.otap_cells.specs.declared.payload.Kind.{Kind}
 use Rattle.otap_cells.specs.declared.payload.Kind.TheVariants as table
@@ -23,15 +24,15 @@ use Rattle.otap_groups.specs.Flat.{PlacedIn, part_rows, placed}
 use Rattle.otap_groups.specs.Rows.{ChildRow, child_row_at, child_rows}
 use Rattle.otap_groups.specs.Stored.{IsPairRows}
 use Rattle.otap_groups.proofs.Bounds.{BoundedParts, bounded_placed}
-use Rattle.otap_groups.proofs.GroupsApart.{every_contained}
 use Rattle.otap_groups.proofs.IdColumns.{each_id}
 use Rattle.otap_groups.proofs.StoredRows.{coding_is}
 use Rattle.otap_attrs.specs.Sorting.{coded_rows}
 use Rattle.otap_attrs.specs.Tables.{attribute_table, row_of_pair}
 use Rattle.otap_attrs.specs.Values.{pair_cells}
-use Rattle.otap_attrs.proofs.AttributeRows.{nine_columns, parents_run}
+use Rattle.otap_attrs.proofs.AttributeRows.{parents_run}
 use Rattle.otap_attrs.proofs.TableLaws.{table_has_rows}
 use Rattle.otap_attrs.proofs.TablePairs.{ids_long}
+use Rattle.otap_cells.proofs.AttributeColumns.{attribute_width}
 
 -- where no null is taken, none is stored
 no_null : (how : Coding) (last before : ℕ) (rows : List Bool) (ns ids : List (Option ℕ)) → takes_null how ≡ false → IdsAfter how last before rows ns ids → Contains ns None → ⊥
@@ -112,7 +113,7 @@ attribute_ids P _ kinds parent column is = absurd (false≢true kinds)
 
 runs : (kind : Kind) (lists : List (List Pair)) → has_attributes kind ≡ true → takes_null (coding_in (attribute_table kind lists) 0) ≡ false
 unfolding attribute_table
-runs kind lists kinds = ap takes_null (coding_is kind (coded_rows (map row_of_pair (placed lists))) 0 (omega (arith, nine_columns kind kinds)) ∙ parents_run kind kinds)
+runs kind lists kinds = ap takes_null (coding_is kind (coded_rows (map row_of_pair (placed lists))) 0 (omega (arith, attribute_width kind kinds)) ∙ parents_run kind kinds)
 
 pub parents_of : (kind : Kind) (lists : List (List Pair)) → has_attributes kind ≡ true → length lists ≤ 2 ^ 32 → HasParents kind lists
 parents_of kind lists kinds few =

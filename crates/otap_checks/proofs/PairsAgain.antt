@@ -4,6 +4,7 @@ use Rattle.std.specs.Prelude.{All, IsTrue}
 use Rattle.std.specs.List.{AllByRecursion, flat_map}
 use Rattle.std.proofs.lemmas.Bool.{and_parts}
 use Rattle.std.proofs.lemmas.List.Elements.{All-head, All-tail}
+use Rattle.lists.proofs.Every.{every_append}
 use Rattle.otlp_model.specs.Depth.{depth_of}
 use Rattle.otlp_model.specs.Limits.{depth_limit}
 use Rattle.otlp_model.specs.Profile.{IsProfilePair}
@@ -24,7 +25,6 @@ use Rattle.otap_groups.proofs.Joins.{agrees}
 use Rattle.otap_groups.proofs.LightGroups.{reordered_weigh}
 use Rattle.otap_groups.proofs.OrderLaws.{reordered}
 use Rattle.otap_groups.proofs.ReadLaws.{reads_alone}
-use Rattle.otap_groups.proofs.RunBlocks.{every_append}
 use Rattle.otap_attrs.specs.Tables.{attribute_table}
 use Rattle.otap_attrs.specs.Values.{pair_cells, pair_in}
 use Rattle.otap_attrs.proofs.TableLaws.{table_has_rows}
@@ -62,10 +62,6 @@ pub every_list : {A : Type 0} (P : A → Type 0) (lists : List (List A)) → All
 every_list P [] all = tt
 every_list {A = A} P (xs ∷ lists) all =
     every_append P xs (flat_map (λ (xs : List A). xs) lists) (All-head (λ xs. AllByRecursion P xs) xs lists all) (every_list P lists (All-tail (λ xs. AllByRecursion P xs) xs lists all))
-
-pub all_every : {A : Type 0} (P : A → Type 0) (xs : List A) → All P xs → AllByRecursion P xs
-all_every P [] all = tt
-all_every P (x ∷ xs) all = (All-head P x xs all, all_every P xs (All-tail P x xs all))
 
 -- the pairs that are found for each parent, before the rows are sorted
 abbrev pub unsorted : List (List Pair) → Option ℕ → List Pair

@@ -1,17 +1,16 @@
 -- Tables that read as others, whose ids are given, have the same rows, and what is wrong with them is wrong with the others.
 use Rattle.std.proofs.Common.{◌≡◌, ◌∙◌, ℕ, suc, ◌<◌, true, List, [], ◌∷◌, map, drop, get_or, length, Option, Some, None, refl, sym, ap, subst, arith, inl, inr}
-use Rattle.std.specs.Prelude.{All, Contains, find, unwrap_or, ◌==◌}
-use Rattle.std.proofs.lemmas.Bool.{cases_Bool, eqb-true}
+use Rattle.std.specs.Prelude.{All, Contains}
+use Rattle.std.proofs.lemmas.Bool.{cases_Bool}
 use Rattle.otlp_model.specs.declared.request.Signal.{Signal}
 use Rattle.otap_cells.specs.declared.payload.Kind.{Kind}
-use Rattle.otap_cells.specs.declared.payload.Kind.TheVariants as table
 use Rattle.otap_cells.specs.declared.ids.IdFault.TheVariants as fault
 use Rattle.otap_cells.specs.Cells.{Cell}
 use Rattle.otap_cells.specs.Columns.{is_id_at, name_at}
 use Rattle.otap_cells.specs.ColumnIds.{HasNullParent, id_in}
 use Rattle.otap_cells.specs.GivenIds.{HasIds, ids_in, ReadsAs, ReadAs}
 use Rattle.otap_cells.specs.Named.{table_named}
-use Rattle.otap_cells.specs.Payload.{is_kind, number_of}
+use Rattle.otap_cells.specs.Payload.{is_kind}
 use Rattle.otap_cells.specs.Tables.{Table, column_in, profile_table}
 use Rattle.otap_groups.specs.Children.{children}
 use Rattle.otap_groups.specs.Disagree.{DifferBy}
@@ -22,14 +21,14 @@ use Rattle.otap_attrs.specs.Values.{BadValue, pair_in}
 use Rattle.otap_checks.specs.declared.links.TableLink.{TableLink}
 use Rattle.otap_checks.specs.declared.links.Parents.{Parents}
 use Rattle.otap_checks.specs.IdDefects.{PastType, DuplicateOf, OrphanOf, WrongIn, IdDefect}
-use Rattle.otap_checks.specs.Inside.{IsLinked, IsAboveOrNone, IsIdOrNone}
 use Rattle.otap_checks.specs.Links.{links_of}
 use Rattle.otap_attrs.specs.Index.{pairs_in}
 use Rattle.otap_checks.specs.Reading.{HasAllIds, main_rows_in, Disagrees}
 use Rattle.otap_attrs.specs.Defects.{WrongValue}
 use Rattle.otap_checks.proofs.GivenColumns.{one_given}
-use Rattle.otap_checks.proofs.LinkedTables.{is_linked}
+use Rattle.otap_checks.proofs.LinkedTables.{is_linked, IsIdOrNone, IsAboveOrNone, IsLinked}
 use Rattle.otap_attrs.proofs.TablePairs.{ids_are}
+use Rattle.otap_cells.proofs.KindNamed.{kind_named}
 
 -- ---- one table
 
@@ -111,50 +110,6 @@ all_ids_named [] kind given = λ column id. ([], tt)
 all_ids_named (b ∷ others) kind given = elim (cases_Bool (is_kind b.kind kind)) [
   | inl hit ↦ rw hit (given 0 b (omega arith))
   | inr miss ↦ rw miss (all_ids_named others kind (λ k d within. given (suc k) d (omega arith)))
-]
-
--- a kind is told by its number
-all_kinds : List Kind
-all_kinds = table.ResourceAttrs ∷ table.ScopeAttrs ∷ table.Metrics ∷ table.NumberPoints ∷ table.SummaryPoints ∷ table.HistPoints ∷ table.NumberPointAttrs
-    ∷ table.SummaryPointAttrs ∷ table.HistPointAttrs ∷ table.NumberExemplars ∷ table.HistExemplars ∷ table.NumberExemplarAttrs ∷ table.HistExemplarAttrs ∷ table.Logs
-    ∷ table.LogAttrs ∷ table.Spans ∷ table.SpanAttrs ∷ table.SpanEvents ∷ table.SpanLinks ∷ table.EventAttrs ∷ table.LinkAttrs ∷ []
-
-kind_of_number : ℕ → Kind
-kind_of_number n = unwrap_or (find (λ kind. number_of kind == n) all_kinds) table.Logs
-
-number_back : (kind : Kind) → kind_of_number (number_of kind) ≡ kind
-unfolding kind_of_number all_kinds
-number_back table.ResourceAttrs = refl
-number_back table.ScopeAttrs = refl
-number_back table.Metrics = refl
-number_back table.NumberPoints = refl
-number_back table.SummaryPoints = refl
-number_back table.HistPoints = refl
-number_back table.NumberPointAttrs = refl
-number_back table.SummaryPointAttrs = refl
-number_back table.HistPointAttrs = refl
-number_back table.NumberExemplars = refl
-number_back table.HistExemplars = refl
-number_back table.NumberExemplarAttrs = refl
-number_back table.HistExemplarAttrs = refl
-number_back table.Logs = refl
-number_back table.LogAttrs = refl
-number_back table.Spans = refl
-number_back table.SpanAttrs = refl
-number_back table.SpanEvents = refl
-number_back table.SpanLinks = refl
-number_back table.EventAttrs = refl
-number_back table.LinkAttrs = refl
-
-pub same_kind : (a b : Kind) → is_kind a b ≡ true → a ≡ b
-same_kind a b is = sym (number_back a) ∙ ap kind_of_number (eqb-true (number_of a) (number_of b) is) ∙ number_back b
-
--- the table of a kind is of the kind
-pub kind_named : (tables : List Table) (kind : Kind) → (table_named kind tables).kind ≡ kind
-kind_named [] kind = refl
-kind_named (t ∷ tables) kind = elim (cases_Bool (is_kind t.kind kind)) [
-  | inl hit ↦ rw hit (same_kind t.kind kind hit)
-  | inr miss ↦ rw miss (kind_named tables kind)
 ]
 
 -- ---- all tables

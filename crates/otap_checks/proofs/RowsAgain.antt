@@ -6,7 +6,7 @@ use Rattle.otap_cells.specs.declared.payload.Kind.{Kind}
 use Rattle.otap_cells.specs.Cells.{Cell}
 use Rattle.otap_cells.specs.Tables.{Table}
 use Rattle.otap_groups.specs.Children.{numbered}
-use Rattle.otap_groups.specs.Flat.{flat, items_of, numbered_rows, part_rows, placed}
+use Rattle.otap_groups.specs.Flat.{flat_items, items_of, numbered_rows, part_rows, placed}
 use Rattle.otap_groups.specs.Kinds.{IsMain, IsPart}
 use Rattle.otap_groups.specs.Rows.{child_rows, main_rows}
 use Rattle.otap_groups.specs.Stored.{main_table, part_table}
@@ -15,7 +15,7 @@ use Rattle.otap_checks.specs.Reading.{main_rows_in, part_rows_in}
 use Rattle.otap_attrs.proofs.TablePairs.{ids_are}
 
 pub main_rows_again : {A : Type 0} (kind : Kind) (cells_of : A → List Cell) (groups : List (ResourceGroup A)) → IsMain kind → length (items_of groups) ≤ 2 ^ 32
-    → numbered_rows cells_of 0 (flat groups) ≡ main_rows_in (main_table kind cells_of groups)
+    → numbered_rows cells_of 0 (flat_items groups) ≡ main_rows_in (main_table kind cells_of groups)
 main_rows_again kind cells_of groups main few =
     let t : Table = main_table kind cells_of groups in
     let have = main_rows_of cells_of kind groups main few in

@@ -1,10 +1,10 @@
 -- Words of private contracts.
-use Rattle.std.specs.Prelude.{◌≡◌, ℕ, true, codes, List, Option, None, Some, Contains}
+use Rattle.std.specs.Prelude.{◌≡◌, ℕ, true, List, Option, None, Some, Contains}
 use Rattle.otap_attrs.specs.declared.refusal.RowRefusal.{RowRefusal}
 use Rattle.otap_attrs.specs.declared.refusal.RowRefusal.TheVariants as why
 use Rattle.otap_cells.specs.declared.ids.IdFault.TheVariants as fault
 use Rattle.otap_cells.specs.declared.payload.Kind.{Kind}
-use Rattle.otap_cells.specs.Columns.{is_id_at, name_at}
+use Rattle.otap_cells.specs.Columns.{is_id_at}
 use Rattle.otap_cells.specs.ColumnIds.{HasNullParent}
 use Rattle.otap_cells.specs.Tables.{Table}
 use Rattle.otap_checks.specs.declared.links.TableLink.{TableLink}
@@ -12,30 +12,9 @@ use Rattle.otap_checks.specs.declared.links.Parents.{Parents}
 use Rattle.otap_cells.specs.Named.{table_named}
 use Rattle.otap_attrs.specs.Defects.{OrphanIn}
 use Rattle.otap_checks.specs.IdDefects.{PastType, Some_column}
-use Rattle.otap_checks.specs.Known.{IsKnown, ids_named, is_column}
+use Rattle.otap_checks.specs.Known.{IsKnown, ids_named, is_of_column}
 use Rattle.otap_checks.specs.declared.known.ColumnIds.{ColumnIds}
 use Rattle.otap_cells.specs.Ids.{Twice}
-
--- ---- links
-
--- a column that is named is one of ids
-abbrev pub IsIdOrNone : Kind → Option ℕ → Type 0
-IsIdOrNone kind None = Unit {0}
-IsIdOrNone kind (Some column) = is_id_at kind column ≡ true
-
--- parents stand in a column of ids, and their ids in another table's column, which isn't one of parents
-pub record IsAbove (kind : Kind) (p : Parents) : Type 0 where
-  pub column : is_id_at kind p.column ≡ true
-  pub at : is_id_at p.of p.at ≡ true
-  pub own : name_at p.of p.at ≡ codes "parent_id" → ⊥
-
-abbrev pub IsAboveOrNone : Kind → Option Parents → Type 0
-IsAboveOrNone kind None = Unit {0}
-IsAboveOrNone kind (Some p) = IsAbove kind p
-
-pub record IsLinked (link : TableLink) : Type 0 where
-  pub own : IsIdOrNone link.kind link.own
-  pub parents : IsAboveOrNone link.kind link.parents
 
 -- ---- columns
 
@@ -59,7 +38,7 @@ IsRight tables known = IsKnown (table_named known.kind tables) known.column know
 
 -- each column of ids is there
 abbrev pub HasColumns : Kind → List ColumnIds → Type 0
-HasColumns kind known = (column : ℕ) → is_id_at kind column ≡ true → (ids : ColumnIds) × Contains known ids × (is_column kind column ids ≡ true)
+HasColumns kind known = (column : ℕ) → is_id_at kind column ≡ true → (ids : ColumnIds) × Contains known ids × (is_of_column kind column ids ≡ true)
 
 -- what was there is there
 abbrev pub KeepsIds : List ColumnIds → List ColumnIds → Type 0

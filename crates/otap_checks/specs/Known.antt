@@ -9,13 +9,13 @@ use Rattle.otap_cells.specs.Tables.{Table}
 use Rattle.otap_checks.specs.declared.known.ColumnIds.{ColumnIds}
 
 -- whether these are the ids of the column
-abbrev pub is_column : Kind → ℕ → ColumnIds → Bool
-is_column kind column known = is_kind known.kind kind && known.column == column
+abbrev pub is_of_column : Kind → ℕ → ColumnIds → Bool
+is_of_column kind column known = is_kind known.kind kind && known.column == column
 
 -- the ids of a column among those that are known
 abbrev pub ids_named : Kind → ℕ → List ColumnIds → List (Option ℕ)
 ids_named kind column [] = []
-ids_named kind column (ids ∷ known) = if is_column kind column ids then ids.ids.items else ids_named kind column known
+ids_named kind column (ids ∷ known) = if is_of_column kind column ids then ids.ids.items else ids_named kind column known
 
 -- these are the ids of a column, and no parent is null
 pub record IsKnown (t : Table) (column : ℕ) (ids : List (Option ℕ)) : Type 0 where

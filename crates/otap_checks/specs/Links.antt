@@ -13,18 +13,18 @@ items kind = record { kind = kind; own = Some 0; parents = None }
 abbrev pub parts : Kind → Kind → ℕ → TableLink
 parts kind of at = record { kind = kind; own = Some 0; parents = Some (record { column = 1; of = of; at = at }) }
 
-abbrev pub attributes : Kind → Kind → ℕ → TableLink
-attributes kind of at = record { kind = kind; own = None; parents = Some (record { column = 0; of = of; at = at }) }
+abbrev pub attributes_link : Kind → Kind → ℕ → TableLink
+attributes_link kind of at = record { kind = kind; own = None; parents = Some (record { column = 0; of = of; at = at }) }
 
 -- the tables of a signal
 unfoldable pub links_of : Signal → List TableLink
-links_of signal.Logs = items table.Logs ∷ attributes table.ResourceAttrs table.Logs 1 ∷ attributes table.ScopeAttrs table.Logs 4
-    ∷ attributes table.LogAttrs table.Logs 0 ∷ []
-links_of signal.Traces = items table.Spans ∷ attributes table.ResourceAttrs table.Spans 1 ∷ attributes table.ScopeAttrs table.Spans 4
-    ∷ attributes table.SpanAttrs table.Spans 0 ∷ parts table.SpanEvents table.Spans 0 ∷ parts table.SpanLinks table.Spans 0
-    ∷ attributes table.EventAttrs table.SpanEvents 0 ∷ attributes table.LinkAttrs table.SpanLinks 0 ∷ []
-links_of signal.Metrics = items table.Metrics ∷ attributes table.ResourceAttrs table.Metrics 1 ∷ attributes table.ScopeAttrs table.Metrics 4
+links_of signal.Logs = items table.Logs ∷ attributes_link table.ResourceAttrs table.Logs 1 ∷ attributes_link table.ScopeAttrs table.Logs 4
+    ∷ attributes_link table.LogAttrs table.Logs 0 ∷ []
+links_of signal.Traces = items table.Spans ∷ attributes_link table.ResourceAttrs table.Spans 1 ∷ attributes_link table.ScopeAttrs table.Spans 4
+    ∷ attributes_link table.SpanAttrs table.Spans 0 ∷ parts table.SpanEvents table.Spans 0 ∷ parts table.SpanLinks table.Spans 0
+    ∷ attributes_link table.EventAttrs table.SpanEvents 0 ∷ attributes_link table.LinkAttrs table.SpanLinks 0 ∷ []
+links_of signal.Metrics = items table.Metrics ∷ attributes_link table.ResourceAttrs table.Metrics 1 ∷ attributes_link table.ScopeAttrs table.Metrics 4
     ∷ parts table.NumberPoints table.Metrics 0 ∷ parts table.SummaryPoints table.Metrics 0 ∷ parts table.HistPoints table.Metrics 0
-    ∷ attributes table.NumberPointAttrs table.NumberPoints 0 ∷ attributes table.SummaryPointAttrs table.SummaryPoints 0
-    ∷ attributes table.HistPointAttrs table.HistPoints 0 ∷ parts table.NumberExemplars table.NumberPoints 0 ∷ parts table.HistExemplars table.HistPoints 0
-    ∷ attributes table.NumberExemplarAttrs table.NumberExemplars 0 ∷ attributes table.HistExemplarAttrs table.HistExemplars 0 ∷ []
+    ∷ attributes_link table.NumberPointAttrs table.NumberPoints 0 ∷ attributes_link table.SummaryPointAttrs table.SummaryPoints 0
+    ∷ attributes_link table.HistPointAttrs table.HistPoints 0 ∷ parts table.NumberExemplars table.NumberPoints 0 ∷ parts table.HistExemplars table.HistPoints 0
+    ∷ attributes_link table.NumberExemplarAttrs table.NumberExemplars 0 ∷ attributes_link table.HistExemplarAttrs table.HistExemplars 0 ∷ []

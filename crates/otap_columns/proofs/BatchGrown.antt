@@ -8,8 +8,8 @@ use Rattle.arrow_buffers.specs.declared.width.Width.{Width}
 use Rattle.arrow_buffers.specs.declared.width.Width.TheVariants as width
 use Rattle.arrow_ipc.specs.Batches.{BatchIn}
 use Rattle.arrow_ipc.specs.Written.{padded, body_size, most_of}
-use Rattle.arrow_arrays.specs.Written.{PartIn, struct_part, element_part}
-use Rattle.otap_columns.specs.BuiltCells.{HasRoom, GrowsBy, parts_of, with_part, with_parts}
+use Rattle.arrow_arrays.specs.Written.{PartIn, struct_part, elements_part}
+use Rattle.otap_columns.specs.BuiltCells.{HasRoom, GrowsBy, batch_parts, with_part, with_parts}
 
 -- ---- one more part
 
@@ -35,7 +35,7 @@ two_size x y = omega (arith, sum_by-cons (λ (part : List ℕ). padded (length p
 three_size : (x y z : List ℕ) → body_size (x ∷ y ∷ z ∷ []) ≡ padded (length x) + padded (length y) + padded (length z)
 three_size x y z = omega (arith, sum_by-cons (λ (part : List ℕ). padded (length part)) x (y ∷ z ∷ []), two_size y z)
 
-pub column_grows : (batch : BatchIn) (w : Width) (b : Buffers) → GrowsBy 1 (sizes b) batch (with_parts batch (parts_of w b))
+pub column_grows : (batch : BatchIn) (w : Width) (b : Buffers) → GrowsBy 1 (sizes b) batch (with_parts batch (batch_parts w b))
 column_grows batch width.Bit b =
     let p : PartIn = record { rows = b.rows; nulls = b.nulls; buffers = b.validity.items ∷ b.values.items ∷ [] } in
     let one = part_grows batch p 2 (sizes b) (omega arith) (omega (arith, two_size b.validity.items b.values.items)) in
@@ -51,7 +51,7 @@ column_grows batch width.Var b =
 column_grows batch (width.List n) b =
     let p : PartIn = record { rows = b.rows; nulls = b.nulls; buffers = b.validity.items ∷ b.offsets.items ∷ [] } in
     let one = part_grows batch p 2 (padded (length b.validity.items) + padded (length b.offsets.items)) (omega arith) (omega (arith, two_size b.validity.items b.offsets.items)) in
-    let two = part_grows (with_part batch p) (element_part (length b.values.items / 8) b.values.items) 2 (padded (length b.values.items)) (omega arith) (omega (arith, two_size [] b.values.items)) in
+    let two = part_grows (with_part batch p) (elements_part (length b.values.items / 8) b.values.items) 2 (padded (length b.values.items)) (omega arith) (omega (arith, two_size [] b.values.items)) in
     record { nodes = omega (arith, one.0, two.0); buffers = omega (arith, one.1, two.1); body = omega (arith, one.2, two.2) }
 
 -- ---- more of them
@@ -93,8 +93,8 @@ module _ {A : Type 0} (parts bytes : A → ℕ) where
 
 -- ---- what the calls give
 
-pub member_grows : {E : Type 0} (most : ℕ) (b : Buffers) (old new : BatchIn) (w : Width) (r : Result (Unit {0}) E) → sizes b ≤ most → OnOk r (new ≡ with_parts old (parts_of w b)) → OnOk r (GrowsBy 1 most old new)
-member_grows most b old new w (Ok x) short is = subst (GrowsBy 1 most old) (sym is) (grows_less 1 1 (sizes b) most old (with_parts old (parts_of w b)) (omega arith) short (column_grows old w b))
+pub member_grows : {E : Type 0} (most : ℕ) (b : Buffers) (old new : BatchIn) (w : Width) (r : Result (Unit {0}) E) → sizes b ≤ most → OnOk r (new ≡ with_parts old (batch_parts w b)) → OnOk r (GrowsBy 1 most old new)
+member_grows most b old new w (Ok x) short is = subst (GrowsBy 1 most old) (sym is) (grows_less 1 1 (sizes b) most old (with_parts old (batch_parts w b)) (omega arith) short (column_grows old w b))
 member_grows most b old new w (Err e) short is = tt
 
 pub under_grows : {E : Type 0} (n most : ℕ) (old mid new : BatchIn) (r : Result (Unit {0}) E) → GrowsBy 1 0 old mid → OnOk r (GrowsBy n most mid new) → OnOk r (GrowsBy (1 + n) most old new)

@@ -1,11 +1,11 @@
 -- A cell is read back from the bytes that are stored for it.
-use Rattle.std.proofs.Common.{◌≡◌, ℕ, ◌*◌, ◌<◌, ◌^◌, ◌%◌, ◌==◌, Bool, true, false, List, [], ◌∷◌, length, None, refl, sym, ap, ◌∙◌, arith, append-nil}
+use Rattle.std.proofs.Common.{◌≡◌, ℕ, ◌*◌, ◌<◌, ◌^◌, ◌%◌, ◌==◌, Bool, true, false, List, [], ◌∷◌, length, None, refl, ap, ◌∙◌, arith}
 use Rattle.std.specs.Prelude.{ℤ, pos, negsuc, FitsSigned, if◌then◌else◌}
 use Rattle.std.specs.Int.{w32, w64, cast_signed, cast_unsigned}
 use Rattle.std.proofs.Math.Nat.{mod-eq_of_lt}
 use Rattle.std.proofs.lemmas.Int.{to_z-of_z, ints}
 use Rattle.byteorder.specs.Endian.{little_bytes, little_number}
-use Rattle.byteorder.specs.Numbers.{length-bytes_low_first, little_number-reads_back}
+use Rattle.byteorder.specs.Numbers.{length-bytes_low_first}
 use Rattle.otap_cells.specs.declared.profile.Base.{Base}
 use Rattle.otap_cells.specs.declared.profile.Base.TheVariants as base
 use Rattle.otap_cells.specs.Cells.{Cell, null, number, bits, flag, bytes, IsNumberOf, IsBitsOf, IsCellOf}
@@ -14,31 +14,29 @@ use Rattle.otap_columns.specs.declared.forms.ColumnForm.TheVariants as form
 use Rattle.otap_columns.specs.Known.{unsigned, signed, stored, stored_cell}
 use Rattle.otap_columns.specs.Observed.{id_width, number_bytes, bytes_for}
 use Rattle.otap_columns.specs.BuiltCells.{id_bits, FitsForm}
+use Rattle.arrow_buffers.proofs.Placing.{read-back}
 
-long : (n x : ℕ) → length (little_bytes n x) ≡ n
-long n x = length-bytes_low_first 0 n x
-
-back : (n x : ℕ) → x < 256 ^ n → little_number n (little_bytes n x) ≡ x
-back n x low = ap (little_number n) (sym (append-nil (little_bytes n x))) ∙ little_number-reads_back n x [] low
+pub length-little_bytes : (n x : ℕ) → length (little_bytes n x) ≡ n
+length-little_bytes n x = length-bytes_low_first 0 n x
 
 -- a number of n bytes
 unsigned_back : (n x : ℕ) → x < 256 ^ n → x < 2 ^ (8 * n) → unsigned (little_bytes n x) ≡ x
 unsigned_back n x low lower =
-    ap (λ (k : ℕ). little_number k (little_bytes n x) % 2 ^ (8 * k)) (long n x) ∙ ap (λ (y : ℕ). y % 2 ^ (8 * n)) (back n x low) ∙ mod-eq_of_lt lower
+    ap (λ (k : ℕ). little_number k (little_bytes n x) % 2 ^ (8 * k)) (length-little_bytes n x) ∙ ap (λ (y : ℕ). y % 2 ^ (8 * n)) (read-back n x low) ∙ mod-eq_of_lt lower
 
 short_back : (z : ℤ) → FitsSigned w32 z → signed (little_bytes 4 (cast_unsigned w32 z)) ≡ z
 short_back z fits =
     let small : cast_unsigned w32 z < 256 ^ 4 = omega (arith, ints) in
     let part = little_bytes 4 (cast_unsigned w32 z) in
-    ap (λ (k : ℕ). if k == 4 then cast_signed w32 (little_number k part) else cast_signed w64 (little_number k part)) (long 4 (cast_unsigned w32 z))
-    ∙ ap (cast_signed w32) (back 4 (cast_unsigned w32 z) small) ∙ to_z-of_z w32 z fits
+    ap (λ (k : ℕ). if k == 4 then cast_signed w32 (little_number k part) else cast_signed w64 (little_number k part)) (length-little_bytes 4 (cast_unsigned w32 z))
+    ∙ ap (cast_signed w32) (read-back 4 (cast_unsigned w32 z) small) ∙ to_z-of_z w32 z fits
 
 long_back : (z : ℤ) → FitsSigned w64 z → signed (little_bytes 8 (cast_unsigned w64 z)) ≡ z
 long_back z fits =
     let small : cast_unsigned w64 z < 256 ^ 8 = omega (arith, ints) in
     let part = little_bytes 8 (cast_unsigned w64 z) in
-    ap (λ (k : ℕ). if k == 4 then cast_signed w32 (little_number k part) else cast_signed w64 (little_number k part)) (long 8 (cast_unsigned w64 z))
-    ∙ ap (cast_signed w64) (back 8 (cast_unsigned w64 z) small) ∙ to_z-of_z w64 z fits
+    ap (λ (k : ℕ). if k == 4 then cast_signed w32 (little_number k part) else cast_signed w64 (little_number k part)) (length-little_bytes 8 (cast_unsigned w64 z))
+    ∙ ap (cast_signed w64) (read-back 8 (cast_unsigned w64 z) small) ∙ to_z-of_z w64 z fits
 
 id_back : (form : ColumnForm) (n : ℕ) → n < 2 ^ id_bits form → unsigned (little_bytes (id_width form) n) ≡ n
 id_back form.Wide n low = unsigned_back 4 n (omega arith) (omega arith)

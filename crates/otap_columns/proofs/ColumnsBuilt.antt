@@ -7,7 +7,7 @@ use Rattle.std.proofs.lemmas.Bool.{cases_lt}
 use Rattle.std.proofs.lemmas.List.{get_or_past, length-map, take_more}
 use Rattle.std.proofs.lemmas.List.Sums.{sum_by-take-le, sum_by_push}
 use Rattle.byteorder.specs.Endian.{little_bytes}
-use Rattle.byteorder.specs.Numbers.{length-bytes_low_first}
+use Rattle.lists.proofs.Parts.{nones_first}
 use Rattle.arrow_buffers.specs.declared.width.Width.TheVariants as width
 use Rattle.arrow_buffers.specs.Columns.{HasWidth, cell_len, cells_len}
 use Rattle.otap_cells.specs.declared.profile.Base.{Base}
@@ -20,20 +20,18 @@ use Rattle.otap_columns.specs.declared.forms.ColumnForm.TheVariants as form
 use Rattle.otap_columns.specs.Observed.{id_width, number_bytes, bytes_for}
 use Rattle.otap_columns.specs.Schemas.{is_dictionary}
 use Rattle.otap_columns.specs.WrittenCells.{place_among, stored_for, stored_column}
-use Rattle.otap_columns.specs.BuiltCells.{index_width, plain_width}
+use Rattle.otap_columns.specs.BuiltCells.{index_size, plain_width}
+use Rattle.otap_columns.proofs.CellsBack.{length-little_bytes}
 
 -- ---- each cell has its column's width
 
-long : (n x : ℕ) → length (little_bytes n x) ≡ n
-long n x = length-bytes_low_first 0 n x
-
 number_width : (holds : Base) (f : ColumnForm) (z : ℤ) → IsNumberOf holds z → HasWidth (plain_width holds f) (number_bytes holds f z)
-number_width base.U8 f z is = long 1 (unsigned_abs z)
-number_width base.U16 f z is = long 2 (unsigned_abs z)
-number_width base.U32 f z is = long 4 (unsigned_abs z)
-number_width base.I32 f z is = long 4 (cast_unsigned w32 z)
-number_width base.I64 f z is = long 8 (cast_unsigned w64 z)
-number_width (base.Id wide) f z is = long (id_width f) (unsigned_abs z)
+number_width base.U8 f z is = length-little_bytes 1 (unsigned_abs z)
+number_width base.U16 f z is = length-little_bytes 2 (unsigned_abs z)
+number_width base.U32 f z is = length-little_bytes 4 (unsigned_abs z)
+number_width base.I32 f z is = length-little_bytes 4 (cast_unsigned w32 z)
+number_width base.I64 f z is = length-little_bytes 8 (cast_unsigned w64 z)
+number_width (base.Id wide) f z is = length-little_bytes (id_width f) (unsigned_abs z)
 number_width base.U64 f z is = absurd is
 number_width base.Double f z is = absurd is
 number_width base.Bool f z is = absurd is
@@ -47,10 +45,10 @@ number_width base.ListU64 f z is = absurd is
 number_width base.ListF64 f z is = absurd is
 
 bits_width : (holds : Base) (f : ColumnForm) (n : ℕ) → IsBitsOf holds n → HasWidth (plain_width holds f) (little_bytes 8 n)
-bits_width base.U64 f n is = long 8 n
-bits_width base.Double f n is = long 8 n
-bits_width base.Timestamp f n is = long 8 n
-bits_width base.Duration f n is = long 8 n
+bits_width base.U64 f n is = length-little_bytes 8 n
+bits_width base.Double f n is = length-little_bytes 8 n
+bits_width base.Timestamp f n is = length-little_bytes 8 n
+bits_width base.Duration f n is = length-little_bytes 8 n
 bits_width base.U8 f n is = absurd is
 bits_width base.U16 f n is = absurd is
 bits_width base.U32 f n is = absurd is
@@ -107,7 +105,7 @@ plain_stored holds form.Dict8 values cell plain = cc
 plain_stored holds form.Dict16 values cell plain = cc
 
 pub index_stored : (holds : Base) (f : ColumnForm) (values : List (List ℕ)) (cell : Cell) → is_dictionary f ≡ true
-    → option_map (little_bytes (index_width f)) (place_among values (bytes_for holds f cell)) ≡ stored_for holds f values cell
+    → option_map (little_bytes (index_size f)) (place_among values (bytes_for holds f cell)) ≡ stored_for holds f values cell
 index_stored holds form.Dict8 values cell dictionary = refl
 index_stored holds form.Dict16 values cell dictionary = refl
 index_stored holds form.Absent values cell dictionary = cc
@@ -168,17 +166,10 @@ nones_at_end (suc k) n [] none all = absurd (omega (arith, all))
 nones_at_end (suc k) n (x ∷ cells) none all = ap (λ (xs : List (Option (List ℕ))). x ∷ xs) (nones_at_end k n cells (λ row le. none (suc row) (omega (arith, le))) (omega (arith, all)))
 
 -- the rows before the first one that was set
-pub nones_at_first : (k : ℕ) (cells : List (Option (List ℕ))) → ((row : ℕ) → row < k → get_or cells row None ≡ None) → k ≤ length cells → replicate k None ≡ take k cells
-nones_at_first zero cells none low = refl
-nones_at_first (suc k) [] none low = absurd (omega (arith, low))
-nones_at_first (suc k) (None ∷ cells) none low =
-    ap (λ (xs : List (Option (List ℕ))). None ∷ xs) (nones_at_first k cells (λ row lt. none (suc row) (omega (arith, lt))) (omega (arith, low)))
-nones_at_first (suc k) (Some value ∷ cells) none low = absurd (let wrong : Some value ≡ None = none 0 (omega arith) in cc)
-
 pub nulls_first : (f : ColumnForm) (t : Table) (column k : ℕ) → is_dictionary f ≡ false
     → ((row : ℕ) → row < k → cell_in t.rows column row ≡ null) → k ≤ length t.rows → replicate k None ≡ take k (stored_column f [] t column)
 nulls_first f t column k plain none low =
-    nones_at_first k (stored_column f [] t column)
+    nones_first k (stored_column f [] t column)
     (λ row lt.
     stored_at f [] t column row (omega (arith, lt, low))
     ∙ sym (plain_stored (base_at t.kind column) f [] (cell_in t.rows column row) plain)

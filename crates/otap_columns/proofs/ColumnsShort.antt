@@ -166,7 +166,7 @@ long_cells g (r ∷ rows) column each =
 
 -- ---- the buffers of a column
 
-padded_short : (n : ℕ) → padded n ≤ n + 7
+pub padded_short : (n : ℕ) → padded n ≤ n + 7
 padded_short n = omega arith
 
 bits_short : (rows : ℕ) → padded ((rows + 7) / 8) ≤ rows + 7

@@ -2,7 +2,7 @@
 use Rattle.std.proofs.Common.{◌≡◌, ℕ, suc, Bool, true, false, List, [], ◌∷◌, ◌++◌, Result, Ok, Err, refl, sym, ap, ◌∙◌, subst, arith, ◌⊎◌, inl, inr}
 use Rattle.std.specs.Prelude.{ℤ, not, is_ok}
 use Rattle.std.specs.List.{list_any, list_all}
-use Rattle.std.proofs.lemmas.Bool.{cases_Bool, false≢true}
+use Rattle.std.proofs.lemmas.Bool.{cases_Bool, false≢true, or_parts, not-false}
 use Rattle.lists.specs.EachAfter.{AllAfter}
 use Rattle.arrow_schema.specs.declared.spec.FieldSpec.{FieldSpec}
 use Rattle.arrow_buffers.specs.declared.fault.BufferFault.{BufferFault}
@@ -21,10 +21,9 @@ use Rattle.otap_columns.specs.Known.{columns_fit}
 use Rattle.otap_columns.specs.Reading.{opened, with_batch}
 use Rattle.otap_columns.specs.Records.{is_rows, is_fine_for, HasValueFault, begins_otherwise, more_after_rows, no_rows, ends_badly, other_type, bad_buffers, IsRead, IsJudged, HasSchema, CanGoOn, IsFine}
 use Rattle.otap_columns.specs.Substreams.{SubstreamIn, schema_in, substream_of, indexes_fit}
-use Rattle.otap_columns.proofs.Excluding.{or_parts, not_first}
+use Rattle.otap_columns.proofs.Excluding.{not_first}
 use Rattle.otap_columns.proofs.Growing.{substream_from, schema_in-stays}
 use Rattle.otap_columns.proofs.Judging.{Read, read_more, takes_batch, order_refused, batch_refused, rows_refused, read_is, read_on, read_schema}
-use Rattle.otap_columns.proofs.Lying.{is_true}
 
 -- ---- what isn't fine has a fault
 
@@ -41,7 +40,7 @@ not_fine : (id : ℤ) (batch : BatchIn) (d : DictionaryIn) → is_fine_for id ba
 not_fine id batch d h =
     let parts : (not (has_id id d) ≡ false) × (is_ok (array_check batch (place_of_values d.kind)) ≡ false) = or_parts (not (has_id id d)) (is_ok (array_check batch (place_of_values d.kind))) h in
     let f : (fault : BufferFault) × (array_check batch (place_of_values d.kind) ≡ Err fault) = failed (array_check batch (place_of_values d.kind)) parts.1 in
-    record { own = is_true (has_id id d) parts.0; fault = f.0; is = f.1 }
+    record { own = not-false (has_id id d) parts.0; fault = f.0; is = f.1 }
 
 values_fail : (id : ℤ) (batch : BatchIn) (ds : List DictionaryIn) → list_all (is_fine_for id batch) ds ≡ false → (fault : BufferFault) × HasValueFault ds id batch fault
 values_fail id batch [] h = absurd (false≢true (sym h))

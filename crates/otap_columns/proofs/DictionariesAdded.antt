@@ -16,22 +16,23 @@ use Rattle.arrow_ipc.specs.declared.messages.IpcMessage.TheVariants.{Dictionary}
 use Rattle.arrow_ipc.specs.Batches.{BatchIn}
 use Rattle.arrow_ipc.specs.Written.{Appends, most_of, padded}
 use Rattle.arrow_arrays.specs.Cells.{own_cell, place_of_values, rows_in}
-use Rattle.arrow_arrays.specs.Columns.{width_of, StandAt, IsColumn, AreTexts}
+use Rattle.arrow_arrays.specs.Columns.{stored_width, StandAt, HoldsColumn, AreTexts}
 use Rattle.arrow_arrays.specs.Layouts.{layout_of_values}
 use Rattle.arrow_arrays.proofs.ColumnLaws.{column_checks, column_cells}
-use Rattle.otap_dicts.specs.Forms.{bytes_of}
+use Rattle.otap_dicts.specs.Forms.{byte_count}
 use Rattle.otap_dicts.specs.Limits.{value_limit, byte_limit}
 use Rattle.otap_columns.specs.Limits.{head_limit}
 use Rattle.otap_columns.specs.Dictionaries.{values_of}
 use Rattle.otap_columns.specs.WrittenPayloads.{HoldsValues}
 use Rattle.otap_columns.specs.WrittenBatches.{IsSingle, AddsDictionary}
-use Rattle.otap_columns.specs.BuiltCells.{HasRoom, parts_of, with_parts}
+use Rattle.otap_columns.specs.BuiltCells.{HasRoom, batch_parts, with_parts}
 use Rattle.otap_columns.proofs.BatchGrown.{column_grows, message_short, sizes}
 use Rattle.otap_columns.proofs.HeadsTaken.{all_some}
+use Rattle.otap_columns.proofs.ColumnsShort.{padded_short}
 
 -- ---- value by value
 
-some_len : (vs : List (List ℕ)) → cells_len (all_some vs) ≡ bytes_of vs
+some_len : (vs : List (List ℕ)) → cells_len (all_some vs) ≡ byte_count vs
 some_len [] = refl
 some_len (v ∷ vs) = sum_by-cons cell_len (Some v) (all_some vs) ∙ ap (λ n. length v + n) (some_len vs) ∙ sym (sum_by-cons length v vs)
 
@@ -45,51 +46,51 @@ module _ (values : List (List ℕ)) (from : ℕ) where
       sym (ap (λ vs. all_some (drop from vs)) one ∙ ap all_some (drop-append-le from (take place values) (value ∷ []) (omega (arith, front)))
       ∙ map-append (λ (v : List ℕ). Some v) (drop from (take place values)) (value ∷ []))
 
-  pub values_room : (place : ℕ) (value : List ℕ) → from ≤ place → slice_get values place ≡ Some value → cells_len (all_some (drop from (take place values))) + length value ≤ bytes_of values
+  pub values_room : (place : ℕ) (value : List ℕ) → from ≤ place → slice_get values place ≡ Some value → cells_len (all_some (drop from (take place values))) + length value ≤ byte_count values
   values_room place value low at =
       let inside : place < length values = slice_get_within values place value at in
       let one : take (place + 1) values ≡ take place values ++ value ∷ [] = take_more values place [] inside ∙ ap (λ x. take place values ++ x ∷ []) (get_or_from_slice_get values place value [] at) in
-      let sum : bytes_of (take place values ++ value ∷ []) ≡ bytes_of (take place values) + length value = sum_by_push length (take place values) value in
-      omega (arith, some_len (drop from (take place values)), sum_by-take-drop length (take place values) from, sum, ap bytes_of one, sum_by-take-le length values (place + 1))
+      let sum : byte_count (take place values ++ value ∷ []) ≡ byte_count (take place values) + length value = sum_by_push length (take place values) value in
+      omega (arith, some_len (drop from (take place values)), sum_by-take-drop length (take place values) from, sum, ap byte_count one, sum_by-take-le length values (place + 1))
 
 -- ---- the batch of a column
 
-stands_at : (type : ArrowType) (w : Width) (b : Buffers) → IsSingle w → StandAt (with_parts (record { rows = b.rows; nodes = []; buffers = [] }) (parts_of w b)) (place_of_values type) w b.offsets.items b.values.items
+stands_at : (type : ArrowType) (w : Width) (b : Buffers) → IsSingle w → StandAt (with_parts (record { rows = b.rows; nodes = []; buffers = [] }) (batch_parts w b)) (place_of_values type) w b.offsets.items b.values.items
 stands_at type width.Bit b single = refl
 stands_at type (width.Fixed n) b single = (single, refl)
 stands_at type width.Var b single = (refl, refl)
 stands_at type (width.List n) b single = absurd single
 
-rows_are : (type : ArrowType) (w : Width) (b : Buffers) → IsSingle w → rows_in (with_parts (record { rows = b.rows; nodes = []; buffers = [] }) (parts_of w b)) (place_of_values type) ≡ Ok b.rows
+rows_are : (type : ArrowType) (w : Width) (b : Buffers) → IsSingle w → rows_in (with_parts (record { rows = b.rows; nodes = []; buffers = [] }) (batch_parts w b)) (place_of_values type) ≡ Ok b.rows
 unfolding rows_in
 rows_are type width.Bit b single = refl
 rows_are type (width.Fixed n) b single = refl
 rows_are type width.Var b single = refl
 rows_are type (width.List n) b single = absurd single
 
-count_is : (w : Width) (b : Buffers) → IsSingle w → (with_parts (record { rows = b.rows; nodes = []; buffers = [] }) (parts_of w b)).rows ≡ b.rows
+count_is : (w : Width) (b : Buffers) → IsSingle w → (with_parts (record { rows = b.rows; nodes = []; buffers = [] }) (batch_parts w b)).rows ≡ b.rows
 count_is width.Bit b single = refl
 count_is (width.Fixed n) b single = refl
 count_is width.Var b single = refl
 count_is (width.List n) b single = absurd single
 
-node_is : (w : Width) (b : Buffers) → IsSingle w → slice_get (with_parts (record { rows = b.rows; nodes = []; buffers = [] }) (parts_of w b)).nodes 0 ≡ Some (pos b.rows, pos b.nulls)
+node_is : (w : Width) (b : Buffers) → IsSingle w → slice_get (with_parts (record { rows = b.rows; nodes = []; buffers = [] }) (batch_parts w b)).nodes 0 ≡ Some (pos b.rows, pos b.nulls)
 node_is width.Bit b single = refl
 node_is (width.Fixed n) b single = refl
 node_is width.Var b single = refl
 node_is (width.List n) b single = absurd single
 
-bitmap_is : (w : Width) (b : Buffers) → IsSingle w → slice_get (with_parts (record { rows = b.rows; nodes = []; buffers = [] }) (parts_of w b)).buffers 0 ≡ Some b.validity.items
+bitmap_is : (w : Width) (b : Buffers) → IsSingle w → slice_get (with_parts (record { rows = b.rows; nodes = []; buffers = [] }) (batch_parts w b)).buffers 0 ≡ Some b.validity.items
 bitmap_is width.Bit b single = refl
 bitmap_is (width.Fixed n) b single = refl
 bitmap_is width.Var b single = refl
 bitmap_is (width.List n) b single = absurd single
 
 -- THE BATCH HOLDS THE VALUES
-pub holds_values : (type : ArrowType) (w : Width) (b : Buffers) (values : List (List ℕ)) → width_of (layout_of_values type) ≡ Some w → IsSingle w → AreTexts (layout_of_values type) (all_some values)
+pub holds_values : (type : ArrowType) (w : Width) (b : Buffers) (values : List (List ℕ)) → stored_width (layout_of_values type) ≡ Some w → IsSingle w → AreTexts (layout_of_values type) (all_some values)
     → b.rows ≡ length values → cells_of w b.validity.items b.offsets.items b.values.items b.rows ≡ all_some values
     → validity_of b.validity.items b.rows (pos b.nulls) ≡ Ok (record { bytes = b.validity.items; rows = b.rows }) → HasNoFault w b.offsets.items b.values.items b.rows
-    → HoldsValues type values (with_parts (record { rows = b.rows; nodes = []; buffers = [] }) (parts_of w b))
+    → HoldsValues type values (with_parts (record { rows = b.rows; nodes = []; buffers = [] }) (batch_parts w b))
 unfolding values_of
 holds_values type w b values stored single texts count reads valid fine = record {
   are =
@@ -101,9 +102,9 @@ holds_values type w b values stored single texts count reads valid fine = record
 }
   where
     batch : BatchIn
-    batch = with_parts (record { rows = b.rows; nodes = []; buffers = [] }) (parts_of w b)
+    batch = with_parts (record { rows = b.rows; nodes = []; buffers = [] }) (batch_parts w b)
 
-    is : IsColumn batch (place_of_values type) w b.rows b.validity.items b.offsets.items b.values.items
+    is : HoldsColumn batch (place_of_values type) w b.rows b.validity.items b.offsets.items b.values.items
     is = record {
       layout = stored;
       counted = rows_are type w b single;
@@ -118,18 +119,18 @@ holds_values type w b values stored single texts count reads valid fine = record
 -- ---- room
 
 -- values of one length
-fixed_len : (n : ℕ) (values : List (List ℕ)) → ((place : ℕ) (value : List ℕ) → slice_get values place ≡ Some value → length value ≡ n) → bytes_of values ≡ length values * n
+fixed_len : (n : ℕ) (values : List (List ℕ)) → ((place : ℕ) (value : List ℕ) → slice_get values place ≡ Some value → length value ≡ n) → byte_count values ≡ length values * n
 fixed_len n [] each = omega arith
 fixed_len n (v ∷ vs) each =
     let first : length v ≡ n = each 0 v refl in
-    let rest : bytes_of vs ≡ length vs * n = fixed_len n vs (λ place value at. each (suc place) value at) in
+    let rest : byte_count vs ≡ length vs * n = fixed_len n vs (λ place value at. each (suc place) value at) in
     omega (arith, first, rest, mul-suc-left (length vs) n, sum_by-cons length v vs)
   where
     mul-suc-left : (m n : ℕ) → suc m * n ≡ n + m * n
     mul-suc-left m n = grind arith
 
 values_short : (w : Width) (values : List (List ℕ)) → IsSingle w → ((place : ℕ) (value : List ℕ) → slice_get values place ≡ Some value → HasWidth w value)
-    → values_len w (all_some values) ≤ bytes_of values + length values
+    → values_len w (all_some values) ≤ byte_count values + length values
 values_short width.Bit values single wide = omega (arith, length-map values (λ (value : List ℕ). Some value))
 values_short (width.Fixed n) values single wide =
     let same : values_len (width.Fixed n) (all_some values) ≡ length values * n = ap (λ (k : ℕ). k * n) (length-map values (λ (value : List ℕ). Some value)) in
@@ -148,9 +149,6 @@ drop_at (v ∷ vs) (suc from) place value at =
     let same : suc from + place ≡ suc (from + place) = omega arith in
     subst (λ (k : ℕ). slice_get (v ∷ vs) k ≡ Some value) (sym same) (drop_at vs from place value at)
 
-padded_short : (n : ℕ) → padded n ≤ n + 7
-padded_short n = omega arith
-
 offsets_short : (w : Width) (rows : ℕ) → offsets_len w rows ≤ 4 * rows + 4
 offsets_short width.Bit rows = omega arith
 offsets_short (width.Fixed n) rows = omega arith
@@ -166,13 +164,13 @@ validity_short nulls rows = by (nulls == 0) refl
 
 -- a dictionary's batch is small
 pub dictionary_short : (w : Width) (values : List (List ℕ)) (from : ℕ) (b : Buffers) → IsSingle w → ((place : ℕ) (value : List ℕ) → slice_get values place ≡ Some value → HasWidth w value)
-    → length values ≤ value_limit → bytes_of values ≤ byte_limit → b.rows ≡ length (all_some (drop from values)) → length b.validity.items ≡ validity_len b.nulls b.rows → length b.offsets.items ≡ offsets_len w b.rows
+    → length values ≤ value_limit → byte_count values ≤ byte_limit → b.rows ≡ length (all_some (drop from values)) → length b.validity.items ≡ validity_len b.nulls b.rows → length b.offsets.items ≡ offsets_len w b.rows
     → length b.values.items ≡ values_len w (all_some (drop from values)) → sizes b ≤ 1441850
 dictionary_short w values from b single wide few small rows validity offsets bytes =
-    let short : values_len w (all_some (drop from values)) ≤ bytes_of (drop from values) + length (drop from values) =
+    let short : values_len w (all_some (drop from values)) ≤ byte_count (drop from values) + length (drop from values) =
     values_short w (drop from values) single (λ place value at. wide (from + place) value (drop_at values from place value at)) in
     let count : b.rows ≤ value_limit = omega (arith, length-map (drop from values) (λ (value : List ℕ). Some value), length-drop from values) in
-    let total : bytes_of (drop from values) ≤ byte_limit = omega (arith, sum_by-take-drop length values from) in
+    let total : byte_count (drop from values) ≤ byte_limit = omega (arith, sum_by-take-drop length values from) in
     let left : length (drop from values) ≤ value_limit = omega (arith, length-drop from values) in
     let a : padded (length b.validity.items) ≤ 65560 = omega (arith, padded_short (length b.validity.items), validity_short b.nulls b.rows) in
     let o : padded (length b.offsets.items) ≤ 262160 = omega (arith, padded_short (length b.offsets.items), offsets_short w b.rows) in
@@ -183,11 +181,11 @@ pub dictionary_room : (rows : ℕ) (b : Buffers) → sizes b ≤ 1441850 → Has
 dictionary_room rows b short = record { nodes = omega arith; buffers = omega arith; body = omega arith }
 
 -- and so is its message
-pub dictionary_message : (w : Width) (b : Buffers) → sizes b ≤ 1441850 → most_of (with_parts (record { rows = b.rows; nodes = []; buffers = [] }) (parts_of w b)) ≤ head_limit
+pub dictionary_message : (w : Width) (b : Buffers) → sizes b ≤ 1441850 → most_of (with_parts (record { rows = b.rows; nodes = []; buffers = [] }) (batch_parts w b)) ≤ head_limit
 dictionary_message w b short =
     omega (
       arith,
-      message_short 1 (sizes b) b.rows (with_parts (record { rows = b.rows; nodes = []; buffers = [] }) (parts_of w b)) (column_grows (record { rows = b.rows; nodes = []; buffers = [] }) w b),
+      message_short 1 (sizes b) b.rows (with_parts (record { rows = b.rows; nodes = []; buffers = [] }) (batch_parts w b)) (column_grows (record { rows = b.rows; nodes = []; buffers = [] }) w b),
     )
 
 -- ---- the call

@@ -1,7 +1,7 @@
 -- A record without a defect has none of the defects.
-use Rattle.std.proofs.Common.{◌≡◌, ℕ, Bool, true, false, ◌||◌, List, [], ◌∷◌, ◌++◌, length, Option, Some, None, refl, sym, ap, ◌∙◌, subst, arith, length-append}
+use Rattle.std.proofs.Common.{◌≡◌, ℕ, true, false, List, [], ◌∷◌, ◌++◌, length, Option, Some, None, refl, sym, ap, ◌∙◌, subst, arith, length-append}
 use Rattle.std.specs.List.{list_any}
-use Rattle.std.proofs.lemmas.Bool.{false≢true}
+use Rattle.std.proofs.lemmas.Bool.{false≢true, or_parts}
 use Rattle.lists.specs.EachAfter.{AllAfter}
 use Rattle.lists.proofs.Growing.{all_after-at}
 use Rattle.arrow_schema.specs.declared.spec.FieldSpec.{FieldSpec}
@@ -22,10 +22,6 @@ use Rattle.otap_columns.proofs.Growing.{substream-none}
 use Rattle.otap_columns.proofs.Judging.{fine_as, fine_buffers}
 
 -- no record batch stands before the last one
-pub or_parts : (b c : Bool) → (b || c) ≡ false → (b ≡ false) × (c ≡ false)
-or_parts true c h = absurd (false≢true (sym h))
-or_parts false c h = (refl, h)
-
 pub record IsLast (batch other : BatchIn) (after : List IpcMessage) : Type 0 where
   pub same : other ≡ batch
   pub none : after ≡ []

@@ -8,7 +8,7 @@ use Rattle.arrow_buffers.specs.Below.{all_below}
 use Rattle.arrow_arrays.specs.declared.spec.ArraySpec.{ArraySpec}
 use Rattle.arrow_arrays.specs.Arrays.{path_of}
 use Rattle.otap_cells.specs.declared.payload.Kind.{Kind}
-use Rattle.otap_cells.specs.Columns.{ColumnSpec, columns_of, width_of, has_dot, place_of}
+use Rattle.otap_cells.specs.Columns.{ColumnSpec, columns_of, width_of, has_dot, place_of_path}
 use Rattle.otap_columns.specs.Known.{known_column, known_columns}
 
 -- a place that is found is one of the list, and passes
@@ -36,7 +36,7 @@ passes_at {X} p from (x ∷ xs) place is = by_test (cases_Bool (p x)) (passes_at
         passes f (suc i) d at = f.passes i d (omega arith)
 
 -- a column that a path leads to is one of the columns
-pub place_below : (columns : List ColumnSpec) (path : List (List ℕ)) (column : ℕ) → place_of columns path ≡ Some column → column < length columns
+pub place_below : (columns : List ColumnSpec) (path : List (List ℕ)) (column : ℕ) → place_of_path columns path ≡ Some column → column < length columns
 place_below columns path column is = by_test (list_any has_dot path) refl
   where
     named : ColumnSpec → Bool

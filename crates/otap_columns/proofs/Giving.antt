@@ -1,9 +1,9 @@
 -- A dictionary batch given to each dictionary in turn.
-use Rattle.std.proofs.Common.{◌≡◌, ℕ, zero, suc, ◌+◌, ◌<◌, ◌≤◌, Bool, true, false, ◌||◌, List, [], ◌∷◌, ◌++◌, length, get_or, set, refl, sym, ap, ◌∙◌, append_assoc, append-nil, arith, length-append}
+use Rattle.std.proofs.Common.{◌≡◌, ℕ, ◌+◌, ◌<◌, ◌≤◌, Bool, true, false, List, [], ◌∷◌, ◌++◌, length, get_or, set, refl, sym, ap, ◌∙◌, append_assoc, append-nil, arith, length-append}
 use Rattle.std.specs.Prelude.{ℤ, map}
 use Rattle.std.specs.List.{list_any, list_all}
-use Rattle.std.proofs.lemmas.Bool.{le-ltb}
-use Rattle.std.proofs.lemmas.List.{map-append, length-map}
+use Rattle.std.proofs.lemmas.Bool.{le-ltb, or_right}
+use Rattle.std.proofs.lemmas.List.{map-append, length-map, get_or_at, set_at}
 use Rattle.std.proofs.lemmas.List.Folds.{list_any-append, list_all-append}
 use Rattle.arrow_ipc.specs.Batches.{BatchIn}
 use Rattle.otap_dicts.specs.Limits.{value_limit}
@@ -11,28 +11,11 @@ use Rattle.otap_columns.specs.declared.refusal.ColumnRefusal.{ColumnRefusal}
 use Rattle.otap_columns.specs.declared.refusal.ColumnRefusal.TheVariants.{Order, Ipc, Column, Buffers, BadIndex, DictionarySize, Memory}
 use Rattle.otap_columns.specs.Dictionaries.{DictionaryIn, grown_if, all_grown, is_too_large}
 use Rattle.otap_columns.specs.Records.{is_fine_for}
-use Rattle.otap_columns.specs.Steps.{RefusesIf, RefusesBatch}
-
--- the element after a front, and what is written there
-pub get_here : {A : Type 0} (front : List A) (x : A) (rest : List A) (place : ℕ) (d : A) → length front ≡ place → get_or (front ++ x ∷ rest) place d ≡ x
-get_here [] x rest zero d at = refl
-get_here [] x rest (suc place) d at = absurd (omega (arith, at))
-get_here (y ∷ front) x rest zero d at = absurd (omega (arith, at))
-get_here (y ∷ front) x rest (suc place) d at = get_here front x rest place d (omega (arith, at))
-
-set_here : {A : Type 0} (front : List A) (x y : A) (rest : List A) (place : ℕ) → length front ≡ place → set (front ++ x ∷ rest) place y ≡ front ++ y ∷ rest
-set_here [] x y rest zero at = refl
-set_here [] x y rest (suc place) at = absurd (omega (arith, at))
-set_here (z ∷ front) x y rest zero at = absurd (omega (arith, at))
-set_here (z ∷ front) x y rest (suc place) at = ap (λ zs. z ∷ zs) (set_here front x y rest place (omega (arith, at)))
-
-or_true : (b c : Bool) → c ≡ true → (b || c) ≡ true
-or_true true c h = refl
-or_true false c h = h
+use Rattle.otap_columns.specs.Reading.{RefusesDictionaryBatch, RefusesIf}
 
 pub any_here : {A : Type 0} (p : A → Bool) (front : List A) (x : A) (rest : List A) → p x ≡ true → list_any p (front ++ x ∷ rest) ≡ true
 any_here p [] x rest h = rw h refl
-any_here p (y ∷ front) x rest h = or_true (p y) (list_any p (front ++ x ∷ rest)) (any_here p front x rest h)
+any_here p (y ∷ front) x rest h = or_right (p y) (list_any p (front ++ x ∷ rest)) (any_here p front x rest h)
 
 module _ (id : ℤ) (delta : Bool) (batch : BatchIn) where
   -- the dictionaries up to a place were given the batch
@@ -68,7 +51,7 @@ module _ (id : ℤ) (delta : Bool) (batch : BatchIn) where
       by_rest (y ∷ rest) some =
           let new_is : new ≡ map (grown_if id delta batch) g.done ++ y ∷ rest = g.new_is ∙ ap (λ r. map (grown_if id delta batch) g.done ++ r) some in
           let here : get_or new place x ≡ y =
-          ap (λ (ds : List DictionaryIn). get_or ds place x) new_is ∙ get_here (map (grown_if id delta batch) g.done) y rest place x (length-map g.done (grown_if id delta batch) ∙ g.at) in
+          ap (λ (ds : List DictionaryIn). get_or ds place x) new_is ∙ get_or_at (map (grown_if id delta batch) g.done) y rest x place (length-map g.done (grown_if id delta batch) ∙ g.at) in
           let same : y ≡ x = sym (is ∙ here) in
           record {
             done = g.done;
@@ -89,7 +72,7 @@ module _ (id : ℤ) (delta : Bool) (batch : BatchIn) where
     old_is = n.old_is ∙ sym (append_assoc n.done (x ∷ []) n.rest);
     new_is =
         ap (λ (ds : List DictionaryIn). set ds place y) n.new_is
-        ∙ set_here (map (grown_if id delta batch) n.done) x y n.rest place (length-map n.done (grown_if id delta batch) ∙ n.at)
+        ∙ set_at (map (grown_if id delta batch) n.done) x n.rest y place (length-map n.done (grown_if id delta batch) ∙ n.at)
         ∙ ap (λ d. map (grown_if id delta batch) n.done ++ d ∷ n.rest) is
         ∙ sym (append_assoc (map (grown_if id delta batch) n.done) (grown_if id delta batch x ∷ []) n.rest)
         ∙ ap (λ ds. ds ++ n.rest) (sym (map-append (grown_if id delta batch) n.done (x ∷ [])));
@@ -120,7 +103,7 @@ module _ (id : ℤ) (delta : Bool) (batch : BatchIn) where
           absurd (omega (arith, end, long, length-append (map (grown_if id delta batch) g.done) (y ∷ rest), length-map g.done (grown_if id delta batch), g.at))
 
   -- it refuses the batch, and so do all
-  pub refused_by : (old new : List DictionaryIn) (place : ℕ) (x : DictionaryIn) (r : ColumnRefusal) → Next old new place x → RefusesIf id delta batch x r → RefusesBatch id delta batch old r
+  pub refused_by : (old new : List DictionaryIn) (place : ℕ) (x : DictionaryIn) (r : ColumnRefusal) → Next old new place x → RefusesIf id delta batch x r → RefusesDictionaryBatch id delta batch old r
   unfolding all_grown
   refused_by old new place x Order n h = absurd h
   refused_by old new place x (Ipc e) n h = absurd h
@@ -129,7 +112,7 @@ module _ (id : ℤ) (delta : Bool) (batch : BatchIn) where
     place,
     x,
     omega (arith, ap length n.old_is, length-append n.done (x ∷ n.rest), n.at),
-    ap (λ (ds : List DictionaryIn). get_or ds place x) n.old_is ∙ get_here n.done x n.rest place x n.at,
+    ap (λ (ds : List DictionaryIn). get_or ds place x) n.old_is ∙ get_or_at n.done x n.rest x place n.at,
     h,
   )
   refused_by old new place x BadIndex n h = absurd h

@@ -13,11 +13,11 @@ use Rattle.arrow_buffers.specs.Below.{all_below}
 use Rattle.otap_cells.specs.declared.payload.Kind.{Kind}
 use Rattle.otap_cells.specs.declared.payload.Kind.TheVariants as table
 use Rattle.otap_cells.specs.declared.profile.Base.TheVariants as base
-use Rattle.otap_cells.specs.Columns.{ColumnSpec, plain, place_of, columns_of, logs, spans, metrics, attrs, deep_attrs, span_events, span_links, number_points, summary_points, hist_points, exemplars}
+use Rattle.otap_cells.specs.Columns.{ColumnSpec, plain, place_of_path, columns_of, logs, spans, metrics, attrs, deep_attrs, span_events, span_links, number_points, summary_points, hist_points, exemplars}
 use Rattle.otap_columns.specs.declared.forms.ColumnForm.TheVariants as form
 use Rattle.otap_columns.specs.Known.{is_column}
 use Rattle.otap_columns.specs.Groups.{Member, Group, Alone, Under, grouped}
-use Rattle.otap_columns.specs.Schemas.{type_in, item_in}
+use Rattle.otap_columns.specs.Schemas.{arrow_type_in, item_in}
 
 -- ---- texts of which each byte is below 128
 
@@ -40,18 +40,18 @@ spec_at columns column = slice_index_or columns column (plain [] base.Binary)
 
 -- the path of a column leads to it
 abbrev pub is_member : List ColumnSpec → List (List ℕ) → Member → Bool
-is_member columns above m = is_ascii m.name && is_column m.column (place_of columns (above ++ m.name ∷ []))
+is_member columns above m = is_ascii m.name && is_column m.column (place_of_path columns (above ++ m.name ∷ []))
 
 -- the path of a struct leads to no column
 abbrev pub is_group : List ColumnSpec → Group → Bool
 is_group columns (Alone m) = is_member columns [] m
 is_group columns (Under struct members) =
-    is_ascii struct && (is_none (place_of columns (struct ∷ [])) && (are_apart (map (λ (m : Member). m.name) members) && list_all (is_member columns (struct ∷ [])) members))
+    is_ascii struct && (is_none (place_of_path columns (struct ∷ [])) && (are_apart (map (λ (m : Member). m.name) members) && list_all (is_member columns (struct ∷ [])) members))
 
 -- the parts of the test of a struct
 pub record IsUnder (columns : List ColumnSpec) (struct : List ℕ) (members : List Member) : Type 0 where
   pub text : is_ascii struct ≡ true
-  pub none : is_none (place_of columns (struct ∷ [])) ≡ true
+  pub none : is_none (place_of_path columns (struct ∷ [])) ≡ true
   pub apart : are_apart (map (λ (m : Member). m.name) members) ≡ true
   pub each : list_all (is_member columns (struct ∷ [])) members ≡ true
 
@@ -59,8 +59,8 @@ pub under_tests : (columns : List ColumnSpec) (struct : List ℕ) (members : Lis
 under_tests columns struct members is =
     let names = are_apart (map (λ (m : Member). m.name) members) in
     let each = list_all (is_member columns (struct ∷ [])) members in
-    let one = and_parts (is_ascii struct) (is_none (place_of columns (struct ∷ [])) && (names && each)) is in
-    let two = and_parts (is_none (place_of columns (struct ∷ []))) (names && each) one.1 in
+    let one = and_parts (is_ascii struct) (is_none (place_of_path columns (struct ∷ [])) && (names && each)) is in
+    let two = and_parts (is_none (place_of_path columns (struct ∷ []))) (names && each) one.1 in
     let three = and_parts names each two.1 in
     record { text = one.0; none = two.0; apart = three.0; each = three.1 }
 
@@ -87,13 +87,13 @@ abbrev pub has_column : List Group → ℕ → Bool
 has_column groups column = list_any (λ (g : Group). list_any (is_of column) (members_of g)) groups
 
 abbrev pub may_be_dictionary : ColumnSpec → Bool
-may_be_dictionary c = not c.dictionary || takes_dictionary (type_in c.base form.Plain)
+may_be_dictionary c = not c.dictionary || takes_dictionary (arrow_type_in c.base form.Plain)
 
 pub record IsGrouped (columns : List ColumnSpec) : Type 0 where
   pub apart : are_apart (map group_name (grouped columns)) ≡ true
   pub each : list_all (is_group columns) (grouped columns) ≡ true
   pub few : nat_le (sum_of (map (group_size columns) (grouped columns))) 128 ≡ true
-  pub root : place_of columns [] ≡ None
+  pub root : place_of_path columns [] ≡ None
   pub all : all_below (has_column (grouped columns)) (length columns) ≡ true
   pub dictionaries : all_below (λ (column : ℕ). may_be_dictionary (spec_at columns column)) (length columns) ≡ true
 

@@ -17,7 +17,8 @@ use Rattle.arrow_ipc.specs.declared.messages.IpcMessage.TheVariants.{Schema, Dic
 use Rattle.arrow_ipc.specs.Batches.{BatchIn}
 use Rattle.arrow_arrays.specs.declared.spec.ArraySpec.{ArraySpec}
 use Rattle.arrow_arrays.specs.Arrays.{arrays_of}
-use Rattle.otap_columns.specs.Dictionaries.{values_of, batch_of, batches_of, dictionary, DictionaryIn, with_dictionary, with_dictionaries, empty_dictionaries, filled, dictionaries_in, kept, grown_if, all_grown, is_for}
+use Rattle.otap_columns.specs.Dictionaries.{values_of, dictionary_batches, batches_of, dictionary_over, DictionaryIn, with_dictionary, with_dictionaries, empty_dictionaries, filled, dictionaries_in, kept, grown_if}
+use Rattle.otap_columns.specs.Dictionaries.{all_grown, is_for}
 use Rattle.otap_columns.specs.Reading.{opened, with_batch}
 use Rattle.otap_columns.specs.Steps.{FitsIn, FitsValue}
 use Rattle.otap_columns.specs.Substreams.{SubstreamIn, schema_in, substream_of, substream_in}
@@ -36,18 +37,18 @@ joined-push kind bs true batch =
 joined-push kind bs false batch =
     rw (since-append (λ (b : Bool × BatchIn). not b.0) bs ((false, batch) ∷ []), append-nil (values_of kind batch)) refl
 
-batches_of-push : (id : ℤ) (ms : List IpcMessage) (m : IpcMessage) → batches_of id (ms ++ m ∷ []) ≡ batches_of id ms ++ batch_of id m
-batches_of-push id ms m = rw (flat_map-append (batch_of id) ms (m ∷ []), append-nil (batch_of id m)) refl
+batches_of-push : (id : ℤ) (ms : List IpcMessage) (m : IpcMessage) → batches_of id (ms ++ m ∷ []) ≡ batches_of id ms ++ dictionary_batches id m
+batches_of-push id ms m = rw (flat_map-append (dictionary_batches id) ms (m ∷ []), append-nil (dictionary_batches id m)) refl
 
 pub dictionary-own : (kind : ArrowType) (i id : ℤ) (delta : Bool) (batch : BatchIn) (ms : List IpcMessage) → int_eq i id ≡ true
-    → dictionary kind i (ms ++ Dictionary id delta batch ∷ []) ≡ kept delta (dictionary kind i ms) ++ values_of kind batch
-unfolding dictionary
+    → dictionary_over kind i (ms ++ Dictionary id delta batch ∷ []) ≡ kept delta (dictionary_over kind i ms) ++ values_of kind batch
+unfolding dictionary_over
 dictionary-own kind i id delta batch ms own =
-    let here : batches_of i ms ++ batch_of i (Dictionary id delta batch) ≡ batches_of i ms ++ (delta, batch) ∷ [] = rw own refl in
+    let here : batches_of i ms ++ dictionary_batches i (Dictionary id delta batch) ≡ batches_of i ms ++ (delta, batch) ∷ [] = rw own refl in
     ap (joined kind) (batches_of-push i ms (Dictionary id delta batch) ∙ here) ∙ joined-push kind (batches_of i ms) delta batch
 
-pub dictionary-other : (kind : ArrowType) (i : ℤ) (ms : List IpcMessage) (m : IpcMessage) → batch_of i m ≡ [] → dictionary kind i (ms ++ m ∷ []) ≡ dictionary kind i ms
-unfolding dictionary
+pub dictionary-other : (kind : ArrowType) (i : ℤ) (ms : List IpcMessage) (m : IpcMessage) → dictionary_batches i m ≡ [] → dictionary_over kind i (ms ++ m ∷ []) ≡ dictionary_over kind i ms
+unfolding dictionary_over
 dictionary-other kind i ms m none = ap (joined kind) (batches_of-push i ms m ∙ ap (λ bs. batches_of i ms ++ bs) none ∙ append-nil (batches_of i ms))
 
 -- one dictionary after a batch
@@ -155,7 +156,7 @@ unfolding empty_dictionaries
 empties arrays = with-all-emptied [] arrays refl
 
 opened-dictionaries : (fields : List FieldSpec) (arrays : List ArraySpec) → dictionaries_in arrays (Schema fields ∷ []) ≡ empty_dictionaries arrays
-unfolding dictionaries_in dictionary
+unfolding dictionaries_in dictionary_over
 opened-dictionaries fields arrays = empties arrays
 
 pub substream-opened : (fields : List FieldSpec) → substream_in (Schema fields ∷ []) ≡ Some (opened fields)

@@ -12,7 +12,7 @@ use Rattle.arrow_ipc.specs.declared.messages.IpcMessage.{IpcMessage}
 use Rattle.arrow_ipc.specs.declared.messages.IpcMessage.TheVariants.{Dictionary}
 use Rattle.arrow_ipc.specs.Batches.{BatchIn}
 use Rattle.arrow_arrays.specs.Cells.{array_check, place_of_values}
-use Rattle.otap_columns.specs.Dictionaries.{values_of, batch_of, batches_of, dictionary, kept}
+use Rattle.otap_columns.specs.Dictionaries.{values_of, dictionary_batches, batches_of, dictionary_over, kept}
 use Rattle.otap_columns.specs.WrittenPayloads.{heads}
 use Rattle.otap_columns.proofs.Growing.{joined, joined-push}
 
@@ -22,12 +22,12 @@ all_some values = map (λ value. Some value) values
 
 -- what a column has in a record after messages: nothing where its dictionary is as it should be, or a batch that makes it so
 pub data Turn (type : ArrowType) (column : ℕ) (start : List IpcMessage) (values : List (List ℕ)) : List IpcMessage → Type 0 where
-  stays : dictionary type (pos column) start ≡ all_some values → Turn type column start values []
-  gets : (delta : Bool) (batch : BatchIn) → kept delta (dictionary type (pos column) start) ++ values_of type batch ≡ all_some values → array_check batch (place_of_values type) ≡ Ok tt
+  stays : dictionary_over type (pos column) start ≡ all_some values → Turn type column start values []
+  gets : (delta : Bool) (batch : BatchIn) → kept delta (dictionary_over type (pos column) start) ++ values_of type batch ≡ all_some values → array_check batch (place_of_values type) ≡ Ok tt
       → Turn type column start values (Dictionary (pos column) delta batch ∷ [])
 
 batches-append : (id : ℤ) (ms ns : List IpcMessage) → batches_of id (ms ++ ns) ≡ batches_of id ms ++ batches_of id ns
-batches-append id ms ns = flat_map-append (batch_of id) ms ns
+batches-append id ms ns = flat_map-append (dictionary_batches id) ms ns
 
 -- two columns have different ids
 apart : (a b : ℕ) → a ≢ b → int_eq (pos a) (pos b) ≡ false
@@ -73,29 +73,29 @@ module _ (types : ℕ → ArrowType) (wanted : ℕ → Bool) (width : ℕ) (star
             ap (λ bs. bs ++ batches_of (pos c) (head n)) (none_yet c n ge (omega arith)) ∙ ap (λ k. batches_of (pos c) (head k)) (sym same)
 
     -- a dictionary is as it was before its column's turn
-    pub before_turn : (kind : ArrowType) (c n : ℕ) → n ≤ c → n ≤ width → dictionary kind (pos c) (start ++ heads head n) ≡ dictionary kind (pos c) start
-    unfolding dictionary
+    pub before_turn : (kind : ArrowType) (c n : ℕ) → n ≤ c → n ≤ width → dictionary_over kind (pos c) (start ++ heads head n) ≡ dictionary_over kind (pos c) start
+    unfolding dictionary_over
     before_turn kind c n h low =
         ap (joined kind) (batches-append (pos c) start (heads head n) ∙ ap (λ bs. batches_of (pos c) start ++ bs) (none_yet c n h low) ∙ append-nil (batches_of (pos c) start))
 
     turned : (kind : ArrowType) (column : ℕ) (ms : List IpcMessage) → Turn kind column start (values column) ms → joined kind (batches_of (pos column) start ++ batches_of (pos column) ms) ≡ all_some (values column)
-    unfolding dictionary
+    unfolding dictionary_over
     turned kind column [] (stays is) = ap (joined kind) (append-nil (batches_of (pos column) start)) ∙ is
     turned kind column (m ∷ ms) (gets delta batch is fine) =
         ap (λ bs. joined kind (batches_of (pos column) start ++ bs)) (own-batch column delta batch) ∙ joined-push kind (batches_of (pos column) start) delta batch ∙ is
 
     -- and as it should be after it
-    pub after_turn : (c n : ℕ) → c < n → n ≤ width → wanted c ≡ true → dictionary (types c) (pos c) (start ++ heads head n) ≡ all_some (values c)
-    unfolding dictionary
+    pub after_turn : (c n : ℕ) → c < n → n ≤ width → wanted c ≡ true → dictionary_over (types c) (pos c) (start ++ heads head n) ≡ all_some (values c)
+    unfolding dictionary_over
     after_turn c n h low is =
         ap (joined (types c)) (batches-append (pos c) start (heads head n) ∙ ap (λ bs. batches_of (pos c) start ++ bs) (only_own c n h low))
         ∙ turned (types c) c (head c) (turns.own c (omega arith) is)
 
     -- it never has too many values
-    pub few_after : (most c n : ℕ) → n ≤ width → wanted c ≡ true → length (values c) ≤ most → length (dictionary (types c) (pos c) start) ≤ most
-        → length (dictionary (types c) (pos c) (start ++ heads head n)) ≤ most
+    pub few_after : (most c n : ℕ) → n ≤ width → wanted c ≡ true → length (values c) ≤ most → length (dictionary_over (types c) (pos c) start) ≤ most
+        → length (dictionary_over (types c) (pos c) (start ++ heads head n)) ≤ most
     few_after most c n low is after before = by (cases_lt c n)
       where
-        by : (c < n) ⊎ (n ≤ c) → length (dictionary (types c) (pos c) (start ++ heads head n)) ≤ most
+        by : (c < n) ⊎ (n ≤ c) → length (dictionary_over (types c) (pos c) (start ++ heads head n)) ≤ most
         by (inl lt) = rw (after_turn c n lt low is, length-map) after
         by (inr ge) = rw (before_turn (types c) c n ge low) before

@@ -8,12 +8,12 @@ use Rattle.arrow_schema.specs.declared.spec.ArrowType.{ArrowType}
 use Rattle.arrow_schema.specs.declared.spec.DictSpec.{DictSpec}
 use Rattle.arrow_arrays.specs.declared.spec.ArraySpec.{ArraySpec}
 use Rattle.arrow_arrays.specs.Arrays.{arrays_of}
-use Rattle.arrow_arrays.specs.Fields.{FieldIn, field_of}
+use Rattle.arrow_arrays.specs.Fields.{FieldIn, field_of_array}
 use Rattle.otap_cells.specs.declared.payload.Kind.{Kind}
 use Rattle.otap_cells.specs.Columns.{ColumnSpec, columns_of, column_at, width_of}
-use Rattle.otap_dicts.specs.Forms.{bytes_of}
+use Rattle.otap_dicts.specs.Forms.{byte_count}
 use Rattle.otap_dicts.specs.Limits.{value_limit, byte_limit}
-use Rattle.otap_columns.specs.Dictionaries.{DictionaryIn, is_for, with_dictionary, with_dictionaries, empty_dictionaries, value_weight, weight_of, held_weight}
+use Rattle.otap_columns.specs.Dictionaries.{DictionaryIn, is_for, with_dictionary, with_dictionaries, empty_dictionaries, value_weight, dictionary_weight, held_weight}
 use Rattle.otap_columns.specs.Groups.{Member, Group, split, joined_to, group_before, grouped_from, grouped}
 use Rattle.otap_columns.specs.Groups as group
 use Rattle.otap_columns.specs.Schemas.{Forms, FormsFit, ArraySlot, Struct, Column, Items, IsArraySlot, is_there, item_in, members_there, items_after, schema_for}
@@ -23,21 +23,21 @@ use Rattle.otap_columns.proofs.Located.{count_is, slot_at}
 
 -- ---- one dictionary
 
-pub values_weigh : (values : List (List ℕ)) → sum_by value_weight (all_some values) ≡ bytes_of values + 8 * length values
+pub values_weigh : (values : List (List ℕ)) → sum_by value_weight (all_some values) ≡ byte_count values + 8 * length values
 values_weigh [] = refl
 values_weigh (v ∷ vs) =
-    sum_by-cons value_weight (Some v) (all_some vs) ∙ ap (λ n. (length v + 8) + n) (values_weigh vs) ∙ sum (length v) (bytes_of vs) (length vs) ∙ ap (λ n. n + 8 * length (v ∷ vs)) (sym (sum_by-cons length v vs))
+    sum_by-cons value_weight (Some v) (all_some vs) ∙ ap (λ n. (length v + 8) + n) (values_weigh vs) ∙ sum (length v) (byte_count vs) (length vs) ∙ ap (λ n. n + 8 * length (v ∷ vs)) (sym (sum_by-cons length v vs))
   where
     sum : (a b n : ℕ) → (a + 8) + (b + 8 * n) ≡ (a + b) + 8 * suc n
     sum a b n = omega arith
 
-pub light : (values : List (List ℕ)) → length values ≤ value_limit → bytes_of values ≤ byte_limit → sum_by value_weight (all_some values) ≤ 1572864
+pub light : (values : List (List ℕ)) → length values ≤ value_limit → byte_count values ≤ byte_limit → sum_by value_weight (all_some values) ≤ 1572864
 light values few small = omega (arith, values_weigh values)
 
 -- all of them
-pub all_light : {A : Type 0} (f : A → DictionaryIn) (most : ℕ) (xs : List A) → AllByRecursion (λ x. weight_of (f x) ≤ most) xs → held_weight (map f xs) ≤ most * length xs
+pub all_light : {A : Type 0} (f : A → DictionaryIn) (most : ℕ) (xs : List A) → AllByRecursion (λ x. dictionary_weight (f x) ≤ most) xs → held_weight (map f xs) ≤ most * length xs
 all_light f most [] each = omega arith
-all_light f most (x ∷ xs) each = omega (arith, sum_by-cons weight_of (f x) (map f xs), all_light f most xs each.1, each.0, one_more most (length xs))
+all_light f most (x ∷ xs) each = omega (arith, sum_by-cons dictionary_weight (f x) (map f xs), all_light f most xs each.1, each.0, one_more most (length xs))
   where
     one_more : (a n : ℕ) → a * suc n ≡ a + a * n
     one_more a n = grind arith
@@ -155,7 +155,7 @@ module _ (kind : Kind) (forms : Forms) where
   unfolding slots_for grouped
   columns_less = omega (arith, groups_less (grouped_from 0 (columns_of kind)), grouped_size 0 (columns_of kind))
 
-  by_slot : (a : ArraySpec) (slot : ArraySlot) → field_of a ≡ slot_field kind forms slot → has_dictionary a ≡ true → is_column slot ≡ true
+  by_slot : (a : ArraySpec) (slot : ArraySlot) → field_of_array a ≡ slot_field kind forms slot → has_dictionary a ≡ true → is_column slot ≡ true
   by_slot a (Struct name) field is = absurd (false≢true (sym (ap (λ (f : FieldIn). is_some f.dict) field) ∙ is))
   by_slot a (Items column) field is = absurd (false≢true (sym (ap (λ (f : FieldIn). is_some f.dict) field) ∙ is))
   by_slot a (Column m) field is = refl

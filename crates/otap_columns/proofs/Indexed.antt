@@ -1,9 +1,10 @@
 -- A column that is written as the places of its values.
 use Rattle.std.proofs.Common.{◌≡◌, ℕ, zero, suc, ◌+◌, ◌-◌, ◌<◌, ◌≤◌, true, replicate, List, [], ◌∷◌, ◌++◌, length, take, get_or, map, Option, Some, None, refl, sym, ap, ◌∙◌, subst, arith, position, bytes_eq}
 use Rattle.std.proofs.lemmas.Bool.{false≢true}
-use Rattle.std.proofs.lemmas.List.{length-append, length-map, map-append, take_more}
+use Rattle.std.proofs.lemmas.List.{length-append, length-map, map-append, take_more, take-map}
 use Rattle.std.proofs.lemmas.List.Quantifiers.{position-Some}
 use Rattle.std.proofs.lemmas.List.Sums.{sum_by-append, sum_by-take-le, sum_by_push}
+use Rattle.lists.proofs.Parts.{nones_first, same_all_over}
 use Rattle.arrow_buffers.specs.Columns.{ColumnIn, cell_len, cells_len}
 use Rattle.arrow_buffers.specs.Limits.{max_values}
 use Rattle.arrow_buffers.specs.declared.width.Width.{Width}
@@ -16,17 +17,12 @@ use Rattle.otap_columns.specs.declared.forms.ColumnForm.{ColumnForm}
 use Rattle.otap_columns.specs.declared.forms.ColumnForm.TheVariants as form
 use Rattle.otap_columns.specs.Observed.{bytes_for}
 use Rattle.otap_columns.specs.Schemas.{is_dictionary}
-use Rattle.otap_columns.specs.SeenInside.{filled_up, places_of}
+use Rattle.otap_columns.specs.SeenInside.{filled_up, places_of_cells}
 use Rattle.otap_columns.specs.WrittenCells.{FitsIndexes, place_among, stored_for, stored_column}
-use Rattle.otap_columns.specs.BuiltCells.{IsIndexFor, index_of, index_width, width_for}
+use Rattle.otap_columns.specs.BuiltCells.{IsIndexFor, index_of, index_size, width_for}
 use Rattle.otap_columns.proofs.ColumnsBuilt.{index_stored}
 
 -- ---- indexes, one after the other
-
-map_take : {A B : Type 0} (f : A → B) (k : ℕ) (xs : List A) → map f (take k xs) ≡ take k (map f xs)
-map_take f zero xs = refl
-map_take f (suc k) [] = refl
-map_take f (suc k) (x ∷ xs) = ap (λ ys. f x ∷ ys) (map_take f k xs)
 
 -- all that is written so far and the next index have room
 pub index_room : (f : ColumnForm) (places : List (Option ℕ)) (row : ℕ) (w : Width) (b : ColumnIn) → row < length places → b ≡ record { width = w; cells = map (index_of f) (take row places) }
@@ -36,7 +32,7 @@ index_room f places row w b low is room =
     let before = map (index_of f) (take row places) in
     let sum : cells_len (before ++ x ∷ []) ≡ cells_len before + cell_len x = sum_by_push cell_len before x in
     let more : before ++ x ∷ [] ≡ take (row + 1) (map (index_of f) places) =
-    sym (map-append (index_of f) (take row places) (get_or places row None ∷ [])) ∙ ap (map (index_of f)) (sym (take_more places row None low)) ∙ map_take (index_of f) (row + 1) places in
+    sym (map-append (index_of f) (take row places) (get_or places row None ∷ [])) ∙ ap (map (index_of f)) (sym (take_more places row None low)) ∙ sym (take-map (index_of f) (row + 1) places) in
     let short = sum_by-take-le cell_len (map (index_of f) places) (row + 1) in
     omega (arith, sum, ap cells_len more, short, ap (λ (k : ColumnIn). cells_len k.cells) is, room)
 
@@ -59,30 +55,25 @@ place_reached f values (Some value) dictionary few = by (position (bytes_eq valu
 
 -- the indexes of a form reach all places
 places_reached : (holds : Base) (f : ColumnForm) (values : List (List ℕ)) (cells : List Cell) → is_dictionary f ≡ true → FitsIndexes f (length values)
-    → (row : ℕ) → IsIndexFor f (get_or (places_of holds f values cells) row None)
+    → (row : ℕ) → IsIndexFor f (get_or (places_of_cells holds f values cells) row None)
 places_reached holds f values [] dictionary few row = tt
 places_reached holds f values (cell ∷ cells) dictionary few zero = place_reached f values (bytes_for holds f cell) dictionary few
 places_reached holds f values (cell ∷ cells) dictionary few (suc row) = places_reached holds f values cells dictionary few row
 
-indexes_stored : (holds : Base) (f : ColumnForm) (values : List (List ℕ)) (cells : List Cell) → is_dictionary f ≡ true → map (index_of f) (places_of holds f values cells) ≡ map (stored_for holds f values) cells
+indexes_stored : (holds : Base) (f : ColumnForm) (values : List (List ℕ)) (cells : List Cell) → is_dictionary f ≡ true → map (index_of f) (places_of_cells holds f values cells) ≡ map (stored_for holds f values) cells
 indexes_stored holds f values [] dictionary = refl
 indexes_stored holds f values (cell ∷ cells) dictionary = λ i. index_stored holds f values cell dictionary i ∷ indexes_stored holds f values cells dictionary i
 
 -- and are what is written
 pub indexes_column : (f : ColumnForm) (values : List (List ℕ)) (t : Table) (column : ℕ) → is_dictionary f ≡ true
-    → map (index_of f) (places_of (base_at t.kind column) f values (column_in t.rows column)) ≡ stored_column f values t column
+    → map (index_of f) (places_of_cells (base_at t.kind column) f values (column_in t.rows column)) ≡ stored_column f values t column
 unfolding stored_column
 indexes_column f values t column dictionary = indexes_stored (base_at t.kind column) f values (column_in t.rows column) dictionary
 
 -- ---- nulls after the places
 
-nothing_at : (n row : ℕ) (cell : Option ℕ) → get_or (replicate n cell) row cell ≡ cell
-nothing_at zero row cell = refl
-nothing_at (suc n) zero cell = refl
-nothing_at (suc n) (suc row) cell = nothing_at n row cell
-
 filled_at : (places : List (Option ℕ)) (n row : ℕ) → get_or (places ++ replicate n None) row None ≡ get_or places row None
-filled_at [] n row = nothing_at n row None
+filled_at [] n row = same_all_over {A = Option ℕ} n None row
 filled_at (place ∷ places) n zero = refl
 filled_at (place ∷ places) n (suc row) = filled_at places n row
 
@@ -90,15 +81,8 @@ no_indexes : (f : ColumnForm) (n : ℕ) → map (index_of f) (replicate n None) 
 no_indexes f zero = refl
 no_indexes f (suc n) = ap (λ (xs : List (Option (List ℕ))). None ∷ xs) (no_indexes f n)
 
-nones_placed : (k : ℕ) (places : List (Option ℕ)) → ((row : ℕ) → row < k → get_or places row None ≡ None) → k ≤ length places → replicate k None ≡ take k places
-nones_placed zero places none low = refl
-nones_placed (suc k) [] none low = absurd (omega (arith, low))
-nones_placed (suc k) (None ∷ places) none low =
-    ap (λ (ps : List (Option ℕ)). None ∷ ps) (nones_placed k places (λ row lt. none (suc row) (omega (arith, lt))) (omega (arith, low)))
-nones_placed (suc k) (Some place ∷ places) none low = absurd (let wrong : Some place ≡ None = none 0 (omega arith) in cc)
-
 pub nulls_indexed : (f : ColumnForm) (k : ℕ) (places : List (Option ℕ)) → ((row : ℕ) → row < k → get_or places row None ≡ None) → k ≤ length places → replicate k None ≡ map (index_of f) (take k places)
-nulls_indexed f k places none low = sym (no_indexes f k) ∙ ap (map (index_of f)) (nones_placed k places none low)
+nulls_indexed f k places none low = sym (no_indexes f k) ∙ ap (map (index_of f)) (nones_first k places none low)
 
 pub filled_indexes : (f : ColumnForm) (places : List (Option ℕ)) (n : ℕ) → map (index_of f) (places ++ replicate n None) ≡ map (index_of f) places ++ replicate n None
 filled_indexes f places n = map-append (index_of f) places (replicate n None) ∙ ap (λ (xs : List (Option (List ℕ))). map (index_of f) places ++ xs) (no_indexes f n)
@@ -108,7 +92,7 @@ filled_room f places n =
     let sum : cells_len (map (index_of f) places ++ replicate n None) ≡ cells_len (map (index_of f) places) + cells_len (replicate n None) = sum_by-append cell_len (map (index_of f) places) (replicate n None) in
     omega (arith, ap cells_len (filled_indexes f places n), sum)
 
-module _ (holds : Base) (f : ColumnForm) (values : List (List ℕ)) (t : Table) (column : ℕ) (places : List (Option ℕ)) (is : filled_up (length t.rows) places ≡ places_of holds f values (column_in t.rows column)) where
+module _ (holds : Base) (f : ColumnForm) (values : List (List ℕ)) (t : Table) (column : ℕ) (places : List (Option ℕ)) (is : filled_up (length t.rows) places ≡ places_of_cells holds f values (column_in t.rows column)) where
   pub filled_few : length places ≤ length t.rows
   filled_few =
       let all : length (filled_up (length t.rows) places) ≡ length t.rows =
@@ -121,7 +105,7 @@ module _ (holds : Base) (f : ColumnForm) (values : List (List ℕ)) (t : Table) 
       subst (IsIndexFor f) (filled_at places (length t.rows - length places) row)
       (subst (λ (ps : List (Option ℕ)). IsIndexFor f (get_or ps row None)) (sym is) (places_reached holds f values (column_in t.rows column) dictionary few row))
 
-pub index_fixed : (holds : Base) (f : ColumnForm) → is_dictionary f ≡ true → Fixed (index_width f) ≡ width_for holds f
+pub index_fixed : (holds : Base) (f : ColumnForm) → is_dictionary f ≡ true → Fixed (index_size f) ≡ width_for holds f
 index_fixed holds form.Dict8 dictionary = refl
 index_fixed holds form.Dict16 dictionary = refl
 index_fixed holds form.Absent dictionary = absurd (false≢true dictionary)

@@ -1,20 +1,21 @@
 -- A record that was read message by message, judged as a whole.
-use Rattle.std.proofs.Common.{◌≡◌, ℕ, Bool, true, false, List, [], ◌∷◌, ◌++◌, length, get_or, drop, zero, suc, ◌<◌, Option, Some, None, Ok, refl, sym, ap, ◌∙◌, subst, append_assoc, append-nil, arith, inl, inr}
-use Rattle.std.specs.Prelude.{ℤ, not, is_ok}
+use Rattle.std.proofs.Common.{◌≡◌, ℕ, Bool, true, false, List, [], ◌∷◌, ◌++◌, drop, Option, Some, None, Ok, refl, sym, ap, ◌∙◌, subst, append_assoc, append-nil, inl, inr}
+use Rattle.std.specs.Prelude.{ℤ, is_ok}
 use Rattle.std.specs.List.{list_any, list_all, flat_map}
-use Rattle.std.proofs.lemmas.Bool.{false≢true, and_parts}
+use Rattle.std.proofs.lemmas.Bool.{false≢true, not-true}
 use Rattle.std.proofs.lemmas.List.Folds.{list_any-append}
 use Rattle.std.proofs.lemmas.Grind.{flat_map-append}
 use Rattle.lists.specs.EachAfter.{AllAfter}
 use Rattle.lists.specs.Since.{last_after}
 use Rattle.lists.proofs.Growing.{all_after-append, all_after-weaker}
 use Rattle.lists.proofs.Latest.{last_after-push}
+use Rattle.lists.proofs.Every.{all_pass_at}
 use Rattle.arrow_schema.specs.declared.spec.FieldSpec.{FieldSpec}
 use Rattle.arrow_buffers.specs.declared.fault.BufferFault.{BufferFault}
 use Rattle.arrow_ipc.specs.declared.messages.IpcMessage.{IpcMessage}
 use Rattle.arrow_ipc.specs.declared.messages.IpcMessage.TheVariants.{Schema, Dictionary, Rows}
 use Rattle.arrow_ipc.specs.Batches.{BatchIn}
-use Rattle.arrow_ipc.specs.Fronts.{MessagesIn, front_of, left_of, rest_of, rows_in}
+use Rattle.arrow_ipc.specs.Fronts.{MessagesIn, front_of, left_of, rest_of, record_batch_in}
 use Rattle.arrow_arrays.specs.Arrays.{arrays_of, arrays_check}
 use Rattle.arrow_arrays.proofs.Checked.{fault_fails}
 use Rattle.otap_cells.specs.declared.payload.Kind.{Kind}
@@ -24,11 +25,20 @@ use Rattle.otap_columns.specs.Dictionaries.{DictionaryIn}
 use Rattle.otap_columns.specs.Known.{columns_fit}
 use Rattle.otap_columns.specs.Records.{is_schema, is_rows, is_fine_for, HasValueFault, HasFineBuffers, begins_otherwise, schema_later, more_after_rows, no_rows, unknown_id, ends_badly, other_type}
 use Rattle.otap_columns.specs.Records.{bad_buffers, bad_index, too_many_values, Refuses, IsFineBatch, IsFineIn, IsFine, IsRead}
-use Rattle.otap_columns.specs.Reading.{TakesBatch, GoneSoFar, TakesRecord, RefusesFirst, RefusesOrder, RefusesEnd, opened, RefusesOpen, with_batch, RefusesFirstBatch, RefusesMessage, TakesAll}
-use Rattle.otap_columns.specs.Reading.{FitsRows, RefusesRows, RefusesAtRows, RefusesRecord}
-use Rattle.otap_columns.specs.Substreams.{SubstreamIn, substream_in, rows_of, last_rows}
-use Rattle.otap_columns.specs.Views.{ReaderIn, StandsAt}
+use Rattle.otap_columns.specs.Reading.{TakesBatch, TakesRecord, RefusesFirst, RefusesOrder, RefusesEnd, opened, RefusesOpen, with_batch, RefusesFirstBatch, RefusesMessage, TakesAll}
+use Rattle.otap_columns.specs.Reading.{FitsRows, RefusesRows, RefusesAtRows, RefusesRecord, KeepsReader}
+use Rattle.otap_columns.specs.Substreams.{SubstreamIn, substream_in, record_batches, last_rows}
+use Rattle.otap_columns.specs.Views.{ReaderIn, StandsForRecord}
 use Rattle.otap_columns.proofs.Growing.{substream-batch, substream-rows, some_messages, substream-opened, substream-none}
+
+-- so far dictionary batches alone were taken
+pub record GoneSoFar (old : ReaderIn) (m : MessagesIn) (new : ReaderIn) (m' : MessagesIn) : Type 0 where
+  pub messages : List IpcMessage
+  pub takes : TakesAll old.substream messages new.substream
+  pub front : front_of (rest_of m) ≡ messages ++ front_of (rest_of m')
+  pub left : left_of (rest_of m) ≡ left_of (rest_of m')
+  pub bytes : m'.bytes ≡ m.bytes
+  pub keeps : KeepsReader old new
 
 -- what is fine in a sub-stream that is this one
 pub fine_in : (kind : Kind) (before : List IpcMessage) (m : IpcMessage) (s : SubstreamIn) → substream_in before ≡ Some s → IsFineIn kind before (Some s) m → IsFine kind before m
@@ -55,14 +65,9 @@ takes_more s t u a b first then' = record {
 
 -- ---- a fine message has no fault in its buffers
 
-all_at : {A : Type 0} (p : A → Bool) (xs : List A) (k : ℕ) (d : A) → list_all p xs ≡ true → k < length xs → p (get_or xs k d) ≡ true
-all_at p [] k d h below = absurd (omega (arith, below))
-all_at p (x ∷ xs) zero d h below = (and_parts (p x) (list_all p xs) h).0
-all_at p (x ∷ xs) (suc k) d h below = all_at p xs k d (and_parts (p x) (list_all p xs) h).1 (omega (arith, below))
-
 values_fine : (ds : List DictionaryIn) (id : ℤ) (batch : BatchIn) (fault : BufferFault) → list_all (is_fine_for id batch) ds ≡ true → HasValueFault ds id batch fault → ⊥
 values_fine ds id batch fault fine (k, d, below, at, bad) =
-    let here : is_fine_for id batch d ≡ true = ap (is_fine_for id batch) (sym at) ∙ all_at (is_fine_for id batch) ds k d fine below in
+    let here : is_fine_for id batch d ≡ true = ap (is_fine_for id batch) (sym at) ∙ all_pass_at (is_fine_for id batch) ds k d fine below in
     false≢true (rw (bad.0, bad.1) at here)
 
 pub fine_buffers : (kind : Kind) (before : List IpcMessage) (m : IpcMessage) → IsFine kind before m → HasFineBuffers before m
@@ -178,7 +183,7 @@ record_refused kind past bytes read front s refusal r b =
 
 last_rows-push : (ms : List IpcMessage) (batch : BatchIn) → last_rows (ms ++ Rows batch ∷ []) ≡ Some batch
 unfolding last_rows
-last_rows-push ms batch = ap (last_after None) (flat_map-append rows_of ms (Rows batch ∷ [])) ∙ last_after-push None (flat_map rows_of ms) batch
+last_rows-push ms batch = ap (last_after None) (flat_map-append record_batches ms (Rows batch ∷ [])) ∙ last_after-push None (flat_map record_batches ms) batch
 
 module _ (kind : Kind) (past : List IpcMessage) (bytes : List ℕ) (read : List IpcMessage) (batch : BatchIn) (s : SubstreamIn) (r : Read kind past bytes read (Rows batch ∷ []) s) where
   after_rows : substream_in (past ++ front_of bytes) ≡ Some s
@@ -200,7 +205,7 @@ module _ (kind : Kind) (past : List IpcMessage) (bytes : List ℕ) (read : List 
     indexes = fits.indexes;
   }
 
-  pub stands_is : (new : ReaderIn) → new.substream ≡ s → rows_in (drop new.place bytes) ≡ Some batch → StandsAt (past ++ front_of bytes) bytes new
+  pub stands_is : (new : ReaderIn) → new.substream ≡ s → record_batch_in (drop new.place bytes) ≡ Some batch → StandsForRecord (past ++ front_of bytes) bytes new
   stands_is new is finds = record {
     stands = after_rows ∙ ap Some (sym is);
     finds =
@@ -224,13 +229,9 @@ read_schema kind bytes fields front is types = record {
 }
 
 -- why it doesn't
-no_schema : (b : Bool) → not b ≡ true → b ≡ false
-no_schema true h = absurd (false≢true h)
-no_schema false h = refl
-
 pub first_refused : (kind : Kind) (bytes : List ℕ) (refusal : ColumnRefusal) → RefusesFirst (front_of bytes) (left_of bytes) refusal → Refuses kind [] bytes refusal
 first_refused kind bytes Order (inl end) = no_rows end.1 (ap (list_any is_rows) end.0)
-first_refused kind bytes Order (inr (m, after, first, other)) = begins_otherwise m after refl first (no_schema (is_schema m) other)
+first_refused kind bytes Order (inr (m, after, first, other)) = begins_otherwise m after refl first (not-true (is_schema m) other)
 first_refused kind bytes (Ipc fault) at = ends_badly fault at.1
 first_refused kind bytes Column h = absurd h
 first_refused kind bytes (Buffers fault) h = absurd h
@@ -268,10 +269,10 @@ gone_on old m so_far m' new m'' g t kind broken = record {
 -- the whole record
 pub record_read : (kind : Kind) (past : List IpcMessage) (bytes : List ℕ) (read front : List IpcMessage) (old : ReaderIn) (m : MessagesIn) (new final : ReaderIn)
     → Read kind past bytes read front old.substream → front_of (rest_of m) ≡ front → left_of (rest_of m) ≡ left_of bytes → m.bytes ≡ bytes → TakesRecord old m new
-    → final.substream ≡ new.substream → final.place ≡ new.place → IsRead kind past bytes × StandsAt (past ++ front_of bytes) bytes final
+    → final.substream ≡ new.substream → final.place ≡ new.place → IsRead kind past bytes × StandsForRecord (past ++ front_of bytes) bytes final
 record_read kind past bytes read front old m new final r front_is left_is bytes_is t same place =
     let more : Read kind past bytes (read ++ t.messages) (Rows t.batch ∷ []) new.substream =
     read_more kind past bytes read front old.substream t.messages (Rows t.batch ∷ []) new.substream r t.takes (sym front_is ∙ t.front) in (
       read_is kind past bytes (read ++ t.messages) t.batch new.substream more (sym left_is ∙ t.left) t.fits,
-      stands_is kind past bytes (read ++ t.messages) t.batch new.substream more final same ((λ i. rows_in (drop (place i) (sym bytes_is i))) ∙ t.finds),
+      stands_is kind past bytes (read ++ t.messages) t.batch new.substream more final same ((λ i. record_batch_in (drop (place i) (sym bytes_is i))) ∙ t.finds),
     )

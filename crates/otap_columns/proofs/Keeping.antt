@@ -14,13 +14,13 @@ use Rattle.arrow_buffers.proofs.EachBelow.{all_below-at}
 use Rattle.otap_cells.specs.declared.payload.Kind.{Kind}
 use Rattle.otap_cells.specs.declared.profile.Base.{Base}
 use Rattle.otap_cells.specs.declared.profile.Base.TheVariants as base
-use Rattle.otap_cells.specs.Columns.{ColumnSpec, columns_of, column_at, width_of, place_of}
+use Rattle.otap_cells.specs.Columns.{ColumnSpec, columns_of, column_at, width_of, place_of_path}
 use Rattle.otap_columns.specs.declared.forms.ColumnForm.{ColumnForm}
 use Rattle.otap_columns.specs.declared.forms.ColumnForm.TheVariants as form
 use Rattle.otap_columns.specs.Known.{is_column}
 use Rattle.otap_columns.specs.Groups.{Member, Group, grouped}
 use Rattle.otap_columns.specs.Groups as group
-use Rattle.otap_columns.specs.Schemas.{Forms, is_there, fits_form, FormsFit, id_type, type_in, item_in, dict_for, leaf_in, members_there, branches_under, branches_in, branches_for, schema_for}
+use Rattle.otap_columns.specs.Schemas.{Forms, is_there, fits_form, FormsFit, id_type, arrow_type_in, item_in, dict_for, leaf_in, members_there, branches_under, branches_in, branches_for, schema_for}
 use Rattle.otap_columns.proofs.Finding.{place_below}
 use Rattle.otap_columns.proofs.Grouping.{under_tests, ascii_text, is_ascii, is_member, is_group, group_name, member_size, group_size, may_be_dictionary, kinds_grouped}
 
@@ -33,7 +33,7 @@ id_supported form.Dict8 = refl
 id_supported form.Dict16 = refl
 id_supported form.Wide = refl
 
-type_supported : (b : Base) (f : ColumnForm) → is_supported (type_in b f) ≡ true
+type_supported : (b : Base) (f : ColumnForm) → is_supported (arrow_type_in b f) ≡ true
 type_supported base.U8 f = refl
 type_supported base.U16 f = refl
 type_supported base.U32 f = refl
@@ -59,7 +59,7 @@ id_no_list form.Dict8 = refl
 id_no_list form.Dict16 = refl
 id_no_list form.Wide = refl
 
-pub type_item : (b : Base) (f : ColumnForm) → FitsItem (type_in b f) (item_in b)
+pub type_item : (b : Base) (f : ColumnForm) → FitsItem (arrow_type_in b f) (item_in b)
 type_item base.U8 f = refl
 type_item base.U16 f = refl
 type_item base.U32 f = refl
@@ -86,7 +86,7 @@ id_takes form.Dict8 = refl
 id_takes form.Dict16 = refl
 id_takes form.Wide = refl
 
-type_takes : (b : Base) (f : ColumnForm) → takes_dictionary (type_in b form.Plain) ≡ true → takes_dictionary (type_in b f) ≡ true
+type_takes : (b : Base) (f : ColumnForm) → takes_dictionary (arrow_type_in b form.Plain) ≡ true → takes_dictionary (arrow_type_in b f) ≡ true
 type_takes base.U8 f is = is
 type_takes base.U16 f is = is
 type_takes base.U32 f is = is
@@ -105,7 +105,7 @@ type_takes base.ListU64 f is = is
 type_takes base.ListF64 f is = is
 type_takes (base.Id wide) f is = id_takes f
 
-pub marked_takes : (c : ColumnSpec) → c.dictionary ≡ true → may_be_dictionary c ≡ true → takes_dictionary (type_in c.base form.Plain) ≡ true
+pub marked_takes : (c : ColumnSpec) → c.dictionary ≡ true → may_be_dictionary c ≡ true → takes_dictionary (arrow_type_in c.base form.Plain) ≡ true
 marked_takes c marked may = rw marked at may
 
 -- a path that leads to a column
@@ -116,33 +116,33 @@ member_place column (Some k) is = ap Some (eqb-true k column is)
 module _ (kind : Kind) (forms : Forms) (fit : FormsFit kind forms) where
   -- the type of each dictionary, by its id
   types : ℤ → ArrowType
-  types (pos column) = type_in (column_at kind column).base (forms column)
+  types (pos column) = arrow_type_in (column_at kind column).base (forms column)
   types (negsuc n) = arrow.Double
 
   pub member_below : (above : List (List ℕ)) (m : Member) → is_member (columns_of kind) above m ≡ true → m.column < width_of kind
   member_below above m is =
       place_below (columns_of kind) (above ++ m.name ∷ []) m.column
-      (member_place m.column (place_of (columns_of kind) (above ++ m.name ∷ [])) (and_parts (is_ascii m.name) (is_column m.column (place_of (columns_of kind) (above ++ m.name ∷ []))) is).1)
+      (member_place m.column (place_of_path (columns_of kind) (above ++ m.name ∷ [])) (and_parts (is_ascii m.name) (is_column m.column (place_of_path (columns_of kind) (above ++ m.name ∷ []))) is).1)
 
-  dictionary_fits : (column : ℕ) (f : ColumnForm) → column < width_of kind → (column_at kind column).dictionary ≡ true → takes_dictionary (type_in (column_at kind column).base f) ≡ true
+  dictionary_fits : (column : ℕ) (f : ColumnForm) → column < width_of kind → (column_at kind column).dictionary ≡ true → takes_dictionary (arrow_type_in (column_at kind column).base f) ≡ true
   dictionary_fits column f below marked =
       type_takes (column_at kind column).base f
       (marked_takes (column_at kind column) marked (all_below-at (λ (c : ℕ). may_be_dictionary (column_at kind c)) (width_of kind) column (kinds_grouped kind).dictionaries below))
 
   types_fit : (column : ℕ) (f : ColumnForm) → column < width_of kind → forms column ≡ f → fits_form (column_at kind column) f ≡ true
-      → FitsTypes types (type_in (column_at kind column).base f) (dict_for column f)
+      → FitsTypes types (arrow_type_in (column_at kind column).base f) (dict_for column f)
   unfolding types
   types_fit column form.Absent below is fits = tt
   types_fit column form.Plain below is fits = tt
-  types_fit column form.Dict8 below is fits = (dictionary_fits column form.Dict8 below fits, ap (type_in (column_at kind column).base) is)
-  types_fit column form.Dict16 below is fits = (dictionary_fits column form.Dict16 below fits, ap (type_in (column_at kind column).base) is)
+  types_fit column form.Dict8 below is fits = (dictionary_fits column form.Dict8 below fits, ap (arrow_type_in (column_at kind column).base) is)
+  types_fit column form.Dict16 below is fits = (dictionary_fits column form.Dict16 below fits, ap (arrow_type_in (column_at kind column).base) is)
   types_fit column form.Wide below is fits = tt
 
   member_leaf : (above : List (List ℕ)) (m : Member) → is_member (columns_of kind) above m ≡ true → IsLeaf types (leaf_in kind forms m)
   member_leaf above m is =
       let below = member_below above m is in
       record {
-        text = ascii_text m.name (and_parts (is_ascii m.name) (is_column m.column (place_of (columns_of kind) (above ++ m.name ∷ []))) is).0;
+        text = ascii_text m.name (and_parts (is_ascii m.name) (is_column m.column (place_of_path (columns_of kind) (above ++ m.name ∷ []))) is).0;
         supported = type_supported (column_at kind m.column).base (forms m.column);
         dictionary = types_fit m.column (forms m.column) below refl (fit m.column below);
         item = type_item (column_at kind m.column).base (forms m.column);

@@ -1,4 +1,5 @@
 pub mod Openings
+pub mod KindTables
 pub mod Finding
 pub mod PathsNamed
 pub mod Storing

@@ -2,13 +2,14 @@
 use Rattle.std.proofs.Common.{◌≡◌, ℕ, zero, suc, ◌+◌, ◌<◌, Bool, true, false, List, [], ◌∷◌, ◌++◌, map, length, slice_get, get_or, Option, None, Some, refl, sym, ap, ◌∙◌, subst, inl, inr, arith}
 use Rattle.std.specs.Prelude.{◌&&◌, ◌||◌, not, option_map}
 use Rattle.std.specs.List.{list_any, flat_map, range_with_len, position_from}
-use Rattle.std.proofs.lemmas.Bool.{cases_Bool, and_from, eqb-true, false≢true, true≢false}
+use Rattle.std.proofs.lemmas.Bool.{cases_Bool, and_from, eqb-true, true≢false}
 use Rattle.std.proofs.lemmas.Iterator.Adapters.{position_from-zero}
 use Rattle.std.proofs.lemmas.List.{length-map, map-append}
 use Rattle.std.proofs.lemmas.List.Folds.{list_any-append}
 use Rattle.std.proofs.lemmas.List.FromFn.{length-map-range_with_len, get_or-map-range_with_len}
 use Rattle.std.proofs.lemmas.Option.{slice_get-map, slice_get_within, get_or_from_slice_get}
 use Rattle.std.proofs.Math.Bool.{or-true}
+use Rattle.lists.proofs.Every.{map_over}
 use Rattle.arrow_schema.specs.declared.spec.ArrowType.{ArrowType}
 use Rattle.arrow_schema.specs.declared.spec.ArrowType.TheVariants as arrow
 use Rattle.arrow_schema.specs.declared.spec.Encoding.TheVariants as encoding
@@ -16,8 +17,8 @@ use Rattle.arrow_buffers.proofs.EachBelow.{all_below-at, all_below-each}
 use Rattle.arrow_arrays.specs.declared.spec.Above.{Above}
 use Rattle.arrow_arrays.specs.declared.spec.Above.TheVariants as parent
 use Rattle.arrow_arrays.specs.declared.spec.ArraySpec.{ArraySpec}
-use Rattle.arrow_arrays.specs.Arrays.{is_element, arrays_of, path_below, path_to, path_within, path_of}
-use Rattle.arrow_arrays.specs.Fields.{FieldIn, field_of}
+use Rattle.arrow_arrays.specs.Arrays.{is_below_list, arrays_of, path_below, path_to, path_within, path_of}
+use Rattle.arrow_arrays.specs.Fields.{FieldIn, field_of_array}
 use Rattle.arrow_arrays.proofs.Walked.{fields_law}
 use Rattle.arrow_arrays.proofs.PathsWalked.{paths_law}
 use Rattle.otap_cells.specs.declared.payload.Kind.{Kind}
@@ -25,35 +26,20 @@ use Rattle.otap_cells.specs.declared.profile.Base.{Base}
 use Rattle.otap_cells.specs.declared.profile.Base.TheVariants as base
 use Rattle.otap_cells.specs.Bases.{is_id}
 use Rattle.otap_cells.specs.Columns.{columns_of, column_at, base_at, width_of}
+use Rattle.otap_dicts.proofs.Places.{found_from}
 use Rattle.otap_columns.specs.declared.forms.ColumnForm.{ColumnForm}
 use Rattle.otap_columns.specs.declared.forms.ColumnForm.TheVariants as form
 use Rattle.otap_columns.specs.Known.{is_column, known_column, known_columns, place_in, place_at, elements_at, stores, fits_encoding, fits_as, fits_column, fits_at, columns_fit}
 use Rattle.otap_columns.specs.Groups.{Member, Group, grouped}
 use Rattle.otap_columns.specs.Groups as group
-use Rattle.otap_columns.specs.Schemas.{Forms, is_there, FormsFit, id_type, type_in, item_in, dict_for, members_there, schema_for, ArraySlot, Struct, Column, Items, items_after, slots_of_member}
+use Rattle.otap_columns.specs.Schemas.{Forms, is_there, FormsFit, id_type, arrow_type_in, item_in, dict_for, members_there, schema_for, ArraySlot, Struct, Column, Items, items_after, slots_of_member}
 use Rattle.otap_columns.specs.Schemas.{slots_under, slots_in, slots_for, item_type, slot_field, slot_column, IsArraySlot, IsFound}
 use Rattle.otap_columns.proofs.Finding.{PassesAt, passes_at}
 use Rattle.otap_columns.proofs.Grouping.{members_of, is_of, has_column, kinds_grouped}
-use Rattle.otap_columns.proofs.Keeping.{schema_readable}
+use Rattle.otap_columns.proofs.Keeping.{schema_readable, member_place}
 use Rattle.otap_columns.proofs.Slotted.{is_empty, not_empty, fact_of, slot_fact, FollowsItem, HasItems, Follow, schema_slots}
 
 -- ---- lists
-
-map-comp : {A B C : Type 0} (f : B → C) (g : A → B) (xs : List A) → map (λ x. f (g x)) xs ≡ map f (map g xs)
-map-comp f g [] = refl
-map-comp f g (x ∷ xs) = λ i. f (g x) ∷ map-comp f g xs i
-
--- the first place at which a test passes, where it passes at all
-any_found : {A : Type 0} (p : A → Bool) (from : ℕ) (xs : List A) → list_any p xs ≡ true → (place : ℕ) × (position_from p from xs ≡ Some place)
-any_found p from [] is = absurd (false≢true is)
-any_found p from (x ∷ xs) is =
-    elim (cases_Bool (p x)) [
-      | inl here ↦ (from, rw here refl)
-      | inr other ↦
-          let later : list_any p xs ≡ true = rw other at is in
-          let rest = any_found p (from + 1) xs later in
-          (rest.0, rw other rest.1)
-    ]
 
 none_found : {A : Type 0} (p : A → Bool) (from : ℕ) (xs : List A) → list_any p xs ≡ false → position_from p from xs ≡ None
 none_found p from [] is = refl
@@ -68,19 +54,15 @@ get_within [] i below = absurd (omega (arith, below))
 get_within (x ∷ xs) zero below = (x, refl)
 get_within (x ∷ xs) (suc i) below = get_within xs i (omega (arith, below))
 
-column_is : (column : ℕ) (found : Option ℕ) → is_column column found ≡ true → found ≡ Some column
-column_is column None is = absurd (false≢true is)
-column_is column (Some k) is = ap Some (eqb-true k column is)
-
 -- ---- paths
 
-below_empty : (path : ℕ → List (List ℕ)) (above : Above) (name : List ℕ) → is_empty (path_below path above name) ≡ is_element above
+below_empty : (path : ℕ → List (List ℕ)) (above : Above) (name : List ℕ) → is_empty (path_below path above name) ≡ is_below_list above
 unfolding is_empty
 below_empty path parent.Top name = refl
 below_empty path (parent.Struct above) name = not_empty (path above) name
 below_empty path parent.List name = refl
 
-path_empty : (depth : ℕ) (arrays : List ArraySpec) (place : ℕ) (a : ArraySpec) → slice_get arrays place ≡ Some a → is_empty (path_within (suc depth) arrays place) ≡ is_element a.above
+path_empty : (depth : ℕ) (arrays : List ArraySpec) (place : ℕ) (a : ArraySpec) → slice_get arrays place ≡ Some a → is_empty (path_within (suc depth) arrays place) ≡ is_below_list a.above
 unfolding path_within
 path_empty depth arrays place a at =
     ap (λ (found : Option ArraySpec). is_empty (path_to (path_within depth arrays) found)) at ∙ below_empty (path_within depth arrays) a.above a.name
@@ -94,7 +76,7 @@ id_stored form.Dict8 wide elements = refl
 id_stored form.Dict16 wide elements = refl
 id_stored form.Wide wide elements = refl
 
-type_stored : (b : Base) (f : ColumnForm) (elements : Option ArrowType) → ((item : ArrowType) → item_in b ≡ Some item → elements ≡ Some item) → stores b (type_in b f) elements ≡ true
+type_stored : (b : Base) (f : ColumnForm) (elements : Option ArrowType) → ((item : ArrowType) → item_in b ≡ Some item → elements ≡ Some item) → stores b (arrow_type_in b f) elements ≡ true
 type_stored base.U8 f elements items = refl
 type_stored base.U16 f elements items = refl
 type_stored base.U32 f elements items = refl
@@ -199,23 +181,23 @@ module _ (kind : Kind) (forms : Forms) where
     abbrev slots : List ArraySlot
     slots = slots_for kind forms
 
-    fields_are : map field_of arrays ≡ map (slot_field kind forms) slots
+    fields_are : map field_of_array arrays ≡ map (slot_field kind forms) slots
     fields_are = fields_law (schema_for kind forms) ∙ (schema_slots kind forms).flat
 
     pub count_is : length arrays ≡ length slots
-    count_is = sym (length-map arrays field_of) ∙ ap (λ (fs : List FieldIn). length fs) fields_are ∙ length-map slots (slot_field kind forms)
+    count_is = sym (length-map arrays field_of_array) ∙ ap (λ (fs : List FieldIn). length fs) fields_are ∙ length-map slots (slot_field kind forms)
 
     facts_are : map (λ (place : ℕ). fact_of kind forms (path_of arrays place)) (range_with_len 0 (length arrays)) ≡ map (slot_fact kind forms) slots
     facts_are =
-        map-comp (fact_of kind forms) (path_of arrays) (range_with_len 0 (length arrays))
+        map_over (path_of arrays) (fact_of kind forms) (range_with_len 0 (length arrays))
         ∙ ap (map (fact_of kind forms)) (paths_law (schema_for kind forms) (schema_readable kind forms fit))
         ∙ (schema_slots kind forms).facts
 
     known_are : known_columns kind arrays ≡ map slot_column slots
     unfolding known_columns fact_of slot_fact
     known_are =
-        map-comp (λ (f : Option ℕ × Bool). f.0) (λ (place : ℕ). fact_of kind forms (path_of arrays place)) (range_with_len 0 (length arrays))
-        ∙ ap (map (λ (f : Option ℕ × Bool). f.0)) facts_are ∙ sym (map-comp (λ (f : Option ℕ × Bool). f.0) (slot_fact kind forms) slots)
+        map_over (λ (place : ℕ). fact_of kind forms (path_of arrays place)) (λ (f : Option ℕ × Bool). f.0) (range_with_len 0 (length arrays))
+        ∙ ap (map (λ (f : Option ℕ × Bool). f.0)) facts_are ∙ sym (map_over (slot_fact kind forms) (λ (f : Option ℕ × Bool). f.0) slots)
 
     fact_at : (place : ℕ) (s : ArraySlot) → slice_get slots place ≡ Some s → fact_of kind forms (path_of arrays place) ≡ slot_fact kind forms s
     fact_at place s at =
@@ -226,18 +208,18 @@ module _ (kind : Kind) (forms : Forms) where
         ∙ get_or_from_slice_get (map (slot_fact kind forms) slots) place (slot_fact kind forms s) none (slice_get-map (slot_fact kind forms) slots place ∙ ap (option_map (slot_fact kind forms)) at)
 
     -- the slot of an array, and the array of a slot
-    field_there : (place : ℕ) → option_map field_of (slice_get arrays place) ≡ option_map (slot_field kind forms) (slice_get slots place)
-    field_there place = sym (slice_get-map field_of arrays place) ∙ ap (λ (fs : List FieldIn). slice_get fs place) fields_are ∙ slice_get-map (slot_field kind forms) slots place
+    field_there : (place : ℕ) → option_map field_of_array (slice_get arrays place) ≡ option_map (slot_field kind forms) (slice_get slots place)
+    field_there place = sym (slice_get-map field_of_array arrays place) ∙ ap (λ (fs : List FieldIn). slice_get fs place) fields_are ∙ slice_get-map (slot_field kind forms) slots place
 
     slot_is : (place : ℕ) (a : ArraySpec) (s : ArraySlot) → slice_get arrays place ≡ Some a → slice_get slots place ≡ Some s → IsArraySlot kind forms place a
     unfolding fact_of slot_fact
     slot_is place a s here there =
-        let both : Some (field_of a) ≡ Some (slot_field kind forms s) = ap (option_map field_of) (sym here) ∙ field_there place ∙ ap (option_map (slot_field kind forms)) there in
+        let both : Some (field_of_array a) ≡ Some (slot_field kind forms s) = ap (option_map field_of_array) (sym here) ∙ field_there place ∙ ap (option_map (slot_field kind forms)) there in
         let fact : fact_of kind forms (path_of arrays place) ≡ slot_fact kind forms s = fact_at place s there in
         record {
           slot = s;
           at = there;
-          field = some_is (field_of a) (slot_field kind forms s) both;
+          field = some_is (field_of_array a) (slot_field kind forms s) both;
           known = ap (λ (f : Option ℕ × Bool). f.0) fact;
           element = sym (path_empty 2 arrays place a here) ∙ ap (λ (f : Option ℕ × Bool). f.1) fact;
         }
@@ -250,7 +232,7 @@ module _ (kind : Kind) (forms : Forms) where
       where
         by_slot : (o : Option ArraySlot) → slice_get slots place ≡ o → IsArraySlot kind forms place a
         by_slot None there =
-            absurd (missing (field_of a) (ap (option_map field_of) (sym here) ∙ field_there place ∙ ap (option_map (slot_field kind forms)) there))
+            absurd (missing (field_of_array a) (ap (option_map field_of_array) (sym here) ∙ field_there place ∙ ap (option_map (slot_field kind forms)) there))
           where
             missing : (x : FieldIn) → Some x ≡ None → ⊥
             missing x is = cc (is)
@@ -261,7 +243,7 @@ module _ (kind : Kind) (forms : Forms) where
       where
         by_array : (o : Option ArraySpec) → slice_get arrays place ≡ o → (a : ArraySpec) × (slice_get arrays place ≡ Some a)
         by_array None here =
-            absurd (missing (slot_field kind forms s) (ap (option_map field_of) (sym here) ∙ field_there place ∙ ap (option_map (slot_field kind forms)) there))
+            absurd (missing (slot_field kind forms s) (ap (option_map field_of_array) (sym here) ∙ field_there place ∙ ap (option_map (slot_field kind forms)) there))
           where
             missing : (x : FieldIn) → None ≡ Some x → ⊥
             missing x is = cc (is)
@@ -281,12 +263,12 @@ module _ (kind : Kind) (forms : Forms) where
 
     -- ---- each known column has its type
 
-    fits_slot : (place : ℕ) (a : ArraySpec) (s : ArraySlot) → slice_get slots place ≡ Some s → field_of a ≡ slot_field kind forms s
+    fits_slot : (place : ℕ) (a : ArraySpec) (s : ArraySlot) → slice_get slots place ≡ Some s → field_of_array a ≡ slot_field kind forms s
         → fits_as kind a.kind a.encoding (elements_at arrays place) (slot_column s) ≡ true
     fits_slot place a (Struct name) there field = refl
     fits_slot place a (Items column) there field = refl
     fits_slot place a (Column m) there field =
-        let type : a.kind ≡ type_in (column_at kind m.column).base (forms m.column) = ap (λ (f : FieldIn). f.kind) field in
+        let type : a.kind ≡ arrow_type_in (column_at kind m.column).base (forms m.column) = ap (λ (f : FieldIn). f.kind) field in
         let named : a.encoding ≡ encoding.None = ap (λ (f : FieldIn). f.encoding) field in
         and_from (stores (base_at kind m.column) a.kind (elements_at arrays place)) (fits_encoding (column_at kind m.column) a.encoding)
         (ap (λ (t : ArrowType). stores (base_at kind m.column) t (elements_at arrays place)) type
@@ -320,7 +302,7 @@ module _ (kind : Kind) (forms : Forms) where
     column_place column below there =
         let has : has_column (grouped (columns_of kind)) column ≡ true = all_below-at (has_column (grouped (columns_of kind))) (width_of kind) column (kinds_grouped kind).all below in
         let some : list_any (is_column column) (known_columns kind arrays) ≡ true = any_column column ∙ rw (there, has) refl in
-        let f = any_found (is_column column) 0 (known_columns kind arrays) some in
+        let f = found_from (is_column column) 0 (known_columns kind arrays) some in
         (f.0, position_from-zero (is_column column) (known_columns kind arrays) ∙ f.1)
 
     known_here : (column place : ℕ) → place_at kind arrays column ≡ Some place → (place < length arrays) × (known_column kind arrays place ≡ Some column)
@@ -330,16 +312,16 @@ module _ (kind : Kind) (forms : Forms) where
         passes_at (is_column column) 0 (known_columns kind arrays) place (sym (position_from-zero (is_column column) (known_columns kind arrays)) ∙ at) in
         let below : place < length arrays = omega (arith, f.below, length-map-range_with_len (known_column kind arrays) 0 (length arrays)) in
         let here : get_or (known_columns kind arrays) place None ≡ known_column kind arrays place = get_or-map-range_with_len (known_column kind arrays) 0 (length arrays) place place None below (omega arith) in
-        (below, column_is column (known_column kind arrays place) (ap (is_column column) (sym here) ∙ f.passes place None (omega arith)))
+        (below, member_place column (known_column kind arrays place) (ap (is_column column) (sym here) ∙ f.passes place None (omega arith)))
 
     -- the field of a column
-    column_field : (column : ℕ) (s : ArraySlot) (a : ArraySpec) → slot_column s ≡ Some column → field_of a ≡ slot_field kind forms s
-        → (a.kind ≡ type_in (column_at kind column).base (forms column)) × (a.dict ≡ dict_for column (forms column))
+    column_field : (column : ℕ) (s : ArraySlot) (a : ArraySpec) → slot_column s ≡ Some column → field_of_array a ≡ slot_field kind forms s
+        → (a.kind ≡ arrow_type_in (column_at kind column).base (forms column)) × (a.dict ≡ dict_for column (forms column))
     column_field column (Struct name) a is field = absurd (cc (is))
     column_field column (Items of) a is field = absurd (cc (is))
     column_field column (Column m) a is field =
         let same : m.column ≡ column = cc (is) in (
-          ap (λ (f : FieldIn). f.kind) field ∙ ap (λ (c : ℕ). type_in (column_at kind c).base (forms c)) same,
+          ap (λ (f : FieldIn). f.kind) field ∙ ap (λ (c : ℕ). arrow_type_in (column_at kind c).base (forms c)) same,
           ap (λ (f : FieldIn). f.dict) field ∙ ap (λ (c : ℕ). dict_for c (forms c)) same,
         )
 

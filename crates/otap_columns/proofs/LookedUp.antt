@@ -1,5 +1,5 @@
 -- The dictionaries of a schema's fields, and looking one up.
-use Rattle.std.proofs.Common.{◌≡◌, ℕ, suc, zero, Bool, true, false, List, [], ◌∷◌, ◌++◌, Option, Some, None, refl, sym, ap, ◌∙◌, ◌⊎◌, inl, inr}
+use Rattle.std.proofs.Common.{◌≡◌, ℕ, suc, zero, Bool, true, false, List, [], ◌∷◌, Option, Some, None, refl, sym, ap, ◌∙◌, ◌⊎◌, inl, inr}
 use Rattle.std.specs.Prelude.{ℤ, map, slice_get, find}
 use Rattle.std.specs.List.{AllByRecursion, list_any, list_all}
 use Rattle.std.specs.Ordering.{int_eq}
@@ -7,17 +7,14 @@ use Rattle.std.proofs.lemmas.Bool.{cases_Bool, and_parts, and_from, or_cases, or
 use Rattle.std.proofs.lemmas.Bool.Decides.{Decides-int_eq}
 use Rattle.std.proofs.lemmas.Cmp.{int_eq_equiv}
 use Rattle.std.proofs.lemmas.List.Folds.{list_any-append}
+use Rattle.lists.proofs.Every.{every_append}
 use Rattle.arrow_schema.specs.declared.spec.ArrowType.{ArrowType}
 use Rattle.arrow_schema.specs.declared.spec.DictSpec.{DictSpec}
 use Rattle.arrow_schema.specs.Types.{same_type}
 use Rattle.arrow_schema.proofs.Lists.{same_type_is, same_type_refl}
 use Rattle.arrow_ipc.specs.declared.messages.IpcMessage.{IpcMessage}
 use Rattle.arrow_arrays.specs.declared.spec.ArraySpec.{ArraySpec}
-use Rattle.otap_columns.specs.Dictionaries.{dictionary, DictionaryIn, has_id, is_for, with_dictionary, with_dictionaries, empty_dictionaries, filled, dictionaries_in, values_if, values_for}
-
-pub each-append : {A : Type 0} (P : A → Type 0) (xs ys : List A) → AllByRecursion P xs → AllByRecursion P ys → AllByRecursion P (xs ++ ys)
-each-append P [] ys h k = k
-each-append P (x ∷ xs) ys h k = (h.0, each-append P xs ys h.1 k)
+use Rattle.otap_columns.specs.Dictionaries.{dictionary_over, DictionaryIn, has_id, is_for, with_dictionary, with_dictionaries, empty_dictionaries, filled, dictionaries_in, values_if, values_for}
 
 -- tests of all
 pub all_by : {A B : Type 0} (test : B → Bool) (f : A → B) (xs : List A) → AllByRecursion (λ x. test (f x) ≡ true) xs → list_all test (map f xs) ≡ true
@@ -27,10 +24,6 @@ all_by test f (x ∷ xs) h = and_from (test (f x)) (list_all test (map f xs)) h.
 pub none_by : {A B : Type 0} (test : B → Bool) (f : A → B) (xs : List A) → AllByRecursion (λ x. test (f x) ≡ false) xs → list_any test (map f xs) ≡ false
 none_by test f [] h = refl
 none_by test f (x ∷ xs) h = rw h.0 (none_by test f xs h.1)
-
-pub each_weaker : {A : Type 0} (P Q : A → Type 0) → ((x : A) → P x → Q x) → (xs : List A) → AllByRecursion P xs → AllByRecursion Q xs
-each_weaker P Q weaker [] h = tt
-each_weaker P Q weaker (x ∷ xs) h = (weaker x h.0, each_weaker P Q weaker xs h.1)
 
 -- ---- a dictionary is there
 
@@ -70,22 +63,22 @@ any_there ds (b ∷ arrays) zero a dict at is =
 any_there ds (b ∷ arrays) (suc place) a dict at is = any_there (with_dictionary ds b.kind b.dict) arrays place a dict at is
 
 found_filled : (kind : ArrowType) (id : ℤ) (ms : List IpcMessage) (ds : List DictionaryIn) → list_any (is_for kind id) ds ≡ true
-    → values_if (find (is_for kind id) (map (filled ms) ds)) ≡ dictionary kind id ms
+    → values_if (find (is_for kind id) (map (filled ms) ds)) ≡ dictionary_over kind id ms
 found_filled kind id ms [] h = absurd (false≢true h)
 found_filled kind id ms (d ∷ ds) h = by (cases_Bool (is_for kind id d)) (found_filled kind id ms ds)
   where
-    by : (is_for kind id d ≡ true) ⊎ (is_for kind id d ≡ false) → (list_any (is_for kind id) ds ≡ true → values_if (find (is_for kind id) (map (filled ms) ds)) ≡ dictionary kind id ms)
-        → values_if (find (is_for kind id) (map (filled ms) (d ∷ ds))) ≡ dictionary kind id ms
+    by : (is_for kind id d ≡ true) ⊎ (is_for kind id d ≡ false) → (list_any (is_for kind id) ds ≡ true → values_if (find (is_for kind id) (map (filled ms) ds)) ≡ dictionary_over kind id ms)
+        → values_if (find (is_for kind id) (map (filled ms) (d ∷ ds))) ≡ dictionary_over kind id ms
     by (inl is) rest =
         let parts = and_parts (int_eq d.id id) (same_type d.kind kind) is in
         let same_id : d.id ≡ id = (Decides-int_eq d.id id).0 parts.0 in
         let same_kind : d.kind ≡ kind = same_type_is d.kind kind parts.1 in
-        rw is (λ i. dictionary (same_kind i) (same_id i) ms)
+        rw is (λ i. dictionary_over (same_kind i) (same_id i) ms)
     by (inr not) rest = rw not (rest (rw not at h))
 
 -- THE VALUES OF A FIELD'S DICTIONARY are those after the messages
 pub values_found : (arrays : List ArraySpec) (ms : List IpcMessage) (place : ℕ) (a : ArraySpec) (dict : DictSpec) → slice_get arrays place ≡ Some a → a.dict ≡ Some dict
-    → values_for a.kind dict.id (dictionaries_in arrays ms) ≡ dictionary a.kind dict.id ms
+    → values_for a.kind dict.id (dictionaries_in arrays ms) ≡ dictionary_over a.kind dict.id ms
 unfolding dictionaries_in empty_dictionaries
 values_found arrays ms place a dict at is = found_filled a.kind dict.id ms (with_dictionaries [] arrays) (any_there [] arrays place a dict at is)
 
@@ -114,7 +107,7 @@ each_with-one Q ds kind (Some dict) h here = by (cases_Bool (list_any (is_for ki
     by : (list_any (is_for kind dict.id) ds ≡ true) ⊎ (list_any (is_for kind dict.id) ds ≡ false)
         → AllByRecursion (λ (d : DictionaryIn). Q d.kind d.id) (with_dictionary ds kind (Some dict))
     by (inl there) = rw there h
-    by (inr none) = rw none (each-append (λ (d : DictionaryIn). Q d.kind d.id) ds (record { id = dict.id; kind = kind; values = [] } ∷ []) h (here dict refl, tt))
+    by (inr none) = rw none (every_append (λ (d : DictionaryIn). Q d.kind d.id) ds (record { id = dict.id; kind = kind; values = [] } ∷ []) h (here dict refl, tt))
 
 each_with : (Q : ArrowType → ℤ → Type 0) (ds : List DictionaryIn) (arrays : List ArraySpec) → AllByRecursion (λ (d : DictionaryIn). Q d.kind d.id) ds
     → ((place : ℕ) (a : ArraySpec) (dict : DictSpec) → slice_get arrays place ≡ Some a → a.dict ≡ Some dict → Q a.kind dict.id)

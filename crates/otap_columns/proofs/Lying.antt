@@ -1,12 +1,13 @@
 -- The values of a dictionary in its bytes, and one more.
 use Rattle.std.proofs.Common.{◌≡◌, ℕ, zero, suc, ◌+◌, ◌-◌, ◌*◌, ◌≤◌, ◌<◌, Bool, true, false, List, [], ◌∷◌, ◌++◌, length, get_or, take, drop, Option, Some, None, refl, sym, ap, ◌∙◌, arith, length-append, length-drop}
-use Rattle.std.specs.Prelude.{not, sum_by, is_some, if◌then◌else◌}
-use Rattle.std.proofs.lemmas.List.{take-append-le, drop-append-le, take_all, length-take, get_or_past}
+use Rattle.std.specs.Prelude.{sum_by, is_some, if◌then◌else◌}
+use Rattle.std.proofs.lemmas.List.{drop-append-le, take_all, length-take, get_or_past}
 use Rattle.std.proofs.lemmas.List.Sums.{sum_by-cons}
+use Rattle.lists.proofs.Parts.{part_stays}
 use Rattle.arrow_buffers.specs.Columns.{cell_len}
 use Rattle.otap_columns.specs.declared.ends.End.{End}
 use Rattle.otap_columns.specs.Dictionaries.{value_weight}
-use Rattle.otap_columns.specs.Ends.{value_between, values_by, start_of, IsEnd, AreEnds, bytes_in}
+use Rattle.otap_columns.specs.Ends.{value_between, values_by_ends, start_of, IsEnd, AreEnds, bytes_in}
 
 -- the bytes of the values, and 8 for each
 pub weighs : (values : List (Option (List ℕ))) → sum_by value_weight values ≡ sum_by cell_len values + 8 * length values
@@ -14,7 +15,7 @@ weighs [] = omega arith
 weighs (v ∷ values) = omega (arith, sum_by-cons value_weight v values, sum_by-cons cell_len v values, weighs values)
 
 -- there are as many values as ends
-pub values_len : (bytes : List ℕ) (from : ℕ) (ends : List End) → length (values_by bytes from ends) ≡ length ends
+pub values_len : (bytes : List ℕ) (from : ℕ) (ends : List End) → length (values_by_ends bytes from ends) ≡ length ends
 values_len bytes from [] = refl
 values_len bytes from (e ∷ ends) = ap (λ n. suc n) (values_len bytes e.place ends)
 
@@ -32,7 +33,7 @@ value_some bytes from e is = rw is refl
 
 -- the value at a place
 pub record IsThere (bytes : List ℕ) (from : ℕ) (ends : List End) (place : ℕ) (last : ℕ) (e : End) : Type 0 where
-  pub is : get_or (values_by bytes from ends) place None ≡ value_between bytes (start_of from ends place) e
+  pub is : get_or (values_by_ends bytes from ends) place None ≡ value_between bytes (start_of from ends place) e
   pub first : start_of from ends place ≤ e.place
   pub within : e.place ≤ last
 
@@ -45,8 +46,8 @@ value_there bytes from (e ∷ ends) (suc place) last d are below =
     record { is = r.is; first = r.first; within = r.within }
 
 -- there is none after the last one
-pub none_there : (bytes : List ℕ) (from : ℕ) (ends : List End) (place : ℕ) → length ends ≤ place → get_or (values_by bytes from ends) place None ≡ None
-none_there bytes from ends place past = get_or_past (values_by bytes from ends) place None (omega (arith, past, values_len bytes from ends))
+pub none_there : (bytes : List ℕ) (from : ℕ) (ends : List End) (place : ℕ) → length ends ≤ place → get_or (values_by_ends bytes from ends) place None ≡ None
+none_there bytes from ends place past = get_or_past (values_by_ends bytes from ends) place None (omega (arith, past, values_len bytes from ends))
 
 -- where it begins
 pub start_is : (from : ℕ) (ends : List End) (place : ℕ) (d : End) → place < length ends → (get_or ends place d).place ≡ start_of from ends (suc place)
@@ -56,18 +57,13 @@ start_is from (e ∷ ends) (suc place) d below = start_is e.place ends place d (
 
 -- ---- bytes that come after
 
-part_stays : (from len : ℕ) (old more : List ℕ) → from + len ≤ length old → take len (drop from (old ++ more)) ≡ take len (drop from old)
-part_stays from len old more h =
-    let within : len ≤ length (drop from old) = omega (arith, length-drop from old) in
-    ap (take len) (drop-append-le from old more (omega (arith, h))) ∙ take-append-le len (drop from old) more within
-
 value_stays : (old more : List ℕ) (from : ℕ) (e : End) → from ≤ e.place → e.place ≤ length old → value_between (old ++ more) from e ≡ value_between old from e
 value_stays old more from e after within =
     ap (λ (part : List ℕ). if e.there then Some part else None) (part_stays from (e.place - from) old more (omega (arith, after, within)))
 
 -- the values of these ends, with one more after them
 pub record Pushed (old new : List ℕ) (from : ℕ) (ends after : List End) (value : Option (List ℕ)) : Type 0 where
-  pub values : values_by new from after ≡ values_by old from ends ++ value ∷ []
+  pub values : values_by_ends new from after ≡ values_by_ends old from ends ++ value ∷ []
   pub are : AreEnds from after (length new)
   pub count : length after ≡ length ends + 1
 
@@ -113,21 +109,12 @@ len_between bytes from e true there is within =
 len_between bytes from e false there is within =
     ap (λ (b : Bool). cell_len (if b then Some (take (e.place - from) (drop from bytes)) else None) + from) there ∙ omega (arith, is.none there)
 
-pub values_sum : (bytes : List ℕ) (from : ℕ) (ends : List End) → AreEnds from ends (length bytes) → sum_by cell_len (values_by bytes from ends) + from ≡ length bytes
+pub values_sum : (bytes : List ℕ) (from : ℕ) (ends : List End) → AreEnds from ends (length bytes) → sum_by cell_len (values_by_ends bytes from ends) + from ≡ length bytes
 values_sum bytes from [] are = omega (arith, are)
 values_sum bytes from (e ∷ ends) are =
     omega (
       arith,
-      sum_by-cons cell_len (value_between bytes from e) (values_by bytes e.place ends),
+      sum_by-cons cell_len (value_between bytes from e) (values_by_ends bytes e.place ends),
       len_between bytes from e e.there refl are.0 (first_before e.place ends (length bytes) are.1),
       values_sum bytes e.place ends are.1,
     )
-
--- a test that fails, and one that doesn't
-pub is_false : (b : Bool) → not b ≡ true → b ≡ false
-is_false true h = sym h
-is_false false h = refl
-
-pub is_true : (b : Bool) → not b ≡ false → b ≡ true
-is_true true h = refl
-is_true false h = sym h

@@ -1,9 +1,9 @@
 -- Sums of the numbers that a column of ids stores, as bounds of its ids.
-use Rattle.std.proofs.Common.{◌≡◌, ℕ, zero, suc, ◌+◌, ◌≤◌, ◌<◌, nat_le, nat_lt, Bool, true, false, List, [], ◌∷◌, length, drop, get_or, Option, Some, None, refl, sym, ap, subst, ◌∙◌, arith, add-one, le-leb}
+use Rattle.std.proofs.Common.{◌≡◌, ℕ, suc, ◌+◌, ◌≤◌, ◌<◌, nat_le, nat_lt, Bool, true, false, List, [], ◌∷◌, length, drop, get_or, Option, Some, None, refl, sym, ap, subst, ◌∙◌, arith, le-leb}
 use Rattle.std.specs.Prelude.{IfSome}
 use Rattle.std.specs.List.{list_any}
 use Rattle.std.proofs.lemmas.Bool.{le-ltb}
-use Rattle.std.proofs.lemmas.List.{length-map, drop_more, get_or-drop}
+use Rattle.std.proofs.lemmas.List.{length-map, drop_more, get_or-drop, drop-drop}
 use Rattle.otap_cells.specs.declared.profile.Coding.{Coding}
 use Rattle.otap_cells.specs.Cells.{null}
 use Rattle.otap_cells.specs.Columns.{coding_at}
@@ -14,14 +14,6 @@ use Rattle.otap_cells.specs.Tables.{Table, cell_in, column_in, greatest_wide, gr
 use Rattle.otap_columns.specs.NarrowIds.{is_wide_after, is_wide_from, StaysNarrow}
 use Rattle.otap_columns.specs.Observed.{has_wide_id, is_above}
 use Rattle.otap_columns.proofs.ValuesSeen.{stored-cell}
-
-drop_after : (k : ℕ) (rows : List Bool) → drop 1 (drop k rows) ≡ drop (k + 1) rows
-drop_after k rows = each k rows ∙ ap (λ n. drop n rows) (sym (add-one k))
-  where
-    each : (k : ℕ) (rows : List Bool) → drop 1 (drop k rows) ≡ drop (suc k) rows
-    each zero rows = refl
-    each (suc k) [] = refl
-    each (suc k) (row ∷ rows) = each k rows
 
 -- ---- one row
 
@@ -51,7 +43,7 @@ module _ (t : Table) (column row : ℕ) (within : row < length t.rows) where
       low,
       ap (is_wide_after (coding_at t.kind column) before (drop row (continues_in t))) (rest None none)
           ∙ passes_null (coding_at t.kind column) before (drop row (continues_in t)) (drop (row + 1) (stored_in t column)) takes
-          ∙ ap (λ (rows : List Bool). is_wide_after (coding_at t.kind column) before rows (drop (row + 1) (stored_in t column))) (drop_after row (continues_in t)),
+          ∙ ap (λ (rows : List Bool). is_wide_after (coding_at t.kind column) before rows (drop (row + 1) (stored_in t column))) (drop-drop 1 row (continues_in t)),
     );
   }
 
@@ -67,7 +59,7 @@ module _ (t : Table) (column row : ℕ) (within : row < length t.rows) where
           under,
           ap (is_wide_after how before (drop row (continues_in t))) (rest (Some n) some)
               ∙ passes_id how before (drop row (continues_in t)) (drop (row + 1) (stored_in t column)) n id refl (omega (arith, under, small))
-              ∙ ap (λ (rows : List Bool). is_wide_after how id rows (drop (row + 1) (stored_in t column))) (drop_after row (continues_in t)),
+              ∙ ap (λ (rows : List Bool). is_wide_after how id rows (drop (row + 1) (stored_in t column))) (drop-drop 1 row (continues_in t)),
         );
   }
 

@@ -1,20 +1,23 @@
 -- What one more payload does to the sub-stream of a type.
-use Rattle.std.proofs.Common.{◌≡◌, Bool, true, false, List, [], ◌∷◌, ◌++◌, Option, Some, None, ℤ, if◌then◌else◌, refl, ap, ◌∙◌, append-nil}
+use Rattle.std.proofs.Common.{◌≡◌, ℕ, Bool, true, false, List, [], ◌∷◌, ◌++◌, Option, Some, None, ℤ, if◌then◌else◌, refl, ap, ◌∙◌, append-nil, inl, inr, sym}
 use Rattle.std.specs.List.{flat_map}
+use Rattle.std.specs.Prelude.{not, bytes_eq}
 use Rattle.std.proofs.lemmas.Grind.{flat_map-append}
 use Rattle.std.proofs.lemmas.List.Elements.{filter-append}
 use Rattle.std.proofs.lemmas.Cmp.{int_eq_equiv}
+use Rattle.std.proofs.lemmas.Bool.{cases_Bool}
+use Rattle.std.proofs.lemmas.Slice.Eq.{bytes_eq-Decides}
 use Rattle.lists.specs.Since.{since, last_after}
 use Rattle.lists.proofs.Latest.{since-append, last_after-push}
 use Rattle.lists.specs.Payloads.{PayloadIn}
 use Rattle.arrow_ipc.specs.Fronts.{front_of}
-use Rattle.otap_columns.specs.Streams.{is_of, of_type, last_of, opens_after, open_id, marked_after, stream_of}
+use Rattle.otap_columns.specs.Streams.{is_of, of_type, last_of, opens_after, open_id, marked_after, stream_of, opens, schema_id_in}
 
 -- a payload of another type is passed over
-of_type-other : (kind : ℤ) (ps : List PayloadIn) (p : PayloadIn) → is_of kind p ≡ false → of_type kind (ps ++ p ∷ []) ≡ of_type kind ps
+pub of_type-other : (kind : ℤ) (ps : List PayloadIn) (p : PayloadIn) → is_of kind p ≡ false → of_type kind (ps ++ p ∷ []) ≡ of_type kind ps
 of_type-other kind ps p other = filter-append (is_of kind) ps (p ∷ []) ∙ rw other (append-nil (of_type kind ps))
 
-of_type-own : (kind : ℤ) (ps : List PayloadIn) (p : PayloadIn) → is_of kind p ≡ true → of_type kind (ps ++ p ∷ []) ≡ of_type kind ps ++ p ∷ []
+pub of_type-own : (kind : ℤ) (ps : List PayloadIn) (p : PayloadIn) → is_of kind p ≡ true → of_type kind (ps ++ p ∷ []) ≡ of_type kind ps ++ p ∷ []
 of_type-own kind ps p own = filter-append (is_of kind) ps (p ∷ []) ∙ rw own refl
 
 marked_after-push : (last : Option PayloadIn) (ps : List PayloadIn) (p : PayloadIn)
@@ -50,3 +53,21 @@ stream_of-own kind ps p own =
 -- a payload is of its own type
 pub own_type : (p : PayloadIn) → is_of p.kind p ≡ true
 own_type p = int_eq_equiv.refl p.kind
+
+-- where nothing went before, nothing is open
+pub open_id-none : (kind : ℤ) → open_id kind [] ≡ None
+unfolding open_id
+open_id-none kind = refl
+
+-- a payload that opens no sub-stream has the id that is open for its type
+id_stays : (last : Option PayloadIn) (p : PayloadIn) → opens_after last p ≡ false → schema_id_in last ≡ Some p.schema_id
+id_stays None p stays = absurd (cc stays)
+id_stays (Some last) p stays =
+    elim (cases_Bool (bytes_eq last.schema_id p.schema_id)) [
+      | inl equal ↦ ap (λ (id : List ℕ). Some id) ((bytes_eq-Decides last.schema_id p.schema_id).0 equal)
+      | inr differs ↦ absurd (cc (sym stays ∙ ap not differs))
+    ]
+
+pub stays_open : (past : List PayloadIn) (p : PayloadIn) → opens past p ≡ false → open_id p.kind past ≡ Some p.schema_id
+unfolding opens open_id
+stays_open past p stays = id_stays (last_of p.kind past) p stays

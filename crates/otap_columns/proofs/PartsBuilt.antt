@@ -14,10 +14,10 @@ use Rattle.arrow_buffers.specs.declared.width.Width.TheVariants as width
 use Rattle.arrow_buffers.specs.Bits.{validity_of}
 use Rattle.arrow_buffers.specs.Columns.{HasNoFault, cell_len, cells_len, cells_of, values_len}
 use Rattle.arrow_buffers.specs.Vars.{is_text}
-use Rattle.arrow_arrays.specs.Columns.{width_of, AreTexts}
+use Rattle.arrow_arrays.specs.Columns.{stored_width, AreTexts}
 use Rattle.arrow_arrays.specs.declared.layout.Layout.TheVariants as layout
 use Rattle.arrow_arrays.specs.Layouts.{layout_of, layout_of_values, element_len}
-use Rattle.arrow_arrays.specs.Written.{PartIn, column_buffers, IsWide, ElementsFollow, HoldsCells, IsElementPart, element_part}
+use Rattle.arrow_arrays.specs.Written.{PartIn, column_buffers, IsWide, ElementsFollow, HoldsCells, IsElementPart, elements_part}
 use Rattle.otap_cells.specs.declared.profile.Base.{Base}
 use Rattle.otap_cells.specs.declared.profile.Base.TheVariants as base
 use Rattle.otap_cells.specs.Cells.{Cell, null, number, bits, flag, bytes, IsCellOf}
@@ -27,15 +27,15 @@ use Rattle.otap_columns.specs.declared.forms.ColumnForm.{ColumnForm}
 use Rattle.otap_columns.specs.declared.forms.ColumnForm.TheVariants as form
 use Rattle.otap_columns.specs.Groups.{Member}
 use Rattle.otap_columns.specs.Observed.{bytes_for}
-use Rattle.otap_columns.specs.Schemas.{Forms, Column, Items, is_dictionary, type_in, dict_for, item_in, item_type, items_after, slots_of_member}
+use Rattle.otap_columns.specs.Schemas.{Forms, Column, Items, is_dictionary, arrow_type_in, dict_for, item_in, item_type, items_after, slots_of_member}
 use Rattle.otap_columns.specs.WrittenCells.{stored_for, stored_column}
-use Rattle.otap_columns.specs.BuiltCells.{plain_width, width_for, parts_of}
+use Rattle.otap_columns.specs.BuiltCells.{plain_width, width_for, batch_parts}
 use Rattle.otap_columns.specs.WrittenRows.{AreSlotParts}
 use Rattle.otap_columns.proofs.ColumnsBuilt.{stored_len}
 
 -- ---- how a column is stored
 
-plain_layout : (holds : Base) (f : ColumnForm) → width_of (layout_of_values (type_in holds f)) ≡ Some (plain_width holds f)
+plain_layout : (holds : Base) (f : ColumnForm) → stored_width (layout_of_values (arrow_type_in holds f)) ≡ Some (plain_width holds f)
 plain_layout base.U8 f = refl
 plain_layout base.U16 f = refl
 plain_layout base.U32 f = refl
@@ -58,7 +58,7 @@ plain_layout (base.Id wide) form.Dict8 = refl
 plain_layout (base.Id wide) form.Dict16 = refl
 plain_layout (base.Id wide) form.Wide = refl
 
-layout_width : (holds : Base) (f : ColumnForm) (column : ℕ) → width_of (layout_of (type_in holds f) (dict_for column f)) ≡ Some (width_for holds f)
+layout_width : (holds : Base) (f : ColumnForm) (column : ℕ) → stored_width (layout_of (arrow_type_in holds f) (dict_for column f)) ≡ Some (width_for holds f)
 layout_width holds form.Dict8 column = refl
 layout_width holds form.Dict16 column = refl
 layout_width holds form.Absent column = plain_layout holds form.Absent
@@ -110,7 +110,7 @@ all_texts g (r ∷ rows) column each =
     and_from (is_text (g (get_or r column null))) (list_all is_text (map g (column_in rows column))) (each 0 (omega arith)) (all_texts g rows column (λ row low. each (suc row) (omega arith)))
 
 plain_texts : (holds : Base) (f : ColumnForm) (g : Cell → Option (List ℕ)) (rows : List (List Cell)) (column : ℕ) → ((row : ℕ) → row < length rows → IsCellOf holds (cell_in rows column row))
-    → ((cell : Cell) → g cell ≡ bytes_for holds f cell) → AreTexts (layout_of_values (type_in holds f)) (map g (column_in rows column))
+    → ((cell : Cell) → g cell ≡ bytes_for holds f cell) → AreTexts (layout_of_values (arrow_type_in holds f)) (map g (column_in rows column))
 plain_texts base.U8 f g rows column each same = tt
 plain_texts base.U16 f g rows column each same = tt
 plain_texts base.U32 f g rows column each same = tt
@@ -134,7 +134,7 @@ plain_texts (base.Id wide) form.Dict16 g rows column each same = tt
 plain_texts (base.Id wide) form.Wide g rows column each same = tt
 
 column_texts : (holds : Base) (f : ColumnForm) (values : List (List ℕ)) (c : ℕ) (rows : List (List Cell)) (column : ℕ) → ((row : ℕ) → row < length rows → IsCellOf holds (cell_in rows column row))
-    → AreTexts (layout_of (type_in holds f) (dict_for c f)) (map (stored_for holds f values) (column_in rows column))
+    → AreTexts (layout_of (arrow_type_in holds f) (dict_for c f)) (map (stored_for holds f values) (column_in rows column))
 column_texts holds form.Dict8 values c rows column each = tt
 column_texts holds form.Dict16 values c rows column each = tt
 column_texts holds form.Absent values c rows column each = plain_texts holds form.Absent (stored_for holds form.Absent values) rows column each (λ cell. refl)
@@ -247,15 +247,15 @@ module _ (forms : Forms) (values : ℕ → List (List ℕ)) (t : Table) (table :
     pub single : is_dictionary (forms m.column) ≡ true → item_in holds ≡ None
 
   module _ (is : IsBuiltOf) where
-    texts : AreTexts (layout_of (type_in holds (forms m.column)) (dict_for m.column (forms m.column))) stored
+    texts : AreTexts (layout_of (arrow_type_in holds (forms m.column)) (dict_for m.column (forms m.column))) stored
     unfolding stored_column
     texts = column_texts holds (forms m.column) (values m.column) m.column t.rows m.column (λ row low. table.fits m.column row)
 
     hold : (w : Width) (p : PartIn) (next : Option PartIn) → width_for holds (forms m.column) ≡ w → p.rows ≡ b.rows → p.nulls ≡ b.nulls
         → p.buffers ≡ column_buffers w b.validity.items b.offsets.items b.values.items → ElementsFollow w b.values.items next
-        → HoldsCells (layout_of (type_in holds (forms m.column)) (dict_for m.column (forms m.column))) (length t.rows) stored p next
+        → HoldsCells (layout_of (arrow_type_in holds (forms m.column)) (dict_for m.column (forms m.column))) (length t.rows) stored p next
     hold w p next same rows nulls buffers follow =
-        subst (λ (n : ℕ). HoldsCells (layout_of (type_in holds (forms m.column)) (dict_for m.column (forms m.column))) n stored p next)
+        subst (λ (n : ℕ). HoldsCells (layout_of (arrow_type_in holds (forms m.column)) (dict_for m.column (forms m.column))) n stored p next)
         (is.rows ∙ stored_len (forms m.column) (values m.column) t m.column)
         (record {
           width = w;
@@ -273,14 +273,14 @@ module _ (forms : Forms) (values : ℕ → List (List ℕ)) (t : Table) (table :
           texts = texts;
         })
 
-    alone : (w : Width) → width_for holds (forms m.column) ≡ w → item_in holds ≡ None → AreSlotParts t.kind forms values t (Column m ∷ []) (parts_of w b)
+    alone : (w : Width) → width_for holds (forms m.column) ≡ w → item_in holds ≡ None → AreSlotParts t.kind forms values t (Column m ∷ []) (batch_parts w b)
     alone width.Bit same none = (hold width.Bit (record { rows = b.rows; nulls = b.nulls; buffers = b.validity.items ∷ b.values.items ∷ [] }) None same refl refl refl tt, tt)
     alone (width.Fixed n) same none = (hold (width.Fixed n) (record { rows = b.rows; nulls = b.nulls; buffers = b.validity.items ∷ b.values.items ∷ [] }) None same refl refl refl tt, tt)
     alone width.Var same none =
         (hold width.Var (record { rows = b.rows; nulls = b.nulls; buffers = b.validity.items ∷ b.offsets.items ∷ b.values.items ∷ [] }) None same refl refl refl tt, tt)
     alone (width.List n) same none = let some = list_width holds (forms m.column) n same in let no : None ≡ Some some.0 = sym none ∙ some.1 in absurd (cc)
 
-    lists : (k : ArrowType) → item_in holds ≡ Some k → is_dictionary (forms m.column) ≡ false → AreSlotParts t.kind forms values t (Column m ∷ Items m.column ∷ []) (parts_of (width.List 8) b)
+    lists : (k : ArrowType) → item_in holds ≡ Some k → is_dictionary (forms m.column) ≡ false → AreSlotParts t.kind forms values t (Column m ∷ Items m.column ∷ []) (batch_parts (width.List 8) b)
     unfolding stored_column
     lists k some not =
         let list : (holds ≡ base.ListU64) ⊎ (holds ≡ base.ListF64) = item_list holds k some in
@@ -290,9 +290,9 @@ module _ (forms : Forms) (values : ℕ → List (List ℕ)) (t : Table) (table :
         whole_elements (stored_for holds (forms m.column) (values m.column)) t.rows m.column
         (λ row low. ap (λ o. cell_len o % 8) (stored_plain holds (forms m.column) (values m.column) (cell_in t.rows m.column row) not)
         ∙ list_bytes (forms m.column) holds (cell_in t.rows m.column row) list (table.fits m.column row)) in
-        let e : IsElementPart b.values.items (element_part (length b.values.items / 8) b.values.items) = record { count = length b.values.items / 8; len = omega (arith, bytes, whole); is = refl } in (
-          hold (width.List 8) (record { rows = b.rows; nulls = b.nulls; buffers = b.validity.items ∷ b.offsets.items ∷ [] }) (Some (element_part (length b.values.items / 8) b.values.items)) same refl refl refl
-              (element_part (length b.values.items / 8) b.values.items, refl, e),
+        let e : IsElementPart b.values.items (elements_part (length b.values.items / 8) b.values.items) = record { count = length b.values.items / 8; len = omega (arith, bytes, whole); is = refl } in (
+          hold (width.List 8) (record { rows = b.rows; nulls = b.nulls; buffers = b.validity.items ∷ b.offsets.items ∷ [] }) (Some (elements_part (length b.values.items / 8) b.values.items)) same refl refl refl
+              (elements_part (length b.values.items / 8) b.values.items, refl, e),
           (record { fixed = item_layout holds list; values = b.values.items; part = e }, tt),
         )
 
@@ -301,11 +301,11 @@ module _ (forms : Forms) (values : ℕ → List (List ℕ)) (t : Table) (table :
     no_dictionary k some (inl dict) = let no : None ≡ Some k = sym (is.single dict) ∙ some in absurd (cc)
 
     -- the parts are those of the column's slots
-    pub column_parts : AreSlotParts t.kind forms values t (slots_of_member t.kind m) (parts_of (width_for holds (forms m.column)) b)
+    pub column_parts : AreSlotParts t.kind forms values t (slots_of_member t.kind m) (batch_parts (width_for holds (forms m.column)) b)
     column_parts = by (item_in holds) refl
       where
-        by : (o : Option ArrowType) → item_in holds ≡ o → AreSlotParts t.kind forms values t (Column m ∷ items_after o m.column) (parts_of (width_for holds (forms m.column)) b)
+        by : (o : Option ArrowType) → item_in holds ≡ o → AreSlotParts t.kind forms values t (Column m ∷ items_after o m.column) (batch_parts (width_for holds (forms m.column)) b)
         by None none = alone (width_for holds (forms m.column)) refl none
         by (Some k) some =
             let not : is_dictionary (forms m.column) ≡ false = no_dictionary k some (cases_Bool (is_dictionary (forms m.column))) in
-            subst (λ (w : Width). AreSlotParts t.kind forms values t (Column m ∷ Items m.column ∷ []) (parts_of w b)) (sym (item_width holds (forms m.column) (item_list holds k some) not)) (lists k some not)
+            subst (λ (w : Width). AreSlotParts t.kind forms values t (Column m ∷ Items m.column ∷ []) (batch_parts w b)) (sym (item_width holds (forms m.column) (item_list holds k some) not)) (lists k some not)

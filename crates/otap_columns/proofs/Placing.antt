@@ -2,6 +2,7 @@
 use Rattle.std.proofs.Common.{◌≡◌, ℕ, zero, suc, ◌+◌, ◌-◌, ◌<◌, ◌≤◌, false, List, [], ◌∷◌, ◌++◌, length, take, drop, get_or, map, fold, Option, Some, None, refl, sym, ap, ◌∙◌, subst, arith, position, bytes_eq, replicate}
 use Rattle.std.proofs.lemmas.List.{length-map, map-append, take_more, take-append-drop, length-take-le}
 use Rattle.std.proofs.lemmas.List.Sums.{fold-append}
+use Rattle.lists.proofs.Parts.{nones_first}
 use Rattle.otap_cells.specs.declared.profile.Base.{Base}
 use Rattle.otap_cells.specs.Cells.{Cell, null}
 use Rattle.otap_cells.specs.Tables.{cell_in, column_in}
@@ -9,9 +10,9 @@ use Rattle.otap_dicts.specs.Ladders.{LadderIn, is_plain, observed}
 use Rattle.otap_dicts.specs.declared.form.Form.TheVariants as ladder
 use Rattle.otap_columns.specs.declared.forms.ColumnForm.TheVariants as form
 use Rattle.otap_columns.specs.Observed.{bytes_for}
-use Rattle.otap_columns.specs.SeenInside.{filled_up, observed_if, places_of}
+use Rattle.otap_columns.specs.SeenInside.{filled_up, observed_if, places_of_cells}
 use Rattle.otap_columns.specs.WrittenCells.{place_among}
-use Rattle.otap_columns.proofs.ColumnsBuilt.{cell_at-map, nones_at_first}
+use Rattle.otap_columns.proofs.ColumnsBuilt.{cell_at-map}
 use Rattle.otap_columns.proofs.SeenOn.{again_changes_nothing, cells_more, null_cell, plain_stays}
 
 -- a value that has a place
@@ -81,7 +82,7 @@ pub none_observed : (holds : Base) (rows : List (List Cell)) (column first : ℕ
 none_observed holds rows column first start places none null_first low climbs =
     let cells = map (bytes_for holds form.Wide) (column_in rows column) in
     let long : length cells ≡ length rows = length-map (column_in rows column) (bytes_for holds form.Wide) ∙ length-map rows (λ row. get_or row column null) in
-    let nones : replicate first None ≡ take first cells = nones_at_first first cells (λ row lt. null_cell holds rows column row (null_first row lt)) (omega (arith, long, low)) in
+    let nones : replicate first None ≡ take first cells = nones_first first cells (λ row lt. null_cell holds rows column row (null_first row lt)) (omega (arith, long, low)) in
     record {
       so_far = nones_change_nothing first start ∙ ap (λ (cs : List (Option (List ℕ))). fold observed_if start cs) nones;
       again = refl;
@@ -149,20 +150,20 @@ none_after values (suc k) n [] none all = absurd (omega (arith, all))
 none_after values (suc k) n (x ∷ cells) none all = ap (λ (ps : List (Option ℕ)). place_among values x ∷ ps) (none_after values k n cells (λ row le. none (suc row) (omega (arith, le))) (omega (arith, all)))
 
 pub places_to_last : (holds : Base) (rows : List (List Cell)) (column k : ℕ) (values : List (List ℕ)) → ((row : ℕ) → k ≤ row → cell_in rows column row ≡ null) → k ≤ length rows
-    → map (place_among values) (take k (map (bytes_for holds form.Wide) (column_in rows column))) ++ replicate (length rows - k) None ≡ places_of holds form.Wide values (column_in rows column)
+    → map (place_among values) (take k (map (bytes_for holds form.Wide) (column_in rows column))) ++ replicate (length rows - k) None ≡ places_of_cells holds form.Wide values (column_in rows column)
 places_to_last holds rows column k values none low =
     let cells = map (bytes_for holds form.Wide) (column_in rows column) in
     let long : length cells ≡ length rows = length-map (column_in rows column) (bytes_for holds form.Wide) ∙ length-map rows (λ row. get_or row column null) in
     none_after values k (length rows - k) cells (λ row le. null_cell holds rows column row (none row le)) (omega (arith, long, low))
     ∙ twice (column_in rows column)
   where
-    twice : (cells : List Cell) → map (place_among values) (map (bytes_for holds form.Wide) cells) ≡ places_of holds form.Wide values cells
+    twice : (cells : List Cell) → map (place_among values) (map (bytes_for holds form.Wide) cells) ≡ places_of_cells holds form.Wide values cells
     twice [] = refl
     twice (cell ∷ cells) = ap (λ (ps : List (Option ℕ)). place_among values (bytes_for holds form.Wide cell) ∷ ps) (twice cells)
 
 pub all_placed : (holds : Base) (rows : List (List Cell)) (column row : ℕ) (values : List (List ℕ)) (places : List (Option ℕ))
     → places ≡ map (place_among values) (take row (map (bytes_for holds form.Wide) (column_in rows column)))
-    → row ≤ length rows → ((k : ℕ) → row ≤ k → cell_in rows column k ≡ null) → filled_up (length rows) places ≡ places_of holds form.Wide values (column_in rows column)
+    → row ≤ length rows → ((k : ℕ) → row ≤ k → cell_in rows column k ≡ null) → filled_up (length rows) places ≡ places_of_cells holds form.Wide values (column_in rows column)
 all_placed holds rows column row values places here low none =
     let cells = map (bytes_for holds form.Wide) (column_in rows column) in
     let long : length cells ≡ length rows = length-map (column_in rows column) (bytes_for holds form.Wide) ∙ length-map rows (λ row. get_or row column null) in

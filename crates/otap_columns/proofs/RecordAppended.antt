@@ -17,7 +17,7 @@ use Rattle.otap_cells.specs.Columns.{base_at, width_of}
 use Rattle.otap_cells.specs.Tables.{Table}
 use Rattle.otap_columns.specs.declared.forms.ColumnForm.{ColumnForm}
 use Rattle.otap_columns.specs.WrittenPayloads.{HoldsRows, HoldsValues, batch_if, has_some, heads, schema_if}
-use Rattle.otap_columns.specs.Schemas.{Forms, is_dictionary, schema_for, type_in}
+use Rattle.otap_columns.specs.Schemas.{Forms, is_dictionary, schema_for, arrow_type_in}
 use Rattle.otap_columns.specs.WrittenRecords.{Values, CanSendColumn, AddsMessages, AddsHead, AddsHeads, IsRecordBy, from_in, is_sent, heads_by}
 
 -- ---- messages
@@ -72,7 +72,7 @@ module _ (kind : Kind) (opening : Bool) (forms : Forms) (values : Values) (count
   head_alike column a b same = ap (batch_if (sent_at column) (not opening) column) same
 
   pub heads_more : (n : ℕ) (a b c : List ℕ) → AddsHeads kind opening forms values counts n a b
-      → AddsHead (type_in (base_at kind n) (forms n)) (is_sent opening (forms n) (drop (from_in opening counts n) (values n))) (not opening) n (drop (from_in opening counts n) (values n)) b c
+      → AddsHead (arrow_type_in (base_at kind n) (forms n)) (is_sent opening (forms n) (drop (from_in opening counts n) (values n))) (not opening) n (drop (from_in opening counts n) (values n)) b c
       → AddsHeads kind opening forms values counts (n + 1) a c
   unfolding sent_at
   heads_more n a b c before one =
@@ -89,14 +89,14 @@ module _ (kind : Kind) (opening : Bool) (forms : Forms) (values : Values) (count
       })
     where
       by : (column : ℕ) → is_sent opening (forms column) (drop (from_in opening counts column) (values column)) ≡ true → (column < n) ⊎ (n ≤ column) → column < suc n
-          → HoldsValues (type_in (base_at kind column) (forms column)) (drop (from_in opening counts column) (values column)) (with_batch before.batches n one.batch column)
+          → HoldsValues (arrow_type_in (base_at kind column) (forms column)) (drop (from_in opening counts column) (values column)) (with_batch before.batches n one.batch column)
       by column sent (inl lt) low =
-          subst (HoldsValues (type_in (base_at kind column) (forms column)) (drop (from_in opening counts column) (values column))) (sym (before_it before.batches n one.batch column lt))
+          subst (HoldsValues (arrow_type_in (base_at kind column) (forms column)) (drop (from_in opening counts column) (values column))) (sym (before_it before.batches n one.batch column lt))
           (before.holds column lt sent)
       by column sent (inr ge) low =
           let same : n ≡ column = omega arith in
-          subst (λ (k : ℕ). HoldsValues (type_in (base_at kind k) (forms k)) (drop (from_in opening counts k) (values k)) (with_batch before.batches n one.batch k)) same
-          (subst (HoldsValues (type_in (base_at kind n) (forms n)) (drop (from_in opening counts n) (values n))) (sym (at_it before.batches n one.batch))
+          subst (λ (k : ℕ). HoldsValues (arrow_type_in (base_at kind k) (forms k)) (drop (from_in opening counts k) (values k)) (with_batch before.batches n one.batch k)) same
+          (subst (HoldsValues (arrow_type_in (base_at kind n) (forms n)) (drop (from_in opening counts n) (values n))) (sym (at_it before.batches n one.batch))
           (one.holds (subst (λ (k : ℕ). is_sent opening (forms k) (drop (from_in opening counts k) (values k)) ≡ true) (sym same) sent)))
 
   -- ---- the whole record
@@ -129,11 +129,11 @@ some_left (suc from) (v ∷ vs) = elim (cases_lt from (length vs)) [
 -- ---- the same by other names
 
 pub head_as : (holds : Base) (opening : Bool) (column : ℕ) (f g : ColumnForm) (x y : ℕ) (v w : List (List ℕ)) (old new : List ℕ) → f ≡ g → x ≡ y → v ≡ w
-    → AddsHead (type_in holds f) (is_sent opening f (drop x v)) (not opening) column (drop x v) old new
-    → AddsHead (type_in holds g) (is_sent opening g (drop y w)) (not opening) column (drop y w) old new
+    → AddsHead (arrow_type_in holds f) (is_sent opening f (drop x v)) (not opening) column (drop x v) old new
+    → AddsHead (arrow_type_in holds g) (is_sent opening g (drop y w)) (not opening) column (drop y w) old new
 head_as holds opening column f g x y v w old new form_is from_is values_is adds =
-    subst (λ (h : ColumnForm). AddsHead (type_in holds h) (is_sent opening h (drop y w)) (not opening) column (drop y w) old new) form_is
-    (subst (λ (vs : List (List ℕ)). AddsHead (type_in holds f) (is_sent opening f vs) (not opening) column vs old new) (λ i. drop (from_is i) (values_is i)) adds)
+    subst (λ (h : ColumnForm). AddsHead (arrow_type_in holds h) (is_sent opening h (drop y w)) (not opening) column (drop y w) old new) form_is
+    (subst (λ (vs : List (List ℕ)). AddsHead (arrow_type_in holds f) (is_sent opening f vs) (not opening) column vs old new) (λ i. drop (from_is i) (values_is i)) adds)
 
 pub send_as : (holds : Base) (f g : ColumnForm) (x y : ℕ) (v w : List (List ℕ)) → f ≡ g → x ≡ y → v ≡ w → (is_dictionary f ≡ true → CanSendColumn holds f x v) → is_dictionary g ≡ true → CanSendColumn holds g y w
 send_as holds f g x y v w form_is from_is values_is can is =

@@ -10,6 +10,7 @@ use Rattle.std.proofs.lemmas.List.FromFn.{fill_by_all}
 use Rattle.std.proofs.lemmas.List.Elements.{All-get_or}
 use Rattle.lists.specs.EachAfter.{AllAfter}
 use Rattle.lists.proofs.Growing.{all_after-push, all_after-append}
+use Rattle.lists.proofs.Every.{every_weaker}
 use Rattle.arrow_schema.specs.declared.spec.ArrowType.{ArrowType}
 use Rattle.arrow_schema.specs.declared.spec.DictSpec.{DictSpec}
 use Rattle.arrow_buffers.proofs.EachBelow.{all_below-each}
@@ -17,7 +18,7 @@ use Rattle.arrow_ipc.specs.declared.messages.IpcMessage.{IpcMessage}
 use Rattle.arrow_ipc.specs.declared.messages.IpcMessage.TheVariants.{Schema, Dictionary, Rows}
 use Rattle.arrow_ipc.specs.Batches.{BatchIn}
 use Rattle.arrow_arrays.specs.declared.spec.ArraySpec.{ArraySpec}
-use Rattle.arrow_arrays.specs.Arrays.{arrays_of, cell_of, place_of}
+use Rattle.arrow_arrays.specs.Arrays.{arrays_of, cell_of, array_place}
 use Rattle.arrow_arrays.specs.Cells.{array_check, own_cell, place_of_values}
 use Rattle.otap_cells.specs.declared.payload.Kind.{Kind}
 use Rattle.otap_cells.specs.Cells.{Cell, null, IsCellOf}
@@ -27,12 +28,12 @@ use Rattle.otap_cells.proofs.ByPlace.{id_within, rows-table_by}
 use Rattle.otap_dicts.specs.Limits.{value_limit}
 use Rattle.otap_columns.specs.declared.forms.ColumnForm.{ColumnForm}
 use Rattle.otap_columns.specs.declared.forms.ColumnForm.TheVariants as form
-use Rattle.otap_columns.specs.Dictionaries.{value_weight, weight_of, dictionary, DictionaryIn, has_id, filled, empty_dictionaries, dictionaries_in, is_too_large, values_for}
+use Rattle.otap_columns.specs.Dictionaries.{value_weight, dictionary_weight, dictionary_over, DictionaryIn, has_id, filled, empty_dictionaries, dictionaries_in, is_too_large, values_for}
 use Rattle.otap_columns.specs.Known.{place_at, column_coding, column_greatest, stored_cell}
-use Rattle.otap_columns.specs.Substreams.{SubstreamIn, held_if, held_in, schema_in, substream_of, substream_in, value_at, is_index_below, replaced}
-use Rattle.otap_columns.specs.Substreams.{field_value, value_if, column_value, column_cell, table_in, field_fits, field_fits_if, indexes_fit}
+use Rattle.otap_columns.specs.Substreams.{SubstreamIn, held_if, held_in, schema_in, substream_of, substream_in, value_by_index, is_index_below, replaced}
+use Rattle.otap_columns.specs.Substreams.{field_value, value_if, column_value, column_cell, table_of_batch, field_fits, field_fits_if, indexes_fit}
 use Rattle.otap_columns.specs.Records.{IsFineBatch, IsFineIn, IsFine, is_fine_for}
-use Rattle.otap_columns.specs.Schemas.{Forms, FormsFit, IsFound, is_there, is_dictionary, type_in, dict_for, schema_for}
+use Rattle.otap_columns.specs.Schemas.{Forms, FormsFit, IsFound, is_there, is_dictionary, arrow_type_in, dict_for, schema_for}
 use Rattle.otap_columns.specs.Observed.{bytes_for}
 use Rattle.otap_columns.specs.BuiltCells.{FitsForm}
 use Rattle.otap_columns.specs.WrittenPayloads.{LeadsTo, Stores, HoldsRows, heads}
@@ -40,14 +41,14 @@ use Rattle.otap_columns.proofs.CellsBack.{cell_back}
 use Rattle.otap_columns.proofs.Growing.{dictionary-other, dictionaries_in-batch, schema_in-stays, substream_from}
 use Rattle.otap_columns.proofs.HeldLess.{all_light, few_dictionaries}
 use Rattle.otap_columns.proofs.HeadsTaken.{all_some, Turn, stays, gets, Turns, after_turn, few_after}
-use Rattle.otap_columns.proofs.LookedUp.{all_by, none_by, each_weaker, values_found, id_known, each_dictionary}
+use Rattle.otap_columns.proofs.LookedUp.{all_by, none_by, values_found, id_known, each_dictionary}
 use Rattle.otap_columns.proofs.SchemaFacts.{HasColumn, has_column, coded, own_cells, dict_told, dict_there, form_there}
 use Rattle.otap_columns.proofs.Located.{column_found, column_absent}
 use Rattle.otap_columns.proofs.Tabled.{table_kind, table_coding}
 
 -- the type of a column in its form
 abbrev pub type_at : Kind → Forms → ℕ → ArrowType
-type_at kind forms column = type_in (base_at kind column) (forms column)
+type_at kind forms column = arrow_type_in (base_at kind column) (forms column)
 
 -- what a record brings after messages that begin with its schema
 pub record Step (kind : Kind) (forms : Forms) (values : ℕ → List (List ℕ)) (start : List IpcMessage) (head : ℕ → List IpcMessage) (rows : BatchIn) (t : Table) : Type 0 where
@@ -57,7 +58,7 @@ pub record Step (kind : Kind) (forms : Forms) (values : ℕ → List (List ℕ))
   pub turns : Turns (type_at kind forms) (λ column. is_dictionary (forms column)) (width_of kind) start values head
   pub light : (column : ℕ) → column < width_of kind → is_dictionary (forms column) ≡ true → sum_by value_weight (all_some (values column)) ≤ 1572864
   pub few : (column : ℕ) → column < width_of kind → is_dictionary (forms column) ≡ true → length (values column) ≤ value_limit
-  pub small : (column : ℕ) → column < width_of kind → is_dictionary (forms column) ≡ true → length (dictionary (type_at kind forms column) (pos column) start) ≤ value_limit
+  pub small : (column : ℕ) → column < width_of kind → is_dictionary (forms column) ≡ true → length (dictionary_over (type_at kind forms column) (pos column) start) ≤ value_limit
   pub holds : HoldsRows kind forms values t rows
   pub kind_is : t.kind ≡ kind
   pub table : IsTable t
@@ -102,7 +103,7 @@ module _ (kind : Kind) (forms : Forms) (values : ℕ → List (List ℕ)) (start
     pub below : column < width_of kind
     pub dict : is_dictionary (forms column) ≡ true
     pub id_is : id ≡ pos column
-    pub type_is : type ≡ type_in (base_at kind column) (forms column)
+    pub type_is : type ≡ arrow_type_in (base_at kind column) (forms column)
 
   owned : (place : ℕ) (a : ArraySpec) (d : DictSpec) → slice_get (arrays_of (schema_for kind forms)) place ≡ Some a → a.dict ≡ Some d → IsOwn a.kind d.id
   owned place a d at is =
@@ -118,22 +119,22 @@ module _ (kind : Kind) (forms : Forms) (values : ℕ → List (List ℕ)) (start
   unfolding dictionaries_in
   few_up n low =
       none_by is_too_large (filled (start ++ heads head n)) (empty_dictionaries (arrays_of (schema_for kind forms)))
-      (each_weaker (λ (d : DictionaryIn). IsOwn d.kind d.id) (λ (d : DictionaryIn). is_too_large (filled (start ++ heads head n) d) ≡ false) each (empty_dictionaries (arrays_of (schema_for kind forms))) each_owned)
+      (every_weaker (λ (d : DictionaryIn). IsOwn d.kind d.id) (λ (d : DictionaryIn). is_too_large (filled (start ++ heads head n) d) ≡ false) each (empty_dictionaries (arrays_of (schema_for kind forms))) each_owned)
     where
-      each : (d : DictionaryIn) → IsOwn d.kind d.id → nat_lt value_limit (length (dictionary d.kind d.id (start ++ heads head n))) ≡ false
+      each : (d : DictionaryIn) → IsOwn d.kind d.id → nat_lt value_limit (length (dictionary_over d.kind d.id (start ++ heads head n))) ≡ false
       each d o =
-          let here : length (dictionary (type_in (base_at kind o.column) (forms o.column)) (pos o.column) (start ++ heads head n)) ≤ value_limit =
+          let here : length (dictionary_over (arrow_type_in (base_at kind o.column) (forms o.column)) (pos o.column) (start ++ heads head n)) ≤ value_limit =
           few_after (type_at kind forms) (λ column. is_dictionary (forms column)) (width_of kind) start values head s.turns value_limit o.column n low o.dict
           (s.few o.column o.below o.dict) (s.small o.column o.below o.dict) in
-          le-ltb value_limit (length (dictionary d.kind d.id (start ++ heads head n))) (rw (o.type_is, o.id_is) here)
+          le-ltb value_limit (length (dictionary_over d.kind d.id (start ++ heads head n))) (rw (o.type_is, o.id_is) here)
 
   -- the values of a column's batch are fine for each dictionary of its id
-  fine_for : (column : ℕ) (batch : BatchIn) (ms : List IpcMessage) → array_check batch (place_of_values (type_in (base_at kind column) (forms column))) ≡ Ok tt
+  fine_for : (column : ℕ) (batch : BatchIn) (ms : List IpcMessage) → array_check batch (place_of_values (arrow_type_in (base_at kind column) (forms column))) ≡ Ok tt
       → list_all (is_fine_for (pos column) batch) (dictionaries_in (arrays_of (schema_for kind forms)) ms) ≡ true
   unfolding dictionaries_in
   fine_for column batch ms fine =
       all_by (is_fine_for (pos column) batch) (filled ms) (empty_dictionaries (arrays_of (schema_for kind forms)))
-      (each_weaker (λ (d : DictionaryIn). IsOwn d.kind d.id) (λ (d : DictionaryIn). is_fine_for (pos column) batch (filled ms d) ≡ true) each (empty_dictionaries (arrays_of (schema_for kind forms))) each_owned)
+      (every_weaker (λ (d : DictionaryIn). IsOwn d.kind d.id) (λ (d : DictionaryIn). is_fine_for (pos column) batch (filled ms d) ≡ true) each (empty_dictionaries (arrays_of (schema_for kind forms))) each_owned)
     where
       by : (d : DictionaryIn) → IsOwn d.kind d.id → (int_eq d.id (pos column) ≡ true) ⊎ (int_eq d.id (pos column) ≡ false)
           → (not (int_eq d.id (pos column)) || is_ok (array_check batch (place_of_values d.kind))) ≡ true
@@ -141,7 +142,7 @@ module _ (kind : Kind) (forms : Forms) (values : ℕ → List (List ℕ)) (start
       by d o (inl same) =
           let ids : pos o.column ≡ pos column = sym o.id_is ∙ (Decides-int_eq d.id (pos column)).0 same in
           let columns : o.column ≡ column = cc in
-          let type : d.kind ≡ type_in (base_at kind column) (forms column) = o.type_is ∙ ap (λ c. type_in (base_at kind c) (forms c)) columns in
+          let type : d.kind ≡ arrow_type_in (base_at kind column) (forms column) = o.type_is ∙ ap (λ c. arrow_type_in (base_at kind c) (forms c)) columns in
           rw same (ap (λ (k : ArrowType). is_ok (array_check batch (place_of_values k))) type ∙ ap is_ok fine)
 
       each : (d : DictionaryIn) → IsOwn d.kind d.id → is_fine_for (pos column) batch (filled ms d) ≡ true
@@ -152,7 +153,7 @@ module _ (kind : Kind) (forms : Forms) (values : ℕ → List (List ℕ)) (start
 
   -- a column's batch is fine
   fine_batch : (column : ℕ) (delta : Bool) (batch : BatchIn) → column < width_of kind → is_dictionary (forms column) ≡ true → Dictionary (pos column) delta batch ∷ [] ≡ head column
-      → array_check batch (place_of_values (type_in (base_at kind column) (forms column))) ≡ Ok tt
+      → array_check batch (place_of_values (arrow_type_in (base_at kind column) (forms column))) ≡ Ok tt
       → IsFineBatch (pos column) delta batch (dictionaries_in (arrays_of (schema_for kind forms)) (start ++ heads head column))
   fine_batch column delta batch below dict is fine =
       let f : IsFound kind forms column = column_found kind forms s.fit column below (form_there (forms column) dict) in
@@ -171,7 +172,7 @@ module _ (kind : Kind) (forms : Forms) (values : ℕ → List (List ℕ)) (start
   is_fine : (ms : List IpcMessage) (m : IpcMessage) → IsFineIn kind (start ++ ms) (Some (substream_of (start ++ ms) (schema_for kind forms))) m → IsFine kind (start ++ ms) m
   is_fine ms m h = subst (λ (o : Option SubstreamIn). IsFineIn kind (start ++ ms) o m) (sym (stands ms)) h
 
-  by_turn : (n : ℕ) (ms : List IpcMessage) → n < width_of kind → is_dictionary (forms n) ≡ true → ms ≡ head n → Turn (type_in (base_at kind n) (forms n)) n start (values n) ms
+  by_turn : (n : ℕ) (ms : List IpcMessage) → n < width_of kind → is_dictionary (forms n) ≡ true → ms ≡ head n → Turn (arrow_type_in (base_at kind n) (forms n)) n start (values n) ms
       → AllAfter (IsFine kind) (start ++ heads head n) ms
   by_turn n [] below dict is (stays same) = tt
   by_turn n (m ∷ ms) below dict is (gets delta batch same fine) = (is_fine (heads head n) (Dictionary (pos n) delta batch) (fine_batch n delta batch below dict is fine), tt)
@@ -201,21 +202,21 @@ module _ (kind : Kind) (forms : Forms) (values : ℕ → List (List ℕ)) (start
 
   -- each dictionary is as it should be
   pub dictionary_after : (column : ℕ) → column < width_of kind → is_dictionary (forms column) ≡ true
-      → dictionary (type_in (base_at kind column) (forms column)) (pos column) (start ++ (heads head (width_of kind) ++ Rows rows ∷ [])) ≡ all_some (values column)
+      → dictionary_over (arrow_type_in (base_at kind column) (forms column)) (pos column) (start ++ (heads head (width_of kind) ++ Rows rows ∷ [])) ≡ all_some (values column)
   dictionary_after column below dict =
-      ap (dictionary (type_in (base_at kind column) (forms column)) (pos column)) (sym (append_assoc start (heads head (width_of kind)) (Rows rows ∷ [])))
-      ∙ dictionary-other (type_in (base_at kind column) (forms column)) (pos column) (start ++ heads head (width_of kind)) (Rows rows) refl
+      ap (dictionary_over (arrow_type_in (base_at kind column) (forms column)) (pos column)) (sym (append_assoc start (heads head (width_of kind)) (Rows rows ∷ [])))
+      ∙ dictionary-other (arrow_type_in (base_at kind column) (forms column)) (pos column) (start ++ heads head (width_of kind)) (Rows rows) refl
       ∙ after_turn (type_at kind forms) (λ column. is_dictionary (forms column)) (width_of kind) start values head s.turns column (width_of kind) below (omega arith) dict
 
   values_after : (place column : ℕ) (a : ArraySpec) (d : DictSpec) → slice_get (arrays_of (schema_for kind forms)) place ≡ Some a → a.dict ≡ Some d → column < width_of kind
-      → a.kind ≡ type_in (base_at kind column) (forms column) → is_dictionary (forms column) ≡ true → d.id ≡ pos column
+      → a.kind ≡ arrow_type_in (base_at kind column) (forms column) → is_dictionary (forms column) ≡ true → d.id ≡ pos column
       → values_for a.kind d.id (dictionaries_in (arrays_of (schema_for kind forms)) (start ++ (heads head (width_of kind) ++ Rows rows ∷ []))) ≡ all_some (values column)
   values_after place column a d at is below type dict id =
       values_found (arrays_of (schema_for kind forms)) (start ++ (heads head (width_of kind) ++ Rows rows ∷ [])) place a d at is
-      ∙ (λ i. dictionary (type i) (id i) (start ++ (heads head (width_of kind) ++ Rows rows ∷ []))) ∙ dictionary_after column below dict
+      ∙ (λ i. dictionary_over (type i) (id i) (start ++ (heads head (width_of kind) ++ Rows rows ∷ []))) ∙ dictionary_after column below dict
 
   -- the cell of an array is its own
-  cell_is : (place row : ℕ) (a : ArraySpec) → slice_get (arrays_of (schema_for kind forms)) place ≡ Some a → row < rows.rows → cell_of (arrays_of (schema_for kind forms)) rows place row ≡ own_cell rows (place_of a) row
+  cell_is : (place row : ℕ) (a : ArraySpec) → slice_get (arrays_of (schema_for kind forms)) place ≡ Some a → row < rows.rows → cell_of (arrays_of (schema_for kind forms)) rows place row ≡ own_cell rows (array_place a) row
   cell_is place row a at low = own_cells kind forms s.fit rows row place a (s.holds.whole row (omega (arith, s.holds.count))) at
 
   -- EACH INDEX LEADS TO A VALUE
@@ -229,10 +230,10 @@ module _ (kind : Kind) (forms : Forms) (values : ℕ → List (List ℕ)) (start
           let told = dict_told h.column (forms h.column) d (sym h.dict ∙ is) in
           all_below-each (λ row. is_index_below (length (values_for a.kind d.id (dictionaries_in (arrays_of (schema_for kind forms)) whole))) (cell_of (arrays_of (schema_for kind forms)) rows place row)) rows.rows
           (λ row low.
-          let stored = leads (forms h.column) (values h.column) (bytes_for (base_at kind h.column) (forms h.column) (cell_in t.rows h.column row)) (own_cell rows (place_of a) row) told.0
+          let stored = leads (forms h.column) (values h.column) (bytes_for (base_at kind h.column) (forms h.column) (cell_in t.rows h.column row)) (own_cell rows (array_place a) row) told.0
           (s.holds.cells h.column place row a h.known at (omega (arith, s.holds.count))) in
           (λ i. is_index_below (length (values_after place h.column a d at is h.below h.type told.0 told.1 i)) (cell_is place row a at low i))
-          ∙ ap (λ n. is_index_below n (own_cell rows (place_of a) row)) (length-map (values h.column) (λ (value : List ℕ). Some value)) ∙ stored.below)
+          ∙ ap (λ n. is_index_below n (own_cell rows (array_place a) row)) (length-map (values h.column) (λ (value : List ℕ). Some value)) ∙ stored.below)
 
   pub indexes : indexes_fit after rows ≡ true
   unfolding indexes_fit
@@ -253,19 +254,19 @@ module _ (kind : Kind) (forms : Forms) (values : ℕ → List (List ℕ)) (start
       in_rows : row < rows.rows
       in_rows = omega (arith, s.holds.count)
 
-      stored : Stores (forms column) (values column) (bytes_for (base_at kind column) (forms column) (cell_in t.rows column row)) (own_cell rows (place_of f.array) row)
+      stored : Stores (forms column) (values column) (bytes_for (base_at kind column) (forms column) (cell_in t.rows column row)) (own_cell rows (array_place f.array) row)
       stored = s.holds.cells column f.place row f.array f.known f.at low
 
       by : (o : Option DictSpec) → f.array.dict ≡ o → replaced (dictionaries_in (arrays_of (schema_for kind forms)) whole) f.array.kind o (cell_of (arrays_of (schema_for kind forms)) rows f.place row)
           ≡ bytes_for (base_at kind column) (forms column) (cell_in t.rows column row)
       by None is =
           cell_is f.place row f.array f.at in_rows
-          ∙ plainly column (forms column) (values column) (bytes_for (base_at kind column) (forms column) (cell_in t.rows column row)) (own_cell rows (place_of f.array) row)
+          ∙ plainly column (forms column) (values column) (bytes_for (base_at kind column) (forms column) (cell_in t.rows column row)) (own_cell rows (array_place f.array) row)
           here (sym f.dict ∙ is) stored
       by (Some d) is =
           let told = dict_told column (forms column) d (sym f.dict ∙ is) in
-          let lead = leads (forms column) (values column) (bytes_for (base_at kind column) (forms column) (cell_in t.rows column row)) (own_cell rows (place_of f.array) row) told.0 stored in
-          (λ i. value_at (values_after f.place column f.array d f.at is below f.type told.0 told.1 i) (cell_is f.place row f.array f.at in_rows i)) ∙ lead.is
+          let lead = leads (forms column) (values column) (bytes_for (base_at kind column) (forms column) (cell_in t.rows column row)) (own_cell rows (array_place f.array) row) told.0 stored in
+          (λ i. value_by_index (values_after f.place column f.array d f.at is below f.type told.0 told.1 i) (cell_is f.place row f.array f.at in_rows i)) ∙ lead.is
 
   is_cell : (column row : ℕ) → IsCellOf (base_at kind column) (cell_in t.rows column row)
   is_cell column row = subst (λ (k : Kind). IsCellOf (base_at k column) (cell_in t.rows column row)) s.kind_is (s.table.fits column row)
@@ -292,8 +293,8 @@ module _ (kind : Kind) (forms : Forms) (values : ℕ → List (List ℕ)) (start
       by (inr not) = null_again (place_at kind (arrays_of (schema_for kind forms)) column) (column_absent kind forms s.fit column not) ∙ sym (s.absent_null column row not low)
 
   -- THE TABLE AGAIN
-  pub same_table : SameTable (table_in kind after rows) t
-  unfolding table_in
+  pub same_table : SameTable (table_of_batch kind after rows) t
+  unfolding table_of_batch
   same_table = record {
     kind = table_kind kind after rows ∙ sym s.kind_is;
     rows = rows-table_by kind (column_coding kind (arrays_of (schema_for kind forms))) (column_greatest kind (arrays_of (schema_for kind forms))) rows.rows (column_cell kind after rows)
@@ -309,12 +310,12 @@ module _ (kind : Kind) (forms : Forms) (values : ℕ → List (List ℕ)) (start
   held =
       let few = few_dictionaries kind forms s.fit in
       let all = all_light (filled (start ++ (heads head (width_of kind) ++ Rows rows ∷ []))) 1572864 (empty_dictionaries (arrays_of (schema_for kind forms)))
-      (each_weaker (λ (d : DictionaryIn). IsOwn d.kind d.id) (λ (d : DictionaryIn). weight_of (filled (start ++ (heads head (width_of kind) ++ Rows rows ∷ [])) d) ≤ 1572864) each
+      (every_weaker (λ (d : DictionaryIn). IsOwn d.kind d.id) (λ (d : DictionaryIn). dictionary_weight (filled (start ++ (heads head (width_of kind) ++ Rows rows ∷ [])) d) ≤ 1572864) each
       (empty_dictionaries (arrays_of (schema_for kind forms))) each_owned) in
       subst (λ (o : Option SubstreamIn). held_if o ≤ 1572864 * width_of kind) (sym (stands (heads head (width_of kind) ++ Rows rows ∷ []))) (omega (arith, few, all))
     where
-      each : (d : DictionaryIn) → IsOwn d.kind d.id → weight_of (filled (start ++ (heads head (width_of kind) ++ Rows rows ∷ [])) d) ≤ 1572864
+      each : (d : DictionaryIn) → IsOwn d.kind d.id → dictionary_weight (filled (start ++ (heads head (width_of kind) ++ Rows rows ∷ [])) d) ≤ 1572864
       each d o =
-          let here : sum_by value_weight (dictionary (type_in (base_at kind o.column) (forms o.column)) (pos o.column) (start ++ (heads head (width_of kind) ++ Rows rows ∷ []))) ≤ 1572864 =
+          let here : sum_by value_weight (dictionary_over (arrow_type_in (base_at kind o.column) (forms o.column)) (pos o.column) (start ++ (heads head (width_of kind) ++ Rows rows ∷ []))) ≤ 1572864 =
           subst (λ (vs : List (Option (List ℕ))). sum_by value_weight vs ≤ 1572864) (sym (dictionary_after o.column o.below o.dict)) (s.light o.column o.below o.dict) in
           rw (o.type_is, o.id_is) here

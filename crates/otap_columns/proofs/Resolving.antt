@@ -12,9 +12,9 @@ use Rattle.otap_cells.specs.declared.profile.Base.{Base}
 use Rattle.otap_cells.specs.Tables.{Table, IsTable, cell_in}
 use Rattle.otap_columns.specs.declared.resolved.ResolvedColumn.{ResolvedColumn}
 use Rattle.otap_columns.specs.Known.{place_at, columns_fit, stored_cell}
-use Rattle.otap_columns.specs.Resolved.{FitsBase, resolved_value, IsResolved, IsField, IsColumn, ShowsColumn}
+use Rattle.otap_columns.specs.Resolved.{FitsBase, resolved_value, IsResolved, IsFieldColumn, IsColumn, ShowsColumn}
 use Rattle.otap_columns.specs.Steps.{FitsIn}
-use Rattle.otap_columns.specs.Substreams.{SubstreamIn, column_cell, table_in}
+use Rattle.otap_columns.specs.Substreams.{SubstreamIn, column_cell, table_of_batch}
 use Rattle.otap_columns.proofs.Placed.{column_value_is}
 use Rattle.otap_columns.proofs.Showing.{column_value_fits}
 use Rattle.otap_columns.proofs.Tabled.{same_kind, shows, holds}
@@ -31,7 +31,7 @@ module _ (kind : Kind) (s : SubstreamIn) (batch : BatchIn) (types : columns_fit 
     fits = λ row. column_value_fits kind s batch types all fine column row;
   }
 
-  pub column_there : (column place : ℕ) (c : ResolvedColumn) → place_at kind s.arrays column ≡ Some place → IsField s batch place c
+  pub column_there : (column place : ℕ) (c : ResolvedColumn) → place_at kind s.arrays column ≡ Some place → IsFieldColumn s batch place c
       → c.base ≡ base_at kind column → IsColumn kind s batch column c
   column_there column place c at field base = record {
     values = λ row. field.values row ∙ column_value_is kind s batch column row (Some place) at;
@@ -54,7 +54,7 @@ one_more_column kind s batch found n c inside before here k d below =
     ]
 
 -- a column shows the cells of the table
-pub shows_column : (kind : Kind) (s : SubstreamIn) (batch : BatchIn) (t : Table) → table_in kind s batch ≡ t → IsTable (table_in kind s batch) → (column : ℕ) (c : ResolvedColumn)
+pub shows_column : (kind : Kind) (s : SubstreamIn) (batch : BatchIn) (t : Table) → table_of_batch kind s batch ≡ t → IsTable (table_of_batch kind s batch) → (column : ℕ) (c : ResolvedColumn)
     → IsColumn kind s batch column c → column < width_of t.kind → ShowsColumn t column c
 unfolding column_cell
 shows_column kind s batch t is sound column c here in_width = record {

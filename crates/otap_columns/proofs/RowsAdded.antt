@@ -15,7 +15,7 @@ use Rattle.arrow_buffers.specs.declared.builder.Buffers.{Buffers}
 use Rattle.arrow_buffers.specs.declared.width.Width.{Width}
 use Rattle.arrow_buffers.specs.Columns.{cell_len, cells_len}
 use Rattle.arrow_ipc.specs.Batches.{BatchIn}
-use Rattle.arrow_arrays.specs.Written.{PartIn, batch_of, struct_part}
+use Rattle.arrow_arrays.specs.Written.{PartIn, batch_of_parts, struct_part}
 use Rattle.otap_cells.specs.declared.profile.Base.{Base}
 use Rattle.otap_cells.specs.declared.profile.Base.TheVariants as base
 use Rattle.otap_cells.specs.Cells.{Cell, null, number, bits, flag, bytes}
@@ -32,7 +32,7 @@ use Rattle.otap_columns.specs.Groups as groups
 use Rattle.otap_columns.specs.Schemas.{Forms, FormsFit, ArraySlot, Struct, slots_for, is_there, members_there, slots_of_member, slots_under, slots_in}
 use Rattle.otap_columns.specs.WrittenGroups.{member_in, group_in}
 use Rattle.otap_columns.specs.WrittenCells.{place_among, stored_for, stored_column}
-use Rattle.otap_columns.specs.BuiltCells.{width_for, parts_of, with_part, with_parts}
+use Rattle.otap_columns.specs.BuiltCells.{width_for, batch_parts, with_part, with_parts}
 use Rattle.otap_columns.specs.WrittenPayloads.{HoldsRows}
 use Rattle.otap_columns.specs.Groups.{grouped}
 use Rattle.otap_columns.specs.WrittenRows.{AreSlotParts, HasValues}
@@ -198,11 +198,11 @@ from_empty rows nodes buffers (p ∷ parts) =
       buffers = append_assoc buffers p.buffers (flat_map (λ (q : PartIn). q.buffers) parts) i;
     })
 
-pub whole_batch : (rows : ℕ) (parts : List PartIn) → with_parts (record { rows = rows; nodes = []; buffers = [] }) parts ≡ batch_of rows parts
-unfolding batch_of
+pub whole_batch : (rows : ℕ) (parts : List PartIn) → with_parts (record { rows = rows; nodes = []; buffers = [] }) parts ≡ batch_of_parts rows parts
+unfolding batch_of_parts
 whole_batch rows parts = from_empty rows [] [] parts
 
-rows_weigh : (rows : List (List Cell)) → 32 * length rows ≤ sum_by weight_of_row rows
+pub rows_weigh : (rows : List (List Cell)) → 32 * length rows ≤ sum_by weight_of_row rows
 rows_weigh [] = omega arith
 rows_weigh (r ∷ rows) = omega (arith, sum_by-cons weight_of_row r rows, rows_weigh rows)
 
@@ -219,12 +219,12 @@ under_ok forms values t struct ms old mid new (Ok x) some first rest = under_som
 under_ok forms values t struct ms old mid new (Err e) some first rest = tt
 
 pub member_ok : {E : Type 0} (forms : Forms) (values : ℕ → List (List ℕ)) (t : Table) (table : IsTable t) (m : groups.Member) (b : Buffers) (old new : BatchIn) (w : Width) (r : Result (Unit {0}) E)
-    → is_there (forms m.column) ≡ true → IsBuiltOf forms values t table m b → w ≡ width_for (base_at t.kind m.column) (forms m.column) → OnOk r (new ≡ with_parts old (parts_of w b))
+    → is_there (forms m.column) ≡ true → IsBuiltOf forms values t table m b → w ≡ width_for (base_at t.kind m.column) (forms m.column) → OnOk r (new ≡ with_parts old (batch_parts w b))
     → OnOk r (AddsSlots forms values t (flat_map (slots_of_member t.kind) (members_there forms (m ∷ []))) old new)
 member_ok forms values t table m b old new w (Ok x) here is same added =
     let one : AddsSlots forms values t (slots_of_member t.kind m) old new = record {
-      parts = parts_of (width_for (base_at t.kind m.column) (forms m.column)) b;
-      whole = added ∙ ap (λ (v : Width). with_parts old (parts_of v b)) same;
+      parts = batch_parts (width_for (base_at t.kind m.column) (forms m.column)) b;
+      whole = added ∙ ap (λ (v : Width). with_parts old (batch_parts v b)) same;
       are = column_parts forms values t table m b is;
     } in
     rw here (subst (λ (slots : List ArraySlot). AddsSlots forms values t slots old new) (sym (append-nil (slots_of_member t.kind m))) one)

@@ -18,12 +18,12 @@ use Rattle.arrow_arrays.specs.declared.layout.Layout.TheVariants as layout
 use Rattle.arrow_arrays.specs.declared.spec.Above.{Above}
 use Rattle.arrow_arrays.specs.declared.spec.Above.TheVariants as parent
 use Rattle.arrow_arrays.specs.declared.spec.ArraySpec.{ArraySpec}
-use Rattle.arrow_arrays.specs.Arrays.{arrays_of, is_element, place_of}
+use Rattle.arrow_arrays.specs.Arrays.{arrays_of, is_below_list, array_place}
 use Rattle.arrow_arrays.specs.Cells.{own_cell}
-use Rattle.arrow_arrays.specs.Columns.{width_of}
-use Rattle.arrow_arrays.specs.Fields.{FieldIn, field_of}
+use Rattle.arrow_arrays.specs.Columns.{stored_width}
+use Rattle.arrow_arrays.specs.Fields.{FieldIn, field_of_array}
 use Rattle.arrow_arrays.specs.Layouts.{layout_of}
-use Rattle.arrow_arrays.specs.Written.{PartIn, batch_of, HoldsCells, ElementsFollow, IsPartOfElements, HoldsBelow, HoldsArray, HasPart, AreParts, IsColumnArray}
+use Rattle.arrow_arrays.specs.Written.{PartIn, batch_of_parts, HoldsCells, ElementsFollow, IsPartOfElements, HoldsBelow, HoldsArray, HasPart, AreParts, IsColumnArray}
 use Rattle.arrow_arrays.proofs.Parted.{parts_check, parts_cells, parts_whole, parts_bitmaps}
 use Rattle.otap_cells.specs.declared.payload.Kind.{Kind}
 use Rattle.otap_cells.specs.declared.profile.Base.{Base}
@@ -35,9 +35,9 @@ use Rattle.otap_columns.specs.declared.forms.ColumnForm.{ColumnForm}
 use Rattle.otap_columns.specs.declared.forms.ColumnForm.TheVariants as form
 use Rattle.otap_columns.specs.Known.{known_column}
 use Rattle.otap_columns.specs.Observed.{bytes_for}
-use Rattle.otap_columns.specs.Schemas.{Forms, FormsFit, ArraySlot, Struct, Column, Items, IsArraySlot, is_dictionary, is_items, slot_field, slot_column, slots_for, schema_for, type_in, item_in, item_type}
+use Rattle.otap_columns.specs.Schemas.{Forms, FormsFit, ArraySlot, Struct, Column, Items, IsArraySlot, is_dictionary, is_items, slot_field, slot_column, slots_for, schema_for, arrow_type_in, item_in, item_type}
 use Rattle.otap_columns.specs.WrittenPayloads.{LeadsTo, Stores, HoldsRows}
-use Rattle.otap_columns.specs.Substreams.{value_at, is_index_below}
+use Rattle.otap_columns.specs.Substreams.{value_by_index, is_index_below}
 use Rattle.otap_columns.specs.WrittenCells.{FitsIndexes, index_bytes, stored_column, stored_for}
 use Rattle.otap_columns.specs.WrittenRows.{HoldsSlot, first_of, AreSlotParts, IsKnownIn, HasValues}
 use Rattle.otap_columns.proofs.ColumnsBuilt.{stored_at}
@@ -115,13 +115,13 @@ module _ (kind : Kind) (forms : Forms) (values : ℕ → List (List ℕ)) (t : T
   abbrev cells : ℕ → List (Option (List ℕ))
   cells place = cells_if (known_column kind (arrays_of (schema_for kind forms)) place)
 
-  below : (above : Above) (l : Layout) (rows : ℕ) (cs : List (Option (List ℕ))) (p : PartIn) (next : Option PartIn) → is_element above ≡ false → HoldsCells l rows cs p next → HoldsBelow above l rows cs p next
+  below : (above : Above) (l : Layout) (rows : ℕ) (cs : List (Option (List ℕ))) (p : PartIn) (next : Option PartIn) → is_below_list above ≡ false → HoldsCells l rows cs p next → HoldsBelow above l rows cs p next
   below parent.Top l rows cs p next other h = h
   below (parent.Struct place) l rows cs p next other h = h
   below parent.List l rows cs p next other h = absurd (true≢false other)
 
   -- no column's layout is a struct's
-  column_array : (l : Layout) (above : Above) (rows : ℕ) (cs : List (Option (List ℕ))) (p : PartIn) (next : Option PartIn) → is_element above ≡ false → HoldsCells l rows cs p next → HoldsArray l above rows cs p next
+  column_array : (l : Layout) (above : Above) (rows : ℕ) (cs : List (Option (List ℕ))) (p : PartIn) (next : Option PartIn) → is_below_list above ≡ false → HoldsCells l rows cs p next → HoldsArray l above rows cs p next
   column_array layout.Struct above rows cs p next other h = let none : None ≡ Some h.width = h.stored in absurd (cc)
   column_array layout.Bits above rows cs p next other h = below above layout.Bits rows cs p next other h
   column_array (layout.Fixed n) above rows cs p next other h = below above (layout.Fixed n) rows cs p next other h
@@ -129,12 +129,12 @@ module _ (kind : Kind) (forms : Forms) (values : ℕ → List (List ℕ)) (t : T
   column_array layout.Text above rows cs p next other h = below above layout.Text rows cs p next other h
   column_array layout.List above rows cs p next other h = below above layout.List rows cs p next other h
 
-  elements_below : (above : Above) (l : Layout) (rows : ℕ) (cs : List (Option (List ℕ))) (p : PartIn) (next : Option PartIn) → is_element above ≡ true → IsPartOfElements l p → HoldsBelow above l rows cs p next
+  elements_below : (above : Above) (l : Layout) (rows : ℕ) (cs : List (Option (List ℕ))) (p : PartIn) (next : Option PartIn) → is_below_list above ≡ true → IsPartOfElements l p → HoldsBelow above l rows cs p next
   elements_below parent.Top l rows cs p next is h = absurd (false≢true is)
   elements_below (parent.Struct place) l rows cs p next is h = absurd (false≢true is)
   elements_below parent.List l rows cs p next is h = h
 
-  elements_array : (l : Layout) (above : Above) (rows : ℕ) (cs : List (Option (List ℕ))) (p : PartIn) (next : Option PartIn) → is_element above ≡ true → IsPartOfElements l p → HoldsArray l above rows cs p next
+  elements_array : (l : Layout) (above : Above) (rows : ℕ) (cs : List (Option (List ℕ))) (p : PartIn) (next : Option PartIn) → is_below_list above ≡ true → IsPartOfElements l p → HoldsArray l above rows cs p next
   elements_array layout.Struct above rows cs p next is h = absurd (no h.fixed)
     where
       no : {n : ℕ} → layout.Struct ≡ layout.Fixed n → ⊥
@@ -149,7 +149,7 @@ module _ (kind : Kind) (forms : Forms) (values : ℕ → List (List ℕ)) (t : T
   abbrev layout_in : FieldIn → Layout
   layout_in f = layout_of f.kind f.dict
 
-  by_slot : (a : ArraySpec) (slot : ArraySlot) (known : Option ℕ) (p : PartIn) (next : Option PartIn) → field_of a ≡ slot_field kind forms slot → known ≡ slot_column slot → is_element a.above ≡ is_items slot
+  by_slot : (a : ArraySpec) (slot : ArraySlot) (known : Option ℕ) (p : PartIn) (next : Option PartIn) → field_of_array a ≡ slot_field kind forms slot → known ≡ slot_column slot → is_below_list a.above ≡ is_items slot
       → HoldsSlot kind forms values t slot p next → HoldsArray (layout_of a.kind a.dict) a.above (length t.rows) (cells_if known) p next
   by_slot a (Struct name) known p next field is element h =
       subst (λ (l : Layout). HoldsArray l a.above (length t.rows) (cells_if known) p next) (sym (ap layout_in field)) h
@@ -208,7 +208,7 @@ leads_to n values (Some value) few known =
     let low : f.0 < 256 ^ n = omega (arith, few, f.2) in
     let index : index_bytes n values (Some value) ≡ Some (little_bytes n f.0) = ap (option_map (little_bytes n)) f.1 in
     record {
-      is = ap (value_at (all_some values)) index ∙ ap (λ (m : ℕ). get_or (all_some values) m None) (number_again n f.0 low) ∙ some_at values f.0 f.2 ∙ ap Some f.3;
+      is = ap (value_by_index (all_some values)) index ∙ ap (λ (m : ℕ). get_or (all_some values) m None) (number_again n f.0 low) ∙ some_at values f.0 f.2 ∙ ap Some f.3;
       below = ap (is_index_below (length values)) index ∙ ap (λ (m : ℕ). nat_lt m (length values)) (number_again n f.0 low) ∙ lt-ltb f.0 (length values) f.2;
     }
 
@@ -240,7 +240,7 @@ no_item base.ListU64 e = cc
 no_item base.ListF64 e = cc
 no_item (base.Id wide) e = cc
 
-no_struct : (holds : Base) (f : ColumnForm) → type_in holds f ≡ arrow.Struct → ⊥
+no_struct : (holds : Base) (f : ColumnForm) → arrow_type_in holds f ≡ arrow.Struct → ⊥
 no_struct base.U8 f e = cc
 no_struct base.U16 f e = cc
 no_struct base.U32 f e = cc
@@ -267,14 +267,14 @@ no_struct (base.Id wide) form.Wide e = cc
 
 module _ (kind : Kind) (forms : Forms) (values : ℕ → List (List ℕ)) (t : Table) (parts : List PartIn) (fit : FormsFit kind forms) (of : t.kind ≡ kind) (has : HasValues kind forms values t)
     (are : AreSlotParts kind forms values t (slots_for kind forms) parts) where
-  column_slot : (a : ArraySpec) (slot : ArraySlot) (column : ℕ) (p : PartIn) (next : Option PartIn) → field_of a ≡ slot_field kind forms slot → is_element a.above ≡ is_items slot → Some column ≡ slot_column slot
+  column_slot : (a : ArraySpec) (slot : ArraySlot) (column : ℕ) (p : PartIn) (next : Option PartIn) → field_of_array a ≡ slot_field kind forms slot → is_below_list a.above ≡ is_items slot → Some column ≡ slot_column slot
       → HoldsSlot kind forms values t slot p next → IsColumnArray a
   column_slot a (Struct name) column p next field element is h = absurd (cc (is))
   column_slot a (Items c) column p next field element is h = absurd (cc (is))
   column_slot a (Column m) column p next field element is h = record {
     width = h.width;
-    stored = ap (λ (f : FieldIn). width_of (layout_of f.kind f.dict)) field ∙ h.stored;
-    above = λ list. true≢false (sym (ap is_element list) ∙ element);
+    stored = ap (λ (f : FieldIn). stored_width (layout_of f.kind f.dict)) field ∙ h.stored;
+    above = λ list. true≢false (sym (ap is_below_list list) ∙ element);
   }
 
   column_array_at : (column place : ℕ) (a : ArraySpec) → known_column kind (arrays_of (schema_for kind forms)) place ≡ Some column → slice_get (arrays_of (schema_for kind forms)) place ≡ Some a → IsColumnArray a
@@ -284,25 +284,25 @@ module _ (kind : Kind) (forms : Forms) (values : ℕ → List (List ℕ)) (t : T
       column_slot a s.slot column h.part (slice_get parts (place + 1)) s.field s.element (sym known ∙ s.known) h.holds
 
   cell_held : (column place row : ℕ) (a : ArraySpec) → known_column kind (arrays_of (schema_for kind forms)) place ≡ Some column → slice_get (arrays_of (schema_for kind forms)) place ≡ Some a → row < length t.rows
-      → Stores (forms column) (values column) (bytes_for (base_at kind column) (forms column) (cell_in t.rows column row)) (own_cell (batch_of (length t.rows) parts) (place_of a) row)
+      → Stores (forms column) (values column) (bytes_for (base_at kind column) (forms column) (cell_in t.rows column row)) (own_cell (batch_of_parts (length t.rows) parts) (array_place a) row)
   cell_held column place row a known at low =
       let cell = parts_cells (schema_for kind forms) (length t.rows) (cells kind forms values t) parts (are_parts kind forms values t fit parts are) place a at (column_array_at column place a known at) row low in
-      let own : slice_get (stored_column (forms column) (values column) t column) row ≡ Some (own_cell (batch_of (length t.rows) parts) (place_of a) row) =
+      let own : slice_get (stored_column (forms column) (values column) t column) row ≡ Some (own_cell (batch_of_parts (length t.rows) parts) (array_place a) row) =
       ap (λ (o : Option ℕ). slice_get (cells_if kind forms values t o) row) (sym known) ∙ cell in
-      let is : own_cell (batch_of (length t.rows) parts) (place_of a) row ≡ stored_for (base_at kind column) (forms column) (values column) (cell_in t.rows column row) =
-      sym (get_or_from_slice_get (stored_column (forms column) (values column) t column) row (own_cell (batch_of (length t.rows) parts) (place_of a) row) None own)
+      let is : own_cell (batch_of_parts (length t.rows) parts) (array_place a) row ≡ stored_for (base_at kind column) (forms column) (values column) (cell_in t.rows column row) =
+      sym (get_or_from_slice_get (stored_column (forms column) (values column) t column) row (own_cell (batch_of_parts (length t.rows) parts) (array_place a) row) None own)
       ∙ stored_at (forms column) (values column) t column row low ∙ ap (λ (k : Kind). stored_for (base_at k column) (forms column) (values column) (cell_in t.rows column row)) of in
       subst (Stores (forms column) (values column) (bytes_for (base_at kind column) (forms column) (cell_in t.rows column row))) (sym is)
       (stores (base_at kind column) (forms column) (values column) (cell_in t.rows column row) (has.few column) (λ dict. has.known column row dict low))
 
   -- a struct has no dictionary
-  struct_slot : (a : ArraySpec) (slot : ArraySlot) → field_of a ≡ slot_field kind forms slot → a.kind ≡ arrow.Struct → layout_of a.kind a.dict ≡ layout.Struct
+  struct_slot : (a : ArraySpec) (slot : ArraySlot) → field_of_array a ≡ slot_field kind forms slot → a.kind ≡ arrow.Struct → layout_of a.kind a.dict ≡ layout.Struct
   struct_slot a (Struct name) field is = ap (λ (f : FieldIn). layout_of f.kind f.dict) field
   struct_slot a (Items c) field is = absurd (no_item (column_at kind c).base (sym (ap (λ (f : FieldIn). f.kind) field) ∙ is))
   struct_slot a (Column m) field is = absurd (no_struct (column_at kind m.column).base (forms m.column) (sym (ap (λ (f : FieldIn). f.kind) field) ∙ is))
 
-  pub rows_held : HoldsRows kind forms values t (batch_of (length t.rows) parts)
-  unfolding batch_of
+  pub rows_held : HoldsRows kind forms values t (batch_of_parts (length t.rows) parts)
+  unfolding batch_of_parts
   rows_held = record {
     count = refl;
     fine = parts_check (schema_for kind forms) (length t.rows) (cells kind forms values t) parts (are_parts kind forms values t fit parts are);

@@ -4,7 +4,7 @@ use Rattle.std.specs.List.{flat_map}
 use Rattle.std.proofs.lemmas.List.{map-append, take_more}
 use Rattle.std.proofs.lemmas.List.Elements.{filter-append}
 use Rattle.std.proofs.lemmas.Grind.{flat_map-append}
-use Rattle.arrow_schema.specs.Branches.{Leaf, Branch, leaf_field, branch_field, fields_of}
+use Rattle.arrow_schema.specs.Branches.{Leaf, Branch, leaf_field, branch_field, branch_fields}
 use Rattle.arrow_schema.specs.declared.spec.FieldSpec.{FieldSpec}
 use Rattle.otap_cells.specs.declared.payload.Kind.{Kind}
 use Rattle.otap_columns.specs.declared.writer_groups.Group.{Group}
@@ -18,7 +18,7 @@ abbrev pub leaves : Kind → Forms → List Member → List FieldSpec
 leaves kind forms ms = map leaf_field (map (leaf_in kind forms) (members_there forms (map member_in ms)))
 
 abbrev pub built : Kind → Forms → List Group → List FieldSpec
-built kind forms gs = fields_of (flat_map (branches_in kind forms) (map group_in gs))
+built kind forms gs = branch_fields (flat_map (branches_in kind forms) (map group_in gs))
 
 leaves-append : (kind : Kind) (forms : Forms) (xs ys : List Member) → leaves kind forms (xs ++ ys) ≡ leaves kind forms xs ++ leaves kind forms ys
 leaves-append kind forms xs ys =
@@ -34,12 +34,12 @@ leaves_more kind forms ms k m low is =
 
 built-append : (kind : Kind) (forms : Forms) (xs ys : List Group) → built kind forms (xs ++ ys) ≡ built kind forms xs ++ built kind forms ys
 built-append kind forms xs ys =
-    ap (λ (gs : List groups.Group). fields_of (flat_map (branches_in kind forms) gs)) (map-append group_in xs ys)
-    ∙ ap (λ (bs : List Branch). fields_of bs) (flat_map-append (branches_in kind forms) (map group_in xs) (map group_in ys))
+    ap (λ (gs : List groups.Group). branch_fields (flat_map (branches_in kind forms) gs)) (map-append group_in xs ys)
+    ∙ ap (λ (bs : List Branch). branch_fields bs) (flat_map-append (branches_in kind forms) (map group_in xs) (map group_in ys))
     ∙ map-append branch_field (flat_map (branches_in kind forms) (map group_in xs)) (flat_map (branches_in kind forms) (map group_in ys))
 
 pub built_more : (kind : Kind) (forms : Forms) (gs : List Group) (k : ℕ) (g : Group) → k < length gs → g ≡ get_or gs k g
-    → built kind forms (take k gs) ++ fields_of (branches_in kind forms (group_in g)) ≡ built kind forms (take (k + 1) gs)
+    → built kind forms (take k gs) ++ branch_fields (branches_in kind forms (group_in g)) ≡ built kind forms (take (k + 1) gs)
 built_more kind forms gs k g low is =
-    ap (λ (bs : List Branch). built kind forms (take k gs) ++ fields_of bs) (sym (append-nil (branches_in kind forms (group_in g))))
+    ap (λ (bs : List Branch). built kind forms (take k gs) ++ branch_fields bs) (sym (append-nil (branches_in kind forms (group_in g))))
     ∙ sym (ap (built kind forms) (take_more gs k g low ∙ ap (λ x. take k gs ++ x ∷ []) (sym is)) ∙ built-append kind forms (take k gs) (g ∷ []))

@@ -7,17 +7,17 @@ use Rattle.arrow_schema.specs.declared.spec.Encoding.{Encoding}
 use Rattle.arrow_schema.specs.declared.spec.Encoding.TheVariants as encoding
 use Rattle.arrow_ipc.specs.Batches.{BatchIn}
 use Rattle.arrow_arrays.specs.declared.spec.ArraySpec.{ArraySpec}
-use Rattle.arrow_arrays.specs.Arrays.{arrays_of, cell_of, place_of}
+use Rattle.arrow_arrays.specs.Arrays.{arrays_of, cell_of, array_place}
 use Rattle.arrow_arrays.specs.Cells.{own_cell}
-use Rattle.arrow_arrays.specs.Fields.{FieldIn, field_of}
+use Rattle.arrow_arrays.specs.Fields.{FieldIn, field_of_array}
 use Rattle.arrow_arrays.specs.Written.{HasWholeStructs}
 use Rattle.arrow_arrays.proofs.Raised.{whole_cells}
 use Rattle.otap_cells.specs.declared.payload.Kind.{Kind}
 use Rattle.otap_cells.specs.Columns.{base_at, coding_at, width_of}
 use Rattle.otap_columns.specs.declared.forms.ColumnForm.{ColumnForm}
 use Rattle.otap_columns.specs.declared.forms.ColumnForm.TheVariants as form
-use Rattle.otap_columns.specs.Known.{known_column, coding_named, coding_if, array_at, array_of, column_coding}
-use Rattle.otap_columns.specs.Schemas.{Forms, FormsFit, IsFound, IsArraySlot, ArraySlot, Struct, Column, Items, is_there, is_dictionary, type_in, dict_for, slot_field, slot_column, schema_for}
+use Rattle.otap_columns.specs.Known.{known_column, coding_named, coding_if, array_of_column, array_of, column_coding}
+use Rattle.otap_columns.specs.Schemas.{Forms, FormsFit, IsFound, IsArraySlot, ArraySlot, Struct, Column, Items, is_there, is_dictionary, arrow_type_in, dict_for, slot_field, slot_column, schema_for}
 use Rattle.otap_columns.proofs.Finding.{known_column-below}
 use Rattle.otap_columns.proofs.Keeping.{schema_readable}
 use Rattle.otap_columns.proofs.Located.{slot_at, column_found, column_absent}
@@ -50,10 +50,10 @@ module _ (kind : Kind) (forms : Forms) (fit : FormsFit kind forms) where
     pub column : ℕ
     pub below : column < width_of kind
     pub known : known_column kind (arrays_of (schema_for kind forms)) place ≡ Some column
-    pub type : a.kind ≡ type_in (base_at kind column) (forms column)
+    pub type : a.kind ≡ arrow_type_in (base_at kind column) (forms column)
     pub dict : a.dict ≡ dict_for column (forms column)
 
-  by_slot : (place : ℕ) (a : ArraySpec) (d : DictSpec) (slot : ArraySlot) → a.dict ≡ Some d → field_of a ≡ slot_field kind forms slot
+  by_slot : (place : ℕ) (a : ArraySpec) (d : DictSpec) (slot : ArraySlot) → a.dict ≡ Some d → field_of_array a ≡ slot_field kind forms slot
       → known_column kind (arrays_of (schema_for kind forms)) place ≡ slot_column slot → HasColumn place a
   by_slot place a d (Struct name) is field known = let none : None ≡ Some d = sym (ap (λ (f : FieldIn). f.dict) field) ∙ is in absurd (cc)
   by_slot place a d (Items column) is field known = let none : None ≡ Some d = sym (ap (λ (f : FieldIn). f.dict) field) ∙ is in absurd (cc)
@@ -71,7 +71,7 @@ module _ (kind : Kind) (forms : Forms) (fit : FormsFit kind forms) where
       by_slot place a d s.slot is s.field s.known
 
   -- no field names an encoding
-  plain_slot : (slot : ArraySlot) (a : ArraySpec) → field_of a ≡ slot_field kind forms slot → a.encoding ≡ encoding.None
+  plain_slot : (slot : ArraySlot) (a : ArraySpec) → field_of_array a ≡ slot_field kind forms slot → a.encoding ≡ encoding.None
   plain_slot (Struct name) a field = ap (λ (f : FieldIn). f.encoding) field
   plain_slot (Column m) a field = ap (λ (f : FieldIn). f.encoding) field
   plain_slot (Items column) a field = ap (λ (f : FieldIn). f.encoding) field
@@ -85,11 +85,11 @@ module _ (kind : Kind) (forms : Forms) (fit : FormsFit kind forms) where
       by (inl here) =
           let f : IsFound kind forms column = column_found kind forms fit column below here in
           let s : IsArraySlot kind forms f.place f.array = slot_at kind forms fit f.place f.array f.at in
-          (λ i. coding_if (coding_at kind column) (array_at (arrays_of (schema_for kind forms)) (f.found i))) ∙ (λ i. coding_if (coding_at kind column) (f.at i))
+          (λ i. coding_if (coding_at kind column) (array_of_column (arrays_of (schema_for kind forms)) (f.found i))) ∙ (λ i. coding_if (coding_at kind column) (f.at i))
           ∙ ap (λ (e : Encoding). coding_named e (coding_at kind column)) (plain_slot s.slot f.array s.field)
-      by (inr not) = λ i. coding_if (coding_at kind column) (array_at (arrays_of (schema_for kind forms)) (column_absent kind forms fit column not i))
+      by (inr not) = λ i. coding_if (coding_at kind column) (array_of_column (arrays_of (schema_for kind forms)) (column_absent kind forms fit column not i))
 
   -- a cell is that of its own array, where no row of a struct is null
   pub own_cells : (batch : BatchIn) (row place : ℕ) (a : ArraySpec) → HasWholeStructs (arrays_of (schema_for kind forms)) batch row
-      → slice_get (arrays_of (schema_for kind forms)) place ≡ Some a → cell_of (arrays_of (schema_for kind forms)) batch place row ≡ own_cell batch (place_of a) row
+      → slice_get (arrays_of (schema_for kind forms)) place ≡ Some a → cell_of (arrays_of (schema_for kind forms)) batch place row ≡ own_cell batch (array_place a) row
   own_cells batch row place a whole at = whole_cells (schema_for kind forms) batch row (schema_readable kind forms fit) whole place a at

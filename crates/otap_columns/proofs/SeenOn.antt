@@ -17,15 +17,15 @@ use Rattle.otap_cells.specs.Cells.{Cell, null}
 use Rattle.otap_cells.specs.Columns.{column_at, base_at, is_id_at}
 use Rattle.otap_cells.specs.Tables.{Table, cell_in, column_in}
 use Rattle.otap_dicts.specs.declared.form.Form.TheVariants as ladder
-use Rattle.otap_dicts.specs.Forms.{distinct, bytes_of, is_too_large, form_of}
+use Rattle.otap_dicts.specs.Forms.{distinct, byte_count, is_too_large, form_of}
 use Rattle.otap_dicts.specs.Ladders.{LadderIn, is_dictionary, ladder_of, observed}
 use Rattle.otap_dicts.proofs.Observing.{observed-push}
 use Rattle.otap_dicts.specs.Limits.{narrow_limit}
 use Rattle.otap_columns.specs.declared.forms.ColumnForm.{ColumnForm}
 use Rattle.otap_columns.specs.declared.forms.ColumnForm.TheVariants as form
-use Rattle.otap_columns.specs.Observed.{bytes_for, given, seen, has_wide_id, is_own_id, is_wide, if_seen, id_form, form_at}
+use Rattle.otap_columns.specs.Observed.{bytes_for, given, values_in_tables, has_wide_id, is_own_id, is_wide, if_seen, id_form, form_at}
 use Rattle.otap_columns.specs.Seen.{SeenIn, IsSeenAfter, may_widen}
-use Rattle.otap_columns.specs.SeenInside.{filled_up, observed_if, places_of, SeesTable, is_absent, form_told, id_form_told}
+use Rattle.otap_columns.specs.SeenInside.{filled_up, observed_if, places_of_cells, SeesTable, is_absent, form_told, id_form_told}
 use Rattle.otap_columns.proofs.ColumnsBuilt.{cell_at-map}
 use Rattle.otap_columns.proofs.ValuesSeen.{seen-push}
 
@@ -90,13 +90,13 @@ more_wide false a b = refl
 
 pub sees : (kind : Kind) (column : ℕ) (t : Table) (old new : SeenIn) → new.ladder ≡ fold observed_if old.ladder (map (bytes_for (base_at kind column) form.Wide) (column_in t.rows column))
     → new.wide ≡ (old.wide || (may_widen (base_at kind column) && has_wide_id kind column t))
-    → (is_dictionary new.ladder.form ≡ true → filled_up (length t.rows) new.places ≡ places_of (base_at kind column) form.Wide new.ladder.values (column_in t.rows column)) → SeesTable kind column t old new
+    → (is_dictionary new.ladder.form ≡ true → filled_up (length t.rows) new.places ≡ places_of_cells (base_at kind column) form.Wide new.ladder.values (column_in t.rows column)) → SeesTable kind column t old new
 sees kind column t old new ladder_is wide_is placed = record {
   placed = placed;
   at = λ tables is.
-      let ladders : new.ladder ≡ ladder_of (column_at kind column).dictionary (seen kind (tables ++ t ∷ []) column) =
+      let ladders : new.ladder ≡ ladder_of (column_at kind column).dictionary (values_in_tables kind (tables ++ t ∷ []) column) =
       ladder_is ∙ ap (λ (l : LadderIn). fold observed_if l (map (bytes_for (base_at kind column) form.Wide) (column_in t.rows column))) is.ladder_is
-      ∙ observes (column_at kind column).dictionary (seen kind tables column) (map (bytes_for (base_at kind column) form.Wide) (column_in t.rows column))
+      ∙ observes (column_at kind column).dictionary (values_in_tables kind tables column) (map (bytes_for (base_at kind column) form.Wide) (column_in t.rows column))
       ∙ ap (ladder_of (column_at kind column).dictionary) (sym (seen-push kind tables t column)) in
       let wides : new.wide ≡ (may_widen (base_at kind column) && list_any (has_wide_id kind column) (tables ++ t ∷ [])) =
       wide_is ∙ ap (λ (b : Bool). b || (may_widen (base_at kind column) && has_wide_id kind column t)) is.wide_is
@@ -122,7 +122,7 @@ told_id own false (v ∷ vs) f = by own
     by true = refl
     by false = refl
 told_id own true (v ∷ vs) f =
-    rw (absent_ladder (is_too_large (length (distinct (v ∷ vs))) (bytes_of (distinct (v ∷ vs)))) (nat_lt narrow_limit (length (distinct (v ∷ vs))))) (by own)
+    rw (absent_ladder (is_too_large (length (distinct (v ∷ vs))) (byte_count (distinct (v ∷ vs)))) (nat_lt narrow_limit (length (distinct (v ∷ vs))))) (by own)
   where
     by : (own : Bool) → f ≡ (if own then f else f)
     by true = refl
@@ -137,7 +137,7 @@ wide_anyway other any is = absurd (false≢true is)
 -- what a column that saw tables tells
 seen_after : Kind → List Table → ℕ → SeenIn
 seen_after kind tables column =
-    record { ladder = ladder_of (column_at kind column).dictionary (seen kind tables column); wide = may_widen (base_at kind column) && list_any (has_wide_id kind column) tables; places = [] }
+    record { ladder = ladder_of (column_at kind column).dictionary (values_in_tables kind tables column); wide = may_widen (base_at kind column) && list_any (has_wide_id kind column) tables; places = [] }
 
 told_after : (kind : Kind) (tables : List Table) (column : ℕ) → form_told kind column (seen_after kind tables column) ≡ form_at kind tables column
 unfolding seen_after ladder_of form_at
@@ -146,8 +146,9 @@ told_after kind tables column = by (is_id_at kind column) refl
     by : (id : Bool) → is_id_at kind column ≡ id → form_told kind column (seen_after kind tables column) ≡ form_at kind tables column
     by true is =
         rw is
-        (ap (id_form_told (is_own_id kind column) (is_absent (form_of (column_at kind column).dictionary (seen kind tables column)))) (wide_anyway (base_at kind column) (list_any (has_wide_id kind column) tables) is)
-        ∙ told_id (is_own_id kind column) (column_at kind column).dictionary (seen kind tables column) (id_form kind tables column))
+        (ap (id_form_told (is_own_id kind column) (is_absent (form_of (column_at kind column).dictionary (values_in_tables kind tables column))))
+        (wide_anyway (base_at kind column) (list_any (has_wide_id kind column) tables) is)
+        ∙ told_id (is_own_id kind column) (column_at kind column).dictionary (values_in_tables kind tables column) (id_form kind tables column))
     by false is = rw is refl
 
 pub told_is : (kind : Kind) (tables : List Table) (column : ℕ) (s : SeenIn) → IsSeenAfter kind tables column s → form_told kind column s ≡ form_at kind tables column
@@ -160,7 +161,7 @@ stands kind column s f told tables is = told ∙ told_is kind tables column s is
 pub sees_step : {E : Type 0} (kind : Kind) (column : ℕ) (t : Table) (old new : SeenIn) (r : Result (Unit {0}) E)
     → OnOk r (new.ladder ≡ fold observed_if old.ladder (map (bytes_for (base_at kind column) form.Wide) (column_in t.rows column)))
     → OnOk r (new.wide ≡ (old.wide || (may_widen (base_at kind column) && has_wide_id kind column t)))
-    → OnOk r (is_dictionary new.ladder.form ≡ true → filled_up (length t.rows) new.places ≡ places_of (base_at kind column) form.Wide new.ladder.values (column_in t.rows column))
+    → OnOk r (is_dictionary new.ladder.form ≡ true → filled_up (length t.rows) new.places ≡ places_of_cells (base_at kind column) form.Wide new.ladder.values (column_in t.rows column))
     → OnOk r (SeesTable kind column t old new)
 sees_step kind column t old new (Ok x) ladder_is wide_is placed = sees kind column t old new ladder_is wide_is placed
 sees_step kind column t old new (Err e) ladder_is wide_is placed = tt

@@ -3,7 +3,7 @@ use Rattle.std.proofs.Common.{◌≡◌, ℕ, ◌<◌, ◌≤◌, true, false, L
 use Rattle.std.specs.Prelude.{ℤ, All, slice_get}
 use Rattle.std.specs.Option.{ForSome}
 use Rattle.std.specs.Ordering.{int_eq}
-use Rattle.std.proofs.lemmas.Bool.{cases_Bool, cases_lt, and_parts, eqb-true, true≢false}
+use Rattle.std.proofs.lemmas.Bool.{cases_Bool, cases_lt, and_parts}
 use Rattle.std.proofs.lemmas.List.{get_or_past}
 use Rattle.std.proofs.lemmas.List.FromFn.{length-map-range_with_len, get_or-map-range_with_len}
 use Rattle.std.proofs.lemmas.List.Elements.{All-head, All-tail}
@@ -26,15 +26,17 @@ use Rattle.otap_cells.specs.Cells.{IsCellOf, null, nat_in}
 use Rattle.otap_cells.specs.Columns.{column_at, base_at, coding_at, is_id_at, allows}
 use Rattle.otap_cells.specs.Tables.{IsTable}
 use Rattle.otap_cells.proofs.ByPlace.{IsTable-table_by}
+use Rattle.otap_cells.proofs.Columnwise.{allows_own}
 use Rattle.otap_columns.specs.Dictionaries.{DictionaryIn, is_for, values_for}
-use Rattle.otap_columns.specs.Known.{known_column, known_columns, is_column, place_in, place_at, array_at, array_of, elements_at, stores, fits_encoding, fits_as, fits_column, fits_at, columns_fit}
+use Rattle.otap_columns.specs.Known.{known_column, known_columns, is_column, place_in, place_at, array_of_column, array_of, elements_at, stores, fits_encoding, fits_as, fits_column, fits_at, columns_fit}
 use Rattle.otap_columns.specs.Known.{coding_if, column_coding, greatest_if, column_greatest, stored_cell}
 use Rattle.otap_columns.specs.Resolved.{FitsBase}
 use Rattle.otap_columns.specs.Steps.{FitsIn, FitsValue}
-use Rattle.otap_columns.specs.Substreams.{SubstreamIn, replaced, field_value, value_if, column_value, column_cell, table_in}
-use Rattle.otap_columns.proofs.Coding.{own_allowed, named_allowed, fits_allowed}
+use Rattle.otap_columns.specs.Substreams.{SubstreamIn, replaced, field_value, value_if, column_value, column_cell, table_of_batch}
+use Rattle.otap_columns.proofs.Coding.{named_allowed, fits_allowed}
 use Rattle.otap_columns.proofs.Finding.{PassesAt, passes_at}
 use Rattle.otap_columns.proofs.Storing.{cell_is, stores_fits, id_bounded}
+use Rattle.otap_columns.proofs.Keeping.{member_place}
 
 -- the values of a field's dictionary are of its type
 values_fit : (kind : ArrowType) (id : ℤ) (dictionaries : List DictionaryIn) → All FitsIn dictionaries → All (FitsValue kind) (values_for kind id dictionaries)
@@ -77,11 +79,6 @@ null_cell : (holds : Base) → stored_cell holds None ≡ null
 unfolding stored_cell
 null_cell holds = refl
 
--- an array that is found for a column is that column
-column_is : (column : ℕ) (o : Option ℕ) → is_column column o ≡ true → o ≡ Some column
-column_is column None h = absurd (true≢false (sym h))
-column_is column (Some k) h = ap Some (eqb-true k column h)
-
 -- it has a type that stores the column's base, and an encoding that the column allows
 pub record IsTyped (kind : Kind) (arrays : List ArraySpec) (column place : ℕ) : Type 0 where
   pub below : place < length arrays
@@ -98,7 +95,7 @@ typed_at kind arrays column place types at =
     let here : get_or (known_columns kind arrays) place None ≡ known_column kind arrays place =
     get_or-map-range_with_len (known_column kind arrays) 0 (length arrays) place place None below (omega arith) in
     let is : known_column kind arrays place ≡ Some column =
-    column_is column (known_column kind arrays place) (ap (is_column column) (sym here) ∙ f.passes place None (omega arith)) in
+    member_place column (known_column kind arrays place) (ap (is_column column) (sym here) ∙ f.passes place None (omega arith)) in
     let typed : fits_at kind arrays place ≡ true = all_below-at (fits_at kind arrays) (length arrays) place types below in
     let same : (a : ArraySpec) → slice_get arrays place ≡ Some a → fits_as kind a.kind a.encoding (elements_at arrays place) (Some column) ≡ true =
     λ a there. sym (λ i. fits_column kind (there i) (elements_at arrays place) (is i)) ∙ typed in
@@ -137,11 +134,11 @@ module _ (kind : Kind) (s : SubstreamIn) (batch : BatchIn) (types : columns_fit 
     where
       by_array : (place : ℕ) → IsTyped kind s.arrays column place → (o : Option ArraySpec) → slice_get s.arrays place ≡ o
           → allows (column_at kind column) (coding_if (coding_at kind column) o) ≡ true
-      by_array place t None there = own_allowed (column_at kind column) id
+      by_array place t None there = allows_own (column_at kind column) id
       by_array place t (Some a) there = named_allowed (column_at kind column) a.encoding id (fits_allowed (column_at kind column) a.encoding id (t.encoded a there))
 
-      by_place : (o : Option ℕ) → place_at kind s.arrays column ≡ o → allows (column_at kind column) (coding_if (coding_at kind column) (array_at s.arrays o)) ≡ true
-      by_place None at = own_allowed (column_at kind column) id
+      by_place : (o : Option ℕ) → place_at kind s.arrays column ≡ o → allows (column_at kind column) (coding_if (coding_at kind column) (array_of_column s.arrays o)) ≡ true
+      by_place None at = allows_own (column_at kind column) id
       by_place (Some place) at = by_array place (typed_at kind s.arrays column place types at) (slice_get s.arrays place) refl
 
   -- and none of their numbers is above the greatest
@@ -155,12 +152,12 @@ module _ (kind : Kind) (s : SubstreamIn) (batch : BatchIn) (types : columns_fit 
       by_array place t (Some a) there =
           id_bounded (base_at kind column) a.kind (elements_at s.arrays place) (field_value s batch row place (Some a)) id (t.stored a there) (value_fits s batch row place a all fine there)
 
-      by_place : (o : Option ℕ) → place_at kind s.arrays column ≡ o → nat_in (stored_cell (base_at kind column) (value_if s batch row o)) ≤ greatest_if (array_at s.arrays o)
+      by_place : (o : Option ℕ) → place_at kind s.arrays column ≡ o → nat_in (stored_cell (base_at kind column) (value_if s batch row o)) ≤ greatest_if (array_of_column s.arrays o)
       by_place None at = rw (null_cell (base_at kind column)) (omega arith)
       by_place (Some place) at = by_array place (typed_at kind s.arrays column place types at) (slice_get s.arrays place) refl
 
   -- a record batch is read as a table
-  pub table_is : IsTable (table_in kind s batch)
-  unfolding table_in
+  pub table_is : IsTable (table_of_batch kind s batch)
+  unfolding table_of_batch
   table_is =
       IsTable-table_by kind (column_coding kind s.arrays) (column_greatest kind s.arrays) batch.rows (column_cell kind s batch) column_cell_is column_coded column_bounded

@@ -25,12 +25,12 @@ use Rattle.otap_cells.specs.Payload.{number_of}
 use Rattle.otap_cells.specs.Tables.{Table, cell_in}
 use Rattle.otap_dicts.specs.Limits.{value_limit}
 use Rattle.otap_columns.specs.Streams.{is_of, last_of, opens_after, opens, stream_of}
-use Rattle.otap_columns.specs.Dictionaries.{dictionary}
+use Rattle.otap_columns.specs.Dictionaries.{dictionary_over}
 use Rattle.otap_columns.specs.Known.{columns_fit}
-use Rattle.otap_columns.specs.Substreams.{SubstreamIn, held_in, schema_in, substream_of, substream_in, last_rows, rows_of, logical, table_in}
+use Rattle.otap_columns.specs.Substreams.{SubstreamIn, held_in, schema_in, substream_of, substream_in, last_rows, record_batches, logical, table_of_batch}
 use Rattle.otap_columns.specs.Records.{is_rows, IsFine, IsFineIn, IsRead}
-use Rattle.otap_columns.specs.Schemas.{Forms, is_dictionary, type_in, schema_for}
-use Rattle.otap_columns.specs.Observed.{form_at, values_at, new_at}
+use Rattle.otap_columns.specs.Schemas.{Forms, is_dictionary, arrow_type_in, schema_for}
+use Rattle.otap_columns.specs.Observed.{form_at, dictionary_values, new_at}
 use Rattle.otap_columns.specs.WrittenPayloads.{has_some, is_wanted, batch_if, heads, batches_for, messages_for, HoldsValues, IsWritableTable, GoesOn, IsRecord, IsWritten, AreWrittenAs, IsReadAs}
 use Rattle.otap_columns.proofs.Growing.{substream-none}
 use Rattle.otap_columns.proofs.HeldLess.{light}
@@ -48,7 +48,7 @@ pub record Current (kind : Kind) (tables : List Table) (ms : List IpcMessage) : 
   pub rest : List IpcMessage
   pub is : ms ≡ Schema (schema_for kind (form_at kind tables)) ∷ rest
   pub agree : (column : ℕ) → column < width_of kind → is_dictionary (form_at kind tables column) ≡ true
-      → dictionary (type_at kind (form_at kind tables) column) (pos column) ms ≡ all_some (values_at kind tables column)
+      → dictionary_over (type_at kind (form_at kind tables) column) (pos column) ms ≡ all_some (dictionary_values kind tables column)
 
 pub record InStep (kind : Kind) (tables : List Table) (past : List PayloadIn) : Type 0 where
   pub current : past ≢ [] → Current kind tables (stream_of (pos (number_of kind)) past)
@@ -63,29 +63,29 @@ module _ (kind : Kind) (before : List Table) (t : Table) (bytes : List ℕ) wher
   -- an opening
   opening_turns : (r : IsRecord kind before t true bytes)
       → Turns (type_at kind (form_at kind (before ++ t ∷ []))) (λ column. is_dictionary (form_at kind (before ++ t ∷ []) column)) (width_of kind) (Schema (schema_for kind (form_at kind (before ++ t ∷ []))) ∷ [])
-      (values_at kind (before ++ t ∷ [])) (batches_for kind true before (before ++ t ∷ []) r.batches)
+      (dictionary_values kind (before ++ t ∷ [])) (batches_for kind true before (before ++ t ∷ []) r.batches)
   opening_turns r = record {
     own = λ column below dict.
         let h = r.values column below dict in
-        subst (Turn (type_at kind (form_at kind (before ++ t ∷ [])) column) column (Schema (schema_for kind (form_at kind (before ++ t ∷ []))) ∷ []) (values_at kind (before ++ t ∷ []) column))
+        subst (Turn (type_at kind (form_at kind (before ++ t ∷ [])) column) column (Schema (schema_for kind (form_at kind (before ++ t ∷ []))) ∷ []) (dictionary_values kind (before ++ t ∷ []) column))
         (rw dict refl) (gets false (r.batches column) h.are h.fine);
     quiet = λ column not. rw not refl;
   }
 
-  opened_empty : (fields : List FieldSpec) (type : ArrowType) (column : ℕ) → length (dictionary type (pos column) (Schema fields ∷ [])) ≤ value_limit
-  unfolding dictionary
+  opened_empty : (fields : List FieldSpec) (type : ArrowType) (column : ℕ) → length (dictionary_over type (pos column) (Schema fields ∷ [])) ≤ value_limit
+  unfolding dictionary_over
   opened_empty fields type column = omega arith
 
   module _ (w : IsWritableTable kind t) where
     opening_step : (r : IsRecord kind before t true bytes)
-        → Step kind (form_at kind (before ++ t ∷ [])) (values_at kind (before ++ t ∷ [])) (Schema (schema_for kind (form_at kind (before ++ t ∷ []))) ∷ [])
+        → Step kind (form_at kind (before ++ t ∷ [])) (dictionary_values kind (before ++ t ∷ [])) (Schema (schema_for kind (form_at kind (before ++ t ∷ []))) ∷ [])
         (batches_for kind true before (before ++ t ∷ []) r.batches) r.rows t
     opening_step r = record {
       fit = forms_fit kind (before ++ t ∷ []);
       rest = [];
       is = refl;
       turns = opening_turns r;
-      light = λ column below dict. light (values_at kind (before ++ t ∷ []) column) (few_values kind (before ++ t ∷ []) column dict) (small_values kind (before ++ t ∷ []) column dict);
+      light = λ column below dict. light (dictionary_values kind (before ++ t ∷ []) column) (few_values kind (before ++ t ∷ []) column dict) (small_values kind (before ++ t ∷ []) column dict);
       few = λ column below dict. few_values kind (before ++ t ∷ []) column dict;
       small = λ column below dict. opened_empty (schema_for kind (form_at kind (before ++ t ∷ []))) (type_at kind (form_at kind (before ++ t ∷ [])) column) column;
       holds = r.holds;
@@ -105,12 +105,12 @@ module _ (kind : Kind) (before : List Table) (t : Table) (bytes : List ℕ) wher
       was_dictionary column below dict = ap is_dictionary (told column below) ∙ dict
 
       was : (column : ℕ) → column < width_of kind → is_dictionary (form_at kind (before ++ t ∷ []) column) ≡ true
-          → dictionary (type_at kind (form_at kind (before ++ t ∷ [])) column) (pos column) ms ≡ all_some (values_at kind before column)
+          → dictionary_over (type_at kind (form_at kind (before ++ t ∷ [])) column) (pos column) ms ≡ all_some (dictionary_values kind before column)
       was column below dict =
-          (λ i. dictionary (type_in (base_at kind column) (sym (told column below) i)) (pos column) ms) ∙ c.agree column below (was_dictionary column below dict)
+          (λ i. dictionary_over (arrow_type_in (base_at kind column) (sym (told column below) i)) (pos column) ms) ∙ c.agree column below (was_dictionary column below dict)
 
       going_turns : (r : IsRecord kind before t false bytes)
-          → Turns (type_at kind (form_at kind (before ++ t ∷ []))) (λ column. is_dictionary (form_at kind (before ++ t ∷ []) column)) (width_of kind) ms (values_at kind (before ++ t ∷ []))
+          → Turns (type_at kind (form_at kind (before ++ t ∷ []))) (λ column. is_dictionary (form_at kind (before ++ t ∷ []) column)) (width_of kind) ms (dictionary_values kind (before ++ t ∷ []))
           (batches_for kind false before (before ++ t ∷ []) r.batches)
       going_turns r = record {
         own = λ column below dict. by column below dict (cases_Bool (has_some (new_at kind before (before ++ t ∷ []) column)));
@@ -119,35 +119,35 @@ module _ (kind : Kind) (before : List Table) (t : Table) (bytes : List ℕ) wher
         where
           by : (column : ℕ) → column < width_of kind → is_dictionary (form_at kind (before ++ t ∷ []) column) ≡ true
               → (has_some (new_at kind before (before ++ t ∷ []) column) ≡ true) ⊎ (has_some (new_at kind before (before ++ t ∷ []) column) ≡ false)
-              → Turn (type_at kind (form_at kind (before ++ t ∷ [])) column) column ms (values_at kind (before ++ t ∷ []) column) (batches_for kind false before (before ++ t ∷ []) r.batches column)
+              → Turn (type_at kind (form_at kind (before ++ t ∷ [])) column) column ms (dictionary_values kind (before ++ t ∷ []) column) (batches_for kind false before (before ++ t ∷ []) r.batches column)
           by column below dict (inl some) =
               let wanted : is_wanted false kind before (before ++ t ∷ []) column ≡ true = rw (dict, some) refl in
-              let h : HoldsValues (type_in (base_at kind column) (form_at kind (before ++ t ∷ []) column)) (new_at kind before (before ++ t ∷ []) column) (r.batches column) = r.values column below wanted in
-              subst (Turn (type_at kind (form_at kind (before ++ t ∷ [])) column) column ms (values_at kind (before ++ t ∷ []) column))
+              let h : HoldsValues (arrow_type_in (base_at kind column) (form_at kind (before ++ t ∷ []) column)) (new_at kind before (before ++ t ∷ []) column) (r.batches column) = r.values column below wanted in
+              subst (Turn (type_at kind (form_at kind (before ++ t ∷ [])) column) column ms (dictionary_values kind (before ++ t ∷ []) column))
               (rw wanted refl)
               (gets true (r.batches column)
               ((λ i. was column below dict i ++ h.are i)
-              ∙ sym (map-append (λ (value : List ℕ). Some value) (values_at kind before column) (new_at kind before (before ++ t ∷ []) column)) ∙ ap all_some (values_grow kind before t column))
+              ∙ sym (map-append (λ (value : List ℕ). Some value) (dictionary_values kind before column) (new_at kind before (before ++ t ∷ []) column)) ∙ ap all_some (values_grow kind before t column))
               h.fine)
           by column below dict (inr none) =
               let wanted : is_wanted false kind before (before ++ t ∷ []) column ≡ false = rw (dict, none) refl in
               let empty : new_at kind before (before ++ t ∷ []) column ≡ [] = no_values (new_at kind before (before ++ t ∷ []) column) none in
-              let stay : values_at kind before column ≡ values_at kind (before ++ t ∷ []) column =
-              sym (append-nil (values_at kind before column)) ∙ ap (λ vs. values_at kind before column ++ vs) (sym empty) ∙ values_grow kind before t column in
-              subst (Turn (type_at kind (form_at kind (before ++ t ∷ [])) column) column ms (values_at kind (before ++ t ∷ []) column))
+              let stay : dictionary_values kind before column ≡ dictionary_values kind (before ++ t ∷ []) column =
+              sym (append-nil (dictionary_values kind before column)) ∙ ap (λ vs. dictionary_values kind before column ++ vs) (sym empty) ∙ values_grow kind before t column in
+              subst (Turn (type_at kind (form_at kind (before ++ t ∷ [])) column) column ms (dictionary_values kind (before ++ t ∷ []) column))
               (rw wanted refl) (stays (was column below dict ∙ ap all_some stay))
 
       going_step : (r : IsRecord kind before t false bytes)
-          → Step kind (form_at kind (before ++ t ∷ [])) (values_at kind (before ++ t ∷ [])) ms (batches_for kind false before (before ++ t ∷ []) r.batches) r.rows t
+          → Step kind (form_at kind (before ++ t ∷ [])) (dictionary_values kind (before ++ t ∷ [])) ms (batches_for kind false before (before ++ t ∷ []) r.batches) r.rows t
       going_step r = record {
         fit = forms_fit kind (before ++ t ∷ []);
         rest = c.rest;
         is = c.is ∙ ap (λ fields. Schema fields ∷ c.rest) same;
         turns = going_turns r;
-        light = λ column below dict. light (values_at kind (before ++ t ∷ []) column) (few_values kind (before ++ t ∷ []) column dict) (small_values kind (before ++ t ∷ []) column dict);
+        light = λ column below dict. light (dictionary_values kind (before ++ t ∷ []) column) (few_values kind (before ++ t ∷ []) column dict) (small_values kind (before ++ t ∷ []) column dict);
         few = λ column below dict. few_values kind (before ++ t ∷ []) column dict;
         small = λ column below dict.
-            subst (λ (n : ℕ). n ≤ value_limit) (sym (ap length (was column below dict) ∙ length-map (values_at kind before column) (λ (value : List ℕ). Some value)))
+            subst (λ (n : ℕ). n ≤ value_limit) (sym (ap length (was column below dict) ∙ length-map (dictionary_values kind before column) (λ (value : List ℕ). Some value)))
             (few_values kind before column (was_dictionary column below dict));
         holds = r.holds;
         kind_is = w.kind_is;
@@ -173,8 +173,8 @@ no_rows-heads kind opening before now batches (suc n) =
 last_rows-after : (start ms : List IpcMessage) (rows : BatchIn) → last_rows (start ++ (ms ++ Rows rows ∷ [])) ≡ Some rows
 unfolding last_rows
 last_rows-after start ms rows =
-    ap (λ all. last_after None (flat_map rows_of all)) (sym (append_assoc start ms (Rows rows ∷ [])))
-    ∙ ap (last_after None) (flat_map-append rows_of (start ++ ms) (Rows rows ∷ [])) ∙ last_after-push None (flat_map rows_of (start ++ ms)) rows
+    ap (λ all. last_after None (flat_map record_batches all)) (sym (append_assoc start ms (Rows rows ∷ [])))
+    ∙ ap (last_after None) (flat_map-append record_batches (start ++ ms) (Rows rows ∷ [])) ∙ last_after-push None (flat_map record_batches (start ++ ms)) rows
 
 -- what one payload gives: it is read as its table, and all is in step again
 pub record Goes (kind : Kind) (before : List Table) (past : List PayloadIn) (t : Table) (p : PayloadIn) : Type 0 where
@@ -201,7 +201,7 @@ module _ (kind : Kind) (before : List Table) (past : List PayloadIn) (t : Table)
       (messages : front_of p.bytes ≡ (first ++ heads head (width_of kind)) ++ Rows rows ∷ []) (ends : left_of p.bytes ≡ [])
       (stream : stream_of (pos (number_of kind)) (past ++ p ∷ []) ≡ start ++ (heads head (width_of kind) ++ Rows rows ∷ []))
       (joins : past_of ++ first ≡ start) (fine_first : AllAfter (IsFine kind) past_of first)
-      (s : Step kind (form_at kind (before ++ t ∷ [])) (values_at kind (before ++ t ∷ [])) start head rows t) where
+      (s : Step kind (form_at kind (before ++ t ∷ [])) (dictionary_values kind (before ++ t ∷ [])) start head rows t) where
     abbrev final : SubstreamIn
     final = substream_of (start ++ (heads head (width_of kind) ++ Rows rows ∷ [])) (schema_for kind (form_at kind (before ++ t ∷ [])))
 
@@ -217,7 +217,7 @@ module _ (kind : Kind) (before : List Table) (past : List PayloadIn) (t : Table)
         subst (λ (ms : List IpcMessage). AllAfter (IsFine kind) past_of ms) (sym (messages ∙ regroup))
         (all_after-append (IsFine kind) past_of first (heads head (width_of kind) ++ Rows rows ∷ []) fine_first
         (subst (λ (ms : List IpcMessage). AllAfter (IsFine kind) ms (heads head (width_of kind) ++ Rows rows ∷ [])) (sym joins)
-        (fine_all kind (form_at kind (before ++ t ∷ [])) (values_at kind (before ++ t ∷ [])) start head rows t s)))
+        (fine_all kind (form_at kind (before ++ t ∷ [])) (dictionary_values kind (before ++ t ∷ [])) start head rows t s)))
 
     reads : IsRead kind past_of p.bytes
     reads = record {
@@ -228,14 +228,14 @@ module _ (kind : Kind) (before : List Table) (past : List PayloadIn) (t : Table)
       only = list_any-append is_rows first (heads head (width_of kind)) ∙ rw (plain_first, plain) refl;
       each = each_fine;
       after = final;
-      is_after = ap substream_in all_joined ∙ stands kind (form_at kind (before ++ t ∷ [])) (values_at kind (before ++ t ∷ [])) start head rows t s (heads head (width_of kind) ++ Rows rows ∷ []);
-      indexes = indexes kind (form_at kind (before ++ t ∷ [])) (values_at kind (before ++ t ∷ [])) start head rows t s;
+      is_after = ap substream_in all_joined ∙ stands kind (form_at kind (before ++ t ∷ [])) (dictionary_values kind (before ++ t ∷ [])) start head rows t s (heads head (width_of kind) ++ Rows rows ∷ []);
+      indexes = indexes kind (form_at kind (before ++ t ∷ [])) (dictionary_values kind (before ++ t ∷ [])) start head rows t s;
     }
 
-    gives : logical kind (stream_of (pos (number_of kind)) (past ++ p ∷ [])) ≡ Some (table_in kind final rows)
+    gives : logical kind (stream_of (pos (number_of kind)) (past ++ p ∷ [])) ≡ Some (table_of_batch kind final rows)
     gives =
         logical_is kind (stream_of (pos (number_of kind)) (past ++ p ∷ [])) final rows
-        (ap substream_in stream ∙ stands kind (form_at kind (before ++ t ∷ [])) (values_at kind (before ++ t ∷ [])) start head rows t s (heads head (width_of kind) ++ Rows rows ∷ []))
+        (ap substream_in stream ∙ stands kind (form_at kind (before ++ t ∷ [])) (dictionary_values kind (before ++ t ∷ [])) start head rows t s (heads head (width_of kind) ++ Rows rows ∷ []))
         (ap last_rows stream ∙ last_rows-after start (heads head (width_of kind)) rows)
 
     next : InStep kind (before ++ t ∷ []) (past ++ p ∷ [])
@@ -244,8 +244,8 @@ module _ (kind : Kind) (before : List Table) (past : List PayloadIn) (t : Table)
         rest = s.rest ++ (heads head (width_of kind) ++ Rows rows ∷ []);
         is = stream ∙ ap (λ ms. ms ++ (heads head (width_of kind) ++ Rows rows ∷ [])) s.is;
         agree = λ column below dict.
-            ap (dictionary (type_at kind (form_at kind (before ++ t ∷ [])) column) (pos column)) stream
-            ∙ dictionary_after kind (form_at kind (before ++ t ∷ [])) (values_at kind (before ++ t ∷ [])) start head rows t s column below dict;
+            ap (dictionary_over (type_at kind (form_at kind (before ++ t ∷ [])) column) (pos column)) stream
+            ∙ dictionary_after kind (form_at kind (before ++ t ∷ [])) (dictionary_values kind (before ++ t ∷ [])) start head rows t s column below dict;
       };
     }
 
@@ -253,12 +253,12 @@ module _ (kind : Kind) (before : List Table) (past : List PayloadIn) (t : Table)
     goes_by is = record {
       read_as = record {
         read = subst (λ (ms : List IpcMessage). IsRead kind ms p.bytes) (sym is) reads;
-        table = table_in kind final rows;
+        table = table_of_batch kind final rows;
         gives = gives;
-        same = same_table kind (form_at kind (before ++ t ∷ [])) (values_at kind (before ++ t ∷ [])) start head rows t s;
-        ids = ids_read kind before t final rows refl (same_table kind (form_at kind (before ++ t ∷ [])) (values_at kind (before ++ t ∷ [])) start head rows t s) s.codings;
+        same = same_table kind (form_at kind (before ++ t ∷ [])) (dictionary_values kind (before ++ t ∷ [])) start head rows t s;
+        ids = ids_read kind before t final rows refl (same_table kind (form_at kind (before ++ t ∷ [])) (dictionary_values kind (before ++ t ∷ [])) start head rows t s) s.codings;
         schema = ap schema_in (stream ∙ ap (λ ms. ms ++ (heads head (width_of kind) ++ Rows rows ∷ [])) s.is);
-        held = subst (λ (ms : List IpcMessage). held_in ms ≤ 1572864 * width_of kind) (sym stream) (held kind (form_at kind (before ++ t ∷ [])) (values_at kind (before ++ t ∷ [])) start head rows t s);
+        held = subst (λ (ms : List IpcMessage). held_in ms ≤ 1572864 * width_of kind) (sym stream) (held kind (form_at kind (before ++ t ∷ [])) (dictionary_values kind (before ++ t ∷ [])) start head rows t s);
       };
       next = next;
     }

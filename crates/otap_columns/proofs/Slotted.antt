@@ -14,13 +14,13 @@ use Rattle.arrow_schema.specs.declared.spec.Encoding.TheVariants as encoding
 use Rattle.arrow_schema.specs.declared.spec.FieldSpec.{FieldSpec}
 use Rattle.arrow_schema.specs.Types.{is_list}
 use Rattle.arrow_schema.specs.Trees.{field_with}
-use Rattle.arrow_schema.specs.Branches.{Leaf, items_of, leaf_field, branch_field, FitsItem}
+use Rattle.arrow_schema.specs.Branches.{Leaf, branch_items, leaf_field, branch_field, FitsItem}
 use Rattle.arrow_schema.proofs.Folds.{name_in_is, kind_in_is, dict_in_is, encoding_in_is, children_in_is}
 use Rattle.arrow_arrays.specs.Fields.{FieldIn, depth_first_in, depth_first, path_in, path_under, paths_in, paths_below}
 use Rattle.arrow_arrays.proofs.Walked.{own_field, depth_first_is}
 use Rattle.arrow_arrays.proofs.PathsWalked.{paths_in_is}
 use Rattle.otap_cells.specs.declared.payload.Kind.{Kind}
-use Rattle.otap_cells.specs.Columns.{columns_of, column_at, place_of}
+use Rattle.otap_cells.specs.Columns.{columns_of, column_at, place_of_path}
 use Rattle.otap_columns.specs.Known.{is_column}
 use Rattle.otap_columns.specs.Groups.{Member, Group, grouped}
 use Rattle.otap_columns.specs.Groups as group
@@ -64,30 +64,30 @@ item_paths : Option ArrowType → List (List (List ℕ))
 item_paths None = []
 item_paths (Some type) = [] ∷ []
 
-items_flat : (item : Option ArrowType) → depth_first (items_of item) ≡ item_fields item
+items_flat : (item : Option ArrowType) → depth_first (branch_items item) ≡ item_fields item
 unfolding item_fields
 items_flat None = refl
 items_flat (Some type) = append-nil (depth_first_in (field_with (codes "item") type None encoding.None [])) ∙ flat_with (codes "item") type None encoding.None []
 
 leaf_flat : (l : Leaf) → depth_first (leaf_field l ∷ []) ≡ record { name = l.name; kind = l.kind; dict = l.dict; encoding = l.encoding } ∷ item_fields l.item
 leaf_flat l =
-    append-nil (depth_first_in (leaf_field l)) ∙ flat_with l.name l.kind l.dict l.encoding (items_of l.item)
+    append-nil (depth_first_in (leaf_field l)) ∙ flat_with l.name l.kind l.dict l.encoding (branch_items l.item)
     ∙ ap (λ (fields : List FieldIn). record { name = l.name; kind = l.kind; dict = l.dict; encoding = l.encoding } ∷ fields) (items_flat l.item)
 
 under_list : (type : ArrowType) (path : List (List ℕ)) → is_list type ≡ true → path_under type path ≡ None
 under_list arrow.List path is = refl
 under_list other path is = absurd (false≢true is)
 
-items_paths : (type : ArrowType) (item : Option ArrowType) (path : List (List ℕ)) → FitsItem type item → paths_below (items_of item) (path_under type path) ≡ item_paths item
+items_paths : (type : ArrowType) (item : Option ArrowType) (path : List (List ℕ)) → FitsItem type item → paths_below (branch_items item) (path_under type path) ≡ item_paths item
 unfolding item_paths
 items_paths type None path fits = refl
 items_paths type (Some own) path fits =
-    ap (paths_below (items_of (Some own))) (under_list type path fits.0)
+    ap (paths_below (branch_items (Some own))) (under_list type path fits.0)
     ∙ append-nil (paths_in (field_with (codes "item") own None encoding.None []) None) ∙ paths_with (codes "item") own None encoding.None [] None
 
 leaf_paths : (l : Leaf) (above : List (List ℕ)) → FitsItem l.kind l.item → paths_below (leaf_field l ∷ []) (Some above) ≡ (above ++ l.name ∷ []) ∷ item_paths l.item
 leaf_paths l above fits =
-    append-nil (paths_in (leaf_field l) (Some above)) ∙ paths_with l.name l.kind l.dict l.encoding (items_of l.item) (Some above)
+    append-nil (paths_in (leaf_field l) (Some above)) ∙ paths_with l.name l.kind l.dict l.encoding (branch_items l.item) (Some above)
     ∙ ap (λ (paths : List (List (List ℕ))). (above ++ l.name ∷ []) ∷ paths) (items_paths l.kind l.item (above ++ l.name ∷ []) fits)
 
 -- ---- what is told of an array by its path
@@ -107,7 +107,7 @@ none_place (Some place) is = absurd (false≢true is)
 
 module _ (kind : Kind) (forms : Forms) where
   unfoldable pub fact_of : List (List ℕ) → Option ℕ × Bool
-  fact_of path = (place_of (columns_of kind) path, is_empty path)
+  fact_of path = (place_of_path (columns_of kind) path, is_empty path)
 
   unfoldable pub slot_fact : ArraySlot → Option ℕ × Bool
   slot_fact s = (slot_column s, is_items s)
@@ -165,7 +165,7 @@ module _ (kind : Kind) (forms : Forms) where
   item_slots column None is = refl
   item_slots column (Some type) is = λ i. record { name = codes "item"; kind = item_type (is i); dict = None; encoding = encoding.None } ∷ []
 
-  item_facts : (column : ℕ) (item : Option ArrowType) → place_of (columns_of kind) [] ≡ None → map fact_of (item_paths item) ≡ map slot_fact (items_after item column)
+  item_facts : (column : ℕ) (item : Option ArrowType) → place_of_path (columns_of kind) [] ≡ None → map fact_of (item_paths item) ≡ map slot_fact (items_after item column)
   unfolding item_paths fact_of slot_fact is_empty
   item_facts column None root = refl
   item_facts column (Some type) root = λ i. (root i, true) ∷ []
@@ -186,7 +186,7 @@ module _ (kind : Kind) (forms : Forms) where
       let item = item_in (column_at kind m.column).base in
       let l = leaf_in kind forms m in
       let path = above ++ m.name ∷ [] in
-      let place : place_of (columns_of kind) path ≡ Some m.column = member_place m.column (place_of (columns_of kind) path) (and_parts (is_ascii m.name) (is_column m.column (place_of (columns_of kind) path)) is).1 in
+      let place : place_of_path (columns_of kind) path ≡ Some m.column = member_place m.column (place_of_path (columns_of kind) path) (and_parts (is_ascii m.name) (is_column m.column (place_of_path (columns_of kind) path)) is).1 in
       let fields : item_fields item ≡ map (slot_field kind forms) (items_after item m.column) = sym (item_slots m.column item refl) in
       let facts : map fact_of (item_paths item) ≡ map slot_fact (items_after item m.column) = item_facts m.column item (kinds_grouped kind).root in
       record {
@@ -211,7 +211,7 @@ module _ (kind : Kind) (forms : Forms) where
       ]
 
   -- a struct
-  struct_slots : (struct : List ℕ) (leaves : List FieldSpec) (slots : List ArraySlot) → place_of (columns_of kind) (struct ∷ []) ≡ None → AreSlots (Some (struct ∷ [])) leaves slots
+  struct_slots : (struct : List ℕ) (leaves : List FieldSpec) (slots : List ArraySlot) → place_of_path (columns_of kind) (struct ∷ []) ≡ None → AreSlots (Some (struct ∷ [])) leaves slots
       → AreSlots (Some []) (field_with struct arrow.Struct None encoding.None leaves ∷ []) (Struct struct ∷ slots)
   unfolding Follow HasItems fact_of slot_fact is_empty
   struct_slots struct leaves slots none below = record {
@@ -222,7 +222,7 @@ module _ (kind : Kind) (forms : Forms) where
     follow = (tt, below.follow);
   }
 
-  under_slots : (struct : List ℕ) (there : List Member) → place_of (columns_of kind) (struct ∷ []) ≡ None
+  under_slots : (struct : List ℕ) (there : List Member) → place_of_path (columns_of kind) (struct ∷ []) ≡ None
       → AreSlots (Some (struct ∷ [])) (map leaf_field (map (leaf_in kind forms) there)) (flat_map (slots_of_member kind) there)
       → AreSlots (Some []) (map branch_field (branches_under kind forms struct there)) (slots_under kind struct there)
   under_slots struct [] none below = slots_none (Some [])
@@ -237,7 +237,7 @@ module _ (kind : Kind) (forms : Forms) where
       ]
   group_slots (group.Under struct members) is =
       let tests = under_tests (columns_of kind) struct members is in
-      under_slots struct (members_there forms members) (none_place (place_of (columns_of kind) (struct ∷ [])) tests.none) (members_slots (struct ∷ []) members tests.each)
+      under_slots struct (members_there forms members) (none_place (place_of_path (columns_of kind) (struct ∷ [])) tests.none) (members_slots (struct ∷ []) members tests.each)
 
   groups_slots : (groups : List Group) → list_all (is_group (columns_of kind)) groups ≡ true
       → AreSlots (Some []) (map branch_field (flat_map (branches_in kind forms) groups)) (flat_map (slots_in kind forms) groups)

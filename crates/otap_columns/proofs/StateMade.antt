@@ -1,5 +1,5 @@
 -- Lists that are made column by column.
-use Rattle.std.proofs.Common.{◌≡◌, ◌≢◌, ℕ, zero, suc, ◌+◌, ◌<◌, ◌≤◌, false, Decides, List, [], ◌∷◌, ◌++◌, length, get_or, set, refl, sym, ap, ◌∙◌, arith, ◌⊎◌, inl, inr, subst, length-append, length-set}
+use Rattle.std.proofs.Common.{◌≡◌, ◌≢◌, ℕ, ◌+◌, ◌<◌, ◌≤◌, false, Decides, List, [], ◌∷◌, ◌++◌, length, get_or, set, refl, sym, ap, ◌∙◌, arith, ◌⊎◌, inl, inr, subst, length-append, length-set}
 use Rattle.std.proofs.Math.ListN.{get_or-append}
 use Rattle.std.proofs.Math.Seq.{get_or-append_seam}
 use Rattle.std.proofs.lemmas.List.{get_or-set_same, get_or-set_other}
@@ -70,11 +70,6 @@ observed_more kind t old new n x low o one = record {
         (subst (λ s. SeesTable kind n t s x) (o.rest n (omega arith)) one))
 
 -- ---- places inside
-
-pub any_default : {A : Type 0} (xs : List A) (place : ℕ) (d e : A) → place < length xs → get_or xs place d ≡ get_or xs place e
-any_default [] place d e low = absurd (omega (arith, low))
-any_default (x ∷ xs) zero d e low = refl
-any_default (x ∷ xs) (suc place) d e low = any_default xs place d e (omega (arith, low))
 
 -- where nothing was written there are no tables
 pub none_first : (kind : Kind) (tables : List Table) (columns : List SeenIn) → is_started tables ≡ false → AreSeen kind [] columns → AreSeen kind tables columns

@@ -17,10 +17,10 @@ use Rattle.otap_columns.specs.declared.forms.ColumnForm.{ColumnForm}
 use Rattle.otap_columns.specs.declared.forms.ColumnForm.TheVariants as form
 use Rattle.otap_columns.specs.WrittenPayloads.{IsWritableTable}
 use Rattle.otap_columns.specs.Schemas.{FormsFit, fits_form, is_dictionary, is_there, item_in}
-use Rattle.otap_columns.specs.Observed.{bytes_for, form_at, is_own_id, is_wide, of_ladder, values_at}
+use Rattle.otap_columns.specs.Observed.{bytes_for, form_at, is_own_id, is_wide, of_ladder, dictionary_values}
 use Rattle.otap_columns.specs.BuiltCells.{FitsForm}
 use Rattle.otap_columns.specs.Seen.{SeenIn}
-use Rattle.otap_columns.specs.SeenInside.{filled_up, form_told, id_form_told, is_absent, places_of}
+use Rattle.otap_columns.specs.SeenInside.{filled_up, form_told, id_form_told, is_absent, places_of_cells}
 use Rattle.otap_columns.specs.WrittenCells.{FitsIndexes, place_among}
 use Rattle.otap_columns.specs.WrittenGroups.{forms_in}
 use Rattle.otap_columns.specs.WrittenRecords.{CanSendColumn}
@@ -59,7 +59,7 @@ module _ (kind : Kind) (tables : List Table) (columns : List SeenIn) (forms : Li
   pub form_is : (column : ℕ) → column < width_of kind → forms_in forms column ≡ form_at kind tables column
   form_is column low = told.each column low ∙ told_is kind tables column _ (seen.each column low)
 
-  pub values_is : (column : ℕ) → column < width_of kind → is_dictionary (forms_in forms column) ≡ true → columns_in columns column ≡ values_at kind tables column
+  pub values_is : (column : ℕ) → column < width_of kind → is_dictionary (forms_in forms column) ≡ true → columns_in columns column ≡ dictionary_values kind tables column
   values_is column low is = ap (λ (l : LadderIn). l.values) (seen.each column low).ladder_is ∙ kept_values kind tables column (ap is_dictionary (sym (form_is column low)) ∙ is)
 
   pub forms_are_fit : FormsFit kind (forms_in forms)
@@ -95,7 +95,7 @@ module _ (kind : Kind) (tables : List Table) (columns : List SeenIn) (forms : Li
   is_single column is = no_list (base_at kind column) (takes_one kind tables column (dictionary_low column is) (is_one column is))
 
   -- the values of a dictionary can be written from a place on
-  pub can_send : AllByRecursion (IsWritableTable kind) tables → (column from : ℕ) → is_dictionary (forms_in forms column) ≡ true → from ≤ length (values_at kind tables column)
+  pub can_send : AllByRecursion (IsWritableTable kind) tables → (column from : ℕ) → is_dictionary (forms_in forms column) ≡ true → from ≤ length (dictionary_values kind tables column)
       → CanSendColumn (base_at kind column) (forms_in forms column) from (columns_in columns column)
   can_send writable column from is there =
       let low : column < width_of kind = dictionary_low column is in
@@ -104,7 +104,7 @@ module _ (kind : Kind) (tables : List Table) (columns : List SeenIn) (forms : Li
         there = there;
         few = few_values kind tables column one;
         room = small_values kind tables column one;
-        holds_type = base_holds (base_at kind column) (forms_in forms column) (values_at kind tables column) (no_id kind tables column one) (takes_one kind tables column low one) (values_are kind column tables writable);
+        holds_type = base_holds (base_at kind column) (forms_in forms column) (dictionary_values kind tables column) (no_id kind tables column one) (takes_one kind tables column low one) (values_are kind column tables writable);
       })
 
 -- ---- the places of values
@@ -112,7 +112,7 @@ module _ (kind : Kind) (tables : List Table) (columns : List SeenIn) (forms : Li
 -- each column that is a dictionary has the places of its cells
 abbrev pub ArePlaced : Kind → Table → List SeenIn → Type 0
 ArePlaced kind t columns = (column : ℕ) → column < width_of kind → has_dictionary (get_or columns column unseen_column).ladder.form ≡ true
-    → filled_up (length t.rows) (get_or columns column unseen_column).places ≡ places_of (base_at kind column) form.Wide (get_or columns column unseen_column).ladder.values (column_in t.rows column)
+    → filled_up (length t.rows) (get_or columns column unseen_column).places ≡ places_of_cells (base_at kind column) form.Wide (get_or columns column unseen_column).ladder.values (column_in t.rows column)
 
 pub are_placed : (kind : Kind) (t : Table) (old new : List SeenIn) → SeesAll kind t old new → ArePlaced kind t new
 are_placed kind t old new sees = λ column low. (sees.each column low).placed
@@ -141,7 +141,7 @@ dictionary_placed kind column s is = by (is_id_at kind column) refl
     by true here = of_id (is_own_id kind column) (is_absent s.ladder.form) (is_wide (base_at kind column) || s.wide) (rw here at is)
     by false here = of_form s.ladder.form (rw here at is)
 
-places_alike : (holds : Base) (f g : ColumnForm) (values : List (List ℕ)) (cells : List Cell) → is_id holds ≡ false → places_of holds f values cells ≡ places_of holds g values cells
+places_alike : (holds : Base) (f g : ColumnForm) (values : List (List ℕ)) (cells : List Cell) → is_id holds ≡ false → places_of_cells holds f values cells ≡ places_of_cells holds g values cells
 places_alike holds f g values [] none = refl
 places_alike holds f g values (cell ∷ cells) none = λ i. place_among values (bytes_alike holds f g cell none i) ∷ places_alike holds f g values cells none i
 
@@ -158,7 +158,7 @@ module _ (kind : Kind) (before : List Table) (t : Table) (columns : List SeenIn)
         let none : is_id (base_at kind column) ≡ false = no_id kind (before ++ t ∷ []) column (is_one kind (before ++ t ∷ []) columns forms seen told column is) in
         placed column below own
         ∙ places_alike (base_at kind column) form.Wide (forms_in forms column) s.ladder.values (column_in t.rows column) none
-        ∙ ap (λ k. places_of (base_at k column) (forms_in forms column) s.ladder.values (column_in t.rows column)) (sym writable.kind_is);
+        ∙ ap (λ k. places_of_cells (base_at k column) (forms_in forms column) s.ladder.values (column_in t.rows column)) (sym writable.kind_is);
     table = writable.table;
     count = seen.count ∙ ap width_of (sym writable.kind_is);
     fits = λ column low there row in_rows.

@@ -9,7 +9,7 @@ use Rattle.arrow_ipc.specs.Batches.{BatchIn}
 use Rattle.arrow_ipc.specs.declared.messages.IpcMessage.TheVariants.{Rows}
 use Rattle.arrow_ipc.proofs.Fronting.{front_of-only}
 use Rattle.arrow_arrays.specs.declared.spec.ArraySpec.{ArraySpec}
-use Rattle.arrow_arrays.specs.Arrays.{arrays_of, arrays_check, place_of}
+use Rattle.arrow_arrays.specs.Arrays.{arrays_of, arrays_check, array_place}
 use Rattle.arrow_arrays.specs.Cells.{own_cell}
 use Rattle.arrow_arrays.specs.Written.{HasWholeStructs}
 use Rattle.otap_cells.specs.declared.payload.Kind.{Kind}
@@ -19,8 +19,8 @@ use Rattle.otap_columns.specs.declared.forms.ColumnForm.{ColumnForm}
 use Rattle.otap_columns.specs.declared.forms.ColumnForm.TheVariants as form
 use Rattle.otap_columns.specs.Known.{known_column}
 use Rattle.otap_columns.specs.WrittenPayloads.{GoesOn, HoldsRows, HoldsValues, IsRecord, IsWritableTable, Stores, batch_if, has_some, heads, batches_for, is_wanted, messages_for, schema_if, wanted_values}
-use Rattle.otap_columns.specs.Schemas.{Forms, is_dictionary, schema_for, type_in}
-use Rattle.otap_columns.specs.Observed.{bytes_for, form_at, values_at, new_at}
+use Rattle.otap_columns.specs.Schemas.{Forms, is_dictionary, schema_for, arrow_type_in}
+use Rattle.otap_columns.specs.Observed.{bytes_for, form_at, dictionary_values, new_at}
 use Rattle.otap_columns.specs.Seen.{SeenIn}
 use Rattle.otap_columns.specs.WrittenGroups.{forms_in}
 use Rattle.otap_columns.specs.WrittenRecords.{Values, CanSendColumn, IsRecordBy, from_in, heads_by, is_sent}
@@ -53,8 +53,8 @@ rows_by kind f g v w t batch schema_is forms_are values_are h = record {
       let known_too : known_column kind (arrays_of (schema_for kind f)) place ≡ Some column = subst (λ (s : List FieldSpec). known_column kind (arrays_of s) place ≡ Some column) (sym schema_is) known in
       let at_too : slice_get (arrays_of (schema_for kind f)) place ≡ Some a = subst (λ (s : List FieldSpec). slice_get (arrays_of s) place ≡ Some a) (sym schema_is) at in
       let below : column < width_of kind = known_column-below kind (arrays_of (schema_for kind f)) place column known_too in
-      stores_by (g column) (v column) (w column) _ (own_cell batch (place_of a) row) (values_are column below)
-      (subst (λ (h : ColumnForm). Stores h (v column) (bytes_for (base_at kind column) h (cell_in t.rows column row)) (own_cell batch (place_of a) row)) (forms_are column below)
+      stores_by (g column) (v column) (w column) _ (own_cell batch (array_place a) row) (values_are column below)
+      (subst (λ (h : ColumnForm). Stores h (v column) (bytes_for (base_at kind column) h (cell_in t.rows column row)) (own_cell batch (array_place a) row)) (forms_are column below)
       (h.cells column place row a known_too at_too low));
 }
 
@@ -89,7 +89,7 @@ module _ (kind : Kind) (before : List Table) (t : Table) (old new : List SeenIn)
   new_form : (column : ℕ) → column < width_of kind → forms_in forms column ≡ form_at kind (before ++ t ∷ []) column
   new_form = form_is kind (before ++ t ∷ []) new forms s.seen_new s.told_new
 
-  new_values : (column : ℕ) → column < width_of kind → is_dictionary (forms_in forms column) ≡ true → columns_in new column ≡ values_at kind (before ++ t ∷ []) column
+  new_values : (column : ℕ) → column < width_of kind → is_dictionary (forms_in forms column) ≡ true → columns_in new column ≡ dictionary_values kind (before ++ t ∷ []) column
   new_values = values_is kind (before ++ t ∷ []) new forms s.seen_new s.told_new
 
   had_form : (column : ℕ) → column < width_of kind → forms_in had column ≡ form_at kind before column
@@ -122,18 +122,18 @@ module _ (kind : Kind) (before : List Table) (t : Table) (old new : List SeenIn)
 
   -- ---- what is sent
 
-  counted_is : opens ≡ false → (column : ℕ) → column < width_of kind → is_dictionary (forms_in forms column) ≡ true → slice_index_or counts column 0 ≡ length (values_at kind before column)
+  counted_is : opens ≡ false → (column : ℕ) → column < width_of kind → is_dictionary (forms_in forms column) ≡ true → slice_index_or counts column 0 ≡ length (dictionary_values kind before column)
   counted_is none column low is =
       s.counted column low
       ∙ ap length (values_is kind before old had s.seen_old s.told_old column low (ap (λ (fs : List ColumnForm). is_dictionary (forms_in fs column)) (s.stays none).1 ∙ is))
 
-  pub from_there : (column : ℕ) → column < width_of kind → is_dictionary (forms_in forms column) ≡ true → from_in opens counts column ≤ length (values_at kind (before ++ t ∷ []) column)
+  pub from_there : (column : ℕ) → column < width_of kind → is_dictionary (forms_in forms column) ≡ true → from_in opens counts column ≤ length (dictionary_values kind (before ++ t ∷ []) column)
   from_there column low is = by opens refl
     where
-      by : (b : Bool) → opens ≡ b → from_in b counts column ≤ length (values_at kind (before ++ t ∷ []) column)
+      by : (b : Bool) → opens ≡ b → from_in b counts column ≤ length (dictionary_values kind (before ++ t ∷ []) column)
       by true is_open = omega arith
       by false none =
-          omega (arith, counted_is none column low is, ap length (values_grow kind before t column), length-append (values_at kind before column) (new_at kind before (before ++ t ∷ []) column))
+          omega (arith, counted_is none column low is, ap length (values_grow kind before t column), length-append (dictionary_values kind before column) (new_at kind before (before ++ t ∷ []) column))
 
   sent_values : (column : ℕ) → column < width_of kind → is_dictionary (forms_in forms column) ≡ true
       → drop (from_in opens counts column) (columns_in new column) ≡ wanted_values opens kind before (before ++ t ∷ []) column
@@ -181,9 +181,9 @@ module _ (kind : Kind) (before : List Table) (t : Table) (old new : List SeenIn)
     values = λ column low wanted.
         let sent : is_sent opens (forms_in forms column) (drop (from_in opens counts column) (columns_in new column)) ≡ true = sent_is column low ∙ wanted in
         let is : is_dictionary (forms_in forms column) ≡ true = (and_parts (is_dictionary (forms_in forms column)) _ sent).0 in
-        subst (λ (f : ColumnForm). HoldsValues (type_in (base_at kind column) f) (wanted_values opens kind before (before ++ t ∷ []) column) (r.batches column)) (new_form column low)
-        (subst (λ (vs : List (List ℕ)). HoldsValues (type_in (base_at kind column) (forms_in forms column)) vs (r.batches column)) (sent_values column low is) (r.holds column low sent));
-    holds = rows_by kind (forms_in forms) (form_at kind (before ++ t ∷ [])) (columns_in new) (values_at kind (before ++ t ∷ [])) t r.rows schema_too new_form
+        subst (λ (f : ColumnForm). HoldsValues (arrow_type_in (base_at kind column) f) (wanted_values opens kind before (before ++ t ∷ []) column) (r.batches column)) (new_form column low)
+        (subst (λ (vs : List (List ℕ)). HoldsValues (arrow_type_in (base_at kind column) (forms_in forms column)) vs (r.batches column)) (sent_values column low is) (r.holds column low sent));
+    holds = rows_by kind (forms_in forms) (form_at kind (before ++ t ∷ [])) (columns_in new) (dictionary_values kind (before ++ t ∷ [])) t r.rows schema_too new_form
         (λ column low is. new_values column low (ap is_dictionary (new_form column low) ∙ is)) r.rows_are;
   }
     where

@@ -19,7 +19,7 @@ use Rattle.otap_cells.specs.Bases.{is_id, holds_bytes}
 use Rattle.otap_cells.specs.Cells.{Cell, IsCellOf, nat_in}
 use Rattle.otap_columns.specs.Known.{is_list_of, stores, greatest_of, unsigned, signed, stored, stored_cell}
 use Rattle.otap_columns.specs.Resolved.{FitsBase}
-use Rattle.otap_columns.specs.Parts.{part_of}
+use Rattle.otap_columns.specs.Parts.{bytes_of_cell}
 
 -- ---- numbers
 
@@ -70,7 +70,7 @@ cell_is holds None fits = tt
 cell_is holds (Some value) fits = stored_is holds value (fits value refl)
 
 -- its bytes, if it has any
-pub part_is : (holds : Base) (value : Option (List ℕ)) → part_of (stored_cell holds value) ≡ (if holds_bytes holds then value else None)
+pub part_is : (holds : Base) (value : Option (List ℕ)) → bytes_of_cell (stored_cell holds value) ≡ (if holds_bytes holds then value else None)
 unfolding stored_cell
 part_is base.U8 None = refl
 part_is base.U16 None = refl
@@ -107,8 +107,8 @@ part_is base.ListU64 (Some value) = refl
 part_is base.ListF64 (Some value) = refl
 part_is (base.Id wide) (Some value) = refl
 
-pub part_by : (holds : Base) (value : Option (List ℕ)) (x : Cell) (b : Bool) → stored_cell holds value ≡ x → b ≡ holds_bytes holds → (if b then value else None) ≡ part_of x
-part_by holds value x b is test = ap (λ (c : Bool). if c then value else None) test ∙ sym (part_is holds value) ∙ ap part_of is
+pub part_by : (holds : Base) (value : Option (List ℕ)) (x : Cell) (b : Bool) → stored_cell holds value ≡ x → b ≡ holds_bytes holds → (if b then value else None) ≡ bytes_of_cell x
+part_by holds value x b is test = ap (λ (c : Bool). if c then value else None) test ∙ sym (part_is holds value) ∙ ap bytes_of_cell is
 
 -- ---- values of a type that stores a base fit the base
 

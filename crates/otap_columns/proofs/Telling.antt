@@ -3,12 +3,13 @@ use Rattle.std.proofs.Common.{◌≡◌, ℕ, ◌<◌, Bool, true, false, List, 
 use Rattle.std.specs.Prelude.{slice_get, if◌then◌else◌}
 use Rattle.std.specs.List.{list_all, flat_map}
 use Rattle.std.proofs.lemmas.Bool.{cases_Bool, and_parts, false≢true, true≢false}
+use Rattle.std.proofs.lemmas.Option.{same_Some}
 use Rattle.arrow_schema.specs.declared.spec.ArrowType.{ArrowType}
 use Rattle.arrow_schema.specs.declared.spec.ArrowType.TheVariants as arrow
 use Rattle.arrow_schema.specs.declared.spec.DictSpec.{DictSpec}
 use Rattle.arrow_schema.specs.declared.spec.Encoding.TheVariants as encoding
 use Rattle.arrow_schema.specs.declared.spec.FieldSpec.{FieldSpec}
-use Rattle.arrow_schema.specs.Branches.{One, Under, fields_of}
+use Rattle.arrow_schema.specs.Branches.{One, Under, branch_fields}
 use Rattle.arrow_arrays.specs.declared.spec.ArraySpec.{ArraySpec}
 use Rattle.arrow_arrays.specs.Arrays.{arrays_of}
 use Rattle.otap_cells.specs.declared.payload.Kind.{Kind}
@@ -21,7 +22,7 @@ use Rattle.otap_columns.specs.declared.forms.ColumnForm.TheVariants as form
 use Rattle.otap_columns.specs.Known.{place_at}
 use Rattle.otap_columns.specs.Groups.{Member, Group, grouped}
 use Rattle.otap_columns.specs.Groups as group
-use Rattle.otap_columns.specs.Schemas.{Forms, is_there, fits_form, FormsFit, type_in, item_in, dict_for, leaf_in, members_there, branches_under, branches_in, branches_for, schema_for, IsFound}
+use Rattle.otap_columns.specs.Schemas.{Forms, is_there, fits_form, FormsFit, arrow_type_in, item_in, dict_for, leaf_in, members_there, branches_under, branches_in, branches_for, schema_for, IsFound}
 use Rattle.otap_columns.proofs.Grouping.{under_tests, is_member, is_group, kinds_grouped}
 use Rattle.otap_columns.proofs.Keeping.{member_below}
 use Rattle.otap_columns.proofs.Located.{column_absent, column_found}
@@ -32,7 +33,7 @@ bits_in : ArrowType → ℕ
 bits_in (arrow.Int bits signed) = bits
 bits_in other = 0
 
-plain_wide : (b : Base) → is_id b ≡ true → type_in b form.Plain ≡ type_in b form.Wide → ⊥
+plain_wide : (b : Base) → is_id b ≡ true → arrow_type_in b form.Plain ≡ arrow_type_in b form.Wide → ⊥
 unfolding bits_in
 plain_wide (base.Id wide) is same = let e : 16 ≡ 32 = ap bits_in same in absurd (omega (arith, e))
 plain_wide other is same = absurd (false≢true is)
@@ -45,7 +46,7 @@ absent_is : (f : ColumnForm) → is_there f ≡ false → f ≡ form.Absent
 absent_is form.Absent is = refl
 absent_is other is = absurd (true≢false is)
 
-same_form : (c : ColumnSpec) (column : ℕ) (f g : ColumnForm) → is_there f ≡ true → is_there g ≡ true → fits_form c f ≡ true → fits_form c g ≡ true → type_in c.base f ≡ type_in c.base g
+same_form : (c : ColumnSpec) (column : ℕ) (f g : ColumnForm) → is_there f ≡ true → is_there g ≡ true → fits_form c f ≡ true → fits_form c g ≡ true → arrow_type_in c.base f ≡ arrow_type_in c.base g
     → dict_for column f ≡ dict_for column g → f ≡ g
 unfolding is_wide
 same_form c column form.Absent g there other fits also type dict = absurd (false≢true there)
@@ -70,16 +71,13 @@ same_form c column form.Wide form.Dict8 there other fits also type dict = absurd
 same_form c column form.Wide form.Dict16 there other fits also type dict = absurd (cc (dict))
 same_form c column form.Wide form.Wide there other fits also type dict = refl
 
-some_is : {A : Type 0} (x y : A) → Some x ≡ Some y → x ≡ y
-some_is x y is = cc (is)
-
 module _ (kind : Kind) (f g : Forms) (fit : FormsFit kind f) (also : FormsFit kind g) where
   -- EQUAL SCHEMAS HAVE EQUAL FORMS
   both_there : (column : ℕ) → column < width_of kind → schema_for kind f ≡ schema_for kind g → IsFound kind f column → IsFound kind g column → is_there (f column) ≡ true → is_there (g column) ≡ true → f column ≡ g column
   both_there column below same one two there other =
       let e : arrays_of (schema_for kind f) ≡ arrays_of (schema_for kind g) = ap arrays_of same in
-      let place : one.place ≡ two.place = some_is one.place two.place (sym one.found ∙ ap (λ (arrays : List ArraySpec). place_at kind arrays column) e ∙ two.found) in
-      let array : one.array ≡ two.array = some_is one.array two.array (sym one.at ∙ (λ i. slice_get (e i) (place i)) ∙ two.at) in
+      let place : one.place ≡ two.place = same_Some one.place two.place (sym one.found ∙ ap (λ (arrays : List ArraySpec). place_at kind arrays column) e ∙ two.found) in
+      let array : one.array ≡ two.array = same_Some one.array two.array (sym one.at ∙ (λ i. slice_get (e i) (place i)) ∙ two.at) in
       same_form (column_at kind column) column (f column) (g column) there other (fit column below) (also column below)
       (sym one.type ∙ ap (λ (a : ArraySpec). a.kind) array ∙ two.type) (sym one.dict ∙ ap (λ (a : ArraySpec). a.dict) array ∙ two.dict)
 
@@ -119,7 +117,7 @@ module _ (kind : Kind) (f g : Forms) (fit : FormsFit kind f) (same : (column : �
   same_leaf : (m : Member) → f m.column ≡ g m.column → leaf_in kind f m ≡ leaf_in kind g m
   same_leaf m is = λ i. record {
     name = m.name;
-    kind = type_in (column_at kind m.column).base (is i);
+    kind = arrow_type_in (column_at kind m.column).base (is i);
     dict = dict_for m.column (is i);
     encoding = encoding.None;
     item = item_in (column_at kind m.column).base;
@@ -174,4 +172,4 @@ module _ (kind : Kind) (f g : Forms) (fit : FormsFit kind f) (same : (column : �
 
   pub same_schema : schema_for kind f ≡ schema_for kind g
   unfolding schema_for branches_for
-  same_schema = ap fields_of (same_groups (grouped (columns_of kind)) (kinds_grouped kind).each)
+  same_schema = ap branch_fields (same_groups (grouped (columns_of kind)) (kinds_grouped kind).each)

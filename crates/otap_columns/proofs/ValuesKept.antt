@@ -5,6 +5,7 @@ use Rattle.std.specs.List.{AllByRecursion, list_any, list_all, flat_map}
 use Rattle.std.proofs.lemmas.Bool.{cases_Bool, and_from, and_parts, or_left, or_right, ltb-false, false≢true, true≢false}
 use Rattle.std.proofs.lemmas.Slice.Eq.{bytes_eq-Decides}
 use Rattle.std.proofs.lemmas.List.Folds.{list_any-append}
+use Rattle.lists.proofs.Every.{every_append, every_drop}
 use Rattle.otap_dicts.proofs.Once.{members-law}
 use Rattle.arrow_schema.specs.declared.spec.ArrowType.{ArrowType}
 use Rattle.arrow_schema.specs.Types.{takes_dictionary}
@@ -12,7 +13,7 @@ use Rattle.arrow_buffers.specs.declared.width.Width.{Width}
 use Rattle.arrow_buffers.proofs.EachBelow.{all_below-at}
 use Rattle.arrow_buffers.specs.Vars.{is_text}
 use Rattle.arrow_buffers.specs.Columns.{HasWidth}
-use Rattle.arrow_arrays.specs.Columns.{width_of, AreTexts}
+use Rattle.arrow_arrays.specs.Columns.{stored_width, AreTexts}
 use Rattle.arrow_arrays.specs.declared.layout.Layout.{Layout}
 use Rattle.arrow_arrays.specs.declared.layout.Layout.TheVariants as layout
 use Rattle.arrow_arrays.specs.Layouts.{layout_of_values}
@@ -25,20 +26,19 @@ use Rattle.otap_cells.specs.Columns as columns
 use Rattle.otap_cells.specs.Tables.{Table, cell_in, column_in}
 use Rattle.otap_dicts.specs.declared.form.Form.{Form}
 use Rattle.otap_dicts.specs.declared.form.Form.TheVariants as ladder
-use Rattle.otap_dicts.specs.Forms.{distinct, with_value, form_of, is_too_large, bytes_of}
+use Rattle.otap_dicts.specs.Forms.{distinct, with_value, form_of, is_too_large, byte_count}
 use Rattle.otap_dicts.specs.Ladders.{ladder_of, kept_in}
 use Rattle.otap_dicts.specs.Limits.{narrow_limit}
 use Rattle.otap_columns.specs.declared.forms.ColumnForm.{ColumnForm}
 use Rattle.otap_columns.specs.declared.forms.ColumnForm.TheVariants as form
 use Rattle.otap_columns.specs.WrittenPayloads.{IsWritableTable}
-use Rattle.otap_columns.specs.Schemas.{fits_form, is_dictionary, item_in, type_in}
-use Rattle.otap_columns.specs.Observed.{bytes_for, given, values_in, seen, form_at, values_at, is_own_id, id_form_if, of_ladder}
+use Rattle.otap_columns.specs.Schemas.{fits_form, is_dictionary, item_in, arrow_type_in}
+use Rattle.otap_columns.specs.Observed.{bytes_for, given, values_in, values_in_tables, form_at, dictionary_values, is_own_id, id_form_if, of_ladder}
 use Rattle.otap_columns.specs.WrittenBatches.{IsSingle, HoldsType}
 use Rattle.otap_columns.specs.BuiltCells.{plain_width}
 use Rattle.otap_columns.specs.WrittenRows.{IsKnownIn}
 use Rattle.otap_columns.proofs.Grouping.{kinds_grouped, may_be_dictionary}
 use Rattle.otap_columns.proofs.Keeping.{marked_takes}
-use Rattle.otap_columns.proofs.LookedUp.{each-append}
 use Rattle.otap_columns.proofs.HeadsTaken.{all_some}
 use Rattle.otap_columns.proofs.ColumnsBuilt.{plain_fits}
 use Rattle.otap_columns.proofs.PartsBuilt.{text_cell}
@@ -47,7 +47,7 @@ use Rattle.otap_columns.proofs.ValuesSeen.{forms_fit, ids_have, seen-push}
 -- ---- the bytes of a cell
 
 abbrev pub IsTextFor : Base → List ℕ → Type 0
-IsTextFor holds value = AreTexts (layout_of_values (type_in holds form.Wide)) (Some value ∷ [])
+IsTextFor holds value = AreTexts (layout_of_values (arrow_type_in holds form.Wide)) (Some value ∷ [])
 
 abbrev pub IsValueOf : Base → List ℕ → Type 0
 IsValueOf holds value = HasWidth (plain_width holds form.Wide) value × IsTextFor holds value
@@ -91,7 +91,7 @@ tables_given : (kind : Kind) (column : ℕ) (tables : List Table) → AllByRecur
     → AllByRecursion (IsValueOf (columns.base_at kind column)) (flat_map (values_in kind column) tables)
 tables_given kind column [] each = tt
 tables_given kind column (t ∷ tables) each =
-    each-append (IsValueOf (columns.base_at kind column)) (values_in kind column t) (flat_map (values_in kind column) tables)
+    every_append (IsValueOf (columns.base_at kind column)) (values_in kind column t) (flat_map (values_in kind column) tables)
     (cells_given (columns.base_at kind column) t.rows column
     (λ row low. subst (λ (k : Kind). IsCellOf (columns.base_at k column) (cell_in t.rows column row)) each.0.kind_is (each.0.table.fits column row)))
     (tables_given kind column tables each.1)
@@ -101,12 +101,12 @@ each_distinct P known [] have more = have
 each_distinct P known (v ∷ vs) have more =
     elim (cases_Bool (list_any (bytes_eq v) known)) [
       | inl there ↦ each_distinct P (with_value known v) vs (rw there have) more.1
-      | inr new ↦ each_distinct P (with_value known v) vs (rw new (each-append P known (v ∷ []) have (more.0, tt))) more.1
+      | inr new ↦ each_distinct P (with_value known v) vs (rw new (every_append P known (v ∷ []) have (more.0, tt))) more.1
     ]
 
 pub values_are : (kind : Kind) (column : ℕ) (tables : List Table) → AllByRecursion (IsWritableTable kind) tables
-    → AllByRecursion (IsValueOf (columns.base_at kind column)) (values_at kind tables column)
-unfolding values_at distinct seen
+    → AllByRecursion (IsValueOf (columns.base_at kind column)) (dictionary_values kind tables column)
+unfolding dictionary_values distinct values_in_tables
 values_are kind column tables each =
     each_distinct (IsValueOf (columns.base_at kind column)) [] (flat_map (values_in kind column) tables) tt (tables_given kind column tables each)
 
@@ -116,11 +116,6 @@ each_at : (P : List ℕ → Type 0) (values : List (List ℕ)) → AllByRecursio
 each_at P [] each place value at = absurd (cc)
 each_at P (v ∷ vs) each zero value at = let same : v ≡ value = cc in subst P same each.0
 each_at P (v ∷ vs) each (suc place) value at = each_at P vs each.1 place value at
-
-each_drop : (P : List ℕ → Type 0) (from : ℕ) (values : List (List ℕ)) → AllByRecursion P values → AllByRecursion P (drop from values)
-each_drop P zero values each = each
-each_drop P (suc from) [] each = tt
-each_drop P (suc from) (v ∷ vs) each = each_drop P from vs each.1
 
 each_texts : (values : List (List ℕ)) → AllByRecursion (λ value. list_all is_text (Some value ∷ []) ≡ true) values → list_all is_text (all_some values) ≡ true
 each_texts [] each = refl
@@ -134,13 +129,13 @@ all_texts layout.Binary values each = tt
 all_texts layout.Text values each = each_texts values each
 all_texts layout.List values each = tt
 
-type_holds : (type : ArrowType) (w : Width) (values : List (List ℕ)) → width_of (layout_of_values type) ≡ Some w → IsSingle w
+type_holds : (type : ArrowType) (w : Width) (values : List (List ℕ)) → stored_width (layout_of_values type) ≡ Some w → IsSingle w
     → AllByRecursion (λ value. HasWidth w value × AreTexts (layout_of_values type) (Some value ∷ [])) values → HoldsType type w values
 type_holds type w values stored single each = record {
   stored = stored;
   single = single;
   wide = λ place value at. (each_at (λ v. HasWidth w v × AreTexts (layout_of_values type) (Some v ∷ [])) values each place value at).0;
-  texts = λ from. all_texts (layout_of_values type) (drop from values) (second (drop from values) (each_drop (λ v. HasWidth w v × AreTexts (layout_of_values type) (Some v ∷ [])) from values each));
+  texts = λ from. all_texts (layout_of_values type) (drop from values) (second (drop from values) (every_drop (λ v. HasWidth w v × AreTexts (layout_of_values type) (Some v ∷ [])) from values each));
 }
   where
     second : (vs : List (List ℕ)) → AllByRecursion (λ v. HasWidth w v × AreTexts (layout_of_values type) (Some v ∷ [])) vs
@@ -148,9 +143,9 @@ type_holds type w values stored single each = record {
     second [] h = tt
     second (v ∷ vs) h = (h.0.1, second vs h.1)
 
-pub base_holds : (holds : Base) (f : ColumnForm) (values : List (List ℕ)) → is_id holds ≡ false → takes_dictionary (type_in holds form.Plain) ≡ true
+pub base_holds : (holds : Base) (f : ColumnForm) (values : List (List ℕ)) → is_id holds ≡ false → takes_dictionary (arrow_type_in holds form.Plain) ≡ true
     → AllByRecursion (IsValueOf holds) values
-    → HoldsType (type_in holds f) (plain_width holds f) values
+    → HoldsType (arrow_type_in holds f) (plain_width holds f) values
 base_holds base.U8 f values id takes each = type_holds _ _ values refl (omega arith) each
 base_holds base.U16 f values id takes each = type_holds _ _ values refl (omega arith) each
 base_holds base.U32 f values id takes each = type_holds _ _ values refl (omega arith) each
@@ -191,12 +186,12 @@ marked c form.Wide fits is = absurd (false≢true is)
 
 -- nor is one of lists
 pub takes_one : (kind : Kind) (tables : List Table) (column : ℕ) → column < columns.width_of kind → is_dictionary (form_at kind tables column) ≡ true
-    → takes_dictionary (type_in (columns.base_at kind column) form.Plain) ≡ true
+    → takes_dictionary (arrow_type_in (columns.base_at kind column) form.Plain) ≡ true
 takes_one kind tables column below is =
     marked_takes (columns.column_at kind column) (marked (columns.column_at kind column) (form_at kind tables column) (forms_fit kind tables column below) is)
     (all_below-at (λ (c : ℕ). may_be_dictionary (columns.column_at kind c)) (columns.width_of kind) column (kinds_grouped kind).dictionaries below)
 
-pub no_list : (holds : Base) → takes_dictionary (type_in holds form.Plain) ≡ true → item_in holds ≡ None
+pub no_list : (holds : Base) → takes_dictionary (arrow_type_in holds form.Plain) ≡ true → item_in holds ≡ None
 no_list base.U8 takes = refl
 no_list base.U16 takes = refl
 no_list base.U32 takes = refl
@@ -224,11 +219,11 @@ kept_form ladder.Dict16 values is = refl
 kept_form ladder.Plain values is = absurd (false≢true is)
 
 pub kept_values : (kind : Kind) (tables : List Table) (column : ℕ) → is_dictionary (form_at kind tables column) ≡ true
-    → (ladder_of (columns.column_at kind column).dictionary (seen kind tables column)).values ≡ values_at kind tables column
-unfolding ladder_of form_at values_at
+    → (ladder_of (columns.column_at kind column).dictionary (values_in_tables kind tables column)).values ≡ dictionary_values kind tables column
+unfolding ladder_of form_at dictionary_values
 kept_values kind tables column is =
     let none : columns.is_id_at kind column ≡ false = no_id kind tables column is in
-    kept_form (form_of (columns.column_at kind column).dictionary (seen kind tables column)) (distinct (seen kind tables column)) (rw none at is)
+    kept_form (form_of (columns.column_at kind column).dictionary (values_in_tables kind tables column)) (distinct (values_in_tables kind tables column)) (rw none at is)
 
 narrow_ladder : (large wide : Bool) → of_ladder (if large then ladder.Plain else (if wide then ladder.Dict16 else ladder.Dict8)) ≡ form.Dict8 → wide ≡ false
 narrow_ladder true wide is = absurd (cc)
@@ -240,14 +235,14 @@ narrow_form marked [] is = absurd (cc)
 narrow_form false (v ∷ vs) is = absurd (cc)
 narrow_form true (v ∷ vs) is =
     ltb-false narrow_limit (length (distinct (v ∷ vs)))
-    (narrow_ladder (is_too_large (length (distinct (v ∷ vs))) (bytes_of (distinct (v ∷ vs)))) (nat_lt narrow_limit (length (distinct (v ∷ vs)))) is)
+    (narrow_ladder (is_too_large (length (distinct (v ∷ vs))) (byte_count (distinct (v ∷ vs)))) (nat_lt narrow_limit (length (distinct (v ∷ vs)))) is)
 
 -- narrow indexes reach all values
-pub narrow_values : (kind : Kind) (tables : List Table) (column : ℕ) → form_at kind tables column ≡ form.Dict8 → length (values_at kind tables column) ≤ narrow_limit
-unfolding form_at values_at
+pub narrow_values : (kind : Kind) (tables : List Table) (column : ℕ) → form_at kind tables column ≡ form.Dict8 → length (dictionary_values kind tables column) ≤ narrow_limit
+unfolding form_at dictionary_values
 narrow_values kind tables column is =
     let none : columns.is_id_at kind column ≡ false = no_id kind tables column (ap is_dictionary is) in
-    narrow_form (columns.column_at kind column).dictionary (seen kind tables column) (rw none at is)
+    narrow_form (columns.column_at kind column).dictionary (values_in_tables kind tables column) (rw none at is)
 
 -- ---- each value of the last table is in its dictionary
 
@@ -287,19 +282,19 @@ rows_have holds (r ∷ rows) column (suc row) value low at = by (bytes_for holds
     by (Some first) is rest = rw is (or_right (bytes_eq value first) _ rest)
 
 pub known_value : (kind : Kind) (before : List Table) (t : Table) (column row : ℕ) (f : ColumnForm) → columns.is_id_at kind column ≡ false → row < length t.rows
-    → IsKnownIn (values_at kind (before ++ t ∷ []) column) (bytes_for (columns.base_at kind column) f (cell_in t.rows column row))
-unfolding values_at
+    → IsKnownIn (dictionary_values kind (before ++ t ∷ []) column) (bytes_for (columns.base_at kind column) f (cell_in t.rows column row))
+unfolding dictionary_values
 known_value kind before t column row f id low =
-    subst (IsKnownIn (values_at kind (before ++ t ∷ []) column)) (bytes_alike (columns.base_at kind column) form.Wide f (cell_in t.rows column row) id)
+    subst (IsKnownIn (dictionary_values kind (before ++ t ∷ []) column)) (bytes_alike (columns.base_at kind column) form.Wide f (cell_in t.rows column row) id)
     (by (bytes_for (columns.base_at kind column) form.Wide (cell_in t.rows column row)) refl)
   where
-    by : (o : Option (List ℕ)) → bytes_for (columns.base_at kind column) form.Wide (cell_in t.rows column row) ≡ o → IsKnownIn (values_at kind (before ++ t ∷ []) column) o
+    by : (o : Option (List ℕ)) → bytes_for (columns.base_at kind column) form.Wide (cell_in t.rows column row) ≡ o → IsKnownIn (dictionary_values kind (before ++ t ∷ []) column) o
     by None is = tt
     by (Some value) is = has_value value is
       where
-        has_value : (value : List ℕ) → bytes_for (columns.base_at kind column) form.Wide (cell_in t.rows column row) ≡ Some value → list_any (bytes_eq value) (values_at kind (before ++ t ∷ []) column) ≡ true
+        has_value : (value : List ℕ) → bytes_for (columns.base_at kind column) form.Wide (cell_in t.rows column row) ≡ Some value → list_any (bytes_eq value) (dictionary_values kind (before ++ t ∷ []) column) ≡ true
         has_value value is =
-            members-law (seen kind (before ++ t ∷ []) column) value
+            members-law (values_in_tables kind (before ++ t ∷ []) column) value
             ∙ ap (list_any (bytes_eq value)) (seen-push kind before t column)
-            ∙ list_any-append (bytes_eq value) (seen kind before column) (values_in kind column t)
-            ∙ or_right (list_any (bytes_eq value) (seen kind before column)) _ (rows_have (columns.base_at kind column) t.rows column row value low is)
+            ∙ list_any-append (bytes_eq value) (values_in_tables kind before column) (values_in kind column t)
+            ∙ or_right (list_any (bytes_eq value) (values_in_tables kind before column)) _ (rows_have (columns.base_at kind column) t.rows column row value low is)

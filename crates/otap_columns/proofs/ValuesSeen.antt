@@ -3,7 +3,7 @@ use Rattle.std.proofs.Common.{◌≡◌, ℕ, suc, zero, ◌+◌, ◌<◌, ◌�
 use Rattle.std.proofs.Common.{Option, Some, None, refl, sym, ap, ◌∙◌, subst, arith, append-nil, ◌⊎◌, inl, inr}
 use Rattle.std.specs.Prelude.{ℤ, pos, negsuc, ◌||◌}
 use Rattle.std.specs.List.{flat_map, list_any}
-use Rattle.std.proofs.lemmas.Bool.{false≢true, ltb-false, le-leb}
+use Rattle.std.proofs.lemmas.Bool.{false≢true, ltb-false, le-leb, or_parts}
 use Rattle.std.proofs.lemmas.Grind.{flat_map-append}
 use Rattle.std.proofs.lemmas.List.Folds.{list_any-append}
 use Rattle.otap_cells.specs.declared.payload.Kind.{Kind}
@@ -18,36 +18,36 @@ use Rattle.otap_cells.specs.Continuing.{continues_in}
 use Rattle.otap_cells.specs.Ids.{Ids, IdsAfter, undone_after, base_of, goes_on}
 use Rattle.otap_cells.specs.Tables.{Table, cell_in, column_in, greatest_wide, greatest_narrow}
 use Rattle.otap_dicts.specs.declared.form.Form.TheVariants as ladder
-use Rattle.otap_dicts.specs.Forms.{distinct, bytes_of, is_too_large, form_of}
+use Rattle.otap_dicts.specs.Forms.{distinct, byte_count, is_too_large, form_of}
 use Rattle.otap_dicts.proofs.Once.{grows-law}
 use Rattle.otap_dicts.specs.Limits.{narrow_limit, value_limit, byte_limit}
 use Rattle.otap_columns.specs.declared.forms.ColumnForm.{ColumnForm}
 use Rattle.otap_columns.specs.declared.forms.ColumnForm.TheVariants as form
 use Rattle.otap_columns.specs.Schemas.{is_there, is_dictionary, fits_form, FormsFit}
-use Rattle.otap_columns.specs.Observed.{bytes_for, given, values_in, seen, is_own_id, is_above, is_wide, has_wide_id, if_seen, id_form, id_form_if, of_ladder, form_at, values_at, new_at}
+use Rattle.otap_columns.specs.Observed.{bytes_for, given, values_in, values_in_tables, is_own_id, is_above, is_wide, has_wide_id, if_seen, id_form, id_form_if, of_ladder, form_at, dictionary_values, new_at}
 use Rattle.otap_columns.specs.BuiltCells.{id_bits, FitsForm}
 use Rattle.otap_columns.proofs.CellsBack.{null_bytes}
 
 -- ---- one more table
 
-pub seen-push : (kind : Kind) (tables : List Table) (t : Table) (column : ℕ) → seen kind (tables ++ t ∷ []) column ≡ seen kind tables column ++ values_in kind column t
-unfolding seen
+pub seen-push : (kind : Kind) (tables : List Table) (t : Table) (column : ℕ) → values_in_tables kind (tables ++ t ∷ []) column ≡ values_in_tables kind tables column ++ values_in kind column t
+unfolding values_in_tables
 seen-push kind tables t column = flat_map-append (values_in kind column) tables (t ∷ []) ∙ ap (λ vs. flat_map (values_in kind column) tables ++ vs) (append-nil (values_in kind column t))
 
 -- new values are added at the end
 pub values_grow : (kind : Kind) (before : List Table) (t : Table) (column : ℕ)
-    → values_at kind before column ++ new_at kind before (before ++ t ∷ []) column ≡ values_at kind (before ++ t ∷ []) column
-unfolding values_at new_at
+    → dictionary_values kind before column ++ new_at kind before (before ++ t ∷ []) column ≡ dictionary_values kind (before ++ t ∷ []) column
+unfolding dictionary_values new_at
 values_grow kind before t column =
     let e = seen-push kind before t column in
-    rw e (sym (grows-law (seen kind before column) (values_in kind column t)))
+    rw e (sym (grows-law (values_in_tables kind before column) (values_in kind column t)))
 
 -- ---- forms
 
 -- a column that isn't one of ids has the form that a ladder tells
 abbrev by_test : Bool → Kind → List Table → ℕ → ColumnForm
 by_test id kind tables column =
-    if id then id_form_if (is_own_id kind column) kind tables column else of_ladder (form_of (column_at kind column).dictionary (seen kind tables column))
+    if id then id_form_if (is_own_id kind column) kind tables column else of_ladder (form_of (column_at kind column).dictionary (values_in_tables kind tables column))
 
 id_form_is : (kind : Kind) (tables : List Table) (column : ℕ) → (id_form kind tables column ≡ form.Wide) ⊎ (id_form kind tables column ≡ form.Plain)
 id_form_is kind tables column = by (is_wide (base_at kind column) || list_any (has_wide_id kind column) tables) refl
@@ -70,7 +70,7 @@ ids_have P own kind tables column absent plain wide = by_own own (by_form (id_fo
 
     by_own : (own : Bool) → P (id_form kind tables column) → P (id_form_if own kind tables column)
     by_own true here = here
-    by_own false here = by_seen (seen kind tables column) here
+    by_own false here = by_seen (values_in_tables kind tables column) here
 
 -- each form fits its column
 dictionary_fits : (kind : Kind) (column : ℕ) (large wide : Bool) → (column_at kind column).dictionary ≡ true
@@ -83,7 +83,7 @@ form_of_fits : (kind : Kind) (column : ℕ) (marked : Bool) (values : List (List
 form_of_fits kind column marked [] is = refl
 form_of_fits kind column false (v ∷ vs) is = refl
 form_of_fits kind column true (v ∷ vs) is =
-    dictionary_fits kind column (is_too_large (length (distinct (v ∷ vs))) (bytes_of (distinct (v ∷ vs)))) (nat_lt narrow_limit (length (distinct (v ∷ vs)))) is
+    dictionary_fits kind column (is_too_large (length (distinct (v ∷ vs))) (byte_count (distinct (v ∷ vs)))) (nat_lt narrow_limit (length (distinct (v ∷ vs)))) is
 
 pub forms_fit : (kind : Kind) (tables : List Table) → FormsFit kind (form_at kind tables)
 unfolding form_at
@@ -91,7 +91,7 @@ forms_fit kind tables column below = by (is_id_at kind column) refl
   where
     by : (id : Bool) → is_id_at kind column ≡ id → fits_form (column_at kind column) (by_test id kind tables column) ≡ true
     by true is = ids_have (λ f. fits_form (column_at kind column) f ≡ true) (is_own_id kind column) kind tables column refl refl is
-    by false is = form_of_fits kind column (column_at kind column).dictionary (seen kind tables column) refl
+    by false is = form_of_fits kind column (column_at kind column).dictionary (values_in_tables kind tables column) refl
 
 -- a dictionary has at most 65,536 values
 few_ladder : (large wide : Bool) → is_dictionary (of_ladder (if large then ladder.Plain else (if wide then ladder.Dict16 else ladder.Dict8))) ≡ true → large ≡ false
@@ -103,48 +103,44 @@ few_form marked [] is = absurd (false≢true is)
 few_form false (v ∷ vs) is = absurd (false≢true is)
 few_form true (v ∷ vs) is =
     let n = length (distinct (v ∷ vs)) in
-    let small : is_too_large n (bytes_of (distinct (v ∷ vs))) ≡ false = few_ladder (is_too_large n (bytes_of (distinct (v ∷ vs)))) (nat_lt narrow_limit n) is in
-    count n (nat_lt byte_limit (bytes_of (distinct (v ∷ vs)))) small
+    let small : is_too_large n (byte_count (distinct (v ∷ vs))) ≡ false = few_ladder (is_too_large n (byte_count (distinct (v ∷ vs)))) (nat_lt narrow_limit n) is in
+    count n (nat_lt byte_limit (byte_count (distinct (v ∷ vs)))) small
   where
-    or_none : (a b : Bool) → (a || b) ≡ false → a ≡ false
-    or_none true b is = absurd (true≢false is)
-    or_none false b is = refl
-
     count : (n : ℕ) (long : Bool) → (nat_lt value_limit n || long) ≡ false → n ≤ value_limit
-    count n long is = let low = ltb-false value_limit n (or_none (nat_lt value_limit n) long is) in omega arith
+    count n long is = let low = ltb-false value_limit n (or_parts (nat_lt value_limit n) long is).0 in omega arith
 
 -- and at most 1,048,576 bytes
-small_form : (marked : Bool) (values : List (List ℕ)) → is_dictionary (of_ladder (form_of marked values)) ≡ true → bytes_of (distinct values) ≤ byte_limit
+small_form : (marked : Bool) (values : List (List ℕ)) → is_dictionary (of_ladder (form_of marked values)) ≡ true → byte_count (distinct values) ≤ byte_limit
 small_form marked [] is = absurd (false≢true is)
 small_form false (v ∷ vs) is = absurd (false≢true is)
 small_form true (v ∷ vs) is =
     let n = length (distinct (v ∷ vs)) in
-    let small : is_too_large n (bytes_of (distinct (v ∷ vs))) ≡ false = few_ladder (is_too_large n (bytes_of (distinct (v ∷ vs)))) (nat_lt narrow_limit n) is in
-    bytes (nat_lt value_limit n) (bytes_of (distinct (v ∷ vs))) small
+    let small : is_too_large n (byte_count (distinct (v ∷ vs))) ≡ false = few_ladder (is_too_large n (byte_count (distinct (v ∷ vs)))) (nat_lt narrow_limit n) is in
+    bytes (nat_lt value_limit n) (byte_count (distinct (v ∷ vs))) small
   where
     bytes : (many : Bool) (b : ℕ) → (many || nat_lt byte_limit b) ≡ false → b ≤ byte_limit
     bytes true b is = absurd (true≢false is)
     bytes false b is = let low = ltb-false byte_limit b is in omega arith
 
-pub small_values : (kind : Kind) (tables : List Table) (column : ℕ) → is_dictionary (form_at kind tables column) ≡ true → bytes_of (values_at kind tables column) ≤ byte_limit
-unfolding form_at values_at
+pub small_values : (kind : Kind) (tables : List Table) (column : ℕ) → is_dictionary (form_at kind tables column) ≡ true → byte_count (dictionary_values kind tables column) ≤ byte_limit
+unfolding form_at dictionary_values
 small_values kind tables column is = by (is_id_at kind column) refl
   where
-    by : (id : Bool) → is_id_at kind column ≡ id → bytes_of (distinct (seen kind tables column)) ≤ byte_limit
+    by : (id : Bool) → is_id_at kind column ≡ id → byte_count (distinct (values_in_tables kind tables column)) ≤ byte_limit
     by true here =
         let none : is_dictionary (id_form_if (is_own_id kind column) kind tables column) ≡ false = ids_have (λ f. is_dictionary f ≡ false) (is_own_id kind column) kind tables column refl refl refl in
         absurd (false≢true (sym none ∙ rw here at is))
-    by false here = small_form (column_at kind column).dictionary (seen kind tables column) (rw here at is)
+    by false here = small_form (column_at kind column).dictionary (values_in_tables kind tables column) (rw here at is)
 
-pub few_values : (kind : Kind) (tables : List Table) (column : ℕ) → is_dictionary (form_at kind tables column) ≡ true → length (values_at kind tables column) ≤ value_limit
-unfolding form_at values_at
+pub few_values : (kind : Kind) (tables : List Table) (column : ℕ) → is_dictionary (form_at kind tables column) ≡ true → length (dictionary_values kind tables column) ≤ value_limit
+unfolding form_at dictionary_values
 few_values kind tables column is = by (is_id_at kind column) refl
   where
-    by : (id : Bool) → is_id_at kind column ≡ id → length (distinct (seen kind tables column)) ≤ value_limit
+    by : (id : Bool) → is_id_at kind column ≡ id → length (distinct (values_in_tables kind tables column)) ≤ value_limit
     by true here =
         let none : is_dictionary (id_form_if (is_own_id kind column) kind tables column) ≡ false = ids_have (λ f. is_dictionary f ≡ false) (is_own_id kind column) kind tables column refl refl refl in
         absurd (false≢true (sym none ∙ rw here at is))
-    by false here = few_form (column_at kind column).dictionary (seen kind tables column) (rw here at is)
+    by false here = few_form (column_at kind column).dictionary (values_in_tables kind tables column) (rw here at is)
 
 -- ---- absent columns
 
@@ -176,7 +172,7 @@ unseen_form : (marked : Bool) (values : List (List ℕ)) → is_there (of_ladder
 unseen_form marked [] is = refl
 unseen_form false (v ∷ vs) is = absurd (true≢false is)
 unseen_form true (v ∷ vs) is =
-    absurd (true≢false (sym (unseen_ladder (is_too_large (length (distinct (v ∷ vs))) (bytes_of (distinct (v ∷ vs)))) (nat_lt narrow_limit (length (distinct (v ∷ vs))))) ∙ is))
+    absurd (true≢false (sym (unseen_ladder (is_too_large (length (distinct (v ∷ vs))) (byte_count (distinct (v ∷ vs)))) (nat_lt narrow_limit (length (distinct (v ∷ vs))))) ∙ is))
 
 id_there : (kind : Kind) (tables : List Table) (column : ℕ) → is_there (id_form kind tables column) ≡ true
 id_there kind tables column = by (id_form_is kind tables column)
@@ -185,21 +181,21 @@ id_there kind tables column = by (id_form_is kind tables column)
     by (inl is) = rw is refl
     by (inr is) = rw is refl
 
-unseen_id : (own : Bool) (kind : Kind) (tables : List Table) (column : ℕ) → is_there (id_form_if own kind tables column) ≡ false → seen kind tables column ≡ []
+unseen_id : (own : Bool) (kind : Kind) (tables : List Table) (column : ℕ) → is_there (id_form_if own kind tables column) ≡ false → values_in_tables kind tables column ≡ []
 unseen_id true kind tables column is = absurd (true≢false (sym (id_there kind tables column) ∙ is))
-unseen_id false kind tables column is = by (seen kind tables column) is
+unseen_id false kind tables column is = by (values_in_tables kind tables column) is
   where
     by : (values : List (List ℕ)) → is_there (if_seen values (id_form kind tables column)) ≡ false → values ≡ []
     by [] h = refl
     by (v ∷ vs) h = absurd (true≢false (sym (id_there kind tables column) ∙ h))
 
-pub unseen : (kind : Kind) (tables : List Table) (column : ℕ) → is_there (form_at kind tables column) ≡ false → seen kind tables column ≡ []
+pub unseen : (kind : Kind) (tables : List Table) (column : ℕ) → is_there (form_at kind tables column) ≡ false → values_in_tables kind tables column ≡ []
 unfolding form_at
 unseen kind tables column is = by (is_id_at kind column) refl
   where
-    by : (id : Bool) → is_id_at kind column ≡ id → seen kind tables column ≡ []
+    by : (id : Bool) → is_id_at kind column ≡ id → values_in_tables kind tables column ≡ []
     by true here = unseen_id (is_own_id kind column) kind tables column (rw here at is)
-    by false here = unseen_form (column_at kind column).dictionary (seen kind tables column) (rw here at is)
+    by false here = unseen_form (column_at kind column).dictionary (values_in_tables kind tables column) (rw here at is)
 
 append_none : {A : Type 0} (xs ys : List A) → xs ++ ys ≡ [] → ys ≡ []
 append_none [] ys is = is
@@ -208,14 +204,10 @@ append_none (x ∷ xs) ys is = absurd (cc)
 -- so its cells are null
 pub absent_null : (kind : Kind) (before : List Table) (t : Table) (column row : ℕ) → is_there (form_at kind (before ++ t ∷ []) column) ≡ false → row < length t.rows → cell_in t.rows column row ≡ null
 absent_null kind before t column row is low =
-    let none : seen kind before column ++ values_in kind column t ≡ [] = sym (seen-push kind before t column) ∙ unseen kind (before ++ t ∷ []) column is in
-    given-cell (base_at kind column) column t.rows row low (append_none (seen kind before column) (values_in kind column t) none)
+    let none : values_in_tables kind before column ++ values_in kind column t ≡ [] = sym (seen-push kind before t column) ∙ unseen kind (before ++ t ∷ []) column is in
+    given-cell (base_at kind column) column t.rows row low (append_none (values_in_tables kind before column) (values_in kind column t) none)
 
 -- ---- ids
-
-or_none : (a b : Bool) → (a || b) ≡ false → (a ≡ false) × (b ≡ false)
-or_none true b is = absurd (true≢false is)
-or_none false b is = (refl, is)
 
 -- where no id needs more than 16 bits, no stored number does
 narrow : (how : Coding) (last before : ℕ) (rows : List Bool) (ns ids : List (Option ℕ)) → IdsAfter how last before rows ns ids → list_any is_above (undone_after how last before rows ns) ≡ false
@@ -229,7 +221,7 @@ narrow how last before rows (Some m ∷ ns) (Some id ∷ ids) stand none k n at 
     let is : id ≡ sum = stand.0 in
     let low : nat_le sum last ≡ true = le_true sum last (subst (λ (x : ℕ). x ≤ last) is stand.1) in
     let both : (nat_lt greatest_narrow sum || list_any is_above (undone_after how last sum (drop 1 rows) ns)) ≡ false = rw low at none in
-    let parts : (nat_lt greatest_narrow sum ≡ false) × (list_any is_above (undone_after how last sum (drop 1 rows) ns) ≡ false) = or_none (nat_lt greatest_narrow sum) _ both in
+    let parts : (nat_lt greatest_narrow sum ≡ false) × (list_any is_above (undone_after how last sum (drop 1 rows) ns) ≡ false) = or_parts (nat_lt greatest_narrow sum) _ both in
     by k at (ltb-false greatest_narrow sum parts.0) (λ k at. narrow how last sum (drop 1 rows) ns ids (subst (λ (x : ℕ). IdsAfter how last x (drop 1 rows) ns ids) is stand.2) parts.1 k n at)
   where
     le_true : (a b : ℕ) → a ≤ b → nat_le a b ≡ true
@@ -260,12 +252,12 @@ by_width own kind tables column there = by (is_wide (base_at kind column) || lis
     same_own false (v ∷ vs) f is = refl
 
     same : id_form_if own kind tables column ≡ id_form kind tables column
-    same = same_own own (seen kind tables column) (id_form kind tables column) there
+    same = same_own own (values_in_tables kind tables column) (id_form kind tables column) there
 
     by : (b : Bool) → (is_wide (base_at kind column) || list_any (has_wide_id kind column) tables) ≡ b
         → (id_form_if own kind tables column ≡ form.Wide) ⊎ ((id_form_if own kind tables column ≡ form.Plain) × (list_any (has_wide_id kind column) tables ≡ false))
     by true is = inl (same ∙ rw is refl)
-    by false is = inr (same ∙ rw is refl, (or_none (is_wide (base_at kind column)) (list_any (has_wide_id kind column) tables) is).1)
+    by false is = inr (same ∙ rw is refl, (or_parts (is_wide (base_at kind column)) (list_any (has_wide_id kind column) tables) is).1)
 
 pub ids_by_width : (kind : Kind) (tables : List Table) (column : ℕ) → is_id_at kind column ≡ true → is_there (form_at kind tables column) ≡ true
     → (form_at kind tables column ≡ form.Wide) ⊎ ((form_at kind tables column ≡ form.Plain) × (list_any (has_wide_id kind column) tables ≡ false))
@@ -358,7 +350,7 @@ ids_fit kind before t column row there stand is =
     by n id at (inr (plain, none)) =
         let s = stand id in
         let any : (list_any (has_wide_id kind column) before || (has_wide_id kind column t || false)) ≡ false = sym (list_any-append (has_wide_id kind column) before (t ∷ [])) ∙ none in
-        let mine : has_wide_id kind column t ≡ false = (or_none (has_wide_id kind column t) false (or_none (list_any (has_wide_id kind column) before) _ any).1).0 in
+        let mine : has_wide_id kind column t ≡ false = (or_parts (has_wide_id kind column t) false (or_parts (list_any (has_wide_id kind column) before) _ any).1).0 in
         let low : n ≤ greatest_narrow = narrow (coding_at kind column) greatest_wide 0 (continues_in t) (stored_in t column) s.0 s.1 mine row n (stored-cell t.rows column row ∙ ap id_in at) in
         let lower : n < 2 ^ 16 = omega arith in
         subst (λ (f : ColumnForm). n < 2 ^ id_bits f) (sym plain) lower

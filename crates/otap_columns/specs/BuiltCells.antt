@@ -8,7 +8,7 @@ use Rattle.arrow_buffers.specs.declared.width.Width.TheVariants as width
 use Rattle.arrow_ipc.specs.Batches.{BatchIn}
 use Rattle.arrow_ipc.specs.Limits.{max_parts, max_body}
 use Rattle.arrow_ipc.specs.Written.{body_size}
-use Rattle.arrow_arrays.specs.Written.{PartIn, element_part}
+use Rattle.arrow_arrays.specs.Written.{PartIn, elements_part}
 use Rattle.otap_cells.specs.declared.profile.Base.{Base}
 use Rattle.otap_cells.specs.declared.profile.Base.TheVariants as base
 use Rattle.otap_cells.specs.Cells.{Cell, number}
@@ -43,13 +43,13 @@ shown_bytes (bytes.Eight part) = Some part
 shown_bytes (bytes.Part part) = Some part.now
 
 -- how many bytes an index has
-abbrev pub index_width : ColumnForm → ℕ
-index_width form.Dict8 = 1
-index_width other = 2
+abbrev pub index_size : ColumnForm → ℕ
+index_size form.Dict8 = 1
+index_size other = 2
 
 -- the index of a place
 abbrev pub index_of : ColumnForm → Option ℕ → Option (List ℕ)
-index_of form place = option_map (little_bytes (index_width form)) place
+index_of form place = option_map (little_bytes (index_size form)) place
 
 -- a place is one that the form reaches
 abbrev pub IsIndexFor : ColumnForm → Option ℕ → Type 0
@@ -91,12 +91,12 @@ FitsColumn form t column = (row : ℕ) → row < length t.rows → FitsForm (bas
 -- ---- parts of a batch
 
 -- what the buffers of a column add to a batch; the elements of lists are a part of their own
-abbrev pub parts_of : Width → Buffers → List PartIn
-parts_of width.Bit b = record { rows = b.rows; nulls = b.nulls; buffers = b.validity.items ∷ b.values.items ∷ [] } ∷ []
-parts_of (width.Fixed n) b = record { rows = b.rows; nulls = b.nulls; buffers = b.validity.items ∷ b.values.items ∷ [] } ∷ []
-parts_of width.Var b = record { rows = b.rows; nulls = b.nulls; buffers = b.validity.items ∷ b.offsets.items ∷ b.values.items ∷ [] } ∷ []
-parts_of (width.List n) b =
-    record { rows = b.rows; nulls = b.nulls; buffers = b.validity.items ∷ b.offsets.items ∷ [] } ∷ element_part (length b.values.items / 8) b.values.items ∷ []
+abbrev pub batch_parts : Width → Buffers → List PartIn
+batch_parts width.Bit b = record { rows = b.rows; nulls = b.nulls; buffers = b.validity.items ∷ b.values.items ∷ [] } ∷ []
+batch_parts (width.Fixed n) b = record { rows = b.rows; nulls = b.nulls; buffers = b.validity.items ∷ b.values.items ∷ [] } ∷ []
+batch_parts width.Var b = record { rows = b.rows; nulls = b.nulls; buffers = b.validity.items ∷ b.offsets.items ∷ b.values.items ∷ [] } ∷ []
+batch_parts (width.List n) b =
+    record { rows = b.rows; nulls = b.nulls; buffers = b.validity.items ∷ b.offsets.items ∷ [] } ∷ elements_part (length b.values.items / 8) b.values.items ∷ []
 
 -- a batch with one more part
 abbrev pub with_part : BatchIn → PartIn → BatchIn

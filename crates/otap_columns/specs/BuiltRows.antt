@@ -8,7 +8,7 @@ use Rattle.otap_cells.specs.Tables.{Table, IsTable, column_in}
 use Rattle.otap_cells.specs.Weights.{row_weight_limit, weight_of_table}
 use Rattle.otap_columns.specs.Schemas.{Forms, ArraySlot, is_there, is_dictionary, item_in}
 use Rattle.otap_columns.specs.Seen.{SeenIn}
-use Rattle.otap_columns.specs.SeenInside.{filled_up, places_of}
+use Rattle.otap_columns.specs.SeenInside.{filled_up, places_of_cells}
 use Rattle.otap_columns.specs.WrittenCells.{FitsIndexes}
 use Rattle.otap_columns.specs.BuiltCells.{FitsColumn, with_parts}
 use Rattle.otap_columns.specs.WrittenRows.{AreSlotParts, unseen}
@@ -25,7 +25,7 @@ pub record CanWrite (forms : Forms) (columns : List SeenIn) (t : Table) : Type 0
   pub few : (column : ℕ) → FitsIndexes (forms column) (length (columns_in columns column))
   pub single : (column : ℕ) → is_dictionary (forms column) ≡ true → item_in (base_at t.kind column) ≡ None
   pub placed : (column : ℕ) → column < width_of t.kind → is_dictionary (forms column) ≡ true
-      → filled_up (length t.rows) (slice_index_or columns column unseen).places ≡ places_of (base_at t.kind column) (forms column) (columns_in columns column) (column_in t.rows column)
+      → filled_up (length t.rows) (slice_index_or columns column unseen).places ≡ places_of_cells (base_at t.kind column) (forms column) (columns_in columns column) (column_in t.rows column)
   pub light : weight_of_table t ≤ row_weight_limit
 
 -- the parts of slots were added to a batch

@@ -20,18 +20,18 @@ unfoldable pub values_of : ArrowType → BatchIn → List (Option (List ℕ))
 values_of kind batch = map (own_cell batch (place_of_values kind)) (range_with_len 0 batch.rows)
 
 -- the dictionary batches of an id, each beside whether it is a delta
-abbrev pub batch_of : ℤ → IpcMessage → List (Bool × BatchIn)
-batch_of id (Schema fields) = []
-batch_of id (Dictionary of delta batch) = if int_eq id of then (delta, batch) ∷ [] else []
-batch_of id (Rows batch) = []
+abbrev pub dictionary_batches : ℤ → IpcMessage → List (Bool × BatchIn)
+dictionary_batches id (Schema fields) = []
+dictionary_batches id (Dictionary of delta batch) = if int_eq id of then (delta, batch) ∷ [] else []
+dictionary_batches id (Rows batch) = []
 
 abbrev pub batches_of : ℤ → List IpcMessage → List (Bool × BatchIn)
-batches_of id messages = flat_map (batch_of id) messages
+batches_of id messages = flat_map (dictionary_batches id) messages
 
 -- THE DICTIONARY OF AN ID after messages: the values of its batches, joined, from the latest that is no delta on; of all of
 -- them where none is such
-unfoldable pub dictionary : ArrowType → ℤ → List IpcMessage → List (Option (List ℕ))
-dictionary kind id messages = flat_map (λ b. values_of kind b.1) (since (λ b. not b.0) (batches_of id messages))
+unfoldable pub dictionary_over : ArrowType → ℤ → List IpcMessage → List (Option (List ℕ))
+dictionary_over kind id messages = flat_map (λ b. values_of kind b.1) (since (λ b. not b.0) (batches_of id messages))
 
 -- a dictionary: its id, the type of its values, and these
 pub record DictionaryIn : Type 0 where
@@ -62,7 +62,7 @@ empty_dictionaries arrays = with_dictionaries [] arrays
 
 -- THE DICTIONARIES of the fields of a schema after messages
 abbrev pub filled : List IpcMessage → DictionaryIn → DictionaryIn
-filled messages d = record { id = d.id; kind = d.kind; values = dictionary d.kind d.id messages }
+filled messages d = record { id = d.id; kind = d.kind; values = dictionary_over d.kind d.id messages }
 
 unfoldable pub dictionaries_in : List ArraySpec → List IpcMessage → List DictionaryIn
 dictionaries_in arrays messages = map (filled messages) (empty_dictionaries arrays)
@@ -94,12 +94,12 @@ is_too_large d = nat_lt value_limit (length d.values)
 abbrev pub value_weight : Option (List ℕ) → ℕ
 value_weight value = cell_len value + 8
 
-abbrev pub weight_of : DictionaryIn → ℕ
-weight_of d = sum_by value_weight d.values
+abbrev pub dictionary_weight : DictionaryIn → ℕ
+dictionary_weight d = sum_by value_weight d.values
 
 -- THE HELD WEIGHT of dictionaries
 abbrev pub held_weight : List DictionaryIn → ℕ
-held_weight dictionaries = sum_by weight_of dictionaries
+held_weight dictionaries = sum_by dictionary_weight dictionaries
 
 -- ---- looking a value up
 

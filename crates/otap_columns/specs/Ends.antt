@@ -7,9 +7,9 @@ abbrev pub value_between : List ℕ → ℕ → End → Option (List ℕ)
 value_between bytes from end = if end.there then Some (take (end.place - from) (drop from bytes)) else None
 
 -- the values that end at these places, the first of which begins at a place
-abbrev pub values_by : List ℕ → ℕ → List End → List (Option (List ℕ))
-values_by bytes from [] = []
-values_by bytes from (e ∷ ends) = value_between bytes from e ∷ values_by bytes e.place ends
+abbrev pub values_by_ends : List ℕ → ℕ → List End → List (Option (List ℕ))
+values_by_ends bytes from [] = []
+values_by_ends bytes from (e ∷ ends) = value_between bytes from e ∷ values_by_ends bytes e.place ends
 
 -- where the value at a place of the list begins
 abbrev pub start_of : ℕ → List End → ℕ → ℕ

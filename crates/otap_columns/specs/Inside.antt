@@ -1,13 +1,13 @@
--- What the program's values keep.
+-- What a dictionary keeps: words of private contracts.
 use Rattle.std.specs.Prelude.{◌≤◌, length}
 use Rattle.otap_dicts.specs.Limits.{value_limit}
 use Rattle.otap_columns.specs.declared.dictionary.Dictionary.TheInside as dictionary
 use Rattle.otap_columns.specs.Dictionaries.{DictionaryIn}
 use Rattle.otap_columns.specs.Limits.{kept_limit}
-use Rattle.otap_columns.specs.Ends.{values_by, AreEnds}
+use Rattle.otap_columns.specs.Ends.{values_by_ends, AreEnds}
 
 abbrev pub dictionary_in : dictionary.Inside → DictionaryIn
-dictionary_in d = record { id = d.id; kind = d.kind; values = values_by d.bytes.items 0 d.ends.items }
+dictionary_in d = record { id = d.id; kind = d.kind; values = values_by_ends d.bytes.items 0 d.ends.items }
 
 pub record IsDictionaryInside (d : dictionary.Inside) : Type 0 where
   pub few : length d.ends.items ≤ value_limit

@@ -19,7 +19,7 @@ use Rattle.otap_cells.specs.declared.profile.Coding.{Coding}
 use Rattle.otap_cells.specs.declared.profile.Coding.TheVariants as coding
 use Rattle.otap_cells.specs.Bases.{is_id}
 use Rattle.otap_cells.specs.Cells.{Cell, null, number, bits, flag, bytes}
-use Rattle.otap_cells.specs.Columns.{ColumnSpec, columns_of, column_at, base_at, coding_at, allows, place_of}
+use Rattle.otap_cells.specs.Columns.{ColumnSpec, columns_of, column_at, base_at, coding_at, allows, place_of_path}
 use Rattle.otap_cells.specs.Tables.{greatest_wide, greatest_narrow}
 
 -- ---- types
@@ -84,7 +84,7 @@ greatest_of type = greatest_wide
 
 -- the column that the array at a place is, by its path of names
 abbrev pub known_column : Kind → List ArraySpec → ℕ → Option ℕ
-known_column kind arrays place = place_of (columns_of kind) (path_of arrays place)
+known_column kind arrays place = place_of_path (columns_of kind) (path_of arrays place)
 
 unfoldable pub known_columns : Kind → List ArraySpec → List (Option ℕ)
 known_columns kind arrays = map (known_column kind arrays) (range_with_len 0 (length arrays))
@@ -101,12 +101,12 @@ abbrev pub place_at : Kind → List ArraySpec → ℕ → Option ℕ
 place_at kind arrays column = place_in (known_columns kind arrays) column
 
 -- the array of a column
-abbrev pub array_at : List ArraySpec → Option ℕ → Option ArraySpec
-array_at arrays None = None
-array_at arrays (Some place) = slice_get arrays place
+abbrev pub array_of_column : List ArraySpec → Option ℕ → Option ArraySpec
+array_of_column arrays None = None
+array_of_column arrays (Some place) = slice_get arrays place
 
 unfoldable pub array_of : Kind → List ArraySpec → ℕ → Option ArraySpec
-array_of kind arrays column = array_at arrays (place_at kind arrays column)
+array_of kind arrays column = array_of_column arrays (place_at kind arrays column)
 
 -- a known column has a type that stores its base, that of the values where it has a dictionary; and where it holds ids, an
 -- encoding that it allows

@@ -1,4 +1,4 @@
--- Ids of which none needs more than 16 bits, row by row.
+-- Ids of which none needs more than 16 bits, row by row: words of private contracts.
 use Rattle.std.specs.Prelude.{◌≡◌, ℕ, ◌+◌, ◌≤◌, Bool, List, Option, drop}
 use Rattle.std.specs.List.{list_any}
 use Rattle.otap_cells.specs.declared.profile.Coding.{Coding}

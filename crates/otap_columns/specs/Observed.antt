@@ -58,8 +58,8 @@ abbrev pub values_in : Kind → ℕ → Table → List (List ℕ)
 values_in kind column t = given (map (bytes_for (base_at kind column) form.Wide) (column_in t.rows column))
 
 -- ALL THAT A COLUMN HAD in tables
-unfoldable pub seen : Kind → List Table → ℕ → List (List ℕ)
-seen kind tables column = flat_map (values_in kind column) tables
+unfoldable pub values_in_tables : Kind → List Table → ℕ → List (List ℕ)
+values_in_tables kind tables column = flat_map (values_in kind column) tables
 
 -- ---- ids
 
@@ -102,7 +102,7 @@ abbrev pub id_form : Kind → List Table → ℕ → ColumnForm
 id_form kind tables column = if is_wide (base_at kind column) || list_any (has_wide_id kind column) tables then form.Wide else form.Plain
 
 abbrev pub id_form_if : Bool → Kind → List Table → ℕ → ColumnForm
-id_form_if own kind tables column = if own then id_form kind tables column else if_seen (seen kind tables column) (id_form kind tables column)
+id_form_if own kind tables column = if own then id_form kind tables column else if_seen (values_in_tables kind tables column) (id_form kind tables column)
 
 -- the form that a ladder tells
 abbrev pub of_ladder : Form → ColumnForm
@@ -115,12 +115,12 @@ of_ladder ladder.Plain = form.Plain
 unfoldable pub form_at : Kind → List Table → ℕ → ColumnForm
 form_at kind tables column =
     if is_id_at kind column then id_form_if (is_own_id kind column) kind tables column
-    else of_ladder (form_of (column_at kind column).dictionary (seen kind tables column))
+    else of_ladder (form_of (column_at kind column).dictionary (values_in_tables kind tables column))
 
 -- THE VALUES OF ITS DICTIONARY: all distinct ones, in the order of their first occurrence
-unfoldable pub values_at : Kind → List Table → ℕ → List (List ℕ)
-values_at kind tables column = distinct (seen kind tables column)
+unfoldable pub dictionary_values : Kind → List Table → ℕ → List (List ℕ)
+dictionary_values kind tables column = distinct (values_in_tables kind tables column)
 
 -- those that weren't there before
 unfoldable pub new_at : Kind → List Table → List Table → ℕ → List (List ℕ)
-new_at kind before now column = drop (length (values_at kind before column)) (values_at kind now column)
+new_at kind before now column = drop (length (dictionary_values kind before column)) (dictionary_values kind now column)

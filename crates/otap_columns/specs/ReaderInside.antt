@@ -22,8 +22,3 @@ pub record IsReaderInside (r : reader.Inside) : Type 0 where
   pub types : columns_fit r.kind r.arrays ≡ true
   pub values : All FitsIn r.dictionaries.items
   pub few : length r.dictionaries.items ≤ max_fields
-
--- the kind, and whether it is broken, are as they were
-pub record KeepsReader (old new : ReaderIn) : Type 0 where
-  pub kind : new.kind ≡ old.kind
-  pub broken : new.broken ≡ old.broken

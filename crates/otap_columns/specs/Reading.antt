@@ -1,5 +1,5 @@
--- How a reader goes through the messages of a record: what the first message of the rest does, or why it is refused.
-use Rattle.std.specs.Prelude.{◌≡◌, ℕ, Bool, true, false, not, List, [], ◌∷◌, ◌++◌, drop, ◌⊎◌, Some, ℤ, Ok}
+-- How a reader goes through the messages of a record, in the words of private contracts: what the first message of the rest does, or why it is refused.
+use Rattle.std.specs.Prelude.{◌≡◌, ℕ, Bool, true, false, not, List, [], ◌∷◌, ◌++◌, drop, ◌⊎◌, Some, ℤ, Ok, ◌<◌, length, Err}
 use Rattle.std.specs.List.{list_any}
 use Rattle.lists.specs.EachAfter.{AllAfter}
 use Rattle.arrow_schema.specs.declared.spec.FieldSpec.{FieldSpec}
@@ -9,20 +9,20 @@ use Rattle.arrow_ipc.specs.declared.messages.IpcMessage.{IpcMessage}
 use Rattle.arrow_ipc.specs.declared.messages.IpcMessage.TheVariants.{Schema, Dictionary, Rows}
 use Rattle.arrow_ipc.specs.Batches.{BatchIn}
 use Rattle.arrow_ipc.specs.Faults as ipc
-use Rattle.arrow_ipc.specs.Fronts.{MessagesIn, front_of, left_of, rest_of, rows_in}
+use Rattle.arrow_ipc.specs.Fronts.{MessagesIn, front_of, left_of, rest_of, record_batch_in}
 use Rattle.arrow_arrays.specs.Arrays.{arrays_of, arrays_check, HasFault}
+use Rattle.arrow_arrays.specs.Cells.{array_check, place_of_values}
 use Rattle.otap_cells.specs.declared.payload.Kind.{Kind}
 use Rattle.otap_columns.specs.declared.messages.AnyBatch.{AnyBatch}
 use Rattle.otap_columns.specs.declared.messages.AnyBatch.TheVariants as any
 use Rattle.otap_columns.specs.declared.refusal.ColumnRefusal.{ColumnRefusal}
-use Rattle.otap_columns.specs.declared.refusal.ColumnRefusal.TheVariants.{Order, Ipc, Column, Buffers, BadIndex, Memory}
-use Rattle.otap_columns.specs.Dictionaries.{empty_dictionaries, all_grown}
+use Rattle.otap_columns.specs.declared.refusal.ColumnRefusal.TheVariants.{Order, Ipc, Column, Buffers, BadIndex, Memory, DictionarySize}
+use Rattle.otap_columns.specs.Dictionaries.{empty_dictionaries, all_grown, DictionaryIn, has_id, grown, grown_if, is_too_large}
 use Rattle.otap_columns.specs.Known.{columns_fit}
-use Rattle.otap_columns.specs.Records.{is_schema, is_rows, IsFineBatch, IsFine}
-use Rattle.otap_columns.specs.Steps.{RefusesBatch}
+use Rattle.otap_columns.specs.Records.{is_schema, is_rows, IsFineBatch, IsFine, HasValueFault}
 use Rattle.otap_columns.specs.Substreams.{SubstreamIn, substream_in, indexes_fit}
 use Rattle.otap_columns.specs.Views.{ReaderIn}
-use Rattle.otap_columns.specs.ReaderInside.{KeepsReader}
+use Rattle.otap_dicts.specs.Limits.{value_limit}
 
 -- the message stands first in what was left to read, and was taken off
 pub record Passes (old new : MessagesIn) (m : IpcMessage) : Type 0 where
@@ -34,7 +34,7 @@ pub record Passes (old new : MessagesIn) (m : IpcMessage) : Type 0 where
 abbrev pub FindsRows : MessagesIn → IpcMessage → Type 0
 FindsRows m (Schema fields) = Unit {0}
 FindsRows m (Dictionary id delta batch) = Unit {0}
-FindsRows m (Rows batch) = rows_in (drop m.place m.bytes) ≡ Some batch
+FindsRows m (Rows batch) = record_batch_in (drop m.place m.bytes) ≡ Some batch
 
 -- a schema that is read is one that can be read
 abbrev pub HasReadableSchema : IpcMessage → Type 0
@@ -51,7 +51,7 @@ IsAnyBatch (Rows batch) f = f ≡ any.Rows batch
 -- a record batch was taken off
 pub record PassesRows (old new : MessagesIn) (batch : BatchIn) : Type 0 where
   pub passes : Passes old new (Rows batch)
-  pub finds : rows_in (drop old.place old.bytes) ≡ Some batch
+  pub finds : record_batch_in (drop old.place old.bytes) ≡ Some batch
 
 -- a message that is no schema was taken off
 abbrev pub PassesNext : MessagesIn → MessagesIn → AnyBatch → Type 0
@@ -69,8 +69,8 @@ abbrev pub IsAtFault : List IpcMessage → List ℕ → IpcFault → Type 0
 IsAtFault front left fault = (front ≡ []) × ipc.Stands left fault
 
 -- a message that passes the test stands first
-abbrev pub BeginsWith : (IpcMessage → Bool) → List IpcMessage → Type 0
-BeginsWith p front = (m : IpcMessage) × (after : List IpcMessage) × (front ≡ m ∷ after) × (p m ≡ true)
+abbrev pub FirstPasses : (IpcMessage → Bool) → List IpcMessage → Type 0
+FirstPasses p front = (m : IpcMessage) × (after : List IpcMessage) × (front ≡ m ∷ after) × (p m ≡ true)
 
 -- why no message is given
 abbrev pub RefusesNext : List IpcMessage → List ℕ → ColumnRefusal → Type 0
@@ -80,21 +80,21 @@ RefusesNext front left refusal = ⊥
 
 -- why a sub-stream doesn't begin: there is no message, another one than a schema, or a fault
 abbrev pub RefusesFirst : List IpcMessage → List ℕ → ColumnRefusal → Type 0
-RefusesFirst front left Order = IsAtEnd front left ⊎ BeginsWith (λ m. not (is_schema m)) front
+RefusesFirst front left Order = IsAtEnd front left ⊎ FirstPasses (λ m. not (is_schema m)) front
 RefusesFirst front left (Ipc fault) = IsAtFault front left fault
 RefusesFirst front left (Memory e) = Unit {0}
 RefusesFirst front left refusal = ⊥
 
 -- why no batch follows: there is no message, a schema, or a fault
 abbrev pub RefusesOrder : List IpcMessage → List ℕ → ColumnRefusal → Type 0
-RefusesOrder front left Order = IsAtEnd front left ⊎ BeginsWith is_schema front
+RefusesOrder front left Order = IsAtEnd front left ⊎ FirstPasses is_schema front
 RefusesOrder front left (Ipc fault) = IsAtFault front left fault
 RefusesOrder front left (Memory e) = Unit {0}
 RefusesOrder front left refusal = ⊥
 
 -- why a record doesn't end: a message or a fault follows
 abbrev pub RefusesEnd : List IpcMessage → List ℕ → ColumnRefusal → Type 0
-RefusesEnd front left Order = BeginsWith (λ m. true) front
+RefusesEnd front left Order = FirstPasses (λ m. true) front
 RefusesEnd front left (Ipc fault) = IsAtFault front left fault
 RefusesEnd front left (Memory e) = Unit {0}
 RefusesEnd front left refusal = ⊥
@@ -124,6 +124,28 @@ pub record TakesBatch (s : SubstreamIn) (old new : MessagesIn) (s' : SubstreamIn
   pub fine : IsFineBatch id delta batch s.dictionaries
   pub after : s' ≡ with_batch id delta batch s
 
+-- why a dictionary doesn't take a batch of its own
+abbrev pub RefusesValues : Bool → BatchIn → DictionaryIn → ColumnRefusal → Type 0
+RefusesValues delta batch d (Buffers fault) = array_check batch (place_of_values d.kind) ≡ Err fault
+RefusesValues delta batch d DictionarySize = value_limit < length (grown delta batch d).values
+RefusesValues delta batch d (Memory e) = Unit {0}
+RefusesValues delta batch d refusal = ⊥
+
+-- why dictionaries don't take a batch
+abbrev pub RefusesDictionaryBatch : ℤ → Bool → BatchIn → List DictionaryIn → ColumnRefusal → Type 0
+RefusesDictionaryBatch id delta batch dictionaries Order = list_any (has_id id) dictionaries ≡ false
+RefusesDictionaryBatch id delta batch dictionaries (Buffers fault) = HasValueFault dictionaries id batch fault
+RefusesDictionaryBatch id delta batch dictionaries DictionarySize = list_any is_too_large (all_grown id delta batch dictionaries) ≡ true
+RefusesDictionaryBatch id delta batch dictionaries (Memory e) = Unit {0}
+RefusesDictionaryBatch id delta batch dictionaries refusal = ⊥
+
+-- why a dictionary doesn't take a batch of some id
+abbrev pub RefusesIf : ℤ → Bool → BatchIn → DictionaryIn → ColumnRefusal → Type 0
+RefusesIf id delta batch d (Buffers fault) = (has_id id d ≡ true) × (array_check batch (place_of_values d.kind) ≡ Err fault)
+RefusesIf id delta batch d DictionarySize = is_too_large (grown_if id delta batch d) ≡ true
+RefusesIf id delta batch d (Memory e) = Unit {0}
+RefusesIf id delta batch d refusal = ⊥
+
 -- why the first message isn't taken: it is out of order, or a dictionary batch that is refused
 pub record RefusesFirstBatch (s : SubstreamIn) (front : List IpcMessage) (refusal : ColumnRefusal) : Type 0 where
   pub id : ℤ
@@ -131,7 +153,7 @@ pub record RefusesFirstBatch (s : SubstreamIn) (front : List IpcMessage) (refusa
   pub batch : BatchIn
   pub after : List IpcMessage
   pub first : front ≡ Dictionary id delta batch ∷ after
-  pub refuses : RefusesBatch id delta batch s.dictionaries refusal
+  pub refuses : RefusesDictionaryBatch id delta batch s.dictionaries refusal
 
 abbrev pub RefusesMessage : SubstreamIn → List IpcMessage → List ℕ → ColumnRefusal → Type 0
 RefusesMessage s front left refusal = RefusesOrder front left refusal ⊎ RefusesFirstBatch s front refusal
@@ -148,16 +170,7 @@ pub record TakesFront (old : ReaderIn) (m : MessagesIn) (new : ReaderIn) (m' : M
   pub takes : TakesAll old.substream messages new.substream
   pub front : front_of (rest_of m) ≡ messages ++ Rows batch ∷ front_of (rest_of m')
   pub left : left_of (rest_of m) ≡ left_of (rest_of m')
-  pub finds : rows_in (drop new.place m.bytes) ≡ Some batch
-
--- so far dictionary batches alone were taken
-pub record GoneSoFar (old : ReaderIn) (m : MessagesIn) (new : ReaderIn) (m' : MessagesIn) : Type 0 where
-  pub messages : List IpcMessage
-  pub takes : TakesAll old.substream messages new.substream
-  pub front : front_of (rest_of m) ≡ messages ++ front_of (rest_of m')
-  pub left : left_of (rest_of m) ≡ left_of (rest_of m')
-  pub bytes : m'.bytes ≡ m.bytes
-  pub keeps : KeepsReader old new
+  pub finds : record_batch_in (drop new.place m.bytes) ≡ Some batch
 
 -- why they weren't: some were, and the next one is refused
 pub record RefusesFront (s : SubstreamIn) (front : List IpcMessage) (left : List ℕ) (refusal : ColumnRefusal) : Type 0 where
@@ -192,7 +205,7 @@ pub record TakesRecord (old : ReaderIn) (m : MessagesIn) (new : ReaderIn) : Type
   pub takes : TakesAll old.substream messages new.substream
   pub front : front_of (rest_of m) ≡ messages ++ Rows batch ∷ []
   pub left : left_of (rest_of m) ≡ []
-  pub finds : rows_in (drop new.place m.bytes) ≡ Some batch
+  pub finds : record_batch_in (drop new.place m.bytes) ≡ Some batch
   pub fits : FitsRows new.substream batch
 
 -- why it wasn't: before its record batch, after it, or by it
@@ -203,3 +216,8 @@ pub record RefusesRecord (s : SubstreamIn) (front : List IpcMessage) (left : Lis
   pub rest : List IpcMessage
   pub front_is : front ≡ messages ++ rest
   pub refuses : RefusesMessage s' rest left refusal ⊎ RefusesAtRows s' rest left refusal
+
+-- the kind, and whether it is broken, are as they were
+pub record KeepsReader (old new : ReaderIn) : Type 0 where
+  pub kind : new.kind ≡ old.kind
+  pub broken : new.broken ≡ old.broken

@@ -1,11 +1,11 @@
--- Columns that are found once, in the words of private contracts.
+-- Columns that are found once, in the words of an invariant and of private contracts.
 use Rattle.std.specs.Prelude.{◌≡◌, ℕ, ◌<◌, ⊤, true, List, Option, None, Some, length, slice_get, ◌%◌, ◌⊎◌, IsUtf8}
 use Rattle.std.specs.Option.{ForSome, option_copied}
 use Rattle.arrow_buffers.specs.declared.width.Width.TheVariants.{Bit}
 use Rattle.arrow_buffers.specs.Columns.{HasWidth}
 use Rattle.arrow_ipc.specs.Batches.{BatchIn}
 use Rattle.arrow_arrays.specs.declared.column.ColumnView.{ColumnView}
-use Rattle.arrow_arrays.specs.Views.{is_whole, cell_seen}
+use Rattle.arrow_arrays.specs.Views.{has_no_bitmap, cell_seen}
 use Rattle.otap_cells.specs.declared.payload.Kind.{Kind}
 use Rattle.otap_cells.specs.Cells.{IsCellOf}
 use Rattle.otap_cells.specs.Columns.{base_at}
@@ -15,7 +15,7 @@ use Rattle.otap_cells.specs.declared.profile.Base.TheVariants as base
 use Rattle.otap_columns.specs.declared.resolved.ResolvedColumn.{ResolvedColumn}
 use Rattle.otap_columns.specs.Known.{stored_cell}
 use Rattle.otap_columns.specs.Dictionaries.{DictionaryIn}
-use Rattle.otap_columns.specs.Substreams.{SubstreamIn, value_at, field_value, column_value}
+use Rattle.otap_columns.specs.Substreams.{SubstreamIn, value_by_index, field_value, column_value}
 
 -- the bytes that a cell of a base is stored in, which isn't null
 abbrev pub FitsBase : Base → List ℕ → Type 0
@@ -44,7 +44,7 @@ IsIndexSize index = (length index ≡ 1) ⊎ (length index ≡ 2)
 -- a cell, or the value to which it leads as an index
 abbrev pub led_to : Option DictionaryIn → Option (List ℕ) → Option (List ℕ)
 led_to None cell = cell
-led_to (Some d) cell = value_at d.values cell
+led_to (Some d) cell = value_by_index d.values cell
 
 -- what stands in a row of a column
 abbrev pub resolved_value : ResolvedColumn → ℕ → Option (List ℕ)
@@ -63,10 +63,10 @@ LeadsBy (Some d) v = HasIndexSizes v
 -- whole
 pub record IsResolved (c : ResolvedColumn) : Type 0 where
   pub indexes : LeadsBy (option_copied c.dictionary) c.stored
-  pub whole : c.whole ≡ true → is_whole c.stored ≡ true
+  pub whole : c.whole ≡ true → has_no_bitmap c.stored ≡ true
 
 -- the column of the field at a place is this one
-pub record IsField (s : SubstreamIn) (batch : BatchIn) (place : ℕ) (c : ResolvedColumn) : Type 0 where
+pub record IsFieldColumn (s : SubstreamIn) (batch : BatchIn) (place : ℕ) (c : ResolvedColumn) : Type 0 where
   pub values : (row : ℕ) → resolved_value c row ≡ field_value s batch row place (slice_get s.arrays place)
   pub resolved : IsResolved c
 

@@ -6,10 +6,10 @@ use Rattle.otap_cells.specs.Tables.{Table, IsTable}
 use Rattle.otap_columns.specs.declared.resolved.ResolvedColumn.{ResolvedColumn}
 use Rattle.otap_columns.specs.declared.view.RowsView.TheInside as rows
 use Rattle.otap_columns.specs.Resolved.{IsColumn}
-use Rattle.otap_columns.specs.Substreams.{table_in}
+use Rattle.otap_columns.specs.Substreams.{table_of_batch}
 
 abbrev pub rows_view : rows.Inside → Table
-rows_view v = table_in v.reader.now.kind v.reader.now.substream v.batch
+rows_view v = table_of_batch v.reader.now.kind v.reader.now.substream v.batch
 
 -- each column of the table was found
 pub record IsRowsInside (v : rows.Inside) : Type 0 where

@@ -6,10 +6,10 @@ use Rattle.arrow_schema.specs.declared.spec.ArrowType.TheVariants as arrow
 use Rattle.arrow_schema.specs.declared.spec.DictSpec.{DictSpec}
 use Rattle.arrow_schema.specs.declared.spec.Encoding.TheVariants as encoding
 use Rattle.arrow_schema.specs.declared.spec.FieldSpec.{FieldSpec}
-use Rattle.arrow_schema.specs.Branches.{Leaf, Branch, One, Under, fields_of}
+use Rattle.arrow_schema.specs.Branches.{Leaf, Branch, One, Under, branch_fields}
 use Rattle.arrow_arrays.specs.declared.spec.ArraySpec.{ArraySpec}
-use Rattle.arrow_arrays.specs.Arrays.{is_element, arrays_of}
-use Rattle.arrow_arrays.specs.Fields.{FieldIn, field_of}
+use Rattle.arrow_arrays.specs.Arrays.{is_below_list, arrays_of}
+use Rattle.arrow_arrays.specs.Fields.{FieldIn, field_of_array}
 use Rattle.otap_cells.specs.declared.payload.Kind.{Kind}
 use Rattle.otap_cells.specs.declared.profile.Base.{Base}
 use Rattle.otap_cells.specs.declared.profile.Base.TheVariants as base
@@ -54,24 +54,24 @@ abbrev pub id_type : ColumnForm → ArrowType
 id_type form.Wide = arrow.Int 32 false
 id_type other = arrow.Int 16 false
 
-abbrev pub type_in : Base → ColumnForm → ArrowType
-type_in base.U8 form = arrow.Int 8 false
-type_in base.U16 form = arrow.Int 16 false
-type_in base.U32 form = arrow.Int 32 false
-type_in base.U64 form = arrow.Int 64 false
-type_in base.I32 form = arrow.Int 32 true
-type_in base.I64 form = arrow.Int 64 true
-type_in base.Double form = arrow.Double
-type_in base.Bool form = arrow.Bool
-type_in base.Utf8 form = arrow.Utf8
-type_in base.Binary form = arrow.Binary
-type_in base.Fixed16 form = arrow.Fixed 16
-type_in base.Fixed8 form = arrow.Fixed 8
-type_in base.Timestamp form = arrow.Timestamp
-type_in base.Duration form = arrow.Duration
-type_in base.ListU64 form = arrow.List
-type_in base.ListF64 form = arrow.List
-type_in (base.Id wide) form = id_type form
+abbrev pub arrow_type_in : Base → ColumnForm → ArrowType
+arrow_type_in base.U8 form = arrow.Int 8 false
+arrow_type_in base.U16 form = arrow.Int 16 false
+arrow_type_in base.U32 form = arrow.Int 32 false
+arrow_type_in base.U64 form = arrow.Int 64 false
+arrow_type_in base.I32 form = arrow.Int 32 true
+arrow_type_in base.I64 form = arrow.Int 64 true
+arrow_type_in base.Double form = arrow.Double
+arrow_type_in base.Bool form = arrow.Bool
+arrow_type_in base.Utf8 form = arrow.Utf8
+arrow_type_in base.Binary form = arrow.Binary
+arrow_type_in base.Fixed16 form = arrow.Fixed 16
+arrow_type_in base.Fixed8 form = arrow.Fixed 8
+arrow_type_in base.Timestamp form = arrow.Timestamp
+arrow_type_in base.Duration form = arrow.Duration
+arrow_type_in base.ListU64 form = arrow.List
+arrow_type_in base.ListF64 form = arrow.List
+arrow_type_in (base.Id wide) form = id_type form
 
 -- the type of the elements of a list
 abbrev pub item_in : Base → Option ArrowType
@@ -89,7 +89,7 @@ dict_for column other = None
 abbrev pub leaf_in : Kind → Forms → Member → Leaf
 leaf_in kind forms m = record {
   name = m.name;
-  kind = type_in (column_at kind m.column).base (forms m.column);
+  kind = arrow_type_in (column_at kind m.column).base (forms m.column);
   dict = dict_for m.column (forms m.column);
   encoding = encoding.None;
   item = item_in (column_at kind m.column).base;
@@ -115,7 +115,7 @@ branches_for kind forms = flat_map (branches_in kind forms) (grouped (columns_of
 
 -- THE SCHEMA of a table whose columns have these forms
 unfoldable pub schema_for : Kind → Forms → List FieldSpec
-schema_for kind forms = fields_of (branches_for kind forms)
+schema_for kind forms = branch_fields (branches_for kind forms)
 
 -- ---- its arrays
 
@@ -154,7 +154,7 @@ abbrev pub slot_field : Kind → Forms → ArraySlot → FieldIn
 slot_field kind forms (Struct name) = record { name = name; kind = arrow.Struct; dict = None; encoding = encoding.None }
 slot_field kind forms (Column m) = record {
   name = m.name;
-  kind = type_in (column_at kind m.column).base (forms m.column);
+  kind = arrow_type_in (column_at kind m.column).base (forms m.column);
   dict = dict_for m.column (forms m.column);
   encoding = encoding.None;
 }
@@ -176,9 +176,9 @@ is_items (Items column) = true
 pub record IsArraySlot (kind : Kind) (forms : Forms) (place : ℕ) (a : ArraySpec) : Type 0 where
   pub slot : ArraySlot
   pub at : slice_get (slots_for kind forms) place ≡ Some slot
-  pub field : field_of a ≡ slot_field kind forms slot
+  pub field : field_of_array a ≡ slot_field kind forms slot
   pub known : known_column kind (arrays_of (schema_for kind forms)) place ≡ slot_column slot
-  pub element : is_element a.above ≡ is_items slot
+  pub element : is_below_list a.above ≡ is_items slot
 
 -- a column is found at its path, in its type and its form
 pub record IsFound (kind : Kind) (forms : Forms) (column : ℕ) : Type 0 where
@@ -187,5 +187,5 @@ pub record IsFound (kind : Kind) (forms : Forms) (column : ℕ) : Type 0 where
   pub array : ArraySpec
   pub at : slice_get (arrays_of (schema_for kind forms)) place ≡ Some array
   pub known : known_column kind (arrays_of (schema_for kind forms)) place ≡ Some column
-  pub type : array.kind ≡ type_in (column_at kind column).base (forms column)
+  pub type : array.kind ≡ arrow_type_in (column_at kind column).base (forms column)
   pub dict : array.dict ≡ dict_for column (forms column)

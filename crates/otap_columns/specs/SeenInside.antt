@@ -15,8 +15,8 @@ use Rattle.otap_columns.specs.WrittenCells.{place_among}
 use Rattle.otap_columns.specs.Seen.{SeenIn, IsSeenAfter}
 
 -- the places of cells among values
-abbrev pub places_of : Base → ColumnForm → List (List ℕ) → List Cell → List (Option ℕ)
-places_of holds form values cells = map (λ cell. place_among values (bytes_for holds form cell)) cells
+abbrev pub places_of_cells : Base → ColumnForm → List (List ℕ) → List Cell → List (Option ℕ)
+places_of_cells holds form values cells = map (λ cell. place_among values (bytes_for holds form cell)) cells
 
 -- the places of a number of cells, where those of the first ones are told and the others have none
 abbrev pub filled_up : ℕ → List (Option ℕ) → List (Option ℕ)
@@ -31,7 +31,7 @@ observed_if ladder (Some value) = observed ladder value
 -- dictionary it has the places of the table's cells
 pub record SeesTable (kind : Kind) (column : ℕ) (t : Table) (old new : SeenIn) : Type 0 where
   pub at : (tables : List Table) → IsSeenAfter kind tables column old → IsSeenAfter kind (tables ++ t ∷ []) column new
-  pub placed : is_dictionary new.ladder.form ≡ true → filled_up (length t.rows) new.places ≡ places_of (base_at kind column) form.Wide new.ladder.values (column_in t.rows column)
+  pub placed : is_dictionary new.ladder.form ≡ true → filled_up (length t.rows) new.places ≡ places_of_cells (base_at kind column) form.Wide new.ladder.values (column_in t.rows column)
 
 -- no value was observed
 abbrev pub is_absent : Form → Bool

@@ -27,12 +27,12 @@ unfoldable pub opens : List PayloadIn → PayloadIn → Bool
 opens before p = opens_after (last_of p.kind before) p
 
 -- the schema id of the sub-stream that is open for a type
-abbrev pub id_in : Option PayloadIn → Option (List ℕ)
-id_in None = None
-id_in (Some p) = Some p.schema_id
+abbrev pub schema_id_in : Option PayloadIn → Option (List ℕ)
+schema_id_in None = None
+schema_id_in (Some p) = Some p.schema_id
 
 unfoldable pub open_id : ℤ → List PayloadIn → Option (List ℕ)
-open_id kind payloads = id_in (last_of kind payloads)
+open_id kind payloads = schema_id_in (last_of kind payloads)
 
 -- payloads of one type, each beside whether it opens
 abbrev pub marked_after : Option PayloadIn → List PayloadIn → List (Bool × PayloadIn)

@@ -48,9 +48,9 @@ held_in messages = held_if (substream_in messages)
 -- ---- cells
 
 -- the value at an index
-abbrev pub value_at : List (Option (List ℕ)) → Option (List ℕ) → Option (List ℕ)
-value_at values None = None
-value_at values (Some index) = slice_index_or values (little_number (length index) index) None
+abbrev pub value_by_index : List (Option (List ℕ)) → Option (List ℕ) → Option (List ℕ)
+value_by_index values None = None
+value_by_index values (Some index) = slice_index_or values (little_number (length index) index) None
 
 -- an index is below a number; null is no index
 abbrev pub is_index_below : ℕ → Option (List ℕ) → Bool
@@ -60,7 +60,7 @@ is_index_below count (Some index) = nat_lt (little_number (length index) index) 
 -- what stands in a field: with a dictionary the value at the index
 abbrev pub replaced : List DictionaryIn → ArrowType → Option DictSpec → Option (List ℕ) → Option (List ℕ)
 replaced dictionaries kind None cell = cell
-replaced dictionaries kind (Some dict) cell = value_at (values_for kind dict.id dictionaries) cell
+replaced dictionaries kind (Some dict) cell = value_by_index (values_for kind dict.id dictionaries) cell
 
 abbrev pub field_value : SubstreamIn → BatchIn → ℕ → ℕ → Option ArraySpec → Option (List ℕ)
 field_value s batch row place None = None
@@ -79,8 +79,8 @@ unfoldable pub column_cell : Kind → SubstreamIn → BatchIn → ℕ → ℕ �
 column_cell kind s batch column row = stored_cell (base_at kind column) (column_value kind s batch column row)
 
 -- the table of a record batch, read in a sub-stream; its schema tells how ids are stored
-unfoldable pub table_in : Kind → SubstreamIn → BatchIn → Table
-table_in kind s batch = table_by kind (column_coding kind s.arrays) (column_greatest kind s.arrays) batch.rows (column_cell kind s batch)
+unfoldable pub table_of_batch : Kind → SubstreamIn → BatchIn → Table
+table_of_batch kind s batch = table_by kind (column_coding kind s.arrays) (column_greatest kind s.arrays) batch.rows (column_cell kind s batch)
 
 -- ---- indexes
 
@@ -99,19 +99,19 @@ indexes_fit s batch = all_below (λ place. field_fits_if s batch place (slice_ge
 
 -- ---- the table that a stream ends with
 
-abbrev pub rows_of : IpcMessage → List BatchIn
-rows_of (Schema fields) = []
-rows_of (Dictionary id delta batch) = []
-rows_of (Rows batch) = batch ∷ []
+abbrev pub record_batches : IpcMessage → List BatchIn
+record_batches (Schema fields) = []
+record_batches (Dictionary id delta batch) = []
+record_batches (Rows batch) = batch ∷ []
 
 -- the last record batch
 unfoldable pub last_rows : List IpcMessage → Option BatchIn
-last_rows messages = last_after None (flat_map rows_of messages)
+last_rows messages = last_after None (flat_map record_batches messages)
 
 abbrev pub table_if : Kind → Option SubstreamIn → Option BatchIn → Option Table
 table_if kind None batch = None
 table_if kind (Some s) None = None
-table_if kind (Some s) (Some batch) = Some (table_in kind s batch)
+table_if kind (Some s) (Some batch) = Some (table_of_batch kind s batch)
 
 -- THE LOGICAL TABLE of the payload whose messages end a stream: its last record batch, read with the stream's schema and
 -- with the dictionaries after all of its messages

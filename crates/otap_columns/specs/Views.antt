@@ -2,7 +2,7 @@
 use Rattle.std.specs.Prelude.{◌≡◌, ℕ, Bool, true, List, ◌++◌, drop, Ok, Some}
 use Rattle.arrow_ipc.specs.declared.messages.IpcMessage.{IpcMessage}
 use Rattle.arrow_ipc.specs.Batches.{BatchIn}
-use Rattle.arrow_ipc.specs.Fronts.{front_of, rows_in}
+use Rattle.arrow_ipc.specs.Fronts.{front_of, record_batch_in}
 use Rattle.arrow_arrays.specs.Arrays.{arrays_check}
 use Rattle.otap_cells.specs.declared.payload.Kind.{Kind}
 use Rattle.otap_columns.specs.Substreams.{SubstreamIn, substream_in, indexes_fit, last_rows}
@@ -20,18 +20,18 @@ abbrev pub StandsFor : List IpcMessage → ReaderIn → Type 0
 StandsFor messages r = substream_in messages ≡ Some r.substream
 
 -- it stands for messages that end with those of the record in these bytes, and finds the record's record batch there
-pub record StandsAt (messages : List IpcMessage) (bytes : List ℕ) (r : ReaderIn) : Type 0 where
+pub record StandsForRecord (messages : List IpcMessage) (bytes : List ℕ) (r : ReaderIn) : Type 0 where
   pub stands : StandsFor messages r
-  pub finds : last_rows messages ≡ rows_in (drop r.place bytes)
+  pub finds : last_rows messages ≡ record_batch_in (drop r.place bytes)
 
 -- a record batch without a fault stands in the bytes at the reader's place, and its indexes lead to values
 pub record Shows (r : ReaderIn) (bytes : List ℕ) : Type 0 where
   pub batch : BatchIn
-  pub found : rows_in (drop r.place bytes) ≡ Some batch
+  pub found : record_batch_in (drop r.place bytes) ≡ Some batch
   pub fine : arrays_check batch r.substream.arrays ≡ Ok tt
   pub indexes : indexes_fit r.substream batch ≡ true
 
 -- a record was taken: for all messages that the reader stood for, the record has no defect after them, and then the reader
 -- stands for these and the record's own
 abbrev pub Takes : ReaderIn → List ℕ → ReaderIn → Type 0
-Takes old bytes new = (past : List IpcMessage) → StandsFor past old → IsRead old.kind past bytes × StandsAt (past ++ front_of bytes) bytes new
+Takes old bytes new = (past : List IpcMessage) → StandsFor past old → IsRead old.kind past bytes × StandsForRecord (past ++ front_of bytes) bytes new

@@ -1,4 +1,4 @@
--- The dictionary batches that the writer adds.
+-- The dictionary batches that the writer adds, in the words of private contracts.
 use Rattle.std.specs.Prelude.{◌≡◌, ◌≤◌, ℕ, ⊤, Bool, List, drop, map, slice_get, Some, ℤ}
 use Rattle.arrow_schema.specs.declared.spec.ArrowType.{ArrowType}
 use Rattle.arrow_buffers.specs.declared.width.Width.{Width}
@@ -7,7 +7,7 @@ use Rattle.arrow_buffers.specs.Columns.{HasWidth}
 use Rattle.arrow_ipc.specs.declared.messages.IpcMessage.TheVariants.{Dictionary}
 use Rattle.arrow_ipc.specs.Batches.{BatchIn}
 use Rattle.arrow_ipc.specs.Written.{Appends, most_of}
-use Rattle.arrow_arrays.specs.Columns.{width_of, AreTexts}
+use Rattle.arrow_arrays.specs.Columns.{stored_width, AreTexts}
 use Rattle.arrow_arrays.specs.Layouts.{layout_of_values}
 use Rattle.otap_columns.specs.WrittenPayloads.{HoldsValues}
 
@@ -20,7 +20,7 @@ IsSingle (width.List n) = ⊥
 
 -- values of a type are stored in this width, and each of these is one
 pub record HoldsType (type : ArrowType) (w : Width) (values : List (List ℕ)) : Type 0 where
-  pub stored : width_of (layout_of_values type) ≡ Some w
+  pub stored : stored_width (layout_of_values type) ≡ Some w
   pub single : IsSingle w
   pub wide : (place : ℕ) (value : List ℕ) → slice_get values place ≡ Some value → HasWidth w value
   pub texts : (from : ℕ) → AreTexts (layout_of_values type) (map (λ value. Some value) (drop from values))

@@ -1,4 +1,4 @@
--- The groups and forms that the writer keeps, as the definitions name them.
+-- The groups and forms that the writer keeps, as the definitions name them: words of private contracts.
 use Rattle.std.specs.Prelude.{ℕ, ◌<◌, List, map, All}
 use Rattle.std.specs.List.{slice_index_or}
 use Rattle.otap_columns.specs.declared.forms.ColumnForm.{ColumnForm}

@@ -11,7 +11,7 @@ use Rattle.arrow_ipc.specs.declared.messages.IpcMessage.TheVariants.{Schema, Dic
 use Rattle.arrow_ipc.specs.Batches.{BatchIn}
 use Rattle.arrow_ipc.specs.Fronts.{front_of, left_of}
 use Rattle.arrow_arrays.specs.declared.spec.ArraySpec.{ArraySpec}
-use Rattle.arrow_arrays.specs.Arrays.{arrays_of, arrays_check, place_of}
+use Rattle.arrow_arrays.specs.Arrays.{arrays_of, arrays_check, array_place}
 use Rattle.arrow_arrays.specs.Cells.{array_check, own_cell, place_of_values}
 use Rattle.arrow_arrays.specs.Written.{HasWholeStructs}
 use Rattle.otap_cells.specs.declared.payload.Kind.{Kind}
@@ -28,10 +28,10 @@ use Rattle.otap_columns.specs.Streams.{opens, stream_of}
 use Rattle.otap_columns.specs.Dictionaries.{values_of}
 use Rattle.otap_columns.specs.Known.{known_column}
 use Rattle.otap_columns.specs.Limits.{held_most}
-use Rattle.otap_columns.specs.Substreams.{held_in, value_at, is_index_below, logical, schema_in}
+use Rattle.otap_columns.specs.Substreams.{held_in, value_by_index, is_index_below, logical, schema_in}
 use Rattle.otap_columns.specs.Records.{IsRead}
-use Rattle.otap_columns.specs.Schemas.{Forms, is_dictionary, type_in, schema_for}
-use Rattle.otap_columns.specs.Observed.{bytes_for, form_at, values_at, new_at}
+use Rattle.otap_columns.specs.Schemas.{Forms, is_dictionary, arrow_type_in, schema_for}
+use Rattle.otap_columns.specs.Observed.{bytes_for, form_at, dictionary_values, new_at}
 
 -- ---- the messages of a record
 
@@ -46,7 +46,7 @@ is_wanted false kind before now column = is_dictionary (form_at kind now column)
 
 -- with all its values, or with the new ones
 abbrev pub wanted_values : Bool → Kind → List Table → List Table → ℕ → List (List ℕ)
-wanted_values true kind before now column = values_at kind now column
+wanted_values true kind before now column = dictionary_values kind now column
 wanted_values false kind before now column = new_at kind before now column
 
 abbrev pub batch_if : Bool → Bool → ℕ → BatchIn → List IpcMessage
@@ -78,7 +78,7 @@ pub record HoldsValues (type : ArrowType) (values : List (List ℕ)) (batch : Ba
 
 -- an index leads to a value
 pub record LeadsTo (values : List (List ℕ)) (value index : Option (List ℕ)) : Type 0 where
-  pub is : value_at (map (λ value. Some value) values) index ≡ value
+  pub is : value_by_index (map (λ value. Some value) values) index ≡ value
   pub below : is_index_below (length values) index ≡ true
 
 -- what is stored for a value in a form
@@ -97,7 +97,7 @@ pub record HoldsRows (kind : Kind) (forms : Forms) (values : ℕ → List (List 
   pub whole : (row : ℕ) → row < length t.rows → HasWholeStructs (arrays_of (schema_for kind forms)) batch row
   pub bitmaps : (place : ℕ) (a : ArraySpec) → slice_get (arrays_of (schema_for kind forms)) place ≡ Some a → a.kind ≡ Struct → slice_get batch.buffers a.buffer ≡ Some []
   pub cells : (column place row : ℕ) (a : ArraySpec) → known_column kind (arrays_of (schema_for kind forms)) place ≡ Some column → slice_get (arrays_of (schema_for kind forms)) place ≡ Some a
-      → row < length t.rows → Stores (forms column) (values column) (bytes_for (base_at kind column) (forms column) (cell_in t.rows column row)) (own_cell batch (place_of a) row)
+      → row < length t.rows → Stores (forms column) (values column) (bytes_for (base_at kind column) (forms column) (cell_in t.rows column row)) (own_cell batch (array_place a) row)
 
 -- ---- records and payloads
 
@@ -120,8 +120,8 @@ pub record IsRecord (kind : Kind) (before : List Table) (t : Table) (opening : B
   pub messages : front_of bytes ≡ messages_for kind opening before (before ++ t ∷ []) batches rows
   pub ends : left_of bytes ≡ []
   pub values : (column : ℕ) → column < width_of kind → is_wanted opening kind before (before ++ t ∷ []) column ≡ true
-      → HoldsValues (type_in (base_at kind column) (form_at kind (before ++ t ∷ []) column)) (wanted_values opening kind before (before ++ t ∷ []) column) (batches column)
-  pub holds : HoldsRows kind (form_at kind (before ++ t ∷ [])) (values_at kind (before ++ t ∷ [])) t rows
+      → HoldsValues (arrow_type_in (base_at kind column) (form_at kind (before ++ t ∷ []) column)) (wanted_values opening kind before (before ++ t ∷ []) column) (batches column)
+  pub holds : HoldsRows kind (form_at kind (before ++ t ∷ [])) (dictionary_values kind (before ++ t ∷ [])) t rows
 
 -- a payload after others of its type
 pub record IsWritten (kind : Kind) (before : List Table) (past : List PayloadIn) (t : Table) (p : PayloadIn) : Type 0 where

@@ -1,4 +1,4 @@
--- What the writer appends for the record of a table.
+-- What the writer appends for the record of a table, in the words of private contracts.
 use Rattle.std.specs.Prelude.{◌≡◌, ℕ, ◌+◌, ◌<◌, ◌≤◌, Bool, true, not, ◌&&◌, ◌||◌, if◌then◌else◌, List, [], ◌∷◌, ◌++◌, drop, length, sum_by}
 use Rattle.std.specs.List.{slice_index_or, range_with_len}
 use Rattle.arrow_schema.specs.declared.spec.ArrowType.{ArrowType}
@@ -10,12 +10,12 @@ use Rattle.otap_cells.specs.declared.payload.Kind.{Kind}
 use Rattle.otap_cells.specs.declared.profile.Base.{Base}
 use Rattle.otap_cells.specs.Columns.{base_at, width_of}
 use Rattle.otap_cells.specs.Tables.{Table}
-use Rattle.otap_dicts.specs.Forms.{bytes_of}
+use Rattle.otap_dicts.specs.Forms.{byte_count}
 use Rattle.otap_dicts.specs.Limits.{value_limit, byte_limit}
 use Rattle.otap_columns.specs.Limits.{head_limit}
 use Rattle.otap_columns.specs.declared.forms.ColumnForm.{ColumnForm}
 use Rattle.otap_columns.specs.WrittenPayloads.{HoldsRows, HoldsValues, batch_if, has_some, heads, schema_if}
-use Rattle.otap_columns.specs.Schemas.{Forms, is_dictionary, schema_for, type_in}
+use Rattle.otap_columns.specs.Schemas.{Forms, is_dictionary, schema_for, arrow_type_in}
 use Rattle.otap_columns.specs.WrittenBatches.{HoldsType}
 use Rattle.otap_columns.specs.BuiltCells.{plain_width}
 
@@ -39,8 +39,8 @@ is_sent opening form values = is_dictionary form && (opening || has_some values)
 pub record CanSendColumn (holds : Base) (form : ColumnForm) (from : ℕ) (values : List (List ℕ)) : Type 0 where
   pub there : from ≤ length values
   pub few : length values ≤ value_limit
-  pub room : bytes_of values ≤ byte_limit
-  pub holds_type : HoldsType (type_in holds form) (plain_width holds form) values
+  pub room : byte_count values ≤ byte_limit
+  pub holds_type : HoldsType (arrow_type_in holds form) (plain_width holds form) values
 
 -- the dictionary batch of a column was appended, where it has one
 pub record AddsHead (type : ArrowType) (sent delta : Bool) (column : ℕ) (values : List (List ℕ)) (old new : List ℕ) : Type 0 where
@@ -58,7 +58,7 @@ pub record AddsHeads (kind : Kind) (opening : Bool) (forms : Forms) (values : Va
   pub batches : ℕ → BatchIn
   pub adds : AddsMessages (heads (heads_by opening forms values counts batches) n) old new
   pub holds : (column : ℕ) → column < n → is_sent opening (forms column) (drop (from_in opening counts column) (values column)) ≡ true
-      → HoldsValues (type_in (base_at kind column) (forms column)) (drop (from_in opening counts column) (values column)) (batches column)
+      → HoldsValues (arrow_type_in (base_at kind column) (forms column)) (drop (from_in opening counts column) (values column)) (batches column)
 
 -- THE RECORD of a table by the forms of its columns, their values, and how many of these were there before
 pub record IsRecordBy (kind : Kind) (opening : Bool) (forms : Forms) (values : Values) (counts : List ℕ) (t : Table) (bytes : List ℕ) : Type 0 where
@@ -66,7 +66,7 @@ pub record IsRecordBy (kind : Kind) (opening : Bool) (forms : Forms) (values : V
   pub rows : BatchIn
   pub front : Front bytes (schema_if opening (schema_for kind forms) ++ heads (heads_by opening forms values counts batches) (width_of kind) ++ Rows rows ∷ []) []
   pub holds : (column : ℕ) → column < width_of kind → is_sent opening (forms column) (drop (from_in opening counts column) (values column)) ≡ true
-      → HoldsValues (type_in (base_at kind column) (forms column)) (drop (from_in opening counts column) (values column)) (batches column)
+      → HoldsValues (arrow_type_in (base_at kind column) (forms column)) (drop (from_in opening counts column) (values column)) (batches column)
   pub rows_are : HoldsRows kind forms values t rows
 
 -- ---- how many bytes are appended at most

@@ -7,7 +7,7 @@ use Rattle.otap_cells.specs.declared.payload.Kind.{Kind}
 use Rattle.otap_cells.specs.Columns.{base_at, column_at}
 use Rattle.otap_cells.specs.Tables.{Table, cell_in}
 use Rattle.otap_dicts.specs.declared.form.Form.TheVariants as ladder
-use Rattle.otap_columns.specs.Schemas.{Forms, ArraySlot, Struct, Column, Items, is_dictionary, type_in, dict_for, item_in, item_type}
+use Rattle.otap_columns.specs.Schemas.{Forms, ArraySlot, Struct, Column, Items, is_dictionary, arrow_type_in, dict_for, item_in, item_type}
 use Rattle.otap_columns.specs.Observed.{bytes_for}
 use Rattle.otap_columns.specs.Seen.{SeenIn}
 use Rattle.otap_columns.specs.WrittenCells.{FitsIndexes, stored_column}
@@ -16,7 +16,7 @@ use Rattle.otap_columns.specs.WrittenCells.{FitsIndexes, stored_column}
 abbrev pub HoldsSlot : Kind → Forms → (ℕ → List (List ℕ)) → Table → ArraySlot → PartIn → Option PartIn → Type 0
 HoldsSlot kind forms values t (Struct name) p next = p ≡ struct_part (length t.rows)
 HoldsSlot kind forms values t (Column m) p next =
-    HoldsCells (layout_of (type_in (column_at kind m.column).base (forms m.column)) (dict_for m.column (forms m.column))) (length t.rows)
+    HoldsCells (layout_of (arrow_type_in (column_at kind m.column).base (forms m.column)) (dict_for m.column (forms m.column))) (length t.rows)
     (stored_column (forms m.column) (values m.column) t m.column) p next
 HoldsSlot kind forms values t (Items column) p next = IsPartOfElements (layout_of_values (item_type (item_in (column_at kind column).base))) p
 

@@ -7,9 +7,10 @@ ghost use Rattle.arrow_schema.specs.Limits.{max_fields};
 ghost use Rattle.arrow_arrays.specs.Views.{cell_seen};
 ghost use Rattle.otap_columns.specs.Dictionaries.{has_id, is_for, with_dictionary, empty_dictionaries, all_grown, held_weight, values_for};
 ghost use Rattle.otap_columns.specs.Resolved.{HasIndexSizes, IsResolved, resolved_value};
-ghost use Rattle.otap_columns.specs.Substreams.{value_at};
+ghost use Rattle.otap_columns.specs.Substreams.{value_by_index};
 ghost use Rattle.otap_columns.specs.Records.{IsFineBatch};
-ghost use Rattle.otap_columns.specs.Steps.{FitsIn, RefusesBatch};
+ghost use Rattle.otap_columns.specs.Steps.{FitsIn};
+ghost use Rattle.otap_columns.specs.Reading.{RefusesDictionaryBatch};
 
 use crate::dictionary::Dictionary;
 use crate::refusal::ColumnRefusal;
@@ -74,7 +75,7 @@ pub(crate) fn take(
     ensures ok { OnOk result (dictionaries.new ≡ all_grown id delta batch.now dictionaries.old) }
     ensures fits { All FitsIn dictionaries.old → All FitsIn dictionaries.new }
     ensures fine { OnOk result (IsFineBatch id delta batch.now dictionaries.old) }
-    ensures err { IfErr result (RefusesBatch id delta batch.now dictionaries.old) }
+    ensures err { IfErr result (RefusesDictionaryBatch id delta batch.now dictionaries.old) }
 {
     if !is_known(dictionaries, id) {
         return Err(ColumnRefusal::Order);
@@ -117,7 +118,7 @@ pub(crate) fn lead<'v>(
     stored: ColumnView<'v>,
 ) -> ResolvedColumn<'v>
     requires { HasIndexSizes stored }
-    ensures values { (row : ℕ) → resolved_value result row ≡ value_at (values_for kind id dictionaries.now) (cell_seen stored.entry row) }
+    ensures values { (row : ℕ) → resolved_value result row ≡ value_by_index (values_for kind id dictionaries.now) (cell_seen stored.entry row) }
     ensures resolved { IsResolved result }
     ensures base { result.base ≡ base }
 {

@@ -37,8 +37,9 @@ impl Model for Dictionary {
 }
 
 impl Dictionary {
-    ghost use Rattle.otap_columns.specs.Dictionaries.{has_id, is_for, kept, grown, grown_if, weight_of, values_of};
-    ghost use Rattle.otap_columns.specs.Steps.{FitsIn, RefusesIf, RefusesValues};
+    ghost use Rattle.otap_columns.specs.Dictionaries.{has_id, is_for, kept, grown, grown_if, dictionary_weight, values_of};
+    ghost use Rattle.otap_columns.specs.Steps.{FitsIn};
+    ghost use Rattle.otap_columns.specs.Reading.{RefusesValues, RefusesIf};
     ghost use Rattle.otap_dicts.specs.Limits.{value_limit};
     ghost use Rattle.otap_columns.specs.Records.{is_fine_for};
 
@@ -81,7 +82,7 @@ impl Dictionary {
 
     /// The bytes of the values, and 8 for each.
     pub(crate) fn weight(&self) -> u64
-        ensures value { result ≡ weight_of self.now }
+        ensures value { result ≡ dictionary_weight self.now }
         ensures few { result < 2 ^ 50 }
     {
         self.bytes.len() as u64 + 8 * self.ends.len() as u64

@@ -4,7 +4,7 @@ ghost use Rattle.std.specs.Prelude.{◌≡◌, ◌-◌, ◌<◌, ◌≤◌, ◌+
 ghost use Rattle.std.specs.List.{slice_index_or};
 ghost use Rattle.std.specs.Option.{option_copied};
 ghost use Rattle.otap_columns.specs.Limits.{kept_limit};
-ghost use Rattle.otap_columns.specs.Ends.{AreEnds, values_by, start_of, bytes_in};
+ghost use Rattle.otap_columns.specs.Ends.{AreEnds, values_by_ends, start_of, bytes_in};
 
 use std::alloc::AllocError;
 
@@ -21,7 +21,7 @@ pub(crate) struct End {
 /// The value at a place; `None` where it is null, or there is none.
 pub(crate) fn value_in<'v>(bytes: &'v [u8], ends: &[End], place: usize) -> Option<&'v [u8]>
     requires { AreEnds 0 ends.now (length bytes.now) }
-    ensures { option_copied result ≡ slice_index_or (values_by bytes.now 0 ends.now) place None }
+    ensures { option_copied result ≡ slice_index_or (values_by_ends bytes.now 0 ends.now) place None }
 {
     if place >= ends.len() {
         return None;

@@ -46,13 +46,13 @@ impl Model for Reader {
 impl Reader {
     ghost use Rattle.otap_columns.specs.Dictionaries.{held_weight};
     ghost use Rattle.otap_columns.specs.Records.{IsRead, Refuses};
-    ghost use Rattle.otap_columns.specs.Views.{StandsFor, StandsAt, Shows, Takes};
+    ghost use Rattle.otap_columns.specs.Views.{StandsFor, StandsForRecord, Shows, Takes};
     ghost use Rattle.otap_columns.specs.Substreams.{logical};
 
     /// A reader of the sub-stream that a record opens.
     pub fn start(alloc: Global, kind: Kind, bytes: &[u8]) -> Result<Reader, ColumnRefusal>
         ensures read { OnOk result (IsRead kind [] bytes.now) }
-        ensures stands { IfOk result (StandsAt (front_of bytes.now) bytes.now) }
+        ensures stands { IfOk result (StandsForRecord (front_of bytes.now) bytes.now) }
         ensures shows { IfOk result (λ reader. Shows reader bytes.now) }
         ensures refused { IfErr result (Refuses kind [] bytes.now) }
         ensures kind { IfOk result (λ reader. reader.kind ≡ kind) }
@@ -99,7 +99,7 @@ impl Reader {
     /// The table of the record in these bytes, which the last `start` or `take` took. It takes no memory.
     pub fn view<'v>(&'v self, bytes: &'v [u8]) -> RowsView<'v>
         requires { Shows self.now bytes.now }
-        ensures table { (messages : List IpcMessage) → StandsAt messages bytes.now self.now → logical self.now.kind messages ≡ Some result }
+        ensures table { (messages : List IpcMessage) → StandsForRecord messages bytes.now self.now → logical self.now.kind messages ≡ Some result }
         ensures kind { result.kind ≡ self.now.kind }
     {
         match rows_at(bytes, self.place) {
@@ -110,12 +110,11 @@ impl Reader {
 }
 
 impl Reader {
-    ghost use Rattle.otap_columns.specs.ReaderInside.{KeepsReader};
     ghost use Rattle.arrow_ipc.specs.Fronts.{left_of, rest_of};
     ghost use Rattle.arrow_schema.specs.Readable.{IsReadable};
     ghost use Rattle.arrow_arrays.specs.Arrays.{arrays_of};
     ghost use Rattle.otap_columns.specs.Known.{columns_fit};
-    ghost use Rattle.otap_columns.specs.Reading.{RefusesOpen, opened, PassesRows, TakesBatch, RefusesMessage, TakesFront, RefusesFront, TakesRecord, RefusesRecord, FitsRows, RefusesRows};
+    ghost use Rattle.otap_columns.specs.Reading.{RefusesOpen, opened, PassesRows, TakesBatch, RefusesMessage, TakesFront, RefusesFront, TakesRecord, RefusesRecord, FitsRows, RefusesRows, KeepsReader};
 
     /// A reader of a sub-stream with this schema, before any dictionary batch.
     fn open(alloc: Global, kind: Kind, schema: &SchemaSpec) -> Result<Reader, ColumnRefusal>
@@ -207,7 +206,7 @@ impl Reader {
 
 impl Reader {
     ghost use Rattle.otap_columns.specs.Known.{place_at, array_of, column_coding, column_greatest};
-    ghost use Rattle.otap_columns.specs.Resolved.{IsColumn, IsField};
+    ghost use Rattle.otap_columns.specs.Resolved.{IsColumn, IsFieldColumn};
     ghost use Rattle.arrow_arrays.specs.Arrays.{arrays_check};
     ghost use Rattle.otap_cells.specs.Columns.{width_of};
 
@@ -250,7 +249,7 @@ impl Reader {
     /// The column of the field at a place, whose cells hold a base.
     fn field<'v>(&'v self, batch: &BatchView<'v>, place: usize, base: Base) -> ResolvedColumn<'v>
         requires { IsOk (arrays_check batch.now self.now.substream.arrays) }
-        ensures field { IsField self.now.substream batch.now place result }
+        ensures field { IsFieldColumn self.now.substream batch.now place result }
         ensures base { result.base ≡ base }
     {
         let Some(array) = self.arrays.get(place) else {

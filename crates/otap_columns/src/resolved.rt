@@ -4,8 +4,8 @@ ghost use Rattle.arrow_arrays.specs.Views.{cell_seen};
 ghost use Rattle.otap_cells.specs.Cells.{seen};
 ghost use Rattle.otap_columns.specs.Known.{stored_cell};
 ghost use Rattle.otap_columns.specs.Resolved.{FitsBase, resolved_value, HasIndexSizes, IsResolved};
-ghost use Rattle.otap_columns.specs.Parts.{part_of};
-ghost use Rattle.otap_columns.specs.Substreams.{value_at};
+ghost use Rattle.otap_columns.specs.Parts.{bytes_of_cell};
+ghost use Rattle.otap_columns.specs.Substreams.{value_by_index};
 
 use crate::cells::{self, index};
 use crate::dictionary::Dictionary;
@@ -60,7 +60,7 @@ impl<'v> ResolvedColumn<'v> {
         dictionary: &'v Dictionary,
     ) -> ResolvedColumn<'v>
         requires { HasIndexSizes stored }
-        ensures values { (row : ℕ) → resolved_value result row ≡ value_at dictionary.now.values (cell_seen stored.entry row) }
+        ensures values { (row : ℕ) → resolved_value result row ≡ value_by_index dictionary.now.values (cell_seen stored.entry row) }
         ensures resolved { IsResolved result }
         ensures base { result.base ≡ base }
     {
@@ -99,7 +99,7 @@ impl<'v> ResolvedColumn<'v> {
     #[inline(always)]
     pub(crate) fn part(&self, row: u64) -> Option<&'v [u8]>
         requires { IsResolved self.now }
-        ensures { option_copied result ≡ part_of (stored_cell self.now.base (resolved_value self.now row)) }
+        ensures { option_copied result ≡ bytes_of_cell (stored_cell self.now.base (resolved_value self.now row)) }
     {
         if self.base.has_bytes() {
             self.value(row)

@@ -35,15 +35,15 @@ impl<'v> Model for RowsView<'v> {
 
 impl<'v> RowsView<'v> {
     ghost use Rattle.otap_cells.specs.Tables.{IsTable, cell_in};
-    ghost use Rattle.otap_columns.specs.Parts.{part_of};
-    ghost use Rattle.otap_columns.specs.Substreams.{table_in};
+    ghost use Rattle.otap_columns.specs.Parts.{bytes_of_cell};
+    ghost use Rattle.otap_columns.specs.Substreams.{table_of_batch};
     ghost use Rattle.otap_columns.specs.Resolved.{ShowsColumn};
     ghost use Rattle.std.specs.Option.{option_copied};
 
     pub(crate) fn new(reader: &'v Reader, batch: BatchView<'v>) -> RowsView<'v>
         requires fine { arrays_check batch reader.now.substream.arrays ≡ Ok tt }
-        requires sound { IsTable (table_in reader.now.kind reader.now.substream batch) }
-        ensures { result ≡ table_in reader.now.kind reader.now.substream batch.entry }
+        requires sound { IsTable (table_of_batch reader.now.kind reader.now.substream batch) }
+        ensures { result ≡ table_of_batch reader.now.kind reader.now.substream batch.entry }
     {
         let mut found = [ResolvedColumn::missing(Base::Bool); MAX_COLUMNS];
         'columns: for column in 0..columns(reader.kind()).len() {
@@ -61,7 +61,7 @@ impl<'v> RowsView<'v> {
     pub fn part(&self, column: u32, row: u64) -> Option<&'v [u8]>
         requires column { column < width_of self.now.kind }
         requires row { row < length self.now.rows }
-        ensures { option_copied result ≡ part_of (cell_in self.now.rows column row) }
+        ensures { option_copied result ≡ bytes_of_cell (cell_in self.now.rows column row) }
     {
         self.column(column).part(row)
     }

@@ -3,7 +3,7 @@
 ghost use Rattle.std.specs.Prelude.{◌≡◌, ◌<◌, ◌≤◌, ℕ, List, Some, drop, length, map, slice_get, IfOk, OnOk};
 ghost use Rattle.arrow_buffers.specs.Columns.{HasWidth};
 ghost use Rattle.arrow_buffers.specs.Limits.{max_values};
-ghost use Rattle.otap_dicts.specs.Forms.{bytes_of};
+ghost use Rattle.otap_dicts.specs.Forms.{byte_count};
 ghost use Rattle.otap_dicts.specs.Limits.{byte_limit, value_limit};
 ghost use Rattle.otap_columns.specs.Limits.{head_limit};
 ghost use Rattle.otap_columns.specs.WrittenBatches.{AddsDictionary, HoldsType, IsSingle};
@@ -29,7 +29,7 @@ pub(crate) fn add_dictionary(
 ) -> Result<(), AllocError>
     requires there { from ≤ length ladder.now.values }
     requires few { length ladder.now.values ≤ value_limit }
-    requires room { bytes_of ladder.now.values ≤ byte_limit }
+    requires room { byte_count ladder.now.values ≤ byte_limit }
     requires holds { HoldsType kind width ladder.now.values }
     ensures adds { OnOk result (AddsDictionary kind id delta (drop from ladder.now.values) to.old.items to.new.items) }
     ensures short { OnOk result (AddsAtMost head_limit to.old.items to.new.items) }
@@ -51,7 +51,7 @@ fn values_column(
     requires there { from ≤ length ladder.now.values }
     requires wide { (place : ℕ) (value : List ℕ) → slice_get ladder.now.values place ≡ Some value → HasWidth width value }
     requires elements { IsSingle width }
-    requires room { bytes_of ladder.now.values < max_values }
+    requires room { byte_count ladder.now.values < max_values }
     ensures { IfOk result (λ column. column ≡ record { width = width; cells = map (λ value. Some value) (drop from ladder.now.values) }) }
 {
     let count = ladder.count();

@@ -10,7 +10,7 @@ ghost use Rattle.otap_cells.specs.Cells.{IsCellOf, IsNumberOf, null, number, see
 ghost use Rattle.otap_cells.specs.Columns.{width_of};
 ghost use Rattle.otap_cells.specs.Tables.{cell_in};
 ghost use Rattle.otap_columns.specs.Observed.{bytes_for, id_width, number_bytes};
-ghost use Rattle.otap_columns.specs.BuiltCells.{FitsForm, id_bits, IsIndexFor, index_width, shown_bytes};
+ghost use Rattle.otap_columns.specs.BuiltCells.{FitsForm, id_bits, IsIndexFor, index_size, shown_bytes};
 ghost use Rattle.otap_columns.specs.Schemas.{is_dictionary};
 
 use crate::forms::ColumnForm;
@@ -162,9 +162,9 @@ pub(crate) fn push_index(
     place: Option<u32>,
 ) -> Result<(), AllocError>
     requires fits { IsIndexFor form place }
-    requires width { ForSome (option_map (little_bytes (index_width form)) place) (HasWidth built.old.width) }
-    requires room { cells_len built.old.cells + cell_len (option_map (little_bytes (index_width form)) place) < max_values }
-    ensures { OnOk result (built.new ≡ record { width = built.old.width; cells = built.old.cells ++ option_map (little_bytes (index_width form)) place ∷ [] }) }
+    requires width { ForSome (option_map (little_bytes (index_size form)) place) (HasWidth built.old.width) }
+    requires room { cells_len built.old.cells + cell_len (option_map (little_bytes (index_size form)) place) < max_values }
+    ensures { OnOk result (built.new ≡ record { width = built.old.width; cells = built.old.cells ++ option_map (little_bytes (index_size form)) place ∷ [] }) }
 {
     match place {
         None => built.push(None),

@@ -10,9 +10,9 @@ ghost use Rattle.otap_cells.specs.Columns.{base_at, width_of};
 ghost use Rattle.arrow_buffers.specs.declared.width.Width.TheVariants.{Fixed};
 ghost use Rattle.otap_cells.specs.Tables.{column_in};
 ghost use Rattle.otap_columns.specs.Schemas.{is_dictionary};
-ghost use Rattle.otap_columns.specs.SeenInside.{filled_up, places_of};
+ghost use Rattle.otap_columns.specs.SeenInside.{filled_up, places_of_cells};
 ghost use Rattle.otap_columns.specs.WrittenCells.{FitsIndexes, stored_column};
-ghost use Rattle.otap_columns.specs.BuiltCells.{FitsColumn, HasRoom, IsIndexFor, index_of, index_width, parts_of, plain_width, width_for, with_parts};
+ghost use Rattle.otap_columns.specs.BuiltCells.{FitsColumn, HasRoom, IsIndexFor, index_of, index_size, batch_parts, plain_width, width_for, with_parts};
 
 use crate::forms::ColumnForm;
 use crate::writer_cells::{is_dictionary, push_index, push_value, set_rows, unset_rows};
@@ -65,7 +65,7 @@ pub(crate) fn column_for(
     requires column { column < width_of table.now.kind }
     requires fits { FitsColumn form table.now column }
     requires few { FitsIndexes form (length seen.now.ladder.values) }
-    requires placed { is_dictionary form ≡ true → filled_up (length table.now.rows) seen.now.places ≡ places_of (base_at table.now.kind column) form seen.now.ladder.values (column_in table.now.rows column) }
+    requires placed { is_dictionary form ≡ true → filled_up (length table.now.rows) seen.now.places ≡ places_of_cells (base_at table.now.kind column) form seen.now.ladder.values (column_in table.now.rows column) }
     requires room { cells_len (stored_column form seen.now.ladder.values table.now column) < max_values }
     ensures { IfOk result (λ built. built ≡ record { width = width_for (base_at table.now.kind column) form; cells = stored_column form seen.now.ladder.values table.now column }) }
 {
@@ -113,7 +113,7 @@ fn indexes_for(
     requires few { length places.now ≤ rows }
     requires reached { (row : ℕ) → IsIndexFor form (slice_index_or places.now row None) }
     requires room { cells_len (map (index_of form) (filled_up rows places.now)) < max_values }
-    ensures { IfOk result (λ built. built ≡ record { width = Fixed (index_width form); cells = map (index_of form) (filled_up rows places.now) }) }
+    ensures { IfOk result (λ built. built ≡ record { width = Fixed (index_size form); cells = map (index_of form) (filled_up rows places.now) }) }
 {
     let width = Width::Fixed(index_width(form));
     let mut built = ColumnBuilder::for_rows(alloc, width, rows as usize)?;
@@ -141,7 +141,7 @@ fn unplaced_rows(places: &[Option<u32>]) -> usize
 
 /// How many bytes an index has.
 fn index_width(form: ColumnForm) -> u32
-    ensures { result ≡ index_width form }
+    ensures { result ≡ index_size form }
 {
     match form {
         ColumnForm::Dict8 => 1,
@@ -158,7 +158,7 @@ pub(crate) fn add_column(
     requires rows { buffers.now.rows < max_rows }
     requires nulls { buffers.now.nulls < max_rows }
     requires room { HasRoom batch.old 1 (padded (length buffers.now.validity.items) + padded (length buffers.now.offsets.items) + padded (length buffers.now.values.items)) }
-    ensures { OnOk result (batch.new ≡ with_parts batch.old (parts_of width buffers.now)) }
+    ensures { OnOk result (batch.new ≡ with_parts batch.old (batch_parts width buffers.now)) }
 {
     batch.add(buffers.rows, buffers.nulls)?;
     batch.add_buffer(&buffers.validity)?;

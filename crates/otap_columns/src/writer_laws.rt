@@ -8,7 +8,7 @@ ghost use Rattle.otlp_model.specs.declared.request.Signal.{Signal};
 ghost use Rattle.otap_cells.specs.Payload.{kinds_of};
 ghost use Rattle.otap_cells.specs.Tables.{Table};
 ghost use Rattle.otap_cells.specs.Weights.{row_weight_limit, weight_of_tables};
-ghost use Rattle.arrow_arrays.specs.Written.{PartIn, batch_of};
+ghost use Rattle.arrow_arrays.specs.Written.{PartIn, batch_of_parts};
 ghost use Rattle.otap_columns.specs.Limits.{dictionary_columns, record_limit, tables_limit, columns_limit, records_limit};
 ghost use Rattle.otap_columns.specs.WrittenPayloads.{HoldsRows, IsReadAs, AreWrittenAs};
 ghost use Rattle.otap_columns.specs.Schemas.{Forms, FormsFit, slots_for};
@@ -25,7 +25,7 @@ pub fn far_end_reads()
 /// its form has it written, the elements of lists.
 pub fn rows_are_held()
     ensures { (kind : Kind) (forms : Forms) (values : ℕ → List (List ℕ)) (t : Table) (parts : List PartIn) → FormsFit kind forms → t.kind ≡ kind → HasValues kind forms values t
-        → AreSlotParts kind forms values t (slots_for kind forms) parts → HoldsRows kind forms values t (batch_of (length t.rows) parts) }
+        → AreSlotParts kind forms values t (slots_for kind forms) parts → HoldsRows kind forms values t (batch_of_parts (length t.rows) parts) }
 {}
 
 /// The records of tables that are within the row weight together have at most 418,525,472 bytes, where there are at most 13

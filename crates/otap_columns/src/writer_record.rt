@@ -4,7 +4,7 @@ ghost use Rattle.std.specs.Prelude.{◌≡◌, ◌<◌, ◌≤◌, ℕ, drop, le
 ghost use Rattle.otap_cells.specs.Columns.{base_at, width_of};
 ghost use Rattle.otap_columns.specs.Limits.{record_limit};
 ghost use Rattle.otap_columns.specs.WrittenPayloads.{schema_if};
-ghost use Rattle.otap_columns.specs.Schemas.{FormsFit, is_dictionary, schema_for, type_in};
+ghost use Rattle.otap_columns.specs.Schemas.{FormsFit, is_dictionary, schema_for, arrow_type_in};
 ghost use Rattle.otap_columns.specs.WrittenGroups.{forms_in};
 ghost use Rattle.otap_columns.specs.WrittenRecords.{AddsAtMost, AddsHead, AddsHeads, AddsMessages, CanSendColumn, IsRecordBy, from_in, head_most, heads_most, is_sent, schema_most};
 ghost use Rattle.otap_columns.specs.WrittenRows.{HasValues};
@@ -63,7 +63,7 @@ fn add_head(
 ) -> Result<(), AllocError>
     requires column { column < width_of kind }
     requires can { is_dictionary form ≡ true → CanSendColumn (base_at kind column) form from ladder.now.values }
-    ensures adds { OnOk result (AddsHead (type_in (base_at kind column) form) (is_sent opening form (drop from ladder.now.values)) (not opening) column (drop from ladder.now.values) to.old.items to.new.items) }
+    ensures adds { OnOk result (AddsHead (arrow_type_in (base_at kind column) form) (is_sent opening form (drop from ladder.now.values)) (not opening) column (drop from ladder.now.values) to.old.items to.new.items) }
     ensures short { OnOk result (AddsAtMost (head_most form) to.old.items to.new.items) }
 {
     if !is_sent(opening, form, ladder, from) {

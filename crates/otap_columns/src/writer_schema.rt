@@ -5,7 +5,7 @@ ghost use Rattle.arrow_schema.specs.Branches as branches;
 ghost use Rattle.arrow_schema.specs.declared.spec.ArrowType.TheVariants as arrow;
 ghost use Rattle.otap_cells.specs.Columns.{width_of};
 ghost use Rattle.otap_columns.specs.Groups as group;
-ghost use Rattle.otap_columns.specs.Schemas.{branches_in, dict_for, is_there, item_in, leaf_in, members_there, schema_for, type_in};
+ghost use Rattle.otap_columns.specs.Schemas.{branches_in, dict_for, is_there, item_in, leaf_in, members_there, schema_for, arrow_type_in};
 ghost use Rattle.otap_columns.specs.WrittenGroups.{IsWithin, forms_in, group_in, member_in};
 
 use crate::forms::ColumnForm;
@@ -39,7 +39,7 @@ fn add_group(
     group: &Group,
 ) -> Result<(), AllocError>
     requires { IsWithin (width_of kind) group.now }
-    ensures { OnOk result (schema.new ≡ schema.old ++ branches.fields_of (branches_in kind (forms_in forms.now) (group_in group.now))) }
+    ensures { OnOk result (schema.new ≡ schema.old ++ branches.branch_fields (branches_in kind (forms_in forms.now) (group_in group.now))) }
 {
     match *group {
         Group::Alone(member) => add_member(alloc, schema, kind, forms, &member),
@@ -55,7 +55,7 @@ fn add_member(
     member: &Member,
 ) -> Result<(), AllocError>
     requires { member.now.column < width_of kind }
-    ensures { OnOk result (schema.new ≡ schema.old ++ branches.fields_of (branches_in kind (forms_in forms.now) (group.Alone (member_in member.now)))) }
+    ensures { OnOk result (schema.new ≡ schema.old ++ branches.branch_fields (branches_in kind (forms_in forms.now) (group.Alone (member_in member.now)))) }
 {
     if !is_there(form_of(forms, member.column)) {
         return Ok(());
@@ -73,7 +73,7 @@ fn add_struct(
     members: &[Member],
 ) -> Result<(), AllocError>
     requires { All (λ member. member.column < width_of kind) members.now }
-    ensures { OnOk result (schema.new ≡ schema.old ++ branches.fields_of (branches_in kind (forms_in forms.now) (group.Under name.now (map member_in members.now)))) }
+    ensures { OnOk result (schema.new ≡ schema.old ++ branches.branch_fields (branches_in kind (forms_in forms.now) (group.Under name.now (map member_in members.now)))) }
 {
     let children = leaf_fields(alloc, kind, forms, members)?;
     if children.is_empty() {
@@ -145,7 +145,7 @@ fn leaf_field(
 
 /// The child of a list.
 fn items(alloc: Global, item: Option<ArrowType>) -> Result<FieldList<FieldSpec>, AllocError>
-    ensures { IfOk result (λ fields. fields ≡ branches.items_of item) }
+    ensures { IfOk result (λ fields. fields ≡ branches.branch_items item) }
 {
     match item {
         None => Ok(FieldList::new(alloc)),
@@ -154,7 +154,7 @@ fn items(alloc: Global, item: Option<ArrowType>) -> Result<FieldList<FieldSpec>,
 }
 
 fn one_item(alloc: Global, kind: ArrowType) -> Result<FieldList<FieldSpec>, AllocError>
-    ensures { IfOk result (λ fields. fields ≡ branches.items_of (Some kind)) }
+    ensures { IfOk result (λ fields. fields ≡ branches.branch_items (Some kind)) }
 {
     let mut fields = FieldList::new(alloc);
     fields.push(FieldSpec {
@@ -185,7 +185,7 @@ pub(crate) fn is_there(form: ColumnForm) -> bool
 
 /// The type of a column's values in its form.
 pub(crate) fn type_of(base: Base, form: ColumnForm) -> ArrowType
-    ensures { result ≡ type_in base form }
+    ensures { result ≡ arrow_type_in base form }
 {
     match base {
         Base::U8 => int(8, false),

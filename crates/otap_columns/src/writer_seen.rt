@@ -10,7 +10,7 @@ ghost use Rattle.otap_dicts.specs.Ladders.{is_dictionary, is_plain};
 ghost use Rattle.otap_columns.specs.declared.forms.ColumnForm.TheVariants as form;
 ghost use Rattle.otap_columns.specs.Observed.{bytes_for, form_at, has_wide_id, is_main, is_own_id, is_wide, of_ladder};
 ghost use Rattle.otap_columns.specs.Seen.{IsSeenAfter, may_widen};
-ghost use Rattle.otap_columns.specs.SeenInside.{SeesTable, filled_up, form_told, id_form_told, is_absent, observed_if, places_of};
+ghost use Rattle.otap_columns.specs.SeenInside.{SeesTable, filled_up, form_told, id_form_told, is_absent, observed_if, places_of_cells};
 ghost use Rattle.otap_columns.specs.WrittenCells.{place_among};
 ghost use Rattle.otap_columns.specs.BuiltCells.{shown_bytes};
 
@@ -43,7 +43,7 @@ impl Model for SeenColumn {
 
 impl SeenColumn {
     /// A column that had no value.
-    #[tactic(auto, unfolding(crate::specs::Observed::seen))]
+    #[tactic(auto, unfolding(crate::specs::Observed::values_in_tables))]
     pub(crate) fn new(alloc: Global, kind: Kind, column: u32) -> SeenColumn
         requires { column < width_of kind }
         ensures { IsSeenAfter kind [] column result }
@@ -74,7 +74,7 @@ impl SeenColumn {
         requires coded { is_id_at table.now.kind column ≡ true → coding_in table.now column ≡ coding_at table.now.kind column }
         ensures ladder { OnOk result (self.new.ladder ≡ fold observed_if self.old.ladder (map (bytes_for (base_at table.now.kind column) form.Wide) (column_in table.now.rows column))) }
         ensures wide { OnOk result (self.new.wide ≡ (self.old.wide || (may_widen (base_at table.now.kind column) && has_wide_id table.now.kind column table.now))) }
-        ensures placed { OnOk result (is_dictionary self.new.ladder.form ≡ true → filled_up (length table.now.rows) self.new.places ≡ places_of (base_at table.now.kind column) form.Wide self.new.ladder.values (column_in table.now.rows column)) }
+        ensures placed { OnOk result (is_dictionary self.new.ladder.form ≡ true → filled_up (length table.now.rows) self.new.places ≡ places_of_cells (base_at table.now.kind column) form.Wide self.new.ladder.values (column_in table.now.rows column)) }
     {
         observe_values(&mut self.ladder, &mut self.places, table, column)?;
         if !self.wide {
@@ -189,7 +189,7 @@ fn observe_values(
 ) -> Result<(), AllocError>
     requires { column < width_of table.now.kind }
     ensures ladder { OnOk result (ladder.new ≡ fold observed_if ladder.old (map (bytes_for (base_at table.now.kind column) form.Wide) (column_in table.now.rows column))) }
-    ensures placed { OnOk result (is_dictionary ladder.new.form ≡ true → filled_up (length table.now.rows) places.new.items ≡ places_of (base_at table.now.kind column) form.Wide ladder.new.values (column_in table.now.rows column)) }
+    ensures placed { OnOk result (is_dictionary ladder.new.form ≡ true → filled_up (length table.now.rows) places.new.items ≡ places_of_cells (base_at table.now.kind column) form.Wide ladder.new.values (column_in table.now.rows column)) }
 {
     a_value_again_changes_nothing();
     places_stay();

@@ -1,41 +1,20 @@
 -- What holds of each element of a list holds of those of the lists that are made of it.
-use Rattle.std.proofs.Common.{◌+◌, ◌<◌, ℕ, zero, suc, Bool, true, false, List, [], ◌∷◌, ◌++◌, get_or, take, drop, length, map, Option, Some, None, Result, Ok, Err, IfOk, All, subst, inl, inr, arith}
+use Rattle.std.proofs.Common.{◌+◌, ◌<◌, ℕ, zero, suc, Bool, true, false, List, [], ◌∷◌, get_or, map, Option, Some, None, Result, Ok, Err, IfOk, All, subst}
 use Rattle.std.specs.Prelude.{filter, if◌then◌else◌, IfSome, slice_get}
 use Rattle.std.specs.List.{AllByRecursion, cons_option, filter_map, flat_map, list_any}
-use Rattle.std.proofs.lemmas.Bool.{cases_lt}
-use Rattle.std.proofs.lemmas.List.{get_or-drop, get_or-take, get_or_past, get_or_default, length-take}
+use Rattle.std.proofs.lemmas.List.{get_or_default}
 use Rattle.flat_tables.specs.Bytes.{◌>>=◌}
 use Rattle.lists.specs.Since.{since, last_after}
+use Rattle.lists.proofs.AllBytes.{IsBytes}
+use Rattle.lists.proofs.Every.{every_append}
 
 -- ---- bytes
 
-abbrev pub Bytes : List ℕ → Type 0
-Bytes bytes = (i : ℕ) → get_or bytes i 0 < 256
-
 abbrev pub IfBytes : Option (List ℕ) → Type 0
 IfBytes None = Unit {0}
-IfBytes (Some bytes) = Bytes bytes
+IfBytes (Some bytes) = IsBytes bytes
 
-pub no_bytes : Bytes []
-no_bytes zero = omega arith
-no_bytes (suc i) = omega arith
-
-pub bytes_drop : (n : ℕ) (bytes : List ℕ) → Bytes bytes → Bytes (drop n bytes)
-bytes_drop n bytes fits i = rw get_or-drop (fits (n + i))
-
-pub bytes_take : (n : ℕ) (bytes : List ℕ) → Bytes bytes → Bytes (take n bytes)
-bytes_take n bytes fits i = elim (cases_lt i n) [
-  | inl below ↦ rw (get_or-take n bytes i 0 below) (fits i)
-  | inr past ↦ rw (get_or_past (take n bytes) i 0 (omega (arith, length-take n bytes))) (omega arith)
-]
-
-pub bytes_of_all : (bytes : List ℕ) → All (λ byte. byte < 256) bytes → Bytes bytes
-bytes_of_all bytes all i = elim (cases_lt i (length bytes)) [
-  | inl inside ↦ all i 0 inside
-  | inr past ↦ rw (get_or_past bytes i 0 past) (omega arith)
-]
-
-pub all_bytes : (bytes : List ℕ) → Bytes bytes → All (λ byte. byte < 256) bytes
+pub all_bytes : (bytes : List ℕ) → IsBytes bytes → All (λ byte. byte < 256) bytes
 all_bytes bytes fits k d within = subst (λ (n : ℕ). n < 256) (get_or_default bytes k 0 d within) (fits k)
 
 -- ---- lists
@@ -46,10 +25,6 @@ module _ {A : Type 0} (P : A → Type 0) where
   each_at [] (suc k) d default each = default
   each_at (x ∷ xs) zero d default each = each.0
   each_at (x ∷ xs) (suc k) d default each = each_at xs k d default each.1
-
-  pub each_append : (xs ys : List A) → AllByRecursion P xs → AllByRecursion P ys → AllByRecursion P (xs ++ ys)
-  each_append [] ys each more = more
-  each_append (x ∷ xs) ys each more = (each.0, each_append xs ys each.1 more)
 
   pub each_filter : (test : A → Bool) (xs : List A) → AllByRecursion P xs → AllByRecursion P (filter test xs)
   each_filter test [] each = tt
@@ -77,10 +52,6 @@ module _ {A : Type 0} (P : A → Type 0) where
   each_get (x ∷ xs) zero each = each.0
   each_get (x ∷ xs) (suc k) each = each_get xs k each.1
 
-  pub each_made : {B : Type 0} (f : B → A) (ys : List B) → ((y : B) → P (f y)) → AllByRecursion P (map f ys)
-  each_made f [] made = tt
-  each_made f (y ∷ ys) made = (made y, each_made f ys made)
-
 module _ {A B : Type 0} (P : A → Type 0) (Q : B → Type 0) where
   pub each_map : (f : A → B) → ((x : A) → P x → Q (f x)) → (xs : List A) → AllByRecursion P xs → AllByRecursion Q (map f xs)
   each_map f keeps [] each = tt
@@ -88,7 +59,7 @@ module _ {A B : Type 0} (P : A → Type 0) (Q : B → Type 0) where
 
   pub each_flat_map : (f : A → List B) → ((x : A) → P x → AllByRecursion Q (f x)) → (xs : List A) → AllByRecursion P xs → AllByRecursion Q (flat_map f xs)
   each_flat_map f keeps [] each = tt
-  each_flat_map f keeps (x ∷ xs) each = each_append Q (f x) (flat_map f xs) (keeps x each.0) (each_flat_map f keeps xs each.1)
+  each_flat_map f keeps (x ∷ xs) each = every_append Q (f x) (flat_map f xs) (keeps x each.0) (each_flat_map f keeps xs each.1)
 
   pub each_filter_map : (f : A → Option B) → ((x : A) → P x → IfSome (f x) Q) → (xs : List A) → AllByRecursion P xs → AllByRecursion Q (filter_map f xs)
   each_filter_map f keeps [] each = tt

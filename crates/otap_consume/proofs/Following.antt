@@ -18,7 +18,7 @@ use Rattle.otap_cells.specs.Payload.{kind_numbered}
 use Rattle.otap_cells.specs.Tables.{Table}
 use Rattle.otap_consume.specs.declared.refusal.Cause.TheVariants.{Compressed, Broken}
 use Rattle.otap_consume.specs.Defects.{IsReadAfter, IsTakenAfter, AreTaken, Accepts, tables_of}
-use Rattle.otap_consume.specs.Outcomes.{Outcome, Accepted, Refused, Reset, refused, unread_cause, is_broken, payloads_after, Gives, StaysBroken, OutcomeAfter, Outcomes}
+use Rattle.otap_consume.specs.Outcomes.{Outcome, Accepted, Refused, Reset, refused, unread_cause, is_broken, payloads_after, GivesOutcome, StaysBroken, OutcomeAfter, Outcomes}
 use Rattle.otap_consume.specs.PayloadTypes.{IsFineType}
 use Rattle.otap_consume.proofs.Judged.{are_judged}
 use Rattle.otap_consume.proofs.SegmentSteps.{payloads_accepted, broken_accepted, broken_refused, payloads_reset}
@@ -51,15 +51,15 @@ accepted_taken signal past payloads taken a =
     all_after-append (IsTakenAfter signal) [] past payloads taken (more_taken signal payloads past payloads a.list.types a.records)
 
 -- a batch that a frame gives was accepted
-gives_accepted : (signal : Signal) (past : List PayloadIn) (frame : Frame) (o : Outcome) (batch : BatchContent) (tables : List Table) → Gives signal past frame o → o ≡ Accepted batch tables
+gives_accepted : (signal : Signal) (past : List PayloadIn) (frame : Frame) (o : Outcome) (batch : BatchContent) (tables : List Table) → GivesOutcome signal past frame o → o ≡ Accepted batch tables
     → Accepts signal past batch.payloads
-gives_accepted signal past _ _ batch tables Gives.compressed is = absurd (cc is)
-gives_accepted signal past _ _ batch tables (Gives.unreadable bytes refusal bad) is = absurd (cc is)
-gives_accepted signal past _ _ batch tables (Gives.refuses bytes other cause payload reads bad) is = absurd (cc is)
-gives_accepted signal past _ _ batch tables (Gives.accepts bytes other reads accepts) is =
+gives_accepted signal past _ _ batch tables GivesOutcome.compressed is = absurd (cc is)
+gives_accepted signal past _ _ batch tables (GivesOutcome.unreadable bytes refusal bad) is = absurd (cc is)
+gives_accepted signal past _ _ batch tables (GivesOutcome.refuses bytes other cause payload reads bad) is = absurd (cc is)
+gives_accepted signal past _ _ batch tables (GivesOutcome.accepts bytes other reads accepts) is =
     let same : other ≡ batch = cc is in
     subst (λ (b : BatchContent). Accepts signal past b.payloads) same accepts
-gives_accepted signal past _ _ batch tables Gives.resets is = absurd (cc is)
+gives_accepted signal past _ _ batch tables GivesOutcome.resets is = absurd (cc is)
 
 -- where no frame of the segment was refused
 abbrev pub Taken : Signal → List Outcome → Type 0
@@ -68,8 +68,8 @@ Taken signal outcomes = is_broken outcomes ≡ false → AreTaken signal (payloa
 pub one_more : (signal : Signal) (outcomes : List Outcome) (frame : Frame) (outcome : Outcome) → Taken signal outcomes → OutcomeAfter signal outcomes frame outcome → Taken signal (outcomes ++ outcome ∷ [])
 one_more signal outcomes frame (Accepted batch tables) taken after = λ whole.
     let before : is_broken outcomes ≡ false = sym (broken_accepted outcomes batch tables) ∙ whole in
-    let gives : Gives signal (payloads_after outcomes) frame (Accepted batch tables) =
-    subst (λ (b : Bool). MatchBool b (StaysBroken frame (Accepted batch tables)) (Gives signal (payloads_after outcomes) frame (Accepted batch tables))) before after in
+    let gives : GivesOutcome signal (payloads_after outcomes) frame (Accepted batch tables) =
+    subst (λ (b : Bool). MatchBool b (StaysBroken frame (Accepted batch tables)) (GivesOutcome signal (payloads_after outcomes) frame (Accepted batch tables))) before after in
     subst (AreTaken signal) (sym (payloads_accepted outcomes batch tables))
     (accepted_taken signal (payloads_after outcomes) batch.payloads (taken before) (gives_accepted signal (payloads_after outcomes) frame (Accepted batch tables) batch tables gives refl))
 one_more signal outcomes frame (Refused refusal) taken after = λ whole. absurd (both_ways (is_broken (outcomes ++ Refused refusal ∷ [])) whole (broken_refused outcomes refusal))
@@ -95,23 +95,24 @@ still_broken (Message bytes) (inr (refusal, bad)) = (refused None Broken None, S
 still_broken Packed h = (refused None Broken None, StaysBroken.compressed)
 still_broken capture.Reset h = (Reset, StaysBroken.resets)
 
-gives_some : (signal : Signal) (past : List PayloadIn) → AreTaken signal past → (frame : Frame) → IsReadOrRefused frame → (outcome : Outcome) × Gives signal past frame outcome
+gives_some : (signal : Signal) (past : List PayloadIn) → AreTaken signal past → (frame : Frame) → IsReadOrRefused frame → (outcome : Outcome) × GivesOutcome signal past frame outcome
 gives_some signal past taken (Message bytes) (inl (batch, reads)) =
     elim (are_judged signal past batch.payloads taken) [
-      | inl accepts ↦ (Accepted batch (tables_of signal past batch.payloads), Gives.accepts bytes batch reads accepts)
-      | inr bad ↦ (refused (Some batch.id) bad.0 bad.1, Gives.refuses bytes batch bad.0 bad.1 reads bad.2)
+      | inl accepts ↦ (Accepted batch (tables_of signal past batch.payloads), GivesOutcome.accepts bytes batch reads accepts)
+      | inr bad ↦ (refused (Some batch.id) bad.0 bad.1, GivesOutcome.refuses bytes batch bad.0 bad.1 reads bad.2)
     ]
-gives_some signal past taken (Message bytes) (inr (refusal, bad)) = (refused None (unread_cause refusal) None, Gives.unreadable bytes refusal bad)
-gives_some signal past taken Packed h = (refused None Compressed None, Gives.compressed)
-gives_some signal past taken capture.Reset h = (Reset, Gives.resets)
+gives_some signal past taken (Message bytes) (inr (refusal, bad)) = (refused None (unread_cause refusal) None, GivesOutcome.unreadable bytes refusal bad)
+gives_some signal past taken Packed h = (refused None Compressed None, GivesOutcome.compressed)
+gives_some signal past taken capture.Reset h = (Reset, GivesOutcome.resets)
 
 pub by_break : (signal : Signal) (outcomes : List Outcome) (frame : Frame) (b : Bool) → is_broken outcomes ≡ b → Taken signal outcomes → IsReadOrRefused frame → Has signal outcomes frame
 by_break signal outcomes frame true is taken read =
     let h : (outcome : Outcome) × StaysBroken frame outcome = still_broken frame read in
-    (h.0, subst (λ (b : Bool). MatchBool b (StaysBroken frame h.0) (Gives signal (payloads_after outcomes) frame h.0)) (sym is) h.1)
+    (h.0, subst (λ (b : Bool). MatchBool b (StaysBroken frame h.0) (GivesOutcome signal (payloads_after outcomes) frame h.0)) (sym is) h.1)
 by_break signal outcomes frame false is taken read =
-    let h : (outcome : Outcome) × Gives signal (payloads_after outcomes) frame outcome = gives_some signal (payloads_after outcomes) (taken is) frame read in
-    (h.0, subst (λ (b : Bool). MatchBool b (StaysBroken frame h.0) (Gives signal (payloads_after outcomes) frame h.0)) (sym is) h.1)
+    let h : (outcome : Outcome) × GivesOutcome signal (payloads_after outcomes) frame outcome = gives_some signal (payloads_after outcomes) (taken is) frame read in
+    (h.0, subst (λ (b : Bool). MatchBool b (StaysBroken frame h.0) (GivesOutcome signal (payloads_after outcomes) frame h.0)) (sym is) h.1)
 
-pub some_after : (signal : Signal) (frames : List Frame) (outcomes : List Outcome) (frame : Frame) → Outcomes signal frames outcomes → IsReadOrRefused frame → (outcome : Outcome) × OutcomeAfter signal outcomes frame outcome
+pub some_after : (signal : Signal) (frames : List Frame) (outcomes : List Outcome) (frame : Frame) → Outcomes signal frames outcomes → IsReadOrRefused frame
+    → (outcome : Outcome) × OutcomeAfter signal outcomes frame outcome
 some_after signal frames outcomes frame each read = by_break signal outcomes frame (is_broken outcomes) refl (taken_after signal frames outcomes each) read

@@ -6,10 +6,9 @@ use Rattle.lists.proofs.Growing.{each_after-keeps}
 use Rattle.lists.specs.Payloads.{PayloadIn}
 use Rattle.otlp_model.specs.Limits.{weight_limit}
 use Rattle.otlp_model.specs.Weight.{weight_of}
-use Rattle.otlp_model.specs.declared.request.Signal.{Signal}
 use Rattle.otap_capture.specs.declared.batch.BatchRefusal.{BatchRefusal}
 use Rattle.otap_capture.specs.declared.batch.BatchRefusal.TheVariants as unread
-use Rattle.otap_capture.specs.Batch.{BatchContent, ReadsBatch, RefusesBatch, batch_in, defect_of}
+use Rattle.otap_capture.specs.Batch.{BatchContent, ReadsBatch, RefusesBatch, batch_content, defect_of}
 use Rattle.otap_capture.specs.Capture.{Frame, Message, Packed}
 use Rattle.otap_capture.specs.Capture as capture
 use Rattle.otap_capture.proofs.BatchDefects.{read_or_refused}
@@ -20,14 +19,14 @@ use Rattle.otap_consume.specs.declared.refusal.Cause.TheVariants.{Column, TooMan
 use Rattle.otap_consume.specs.declared.refusal.Refusal.{Refusal}
 use Rattle.otap_consume.specs.Defects.{Refuses, Accepts, AreTaken, AreJudged, tables_of}
 use Rattle.otap_consume.specs.Meanings.{Meaning, AreClean, StandsInRows, HasFineRows}
-use Rattle.otap_consume.specs.Payloads.{type_of}
-use Rattle.otap_consume.specs.Outcomes.{Outcome, Accepted, Refused, Reset, Gives, StaysBroken, OutcomeAfter, stage_of, refusal_of, unread_cause, is_broken, payloads_after}
+use Rattle.otap_consume.specs.Payloads.{payload_type_of}
+use Rattle.otap_consume.specs.Outcomes.{Outcome, Accepted, Refused, Reset, GivesOutcome, StaysBroken, OutcomeAfter, stage_of, refusal_of, unread_cause, is_broken, payloads_after}
 use Rattle.otap_consume.specs.Receiving.{Settles, ReceivedAfter, Received, HasDefect, IsInFormat}
 use Rattle.otap_consume.proofs.Excluding.{not_both, one_stage, after_first}
 use Rattle.otap_consume.proofs.Following.{Taken, one_more, none_taken}
 use Rattle.otap_consume.proofs.Judged.{are_judged}
 use Rattle.otap_consume.proofs.Regrouping.{GivesBatch, accepted_batch}
-use Rattle.otap_consume.proofs.SegmentSteps.{broken_refused, payloads_reset}
+use Rattle.otap_consume.proofs.SegmentSteps.{broken_refused, payloads_reset, when_whole}
 
 -- ---- what an outcome is made of
 
@@ -129,11 +128,6 @@ in_format m outcomes frame batch tables after =
 
 -- ---- what is in the format is accepted
 
-when_whole : (signal : Signal) (outcomes : List Outcome) (frame : Frame) (o : Outcome) → is_broken outcomes ≡ false → Gives signal (payloads_after outcomes) frame o
-    → OutcomeAfter signal outcomes frame o
-when_whole signal outcomes frame o whole gives =
-    subst (λ (b : Bool). MatchBool b (StaysBroken frame o) (Gives signal (payloads_after outcomes) frame o)) (sym whole) gives
-
 accepted_message : (m : Meaning) (outcomes : List Outcome) (bytes : List ℕ) → AreTaken m.signal (payloads_after outcomes) → is_broken outcomes ≡ false
     → ((cause : Cause) (payload : Option ℤ) → HasDefect m (payloads_after outcomes) (Message bytes) cause payload → ⊥)
     → (batch : BatchContent) × (tables : List Table) × ReceivedAfter m outcomes (Message bytes) (Accepted batch tables)
@@ -143,7 +137,7 @@ accepted_message m outcomes bytes taken whole fine = by_judgement (are_judged m.
     past = payloads_after outcomes
 
     batch : BatchContent
-    batch = batch_in bytes
+    batch = batch_content bytes
 
     reads : ReadsBatch bytes batch
     reads = read_or_refused bytes (λ refusal bad. fine (unread_cause refusal) None (HasDefect.unreadable bytes refusal bad))
@@ -154,7 +148,7 @@ accepted_message m outcomes bytes taken whole fine = by_judgement (are_judged m.
     by_judgement : AreJudged m.signal past batch.payloads → (batch : BatchContent) × (tables : List Table) × ReceivedAfter m outcomes (Message bytes) (Accepted batch tables)
     by_judgement (inr bad) = absurd (fine bad.0 bad.1 (HasDefect.early bytes batch bad.0 bad.1 reads bad.2))
     by_judgement (inl accepts) =
-        let clean : AreClean m tables = λ kind why stands. fine (Row why) (Some (type_of kind)) (HasDefect.late bytes batch (Row why) (Some (type_of kind)) reads accepts (kind, refl, stands)) in
+        let clean : AreClean m tables = λ kind why stands. fine (Row why) (Some (payload_type_of kind)) (HasDefect.late bytes batch (Row why) (Some (payload_type_of kind)) reads accepts (kind, refl, stands)) in
         elim (cases_lt weight_limit (weight_of (m.request tables))) [
           | inl heavy ↦ absurd (fine TreeTooHeavy None (HasDefect.late bytes batch TreeTooHeavy None reads accepts (refl, clean, heavy)))
           | inr light ↦ (
@@ -162,7 +156,7 @@ accepted_message m outcomes bytes taken whole fine = by_judgement (are_judged m.
             tables,
             record {
               seen = Accepted batch tables;
-              gives = when_whole m.signal outcomes (Message bytes) (Accepted batch tables) whole (Gives.accepts bytes batch reads accepts);
+              gives = when_whole m.signal outcomes (Message bytes) (Accepted batch tables) whole (GivesOutcome.accepts bytes batch reads accepts);
               settles = Settles.accepted batch tables (record { clean = clean; light = light });
             },
           )
@@ -180,18 +174,18 @@ accepted m frames outcomes frame each whole format =
 abbrev Named : Meaning → List PayloadIn → Frame → Refusal → Type 0
 Named m past frame refusal = HasDefect m past frame refusal.cause refusal.payload × (refusal.stage ≡ stage_of refusal.cause)
 
-named_early : (m : Meaning) (past : List PayloadIn) (frame : Frame) (o : Outcome) (refusal : Refusal) → o ≡ Refused refusal → Gives m.signal past frame o → Named m past frame refusal
-named_early m past frame o refusal is Gives.compressed =
+named_early : (m : Meaning) (past : List PayloadIn) (frame : Frame) (o : Outcome) (refusal : Refusal) → o ≡ Refused refusal → GivesOutcome m.signal past frame o → Named m past frame refusal
+named_early m past frame o refusal is GivesOutcome.compressed =
     let same : refusal_of None Compressed None ≡ refusal = cc is in
     subst (Named m past frame) same (HasDefect.compressed, refl)
-named_early m past frame o refusal is (Gives.unreadable bytes why bad) =
+named_early m past frame o refusal is (GivesOutcome.unreadable bytes why bad) =
     let same : refusal_of None (unread_cause why) None ≡ refusal = cc is in
     subst (Named m past frame) same (HasDefect.unreadable bytes why bad, refl)
-named_early m past frame o refusal is (Gives.refuses bytes batch cause payload reads bad) =
+named_early m past frame o refusal is (GivesOutcome.refuses bytes batch cause payload reads bad) =
     let same : refusal_of (Some batch.id) cause payload ≡ refusal = cc is in
     subst (Named m past frame) same (HasDefect.early bytes batch cause payload reads bad, refl)
-named_early m past frame o refusal is (Gives.accepts bytes batch reads accepts) = absurd (cc is)
-named_early m past frame o refusal is Gives.resets = absurd (cc is)
+named_early m past frame o refusal is (GivesOutcome.accepts bytes batch reads accepts) = absurd (cc is)
+named_early m past frame o refusal is GivesOutcome.resets = absurd (cc is)
 
 named_late : (m : Meaning) (past : List PayloadIn) (frame : Frame) (late : Refusal) (batch : BatchContent) (tables : List Table) (cause : Cause) (payload : Option ℤ)
     → GivesBatch m.signal past frame batch tables → StandsInRows m tables cause payload → late ≡ refusal_of (Some batch.id) cause payload → Named m past frame late
@@ -207,7 +201,7 @@ named m outcomes frame refusal after whole = by_stage (settles_refused m after.s
     by_stage : (after.seen ≡ Refused refusal) ⊎ IsLate m after.seen refusal → Named m (payloads_after outcomes) frame refusal
     by_stage (inl was) =
         named_early m (payloads_after outcomes) frame after.seen refusal was
-        (subst (λ (b : Bool). MatchBool b (StaysBroken frame after.seen) (Gives m.signal (payloads_after outcomes) frame after.seen)) whole after.gives)
+        (subst (λ (b : Bool). MatchBool b (StaysBroken frame after.seen) (GivesOutcome m.signal (payloads_after outcomes) frame after.seen)) whole after.gives)
     by_stage (inr late) =
         let given : (is_broken outcomes ≡ false) × GivesBatch m.signal (payloads_after outcomes) frame late.batch late.tables
         = accepted_batch m.signal outcomes frame late.batch late.tables (subst (OutcomeAfter m.signal outcomes frame) late.before after.gives) in
@@ -266,8 +260,8 @@ same_late m tables a b (inr x) (inr y) = x.1 ∙ sym y.1
 -- what is wrong with a message
 pub data MessageDefect (m : Meaning) (past : List PayloadIn) (bytes : List ℕ) (cause : Cause) (payload : Option ℤ) : Type 0 where
   unreadable : (refusal : BatchRefusal) → RefusesBatch bytes refusal → cause ≡ unread_cause refusal → MessageDefect m past bytes cause payload
-  early : ReadsBatch bytes (batch_in bytes) → Refuses m.signal past (batch_in bytes).payloads cause payload → MessageDefect m past bytes cause payload
-  late : ReadsBatch bytes (batch_in bytes) → Accepts m.signal past (batch_in bytes).payloads → StandsInRows m (tables_of m.signal past (batch_in bytes).payloads) cause payload
+  early : ReadsBatch bytes (batch_content bytes) → Refuses m.signal past (batch_content bytes).payloads cause payload → MessageDefect m past bytes cause payload
+  late : ReadsBatch bytes (batch_content bytes) → Accepts m.signal past (batch_content bytes).payloads → StandsInRows m (tables_of m.signal past (batch_content bytes).payloads) cause payload
       → MessageDefect m past bytes cause payload
 
 of_message : (m : Meaning) (past : List PayloadIn) (frame : Frame) (bytes : List ℕ) (cause : Cause) (payload : Option ℤ) → frame ≡ Message bytes → HasDefect m past frame cause payload
@@ -287,15 +281,15 @@ of_message m past frame bytes cause payload is (HasDefect.late other b c p reads
 
 message_stage : (m : Meaning) (past : List PayloadIn) (bytes : List ℕ) (a b : Cause) (p q : Option ℤ) → MessageDefect m past bytes a p → MessageDefect m past bytes b q → stage_of a ≡ stage_of b
 message_stage m past bytes a b p q (MessageDefect.unreadable r bad is) (MessageDefect.unreadable s bad' is') = ap stage_of is ∙ unread_first r ∙ sym (ap stage_of is' ∙ unread_first s)
-message_stage m past bytes a b p q (MessageDefect.unreadable r bad is) (MessageDefect.early reads refuses) = absurd (not_unread bytes (batch_in bytes) r reads bad)
-message_stage m past bytes a b p q (MessageDefect.unreadable r bad is) (MessageDefect.late reads accepts stands) = absurd (not_unread bytes (batch_in bytes) r reads bad)
-message_stage m past bytes a b p q (MessageDefect.early reads refuses) (MessageDefect.unreadable s bad' is') = absurd (not_unread bytes (batch_in bytes) s reads bad')
-message_stage m past bytes a b p q (MessageDefect.early reads refuses) (MessageDefect.early reads' refuses') = one_stage m.signal past (batch_in bytes).payloads a b p q refuses refuses'
-message_stage m past bytes a b p q (MessageDefect.early reads refuses) (MessageDefect.late reads' accepts stands) = absurd (not_both m.signal past (batch_in bytes).payloads a p accepts refuses)
-message_stage m past bytes a b p q (MessageDefect.late reads accepts stands) (MessageDefect.unreadable s bad' is') = absurd (not_unread bytes (batch_in bytes) s reads bad')
-message_stage m past bytes a b p q (MessageDefect.late reads accepts stands) (MessageDefect.early reads' refuses) = absurd (not_both m.signal past (batch_in bytes).payloads b q accepts refuses)
+message_stage m past bytes a b p q (MessageDefect.unreadable r bad is) (MessageDefect.early reads refuses) = absurd (not_unread bytes (batch_content bytes) r reads bad)
+message_stage m past bytes a b p q (MessageDefect.unreadable r bad is) (MessageDefect.late reads accepts stands) = absurd (not_unread bytes (batch_content bytes) r reads bad)
+message_stage m past bytes a b p q (MessageDefect.early reads refuses) (MessageDefect.unreadable s bad' is') = absurd (not_unread bytes (batch_content bytes) s reads bad')
+message_stage m past bytes a b p q (MessageDefect.early reads refuses) (MessageDefect.early reads' refuses') = one_stage m.signal past (batch_content bytes).payloads a b p q refuses refuses'
+message_stage m past bytes a b p q (MessageDefect.early reads refuses) (MessageDefect.late reads' accepts stands) = absurd (not_both m.signal past (batch_content bytes).payloads a p accepts refuses)
+message_stage m past bytes a b p q (MessageDefect.late reads accepts stands) (MessageDefect.unreadable s bad' is') = absurd (not_unread bytes (batch_content bytes) s reads bad')
+message_stage m past bytes a b p q (MessageDefect.late reads accepts stands) (MessageDefect.early reads' refuses) = absurd (not_both m.signal past (batch_content bytes).payloads b q accepts refuses)
 message_stage m past bytes a b p q (MessageDefect.late reads accepts stands) (MessageDefect.late reads' accepts' stands') =
-    let tables : List Table = tables_of m.signal past (batch_in bytes).payloads in
+    let tables : List Table = tables_of m.signal past (batch_content bytes).payloads in
     same_late m tables a b (which_late m tables a p stands) (which_late m tables b q stands')
 
 packed_cause : (m : Meaning) (past : List PayloadIn) (frame : Frame) (cause : Cause) (payload : Option ℤ) → frame ≡ Packed → HasDefect m past frame cause payload → cause ≡ Compressed
@@ -340,7 +334,7 @@ when_broken m outcomes frame refusal after broken = by_stage (settles_refused m 
     by_stage : (after.seen ≡ Refused refusal) ⊎ IsLate m after.seen refusal → refusal.stage ≡ 0
     by_stage (inl was) =
         stays_zero frame after.seen refusal was
-        (subst (λ (b : Bool). MatchBool b (StaysBroken frame after.seen) (Gives m.signal (payloads_after outcomes) frame after.seen)) broken after.gives)
+        (subst (λ (b : Bool). MatchBool b (StaysBroken frame after.seen) (GivesOutcome m.signal (payloads_after outcomes) frame after.seen)) broken after.gives)
     by_stage (inr l) =
         absurd (both_ways (is_broken outcomes)
         (accepted_batch m.signal outcomes frame l.batch l.tables (subst (OutcomeAfter m.signal outcomes frame) l.before after.gives)).0 broken)

@@ -6,11 +6,11 @@ use Rattle.otlp_model.specs.declared.request.Signal.{Signal}
 use Rattle.otlp_model.specs.declared.request.Signal.TheVariants.{Traces, Logs, Metrics}
 use Rattle.otap_cells.specs.declared.payload.Kind.{Kind}
 use Rattle.otap_cells.specs.Payload.{kinds_of, kind_numbered}
-use Rattle.otap_consume.specs.Payloads.{type_of}
+use Rattle.otap_consume.specs.Payloads.{payload_type_of}
 use Rattle.otap_consume.proofs.Lists.{Finds, finds}
 
 -- the kind at each place is found by its number
-pub numbered : (signal : Signal) (k : ℕ) (d : Kind) → k < length (kinds_of signal) → kind_numbered signal (type_of (get_or (kinds_of signal) k d)) ≡ Some (get_or (kinds_of signal) k d)
+pub numbered : (signal : Signal) (k : ℕ) (d : Kind) → k < length (kinds_of signal) → kind_numbered signal (payload_type_of (get_or (kinds_of signal) k d)) ≡ Some (get_or (kinds_of signal) k d)
 numbered Logs zero d h = refl
 numbered Logs (suc zero) d h = refl
 numbered Logs (suc (suc zero)) d h = refl
@@ -48,14 +48,14 @@ pub record HasNumber (signal : Signal) (number : ℤ) (kind : Kind) : Type 0 whe
   pub at : ℕ
   pub inside : at < length (kinds_of signal)
   pub is : (d : Kind) → get_or (kinds_of signal) at d ≡ kind
-  pub same : int_eq number (type_of kind) ≡ true
+  pub same : int_eq number (payload_type_of kind) ≡ true
 
 pub has_number : (signal : Signal) (number : ℤ) (kind : Kind) → kind_numbered signal number ≡ Some kind → HasNumber signal number kind
 has_number signal number kind found =
-    let there : Finds (λ k. int_eq (type_of k) number) (kinds_of signal) kind = finds (λ k. int_eq (type_of k) number) (kinds_of signal) kind found in
+    let there : Finds (λ k. int_eq (payload_type_of k) number) (kinds_of signal) kind = finds (λ k. int_eq (payload_type_of k) number) (kinds_of signal) kind found in
     record {
       at = there.at;
       inside = there.inside;
       is = there.is;
-      same = (Decides-int_eq number (type_of kind)).1 (sym ((Decides-int_eq (type_of kind) number).0 there.passes));
+      same = (Decides-int_eq number (payload_type_of kind)).1 (sym ((Decides-int_eq (payload_type_of kind) number).0 there.passes));
     }

@@ -3,7 +3,7 @@ use Rattle.std.proofs.Common.{◌≡◌, inl, inr, ℕ, ◌+◌, ◌<◌, ◌≤
 use Rattle.std.specs.Prelude.{find, map, sum_by, slice_set}
 use Rattle.std.specs.List.{AllByRecursion, AllZip}
 use Rattle.std.proofs.lemmas.Bool.{cases_Bool, cases_eq}
-use Rattle.std.proofs.lemmas.List.{get_or-set_same, get_or-set_other}
+use Rattle.std.proofs.lemmas.List.{get_or-set_same, get_or-set_other, get_or_default}
 use Rattle.std.proofs.lemmas.List.Sums.{sum_by-cons}
 
 -- what is found stands somewhere, and passes the test
@@ -65,26 +65,6 @@ sum_same f g [] same = refl
 sum_same f g (x ∷ xs) same =
     sum_by-cons f x xs ∙ omega (arith, same 0 x (omega arith), sum_same f g xs (λ k d within. same (suc k) d (omega arith)), sum_by-cons g x xs)
 
--- two lists that agree at each place are one
-pub same_by_place : {A : Type 0} (xs ys : List A) → length xs ≡ length ys → ((k : ℕ) (d : A) → k < length xs → get_or xs k d ≡ get_or ys k d) → xs ≡ ys
-same_by_place [] [] long same = refl
-same_by_place [] (y ∷ ys) long same = absurd (omega arith)
-same_by_place (x ∷ xs) [] long same = absurd (omega arith)
-same_by_place (x ∷ xs) (y ∷ ys) long same =
-    let here : x ≡ y = same 0 x (omega arith) in
-    let later : xs ≡ ys = same_by_place xs ys (omega arith) (λ k d within. same (suc k) d (omega arith)) in
-    λ i. here i ∷ later i
-
--- whatever stands after the end of a list
-pub same_default : {A : Type 0} (xs : List A) (k : ℕ) (d e : A) → k < length xs → get_or xs k d ≡ get_or xs k e
-same_default [] k d e inside = absurd (omega arith)
-same_default (x ∷ xs) zero d e inside = refl
-same_default (x ∷ xs) (suc k) d e inside = same_default xs k d e (omega arith)
-
-pub map_twice : {A B C : Type 0} (f : B → C) (g : A → B) (xs : List A) → map f (map g xs) ≡ map (λ x. f (g x)) xs
-map_twice f g [] = refl
-map_twice f g (x ∷ xs) = λ i. f (g x) ∷ map_twice f g xs i
-
 pub all_push : {X : Type 0} (P : X → Type 0) (xs : List X) (x : X) → AllByRecursion P xs → P x → AllByRecursion P (xs ++ x ∷ [])
 all_push P [] x all here = (here, tt)
 all_push P (y ∷ xs) x all here = (all.0, all_push P xs x all.1 here)
@@ -104,7 +84,7 @@ up_to_more {A} R old xs place e new long inside changes to = record {
   done = λ i d below.
       elim (cases_eq i place) [
         | inl here ↦
-            let was : get_or xs place e ≡ get_or old place d = to.rest place e (omega arith) ∙ same_default old place e d (omega (arith, long)) in
+            let was : get_or xs place e ≡ get_or old place d = to.rest place e (omega arith) ∙ get_or_default old place e d (omega (arith, long)) in
             subst (λ (k : ℕ). R (get_or old k d) (get_or (slice_set xs place new) k d)) (sym here)
             (subst (λ (y : A). R (get_or old place d) y) (sym (get_or-set_same xs place new d inside)) (subst (λ (y : A). R y new) was changes))
         | inr other ↦ subst (λ (y : A). R (get_or old i d) y) (sym (get_or-set_other xs place i new d other)) (to.done i d (omega (arith, other)))

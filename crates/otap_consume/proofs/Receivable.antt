@@ -3,6 +3,8 @@ use Rattle.std.proofs.Common.{◌≡◌, ◌<◌, ◌≤◌, false, List, [], �
 use Rattle.std.specs.List.{AllByRecursion}
 use Rattle.std.proofs.lemmas.Bool.{both_ways, cases_lt}
 use Rattle.lists.specs.EachAfter.{EachAfter}
+use Rattle.lists.proofs.Every.{every_append}
+use Rattle.lists.proofs.AllBytes.{IsBytes-from_all}
 use Rattle.otlp_model.specs.Limits.{weight_limit}
 use Rattle.otlp_model.specs.Weight.{weight_of}
 use Rattle.otap_capture.specs.Batch.{BatchContent}
@@ -10,13 +12,12 @@ use Rattle.otap_capture.specs.Capture.{Frame}
 use Rattle.otap_cells.specs.Tables.{Table}
 use Rattle.otap_checks.specs.Deciding.{CleanOrWrong, HaveByteCells}
 use Rattle.otap_consume.specs.declared.refusal.Cause.TheVariants.{Row, TreeTooHeavy}
-use Rattle.otap_consume.specs.Bytes.{HasBytes}
+use Rattle.otap_consume.specs.Bytes.{IsOfBytes}
 use Rattle.otap_consume.specs.Meanings.{Meaning}
 use Rattle.otap_consume.specs.Outcomes.{Outcome, Accepted, Refused, Reset, OutcomeAfter, refused, is_broken, payloads_after}
-use Rattle.otap_consume.specs.Payloads.{type_of}
+use Rattle.otap_consume.specs.Payloads.{payload_type_of}
 use Rattle.otap_consume.specs.Receiving.{Settles, ReceivedAfter, Received}
 use Rattle.otap_consume.proofs.ByteFrames.{payloads_bytes}
-use Rattle.otap_consume.proofs.ByteLists.{bytes_of_all, each_append}
 use Rattle.otap_consume.proofs.ByteTables.{PayloadBytes, tables_bytes}
 use Rattle.otap_consume.proofs.Following.{Taken, is_read_or_refused, by_break, none_taken}
 use Rattle.otap_consume.proofs.Formats.{settles_accepted, still_taken, taken_received}
@@ -32,18 +33,18 @@ none_held : Held []
 unfolding payloads_after
 none_held whole = tt
 
-batch_held : (m : Meaning) (outcomes : List Outcome) (frame : Frame) (batch : BatchContent) (tables : List Table) → HasBytes frame → OutcomeAfter m.signal outcomes frame (Accepted batch tables)
+batch_held : (m : Meaning) (outcomes : List Outcome) (frame : Frame) (batch : BatchContent) (tables : List Table) → IsOfBytes frame → OutcomeAfter m.signal outcomes frame (Accepted batch tables)
     → AllByRecursion PayloadBytes batch.payloads
 batch_held m outcomes frame batch tables bytes after =
     let g : GivesBatch m.signal (payloads_after outcomes) frame batch tables = (accepted_batch m.signal outcomes frame batch tables after).1 in
-    payloads_bytes g.bytes batch (bytes_of_all g.bytes (subst HasBytes g.message bytes)) g.reads
+    payloads_bytes g.bytes batch (IsBytes-from_all g.bytes (subst IsOfBytes g.message bytes)) g.reads
 
-still_held : (m : Meaning) (outcomes : List Outcome) (frame : Frame) (outcome : Outcome) → Held outcomes → HasBytes frame → ReceivedAfter m outcomes frame outcome → Held (outcomes ++ outcome ∷ [])
+still_held : (m : Meaning) (outcomes : List Outcome) (frame : Frame) (outcome : Outcome) → Held outcomes → IsOfBytes frame → ReceivedAfter m outcomes frame outcome → Held (outcomes ++ outcome ∷ [])
 still_held m outcomes frame (Accepted batch tables) held bytes after = λ whole.
     let was : after.seen ≡ Accepted batch tables = (settles_accepted m after.seen (Accepted batch tables) batch tables refl after.settles).0 in
     let own : AllByRecursion PayloadBytes batch.payloads = batch_held m outcomes frame batch tables bytes (subst (OutcomeAfter m.signal outcomes frame) was after.gives) in
     let before : AllByRecursion PayloadBytes (payloads_after outcomes) = held (sym (broken_accepted outcomes batch tables) ∙ whole) in
-    subst (AllByRecursion PayloadBytes) (sym (payloads_accepted outcomes batch tables)) (each_append PayloadBytes (payloads_after outcomes) batch.payloads before own)
+    subst (AllByRecursion PayloadBytes) (sym (payloads_accepted outcomes batch tables)) (every_append PayloadBytes (payloads_after outcomes) batch.payloads before own)
 still_held m outcomes frame (Refused refusal) held bytes after = λ whole. absurd (both_ways (is_broken (outcomes ++ Refused refusal ∷ [])) whole (broken_refused outcomes refusal))
 still_held m outcomes frame Reset held bytes after = λ whole. subst (AllByRecursion PayloadBytes) (sym (payloads_reset outcomes)) tt
 
@@ -59,8 +60,8 @@ module _ (m : Meaning) (decided : (tables : List Table) → HaveByteCells tables
     where
       by_rows : CleanOrWrong (m.Stands tables) → (weight_limit < weight_of (m.request tables)) ⊎ (weight_of (m.request tables) ≤ weight_limit) → Receives m outcomes frame
       by_rows (inr (kind, why, stands)) weighed = (
-        refused (Some batch.id) (Row why) (Some (type_of kind)),
-        record { seen = Accepted batch tables; gives = gives; settles = Settles.refuses batch tables (Row why) (Some (type_of kind)) (kind, refl, stands) },
+        refused (Some batch.id) (Row why) (Some (payload_type_of kind)),
+        record { seen = Accepted batch tables; gives = gives; settles = Settles.refuses batch tables (Row why) (Some (payload_type_of kind)) (kind, refl, stands) },
       )
       by_rows (inl clean) (inl heavy) = (
         refused (Some batch.id) TreeTooHeavy None,
@@ -71,7 +72,7 @@ module _ (m : Meaning) (decided : (tables : List Table) → HaveByteCells tables
         record { seen = Accepted batch tables; gives = gives; settles = Settles.accepted batch tables (record { clean = clean; light = light }) },
       )
 
-  of_seen : (outcomes : List Outcome) (frame : Frame) (seen : Outcome) → OutcomeAfter m.signal outcomes frame seen → Held outcomes → HasBytes frame → Receives m outcomes frame
+  of_seen : (outcomes : List Outcome) (frame : Frame) (seen : Outcome) → OutcomeAfter m.signal outcomes frame seen → Held outcomes → IsOfBytes frame → Receives m outcomes frame
   of_seen outcomes frame (Refused refusal) gives held bytes = (Refused refusal, record { seen = Refused refusal; gives = gives; settles = Settles.stays_refused refusal })
   of_seen outcomes frame Reset gives held bytes = (Reset, record { seen = Reset; gives = gives; settles = Settles.resets })
   of_seen outcomes frame (Accepted batch tables) gives held bytes =
@@ -79,14 +80,14 @@ module _ (m : Meaning) (decided : (tables : List Table) → HaveByteCells tables
       of_batch outcomes frame batch tables gives (subst HaveByteCells (sym given.1.are)
       (tables_bytes m.signal (payloads_after outcomes) batch.payloads (held given.0) (batch_held m outcomes frame batch tables bytes gives)))
 
-  next : (outcomes : List Outcome) (frame : Frame) → Taken m.signal outcomes → Held outcomes → HasBytes frame → Receives m outcomes frame
+  next : (outcomes : List Outcome) (frame : Frame) → Taken m.signal outcomes → Held outcomes → IsOfBytes frame → Receives m outcomes frame
   next outcomes frame taken held bytes =
       let seen : (outcome : Outcome) × OutcomeAfter m.signal outcomes frame outcome = by_break m.signal outcomes frame (is_broken outcomes) refl taken (is_read_or_refused frame) in
       of_seen outcomes frame seen.0 seen.1 held bytes
 
   -- ---- all frames
 
-  held_after : (past : List Frame) (before : List Outcome) (frames : List Frame) (outcomes : List Outcome) → Held before → AllByRecursion HasBytes frames
+  held_after : (past : List Frame) (before : List Outcome) (frames : List Frame) (outcomes : List Outcome) → Held before → AllByRecursion IsOfBytes frames
       → EachAfter (λ past before frame outcome. ReceivedAfter m before frame outcome) past before frames outcomes → Held (before ++ outcomes)
   held_after past before [] [] held bytes each = subst Held (sym (append-nil before)) held
   held_after past before [] (o ∷ outcomes) held bytes each = absurd each
@@ -95,11 +96,11 @@ module _ (m : Meaning) (decided : (tables : List Table) → HaveByteCells tables
       subst Held (append_assoc before (o ∷ []) outcomes)
       (held_after (past ++ f ∷ []) (before ++ o ∷ []) frames outcomes (still_held m before f o held bytes.0 each.0) bytes.1 each.1)
 
-  pub some_received : (frames : List Frame) (outcomes : List Outcome) (frame : Frame) → AllByRecursion HasBytes frames → HasBytes frame → Received m frames outcomes → Receives m outcomes frame
+  pub some_received : (frames : List Frame) (outcomes : List Outcome) (frame : Frame) → AllByRecursion IsOfBytes frames → IsOfBytes frame → Received m frames outcomes → Receives m outcomes frame
   some_received frames outcomes frame before bytes received =
       next outcomes frame (taken_received m frames outcomes received) (held_after [] [] frames outcomes none_held before received) bytes
 
-  each_from : (past : List Frame) (before : List Outcome) (frames : List Frame) → Taken m.signal before → Held before → AllByRecursion HasBytes frames
+  each_from : (past : List Frame) (before : List Outcome) (frames : List Frame) → Taken m.signal before → Held before → AllByRecursion IsOfBytes frames
       → (outcomes : List Outcome) × EachAfter (λ past before frame outcome. ReceivedAfter m before frame outcome) past before frames outcomes
   each_from past before [] taken held bytes = ([], tt)
   each_from past before (f ∷ frames) taken held bytes =
@@ -107,5 +108,5 @@ module _ (m : Meaning) (decided : (tables : List Table) → HaveByteCells tables
       let rest = each_from (past ++ f ∷ []) (before ++ one.0 ∷ []) frames (still_taken m before f one.0 taken one.1) (still_held m before f one.0 held bytes.0 one.1) bytes.1 in
       (one.0 ∷ rest.0, (one.1, rest.1))
 
-  pub all_received : (frames : List Frame) → AllByRecursion HasBytes frames → (outcomes : List Outcome) × Received m frames outcomes
+  pub all_received : (frames : List Frame) → AllByRecursion IsOfBytes frames → (outcomes : List Outcome) × Received m frames outcomes
   all_received frames bytes = each_from [] [] frames (none_taken m.signal) none_held bytes

@@ -3,7 +3,7 @@ use Rattle.std.proofs.Common.{◌≡◌, ◌⊎◌, inl, inr, ℕ, ◌<◌, true
 use Rattle.std.specs.Prelude.{slice_set, zero, suc}
 use Rattle.std.specs.Ordering.{int_eq}
 use Rattle.std.proofs.lemmas.Bool.{cases_Bool}
-use Rattle.std.proofs.lemmas.List.{get_or-map, length-map}
+use Rattle.std.proofs.lemmas.List.{get_or-map, length-map, same_lists}
 use Rattle.otlp_model.specs.declared.request.Signal.{Signal}
 use Rattle.otap_cells.specs.declared.payload.Kind.{Kind}
 use Rattle.otap_cells.specs.declared.payload.Kind.TheVariants.{Logs}
@@ -15,16 +15,15 @@ use Rattle.otap_consume.specs.declared.refusal.Cause.TheVariants.{Column}
 use Rattle.otap_consume.specs.declared.not_taken.NotTaken.{NotTaken}
 use Rattle.otap_consume.specs.declared.not_taken.NotTaken.TheVariants.{Defect}
 use Rattle.otap_consume.specs.Defects.{IsReadAfter, StandsInRecord}
-use Rattle.otap_consume.specs.Payloads.{type_of, messages_before}
+use Rattle.otap_consume.specs.Payloads.{payload_type_of, messages_before}
 use Rattle.otap_consume.specs.Records.{EachTakes, OneRefuses, TakesAll}
-use Rattle.otap_consume.specs.Stops.{Stops, StopOf, IsOfRecord}
+use Rattle.otap_consume.specs.Stops.{SaysDefect, StopOf, IsOfRecord}
 use Rattle.otap_consume.specs.Streams.{StreamIn, AreAfter, IsAfter, kinds_in, ShowsLast, ShowsAfter}
 use Rattle.otap_consume.specs.StreamSteps.{Takes, RefusesFor, closed}
 use Rattle.otap_consume.proofs.IdSteps.{kind_at, count_of}
 use Rattle.otap_consume.proofs.KindNumbers.{HasNumber, has_number, numbered, same_kind_number}
 use Rattle.lists.proofs.Growing.{all_after-push}
 use Rattle.lists.specs.Payloads.{PayloadIn}
-use Rattle.otap_consume.proofs.Lists.{same_by_place}
 use Rattle.otap_consume.proofs.Substreams.{last_of-other, last_of-own}
 
 -- nothing is taken yet
@@ -38,16 +37,16 @@ takes_none streams = record {
 
 -- what is shown after one more payload
 shown : (done : List PayloadIn) (p : PayloadIn) (old new : StreamIn) → ShowsAfter done old → Takes old p new → ShowsAfter (done ++ p ∷ []) new
-shown done p old new before takes = go (cases_Bool (int_eq p.kind (type_of old.kind)))
+shown done p old new before takes = go (cases_Bool (int_eq p.kind (payload_type_of old.kind)))
   where
-    go : (int_eq p.kind (type_of old.kind) ≡ true) ⊎ (int_eq p.kind (type_of old.kind) ≡ false) → ShowsAfter (done ++ p ∷ []) new
+    go : (int_eq p.kind (payload_type_of old.kind) ≡ true) ⊎ (int_eq p.kind (payload_type_of old.kind) ≡ false) → ShowsAfter (done ++ p ∷ []) new
     go (inl own) =
         subst (λ (last : Option PayloadIn). ShowsLast last new.current)
-        (sym (last_of-own (type_of new.kind) done p (subst (λ (kind : Kind). int_eq p.kind (type_of kind) ≡ true) (sym takes.kind) own))) (takes.shows own)
+        (sym (last_of-own (payload_type_of new.kind) done p (subst (λ (kind : Kind). int_eq p.kind (payload_type_of kind) ≡ true) (sym takes.kind) own))) (takes.shows own)
     go (inr other) =
         let same : new ≡ old = takes.other other in
         subst (λ (s : StreamIn). ShowsAfter (done ++ p ∷ []) s) (sym same)
-        (subst (λ (last : Option PayloadIn). ShowsLast last old.current) (sym (last_of-other (type_of old.kind) done p other)) before)
+        (subst (λ (last : Option PayloadIn). ShowsLast last old.current) (sym (last_of-other (payload_type_of old.kind) done p other)) before)
 
 pub takes_more : (old mid new : List StreamIn) (done : List PayloadIn) (p : PayloadIn) → TakesAll old done mid → EachTakes mid p new → kinds_in new ≡ kinds_in mid
     → TakesAll old (done ++ p ∷ []) new
@@ -74,7 +73,7 @@ takes_more old mid new done p before takes kinds = record {
         let same' : kinds_in mid ≡ kinds_of signal = before.kinds ∙ same in
         let inside : number.at < length mid = omega (arith, count_of signal mid same', number.inside) in
         let is : (get_or mid number.at d).kind ≡ kind = sym (kind_at signal mid number.at d kind same' inside) ∙ number.is kind in
-        let own : int_eq p.kind (type_of (get_or mid number.at d).kind) ≡ true = subst (λ (k : Kind). int_eq p.kind (type_of k) ≡ true) (sym is) number.same in
+        let own : int_eq p.kind (payload_type_of (get_or mid number.at d).kind) ≡ true = subst (λ (k : Kind). int_eq p.kind (payload_type_of k) ≡ true) (sym is) number.same in
         subst (λ (k : Kind). IsRead k (messages_before (past ++ done) p) p.bytes) is
         ((takes.each number.at d inside).reads (past ++ done) (before.after past are number.at d inside) own)
 
@@ -83,17 +82,17 @@ takes_more old mid new done p before takes kinds = record {
 -- the defect that a stream found in the payload after those that were taken
 defect_at : (signal : Signal) (past done rest payloads : List PayloadIn) (p : PayloadIn) (why : ColumnRefusal) (mid : List StreamIn) (i : ℕ) (d : StreamIn)
     → payloads ≡ done ++ p ∷ rest → kinds_in mid ≡ kinds_of signal → i < length mid
-    → (int_eq p.kind (type_of (get_or mid i d).kind) ≡ true) × Stands (get_or mid i d).kind (messages_before (past ++ done) p) p.bytes why
+    → (int_eq p.kind (payload_type_of (get_or mid i d).kind) ≡ true) × Stands (get_or mid i d).kind (messages_before (past ++ done) p) p.bytes why
     → StandsInRecord signal past payloads why (Some p.kind)
 defect_at signal past done rest payloads p why mid i d whole same inside stands =
     let is : get_or (kinds_of signal) i d.kind ≡ (get_or mid i d).kind = kind_at signal mid i d d.kind same inside in
-    let known : kind_numbered signal (type_of (get_or mid i d).kind) ≡ Some (get_or mid i d).kind
-    = subst (λ (k : Kind). kind_numbered signal (type_of k) ≡ Some k) is (numbered signal i d.kind (omega (arith, count_of signal mid same))) in
+    let known : kind_numbered signal (payload_type_of (get_or mid i d).kind) ≡ Some (get_or mid i d).kind
+    = subst (λ (k : Kind). kind_numbered signal (payload_type_of k) ≡ Some k) is (numbered signal i d.kind (omega (arith, count_of signal mid same))) in
     record {
       p = p;
       has = record { before = done; after = rest; is = whole };
       kind = (get_or mid i d).kind;
-      known = rw (same_kind_number p.kind (type_of (get_or mid i d).kind) stands.0) known;
+      known = rw (same_kind_number p.kind (payload_type_of (get_or mid i d).kind) stands.0) known;
       stands = stands.1;
       named = refl;
     }
@@ -104,19 +103,19 @@ a_stream = record { kind = Logs; current = None }
 -- where a stream refuses the record of a payload, a defect stands in it, or memory ran out
 pub stops_at : (old mid : List StreamIn) (done rest payloads : List PayloadIn) (p : PayloadIn) (why : ColumnRefusal) (stop : NotTaken)
     → TakesAll old done mid → payloads ≡ done ++ p ∷ rest → OneRefuses mid p why → StopOf why p.kind stop
-    → (signal : Signal) (past : List PayloadIn) → kinds_in old ≡ kinds_of signal → AreAfter past old → Stops (IsOfRecord signal past payloads) stop
+    → (signal : Signal) (past : List PayloadIn) → kinds_in old ≡ kinds_of signal → AreAfter past old → SaysDefect (IsOfRecord signal past payloads) stop
 stops_at old mid done rest payloads p why stop before whole refuses of signal past same are =
     go why of (refuses.refuses a_stream (past ++ done) (before.after past are refuses.i a_stream refuses.inside))
   where
     here : (why : ColumnRefusal)
-        → (int_eq p.kind (type_of (get_or mid refuses.i a_stream).kind) ≡ true) × Stands (get_or mid refuses.i a_stream).kind (messages_before (past ++ done) p) p.bytes why
-        → stop ≡ Defect (Column why) (Some p.kind) → Stops (IsOfRecord signal past payloads) stop
+        → (int_eq p.kind (payload_type_of (get_or mid refuses.i a_stream).kind) ≡ true) × Stands (get_or mid refuses.i a_stream).kind (messages_before (past ++ done) p) p.bytes why
+        → stop ≡ Defect (Column why) (Some p.kind) → SaysDefect (IsOfRecord signal past payloads) stop
     here why stands is =
-        subst (Stops (IsOfRecord signal past payloads)) (sym is)
+        subst (SaysDefect (IsOfRecord signal past payloads)) (sym is)
         (defect_at signal past done rest payloads p why mid refuses.i a_stream whole (before.kinds ∙ same) refuses.inside stands)
 
-    go : (why : ColumnRefusal) → StopOf why p.kind stop → RefusesFor (past ++ done) (get_or mid refuses.i a_stream).kind p why → Stops (IsOfRecord signal past payloads) stop
-    go (refusal.Memory e) is stands = subst (Stops (IsOfRecord signal past payloads)) (sym is) tt
+    go : (why : ColumnRefusal) → StopOf why p.kind stop → RefusesFor (past ++ done) (get_or mid refuses.i a_stream).kind p why → SaysDefect (IsOfRecord signal past payloads) stop
+    go (refusal.Memory e) is stands = subst (SaysDefect (IsOfRecord signal past payloads)) (sym is) tt
     go refusal.Order is stands = here refusal.Order stands is
     go (refusal.Ipc fault) is stands = here (refusal.Ipc fault) stands is
     go refusal.Column is stands = here refusal.Column stands is
@@ -138,7 +137,7 @@ closed_after s = record { current = tt }
 
 pub closed_all : (old new : List StreamIn) → length new ≡ length old → ((i : ℕ) (d : StreamIn) → i < length old → get_or new i d ≡ closed (get_or old i d)) → new ≡ map closed old
 closed_all old new long same =
-    same_by_place new (map closed old) (long ∙ sym (length-map old closed))
+    same_lists new (map closed old) (long ∙ sym (length-map old closed))
     (λ k d inside. same k d (omega (arith, long)) ∙ sym (get_or-map closed old k d d (omega (arith, long))))
 
 pub closed_new : (old new : List StreamIn) → new ≡ map closed old → AreAfter [] new

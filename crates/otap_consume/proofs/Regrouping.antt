@@ -19,13 +19,13 @@ use Rattle.otap_consume.specs.declared.taken.Taken.{Taken}
 use Rattle.otap_consume.specs.declared.taken.Taken.TheVariants as taken
 use Rattle.otap_consume.specs.Defects.{Accepts, tables_of}
 use Rattle.otap_consume.specs.Meanings.{Meaning, StandsInRows}
-use Rattle.otap_consume.specs.Outcomes.{Outcome, Accepted, Refused, Reset, Gives, StaysBroken, OutcomeAfter, refused, refusal_of, is_broken, payloads_after}
+use Rattle.otap_consume.specs.Outcomes.{Outcome, Accepted, Refused, Reset, GivesOutcome, StaysBroken, OutcomeAfter, refused, refusal_of, is_broken, payloads_after}
 use Rattle.otap_consume.specs.ReceiverInside.{AreLast, OfLast, KeepsBatch, TakesRows, RefusesBy}
 use Rattle.otap_consume.specs.Regroups.{IsRegrouped, IsLight}
 use Rattle.otap_consume.specs.Receivers.{HasReceived, Receives}
 use Rattle.otap_consume.specs.Receiving.{Settles}
 use Rattle.otap_consume.specs.Segments.{SegmentIn, StandsFor, Tells, HasNext, Next}
-use Rattle.otap_consume.specs.Stops.{Stops}
+use Rattle.otap_consume.specs.Stops.{SaysDefect}
 use Rattle.otap_consume.proofs.SegmentSteps.{stands_broken}
 
 -- ---- the rows of a batch
@@ -37,7 +37,7 @@ kept_rows m frame id told rows seg old kept returned view same_id is light last 
     (same_id, refl, record { same = refl; light = light; of_last = subst (λ (s : SegmentIn). OfLast frame s (λ tables. IsRegrouped m tables kept)) view last })
 
 pub refused_rows : {E : Type 0} (r : Result Taken E) (m : Meaning) (frame : Frame) (id told : ℤ) (rows : ℕ) (seg old new : SegmentIn) (stop : NotTaken) → seg ≡ old → told ≡ id
-    → IfOk r (RefusesBy told stop) → new ≡ record seg { broken = true } → OfLast frame seg (λ tables. Stops (StandsInRows m tables) stop) → IfOk r (TakesRows m frame id rows old new)
+    → IfOk r (RefusesBy told stop) → new ≡ record seg { broken = true } → OfLast frame seg (λ tables. SaysDefect (StandsInRows m tables) stop) → IfOk r (TakesRows m frame id rows old new)
 refused_rows (Err e) m frame id told rows seg old new stop view same_id refuses broken last = tt
 refused_rows (Ok returned) m frame id told rows seg old new (Memory e) view same_id refuses broken last = absurd refuses
 refused_rows (Ok returned) m frame id told rows seg old new (Defect cause payload) view same_id refuses broken last =
@@ -67,12 +67,12 @@ not_broken frame o batch tables is (StaysBroken.unreadable bytes refusal stands)
 not_broken frame o batch tables is (StaysBroken.readable bytes other reads) = cc is
 not_broken frame o batch tables is StaysBroken.resets = cc is
 
-batch_given : (signal : Signal) (past : List PayloadIn) (frame : Frame) (o : Outcome) (batch : BatchContent) (tables : List Table) → o ≡ Accepted batch tables → Gives signal past frame o
+batch_given : (signal : Signal) (past : List PayloadIn) (frame : Frame) (o : Outcome) (batch : BatchContent) (tables : List Table) → o ≡ Accepted batch tables → GivesOutcome signal past frame o
     → GivesBatch signal past frame batch tables
-batch_given signal past frame o batch tables is Gives.compressed = absurd (cc is)
-batch_given signal past frame o batch tables is (Gives.unreadable bytes refusal stands) = absurd (cc is)
-batch_given signal past frame o batch tables is (Gives.refuses bytes other cause payload reads refuses) = absurd (cc is)
-batch_given signal past frame o batch tables is (Gives.accepts bytes other reads accepts) =
+batch_given signal past frame o batch tables is GivesOutcome.compressed = absurd (cc is)
+batch_given signal past frame o batch tables is (GivesOutcome.unreadable bytes refusal stands) = absurd (cc is)
+batch_given signal past frame o batch tables is (GivesOutcome.refuses bytes other cause payload reads refuses) = absurd (cc is)
+batch_given signal past frame o batch tables is (GivesOutcome.accepts bytes other reads accepts) =
     let one : other ≡ batch = cc is in
     record {
       bytes = bytes;
@@ -81,7 +81,7 @@ batch_given signal past frame o batch tables is (Gives.accepts bytes other reads
       accepts = subst (λ (b : BatchContent). Accepts signal past b.payloads) one accepts;
       are = sym (cc is) ∙ ap (λ (b : BatchContent). tables_of signal past b.payloads) one;
     }
-batch_given signal past frame o batch tables is Gives.resets = absurd (cc is)
+batch_given signal past frame o batch tables is GivesOutcome.resets = absurd (cc is)
 
 -- so no frame of the segment was refused before it
 pub accepted_batch : (signal : Signal) (outcomes : List Outcome) (frame : Frame) (batch : BatchContent) (tables : List Table) → OutcomeAfter signal outcomes frame (Accepted batch tables)
@@ -89,7 +89,7 @@ pub accepted_batch : (signal : Signal) (outcomes : List Outcome) (frame : Frame)
 accepted_batch signal outcomes frame batch tables after = go (is_broken outcomes) refl after
   where
     go : (b : Bool) → is_broken outcomes ≡ b
-        → MatchBool b (StaysBroken frame (Accepted batch tables)) (Gives signal (payloads_after outcomes) frame (Accepted batch tables))
+        → MatchBool b (StaysBroken frame (Accepted batch tables)) (GivesOutcome signal (payloads_after outcomes) frame (Accepted batch tables))
         → (is_broken outcomes ≡ false) × GivesBatch signal (payloads_after outcomes) frame batch tables
     go true is stays = absurd (not_broken frame (Accepted batch tables) batch tables refl stays)
     go false is gives = (is, batch_given signal (payloads_after outcomes) frame (Accepted batch tables) batch tables refl gives)

@@ -22,9 +22,10 @@ use Rattle.otap_consume.specs.declared.seen.Seen.TheVariants as seen
 use Rattle.otap_consume.specs.declared.not_taken.NotTaken.{NotTaken}
 use Rattle.otap_consume.specs.declared.not_taken.NotTaken.TheVariants.{Defect, Memory}
 use Rattle.otap_consume.specs.Defects.{Refuses, tables_of}
-use Rattle.otap_consume.specs.Outcomes.{Outcome, Accepted, Refused, Reset, Gives, StaysBroken, OutcomeAfter, is_reset, is_refused, payloads_if, segment, is_broken, payloads_after, refused, refusal_of, unread_cause}
+use Rattle.otap_consume.specs.Outcomes.{Outcome, Accepted, Refused, Reset, GivesOutcome, StaysBroken, OutcomeAfter, is_reset, is_refused, payloads_if, segment, is_broken, payloads_after, refused, refusal_of}
+use Rattle.otap_consume.specs.Outcomes.{unread_cause}
 use Rattle.otap_consume.specs.Segments.{SegmentIn, StandsFor, HasNext, Next, IsNew}
-use Rattle.otap_consume.specs.Stops.{Stops}
+use Rattle.otap_consume.specs.Stops.{SaysDefect}
 use Rattle.otap_consume.specs.Streams.{StreamIn, AreAfter}
 use Rattle.otap_consume.specs.Taking.{AcceptsAfter, IsStopped, NextBatch}
 
@@ -87,18 +88,18 @@ stands_first signal s new = record { same = new.same; broken = new.whole; stream
 
 when_broken : (signal : Signal) (outcomes : List Outcome) (frame : Frame) (o : Outcome) → is_broken outcomes ≡ true → StaysBroken frame o → OutcomeAfter signal outcomes frame o
 when_broken signal outcomes frame o broken stays =
-    subst (λ (b : Bool). MatchBool b (StaysBroken frame o) (Gives signal (payloads_after outcomes) frame o)) (sym broken) stays
+    subst (λ (b : Bool). MatchBool b (StaysBroken frame o) (GivesOutcome signal (payloads_after outcomes) frame o)) (sym broken) stays
 
-when_whole : (signal : Signal) (outcomes : List Outcome) (frame : Frame) (o : Outcome) → is_broken outcomes ≡ false → Gives signal (payloads_after outcomes) frame o
+pub when_whole : (signal : Signal) (outcomes : List Outcome) (frame : Frame) (o : Outcome) → is_broken outcomes ≡ false → GivesOutcome signal (payloads_after outcomes) frame o
     → OutcomeAfter signal outcomes frame o
 when_whole signal outcomes frame o whole gives =
-    subst (λ (b : Bool). MatchBool b (StaysBroken frame o) (Gives signal (payloads_after outcomes) frame o)) (sym whole) gives
+    subst (λ (b : Bool). MatchBool b (StaysBroken frame o) (GivesOutcome signal (payloads_after outcomes) frame o)) (sym whole) gives
 
-either : (signal : Signal) (outcomes : List Outcome) (frame : Frame) (o : Outcome) → StaysBroken frame o → Gives signal (payloads_after outcomes) frame o
+either : (signal : Signal) (outcomes : List Outcome) (frame : Frame) (o : Outcome) → StaysBroken frame o → GivesOutcome signal (payloads_after outcomes) frame o
     → OutcomeAfter signal outcomes frame o
 either signal outcomes frame o stays gives = go (is_broken outcomes)
   where
-    go : (b : Bool) → MatchBool b (StaysBroken frame o) (Gives signal (payloads_after outcomes) frame o)
+    go : (b : Bool) → MatchBool b (StaysBroken frame o) (GivesOutcome signal (payloads_after outcomes) frame o)
     go true = stays
     go false = gives
 
@@ -108,7 +109,7 @@ pub next_reset : (old new : SegmentIn) → IsNew old.signal new → Next old cap
 next_reset old new is = record {
   at = λ signal outcomes stands. record {
     outcome = Reset;
-    gives = either signal outcomes capture.Reset Reset StaysBroken.resets Gives.resets;
+    gives = either signal outcomes capture.Reset Reset StaysBroken.resets GivesOutcome.resets;
     tells = tt;
     stands = stands_new signal outcomes new (subst (λ (s : Signal). IsNew s new) stands.same is);
   };
@@ -117,7 +118,7 @@ next_reset old new is = record {
 -- ---- frames whose message can't be read
 
 unread : (frame : Frame) (cause : Cause) (old new : SegmentIn) → new ≡ record old { broken = true } → StaysBroken frame (refused None Broken None)
-    → ((signal : Signal) (past : List PayloadIn) → Gives signal past frame (refused None cause None))
+    → ((signal : Signal) (past : List PayloadIn) → GivesOutcome signal past frame (refused None cause None))
     → Next old frame new (seen.Refused (refusal_of None (if old.broken then Broken else cause) None))
 unread frame cause old new is stays gives = record { at = λ signal outcomes stands. go signal outcomes stands old.broken refl }
   where
@@ -137,12 +138,12 @@ unread frame cause old new is stays gives = record { at = λ signal outcomes sta
     }
 
 pub next_packed : (old new : SegmentIn) → new ≡ record old { broken = true } → Next old Packed new (seen.Refused (refusal_of None (if old.broken then Broken else Compressed) None))
-next_packed old new is = unread Packed Compressed old new is StaysBroken.compressed (λ signal past. Gives.compressed)
+next_packed old new is = unread Packed Compressed old new is StaysBroken.compressed (λ signal past. GivesOutcome.compressed)
 
 pub next_unreadable : (bytes : List ℕ) (refusal : BatchRefusal) (old new : SegmentIn) → RefusesBatch bytes refusal → new ≡ record old { broken = true }
     → Next old (Message bytes) new (seen.Refused (refusal_of None (if old.broken then Broken else unread_cause refusal) None))
 next_unreadable bytes refusal old new stands is =
-    unread (Message bytes) (unread_cause refusal) old new is (StaysBroken.unreadable bytes refusal stands) (λ signal past. Gives.unreadable bytes refusal stands)
+    unread (Message bytes) (unread_cause refusal) old new is (StaysBroken.unreadable bytes refusal stands) (λ signal past. GivesOutcome.unreadable bytes refusal stands)
 
 -- ---- batches
 
@@ -166,7 +167,7 @@ next_refused old new batch cause payload whole broken same refuses = record {
     at = λ signal outcomes stands. record {
       outcome = refused (Some batch.id) cause payload;
       gives = when_whole signal outcomes (Message bytes) (refused (Some batch.id) cause payload) (sym stands.broken ∙ whole)
-          (Gives.refuses bytes batch cause payload reads
+          (GivesOutcome.refuses bytes batch cause payload reads
           (subst (λ (s : Signal). Refuses s (payloads_after outcomes) batch.payloads cause payload) stands.same (refuses (payloads_after outcomes) (stands.streams whole))));
       tells = refl;
       stands = stands_broken signal outcomes (refusal_of (Some batch.id) cause payload) new (same ∙ stands.same) broken;
@@ -186,7 +187,7 @@ next_accepted old new batch rows whole whole' same accepts = record {
         = subst (λ (s : Signal). AcceptsAfter s past batch.payloads new.streams rows) stands.same (accepts past (stands.streams whole)) in
         record {
           outcome = Accepted batch tables;
-          gives = when_whole signal outcomes (Message bytes) (Accepted batch tables) (sym stands.broken ∙ whole) (Gives.accepts bytes batch reads a.accepts);
+          gives = when_whole signal outcomes (Message bytes) (Accepted batch tables) (sym stands.broken ∙ whole) (GivesOutcome.accepts bytes batch reads a.accepts);
           tells = (refl, a.rows);
           stands = record {
             same = same ∙ stands.same;
@@ -220,7 +221,7 @@ refused_parts old new batch cause payload signal streams same are whole broken k
 -- a batch whose payloads are not taken
 pub stopped_next : {E : Type 0} (r : Result Seen E) (old new : SegmentIn) (batch : BatchContent) (stop : NotTaken) (signal : Signal) (streams : List StreamIn) → signal ≡ old.signal
     → streams ≡ old.streams → old.broken ≡ false → new.broken ≡ true → new.signal ≡ old.signal
-    → ((past : List PayloadIn) → AreAfter past streams → Stops (Refuses signal past batch.payloads) stop) → IfOk r (IsStopped stop batch) → IfOk r (NextBatch old batch new)
+    → ((past : List PayloadIn) → AreAfter past streams → SaysDefect (Refuses signal past batch.payloads) stop) → IfOk r (IsStopped stop batch) → IfOk r (NextBatch old batch new)
 stopped_next (Err e) old new batch stop signal streams same are whole broken kept refuses stopped = tt
 stopped_next (Ok returned) old new batch (Memory e) signal streams same are whole broken kept refuses stopped = absurd stopped
 stopped_next (Ok returned) old new batch (Defect cause payload) signal streams same are whole broken kept refuses stopped =

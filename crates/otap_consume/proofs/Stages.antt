@@ -14,7 +14,7 @@ use Rattle.lists.specs.EachAfter.{AllAfter}
 use Rattle.lists.specs.Payloads.{PayloadIn}
 use Rattle.otap_consume.specs.PayloadTypes.{HasFineTypes, StandsInTypes}
 use Rattle.otap_consume.specs.Records.{TakesAll}
-use Rattle.otap_consume.specs.Stops.{Stops, IsOfRecord, stop_of_types}
+use Rattle.otap_consume.specs.Stops.{SaysDefect, IsOfRecord, stop_of_types}
 use Rattle.otap_consume.specs.Streams.{StreamIn, AreAfter, kinds_in}
 use Rattle.otap_consume.specs.Taking.{Weighs, StopsBySize, AcceptsAfter}
 use Rattle.otap_consume.proofs.IdSteps.{ids_are}
@@ -23,11 +23,11 @@ use Rattle.otap_consume.proofs.IdSteps.{ids_are}
 abbrev pub FreeIds : List StreamIn → List PayloadIn → Type 0
 FreeIds streams payloads = (signal : Signal) (past : List PayloadIn) → ids_of streams ≡ ids_after signal past → AllAfter (λ before p. is_taken signal before p ≡ false) past payloads
 
-pub by_types : (signal : Signal) (past payloads : List PayloadIn) (why : TypesRefusal) → StandsInTypes signal payloads why → Stops (Refuses signal past payloads) (stop_of_types why)
+pub by_types : (signal : Signal) (past payloads : List PayloadIn) (why : TypesRefusal) → StandsInTypes signal payloads why → SaysDefect (Refuses signal past payloads) (stop_of_types why)
 by_types signal past payloads (types.PayloadType kind) stands = Refuses.by_list PayloadType (Some kind) stands
 by_types signal past payloads (types.PayloadTwice kind) stands = Refuses.by_list PayloadTwice (Some kind) stands
 
-pub by_ids : (signal : Signal) (past payloads : List PayloadIn) (stop : NotTaken) → Stops (StandsInList signal past payloads) stop → Stops (Refuses signal past payloads) stop
+pub by_ids : (signal : Signal) (past payloads : List PayloadIn) (stop : NotTaken) → SaysDefect (StandsInList signal past payloads) stop → SaysDefect (Refuses signal past payloads) stop
 by_ids signal past payloads (Defect cause payload) stands = Refuses.by_list cause payload stands
 by_ids signal past payloads (Memory e) stands = tt
 
@@ -36,13 +36,13 @@ of_record : (signal : Signal) (past payloads : List PayloadIn) (cause : Cause) (
 of_record signal past payloads (Column refusal) payload list stands = Refuses.by_record refusal payload list stands
 of_record signal past payloads _ payload list stands = absurd stands
 
-pub by_records : (signal : Signal) (past payloads : List PayloadIn) (stop : NotTaken) → HasFineList signal past payloads → Stops (IsOfRecord signal past payloads) stop
-    → Stops (Refuses signal past payloads) stop
+pub by_records : (signal : Signal) (past payloads : List PayloadIn) (stop : NotTaken) → HasFineList signal past payloads → SaysDefect (IsOfRecord signal past payloads) stop
+    → SaysDefect (Refuses signal past payloads) stop
 by_records signal past payloads (Defect cause payload) list stands = of_record signal past payloads cause payload list stands
 by_records signal past payloads (Memory e) list stands = tt
 
 by_size : (signal : Signal) (past payloads : List PayloadIn) (stop : NotTaken) → HasFineList signal past payloads → HasFineRecords signal past payloads
-    → StopsBySize signal past payloads stop → Stops (Refuses signal past payloads) stop
+    → StopsBySize signal past payloads stop → SaysDefect (Refuses signal past payloads) stop
 by_size signal past payloads (Defect cause payload) list records stands =
     subst (λ (named : Option ℤ). Refuses signal past payloads cause named) (sym stands.0) (Refuses.by_size cause list records stands.1)
 by_size signal past payloads (Memory e) list records stands = tt
@@ -67,7 +67,7 @@ module _ (signal : Signal) (payloads : List PayloadIn) (old : List StreamIn) (ki
     accepts_if (Err stop) weighs = tt
 
     pub refuses_if : (r : Result ℕ NotTaken) → IfErr r (λ stop. (past : List PayloadIn) → AreAfter (past ++ payloads) new → StopsBySize signal past payloads stop)
-        → IfErr r (λ stop. (past : List PayloadIn) → AreAfter past old → Stops (Refuses signal past payloads) stop)
+        → IfErr r (λ stop. (past : List PayloadIn) → AreAfter past old → SaysDefect (Refuses signal past payloads) stop)
     refuses_if (Ok rows) stops = tt
     refuses_if (Err stop) stops = λ past are.
         by_size signal past payloads stop (fine_list past are) (takes.reads signal past kinds are) (stops past (takes.after past are))

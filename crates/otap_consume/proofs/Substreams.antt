@@ -1,17 +1,11 @@
 -- What one more payload does to the last payload of a type.
-use Rattle.std.proofs.Common.{◌≡◌, true, false, List, [], ◌∷◌, ◌++◌, Some, None, ℤ, refl, ap, ◌∙◌, append-nil}
+use Rattle.std.proofs.Common.{◌≡◌, true, false, List, [], ◌∷◌, ◌++◌, Some, None, ℤ, ap, ◌∙◌}
 use Rattle.std.specs.Ordering.{int_eq}
-use Rattle.std.proofs.lemmas.List.Elements.{filter-append}
 use Rattle.lists.specs.Payloads.{PayloadIn}
 use Rattle.lists.specs.Since.{last_after}
 use Rattle.lists.proofs.Latest.{last_after-push}
-use Rattle.otap_columns.specs.Streams.{is_of, of_type, last_of}
-
-of_type-other : (kind : ℤ) (ps : List PayloadIn) (p : PayloadIn) → is_of kind p ≡ false → of_type kind (ps ++ p ∷ []) ≡ of_type kind ps
-of_type-other kind ps p other = filter-append (is_of kind) ps (p ∷ []) ∙ rw other (append-nil (of_type kind ps))
-
-of_type-own : (kind : ℤ) (ps : List PayloadIn) (p : PayloadIn) → is_of kind p ≡ true → of_type kind (ps ++ p ∷ []) ≡ of_type kind ps ++ p ∷ []
-of_type-own kind ps p own = filter-append (is_of kind) ps (p ∷ []) ∙ rw own refl
+use Rattle.otap_columns.specs.Streams.{of_type, last_of}
+use Rattle.otap_columns.proofs.Openings.{of_type-other, of_type-own}
 
 pub last_of-other : (type : ℤ) (ps : List PayloadIn) (p : PayloadIn) → int_eq p.kind type ≡ false → last_of type (ps ++ p ∷ []) ≡ last_of type ps
 last_of-other type ps p other = ap (λ xs. last_after None xs) (of_type-other type ps p other)

@@ -8,6 +8,7 @@ use Rattle.std.proofs.lemmas.Bool.Decides.{Decides-int_eq}
 use Rattle.std.proofs.lemmas.List.Elements.{All-from_recursion}
 use Rattle.std.proofs.lemmas.List.Sums.{sum_by-cons, sum_by-append}
 use Rattle.lists.specs.Payloads.{PayloadIn}
+use Rattle.lists.proofs.Every.{every_at}
 use Rattle.otlp_model.specs.declared.request.Signal.{Signal}
 use Rattle.otlp_model.specs.declared.request.Signal.TheVariants.{Traces, Logs, Metrics}
 use Rattle.otap_cells.specs.declared.payload.Kind.{Kind}
@@ -20,7 +21,7 @@ use Rattle.otap_consume.specs.declared.refusal.Cause.TheVariants.{TooManyItems, 
 use Rattle.otap_consume.specs.Limits.{held_limit}
 use Rattle.otap_consume.specs.Defects.{IsTooLarge, table_of, tables_of, held_after}
 use Rattle.otap_consume.specs.Outcomes.{payloads_after}
-use Rattle.otap_consume.specs.Payloads.{type_of}
+use Rattle.otap_consume.specs.Payloads.{payload_type_of}
 use Rattle.otap_consume.specs.PayloadTypes.{times, IsFineType, HasFineTypes}
 use Rattle.otap_consume.specs.Segments.{SegmentIn, CanShow, TablesOf}
 use Rattle.otap_consume.specs.Sizes.{PastLimit, WithinLimits}
@@ -63,14 +64,10 @@ last_is past front rest p once =
 
 -- ---- the stream that shows a payload
 
-at_front : (P : PayloadIn → Type 0) (front rest : List PayloadIn) (p : PayloadIn) → AllByRecursion P (front ++ p ∷ rest) → P p
-at_front P [] rest p all = all.0
-at_front P (q ∷ front) rest p all = at_front P front rest p all.1
-
 -- a payload of those that were taken last is fine
 pub fine_at : (signal : Signal) (payloads front rest : List PayloadIn) (p : PayloadIn) → HasFineTypes signal payloads → payloads ≡ front ++ p ∷ rest → IsFineType signal payloads p
 fine_at signal payloads front rest p types whole =
-    at_front (IsFineType signal payloads) front rest p (subst (λ (ps : List PayloadIn). AllByRecursion (IsFineType signal payloads) ps) whole types)
+    every_at (IsFineType signal payloads) front rest p (subst (λ (ps : List PayloadIn). AllByRecursion (IsFineType signal payloads) ps) whole types)
 
 pub shown_at : (streams : List StreamIn) (payloads front rest : List PayloadIn) (p : PayloadIn) → CanShow streams payloads → payloads ≡ front ++ p ∷ rest → Shown streams p
 shown_at streams payloads front rest p can whole = known (kind_numbered can.signal p.kind) refl fine.known
@@ -84,7 +81,7 @@ shown_at streams payloads front rest p can whole = known (kind_numbered can.sign
     shows : (s : StreamIn) → Finds (is_stream_of p.kind) streams s → ShowsIf s.current p.bytes
     shows s there =
         let here : ShowsAfter payloads s = subst (ShowsAfter payloads) (there.is s) (can.shows there.at s there.inside) in
-        let same : p.kind ≡ type_of s.kind = (Decides-int_eq p.kind (type_of s.kind)).0 there.passes in
+        let same : p.kind ≡ payload_type_of s.kind = (Decides-int_eq p.kind (payload_type_of s.kind)).0 there.passes in
         subst (λ (l : Option PayloadIn). ShowsLast l s.current) (ap (λ (type : ℤ). last_of type payloads) (sym same) ∙ last) here
 
     stream : (kind : Kind) → HasNumber can.signal p.kind kind → Shown streams p
@@ -92,7 +89,7 @@ shown_at streams payloads front rest p can whole = known (kind_numbered can.sign
         let d : StreamIn = record { kind = kind; current = None } in
         let inside : number.at < length streams = omega (arith, count_of can.signal streams can.kinds, number.inside) in
         let is : (get_or streams number.at d).kind ≡ kind = sym (kind_at can.signal streams number.at d kind can.kinds inside) ∙ number.is kind in
-        let passes : is_stream_of p.kind (get_or streams number.at d) ≡ true = subst (λ (k : Kind). int_eq p.kind (type_of k) ≡ true) (sym is) number.same in
+        let passes : is_stream_of p.kind (get_or streams number.at d) ≡ true = subst (λ (k : Kind). int_eq p.kind (payload_type_of k) ≡ true) (sym is) number.same in
         let some : (s : StreamIn) × (find (is_stream_of p.kind) streams ≡ Some s) = found_some (is_stream_of p.kind) streams number.at d inside passes in
         subst (λ (o : Option StreamIn). ShownBy o p) (sym some.1) (shows some.0 (finds (is_stream_of p.kind) streams some.0 some.1))
 
@@ -135,7 +132,7 @@ beside_from streams (p ∷ payloads) [] zip = absurd zip
 beside_from streams (p ∷ payloads) (view ∷ views) zip = (zip.0.kind, beside_from streams payloads views zip.1)
 
 -- none of these has the type
-others : (streams : List StreamIn) (p : PayloadIn) (view : Kind × Table) (payloads : List PayloadIn) (views : List (Kind × Table)) → type_of view.0 ≡ p.kind
+others : (streams : List StreamIn) (p : PayloadIn) (view : Kind × Table) (payloads : List PayloadIn) (views : List (Kind × Table)) → payload_type_of view.0 ≡ p.kind
     → times p.kind payloads ≡ 0 → AllZip (IsViewOf streams) payloads views → AllByRecursion (λ n. nat_eq (number_of view.0) n ≡ false) (map (λ v. number_of v.0) views)
 others streams p view [] [] type none zip = tt
 others streams p view [] (v ∷ views) type none zip = absurd zip

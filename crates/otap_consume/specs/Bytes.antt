@@ -4,7 +4,7 @@ use Rattle.otap_capture.specs.Capture.{Frame, Message, Packed}
 use Rattle.otap_capture.specs.Capture as capture
 
 -- what stands in a message are bytes, numbers below 256
-abbrev pub HasBytes : Frame → Type 0
-HasBytes (Message bytes) = All (λ byte. byte < 256) bytes
-HasBytes Packed = ⊤
-HasBytes capture.Reset = ⊤
+abbrev pub IsOfBytes : Frame → Type 0
+IsOfBytes (Message bytes) = All (λ byte. byte < 256) bytes
+IsOfBytes Packed = ⊤
+IsOfBytes capture.Reset = ⊤

@@ -19,7 +19,7 @@ use Rattle.otap_consume.specs.declared.refusal.Cause.{Cause}
 use Rattle.otap_consume.specs.declared.refusal.Cause.TheVariants.{PayloadType, PayloadTwice, SchemaIdTaken, Column, TooManyItems, RowsTooHeavy, HeldTooMuch}
 use Rattle.otap_consume.specs.Limits.{held_limit}
 use Rattle.otap_consume.specs.declared.payload_types.TypesRefusal.TheVariants as types
-use Rattle.otap_consume.specs.Payloads.{type_of, messages_before}
+use Rattle.otap_consume.specs.Payloads.{payload_type_of, messages_before}
 use Rattle.otap_consume.specs.PayloadTypes.{HasPayload, StandsInTypes, HasFineTypes}
 
 -- ---- the list of payloads
@@ -30,7 +30,7 @@ is_open_id id None = false
 is_open_id id (Some current) = bytes_eq current id
 
 abbrev pub is_open_for : List PayloadIn → PayloadIn → Kind → Bool
-is_open_for before p kind = not (int_eq p.kind (type_of kind)) && is_open_id p.schema_id (open_id (type_of kind) before)
+is_open_for before p kind = not (int_eq p.kind (payload_type_of kind)) && is_open_id p.schema_id (open_id (payload_type_of kind) before)
 
 abbrev pub is_taken : Signal → List PayloadIn → PayloadIn → Bool
 is_taken signal before p = list_any (is_open_for before p) (kinds_of signal)
@@ -95,7 +95,7 @@ tables_of signal past payloads = filter_map (table_of signal (past ++ payloads))
 
 -- THE HELD WEIGHT: that of all dictionaries of all sub-streams that are open
 unfoldable pub held_after : Signal → List PayloadIn → ℕ
-held_after signal payloads = sum_by (λ kind. held_in (stream_of (type_of kind) payloads)) (kinds_of signal)
+held_after signal payloads = sum_by (λ kind. held_in (stream_of (payload_type_of kind) payloads)) (kinds_of signal)
 
 -- a batch is too large as a whole: its main table has too many rows, its rows weigh too much, or too much is held after it
 abbrev pub IsTooLarge : Signal → List Table → ℕ → Cause → Type 0

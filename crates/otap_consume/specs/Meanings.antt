@@ -9,7 +9,7 @@ use Rattle.otap_cells.specs.declared.payload.Kind.{Kind}
 use Rattle.otap_cells.specs.Tables.{Table}
 use Rattle.otap_consume.specs.declared.refusal.Cause.{Cause}
 use Rattle.otap_consume.specs.declared.refusal.Cause.TheVariants.{Row, TreeTooHeavy}
-use Rattle.otap_consume.specs.Payloads.{type_of}
+use Rattle.otap_consume.specs.Payloads.{payload_type_of}
 
 -- THE MEANING OF A SIGNAL'S TABLES: what is wrong with the rows of a kind's table among them, and, where nothing is, the
 -- request that they are regrouped to
@@ -24,7 +24,7 @@ AreClean m tables = (kind : Kind) (why : RowRefusal) → m.Stands tables kind wh
 
 -- what is wrong with a batch that no earlier stage refuses: the fifth stage looks at its rows, the sixth at what its request weighs
 abbrev pub StandsInRows : Meaning → List Table → Cause → Option ℤ → Type 0
-StandsInRows m tables (Row why) payload = (kind : Kind) × (payload ≡ Some (type_of kind)) × m.Stands tables kind why
+StandsInRows m tables (Row why) payload = (kind : Kind) × (payload ≡ Some (payload_type_of kind)) × m.Stands tables kind why
 StandsInRows m tables TreeTooHeavy payload = (payload ≡ None) × AreClean m tables × (weight_limit < weight_of (m.request tables))
 StandsInRows m tables cause payload = ⊥
 

@@ -84,14 +84,14 @@ payloads_after outcomes = flat_map payloads_if (segment outcomes)
 -- ---- outcomes
 
 -- WHAT A FRAME GIVES after these payloads of the accepted batches of its segment, of which no frame was refused
-pub data Gives (signal : Signal) (past : List PayloadIn) : Frame → Outcome → Type 0 where
-  compressed : Gives signal past Packed (refused None Compressed None)
-  unreadable : (bytes : List ℕ) (refusal : BatchRefusal) → RefusesBatch bytes refusal → Gives signal past (Message bytes) (refused None (unread_cause refusal) None)
+pub data GivesOutcome (signal : Signal) (past : List PayloadIn) : Frame → Outcome → Type 0 where
+  compressed : GivesOutcome signal past Packed (refused None Compressed None)
+  unreadable : (bytes : List ℕ) (refusal : BatchRefusal) → RefusesBatch bytes refusal → GivesOutcome signal past (Message bytes) (refused None (unread_cause refusal) None)
   refuses : (bytes : List ℕ) (batch : BatchContent) (cause : Cause) (payload : Option ℤ) → ReadsBatch bytes batch
-      → Refuses signal past batch.payloads cause payload → Gives signal past (Message bytes) (refused (Some batch.id) cause payload)
+      → Refuses signal past batch.payloads cause payload → GivesOutcome signal past (Message bytes) (refused (Some batch.id) cause payload)
   accepts : (bytes : List ℕ) (batch : BatchContent) → ReadsBatch bytes batch → Accepts signal past batch.payloads
-      → Gives signal past (Message bytes) (Accepted batch (tables_of signal past batch.payloads))
-  resets : Gives signal past capture.Reset Reset
+      → GivesOutcome signal past (Message bytes) (Accepted batch (tables_of signal past batch.payloads))
+  resets : GivesOutcome signal past capture.Reset Reset
 
 -- what a frame gives in a segment of which a frame was refused: the id is named where the message can be read
 pub data StaysBroken : Frame → Outcome → Type 0 where
@@ -103,7 +103,7 @@ pub data StaysBroken : Frame → Outcome → Type 0 where
 -- WHAT A FRAME GIVES after frames with these outcomes
 abbrev pub OutcomeAfter : Signal → List Outcome → Frame → Outcome → Type 0
 OutcomeAfter signal outcomes frame outcome =
-    MatchBool (is_broken outcomes) (StaysBroken frame outcome) (Gives signal (payloads_after outcomes) frame outcome)
+    MatchBool (is_broken outcomes) (StaysBroken frame outcome) (GivesOutcome signal (payloads_after outcomes) frame outcome)
 
 -- THE OUTCOMES of the frames of a capture
 abbrev pub Outcomes : Signal → List Frame → List Outcome → Type 0

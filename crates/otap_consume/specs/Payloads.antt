@@ -7,8 +7,8 @@ use Rattle.otap_cells.specs.Payload.{number_of}
 use Rattle.otap_columns.specs.Streams.{opens, stream_of}
 
 -- the payload type of a kind
-abbrev pub type_of : Kind → ℤ
-type_of kind = pos (number_of kind)
+abbrev pub payload_type_of : Kind → ℤ
+payload_type_of kind = pos (number_of kind)
 
 -- the messages after which the record of a payload stands: none where it opens a sub-stream
 abbrev pub messages_before : List PayloadIn → PayloadIn → List IpcMessage

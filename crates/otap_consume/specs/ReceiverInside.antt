@@ -18,12 +18,12 @@ use Rattle.otap_consume.specs.declared.taken.Taken.TheVariants as taken
 use Rattle.otap_consume.specs.Defects.{tables_of}
 use Rattle.otap_consume.specs.Meanings.{Meaning, StandsInRows}
 use Rattle.otap_consume.specs.Outcomes.{Outcome, Accepted, payloads_after, refusal_of}
-use Rattle.otap_consume.specs.Payloads.{type_of}
+use Rattle.otap_consume.specs.Payloads.{payload_type_of}
 use Rattle.otap_consume.specs.Regroups.{IsRegrouped, IsLight}
 use Rattle.otap_consume.specs.Segments.{SegmentIn, StandsFor}
 
 abbrev pub stop_of_rows : CheckRefusal → NotTaken
-stop_of_rows (check.Defect kind why) = Defect (cause.Row why) (Some (type_of kind))
+stop_of_rows (check.Defect kind why) = Defect (cause.Row why) (Some (payload_type_of kind))
 stop_of_rows (check.Memory e) = Memory e
 
 abbrev pub stop_of_regrouping : RegroupRefusal → NotTaken

@@ -29,6 +29,6 @@ pub record Receives (m : Meaning) (old : SegmentIn) (frame : Frame) (new : Segme
   pub at : (outcomes : List Outcome) → StandsFor m.signal outcomes old → HasReceived m outcomes frame new returned
 
 -- a request that is returned is one that a program holds, and within its limit
-abbrev pub IsSound : Taken → Type 0
-IsSound (taken.Accepted id request rows tree) = IsReal request × (weight_of request ≤ weight_limit)
-IsSound returned = ⊤
+abbrev pub HasRealRequest : Taken → Type 0
+HasRealRequest (taken.Accepted id request rows tree) = IsReal request × (weight_of request ≤ weight_limit)
+HasRealRequest returned = ⊤

@@ -14,9 +14,9 @@ use Rattle.otap_consume.specs.declared.not_taken.NotTaken.TheVariants.{Defect, M
 use Rattle.otap_consume.specs.Defects.{StandsInRecord}
 
 -- memory may run out at any time; else a defect stands
-abbrev pub Stops : (Cause → Option ℤ → Type 0) → NotTaken → Type 0
-Stops D (Defect cause payload) = D cause payload
-Stops D (Memory e) = ⊤
+abbrev pub SaysDefect : (Cause → Option ℤ → Type 0) → NotTaken → Type 0
+SaysDefect D (Defect cause payload) = D cause payload
+SaysDefect D (Memory e) = ⊤
 
 -- a defect of a record is named by its column refusal
 abbrev pub IsOfRecord : Signal → List PayloadIn → List PayloadIn → Cause → Option ℤ → Type 0

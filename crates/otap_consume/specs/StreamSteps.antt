@@ -8,7 +8,7 @@ use Rattle.otap_columns.specs.declared.refusal.ColumnRefusal.TheVariants as refu
 use Rattle.otap_columns.specs.Records.{IsRead, Stands}
 use Rattle.otap_columns.specs.Dictionaries.{held_weight}
 use Rattle.otap_columns.specs.Views.{ReaderIn}
-use Rattle.otap_consume.specs.Payloads.{type_of, messages_before}
+use Rattle.otap_consume.specs.Payloads.{payload_type_of, messages_before}
 use Rattle.otap_consume.specs.Streams.{OpenIn, StreamIn, IsAfter, ShowsIf}
 
 -- ---- one payload
@@ -16,15 +16,15 @@ use Rattle.otap_consume.specs.Streams.{OpenIn, StreamIn, IsAfter, ShowsIf}
 -- a stream has taken a payload: one of another type it passes over
 pub record Takes (old : StreamIn) (p : PayloadIn) (new : StreamIn) : Type 0 where
   pub kind : new.kind ≡ old.kind
-  pub other : int_eq p.kind (type_of old.kind) ≡ false → new ≡ old
-  pub shows : int_eq p.kind (type_of old.kind) ≡ true → ShowsIf new.current p.bytes
-  pub reads : (past : List PayloadIn) → IsAfter past old → int_eq p.kind (type_of old.kind) ≡ true → IsRead old.kind (messages_before past p) p.bytes
+  pub other : int_eq p.kind (payload_type_of old.kind) ≡ false → new ≡ old
+  pub shows : int_eq p.kind (payload_type_of old.kind) ≡ true → ShowsIf new.current p.bytes
+  pub reads : (past : List PayloadIn) → IsAfter past old → int_eq p.kind (payload_type_of old.kind) ≡ true → IsRead old.kind (messages_before past p) p.bytes
   pub after : (past : List PayloadIn) → IsAfter past old → IsAfter (past ++ p ∷ []) new
 
 -- or it has found a defect in it
 abbrev pub RefusesFor : List PayloadIn → Kind → PayloadIn → ColumnRefusal → Type 0
 RefusesFor past kind p (refusal.Memory e) = ⊤
-RefusesFor past kind p refusal = int_eq p.kind (type_of kind) ≡ true × Stands kind (messages_before past p) p.bytes refusal
+RefusesFor past kind p refusal = int_eq p.kind (payload_type_of kind) ≡ true × Stands kind (messages_before past p) p.bytes refusal
 
 abbrev pub DoesNotTake : StreamIn → PayloadIn → ColumnRefusal → Type 0
 DoesNotTake old p refusal = (past : List PayloadIn) → IsAfter past old → RefusesFor past old.kind p refusal
@@ -36,8 +36,8 @@ id_if None = None
 id_if (Some current) = Some current.schema_id
 
 -- the schema id of the sub-stream that is open
-abbrev pub id_of : StreamIn → Option (List ℕ)
-id_of s = id_if s.current
+abbrev pub schema_id_of : StreamIn → Option (List ℕ)
+schema_id_of s = id_if s.current
 
 abbrev pub reader_if : Option OpenIn → Option ReaderIn
 reader_if None = None

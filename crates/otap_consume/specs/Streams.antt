@@ -2,9 +2,9 @@
 use Rattle.std.specs.Prelude.{◌≡◌, ⊤, ℕ, List, map, All, Option, Some, None}
 use Rattle.lists.specs.Payloads.{PayloadIn}
 use Rattle.otap_cells.specs.declared.payload.Kind.{Kind}
-use Rattle.otap_columns.specs.Views.{ReaderIn, StandsAt, Shows}
+use Rattle.otap_columns.specs.Views.{ReaderIn, StandsForRecord, Shows}
 use Rattle.otap_columns.specs.Streams.{last_of, stream_of}
-use Rattle.otap_consume.specs.Payloads.{type_of}
+use Rattle.otap_consume.specs.Payloads.{payload_type_of}
 
 -- a sub-stream that is open: its schema id, and its reader
 pub record OpenIn : Type 0 where
@@ -18,7 +18,7 @@ pub record StreamIn : Type 0 where
 -- it is that of the last payload of its type, and its reader has read to it
 pub record IsReadTo (payloads : List PayloadIn) (kind : Kind) (last : PayloadIn) (current : OpenIn) : Type 0 where
   pub id : current.schema_id ≡ last.schema_id
-  pub stands : StandsAt (stream_of (type_of kind) payloads) last.bytes current.reader
+  pub stands : StandsForRecord (stream_of (payload_type_of kind) payloads) last.bytes current.reader
   pub shows : Shows current.reader last.bytes
 
 abbrev pub IsOpenAfter : List PayloadIn → Kind → Option PayloadIn → Option OpenIn → Type 0
@@ -29,7 +29,7 @@ IsOpenAfter payloads kind (Some last) (Some current) = IsReadTo payloads kind la
 
 -- THE STREAM OF A TYPE AFTER PAYLOADS: none is open where none of the type went before
 pub record IsAfter (payloads : List PayloadIn) (s : StreamIn) : Type 0 where
-  pub current : IsOpenAfter payloads s.kind (last_of (type_of s.kind) payloads) s.current
+  pub current : IsOpenAfter payloads s.kind (last_of (payload_type_of s.kind) payloads) s.current
 
 abbrev pub AreAfter : List PayloadIn → List StreamIn → Type 0
 AreAfter payloads streams = All (IsAfter payloads) streams
@@ -45,7 +45,7 @@ ShowsLast None current = ⊤
 ShowsLast (Some last) current = ShowsIf current last.bytes
 
 abbrev pub ShowsAfter : List PayloadIn → StreamIn → Type 0
-ShowsAfter payloads s = ShowsLast (last_of (type_of s.kind) payloads) s.current
+ShowsAfter payloads s = ShowsLast (last_of (payload_type_of s.kind) payloads) s.current
 
 abbrev pub kinds_in : List StreamIn → List Kind
 kinds_in streams = map (λ s. s.kind) streams

@@ -12,7 +12,7 @@ use Rattle.otap_consume.specs.declared.not_taken.NotTaken.TheVariants.{Defect, M
 use Rattle.otap_consume.specs.Defects.{Accepts, IsTooLarge, IsWithinLimits, tables_of, held_after}
 use Rattle.otap_consume.specs.Outcomes.{refusal_of}
 use Rattle.otap_consume.specs.Segments.{SegmentIn, Next, CanShow}
-use Rattle.otap_consume.specs.Stops.{Stops, IsOfSize}
+use Rattle.otap_consume.specs.Stops.{SaysDefect, IsOfSize}
 use Rattle.otap_consume.specs.Streams.{StreamIn, AreAfter}
 
 -- as a whole the payloads are within the limits, and have this weight
@@ -22,7 +22,7 @@ pub record Weighs (signal : Signal) (past payloads : List PayloadIn) (weight : �
 
 -- or they aren't
 abbrev pub StopsBySize : Signal → List PayloadIn → List PayloadIn → NotTaken → Type 0
-StopsBySize signal past payloads = Stops (IsOfSize (IsTooLarge signal (tables_of signal past payloads) (held_after signal (past ++ payloads))))
+StopsBySize signal past payloads = SaysDefect (IsOfSize (IsTooLarge signal (tables_of signal past payloads) (held_after signal (past ++ payloads))))
 
 -- the payloads are accepted after these, and have this weight
 pub record AcceptsAfter (signal : Signal) (past payloads : List PayloadIn) (new : List StreamIn) (weight : ℕ) : Type 0 where

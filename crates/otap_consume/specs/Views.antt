@@ -9,7 +9,7 @@ use Rattle.otap_cells.specs.Payload.{kinds_of, kind_numbered}
 use Rattle.otap_cells.specs.Tables.{Table}
 use Rattle.otap_columns.specs.Substreams.{logical}
 use Rattle.otap_columns.specs.Streams.{last_of, stream_of}
-use Rattle.otap_consume.specs.Payloads.{type_of}
+use Rattle.otap_consume.specs.Payloads.{payload_type_of}
 use Rattle.otap_consume.specs.Streams.{StreamIn, AreAfter, ShowsIf, kinds_in}
 
 -- the stream of a type shows the record of a payload
@@ -18,14 +18,14 @@ ShownBy None p = ⊥
 ShownBy (Some s) p = ShowsIf s.current p.bytes
 
 abbrev pub is_stream_of : ℤ → StreamIn → Bool
-is_stream_of type s = int_eq type (type_of s.kind)
+is_stream_of type s = int_eq type (payload_type_of s.kind)
 
 abbrev pub Shown : List StreamIn → PayloadIn → Type 0
 Shown streams p = ShownBy (find (is_stream_of p.kind) streams) p
 
 -- a table beside its kind is that of a payload, wherever the payload is the last one of its type
 pub record IsViewOf (streams : List StreamIn) (p : PayloadIn) (view : Kind × Table) : Type 0 where
-  pub type : type_of view.0 ≡ p.kind
+  pub type : payload_type_of view.0 ≡ p.kind
   pub kind : view.1.kind ≡ view.0
   pub known : (signal : Signal) → kinds_in streams ≡ kinds_of signal → kind_numbered signal p.kind ≡ Some view.0
   pub table : (payloads : List PayloadIn) → AreAfter payloads streams → last_of p.kind payloads ≡ Some p

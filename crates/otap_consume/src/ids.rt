@@ -5,9 +5,9 @@ ghost use Rattle.otap_capture.specs.Batch.{content_of};
 ghost use Rattle.otap_consume.specs.Defects.{StandsInList, is_open_id, is_taken};
 ghost use Rattle.lists.specs.EachAfter.{AllAfter};
 ghost use Rattle.lists.specs.Payloads.{PayloadIn};
-ghost use Rattle.otap_consume.specs.Ids.{ids_of, ids_after, has_other, is_other, opened};
+ghost use Rattle.otap_consume.specs.Ids.{ids_of, ids_after, has_other, has_other_type, with_open_id};
 ghost use Rattle.otap_consume.specs.IdsInside.{open_id_in};
-ghost use Rattle.otap_consume.specs.Stops.{Stops};
+ghost use Rattle.otap_consume.specs.Stops.{SaysDefect};
 
 use crate::not_taken::{NotTaken, defect};
 use crate::refusal::Cause;
@@ -25,7 +25,7 @@ pub(crate) fn check_ids(
     ensures free { OnOk result ((signal : Signal) (past : List PayloadIn) → ids_of streams.now ≡ ids_after signal past
         → AllAfter (λ before p. is_taken signal before p ≡ false) past batch.now.payloads) }
     ensures stops { IfErr result (λ stop. (signal : Signal) (past : List PayloadIn) → ids_of streams.now ≡ ids_after signal past
-        → Stops (StandsInList signal past batch.now.payloads) stop) }
+        → SaysDefect (StandsInList signal past batch.now.payloads) stop) }
 {
     let mut ids = OpenIds::of(alloc, streams)?;
     'payloads: for payload in batch.payloads() {
@@ -55,7 +55,7 @@ impl<'s, 'b> OpenId<'s, 'b> {
     }
 
     fn set(&mut self, payload: &Payload<'b>)
-        ensures { open_id_in self.new ≡ opened (content_of payload.now) (open_id_in self.old) }
+        ensures { open_id_in self.new ≡ with_open_id (content_of payload.now) (open_id_in self.old) }
     {
         if self.stream.is_of(payload.kind) {
             self.here = Some(payload.schema_id);
@@ -105,14 +105,14 @@ impl<'s, 'b> OpenIds<'s, 'b> {
 
     /// The schema id of the payload is open for its type.
     fn set(&mut self, payload: &Payload<'b>)
-        ensures { self.new ≡ map (opened (content_of payload.now)) self.old }
+        ensures { self.new ≡ map (with_open_id (content_of payload.now)) self.old }
     {
         set_all(&mut self.ids, payload);
     }
 }
 
 fn set_all<'b>(ids: &mut [OpenId<'_, 'b>], payload: &Payload<'b>)
-    ensures { map open_id_in ids.new ≡ map (opened (content_of payload.now)) (map open_id_in ids.old) }
+    ensures { map open_id_in ids.new ≡ map (with_open_id (content_of payload.now)) (map open_id_in ids.old) }
 {
     'ids: for place in 0..ids.len() {
         ids[place].set(payload);
@@ -120,7 +120,7 @@ fn set_all<'b>(ids: &mut [OpenId<'_, 'b>], payload: &Payload<'b>)
 }
 
 fn is_other(id: &OpenId<'_, '_>, payload: &Payload<'_>) -> bool
-    ensures { result ≡ is_other (content_of payload.now) (open_id_in id.now) }
+    ensures { result ≡ has_other_type (content_of payload.now) (open_id_in id.now) }
 {
     !id.stream.is_of(payload.kind) && id.is(payload.schema_id)
 }

@@ -7,7 +7,7 @@ ghost use Rattle.otap_consume.specs.Meanings.{StandsInRows};
 ghost use Rattle.otap_consume.specs.ReceiverInside.{OfLast, RefusesBy, TakesRows};
 ghost use Rattle.otap_consume.specs.Regroups.{IsLight, IsRegrouped};
 ghost use Rattle.otap_consume.specs.Segments.{IsTaken};
-ghost use Rattle.otap_consume.specs.Stops.{Stops};
+ghost use Rattle.otap_consume.specs.Stops.{SaysDefect};
 
 use crate::not_taken::NotTaken;
 use crate::refusal::Refusal;
@@ -44,7 +44,7 @@ impl<T: Telemetry> Model for Receiver<T> {
 }
 
 impl<T: Telemetry> Receiver<T> {
-    ghost use Rattle.otap_consume.specs.Receivers.{Receives, IsSound};
+    ghost use Rattle.otap_consume.specs.Receivers.{Receives, HasRealRequest};
     ghost use Rattle.otap_consume.specs.Segments.{IsNew};
 
     /// A receiver in which no frame stands.
@@ -64,7 +64,7 @@ impl<T: Telemetry> Receiver<T> {
     /// only where its weight is within the limit.
     pub fn take(&mut self, frame: &Frame<'_>) -> Result<Taken, AllocError>
         ensures next { IfOk result (Receives T.meaning self.old (frame_of frame.now) self.new) }
-        ensures sound { IfOk result IsSound }
+        ensures sound { IfOk result HasRealRequest }
         ensures memory { OnErr result (self.new.broken ≡ true) }
         ensures signal { self.new.signal ≡ T.meaning.signal }
     {
@@ -93,7 +93,7 @@ impl<T: Telemetry> Receiver<T> {
     fn take_rows(&mut self, frame: &Frame<'_>, id: i64, rows: u64) -> Result<Taken, AllocError>
         requires { IsTaken (frame_of frame.now) self.old }
         ensures takes { IfOk result (TakesRows T.meaning (frame_of frame.now) id rows self.old self.new) }
-        ensures sound { IfOk result IsSound }
+        ensures sound { IfOk result HasRealRequest }
         ensures memory { OnErr result (self.new.broken ≡ true) }
         ensures signal { self.new.signal ≡ T.meaning.signal }
     {
@@ -116,7 +116,7 @@ fn regroup_last<T: Telemetry>(
     requires { IsTaken (frame_of frame.now) segment.now }
     ensures regrouped { IfOk result (λ kept. OfLast (frame_of frame.now) segment.now (λ tables. IsRegrouped T.meaning tables kept)) }
     ensures light { IfOk result IsLight }
-    ensures stops { IfErr result (λ stop. OfLast (frame_of frame.now) segment.now (λ tables. Stops (StandsInRows T.meaning tables) stop)) }
+    ensures stops { IfErr result (λ stop. OfLast (frame_of frame.now) segment.now (λ tables. SaysDefect (StandsInRows T.meaning tables) stop)) }
 {
     let Frame::Message(bytes) = frame else {
         unreachable!()
@@ -133,7 +133,7 @@ fn regroup<T: Telemetry>(alloc: Global, set: &TableSet<RowsView<'_>>) -> Result<
     requires { IsSet (λ table. table) set.now.tables.items }
     ensures regrouped { IfOk result (IsRegrouped T.meaning (tables_in (λ table. table) set.now.tables.items)) }
     ensures light { IfOk result IsLight }
-    ensures stops { IfErr result (Stops (StandsInRows T.meaning (tables_in (λ table. table) set.now.tables.items))) }
+    ensures stops { IfErr result (SaysDefect (StandsInRows T.meaning (tables_in (λ table. table) set.now.tables.items))) }
 {
     let kept = T::regroup(alloc, set)?;
     Ok(kept)

@@ -8,7 +8,7 @@ ghost use Rattle.otap_capture.specs.Capture.{Frame, IsCapture};
 ghost use Rattle.otap_cells.specs.Tables.{Table};
 ghost use Rattle.otap_consume.specs.declared.refusal.Cause.{Cause};
 ghost use Rattle.otap_consume.specs.declared.refusal.Refusal.{Refusal};
-ghost use Rattle.otap_consume.specs.Bytes.{HasBytes};
+ghost use Rattle.otap_consume.specs.Bytes.{IsOfBytes};
 ghost use Rattle.otap_consume.specs.Outcomes.{stage_of, Outcome, Accepted, Refused, is_broken, payloads_after};
 ghost use Rattle.otap_consume.specs.Receiving.{ReceivedAfter, Received, HasDefect, IsInFormat};
 
@@ -39,9 +39,9 @@ pub fn refused_by_what_is_wrong<T: Telemetry>()
 /// Each frame has an outcome after frames with outcomes, and so have all frames, and those of each capture. What stands in
 /// messages and captures are bytes, numbers below 256.
 pub fn received_some_outcome<T: Telemetry>()
-    ensures next { (frames : List Frame) (outcomes : List Outcome) (frame : Frame) → All HasBytes frames → HasBytes frame → Received T.meaning frames outcomes
+    ensures next { (frames : List Frame) (outcomes : List Outcome) (frame : Frame) → All IsOfBytes frames → IsOfBytes frame → Received T.meaning frames outcomes
         → (outcome : Outcome) × ReceivedAfter T.meaning outcomes frame outcome }
-    ensures all { (frames : List Frame) → All HasBytes frames → (outcomes : List Outcome) × Received T.meaning frames outcomes }
+    ensures all { (frames : List Frame) → All IsOfBytes frames → (outcomes : List Outcome) × Received T.meaning frames outcomes }
     ensures capture { (bytes : List ℕ) (frames : List Frame) (end : Option Damage) → All (λ byte. byte < 256) bytes → IsCapture bytes frames end
         → (outcomes : List Outcome) × Received T.meaning frames outcomes }
 {

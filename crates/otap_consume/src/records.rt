@@ -6,7 +6,7 @@ ghost use Rattle.otap_cells.specs.Payload.{kinds_of};
 ghost use Rattle.otap_capture.specs.Batch.{content_of};
 ghost use Rattle.otap_consume.specs.Records.{EachTakes, OneRefuses, TakesAll};
 ghost use Rattle.otap_consume.specs.Streams.{AreAfter, kinds_in};
-ghost use Rattle.otap_consume.specs.Stops.{Stops, IsOfRecord, StopOf};
+ghost use Rattle.otap_consume.specs.Stops.{SaysDefect, IsOfRecord, StopOf};
 
 use crate::not_taken::{NotTaken, defect};
 use crate::refusal::Cause;
@@ -23,7 +23,7 @@ pub(crate) fn take_records(
 ) -> Result<(), NotTaken>
     ensures takes { OnOk result (TakesAll streams.old batch.now.payloads streams.new) }
     ensures stops { IfErr result (λ stop. (signal : Signal) (past : List PayloadIn) → kinds_in streams.old ≡ kinds_of signal
-        → AreAfter past streams.old → Stops (IsOfRecord signal past batch.now.payloads) stop) }
+        → AreAfter past streams.old → SaysDefect (IsOfRecord signal past batch.now.payloads) stop) }
     ensures kinds { kinds_in streams.new ≡ kinds_in streams.old }
 {
     'payloads: for payload in batch.payloads() {

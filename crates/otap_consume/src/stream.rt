@@ -40,8 +40,8 @@ impl Stream {
     ghost use Rattle.std.specs.Option.{option_copied};
     ghost use Rattle.std.specs.Ordering.{int_eq};
     ghost use Rattle.otap_consume.specs.Defects.{is_open_id};
-    ghost use Rattle.otap_consume.specs.Payloads.{type_of};
-    ghost use Rattle.otap_consume.specs.StreamSteps.{Takes, DoesNotTake, closed, id_of, held_of, reader_of};
+    ghost use Rattle.otap_consume.specs.Payloads.{payload_type_of};
+    ghost use Rattle.otap_consume.specs.StreamSteps.{Takes, DoesNotTake, closed, schema_id_of, held_of, reader_of};
 
     /// No sub-stream is open.
     pub(crate) fn new(kind: Kind) -> Stream
@@ -61,14 +61,14 @@ impl Stream {
 
     /// Whether payloads of this type go into it.
     pub(crate) fn is_of(&self, kind: i32) -> bool
-        ensures { result ≡ int_eq kind (type_of self.now.kind) }
+        ensures { result ≡ int_eq kind (payload_type_of self.now.kind) }
     {
         kind == self.kind.number()
     }
 
     /// Whether this is the schema id of the sub-stream that is open.
     pub(crate) fn has_id(&self, schema_id: &str) -> bool
-        ensures { result ≡ is_open_id schema_id.now (id_of self.now) }
+        ensures { result ≡ is_open_id schema_id.now (schema_id_of self.now) }
     {
         match &self.current {
             Some(substream) => substream.schema_id.as_str() == schema_id,
@@ -94,8 +94,8 @@ impl Stream {
 
     /// Takes a further record of the sub-stream that is open. Where it is refused, none is open any more.
     fn go_on(&mut self, payload: &Payload<'_>) -> Result<(), ColumnRefusal>
-        requires of_type { int_eq payload.now.kind (type_of self.old.kind) ≡ true }
-        requires same { is_open_id payload.now.schema_id.now (id_of self.old) ≡ true }
+        requires of_type { int_eq payload.now.kind (payload_type_of self.old.kind) ≡ true }
+        requires same { is_open_id payload.now.schema_id.now (schema_id_of self.old) ≡ true }
         ensures ok { OnOk result (Takes self.old (content_of payload.now) self.new) }
         ensures err { IfErr result (DoesNotTake self.old (content_of payload.now)) }
         ensures kind { self.new.kind ≡ self.old.kind }
@@ -110,8 +110,8 @@ impl Stream {
 
     /// Opens a sub-stream in place of the one that is open.
     fn begin(&mut self, alloc: Global, payload: &Payload<'_>) -> Result<(), ColumnRefusal>
-        requires of_type { int_eq payload.now.kind (type_of self.old.kind) ≡ true }
-        requires other { is_open_id payload.now.schema_id.now (id_of self.old) ≡ false }
+        requires of_type { int_eq payload.now.kind (payload_type_of self.old.kind) ≡ true }
+        requires other { is_open_id payload.now.schema_id.now (schema_id_of self.old) ≡ false }
         ensures ok { OnOk result (Takes self.old (content_of payload.now) self.new) }
         ensures err { IfErr result (DoesNotTake self.old (content_of payload.now)) }
         ensures kind { self.new.kind ≡ self.old.kind }

@@ -5,7 +5,7 @@ ghost use Rattle.otap_cells.specs.Payload.{kinds_of};
 ghost use Rattle.otap_consume.specs.declared.not_taken.NotTaken.TheVariants.{Defect};
 ghost use Rattle.otap_consume.specs.Defects.{Refuses};
 ghost use Rattle.otap_consume.specs.Segments.{CanShow};
-ghost use Rattle.otap_consume.specs.Stops.{Stops};
+ghost use Rattle.otap_consume.specs.Stops.{SaysDefect};
 ghost use Rattle.otap_consume.specs.Streams.{AreAfter, kinds_in};
 ghost use Rattle.otap_consume.specs.Taking.{AcceptsAfter, Weighs, StopsBySize};
 
@@ -33,7 +33,7 @@ pub(crate) fn take_payloads(
     ensures accepts { IfOk result (λ rows. (past : List PayloadIn) → AreAfter past streams.old
         → AcceptsAfter signal past batch.now.payloads streams.new rows) }
     ensures refuses { IfErr result (λ stop. (past : List PayloadIn) → AreAfter past streams.old
-        → Stops (Refuses signal past batch.now.payloads) stop) }
+        → SaysDefect (Refuses signal past batch.now.payloads) stop) }
     ensures shows { OnOk result (CanShow streams.new batch.now.payloads) }
     ensures kinds { kinds_in streams.new ≡ kinds_in streams.old }
 {

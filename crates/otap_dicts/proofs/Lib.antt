@@ -4,4 +4,4 @@ pub mod Larger
 pub mod Observing
 pub mod Once
 pub mod Repeated
-mod Places
+pub mod Places

@@ -5,7 +5,7 @@ use Rattle.std.specs.List.{list_any}
 use Rattle.std.proofs.lemmas.List.Sums.{fold-append, sum_by_push}
 use Rattle.otap_dicts.specs.declared.form.Form.{Form}
 use Rattle.otap_dicts.specs.declared.form.Form.TheVariants.{Absent, Dict8, Dict16, Plain}
-use Rattle.otap_dicts.specs.Forms.{with_value, distinct, bytes_of, is_too_large, dictionary_form, form_of}
+use Rattle.otap_dicts.specs.Forms.{with_value, distinct, byte_count, is_too_large, dictionary_form, form_of}
 use Rattle.otap_dicts.specs.Ladders.{LadderIn, StandsForMore, kept_in, ladder_of, takes, with_new, observed}
 use Rattle.otap_dicts.specs.Limits.{narrow_limit}
 use Rattle.otap_dicts.proofs.Larger.{large-plain, large-stays}
@@ -25,13 +25,13 @@ not-absent false true = refl
 not-absent false false = refl
 
 -- a value is never lost
-grows : (has : Bool) (values : List (List ℕ)) (value : List ℕ) → let more = if has then values else values ++ value ∷ [] in (length values ≤ length more) × (bytes_of values ≤ bytes_of more)
+grows : (has : Bool) (values : List (List ℕ)) (value : List ℕ) → let more = if has then values else values ++ value ∷ [] in (length values ≤ length more) × (byte_count values ≤ byte_count more)
 grows true values value = (omega arith, omega arith)
 grows false values value = (omega (arith, length-append values (value ∷ [])), omega (arith, sum_by_push length values value))
 
 -- the ladder of a dictionary column with these distinct values
 ladder_by : List (List ℕ) → LadderIn
-ladder_by values = record { dictionary = true; form = dictionary_form (length values) (bytes_of values); values = kept_in (dictionary_form (length values) (bytes_of values)) values }
+ladder_by values = record { dictionary = true; form = dictionary_form (length values) (byte_count values); values = kept_in (dictionary_form (length values) (byte_count values)) values }
 
 with_form : Form → List (List ℕ) → LadderIn
 with_form form values = record { dictionary = true; form = form; values = kept_in form values }
@@ -41,23 +41,23 @@ unfolding with_new ladder_by
 one-new form values value = rw (length-append values (value ∷ []), sum_by_push length values value) refl
 
 in-dictionary : (form : Form) (values : List (List ℕ)) (value : List ℕ) (has : Bool) → list_any (bytes_eq value) values ≡ has
-    → takes (record { dictionary = true; form = form; values = values }) ≡ true → kept_in form values ≡ values → form ≡ dictionary_form (length values) (bytes_of values)
+    → takes (record { dictionary = true; form = form; values = values }) ≡ true → kept_in form values ≡ values → form ≡ dictionary_form (length values) (byte_count values)
     → observed (record { dictionary = true; form = form; values = values }) value ≡ ladder_by (with_value values value)
 unfolding observed ladder_by
 in-dictionary form values value true has takes kept same = rw (takes, has, sym same, kept) refl
 in-dictionary form values value false has takes kept same = rw (takes, has) (one-new form values value)
 
-no-more : (values : List (List ℕ)) (value : List ℕ) → dictionary_form (length values) (bytes_of values) ≡ Plain → with_form Plain values ≡ ladder_by (with_value values value)
+no-more : (values : List (List ℕ)) (value : List ℕ) → dictionary_form (length values) (byte_count values) ≡ Plain → with_form Plain values ≡ ladder_by (with_value values value)
 unfolding with_form ladder_by
 no-more values value plain =
     let more = grows (list_any (bytes_eq value) values) values value in
-    let large : is_too_large (length (with_value values value)) (bytes_of (with_value values value)) ≡ true =
-    large-stays (length values) (bytes_of values) (length (with_value values value)) (bytes_of (with_value values value)) more.0 more.1 (large-plain (length values) (bytes_of values) plain) in
+    let large : is_too_large (length (with_value values value)) (byte_count (with_value values value)) ≡ true =
+    large-stays (length values) (byte_count values) (length (with_value values value)) (byte_count (with_value values value)) more.0 more.1 (large-plain (length values) (byte_count values) plain) in
     rw large refl
 
-any-form : (form : Form) (values : List (List ℕ)) (value : List ℕ) → form ≡ dictionary_form (length values) (bytes_of values) → observed (with_form form values) value ≡ ladder_by (with_value values value)
+any-form : (form : Form) (values : List (List ℕ)) (value : List ℕ) → form ≡ dictionary_form (length values) (byte_count values) → observed (with_form form values) value ≡ ladder_by (with_value values value)
 unfolding with_form observed
-any-form Absent values value same = absurd (true≢false (ap is_absent same ∙ not-absent (is_too_large (length values) (bytes_of values)) (nat_lt narrow_limit (length values))))
+any-form Absent values value same = absurd (true≢false (ap is_absent same ∙ not-absent (is_too_large (length values) (byte_count values)) (nat_lt narrow_limit (length values))))
 any-form Dict8 values value same = in-dictionary Dict8 values value (list_any (bytes_eq value) values) refl refl refl same
 any-form Dict16 values value same = in-dictionary Dict16 values value (list_any (bytes_eq value) values) refl refl refl same
 any-form Plain values value same = no-more values value (sym same)

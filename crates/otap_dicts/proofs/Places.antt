@@ -5,7 +5,7 @@ use Rattle.std.specs.List.{list_any, position_from}
 use Rattle.std.proofs.lemmas.Bool.{false≢true}
 use Rattle.std.proofs.lemmas.Iterator.Adapters.{position_from-zero}
 use Rattle.otap_dicts.specs.declared.form.Form.TheVariants.{Dict8, Dict16, Plain}
-use Rattle.otap_dicts.specs.Forms.{bytes_of, is_too_large}
+use Rattle.otap_dicts.specs.Forms.{byte_count, is_too_large}
 use Rattle.otap_dicts.specs.Ladders.{LadderIn, is_plain, kept_in, observed, takes, with_new}
 use Rattle.otap_dicts.specs.Limits.{narrow_limit}
 use Rattle.otap_dicts.proofs.Found.{last_place}
@@ -24,7 +24,7 @@ module _ {X : Type 0} (test : X → Bool) where
   some_stays : (n : ℕ) (xs ys : List X) → position test xs ≡ Some n → position test (xs ++ ys) ≡ Some n
   some_stays n xs ys is = position_from-zero test (xs ++ ys) ∙ some_from 0 n xs ys (sym (position_from-zero test xs) ∙ is)
 
-  found_from : (i : ℕ) (xs : List X) → list_any test xs ≡ true → (n : ℕ) × (position_from test i xs ≡ Some n)
+  pub found_from : (i : ℕ) (xs : List X) → list_any test xs ≡ true → (n : ℕ) × (position_from test i xs ≡ Some n)
   found_from i [] is = absurd (false≢true is)
   found_from i (x ∷ xs) is = by (test x) refl (found_from (i + 1) xs)
     where
@@ -45,7 +45,7 @@ not_plain false false values is = refl
 with_new_last : (ladder : LadderIn) (value : List ℕ) → is_plain (with_new ladder value).form ≡ false → (with_new ladder value).values ≡ ladder.values ++ value ∷ []
 unfolding with_new
 with_new_last ladder value is =
-    not_plain (is_too_large (length ladder.values + 1) (bytes_of ladder.values + length value)) (nat_lt narrow_limit (length ladder.values + 1)) (ladder.values ++ value ∷ []) is
+    not_plain (is_too_large (length ladder.values + 1) (byte_count ladder.values + length value)) (nat_lt narrow_limit (length ladder.values + 1)) (ladder.values ++ value ∷ []) is
 
 -- a ladder that takes no value becomes plain
 not_taken : (ladder : LadderIn) (value : List ℕ) → takes ladder ≡ false → is_plain (observed ladder value).form ≡ true

@@ -7,7 +7,7 @@ use Rattle.std.proofs.lemmas.Cmp.{nat_list_eq_equiv}
 use Rattle.std.proofs.lemmas.List.Folds.{list_any_at}
 use Rattle.otap_dicts.specs.declared.form.Form.{Form}
 use Rattle.otap_dicts.specs.declared.form.Form.TheVariants.{Absent, Dict8, Dict16, Plain}
-use Rattle.otap_dicts.specs.Forms.{bytes_of, is_too_large, dictionary_form}
+use Rattle.otap_dicts.specs.Forms.{byte_count, is_too_large, dictionary_form}
 use Rattle.otap_dicts.specs.Ladders.{LadderIn, in_form, takes, with_new, observed}
 use Rattle.otap_dicts.specs.Limits.{narrow_limit}
 
@@ -56,7 +56,7 @@ not_taken dictionary form values value takes = rw takes refl
 added : (dictionary : Bool) (form : Form) (values : List (List ℕ)) (value : List ℕ) → takes (record { dictionary = dictionary; form = form; values = values }) ≡ true
     → list_any (bytes_eq value) values ≡ false
     → observed (record { dictionary = dictionary; form = form; values = values }) value
-    ≡ in_form (record { dictionary = dictionary; form = form; values = values }) (dictionary_form (length values + 1) (bytes_of values + length value)) value
+    ≡ in_form (record { dictionary = dictionary; form = form; values = values }) (dictionary_form (length values + 1) (byte_count values + length value)) value
 unfolding observed with_new
 added dictionary form values value takes new = rw (takes, new) refl
 
@@ -72,7 +72,7 @@ twice_by dictionary form values value true true takes_is has_is =
 twice_by false form values value true false takes_is has_is = cc
 twice_by true form values value true false takes_is has_is =
     again (record { dictionary = true; form = form; values = values }) _ value
-    (added true form values value takes_is has_is) (new_of form (is_too_large (length values + 1) (bytes_of values + length value)) (nat_lt narrow_limit (length values + 1)) values value)
+    (added true form values value takes_is has_is) (new_of form (is_too_large (length values + 1) (byte_count values + length value)) (nat_lt narrow_limit (length values + 1)) values value)
 
 pub twice : (ladder : LadderIn) (value : List ℕ) → observed (observed ladder value) value ≡ observed ladder value
 twice ladder value = twice_by ladder.dictionary ladder.form ladder.values value (takes ladder) (list_any (bytes_eq value) ladder.values) refl refl

@@ -13,8 +13,8 @@ unfoldable pub distinct : List (List ℕ) → List (List ℕ)
 distinct values = fold with_value [] values
 
 -- The bytes of all values together.
-abbrev pub bytes_of : List (List ℕ) → ℕ
-bytes_of values = sum_by length values
+abbrev pub byte_count : List (List ℕ) → ℕ
+byte_count values = sum_by length values
 
 -- The form of a dictionary column, by the number of its distinct values and by the bytes that these have together.
 abbrev pub is_too_large : ℕ → ℕ → Bool
@@ -26,4 +26,4 @@ dictionary_form count bytes = if is_too_large count bytes then Plain else (if na
 -- The form of a column: absent without values; plain where it isn't written as a dictionary at all, or its dictionary would be too large.
 abbrev pub form_of : Bool → List (List ℕ) → Form
 form_of dictionary [] = Absent
-form_of dictionary (value ∷ values) = let known = distinct (value ∷ values) in if dictionary then dictionary_form (length known) (bytes_of known) else Plain
+form_of dictionary (value ∷ values) = let known = distinct (value ∷ values) in if dictionary then dictionary_form (length known) (byte_count known) else Plain

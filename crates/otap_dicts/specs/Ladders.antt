@@ -3,7 +3,7 @@ use Rattle.std.specs.Prelude.{◌≡◌, ℕ, ◌+◌, Bool, true, false, ◌&&�
 use Rattle.std.specs.List.{list_any}
 use Rattle.otap_dicts.specs.declared.form.Form.{Form}
 use Rattle.otap_dicts.specs.declared.form.Form.TheVariants.{Dict8, Dict16, Plain}
-use Rattle.otap_dicts.specs.Forms.{distinct, bytes_of, dictionary_form, form_of}
+use Rattle.otap_dicts.specs.Forms.{distinct, byte_count, dictionary_form, form_of}
 
 abbrev pub is_dictionary : Form → Bool
 is_dictionary Dict8 = true
@@ -33,7 +33,7 @@ abbrev pub in_form : LadderIn → Form → List ℕ → LadderIn
 in_form ladder form value = record { dictionary = ladder.dictionary; form = form; values = kept_in form (ladder.values ++ value ∷ []) }
 
 unfoldable pub with_new : LadderIn → List ℕ → LadderIn
-with_new ladder value = in_form ladder (dictionary_form (length ladder.values + 1) (bytes_of ladder.values + length value)) value
+with_new ladder value = in_form ladder (dictionary_form (length ladder.values + 1) (byte_count ladder.values + length value)) value
 
 -- The ladder after one more observed value. A form that is plain stays so.
 abbrev pub takes : LadderIn → Bool

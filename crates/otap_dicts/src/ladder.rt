@@ -1,7 +1,7 @@
 ghost use Rattle.std.specs.Prelude.{◌≡◌, ◌+◌, ◌<◌, ◌≤◌, [], length, position, bytes_eq, slice_get, true, false, Some, IfOk, OnOk, OnErr};
 ghost use Rattle.std.specs.List.{list_any};
 ghost use Rattle.std.specs.Option.{option_copied};
-ghost use Rattle.otap_dicts.specs.Forms.{bytes_of};
+ghost use Rattle.otap_dicts.specs.Forms.{byte_count};
 ghost use Rattle.otap_dicts.specs.Ladders.{StandsForMore, ladder_of, observed, with_new, in_form, is_dictionary, takes};
 ghost use Rattle.otap_dicts.specs.Limits.{byte_limit, value_limit};
 
@@ -149,7 +149,7 @@ impl Ladder {
         requires dictionary { is_dictionary form ≡ true }
         requires marked { self.old.dictionary ≡ true }
         requires few { length self.old.values < value_limit }
-        requires small { bytes_of self.old.values + length value.now ≤ byte_limit }
+        requires small { byte_count self.old.values + length value.now ≤ byte_limit }
         ensures ok { OnOk result (self.new ≡ in_form self.old form value.now) }
         ensures place { IfOk result (λ place. Some place ≡ position (bytes_eq value.now) self.new.values) }
         ensures err { OnErr result (self.new ≡ self.old) }

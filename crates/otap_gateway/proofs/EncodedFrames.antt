@@ -1,5 +1,5 @@
 -- What one frame makes of an exporter and of the far end.
-use Rattle.std.proofs.Common.{◌≡◌, inl, inr, ℕ, ◌<◌, List, [], ◌∷◌, ◌++◌, length, IfOk, Result, Ok, Err, refl, sym, ap, ◌∙◌, subst, arith}
+use Rattle.std.proofs.Common.{◌≡◌, inl, inr, ℕ, ◌<◌, List, [], ◌∷◌, ◌++◌, length, refl, sym, ap, ◌∙◌, subst, arith}
 use Rattle.std.specs.Prelude.{codes}
 use Rattle.lists.proofs.Growing.{each_after-push, each_after-weaker, each_after-length}
 use Rattle.otap_capture.specs.Capture.{Frame, Message, Packed, reset_frame, capture_limit}
@@ -24,13 +24,9 @@ use Rattle.otap_gateway.specs.RefusedRequests.{refused_request}
 use Rattle.otap_gateway.specs.Reply.{ReplyText}
 use Rattle.otap_gateway.specs.Told.{Gave, Tells}
 use Rattle.otap_gateway.specs.JobStates.{HasTold}
-use Rattle.otap_gateway.proofs.SentSoFar.{sent_on, sent_still, requests_more, messages_more, requests_none, messages_none, requests_first, messages_first, few_requests, are_allowed}
+use Rattle.otap_gateway.proofs.SentSoFar.{sent_on, sent_still, requests_first, messages_first, few_requests, are_allowed}
 use Rattle.otap_gateway.proofs.Telling.{tells_more}
-
--- what is so of a result is so of it in other words
-pub ok_more : {A E : Type 0} (P Q : A → Type 0) → ((x : A) → P x → Q x) → (r : Result A E) → IfOk r P → IfOk r Q
-ok_more P Q more (Ok x) so = more x so
-ok_more P Q more (Err e) so = tt
+use Rattle.otap_transit.proofs.SendingsGrown.{requests_sent, messages_sent, requests_reset, messages_reset}
 
 -- ---- the exporter
 
@@ -43,10 +39,10 @@ module _ (rows : SignalRows) where
 
   stands_on : (e : ExporterIn) (os : List Encoded) (q : Request) (m : List ℕ)
       → StandsFor rows (requests_since (sent os) ++ q ∷ []) (messages_since (sent os) ++ m ∷ []) e → HasEncoded rows e (os ++ Puts (Sent q m) ∷ [])
-  stands_on e os q m stands = rw (sent_on os (Sent q m), requests_more (sent os) q m, messages_more (sent os) q m) stands
+  stands_on e os q m stands = rw (sent_on os (Sent q m), requests_sent (sent os) q m, messages_sent (sent os) q m) stands
 
   stands_anew : (e : ExporterIn) (os : List Encoded) → StandsFor rows [] [] e → HasEncoded rows e (os ++ Puts Reset ∷ [])
-  stands_anew e os new = rw (sent_on os Reset, requests_none (sent os), messages_none (sent os)) new
+  stands_anew e os new = rw (sent_on os Reset, requests_reset (sent os), messages_reset (sent os)) new
 
   -- the frame is refused, and the exporter stays as it is
   frame_refused : (e : ExporterIn) (number : ℕ) (frame : Frame) (name : List ℕ) → ((os : List Encoded) → EncodedAfter rows os frame (Refuses name))

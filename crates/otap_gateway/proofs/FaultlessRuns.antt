@@ -15,7 +15,7 @@ use Rattle.otap_gateway.specs.declared.stop.Tally.{Tally}
 use Rattle.otap_gateway.specs.Commands.{ReplyOf}
 use Rattle.otap_gateway.specs.Lines.{end_text}
 use Rattle.otap_gateway.specs.Reply.{err_text}
-use Rattle.otap_gateway.specs.Runs.{World, Sinks, Runs, WritesAll, Completes, Leaves, Faults, status_of}
+use Rattle.otap_gateway.specs.Runs.{World, Sinks, Runs, WritesAll, Completes, Leaves, CountsFaults, exit_status}
 
 -- the capture that was written out is the one that ends well
 same_capture : (left : Option (List ℕ)) (bytes : List ℕ) (frames others : List Frame) (end : Option Damage) → left ≡ Some bytes → IsCapture bytes frames None
@@ -28,7 +28,7 @@ same_capture (Some xs) bytes frames others end told capture other =
 
 -- a run that came to its end
 completes : (job : Command) (left : Option (List ℕ)) (old new : Sinks) (tally : Tally) (bytes : List ℕ) (frames : List Frame) → WritesAll job left old new tally → left ≡ Some bytes
-    → IsCapture bytes frames None → Completes job frames old new (status_of (Ok tally))
+    → IsCapture bytes frames None → Completes job frames old new (exit_status (Ok tally))
 completes job left old new tally bytes frames w told capture =
     let same = same_capture left bytes frames w.frames w.end told capture w.capture in
     let fine : tally.damaged ≡ false = w.damaged ∙ ap is_some same.1 in
@@ -51,8 +51,8 @@ pub complete_runs : (job : Command) (old new : World) (status : ℕ) (bytes : Li
 complete_runs job old new status bytes frames run told capture source out err =
     subst (λ n. (n ≡ 6) ⊎ Completes job frames old.sinks new.sinks n) (sym run.same) (by_returned run.returned run.leaves run.faults)
   where
-    by_returned : (returned : Result Tally Stop) → Leaves job old.left old.sinks new.sinks returned → Faults old new returned
-        → (status_of returned ≡ 6) ⊎ Completes job frames old.sinks new.sinks (status_of returned)
+    by_returned : (returned : Result Tally Stop) → Leaves job old.left old.sinks new.sinks returned → CountsFaults old new returned
+        → (exit_status returned ≡ 6) ⊎ Completes job frames old.sinks new.sinks (exit_status returned)
     by_returned (Ok tally) leaves faults = inr (completes job old.left old.sinks new.sinks tally bytes frames leaves told capture)
     by_returned (Err stop.Source) leaves faults = absurd (source faults.0)
     by_returned (Err stop.Sink) leaves faults = elim faults.1 [ inl failed ↦ absurd (out failed.out) | inr failed ↦ absurd (err failed.err) ]

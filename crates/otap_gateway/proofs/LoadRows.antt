@@ -13,8 +13,8 @@ use Rattle.otlp_model.specs.declared.groups.ResourceGroup.{ResourceGroup}
 use Rattle.otlp_model.specs.declared.value.Pair.{Pair}
 use Rattle.otlp_model.specs.declared.value.Value.{Value, the_lemmas}
 use Rattle.otlp_model.specs.declared.value.Value as values
-use Rattle.otlp_load.specs.Pairs.{double, numbered, value_at, pair_at, pairs_of}
-use Rattle.otlp_load.specs.Load.{items_each, number_at, places_below, requests_at_most, service_of, host_of, resource_of, scope_of_all, group_of, groups_of}
+use Rattle.otlp_load.specs.Pairs.{double, numbered_text, load_value, load_pair, pairs_of}
+use Rattle.otlp_load.specs.Load.{items_each, item_number, places_below, requests_at_most, service_of, host_of, load_resource, scope_of_all, group_of, groups_of}
 use Rattle.otlp_load.proofs.ItemsLight.{numbered_at_most, pairs_at_most}
 use Rattle.otlp_load.proofs.LoadCounted.{places_counted}
 use Rattle.otap_cells.specs.Weights.{row_weight_limit}
@@ -44,7 +44,7 @@ either_plain : (b : Bool) (x y : Value) → IsPlain x → IsPlain y → IsPlain 
 either_plain true x y first second = first
 either_plain false x y first second = second
 
-value_plain : (r n place : ℕ) → IsPlain (value_at r n place)
+value_plain : (r n place : ℕ) → IsPlain (load_value r n place)
 value_plain r n place =
     either_plain (place == 8) _ _ (str_plain _) (either_plain (place % 4 == 0) _ _ (str_plain _) (either_plain (place % 4 == 1) _ _ (int_plain (n % 1000))
     (either_plain (place % 4 == 2) _ _ (bool_plain (n % 2 == 1)) (double_plain (double n)))))
@@ -63,14 +63,14 @@ plain_rows pair_of plain (place ∷ places) =
 
 pub pairs_rows : (r n : ℕ) → r < requests_at_most → parts_weight pair_cells (pairs_of r n) ≤ 528
 unfolding pairs_of
-pairs_rows r n request = subst (λ (weight : ℕ). weight ≤ 528) (sym (plain_rows (pair_at r n) (value_plain r n) (range_with_len 0 12))) (pairs_at_most r n request)
+pairs_rows r n request = subst (λ (weight : ℕ). weight ≤ 528) (sym (plain_rows (load_pair r n) (value_plain r n) (range_with_len 0 12))) (pairs_at_most r n request)
 
-resource_rows : (g : ℕ) → g < 10 → parts_weight pair_cells (resource_of g).pairs ≤ 100
+resource_rows : (g : ℕ) → g < 10 → parts_weight pair_cells (load_resource g).pairs ≤ 100
 resource_rows g few =
     let service = pair_weighs (service_of g) in
     let host = pair_weighs (host_of g) in
-    let name : cells_weight (value_cells (values.Str (numbered (codes "svc-") g))) ≡ length (numbered (codes "svc-") g) = str_weighs (numbered (codes "svc-") g) in
-    let short : length (numbered (codes "svc-") g) ≤ 5 = numbered_at_most 1 g (codes "svc-") (omega arith) (omega arith) (omega arith) in
+    let name : cells_weight (value_cells (values.Str (numbered_text (codes "svc-") g))) ≡ length (numbered_text (codes "svc-") g) = str_weighs (numbered_text (codes "svc-") g) in
+    let short : length (numbered_text (codes "svc-") g) ≤ 5 = numbered_at_most 1 g (codes "svc-") (omega arith) (omega arith) (omega arith) in
     let number : cells_weight (value_cells (values.Int (pos g))) ≡ 0 = int_weighs (pos g) in
     let a = sum_by-cons (λ (pair : Pair). 32 + cells_weight (pair_cells pair)) (service_of g) (host_of g ∷ []) in
     let b = sum_by-cons (λ (pair : Pair). 32 + cells_weight (pair_cells pair)) (host_of g) [] in
@@ -105,16 +105,16 @@ group_rows of_item resource scope items = by (cases_Bool (nat_lt 0 (length items
 
 -- where each item weighs at most so much
 items_rows : {I : Type 0} (of_item : I → ℕ) (g : ℕ) (item_at : ℕ → I) → ((k : ℕ) → of_item (item_at k) ≤ 800) → (places : List ℕ)
-    → sum_by (λ item. front_weight (resource_of g) scope_of_all + of_item item) (map item_at places) ≤ length places * 836
+    → sum_by (λ item. front_weight (load_resource g) scope_of_all + of_item item) (map item_at places) ≤ length places * 836
 items_rows of_item g item_at each places =
-    let most = sum_by-le (λ item. front_weight (resource_of g) scope_of_all + of_item item) 836 (map item_at places)
-    (All-map (λ item. front_weight (resource_of g) scope_of_all + of_item item ≤ 836) item_at places (λ k d below. let own = each (get_or places k d) in omega arith)) in
-    subst (λ (n : ℕ). sum_by (λ item. front_weight (resource_of g) scope_of_all + of_item item) (map item_at places) ≤ n * 836) (length-map places item_at) most
+    let most = sum_by-le (λ item. front_weight (load_resource g) scope_of_all + of_item item) 836 (map item_at places)
+    (All-map (λ item. front_weight (load_resource g) scope_of_all + of_item item ≤ 836) item_at places (λ k d below. let own = each (get_or places k d) in omega arith)) in
+    subst (λ (n : ℕ). sum_by (λ item. front_weight (load_resource g) scope_of_all + of_item item) (map item_at places) ≤ n * 836) (length-map places item_at) most
 
 place_rows : {I : Type 0} (of_item : I → ℕ) (g : ℕ) → g < 10 → (item_at : ℕ → I) → ((k : ℕ) → of_item (item_at k) ≤ 800) → (places : List ℕ)
-    → rows_beside of_item (group_with (resource_of g) scope_of_all (map item_at places) ∷ []) ≤ 100 + length places * 836
+    → rows_beside of_item (group_with (load_resource g) scope_of_all (map item_at places) ∷ []) ≤ 100 + length places * 836
 place_rows of_item g few item_at each places =
-    let rows = group_rows of_item (resource_of g) scope_of_all (map item_at places) in
+    let rows = group_rows of_item (load_resource g) scope_of_all (map item_at places) in
     let resource = resource_rows g few in
     let items = items_rows of_item g item_at each places in
     omega (arith, rows, resource, items)
@@ -131,6 +131,6 @@ bounded w a b c p q s n is fa fb fc all many = omega (arith, is, fa, fb, fc, all
 pub load_rows : {I : Type 0} (of_item : I → ℕ) (item_of : ℕ → ℕ → I) (r : ℕ) → ((n : ℕ) → of_item (item_of r n) ≤ 800) → rows_beside of_item (groups_of item_of r) ≤ row_weight_limit
 load_rows of_item item_of r each =
     let rows : (g : ℕ) → g < 10 → rows_beside of_item (group_of item_of r g ∷ []) ≤ 100 + length (places_below items_each g) * 836
-    = λ g few. place_rows of_item g few (λ k. item_of r (number_at r k)) (λ k. each (number_at r k)) (places_below items_each g) in
+    = λ g few. place_rows of_item g few (λ k. item_of r (item_number r k)) (λ k. each (item_number r k)) (places_below items_each g) in
     bounded _ _ _ _ (length (places_below items_each 0)) (length (places_below items_each 1)) (length (places_below items_each 2)) items_each
     (three_groups of_item (group_of item_of r 0) (group_of item_of r 1) (group_of item_of r 2)) (rows 0 (omega arith)) (rows 1 (omega arith)) (rows 2 (omega arith)) (places_counted items_each) refl

@@ -6,9 +6,10 @@ use Rattle.std.specs.Io.KnownBytes.{Appends, Keeps}
 use Rattle.std.specs.List.{flat_map, range_with_len}
 use Rattle.std.proofs.lemmas.List.{flat_map_more}
 use Rattle.std.proofs.lemmas.List.Sums.{sum_by-cons}
+use Rattle.lists.proofs.Known.{Keeps-refl, Appends-trans, Appends-kept}
 use Rattle.otap_capture.specs.Capture.{message_frame}
 use Rattle.otap_capture.specs.Outside.{AppendsFront}
-use Rattle.otap_capture.proofs.Known.{Keeps-refl, Appends-trans, Appends-kept, front_more, front_of_all, front_of_none}
+use Rattle.otap_capture.proofs.Known.{front_more, front_of_all, front_of_none}
 use Rattle.otap_columns.specs.TableSets.{openings}
 use Rattle.otap_produce.specs.Exporters.{ExporterIn}
 use Rattle.otap_capture.specs.Batch.{payloads_in}
@@ -20,12 +21,18 @@ use Rattle.otlp_model.specs.Telemetry.{telemetry}
 use Rattle.otap_gateway.specs.declared.load.Load.{Load}
 use Rattle.otap_gateway.specs.declared.opened.Opened.{Opened}
 use Rattle.otap_gateway.specs.declared.stop.Stop.{Stop}
-use Rattle.otap_gateway.specs.Encoding.{rows_of}
+use Rattle.otap_gateway.specs.Encoding.{signal_rows}
 use Rattle.otap_gateway.specs.Lines.{line_feed}
-use Rattle.otap_gateway.specs.Loading.{HasLoaded, LoadsNext, HasSent}
+use Rattle.otap_gateway.specs.Loading.{HasLoaded, LoadsNext}
 use Rattle.otap_gateway.specs.Loads.{first_requests, requests_of, frames_text, load_line, WritesLoadFront, LeavesLoad}
 use Rattle.otap_gateway.specs.Runs.{Sinks, IsFlushed}
 use Rattle.otap_gateway.proofs.LoadSteps.{requests_counted}
+
+-- out grew by the frames of the messages of the first requests
+pub record HasSent (rows : SignalRows) (count : ℕ) (old new : Option (List ℕ)) (e : ExporterIn) (o : Opened) : Type 0 where
+  pub messages : List (List ℕ)
+  pub loaded : HasLoaded rows count messages e o
+  pub out : Appends old new (frames_text messages)
 
 -- ---- the line
 
@@ -58,8 +65,8 @@ module _ (rows : SignalRows) where
     out = subst (λ text. Appends old new text) (flat_map_more message_frame [] sent.messages message) (Appends-trans old mid new (frames_text sent.messages) (message_frame message) sent.out out);
   }
 
-module _ (load : Load) (rows : SignalRows) (same : rows ≡ rows_of load.signal) where
-  policy_of : (n : ℕ) (messages : List (List ℕ)) → Policy rows (first_requests rows.signal n) messages → Policy (rows_of load.signal) (first_requests (rows_of load.signal).signal n) messages
+module _ (load : Load) (rows : SignalRows) (same : rows ≡ signal_rows load.signal) where
+  policy_of : (n : ℕ) (messages : List (List ℕ)) → Policy rows (first_requests rows.signal n) messages → Policy (signal_rows load.signal) (first_requests (signal_rows load.signal).signal n) messages
   policy_of n messages policy = subst (λ (r : SignalRows). Policy r (first_requests r.signal n) messages) same policy
 
   -- it stops before the first request

@@ -8,7 +8,7 @@ use Rattle.std.proofs.lemmas.List.FromFn.{length-map-range_with_len, map-range_w
 use Rattle.std.proofs.lemmas.Bool.{false≢true}
 use Rattle.lists.specs.EachAfter.{EachAfter}
 use Rattle.lists.proofs.Growing.{each_after-last}
-use Rattle.otap_capture.specs.Batch.{ReadsBatch, batch_in, payloads_in}
+use Rattle.otap_capture.specs.Batch.{ReadsBatch, batch_content, payloads_in}
 use Rattle.otap_consume.specs.Meanings.{Meaning}
 use Rattle.otap_produce.specs.Exporters.{ExporterIn, StandsFor, Exports}
 use Rattle.otap_produce.specs.Limits.{batch_limit}
@@ -51,7 +51,7 @@ module _ (rows : SignalRows) where
   -- its message is read
   pub message_read : (m : Meaning) (n : ℕ) (e e' : ExporterIn) (o : Opened) (message : List ℕ)
       → ((requests : List Request) (messages : List (List ℕ)) → All (IsExported rows) requests → Policy rows requests messages → EachAfter (IsReceivedAs m) [] [] requests messages)
-      → Exports rows (generated rows.signal n) e e' message → IsLoading rows n e o → ReadsBatch message (batch_in message)
+      → Exports rows (generated rows.signal n) e e' message → IsLoading rows n e o → ReadsBatch message (batch_content message)
   message_read m n e e' o message law exports loading =
       let requests = first_requests rows.signal n in
       let request = generated rows.signal n in

@@ -15,7 +15,7 @@ use Rattle.otap_gateway.specs.Runs.{Sinks, SinkFaults}
 use Rattle.otap_gateway.specs.Receptions.{meaning_of}
 use Rattle.otap_transit.specs.Transits.{IsReceivedAs}
 use Rattle.otap_produce.specs.Policy.{IsExported, Policy}
-use Rattle.otap_gateway.specs.Encoding.{rows_of}
+use Rattle.otap_gateway.specs.Encoding.{signal_rows}
 use Rattle.otlp_model.specs.declared.request.Signal.TheVariants as signals
 use Rattle.otlp_model.specs.declared.request.Request.{Request}
 use Rattle.lists.specs.EachAfter.{EachAfter}
@@ -64,7 +64,7 @@ complete_loads load source source' old new status runs out err = complete load o
 
 -- a signal's messages are received as their requests
 abbrev pub AreReceived : Signal → Type 0
-AreReceived signal = (requests : List Request) (messages : List (List ℕ)) → All (IsExported (rows_of signal)) requests → Policy (rows_of signal) requests messages
+AreReceived signal = (requests : List Request) (messages : List (List ℕ)) → All (IsExported (signal_rows signal)) requests → Policy (signal_rows signal) requests messages
     → EachAfter (IsReceivedAs (meaning_of signal)) [] [] requests messages
 
 pub loads_received : AreReceived signals.Traces → AreReceived signals.Logs → AreReceived signals.Metrics → (signal : Signal) → AreReceived signal

@@ -6,9 +6,9 @@ use Rattle.std.proofs.Math.Nat.{mod-lt}
 use Rattle.std.proofs.lemmas.List.Sums.{sum_by-cons}
 use Rattle.otlp_model.specs.declared.metrics.Number.{Number}
 use Rattle.otlp_model.specs.declared.metrics.Number.TheVariants as numbers
-use Rattle.otlp_load.specs.Pairs.{double, numbered}
-use Rattle.otlp_load.specs.Items.{metric_of, point_of, shape_of}
-use Rattle.otlp_load.specs.Load.{group_of, groups_of, items_each, number_at, places_below, requests_at_most, scope_of_all}
+use Rattle.otlp_load.specs.Pairs.{double, numbered_text}
+use Rattle.otlp_load.specs.Items.{load_metric, load_point, load_shape}
+use Rattle.otlp_load.specs.Load.{group_of, groups_of, items_each, item_number, places_below, requests_at_most, scope_of_all}
 use Rattle.otlp_load.proofs.ItemsLight.{numbered_at_most}
 use Rattle.otap_cells.specs.Weights.{row_weight_limit, weight_of_tables}
 use Rattle.otap_metrics.specs.Inside.{metric_weight, point_weight}
@@ -23,28 +23,28 @@ use Rattle.otap_gateway.proofs.LoadRows.{pairs_rows, load_rows}
 
 -- ---- metrics and their points
 
-point_rows : (r n : ℕ) (value : Number) → r < requests_at_most → sum_by point_weight (point_of r n value ∷ []) ≤ 560
+point_rows : (r n : ℕ) (value : Number) → r < requests_at_most → sum_by point_weight (load_point r n value ∷ []) ≤ 560
 point_rows r n value request =
     let pairs = pairs_rows r n request in
-    let own = point_weighs (point_of r n value) in
-    let split = sum_by-cons point_weight (point_of r n value) [] in
+    let own = point_weighs (load_point r n value) in
+    let split = sum_by-cons point_weight (load_point r n value) [] in
     omega (arith, pairs, own, split)
 
-shape_rows : (r n : ℕ) → r < requests_at_most → (b : Bool) → n % 2 == 1 ≡ b → sum_by point_weight (points_of (shape_of r n)) ≤ 560
+shape_rows : (r n : ℕ) → r < requests_at_most → (b : Bool) → n % 2 == 1 ≡ b → sum_by point_weight (points_of (load_shape r n)) ≤ 560
 shape_rows r n request true odd = rw odd (point_rows r n (numbers.Int (pos n)) request)
 shape_rows r n request false even = rw even (point_rows r n (numbers.Double (double n)) request)
 
-metric_rows : (r n : ℕ) → r < requests_at_most → metric_weight (metric_of r n) ≤ 800
+metric_rows : (r n : ℕ) → r < requests_at_most → metric_weight (load_metric r n) ≤ 800
 metric_rows r n request =
     let few : n % 300 < 300 = mod-lt n (omega arith) in
-    let short : length (numbered (codes "m-") (n % 300)) ≤ 5 = numbered_at_most 3 (n % 300) (codes "m-") (omega arith) (omega arith) (omega arith) in
-    let own = metric_weighs (metric_of r n) in
+    let short : length (numbered_text (codes "m-") (n % 300)) ≤ 5 = numbered_at_most 3 (n % 300) (codes "m-") (omega arith) (omega arith) (omega arith) in
+    let own = metric_weighs (load_metric r n) in
     let points = shape_rows r n request (n % 2 == 1) refl in
     omega (arith, short, own, points)
 
 -- ---- no points of histograms or summaries
 
-shape_nothing : (r n : ℕ) (b : Bool) → n % 2 == 1 ≡ b → hists.shape_weight (shape_of r n) ≡ 0
+shape_nothing : (r n : ℕ) (b : Bool) → n % 2 == 1 ≡ b → hists.shape_weight (load_shape r n) ≡ 0
 shape_nothing r n true odd = rw odd refl
 shape_nothing r n false even = rw even refl
 
@@ -56,11 +56,11 @@ all_nothing weight item_at each (k ∷ places) =
     let others = all_nothing weight item_at each places in
     omega (arith, split, own, others)
 
-group_nothing : (r g : ℕ) → hists.group_weight (group_of metric_of r g) ≡ 0
+group_nothing : (r g : ℕ) → hists.group_weight (group_of load_metric r g) ≡ 0
 group_nothing r g =
-    let items = map (λ k. metric_of r (number_at r k)) (places_below items_each g) in
+    let items = map (λ k. load_metric r (item_number r k)) (places_below items_each g) in
     let split = sum_by-cons hists.scope_weight (record { scope = scope_of_all; items = items }) [] in
-    let own = all_nothing hists.metric_weight (λ k. metric_of r (number_at r k)) (λ k. shape_nothing r (number_at r k) (number_at r k % 2 == 1) refl) (places_below items_each g) in
+    let own = all_nothing hists.hist_metric_weight (λ k. load_metric r (item_number r k)) (λ k. shape_nothing r (item_number r k) (item_number r k % 2 == 1) refl) (places_below items_each g) in
     omega (arith, split, own)
 
 -- ---- all tables
@@ -68,10 +68,10 @@ group_nothing r g =
 bounded : (whole metrics hists : ℕ) → whole ≡ metrics + hists → metrics ≤ row_weight_limit → hists ≡ 0 → whole ≤ row_weight_limit
 bounded whole metrics hists is few none = omega (arith, is, few, none)
 
-pub metric_tables_rows : (r : ℕ) → r < requests_at_most → weight_of_tables (whole_tables (groups_of metric_of r)) ≤ row_weight_limit
+pub metric_tables_rows : (r : ℕ) → r < requests_at_most → weight_of_tables (whole_tables (groups_of load_metric r)) ≤ row_weight_limit
 metric_tables_rows r request =
-    let metrics = load_rows metric_weight metric_of r (λ n. metric_rows r n request) in
-    let same = tables_weigh (groups_of metric_of r) in
-    let none = all_nothing hists.group_weight (group_of metric_of r) (group_nothing r) (range_with_len 0 3) in
-    let points = groups_weigh (groups_of metric_of r) in
-    bounded _ _ _ (whole_weigh (groups_of metric_of r)) (omega (arith, metrics, same)) (omega (arith, none, points))
+    let metrics = load_rows metric_weight load_metric r (λ n. metric_rows r n request) in
+    let same = tables_weigh (groups_of load_metric r) in
+    let none = all_nothing hists.group_weight (group_of load_metric r) (group_nothing r) (range_with_len 0 3) in
+    let points = groups_weigh (groups_of load_metric r) in
+    bounded _ _ _ (whole_weigh (groups_of load_metric r)) (omega (arith, metrics, same)) (omega (arith, none, points))

@@ -9,7 +9,7 @@ use Rattle.otap_gateway.specs.declared.command.Command.TheVariants.{List as List
 use Rattle.otap_gateway.specs.declared.stop.Stop.{Stop}
 use Rattle.otap_gateway.specs.declared.stop.Tally.{Tally}
 use Rattle.otap_gateway.specs.Commands.{words_of}
-use Rattle.otap_gateway.specs.Runs.{World, Leaves, Stops, Faults, Runs, status_of}
+use Rattle.otap_gateway.specs.Runs.{World, Leaves, Stops, CountsFaults, Runs, exit_status}
 
 jobs : List Command
 jobs = Listing ∷ Tidy Traces ∷ Tidy Logs ∷ Tidy Metrics ∷ Schema Traces ∷ Schema Logs ∷ Schema Metrics ∷ Show Traces ∷ Show Logs ∷ Show Metrics
@@ -49,8 +49,8 @@ pub one_job : (a b : Command) → words_of a ≡ words_of b → a ≡ b
 one_job a b is = let same : Some a ≡ Some b = sym (is_named a) ∙ ap named is ∙ is_named b in cc
 
 -- a run for a job is one for its words
-pub runs_named : (words : List (List ℕ)) (a : Command) (old new : World) (status : ℕ) (returned : Result Tally Stop) → words ≡ words_of a → status ≡ status_of returned
-    → Leaves a old.left old.sinks new.sinks returned → Stops a old new returned → Faults old new returned → (b : Command) → words ≡ words_of b → Runs b old new status
+pub runs_named : (words : List (List ℕ)) (a : Command) (old new : World) (status : ℕ) (returned : Result Tally Stop) → words ≡ words_of a → status ≡ exit_status returned
+    → Leaves a old.left old.sinks new.sinks returned → Stops a old new returned → CountsFaults old new returned → (b : Command) → words ≡ words_of b → Runs b old new status
 runs_named words a old new status returned named same leaves stops faults b named' =
     subst (λ (job : Command). Runs job old new status) (one_job a b (sym named ∙ named'))
     (record { returned = returned; same = same; leaves = leaves; stops = stops; faults = faults })

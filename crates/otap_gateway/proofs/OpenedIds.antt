@@ -10,20 +10,15 @@ use Rattle.std.proofs.lemmas.Bool.{cases_Bool, false≢true}
 use Rattle.std.proofs.lemmas.Map.Lookups.{exact_signed}
 use Rattle.std.proofs.lemmas.Bool.Decides.{Decides-int_eq}
 use Rattle.lists.specs.Payloads.{PayloadIn}
-use Rattle.otap_columns.specs.Streams.{is_of, open_id, opens, opens_after, last_of, id_in}
+use Rattle.otap_columns.specs.Streams.{is_of, open_id, opens, opens_after, last_of, schema_id_in}
 use Rattle.otap_columns.specs.TableSets.{openings}
-use Rattle.otap_columns.proofs.Openings.{open_id-own, open_id-other}
+use Rattle.otap_columns.proofs.Openings.{open_id-own, open_id-other, stays_open, open_id-none}
 use Rattle.otap_produce.proofs.Counting.{if_opens, openings-none, openings-push}
-use Rattle.otap_transit.proofs.SchemaIds.{stays_open}
 use Rattle.otap_gateway.specs.declared.opened.Opened.{Opened}
-use Rattle.otap_gateway.specs.Loading.{HasCounted, CountsPayloads, CountsFront, Opens}
-
-none_open : (kind : ℤ) → open_id kind [] ≡ None
-unfolding open_id
-none_open kind = refl
+use Rattle.otap_gateway.specs.Loading.{HasCounted, CountsPayloads, Opens}
 
 pub counted_none : (o : Opened) → IsEmpty o.last → o.count ≡ 0 → HasCounted [] o
-counted_none o empty zero = record { ids = λ kind. rw empty (sym (none_open kind)); count = zero ∙ sym openings-none }
+counted_none o empty zero = record { ids = λ kind. rw empty (sym (open_id-none kind)); count = zero ∙ sym openings-none }
 
 -- a payload that goes on with the sub-stream of its type changes nothing
 id_stays : (past : List PayloadIn) (p : PayloadIn) → opens past p ≡ false → (kind : ℤ) → open_id kind (past ++ p ∷ []) ≡ open_id kind past
@@ -58,7 +53,7 @@ abbrev opens_by : Option (List ℕ) → List ℕ → Bool
 opens_by None id = true
 opens_by (Some last) id = not (bytes_eq last id)
 
-by_last : (last : Option PayloadIn) (p : PayloadIn) → opens_after last p ≡ opens_by (id_in last) p.schema_id
+by_last : (last : Option PayloadIn) (p : PayloadIn) → opens_after last p ≡ opens_by (schema_id_in last) p.schema_id
 by_last None p = refl
 by_last (Some last) p = refl
 
@@ -77,6 +72,12 @@ opens_unknown o past p found has =
     by_open_id past p ∙ ap (λ known. opens_by known p.schema_id) (sym (has.ids p.kind) ∙ ap (λ known. option_map string_bytes known) (sym found))
 
 -- ---- all payloads of a message
+
+-- some payloads of a message are counted, and these are left
+pub record CountsFront (all left : List PayloadIn) (old new : Opened) : Type 0 where
+  pub done : List PayloadIn
+  pub split : done ++ left ≡ all
+  pub counts : CountsPayloads done old new
 
 pub front_more : (all left : List PayloadIn) (p : PayloadIn) (old mid new : Opened) → CountsFront all (p ∷ left) old mid → CountsPayloads (p ∷ []) mid new → CountsFront all left old new
 front_more all left p old mid new so_far one = record {

@@ -7,13 +7,16 @@ use Rattle.std.proofs.lemmas.Bool.{false≢true}
 use Rattle.std.proofs.lemmas.List.{flat_map_more}
 use Rattle.std.proofs.lemmas.List.Folds.{list_any-append}
 use Rattle.lists.proofs.Growing.{each_after-push}
+use Rattle.lists.specs.EachAfter.{EachAfter}
+use Rattle.lists.proofs.Truths.{or_false}
+use Rattle.lists.proofs.Known.{Appends-trans, Appends-kept}
 use Rattle.otap_capture.specs.declared.frame.Damage.{Damage}
 use Rattle.otap_capture.specs.Capture.{Frame, IsFrame, AreFrames, EndsAt, IsCapture}
 use Rattle.otap_capture.specs.Outside.{AppendsFront}
 use Rattle.otap_capture.specs.Deciding.{IsOpen}
 use Rattle.otap_capture.specs.Reading.{Reading, IsWaiting, TakesFrame, ahead}
 use Rattle.otap_capture.proofs.Framing.{are_frames-push}
-use Rattle.otap_capture.proofs.Known.{Appends-trans, Appends-kept, front_more, front_of_first, front_of_all}
+use Rattle.otap_capture.proofs.Known.{front_more, front_of_first, front_of_all}
 use Rattle.otap_gateway.specs.declared.command.Command.{Command}
 use Rattle.otap_gateway.specs.Commands.{ReplyOf}
 use Rattle.otap_gateway.specs.Jobs.{Rule, History}
@@ -23,7 +26,23 @@ use Rattle.otap_gateway.specs.declared.stop.Stop.{Stop}
 use Rattle.otap_gateway.specs.declared.stop.Stop.TheVariants as stop
 use Rattle.otap_gateway.specs.declared.drive.Handled.{Handled}
 use Rattle.otap_gateway.specs.Runs.{Sinks, World, BeginsWith, WritesAll, WritesFront, WritesTaken, Stops, LeavesLine, NoneFailed, IsFlushed, IsQuiet}
-use Rattle.otap_gateway.specs.Turns.{KeepsBoth, Progress, Settled, TurnAsks, TurnsFailing, TurnsFrame, TurnsFramePart, TurnsEnd, TurnsEndPart}
+use Rattle.otap_gateway.specs.Turns.{KeepsBoth, Settled, TurnAsks, TurnsFailing, TurnsFrame, TurnsFramePart, TurnsEnd, TurnsEndPart}
+
+-- A run so far: what is ahead stands after the frames that were taken, and the sinks grew by the replies to them.
+pub record Progress (R : Rule) (stands : History) (old new : World) (place number : ℕ) (any unflushed : Bool) : Type 0 where
+  pub frames : List Frame
+  pub replies : List ReplyText
+  pub front : List ℕ
+  pub taken : Consumes old.left new.left front
+  pub each : AreFrames 0 front frames
+  pub at : place ≡ length front
+  pub count : number ≡ length frames
+  pub history : stands frames replies
+  pub texts : EachAfter R [] [] frames replies
+  pub out : Appends old.sinks.out.written new.sinks.out.written (out_text replies)
+  pub err : Appends old.sinks.err.written new.sinks.err.written (err_text replies)
+  pub refused : any ≡ any_refused replies
+  pub passed : unflushed ≡ false → IsQuiet replies ⊎ IsFlushed new.sinks
 
 Consumes-trans : (a b c : Option (List ℕ)) (xs ys : List ℕ) → Consumes a b xs → Consumes b c ys → Consumes a c (xs ++ ys)
 Consumes-trans None b c xs ys p q = tt
@@ -55,10 +74,6 @@ out_push replies reply = flat_map_more (λ (r : ReplyText). r.out) [] replies re
 
 err_push : (replies : List ReplyText) (reply : ReplyText) → err_text replies ++ reply.err ≡ err_text (replies ++ reply ∷ [])
 err_push replies reply = flat_map_more (λ (r : ReplyText). r.err) [] replies reply
-
-or_false : (a : Bool) → (a || false) ≡ a
-or_false true = refl
-or_false false = refl
 
 refused_push : (replies : List ReplyText) (reply : ReplyText) (any refused : Bool) → any ≡ any_refused replies → refused ≡ reply.refused → (any || refused) ≡ any_refused (replies ++ reply ∷ [])
 refused_push replies reply any refused so_far same =

@@ -1,5 +1,5 @@
 -- What was sent, one more frame.
-use Rattle.std.proofs.Common.{◌≡◌, ◌⊎◌, inl, inr, ℕ, ◌≤◌, true, false, List, [], ◌∷◌, ◌++◌, length, refl, ap, ◌∙◌, append-nil, arith}
+use Rattle.std.proofs.Common.{◌≡◌, ◌⊎◌, inl, inr, ℕ, ◌≤◌, true, false, List, [], ◌∷◌, ◌++◌, length, refl, ◌∙◌, append-nil, arith}
 use Rattle.std.specs.Prelude.{if◌then◌else◌}
 use Rattle.std.specs.List.{flat_map, list_any}
 use Rattle.std.proofs.lemmas.Bool.{cases_Bool}
@@ -7,11 +7,9 @@ use Rattle.std.proofs.lemmas.Grind.{flat_map-append}
 use Rattle.lists.specs.EachAfter.{EachAfter}
 use Rattle.lists.specs.Since.{since}
 use Rattle.lists.proofs.Growing.{all_after-push, each_after-keeps}
-use Rattle.lists.proofs.Latest.{since-append}
 use Rattle.otap_capture.specs.Capture.{Frame}
 use Rattle.otap_produce.specs.Policy.{SignalRows}
-use Rattle.otap_transit.specs.Sendings.{Sending, Sent, Reset, is_reset, request_if, message_if, requests_since, messages_since, AreAllowed, IsAllowed}
-use Rattle.otlp_model.specs.declared.request.Request.{Request}
+use Rattle.otap_transit.specs.Sendings.{Sending, Sent, Reset, is_reset, request_if, requests_since, messages_since, AreAllowed, IsAllowed}
 use Rattle.otap_gateway.specs.Encoding.{Encoded, Puts, Refuses, EncodedAfter, sending_if, sent}
 
 -- ---- the outcomes, one more
@@ -23,25 +21,6 @@ pub sent_still : (os : List Encoded) (name : List ℕ) → sent (os ++ Refuses n
 sent_still os name = flat_map-append sending_if os (Refuses name ∷ []) ∙ append-nil (sent os)
 
 -- ---- the segment, one more
-
-stays : (ss : List Sending) (s : Sending) → is_reset s ≡ false → since is_reset (ss ++ s ∷ []) ≡ since is_reset ss ++ s ∷ []
-stays ss s still = since-append is_reset ss (s ∷ []) ∙ rw still refl
-
-pub requests_more : (ss : List Sending) (q : Request) (m : List ℕ) → requests_since (ss ++ Sent q m ∷ []) ≡ requests_since ss ++ q ∷ []
-unfolding requests_since
-requests_more ss q m = ap (flat_map request_if) (stays ss (Sent q m) refl) ∙ flat_map-append request_if (since is_reset ss) (Sent q m ∷ [])
-
-pub messages_more : (ss : List Sending) (q : Request) (m : List ℕ) → messages_since (ss ++ Sent q m ∷ []) ≡ messages_since ss ++ m ∷ []
-unfolding messages_since
-messages_more ss q m = ap (flat_map message_if) (stays ss (Sent q m) refl) ∙ flat_map-append message_if (since is_reset ss) (Sent q m ∷ [])
-
-pub requests_none : (ss : List Sending) → requests_since (ss ++ Reset ∷ []) ≡ []
-unfolding requests_since
-requests_none ss = ap (flat_map request_if) (since-append is_reset ss (Reset ∷ []))
-
-pub messages_none : (ss : List Sending) → messages_since (ss ++ Reset ∷ []) ≡ []
-unfolding messages_since
-messages_none ss = ap (flat_map message_if) (since-append is_reset ss (Reset ∷ []))
 
 pub requests_first : requests_since [] ≡ []
 unfolding requests_since

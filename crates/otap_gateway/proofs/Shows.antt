@@ -11,7 +11,7 @@ use Rattle.otap_cells.specs.Tables.{Table}
 use Rattle.otap_consume.specs.declared.seen.Seen.{Seen}
 use Rattle.otap_consume.specs.declared.seen.Seen.TheVariants as seen
 use Rattle.otap_consume.specs.Defects.{tables_of}
-use Rattle.otap_consume.specs.Outcomes.{Outcome, Accepted, Refused, Reset, Gives, StaysBroken, OutcomeAfter, Outcomes, is_broken, payloads_after}
+use Rattle.otap_consume.specs.Outcomes.{Outcome, Accepted, Refused, Reset, GivesOutcome, StaysBroken, OutcomeAfter, Outcomes, is_broken, payloads_after}
 use Rattle.otap_consume.specs.Segments.{SegmentIn, StandsFor, HasNext, Next, Tells, IsNew}
 use Rattle.otap_consume.proofs.SegmentSteps.{stands_first}
 use Rattle.otap_gateway.specs.Reply.{ReplyText}
@@ -28,15 +28,15 @@ pub record IsAccepted (signal : Signal) (outcomes : List Outcome) (frame : Frame
   pub same : tables ≡ tables_of signal (payloads_after outcomes) batch.payloads
 
 accepted_from : (signal : Signal) (outcomes : List Outcome) (frame : Frame) (o : Outcome) (batch : BatchContent) (tables : List Table) → o ≡ Accepted batch tables
-    → (b : Bool) → MatchBool b (StaysBroken frame o) (Gives signal (payloads_after outcomes) frame o) → IsAccepted signal outcomes frame batch tables
+    → (b : Bool) → MatchBool b (StaysBroken frame o) (GivesOutcome signal (payloads_after outcomes) frame o) → IsAccepted signal outcomes frame batch tables
 accepted_from signal outcomes frame o batch tables is true StaysBroken.compressed = absurd (cc is)
 accepted_from signal outcomes frame o batch tables is true (StaysBroken.unreadable bytes refusal stands) = absurd (cc is)
 accepted_from signal outcomes frame o batch tables is true (StaysBroken.readable bytes other reads) = absurd (cc is)
 accepted_from signal outcomes frame o batch tables is true StaysBroken.resets = absurd (cc is)
-accepted_from signal outcomes frame o batch tables is false Gives.compressed = absurd (cc is)
-accepted_from signal outcomes frame o batch tables is false (Gives.unreadable bytes refusal stands) = absurd (cc is)
-accepted_from signal outcomes frame o batch tables is false (Gives.refuses bytes other cause payload reads refuses) = absurd (cc is)
-accepted_from signal outcomes frame o batch tables is false (Gives.accepts bytes other reads accepts) =
+accepted_from signal outcomes frame o batch tables is false GivesOutcome.compressed = absurd (cc is)
+accepted_from signal outcomes frame o batch tables is false (GivesOutcome.unreadable bytes refusal stands) = absurd (cc is)
+accepted_from signal outcomes frame o batch tables is false (GivesOutcome.refuses bytes other cause payload reads refuses) = absurd (cc is)
+accepted_from signal outcomes frame o batch tables is false (GivesOutcome.accepts bytes other reads accepts) =
     let one : other ≡ batch = cc is in
     record {
       bytes = bytes;
@@ -44,7 +44,7 @@ accepted_from signal outcomes frame o batch tables is false (Gives.accepts bytes
       reads = subst (ReadsBatch bytes) one reads;
       same = sym (cc is) ∙ ap (λ (b : BatchContent). tables_of signal (payloads_after outcomes) b.payloads) one;
     }
-accepted_from signal outcomes frame o batch tables is false Gives.resets = absurd (cc is)
+accepted_from signal outcomes frame o batch tables is false GivesOutcome.resets = absurd (cc is)
 
 -- the reply is that of the outcome
 module _ (signal : Signal) (outcomes : List Outcome) (frame : Frame) (number : ℕ) (new : SegmentIn) (reply : ReplyText) where

@@ -13,7 +13,7 @@ use Rattle.otlp_model.specs.declared.request.Signal.{Signal}
 use Rattle.otap_gateway.specs.declared.command.Command.TheVariants as command
 use Rattle.otap_gateway.specs.Causes.{cause_name}
 use Rattle.otap_gateway.specs.Commands.{ReplyOf}
-use Rattle.otap_gateway.specs.Encoding.{Encoded, Encodes, encoded, rows_of}
+use Rattle.otap_gateway.specs.Encoding.{Encoded, Encodes, encoded, signal_rows}
 use Rattle.otap_gateway.specs.Lines.{batch_head, or_dash, line_feed}
 use Rattle.otap_gateway.specs.Receptions.{as_taken, decoded, statused, replayed, meaning_of, refusal_line, refusal_status}
 use Rattle.otap_gateway.specs.Reply.{ReplyText}
@@ -103,9 +103,9 @@ unfolding ReplyOf
 replay_back signal = gives_back (ReceivedAfter (meaning_of signal)) (as_taken (meaning_of signal) replayed)
 
 pub encode_back : (signal : Signal) (frames : List Frame) (replies : List ReplyText) → EachAfter (ReplyOf (command.Encode signal)) [] [] frames replies
-    → (outcomes : List Encoded) × Gave (Encodes (rows_of signal) (meaning_of signal)) frames outcomes × (replies ≡ told encoded 0 outcomes)
+    → (outcomes : List Encoded) × Gave (Encodes (signal_rows signal) (meaning_of signal)) frames outcomes × (replies ≡ told encoded 0 outcomes)
 unfolding ReplyOf
-encode_back signal = gives_back (Encodes (rows_of signal) (meaning_of signal)) encoded
+encode_back signal = gives_back (Encodes (signal_rows signal) (meaning_of signal)) encoded
 
 -- the message of a status is what the line says from its stage on
 regrouped : (head says stage number blank cause payload dash end : List ℕ)

@@ -11,7 +11,7 @@ use Rattle.otap_transit.specs.Sendings.{Sending, Sent, Reset, AreAllowed, IsAllo
 use Rattle.otlp_model.specs.declared.request.Signal.{Signal}
 use Rattle.otap_gateway.specs.declared.command.Command.TheVariants as command
 use Rattle.otap_gateway.specs.Commands.{ReplyOf}
-use Rattle.otap_gateway.specs.Encoding.{Encoded, Puts, Refuses, Encodes, Arrives, encoded, rows_of, sent}
+use Rattle.otap_gateway.specs.Encoding.{Encoded, Puts, Refuses, Encodes, Arrives, encoded, signal_rows, sent}
 use Rattle.otap_gateway.specs.ReadBack.{IsReadBack}
 use Rattle.otap_gateway.specs.Receptions.{meaning_of}
 use Rattle.otap_gateway.specs.Reply.{ReplyText, out_text}
@@ -73,9 +73,9 @@ module _ (rows : SignalRows) (messages : MessagesAreRead) (resets : IsFrame rese
         capture = subst (λ (l : List ℕ). length l < capture_limit → IsCapture l (map frame_sent (sent os)) None) out (capture_of (sent os) allowed);
       }
 
-pub read_back : (signal : Signal) → MessagesAreRead → IsFrame reset_frame capture.Reset → ((ss : List Sending) → AreAllowed (rows_of signal) ss → Arrives (meaning_of signal) ss)
+pub read_back : (signal : Signal) → MessagesAreRead → IsFrame reset_frame capture.Reset → ((ss : List Sending) → AreAllowed (signal_rows signal) ss → Arrives (meaning_of signal) ss)
     → (frames : List Frame) (replies : List ReplyText) → EachAfter (ReplyOf (command.Encode signal)) [] [] frames replies
-    → IsReadBack (rows_of signal) (meaning_of signal) frames replies
+    → IsReadBack (signal_rows signal) (meaning_of signal) frames replies
 read_back signal messages resets arrives frames replies each =
     let some = encode_back signal frames replies each in
-    read_from (rows_of signal) messages resets (meaning_of signal) arrives frames replies some.0 some.1 some.2
+    read_from (signal_rows signal) messages resets (meaning_of signal) arrives frames replies some.0 some.1 some.2

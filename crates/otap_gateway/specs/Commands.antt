@@ -6,7 +6,7 @@ use Rattle.otlp_model.specs.declared.request.Signal.{Signal}
 use Rattle.otlp_model.specs.declared.request.Signal.TheVariants as signals
 use Rattle.otap_gateway.specs.declared.command.Command.{Command}
 use Rattle.otap_gateway.specs.declared.command.Command.TheVariants as command
-use Rattle.otap_gateway.specs.Encoding.{Encodes, encoded, rows_of}
+use Rattle.otap_gateway.specs.Encoding.{Encodes, encoded, signal_rows}
 use Rattle.otap_gateway.specs.Listing.{ListsFrame}
 use Rattle.otap_gateway.specs.Receptions.{decoded, statused, replayed, as_taken, meaning_of}
 use Rattle.otap_gateway.specs.Reply.{ReplyText}
@@ -39,7 +39,7 @@ IsNoCommand words = (job : Command) → words ≢ words_of job
 unfoldable pub ReplyOf : Command → List Frame → List ReplyText → Frame → ReplyText → Type 0
 ReplyOf command.List frames replies frame reply = ListsFrame (length frames) frame reply
 ReplyOf (command.Tidy signal) frames replies frame reply = TidiesFrame signal (length frames) frame reply
-ReplyOf (command.Encode signal) frames replies frame reply = Tells (Encodes (rows_of signal) (meaning_of signal)) encoded frames replies frame reply
+ReplyOf (command.Encode signal) frames replies frame reply = Tells (Encodes (signal_rows signal) (meaning_of signal)) encoded frames replies frame reply
 ReplyOf (command.Schema signal) frames replies frame reply = SchemasFrame signal (length frames) frame reply
 ReplyOf (command.Show signal) frames replies frame reply = ShowsFrame signal frames frame reply
 ReplyOf (command.Decode signal) frames replies frame reply = Tells (ReceivedAfter (meaning_of signal)) (as_taken (meaning_of signal) decoded) frames replies frame reply

@@ -26,10 +26,10 @@ use Rattle.otap_gateway.specs.RefusedRequests.{refused_request}
 use Rattle.otap_gateway.specs.Reply.{ReplyText}
 
 -- the tables that requests of a signal are written as
-abbrev pub rows_of : Signal → SignalRows
-rows_of signals.Traces = spans_rows
-rows_of signals.Logs = logs_rows
-rows_of signals.Metrics = metrics_rows
+abbrev pub signal_rows : Signal → SignalRows
+signal_rows signals.Traces = spans_rows
+signal_rows signals.Logs = logs_rows
+signal_rows signals.Metrics = metrics_rows
 
 -- ---- what a frame gives
 

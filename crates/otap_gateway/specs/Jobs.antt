@@ -1,4 +1,4 @@
--- Jobs: what a step of one stands for.
+-- Jobs: what a step of one stands for, in the words of private contracts.
 use Rattle.std.specs.Prelude.{◌≡◌, ℕ, List, [], ◌∷◌, ◌++◌, length}
 use Rattle.otap_capture.specs.Capture.{Frame}
 use Rattle.otap_gateway.specs.Reply.{ReplyText}

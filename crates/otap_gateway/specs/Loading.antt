@@ -1,8 +1,7 @@
 -- The steps of a load, in the words of its private contracts.
-use Rattle.std.specs.Prelude.{◌≡◌, ◌+◌, ◌≤◌, ℕ, ℤ, false, List, [], ◌∷◌, ◌++◌, length, All, Option, Some, option_map, string_bytes}
+use Rattle.std.specs.Prelude.{◌≡◌, ◌+◌, ◌≤◌, ℕ, ℤ, false, List, [], ◌∷◌, ◌++◌, length, All, Some, option_map, string_bytes}
 use Rattle.std.specs.BTreeMap.{get}
 use Rattle.std.specs.List.{flat_map}
-use Rattle.std.specs.Io.KnownBytes.{Appends}
 use Rattle.std.specs.Ordering.{int_cmp, int_eq}
 use Rattle.lists.specs.Payloads.{PayloadIn}
 use Rattle.otap_capture.specs.Capture.{longest_frame}
@@ -12,7 +11,7 @@ use Rattle.otap_produce.specs.Exporters.{ExporterIn, StandsFor}
 use Rattle.otap_capture.specs.Batch.{payloads_in}
 use Rattle.otap_produce.specs.Policy.{SignalRows, IsExported}
 use Rattle.otap_gateway.specs.declared.opened.Opened.{Opened}
-use Rattle.otap_gateway.specs.Loads.{first_requests, frames_text}
+use Rattle.otap_gateway.specs.Loads.{first_requests}
 
 -- ---- the openings
 
@@ -31,12 +30,6 @@ pub record Opens (kind : ℤ) (id : List ℕ) (old new : Opened) : Type 0 where
   pub others : (other : ℤ) → int_eq kind other ≡ false → get int_cmp new.last other ≡ get int_cmp old.last other
   pub count : new.count ≡ old.count + 1
 
--- some payloads of a message are counted, and these are left
-pub record CountsFront (all left : List PayloadIn) (old new : Opened) : Type 0 where
-  pub done : List PayloadIn
-  pub split : done ++ left ≡ all
-  pub counts : CountsPayloads done old new
-
 -- ---- the requests
 
 -- the first requests were exported as these messages, and the openings of these are counted
@@ -54,9 +47,3 @@ pub record IsLoading (rows : SignalRows) (count : ℕ) (e : ExporterIn) (o : Ope
 pub record LoadsNext (rows : SignalRows) (count : ℕ) (e e' : ExporterIn) (o o' : Opened) (message : List ℕ) : Type 0 where
   pub after : (messages : List (List ℕ)) → HasLoaded rows count messages e o → HasLoaded rows (count + 1) (messages ++ message ∷ []) e' o'
   pub short : length message ≤ longest_frame
-
--- out grew by the frames of the messages of the first requests
-pub record HasSent (rows : SignalRows) (count : ℕ) (old new : Option (List ℕ)) (e : ExporterIn) (o : Opened) : Type 0 where
-  pub messages : List (List ℕ)
-  pub loaded : HasLoaded rows count messages e o
-  pub out : Appends old new (frames_text messages)

@@ -17,7 +17,7 @@ use Rattle.otlp_model.specs.Telemetry.{telemetry}
 use Rattle.otap_gateway.specs.declared.load.Load.{Load}
 use Rattle.otap_gateway.specs.declared.stop.Stop.{Stop}
 use Rattle.otap_gateway.specs.Commands.{IsNoCommand, signal_word}
-use Rattle.otap_gateway.specs.Encoding.{rows_of}
+use Rattle.otap_gateway.specs.Encoding.{signal_rows}
 use Rattle.otap_gateway.specs.Lines.{line_feed}
 use Rattle.otap_gateway.specs.Runs.{Sinks, SinkFaults, IsFlushed, stop_status}
 
@@ -47,7 +47,7 @@ abbrev pub first_requests : Signal → ℕ → List Request
 first_requests signal count = map (generated signal) (range_with_len 0 count)
 
 abbrev pub requests_of : Load → List Request
-requests_of load = first_requests (rows_of load.signal).signal load.requests
+requests_of load = first_requests (signal_rows load.signal).signal load.requests
 
 abbrev pub frames_text : List (List ℕ) → List ℕ
 frames_text messages = flat_map message_frame messages
@@ -64,8 +64,8 @@ load_line requests messages =
 -- line; all of it is passed on
 pub record WritesLoad (load : Load) (old new : Sinks) : Type 0 where
   pub messages : List (List ℕ)
-  pub exported : All (IsExported (rows_of load.signal)) (requests_of load)
-  pub policy : Policy (rows_of load.signal) (requests_of load) messages
+  pub exported : All (IsExported (signal_rows load.signal)) (requests_of load)
+  pub policy : Policy (signal_rows load.signal) (requests_of load) messages
   pub out : Appends old.out.written new.out.written (frames_text messages)
   pub err : Appends old.err.written new.err.written (load_line (requests_of load) messages)
   pub flushed : IsFlushed new
@@ -76,14 +76,14 @@ pub record WritesFrames (load : Load) (old new : Sinks) : Type 0 where
   pub count : ℕ
   pub messages : List (List ℕ)
   pub part : count ≤ load.requests
-  pub policy : Policy (rows_of load.signal) (first_requests (rows_of load.signal).signal count) messages
+  pub policy : Policy (signal_rows load.signal) (first_requests (signal_rows load.signal).signal count) messages
   pub out : AppendsFront old.out.written new.out.written (frames_text messages)
   pub err : Keeps old.err.written new.err.written
 
 -- Or after that: out grew by the frames of all messages, and err by a front of the line.
 pub record WritesLine (load : Load) (old new : Sinks) : Type 0 where
   pub messages : List (List ℕ)
-  pub policy : Policy (rows_of load.signal) (requests_of load) messages
+  pub policy : Policy (signal_rows load.signal) (requests_of load) messages
   pub out : Appends old.out.written new.out.written (frames_text messages)
   pub err : AppendsFront old.err.written new.err.written (load_line (requests_of load) messages)
 

@@ -7,7 +7,7 @@ use Rattle.otap_gateway.specs.declared.schema.RecordRefusal.TheVariants.{Ipc, Me
 use Rattle.otap_gateway.specs.Openings.{fault_name}
 use Rattle.otap_gateway.specs.Refused.{refused_batch}
 use Rattle.otap_gateway.specs.Reply.{ReplyText}
-use Rattle.otap_gateway.specs.Schemas.{HasFault}
+use Rattle.otap_gateway.specs.Schemas.{HasRecordFault}
 
 -- the refusal of one payload, and of one among several; memory may run out at any time
 abbrev pub RefusesPayload : PayloadIn → RecordRefusal → Type 0
@@ -15,7 +15,7 @@ RefusesPayload payload (Ipc kind fault) = (payload.kind ≡ kind) × Stands payl
 RefusesPayload payload (Memory e) = Unit {0}
 
 abbrev pub RefusesRecords : List PayloadIn → RecordRefusal → Type 0
-RefusesRecords payloads (Ipc kind fault) = HasFault payloads kind fault
+RefusesRecords payloads (Ipc kind fault) = HasRecordFault payloads kind fault
 RefusesRecords payloads (Memory e) = Unit {0}
 
 -- the reply to it

@@ -129,28 +129,28 @@ SinkFaults old new (Err stop.Source) = ⊥
 SinkFaults old new (Err stop.Sink) = OutFailed old new ⊎ ErrFailed old new
 SinkFaults old new (Err stop.Memory) = NoneFailed old new
 
-abbrev pub Faults : {T : Type 0} → World → World → Result T Stop → Type 0
-Faults old new (Ok x) = (new.faults ≡ old.faults) × NoneFailed old.sinks new.sinks
-Faults old new (Err stop.Source) = Rose old.faults new.faults × NoneFailed old.sinks new.sinks
-Faults old new (Err stop.Sink) = (new.faults ≡ old.faults) × (OutFailed old.sinks new.sinks ⊎ ErrFailed old.sinks new.sinks)
-Faults old new (Err stop.Memory) = (new.faults ≡ old.faults) × NoneFailed old.sinks new.sinks
+abbrev pub CountsFaults : {T : Type 0} → World → World → Result T Stop → Type 0
+CountsFaults old new (Ok x) = (new.faults ≡ old.faults) × NoneFailed old.sinks new.sinks
+CountsFaults old new (Err stop.Source) = Rose old.faults new.faults × NoneFailed old.sinks new.sinks
+CountsFaults old new (Err stop.Sink) = (new.faults ≡ old.faults) × (OutFailed old.sinks new.sinks ⊎ ErrFailed old.sinks new.sinks)
+CountsFaults old new (Err stop.Memory) = (new.faults ≡ old.faults) × NoneFailed old.sinks new.sinks
 
 abbrev pub stop_status : Stop → ℕ
 stop_status stop.Source = 3
 stop_status stop.Sink = 4
 stop_status stop.Memory = 6
 
-abbrev pub status_of : Result Tally Stop → ℕ
-status_of (Ok tally) = if tally.damaged then 5 else (if tally.refused then 1 else 0)
-status_of (Err stop) = stop_status stop
+abbrev pub exit_status : Result Tally Stop → ℕ
+exit_status (Ok tally) = if tally.damaged then 5 else (if tally.refused then 1 else 0)
+exit_status (Err stop) = stop_status stop
 
 -- A run for the words of a job.
 pub record Runs (job : Command) (old new : World) (status : ℕ) : Type 0 where
   pub returned : Result Tally Stop
-  pub same : status ≡ status_of returned
+  pub same : status ≡ exit_status returned
   pub leaves : Leaves job old.left old.sinks new.sinks returned
   pub stops : Stops job old new returned
-  pub faults : Faults old new returned
+  pub faults : CountsFaults old new returned
 
 -- A run in which nothing failed, over a capture of these frames that ends well: each frame has a reply that the job
 -- allows, the sinks grew by the texts of these replies, all of it passed on, and the status is 0 exactly where none of them

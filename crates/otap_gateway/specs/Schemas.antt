@@ -29,7 +29,7 @@ abbrev pub batch_lines : ℕ → BatchContent → List ℕ
 batch_lines number batch = head_line number batch.id ++ flat_map payload_lines batch.payloads
 
 -- a fault stands at the start of the record of a payload of this type
-pub record HasFault (payloads : List PayloadIn) (kind : ℤ) (fault : IpcFault) : Type 0 where
+pub record HasRecordFault (payloads : List PayloadIn) (kind : ℤ) (fault : IpcFault) : Type 0 where
   pub payload : PayloadIn
   pub has : HasPayload payloads payload
   pub same : payload.kind ≡ kind
@@ -45,12 +45,12 @@ abbrev pub types_name : TypesRefusal → List ℕ
 types_name (PayloadType kind) = codes "PayloadType"
 types_name (PayloadTwice kind) = codes "PayloadTwice"
 
-abbrev pub type_in : TypesRefusal → ℤ
-type_in (PayloadType kind) = kind
-type_in (PayloadTwice kind) = kind
+abbrev pub payload_type_in : TypesRefusal → ℤ
+payload_type_in (PayloadType kind) = kind
+payload_type_in (PayloadTwice kind) = kind
 
 abbrev pub refused_types : ℕ → ℤ → TypesRefusal → ReplyText
-refused_types number id refusal = refused_batch number id 2 (types_name refusal) (Some (type_in refusal))
+refused_types number id refusal = refused_batch number id 2 (types_name refusal) (Some (payload_type_in refusal))
 
 -- a payload type is refused
 pub record RefusesTypes (signal : Signal) (number : ℕ) (batch : BatchContent) (reply : ReplyText) : Type 0 where
@@ -62,7 +62,7 @@ pub record RefusesTypes (signal : Signal) (number : ℕ) (batch : BatchContent) 
 pub record RefusesRecord (number : ℕ) (batch : BatchContent) (reply : ReplyText) : Type 0 where
   pub kind : ℤ
   pub fault : IpcFault
-  pub stands : HasFault batch.payloads kind fault
+  pub stands : HasRecordFault batch.payloads kind fault
   pub line : reply ≡ refused_batch number batch.id 3 (fault_name fault) (Some kind)
 
 -- no record does

@@ -1,17 +1,16 @@
 -- The steps of a run, in the words of its private contracts.
-use Rattle.std.specs.Prelude.{◌≡◌, ◌⊎◌, ℕ, Bool, false, List, [], length, ⊤, Some, is_some}
+use Rattle.std.specs.Prelude.{◌≡◌, ◌⊎◌, ℕ, Bool, false, [], ⊤, Some, is_some}
 use Rattle.std.specs.declared.option.Option.{Option}
 use Rattle.std.specs.declared.result.Result.{Result}
 use Rattle.std.specs.declared.result.Result.TheVariants.{Ok, Err}
-use Rattle.std.specs.Io.KnownBytes.{Appends, Consumes, Keeps}
-use Rattle.lists.specs.EachAfter.{EachAfter}
+use Rattle.std.specs.Io.KnownBytes.{Appends, Keeps}
 use Rattle.otap_capture.specs.declared.frame.Damage.{Damage}
 use Rattle.otap_capture.specs.declared.frame.FramesRefusal.{FramesRefusal}
 use Rattle.otap_capture.specs.declared.frame.FramesRefusal.TheVariants as frames
 use Rattle.otap_capture.specs.declared.outside.SinkRefusal.{SinkRefusal}
 use Rattle.otap_capture.specs.declared.outside.SinkRefusal.TheVariants as refusal
 use Rattle.otap_capture.specs.declared.outside.Source.{Ghosts as SourceGhosts}
-use Rattle.otap_capture.specs.Capture.{Frame, AreFrames}
+use Rattle.otap_capture.specs.Capture.{Frame}
 use Rattle.otap_capture.specs.Outside.{AppendsFront}
 use Rattle.otap_capture.specs.Reading.{Reading, IsWaiting, TakesFrame, ComesToEnd, ahead}
 use Rattle.otap_gateway.specs.declared.stop.Stop.{Stop}
@@ -21,8 +20,8 @@ use Rattle.otap_gateway.specs.declared.drive.Turn.{Turn}
 use Rattle.otap_gateway.specs.declared.drive.Turn.TheVariants as turn
 use Rattle.otap_gateway.specs.Jobs.{Rule, History, Extends}
 use Rattle.otap_gateway.specs.Lines.{end_text}
-use Rattle.otap_gateway.specs.Reply.{ReplyText, out_text, err_text, any_refused}
-use Rattle.otap_gateway.specs.Runs.{Sinks, World, IsFlushed, IsQuiet}
+use Rattle.otap_gateway.specs.Reply.{ReplyText}
+use Rattle.otap_gateway.specs.Runs.{Sinks, World, IsFlushed}
 
 abbrev pub stop_of_sink : SinkRefusal → Stop
 stop_of_sink refusal.Failed = stop.Sink
@@ -127,22 +126,6 @@ pub record Settled (read : Reading) (unflushed : Bool) (old new : Sinks) (still 
   pub asks : IsWaiting read → still ≡ false
   pub passed : still ≡ false → ((unflushed ≡ false) × (new ≡ old)) ⊎ IsFlushed new
 
-abbrev pub Settles : Reading → Bool → Sinks → Sinks → Result Bool Stop → Type 0
-Settles read unflushed old new (Ok still) = Settled read unflushed old new still
-Settles read unflushed old new (Err stop) = KeepsBoth old new
-
--- A run so far: what is ahead stands after the frames that were taken, and the sinks grew by the replies to them.
-pub record Progress (R : Rule) (stands : History) (old new : World) (place number : ℕ) (any unflushed : Bool) : Type 0 where
-  pub frames : List Frame
-  pub replies : List ReplyText
-  pub front : List ℕ
-  pub taken : Consumes old.left new.left front
-  pub each : AreFrames 0 front frames
-  pub at : place ≡ length front
-  pub count : number ≡ length frames
-  pub history : stands frames replies
-  pub texts : EachAfter R [] [] frames replies
-  pub out : Appends old.sinks.out.written new.sinks.out.written (out_text replies)
-  pub err : Appends old.sinks.err.written new.sinks.err.written (err_text replies)
-  pub refused : any ≡ any_refused replies
-  pub passed : unflushed ≡ false → IsQuiet replies ⊎ IsFlushed new.sinks
+abbrev pub SettlesTurn : Reading → Bool → Sinks → Sinks → Result Bool Stop → Type 0
+SettlesTurn read unflushed old new (Ok still) = Settled read unflushed old new still
+SettlesTurn read unflushed old new (Err stop) = KeepsBoth old new

@@ -4,8 +4,8 @@ ghost use Rattle.std.specs.Io.KnownBytes.{Keeps};
 ghost use Rattle.otap_capture.specs.Capture.{capture_limit, frame_of};
 ghost use Rattle.otap_gateway.specs.Commands.{ReplyOf};
 ghost use Rattle.otap_gateway.specs.Jobs.{HasHistory};
-ghost use Rattle.otap_gateway.specs.Runs.{sinks, world, Leaves, Stops, Faults, SinkFaults, IsFlushed};
-ghost use Rattle.otap_gateway.specs.Turns.{Handles, Ends, Settles, Turns, TurnAsks, world_ahead};
+ghost use Rattle.otap_gateway.specs.Runs.{sinks, world, Leaves, Stops, CountsFaults, SinkFaults, IsFlushed};
+ghost use Rattle.otap_gateway.specs.Turns.{Handles, Ends, SettlesTurn, Turns, TurnAsks, world_ahead};
 
 use crate::job::Job;
 use crate::lines::damage_line;
@@ -82,7 +82,7 @@ fn settle<O: Sink, E: Sink>(
     out: &mut O,
     err: &mut E,
 ) -> Result<bool, Stop>
-    ensures settles { Settles frames.now unflushed
+    ensures settles { SettlesTurn frames.now unflushed
         (sinks O.Sink out.old E.Sink err.old)
         (sinks O.Sink out.new E.Sink err.new) result }
     ensures faults { SinkFaults
@@ -146,7 +146,7 @@ fn take_turn<J: Job, S: Source, O: Sink, E: Sink>(
     ensures asks { TurnAsks frames.old frames.new
         (world_ahead frames.old S.Source source.old (sinks O.Sink out.old E.Sink err.old))
         (world_ahead frames.new S.Source source.new (sinks O.Sink out.new E.Sink err.new)) result }
-    ensures faults { Faults
+    ensures faults { CountsFaults
         (world_ahead frames.old S.Source source.old (sinks O.Sink out.old E.Sink err.old))
         (world_ahead frames.new S.Source source.new (sinks O.Sink out.new E.Sink err.new)) result }
 {
@@ -180,7 +180,7 @@ pub(crate) fn drive<J: Job, S: Source, O: Sink, E: Sink>(
     ensures stops { Stops (J.command job.old)
         (world S.Source source.old (sinks O.Sink out.old E.Sink err.old))
         (world S.Source source.new (sinks O.Sink out.new E.Sink err.new)) result }
-    ensures faults { Faults
+    ensures faults { CountsFaults
         (world S.Source source.old (sinks O.Sink out.old E.Sink err.old))
         (world S.Source source.new (sinks O.Sink out.new E.Sink err.new)) result }
 {

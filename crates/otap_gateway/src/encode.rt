@@ -6,7 +6,7 @@ ghost use Rattle.otap_produce.specs.Limits.{batch_limit};
 ghost use Rattle.otlp_model.specs.Profile.{IsProfile};
 ghost use Rattle.otlp_model.specs.Telemetry.{signal_of};
 ghost use Rattle.otap_gateway.specs.declared.command.Command.TheVariants as command;
-ghost use Rattle.otap_gateway.specs.Encoding.{encoded, rows_of, Encodes};
+ghost use Rattle.otap_gateway.specs.Encoding.{encoded, signal_rows, Encodes};
 ghost use Rattle.otap_gateway.specs.EncodingSteps.{EncodesFrame, EncodesRequest, IsEncoding, HasEncoded};
 ghost use Rattle.otap_gateway.specs.Receptions.{meaning_of};
 ghost use Rattle.otap_gateway.specs.JobStates.{HasTold};
@@ -40,7 +40,7 @@ impl<T: ExportsRows + Drop> Encoder<T> {
 impl<T: ExportsRows> Job for Encoder<T> {
     ghost command = { λ s. command.Encode T.served };
 
-    ghost stands = { λ s. HasTold (Encodes (rows_of T.served) (meaning_of T.served)) encoded (HasEncoded (rows_of T.served) s.exporter) };
+    ghost stands = { λ s. HasTold (Encodes (signal_rows T.served) (meaning_of T.served)) encoded (HasEncoded (signal_rows T.served) s.exporter) };
 
     fn step(&mut self, alloc: Global, number: u64, frame: &Frame<'_>) -> Result<Reply, AllocError> {
         T::what_is_sent_arrives();

@@ -1,7 +1,7 @@
 //! Counts the payloads that open a sub-stream.
 ghost use Rattle.std.specs.Prelude.{◌≡◌, ◌∷◌, [], List, OnOk, not};
 ghost use Rattle.lists.specs.Payloads.{PayloadIn};
-ghost use Rattle.otap_capture.specs.Batch.{ReadsBatch, batch_in, content_of, payloads_in};
+ghost use Rattle.otap_capture.specs.Batch.{ReadsBatch, batch_content, content_of, payloads_in};
 ghost use Rattle.otap_columns.specs.Streams.{opens};
 ghost use Rattle.otap_gateway.specs.Loading.{CountsPayloads, HasCounted, Opens};
 
@@ -38,7 +38,7 @@ impl Opened {
 
     /// Counts the payloads of a batch message.
     pub(crate) fn add(&mut self, message: &[u8]) -> Result<(), AllocError>
-        requires { ReadsBatch message.now (batch_in message.now) }
+        requires { ReadsBatch message.now (batch_content message.now) }
         ensures { OnOk result (CountsPayloads (payloads_in message.now) self.old self.new) }
     {
         one_batch();

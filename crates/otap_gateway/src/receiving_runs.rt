@@ -1,6 +1,6 @@
 //! The runs of the jobs of a receiver.
 ghost use Rattle.otap_gateway.specs.declared.command.Command.TheVariants as command;
-ghost use Rattle.otap_gateway.specs.Runs.{sinks, world, Leaves, Stops, Faults};
+ghost use Rattle.otap_gateway.specs.Runs.{sinks, world, Leaves, Stops, CountsFaults};
 
 use crate::decode::Decoder;
 use crate::drive::drive;
@@ -25,7 +25,7 @@ pub(crate) fn decode<T: Serves + Drop, S: Source, O: Sink, E: Sink>(
     ensures stops { Stops (command.Decode T.served)
         (world S.Source source.old (sinks O.Sink out.old E.Sink err.old))
         (world S.Source source.new (sinks O.Sink out.new E.Sink err.new)) result }
-    ensures faults { Faults
+    ensures faults { CountsFaults
         (world S.Source source.old (sinks O.Sink out.old E.Sink err.old))
         (world S.Source source.new (sinks O.Sink out.new E.Sink err.new)) result }
 {
@@ -49,7 +49,7 @@ pub(crate) fn tell_statuses<T: Serves + Drop, S: Source, O: Sink, E: Sink>(
     ensures stops { Stops (command.Status T.served)
         (world S.Source source.old (sinks O.Sink out.old E.Sink err.old))
         (world S.Source source.new (sinks O.Sink out.new E.Sink err.new)) result }
-    ensures faults { Faults
+    ensures faults { CountsFaults
         (world S.Source source.old (sinks O.Sink out.old E.Sink err.old))
         (world S.Source source.new (sinks O.Sink out.new E.Sink err.new)) result }
 {
@@ -73,7 +73,7 @@ pub(crate) fn replay<T: Serves + Drop, S: Source, O: Sink, E: Sink>(
     ensures stops { Stops (command.Replay T.served)
         (world S.Source source.old (sinks O.Sink out.old E.Sink err.old))
         (world S.Source source.new (sinks O.Sink out.new E.Sink err.new)) result }
-    ensures faults { Faults
+    ensures faults { CountsFaults
         (world S.Source source.old (sinks O.Sink out.old E.Sink err.old))
         (world S.Source source.new (sinks O.Sink out.new E.Sink err.new)) result }
 {

@@ -1,7 +1,7 @@
 //! What a job puts on its sinks for a frame.
 ghost use Rattle.std.specs.Prelude.{◌≡◌, ◌≤◌, [], true, false, IfOk, length, string_bytes};
 ghost use Rattle.otap_capture.specs.Capture.{longest_frame, message_frame, reset_frame};
-ghost use Rattle.otap_capture.specs.Statuses.{told, canon_status};
+ghost use Rattle.otap_capture.specs.Statuses.{status_content, canon_status};
 ghost use Rattle.otap_gateway.specs.Lines.{printed, refuses};
 
 use byteorder::{BigEndian, ByteOrder};
@@ -90,7 +90,7 @@ impl Reply {
 
     /// A status on out, as a frame.
     pub(crate) fn status(alloc: Global, status: &Status<'_>) -> Result<Reply, AllocError>
-        ensures { IfOk result (λ reply. reply ≡ printed (message_frame (canon_status (told status.now)))) }
+        ensures { IfOk result (λ reply. reply ≡ printed (message_frame (canon_status (status_content status.now)))) }
     {
         let part = write_status(alloc, status)?;
         let Ok(size) = u32::try_from(part.len()) else {

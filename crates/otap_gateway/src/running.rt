@@ -6,7 +6,7 @@ ghost use Rattle.otap_gateway.specs.declared.command.Command.TheVariants as comm
 ghost use Rattle.otap_gateway.specs.Commands.{words_of};
 ghost use Rattle.otap_gateway.specs.declared.load.Load.{Load};
 ghost use Rattle.otap_gateway.specs.Loads.{IsLoad, IsNotUnderstood, RunsLoad, load_words};
-ghost use Rattle.otap_gateway.specs.Runs.{sinks, world, Leaves, Stops, Faults, SinkFaults, LeavesLine, Runs, RefusesWords};
+ghost use Rattle.otap_gateway.specs.Runs.{sinks, world, Leaves, Stops, CountsFaults, SinkFaults, LeavesLine, Runs, RefusesWords};
 
 use crate::command::Command;
 use crate::drive::{drive, flush_both};
@@ -71,7 +71,7 @@ fn run_job<S: Source, O: Sink, E: Sink>(
     ensures stops { Stops job
         (world S.Source source.old (sinks O.Sink out.old E.Sink err.old))
         (world S.Source source.new (sinks O.Sink out.new E.Sink err.new)) result }
-    ensures faults { Faults
+    ensures faults { CountsFaults
         (world S.Source source.old (sinks O.Sink out.old E.Sink err.old))
         (world S.Source source.new (sinks O.Sink out.new E.Sink err.new)) result }
 {
@@ -108,7 +108,7 @@ fn show<S: Source, O: Sink, E: Sink>(
     ensures stops { Stops (command.Show signal)
         (world S.Source source.old (sinks O.Sink out.old E.Sink err.old))
         (world S.Source source.new (sinks O.Sink out.new E.Sink err.new)) result }
-    ensures faults { Faults
+    ensures faults { CountsFaults
         (world S.Source source.old (sinks O.Sink out.old E.Sink err.old))
         (world S.Source source.new (sinks O.Sink out.new E.Sink err.new)) result }
 {

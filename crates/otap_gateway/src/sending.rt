@@ -2,7 +2,7 @@
 ghost use Rattle.std.specs.Prelude.{◌≡◌, List};
 ghost use Rattle.otlp_model.specs.declared.request.Signal.{Signal};
 ghost use Rattle.otlp_model.specs.declared.request.Signal.TheVariants as signals;
-ghost use Rattle.otap_gateway.specs.Encoding.{Arrives, rows_of};
+ghost use Rattle.otap_gateway.specs.Encoding.{Arrives, signal_rows};
 ghost use Rattle.otap_gateway.specs.Receptions.{meaning_of};
 ghost use Rattle.otap_transit.specs.Sendings.{AreAllowed, Sending};
 
@@ -18,9 +18,9 @@ pub(crate) trait ExportsRows: Tabled {
 
     /// Law: what is sent arrives.
     fn what_is_sent_arrives()
-        ensures { (sendings : List Sending) → AreAllowed (rows_of served) sendings → Arrives (meaning_of served) sendings };
+        ensures { (sendings : List Sending) → AreAllowed (signal_rows served) sendings → Arrives (meaning_of served) sendings };
 
-    ghost of_rows: { Self.rows ≡ rows_of served };
+    ghost of_rows: { Self.rows ≡ signal_rows served };
 }
 
 impl ExportsRows for SpanTables {

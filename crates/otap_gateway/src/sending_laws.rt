@@ -5,7 +5,7 @@ ghost use Rattle.otap_capture.specs.Capture.{Frame};
 ghost use Rattle.otap_gateway.specs.declared.command.Command.TheVariants as command;
 ghost use Rattle.otlp_model.specs.declared.request.Signal.{Signal};
 ghost use Rattle.otap_gateway.specs.Commands.{ReplyOf};
-ghost use Rattle.otap_gateway.specs.Encoding.{Encoded, Encodes, encoded, rows_of};
+ghost use Rattle.otap_gateway.specs.Encoding.{Encoded, Encodes, encoded, signal_rows};
 ghost use Rattle.otap_gateway.specs.ReadBack.{IsReadBack};
 ghost use Rattle.otap_gateway.specs.Receptions.{meaning_of};
 ghost use Rattle.otap_gateway.specs.Reply.{ReplyText};
@@ -18,14 +18,14 @@ use otap_produce::{LogTables, MetricTables, SpanTables};
 /// What `encode` writes is given by one list of what the frames of the capture gave, and all of it arrives.
 pub fn encoded_texts_have_outcomes()
     ensures { (signal : Signal) (frames : List Frame) (replies : List ReplyText) → EachAfter (ReplyOf (command.Encode signal)) [] [] frames replies
-        → (outcomes : List Encoded) × Gave (Encodes (rows_of signal) (meaning_of signal)) frames outcomes × (replies ≡ told encoded 0 outcomes) }
+        → (outcomes : List Encoded) × Gave (Encodes (signal_rows signal) (meaning_of signal)) frames outcomes × (replies ≡ told encoded 0 outcomes) }
 {}
 
 /// What `encode` writes, read as one capture where it has fewer than 2^40 bytes, is the frames of what it sent, and all of it
 /// arrives: each message is accepted and means the same telemetry as its request.
 pub fn what_is_written_is_read()
     ensures { (signal : Signal) (frames : List Frame) (replies : List ReplyText) → EachAfter (ReplyOf (command.Encode signal)) [] [] frames replies
-        → IsReadBack (rows_of signal) (meaning_of signal) frames replies }
+        → IsReadBack (signal_rows signal) (meaning_of signal) frames replies }
 {
     written_is_read();
     SpanTables::what_is_sent_arrives();

@@ -1,6 +1,6 @@
 //! The run of the job of an exporter.
 ghost use Rattle.otap_gateway.specs.declared.command.Command.TheVariants as command;
-ghost use Rattle.otap_gateway.specs.Runs.{sinks, world, Leaves, Stops, Faults};
+ghost use Rattle.otap_gateway.specs.Runs.{sinks, world, Leaves, Stops, CountsFaults};
 
 use crate::drive::drive;
 use crate::encode::Encoder;
@@ -23,7 +23,7 @@ pub(crate) fn encode<T: ExportsRows + Drop, S: Source, O: Sink, E: Sink>(
     ensures stops { Stops (command.Encode T.served)
         (world S.Source source.old (sinks O.Sink out.old E.Sink err.old))
         (world S.Source source.new (sinks O.Sink out.new E.Sink err.new)) result }
-    ensures faults { Faults
+    ensures faults { CountsFaults
         (world S.Source source.old (sinks O.Sink out.old E.Sink err.old))
         (world S.Source source.new (sinks O.Sink out.new E.Sink err.new)) result }
 {

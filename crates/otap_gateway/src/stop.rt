@@ -1,6 +1,6 @@
 //! How a run ends, and its status.
 ghost use Rattle.std.specs.Prelude.{◌≡◌};
-ghost use Rattle.otap_gateway.specs.Runs.{status_of, stop_status, words_status};
+ghost use Rattle.otap_gateway.specs.Runs.{exit_status, stop_status, words_status};
 ghost use Rattle.otap_gateway.specs.Turns.{stop_of_sink, stop_of_frames};
 
 use otap_capture::{FramesRefusal, SinkRefusal};
@@ -49,7 +49,7 @@ pub(crate) struct Tally {
 
 /// The status of a run for the words of a job.
 pub(crate) fn status(end: Result<Tally, Stop>) -> u8
-    ensures { result ≡ status_of end }
+    ensures { result ≡ exit_status end }
 {
     match end {
         Ok(tally) if tally.damaged => 5,

@@ -4,7 +4,7 @@ use Rattle.std.specs.Prelude.{filter}
 use Rattle.std.specs.List.{AllZip, flat_map}
 use Rattle.lists.proofs.Zipped.{zipped_append}
 use Rattle.otlp_model.specs.Same.{SameEntry, SameItem, SameOften, SameResource, SameScope}
-use Rattle.otlp_model.specs.Telemetry.{ItemEntry, Item, entries_of, entries_of_scope_group, entry, told_as}
+use Rattle.otlp_model.specs.Telemetry.{ItemEntry, Item, item_entries, entries_of_scope_group, item_entry, told_as}
 use Rattle.otlp_model.specs.declared.value.Pair.{Pair}
 use Rattle.otlp_model.specs.declared.groups.Resource.{Resource}
 use Rattle.otlp_model.specs.declared.groups.Scope.{Scope}
@@ -38,7 +38,7 @@ module _ {I : Type 0} (SameOne : I → I → Type 0) (d d' e e' : Option ℕ →
   alike_scope (row ∷ rows) = record { scalars = refl; pairs = scopes row.scope_id }
 
   alike_items : (a a' : Resource) (b b' : Scope) → SameResource a a' → SameScope b b' → (rows : List MainRow)
-      → AllZip (SameEntry SameOne) (map (entry a b) (map (item_of_row item) rows)) (map (entry a' b') (map (item_of_row item') rows))
+      → AllZip (SameEntry SameOne) (map (item_entry a b) (map (item_of_row item) rows)) (map (item_entry a' b') (map (item_of_row item') rows))
   alike_items a a' b b' same_a same_b [] = tt
   alike_items a a' b b' same_a same_b (row ∷ rows) =
       (record { resource = same_a; scope = same_b; item = items row.id row.own }, alike_items a a' b b' same_a same_b rows)
@@ -50,13 +50,13 @@ module _ {I : Type 0} (SameOne : I → I → Type 0) (d d' e e' : Option ℕ →
       zipped_append (SameEntry SameOne) _ _ _ _ (alike_items a a' (scope_of_run e rows) (scope_of_run e' rows) same_a (alike_scope rows) rows) (alike_scopes a a' same_a cuts)
 
   alike_groups : (cuts : List (List MainRow))
-      → AllZip (SameEntry SameOne) (entries_of (map (resource_group d e item) cuts)) (entries_of (map (resource_group d' e' item') cuts))
+      → AllZip (SameEntry SameOne) (item_entries (map (resource_group d e item) cuts)) (item_entries (map (resource_group d' e' item') cuts))
   unfolding resource_group
   alike_groups [] = tt
   alike_groups (rows ∷ cuts) =
       zipped_append (SameEntry SameOne) _ _ _ _ (alike_scopes (resource_of_run d rows) (resource_of_run d' rows) (alike_resource rows) (runs same_scope rows)) (alike_groups cuts)
 
-  pub alike_regrouped : (rows : List MainRow) → AllZip (SameEntry SameOne) (entries_of (regrouped d e item rows)) (entries_of (regrouped d' e' item' rows))
+  pub alike_regrouped : (rows : List MainRow) → AllZip (SameEntry SameOne) (item_entries (regrouped d e item rows)) (item_entries (regrouped d' e' item' rows))
   unfolding regrouped
   alike_regrouped rows = alike_groups (runs same_resource rows)
 

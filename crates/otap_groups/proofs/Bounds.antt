@@ -6,7 +6,7 @@ use Rattle.otlp_model.specs.declared.groups.Resource.{Resource}
 use Rattle.otlp_model.specs.declared.groups.Scope.{Scope}
 use Rattle.otlp_model.specs.declared.groups.ScopeGroup.{ScopeGroup}
 use Rattle.otlp_model.specs.declared.groups.ResourceGroup.{ResourceGroup}
-use Rattle.otap_groups.specs.Flat.{FlatIn, PlacedIn, flat, flat_at, flat_groups, flat_scopes, items_of, past, placed, placed_at, placed_from, scopes_past}
+use Rattle.otap_groups.specs.Flat.{FlatIn, PlacedIn, flat_items, flat_at, flat_groups, flat_scopes, items_of, past, placed, placed_at, placed_from, scopes_past}
 use Rattle.otap_groups.proofs.FlatSteps.{length_flat_scopes, past_most, scopes_past_most}
 
 abbrev pub Bounded : {I : Type 0} → ℕ → List (FlatIn I) → Type 0
@@ -59,14 +59,14 @@ module _ {I : Type 0} (last : ℕ) where
       let d = length-append (flat_map (λ (scope : ScopeGroup I). scope.items) group.scopes) (items_of groups) in
       omega (arith, a, b, c, d)
 
-  pub bounded : (groups : List (ResourceGroup I)) → length (items_of groups) ≤ last + 1 → Bounded last (flat groups)
-  unfolding flat
+  pub bounded : (groups : List (ResourceGroup I)) → length (items_of groups) ≤ last + 1 → Bounded last (flat_items groups)
+  unfolding flat_items
   bounded groups few =
       let size = length_flat_groups 0 0 groups in
       bounded_groups 0 0 groups (omega (arith, size)) (omega (arith, size))
 
-  pub size_of_flat : (groups : List (ResourceGroup I)) → length (flat groups) ≡ length (items_of groups)
-  unfolding flat
+  pub size_of_flat : (groups : List (ResourceGroup I)) → length (flat_items groups) ≡ length (items_of groups)
+  unfolding flat_items
   size_of_flat groups = length_flat_groups 0 0 groups
 
 module _ {C : Type 0} (last : ℕ) where

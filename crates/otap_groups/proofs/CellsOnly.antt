@@ -5,10 +5,11 @@ use Rattle.otap_cells.specs.Cells.{Cell}
 use Rattle.otap_cells.specs.Columns.{is_id_at}
 use Rattle.otap_cells.specs.Ids.{IdsAfter}
 use Rattle.otap_cells.specs.ColumnIds.{IdsOf, id_in, stored_in}
-use Rattle.otap_cells.specs.Continuing.{again_of, continues_in, continues_of, ids_in_front}
+use Rattle.otap_cells.specs.Continuing.{continues_in}
 use Rattle.otap_cells.specs.GivenIds.{HasIds}
 use Rattle.otap_cells.specs.Tables.{SameTable, Table, coding_in, column_in, greatest_in}
 use Rattle.otap_cells.proofs.IdLaws.{one_list}
+use Rattle.otap_cells.proofs.Flags.{continues_alike}
 use Rattle.otap_groups.specs.Rows.{ChildRow, MainRow, child_rows, main_rows}
 use Rattle.otap_groups.specs.Kinds.{IsMain, IsPart}
 use Rattle.otap_groups.specs.Stored.{IsMainRows, IsPairRows, IsPartRows}
@@ -33,9 +34,6 @@ same_ids t u column rows xs ys same is_id a b =
     let first = raised (coding_in t column) (greatest_in t column) (greatest_in t column + greatest_in u column) 0 rows (stored_in t column) xs (omega arith) a in
     let second = raised (coding_in u column) (greatest_in u column) (greatest_in t column + greatest_in u column) 0 rows (stored_in u column) ys (omega arith) b in
     one_list (coding_in t column) (greatest_in t column + greatest_in u column) 0 rows (stored_in t column) xs ys first (rw (how, stored) second)
-
-continues_alike : (t u : Table) → SameTable t u → continues_in u ≡ continues_in t
-continues_alike t u same = λ i. continues_of (again_of (sym same.kind i)) (map (drop (ids_in_front (sym same.kind i))) (sym same.rows i))
 
 same_given : (t u : Table) (column : ℕ) (xs ys : List (Option ℕ)) → SameTable t u → is_id_at t.kind column ≡ true → HasIds t column xs → HasIds u column ys → xs ≡ ys
 same_given t u column xs ys same is_id a b =

@@ -1,23 +1,21 @@
 -- The items of flat lists, and what holds of them.
 use Rattle.std.proofs.Common.{◌≡◌, ℕ, suc, ◌+◌, true, false, inl, inr, List, [], ◌∷◌, ◌++◌, length, map, drop, refl, sym, ◌∙◌, ap, subst, arith, append_assoc, length-append}
 use Rattle.std.specs.Prelude.{◌⊎◌, All, filter, nat_lt}
-use Rattle.std.proofs.lemmas.Bool.{cases_Bool, ltb-false}
-use Rattle.otlp_model.specs.Telemetry.{entries_of, entries_of_group, entries_of_scope_group, entry, groups_with_items}
+use Rattle.std.proofs.lemmas.Bool.{cases_Bool}
+use Rattle.otlp_model.specs.Telemetry.{item_entries, entries_of_group, entries_of_scope_group, item_entry, groups_with_items}
 use Rattle.std.specs.List.{flat_map}
 use Rattle.std.proofs.lemmas.List.{length-map, map-append}
 use Rattle.std.proofs.lemmas.List.Elements.{All-nil, All-cons, All-head, All-tail}
+use Rattle.lists.proofs.Every.{all_unmapped}
+use Rattle.lists.proofs.Truths.{empty}
 use Rattle.otlp_model.specs.declared.groups.Resource.{Resource}
 use Rattle.otlp_model.specs.declared.groups.Scope.{Scope}
 use Rattle.otlp_model.specs.declared.groups.ScopeGroup.{ScopeGroup}
 use Rattle.otlp_model.specs.declared.groups.ResourceGroup.{ResourceGroup}
 use Rattle.otap_groups.specs.declared.flat.Flat.{Flat}
 use Rattle.otap_groups.specs.declared.flat.Placed.{Placed}
-use Rattle.otap_groups.specs.Flat.{FlatIn, PlacedIn, flat, flat_at, flat_groups, flat_scopes, items_of, past, placed, placed_at, placed_from, scopes_of, scopes_past}
+use Rattle.otap_groups.specs.Flat.{FlatIn, PlacedIn, flat_items, flat_at, flat_groups, flat_scopes, items_of, past, placed, placed_at, placed_from, scopes_of, scopes_past}
 use Rattle.otap_groups.specs.Views.{seen_flat, seen_placed}
-
-empty : {A : Type 0} (xs : List A) → nat_lt 0 (length xs) ≡ false → xs ≡ []
-empty [] h = refl
-empty (x ∷ xs) h = absurd (omega (arith, ltb-false 0 (length (x ∷ xs)) h))
 
 module _ {I : Type 0} where
   one_scope : (r s : ℕ) (resource : Resource) (scope : Scope) (items : List I) → map (λ (f : FlatIn I). f.item) (map (flat_at r s resource scope) items) ≡ items
@@ -39,15 +37,15 @@ module _ {I : Type 0} where
       ∙ (λ i. scopes_items r s group.resource group.scopes i ++ groups_items (past r (flat_scopes r s group.resource group.scopes)) (scopes_past s group.scopes) groups i)
 
   -- a request's items are those of its flat list
-  pub items_of_flat : (groups : List (ResourceGroup I)) → map (λ (f : FlatIn I). f.item) (flat groups) ≡ items_of groups
-  unfolding flat
+  pub items_of_flat : (groups : List (ResourceGroup I)) → map (λ (f : FlatIn I). f.item) (flat_items groups) ≡ items_of groups
+  unfolding flat_items
   items_of_flat groups = groups_items 0 0 groups
 
   seen_items : (rows : List (Flat I)) → map (λ (f : FlatIn I). f.item) (map seen_flat rows) ≡ map (λ (f : Flat I). f.item.now) rows
   seen_items [] = refl
   seen_items (f ∷ fs) = ap (λ xs. f.item.now ∷ xs) (seen_items fs)
 
-  pub items_of_rows : (rows : List (Flat I)) (groups : List (ResourceGroup I)) → map seen_flat rows ≡ flat groups → map (λ (f : Flat I). f.item.now) rows ≡ items_of groups
+  pub items_of_rows : (rows : List (Flat I)) (groups : List (ResourceGroup I)) → map seen_flat rows ≡ flat_items groups → map (λ (f : Flat I). f.item.now) rows ≡ items_of groups
   items_of_rows rows groups is = sym (seen_items rows) ∙ ap (map (λ (f : FlatIn I). f.item)) is ∙ items_of_flat groups
 
 -- ---- the scopes that have items, one group further
@@ -70,12 +68,7 @@ scopes_added {I = I} groups k group scopes old new whole is are grew so_far =
     rw (grew ∙ ap (λ (gs : List (ScopeGroup I)). old ++ map (λ (scope : ScopeGroup I). scope.scope) (filter (λ (scope : ScopeGroup I). nat_lt 0 (length scope.items)) gs)) are)
     (append_assoc old _ _ ∙ ap (λ xs. old ++ xs) (sym (ap scopes_of is ∙ scopes_step group (drop (k + 1) groups))) ∙ so_far)
 
--- what holds of what is seen of each element holds of each element
-pub all_unmapped : {A B : Type 0} (P : B → Type 0) (f : A → B) (xs : List A) → All P (map f xs) → All (λ x. P (f x)) xs
-all_unmapped P f [] all = All-nil (λ x. P (f x))
-all_unmapped P f (x ∷ xs) all = All-cons (λ x. P (f x)) x xs (All-head P (f x) (map f xs) all) (all_unmapped P f xs (All-tail P (f x) (map f xs) all))
-
-pub all_items : {I : Type 0} (P : I → Type 0) (rows : List (Flat I)) (groups : List (ResourceGroup I)) → map seen_flat rows ≡ flat groups → All P (items_of groups)
+pub all_items : {I : Type 0} (P : I → Type 0) (rows : List (Flat I)) (groups : List (ResourceGroup I)) → map seen_flat rows ≡ flat_items groups → All P (items_of groups)
     → All (λ (f : Flat I). P f.item.now) rows
 all_items P rows groups is all = all_unmapped P (λ f. f.item.now) rows (subst (λ xs. All P xs) (sym (items_of_rows rows groups is)) all)
 
@@ -113,15 +106,15 @@ module _ {I : Type 0} where
   scopes_entries resource (group ∷ groups) =
       let a = length-append (entries_of_scope_group resource group) (flat_map (entries_of_scope_group resource) groups) in
       let b = length-append group.items (flat_map (λ (group : ScopeGroup I). group.items) groups) in
-      let c = length-map group.items (entry resource group.scope) in
+      let c = length-map group.items (item_entry resource group.scope) in
       let d = scopes_entries resource groups in
       omega (arith, a, b, c, d)
 
   -- a request tells as many entries as it has items
-  pub length_entries : (groups : List (ResourceGroup I)) → length (entries_of groups) ≡ length (items_of groups)
+  pub length_entries : (groups : List (ResourceGroup I)) → length (item_entries groups) ≡ length (items_of groups)
   length_entries [] = refl
   length_entries (group ∷ groups) =
-      let a = length-append (entries_of_group group) (entries_of groups) in
+      let a = length-append (entries_of_group group) (item_entries groups) in
       let b = length-append (flat_map (λ (scope : ScopeGroup I). scope.items) group.scopes) (items_of groups) in
       let c = scopes_entries group.resource group.scopes in
       let d = length_entries groups in

@@ -1,12 +1,12 @@
 -- Flat lists of items and of parts, one group further.
-use Rattle.std.proofs.Common.{◌≡◌, ℕ, zero, suc, ◌+◌, ◌-◌, ◌≤◌, List, [], ◌∷◌, ◌++◌, length, map, take, drop, refl, sym, ◌∙◌, ap, arith, length-append, append_assoc}
+use Rattle.std.proofs.Common.{◌≡◌, ℕ, suc, ◌+◌, ◌-◌, ◌≤◌, List, [], ◌∷◌, ◌++◌, length, map, take, drop, refl, sym, ◌∙◌, ap, arith, length-append, append_assoc}
 use Rattle.std.specs.List.{flat_map}
-use Rattle.std.proofs.lemmas.List.{drop_at, length-map, take_rest}
+use Rattle.std.proofs.lemmas.List.{drop_at, length-map, take_rest, drop-map}
 use Rattle.otlp_model.specs.declared.groups.Resource.{Resource}
 use Rattle.otlp_model.specs.declared.groups.Scope.{Scope}
 use Rattle.otlp_model.specs.declared.groups.ScopeGroup.{ScopeGroup}
 use Rattle.otlp_model.specs.declared.groups.ResourceGroup.{ResourceGroup}
-use Rattle.otap_groups.specs.Flat.{FlatIn, PlacedIn, flat, flat_at, flat_groups, flat_scopes, items_of, past, placed, placed_at, placed_from, scopes_past}
+use Rattle.otap_groups.specs.Flat.{FlatIn, PlacedIn, flat_items, flat_at, flat_groups, flat_scopes, items_of, past, placed, placed_at, placed_from, scopes_past}
 use Rattle.otap_groups.specs.Stored.{Rising, RisingParts}
 
 pub past_map : {A B : Type 0} (f : A → B) (n : ℕ) (xs : List A) → past n (map f xs) ≡ past n xs
@@ -21,16 +21,11 @@ pub past_least : {A : Type 0} (n : ℕ) (xs : List A) → n ≤ past n xs
 past_least n [] = omega arith
 past_least n (x ∷ xs) = omega arith
 
-drop_map : {A B : Type 0} (f : A → B) (n : ℕ) (xs : List A) → map f (drop n xs) ≡ drop n (map f xs)
-drop_map f zero xs = refl
-drop_map f (suc n) [] = refl
-drop_map f (suc n) (x ∷ xs) = drop_map f n xs
-
 -- what was appended to a list, where it is seen as another one
 pub grown : {A B : Type 0} (f : A → B) (old new all : List A) (before : ℕ) (more : List B) → before ≡ length old → all ≡ new → map f new ≡ map f old ++ more
     → map f (take (length all - before) (drop before all)) ≡ more
 grown f old new all before more size same is =
-    ap (map f) (take_rest all before) ∙ (λ i. map f (drop (size i) (same i))) ∙ drop_map f (length old) new ∙ ap (drop (length old)) is
+    ap (map f) (take_rest all before) ∙ (λ i. map f (drop (size i) (same i))) ∙ sym (drop-map f (length old) new) ∙ ap (drop (length old)) is
     ∙ drop_at (map f old) more (length old) (length-map old f)
 
 -- the next number after what was appended
@@ -100,8 +95,8 @@ module _ {I : Type 0} where
       (past_least r (flat_scopes r s group.resource group.scopes)) (omega arith)
       (rising_groups (past r (flat_scopes r s group.resource group.scopes)) (scopes_past s group.scopes) groups))
 
-  pub rising_flat : (groups : List (ResourceGroup I)) → Rising 0 0 (flat groups)
-  unfolding flat
+  pub rising_flat : (groups : List (ResourceGroup I)) → Rising 0 0 (flat_items groups)
+  unfolding flat_items
   rising_flat groups = rising_groups 0 0 groups
 
 module _ {C : Type 0} where

@@ -1,10 +1,11 @@
 -- The rows of a request make its groups that have items.
 use Rattle.std.proofs.Common.{◌≡◌, ℕ, suc, ◌+◌, ◌<◌, ◌≤◌, Bool, true, false, ◌&&◌, List, [], ◌∷◌, ◌++◌, Option, Some, length, map, refl, sym, ◌∙◌, ap, subst, arith, append-nil}
-use Rattle.std.specs.Prelude.{◌==◌, nat_lt, filter}
+use Rattle.std.specs.Prelude.{nat_lt, filter}
 use Rattle.std.specs.List.{AllByRecursion, flat_map}
-use Rattle.std.proofs.lemmas.Bool.Decides.{nat_tests}
 use Rattle.std.proofs.lemmas.Bool.{and_from}
 use Rattle.std.proofs.lemmas.List.{length-map, map-append}
+use Rattle.lists.proofs.Every.{every_append}
+use Rattle.lists.proofs.Truths.{positive, unequal}
 use Rattle.otlp_model.specs.Telemetry.{trimmed, groups_with_items}
 use Rattle.otlp_model.specs.declared.value.Pair.{Pair}
 use Rattle.otlp_model.specs.declared.groups.Resource.{Resource}
@@ -16,14 +17,14 @@ use Rattle.otap_cells.specs.Scalars.{text_cell}
 use Rattle.otap_cells.proofs.ScalarLaws.{text_back, number_back}
 use Rattle.otap_groups.specs.Rows.{MainRow, cells_are, cell_is, id_is, same_resource, same_scope}
 use Rattle.otap_groups.specs.Runs.{runs}
-use Rattle.otap_groups.specs.Children.{Agree, Reads, numbered}
+use Rattle.otap_groups.specs.Children.{Agree, ReadsEach, numbered}
 use Rattle.otap_groups.specs.Groups.{item_of_row, regrouped, resource_at, resource_group, resource_of, scope_group, scope_of}
-use Rattle.otap_groups.specs.Flat.{FlatIn, flat, flat_at, flat_groups, flat_scopes, items_of, numbered_row, numbered_rows, past, resource_cells, resources_of, scope_cells, scopes_of, scopes_past}
+use Rattle.otap_groups.specs.Flat.{FlatIn, flat_items, flat_at, flat_groups, flat_scopes, items_of, numbered_row, numbered_rows, past, resource_cells, resources_of, scope_cells, scopes_of, scopes_past}
 use Rattle.otap_groups.specs.Stored.{Rising}
 use Rattle.otap_groups.proofs.CellTests.{cell_is_itself, cells_are_themselves, id_is_itself}
 use Rattle.otap_groups.proofs.FlatSteps.{length_flat_scopes, rising_groups, rising_scopes}
 use Rattle.otap_groups.proofs.Joins.{agree_after, agree_front, reads_after, reads_front}
-use Rattle.otap_groups.proofs.RunBlocks.{First, block, every_append}
+use Rattle.otap_groups.proofs.RunBlocks.{First, block}
 
 resource_back : (resource : Resource) (pairs : List Pair) → pairs ≡ resource.pairs → resource_of (resource_cells resource) pairs ≡ resource
 resource_back resource pairs is = λ i. record { schema_url = text_back resource.schema_url i; dropped = number_back resource.dropped i; pairs = is i }
@@ -39,12 +40,6 @@ scope_back scope pairs is = λ i. record {
 
 abbrev has_items : {I : Type 0} → ScopeGroup I → Bool
 has_items group = nat_lt 0 (length group.items)
-
-positive : (n : ℕ) → nat_lt 0 (suc n) ≡ true
-positive n = grind (arith, nat_tests)
-
-differ : (m n : ℕ) → m < n → (m == n) ≡ false
-differ m n h = grind (arith, nat_tests)
 
 -- ---- rows of one scope, and of one resource
 
@@ -69,7 +64,7 @@ one_scope_id s scope x y a b =
 
 next_scope_id : (s : ℕ) (scope : Scope) (x y : MainRow) → InScope s scope x → PastScope s y → same_scope x y ≡ false
 next_scope_id s scope x y a b =
-    let id : id_is x.scope_id y.scope_id ≡ false = (λ i. id_is (a.0 i) (b.1 i)) ∙ differ s b.0 b.2 in
+    let id : id_is x.scope_id y.scope_id ≡ false = (λ i. id_is (a.0 i) (b.1 i)) ∙ unequal s b.0 b.2 in
     ap (λ t. t && (cells_are x.scope y.scope && cell_is x.schema_url y.schema_url)) id
 
 one_resource_id : (r : ℕ) (resource : Resource) (x y : MainRow) → InResource r resource x → InResource r resource y → same_resource x y ≡ true
@@ -80,7 +75,7 @@ one_resource_id r resource x y a b =
 
 next_resource_id : (r : ℕ) (resource : Resource) (x y : MainRow) → InResource r resource x → PastResource r y → same_resource x y ≡ false
 next_resource_id r resource x y a b =
-    let id : id_is x.resource_id y.resource_id ≡ false = (λ i. id_is (a.0 i) (b.1 i)) ∙ differ r b.0 b.2 in
+    let id : id_is x.resource_id y.resource_id ≡ false = (λ i. id_is (a.0 i) (b.1 i)) ∙ unequal r b.0 b.2 in
     ap (λ t. t && cells_are x.resource y.resource) id
 
 scopes_rise : {I : Type 0} (r s : ℕ) (resource : Resource) (groups : List (ScopeGroup I)) → Rising r s (flat_scopes r s resource groups)
@@ -154,15 +149,15 @@ module _ {I : Type 0} where
 -- ---- back to the groups
 
 module _ {I : Type 0} (cells_of : I → List Cell) (resources scopes : Option ℕ → List Pair) (item : Option ℕ → List Cell → I) where
-  items_back : (n r s : ℕ) (resource : Resource) (scope : Scope) (items : List I) → Reads numbered cells_of item n items
+  items_back : (n r s : ℕ) (resource : Resource) (scope : Scope) (items : List I) → ReadsEach numbered cells_of item n items
       → map (item_of_row item) (numbered_rows cells_of n (map (flat_at r s resource scope) items)) ≡ items
   items_back n r s resource scope [] reads = refl
   items_back n r s resource scope (x ∷ xs) reads = λ i. reads.0 i ∷ items_back (suc n) r s resource scope xs reads.1 i
 
   one_scope : (n r s : ℕ) (resource : Resource) (scope : Scope) (items : List I) (groups : List (ScopeGroup I))
-      → Reads numbered cells_of item n (items ++ flat_map (λ (group : ScopeGroup I). group.items) groups)
+      → ReadsEach numbered cells_of item n (items ++ flat_map (λ (group : ScopeGroup I). group.items) groups)
       → Agree scopes s (map (λ (group : ScopeGroup I). group.scope.pairs) (filter has_items (record { scope = scope; items = items } ∷ groups)))
-      → ((n s : ℕ) → Reads numbered cells_of item n (flat_map (λ (group : ScopeGroup I). group.items) groups)
+      → ((n s : ℕ) → ReadsEach numbered cells_of item n (flat_map (λ (group : ScopeGroup I). group.items) groups)
       → Agree scopes s (map (λ (group : ScopeGroup I). group.scope.pairs) (filter has_items groups))
       → map (scope_group scopes item) (runs same_scope (numbered_rows cells_of n (flat_scopes r s resource groups))) ≡ filter has_items groups)
       → map (scope_group scopes item) (runs same_scope (numbered_rows cells_of n (flat_scopes r s resource (record { scope = scope; items = items } ∷ groups))))
@@ -187,7 +182,7 @@ module _ {I : Type 0} (cells_of : I → List Cell) (resources scopes : Option �
       ∙ (λ i. record { scope = scope_back scope (scopes (Some s)) agrees.0 i; items = items i } ∷ rest i))
 
   scopes_back : (n r s : ℕ) (resource : Resource) (groups : List (ScopeGroup I))
-      → Reads numbered cells_of item n (flat_map (λ (group : ScopeGroup I). group.items) groups)
+      → ReadsEach numbered cells_of item n (flat_map (λ (group : ScopeGroup I). group.items) groups)
       → Agree scopes s (map (λ (group : ScopeGroup I). group.scope.pairs) (filter has_items groups))
       → map (scope_group scopes item) (runs same_scope (numbered_rows cells_of n (flat_scopes r s resource groups))) ≡ filter has_items groups
   unfolding runs
@@ -215,12 +210,12 @@ module _ {I : Type 0} (cells_of : I → List Cell) (resources scopes : Option �
   all_scopes groups = flat_map (λ (group : ResourceGroup I). group.scopes) groups
 
   abbrev Back : List (ResourceGroup I) → ℕ → ℕ → ℕ → Type 0
-  Back groups n r s = Reads numbered cells_of item n (items_of groups) → Agree resources r (resource_pairs (groups_with_items groups))
+  Back groups n r s = ReadsEach numbered cells_of item n (items_of groups) → Agree resources r (resource_pairs (groups_with_items groups))
       → Agree scopes s (scope_pairs (all_scopes (groups_with_items groups)))
       → map (resource_group resources scopes item) (runs same_resource (numbered_rows cells_of n (flat_groups r s groups))) ≡ groups_with_items groups
 
   one_group : (n r s : ℕ) (group : ResourceGroup I) (groups : List (ResourceGroup I)) (fs : List (FlatIn I)) → flat_scopes r s group.resource group.scopes ≡ fs
-      → Reads numbered cells_of item n (flat_map (λ (scope : ScopeGroup I). scope.items) group.scopes ++ items_of groups)
+      → ReadsEach numbered cells_of item n (flat_map (λ (scope : ScopeGroup I). scope.items) group.scopes ++ items_of groups)
       → Agree resources r (resource_pairs (groups_with_items (group ∷ groups)))
       → Agree scopes s (scope_pairs (all_scopes (groups_with_items (group ∷ groups))))
       → ((n r s : ℕ) → Back groups n r s)
@@ -235,7 +230,7 @@ module _ {I : Type 0} (cells_of : I → List Cell) (resources scopes : Option �
       let size : length (flat_map (λ (scope : ScopeGroup I). scope.items) group.scopes) ≡ 0 = sym (length_flat_scopes r s group.resource group.scopes) ∙ ap length is in
       let place : n + length (flat_map (λ (scope : ScopeGroup I). scope.items) group.scopes) ≡ n = omega (arith, size) in
       ap (λ t. map (resource_group resources scopes item) (runs same_resource (numbered_rows cells_of n (flat_groups r t groups)))) at
-      ∙ ih n r s (subst (λ m. Reads numbered cells_of item m (items_of groups)) place (reads_after numbered cells_of item n _ (items_of groups) reads))
+      ∙ ih n r s (subst (λ m. ReadsEach numbered cells_of item m (items_of groups)) place (reads_after numbered cells_of item n _ (items_of groups) reads))
       (subst (λ gs. Agree resources r (resource_pairs gs)) same of_resources) (subst (λ gs. Agree scopes s (scope_pairs (all_scopes gs))) same of_scopes)
       ∙ sym same
   one_group n r s group groups (f ∷ fs) is reads of_resources of_scopes ih =
@@ -260,7 +255,7 @@ module _ {I : Type 0} (cells_of : I → List Cell) (resources scopes : Option �
       (λ y later x of_resource. next_resource_id r group.resource x y of_resource later)
       (past_resource cells_of (n + length (f ∷ fs)) r (scopes_past s group.scopes) _ (rising_groups (suc r) (scopes_past s group.scopes) groups))) in
       let rest = ih (n + length (f ∷ fs)) (suc r) (scopes_past s group.scopes)
-      (subst (λ m. Reads numbered cells_of item m (items_of groups)) place (reads_after numbered cells_of item n _ (items_of groups) reads))
+      (subst (λ m. ReadsEach numbered cells_of item m (items_of groups)) place (reads_after numbered cells_of item n _ (items_of groups) reads))
       resources_here.1 (subst (λ m. Agree scopes m (scope_pairs (all_scopes (groups_with_items groups)))) at (agree_after scopes s _ _ scopes_here)) in
       let resource : resource_at resources (numbered_row cells_of n f) ≡ group.resource =
       (λ i. resource_of (inside.0.1 i) (resources (inside.0.0 i))) ∙ resource_back group.resource (resources (Some r)) resources_here.0 in
@@ -279,11 +274,11 @@ module _ {I : Type 0} (cells_of : I → List Cell) (resources scopes : Option �
   map_map f g [] = refl
   map_map f g (x ∷ xs) = ap (λ ys. f (g x) ∷ ys) (map_map f g xs)
 
-  pub groups_back : (groups : List (ResourceGroup I)) → Reads numbered cells_of item 0 (items_of groups)
+  pub groups_back : (groups : List (ResourceGroup I)) → ReadsEach numbered cells_of item 0 (items_of groups)
       → Agree resources 0 (map (λ (resource : Resource). resource.pairs) (resources_of groups))
       → Agree scopes 0 (map (λ (scope : Scope). scope.pairs) (scopes_of groups))
-      → regrouped resources scopes item (numbered_rows cells_of 0 (flat groups)) ≡ groups_with_items groups
-  unfolding regrouped flat
+      → regrouped resources scopes item (numbered_rows cells_of 0 (flat_items groups)) ≡ groups_with_items groups
+  unfolding regrouped flat_items
   groups_back groups reads of_resources of_scopes =
       groups_from 0 0 0 groups reads
       (subst (λ ps. Agree resources 0 ps) (map_map (λ (resource : Resource). resource.pairs) (λ (group : ResourceGroup I). group.resource) (groups_with_items groups)) of_resources)

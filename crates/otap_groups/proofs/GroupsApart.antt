@@ -6,6 +6,7 @@ use Rattle.std.proofs.lemmas.Bool.Decides.{nat_tests}
 use Rattle.std.proofs.lemmas.Bool.{cases_lt, false≢true}
 use Rattle.std.proofs.lemmas.List.{length-map, map-append}
 use Rattle.std.proofs.lemmas.List.Elements.{Contains-append_left, Contains-append_right}
+use Rattle.lists.proofs.Every.{every_append, every_contained, every_weaker}
 use Rattle.otlp_model.specs.declared.groups.Resource.{Resource}
 use Rattle.otlp_model.specs.declared.groups.Scope.{Scope}
 use Rattle.otlp_model.specs.declared.groups.ScopeGroup.{ScopeGroup}
@@ -13,25 +14,15 @@ use Rattle.otlp_model.specs.declared.groups.ResourceGroup.{ResourceGroup}
 use Rattle.otap_cells.specs.Cells.{Cell}
 use Rattle.otap_cells.specs.Ids.{Twice}
 use Rattle.otap_groups.specs.Disagree.{DifferBy, Disagree}
-use Rattle.otap_groups.specs.Flat.{FlatIn, flat, flat_at, flat_groups, flat_scopes, items_of, numbered_rows, past, resource_cells, resources_of, scope_cells, scopes_of, scopes_past}
+use Rattle.otap_groups.specs.Flat.{FlatIn, flat_items, flat_at, flat_groups, flat_scopes, items_of, numbered_rows, past, resource_cells, resources_of, scope_cells, scopes_of, scopes_past}
 use Rattle.otap_groups.specs.Rows.{MainRow, cells_are}
 use Rattle.otap_groups.proofs.Bounds.{size_of_flat}
 use Rattle.otap_groups.proofs.CellTests.{cells_are_themselves}
 use Rattle.otap_groups.proofs.FlatItems.{scopes_step}
 use Rattle.otap_groups.proofs.Grouping.{none_kept, scopes_past_kept, some_kept}
-use Rattle.otap_groups.proofs.RunBlocks.{every_append}
 use Rattle.otap_groups.proofs.RunningIds.{item_ids, running_once, running_there}
 
 -- ---- elements and their places
-
-pub every_contained : {A : Type 0} (P : A → Type 0) (xs : List A) (x : A) → AllByRecursion P xs → Contains xs x → P x
-every_contained P [] x all (k, within, at) = absurd (omega arith)
-every_contained P (y ∷ ys) x all (zero, within, at) = subst P at all.0
-every_contained P (y ∷ ys) x all (suc k, within, at) = every_contained P ys x all.1 (k, omega arith, at)
-
-pub every_weaker : {A : Type 0} (P Q : A → Type 0) (xs : List A) → ((x : A) → P x → Q x) → AllByRecursion P xs → AllByRecursion Q xs
-every_weaker P Q [] weaker all = tt
-every_weaker P Q (x ∷ xs) weaker all = (weaker x all.0, every_weaker P Q xs weaker all.1)
 
 -- this element stands at this place
 abbrev At : {A : Type 0} → List A → ℕ → A → Type 0
@@ -64,9 +55,9 @@ module _ {I : Type 0} (cells_of : I → List Cell) where
   own_once n fs twice = running_once n fs (subst Twice (item_ids cells_of n fs) twice)
 
   pub item_there : (groups : List (ResourceGroup I)) (p : ℕ) → p < length (items_of groups)
-      → Contains (map (λ (row : MainRow). row.id) (numbered_rows cells_of 0 (flat groups))) (Some p)
+      → Contains (map (λ (row : MainRow). row.id) (numbered_rows cells_of 0 (flat_items groups))) (Some p)
   item_there groups p within =
-      subst (λ ids. Contains ids (Some p)) (sym (item_ids cells_of 0 (flat groups))) (running_there p (flat groups) (let size = size_of_flat 0 groups in omega (arith, size, within)))
+      subst (λ ids. Contains ids (Some p)) (sym (item_ids cells_of 0 (flat_items groups))) (running_there p (flat_items groups) (let size = size_of_flat 0 groups in omega (arith, size, within)))
 
 -- ---- each group that has items has rows
 
@@ -171,10 +162,10 @@ module _ {I : Type 0} where
     by (f ∷ fs) some after =
         subst (λ xs. AllByRecursion (FromResource xs r) ((f ∷ fs) ++ flat_groups (suc r) (scopes_past s group.scopes) groups)) (sym (one_more group groups r s (omega (arith, ap length some))))
         (every_append (FromResource (group.resource ∷ resources_of groups) r) (f ∷ fs) (flat_groups (suc r) (scopes_past s group.scopes) groups)
-        (every_weaker (OfResource r group.resource) (FromResource (group.resource ∷ resources_of groups) r) (f ∷ fs) (λ f of. (0, of.0 ∙ omega arith, sym of.1))
+        (every_weaker (OfResource r group.resource) (FromResource (group.resource ∷ resources_of groups) r) (λ f of. (0, of.0 ∙ omega arith, sym of.1)) (f ∷ fs)
         (subst (AllByRecursion (OfResource r group.resource)) some (of_scopes r s group.resource group.scopes)))
-        (every_weaker (FromResource (resources_of groups) (suc r)) (FromResource (group.resource ∷ resources_of groups) r) (flat_groups (suc r) (scopes_past s group.scopes) groups)
-        (λ f from. (suc from.0, from.1 ∙ omega arith, from.2)) (after (suc r))))
+        (every_weaker (FromResource (resources_of groups) (suc r)) (FromResource (group.resource ∷ resources_of groups) r) (λ f from. (suc from.0, from.1 ∙ omega arith, from.2))
+        (flat_groups (suc r) (scopes_past s group.scopes) groups) (after (suc r))))
 
   in_items : (r s : ℕ) (resource : Resource) (scope : Scope) (xs : List Scope) (items : List I) → AllByRecursion (FromScope (scope ∷ xs) s) (map (flat_at r s resource scope) items)
   in_items r s resource scope xs [] = tt
@@ -195,7 +186,7 @@ module _ {I : Type 0} where
         subst (λ ys. AllByRecursion (FromScope ys s) (map (flat_at r s resource scope) (item ∷ items) ++ flat_scopes r (suc s) resource groups)) (sym are)
         (every_append (FromScope (scope ∷ xs) s) (map (flat_at r s resource scope) (item ∷ items)) (flat_scopes r (suc s) resource groups)
         (in_items r s resource scope xs (item ∷ items))
-        (every_weaker (FromScope xs (suc s)) (FromScope (scope ∷ xs) s) (flat_scopes r (suc s) resource groups) (λ f from. (suc from.0, from.1 ∙ omega arith, from.2))
+        (every_weaker (FromScope xs (suc s)) (FromScope (scope ∷ xs) s) (λ f from. (suc from.0, from.1 ∙ omega arith, from.2)) (flat_scopes r (suc s) resource groups)
         (after (suc s))))
 
   from_scopes : (r s : ℕ) (groups : List (ResourceGroup I)) → AllByRecursion (FromScope (scopes_of groups) s) (flat_groups r s groups)
@@ -208,10 +199,10 @@ module _ {I : Type 0} where
       let at = scopes_past_kept s group.scopes in
       subst (λ ys. AllByRecursion (FromScope ys s) (front ++ after)) (sym (scopes_step group groups))
       (every_append (FromScope (xs ++ scopes_of groups) s) front after
-      (every_weaker (FromScope xs s) (FromScope (xs ++ scopes_of groups) s) front (λ f from. (from.0, from.1, at_front xs (scopes_of groups) from.0 f.scope from.2))
+      (every_weaker (FromScope xs s) (FromScope (xs ++ scopes_of groups) s) (λ f from. (from.0, from.1, at_front xs (scopes_of groups) from.0 f.scope from.2)) front
       (in_scopes r s group.resource group.scopes))
-      (every_weaker (FromScope (scopes_of groups) (scopes_past s group.scopes)) (FromScope (xs ++ scopes_of groups) s) after
-      (λ f from. (length xs + from.0, from.1 ∙ omega (arith, here, at), at_after xs (scopes_of groups) from.0 (length xs + from.0) f.scope refl from.2))
+      (every_weaker (FromScope (scopes_of groups) (scopes_past s group.scopes)) (FromScope (xs ++ scopes_of groups) s)
+      (λ f from. (length xs + from.0, from.1 ∙ omega (arith, here, at), at_after xs (scopes_of groups) from.0 (length xs + from.0) f.scope refl from.2)) after
       (from_scopes (past r front) (scopes_past s group.scopes) groups)))
 
 -- ---- the rows
@@ -244,15 +235,15 @@ module _ {I : Type 0} (cells_of : I → List Cell) where
   scope_ids_are n (f ∷ fs) = ap (λ ids. Some f.scope_id ∷ ids) (scope_ids_are (suc n) fs)
 
   pub resource_there : (groups : List (ResourceGroup I)) (p : ℕ) → p < length (resources_of groups)
-      → Contains (map (λ (row : MainRow). row.resource_id) (numbered_rows cells_of 0 (flat groups))) (Some p)
-  unfolding flat
+      → Contains (map (λ (row : MainRow). row.resource_id) (numbered_rows cells_of 0 (flat_items groups))) (Some p)
+  unfolding flat_items
   resource_there groups p within =
       subst (λ ids. Contains ids (Some p)) (sym (resource_ids_are 0 (flat_groups 0 0 groups)))
       (subst (λ m. Contains (resource_numbers (flat_groups 0 0 groups)) (Some m)) (omega arith) (resource_from 0 0 p groups within))
 
   pub scope_there : (groups : List (ResourceGroup I)) (p : ℕ) → p < length (scopes_of groups)
-      → Contains (map (λ (row : MainRow). row.scope_id) (numbered_rows cells_of 0 (flat groups))) (Some p)
-  unfolding flat
+      → Contains (map (λ (row : MainRow). row.scope_id) (numbered_rows cells_of 0 (flat_items groups))) (Some p)
+  unfolding flat_items
   scope_there groups p within =
       subst (λ ids. Contains ids (Some p)) (sym (scope_ids_are 0 (flat_groups 0 0 groups)))
       (subst (λ m. Contains (scope_numbers (flat_groups 0 0 groups)) (Some m)) (omega arith) (scope_from 0 0 p groups within))
@@ -268,7 +259,7 @@ module _ {I : Type 0} (cells_of : I → List Cell) where
   scopes_come xs n (f ∷ fs) all = ((all.0.0, f.scope, ap Some (all.0.1 ∙ omega arith), all.0.2, refl), scopes_come xs (suc n) fs all.1)
 
   -- rows of one id don't differ
-  pub rows_agree : (groups : List (ResourceGroup I)) → Disagree (numbered_rows cells_of 0 (flat groups)) → ⊥
-  unfolding flat
+  pub rows_agree : (groups : List (ResourceGroup I)) → Disagree (numbered_rows cells_of 0 (flat_items groups)) → ⊥
+  unfolding flat_items
   rows_agree groups (inl d) = none_differ resource_cells (resources_of groups) (λ row. row.resource_id) (λ row. row.resource) _ (resources_come (resources_of groups) 0 _ (from_resources 0 0 groups)) d
   rows_agree groups (inr d) = none_differ scope_cells (scopes_of groups) (λ row. row.scope_id) (λ row. row.scope) _ (scopes_come (scopes_of groups) 0 _ (from_scopes 0 0 groups)) d

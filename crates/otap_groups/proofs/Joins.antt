@@ -5,11 +5,11 @@ use Rattle.std.specs.List.{AllByRecursion, flat_map}
 use Rattle.std.proofs.lemmas.Bool.Decides.{nat_tests}
 use Rattle.std.proofs.lemmas.List.{length-map}
 use Rattle.std.proofs.lemmas.List.Elements.{filter-append}
+use Rattle.lists.proofs.Every.{every_append}
 use Rattle.otap_cells.specs.Cells.{Cell}
 use Rattle.otap_groups.specs.Rows.{ChildRow, child_row, id_is, is_child_of}
-use Rattle.otap_groups.specs.Children.{Agree, Reads, child_of_row, children}
+use Rattle.otap_groups.specs.Children.{Agree, ReadsEach, child_of_row, children}
 use Rattle.otap_groups.specs.Flat.{PlacedIn, part_rows, placed, placed_at, placed_from}
-use Rattle.otap_groups.proofs.RunBlocks.{every_append}
 
 -- ---- lists one after the other
 
@@ -22,13 +22,13 @@ agree_after find k [] ys agree = subst (λ n. Agree find n ys) (omega arith) agr
 agree_after find k (x ∷ xs) ys agree = subst (λ n. Agree find n ys) (omega arith) (agree_after find (suc k) xs ys agree.1)
 
 module _ {C : Type 0} (own : ℕ → Option ℕ) (cells_of : C → List Cell) (item : Option ℕ → List Cell → C) where
-  pub reads_front : (k : ℕ) (xs ys : List C) → Reads own cells_of item k (xs ++ ys) → Reads own cells_of item k xs
+  pub reads_front : (k : ℕ) (xs ys : List C) → ReadsEach own cells_of item k (xs ++ ys) → ReadsEach own cells_of item k xs
   reads_front k [] ys reads = tt
   reads_front k (x ∷ xs) ys reads = (reads.0, reads_front (suc k) xs ys reads.1)
 
-  pub reads_after : (k : ℕ) (xs ys : List C) → Reads own cells_of item k (xs ++ ys) → Reads own cells_of item (k + length xs) ys
-  reads_after k [] ys reads = subst (λ n. Reads own cells_of item n ys) (omega arith) reads
-  reads_after k (x ∷ xs) ys reads = subst (λ n. Reads own cells_of item n ys) (omega arith) (reads_after (suc k) xs ys reads.1)
+  pub reads_after : (k : ℕ) (xs ys : List C) → ReadsEach own cells_of item k (xs ++ ys) → ReadsEach own cells_of item (k + length xs) ys
+  reads_after k [] ys reads = subst (λ n. ReadsEach own cells_of item n ys) (omega arith) reads
+  reads_after k (x ∷ xs) ys reads = subst (λ n. ReadsEach own cells_of item n ys) (omega arith) (reads_after (suc k) xs ys reads.1)
 
   -- ---- rows of several parents
 
@@ -62,7 +62,7 @@ module _ {C : Type 0} (own : ℕ → Option ℕ) (cells_of : C → List Cell) (i
       let other : (all.0.0 == k) ≡ false = grind (arith, nat_tests, high) in
       rw (miss all.0.0 k row all.0.1 other) (none_above k rows all.1)
 
-  own_parts : (n k : ℕ) (parts : List C) → Reads own cells_of item n parts
+  own_parts : (n k : ℕ) (parts : List C) → ReadsEach own cells_of item n parts
       → map (child_of_row item) (filter (is_child_of k) (part_rows own cells_of n (map (placed_at k) parts))) ≡ parts
   own_parts n k [] reads = refl
   own_parts n k (part ∷ parts) reads =
@@ -89,7 +89,7 @@ module _ {C : Type 0} (own : ℕ → Option ℕ) (cells_of : C → List Cell) (i
       let first : all.0.0 < k = all.0.2 in
       ((all.0.0, all.0.1, omega arith), weaker k m rows low all.1)
 
-  agrees_from : (front : List ChildRow) (n k : ℕ) (lists : List (List C)) → AllByRecursion (Below k) front → Reads own cells_of item n (flat_map (λ parts. parts) lists)
+  agrees_from : (front : List ChildRow) (n k : ℕ) (lists : List (List C)) → AllByRecursion (Below k) front → ReadsEach own cells_of item n (flat_map (λ parts. parts) lists)
       → Agree (children item (front ++ part_rows own cells_of n (placed_from k lists))) k lists
   agrees_from front n k [] low reads = tt
   agrees_from front n k (parts ∷ lists) low reads =
@@ -113,7 +113,7 @@ module _ {C : Type 0} (own : ℕ → Option ℕ) (cells_of : C → List Cell) (i
             (reads_after n parts (flat_map (λ parts. parts) lists) reads)),
       )
 
-  pub agrees : (lists : List (List C)) → Reads own cells_of item 0 (flat_map (λ parts. parts) lists)
+  pub agrees : (lists : List (List C)) → ReadsEach own cells_of item 0 (flat_map (λ parts. parts) lists)
       → Agree (children item (part_rows own cells_of 0 (placed lists))) 0 lists
   unfolding placed
   agrees lists reads = agrees_from [] 0 0 lists tt reads

@@ -1,11 +1,12 @@
 -- Rows that fit the columns of a kind make a table of the profile; and the rows of a request's items fit.
-use Rattle.std.proofs.Common.{◌≡◌, ℕ, ◌^◌, ◌≤◌, ◌<◌, pos, negsuc, true, List, [], ◌∷◌, ◌++◌, get_or, Option, length, map, refl, ◌∙◌, ap, arith, inl, inr}
+use Rattle.std.proofs.Common.{◌≡◌, ℕ, ◌^◌, ◌≤◌, ◌<◌, true, List, [], ◌∷◌, ◌++◌, get_or, Option, length, map, ◌∙◌, ap, arith, inl, inr}
 use Rattle.std.specs.Prelude.{All, IsTrue, ◌==◌}
 use Rattle.std.specs.List.{AllByRecursion}
 use Rattle.std.proofs.lemmas.Bool.{cases_Bool, cases_lt, and_parts}
 use Rattle.std.proofs.lemmas.List.{get_or_past}
 use Rattle.std.proofs.lemmas.List.Elements.{All-nil, All-cons, All-head, All-tail, All-get_or, All-weaker}
 use Rattle.std.proofs.lemmas.Str.{IsUtf8-from_is_utf8}
+use Rattle.lists.proofs.Every.{every_append}
 use Rattle.lists.specs.Bytes.{is_real_text}
 use Rattle.otlp_model.specs.Real.{IsRealResource, IsRealScope}
 use Rattle.otlp_model.specs.declared.groups.Resource.{Resource}
@@ -13,45 +14,23 @@ use Rattle.otlp_model.specs.declared.groups.Scope.{Scope}
 use Rattle.otlp_model.specs.declared.groups.ScopeGroup.{ScopeGroup}
 use Rattle.otlp_model.specs.declared.groups.ResourceGroup.{ResourceGroup}
 use Rattle.otap_cells.specs.declared.payload.Kind.{Kind}
-use Rattle.otap_cells.specs.declared.profile.Base.{Base}
 use Rattle.otap_cells.specs.declared.profile.Base.TheVariants as base
-use Rattle.otap_cells.specs.declared.profile.Coding.{Coding}
-use Rattle.otap_cells.specs.declared.profile.Coding.TheVariants as coding
-use Rattle.otap_cells.specs.Bases.{is_id}
-use Rattle.otap_cells.specs.Cells.{Cell, IsCellOf, bits, bytes, flag, nat_in, null, number}
-use Rattle.otap_cells.specs.Columns.{ColumnSpec, allows, base_at, column_at, columns_of, common, is_id_at, is_run, plain, width_of}
+use Rattle.otap_cells.specs.Cells.{Cell, IsCellOf}
+use Rattle.otap_cells.specs.Columns.{ColumnSpec, allows, base_at, column_at, columns_of, common, is_id_at, plain, width_of}
 use Rattle.otap_cells.specs.GivenIds.{HasIds}
 use Rattle.otap_cells.specs.Scalars.{number_cell, text_cell}
-use Rattle.otap_cells.specs.Tables.{IsRow, IsTable, cell_in, greatest_wide, profile_table}
+use Rattle.otap_cells.specs.Tables.{IsRow, IsTable, cell_in, profile_table}
 use Rattle.otap_cells.proofs.ByPlace.{id_within}
 use Rattle.otap_cells.proofs.Rowwise.{IsRow-at, length-IsRow}
-use Rattle.otap_groups.specs.Flat.{FlatIn, flat, flat_at, flat_groups, flat_scopes, past, scopes_past}
+use Rattle.otap_cells.proofs.Columnwise.{allows_own, id_at_most}
+use Rattle.otap_groups.specs.Flat.{FlatIn, flat_items, flat_at, flat_groups, flat_scopes, past, scopes_past}
 use Rattle.otap_groups.specs.ProfileTables.{IsProfileTable}
 use Rattle.otap_groups.specs.Stored.{stored_row, stored_rows}
 use Rattle.otap_groups.specs.Weighing.{CanWriteGroup, CanWriteScope}
 use Rattle.otap_groups.proofs.Bounds.{Bounded}
-use Rattle.otap_groups.proofs.RunBlocks.{every_append}
 use Rattle.otap_groups.proofs.StoredRows.{coding_is, greatest_is}
 
 -- ---- tables
-
-allows_own : (c : ColumnSpec) → is_id c.base ≡ true → allows c c.coding ≡ true
-allows_own c is = each c.coding refl
-  where
-    each : (how : Coding) → c.coding ≡ how → allows c how ≡ true
-    each coding.Plain same = is
-    each coding.Delta same = is
-    each coding.Run same = ap is_run same
-
--- a number of an id column is at most the greatest
-small : (holds : Base) (cell : Cell) → is_id holds ≡ true → IsCellOf holds cell → nat_in cell ≤ greatest_wide
-small (base.Id wide) (number (pos n)) is fits = omega (arith, fits)
-small (base.Id wide) (number (negsuc n)) is fits = omega arith
-small _ (number n) is fits = absurd cc
-small _ null is fits = omega arith
-small _ (bits n) is fits = omega arith
-small _ (flag b) is fits = omega arith
-small _ (bytes part) is fits = omega arith
 
 module _ (kind : Kind) (rows : List (List Cell)) (fit : All (IsRow (columns_of kind)) rows) where
   cell_fits : (column row : ℕ) → IsCellOf (base_at kind column) (cell_in rows column row)
@@ -65,7 +44,7 @@ module _ (kind : Kind) (rows : List (List Cell)) (fit : All (IsRow (columns_of k
     wide = All-weaker (IsRow (columns_of kind)) (λ row. length row ≡ width_of kind) (λ row fits. length-IsRow (columns_of kind) row fits) rows fit;
     fits = cell_fits;
     coded = λ column is. ap (allows (column_at kind column)) (coding_is kind rows column (id_within kind column is)) ∙ allows_own (column_at kind column) is;
-    bounded = λ column row is. rw (greatest_is kind rows column (id_within kind column is)) (small (base_at kind column) (cell_in rows column row) is (cell_fits column row));
+    bounded = λ column row is. rw (greatest_is kind rows column (id_within kind column is)) (id_at_most (base_at kind column) (cell_in rows column row) is (cell_fits column row));
   }
 
   -- a table of the profile, where each id column has ids
@@ -123,8 +102,8 @@ module _ {I : Type 0} (OfResource : Resource → Type 0) (OfScope : Scope → Ty
       (of_groups (past r (flat_scopes r s group.resource group.scopes)) (scopes_past s group.scopes) groups
       (All-tail (CanWriteGroup OfResource OfScope OfItem) group groups all))
 
-  pub of_flat : (groups : List (ResourceGroup I)) → All (CanWriteGroup OfResource OfScope OfItem) groups → AllByRecursion OfFlat (flat groups)
-  unfolding flat
+  pub of_flat : (groups : List (ResourceGroup I)) → All (CanWriteGroup OfResource OfScope OfItem) groups → AllByRecursion OfFlat (flat_items groups)
+  unfolding flat_items
   of_flat groups all = of_groups 0 0 groups all
 
 pub rows_join : (first second : List ColumnSpec) (xs ys : List Cell) → IsRow first xs → IsRow second ys → IsRow (first ++ second) (xs ++ ys)

@@ -2,6 +2,7 @@
 use Rattle.std.proofs.Common.{List, [], ◌∷◌}
 use Rattle.std.specs.Prelude.{All, IsTrue}
 use Rattle.std.proofs.lemmas.List.Elements.{All-nil, All-cons, All-head, All-tail}
+use Rattle.lists.proofs.Every.{all_of_both}
 use Rattle.otlp_model.specs.Profile.{IsProfilePair, IsProfileResourceGroup, IsProfileScopeGroup}
 use Rattle.otlp_model.specs.Real.{IsRealResourceGroup, IsRealScopeGroup, are_real_pairs}
 use Rattle.otlp_model.specs.declared.groups.Resource.{Resource}
@@ -12,12 +13,6 @@ use Rattle.otlp_model.specs.declared.value.Pair.{Pair}
 use Rattle.otap_groups.specs.Weighing.{CanWriteGroup, CanWriteScope}
 
 module _ {A : Type 0} (IsReal IsProfile OfItem : A → Type 0) (item : (a : A) → IsReal a → IsProfile a → OfItem a) where
-  pub real_items : (items : List A) → All IsReal items → All IsProfile items → All OfItem items
-  real_items [] real is = All-nil OfItem
-  real_items (a ∷ items) real is =
-      All-cons OfItem a items (item a (All-head IsReal a items real) (All-head IsProfile a items is))
-      (real_items items (All-tail IsReal a items real) (All-tail IsProfile a items is))
-
   module _ (OfPairs : List Pair → Type 0) (pairs : (ps : List Pair) → IsTrue (are_real_pairs ps) → All IsProfilePair ps → OfPairs ps) where
     abbrev OfResource : Resource → Type 0
     OfResource resource = OfPairs resource.pairs
@@ -36,7 +31,7 @@ module _ {A : Type 0} (IsReal IsProfile OfItem : A → Type 0) (item : (a : A) �
     real_scopes (group ∷ groups) real is =
         let r : IsRealScopeGroup IsReal group = All-head (IsRealScopeGroup IsReal) group groups real in
         let p : IsProfileScopeGroup IsProfile group = All-head (IsProfileScopeGroup IsProfile) group groups is in
-        All-cons InScope group groups (pairs group.scope.pairs r.scope.pairs p.scope.pairs.at, real_items group.items r.items.at p.items.at)
+        All-cons InScope group groups (pairs group.scope.pairs r.scope.pairs p.scope.pairs.at, all_of_both IsReal IsProfile OfItem item group.items r.items.at p.items.at)
         (real_scopes groups (All-tail (IsRealScopeGroup IsReal) group groups real) (All-tail (IsProfileScopeGroup IsProfile) group groups is))
 
     pub real_groups : (groups : List (ResourceGroup A)) → All (IsRealResourceGroup IsReal) groups → All (IsProfileResourceGroup IsProfile) groups

@@ -1,11 +1,11 @@
 -- What rows weigh, part by part.
-use Rattle.std.proofs.Common.{◌≡◌, ℕ, suc, ◌+◌, Bool, true, false, List, [], ◌∷◌, ◌++◌, length, map, refl, ◌∙◌, ap, inl, inr, arith}
+use Rattle.std.proofs.Common.{◌≡◌, ℕ, ◌+◌, Bool, true, false, List, [], ◌∷◌, ◌++◌, length, map, refl, ◌∙◌, ap, inl, inr, arith}
 use Rattle.std.specs.Prelude.{◌⊎◌, filter, nat_lt, sum_by}
 use Rattle.std.specs.List.{flat_map}
-use Rattle.std.proofs.lemmas.Bool.{cases_Bool, ltb-false}
-use Rattle.std.proofs.lemmas.Bool.Decides.{nat_tests}
+use Rattle.std.proofs.lemmas.Bool.{cases_Bool}
 use Rattle.std.proofs.lemmas.List.{map-append}
 use Rattle.std.proofs.lemmas.List.Sums.{sum_by-cons, sum_by-append}
+use Rattle.lists.proofs.Truths.{positive, empty}
 use Rattle.otlp_model.specs.Telemetry.{trimmed, groups_with_items}
 use Rattle.otlp_model.specs.declared.groups.Resource.{Resource}
 use Rattle.otlp_model.specs.declared.groups.Scope.{Scope}
@@ -13,13 +13,6 @@ use Rattle.otlp_model.specs.declared.groups.ScopeGroup.{ScopeGroup}
 use Rattle.otlp_model.specs.declared.groups.ResourceGroup.{ResourceGroup}
 use Rattle.otap_groups.specs.Flat.{items_of, resources_of, scopes_of}
 use Rattle.otap_groups.specs.Weighing.{front_weight, rows_of_groups, rows_of_resource, rows_of_scope}
-
-empty : {A : Type 0} (xs : List A) → nat_lt 0 (length xs) ≡ false → xs ≡ []
-empty [] h = refl
-empty (x ∷ xs) h = absurd (omega (arith, ltb-false 0 (length (x ∷ xs)) h))
-
-positive : (n : ℕ) → nat_lt 0 (suc n) ≡ true
-positive n = grind (arith, nat_tests)
 
 module _ {I : Type 0} (of_resource : Resource → ℕ) (of_scope : Scope → ℕ) (own more : I → ℕ) where
   abbrev has : ScopeGroup I → Bool

@@ -1,10 +1,10 @@
 -- What the rows of a request weigh.
 use Rattle.std.proofs.Common.{◌≡◌, ℕ, suc, ◌+◌, ◌-◌, Bool, true, false, List, [], ◌∷◌, Option, None, Some, length, map, drop, refl, sym, ◌∙◌, ap, inl, inr, arith}
-use Rattle.std.specs.Prelude.{◌⊎◌, ◌==◌, filter, nat_lt, sum_by}
+use Rattle.std.specs.Prelude.{◌⊎◌, filter, nat_lt, sum_by}
 use Rattle.std.specs.List.{slice_index_or}
-use Rattle.std.proofs.lemmas.Bool.Decides.{nat_tests}
 use Rattle.std.proofs.lemmas.Bool.{cases_Bool, false≢true}
 use Rattle.std.proofs.lemmas.List.Sums.{sum_by-cons, sum_by-append}
+use Rattle.lists.proofs.Truths.{positive}
 use Rattle.otlp_model.specs.Telemetry.{trimmed, groups_with_items}
 use Rattle.otlp_model.specs.declared.groups.Resource.{Resource}
 use Rattle.otlp_model.specs.declared.groups.Scope.{Scope}
@@ -17,19 +17,10 @@ use Rattle.otap_cells.specs.Scalars.{text_cell, number_cell}
 use Rattle.otap_cells.specs.Columns.{coding_at}
 use Rattle.otap_cells.specs.Continuing.{again_of}
 use Rattle.otap_cells.specs.Weights.{cell_weight, weight_of_row, weight_of_table}
-use Rattle.otap_cells.proofs.ScalarLaws.{text_back}
-use Rattle.otap_groups.specs.Flat.{FlatIn, PlacedIn, flat, flat_at, flat_groups, flat_scopes, past, placed, placed_at, placed_from, scopes_past}
+use Rattle.otap_groups.specs.Flat.{FlatIn, PlacedIn, flat_items, flat_at, flat_groups, flat_scopes, past, placed, placed_at, placed_from, scopes_past}
 use Rattle.otap_groups.specs.Stored.{id_cell, main_table, part_table, stored_part, stored_parts, stored_row, stored_rows}
 use Rattle.otap_groups.specs.Weighing.{cells_weight, front_weight, parts_weight, rows_of_groups, rows_of_resource, rows_of_scope}
-
-text_weighs : (text : List ℕ) → cell_weight (text_cell text) ≡ length text
-text_weighs text = ap (λ (xs : List ℕ). length xs) (text_back text)
-
-number_weighs : (n : ℕ) → cell_weight (number_cell n) ≡ 0
-number_weighs n = by (cases_Bool (n == 0)) where
-  by : (((n == 0) ≡ true) ⊎ ((n == 0) ≡ false)) → cell_weight (number_cell n) ≡ 0
-  by (inl none) = rw none refl
-  by (inr some) = rw some refl
+use Rattle.otap_cells.proofs.ScalarLaws.{text_weighs, number_weighs}
 
 seven : (a b c d e f g h i : Cell) (cells : List Cell)
     → cells_weight (a ∷ b ∷ c ∷ d ∷ e ∷ f ∷ g ∷ h ∷ i ∷ cells)
@@ -45,9 +36,6 @@ seven a b c d e f g h i cells =
     let w2 = sum_by-cons cell_weight b (c ∷ d ∷ e ∷ f ∷ g ∷ h ∷ i ∷ cells) in
     let w1 = sum_by-cons cell_weight a (b ∷ c ∷ d ∷ e ∷ f ∷ g ∷ h ∷ i ∷ cells) in
     omega (arith, w1, w2, w3, w4, w5, w6, w7, w8, w9)
-
-positive : (n : ℕ) → nat_lt 0 (suc n) ≡ true
-positive n = grind (arith, nat_tests)
 
 module _ {I : Type 0} (cells_of : I → List Cell) where
   one_row : (step r s : ℕ) (f : FlatIn I) → weight_of_row (stored_row cells_of step r s f) ≡ front_weight f.resource f.scope + cells_weight (cells_of f.item)
@@ -135,7 +123,7 @@ module _ {I : Type 0} (cells_of : I → List Cell) where
             rw none (omega (arith, split, a, ih))
 
   pub main_weighs : (kind : Kind) (groups : List (ResourceGroup I)) → weight_of_table (main_table kind cells_of groups) ≡ rows_of_groups (λ resource. 0) (λ scope. 0) own groups
-  unfolding main_table flat rows_of_groups
+  unfolding main_table flat_items rows_of_groups
   main_weighs kind groups = all_rows 0 0 0 (flat_groups 0 0 groups) ∙ groups_weigh 0 0 groups
 
 module _ {C : Type 0} (how : Coding) (test : List Cell → List Cell → Bool) (cells_of : C → List Cell) where

@@ -8,10 +8,6 @@ abbrev pub First : {A : Type 0} → (A → Type 0) → List A → Type 0
 First P [] = Unit {0}
 First P (x ∷ xs) = P x
 
-pub every_append : {A : Type 0} (P : A → Type 0) (xs ys : List A) → AllByRecursion P xs → AllByRecursion P ys → AllByRecursion P (xs ++ ys)
-every_append P [] ys front after = after
-every_append P (x ∷ xs) ys front after = (front.0, every_append P xs ys front.1 after)
-
 module _ {A : Type 0} (same : A → A → Bool) where
   -- a run begins with the first element
   record BeginsWith (x : A) (rs : List (List A)) : Type 0 where

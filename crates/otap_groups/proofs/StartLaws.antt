@@ -2,7 +2,7 @@
 use Rattle.std.proofs.Common.{◌≡◌, ◌∙◌, ℕ, ◌+◌, ◌-◌, ◌<◌, ◌≤◌, true, false, List, length, get_or, take, drop, inl, inr, sym, ap, arith, length-drop}
 use Rattle.std.specs.Prelude.{◌⊎◌, nat_lt, nat_le}
 use Rattle.std.specs.List.Sorted.{IsNonDecreasingBy}
-use Rattle.std.proofs.lemmas.Bool.{cases_Bool}
+use Rattle.std.proofs.lemmas.Bool.{cases_Bool, lt-ltb, le-ltb, ltb-true, ltb-false}
 use Rattle.std.proofs.lemmas.Bool.Decides.{nat_tests}
 use Rattle.std.proofs.lemmas.List.{get_or_default, get_or-drop}
 use Rattle.otap_groups.specs.declared.entry.ChildEntry.{ChildEntry}
@@ -10,40 +10,28 @@ use Rattle.otap_groups.specs.Inside.{AreStarts, BeginsParent, blank}
 use Rattle.otap_groups.specs.Found.{of_parent}
 use Rattle.otap_groups.proofs.IndexLaws.{part_of_rest}
 
-is_below : (m n : ℕ) → m < n → nat_lt m n ≡ true
-is_below m n h = grind (arith, nat_tests)
-
-is_not_below : (m n : ℕ) → n ≤ m → nat_lt m n ≡ false
-is_not_below m n h = grind (arith, nat_tests)
-
 is_within : (m n : ℕ) → m < n + 1 → nat_le m n ≡ true
 is_within m n h = grind (arith, nat_tests)
 
 is_above : (m n : ℕ) → n + 1 ≤ m → nat_le m n ≡ false
 is_above m n h = grind (arith, nat_tests)
 
-below_is : (m n : ℕ) → nat_lt m n ≡ true → m < n
-below_is m n h = grind (arith, nat_tests)
-
-not_below_is : (m n : ℕ) → nat_lt m n ≡ false → n ≤ m
-not_below_is m n h = grind (arith, nat_tests)
-
 pub starts_rise : (parent : ℕ) (es : List ChildEntry) (from to : ℕ) → BeginsParent es parent from → BeginsParent es (parent + 1) to → from ≤ to
 starts_rise parent es from to low high = by (cases_Bool (nat_lt to from)) where
   by : ((nat_lt to from ≡ true) ⊎ (nat_lt to from ≡ false)) → from ≤ to
   by (inl h) =
-      let w : to < from = below_is to from h in
+      let w : to < from = ltb-true to from h in
       let inside : to < length es = omega (arith, w, low.within) in
       let same : to ≤ to = omega arith in
       absurd (omega (arith, low.before to blank w, high.after to blank same inside))
-  by (inr h) = not_below_is to from h
+  by (inr h) = ltb-false to from h
 
 pub part_between : (parent : ℕ) (es rest : List ChildEntry) (from to : ℕ) → rest ≡ drop from es → BeginsParent es parent from → BeginsParent es (parent + 1) to
     → take (to - from) rest ≡ of_parent parent es
 part_between parent es rest from to is low high =
     let in_rest : to - from ≤ length rest = omega (arith, ap length is, length-drop from es, high.within) in
     part_of_rest parent es rest from (to - from) is low.within in_rest
-    ((λ k d lo hi. is_below _ _ (low.before k d hi)), (λ k d lo hi. is_not_below _ _ (low.after k d lo hi))) (
+    ((λ k d lo hi. lt-ltb _ _ (low.before k d hi)), (λ k d lo hi. le-ltb _ _ (low.after k d lo hi))) (
       (λ k d lo hi.
           let e : get_or rest k d ≡ get_or es (from + k) d = ap (λ xs. get_or xs k d) is ∙ get_or-drop from es k d in
           let w : from + k < to = omega (arith, hi) in
@@ -89,8 +77,8 @@ starts_next es old new place parent rising inside is long kept more before = rec
 
   by : (p d : ℕ) → p < parent + 1 → ((nat_lt p (length old) ≡ true) ⊎ (nat_lt p (length old) ≡ false)) → BeginsParent es p (get_or new p d)
   by p d w (inl h) =
-      let known : p < length old = below_is p (length old) h in
+      let known : p < length old = ltb-true p (length old) h in
       rw (kept p d w known) (before.told p d known)
   by p d w (inr h) =
-      let new_one : length old ≤ p = not_below_is p (length old) h in
+      let new_one : length old ≤ p = ltb-false p (length old) h in
       rw (more p d new_one w) (begins p new_one w)

@@ -16,11 +16,12 @@ use Rattle.otap_cells.specs.Continuing.{again_of, continues_after, continues_of,
 use Rattle.otap_cells.specs.Tables.{coding_in, column_in, greatest_in, greatest_wide, profile_table}
 use Rattle.otap_groups.specs.Rows.{ChildRow, MainRow, child_row, child_rows, main_row, main_rows}
 use Rattle.otap_groups.specs.Children.{numbered}
-use Rattle.otap_groups.specs.Flat.{FlatIn, PlacedIn, flat, items_of, numbered_rows, part_rows, placed}
+use Rattle.otap_groups.specs.Flat.{FlatIn, PlacedIn, flat_items, items_of, numbered_rows, part_rows, placed}
 use Rattle.otap_groups.specs.Kinds.{IsMain, IsPart}
 use Rattle.otap_groups.specs.Stored.{IsMainRows, IsPartRows, Rising, RisingParts, main_table, part_table, stored_parts, stored_rows}
 use Rattle.otap_groups.proofs.Bounds.{Bounded, BoundedParts, bounded, bounded_placed, size_of_flat, size_of_placed}
 use Rattle.otap_groups.proofs.FlatSteps.{rising_flat, rising_placed}
+use Rattle.otap_cells.proofs.WithoutRuns.{delta_too}
 
 -- ---- how a written table stores a column
 
@@ -29,16 +30,6 @@ coding_is kind rows column within = get_or-map-range_with_len (coding_at kind) 0
 
 pub greatest_is : (kind : Kind) (rows : List (List Cell)) (column : ℕ) → column < width_of kind → greatest_in (profile_table kind rows) column ≡ greatest_wide
 greatest_is kind rows column within = get_or-map-range_with_len (λ column. greatest_wide) 0 (width_of kind) column column 0 within (omega arith)
-
--- where ids aren't stored in runs, which rows continue a run doesn't count
-without_runs : (last before : ℕ) (rows others : List Bool) (ns ids : List (Option ℕ)) → IdsAfter coding.Delta last before rows ns ids → IdsAfter coding.Delta last before others ns ids
-without_runs last before rows others [] [] stands = tt
-without_runs last before rows others [] (id ∷ ids) stands = absurd stands
-without_runs last before rows others (n ∷ ns) [] stands = absurd stands
-without_runs last before rows others (None ∷ ns) (None ∷ ids) stands = (stands.0, without_runs last before (drop 1 rows) (drop 1 others) ns ids stands.1)
-without_runs last before rows others (None ∷ ns) (Some id ∷ ids) stands = absurd stands
-without_runs last before rows others (Some n ∷ ns) (None ∷ ids) stands = absurd stands
-without_runs last before rows others (Some n ∷ ns) (Some id ∷ ids) stands = (stands.0, stands.1, without_runs last id (drop 1 rows) (drop 1 others) ns ids stands.2)
 
 ids_of_column : (kind : Kind) (rows : List (List Cell)) (column : ℕ) (how : Coding) (continues : List Bool) (ids : List (Option ℕ)) → column < width_of kind
     → coding_at kind column ≡ how → IdsAfter how 4294967295 0 continues (map id_in (column_in rows column)) ids → IdsOf (profile_table kind rows) column continues ids
@@ -97,43 +88,43 @@ module _ {I : Type 0} (cells_of : I → List Cell) where
 
   -- the ids that a main table has
   pub own_ids_of : (kind : Kind) (groups : List (ResourceGroup I)) → IsMain kind → length (items_of groups) ≤ 2 ^ 32
-      → HasIds (main_table kind cells_of groups) 0 (map (λ (row : MainRow). row.id) (numbered_rows cells_of 0 (flat groups)))
+      → HasIds (main_table kind cells_of groups) 0 (map (λ (row : MainRow). row.id) (numbered_rows cells_of 0 (flat_items groups)))
   unfolding main_table
   own_ids_of kind groups main few =
       let size = size_of_flat 4294967295 groups in
       let wide = main.wide in
-      ids_of_column kind (stored_rows cells_of 0 0 0 (flat groups)) 0 coding.Delta _ _ (omega arith) main.ids_rise
-      (without_runs _ 0 [] _ _ _ (own_ids 0 0 0 0 0 (flat groups) refl (omega (arith, size))))
+      ids_of_column kind (stored_rows cells_of 0 0 0 (flat_items groups)) 0 coding.Delta _ _ (omega arith) main.ids_rise
+      (delta_too _ 0 [] _ _ _ (own_ids 0 0 0 0 0 (flat_items groups) refl (omega (arith, size))))
 
   pub resource_ids_of : (kind : Kind) (groups : List (ResourceGroup I)) → IsMain kind → length (items_of groups) ≤ 2 ^ 32
-      → HasIds (main_table kind cells_of groups) 1 (map (λ (row : MainRow). row.resource_id) (numbered_rows cells_of 0 (flat groups)))
+      → HasIds (main_table kind cells_of groups) 1 (map (λ (row : MainRow). row.resource_id) (numbered_rows cells_of 0 (flat_items groups)))
   unfolding main_table
   resource_ids_of kind groups main few =
       let most = bounded 4294967295 groups (omega arith) in
       let wide = main.wide in
-      ids_of_column kind (stored_rows cells_of 0 0 0 (flat groups)) 1 coding.Delta _ _ (omega arith) main.resource_ids_rise
-      (without_runs _ 0 [] _ _ _ (resource_ids 0 0 0 0 (flat groups) (rising_flat groups) most))
+      ids_of_column kind (stored_rows cells_of 0 0 0 (flat_items groups)) 1 coding.Delta _ _ (omega arith) main.resource_ids_rise
+      (delta_too _ 0 [] _ _ _ (resource_ids 0 0 0 0 (flat_items groups) (rising_flat groups) most))
 
   pub scope_ids_of : (kind : Kind) (groups : List (ResourceGroup I)) → IsMain kind → length (items_of groups) ≤ 2 ^ 32
-      → HasIds (main_table kind cells_of groups) 4 (map (λ (row : MainRow). row.scope_id) (numbered_rows cells_of 0 (flat groups)))
+      → HasIds (main_table kind cells_of groups) 4 (map (λ (row : MainRow). row.scope_id) (numbered_rows cells_of 0 (flat_items groups)))
   unfolding main_table
   scope_ids_of kind groups main few =
       let most = bounded 4294967295 groups (omega arith) in
       let wide = main.wide in
-      ids_of_column kind (stored_rows cells_of 0 0 0 (flat groups)) 4 coding.Delta _ _ (omega arith) main.scope_ids_rise
-      (without_runs _ 0 [] _ _ _ (scope_ids 0 0 0 0 (flat groups) (rising_flat groups) most))
+      ids_of_column kind (stored_rows cells_of 0 0 0 (flat_items groups)) 4 coding.Delta _ _ (omega arith) main.scope_ids_rise
+      (delta_too _ 0 [] _ _ _ (scope_ids 0 0 0 0 (flat_items groups) (rising_flat groups) most))
 
   pub main_rows_of : (kind : Kind) (groups : List (ResourceGroup I)) → IsMain kind → length (items_of groups) ≤ 2 ^ 32
-      → IsMainRows (main_table kind cells_of groups) (numbered_rows cells_of 0 (flat groups))
+      → IsMainRows (main_table kind cells_of groups) (numbered_rows cells_of 0 (flat_items groups))
   unfolding main_table
   main_rows_of kind groups main few = record {
-    ids = map (λ (row : MainRow). row.id) (numbered_rows cells_of 0 (flat groups));
-    resource_ids = map (λ (row : MainRow). row.resource_id) (numbered_rows cells_of 0 (flat groups));
-    scope_ids = map (λ (row : MainRow). row.scope_id) (numbered_rows cells_of 0 (flat groups));
+    ids = map (λ (row : MainRow). row.id) (numbered_rows cells_of 0 (flat_items groups));
+    resource_ids = map (λ (row : MainRow). row.resource_id) (numbered_rows cells_of 0 (flat_items groups));
+    scope_ids = map (λ (row : MainRow). row.scope_id) (numbered_rows cells_of 0 (flat_items groups));
     own = own_ids_of kind groups main few;
     resource = resource_ids_of kind groups main few;
     scope = scope_ids_of kind groups main few;
-    are = rows_are (numbered_rows cells_of 0 (flat groups)) (stored_rows cells_of 0 0 0 (flat groups)) (fitting 0 0 0 0 (flat groups));
+    are = rows_are (numbered_rows cells_of 0 (flat_items groups)) (stored_rows cells_of 0 0 0 (flat_items groups)) (fitting 0 0 0 0 (flat_items groups));
   }
 
 -- ---- tables of parts
@@ -196,7 +187,7 @@ part_ids_of kind cells_of lists part few =
     let size = size_of_placed 4294967295 lists in
     let wide = part.wide in
     ids_of_column kind (stored_parts (coding_at kind 1) (again_of kind) cells_of 0 0 None (placed lists)) 0 coding.Delta _ _ (omega arith) part.ids_rise
-    (without_runs _ 0 [] _ _ _ (part_ids (coding_at kind 1) (again_of kind) cells_of 0 0 0 0 None (placed lists) refl (omega (arith, size))))
+    (delta_too _ 0 [] _ _ _ (part_ids (coding_at kind 1) (again_of kind) cells_of 0 0 0 0 None (placed lists) refl (omega (arith, size))))
 
 pub part_parents_of : {C : Type 0} (kind : Kind) (cells_of : C → List Cell) (lists : List (List C)) → IsPart kind → length lists ≤ 2 ^ 32
     → HasIds (part_table kind cells_of lists) 1 (map (λ (row : ChildRow). row.parent) (part_rows numbered cells_of 0 (placed lists)))
@@ -228,6 +219,6 @@ size_of_stored : {I : Type 0} (cells_of : I → List Cell) (step r s : ℕ) (fs 
 size_of_stored cells_of step r s [] = refl
 size_of_stored cells_of step r s (f ∷ fs) = ap suc (size_of_stored cells_of 1 f.resource_id f.scope_id fs)
 
-pub size_of_main : {I : Type 0} (kind : Kind) (cells_of : I → List Cell) (groups : List (ResourceGroup I)) → length (main_table kind cells_of groups).rows ≡ length (flat groups)
+pub size_of_main : {I : Type 0} (kind : Kind) (cells_of : I → List Cell) (groups : List (ResourceGroup I)) → length (main_table kind cells_of groups).rows ≡ length (flat_items groups)
 unfolding main_table
-size_of_main kind cells_of groups = size_of_stored cells_of 0 0 0 (flat groups)
+size_of_main kind cells_of groups = size_of_stored cells_of 0 0 0 (flat_items groups)

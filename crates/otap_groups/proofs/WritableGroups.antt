@@ -5,6 +5,7 @@ use Rattle.std.specs.List.{flat_map}
 use Rattle.std.proofs.lemmas.Bool.{cases_Bool}
 use Rattle.std.proofs.lemmas.List.{length-map}
 use Rattle.std.proofs.lemmas.List.Elements.{All-nil, All-cons, All-head, All-tail, All-append, All-filter, All-map, All-weaker}
+use Rattle.lists.proofs.Every.{all_flat_map}
 use Rattle.otlp_model.specs.declared.groups.Resource.{Resource}
 use Rattle.otlp_model.specs.declared.groups.Scope.{Scope}
 use Rattle.otlp_model.specs.declared.groups.ScopeGroup.{ScopeGroup}
@@ -12,13 +13,10 @@ use Rattle.otlp_model.specs.declared.groups.ResourceGroup.{ResourceGroup}
 use Rattle.otlp_model.specs.Profile.{IsProfileResourceGroup, IsProfileScopeGroup}
 use Rattle.otlp_model.specs.Telemetry.{groups_with_items, trimmed}
 use Rattle.otlp_model.specs.Weight.{total, weight_of_pair, weight_of_resource_group, weight_of_scope_group}
+use Rattle.otlp_model.specs.Limits.{weight_limit}
+use Rattle.otlp_model.proofs.Totals.{few_parts, parts_can}
 use Rattle.otap_groups.specs.Flat.{items_of, resources_of, scopes_of}
 use Rattle.otap_groups.specs.Weighing.{CanWriteGroup, CanWriteScope}
-
-pub all_flat_map : {A B : Type 0} (P : B → Type 0) (f : A → List B) (xs : List A) → All (λ x. All P (f x)) xs → All P (flat_map f xs)
-all_flat_map P f [] all = All-nil P
-all_flat_map P f (x ∷ xs) all =
-    All-append P (f x) (flat_map f xs) (All-head (λ x. All P (f x)) x xs all) (all_flat_map P f xs (All-tail (λ x. All P (f x)) x xs all))
 
 -- ---- from groups to their parts
 
@@ -54,18 +52,13 @@ module _ {I : Type 0} (OfResource : Resource → Type 0) (OfScope : Scope → Ty
 -- ---- groups of a profile request that weigh at most this
 
 module _ {I : Type 0} (IsItem : I → Type 0) (weigh : I → ℕ) (n : ℕ) (OfItem : I → Type 0) (can : (item : I) → IsItem item → weigh item ≤ n → OfItem item) where
-  items_can : (items : List I) → All IsItem items → total 32 weigh items ≤ n → All OfItem items
-  items_can [] all few = All-nil OfItem
-  items_can (item ∷ items) all few =
-      All-cons OfItem item items (can item (All-head IsItem item items all) (omega arith)) (items_can items (All-tail IsItem item items all) (omega arith))
-
   scopes_can : (groups : List (ScopeGroup I)) → All (IsProfileScopeGroup IsItem) groups → total 32 (weight_of_scope_group weigh) groups ≤ n
       → All (CanWriteScope (λ scope. total 32 weight_of_pair scope.pairs ≤ n) OfItem) groups
   scopes_can [] all few = All-nil (CanWriteScope (λ (scope : Scope). total 32 weight_of_pair scope.pairs ≤ n) OfItem)
   scopes_can (group ∷ groups) all few =
       let head : IsProfileScopeGroup IsItem group = All-head (IsProfileScopeGroup IsItem) group groups all in
       All-cons (CanWriteScope (λ (scope : Scope). total 32 weight_of_pair scope.pairs ≤ n) OfItem) group groups
-      (omega arith, items_can group.items head.items.at (omega arith)) (scopes_can groups (All-tail (IsProfileScopeGroup IsItem) group groups all) (omega arith))
+      (omega arith, parts_can IsItem OfItem weigh n can group.items head.items.at (omega arith)) (scopes_can groups (All-tail (IsProfileScopeGroup IsItem) group groups all) (omega arith))
 
   pub groups_can : (groups : List (ResourceGroup I)) → All (IsProfileResourceGroup IsItem) groups → total 32 (weight_of_resource_group weigh) groups ≤ n
       → All (CanWriteGroup (λ resource. total 32 weight_of_pair resource.pairs ≤ n) (λ scope. total 32 weight_of_pair scope.pairs ≤ n) OfItem) groups
@@ -76,10 +69,6 @@ module _ {I : Type 0} (IsItem : I → Type 0) (weigh : I → ℕ) (n : ℕ) (OfI
       (omega arith, scopes_can group.scopes head.scopes.at (omega arith)) (groups_can groups (All-tail (IsProfileResourceGroup IsItem) group groups all) (omega arith))
 
 -- ---- how many there are, where each weighs at least 32
-
-pub few_parts : {A : Type 0} (weigh : A → ℕ) (parts : List A) → 32 * length parts ≤ total 32 weigh parts
-few_parts weigh [] = omega arith
-few_parts weigh (part ∷ parts) = let more = few_parts weigh parts in omega (arith, more)
 
 few_kept : {A : Type 0} (p : A → Bool) (xs : List A) → length (filter p xs) ≤ length xs
 few_kept p [] = omega arith
@@ -132,3 +121,10 @@ module _ {I : Type 0} (weigh : I → ℕ) where
       let a = length-map (flat_map (λ (group : ResourceGroup I). group.scopes) (groups_with_items groups)) (λ (scope : ScopeGroup I). scope.scope) in
       let b = kept_scopes groups in
       omega (arith, a, b)
+
+-- resources and scopes that weigh little enough
+abbrev pub IsLightResource : Resource → Type 0
+IsLightResource resource = total 32 weight_of_pair resource.pairs ≤ weight_limit
+
+abbrev pub IsLightScope : Scope → Type 0
+IsLightScope scope = total 32 weight_of_pair scope.pairs ≤ weight_limit

@@ -27,6 +27,6 @@ Agree find k [] = Unit {0}
 Agree find k (part ∷ parts) = (find (Some k) ≡ part) × Agree find (suc k) parts
 
 -- the cells that are written for these parts, from id k on, are read as them
-abbrev pub Reads : {C : Type 0} → (ℕ → Option ℕ) → (C → List Cell) → (Option ℕ → List Cell → C) → ℕ → List C → Type 0
-Reads own cells_of item k [] = Unit {0}
-Reads own cells_of item k (part ∷ parts) = (item (own k) (cells_of part) ≡ part) × Reads own cells_of item (suc k) parts
+abbrev pub ReadsEach : {C : Type 0} → (ℕ → Option ℕ) → (C → List Cell) → (Option ℕ → List Cell → C) → ℕ → List C → Type 0
+ReadsEach own cells_of item k [] = Unit {0}
+ReadsEach own cells_of item k (part ∷ parts) = (item (own k) (cells_of part) ≡ part) × ReadsEach own cells_of item (suc k) parts

@@ -41,8 +41,8 @@ flat_groups r s (group ∷ groups) =
     ++ flat_groups (past r (flat_scopes r s group.resource group.scopes)) (scopes_past s group.scopes) groups
 
 -- THE ITEMS of a request with what they come from. Groups without items have no number
-unfoldable pub flat : {I : Type 0} → List (ResourceGroup I) → List (FlatIn I)
-flat groups = flat_groups 0 0 groups
+unfoldable pub flat_items : {I : Type 0} → List (ResourceGroup I) → List (FlatIn I)
+flat_items groups = flat_groups 0 0 groups
 
 -- the items of groups; the resources and the scope groups that have items
 abbrev pub items_of : {I : Type 0} → List (ResourceGroup I) → List I

@@ -9,9 +9,9 @@ use Rattle.otap_groups.specs.Rows.{id_at}
 abbrev pub of_parent : ℕ → List ChildEntry → List ChildEntry
 of_parent parent entries = filter (λ (e : ChildEntry). e.parent == parent) entries
 
-abbrev pub entries_of : Option ℕ → List ChildEntry → List ChildEntry
-entries_of None entries = []
-entries_of (Some parent) entries = of_parent parent entries
+abbrev pub child_entries : Option ℕ → List ChildEntry → List ChildEntry
+child_entries None entries = []
+child_entries (Some parent) entries = of_parent parent entries
 
 -- the part of the row at a place
 abbrev pub child_at : {C : Type 0} → (Option ℕ → List Cell → C) → List (Option ℕ) → List (List Cell) → ℕ → C
@@ -19,7 +19,7 @@ child_at item ids cells place = item (id_at ids place) (slice_index_or cells pla
 
 -- what an index finds for a parent
 abbrev pub found : {C : Type 0} → (Option ℕ → List Cell → C) → List (Option ℕ) → List (List Cell) → List ChildEntry → Option ℕ → List C
-found item ids cells entries parent = map (λ (e : ChildEntry). child_at item ids cells e.place) (entries_of parent entries)
+found item ids cells entries parent = map (λ (e : ChildEntry). child_at item ids cells e.place) (child_entries parent entries)
 
 -- what a lookup finds, where there may be none
 abbrev pub finds_in : {L C : Type 0} → (L → Option ℕ → List C) → Option L → Option ℕ → List C

@@ -1,4 +1,4 @@
--- Words of private contracts: rows by their places, and the index of children.
+-- Words of an invariant and of private contracts: rows by their places, and the index of children.
 use Rattle.std.specs.Prelude.{ℕ, suc, ◌<◌, ◌≤◌, length, Bool, List, [], ◌∷◌, Option, None, Some, map, ◌==◌, ◌&&◌, not}
 use Rattle.std.specs.List.{slice_index_or, range_with_len}
 use Rattle.otap_cells.specs.Cells.{Cell}

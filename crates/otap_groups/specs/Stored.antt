@@ -11,7 +11,7 @@ use Rattle.otap_cells.specs.Continuing.{again_of, goes_on_after}
 use Rattle.otap_cells.specs.GivenIds.{HasIds}
 use Rattle.otap_cells.specs.Tables.{Table, profile_table}
 use Rattle.otap_groups.specs.Rows.{MainRow, ChildRow, main_rows, child_rows}
-use Rattle.otap_groups.specs.Flat.{FlatIn, PlacedIn, flat, placed, resource_cells, scope_cells}
+use Rattle.otap_groups.specs.Flat.{FlatIn, PlacedIn, flat_items, placed, resource_cells, scope_cells}
 
 -- ---- reading
 
@@ -57,7 +57,7 @@ stored_rows cells_of step r s (f ∷ fs) = stored_row cells_of step r s f ∷ st
 
 -- THE MAIN TABLE of a request
 unfoldable pub main_table : {I : Type 0} → Kind → (I → List Cell) → List (ResourceGroup I) → Table
-main_table kind cells_of groups = profile_table kind (stored_rows cells_of 0 0 0 (flat groups))
+main_table kind cells_of groups = profile_table kind (stored_rows cells_of 0 0 0 (flat_items groups))
 
 -- a part's row as it is stored, after a row of this parent and these cells
 abbrev pub stored_part : {C : Type 0} → Coding → (List Cell → List Cell → Bool) → (C → List Cell) → ℕ → ℕ → Option (List Cell) → PlacedIn C → List Cell

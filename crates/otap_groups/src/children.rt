@@ -5,7 +5,7 @@ ghost use Rattle.otap_groups.specs.declared.entry.ChildEntry.{ChildEntry};
 ghost use Rattle.otap_groups.specs.Rows.{child_rows};
 ghost use Rattle.otap_groups.specs.Children.{children};
 ghost use Rattle.otap_groups.specs.Inside.{AreStarts};
-ghost use Rattle.otap_groups.specs.Found.{entries_of, finds_in, found, weighs_in};
+ghost use Rattle.otap_groups.specs.Found.{child_entries, finds_in, found, weighs_in};
 
 use crate::entry::ChildEntry;
 use crate::front::id_at;
@@ -54,7 +54,7 @@ impl<'a, C: RowReader> Children<'a, C> {
 
     /// The entries of a parent, in the order of their rows.
     fn entries_of(&self, parent: Option<u32>) -> &[ChildEntry]
-        ensures found { result.now ≡ entries_of parent self.now.entries.items }
+        ensures found { result.now ≡ child_entries parent self.now.entries.items }
         ensures below { All (λ (e : ChildEntry). e.place < length (C.cells self.now.reader)) result.now }
     {
         match parent {

@@ -1,7 +1,7 @@
 //! A request as one list of items, and the parts of a list of parents as one list.
 ghost use Rattle.std.specs.Prelude.{◌≡◌, ◌<◌, ◌+◌, ◌++◌, ◌^◌, map, length, IfOk, OnOk};
 ghost use Rattle.std.specs.List.{flat_map};
-ghost use Rattle.otap_groups.specs.Flat.{flat, flat_at, flat_scopes, items_of, past, scopes_past};
+ghost use Rattle.otap_groups.specs.Flat.{flat_items, flat_at, flat_scopes, items_of, past, scopes_past};
 ghost use Rattle.otap_groups.specs.Stored.{Rising};
 ghost use Rattle.otap_groups.specs.Views.{seen_flat};
 
@@ -31,7 +31,7 @@ pub fn flatten<'a, I>(
     groups: &'a [ResourceGroup<I>],
 ) -> Result<Vec<Flat<'a, I>>, AllocError>
     requires few { length (items_of groups.now) < 2 ^ 32 }
-    ensures items { IfOk result (λ found. map seen_flat found.items ≡ flat groups.now) }
+    ensures items { IfOk result (λ found. map seen_flat found.items ≡ flat_items groups.now) }
     ensures rising { IfOk result (λ found. Rising 0 0 (map seen_flat found.items)) }
 {
     let mut found = Vec::new(alloc);

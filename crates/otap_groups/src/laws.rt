@@ -2,7 +2,7 @@
 ghost use Rattle.std.specs.Prelude.{◌≡◌, ◌+◌, ◌≤◌, ◌^◌, ℕ, true, List, Option, length, map, sum_by, IsPermutation};
 ghost use Rattle.std.specs.List.{flat_map};
 ghost use Rattle.otlp_model.specs.Same.{SameItem, SameOften, SameTelemetry};
-ghost use Rattle.otlp_model.specs.Telemetry.{Item, entries_of, groups_with_items, told_as};
+ghost use Rattle.otlp_model.specs.Telemetry.{Item, item_entries, groups_with_items, told_as};
 ghost use Rattle.otlp_model.specs.declared.value.Pair.{Pair};
 ghost use Rattle.otlp_model.specs.declared.groups.Resource.{Resource};
 ghost use Rattle.otlp_model.specs.declared.groups.Scope.{Scope};
@@ -14,9 +14,9 @@ ghost use Rattle.otap_cells.specs.Tables.{Table, SameTable};
 ghost use Rattle.otap_cells.specs.Weights.{weight_of_table};
 ghost use Rattle.otap_groups.specs.Weighing.{cells_weight, parts_weight, rows_of_groups};
 ghost use Rattle.otap_groups.specs.Rows.{ChildRow, MainRow};
-ghost use Rattle.otap_groups.specs.Children.{Agree, Reads, children, numbered};
+ghost use Rattle.otap_groups.specs.Children.{Agree, ReadsEach, children, numbered};
 ghost use Rattle.otap_groups.specs.Groups.{regrouped};
-ghost use Rattle.otap_groups.specs.Flat.{flat, items_of, numbered_rows, part_rows, placed, resources_of, scopes_of};
+ghost use Rattle.otap_groups.specs.Flat.{flat_items, items_of, numbered_rows, part_rows, placed, resources_of, scopes_of};
 ghost use Rattle.otap_groups.specs.Kinds.{IsMain, IsPart};
 ghost use Rattle.otap_groups.specs.Stored.{IsMainRows, IsPairRows, IsPartRows, main_table, part_table};
 
@@ -24,10 +24,10 @@ ghost use Rattle.otap_groups.specs.Stored.{IsMainRows, IsPairRows, IsPartRows, m
 /// the pairs of its resources and scopes are found by their numbers.
 pub fn groups_come_back<I>()
     ensures { (cells_of : I → List Cell) (resources scopes : Option ℕ → List Pair) (item : Option ℕ → List Cell → I) (groups : List (ResourceGroup I))
-        → Reads numbered cells_of item 0 (items_of groups)
+        → ReadsEach numbered cells_of item 0 (items_of groups)
         → Agree resources 0 (map (λ (resource : Resource). resource.pairs) (resources_of groups))
         → Agree scopes 0 (map (λ (scope : Scope). scope.pairs) (scopes_of groups))
-        → regrouped resources scopes item (numbered_rows cells_of 0 (flat groups)) ≡ groups_with_items groups }
+        → regrouped resources scopes item (numbered_rows cells_of 0 (flat_items groups)) ≡ groups_with_items groups }
 {}
 
 /// Law: the groups of these rows tell the same as the groups that have items, where the items that are read tell the same, and the
@@ -35,19 +35,19 @@ pub fn groups_come_back<I>()
 pub fn groups_tell_the_same<I>()
     ensures { (kind : I → Item) (cells_of : I → List Cell) (resources found_resources scopes found_scopes : Option ℕ → List Pair)
         (item found_item : Option ℕ → List Cell → I) (groups : List (ResourceGroup I))
-        → Reads numbered cells_of item 0 (items_of groups)
+        → ReadsEach numbered cells_of item 0 (items_of groups)
         → Agree resources 0 (map (λ (resource : Resource). resource.pairs) (resources_of groups))
         → Agree scopes 0 (map (λ (scope : Scope). scope.pairs) (scopes_of groups))
         → ((id : Option ℕ) → SameOften (resources id) (found_resources id)) → ((id : Option ℕ) → SameOften (scopes id) (found_scopes id))
         → ((id : Option ℕ) (cells : List Cell) → SameItem (kind (item id cells)) (kind (found_item id cells)))
-        → SameTelemetry (map (told_as kind) (entries_of (groups_with_items groups)))
-        (map (told_as kind) (entries_of (regrouped found_resources found_scopes found_item (numbered_rows cells_of 0 (flat groups))))) }
+        → SameTelemetry (map (told_as kind) (item_entries (groups_with_items groups)))
+        (map (told_as kind) (item_entries (regrouped found_resources found_scopes found_item (numbered_rows cells_of 0 (flat_items groups))))) }
 {}
 
 /// Law: the parts of each parent are found in the rows that are written for them.
 pub fn parts_come_back<C>()
     ensures { (own : ℕ → Option ℕ) (cells_of : C → List Cell) (item : Option ℕ → List Cell → C) (lists : List (List C))
-        → Reads own cells_of item 0 (flat_map (λ parts. parts) lists) → Agree (children item (part_rows own cells_of 0 (placed lists))) 0 lists }
+        → ReadsEach own cells_of item 0 (flat_map (λ parts. parts) lists) → Agree (children item (part_rows own cells_of 0 (placed lists))) 0 lists }
 {}
 
 /// Law: the order of rows doesn't count for how often a pair is found.
@@ -66,7 +66,7 @@ pub fn rows_follow_from_cells()
 /// Law: the main table of a request has the rows that are written for it.
 pub fn main_tables_have_their_rows<I>()
     ensures { (kind : Kind) (cells_of : I → List Cell) (groups : List (ResourceGroup I)) → IsMain kind → length (items_of groups) ≤ 2 ^ 32
-        → IsMainRows (main_table kind cells_of groups) (numbered_rows cells_of 0 (flat groups)) }
+        → IsMainRows (main_table kind cells_of groups) (numbered_rows cells_of 0 (flat_items groups)) }
 {}
 
 /// Law: a table of parts has the rows that are written for them.

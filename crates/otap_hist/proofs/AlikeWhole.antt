@@ -15,10 +15,11 @@ use Rattle.otap_attrs.specs.declared.refusal.RowRefusal.{RowRefusal}
 use Rattle.otap_attrs.specs.declared.refusal.RowRefusal.TheVariants as why
 use Rattle.otap_checks.specs.Reading.{HasAllIds}
 use Rattle.otap_checks.proofs.ReadAlike.{id_defect_told, reads_named}
+use Rattle.otap_checks.proofs.NamedAlike.{pairs_alike, parts_alike, value_alike}
 use Rattle.otap_metrics.specs.Points.{exemplar_of}
 use Rattle.otap_metrics.specs.Requests.{WrongMetrics, exemplars_in, has_hist_points, has_summary_points, regrouped_metrics}
-use Rattle.otap_metrics.proofs.AlikeReading.{pairs_alike, parent_alike, parts_alike, two_alike, value_alike}
-use Rattle.otap_hist.specs.Lists.{count_in}
+use Rattle.otap_metrics.proofs.AlikeReading.{parent_alike, two_alike}
+use Rattle.otap_hist.specs.Lists.{element_count}
 use Rattle.otap_hist.specs.Points.{hist_point_of, sum_point_of}
 use Rattle.otap_hist.specs.Requests.{HasUnevenLists, WrongHistCells, WrongWhole, hist_points_in, regrouped_whole, summary_points_in}
 use Rattle.otap_hist.proofs.HistColumns.{exemplars_are_parts, hists_are_parts, summaries_are_parts}
@@ -27,7 +28,7 @@ uneven_told : (a b : Table) → a.rows ≡ b.rows → HasUnevenLists a → HasUn
 uneven_told a b same w = record {
   row = w.row;
   there = subst (λ (rows : List (List Cell)). w.row < length rows) same w.there;
-  other = subst (λ (rows : List (List Cell)). (count_in (cell_in rows 6 w.row) == count_in (cell_in rows 7 w.row)) ≡ false) same w.other;
+  other = subst (λ (rows : List (List Cell)). (element_count (cell_in rows 6 w.row) == element_count (cell_in rows 7 w.row)) ≡ false) same w.other;
 }
 
 module _ (tables others : List Table) (reads : ReadAs tables others) (given : All HasAllIds others) where
@@ -71,9 +72,9 @@ module _ (tables others : List Table) (reads : ReadAs tables others) (given : Al
   cells_alike table.SummaryPoints wrong is = of_summaries wrong is
   cells_alike table.HistPoints wrong is = of_hists wrong is
   cells_alike table.HistExemplars wrong is = of_exemplars wrong is
-  cells_alike table.SummaryPointAttrs wrong is = value_alike tables others reads given table.SummaryPointAttrs wrong is
-  cells_alike table.HistPointAttrs wrong is = value_alike tables others reads given table.HistPointAttrs wrong is
-  cells_alike table.HistExemplarAttrs wrong is = value_alike tables others reads given table.HistExemplarAttrs wrong is
+  cells_alike table.SummaryPointAttrs wrong is = value_alike tables others reads given table.SummaryPointAttrs 2 wrong is
+  cells_alike table.HistPointAttrs wrong is = value_alike tables others reads given table.HistPointAttrs 2 wrong is
+  cells_alike table.HistExemplarAttrs wrong is = value_alike tables others reads given table.HistExemplarAttrs 2 wrong is
   cells_alike _ wrong is = absurd is
 
   pub wrong_alike : ((kind : Kind) (wrong : RowRefusal) → WrongMetrics tables kind wrong → WrongMetrics others kind wrong)

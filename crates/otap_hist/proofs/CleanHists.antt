@@ -21,11 +21,11 @@ use Rattle.otap_checks.specs.declared.regrouping.RegroupRefusal.{RegroupRefusal}
 use Rattle.otap_checks.specs.declared.regrouping.RegroupRefusal.TheVariants as regroup
 use Rattle.otap_checks.specs.IdDefects.{IdDefect}
 use Rattle.otap_checks.specs.Known.{Knows}
-use Rattle.otap_checks.specs.Links.{attributes, items, links_of, parts}
+use Rattle.otap_checks.specs.Links.{attributes_link, items, links_of, parts}
 use Rattle.otap_checks.specs.Refusing.{RefusesCheck}
 use Rattle.otap_checks.specs.Regrouping.{RefusesRegroup}
 use Rattle.otap_metrics.specs.Whole.{KnowsMetrics}
-use Rattle.otap_metrics.specs.Requests.{WrongIds, WrongMetrics, is_other, regrouped_metrics}
+use Rattle.otap_metrics.specs.Requests.{WrongIds, WrongMetrics, is_hist_kind, regrouped_metrics}
 use Rattle.otap_hist.specs.Inside.{AreFine, AreWholeHists, KnowsWhole}
 use Rattle.otap_hist.specs.Requests.{WrongHistCells, WrongHistIds, WrongHists, WrongWhole, hist_points_in, regrouped_whole, summary_points_in}
 
@@ -78,7 +78,7 @@ clean_other_ids tables clean kind wrong is = clean kind wrong is.1
 
 -- the ids of one set of tables or of the other
 pub wrong_ids : (tables : List Table) (kind : Kind) (wrong : RowRefusal) → IdDefect signal.Metrics tables kind wrong → WrongWhole tables kind wrong
-wrong_ids tables kind wrong is = elim (cases_Bool (is_other kind)) [
+wrong_ids tables kind wrong is = elim (cases_Bool (is_hist_kind kind)) [
   | inl other ↦ inr (inl (other, is))
   | inr own ↦ inl (inl (own, is))
 ]
@@ -125,11 +125,11 @@ module _ (tables : List Table) (known : List ColumnIds) (all : KnowsWhole tables
 
   pub known_summary_pairs : Knows (table_named table.SummaryPointAttrs tables) table.SummaryPointAttrs known
   unfolding links_of
-  known_summary_pairs = all (attributes table.SummaryPointAttrs table.SummaryPoints 0) (7, omega arith, refl)
+  known_summary_pairs = all (attributes_link table.SummaryPointAttrs table.SummaryPoints 0) (7, omega arith, refl)
 
   pub known_hist_pairs : Knows (table_named table.HistPointAttrs tables) table.HistPointAttrs known
   unfolding links_of
-  known_hist_pairs = all (attributes table.HistPointAttrs table.HistPoints 0) (8, omega arith, refl)
+  known_hist_pairs = all (attributes_link table.HistPointAttrs table.HistPoints 0) (8, omega arith, refl)
 
   pub known_exemplars : Knows (table_named table.HistExemplars tables) table.HistExemplars known
   unfolding links_of
@@ -137,4 +137,4 @@ module _ (tables : List Table) (known : List ColumnIds) (all : KnowsWhole tables
 
   pub known_exemplar_pairs : Knows (table_named table.HistExemplarAttrs tables) table.HistExemplarAttrs known
   unfolding links_of
-  known_exemplar_pairs = all (attributes table.HistExemplarAttrs table.HistExemplars 0) (12, omega arith, refl)
+  known_exemplar_pairs = all (attributes_link table.HistExemplarAttrs table.HistExemplars 0) (12, omega arith, refl)

@@ -3,7 +3,8 @@ use Rattle.std.proofs.Common.{◌≡◌, ℕ, ◌^◌, ◌≤◌, List, Option, 
 use Rattle.std.specs.Prelude.{All}
 use Rattle.std.specs.List.{AllZip}
 use Rattle.std.proofs.lemmas.List.{length-map}
-use Rattle.std.proofs.lemmas.List.Elements.{All-map, All-weaker}
+use Rattle.std.proofs.lemmas.List.Elements.{All-map, All-weaker, recursion_from_All}
+use Rattle.lists.proofs.Every.{all_joined}
 use Rattle.otlp_model.specs.Limits.{weight_limit}
 use Rattle.otlp_model.specs.Profile.{IsProfile, IsProfileMetric}
 use Rattle.otlp_model.specs.Real.{IsReal, IsRealMetric}
@@ -32,14 +33,14 @@ use Rattle.otap_groups.proofs.WritableGroups.{all_items_can, few_items}
 use Rattle.otap_attrs.specs.Tables.{attribute_table}
 use Rattle.otap_attrs.specs.Index.{pairs_in}
 use Rattle.otap_checks.specs.Reading.{part_rows_in}
-use Rattle.otap_checks.proofs.PairsAgain.{AreBack, IsBackResource, IsBackScope, all_every, pairs_agree, pairs_back, sorted_alike, sorted_weigh, unsorted}
+use Rattle.otap_checks.proofs.PairsAgain.{AreBack, IsBackResource, IsBackScope, pairs_agree, pairs_back, sorted_alike, sorted_weigh, unsorted}
 use Rattle.otap_checks.proofs.RowsAgain.{part_rows_again}
 use Rattle.otap_metrics.specs.Metrics.{hist_points_of, summary_points_of}
 use Rattle.otap_metrics.specs.Points.{exemplar_cells, exemplar_of}
 use Rattle.otap_metrics.specs.Requests.{exemplar_in, exemplars_in}
 use Rattle.otap_metrics.specs.Tables.{hist_lists, summary_lists}
 use Rattle.otap_metrics.proofs.MetricsBack.{IsBackExemplar}
-use Rattle.otap_metrics.proofs.WrittenParts.{all_joined}
+use Rattle.otap_metrics.proofs.MetricsTold.{same_exemplar, exemplar_weighs}
 use Rattle.otap_hist.specs.Points.{hist_point_cells, hist_point_of, sum_point_cells, sum_point_of}
 use Rattle.otap_hist.specs.Requests.{hist_point_in, hist_points_in, summary_point_in, summary_points_in}
 use Rattle.otap_hist.specs.Tables.{HoldHists, all_hist_exemplars, all_hist_points, all_summary_points, hist_exemplar_lists, hist_exemplar_pairs, hist_pairs, summary_pairs}
@@ -62,10 +63,10 @@ module _ (groups : List (ResourceGroup Metric)) where
 
 -- ---- that it is what was written
 
-abbrev IsBack : ResourceGroup Metric → Type 0
-IsBack = CanWriteGroup IsBackResource IsBackScope AreBackPoints
+abbrev HasHistsBack : ResourceGroup Metric → Type 0
+HasHistsBack = CanWriteGroup IsBackResource IsBackScope AreBackPoints
 
-groups_again : (groups : List (ResourceGroup Metric)) → IsReal (Metrics groups) → IsProfile (Metrics groups) → All IsBack groups
+groups_again : (groups : List (ResourceGroup Metric)) → IsReal (Metrics groups) → IsProfile (Metrics groups) → All HasHistsBack groups
 groups_again groups real is = real_groups IsRealMetric IsProfileMetric AreBackPoints points_again AreBack pairs_back groups real.at is.at
 
 module _ (groups : List (ResourceGroup Metric)) (real : IsReal (Metrics groups)) (is : IsProfile (Metrics groups)) where
@@ -91,7 +92,7 @@ module _ (groups : List (ResourceGroup Metric)) (real : IsReal (Metrics groups))
   exemplars_agree : Agree (exemplars_found groups) 0 (hist_exemplar_lists groups)
   exemplars_agree =
       agrees_with exemplar_cells exemplar_of (λ (exemplar : Exemplar). exemplar.pairs) (unsorted (hist_exemplar_pairs groups)) IsBackExemplar (λ exemplar back. back.again)
-      (hist_exemplar_lists groups) (all_every IsBackExemplar (all_hist_exemplars groups) exemplars_back) exemplar_pairs_agree
+      (hist_exemplar_lists groups) (recursion_from_All IsBackExemplar (all_hist_exemplars groups) exemplars_back) exemplar_pairs_agree
 
   hist_pairs_agree : Agree (unsorted (hist_pairs groups)) 0 (hist_pairs groups)
   hist_pairs_agree = pairs_agree (hist_pairs groups) (All-map AreBack (λ (point : HistPoint). point.pairs) (all_hist_points groups)
@@ -101,7 +102,7 @@ module _ (groups : List (ResourceGroup Metric)) (real : IsReal (Metrics groups))
   hists_agree =
       agrees_with {D = List Pair × List Exemplar} hist_point_cells (λ cells below. hist_point_of cells below.0 below.1) (λ (point : HistPoint). (point.pairs, point.exemplars))
       (λ id. (unsorted (hist_pairs groups) id, exemplars_found groups id)) IsBackHistPoint (λ point back. back.again)
-      (hist_lists groups) (all_every IsBackHistPoint (all_hist_points groups) hists_back)
+      (hist_lists groups) (recursion_from_All IsBackHistPoint (all_hist_points groups) hists_back)
       (agree_two (unsorted (hist_pairs groups)) (exemplars_found groups) (λ (point : HistPoint). point.pairs) (λ (point : HistPoint). point.exemplars) 0 (all_hist_points groups)
       hist_pairs_agree exemplars_agree)
 
@@ -112,13 +113,9 @@ module _ (groups : List (ResourceGroup Metric)) (real : IsReal (Metrics groups))
   pub summaries_agree : Agree (summaries_found groups) 0 (summary_lists groups)
   summaries_agree =
       agrees_with sum_point_cells sum_point_of (λ (point : SumPoint). point.pairs) (unsorted (summary_pairs groups)) IsBackSumPoint (λ point back. back.again)
-      (summary_lists groups) (all_every IsBackSumPoint (all_summary_points groups) summaries_back) summary_pairs_agree
+      (summary_lists groups) (recursion_from_All IsBackSumPoint (all_summary_points groups) summaries_back) summary_pairs_agree
 
 -- ---- points that are read alike
-
-same_exemplar : (cells : List Cell) (xs ys : List Pair) → SameOften xs ys → SameExemplar (exemplar_of cells xs) (exemplar_of cells ys)
-unfolding exemplar_of
-same_exemplar cells xs ys same = record { scalars = refl; pairs = same }
 
 same_hist : (cells : List Cell) (xs ys : List Pair) (es fs : List Exemplar) → SameOften xs ys → AllZip SameExemplar es fs → SameHistPoint (hist_point_of cells xs es) (hist_point_of cells ys fs)
 unfolding hist_point_of
@@ -127,11 +124,6 @@ same_hist cells xs ys es fs same alike = record { scalars = refl; pairs = same; 
 same_summary : (cells : List Cell) (xs ys : List Pair) → SameOften xs ys → SameSumPoint (sum_point_of cells xs) (sum_point_of cells ys)
 unfolding sum_point_of
 same_summary cells xs ys same = record { scalars = refl; pairs = same }
-
-exemplar_weighs : (cells : List Cell) (xs ys : List Pair) → total 32 weight_of_pair xs ≡ total 32 weight_of_pair ys
-    → weight_of_exemplar (exemplar_of cells xs) ≡ weight_of_exemplar (exemplar_of cells ys)
-unfolding exemplar_of
-exemplar_weighs cells xs ys same = omega (arith, same)
 
 hist_weighs : (cells : List Cell) (xs ys : List Pair) (es fs : List Exemplar) → total 32 weight_of_pair xs ≡ total 32 weight_of_pair ys
     → total 32 weight_of_exemplar es ≡ total 32 weight_of_exemplar fs → weight_of_hist_point (hist_point_of cells xs es) ≡ weight_of_hist_point (hist_point_of cells ys fs)

@@ -4,6 +4,7 @@ use Rattle.std.specs.Prelude.{◌==◌, All}
 use Rattle.std.proofs.lemmas.Bool.{false≢true}
 use Rattle.std.proofs.lemmas.List.{length-map}
 use Rattle.std.proofs.lemmas.List.Elements.{All-get_or, All-map, All-nil, All-weaker}
+use Rattle.lists.proofs.Every.{all_joined, all_of_both}
 use Rattle.otlp_model.specs.Limits.{weight_limit}
 use Rattle.otlp_model.specs.Profile.{IsProfile, IsProfileExemplar, IsProfileHistPoint, IsProfileMetric, IsProfileShape, IsProfileSumPoint}
 use Rattle.otlp_model.specs.Real.{IsReal, IsRealExemplar, IsRealHistPoint, IsRealMetric, IsRealShape, IsRealSumPoint}
@@ -24,20 +25,19 @@ use Rattle.otap_cells.specs.Tables.{Table}
 use Rattle.otap_cells.proofs.ScalarLaws.{text_back}
 use Rattle.otap_groups.specs.Flat.{items_of, placed}
 use Rattle.otap_groups.specs.Stored.{part_table}
-use Rattle.otap_groups.proofs.RealGroups.{real_groups, real_items}
+use Rattle.otap_groups.proofs.RealGroups.{real_groups}
 use Rattle.otap_groups.proofs.WritableGroups.{all_items_can}
 use Rattle.otap_attrs.specs.declared.refusal.RowRefusal.{RowRefusal}
-use Rattle.otap_checks.proofs.FinePairs.{IsFineList, pairs_fine}
+use Rattle.otap_checks.proofs.FinePairs.{IsFineList, pairs_fine, fine_table, IsFineResource, IsFineScope}
 use Rattle.otap_checks.specs.ValueDefects.{HasFineValues}
-use Rattle.otap_metrics.specs.Metrics.{hist_points_of, summary_points_of, type_of}
+use Rattle.otap_metrics.specs.Metrics.{hist_points_of, summary_points_of, shape_number}
 use Rattle.otap_metrics.specs.Requests.{HasTwoValues, WrongParent, has_hist_points, has_summary_points}
 use Rattle.otap_metrics.specs.Tables.{HoldMetrics, summary_lists}
 use Rattle.otap_metrics.proofs.FewParts.{few_metrics}
 use Rattle.otap_metrics.proofs.FittingParents.{parents_fine}
-use Rattle.otap_metrics.proofs.NoDefects.{IsFineExemplar, IsFineResource, IsFineScope, exemplar_fine, fine_table, no_defects as metrics_fine}
+use Rattle.otap_metrics.proofs.NoDefects.{IsFineExemplar, exemplar_fine, no_defects as metrics_fine}
 use Rattle.otap_metrics.proofs.OneValue.{all_rows, exemplar_values}
-use Rattle.otap_metrics.proofs.WrittenParts.{all_joined}
-use Rattle.otap_hist.specs.Lists.{bytes_of, count_in, list_cell}
+use Rattle.otap_hist.specs.Lists.{bytes_of, element_count, list_cell}
 use Rattle.otap_hist.specs.Points.{hist_point_cells, quantile_cell, sum_point_cells, value_cell}
 use Rattle.otap_hist.specs.Requests.{HasUnevenLists, WrongWhole}
 use Rattle.otap_hist.specs.Tables.{HoldHists, all_hist_exemplars, all_hist_points, all_summary_points, hist_exemplar_lists, hist_exemplar_pairs, hist_pairs, summary_pairs, whole_tables}
@@ -49,17 +49,17 @@ use Rattle.otap_hist.proofs.NamedWhole.{hists_there, metrics_there}
 
 -- ---- lists of one length
 
-one_count : (xs ys : List ℕ) → length xs ≡ length ys → count_in (list_cell xs) ≡ count_in (list_cell ys)
+one_count : (xs ys : List ℕ) → length xs ≡ length ys → element_count (list_cell xs) ≡ element_count (list_cell ys)
 one_count xs ys same =
     ap (λ (bytes : List ℕ). length bytes / 8) (text_back (bytes_of xs))
     ∙ ap (λ n. n / 8) (length_bytes xs ∙ ap (λ n. 8 * n) same ∙ sym (length_bytes ys)) ∙ sym (ap (λ (bytes : List ℕ). length bytes / 8) (text_back (bytes_of ys)))
 
 abbrev IsEven : List Cell → Type 0
-IsEven row = (count_in (cell_at row 6) == count_in (cell_at row 7)) ≡ true
+IsEven row = (element_count (cell_at row 6) == element_count (cell_at row 7)) ≡ true
 
 even_lists : (id parent : Cell) (point : SumPoint) → IsEven (id ∷ parent ∷ sum_point_cells point)
 even_lists id parent point =
-    eq-eqb (count_in (quantile_cell point.quantiles)) (count_in (value_cell point.quantiles))
+    eq-eqb (element_count (quantile_cell point.quantiles)) (element_count (value_cell point.quantiles))
     (one_count (map (λ (q : Quantile). q.quantile) point.quantiles) (map (λ (q : Quantile). q.value) point.quantiles)
     (length-map point.quantiles (λ (q : Quantile). q.quantile) ∙ sym (length-map point.quantiles (λ (q : Quantile). q.value))))
 
@@ -71,14 +71,14 @@ lists_even kind lists uneven =
 
 -- ---- parents
 
-hists_fit : (shape : Shape) → has_hist_points (type_of shape) ≡ false → hist_points_of shape ≡ []
+hists_fit : (shape : Shape) → has_hist_points (shape_number shape) ≡ false → hist_points_of shape ≡ []
 hists_fit shapes.Empty other = refl
 hists_fit (shapes.Gauge points) other = refl
 hists_fit (shapes.Sum points temporality monotonic) other = refl
 hists_fit (shapes.Histogram points temporality) other = absurd (false≢true (sym other))
 hists_fit (shapes.Summary points) other = refl
 
-summaries_fit : (shape : Shape) → has_summary_points (type_of shape) ≡ false → summary_points_of shape ≡ []
+summaries_fit : (shape : Shape) → has_summary_points (shape_number shape) ≡ false → summary_points_of shape ≡ []
 summaries_fit shapes.Empty other = refl
 summaries_fit (shapes.Gauge points) other = refl
 summaries_fit (shapes.Sum points temporality monotonic) other = refl
@@ -94,14 +94,14 @@ record IsFineHist (point : HistPoint) : Type 0 where
 record IsFineSummary (point : SumPoint) : Type 0 where
   pairs : IsFineList point.pairs
 
-record IsFineMetric (metric : Metric) : Type 0 where
+record IsFineHistMetric (metric : Metric) : Type 0 where
   hists : All IsFineHist (hist_points_of metric.shape)
   summaries : All IsFineSummary (summary_points_of metric.shape)
 
 hist_fine : (point : HistPoint) → IsRealHistPoint point → IsProfileHistPoint point → IsFineHist point
 hist_fine point real is = record {
   pairs = pairs_fine point.pairs real.pairs is.pairs.at;
-  exemplars = real_items IsRealExemplar IsProfileExemplar IsFineExemplar exemplar_fine point.exemplars real.exemplars.at is.exemplars.at;
+  exemplars = all_of_both IsRealExemplar IsProfileExemplar IsFineExemplar exemplar_fine point.exemplars real.exemplars.at is.exemplars.at;
 }
 
 summary_fine : (point : SumPoint) → IsRealSumPoint point → IsProfileSumPoint point → IsFineSummary point
@@ -111,7 +111,7 @@ hists_fine : (shape : Shape) → IsRealShape shape → IsProfileShape shape → 
 hists_fine shapes.Empty real is = All-nil IsFineHist
 hists_fine (shapes.Gauge points) real is = All-nil IsFineHist
 hists_fine (shapes.Sum points temporality monotonic) real is = All-nil IsFineHist
-hists_fine (shapes.Histogram points temporality) real is = real_items IsRealHistPoint IsProfileHistPoint IsFineHist hist_fine points real.0.at is.at
+hists_fine (shapes.Histogram points temporality) real is = all_of_both IsRealHistPoint IsProfileHistPoint IsFineHist hist_fine points real.0.at is.at
 hists_fine (shapes.Summary points) real is = All-nil IsFineHist
 
 summaries_fine : (shape : Shape) → IsRealShape shape → IsProfileShape shape → All IsFineSummary (summary_points_of shape)
@@ -119,23 +119,23 @@ summaries_fine shapes.Empty real is = All-nil IsFineSummary
 summaries_fine (shapes.Gauge points) real is = All-nil IsFineSummary
 summaries_fine (shapes.Sum points temporality monotonic) real is = All-nil IsFineSummary
 summaries_fine (shapes.Histogram points temporality) real is = All-nil IsFineSummary
-summaries_fine (shapes.Summary points) real is = real_items IsRealSumPoint IsProfileSumPoint IsFineSummary summary_fine points real.at is.at
+summaries_fine (shapes.Summary points) real is = all_of_both IsRealSumPoint IsProfileSumPoint IsFineSummary summary_fine points real.at is.at
 
-metric_fine : (metric : Metric) → IsRealMetric metric → IsProfileMetric metric → IsFineMetric metric
+metric_fine : (metric : Metric) → IsRealMetric metric → IsProfileMetric metric → IsFineHistMetric metric
 metric_fine metric real is = record { hists = hists_fine metric.shape real.shape is.shape; summaries = summaries_fine metric.shape real.shape is.shape }
 
 module _ (groups : List (ResourceGroup Metric)) (tables : List Table) (have : HoldHists groups tables) (real : IsReal (Metrics groups)) (is : IsProfile (Metrics groups)) where
-  all : All IsFineMetric (items_of groups)
-  all = all_items_can IsFineResource IsFineScope IsFineMetric groups
-      (real_groups IsRealMetric IsProfileMetric IsFineMetric metric_fine IsFineList pairs_fine groups real.at is.at)
+  all : All IsFineHistMetric (items_of groups)
+  all = all_items_can IsFineResource IsFineScope IsFineHistMetric groups
+      (real_groups IsRealMetric IsProfileMetric IsFineHistMetric metric_fine IsFineList pairs_fine groups real.at is.at)
 
   all_hists : All IsFineHist (all_hist_points groups)
   all_hists = all_joined IsFineHist (λ (metric : Metric). hist_points_of metric.shape) (items_of groups)
-      (All-weaker IsFineMetric (λ (metric : Metric). All IsFineHist (hist_points_of metric.shape)) (λ metric fine. fine.hists) (items_of groups) all)
+      (All-weaker IsFineHistMetric (λ (metric : Metric). All IsFineHist (hist_points_of metric.shape)) (λ metric fine. fine.hists) (items_of groups) all)
 
   all_summaries : All IsFineSummary (all_summary_points groups)
   all_summaries = all_joined IsFineSummary (λ (metric : Metric). summary_points_of metric.shape) (items_of groups)
-      (All-weaker IsFineMetric (λ (metric : Metric). All IsFineSummary (summary_points_of metric.shape)) (λ metric fine. fine.summaries) (items_of groups) all)
+      (All-weaker IsFineHistMetric (λ (metric : Metric). All IsFineSummary (summary_points_of metric.shape)) (λ metric fine. fine.summaries) (items_of groups) all)
 
   all_exemplars : All IsFineExemplar (all_hist_exemplars groups)
   all_exemplars = all_joined IsFineExemplar (λ (point : HistPoint). point.exemplars) (all_hist_points groups)

@@ -1,8 +1,9 @@
 -- The points and exemplars that the tables of histograms and summaries are written from.
-use Rattle.std.proofs.Common.{◌≡◌, ◌<◌, ◌≤◌, ◌^◌, List, [], ◌∷◌, ◌++◌, None, length, map, ap, ◌∙◌, arith}
+use Rattle.std.proofs.Common.{◌≡◌, ◌≤◌, ◌^◌, List, [], ◌∷◌, ◌++◌, length, map, ap, ◌∙◌, arith}
 use Rattle.std.specs.Prelude.{All}
 use Rattle.std.proofs.lemmas.List.{length-map}
 use Rattle.std.proofs.lemmas.List.Elements.{All-weaker}
+use Rattle.lists.proofs.Every.{all_joined, map_over}
 use Rattle.otlp_model.specs.declared.groups.ResourceGroup.{ResourceGroup}
 use Rattle.otlp_model.specs.declared.histograms.HistPoint.{HistPoint}
 use Rattle.otlp_model.specs.declared.histograms.SumPoint.{SumPoint}
@@ -11,34 +12,28 @@ use Rattle.otlp_model.specs.declared.metrics.Metric.{Metric}
 use Rattle.otlp_model.specs.declared.metrics.Shape.{Shape}
 use Rattle.otlp_model.specs.declared.request.Request.TheVariants.{Metrics}
 use Rattle.otlp_model.specs.Limits.{weight_limit}
-use Rattle.otlp_model.specs.Weight.{total, weight_of, weight_of_metric, weight_of_pair}
+use Rattle.otlp_model.specs.Weight.{total, weight_of, weight_of_pair}
 use Rattle.otap_cells.specs.declared.payload.Kind.{Kind}
 use Rattle.otap_cells.specs.declared.payload.Kind.TheVariants as table
-use Rattle.otap_cells.specs.Cells.{Cell}
-use Rattle.otap_cells.specs.Columns.{coding_at}
-use Rattle.otap_cells.specs.Continuing.{again_of}
-use Rattle.otap_cells.specs.Tables.{Table, profile_table}
-use Rattle.otap_groups.specs.declared.flat.Flat.{Flat}
+use Rattle.otap_cells.specs.Tables.{Table}
 use Rattle.otap_groups.specs.declared.flat.Placed.{Placed}
-use Rattle.otap_groups.specs.Flat.{flat, items_of, placed}
-use Rattle.otap_groups.specs.Stored.{part_table, stored_parts}
-use Rattle.otap_groups.specs.Views.{seen_flat, seen_placed}
+use Rattle.otap_groups.specs.Flat.{items_of, placed}
+use Rattle.otap_groups.specs.Stored.{part_table}
+use Rattle.otap_groups.specs.Views.{seen_placed}
 use Rattle.otap_groups.specs.Weighing.{CanWriteScope}
-use Rattle.otap_groups.proofs.FlatItems.{all_parts, items_of_rows, parts_of_rows}
-use Rattle.otap_groups.proofs.WritableGroups.{all_items_can, few_items}
+use Rattle.otap_groups.proofs.FlatItems.{all_parts, parts_of_rows}
+use Rattle.otap_groups.proofs.WritableGroups.{all_items_can, IsLightResource, IsLightScope}
 use Rattle.otap_attrs.specs.Tables.{attribute_table, beside_kind, where_rows}
 use Rattle.otap_attrs.proofs.FilledTables.{added, added_all, filled}
-use Rattle.otap_attrs.proofs.FoundLists.{map_over}
 use Rattle.otap_metrics.specs.Metrics.{hist_points_of, summary_points_of}
 use Rattle.otap_metrics.specs.Points.{exemplar_cells}
 use Rattle.otap_metrics.specs.Tables.{hist_lists, summary_lists}
 use Rattle.otap_metrics.specs.Writable.{CanWriteExemplar}
-use Rattle.otap_metrics.proofs.WrittenParts.{all_joined, attribute_table_is, part_table_is}
-use Rattle.otap_metrics.proofs.WrittenWeight.{IsLightResource, IsLightScope}
+use Rattle.otap_metrics.proofs.WrittenParts.{attribute_table_is, part_table_is, stored}
 use Rattle.otap_hist.specs.Writable as writable
 use Rattle.otap_hist.specs.Points.{hist_point_cells, sum_point_cells}
 use Rattle.otap_hist.specs.Tables.{all_hist_exemplars, all_hist_points, all_summary_points, hist_exemplar_lists, hist_exemplar_pairs, hist_pairs, hist_tables, summary_pairs}
-use Rattle.otap_hist.specs.Writable.{CanWriteHistPoint, CanWriteMetric, CanWriteSumPoint}
+use Rattle.otap_hist.specs.Writable.{CanWriteHistPoint, CanWriteHistMetric, CanWriteSumPoint}
 use Rattle.otap_hist.proofs.LightHists.{CanWrite, few_hist_exemplars, few_hist_points, few_summary_points}
 
 -- ---- the lists, as they are found
@@ -58,23 +53,6 @@ module _ (gs : List (ResourceGroup Metric)) where
 -- ---- how many there are
 
 module _ (gs : List (ResourceGroup Metric)) (light : weight_of (Metrics gs) ≤ weight_limit) where
-  pub items_few : length (items_of gs) < 2 ^ 32
-  items_few = omega (arith, light, few_items weight_of_metric gs)
-
-  pub rows_few : (rows : List (Flat Metric)) → map seen_flat rows ≡ flat gs → length rows < 2 ^ 32
-  rows_few rows is =
-      let a = length-map rows (λ (f : Flat Metric). f.item.now) in
-      let b = ap length (items_of_rows rows gs is) in
-      let c = items_few in
-      omega (arith, a, b, c)
-
-  pub metrics_few : (ms : List (Placed Metric)) → map (λ (p : Placed Metric). p.part.now) ms ≡ items_of gs → length ms ≤ 2 ^ 32
-  metrics_few ms is =
-      let a = length-map ms (λ (p : Placed Metric). p.part.now) in
-      let b = ap length is in
-      let c = items_few in
-      omega (arith, a, b, c)
-
   pub hists_few : (ps : List (Placed HistPoint)) → map seen_placed ps ≡ placed (hist_lists gs) → length ps ≤ 2 ^ 32
   hists_few ps is =
       let a = length-map ps (λ (p : Placed HistPoint). p.part.now) in
@@ -96,16 +74,16 @@ module _ (gs : List (ResourceGroup Metric)) (light : weight_of (Metrics gs) ≤ 
 -- ---- what can be written
 
 module _ (gs : List (ResourceGroup Metric)) (can : All CanWrite gs) where
-  all_metrics : All CanWriteMetric (items_of gs)
-  all_metrics = all_items_can IsLightResource IsLightScope CanWriteMetric gs can
+  all_metrics : All CanWriteHistMetric (items_of gs)
+  all_metrics = all_items_can IsLightResource IsLightScope CanWriteHistMetric gs can
 
   all_hists_can : All CanWriteHistPoint (all_hist_points gs)
   all_hists_can = all_joined CanWriteHistPoint (λ (metric : Metric). hist_points_of metric.shape) (items_of gs)
-      (All-weaker CanWriteMetric (λ (metric : Metric). All CanWriteHistPoint (hist_points_of metric.shape)) (λ metric can. can.hist_points) (items_of gs) all_metrics)
+      (All-weaker CanWriteHistMetric (λ (metric : Metric). All CanWriteHistPoint (hist_points_of metric.shape)) (λ metric can. can.hist_points) (items_of gs) all_metrics)
 
   all_summaries_can : All CanWriteSumPoint (all_summary_points gs)
   all_summaries_can = all_joined CanWriteSumPoint (λ (metric : Metric). summary_points_of metric.shape) (items_of gs)
-      (All-weaker CanWriteMetric (λ (metric : Metric). All CanWriteSumPoint (summary_points_of metric.shape)) (λ metric can. can.summary_points) (items_of gs) all_metrics)
+      (All-weaker CanWriteHistMetric (λ (metric : Metric). All CanWriteSumPoint (summary_points_of metric.shape)) (λ metric can. can.summary_points) (items_of gs) all_metrics)
 
   all_exemplars_can : All CanWriteExemplar (all_hist_exemplars gs)
   all_exemplars_can = all_joined CanWriteExemplar (λ (point : HistPoint). point.exemplars) (all_hist_points gs)
@@ -139,15 +117,12 @@ module _ (gs : List (ResourceGroup Metric)) (can : All CanWrite gs) where
       (exemplars_can es is)
 
   -- group by group
-  pub groups_can_write : All writable.CanWriteGroup gs
+  pub groups_can_write : All writable.CanWriteHistGroup gs
   groups_can_write =
-      All-weaker CanWrite writable.CanWriteGroup
-      (λ group can. record { scopes = All-weaker (CanWriteScope IsLightScope CanWriteMetric) writable.CanWriteScope (λ scope can. record { items = can.1 }) group.scopes can.1 }) gs can
+      All-weaker CanWrite writable.CanWriteHistGroup
+      (λ group can. record { scopes = All-weaker (CanWriteScope IsLightScope CanWriteHistMetric) writable.CanWriteHistScope (λ scope can. record { items = can.1 }) group.scopes can.1 }) gs can
 
 -- ---- the tables, as they were added one after the other
-
-abbrev stored : {C : Type 0} → Kind → (C → List Cell) → List (Placed C) → Table
-stored kind cells_of ps = profile_table kind (stored_parts (coding_at kind 1) (again_of kind) cells_of 0 0 None (map seen_placed ps))
 
 module _ (gs : List (ResourceGroup Metric)) (p q : List (Placed SumPoint)) (h k : List (Placed HistPoint)) (e f : List (Placed Exemplar))
     (ps : map seen_placed p ≡ placed (summary_lists gs)) (qs : map seen_placed q ≡ placed (summary_lists gs))

@@ -14,10 +14,10 @@ use Rattle.otap_cells.specs.Weights.{cell_weight}
 use Rattle.otap_cells.specs.Scalars.{bits_cell, number_cell}
 use Rattle.otap_groups.specs.Stored.{id_cell}
 use Rattle.otap_groups.specs.Weighing.{cells_weight}
-use Rattle.otap_attrs.proofs.AttributesWeighed.{text_weighs, number_weighs, bits_weigh}
 use Rattle.otap_hist.specs.Lists.{bytes_of, list_cell}
 use Rattle.otap_hist.specs.Points.{hist_point_cells, optional_cell, quantile_cell, sum_point_cells, value_cell}
 use Rattle.otap_hist.proofs.ListBytes.{length_bytes}
+use Rattle.otap_cells.proofs.ScalarLaws.{text_weighs, number_weighs, bits_weigh}
 
 -- ---- what fits
 

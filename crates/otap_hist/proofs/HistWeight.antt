@@ -21,19 +21,16 @@ use Rattle.otap_groups.proofs.RowsWeighed.{parts_weigh}
 use Rattle.otap_attrs.specs.Tables.{attribute_table}
 use Rattle.otap_attrs.specs.Values.{pair_cells}
 use Rattle.otap_attrs.proofs.AttributesWeighed.{table_weighs}
-use Rattle.lists.proofs.MadeSums.{sum_of_both, sum_of_flat, sum_of_map}
+use Rattle.lists.proofs.MadeSums.{sum_of_both, sum_of_flat, sum_of_map, sum_of_lists}
 use Rattle.otap_metrics.specs.Inside.{exemplar_weight}
 use Rattle.otap_metrics.specs.Metrics.{hist_points_of, summary_points_of}
 use Rattle.otap_metrics.specs.Points.{exemplar_cells}
 use Rattle.otap_metrics.specs.Tables.{hist_lists, summary_lists}
-use Rattle.otap_hist.specs.Inside.{group_weight, hist_point_weight, metric_weight, summary_point_weight}
+use Rattle.otap_hist.specs.Inside.{group_weight, hist_point_weight, hist_metric_weight, summary_point_weight}
 use Rattle.otap_hist.specs.Points.{hist_point_cells, sum_point_cells}
 use Rattle.otap_hist.specs.Tables.{all_hist_exemplars, all_hist_points, all_summary_points, hist_exemplar_lists, hist_exemplar_pairs, hist_pairs, hist_tables, summary_pairs}
 
 -- ---- sums over lists of lists
-
-joined : {A : Type 0} (w : A → ℕ) (lists : List (List A)) → sum_by (λ (xs : List A). sum_by w xs) lists ≡ sum_by w (flat_map (λ (xs : List A). xs) lists)
-joined {A = A} w lists = sym (sum_of_flat w (λ (xs : List A). xs) lists)
 
 -- parts with their attributes below them
 of_pairs : {A : Type 0} (cells_of : A → List Cell) (pairs : A → List Pair) (parts : List A)
@@ -64,21 +61,21 @@ module _ (groups : List (ResourceGroup Metric)) where
   xp = attribute_table table.HistExemplarAttrs (hist_exemplar_pairs groups)
 
   summaries_weigh : weight_of_table s ≡ parts_weight sum_point_cells (all_summary_points groups)
-  summaries_weigh = parts_weigh table.SummaryPoints sum_point_cells (summary_lists groups) ∙ joined (λ (point : SumPoint). 32 + cells_weight (sum_point_cells point)) (summary_lists groups)
+  summaries_weigh = parts_weigh table.SummaryPoints sum_point_cells (summary_lists groups) ∙ sum_of_lists (λ (point : SumPoint). 32 + cells_weight (sum_point_cells point)) (summary_lists groups)
 
   hists_weigh : weight_of_table n ≡ parts_weight hist_point_cells (all_hist_points groups)
-  hists_weigh = parts_weigh table.HistPoints hist_point_cells (hist_lists groups) ∙ joined (λ (point : HistPoint). 32 + cells_weight (hist_point_cells point)) (hist_lists groups)
+  hists_weigh = parts_weigh table.HistPoints hist_point_cells (hist_lists groups) ∙ sum_of_lists (λ (point : HistPoint). 32 + cells_weight (hist_point_cells point)) (hist_lists groups)
 
   exemplars_weigh : weight_of_table x ≡ parts_weight exemplar_cells (all_hist_exemplars groups)
   exemplars_weigh =
       parts_weigh table.HistExemplars exemplar_cells (hist_exemplar_lists groups)
-      ∙ joined (λ (exemplar : Exemplar). 32 + cells_weight (exemplar_cells exemplar)) (hist_exemplar_lists groups)
+      ∙ sum_of_lists (λ (exemplar : Exemplar). 32 + cells_weight (exemplar_cells exemplar)) (hist_exemplar_lists groups)
 
   -- all exemplars, with what is below them
   below_hists : sum_by (λ (point : HistPoint). sum_by exemplar_weight point.exemplars) (all_hist_points groups) ≡ weight_of_table x + weight_of_table xp
   below_hists =
       let a = sum_of_map (λ (xs : List Exemplar). sum_by exemplar_weight xs) (λ (point : HistPoint). point.exemplars) (all_hist_points groups) in
-      let b = joined exemplar_weight (hist_exemplar_lists groups) in
+      let b = sum_of_lists exemplar_weight (hist_exemplar_lists groups) in
       let c = of_pairs exemplar_cells (λ (exemplar : Exemplar). exemplar.pairs) (all_hist_exemplars groups) in
       let d = exemplars_weigh in
       let e = table_weighs table.HistExemplarAttrs (hist_exemplar_pairs groups) in
@@ -105,7 +102,7 @@ module _ (groups : List (ResourceGroup Metric)) where
 
   -- all metrics, group by group
   abbrev of_metric : Metric → ℕ
-  of_metric = metric_weight
+  of_metric = hist_metric_weight
 
   by_items : sum_by group_weight groups ≡ sum_by of_metric (items_of groups)
   by_items =
@@ -116,9 +113,9 @@ module _ (groups : List (ResourceGroup Metric)) where
   items_weigh =
       let a = sum_of_both (λ (metric : Metric). sum_by hist_point_weight (hist_points_of metric.shape)) (λ (metric : Metric). sum_by summary_point_weight (summary_points_of metric.shape)) (items_of groups) in
       let b = sum_of_map (λ (points : List HistPoint). sum_by hist_point_weight points) (λ (metric : Metric). hist_points_of metric.shape) (items_of groups) in
-      let c = joined hist_point_weight (hist_lists groups) in
+      let c = sum_of_lists hist_point_weight (hist_lists groups) in
       let d = sum_of_map (λ (points : List SumPoint). sum_by summary_point_weight points) (λ (metric : Metric). summary_points_of metric.shape) (items_of groups) in
-      let e = joined summary_point_weight (summary_lists groups) in
+      let e = sum_of_lists summary_point_weight (summary_lists groups) in
       omega (arith, a, b, c, d, e)
 
   pub groups_weigh : sum_by group_weight groups ≡ weight_of_tables (hist_tables groups)

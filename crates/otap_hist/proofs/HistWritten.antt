@@ -1,9 +1,10 @@
 -- All tables of a request of metrics are tables of the profile.
-use Rattle.std.proofs.Common.{◌≡◌, ℕ, ◌^◌, ◌<◌, ◌≤◌, true, List, [], ◌∷◌, Option, None, Some, inl, inr, drop, refl}
+use Rattle.std.proofs.Common.{◌≡◌, ℕ, ◌^◌, ◌<◌, ◌≤◌, true, List, [], ◌∷◌, Option, None, Some, inl, inr, drop, refl, false}
 use Rattle.std.specs.Prelude.{◌==◌, All, IsTrue}
 use Rattle.std.specs.List.{AllByRecursion}
 use Rattle.std.proofs.lemmas.Bool.{cases_Bool, ltb-true}
-use Rattle.std.proofs.lemmas.List.Elements.{All-cons, All-map, All-nil, All-weaker}
+use Rattle.std.proofs.lemmas.List.Elements.{All-cons, All-map, All-nil, All-weaker, All-from_recursion, recursion_from_All}
+use Rattle.lists.proofs.Every.{all_joined, all_of_both}
 use Rattle.otlp_model.specs.Limits.{weight_limit}
 use Rattle.otlp_model.specs.Profile.{IsProfile, IsProfileExemplar, IsProfileHistPoint, IsProfileMetric, IsProfileShape, IsProfileSumPoint}
 use Rattle.otlp_model.specs.Real.{IsReal, IsRealExemplar, IsRealHistPoint, IsRealMetric, IsRealShape, IsRealSumPoint, is_real_optional}
@@ -27,20 +28,18 @@ use Rattle.otap_groups.specs.ProfileTables.{IsProfileTable}
 use Rattle.otap_groups.specs.Stored.{main_table, part_table}
 use Rattle.otap_groups.proofs.PartTables.{part_written}
 use Rattle.otap_groups.proofs.ProfileRows.{number_fits}
-use Rattle.otap_groups.proofs.RealGroups.{real_groups, real_items}
+use Rattle.otap_groups.proofs.RealGroups.{real_groups}
 use Rattle.otap_groups.proofs.WritableGroups.{all_items_can}
 use Rattle.otap_attrs.proofs.CellFits.{bits_fit}
 use Rattle.otap_attrs.proofs.FilledTables.{filled, filled_all}
-use Rattle.otap_checks.proofs.FinePairs.{IsFineList, pairs_fine}
-use Rattle.otap_checks.proofs.PairsAgain.{all_every}
+use Rattle.otap_attrs.proofs.AttributeRows.{either_width}
+use Rattle.otap_checks.proofs.FinePairs.{IsFineList, pairs_fine, IsFineResource, IsFineScope}
 use Rattle.otap_checks.proofs.WrittenPairs.{AreReal, attributes_written}
 use Rattle.otap_metrics.specs.Metrics.{hist_points_of, metric_cells, summary_points_of}
 use Rattle.otap_metrics.specs.Points.{exemplar_cells}
 use Rattle.otap_metrics.specs.Tables.{hist_lists, summary_lists}
-use Rattle.otap_metrics.proofs.MetricFits.{either, exemplar_row}
-use Rattle.otap_metrics.proofs.NoDefects.{IsFineResource, IsFineScope}
-use Rattle.otap_metrics.proofs.WrittenParts.{all_joined}
-use Rattle.otap_metrics.proofs.WrittenTables.{IsFitExemplar, below_are_written, every_all, exemplar_fit, main_is_written}
+use Rattle.otap_metrics.proofs.MetricFits.{exemplar_row}
+use Rattle.otap_metrics.proofs.WrittenTables.{IsFitExemplar, below_are_written, exemplar_fit, main_is_written}
 use Rattle.otap_hist.specs.Lists.{bytes_of, list_cell}
 use Rattle.otap_hist.specs.Points.{hist_point_cells, optional_cell, sum_point_cells}
 use Rattle.otap_hist.specs.Tables.{all_hist_exemplars, all_hist_points, all_summary_points, hist_exemplar_lists, hist_exemplar_pairs, hist_pairs, summary_pairs, tables_below_all, whole_tables}
@@ -107,12 +106,12 @@ summary_own point real = (
 hist_row : (id parent : Cell) (cells : List Cell) → IsCellOf (base.Id true) id → IsCellOf (base.Id true) parent → IsRow (drop 2 hist_columns) cells
     → IsRow (columns_of table.HistPoints) (id ∷ parent ∷ cells)
 unfolding hist_columns
-hist_row id parent cells a b own = (a, (either parent b, own))
+hist_row id parent cells a b own = (a, (either_width true false parent b, own))
 
 summary_row : (id parent : Cell) (cells : List Cell) → IsCellOf (base.Id true) id → IsCellOf (base.Id true) parent → IsRow (drop 2 summary_columns) cells
     → IsRow (columns_of table.SummaryPoints) (id ∷ parent ∷ cells)
 unfolding summary_columns
-summary_row id parent cells a b own = (a, (either parent b, own))
+summary_row id parent cells a b own = (a, (either_width true false parent b, own))
 
 -- ---- what fits
 
@@ -125,7 +124,7 @@ record IsFitSummary (point : SumPoint) : Type 0 where
   own : IsRow (drop 2 summary_columns) (sum_point_cells point)
   pairs : AreReal point.pairs
 
-record IsFitMetric (metric : Metric) : Type 0 where
+record IsFitHistMetric (metric : Metric) : Type 0 where
   hists : All IsFitHist (hist_points_of metric.shape)
   summaries : All IsFitSummary (summary_points_of metric.shape)
 
@@ -133,7 +132,7 @@ hist_fit : (point : HistPoint) → IsRealHistPoint point → IsProfileHistPoint 
 hist_fit point real is = record {
   own = hist_own point real;
   pairs = real.pairs;
-  exemplars = real_items IsRealExemplar IsProfileExemplar IsFitExemplar exemplar_fit point.exemplars real.exemplars.at is.exemplars.at;
+  exemplars = all_of_both IsRealExemplar IsProfileExemplar IsFitExemplar exemplar_fit point.exemplars real.exemplars.at is.exemplars.at;
 }
 
 summary_fit : (point : SumPoint) → IsRealSumPoint point → IsProfileSumPoint point → IsFitSummary point
@@ -143,7 +142,7 @@ hists_fit : (shape : Shape) → IsRealShape shape → IsProfileShape shape → A
 hists_fit shapes.Empty real is = All-nil IsFitHist
 hists_fit (shapes.Gauge points) real is = All-nil IsFitHist
 hists_fit (shapes.Sum points temporality monotonic) real is = All-nil IsFitHist
-hists_fit (shapes.Histogram points temporality) real is = real_items IsRealHistPoint IsProfileHistPoint IsFitHist hist_fit points real.0.at is.at
+hists_fit (shapes.Histogram points temporality) real is = all_of_both IsRealHistPoint IsProfileHistPoint IsFitHist hist_fit points real.0.at is.at
 hists_fit (shapes.Summary points) real is = All-nil IsFitHist
 
 summaries_fit : (shape : Shape) → IsRealShape shape → IsProfileShape shape → All IsFitSummary (summary_points_of shape)
@@ -151,25 +150,25 @@ summaries_fit shapes.Empty real is = All-nil IsFitSummary
 summaries_fit (shapes.Gauge points) real is = All-nil IsFitSummary
 summaries_fit (shapes.Sum points temporality monotonic) real is = All-nil IsFitSummary
 summaries_fit (shapes.Histogram points temporality) real is = All-nil IsFitSummary
-summaries_fit (shapes.Summary points) real is = real_items IsRealSumPoint IsProfileSumPoint IsFitSummary summary_fit points real.at is.at
+summaries_fit (shapes.Summary points) real is = all_of_both IsRealSumPoint IsProfileSumPoint IsFitSummary summary_fit points real.at is.at
 
-metric_fit : (metric : Metric) → IsRealMetric metric → IsProfileMetric metric → IsFitMetric metric
+metric_fit : (metric : Metric) → IsRealMetric metric → IsProfileMetric metric → IsFitHistMetric metric
 metric_fit metric real is = record { hists = hists_fit metric.shape real.shape is.shape; summaries = summaries_fit metric.shape real.shape is.shape }
 
 -- ---- all of a request
 
 module _ (groups : List (ResourceGroup Metric)) (real : IsReal (Metrics groups)) (is : IsProfile (Metrics groups)) (light : weight_of (Metrics groups) ≤ weight_limit) where
-  fit_metrics : All IsFitMetric (items_of groups)
-  fit_metrics = all_items_can IsFineResource IsFineScope IsFitMetric groups
-      (real_groups IsRealMetric IsProfileMetric IsFitMetric metric_fit IsFineList pairs_fine groups real.at is.at)
+  fit_metrics : All IsFitHistMetric (items_of groups)
+  fit_metrics = all_items_can IsFineResource IsFineScope IsFitHistMetric groups
+      (real_groups IsRealMetric IsProfileMetric IsFitHistMetric metric_fit IsFineList pairs_fine groups real.at is.at)
 
   fit_hists : All IsFitHist (all_hist_points groups)
   fit_hists = all_joined IsFitHist (λ (metric : Metric). hist_points_of metric.shape) (items_of groups)
-      (All-weaker IsFitMetric (λ (metric : Metric). All IsFitHist (hist_points_of metric.shape)) (λ metric fit. fit.hists) (items_of groups) fit_metrics)
+      (All-weaker IsFitHistMetric (λ (metric : Metric). All IsFitHist (hist_points_of metric.shape)) (λ metric fit. fit.hists) (items_of groups) fit_metrics)
 
   fit_summaries : All IsFitSummary (all_summary_points groups)
   fit_summaries = all_joined IsFitSummary (λ (metric : Metric). summary_points_of metric.shape) (items_of groups)
-      (All-weaker IsFitMetric (λ (metric : Metric). All IsFitSummary (summary_points_of metric.shape)) (λ metric fit. fit.summaries) (items_of groups) fit_metrics)
+      (All-weaker IsFitHistMetric (λ (metric : Metric). All IsFitSummary (summary_points_of metric.shape)) (λ metric fit. fit.summaries) (items_of groups) fit_metrics)
 
   fit_exemplars : All IsFitExemplar (all_hist_exemplars groups)
   fit_exemplars = all_joined IsFitExemplar (λ (point : HistPoint). point.exemplars) (all_hist_points groups)
@@ -190,21 +189,21 @@ module _ (groups : List (ResourceGroup Metric)) (real : IsReal (Metrics groups))
   hists_written : IsProfileTable (part_table table.HistPoints hist_point_cells (hist_lists groups))
   hists_written =
       part_written table.HistPoints hist_point_cells (drop 2 hist_columns) (hist_lists groups) hists_are_parts hist_row hist_ids (few_hist_lists groups light) (few_all_hists groups light)
-      (all_every (λ (point : HistPoint). IsRow (drop 2 hist_columns) (hist_point_cells point)) (all_hist_points groups)
+      (recursion_from_All (λ (point : HistPoint). IsRow (drop 2 hist_columns) (hist_point_cells point)) (all_hist_points groups)
       (All-weaker IsFitHist (λ (point : HistPoint). IsRow (drop 2 hist_columns) (hist_point_cells point)) (λ point fit. fit.own) (all_hist_points groups) fit_hists))
 
   summaries_written : IsProfileTable (part_table table.SummaryPoints sum_point_cells (summary_lists groups))
   summaries_written =
       part_written table.SummaryPoints sum_point_cells (drop 2 summary_columns) (summary_lists groups) summaries_are_parts summary_row summary_ids
       (few_summary_lists groups light) (few_all_summaries groups light)
-      (all_every (λ (point : SumPoint). IsRow (drop 2 summary_columns) (sum_point_cells point)) (all_summary_points groups)
+      (recursion_from_All (λ (point : SumPoint). IsRow (drop 2 summary_columns) (sum_point_cells point)) (all_summary_points groups)
       (All-weaker IsFitSummary (λ (point : SumPoint). IsRow (drop 2 summary_columns) (sum_point_cells point)) (λ point fit. fit.own) (all_summary_points groups) fit_summaries))
 
   exemplars_written : IsProfileTable (part_table table.HistExemplars exemplar_cells (hist_exemplar_lists groups))
   exemplars_written =
       part_written table.HistExemplars exemplar_cells (drop 2 exemplar_columns) (hist_exemplar_lists groups) exemplars_are_parts exemplar_row exemplar_ids
       (few_exemplar_lists groups light) (few_all_exemplars groups light)
-      (all_every (λ (exemplar : Exemplar). IsRow (drop 2 exemplar_columns) (exemplar_cells exemplar)) (all_hist_exemplars groups)
+      (recursion_from_All (λ (exemplar : Exemplar). IsRow (drop 2 exemplar_columns) (exemplar_cells exemplar)) (all_hist_exemplars groups)
       (All-weaker IsFitExemplar (λ (exemplar : Exemplar). IsRow (drop 2 exemplar_columns) (exemplar_cells exemplar)) (λ exemplar fit. fit.own) (all_hist_exemplars groups) fit_exemplars))
 
   below_written : AllByRecursion IsProfileTable (tables_below_all groups)
@@ -245,4 +244,4 @@ module _ (groups : List (ResourceGroup Metric)) (real : IsReal (Metrics groups))
   unfolding whole_tables
   whole_written =
       All-cons IsProfileTable (main_table table.Metrics metric_cells groups) (filled (tables_below_all groups)) (main_is_written groups real is light)
-      (filled_all IsProfileTable (tables_below_all groups) (every_all IsProfileTable (tables_below_all groups) below_written))
+      (filled_all IsProfileTable (tables_below_all groups) (All-from_recursion IsProfileTable (tables_below_all groups) below_written))

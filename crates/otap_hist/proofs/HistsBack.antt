@@ -2,6 +2,7 @@
 use Rattle.std.proofs.Common.{◌≡◌, ℕ, ◌^◌, ◌<◌, List, [], ◌∷◌, Option, None, Some, map, refl, ap, ◌∙◌}
 use Rattle.std.specs.Prelude.{All}
 use Rattle.std.proofs.lemmas.List.Elements.{All-nil, All-map, All-weaker}
+use Rattle.lists.proofs.Every.{all_of_both}
 use Rattle.otlp_model.specs.Profile.{IsProfileExemplar, IsProfileHistPoint, IsProfileMetric, IsProfileShape, IsProfileSumPoint}
 use Rattle.otlp_model.specs.Real.{IsRealExemplar, IsRealHistPoint, IsRealMetric, IsRealQuantile, IsRealShape, IsRealSumPoint}
 use Rattle.otlp_model.specs.declared.histograms.HistPoint.{HistPoint}
@@ -11,7 +12,6 @@ use Rattle.otlp_model.specs.declared.metrics.Metric.{Metric}
 use Rattle.otlp_model.specs.declared.metrics.Shape.{Shape}
 use Rattle.otlp_model.specs.declared.metrics.Shape.TheVariants as shapes
 use Rattle.otap_cells.proofs.ScalarLaws.{number_back, bits_back}
-use Rattle.otap_groups.proofs.RealGroups.{real_items}
 use Rattle.otap_checks.proofs.PairsAgain.{AreBack, pairs_back}
 use Rattle.otap_metrics.specs.Metrics.{hist_points_of, summary_points_of}
 use Rattle.otap_metrics.proofs.MetricsBack.{IsBackExemplar, exemplar_again}
@@ -48,7 +48,7 @@ hist_again : (point : HistPoint) → IsRealHistPoint point → IsProfileHistPoin
 hist_again point real is = record {
   again = hist_back point real;
   pairs = pairs_back point.pairs real.pairs is.pairs.at;
-  exemplars = real_items IsRealExemplar IsProfileExemplar IsBackExemplar exemplar_again point.exemplars real.exemplars.at is.exemplars.at;
+  exemplars = all_of_both IsRealExemplar IsProfileExemplar IsBackExemplar exemplar_again point.exemplars real.exemplars.at is.exemplars.at;
 }
 
 -- ---- points of summaries
@@ -100,7 +100,7 @@ hists_again : (shape : Shape) → IsRealShape shape → IsProfileShape shape →
 hists_again shapes.Empty real is = All-nil IsBackHistPoint
 hists_again (shapes.Gauge points) real is = All-nil IsBackHistPoint
 hists_again (shapes.Sum points temporality monotonic) real is = All-nil IsBackHistPoint
-hists_again (shapes.Histogram points temporality) real is = real_items IsRealHistPoint IsProfileHistPoint IsBackHistPoint hist_again points real.0.at is.at
+hists_again (shapes.Histogram points temporality) real is = all_of_both IsRealHistPoint IsProfileHistPoint IsBackHistPoint hist_again points real.0.at is.at
 hists_again (shapes.Summary points) real is = All-nil IsBackHistPoint
 
 summaries_again : (shape : Shape) → IsRealShape shape → IsProfileShape shape → All IsBackSumPoint (summary_points_of shape)
@@ -108,7 +108,7 @@ summaries_again shapes.Empty real is = All-nil IsBackSumPoint
 summaries_again (shapes.Gauge points) real is = All-nil IsBackSumPoint
 summaries_again (shapes.Sum points temporality monotonic) real is = All-nil IsBackSumPoint
 summaries_again (shapes.Histogram points temporality) real is = All-nil IsBackSumPoint
-summaries_again (shapes.Summary points) real is = real_items IsRealSumPoint IsProfileSumPoint IsBackSumPoint summary_again points real.at is.at
+summaries_again (shapes.Summary points) real is = all_of_both IsRealSumPoint IsProfileSumPoint IsBackSumPoint summary_again points real.at is.at
 
 pub points_again : (metric : Metric) → IsRealMetric metric → IsProfileMetric metric → AreBackPoints metric
 points_again metric real is = record {

@@ -1,30 +1,16 @@
 -- Points that are found by an index are those that the tables have.
-use Rattle.std.proofs.Common.{◌≡◌, ◌∙◌, ℕ, List, [], Option, map, drop, refl}
+use Rattle.std.proofs.Common.{◌≡◌, ◌∙◌, ℕ, List, Option}
 use Rattle.otlp_model.specs.declared.metrics.Exemplar.{Exemplar}
 use Rattle.otlp_model.specs.declared.value.Pair.{Pair}
 use Rattle.otap_cells.specs.declared.payload.Kind.TheVariants as table
-use Rattle.otap_cells.specs.Cells.{Cell}
-use Rattle.otap_cells.specs.GivenIds.{HasIds}
 use Rattle.otap_cells.specs.Named.{table_named}
 use Rattle.otap_cells.specs.Tables.{Table}
 use Rattle.otap_groups.specs.Children.{children}
-use Rattle.otap_groups.specs.Rows.{child_rows}
 use Rattle.otap_attrs.specs.Index.{pairs_in}
 use Rattle.otap_checks.specs.Reading.{part_rows_in}
-use Rattle.otap_attrs.proofs.TablePairs.{ids_are}
 use Rattle.otap_metrics.specs.Points.{exemplar_of}
 use Rattle.otap_hist.specs.Points.{hist_point_of, sum_point_of}
 use Rattle.otap_hist.specs.Requests.{hist_points_in, summary_points_in}
-
-pub parts_are : {C : Type 0} (item : Option ℕ → List Cell → C) (t : Table) (ids parents : List (Option ℕ)) → HasIds t 0 ids → HasIds t 1 parents → (parent : Option ℕ)
-    → children item (child_rows ids parents (map (drop 2) t.rows)) parent ≡ children item (part_rows_in t) parent
-parts_are item t ids parents own above parent = λ i. children item (child_rows (ids_are t 0 ids own i) (ids_are t 1 parents above i) (map (drop 2) t.rows)) parent
-
--- no rows have no parts
-pub no_parts : {C : Type 0} (item : Option ℕ → List Cell → C) (ids parents others more : List (Option ℕ)) (parent : Option ℕ)
-    → children item (child_rows ids parents []) parent ≡ children item (child_rows others more []) parent
-unfolding child_rows
-no_parts item ids parents others more parent = refl
 
 -- where pairs and exemplars are found as the tables have them, so are points
 pub hists_are : (tables : List Table) (pairs of_exemplars : Option ℕ → List Pair) (exemplars : Option ℕ → List Exemplar)

@@ -1,28 +1,27 @@
 -- The points of histograms and summaries, and what is below them, weigh no more than a request; so there are few, and each can be
 -- written.
-use Rattle.std.proofs.Common.{◌≡◌, ℕ, ◌*◌, ◌≤◌, List, [], ◌∷◌, length, sym, subst, arith}
+use Rattle.std.proofs.Common.{◌≡◌, ◌*◌, ◌≤◌, List, length, sym, subst, arith}
 use Rattle.std.specs.Prelude.{All}
-use Rattle.std.proofs.lemmas.List.Elements.{All-nil, All-cons, All-head, All-tail}
+use Rattle.std.proofs.lemmas.List.Elements.{All-nil}
 use Rattle.otlp_model.specs.Limits.{weight_limit}
 use Rattle.otlp_model.specs.Profile.{IsProfile, IsProfileExemplar, IsProfileHistPoint, IsProfileMetric, IsProfileShape, IsProfileSumPoint}
 use Rattle.otlp_model.specs.Weight.{total, weight_of, weight_of_exemplar, weight_of_hist_point, weight_of_metric, weight_of_resource_group, weight_of_shape, weight_of_sum_point}
 use Rattle.otlp_model.specs.declared.groups.ResourceGroup.{ResourceGroup}
 use Rattle.otlp_model.specs.declared.histograms.HistPoint.{HistPoint}
 use Rattle.otlp_model.specs.declared.histograms.SumPoint.{SumPoint}
-use Rattle.otlp_model.specs.declared.metrics.Exemplar.{Exemplar}
 use Rattle.otlp_model.specs.declared.metrics.Metric.{Metric}
 use Rattle.otlp_model.specs.declared.metrics.Shape.{Shape}
 use Rattle.otlp_model.specs.declared.metrics.Shape.TheVariants as shapes
 use Rattle.otlp_model.specs.declared.request.Request.TheVariants.{Metrics}
+use Rattle.otlp_model.proofs.Totals.{few_parts, parts_can}
 use Rattle.otap_groups.specs.Flat.{items_of}
 use Rattle.otap_groups.specs.Weighing.{CanWriteGroup}
-use Rattle.otap_groups.proofs.WritableGroups.{groups_can}
+use Rattle.otap_groups.proofs.WritableGroups.{groups_can, IsLightResource, IsLightScope}
 use Rattle.otap_metrics.specs.Metrics.{hist_points_of, summary_points_of}
 use Rattle.otap_metrics.specs.Writable.{CanWriteExemplar}
-use Rattle.otap_metrics.proofs.LightParts.{few_parts, items_light, parts_light}
-use Rattle.otap_metrics.proofs.WrittenWeight.{IsLightResource, IsLightScope}
+use Rattle.otap_metrics.proofs.LightParts.{items_light, parts_light, exemplar_can}
 use Rattle.otap_hist.specs.Tables.{all_hist_exemplars, all_hist_points, all_summary_points}
-use Rattle.otap_hist.specs.Writable.{CanWriteHistPoint, CanWriteMetric, CanWriteSumPoint}
+use Rattle.otap_hist.specs.Writable.{CanWriteHistPoint, CanWriteHistMetric, CanWriteSumPoint}
 
 -- ---- how many there are
 
@@ -75,15 +74,6 @@ module _ (groups : List (ResourceGroup Metric)) where
 
 -- ---- what can be written
 
-parts_can : {A : Type 0} (IsPart OfPart : A → Type 0) (weigh : A → ℕ) (n : ℕ) → ((part : A) → IsPart part → weigh part ≤ n → OfPart part)
-    → (parts : List A) → All IsPart parts → total 32 weigh parts ≤ n → All OfPart parts
-parts_can IsPart OfPart weigh n can [] all few = All-nil OfPart
-parts_can IsPart OfPart weigh n can (part ∷ parts) all few =
-    All-cons OfPart part parts (can part (All-head IsPart part parts all) (omega arith)) (parts_can IsPart OfPart weigh n can parts (All-tail IsPart part parts all) (omega arith))
-
-exemplar_can : (exemplar : Exemplar) → IsProfileExemplar exemplar → weight_of_exemplar exemplar ≤ weight_limit → CanWriteExemplar exemplar
-exemplar_can exemplar is few = record { trace_id = is.trace_id; span_id = is.span_id; pairs = omega arith }
-
 hist_point_can : (point : HistPoint) → IsProfileHistPoint point → weight_of_hist_point point ≤ weight_limit → CanWriteHistPoint point
 hist_point_can point is few = record {
   pairs = omega arith;
@@ -107,14 +97,14 @@ summary_shape_can (shapes.Sum points temporality monotonic) is few = All-nil Can
 summary_shape_can (shapes.Histogram points temporality) is few = All-nil CanWriteSumPoint
 summary_shape_can (shapes.Summary points) is few = parts_can IsProfileSumPoint CanWriteSumPoint weight_of_sum_point weight_limit summary_point_can points is.at few
 
-metric_can : (metric : Metric) → IsProfileMetric metric → weight_of_metric metric ≤ weight_limit → CanWriteMetric metric
+metric_can : (metric : Metric) → IsProfileMetric metric → weight_of_metric metric ≤ weight_limit → CanWriteHistMetric metric
 metric_can metric is few = record {
   hist_points = hist_shape_can metric.shape is.shape (omega arith);
   summary_points = summary_shape_can metric.shape is.shape (omega arith);
 }
 
 abbrev pub CanWrite : ResourceGroup Metric → Type 0
-CanWrite = CanWriteGroup IsLightResource IsLightScope CanWriteMetric
+CanWrite = CanWriteGroup IsLightResource IsLightScope CanWriteHistMetric
 
 pub all_can : (groups gs : List (ResourceGroup Metric)) → gs ≡ groups → IsProfile (Metrics groups) → weight_of (Metrics groups) ≤ weight_limit → All CanWrite gs
-all_can groups gs same is few = subst (All CanWrite) (sym same) (groups_can IsProfileMetric weight_of_metric weight_limit CanWriteMetric metric_can groups is.at few)
+all_can groups gs same is few = subst (All CanWrite) (sym same) (groups_can IsProfileMetric weight_of_metric weight_limit CanWriteHistMetric metric_can groups is.at few)

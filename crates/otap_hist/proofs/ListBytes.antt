@@ -1,12 +1,12 @@
 -- Lists of numbers as bytes and back: how many bytes they take, that they come back, and what the loops that read them keep.
-use Rattle.std.proofs.Common.{◌≡◌, ℕ, zero, suc, ◌+◌, ◌*◌, ◌-◌, ◌/◌, ◌%◌, ◌^◌, ◌<◌, min, List, [], ◌∷◌, ◌++◌, length, take, drop, append_assoc, append-nil, inl, inr, refl, sym, ap, ◌∙◌, arith}
+use Rattle.std.proofs.Common.{◌≡◌, ℕ, zero, suc, ◌+◌, ◌*◌, ◌-◌, ◌/◌, ◌%◌, ◌^◌, ◌<◌, min, List, [], ◌∷◌, ◌++◌, length, drop, append_assoc, append-nil, inl, inr, refl, sym, ap, ◌∙◌, arith}
 use Rattle.std.specs.Prelude.{All, nat_lt}
 use Rattle.std.proofs.lemmas.Bool.{cases_Bool, ltb-false, ltb-true}
-use Rattle.std.proofs.lemmas.List.{drop-drop, length-append, length-drop}
+use Rattle.std.proofs.lemmas.List.{drop-drop, length-append}
 use Rattle.std.proofs.lemmas.List.Elements.{All-head, All-tail}
-use Rattle.std.proofs.Math.Seq.{take-length}
 use Rattle.byteorder.specs.Endian.{little_bytes, little_number}
 use Rattle.byteorder.specs.Numbers.{length-bytes_low_first, little_number-reads_back}
+use Rattle.lists.proofs.Numbers.{eights_divided, eights_whole}
 use Rattle.otlp_model.specs.declared.histograms.Quantile.{Quantile}
 use Rattle.otap_cells.proofs.ScalarLaws.{text_back}
 use Rattle.otap_hist.specs.Lists.{bytes_of, list_cell, list_in, numbers_in}
@@ -18,14 +18,8 @@ pub length_bytes : (ns : List ℕ) → length (bytes_of ns) ≡ 8 * length ns
 length_bytes [] = refl
 length_bytes (n ∷ ns) = omega (arith, length-append (little_bytes 8 n) (bytes_of ns), length-bytes_low_first 0 8 n, length_bytes ns)
 
-eighth : (n : ℕ) → 8 * n / 8 ≡ n
-eighth n = omega arith
-
-whole : (n : ℕ) → 8 * n % 8 ≡ 0
-whole n = omega arith
-
 pub whole_bytes : (bytes : List ℕ) (ns : List ℕ) → bytes ≡ bytes_of ns → length bytes % 8 ≡ 0
-whole_bytes bytes ns are = ap (λ (bytes : List ℕ). length bytes % 8) are ∙ ap (λ n. n % 8) (length_bytes ns) ∙ whole (length ns)
+whole_bytes bytes ns are = ap (λ (bytes : List ℕ). length bytes % 8) are ∙ ap (λ n. n % 8) (length_bytes ns) ∙ eights_whole (length ns)
 
 -- ---- that they come back
 
@@ -38,17 +32,13 @@ numbers_back (n ∷ ns) small =
 pub list_back : (ns : List ℕ) → All (λ n. n < 2 ^ 64) ns → list_in (list_cell ns) ≡ ns
 list_back ns small =
     ap (λ (part : List ℕ). numbers_in (length part / 8) part) (text_back (bytes_of ns))
-    ∙ ap (λ count. numbers_in count (bytes_of ns)) (ap (λ size. size / 8) (length_bytes ns) ∙ eighth (length ns)) ∙ numbers_back ns small
+    ∙ ap (λ count. numbers_in count (bytes_of ns)) (ap (λ size. size / 8) (length_bytes ns) ∙ eights_divided (length ns)) ∙ numbers_back ns small
 
 pub count_of : (count : ℕ) (bytes : List ℕ) → length (numbers_in count bytes) ≡ count
 count_of zero bytes = refl
 count_of (suc count) bytes = ap suc (count_of count (drop 8 bytes))
 
 -- ---- reading them one by one
-
--- a slice up to the end
-pub to_end : (n : ℕ) (xs : List ℕ) → take (length xs - n) (drop n xs) ≡ drop n xs
-to_end n xs = ap (λ k. take k (drop n xs)) (sym (length-drop n xs)) ∙ take-length (drop n xs)
 
 -- the numbers from a place on
 abbrev pub from : List ℕ → ℕ → ℕ → List ℕ

@@ -1,7 +1,7 @@
 -- The tables of the points of histograms and summaries, put among the other tables of a request: all stand by their payload types.
 use Rattle.std.proofs.Common.{◌≡◌, ℕ, Bool, true, false, List, [], ◌∷◌, ◌++◌, length, map, inl, inr, refl, sym, ap, ◌∙◌}
 use Rattle.std.specs.Prelude.{All, ◌&&◌, not, nat_lt}
-use Rattle.std.proofs.lemmas.Bool.{and_parts, cases_Bool}
+use Rattle.std.proofs.lemmas.Bool.{and_parts, cases_Bool, not-true}
 use Rattle.std.proofs.lemmas.List.{map-append}
 use Rattle.std.proofs.lemmas.List.Elements.{All-head, All-tail}
 use Rattle.otlp_model.specs.declared.groups.ResourceGroup.{ResourceGroup}
@@ -13,16 +13,12 @@ use Rattle.otap_cells.specs.Sets.{IsSet, tables_in}
 use Rattle.otap_cells.specs.Tables.{Table}
 use Rattle.otap_groups.specs.Stored.{main_table, part_table}
 use Rattle.otap_attrs.specs.Tables.{attribute_table, beside_kind, where_rows}
-use Rattle.otap_attrs.proofs.FilledTables.{apart, filled, filled_set, filled_tables, numbers}
+use Rattle.otap_attrs.proofs.FilledTables.{apart, filled, filled_set, filled_tables, numbers, IsBeside}
 use Rattle.otap_metrics.specs.Metrics.{metric_cells}
 use Rattle.otap_metrics.specs.Points.{exemplar_cells, point_cells}
 use Rattle.otap_metrics.specs.Tables.{exemplar_lists, exemplar_pairs, hist_lists, point_lists, point_pairs, resource_pairs, scope_pairs, summary_lists, tables_below, tables_of_metrics}
 use Rattle.otap_hist.specs.Points.{hist_point_cells, sum_point_cells}
 use Rattle.otap_hist.specs.Tables.{hist_exemplar_lists, hist_exemplar_pairs, hist_pairs, hist_tables, put_all, put_in, summary_pairs, tables_below_all, whole_tables}
-
-off : (b : Bool) → not b ≡ true → b ≡ false
-off true is = sym is
-off false is = refl
 
 -- ---- numbers before and after one
 
@@ -53,7 +49,7 @@ put_some t [] bs filled low greater = rw filled (put_front t bs greater)
 put_some t (a ∷ fs) bs filled low greater =
     let both = and_parts (not (nat_lt (number_of t.kind) (number_of a.kind))) (no_greater (number_of t.kind) fs) low in
     let more = put_some t fs bs filled both.1 greater in elim (cases_Bool (nat_lt 0 (length a.rows))) [
-      | inl some ↦ rw some (rw (off _ both.0) (ap (λ xs. beside_kind a ∷ xs) more))
+      | inl some ↦ rw some (rw (not-true _ both.0) (ap (λ xs. beside_kind a ∷ xs) more))
       | inr none ↦ rw none more
     ]
 
@@ -149,12 +145,9 @@ module _ (groups : List (ResourceGroup Metric)) where
 
 -- ---- a set, by its tables
 
-abbrev In : Kind × Table → Type 0
-In pair = pair.1.kind ≡ pair.0
-
-pairs_are : (pairs : List (Kind × Table)) → All In pairs → pairs ≡ pairs_of (tables_in (λ t. t) pairs)
+pairs_are : (pairs : List (Kind × Table)) → All IsBeside pairs → pairs ≡ pairs_of (tables_in (λ t. t) pairs)
 pairs_are [] all = refl
-pairs_are (pair ∷ pairs) all = λ i. (sym (All-head In pair pairs all) i, pair.1) ∷ pairs_are pairs (All-tail In pair pairs all) i
+pairs_are (pair ∷ pairs) all = λ i. (sym (All-head IsBeside pair pairs all) i, pair.1) ∷ pairs_are pairs (All-tail IsBeside pair pairs all) i
 
 module _ (groups : List (ResourceGroup Metric)) (pairs : List (Kind × Table)) (set : IsSet (λ t. t) pairs) (are : tables_in (λ t. t) pairs ≡ tables_of_metrics groups) where
   abbrev all : List (Kind × Table)

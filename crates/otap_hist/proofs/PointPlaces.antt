@@ -1,22 +1,21 @@
 -- The own cells of points stand in their rows after those of the front.
-use Rattle.std.proofs.Common.{◌≡◌, ℕ, ◌+◌, ◌*◌, ◌/◌, ◌^◌, ◌<◌, List, [], ◌∷◌, map, drop, length, get_or, ◌∙◌, sym, ap, arith}
+use Rattle.std.proofs.Common.{◌≡◌, ℕ, ◌+◌, ◌*◌, ◌/◌, ◌^◌, ◌<◌, List, [], ◌∷◌, map, drop, length, ◌∙◌, sym, ap, arith}
 use Rattle.std.specs.Prelude.{min, sum}
-use Rattle.std.proofs.lemmas.List.{get_or-map, get_or-drop, length-map}
+use Rattle.std.proofs.lemmas.List.{length-map}
+use Rattle.lists.proofs.Numbers.{capped_both}
 use Rattle.otlp_model.specs.Weight.{total, weight_of_exemplar, weight_of_hist_point, weight_of_pair, weight_of_quantile, weight_of_sum_point}
 use Rattle.otlp_model.specs.declared.histograms.HistPoint.{HistPoint}
 use Rattle.otlp_model.specs.declared.histograms.SumPoint.{SumPoint}
 use Rattle.otlp_model.specs.declared.metrics.Exemplar.{Exemplar}
 use Rattle.otlp_model.specs.declared.value.Pair.{Pair}
-use Rattle.otap_cells.specs.Cells.{Cell, null, bytes_in, nat_in, cell_at}
+use Rattle.otap_cells.specs.Cells.{Cell, bytes_in, nat_in, cell_at}
 use Rattle.otap_cells.specs.Scalars.{bits_in}
 use Rattle.otap_cells.specs.Tables.{cell_in}
-use Rattle.otap_metrics.proofs.MetricPlaces.{below_weighs, own_cells}
-use Rattle.otap_hist.specs.Lists.{count_in, list_in, numbers_in}
+use Rattle.otlp_model.proofs.Totals.{below_weighs}
+use Rattle.otap_hist.specs.Lists.{element_count, list_in, numbers_in}
 use Rattle.otap_hist.specs.Points.{hist_point_of, optional_in, quantiles_of, sum_point_of}
 use Rattle.otap_hist.proofs.ListBytes.{count_of}
-
-own_cell : (rows : List (List Cell)) (row k : ℕ) → row < length rows → cell_at (own_cells 2 rows row) k ≡ cell_in rows (2 + k) row
-own_cell rows row k within = rw (get_or-map (drop 2) rows row [] [] within) (get_or-drop 2 (get_or rows row []) k null)
+use Rattle.otap_cells.proofs.OwnCells.{own_cells, own_cell}
 
 -- ---- reading
 
@@ -28,15 +27,15 @@ pub hist_read : (point : HistPoint) (rows : List (List Cell)) (row : ℕ) (pairs
 unfolding hist_point_of
 hist_read point rows row pairs exemplars inside is_start is_time is_count is_sum is_buckets is_bounds is_min is_max is_flags are_pairs are_exemplars =
     let within : row < length rows = simp length-map at inside in λ i. record {
-      start = (is_start ∙ ap bits_in (sym (own_cell rows row 0 within))) i;
-      time = (is_time ∙ ap bits_in (sym (own_cell rows row 1 within))) i;
-      count = (is_count ∙ ap bits_in (sym (own_cell rows row 2 within))) i;
-      buckets = (is_buckets ∙ ap list_in (sym (own_cell rows row 3 within))) i;
-      bounds = (is_bounds ∙ ap list_in (sym (own_cell rows row 4 within))) i;
-      sum = (is_sum ∙ ap optional_in (sym (own_cell rows row 5 within))) i;
-      flags = (is_flags ∙ ap nat_in (sym (own_cell rows row 6 within))) i;
-      min = (is_min ∙ ap optional_in (sym (own_cell rows row 7 within))) i;
-      max = (is_max ∙ ap optional_in (sym (own_cell rows row 8 within))) i;
+      start = (is_start ∙ ap bits_in (sym (own_cell 2 rows row 0 within))) i;
+      time = (is_time ∙ ap bits_in (sym (own_cell 2 rows row 1 within))) i;
+      count = (is_count ∙ ap bits_in (sym (own_cell 2 rows row 2 within))) i;
+      buckets = (is_buckets ∙ ap list_in (sym (own_cell 2 rows row 3 within))) i;
+      bounds = (is_bounds ∙ ap list_in (sym (own_cell 2 rows row 4 within))) i;
+      sum = (is_sum ∙ ap optional_in (sym (own_cell 2 rows row 5 within))) i;
+      flags = (is_flags ∙ ap nat_in (sym (own_cell 2 rows row 6 within))) i;
+      min = (is_min ∙ ap optional_in (sym (own_cell 2 rows row 7 within))) i;
+      max = (is_max ∙ ap optional_in (sym (own_cell 2 rows row 8 within))) i;
       pairs = are_pairs i;
       exemplars = are_exemplars i;
     }
@@ -49,14 +48,14 @@ pub summary_read : (point : SumPoint) (rows : List (List Cell)) (row : ℕ) (pai
 unfolding sum_point_of
 summary_read point rows row pairs asked values inside is_asked are_values is_start is_time is_count is_sum are_quantiles is_flags are_pairs =
     let within : row < length rows = simp length-map at inside in λ i. record {
-      start = (is_start ∙ ap bits_in (sym (own_cell rows row 0 within))) i;
-      time = (is_time ∙ ap bits_in (sym (own_cell rows row 1 within))) i;
-      count = (is_count ∙ ap bits_in (sym (own_cell rows row 2 within))) i;
-      sum = (is_sum ∙ ap bits_in (sym (own_cell rows row 3 within))) i;
+      start = (is_start ∙ ap bits_in (sym (own_cell 2 rows row 0 within))) i;
+      time = (is_time ∙ ap bits_in (sym (own_cell 2 rows row 1 within))) i;
+      count = (is_count ∙ ap bits_in (sym (own_cell 2 rows row 2 within))) i;
+      sum = (is_sum ∙ ap bits_in (sym (own_cell 2 rows row 3 within))) i;
       quantiles = (are_quantiles
           ∙ (λ j. quantiles_of (numbers_in (length (is_asked j) / 8) (is_asked j)) (numbers_in (length (are_values j) / 8) (are_values j)))
-          ∙ (λ j. quantiles_of (list_in (sym (own_cell rows row 4 within) j)) (list_in (sym (own_cell rows row 5 within) j)))) i;
-      flags = (is_flags ∙ ap nat_in (sym (own_cell rows row 6 within))) i;
+          ∙ (λ j. quantiles_of (list_in (sym (own_cell 2 rows row 4 within) j)) (list_in (sym (own_cell 2 rows row 5 within) j)))) i;
+      flags = (is_flags ∙ ap nat_in (sym (own_cell 2 rows row 6 within))) i;
       pairs = are_pairs i;
     }
 
@@ -66,8 +65,8 @@ summary_read point rows row pairs asked values inside is_asked are_values is_sta
 count_own : (rows : List (List Cell)) (row k : ℕ) (part : List ℕ) → row < length rows → part ≡ bytes_in (cell_in rows (2 + k) row)
     → length part / 8 ≡ length (list_in (cell_at (own_cells 2 rows row) k))
 count_own rows row k part within is =
-    ap (λ (part : List ℕ). length part / 8) (is ∙ ap bytes_in (sym (own_cell rows row k within)))
-    ∙ sym (count_of (count_in (cell_at (own_cells 2 rows row) k)) (bytes_in (cell_at (own_cells 2 rows row) k)))
+    ap (λ (part : List ℕ). length part / 8) (is ∙ ap bytes_in (sym (own_cell 2 rows row k within)))
+    ∙ sym (count_of (element_count (cell_at (own_cells 2 rows row) k)) (bytes_in (cell_at (own_cells 2 rows row) k)))
 
 hist_sum : (a b wa wb p e n x y : ℕ) → wa ≡ min (8 * a) (2 ^ 63) → wb ≡ min (8 * b) (2 ^ 63) → p ≡ min x (2 ^ 63) → e ≡ min y (2 ^ 63)
     → n ≡ min (sum (wa ∷ wb ∷ p ∷ e ∷ [])) (2 ^ 63) → n ≡ min (8 * a + 8 * b + x + y) (2 ^ 63)
@@ -95,9 +94,6 @@ quantiles_long [] ys = omega arith
 quantiles_long (x ∷ xs) [] = omega arith
 quantiles_long (x ∷ xs) (y ∷ ys) = let more = quantiles_long xs ys in omega (arith, more)
 
-summary_sum : (q p n m x : ℕ) → q ≡ min m (2 ^ 63) → p ≡ min x (2 ^ 63) → n ≡ min (sum (q ∷ p ∷ [])) (2 ^ 63) → n ≡ min (m + x) (2 ^ 63)
-summary_sum q p n m x of_q of_p of_n = omega arith
-
 pub summary_weighs : (rows : List (List Cell)) (row : ℕ) (pairs : List Pair) (asked values : List ℕ) (a b of_quantiles of_pairs total_weight : ℕ) (weigh : Pair → ℕ)
     → row < length (map (drop 2) rows)
     → asked ≡ bytes_in (cell_in rows 6 row) → a ≡ length asked → values ≡ bytes_in (cell_in rows 7 row) → b ≡ length values
@@ -108,6 +104,6 @@ pub summary_weighs : (rows : List (List Cell)) (row : ℕ) (pairs : List Pair) (
 unfolding sum_point_of
 summary_weighs rows row pairs asked values a b of_quantiles of_pairs total_weight weigh inside is_asked is_a are_values is_b is_quantiles same is_pairs is_total =
     let within : row < length rows = simp length-map at inside in
-    summary_sum of_quantiles of_pairs total_weight (16 * min (a / 8) (b / 8)) (total 32 weight_of_pair pairs) is_quantiles (below_weighs of_pairs weigh weight_of_pair pairs same is_pairs) is_total
+    capped_both of_quantiles of_pairs total_weight (16 * min (a / 8) (b / 8)) (total 32 weight_of_pair pairs) is_quantiles (below_weighs of_pairs weigh weight_of_pair pairs same is_pairs) is_total
     ∙ (λ i. min ((ap (λ n. 16 * n) (λ j. min ((ap (λ n. n / 8) is_a ∙ count_own rows row 4 asked within is_asked) j) ((ap (λ n. n / 8) is_b ∙ count_own rows row 5 values within are_values) j))
     ∙ sym (quantiles_long (list_in (cell_at (own_cells 2 rows row) 4)) (list_in (cell_at (own_cells 2 rows row) 5)))) i + total 32 weight_of_pair pairs) (2 ^ 63))

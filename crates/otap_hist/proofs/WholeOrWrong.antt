@@ -15,17 +15,17 @@ use Rattle.otap_checks.proofs.CleanOrWrong.{AreDecided, attributes_clean_or_wron
 use Rattle.otap_checks.proofs.TableIds.{clean_given}
 use Rattle.otap_metrics.specs.Requests.{HasTwoValues, WrongMetrics, WrongParent, has_hist_points, has_summary_points}
 use Rattle.otap_metrics.proofs.AlikeOrWrong.{Decided, is_false, parent_or_not, some_below, two_or_not}
-use Rattle.otap_metrics.proofs.AlikeReading.{id_named}
 use Rattle.otap_metrics.proofs.MetricColumns.{metrics_are_main}
-use Rattle.otap_hist.specs.Lists.{count_in}
+use Rattle.otap_hist.specs.Lists.{element_count}
 use Rattle.otap_hist.specs.Requests.{HasUnevenLists, WrongWhole}
 use Rattle.otap_hist.proofs.CleanHists.{clean_whole, wrong_ids}
 use Rattle.otap_hist.proofs.HistColumns.{hists_are_parts, summaries_are_parts}
+use Rattle.otap_cells.proofs.KindNamed.{id_named}
 
 uneven_or_not : (t : Table) → Decided (HasUnevenLists t)
 uneven_or_not t =
-    elim (some_below (λ row. (count_in (cell_in t.rows 6 row) == count_in (cell_in t.rows 7 row)) ≡ false)
-    (λ row. is_false (count_in (cell_in t.rows 6 row) == count_in (cell_in t.rows 7 row))) (length t.rows)) [
+    elim (some_below (λ row. (element_count (cell_in t.rows 6 row) == element_count (cell_in t.rows 7 row)) ≡ false)
+    (λ row. is_false (element_count (cell_in t.rows 6 row) == element_count (cell_in t.rows 7 row))) (length t.rows)) [
       | inl some ↦ inl (record { row = some.0; there = some.1; other = some.2 })
       | inr none ↦ inr (λ (w : HasUnevenLists t). none w.row w.there w.other)
     ]

@@ -35,11 +35,11 @@ summary_point_weight point = 32 + cells_weight (sum_point_cells point) + parts_w
 abbrev pub shape_weight : Shape → ℕ
 shape_weight shape = sum_by hist_point_weight (hist_points_of shape) + sum_by summary_point_weight (summary_points_of shape)
 
-abbrev pub metric_weight : Metric → ℕ
-metric_weight metric = shape_weight metric.shape
+abbrev pub hist_metric_weight : Metric → ℕ
+hist_metric_weight metric = shape_weight metric.shape
 
 abbrev pub scope_weight : ScopeGroup Metric → ℕ
-scope_weight group = sum_by metric_weight group.items
+scope_weight group = sum_by hist_metric_weight group.items
 
 abbrev pub group_weight : ResourceGroup Metric → ℕ
 group_weight group = sum_by scope_weight group.scopes

@@ -18,9 +18,9 @@ numbers_in zero bytes = []
 numbers_in (suc count) bytes = little_number 8 bytes ∷ numbers_in count (drop 8 bytes)
 
 -- how many elements a cell has
-abbrev pub count_in : Cell → ℕ
-count_in cell = length (bytes_in cell) / 8
+abbrev pub element_count : Cell → ℕ
+element_count cell = length (bytes_in cell) / 8
 
 -- THE LIST that a cell reads as
 abbrev pub list_in : Cell → List ℕ
-list_in cell = numbers_in (count_in cell) (bytes_in cell)
+list_in cell = numbers_in (element_count cell) (bytes_in cell)

@@ -18,8 +18,8 @@ use Rattle.otap_checks.specs.IdDefects.{IdDefect}
 use Rattle.otap_attrs.specs.Defects.{WrongValue}
 use Rattle.otap_attrs.specs.Index.{pairs_in}
 use Rattle.otap_checks.specs.Reading.{part_rows_in}
-use Rattle.otap_metrics.specs.Requests.{HasTwoValues, WrongMetrics, WrongParent, exemplars_in, has_hist_points, has_summary_points, is_other, regrouped_metrics}
-use Rattle.otap_hist.specs.Lists.{count_in}
+use Rattle.otap_metrics.specs.Requests.{HasTwoValues, WrongMetrics, WrongParent, exemplars_in, has_hist_points, has_summary_points, is_hist_kind, regrouped_metrics}
+use Rattle.otap_hist.specs.Lists.{element_count}
 use Rattle.otap_hist.specs.Points.{hist_point_of, sum_point_of}
 
 -- ---- what is found below
@@ -52,7 +52,7 @@ regrouped_whole tables = regrouped_metrics (hist_points_in tables) (summary_poin
 pub record HasUnevenLists (t : Table) : Type 0 where
   pub row : ℕ
   pub there : row < length t.rows
-  pub other : (count_in (cell_in t.rows 6 row) == count_in (cell_in t.rows 7 row)) ≡ false
+  pub other : (element_count (cell_in t.rows 6 row) == element_count (cell_in t.rows 7 row)) ≡ false
 
 -- what is wrong with a table beside its ids
 abbrev pub WrongHistCells : List Table → Kind → RowRefusal → Type 0
@@ -67,7 +67,7 @@ WrongHistCells tables kind wrong = ⊥
 
 -- what is wrong with the ids of these tables
 abbrev pub WrongHistIds : List Table → Kind → RowRefusal → Type 0
-WrongHistIds tables kind wrong = (is_other kind ≡ true) × IdDefect signal.Metrics tables kind wrong
+WrongHistIds tables kind wrong = (is_hist_kind kind ≡ true) × IdDefect signal.Metrics tables kind wrong
 
 -- WHAT IS WRONG WITH THE ROWS of a kind's table among those of points of histograms and summaries, and of what is below them
 abbrev pub WrongHists : List Table → Kind → RowRefusal → Type 0

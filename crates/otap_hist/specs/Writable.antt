@@ -18,13 +18,13 @@ pub record CanWriteHistPoint (point : HistPoint) : Type 0 where
 pub record CanWriteSumPoint (point : SumPoint) : Type 0 where
   pub pairs : total 32 weight_of_pair point.pairs ≤ weight_limit
 
-pub record CanWriteMetric (metric : Metric) : Type 0 where
+pub record CanWriteHistMetric (metric : Metric) : Type 0 where
   pub hist_points : All CanWriteHistPoint (hist_points_of metric.shape)
   pub summary_points : All CanWriteSumPoint (summary_points_of metric.shape)
 
 -- each metric of a group can be written
-pub record CanWriteScope (group : ScopeGroup Metric) : Type 0 where
-  pub items : All CanWriteMetric group.items
+pub record CanWriteHistScope (group : ScopeGroup Metric) : Type 0 where
+  pub items : All CanWriteHistMetric group.items
 
-pub record CanWriteGroup (group : ResourceGroup Metric) : Type 0 where
-  pub scopes : All CanWriteScope group.scopes
+pub record CanWriteHistGroup (group : ResourceGroup Metric) : Type 0 where
+  pub scopes : All CanWriteHistScope group.scopes

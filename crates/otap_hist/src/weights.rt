@@ -7,8 +7,8 @@ ghost use Rattle.otlp_model.specs.declared.request.Request.TheVariants.{Metrics}
 ghost use Rattle.otap_cells.specs.Weights.{weight_of_tables};
 ghost use Rattle.otap_metrics.specs.Inside.{exemplar_weight};
 ghost use Rattle.otap_metrics.specs.Writable.{CanWriteExemplar};
-ghost use Rattle.otap_hist.specs.Inside.{group_weight, hist_point_weight, metric_weight, scope_weight, summary_point_weight};
-ghost use Rattle.otap_hist.specs.Writable.{CanWriteGroup, CanWriteScope, CanWriteHistPoint, CanWriteMetric, CanWriteSumPoint};
+ghost use Rattle.otap_hist.specs.Inside.{group_weight, hist_point_weight, hist_metric_weight, scope_weight, summary_point_weight};
+ghost use Rattle.otap_hist.specs.Writable.{CanWriteHistGroup, CanWriteHistScope, CanWriteHistPoint, CanWriteHistMetric, CanWriteSumPoint};
 ghost use Rattle.otap_hist.specs.Tables.{hist_tables};
 
 use crate::points::{
@@ -30,7 +30,7 @@ pub fn points_weight(groups: &Items<ResourceGroup<Metric>>) -> u64
 }
 
 fn groups_weight(groups: &[ResourceGroup<Metric>]) -> u64
-    requires { All CanWriteGroup groups.now }
+    requires { All CanWriteHistGroup groups.now }
     ensures { result ≡ min (sum_by group_weight groups.now) count_cap }
 {
     let mut weight = 0;
@@ -41,7 +41,7 @@ fn groups_weight(groups: &[ResourceGroup<Metric>]) -> u64
 }
 
 fn scopes_weight(scopes: &[ScopeGroup<Metric>]) -> u64
-    requires { All CanWriteScope scopes.now }
+    requires { All CanWriteHistScope scopes.now }
     ensures { result ≡ min (sum_by scope_weight scopes.now) count_cap }
 {
     let mut weight = 0;
@@ -52,8 +52,8 @@ fn scopes_weight(scopes: &[ScopeGroup<Metric>]) -> u64
 }
 
 fn metrics_weight(metrics: &[Metric]) -> u64
-    requires { All CanWriteMetric metrics.now }
-    ensures { result ≡ min (sum_by metric_weight metrics.now) count_cap }
+    requires { All CanWriteHistMetric metrics.now }
+    ensures { result ≡ min (sum_by hist_metric_weight metrics.now) count_cap }
 {
     let mut weight = 0;
     'metrics: for metric in metrics {
@@ -63,8 +63,8 @@ fn metrics_weight(metrics: &[Metric]) -> u64
 }
 
 fn metric_weight(metric: &Metric) -> u64
-    requires { CanWriteMetric metric.now }
-    ensures { result ≡ min (metric_weight metric.now) count_cap }
+    requires { CanWriteHistMetric metric.now }
+    ensures { result ≡ min (hist_metric_weight metric.now) count_cap }
 {
     add_capped(
         hist_points_weight(hist_points_of(&metric.shape)),

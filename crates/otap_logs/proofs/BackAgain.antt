@@ -19,8 +19,8 @@ use Rattle.otlp_model.specs.declared.value.Pair.{Pair}
 use Rattle.otap_cells.specs.declared.payload.Kind.TheVariants as table
 use Rattle.otap_cells.specs.Cells.{Cell}
 use Rattle.otap_cells.specs.Tables.{Table}
-use Rattle.otap_groups.specs.Children.{Agree, Reads, numbered}
-use Rattle.otap_groups.specs.Flat.{flat, items_of, numbered_rows, resources_of, scopes_of}
+use Rattle.otap_groups.specs.Children.{Agree, ReadsEach, numbered}
+use Rattle.otap_groups.specs.Flat.{flat_items, items_of, numbered_rows, resources_of, scopes_of}
 use Rattle.otap_groups.specs.Groups.{regrouped}
 use Rattle.otap_groups.proofs.GroupsTold.{groups_told}
 use Rattle.otap_groups.proofs.Grouping.{groups_back}
@@ -63,7 +63,7 @@ module _ (groups : List (ResourceGroup LogRecord)) (light : weight_of (Logs grou
   abbrev l : Table
   l = attribute_table table.LogAttrs (record_pairs groups)
 
-  pub regrouped_is : regrouped (pairs_in r) (pairs_in s) (λ id cells. record_of cells (pairs_in l id)) (numbered_rows record_cells 0 (flat groups))
+  pub regrouped_is : regrouped (pairs_in r) (pairs_in s) (λ id cells. record_of cells (pairs_in l id)) (numbered_rows record_cells 0 (flat_items groups))
       ≡ regrouped_logs (tables_of_logs groups)
   unfolding regrouped_logs
   regrouped_is = λ i. regrouped (pairs_in (sym (named_resources groups) i)) (pairs_in (sym (named_scopes groups) i))
@@ -73,7 +73,7 @@ module _ (groups : List (ResourceGroup LogRecord)) (back : All IsBack groups) wh
   logs_back : All IsBackRecord (items_of groups)
   logs_back = all_items_can IsBackResource IsBackScope IsBackRecord groups back
 
-  items_read : Reads numbered record_cells (λ id cells. record_of cells (unsorted (record_pairs groups) id)) 0 (items_of groups)
+  items_read : ReadsEach numbered record_cells (λ id cells. record_of cells (unsorted (record_pairs groups) id)) 0 (items_of groups)
   items_read =
       records_read (items_of groups) (unsorted (record_pairs groups)) logs_back
       (pairs_agree (record_pairs groups) (All-map AreBack (λ (log : LogRecord). log.pairs) (items_of groups)
@@ -89,7 +89,7 @@ module _ (groups : List (ResourceGroup LogRecord)) (back : All IsBack groups) wh
 
   -- before the pairs are sorted the request itself comes back
   pub unsorted_back : regrouped (unsorted (resource_pairs groups)) (unsorted (scope_pairs groups)) (λ id cells. record_of cells (unsorted (record_pairs groups) id))
-      (numbered_rows record_cells 0 (flat groups)) ≡ groups_with_items groups
+      (numbered_rows record_cells 0 (flat_items groups)) ≡ groups_with_items groups
   unsorted_back =
       groups_back record_cells (unsorted (resource_pairs groups)) (unsorted (scope_pairs groups)) (λ id cells. record_of cells (unsorted (record_pairs groups) id)) groups
       items_read resources_agree scopes_agree
@@ -101,7 +101,7 @@ module _ (groups : List (ResourceGroup LogRecord)) (back : All IsBack groups) wh
       let s : Table = attribute_table table.ScopeAttrs (scope_pairs groups) in
       let l : Table = attribute_table table.LogAttrs (record_pairs groups) in
       let found : SameTelemetry (telemetry (Logs (groups_with_items groups)))
-      (telemetry (Logs (regrouped (pairs_in r) (pairs_in s) (λ id cells. record_of cells (pairs_in l id)) (numbered_rows record_cells 0 (flat groups))))) =
+      (telemetry (Logs (regrouped (pairs_in r) (pairs_in s) (λ id cells. record_of cells (pairs_in l id)) (numbered_rows record_cells 0 (flat_items groups))))) =
       groups_told log_record record_cells (unsorted (resource_pairs groups)) (pairs_in r) (unsorted (scope_pairs groups)) (pairs_in s)
       (λ id cells. record_of cells (unsorted (record_pairs groups) id)) (λ id cells. record_of cells (pairs_in l id)) groups items_read resources_agree scopes_agree
       (sorted_alike table.ResourceAttrs (resource_pairs groups) refl (few_r groups light)) (sorted_alike table.ScopeAttrs (scope_pairs groups) refl (few_s groups light))

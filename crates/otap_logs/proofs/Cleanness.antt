@@ -7,7 +7,7 @@ use Rattle.otap_cells.specs.Named.{table_named}
 use Rattle.otap_cells.specs.Tables.{Table, profile_table}
 use Rattle.otap_attrs.specs.declared.refusal.RowRefusal.{RowRefusal}
 use Rattle.otap_attrs.specs.declared.refusal.RowRefusal.TheVariants as why
-use Rattle.otap_checks.specs.Links.{links_of, items, attributes}
+use Rattle.otap_checks.specs.Links.{links_of, items, attributes_link}
 use Rattle.otap_checks.specs.declared.known.ColumnIds.{ColumnIds}
 use Rattle.otap_checks.specs.Given.{AreGiven}
 use Rattle.otap_checks.specs.Known.{Knows}
@@ -15,8 +15,12 @@ use Rattle.otap_checks.specs.Reading.{Disagrees}
 use Rattle.otap_attrs.specs.Defects.{WrongValue}
 use Rattle.otap_checks.proofs.MissingRows.{none_differ}
 use Rattle.otap_checks.proofs.TableIds.{clean_given}
-use Rattle.otap_logs.specs.Inside.{AreWhole, IsUnlike, KnowsLogs}
+use Rattle.otap_logs.specs.Inside.{AreWhole, KnowsLogs}
 use Rattle.otap_logs.specs.Requests.{WrongCells, WrongLogs}
+
+-- rows of one id differ
+abbrev pub IsUnlike : List Table → Type 0
+IsUnlike tables = Disagrees (table_named table.Logs tables)
 
 -- no row has anything wrong
 pub clean : (tables : List Table) → AreWhole tables → (IsUnlike tables → ⊥) → (kind : Kind) (wrong : RowRefusal) → WrongLogs tables kind wrong → ⊥
@@ -83,15 +87,15 @@ module _ (tables : List Table) (known : List ColumnIds) (all : KnowsLogs tables 
 
   pub known_resources : Knows (table_named table.ResourceAttrs tables) table.ResourceAttrs known
   unfolding links_of
-  known_resources = all (attributes table.ResourceAttrs table.Logs 1) (1, omega arith, refl)
+  known_resources = all (attributes_link table.ResourceAttrs table.Logs 1) (1, omega arith, refl)
 
   pub known_scopes : Knows (table_named table.ScopeAttrs tables) table.ScopeAttrs known
   unfolding links_of
-  known_scopes = all (attributes table.ScopeAttrs table.Logs 4) (2, omega arith, refl)
+  known_scopes = all (attributes_link table.ScopeAttrs table.Logs 4) (2, omega arith, refl)
 
   pub known_records : Knows (table_named table.LogAttrs tables) table.LogAttrs known
   unfolding links_of
-  known_records = all (attributes table.LogAttrs table.Logs 0) (3, omega arith, refl)
+  known_records = all (attributes_link table.LogAttrs table.Logs 0) (3, omega arith, refl)
 
 -- where there are no rows, none differ
 pub none_unlike : (tables : List Table) (kind : Kind) → table_named table.Logs tables ≡ profile_table kind [] → IsUnlike tables → ⊥

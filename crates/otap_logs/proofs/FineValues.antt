@@ -2,6 +2,7 @@
 use Rattle.std.proofs.Common.{◌≡◌, ℕ, List, [], ◌∷◌, ◌++◌, length, sym, subst, arith}
 use Rattle.std.specs.Prelude.{All}
 use Rattle.std.proofs.lemmas.List.Elements.{All-nil, All-cons, All-head, All-tail, All-map, All-weaker}
+use Rattle.lists.proofs.Every.{all_unmapped}
 use Rattle.otlp_model.specs.Profile.{IsProfile, IsProfileLogRecord}
 use Rattle.otlp_model.specs.Real.{IsReal, IsRealLogRecord}
 use Rattle.otlp_model.specs.declared.groups.Resource.{Resource}
@@ -13,17 +14,17 @@ use Rattle.otap_cells.specs.declared.payload.Kind.TheVariants as table
 use Rattle.otap_cells.specs.Cells.{Cell}
 use Rattle.otap_cells.specs.Named.{table_named}
 use Rattle.otap_cells.specs.Tables.{Table}
-use Rattle.otap_groups.specs.Flat.{FlatIn, flat, items_of, resources_of, scopes_of}
+use Rattle.otap_groups.specs.Flat.{FlatIn, flat_items, items_of, resources_of, scopes_of}
 use Rattle.otap_groups.specs.Stored.{main_table, stored_rows}
 use Rattle.otap_groups.specs.Weighing.{CanWriteGroup}
-use Rattle.otap_groups.proofs.FlatItems.{all_unmapped, items_of_flat}
+use Rattle.otap_groups.proofs.FlatItems.{items_of_flat}
 use Rattle.otap_groups.proofs.RealGroups.{real_groups}
 use Rattle.otap_groups.proofs.WritableGroups.{all_items_can, all_resources_can, all_scopes_can}
 use Rattle.otap_attrs.specs.declared.refusal.RowRefusal.{RowRefusal}
 use Rattle.otap_attrs.specs.Values.{value_cells}
 use Rattle.otap_attrs.proofs.ValueLaws.{value_fine}
 use Rattle.otap_attrs.specs.Defects.{WrongValue}
-use Rattle.otap_checks.proofs.FinePairs.{IsFine, IsFineFrom, IsFineList, IsFinePair, attributes_fine, fine_rows, pairs_fine}
+use Rattle.otap_checks.proofs.FinePairs.{IsFine, IsFineFrom, IsFineList, IsFinePair, attributes_fine, fine_rows, pairs_fine, IsFineResource, IsFineScope}
 use Rattle.otap_logs.specs.Records.{last_cells, record_cells}
 use Rattle.otap_logs.specs.Tables.{tables_of_logs}
 use Rattle.otap_logs.proofs.NamedTables.{named_main, named_records, named_resources, named_scopes, record_pairs, resource_pairs, scope_pairs}
@@ -61,12 +62,6 @@ bodies_fine step r s (f ∷ fs) all =
 record_fine : (log : LogRecord) → IsRealLogRecord log → IsProfileLogRecord log → IsFineRecord log
 record_fine log real is = record { body = value_fine log.body real.body is.body; pairs = pairs_fine log.pairs real.pairs is.pairs.at }
 
-abbrev IsFineResource : Resource → Type 0
-IsFineResource resource = IsFineList resource.pairs
-
-abbrev IsFineScope : Scope → Type 0
-IsFineScope scope = IsFineList scope.pairs
-
 module _ (groups : List (ResourceGroup LogRecord)) (real : IsReal (Logs groups)) (is : IsProfile (Logs groups)) (wrong : RowRefusal) where
   all : All (CanWriteGroup IsFineResource IsFineScope IsFineRecord) groups
   all = real_groups IsRealLogRecord IsProfileLogRecord IsFineRecord record_fine IsFineList pairs_fine groups real.at is.at
@@ -78,7 +73,7 @@ module _ (groups : List (ResourceGroup LogRecord)) (real : IsReal (Logs groups))
   unfolding main_table
   fine_bodies w =
       fine_rows 15 (main_table table.Logs record_cells groups) wrong
-      (bodies_fine 0 0 0 (flat groups) (all_unmapped IsFineRecord (λ (f : FlatIn LogRecord). f.item) (flat groups)
+      (bodies_fine 0 0 0 (flat_items groups) (all_unmapped IsFineRecord (λ (f : FlatIn LogRecord). f.item) (flat_items groups)
       (subst (All IsFineRecord) (sym (items_of_flat groups)) fine_items)))
       (subst (λ (t : Table). WrongValue t 15 wrong) (named_main groups) w)
 

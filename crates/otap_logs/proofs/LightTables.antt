@@ -12,7 +12,7 @@ use Rattle.otlp_model.specs.declared.value.Pair.{Pair}
 use Rattle.otap_cells.specs.declared.payload.Kind.TheVariants as table
 use Rattle.otap_cells.specs.Cells.{Cell}
 use Rattle.otap_cells.specs.Tables.{Table}
-use Rattle.otap_groups.specs.Flat.{flat, numbered_rows}
+use Rattle.otap_groups.specs.Flat.{flat_items, numbered_rows}
 use Rattle.otap_groups.proofs.LightGroups.{kept_weigh, regrouped_weigh}
 use Rattle.otap_attrs.specs.Tables.{attribute_table}
 use Rattle.otap_attrs.specs.Index.{pairs_in}
@@ -39,7 +39,7 @@ light_tables groups real is light =
     (λ id cells. record_of cells (unsorted (record_pairs groups) id)) (λ id cells. record_of cells (pairs_in l id))
     (sorted_weigh table.ResourceAttrs (resource_pairs groups) refl (few_r groups light)) (sorted_weigh table.ScopeAttrs (scope_pairs groups) refl (few_s groups light))
     (λ id cells. record_weighs cells (unsorted (record_pairs groups) id) (pairs_in l id) (sorted_weigh table.LogAttrs (record_pairs groups) refl (few_l groups light) id))
-    (numbered_rows record_cells 0 (flat groups)) in
+    (numbered_rows record_cells 0 (flat_items groups)) in
     let here : total 32 (weight_of_resource_group weight_of_log_record) (groups_with_items groups) ≡ weight_of (Logs (regrouped_logs (tables_of_logs groups))) =
     ap (total 32 (weight_of_resource_group weight_of_log_record)) (sym (unsorted_back groups (groups_again groups real.at is.at))) ∙ found
     ∙ ap (total 32 (weight_of_resource_group weight_of_log_record)) (regrouped_is groups light) in

@@ -28,14 +28,6 @@ pub has_body : HasValueAt table.Logs 15
 unfolding logs
 has_body = record { bases = refl }
 
-pub has_resource_value : HasValueAt table.ResourceAttrs 2
-unfolding attrs
-has_resource_value = record { bases = refl }
-
-pub has_scope_value : HasValueAt table.ScopeAttrs 2
-unfolding attrs
-has_scope_value = record { bases = refl }
-
 pub has_record_value : HasValueAt table.LogAttrs 2
 unfolding attrs
 has_record_value = record { bases = refl }

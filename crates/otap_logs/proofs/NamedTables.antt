@@ -1,7 +1,7 @@
 -- The tables of a request of logs, by their kinds: one that isn't there would have no rows.
-use Rattle.std.proofs.Common.{◌≡◌, true, false, Bool, List, [], ◌∷◌, ◌++◌, length, map, refl, sym, ap, arith}
+use Rattle.std.proofs.Common.{◌≡◌, true, false, Bool, List, [], ◌∷◌, ◌++◌, length, map, refl, sym, ap}
 use Rattle.std.specs.Prelude.{if◌then◌else◌, nat_lt}
-use Rattle.std.proofs.lemmas.Bool.{ltb-false}
+use Rattle.lists.proofs.Truths.{empty}
 use Rattle.otlp_model.specs.declared.groups.ResourceGroup.{ResourceGroup}
 use Rattle.otlp_model.specs.declared.logs.LogRecord.{LogRecord}
 use Rattle.otlp_model.specs.declared.value.Pair.{Pair}
@@ -11,18 +11,14 @@ use Rattle.otap_cells.specs.declared.payload.Kind.TheVariants as table
 use Rattle.otap_cells.specs.Cells.{Cell}
 use Rattle.otap_cells.specs.Named.{table_named}
 use Rattle.otap_cells.specs.Tables.{Table, profile_table}
-use Rattle.otap_groups.specs.Flat.{flat, items_of, placed, resources_of, scopes_of}
+use Rattle.otap_groups.specs.Flat.{flat_items, items_of, placed, resources_of, scopes_of}
 use Rattle.otap_groups.specs.Stored.{main_table, stored_rows}
 use Rattle.otap_attrs.specs.Sorting.{coded_rows}
 use Rattle.otap_attrs.specs.Tables.{attribute_table, row_of_pair}
 use Rattle.otap_logs.specs.Records.{record_cells}
 use Rattle.otap_logs.specs.Tables.{tables_of_logs}
 
-empty : {A : Type 0} (xs : List A) → nat_lt 0 (length xs) ≡ false → xs ≡ []
-empty [] none = refl
-empty (x ∷ xs) none = absurd (omega (arith, ltb-false 0 (length (x ∷ xs)) none))
-
-abbrev filled : Bool → Table → List Table
+abbrev pub filled : Bool → Table → List Table
 filled b t = if b then t ∷ [] else []
 
 abbrev rows : Type 0
@@ -76,7 +72,7 @@ record_pairs groups = map (λ (log : LogRecord). log.pairs) (items_of groups)
 
 module _ (groups : List (ResourceGroup LogRecord)) where
   abbrev m : rows
-  m = stored_rows record_cells 0 0 0 (flat groups)
+  m = stored_rows record_cells 0 0 0 (flat_items groups)
 
   pub named_main : table_named table.Logs (tables_of_logs groups) ≡ main_table table.Logs record_cells groups
   unfolding tables_of_logs main_table

@@ -1,6 +1,7 @@
 -- The records of a request are read again, by their ids.
 use Rattle.std.proofs.Common.{◌≡◌, ℕ, List, [], ◌∷◌, ◌++◌, Option, length, map, refl, ◌∙◌, arith}
 use Rattle.std.specs.Prelude.{All}
+use Rattle.std.proofs.lemmas.List.Elements.{recursion_from_All}
 use Rattle.otlp_model.specs.Profile.{IsProfileLogRecord, IsProfileResourceGroup}
 use Rattle.otlp_model.specs.Real.{IsRealLogRecord, IsRealResourceGroup}
 use Rattle.otlp_model.specs.declared.groups.ResourceGroup.{ResourceGroup}
@@ -9,13 +10,13 @@ use Rattle.otlp_model.specs.declared.value.Value.{Value, out-Value}
 use Rattle.otlp_model.specs.declared.value.Value.TheOpen.{Value-F}
 use Rattle.otlp_model.specs.declared.value.Pair.{Pair}
 use Rattle.otap_cells.specs.Cells.{Cell}
-use Rattle.otap_groups.specs.Children.{Agree, Reads, numbered}
+use Rattle.otap_groups.specs.Children.{Agree, ReadsEach, numbered}
 use Rattle.otap_groups.specs.Weighing.{CanWriteGroup}
 use Rattle.otap_groups.proofs.ReadLaws.{reads_with}
 use Rattle.otap_groups.proofs.RealGroups.{real_groups}
 use Rattle.otap_attrs.specs.Values.{cells_step, value_cells, value_in}
 use Rattle.otap_attrs.proofs.ValueLaws.{value_again}
-use Rattle.otap_checks.proofs.PairsAgain.{AreBack, IsBackResource, IsBackScope, all_every, pairs_back}
+use Rattle.otap_checks.proofs.PairsAgain.{AreBack, IsBackResource, IsBackScope, pairs_back}
 use Rattle.otap_logs.specs.Records.{last_cells, record_cells, record_of}
 use Rattle.otap_logs.proofs.RecordBack.{record_back}
 
@@ -65,6 +66,6 @@ pub groups_again : (groups : List (ResourceGroup LogRecord)) → All (IsRealReso
 groups_again groups real is = real_groups IsRealLogRecord IsProfileLogRecord IsBackRecord record_again AreBack pairs_back groups real is
 
 pub records_read : (logs : List LogRecord) (lookup : Option ℕ → List Pair) → All IsBackRecord logs → Agree lookup 0 (map (λ (log : LogRecord). log.pairs) logs)
-    → Reads numbered record_cells (λ id cells. record_of cells (lookup id)) 0 logs
+    → ReadsEach numbered record_cells (λ id cells. record_of cells (lookup id)) 0 logs
 records_read logs lookup all agree =
-    reads_with record_cells record_of (λ (log : LogRecord). log.pairs) lookup IsBackRecord (λ log back. back.again) 0 logs (all_every IsBackRecord logs all) agree
+    reads_with record_cells record_of (λ (log : LogRecord). log.pairs) lookup IsBackRecord (λ log back. back.again) 0 logs (recursion_from_All IsBackRecord logs all) agree

@@ -16,8 +16,8 @@ use Rattle.otap_cells.specs.Weights.{cell_weight}
 use Rattle.otap_groups.specs.Weighing.{cells_weight}
 use Rattle.otap_groups.proofs.ProfileRows.{rows_join}
 use Rattle.otap_attrs.specs.Values.{AreCellsOf, value_bases, value_cells}
-use Rattle.otap_attrs.proofs.AttributesWeighed.{text_weighs, number_weighs, int_weighs_nothing, bits_weigh}
 use Rattle.otap_logs.specs.Records.{record_cells, last_cells}
+use Rattle.otap_cells.proofs.ScalarLaws.{text_weighs, number_weighs, int_weighs_nothing, bits_weigh}
 
 pub record_fits : (kind : Kind) (front : List Cell) (time observed trace span severity text v0 v1 v2 v3 v4 v5 v6 dropped flags name : Cell) → kind ≡ table.Logs → IsRow common front
     → IsCellOf base.Timestamp time → IsCellOf base.Timestamp observed → IsCellOf base.Fixed16 trace → IsCellOf base.Fixed8 span → IsCellOf base.I32 severity → IsCellOf base.Utf8 text

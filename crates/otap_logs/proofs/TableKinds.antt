@@ -2,7 +2,7 @@
 use Rattle.std.proofs.Common.{◌≡◌, Bool, true, false, List, [], ◌∷◌, ◌++◌, length, map, filter, refl, sym, ◌∙◌, ap}
 use Rattle.std.specs.Prelude.{if◌then◌else◌, nat_lt}
 use Rattle.std.proofs.lemmas.List.{length-map}
-use Rattle.otlp_model.specs.Telemetry.{entries_of, log_record, telemetry, told_as}
+use Rattle.otlp_model.specs.Telemetry.{item_entries, log_record, telemetry, told_as}
 use Rattle.otlp_model.specs.declared.groups.ResourceGroup.{ResourceGroup}
 use Rattle.otlp_model.specs.declared.logs.LogRecord.{LogRecord}
 use Rattle.otlp_model.specs.declared.request.Request.TheVariants.{Logs}
@@ -71,4 +71,4 @@ module _ (groups : List (ResourceGroup LogRecord)) where
   pub rows_for_records : length (table_named table.Logs (tables_of_logs groups)).rows ≡ length (telemetry (Logs groups))
   rows_for_records =
       ap (λ (t : Table). length t.rows) (named_main groups) ∙ size_of_main table.Logs record_cells groups ∙ size_of_flat 0 groups ∙ sym (length_entries groups)
-      ∙ sym (length-map (entries_of groups) (told_as log_record))
+      ∙ sym (length-map (item_entries groups) (told_as log_record))

@@ -3,6 +3,7 @@ use Rattle.std.proofs.Common.{◌≡◌, ℕ, ◌*◌, ◌<◌, ◌≤◌, ◌^�
 use Rattle.std.specs.Prelude.{All}
 use Rattle.std.proofs.lemmas.List.{length-map}
 use Rattle.std.proofs.lemmas.List.Elements.{All-weaker}
+use Rattle.lists.proofs.Every.{found_all}
 use Rattle.otlp_model.specs.declared.groups.Resource.{Resource}
 use Rattle.otlp_model.specs.declared.groups.Scope.{Scope}
 use Rattle.otlp_model.specs.declared.groups.ResourceGroup.{ResourceGroup}
@@ -15,17 +16,16 @@ use Rattle.otap_cells.specs.declared.payload.Kind.{Kind}
 use Rattle.otap_cells.specs.declared.payload.Kind.TheVariants as table
 use Rattle.otap_cells.specs.Tables.{Table, profile_table}
 use Rattle.otap_groups.specs.declared.flat.Flat.{Flat}
-use Rattle.otap_groups.specs.Flat.{FlatIn, flat, items_of, resources_of, scopes_of}
+use Rattle.otap_groups.specs.Flat.{FlatIn, flat_items, items_of, resources_of, scopes_of}
 use Rattle.otap_groups.specs.Stored.{main_table, stored_rows}
 use Rattle.otap_groups.specs.Views.{seen_flat}
 use Rattle.otap_groups.proofs.FlatItems.{all_items}
-use Rattle.otap_groups.proofs.WritableGroups.{all_items_can, all_resources_can, all_scopes_can, few_items, few_resources, few_scopes}
+use Rattle.otap_groups.proofs.WritableGroups.{all_items_can, all_resources_can, all_scopes_can, few_items, few_resources, few_scopes, IsLightResource, IsLightScope}
 use Rattle.otap_attrs.specs.Tables.{attribute_table, where_rows}
-use Rattle.otap_attrs.proofs.FoundLists.{found_all}
 use Rattle.otap_logs.specs.Records.{record_cells}
 use Rattle.otap_logs.specs.Tables.{tables_of_logs}
 use Rattle.otap_logs.specs.Writable.{CanWriteRecord}
-use Rattle.otap_logs.proofs.WrittenWeight.{CanWrite, IsLightResource, IsLightScope}
+use Rattle.otap_logs.proofs.WrittenWeight.{CanWrite}
 
 -- ---- what is found through references
 
@@ -62,7 +62,7 @@ module _ (groups gs : List (ResourceGroup LogRecord)) (same : gs ≡ groups) (fe
 -- ---- what can be written
 
 module _ (gs : List (ResourceGroup LogRecord)) (can : All CanWrite gs) where
-  pub rows_can : (rows : List (Flat LogRecord)) → map seen_flat rows ≡ flat gs → All (λ (f : Flat LogRecord). CanWriteRecord f.item.now) rows
+  pub rows_can : (rows : List (Flat LogRecord)) → map seen_flat rows ≡ flat_items gs → All (λ (f : Flat LogRecord). CanWriteRecord f.item.now) rows
   rows_can rows is = all_items CanWriteRecord rows gs is (all_items_can IsLightResource IsLightScope CanWriteRecord gs can)
 
   pub resources_can : {B : Type 0} (deref : B → Resource) (found : List B) → map deref found ≡ resources_of gs
@@ -84,7 +84,7 @@ module _ (gs : List (ResourceGroup LogRecord)) (can : All CanWrite gs) where
 
 -- ---- the tables
 
-pub written : (groups gs : List (ResourceGroup LogRecord)) (flats : List (FlatIn LogRecord)) (main r s l : Table) → gs ≡ groups → flats ≡ flat gs
+pub written : (groups gs : List (ResourceGroup LogRecord)) (flats : List (FlatIn LogRecord)) (main r s l : Table) → gs ≡ groups → flats ≡ flat_items gs
     → main ≡ profile_table table.Logs (stored_rows record_cells 0 0 0 flats)
     → r ≡ attribute_table table.ResourceAttrs (map (λ (resource : Resource). resource.pairs) (resources_of gs))
     → s ≡ attribute_table table.ScopeAttrs (map (λ (scope : Scope). scope.pairs) (scopes_of gs))

@@ -1,6 +1,6 @@
 -- The set of the tables of a request of logs: each kind stands there once.
 use Rattle.std.proofs.Common.{◌≡◌, ℕ, true, false, Bool, List, [], ◌∷◌, ◌++◌, length, map, refl, sym, ap, ◌∙◌, subst}
-use Rattle.std.specs.Prelude.{All, if◌then◌else◌, nat_eq, nat_lt}
+use Rattle.std.specs.Prelude.{nat_eq, nat_lt}
 use Rattle.std.specs.List.{IsDistinct}
 use Rattle.std.proofs.lemmas.List.Elements.{All-nil, All-cons, All-append}
 use Rattle.otap_cells.specs.declared.payload.Kind.{Kind}
@@ -9,9 +9,8 @@ use Rattle.otap_cells.specs.Payload.{number_of}
 use Rattle.otap_cells.specs.Sets.{IsSet, tables_in}
 use Rattle.otap_cells.specs.Tables.{Table}
 use Rattle.otap_attrs.specs.Tables.{beside_kind, where_rows}
-
-abbrev filled : Bool → Table → List Table
-filled b t = if b then t ∷ [] else []
+use Rattle.otap_attrs.proofs.FilledTables.{all_beside, IsBeside}
+use Rattle.otap_logs.proofs.NamedTables.{filled}
 
 -- the tables beside their kinds, in the order in which they are added
 abbrev pairs_of : Table → List Table → List Table → List Table → List (Kind × Table)
@@ -28,13 +27,6 @@ in_order main r s l false true true = refl
 in_order main r s l false true false = refl
 in_order main r s l false false true = refl
 in_order main r s l false false false = refl
-
-abbrev In : Kind × Table → Type 0
-In pair = pair.1.kind ≡ pair.0
-
-all_beside : (ts : List Table) → All In (map beside_kind ts)
-all_beside [] = All-nil In
-all_beside (t ∷ ts) = All-cons In (beside_kind t) (map beside_kind ts) refl (all_beside ts)
 
 abbrev numbers : List (Kind × Table) → List ℕ
 numbers pairs = map (λ pair. number_of pair.0) pairs
@@ -68,9 +60,9 @@ are_tables main r s l items is =
 pub is_set : (main r s l : Table) (items : List (Kind × Table)) → items ≡ pairs_of main (where_rows r) (where_rows s) (where_rows l)
     → main.kind ≡ table.Logs → r.kind ≡ table.ResourceAttrs → s.kind ≡ table.ScopeAttrs → l.kind ≡ table.LogAttrs → IsSet (λ t. t) items
 is_set main r s l items is km kr ks kl = subst (IsSet (λ t. t)) (sym is) (record {
-  beside = All-append In (((table.Logs, main) ∷ []) ++ map beside_kind (where_rows r) ++ map beside_kind (where_rows s)) (map beside_kind (where_rows l))
-      (All-append In (((table.Logs, main) ∷ []) ++ map beside_kind (where_rows r)) (map beside_kind (where_rows s))
-      (All-append In ((table.Logs, main) ∷ []) (map beside_kind (where_rows r)) (All-cons In (table.Logs, main) [] km (All-nil In)) (all_beside (where_rows r)))
+  beside = All-append IsBeside (((table.Logs, main) ∷ []) ++ map beside_kind (where_rows r) ++ map beside_kind (where_rows s)) (map beside_kind (where_rows l))
+      (All-append IsBeside (((table.Logs, main) ∷ []) ++ map beside_kind (where_rows r)) (map beside_kind (where_rows s))
+      (All-append IsBeside ((table.Logs, main) ∷ []) (map beside_kind (where_rows r)) (All-cons IsBeside (table.Logs, main) [] km (All-nil IsBeside)) (all_beside (where_rows r)))
       (all_beside (where_rows s))) (all_beside (where_rows l));
   once = once main r s l (nat_lt 0 (length r.rows)) (nat_lt 0 (length s.rows)) (nat_lt 0 (length l.rows)) kr ks kl;
 })

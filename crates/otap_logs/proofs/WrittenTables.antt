@@ -3,6 +3,7 @@ use Rattle.std.proofs.Common.{ℕ, ◌^◌, ◌≤◌, List, [], ◌∷◌, ◌+
 use Rattle.std.specs.Prelude.{All, nat_lt}
 use Rattle.std.proofs.lemmas.Bool.{cases_Bool}
 use Rattle.std.proofs.lemmas.List.Elements.{All-nil, All-cons, All-head, All-tail, All-append, All-map, All-weaker}
+use Rattle.lists.proofs.Every.{every_weaker}
 use Rattle.otlp_model.specs.Limits.{weight_limit}
 use Rattle.otlp_model.specs.Profile.{IsProfile, IsProfileLogRecord, IsProfileResourceGroup, IsProfileScopeGroup}
 use Rattle.otlp_model.specs.Real.{IsReal, IsRealLogRecord, IsRealResource, IsRealResourceGroup, IsRealScope, IsRealScopeGroup}
@@ -17,13 +18,12 @@ use Rattle.otap_cells.specs.declared.payload.Kind.TheVariants as table
 use Rattle.otap_cells.specs.Columns.{columns_of, logs}
 use Rattle.otap_cells.specs.GivenIds.{HasIds}
 use Rattle.otap_cells.specs.Tables.{IsRow, Table}
-use Rattle.otap_groups.specs.Flat.{flat, items_of, numbered_rows, resources_of, scopes_of}
+use Rattle.otap_groups.specs.Flat.{flat_items, items_of, numbered_rows, resources_of, scopes_of}
 use Rattle.otap_groups.specs.ProfileTables.{IsProfileTable}
 use Rattle.otap_groups.specs.Rows.{MainRow}
 use Rattle.otap_groups.specs.Stored.{main_table, stored_rows}
 use Rattle.otap_groups.specs.Weighing.{CanWriteGroup, CanWriteScope}
 use Rattle.otap_groups.proofs.Bounds.{bounded}
-use Rattle.otap_groups.proofs.GroupsApart.{every_weaker}
 use Rattle.otap_groups.proofs.ProfileRows.{OfFlat, OwnFit, is_profile_table, of_flat, rows_fit}
 use Rattle.otap_groups.proofs.StoredRows.{own_ids_of, resource_ids_of, scope_ids_of}
 use Rattle.otap_groups.proofs.WritableGroups.{all_items_can, all_resources_can, all_scopes_can}
@@ -81,18 +81,18 @@ module _ (groups : List (ResourceGroup LogRecord)) (fit : All IsFit groups) (lig
   few : length (items_of groups) ≤ 2 ^ 32
   few = few_main groups light
 
-  main_rows_fit : All (IsRow (columns_of table.Logs)) (stored_rows record_cells 0 0 0 (flat groups))
+  main_rows_fit : All (IsRow (columns_of table.Logs)) (stored_rows record_cells 0 0 0 (flat_items groups))
   unfolding logs
   main_rows_fit =
-      rows_fit record_cells (drop 9 logs) 0 0 0 (flat groups) (omega arith) (bounded 4294967295 groups (omega (arith, few)))
-      (every_weaker (OfFlat IsRealResource IsRealScope IsFitRecord) (OfFlat IsRealResource IsRealScope (OwnFit record_cells (drop 9 logs))) (flat groups)
-      (λ f of. (of.0, of.1, of.2.own)) (of_flat IsRealResource IsRealScope IsFitRecord groups fit))
+      rows_fit record_cells (drop 9 logs) 0 0 0 (flat_items groups) (omega arith) (bounded 4294967295 groups (omega (arith, few)))
+      (every_weaker (OfFlat IsRealResource IsRealScope IsFitRecord) (OfFlat IsRealResource IsRealScope (OwnFit record_cells (drop 9 logs)))
+      (λ f of. (of.0, of.1, of.2.own)) (flat_items groups) (of_flat IsRealResource IsRealScope IsFitRecord groups fit))
 
   main_written : IsProfileTable (main_table table.Logs record_cells groups)
   unfolding main_table
   main_written =
-      let rows : List MainRow = numbered_rows record_cells 0 (flat groups) in
-      is_profile_table table.Logs (stored_rows record_cells 0 0 0 (flat groups)) main_rows_fit
+      let rows : List MainRow = numbered_rows record_cells 0 (flat_items groups) in
+      is_profile_table table.Logs (stored_rows record_cells 0 0 0 (flat_items groups)) main_rows_fit
       (log_ids (λ column. (ids : List (Option ℕ)) × HasIds (main_table table.Logs record_cells groups) column ids)
       (map (λ (row : MainRow). row.id) rows, own_ids_of record_cells table.Logs groups logs_are_main few)
       (map (λ (row : MainRow). row.resource_id) rows, resource_ids_of record_cells table.Logs groups logs_are_main few)

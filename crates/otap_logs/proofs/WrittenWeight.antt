@@ -1,7 +1,7 @@
 -- What the tables of a request of logs weigh, and which of its parts can be written.
-use Rattle.std.proofs.Common.{◌≡◌, ℕ, ◌+◌, ◌≤◌, ◌^◌, false, inl, inr, List, [], ◌∷◌, ◌++◌, length, map, refl, sym, ap, ◌∙◌, subst, arith}
-use Rattle.std.specs.Prelude.{All, min, nat_lt, sum_by}
-use Rattle.std.proofs.lemmas.Bool.{cases_Bool, ltb-false}
+use Rattle.std.proofs.Common.{◌≡◌, ℕ, ◌+◌, ◌≤◌, ◌^◌, inl, inr, List, [], ◌++◌, length, map, sym, ap, ◌∙◌, subst, arith}
+use Rattle.std.specs.Prelude.{All, min, nat_lt}
+use Rattle.std.proofs.lemmas.Bool.{cases_Bool}
 use Rattle.std.proofs.lemmas.List.Sums.{sum_by-append, sum_by-cons}
 use Rattle.otlp_model.specs.declared.groups.Resource.{Resource}
 use Rattle.otlp_model.specs.declared.groups.Scope.{Scope}
@@ -10,20 +10,20 @@ use Rattle.otlp_model.specs.declared.logs.LogRecord.{LogRecord}
 use Rattle.otlp_model.specs.declared.request.Request.TheVariants.{Logs}
 use Rattle.otlp_model.specs.Limits.{weight_limit}
 use Rattle.otlp_model.specs.Profile.{IsProfile, IsProfileLogRecord}
-use Rattle.otlp_model.specs.Weight.{total, weight_of, weight_of_log_record, weight_of_pair}
+use Rattle.otlp_model.specs.Weight.{weight_of, weight_of_log_record}
 use Rattle.otap_cells.specs.declared.payload.Kind.TheVariants as table
-use Rattle.otap_cells.specs.Cells.{Cell}
 use Rattle.otap_cells.specs.Tables.{Table}
-use Rattle.otap_cells.specs.Weights.{weight_of_row, weight_of_table, weight_of_tables}
+use Rattle.otap_cells.specs.Weights.{weight_of_table, weight_of_tables}
 use Rattle.otap_groups.specs.Flat.{items_of, resources_of, scopes_of}
 use Rattle.otap_groups.specs.Stored.{main_table}
 use Rattle.otap_groups.specs.Weighing.{CanWriteGroup, cells_weight, parts_weight, rows_of_groups}
 use Rattle.otap_groups.proofs.RowsApart.{rows_apart}
 use Rattle.otap_groups.proofs.RowsWeighed.{main_weighs}
-use Rattle.otap_groups.proofs.WritableGroups.{groups_can}
+use Rattle.otap_groups.proofs.WritableGroups.{groups_can, IsLightResource, IsLightScope}
 use Rattle.otap_attrs.specs.Tables.{attribute_table, where_rows}
 use Rattle.otap_attrs.specs.Values.{pair_cells}
 use Rattle.otap_attrs.proofs.AttributesWeighed.{table_weighs}
+use Rattle.otap_attrs.proofs.FilledTables.{no_weight}
 use Rattle.lists.proofs.MadeSums.{sum_of_map}
 use Rattle.otap_logs.specs.Records.{record_cells}
 use Rattle.otap_logs.specs.Tables.{tables_of_logs}
@@ -34,12 +34,6 @@ use Rattle.otap_logs.specs.Writable.{CanWriteRecord}
 record_can : (log : LogRecord) → IsProfileLogRecord log → weight_of_log_record log ≤ weight_limit → CanWriteRecord log
 record_can log is few = record { trace_id = is.trace_id; span_id = is.span_id; body = omega arith; pairs = omega arith }
 
-abbrev pub IsLightResource : Resource → Type 0
-IsLightResource resource = total 32 weight_of_pair resource.pairs ≤ weight_limit
-
-abbrev pub IsLightScope : Scope → Type 0
-IsLightScope scope = total 32 weight_of_pair scope.pairs ≤ weight_limit
-
 abbrev pub CanWrite : ResourceGroup LogRecord → Type 0
 CanWrite = CanWriteGroup IsLightResource IsLightScope CanWriteRecord
 
@@ -48,14 +42,10 @@ all_can groups gs same is few = subst (All CanWrite) (sym same) (groups_can IsPr
 
 -- ---- weights
 
-empty_weighs : (rows : List (List Cell)) → nat_lt 0 (length rows) ≡ false → sum_by weight_of_row rows ≡ 0
-empty_weighs [] none = refl
-empty_weighs (row ∷ rows) none = absurd (omega (arith, ltb-false 0 (length (row ∷ rows)) none))
-
 where_weighs : (t : Table) → weight_of_tables (where_rows t) ≡ weight_of_table t
 where_weighs t = elim (cases_Bool (nat_lt 0 (length t.rows))) [
   | inl some ↦ rw some (let a = sum_by-cons weight_of_table t [] in omega (arith, a))
-  | inr none ↦ rw none (sym (empty_weighs t.rows none))
+  | inr none ↦ rw none (sym (no_weight t.rows none))
 ]
 
 pub tables_weigh : (groups : List (ResourceGroup LogRecord))

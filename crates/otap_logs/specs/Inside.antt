@@ -11,7 +11,6 @@ use Rattle.otap_checks.specs.declared.links.TableLink.{TableLink}
 use Rattle.otap_checks.specs.IdDefects.{IdDefect}
 use Rattle.otap_checks.specs.Known.{Knows}
 use Rattle.otap_checks.specs.Links.{links_of}
-use Rattle.otap_checks.specs.Reading.{Disagrees}
 use Rattle.otap_checks.specs.ValueDefects.{HasFineValues, HasFineValuesAt}
 
 -- nothing is wrong but that rows of one id may differ
@@ -21,10 +20,6 @@ pub record AreWhole (tables : List Table) : Type 0 where
   pub resources : HasFineValues tables table.ResourceAttrs
   pub scopes : HasFineValues tables table.ScopeAttrs
   pub records : HasFineValues tables table.LogAttrs
-
--- rows of one id differ
-abbrev pub IsUnlike : List Table → Type 0
-IsUnlike tables = Disagrees (table_named table.Logs tables)
 
 -- the ids of each table are known
 abbrev pub KnowsLogs : List Table → List ColumnIds → Type 0

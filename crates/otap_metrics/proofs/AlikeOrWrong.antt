@@ -2,6 +2,8 @@
 use Rattle.std.proofs.Common.{◌≡◌, ℕ, zero, suc, ◌+◌, ◌<◌, Bool, true, false, List, length, Option, None, Some, refl, sym, ◌∙◌, ap, subst, inl, inr, arith}
 use Rattle.std.specs.Prelude.{◌⊎◌, Contains}
 use Rattle.std.proofs.lemmas.Bool.{cases_eq, false≢true}
+use Rattle.lists.proofs.Every.{some_or_none}
+use Rattle.lists.proofs.Contained.{number_or_not}
 use Rattle.otlp_model.specs.declared.request.Signal.TheVariants as signal
 use Rattle.otap_cells.specs.declared.payload.Kind.{Kind}
 use Rattle.otap_cells.specs.declared.payload.Kind.TheVariants as table
@@ -17,14 +19,12 @@ use Rattle.otap_checks.specs.declared.links.TableLink.{TableLink}
 use Rattle.otap_checks.specs.IdDefects.{WrongIn}
 use Rattle.otap_checks.specs.Links.{links_of}
 use Rattle.otap_checks.proofs.CleanOrWrong.{AreDecided, attributes_clean_or_wrong, SomeWrong, table_or_wrong, disagrees_or_not}
-use Rattle.otap_checks.proofs.Decided.{number_or_not, some_or_none}
 use Rattle.otap_checks.proofs.GivenColumns.{one_given}
-use Rattle.otap_metrics.specs.Inside.{IsUnlike}
 use Rattle.otap_metrics.specs.Numbers.{IsThere}
-use Rattle.otap_metrics.specs.Requests.{HasTwoValues, NamesOther, WrongIds, WrongMetrics, WrongParent, WrongType, has_numbers, is_other, is_type, type_at}
-use Rattle.otap_metrics.proofs.AlikeReading.{id_named}
-use Rattle.otap_metrics.proofs.Cleanness.{clean, given_metrics, given_points}
+use Rattle.otap_metrics.specs.Requests.{HasTwoValues, NamesOther, WrongIds, WrongMetrics, WrongParent, WrongType, has_numbers, is_hist_kind, is_type, type_at}
+use Rattle.otap_metrics.proofs.Cleanness.{clean, given_metrics, given_points, IsUnlike}
 use Rattle.otap_metrics.proofs.MetricColumns.{metrics_are_main, points_are_parts}
+use Rattle.otap_cells.proofs.KindNamed.{id_named}
 
 -- ---- what is decided row by row
 
@@ -130,15 +130,15 @@ module _ (fits : ℕ → Bool) (t main : Table) (parents ids : List (Option ℕ)
 -- ---- ids
 
 abbrev OwnWrong : List Table → TableLink → Type 0
-OwnWrong tables link = (is_other link.kind ≡ false) × SomeWrong tables (table_named link.kind tables) link
+OwnWrong tables link = (is_hist_kind link.kind ≡ false) × SomeWrong tables (table_named link.kind tables) link
 
 own_ids_clean_or_wrong : (tables : List Table) → CleanOrWrong (WrongIds tables)
 own_ids_clean_or_wrong tables =
-    elim (some_or_none (OwnWrong tables) (λ link. both_or_not (is_other link.kind ≡ false) (SomeWrong tables (table_named link.kind tables) link) (is_false (is_other link.kind))
+    elim (some_or_none (OwnWrong tables) (λ link. both_or_not (is_hist_kind link.kind ≡ false) (SomeWrong tables (table_named link.kind tables) link) (is_false (is_hist_kind link.kind))
     (table_or_wrong tables (table_named link.kind tables) link)) (links_of signal.Metrics)) [
       | inl (link, listed, (own, (wrong, is))) ↦ inr (link.kind, wrong, (own, record { link = link; listed = listed; names = refl; is = is }))
       | inr none ↦ inl (λ kind wrong (d : WrongIds tables kind wrong). none d.1.link d.1.listed (
-        ap is_other d.1.names ∙ d.0,
+        ap is_hist_kind d.1.names ∙ d.0,
         (wrong, subst (λ kind. WrongIn tables (table_named kind tables) d.1.link wrong) (sym d.1.names) d.1.is),
       ))
     ]

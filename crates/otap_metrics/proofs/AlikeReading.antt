@@ -1,5 +1,5 @@
 -- Tables of metrics that read as others make their request, and nothing is wrong with them that isn't wrong with the others.
-use Rattle.std.proofs.Common.{◌≡◌, ◌∙◌, ℕ, ◌+◌, ◌<◌, Bool, true, false, List, Option, length, map, drop, refl, ap, subst, inl, inr}
+use Rattle.std.proofs.Common.{◌≡◌, ℕ, ◌+◌, ◌<◌, Bool, true, false, List, Option, length, refl, subst, inl, inr}
 use Rattle.std.specs.Prelude.{All}
 use Rattle.otlp_model.specs.declared.histograms.HistPoint.{HistPoint}
 use Rattle.otlp_model.specs.declared.histograms.SumPoint.{SumPoint}
@@ -8,30 +8,22 @@ use Rattle.otap_cells.specs.declared.payload.Kind.{Kind}
 use Rattle.otap_cells.specs.declared.payload.Kind.TheVariants as table
 use Rattle.otap_cells.specs.Cells.{Cell, nat_in}
 use Rattle.otap_cells.specs.Columns.{is_id_at}
-use Rattle.otap_cells.specs.Continuing.{has_attributes}
-use Rattle.otap_cells.specs.GivenIds.{ReadAs, ids_in}
+use Rattle.otap_cells.specs.GivenIds.{ReadAs}
 use Rattle.otap_cells.specs.Named.{table_named}
 use Rattle.otap_cells.specs.Tables.{Table, cell_in}
 use Rattle.otap_groups.specs.Children.{children}
 use Rattle.otap_groups.specs.Groups.{regrouped}
-use Rattle.otap_groups.specs.Kinds.{IsPart}
-use Rattle.otap_groups.specs.Rows.{child_rows}
 use Rattle.otap_attrs.specs.declared.refusal.RowRefusal.{RowRefusal}
 use Rattle.otap_attrs.specs.declared.refusal.RowRefusal.TheVariants as why
-use Rattle.otap_attrs.specs.Index.{pairs_in}
-use Rattle.otap_checks.specs.Reading.{HasAllIds, main_rows_in, part_rows_in}
-use Rattle.otap_attrs.specs.Defects.{WrongValue}
-use Rattle.otap_checks.proofs.ReadAlike.{all_ids_named, disagrees_told, id_defect_told, ids_same, ids_told, kind_named, main_rows_same, pairs_same, reads_named, value_told}
-use Rattle.otap_attrs.proofs.TablePairs.{attribute_id}
+use Rattle.otap_checks.specs.Reading.{HasAllIds}
+use Rattle.otap_checks.proofs.ReadAlike.{all_ids_named, disagrees_told, id_defect_told, ids_told, reads_named}
+use Rattle.otap_checks.proofs.NamedAlike.{main_alike, pairs_alike, parts_alike, value_alike}
 use Rattle.otap_metrics.specs.Metrics.{metric_of}
 use Rattle.otap_metrics.specs.Numbers.{IsThere}
 use Rattle.otap_metrics.specs.Points.{exemplar_of, point_of}
 use Rattle.otap_metrics.specs.Requests.{HasTwoValues, WrongCells, WrongMetrics, WrongParent, WrongType, exemplars_in, has_numbers, is_type, points_in, regrouped_metrics}
 use Rattle.otap_metrics.proofs.MetricColumns.{exemplars_are_parts, metrics_are_main, points_are_parts}
-
--- a column of ids, in the table of its kind
-pub id_named : (kind : Kind) (column : ℕ) → is_id_at kind column ≡ true → (tables : List Table) → is_id_at (table_named kind tables).kind column ≡ true
-id_named kind column is tables = ap (λ kind. is_id_at kind column) (kind_named tables kind) ∙ is
+use Rattle.otap_cells.proofs.KindNamed.{id_named}
 
 two_told : (a b : Table) → a.rows ≡ b.rows → (column : ℕ) → HasTwoValues a column → HasTwoValues b column
 two_told a b same column w = record {
@@ -49,40 +41,20 @@ type_told a b same w = record {
 }
 
 module _ (tables others : List Table) (reads : ReadAs tables others) (given : All HasAllIds others) where
-  pub pairs_alike : (kind : Kind) → has_attributes kind ≡ true → (parent : Option ℕ) → pairs_in (table_named kind tables) parent ≡ pairs_in (table_named kind others) parent
-  pairs_alike kind is parent =
-      pairs_same (table_named kind tables) (table_named kind others) (reads_named tables others kind reads) (all_ids_named others kind given) parent
-      (id_named kind 0 (attribute_id kind is) others)
-
-  ids_alike : (kind : Kind) (column : ℕ) → is_id_at kind column ≡ true → ids_in (table_named kind tables) column ≡ ids_in (table_named kind others) column
-  ids_alike kind column is =
-      ids_same (table_named kind tables) (table_named kind others) (reads_named tables others kind reads) (all_ids_named others kind given) column (id_named kind column is others)
-
-  pub parts_alike : (kind : Kind) → IsPart kind → part_rows_in (table_named kind tables) ≡ part_rows_in (table_named kind others)
-  parts_alike kind part = λ i.
-      child_rows (ids_alike kind 0 part.id i) (ids_alike kind 1 part.parent i) (map (drop 2) ((reads_named tables others kind reads).same.rows i))
-
-  rows_alike : main_rows_in (table_named table.Metrics tables) ≡ main_rows_in (table_named table.Metrics others)
-  rows_alike =
-      main_rows_same (table_named table.Metrics tables) (table_named table.Metrics others) (reads_named tables others table.Metrics reads) (all_ids_named others table.Metrics given)
-      (id_named table.Metrics 0 metrics_are_main.id others) (id_named table.Metrics 1 metrics_are_main.resource_id others) (id_named table.Metrics 4 metrics_are_main.scope_id others)
-
   exemplars_alike : (parent : Option ℕ) → exemplars_in (table_named table.NumberExemplars tables) (table_named table.NumberExemplarAttrs tables) parent
       ≡ exemplars_in (table_named table.NumberExemplars others) (table_named table.NumberExemplarAttrs others) parent
   exemplars_alike parent = λ i.
-      children (λ id cells. exemplar_of cells (pairs_alike table.NumberExemplarAttrs refl id i)) (parts_alike table.NumberExemplars exemplars_are_parts i) parent
+      children (λ id cells. exemplar_of cells (pairs_alike tables others reads given table.NumberExemplarAttrs refl id i)) (parts_alike tables others reads given table.NumberExemplars exemplars_are_parts i) parent
 
   points_alike : (parent : Option ℕ) → points_in tables parent ≡ points_in others parent
   points_alike parent = λ i.
-      children (λ id cells. point_of cells (pairs_alike table.NumberPointAttrs refl id i) (exemplars_alike id i)) (parts_alike table.NumberPoints points_are_parts i) parent
+      children (λ id cells. point_of cells (pairs_alike tables others reads given table.NumberPointAttrs refl id i) (exemplars_alike id i))
+      (parts_alike tables others reads given table.NumberPoints points_are_parts i) parent
 
   pub same_request : (hists : Option ℕ → List HistPoint) (summaries : Option ℕ → List SumPoint) → regrouped_metrics hists summaries tables ≡ regrouped_metrics hists summaries others
   unfolding regrouped_metrics
-  same_request hists summaries = λ i. regrouped (λ parent. pairs_alike table.ResourceAttrs refl parent i) (λ parent. pairs_alike table.ScopeAttrs refl parent i)
-      (λ id cells. metric_of cells (record { points = points_alike id i; hist_points = hists id; summary_points = summaries id })) (rows_alike i)
-
-  pub value_alike : (kind : Kind) (wrong : RowRefusal) → WrongValue (table_named kind tables) 2 wrong → WrongValue (table_named kind others) 2 wrong
-  value_alike kind wrong = value_told (table_named kind tables) (table_named kind others) (reads_named tables others kind reads) 2 wrong
+  same_request hists summaries = λ i. regrouped (λ parent. pairs_alike tables others reads given table.ResourceAttrs refl parent i) (λ parent. pairs_alike tables others reads given table.ScopeAttrs refl parent i)
+      (λ id cells. metric_of cells (record { points = points_alike id i; hist_points = hists id; summary_points = summaries id })) (main_alike tables others reads given table.Metrics metrics_are_main i)
 
   pub two_alike : (kind : Kind) (column : ℕ) → HasTwoValues (table_named kind tables) column → HasTwoValues (table_named kind others) column
   two_alike kind = two_told (table_named kind tables) (table_named kind others) (reads_named tables others kind reads).same.rows
@@ -128,10 +100,10 @@ module _ (tables others : List Table) (reads : ReadAs tables others) (given : Al
   cells_alike table.Metrics wrong is = metrics_alike wrong is
   cells_alike table.NumberPoints wrong is = numbers_alike wrong is
   cells_alike table.NumberExemplars wrong is = measured_alike wrong is
-  cells_alike table.ResourceAttrs wrong is = value_alike table.ResourceAttrs wrong is
-  cells_alike table.ScopeAttrs wrong is = value_alike table.ScopeAttrs wrong is
-  cells_alike table.NumberPointAttrs wrong is = value_alike table.NumberPointAttrs wrong is
-  cells_alike table.NumberExemplarAttrs wrong is = value_alike table.NumberExemplarAttrs wrong is
+  cells_alike table.ResourceAttrs wrong is = value_alike tables others reads given table.ResourceAttrs 2 wrong is
+  cells_alike table.ScopeAttrs wrong is = value_alike tables others reads given table.ScopeAttrs 2 wrong is
+  cells_alike table.NumberPointAttrs wrong is = value_alike tables others reads given table.NumberPointAttrs 2 wrong is
+  cells_alike table.NumberExemplarAttrs wrong is = value_alike tables others reads given table.NumberExemplarAttrs 2 wrong is
   cells_alike _ wrong is = absurd is
 
   pub wrong_alike : (kind : Kind) (wrong : RowRefusal) → WrongMetrics tables kind wrong → WrongMetrics others kind wrong

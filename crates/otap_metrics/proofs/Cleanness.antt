@@ -1,22 +1,25 @@
 -- What the checks of metrics tell together.
-use Rattle.std.proofs.Common.{◌≡◌, ℕ, length, List, [], Option, refl, inl, inr, subst, arith}
+use Rattle.std.proofs.Common.{◌≡◌, List, [], refl, inl, inr, subst, arith}
 use Rattle.otlp_model.specs.declared.request.Signal.TheVariants as signal
 use Rattle.otap_cells.specs.declared.payload.Kind.{Kind}
 use Rattle.otap_cells.specs.declared.payload.Kind.TheVariants as table
 use Rattle.otap_cells.specs.Named.{table_named}
 use Rattle.otap_cells.specs.Tables.{Table, profile_table}
-use Rattle.otap_groups.specs.Rows.{main_rows}
 use Rattle.otap_attrs.specs.declared.refusal.RowRefusal.{RowRefusal}
 use Rattle.otap_attrs.specs.declared.refusal.RowRefusal.TheVariants as why
 use Rattle.otap_checks.specs.declared.known.ColumnIds.{ColumnIds}
 use Rattle.otap_checks.specs.Given.{AreGiven}
 use Rattle.otap_checks.specs.Known.{Knows}
-use Rattle.otap_checks.specs.Links.{attributes, items, links_of, parts}
+use Rattle.otap_checks.specs.Links.{attributes_link, items, links_of, parts}
 use Rattle.otap_checks.specs.Reading.{Disagrees}
 use Rattle.otap_checks.proofs.TableIds.{clean_given}
-use Rattle.otap_metrics.specs.Inside.{IsUnlike}
+use Rattle.otap_checks.proofs.MissingRows.{none_differ}
 use Rattle.otap_metrics.specs.Whole.{AreWhole, KnowsMetrics}
 use Rattle.otap_metrics.specs.Requests.{WrongCells, WrongIds, WrongMetrics}
+
+-- rows of one id differ
+abbrev pub IsUnlike : List Table → Type 0
+IsUnlike tables = Disagrees (table_named table.Metrics tables)
 
 -- no row has anything wrong
 pub clean : (tables : List Table) → AreWhole tables → (IsUnlike tables → ⊥) → (kind : Kind) (wrong : RowRefusal) → WrongMetrics tables kind wrong → ⊥
@@ -79,11 +82,11 @@ module _ (tables : List Table) (known : List ColumnIds) (all : KnowsMetrics tabl
 
   pub known_resources : Knows (table_named table.ResourceAttrs tables) table.ResourceAttrs known
   unfolding links_of
-  known_resources = all (attributes table.ResourceAttrs table.Metrics 1) (1, omega arith, refl) refl
+  known_resources = all (attributes_link table.ResourceAttrs table.Metrics 1) (1, omega arith, refl) refl
 
   pub known_scopes : Knows (table_named table.ScopeAttrs tables) table.ScopeAttrs known
   unfolding links_of
-  known_scopes = all (attributes table.ScopeAttrs table.Metrics 4) (2, omega arith, refl) refl
+  known_scopes = all (attributes_link table.ScopeAttrs table.Metrics 4) (2, omega arith, refl) refl
 
   pub known_points : Knows (table_named table.NumberPoints tables) table.NumberPoints known
   unfolding links_of
@@ -91,7 +94,7 @@ module _ (tables : List Table) (known : List ColumnIds) (all : KnowsMetrics tabl
 
   pub known_point_pairs : Knows (table_named table.NumberPointAttrs tables) table.NumberPointAttrs known
   unfolding links_of
-  known_point_pairs = all (attributes table.NumberPointAttrs table.NumberPoints 0) (6, omega arith, refl) refl
+  known_point_pairs = all (attributes_link table.NumberPointAttrs table.NumberPoints 0) (6, omega arith, refl) refl
 
   pub known_exemplars : Knows (table_named table.NumberExemplars tables) table.NumberExemplars known
   unfolding links_of
@@ -99,16 +102,8 @@ module _ (tables : List Table) (known : List ColumnIds) (all : KnowsMetrics tabl
 
   pub known_exemplar_pairs : Knows (table_named table.NumberExemplarAttrs tables) table.NumberExemplarAttrs known
   unfolding links_of
-  known_exemplar_pairs = all (attributes table.NumberExemplarAttrs table.NumberExemplars 0) (11, omega arith, refl) refl
+  known_exemplar_pairs = all (attributes_link table.NumberExemplarAttrs table.NumberExemplars 0) (11, omega arith, refl) refl
 
 -- where there are no rows, none differ
-no_rows : (ids resource_ids scope_ids : List (Option ℕ)) → length (main_rows ids resource_ids scope_ids []) ≡ 0
-unfolding main_rows
-no_rows ids resource_ids scope_ids = refl
-
 pub none_unlike : (tables : List Table) (kind : Kind) → table_named table.Metrics tables ≡ profile_table kind [] → IsUnlike tables → ⊥
-none_unlike tables kind none unlike = empty (subst Disagrees none unlike)
-  where
-    empty : Disagrees (profile_table kind []) → ⊥
-    empty (inl d) = absurd (omega (arith, d.differ.first.1, no_rows [] d.ids []))
-    empty (inr d) = absurd (omega (arith, d.differ.first.1, no_rows [] [] d.ids))
+none_unlike tables kind none unlike = none_differ kind (subst Disagrees none unlike)

@@ -3,6 +3,7 @@ use Rattle.std.proofs.Common.{◌≡◌, ℕ, zero, suc, ◌+◌, ◌<◌, ◌�
 use Rattle.std.specs.Prelude.{◌⊎◌, Contains}
 use Rattle.std.proofs.lemmas.Bool.{false≢true}
 use Rattle.std.proofs.lemmas.List.{get_or-map, length-map}
+use Rattle.lists.proofs.Every.{map_over}
 use Rattle.otlp_model.specs.declared.groups.ResourceGroup.{ResourceGroup}
 use Rattle.otlp_model.specs.declared.metrics.Metric.{Metric}
 use Rattle.otlp_model.specs.declared.metrics.Shape.{Shape}
@@ -13,7 +14,7 @@ use Rattle.otap_cells.specs.Cells.{Cell, nat_in, cell_at}
 use Rattle.otap_cells.proofs.ScalarLaws.{number_back}
 use Rattle.otap_cells.specs.Tables.{Table}
 use Rattle.otap_groups.specs.Children.{numbered}
-use Rattle.otap_groups.specs.Flat.{FlatIn, PlacedIn, flat, items_of, numbered_rows, part_rows, placed, placed_at, placed_from}
+use Rattle.otap_groups.specs.Flat.{FlatIn, PlacedIn, flat_items, items_of, numbered_rows, part_rows, placed, placed_at, placed_from}
 use Rattle.otap_groups.specs.Kinds.{IsPart}
 use Rattle.otap_groups.specs.Rows.{ChildRow, MainRow, id_at}
 use Rattle.otap_groups.specs.Stored.{main_table, part_table, stored_rows}
@@ -21,23 +22,22 @@ use Rattle.otap_groups.proofs.FlatItems.{items_of_flat}
 use Rattle.otap_groups.proofs.PartTables.{parents_of}
 use Rattle.otap_groups.proofs.StoredRows.{own_ids_of, part_parents_of}
 use Rattle.otap_checks.proofs.GivenColumns.{one_given}
-use Rattle.otap_metrics.specs.Metrics.{metric_cells, points_of, type_of}
+use Rattle.otap_metrics.specs.Metrics.{metric_cells, points_of, shape_number}
 use Rattle.otap_metrics.specs.Requests.{WrongParent, WrongType, has_numbers, is_type, type_at}
 use Rattle.otap_metrics.proofs.MetricColumns.{metrics_are_main}
 use Rattle.otap_metrics.proofs.NamedTables.{size_of_stored}
-use Rattle.otap_metrics.proofs.WrittenParts.{map_over}
 
 -- ---- the shapes of rows
 
 abbrev types_of : List Metric → List ℕ
-types_of metrics = map (λ (metric : Metric). type_of metric.shape) metrics
+types_of metrics = map (λ (metric : Metric). shape_number metric.shape) metrics
 
 types_from : (step r s : ℕ) (fs : List (FlatIn Metric))
-    → map (λ (row : List Cell). nat_in (cell_at row 9)) (stored_rows metric_cells step r s fs) ≡ map (λ (f : FlatIn Metric). type_of f.item.shape) fs
+    → map (λ (row : List Cell). nat_in (cell_at row 9)) (stored_rows metric_cells step r s fs) ≡ map (λ (f : FlatIn Metric). shape_number f.item.shape) fs
 types_from step r s [] = refl
-types_from step r s (f ∷ fs) = λ i. number_back (type_of f.item.shape) i ∷ types_from 1 f.resource_id f.scope_id fs i
+types_from step r s (f ∷ fs) = λ i. number_back (shape_number f.item.shape) i ∷ types_from 1 f.resource_id f.scope_id fs i
 
-type_fits : (shape : Shape) → is_type (type_of shape) ≡ true
+type_fits : (shape : Shape) → is_type (shape_number shape) ≡ true
 type_fits shapes.Empty = refl
 type_fits (shapes.Gauge points) = refl
 type_fits (shapes.Sum points temporality monotonic) = refl
@@ -58,11 +58,11 @@ module _ (groups : List (ResourceGroup Metric)) where
   type_is row there =
       sym (get_or-map (λ (row : List Cell). nat_in (cell_at row 9)) main.rows row [] 0 there)
       ∙ ap (λ (types : List ℕ). get_or types row 0)
-      (types_from 0 0 0 (flat groups) ∙ map_over (λ (f : FlatIn Metric). f.item) (λ (metric : Metric). type_of metric.shape) (flat groups) ∙ ap types_of (items_of_flat groups))
+      (types_from 0 0 0 (flat_items groups) ∙ map_over (λ (f : FlatIn Metric). f.item) (λ (metric : Metric). shape_number metric.shape) (flat_items groups) ∙ ap types_of (items_of_flat groups))
 
-  size_is : length main.rows ≡ length (flat groups)
+  size_is : length main.rows ≡ length (flat_items groups)
   unfolding main_table
-  size_is = size_of_stored 0 0 0 (flat groups)
+  size_is = size_of_stored 0 0 0 (flat_items groups)
 
   -- each row has the number of a shape
   pub types_fine : WrongType main → ⊥
@@ -111,7 +111,7 @@ module _ {C : Type 0} where
 -- ---- points below metrics
 
 -- parts of some shapes alone: a shape that doesn't fit has none
-module _ {C : Type 0} (fits : ℕ → Bool) (parts : Shape → List C) (fit : (shape : Shape) → fits (type_of shape) ≡ false → parts shape ≡ []) where
+module _ {C : Type 0} (fits : ℕ → Bool) (parts : Shape → List C) (fit : (shape : Shape) → fits (shape_number shape) ≡ false → parts shape ≡ []) where
   none_below : (metrics : List Metric) (row : ℕ) → fits (get_or (types_of metrics) row 0) ≡ false → get_or (map (λ (metric : Metric). parts metric.shape) metrics) row [] ≡ []
   none_below [] row other = refl
   none_below (metric ∷ metrics) zero other = fit metric.shape other
@@ -123,17 +123,17 @@ module _ {C : Type 0} (fits : ℕ → Bool) (parts : Shape → List C) (fit : (s
   parents_fine groups kind cells_of part few wrong =
       let lists : List (List C) = map (λ (metric : Metric). parts metric.shape) (items_of groups) in
       let few_lists : length lists ≤ 2 ^ 32 = (let size = length-map (items_of groups) (λ (metric : Metric). parts metric.shape) in omega (arith, size, few)) in
-      let ids : wrong.ids ≡ map (λ (row : MainRow). row.id) (numbered_rows metric_cells 0 (flat groups)) =
+      let ids : wrong.ids ≡ map (λ (row : MainRow). row.id) (numbered_rows metric_cells 0 (flat_items groups)) =
       one_given (main groups) 0 wrong.ids _ wrong.known (own_ids_of metric_cells table.Metrics groups metrics_are_main few) in
       let parents : wrong.parents ≡ parents_of cells_of lists =
       one_given (part_table kind cells_of lists) 1 wrong.parents _ wrong.are (part_parents_of kind cells_of lists part few_lists) in
       let row : ℕ = wrong.is.row in
       let id : Some wrong.is.id ≡ Some row = sym wrong.is.own ∙ ap (λ ids. id_at ids row) ids
-      ∙ own_at 0 row (flat groups) (let size = size_is groups in let there = wrong.is.there in omega (arith, size, there)) ∙ ap Some (omega arith) in
+      ∙ own_at 0 row (flat_items groups) (let size = size_is groups in let there = wrong.is.there in omega (arith, size, there)) ∙ ap Some (omega arith) in
       some_parts cells_of lists row (subst (λ ids. Contains ids (Some row)) parents (subst (Contains wrong.parents) id wrong.is.named))
       (none_below (items_of groups) row (ap fits (sym (type_is groups row wrong.is.there)) ∙ wrong.is.other))
 
-pub numbers_fit : (shape : Shape) → has_numbers (type_of shape) ≡ false → points_of shape ≡ []
+pub numbers_fit : (shape : Shape) → has_numbers (shape_number shape) ≡ false → points_of shape ≡ []
 numbers_fit shapes.Empty other = refl
 numbers_fit (shapes.Gauge points) other = absurd (false≢true (sym other))
 numbers_fit (shapes.Sum points temporality monotonic) other = absurd (false≢true (sym other))

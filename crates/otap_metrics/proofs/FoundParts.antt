@@ -2,7 +2,8 @@
 -- what they stand below.
 use Rattle.std.proofs.Common.{◌≡◌, ℕ, suc, List, [], ◌∷◌, Option, map}
 use Rattle.std.specs.Prelude.{All}
-use Rattle.std.proofs.lemmas.List.Elements.{All-map, All-weaker}
+use Rattle.std.proofs.lemmas.List.Elements.{All-map, All-weaker, recursion_from_All}
+use Rattle.lists.proofs.Every.{all_joined}
 use Rattle.otlp_model.specs.Profile.{IsProfile, IsProfileMetric}
 use Rattle.otlp_model.specs.Real.{IsReal, IsRealMetric}
 use Rattle.otlp_model.specs.Telemetry.{groups_with_items}
@@ -17,20 +18,19 @@ use Rattle.otlp_model.specs.declared.metrics.Point.{Point}
 use Rattle.otlp_model.specs.declared.request.Request.TheVariants.{Metrics}
 use Rattle.otlp_model.specs.declared.value.Pair.{Pair}
 use Rattle.otap_cells.specs.Cells.{Cell}
-use Rattle.otap_groups.specs.Children.{Agree, Reads, children, numbered}
-use Rattle.otap_groups.specs.Flat.{flat, items_of, numbered_rows, part_rows, placed, resources_of, scopes_of}
+use Rattle.otap_groups.specs.Children.{Agree, ReadsEach, children, numbered}
+use Rattle.otap_groups.specs.Flat.{flat_items, items_of, numbered_rows, part_rows, placed, resources_of, scopes_of}
 use Rattle.otap_groups.specs.Groups.{regrouped}
 use Rattle.otap_groups.specs.Weighing.{CanWriteGroup}
 use Rattle.otap_groups.proofs.Grouping.{groups_back}
 use Rattle.otap_groups.proofs.ReadLaws.{agree_two, agrees_with, reads_with}
 use Rattle.otap_groups.proofs.RealGroups.{real_groups}
 use Rattle.otap_groups.proofs.WritableGroups.{all_items_can, all_resources_can, all_scopes_can}
-use Rattle.otap_checks.proofs.PairsAgain.{AreBack, IsBackResource, IsBackScope, all_every, pairs_agree, pairs_back, unsorted}
+use Rattle.otap_checks.proofs.PairsAgain.{AreBack, IsBackResource, IsBackScope, pairs_agree, pairs_back, unsorted}
 use Rattle.otap_metrics.specs.Metrics.{Below, hist_points_of, metric_cells, metric_of, points_of, summary_points_of}
 use Rattle.otap_metrics.specs.Points.{exemplar_cells, exemplar_of, point_cells, point_of}
 use Rattle.otap_metrics.specs.Tables.{all_exemplars, all_points, exemplar_lists, exemplar_pairs, hist_lists, point_lists, point_pairs, resource_pairs, scope_pairs, summary_lists}
 use Rattle.otap_metrics.proofs.MetricsBack.{IsBackExemplar, IsBackMetric, IsBackPoint, below_of, metric_again}
-use Rattle.otap_metrics.proofs.WrittenParts.{all_joined}
 
 -- ---- what is found
 
@@ -83,7 +83,7 @@ module _ (groups : List (ResourceGroup Metric)) (back : All IsBack groups) where
   exemplars_agree : Agree (exemplars_found groups) 0 (exemplar_lists groups)
   exemplars_agree =
       agrees_with exemplar_cells exemplar_of (λ (exemplar : Exemplar). exemplar.pairs) (unsorted (exemplar_pairs groups)) IsBackExemplar (λ exemplar back. back.again)
-      (exemplar_lists groups) (all_every IsBackExemplar (all_exemplars groups) exemplars_back) exemplar_pairs_agree
+      (exemplar_lists groups) (recursion_from_All IsBackExemplar (all_exemplars groups) exemplars_back) exemplar_pairs_agree
 
   point_pairs_agree : Agree (unsorted (point_pairs groups)) 0 (point_pairs groups)
   point_pairs_agree = pairs_agree (point_pairs groups) (All-map AreBack (λ (point : Point). point.pairs) (all_points groups)
@@ -93,15 +93,15 @@ module _ (groups : List (ResourceGroup Metric)) (back : All IsBack groups) where
   points_agree =
       agrees_with {D = List Pair × List Exemplar} point_cells (λ cells below. point_of cells below.0 below.1) (λ (point : Point). (point.pairs, point.exemplars))
       (λ id. (unsorted (point_pairs groups) id, exemplars_found groups id)) IsBackPoint (λ point back. back.again)
-      (point_lists groups) (all_every IsBackPoint (all_points groups) points_back)
+      (point_lists groups) (recursion_from_All IsBackPoint (all_points groups) points_back)
       (agree_two (unsorted (point_pairs groups)) (exemplars_found groups) (λ (point : Point). point.pairs) (λ (point : Point). point.exemplars) 0 (all_points groups)
       point_pairs_agree exemplars_agree)
 
   pub metrics_read : (hists : Option ℕ → List HistPoint) (summaries : Option ℕ → List SumPoint) → Agree hists 0 (hist_lists groups) → Agree summaries 0 (summary_lists groups)
-      → Reads numbered metric_cells (metric_found groups hists summaries) 0 (items_of groups)
+      → ReadsEach numbered metric_cells (metric_found groups hists summaries) 0 (items_of groups)
   metrics_read hists summaries of_hists of_summaries =
       reads_with metric_cells metric_of (λ (metric : Metric). below_of metric.shape) (below_found groups hists summaries) IsBackMetric (λ metric back. back.again) 0 (items_of groups)
-      (all_every IsBackMetric (items_of groups) metrics_back) (agree_three (points_found groups) hists summaries 0 (items_of groups) points_agree of_hists of_summaries)
+      (recursion_from_All IsBackMetric (items_of groups) metrics_back) (agree_three (points_found groups) hists summaries 0 (items_of groups) points_agree of_hists of_summaries)
 
   pub resources_agree : Agree (unsorted (resource_pairs groups)) 0 (resource_pairs groups)
   resources_agree = pairs_agree (resource_pairs groups) (All-map AreBack (λ (resource : Resource). resource.pairs) (resources_of groups)
@@ -113,7 +113,7 @@ module _ (groups : List (ResourceGroup Metric)) (back : All IsBack groups) where
 
   -- the request itself comes back
   pub unsorted_back : (hists : Option ℕ → List HistPoint) (summaries : Option ℕ → List SumPoint) → Agree hists 0 (hist_lists groups) → Agree summaries 0 (summary_lists groups)
-      → regrouped (unsorted (resource_pairs groups)) (unsorted (scope_pairs groups)) (metric_found groups hists summaries) (numbered_rows metric_cells 0 (flat groups)) ≡ groups_with_items groups
+      → regrouped (unsorted (resource_pairs groups)) (unsorted (scope_pairs groups)) (metric_found groups hists summaries) (numbered_rows metric_cells 0 (flat_items groups)) ≡ groups_with_items groups
   unsorted_back hists summaries of_hists of_summaries =
       groups_back metric_cells (unsorted (resource_pairs groups)) (unsorted (scope_pairs groups)) (metric_found groups hists summaries) groups
       (metrics_read hists summaries of_hists of_summaries) resources_agree scopes_agree

@@ -2,7 +2,7 @@
 use Rattle.std.proofs.Common.{◌≡◌, ℕ, ◌+◌, ◌*◌, ◌≤◌, List, [], ◌∷◌, ◌++◌, length, map, arith}
 use Rattle.std.specs.Prelude.{All}
 use Rattle.std.specs.List.{flat_map}
-use Rattle.std.proofs.lemmas.List.Elements.{All-nil, All-cons, All-head, All-tail}
+use Rattle.std.proofs.lemmas.List.Elements.{All-nil}
 use Rattle.otlp_model.specs.Limits.{weight_limit}
 use Rattle.otlp_model.specs.Profile.{IsProfileExemplar, IsProfileMetric, IsProfilePoint, IsProfileShape}
 use Rattle.otlp_model.specs.Weight.{total, weight_of_exemplar, weight_of_metric, weight_of_point, weight_of_resource_group, weight_of_scope_group, weight_of_shape}
@@ -13,6 +13,7 @@ use Rattle.otlp_model.specs.declared.metrics.Metric.{Metric}
 use Rattle.otlp_model.specs.declared.metrics.Point.{Point}
 use Rattle.otlp_model.specs.declared.metrics.Shape.{Shape}
 use Rattle.otlp_model.specs.declared.metrics.Shape.TheVariants as shapes
+use Rattle.otlp_model.proofs.Totals.{few_parts, parts_can}
 use Rattle.otap_groups.specs.Flat.{items_of}
 use Rattle.otap_metrics.specs.Metrics.{points_of}
 use Rattle.otap_metrics.specs.Tables.{all_exemplars, all_points}
@@ -24,10 +25,6 @@ pub total_append : {A : Type 0} (each : ℕ) (weigh : A → ℕ) (xs ys : List A
 total_append each weigh [] ys = omega arith
 total_append each weigh (x ∷ xs) ys = let more = total_append each weigh xs ys in omega (arith, more)
 
-pub few_parts : {A : Type 0} (weigh : A → ℕ) (parts : List A) → 32 * length parts ≤ total 32 weigh parts
-few_parts weigh [] = omega arith
-few_parts weigh (part ∷ parts) = let more = few_parts weigh parts in omega (arith, more)
-
 -- where the parts of each weigh no more than it
 pub parts_light : {A B : Type 0} (weigh : A → ℕ) (below : B → ℕ) (parts : A → List B) → ((a : A) → total 32 below (parts a) ≤ weigh a) → (xs : List A)
     → total 32 below (flat_map (λ (ys : List B). ys) (map parts xs)) ≤ total 32 weigh xs
@@ -37,12 +34,6 @@ parts_light {B = B} weigh below parts light (x ∷ xs) =
     let b = parts_light weigh below parts light xs in
     let c = total_append 32 below (parts x) (flat_map (λ (ys : List B). ys) (map parts xs)) in
     omega (arith, a, b, c)
-
-parts_can : {A : Type 0} (IsPart OfPart : A → Type 0) (weigh : A → ℕ) (n : ℕ) → ((part : A) → IsPart part → weigh part ≤ n → OfPart part)
-    → (parts : List A) → All IsPart parts → total 32 weigh parts ≤ n → All OfPart parts
-parts_can IsPart OfPart weigh n can [] all few = All-nil OfPart
-parts_can IsPart OfPart weigh n can (part ∷ parts) all few =
-    All-cons OfPart part parts (can part (All-head IsPart part parts all) (omega arith)) (parts_can IsPart OfPart weigh n can parts (All-tail IsPart part parts all) (omega arith))
 
 module _ {I : Type 0} (weigh : I → ℕ) where
   scopes_light : (groups : List (ScopeGroup I)) → total 32 weigh (flat_map (λ (group : ScopeGroup I). group.items) groups) ≤ total 32 (weight_of_scope_group weigh) groups
@@ -96,7 +87,7 @@ module _ (groups : List (ResourceGroup Metric)) where
 
 -- ---- what can be written
 
-exemplar_can : (exemplar : Exemplar) → IsProfileExemplar exemplar → weight_of_exemplar exemplar ≤ weight_limit → CanWriteExemplar exemplar
+pub exemplar_can : (exemplar : Exemplar) → IsProfileExemplar exemplar → weight_of_exemplar exemplar ≤ weight_limit → CanWriteExemplar exemplar
 exemplar_can exemplar is few = record { trace_id = is.trace_id; span_id = is.span_id; pairs = omega arith }
 
 point_can : (point : Point) → IsProfilePoint point → weight_of_point point ≤ weight_limit → CanWritePoint point

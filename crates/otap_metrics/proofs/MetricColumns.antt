@@ -2,7 +2,7 @@
 use Rattle.std.proofs.Common.{◌≡◌, ℕ, ◌<◌, true, List, length, refl, ap, arith}
 use Rattle.otap_cells.specs.declared.payload.Kind.TheVariants as table
 use Rattle.otap_cells.specs.declared.payload.Kind.{Kind}
-use Rattle.otap_cells.specs.Columns.{ColumnSpec, attrs, columns_of, deep_attrs, exemplars, is_id_at, metrics, number_points, width_of}
+use Rattle.otap_cells.specs.Columns.{ColumnSpec, columns_of, deep_attrs, exemplars, is_id_at, metrics, number_points, width_of}
 use Rattle.otap_groups.specs.Kinds.{IsMain, IsPart}
 use Rattle.otap_groups.proofs.IdColumns.{each_id}
 use Rattle.otap_attrs.specs.Values.{HasValueAt}
@@ -32,14 +32,6 @@ points_are_parts = record { wide = omega arith; other = refl; id = refl; parent 
 pub exemplars_are_parts : IsPart table.NumberExemplars
 unfolding exemplars
 exemplars_are_parts = record { wide = omega arith; other = refl; id = refl; parent = refl; ids_rise = refl }
-
-pub has_resource_value : HasValueAt table.ResourceAttrs 2
-unfolding attrs
-has_resource_value = record { bases = refl }
-
-pub has_scope_value : HasValueAt table.ScopeAttrs 2
-unfolding attrs
-has_scope_value = record { bases = refl }
 
 pub has_point_value : HasValueAt table.NumberPointAttrs 2
 unfolding deep_attrs

@@ -1,5 +1,5 @@
 -- The cells of real metrics, points and exemplars of the profile fit their columns.
-use Rattle.std.proofs.Common.{◌^◌, true, false, List, ◌∷◌, drop, arith}
+use Rattle.std.proofs.Common.{◌^◌, true, List, ◌∷◌, drop, arith, false}
 use Rattle.std.specs.Prelude.{IsTrue}
 use Rattle.std.proofs.lemmas.Bool.{ltb-true}
 use Rattle.otlp_model.specs.Profile.{IsProfileExemplar}
@@ -14,13 +14,14 @@ use Rattle.otlp_model.specs.declared.metrics.Shape.TheVariants as shapes
 use Rattle.otlp_model.proofs.RealParts.{signed_of_real}
 use Rattle.otap_cells.specs.declared.payload.Kind.TheVariants as table
 use Rattle.otap_cells.specs.declared.profile.Base.TheVariants as base
-use Rattle.otap_cells.specs.Cells.{Cell, IsCellOf, bits, bytes, flag, null, number}
+use Rattle.otap_cells.specs.Cells.{Cell, IsCellOf}
 use Rattle.otap_cells.specs.Columns.{columns_of, exemplars, metrics, number_points}
 use Rattle.otap_cells.specs.Scalars.{int_cell, number_cell}
 use Rattle.otap_cells.specs.Tables.{IsRow}
 use Rattle.otap_groups.proofs.ProfileRows.{number_fits, text_fits}
 use Rattle.otap_attrs.proofs.CellFits.{bits_fit, flag_fits, small_fits, span_fits, trace_fits}
-use Rattle.otap_metrics.specs.Metrics.{is_monotonic, metric_cells, temporality_of, type_of}
+use Rattle.otap_attrs.proofs.AttributeRows.{either_width}
+use Rattle.otap_metrics.specs.Metrics.{is_monotonic, metric_cells, temporality_of, shape_number}
 use Rattle.otap_metrics.specs.Numbers.{double_value, int_value}
 use Rattle.otap_metrics.specs.Points.{exemplar_cells, point_cells}
 
@@ -36,7 +37,7 @@ double_fits numbers.Missing real = tt
 double_fits (numbers.Int z) real = tt
 double_fits (numbers.Double n) real = ltb-true n (2 ^ 64) real
 
-type_fits : (shape : Shape) → IsCellOf base.U8 (number_cell (type_of shape))
+type_fits : (shape : Shape) → IsCellOf base.U8 (number_cell (shape_number shape))
 type_fits shapes.Empty = tt
 type_fits (shapes.Gauge points) = omega arith
 type_fits (shapes.Sum points temporality monotonic) = omega arith
@@ -84,18 +85,10 @@ exemplar_own exemplar real is = (
 
 -- ---- the ids in front
 
--- wide and narrow ids hold the same numbers
-pub either : (cell : Cell) → IsCellOf (base.Id true) cell → IsCellOf (base.Id false) cell
-either null fits = fits
-either (number n) fits = fits
-either (bits n) fits = fits
-either (flag b) fits = absurd cc
-either (bytes part) fits = fits
-
 pub point_row : (id parent : Cell) (cells : List Cell) → IsCellOf (base.Id true) id → IsCellOf (base.Id true) parent → IsRow (drop 2 number_points) cells
     → IsRow (columns_of table.NumberPoints) (id ∷ parent ∷ cells)
 unfolding number_points
-point_row id parent cells a b own = (a, (either parent b, own))
+point_row id parent cells a b own = (a, (either_width true false parent b, own))
 
 pub exemplar_row : (id parent : Cell) (cells : List Cell) → IsCellOf (base.Id true) id → IsCellOf (base.Id true) parent → IsRow (drop 2 exemplars) cells
     → IsRow (columns_of table.NumberExemplars) (id ∷ parent ∷ cells)

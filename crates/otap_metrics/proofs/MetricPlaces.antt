@@ -1,26 +1,22 @@
 -- The own cells of metrics, points and exemplars stand in their rows after those of the front.
-use Rattle.std.proofs.Common.{◌≡◌, ℕ, ◌+◌, ◌^◌, ◌<◌, List, [], ◌∷◌, map, drop, length, get_or, ◌∙◌, sym, ap, arith}
+use Rattle.std.proofs.Common.{◌≡◌, ℕ, ◌+◌, ◌^◌, ◌<◌, List, [], ◌∷◌, map, drop, length, ◌∙◌, sym, ap, arith}
 use Rattle.std.specs.Prelude.{min, sum}
-use Rattle.std.proofs.lemmas.List.{get_or-map, get_or-drop, length-map}
+use Rattle.std.proofs.lemmas.List.{length-map}
+use Rattle.lists.proofs.Numbers.{capped_both, capped_fourth}
 use Rattle.otlp_model.specs.Weight.{total, weight_of_exemplar, weight_of_metric, weight_of_pair, weight_of_point, weight_of_shape}
 use Rattle.otlp_model.specs.declared.metrics.Exemplar.{Exemplar}
 use Rattle.otlp_model.specs.declared.metrics.Metric.{Metric}
 use Rattle.otlp_model.specs.declared.metrics.Point.{Point}
 use Rattle.otlp_model.specs.declared.metrics.Shape.{Shape}
 use Rattle.otlp_model.specs.declared.value.Pair.{Pair}
-use Rattle.otap_cells.specs.Cells.{Cell, null, bytes_in, nat_in, cell_at}
+use Rattle.otap_cells.specs.Cells.{Cell, bytes_in, nat_in, cell_at}
+use Rattle.otlp_model.proofs.Totals.{below_weighs}
 use Rattle.otap_cells.specs.Scalars.{bits_in, flag_in, int_in}
 use Rattle.otap_cells.specs.Tables.{cell_in}
 use Rattle.otap_metrics.specs.Metrics.{Below, metric_of, shape_of}
 use Rattle.otap_metrics.specs.Numbers.{measured_in}
 use Rattle.otap_metrics.specs.Points.{exemplar_of, point_of}
-
--- the own cells of a row, after this many of the front
-abbrev pub own_cells : ℕ → List (List Cell) → ℕ → List Cell
-own_cells front rows row = get_or (map (drop front) rows) row []
-
-pub own_cell : (front : ℕ) (rows : List (List Cell)) (row k : ℕ) → row < length rows → cell_at (own_cells front rows row) k ≡ cell_in rows (front + k) row
-own_cell front rows row k within = rw (get_or-map (drop front) rows row [] [] within) (get_or-drop front (get_or rows row []) k null)
+use Rattle.otap_cells.proofs.OwnCells.{length_own, own_cell, own_cells}
 
 -- ---- reading
 
@@ -74,19 +70,6 @@ exemplar_read exemplar rows row pairs inside is_time is_value is_span is_trace a
 
 -- ---- weights, told from the bytes of cells and from what is below
 
--- the bytes of a cell, by its place among the own ones
-length_own : (front : ℕ) (rows : List (List Cell)) (row k : ℕ) (part : List ℕ) → row < length rows → part ≡ bytes_in (cell_in rows (front + k) row)
-    → length part ≡ length (bytes_in (cell_at (own_cells front rows row) k))
-length_own front rows row k part within is = ap length (is ∙ ap bytes_in (sym (own_cell front rows row k within)))
-
--- what is below weighs as it is told, where each part does
-pub below_weighs : {C : Type 0} (below : ℕ) (weigh weight : C → ℕ) (parts : List C) → ((part : C) → weigh part ≡ weight part) → below ≡ min (total 32 weigh parts) (2 ^ 63)
-    → below ≡ min (total 32 weight parts) (2 ^ 63)
-below_weighs {C = C} below weigh weight parts same is = is ∙ ap (λ (w : C → ℕ). min (total 32 w parts) (2 ^ 63)) (λ i part. same part i)
-
-metric_sum : (a b c p n x : ℕ) → p ≡ min x (2 ^ 63) → n ≡ min (sum (a ∷ b ∷ c ∷ p ∷ [])) (2 ^ 63) → n ≡ min (a + b + c + x) (2 ^ 63)
-metric_sum a b c p n x of_p of_n = omega arith
-
 pub metric_weighs : (rows : List (List Cell)) (row : ℕ) (below : Below) (name description unit : List ℕ) (of_shape total_weight : ℕ) → row < length (map (drop 9) rows)
     → name ≡ bytes_in (cell_in rows 10 row) → description ≡ bytes_in (cell_in rows 11 row) → unit ≡ bytes_in (cell_in rows 12 row)
     → of_shape ≡ min (weight_of_shape (shape_at rows row below)) (2 ^ 63)
@@ -95,12 +78,9 @@ pub metric_weighs : (rows : List (List Cell)) (row : ℕ) (below : Below) (name 
 unfolding metric_of
 metric_weighs rows row below name description unit of_shape total_weight inside is_name is_description is_unit is_shape is_total =
     let within : row < length rows = simp length-map at inside in
-    metric_sum (length name) (length description) (length unit) of_shape total_weight (weight_of_shape (shape_at rows row below)) is_shape is_total
+    capped_fourth (length name) (length description) (length unit) of_shape total_weight (weight_of_shape (shape_at rows row below)) is_shape is_total
     ∙ (λ i. min (length_own 9 rows row 1 name within is_name i + length_own 9 rows row 2 description within is_description i
     + length_own 9 rows row 3 unit within is_unit i + weight_of_shape (shape_own rows row below within i)) (2 ^ 63))
-
-point_sum : (p e n x y : ℕ) → p ≡ min x (2 ^ 63) → e ≡ min y (2 ^ 63) → n ≡ min (sum (p ∷ e ∷ [])) (2 ^ 63) → n ≡ min (x + y) (2 ^ 63)
-point_sum p e n x y of_p of_e of_n = omega arith
 
 pub point_weighs : (cells : List Cell) (pairs : List Pair) (exemplars : List Exemplar) (of_pairs of_exemplars total_weight : ℕ) (weigh_pair : Pair → ℕ) (weigh_exemplar : Exemplar → ℕ)
     → ((pair : Pair) → weigh_pair pair ≡ weight_of_pair pair) → of_pairs ≡ min (total 32 weigh_pair pairs) (2 ^ 63)
@@ -108,7 +88,7 @@ pub point_weighs : (cells : List Cell) (pairs : List Pair) (exemplars : List Exe
     → total_weight ≡ min (sum (of_pairs ∷ of_exemplars ∷ [])) (2 ^ 63) → total_weight ≡ min (weight_of_point (point_of cells pairs exemplars)) (2 ^ 63)
 unfolding point_of
 point_weighs cells pairs exemplars of_pairs of_exemplars total_weight weigh_pair weigh_exemplar same_pairs is_pairs same_exemplars is_exemplars is_total =
-    point_sum of_pairs of_exemplars total_weight (total 32 weight_of_pair pairs) (total 32 weight_of_exemplar exemplars)
+    capped_both of_pairs of_exemplars total_weight (total 32 weight_of_pair pairs) (total 32 weight_of_exemplar exemplars)
     (below_weighs of_pairs weigh_pair weight_of_pair pairs same_pairs is_pairs) (below_weighs of_exemplars weigh_exemplar weight_of_exemplar exemplars same_exemplars is_exemplars) is_total
 
 exemplar_sum : (a b p n x : ℕ) → p ≡ min x (2 ^ 63) → n ≡ min (sum (a ∷ b ∷ p ∷ [])) (2 ^ 63) → n ≡ min (a + b + x) (2 ^ 63)

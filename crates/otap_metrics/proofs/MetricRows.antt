@@ -1,5 +1,5 @@
 -- The rows of metrics, points and exemplars: their cells fit their columns, and what they weigh.
-use Rattle.std.proofs.Common.{◌≡◌, ◌+◌, ◌<◌, Bool, true, false, List, [], ◌∷◌, ◌++◌, length, drop, refl, arith}
+use Rattle.std.proofs.Common.{◌≡◌, ◌+◌, ◌<◌, true, false, List, [], ◌∷◌, ◌++◌, length, drop, refl, arith}
 use Rattle.otlp_model.specs.declared.metrics.Metric.{Metric}
 use Rattle.otlp_model.specs.declared.metrics.Number.{Number}
 use Rattle.otlp_model.specs.declared.metrics.Number.TheVariants as numbers
@@ -11,17 +11,16 @@ use Rattle.otap_cells.specs.declared.payload.Kind.TheVariants as table
 use Rattle.otap_cells.specs.declared.profile.Base.TheVariants as base
 use Rattle.otap_cells.specs.Cells.{Cell, IsCellOf}
 use Rattle.otap_cells.specs.Columns.{columns_of, common, exemplars, metrics, number_points}
-use Rattle.otap_cells.specs.Scalars.{flag_cell}
 use Rattle.otap_cells.specs.Tables.{IsRow}
 use Rattle.otap_cells.specs.Weights.{cell_weight}
 use Rattle.otap_groups.specs.Weighing.{cells_weight}
 use Rattle.otap_groups.proofs.ProfileRows.{rows_join}
-use Rattle.otap_attrs.proofs.AttributesWeighed.{text_weighs, number_weighs, int_weighs_nothing, bits_weigh}
-use Rattle.otap_metrics.specs.Metrics.{is_monotonic, metric_cells, temporality_of, type_of}
+use Rattle.otap_metrics.specs.Metrics.{is_monotonic, metric_cells, temporality_of, shape_number}
 use Rattle.otap_metrics.specs.Numbers.{double_value, int_value}
 use Rattle.otap_metrics.specs.Points.{point_cells}
+use Rattle.otap_cells.proofs.ScalarLaws.{text_weighs, number_weighs, int_weighs_nothing, bits_weigh, flag_weighs}
 
-pub small_type : (shape : Shape) → type_of shape < 256
+pub small_type : (shape : Shape) → shape_number shape < 256
 small_type shapes.Empty = omega arith
 small_type (shapes.Gauge points) = omega arith
 small_type (shapes.Sum points temporality monotonic) = omega arith
@@ -54,10 +53,6 @@ exemplar_fits kind id parent time int double span trace is f0 f1 f2 f3 f4 f5 f6 
 
 -- ---- what they weigh
 
-flag_weighs : (b : Bool) → cell_weight (flag_cell b) ≡ 0
-flag_weighs true = refl
-flag_weighs false = refl
-
 number_is_light : (n : Number) → cell_weight (int_value n) + cell_weight (double_value n) ≡ 0
 number_is_light numbers.Missing = refl
 number_is_light (numbers.Int n) = refl
@@ -65,7 +60,7 @@ number_is_light (numbers.Double n) = refl
 
 pub metric_weighs : (metric : Metric) → cells_weight (metric_cells metric) ≡ length metric.name + length metric.description + length metric.unit
 metric_weighs metric =
-    let a = number_weighs (type_of metric.shape) in
+    let a = number_weighs (shape_number metric.shape) in
     let b = text_weighs metric.name in
     let c = text_weighs metric.description in
     let d = text_weighs metric.unit in

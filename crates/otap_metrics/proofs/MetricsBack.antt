@@ -2,6 +2,7 @@
 use Rattle.std.proofs.Common.{◌≡◌, List, refl}
 use Rattle.std.specs.Prelude.{All}
 use Rattle.std.proofs.lemmas.List.Elements.{All-nil}
+use Rattle.lists.proofs.Every.{all_of_both}
 use Rattle.otlp_model.specs.Profile.{IsProfileExemplar, IsProfileMetric, IsProfilePoint, IsProfileShape}
 use Rattle.otlp_model.specs.Real.{IsRealExemplar, IsRealMetric, IsRealPoint, IsRealShape}
 use Rattle.otlp_model.specs.declared.metrics.Exemplar.{Exemplar}
@@ -14,9 +15,8 @@ use Rattle.otlp_model.specs.declared.metrics.Shape.TheVariants as shapes
 use Rattle.otap_cells.specs.Cells.{nat_in}
 use Rattle.otap_cells.specs.Scalars.{flag_cell, flag_in, int_cell, int_in, number_cell}
 use Rattle.otap_cells.proofs.ScalarLaws.{text_back, number_back, int_back, bits_back, flag_back}
-use Rattle.otap_groups.proofs.RealGroups.{real_items}
 use Rattle.otap_checks.proofs.PairsAgain.{AreBack, pairs_back}
-use Rattle.otap_metrics.specs.Metrics.{Below, hist_points_of, is_monotonic, metric_cells, metric_of, points_of, shape_of, summary_points_of, temporality_of, type_of}
+use Rattle.otap_metrics.specs.Metrics.{Below, hist_points_of, is_monotonic, metric_cells, metric_of, points_of, shape_of, summary_points_of, temporality_of, shape_number}
 use Rattle.otap_metrics.specs.Numbers.{double_value, int_value, measured_in}
 use Rattle.otap_metrics.specs.Points.{exemplar_cells, exemplar_of, point_cells, point_of}
 
@@ -63,11 +63,11 @@ point_again : (point : Point) → IsRealPoint point → IsProfilePoint point →
 point_again point real is = record {
   again = point_back point;
   pairs = pairs_back point.pairs real.pairs is.pairs.at;
-  exemplars = real_items IsRealExemplar IsProfileExemplar IsBackExemplar exemplar_again point.exemplars real.exemplars.at is.exemplars.at;
+  exemplars = all_of_both IsRealExemplar IsProfileExemplar IsBackExemplar exemplar_again point.exemplars real.exemplars.at is.exemplars.at;
 }
 
 points_again : (points : List Point) → All IsRealPoint points → All IsProfilePoint points → All IsBackPoint points
-points_again = real_items IsRealPoint IsProfilePoint IsBackPoint point_again
+points_again = all_of_both IsRealPoint IsProfilePoint IsBackPoint point_again
 
 -- ---- metrics
 
@@ -79,7 +79,7 @@ pub record IsBackMetric (metric : Metric) : Type 0 where
   pub points : All IsBackPoint (points_of metric.shape)
 
 shape_back : (shape : Shape)
-    → shape_of (nat_in (number_cell (type_of shape))) (int_in (int_cell (temporality_of shape))) (flag_in (flag_cell (is_monotonic shape))) (below_of shape) ≡ shape
+    → shape_of (nat_in (number_cell (shape_number shape))) (int_in (int_cell (temporality_of shape))) (flag_in (flag_cell (is_monotonic shape))) (below_of shape) ≡ shape
 shape_back shapes.Empty = refl
 shape_back (shapes.Gauge points) = refl
 shape_back (shapes.Sum points temporality monotonic) = λ i. shapes.Sum points (int_back temporality i) (flag_back monotonic i)

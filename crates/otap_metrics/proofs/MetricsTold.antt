@@ -23,7 +23,7 @@ use Rattle.otap_cells.specs.Cells.{Cell, nat_in, cell_at}
 use Rattle.otap_cells.specs.Scalars.{flag_in, int_in}
 use Rattle.otap_cells.specs.Tables.{Table}
 use Rattle.otap_groups.specs.Children.{Agree, children, numbered}
-use Rattle.otap_groups.specs.Flat.{flat, numbered_rows, part_rows, placed}
+use Rattle.otap_groups.specs.Flat.{flat_items, numbered_rows, part_rows, placed}
 use Rattle.otap_groups.specs.Groups.{regrouped}
 use Rattle.otap_groups.specs.Rows.{ChildRow}
 use Rattle.otap_groups.specs.Stored.{part_table}
@@ -45,7 +45,7 @@ use Rattle.otap_metrics.proofs.MetricColumns.{exemplars_are_parts, metrics_are_m
 
 -- ---- parts that are read alike
 
-same_exemplar : (cells : List Cell) (xs ys : List Pair) → SameOften xs ys → SameExemplar (exemplar_of cells xs) (exemplar_of cells ys)
+pub same_exemplar : (cells : List Cell) (xs ys : List Pair) → SameOften xs ys → SameExemplar (exemplar_of cells xs) (exemplar_of cells ys)
 unfolding exemplar_of
 same_exemplar cells xs ys same = record { scalars = refl; pairs = same }
 
@@ -79,7 +79,7 @@ same_metric cells x y same = record { scalars = refl; shape = same_shape (nat_in
 
 -- ---- parts that weigh the same
 
-exemplar_weighs : (cells : List Cell) (xs ys : List Pair) → total 32 weight_of_pair xs ≡ total 32 weight_of_pair ys
+pub exemplar_weighs : (cells : List Cell) (xs ys : List Pair) → total 32 weight_of_pair xs ≡ total 32 weight_of_pair ys
     → weight_of_exemplar (exemplar_of cells xs) ≡ weight_of_exemplar (exemplar_of cells ys)
 unfolding exemplar_of
 exemplar_weighs cells xs ys same = omega (arith, same)
@@ -184,7 +184,7 @@ module _ (groups : List (ResourceGroup Metric)) (light : weight_of (Metrics grou
   metric_with hists summaries id cells = metric_of cells (record { points = points_with n np x xp id; hist_points = hists id; summary_points = summaries id })
 
   regrouped_is : (tables : List Table) → HoldMetrics groups tables → (hists : Option ℕ → List HistPoint) (summaries : Option ℕ → List SumPoint)
-      → regrouped (pairs_in r) (pairs_in s) (metric_with hists summaries) (numbered_rows metric_cells 0 (flat groups)) ≡ regrouped_metrics hists summaries tables
+      → regrouped (pairs_in r) (pairs_in s) (metric_with hists summaries) (numbered_rows metric_cells 0 (flat_items groups)) ≡ regrouped_metrics hists summaries tables
   unfolding regrouped_metrics
   regrouped_is tables hold hists summaries = λ i. regrouped (pairs_in (sym hold.resources i)) (pairs_in (sym hold.scopes i))
       (λ id cells. metric_of cells (record {
@@ -202,7 +202,7 @@ pub same_again : (groups : List (ResourceGroup Metric)) (tables : List Table) (h
 same_again groups tables hists found_hists summaries found_summaries real is light hold of_hists of_summaries alike_hists alike_summaries =
     let back = groups_again groups real is in
     let found : SameTelemetry (telemetry (Metrics (groups_with_items groups)))
-    (telemetry (Metrics (regrouped (pairs_in (r groups light)) (pairs_in (s groups light)) (metric_with groups light found_hists found_summaries) (numbered_rows metric_cells 0 (flat groups))))) =
+    (telemetry (Metrics (regrouped (pairs_in (r groups light)) (pairs_in (s groups light)) (metric_with groups light found_hists found_summaries) (numbered_rows metric_cells 0 (flat_items groups))))) =
     groups_told metric metric_cells (unsorted (resource_pairs groups)) (pairs_in (r groups light)) (unsorted (scope_pairs groups)) (pairs_in (s groups light))
     (metric_found groups hists summaries) (metric_with groups light found_hists found_summaries) groups (metrics_read groups back hists summaries of_hists of_summaries)
     (resources_agree groups back) (scopes_agree groups back)
@@ -224,7 +224,7 @@ light_tables groups tables hists found_hists summaries found_summaries real is l
     (metric_found groups hists summaries) (metric_with groups light found_hists found_summaries)
     (sorted_weigh table.ResourceAttrs (resource_pairs groups) refl (few_resource_pairs groups light)) (sorted_weigh table.ScopeAttrs (scope_pairs groups) refl (few_scope_pairs groups light))
     (λ id cells. metric_weighs cells _ _ (record { points = points_weigh groups light id; hist_points = weigh_hists id; summary_points = weigh_summaries id }))
-    (numbered_rows metric_cells 0 (flat groups)) in
+    (numbered_rows metric_cells 0 (flat_items groups)) in
     let here : total 32 (weight_of_resource_group weight_of_metric) (groups_with_items groups) ≡ weight_of (Metrics (regrouped_metrics found_hists found_summaries tables)) =
     ap (total 32 (weight_of_resource_group weight_of_metric)) (sym (unsorted_back groups back hists summaries of_hists of_summaries)) ∙ found
     ∙ ap (total 32 (weight_of_resource_group weight_of_metric)) (regrouped_is groups light tables hold found_hists found_summaries) in

@@ -2,7 +2,7 @@
 use Rattle.std.proofs.Common.{◌≡◌, ℕ, suc, Bool, true, false, List, [], ◌∷◌, length, map, filter, refl, sym, ◌∙◌, ap}
 use Rattle.std.specs.Prelude.{if◌then◌else◌, nat_lt}
 use Rattle.std.proofs.lemmas.List.{length-map}
-use Rattle.otlp_model.specs.Telemetry.{entries_of, metric, telemetry, told_as}
+use Rattle.otlp_model.specs.Telemetry.{item_entries, metric, telemetry, told_as}
 use Rattle.otlp_model.specs.declared.groups.ResourceGroup.{ResourceGroup}
 use Rattle.otlp_model.specs.declared.metrics.Metric.{Metric}
 use Rattle.otlp_model.specs.declared.request.Request.TheVariants.{Metrics}
@@ -10,7 +10,7 @@ use Rattle.otap_cells.specs.declared.payload.Kind.{Kind}
 use Rattle.otap_cells.specs.declared.payload.Kind.TheVariants as table
 use Rattle.otap_cells.specs.Named.{table_named}
 use Rattle.otap_cells.specs.Tables.{Table, profile_table}
-use Rattle.otap_groups.specs.Flat.{FlatIn, flat}
+use Rattle.otap_groups.specs.Flat.{FlatIn, flat_items}
 use Rattle.otap_groups.specs.Stored.{main_table, part_table, stored_rows}
 use Rattle.otap_groups.proofs.Bounds.{size_of_flat}
 use Rattle.otap_groups.proofs.FlatItems.{length_entries}
@@ -143,10 +143,10 @@ module _ (groups : List (ResourceGroup Metric)) where
 
   -- ---- how many rows the main one has
 
-  size_of_main : length (main_table table.Metrics metric_cells groups).rows ≡ length (flat groups)
+  size_of_main : length (main_table table.Metrics metric_cells groups).rows ≡ length (flat_items groups)
   unfolding main_table
-  size_of_main = size_of_stored 0 0 0 (flat groups)
+  size_of_main = size_of_stored 0 0 0 (flat_items groups)
 
   pub rows_for_metrics : length (table_named table.Metrics (tables_of_metrics groups)).rows ≡ length (telemetry (Metrics groups))
   rows_for_metrics =
-      ap (λ (t : Table). length t.rows) named_main ∙ size_of_main ∙ size_of_flat 0 groups ∙ sym (length_entries groups) ∙ sym (length-map (entries_of groups) (told_as metric))
+      ap (λ (t : Table). length t.rows) named_main ∙ size_of_main ∙ size_of_flat 0 groups ∙ sym (length_entries groups) ∙ sym (length-map (item_entries groups) (told_as metric))

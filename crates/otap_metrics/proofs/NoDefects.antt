@@ -1,7 +1,8 @@
 -- Nothing is wrong with the rows of the tables of a request.
-use Rattle.std.proofs.Common.{◌≡◌, ◌≤◌, List, subst}
+use Rattle.std.proofs.Common.{◌≤◌, List, subst}
 use Rattle.std.specs.Prelude.{All}
 use Rattle.std.proofs.lemmas.List.Elements.{All-map, All-nil, All-weaker}
+use Rattle.lists.proofs.Every.{all_joined, all_of_both}
 use Rattle.otlp_model.specs.Limits.{weight_limit}
 use Rattle.otlp_model.specs.Profile.{IsProfile, IsProfileExemplar, IsProfileMetric, IsProfilePoint, IsProfileShape}
 use Rattle.otlp_model.specs.Real.{IsReal, IsRealExemplar, IsRealMetric, IsRealPoint, IsRealShape}
@@ -15,7 +16,6 @@ use Rattle.otlp_model.specs.declared.metrics.Point.{Point}
 use Rattle.otlp_model.specs.declared.metrics.Shape.{Shape}
 use Rattle.otlp_model.specs.declared.metrics.Shape.TheVariants as shapes
 use Rattle.otlp_model.specs.declared.request.Request.TheVariants.{Metrics}
-use Rattle.otlp_model.specs.declared.value.Pair.{Pair}
 use Rattle.otap_cells.specs.declared.payload.Kind.{Kind}
 use Rattle.otap_cells.specs.declared.payload.Kind.TheVariants as table
 use Rattle.otap_cells.specs.Named.{table_named}
@@ -23,12 +23,10 @@ use Rattle.otap_cells.specs.Tables.{Table}
 use Rattle.otap_groups.specs.Flat.{items_of, resources_of, scopes_of}
 use Rattle.otap_groups.specs.Stored.{part_table}
 use Rattle.otap_groups.specs.Weighing.{CanWriteGroup}
-use Rattle.otap_groups.proofs.RealGroups.{real_groups, real_items}
+use Rattle.otap_groups.proofs.RealGroups.{real_groups}
 use Rattle.otap_groups.proofs.WritableGroups.{all_items_can, all_resources_can, all_scopes_can}
 use Rattle.otap_attrs.specs.declared.refusal.RowRefusal.{RowRefusal}
-use Rattle.otap_attrs.specs.Tables.{attribute_table}
-use Rattle.otap_attrs.specs.Defects.{WrongValue}
-use Rattle.otap_checks.proofs.FinePairs.{IsFineList, attributes_fine, pairs_fine}
+use Rattle.otap_checks.proofs.FinePairs.{IsFineList, pairs_fine, fine_table, IsFineResource, IsFineScope}
 use Rattle.otap_checks.specs.ValueDefects.{HasFineValues}
 use Rattle.otap_metrics.specs.Metrics.{points_of}
 use Rattle.otap_metrics.specs.Points.{point_cells}
@@ -40,7 +38,6 @@ use Rattle.otap_metrics.proofs.FineIds.{alike, fine_ids}
 use Rattle.otap_metrics.proofs.FittingParents.{numbers_fit, parents_fine, types_fine}
 use Rattle.otap_metrics.proofs.MetricColumns.{points_are_parts}
 use Rattle.otap_metrics.proofs.OneValue.{exemplar_values, point_values}
-use Rattle.otap_metrics.proofs.WrittenParts.{all_joined}
 
 -- ---- values
 
@@ -60,11 +57,11 @@ exemplar_fine exemplar real is = record { pairs = pairs_fine exemplar.pairs real
 point_fine : (point : Point) → IsRealPoint point → IsProfilePoint point → IsFinePoint point
 point_fine point real is = record {
   pairs = pairs_fine point.pairs real.pairs is.pairs.at;
-  exemplars = real_items IsRealExemplar IsProfileExemplar IsFineExemplar exemplar_fine point.exemplars real.exemplars.at is.exemplars.at;
+  exemplars = all_of_both IsRealExemplar IsProfileExemplar IsFineExemplar exemplar_fine point.exemplars real.exemplars.at is.exemplars.at;
 }
 
 points_fine : (points : List Point) → All IsRealPoint points → All IsProfilePoint points → All IsFinePoint points
-points_fine = real_items IsRealPoint IsProfilePoint IsFinePoint point_fine
+points_fine = all_of_both IsRealPoint IsProfilePoint IsFinePoint point_fine
 
 shape_fine : (shape : Shape) → IsRealShape shape → IsProfileShape shape → All IsFinePoint (points_of shape)
 shape_fine shapes.Empty real is = All-nil IsFinePoint
@@ -75,16 +72,6 @@ shape_fine (shapes.Summary points) real is = All-nil IsFinePoint
 
 metric_fine : (metric : Metric) → IsRealMetric metric → IsProfileMetric metric → IsFineMetric metric
 metric_fine metric real is = shape_fine metric.shape real.shape is.shape
-
-abbrev pub IsFineResource : Resource → Type 0
-IsFineResource resource = IsFineList resource.pairs
-
-abbrev pub IsFineScope : Scope → Type 0
-IsFineScope scope = IsFineList scope.pairs
-
--- the values of a table of attributes, which is the one of its kind
-pub fine_table : (all : List Table) (kind : Kind) (lists : List (List Pair)) → table_named kind all ≡ attribute_table kind lists → All IsFineList lists → HasFineValues all kind
-fine_table all kind lists named fine = λ wrong w. attributes_fine kind lists wrong fine (subst (λ (t : Table). WrongValue t 2 wrong) named w)
 
 module _ (groups : List (ResourceGroup Metric)) (tables : List Table) (have : HoldMetrics groups tables) (real : IsReal (Metrics groups)) (is : IsProfile (Metrics groups)) where
   all : All (CanWriteGroup IsFineResource IsFineScope IsFineMetric) groups

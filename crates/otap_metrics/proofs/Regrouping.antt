@@ -1,5 +1,5 @@
 -- The request that main rows, points and pairs make.
-use Rattle.std.proofs.Common.{◌≡◌, ◌<◌, ◌∙◌, ℕ, List, [], Option, map, drop, refl, sym, ap, subst}
+use Rattle.std.proofs.Common.{◌≡◌, ◌<◌, ◌∙◌, ℕ, List, [], Option, refl, sym, ap, subst}
 use Rattle.otlp_model.specs.Limits.{weight_limit}
 use Rattle.otlp_model.specs.Weight.{total, weight_of, weight_of_metric, weight_of_pair}
 use Rattle.otlp_model.specs.declared.groups.ResourceGroup.{ResourceGroup}
@@ -13,7 +13,6 @@ use Rattle.otlp_model.specs.declared.metrics.Point.{Point}
 use Rattle.otlp_model.specs.declared.value.Pair.{Pair}
 use Rattle.otap_cells.specs.declared.payload.Kind.TheVariants as table
 use Rattle.otap_cells.specs.Cells.{Cell}
-use Rattle.otap_cells.specs.GivenIds.{HasIds}
 use Rattle.otap_cells.specs.Named.{table_named}
 use Rattle.otap_cells.specs.Tables.{Table, profile_table}
 use Rattle.otap_groups.specs.Children.{children}
@@ -29,16 +28,11 @@ use Rattle.otap_checks.specs.Refusing.{Nothing}
 use Rattle.otap_checks.specs.Regrouping.{RefusesRegroup}
 use Rattle.otap_attrs.specs.Index.{pairs_in}
 use Rattle.otap_checks.specs.Reading.{main_rows_in, part_rows_in}
-use Rattle.otap_attrs.proofs.TablePairs.{ids_are}
 use Rattle.otap_metrics.specs.Metrics.{metric_of}
 use Rattle.otap_metrics.specs.Points.{exemplar_of, point_of}
 use Rattle.otap_metrics.specs.Requests.{WrongMetrics, points_in, regrouped_metrics}
 
 -- ---- parts, by ids that are known
-
-pub parts_are : {C : Type 0} (item : Option ℕ → List Cell → C) (t : Table) (ids parents : List (Option ℕ)) → HasIds t 0 ids → HasIds t 1 parents → (parent : Option ℕ)
-    → children item (child_rows ids parents (map (drop 2) t.rows)) parent ≡ children item (part_rows_in t) parent
-parts_are item t ids parents own above parent = λ i. children item (child_rows (ids_are t 0 ids own i) (ids_are t 1 parents above i) (map (drop 2) t.rows)) parent
 
 -- no rows have no parts
 pub no_parts : {C : Type 0} (item : Option ℕ → List Cell → C) (ids parents others more : List (Option ℕ)) (parent : Option ℕ)

@@ -4,6 +4,7 @@ use Rattle.std.specs.Prelude.{All}
 use Rattle.std.specs.List.{flat_map}
 use Rattle.std.proofs.lemmas.List.{length-map}
 use Rattle.std.proofs.lemmas.List.Elements.{All-nil, All-append, All-head, All-tail, All-weaker}
+use Rattle.lists.proofs.Every.{all_joined, map_over}
 use Rattle.otlp_model.specs.declared.groups.ResourceGroup.{ResourceGroup}
 use Rattle.otlp_model.specs.declared.metrics.Exemplar.{Exemplar}
 use Rattle.otlp_model.specs.declared.metrics.Metric.{Metric}
@@ -21,11 +22,11 @@ use Rattle.otap_cells.specs.Sets.{IsSet, tables_in}
 use Rattle.otap_cells.specs.Tables.{Table, profile_table}
 use Rattle.otap_groups.specs.declared.flat.Flat.{Flat}
 use Rattle.otap_groups.specs.declared.flat.Placed.{Placed}
-use Rattle.otap_groups.specs.Flat.{flat, items_of, placed, resources_of, scopes_of}
+use Rattle.otap_groups.specs.Flat.{flat_items, items_of, placed, resources_of, scopes_of}
 use Rattle.otap_groups.specs.Stored.{main_table, part_table, stored_parts, stored_rows}
 use Rattle.otap_groups.specs.Views.{seen_flat, seen_placed}
 use Rattle.otap_groups.proofs.FlatItems.{all_items, all_parts, items_of_rows, parts_of_rows}
-use Rattle.otap_groups.proofs.WritableGroups.{all_items_can, all_resources_can, all_scopes_can, few_items, few_resources, few_scopes}
+use Rattle.otap_groups.proofs.WritableGroups.{all_items_can, all_resources_can, all_scopes_can, few_items, few_resources, few_scopes, IsLightResource, IsLightScope}
 use Rattle.otap_attrs.specs.Tables.{attribute_table, beside_kind, where_rows}
 use Rattle.otap_attrs.proofs.FilledTables.{added, added_all, filled, filled_set, filled_tables}
 use Rattle.otap_metrics.specs.Metrics.{metric_cells, points_of}
@@ -33,18 +34,7 @@ use Rattle.otap_metrics.specs.Points.{exemplar_cells, point_cells}
 use Rattle.otap_metrics.specs.Tables.{all_exemplars, all_points, exemplar_lists, exemplar_pairs, point_lists, point_pairs, resource_pairs, scope_pairs, tables_below, tables_of_metrics}
 use Rattle.otap_metrics.specs.Writable.{CanWriteExemplar, CanWriteMetric, CanWritePoint}
 use Rattle.otap_metrics.proofs.LightParts.{few_exemplars, few_points}
-use Rattle.otap_metrics.proofs.WrittenWeight.{CanWrite, IsLightResource, IsLightScope}
-
--- ---- what is found through references
-
-pub map_over : {B X Y : Type 0} (deref : B → X) (f : X → Y) (found : List B) → map (λ b. f (deref b)) found ≡ map f (map deref found)
-map_over deref f [] = refl
-map_over deref f (b ∷ bs) = ap (λ ys. f (deref b) ∷ ys) (map_over deref f bs)
-
-pub all_joined : {A B : Type 0} (P : B → Type 0) (f : A → List B) (xs : List A) → All (λ x. All P (f x)) xs → All P (flat_map (λ (ys : List B). ys) (map f xs))
-all_joined P f [] all = All-nil P
-all_joined {B = B} P f (x ∷ xs) all =
-    All-append P (f x) (flat_map (λ (ys : List B). ys) (map f xs)) (All-head (λ x. All P (f x)) x xs all) (all_joined P f xs (All-tail (λ x. All P (f x)) x xs all))
+use Rattle.otap_metrics.proofs.WrittenWeight.{CanWrite}
 
 -- ---- the lists, as they are found
 
@@ -69,7 +59,7 @@ module _ (groups gs : List (ResourceGroup Metric)) (same : gs ≡ groups) (few :
   pub items_few : length (items_of gs) < 2 ^ 32
   items_few = omega (arith, light, few_items weight_of_metric gs)
 
-  pub rows_few : (rows : List (Flat Metric)) → map seen_flat rows ≡ flat gs → length rows < 2 ^ 32
+  pub rows_few : (rows : List (Flat Metric)) → map seen_flat rows ≡ flat_items gs → length rows < 2 ^ 32
   rows_few rows is =
       let a = length-map rows (λ (f : Flat Metric). f.item.now) in
       let b = ap length (items_of_rows rows gs is) in
@@ -107,7 +97,7 @@ module _ (gs : List (ResourceGroup Metric)) (can : All CanWrite gs) where
   all_metrics : All CanWriteMetric (items_of gs)
   all_metrics = all_items_can IsLightResource IsLightScope CanWriteMetric gs can
 
-  pub rows_can : (rows : List (Flat Metric)) → map seen_flat rows ≡ flat gs → All (λ (f : Flat Metric). CanWriteMetric f.item.now) rows
+  pub rows_can : (rows : List (Flat Metric)) → map seen_flat rows ≡ flat_items gs → All (λ (f : Flat Metric). CanWriteMetric f.item.now) rows
   rows_can rows is = all_items CanWriteMetric rows gs is all_metrics
 
   pub resources_can : All IsLightResource (resources_of gs)
@@ -142,7 +132,7 @@ module _ (gs : List (ResourceGroup Metric)) (can : All CanWrite gs) where
 
 -- ---- the tables
 
-abbrev stored : {C : Type 0} → Kind → (C → List Cell) → List (Placed C) → Table
+abbrev pub stored : {C : Type 0} → Kind → (C → List Cell) → List (Placed C) → Table
 stored kind cells_of ps = profile_table kind (stored_parts (coding_at kind 1) (again_of kind) cells_of 0 0 None (map seen_placed ps))
 
 pub part_table_is : {C : Type 0} (kind : Kind) (cells_of : C → List Cell) (ps : List (Placed C)) (lists : List (List C)) → map seen_placed ps ≡ placed lists
@@ -154,7 +144,7 @@ pub attribute_table_is : {C : Type 0} (kind : Kind) (pairs : C → List Pair) (p
     → attribute_table kind (map (λ (p : Placed C). pairs p.part.now) ps) ≡ attribute_table kind (map pairs (flat_map (λ (xs : List C). xs) lists))
 attribute_table_is {C = C} kind pairs ps lists is = ap (attribute_table kind) (map_over (λ (p : Placed C). p.part.now) pairs ps ∙ ap (map pairs) (parts_of_rows ps lists is))
 
-pub main_is : (rows : List (Flat Metric)) (gs : List (ResourceGroup Metric)) (main : Table) → map seen_flat rows ≡ flat gs
+pub main_is : (rows : List (Flat Metric)) (gs : List (ResourceGroup Metric)) (main : Table) → map seen_flat rows ≡ flat_items gs
     → main ≡ profile_table table.Metrics (stored_rows metric_cells 0 0 0 (map seen_flat rows)) → main ≡ main_table table.Metrics metric_cells gs
 unfolding main_table
 main_is rows gs main is made = made ∙ ap (λ fs. profile_table table.Metrics (stored_rows metric_cells 0 0 0 fs)) is

@@ -2,7 +2,8 @@
 use Rattle.std.proofs.Common.{ℕ, ◌^◌, ◌≤◌, List, [], ◌∷◌, Option, length, map, drop, refl, arith}
 use Rattle.std.specs.Prelude.{All}
 use Rattle.std.specs.List.{AllByRecursion}
-use Rattle.std.proofs.lemmas.List.Elements.{All-nil, All-cons, All-head, All-tail, All-map, All-weaker}
+use Rattle.std.proofs.lemmas.List.Elements.{All-nil, All-cons, All-head, All-tail, All-map, All-weaker, All-from_recursion, recursion_from_All}
+use Rattle.lists.proofs.Every.{all_joined, every_weaker, all_of_both}
 use Rattle.otlp_model.specs.Limits.{weight_limit}
 use Rattle.otlp_model.specs.Profile.{IsProfile, IsProfileExemplar, IsProfileMetric, IsProfilePoint, IsProfileResourceGroup, IsProfileScopeGroup, IsProfileShape}
 use Rattle.otlp_model.specs.Real.{IsReal, IsRealExemplar, IsRealMetric, IsRealPoint, IsRealResource, IsRealResourceGroup, IsRealScope, IsRealScopeGroup, IsRealShape}
@@ -21,20 +22,17 @@ use Rattle.otap_cells.specs.declared.payload.Kind.TheVariants as table
 use Rattle.otap_cells.specs.Columns.{columns_of, exemplars, metrics, number_points}
 use Rattle.otap_cells.specs.GivenIds.{HasIds}
 use Rattle.otap_cells.specs.Tables.{IsRow}
-use Rattle.otap_groups.specs.Flat.{flat, items_of, numbered_rows, resources_of, scopes_of}
+use Rattle.otap_groups.specs.Flat.{flat_items, items_of, numbered_rows, resources_of, scopes_of}
 use Rattle.otap_groups.specs.ProfileTables.{IsProfileTable}
 use Rattle.otap_groups.specs.Rows.{MainRow}
 use Rattle.otap_groups.specs.Stored.{main_table, part_table, stored_rows}
 use Rattle.otap_groups.specs.Weighing.{CanWriteGroup, CanWriteScope}
 use Rattle.otap_groups.proofs.Bounds.{bounded}
-use Rattle.otap_groups.proofs.GroupsApart.{every_weaker}
 use Rattle.otap_groups.proofs.PartTables.{part_written}
 use Rattle.otap_groups.proofs.ProfileRows.{OfFlat, OwnFit, is_profile_table, of_flat, rows_fit}
-use Rattle.otap_groups.proofs.RealGroups.{real_items}
 use Rattle.otap_groups.proofs.StoredRows.{own_ids_of, resource_ids_of, scope_ids_of}
 use Rattle.otap_groups.proofs.WritableGroups.{all_items_can, all_resources_can, all_scopes_can}
 use Rattle.otap_attrs.proofs.FilledTables.{filled, filled_all}
-use Rattle.otap_checks.proofs.PairsAgain.{all_every}
 use Rattle.otap_checks.proofs.WrittenPairs.{AreReal, attributes_written}
 use Rattle.otap_metrics.specs.Metrics.{metric_cells, points_of}
 use Rattle.otap_metrics.specs.Points.{exemplar_cells, point_cells}
@@ -42,7 +40,6 @@ use Rattle.otap_metrics.specs.Tables.{all_exemplars, all_points, exemplar_lists,
 use Rattle.otap_metrics.proofs.FewParts.{few_all_exemplars, few_all_points, few_exemplar_lists, few_exemplar_pairs, few_metrics, few_point_lists, few_point_pairs, few_resource_pairs, few_scope_pairs}
 use Rattle.otap_metrics.proofs.MetricColumns.{exemplar_ids, exemplars_are_parts, metric_ids, metrics_are_main, point_ids, points_are_parts}
 use Rattle.otap_metrics.proofs.MetricFits.{exemplar_own, exemplar_row, metric_own, point_own, point_row}
-use Rattle.otap_metrics.proofs.WrittenParts.{all_joined}
 
 -- ---- what fits
 
@@ -66,13 +63,13 @@ point_fit : (point : Point) → IsRealPoint point → IsProfilePoint point → I
 point_fit point real is = record {
   own = point_own point real;
   pairs = real.pairs;
-  exemplars = real_items IsRealExemplar IsProfileExemplar IsFitExemplar exemplar_fit point.exemplars real.exemplars.at is.exemplars.at;
+  exemplars = all_of_both IsRealExemplar IsProfileExemplar IsFitExemplar exemplar_fit point.exemplars real.exemplars.at is.exemplars.at;
 }
 
 shape_fit : (shape : Shape) → IsRealShape shape → IsProfileShape shape → All IsFitPoint (points_of shape)
 shape_fit shapes.Empty real is = All-nil IsFitPoint
-shape_fit (shapes.Gauge points) real is = real_items IsRealPoint IsProfilePoint IsFitPoint point_fit points real.at is.at
-shape_fit (shapes.Sum points temporality monotonic) real is = real_items IsRealPoint IsProfilePoint IsFitPoint point_fit points real.0.at is.at
+shape_fit (shapes.Gauge points) real is = all_of_both IsRealPoint IsProfilePoint IsFitPoint point_fit points real.at is.at
+shape_fit (shapes.Sum points temporality monotonic) real is = all_of_both IsRealPoint IsProfilePoint IsFitPoint point_fit points real.0.at is.at
 shape_fit (shapes.Histogram points temporality) real is = All-nil IsFitPoint
 shape_fit (shapes.Summary points) real is = All-nil IsFitPoint
 
@@ -90,7 +87,7 @@ scopes_fit [] real is = All-nil IsFitScope
 scopes_fit (group ∷ groups) real is =
     let r : IsRealScopeGroup IsRealMetric group = All-head (IsRealScopeGroup IsRealMetric) group groups real in
     let p : IsProfileScopeGroup IsProfileMetric group = All-head (IsProfileScopeGroup IsProfileMetric) group groups is in
-    All-cons IsFitScope group groups (r.scope, real_items IsRealMetric IsProfileMetric IsFitMetric metric_fit group.items r.items.at p.items.at)
+    All-cons IsFitScope group groups (r.scope, all_of_both IsRealMetric IsProfileMetric IsFitMetric metric_fit group.items r.items.at p.items.at)
     (scopes_fit groups (All-tail (IsRealScopeGroup IsRealMetric) group groups real) (All-tail (IsProfileScopeGroup IsProfileMetric) group groups is))
 
 groups_fit : (groups : List (ResourceGroup Metric)) → All (IsRealResourceGroup IsRealMetric) groups → All (IsProfileResourceGroup IsProfileMetric) groups → All IsFit groups
@@ -103,24 +100,20 @@ groups_fit (group ∷ groups) real is =
 
 -- ---- all of a request
 
-pub every_all : {A : Type 0} (P : A → Type 0) (xs : List A) → AllByRecursion P xs → All P xs
-every_all P [] all = All-nil P
-every_all P (x ∷ xs) all = All-cons P x xs all.0 (every_all P xs all.1)
-
 module _ (groups : List (ResourceGroup Metric)) (fit : All IsFit groups) (light : weight_of (Metrics groups) ≤ weight_limit) where
-  main_rows_fit : All (IsRow (columns_of table.Metrics)) (stored_rows metric_cells 0 0 0 (flat groups))
+  main_rows_fit : All (IsRow (columns_of table.Metrics)) (stored_rows metric_cells 0 0 0 (flat_items groups))
   unfolding metrics
   main_rows_fit =
-      rows_fit metric_cells (drop 9 metrics) 0 0 0 (flat groups) (omega arith) (bounded 4294967295 groups (omega (arith, few_metrics groups light)))
-      (every_weaker (OfFlat IsRealResource IsRealScope IsFitMetric) (OfFlat IsRealResource IsRealScope (OwnFit metric_cells (drop 9 metrics))) (flat groups)
-      (λ f of. (of.0, of.1, of.2.own)) (of_flat IsRealResource IsRealScope IsFitMetric groups fit))
+      rows_fit metric_cells (drop 9 metrics) 0 0 0 (flat_items groups) (omega arith) (bounded 4294967295 groups (omega (arith, few_metrics groups light)))
+      (every_weaker (OfFlat IsRealResource IsRealScope IsFitMetric) (OfFlat IsRealResource IsRealScope (OwnFit metric_cells (drop 9 metrics)))
+      (λ f of. (of.0, of.1, of.2.own)) (flat_items groups) (of_flat IsRealResource IsRealScope IsFitMetric groups fit))
 
   main_written : IsProfileTable (main_table table.Metrics metric_cells groups)
   unfolding main_table
   main_written =
-      let rows : List MainRow = numbered_rows metric_cells 0 (flat groups) in
+      let rows : List MainRow = numbered_rows metric_cells 0 (flat_items groups) in
       let few : length (items_of groups) ≤ 2 ^ 32 = few_metrics groups light in
-      is_profile_table table.Metrics (stored_rows metric_cells 0 0 0 (flat groups)) main_rows_fit
+      is_profile_table table.Metrics (stored_rows metric_cells 0 0 0 (flat_items groups)) main_rows_fit
       (metric_ids (λ column. (ids : List (Option ℕ)) × HasIds (main_table table.Metrics metric_cells groups) column ids)
       (map (λ (row : MainRow). row.id) rows, own_ids_of metric_cells table.Metrics groups metrics_are_main few)
       (map (λ (row : MainRow). row.resource_id) rows, resource_ids_of metric_cells table.Metrics groups metrics_are_main few)
@@ -158,14 +151,14 @@ module _ (groups : List (ResourceGroup Metric)) (fit : All IsFit groups) (light 
   points_written : IsProfileTable (part_table table.NumberPoints point_cells (point_lists groups))
   points_written =
       part_written table.NumberPoints point_cells (drop 2 number_points) (point_lists groups) points_are_parts point_row point_ids (few_point_lists groups light) (few_all_points groups light)
-      (all_every (λ (point : Point). IsRow (drop 2 number_points) (point_cells point)) (all_points groups)
+      (recursion_from_All (λ (point : Point). IsRow (drop 2 number_points) (point_cells point)) (all_points groups)
       (All-weaker IsFitPoint (λ (point : Point). IsRow (drop 2 number_points) (point_cells point)) (λ point fit. fit.own) (all_points groups) fit_points))
 
   exemplars_written : IsProfileTable (part_table table.NumberExemplars exemplar_cells (exemplar_lists groups))
   exemplars_written =
       part_written table.NumberExemplars exemplar_cells (drop 2 exemplars) (exemplar_lists groups) exemplars_are_parts exemplar_row exemplar_ids
       (few_exemplar_lists groups light) (few_all_exemplars groups light)
-      (all_every (λ (exemplar : Exemplar). IsRow (drop 2 exemplars) (exemplar_cells exemplar)) (all_exemplars groups)
+      (recursion_from_All (λ (exemplar : Exemplar). IsRow (drop 2 exemplars) (exemplar_cells exemplar)) (all_exemplars groups)
       (All-weaker IsFitExemplar (λ (exemplar : Exemplar). IsRow (drop 2 exemplars) (exemplar_cells exemplar)) (λ exemplar fit. fit.own) (all_exemplars groups) fit_exemplars))
 
   below_written : AllByRecursion IsProfileTable (tables_below groups)
@@ -187,7 +180,7 @@ module _ (groups : List (ResourceGroup Metric)) (fit : All IsFit groups) (light 
   unfolding tables_of_metrics
   all_written =
       All-cons IsProfileTable (main_table table.Metrics metric_cells groups) (filled (tables_below groups)) main_written
-      (filled_all IsProfileTable (tables_below groups) (every_all IsProfileTable (tables_below groups) below_written))
+      (filled_all IsProfileTable (tables_below groups) (All-from_recursion IsProfileTable (tables_below groups) below_written))
 
 module _ (groups : List (ResourceGroup Metric)) (real : IsReal (Metrics groups)) (is : IsProfile (Metrics groups)) (light : weight_of (Metrics groups) ≤ weight_limit) where
   pub tables_written : All IsProfileTable (tables_of_metrics groups)

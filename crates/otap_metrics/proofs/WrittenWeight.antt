@@ -1,8 +1,9 @@
 -- What the tables of a request of metrics weigh, and which of its parts can be written.
-use Rattle.std.proofs.Common.{◌≡◌, ℕ, ◌+◌, ◌≤◌, ◌^◌, List, [], ◌∷◌, map, refl, sym, ap, ◌∙◌, subst, arith}
+use Rattle.std.proofs.Common.{◌≡◌, ℕ, ◌+◌, ◌≤◌, ◌^◌, List, [], ◌∷◌, refl, sym, ap, ◌∙◌, subst, arith}
 use Rattle.std.specs.Prelude.{All, min, sum_by}
 use Rattle.std.specs.List.{flat_map}
-use Rattle.std.proofs.lemmas.List.Sums.{sum_by-append, sum_by-cons}
+use Rattle.std.proofs.lemmas.List.Sums.{sum_by-cons}
+use Rattle.lists.proofs.MadeSums.{sum_of_map, sum_of_lists}
 use Rattle.otlp_model.specs.declared.groups.Resource.{Resource}
 use Rattle.otlp_model.specs.declared.groups.Scope.{Scope}
 use Rattle.otlp_model.specs.declared.groups.ResourceGroup.{ResourceGroup}
@@ -12,7 +13,7 @@ use Rattle.otlp_model.specs.declared.metrics.Point.{Point}
 use Rattle.otlp_model.specs.declared.request.Request.TheVariants.{Metrics}
 use Rattle.otlp_model.specs.Limits.{weight_limit}
 use Rattle.otlp_model.specs.Profile.{IsProfile, IsProfileMetric}
-use Rattle.otlp_model.specs.Weight.{total, weight_of, weight_of_metric, weight_of_pair}
+use Rattle.otlp_model.specs.Weight.{weight_of, weight_of_metric}
 use Rattle.otap_cells.specs.declared.payload.Kind.TheVariants as table
 use Rattle.otap_cells.specs.Tables.{Table}
 use Rattle.otap_cells.specs.Weights.{weight_of_table, weight_of_tables}
@@ -21,7 +22,7 @@ use Rattle.otap_groups.specs.Stored.{main_table, part_table}
 use Rattle.otap_groups.specs.Weighing.{CanWriteGroup, cells_weight, parts_weight, rows_of_groups}
 use Rattle.otap_groups.proofs.RowsApart.{rows_apart}
 use Rattle.otap_groups.proofs.RowsWeighed.{main_weighs, parts_weigh}
-use Rattle.otap_groups.proofs.WritableGroups.{groups_can}
+use Rattle.otap_groups.proofs.WritableGroups.{groups_can, IsLightResource, IsLightScope}
 use Rattle.otap_attrs.specs.Tables.{attribute_table, where_rows}
 use Rattle.otap_attrs.specs.Values.{pair_cells}
 use Rattle.otap_attrs.proofs.AttributesWeighed.{table_weighs}
@@ -35,35 +36,11 @@ use Rattle.otap_metrics.proofs.LightParts.{metric_can}
 
 -- ---- what can be written
 
-abbrev pub IsLightResource : Resource → Type 0
-IsLightResource resource = total 32 weight_of_pair resource.pairs ≤ weight_limit
-
-abbrev pub IsLightScope : Scope → Type 0
-IsLightScope scope = total 32 weight_of_pair scope.pairs ≤ weight_limit
-
 abbrev pub CanWrite : ResourceGroup Metric → Type 0
 CanWrite = CanWriteGroup IsLightResource IsLightScope CanWriteMetric
 
 pub all_can : (groups gs : List (ResourceGroup Metric)) → gs ≡ groups → IsProfile (Metrics groups) → weight_of (Metrics groups) ≤ weight_limit → All CanWrite gs
 all_can groups gs same is few = subst (All CanWrite) (sym same) (groups_can IsProfileMetric weight_of_metric weight_limit CanWriteMetric metric_can groups is.at few)
-
--- ---- summaries over lists of lists
-
-pub mapped : {A B : Type 0} (w : B → ℕ) (f : A → B) (xs : List A) → sum_by w (map f xs) ≡ sum_by (λ x. w (f x)) xs
-mapped w f [] = refl
-mapped w f (x ∷ xs) =
-    let a = sum_by-cons w (f x) (map f xs) in
-    let b = sum_by-cons (λ x. w (f x)) x xs in
-    let more = mapped w f xs in
-    omega (arith, a, b, more)
-
-pub joined : {A : Type 0} (w : A → ℕ) (lists : List (List A)) → sum_by (λ xs. sum_by w xs) lists ≡ sum_by w (flat_map (λ (xs : List A). xs) lists)
-joined w [] = refl
-joined {A = A} w (xs ∷ lists) =
-    let a = sum_by-cons (λ (xs : List A). sum_by w xs) xs lists in
-    let b = sum_by-append w xs (flat_map (λ (xs : List A). xs) lists) in
-    let more = joined w lists in
-    omega (arith, a, b, more)
 
 -- ---- points and exemplars, and their attributes
 
@@ -103,32 +80,32 @@ module _ (groups : List (ResourceGroup Metric)) where
   of_exemplars = attribute_table table.NumberExemplarAttrs (exemplar_pairs groups)
 
   points_weigh : weight_of_table points ≡ parts_weight point_cells (all_points groups)
-  points_weigh = parts_weigh table.NumberPoints point_cells (point_lists groups) ∙ joined (λ (point : Point). 32 + cells_weight (point_cells point)) (point_lists groups)
+  points_weigh = parts_weigh table.NumberPoints point_cells (point_lists groups) ∙ sum_of_lists (λ (point : Point). 32 + cells_weight (point_cells point)) (point_lists groups)
 
   exemplars_weigh : weight_of_table exemplars ≡ parts_weight exemplar_cells (all_exemplars groups)
   exemplars_weigh =
       parts_weigh table.NumberExemplars exemplar_cells (exemplar_lists groups)
-      ∙ joined (λ (exemplar : Exemplar). 32 + cells_weight (exemplar_cells exemplar)) (exemplar_lists groups)
+      ∙ sum_of_lists (λ (exemplar : Exemplar). 32 + cells_weight (exemplar_cells exemplar)) (exemplar_lists groups)
 
   below_points : sum_by (λ (point : Point). sum_by exemplar_weight point.exemplars) (all_points groups) ≡ weight_of_table exemplars + weight_of_table of_exemplars
   below_points =
-      let a = mapped (λ (xs : List Exemplar). sum_by exemplar_weight xs) (λ (point : Point). point.exemplars) (all_points groups) in
-      let b = joined exemplar_weight (exemplar_lists groups) in
+      let a = sum_of_map (λ (xs : List Exemplar). sum_by exemplar_weight xs) (λ (point : Point). point.exemplars) (all_points groups) in
+      let b = sum_of_lists exemplar_weight (exemplar_lists groups) in
       let c = exemplars_split (all_exemplars groups) in
       let d = exemplars_weigh in
       let e = table_weighs table.NumberExemplarAttrs (exemplar_pairs groups) in
-      let f = mapped (parts_weight pair_cells) (λ (exemplar : Exemplar). exemplar.pairs) (all_exemplars groups) in
+      let f = sum_of_map (parts_weight pair_cells) (λ (exemplar : Exemplar). exemplar.pairs) (all_exemplars groups) in
       omega (arith, a, b, c, d, e, f)
 
   below_metrics : sum_by (λ (metric : Metric). sum_by point_weight (points_of metric.shape)) (items_of groups)
       ≡ weight_of_table points + weight_of_table of_points + weight_of_table exemplars + weight_of_table of_exemplars
   below_metrics =
-      let a = mapped (λ (xs : List Point). sum_by point_weight xs) (λ (metric : Metric). points_of metric.shape) (items_of groups) in
-      let b = joined point_weight (point_lists groups) in
+      let a = sum_of_map (λ (xs : List Point). sum_by point_weight xs) (λ (metric : Metric). points_of metric.shape) (items_of groups) in
+      let b = sum_of_lists point_weight (point_lists groups) in
       let c = points_split (all_points groups) in
       let d = points_weigh in
       let e = table_weighs table.NumberPointAttrs (point_pairs groups) in
-      let f = mapped (parts_weight pair_cells) (λ (point : Point). point.pairs) (all_points groups) in
+      let f = sum_of_map (parts_weight pair_cells) (λ (point : Point). point.pairs) (all_points groups) in
       let g = below_points in
       omega (arith, a, b, c, d, e, f, g)
 
@@ -147,8 +124,8 @@ module _ (groups : List (ResourceGroup Metric)) where
       let a4 = sum_by-cons weight_of_table of_points (exemplars ∷ of_exemplars ∷ []) in
       let a5 = sum_by-cons weight_of_table exemplars (of_exemplars ∷ []) in
       let a6 = sum_by-cons weight_of_table of_exemplars [] in
-      let wr = table_weighs table.ResourceAttrs (resource_pairs groups) ∙ mapped (parts_weight pair_cells) (λ (resource : Resource). resource.pairs) (resources_of groups) in
-      let ws = table_weighs table.ScopeAttrs (scope_pairs groups) ∙ mapped (parts_weight pair_cells) (λ (scope : Scope). scope.pairs) (scopes_of groups) in
+      let wr = table_weighs table.ResourceAttrs (resource_pairs groups) ∙ sum_of_map (parts_weight pair_cells) (λ (resource : Resource). resource.pairs) (resources_of groups) in
+      let ws = table_weighs table.ScopeAttrs (scope_pairs groups) ∙ sum_of_map (parts_weight pair_cells) (λ (scope : Scope). scope.pairs) (scopes_of groups) in
       let wm = main_weighs metric_cells table.Metrics groups in
       let wb = below_metrics in
       let apart = rows_apart (λ (resource : Resource). parts_weight pair_cells resource.pairs) (λ (scope : Scope). parts_weight pair_cells scope.pairs)

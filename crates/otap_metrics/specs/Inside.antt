@@ -4,12 +4,9 @@ use Rattle.std.specs.Prelude.{◌≡◌, ℕ, ◌+◌, ◌<◌, Bool, false, sum
 use Rattle.otlp_model.specs.declared.metrics.Exemplar.{Exemplar}
 use Rattle.otlp_model.specs.declared.metrics.Metric.{Metric}
 use Rattle.otlp_model.specs.declared.metrics.Point.{Point}
-use Rattle.otap_cells.specs.declared.payload.Kind.TheVariants as table
-use Rattle.otap_cells.specs.Named.{table_named}
 use Rattle.otap_cells.specs.Tables.{Table}
 use Rattle.otap_groups.specs.Weighing.{cells_weight, parts_weight}
 use Rattle.otap_attrs.specs.Values.{pair_cells}
-use Rattle.otap_checks.specs.Reading.{Disagrees}
 use Rattle.otap_groups.specs.Rows.{id_at}
 use Rattle.otap_metrics.specs.Metrics.{metric_cells, points_of}
 use Rattle.otap_metrics.specs.Points.{exemplar_cells, point_cells}
@@ -23,10 +20,6 @@ point_weight point = 32 + cells_weight (point_cells point) + (parts_weight pair_
 
 abbrev pub metric_weight : Metric → ℕ
 metric_weight metric = cells_weight (metric_cells metric) + sum_by point_weight (points_of metric.shape)
-
--- rows of one id differ
-abbrev pub IsUnlike : List Table → Type 0
-IsUnlike tables = Disagrees (table_named table.Metrics tables)
 
 -- ---- checks
 

@@ -12,12 +12,12 @@ use Rattle.otap_cells.specs.Scalars.{text_cell, number_cell, int_cell, flag_cell
 -- ---- what a metric is written as
 
 -- the number of its shape
-abbrev pub type_of : Shape → ℕ
-type_of shapes.Empty = 0
-type_of (shapes.Gauge points) = 1
-type_of (shapes.Sum points temporality monotonic) = 2
-type_of (shapes.Histogram points temporality) = 3
-type_of (shapes.Summary points) = 5
+abbrev pub shape_number : Shape → ℕ
+shape_number shapes.Empty = 0
+shape_number (shapes.Gauge points) = 1
+shape_number (shapes.Sum points temporality monotonic) = 2
+shape_number (shapes.Histogram points temporality) = 3
+shape_number (shapes.Summary points) = 5
 
 abbrev pub temporality_of : Shape → ℤ
 temporality_of (shapes.Sum points temporality monotonic) = temporality
@@ -30,7 +30,7 @@ is_monotonic _ = false
 
 abbrev pub metric_cells : Metric → List Cell
 metric_cells metric =
-    number_cell (type_of metric.shape) ∷ text_cell metric.name ∷ text_cell metric.description ∷ text_cell metric.unit
+    number_cell (shape_number metric.shape) ∷ text_cell metric.name ∷ text_cell metric.description ∷ text_cell metric.unit
     ∷ int_cell (temporality_of metric.shape) ∷ flag_cell (is_monotonic metric.shape) ∷ []
 
 -- the points of gauges and sums, of histograms, and of summaries; other shapes have none

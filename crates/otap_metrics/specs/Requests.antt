@@ -122,18 +122,18 @@ WrongCells tables table.NumberExemplarAttrs wrong = WrongValue (table_named tabl
 WrongCells tables kind wrong = ⊥
 
 -- the tables of the points of histograms and summaries, and of what is below them
-abbrev pub is_other : Kind → Bool
-is_other table.SummaryPoints = true
-is_other table.HistPoints = true
-is_other table.SummaryPointAttrs = true
-is_other table.HistPointAttrs = true
-is_other table.HistExemplars = true
-is_other table.HistExemplarAttrs = true
-is_other _ = false
+abbrev pub is_hist_kind : Kind → Bool
+is_hist_kind table.SummaryPoints = true
+is_hist_kind table.HistPoints = true
+is_hist_kind table.SummaryPointAttrs = true
+is_hist_kind table.HistPointAttrs = true
+is_hist_kind table.HistExemplars = true
+is_hist_kind table.HistExemplarAttrs = true
+is_hist_kind _ = false
 
 -- what is wrong with the ids of the tables but those
 abbrev pub WrongIds : List Table → Kind → RowRefusal → Type 0
-WrongIds tables kind wrong = (is_other kind ≡ false) × IdDefect signal.Metrics tables kind wrong
+WrongIds tables kind wrong = (is_hist_kind kind ≡ false) × IdDefect signal.Metrics tables kind wrong
 
 -- WHAT IS WRONG WITH THE ROWS of a kind's table among the tables of metrics, but for the points of histograms and summaries and what
 -- is below them

@@ -14,7 +14,7 @@ use Rattle.otap_checks.specs.Links.{links_of}
 use Rattle.otap_checks.specs.ValueDefects.{HasFineValues}
 use Rattle.otap_metrics.specs.declared.checks.PointSort.{PointSort}
 use Rattle.otap_metrics.specs.declared.checks.PointSort.TheVariants as sort
-use Rattle.otap_metrics.specs.Requests.{HasTwoValues, WrongIds, WrongParent, WrongType, is_other, has_hist_points, has_numbers, has_summary_points}
+use Rattle.otap_metrics.specs.Requests.{HasTwoValues, WrongIds, WrongParent, WrongType, is_hist_kind, has_hist_points, has_numbers, has_summary_points}
 
 -- nothing is wrong but that rows of one id may differ
 pub record AreWhole (tables : List Table) : Type 0 where
@@ -37,4 +37,4 @@ fits_of sort.Summaries = has_summary_points
 -- the ids of each table but those of histograms and summaries are known
 abbrev pub KnowsMetrics : List Table → List ColumnIds → Type 0
 KnowsMetrics tables known =
-    (link : TableLink) → Contains (links_of signal.Metrics) link → is_other link.kind ≡ false → Knows (table_named link.kind tables) link.kind known
+    (link : TableLink) → Contains (links_of signal.Metrics) link → is_hist_kind link.kind ≡ false → Knows (table_named link.kind tables) link.kind known

@@ -6,7 +6,7 @@ ghost use Rattle.otlp_model.specs.Weight.{weight_of};
 ghost use Rattle.otlp_model.specs.declared.request.Request.TheVariants.{Metrics};
 ghost use Rattle.otap_cells.specs.declared.payload.Kind.TheVariants as table;
 ghost use Rattle.otap_cells.specs.Sets.{IsSet, tables_in};
-ghost use Rattle.otap_metrics.specs.Metrics.{is_monotonic, metric_cells, points_of, temporality_of, type_of};
+ghost use Rattle.otap_metrics.specs.Metrics.{is_monotonic, metric_cells, points_of, temporality_of, shape_number};
 ghost use Rattle.otap_metrics.specs.Points.{exemplar_cells, point_cells};
 ghost use Rattle.otap_metrics.specs.Tables.{tables_of_metrics};
 ghost use Rattle.otap_metrics.specs.Writable.{CanWriteExemplar, CanWriteMetric, CanWritePoint};
@@ -181,7 +181,7 @@ impl PartWriter for ExemplarWriter {
 
 /// The number of a shape.
 fn type_of(shape: &Shape) -> u32
-    ensures { result ≡ type_of shape.now }
+    ensures { result ≡ shape_number shape.now }
 {
     match shape {
         Shape::Empty => 0,

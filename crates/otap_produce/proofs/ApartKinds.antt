@@ -2,7 +2,7 @@
 use Rattle.std.proofs.Common.{◌≡◌, ◌≢◌, ◌⊎◌, inl, inr, ℕ, ◌<◌, ◌≤◌, Bool, true, false, List, [], ◌∷◌, length, get_or, refl, sym, ap, ◌∙◌, arith}
 use Rattle.std.specs.Prelude.{map, nat_eq, not, ◌&&◌, ◌||◌}
 use Rattle.std.specs.List.{AllByRecursion, IsDistinct, list_any}
-use Rattle.std.proofs.lemmas.Bool.{cases_lt}
+use Rattle.std.proofs.lemmas.Bool.{cases_lt, and_parts}
 use Rattle.std.proofs.lemmas.List.{get_or-map, length-map}
 use Rattle.std.proofs.lemmas.Map.Keys.{apart_from_distinct}
 use Rattle.std.specs.Cmp.{nat_eq_equiv}
@@ -20,10 +20,6 @@ abbrev are_apart : List ℕ → Bool
 are_apart [] = true
 are_apart (n ∷ ns) = not (list_any (nat_eq n) ns) && are_apart ns
 
-both : (a b : Bool) → (a && b) ≡ true → (a ≡ true) × (b ≡ true)
-both true b h = (refl, h)
-both false b h = absurd (cc h)
-
 neither : (a b : Bool) → not (a || b) ≡ true → (a ≡ false) × (not b ≡ true)
 neither true b h = absurd (cc h)
 neither false b h = (refl, h)
@@ -35,7 +31,7 @@ none_of n (m ∷ ns) h = let two = neither (nat_eq n m) (list_any (nat_eq n) ns)
 distinct : (ns : List ℕ) → are_apart ns ≡ true → IsDistinct nat_eq ns
 unfolding IsDistinct
 distinct [] h = tt
-distinct (n ∷ ns) h = let two = both (not (list_any (nat_eq n) ns)) (are_apart ns) h in (none_of n ns two.0, distinct ns two.1)
+distinct (n ∷ ns) h = let two = and_parts (not (list_any (nat_eq n) ns)) (are_apart ns) h in (none_of n ns two.0, distinct ns two.1)
 
 kinds_apart : (signal : Signal) → IsDistinct nat_eq (numbers (kinds_of signal))
 kinds_apart Logs = distinct (numbers (kinds_of Logs)) refl

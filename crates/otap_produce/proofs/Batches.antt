@@ -1,14 +1,15 @@
 -- Payloads are added to a batch one after the other, and the batch is written as a message.
 use Rattle.std.proofs.Common.{◌≡◌, ◌+◌, List, [], ◌∷◌, ◌++◌, ap, ◌∙◌, arith, append_assoc, length-append}
-use Rattle.std.specs.List.{AllByRecursion}
 use Rattle.lists.proofs.Growing.{each_after-append}
+use Rattle.lists.proofs.Every.{every_append}
 use Rattle.lists.specs.Payloads.{PayloadIn}
 use Rattle.otap_capture.specs.Batch.{BatchContent, IsRealPayload}
 use Rattle.otap_cells.specs.Tables.{Table}
 use Rattle.otap_columns.specs.TableSets.{IsPayloadOf}
 use Rattle.otap_produce.specs.Exporters.{SendersIn}
-use Rattle.otap_produce.specs.SentMessages.{Adds, HaveHistory, Sends}
+use Rattle.otap_produce.specs.SentMessages.{Adds, Sends}
 use Rattle.otap_produce.specs.Sizes.{most_of, size_of}
+use Rattle.otap_produce.specs.Inside.{HaveHistory}
 
 pub sends_more : (ts us : List Table) (a b c : SendersIn) (ps qs : List PayloadIn) → Sends ts a b ps → Sends us b c qs → Sends (ts ++ us) a c (ps ++ qs)
 sends_more ts us a b c ps qs one two = record {
@@ -16,10 +17,6 @@ sends_more ts us a b c ps qs one two = record {
       each_after-append IsPayloadOf before past ts us ps qs (one.are before past has) (two.are (before ++ ts) (past ++ ps) (one.after before past has));
   after = λ before past has. rw (← append_assoc before ts us, ← append_assoc past ps qs) (two.after (before ++ ts) (past ++ ps) (one.after before past has));
 }
-
-all_more : (ps qs : List PayloadIn) → AllByRecursion IsRealPayload ps → AllByRecursion IsRealPayload qs → AllByRecursion IsRealPayload (ps ++ qs)
-all_more [] qs one two = two
-all_more (p ∷ ps) qs one two = (one.0, all_more ps qs one.1 two)
 
 size_more : (ps qs : List PayloadIn) → size_of (ps ++ qs) ≡ size_of ps + size_of qs
 size_more [] qs = omega arith
@@ -34,7 +31,7 @@ adds_more ts us a b c x y z one two = record {
   payloads = one.payloads ++ two.payloads;
   id = two.id ∙ one.id;
   are = two.are ∙ ap (λ (ps : List PayloadIn). ps ++ two.payloads) one.are ∙ append_assoc x.payloads one.payloads two.payloads;
-  real = all_more one.payloads two.payloads one.real two.real;
+  real = every_append IsRealPayload one.payloads two.payloads one.real two.real;
   sends = sends_more ts us a b c one.payloads two.payloads one.sends two.sends;
   openings = omega (arith, one.openings, two.openings, length-append ts us);
   size = omega (arith, one.size, two.size, size_more one.payloads two.payloads, most_more ts us);

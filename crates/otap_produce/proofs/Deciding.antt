@@ -1,41 +1,26 @@
 -- The policy decides the type and the schema id of each payload. So whatever messages it allows for some requests, the same
 -- schema ids are open after them, and as many of their payloads opened a sub-stream.
-use Rattle.std.proofs.Common.{◌≡◌, inl, inr, ℕ, ◌+◌, Bool, true, false, List, [], ◌∷◌, ◌++◌, get_or, Option, Some, None, ℤ, pos, refl, sym, ap, ◌∙◌, subst, append_assoc, append-nil, arith}
-use Rattle.std.specs.Prelude.{not, bytes_eq}
+use Rattle.std.proofs.Common.{◌≡◌, inl, inr, ℕ, ◌+◌, Bool, true, false, List, [], ◌∷◌, ◌++◌, get_or, Some, ℤ, pos, refl, sym, ap, ◌∙◌, subst, append_assoc, append-nil, arith}
 use Rattle.std.specs.Fmt.{decimal}
 use Rattle.std.specs.List.{flat_map}
 use Rattle.std.specs.Ordering.{int_eq}
 use Rattle.std.proofs.lemmas.Bool.{cases_Bool, false≢true}
 use Rattle.std.proofs.lemmas.Grind.{flat_map-append}
-use Rattle.std.proofs.lemmas.Slice.Eq.{bytes_eq-Decides}
 use Rattle.lists.specs.EachAfter.{EachAfter}
 use Rattle.lists.proofs.Growing.{each_after-append}
 use Rattle.lists.specs.Payloads.{PayloadIn}
 use Rattle.otlp_model.specs.declared.request.Request.{Request}
 use Rattle.otap_cells.specs.Payload.{number_of}
 use Rattle.otap_cells.specs.Tables.{Table}
-use Rattle.otap_columns.specs.Streams.{is_of, id_in, last_of, opens, opens_after, open_id}
+use Rattle.otap_columns.specs.Streams.{is_of, opens, open_id}
 use Rattle.otap_columns.specs.TableSets.{ArePayloadsOf, IsPayloadOf, openings}
-use Rattle.otap_columns.proofs.Openings.{open_id-own, open_id-other}
-use Rattle.otap_produce.specs.Exporters.{ExporterIn, HasSent, HaveSent, SenderIn, SendersIn, StandsFor}
+use Rattle.otap_columns.proofs.Openings.{open_id-own, open_id-other, stays_open}
+use Rattle.otap_produce.specs.Exporters.{ExporterIn, HasSentTables, HaveSent, SenderIn, SendersIn, StandsFor}
 use Rattle.otap_capture.specs.Batch.{payloads_in}
 use Rattle.otap_produce.specs.Policy.{IsMessageOf, Policy, SignalRows}
 use Rattle.otap_produce.proofs.Counting.{if_opens, openings-push}
 
 -- ---- one payload
-
--- a payload that opens no sub-stream has the id that is open for its type
-id_stays : (last : Option PayloadIn) (p : PayloadIn) → opens_after last p ≡ false → id_in last ≡ Some p.schema_id
-id_stays None p stays = absurd (cc stays)
-id_stays (Some last) p stays =
-    elim (cases_Bool (bytes_eq last.schema_id p.schema_id)) [
-      | inl equal ↦ ap (λ (id : List ℕ). Some id) ((bytes_eq-Decides last.schema_id p.schema_id).0 equal)
-      | inr differs ↦ absurd (cc (sym stays ∙ ap not differs))
-    ]
-
-stays_open : (past : List PayloadIn) (p : PayloadIn) → opens past p ≡ false → open_id p.kind past ≡ Some p.schema_id
-unfolding opens open_id
-stays_open past p stays = id_stays (last_of p.kind past) p stays
 
 same_test : (a b : Bool) → (a ≡ false → b ≡ false) → (b ≡ false → a ≡ false) → a ≡ b
 same_test true true there back = refl
@@ -123,7 +108,7 @@ messages_alike rows requests messages others one other =
 
 -- ---- what an exporter stands for
 
-sent_alike : (tables : List Table) (past past' : List PayloadIn) (s : SenderIn) → LookAlike past past' → HasSent tables past s → HasSent tables past' s
+sent_alike : (tables : List Table) (past past' : List PayloadIn) (s : SenderIn) → LookAlike past past' → HasSentTables tables past s → HasSentTables tables past' s
 sent_alike tables past past' s alike has = record {
   written = has.written;
   last = sym (alike.ids (pos (number_of s.writer.kind))) ∙ has.last;

@@ -1,37 +1,33 @@
 -- Senders that sent nothing.
-use Rattle.std.proofs.Common.{◌≡◌, ◌⊎◌, inl, inr, ℕ, ◌+◌, ◌<◌, false, List, [], length, get_or, set, None, refl, sym, ap, ◌∙◌, subst, arith}
-use Rattle.std.specs.Prelude.{All, ℤ}
+use Rattle.std.proofs.Common.{◌≡◌, ◌⊎◌, inl, inr, ℕ, ◌+◌, ◌<◌, false, List, [], length, get_or, set, sym, ap, ◌∙◌, subst, arith}
+use Rattle.std.specs.Prelude.{All}
 use Rattle.std.proofs.lemmas.Bool.{cases_eq, false≢true}
 use Rattle.std.proofs.lemmas.List.{get_or-set_same, get_or-set_other}
 use Rattle.otap_cells.specs.declared.payload.Kind.{Kind}
-use Rattle.otap_columns.specs.Streams.{open_id}
 use Rattle.otap_columns.specs.Writers.{HasWritten}
-use Rattle.otap_produce.specs.Exporters.{HasSent, HaveSent, SenderIn, SendersIn}
+use Rattle.otap_produce.specs.Exporters.{HasSentTables, HaveSent, SenderIn, SendersIn}
 use Rattle.otap_produce.proofs.Counting.{openings-none}
 use Rattle.otap_produce.proofs.Stepping.{last_none}
+use Rattle.otap_columns.proofs.Openings.{open_id-none}
 
-none_open : (kind : ℤ) → open_id kind [] ≡ None
-unfolding open_id
-none_open kind = refl
-
-pub has_sent_none : (s : SenderIn) → HasWritten [] s.writer → HasSent [] [] s
+pub has_sent_none : (s : SenderIn) → HasWritten [] s.writer → HasSentTables [] [] s
 has_sent_none s wrote = record {
   written = wrote;
-  last = none_open _ ∙ sym (last_none s wrote.begun);
+  last = open_id-none _ ∙ sym (last_none s wrote.begun);
   before = λ started. absurd (false≢true (sym wrote.begun ∙ started));
 }
 
-pub have_sent_none : (s : SendersIn) → All (HasSent [] []) s.senders → s.openings ≡ 0 → HaveSent [] [] s
+pub have_sent_none : (s : SendersIn) → All (HasSentTables [] []) s.senders → s.openings ≡ 0 → HaveSent [] [] s
 have_sent_none s each count = record { each = each; openings = count ∙ sym openings-none }
 
 -- senders that begin anew one after the other
-pub anew_at : (senders : List SenderIn) (place : ℕ) (s : SenderIn) → place < length senders → ((k : ℕ) (d : SenderIn) → k < place → HasSent [] [] (get_or senders k d)) → HasSent [] [] s
-    → (k : ℕ) (d : SenderIn) → k < place + 1 → HasSent [] [] (get_or (set senders place s) k d)
+pub anew_at : (senders : List SenderIn) (place : ℕ) (s : SenderIn) → place < length senders → ((k : ℕ) (d : SenderIn) → k < place → HasSentTables [] [] (get_or senders k d)) → HasSentTables [] [] s
+    → (k : ℕ) (d : SenderIn) → k < place + 1 → HasSentTables [] [] (get_or (set senders place s) k d)
 anew_at senders place s inside before here k d low = go (cases_eq k place)
   where
-    go : (k ≡ place) ⊎ (k ≡ place → ⊥) → HasSent [] [] (get_or (set senders place s) k d)
-    go (inl is) = subst (HasSent [] []) (sym (ap (λ n. get_or (set senders place s) n d) is ∙ get_or-set_same senders place s d inside)) here
-    go (inr other) = subst (HasSent [] []) (sym (get_or-set_other senders place k s d other)) (before k d (omega (arith, low, other)))
+    go : (k ≡ place) ⊎ (k ≡ place → ⊥) → HasSentTables [] [] (get_or (set senders place s) k d)
+    go (inl is) = subst (HasSentTables [] []) (sym (ap (λ n. get_or (set senders place s) n d) is ∙ get_or-set_same senders place s d inside)) here
+    go (inr other) = subst (HasSentTables [] []) (sym (get_or-set_other senders place k s d other)) (before k d (omega (arith, low, other)))
 
 -- a sender of a kind
 pub some_sender : Kind → SenderIn

@@ -4,11 +4,11 @@ use Rattle.std.specs.Prelude.{map, FitsSigned, ◌==◌, if◌then◌else◌}
 use Rattle.std.specs.Int.{w64, cast_unsigned}
 use Rattle.std.specs.List.{AllByRecursion}
 use Rattle.lists.specs.Payloads.{PayloadIn}
+use Rattle.lists.proofs.Numbers.{wider, unsigned_small}
 use Rattle.otlp_wire.specs.Varint.{varint}
 use Rattle.otlp_wire.specs.Wire.{Varint}
 use Rattle.otlp_wire.proofs.Shortest.{ten_at_most}
 use Rattle.otlp_messages.specs.Canon.{bytes_row, canon_row, many_row, signed_row}
-use Rattle.otlp_messages.proofs.RowKinds.{unsigned_small, wider}
 use Rattle.otap_capture.specs.Batch.{BatchContent, IsRealBatch, IsRealPayload, canon_batch, canon_payload}
 use Rattle.otap_produce.specs.Sizes.{size_of}
 

@@ -3,7 +3,6 @@ pub mod Counting
 pub mod Stepping
 pub mod Fresh
 pub mod OneMore
-pub mod TypeNumbers
 pub mod WritableTables
 pub mod WrittenLogs
 pub mod WrittenSpans

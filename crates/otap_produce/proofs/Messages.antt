@@ -4,7 +4,7 @@ use Rattle.std.specs.Prelude.{FitsSigned}
 use Rattle.std.specs.Int.{w64}
 use Rattle.std.specs.List.{AllByRecursion}
 use Rattle.std.proofs.lemmas.Int.{fits_signed_from_abs}
-use Rattle.otap_capture.specs.Batch.{BatchContent, IsRealBatch, IsRealPayload, ReadsBatch, batch_in, canon_batch}
+use Rattle.otap_capture.specs.Batch.{BatchContent, IsRealBatch, IsRealPayload, ReadsBatch, batch_content, canon_batch}
 use Rattle.otap_cells.specs.Tables.{Table}
 use Rattle.otap_columns.specs.Limits.{tables_limit}
 use Rattle.otap_produce.specs.Exporters.{SendersIn}
@@ -37,8 +37,8 @@ module _ (number : ℕ) (ts : List Table) (old new : SendersIn) (start batch : B
       let count : length batch.payloads ≤ tables_limit = omega (arith, ap length payloads_are, adds.count, few) in
       omega (arith, batch_most batch real (omega (arith, size_is)), count, size_is)
 
-  read : batch_in bytes ≡ batch
-  read = ap batch_in spelled ∙ sym (law batch real (omega (arith, short))).1
+  read : batch_content bytes ≡ batch
+  read = ap batch_content spelled ∙ sym (law batch real (omega (arith, short))).1
 
   pub message_sent : SendsMessage number ts old new bytes
   message_sent = record {

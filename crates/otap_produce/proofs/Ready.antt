@@ -14,8 +14,9 @@ use Rattle.otap_columns.specs.Limits.{tables_limit}
 use Rattle.otap_produce.specs.Exporters.{SendersIn, kinds_in}
 use Rattle.otap_produce.specs.Limits.{batch_limit}
 use Rattle.otap_produce.specs.Policy.{IsExported, SignalRows}
-use Rattle.otap_produce.specs.SentMessages.{AreReadyForAll, HaveHistory}
+use Rattle.otap_produce.specs.SentMessages.{AreReadyForAll}
 use Rattle.otap_produce.specs.Writable.{AreInOrder, AreWritableRows}
+use Rattle.otap_produce.specs.Inside.{HaveHistory}
 use Rattle.otap_produce.proofs.Limited.{RecordsFit, tables_limited}
 
 -- the kind of each table is one of the signal's

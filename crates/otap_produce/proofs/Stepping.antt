@@ -1,36 +1,29 @@
 -- What one more payload does to a sender: to the one of its kind, and to the others.
 use Rattle.std.proofs.Common.{◌≡◌, inl, inr, ℕ, ◌+◌, ◌<◌, ◌^◌, Bool, true, false, List, [], ◌∷◌}
-use Rattle.std.proofs.Common.{◌++◌, Option, Some, None, pos, if◌then◌else◌, refl, sym, ap, ◌∙◌, subst, arith, append-nil}
+use Rattle.std.proofs.Common.{◌++◌, Option, Some, None, pos, if◌then◌else◌, refl, sym, ap, ◌∙◌, subst, arith}
 use Rattle.std.specs.Prelude.{not, bytes_eq}
 use Rattle.std.specs.Fmt.{decimal}
 use Rattle.std.specs.Ordering.{int_eq}
 use Rattle.std.proofs.lemmas.Bool.{cases_Bool, false≢true}
 use Rattle.std.proofs.lemmas.Bool.Decides.{Decides-int_eq, Decides-eqb}
 use Rattle.std.proofs.lemmas.Fmt.{decimal_injective}
-use Rattle.std.proofs.lemmas.List.Elements.{filter-append}
 use Rattle.std.proofs.lemmas.Slice.Eq.{bytes_eq-Decides}
 use Rattle.lists.specs.Payloads.{PayloadIn}
 use Rattle.otap_cells.specs.declared.payload.Kind.{Kind}
 use Rattle.otap_cells.specs.Payload.{is_kind, number_of}
 use Rattle.otap_cells.specs.Tables.{Table}
 use Rattle.otap_columns.specs.WrittenPayloads.{IsRecord, IsWritableTable}
-use Rattle.otap_columns.specs.Streams.{id_in, last_of, opens, opens_after, open_id}
+use Rattle.otap_columns.specs.Streams.{schema_id_in, last_of, opens, opens_after, open_id}
 use Rattle.otap_columns.specs.TableSets.{IsPayloadOf, of_kind, openings}
 use Rattle.otap_columns.specs.Writers.{HasWritten, WritesRecord, is_started}
 use Rattle.otap_columns.proofs.Openings.{open_id-own, open_id-other}
-use Rattle.otap_produce.specs.Exporters.{HasSent, SenderIn, last_id}
+use Rattle.otap_columns.proofs.KindTables.{of_kind-other, of_kind-own}
+use Rattle.otap_columns.proofs.StepHeld.{started_more}
+use Rattle.otap_produce.specs.Exporters.{HasSentTables, SenderIn, last_id}
 use Rattle.otap_produce.proofs.Counting.{if_opens, openings-push, openings_grow}
+use Rattle.otap_cells.proofs.KindsApart.{is_itself}
 
 -- ---- kinds
-
-same_kind : (kind : Kind) → is_kind kind kind ≡ true
-same_kind kind = (Decides-eqb (number_of kind) (number_of kind)).1 refl
-
-of_kind-own : (tables : List Table) (t : Table) → of_kind t.kind (tables ++ t ∷ []) ≡ of_kind t.kind tables ++ t ∷ []
-of_kind-own tables t = filter-append (λ (u : Table). is_kind u.kind t.kind) tables (t ∷ []) ∙ rw (same_kind t.kind) refl
-
-of_kind-other : (kind : Kind) (tables : List Table) (t : Table) → is_kind t.kind kind ≡ false → of_kind kind (tables ++ t ∷ []) ≡ of_kind kind tables
-of_kind-other kind tables t other = filter-append (λ (u : Table). is_kind u.kind kind) tables (t ∷ []) ∙ rw other (append-nil (of_kind kind tables))
 
 -- payloads of different kinds have different types
 other_type : (a b : Kind) → is_kind a b ≡ false → int_eq (pos (number_of a)) (pos (number_of b)) ≡ false
@@ -44,11 +37,11 @@ other_type a b other =
 
 -- ---- openings
 
-opens_first : (last : Option PayloadIn) (p : PayloadIn) → id_in last ≡ None → opens_after last p ≡ true
+opens_first : (last : Option PayloadIn) (p : PayloadIn) → schema_id_in last ≡ None → opens_after last p ≡ true
 opens_first None p none = refl
 opens_first (Some last) p none = absurd (cc none)
 
-opens_by_id : (last : Option PayloadIn) (p : PayloadIn) (id : List ℕ) → id_in last ≡ Some id → opens_after last p ≡ not (bytes_eq id p.schema_id)
+opens_by_id : (last : Option PayloadIn) (p : PayloadIn) (id : List ℕ) → schema_id_in last ≡ Some id → opens_after last p ≡ not (bytes_eq id p.schema_id)
 opens_by_id None p id some = absurd (cc some)
 opens_by_id (Some last) p id some = let same : last.schema_id ≡ id = cc some in ap (λ s. not (bytes_eq s p.schema_id)) same
 
@@ -79,10 +72,6 @@ pub record SendsOne (s new : SenderIn) (count : ℕ) (t : Table) (opened : Bool)
   pub type : p.kind ≡ pos (number_of t.kind)
   pub room : count < 2 ^ 64
 
-started_more : (tables : List Table) (t : Table) → is_started (tables ++ t ∷ []) ≡ true
-started_more [] t = refl
-started_more (u ∷ tables) t = refl
-
 started_where : (tables : List Table) → (tables ≡ [] → ⊥) → is_started tables ≡ true
 started_where [] some = absurd (some refl)
 started_where (u ∷ tables) some = refl
@@ -94,7 +83,7 @@ pub last_none : (s : SenderIn) → s.writer.started ≡ false → last_id s ≡ 
 last_none s started = rw started refl
 
 module _ (before : List Table) (past : List PayloadIn) (s new : SenderIn) (count : ℕ) (t : Table) (opened : Bool) (p : PayloadIn)
-    (has : HasSent before past s) (counted : count ≡ openings past) (one : SendsOne s new count t opened p) where
+    (has : HasSentTables before past s) (counted : count ≡ openings past) (one : SendsOne s new count t opened p) where
   record_is : IsRecord t.kind (of_kind t.kind before) t opened p.bytes
   record_is = subst (λ (k : Kind). IsRecord k (of_kind k before) t opened p.bytes) one.kind (one.writes.record_is (of_kind s.writer.kind before) has.written)
 
@@ -153,7 +142,7 @@ module _ (before : List Table) (past : List PayloadIn) (s new : SenderIn) (count
   own_written : HasWritten (of_kind new.writer.kind (before ++ t ∷ [])) new.writer
   own_written =
       subst (λ (k : Kind). HasWritten (of_kind k (before ++ t ∷ [])) new.writer) (sym own_kind)
-      (subst (λ (ts : List Table). HasWritten ts new.writer) (sym (of_kind-own before t))
+      (subst (λ (ts : List Table). HasWritten ts new.writer) (sym (of_kind-own t.kind before t (is_itself t.kind)))
       (subst (λ (k : Kind). HasWritten (of_kind k before ++ t ∷ []) new.writer) one.kind (one.writes.after (of_kind s.writer.kind before) has.written)))
 
   own_started : new.writer.started ≡ true
@@ -172,7 +161,7 @@ module _ (before : List Table) (past : List PayloadIn) (s new : SenderIn) (count
         | inr is ↦ omega (arith, more, ap if_opens is, last_goes_on is, has.before (begun is))
       ]
 
-  pub own_after : HasSent (before ++ t ∷ []) (past ++ p ∷ []) new
+  pub own_after : HasSentTables (before ++ t ∷ []) (past ++ p ∷ []) new
   own_after = record { written = own_written; last = own_last; before = λ started. own_before }
 
   pub count_after : (if opened then count + 1 else count) ≡ openings (past ++ p ∷ [])
@@ -185,7 +174,7 @@ module _ (before : List Table) (past : List PayloadIn) (s new : SenderIn) (count
 
 -- a sender of another kind
 pub other_after : (before : List Table) (past : List PayloadIn) (t : Table) (p : PayloadIn) (s : SenderIn) → p.kind ≡ pos (number_of t.kind)
-    → is_kind t.kind s.writer.kind ≡ false → HasSent before past s → HasSent (before ++ t ∷ []) (past ++ p ∷ []) s
+    → is_kind t.kind s.writer.kind ≡ false → HasSentTables before past s → HasSentTables (before ++ t ∷ []) (past ++ p ∷ []) s
 other_after before past t p s type other has = record {
   written = subst (λ (ts : List Table). HasWritten ts s.writer) (sym (of_kind-other s.writer.kind before t other)) has.written;
   last =

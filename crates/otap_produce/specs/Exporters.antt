@@ -7,7 +7,7 @@ use Rattle.otlp_model.specs.declared.request.Request.{Request}
 use Rattle.otlp_model.specs.Limits.{item_limit, weight_limit}
 use Rattle.otlp_model.specs.Telemetry.{telemetry}
 use Rattle.otlp_model.specs.Weight.{weight_of}
-use Rattle.otap_capture.specs.Batch.{batch_in, canon_batch, payloads_in}
+use Rattle.otap_capture.specs.Batch.{batch_content, canon_batch, payloads_in}
 use Rattle.otap_capture.specs.Capture.{longest_frame}
 use Rattle.otap_cells.specs.declared.payload.Kind.{Kind}
 use Rattle.otap_cells.specs.Payload.{kinds_of, number_of}
@@ -42,7 +42,7 @@ abbrev pub last_id : SenderIn → Option (List ℕ)
 last_id s = if s.writer.started then Some (decimal s.last) else None
 
 -- a sender wrote the tables of its kind among these, and the last payload of its type has its last number as schema id
-pub record HasSent (tables : List Table) (payloads : List PayloadIn) (s : SenderIn) : Type 0 where
+pub record HasSentTables (tables : List Table) (payloads : List PayloadIn) (s : SenderIn) : Type 0 where
   pub written : HasWritten (of_kind s.writer.kind tables) s.writer
   pub last : open_id (pos (number_of s.writer.kind)) payloads ≡ last_id s
   pub before : s.writer.started ≡ true → s.last < openings payloads
@@ -52,7 +52,7 @@ kinds_in senders = map (λ s. s.writer.kind) senders
 
 -- SENDERS THAT SENT TABLES as these payloads
 pub record HaveSent (tables : List Table) (payloads : List PayloadIn) (s : SendersIn) : Type 0 where
-  pub each : All (HasSent tables payloads) s.senders
+  pub each : All (HasSentTables tables payloads) s.senders
   pub openings : s.openings ≡ openings payloads
 
 -- AN EXPORTER THAT STANDS FOR THE REQUESTS of its segment, and for messages that the policy gives them
@@ -71,8 +71,8 @@ pub record StandsFor (rows : SignalRows) (requests : List Request) (messages : L
 pub record Exports (rows : SignalRows) (request : Request) (old new : ExporterIn) (bytes : List ℕ) : Type 0 where
   pub was_sound : old.broken ≡ false
   pub exported : IsExported rows request
-  pub canonical : bytes ≡ canon_batch (batch_in bytes)
-  pub id : (batch_in bytes).id ≡ pos old.batches
+  pub canonical : bytes ≡ canon_batch (batch_content bytes)
+  pub id : (batch_content bytes).id ≡ pos old.batches
   pub short : length bytes ≤ longest_frame
   pub message : (requests : List Request) (messages : List (List ℕ)) → StandsFor rows requests messages old → IsMessageOf rows requests messages request bytes
   pub stands : (requests : List Request) (messages : List (List ℕ)) → StandsFor rows requests messages old → StandsFor rows (requests ++ request ∷ []) (messages ++ bytes ∷ []) new
@@ -90,8 +90,8 @@ Refuses rows q broken TooHeavy =
 Refuses rows q broken (Memory e) = (broken ≡ false) × IsExported rows q
 
 -- after a refusal all is as before; after want of memory the exporter is broken, and the batch isn't counted
-abbrev pub IsAfter : ProduceRefusal → ExporterIn → ExporterIn → Type 0
-IsAfter Broken old new = new ≡ old
-IsAfter TooManyItems old new = new ≡ old
-IsAfter TooHeavy old new = new ≡ old
-IsAfter (Memory e) old new = (new.broken ≡ true) × (new.batches ≡ old.batches)
+abbrev pub AfterRefusal : ProduceRefusal → ExporterIn → ExporterIn → Type 0
+AfterRefusal Broken old new = new ≡ old
+AfterRefusal TooManyItems old new = new ≡ old
+AfterRefusal TooHeavy old new = new ≡ old
+AfterRefusal (Memory e) old new = (new.broken ≡ true) × (new.batches ≡ old.batches)

@@ -9,7 +9,7 @@ use Rattle.otlp_model.specs.Telemetry.{signal_of, telemetry}
 use Rattle.otlp_model.specs.Weight.{weight_of}
 use Rattle.otlp_model.specs.declared.request.Request.{Request}
 use Rattle.otlp_model.specs.declared.request.Signal.{Signal}
-use Rattle.otap_capture.specs.Batch.{batch_in, canon_batch, payloads_in}
+use Rattle.otap_capture.specs.Batch.{batch_content, canon_batch, payloads_in}
 use Rattle.otap_capture.specs.Capture.{longest_frame}
 use Rattle.otap_cells.specs.Tables.{Table}
 use Rattle.otap_cells.specs.Weights.{row_weight_limit, weight_of_tables}
@@ -32,8 +32,8 @@ pub record IsExported (rows : SignalRows) (q : Request) : Type 0 where
 -- THE MESSAGE OF A REQUEST, after the requests and the messages of its segment before it: the canonical spelling of a batch whose
 -- id counts these, and which has a payload for each table of the request. It fits into a frame.
 pub record IsMessageOf (rows : SignalRows) (requests : List Request) (messages : List (List ℕ)) (request : Request) (message : List ℕ) : Type 0 where
-  pub canonical : message ≡ canon_batch (batch_in message)
-  pub id : (batch_in message).id ≡ pos (length requests)
+  pub canonical : message ≡ canon_batch (batch_content message)
+  pub id : (batch_content message).id ≡ pos (length requests)
   pub payloads : ArePayloadsOf (flat_map rows.tables requests) (flat_map payloads_in messages) (rows.tables request) (payloads_in message)
   pub short : length message ≤ longest_frame
 

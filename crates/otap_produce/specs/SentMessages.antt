@@ -1,10 +1,10 @@
--- What a call does to what was sent.
+-- What a call does to what was sent, in the words of private contracts.
 use Rattle.std.specs.Prelude.{◌≡◌, ◌<◌, ◌≤◌, ◌+◌, ◌^◌, ℕ, Bool, List, ◌++◌, length, pos, All, Contains}
 use Rattle.std.specs.List.{AllByRecursion}
 use Rattle.lists.specs.Payloads.{PayloadIn}
 use Rattle.otlp_model.specs.declared.request.Request.{Request}
 use Rattle.otlp_model.specs.declared.request.Signal.{Signal}
-use Rattle.otap_capture.specs.Batch.{BatchContent, IsRealPayload, batch_in, canon_batch, payloads_in}
+use Rattle.otap_capture.specs.Batch.{BatchContent, IsRealPayload, batch_content, canon_batch, payloads_in}
 use Rattle.otap_capture.specs.Capture.{longest_frame}
 use Rattle.otap_cells.specs.declared.payload.Kind.{Kind}
 use Rattle.otap_cells.specs.Payload.{kinds_of}
@@ -18,12 +18,7 @@ use Rattle.otap_produce.specs.declared.refusal.ProduceRefusal.TheVariants.{Memor
 use Rattle.otap_produce.specs.Exporters.{SendersIn, HaveSent, Refuses, kinds_in}
 use Rattle.otap_produce.specs.Policy.{SignalRows}
 use Rattle.otap_produce.specs.Sizes.{most_of, size_of, size_limit}
-
--- some tables were sent, as some payloads
-pub record HaveHistory (s : SendersIn) : Type 0 where
-  pub tables : List Table
-  pub payloads : List PayloadIn
-  pub sent : HaveSent tables payloads s
+use Rattle.otap_produce.specs.Inside.{HaveHistory}
 
 -- a table for which there is a sender can be written
 pub record CanSend (kinds : List Kind) (t : Table) : Type 0 where
@@ -67,12 +62,12 @@ pub record Adds (tables : List Table) (old new : SendersIn) (batch grown : Batch
 
 -- the payloads of tables were written as a message
 pub record SendsMessage (number : ℕ) (tables : List Table) (old new : SendersIn) (message : List ℕ) : Type 0 where
-  pub canonical : message ≡ canon_batch (batch_in message)
-  pub id : (batch_in message).id ≡ pos number
+  pub canonical : message ≡ canon_batch (batch_content message)
+  pub id : (batch_content message).id ≡ pos number
   pub sends : Sends tables old new (payloads_in message)
   pub short : length message ≤ longest_frame
 
 -- the request is refused before anything is written
-abbrev pub RefusesFirst : SignalRows → Request → Bool → ProduceRefusal → Type 0
-RefusesFirst rows q broken (Memory e) = ⊥
-RefusesFirst rows q broken why = Refuses rows q broken why
+abbrev pub RefusesUnwritten : SignalRows → Request → Bool → ProduceRefusal → Type 0
+RefusesUnwritten rows q broken (Memory e) = ⊥
+RefusesUnwritten rows q broken why = Refuses rows q broken why

@@ -4,10 +4,11 @@ ghost use Rattle.otlp_model.specs.Profile.{IsProfile};
 ghost use Rattle.otlp_model.specs.Telemetry.{signal_of};
 ghost use Rattle.otap_cells.specs.Payload.{kinds_of};
 ghost use Rattle.otap_columns.specs.Limits.{tables_limit};
-ghost use Rattle.otap_produce.specs.Exporters.{Exports, IsAfter, Refuses, StandsFor, kinds_in};
+ghost use Rattle.otap_produce.specs.Exporters.{Exports, AfterRefusal, Refuses, StandsFor, kinds_in};
 ghost use Rattle.otap_produce.specs.Limits.{batch_limit};
 ghost use Rattle.otap_produce.specs.Policy.{IsExported};
-ghost use Rattle.otap_produce.specs.SentMessages.{HaveHistory, RefusesFirst, SendsMessage};
+ghost use Rattle.otap_produce.specs.SentMessages.{RefusesUnwritten, SendsMessage};
+ghost use Rattle.otap_produce.specs.Inside.{HaveHistory};
 
 use crate::refusal::ProduceRefusal;
 use crate::senders::Senders;
@@ -66,7 +67,7 @@ impl<T: Tabled> Exporter<T> {
         requires batches { self.old.batches < batch_limit }
         ensures exports { IfOk result (λ bytes. Exports T.rows request.now self.old self.new bytes.items) }
         ensures refuses { IfErr result (Refuses T.rows request.now self.old.broken) }
-        ensures after { IfErr result (λ refusal. IsAfter refusal self.old self.new) }
+        ensures after { IfErr result (λ refusal. AfterRefusal refusal self.old self.new) }
     {
         check::<T>(self.broken, request)?;
         self.broken = true;
@@ -106,7 +107,7 @@ fn check<T: Tabled>(broken: bool, request: &Request) -> Result<(), ProduceRefusa
     requires profile { IsProfile request.now }
     ensures sound { OnOk result (broken ≡ false) }
     ensures exported { OnOk result (IsExported T.rows request.now) }
-    ensures refuses { IfErr result (RefusesFirst T.rows request.now broken) }
+    ensures refuses { IfErr result (RefusesUnwritten T.rows request.now broken) }
 {
     if broken {
         return Err(ProduceRefusal::Broken);

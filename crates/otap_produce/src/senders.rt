@@ -3,7 +3,7 @@ ghost use Rattle.std.specs.Prelude.{◌≡◌, ◌≤◌, ◌<◌, ◌+◌, ◌^
 ghost use Rattle.std.specs.List.{slice_index_or};
 ghost use Rattle.otap_cells.specs.Payload.{kinds_of};
 ghost use Rattle.otap_cells.specs.Sets.{tables_in};
-ghost use Rattle.otap_produce.specs.Exporters.{SenderIn, HasSent, HaveSent, kinds_in};
+ghost use Rattle.otap_produce.specs.Exporters.{SenderIn, HasSentTables, HaveSent, kinds_in};
 ghost use Rattle.otap_produce.specs.Limits.{batch_limit};
 ghost use Rattle.otap_produce.specs.SentMessages.{Adds, AreReady, AreReadyForAll, SendsMessage};
 
@@ -119,7 +119,7 @@ fn openings_after(openings: u64, opens: bool) -> u64
 /// Each sender sent nothing.
 fn begin_anew(alloc: Global, senders: &mut [Sender])
     ensures kinds { kinds_in senders.new ≡ kinds_in senders.old }
-    ensures sent { All (HasSent [] []) senders.new }
+    ensures sent { All (HasSentTables [] []) senders.new }
 {
     'senders: for place in 0..senders.len() {
         let kind = senders[place].kind();

@@ -10,9 +10,8 @@ use Rattle.otap_attrs.specs.declared.refusal.RowRefusal.TheVariants as why
 use Rattle.otap_checks.specs.Deciding.{CleanOrWrong, HaveByteCells}
 use Rattle.otap_checks.specs.IdDefects.{IdDefect}
 use Rattle.otap_checks.proofs.CleanOrWrong.{AreDecided, attributes_clean_or_wrong, ids_clean_or_wrong, disagrees_or_not}
-use Rattle.otap_spans.specs.Inside.{IsUnlike}
 use Rattle.otap_spans.specs.Requests.{WrongSpans}
-use Rattle.otap_spans.proofs.Cleanness.{clean}
+use Rattle.otap_spans.proofs.Cleanness.{clean, IsUnlike}
 
 pub clean_or_wrong : (tables : List Table) → HaveByteCells tables → CleanOrWrong (WrongSpans tables)
 clean_or_wrong tables bytes =

@@ -10,12 +10,16 @@ use Rattle.otap_attrs.specs.declared.refusal.RowRefusal.TheVariants as why
 use Rattle.otap_checks.specs.declared.known.ColumnIds.{ColumnIds}
 use Rattle.otap_checks.specs.Given.{AreGiven}
 use Rattle.otap_checks.specs.Known.{Knows}
-use Rattle.otap_checks.specs.Links.{attributes, items, links_of, parts}
+use Rattle.otap_checks.specs.Links.{attributes_link, items, links_of, parts}
 use Rattle.otap_checks.specs.Reading.{Disagrees}
 use Rattle.otap_checks.proofs.MissingRows.{none_differ}
 use Rattle.otap_checks.proofs.TableIds.{clean_given}
-use Rattle.otap_spans.specs.Inside.{AreWhole, IsUnlike, KnowsSpans}
+use Rattle.otap_spans.specs.Inside.{AreWhole, KnowsSpans}
 use Rattle.otap_spans.specs.Requests.{WrongCells, WrongSpans}
+
+-- rows of one id differ
+abbrev pub IsUnlike : List Table → Type 0
+IsUnlike tables = Disagrees (table_named table.Spans tables)
 
 -- no row has anything wrong
 pub clean : (tables : List Table) → AreWhole tables → (IsUnlike tables → ⊥) → (kind : Kind) (wrong : RowRefusal) → WrongSpans tables kind wrong → ⊥
@@ -58,15 +62,15 @@ module _ (tables : List Table) (known : List ColumnIds) (all : KnowsSpans tables
 
   pub known_resource_pairs : Knows (table_named table.ResourceAttrs tables) table.ResourceAttrs known
   unfolding links_of
-  known_resource_pairs = all (attributes table.ResourceAttrs table.Spans 1) (1, omega arith, refl)
+  known_resource_pairs = all (attributes_link table.ResourceAttrs table.Spans 1) (1, omega arith, refl)
 
   pub known_scope_pairs : Knows (table_named table.ScopeAttrs tables) table.ScopeAttrs known
   unfolding links_of
-  known_scope_pairs = all (attributes table.ScopeAttrs table.Spans 4) (2, omega arith, refl)
+  known_scope_pairs = all (attributes_link table.ScopeAttrs table.Spans 4) (2, omega arith, refl)
 
   pub known_span_pairs : Knows (table_named table.SpanAttrs tables) table.SpanAttrs known
   unfolding links_of
-  known_span_pairs = all (attributes table.SpanAttrs table.Spans 0) (3, omega arith, refl)
+  known_span_pairs = all (attributes_link table.SpanAttrs table.Spans 0) (3, omega arith, refl)
 
   pub known_events : Knows (table_named table.SpanEvents tables) table.SpanEvents known
   unfolding links_of
@@ -78,11 +82,11 @@ module _ (tables : List Table) (known : List ColumnIds) (all : KnowsSpans tables
 
   pub known_event_pairs : Knows (table_named table.EventAttrs tables) table.EventAttrs known
   unfolding links_of
-  known_event_pairs = all (attributes table.EventAttrs table.SpanEvents 0) (6, omega arith, refl)
+  known_event_pairs = all (attributes_link table.EventAttrs table.SpanEvents 0) (6, omega arith, refl)
 
   pub known_link_pairs : Knows (table_named table.LinkAttrs tables) table.LinkAttrs known
   unfolding links_of
-  known_link_pairs = all (attributes table.LinkAttrs table.SpanLinks 0) (7, omega arith, refl)
+  known_link_pairs = all (attributes_link table.LinkAttrs table.SpanLinks 0) (7, omega arith, refl)
 
 -- where there are no rows, none differ
 pub none_unlike : (tables : List Table) (kind : Kind) → table_named table.Spans tables ≡ profile_table kind [] → IsUnlike tables → ⊥

@@ -15,7 +15,7 @@ use Rattle.otap_cells.specs.declared.payload.Kind.TheVariants as table
 use Rattle.otap_cells.specs.Cells.{Cell}
 use Rattle.otap_cells.specs.Tables.{Table}
 use Rattle.otap_groups.specs.Children.{children, numbered}
-use Rattle.otap_groups.specs.Flat.{flat, numbered_rows, part_rows, placed}
+use Rattle.otap_groups.specs.Flat.{flat_items, numbered_rows, part_rows, placed}
 use Rattle.otap_groups.specs.Rows.{ChildRow}
 use Rattle.otap_groups.proofs.LightGroups.{children_weigh, kept_weigh, regrouped_weigh}
 use Rattle.otap_attrs.specs.Tables.{attribute_table}
@@ -71,7 +71,7 @@ light_tables groups real is light =
     let found = regrouped_weigh weight_of_span (unsorted (resource_pairs groups)) (pairs_in r) (unsorted (scope_pairs groups)) (pairs_in s)
     (unsorted_span groups) (span_from groups)
     (sorted_weigh table.ResourceAttrs (resource_pairs groups) refl (few_r groups light)) (sorted_weigh table.ScopeAttrs (scope_pairs groups) refl (few_s groups light))
-    (spans_weigh groups light) (numbered_rows span_cells 0 (flat groups)) in
+    (spans_weigh groups light) (numbered_rows span_cells 0 (flat_items groups)) in
     let here : total 32 (weight_of_resource_group weight_of_span) (groups_with_items groups) ≡ weight_of (Traces (regrouped_spans (tables_of_spans groups))) =
     ap (total 32 (weight_of_resource_group weight_of_span)) (sym (unsorted_back groups (groups_again groups real is))) ∙ found
     ∙ ap (total 32 (weight_of_resource_group weight_of_span)) (regrouped_is groups light) in

@@ -4,6 +4,7 @@ use Rattle.std.specs.Prelude.{All, Contains}
 use Rattle.std.specs.List.{flat_map}
 use Rattle.std.proofs.lemmas.List.{length-map}
 use Rattle.std.proofs.lemmas.List.Elements.{All-map, All-weaker}
+use Rattle.lists.proofs.Every.{all_flat_map, all_of_both}
 use Rattle.otlp_model.specs.Limits.{weight_limit}
 use Rattle.otlp_model.specs.Profile.{IsProfile, IsProfileEvent, IsProfileLink, IsProfileSpan}
 use Rattle.otlp_model.specs.Real.{IsReal, IsRealEvent, IsRealLink, IsRealSpan}
@@ -16,7 +17,6 @@ use Rattle.otlp_model.specs.declared.spans.Event.{Event}
 use Rattle.otlp_model.specs.declared.spans.Link.{Link}
 use Rattle.otlp_model.specs.declared.request.Request.TheVariants.{Traces}
 use Rattle.otlp_model.specs.declared.request.Signal.TheVariants as signal
-use Rattle.otlp_model.specs.declared.value.Pair.{Pair}
 use Rattle.otap_cells.specs.declared.payload.Kind.{Kind}
 use Rattle.otap_cells.specs.declared.payload.Kind.TheVariants as table
 use Rattle.otap_cells.specs.Columns.{spans, span_events as event_columns, span_links as link_columns}
@@ -25,36 +25,35 @@ use Rattle.otap_cells.specs.GivenIds.{HasIds}
 use Rattle.otap_cells.specs.Named.{table_named}
 use Rattle.otap_cells.specs.Tables.{Table}
 use Rattle.otap_groups.specs.Disagree.{Disagree}
-use Rattle.otap_groups.specs.Flat.{flat, items_of, numbered_rows, resources_of, scopes_of}
+use Rattle.otap_groups.specs.Flat.{flat_items, items_of, numbered_rows, resources_of, scopes_of}
 use Rattle.otap_groups.specs.Rows.{MainRow}
 use Rattle.otap_groups.specs.Stored.{main_table, part_table}
 use Rattle.otap_groups.specs.Weighing.{CanWriteGroup}
 use Rattle.otap_groups.proofs.GroupsApart.{item_there, own_once, resource_there, rows_agree, scope_there}
 use Rattle.otap_groups.proofs.PartTables.{ids_of, part_there}
-use Rattle.otap_groups.proofs.RealGroups.{real_groups, real_items}
+use Rattle.otap_groups.proofs.RealGroups.{real_groups}
 use Rattle.otap_groups.proofs.StoredRows.{own_ids_of, part_ids_of, resource_ids_of, scope_ids_of}
-use Rattle.otap_groups.proofs.WritableGroups.{all_flat_map, all_items_can, all_resources_can, all_scopes_can}
+use Rattle.otap_groups.proofs.WritableGroups.{all_items_can, all_resources_can, all_scopes_can}
+use Rattle.otap_groups.proofs.FrontKinds.{events_front, links_front}
 use Rattle.otap_attrs.specs.declared.refusal.RowRefusal.{RowRefusal}
 use Rattle.otap_attrs.specs.Tables.{attribute_table}
 use Rattle.otap_checks.specs.declared.links.TableLink.{TableLink}
 use Rattle.otap_checks.specs.IdDefects.{IdDefect, WrongIn}
 use Rattle.otap_checks.specs.Given.{AreGiven, IsGiven}
-use Rattle.otap_checks.specs.Links.{attributes, items, links_of, parts}
+use Rattle.otap_checks.specs.Links.{attributes_link, items, links_of, parts}
 use Rattle.otap_checks.specs.Reading.{Disagrees}
-use Rattle.otap_attrs.specs.Defects.{WrongValue}
 use Rattle.otap_checks.proofs.FineLinks.{fine_attributes, fine_parts, settle}
-use Rattle.otap_checks.proofs.FinePairs.{IsFineList, attributes_fine, pairs_fine}
+use Rattle.otap_checks.proofs.FinePairs.{IsFineList, pairs_fine, fine_table, IsFineResource, IsFineScope}
 use Rattle.otap_checks.proofs.GivenColumns.{nothing_wrong, own_once as once_in_column}
 use Rattle.otap_checks.proofs.RowsAgain.{main_rows_again}
 use Rattle.otap_checks.proofs.TableIds.{disagree_too}
-use Rattle.otap_spans.specs.Inside.{IsUnlike}
 use Rattle.otap_checks.specs.ValueDefects.{HasFineValues}
 use Rattle.otap_spans.specs.Records.{event_cells, link_cells, span_cells}
 use Rattle.otap_spans.specs.Requests.{WrongSpans}
 use Rattle.otap_spans.specs.Tables.{all_events, all_links, event_lists, event_pairs, link_lists, link_pairs, resource_pairs, scope_pairs, span_pairs, tables_of_spans}
-use Rattle.otap_spans.proofs.Cleanness.{clean}
+use Rattle.otap_spans.proofs.Cleanness.{clean, IsUnlike}
 use Rattle.otap_spans.proofs.NamedTables.{named_event_pairs, named_events, named_link_pairs, named_links, named_main, named_resources, named_scopes, named_spans}
-use Rattle.otap_spans.proofs.SpanColumns.{events_are_parts, links_are_parts, spans_are_main}
+use Rattle.otap_spans.proofs.SpanColumns.{spans_are_main}
 use Rattle.otap_spans.proofs.SpanFits.{event_ids, link_ids, span_ids}
 use Rattle.otap_spans.proofs.SpansAgain.{events_joined, few_e, few_event_lists, few_events, few_l, few_link_lists, few_links, few_main, few_p, few_r, few_s, links_joined}
 
@@ -68,7 +67,7 @@ module _ (groups : List (ResourceGroup Span)) (light : weight_of (Traces groups)
   main = main_table table.Spans span_cells groups
 
   abbrev rows : List MainRow
-  rows = numbered_rows span_cells 0 (flat groups)
+  rows = numbered_rows span_cells 0 (flat_items groups)
 
   few : length (items_of groups) ≤ 2 ^ 32
   few = few_main groups light
@@ -103,7 +102,7 @@ module _ (groups : List (ResourceGroup Span)) (light : weight_of (Traces groups)
 
   fine_main : (wrong : RowRefusal) → WrongIn tables main (items table.Spans) wrong → ⊥
   fine_main = nothing_wrong tables main (items table.Spans) main_given
-      (once_in_column main (Some 0) 0 (map (λ (row : MainRow). row.id) rows) refl (own_ids_of span_cells table.Spans groups spans_are_main few) (own_once span_cells 0 (flat groups)))
+      (once_in_column main (Some 0) 0 (map (λ (row : MainRow). row.id) rows) refl (own_ids_of span_cells table.Spans groups spans_are_main few) (own_once span_cells 0 (flat_items groups)))
       (λ is. is)
 
   own_known : HasIds (table_named table.Spans tables) 0 (map (λ (row : MainRow). row.id) rows)
@@ -120,17 +119,17 @@ module _ (groups : List (ResourceGroup Span)) (light : weight_of (Traces groups)
   span_there : (n p : ℕ) → n ≡ length (items_of groups) → p < n → Contains (map (λ (row : MainRow). row.id) rows) (Some p)
   span_there n p is less = item_there span_cells groups p (omega (arith, is, less))
 
-  resource_attributes : (wrong : RowRefusal) → WrongIn tables (attribute_table table.ResourceAttrs (resource_pairs groups)) (attributes table.ResourceAttrs table.Spans 1) wrong → ⊥
+  resource_attributes : (wrong : RowRefusal) → WrongIn tables (attribute_table table.ResourceAttrs (resource_pairs groups)) (attributes_link table.ResourceAttrs table.Spans 1) wrong → ⊥
   resource_attributes =
       fine_attributes tables table.ResourceAttrs table.Spans 1 (resource_pairs groups) refl (few_r groups light) (map (λ (row : MainRow). row.resource_id) rows) resources_known
       (λ p less. resource_there span_cells groups p (omega (arith, less, length-map (resources_of groups) (λ (resource : Resource). resource.pairs))))
 
-  scope_attributes : (wrong : RowRefusal) → WrongIn tables (attribute_table table.ScopeAttrs (scope_pairs groups)) (attributes table.ScopeAttrs table.Spans 4) wrong → ⊥
+  scope_attributes : (wrong : RowRefusal) → WrongIn tables (attribute_table table.ScopeAttrs (scope_pairs groups)) (attributes_link table.ScopeAttrs table.Spans 4) wrong → ⊥
   scope_attributes =
       fine_attributes tables table.ScopeAttrs table.Spans 4 (scope_pairs groups) refl (few_s groups light) (map (λ (row : MainRow). row.scope_id) rows) scopes_known
       (λ p less. scope_there span_cells groups p (omega (arith, less, length-map (scopes_of groups) (λ (scope : Scope). scope.pairs))))
 
-  span_attributes : (wrong : RowRefusal) → WrongIn tables (attribute_table table.SpanAttrs (span_pairs groups)) (attributes table.SpanAttrs table.Spans 0) wrong → ⊥
+  span_attributes : (wrong : RowRefusal) → WrongIn tables (attribute_table table.SpanAttrs (span_pairs groups)) (attributes_link table.SpanAttrs table.Spans 0) wrong → ⊥
   span_attributes =
       fine_attributes tables table.SpanAttrs table.Spans 0 (span_pairs groups) refl (few_p groups light) (map (λ (row : MainRow). row.id) rows) own_known
       (λ p less. span_there (length (span_pairs groups)) p (length-map (items_of groups) (λ (span : Span). span.pairs)) less)
@@ -146,15 +145,15 @@ module _ (groups : List (ResourceGroup Span)) (light : weight_of (Traces groups)
 
   event_parts : (wrong : RowRefusal) → WrongIn tables (part_table table.SpanEvents event_cells (event_lists groups)) (parts table.SpanEvents table.Spans 0) wrong → ⊥
   event_parts =
-      fine_parts tables table.SpanEvents table.Spans 0 event_cells (event_lists groups) events_are_parts event_ids events_unnamed (few_event_lists groups light) events_all
+      fine_parts tables table.SpanEvents table.Spans 0 event_cells (event_lists groups) events_front event_ids events_unnamed (few_event_lists groups light) events_all
       (map (λ (row : MainRow). row.id) rows) own_known (λ p less. span_there (length (event_lists groups)) p (length-map (items_of groups) (λ (span : Span). span.events)) less)
 
   events_known : HasIds (table_named table.SpanEvents tables) 0 (ids_of event_cells (event_lists groups))
   events_known =
       subst (λ (t : Table). HasIds t 0 (ids_of event_cells (event_lists groups))) (sym (named_events groups))
-      (part_ids_of table.SpanEvents event_cells (event_lists groups) events_are_parts events_all)
+      (part_ids_of table.SpanEvents event_cells (event_lists groups) events_front events_all)
 
-  event_attributes : (wrong : RowRefusal) → WrongIn tables (attribute_table table.EventAttrs (event_pairs groups)) (attributes table.EventAttrs table.SpanEvents 0) wrong → ⊥
+  event_attributes : (wrong : RowRefusal) → WrongIn tables (attribute_table table.EventAttrs (event_pairs groups)) (attributes_link table.EventAttrs table.SpanEvents 0) wrong → ⊥
   event_attributes =
       fine_attributes tables table.EventAttrs table.SpanEvents 0 (event_pairs groups) refl (few_e groups light) (ids_of event_cells (event_lists groups)) events_known
       (λ p less. part_there event_cells (event_lists groups) p
@@ -171,15 +170,15 @@ module _ (groups : List (ResourceGroup Span)) (light : weight_of (Traces groups)
 
   link_parts : (wrong : RowRefusal) → WrongIn tables (part_table table.SpanLinks link_cells (link_lists groups)) (parts table.SpanLinks table.Spans 0) wrong → ⊥
   link_parts =
-      fine_parts tables table.SpanLinks table.Spans 0 link_cells (link_lists groups) links_are_parts link_ids links_unnamed (few_link_lists groups light) links_all
+      fine_parts tables table.SpanLinks table.Spans 0 link_cells (link_lists groups) links_front link_ids links_unnamed (few_link_lists groups light) links_all
       (map (λ (row : MainRow). row.id) rows) own_known (λ p less. span_there (length (link_lists groups)) p (length-map (items_of groups) (λ (span : Span). span.links)) less)
 
   links_known : HasIds (table_named table.SpanLinks tables) 0 (ids_of link_cells (link_lists groups))
   links_known =
       subst (λ (t : Table). HasIds t 0 (ids_of link_cells (link_lists groups))) (sym (named_links groups))
-      (part_ids_of table.SpanLinks link_cells (link_lists groups) links_are_parts links_all)
+      (part_ids_of table.SpanLinks link_cells (link_lists groups) links_front links_all)
 
-  link_attributes : (wrong : RowRefusal) → WrongIn tables (attribute_table table.LinkAttrs (link_pairs groups)) (attributes table.LinkAttrs table.SpanLinks 0) wrong → ⊥
+  link_attributes : (wrong : RowRefusal) → WrongIn tables (attribute_table table.LinkAttrs (link_pairs groups)) (attributes_link table.LinkAttrs table.SpanLinks 0) wrong → ⊥
   link_attributes =
       fine_attributes tables table.LinkAttrs table.SpanLinks 0 (link_pairs groups) refl (few_l groups light) (ids_of link_cells (link_lists groups)) links_known
       (λ p less. part_there link_cells (link_lists groups) p
@@ -192,19 +191,19 @@ module _ (groups : List (ResourceGroup Span)) (light : weight_of (Traces groups)
   unfolding links_of
   by_link zero kind link wrong less at names is = settle tables link (items table.Spans) kind main wrong at names (named_main groups) (fine_main wrong) is
   by_link (suc zero) kind link wrong less at names is =
-      settle tables link (attributes table.ResourceAttrs table.Spans 1) kind (attribute_table table.ResourceAttrs (resource_pairs groups)) wrong at names (named_resources groups) (resource_attributes wrong) is
+      settle tables link (attributes_link table.ResourceAttrs table.Spans 1) kind (attribute_table table.ResourceAttrs (resource_pairs groups)) wrong at names (named_resources groups) (resource_attributes wrong) is
   by_link (suc (suc zero)) kind link wrong less at names is =
-      settle tables link (attributes table.ScopeAttrs table.Spans 4) kind (attribute_table table.ScopeAttrs (scope_pairs groups)) wrong at names (named_scopes groups) (scope_attributes wrong) is
+      settle tables link (attributes_link table.ScopeAttrs table.Spans 4) kind (attribute_table table.ScopeAttrs (scope_pairs groups)) wrong at names (named_scopes groups) (scope_attributes wrong) is
   by_link (suc (suc (suc zero))) kind link wrong less at names is =
-      settle tables link (attributes table.SpanAttrs table.Spans 0) kind (attribute_table table.SpanAttrs (span_pairs groups)) wrong at names (named_spans groups) (span_attributes wrong) is
+      settle tables link (attributes_link table.SpanAttrs table.Spans 0) kind (attribute_table table.SpanAttrs (span_pairs groups)) wrong at names (named_spans groups) (span_attributes wrong) is
   by_link (suc (suc (suc (suc zero)))) kind link wrong less at names is =
       settle tables link (parts table.SpanEvents table.Spans 0) kind (part_table table.SpanEvents event_cells (event_lists groups)) wrong at names (named_events groups) (event_parts wrong) is
   by_link (suc (suc (suc (suc (suc zero))))) kind link wrong less at names is =
       settle tables link (parts table.SpanLinks table.Spans 0) kind (part_table table.SpanLinks link_cells (link_lists groups)) wrong at names (named_links groups) (link_parts wrong) is
   by_link (suc (suc (suc (suc (suc (suc zero)))))) kind link wrong less at names is =
-      settle tables link (attributes table.EventAttrs table.SpanEvents 0) kind (attribute_table table.EventAttrs (event_pairs groups)) wrong at names (named_event_pairs groups) (event_attributes wrong) is
+      settle tables link (attributes_link table.EventAttrs table.SpanEvents 0) kind (attribute_table table.EventAttrs (event_pairs groups)) wrong at names (named_event_pairs groups) (event_attributes wrong) is
   by_link (suc (suc (suc (suc (suc (suc (suc zero))))))) kind link wrong less at names is =
-      settle tables link (attributes table.LinkAttrs table.SpanLinks 0) kind (attribute_table table.LinkAttrs (link_pairs groups)) wrong at names (named_link_pairs groups) (link_attributes wrong) is
+      settle tables link (attributes_link table.LinkAttrs table.SpanLinks 0) kind (attribute_table table.LinkAttrs (link_pairs groups)) wrong at names (named_link_pairs groups) (link_attributes wrong) is
   by_link (suc (suc (suc (suc (suc (suc (suc (suc k)))))))) kind link wrong less at names is = omega (arith, less)
 
   fine_ids : (kind : Kind) (wrong : RowRefusal) → IdDefect signal.Traces tables kind wrong → ⊥
@@ -238,19 +237,9 @@ link_fine link real is = record { pairs = pairs_fine link.pairs real.pairs is.pa
 span_fine : (span : Span) → IsRealSpan span → IsProfileSpan span → IsFineSpan span
 span_fine span real is = record {
   pairs = pairs_fine span.pairs real.pairs is.pairs.at;
-  events = real_items IsRealEvent IsProfileEvent IsFineEvent event_fine span.events real.events.at is.events.at;
-  links = real_items IsRealLink IsProfileLink IsFineLink link_fine span.links real.links.at is.links.at;
+  events = all_of_both IsRealEvent IsProfileEvent IsFineEvent event_fine span.events real.events.at is.events.at;
+  links = all_of_both IsRealLink IsProfileLink IsFineLink link_fine span.links real.links.at is.links.at;
 }
-
-abbrev IsFineResource : Resource → Type 0
-IsFineResource resource = IsFineList resource.pairs
-
-abbrev IsFineScope : Scope → Type 0
-IsFineScope scope = IsFineList scope.pairs
-
--- the values of a table of attributes, which is the one of its kind
-fine_table : (all : List Table) (kind : Kind) (lists : List (List Pair)) → table_named kind all ≡ attribute_table kind lists → All IsFineList lists → HasFineValues all kind
-fine_table all kind lists named fine = λ wrong w. attributes_fine kind lists wrong fine (subst (λ (t : Table). WrongValue t 2 wrong) named w)
 
 module _ (groups : List (ResourceGroup Span)) (real : IsReal (Traces groups)) (is : IsProfile (Traces groups)) where
   all : All (CanWriteGroup IsFineResource IsFineScope IsFineSpan) groups

@@ -1,8 +1,8 @@
 -- The columns of the tables of spans.
 use Rattle.std.proofs.Common.{refl, arith}
 use Rattle.otap_cells.specs.declared.payload.Kind.TheVariants as table
-use Rattle.otap_cells.specs.Columns.{attrs, deep_attrs, span_events, span_links, spans}
-use Rattle.otap_groups.specs.Kinds.{IsMain, IsPart}
+use Rattle.otap_cells.specs.Columns.{attrs, deep_attrs, spans}
+use Rattle.otap_groups.specs.Kinds.{IsMain}
 use Rattle.otap_attrs.specs.Values.{HasValueAt}
 
 pub spans_are_main : IsMain table.Spans
@@ -22,22 +22,6 @@ spans_are_main = record {
   resource_ids_rise = refl;
   scope_ids_rise = refl;
 }
-
-pub events_are_parts : IsPart table.SpanEvents
-unfolding span_events
-events_are_parts = record { wide = omega arith; other = refl; id = refl; parent = refl; ids_rise = refl }
-
-pub links_are_parts : IsPart table.SpanLinks
-unfolding span_links
-links_are_parts = record { wide = omega arith; other = refl; id = refl; parent = refl; ids_rise = refl }
-
-pub has_resource_value : HasValueAt table.ResourceAttrs 2
-unfolding attrs
-has_resource_value = record { bases = refl }
-
-pub has_scope_value : HasValueAt table.ScopeAttrs 2
-unfolding attrs
-has_scope_value = record { bases = refl }
 
 pub has_span_value : HasValueAt table.SpanAttrs 2
 unfolding attrs

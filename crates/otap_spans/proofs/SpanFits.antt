@@ -1,5 +1,5 @@
 -- The cells of real spans, events and links of the profile fit their columns.
-use Rattle.std.proofs.Common.{◌≡◌, ℕ, ◌<◌, ◌^◌, true, false, List, ◌∷◌, drop, arith}
+use Rattle.std.proofs.Common.{◌≡◌, ℕ, ◌<◌, ◌^◌, true, List, ◌∷◌, drop, arith, false}
 use Rattle.otlp_model.specs.Profile.{IsProfileEvent, IsProfileLink, IsProfileSpan}
 use Rattle.otlp_model.specs.Real.{IsRealEvent, IsRealLink, IsRealSpan}
 use Rattle.otlp_model.specs.declared.spans.Span.{Span}
@@ -7,12 +7,13 @@ use Rattle.otlp_model.specs.declared.spans.Event.{Event}
 use Rattle.otlp_model.specs.declared.spans.Link.{Link}
 use Rattle.otap_cells.specs.declared.payload.Kind.TheVariants as table
 use Rattle.otap_cells.specs.declared.profile.Base.TheVariants as base
-use Rattle.otap_cells.specs.Cells.{Cell, IsCellOf, bits, bytes, flag, null, number}
+use Rattle.otap_cells.specs.Cells.{Cell, IsCellOf}
 use Rattle.otap_cells.specs.Columns.{columns_of, is_id_at, spans, span_events, span_links}
 use Rattle.otap_cells.specs.Tables.{IsRow}
 use Rattle.otap_groups.proofs.IdColumns.{each_id}
 use Rattle.otap_groups.proofs.ProfileRows.{number_fits, text_fits}
 use Rattle.otap_attrs.proofs.CellFits.{bits_fit, small_fits, span_fits, trace_fits}
+use Rattle.otap_attrs.proofs.AttributeRows.{either_width}
 use Rattle.otap_spans.specs.Records.{duration_of, event_cells, link_cells, span_cells}
 
 duration_low : (start end : ℕ) → duration_of start end < 2 ^ 64
@@ -80,20 +81,12 @@ pub link_ids : (P : ℕ → Type 0) → P 0 → P 1 → (column : ℕ) → is_id
 unfolding span_links
 link_ids P own parent column is = each_id P table.SpanLinks (own, (parent, tt)) column is
 
--- wide and narrow ids hold the same numbers
-either : (cell : Cell) → IsCellOf (base.Id true) cell → IsCellOf (base.Id false) cell
-either null fits = fits
-either (number n) fits = fits
-either (bits n) fits = fits
-either (flag b) fits = absurd cc
-either (bytes part) fits = fits
-
 pub event_row : (id parent : Cell) (cells : List Cell) → IsCellOf (base.Id true) id → IsCellOf (base.Id true) parent → IsRow (drop 2 span_events) cells
     → IsRow (columns_of table.SpanEvents) (id ∷ parent ∷ cells)
 unfolding span_events
-event_row id parent cells a b own = (a, (either parent b, own))
+event_row id parent cells a b own = (a, (either_width true false parent b, own))
 
 pub link_row : (id parent : Cell) (cells : List Cell) → IsCellOf (base.Id true) id → IsCellOf (base.Id true) parent → IsRow (drop 2 span_links) cells
     → IsRow (columns_of table.SpanLinks) (id ∷ parent ∷ cells)
 unfolding span_links
-link_row id parent cells a b own = (a, (either parent b, own))
+link_row id parent cells a b own = (a, (either_width true false parent b, own))

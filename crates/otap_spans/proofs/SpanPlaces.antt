@@ -1,31 +1,27 @@
 -- The own cells of spans, events and links stand in their rows after those of the front.
-use Rattle.std.proofs.Common.{◌≡◌, ℕ, ◌+◌, ◌^◌, ◌<◌, List, [], ◌∷◌, Option, None, Some, map, drop, length, get_or, ◌∙◌, refl, sym, ap, arith}
+use Rattle.std.proofs.Common.{◌≡◌, ℕ, ◌+◌, ◌^◌, ◌<◌, List, [], ◌∷◌, Option, None, Some, map, drop, length, ◌∙◌, refl, sym, ap, arith}
 use Rattle.std.specs.Prelude.{min, sum}
-use Rattle.std.proofs.lemmas.List.{get_or-map, get_or-drop, length-map}
+use Rattle.std.proofs.lemmas.List.{length-map}
+use Rattle.lists.proofs.Numbers.{capped_fourth}
 use Rattle.otlp_model.specs.Weight.{total, weight_of_event, weight_of_link, weight_of_pair, weight_of_span}
 use Rattle.otlp_model.specs.declared.value.Pair.{Pair}
 use Rattle.otlp_model.specs.declared.spans.Span.{Span}
 use Rattle.otlp_model.specs.declared.spans.Event.{Event}
 use Rattle.otlp_model.specs.declared.spans.Link.{Link}
-use Rattle.otap_cells.specs.Cells.{Cell, null, bytes_in, nat_in, cell_at}
+use Rattle.otap_cells.specs.Cells.{Cell, bytes_in, nat_in, cell_at}
+use Rattle.otlp_model.proofs.Totals.{below_weighs}
 use Rattle.otap_cells.specs.Scalars.{int_in, bits_in}
 use Rattle.otap_cells.specs.Tables.{cell_in}
 use Rattle.otap_groups.specs.Found.{finds_in, weighs_in}
-use Rattle.otap_spans.specs.Records.{end_of, event_of, link_of, span_of}
-
--- the own cells of a row, after this many of the front
-abbrev pub own_cells : ℕ → List (List Cell) → ℕ → List Cell
-own_cells front rows row = get_or (map (drop front) rows) row []
-
-pub own_cell : (front : ℕ) (rows : List (List Cell)) (row k : ℕ) → row < length rows → cell_at (own_cells front rows row) k ≡ cell_in rows (front + k) row
-own_cell front rows row k within = rw (get_or-map (drop front) rows row [] [] within) (get_or-drop front (get_or rows row []) k null)
+use Rattle.otap_spans.specs.Records.{end_time, event_of, link_of, span_of}
+use Rattle.otap_cells.proofs.OwnCells.{length_own, own_cell, own_cells}
 
 -- ---- reading
 
 pub span_read : (span : Span) (rows : List (List Cell)) (row : ℕ) (pairs : List Pair) (events : List Event) (links : List Link) → row < length (map (drop 9) rows)
     → span.trace_id ≡ bytes_in (cell_in rows 11 row) → span.span_id ≡ bytes_in (cell_in rows 12 row) → span.parent_span_id ≡ bytes_in (cell_in rows 14 row)
     → span.trace_state ≡ bytes_in (cell_in rows 13 row) → span.name ≡ bytes_in (cell_in rows 15 row) → span.kind ≡ int_in (cell_in rows 16 row)
-    → span.start ≡ bits_in (cell_in rows 9 row) → span.end ≡ end_of (bits_in (cell_in rows 9 row)) (bits_in (cell_in rows 10 row))
+    → span.start ≡ bits_in (cell_in rows 9 row) → span.end ≡ end_time (bits_in (cell_in rows 9 row)) (bits_in (cell_in rows 10 row))
     → span.flags ≡ nat_in (cell_in rows 22 row) → span.pairs ≡ pairs → span.dropped_pairs ≡ nat_in (cell_in rows 17 row)
     → span.events ≡ events → span.dropped_events ≡ nat_in (cell_in rows 18 row) → span.links ≡ links → span.dropped_links ≡ nat_in (cell_in rows 19 row)
     → span.status_code ≡ int_in (cell_in rows 20 row) → span.status_message ≡ bytes_in (cell_in rows 21 row)
@@ -42,7 +38,7 @@ span_read span rows row pairs events links inside is_trace is_span is_parent is_
       name = (is_name ∙ ap bytes_in (sym (own_cell 9 rows row 6 within))) i;
       kind = (is_kind ∙ ap int_in (sym (own_cell 9 rows row 7 within))) i;
       start = (is_start ∙ start) i;
-      end = (is_end ∙ (λ j. end_of (start j) (duration j))) i;
+      end = (is_end ∙ (λ j. end_time (start j) (duration j))) i;
       flags = (is_flags ∙ ap nat_in (sym (own_cell 9 rows row 13 within))) i;
       pairs = are_pairs i;
       dropped_pairs = (is_pairs ∙ ap nat_in (sym (own_cell 9 rows row 8 within))) i;
@@ -83,16 +79,6 @@ link_read link rows row pairs inside is_trace is_span is_state is_flags are_pair
 
 -- ---- weights, told from the bytes of cells and from what is below
 
--- the bytes of a cell, by its place among the own ones
-length_own : (front : ℕ) (rows : List (List Cell)) (row k : ℕ) (part : List ℕ) → row < length rows → part ≡ bytes_in (cell_in rows (front + k) row)
-    → length part ≡ length (bytes_in (cell_at (own_cells front rows row) k))
-length_own front rows row k part within is = ap length (is ∙ ap bytes_in (sym (own_cell front rows row k within)))
-
--- what is below weighs as it is told, where each part does
-below_weighs : {C : Type 0} (below : ℕ) (weigh weight : C → ℕ) (parts : List C) → ((part : C) → weigh part ≡ weight part) → below ≡ min (total 32 weigh parts) (2 ^ 63)
-    → below ≡ min (total 32 weight parts) (2 ^ 63)
-below_weighs {C = C} below weigh weight parts same is = is ∙ ap (λ (w : C → ℕ). min (total 32 w parts) (2 ^ 63)) (λ i part. same part i)
-
 span_sum : (a b c d e f p v l n x y z : ℕ) → p ≡ min x (2 ^ 63) → v ≡ min y (2 ^ 63) → l ≡ min z (2 ^ 63)
     → n ≡ min (sum (a ∷ b ∷ c ∷ d ∷ e ∷ f ∷ p ∷ v ∷ l ∷ [])) (2 ^ 63) → n ≡ min (a + b + c + d + e + f + x + y + z) (2 ^ 63)
 span_sum a b c d e f p v l n x y z of_p of_v of_l of_n = omega arith
@@ -130,9 +116,6 @@ event_weighs rows row pairs name of_pairs total_weight weigh inside is_name same
     event_sum (length name) of_pairs total_weight (total 32 weight_of_pair pairs) (below_weighs of_pairs weigh weight_of_pair pairs same is_pairs) is_total
     ∙ (λ i. min (length_own 2 rows row 1 name within is_name i + total 32 weight_of_pair pairs) (2 ^ 63))
 
-link_sum : (a b c p n x : ℕ) → p ≡ min x (2 ^ 63) → n ≡ min (sum (a ∷ b ∷ c ∷ p ∷ [])) (2 ^ 63) → n ≡ min (a + b + c + x) (2 ^ 63)
-link_sum a b c p n x of_p of_n = omega arith
-
 pub link_weighs : (rows : List (List Cell)) (row : ℕ) (pairs : List Pair) (trace span state : List ℕ) (of_pairs total_weight : ℕ) (weigh : Pair → ℕ) → row < length (map (drop 2) rows)
     → trace ≡ bytes_in (cell_in rows 2 row) → span ≡ bytes_in (cell_in rows 3 row) → state ≡ bytes_in (cell_in rows 4 row)
     → ((pair : Pair) → weigh pair ≡ weight_of_pair pair) → of_pairs ≡ min (total 32 weigh pairs) (2 ^ 63)
@@ -141,7 +124,7 @@ pub link_weighs : (rows : List (List Cell)) (row : ℕ) (pairs : List Pair) (tra
 unfolding link_of
 link_weighs rows row pairs trace span state of_pairs total_weight weigh inside is_trace is_span is_state same is_pairs is_total =
     let within : row < length rows = simp length-map at inside in
-    link_sum (length trace) (length span) (length state) of_pairs total_weight (total 32 weight_of_pair pairs) (below_weighs of_pairs weigh weight_of_pair pairs same is_pairs) is_total
+    capped_fourth (length trace) (length span) (length state) of_pairs total_weight (total 32 weight_of_pair pairs) (below_weighs of_pairs weigh weight_of_pair pairs same is_pairs) is_total
     ∙ (λ i. min (length_own 2 rows row 0 trace within is_trace i + length_own 2 rows row 1 span within is_span i + length_own 2 rows row 2 state within is_state i
     + total 32 weight_of_pair pairs) (2 ^ 63))
 

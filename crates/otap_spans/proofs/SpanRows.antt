@@ -13,8 +13,8 @@ use Rattle.otap_cells.specs.Tables.{IsRow}
 use Rattle.otap_cells.specs.Weights.{cell_weight}
 use Rattle.otap_groups.specs.Weighing.{cells_weight}
 use Rattle.otap_groups.proofs.ProfileRows.{rows_join}
-use Rattle.otap_attrs.proofs.AttributesWeighed.{text_weighs, number_weighs, int_weighs_nothing, bits_weigh}
 use Rattle.otap_spans.specs.Records.{duration_of, span_cells}
+use Rattle.otap_cells.proofs.ScalarLaws.{text_weighs, number_weighs, int_weighs_nothing, bits_weigh}
 
 pub span_fits : (kind : Kind) (front : List Cell) (start duration trace span state parent name sort pairs events links code message flags : Cell) → kind ≡ table.Spans → IsRow common front
     → IsCellOf base.Timestamp start → IsCellOf base.Duration duration → IsCellOf base.Fixed16 trace → IsCellOf base.Fixed8 span → IsCellOf base.Utf8 state → IsCellOf base.Fixed8 parent

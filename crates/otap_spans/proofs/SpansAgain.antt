@@ -3,8 +3,9 @@ use Rattle.std.proofs.Common.{◌≡◌, ℕ, ◌*◌, ◌<◌, ◌≤◌, ◌^�
 use Rattle.std.specs.Prelude.{All}
 use Rattle.std.specs.List.{AllByRecursion, AllZip, flat_map}
 use Rattle.std.proofs.lemmas.List.{length-map}
-use Rattle.std.proofs.lemmas.List.Elements.{All-map, All-weaker}
+use Rattle.std.proofs.lemmas.List.Elements.{All-map, All-weaker, recursion_from_All}
 use Rattle.std.proofs.lemmas.List.Folds.{flat_map-map}
+use Rattle.lists.proofs.Every.{all_flat_map, all_of_both}
 use Rattle.otlp_model.proofs.WithItems.{telemetry_kept}
 use Rattle.otlp_model.specs.Limits.{weight_limit}
 use Rattle.otlp_model.specs.Profile.{IsProfile, IsProfileEvent, IsProfileLink, IsProfileSpan}
@@ -21,11 +22,12 @@ use Rattle.otlp_model.specs.declared.spans.Event.{Event}
 use Rattle.otlp_model.specs.declared.spans.Link.{Link}
 use Rattle.otlp_model.specs.declared.request.Request.TheVariants.{Traces}
 use Rattle.otlp_model.specs.declared.value.Pair.{Pair}
+use Rattle.otlp_model.proofs.Totals.{few_parts}
 use Rattle.otap_cells.specs.declared.payload.Kind.TheVariants as table
 use Rattle.otap_cells.specs.Cells.{Cell}
 use Rattle.otap_cells.specs.Tables.{Table}
-use Rattle.otap_groups.specs.Children.{Agree, Reads, children, numbered}
-use Rattle.otap_groups.specs.Flat.{flat, items_of, numbered_rows, part_rows, placed, resources_of, scopes_of}
+use Rattle.otap_groups.specs.Children.{Agree, ReadsEach, children, numbered}
+use Rattle.otap_groups.specs.Flat.{flat_items, items_of, numbered_rows, part_rows, placed, resources_of, scopes_of}
 use Rattle.otap_groups.specs.Groups.{regrouped}
 use Rattle.otap_groups.specs.Rows.{ChildRow}
 use Rattle.otap_groups.specs.Stored.{part_table}
@@ -35,18 +37,19 @@ use Rattle.otap_groups.proofs.GroupsTold.{groups_told}
 use Rattle.otap_groups.proofs.Grouping.{groups_back}
 use Rattle.otap_groups.proofs.PartsCounted as counted
 use Rattle.otap_groups.proofs.ReadLaws.{agree_two, agrees_with, reads_with}
-use Rattle.otap_groups.proofs.RealGroups.{real_groups, real_items}
-use Rattle.otap_groups.proofs.WritableGroups.{all_flat_map, all_items_can, all_resources_can, all_scopes_can, few_items, few_parts, few_resources, few_scopes}
+use Rattle.otap_groups.proofs.RealGroups.{real_groups}
+use Rattle.otap_groups.proofs.WritableGroups.{all_items_can, all_resources_can, all_scopes_can, few_items, few_resources, few_scopes}
+use Rattle.otap_groups.proofs.FrontKinds.{events_front, links_front}
 use Rattle.otap_attrs.specs.Tables.{attribute_table}
 use Rattle.otap_attrs.specs.Index.{pairs_in}
 use Rattle.otap_checks.specs.Reading.{main_rows_in, part_rows_in}
-use Rattle.otap_checks.proofs.PairsAgain.{AreBack, IsBackResource, IsBackScope, all_every, pairs_agree, pairs_back, sorted_alike, unsorted}
+use Rattle.otap_checks.proofs.PairsAgain.{AreBack, IsBackResource, IsBackScope, pairs_agree, pairs_back, sorted_alike, unsorted}
 use Rattle.otap_checks.proofs.RowsAgain.{main_rows_again, part_rows_again}
 use Rattle.otap_spans.specs.Records.{event_cells, event_of, link_cells, link_of, span_cells, span_of}
 use Rattle.otap_spans.specs.Requests.{event_in, events_in, link_in, links_in, regrouped_spans}
 use Rattle.otap_spans.specs.Tables.{all_events, all_links, event_lists, event_pairs, link_lists, link_pairs, resource_pairs, scope_pairs, span_pairs, tables_of_spans}
 use Rattle.otap_spans.proofs.NamedTables.{named_event_pairs, named_events, named_link_pairs, named_links, named_main, named_resources, named_scopes, named_spans}
-use Rattle.otap_spans.proofs.SpanColumns.{events_are_parts, links_are_parts, spans_are_main}
+use Rattle.otap_spans.proofs.SpanColumns.{spans_are_main}
 use Rattle.otap_spans.proofs.SpansBack.{event_back, link_back, span_back}
 
 -- ---- what comes back
@@ -75,8 +78,8 @@ span_again s real is = record {
   start = real.start;
   end = real.end;
   pairs = pairs_back s.pairs real.pairs is.pairs.at;
-  events = real_items IsRealEvent IsProfileEvent IsBackEvent event_again s.events real.events.at is.events.at;
-  links = real_items IsRealLink IsProfileLink IsBackLink link_again s.links real.links.at is.links.at;
+  events = all_of_both IsRealEvent IsProfileEvent IsBackEvent event_again s.events real.events.at is.events.at;
+  links = all_of_both IsRealLink IsProfileLink IsBackLink link_again s.links real.links.at is.links.at;
 }
 
 abbrev pub IsBack : ResourceGroup Span → Type 0
@@ -182,13 +185,13 @@ module _ (groups : List (ResourceGroup Span)) (back : All IsBack groups) where
   events_agree : Agree (unsorted_events (event_lists groups) (event_pairs groups)) 0 (event_lists groups)
   events_agree =
       agrees_with event_cells event_of (λ (event : Event). event.pairs) (unsorted (event_pairs groups)) IsBackEvent (λ event is. event_back event) (event_lists groups)
-      (subst (AllByRecursion IsBackEvent) (sym (events_joined groups)) (all_every IsBackEvent (all_events groups) events_back))
+      (subst (AllByRecursion IsBackEvent) (sym (events_joined groups)) (recursion_from_All IsBackEvent (all_events groups) events_back))
       (subst (λ (events : List Event). Agree (unsorted (event_pairs groups)) 0 (map (λ (event : Event). event.pairs) events)) (sym (events_joined groups)) event_pairs_agree)
 
   links_agree : Agree (unsorted_links (link_lists groups) (link_pairs groups)) 0 (link_lists groups)
   links_agree =
       agrees_with link_cells link_of (λ (link : Link). link.pairs) (unsorted (link_pairs groups)) IsBackLink (λ link is. link_back link) (link_lists groups)
-      (subst (AllByRecursion IsBackLink) (sym (links_joined groups)) (all_every IsBackLink (all_links groups) links_back))
+      (subst (AllByRecursion IsBackLink) (sym (links_joined groups)) (recursion_from_All IsBackLink (all_links groups) links_back))
       (subst (λ (links : List Link). Agree (unsorted (link_pairs groups)) 0 (map (λ (link : Link). link.pairs) links)) (sym (links_joined groups)) link_pairs_agree)
 
   span_pairs_agree : Agree (unsorted (span_pairs groups)) 0 (span_pairs groups)
@@ -203,7 +206,7 @@ module _ (groups : List (ResourceGroup Span)) (back : All IsBack groups) where
   scopes_agree = pairs_agree (scope_pairs groups) (All-map AreBack (λ (scope : Scope). scope.pairs) (scopes_of groups)
       (all_scopes_can IsBackResource IsBackScope IsBackSpan groups back))
 
-  items_read : Reads numbered span_cells (unsorted_span groups) 0 (items_of groups)
+  items_read : ReadsEach numbered span_cells (unsorted_span groups) 0 (items_of groups)
   items_read =
       let parts_agree = agree_two (unsorted_events (event_lists groups) (event_pairs groups)) (unsorted_links (link_lists groups) (link_pairs groups))
       (λ (s : Span). s.events) (λ (s : Span). s.links) 0 (items_of groups) events_agree links_agree in
@@ -212,10 +215,10 @@ module _ (groups : List (ResourceGroup Span)) (back : All IsBack groups) where
       (λ (s : Span). s.pairs) (λ (s : Span). (s.events, s.links)) 0 (items_of groups) span_pairs_agree parts_agree in
       reads_with span_cells with_below below
       (λ id. (unsorted (span_pairs groups) id, (unsorted_events (event_lists groups) (event_pairs groups) id, unsorted_links (link_lists groups) (link_pairs groups) id)))
-      IsBackSpan (λ s is. span_back s is.start is.end) 0 (items_of groups) (all_every IsBackSpan (items_of groups) spans_back) all_agree
+      IsBackSpan (λ s is. span_back s is.start is.end) 0 (items_of groups) (recursion_from_All IsBackSpan (items_of groups) spans_back) all_agree
 
   -- before the pairs are sorted the request itself comes back
-  pub unsorted_back : regrouped (unsorted (resource_pairs groups)) (unsorted (scope_pairs groups)) (unsorted_span groups) (numbered_rows span_cells 0 (flat groups))
+  pub unsorted_back : regrouped (unsorted (resource_pairs groups)) (unsorted (scope_pairs groups)) (unsorted_span groups) (numbered_rows span_cells 0 (flat_items groups))
       ≡ groups_with_items groups
   unsorted_back =
       groups_back span_cells (unsorted (resource_pairs groups)) (unsorted (scope_pairs groups)) (unsorted_span groups) groups items_read resources_agree scopes_agree
@@ -255,12 +258,12 @@ span_from groups id cells = span_of cells (pairs_in (attribute_table table.SpanA
 module _ (groups : List (ResourceGroup Span)) (light : weight_of (Traces groups) ≤ weight_limit) where
   pub event_rows : part_rows numbered event_cells 0 (placed (event_lists groups)) ≡ part_rows_in (event_table groups)
   event_rows =
-      part_rows_again table.SpanEvents event_cells (event_lists groups) events_are_parts (few_event_lists groups light)
+      part_rows_again table.SpanEvents event_cells (event_lists groups) events_front (few_event_lists groups light)
       (subst (λ (events : List Event). length events ≤ 2 ^ 32) (sym (events_joined groups)) (few_events groups light))
 
   pub link_rows : part_rows numbered link_cells 0 (placed (link_lists groups)) ≡ part_rows_in (link_table groups)
   link_rows =
-      part_rows_again table.SpanLinks link_cells (link_lists groups) links_are_parts (few_link_lists groups light)
+      part_rows_again table.SpanLinks link_cells (link_lists groups) links_front (few_link_lists groups light)
       (subst (λ (links : List Link). length links ≤ 2 ^ 32) (sym (links_joined groups)) (few_links groups light))
 
   events_alike : (parent : Option ℕ) → AllZip SameEvent (unsorted_events (event_lists groups) (event_pairs groups) parent) (events_in (event_table groups) (pair_table_of_events groups) parent)
@@ -281,7 +284,7 @@ module _ (groups : List (ResourceGroup Span)) (light : weight_of (Traces groups)
   spans_alike id cells = same_span cells _ _ _ _ _ _ (sorted_alike table.SpanAttrs (span_pairs groups) refl (few_p groups light) id) (events_alike id) (links_alike id)
 
   pub regrouped_is : regrouped (pairs_in (attribute_table table.ResourceAttrs (resource_pairs groups))) (pairs_in (attribute_table table.ScopeAttrs (scope_pairs groups)))
-      (span_from groups) (numbered_rows span_cells 0 (flat groups)) ≡ regrouped_spans (tables_of_spans groups)
+      (span_from groups) (numbered_rows span_cells 0 (flat_items groups)) ≡ regrouped_spans (tables_of_spans groups)
   unfolding regrouped_spans
   regrouped_is = λ i. regrouped (pairs_in (sym (named_resources groups) i)) (pairs_in (sym (named_scopes groups) i))
       (λ id cells. span_of cells (pairs_in (sym (named_spans groups) i) id)
@@ -293,7 +296,7 @@ module _ (groups : List (ResourceGroup Span)) (light : weight_of (Traces groups)
       let r : Table = attribute_table table.ResourceAttrs (resource_pairs groups) in
       let s : Table = attribute_table table.ScopeAttrs (scope_pairs groups) in
       let found : SameTelemetry (telemetry (Traces (groups_with_items groups)))
-      (telemetry (Traces (regrouped (pairs_in r) (pairs_in s) (span_from groups) (numbered_rows span_cells 0 (flat groups))))) =
+      (telemetry (Traces (regrouped (pairs_in r) (pairs_in s) (span_from groups) (numbered_rows span_cells 0 (flat_items groups))))) =
       groups_told tells.span span_cells (unsorted (resource_pairs groups)) (pairs_in r) (unsorted (scope_pairs groups)) (pairs_in s)
       (unsorted_span groups) (span_from groups) groups (items_read groups back) (resources_agree groups back) (scopes_agree groups back)
       (sorted_alike table.ResourceAttrs (resource_pairs groups) refl (few_r groups light)) (sorted_alike table.ScopeAttrs (scope_pairs groups) refl (few_s groups light))

@@ -5,10 +5,10 @@ use Rattle.otlp_model.specs.declared.spans.Event.{Event}
 use Rattle.otlp_model.specs.declared.spans.Link.{Link}
 use Rattle.otap_cells.specs.Scalars.{bits_cell, bits_in}
 use Rattle.otap_cells.proofs.ScalarLaws.{text_back, number_back, int_back, bits_back}
-use Rattle.otap_spans.specs.Records.{duration_of, end_of, event_cells, event_of, link_cells, link_of, span_cells, span_of}
+use Rattle.otap_spans.specs.Records.{duration_of, end_time, event_cells, event_of, link_cells, link_of, span_cells, span_of}
 
 -- the end is the start and the duration, also where it is before the start
-pub end_back : (start end : ℕ) → start < 2 ^ 64 → end < 2 ^ 64 → end_of start (duration_of start end) ≡ end
+pub end_back : (start end : ℕ) → start < 2 ^ 64 → end < 2 ^ 64 → end_time start (duration_of start end) ≡ end
 end_back start end low high = omega arith
 
 pub span_back : (span : Span) → span.start < 2 ^ 64 → span.end < 2 ^ 64 → span_of (span_cells span) span.pairs span.events span.links ≡ span
@@ -23,7 +23,7 @@ span_back span low high =
       name = text_back span.name i;
       kind = int_back span.kind i;
       start = start i;
-      end = ((λ j. end_of (start j) (duration j)) ∙ end_back span.start span.end low high) i;
+      end = ((λ j. end_time (start j) (duration j)) ∙ end_back span.start span.end low high) i;
       flags = number_back span.flags i;
       dropped_pairs = number_back span.dropped_pairs i;
       dropped_events = number_back span.dropped_events i;

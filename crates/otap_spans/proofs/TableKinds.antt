@@ -2,7 +2,7 @@
 use Rattle.std.proofs.Common.{◌≡◌, Bool, List, [], ◌∷◌, length, map, filter, sym, ◌∙◌, ap}
 use Rattle.std.specs.Prelude.{nat_lt}
 use Rattle.std.proofs.lemmas.List.{length-map}
-use Rattle.otlp_model.specs.Telemetry.{entries_of, telemetry, told_as}
+use Rattle.otlp_model.specs.Telemetry.{item_entries, telemetry, told_as}
 use Rattle.otlp_model.specs.Telemetry as tells
 use Rattle.otlp_model.specs.declared.groups.ResourceGroup.{ResourceGroup}
 use Rattle.otlp_model.specs.declared.spans.Span.{Span}
@@ -52,4 +52,4 @@ module _ (groups : List (ResourceGroup Span)) where
   pub rows_for_spans : length (table_named table.Spans (tables_of_spans groups)).rows ≡ length (telemetry (Traces groups))
   rows_for_spans =
       ap (λ (t : Table). length t.rows) (named_main groups) ∙ size_of_main table.Spans span_cells groups ∙ size_of_flat 0 groups ∙ sym (length_entries groups)
-      ∙ sym (length-map (entries_of groups) (told_as tells.span))
+      ∙ sym (length-map (item_entries groups) (told_as tells.span))

@@ -2,19 +2,19 @@
 use Rattle.std.proofs.Common.{◌≡◌, ◌*◌, ◌<◌, ◌≤◌, ◌^◌, List, [], ◌∷◌, length, sym, subst, arith}
 use Rattle.std.specs.Prelude.{All}
 use Rattle.std.proofs.lemmas.List.Elements.{All-nil, All-cons, All-head, All-tail, All-weaker}
+use Rattle.lists.proofs.Every.{all_flat_map}
 use Rattle.otlp_model.specs.Limits.{weight_limit}
 use Rattle.otlp_model.specs.Profile.{IsProfile, IsProfileLink, IsProfileSpan}
 use Rattle.otlp_model.specs.Weight.{total, weight_of, weight_of_event, weight_of_link, weight_of_pair, weight_of_span}
-use Rattle.otlp_model.specs.declared.groups.Resource.{Resource}
-use Rattle.otlp_model.specs.declared.groups.Scope.{Scope}
 use Rattle.otlp_model.specs.declared.groups.ResourceGroup.{ResourceGroup}
 use Rattle.otlp_model.specs.declared.spans.Span.{Span}
 use Rattle.otlp_model.specs.declared.spans.Event.{Event}
 use Rattle.otlp_model.specs.declared.spans.Link.{Link}
 use Rattle.otlp_model.specs.declared.request.Request.TheVariants.{Traces}
+use Rattle.otlp_model.proofs.Totals.{few_parts}
 use Rattle.otap_groups.specs.Flat.{items_of, resources_of, scopes_of}
 use Rattle.otap_groups.specs.Weighing.{CanWriteGroup}
-use Rattle.otap_groups.proofs.WritableGroups.{all_flat_map, all_items_can, all_resources_can, all_scopes_can, few_items, few_parts, few_resources, few_scopes, groups_can}
+use Rattle.otap_groups.proofs.WritableGroups.{all_items_can, all_resources_can, all_scopes_can, few_items, few_resources, few_scopes, groups_can, IsLightResource, IsLightScope}
 use Rattle.otap_groups.proofs.PartsCounted as counted
 use Rattle.otap_spans.specs.Tables.{all_events, all_links}
 use Rattle.otap_spans.specs.Writable.{CanWriteEvent, CanWriteLink, CanWriteSpan}
@@ -43,12 +43,6 @@ span_can span is few = record {
 }
 
 -- ---- all of a request
-
-abbrev pub IsLightResource : Resource → Type 0
-IsLightResource resource = total 32 weight_of_pair resource.pairs ≤ weight_limit
-
-abbrev pub IsLightScope : Scope → Type 0
-IsLightScope scope = total 32 weight_of_pair scope.pairs ≤ weight_limit
 
 abbrev pub CanWrite : ResourceGroup Span → Type 0
 CanWrite = CanWriteGroup IsLightResource IsLightScope CanWriteSpan

@@ -3,6 +3,7 @@ use Rattle.std.proofs.Common.{◌≡◌, ℕ, ◌<◌, ◌≤◌, ◌^◌, List,
 use Rattle.std.specs.List.{flat_map}
 use Rattle.std.proofs.lemmas.List.{length-map}
 use Rattle.std.proofs.lemmas.List.Folds.{flat_map-map}
+use Rattle.lists.proofs.Every.{map_over}
 use Rattle.otlp_model.specs.declared.groups.Resource.{Resource}
 use Rattle.otlp_model.specs.declared.groups.Scope.{Scope}
 use Rattle.otlp_model.specs.declared.groups.ResourceGroup.{ResourceGroup}
@@ -19,13 +20,13 @@ use Rattle.otap_cells.specs.Sets.{IsSet, tables_in}
 use Rattle.otap_cells.specs.Tables.{Table, profile_table}
 use Rattle.otap_groups.specs.declared.flat.Flat.{Flat}
 use Rattle.otap_groups.specs.declared.flat.Placed.{Placed}
-use Rattle.otap_groups.specs.Flat.{FlatIn, PlacedIn, flat, items_of, placed, resources_of, scopes_of}
+use Rattle.otap_groups.specs.Flat.{FlatIn, PlacedIn, flat_items, items_of, placed, resources_of, scopes_of}
 use Rattle.otap_groups.specs.Stored.{main_table, part_table, stored_parts, stored_rows}
 use Rattle.otap_groups.specs.Views.{seen_flat, seen_placed}
 use Rattle.otap_groups.proofs.FlatItems.{items_of_rows, parts_of_rows}
 use Rattle.otap_attrs.specs.Tables.{attribute_table, beside_kind, where_rows}
 use Rattle.otap_attrs.proofs.FilledTables.{added, added_all, filled, filled_set, filled_tables}
-use Rattle.otap_attrs.proofs.FoundLists.{found_table, map_over}
+use Rattle.otap_attrs.proofs.FoundLists.{found_table}
 use Rattle.otap_spans.specs.Records.{event_cells, link_cells, span_cells}
 use Rattle.otap_spans.specs.Tables.{all_events, all_links, tables_below, tables_of_spans}
 
@@ -37,12 +38,12 @@ found_few deref found xs n is few =
     let b = ap length is in
     omega (arith, a, b, few)
 
-pub rows_few : (gs : List (ResourceGroup Span)) (rows : List (Flat Span)) → map seen_flat rows ≡ flat gs → length (items_of gs) < 2 ^ 32 → length rows < 2 ^ 32
+pub rows_few : (gs : List (ResourceGroup Span)) (rows : List (Flat Span)) → map seen_flat rows ≡ flat_items gs → length (items_of gs) < 2 ^ 32 → length rows < 2 ^ 32
 rows_few gs rows is few =
     let a = found_few (λ (f : Flat Span). f.item.now) rows (items_of gs) 4294967295 (items_of_rows rows gs is) (omega (arith, few)) in
     omega (arith, a)
 
-pub spans_seen : (gs : List (ResourceGroup Span)) (rows : List (Flat Span)) (spans : List (Placed Span)) → map seen_flat rows ≡ flat gs
+pub spans_seen : (gs : List (ResourceGroup Span)) (rows : List (Flat Span)) (spans : List (Placed Span)) → map seen_flat rows ≡ flat_items gs
     → map (λ (p : Placed Span). p.part.now) spans ≡ map (λ (f : Flat Span). f.item.now) rows → map (λ (p : Placed Span). p.part.now) spans ≡ items_of gs
 spans_seen gs rows spans is same = same ∙ items_of_rows rows gs is
 
@@ -60,7 +61,7 @@ module _ {C : Type 0} (parts : Span → List C) (gs : List (ResourceGroup Span))
   unfolding part_table
   parts_table kind cells_of = ap (λ (ps : List (PlacedIn C)). profile_table kind (stored_parts (coding_at kind 1) (again_of kind) cells_of 0 0 None ps)) parts_placed
 
-pub main_is : (gs : List (ResourceGroup Span)) (rows : List (Flat Span)) (main : Table) → map seen_flat rows ≡ flat gs
+pub main_is : (gs : List (ResourceGroup Span)) (rows : List (Flat Span)) (main : Table) → map seen_flat rows ≡ flat_items gs
     → main ≡ profile_table table.Spans (stored_rows span_cells 0 0 0 (map seen_flat rows)) → main ≡ main_table table.Spans span_cells gs
 unfolding main_table
 main_is gs rows main is made = made ∙ ap (λ (fs : List (FlatIn Span)). profile_table table.Spans (stored_rows span_cells 0 0 0 fs)) is

@@ -2,7 +2,8 @@
 use Rattle.std.proofs.Common.{ℕ, ◌^◌, ◌≤◌, List, [], ◌∷◌, Option, length, map, drop, refl, sym, subst, arith}
 use Rattle.std.specs.Prelude.{All}
 use Rattle.std.specs.List.{AllByRecursion}
-use Rattle.std.proofs.lemmas.List.Elements.{All-nil, All-cons, All-head, All-tail, All-map, All-weaker}
+use Rattle.std.proofs.lemmas.List.Elements.{All-nil, All-cons, All-head, All-tail, All-map, All-weaker, All-from_recursion, recursion_from_All}
+use Rattle.lists.proofs.Every.{all_flat_map, every_weaker, all_of_both}
 use Rattle.otlp_model.specs.Limits.{weight_limit}
 use Rattle.otlp_model.specs.Profile.{IsProfile, IsProfileEvent, IsProfileLink, IsProfileResourceGroup, IsProfileScopeGroup, IsProfileSpan}
 use Rattle.otlp_model.specs.Real.{IsReal, IsRealEvent, IsRealLink, IsRealResource, IsRealResourceGroup, IsRealScope, IsRealScopeGroup, IsRealSpan}
@@ -19,24 +20,22 @@ use Rattle.otap_cells.specs.declared.payload.Kind.TheVariants as table
 use Rattle.otap_cells.specs.Columns.{columns_of, spans, span_events as event_columns, span_links as link_columns}
 use Rattle.otap_cells.specs.GivenIds.{HasIds}
 use Rattle.otap_cells.specs.Tables.{IsRow}
-use Rattle.otap_groups.specs.Flat.{flat, items_of, numbered_rows, resources_of, scopes_of}
+use Rattle.otap_groups.specs.Flat.{flat_items, items_of, numbered_rows, resources_of, scopes_of}
 use Rattle.otap_groups.specs.ProfileTables.{IsProfileTable}
 use Rattle.otap_groups.specs.Rows.{MainRow}
 use Rattle.otap_groups.specs.Stored.{main_table, part_table, stored_rows}
 use Rattle.otap_groups.specs.Weighing.{CanWriteGroup, CanWriteScope}
 use Rattle.otap_groups.proofs.Bounds.{bounded}
-use Rattle.otap_groups.proofs.GroupsApart.{every_weaker}
 use Rattle.otap_groups.proofs.PartTables.{part_written}
 use Rattle.otap_groups.proofs.ProfileRows.{OfFlat, OwnFit, is_profile_table, of_flat, rows_fit}
-use Rattle.otap_groups.proofs.RealGroups.{real_items}
 use Rattle.otap_groups.proofs.StoredRows.{own_ids_of, resource_ids_of, scope_ids_of}
-use Rattle.otap_groups.proofs.WritableGroups.{all_flat_map, all_items_can, all_resources_can, all_scopes_can}
+use Rattle.otap_groups.proofs.WritableGroups.{all_items_can, all_resources_can, all_scopes_can}
+use Rattle.otap_groups.proofs.FrontKinds.{events_front, links_front}
 use Rattle.otap_attrs.proofs.FilledTables.{filled, filled_all}
-use Rattle.otap_checks.proofs.PairsAgain.{all_every}
 use Rattle.otap_checks.proofs.WrittenPairs.{AreReal, attributes_written}
 use Rattle.otap_spans.specs.Records.{event_cells, link_cells, span_cells}
 use Rattle.otap_spans.specs.Tables.{all_events, all_links, event_lists, event_pairs, link_lists, link_pairs, resource_pairs, scope_pairs, span_pairs, tables_below, tables_of_spans}
-use Rattle.otap_spans.proofs.SpanColumns.{events_are_parts, links_are_parts, spans_are_main}
+use Rattle.otap_spans.proofs.SpanColumns.{spans_are_main}
 use Rattle.otap_spans.proofs.SpanFits.{event_ids, event_own, event_row, link_ids, link_own, link_row, span_ids, span_own}
 use Rattle.otap_spans.proofs.SpansAgain.{events_joined, few_e, few_event_lists, few_events, few_l, few_link_lists, few_links, few_main, few_p, few_r, few_s, links_joined}
 
@@ -66,8 +65,8 @@ span_fit : (span : Span) → IsRealSpan span → IsProfileSpan span → IsFitSpa
 span_fit span real is = record {
   own = span_own span real is;
   pairs = real.pairs;
-  events = real_items IsRealEvent IsProfileEvent IsFitEvent event_fit span.events real.events.at is.events.at;
-  links = real_items IsRealLink IsProfileLink IsFitLink link_fit span.links real.links.at is.links.at;
+  events = all_of_both IsRealEvent IsProfileEvent IsFitEvent event_fit span.events real.events.at is.events.at;
+  links = all_of_both IsRealLink IsProfileLink IsFitLink link_fit span.links real.links.at is.links.at;
 }
 
 abbrev IsFitScope : ScopeGroup Span → Type 0
@@ -81,7 +80,7 @@ scopes_fit [] real is = All-nil IsFitScope
 scopes_fit (group ∷ groups) real is =
     let r : IsRealScopeGroup IsRealSpan group = All-head (IsRealScopeGroup IsRealSpan) group groups real in
     let p : IsProfileScopeGroup IsProfileSpan group = All-head (IsProfileScopeGroup IsProfileSpan) group groups is in
-    All-cons IsFitScope group groups (r.scope, real_items IsRealSpan IsProfileSpan IsFitSpan span_fit group.items r.items.at p.items.at)
+    All-cons IsFitScope group groups (r.scope, all_of_both IsRealSpan IsProfileSpan IsFitSpan span_fit group.items r.items.at p.items.at)
     (scopes_fit groups (All-tail (IsRealScopeGroup IsRealSpan) group groups real) (All-tail (IsProfileScopeGroup IsProfileSpan) group groups is))
 
 groups_fit : (groups : List (ResourceGroup Span)) → All (IsRealResourceGroup IsRealSpan) groups → All (IsProfileResourceGroup IsProfileSpan) groups → All IsFit groups
@@ -94,26 +93,22 @@ groups_fit (group ∷ groups) real is =
 
 -- ---- all of a request
 
-every_all : {A : Type 0} (P : A → Type 0) (xs : List A) → AllByRecursion P xs → All P xs
-every_all P [] all = All-nil P
-every_all P (x ∷ xs) all = All-cons P x xs all.0 (every_all P xs all.1)
-
 module _ (groups : List (ResourceGroup Span)) (fit : All IsFit groups) (light : weight_of (Traces groups) ≤ weight_limit) where
   few : length (items_of groups) ≤ 2 ^ 32
   few = few_main groups light
 
-  main_rows_fit : All (IsRow (columns_of table.Spans)) (stored_rows span_cells 0 0 0 (flat groups))
+  main_rows_fit : All (IsRow (columns_of table.Spans)) (stored_rows span_cells 0 0 0 (flat_items groups))
   unfolding spans
   main_rows_fit =
-      rows_fit span_cells (drop 9 spans) 0 0 0 (flat groups) (omega arith) (bounded 4294967295 groups (omega (arith, few)))
-      (every_weaker (OfFlat IsRealResource IsRealScope IsFitSpan) (OfFlat IsRealResource IsRealScope (OwnFit span_cells (drop 9 spans))) (flat groups)
-      (λ f of. (of.0, of.1, of.2.own)) (of_flat IsRealResource IsRealScope IsFitSpan groups fit))
+      rows_fit span_cells (drop 9 spans) 0 0 0 (flat_items groups) (omega arith) (bounded 4294967295 groups (omega (arith, few)))
+      (every_weaker (OfFlat IsRealResource IsRealScope IsFitSpan) (OfFlat IsRealResource IsRealScope (OwnFit span_cells (drop 9 spans)))
+      (λ f of. (of.0, of.1, of.2.own)) (flat_items groups) (of_flat IsRealResource IsRealScope IsFitSpan groups fit))
 
   main_written : IsProfileTable (main_table table.Spans span_cells groups)
   unfolding main_table
   main_written =
-      let rows : List MainRow = numbered_rows span_cells 0 (flat groups) in
-      is_profile_table table.Spans (stored_rows span_cells 0 0 0 (flat groups)) main_rows_fit
+      let rows : List MainRow = numbered_rows span_cells 0 (flat_items groups) in
+      is_profile_table table.Spans (stored_rows span_cells 0 0 0 (flat_items groups)) main_rows_fit
       (span_ids (λ column. (ids : List (Option ℕ)) × HasIds (main_table table.Spans span_cells groups) column ids)
       (map (λ (row : MainRow). row.id) rows, own_ids_of span_cells table.Spans groups spans_are_main few)
       (map (λ (row : MainRow). row.resource_id) rows, resource_ids_of span_cells table.Spans groups spans_are_main few)
@@ -154,18 +149,18 @@ module _ (groups : List (ResourceGroup Span)) (fit : All IsFit groups) (light : 
 
   events_written : IsProfileTable (part_table table.SpanEvents event_cells (event_lists groups))
   events_written =
-      part_written table.SpanEvents event_cells (drop 2 event_columns) (event_lists groups) events_are_parts event_row event_ids (few_event_lists groups light)
+      part_written table.SpanEvents event_cells (drop 2 event_columns) (event_lists groups) events_front event_row event_ids (few_event_lists groups light)
       (subst (λ (events : List Event). length events ≤ 2 ^ 32) (sym (events_joined groups)) (few_events groups light))
       (subst (AllByRecursion (λ (event : Event). IsRow (drop 2 event_columns) (event_cells event))) (sym (events_joined groups))
-      (all_every (λ (event : Event). IsRow (drop 2 event_columns) (event_cells event)) (all_events groups)
+      (recursion_from_All (λ (event : Event). IsRow (drop 2 event_columns) (event_cells event)) (all_events groups)
       (All-weaker IsFitEvent (λ (event : Event). IsRow (drop 2 event_columns) (event_cells event)) (λ event fit. fit.own) (all_events groups) fit_events)))
 
   links_written : IsProfileTable (part_table table.SpanLinks link_cells (link_lists groups))
   links_written =
-      part_written table.SpanLinks link_cells (drop 2 link_columns) (link_lists groups) links_are_parts link_row link_ids (few_link_lists groups light)
+      part_written table.SpanLinks link_cells (drop 2 link_columns) (link_lists groups) links_front link_row link_ids (few_link_lists groups light)
       (subst (λ (links : List Link). length links ≤ 2 ^ 32) (sym (links_joined groups)) (few_links groups light))
       (subst (AllByRecursion (λ (link : Link). IsRow (drop 2 link_columns) (link_cells link))) (sym (links_joined groups))
-      (all_every (λ (link : Link). IsRow (drop 2 link_columns) (link_cells link)) (all_links groups)
+      (recursion_from_All (λ (link : Link). IsRow (drop 2 link_columns) (link_cells link)) (all_links groups)
       (All-weaker IsFitLink (λ (link : Link). IsRow (drop 2 link_columns) (link_cells link)) (λ link fit. fit.own) (all_links groups) fit_links)))
 
   below_written : AllByRecursion IsProfileTable (tables_below groups)
@@ -193,7 +188,7 @@ module _ (groups : List (ResourceGroup Span)) (fit : All IsFit groups) (light : 
   unfolding tables_of_spans
   all_written =
       All-cons IsProfileTable (main_table table.Spans span_cells groups) (filled (tables_below groups)) main_written
-      (filled_all IsProfileTable (tables_below groups) (every_all IsProfileTable (tables_below groups) below_written))
+      (filled_all IsProfileTable (tables_below groups) (All-from_recursion IsProfileTable (tables_below groups) below_written))
 
 pub tables_written : (groups : List (ResourceGroup Span)) → IsReal (Traces groups) → IsProfile (Traces groups) → weight_of (Traces groups) ≤ weight_limit
     → All IsProfileTable (tables_of_spans groups)

@@ -19,7 +19,6 @@ use Rattle.otap_checks.specs.IdDefects.{IdDefect}
 use Rattle.otap_checks.specs.Known.{Knows}
 use Rattle.otap_checks.specs.Links.{links_of}
 use Rattle.otap_checks.specs.Pairing.{cells_or}
-use Rattle.otap_checks.specs.Reading.{Disagrees}
 use Rattle.otap_checks.specs.ValueDefects.{HasFineValues}
 use Rattle.otap_spans.specs.Records.{event_of, link_of}
 
@@ -31,10 +30,6 @@ pub record AreWhole (tables : List Table) : Type 0 where
   pub spans : HasFineValues tables table.SpanAttrs
   pub events : HasFineValues tables table.EventAttrs
   pub links : HasFineValues tables table.LinkAttrs
-
--- rows of one id differ
-abbrev pub IsUnlike : List Table → Type 0
-IsUnlike tables = Disagrees (table_named table.Spans tables)
 
 -- the ids of each table are known
 abbrev pub KnowsSpans : List Table → List ColumnIds → Type 0

@@ -12,8 +12,8 @@ use Rattle.otap_cells.specs.Scalars.{text_cell, number_cell, int_cell, bits_cell
 abbrev pub duration_of : ℕ → ℕ → ℕ
 duration_of start end = (end + (2 ^ 64 - start)) % 2 ^ 64
 
-abbrev pub end_of : ℕ → ℕ → ℕ
-end_of start duration = (start + duration) % 2 ^ 64
+abbrev pub end_time : ℕ → ℕ → ℕ
+end_time start duration = (start + duration) % 2 ^ 64
 
 -- ---- writing
 
@@ -43,7 +43,7 @@ span_of cells pairs events links = record {
   name = bytes_in (cell_at cells 6);
   kind = int_in (cell_at cells 7);
   start = bits_in (cell_at cells 0);
-  end = end_of (bits_in (cell_at cells 0)) (bits_in (cell_at cells 1));
+  end = end_time (bits_in (cell_at cells 0)) (bits_in (cell_at cells 1));
   flags = nat_in (cell_at cells 13);
   pairs = pairs;
   dropped_pairs = nat_in (cell_at cells 8);

@@ -5,7 +5,7 @@ use Rattle.std.specs.List.{AllByRecursion, filter_map}
 use Rattle.std.specs.Option.{IsSome}
 use Rattle.std.specs.Ordering.{int_eq}
 use Rattle.std.proofs.lemmas.Bool.{cases_Bool}
-use Rattle.std.proofs.lemmas.List.Sums.{sum_by-cons}
+use Rattle.std.proofs.lemmas.List.Sums.{sum_by-cons, sum_by-le-sum_by}
 use Rattle.lists.specs.EachAfter.{EachAfter, AllAfter}
 use Rattle.lists.specs.Payloads.{PayloadIn}
 use Rattle.otlp_model.specs.Limits.{item_limit}
@@ -23,38 +23,38 @@ use Rattle.otap_columns.specs.Substreams.{held_in, logical}
 use Rattle.otap_columns.specs.Streams.{stream_of}
 use Rattle.otap_consume.specs.Defects.{Accepts, HasFineRecords, IsReadAfter, held_after, is_taken, table_of, tables_of}
 use Rattle.otap_consume.specs.Limits.{held_limit}
-use Rattle.otap_consume.specs.Payloads.{type_of, messages_before}
+use Rattle.otap_consume.specs.Payloads.{payload_type_of, messages_before}
 use Rattle.otap_consume.specs.PayloadTypes.{IsFineType, times}
 use Rattle.otap_columns.proofs.Openings.{stream_of-other}
-use Rattle.otap_transit.proofs.KindsApart.{is_itself, types_compared}
+use Rattle.otap_cells.proofs.KindsApart.{is_itself, types_compared}
 use Rattle.otap_transit.proofs.Once.{count_hit, count_miss, all_columns}
 use Rattle.otap_transit.proofs.Reaching.{Reaches, AreHeld}
 
 module _ (signal : Signal) where
   -- ---- the types
 
-  told : (before : List Table) (past : List PayloadIn) (t : Table) (p : PayloadIn) (kind : Kind) → Reaches signal before past t p → int_eq p.kind (type_of kind) ≡ is_kind t.kind kind
-  told before past t p kind r = ap (λ (type : ℤ). int_eq type (type_of kind)) r.type ∙ types_compared t.kind kind
+  told : (before : List Table) (past : List PayloadIn) (t : Table) (p : PayloadIn) (kind : Kind) → Reaches signal before past t p → int_eq p.kind (payload_type_of kind) ≡ is_kind t.kind kind
+  told before past t p kind r = ap (λ (type : ℤ). int_eq type (payload_type_of kind)) r.type ∙ types_compared t.kind kind
 
   -- a type stands as often among payloads as its kind among their tables
   as_often : (before : List Table) (past : List PayloadIn) (ts : List Table) (ps : List PayloadIn) (kind : Kind) → EachAfter (Reaches signal) before past ts ps
-      → times (type_of kind) ps ≡ count_by (λ t. is_kind t.kind kind) ts
+      → times (payload_type_of kind) ps ≡ count_by (λ t. is_kind t.kind kind) ts
   as_often before past [] [] kind each = refl
   as_often before past [] (p ∷ ps) kind each = absurd each
   as_often before past (t ∷ ts) [] kind each = absurd each
   as_often before past (t ∷ ts) (p ∷ ps) kind each =
-      let later : times (type_of kind) ps ≡ count_by (λ t. is_kind t.kind kind) ts = as_often (before ++ t ∷ []) (past ++ p ∷ []) ts ps kind each.1 in
-      let same : int_eq p.kind (type_of kind) ≡ is_kind t.kind kind = told before past t p kind each.0 in
+      let later : times (payload_type_of kind) ps ≡ count_by (λ t. is_kind t.kind kind) ts = as_often (before ++ t ∷ []) (past ++ p ∷ []) ts ps kind each.1 in
+      let same : int_eq p.kind (payload_type_of kind) ≡ is_kind t.kind kind = told before past t p kind each.0 in
       elim (cases_Bool (is_kind t.kind kind)) [
         | inl own ↦
-            count_hit (λ (q : PayloadIn). int_eq q.kind (type_of kind)) p ps (same ∙ own) ∙ ap (λ (n : ℕ). 1 + n) later
+            count_hit (λ (q : PayloadIn). int_eq q.kind (payload_type_of kind)) p ps (same ∙ own) ∙ ap (λ (n : ℕ). 1 + n) later
             ∙ sym (count_hit (λ (u : Table). is_kind u.kind kind) t ts own)
         | inr other ↦
-            count_miss (λ (q : PayloadIn). int_eq q.kind (type_of kind)) p ps (same ∙ other) ∙ later
+            count_miss (λ (q : PayloadIn). int_eq q.kind (payload_type_of kind)) p ps (same ∙ other) ∙ later
             ∙ sym (count_miss (λ (u : Table). is_kind u.kind kind) t ts other)
       ]
 
-  fine_types : (all : List PayloadIn) → ((kind : Kind) → times (type_of kind) all ≤ 1) → (before : List Table) (past : List PayloadIn) (ts : List Table) (ps : List PayloadIn)
+  fine_types : (all : List PayloadIn) → ((kind : Kind) → times (payload_type_of kind) all ≤ 1) → (before : List Table) (past : List PayloadIn) (ts : List Table) (ps : List PayloadIn)
       → EachAfter (Reaches signal) before past ts ps → AllByRecursion (IsFineType signal all) ps
   fine_types all once before past [] [] each = tt
   fine_types all once before past [] (p ∷ ps) each = absurd each
@@ -111,7 +111,7 @@ module _ (signal : Signal) where
   none_later t ts once = omega (arith, once t.kind, count_hit (λ (u : Table). is_kind u.kind t.kind) t ts (is_itself t.kind))
 
   -- the table that a payload stands for after all payloads of its batch
-  table_is : (before : List Table) (past : List PayloadIn) (t : Table) (p : PayloadIn) (later : List PayloadIn) → (r : Reaches signal before past t p) → times (type_of t.kind) later ≡ 0
+  table_is : (before : List Table) (past : List PayloadIn) (t : Table) (p : PayloadIn) (later : List PayloadIn) → (r : Reaches signal before past t p) → times (payload_type_of t.kind) later ≡ 0
       → table_of signal (past ++ p ∷ later) p ≡ Some r.table
   table_is before past t p later r none =
       let stream : stream_of p.kind (past ++ p ∷ later) ≡ stream_of p.kind (past ++ p ∷ [])
@@ -124,7 +124,7 @@ module _ (signal : Signal) where
   all_tables before past [] (p ∷ ps) each once = absurd each
   all_tables before past (t ∷ ts) [] each once = absurd each
   all_tables before past (t ∷ ts) (p ∷ ps) each once =
-      let none : times (type_of t.kind) ps ≡ 0 = as_often (before ++ t ∷ []) (past ++ p ∷ []) ts ps t.kind each.1 ∙ none_later t ts once in
+      let none : times (payload_type_of t.kind) ps ≡ 0 = as_often (before ++ t ∷ []) (past ++ p ∷ []) ts ps t.kind each.1 ∙ none_later t ts once in
       let later : ReadAs (filter_map (table_of signal ((past ++ p ∷ []) ++ ps)) ps) ts = all_tables (before ++ t ∷ []) (past ++ p ∷ []) ts ps each.1 (fewer_once t ts once) in
       let later_is : ReadAs (filter_map (table_of signal (past ++ p ∷ ps)) ps) ts
       = subst (λ (all : List PayloadIn). ReadAs (filter_map (table_of signal all) ps) ts) (append_assoc past (p ∷ []) ps) later in
@@ -146,14 +146,10 @@ same_weight (u ∷ us) (t ∷ ts) read =
     let here : weight_of_table u ≡ weight_of_table t = ap (λ (rows : List (List Cell)). sum_by weight_of_row rows) read.0.same.rows in
     omega (arith, here, same_weight us ts read.1, sum_by-cons weight_of_table u us, sum_by-cons weight_of_table t ts)
 
-sum_below : {A : Type 0} (f g : A → ℕ) (xs : List A) → ((x : A) → f x ≤ g x) → sum_by f xs ≤ sum_by g xs
-sum_below f g [] below = omega arith
-sum_below f g (x ∷ xs) below = omega (arith, below x, sum_below f g xs below, sum_by-cons f x xs, sum_by-cons g x xs)
-
 pub held_little : (signal : Signal) (all : List PayloadIn) → AreHeld all → held_after signal all ≤ held_limit
 unfolding held_after
 held_little signal all held =
-    omega (arith, all_columns signal, sum_below (λ kind. held_in (stream_of (type_of kind) all)) (λ kind. 1572864 * width_of kind) (kinds_of signal) held)
+    omega (arith, all_columns signal, sum_by-le-sum_by (λ kind. held_in (stream_of (payload_type_of kind) all)) (λ kind. 1572864 * width_of kind) (kinds_of signal) held)
 
 -- ---- all together
 
@@ -163,7 +159,7 @@ module _ (signal : Signal) (before : List Table) (past : List PayloadIn) (ts : L
   unfolding tables_of
   tables_read = all_tables signal before past ts ps each once
 
-  types_once : (kind : Kind) → times (type_of kind) ps ≤ 1
+  types_once : (kind : Kind) → times (payload_type_of kind) ps ≤ 1
   types_once kind = omega (arith, as_often signal before past ts ps kind each, once kind)
 
   pub accepts : AreHeld (past ++ ps) → length (rows_named (main_of signal) ts) ≤ item_limit → weight_of_tables ts ≤ row_weight_limit → Accepts signal past ps

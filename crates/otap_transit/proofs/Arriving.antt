@@ -1,13 +1,10 @@
 -- What is sent arrives, segment after segment.
 use Rattle.std.proofs.Common.{◌≡◌, ℕ, false, List, [], ◌∷◌, ◌++◌, map, refl, sym, ap, ◌∙◌, subst, append-nil, arith}
-use Rattle.std.specs.List.{flat_map}
 use Rattle.std.proofs.lemmas.Grind.{flat_map-append}
 use Rattle.lists.specs.EachAfter.{EachAfter, AllAfter}
-use Rattle.lists.specs.Since.{since}
-use Rattle.lists.proofs.Latest.{since-append}
 use Rattle.lists.specs.Payloads.{PayloadIn}
 use Rattle.otlp_model.specs.declared.request.Request.{Request}
-use Rattle.otap_capture.specs.Batch.{batch_in, payloads_in}
+use Rattle.otap_capture.specs.Batch.{batch_content, payloads_in}
 use Rattle.otap_capture.specs.Capture.{Frame, Message}
 use Rattle.otap_capture.specs.Capture as capture
 use Rattle.otap_cells.specs.Tables.{Table}
@@ -18,35 +15,13 @@ use Rattle.otap_consume.specs.Receiving.{ReceivedAfter, Received}
 use Rattle.otap_consume.proofs.SegmentSteps.{payloads_accepted, broken_accepted, broken_reset, payloads_reset}
 use Rattle.otap_produce.specs.Policy.{SignalRows}
 use Rattle.otap_transit.specs.Faithful.{AreFaithful}
-use Rattle.otap_transit.specs.Sendings.{Sending, Sent, Reset, MaySend, IsAllowed, AreAllowed, IsAccepted, ArrivesAs, Arrive, frame_sent, is_reset, request_if, message_if, requests_since, messages_since}
+use Rattle.otap_transit.specs.Sendings.{Sending, Sent, Reset, MaySend, IsAllowed, AreAllowed, IsAccepted, ArrivesAs, Arrive, frame_sent, requests_since, messages_since}
 use Rattle.otap_transit.specs.Transits.{payloads_in_all, tables_after}
 use Rattle.otap_transit.proofs.Coming.{Comes, IsSegment, comes, longer}
 use Rattle.otap_transit.proofs.Projected.{FarEndReads}
 use Rattle.otap_transit.proofs.Reaching.{nothing_so_far}
 use Rattle.otap_transit.proofs.Settled.{gives_accepted, gives_reset, only_accepted, only_reset}
-
--- ---- one more sending
-
-since_sent : (before : List Sending) (request : Request) (message : List ℕ) → since is_reset (before ++ Sent request message ∷ []) ≡ since is_reset before ++ Sent request message ∷ []
-since_sent before request message = since-append is_reset before (Sent request message ∷ [])
-
-requests_sent : (before : List Sending) (request : Request) (message : List ℕ) → requests_since (before ++ Sent request message ∷ []) ≡ requests_since before ++ request ∷ []
-unfolding requests_since
-requests_sent before request message =
-    ap (flat_map request_if) (since_sent before request message) ∙ flat_map-append request_if (since is_reset before) (Sent request message ∷ [])
-
-messages_sent : (before : List Sending) (request : Request) (message : List ℕ) → messages_since (before ++ Sent request message ∷ []) ≡ messages_since before ++ message ∷ []
-unfolding messages_since
-messages_sent before request message =
-    ap (flat_map message_if) (since_sent before request message) ∙ flat_map-append message_if (since is_reset before) (Sent request message ∷ [])
-
-requests_reset : (before : List Sending) → requests_since (before ++ Reset ∷ []) ≡ []
-unfolding requests_since
-requests_reset before = ap (flat_map request_if) (since-append is_reset before (Reset ∷ []))
-
-messages_reset : (before : List Sending) → messages_since (before ++ Reset ∷ []) ≡ []
-unfolding messages_since
-messages_reset before = ap (flat_map message_if) (since-append is_reset before (Reset ∷ []))
+use Rattle.otap_transit.proofs.SendingsGrown.{requests_sent, messages_sent, requests_reset, messages_reset}
 
 -- ---- outcomes of what was sent
 
@@ -80,21 +55,21 @@ module _ (far : FarEndReads) (m : Meaning) (rows : SignalRows) (faithful : AreFa
       comes far m rows faithful (requests_since before) (messages_since before) request message so_far.segment may.exported may.message_of
 
   after_sent : (before : List Sending) (told : List Outcome) (request : Request) (message : List ℕ) → AreTold rows before told → MaySend rows before request message
-      → AreTold rows (before ++ Sent request message ∷ []) (told ++ Accepted (batch_in message) (tables before message) ∷ [])
+      → AreTold rows (before ++ Sent request message ∷ []) (told ++ Accepted (batch_content message) (tables before message) ∷ [])
   after_sent before told request message so_far may =
       let sent : payloads_in_all (messages_since (before ++ Sent request message ∷ [])) ≡ payloads_in_all (messages_since before) ++ payloads_in message
       = ap payloads_in_all (messages_sent before request message) ∙ flat_map-append payloads_in (messages_since before) (message ∷ [])
       ∙ ap (λ (ps : List PayloadIn). payloads_in_all (messages_since before) ++ ps) (append-nil (payloads_in message)) in
       record {
-        whole = broken_accepted told (batch_in message) (tables before message) ∙ so_far.whole;
+        whole = broken_accepted told (batch_content message) (tables before message) ∙ so_far.whole;
         payloads =
-            payloads_accepted told (batch_in message) (tables before message) ∙ ap (λ (ps : List PayloadIn). ps ++ payloads_in message) so_far.payloads ∙ sym sent;
+            payloads_accepted told (batch_content message) (tables before message) ∙ ap (λ (ps : List PayloadIn). ps ++ payloads_in message) so_far.payloads ∙ sym sent;
         segment = rw (requests_sent before request message, messages_sent before request message)
             (longer far m rows faithful (requests_since before) (messages_since before) request message so_far.segment may.exported may.message_of);
       }
 
   accepted_as : (before : List Sending) (told : List Outcome) (request : Request) (message : List ℕ) (outcome : Outcome) → AreTold rows before told → MaySend rows before request message
-      → outcome ≡ Accepted (batch_in message) (tables before message) → IsAccepted m before request message outcome
+      → outcome ≡ Accepted (batch_content message) (tables before message) → IsAccepted m before request message outcome
   accepted_as before told request message outcome so_far may is =
       let c : Comes m (requests_since before) (messages_since before) request message = it_comes before told request message so_far may in
       record { tables = tables before message; accepted = is; id = c.id; same = c.same }
@@ -102,7 +77,7 @@ module _ (far : FarEndReads) (m : Meaning) (rows : SignalRows) (faithful : AreFa
   -- ---- all outcomes
 
   is_accepted : (before : List Sending) (told : List Outcome) (request : Request) (message : List ℕ) (outcome : Outcome) → AreTold rows before told → MaySend rows before request message
-      → ReceivedAfter m told (Message message) outcome → outcome ≡ Accepted (batch_in message) (tables before message)
+      → ReceivedAfter m told (Message message) outcome → outcome ≡ Accepted (batch_content message) (tables before message)
   is_accepted before told request message outcome so_far may after =
       let c : Comes m (requests_since before) (messages_since before) request message = it_comes before told request message so_far may in
       only_accepted m told (payloads_in_all (messages_since before)) message outcome so_far.whole so_far.payloads c.reads c.accepts c.fine after
@@ -114,7 +89,7 @@ module _ (far : FarEndReads) (m : Meaning) (rows : SignalRows) (faithful : AreFa
   all_arrive gone before told [] (outcome ∷ next) so_far allowed each = absurd each
   all_arrive gone before told (sending ∷ sendings) [] so_far allowed each = absurd each
   all_arrive gone before told (Sent request message ∷ sendings) (outcome ∷ next) so_far allowed each =
-      let is : outcome ≡ Accepted (batch_in message) (tables before message) = is_accepted before told request message outcome so_far allowed.0 each.0 in (
+      let is : outcome ≡ Accepted (batch_content message) (tables before message) = is_accepted before told request message outcome so_far allowed.0 each.0 in (
         accepted_as before told request message outcome so_far allowed.0 is,
         all_arrive (gone ++ Message message ∷ []) (before ++ Sent request message ∷ []) (told ++ outcome ∷ []) sendings next
             (subst (λ (o : Outcome). AreTold rows (before ++ Sent request message ∷ []) (told ++ o ∷ [])) (sym is) (after_sent before told request message so_far allowed.0)) allowed.1 each.1,
@@ -136,11 +111,11 @@ module _ (far : FarEndReads) (m : Meaning) (rows : SignalRows) (faithful : AreFa
   some_from gone before told [] so_far allowed = ([], tt)
   some_from gone before told (Sent request message ∷ sendings) so_far allowed =
       let c : Comes m (requests_since before) (messages_since before) request message = it_comes before told request message so_far allowed.0 in
-      let here : ReceivedAfter m told (Message message) (Accepted (batch_in message) (tables before message))
+      let here : ReceivedAfter m told (Message message) (Accepted (batch_content message) (tables before message))
       = gives_accepted m told (payloads_in_all (messages_since before)) message so_far.whole so_far.payloads c.reads c.accepts c.fine in
-      let rest = some_from (gone ++ Message message ∷ []) (before ++ Sent request message ∷ []) (told ++ Accepted (batch_in message) (tables before message) ∷ []) sendings
+      let rest = some_from (gone ++ Message message ∷ []) (before ++ Sent request message ∷ []) (told ++ Accepted (batch_content message) (tables before message) ∷ []) sendings
       (after_sent before told request message so_far allowed.0) allowed.1 in
-      (Accepted (batch_in message) (tables before message) ∷ rest.0, (here, rest.1))
+      (Accepted (batch_content message) (tables before message) ∷ rest.0, (here, rest.1))
   some_from gone before told (Reset ∷ sendings) so_far allowed =
       let rest = some_from (gone ++ capture.Reset ∷ []) (before ++ Reset ∷ []) (told ++ outcomes.Reset ∷ []) sendings (after_reset rows before told) allowed.1 in
       (outcomes.Reset ∷ rest.0, (gives_reset m told so_far.whole, rest.1))

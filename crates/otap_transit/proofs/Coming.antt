@@ -10,7 +10,7 @@ use Rattle.lists.specs.Payloads.{PayloadIn}
 use Rattle.otlp_model.specs.Same.{Same}
 use Rattle.otlp_model.specs.declared.request.Request.{Request}
 use Rattle.otlp_model.specs.declared.request.Signal.{Signal}
-use Rattle.otap_capture.specs.Batch.{IsRealBatch, IsRealPayload, ReadsBatch, batch_in, payloads_in}
+use Rattle.otap_capture.specs.Batch.{IsRealBatch, IsRealPayload, ReadsBatch, batch_content, payloads_in}
 use Rattle.otap_capture.proofs.WrittenBatch.{batch_back}
 use Rattle.otap_cells.specs.Tables.{Table}
 use Rattle.otap_columns.specs.Limits.{tables_limit}
@@ -26,7 +26,8 @@ use Rattle.otap_transit.proofs.InFormat.{in_format_by}
 use Rattle.otap_transit.proofs.Once.{kinds_once, few_tables, tables_known}
 use Rattle.otap_transit.proofs.Projected.{FarEndReads}
 use Rattle.otap_transit.proofs.Reaching.{AreSoFar, Reaches, all_reach}
-use Rattle.otap_transit.proofs.RealBatches.{id_fits, kind_fits}
+use Rattle.otap_transit.proofs.RealBatches.{id_fits}
+use Rattle.otap_cells.proofs.KindsApart.{number_fits}
 
 -- payloads of which the far end finds all are real
 real_payloads : (signal : Signal) (before : List Table) (past : List PayloadIn) (ts : List Table) (ps : List PayloadIn) → EachAfter (Reaches signal) before past ts ps
@@ -35,14 +36,14 @@ real_payloads signal before past [] [] each = tt
 real_payloads signal before past [] (p ∷ ps) each = absurd each
 real_payloads signal before past (t ∷ ts) [] each = absurd each
 real_payloads signal before past (t ∷ ts) (p ∷ ps) each = (
-  record { schema_id = each.0.text; kind = subst (λ (type : ℤ). FitsSigned w32 type) (sym each.0.type) (kind_fits t.kind) },
+  record { schema_id = each.0.text; kind = subst (λ (type : ℤ). FitsSigned w32 type) (sym each.0.type) (number_fits t.kind) },
   real_payloads signal (before ++ t ∷ []) (past ++ p ∷ []) ts ps each.1,
 )
 
 -- a message is accepted, its rows are fine, and they mean the request
 pub record Comes (m : Meaning) (requests : List Request) (messages : List (List ℕ)) (request : Request) (message : List ℕ) : Type 0 where
-  pub reads : ReadsBatch message (batch_in message)
-  pub id : (batch_in message).id ≡ pos (length requests)
+  pub reads : ReadsBatch message (batch_content message)
+  pub id : (batch_content message).id ≡ pos (length requests)
   pub accepts : Accepts m.signal (payloads_in_all messages) (payloads_in message)
   pub fine : HasFineRows m (tables_after m messages message)
   pub same : Same request (m.request (tables_after m messages message))
@@ -55,7 +56,7 @@ pub record IsSegment (rows : SignalRows) (requests : List Request) (messages : L
 pub received : (m : Meaning) (requests : List Request) (messages : List (List ℕ)) (request : Request) (message : List ℕ) → Comes m requests messages request message
     → IsReceivedAs m requests messages request message
 received m requests messages request message comes = record {
-  format = in_format_by m (payloads_in_all messages) message (batch_in message) comes.reads comes.accepts comes.fine;
+  format = in_format_by m (payloads_in_all messages) message (batch_content message) comes.reads comes.accepts comes.fine;
   reads = comes.reads;
   id = comes.id;
   same = comes.same;
@@ -94,11 +95,11 @@ module _ (far : FarEndReads) (m : Meaning) (rows : SignalRows) (faithful : AreFa
   reached : EachAfter (Reaches rows.signal) before past ts ps × AreSoFar (before ++ ts) (past ++ ps)
   reached = all_reach far rows.signal before past ts ps segment.so_far each (tables_known rows.signal ts order) few
 
-  reads : ReadsBatch message (batch_in message)
+  reads : ReadsBatch message (batch_content message)
   reads =
-      let real : IsRealBatch (batch_in message) = record { id = id_fits message; payloads = real_payloads rows.signal before past ts ps reached.0 } in
+      let real : IsRealBatch (batch_content message) = record { id = id_fits message; payloads = real_payloads rows.signal before past ts ps reached.0 } in
       let short : length message < 2 ^ 64 = omega (arith, is.short) in
-      subst (λ (bytes : List ℕ). ReadsBatch bytes (batch_in message)) (sym is.canonical) (batch_back (batch_in message) real (rw (← is.canonical) short))
+      subst (λ (bytes : List ℕ). ReadsBatch bytes (batch_content message)) (sym is.canonical) (batch_back (batch_content message) real (rw (← is.canonical) short))
 
   means : MeanTheSame m request (tables_of rows.signal past ps)
   means = faithful.means request (tables_of rows.signal past ps) exported (tables_read rows.signal before past ts ps reached.0 (kinds_once rows.signal ts order))

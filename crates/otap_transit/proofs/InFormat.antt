@@ -7,7 +7,7 @@ use Rattle.otap_capture.specs.Capture.{Message}
 use Rattle.otap_cells.specs.Tables.{Table}
 use Rattle.otap_consume.specs.Defects.{Accepts, tables_of}
 use Rattle.otap_consume.specs.Meanings.{Meaning, HasFineRows}
-use Rattle.otap_consume.specs.Outcomes.{Outcome, Accepted, Gives, StaysBroken, is_broken, payloads_after}
+use Rattle.otap_consume.specs.Outcomes.{Outcome, Accepted, GivesOutcome, StaysBroken, is_broken, payloads_after}
 use Rattle.otap_consume.specs.Receiving.{IsInFormat, ReceivedAfter, Settles}
 use Rattle.otap_consume.proofs.Formats.{in_format}
 use Rattle.otap_consume.proofs.SegmentSteps.{payloads_accepted, broken_accepted}
@@ -28,11 +28,11 @@ pub in_format_by : (m : Meaning) (past : List PayloadIn) (bytes : List ℕ) (bat
     → HasFineRows m (tables_of m.signal past batch.payloads) → IsInFormat m past (Message bytes)
 in_format_by m past bytes batch reads accepts fine =
     let tables : List Table = tables_of m.signal past batch.payloads in
-    let here : Gives m.signal (payloads_after (one_before past)) (Message bytes) (Accepted batch tables)
-    = subst (λ (now : List PayloadIn). Gives m.signal now (Message bytes) (Accepted batch tables)) (sym (payloads_before past)) (Gives.accepts bytes batch reads accepts) in
+    let here : GivesOutcome m.signal (payloads_after (one_before past)) (Message bytes) (Accepted batch tables)
+    = subst (λ (now : List PayloadIn). GivesOutcome m.signal now (Message bytes) (Accepted batch tables)) (sym (payloads_before past)) (GivesOutcome.accepts bytes batch reads accepts) in
     let after : ReceivedAfter m (one_before past) (Message bytes) (Accepted batch tables) = record {
       seen = Accepted batch tables;
-      gives = subst (λ (b : Bool). MatchBool b (StaysBroken (Message bytes) (Accepted batch tables)) (Gives m.signal (payloads_after (one_before past)) (Message bytes) (Accepted batch tables)))
+      gives = subst (λ (b : Bool). MatchBool b (StaysBroken (Message bytes) (Accepted batch tables)) (GivesOutcome m.signal (payloads_after (one_before past)) (Message bytes) (Accepted batch tables)))
           (sym (whole_before past)) here;
       settles = Settles.accepted batch tables fine;
     } in

@@ -1,4 +1,3 @@
-pub mod KindsApart
 pub mod Projected
 pub mod SchemaIds
 pub mod Reading
@@ -9,6 +8,7 @@ pub mod Accepting
 pub mod InFormat
 pub mod Coming
 pub mod Settled
+pub mod SendingsGrown
 pub mod Arriving
 pub mod SameMeaning
 pub mod LogsFaithful

@@ -13,9 +13,9 @@ use Rattle.otap_cells.specs.Payload.{kinds_of, kind_numbered, is_kind}
 use Rattle.otap_cells.specs.Tables.{Table}
 use Rattle.otap_columns.specs.Limits.{tables_limit}
 use Rattle.otap_consume.specs.Limits.{held_limit}
-use Rattle.otap_consume.specs.Payloads.{type_of}
+use Rattle.otap_consume.specs.Payloads.{payload_type_of}
 use Rattle.otap_produce.specs.Writable.{AreInOrder}
-use Rattle.otap_transit.proofs.KindsApart.{same_kind}
+use Rattle.otap_cells.proofs.KindsApart.{same_kind}
 
 -- ---- how often
 
@@ -105,7 +105,7 @@ module _ (signal : Signal) (ts : List Table) (order : AreInOrder signal ts) wher
 -- ---- each is one of the signal's
 
 abbrev Known : Signal → Kind → Type 0
-Known signal kind = kind_numbered signal (type_of kind) ≡ Some kind
+Known signal kind = kind_numbered signal (payload_type_of kind) ≡ Some kind
 
 all_known : (signal : Signal) → AllByRecursion (Known signal) (kinds_of signal)
 all_known Traces = (refl, (refl, (refl, (refl, (refl, (refl, (refl, (refl, tt))))))))
@@ -124,7 +124,7 @@ of_tables : (signal : Signal) (ts : List Table) → AllByRecursion (Known signal
 of_tables signal [] known = tt
 of_tables signal (t ∷ ts) known = (known.0, of_tables signal ts known.1)
 
-pub tables_known : (signal : Signal) (ts : List Table) → AreInOrder signal ts → AllByRecursion (λ t. kind_numbered signal (type_of t.kind) ≡ Some t.kind) ts
+pub tables_known : (signal : Signal) (ts : List Table) → AreInOrder signal ts → AllByRecursion (λ t. kind_numbered signal (payload_type_of t.kind) ≡ Some t.kind) ts
 tables_known signal ts order =
     of_tables signal ts (subst (AllByRecursion (Known signal)) (sym order.kinds) (some_known signal order.has (kinds_of signal) (all_known signal)))
 

@@ -1,9 +1,8 @@
 -- The tables and the payloads of all kinds, looked at by one kind.
-use Rattle.std.proofs.Common.{◌≡◌, pos, Bool, true, false, List, [], ◌∷◌, ◌++◌, ℤ, inl, inr, if◌then◌else◌, refl, sym, ap, ◌∙◌, subst, append-nil}
+use Rattle.std.proofs.Common.{◌≡◌, pos, Bool, true, false, List, [], ◌∷◌, ◌++◌, ℤ, inl, inr, if◌then◌else◌, refl, sym, ap, ◌∙◌, subst}
 use Rattle.std.specs.Prelude.{◌*◌, ◌≤◌, filter, ◌⊎◌}
 use Rattle.std.specs.Ordering.{int_eq}
 use Rattle.std.proofs.lemmas.Bool.{cases_Bool}
-use Rattle.std.proofs.lemmas.List.Elements.{filter-append}
 use Rattle.lists.specs.EachAfter.{EachAfter}
 use Rattle.lists.proofs.Growing.{each_after-push, each_after-keeps, each_after-last}
 use Rattle.lists.specs.Payloads.{PayloadIn}
@@ -17,7 +16,9 @@ use Rattle.otap_columns.specs.Records.{IsRead}
 use Rattle.otap_columns.specs.Substreams.{held_in, logical, schema_in}
 use Rattle.otap_columns.specs.Streams.{is_of, of_type, opens, stream_of}
 use Rattle.otap_columns.specs.TableSets.{IsPayloadOf, of_kind}
-use Rattle.otap_transit.proofs.KindsApart.{same_kind, types_compared, is_itself}
+use Rattle.otap_cells.proofs.KindsApart.{same_kind, types_compared, is_itself}
+use Rattle.otap_columns.proofs.Openings.{of_type-other, of_type-own}
+use Rattle.otap_columns.proofs.KindTables.{of_kind-other, of_kind-own}
 
 -- ---- filters
 
@@ -28,18 +29,6 @@ filter_twice p (x ∷ xs) =
       | inl passes ↦ rw (passes, passes) (ap (λ ys. x ∷ ys) (filter_twice p xs))
       | inr fails ↦ rw fails (filter_twice p xs)
     ]
-
-pub of_type-other : (type : ℤ) (ps : List PayloadIn) (p : PayloadIn) → is_of type p ≡ false → of_type type (ps ++ p ∷ []) ≡ of_type type ps
-of_type-other type ps p other = filter-append (is_of type) ps (p ∷ []) ∙ rw other (append-nil (of_type type ps))
-
-pub of_type-own : (type : ℤ) (ps : List PayloadIn) (p : PayloadIn) → is_of type p ≡ true → of_type type (ps ++ p ∷ []) ≡ of_type type ps ++ p ∷ []
-of_type-own type ps p own = filter-append (is_of type) ps (p ∷ []) ∙ rw own refl
-
-of_kind-other : (kind : Kind) (ts : List Table) (t : Table) → is_kind t.kind kind ≡ false → of_kind kind (ts ++ t ∷ []) ≡ of_kind kind ts
-of_kind-other kind ts t other = filter-append (λ (u : Table). is_kind u.kind kind) ts (t ∷ []) ∙ rw other (append-nil (of_kind kind ts))
-
-of_kind-own : (kind : Kind) (ts : List Table) (t : Table) → is_kind t.kind kind ≡ true → of_kind kind (ts ++ t ∷ []) ≡ of_kind kind ts ++ t ∷ []
-of_kind-own kind ts t own = filter-append (λ (u : Table). is_kind u.kind kind) ts (t ∷ []) ∙ rw own refl
 
 -- ---- what a payload opens, and its sub-stream, are those among the payloads of its type
 

@@ -24,9 +24,9 @@ use Rattle.otap_columns.specs.Streams.{opens, stream_of, open_id}
 use Rattle.otap_columns.specs.Substreams.{held_in, logical, substream_in}
 use Rattle.otap_columns.specs.TableSets.{IsPayloadOf, of_kind}
 use Rattle.otap_consume.specs.Defects.{is_open_id, is_open_for, is_taken}
-use Rattle.otap_consume.specs.Payloads.{type_of, messages_before}
+use Rattle.otap_consume.specs.Payloads.{payload_type_of, messages_before}
 use Rattle.otap_columns.proofs.Openings.{stream_of-other}
-use Rattle.otap_transit.proofs.KindsApart.{same_number}
+use Rattle.otap_cells.proofs.KindsApart.{same_number}
 use Rattle.otap_transit.proofs.Projected.{FarEndReads, read_as}
 use Rattle.otap_transit.proofs.Reading.{reads_as}
 use Rattle.otap_transit.proofs.SchemaIds.{AreApart, none_open, is_free, still_apart, id_is_text}
@@ -35,7 +35,7 @@ use Rattle.otap_transit.proofs.SchemaIds.{AreApart, none_open, is_free, still_ap
 
 -- all open sub-streams hold no more than their columns may
 abbrev pub AreHeld : List PayloadIn → Type 0
-AreHeld past = (kind : Kind) → held_in (stream_of (type_of kind) past) ≤ 1572864 * width_of kind
+AreHeld past = (kind : Kind) → held_in (stream_of (payload_type_of kind) past) ≤ 1572864 * width_of kind
 
 pub record AreSoFar (before : List Table) (past : List PayloadIn) : Type 0 where
   pub each : EachAfter IsPayloadOf [] [] before past
@@ -53,7 +53,7 @@ nothing_so_far = record { each = tt; apart = none_open; held = none_held }
 
 -- what the far end finds
 pub record Reaches (signal : Signal) (before : List Table) (past : List PayloadIn) (t : Table) (p : PayloadIn) : Type 0 where
-  pub type : p.kind ≡ type_of t.kind
+  pub type : p.kind ≡ payload_type_of t.kind
   pub known : kind_numbered signal p.kind ≡ Some t.kind
   pub text : IsUtf8 p.schema_id
   pub free : is_taken signal past p ≡ false
@@ -71,12 +71,12 @@ module _ (far : FarEndReads) (before : List Table) (past : List PayloadIn) (t : 
   r : IsReadAs t.kind (of_kind t.kind before) past t p
   r = read_as far before past t p so_far.each follows
 
-  stream : stream_of (type_of t.kind) (past ++ p ∷ []) ≡ stream_of p.kind (past ++ p ∷ [])
+  stream : stream_of (payload_type_of t.kind) (past ++ p ∷ []) ≡ stream_of p.kind (past ++ p ∷ [])
   stream = rw follows.written.type refl
 
   -- its id is open for no other type
-  not_open : (kind : Kind) (id : Option (List ℕ)) → open_id (type_of kind) past ≡ id → (not (int_eq p.kind (type_of kind)) && is_open_id p.schema_id id) ≡ false
-  not_open kind None is = and_false (not (int_eq p.kind (type_of kind)))
+  not_open : (kind : Kind) (id : Option (List ℕ)) → open_id (payload_type_of kind) past ≡ id → (not (int_eq p.kind (payload_type_of kind)) && is_open_id p.schema_id id) ≡ false
+  not_open kind None is = and_false (not (int_eq p.kind (payload_type_of kind)))
     where
       and_false : (b : Bool) → (b && false) ≡ false
       and_false true = refl
@@ -85,22 +85,22 @@ module _ (far : FarEndReads) (before : List Table) (past : List PayloadIn) (t : 
       elim (cases_Bool (bytes_eq current p.schema_id)) [
         | inl equal ↦
             let same : current ≡ p.schema_id = (bytes_eq-Decides current p.schema_id).0 equal in
-            let own : type_of kind ≡ p.kind
-            = is_free past p so_far.apart few follows.schema_id (type_of kind) (is ∙ ap (λ (id : List ℕ). Some id) same) in
-            rw (equal, (Decides-int_eq p.kind (type_of kind)).1 (sym own)) refl
-        | inr differs ↦ rw differs (and_false (not (int_eq p.kind (type_of kind))))
+            let own : payload_type_of kind ≡ p.kind
+            = is_free past p so_far.apart few follows.schema_id (payload_type_of kind) (is ∙ ap (λ (id : List ℕ). Some id) same) in
+            rw (equal, (Decides-int_eq p.kind (payload_type_of kind)).1 (sym own)) refl
+        | inr differs ↦ rw differs (and_false (not (int_eq p.kind (payload_type_of kind))))
       ]
     where
       and_false : (b : Bool) → (b && false) ≡ false
       and_false true = refl
       and_false false = refl
 
-  pub reaches : (signal : Signal) → kind_numbered signal (type_of t.kind) ≡ Some t.kind → Reaches signal before past t p
+  pub reaches : (signal : Signal) → kind_numbered signal (payload_type_of t.kind) ≡ Some t.kind → Reaches signal before past t p
   reaches signal known = record {
     type = follows.written.type;
     known = ap (kind_numbered signal) follows.written.type ∙ known;
     text = id_is_text past p so_far.apart few follows.schema_id;
-    free = none_passes (is_open_for past p) (kinds_of signal) (λ kind. not_open kind (open_id (type_of kind) past) refl);
+    free = none_passes (is_open_for past p) (kinds_of signal) (λ kind. not_open kind (open_id (payload_type_of kind) past) refl);
     read = subst (λ (type : ℤ). IsRead t.kind (if opens past p then [] else stream_of type past) p.bytes) (sym follows.written.type) r.read;
     table = r.table;
     gives = ap (logical t.kind) (sym stream) ∙ r.gives;
@@ -109,15 +109,15 @@ module _ (far : FarEndReads) (before : List Table) (past : List PayloadIn) (t : 
 
   still_held : AreHeld (past ++ p ∷ [])
   still_held kind =
-      elim (cases_Bool (int_eq p.kind (type_of kind))) [
+      elim (cases_Bool (int_eq p.kind (payload_type_of kind))) [
         | inl own ↦
-            let numbers : pos (number_of t.kind) ≡ pos (number_of kind) = sym follows.written.type ∙ (Decides-int_eq p.kind (type_of kind)).0 own in
+            let numbers : pos (number_of t.kind) ≡ pos (number_of kind) = sym follows.written.type ∙ (Decides-int_eq p.kind (payload_type_of kind)).0 own in
             let same : t.kind ≡ kind = same_number t.kind kind (cc numbers) in
             let here : held_in (stream_of p.kind (past ++ p ∷ [])) ≤ 1572864 * width_of t.kind
             = subst (λ (ms : List IpcMessage). held_in ms ≤ 1572864 * width_of t.kind) stream r.held in
-            subst (λ (k : Kind). held_in (stream_of (type_of k) (past ++ p ∷ [])) ≤ 1572864 * width_of k) same
+            subst (λ (k : Kind). held_in (stream_of (payload_type_of k) (past ++ p ∷ [])) ≤ 1572864 * width_of k) same
             (subst (λ (type : ℤ). held_in (stream_of type (past ++ p ∷ [])) ≤ 1572864 * width_of t.kind) follows.written.type here)
-        | inr other ↦ rw (stream_of-other (type_of kind) past p other) (so_far.held kind)
+        | inr other ↦ rw (stream_of-other (payload_type_of kind) past p other) (so_far.held kind)
       ]
 
   pub one_more : AreSoFar (before ++ t ∷ []) (past ++ p ∷ [])
@@ -130,7 +130,7 @@ module _ (far : FarEndReads) (before : List Table) (past : List PayloadIn) (t : 
 -- ---- the payloads of a batch
 
 abbrev pub IsOf : Signal → Table → Type 0
-IsOf signal t = kind_numbered signal (type_of t.kind) ≡ Some t.kind
+IsOf signal t = kind_numbered signal (payload_type_of t.kind) ≡ Some t.kind
 
 module _ (far : FarEndReads) (signal : Signal) where
   pub all_reach : (before : List Table) (past : List PayloadIn) (ts : List Table) (ps : List PayloadIn) → AreSoFar before past → EachAfter IsPayloadOf before past ts ps

@@ -1,8 +1,8 @@
 -- A batch message is one that a program holds: its id fits 64 bits.
-use Rattle.std.proofs.Common.{ℕ, ◌^◌, ◌<◌, List, [], ◌∷◌, ℤ, pos, inl, inr, arith, lit<}
+use Rattle.std.proofs.Common.{ℕ, ◌^◌, ◌<◌, List, [], ◌∷◌, ℤ, pos, inl, inr, arith}
 use Rattle.std.specs.Prelude.{⊤, FitsSigned, fold, Option, ◌==◌}
 use Rattle.std.specs.List.{AllByRecursion}
-use Rattle.std.specs.Int.{w32, w64}
+use Rattle.std.specs.Int.{w64}
 use Rattle.std.proofs.lemmas.Bool.{cases_Bool}
 use Rattle.std.proofs.Math.Facts.{sfits_to_z}
 use Rattle.otlp_wire.specs.declared.parts.WireError.{WireError}
@@ -13,10 +13,7 @@ use Rattle.otlp_wire.specs.Wire.{FieldValue, Entry, IsValue, IsField}
 use Rattle.otlp_wire.proofs.FieldsOf.{fields_of-reads}
 use Rattle.otlp_wire.proofs.Sevens.{varint_below}
 use Rattle.otlp_messages.specs.Rows.{only, int64_in}
-use Rattle.otap_capture.specs.Batch.{batch_in}
-use Rattle.otap_cells.specs.declared.payload.Kind.{Kind}
-use Rattle.otap_cells.specs.declared.payload.Kind.TheVariants as table
-use Rattle.otap_cells.specs.Payload.{number_of}
+use Rattle.otap_capture.specs.Batch.{batch_content}
 
 -- a varint that is read fits 64 bits
 abbrev Fits : FieldValue → Type 0
@@ -51,34 +48,7 @@ said_fits (wire.Fixed64 n ∷ vs) old all fits = said_fits vs old all.1 fits
 said_fits (wire.Bytes part ∷ vs) old all fits = said_fits vs old all.1 fits
 said_fits (wire.Fixed32 n ∷ vs) old all fits = said_fits vs old all.1 fits
 
-pub id_fits : (message : List ℕ) → FitsSigned w64 (batch_in message).id
+pub id_fits : (message : List ℕ) → FitsSigned w64 (batch_content message).id
 id_fits message =
     said_fits (only 1 (fields_of message)) (pos 0) (only_fit 1 (fields_of message) (all_fit (fields_of message) message (end_of message) (fields_of-reads message)))
     (record { sfits = omega arith })
-
--- the number of a kind fits 32 bits
-pub kind_fits : (kind : Kind) → FitsSigned w32 (pos (number_of kind))
-kind_fits kind = record { sfits = below kind }
-  where
-    below : (kind : Kind) → number_of kind < 2 ^ 31
-    below table.ResourceAttrs = lit< tt
-    below table.ScopeAttrs = lit< tt
-    below table.Metrics = lit< tt
-    below table.NumberPoints = lit< tt
-    below table.SummaryPoints = lit< tt
-    below table.HistPoints = lit< tt
-    below table.NumberPointAttrs = lit< tt
-    below table.SummaryPointAttrs = lit< tt
-    below table.HistPointAttrs = lit< tt
-    below table.NumberExemplars = lit< tt
-    below table.HistExemplars = lit< tt
-    below table.NumberExemplarAttrs = lit< tt
-    below table.HistExemplarAttrs = lit< tt
-    below table.Logs = lit< tt
-    below table.LogAttrs = lit< tt
-    below table.Spans = lit< tt
-    below table.SpanAttrs = lit< tt
-    below table.SpanEvents = lit< tt
-    below table.SpanLinks = lit< tt
-    below table.EventAttrs = lit< tt
-    below table.LinkAttrs = lit< tt

@@ -1,19 +1,18 @@
 -- The schema ids of a segment: each opening has a new number, so no id is open for two types.
-use Rattle.std.proofs.Common.{◌≡◌, ℕ, suc, ◌+◌, ◌<◌, ◌≤◌, Bool, true, false, List, [], ◌∷◌, ◌++◌, length, Option, Some, None, ℤ, inl, inr, if◌then◌else◌}
+use Rattle.std.proofs.Common.{◌≡◌, ℕ, suc, ◌+◌, ◌<◌, ◌≤◌, Bool, true, false, List, [], ◌∷◌, ◌++◌, length, Some, ℤ, inl, inr, if◌then◌else◌}
 use Rattle.std.proofs.Common.{refl, sym, ap, ◌∙◌, subst, append-nil, append_assoc, length-append, arith}
-use Rattle.std.specs.Prelude.{◌⊎◌, ◌^◌, not, bytes_eq}
+use Rattle.std.specs.Prelude.{◌⊎◌, ◌^◌}
 use Rattle.std.specs.Fmt.{decimal}
 use Rattle.std.specs.Str.{IsUtf8}
 use Rattle.std.specs.Str.Parse.{digits_value}
 use Rattle.std.proofs.lemmas.Bool.{cases_Bool}
 use Rattle.std.proofs.lemmas.Bool.Decides.{Decides-int_eq}
 use Rattle.std.proofs.lemmas.Fmt.{decimal_is_IsNumeral_wide, IsAscii-decimal_wide}
-use Rattle.std.proofs.lemmas.Slice.Eq.{bytes_eq-Decides}
 use Rattle.std.proofs.lemmas.Str.{IsUtf8-from_ascii}
 use Rattle.lists.specs.Payloads.{PayloadIn}
-use Rattle.otap_columns.specs.Streams.{is_of, last_of, opens, opens_after, open_id, id_in}
+use Rattle.otap_columns.specs.Streams.{is_of, opens, open_id}
 use Rattle.otap_columns.specs.TableSets.{openings, openings_after}
-use Rattle.otap_columns.proofs.Openings.{open_id-other, open_id-own}
+use Rattle.otap_columns.proofs.Openings.{open_id-other, open_id-own, stays_open}
 
 -- ---- openings
 
@@ -45,19 +44,6 @@ after-le past (q ∷ ps) = at_most_one (opens past q) (openings_after (past ++ q
 pub openings-le : (past : List PayloadIn) → openings past ≤ length past
 unfolding openings
 openings-le past = after-le [] past
-
--- a payload that opens no sub-stream has the id that is open for its type
-same_id : (last : Option PayloadIn) (p : PayloadIn) → opens_after last p ≡ false → id_in last ≡ Some p.schema_id
-same_id None p stays = absurd (cc stays)
-same_id (Some last) p stays =
-    elim (cases_Bool (bytes_eq last.schema_id p.schema_id)) [
-      | inl equal ↦ ap (λ (id : List ℕ). Some id) ((bytes_eq-Decides last.schema_id p.schema_id).0 equal)
-      | inr differs ↦ absurd (cc (sym stays ∙ ap not differs))
-    ]
-
-pub stays_open : (past : List PayloadIn) (p : PayloadIn) → opens past p ≡ false → open_id p.kind past ≡ Some p.schema_id
-unfolding opens open_id
-stays_open past p stays = same_id (last_of p.kind past) p stays
 
 -- ---- numbers
 

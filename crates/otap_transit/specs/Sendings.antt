@@ -5,7 +5,7 @@ use Rattle.lists.specs.EachAfter.{EachAfter, AllAfter}
 use Rattle.lists.specs.Since.{since}
 use Rattle.otlp_model.specs.Same.{Same}
 use Rattle.otlp_model.specs.declared.request.Request.{Request}
-use Rattle.otap_capture.specs.Batch.{batch_in}
+use Rattle.otap_capture.specs.Batch.{batch_content}
 use Rattle.otap_capture.specs.Capture.{Frame, Message}
 use Rattle.otap_capture.specs.Capture as capture
 use Rattle.otap_cells.specs.Tables.{Table}
@@ -63,8 +63,8 @@ AreAllowed rows sendings = AllAfter (IsAllowed rows) [] sendings
 -- the outcome of a message is its batch, accepted with the next id of its segment, and its tables mean the same telemetry
 pub record IsAccepted (m : Meaning) (before : List Sending) (request : Request) (message : List ℕ) (outcome : Outcome) : Type 0 where
   pub tables : List Table
-  pub accepted : outcome ≡ Accepted (batch_in message) tables
-  pub id : (batch_in message).id ≡ pos (length (requests_since before))
+  pub accepted : outcome ≡ Accepted (batch_content message) tables
+  pub id : (batch_content message).id ≡ pos (length (requests_since before))
   pub same : Same request (m.request tables)
 
 abbrev pub ArrivesAs : Meaning → List Sending → Sending → Outcome → Type 0

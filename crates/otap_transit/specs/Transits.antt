@@ -4,7 +4,7 @@ use Rattle.std.specs.List.{flat_map}
 use Rattle.lists.specs.Payloads.{PayloadIn}
 use Rattle.otlp_model.specs.Same.{Same}
 use Rattle.otlp_model.specs.declared.request.Request.{Request}
-use Rattle.otap_capture.specs.Batch.{ReadsBatch, batch_in, payloads_in}
+use Rattle.otap_capture.specs.Batch.{ReadsBatch, batch_content, payloads_in}
 use Rattle.otap_capture.specs.Capture.{Message}
 use Rattle.otap_cells.specs.Tables.{Table}
 use Rattle.otap_consume.specs.Defects.{tables_of}
@@ -23,6 +23,6 @@ tables_after m messages message = tables_of m.signal (payloads_in_all messages) 
 -- batch id is the number of those before it, and what its tables mean is the same telemetry
 pub record IsReceivedAs (m : Meaning) (requests : List Request) (messages : List (List ℕ)) (request : Request) (message : List ℕ) : Type 0 where
   pub format : IsInFormat m (payloads_in_all messages) (Message message)
-  pub reads : ReadsBatch message (batch_in message)
-  pub id : (batch_in message).id ≡ pos (length requests)
+  pub reads : ReadsBatch message (batch_content message)
+  pub id : (batch_content message).id ≡ pos (length requests)
   pub same : Same request (m.request (tables_after m messages message))

@@ -2,6 +2,8 @@
 use Rattle.std.proofs.Common.{◌≡◌, ℕ, List, [], map, true, refl}
 use Rattle.std.specs.Prelude.{nat_lt}
 use Rattle.std.specs.List.{All}
+use Rattle.std.proofs.lemmas.List.Elements.{recursion_from_All}
+use Rattle.lists.proofs.Every.{every_weaker}
 use Rattle.otlp_messages.specs.declared.messages.Message.{Message}
 use Rattle.otlp_messages.specs.declared.messages.Message.TheVariants as messages
 use Rattle.otlp_messages.specs.declared.messages.FieldKind.TheVariants as kinds
@@ -18,7 +20,7 @@ use Rattle.otlp_codec.specs.Groups.{value_in, pair_in}
 use Rattle.otlp_codec.specs.Canonical.{canon_value, canon_pair}
 use Rattle.otlp_codec.proofs.Chain.{Held, Law}
 use Rattle.otlp_codec.proofs.FieldLaw.{many_held}
-use Rattle.otlp_codec.proofs.Lists.{all_from, tests_from, all_map}
+use Rattle.otlp_codec.proofs.Lists.{tests_from}
 use Rattle.otlp_codec.proofs.ValueLaw.{value_law, pair_law}
 use Rattle.otlp_codec.proofs.ValueBounds.{value_bound, pair_bound}
 
@@ -32,5 +34,5 @@ pub pairs_held : {P : Type 0} (m : Message) (n : ℕ) (pairs : List Pair) → ki
     → are_real_pairs pairs ≡ true → (P → All IsProfilePair pairs) → Held P m level_limit n (many_in pair_in) [] pairs (many_row (map canon_pair pairs)) (total 32 weight_of_pair pairs) 0
 pairs_held m n pairs is unmarked low real profile =
     many_held IsProfilePair m n messages.KeyValue pair_in canon_pair 32 weight_of_pair 236 pairs is unmarked low refl refl
-    (all_map (λ p. is_real_pair p ≡ true) (λ p. Law (IsProfilePair p) messages.KeyValue level_limit pair_in canon_pair p (weight_of_pair p) 236) pair_whole pairs (tests_from is_real_pair pairs real))
-    (λ p. all_from IsProfilePair pairs (profile p))
+    (every_weaker (λ p. is_real_pair p ≡ true) (λ p. Law (IsProfilePair p) messages.KeyValue level_limit pair_in canon_pair p (weight_of_pair p) 236) pair_whole pairs (tests_from is_real_pair pairs real))
+    (λ p. recursion_from_All IsProfilePair pairs (profile p))

@@ -6,7 +6,7 @@ use Rattle.otlp_wire.specs.Wire.{FieldValue, Entry}
 use Rattle.otlp_wire.specs.Fields.{fields_of}
 use Rattle.otlp_messages.specs.declared.messages.Message.{Message}
 use Rattle.otlp_messages.specs.Defects.{IsFine}
-use Rattle.otlp_messages.specs.Canon.{Filled, row, entries_of, entries, canon_row, canon, laid_out, RowFits}
+use Rattle.otlp_messages.specs.Canon.{Filled, row, entries_of, entries, canon_row, canon, is_laid_out, RowFits}
 use Rattle.otlp_messages.proofs.Canonical.{rows_read}
 use Rattle.otlp_model.specs.Limits.{weight_limit}
 
@@ -63,7 +63,7 @@ also {n = n} {read = read} {none = none} {x = x} {vs = vs} {step = step} {old = 
 
 -- the whole message, from a chain that begins where no field is read
 pub law_of : {R : Type 0} {P : Type 0} {m : Message} {l : ℕ} {step : R → Entry → R} {none x : R} {rows : List Filled} {w e weight extra : ℕ} (read : List ℕ → R) (write : R → List ℕ)
-    → Rows P m l step none x rows w e → ((bytes : List ℕ) → fold step none (fields_of bytes) ≡ read bytes) → write x ≡ canon rows → laid_out m rows ≡ true → w ≤ weight → e ≤ extra
+    → Rows P m l step none x rows w e → ((bytes : List ℕ) → fold step none (fields_of bytes) ≡ read bytes) → write x ≡ canon rows → is_laid_out m rows ≡ true → w ≤ weight → e ≤ extra
     → Law P m l read write x weight extra
 law_of {P = P} {m = m} {l = l} {step = step} {none = none} {x = x} {rows = rows} read write all passes spelled laid lighter fewer = record {
   back = λ p short.

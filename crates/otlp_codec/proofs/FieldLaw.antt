@@ -1,5 +1,5 @@
 -- What holds of a field, by its kind: its row fits the table, reads back, and is short. A tag below 2^11 takes two bytes at most.
-use Rattle.std.proofs.Common.{◌≡◌, ℕ, ◌+◌, ◌*◌, ◌^◌, ◌<◌, ◌≤◌, List, [], ◌∷◌, ◌++◌, map, length, Bool, true, false, refl, arith, length-append, inl, inr, ℤ, pos, negsuc}
+use Rattle.std.proofs.Common.{◌≡◌, ℕ, ◌+◌, ◌*◌, ◌^◌, ◌<◌, ◌≤◌, List, [], ◌∷◌, ◌++◌, map, length, Bool, true, false, refl, arith, length-append, inl, inr, ℤ, pos}
 use Rattle.std.specs.Prelude.{nat_lt, FitsSigned, IsTrue}
 use Rattle.std.specs.Int.{w32, w64, cast_unsigned}
 use Rattle.std.specs.List.{AllByRecursion}
@@ -15,14 +15,16 @@ use Rattle.otlp_messages.specs.Limits.{level_limit}
 use Rattle.otlp_messages.specs.Table.{kind_of, mark_of}
 use Rattle.otlp_messages.specs.Rows.{fixed64_in, fixed32_in, uint32_in, int32_in, bool_in, bytes_in, embedded_in, many_in}
 use Rattle.otlp_messages.specs.Canon.{canon_row, varint_row, signed_row, bool_row, fixed64_row, fixed32_row, bytes_row, many_row}
-use Rattle.otlp_messages.proofs.RowKinds.{varint_fits, signed_fits, bool_fits, wider, fixed64_fits, fixed32_fits, part_fits, uint32_back, int32_back, bool_back, fixed64_back, fixed32_back, bytes_back, embedded_back}
+use Rattle.otlp_messages.proofs.RowKinds.{varint_fits, signed_fits, bool_fits, fixed64_fits, fixed32_fits, part_fits, uint32_back, int32_back, bool_back, fixed64_back, fixed32_back, bytes_back, embedded_back}
 use Rattle.lists.specs.Bytes.{is_real_text}
 use Rattle.otlp_model.specs.Profile.{is_id_of}
 use Rattle.otlp_model.specs.Limits.{weight_limit}
 use Rattle.otlp_model.specs.Weight.{total}
 use Rattle.lists.proofs.RealBytes.{utf8_of_real}
+use Rattle.lists.proofs.Every.{every_weaker}
+use Rattle.lists.proofs.Numbers.{wider, unsigned_small}
 use Rattle.otlp_codec.proofs.Chain.{Held, Law}
-use Rattle.otlp_codec.proofs.Lists.{all_map, all_both}
+use Rattle.otlp_codec.proofs.Lists.{all_both}
 use Rattle.otlp_codec.proofs.Returning.{Returns, each_returned, returned_fits, returned_back, in_row, id_length}
 
 -- how long fields are
@@ -64,10 +66,6 @@ fixed64_row_short n x low =
 fixed32_row_short : (n x : ℕ) → nat_lt n 2048 ≡ true → length (canon_row n (fixed32_row x)) ≤ 6
 fixed32_row_short n x low =
     elim (cases_eq x 0) [ inl none ↦ rw (eq-eqb x 0 none) (omega arith) | inr some ↦ rw (ne_eqb x 0 some) (fixed32_short n x low) ]
-
-pub unsigned_small : (z : ℤ) → FitsSigned w64 z → cast_unsigned w64 z < 2 ^ 64
-unsigned_small (pos n) h = omega (arith, h.sfits)
-unsigned_small (negsuc n) h = omega (arith, h.sfits)
 
 -- numbers
 pub uint32_held : {P : Type 0} (m : Message) (n x : ℕ) → kind_of m n ≡ kinds.Varint → nat_lt n 2048 ≡ true → x < 2 ^ 32 → Held P m level_limit n uint32_in 0 x (varint_row x) 0 12
@@ -149,11 +147,11 @@ pub many_held : {A P : Type 0} (Q : A → Type 0) (m : Message) (n : ℕ) (item 
     → Held P m level_limit n (many_in read) [] xs (many_row (map write xs)) (total each weigh xs) 0
 many_held Q m n item read write each weigh e xs is unmarked low light below laws profile = record {
   back = λ p short.
-      let returns = all_map (λ x. Law (Q x) item level_limit read write x (weigh x) e × Q x) (Returns item level_limit read write) (λ x h. record { at = h.0.back h.1 }) xs
+      let returns = every_weaker (λ x. Law (Q x) item level_limit read write x (weigh x) e × Q x) (Returns item level_limit read write) (λ x h. record { at = h.0.back h.1 }) xs
       (all_both (λ x. Law (Q x) item level_limit read write x (weigh x) e) Q xs laws (profile p)) in
       let returned = each_returned item level_limit read write n xs returns short in
       (returned_fits m level_limit n item level_limit read write xs unmarked (λ part fine. rw is fine) returned, returned_back item level_limit read write xs returned);
   bound = λ few.
-      let bounds = all_map (λ x. Law (Q x) item level_limit read write x (weigh x) e) (IsShortFor write weigh e) (λ x h. record { at = h.bound }) xs laws in
+      let bounds = every_weaker (λ x. Law (Q x) item level_limit read write x (weigh x) e) (IsShortFor write weigh e) (λ x h. record { at = h.bound }) xs laws in
       omega (arith, many_short write each weigh n e xs low light below bounds few);
 }

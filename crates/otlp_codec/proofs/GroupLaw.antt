@@ -2,6 +2,8 @@
 use Rattle.std.proofs.Common.{◌≡◌, ℕ, List, [], ◌∷◌, refl, ◌∙◌, arith}
 use Rattle.std.specs.Prelude.{fold}
 use Rattle.std.specs.List.{All, AllByRecursion}
+use Rattle.std.proofs.lemmas.List.Elements.{recursion_from_All}
+use Rattle.lists.proofs.Every.{every_weaker}
 use Rattle.otlp_wire.specs.Wire as wire
 use Rattle.otlp_wire.specs.Wire.{FieldValue}
 use Rattle.otlp_messages.specs.declared.messages.Of.{Of}
@@ -22,7 +24,6 @@ use Rattle.otlp_codec.specs.Groups.{resource_in, scope_in, scope_group_in, resou
 use Rattle.otlp_codec.specs.Steps.{no_resource, no_scope, resource_part_in, scope_part_in, scope_group_step, resource_group_step}
 use Rattle.otlp_codec.specs.Canonical.{resource_rows, scope_rows, canon_scope_group, canon_resource_group, canon_groups}
 use Rattle.otlp_codec.specs.lemmas.Passed.{resource_passes, scope_passes, scope_group_passes, resource_group_passes, request_passes, no_resource_is, no_scope_is}
-use Rattle.otlp_codec.proofs.Lists.{all_from, all_map}
 use Rattle.otlp_codec.proofs.Chain.{Held, Law, under, last, also, law_of}
 use Rattle.otlp_codec.proofs.FieldLaw.{uint32_held, text_held, embedded_held, many_held}
 use Rattle.otlp_codec.proofs.Attributes.{pairs_held}
@@ -86,7 +87,7 @@ scope_group_law Q of read write weigh x real items =
     (also (λ a r. record r { scope = a })
     (part_held scope_part_in (scope_in []) (canon (scope_rows x.scope)) scope_same
     (embedded_held m 1 messages.InstrumentationScope (scope_in []) (λ s. canon (scope_rows s)) refl refl (under (λ p. p.scope) (scope_law x.scope real)) no_scope_is refl)) refl (λ a v. refl)
-    (also (λ a r. record r { items = a }) (many_held Q m 2 (item_of of) read write 32 weigh 236 x.items refl refl refl refl refl items (λ p. all_from Q x.items p.items.at)) refl (λ a v. refl)
+    (also (λ a r. record r { items = a }) (many_held Q m 2 (item_of of) read write 32 weigh 236 x.items refl refl refl refl refl items (λ p. recursion_from_All Q x.items p.items.at)) refl (λ a v. refl)
     (also (λ a r. record r { scope = record r.scope { schema_url = a } }) (text_held m 3 x.scope.schema_url refl refl real.schema_url) refl (scope_url read x) last)))
     (scope_group_passes read) refl refl (omega arith) (omega arith)
 
@@ -101,7 +102,7 @@ resource_group_law Q of read write weigh x real scopes =
     (embedded_held m 1 messages.Resource (resource_in []) (λ r. canon (resource_rows r)) refl refl (under (λ p. p.resource) (resource_law x.resource real)) no_resource_is refl)) refl (λ a v. refl)
     (also (λ a r. record r { scopes = a })
     (many_held (IsProfileScopeGroup Q) m 2 (messages.ScopeGroup of) (scope_group_in read) (canon_scope_group write) 32 (weight_of_scope_group weigh) 236 x.scopes refl refl refl refl refl scopes
-    (λ p. all_from (IsProfileScopeGroup Q) x.scopes p.scopes.at)) refl (λ a v. refl)
+    (λ p. recursion_from_All (IsProfileScopeGroup Q) x.scopes p.scopes.at)) refl (λ a v. refl)
     (also (λ a r. record r { resource = record r.resource { schema_url = a } }) (text_held m 3 x.resource.schema_url refl refl real.schema_url) refl (resource_url read x) last)))
     (resource_group_passes read) refl refl (omega arith) (omega arith)
 
@@ -114,17 +115,17 @@ request_law {I = I} Real Q of read write weigh item x real =
     law_of (groups_in read) (canon_groups write)
     (also (λ a r. a)
     (many_held (IsProfileResourceGroup Q) m 1 (messages.ResourceGroup of) (resource_group_in read) (canon_resource_group write) 32 (weight_of_resource_group weigh) 236 x refl refl refl refl refl
-    (all_map (IsRealResourceGroup Real)
+    (every_weaker (IsRealResourceGroup Real)
     (λ g. Law (IsProfileResourceGroup Q g) (messages.ResourceGroup of) level_limit (resource_group_in read) (canon_resource_group write) g (weight_of_resource_group weigh g) 236)
-    group x (all_from (IsRealResourceGroup Real) x real)) (λ p. all_from (IsProfileResourceGroup Q) x p)) refl (λ a v. refl) last)
+    group x (recursion_from_All (IsRealResourceGroup Real) x real)) (λ p. recursion_from_All (IsProfileResourceGroup Q) x p)) refl (λ a v. refl) last)
     (request_passes read) refl refl (omega arith) (omega arith)
   where
     scope_group : (s : ScopeGroup I) → IsRealScopeGroup Real s
         → Law (IsProfileScopeGroup Q s) (messages.ScopeGroup of) level_limit (scope_group_in read) (canon_scope_group write) s (weight_of_scope_group weigh s) 236
-    scope_group s h = scope_group_law Q of read write weigh s h.scope (all_map Real (λ i. Law (Q i) (item_of of) level_limit read write i (weigh i) 236) item s.items (all_from Real s.items h.items.at))
+    scope_group s h = scope_group_law Q of read write weigh s h.scope (every_weaker Real (λ i. Law (Q i) (item_of of) level_limit read write i (weigh i) 236) item s.items (recursion_from_All Real s.items h.items.at))
 
     group : (g : ResourceGroup I) → IsRealResourceGroup Real g
         → Law (IsProfileResourceGroup Q g) (messages.ResourceGroup of) level_limit (resource_group_in read) (canon_resource_group write) g (weight_of_resource_group weigh g) 236
     group g h = resource_group_law Q of read write weigh g h.resource
-        (all_map (IsRealScopeGroup Real) (λ s. Law (IsProfileScopeGroup Q s) (messages.ScopeGroup of) level_limit (scope_group_in read) (canon_scope_group write) s (weight_of_scope_group weigh s) 236)
-        scope_group g.scopes (all_from (IsRealScopeGroup Real) g.scopes h.scopes.at))
+        (every_weaker (IsRealScopeGroup Real) (λ s. Law (IsProfileScopeGroup Q s) (messages.ScopeGroup of) level_limit (scope_group_in read) (canon_scope_group write) s (weight_of_scope_group weigh s) 236)
+        scope_group g.scopes (recursion_from_All (IsRealScopeGroup Real) g.scopes h.scopes.at))

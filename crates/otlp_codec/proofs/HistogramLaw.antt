@@ -1,6 +1,8 @@
 -- The points of histograms and summaries: what is written reads back, and is short.
 use Rattle.std.proofs.Common.{◌<◌, ◌^◌, List, [], ◌∷◌, refl, arith}
 use Rattle.std.specs.List.{AllByRecursion}
+use Rattle.std.proofs.lemmas.List.Elements.{recursion_from_All}
+use Rattle.lists.proofs.Every.{every_weaker}
 use Rattle.otlp_messages.specs.declared.messages.Message.TheVariants as messages
 use Rattle.otlp_messages.specs.Limits.{level_limit}
 use Rattle.otlp_model.specs.declared.histograms.HistPoint.{HistPoint}
@@ -12,7 +14,6 @@ use Rattle.otlp_model.specs.Profile.{IsProfileExemplar, IsProfileHistPoint, IsPr
 use Rattle.otlp_codec.specs.Points.{exemplar_in, hist_point_in, quantile_in, sum_point_in}
 use Rattle.otlp_codec.specs.MetricSpelling.{canon_exemplar, canon_hist_point, canon_quantile, canon_sum_point}
 use Rattle.otlp_codec.specs.lemmas.MetricsPassed.{hist_point_passes, quantile_passes, sum_point_passes}
-use Rattle.otlp_codec.proofs.Lists.{all_from, all_map}
 use Rattle.otlp_codec.proofs.Chain.{Law, also, last, law_of}
 use Rattle.otlp_codec.proofs.FieldLaw.{uint32_held, fixed64_held, many_held}
 use Rattle.otlp_codec.proofs.Attributes.{pairs_held}
@@ -28,10 +29,10 @@ hist_point_law x real =
     (also (λ a r. record r { time = a }) (fixed64_held m 3 x.time refl refl real.time) refl (λ a v. refl)
     (also (λ a r. record r { count = a }) (fixed64_held m 4 x.count refl refl real.count) refl (λ a v. refl)
     (also (λ a r. record r { sum = a }) (optional_held m 5 x.sum refl refl real.sum) refl (λ a v. refl)
-    (also (λ a r. record r { buckets = a }) (packed_held m 6 x.buckets refl refl (all_from (λ n. n < 2 ^ 64) x.buckets real.buckets.at)) refl (λ a v. refl)
-    (also (λ a r. record r { bounds = a }) (packed_held m 7 x.bounds refl refl (all_from (λ n. n < 2 ^ 64) x.bounds real.bounds.at)) refl (λ a v. refl)
+    (also (λ a r. record r { buckets = a }) (packed_held m 6 x.buckets refl refl (recursion_from_All (λ n. n < 2 ^ 64) x.buckets real.buckets.at)) refl (λ a v. refl)
+    (also (λ a r. record r { bounds = a }) (packed_held m 7 x.bounds refl refl (recursion_from_All (λ n. n < 2 ^ 64) x.bounds real.bounds.at)) refl (λ a v. refl)
     (also (λ a r. record r { exemplars = a }) (many_held IsProfileExemplar m 8 messages.Exemplar exemplar_in canon_exemplar 32 weight_of_exemplar 236 x.exemplars refl refl refl refl refl
-    (all_map _ _ exemplar_law x.exemplars (all_from IsRealExemplar x.exemplars real.exemplars.at)) (λ p. all_from _ x.exemplars p.exemplars.at)) refl (λ a v. refl)
+    (every_weaker _ _ exemplar_law x.exemplars (recursion_from_All IsRealExemplar x.exemplars real.exemplars.at)) (λ p. recursion_from_All _ x.exemplars p.exemplars.at)) refl (λ a v. refl)
     (also (λ a r. record r { pairs = a }) (pairs_held m 9 x.pairs refl refl refl real.pairs (λ p. p.pairs.at)) refl (λ a v. refl)
     (also (λ a r. record r { flags = a }) (uint32_held m 10 x.flags refl refl real.flags) refl (λ a v. refl)
     (also (λ a r. record r { min = a }) (optional_held m 11 x.min refl refl real.min) refl (λ a v. refl)
@@ -62,7 +63,7 @@ sum_point_law x real =
     (also (λ a r. record r { count = a }) (fixed64_held m 4 x.count refl refl real.count) refl (λ a v. refl)
     (also (λ a r. record r { sum = a }) (fixed64_held m 5 x.sum refl refl real.sum) refl (λ a v. refl)
     (also (λ a r. record r { quantiles = a }) (many_held (λ q. Unit {0}) m 6 messages.ValueAtQuantile quantile_in canon_quantile 16 weight_of_quantile 20 x.quantiles refl refl refl refl refl
-    (all_map _ _ quantile_law x.quantiles (all_from IsRealQuantile x.quantiles real.quantiles.at)) (λ p. all_any x.quantiles)) refl (λ a v. refl)
+    (every_weaker _ _ quantile_law x.quantiles (recursion_from_All IsRealQuantile x.quantiles real.quantiles.at)) (λ p. all_any x.quantiles)) refl (λ a v. refl)
     (also (λ a r. record r { pairs = a }) (pairs_held m 7 x.pairs refl refl refl real.pairs (λ p. p.pairs.at)) refl (λ a v. refl)
     (also (λ a r. record r { flags = a }) (uint32_held m 8 x.flags refl refl real.flags) refl (λ a v. refl) last)))))))
     sum_point_passes refl refl (omega arith) (omega arith)

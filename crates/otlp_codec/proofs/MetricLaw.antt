@@ -4,7 +4,7 @@ use Rattle.otlp_wire.specs.Wire.{Entry}
 use Rattle.otlp_messages.specs.declared.messages.Message.{Message}
 use Rattle.otlp_messages.specs.declared.messages.Message.TheVariants as messages
 use Rattle.otlp_messages.specs.Limits.{level_limit}
-use Rattle.otlp_messages.specs.Canon.{Filled, laid_out}
+use Rattle.otlp_messages.specs.Canon.{Filled, is_laid_out}
 use Rattle.otlp_model.specs.declared.metrics.Metric.{Metric}
 use Rattle.otlp_model.specs.declared.metrics.Shape.{Shape}
 use Rattle.otlp_model.specs.declared.metrics.Shape.TheVariants as shapes
@@ -68,8 +68,8 @@ shape_held old (shapes.Summary points) real profile =
     (under profile (summary_law points real)) (λ back. ap (λ ps. shapes.Summary ps) back)) refl (λ a v. refl) last))))
     (omega arith) (omega arith)
 
-metric_laid : (x : Metric) → laid_out messages.Metric (metric_rows x) ≡ true
-metric_laid x = elim x.shape as (λ s. laid_out messages.Metric (metric_rows (record x { shape = s })) ≡ true) [
+metric_laid : (x : Metric) → is_laid_out messages.Metric (metric_rows x) ≡ true
+metric_laid x = elim x.shape as (λ s. is_laid_out messages.Metric (metric_rows (record x { shape = s })) ≡ true) [
   | shapes.Empty ↦ refl
   | shapes.Gauge points ↦ refl
   | shapes.Sum points temporality monotonic ↦ refl

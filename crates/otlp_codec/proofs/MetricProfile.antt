@@ -2,6 +2,7 @@
 use Rattle.std.proofs.Common.{◌≡◌, ℕ, List, true, false, refl, subst}
 use Rattle.std.specs.Prelude.{◌==◌, if◌then◌else◌, Bool}
 use Rattle.std.proofs.lemmas.Bool.{eqb-true}
+use Rattle.lists.proofs.Folds.{fold_keeps_where}
 use Rattle.otlp_wire.specs.Wire as wire
 use Rattle.otlp_wire.specs.Wire.{FieldValue, Entry}
 use Rattle.otlp_wire.specs.Fields.{fields_of}
@@ -18,7 +19,7 @@ use Rattle.otlp_model.specs.Profile.{IsProfileExemplar, IsProfilePoint, IsProfil
 use Rattle.otlp_messages.specs.Limits.{level_limit}
 use Rattle.otlp_codec.specs.Points.{exemplar_in, point_in, hist_point_in, sum_point_in}
 use Rattle.otlp_codec.specs.Metrics.{gauge_in, sum_in, histogram_in, summary_in, gauge_shape_in, sum_shape_in, histogram_shape_in, summary_shape_in, shape_step, metric_in}
-use Rattle.otlp_codec.proofs.ProfileLaw.{kept_fine, each_said, id_said, pairs_profile}
+use Rattle.otlp_codec.proofs.ProfileLaw.{each_said, id_said, pairs_profile}
 
 exemplar_profile : (bytes : List ℕ) → IsFine messages.Exemplar level_limit bytes → IsProfileExemplar (exemplar_in bytes)
 unfolding exemplar_in
@@ -108,6 +109,6 @@ shape_kept old f p fine =
 pub metric_profile : (bytes : List ℕ) → IsFine messages.Metric level_limit bytes → IsProfileMetric (metric_in bytes)
 unfolding metric_in
 metric_profile bytes fine = record {
-  shape = kept_fine IsProfileShape (λ f. FineValue (kind_of messages.Metric f.number) level_limit f.value) shape_step shape_kept shapes.Empty (fields_of bytes) tt
+  shape = fold_keeps_where IsProfileShape (λ f. FineValue (kind_of messages.Metric f.number) level_limit f.value) shape_step shape_kept shapes.Empty (fields_of bytes) tt
       (fine_fields messages.Metric level_limit bytes fine);
 }

@@ -6,7 +6,9 @@ use Rattle.std.specs.List.{AllByRecursion}
 use Rattle.std.proofs.Math.Facts.{sfits_to_z}
 use Rattle.std.proofs.lemmas.Bool.{eqb-true, lt-ltb}
 use Rattle.std.proofs.lemmas.List.Elements.{All-from_recursion}
+use Rattle.lists.proofs.Every.{every_append, every_drop}
 use Rattle.byteorder.specs.Numbers.{little_from-lt}
+use Rattle.lists.proofs.Folds.{fold_keeps_where}
 use Rattle.otlp_wire.specs.Wire as wire
 use Rattle.otlp_wire.specs.Wire.{FieldValue, Entry}
 use Rattle.otlp_wire.specs.Fields.{fields_of}
@@ -15,9 +17,8 @@ use Rattle.otlp_messages.specs.declared.messages.Message.TheVariants as messages
 use Rattle.otlp_messages.specs.declared.messages.FieldKind.{FieldKind}
 use Rattle.otlp_messages.specs.Table.{kind_of}
 use Rattle.otlp_messages.specs.Fine.{FineValue}
-use Rattle.otlp_messages.specs.Rows.{said, at, numbers, optional_in, packed_in}
+use Rattle.otlp_messages.specs.Rows.{said, at, little_numbers, optional_in, packed_in}
 use Rattle.otlp_messages.proofs.EachFine.{fine_fields}
-use Rattle.otlp_messages.proofs.Steps.{AllByRecursion-append}
 use Rattle.otlp_model.specs.declared.metrics.Number.{Number}
 use Rattle.otlp_model.specs.declared.metrics.Number.TheVariants.{Missing}
 use Rattle.otlp_model.specs.declared.metrics.Shape.{Shape}
@@ -29,8 +30,8 @@ use Rattle.otlp_codec.specs.Numbers.{double_in, int_in, number_step, number_said
 use Rattle.otlp_codec.specs.Points.{exemplar_in, point_in, hist_point_in, quantile_in, sum_point_in}
 use Rattle.otlp_codec.specs.Metrics.{gauge_in, sum_in, histogram_in, summary_in, gauge_shape_in, sum_shape_in, histogram_shape_in, summary_shape_in, shape_step, metric_in}
 use Rattle.otlp_codec.proofs.Lists.{all_both}
-use Rattle.otlp_codec.proofs.RealFields.{Octets, RealField, real_fields, byte_at, drop_octets}
-use Rattle.otlp_codec.proofs.RealLaw.{Sound, Keeps, kept, holds, fits_real, fixed64_real, uint32_real, int32_real, text_real, octets_real, each_real, pairs_real}
+use Rattle.otlp_codec.proofs.RealFields.{Octets, RealField, real_fields, byte_at}
+use Rattle.otlp_codec.proofs.RealLaw.{Sound, Keeps, holds, fits_real, fixed64_real, uint32_real, int32_real, text_real, octets_real, each_real, pairs_real}
 
 -- the number of a point
 RealNumber : Number → Type 0
@@ -57,7 +58,7 @@ at_real n read each old f p h = elim (f.number == n) as (λ b. RealNumber (if b 
 number_real : (double int : ℕ) (bytes : List ℕ) → Octets bytes → IsTrue (is_real_number (number_said double int bytes))
 unfolding RealNumber
 number_real double int bytes octets =
-    kept RealNumber (λ f. RealField f.value) (number_step double int)
+    fold_keeps_where RealNumber (λ f. RealField f.value) (number_step double int)
     (λ old f p h. at_real int int_in int_kept (at double double_in old f) f (at_real double double_in double_kept old f p h) h) Missing (fields_of bytes) refl (real_fields bytes octets).each
 
 -- a double that may be missing
@@ -71,18 +72,18 @@ optional_real : (m : Message) (n : ℕ) (bytes : List ℕ) → Sound m level_lim
 optional_real m n bytes h = holds (λ x. IsTrue (is_real_optional x)) m level_limit n (kind_of m n) optional_in None refl refl (keeps_optional (kind_of m n) level_limit) bytes h
 
 -- packed numbers
-numbers_small : (count : ℕ) (bytes : List ℕ) → AllByRecursion (λ byte. byte < 256) bytes → AllByRecursion (λ n. n < 2 ^ 64) (numbers count bytes)
+numbers_small : (count : ℕ) (bytes : List ℕ) → AllByRecursion (λ byte. byte < 256) bytes → AllByRecursion (λ n. n < 2 ^ 64) (little_numbers count bytes)
 numbers_small zero bytes h = tt
 numbers_small (suc count) bytes h =
     let small = little_from-lt 0 8 bytes (byte_at bytes h) in
-    (omega (arith, small), numbers_small count (drop 8 bytes) (drop_octets 8 bytes h))
+    (omega (arith, small), numbers_small count (drop 8 bytes) (every_drop (λ byte. byte < 256) 8 bytes h))
 
 keeps_packed : (k : FieldKind) (l : ℕ) → Keeps (AllByRecursion (λ n. n < 2 ^ 64)) k l packed_in
-keeps_packed k l old (wire.Fixed64 n) p h = AllByRecursion-append (λ n. n < 2 ^ 64) old (n ∷ []) p (h.1, tt)
+keeps_packed k l old (wire.Fixed64 n) p h = every_append (λ n. n < 2 ^ 64) old (n ∷ []) p (h.1, tt)
 keeps_packed k l old (wire.Varint n) p h = p
 keeps_packed k l old (wire.Fixed32 n) p h = p
 keeps_packed k l old (wire.Bytes part) p h =
-    AllByRecursion-append (λ n. n < 2 ^ 64) old (numbers (length part / 8) part) p (numbers_small (length part / 8) part h.1.each)
+    every_append (λ n. n < 2 ^ 64) old (little_numbers (length part / 8) part) p (numbers_small (length part / 8) part h.1.each)
 
 packed_real : (m : Message) (n : ℕ) (bytes : List ℕ) → Sound m level_limit bytes → Each (λ n. n < 2 ^ 64) (said n packed_in [] bytes)
 packed_real m n bytes h = record {
@@ -216,7 +217,7 @@ metric_real bytes h = record {
   name = text_real messages.Metric level_limit 1 bytes refl h;
   description = text_real messages.Metric level_limit 2 bytes refl h;
   unit = text_real messages.Metric level_limit 3 bytes refl h;
-  shape = kept IsRealShape SoundField shape_step shape_kept shapes.Empty (fields_of bytes) tt
+  shape = fold_keeps_where IsRealShape SoundField shape_step shape_kept shapes.Empty (fields_of bytes) tt
       (all_both (λ f. FineValue (kind_of messages.Metric f.number) level_limit f.value) (λ f. RealField f.value) (fields_of bytes)
       (fine_fields messages.Metric level_limit bytes h.fine) (real_fields bytes h.real).each);
 }

@@ -22,7 +22,7 @@ use Rattle.otlp_model.specs.Real.{is_real_number, is_real_optional}
 use Rattle.otlp_codec.specs.Numbers.{double_in, int_in, double_row, int_row}
 use Rattle.otlp_codec.proofs.Chain.{Held, Law}
 use Rattle.otlp_codec.proofs.FieldLaw.{fixed64_short, part_short}
-use Rattle.otlp_codec.proofs.ValueLaw.{fits_of}
+use Rattle.otlp_model.proofs.RealParts.{signed_of_real}
 
 -- a field that is not there
 pub none_held : {A P : Type 0} {m : Message} {n : ℕ} {read : A → FieldValue → A} {none : A} → Held P m level_limit n read none none [] 0 0
@@ -54,7 +54,7 @@ pub int_held : {P : Type 0} (m : Message) (n : ℕ) (x : Number) → kind_of m n
     → Held P m level_limit n int_in (double_of x) x (int_row x) 0 10
 int_held m n Missing is low real = record { back = λ p short. (none_fits m level_limit n, refl); bound = λ few. omega arith }
 int_held m n (Int z) is low real = record {
-  back = λ p short. (sfixed64_fits m level_limit n z is (fits_of z real), ap (λ y. Int y) (to_z-of_z w64 z (fits_of z real)));
+  back = λ p short. (sfixed64_fits m level_limit n z is (signed_of_real z real), ap (λ y. Int y) (to_z-of_z w64 z (signed_of_real z real)));
   bound = λ few. omega (arith, fixed64_short n (cast_unsigned w64 z) low);
 }
 int_held m n (Double bits) is low real = record { back = λ p short. (none_fits m level_limit n, refl); bound = λ few. omega arith }

@@ -8,8 +8,8 @@ use Rattle.otlp_messages.specs.declared.messages.Defect.{Defect}
 use Rattle.otlp_messages.specs.Limits.{mark_limit}
 use Rattle.otlp_messages.specs.Table.{kind_of, mark_of}
 use Rattle.otlp_messages.specs.Defects.{IsFine}
-use Rattle.otlp_messages.specs.Fine.{FineValue, Checked}
-use Rattle.otlp_messages.proofs.Steps.{checked_none, checked_more, fine_from, first_occurs, value_stands}
+use Rattle.otlp_messages.specs.Fine.{FineValue}
+use Rattle.otlp_messages.proofs.Steps.{checked_none, checked_more, fine_from, first_occurs, value_stands, Checked}
 use Rattle.otlp_codec.specs.declared.refusal.ReadRefusal.{ReadRefusal}
 use Rattle.otlp_codec.specs.declared.refusal.ReadRefusal.TheVariants.{BadMessage, Repeated, BadUtf8, BadLength, Unsupported, TooDeep, Memory}
 use Rattle.otlp_codec.specs.Refusals.{HoldsNamed}

@@ -1,11 +1,12 @@
 -- What is read is within the profile: ids have their lengths, and values are at most 32 deep.
 use Rattle.std.proofs.Common.{◌≡◌, ℕ, zero, suc, ◌+◌, ◌≤◌, List, [], ◌∷◌, map, length, true, false, refl, subst, arith, inl, inr, ◌⊎◌}
-use Rattle.std.specs.Prelude.{fold, not, ◌==◌, if◌then◌else◌, IsTrue, ⊤}
+use Rattle.std.specs.Prelude.{not, ◌==◌, if◌then◌else◌, IsTrue, ⊤}
 use Rattle.std.specs.Int.{w64, cast_signed}
 use Rattle.std.specs.List.{All, AllByRecursion}
 use Rattle.std.proofs.lemmas.Bool.{eq-eqb}
 use Rattle.std.proofs.Math.Bool.{or-true}
-use Rattle.std.proofs.lemmas.List.Elements.{All-from_recursion, All-head, All-tail, All-push}
+use Rattle.std.proofs.lemmas.List.Elements.{All-head, All-tail, All-push, All-nil}
+use Rattle.lists.proofs.Folds.{fold_keeps, fold_keeps_where}
 use Rattle.otlp_wire.specs.Wire as wire
 use Rattle.otlp_wire.specs.Wire.{FieldValue, Entry}
 use Rattle.otlp_wire.specs.Fields.{fields_of}
@@ -28,23 +29,10 @@ use Rattle.otlp_model.specs.Depth.{depth_of, greatest}
 use Rattle.otlp_model.specs.PairDepth.{depth_of_pair}
 use Rattle.otlp_model.specs.Profile.{is_id_of, IsProfilePair, IsProfileResource, IsProfileScope, IsProfileLogRecord, IsProfileEvent, IsProfileLink, IsProfileSpan, IsProfileScopeGroup, IsProfileResourceGroup}
 use Rattle.otlp_model.proofs.Levels.{depth_of_empty, depth_of_str, depth_of_bool, depth_of_int, depth_of_double, depth_of_bytes, depth_of_array, depth_of_map}
-use Rattle.otlp_codec.specs.Values.{string_in, bool_value_in, int_value_in, double_value_in, array_value_in, kvlist_value_in, bytes_value_in, any_in, any_of, pair_of, members_of, value_at, pair_at}
+use Rattle.otlp_codec.specs.Values.{string_in, bool_value_in, int_value_in, double_value_in, array_value_in, kvlist_value_in, bytes_value_in, any_in, any_of, pair_of, members_of, any_value_at, key_value_at}
 use Rattle.otlp_codec.specs.Groups.{value_in, pair_in, resource_in, scope_in, scope_group_in, resource_group_in, groups_in}
 use Rattle.otlp_codec.specs.Logs.{log_record_in}
 use Rattle.otlp_codec.specs.Spans.{event_in, link_in, span_in}
-
-all_none : {A : Type 0} (P : A → Type 0) → All P []
-all_none P = All-from_recursion P [] tt
-
--- what each step keeps
-kept : {A V : Type 0} (P : A → Type 0) (step : A → V → A) → ((old : A) (v : V) → P old → P (step old v)) → (old : A) (vs : List V) → P old → P (fold step old vs)
-kept P step each old [] p = p
-kept P step each old (v ∷ vs) p = kept P step each (step old v) vs (each old v p)
-
--- what each step keeps whose field is fine
-pub kept_fine : {A V : Type 0} (P : A → Type 0) (Q : V → Type 0) (step : A → V → A) → ((old : A) (v : V) → P old → Q v → P (step old v)) → (old : A) (vs : List V) → P old → AllByRecursion Q vs → P (fold step old vs)
-kept_fine P Q step each old [] p q = p
-kept_fine P Q step each old (v ∷ vs) p q = kept_fine P Q step each (step old v) vs (each old v p q.0) q.1
 
 many_kept : {A : Type 0} (P : A → Type 0) (Q : FieldValue → Type 0) (read : List ℕ → A) → ((part : List ℕ) → Q (wire.Bytes part) → P (read part))
     → (old : List A) (v : FieldValue) → All P old → Q v → All P (many_in read old v)
@@ -61,14 +49,14 @@ embedded_kept P read each old (wire.Fixed32 n) p = p
 
 -- the messages of a repeated field, whatever they are
 all_said : {A : Type 0} (P : A → Type 0) (read : List ℕ → A) → ((part : List ℕ) → P (read part)) → (n : ℕ) (bytes : List ℕ) → All P (said n (many_in read) [] bytes)
-all_said P read each n bytes = kept (All P) (many_in read) (λ old v p. many_kept P (λ v. ⊤) read (λ part _. each part) old v p tt) [] (only n (fields_of bytes)) (all_none P)
+all_said P read each n bytes = fold_keeps (All P) (many_in read) (λ old v p. many_kept P (λ v. ⊤) read (λ part _. each part) old v p tt) [] (only n (fields_of bytes)) (All-nil P)
 
 -- the messages of a repeated field, where no defect stands
 pub each_said : {A : Type 0} (P : A → Type 0) (m : Message) (n : ℕ) (read : List ℕ → A) → ((part : List ℕ) → FinePart (kind_of m n) level_limit part → P (read part))
     → (bytes : List ℕ) → IsFine m level_limit bytes → Each P (said n (many_in read) [] bytes)
 each_said P m n read each bytes fine = record {
-  at = kept_fine (All P) (FineValue (kind_of m n) level_limit) (many_in read) (many_kept P (FineValue (kind_of m n) level_limit) read each) []
-      (only n (fields_of bytes)) (all_none P) (fine_only m level_limit n bytes fine);
+  at = fold_keeps_where (All P) (FineValue (kind_of m n) level_limit) (many_in read) (many_kept P (FineValue (kind_of m n) level_limit) read each) []
+      (only n (fields_of bytes)) (All-nil P) (fine_only m level_limit n bytes fine);
 }
 
 -- ids
@@ -91,7 +79,7 @@ pub id_said : (m : Message) (n size : ℕ) (bytes : List ℕ) → kind_of m n �
 unfolding HasLength
 id_said m n size bytes is fine =
     id_is size (said n bytes_in [] bytes)
-    (kept_fine (HasLength size) (FineValue (kinds.Id size) level_limit) bytes_in (id_kept size) [] (only n (fields_of bytes)) (inl refl)
+    (fold_keeps_where (HasLength size) (FineValue (kinds.Id size) level_limit) bytes_in (id_kept size) [] (only n (fields_of bytes)) (inl refl)
     (subst (λ (k : FieldKind). AllByRecursion (FineValue k level_limit) (only n (fields_of bytes))) is (fine_only m level_limit n bytes fine)))
 
 -- depths
@@ -171,24 +159,24 @@ no_depth n = omega (arith, depth_of_empty)
 
 any_deep : (n : ℕ) (array : List ℕ → List Value) (pairs : List ℕ → List Pair) → ((part : List ℕ) → All (λ v. depth_of v ≤ n) (array part)) → ((part : List ℕ) → All (λ p. depth_of_pair p ≤ n) (pairs part))
     → (bytes : List ℕ) → Shallow n (any_of array pairs bytes)
-any_deep n array pairs members few bytes = kept (Shallow n) (any_in array pairs) (any_kept n array pairs members few) values.Empty (fields_of bytes) (no_depth n)
+any_deep n array pairs members few bytes = fold_keeps (Shallow n) (any_in array pairs) (any_kept n array pairs members few) values.Empty (fields_of bytes) (no_depth n)
 
 -- the value of a field
 value_deep : (n : ℕ) (read : List ℕ → Value) → ((part : List ℕ) → Shallow n (read part)) → (k : ℕ) (bytes : List ℕ) → Shallow n (said k (embedded_in read) values.Empty bytes)
-value_deep n read each k bytes = kept (Shallow n) (embedded_in read) (embedded_kept (Shallow n) read each) values.Empty (only k (fields_of bytes)) (no_depth n)
+value_deep n read each k bytes = fold_keeps (Shallow n) (embedded_in read) (embedded_kept (Shallow n) read each) values.Empty (only k (fields_of bytes)) (no_depth n)
 
 -- a value below whose members this number of levels of members may stand
-pub deep_at : (l : ℕ) (bytes : List ℕ) → depth_of (value_at l bytes) ≤ l + 1
-unfolding value_at Shallow
-deep_at zero bytes = any_deep 0 (λ part. []) (λ part. []) (λ part. all_none (λ v. depth_of v ≤ 0)) (λ part. all_none (λ p. depth_of_pair p ≤ 0)) bytes
+pub deep_at : (l : ℕ) (bytes : List ℕ) → depth_of (any_value_at l bytes) ≤ l + 1
+unfolding any_value_at Shallow
+deep_at zero bytes = any_deep 0 (λ part. []) (λ part. []) (λ part. All-nil (λ v. depth_of v ≤ 0)) (λ part. All-nil (λ p. depth_of_pair p ≤ 0)) bytes
 deep_at (suc l) bytes =
-    any_deep (suc l) (members_of (value_at l)) (members_of (pair_of (value_at l)))
-    (all_said (λ v. depth_of v ≤ suc l) (value_at l) (λ part. omega (arith, deep_at l part)) 1)
-    (all_said (λ p. depth_of_pair p ≤ suc l) (pair_of (value_at l)) (λ part. omega (arith, value_deep l (value_at l) (deep_at l) 2 part)) 1)
+    any_deep (suc l) (members_of (any_value_at l)) (members_of (pair_of (any_value_at l)))
+    (all_said (λ v. depth_of v ≤ suc l) (any_value_at l) (λ part. omega (arith, deep_at l part)) 1)
+    (all_said (λ p. depth_of_pair p ≤ suc l) (pair_of (any_value_at l)) (λ part. omega (arith, value_deep l (any_value_at l) (deep_at l) 2 part)) 1)
     bytes
 
 pair_profile : (bytes : List ℕ) → IsProfilePair (pair_in bytes)
-unfolding pair_at Shallow
+unfolding key_value_at Shallow
 pair_profile bytes = omega (arith, value_deep level_limit value_in (deep_at level_limit) 2 bytes)
 
 pub pairs_profile : (n : ℕ) (bytes : List ℕ) → Each IsProfilePair (said n (many_in pair_in) [] bytes)

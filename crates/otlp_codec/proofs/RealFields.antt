@@ -1,8 +1,8 @@
 -- The fields of bytes hold what a program can hold: numbers of 64 or 32 bits, and bytes.
-use Rattle.std.proofs.Common.{◌≡◌, ℕ, zero, suc, ◌+◌, ◌^◌, ◌<◌, ◌≤◌, List, [], ◌∷◌, ◌++◌, length, drop, true, ap, subst, arith, length-append, inl, inr}
+use Rattle.std.proofs.Common.{◌≡◌, ℕ, zero, suc, ◌+◌, ◌^◌, ◌<◌, ◌≤◌, List, [], ◌∷◌, ◌++◌, length, true, ap, subst, arith, length-append, inl, inr}
 use Rattle.std.specs.Prelude.{slice_index, Option}
 use Rattle.std.specs.List.{AllByRecursion}
-use Rattle.std.proofs.lemmas.List.Elements.{All-from_recursion}
+use Rattle.std.proofs.lemmas.List.Elements.{All-from_recursion, recursion_from_All}
 use Rattle.std.proofs.lemmas.Bool.{cases_eq, ne_eqb, eq-eqb}
 use Rattle.byteorder.specs.Numbers.{little_from-lt}
 use Rattle.otlp_wire.specs.declared.parts.WireError.{WireError}
@@ -12,10 +12,10 @@ use Rattle.otlp_wire.specs.Reading.{Reads}
 use Rattle.otlp_wire.specs.Fields.{fields_of, end_of}
 use Rattle.otlp_wire.proofs.FieldsOf.{fields_of-reads}
 use Rattle.otlp_wire.proofs.Sevens.{varint_below}
+use Rattle.otlp_wire.proofs.Values.{field_long}
 use Rattle.otlp_messages.specs.Rows.{only}
 use Rattle.lists.specs.Bytes.{is_real_octets}
 use Rattle.lists.proofs.RealBytes.{real_octets, bytes_of_real, length_of_real_octets}
-use Rattle.otlp_codec.proofs.Lists.{all_from}
 
 -- bytes that a program can hold
 pub record Octets (bytes : List ℕ) : Type 0 where
@@ -23,7 +23,7 @@ pub record Octets (bytes : List ℕ) : Type 0 where
   pub few : length bytes < 2 ^ 64
 
 pub octets : (bytes : List ℕ) → is_real_octets bytes ≡ true → Octets bytes
-octets bytes real = record { each = all_from (λ byte. byte < 256) bytes (bytes_of_real bytes real); few = length_of_real_octets bytes real }
+octets bytes real = record { each = recursion_from_All (λ byte. byte < 256) bytes (bytes_of_real bytes real); few = length_of_real_octets bytes real }
 
 pub are_octets : (bytes : List ℕ) → Octets bytes → is_real_octets bytes ≡ true
 are_octets bytes h = real_octets bytes (All-from_recursion (λ byte. byte < 256) bytes h.each) h.few
@@ -54,11 +54,6 @@ byte_at [] h k = omega arith
 byte_at (byte ∷ bytes) h zero = h.0
 byte_at (byte ∷ bytes) h (suc k) = byte_at bytes h.1 k
 
-pub drop_octets : (n : ℕ) (bytes : List ℕ) → AllByRecursion (λ byte. byte < 256) bytes → AllByRecursion (λ byte. byte < 256) (drop n bytes)
-drop_octets zero bytes h = h
-drop_octets (suc n) [] h = tt
-drop_octets (suc n) (byte ∷ bytes) h = drop_octets n bytes h.1
-
 real_value : (bytes : List ℕ) (v : FieldValue) → IsValue bytes v → Octets bytes → RealField v
 real_value bytes (wire.Varint n) is h = varint_below bytes n is
 real_value bytes (wire.Fixed64 n) is h = (let small = little_from-lt 0 8 bytes (byte_at bytes h.each) in omega (arith, is.1, small))
@@ -73,9 +68,6 @@ pub record RealEntries (bytes : List ℕ) (fs : List Entry) : Type 0 where
   pub each : AllByRecursion (λ f. RealField f.value) fs
   pub few : length fs ≤ length bytes
 
-some_bytes : (front : List ℕ) (f : Entry) → IsField front f → 0 < length front
-some_bytes front f is = omega (arith, is.is_tag.size, ap length is.whole, length-append is.tag is.value)
-
 reads_real : (fs : List Entry) (bytes : List ℕ) (end : Option WireError) → Reads bytes fs end → Octets bytes → RealEntries bytes fs
 reads_real [] bytes end reads h = record { each = tt; few = omega arith }
 reads_real (f ∷ fs) bytes end reads h =
@@ -85,7 +77,7 @@ reads_real (f ∷ fs) bytes end reads h =
     let others = reads_real fs rest end reads.2 parts.1 in
     record {
       each = (real_entry front f reads.1.2 parts.0, others.each);
-      few = omega (arith, others.few, some_bytes front f reads.1.2, ap length reads.1.1, length-append front rest);
+      few = omega (arith, others.few, field_long front f reads.1.2, ap length reads.1.1, length-append front rest);
     }
 
 pub real_fields : (bytes : List ℕ) → Octets bytes → RealEntries bytes (fields_of bytes)

@@ -27,9 +27,10 @@ use Rattle.otlp_model.specs.Each.{Each}
 use Rattle.lists.specs.Bytes.{is_real_text, is_real_octets}
 use Rattle.otlp_model.specs.Real.{fits_i64, is_real_value, is_real_pair, are_real_pairs}
 use Rattle.lists.proofs.RealBytes.{real_text}
+use Rattle.lists.proofs.Folds.{fold_keeps_where}
 use Rattle.otlp_model.proofs.Levels.{is_real_array, is_real_map}
 use Rattle.otlp_messages.specs.Limits.{level_limit}
-use Rattle.otlp_codec.specs.Values.{string_in, bool_value_in, int_value_in, double_value_in, array_value_in, kvlist_value_in, bytes_value_in, any_in, any_of, pair_of, members_of, value_at, pair_at}
+use Rattle.otlp_codec.specs.Values.{string_in, bool_value_in, int_value_in, double_value_in, array_value_in, kvlist_value_in, bytes_value_in, any_in, any_of, pair_of, members_of, any_value_at, key_value_at}
 use Rattle.otlp_codec.specs.Groups.{value_in, pair_in}
 use Rattle.otlp_codec.proofs.Lists.{all_both}
 use Rattle.otlp_codec.proofs.Returning.{nothing_fine}
@@ -40,18 +41,13 @@ pub record Sound (m : Message) (l : ℕ) (bytes : List ℕ) : Type 0 where
   pub fine : IsFine m l bytes
   pub real : Octets bytes
 
--- what each value keeps, where it is fine and real
-pub kept : {A V : Type 0} (P : A → Type 0) (Q : V → Type 0) (step : A → V → A) → ((old : A) (v : V) → P old → Q v → P (step old v)) → (old : A) (vs : List V) → P old → AllByRecursion Q vs → P (fold step old vs)
-kept P Q step each old [] p q = p
-kept P Q step each old (v ∷ vs) p q = kept P Q step each (step old v) vs (each old v p q.0) q.1
-
 abbrev pub Keeps : {A : Type 0} → (A → Type 0) → FieldKind → ℕ → (A → FieldValue → A) → Type 0
 Keeps {A = A} P k l read = (old : A) (v : FieldValue) → P old → FineValue k l v × RealField v → P (read old v)
 
 pub holds : {A : Type 0} (P : A → Type 0) (m : Message) (l n : ℕ) (k : FieldKind) (read : A → FieldValue → A) (none : A) → kind_of m n ≡ k → P none → Keeps P k l read
     → (bytes : List ℕ) → Sound m l bytes → P (said n read none bytes)
 holds P m l n k read none is empty each bytes h =
-    kept P (λ v. FineValue k l v × RealField v) read each none (only n (fields_of bytes)) empty
+    fold_keeps_where P (λ v. FineValue k l v × RealField v) read each none (only n (fields_of bytes)) empty
     (all_both (FineValue k l) RealField (only n (fields_of bytes))
     (subst (λ (j : FieldKind). AllByRecursion (FineValue j l) (only n (fields_of bytes))) is (fine_only m l n bytes h.fine)) (real_only n bytes h.real).each)
 
@@ -261,7 +257,7 @@ member_real l array map arrays maps old f p q =
 any_real : (l : ℕ) (array : List ℕ → List Value) (map : List ℕ → List Pair) → ((part : List ℕ) → Sound messages.ArrayValue l part → RealMembers is_real_value (array part))
     → ((part : List ℕ) → Sound messages.KeyValueList l part → RealMembers is_real_pair (map part)) → (bytes : List ℕ) → Sound messages.AnyValue l bytes → RealValue (any_of array map bytes)
 any_real l array map arrays maps bytes h =
-    kept RealValue (λ f. FineValue (kind_of messages.AnyValue f.number) l f.value × RealField f.value) (any_in array map) (member_real l array map arrays maps) values.Empty (fields_of bytes) real_empty
+    fold_keeps_where RealValue (λ f. FineValue (kind_of messages.AnyValue f.number) l f.value × RealField f.value) (any_in array map) (member_real l array map arrays maps) values.Empty (fields_of bytes) real_empty
     (all_both (λ f. FineValue (kind_of messages.AnyValue f.number) l f.value) (λ f. RealField f.value) (fields_of bytes) (fine_fields messages.AnyValue l bytes h.fine) (real_fields bytes h.real).each)
 
 pair_real : (l : ℕ) (read : List ℕ → Value) → ((part : List ℕ) → Sound messages.AnyValue l part → RealValue (read part)) → (bytes : List ℕ) → Sound messages.KeyValue l bytes → is_real_pair (pair_of read bytes) ≡ true
@@ -276,16 +272,16 @@ members_real real m item l read is each bytes h =
 no_members : {A : Type 0} (real : A → Bool) → RealMembers real []
 no_members real = (All-from_recursion (λ x. real x ≡ true) [] tt, omega arith)
 
-pub value_real : (l : ℕ) (bytes : List ℕ) → Sound messages.AnyValue l bytes → RealValue (value_at l bytes)
-unfolding value_at
+pub value_real : (l : ℕ) (bytes : List ℕ) → Sound messages.AnyValue l bytes → RealValue (any_value_at l bytes)
+unfolding any_value_at
 value_real zero bytes h = any_real 0 (λ part. []) (λ part. []) (λ part _. no_members is_real_value) (λ part _. no_members is_real_pair) bytes h
 value_real (suc l) bytes h =
-    any_real (suc l) (members_of (value_at l)) (members_of (pair_of (value_at l)))
-    (members_real is_real_value messages.ArrayValue messages.AnyValue l (value_at l) refl (value_real l))
-    (members_real is_real_pair messages.KeyValueList messages.KeyValue l (pair_of (value_at l)) refl (pair_real l (value_at l) (value_real l)))
+    any_real (suc l) (members_of (any_value_at l)) (members_of (pair_of (any_value_at l)))
+    (members_real is_real_value messages.ArrayValue messages.AnyValue l (any_value_at l) refl (value_real l))
+    (members_real is_real_pair messages.KeyValueList messages.KeyValue l (pair_of (any_value_at l)) refl (pair_real l (any_value_at l) (value_real l)))
     bytes h
 
 pub pairs_real : (m : Message) (n : ℕ) (bytes : List ℕ) → kind_of m n ≡ kinds.Embedded messages.KeyValue → Sound m level_limit bytes → are_real_pairs (said n (many_in pair_in) [] bytes) ≡ true
-unfolding pair_at
+unfolding key_value_at
 pairs_real m n bytes is h = list_all-from_AllPass is_real_pair (said n (many_in pair_in) [] bytes)
     (each_real (λ p. is_real_pair p ≡ true) m n messages.KeyValue pair_in is (pair_real level_limit value_in (value_real level_limit)) bytes h).at

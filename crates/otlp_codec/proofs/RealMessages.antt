@@ -14,7 +14,7 @@ use Rattle.otlp_codec.specs.declared.spans.SpanStatus.{SpanStatus}
 use Rattle.otlp_messages.specs.Limits.{level_limit}
 use Rattle.otlp_codec.specs.Groups.{value_in, resource_in, scope_in, scope_group_in, resource_group_in, groups_in}
 use Rattle.otlp_codec.specs.Logs.{log_record_in}
-use Rattle.otlp_codec.specs.Spans.{event_in, link_in, no_status, status_in, span_in}
+use Rattle.otlp_codec.specs.Spans.{event_in, link_in, no_status, span_status_in, span_in}
 use Rattle.otlp_codec.proofs.RealLaw.{Sound, RealValue, no_text, fixed64_real, fixed32_real, uint32_real, int32_real, text_real, octets_real, part_sound, embedded_real, each_real, real_empty, value_real, pairs_real}
 
 resource_real : (url bytes : List ℕ) → IsTrue (is_real_text url) → Sound messages.Resource level_limit bytes → IsRealResource (resource_in url bytes)
@@ -73,8 +73,8 @@ record RealStatus (status : SpanStatus) : Type 0 where
   message : IsTrue (is_real_text status.message)
   code : FitsSigned w32 status.code
 
-status_real : (bytes : List ℕ) → Sound messages.Status level_limit bytes → RealStatus (status_in bytes)
-unfolding status_in
+status_real : (bytes : List ℕ) → Sound messages.Status level_limit bytes → RealStatus (span_status_in bytes)
+unfolding span_status_in
 status_real bytes h = record {
   message = text_real messages.Status level_limit 2 bytes refl h;
   code = int32_real messages.Status level_limit 3 bytes h;
@@ -84,7 +84,7 @@ pub span_real : (bytes : List ℕ) → Sound messages.Span level_limit bytes →
 unfolding span_in
 span_real bytes h =
     let m = messages.Span in
-    let status = embedded_real RealStatus m level_limit 15 messages.Status status_in no_status refl (record { message = no_text; code = record { sfits = omega arith } }) status_real bytes h in
+    let status = embedded_real RealStatus m level_limit 15 messages.Status span_status_in no_status refl (record { message = no_text; code = record { sfits = omega arith } }) status_real bytes h in
     record {
       trace_id = octets_real m level_limit 1 bytes h;
       span_id = octets_real m level_limit 2 bytes h;

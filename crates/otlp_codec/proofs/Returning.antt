@@ -7,16 +7,17 @@ use Rattle.otlp_codec.specs.Values.{members_of}
 use Rattle.otlp_codec.specs.Canonical.{members_rows}
 use Rattle.otlp_messages.proofs.Canonical.{rows_read}
 use Rattle.otlp_messages.specs.Canon.{canon}
+use Rattle.otlp_messages.specs.Canon.{row, canon_row, bytes_row, many_row, RowFits}
 use Rattle.std.specs.List.{AllByRecursion}
+use Rattle.lists.proofs.Every.{every_weaker}
 use Rattle.otlp_wire.specs.Varint.{varint}
 use Rattle.otlp_messages.specs.declared.messages.Message.{Message}
 use Rattle.otlp_messages.specs.Table.{kind_of, mark_of}
 use Rattle.otlp_messages.specs.Defects.{IsFine}
 use Rattle.otlp_messages.specs.Fine.{FinePart}
 use Rattle.otlp_messages.specs.Rows.{many_in}
-use Rattle.otlp_messages.specs.Canon.{row, canon_row, bytes_row, many_row, RowFits}
 use Rattle.otlp_messages.proofs.RowKinds.{many_fits, each_back}
-use Rattle.otlp_codec.proofs.Lists.{all_map, all_both, all_under}
+use Rattle.otlp_codec.proofs.Lists.{all_both, all_under}
 
 -- the spelling of x has no defect, and reads as x
 pub record Returns {A : Type 0} (m : Message) (l : ℕ) (read : List ℕ → A) (write : A → List ℕ) (x : A) : Type 0 where
@@ -38,7 +39,7 @@ each_short write n (x ∷ xs) h =
 pub each_returned : {A : Type 0} (m : Message) (l : ℕ) (read : List ℕ → A) (write : A → List ℕ) (n : ℕ) (xs : List A) → AllByRecursion (Returns m l read write) xs
     → length (canon_row n (many_row (map write xs))) < 2 ^ 64 → AllByRecursion (Returned m l read write) xs
 each_returned m l read write n xs all short =
-    all_map (λ x. Returns m l read write x × (length (write x) < 2 ^ 64)) (Returned m l read write) (λ x h. h.0.at h.1) xs
+    every_weaker (λ x. Returns m l read write x × (length (write x) < 2 ^ 64)) (Returned m l read write) (λ x h. h.0.at h.1) xs
     (all_both (Returns m l read write) (λ x. length (write x) < 2 ^ 64) xs all (each_short write n xs short))
 
 pub returned_fits : {A : Type 0} (whole : Message) (levels n : ℕ) (m : Message) (l : ℕ) (read : List ℕ → A) (write : A → List ℕ) (xs : List A)
@@ -47,11 +48,11 @@ pub returned_fits : {A : Type 0} (whole : Message) (levels n : ℕ) (m : Message
 returned_fits whole levels n m l read write xs unmarked fine all =
     many_fits whole levels n (map write xs) unmarked
     (all_under (λ part. length part < 2 ^ 64 → FinePart (kind_of whole n) levels part) write xs
-    (all_map (Returned m l read write) (λ x. length (write x) < 2 ^ 64 → FinePart (kind_of whole n) levels (write x)) (λ x h _. fine (write x) h.0) xs all))
+    (every_weaker (Returned m l read write) (λ x. length (write x) < 2 ^ 64 → FinePart (kind_of whole n) levels (write x)) (λ x h _. fine (write x) h.0) xs all))
 
 pub returned_back : {A : Type 0} (m : Message) (l : ℕ) (read : List ℕ → A) (write : A → List ℕ) (xs : List A) → AllByRecursion (Returned m l read write) xs
     → fold (many_in read) [] (many_row (map write xs)) ≡ xs
-returned_back m l read write xs all = each_back read write xs (all_map (Returned m l read write) (λ x. read (write x) ≡ x) (λ x h. h.1) xs all)
+returned_back m l read write xs all = each_back read write xs (every_weaker (Returned m l read write) (λ x. read (write x) ≡ x) (λ x h. h.1) xs all)
 
 -- a part is no longer than the row that it is
 pub in_row : (n : ℕ) (part : List ℕ) → length part ≤ length (canon_row n (bytes_row part))

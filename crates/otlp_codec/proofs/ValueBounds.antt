@@ -1,23 +1,26 @@
 -- How long the spelling of a value is: at most eight bytes for each unit of weight, and 20 more.
-use Rattle.std.proofs.Common.{◌≡◌, ℕ, ◌+◌, ◌*◌, ◌≤◌, List, [], ◌∷◌, ◌++◌, map, length, Bool, true, false, refl, sym, ap, ◌∙◌, arith, rules, length-append}
+use Rattle.std.proofs.Common.{◌≡◌, ℕ, ◌+◌, ◌*◌, ◌≤◌, List, [], ◌∷◌, ◌++◌, map, length, Bool, true, false, refl, sym, ap, ◌∙◌, arith, length-append}
 use Rattle.std.specs.Int.{w64, cast_unsigned}
 use Rattle.std.specs.List.{AllByRecursion}
 use Rattle.std.proofs.lemmas.Bool.{and_parts}
 use Rattle.otlp_wire.specs.Wire as wire
 use Rattle.otlp_messages.specs.Canon.{canon_row, bytes_row, many_row}
-use Rattle.otlp_model.specs.declared.value.Value.{Value, the_lemmas}
+use Rattle.otlp_model.specs.declared.value.Value.{Value}
 use Rattle.otlp_model.specs.declared.value.Value.TheVariants as values
 use Rattle.otlp_model.specs.declared.value.Pair.{Pair}
 use Rattle.otlp_model.specs.Limits.{weight_limit}
 use Rattle.otlp_model.specs.Weight.{total, weight_of_value, weight_of_pair}
 use Rattle.otlp_model.specs.Real.{is_real_value, is_real_pair}
 use Rattle.lists.specs.Bytes.{is_real_text}
-use Rattle.otlp_model.proofs.Levels.{weight_of_array, weight_of_map, is_real_array, is_real_map}
+use Rattle.otlp_model.proofs.Levels.{weight_of_array, weight_of_map, is_real_array, is_real_map, weight_of_str, weight_of_bytes, is_real_int}
+use Rattle.lists.proofs.Every.{every_weaker}
+use Rattle.lists.proofs.Numbers.{unsigned_small}
 use Rattle.otlp_model.proofs.Induction.{holds}
+use Rattle.otlp_model.proofs.RealParts.{signed_of_real}
 use Rattle.otlp_codec.specs.Canonical.{canon_value, canon_pair}
-use Rattle.otlp_codec.proofs.Lists.{tests_from, all_map, all_both}
-use Rattle.otlp_codec.proofs.FieldLaw.{IsShortFor, part_short, bytes_short, varint_short, fixed64_short, many_short, unsigned_small}
-use Rattle.otlp_codec.proofs.ValueLaw.{canon_empty, canon_str, canon_bool, canon_int, canon_double, canon_array, canon_map, canon_bytes, real_int, fits_of}
+use Rattle.otlp_codec.proofs.Lists.{tests_from, all_both}
+use Rattle.otlp_codec.proofs.FieldLaw.{IsShortFor, part_short, bytes_short, varint_short, fixed64_short, many_short}
+use Rattle.otlp_codec.proofs.ValueLaw.{canon_empty, canon_str, canon_bool, canon_int, canon_double, canon_array, canon_map, canon_bytes}
 
 two_rows : (a b : List ℕ) → length (a ++ (b ++ [])) ≡ length a + length b
 two_rows a b =
@@ -43,17 +46,11 @@ pair_bound p real value = record {
 
 pairs_bounded : (pairs : List Pair) → AllByRecursion (λ p. is_real_pair p ≡ true) pairs → AllByRecursion (λ p. ValueBounded p.value) pairs → AllByRecursion (IsShortFor canon_pair weight_of_pair 236) pairs
 pairs_bounded pairs real law =
-    all_map (λ p. (is_real_pair p ≡ true) × ValueBounded p.value) (IsShortFor canon_pair weight_of_pair 236) (λ p h. pair_bound p h.0 h.1) pairs
+    every_weaker (λ p. (is_real_pair p ≡ true) × ValueBounded p.value) (IsShortFor canon_pair weight_of_pair 236) (λ p h. pair_bound p h.0 h.1) pairs
     (all_both (λ p. is_real_pair p ≡ true) (λ p. ValueBounded p.value) pairs real law)
 
 member_bound : (v : Value) → is_real_value v ≡ true → ValueBounded v → IsShortFor canon_value weight_of_value 236 v
 member_bound v real law = record { at = λ few. omega (arith, law.at real few) }
-
-weight_of_str : (text : List ℕ) → weight_of_value (values.Str text) ≡ length text
-weight_of_str text = search (rules, the_lemmas)
-
-weight_of_bytes : (bytes : List ℕ) → weight_of_value (values.Bytes bytes) ≡ length bytes
-weight_of_bytes bytes = search (rules, the_lemmas)
 
 -- a value that is one field
 one_field : (v : Value) (field : List ℕ) → canon_value v ≡ field ++ [] → length field ≤ 8 * weight_of_value v + 20 → length (canon_value v) ≤ 8 * weight_of_value v + 20
@@ -64,7 +61,7 @@ array_bounded members law = record {
   at = λ real few.
       let inside = canon_row 1 (many_row (map canon_value members)) in
       let reals = tests_from is_real_value members (and_parts _ _ (sym (is_real_array members) ∙ real)).0 in
-      let all = all_map (λ v. (is_real_value v ≡ true) × ValueBounded v) (IsShortFor canon_value weight_of_value 236) (λ v h. member_bound v h.0 h.1) members
+      let all = every_weaker (λ v. (is_real_value v ≡ true) × ValueBounded v) (IsShortFor canon_value weight_of_value 236) (λ v h. member_bound v h.0 h.1) members
       (all_both (λ v. is_real_value v ≡ true) ValueBounded members reals law) in
       let few' : total 32 weight_of_value members ≤ weight_limit = omega (arith, weight_of_array members, few) in
       let part = many_short canon_value 32 weight_of_value 1 236 members refl refl refl all few' in
@@ -93,7 +90,7 @@ value_bound v = holds ValueBounded (record {
   flag = flag;
   int = λ z. record {
     at = λ real few. one_field (values.Int z) (canon_row 3 (wire.Varint (cast_unsigned w64 z) ∷ [])) (canon_int z)
-        (omega (arith, varint_short 3 (cast_unsigned w64 z) refl (unsigned_small z (fits_of z (sym (real_int z) ∙ real)))));
+        (omega (arith, varint_short 3 (cast_unsigned w64 z) refl (unsigned_small z (signed_of_real z (sym (is_real_int z) ∙ real)))));
   };
   double = λ bits. record { at = λ real few. one_field (values.Double bits) (canon_row 4 (wire.Fixed64 bits ∷ [])) (canon_double bits) (omega (arith, fixed64_short 4 bits refl)) };
   array = array_bounded;

@@ -1,6 +1,6 @@
 -- The canonical spelling of a value has no defect, and reads as the value.
 use Rattle.std.proofs.Common.{◌≡◌, ℕ, zero, suc, ◌+◌, ◌^◌, ◌<◌, ◌≤◌, List, [], ◌∷◌, ◌++◌, map, length, Bool, true, false, refl, sym, ap, ◌∙◌, subst, arith, rules, length-append}
-use Rattle.std.specs.Prelude.{fold, nat_lt, ℤ, pos, negsuc, FitsSigned, if◌then◌else◌}
+use Rattle.std.specs.Prelude.{fold, ℤ, if◌then◌else◌}
 use Rattle.std.specs.Int.{w64, cast_unsigned}
 use Rattle.std.specs.List.{AllByRecursion}
 use Rattle.std.proofs.lemmas.Bool.{ltb-true, and_parts}
@@ -11,7 +11,7 @@ use Rattle.otlp_wire.proofs.FieldsOf.{fields_of_nothing}
 use Rattle.otlp_messages.specs.declared.messages.Message.TheVariants as messages
 use Rattle.otlp_messages.specs.Defects.{IsFine}
 use Rattle.otlp_messages.specs.Rows.{said, bytes_in, embedded_in}
-use Rattle.otlp_messages.specs.Canon.{Filled, row, canon, canon_row, entries, bytes_row, laid_out, RowFits}
+use Rattle.otlp_messages.specs.Canon.{Filled, row, canon, canon_row, entries, bytes_row, is_laid_out, RowFits}
 use Rattle.otlp_messages.proofs.Canonical.{rows_read}
 use Rattle.otlp_messages.proofs.RowKinds.{varint_field_fits, fixed64_field_fits, part_fits, part_field_fits, many_fits, bytes_back, embedded_back}
 use Rattle.otlp_model.specs.declared.value.Value.{Value, the_lemmas}
@@ -19,37 +19,40 @@ use Rattle.otlp_model.specs.declared.value.Value.TheVariants as values
 use Rattle.otlp_model.specs.declared.value.Pair.{Pair}
 use Rattle.otlp_model.specs.Depth.{depth_of, greatest}
 use Rattle.otlp_model.specs.PairDepth.{depth_of_pair}
-use Rattle.otlp_model.specs.Real.{is_real_value, is_real_pair, fits_i64}
+use Rattle.otlp_model.specs.Real.{is_real_value, is_real_pair}
 use Rattle.lists.specs.Bytes.{is_real_text}
-use Rattle.otlp_model.proofs.Levels.{depth_of_array, depth_of_map, is_real_array, is_real_map}
+use Rattle.otlp_model.proofs.Levels.{depth_of_array, depth_of_map, is_real_array, is_real_map, is_real_str, is_real_int, is_real_double}
 use Rattle.lists.proofs.RealBytes.{utf8_of_real}
+use Rattle.lists.proofs.Every.{every_weaker}
+use Rattle.lists.proofs.Numbers.{unsigned_small}
 use Rattle.otlp_model.proofs.Induction.{Step, holds}
-use Rattle.otlp_codec.specs.Values.{any_in, value_at, pair_at}
+use Rattle.otlp_model.proofs.RealParts.{signed_of_real}
+use Rattle.otlp_codec.specs.Values.{any_in, any_value_at, key_value_at}
 use Rattle.otlp_codec.specs.Steps.{array_at, map_at}
 use Rattle.otlp_codec.specs.Canonical.{canon_value, canon_pair, pair_rows, members_rows}
 use Rattle.otlp_codec.proofs.Folded.{value_is}
-use Rattle.otlp_codec.proofs.Lists.{tests_from, all_map, all_both, below_greatest}
+use Rattle.otlp_codec.proofs.Lists.{tests_from, all_both, below_greatest}
 use Rattle.otlp_codec.proofs.Returning.{Returns, repeated_returns, in_row}
 
 -- so deep that this number of levels of members may stand below
 pub record ValueReturns (v : Value) : Type 0 where
-  pub at : (l : ℕ) → is_real_value v ≡ true → depth_of v ≤ l + 1 → Returns messages.AnyValue l (value_at l) canon_value v
+  pub at : (l : ℕ) → is_real_value v ≡ true → depth_of v ≤ l + 1 → Returns messages.AnyValue l (any_value_at l) canon_value v
 
 -- by the rows of the value
-by_rows : (l : ℕ) (v : Value) (rows : List Filled) → canon_value v ≡ canon rows → laid_out messages.AnyValue rows ≡ true
+by_rows : (l : ℕ) (v : Value) (rows : List Filled) → canon_value v ≡ canon rows → is_laid_out messages.AnyValue rows ≡ true
     → (length (canon rows) < 2 ^ 64 → AllByRecursion (RowFits messages.AnyValue l) rows × (fold (any_in (array_at l) (map_at l)) values.Empty (entries rows) ≡ v))
-    → Returns messages.AnyValue l (value_at l) canon_value v
+    → Returns messages.AnyValue l (any_value_at l) canon_value v
 by_rows l v rows is laid fits = record {
   at = λ short.
       let small : length (canon rows) < 2 ^ 64 = subst (λ (bytes : List ℕ). length bytes < 2 ^ 64) is short in
       let both = fits small in
       let back = rows_read messages.AnyValue l rows laid both.0 small in (
         subst (λ (bytes : List ℕ). IsFine messages.AnyValue l bytes) (sym is) back.fine,
-        ap (value_at l) is ∙ sym (value_is l (canon rows)) ∙ ap (λ fs. fold (any_in (array_at l) (map_at l)) values.Empty fs) back.fields ∙ both.1,
+        ap (any_value_at l) is ∙ sym (value_is l (canon rows)) ∙ ap (λ fs. fold (any_in (array_at l) (map_at l)) values.Empty fs) back.fields ∙ both.1,
       );
 }
 
-pub no_value : (l : ℕ) → values.Empty ≡ value_at l []
+pub no_value : (l : ℕ) → values.Empty ≡ any_value_at l []
 no_value l = sym (sym (value_is l []) ∙ ap (λ fs. fold (any_in (array_at l) (map_at l)) values.Empty fs) fields_of_nothing)
 
 -- the spelling of each shape of value
@@ -77,27 +80,10 @@ canon_map pairs = search (rules, the_lemmas)
 pub canon_bytes : (bytes : List ℕ) → canon_value (values.Bytes bytes) ≡ canon (row 7 (wire.Bytes bytes ∷ []) ∷ [])
 canon_bytes bytes = search (rules, the_lemmas)
 
-real_str : (text : List ℕ) → is_real_value (values.Str text) ≡ is_real_text text
-real_str text = search (rules, the_lemmas)
-
-pub real_int : (z : ℤ) → is_real_value (values.Int z) ≡ fits_i64 z
-real_int z = search (rules, the_lemmas)
-
-real_double : (bits : ℕ) → is_real_value (values.Double bits) ≡ nat_lt bits (2 ^ 64)
-real_double bits = search (rules, the_lemmas)
-
-pub fits_of : (z : ℤ) → fits_i64 z ≡ true → FitsSigned w64 z
-fits_of (pos n) h = record { sfits = omega (arith, ltb-true n (2 ^ 63) h) }
-fits_of (negsuc n) h = record { sfits = omega (arith, ltb-true n (2 ^ 63) h) }
-
-pub unsigned_small : (z : ℤ) → FitsSigned w64 z → cast_unsigned w64 z < 2 ^ 64
-unsigned_small (pos n) h = omega (arith, h.sfits)
-unsigned_small (negsuc n) h = omega (arith, h.sfits)
-
 str_returns : (text : List ℕ) → ValueReturns (values.Str text)
 str_returns text = record {
   at = λ l real deep. by_rows l (values.Str text) (row 1 (wire.Bytes text ∷ []) ∷ []) (canon_str text) refl
-      (λ _. ((part_field_fits messages.AnyValue l 1 text (λ _. utf8_of_real text (sym (real_str text) ∙ real)), tt), refl));
+      (λ _. ((part_field_fits messages.AnyValue l 1 text (λ _. utf8_of_real text (sym (is_real_str text) ∙ real)), tt), refl));
 }
 
 bool_returns : (b : Bool) → ValueReturns (values.Bool b)
@@ -113,7 +99,7 @@ bool_returns false = record {
 int_returns : (z : ℤ) → ValueReturns (values.Int z)
 int_returns z = record {
   at = λ l real deep.
-      let fits = fits_of z (sym (real_int z) ∙ real) in
+      let fits = signed_of_real z (sym (is_real_int z) ∙ real) in
       by_rows l (values.Int z) (row 3 (wire.Varint (cast_unsigned w64 z) ∷ []) ∷ []) (canon_int z) refl
       (λ _. ((varint_field_fits messages.AnyValue l 3 (cast_unsigned w64 z) refl (unsigned_small z fits), tt), ap values.Int (to_z-of_z w64 z fits)));
 }
@@ -121,7 +107,7 @@ int_returns z = record {
 double_returns : (bits : ℕ) → ValueReturns (values.Double bits)
 double_returns bits = record {
   at = λ l real deep. by_rows l (values.Double bits) (row 4 (wire.Fixed64 bits ∷ []) ∷ []) (canon_double bits) refl
-      (λ _. ((fixed64_field_fits messages.AnyValue l 4 bits refl (ltb-true bits (2 ^ 64) (sym (real_double bits) ∙ real)), tt), refl));
+      (λ _. ((fixed64_field_fits messages.AnyValue l 4 bits refl (ltb-true bits (2 ^ 64) (sym (is_real_double bits) ∙ real)), tt), refl));
 }
 
 bytes_returns : (bytes : List ℕ) → ValueReturns (values.Bytes bytes)
@@ -134,8 +120,8 @@ empty_returns : ValueReturns values.Empty
 empty_returns = record { at = λ l real deep. by_rows l values.Empty [] canon_empty refl (λ _. (tt, refl)) }
 
 -- a pair, by its value
-pub pair_returns : (l : ℕ) (p : Pair) → is_real_pair p ≡ true → Returns messages.AnyValue l (value_at l) canon_value p.value → Returns messages.KeyValue l (pair_at l) canon_pair p
-unfolding pair_at
+pub pair_returns : (l : ℕ) (p : Pair) → is_real_pair p ≡ true → Returns messages.AnyValue l (any_value_at l) canon_value p.value → Returns messages.KeyValue l (key_value_at l) canon_pair p
+unfolding key_value_at
 pair_returns l p real value = record {
   at = λ short.
       let rows = pair_rows p.key (canon_value p.value) in
@@ -145,8 +131,8 @@ pair_returns l p real value = record {
       let back = rows_read messages.KeyValue l rows refl
       (part_fits messages.KeyValue l 1 p.key (λ _. utf8_of_real p.key parts.0), (part_fits messages.KeyValue l 2 (canon_value p.value) (λ _. inner.0), tt)) short in
       let key : said 1 bytes_in [] (canon rows) ≡ p.key = ap (fold bytes_in []) (back.only 1) ∙ bytes_back p.key in
-      let is : said 2 (embedded_in (value_at l)) values.Empty (canon rows) ≡ p.value =
-      ap (fold (embedded_in (value_at l)) values.Empty) (back.only 2) ∙ embedded_back (value_at l) values.Empty p.value (canon_value p.value) (no_value l) inner.1 in
+      let is : said 2 (embedded_in (any_value_at l)) values.Empty (canon rows) ≡ p.value =
+      ap (fold (embedded_in (any_value_at l)) values.Empty) (back.only 2) ∙ embedded_back (any_value_at l) values.Empty p.value (canon_value p.value) (no_value l) inner.1 in
       (back.fine, λ i. record { key = key i; value = is i });
 }
   where
@@ -186,14 +172,14 @@ unfolding array_at
 members_return zero members law real deep short = rw (none_at_zero depth_of members some_depth deep)
     ((rows_read messages.ArrayValue zero (members_rows []) refl (many_fits messages.ArrayValue zero 1 [] refl tt, tt) (omega arith)).fine, refl)
 members_return (suc l) members law real deep short =
-    repeated_returns messages.ArrayValue (suc l) messages.AnyValue l (value_at l) canon_value members refl (λ part fine. fine)
-    (all_map (λ v. ValueReturns v × ((is_real_value v ≡ true) × (depth_of v ≤ suc l))) (Returns messages.AnyValue l (value_at l) canon_value)
+    repeated_returns messages.ArrayValue (suc l) messages.AnyValue l (any_value_at l) canon_value members refl (λ part fine. fine)
+    (every_weaker (λ v. ValueReturns v × ((is_real_value v ≡ true) × (depth_of v ≤ suc l))) (Returns messages.AnyValue l (any_value_at l) canon_value)
     (λ v h. h.0.at l h.1.0 (omega (arith, h.1.1))) members
     (all_both ValueReturns (λ v. (is_real_value v ≡ true) × (depth_of v ≤ suc l)) members law (all_both (λ v. is_real_value v ≡ true) (λ v. depth_of v ≤ suc l) members real deep)))
     short
 
 -- a pair, whose value is so deep
-pub pair_law : (l : ℕ) (p : Pair) → ValueReturns p.value → is_real_pair p ≡ true → depth_of_pair p ≤ l + 1 → Returns messages.KeyValue l (pair_at l) canon_pair p
+pub pair_law : (l : ℕ) (p : Pair) → ValueReturns p.value → is_real_pair p ≡ true → depth_of_pair p ≤ l + 1 → Returns messages.KeyValue l (key_value_at l) canon_pair p
 pair_law l p law real deep = pair_returns l p real (law.at l (and_parts (is_real_text p.key) (is_real_value p.value) real).1 deep)
 
 pairs_return : (l : ℕ) (pairs : List Pair) → AllByRecursion (λ p. ValueReturns p.value) pairs → AllByRecursion (λ p. is_real_pair p ≡ true) pairs → AllByRecursion (λ p. depth_of_pair p ≤ l) pairs
@@ -203,8 +189,8 @@ unfolding map_at
 pairs_return zero pairs law real deep short = rw (none_at_zero depth_of_pair pairs (λ p. some_depth p.value) deep)
     ((rows_read messages.KeyValueList zero (members_rows []) refl (many_fits messages.KeyValueList zero 1 [] refl tt, tt) (omega arith)).fine, refl)
 pairs_return (suc l) pairs law real deep short =
-    repeated_returns messages.KeyValueList (suc l) messages.KeyValue l (pair_at l) canon_pair pairs refl (λ part fine. fine)
-    (all_map (λ p. ValueReturns p.value × ((is_real_pair p ≡ true) × (depth_of_pair p ≤ suc l))) (Returns messages.KeyValue l (pair_at l) canon_pair)
+    repeated_returns messages.KeyValueList (suc l) messages.KeyValue l (key_value_at l) canon_pair pairs refl (λ part fine. fine)
+    (every_weaker (λ p. ValueReturns p.value × ((is_real_pair p ≡ true) × (depth_of_pair p ≤ suc l))) (Returns messages.KeyValue l (key_value_at l) canon_pair)
     (λ p h. pair_law l p h.0 h.1.0 (omega (arith, h.1.1))) pairs
     (all_both (λ p. ValueReturns p.value) (λ p. (is_real_pair p ≡ true) × (depth_of_pair p ≤ suc l)) pairs law (all_both (λ p. is_real_pair p ≡ true) (λ p. depth_of_pair p ≤ suc l) pairs real deep)))
     short

@@ -8,14 +8,14 @@ use Rattle.otlp_model.specs.declared.groups.Resource.{Resource}
 use Rattle.otlp_model.specs.declared.groups.Scope.{Scope}
 use Rattle.otlp_model.specs.declared.groups.ScopeGroup.{ScopeGroup}
 use Rattle.otlp_model.specs.declared.groups.ResourceGroup.{ResourceGroup}
-use Rattle.otlp_codec.specs.Values.{value_at, pair_at}
+use Rattle.otlp_codec.specs.Values.{any_value_at, key_value_at}
 
 -- AnyValue and KeyValue outside of any array and key-value list
 abbrev pub value_in : List ℕ → Value
-value_in = value_at level_limit
+value_in = any_value_at level_limit
 
 abbrev pub pair_in : List ℕ → Pair
-pair_in = pair_at level_limit
+pair_in = key_value_at level_limit
 
 -- Resource; its schema url stands in the group
 abbrev pub resource_in : List ℕ → List ℕ → Resource

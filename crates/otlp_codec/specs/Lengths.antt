@@ -1,4 +1,4 @@
--- How long fields are.
+-- How long fields are: words of private contracts.
 use Rattle.std.specs.Prelude.{ℕ, ◌+◌, ◌*◌, length}
 use Rattle.otlp_wire.specs.Varint.{varint}
 

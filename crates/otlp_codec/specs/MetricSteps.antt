@@ -1,4 +1,4 @@
--- One field after another: how the messages of metrics are read in one pass over their fields.
+-- One field after another, in the words of private contracts: how the messages of metrics are read in one pass over their fields.
 use Rattle.std.specs.Prelude.{List, [], None, pos, false}
 use Rattle.otlp_wire.specs.Wire.{Entry}
 use Rattle.otlp_messages.specs.Rows.{at, fixed64_in, uint32_in, int32_in, bool_in, optional_in, packed_in, bytes_in, many_in}

@@ -1,10 +1,10 @@
--- What a refusal to read a part of a request says of the part's bytes.
+-- What a refusal to read a part of a request says of the part's bytes: words of private contracts.
 use Rattle.std.specs.Prelude.{ℕ, List}
 use Rattle.otlp_messages.specs.declared.messages.Message.{Message}
 use Rattle.otlp_messages.specs.declared.messages.FieldKind.{FieldKind}
 use Rattle.otlp_wire.specs.Wire.{FieldValue}
 use Rattle.otlp_messages.specs.Defects.{Stands}
-use Rattle.otlp_messages.specs.Fine.{ValueStands}
+use Rattle.otlp_messages.specs.Inside.{ValueStands}
 use Rattle.otlp_codec.specs.declared.refusal.ReadRefusal.{ReadRefusal}
 use Rattle.otlp_codec.specs.Refusals.{HoldsNamed}
 

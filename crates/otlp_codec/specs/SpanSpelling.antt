@@ -6,7 +6,7 @@ use Rattle.otlp_model.specs.declared.spans.Event.{Event}
 use Rattle.otlp_model.specs.declared.spans.Link.{Link}
 use Rattle.otlp_codec.specs.declared.spans.SpanStatus.{SpanStatus}
 use Rattle.otlp_codec.specs.Canonical.{canon_pair}
-use Rattle.otlp_codec.specs.Spans.{status_of}
+use Rattle.otlp_codec.specs.Spans.{span_status_of}
 
 abbrev pub event_rows : Event → List Filled
 event_rows event =
@@ -32,14 +32,14 @@ link_rows link =
 unfoldable pub canon_link : Link → List ℕ
 canon_link link = canon (link_rows link)
 
-abbrev pub status_rows : SpanStatus → List Filled
-status_rows status =
+abbrev pub span_status_rows : SpanStatus → List Filled
+span_status_rows status =
     row 2 (bytes_row status.message)
     ∷ row 3 (signed_row status.code)
     ∷ []
 
-abbrev pub canon_status : SpanStatus → List ℕ
-canon_status status = canon (status_rows status)
+abbrev pub canon_span_status : SpanStatus → List ℕ
+canon_span_status status = canon (span_status_rows status)
 
 -- the first half of a span's fields, and the second
 abbrev pub span_front : Span → List Filled
@@ -62,7 +62,7 @@ span_back span =
     ∷ row 12 (varint_row span.dropped_events)
     ∷ row 13 (many_row (map canon_link span.links))
     ∷ row 14 (varint_row span.dropped_links)
-    ∷ row 15 (bytes_row (canon_status (status_of span)))
+    ∷ row 15 (bytes_row (canon_span_status (span_status_of span)))
     ∷ row 16 (fixed32_row span.flags)
     ∷ []
 

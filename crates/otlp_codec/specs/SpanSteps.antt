@@ -1,4 +1,4 @@
--- One field after another: how the messages of spans are read in one pass.
+-- One field after another, in the words of private contracts: how the messages of spans are read in one pass.
 use Rattle.std.specs.Prelude.{[], pos}
 use Rattle.otlp_wire.specs.Wire.{Entry}
 use Rattle.otlp_messages.specs.Rows.{at, fixed64_in, fixed32_in, uint32_in, int32_in, bytes_in, embedded_in, many_in}
@@ -7,7 +7,7 @@ use Rattle.otlp_model.specs.declared.spans.Event.{Event}
 use Rattle.otlp_model.specs.declared.spans.Link.{Link}
 use Rattle.otlp_codec.specs.declared.spans.SpanStatus.{SpanStatus}
 use Rattle.otlp_codec.specs.Groups.{pair_in}
-use Rattle.otlp_codec.specs.Spans.{event_in, link_in, status_in, status_of}
+use Rattle.otlp_codec.specs.Spans.{event_in, link_in, span_status_in, span_status_of}
 
 abbrev pub no_event : Event
 no_event = record { time = 0; name = []; pairs = []; dropped = 0 }
@@ -76,7 +76,7 @@ span_step old f = record {
   dropped_events = at 12 uint32_in old.dropped_events f;
   links = at 13 (many_in link_in) old.links f;
   dropped_links = at 14 uint32_in old.dropped_links f;
-  status_message = (at 15 (embedded_in status_in) (status_of old) f).message;
-  status_code = (at 15 (embedded_in status_in) (status_of old) f).code;
+  status_message = (at 15 (embedded_in span_status_in) (span_status_of old) f).message;
+  status_code = (at 15 (embedded_in span_status_in) (span_status_of old) f).code;
   flags = at 16 fixed32_in old.flags f;
 }

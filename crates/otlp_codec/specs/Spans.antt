@@ -31,8 +31,8 @@ link_in bytes = record {
 abbrev pub no_status : SpanStatus
 no_status = record { message = []; code = pos 0 }
 
-unfoldable pub status_in : List ℕ → SpanStatus
-status_in bytes = record {
+unfoldable pub span_status_in : List ℕ → SpanStatus
+span_status_in bytes = record {
   message = said 2 bytes_in [] bytes;
   code = said 3 int32_in (pos 0) bytes;
 }
@@ -54,11 +54,11 @@ span_in bytes = record {
   dropped_events = said 12 uint32_in 0 bytes;
   links = said 13 (many_in link_in) [] bytes;
   dropped_links = said 14 uint32_in 0 bytes;
-  status_message = (said 15 (embedded_in status_in) no_status bytes).message;
-  status_code = (said 15 (embedded_in status_in) no_status bytes).code;
+  status_message = (said 15 (embedded_in span_status_in) no_status bytes).message;
+  status_code = (said 15 (embedded_in span_status_in) no_status bytes).code;
   flags = said 16 fixed32_in 0 bytes;
 }
 
 -- the status, whose parts stand in the span
-abbrev pub status_of : Span → SpanStatus
-status_of span = record { message = span.status_message; code = span.status_code }
+abbrev pub span_status_of : Span → SpanStatus
+span_status_of span = record { message = span.status_message; code = span.status_code }

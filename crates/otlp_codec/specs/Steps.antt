@@ -1,4 +1,4 @@
--- One field after another: how the messages are read in one pass over their fields. That this gives
+-- One field after another, in the words of private contracts: how the messages are read in one pass over their fields. That this gives
 -- what they say is a law of each (`lemmas/Passed`, `lemmas/SpansPassed`, `lemmas/MetricsPassed`).
 use Rattle.std.specs.Prelude.{ℕ, zero, suc, List, [], pos}
 use Rattle.otlp_wire.specs.Wire as wire
@@ -12,17 +12,17 @@ use Rattle.otlp_model.specs.declared.groups.Scope.{Scope}
 use Rattle.otlp_model.specs.declared.groups.ScopeGroup.{ScopeGroup}
 use Rattle.otlp_model.specs.declared.groups.ResourceGroup.{ResourceGroup}
 use Rattle.otlp_model.specs.declared.logs.LogRecord.{LogRecord}
-use Rattle.otlp_codec.specs.Values.{value_at, pair_at, members_of}
+use Rattle.otlp_codec.specs.Values.{any_value_at, key_value_at, members_of}
 use Rattle.otlp_codec.specs.Groups.{value_in, pair_in, resource_in, scope_in, scope_group_in, resource_group_in}
 
 -- what an array and a key-value list say, below which this number of levels of members may stand
 unfoldable pub array_at : ℕ → List ℕ → List Value
 array_at zero bytes = []
-array_at (suc levels) bytes = members_of (value_at levels) bytes
+array_at (suc levels) bytes = members_of (any_value_at levels) bytes
 
 unfoldable pub map_at : ℕ → List ℕ → List Pair
 map_at zero bytes = []
-map_at (suc levels) bytes = members_of (pair_at levels) bytes
+map_at (suc levels) bytes = members_of (key_value_at levels) bytes
 
 abbrev pub no_pair : Pair
 no_pair = record { key = []; value = Empty }
@@ -30,17 +30,17 @@ no_pair = record { key = []; value = Empty }
 abbrev pub pair_step : ℕ → Pair → Entry → Pair
 pair_step levels old f = record {
   key = at 1 bytes_in old.key f;
-  value = at 2 (embedded_in (value_at levels)) old.value f;
+  value = at 2 (embedded_in (any_value_at levels)) old.value f;
 }
 
 -- at level 0 no member may stand
 abbrev pub array_step : ℕ → List Value → Entry → List Value
 array_step zero old f = old
-array_step (suc levels) old f = at 1 (many_in (value_at levels)) old f
+array_step (suc levels) old f = at 1 (many_in (any_value_at levels)) old f
 
 abbrev pub map_step : ℕ → List Pair → Entry → List Pair
 map_step zero old f = old
-map_step (suc levels) old f = at 1 (many_in (pair_at levels)) old f
+map_step (suc levels) old f = at 1 (many_in (key_value_at levels)) old f
 
 abbrev pub no_resource : Resource
 no_resource = record { schema_url = []; dropped = 0; pairs = [] }

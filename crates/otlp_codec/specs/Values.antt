@@ -64,9 +64,9 @@ abbrev pub members_of : {A : Type 0} → (List ℕ → A) → List ℕ → List 
 members_of member bytes = said 1 (many_in member) [] bytes
 
 -- what an AnyValue says below whose members this number of levels of members may stand
-unfoldable pub value_at : ℕ → List ℕ → Value
-value_at zero = any_of (λ part. []) (λ part. [])
-value_at (suc levels) = any_of (members_of (value_at levels)) (members_of (pair_of (value_at levels)))
+unfoldable pub any_value_at : ℕ → List ℕ → Value
+any_value_at zero = any_of (λ part. []) (λ part. [])
+any_value_at (suc levels) = any_of (members_of (any_value_at levels)) (members_of (pair_of (any_value_at levels)))
 
-unfoldable pub pair_at : ℕ → List ℕ → Pair
-pair_at levels = pair_of (value_at levels)
+unfoldable pub key_value_at : ℕ → List ℕ → Pair
+key_value_at levels = pair_of (any_value_at levels)

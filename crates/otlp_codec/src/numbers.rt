@@ -5,7 +5,7 @@ ghost use Rattle.otlp_wire.specs.Wire.{value_of, IsNumber};
 ghost use Rattle.otlp_messages.specs.declared.messages.FieldKind.TheVariants as kinds;
 ghost use Rattle.otlp_messages.specs.Limits.{level_limit};
 ghost use Rattle.otlp_messages.specs.Fine.{FineValue};
-ghost use Rattle.otlp_messages.specs.Rows.{bool_in, optional_in, packed_in, numbers};
+ghost use Rattle.otlp_messages.specs.Rows.{bool_in, optional_in, packed_in, little_numbers};
 ghost use Rattle.otlp_messages.specs.Canon.{canon_row, bool_row, optional_row, packed_row};
 ghost use Rattle.otlp_model.specs.Limits.{count_cap};
 ghost use Rattle.otlp_codec.specs.PartRefusals.{RefusesValue};
@@ -92,7 +92,7 @@ pub(crate) fn take_packed(to: &mut Items<u64>, value: &Wire<'_>) -> Result<(), R
 
 /// Appends the numbers of 64 bits that the bytes hold, each little-endian.
 fn push_numbers(to: &mut Items<u64>, part: &[u8]) -> Result<(), AllocError>
-    ensures { OnOk result (to.new ≡ to.old ++ numbers (length part.now / 8) part.now) }
+    ensures { OnOk result (to.new ≡ to.old ++ little_numbers (length part.now / 8) part.now) }
 {
     to.reserve(part.len() / 8)?;
     'numbers: for place in 0..part.len() / 8 {

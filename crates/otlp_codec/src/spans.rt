@@ -12,9 +12,9 @@ ghost use Rattle.otlp_messages.specs.Rows.{embedded_in};
 ghost use Rattle.otlp_messages.specs.Limits.{level_limit};
 ghost use Rattle.otlp_model.specs.Limits.{count_cap};
 ghost use Rattle.otlp_codec.specs.PartRefusals.{RefusesValue};
-ghost use Rattle.otlp_codec.specs.Spans.{event_in, link_in, no_status, status_in, span_in};
+ghost use Rattle.otlp_codec.specs.Spans.{event_in, link_in, no_status, span_status_in, span_in};
 ghost use Rattle.otlp_codec.specs.SpanSteps.{no_event, event_step, no_link, link_step, status_step, no_span, span_step};
-ghost use Rattle.otlp_codec.specs.SpanSpelling.{canon_event, canon_link, canon_status, canon_span, span_front, span_back};
+ghost use Rattle.otlp_codec.specs.SpanSpelling.{canon_event, canon_link, canon_span_status, canon_span, span_front, span_back};
 ghost use Rattle.otlp_codec.specs.lemmas.SpansPassed.{event_passes, link_passes, status_passes, span_passes};
 
 use crate::cells::{take_fixed32, take_fixed64, take_id, take_int32, take_text, take_uint32};
@@ -126,7 +126,7 @@ impl Part for SpanStatus {
 
     ghost step = { status_step };
 
-    ghost reads = { status_in };
+    ghost reads = { span_status_in };
 
     ghost passes = { status_passes };
 
@@ -234,7 +234,7 @@ fn take_status(
     code: &mut i32,
     value: &Wire<'_>,
 ) -> Result<(), ReadRefusal>
-    ensures ok { OnOk result (record { message = message.new; code = code.new } ≡ embedded_in status_in (record { message = message.old; code = code.old }) (value_of value.now)) }
+    ensures ok { OnOk result (record { message = message.new; code = code.new } ≡ embedded_in span_status_in (record { message = message.old; code = code.old }) (value_of value.now)) }
     ensures fine { IfOk result (λ _. FineValue (kinds.Embedded messages.Status) level_limit (value_of value.now)) }
     ensures fault { IfErr result (RefusesValue (kinds.Embedded messages.Status) level_limit (value_of value.now)) }
 {
@@ -325,7 +325,7 @@ impl Spelled for Span {
 }
 
 impl Spelled for SpanStatusOf<'_> {
-    ghost spelled = { λ s. canon_status (record { message = s.message.now; code = s.code }) };
+    ghost spelled = { λ s. canon_span_status (record { message = s.message.now; code = s.code }) };
 
     fn write(&self, to: &mut Backward) -> Result<(), AllocError> {
         to.put_signed_row(3, i64::from(self.code))?;

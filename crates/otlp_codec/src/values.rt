@@ -8,7 +8,7 @@ ghost use Rattle.otlp_model.specs.declared.value.Value.TheVariants as values;
 ghost use Rattle.otlp_messages.specs.Defects.{IsFine};
 ghost use Rattle.otlp_messages.specs.Fine.{FineValue};
 ghost use Rattle.otlp_codec.specs.PartRefusals.{Refuses, RefusesValue};
-ghost use Rattle.otlp_codec.specs.Values.{any_in, value_at, pair_at};
+ghost use Rattle.otlp_codec.specs.Values.{any_in, any_value_at, key_value_at};
 ghost use Rattle.otlp_codec.specs.Steps.{array_at, map_at, array_step, map_step, no_pair, pair_step};
 
 use crate::cells::{set_text, text_of};
@@ -27,7 +27,7 @@ pub(crate) fn fill_value(
     bytes: &[u8],
 ) -> Result<(), ReadRefusal>
     requires { value.old ≡ values.Empty }
-    ensures value { OnOk result (IsFine messages.AnyValue levels bytes.now × (value.new ≡ value_at levels bytes.now)) }
+    ensures value { OnOk result (IsFine messages.AnyValue levels bytes.now × (value.new ≡ any_value_at levels bytes.now)) }
     ensures fault { IfErr result (Refuses messages.AnyValue levels bytes.now) }
 {
     let mut seen = [false; MARKS];
@@ -98,7 +98,7 @@ pub(crate) fn fill_pair(
     bytes: &[u8],
 ) -> Result<(), ReadRefusal>
     requires { pair.old ≡ no_pair }
-    ensures value { OnOk result (IsFine messages.KeyValue levels bytes.now × (pair.new ≡ pair_at levels bytes.now)) }
+    ensures value { OnOk result (IsFine messages.KeyValue levels bytes.now × (pair.new ≡ key_value_at levels bytes.now)) }
     ensures fault { IfErr result (Refuses messages.KeyValue levels bytes.now) }
 {
     let mut seen = [false; MARKS];

@@ -12,8 +12,8 @@ use Rattle.otlp_model.specs.declared.value.Value.{Value, the_lemmas}
 use Rattle.otlp_model.specs.declared.value.Value as values
 use Rattle.otlp_model.specs.declared.metrics.Number.{Number}
 use Rattle.otlp_model.specs.declared.metrics.Number.TheVariants as numbers
-use Rattle.otlp_load.specs.Pairs.{numbered, double, value_at, pair_at, pairs_of}
-use Rattle.otlp_load.specs.Items.{span_of, log_record_of, point_of, shape_of, metric_of}
+use Rattle.otlp_load.specs.Pairs.{numbered_text, double, load_value, load_pair, pairs_of}
+use Rattle.otlp_load.specs.Items.{load_span, load_log_record, load_point, load_shape, load_metric}
 
 -- where each part weighs at most so much
 pub total_at_most : {A : Type 0} (each bound : ℕ) (weigh : A → ℕ) (parts : List A) → All (λ part. weigh part ≤ bound) parts → total each weigh parts ≤ length parts * (each + bound)
@@ -27,7 +27,7 @@ pub counted_at_most : {A : Type 0} (n each bound : ℕ) (weigh : A → ℕ) (par
 counted_at_most n each bound weigh parts many light = subst (λ (k : ℕ). total each weigh parts ≤ k * (each + bound)) many (total_at_most each bound weigh parts light)
 
 -- a text of at most `front` bytes with a number of at most `digits` digits after it
-pub numbered_at_most : (digits n : ℕ) (text : List ℕ) → 0 < digits → n < 10 ^ digits → n < 2 ^ 64 → length (numbered text n) ≤ length text + digits
+pub numbered_at_most : (digits n : ℕ) (text : List ℕ) → 0 < digits → n < 10 ^ digits → n < 2 ^ 64 → length (numbered_text text n) ≤ length text + digits
 numbered_at_most digits n text some few fits =
     let few_digits = length-decimal-le digits n some few fits in
     rw (length-append text (decimal n)) (omega arith)
@@ -61,7 +61,7 @@ remainder_below n m some few =
     let below : n % m < m = mod-lt n some in
     omega arith
 
-value_at_most : (r n place : ℕ) → r < 1000 → place < 12 → weight_of_value (value_at r n place) ≤ 9
+value_at_most : (r n place : ℕ) → r < 1000 → place < 12 → weight_of_value (load_value r n place) ≤ 9
 value_at_most r n place request below =
     let few : (n + place) % (64 * (place + 1)) < 1000 = remainder_below (n + place) (64 * (place + 1)) (omega arith) (omega arith) in
     either_at_most (place == 8) _ _ 9 (str_at_most _ 9 (numbered_at_most 3 r (codes "batch-") (omega arith) (omega arith) (omega arith)))
@@ -69,7 +69,7 @@ value_at_most r n place request below =
     (either_at_most (place % 4 == 1) _ _ 9 (int_at_most (n % 1000) 9)
     (either_at_most (place % 4 == 2) _ _ 9 (bool_at_most (n % 2 == 1) 9) (double_at_most (double n) 9))))
 
-pair_at_most : (r n place : ℕ) → r < 1000 → place < 12 → weight_of_pair (pair_at r n place) ≤ 12
+pair_at_most : (r n place : ℕ) → r < 1000 → place < 12 → weight_of_pair (load_pair r n place) ≤ 12
 pair_at_most r n place request below =
     let key = numbered_at_most 2 place (codes "k") (omega arith) (omega arith) (omega arith) in
     let value = value_at_most r n place request below in
@@ -84,34 +84,34 @@ place_below k d below =
 pub pairs_at_most : (r n : ℕ) → r < 1000 → total 32 weight_of_pair (pairs_of r n) ≤ 528
 unfolding pairs_of
 pairs_at_most r n request =
-    let each : All (λ pair. weight_of_pair pair ≤ 12) (map (pair_at r n) (range_with_len 0 12)) =
-    All-map (λ pair. weight_of_pair pair ≤ 12) (pair_at r n) (range_with_len 0 12) (λ k d below.
+    let each : All (λ pair. weight_of_pair pair ≤ 12) (map (load_pair r n) (range_with_len 0 12)) =
+    All-map (λ pair. weight_of_pair pair ≤ 12) (load_pair r n) (range_with_len 0 12) (λ k d below.
     pair_at_most r n (get_or (range_with_len 0 12) k d) request (place_below k d below)) in
-    counted_at_most 12 32 12 weight_of_pair (map (pair_at r n) (range_with_len 0 12)) (length-map-range_with_len (pair_at r n) 0 12) each
+    counted_at_most 12 32 12 weight_of_pair (map (load_pair r n) (range_with_len 0 12)) (length-map-range_with_len (load_pair r n) 0 12) each
 
-pub span_at_most : (r n : ℕ) → r < 1000 → weight_of_span (span_of r n) ≤ 700
+pub span_at_most : (r n : ℕ) → r < 1000 → weight_of_span (load_span r n) ≤ 700
 span_at_most r n request =
     let name = numbered_at_most 3 (n % 300) (codes "op-") (omega arith) (remainder_below n 300 (omega arith) (omega arith)) (let b = remainder_below n 300 (omega arith) (omega arith) in omega arith) in
     let pairs = pairs_at_most r n request in
     omega arith
 
-pub log_record_at_most : (r n : ℕ) → r < 1000 → weight_of_log_record (log_record_of r n) ≤ 700
+pub log_record_at_most : (r n : ℕ) → r < 1000 → weight_of_log_record (load_log_record r n) ≤ 700
 log_record_at_most r n request =
     let few : n % 5000 < 5000 = mod-lt n (omega arith) in
-    let body : weight_of_value (values.Str (numbered (codes "message ") (n % 5000))) ≤ 12 = str_at_most _ 12 (numbered_at_most 4 (n % 5000) (codes "message ") (omega arith) (omega arith) (omega arith)) in
+    let body : weight_of_value (values.Str (numbered_text (codes "message ") (n % 5000))) ≤ 12 = str_at_most _ 12 (numbered_at_most 4 (n % 5000) (codes "message ") (omega arith) (omega arith) (omega arith)) in
     let pairs = pairs_at_most r n request in
     omega arith
 
-point_at_most : (r n : ℕ) (value : Number) → r < 1000 → weight_of_point (point_of r n value) ≤ 528
+point_at_most : (r n : ℕ) (value : Number) → r < 1000 → weight_of_point (load_point r n value) ≤ 528
 point_at_most r n value request =
     let pairs = pairs_at_most r n request in
     omega arith
 
-shape_at_most : (r n : ℕ) → r < 1000 → (b : Bool) → n % 2 == 1 ≡ b → weight_of_shape (shape_of r n) ≤ 560
+shape_at_most : (r n : ℕ) → r < 1000 → (b : Bool) → n % 2 == 1 ≡ b → weight_of_shape (load_shape r n) ≤ 560
 shape_at_most r n request true odd = rw odd (let point = point_at_most r n (numbers.Int (pos n)) request in omega arith)
 shape_at_most r n request false even = rw even (let point = point_at_most r n (numbers.Double (double n)) request in omega arith)
 
-pub metric_at_most : (r n : ℕ) → r < 1000 → weight_of_metric (metric_of r n) ≤ 700
+pub metric_at_most : (r n : ℕ) → r < 1000 → weight_of_metric (load_metric r n) ≤ 700
 metric_at_most r n request =
     let few : n % 300 < 300 = mod-lt n (omega arith) in
     let name = numbered_at_most 3 (n % 300) (codes "m-") (omega arith) (omega arith) (omega arith) in

@@ -3,11 +3,11 @@ use Rattle.std.proofs.Common.{◌≡◌, ◌<◌, ℕ, zero, suc, ◌+◌, ◌%�
 use Rattle.std.specs.Prelude.{◌==◌, map, if◌then◌else◌}
 use Rattle.std.proofs.lemmas.List.{length-map}
 use Rattle.std.proofs.lemmas.List.Concat.{length-flat_map}
-use Rattle.otlp_model.specs.Telemetry.{Item, span, log_record, metric, telemetry, signal_of, entries_of, entries_of_group, told_as}
+use Rattle.otlp_model.specs.Telemetry.{Item, span, log_record, metric, telemetry, signal_of, item_entries, entries_of_group, told_as}
 use Rattle.otlp_model.specs.declared.groups.ResourceGroup.{ResourceGroup}
 use Rattle.otlp_model.specs.declared.request.Signal.{Signal}
 use Rattle.otlp_model.specs.declared.request.Signal.TheVariants as signals
-use Rattle.otlp_load.specs.Items.{span_of, log_record_of, metric_of}
+use Rattle.otlp_load.specs.Items.{load_span, load_log_record, load_metric}
 use Rattle.otlp_load.specs.Load.{generated, group_of, groups_of, places_below}
 use Rattle.otlp_load.proofs.GroupPlaces.{no_places, one_place_more}
 
@@ -40,7 +40,7 @@ group_counted : {I : Type 0} (item_of : ℕ → ℕ → I) (r g : ℕ) → lengt
 group_counted item_of r g = search (rules, length-map, length-append)
 
 -- the entries of three groups
-entries_counted : {I : Type 0} (item_of : ℕ → ℕ → I) (r : ℕ) → length (entries_of (groups_of item_of r)) ≡ 8192
+entries_counted : {I : Type 0} (item_of : ℕ → ℕ → I) (r : ℕ) → length (item_entries (groups_of item_of r)) ≡ 8192
 entries_counted item_of r =
     let e0 = group_counted item_of r 0 in
     let e1 = group_counted item_of r 1 in
@@ -48,10 +48,10 @@ entries_counted item_of r =
     let all = places_counted 8192 in
     length-flat_map entries_of_group (groups_of item_of r) ∙ omega arith
 
-told_counted : {I : Type 0} (kind : I → Item) (groups : List (ResourceGroup I)) → length (map (told_as kind) (entries_of groups)) ≡ length (entries_of groups)
-told_counted kind groups = length-map (entries_of groups) (told_as kind)
+told_counted : {I : Type 0} (kind : I → Item) (groups : List (ResourceGroup I)) → length (map (told_as kind) (item_entries groups)) ≡ length (item_entries groups)
+told_counted kind groups = length-map (item_entries groups) (told_as kind)
 
 pub is_counted : (s : Signal) (r : ℕ) → length (telemetry (generated s r)) ≡ 8192
-is_counted signals.Traces r = told_counted span (groups_of span_of r) ∙ entries_counted span_of r
-is_counted signals.Logs r = told_counted log_record (groups_of log_record_of r) ∙ entries_counted log_record_of r
-is_counted signals.Metrics r = told_counted metric (groups_of metric_of r) ∙ entries_counted metric_of r
+is_counted signals.Traces r = told_counted span (groups_of load_span r) ∙ entries_counted load_span r
+is_counted signals.Logs r = told_counted log_record (groups_of load_log_record r) ∙ entries_counted load_log_record r
+is_counted signals.Metrics r = told_counted metric (groups_of load_metric r) ∙ entries_counted load_metric r

@@ -1,7 +1,7 @@
 -- The items of the load, by their numbers: item `number` stands in request r. What isn't told of an item is absent or 0.
 use Rattle.std.specs.Prelude.{ℕ, ◌+◌, ◌*◌, ◌%◌, ◌==◌, true, List, [], ◌∷◌, ◌++◌, codes, pos, if◌then◌else◌}
 use Rattle.std.specs.Int.{w64, to_be_bytes}
-use Rattle.otlp_load.specs.Pairs.{numbered, double, pairs_of}
+use Rattle.otlp_load.specs.Pairs.{numbered_text, double, pairs_of}
 use Rattle.otlp_model.specs.declared.value.Value.TheVariants as values
 use Rattle.otlp_model.specs.declared.spans.Span.{Span}
 use Rattle.otlp_model.specs.declared.spans.Event.{Event}
@@ -18,19 +18,19 @@ abbrev pub time_of : ℕ → ℕ
 time_of number = 1000000000 * number
 
 -- the number as eight bytes, the highest first
-abbrev pub id_of : ℕ → List ℕ
-id_of number = to_be_bytes w64 number
+abbrev pub load_id : ℕ → List ℕ
+load_id number = to_be_bytes w64 number
 
 abbrev pub event_at : List ℕ → ℕ → Event
 event_at name time = record { time = time; name = name; pairs = []; dropped = 0 }
 
-abbrev pub span_of : ℕ → ℕ → Span
-span_of r number = record {
-  trace_id = id_of number ++ id_of number;
-  span_id = id_of number;
+abbrev pub load_span : ℕ → ℕ → Span
+load_span r number = record {
+  trace_id = load_id number ++ load_id number;
+  span_id = load_id number;
   parent_span_id = [];
   trace_state = [];
-  name = numbered (codes "op-") (number % 300);
+  name = numbered_text (codes "op-") (number % 300);
   kind = pos (1 + number % 5);
   start = time_of number;
   end = time_of number + number % 700;
@@ -45,13 +45,13 @@ span_of r number = record {
   status_message = [];
 }
 
-abbrev pub log_record_of : ℕ → ℕ → LogRecord
-log_record_of r number = record {
+abbrev pub load_log_record : ℕ → ℕ → LogRecord
+load_log_record r number = record {
   time = time_of number;
   observed = 0;
   severity = pos (1 + number % 24);
   severity_text = [];
-  body = values.Str (numbered (codes "message ") (number % 5000));
+  body = values.Str (numbered_text (codes "message ") (number % 5000));
   pairs = pairs_of r number;
   dropped = 0;
   flags = 0;
@@ -60,8 +60,8 @@ log_record_of r number = record {
   event_name = [];
 }
 
-abbrev pub point_of : ℕ → ℕ → Number → Point
-point_of r number value = record {
+abbrev pub load_point : ℕ → ℕ → Number → Point
+load_point r number value = record {
   start = 0;
   time = time_of number;
   value = value;
@@ -71,15 +71,15 @@ point_of r number value = record {
 }
 
 -- an odd number has a sum that is cumulative (temporality 2) and monotonic, an even one a gauge
-abbrev pub shape_of : ℕ → ℕ → Shape
-shape_of r number =
-    if number % 2 == 1 then shapes.Sum (point_of r number (numbers.Int (pos number)) ∷ []) (pos 2) true
-    else shapes.Gauge (point_of r number (numbers.Double (double number)) ∷ [])
+abbrev pub load_shape : ℕ → ℕ → Shape
+load_shape r number =
+    if number % 2 == 1 then shapes.Sum (load_point r number (numbers.Int (pos number)) ∷ []) (pos 2) true
+    else shapes.Gauge (load_point r number (numbers.Double (double number)) ∷ [])
 
-abbrev pub metric_of : ℕ → ℕ → Metric
-metric_of r number = record {
-  name = numbered (codes "m-") (number % 300);
+abbrev pub load_metric : ℕ → ℕ → Metric
+load_metric r number = record {
+  name = numbered_text (codes "m-") (number % 300);
   description = [];
   unit = codes "1";
-  shape = shape_of r number;
+  shape = load_shape r number;
 }

@@ -1,3 +1,4 @@
 pub mod Items
 pub mod Load
 pub mod Pairs
+pub mod Inside

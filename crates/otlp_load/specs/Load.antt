@@ -2,8 +2,8 @@
 -- 8192 r + k, in three groups.
 use Rattle.std.specs.Prelude.{ℕ, ◌+◌, ◌*◌, ◌%◌, ◌==◌, List, [], ◌∷◌, map, filter, codes, pos}
 use Rattle.std.specs.List.{range_with_len}
-use Rattle.otlp_load.specs.Pairs.{numbered}
-use Rattle.otlp_load.specs.Items.{span_of, log_record_of, metric_of}
+use Rattle.otlp_load.specs.Pairs.{numbered_text}
+use Rattle.otlp_load.specs.Items.{load_span, load_log_record, load_metric}
 use Rattle.otlp_model.specs.declared.value.Value.TheVariants as values
 use Rattle.otlp_model.specs.declared.value.Pair.{Pair}
 use Rattle.otlp_model.specs.declared.groups.Resource.{Resource}
@@ -22,26 +22,22 @@ items_each = 8192
 abbrev pub requests_at_most : ℕ
 requests_at_most = 1000
 
--- the number of each item is below this
-abbrev pub numbers_end : ℕ
-numbers_end = items_each * requests_at_most
-
 -- the number of the item at the place k of request r
-abbrev pub number_at : ℕ → ℕ → ℕ
-number_at r k = items_each * r + k
+abbrev pub item_number : ℕ → ℕ → ℕ
+item_number r k = items_each * r + k
 
 -- the places of group g below some place, in ascending order: those that leave g when they are divided by 3
 unfoldable pub places_below : ℕ → ℕ → List ℕ
 places_below end g = filter (λ k. k % 3 == g) (range_with_len 0 end)
 
 abbrev pub service_of : ℕ → Pair
-service_of g = record { key = codes "service.name"; value = values.Str (numbered (codes "svc-") g) }
+service_of g = record { key = codes "service.name"; value = values.Str (numbered_text (codes "svc-") g) }
 
 abbrev pub host_of : ℕ → Pair
 host_of g = record { key = codes "host.id"; value = values.Int (pos g) }
 
-abbrev pub resource_of : ℕ → Resource
-resource_of g = record { schema_url = []; dropped = 0; pairs = service_of g ∷ host_of g ∷ [] }
+abbrev pub load_resource : ℕ → Resource
+load_resource g = record { schema_url = []; dropped = 0; pairs = service_of g ∷ host_of g ∷ [] }
 
 abbrev pub scope_of_all : Scope
 scope_of_all = record { schema_url = []; name = codes "gen"; version = codes "1"; dropped = 0; pairs = [] }
@@ -49,8 +45,8 @@ scope_of_all = record { schema_url = []; name = codes "gen"; version = codes "1"
 -- group g of request r, whose items are made of the number r and their own
 abbrev pub group_of : {I : Type 0} → (ℕ → ℕ → I) → ℕ → ℕ → ResourceGroup I
 group_of item_of r g = record {
-  resource = resource_of g;
-  scopes = record { scope = scope_of_all; items = map (λ k. item_of r (number_at r k)) (places_below items_each g) } ∷ [];
+  resource = load_resource g;
+  scopes = record { scope = scope_of_all; items = map (λ k. item_of r (item_number r k)) (places_below items_each g) } ∷ [];
 }
 
 abbrev pub groups_of : {I : Type 0} → (ℕ → ℕ → I) → ℕ → List (ResourceGroup I)
@@ -58,6 +54,6 @@ groups_of item_of r = map (group_of item_of r) (range_with_len 0 3)
 
 -- request r of a signal
 abbrev pub generated : Signal → ℕ → Request
-generated signals.Traces r = Traces (groups_of span_of r)
-generated signals.Logs r = Logs (groups_of log_record_of r)
-generated signals.Metrics r = Metrics (groups_of metric_of r)
+generated signals.Traces r = Traces (groups_of load_span r)
+generated signals.Logs r = Logs (groups_of load_log_record r)
+generated signals.Metrics r = Metrics (groups_of load_metric r)

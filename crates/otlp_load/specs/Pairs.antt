@@ -12,21 +12,21 @@ abbrev pub double : ℕ → ℕ
 double number = to_bits binary64 (of_int binary64 (pos number))
 
 -- a text with a number after it, in decimal
-abbrev pub numbered : List ℕ → ℕ → List ℕ
-numbered text number = text ++ decimal number
+abbrev pub numbered_text : List ℕ → ℕ → List ℕ
+numbered_text text number = text ++ decimal number
 
 -- the value at a place among the pairs of item `number`, which stands in request r
-abbrev pub value_at : ℕ → ℕ → ℕ → Value
-value_at r number place =
-    if place == 8 then values.Str (numbered (codes "batch-") r)
-    else if place % 4 == 0 then values.Str (numbered (codes "v") ((number + place) % (64 * (place + 1))))
+abbrev pub load_value : ℕ → ℕ → ℕ → Value
+load_value r number place =
+    if place == 8 then values.Str (numbered_text (codes "batch-") r)
+    else if place % 4 == 0 then values.Str (numbered_text (codes "v") ((number + place) % (64 * (place + 1))))
     else if place % 4 == 1 then values.Int (pos (number % 1000))
     else if place % 4 == 2 then values.Bool (number % 2 == 1)
     else values.Double (double number)
 
-abbrev pub pair_at : ℕ → ℕ → ℕ → Pair
-pair_at r number place = record { key = numbered (codes "k") place; value = value_at r number place }
+abbrev pub load_pair : ℕ → ℕ → ℕ → Pair
+load_pair r number place = record { key = numbered_text (codes "k") place; value = load_value r number place }
 
 -- the twelve pairs
 unfoldable pub pairs_of : ℕ → ℕ → List Pair
-pairs_of r number = map (pair_at r number) (range_with_len 0 12)
+pairs_of r number = map (load_pair r number) (range_with_len 0 12)

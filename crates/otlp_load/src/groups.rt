@@ -1,6 +1,6 @@
 //! The groups of a request, for items of any signal.
 ghost use Rattle.std.specs.Prelude.{◌≡◌, ◌<◌, IfOk, map};
-ghost use Rattle.otlp_load.specs.Load.{items_each, requests_at_most, number_at, places_below, resource_of, scope_of_all, group_of, groups_of};
+ghost use Rattle.otlp_load.specs.Load.{items_each, requests_at_most, item_number, places_below, load_resource, scope_of_all, group_of, groups_of};
 
 use crate::items::{LoadItem, list_of_one};
 use crate::pairs::numbered;
@@ -48,7 +48,7 @@ fn group<I: LoadItem>(
 }
 
 fn resource(alloc: Global, place: u32) -> Result<Resource, AllocError>
-    ensures { IfOk result (λ resource. resource ≡ resource_of place) }
+    ensures { IfOk result (λ resource. resource ≡ load_resource place) }
 {
     let mut pairs = Items::new(alloc);
     pairs.reserve(2)?;
@@ -83,7 +83,7 @@ fn scope(alloc: Global) -> Result<Scope, AllocError>
 fn items<I: LoadItem>(alloc: Global, request: u32, group: u32) -> Result<Items<I>, AllocError>
     requires request { request < requests_at_most }
     requires group { group < 3 }
-    ensures { IfOk result (λ items. items ≡ map (λ k. I.item_of request (number_at request k)) (places_below items_each group)) }
+    ensures { IfOk result (λ items. items ≡ map (λ k. I.item_of request (item_number request k)) (places_below items_each group)) }
 {
     let mut items = Items::new(alloc);
     items.reserve((ITEMS / GROUPS + 1) as usize)?;

@@ -1,7 +1,7 @@
 //! The items: spans, log records and metrics.
 ghost use Rattle.std.specs.Prelude.{◌≡◌, ◌<◌, [], ◌∷◌, ◌++◌, IfOk, codes};
-ghost use Rattle.otlp_load.specs.Items.{time_of, event_at, span_of, log_record_of, point_of, shape_of, metric_of};
-ghost use Rattle.otlp_load.specs.Load.{numbers_end};
+ghost use Rattle.otlp_load.specs.Items.{time_of, event_at, load_span, load_log_record, load_point, load_shape, load_metric};
+ghost use Rattle.otlp_load.specs.Inside.{numbers_end};
 
 use crate::pairs::{double, numbered, pairs};
 use otlp_model::{
@@ -41,7 +41,7 @@ pub(crate) fn list_of_one<T: Drop>(alloc: Global, item: T) -> Result<Items<T>, A
 }
 
 impl LoadItem for Span {
-    ghost item_of = { span_of };
+    ghost item_of = { load_span };
 
     fn made(alloc: Global, request: u32, number: u32) -> Result<Span, AllocError> {
         let id = u64::from(number).to_be_bytes();
@@ -99,7 +99,7 @@ fn event(alloc: Global, name: &str, time: u64) -> Result<Event, AllocError>
 }
 
 impl LoadItem for LogRecord {
-    ghost item_of = { log_record_of };
+    ghost item_of = { load_log_record };
 
     fn made(alloc: Global, request: u32, number: u32) -> Result<LogRecord, AllocError> {
         Ok(LogRecord {
@@ -119,7 +119,7 @@ impl LoadItem for LogRecord {
 }
 
 impl LoadItem for Metric {
-    ghost item_of = { metric_of };
+    ghost item_of = { load_metric };
 
     fn made(alloc: Global, request: u32, number: u32) -> Result<Metric, AllocError> {
         Ok(Metric {
@@ -134,7 +134,7 @@ impl LoadItem for Metric {
 /// What a metric measures: an odd number has a monotonic sum, an even one a gauge.
 fn shape(alloc: Global, request: u32, number: u32) -> Result<Shape, AllocError>
     requires { number < numbers_end }
-    ensures { IfOk result (λ shape. shape ≡ shape_of request number) }
+    ensures { IfOk result (λ shape. shape ≡ load_shape request number) }
 {
     if number % 2 == 1 {
         let value = Number::Int(i64::from(number));
@@ -152,7 +152,7 @@ fn shape(alloc: Global, request: u32, number: u32) -> Result<Shape, AllocError>
 
 fn point(alloc: Global, request: u32, number: u32, value: Number) -> Result<Point, AllocError>
     requires { number < numbers_end }
-    ensures { IfOk result (λ point. point ≡ point_of request number value) }
+    ensures { IfOk result (λ point. point ≡ load_point request number value) }
 {
     Ok(Point {
         start: 0,

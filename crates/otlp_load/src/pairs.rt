@@ -1,7 +1,7 @@
 //! The texts and the pairs of an item.
 ghost use Rattle.std.specs.Prelude.{◌≡◌, ◌<◌, IfOk, codes};
-ghost use Rattle.otlp_load.specs.Load.{numbers_end};
-ghost use Rattle.otlp_load.specs.Pairs.{double, numbered, value_at, pair_at, pairs_of};
+ghost use Rattle.otlp_load.specs.Inside.{numbers_end};
+ghost use Rattle.otlp_load.specs.Pairs.{double, numbered_text, load_value, load_pair, pairs_of};
 
 use otlp_model::{Items, Pair, Text, Value};
 use std::alloc::{AllocError, Global};
@@ -12,7 +12,7 @@ const PAIRS: u32 = 12;
 
 /// The text with the number after it.
 pub(crate) fn numbered(alloc: Global, text: &str, number: u32) -> Result<Text, AllocError>
-    ensures { IfOk result (λ made. made ≡ numbered text.now number) }
+    ensures { IfOk result (λ made. made ≡ numbered_text text.now number) }
 {
     let made = format!(in alloc; "{text}{number}")?;
     Text::from_str(alloc, &made)
@@ -42,7 +42,7 @@ pub(crate) fn pairs(alloc: Global, request: u32, number: u32) -> Result<Items<Pa
 fn pair(alloc: Global, request: u32, number: u32, place: u32) -> Result<Pair, AllocError>
     requires number { number < numbers_end }
     requires place { place < 12 }
-    ensures { IfOk result (λ pair. pair ≡ pair_at request number place) }
+    ensures { IfOk result (λ pair. pair ≡ load_pair request number place) }
 {
     Ok(Pair {
         key: Text::from_str(alloc, key(place))?,
@@ -53,7 +53,7 @@ fn pair(alloc: Global, request: u32, number: u32, place: u32) -> Result<Pair, Al
 /// The key at a place.
 fn key(place: u32) -> &'static str
     requires { place < 12 }
-    ensures { result.now ≡ numbered (codes "k") place }
+    ensures { result.now ≡ numbered_text (codes "k") place }
 {
     match place {
         0 => "k0",
@@ -76,7 +76,7 @@ fn key(place: u32) -> &'static str
 fn value(alloc: Global, request: u32, number: u32, place: u32) -> Result<Value, AllocError>
     requires number { number < numbers_end }
     requires place { place < 12 }
-    ensures { IfOk result (λ value. value ≡ value_at request number place) }
+    ensures { IfOk result (λ value. value ≡ load_value request number place) }
 {
     Ok(match place % 4 {
         0 if place == 8 => Value::Str(numbered(alloc, "batch-", request)?),

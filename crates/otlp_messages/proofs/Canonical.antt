@@ -3,10 +3,11 @@ use Rattle.std.proofs.Common.{◌≡◌, ℕ, ◌+◌, ◌*◌, ◌^◌, ◌<◌
 use Rattle.std.specs.Prelude.{map, filter, ◌==◌, ◌&&◌, ◌||◌, not, nat_lt}
 use Rattle.std.specs.List.{flat_map, list_all, AllByRecursion}
 use Rattle.std.proofs.lemmas.Grind.{flat_map-append}
-use Rattle.std.proofs.lemmas.Bool.{cases_eq, cases_Bool, false≢true, ne_eqb, eq-eqb, ltb-true}
+use Rattle.std.proofs.lemmas.Bool.{cases_eq, cases_Bool, false≢true, ne_eqb, eq-eqb, ltb-true, and_parts}
 use Rattle.std.proofs.lemmas.List.{length-append}
-use Rattle.std.proofs.lemmas.List.Elements.{filter-append}
 use Rattle.std.proofs.lemmas.List.{map-append}
+use Rattle.std.proofs.lemmas.List.Elements.{filter-append}
+use Rattle.lists.proofs.Every.{every_append}
 use Rattle.otlp_messages.specs.declared.messages.Message.{Message}
 use Rattle.otlp_wire.specs.declared.parts.WireError.{WireError}
 use Rattle.otlp_wire.specs.Wire.{FieldValue, Varint, Fixed64, Bytes, Fixed32, Entry, IsNumber, Fits, spelling}
@@ -17,26 +18,20 @@ use Rattle.otlp_wire.proofs.Written.{is_field}
 use Rattle.otlp_messages.specs.Table.{kind_of, mark_of}
 use Rattle.otlp_messages.specs.Fine.{FineValue}
 use Rattle.otlp_messages.specs.Rows.{only}
-use Rattle.otlp_messages.specs.Canon.{Filled, entries_of, entries, canon_row, canon, no_values, one_mark_each, apart, laid_out, IsShort, RowFits, values_at, IsReadBack}
-use Rattle.otlp_messages.proofs.Steps.{marked, count-append, count-one, AllByRecursion-append, AllFine, fine_of}
-
--- what the parts of a conjunction of tests say
-both : (a b : Bool) → (a && b) ≡ true → (a ≡ true) × (b ≡ true)
-both true true h = (refl, refl)
-both true false h = absurd (false≢true h)
-both false b h = absurd (false≢true h)
+use Rattle.otlp_messages.specs.Canon.{Filled, entries_of, entries, canon_row, canon, no_values, one_mark_each, apart, is_laid_out, FitsLength, RowFits, values_at, IsReadBack}
+use Rattle.otlp_messages.proofs.Steps.{marked, count-append, count-one, AllFine, fine_of}
 
 record LaidOut (m : Message) (r : Filled) (rows : List Filled) : Type 0 where
   number : IsNumber r.number
   apart_from : list_all (apart m r) rows ≡ true
-  others : laid_out m rows ≡ true
+  others : is_laid_out m rows ≡ true
 
-laid_first : (m : Message) (r : Filled) (rows : List Filled) → laid_out m (r ∷ rows) ≡ true → LaidOut m r rows
+laid_first : (m : Message) (r : Filled) (rows : List Filled) → is_laid_out m (r ∷ rows) ≡ true → LaidOut m r rows
 laid_first m r rows h =
     let n = r.number in
-    let a = both (nat_lt 0 n && nat_lt n (2 ^ 29) && list_all (apart m r) rows) (laid_out m rows) h in
-    let b = both (nat_lt 0 n && nat_lt n (2 ^ 29)) (list_all (apart m r) rows) a.0 in
-    let c = both (nat_lt 0 n) (nat_lt n (2 ^ 29)) b.0 in
+    let a = and_parts (nat_lt 0 n && nat_lt n (2 ^ 29) && list_all (apart m r) rows) (is_laid_out m rows) h in
+    let b = and_parts (nat_lt 0 n && nat_lt n (2 ^ 29)) (list_all (apart m r) rows) a.0 in
+    let c = and_parts (nat_lt 0 n) (nat_lt n (2 ^ 29)) b.0 in
     record { number = (ltb-true 0 n c.0, ltb-true n (2 ^ 29) c.1); apart_from = b.1; others = a.1 }
 
 -- fields that fit are spelled
@@ -96,8 +91,8 @@ none_marked : (m : Message) (k : ℕ) (r : Filled) (rows : List Filled) → mark
     → marked m k (entries rows) ≡ 0
 none_marked m k r [] is above some h = refl
 none_marked m k r (s ∷ rows) is above some h =
-    let b = both (apart m r s) (list_all (apart m r) rows) h in
-    let test = both (nat_lt r.number s.number) (one_mark_each m r s) b.0 in
+    let b = and_parts (apart m r s) (list_all (apart m r) rows) h in
+    let test = and_parts (nat_lt r.number s.number) (one_mark_each m r s) b.0 in
     omega (arith, marked-entries m k s rows, here (other_mark m r s k is above some test.1), none_marked m k r rows is above some b.1)
   where
     here : ((mark_of m s.number == k) ≡ false) ⊎ (no_values s.values ≡ true) → marked m k (entries_of s) ≡ 0
@@ -107,7 +102,7 @@ none_marked m k r (s ∷ rows) is above some h =
 Fit : Message → ℕ → List Filled → Type 0
 Fit m l rows = AllByRecursion (RowFits m l) rows
 
-one_marked : (m : Message) (l k : ℕ) (rows : List Filled) → 0 < k → laid_out m rows ≡ true → Fit m l rows → marked m k (entries rows) ≤ 1
+one_marked : (m : Message) (l k : ℕ) (rows : List Filled) → 0 < k → is_laid_out m rows ≡ true → Fit m l rows → marked m k (entries rows) ≤ 1
 unfolding Fit
 one_marked m l k [] above laid fit = omega arith
 one_marked m l k (r ∷ rows) above laid fit =
@@ -127,7 +122,7 @@ one_marked m l k (r ∷ rows) above laid fit =
     one here rest same (inr few) = omega (arith, marked-entries m k r rows)
 
 -- the fields are written and fine where their parts are short
-pub short_value : (n : ℕ) (v : FieldValue) → length (spelling (record { number = n; value = v })) < 2 ^ 64 → IsShort v
+pub short_value : (n : ℕ) (v : FieldValue) → length (spelling (record { number = n; value = v })) < 2 ^ 64 → FitsLength v
 short_value n (Varint x) h = tt
 short_value n (Fixed64 x) h = tt
 short_value n (Fixed32 x) h = tt
@@ -135,7 +130,7 @@ short_value n (Bytes part) h =
     omega (arith, length-append (varint (8 * n + 2)) (varint (length part) ++ part), length-append (varint (length part)) part)
 
 entries_fit : (m : Message) (l n : ℕ) (vs : List FieldValue) → IsNumber n → length (canon_row n vs) < 2 ^ 64
-    → AllByRecursion (λ v. IsShort v → Fits v × FineValue (kind_of m n) l v) vs
+    → AllByRecursion (λ v. FitsLength v → Fits v × FineValue (kind_of m n) l v) vs
     → AllWritten (entries_of (record { number = n; values = vs })) × AllFine m l (entries_of (record { number = n; values = vs }))
 unfolding AllWritten
 entries_fit m l n [] number small h = (tt, tt)
@@ -145,7 +140,7 @@ entries_fit m l n (v ∷ vs) number small h =
     let others = entries_fit m l n vs number (omega (arith, size)) h.1 in
     (((number, first.0), others.0), (first.1, others.1))
 
-all_fit : (m : Message) (l : ℕ) (rows : List Filled) → laid_out m rows ≡ true → Fit m l rows → length (canon rows) < 2 ^ 64 → AllWritten (entries rows) × AllFine m l (entries rows)
+all_fit : (m : Message) (l : ℕ) (rows : List Filled) → is_laid_out m rows ≡ true → Fit m l rows → length (canon rows) < 2 ^ 64 → AllWritten (entries rows) × AllFine m l (entries rows)
 unfolding Fit AllWritten
 all_fit m l [] laid fit small = (tt, tt)
 all_fit m l (r ∷ rows) laid fit small =
@@ -153,8 +148,8 @@ all_fit m l (r ∷ rows) laid fit small =
     let size = length-append (canon_row r.number r.values) (canon rows) in
     let here = entries_fit m l r.number r.values h.number (omega (arith, size)) fit.0.fine in
     let others = all_fit m l rows h.others fit.1 (omega (arith, size)) in (
-      AllByRecursion-append (λ f. IsNumber f.number × Fits f.value) (entries_of r) (entries rows) here.0 others.0,
-      AllByRecursion-append (λ f. FineValue (kind_of m f.number) l f.value) (entries_of r) (entries rows) here.1 others.1,
+      every_append (λ f. IsNumber f.number × Fits f.value) (entries_of r) (entries rows) here.0 others.0,
+      every_append (λ f. FineValue (kind_of m f.number) l f.value) (entries_of r) (entries rows) here.1 others.1,
     )
 
 -- the values of one number
@@ -172,13 +167,13 @@ not_only_row n k (v ∷ vs) other = rw other (not_only_row n k vs other)
 none_later : (m : Message) (r : Filled) (rows : List Filled) (n : ℕ) → r.number ≡ n → list_all (apart m r) rows ≡ true → only n (entries rows) ≡ []
 none_later m r [] n is h = refl
 none_later m r (s ∷ rows) n is h =
-    let b = both (apart m r s) (list_all (apart m r) rows) h in
-    let above = ltb-true r.number s.number (both (nat_lt r.number s.number) (one_mark_each m r s) b.0).0 in
+    let b = and_parts (apart m r s) (list_all (apart m r) rows) h in
+    let above = ltb-true r.number s.number (and_parts (nat_lt r.number s.number) (one_mark_each m r s) b.0).0 in
     only-append n (entries_of s) (entries rows)
     ∙ ap (λ vs. vs ++ only n (entries rows)) (not_only_row n s.number s.values (ne_eqb s.number n (omega arith)))
     ∙ none_later m r rows n is b.1
 
-pub only-entries : (m : Message) (rows : List Filled) (n : ℕ) → laid_out m rows ≡ true → only n (entries rows) ≡ values_at n rows
+pub only-entries : (m : Message) (rows : List Filled) (n : ℕ) → is_laid_out m rows ≡ true → only n (entries rows) ≡ values_at n rows
 only-entries m [] n laid = refl
 only-entries m (r ∷ rows) n laid =
     let h = laid_first m r rows laid in
@@ -191,7 +186,7 @@ only-entries m (r ∷ rows) n laid =
     ]
 
 -- the law
-pub rows_read : (m : Message) (l : ℕ) (rows : List Filled) → laid_out m rows ≡ true → AllByRecursion (RowFits m l) rows → length (canon rows) < 2 ^ 64 → IsReadBack m l rows
+pub rows_read : (m : Message) (l : ℕ) (rows : List Filled) → is_laid_out m rows ≡ true → AllByRecursion (RowFits m l) rows → length (canon rows) < 2 ^ 64 → IsReadBack m l rows
 unfolding Fit
 rows_read m l rows laid fit small =
     let h = all_fit m l rows laid fit small in

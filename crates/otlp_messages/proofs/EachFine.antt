@@ -15,8 +15,9 @@ use Rattle.otlp_wire.specs.Wire.{FieldValue, Entry}
 use Rattle.otlp_wire.specs.Fields.{fields_of}
 use Rattle.otlp_messages.specs.Table.{kind_of}
 use Rattle.otlp_messages.specs.Defects.{has_type, Occurs, IsFine}
-use Rattle.otlp_messages.specs.Fine.{FinePart, FineValue, ValueStands}
+use Rattle.otlp_messages.specs.Fine.{FinePart, FineValue}
 use Rattle.otlp_messages.specs.Rows.{only, said, bytes_in, parts_of}
+use Rattle.otlp_messages.specs.Inside.{ValueStands}
 use Rattle.otlp_messages.proofs.Steps.{AllFine, value_stands}
 
 -- no defect stands in the value

@@ -11,12 +11,14 @@ use Rattle.otlp_wire.specs.Wire.{FieldValue, Varint, Fixed64, Bytes, Fixed32, Fi
 use Rattle.otlp_messages.specs.Table.{kind_of, mark_of}
 use Rattle.otlp_messages.specs.Fine.{FinePart, FineValue}
 use Rattle.otlp_messages.specs.Rows.{fixed64_in, fixed32_in, uint32_in, int32_in, int64_in, bool_in, bytes_in, embedded_in, many_in, parts_of}
-use Rattle.otlp_messages.specs.Canon.{row, varint_row, signed_row, bool_row, fixed64_row, fixed32_row, bytes_row, many_row, canon_row, IsShort, RowFits}
+use Rattle.otlp_messages.specs.Canon.{row, varint_row, signed_row, bool_row, fixed64_row, fixed32_row, bytes_row, many_row, canon_row, FitsLength, RowFits}
 use Rattle.otlp_messages.proofs.Canonical.{short_value}
 use Rattle.std.proofs.lemmas.List.{length-append}
+use Rattle.lists.proofs.Every.{map_back}
+use Rattle.lists.proofs.Numbers.{unsigned_small}
 
 -- a value at most, of the kind of its number
-one_fits : (m : Message) (l n : ℕ) (v : FieldValue) → (IsShort v → Fits v × FineValue (kind_of m n) l v) → RowFits m l (row n (v ∷ []))
+one_fits : (m : Message) (l n : ℕ) (v : FieldValue) → (FitsLength v → Fits v × FineValue (kind_of m n) l v) → RowFits m l (row n (v ∷ []))
 one_fits m l n v fits = record { few = inr (omega arith); fine = (fits, tt) }
 
 pub none_fits : (m : Message) (l n : ℕ) → RowFits m l (row n [])
@@ -53,15 +55,7 @@ pub bool_fits : (m : Message) (l n : ℕ) (b : Bool) → kind_of m n ≡ kinds.V
 bool_fits m l n true is = one_fits m l n (Varint 1) (λ _. (omega arith, rw is refl))
 bool_fits m l n false is = none_fits m l n
 
--- a signed number of 32 bits, and one of 64
-pub wider : (z : ℤ) → FitsSigned w32 z → FitsSigned w64 z
-wider (pos n) h = record { sfits = omega (arith, h.sfits) }
-wider (negsuc n) h = record { sfits = omega (arith, h.sfits) }
-
-pub unsigned_small : (z : ℤ) → FitsSigned w64 z → cast_unsigned w64 z < 2 ^ 64
-unsigned_small (pos n) h = omega (arith, h.sfits)
-unsigned_small (negsuc n) h = omega (arith, h.sfits)
-
+-- a signed number of 64 bits
 pub signed_fits : (m : Message) (l n : ℕ) (z : ℤ) → kind_of m n ≡ kinds.Varint → FitsSigned w64 z → RowFits m l (row n (signed_row z))
 signed_fits m l n z is fits = varint_fits m l n (cast_unsigned w64 z) is (unsigned_small z fits)
 
@@ -79,7 +73,7 @@ pub many_fits : (m : Message) (l n : ℕ) (parts : List (List ℕ)) → mark_of 
 many_fits m l n parts unmarked fine = record { few = inl unmarked; fine = each parts fine }
   where
     each : (ps : List (List ℕ)) → AllByRecursion (λ part. length part < 2 ^ 64 → FinePart (kind_of m n) l part) ps
-        → AllByRecursion (λ v. IsShort v → Fits v × FineValue (kind_of m n) l v) (many_row ps)
+        → AllByRecursion (λ v. FitsLength v → Fits v × FineValue (kind_of m n) l v) (many_row ps)
     each [] h = tt
     each (part ∷ ps) h = ((λ short. (short, h.0 short)), each ps h.1)
 
@@ -144,14 +138,10 @@ many_onto read xs (part ∷ parts) = many_onto read (xs ++ read part ∷ []) par
 pub many_back : {A : Type 0} (read : List ℕ → A) (parts : List (List ℕ)) → fold (many_in read) [] (many_row parts) ≡ map read parts
 many_back read parts = many_onto read [] parts
 
-pub map-back : {A : Type 0} (read : List ℕ → A) (write : A → List ℕ) (xs : List A) → AllByRecursion (λ x. read (write x) ≡ x) xs → map read (map write xs) ≡ xs
-map-back read write [] h = refl
-map-back read write (x ∷ xs) h = ap (λ y. y ∷ map read (map write xs)) h.0 ∙ ap (λ ys. x ∷ ys) (map-back read write xs h.1)
-
 -- each of them by what writes one
 pub each_back : {A : Type 0} (read : List ℕ → A) (write : A → List ℕ) (xs : List A) → AllByRecursion (λ x. read (write x) ≡ x) xs
     → fold (many_in read) [] (many_row (map write xs)) ≡ xs
-each_back read write xs h = many_back read (map write xs) ∙ map-back read write xs h
+each_back read write xs h = many_back read (map write xs) ∙ map_back read write xs h
 
 -- the parts of a row are short where the row is
 pub short_parts : (n : ℕ) (parts : List (List ℕ)) → length (canon_row n (many_row parts)) < 2 ^ 64 → AllByRecursion (λ part. length part < 2 ^ 64) parts

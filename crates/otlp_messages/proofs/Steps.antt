@@ -1,11 +1,12 @@
 -- What a loop over the fields of a message keeps.
-use Rattle.std.proofs.Common.{◌≡◌, ◌≢◌, ℕ, zero, suc, ◌+◌, ◌-◌, sub-one, Result, Ok, Err, IfErr, ◌<◌, ◌≤◌, List, [], ◌∷◌, ◌++◌, length, get_or, set, length-set, append_assoc, append-nil, add-zero, replicate}
+use Rattle.std.proofs.Common.{◌≡◌, ◌≢◌, ℕ, zero, suc, ◌+◌, ◌-◌, sub-one, ◌<◌, ◌≤◌, List, [], ◌∷◌, ◌++◌, length, get_or, set, length-set, append_assoc, append-nil, add-zero}
 use Rattle.std.proofs.Common.{Bool, true, false, cond, Option, Some, None, count_by, refl, sym, ap, ◌∙◌, subst, arith, inl, inr}
 use Rattle.std.specs.Prelude.{slice_index_or, ◌==◌, not}
 use Rattle.std.specs.List.{AllByRecursion}
 use Rattle.std.proofs.lemmas.Bool.{cases_eq, false≢true, ne_eqb, eq-eqb}
 use Rattle.std.proofs.lemmas.List.{get_or-set_same, get_or-set_other}
 use Rattle.std.proofs.lemmas.List.Sums.{sum_by-append}
+use Rattle.lists.proofs.Every.{every_append, every_at}
 use Rattle.otlp_messages.specs.declared.messages.Message.{Message}
 use Rattle.otlp_messages.specs.declared.messages.FieldKind.{FieldKind}
 use Rattle.otlp_messages.specs.declared.messages.FieldKind.TheVariants.{Unknown, Varint, Fixed64, Fixed32, Packed64, Text, Octets, Id, Embedded, Member, Refused}
@@ -20,7 +21,19 @@ use Rattle.otlp_wire.proofs.FieldsOf.{part_is_shorter}
 use Rattle.otlp_wire.proofs.Readings.{part_len}
 use Rattle.otlp_messages.specs.Table.{kind_of, mark_of}
 use Rattle.otlp_messages.specs.Defects.{ValueFaults, inside, Occurs, Stands, wire_error, twice, in_value, within, IsFine}
-use Rattle.otlp_messages.specs.Fine.{FinePart, FineValue, StandsIn, ValueStands, Checked}
+use Rattle.otlp_messages.specs.Fine.{FinePart, FineValue}
+use Rattle.otlp_messages.specs.Inside.{StandsIn, ValueStands}
+
+-- a reader has looked at the fields `done` of the bytes, and `rest` is left. No defect stands in them,
+-- and `seen` says which marks they have.
+pub record Checked (message : Message) (levels : ℕ) (bytes : List ℕ) (seen : List Bool) (rest : List ℕ) : Type 0 where
+  pub done : List Entry
+  pub whole : fields_of bytes ≡ done ++ fields_of rest
+  pub end : end_of bytes ≡ end_of rest
+  pub fine : AllByRecursion (λ f. FineValue (kind_of message f.number) levels f.value) done
+  pub once : (k : ℕ) → 0 < k → count_by (λ f. mark_of message f.number == k) done ≡ cond (slice_index_or seen k false) 1 0
+  pub none : slice_index_or seen 0 false ≡ false
+  pub size : length seen ≡ mark_limit
 
 -- how many of the fields have the mark
 abbrev pub marked : Message → ℕ → List Entry → ℕ
@@ -35,14 +48,6 @@ count-one p f fs = count-append p (f ∷ []) fs ∙ ap (λ n. n + count_by p fs)
     one : (n : ℕ) → 0 + n ≡ n
     one n = omega arith
 
-pub AllByRecursion-append : {X : Type 0} (P : X → Type 0) (xs ys : List X) → AllByRecursion P xs → AllByRecursion P ys → AllByRecursion P (xs ++ ys)
-AllByRecursion-append P [] ys a b = b
-AllByRecursion-append P (x ∷ xs) ys a b = (a.0, AllByRecursion-append P xs ys a.1 b)
-
-pub AllByRecursion-at : {X : Type 0} (P : X → Type 0) (before after : List X) (x : X) → AllByRecursion P (before ++ x ∷ after) → P x
-AllByRecursion-at P [] after x a = a.0
-AllByRecursion-at P (y ∷ before) after x a = AllByRecursion-at P before after x a.1
-
 -- no mark is seen at first
 pub checked_none : (m : Message) (l : ℕ) (bytes : List ℕ) (seen : List Bool) → length seen ≡ mark_limit → ((k : ℕ) → slice_index_or seen k false ≡ false) → Checked m l bytes seen bytes
 checked_none m l bytes seen size none = record {
@@ -54,11 +59,6 @@ checked_none m l bytes seen size none = record {
   none = none 0;
   size = size;
 }
-
-pub none_seen : (n k : ℕ) → slice_index_or (replicate n false) k false ≡ false
-none_seen zero k = refl
-none_seen (suc n) zero = refl
-none_seen (suc n) (suc k) = none_seen n k
 
 -- the first of the fields that are left
 pub first_occurs : (m : Message) (l : ℕ) (bytes rest new : List ℕ) (seen : List Bool) (f : Entry) → Checked m l bytes seen rest → fields_of rest ≡ f ∷ fields_of new → Occurs bytes f
@@ -128,7 +128,7 @@ checked_more m l bytes rest new seen f h first end few fresh fine =
       done = h.done ++ f ∷ [];
       whole = h.whole ∙ ap (λ fs. h.done ++ fs) first ∙ sym (append_assoc h.done (f ∷ []) (fields_of new));
       end = h.end ∙ end;
-      fine = AllByRecursion-append (λ g. FineValue (kind_of m g.number) l g.value) h.done (f ∷ []) h.fine (fine, tt);
+      fine = every_append (λ g. FineValue (kind_of m g.number) l g.value) h.done (f ∷ []) h.fine (fine, tt);
       once = λ q above. count-append (λ g. mark_of m g.number == q) h.done (f ∷ []) ∙ count-last m q f (marked m q h.done) ∙ set_once seen k q (marked m q h.done) small above fresh (h.once q above);
       none = set_none seen k small h.none;
       size = length-set seen k (not (k == 0)) ∙ size;
@@ -183,7 +183,7 @@ AllFine m l fs = AllByRecursion (λ f. FineValue (kind_of m f.number) l f.value)
 pub fine_at : (m : Message) (l : ℕ) (bytes : List ℕ) (fs : List Entry) (f : Entry) → fields_of bytes ≡ fs → AllFine m l fs → Occurs bytes f
     → FineValue (kind_of m f.number) l f.value
 fine_at m l bytes fs f is all occurs =
-    AllByRecursion-at (λ g. FineValue (kind_of m g.number) l g.value) occurs.0 occurs.1 f (subst (AllFine m l) (sym is ∙ occurs.2) all)
+    every_at (λ g. FineValue (kind_of m g.number) l g.value) occurs.0 occurs.1 f (subst (AllFine m l) (sym is ∙ occurs.2) all)
 
 abbrev none_of : Option WireError
 none_of = None
@@ -219,7 +219,3 @@ value_is_shorter bytes f occurs = part_is_shorter bytes f occurs.0 occurs.1 occu
 pub member_stands : (m : Message) (l : ℕ) (part : List ℕ) (e : Defect) → l ≢ 0 → Stands m (l - 1) part e → ValueStands (Member m) l (wire.Bytes part) e
 member_stands m zero part e some h = absurd (some refl)
 member_stands m (suc l) part e some h = inr (rw sub-one at h)
-
-pub IfErr-map : {T E : Type 0} (r : Result T E) (P Q : E → Type 0) → ((e : E) → P e → Q e) → IfErr r P → IfErr r Q
-IfErr-map (Ok x) P Q f h = tt
-IfErr-map (Err e) P Q f h = f e h

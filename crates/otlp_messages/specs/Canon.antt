@@ -81,19 +81,19 @@ one_mark_each m r s = mark_of m r.number == 0 || not (mark_of m r.number == mark
 abbrev pub apart : Message → Filled → Filled → Bool
 apart m r s = nat_lt r.number s.number && one_mark_each m r s
 
-abbrev pub laid_out : Message → List Filled → Bool
-laid_out m [] = true
-laid_out m (r ∷ rows) = nat_lt 0 r.number && nat_lt r.number number_limit && list_all (apart m r) rows && laid_out m rows
+abbrev pub is_laid_out : Message → List Filled → Bool
+is_laid_out m [] = true
+is_laid_out m (r ∷ rows) = nat_lt 0 r.number && nat_lt r.number number_limit && list_all (apart m r) rows && is_laid_out m rows
 
 -- bytes that a length can tell; it follows for each part from the length of the whole
-abbrev pub IsShort : FieldValue → Type 0
-IsShort (Bytes part) = length part < 2 ^ 64
-IsShort value = ⊤
+abbrev pub FitsLength : FieldValue → Type 0
+FitsLength (Bytes part) = length part < 2 ^ 64
+FitsLength value = ⊤
 
 -- no defect stands in the values of the row
 pub record RowFits (m : Message) (levels : ℕ) (r : Filled) : Type 0 where
   pub few : (mark_of m r.number ≡ 0) ⊎ (length r.values ≤ 1)
-  pub fine : AllByRecursion (λ v. IsShort v → Fits v × FineValue (kind_of m r.number) levels v) r.values
+  pub fine : AllByRecursion (λ v. FitsLength v → Fits v × FineValue (kind_of m r.number) levels v) r.values
 
 -- the values of the row with this number
 abbrev pub values_at : ℕ → List Filled → List FieldValue

@@ -61,5 +61,5 @@ pub record IsFine (message : Message) (levels : ℕ) (bytes : List ℕ) : Type 0
   pub none : (e : Defect) → Stands message levels bytes e → ⊥
 
 -- they are the message, or a defect stands in them
-abbrev pub IsDecided : Message → ℕ → List ℕ → Type 0
-IsDecided message levels bytes = IsFine message levels bytes ⊎ ((e : Defect) × Stands message levels bytes e)
+abbrev pub FineOrDefect : Message → ℕ → List ℕ → Type 0
+FineOrDefect message levels bytes = IsFine message levels bytes ⊎ ((e : Defect) × Stands message levels bytes e)

@@ -5,3 +5,4 @@ pub mod Rows
 pub mod Canon
 pub mod Limits
 pub mod Names
+pub mod Inside

@@ -1,5 +1,5 @@
 -- What the fields of a number say: their values from the left, each over what was read before.
-use Rattle.std.specs.Prelude.{ℕ, zero, suc, ◌/◌, ◌%◌, ◌^◌, List, [], ◌∷◌, ◌++◌, length, drop, map, filter, fold, ◌==◌, if◌then◌else◌, Option, Some, None, Bool, not, ℤ}
+use Rattle.std.specs.Prelude.{ℕ, zero, suc, ◌/◌, ◌%◌, ◌^◌, List, [], ◌∷◌, ◌++◌, length, drop, map, filter, fold, ◌==◌, if◌then◌else◌, Option, Some, Bool, not, ℤ}
 use Rattle.std.specs.Int.{w32, w64, cast_signed}
 use Rattle.byteorder.specs.Endian.{little_number}
 use Rattle.otlp_wire.specs.Wire.{FieldValue, Varint, Fixed64, Bytes, Fixed32, Entry}
@@ -49,14 +49,14 @@ optional_in old (Fixed64 n) = Some n
 optional_in old value = old
 
 -- the first numbers of 64 bits in the bytes, each little-endian
-abbrev pub numbers : ℕ → List ℕ → List ℕ
-numbers zero bytes = []
-numbers (suc count) bytes = little_number 8 bytes ∷ numbers count (drop 8 bytes)
+abbrev pub little_numbers : ℕ → List ℕ → List ℕ
+little_numbers zero bytes = []
+little_numbers (suc count) bytes = little_number 8 bytes ∷ little_numbers count (drop 8 bytes)
 
 -- one more number, or more packed numbers
 abbrev pub packed_in : List ℕ → FieldValue → List ℕ
 packed_in old (Fixed64 n) = old ++ n ∷ []
-packed_in old (Bytes part) = old ++ numbers (length part / 8) part
+packed_in old (Bytes part) = old ++ little_numbers (length part / 8) part
 packed_in old value = old
 
 -- a text or bytes
@@ -78,11 +78,3 @@ abbrev pub parts_of : List FieldValue → List (List ℕ)
 parts_of [] = []
 parts_of (Bytes part ∷ values) = part ∷ parts_of values
 parts_of (value ∷ values) = parts_of values
-
--- the message in a field, where the field has this number
-abbrev pub part_in : FieldValue → Option (List ℕ)
-part_in (Bytes part) = Some part
-part_in value = None
-
-abbrev pub part_at : ℕ → Entry → Option (List ℕ)
-part_at n f = if f.number == n then part_in f.value else None

@@ -4,7 +4,8 @@ ghost use Rattle.std.specs.Prelude.{OnOk, IfErr, ◌↔◌, IsTrue, IsUtf8};
 ghost use Rattle.otlp_wire.specs.Wire as wire;
 ghost use Rattle.otlp_wire.specs.Wire.{value_of};
 ghost use Rattle.otlp_messages.specs.Defects.{Stands, IsFine};
-ghost use Rattle.otlp_messages.specs.Fine.{FinePart, FineValue, ValueStands};
+ghost use Rattle.otlp_messages.specs.Fine.{FinePart, FineValue};
+ghost use Rattle.otlp_messages.specs.Inside.{ValueStands};
 
 use crate::messages::{Defect, FieldKind, Message};
 use crate::table::{MARKS, row_of};

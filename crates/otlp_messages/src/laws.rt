@@ -5,13 +5,13 @@ ghost use Rattle.std.specs.List.{AllByRecursion};
 ghost use Rattle.otlp_messages.specs.declared.messages.Message.{Message};
 ghost use Rattle.otlp_messages.specs.declared.checking.TheConstants.{LEVELS};
 ghost use Rattle.otlp_messages.specs.declared.table.TheConstants.{MARKS};
-ghost use Rattle.otlp_messages.specs.Defects.{IsDecided};
+ghost use Rattle.otlp_messages.specs.Defects.{FineOrDefect};
 ghost use Rattle.otlp_messages.specs.Limits.{level_limit, mark_limit};
-ghost use Rattle.otlp_messages.specs.Canon.{Filled, canon, laid_out, RowFits, IsReadBack};
+ghost use Rattle.otlp_messages.specs.Canon.{Filled, canon, is_laid_out, RowFits, IsReadBack};
 
 /// Rows that are written are the fields that are read, and no defect stands in them.
 pub fn rows_are_read()
-    ensures { (m : Message) (levels : ℕ) (rows : List Filled) → laid_out m rows ≡ true
+    ensures { (m : Message) (levels : ℕ) (rows : List Filled) → is_laid_out m rows ≡ true
         → AllByRecursion (RowFits m levels) rows → length (canon rows) < 2 ^ 64 → IsReadBack m levels rows }
 {}
 
@@ -23,5 +23,5 @@ pub fn limits()
 
 /// Whatever the bytes are, they are the message, or a defect stands in them.
 pub fn fine_or_defect()
-    ensures { (m : Message) (levels : ℕ) (bytes : List ℕ) → IsDecided m levels bytes }
+    ensures { (m : Message) (levels : ℕ) (bytes : List ℕ) → FineOrDefect m levels bytes }
 {}

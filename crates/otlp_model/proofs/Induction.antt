@@ -1,7 +1,8 @@
 -- Induction over values: what holds of a value if it holds of its members holds of each.
-use Rattle.std.proofs.Common.{ℕ, List, [], ◌∷◌, map, subst, Bool}
+use Rattle.std.proofs.Common.{ℕ, List, map, subst, Bool}
 use Rattle.std.specs.Prelude.{ℤ}
 use Rattle.std.specs.List.{AllByRecursion}
+use Rattle.lists.proofs.Every.{every_made}
 use Rattle.otlp_model.specs.declared.value.Value.{Value, ind-Value, roll-Value, map-Value}
 use Rattle.otlp_model.specs.declared.value.Value as values
 use Rattle.otlp_model.specs.declared.value.Value.TheOpen.{Value-F}
@@ -19,11 +20,6 @@ pub record Step (P : Value → Type 0) : Type 0 where
   pub pairs : (pairs : List Pair) → AllByRecursion (λ pair. P pair.value) pairs → P (values.Map pairs)
   pub bytes : (octets : List ℕ) → P (values.Bytes octets)
 
--- what comes with each element, of the list of the elements
-each : {S A : Type 0} (value : S → A) (P : A → Type 0) (fact : (s : S) → P (value s)) (ss : List S) → AllByRecursion P (map value ss)
-each value P fact [] = tt
-each value P fact (s ∷ ss) = (fact s, each value P fact ss)
-
 -- a value or a pair, with what holds of it
 abbrev SuchValue : (Value → Type 0) → Type 0
 SuchValue P = Such values.TheBlock.the_family (values.TheFolds.claims P (λ pair. P pair.value)) values.TheBlock.member-Value
@@ -39,8 +35,8 @@ level P step (Value-F.Str text) = step.str text
 level P step (Value-F.Bool b) = step.flag b
 level P step (Value-F.Int z) = step.int z
 level P step (Value-F.Double bits) = step.double bits
-level P step (Value-F.Array members) = step.array (map (λ e. e.0) members) (each (λ e. e.0) P (λ e. e.1) members)
-level P step (Value-F.Map pairs) = step.pairs (map (λ e. e.0) pairs) (each (λ e. e.0) (λ pair. P pair.value) (λ e. e.1) pairs)
+level P step (Value-F.Array members) = step.array (map (λ e. e.0) members) (every_made P (λ e. e.0) members (λ e. e.1))
+level P step (Value-F.Map pairs) = step.pairs (map (λ e. e.0) pairs) (every_made (λ pair. P pair.value) (λ e. e.0) pairs (λ e. e.1))
 level P step (Value-F.Bytes octets) = step.bytes octets
 
 pub holds : (P : Value → Type 0) → Step P → (value : Value) → P value

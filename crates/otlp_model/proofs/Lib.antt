@@ -6,4 +6,5 @@ pub mod Places
 pub mod RealParts
 pub mod Runs
 pub mod Signals
+pub mod Totals
 pub mod WithItems

@@ -3,7 +3,7 @@ use Rattle.std.proofs.Common.{◌≡◌, ℕ, suc, ◌+◌, ◌-◌, ◌<◌, �
 use Rattle.std.specs.List.{flat_map}
 use Rattle.std.proofs.lemmas.List.{take_rest, drop-drop, get_or_default}
 use Rattle.std.proofs.Math.ListN.{drop_of_length-le}
-use Rattle.otlp_model.specs.Telemetry.{entries_of_scope_group, entries_of}
+use Rattle.otlp_model.specs.Telemetry.{entries_of_scope_group, item_entries}
 use Rattle.otlp_model.specs.Walk.{left_of_scopes, left_of_groups, left, IsRun}
 use Rattle.otlp_model.specs.declared.groups.Resource.{Resource}
 use Rattle.otlp_model.specs.declared.groups.ScopeGroup.{ScopeGroup}
@@ -22,11 +22,11 @@ scopes_start : {I : Type 0} (r : Resource) (scopes : List (ScopeGroup I)) → le
 scopes_start r [] = refl
 scopes_start r (s ∷ ss) = refl
 
-groups_start : {I : Type 0} (groups : List (ResourceGroup I)) → left_of_groups groups 0 0 ≡ entries_of groups
+groups_start : {I : Type 0} (groups : List (ResourceGroup I)) → left_of_groups groups 0 0 ≡ item_entries groups
 groups_start [] = refl
-groups_start (g ∷ gs) = ap (λ es. es ++ entries_of gs) (scopes_start g.resource g.scopes)
+groups_start (g ∷ gs) = ap (λ es. es ++ item_entries gs) (scopes_start g.resource g.scopes)
 
-pub left_start : {I : Type 0} (groups : List (ResourceGroup I)) → left groups 0 0 0 ≡ entries_of groups
+pub left_start : {I : Type 0} (groups : List (ResourceGroup I)) → left groups 0 0 0 ≡ item_entries groups
 unfolding left
 left_start groups = groups_start groups
 
@@ -54,7 +54,7 @@ unfolding left
 run_at groups i p k g s inside e within f h =
     let items = take_rest s.items k in
     record {
-      more = flat_map (entries_of_scope_group g.resource) (drop (p + 1) g.scopes) ++ entries_of (drop (i + 1) groups);
+      more = flat_map (entries_of_scope_group g.resource) (drop (p + 1) g.scopes) ++ item_entries (drop (i + 1) groups);
       from = λ n small. rw (items, drop-drop n k s.items, opened groups i g inside e, opened g.scopes p s within f, append_assoc) refl;
       some = rw (items, length-drop k s.items) (omega arith);
       inside = inside;

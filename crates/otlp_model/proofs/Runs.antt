@@ -4,7 +4,7 @@ use Rattle.std.specs.Prelude.{◌↔◌}
 use Rattle.std.specs.List.{AllZip}
 use Rattle.std.proofs.lemmas.List.{take-append-drop, map-append, length-map, length-take}
 use Rattle.otlp_model.specs.Same.{SameResource, SameScope, SameEntry}
-use Rattle.otlp_model.specs.Telemetry.{entry}
+use Rattle.otlp_model.specs.Telemetry.{item_entry}
 use Rattle.otlp_model.specs.Walk.{left, IsRun, StartsSame}
 use Rattle.lists.proofs.Zipped.{zipped_append, zipped_front, zipped_rest}
 use Rattle.otlp_model.specs.declared.groups.Resource.{Resource}
@@ -13,19 +13,19 @@ use Rattle.otlp_model.specs.declared.groups.ResourceGroup.{ResourceGroup}
 
 module _ {I : Type 0} (SameOne : I → I → Type 0) (r q : Resource) (s t : Scope) where
   told_same : (xs ys : List I) → SameResource r q → SameScope s t → AllZip SameOne xs ys
-      → AllZip (SameEntry SameOne) (map (entry r s) xs) (map (entry q t) ys)
+      → AllZip (SameEntry SameOne) (map (item_entry r s) xs) (map (item_entry q t) ys)
   told_same [] [] a b h = tt
   told_same [] (y ∷ ys) a b h = absurd h
   told_same (x ∷ xs) [] a b h = absurd h
   told_same (x ∷ xs) (y ∷ ys) a b h = (record { resource = a; scope = b; item = h.0 }, told_same xs ys a b h.1)
 
-  items_told : (xs ys : List I) → AllZip (SameEntry SameOne) (map (entry r s) xs) (map (entry q t) ys) → AllZip SameOne xs ys
+  items_told : (xs ys : List I) → AllZip (SameEntry SameOne) (map (item_entry r s) xs) (map (item_entry q t) ys) → AllZip SameOne xs ys
   items_told [] [] h = tt
   items_told [] (y ∷ ys) h = absurd h
   items_told (x ∷ xs) [] h = absurd h
   items_told (x ∷ xs) (y ∷ ys) h = (h.0.item, items_told xs ys h.1)
 
-  origin_told : (xs ys : List I) → 0 < length xs → AllZip (SameEntry SameOne) (map (entry r s) xs) (map (entry q t) ys)
+  origin_told : (xs ys : List I) → 0 < length xs → AllZip (SameEntry SameOne) (map (item_entry r s) xs) (map (item_entry q t) ys)
       → SameResource r q × SameScope s t
   origin_told [] ys some h = absurd (omega arith)
   origin_told (x ∷ xs) [] some h = absurd h
@@ -33,12 +33,12 @@ module _ {I : Type 0} (SameOne : I → I → Type 0) (r q : Resource) (s t : Sco
 
 -- a run is its first n entries, and what is left after them
 run_parts : {I : Type 0} (groups : List (ResourceGroup I)) (i p k n : ℕ) (r : Resource) (s : Scope) (xs : List I)
-    → IsRun groups i p k r s xs → n ≤ length xs → left groups i p k ≡ map (entry r s) (take n xs) ++ left groups i p (k + n)
+    → IsRun groups i p k r s xs → n ≤ length xs → left groups i p k ≡ map (item_entry r s) (take n xs) ++ left groups i p (k + n)
 run_parts groups i p k n r s xs run h =
-    let here : left groups i p k ≡ map (entry r s) xs ++ run.more = rw (← (add-zero k)) (run.from 0 (omega arith)) in
+    let here : left groups i p k ≡ map (item_entry r s) xs ++ run.more = rw (← (add-zero k)) (run.from 0 (omega arith)) in
     let later = run.from n h in
-    let parts = ap (map (entry r s)) (sym (take-append-drop n xs)) ∙ map-append (entry r s) (take n xs) (drop n xs) in
-    here ∙ ap (λ es. es ++ run.more) parts ∙ append_assoc (map (entry r s) (take n xs)) (map (entry r s) (drop n xs)) run.more ∙ ap (λ es. map (entry r s) (take n xs) ++ es) (sym later)
+    let parts = ap (map (item_entry r s)) (sym (take-append-drop n xs)) ∙ map-append (item_entry r s) (take n xs) (drop n xs) in
+    here ∙ ap (λ es. es ++ run.more) parts ∙ append_assoc (map (item_entry r s) (take n xs)) (map (item_entry r s) (drop n xs)) run.more ∙ ap (λ es. map (item_entry r s) (take n xs) ++ es) (sym later)
 
 pub run_some : {I : Type 0} (groups : List (ResourceGroup I)) (i p k : ℕ) (r : Resource) (s : Scope) (xs : List I)
     → IsRun groups i p k r s xs → left groups i p k ≡ [] → ⊥
@@ -67,11 +67,11 @@ none_beside R (x ∷ xs) (y ∷ ys) e h = cc
 module _ {I : Type 0} (SameOne : I → I → Type 0) (gs hs : List (ResourceGroup I)) (i p k j u m n : ℕ)
     (r q : Resource) (s t : Scope) (xs ys : List I)
     (x : IsRun gs i p k r s xs) (y : IsRun hs j u m q t ys) (in_xs : n ≤ length xs) (in_ys : n ≤ length ys) where
-  long : length (map (entry r s) (take n xs)) ≡ length (map (entry q t) (take n ys))
+  long : length (map (item_entry r s) (take n xs)) ≡ length (map (item_entry q t) (take n ys))
   long = grind (arith, length-map, length-take)
 
   split : AllZip (SameEntry SameOne) (left gs i p k) (left hs j u m)
-      ↔ AllZip (SameEntry SameOne) (map (entry r s) (take n xs) ++ left gs i p (k + n)) (map (entry q t) (take n ys) ++ left hs j u (m + n))
+      ↔ AllZip (SameEntry SameOne) (map (item_entry r s) (take n xs) ++ left gs i p (k + n)) (map (item_entry q t) (take n ys) ++ left hs j u (m + n))
   split = rw (run_parts gs i p k n r s xs x in_xs, run_parts hs j u m n q t ys y in_ys) (λ h. h, λ h. h)
 
   pub starts_told : 0 < n → AllZip (SameEntry SameOne) (left gs i p k) (left hs j u m) → StartsSame SameOne n r q s t xs ys

@@ -2,7 +2,8 @@
 use Rattle.std.proofs.Common.{◌≡◌, ℕ, ◌^◌, min, List, [], ◌∷◌, length, map, refl, ap, arith}
 use Rattle.std.specs.Prelude.{◌↔◌, ◌≢◌, IsTrue, Bool}
 use Rattle.std.specs.List.{AllZip}
-use Rattle.otlp_model.specs.Telemetry.{ItemEntry, Item, span, log_record, metric, told_as, entries_of, telemetry, signal_of}
+use Rattle.std.proofs.lemmas.List.{nil_from_length}
+use Rattle.otlp_model.specs.Telemetry.{ItemEntry, Item, span, log_record, metric, told_as, item_entries, telemetry, signal_of}
 use Rattle.otlp_model.specs.Same.{SameItem, SameSpan, SameLogRecord, SameMetric, SameEntry, Same}
 use Rattle.otlp_model.specs.declared.groups.ResourceGroup.{ResourceGroup}
 use Rattle.otlp_model.specs.declared.spans.Span.{Span}
@@ -30,17 +31,17 @@ module _ {I : Type 0} (kind : I → Item) (SameOne : I → I → Type 0) where
       (record { resource = h.0.resource; scope = h.0.scope; item = f x.item y.item h.0.item }, kept_back f xs ys h.1)
 
 pub same_traces : (a b : Request) (x y xs ys : List (ResourceGroup Span)) (r : Bool) → a ≡ Traces x → b ≡ Traces y → xs ≡ x → ys ≡ y
-    → (IsTrue r ↔ AllZip (SameEntry SameSpan) (entries_of xs) (entries_of ys)) → IsTrue r ↔ Same a b
+    → (IsTrue r ↔ AllZip (SameEntry SameSpan) (item_entries xs) (item_entries ys)) → IsTrue r ↔ Same a b
 same_traces a b x y xs ys r ax by' xx yy h = rw (ax, by', ← xx, ← yy)
     (λ t. kept span SameSpan (λ p q e. e) _ _ (h.0 t), λ s. h.1 (kept_back span SameSpan (λ p q e. e) _ _ s))
 
 pub same_logs : (a b : Request) (x y xs ys : List (ResourceGroup LogRecord)) (r : Bool) → a ≡ Logs x → b ≡ Logs y → xs ≡ x → ys ≡ y
-    → (IsTrue r ↔ AllZip (SameEntry SameLogRecord) (entries_of xs) (entries_of ys)) → IsTrue r ↔ Same a b
+    → (IsTrue r ↔ AllZip (SameEntry SameLogRecord) (item_entries xs) (item_entries ys)) → IsTrue r ↔ Same a b
 same_logs a b x y xs ys r ax by' xx yy h = rw (ax, by', ← xx, ← yy)
     (λ t. kept log_record SameLogRecord (λ p q e. e) _ _ (h.0 t), λ s. h.1 (kept_back log_record SameLogRecord (λ p q e. e) _ _ s))
 
 pub same_metrics : (a b : Request) (x y xs ys : List (ResourceGroup Metric)) (r : Bool) → a ≡ Metrics x → b ≡ Metrics y → xs ≡ x → ys ≡ y
-    → (IsTrue r ↔ AllZip (SameEntry SameMetric) (entries_of xs) (entries_of ys)) → IsTrue r ↔ Same a b
+    → (IsTrue r ↔ AllZip (SameEntry SameMetric) (item_entries xs) (item_entries ys)) → IsTrue r ↔ Same a b
 same_metrics a b x y xs ys r ax by' xx yy h = rw (ax, by', ← xx, ← yy)
     (λ t. kept metric SameMetric (λ p q e. e) _ _ (h.0 t), λ s. h.1 (kept_back metric SameMetric (λ p q e. e) _ _ s))
 
@@ -55,13 +56,13 @@ unlike kind other f (x ∷ xs) (y ∷ ys) h = absurd (f x.item y.item h.0.item)
 
 pub same_unlike : (a b : Request) → signal_of a ≢ signal_of b → Same a b → (length (telemetry a) ≡ 0) × (length (telemetry b) ≡ 0)
 same_unlike (Traces x) (Traces y) d h = absurd (d refl)
-same_unlike (Traces x) (Logs y) d h = unlike span log_record (λ p q e. e) (entries_of x) (entries_of y) h
-same_unlike (Traces x) (Metrics y) d h = unlike span metric (λ p q e. e) (entries_of x) (entries_of y) h
-same_unlike (Logs x) (Traces y) d h = unlike log_record span (λ p q e. e) (entries_of x) (entries_of y) h
+same_unlike (Traces x) (Logs y) d h = unlike span log_record (λ p q e. e) (item_entries x) (item_entries y) h
+same_unlike (Traces x) (Metrics y) d h = unlike span metric (λ p q e. e) (item_entries x) (item_entries y) h
+same_unlike (Logs x) (Traces y) d h = unlike log_record span (λ p q e. e) (item_entries x) (item_entries y) h
 same_unlike (Logs x) (Logs y) d h = absurd (d refl)
-same_unlike (Logs x) (Metrics y) d h = unlike log_record metric (λ p q e. e) (entries_of x) (entries_of y) h
-same_unlike (Metrics x) (Traces y) d h = unlike metric span (λ p q e. e) (entries_of x) (entries_of y) h
-same_unlike (Metrics x) (Logs y) d h = unlike metric log_record (λ p q e. e) (entries_of x) (entries_of y) h
+same_unlike (Logs x) (Metrics y) d h = unlike log_record metric (λ p q e. e) (item_entries x) (item_entries y) h
+same_unlike (Metrics x) (Traces y) d h = unlike metric span (λ p q e. e) (item_entries x) (item_entries y) h
+same_unlike (Metrics x) (Logs y) d h = unlike metric log_record (λ p q e. e) (item_entries x) (item_entries y) h
 same_unlike (Metrics x) (Metrics y) d h = absurd (d refl)
 
 -- requests without items tell the same
@@ -100,12 +101,8 @@ same_counted a b m n counted_a counted_b differ = (
   λ s. let none = same_unlike a b differ s in (omega (arith, counted_a, none.0), omega (arith, counted_b, none.1)),
 )
 
-none_left : {A : Type 0} (xs : List A) → length xs ≡ 0 → xs ≡ []
-none_left [] e = refl
-none_left (x ∷ xs) e = absurd (omega arith)
-
 pub same_of_two : (a b : Request) → signal_of a ≢ signal_of b → Same a b ↔ ((telemetry a ≡ []) × (telemetry b ≡ []))
 same_of_two a b differ = (
-  λ s. let none = same_unlike a b differ s in (none_left (telemetry a) none.0, none_left (telemetry b) none.1),
+  λ s. let none = same_unlike a b differ s in (nil_from_length (telemetry a) none.0, nil_from_length (telemetry b) none.1),
   λ h. same_empty a b (ap length h.0) (ap length h.1),
 )

@@ -1,10 +1,11 @@
 -- Groups without items leave no entries.
-use Rattle.std.proofs.Common.{◌≡◌, List, [], ◌∷◌, ◌++◌, length, map, filter, Bool, true, false, refl, sym, ◌∙◌, ap, subst, arith, inl, inr}
+use Rattle.std.proofs.Common.{◌≡◌, List, [], ◌∷◌, ◌++◌, length, map, filter, Bool, true, false, refl, sym, ◌∙◌, ap, subst, inl, inr}
 use Rattle.std.specs.Prelude.{nat_lt, ◌⊎◌}
 use Rattle.std.specs.List.{flat_map, AllZip}
-use Rattle.std.proofs.lemmas.Bool.{cases_Bool, ltb-false}
+use Rattle.std.proofs.lemmas.Bool.{cases_Bool}
 use Rattle.std.proofs.lemmas.List.Folds.{flat_map-map}
-use Rattle.otlp_model.specs.Telemetry.{entry, told_as, entries_of_scope_group, entries_of_group, entries_of, trimmed, groups_with_items, with_items, telemetry, span, log_record, metric}
+use Rattle.lists.proofs.Truths.{empty}
+use Rattle.otlp_model.specs.Telemetry.{item_entry, told_as, entries_of_scope_group, entries_of_group, item_entries, trimmed, groups_with_items, with_items, telemetry, span, log_record, metric}
 use Rattle.otlp_model.specs.Same.{SameItem, SameEntry, Same}
 use Rattle.otlp_model.proofs.Equivalence.{same}
 use Rattle.otlp_model.specs.declared.groups.ResourceGroup.{ResourceGroup}
@@ -20,16 +21,12 @@ kept f p none (x ∷ xs) = split (cases_Bool (p x)) (kept f p none xs) where
   split (inl some) others = rw some (ap (λ ys. f x ++ ys) others)
   split (inr none_of_x) others = rw (none_of_x, none x none_of_x) others
 
-empty : {A : Type 0} (xs : List A) → nat_lt 0 (length xs) ≡ false → xs ≡ []
-empty [] h = refl
-empty (x ∷ xs) h = absurd (omega (arith, ltb-false 0 (length (x ∷ xs)) h))
-
 module _ {I : Type 0} where
   scopes_kept : (group : ResourceGroup I) → entries_of_group (trimmed group) ≡ entries_of_group group
   scopes_kept group = kept (entries_of_scope_group group.resource) (λ scope. nat_lt 0 (length scope.items))
-      (λ scope h. ap (map (entry group.resource scope.scope)) (empty scope.items h)) group.scopes
+      (λ scope h. ap (map (item_entry group.resource scope.scope)) (empty scope.items h)) group.scopes
 
-  groups_kept : (groups : List (ResourceGroup I)) → entries_of (groups_with_items groups) ≡ entries_of groups
+  groups_kept : (groups : List (ResourceGroup I)) → item_entries (groups_with_items groups) ≡ item_entries groups
   groups_kept groups =
       kept entries_of_group (λ group. nat_lt 0 (length group.scopes))
       (λ group h. ap (flat_map (entries_of_scope_group group.resource)) (empty group.scopes h)) (map trimmed groups)

@@ -19,17 +19,17 @@ pub record ItemEntry (I : Type 0) : Type 0 where
   pub scope : Scope
   pub item : I
 
-abbrev pub entry : {I : Type 0} → Resource → Scope → I → ItemEntry I
-entry resource scope item = record { resource = resource; scope = scope; item = item }
+abbrev pub item_entry : {I : Type 0} → Resource → Scope → I → ItemEntry I
+item_entry resource scope item = record { resource = resource; scope = scope; item = item }
 
 abbrev pub entries_of_scope_group : {I : Type 0} → Resource → ScopeGroup I → List (ItemEntry I)
-entries_of_scope_group resource group = map (entry resource group.scope) group.items
+entries_of_scope_group resource group = map (item_entry resource group.scope) group.items
 
 abbrev pub entries_of_group : {I : Type 0} → ResourceGroup I → List (ItemEntry I)
 entries_of_group group = flat_map (entries_of_scope_group group.resource) group.scopes
 
-abbrev pub entries_of : {I : Type 0} → List (ResourceGroup I) → List (ItemEntry I)
-entries_of groups = flat_map entries_of_group groups
+abbrev pub item_entries : {I : Type 0} → List (ResourceGroup I) → List (ItemEntry I)
+item_entries groups = flat_map entries_of_group groups
 
 -- an item of any signal
 pub data Item : Type 0 where
@@ -38,13 +38,13 @@ pub data Item : Type 0 where
   metric : Metric → Item
 
 abbrev pub told_as : {I : Type 0} → (I → Item) → ItemEntry I → ItemEntry Item
-told_as kind e = entry e.resource e.scope (kind e.item)
+told_as kind e = item_entry e.resource e.scope (kind e.item)
 
 -- all items of the request in order, over all groups
 abbrev pub telemetry : Request → List (ItemEntry Item)
-telemetry (Traces groups) = map (told_as span) (entries_of groups)
-telemetry (Logs groups) = map (told_as log_record) (entries_of groups)
-telemetry (Metrics groups) = map (told_as metric) (entries_of groups)
+telemetry (Traces groups) = map (told_as span) (item_entries groups)
+telemetry (Logs groups) = map (told_as log_record) (item_entries groups)
+telemetry (Metrics groups) = map (told_as metric) (item_entries groups)
 
 abbrev pub signal_of : Request → Signal
 signal_of (Traces groups) = signals.Traces

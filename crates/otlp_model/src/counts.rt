@@ -1,13 +1,13 @@
 ghost use Rattle.std.specs.Prelude.{◌≡◌, min, length};
 ghost use Rattle.otlp_model.specs.Limits.{count_cap};
-ghost use Rattle.otlp_model.specs.Telemetry.{entries_of, entries_of_group};
+ghost use Rattle.otlp_model.specs.Telemetry.{item_entries, entries_of_group};
 
 use crate::groups::ResourceGroup;
 use crate::limits::add_capped;
 
 /// How many items the groups have.
 pub(crate) fn item_count<I>(groups: &[ResourceGroup<I>]) -> u64
-    ensures { result ≡ min (length (entries_of groups.now)) count_cap }
+    ensures { result ≡ min (length (item_entries groups.now)) count_cap }
 {
     let mut count = 0;
     for group in groups {

@@ -1,6 +1,6 @@
 ghost use Rattle.std.specs.Prelude.{◌≡◌, ◌+◌, ◌≤◌, ◌<◌, ◌^◌, ◌↔◌, [], length, IsTrue, IfSome, IfNone};
 ghost use Rattle.std.specs.List.{AllZip};
-ghost use Rattle.otlp_model.specs.Telemetry.{entries_of};
+ghost use Rattle.otlp_model.specs.Telemetry.{item_entries};
 ghost use Rattle.otlp_model.specs.Same.{SameResource, SameEntry};
 ghost use Rattle.otlp_model.specs.Walk.{left, IsRun, StartsSame};
 
@@ -28,7 +28,7 @@ struct Run<'a, I> {
 impl<'a, I> ItemCursor<'a, I> {
     fn new(groups: &'a [ResourceGroup<I>]) -> Self
         ensures groups { result.groups.now ≡ groups.now }
-        ensures all { left result.groups.now result.group result.scope result.item ≡ entries_of groups.now }
+        ensures all { left result.groups.now result.group result.scope result.item ≡ item_entries groups.now }
     {
         ItemCursor {
             groups,
@@ -90,7 +90,7 @@ fn starts_same<I: Alike>(x: &Run<'_, I>, y: &Run<'_, I>, n: usize, known: bool) 
 ///
 /// It goes over both at once, run by run, so each two resources that items have in common are compared once.
 pub(crate) fn same_groups<I: Alike>(a: &[ResourceGroup<I>], b: &[ResourceGroup<I>]) -> bool
-    ensures { IsTrue result ↔ AllZip (SameEntry I.alike) (entries_of a.now) (entries_of b.now) }
+    ensures { IsTrue result ↔ AllZip (SameEntry I.alike) (item_entries a.now) (item_entries b.now) }
 {
     let mut left = ItemCursor::new(a);
     let mut right = ItemCursor::new(b);

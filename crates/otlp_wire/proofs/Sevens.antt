@@ -4,7 +4,7 @@ use Rattle.std.specs.Prelude.{slice_index}
 use Rattle.std.proofs.Math.Nat.{pow-le-pow_right, mul-le-mul_right, mod-eq_of_lt}
 use Rattle.std.proofs.lemmas.Bool.{cases_eq, cases_lt}
 use Rattle.std.proofs.lemmas.List.{take_rest}
-use Rattle.otlp_wire.specs.Varint.{sevens, GoesOn, IsVarint}
+use Rattle.otlp_wire.specs.Varint.{sevens, IsFollowed, IsVarint}
 use Rattle.otlp_wire.specs.Reading.{Begins}
 use Rattle.otlp_wire.proofs.Varints.{ends_at}
 
@@ -66,7 +66,7 @@ early i b nine high tenth =
     elim (cases_eq i 9) [ inl here ↦ (let low : b ≤ 1 = tenth here in absurd (omega arith)) | inr away ↦ omega arith ]
 
 -- a varint ends at the place i, and the rest is a slice of the bytes
-pub ends_before : (bytes : List ℕ) (i v : ℕ) → i < length bytes → i ≤ 9 → GoesOn bytes i → get_or bytes i 0 < 128 → (i ≡ 9 → get_or bytes i 0 ≤ 1)
+pub ends_before : (bytes : List ℕ) (i v : ℕ) → i < length bytes → i ≤ 9 → IsFollowed bytes i → get_or bytes i 0 < 128 → (i ≡ 9 → get_or bytes i 0 ≤ 1)
     → v ≡ sevens (take (i + 1) bytes)
     → Begins (λ front. IsVarint front v) bytes (take (length bytes - (i + 1)) (drop (i + 1) bytes))
 ends_before bytes i v below nine goes_on last tenth value =

@@ -160,7 +160,7 @@ no_number n h =
       | inr none ↦ rw (le-ltb 0 n none) refl
     ]
 
-small_type : (v : FieldValue) → wire_type v < 8
+pub small_type : (v : FieldValue) → wire_type v < 8
 small_type (Varint n) = omega arith
 small_type (Fixed64 n) = omega arith
 small_type (Bytes part) = omega arith

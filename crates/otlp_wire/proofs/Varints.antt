@@ -6,14 +6,14 @@ use Rattle.std.proofs.lemmas.List.{length-append, get_or_append_left, get_or-tak
 use Rattle.std.proofs.Math.Seq.{take-append_seam, drop-append_seam}
 use Rattle.otlp_wire.specs.declared.parts.WireError.{WireError}
 use Rattle.otlp_wire.specs.declared.parts.WireError.TheVariants.{Cut, BadVarint, BadWireType, BadTag}
-use Rattle.otlp_wire.specs.Varint.{sevens, GoesOn, IsVarint, IsCutVarint, IsLongVarint}
+use Rattle.otlp_wire.specs.Varint.{sevens, IsFollowed, IsVarint, IsCutVarint, IsLongVarint}
 use Rattle.otlp_wire.specs.Reading.{Begins, VarintFaults}
 use Rattle.otlp_wire.specs.Fields.{going_on, first_varint}
 
 -- the place of the first byte that goes no further
 record EndsAt (bytes : List ℕ) (last : ℕ) : Type 0 where
   inside : last < length bytes
-  goes_on : GoesOn bytes last
+  goes_on : IsFollowed bytes last
   ends : slice_index bytes last < 128
 
 one_end : (bytes : List ℕ) (k l : ℕ) → EndsAt bytes k → EndsAt bytes l → k ≡ l
@@ -30,7 +30,7 @@ front_ends front rest n v = record {
   ends = rw (get_or_append_left front rest 0 v.last (omega (arith, v.size))) v.ends;
 }
 
-same_front : (a b r s : List ℕ) → a ++ r ≡ b ++ s → length a ≡ length b → (a ≡ b) × (r ≡ s)
+pub same_front : (a b r s : List ℕ) → a ++ r ≡ b ++ s → length a ≡ length b → (a ≡ b) × (r ≡ s)
 same_front a b r s same size = (
   sym (take-append_seam a r) ∙ ap (take (length a)) same ∙ ap (λ n. take n (b ++ s)) size ∙ take-append_seam b s,
   sym (drop-append_seam a r) ∙ ap (drop (length a)) same ∙ ap (λ n. drop n (b ++ s)) size ∙ drop-append_seam b s,
@@ -89,7 +89,7 @@ one_varint_result bytes (Err d) (Ok y) p q = absurd (no_fault bytes y.0 y.1 d q 
 one_varint_result bytes (Err d) (Err e) p q = ap (λ f. Err f) (one_fault bytes d e p q)
 
 -- a varint ends at the place i
-pub ends_at : (bytes : List ℕ) (i v : ℕ) → i < length bytes → i ≤ 9 → GoesOn bytes i → slice_index bytes i < 128 → (i ≡ 9 → slice_index bytes i ≤ 1)
+pub ends_at : (bytes : List ℕ) (i v : ℕ) → i < length bytes → i ≤ 9 → IsFollowed bytes i → slice_index bytes i < 128 → (i ≡ 9 → slice_index bytes i ≤ 1)
     → v ≡ sevens (take (i + 1) bytes) → Begins (λ front. IsVarint front v) bytes (drop (i + 1) bytes)
 ends_at bytes i v below nine goes_on last tenth value = (
   take (i + 1) bytes,
@@ -111,11 +111,11 @@ ends_at bytes i v below nine goes_on last tenth value = (
 )
 
 -- the first byte that goes no further
-goes_on_more : (byte : ℕ) (bytes : List ℕ) (n : ℕ) → 128 ≤ byte → GoesOn bytes n → GoesOn (byte ∷ bytes) (suc n)
+goes_on_more : (byte : ℕ) (bytes : List ℕ) (n : ℕ) → 128 ≤ byte → IsFollowed bytes n → IsFollowed (byte ∷ bytes) (suc n)
 goes_on_more byte bytes n high on zero h = high
 goes_on_more byte bytes n high on (suc i) h = on i (omega arith)
 
-going_on-on : (bytes : List ℕ) → GoesOn bytes (going_on bytes)
+going_on-on : (bytes : List ℕ) → IsFollowed bytes (going_on bytes)
 going_on-on [] = λ i h. absurd (omega arith)
 going_on-on (byte ∷ bytes) =
     elim (cases_lt byte 128) [

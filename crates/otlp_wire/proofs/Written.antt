@@ -6,19 +6,20 @@ use Rattle.std.proofs.lemmas.List.{get_or_past}
 use Rattle.std.proofs.Math.Nat.{pow-succ'}
 use Rattle.byteorder.specs.Endian.{little_number, little_bytes}
 use Rattle.byteorder.specs.Numbers.{little_number-reads_back, length-bytes_low_first}
-use Rattle.otlp_wire.specs.Varint.{sevens, GoesOn, IsVarint, varint}
+use Rattle.otlp_wire.specs.Varint.{sevens, IsFollowed, IsVarint, varint}
 use Rattle.otlp_wire.specs.Wire.{FieldValue, Varint, Fixed64, Bytes, Fixed32, Entry, wire_type, IsNumber, IsValue, IsField, Fits, value_spelling, spelling}
 use Rattle.otlp_wire.proofs.Shortest.{varint_small, varint_large, length_varint, ten_at_most}
+use Rattle.otlp_wire.proofs.Values.{small_type}
 
 -- the shortest varint, whatever its length
 record Shortest (n : ℕ) : Type 0 where
   last : ℕ
   size : length (varint n) ≡ last + 1
-  goes_on : GoesOn (varint n) last
+  goes_on : IsFollowed (varint n) last
   ends : slice_index (varint n) last < 128
   value : n ≡ sevens (varint n)
 
-goes_more : (byte : ℕ) (bytes : List ℕ) (n : ℕ) → 128 ≤ byte → GoesOn bytes n → GoesOn (byte ∷ bytes) (n + 1)
+goes_more : (byte : ℕ) (bytes : List ℕ) (n : ℕ) → 128 ≤ byte → IsFollowed bytes n → IsFollowed (byte ∷ bytes) (n + 1)
 goes_more byte bytes n high on zero h = high
 goes_more byte bytes n high on (suc i) h = on i (omega arith)
 
@@ -88,12 +89,6 @@ is_value (Varint n) fits = is_one n fits
 is_value (Fixed64 n) fits = (length-bytes_low_first 0 8 n, read_back 8 n fits)
 is_value (Bytes part) fits = (varint (length part), is_one (length part) fits, refl)
 is_value (Fixed32 n) fits = (length-bytes_low_first 0 4 n, read_back 4 n fits)
-
-small_type : (v : FieldValue) → wire_type v < 8
-small_type (Varint n) = omega arith
-small_type (Fixed64 n) = omega arith
-small_type (Bytes part) = omega arith
-small_type (Fixed32 n) = omega arith
 
 pub is_field : (f : Entry) → IsNumber f.number → Fits f.value → IsField (spelling f) f
 is_field f number fits = record {

@@ -7,8 +7,8 @@ sevens [] = 0
 sevens (byte ∷ bytes) = byte % 128 + 128 * sevens bytes
 
 -- the highest bit of each of the first n bytes says that another byte follows
-abbrev pub GoesOn : List ℕ → ℕ → Type 0
-GoesOn bytes n = (i : ℕ) → i < n → 128 ≤ slice_index bytes i
+abbrev pub IsFollowed : List ℕ → ℕ → Type 0
+IsFollowed bytes n = (i : ℕ) → i < n → 128 ≤ slice_index bytes i
 
 -- the bytes are a varint of n: one to ten of them, of which only the last says that it is the last,
 -- and a tenth is at most 1, so that n fits 64 bits
@@ -16,7 +16,7 @@ pub record IsVarint (bytes : List ℕ) (n : ℕ) : Type 0 where
   pub last : ℕ
   pub size : length bytes ≡ last + 1
   pub at_most_ten : last < 10
-  pub goes_on : GoesOn bytes last
+  pub goes_on : IsFollowed bytes last
   pub ends : slice_index bytes last < 128
   pub tenth : slice_index bytes 9 ≤ 1
   pub value : n ≡ sevens bytes
@@ -24,12 +24,12 @@ pub record IsVarint (bytes : List ℕ) (n : ℕ) : Type 0 where
 -- the bytes end before a varint does
 pub record IsCutVarint (bytes : List ℕ) : Type 0 where
   pub short : length bytes < 10
-  pub goes_on : GoesOn bytes (length bytes)
+  pub goes_on : IsFollowed bytes (length bytes)
 
 -- the bytes begin with what would be a varint of more than 64 bits
 pub record IsLongVarint (bytes : List ℕ) : Type 0 where
   pub ten : 10 ≤ length bytes
-  pub goes_on : GoesOn bytes 9
+  pub goes_on : IsFollowed bytes 9
   pub tenth : 1 < slice_index bytes 9
 
 -- the shortest varint; the first number only bounds the recursion

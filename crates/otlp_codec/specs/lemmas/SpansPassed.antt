@@ -5,7 +5,7 @@ use Rattle.otlp_wire.specs.Fields.{fields_of}
 use Rattle.otlp_messages.specs.Rows.{fixed64_in, fixed32_in, uint32_in, int32_in, bytes_in, embedded_in, many_in}
 use Rattle.otlp_messages.proofs.Parts.{part_of}
 use Rattle.otlp_codec.specs.Groups.{pair_in}
-use Rattle.otlp_codec.specs.Spans.{event_in, link_in, no_status, status_in, span_in, status_of}
+use Rattle.otlp_codec.specs.Spans.{event_in, link_in, no_status, span_status_in, span_in, span_status_of}
 use Rattle.otlp_codec.specs.SpanSteps.{no_event, event_step, no_link, link_step, status_step, no_span, span_step}
 
 pub event_passes : (bytes : List ℕ) → fold event_step no_event (fields_of bytes) ≡ event_in bytes
@@ -32,8 +32,8 @@ link_passes bytes =
       flags = part_of link_step (λ r. r.flags) 6 fixed32_in (λ r f. refl) no_link fs i;
     }
 
-pub status_passes : (bytes : List ℕ) → fold status_step no_status (fields_of bytes) ≡ status_in bytes
-unfolding status_in
+pub status_passes : (bytes : List ℕ) → fold status_step no_status (fields_of bytes) ≡ span_status_in bytes
+unfolding span_status_in
 status_passes bytes =
     let fs = fields_of bytes in
     λ i. record {
@@ -45,7 +45,7 @@ pub span_passes : (bytes : List ℕ) → fold span_step no_span (fields_of bytes
 unfolding span_in
 span_passes bytes =
     let fs = fields_of bytes in
-    let status = part_of span_step status_of 15 (embedded_in status_in) (λ r f. refl) no_span fs in
+    let status = part_of span_step span_status_of 15 (embedded_in span_status_in) (λ r f. refl) no_span fs in
     λ i. record {
       trace_id = part_of span_step (λ r. r.trace_id) 1 bytes_in (λ r f. refl) no_span fs i;
       span_id = part_of span_step (λ r. r.span_id) 2 bytes_in (λ r f. refl) no_span fs i;

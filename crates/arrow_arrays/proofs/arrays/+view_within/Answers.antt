@@ -1,6 +1,6 @@
 use Rattle.std.proofs.Common.{IsOk, inl, inr, sym, subst}
 use Rattle.arrow_arrays.specs.declared.place.ArrayPlace.{ArrayPlace}
-use Rattle.arrow_arrays.specs.Arrays.{place_of}
+use Rattle.arrow_arrays.specs.Arrays.{array_place}
 use Rattle.arrow_arrays.specs.Cells.{array_in}
 use Rattle.arrow_arrays.specs.Found.{Finds}
 use Rattle.arrow_arrays.proofs.Checked.{check_at}
@@ -20,7 +20,7 @@ pub own_column-own-requires : goal.own_column-own-requires
 own_column-own-requires t c =
     let batch = c.args.batch.now in
     let a = c.in-Some.array.now in
-    let fine = check_reads batch (place_of a) (check_at batch c.args.arrays.now c.args.place a c.requires.fine (sym c.in-Some.ensures)) in
+    let fine = check_reads batch (array_place a) (check_at batch c.args.arrays.now c.args.place a c.requires.fine (sym c.in-Some.ensures)) in
     subst (λ (p : ArrayPlace). IsOk (array_in batch p)) (sym c.place.ensures) fine
 
 pub returns-in-Struct : goal.returns-in-Struct

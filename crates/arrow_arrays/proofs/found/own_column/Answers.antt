@@ -1,5 +1,5 @@
 use Rattle.std.proofs.Common.{ℕ, ◌+◌, refl, ap, ◌∙◌}
-use Rattle.arrow_arrays.specs.Found.{bytes_at, value_at}
+use Rattle.arrow_arrays.specs.Found.{bytes_at, value_by_buffers}
 use Rattle.arrow_arrays.proofs.Finding.{finds}
 use Rattle.arrow_arrays.proofs.found.own_column.Goals as goal
 
@@ -12,5 +12,5 @@ returns c =
       own = c.bytes_at.ensures ∙ ap (bytes_at batch) c.from-first.ensures;
       above = refl;
       top = refl;
-      stored = λ row. c.stored_at.ensures row ∙ ap (λ (first : ℕ). value_at batch (first + 1) place.layout row) c.from-first.ensures;
+      stored = λ row. c.stored_at.ensures row ∙ ap (λ (first : ℕ). value_by_buffers batch (first + 1) place.layout row) c.from-first.ensures;
     })

@@ -1,7 +1,7 @@
 use Rattle.std.proofs.Common.{◌≡◌, w64, to_z, of_z}
+use Rattle.std.proofs.Common.{drop, arith}
 use Rattle.std.specs.Int.{cast_signed}
 use Rattle.byteorder.specs.Endian.{little_number}
-use Rattle.std.proofs.Common.{drop, arith}
 use Rattle.std.proofs.lemmas.Grind.{common_steps}
 use Rattle.arrow_ipc.proofs.batch.pair_of.Goals as goal
 

@@ -1,5 +1,6 @@
 use Rattle.std.specs.Prelude.{◌≡◌, ◌⊎◌, List, Result, Ok, Err}
 use Rattle.std.proofs.Common.{refl, sym, ◌∙◌, inl, inr}
+use Rattle.lists.proofs.Equals.{ok_is}
 use Rattle.flat_tables.specs.Tables.{TableIn}
 use Rattle.arrow_schema.specs.declared.spec.FieldSpec.{FieldSpec}
 use Rattle.arrow_schema.specs.declared.refusal.SchemaRefusal.{SchemaRefusal}
@@ -7,7 +8,6 @@ use Rattle.arrow_schema.specs.Says.{SaysSchema}
 use Rattle.arrow_schema.specs.Readable.{IsReadable}
 use Rattle.arrow_schema.specs.Defects.{HasDefect}
 use Rattle.arrow_schema.specs.Reading.{schema_of}
-use Rattle.arrow_schema.proofs.Steps.{ok_is}
 use Rattle.arrow_schema.proofs.Found.{schema_found}
 use Rattle.arrow_schema.proofs.Only.{schema_again}
 use Rattle.arrow_schema.proofs.Refused.{schema_refused}

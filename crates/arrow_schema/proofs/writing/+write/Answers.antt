@@ -1,5 +1,6 @@
 use Rattle.std.proofs.Common.{◌≡◌, ℕ, ◌∷◌, [], List, true, sym, ap, ◌∙◌, subst, arith}
 use Rattle.std.specs.Prelude.{IsTrue}
+use Rattle.lists.proofs.Every.{all_pass_at}
 use Rattle.flat_tables.specs.declared.place.Slot.TheVariants.{U8, At}
 use Rattle.flat_tables.specs.Building.{StaysAt, IsText, HasSlots}
 use Rattle.flat_tables.proofs.Standing.{stands_on, grows_on}
@@ -7,7 +8,6 @@ use Rattle.arrow_schema.specs.declared.spec.FieldSpec.{FieldSpec}
 use Rattle.arrow_schema.specs.Trees.{count_of, name_in, kind_in, dict_in, encoding_in, children_in}
 use Rattle.arrow_schema.specs.Writing.{names_of, widths_in, widths_fit, named_in, encodings_named, type_slots, WritesFields}
 use Rattle.arrow_schema.proofs.FieldTrees.{costs, costs_more, counts_in, widths_below, named_below}
-use Rattle.arrow_schema.proofs.Lists.{list_all_at}
 use Rattle.arrow_schema.proofs.FieldsStand.{fields_step, within_step}
 use Rattle.arrow_schema.proofs.Written.{dict_slot_on, metadata_slot_on, field_stands, all_fields_stand, grows_over}
 use Rattle.arrow_schema.proofs.writing.+write.Goals as goal
@@ -82,8 +82,8 @@ add_fields-add_field-requires t c =
     let i = c.loop-field.field-index in
     let f = c.field-item.result in
     let more = costs_more fields i f (omega arith) c.field-item.is in
-    let fit : widths_in f ≡ true = ap widths_in c.field-item.is ∙ list_all_at widths_in fields i f c.requires.widths (omega arith) in
-    let named : named_in f ≡ true = ap named_in c.field-item.is ∙ list_all_at named_in fields i f c.requires.encodings (omega arith) in
+    let fit : widths_in f ≡ true = ap widths_in c.field-item.is ∙ all_pass_at widths_in fields i f c.requires.widths (omega arith) in
+    let named : named_in f ≡ true = ap named_in c.field-item.is ∙ all_pass_at named_in fields i f c.requires.encodings (omega arith) in
     (omega (arith, counts_in fields i f (omega arith) c.field-item.is), (fit, (named, omega (arith, c.loop-field.invariant.cost, c.requires.room, more.0, more.1))))
 
 pub add_fields-loop-field-preserved : goal.add_fields-loop-field-preserved

@@ -1,13 +1,13 @@
 use Rattle.std.proofs.Common.{◌≡◌, ◌+◌, ◌*◌, ◌≤◌, All, length, take, drop, vec_len}
 use Rattle.flat_tables.specs.Building.{Grows}
 use Rattle.arrow_schema.specs.Limits.{max_field_size}
-use Rattle.arrow_schema.specs.Trees.{count_in, count_of}
+use Rattle.arrow_schema.specs.Trees.{field_count, count_of}
 use Rattle.arrow_schema.specs.Writing.{names_of}
 use Rattle.arrow_schema.proofs.FieldsStand.{AllStand}
 use Rattle.arrow_schema.proofs.writing.+write.Given as goal
 
 abbrev pub decreases-add_field : goal.decreases-add_field
-decreases-add_field l = 2 * count_in l.field.now
+decreases-add_field l = 2 * field_count l.field.now
 
 abbrev pub decreases-add_fields : goal.decreases-add_fields
 decreases-add_fields l = 2 * count_of l.fields.now + 1

@@ -1,6 +1,6 @@
 use Rattle.std.proofs.Common.{◌≡◌, ◌+◌, ◌-◌, ◌*◌, length}
+use Rattle.lists.proofs.AllBytes.{IsBytes}
 use Rattle.cbor_values.specs.Reading.{many_at, open_at, pair_at, item_at}
-use Rattle.cbor_values.proofs.Bytes.{IsBytes}
 use Rattle.cbor_values.proofs.Loops.{with_front}
 use Rattle.cbor_values.proofs.reading.+read.Given as goal
 

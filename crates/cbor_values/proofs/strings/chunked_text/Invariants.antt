@@ -1,6 +1,6 @@
 use Rattle.std.proofs.Common.{◌≡◌, length}
+use Rattle.lists.proofs.AllBytes.{IsBytes}
 use Rattle.cbor_values.specs.Reading.{open_at, text_chunk_at, chunks_at}
-use Rattle.cbor_values.proofs.Bytes.{IsBytes}
 use Rattle.cbor_values.proofs.Loops.{with_text}
 use Rattle.cbor_values.proofs.strings.chunked_text.Given as goal
 

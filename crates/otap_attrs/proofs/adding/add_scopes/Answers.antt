@@ -1,12 +1,13 @@
 use Rattle.std.proofs.Common.{◌≤◌, ◌++◌, map, ap, ◌∙◌}
 use Rattle.std.specs.Borrow.{Bor}
+use Rattle.lists.proofs.Every.{found_all}
 use Rattle.otlp_model.specs.Limits.{weight_limit}
 use Rattle.otlp_model.specs.Weight.{total, weight_of_pair}
 use Rattle.otlp_model.specs.declared.groups.Scope.{Scope}
 use Rattle.otap_cells.specs.declared.payload.Kind.TheVariants as table
 use Rattle.otap_groups.specs.Flat.{scopes_of}
 use Rattle.otap_attrs.specs.Tables.{beside_kind, where_rows}
-use Rattle.otap_attrs.proofs.FoundLists.{found_all, found_table}
+use Rattle.otap_attrs.proofs.FoundLists.{found_table}
 use Rattle.otap_attrs.proofs.adding.add_scopes.Goals as goal
 
 pub write_attributes-requires-clause-weight : goal.write_attributes-requires-clause-weight

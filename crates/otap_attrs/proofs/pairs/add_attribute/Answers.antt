@@ -4,14 +4,14 @@ use Rattle.otap_cells.specs.Cells.{Cell, IsCellOf}
 use Rattle.otap_cells.specs.Columns.{base_at}
 use Rattle.otap_cells.specs.Continuing.{has_attributes, seen_attribute}
 use Rattle.otap_attrs.specs.Inside.{said_cell}
-use Rattle.otap_attrs.proofs.AttributeRows.{nine_columns}
 use Rattle.otap_attrs.proofs.AttributeCells.{IsLonger, former_stay, key_fits, longer_cell, longer_pushed, longer_some, parent_fits, table_written, type_fits, value_fits, value_within}
 use Rattle.otap_attrs.proofs.pairs.add_attribute.Goals as goal
+use Rattle.otap_cells.proofs.AttributeColumns.{attribute_width}
 
 pub set-requires-clause-column : goal.set-requires-clause-column
 set-requires-clause-column c =
     let is : has_attributes c.push_row.new.self.kind ≡ true = ap has_attributes c.push_row.ensures.kind ∙ c.requires.kind in
-    omega (arith, nine_columns c.push_row.new.self.kind is)
+    omega (arith, attribute_width c.push_row.new.self.kind is)
 
 pub set-requires-clause-base : goal.set-requires-clause-base
 set-requires-clause-base c =
@@ -20,7 +20,7 @@ set-requires-clause-base c =
 pub fill-requires-clause-column : goal.fill-requires-clause-column
 fill-requires-clause-column c =
     let is : has_attributes c.set.new.self.kind ≡ true = ap has_attributes (c.set.ensures.kind ∙ c.push_row.ensures.kind) ∙ c.requires.kind in
-    omega (arith, nine_columns c.set.new.self.kind is)
+    omega (arith, attribute_width c.set.new.self.kind is)
 
 pub fill-requires-clause-base : goal.fill-requires-clause-base
 fill-requires-clause-base c =
@@ -30,7 +30,7 @@ fill-requires-clause-base c =
 pub fill-requires-2-clause-column : goal.fill-requires-2-clause-column
 fill-requires-2-clause-column c =
     let is : has_attributes c.fill.new.table.kind ≡ true = ap has_attributes (c.fill.ensures.kind ∙ c.set.ensures.kind ∙ c.push_row.ensures.kind) ∙ c.requires.kind in
-    omega (arith, nine_columns c.fill.new.table.kind is)
+    omega (arith, attribute_width c.fill.new.table.kind is)
 
 pub fill-requires-2-clause-base : goal.fill-requires-2-clause-base
 fill-requires-2-clause-base c =
@@ -40,7 +40,7 @@ pub fill-requires-3-clause-column : goal.fill-requires-3-clause-column
 fill-requires-3-clause-column c =
     let is : has_attributes c.fill-2.new.table.kind ≡ true
     = ap has_attributes (c.fill-2.ensures.kind ∙ c.fill.ensures.kind ∙ c.set.ensures.kind ∙ c.push_row.ensures.kind) ∙ c.requires.kind in
-    omega (arith, nine_columns c.fill-2.new.table.kind is, value_within c.args.says.now.kind, c.value_column.ensures)
+    omega (arith, attribute_width c.fill-2.new.table.kind is, value_within c.args.says.now.kind, c.value_column.ensures)
 
 pub fill-requires-3-clause-base : goal.fill-requires-3-clause-base
 fill-requires-3-clause-base c =

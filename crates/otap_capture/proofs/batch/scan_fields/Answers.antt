@@ -3,9 +3,9 @@ use Rattle.std.specs.Prelude.{is_some}
 use Rattle.std.proofs.lemmas.Result.{err_from_is_err_and}
 use Rattle.otlp_wire.specs.Wire.{entry}
 use Rattle.otlp_messages.specs.Defects.{wire_error}
-use Rattle.otlp_messages.specs.Rows.{part_at}
 use Rattle.otlp_messages.proofs.Steps.{fine_from}
 use Rattle.otap_capture.proofs.BatchFields.{one_at_most, scanned_none, scanned_more, scanned_stands}
+use Rattle.otap_capture.specs.BatchScanning.{numbered_part}
 use Rattle.otap_capture.proofs.batch.scan_fields.Goals as goal
 
 pub fields-init : goal.fields-init
@@ -25,7 +25,7 @@ fields-preserved c =
     let more = c.in_ok-take.ensures.says in
     record {
       scanned = scanned_more _ _ _ c.fields.scan c.take.new.self f c.fields.invariant.scanned first.0 first.1 c.in_ok-take.ensures.fine more;
-      few = let one = one_at_most (is_some (part_at 2 f)) in search rules;
+      few = let one = one_at_most (is_some (numbered_part 2 f)) in search rules;
     }
 
 pub returns-in_err-take-clause-refused : goal.returns-in_err-take-clause-refused

@@ -1,5 +1,5 @@
 use Rattle.std.proofs.Common.{◌+◌, ◌≤◌, length}
-use Rattle.otap_capture.specs.BatchScanning.{Scanned}
+use Rattle.otap_capture.proofs.BatchFields.{Scanned}
 use Rattle.otap_capture.proofs.batch.scan_fields.Given as goal
 
 abbrev pub invariant-fields : goal.invariant-fields

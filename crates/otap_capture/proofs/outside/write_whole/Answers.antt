@@ -1,6 +1,7 @@
 use Rattle.std.proofs.Common.{arith, ap, length, ◌∙◌, ◌<◌}
 use Rattle.std.proofs.lemmas.List.{take_rest}
-use Rattle.otap_capture.proofs.Known.{part_more, Keeps-trans}
+use Rattle.lists.proofs.Known.{Keeps-trans}
+use Rattle.otap_capture.proofs.Known.{part_more}
 use Rattle.otap_capture.proofs.outside.write_whole.Goals as goal
 
 pub parts-preserved : goal.parts-preserved

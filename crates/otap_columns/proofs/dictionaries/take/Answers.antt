@@ -5,7 +5,8 @@ use Rattle.std.proofs.lemmas.Result.{err_from_is_err_and}
 use Rattle.std.proofs.lemmas.List.Elements.{All-set, All-get_or}
 use Rattle.otap_columns.specs.Dictionaries.{DictionaryIn, grown_if}
 use Rattle.otap_columns.specs.Records.{is_fine_for}
-use Rattle.otap_columns.specs.Steps.{FitsIn, RefusesIf}
+use Rattle.otap_columns.specs.Steps.{FitsIn}
+use Rattle.otap_columns.specs.Reading.{RefusesIf}
 use Rattle.otap_columns.proofs.Giving.{Given, Next, none_given, next_of, one_given, all_given, refused_by, not_too_large}
 use Rattle.otap_columns.proofs.dictionaries.take.Goals as goal
 

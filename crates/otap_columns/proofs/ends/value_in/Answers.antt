@@ -1,8 +1,9 @@
 use Rattle.std.proofs.Common.{◌≡◌, ◌-◌, false, true, length, Some, take, drop, sym, ap, ◌∙◌, arith}
 use Rattle.std.specs.List.{slice_index_or}
+use Rattle.std.proofs.lemmas.Bool.{not-true, not-false}
 use Rattle.otap_columns.specs.declared.ends.End.{End}
 use Rattle.otap_columns.specs.Ends.{start_of}
-use Rattle.otap_columns.proofs.Lying.{value_none, value_some, IsThere, value_there, none_there, is_false, is_true}
+use Rattle.otap_columns.proofs.Lying.{value_none, value_some, IsThere, value_there, none_there}
 use Rattle.otap_columns.proofs.ends.value_in.Goals as goal
 
 abbrev gone : End
@@ -15,7 +16,7 @@ pub returns-then-not-end : goal.returns-then-not-end
 returns-then-not-end c =
     let t : IsThere c.args.bytes.now 0 c.args.ends.now c.args.place (length c.args.bytes.now) (slice_index_or c.args.ends.now c.args.place gone) =
     value_there c.args.bytes.now 0 c.args.ends.now c.args.place (length c.args.bytes.now) gone c.requires (omega arith) in
-    let none : (slice_index_or c.args.ends.now c.args.place gone).there ≡ false = is_false (slice_index_or c.args.ends.now c.args.place gone).there c.if-not-end.true in
+    let none : (slice_index_or c.args.ends.now c.args.place gone).there ≡ false = not-true (slice_index_or c.args.ends.now c.args.place gone).there c.if-not-end.true in
     sym (t.is ∙ value_none c.args.bytes.now (start_of 0 c.args.ends.now c.args.place) (slice_index_or c.args.ends.now c.args.place gone) none)
 
 pub part-requires-clause-order : goal.part-requires-clause-order
@@ -32,7 +33,7 @@ pub returns : goal.returns
 returns c =
     let t : IsThere c.args.bytes.now 0 c.args.ends.now c.args.place (length c.args.bytes.now) (slice_index_or c.args.ends.now c.args.place gone) =
     value_there c.args.bytes.now 0 c.args.ends.now c.args.place (length c.args.bytes.now) gone c.requires (omega arith) in
-    let there : (slice_index_or c.args.ends.now c.args.place gone).there ≡ true = is_true (slice_index_or c.args.ends.now c.args.place gone).there c.if-not-end.false in
+    let there : (slice_index_or c.args.ends.now c.args.place gone).there ≡ true = not-false (slice_index_or c.args.ends.now c.args.place gone).there c.if-not-end.false in
     ap Some c.part.ensures
     ∙ (λ i. Some (take ((slice_index_or c.args.ends.now c.args.place gone).place - c.start.ensures i) (drop (c.start.ensures i) c.args.bytes.now)))
     ∙ sym (t.is ∙ value_some c.args.bytes.now (start_of 0 c.args.ends.now c.args.place) (slice_index_or c.args.ends.now c.args.place gone) there)

@@ -4,7 +4,7 @@ use Rattle.arrow_buffers.specs.declared.width.Width.{Width}
 use Rattle.otap_cells.specs.Columns.{base_at}
 use Rattle.otap_cells.specs.Tables.{column_in}
 use Rattle.otap_columns.specs.Seen.{SeenIn}
-use Rattle.otap_columns.specs.SeenInside.{filled_up, places_of}
+use Rattle.otap_columns.specs.SeenInside.{filled_up, places_of_cells}
 use Rattle.otap_columns.specs.Schemas.{is_dictionary, is_there}
 use Rattle.otap_columns.specs.WrittenCells.{stored_column}
 use Rattle.otap_columns.specs.BuiltCells.{column_most, width_for}
@@ -28,7 +28,7 @@ column_for-requires-clause-placed c =
     let form_is : c.form_of-form.result ≡ forms_in c.args.forms.now column = c.form_of-form.ensures in
     ap (λ (s : SeenIn). filled_up (length t.rows) s.places) c.seen_at-seen.ensures
     ∙ c.requires.can.placed column c.requires.column (ap is_dictionary (sym form_is) ∙ dictionary)
-    ∙ sym (λ i. places_of (base_at t.kind column) (form_is i) (c.seen_at-seen.ensures i).ladder.values (column_in t.rows column))
+    ∙ sym (λ i. places_of_cells (base_at t.kind column) (form_is i) (c.seen_at-seen.ensures i).ladder.values (column_in t.rows column))
 
 pub returns-clause-ok : goal.returns-clause-ok
 returns-clause-ok c =

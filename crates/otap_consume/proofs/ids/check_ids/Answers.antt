@@ -4,8 +4,8 @@ use Rattle.otap_consume.specs.declared.refusal.Cause.TheVariants.{SchemaIdTaken}
 use Rattle.otap_consume.specs.declared.not_taken.NotTaken.{NotTaken}
 use Rattle.otap_consume.specs.declared.not_taken.NotTaken.TheVariants.{Defect}
 use Rattle.otap_consume.specs.Defects.{StandsInList, is_taken}
-use Rattle.otap_consume.specs.Ids.{ids_after, has_other, opened}
-use Rattle.otap_consume.specs.Stops.{Stops}
+use Rattle.otap_consume.specs.Ids.{ids_after, has_other, with_open_id}
+use Rattle.otap_consume.specs.Stops.{SaysDefect}
 use Rattle.lists.proofs.Lists.{front_more}
 use Rattle.otap_consume.proofs.IdSteps.{ids_step, taken_is}
 use Rattle.lists.proofs.Growing.{all_after-push}
@@ -28,7 +28,7 @@ payloads-preserved c =
       front = kept.front ++ payload ∷ [];
       whole = front_more _ kept.front c.payloads.payload-iterator payload c.next.new.self kept.whole c.in-Some.ensures.steps;
       ids = λ signal past are.
-          c.set.ensures ∙ ap (λ ids. map (opened payload) ids) (kept.ids signal past are) ∙ ids_step signal (past ++ kept.front) payload
+          c.set.ensures ∙ ap (λ ids. map (with_open_id payload) ids) (kept.ids signal past are) ∙ ids_step signal (past ++ kept.front) payload
           ∙ ap (ids_after signal) (append_assoc past kept.front (payload ∷ []));
       free = λ signal past are.
           all_after-push (λ before p. is_taken signal before p ≡ false) past kept.front payload (kept.free signal past are)
@@ -40,7 +40,7 @@ returns-then-has_other-clause-stops c = λ signal past are.
     let kept = c.payloads.invariant in
     let payload = content_of c.in-Some.payload in
     let is : c.defect.result ≡ Defect SchemaIdTaken (Some payload.kind) = search rules in
-    let P : NotTaken → Type 0 = Stops (StandsInList signal past c.args.batch.now.payloads) in
+    let P : NotTaken → Type 0 = SaysDefect (StandsInList signal past c.args.batch.now.payloads) in
     subst P (sym is)
     (record {
       p = payload;

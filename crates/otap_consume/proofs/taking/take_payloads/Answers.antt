@@ -2,7 +2,7 @@ use Rattle.std.proofs.Common.{sym, subst}
 use Rattle.std.proofs.lemmas.Result.{err_from_is_err_and}
 use Rattle.otap_consume.specs.declared.not_taken.NotTaken.{NotTaken}
 use Rattle.otap_consume.specs.Defects.{Refuses}
-use Rattle.otap_consume.specs.Stops.{Stops}
+use Rattle.otap_consume.specs.Stops.{SaysDefect}
 use Rattle.otap_consume.proofs.IdSteps.{ids_are}
 use Rattle.otap_consume.proofs.Stages.{by_types, by_ids, by_records, fine_list, accepts_if, refuses_if}
 use Rattle.otap_consume.proofs.taking.take_payloads.Goals as goal
@@ -12,7 +12,7 @@ returns-in_err-check_types-clause-refuses c =
     let p = err_from_is_err_and c.from_residual.result c.from_residual.ensures.1 in
     rw p.1
     (λ past are.
-    let P : NotTaken → Type 0 = Stops (Refuses c.args.signal past c.args.batch.now.payloads) in
+    let P : NotTaken → Type 0 = SaysDefect (Refuses c.args.signal past c.args.batch.now.payloads) in
     subst P (sym p.2) (by_types c.args.signal past c.args.batch.now.payloads c.in_err-check_types.field-0.0 c.in_err-check_types.ensures))
 
 pub returns-in_err-check_ids-clause-refuses : goal.returns-in_err-check_ids-clause-refuses
@@ -20,7 +20,7 @@ returns-in_err-check_ids-clause-refuses c =
     let p = err_from_is_err_and c.from_residual-in_err-check_ids.result c.from_residual-in_err-check_ids.ensures.1 in
     rw p.1
     (λ past are.
-    let P : NotTaken → Type 0 = Stops (Refuses c.args.signal past c.args.batch.now.payloads) in
+    let P : NotTaken → Type 0 = SaysDefect (Refuses c.args.signal past c.args.batch.now.payloads) in
     subst P (sym p.2)
     (by_ids c.args.signal past c.args.batch.now.payloads c.in_err-check_ids.field-0.0
     (c.in_err-check_ids.ensures.stops c.args.signal past (ids_are c.args.signal past c.args.streams.now c.requires are))))
@@ -30,7 +30,7 @@ returns-in_err-take_records-clause-refuses c =
     let p = err_from_is_err_and c.from_residual-in_err-take_records.result c.from_residual-in_err-take_records.ensures.1 in
     rw p.1
     (λ past are.
-    let P : NotTaken → Type 0 = Stops (Refuses c.args.signal past c.args.batch.now.payloads) in
+    let P : NotTaken → Type 0 = SaysDefect (Refuses c.args.signal past c.args.batch.now.payloads) in
     subst P (sym p.2)
     (by_records c.args.signal past c.args.batch.now.payloads c.in_err-take_records.field-0.0
     (fine_list c.args.signal c.args.batch.now.payloads c.args.streams.now c.requires c.in_ok-check_types.ensures c.in_ok-check_ids.ensures.free past are)

@@ -2,7 +2,8 @@ use Rattle.std.proofs.Common.{◌≡◌, ◌-◌, ◌*◌, ◌≤◌, None}
 use Rattle.otap_capture.specs.Capture.{capture_limit}
 use Rattle.otap_gateway.specs.Commands.{ReplyOf}
 use Rattle.otap_gateway.specs.Runs.{sinks, world, NoneFailed}
-use Rattle.otap_gateway.specs.Turns.{world_ahead, Progress}
+use Rattle.otap_gateway.specs.Turns.{world_ahead}
+use Rattle.otap_gateway.proofs.Progress.{Progress}
 use Rattle.otap_gateway.proofs.drive.drive.Given as goal
 
 abbrev pub invariant-frames : goal.invariant-frames

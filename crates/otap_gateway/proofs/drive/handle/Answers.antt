@@ -1,6 +1,7 @@
 use Rattle.std.proofs.Common.{inr}
 use Rattle.std.proofs.lemmas.Result.{err_from_is_err_and}
-use Rattle.otap_capture.proofs.Known.{Keeps-refl, front_of_none}
+use Rattle.lists.proofs.Known.{Keeps-refl}
+use Rattle.otap_capture.proofs.Known.{front_of_none}
 use Rattle.otap_gateway.proofs.drive.handle.Goals as goal
 
 pub returns-in_err-write_whole-clause-handles : goal.returns-in_err-write_whole-clause-handles

@@ -1,6 +1,6 @@
 use Rattle.std.proofs.Common.{◌∙◌, ◌++◌, ◌∷◌, [], ℕ, List, ap}
 use Rattle.std.proofs.lemmas.List.{flat_map_more}
-use Rattle.otlp_messages.proofs.Steps.{AllByRecursion-append}
+use Rattle.lists.proofs.Every.{every_append}
 use Rattle.otap_capture.specs.Batch.{content_of}
 use Rattle.otap_gateway.specs.Openings.{BeginsWell}
 use Rattle.otap_gateway.specs.Schemas.{payload_lines}
@@ -16,5 +16,5 @@ payloads-preserved c =
       front = kept.front ++ payload ∷ [];
       whole = front_more c.into_iter-payload-iterator.result kept.front c.payloads.payload-iterator payload c.next.new.self kept.whole c.in-Some.ensures.steps;
       text = c.in_ok-push_payload.ensures.text ∙ ap (λ (text : List ℕ). text ++ payload_lines payload) kept.text ∙ flat_map_more payload_lines c.push_head_line.new.to.items kept.front payload;
-      well = AllByRecursion-append (λ (p : PayloadIn). BeginsWell p.bytes) kept.front (payload ∷ []) kept.well (c.in_ok-push_payload.ensures.well, tt);
+      well = every_append (λ (p : PayloadIn). BeginsWell p.bytes) kept.front (payload ∷ []) kept.well (c.in_ok-push_payload.ensures.well, tt);
     }

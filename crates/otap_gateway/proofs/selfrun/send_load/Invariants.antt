@@ -1,5 +1,5 @@
-use Rattle.otap_gateway.specs.Loading.{HasSent}
 use Rattle.otap_gateway.specs.Runs.{sinks, NoneFailed}
+use Rattle.otap_gateway.proofs.LoadRuns.{HasSent}
 use Rattle.otap_gateway.proofs.selfrun.send_load.Given as goal
 
 abbrev pub invariant-requests : goal.invariant-requests

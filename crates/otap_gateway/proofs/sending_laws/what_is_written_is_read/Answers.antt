@@ -1,14 +1,14 @@
 use Rattle.std.proofs.Common.{List}
 use Rattle.otlp_model.specs.declared.request.Signal.{Signal}
 use Rattle.otlp_model.specs.declared.request.Signal.TheVariants as signals
-use Rattle.otap_gateway.specs.Encoding.{Arrives, rows_of}
+use Rattle.otap_gateway.specs.Encoding.{Arrives, signal_rows}
 use Rattle.otap_gateway.specs.Receptions.{meaning_of}
 use Rattle.otap_transit.specs.Sendings.{AreAllowed, Sending}
 use Rattle.otap_gateway.proofs.WrittenFrames.{read_back}
 use Rattle.otap_gateway.proofs.sending_laws.what_is_written_is_read.Goals as goal
 
 abbrev AllArrive : Signal → Type 0
-AllArrive signal = (ss : List Sending) → AreAllowed (rows_of signal) ss → Arrives (meaning_of signal) ss
+AllArrive signal = (ss : List Sending) → AreAllowed (signal_rows signal) ss → Arrives (meaning_of signal) ss
 
 of_signal : AllArrive signals.Traces → AllArrive signals.Logs → AllArrive signals.Metrics → (signal : Signal) → AllArrive signal
 of_signal traces logs metrics signals.Traces = traces

@@ -1,7 +1,7 @@
 use Rattle.std.proofs.Common.{◌≡◌, ◌+◌, ◌-◌, ◌∷◌, length, drop, take, map, sym, ◌∙◌, ap, subst, rules, arith}
 use Rattle.std.proofs.lemmas.Grind.{common_steps}
 use Rattle.std.proofs.lemmas.List.{length-map}
-use Rattle.otap_groups.specs.Flat.{flat, flat_scopes}
+use Rattle.otap_groups.specs.Flat.{flat_items, flat_scopes}
 use Rattle.otap_groups.specs.Stored.{Rising}
 use Rattle.otap_groups.specs.Views.{seen_flat}
 use Rattle.otap_groups.proofs.FlatSteps.{group_added, grown, items_left, length_flat_scopes, past_grown, past_most, rising_flat, scopes_past_most}
@@ -37,11 +37,11 @@ groups-preserved g c =
     }
 
 pub returns-clause-items : goal.returns-clause-items
-unfolding flat
+unfolding flat_items
 returns-clause-items g c = grind (arith, common_steps)
 
 pub returns-clause-rising : goal.returns-clause-rising
-unfolding flat
+unfolding flat_items
 returns-clause-rising g c =
-    let is : map seen_flat c.groups.found.items ≡ flat c.args.groups.now = grind (arith, common_steps) in
+    let is : map seen_flat c.groups.found.items ≡ flat_items c.args.groups.now = grind (arith, common_steps) in
     subst (λ fs. Rising 0 0 fs) (sym is) (rising_flat c.args.groups.now)

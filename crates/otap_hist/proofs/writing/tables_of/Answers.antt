@@ -5,29 +5,30 @@ use Rattle.otap_groups.specs.Views.{seen_flat, seen_placed}
 use Rattle.otap_groups.proofs.FlatItems.{items_of_rows}
 use Rattle.otap_metrics.specs.Metrics.{hist_points_of, summary_points_of}
 use Rattle.otap_hist.proofs.HistParts.{are_tables, exemplar_pairs_can, exemplars_can, exemplars_few, exemplars_placed, hist_pairs_can, hists_can}
-use Rattle.otap_hist.proofs.HistParts.{hists_few, items_few, metrics_few, points_placed, rows_few, summaries_can, summaries_few, summary_pairs_can}
+use Rattle.otap_hist.proofs.HistParts.{hists_few, points_placed, summaries_can, summaries_few, summary_pairs_can}
 use Rattle.otap_hist.proofs.LightHists.{all_can}
 use Rattle.otap_hist.proofs.writing.tables_of.Goals as goal
+use Rattle.otap_metrics.proofs.WrittenParts.{items_few, metrics_few, rows_few}
 
 pub flatten-requires : goal.flatten-requires
 flatten-requires c =
-    record { few = items_few c.args.groups.now c.requires.weight }
+    record { few = items_few c.args.groups.now c.args.groups.now refl c.requires.weight }
 
 pub items_of-requires : goal.items_of-requires
 items_of-requires c =
-    rows_few c.args.groups.now c.requires.weight c.deref.result.now (ap (map seen_flat) c.deref.ensures.value ∙ c.in_ok-rows.ensures.items)
+    rows_few c.args.groups.now c.args.groups.now refl c.requires.weight c.deref.result.now (ap (map seen_flat) c.deref.ensures.value ∙ c.in_ok-rows.ensures.items)
 
 pub parts_of-requires : goal.parts_of-requires
 parts_of-requires c =
     record {
-      few = metrics_few c.args.groups.now c.requires.weight c.deref-2.result.now (ap (map (λ (p : Placed Metric). p.part.now)) c.deref-2.ensures.value ∙ c.in_ok-metrics.ensures
+      few = metrics_few c.args.groups.now c.args.groups.now refl c.requires.weight c.deref-2.result.now (ap (map (λ (p : Placed Metric). p.part.now)) c.deref-2.ensures.value ∙ c.in_ok-metrics.ensures
           ∙ items_of_rows c.deref.result.now c.args.groups.now (ap (map seen_flat) c.deref.ensures.value ∙ c.in_ok-rows.ensures.items));
     }
 
 pub parts_of-requires-2 : goal.parts_of-requires-2
 parts_of-requires-2 c =
     record {
-      few = metrics_few c.args.groups.now c.requires.weight c.deref-3.result.now (ap (map (λ (p : Placed Metric). p.part.now)) c.deref-3.ensures.value ∙ c.in_ok-metrics.ensures
+      few = metrics_few c.args.groups.now c.args.groups.now refl c.requires.weight c.deref-3.result.now (ap (map (λ (p : Placed Metric). p.part.now)) c.deref-3.ensures.value ∙ c.in_ok-metrics.ensures
           ∙ items_of_rows c.deref.result.now c.args.groups.now (ap (map seen_flat) c.deref.ensures.value ∙ c.in_ok-rows.ensures.items));
     }
 

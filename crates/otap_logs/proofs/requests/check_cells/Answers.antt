@@ -1,5 +1,6 @@
-use Rattle.otap_logs.proofs.LogColumns.{has_body, has_resource_value, has_scope_value, has_record_value}
+use Rattle.otap_logs.proofs.LogColumns.{has_body, has_record_value}
 use Rattle.otap_logs.proofs.requests.check_cells.Goals as goal
+use Rattle.otap_attrs.proofs.ValueColumns.{has_resource_value, has_scope_value}
 
 pub check_values-requires-clause-columns : goal.check_values-requires-clause-columns
 check_values-requires-clause-columns g c = has_body

@@ -10,8 +10,9 @@ use Rattle.otap_checks.specs.Reading.{part_rows_in}
 use Rattle.otap_attrs.proofs.TablePairs.{ids_long}
 use Rattle.otap_metrics.specs.Points.{point_of}
 use Rattle.otap_metrics.proofs.MetricColumns.{points_are_parts}
-use Rattle.otap_metrics.proofs.Regrouping.{no_parts, parts_are}
+use Rattle.otap_metrics.proofs.Regrouping.{no_parts}
 use Rattle.otap_metrics.proofs.indexes.index_points.Goals as goal
+use Rattle.otap_checks.proofs.MissingRows.{parts_are}
 
 pub returns-in_default : goal.returns-in_default
 returns-in_default g c = λ parent.

@@ -1,7 +1,8 @@
 use Rattle.otap_cells.specs.Sets.{tables_in}
 use Rattle.otap_metrics.proofs.Cleanness.{known_metrics, known_points}
-use Rattle.otap_metrics.proofs.MetricColumns.{exemplar_wide, has_exemplar_value, has_point_value, has_resource_value, has_scope_value, point_width, points_are_parts}
+use Rattle.otap_metrics.proofs.MetricColumns.{exemplar_wide, has_exemplar_value, has_point_value, point_width, points_are_parts}
 use Rattle.otap_metrics.proofs.requests.check_metrics.Goals as goal
+use Rattle.otap_attrs.proofs.ValueColumns.{has_resource_value, has_scope_value}
 
 pub has_other_parents-requires-clause-metrics : goal.has_other_parents-requires-clause-metrics
 has_other_parents-requires-clause-metrics g c = known_metrics (tables_in g.R.Rows.table c.args.set.now.tables.items) c.args.known.now.columns.items c.requires.known

@@ -11,8 +11,8 @@ use Rattle.otap_checks.proofs.MissingRows.{no_parts, parts_are}
 use Rattle.otap_attrs.proofs.TablePairs.{ids_long}
 use Rattle.otap_spans.specs.Records.{link_of}
 use Rattle.otap_spans.specs.Requests.{link_in, links_in}
-use Rattle.otap_spans.proofs.SpanColumns.{links_are_parts}
 use Rattle.otap_spans.proofs.below.index_links.Goals as goal
+use Rattle.otap_groups.proofs.FrontKinds.{links_front}
 
 pub returns-in_default : goal.returns-in_default
 returns-in_default g c = λ parent.
@@ -23,15 +23,15 @@ returns-in_default g c = λ parent.
 pub new-requires : goal.new-requires
 new-requires g c =
     let t = g.R.Rows.table c.in-Some.rows.now in
-    let above : HasIds t 1 c.of-parents.result.now = rw (c.of-parents.ensures, ← c.in-Some.ensures.table) (c.requires.known 1 links_are_parts.parent).are in
+    let above : HasIds t 1 c.of-parents.result.now = rw (c.of-parents.ensures, ← c.in-Some.ensures.table) (c.requires.known 1 links_front.parent).are in
     ids_long t 1 c.of-parents.result.now above ∙ sym (length-map t.rows (drop 2))
 
 pub returns : goal.returns
 returns g c = λ parent.
     let tables = tables_in g.R.Rows.table c.args.set.now.tables.items in
     let t = g.R.Rows.table c.in-Some.rows.now in
-    let own : HasIds t 0 c.of-ids.result.now = rw (c.of-ids.ensures, ← c.in-Some.ensures.table) (c.requires.known 0 links_are_parts.id).are in
-    let above : HasIds t 1 c.of-parents.result.now = rw (c.of-parents.ensures, ← c.in-Some.ensures.table) (c.requires.known 1 links_are_parts.parent).are in
+    let own : HasIds t 0 c.of-ids.result.now = rw (c.of-ids.ensures, ← c.in-Some.ensures.table) (c.requires.known 0 links_front.id).are in
+    let above : HasIds t 1 c.of-parents.result.now = rw (c.of-parents.ensures, ← c.in-Some.ensures.table) (c.requires.known 1 links_front.parent).are in
     c.in_ok-made.ensures.found parent
-    ∙ parts_are (λ id own. link_of own (g.P.Lookup.finds c.args.pairs id)) t c.of-ids.result.now c.of-parents.result.now parent own above
+    ∙ parts_are (λ id own. link_of own (g.P.Lookup.finds c.args.pairs id)) t c.of-ids.result.now c.of-parents.result.now own above parent
     ∙ (λ i. children (λ id own. link_of own (c.requires.pairs id i)) (part_rows_in (sym c.in-Some.ensures.table i)) parent)

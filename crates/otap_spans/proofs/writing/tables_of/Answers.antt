@@ -5,6 +5,7 @@ use Rattle.otlp_model.specs.declared.spans.Link.{Link}
 use Rattle.otlp_model.specs.Limits.{weight_limit}
 use Rattle.otlp_model.specs.Weight.{total, weight_of_pair}
 use Rattle.std.specs.Prelude.{◌≤◌, ◌^◌}
+use Rattle.lists.proofs.Every.{found_all}
 use Rattle.otlp_model.specs.declared.value.Pair.{Pair}
 use Rattle.otap_cells.specs.declared.payload.Kind.TheVariants as table
 use Rattle.otap_cells.specs.Tables.{Table}
@@ -12,7 +13,6 @@ use Rattle.otap_groups.specs.declared.flat.Placed.{Placed}
 use Rattle.otap_groups.specs.Flat.{items_of}
 use Rattle.otap_groups.specs.Views.{seen_flat, seen_placed}
 use Rattle.otap_groups.proofs.FlatItems.{all_items}
-use Rattle.otap_attrs.proofs.FoundLists.{found_all}
 use Rattle.otap_spans.specs.Records.{event_cells, link_cells}
 use Rattle.otap_spans.specs.Tables.{all_events, all_links}
 use Rattle.otap_spans.specs.Writable.{CanWriteEvent, CanWriteLink, CanWriteSpan}

@@ -1,19 +1,20 @@
 use Rattle.std.proofs.Common.{◌≡◌, ℕ, refl, ap, ◌∙◌, subst}
 use Rattle.std.specs.Prelude.{slice_index_or, true, false}
 use Rattle.std.proofs.lemmas.Result.{err_from_is_err_and}
+use Rattle.lists.proofs.Parts.{same_all_over}
 use Rattle.otlp_wire.specs.Wire.{entry}
 use Rattle.otlp_messages.specs.declared.messages.Message.{Message}
 use Rattle.otlp_messages.specs.declared.messages.Row.{Row}
 use Rattle.otlp_messages.specs.Table.{mark_of}
 use Rattle.otlp_messages.specs.Defects.{wire_error}
 use Rattle.otlp_messages.specs.Limits.{mark_limit}
-use Rattle.otlp_messages.proofs.Steps.{none_seen, twice_stands}
+use Rattle.otlp_messages.proofs.Steps.{twice_stands}
 use Rattle.otlp_codec.proofs.Passing.{passes_none, passes_more, passes_all, refused_value}
 use Rattle.otlp_codec.proofs.part.fill.Goals as goal
 
 pub fields-init : goal.fields-init
 fields-init g c =
-    rw (c.into_iter-next-iterator.ensures.into_iter_gives, c.new-next-items.ensures, c.requires) (passes_none _ _ _ _ _ _ refl (none_seen mark_limit))
+    rw (c.into_iter-next-iterator.ensures.into_iter_gives, c.new-next-items.ensures, c.requires) (passes_none _ _ _ _ _ _ refl (same_all_over mark_limit false))
 
 pub returns-in_default-clause-fault : goal.returns-in_default-clause-fault
 returns-in_default-clause-fault g c =

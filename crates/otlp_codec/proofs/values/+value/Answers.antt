@@ -1,6 +1,7 @@
 use Rattle.std.proofs.Common.{◌≡◌, ◌<◌, ℕ, length, refl, ap, ◌∙◌, subst, arith}
 use Rattle.std.proofs.lemmas.Result.{err_from_is_err_and}
 use Rattle.std.specs.Prelude.{slice_index_or, true, false}
+use Rattle.lists.proofs.Parts.{same_all_over}
 use Rattle.otlp_wire.specs.Wire.{entry, value_of}
 use Rattle.otlp_wire.proofs.Readings.{part_len}
 use Rattle.otlp_messages.specs.declared.messages.Row.{Row}
@@ -8,14 +9,14 @@ use Rattle.otlp_messages.specs.declared.messages.Message.TheVariants as messages
 use Rattle.otlp_messages.specs.Table.{mark_of}
 use Rattle.otlp_messages.specs.Defects.{wire_error}
 use Rattle.otlp_messages.specs.Limits.{mark_limit}
-use Rattle.otlp_messages.proofs.Steps.{none_seen, first_occurs, twice_stands, value_is_shorter, member_stands}
+use Rattle.otlp_messages.proofs.Steps.{first_occurs, twice_stands, value_is_shorter, member_stands}
 use Rattle.otlp_codec.proofs.Passing.{names_map, passes_none, passes_more, passes_all, refused_value}
 use Rattle.otlp_codec.proofs.Folded.{value_is, array_is, map_is, pair_is}
 use Rattle.otlp_codec.proofs.values.+value.Goals as goal
 
 -- fill_value
 pub fill_value-fields-init : goal.fill_value-fields-init
-fill_value-fields-init t c = rw (c.into_iter-next-iterator.ensures.into_iter_gives, c.new-next-items.ensures, c.requires) (passes_none _ _ _ _ _ _ refl (none_seen mark_limit))
+fill_value-fields-init t c = rw (c.into_iter-next-iterator.ensures.into_iter_gives, c.new-next-items.ensures, c.requires) (passes_none _ _ _ _ _ _ refl (same_all_over mark_limit false))
 
 pub fill_value-returns-in_default-clause-fault : goal.fill_value-returns-in_default-clause-fault
 fill_value-returns-in_default-clause-fault t c =
@@ -57,7 +58,7 @@ fill_value-returns-clause-value t c =
 
 -- read_array
 pub read_array-fields-init : goal.read_array-fields-init
-read_array-fields-init t c = rw (c.into_iter-next-iterator.ensures.into_iter_gives, c.new-next-items.ensures, c.new-values.ensures) (passes_none _ _ _ _ _ _ refl (none_seen mark_limit))
+read_array-fields-init t c = rw (c.into_iter-next-iterator.ensures.into_iter_gives, c.new-next-items.ensures, c.new-values.ensures) (passes_none _ _ _ _ _ _ refl (same_all_over mark_limit false))
 
 pub read_array-returns-in_default-clause-fault : goal.read_array-returns-in_default-clause-fault
 read_array-returns-in_default-clause-fault t c =
@@ -99,7 +100,7 @@ read_array-returns-clause-value t c =
 
 -- read_map
 pub read_map-fields-init : goal.read_map-fields-init
-read_map-fields-init t c = rw (c.into_iter-next-iterator.ensures.into_iter_gives, c.new-next-items.ensures, c.new-pairs.ensures) (passes_none _ _ _ _ _ _ refl (none_seen mark_limit))
+read_map-fields-init t c = rw (c.into_iter-next-iterator.ensures.into_iter_gives, c.new-next-items.ensures, c.new-pairs.ensures) (passes_none _ _ _ _ _ _ refl (same_all_over mark_limit false))
 
 pub read_map-returns-in_default-clause-fault : goal.read_map-returns-in_default-clause-fault
 read_map-returns-in_default-clause-fault t c =
@@ -141,7 +142,7 @@ read_map-returns-clause-value t c =
 
 -- fill_pair
 pub fill_pair-fields-init : goal.fill_pair-fields-init
-fill_pair-fields-init t c = rw (c.into_iter-next-iterator.ensures.into_iter_gives, c.new-next-items.ensures, c.requires) (passes_none _ _ _ _ _ _ refl (none_seen mark_limit))
+fill_pair-fields-init t c = rw (c.into_iter-next-iterator.ensures.into_iter_gives, c.new-next-items.ensures, c.requires) (passes_none _ _ _ _ _ _ refl (same_all_over mark_limit false))
 
 pub fill_pair-returns-in_default-clause-fault : goal.fill_pair-returns-in_default-clause-fault
 fill_pair-returns-in_default-clause-fault t c =

@@ -1,18 +1,20 @@
 use Rattle.std.proofs.Common.{◌<◌, ℕ, length, refl, ap, ◌∙◌, sym, subst, set, arith}
-use Rattle.std.proofs.lemmas.Result.{err_from_is_err_and}
-use Rattle.std.specs.Prelude.{◌==◌, not}
+use Rattle.std.proofs.lemmas.Result.{err_from_is_err_and, IfErr-weaker}
+use Rattle.std.specs.Prelude.{◌==◌, not, false}
+use Rattle.lists.proofs.Parts.{same_all_over}
 use Rattle.otlp_wire.proofs.Readings.{part_len}
 use Rattle.otlp_wire.specs.Wire.{entry, value_of}
 use Rattle.otlp_messages.specs.declared.messages.FieldKind.{FieldKind}
 use Rattle.otlp_messages.specs.Defects.{wire_error}
 use Rattle.otlp_messages.specs.Limits.{mark_limit}
-use Rattle.otlp_messages.specs.Fine.{FineValue, ValueStands, Checked}
-use Rattle.otlp_messages.proofs.Steps.{checked_none, none_seen, first_occurs, value_stands, twice_stands, checked_more, fine_from, value_is_shorter, member_stands, IfErr-map}
+use Rattle.otlp_messages.specs.Fine.{FineValue}
+use Rattle.otlp_messages.specs.Inside.{ValueStands}
+use Rattle.otlp_messages.proofs.Steps.{checked_none, first_occurs, value_stands, twice_stands, checked_more, fine_from, value_is_shorter, member_stands, Checked}
 use Rattle.otlp_messages.proofs.checking.+check.Goals as goal
 
 pub check-fields-init : goal.check-fields-init
 check-fields-init t c =
-    rw (c.into_iter-next-iterator.ensures.into_iter_gives, c.new-next-items.ensures) (checked_none _ _ _ _ refl (none_seen mark_limit))
+    rw (c.into_iter-next-iterator.ensures.into_iter_gives, c.new-next-items.ensures) (checked_none _ _ _ _ refl (same_all_over mark_limit false))
 
 pub check-returns-in_default-clause-fault : goal.check-returns-in_default-clause-fault
 check-returns-in_default-clause-fault t c =
@@ -58,4 +60,4 @@ check-returns-clause-fine t c = fine_from _ _ _ _ _ c.fields.invariant c.in-None
 
 pub check_part-returns-in-Member-2-clause-fault : goal.check_part-returns-in-Member-2-clause-fault
 check_part-returns-in-Member-2-clause-fault t c =
-    rw c.in-Member-2.is (IfErr-map c.check-in-Member-2.result _ _ (λ e h. member_stands _ _ _ e c.if-levels-eq0.false h) c.check-in-Member-2.ensures.fault)
+    rw c.in-Member-2.is (IfErr-weaker c.check-in-Member-2.result _ _ (λ e h. member_stands _ _ _ e c.if-levels-eq0.false h) c.check-in-Member-2.ensures.fault)

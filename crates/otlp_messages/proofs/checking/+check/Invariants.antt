@@ -1,7 +1,7 @@
 use Rattle.std.proofs.Common.{◌+◌, ◌*◌, length}
 use Rattle.otlp_wire.specs.Wire.{value_of}
-use Rattle.otlp_messages.specs.Fine.{Checked}
 use Rattle.otlp_wire.proofs.Readings.{part_len}
+use Rattle.otlp_messages.proofs.Steps.{Checked}
 use Rattle.otlp_messages.proofs.checking.+check.Given as goal
 
 abbrev pub decreases-check : goal.decreases-check

@@ -2,7 +2,7 @@ use Rattle.std.proofs.Common.{length}
 use Rattle.std.specs.Prelude.{◌↔◌}
 use Rattle.std.specs.List.{AllZip}
 use Rattle.otlp_model.specs.Same.{SameEntry}
-use Rattle.otlp_model.specs.Telemetry.{entries_of}
+use Rattle.otlp_model.specs.Telemetry.{item_entries}
 use Rattle.otlp_model.specs.Walk.{left}
 use Rattle.otlp_model.proofs.Runs.{Compared}
 use Rattle.otlp_model.proofs.walk.same_groups.Given as goal
@@ -11,7 +11,7 @@ abbrev pub invariant-runs : goal.invariant-runs
 invariant-runs g l = record {
   same : AllZip (SameEntry g.I.Alike.alike) (left l.left.groups.now l.left.group l.left.scope l.left.item)
       (left l.right.groups.now l.right.group l.right.scope l.right.item)
-      ↔ AllZip (SameEntry g.I.Alike.alike) (entries_of l.a) (entries_of l.b);
+      ↔ AllZip (SameEntry g.I.Alike.alike) (item_entries l.a) (item_entries l.b);
   compared : Compared l.left.groups.now l.right.groups.now l.compared.0 l.compared.1;
 }
 

@@ -1,10 +1,10 @@
 use Rattle.std.proofs.Common.{◌≡◌, ◌+◌, ◌*◌, length, drop}
-use Rattle.arrow_schema.specs.Trees.{count_in, count_of}
+use Rattle.arrow_schema.specs.Trees.{field_count, count_of}
 use Rattle.arrow_arrays.specs.Arrays.{add_fields}
 use Rattle.arrow_arrays.proofs.arrays.Arrays.+walk.Given as goal
 
 abbrev pub decreases-add_field : goal.decreases-add_field
-decreases-add_field l = 2 * count_in l.field.now
+decreases-add_field l = 2 * field_count l.field.now
 
 abbrev pub decreases-add_fields : goal.decreases-add_fields
 decreases-add_fields l = 2 * count_of l.fields.now + 1

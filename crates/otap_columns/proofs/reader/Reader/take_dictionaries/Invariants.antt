@@ -1,6 +1,6 @@
 use Rattle.std.proofs.Common.{length}
 use Rattle.arrow_ipc.specs.Fronts.{rest_of}
-use Rattle.otap_columns.specs.Reading.{GoneSoFar}
+use Rattle.otap_columns.proofs.Judging.{GoneSoFar}
 use Rattle.otap_columns.proofs.reader.Reader.take_dictionaries.Given as goal
 
 abbrev pub invariant-messages : goal.invariant-messages

@@ -1,7 +1,7 @@
 use Rattle.std.proofs.Common.{◌≡◌, IsOk, Ok, Some, sym, ap, ◌∙◌, subst}
 use Rattle.arrow_arrays.specs.Arrays.{arrays_check}
 use Rattle.otap_cells.specs.Tables.{Table, IsTable}
-use Rattle.otap_columns.specs.Substreams.{table_in}
+use Rattle.otap_columns.specs.Substreams.{table_of_batch}
 use Rattle.otap_columns.specs.Views.{ReaderIn}
 use Rattle.otap_columns.proofs.Showing.{table_is}
 use Rattle.otap_columns.proofs.Tabled.{table_kind, logical_is}
@@ -14,7 +14,7 @@ new-requires-clause-sound c =
     let arrays : c.self.inside.arrays ≡ c.args.self.now.substream.arrays = ap (λ (r : ReaderIn). r.substream.arrays) c.self.view_is in
     let fine : arrays_check c.in-Some.batch c.self.inside.arrays ≡ Ok tt = (λ i. arrays_check (sym same i) (arrays i)) ∙ c.requires.fine in
     let ok : IsOk (arrays_check c.in-Some.batch c.self.inside.arrays) = cc in
-    subst (λ (r : ReaderIn). IsTable (table_in r.kind r.substream c.in-Some.batch)) c.self.view_is
+    subst (λ (r : ReaderIn). IsTable (table_of_batch r.kind r.substream c.in-Some.batch)) c.self.view_is
     (table_is c.self.inside.kind (record { arrays = c.self.inside.arrays; dictionaries = c.self.inside.dictionaries.items }) c.in-Some.batch c.self.invariant.types c.self.invariant.values ok)
 
 pub returns-clause-table : goal.returns-clause-table

@@ -1,7 +1,7 @@
 use Rattle.std.proofs.Common.{◌≡◌, ℕ, false, Some, position, ◌++◌, ◌∷◌, [], length, map, true≢false, bytes_eq, sym, ap, ◌∙◌, length-append, arith}
 use Rattle.std.specs.List.{list_any}
 use Rattle.std.proofs.lemmas.List.Sums.{sum_by_push}
-use Rattle.otap_dicts.specs.Forms.{bytes_of}
+use Rattle.otap_dicts.specs.Forms.{byte_count}
 use Rattle.otap_dicts.specs.Ladders.{LadderIn}
 use Rattle.otap_dicts.specs.Inside.{ladder_in}
 use Rattle.otap_dicts.proofs.Found.{last_place}
@@ -20,11 +20,11 @@ returns-clause-ok c =
 pub invariant_of-self-2 : goal.invariant_of-self-2
 invariant_of-self-2 c =
     let old = (ladder_in c.self.inside).values in
-    let more = ap bytes_of (keys c) ∙ sum_by_push length old c.args.value.now in
+    let more = ap byte_count (keys c) ∙ sum_by_push length old c.args.value.now in
     let one_more = ap length (keys c) ∙ length-append old (c.args.value.now ∷ []) in
     record {
       counted = omega (arith, c.self.invariant.counted, more);
-      small = omega (arith, c.self.invariant.counted, ap (λ (l : LadderIn). bytes_of l.values) c.self.view_is, c.requires.small);
+      small = omega (arith, c.self.invariant.counted, ap (λ (l : LadderIn). byte_count l.values) c.self.view_is, c.requires.small);
       few = omega (arith, one_more, ap (λ (l : LadderIn). length l.values) c.self.view_is, c.requires.few);
       marked = λ not_marked. absurd (true≢false (sym (ap (λ (l : LadderIn). l.dictionary) c.self.view_is ∙ c.requires.marked) ∙ not_marked));
       none = λ not_dictionary. absurd (true≢false (sym c.requires.dictionary ∙ not_dictionary));

@@ -1,4 +1,4 @@
-use Rattle.otap_gateway.specs.Loading.{CountsFront}
+use Rattle.otap_gateway.proofs.OpenedIds.{CountsFront}
 use Rattle.otap_gateway.proofs.opened.Opened.add.Given as goal
 
 abbrev pub invariant-payloads : goal.invariant-payloads

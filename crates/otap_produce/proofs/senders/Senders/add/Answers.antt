@@ -11,8 +11,8 @@ use Rattle.otap_produce.specs.Exporters.{SenderIn, SendersIn, kinds_in}
 use Rattle.otap_produce.specs.SentMessages.{Adds}
 use Rattle.otap_produce.proofs.Adding.{adds_one, kinds_set}
 use Rattle.otap_produce.proofs.Stepping.{SendsOne}
-use Rattle.otap_produce.proofs.TypeNumbers.{number_fits}
 use Rattle.otap_produce.proofs.senders.Senders.add.Goals as goal
+use Rattle.otap_cells.proofs.KindsApart.{number_fits}
 
 pub returns-in_err-written-clause-kinds : goal.returns-in_err-written-clause-kinds
 returns-in_err-written-clause-kinds c =

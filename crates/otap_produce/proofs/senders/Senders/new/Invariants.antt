@@ -1,7 +1,7 @@
 use Rattle.std.proofs.Common.{◌≡◌, take, []}
 use Rattle.std.specs.Prelude.{All}
-use Rattle.otap_produce.specs.Exporters.{HasSent, kinds_in}
+use Rattle.otap_produce.specs.Exporters.{HasSentTables, kinds_in}
 use Rattle.otap_produce.proofs.senders.Senders.new.Given as goal
 
 abbrev pub invariant-kinds : goal.invariant-kinds
-invariant-kinds l = record { kinds : kinds_in l.senders.items ≡ take l.kind-index l.kind-items; sent : All (HasSent [] []) l.senders.items }
+invariant-kinds l = record { kinds : kinds_in l.senders.items ≡ take l.kind-index l.kind-items; sent : All (HasSentTables [] []) l.senders.items }

@@ -1,9 +1,11 @@
 -- Kinds by their numbers.
-use Rattle.std.proofs.Common.{◌≡◌, ℕ, pos, true, List, [], ◌∷◌, Some, inl, inr, refl, sym, ap, ◌∙◌}
-use Rattle.std.specs.Prelude.{find, ◌==◌}
+use Rattle.std.proofs.Common.{◌≡◌, ℕ, pos, true, List, [], ◌∷◌, Some, inl, inr, refl, sym, ap, ◌∙◌, ◌<◌, arith}
+use Rattle.std.specs.Prelude.{find, ◌==◌, FitsSigned}
 use Rattle.std.specs.Ordering.{int_eq}
+use Rattle.std.specs.Int.{w32}
 use Rattle.std.proofs.lemmas.Bool.{eqb-true, eq-eqb, cases_Bool, both_ways}
 use Rattle.std.proofs.lemmas.Bool.Decides.{Decides-int_eq}
+use Rattle.std.proofs.lemmas.Int.{fits_signed_from_abs}
 use Rattle.otap_cells.specs.declared.payload.Kind.{Kind}
 use Rattle.otap_cells.specs.declared.payload.Kind.TheVariants as table
 use Rattle.otap_cells.specs.Payload.{number_of, is_kind}
@@ -63,3 +65,31 @@ types_compared a b =
             | inr unequal ↦ unequal ∙ sym other
           ]
     ]
+
+-- the numbers are small
+pub number_small : (kind : Kind) → number_of kind < 64
+number_small table.ResourceAttrs = omega arith
+number_small table.ScopeAttrs = omega arith
+number_small table.Metrics = omega arith
+number_small table.NumberPoints = omega arith
+number_small table.SummaryPoints = omega arith
+number_small table.HistPoints = omega arith
+number_small table.NumberPointAttrs = omega arith
+number_small table.SummaryPointAttrs = omega arith
+number_small table.HistPointAttrs = omega arith
+number_small table.NumberExemplars = omega arith
+number_small table.HistExemplars = omega arith
+number_small table.NumberExemplarAttrs = omega arith
+number_small table.HistExemplarAttrs = omega arith
+number_small table.Logs = omega arith
+number_small table.LogAttrs = omega arith
+number_small table.Spans = omega arith
+number_small table.SpanAttrs = omega arith
+number_small table.SpanEvents = omega arith
+number_small table.SpanLinks = omega arith
+number_small table.EventAttrs = omega arith
+number_small table.LinkAttrs = omega arith
+
+-- so they fit 32 bits
+pub number_fits : (kind : Kind) → FitsSigned w32 (pos (number_of kind))
+number_fits kind = fits_signed_from_abs w32 (pos (number_of kind)) (omega (arith, number_small kind))
