@@ -15,6 +15,8 @@ import subprocess
 import sys
 
 EXAMPLES = os.path.join(os.path.dirname(os.path.abspath(__file__)), "..", "examples")
+# What `list` writes for a batch of one payload, a reset, and the batch again.
+LISTED = b"frame 0: batch 0 30:256\nframe 1: reset\nframe 2: batch 0 30:256\n"
 REQUESTS = {"logs": "pairs_pause", "traces": "row_events_pause", "metrics": "row_points_pause"}
 
 
@@ -81,6 +83,7 @@ def main():
     place = os.path.join(EXAMPLES, "cases", "decode-logs", "row_twice_with_a_reset.capture")
     written = read(place + ".stdout")
     wrong = wrong_cuts(program, ["decode", "logs"], read(place), written, ends(written), step)
+    wrong += wrong_cuts(program, ["list"], read(place), LISTED, line_ends(LISTED), step)
     wrong += sum(of_signal(program, signal, step) for signal in REQUESTS)
     sys.exit(1 if wrong else 0)
 

@@ -202,33 +202,6 @@ impl Over {
     }
 }
 
-fn each_cut_is_told<R: Abort + AllocGlobal>(rt: &R, job: Over) -> Result<(), Fail> {
-    let capture = capture(rt.alloc())?;
-    assert_eq!(rt; capture.len(), 549);
-    for cut in 0..550usize {
-        assert!(rt; cut <= capture.len());
-        let (err, status) = match cut {
-            0 | 272 | 277 | 549 => ("", 0),
-            1..272 => ("damage at 0: Truncated\n", 5),
-            273..277 => ("damage at 272: Truncated\n", 5),
-            _ => ("damage at 277: Truncated\n", 5),
-        };
-        let left = Left {
-            out: job.written_in(cut),
-            err,
-            status,
-        };
-        runs(rt, job.words(), &capture[..cut], 1 << 16, NONE, left)?;
-    }
-    Ok(())
-}
-
-#[test]
-fn each_cut_has_its_texts(rt: HostRuntime) -> Result<(), Fail> {
-    each_cut_is_told(&rt, Over::List)?;
-    each_cut_is_told(&rt, Over::Decode)
-}
-
 fn each_failing_read_is_told<R: Abort + AllocGlobal>(rt: &R, job: Over) -> Result<(), Fail> {
     let capture = capture(rt.alloc())?;
     for call in 0..550u64 {
