@@ -1,5 +1,5 @@
-//! What requests weigh, and which of them tell the same. Requests are read from messages of OTLP 1.x, which were spelled
-//! by hand; the weights were worked out by hand.
+//! What requests weigh, and which of them tell the same. Requests are read from messages of OTLP 1.x, which a script spelled
+//! field by field; the weights were worked out by hand.
 use otlp_codec::read_request;
 use otlp_model::*;
 use std::alloc::{AllocError, Global};
