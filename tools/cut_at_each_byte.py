@@ -1,5 +1,5 @@
 #!/usr/bin/env python3
-"""Cuts captures at each of their bytes, and runs each job on the cuts.
+"""Cuts some captures of examples/ at each of their bytes, and runs each job on the cuts.
 
     tools/cut_at_each_byte.py PROGRAM [STEP]
 
@@ -7,8 +7,10 @@ Of each cut a job writes what it writes for the frames that are whole, and nothi
 is said, and the status is 5, or 0 where the cut stands between two frames. With STEP only each STEPth cut is tried of the
 captures that are longer than 1,000 bytes, and those around the ends of frames.
 
-What `decode`, `replay`, `schema` and `show` write for a whole capture was made by an independent program, as the requests
-were that `tidy` writes as they stand. What `encode` and `status` write for a whole capture is what they write for it."""
+For `decode`, `replay`, `schema` and `show` the text of the whole capture was made by an independent program; `tidy` writes
+its requests as they stand. For `encode` and `status` the program's own output for the whole capture is taken.
+
+It prints each job with the number of cuts tried and of wrong ones, and the status is 1 where one was wrong."""
 
 import os
 import subprocess

@@ -7,7 +7,9 @@ So each read, and each write to standard output or standard error, fails in turn
 whose other end is gone, a directory, a file that has as many bytes as it may, a full device, and a pipe that nobody
 reads. Where reading fails, the status is 3, and all that belongs to the frames before is there, and nothing else. Where
 writing fails, the status is 4, and what was written to each is a front of what is written else. With N only each Nth place
-is tried, and those around the ends of frames. A load is tried at some 20 places of what it writes."""
+is tried, and those around the ends of frames. A load is tried at some 20 places of what it writes.
+
+It prints each job with the number of places tried and of wrong ones, and the status is 1 where one was wrong."""
 
 import argparse
 import os

@@ -4,9 +4,9 @@
 
     tools/largest_requests.py [PROGRAM [REFERENCE...]]
 
-Each request has as many items or as much weight as docs/PROFILE.md says, or one more, or as many values or bytes of an
-attribute as a form of its column takes, or one more. Those above a limit are refused; all others come back as they are,
-with the line and the field that stand here. REFERENCE, if given, is
+Each request has as many items or as much weight as docs/PROFILE.md allows, or one more; or one attribute has as many
+different values, or values of as many bytes, as a form of its column holds, or one more. Those above a limit are
+refused; all others come back as they are, with the line and the field that stand in this script. REFERENCE, if given, is
 the command of a reference implementation, which is to read the same from the batches that PROGRAM made. These captures
 have up to 64 MiB, so the gate leaves them out. It prints each case, and the status is 1 where one of them gave another
 answer.

@@ -9,7 +9,10 @@ which needs `strace`, each allocation is refused by itself too, while those befo
 
 The status must be 6, and what is written to standard output and standard error a front of what is written else. With N only
 each Nth size and each Nth allocation is tried. A load has too many allocations for that: it is run in some 20 sizes, and the
-C library is left as it is."""
+C library is left as it is.
+
+It prints each job with the number of sizes, and of single allocations, tried and of wrong ones, and the status is 1 where
+one was wrong."""
 
 import argparse
 import os
