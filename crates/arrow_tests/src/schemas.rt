@@ -4,7 +4,7 @@ use arrow_schema::{
 use flat_tables::{Builder, TableView};
 use std::test::Fail;
 
-// The program writes no field with an encoding.
+/// The program writes no field with an encoding.
 #[test]
 fn reads_an_encoding_that_it_adds(rt: HostRuntime) -> Result<(), Fail> {
     let alloc = rt.alloc();

@@ -1,4 +1,4 @@
-//! Runs over sources and sinks in memory whose calls fail, and over captures in pieces.
+//! Runs over sources and sinks in memory whose calls fail, and over a source that gives its bytes in pieces.
 ghost use Rattle.std.specs.Prelude.{◌<◌, ◌≤◌};
 
 use otap_capture::{MemorySink, MemorySource};
@@ -12,11 +12,6 @@ const BATCH: [u8; 7] = [0, 0, 0, 0, 2, 0x08, 0x07];
 
 /// That batch twice.
 const TWICE: [u8; 14] = [0, 0, 0, 0, 2, 0x08, 0x07, 0, 0, 0, 0, 2, 0x08, 0x07];
-
-/// A request with a log record whose body is a text.
-const REQUEST: [u8; 17] = [
-    0, 0, 0, 0, 12, 0x0a, 10, 0x12, 8, 0x12, 6, 0x2a, 4, 0x0a, 2, 0x68, 0x69,
-];
 
 /// The calls that fail, of the source, of out and of err.
 #[derive(Clone, Copy)]
@@ -112,12 +107,6 @@ fn frames_are_handled_as_they_come(rt: HostRuntime) -> Result<(), Fail> {
         err: "",
         status: 0,
     };
-    runs(&rt, &["list"], &BATCH, 1, NONE, line)?;
-    let tidied = Left {
-        out: &REQUEST,
-        ..line
-    };
-    runs(&rt, &["tidy", "logs"], &REQUEST, 1, NONE, tidied)?;
     // The tenth byte doesn't come, and then the seventh.
     let ninth = Failing {
         source: &[9],

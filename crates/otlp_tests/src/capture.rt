@@ -3,7 +3,7 @@ use otap_capture::*;
 use std::io::{Error, ErrorKind, Write};
 use std::test::Fail;
 
-// A batch with the id 7.
+/// A batch with the id 7.
 const BATCH: [u8; 2] = [0x08, 0x07];
 
 #[test]
@@ -63,25 +63,6 @@ fn frames_are_written(rt: HostRuntime) -> Result<(), Fail> {
     write_frame(&mut steady, &[])?;
     steady.flush()?;
     assert_eq!(rt; steady.bytes(), [0, 0, 0, 0, 0].as_slice());
-    Ok(())
-}
-
-#[test]
-fn readers_and_writers_serve(rt: HostRuntime) -> Result<(), Fail> {
-    let alloc = rt.alloc();
-    let bytes: &[u8] = &[0, 0, 0, 0, 2, 0x08, 0x07];
-    let mut source = ReadSource::new(bytes);
-    let mut frames = Frames::new(alloc);
-    assert_eq!(rt; frames.next(&mut source)?, Step::Frame);
-    assert_eq!(rt; frames.frame(), Some(Frame::Message(&BATCH)));
-    assert_eq!(rt; frames.next(&mut source)?, Step::End);
-    let mut held = Vec::new(alloc);
-    {
-        let mut sink = WriteSink::new(&mut held);
-        write_frame(&mut sink, &BATCH)?;
-        sink.flush()?;
-    }
-    assert_eq!(rt; held.as_slice(), bytes);
     Ok(())
 }
 
