@@ -3,7 +3,7 @@ use Rattle.std.proofs.Common.{◌≡◌, ◌<◌, ◌+◌, ◌*◌, ◌-◌, ℕ
 use Rattle.std.proofs.Common.{sym, ap, ◌∙◌, subst, arith}
 use Rattle.std.proofs.lemmas.Bool.{eq-eqb, ne_eqb, le-ltb}
 use Rattle.std.proofs.lemmas.List.{take_all}
-use Rattle.flat_tables.specs.Bytes.{◌>>=◌}
+use Rattle.lists.specs.Results.{◌>>=◌}
 use Rattle.arrow_buffers.specs.declared.fault.BufferFault.{BufferFault}
 use Rattle.arrow_buffers.specs.declared.fault.BufferFault.TheVariants.{BadUtf8}
 use Rattle.arrow_buffers.specs.declared.width.Width.{Width}

@@ -8,7 +8,7 @@ use Rattle.std.proofs.lemmas.List.{append-nil, length-append}
 use Rattle.std.proofs.lemmas.List.FromFn.{fill_by_all, length-map-range_with_len}
 use Rattle.std.proofs.lemmas.List.Sums.{sum_by-cons}
 use Rattle.std.proofs.lemmas.Option.{slice_get-map, slice_get_within, get_or_from_slice_get}
-use Rattle.flat_tables.specs.Bytes.{◌>>=◌}
+use Rattle.lists.specs.Results.{◌>>=◌}
 use Rattle.arrow_schema.specs.declared.spec.ArrowType.{ArrowType}
 use Rattle.arrow_schema.specs.declared.spec.FieldSpec.{FieldSpec}
 use Rattle.arrow_buffers.specs.declared.fault.BufferFault.{BufferFault}
@@ -29,7 +29,8 @@ use Rattle.arrow_arrays.specs.Layouts.{layout_of, layout_of_values, own_buffers,
 use Rattle.arrow_arrays.specs.Cells.{length_in, rows_in, validity_in, values_in, array_in, content_check, array_check, cell_if, own_cell, place_of_values}
 use Rattle.arrow_arrays.specs.Arrays.{is_below_list, buffers_of, arrays_of, array_place, arrays_check}
 use Rattle.arrow_arrays.specs.Columns.{stored_width, AreElements, StandAt, HoldsColumn, AreTexts}
-use Rattle.arrow_arrays.specs.Written.{PartIn, batch_of_parts, struct_part, column_buffers, IsWide, IsElementPart, IsPartOfElements, ElementsFollow, HoldsCells, HoldsBelow, HoldsArray, AreParts, IsColumnArray, HasWholeStructs}
+use Rattle.arrow_arrays.specs.Written.{PartIn, batch_of_parts, struct_part, column_buffers, IsWide, IsElementPart, IsPartOfElements, ElementsFollow}
+use Rattle.arrow_arrays.specs.Written.{HoldsCells, HoldsBelow, HoldsArray, AreParts, IsColumnArray, HasWholeStructs}
 use Rattle.arrow_arrays.proofs.Checked.{no_fault_checks}
 use Rattle.arrow_arrays.proofs.Walked.{slice_get_front, places_law}
 use Rattle.arrow_arrays.proofs.ColumnLaws.{flags_for, valid_there, no_bitmap, column_checks, column_cells}

@@ -4,7 +4,7 @@ use Rattle.std.specs.Result.{result_and}
 use Rattle.std.proofs.lemmas.Bool.{eqb-true, ltb-false}
 use Rattle.lists.proofs.Truths.{chosen}
 use Rattle.lists.proofs.Equals.{ok_is}
-use Rattle.flat_tables.specs.Bytes.{◌>>=◌}
+use Rattle.lists.specs.Results.{◌>>=◌}
 use Rattle.arrow_schema.proofs.Steps.{bind_ok}
 use Rattle.arrow_buffers.specs.declared.fault.BufferFault.{BufferFault}
 use Rattle.arrow_buffers.specs.declared.fault.BufferFault.TheVariants.{Short, BadNulls}

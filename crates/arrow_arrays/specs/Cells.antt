@@ -2,7 +2,7 @@
 -- message" and "Physical memory layout"). Where several faults stand, it is the first one in the order of the parts: node,
 -- validity, values.
 use Rattle.std.specs.Prelude.{ℕ, ◌+◌, ◌*◌, ◌==◌, ℤ, pos, negsuc, false, nat_lt, if◌then◌else◌, List, [], length, take, slice_get, Option, None, Some, option_map, Result, Ok, Err}
-use Rattle.flat_tables.specs.Bytes.{◌>>=◌}
+use Rattle.lists.specs.Results.{◌>>=◌}
 use Rattle.arrow_schema.specs.declared.spec.ArrowType.{ArrowType}
 use Rattle.arrow_schema.specs.Types.{is_number}
 use Rattle.arrow_buffers.specs.declared.fault.BufferFault.{BufferFault}

@@ -1,6 +1,5 @@
 pub mod Layouts
 pub mod Cells
-pub mod Returned
 pub mod Arrays
 pub mod Inside
 pub mod Fields

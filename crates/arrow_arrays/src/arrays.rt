@@ -22,7 +22,7 @@ use std::marker::Model;
 #[derive(Debug, Drop)]
 pub struct Arrays {
     arrays: Vec<ArraySpec>,
-    // How many buffers they have together.
+    /// How many buffers they have together.
     buffers: u16,
 }
 
@@ -111,6 +111,7 @@ impl Arrays {
         Ok(())
     }
 
+    /// How many arrays there are.
     pub fn len(&self) -> usize
         ensures value { result ≡ length self.now }
         ensures few { result ≤ max_fields }
@@ -118,6 +119,7 @@ impl Arrays {
         self.arrays.len()
     }
 
+    /// Whether there is none.
     pub fn is_empty(&self) -> bool
         ensures { result ≡ (length self.now == 0) }
     {

@@ -52,7 +52,7 @@ impl Layout {
     }
 
     /// How many buffers an array has, its children's not counted.
-    pub fn own_buffers(self) -> u32
+    pub(crate) fn own_buffers(self) -> u32
         ensures { result ≡ own_buffers self }
     {
         match self {

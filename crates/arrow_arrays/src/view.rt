@@ -2,7 +2,7 @@
 
 ghost use Rattle.std.specs.Prelude.{◌≡◌, ◌+◌, ◌^◌, ◌<◌};
 ghost use Rattle.arrow_arrays.specs.Cells.{length_in, rows_in, nulls_in, buffer_in, validity_in, bit_values, fixed_in, vars_in, elements_in, element_bytes, lists_in, values_in, array_in, content_check};
-ghost use Rattle.arrow_arrays.specs.Returned.{Gives};
+ghost use Rattle.lists.specs.Results.{Gives};
 
 use crate::layout::{ELEMENT_LEN, Layout};
 use crate::place::ArrayPlace;

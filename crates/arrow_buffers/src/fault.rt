@@ -9,7 +9,7 @@ pub enum BufferFault {
     /// An offset is negative, less than the one before, or past the values.
     #[error("an offset is negative, falls, or passes the values")]
     BadOffsets,
-    /// There are nulls, and no bitmap that says where.
+    /// There are nulls and no bitmap that says where, or a list that is not null has a null element.
     #[error("nulls are counted where no bitmap stands")]
     BadNulls,
     /// The text of a row that is not null is not UTF-8.

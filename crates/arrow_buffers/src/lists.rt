@@ -29,9 +29,9 @@ impl<'a> Model for Lists<'a> {
 
 impl<'a> Lists<'a> {
     /// The lists of `rows` rows. The values are the elements that offsets may lead to, each of
-    /// `width` bytes. `Short` where the offsets aren't one more than the rows, or none where there
-    /// are no rows; `BadOffsets` where one is negative, less than the one before, or past the
-    /// values. It reads each offset once.
+    /// `width` bytes. `Short` where there are fewer offsets than one more than the rows (without
+    /// rows none are needed); `BadOffsets` where one is negative, less than the one before, or past
+    /// the values. It reads each offset once.
     #[tactic(auto, unfolding(crate::specs::Lists::lists_of))]
     pub fn new(
         offsets: &'a [u8],

@@ -28,9 +28,9 @@ impl<'a> Model for Vars<'a> {
 }
 
 impl<'a> Vars<'a> {
-    /// The values of `rows` rows, where the offsets are one more than the rows, or none where there
-    /// are no rows: `Short` where there are fewer, `BadOffsets` where one is negative, less than
-    /// the one before, or past the values. It reads each offset once.
+    /// The values of `rows` rows. `Short` where there are fewer offsets than one more than the rows
+    /// (without rows none are needed); `BadOffsets` where one is negative, less than the one before,
+    /// or past the values. It reads each offset once.
     #[tactic(auto, unfolding(crate::specs::Vars::vars_of))]
     pub fn new(offsets: &'a [u8], values: &'a [u8], rows: u64) -> Result<Vars<'a>, BufferFault>
         ensures exact { result ≡ vars_of offsets.now values.now rows }

@@ -13,12 +13,12 @@ use Rattle.arrow_schema.specs.Limits.{max_written_fields, max_written_names, max
 use Rattle.arrow_ipc.specs.Limits.{max_parts}
 use Rattle.arrow_ipc.specs.declared.messages.IpcMessage.{IpcMessage}
 use Rattle.arrow_ipc.specs.declared.messages.IpcMessage.TheVariants.{Schema, Dictionary, Rows}
-use Rattle.arrow_ipc.specs.Batches.{BatchIn, IsBatch, lies_in, buffer_in}
+use Rattle.arrow_ipc.specs.Batches.{BatchIn, IsBatch, lies_in, buffer_of}
 use Rattle.arrow_ipc.specs.Messages.{IsFramed, IsMessage, IsContent, kind_number}
 use Rattle.arrow_ipc.proofs.Parts.{part_more, number_more}
 use Rattle.arrow_ipc.specs.Fronts.{Front, HasNoMessage}
 use Rattle.arrow_ipc.proofs.Fronting.{message_ends, no_message}
-use Rattle.arrow_ipc.specs.Written.{padded, body_size, most_of, most_of_schema, is_aligned, IsBatchAligned, AreBuffersAligned, IsHeaderAligned, Appends, AppendsSchema}
+use Rattle.arrow_ipc.specs.Written.{padded, body_size, most_of_batch, most_of_schema, is_aligned, IsBatchAligned, AreBuffersAligned, IsHeaderAligned, Appends, AppendsSchema}
 use Rattle.arrow_ipc.specs.Laying.{laid_out, HoldsBatch, IsBatchTable, HasMessage}
 use Rattle.arrow_ipc.proofs.Places.{all_lie_more, buffers_more, body_size-le}
 use Rattle.arrow_ipc.proofs.Laid.{zeros_after, length-laid_out, framed_laid, IsLaid, message_laid}
@@ -85,7 +85,7 @@ appended m most built header body old new h fits inner read content aligned few 
 -- the batch that a table and a padded body hold
 batch_held : (rows : ℕ) (nodes places : List (ℤ × ℤ)) (body : List ℕ) (table : TableIn) → HoldsBatch rows nodes places table
     → list_all (lies_in (length body)) places ≡ true
-    → IsBatch table (body ++ zeros_after body) (record { rows = rows; nodes = nodes; buffers = map (buffer_in body) places })
+    → IsBatch table (body ++ zeros_after body) (record { rows = rows; nodes = nodes; buffers = map (buffer_of body) places })
 batch_held rows nodes places body table h inside = record {
   rows = h.has_rows;
   nodes = h.has_nodes;
@@ -102,20 +102,20 @@ buffers_aligned rows nodes places table h aligned =
     λ others here. let same : places ≡ others = cc (h.has_places, here) in subst (λ (ps : List (ℤ × ℤ)). list_all is_aligned ps ≡ true) same aligned
 
 few_bytes : (rows : ℕ) (nodes places : List (ℤ × ℤ)) (body : List ℕ) (metadata : ℕ) → metadata ≤ 16 * length nodes + 16 * length places + 864
-    → padded (length body) ≡ body_size (map (buffer_in body) places)
-    → 8 + metadata + padded (length body) ≤ most_of (record { rows = rows; nodes = nodes; buffers = map (buffer_in body) places })
+    → padded (length body) ≡ body_size (map (buffer_of body) places)
+    → 8 + metadata + padded (length body) ≤ most_of_batch (record { rows = rows; nodes = nodes; buffers = map (buffer_of body) places })
 few_bytes rows nodes places body metadata small size =
-    omega (arith, small, size, body_size-le (map (buffer_in body) places), length-map places (buffer_in body))
+    omega (arith, small, size, body_size-le (map (buffer_of body) places), length-map places (buffer_of body))
 
 pub rows_appended : (rows : ℕ) (nodes places : List (ℤ × ℤ)) (body built : List ℕ) (header : ℕ) (old new : List ℕ) → HasMessage built header 3 body old new
     → StaysAt (IsBatchTable rows nodes places) built header → length built ≤ 16 * length nodes + 16 * length places + 320 → length nodes ≤ max_parts → length places ≤ max_parts
-    → list_all (lies_in (length body)) places ≡ true → list_all is_aligned places ≡ true → padded (length body) ≡ body_size (map (buffer_in body) places)
-    → Appends (Rows (record { rows = rows; nodes = nodes; buffers = map (buffer_in body) places }))
-    (most_of (record { rows = rows; nodes = nodes; buffers = map (buffer_in body) places })) old new
+    → list_all (lies_in (length body)) places ≡ true → list_all is_aligned places ≡ true → padded (length body) ≡ body_size (map (buffer_of body) places)
+    → Appends (Rows (record { rows = rows; nodes = nodes; buffers = map (buffer_of body) places }))
+    (most_of_batch (record { rows = rows; nodes = nodes; buffers = map (buffer_of body) places })) old new
 rows_appended rows nodes places body built header old new h stands small few_nodes few_places inside aligned size =
     let t : IsBatchTable rows nodes places h.metadata (length h.metadata - header) = stands_later (IsBatchTable rows nodes places) built h.metadata header h.is.grows stands in
-    let batch : BatchIn = record { rows = rows; nodes = nodes; buffers = map (buffer_in body) places } in
-    appended (Rows batch) (most_of batch) built header body old new h (omega (arith, h.few, small, few_nodes, few_places)) t.table t.read
+    let batch : BatchIn = record { rows = rows; nodes = nodes; buffers = map (buffer_of body) places } in
+    appended (Rows batch) (most_of_batch batch) built header body old new h (omega (arith, h.few, small, few_nodes, few_places)) t.table t.read
     (batch_held rows nodes places body t.table t.holds inside)
     (t.aligned h.even, buffers_aligned rows nodes places t.table t.holds aligned)
     (few_bytes rows nodes places body (length h.metadata) (omega (arith, h.few, small)) size)
@@ -123,14 +123,14 @@ rows_appended rows nodes places body built header old new h stands small few_nod
 pub dictionary_appended : (id : ℤ) (delta : Bool) (rows : ℕ) (nodes places : List (ℤ × ℤ)) (body built : List ℕ) (header : ℕ) (old new : List ℕ)
     → HasMessage built header 2 body old new → StaysAt (IsDictionaryTable id delta rows nodes places) built header
     → length built ≤ 16 * length nodes + 16 * length places + 576 → length nodes ≤ max_parts → length places ≤ max_parts
-    → list_all (lies_in (length body)) places ≡ true → list_all is_aligned places ≡ true → padded (length body) ≡ body_size (map (buffer_in body) places)
-    → Appends (Dictionary id delta (record { rows = rows; nodes = nodes; buffers = map (buffer_in body) places }))
-    (most_of (record { rows = rows; nodes = nodes; buffers = map (buffer_in body) places })) old new
+    → list_all (lies_in (length body)) places ≡ true → list_all is_aligned places ≡ true → padded (length body) ≡ body_size (map (buffer_of body) places)
+    → Appends (Dictionary id delta (record { rows = rows; nodes = nodes; buffers = map (buffer_of body) places }))
+    (most_of_batch (record { rows = rows; nodes = nodes; buffers = map (buffer_of body) places })) old new
 dictionary_appended id delta rows nodes places body built header old new h stands small few_nodes few_places inside aligned size =
     let t : IsDictionaryTable id delta rows nodes places h.metadata (length h.metadata - header) =
     stands_later (IsDictionaryTable id delta rows nodes places) built h.metadata header h.is.grows stands in
-    let batch : BatchIn = record { rows = rows; nodes = nodes; buffers = map (buffer_in body) places } in
-    appended (Dictionary id delta batch) (most_of batch) built header body old new h (omega (arith, h.few, small, few_nodes, few_places)) t.table t.read
+    let batch : BatchIn = record { rows = rows; nodes = nodes; buffers = map (buffer_of body) places } in
+    appended (Dictionary id delta batch) (most_of_batch batch) built header body old new h (omega (arith, h.few, small, few_nodes, few_places)) t.table t.read
     (record { has_id = t.has_id; has_delta = t.has_delta; table = t.inner; has_table = t.has_inner; is_batch = batch_held rows nodes places body t.inner t.holds inside }) (
       t.aligned h.even,
       λ inner here.

@@ -15,14 +15,14 @@ use Rattle.arrow_ipc.specs.declared.messages.IpcMessage.{IpcMessage}
 use Rattle.arrow_ipc.specs.declared.messages.IpcMessage.TheVariants as content
 use Rattle.arrow_ipc.specs.declared.header.Header.{Header}
 use Rattle.arrow_ipc.specs.declared.header.Header.TheVariants as header
-use Rattle.arrow_ipc.specs.declared.header.Found.{Found}
+use Rattle.arrow_ipc.specs.declared.header.FoundHeader.{FoundHeader}
 use Rattle.arrow_ipc.specs.Batches.{BatchIn, IsBatch, lies_in, row_count, nodes_of, places_of}
 use Rattle.arrow_ipc.specs.Messages.{IsFramed, IsMessage, IsDictionary, IsContent, continuation, version_of, header_kind, header_table_of, body_size_of, is_known, id_of, data_of, delta_of, kind_number}
 use Rattle.arrow_ipc.specs.Faults
 use Rattle.arrow_ipc.specs.Faults.{HasTable, HasHeader, HasBatch, HasBody, Stands, Refuses}
 use Rattle.arrow_ipc.specs.Returned.{RefusesHeader}
 use Rattle.arrow_ipc.specs.Order as order
-use Rattle.arrow_ipc.specs.Order.{◌>>=◌}
+use Rattle.lists.specs.Results.{◌>>=◌}
 use Rattle.arrow_ipc.proofs.Parts.{part_lies, part_past}
 
 -- a part that was read, or why not
@@ -225,7 +225,7 @@ record IsFound (bytes : List ℕ) (h : Header) (size : ℕ) : Type 0 where
   has_header : IsHeader table part h
   ends : size ≡ 8 + length metadata + length part
 
-abbrev Finds : List ℕ → Found → Type 0
+abbrev Finds : List ℕ → FoundHeader → Type 0
 Finds bytes f = IsFound bytes f.header f.size
 
 abbrev Faulty : List ℕ → IpcFault → Type 0
@@ -340,7 +340,7 @@ message_from bytes (header.Dictionary id delta batch) size is =
 message_from bytes (header.Rows batch) size is =
     message_is bytes (header.Rows batch) size is (content.Rows batch) is.has_header.has_kind is.has_header.content
 
-found_message : (bytes : List ℕ) (r : Result Found IpcFault) → MatchResult r (Finds bytes) (Faulty bytes)
+found_message : (bytes : List ℕ) (r : Result FoundHeader IpcFault) → MatchResult r (Finds bytes) (Faulty bytes)
     → MatchResult (r >>= λ f. order.message_of f.header >>= λ m. Ok (m, f.size)) (Gives bytes) (Faulty bytes)
 found_message bytes (Ok f) is = message_from bytes f.header f.size is
 found_message bytes (Err e) stands = stands
@@ -364,7 +364,7 @@ stands_refuses bytes (Memory e) s = tt
 
 pub find_refuses : (bytes : List ℕ) (e : IpcFault) → order.find bytes ≡ Err e → bytes ≢ [] → Refuses bytes e
 find_refuses bytes e h filled =
-    stands_refuses bytes e (subst (λ (r : Result Found IpcFault). MatchResult r (Finds bytes) (Faulty bytes)) h (find_decided bytes) filled)
+    stands_refuses bytes e (subst (λ (r : Result FoundHeader IpcFault). MatchResult r (Finds bytes) (Faulty bytes)) h (find_decided bytes) filled)
 
 refuses_found : (bytes : List ℕ) (h : Header) (size : ℕ) (e : IpcFault) → IsFound bytes h size → RefusesHeader h e → Refuses bytes e
 refuses_found bytes (header.Schema inner) size (Schema refusal) is r =
@@ -386,11 +386,11 @@ refuses_found bytes (header.Schema inner) size Unsupported is r = absurd r
 refuses_found bytes (header.Dictionary id delta batch) size e is r = absurd r
 refuses_found bytes (header.Rows batch) size e is r = absurd r
 
-pub header_refuses : (bytes : List ℕ) (f : Found) (e : IpcFault) → order.find bytes ≡ Ok f → RefusesHeader f.header e → Refuses bytes e
+pub header_refuses : (bytes : List ℕ) (f : FoundHeader) (e : IpcFault) → order.find bytes ≡ Ok f → RefusesHeader f.header e → Refuses bytes e
 header_refuses bytes f e h r =
-    refuses_found bytes f.header f.size e (subst (λ (r : Result Found IpcFault). MatchResult r (Finds bytes) (Faulty bytes)) h (find_decided bytes)) r
+    refuses_found bytes f.header f.size e (subst (λ (r : Result FoundHeader IpcFault). MatchResult r (Finds bytes) (Faulty bytes)) h (find_decided bytes)) r
 
-pub message_given : (bytes : List ℕ) (f : Found) (m : IpcMessage) → order.find bytes ≡ Ok f → order.message_of f.header ≡ Ok m → IsMessage bytes m f.size
+pub message_given : (bytes : List ℕ) (f : FoundHeader) (m : IpcMessage) → order.find bytes ≡ Ok f → order.message_of f.header ≡ Ok m → IsMessage bytes m f.size
 unfolding order.message
 message_given bytes f m h1 h2 =
     let read : order.message bytes ≡ Ok (m, f.size) = rw (h1, h2) refl in

@@ -7,7 +7,7 @@ use Rattle.arrow_ipc.specs.declared.messages.IpcMessage.{IpcMessage}
 use Rattle.arrow_ipc.specs.declared.messages.IpcMessage.TheVariants as content
 use Rattle.arrow_ipc.specs.declared.header.Header.{Header}
 use Rattle.arrow_ipc.specs.declared.header.Header.TheVariants as header
-use Rattle.arrow_ipc.specs.declared.header.Found.{Found}
+use Rattle.arrow_ipc.specs.declared.header.FoundHeader.{FoundHeader}
 use Rattle.arrow_ipc.specs.Batches.{BatchIn}
 use Rattle.arrow_ipc.specs.Messages.{IsMessage}
 use Rattle.arrow_ipc.specs.Faults.{Stands, Refuses}
@@ -134,7 +134,7 @@ rows_in-is bytes batch h = go (order.find bytes) refl h
               (subst (λ (r : Result (IpcMessage × ℕ) IpcFault). MatchResult r (λ found. IsMessage bytes found.0 found.1) (λ e. bytes ≢ [] → Stands bytes e)) read (decided bytes)),
         )
 
-    go : (r : Result Found IpcFault) → order.find bytes ≡ r → rows_found r ≡ Some batch → HasRows bytes batch
+    go : (r : Result FoundHeader IpcFault) → order.find bytes ≡ r → rows_found r ≡ Some batch → HasRows bytes batch
     go (Ok found) e h = rows found.header found.size e h
     go (Err fault) e h = absurd (cc h)
 

@@ -6,7 +6,7 @@ use Rattle.std.proofs.lemmas.Bool.{le-leb, eq-eqb}
 use Rattle.std.proofs.lemmas.List.{map-append, length-replicate}
 use Rattle.std.proofs.lemmas.List.Folds.{list_all-append}
 use Rattle.std.proofs.lemmas.List.Sums.{sum_by_push}
-use Rattle.arrow_ipc.specs.Batches.{lies_in, buffer_in}
+use Rattle.arrow_ipc.specs.Batches.{lies_in, buffer_of}
 use Rattle.arrow_ipc.specs.Written.{padded, body_size, is_aligned}
 use Rattle.arrow_ipc.proofs.Places.{all_lie_more, buffers_more, buffer_last}
 
@@ -24,14 +24,14 @@ next_length body part =
     omega (arith, length-append body (zeros ++ part), length-append zeros part, length-replicate {A = ℕ} (padded (length body) - length body) 0)
 
 next_buffers : (body part : List ℕ) (places : List (ℤ × ℤ)) → list_all (lies_in (length body)) places ≡ true
-    → map (buffer_in (next_body body part)) (places ++ next_place body part ∷ []) ≡ map (buffer_in body) places ++ part ∷ []
+    → map (buffer_of (next_body body part)) (places ++ next_place body part ∷ []) ≡ map (buffer_of body) places ++ part ∷ []
 next_buffers body part places inside =
     let zeros : List ℕ = replicate (padded (length body) - length body) 0 in
     let here : length (body ++ zeros) ≡ padded (length body) =
     omega (arith, length-append body zeros, length-replicate {A = ℕ} (padded (length body) - length body) 0) in
-    let last : buffer_in (next_body body part) (next_place body part) ≡ part =
-    ap (λ bytes. buffer_in bytes (next_place body part)) (sym (append_assoc body zeros part)) ∙ buffer_last (body ++ zeros) part (padded (length body)) here in
-    map-append (buffer_in (next_body body part)) places (next_place body part ∷ [])
+    let last : buffer_of (next_body body part) (next_place body part) ≡ part =
+    ap (λ bytes. buffer_of bytes (next_place body part)) (sym (append_assoc body zeros part)) ∙ buffer_last (body ++ zeros) part (padded (length body)) here in
+    map-append (buffer_of (next_body body part)) places (next_place body part ∷ [])
     ∙ (λ i. buffers_more body (zeros ++ part) places inside i ++ last i ∷ [])
 
 next_inside : (body part : List ℕ) (places : List (ℤ × ℤ)) → list_all (lies_in (length body)) places ≡ true
@@ -49,11 +49,11 @@ next_aligned body part places aligned =
     rw (list_all-append, aligned, even) refl
 
 next_size : (body part : List ℕ) (places : List (ℤ × ℤ)) → list_all (lies_in (length body)) places ≡ true
-    → padded (length body) ≡ body_size (map (buffer_in body) places)
-    → padded (length (next_body body part)) ≡ body_size (map (buffer_in (next_body body part)) (places ++ next_place body part ∷ []))
+    → padded (length body) ≡ body_size (map (buffer_of body) places)
+    → padded (length (next_body body part)) ≡ body_size (map (buffer_of (next_body body part)) (places ++ next_place body part ∷ []))
 next_size body part places inside size =
-    let grown : body_size (map (buffer_in (next_body body part)) (places ++ next_place body part ∷ [])) ≡ body_size (map (buffer_in body) places) + padded (length part) =
-    ap body_size (next_buffers body part places inside) ∙ sum_by_push (λ (b : List ℕ). padded (length b)) (map (buffer_in body) places) part in
+    let grown : body_size (map (buffer_of (next_body body part)) (places ++ next_place body part ∷ [])) ≡ body_size (map (buffer_of body) places) + padded (length part) =
+    ap body_size (next_buffers body part places inside) ∙ sum_by_push (λ (b : List ℕ). padded (length b)) (map (buffer_of body) places) part in
     omega (arith, grown, size, next_length body part)
 
 -- all of it, for a body and places that are these
@@ -62,11 +62,11 @@ pub record Grown (body part new_body : List ℕ) (places new_places : List (ℤ 
   pub count : length new_places ≡ length places + 1
   pub inside : list_all (lies_in (length new_body)) new_places ≡ true
   pub aligned : list_all is_aligned new_places ≡ true
-  pub size : padded (length new_body) ≡ body_size (map (buffer_in new_body) new_places)
-  pub buffers : map (buffer_in new_body) new_places ≡ map (buffer_in body) places ++ part ∷ []
+  pub size : padded (length new_body) ≡ body_size (map (buffer_of new_body) new_places)
+  pub buffers : map (buffer_of new_body) new_places ≡ map (buffer_of body) places ++ part ∷ []
 
 pub grown : (body part new_body : List ℕ) (places new_places : List (ℤ × ℤ)) → new_body ≡ next_body body part → new_places ≡ places ++ next_place body part ∷ []
-    → list_all (lies_in (length body)) places ≡ true → list_all is_aligned places ≡ true → padded (length body) ≡ body_size (map (buffer_in body) places)
+    → list_all (lies_in (length body)) places ≡ true → list_all is_aligned places ≡ true → padded (length body) ≡ body_size (map (buffer_of body) places)
     → Grown body part new_body places new_places
 grown body part new_body places new_places body_is places_are inside aligned size =
     let here : Grown body part (next_body body part) places (places ++ next_place body part ∷ []) = record {

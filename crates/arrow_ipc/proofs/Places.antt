@@ -5,7 +5,7 @@ use Rattle.std.specs.List.{list_all}
 use Rattle.std.proofs.lemmas.Bool.{leb-true, le-leb, and_parts}
 use Rattle.std.proofs.lemmas.List.{take-append-le, drop-append-le, drop_at}
 use Rattle.std.proofs.lemmas.List.Sums.{sum_by-cons}
-use Rattle.arrow_ipc.specs.Batches.{lies_from, lies_in, buffer_in}
+use Rattle.arrow_ipc.specs.Batches.{lies_from, lies_in, buffer_of}
 use Rattle.arrow_ipc.specs.Written.{padded, body_size}
 use Rattle.arrow_ipc.proofs.Pairs.{lies_within}
 
@@ -20,7 +20,7 @@ all_lie_more a b (p ∷ ps) le h =
     let hs : (lies_in a p ≡ true) × (list_all (lies_in a) ps ≡ true) = and_parts (lies_in a p) (list_all (lies_in a) ps) h in
     rw (lies_from_more a b p.0 p.1 le hs.0, all_lie_more a b ps le hs.1) refl
 
-buffer_more : (body more : List ℕ) (p : ℤ × ℤ) → lies_in (length body) p ≡ true → buffer_in (body ++ more) p ≡ buffer_in body p
+buffer_more : (body more : List ℕ) (p : ℤ × ℤ) → lies_in (length body) p ≡ true → buffer_of (body ++ more) p ≡ buffer_of body p
 buffer_more body more p h =
     let within : unsigned_abs p.0 + unsigned_abs p.1 ≤ length body = lies_within (length body) p h in
     ap (take (unsigned_abs p.1)) (drop-append-le (unsigned_abs p.0) body more (omega (arith, within)))
@@ -28,14 +28,14 @@ buffer_more body more p h =
 
 -- buffers that lie in the body stay when it grows
 pub buffers_more : (body more : List ℕ) (places : List (ℤ × ℤ)) → list_all (lies_in (length body)) places ≡ true
-    → map (buffer_in (body ++ more)) places ≡ map (buffer_in body) places
+    → map (buffer_of (body ++ more)) places ≡ map (buffer_of body) places
 buffers_more body more [] h = refl
 buffers_more body more (p ∷ ps) h =
     let hs : (lies_in (length body) p ≡ true) × (list_all (lies_in (length body)) ps ≡ true) = and_parts (lies_in (length body) p) (list_all (lies_in (length body)) ps) h in
     λ i. buffer_more body more p hs.0 i ∷ buffers_more body more ps hs.1 i
 
 -- and the last one is what was put there
-pub buffer_last : (front part : List ℕ) (offset : ℕ) → length front ≡ offset → buffer_in (front ++ part) (pos offset, pos (length part)) ≡ part
+pub buffer_last : (front part : List ℕ) (offset : ℕ) → length front ≡ offset → buffer_of (front ++ part) (pos offset, pos (length part)) ≡ part
 buffer_last front part offset here = ap (take (length part)) (drop_at front part offset here) ∙ take_all (length part) part (omega arith)
 
 -- padding costs at most 7 bytes a buffer

@@ -4,7 +4,7 @@ use Rattle.std.specs.Int.{w64, cast_signed}
 use Rattle.std.specs.List.{list_all, range_with_len}
 use Rattle.byteorder.specs.Endian.{little_number}
 use Rattle.flat_tables.specs.declared.fault.FlatFault.{FlatFault}
-use Rattle.flat_tables.specs.Bytes.{◌>>=◌}
+use Rattle.lists.specs.Results.{◌>>=◌}
 use Rattle.flat_tables.specs.Tables.{TableIn, VectorIn, or_default, signed_slot, vector_slot, element_part, place_of}
 
 -- a record batch: how many rows it has, its nodes (a column's length and null count), and the bytes of its buffers
@@ -39,8 +39,8 @@ abbrev pub lies_in : ℕ → ℤ × ℤ → Bool
 lies_in size place = lies_from size place.0 place.1
 
 -- the bytes of a buffer in a body
-abbrev pub buffer_in : List ℕ → ℤ × ℤ → List ℕ
-buffer_in body place = take (unsigned_abs place.1) (drop (unsigned_abs place.0) body)
+abbrev pub buffer_of : List ℕ → ℤ × ℤ → List ℕ
+buffer_of body place = take (unsigned_abs place.1) (drop (unsigned_abs place.0) body)
 
 -- table RecordBatch: the number of rows (slot 0), the nodes (1), the places of the buffers (2)
 unfoldable pub row_count : TableIn → Result ℤ FlatFault
@@ -60,5 +60,5 @@ pub record IsBatch (table : TableIn) (body : List ℕ) (batch : BatchIn) : Type 
   pub places : List (ℤ × ℤ)
   pub has_places : places_of table ≡ Ok places
   pub inside : list_all (lies_in (length body)) places ≡ true
-  pub buffers : batch.buffers ≡ map (buffer_in body) places
+  pub buffers : batch.buffers ≡ map (buffer_of body) places
   pub plain : place_of table 3 ≡ None

@@ -6,7 +6,7 @@ use Rattle.arrow_ipc.specs.declared.messages.IpcMessage.{IpcMessage}
 use Rattle.arrow_ipc.specs.declared.messages.IpcMessage.TheVariants as content
 use Rattle.arrow_ipc.specs.declared.header.Header.{Header}
 use Rattle.arrow_ipc.specs.declared.header.Header.TheVariants as header
-use Rattle.arrow_ipc.specs.declared.header.Found.{Found}
+use Rattle.arrow_ipc.specs.declared.header.FoundHeader.{FoundHeader}
 use Rattle.arrow_ipc.specs.Batches.{BatchIn}
 use Rattle.arrow_ipc.specs.Messages.{IsMessage}
 use Rattle.arrow_ipc.specs.Order as order
@@ -85,7 +85,7 @@ abbrev pub rows_held : Header → Option BatchIn
 rows_held (header.Rows batch) = Some batch
 rows_held _ = None
 
-abbrev pub rows_found : Result Found IpcFault → Option BatchIn
+abbrev pub rows_found : Result FoundHeader IpcFault → Option BatchIn
 rows_found (Ok found) = rows_held found.header
 rows_found (Err fault) = None
 

@@ -5,10 +5,10 @@ use Rattle.flat_tables.specs.Tables.{VectorIn}
 use Rattle.arrow_ipc.specs.declared.batch.BatchView.TheInside as batch
 use Rattle.arrow_ipc.specs.declared.messages.Messages.TheInside as messages
 use Rattle.arrow_ipc.specs.Fronts.{MessagesIn}
-use Rattle.arrow_ipc.specs.Batches.{BatchIn, structs_of, lies_in, buffer_in}
+use Rattle.arrow_ipc.specs.Batches.{BatchIn, structs_of, lies_in, buffer_of}
 
 abbrev pub batch_in : batch.Inside → BatchIn
-batch_in b = record { rows = b.rows; nodes = structs_of b.nodes; buffers = map (buffer_in b.body.now) (structs_of b.buffers) }
+batch_in b = record { rows = b.rows; nodes = structs_of b.nodes; buffers = map (buffer_of b.body.now) (structs_of b.buffers) }
 
 -- a vector of structs of two 64-bit numbers
 abbrev pub HasPairs : Option VectorIn → Type 0

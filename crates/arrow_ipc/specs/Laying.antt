@@ -3,7 +3,7 @@ use Rattle.std.specs.Prelude.{◌≡◌, ℕ, ◌+◌, ◌-◌, ◌%◌, ◌≤�
 use Rattle.std.specs.Int.{w64, cast_unsigned}
 use Rattle.std.specs.List.{flat_map}
 use Rattle.byteorder.specs.Endian.{little_bytes}
-use Rattle.flat_tables.specs.Bytes.{◌>>=◌}
+use Rattle.lists.specs.Results.{◌>>=◌}
 use Rattle.flat_tables.specs.Tables.{TableIn, root_at, table_at, place_of}
 use Rattle.flat_tables.specs.Building.{Grows, IsPadded}
 use Rattle.arrow_ipc.specs.Batches.{row_count, nodes_of, places_of}

@@ -2,7 +2,8 @@
 use Rattle.std.specs.Prelude.{◌≡◌, ℕ, ◌+◌, ◌==◌, ◌||◌, not, Bool, true, false, List, length, Result, Ok, Option, Some, ℤ, pos, negsuc}
 use Rattle.std.specs.Int.{w16, w64}
 use Rattle.flat_tables.specs.declared.fault.FlatFault.{FlatFault}
-use Rattle.flat_tables.specs.Bytes.{◌>>=◌, part_at, number_at}
+use Rattle.lists.specs.Results.{◌>>=◌}
+use Rattle.flat_tables.specs.Bytes.{part_at, number_at}
 use Rattle.flat_tables.specs.Tables.{TableIn, root_at, or_default, byte_slot, signed_slot, table_slot}
 use Rattle.arrow_schema.specs.Reading.{schema_of}
 use Rattle.arrow_ipc.specs.declared.messages.IpcMessage.{IpcMessage}

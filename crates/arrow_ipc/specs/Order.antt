@@ -1,6 +1,7 @@
 -- In which order a message is read. It decides which of several faults is returned, and no caller needs to know it.
 use Rattle.std.specs.Prelude.{ℕ, ◌+◌, ◌==◌, List, length, map, if◌then◌else◌, Result, Ok, Err, Option, None, Some, is_some, ℤ, pos, negsuc}
 use Rattle.std.specs.List.{list_all}
+use Rattle.lists.specs.Results.{◌>>=◌}
 use Rattle.flat_tables.specs.declared.fault.FlatFault.{FlatFault}
 use Rattle.flat_tables.specs.Bytes.{part_at, number_at}
 use Rattle.flat_tables.specs.Tables.{TableIn, root_at, place_of}
@@ -12,17 +13,11 @@ use Rattle.arrow_ipc.specs.declared.fault.IpcFault.{IpcFault}
 use Rattle.arrow_ipc.specs.declared.fault.IpcFault.TheVariants.{Cut, Flat, BadVersion, Compressed, BadBody, Unsupported, Schema, Memory}
 use Rattle.arrow_ipc.specs.declared.header.Header.{Header}
 use Rattle.arrow_ipc.specs.declared.header.Header.TheVariants as header
-use Rattle.arrow_ipc.specs.declared.header.Found.{Found}
+use Rattle.arrow_ipc.specs.declared.header.FoundHeader.{FoundHeader}
 use Rattle.arrow_ipc.specs.declared.messages.IpcMessage.{IpcMessage}
 use Rattle.arrow_ipc.specs.declared.messages.IpcMessage.TheVariants as content
-use Rattle.arrow_ipc.specs.Batches.{BatchIn, lies_in, buffer_in, row_count, nodes_of, places_of}
+use Rattle.arrow_ipc.specs.Batches.{BatchIn, lies_in, buffer_of, row_count, nodes_of, places_of}
 use Rattle.arrow_ipc.specs.Messages as messages
-
-infixl 10 ◌>>=◌
--- what follows on a value; a fault stays
-abbrev pub ◌>>=◌ : {A B : Type 0} → Result A IpcFault → (A → Result B IpcFault) → Result B IpcFault
-(Ok x) >>= f = f x
-(Err e) >>= f = Err e
 
 -- a part of the tables
 abbrev pub flat : {A : Type 0} → Result A FlatFault → Result A IpcFault
@@ -65,7 +60,7 @@ batch_of table part =
     flat (places_of table) >>= λ places.
     check_buffers places part >>= λ _.
     if is_some (place_of table 3) then Err Compressed
-    else Ok (record { rows = rows; nodes = nodes; buffers = map (buffer_in part) places })
+    else Ok (record { rows = rows; nodes = nodes; buffers = map (buffer_of part) places })
 
 unfoldable pub dictionary_of : TableIn → List ℕ → Result Header IpcFault
 dictionary_of table part =
@@ -88,7 +83,7 @@ header_of table part =
     flat (messages.header_table_of table) >>= present >>= λ inner.
     header_by kind inner part
 
-unfoldable pub find : List ℕ → Result Found IpcFault
+unfoldable pub find : List ℕ → Result FoundHeader IpcFault
 find bytes =
     metadata bytes >>= λ meta.
     flat (root_at meta) >>= λ table.

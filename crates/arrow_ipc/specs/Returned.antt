@@ -1,16 +1,10 @@
 -- What private calls return of what reading gives: words of private contracts.
-use Rattle.std.specs.Prelude.{◌≡◌, Result, Ok, Err}
 use Rattle.flat_tables.specs.Tables.{TableIn}
 use Rattle.arrow_schema.specs.Defects.{HasDefect}
 use Rattle.arrow_ipc.specs.declared.fault.IpcFault.{IpcFault}
 use Rattle.arrow_ipc.specs.declared.fault.IpcFault.TheVariants.{Schema, Memory}
 use Rattle.arrow_ipc.specs.declared.header.Header.{Header}
 use Rattle.arrow_ipc.specs.declared.header.Header.TheVariants as header
-
--- a call returned what reading gives, its value seen by view
-abbrev pub Gives : {X Y : Type 0} → (X → Y) → Result X IpcFault → Result Y IpcFault → Type 0
-Gives view (Ok x) read = read ≡ Ok (view x)
-Gives view (Err e) read = read ≡ Err e
 
 -- why a schema isn't given: it is refused, or memory ran out
 abbrev pub RefusesSchema : TableIn → IpcFault → Type 0

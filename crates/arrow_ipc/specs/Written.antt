@@ -24,8 +24,8 @@ abbrev pub body_size : List (List ℕ) → ℕ
 body_size buffers = sum_by (λ part. padded (length part)) buffers
 
 -- at most this number of bytes is written for a batch: those of its buffers, 16 for each node, 24 for each buffer, and 2,048 more
-abbrev pub most_of : BatchIn → ℕ
-most_of batch = sum_by (λ part. length part) batch.buffers + 16 * length batch.nodes + 24 * length batch.buffers + 2048
+abbrev pub most_of_batch : BatchIn → ℕ
+most_of_batch batch = sum_by (λ part. length part) batch.buffers + 16 * length batch.nodes + 24 * length batch.buffers + 2048
 
 -- the same for a schema: the bytes of its names, 2,048 for each field, and 2,048 more
 abbrev pub most_of_schema : SchemaSpec → ℕ

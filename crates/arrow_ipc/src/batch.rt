@@ -1,6 +1,6 @@
 ghost use Rattle.std.specs.Prelude.{◌≡◌, ◌≤◌, true, length, slice_get, Some};
 ghost use Rattle.std.specs.Option.{option_copied};
-ghost use Rattle.arrow_ipc.specs.Batches.{struct_of, structs_in, lies_in, buffer_in};
+ghost use Rattle.arrow_ipc.specs.Batches.{struct_of, structs_in, lies_in, buffer_of};
 
 use byteorder::{ByteOrder, LittleEndian};
 use flat_tables::VectorView;
@@ -47,7 +47,7 @@ impl<'a> BatchView<'a> {
         ensures { option_copied result ≡ slice_get self.now.buffers place }
     {
         let place = pair_at(self.buffers.as_ref()?, place)?;
-        Some(buffer_in(self.body, place))
+        Some(buffer_of(self.body, place))
     }
 }
 
@@ -82,9 +82,9 @@ pub(crate) fn lies_in(place: (i64, i64), size: usize) -> bool
 }
 
 #[tactic(auto, using(crate::proofs::Pairs::lies_within))]
-fn buffer_in(body: &[u8], place: (i64, i64)) -> &[u8]
+fn buffer_of(body: &[u8], place: (i64, i64)) -> &[u8]
     requires { lies_in (length body.now) place ≡ true }
-    ensures { result.now ≡ buffer_in body.now place }
+    ensures { result.now ≡ buffer_of body.now place }
 {
     let offset = place.0.unsigned_abs() as usize;
     let length = place.1.unsigned_abs() as usize;

@@ -1,7 +1,7 @@
 ghost use Rattle.arrow_ipc.specs.Limits.{max_parts, max_count, max_body};
 ghost use Rattle.std.specs.Prelude.{◌≡◌, ◌+◌, ◌-◌, ◌*◌, ◌≤◌, ◌<◌, ◌^◌, ◌++◌, ◌∷◌, [], length, replicate, vec_len, pos, OnOk, OnErr};
 ghost use Rattle.arrow_ipc.specs.declared.messages.IpcMessage.TheVariants.{Dictionary, Rows};
-ghost use Rattle.arrow_ipc.specs.Written.{padded, body_size, most_of, Appends};
+ghost use Rattle.arrow_ipc.specs.Written.{padded, body_size, most_of_batch, Appends};
 
 use crate::header::{DICTIONARY_BATCH, RECORD_BATCH};
 use crate::write::{add_batch, write_message};
@@ -20,7 +20,7 @@ pub const MAX_BODY: usize = 1 << 29;
 pub struct BatchBuilder {
     rows: u64,
     nodes: Vec<(i64, i64)>,
-    // The offset and the length of each buffer in the body.
+    /// The offset and the length of each buffer in the body.
     places: Vec<(i64, i64)>,
     body: Vec<u8>,
 }
@@ -81,7 +81,7 @@ impl BatchBuilder {
     /// Appends the batch as a record batch message. Its length and the place of its body are
     /// multiples of 8.
     pub fn finish_rows(self, to: &mut Vec<u8>) -> Result<(), AllocError>
-        ensures ok { OnOk result (Appends (Rows self) (most_of self) to.old.items to.new.items) }
+        ensures ok { OnOk result (Appends (Rows self) (most_of_batch self) to.old.items to.new.items) }
         ensures err { OnErr result (to.new.items ≡ to.old.items) }
     {
         let mut builder = Builder::new(*to.allocator());
@@ -93,7 +93,7 @@ impl BatchBuilder {
     /// Appends the batch as a dictionary batch message, whose values replace those of the
     /// dictionary or, as a delta, are added to them.
     pub fn finish_dictionary(self, to: &mut Vec<u8>, id: i64, delta: bool) -> Result<(), AllocError>
-        ensures ok { OnOk result (Appends (Dictionary id delta self) (most_of self) to.old.items to.new.items) }
+        ensures ok { OnOk result (Appends (Dictionary id delta self) (most_of_batch self) to.old.items to.new.items) }
         ensures err { OnErr result (to.new.items ≡ to.old.items) }
     {
         let mut builder = Builder::new(*to.allocator());

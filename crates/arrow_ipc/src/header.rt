@@ -3,7 +3,7 @@ ghost use Rattle.std.specs.List.{list_all};
 ghost use Rattle.flat_tables.specs.Bytes.{part_at, number_at};
 ghost use Rattle.arrow_ipc.specs.Batches.{structs_in, structs_of, lies_in};
 ghost use Rattle.arrow_ipc.specs.Inside.{HasPairs};
-ghost use Rattle.arrow_ipc.specs.Returned.{Gives};
+ghost use Rattle.lists.specs.Results.{Gives};
 ghost use Rattle.arrow_ipc.specs.Order as order;
 
 use crate::batch::{BatchView, lies_in, pair_at};
@@ -38,14 +38,14 @@ pub(crate) enum Header<'a> {
 
 /// A header, and how many bytes the message takes.
 #[derive(Debug, Drop)]
-pub(crate) struct Found<'a> {
+pub(crate) struct FoundHeader<'a> {
     pub(crate) header: Header<'a>,
     pub(crate) size: usize,
 }
 
 /// The header of the message that begins the bytes.
 #[tactic(auto, unfolding(crate::specs::Order::find))]
-pub(crate) fn find(bytes: &[u8]) -> Result<Found<'_>, IpcFault>
+pub(crate) fn find(bytes: &[u8]) -> Result<FoundHeader<'_>, IpcFault>
     ensures { result ≡ order.find bytes.now }
 {
     let metadata = metadata(bytes)?;
@@ -53,7 +53,7 @@ pub(crate) fn find(bytes: &[u8]) -> Result<Found<'_>, IpcFault>
     check_version(&table)?;
     let body = body(bytes, PREFIX + metadata.len(), &table)?;
     let header = header_of(&table, body)?;
-    Ok(Found {
+    Ok(FoundHeader {
         header,
         size: PREFIX + metadata.len() + body.len(),
     })

@@ -8,7 +8,7 @@ ghost use Rattle.arrow_ipc.specs.Order as order;
 
 use crate::batch::BatchView;
 use crate::fault::IpcFault;
-use crate::header::{Found, Header, find};
+use crate::header::{FoundHeader, Header, find};
 use arrow_schema::{SchemaSpec, read_schema};
 use std::alloc::Global;
 use std::marker::Model;
@@ -16,12 +16,16 @@ use std::marker::Model;
 /// A message. A schema is copied; batches borrow the bytes.
 #[derive(Debug, Drop)]
 pub enum IpcMessage<'a> {
+    /// A schema.
     Schema(SchemaSpec),
+    /// A dictionary batch: the id of the dictionary, whether the values are added to those before, and the batch of the
+    /// values.
     Dictionary {
         id: i64,
         delta: bool,
         batch: BatchView<'a>,
     },
+    /// A record batch.
     Rows(BatchView<'a>),
 }
 
@@ -104,7 +108,7 @@ fn message(alloc: Global, bytes: &[u8]) -> Result<(IpcMessage<'_>, usize), IpcFa
     ensures within { IfOk result (λ found. (0 < found.1) × (found.1 ≤ length bytes.now)) }
     ensures fault { IfErr result (λ fault. bytes.now ≢ [] → Refuses bytes.now fault) }
 {
-    let Found { header, size } = find(bytes)?;
+    let FoundHeader { header, size } = find(bytes)?;
     let message = message_of(alloc, header)?;
     Ok((message, size))
 }
@@ -145,7 +149,7 @@ fn rows(bytes: &[u8]) -> Option<BatchView<'_>>
 {
     match find(bytes) {
         Ok(
-            Found {
+            FoundHeader {
                 header: Header::Rows(batch),
                 ..
             },

@@ -6,7 +6,7 @@ use Rattle.std.proofs.Common.{refl, sym, ap, ◌∙◌, subst, inl, inr, get_or,
 use Rattle.std.proofs.lemmas.Bool.{eqb-true, ltb-false}
 use Rattle.lists.proofs.Truths.{chosen}
 use Rattle.lists.proofs.Equals.{ok_is, pair_is}
-use Rattle.flat_tables.specs.Bytes.{◌>>=◌}
+use Rattle.lists.specs.Results.{◌>>=◌}
 use Rattle.flat_tables.specs.Tables.{TableIn, VectorIn, vector_slot, element_table}
 use Rattle.arrow_schema.specs.Limits.{max_depth, max_fields}
 use Rattle.arrow_schema.specs.declared.spec.ArrowType.{ArrowType}

@@ -11,7 +11,8 @@ use Rattle.arrow_schema.specs.declared.spec.ArrowType.{ArrowType}
 use Rattle.arrow_schema.specs.declared.spec.ArrowType.TheVariants.{Bool as Boolean, Int, Double, Utf8, Binary, Fixed, Timestamp, Duration, Struct, List as ListType}
 use Rattle.arrow_schema.specs.declared.spec.FieldSpec.{FieldSpec}
 use Rattle.arrow_schema.specs.declared.agreement.Use.{Use}
-use Rattle.arrow_schema.specs.Types.{same_bool, same_type}
+use Rattle.lists.specs.Flags.{same_flag}
+use Rattle.arrow_schema.specs.Types.{same_type}
 use Rattle.arrow_schema.specs.Trees.{name_in, lacks_name, names_differ, uses_in, uses_of, agrees, agrees_with, uses_agree}
 
 -- ---- names
@@ -64,19 +65,19 @@ names_once (f ∷ fields) (suc i) (suc j) d h lt within same = elim (cases_Bool 
 ]
 
 -- ---- types
-same_bool_is : (a b : Bool) → same_bool a b ≡ true → a ≡ b
-same_bool_is true true h = refl
-same_bool_is true false h = cc (h)
-same_bool_is false true h = cc (h)
-same_bool_is false false h = refl
+same_flag_is : (a b : Bool) → same_flag a b ≡ true → a ≡ b
+same_flag_is true true h = refl
+same_flag_is true false h = cc (h)
+same_flag_is false true h = cc (h)
+same_flag_is false false h = refl
 
-same_bool_refl : (a : Bool) → same_bool a a ≡ true
-same_bool_refl true = refl
-same_bool_refl false = refl
+same_flag_refl : (a : Bool) → same_flag a a ≡ true
+same_flag_refl true = refl
+same_flag_refl false = refl
 
-int_same : (a b : ℕ) (s t : Bool) → ((a == b) && same_bool s t) ≡ true → Int a s ≡ Int b t
+int_same : (a b : ℕ) (s t : Bool) → ((a == b) && same_flag s t) ≡ true → Int a s ≡ Int b t
 int_same a b s t h = elim (cases_Bool (a == b)) [
-  | inl same ↦ int_is a b s t (eqb-true a b same) (same_bool_is s t (rw same at h))
+  | inl same ↦ int_is a b s t (eqb-true a b same) (same_flag_is s t (rw same at h))
   | inr differs ↦ cc (rw differs at h)
 ]
   where
@@ -106,7 +107,7 @@ same_type_is ListType ListType h = refl
 same_type_is ListType b h = cc (h)
 
 pub same_type_refl : (a : ArrowType) → same_type a a ≡ true
-same_type_refl (Int a s) = rw (eq-eqb a a refl, same_bool_refl s) refl
+same_type_refl (Int a s) = rw (eq-eqb a a refl, same_flag_refl s) refl
 same_type_refl (Fixed a) = eq-eqb a a refl
 same_type_refl Boolean = refl
 same_type_refl Double = refl

@@ -4,7 +4,7 @@ use Rattle.std.proofs.Common.{refl, sym, ap, ◌∙◌, subst, inl, inr, arith}
 use Rattle.std.proofs.lemmas.Bool.{cases_Bool}
 use Rattle.lists.proofs.Equals.{ok_is}
 use Rattle.flat_tables.specs.declared.fault.FlatFault.{FlatFault}
-use Rattle.flat_tables.specs.Bytes.{◌>>=◌}
+use Rattle.lists.specs.Results.{◌>>=◌}
 use Rattle.flat_tables.specs.Tables.{TableIn, VectorIn, vector_slot, element_table}
 use Rattle.arrow_schema.specs.declared.spec.Encoding.{Encoding}
 use Rattle.arrow_schema.specs.declared.spec.Encoding.TheVariants as encoding

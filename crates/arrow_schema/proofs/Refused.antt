@@ -4,7 +4,7 @@ use Rattle.std.proofs.Common.{refl, sym, ap, ◌∙◌, subst, inl, inr, arith}
 use Rattle.std.proofs.lemmas.Bool.{eqb-true, eqb-false, ltb-true, ltb-false}
 use Rattle.lists.proofs.Truths.{chosen}
 use Rattle.lists.proofs.Equals.{ok_is}
-use Rattle.flat_tables.specs.Bytes.{◌>>=◌}
+use Rattle.lists.specs.Results.{◌>>=◌}
 use Rattle.flat_tables.specs.Tables.{TableIn, VectorIn, vector_slot, element_table}
 use Rattle.arrow_schema.specs.Limits.{max_depth, max_fields}
 use Rattle.arrow_schema.specs.declared.spec.FieldSpec.{FieldSpec}

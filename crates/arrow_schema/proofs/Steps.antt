@@ -2,7 +2,7 @@
 use Rattle.std.specs.Prelude.{◌≡◌, ◌⊎◌, Bool, true, false, Result, Ok, Err, refl}
 use Rattle.std.proofs.Common.{inl, inr}
 use Rattle.flat_tables.specs.declared.fault.FlatFault.{FlatFault}
-use Rattle.flat_tables.specs.Bytes.{◌>>=◌}
+use Rattle.lists.specs.Results.{◌>>=◌}
 use Rattle.arrow_schema.specs.declared.refusal.SchemaRefusal.{SchemaRefusal}
 use Rattle.arrow_schema.specs.declared.refusal.SchemaRefusal.TheVariants.{Flat, Unsupported}
 use Rattle.arrow_schema.specs.Reading.{flat, where_supported}

@@ -5,7 +5,7 @@ use Rattle.std.specs.Prelude.{pos, if◌then◌else◌, slice_index_or, slice_in
 use Rattle.flat_tables.specs.declared.fault.FlatFault.{FlatFault}
 use Rattle.flat_tables.specs.declared.place.Slot.{Slot}
 use Rattle.flat_tables.specs.declared.place.Slot.TheVariants.{Absent, I64, At}
-use Rattle.flat_tables.specs.Bytes.{◌>>=◌}
+use Rattle.lists.specs.Results.{◌>>=◌}
 use Rattle.flat_tables.specs.Tables.{TableIn, VectorIn, table_at, text_at, vector_at, each, or_default, table_slot, vector_slot, reference_slot, element_table, place_of}
 use Rattle.flat_tables.specs.Slots.{Holds}
 use Rattle.flat_tables.specs.Building.{Grows, StaysAt, IsText, IsPlaces, HasSlots, vector_from}

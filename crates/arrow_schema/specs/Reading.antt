@@ -2,7 +2,7 @@
 use Rattle.std.specs.Prelude.{◌≡◌, ℕ, zero, suc, ◌+◌, ◌-◌, ◌==◌, ◌&&◌, ◌||◌, not, nat_lt, Bool, true, false, if◌then◌else◌, List, [], ◌∷◌, Result, Ok, Err, Option, None, Some, ℤ, unsigned_abs}
 use Rattle.std.specs.Str.{is_utf8}
 use Rattle.flat_tables.specs.declared.fault.FlatFault.{FlatFault}
-use Rattle.flat_tables.specs.Bytes.{◌>>=◌}
+use Rattle.lists.specs.Results.{◌>>=◌}
 use Rattle.flat_tables.specs.Tables.{TableIn, VectorIn, vector_slot, element_table}
 use Rattle.arrow_schema.specs.declared.spec.ArrowType.{ArrowType}
 use Rattle.arrow_schema.specs.declared.spec.ArrowType.TheVariants.{Bool as Boolean, Int, Double, Utf8, Binary, Fixed, Timestamp, Duration, Struct, List as ListType}
@@ -30,9 +30,9 @@ abbrev pub Fails : {Y : Type 0} → SchemaRefusal → Result Y SchemaRefusal →
 Fails (Memory e) read = Unit {0}
 Fails e read = read ≡ Err e
 
-abbrev pub Gives : {X Y : Type 0} → (X → Y) → Result X SchemaRefusal → Result Y SchemaRefusal → Type 0
-Gives view (Ok x) read = read ≡ Ok (view x)
-Gives view (Err e) read = Fails e read
+abbrev pub ReturnsReading : {X Y : Type 0} → (X → Y) → Result X SchemaRefusal → Result Y SchemaRefusal → Type 0
+ReturnsReading view (Ok x) read = read ≡ Ok (view x)
+ReturnsReading view (Err e) read = Fails e read
 
 -- a value is taken where a test holds
 abbrev pub where_supported : {A : Type 0} → Bool → A → Result A SchemaRefusal

@@ -2,7 +2,7 @@
 use Rattle.std.specs.Prelude.{ℕ, ◌==◌, not, Bool, List, [], Result, Ok, Option, None, Some, ℤ, pos}
 use Rattle.std.specs.Int.{Width, w16, w32, w64}
 use Rattle.flat_tables.specs.declared.fault.FlatFault.{FlatFault}
-use Rattle.flat_tables.specs.Bytes.{◌>>=◌}
+use Rattle.lists.specs.Results.{◌>>=◌}
 use Rattle.flat_tables.specs.Tables.{TableIn, byte_slot, signed_slot, table_slot, text_slot, or_default}
 
 -- the name of a field: an absent one is empty

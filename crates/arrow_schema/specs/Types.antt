@@ -1,5 +1,6 @@
 -- The types that are supported, by their numbers in Arrow's Schema.fbs (`union Type`).
 use Rattle.std.specs.Prelude.{ℕ, ◌==◌, ◌&&◌, ◌||◌, not, Bool, true, false, nat_le, ℤ, pos, negsuc}
+use Rattle.lists.specs.Flags.{same_flag}
 use Rattle.arrow_schema.specs.Limits.{max_fixed}
 use Rattle.arrow_schema.specs.declared.spec.ArrowType.{ArrowType}
 use Rattle.arrow_schema.specs.declared.spec.ArrowType.TheVariants.{Bool as Boolean, Int, Double, Utf8, Binary, Fixed, Timestamp, Duration, Struct, List}
@@ -37,12 +38,8 @@ takes_dictionary Struct = false
 takes_dictionary List = false
 takes_dictionary kind = true
 
-abbrev pub same_bool : Bool → Bool → Bool
-same_bool true b = b
-same_bool false b = not b
-
 abbrev pub same_type : ArrowType → ArrowType → Bool
-same_type (Int a s) (Int b t) = (a == b) && same_bool s t
+same_type (Int a s) (Int b t) = (a == b) && same_flag s t
 same_type (Fixed a) (Fixed b) = a == b
 same_type a b = type_number a == type_number b && plain_type a
   where

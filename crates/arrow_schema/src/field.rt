@@ -2,7 +2,7 @@
 
 ghost use Rattle.std.specs.Prelude.{◌≡◌, pos, unsigned_abs, List};
 ghost use Rattle.std.specs.Int.{w16, w32, IsNonNegative};
-ghost use Rattle.flat_tables.specs.Bytes as flat_reading;
+ghost use Rattle.lists.specs.Results.{Gives};
 ghost use Rattle.arrow_schema.specs.Slots as slots;
 ghost use Rattle.arrow_schema.specs.Reading as reading;
 
@@ -15,7 +15,7 @@ use std::str::from_utf8;
 
 /// The bytes of the name of a field; an absent one is empty.
 fn name_bytes<'a>(field: &TableView<'a>) -> Result<&'a [u8], FlatFault>
-    ensures { flat_reading.Gives (λ bytes. bytes.now) result (slots.name_slot field.now) }
+    ensures { Gives (λ bytes. bytes.now) result (slots.name_slot field.now) }
 {
     match field.text_at(0)? {
         None => Ok(&[]),
@@ -26,7 +26,7 @@ fn name_bytes<'a>(field: &TableView<'a>) -> Result<&'a [u8], FlatFault>
 /// The name of a field.
 #[tactic(auto, unfolding(crate::specs::Reading::name_of))]
 pub(crate) fn read_name(alloc: Global, field: &TableView<'_>) -> Result<Name, SchemaRefusal>
-    ensures { reading.Gives (λ name. name) result (reading.name_of field.now) }
+    ensures { reading.ReturnsReading (λ name. name) result (reading.name_of field.now) }
 {
     match from_utf8(name_bytes(field)?) {
         Ok(text) => Ok(Name::from_str(alloc, text)?),
@@ -64,7 +64,7 @@ fn type_sign(field: &TableView<'_>) -> Result<bool, FlatFault>
 
 #[tactic(auto, unfolding(crate::specs::Reading::int_type_of))]
 fn read_int(field: &TableView<'_>) -> Result<ArrowType, SchemaRefusal>
-    ensures { reading.Gives (λ kind. kind) result (reading.int_type_of field.now) }
+    ensures { reading.ReturnsReading (λ kind. kind) result (reading.int_type_of field.now) }
 {
     let bits = type_i32(field)?;
     let signed = type_sign(field)?;
@@ -79,7 +79,7 @@ fn read_int(field: &TableView<'_>) -> Result<ArrowType, SchemaRefusal>
 
 #[tactic(auto, unfolding(crate::specs::Reading::fixed_type_of))]
 fn read_fixed(field: &TableView<'_>) -> Result<ArrowType, SchemaRefusal>
-    ensures { reading.Gives (λ kind. kind) result (reading.fixed_type_of field.now) }
+    ensures { reading.ReturnsReading (λ kind. kind) result (reading.fixed_type_of field.now) }
 {
     match type_i32(field)? {
         width if width >= 1 && width as u32 <= MAX_FIXED => Ok(ArrowType::Fixed(width as u32)),
@@ -90,7 +90,7 @@ fn read_fixed(field: &TableView<'_>) -> Result<ArrowType, SchemaRefusal>
 /// The type of a field.
 #[tactic(auto, unfolding(crate::specs::Reading::type_of, crate::specs::Reading::type_with, crate::specs::Reading::numbered_type))]
 pub(crate) fn read_type(field: &TableView<'_>) -> Result<ArrowType, SchemaRefusal>
-    ensures { reading.Gives (λ kind. kind) result (reading.type_of field.now) }
+    ensures { reading.ReturnsReading (λ kind. kind) result (reading.type_of field.now) }
 {
     match field.u8_at(2, 0)? {
         2 => read_int(field),
@@ -115,7 +115,7 @@ fn read_number(
     kind: ArrowType,
 ) -> Result<ArrowType, SchemaRefusal>
     requires { IsNonNegative number }
-    ensures { reading.Gives (λ kind. kind) result (reading.numbered_type (unsigned_abs number) kind read) }
+    ensures { reading.ReturnsReading (λ kind. kind) result (reading.numbered_type (unsigned_abs number) kind read) }
 {
     if read? == number {
         Ok(kind)
@@ -127,7 +127,7 @@ fn read_number(
 /// Whether the indexes of a dictionary have 16 bits, by the table of their type.
 #[tactic(auto, unfolding(crate::specs::Reading::is_wide_index))]
 fn read_wide(index: &TableView<'_>) -> Result<bool, SchemaRefusal>
-    ensures { reading.Gives (λ wide. wide) result (reading.is_wide_index index.now) }
+    ensures { reading.ReturnsReading (λ wide. wide) result (reading.is_wide_index index.now) }
 {
     let bits = index.i32_at(0, 0)?;
     let signed = index.u8_at(1, 0)? != 0;
@@ -140,7 +140,7 @@ fn read_wide(index: &TableView<'_>) -> Result<bool, SchemaRefusal>
 
 #[tactic(auto, unfolding(crate::specs::Reading::dict_of))]
 fn read_dict(dictionary: &TableView<'_>) -> Result<DictSpec, SchemaRefusal>
-    ensures { reading.Gives (λ dict. dict) result (reading.dict_of dictionary.now) }
+    ensures { reading.ReturnsReading (λ dict. dict) result (reading.dict_of dictionary.now) }
 {
     let id = dictionary.i64_at(0, 0)?;
     match dictionary.table_at(1)? {
@@ -158,7 +158,7 @@ pub(crate) fn read_dictionary(
     field: &TableView<'_>,
     kind: ArrowType,
 ) -> Result<Option<DictSpec>, SchemaRefusal>
-    ensures { reading.Gives (λ dict. dict) result (reading.dict_spec_of kind field.now) }
+    ensures { reading.ReturnsReading (λ dict. dict) result (reading.dict_spec_of kind field.now) }
 {
     match field.table_at(4)? {
         None => Ok(None),

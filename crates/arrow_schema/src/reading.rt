@@ -5,7 +5,7 @@ ghost use Rattle.arrow_schema.specs.declared.refusal.SchemaRefusal.{SchemaRefusa
 ghost use Rattle.arrow_schema.specs.Says.{SaysSchema};
 ghost use Rattle.arrow_schema.specs.Readable.{IsReadable, fits_children};
 ghost use Rattle.arrow_schema.specs.Defects.{HasDefect, RefusalStands};
-ghost use Rattle.arrow_schema.specs.Reading.{Gives, field_of, fields_from, slot_of, vector_of, schema_of};
+ghost use Rattle.arrow_schema.specs.Reading.{ReturnsReading, field_of, fields_from, slot_of, vector_of, schema_of};
 
 use crate::FieldList;
 use crate::agreement::{names_differ, uses_agree};
@@ -21,10 +21,10 @@ use std::alloc::Global;
 /// The fields are counted before they are read, and nested at most [`MAX_DEPTH`] deep, so it ends
 /// soon, however the tables refer to one another.
 pub fn read_schema(alloc: Global, view: TableView<'_>) -> Result<SchemaSpec, SchemaRefusal>
-    ensures exact { Gives (λ schema. schema) result (schema_of view.entry) }
+    ensures exact { ReturnsReading (λ schema. schema) result (schema_of view.entry) }
     ensures found { IfOk result (λ schema. SaysSchema view.entry schema × IsReadable schema) }
     ensures refused { IfErr result (RefusalStands view.entry) }
-    ensures reads { (schema : List FieldSpec) → SaysSchema view.entry schema → IsReadable schema → Gives (λ read. read) result (Ok schema) }
+    ensures reads { (schema : List FieldSpec) → SaysSchema view.entry schema → IsReadable schema → ReturnsReading (λ read. read) result (Ok schema) }
     ensures refuses { (refusal : SchemaRefusal) → HasDefect view.entry refusal → IfOk result (λ schema. ⊥) }
 {
     let fields = read_fields(alloc, &view)?;
@@ -33,7 +33,7 @@ pub fn read_schema(alloc: Global, view: TableView<'_>) -> Result<SchemaSpec, Sch
 
 #[tactic(auto, unfolding(crate::specs::Reading::schema_of))]
 fn read_fields(alloc: Global, schema: &TableView<'_>) -> Result<FieldList<FieldSpec>, SchemaRefusal>
-    ensures { Gives (λ fields. fields) result (schema_of schema.now) }
+    ensures { ReturnsReading (λ fields. fields) result (schema_of schema.now) }
 {
     if schema.i16_at(0, 0)? != 0 {
         return Err(SchemaRefusal::Unsupported);
@@ -56,7 +56,7 @@ fn read_slot(
     depth: u32,
     left: u32,
 ) -> Result<(FieldList<FieldSpec>, u32), SchemaRefusal>
-    ensures { Gives (λ fields. fields) result (slot_of (vector_of depth) slot left parent.now) }
+    ensures { ReturnsReading (λ fields. fields) result (slot_of (vector_of depth) slot left parent.now) }
 {
     match parent.vector_at(slot, 4)? {
         None => Ok((FieldList::new(alloc), left)),
@@ -72,7 +72,7 @@ fn read_vector(
     left: u32,
 ) -> Result<(FieldList<FieldSpec>, u32), SchemaRefusal>
     requires { vector.now.width ≡ 4 }
-    ensures { Gives (λ fields. fields) result (vector_of depth left vector.now) }
+    ensures { ReturnsReading (λ fields. fields) result (vector_of depth left vector.now) }
 {
     if vector.len() == 0 {
         return Ok((FieldList::new(alloc), left));
@@ -99,7 +99,7 @@ fn read_elements(
     mut left: u32,
 ) -> Result<(FieldList<FieldSpec>, u32), SchemaRefusal>
     requires { vector.now.width ≡ 4 }
-    ensures { Gives (λ fields. fields) result (fields_from (field_of (vector_of depth)) vector.now 0 vector.now.count left) }
+    ensures { ReturnsReading (λ fields. fields) result (fields_from (field_of (vector_of depth)) vector.now 0 vector.now.count left) }
 {
     let mut fields = FieldList::new(alloc);
     for place in 0..vector.len() {
@@ -123,7 +123,7 @@ fn read_field(
     depth: u32,
     left: u32,
 ) -> Result<(FieldSpec, u32), SchemaRefusal>
-    ensures { Gives (λ field. field) result (field_of (vector_of depth) left table.now) }
+    ensures { ReturnsReading (λ field. field) result (field_of (vector_of depth) left table.now) }
 {
     let name = read_name(alloc, table)?;
     let kind = read_type(table)?;

@@ -6,22 +6,27 @@ use crate::{FieldList, Name};
 use std::alloc::{AllocError, Global};
 use std::marker::Model;
 
-/// The most fields that a schema has, children counted.
+/// The most fields that a schema that is read has, children counted.
 pub const MAX_FIELDS: u32 = 128;
 
-/// How deep the fields of a schema are nested at most. Its own fields have depth 1.
+/// How deep the fields of a schema that is read are nested at most. Its own fields have depth 1.
 pub const MAX_DEPTH: u32 = 3;
 
-/// How many bytes the values of a fixed binary have at most.
+/// How many bytes a value of a fixed binary that is read has at most.
 pub const MAX_FIXED: u32 = 65_536;
 
 /// The type of a field's values.
 #[derive(Clone, Copy, Debug, PartialEq, Eq)]
 pub enum ArrowType {
+    /// Truth values, of one bit each.
     Bool,
+    /// Integers of that many bits.
     Int { bits: u8, signed: bool },
+    /// Floats of 64 bits.
     Double,
+    /// Texts.
     Utf8,
+    /// Byte strings of any length.
     Binary,
     /// A fixed number of bytes.
     Fixed(u32),
@@ -29,6 +34,7 @@ pub enum ArrowType {
     Timestamp,
     /// Nanoseconds.
     Duration,
+    /// No values of its own, but those of its children.
     Struct,
     /// Lists of the values of the field's one child: unsigned numbers of 64 bits, or doubles.
     List,
@@ -129,6 +135,7 @@ impl Model for SchemaSpec {
 }
 
 impl SchemaSpec {
+    /// A schema without fields.
     pub fn new(alloc: Global) -> SchemaSpec
         ensures { result ≡ [] }
     {
@@ -143,18 +150,21 @@ impl SchemaSpec {
         SchemaSpec { fields }
     }
 
+    /// How many fields it has, children not counted.
     pub fn len(&self) -> usize
         ensures { result ≡ length self.now }
     {
         self.fields.len()
     }
 
+    /// Whether it has no field.
     pub fn is_empty(&self) -> bool
         ensures { result ≡ (length self.now == 0) }
     {
         self.fields.is_empty()
     }
 
+    /// All of its fields, borrowed.
     pub fn as_slice(&self) -> &[FieldSpec]
         ensures { result.now ≡ self.now }
     {

@@ -17,7 +17,7 @@ pub const MAX_WRITTEN_FIELDS: usize = 1 << 10;
 /// The most bytes that the names of such fields have together.
 pub const MAX_WRITTEN_NAMES: usize = 1 << 20;
 
-/// What a builder may hold before a schema is added.
+/// A builder to which a schema is added holds fewer bytes than this.
 pub const MAX_SIZE_BEFORE: usize = 1 << 22;
 
 /// Adds the `Schema` table of a schema, in little-endian order. All fields are nullable, no timestamp has

@@ -22,7 +22,8 @@ use Rattle.cbor_values.specs.Items.{IsItem, AreItems, ArePairs}
 use Rattle.cbor_values.specs.Refusals as places
 use Rattle.cbor_values.specs.Refusals.{Due, may_break, begins, IsCutHead, IsCutString, IsBadHead, IsBadKey, IsBadText, IsOutOfRange, IsTooDeep, Faults, IsOtherChunk, ChunkFaults}
 use Rattle.cbor_values.specs.Refusals.{HasNextMember, definite, indefinite, Within, at_front, in_bytes, in_text, in_array, in_key, in_value, Stands}
-use Rattle.cbor_values.specs.Reading.{◌>>=◌, ValueReading, front_part, argument_at, head_by, head_at, break_at, many_at, until_at, open_at, joined, letters_at}
+use Rattle.lists.specs.Results.{◌>>=◌}
+use Rattle.cbor_values.specs.Reading.{ValueReading, front_part, argument_at, head_by, head_at, break_at, many_at, until_at, open_at, joined, letters_at}
 use Rattle.cbor_values.specs.Reading.{octets_of_head, letters_of_head, octets_chunk_at, text_chunk_at, octets_at, text_at, key_of_head, key_at, pair_at, whole_of, body_at, item_at}
 use Rattle.cbor_values.proofs.Steps.{bind_ok, ok_is, got}
 use Rattle.cbor_values.proofs.Front.{part_again, head_again, open_head, head_of_break}

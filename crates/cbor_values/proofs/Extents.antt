@@ -15,7 +15,8 @@ use Rattle.cbor_values.specs.Heads.{IsHead}
 use Rattle.cbor_values.specs.Strings.{IsAny, Chunks, no_chunk, one_chunk, whole, chunked}
 use Rattle.cbor_values.specs.Items as items
 use Rattle.cbor_values.specs.Items.{IsItem, AreItems, ArePairs}
-use Rattle.cbor_values.specs.Reading.{◌>>=◌, ValueReading, front_part, head_by, float_at, head_at, break_at, many_at, until_at, open_at, joined}
+use Rattle.lists.specs.Results.{◌>>=◌}
+use Rattle.cbor_values.specs.Reading.{ValueReading, front_part, head_by, float_at, head_at, break_at, many_at, until_at, open_at, joined}
 use Rattle.cbor_values.specs.Reading.{letters_at, octets_chunk_at, text_chunk_at, octets_at, text_at, key_of_head, key_at, pair_at, whole_of, body_at, item_at}
 use Rattle.cbor_values.proofs.Steps.{bind_ok, ok_is, got}
 use Rattle.cbor_values.proofs.Rows.{Starts, unbroken}

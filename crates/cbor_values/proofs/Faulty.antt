@@ -12,7 +12,8 @@ use Rattle.cbor_values.specs.declared.heads.Head.TheVariants as heads
 use Rattle.cbor_values.specs.Floats.{of_half, of_single}
 use Rattle.cbor_values.specs.Heads.{IsHead, short, long, argument_len}
 use Rattle.cbor_values.specs.Refusals.{Due, may_break, begins, IsCutHead, IsCutString, IsBadText, Faults, IsOtherChunk, ChunkFaults}
-use Rattle.cbor_values.specs.Reading.{◌>>=◌, front_part, argument_at, head_of_argument, head_by, float_at, head_at, break_at, letters_at, octets_of_head, letters_of_head, octets_chunk_at, text_chunk_at}
+use Rattle.lists.specs.Results.{◌>>=◌}
+use Rattle.cbor_values.specs.Reading.{front_part, argument_at, head_of_argument, head_by, float_at, head_at, break_at, letters_at, octets_of_head, letters_of_head, octets_chunk_at, text_chunk_at}
 use Rattle.cbor_values.proofs.Steps.{bind_err, err_is, failed, got}
 use Rattle.cbor_values.proofs.Takes.{IsArgument, direct, following, none, IsFront, IsSized, IsDouble, half, single, double, argument_takes, head_takes, part_split}
 

@@ -8,7 +8,8 @@ use Rattle.cbor_values.specs.declared.refusal.CborRefusal.TheVariants.{Cut, BadH
 use Rattle.cbor_values.specs.declared.heads.Head.{Head}
 use Rattle.cbor_values.specs.declared.heads.Head.TheVariants as heads
 use Rattle.cbor_values.specs.Heads.{IsHead, short, long, argument_len}
-use Rattle.cbor_values.specs.Reading.{◌>>=◌, front_part, argument_at, head_by, float_at, head_at}
+use Rattle.lists.specs.Results.{◌>>=◌}
+use Rattle.cbor_values.specs.Reading.{front_part, argument_at, head_by, float_at, head_at}
 
 -- exactly that number of bytes is there
 pub part_again : (part rest : List ℕ) (n : ℕ) → length part ≡ n → front_part n (part ++ rest) ≡ Ok (part, rest)

@@ -14,7 +14,8 @@ use Rattle.cbor_values.specs.declared.heads.Head.TheVariants as heads
 use Rattle.cbor_values.specs.Heads.{IsHead}
 use Rattle.cbor_values.specs.Cbor.{Cbor, Members, Pairs, is_null, is_whole, is_negative, is_half, is_single, is_double}
 use Rattle.cbor_values.specs.Cbor.{is_bytes, is_text, is_array, is_open_array, is_map, is_open_map, no_member, one_member, no_pair, one_pair}
-use Rattle.cbor_values.specs.Reading.{◌>>=◌, head_at, many_at, open_at, octets_at, text_at, octets_chunk_at, text_chunk_at, pair_at, whole_of, body_at, item_at}
+use Rattle.lists.specs.Results.{◌>>=◌}
+use Rattle.cbor_values.specs.Reading.{head_at, many_at, open_at, octets_at, text_at, octets_chunk_at, text_chunk_at, pair_at, whole_of, body_at, item_at}
 use Rattle.cbor_values.specs.Strings.{IsAny}
 use Rattle.std.specs.Str.{IsUtf8}
 use Rattle.lists.proofs.AllBytes.{IsBytes, IsBytes-tail}

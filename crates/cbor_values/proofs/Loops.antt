@@ -4,7 +4,8 @@ use Rattle.std.proofs.lemmas.List.{append-nil, length-append}
 use Rattle.lists.proofs.AllBytes.{IsBytes}
 use Rattle.cbor_values.specs.declared.refusal.CborRefusal.{CborRefusal}
 use Rattle.cbor_values.specs.declared.refusal.CborRefusal.TheVariants.{Cut, BadHead, BadKey, BadUtf8, OutOfRange, TooDeep, Trailing, Memory}
-use Rattle.cbor_values.specs.Reading.{◌>>=◌, ValueReading, head_at, break_at, many_at, until_at, open_at, joined, body_at, item_at}
+use Rattle.lists.specs.Results.{◌>>=◌}
+use Rattle.cbor_values.specs.Reading.{ValueReading, head_at, break_at, many_at, until_at, open_at, joined, body_at, item_at}
 use Rattle.cbor_values.specs.Returned.{Fails}
 use Rattle.cbor_values.proofs.Steps.{got}
 use Rattle.cbor_values.proofs.Rows.{Starts, some_bytes}

@@ -17,7 +17,8 @@ use Rattle.cbor_values.specs.Items.{ArePairs}
 use Rattle.cbor_values.specs.Refusals as places
 use Rattle.cbor_values.specs.Refusals.{Due, may_break, IsBadKey, Faults, HasNextMember, definite, indefinite, Within}
 use Rattle.cbor_values.specs.Refusals.{at_front, in_bytes, in_text, in_array, in_key, in_value, IsTrailing, Stands}
-use Rattle.cbor_values.specs.Reading.{◌>>=◌, head_at, many_at, open_at, joined, octets_chunk_at, text_chunk_at, octets_at, text_at, key_of_head, key_at, pair_at, whole_of, body_at, item_at, whole_item, all_at}
+use Rattle.lists.specs.Results.{◌>>=◌}
+use Rattle.cbor_values.specs.Reading.{head_at, many_at, open_at, joined, octets_chunk_at, text_chunk_at, octets_at, text_at, key_of_head, key_at, pair_at, whole_of, body_at, item_at, whole_item, all_at}
 use Rattle.cbor_values.proofs.Steps.{bind_err, err_is, failed, got}
 use Rattle.cbor_values.proofs.Front.{head_of_break, head_of_nothing}
 use Rattle.cbor_values.proofs.Again.{IsChunk, Shallow, ShallowPair}

@@ -1,7 +1,8 @@
 -- Steps of a reading that may fail.
 use Rattle.std.proofs.Common.{◌≡◌, ℕ, List, Result, Ok, Err, refl, ap, subst, ◌⊎◌, inl, inr}
 use Rattle.cbor_values.specs.declared.refusal.CborRefusal.{CborRefusal}
-use Rattle.cbor_values.specs.Reading.{◌>>=◌, ValueReading}
+use Rattle.lists.specs.Results.{◌>>=◌}
+use Rattle.cbor_values.specs.Reading.{ValueReading}
 
 -- the value of a step that did not fail
 pub bind_ok : {A B : Type 0} (r : Result A CborRefusal) (f : A → Result B CborRefusal) (y : B)

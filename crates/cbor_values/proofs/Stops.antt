@@ -3,7 +3,8 @@ use Rattle.std.proofs.Common.{◌≡◌, ℕ, zero, suc, ◌<◌, ◌≤◌, Lis
 use Rattle.lists.proofs.AllBytes.{IsBytes}
 use Rattle.cbor_values.specs.declared.refusal.CborRefusal.{CborRefusal}
 use Rattle.cbor_values.specs.declared.refusal.CborRefusal.TheVariants.{Cut}
-use Rattle.cbor_values.specs.Reading.{◌>>=◌, ValueReading, break_at, many_at, until_at, open_at}
+use Rattle.lists.specs.Results.{◌>>=◌}
+use Rattle.cbor_values.specs.Reading.{ValueReading, break_at, many_at, until_at, open_at}
 use Rattle.cbor_values.proofs.Steps.{bind_err, err_is, failed, got}
 use Rattle.cbor_values.proofs.Rows.{Row, no_more, one_more}
 use Rattle.cbor_values.proofs.Loops.{Reader, shorter}

@@ -15,7 +15,8 @@ use Rattle.cbor_values.specs.declared.heads.Head.TheVariants as heads
 use Rattle.cbor_values.specs.Floats.{of_half, of_single}
 use Rattle.cbor_values.specs.Heads.{IsHead, short, long, argument_len}
 use Rattle.cbor_values.specs.Strings.{IsAny, Chunks, no_chunk, one_chunk, IsString, whole, chunked}
-use Rattle.cbor_values.specs.Reading.{◌>>=◌, ValueReading, front_part, argument_at, head_of_argument, head_by, float_at, head_at, break_at, many_at, until_at, open_at}
+use Rattle.lists.specs.Results.{◌>>=◌}
+use Rattle.cbor_values.specs.Reading.{ValueReading, front_part, argument_at, head_of_argument, head_by, float_at, head_at, break_at, many_at, until_at, open_at}
 use Rattle.cbor_values.specs.Reading.{joined, letters_at, octets_of_head, letters_of_head, octets_chunk_at, text_chunk_at, octets_at, text_at, key_of_head, key_at, pair_at, item_at}
 use Rattle.cbor_values.proofs.Steps.{bind_ok, ok_is, got, got_is}
 use Rattle.cbor_values.proofs.Bytes.{number_back, number_fits}

@@ -13,7 +13,7 @@ use Rattle.cbor_values.specs.declared.weighing.Nesting.{Nesting}
 use Rattle.cbor_values.specs.declared.weighing.Nesting.TheVariants as nesting
 use Rattle.cbor_values.specs.declared.weighing.WeighedValue.{WeighedValue}
 use Rattle.cbor_values.specs.Reading.{ValueReading, head_at, key_at, octets_at, text_at, many_at, open_at, pair_at, body_at, item_at, all_at, whole_of}
-use Rattle.cbor_values.specs.Values.{value_in, value_of}
+use Rattle.cbor_values.specs.Values.{value_if, value_of}
 use Rattle.cbor_values.specs.Refusals.{Stands}
 use Rattle.cbor_values.proofs.Refused.{all_refused}
 use Rattle.cbor_values.proofs.Told.{no_value}
@@ -148,7 +148,7 @@ told_pair one bytes key between value rest weight k v is = record {
 
 pub is_weighed : (bytes : List ℕ) (r : Result WeighedValue CborRefusal) → TellsAll weighed r (all_at bytes) → IfOk r (IsWeighed bytes)
 unfolding value_of
-is_weighed bytes (Ok told) t = record { value = t.0; is = ap value_in t.1; of = t.2 }
+is_weighed bytes (Ok told) t = record { value = t.0; is = ap value_if t.1; of = t.2 }
 is_weighed bytes (Err e) t = tt
 
 pub weighing_refused : (bytes : List ℕ) (r : Result WeighedValue CborRefusal) → IsBytes bytes → TellsAll weighed r (all_at bytes) → IfErr r (λ e. Stands e bytes)
@@ -158,14 +158,14 @@ weighing_refused bytes (Err e) fits t = all_refused bytes e fits t
 pub nothing_weighed : (bytes : List ℕ) (r : Result WeighedValue CborRefusal) → TellsAll weighed r (all_at bytes) → IfErr r (λ e. value_of bytes ≡ None)
 unfolding value_of
 nothing_weighed bytes (Ok told) t = tt
-nothing_weighed bytes (Err e) t = ap value_in t
+nothing_weighed bytes (Err e) t = ap value_if t
 
 pub weighing_fine : (bytes : List ℕ) (r : Result WeighedValue CborRefusal) → IsBytes bytes → TellsAll weighed r (all_at bytes)
     → OnOk r ((e : CborRefusal) → Stands e bytes → ⊥)
 unfolding value_of
 weighing_fine bytes (Ok told) fits t = λ e stands.
     let none : value_of bytes ≡ None = no_value bytes fits e stands (value_of bytes) refl in
-    let some : value_of bytes ≡ Some t.0 = ap value_in t.1 in
+    let some : value_of bytes ≡ Some t.0 = ap value_if t.1 in
     let clash : Some t.0 ≡ None = sym some ∙ none in
     absurd cc
 weighing_fine bytes (Err e) fits t = tt

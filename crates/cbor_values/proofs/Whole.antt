@@ -10,7 +10,7 @@ use Rattle.cbor_values.specs.declared.refusal.CborRefusal.{CborRefusal}
 use Rattle.cbor_values.specs.declared.refusal.CborRefusal.TheVariants.{Cut, BadHead, BadKey, BadUtf8, OutOfRange, TooDeep, Trailing, Memory}
 use Rattle.cbor_values.specs.Cbor.{Cbor}
 use Rattle.cbor_values.specs.Refusals.{Stands, Refuses}
-use Rattle.cbor_values.specs.Values.{value_in, value_of, Gives}
+use Rattle.cbor_values.specs.Values.{value_if, value_of, GivesValue}
 use Rattle.cbor_values.specs.Reading.{item_at, whole_item, all_at}
 use Rattle.cbor_values.specs.Returned.{ReturnsReading}
 use Rattle.cbor_values.proofs.Steps.{bind_ok, ok_is, done, got}
@@ -58,18 +58,18 @@ is_refused bytes (Err TooDeep) fits reads = all_refused bytes TooDeep fits reads
 is_refused bytes (Err Trailing) fits reads = all_refused bytes Trailing fits reads
 is_refused bytes (Err (Memory error)) fits reads = tt
 
-gives_value : (r reading : Result Value CborRefusal) → ReturnsReading (λ v. v) r reading → Gives r (value_in reading)
-gives_value (Ok v) reading reads = ap value_in reads
-gives_value (Err Cut) reading reads = ap value_in reads
-gives_value (Err BadHead) reading reads = ap value_in reads
-gives_value (Err BadKey) reading reads = ap value_in reads
-gives_value (Err BadUtf8) reading reads = ap value_in reads
-gives_value (Err OutOfRange) reading reads = ap value_in reads
-gives_value (Err TooDeep) reading reads = ap value_in reads
-gives_value (Err Trailing) reading reads = ap value_in reads
+gives_value : (r reading : Result Value CborRefusal) → ReturnsReading (λ v. v) r reading → GivesValue r (value_if reading)
+gives_value (Ok v) reading reads = ap value_if reads
+gives_value (Err Cut) reading reads = ap value_if reads
+gives_value (Err BadHead) reading reads = ap value_if reads
+gives_value (Err BadKey) reading reads = ap value_if reads
+gives_value (Err BadUtf8) reading reads = ap value_if reads
+gives_value (Err OutOfRange) reading reads = ap value_if reads
+gives_value (Err TooDeep) reading reads = ap value_if reads
+gives_value (Err Trailing) reading reads = ap value_if reads
 gives_value (Err (Memory error)) reading reads = tt
 
-pub is_value : (bytes : List ℕ) (r : Result Value CborRefusal) → ReturnsReading (λ v. v) r (all_at bytes) → Gives r (value_of bytes)
+pub is_value : (bytes : List ℕ) (r : Result Value CborRefusal) → ReturnsReading (λ v. v) r (all_at bytes) → GivesValue r (value_of bytes)
 unfolding value_of
 is_value bytes r reads = gives_value r (all_at bytes) reads
 
@@ -77,7 +77,7 @@ is_value bytes r reads = gives_value r (all_at bytes) reads
 
 pub value_again : (bytes : List ℕ) (v : Value) → Cbor bytes v → depth_of v ≤ 32 → value_of bytes ≡ Some v
 unfolding value_of
-value_again bytes v cbor deep = ap value_in (all_again bytes v cbor deep)
+value_again bytes v cbor deep = ap value_if (all_again bytes v cbor deep)
 
 pub value_takes : (bytes : List ℕ) (v : Value) → IsBytes bytes → value_of bytes ≡ Some v → Cbor bytes v × (depth_of v ≤ 32)
 unfolding value_of
@@ -85,9 +85,9 @@ value_takes bytes v fits e = go (all_at bytes) refl
   where
     go : (r : Result Value CborRefusal) → all_at bytes ≡ r → Cbor bytes v × (depth_of v ≤ 32)
     go (Ok w) is =
-        let same : w ≡ v = same_Some w v (ap value_in (sym is) ∙ e) in
+        let same : w ≡ v = same_Some w v (ap value_if (sym is) ∙ e) in
         all_takes bytes v fits (is ∙ ap done same)
-    go (Err d) is = absurd (let clash : None ≡ Some v = ap value_in (sym is) ∙ e in cc)
+    go (Err d) is = absurd (let clash : None ≡ Some v = ap value_if (sym is) ∙ e in cc)
 
 -- bytes without a value have a refusal that stands
 pub refusal_stands : (bytes : List ℕ) → IsBytes bytes → value_of bytes ≡ None → (e : CborRefusal) × Stands e bytes
@@ -95,9 +95,9 @@ unfolding value_of
 refusal_stands bytes fits e = go (all_at bytes) refl
   where
     go : (r : Result Value CborRefusal) → all_at bytes ≡ r → (e : CborRefusal) × Stands e bytes
-    go (Ok w) is = absurd (let clash : Some w ≡ None = ap value_in (sym is) ∙ e in cc)
+    go (Ok w) is = absurd (let clash : Some w ≡ None = ap value_if (sym is) ∙ e in cc)
     go (Err d) is = (d, all_refused bytes d fits is)
 
-pub only_value : (bytes : List ℕ) (r : Result Value CborRefusal) (v : Value) → Gives r (value_of bytes) → Cbor bytes v → depth_of v ≤ 32
-    → Gives r (Some v)
-only_value bytes r v gives cbor deep = subst (λ (o : Option Value). Gives r o) (value_again bytes v cbor deep) gives
+pub only_value : (bytes : List ℕ) (r : Result Value CborRefusal) (v : Value) → GivesValue r (value_of bytes) → Cbor bytes v → depth_of v ≤ 32
+    → GivesValue r (Some v)
+only_value bytes r v gives cbor deep = subst (λ (o : Option Value). GivesValue r o) (value_again bytes v cbor deep) gives

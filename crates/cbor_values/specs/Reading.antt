@@ -1,6 +1,7 @@
 -- Reading from left to right, with the first refusal that is met.
 use Rattle.std.specs.Prelude.{ℕ, zero, suc, ◌/◌, ◌%◌, ◌^◌, ◌==◌, true, false, nat_lt, if◌then◌else◌, List, [], ◌∷◌, ◌++◌, length, take, drop, Option, Some, None, Result, Ok, Err, pos, negsuc}
 use Rattle.std.specs.Str.{is_utf8}
+use Rattle.lists.specs.Results.{◌>>=◌}
 use Rattle.byteorder.specs.Endian.{big_number}
 use Rattle.otlp_model.specs.Limits.{depth_limit}
 use Rattle.otlp_model.specs.declared.value.Value.{Value}
@@ -12,11 +13,6 @@ use Rattle.cbor_values.specs.declared.heads.Head.{Head}
 use Rattle.cbor_values.specs.declared.heads.Head.TheVariants as heads
 use Rattle.cbor_values.specs.Floats.{of_half, of_single}
 use Rattle.cbor_values.specs.Heads.{argument_len}
-
-infixl 10 ◌>>=◌
-abbrev pub ◌>>=◌ : {A B : Type 0} → Result A CborRefusal → (A → Result B CborRefusal) → Result B CborRefusal
-(Ok x) >>= f = f x
-(Err e) >>= f = Err e
 
 -- a value and the bytes after it, or the first refusal
 abbrev pub ValueReading : Type 0 → Type 0

@@ -8,7 +8,8 @@ use Rattle.cbor_values.specs.declared.refusal.CborRefusal.{CborRefusal}
 use Rattle.cbor_values.specs.declared.weighing.Nesting.{Nesting}
 use Rattle.cbor_values.specs.declared.weighing.Nesting.TheVariants as nesting
 use Rattle.cbor_values.specs.declared.weighing.WeighedValue.{WeighedValue}
-use Rattle.cbor_values.specs.Reading.{◌>>=◌, ValueReading, whole_of}
+use Rattle.lists.specs.Results.{◌>>=◌}
+use Rattle.cbor_values.specs.Reading.{ValueReading, whole_of}
 use Rattle.cbor_values.specs.declared.refusal.CborRefusal.TheVariants.{Memory}
 
 -- what the code tells of a value, and of its parts
@@ -42,11 +43,6 @@ TellsReading view tell (Err refusal) reading = reading ≡ Err refusal
 abbrev pub TellsAll : {X Y : Type 0} → (Y → X) → Result X CborRefusal → Result Y CborRefusal → Type 0
 TellsAll {X} {Y} tell (Ok told) reading = (value : Y) × (reading ≡ Ok value) × (told ≡ tell value)
 TellsAll tell (Err refusal) reading = reading ≡ Err refusal
-
--- a result of the code, seen by view, is what reading gives
-abbrev pub Exactly : {R Y : Type 0} → (R → Y) → Result R CborRefusal → Result Y CborRefusal → Type 0
-Exactly view (Ok found) reading = reading ≡ Ok (view found)
-Exactly view (Err refusal) reading = reading ≡ Err refusal
 
 -- a refusal of the code: the one that is met first, or that memory ran out
 abbrev pub Fails : {Y : Type 0} → CborRefusal → Result Y CborRefusal → Type 0

@@ -2,7 +2,8 @@
 
 ghost use Rattle.std.specs.Prelude.{◌≡◌, ◌<◌};
 ghost use Rattle.std.specs.Option.{option_map};
-ghost use Rattle.cbor_values.specs.Returned.{Exactly, ReturnsReading};
+ghost use Rattle.lists.specs.Results.{Gives};
+ghost use Rattle.cbor_values.specs.Returned.{ReturnsReading};
 ghost use Rattle.cbor_values.specs.Reading.{front_part, argument_at, head_by, head_at, break_at};
 
 use crate::floats::{half, single};
@@ -57,7 +58,7 @@ pub(crate) enum Head {
 #[tactic(auto, unfolding(crate::specs::Reading::head_at))]
 pub(crate) fn read_head(bytes: &[u8]) -> Result<(Head, &[u8]), CborRefusal>
     ensures reads { ReturnsReading (λ x. (x.0, x.1.now)) result (head_at bytes.now) }
-    ensures exact { Exactly (λ x. (x.0, x.1.now)) result (head_at bytes.now) }
+    ensures exact { Gives (λ x. (x.0, x.1.now)) result (head_at bytes.now) }
 {
     let Some((&first, rest)) = bytes.split_first() else {
         return Err(CborRefusal::Cut);
@@ -89,7 +90,7 @@ pub(crate) fn read_head(bytes: &[u8]) -> Result<(Head, &[u8]), CborRefusal>
 #[tactic(auto, unfolding(crate::specs::Reading::head_by))]
 fn kind(major: u8, argument: Option<u64>) -> Result<Head, CborRefusal>
     ensures reads { ReturnsReading (λ head. head) result (head_by major argument) }
-    ensures exact { Exactly (λ head. head) result (head_by major argument) }
+    ensures exact { Gives (λ head. head) result (head_by major argument) }
 {
     match (major, argument) {
         (WHOLE, Some(n)) => Ok(Head::Whole(n)),
@@ -106,7 +107,7 @@ fn kind(major: u8, argument: Option<u64>) -> Result<Head, CborRefusal>
 #[tactic(auto, using(crate::proofs::Fractions::width_small), unfolding(crate::specs::Reading::argument_at))]
 fn argument(info: u8, bytes: &[u8]) -> Result<(Option<u64>, &[u8]), CborRefusal>
     ensures reads { ReturnsReading (λ x. (x.0, x.1.now)) result (argument_at info bytes.now) }
-    ensures exact { Exactly (λ x. (x.0, x.1.now)) result (argument_at info bytes.now) }
+    ensures exact { Gives (λ x. (x.0, x.1.now)) result (argument_at info bytes.now) }
 {
     match info {
         0..24 => Ok((Some(u64::from(info)), bytes)),
@@ -123,7 +124,7 @@ fn argument(info: u8, bytes: &[u8]) -> Result<(Option<u64>, &[u8]), CborRefusal>
 /// The first `len` bytes, and the bytes after them.
 pub(crate) fn part(len: u64, bytes: &[u8]) -> Result<(&[u8], &[u8]), CborRefusal>
     ensures reads { ReturnsReading (λ x. (x.0.now, x.1.now)) result (front_part len bytes.now) }
-    ensures exact { Exactly (λ x. (x.0.now, x.1.now)) result (front_part len bytes.now) }
+    ensures exact { Gives (λ x. (x.0.now, x.1.now)) result (front_part len bytes.now) }
 {
     if len > bytes.len() as u64 {
         return Err(CborRefusal::Cut);

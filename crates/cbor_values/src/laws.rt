@@ -18,7 +18,8 @@ pub fn one_value()
     ensures { (bytes : List ℕ) (v w : Value) → Cbor bytes v → Cbor bytes w → v ≡ w }
 {}
 
-/// Bytes have a value exactly where they stand for one that is at most 32 deep, and else exactly where a refusal stands.
+/// Bytes are read as a value exactly where they stand for one that is at most 32 deep; in all other bytes, and only in
+/// these, a refusal stands.
 pub fn value_or_refusal()
     ensures value { (bytes : List ℕ) (v : Value) → All (λ byte. byte < 256) bytes → value_of bytes ≡ Some v ↔ (Cbor bytes v × (depth_of v ≤ depth_limit)) }
     ensures refusal { (bytes : List ℕ) → All (λ byte. byte < 256) bytes → value_of bytes ≡ None ↔ ((refusal : CborRefusal) × Stands refusal bytes) }

@@ -6,7 +6,7 @@ ghost use Rattle.otlp_model.specs.Depth.{depth_of};
 ghost use Rattle.otlp_model.specs.Limits.{depth_limit};
 ghost use Rattle.cbor_values.specs.Cbor.{Cbor};
 ghost use Rattle.cbor_values.specs.Refusals.{Refuses};
-ghost use Rattle.cbor_values.specs.Values.{Gives, value_of};
+ghost use Rattle.cbor_values.specs.Values.{GivesValue, value_of};
 ghost use Rattle.cbor_values.specs.Reading.{many_at, open_at, pair_at, body_at, item_at, all_at};
 ghost use Rattle.cbor_values.specs.Returned.{ReturnsReading, int_of};
 
@@ -16,7 +16,7 @@ use crate::strings::{key, octets, text};
 use otlp_model::{Items, MAX_DEPTH, Pair, Value};
 use std::alloc::Global;
 
-// For how many members room is found at once.
+/// For how many members room is found at once.
 const FIRST_ROOM: u64 = 32;
 
 /// The value of the bytes, all of them: one item of the read forms (RFC 8949) that is at most 32 deep.
@@ -30,11 +30,11 @@ pub fn read_value(alloc: Global, bytes: &[u8]) -> Result<Value, CborRefusal>
     // What is read is what the bytes stand for.
     ensures found { IfOk result (λ v. Cbor bytes.now v × (depth_of v ≤ depth_limit)) }
     // A value that is at most 32 deep is read, unless memory runs out.
-    ensures only { (v : Value) → Cbor bytes.now v → depth_of v ≤ depth_limit → Gives result (Some v) }
+    ensures only { (v : Value) → Cbor bytes.now v → depth_of v ≤ depth_limit → GivesValue result (Some v) }
     // A refusal comes only where it stands.
     ensures refused { IfErr result (Refuses bytes.now) }
     // The same as an equation, for callers.
-    ensures value { Gives result (value_of bytes.now) }
+    ensures value { GivesValue result (value_of bytes.now) }
 {
     all(alloc, bytes)
 }

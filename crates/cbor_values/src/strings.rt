@@ -1,7 +1,8 @@
 //! Byte strings and texts, whole or in chunks (RFC 8949, section 3.2.3).
 
 ghost use Rattle.std.specs.Prelude.{◌≡◌, ◌++◌, OnOk};
-ghost use Rattle.cbor_values.specs.Returned.{Exactly, ReturnsReading};
+ghost use Rattle.lists.specs.Results.{Gives};
+ghost use Rattle.cbor_values.specs.Returned.{ReturnsReading};
 ghost use Rattle.cbor_values.specs.Reading.{chunks_at, letters_at, octets_chunk_at, text_chunk_at, octets_at, text_at, key_at};
 
 use crate::heads::{Head, after_break, part, read_head};
@@ -45,7 +46,7 @@ fn chunked_octets(alloc: Global, bytes: &[u8]) -> Result<(Octets, &[u8]), CborRe
 #[tactic(auto, unfolding(crate::specs::Reading::octets_chunk_at))]
 pub(crate) fn octets_chunk(bytes: &[u8]) -> Result<(&[u8], &[u8]), CborRefusal>
     ensures reads { ReturnsReading (λ x. (x.0.now, x.1.now)) result (octets_chunk_at bytes.now) }
-    ensures exact { Exactly (λ x. (x.0.now, x.1.now)) result (octets_chunk_at bytes.now) }
+    ensures exact { Gives (λ x. (x.0.now, x.1.now)) result (octets_chunk_at bytes.now) }
 {
     let (head, rest) = read_head(bytes)?;
     match head {
@@ -111,7 +112,7 @@ fn chunked_text(alloc: Global, bytes: &[u8]) -> Result<(Text, &[u8]), CborRefusa
 #[tactic(auto, unfolding(crate::specs::Reading::text_chunk_at))]
 pub(crate) fn text_chunk(bytes: &[u8]) -> Result<(&str, &[u8]), CborRefusal>
     ensures reads { ReturnsReading (λ x. (x.0.now, x.1.now)) result (text_chunk_at bytes.now) }
-    ensures exact { Exactly (λ x. (x.0.now, x.1.now)) result (text_chunk_at bytes.now) }
+    ensures exact { Gives (λ x. (x.0.now, x.1.now)) result (text_chunk_at bytes.now) }
 {
     let (head, rest) = read_head(bytes)?;
     match head {
@@ -133,7 +134,7 @@ fn append_letters(text: &mut Text, letters: &str) -> Result<(), AllocError>
 #[tactic(auto, unfolding(crate::specs::Reading::letters_at))]
 pub(crate) fn letters(len: u64, bytes: &[u8]) -> Result<(&str, &[u8]), CborRefusal>
     ensures reads { ReturnsReading (λ x. (x.0.now, x.1.now)) result (letters_at len bytes.now) }
-    ensures exact { Exactly (λ x. (x.0.now, x.1.now)) result (letters_at len bytes.now) }
+    ensures exact { Gives (λ x. (x.0.now, x.1.now)) result (letters_at len bytes.now) }
 {
     let (part, rest) = part(len, bytes)?;
     match str::from_utf8(part) {

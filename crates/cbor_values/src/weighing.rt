@@ -1,23 +1,27 @@
 //! What bytes hold, told without building the value.
-ghost use Rattle.std.specs.Prelude.{◌≡◌, None, IfErr, IfOk, OnOk, min, length};
+ghost use Rattle.std.specs.Prelude.{◌≡◌, None, IfErr, IfOk, OnOk, length};
 ghost use Rattle.cbor_values.specs.declared.heads.Head.TheVariants as heads;
 ghost use Rattle.cbor_values.specs.declared.refusal.CborRefusal.{CborRefusal};
 ghost use Rattle.cbor_values.specs.Refusals.{Stands};
 ghost use Rattle.cbor_values.specs.Values.{value_of};
 ghost use Rattle.cbor_values.specs.Reading.{all_at, body_at, chunks_at, item_at, key_at, many_at, octets_at, octets_chunk_at, open_at, pair_at, text_at, text_chunk_at, whole_of};
 ghost use Rattle.cbor_values.specs.Weighing.{IsWeighed, weighed};
-ghost use Rattle.cbor_values.specs.Returned.{Exactly, TellsReading, TellsAll, long, pair_weighed, told_of, weight_of_members, weight_of_pairs};
+ghost use Rattle.lists.specs.Results.{Gives};
+ghost use Rattle.cbor_values.specs.Returned.{TellsReading, TellsAll, long, pair_weighed, told_of, weight_of_members, weight_of_pairs};
 
 use crate::heads::{Head, after_break, part, read_head};
 use crate::refusal::CborRefusal;
 use crate::strings::{letters, octets_chunk, text_chunk};
-use otlp_model::{CAP, MAX_DEPTH, add_capped};
+use otlp_model::{CAP, MAX_DEPTH, add_capped, capped_len};
 
 /// Whether a value holds others.
 #[derive(Clone, Copy, Debug, PartialEq, Eq)]
 pub enum Nesting {
+    /// A map.
     Map,
+    /// An array.
     Array,
+    /// Neither: it holds no others.
     Plain,
 }
 
@@ -137,7 +141,7 @@ fn told(nesting: Nesting, weight: u64) -> WeighedValue
 
 /// Refuses a number that isn't below 2^63.
 fn whole(n: u64) -> Result<(), CborRefusal>
-    ensures { Exactly (λ unit. n) result (whole_of n) }
+    ensures { Gives (λ unit. n) result (whole_of n) }
 {
     if n < CAP {
         Ok(())
@@ -289,10 +293,4 @@ fn chunked_text(bytes: &[u8]) -> Result<(u64, &[u8]), CborRefusal>
         len = add_capped(len, capped_len(letters.as_bytes()));
         rest = after;
     }
-}
-
-fn capped_len(part: &[u8]) -> u64
-    ensures { result ≡ long part.now }
-{
-    (part.len() as u64).min(CAP)
 }

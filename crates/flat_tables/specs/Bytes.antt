@@ -1,21 +1,11 @@
 -- Parts of bytes, and the numbers in them.
-use Rattle.std.specs.Prelude.{◌≡◌, ℕ, ◌+◌, List, length, take, drop, nat_lt, if◌then◌else◌, Result, Ok, Err}
+use Rattle.std.specs.Prelude.{ℕ, ◌+◌, List, length, take, drop, nat_lt, if◌then◌else◌, Result, Ok, Err}
 use Rattle.std.specs.Prelude.{ℤ}
 use Rattle.std.specs.Int.{Width, cast_signed}
+use Rattle.lists.specs.Results.{◌>>=◌}
 use Rattle.byteorder.specs.Endian.{little_number}
 use Rattle.flat_tables.specs.declared.fault.FlatFault.{FlatFault}
 use Rattle.flat_tables.specs.declared.fault.FlatFault.TheVariants.{OutOfRange}
-
-infixl 10 ◌>>=◌
--- what follows on a value; an error stays
-abbrev pub ◌>>=◌ : {A B E : Type 0} → Result A E → (A → Result B E) → Result B E
-(Ok x) >>= f = f x
-(Err e) >>= f = Err e
-
--- a call returned what reading gives, its value seen by view
-abbrev pub Gives : {X Y : Type 0} → (X → Y) → Result X FlatFault → Result Y FlatFault → Type 0
-Gives view (Ok x) read = read ≡ Ok (view x)
-Gives view (Err e) read = read ≡ Err e
 
 -- the n bytes at a place, which must all lie in the bytes; places are added as whole numbers, and never wrap
 unfoldable pub part_at : List ℕ → ℕ → ℕ → Result (List ℕ) FlatFault

@@ -9,7 +9,7 @@ max_width = 16
 abbrev pub max_slots : ℕ
 max_slots = 16
 
--- what a builder holds before a part is added, that part included, is below this number of bytes
+-- what a builder holds together with the part to be added stays below this number of bytes
 abbrev pub max_size : ℕ
 max_size = 16777216
 

@@ -4,7 +4,8 @@ use Rattle.std.specs.Int.{Width, w32}
 use Rattle.std.specs.Option.{option_map}
 use Rattle.flat_tables.specs.declared.fault.FlatFault.{FlatFault}
 use Rattle.flat_tables.specs.declared.fault.FlatFault.TheVariants.{OutOfRange, BadVtable}
-use Rattle.flat_tables.specs.Bytes.{◌>>=◌, part_at, number_in, number_at, signed_at}
+use Rattle.lists.specs.Results.{◌>>=◌}
+use Rattle.flat_tables.specs.Bytes.{part_at, number_in, number_at, signed_at}
 
 -- a table: the bytes that it lies in, its place, the place of its vtable, and the size that the vtable gives itself
 pub record TableIn : Type 0 where

@@ -13,7 +13,7 @@ use std::marker::Model;
 /// The most slots that a new table has.
 pub const MAX_SLOTS: usize = 16;
 
-/// What a builder may hold before a part is added, that part included.
+/// What a builder holds together with the part to be added stays below this number of bytes.
 pub const MAX_SIZE: usize = 1 << 24;
 
 /// Builds tables back to front: what is added comes in front of what was there, and stays as it is.
@@ -21,7 +21,7 @@ pub const MAX_SIZE: usize = 1 << 24;
 /// A contract sees a builder as the bytes that the finished bytes will end with.
 #[derive(Debug, Drop)]
 pub struct Builder {
-    // The bytes from the last one to the first.
+    /// The bytes from the last one to the first.
     reversed: Vec<u8>,
 }
 
@@ -37,6 +37,7 @@ impl Model for Builder {
 }
 
 impl Builder {
+    /// An empty builder.
     pub fn new(alloc: Global) -> Builder
         ensures { result ≡ [] }
     {

@@ -34,11 +34,15 @@ impl Place {
 /// What a slot of a new table holds.
 #[derive(Clone, Copy, Debug, PartialEq, Eq)]
 pub enum Slot {
+    /// Nothing: the field isn't there.
     Absent,
     /// A byte; a bool is 0 or 1.
     U8(u8),
+    /// A number of 16 bits.
     I16(i16),
+    /// A number of 32 bits.
     I32(i32),
+    /// A number of 64 bits.
     I64(i64),
     /// A text, a vector or a table that the builder holds.
     At(Place),

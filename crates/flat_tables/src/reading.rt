@@ -1,6 +1,7 @@
 ghost use Rattle.std.specs.Prelude.{◌≡◌, ◌+◌, ◌≤◌, ◌<◌, length, IfOk, OnOk};
 ghost use Rattle.std.specs.Int.{w16, w32, w64};
-ghost use Rattle.flat_tables.specs.Bytes.{Gives, part_at, number_at, signed_at};
+ghost use Rattle.lists.specs.Results.{Gives};
+ghost use Rattle.flat_tables.specs.Bytes.{part_at, number_at, signed_at};
 ghost use Rattle.flat_tables.specs.Tables.{referred, vtable_at, size_at};
 
 use crate::fault::FlatFault;

@@ -1,7 +1,7 @@
 ghost use Rattle.std.specs.Prelude.{◌≡◌, ◌+◌, ◌≤◌, ◌<◌, length, IfOk, IfSome};
 ghost use Rattle.std.specs.Int.{w16, w32, w64};
 ghost use Rattle.std.specs.Option.{option_copied};
-ghost use Rattle.flat_tables.specs.Bytes.{Gives};
+ghost use Rattle.lists.specs.Results.{Gives};
 ghost use Rattle.flat_tables.specs.Limits.{max_width};
 ghost use Rattle.flat_tables.specs.Tables.{table_at, text_at, vector_at, root_at, place_of, distance_at, element_place, reference_slot, byte_slot, signed_slot, table_slot, text_slot, vector_slot, element_part, element_reference, element_table, or_default};
 

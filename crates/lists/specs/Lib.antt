@@ -2,6 +2,9 @@ pub mod Bytes
 pub mod EachAfter
 pub mod Held
 pub mod Lends
+pub mod Flags
+pub mod Numbers
 pub mod Payloads
+pub mod Results
 pub mod Since
 pub mod formers

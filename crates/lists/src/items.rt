@@ -24,6 +24,7 @@ impl<T> Model for Items<T> {
 }
 
 impl<T> Items<T> {
+    /// An empty list.
     #[inline]
     pub fn new(alloc: Global) -> Items<T>
         ensures { result ≡ [] }
@@ -33,6 +34,7 @@ impl<T> Items<T> {
         }
     }
 
+    /// How many items there are.
     #[inline]
     pub fn len(&self) -> usize
         ensures { result ≡ length self.now }
@@ -40,6 +42,7 @@ impl<T> Items<T> {
         self.items.len()
     }
 
+    /// Whether there is none.
     #[inline]
     pub fn is_empty(&self) -> bool
         ensures { IsTrue result ↔ (self.now ≡ []) }

@@ -38,6 +38,7 @@ impl Model for Octets {
 }
 
 impl Octets {
+    /// An empty byte string.
     #[inline]
     pub fn new(alloc: Global) -> Octets
         ensures { result ≡ [] }
@@ -76,6 +77,7 @@ impl Octets {
         Octets { held }
     }
 
+    /// How many bytes there are.
     #[inline]
     pub fn len(&self) -> usize
         ensures { result ≡ length self.now }
@@ -83,6 +85,7 @@ impl Octets {
         self.as_slice().len()
     }
 
+    /// Whether there is none.
     #[inline]
     pub fn is_empty(&self) -> bool
         ensures { IsTrue result ↔ (self.now ≡ []) }
@@ -90,6 +93,7 @@ impl Octets {
         self.as_slice().is_empty()
     }
 
+    /// All of it, borrowed.
     #[inline]
     pub fn as_slice(&self) -> &[u8]
         ensures value { result.now ≡ self.now }

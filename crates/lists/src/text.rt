@@ -68,6 +68,7 @@ impl Model for Text {
 }
 
 impl Text {
+    /// An empty text.
     #[inline]
     pub fn new(alloc: Global) -> Text
         ensures { result ≡ [] }
@@ -146,6 +147,7 @@ impl Text {
         self.as_slice().len()
     }
 
+    /// Whether it has no bytes.
     #[inline]
     pub fn is_empty(&self) -> bool
         ensures { IsTrue result ↔ (self.now ≡ []) }
@@ -165,6 +167,7 @@ impl Text {
         }
     }
 
+    /// All of it, borrowed.
     pub fn as_str(&self) -> &str
         ensures { result.now ≡ self.now }
     {

@@ -34,8 +34,3 @@ pair_at rows k =
     let row : List Cell = slice_index_or rows k [] in
     ap pair_in (get_or-map (drop 1) rows k [])
     ∙ (λ i. record { key = ap bytes_in (key_after row) i; value = ap value_in (after_both row) i })
-
--- a pair alone that weighs little
-pub one_pair : (pairs : List Pair) (pair : Pair) → pairs ≡ pair ∷ [] → length pair.key ≤ 1000 → weight_of_value pair.value ≤ 1000
-    → total 32 weight_of_pair pairs ≤ 67108864
-one_pair pairs pair is short light = rw is (omega arith)

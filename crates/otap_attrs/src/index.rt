@@ -24,9 +24,9 @@ use std::marker::Model;
 /// Which rows of a table of attributes each parent has, and what their pairs weigh. It keeps no cells.
 #[derive(Debug, Drop)]
 pub struct PairIndex {
-    // The rows by the parents that they name, and those of one parent in their order.
+    /// The rows by the parents that they name, and those of one parent in their order.
     entries: Vec<ChildEntry>,
-    // Of each row what its pair weighs, or `CAP` where it is more.
+    /// Of each row what its pair weighs, or `CAP` where it is more.
     weights: Vec<u64>,
 }
 

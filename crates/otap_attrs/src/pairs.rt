@@ -16,7 +16,7 @@ use otap_cells::{Attribute, CellView, LogicalTable, bits_cell, flag_cell, int_ce
 use otlp_model::{Items, Pair, Value};
 use std::alloc::{AllocError, Global};
 
-// A pair of a parent, and the bytes of its value where that is nested.
+/// A pair of a parent, and the bytes of its value where that is nested.
 #[derive(Debug, Drop)]
 pub(crate) struct PlacedPair<'a> {
     pub(crate) parent: u32,

@@ -4,10 +4,10 @@ ghost use Rattle.otlp_model.specs.Weight.{weight_of_pair};
 ghost use Rattle.otap_cells.specs.Continuing.{has_attributes};
 ghost use Rattle.otap_attrs.specs.Values.{pair_in};
 
-use crate::values::{capped_len, value_at, weight_at};
+use crate::values::{value_at, weight_at};
 use otap_cells::{Rows, bytes_in, text_in};
 use otap_groups::RowReader;
-use otlp_model::{Pair, add_capped};
+use otlp_model::{Pair, add_capped, capped_len};
 use std::alloc::{AllocError, Global};
 
 /// The rows of a table of attributes, each a pair. They are read where their cells are kept.

@@ -18,7 +18,7 @@ use otap_cells::{
     CellView, Rows, bits_cell, bits_in, bytes_in, flag_cell, flag_in, int_cell, int_in, number_in,
     octets_cell, octets_in, text_cell, text_in,
 };
-use otlp_model::{CAP, Value};
+use otlp_model::{Value, capped_len};
 use std::alloc::{AllocError, Global};
 
 /// The value of a row, whose columns stand from this one on. Cells of other types than the value's are passed over.
@@ -172,10 +172,4 @@ fn nested_weight(part: &[u8]) -> u64
         Ok(told) => told.weight,
         Err(_) => 0,
     }
-}
-
-pub(crate) fn capped_len(part: &[u8]) -> u64
-    ensures { result ≡ min (length part.now) count_cap }
-{
-    (part.len() as u64).min(CAP)
 }

@@ -12,12 +12,11 @@ ghost use Rattle.otap_attrs.specs.Values.{pair_cells, value_cells};
 
 use crate::pairs::{PlacedPair, place_pairs};
 use crate::sorting::coded_table;
-use crate::values::capped_len;
 use cbor_values::len_value;
 use otap_cells::{Kind, LogicalTable, Rows};
 use otlp_model::{
     CAP, Event, Exemplar, HistPoint, Items, Link, LogRecord, Pair, Point, Resource, Scope, Span,
-    SumPoint, Value, add_capped,
+    SumPoint, Value, add_capped, capped_len,
 };
 use std::alloc::{AllocError, Global};
 

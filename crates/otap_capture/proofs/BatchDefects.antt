@@ -9,7 +9,6 @@ use Rattle.otlp_messages.specs.declared.messages.FieldKind.{FieldKind}
 use Rattle.otlp_messages.specs.declared.messages.FieldKind.TheVariants.{Unknown, Varint, Text, Octets, Embedded}
 use Rattle.otlp_messages.specs.declared.messages.Defect.{Defect}
 use Rattle.otlp_messages.specs.declared.messages.Defect.TheVariants as defects
-use Rattle.otlp_messages.specs.Limits.{level_limit}
 use Rattle.otlp_messages.specs.Defects.{Stands, wire_error, twice, in_value, within, ValueFaults, PartFaults, inside}
 use Rattle.otlp_messages.specs.Table.{kind_of}
 use Rattle.otlp_messages.proofs.Deciding.{decided}
@@ -94,7 +93,7 @@ of_batch m levels bytes e is (in_value _ _ _ f _ occurs h) = value_of_batch (kin
 of_batch m levels bytes e is (within _ _ _ n part next deep _ occurs at h) = of_batch next deep part e (payload_inside (kind_of m n) (simple m is n) levels next deep at) h
 
 -- a defect in a batch is named by a refusal
-refused : (bytes : List ℕ) (e : Defect) → IsOfBatch e → Stands BatchArrowRecords level_limit bytes e → (refusal : BatchRefusal) × RefusesBatch bytes refusal
+refused : (bytes : List ℕ) (e : Defect) → IsOfBatch e → Stands BatchArrowRecords 0 bytes e → (refusal : BatchRefusal) × RefusesBatch bytes refusal
 refused bytes defects.BadMessage of stands = (refusals.BadMessage, stands)
 refused bytes defects.Repeated of stands = (refusals.Repeated, stands)
 refused bytes defects.BadUtf8 of stands = (refusals.BadUtf8, stands)
@@ -103,12 +102,12 @@ refused bytes defects.Unsupported of stands = absurd of
 refused bytes defects.TooDeep of stands = absurd of
 
 pub read_or_refused : (bytes : List ℕ) → ((refusal : BatchRefusal) → RefusesBatch bytes refusal → ⊥) → ReadsBatch bytes (batch_content bytes)
-read_or_refused bytes none = (record { none = λ e stands. let r = refused bytes e (of_batch BatchArrowRecords level_limit bytes e (inl refl) stands) stands in none r.0 r.1 }, refl)
+read_or_refused bytes none = (record { none = λ e stands. let r = refused bytes e (of_batch BatchArrowRecords 0 bytes e (inl refl) stands) stands in none r.0 r.1 }, refl)
 
 -- all bytes are read, or refused
 pub read_or_not : (bytes : List ℕ) → ((batch : BatchContent) × ReadsBatch bytes batch) ⊎ ((refusal : BatchRefusal) × RefusesBatch bytes refusal)
 read_or_not bytes =
-    elim (decided BatchArrowRecords level_limit bytes) [
+    elim (decided BatchArrowRecords 0 bytes) [
       | inl fine ↦ inl (batch_content bytes, (fine, refl))
-      | inr d ↦ inr (refused bytes d.0 (of_batch BatchArrowRecords level_limit bytes d.0 (inl refl) d.1) d.1)
+      | inr d ↦ inr (refused bytes d.0 (of_batch BatchArrowRecords 0 bytes d.0 (inl refl) d.1) d.1)
     ]

@@ -4,12 +4,13 @@ use Rattle.std.specs.Prelude.{nat_eq, is_some, fold, ◌||◌, ◌==◌, not, sl
 use Rattle.std.proofs.lemmas.Bool.{cases_eq, cases_Bool, ne_eqb}
 use Rattle.std.proofs.lemmas.List.{get_or-set_same, get_or-set_other}
 use Rattle.std.proofs.Math.Bool.{or-true}
+use Rattle.lists.proofs.Truths.{or_false}
 use Rattle.lists.proofs.Parts.{same_all_over}
 use Rattle.otlp_wire.specs.Wire as wire
 use Rattle.otlp_wire.specs.Wire.{FieldValue, Entry}
 use Rattle.otlp_wire.specs.Fields.{fields_of, end_of}
 use Rattle.otlp_messages.specs.declared.messages.Message.TheVariants.{BatchArrowRecords}
-use Rattle.otlp_messages.specs.Limits.{level_limit, mark_limit}
+use Rattle.otlp_messages.specs.Limits.{mark_limit}
 use Rattle.otlp_messages.specs.Table.{kind_of, mark_of}
 use Rattle.otlp_messages.specs.Fine.{FineValue}
 use Rattle.otlp_messages.specs.Rows.{only, at, int64_in, parts_of, said}
@@ -22,7 +23,7 @@ use Rattle.otap_capture.specs.BatchScanning.{SaysMore, FieldFaults, part_in, num
 -- the fields before the rest are looked at
 pub record Scanned (bytes : List ℕ) (scan : Scan) (rest : List ℕ) : Type 0 where
   pub marks : List Bool
-  pub checked : Checked BatchArrowRecords level_limit bytes marks rest
+  pub checked : Checked BatchArrowRecords 0 bytes marks rest
   pub first : slice_index_or marks 1 false ≡ scan.seen
   pub id : fold int64_in scan.id (only 1 (fields_of rest)) ≡ said 1 int64_in (pos 0) bytes
   pub count : scan.count + length (payloads_in rest) ≡ length (payloads_in bytes)
@@ -41,7 +42,7 @@ no_mark n other = by_number (cases_Bool (nat_eq n 2))
 pub scanned_none : (bytes : List ℕ) (scan : Scan) → scan.seen ≡ false → scan.id ≡ pos 0 → scan.count ≡ 0 → Scanned bytes scan bytes
 scanned_none bytes scan seen id count = record {
   marks = replicate mark_limit false;
-  checked = checked_none BatchArrowRecords level_limit bytes (replicate mark_limit false) refl (same_all_over mark_limit false);
+  checked = checked_none BatchArrowRecords 0 bytes (replicate mark_limit false) refl (same_all_over mark_limit false);
   first = sym seen;
   id = rw id refl;
   count = omega (arith, count);
@@ -81,10 +82,6 @@ marks_more marks seen n first room = elim (cases_eq n 1) [
   | inl one ↦ rw (one, mark_of) (get_or-set_same marks 1 true false room ∙ sym (or-true seen))
   | inr other ↦ rw (no_mark n other, ne_eqb n 1 other) (get_or-set_other marks 0 1 false false (λ e. omega (arith, e)) ∙ first ∙ sym (or_false seen))
 ]
-  where
-    or_false : (b : Bool) → (b || false) ≡ b
-    or_false true = refl
-    or_false false = refl
 
 fresh_mark : (marks : List Bool) (seen : Bool) (n : ℕ) → slice_index_or marks 1 false ≡ seen → slice_index_or marks 0 false ≡ false → (n ≡ 1 → seen ≡ false)
     → slice_index_or marks (mark_of BatchArrowRecords n) false ≡ false
@@ -100,7 +97,7 @@ few_marks n = elim (cases_eq n 1) [
 ]
 
 pub scanned_more : (bytes rest new : List ℕ) (old next : Scan) (f : Entry) → Scanned bytes old rest → fields_of rest ≡ f ∷ fields_of new → end_of rest ≡ end_of new
-    → FineValue (kind_of BatchArrowRecords f.number) level_limit f.value → SaysMore old next f → Scanned bytes next new
+    → FineValue (kind_of BatchArrowRecords f.number) 0 f.value → SaysMore old next f → Scanned bytes next new
 scanned_more bytes rest new old next f h first end fine more =
     let size = h.checked.size in
     let fresh = fresh_mark h.marks old.seen f.number h.first h.checked.none more.once in
@@ -108,7 +105,7 @@ scanned_more bytes rest new old next f h first end fine more =
     let before : old.count + length (map payload_in (parts_of (only 2 (f ∷ fields_of new)))) ≡ length (payloads_in bytes) = rw first at h.count in
     record {
       marks = set h.marks (mark_of BatchArrowRecords f.number) (not (mark_of BatchArrowRecords f.number == 0));
-      checked = checked_more BatchArrowRecords level_limit bytes rest new h.marks f h.checked first end (few_marks f.number) fresh fine;
+      checked = checked_more BatchArrowRecords 0 bytes rest new h.marks f h.checked first end (few_marks f.number) fresh fine;
       first = marks_more h.marks old.seen f.number h.first (omega (arith, size)) ∙ sym more.seen;
       id = rw more.id (sym (fold_first old.id f (fields_of new)) ∙ ap (λ fs. fold int64_in old.id (only 1 fs)) (sym first) ∙ h.id);
       count = omega (arith, more.count, counted, before);
@@ -118,6 +115,6 @@ scanned_more bytes rest new old next f h first end fine more =
 pub scanned_stands : (bytes rest new : List ℕ) (scan : Scan) (f : Entry) (refusal : BatchRefusal) → Scanned bytes scan rest → fields_of rest ≡ f ∷ fields_of new
     → FieldFaults scan.seen f refusal → RefusesBatch bytes refusal
 scanned_stands bytes rest new scan f refusal h first (inl fault) =
-    value_stands BatchArrowRecords level_limit bytes f.number f.value (defect_of refusal) (first_occurs _ _ _ _ _ _ f h.checked first) fault
+    value_stands BatchArrowRecords 0 bytes f.number f.value (defect_of refusal) (first_occurs _ _ _ _ _ _ f h.checked first) fault
 scanned_stands bytes rest new scan f refusal h first (inr again) =
-    rw again.0 (twice_stands BatchArrowRecords level_limit bytes rest new h.marks f h.checked first (rw (id_mark f.number again.2) (h.first ∙ again.1)))
+    rw again.0 (twice_stands BatchArrowRecords 0 bytes rest new h.marks f h.checked first (rw (id_mark f.number again.2) (h.first ∙ again.1)))

@@ -9,7 +9,6 @@ use Rattle.otlp_messages.specs.declared.messages.FieldKind.{FieldKind}
 use Rattle.otlp_messages.specs.declared.messages.FieldKind.TheVariants.{Unknown, Varint, Text}
 use Rattle.otlp_messages.specs.declared.messages.Defect.{Defect}
 use Rattle.otlp_messages.specs.declared.messages.Defect.TheVariants as defects
-use Rattle.otlp_messages.specs.Limits.{level_limit}
 use Rattle.otlp_messages.specs.Defects.{Stands, wire_error, twice, in_value, within, ValueFaults, PartFaults, inside}
 use Rattle.otlp_messages.specs.Table.{kind_of}
 use Rattle.otlp_messages.proofs.Deciding.{decided}
@@ -66,7 +65,7 @@ pub of_status : (levels : ℕ) (bytes : List ℕ) (e : Defect) → Stands BatchS
 of_status levels bytes e stands = by_cases BatchStatus levels bytes e refl stands
 
 -- a defect in a status is named by a refusal
-refused : (bytes : List ℕ) (e : Defect) → IsOfBatch e → Stands BatchStatus level_limit bytes e → (refusal : BatchRefusal) × RefusesStatus bytes refusal
+refused : (bytes : List ℕ) (e : Defect) → IsOfBatch e → Stands BatchStatus 0 bytes e → (refusal : BatchRefusal) × RefusesStatus bytes refusal
 refused bytes defects.BadMessage of stands = (refusals.BadMessage, stands)
 refused bytes defects.Repeated of stands = (refusals.Repeated, stands)
 refused bytes defects.BadUtf8 of stands = (refusals.BadUtf8, stands)
@@ -75,12 +74,12 @@ refused bytes defects.Unsupported of stands = absurd of
 refused bytes defects.TooDeep of stands = absurd of
 
 pub status_or_refused : (bytes : List ℕ) → ((refusal : BatchRefusal) → RefusesStatus bytes refusal → ⊥) → ReadsStatus bytes (status_in bytes)
-status_or_refused bytes none = (record { none = λ e stands. let r = refused bytes e (of_status level_limit bytes e stands) stands in none r.0 r.1 }, refl)
+status_or_refused bytes none = (record { none = λ e stands. let r = refused bytes e (of_status 0 bytes e stands) stands in none r.0 r.1 }, refl)
 
 -- each list of bytes is read or refused
 pub status_or_not : (bytes : List ℕ) → ((status : StatusContent) × ReadsStatus bytes status) ⊎ ((refusal : BatchRefusal) × RefusesStatus bytes refusal)
 status_or_not bytes =
-    elim (decided BatchStatus level_limit bytes) [
+    elim (decided BatchStatus 0 bytes) [
       | inl fine ↦ inl (status_in bytes, (fine, refl))
-      | inr d ↦ inr (refused bytes d.0 (of_status level_limit bytes d.0 d.1) d.1)
+      | inr d ↦ inr (refused bytes d.0 (of_status 0 bytes d.0 d.1) d.1)
     ]

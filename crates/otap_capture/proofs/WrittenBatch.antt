@@ -6,7 +6,6 @@ use Rattle.std.specs.List.{AllByRecursion}
 use Rattle.std.proofs.lemmas.List.{length-append, map-append}
 use Rattle.std.proofs.lemmas.Grind.{flat_map-append}
 use Rattle.otlp_messages.specs.declared.messages.Message.TheVariants.{BatchArrowRecords, ArrowPayload}
-use Rattle.otlp_messages.specs.Limits.{level_limit}
 use Rattle.otlp_wire.specs.Wire.{Bytes, spelling}
 use Rattle.otlp_wire.specs.Varint.{varint}
 use Rattle.otlp_messages.specs.Defects.{IsFine}
@@ -28,18 +27,18 @@ unfolding canon_payload
 canon_payload_is schema_id kind bytes = ap (λ s. canon_row 1 (bytes_row schema_id) ++ (canon_row 2 (signed_row kind) ++ s)) (append-nil (canon_row 3 (bytes_row bytes)))
 
 -- a payload that is written reads back
-payload_read : (p : PayloadIn) → IsRealPayload p → length (canon_payload p) < 2 ^ 64 → IsReadBack ArrowPayload level_limit (payload_rows p)
+payload_read : (p : PayloadIn) → IsRealPayload p → length (canon_payload p) < 2 ^ 64 → IsReadBack ArrowPayload 0 (payload_rows p)
 unfolding canon_payload
 payload_read p real small =
-    rows_read ArrowPayload level_limit (payload_rows p) refl (
-      part_fits ArrowPayload level_limit 1 p.schema_id (λ _. real.schema_id),
+    rows_read ArrowPayload 0 (payload_rows p) refl (
+      part_fits ArrowPayload 0 1 p.schema_id (λ _. real.schema_id),
       (
-        signed_fits ArrowPayload level_limit 2 p.kind refl (wider p.kind real.kind),
-        (part_fits ArrowPayload level_limit 3 p.bytes (λ _. tt), tt),
+        signed_fits ArrowPayload 0 2 p.kind refl (wider p.kind real.kind),
+        (part_fits ArrowPayload 0 3 p.bytes (λ _. tt), tt),
       ),
     ) small
 
-payload_fine : (p : PayloadIn) → IsRealPayload p → length (canon_payload p) < 2 ^ 64 → IsFine ArrowPayload level_limit (canon_payload p)
+payload_fine : (p : PayloadIn) → IsRealPayload p → length (canon_payload p) < 2 ^ 64 → IsFine ArrowPayload 0 (canon_payload p)
 unfolding canon_payload
 payload_fine p real small = (payload_read p real small).fine
 
@@ -54,7 +53,7 @@ payload_back p real small =
 
 -- and so do those of a batch
 all_fine : (ps : List PayloadIn) → AllByRecursion IsRealPayload ps
-    → AllByRecursion (λ part. length part < 2 ^ 64 → IsFine ArrowPayload level_limit part) (map canon_payload ps)
+    → AllByRecursion (λ part. length part < 2 ^ 64 → IsFine ArrowPayload 0 part) (map canon_payload ps)
 all_fine [] real = tt
 all_fine (p ∷ ps) real = (payload_fine p real.0, all_fine ps real.1)
 
@@ -67,9 +66,9 @@ pub batch_back : (b : BatchContent) → IsRealBatch b → length (canon_batch b)
 unfolding canon_batch
 batch_back b real small =
     let parts = map canon_payload b.payloads in
-    let read = rows_read BatchArrowRecords level_limit (batch_rows b) refl (
-      signed_fits BatchArrowRecords level_limit 1 b.id refl real.id,
-      (many_fits BatchArrowRecords level_limit 2 parts refl (all_fine b.payloads real.payloads), tt),
+    let read = rows_read BatchArrowRecords 0 (batch_rows b) refl (
+      signed_fits BatchArrowRecords 0 1 b.id refl real.id,
+      (many_fits BatchArrowRecords 0 2 parts refl (all_fine b.payloads real.payloads), tt),
     ) small in
     let size = length-append (canon_row 1 (signed_row b.id)) (canon_row 2 (many_row parts) ++ []) in
     let last = append-nil (canon_row 2 (many_row parts)) in

@@ -3,7 +3,6 @@ use Rattle.std.proofs.Common.{◌≡◌, ℕ, ◌<◌, ◌^◌, [], length, ◌+
 use Rattle.std.specs.Prelude.{fold}
 use Rattle.lists.proofs.Numbers.{wider}
 use Rattle.otlp_messages.specs.declared.messages.Message.TheVariants.{BatchStatus}
-use Rattle.otlp_messages.specs.Limits.{level_limit}
 use Rattle.otlp_messages.specs.Rows.{said, int32_in, int64_in, bytes_in}
 use Rattle.otlp_messages.specs.Canon.{signed_row, bytes_row, canon_row, canon}
 use Rattle.otlp_messages.proofs.Canonical.{rows_read}
@@ -13,11 +12,11 @@ use Rattle.otap_capture.specs.Statuses.{StatusContent, status_in, ReadsStatus, s
 pub status_back : (s : StatusContent) → IsRealStatus s → length (canon_status s) < 2 ^ 64 → ReadsStatus (canon_status s) s
 unfolding canon_status
 status_back s real small =
-    let read = rows_read BatchStatus level_limit (status_rows s) refl (
-      signed_fits BatchStatus level_limit 1 s.id refl real.id,
+    let read = rows_read BatchStatus 0 (status_rows s) refl (
+      signed_fits BatchStatus 0 1 s.id refl real.id,
       (
-        signed_fits BatchStatus level_limit 2 s.code refl (wider s.code real.code),
-        (part_fits BatchStatus level_limit 3 s.message (λ _. real.message), tt),
+        signed_fits BatchStatus 0 2 s.code refl (wider s.code real.code),
+        (part_fits BatchStatus 0 3 s.message (λ _. real.message), tt),
       ),
     ) small in
     let e1 : said 1 int64_in (pos 0) (canon (status_rows s)) ≡ s.id = ap (fold int64_in (pos 0)) (read.only 1) ∙ int64_back s.id real.id in

@@ -7,7 +7,6 @@ use Rattle.otlp_wire.specs.Fields.{fields_of}
 use Rattle.otlp_messages.specs.declared.messages.Message.TheVariants.{BatchArrowRecords}
 use Rattle.otlp_messages.specs.declared.messages.Defect.{Defect}
 use Rattle.otlp_messages.specs.declared.messages.Defect.TheVariants as defects
-use Rattle.otlp_messages.specs.Limits.{level_limit}
 use Rattle.otlp_messages.specs.Defects.{Stands, IsFine}
 use Rattle.otlp_messages.specs.Rows.{only, said, int32_in, int64_in, bytes_in, parts_of}
 use Rattle.otlp_messages.specs.Canon.{Filled, row, signed_row, bytes_row, many_row, canon}
@@ -39,9 +38,9 @@ payloads_in bytes = map payload_in (parts_of (only 2 (fields_of bytes)))
 abbrev pub batch_content : List ℕ → BatchContent
 batch_content bytes = record { id = said 1 int64_in (pos 0) bytes; payloads = payloads_in bytes }
 
--- the bytes are a batch message, which says this
+-- the bytes are a batch message, which says this; no value stands in it, so it has no levels of members
 abbrev pub ReadsBatch : List ℕ → BatchContent → Type 0
-ReadsBatch bytes batch = IsFine BatchArrowRecords level_limit bytes × (batch ≡ batch_content bytes)
+ReadsBatch bytes batch = IsFine BatchArrowRecords 0 bytes × (batch ≡ batch_content bytes)
 
 -- the defect that a refusal names
 abbrev pub defect_of : BatchRefusal → Defect
@@ -51,7 +50,7 @@ defect_of BadUtf8 = defects.BadUtf8
 
 -- a defect stands in the bytes, read as a batch message
 abbrev pub RefusesBatch : List ℕ → BatchRefusal → Type 0
-RefusesBatch bytes refusal = Stands BatchArrowRecords level_limit bytes (defect_of refusal)
+RefusesBatch bytes refusal = Stands BatchArrowRecords 0 bytes (defect_of refusal)
 
 -- the canonical spellings of a payload and of a batch
 abbrev pub payload_rows : PayloadIn → List Filled

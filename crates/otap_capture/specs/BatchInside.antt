@@ -3,7 +3,6 @@ use Rattle.std.specs.Prelude.{◌≡◌, ℕ, List, length}
 use Rattle.std.specs.List.{AllByRecursion}
 use Rattle.otlp_wire.specs.Fields.{fields_of}
 use Rattle.otlp_messages.specs.declared.messages.Message.TheVariants.{BatchArrowRecords, ArrowPayload}
-use Rattle.otlp_messages.specs.Limits.{level_limit}
 use Rattle.otlp_messages.specs.Defects.{IsFine}
 use Rattle.otlp_messages.specs.Rows.{only, parts_of}
 use Rattle.otap_capture.specs.declared.batch.Batch.TheInside.{Inside}
@@ -15,10 +14,10 @@ message_content b = batch_content b.bytes.now
 
 -- no defect stands in its bytes, and it knows its id and how many payloads there are
 pub record HoldsMessage (b : Inside) : Type 0 where
-  pub fine : IsFine BatchArrowRecords level_limit b.bytes.now
+  pub fine : IsFine BatchArrowRecords 0 b.bytes.now
   pub id : b.id ≡ (message_content b).id
   pub count : b.count ≡ length (message_content b).payloads
 
 -- no defect stands in the payloads of the bytes
 abbrev pub HasFinePayloads : List ℕ → Type 0
-HasFinePayloads bytes = AllByRecursion (IsFine ArrowPayload level_limit) (parts_of (only 2 (fields_of bytes)))
+HasFinePayloads bytes = AllByRecursion (IsFine ArrowPayload 0) (parts_of (only 2 (fields_of bytes)))

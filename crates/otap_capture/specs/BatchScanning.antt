@@ -4,7 +4,6 @@ use Rattle.otlp_wire.specs.Wire.{Entry, FieldValue, Bytes}
 use Rattle.otlp_messages.specs.declared.messages.Message.TheVariants.{BatchArrowRecords}
 use Rattle.otlp_messages.specs.declared.messages.Defect.{Defect}
 use Rattle.otlp_messages.specs.declared.messages.Defect.TheVariants as defects
-use Rattle.otlp_messages.specs.Limits.{level_limit}
 use Rattle.otlp_messages.specs.Table.{kind_of}
 use Rattle.otlp_messages.specs.Rows.{at, int64_in}
 use Rattle.otlp_messages.specs.Canon.{canon_row, bytes_row, signed_row}
@@ -35,7 +34,7 @@ pub record SaysMore (old new : Scan) (f : Entry) : Type 0 where
 
 -- a defect stands in the field, or the id occurs again
 abbrev pub FieldFaults : Bool → Entry → BatchRefusal → Type 0
-FieldFaults seen f refusal = ValueStands (kind_of BatchArrowRecords f.number) level_limit f.value (defect_of refusal) ⊎ ((refusal ≡ Repeated) × (seen ≡ true) × (f.number ≡ 1))
+FieldFaults seen f refusal = ValueStands (kind_of BatchArrowRecords f.number) 0 f.value (defect_of refusal) ⊎ ((refusal ≡ Repeated) × (seen ≡ true) × (f.number ≡ 1))
 
 -- the defects that can stand in a batch message
 abbrev pub IsOfBatch : Defect → Type 0

@@ -2,7 +2,6 @@
 use Rattle.std.specs.Prelude.{◌≡◌, ℕ, List, [], ◌∷◌, ℤ, pos, IsUtf8, FitsSigned}
 use Rattle.std.specs.Int.{w32, w64}
 use Rattle.otlp_messages.specs.declared.messages.Message.TheVariants.{BatchStatus}
-use Rattle.otlp_messages.specs.Limits.{level_limit}
 use Rattle.otlp_messages.specs.Defects.{Stands, IsFine}
 use Rattle.otlp_messages.specs.Rows.{said, int32_in, int64_in, bytes_in}
 use Rattle.otlp_messages.specs.Canon.{Filled, row, signed_row, bytes_row, canon}
@@ -27,13 +26,13 @@ status_in bytes = record {
   message = said 3 bytes_in [] bytes;
 }
 
--- the bytes are a status, which says this
+-- the bytes are a status, which says this; no value stands in it, so it has no levels of members
 abbrev pub ReadsStatus : List ℕ → StatusContent → Type 0
-ReadsStatus bytes status = IsFine BatchStatus level_limit bytes × (status ≡ status_in bytes)
+ReadsStatus bytes status = IsFine BatchStatus 0 bytes × (status ≡ status_in bytes)
 
 -- a defect stands in the bytes, read as a status
 abbrev pub RefusesStatus : List ℕ → BatchRefusal → Type 0
-RefusesStatus bytes refusal = Stands BatchStatus level_limit bytes (defect_of refusal)
+RefusesStatus bytes refusal = Stands BatchStatus 0 bytes (defect_of refusal)
 
 -- the canonical spelling of a status
 abbrev pub status_rows : StatusContent → List Filled

@@ -1,5 +1,6 @@
-//! Standard readers and writers as sources and sinks: the edge of what is proved. Nothing is known of
-//! the bytes that come and go here.
+//! Standard readers and writers as sources and sinks: the edge of what is proved. As a source or a sink they tell no
+//! content; where the reader or the writer inside tells its bytes, each call's clause `through` says that they are
+//! handed on.
 ghost use Rattle.std.specs.Prelude.{◌≡◌, None};
 ghost use Rattle.std.specs.Io.{ReadsAtMost, WritesAtMost};
 ghost use Rattle.std.specs.Io.KnownBytes.{Keeps, ReadConsumes, WriteAppends};
@@ -25,6 +26,7 @@ impl<R: Read + Drop> Model for ReadSource<R> {
 }
 
 impl<R: Read + Drop> ReadSource<R> {
+    /// Over this reader, without a fault so far.
     pub fn new(inner: R) -> ReadSource<R>
         ensures { result ≡ record { inner = inner; faults = 0 } }
     {
@@ -71,6 +73,7 @@ impl<W: Write + Drop> Model for WriteSink<W> {
 }
 
 impl<W: Write + Drop> WriteSink<W> {
+    /// Over this writer, without a fault so far.
     pub fn new(inner: W) -> WriteSink<W>
         ensures { result ≡ record { inner = inner; faults = 0 } }
     {

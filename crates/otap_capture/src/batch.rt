@@ -6,28 +6,27 @@ ghost use Rattle.std.specs.Iterator.{YieldsFirstBy, item_count};
 ghost use Rattle.otlp_wire.specs.Wire.{entry, value_of};
 ghost use Rattle.otlp_messages.specs.Table.{kind_of};
 ghost use Rattle.otlp_messages.specs.Defects.{IsFine};
-ghost use Rattle.otlp_messages.specs.Limits.{level_limit};
 ghost use Rattle.otlp_messages.specs.Fine.{FineValue};
 ghost use Rattle.otlp_messages.specs.Rows.{said, at, bytes_in, int32_in};
 ghost use Rattle.otap_capture.specs.Batch.{content_of, payload_in, batch_content, defect_of, ReadsBatch, RefusesBatch};
 ghost use Rattle.otap_capture.specs.BatchScanning.{Says, SaysMore, FieldFaults, IsOfBatch, numbered_part};
 
-use otlp_messages::{Defect, LEVELS, Message, check};
+use otlp_messages::{Defect, Message, check};
 use otlp_wire::{Field, Fields, Wire};
 use std::marker::Model;
 use thiserror::Error;
 
-/// Why a message is no batch message. Where several of these stand in it, any of them may be named.
+/// Why a message is no batch message, or no batch status. Where several of these stand in it, any of them may be named.
 #[derive(Clone, Copy, Debug, PartialEq, Eq, Error)]
 pub enum BatchRefusal {
-    /// A wire error, or a known field with another wire type, in the batch or in a payload.
-    #[error("the batch message is malformed")]
+    /// A wire error, or a known field with another wire type, in the message or in a payload.
+    #[error("the message is malformed")]
     BadMessage,
     /// A singular field occurs twice.
-    #[error("a field of the batch message occurs twice")]
+    #[error("a field of the message occurs twice")]
     Repeated,
-    /// A schema id is not UTF-8.
-    #[error("a schema id is not UTF-8")]
+    /// A text (a schema id, or the message of a status) is not UTF-8.
+    #[error("a text is not UTF-8")]
     BadUtf8,
 }
 
@@ -47,8 +46,11 @@ impl BatchRefusal {
 /// A payload: the schema id of its stream, its payload type, and the Arrow IPC messages of its record.
 #[derive(Clone, Copy, Debug, PartialEq, Eq)]
 pub struct Payload<'a> {
+    /// The name of the sub-stream that the record belongs to.
     pub schema_id: &'a str,
+    /// The number of the payload type, known or not.
     pub kind: i32,
+    /// The record: Arrow IPC messages, one after the other.
     pub bytes: &'a [u8],
 }
 
@@ -180,7 +182,7 @@ struct Scan {
 
 /// Looks at each field of a batch once.
 fn scan_fields(bytes: &[u8]) -> Result<Scan, BatchRefusal>
-    ensures fine { IfOk result (λ scan. IsFine Message.BatchArrowRecords level_limit bytes.now) }
+    ensures fine { IfOk result (λ scan. IsFine Message.BatchArrowRecords 0 bytes.now) }
     ensures says { IfOk result (Says (batch_content bytes.now)) }
     ensures refused { IfErr result (RefusesBatch bytes.now) }
 {
@@ -203,7 +205,7 @@ impl Scan {
     #[inline(always)]
     fn take(&mut self, field: &Field<'_>) -> Result<(), BatchRefusal>
         requires { self.old.count + 1 < 2 ^ 64 }
-        ensures fine { OnOk result (FineValue (kind_of Message.BatchArrowRecords field.now.number) level_limit (value_of field.now.value)) }
+        ensures fine { OnOk result (FineValue (kind_of Message.BatchArrowRecords field.now.number) 0 (value_of field.now.value)) }
         ensures says { OnOk result (SaysMore self.old self.new (entry field.now)) }
         ensures fault { IfErr result (FieldFaults self.old.seen (entry field.now)) }
     {
@@ -214,7 +216,7 @@ impl Scan {
                 self.id = id.cast_signed();
             }
             (2, Wire::Bytes(part)) => {
-                if let Err(defect) = check(Message::ArrowPayload, LEVELS, part) {
+                if let Err(defect) = check(Message::ArrowPayload, 0, part) {
                     return Err(refusal_of(defect));
                 }
                 self.count += 1;
@@ -228,7 +230,7 @@ impl Scan {
 
 /// What the fields of a payload say, in which no defect stands.
 fn payload_of(part: &[u8]) -> Payload<'_>
-    requires { IsFine Message.ArrowPayload level_limit part.now }
+    requires { IsFine Message.ArrowPayload 0 part.now }
     ensures { content_of result ≡ payload_in part.now }
 {
     let parts = parts_of(part);
@@ -301,8 +303,8 @@ fn parts_with<'a>(parts: Parts<'a>, field: Field<'a>) -> Parts<'a>
     }
 }
 
-/// The refusal that names the defect, one of those that can stand in a batch message.
-fn refusal_of(defect: Defect) -> BatchRefusal
+/// The refusal that names the defect, one of those that can stand in a batch message or a status.
+pub(crate) fn refusal_of(defect: Defect) -> BatchRefusal
     requires { IsOfBatch defect }
     ensures { defect_of result ≡ defect }
 {

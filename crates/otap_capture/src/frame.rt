@@ -41,15 +41,20 @@ pub enum Why {
 /// A place of a capture at which no frame stands, counted from 0, and the first reason why.
 #[derive(Clone, Copy, Debug, PartialEq, Eq)]
 pub struct Damage {
+    /// The place: how many bytes of the capture stand before it.
     pub at: u64,
+    /// The first reason.
     pub why: Why,
 }
 
 /// What comes next in a capture.
 #[derive(Clone, Copy, Debug, PartialEq, Eq)]
 pub enum Step {
+    /// A frame.
     Frame,
+    /// The capture ends well.
     End,
+    /// No frame stands at this place.
     Damage(Damage),
 }
 

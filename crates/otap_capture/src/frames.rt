@@ -11,7 +11,7 @@ use crate::outside::Source;
 use std::alloc::Global;
 use std::marker::Model;
 
-// How many bytes a read asks for.
+/// How many bytes a read asks for.
 pub(crate) const ROOM: usize = 1 << 16;
 
 /// The frames of a capture, as they come. It keeps the bytes of one frame and at most 65,536 bytes
@@ -19,11 +19,11 @@ pub(crate) const ROOM: usize = 1 << 16;
 #[derive(Drop)]
 pub struct Frames {
     bytes: Vec<u8>,
-    // How many bytes the frames handed out so far have.
+    /// How many bytes the frames handed out so far have.
     handed: u64,
-    // Where the bytes of the last frame begin, after its head.
+    /// Where the bytes of the last frame begin, after its head.
     begin: usize,
-    // Where it ends, and the bytes that are kept begin.
+    /// Where it ends, and the bytes that are kept begin.
     place: usize,
     last: Option<Flag>,
     complete: bool,
@@ -43,6 +43,7 @@ impl Model for Frames {
 }
 
 impl Frames {
+    /// The frames of a capture of which nothing is read yet.
     pub fn new(alloc: Global) -> Frames
         ensures { result ≡ record { handed = 0; kept = []; complete = false; frame = None; ended = None; held = 0 } }
     {

@@ -14,7 +14,7 @@ pub(crate) enum Flag {
 
 #[derive(Clone, Copy)]
 pub(crate) enum NextFrame {
-    // A frame with that flag and that number of bytes after its head.
+    /// A frame with that flag and that number of bytes after its head.
     Frame(Flag, usize),
     End,
     Nothing(Why),

@@ -39,6 +39,7 @@ impl Model for MemorySource {
 }
 
 impl MemorySource {
+    /// A source of these bytes, with the sizes of its pieces and the numbers of the calls that fail.
     pub fn new(bytes: Vec<u8>, pieces: Vec<u32>, failing: Vec<u64>) -> MemorySource
         requires { All (λ piece. 0 < piece) pieces.items }
         ensures { result ≡ record {
@@ -109,6 +110,7 @@ impl Model for MemorySink {
 }
 
 impl MemorySink {
+    /// An empty sink, with the numbers of the calls that fail.
     pub fn new(alloc: Global, failing: Vec<u64>) -> MemorySink
         ensures { result ≡ record {
           bytes = [];

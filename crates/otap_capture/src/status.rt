@@ -1,14 +1,10 @@
 //! A status: what a Collector replies to a batch message.
 
 ghost use Rattle.std.specs.Prelude.{◌≡◌, IfOk, IfErr};
-ghost use Rattle.otlp_messages.specs.declared.messages.Message.{Message};
-ghost use Rattle.otlp_messages.specs.Defects.{Stands};
-ghost use Rattle.otlp_messages.specs.Limits.{level_limit};
-ghost use Rattle.otap_capture.specs.Batch.{defect_of};
 ghost use Rattle.otap_capture.specs.Statuses.{status_content, canon_status, ReadsStatus, RefusesStatus};
 
-use crate::batch::BatchRefusal;
-use otlp_messages::{Backward, Defect, LEVELS, Message, bytes_of, check, int32_of, int64_of};
+use crate::batch::{BatchRefusal, refusal_of};
+use otlp_messages::{Backward, Message, bytes_of, check, int32_of, int64_of};
 use std::alloc::{AllocError, Global};
 
 /// A status: the id of the batch, the code (0 where it was accepted), and a message for a reader.
@@ -24,8 +20,8 @@ pub fn read_status(bytes: &[u8]) -> Result<Status<'_>, BatchRefusal>
     ensures read { IfOk result (λ status. ReadsStatus bytes.now (status_content status)) }
     ensures refused { IfErr result (RefusesStatus bytes.now) }
 {
-    if let Err(defect) = check(Message::BatchStatus, LEVELS, bytes) {
-        return Err(refusal_of(bytes, defect));
+    if let Err(defect) = check(Message::BatchStatus, 0, bytes) {
+        return Err(refusal_of(defect));
     }
     let Ok(message) = std::str::from_utf8(bytes_of(bytes, 3)) else {
         unreachable!()
@@ -47,17 +43,4 @@ pub fn write_status(alloc: Global, status: &Status<'_>) -> Result<Vec<u8>, Alloc
     to.put_signed_row(2, i64::from(code))?;
     to.put_signed_row(1, id)?;
     Ok(to.finish())
-}
-
-/// The refusal that names a defect of the bytes, read as a status.
-fn refusal_of(bytes: &[u8], defect: Defect) -> BatchRefusal
-    requires { Stands Message.BatchStatus level_limit bytes.now defect }
-    ensures { defect_of result ≡ defect }
-{
-    match defect {
-        Defect::BadMessage => BatchRefusal::BadMessage,
-        Defect::Repeated => BatchRefusal::Repeated,
-        Defect::BadUtf8 => BatchRefusal::BadUtf8,
-        Defect::BadLength | Defect::Unsupported | Defect::TooDeep => unreachable!(),
-    }
 }

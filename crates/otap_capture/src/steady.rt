@@ -24,6 +24,7 @@ impl Model for SteadySource {
 }
 
 impl SteadySource {
+    /// A source of these bytes.
     pub fn new(bytes: Vec<u8>) -> SteadySource
         ensures { result ≡ bytes.items }
     {
@@ -73,6 +74,7 @@ impl Model for SteadySink {
 }
 
 impl SteadySink {
+    /// A sink to which nothing is written.
     pub fn new(alloc: Global) -> SteadySink
         ensures { result ≡ record { bytes = []; passed = 0 } }
     {

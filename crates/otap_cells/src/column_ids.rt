@@ -20,6 +20,7 @@ use thiserror::Error;
 /// Why the ids of a column aren't given.
 #[derive(Debug, Drop, Error)]
 pub enum IdsRefusal {
+    /// Something is wrong with the ids.
     #[error("{0}")]
     Ids(IdFault),
     /// Memory ran out.

@@ -23,7 +23,7 @@ pub struct Attribute<'a> {
 }
 
 /// Whether the rows of a kind are attributes.
-pub fn has_attributes(kind: Kind) -> bool
+pub(crate) fn has_attributes(kind: Kind) -> bool
     ensures { result ≡ has_attributes kind }
 {
     match kind {

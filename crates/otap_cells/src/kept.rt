@@ -7,10 +7,10 @@ use crate::view::CellView;
 use std::alloc::{AllocError, Global};
 use std::marker::Model;
 
-// The most bytes for which there is room before they come.
+/// The most bytes for which there is room before they come.
 const MAX_ROOM: usize = 1 << 15;
 
-// A cell as a column keeps it; `Bytes` names a part of the column's bytes.
+/// A cell as a column keeps it; `Bytes` names a part of the column's bytes.
 #[derive(Clone, Copy, Debug)]
 pub enum KeptCell {
     Null,
@@ -20,7 +20,7 @@ pub enum KeptCell {
     Bytes { from: u32, len: u32 },
 }
 
-// The cells of one column, from the first row to the last one that was set.
+/// The cells of one column, from the first row to the last one that was set.
 #[derive(Debug, Drop)]
 pub struct Cells {
     slots: Vec<KeptCell>,

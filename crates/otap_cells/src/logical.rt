@@ -22,7 +22,7 @@ pub struct LogicalTable {
     alloc: Global,
     kind: Kind,
     rows: u64,
-    // For how many cells a column has room from its first one on.
+    /// For how many cells a column has room from its first one on.
     room: usize,
     columns: Vec<Cells>,
 }

@@ -14,24 +14,39 @@ pub enum Kind {
     Metrics,
     /// The points of gauges and sums.
     NumberPoints,
+    /// The points of summaries.
     SummaryPoints,
+    /// The points of histograms.
     HistPoints,
+    /// The attributes of the points of gauges and sums.
     NumberPointAttrs,
+    /// The attributes of the points of summaries.
     SummaryPointAttrs,
+    /// The attributes of the points of histograms.
     HistPointAttrs,
+    /// The exemplars of the points of gauges and sums.
     NumberExemplars,
+    /// The exemplars of the points of histograms.
     HistExemplars,
+    /// The attributes of number exemplars.
     NumberExemplarAttrs,
+    /// The attributes of histogram exemplars.
     HistExemplarAttrs,
     /// The main table of logs: the log records.
     Logs,
+    /// The attributes of log records.
     LogAttrs,
     /// The main table of traces.
     Spans,
+    /// The attributes of spans.
     SpanAttrs,
+    /// The events of spans.
     SpanEvents,
+    /// The links of spans.
     SpanLinks,
+    /// The attributes of events.
     EventAttrs,
+    /// The attributes of links.
     LinkAttrs,
 }
 

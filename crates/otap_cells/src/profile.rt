@@ -7,16 +7,25 @@ use crate::payload::Kind;
 /// What the cells of a column hold, and the Arrow type that stores them.
 #[derive(Clone, Copy, Debug, PartialEq, Eq)]
 pub enum Base {
+    /// An unsigned number of 8 bits.
     U8,
+    /// An unsigned number of 16 bits.
     U16,
+    /// An unsigned number of 32 bits.
     U32,
+    /// An unsigned number of 64 bits.
     U64,
+    /// A signed number of 32 bits.
     I32,
+    /// A signed number of 64 bits.
     I64,
     /// A double, as its 64 bits.
     Double,
+    /// A truth value.
     Bool,
+    /// A text.
     Utf8,
+    /// A byte string of any length.
     Binary,
     /// A trace id: 16 bytes.
     Fixed16,
@@ -90,7 +99,7 @@ impl Column {
     }
 }
 
-// What the cells hold, by the word of a line.
+/// What the cells hold, by the word of a line.
 macro_rules! base {
     (u8) => {
         Base::U8
@@ -145,7 +154,7 @@ macro_rules! base {
     };
 }
 
-// A column, by its line: the name, what its cells hold, and `d` where it is written as a dictionary, or the coding of its ids.
+/// A column, by its line: the name, what its cells hold, and `d` where it is written as a dictionary, or the coding of its ids.
 macro_rules! column {
     ($name:literal $base:ident) => {
         Column {
@@ -185,7 +194,7 @@ macro_rules! table {
     ($($name:literal $base:ident $($mark:ident)?;)*) => { &[$(column!($name $base $($mark)?)),*] };
 }
 
-// A main table: the row's own id, its resource and its scope, and then the lines of the signal.
+/// A main table: the row's own id, its resource and its scope, and then the lines of the signal.
 macro_rules! main_table {
     ($($line:tt)*) => {
         table![
@@ -248,7 +257,7 @@ static METRICS: &[Column] = main_table![
     "is_monotonic" bool;
 ];
 
-// The attributes of any parent, by what the parent's ids are.
+/// The attributes of any parent, by what the parent's ids are.
 macro_rules! attributes {
     ($id:ident) => {
         table![
@@ -265,10 +274,10 @@ macro_rules! attributes {
     };
 }
 
-// The attributes of resources, scopes, log records and spans.
+/// The attributes of resources, scopes, log records and spans.
 static ATTRS: &[Column] = attributes!(id);
 
-// The attributes of points, exemplars, events and links.
+/// The attributes of points, exemplars, events and links.
 static DEEP_ATTRS: &[Column] = attributes!(wide_id);
 
 static SPAN_EVENTS: &[Column] = table![
@@ -289,7 +298,7 @@ static SPAN_LINKS: &[Column] = table![
     "flags" u32;
 ];
 
-// Points of a metric: the point's own id, its metric and its times, and then the lines of the shape.
+/// Points of a metric: the point's own id, its metric and its times, and then the lines of the shape.
 macro_rules! points {
     ($($line:tt)*) => {
         table![

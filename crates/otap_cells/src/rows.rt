@@ -9,7 +9,7 @@ use crate::view::CellView;
 
 /// The rows of a table, wherever they are kept.
 pub trait Rows {
-    // The table that these rows are.
+    /// The table that these rows are.
     ghost table: { Self → Table };
 
     /// The kind whose columns the rows have.

@@ -1,5 +1,5 @@
 -- What is decided of elements of lists and of numbers.
-use Rattle.std.proofs.Common.{◌≡◌, ◌∙◌, ℕ, zero, suc, ◌<◌, ◌≤◌, nat_eq, false, List, [], ◌∷◌, Option, Some, None, refl, sym, ap, subst, arith, inl, inr, eq-eqb, ne_eqb}
+use Rattle.std.proofs.Common.{◌≡◌, ◌∙◌, ℕ, suc, ◌<◌, ◌≤◌, nat_eq, false, List, [], ◌∷◌, Option, Some, None, refl, sym, ap, subst, arith, inl, inr, eq-eqb, ne_eqb}
 use Rattle.std.specs.Prelude.{Contains, ◌⊎◌}
 use Rattle.std.proofs.lemmas.Bool.{cases_Bool, cases_eq, cases_lt, true≢false}
 use Rattle.std.proofs.lemmas.Option.{same_Some}

@@ -1,12 +1,16 @@
 -- The ids of tables, as they are known column by column.
-use Rattle.std.specs.Prelude.{◌≡◌, ℕ, ◌==◌, ◌&&◌, true, Bool, if◌then◌else◌, List, [], ◌∷◌, Option}
+use Rattle.std.specs.Prelude.{◌≡◌, ℕ, ◌==◌, ◌&&◌, true, Bool, if◌then◌else◌, Contains, List, [], ◌∷◌, Option}
+use Rattle.otlp_model.specs.declared.request.Signal.{Signal}
 use Rattle.otap_cells.specs.declared.payload.Kind.{Kind}
 use Rattle.otap_cells.specs.Columns.{is_id_at}
 use Rattle.otap_cells.specs.ColumnIds.{HasNullParent}
 use Rattle.otap_cells.specs.GivenIds.{HasIds}
+use Rattle.otap_cells.specs.Named.{table_named}
 use Rattle.otap_cells.specs.Payload.{is_kind}
 use Rattle.otap_cells.specs.Tables.{Table}
 use Rattle.otap_checks.specs.declared.known.ColumnIds.{ColumnIds}
+use Rattle.otap_checks.specs.declared.links.TableLink.{TableLink}
+use Rattle.otap_checks.specs.Links.{links_of}
 
 -- whether these are the ids of the column
 abbrev pub is_of_column : Kind → ℕ → ColumnIds → Bool
@@ -25,3 +29,7 @@ pub record IsKnown (t : Table) (column : ℕ) (ids : List (Option ℕ)) : Type 0
 -- THE IDS of each column of a table are known
 abbrev pub Knows : Table → Kind → List ColumnIds → Type 0
 Knows t kind known = (column : ℕ) → is_id_at kind column ≡ true → IsKnown t column (ids_named kind column known)
+
+-- and those of each table of a signal
+abbrev pub KnowsAll : Signal → List Table → List ColumnIds → Type 0
+KnowsAll signal tables known = (link : TableLink) → Contains (links_of signal) link → Knows (table_named link.kind tables) link.kind known

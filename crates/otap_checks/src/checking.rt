@@ -1,5 +1,5 @@
 //! What is wrong with the ids of a batch.
-ghost use Rattle.std.specs.Prelude.{◌≡◌, [], true, false, All, Contains, IfErr, IfOk, IfSome, OnOk, MatchOption};
+ghost use Rattle.std.specs.Prelude.{◌≡◌, [], true, false, All, IfErr, IfOk, IfSome, OnOk, MatchOption};
 ghost use Rattle.otap_cells.specs.declared.payload.Kind.{Kind};
 ghost use Rattle.otap_cells.specs.Named.{table_named};
 ghost use Rattle.otap_cells.specs.Sets.{IsSet, tables_in};
@@ -9,7 +9,7 @@ ghost use Rattle.otap_checks.specs.declared.links.TableLink.{TableLink};
 ghost use Rattle.otap_checks.specs.IdDefects.{IdDefect};
 ghost use Rattle.otap_checks.specs.Inside.{IsLost, KnownFault, KnownFaults, KnownWrong, OwnTwice};
 ghost use Rattle.otap_checks.specs.Refusing.{refused_as, RefusesCheck};
-ghost use Rattle.otap_checks.specs.Known.{Knows};
+ghost use Rattle.otap_checks.specs.Known.{KnowsAll};
 ghost use Rattle.otap_checks.specs.Links.{links_of};
 
 use crate::known::{KnownIds, read_tables};
@@ -42,8 +42,7 @@ pub fn known_ids<R: Rows>(
 ) -> Result<KnownIds, CheckRefusal>
     requires { IsSet R.table set.now.tables.items }
     ensures clean { OnOk result ((kind : Kind) (why : RowRefusal) → IdDefect signal (tables_in R.table set.now.tables.items) kind why → ⊥) }
-    ensures known { IfOk result (λ known. (link : TableLink) → Contains (links_of signal) link
-        → Knows (table_named link.kind (tables_in R.table set.now.tables.items)) link.kind known.columns.items) }
+    ensures known { IfOk result (λ known. KnowsAll signal (tables_in R.table set.now.tables.items) known.columns.items) }
     ensures err { IfErr result (RefusesCheck (IdDefect signal (tables_in R.table set.now.tables.items))) }
 {
     let links = links_of(signal);

@@ -27,7 +27,7 @@ pub struct TableLink {
     pub parents: Option<Parents>,
 }
 
-// Items have ids.
+/// Items have ids.
 macro_rules! items {
     ($kind:ident) => {
         TableLink {
@@ -38,7 +38,7 @@ macro_rules! items {
     };
 }
 
-// Parts have ids and parents.
+/// Parts have ids and parents.
 macro_rules! parts {
     ($kind:ident of $of:ident $at:literal) => {
         TableLink {
@@ -53,7 +53,7 @@ macro_rules! parts {
     };
 }
 
-// Attributes have parents.
+/// Attributes have parents.
 macro_rules! attributes {
     ($kind:ident of $of:ident $at:literal) => {
         TableLink {

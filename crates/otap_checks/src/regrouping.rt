@@ -48,6 +48,7 @@ impl From<AllocError> for RegroupRefusal {
 #[derive(Debug, Drop)]
 pub struct Grouped<I> {
     pub groups: Items<ResourceGroup<I>>,
+    /// What the request weighs.
     pub tree: u64,
 }
 

@@ -10,13 +10,13 @@ use std::env::Env;
 use std::io::{BufWriter, ErrorKind};
 use std::process::ExitCode;
 
-/// What standard output and error hold before they write it.
+/// How many bytes are buffered for standard output, and for standard error.
 const BUFFER: usize = 1 << 16;
 
 /// The status where there is no memory to begin with.
 const NO_MEMORY: u8 = 6;
 
-/// How much room is asked for and given back at first.
+/// How many bytes are asked for and given back at the start, so that freed memory is kept.
 const FIRST_ROOM: usize = 1 << 23;
 
 fn main(rt: HostRuntime) -> ExitCode {

@@ -7,7 +7,7 @@ use Rattle.arrow_buffers.specs.declared.builder.Buffers.{Buffers}
 use Rattle.arrow_buffers.specs.declared.width.Width.{Width}
 use Rattle.arrow_buffers.specs.declared.width.Width.TheVariants as width
 use Rattle.arrow_ipc.specs.Batches.{BatchIn}
-use Rattle.arrow_ipc.specs.Written.{padded, body_size, most_of}
+use Rattle.arrow_ipc.specs.Written.{padded, body_size, most_of_batch}
 use Rattle.arrow_arrays.specs.Written.{PartIn, struct_part, elements_part}
 use Rattle.otap_columns.specs.BuiltCells.{HasRoom, GrowsBy, batch_parts, with_part, with_parts}
 
@@ -108,5 +108,5 @@ lengths [] = omega arith
 lengths (part ∷ buffers) =
     omega (arith, sum_by-cons (λ (part : List ℕ). length part) part buffers, sum_by-cons (λ (part : List ℕ). padded (length part)) part buffers, lengths buffers)
 
-pub message_short : (n most rows : ℕ) (batch : BatchIn) → GrowsBy n most (record { rows = rows; nodes = []; buffers = [] }) batch → most_of batch ≤ most + 128 * n + 2048
+pub message_short : (n most rows : ℕ) (batch : BatchIn) → GrowsBy n most (record { rows = rows; nodes = []; buffers = [] }) batch → most_of_batch batch ≤ most + 128 * n + 2048
 message_short n most rows batch g = omega (arith, lengths batch.buffers, g.nodes, g.buffers, g.body)

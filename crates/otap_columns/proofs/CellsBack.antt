@@ -12,7 +12,7 @@ use Rattle.otap_cells.specs.Cells.{Cell, null, number, bits, flag, bytes, IsNumb
 use Rattle.otap_columns.specs.declared.forms.ColumnForm.{ColumnForm}
 use Rattle.otap_columns.specs.declared.forms.ColumnForm.TheVariants as form
 use Rattle.otap_columns.specs.Known.{unsigned, signed, stored, stored_cell}
-use Rattle.otap_columns.specs.Observed.{id_width, number_bytes, bytes_for}
+use Rattle.otap_columns.specs.Observed.{id_width, bytes_of_number, bytes_for}
 use Rattle.otap_columns.specs.BuiltCells.{id_bits, FitsForm}
 use Rattle.arrow_buffers.proofs.Placing.{read-back}
 
@@ -45,7 +45,7 @@ id_back form.Plain n low = unsigned_back 2 n (omega arith) (omega arith)
 id_back form.Dict8 n low = unsigned_back 2 n (omega arith) (omega arith)
 id_back form.Dict16 n low = unsigned_back 2 n (omega arith) (omega arith)
 
-number_back : (holds : Base) (form : ColumnForm) (z : ℤ) → IsNumberOf holds z → FitsForm holds form (number z) → stored holds (number_bytes holds form z) ≡ number z
+number_back : (holds : Base) (form : ColumnForm) (z : ℤ) → IsNumberOf holds z → FitsForm holds form (number z) → stored holds (bytes_of_number holds form z) ≡ number z
 number_back base.U8 form (pos n) is fits = ap (λ (k : ℕ). number (pos k)) (unsigned_back 1 n (omega arith) (omega arith))
 number_back base.U16 form (pos n) is fits = ap (λ (k : ℕ). number (pos k)) (unsigned_back 2 n (omega arith) (omega arith))
 number_back base.U32 form (pos n) is fits = ap (λ (k : ℕ). number (pos k)) (unsigned_back 4 n (omega arith) (omega arith))

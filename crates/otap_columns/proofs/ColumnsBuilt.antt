@@ -17,7 +17,7 @@ use Rattle.otap_cells.specs.Columns.{base_at}
 use Rattle.otap_cells.specs.Tables.{Table, cell_in, column_in}
 use Rattle.otap_columns.specs.declared.forms.ColumnForm.{ColumnForm}
 use Rattle.otap_columns.specs.declared.forms.ColumnForm.TheVariants as form
-use Rattle.otap_columns.specs.Observed.{id_width, number_bytes, bytes_for}
+use Rattle.otap_columns.specs.Observed.{id_width, bytes_of_number, bytes_for}
 use Rattle.otap_columns.specs.Schemas.{is_dictionary}
 use Rattle.otap_columns.specs.WrittenCells.{place_among, stored_for, stored_column}
 use Rattle.otap_columns.specs.BuiltCells.{index_size, plain_width}
@@ -25,7 +25,7 @@ use Rattle.otap_columns.proofs.CellsBack.{length-little_bytes}
 
 -- ---- each cell has its column's width
 
-number_width : (holds : Base) (f : ColumnForm) (z : ℤ) → IsNumberOf holds z → HasWidth (plain_width holds f) (number_bytes holds f z)
+number_width : (holds : Base) (f : ColumnForm) (z : ℤ) → IsNumberOf holds z → HasWidth (plain_width holds f) (bytes_of_number holds f z)
 number_width base.U8 f z is = length-little_bytes 1 (unsigned_abs z)
 number_width base.U16 f z is = length-little_bytes 2 (unsigned_abs z)
 number_width base.U32 f z is = length-little_bytes 4 (unsigned_abs z)
@@ -88,7 +88,7 @@ flag_width false = (refl, omega arith)
 
 pub plain_fits : (holds : Base) (f : ColumnForm) (cell : Cell) → IsCellOf holds cell → ForSome (bytes_for holds f cell) (HasWidth (plain_width holds f))
 plain_fits holds f null is = λ x some. absurd (cc)
-plain_fits holds f (number z) is = λ x some. let same : number_bytes holds f z ≡ x = cc in subst (HasWidth (plain_width holds f)) same (number_width holds f z is)
+plain_fits holds f (number z) is = λ x some. let same : bytes_of_number holds f z ≡ x = cc in subst (HasWidth (plain_width holds f)) same (number_width holds f z is)
 plain_fits holds f (bits n) is = λ x some. let same : little_bytes 8 n ≡ x = cc in subst (HasWidth (plain_width holds f)) same (bits_width holds f n is)
 plain_fits holds f (flag b) is = λ x some.
     let same : (if b then 1 else 0) ∷ [] ≡ x = cc in

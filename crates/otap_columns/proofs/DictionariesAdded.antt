@@ -14,7 +14,7 @@ use Rattle.arrow_buffers.specs.Bits.{validity_of}
 use Rattle.arrow_buffers.specs.Columns.{HasWidth, cell_len, cells_len, cells_of, HasNoFault, validity_len, offsets_len, values_len}
 use Rattle.arrow_ipc.specs.declared.messages.IpcMessage.TheVariants.{Dictionary}
 use Rattle.arrow_ipc.specs.Batches.{BatchIn}
-use Rattle.arrow_ipc.specs.Written.{Appends, most_of, padded}
+use Rattle.arrow_ipc.specs.Written.{Appends, most_of_batch, padded}
 use Rattle.arrow_arrays.specs.Cells.{own_cell, place_of_values, rows_in}
 use Rattle.arrow_arrays.specs.Columns.{stored_width, StandAt, HoldsColumn, AreTexts}
 use Rattle.arrow_arrays.specs.Layouts.{layout_of_values}
@@ -181,7 +181,7 @@ pub dictionary_room : (rows : ℕ) (b : Buffers) → sizes b ≤ 1441850 → Has
 dictionary_room rows b short = record { nodes = omega arith; buffers = omega arith; body = omega arith }
 
 -- and so is its message
-pub dictionary_message : (w : Width) (b : Buffers) → sizes b ≤ 1441850 → most_of (with_parts (record { rows = b.rows; nodes = []; buffers = [] }) (batch_parts w b)) ≤ head_limit
+pub dictionary_message : (w : Width) (b : Buffers) → sizes b ≤ 1441850 → most_of_batch (with_parts (record { rows = b.rows; nodes = []; buffers = [] }) (batch_parts w b)) ≤ head_limit
 dictionary_message w b short =
     omega (
       arith,
@@ -191,7 +191,7 @@ dictionary_message w b short =
 -- ---- the call
 
 pub adds : {E : Type 0} (type : ArrowType) (id : ℤ) (passed : ℤ) (delta : Bool) (values : List (List ℕ)) (old new : List ℕ) (batch : BatchIn) (r : Result (Unit {0}) E) → passed ≡ id → HoldsValues type values batch
-    → OnOk r (Appends (Dictionary passed delta batch) (most_of batch) old new) → OnOk r (AddsDictionary type id delta values old new)
+    → OnOk r (Appends (Dictionary passed delta batch) (most_of_batch batch) old new) → OnOk r (AddsDictionary type id delta values old new)
 adds type id passed delta values old new batch (Ok x) same holds appends =
-    record { batch = batch; appends = subst (λ (z : ℤ). Appends (Dictionary z delta batch) (most_of batch) old new) same appends; holds = holds }
+    record { batch = batch; appends = subst (λ (z : ℤ). Appends (Dictionary z delta batch) (most_of_batch batch) old new) same appends; holds = holds }
 adds type id passed delta values old new batch (Err e) same holds appends = tt

@@ -6,6 +6,7 @@ use Rattle.std.specs.Option.{is_none}
 use Rattle.std.specs.Str.{is_utf8, IsAscii}
 use Rattle.std.proofs.lemmas.Bool.{and_parts, ltb-true}
 use Rattle.std.proofs.lemmas.Str.{IsUtf8-from_ascii, is_utf8-from_IsUtf8}
+use Rattle.arrow_schema.specs.Limits.{max_fields}
 use Rattle.arrow_schema.specs.Types.{takes_dictionary}
 use Rattle.arrow_schema.specs.Trees.{sum_of}
 use Rattle.arrow_schema.specs.Branches.{are_apart, items_in}
@@ -92,7 +93,7 @@ may_be_dictionary c = not c.dictionary || takes_dictionary (arrow_type_in c.base
 pub record IsGrouped (columns : List ColumnSpec) : Type 0 where
   pub apart : are_apart (map group_name (grouped columns)) ≡ true
   pub each : list_all (is_group columns) (grouped columns) ≡ true
-  pub few : nat_le (sum_of (map (group_size columns) (grouped columns))) 128 ≡ true
+  pub few : nat_le (sum_of (map (group_size columns) (grouped columns))) max_fields ≡ true
   pub root : place_of_path columns [] ≡ None
   pub all : all_below (has_column (grouped columns)) (length columns) ≡ true
   pub dictionaries : all_below (λ (column : ℕ). may_be_dictionary (spec_at columns column)) (length columns) ≡ true

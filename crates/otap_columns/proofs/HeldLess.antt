@@ -16,7 +16,7 @@ use Rattle.otap_dicts.specs.Limits.{value_limit, byte_limit}
 use Rattle.otap_columns.specs.Dictionaries.{DictionaryIn, is_for, with_dictionary, with_dictionaries, empty_dictionaries, value_weight, dictionary_weight, held_weight}
 use Rattle.otap_columns.specs.Groups.{Member, Group, split, joined_to, group_before, grouped_from, grouped}
 use Rattle.otap_columns.specs.Groups as group
-use Rattle.otap_columns.specs.Schemas.{Forms, FormsFit, ArraySlot, Struct, Column, Items, IsArraySlot, is_there, item_in, members_there, items_after, schema_for}
+use Rattle.otap_columns.specs.Schemas.{Forms, FormsFit, ArraySlot, Struct, Column, Items, IsArraySlot, is_present, item_in, members_there, items_after, schema_for}
 use Rattle.otap_columns.specs.Schemas.{slots_of_member, slots_under, slots_in, slots_for, slot_field}
 use Rattle.otap_columns.proofs.HeadsTaken.{all_some}
 use Rattle.otap_columns.proofs.Located.{count_is, slot_at}
@@ -108,9 +108,9 @@ module _ (kind : Kind) (forms : Forms) where
 
   there_less : (ms : List Member) → length (members_there forms ms) ≤ length ms
   there_less [] = omega arith
-  there_less (m ∷ ms) = by (is_there (forms m.column)) refl (there_less ms)
+  there_less (m ∷ ms) = by (is_present (forms m.column)) refl (there_less ms)
     where
-      by : (b : Bool) → is_there (forms m.column) ≡ b → length (members_there forms ms) ≤ length ms → length (members_there forms (m ∷ ms)) ≤ length (m ∷ ms)
+      by : (b : Bool) → is_present (forms m.column) ≡ b → length (members_there forms ms) ≤ length ms → length (members_there forms (m ∷ ms)) ≤ length (m ∷ ms)
       by true is rest = rw is (omega arith)
       by false is rest = rw is (omega arith)
 

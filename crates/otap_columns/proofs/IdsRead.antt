@@ -24,7 +24,7 @@ use Rattle.otap_columns.specs.declared.forms.ColumnForm.{ColumnForm}
 use Rattle.otap_columns.specs.declared.forms.ColumnForm.TheVariants as form
 use Rattle.otap_columns.specs.Known.{greatest_of, greatest_if, column_greatest, array_of_column, array_of}
 use Rattle.otap_columns.specs.Substreams.{SubstreamIn, table_of_batch}
-use Rattle.otap_columns.specs.Schemas.{IsFound, is_there, id_type, arrow_type_in, schema_for}
+use Rattle.otap_columns.specs.Schemas.{IsFound, is_present, id_type, arrow_type_in, schema_for}
 use Rattle.otap_columns.specs.Observed.{has_wide_id, is_above, form_at}
 use Rattle.otap_columns.proofs.Located.{column_found, column_absent}
 use Rattle.otap_columns.proofs.Tabled.{table_kind, table_greatest}
@@ -84,7 +84,7 @@ module _ (kind : Kind) (before : List Table) (t : Table) (column : ℕ) (id : is
   bounded : (ids : List (Option ℕ)) → Ids (coding_at kind column) greatest_wide (continues_in t) (stored_in t column) ids
       → Ids (coding_at kind column) (column_greatest kind (arrays_of (schema_for kind (form_at kind (before ++ t ∷ [])))) column) (continues_in t) (stored_in t column) ids
   unfolding array_of
-  bounded ids are = by (cases_Bool (is_there (form_at kind (before ++ t ∷ []) column)))
+  bounded ids are = by (cases_Bool (is_present (form_at kind (before ++ t ∷ []) column)))
     where
       by_form : (form_at kind (before ++ t ∷ []) column ≡ form.Wide) ⊎ ((form_at kind (before ++ t ∷ []) column ≡ form.Plain) × (list_any (has_wide_id kind column) (before ++ t ∷ []) ≡ false))
           → AreUpTo ids (greatest_of (id_type (form_at kind (before ++ t ∷ []) column)))
@@ -92,7 +92,7 @@ module _ (kind : Kind) (before : List Table) (t : Table) (column : ℕ) (id : is
       by_form (inr (plain, none)) =
           subst (λ (f : ColumnForm). AreUpTo ids (greatest_of (id_type f))) (sym plain) (narrowed (coding_at kind column) greatest_wide 0 (continues_in t) (stored_in t column) ids are (none_above none))
 
-      by : (is_there (form_at kind (before ++ t ∷ []) column) ≡ true) ⊎ (is_there (form_at kind (before ++ t ∷ []) column) ≡ false)
+      by : (is_present (form_at kind (before ++ t ∷ []) column) ≡ true) ⊎ (is_present (form_at kind (before ++ t ∷ []) column) ≡ false)
           → AreUpTo ids (column_greatest kind (arrays_of (schema_for kind (form_at kind (before ++ t ∷ [])))) column)
       by (inl here) =
           let f : IsFound kind (form_at kind (before ++ t ∷ [])) column = column_found kind (form_at kind (before ++ t ∷ [])) (forms_fit kind (before ++ t ∷ [])) column (id_within kind column id) here in

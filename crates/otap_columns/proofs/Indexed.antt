@@ -92,7 +92,8 @@ filled_room f places n =
     let sum : cells_len (map (index_of f) places ++ replicate n None) ≡ cells_len (map (index_of f) places) + cells_len (replicate n None) = sum_by-append cell_len (map (index_of f) places) (replicate n None) in
     omega (arith, ap cells_len (filled_indexes f places n), sum)
 
-module _ (holds : Base) (f : ColumnForm) (values : List (List ℕ)) (t : Table) (column : ℕ) (places : List (Option ℕ)) (is : filled_up (length t.rows) places ≡ places_of_cells holds f values (column_in t.rows column)) where
+module _ (holds : Base) (f : ColumnForm) (values : List (List ℕ)) (t : Table) (column : ℕ) (places : List (Option ℕ))
+    (is : filled_up (length t.rows) places ≡ places_of_cells holds f values (column_in t.rows column)) where
   pub filled_few : length places ≤ length t.rows
   filled_few =
       let all : length (filled_up (length t.rows) places) ≡ length t.rows =

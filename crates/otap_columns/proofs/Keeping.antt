@@ -3,6 +3,7 @@ use Rattle.std.proofs.Common.{◌≡◌, ℕ, ◌<◌, ◌≤◌, true, false, L
 use Rattle.std.specs.Prelude.{ℤ, pos, negsuc, not, bytes_eq}
 use Rattle.std.specs.List.{list_all, flat_map}
 use Rattle.std.proofs.lemmas.Bool.{cases_Bool, and_parts, and_from, eqb-true, leb-true, false≢true}
+use Rattle.arrow_schema.specs.Limits.{max_fields}
 use Rattle.arrow_schema.specs.declared.spec.ArrowType.{ArrowType}
 use Rattle.arrow_schema.specs.declared.spec.ArrowType.TheVariants as arrow
 use Rattle.arrow_schema.specs.Types.{is_list, takes_dictionary}
@@ -20,7 +21,7 @@ use Rattle.otap_columns.specs.declared.forms.ColumnForm.TheVariants as form
 use Rattle.otap_columns.specs.Known.{is_column}
 use Rattle.otap_columns.specs.Groups.{Member, Group, grouped}
 use Rattle.otap_columns.specs.Groups as group
-use Rattle.otap_columns.specs.Schemas.{Forms, is_there, fits_form, FormsFit, id_type, arrow_type_in, item_in, dict_for, leaf_in, members_there, branches_under, branches_in, branches_for, schema_for}
+use Rattle.otap_columns.specs.Schemas.{Forms, is_present, fits_form, FormsFit, id_type, arrow_type_in, item_in, dict_for, leaf_in, members_there, branches_under, branches_in, branches_for, schema_for}
 use Rattle.otap_columns.proofs.Finding.{place_below}
 use Rattle.otap_columns.proofs.Grouping.{under_tests, ascii_text, is_ascii, is_member, is_group, group_name, member_size, group_size, may_be_dictionary, kinds_grouped}
 
@@ -159,7 +160,7 @@ module _ (kind : Kind) (forms : Forms) (fit : FormsFit kind forms) where
   members_leaves above (m ∷ members) all =
       let parts = and_parts (is_member (columns_of kind) above m) (list_all (is_member (columns_of kind) above) members) all in
       let rest = members_leaves above members parts.1 in
-      elim (cases_Bool (is_there (forms m.column))) [
+      elim (cases_Bool (is_present (forms m.column))) [
         | inl there ↦ rw there (member_leaf above m parts.0, rest)
         | inr gone ↦ rw gone rest
       ]
@@ -170,7 +171,7 @@ module _ (kind : Kind) (forms : Forms) (fit : FormsFit kind forms) where
   leaves_lack own (m ∷ members) is =
       let parts = and_parts (not (bytes_eq own m.name)) (lacks own (map (λ (m : Member). m.name) members)) is in
       let rest = leaves_lack own members parts.1 in
-      elim (cases_Bool (is_there (forms m.column))) [
+      elim (cases_Bool (is_present (forms m.column))) [
         | inl there ↦ rw there (and_from (not (bytes_eq own m.name)) (lacks own (map (λ (l : Leaf). l.name) (leaves_of members))) parts.0 rest)
         | inr gone ↦ rw gone rest
       ]
@@ -181,7 +182,7 @@ module _ (kind : Kind) (forms : Forms) (fit : FormsFit kind forms) where
   leaves_apart (m ∷ members) is =
       let parts = and_parts (lacks m.name (map (λ (m : Member). m.name) members)) (are_apart (map (λ (m : Member). m.name) members)) is in
       let rest = leaves_apart members parts.1 in
-      elim (cases_Bool (is_there (forms m.column))) [
+      elim (cases_Bool (is_present (forms m.column))) [
         | inl there ↦
             rw there (and_from (lacks m.name (map (λ (l : Leaf). l.name) (leaves_of members))) (are_apart (map (λ (l : Leaf). l.name) (leaves_of members))) (leaves_lack m.name members parts.0) rest)
         | inr gone ↦ rw gone rest
@@ -192,7 +193,7 @@ module _ (kind : Kind) (forms : Forms) (fit : FormsFit kind forms) where
   leaves_few [] = omega arith
   leaves_few (m ∷ members) =
       let rest : sum_of (map leaf_size (leaves_of members)) ≤ sum_of (map (member_size (columns_of kind)) members) = leaves_few members in
-      elim (cases_Bool (is_there (forms m.column))) [
+      elim (cases_Bool (is_present (forms m.column))) [
         | inl there ↦ rw there (omega (arith, rest))
         | inr gone ↦ rw gone (omega (arith, rest))
       ]
@@ -213,7 +214,7 @@ module _ (kind : Kind) (forms : Forms) (fit : FormsFit kind forms) where
   group_kept : (g : Group) → is_group (columns_of kind) g ≡ true → IsKept g (branches_in kind forms g)
   unfolding leaves_of
   group_kept (group.Alone m) is =
-      elim (cases_Bool (is_there (forms m.column))) [
+      elim (cases_Bool (is_present (forms m.column))) [
         | inl there ↦ stays (One (leaf_in kind forms m)) (rw there refl) refl (omega arith) (member_leaf [] m is)
         | inr none ↦ gone (rw none refl)
       ]
@@ -284,7 +285,7 @@ module _ (kind : Kind) (forms : Forms) (fit : FormsFit kind forms) where
   schema_readable =
       let g = kinds_grouped kind in
       let groups = grouped (columns_of kind) in
-      let few : sum_of (map (group_size (columns_of kind)) groups) ≤ 128 = leb-true (sum_of (map (group_size (columns_of kind)) groups)) 128 g.few in
+      let few : sum_of (map (group_size (columns_of kind)) groups) ≤ max_fields = leb-true (sum_of (map (group_size (columns_of kind)) groups)) max_fields g.few in
       branches_readable types (kept_of groups) (record {
         apart = kept_apart groups g.each g.apart;
         each = kept_each groups g.each;

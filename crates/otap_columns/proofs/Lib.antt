@@ -53,4 +53,3 @@ pub mod ValuesKept
 pub mod StepHeld
 pub mod StepWritten
 pub mod StateMade
-pub mod WritableTables

@@ -32,7 +32,7 @@ use Rattle.otap_columns.specs.declared.forms.ColumnForm.TheVariants as form
 use Rattle.otap_columns.specs.Known.{is_column, known_column, known_columns, place_in, place_at, elements_at, stores, fits_encoding, fits_as, fits_column, fits_at, columns_fit}
 use Rattle.otap_columns.specs.Groups.{Member, Group, grouped}
 use Rattle.otap_columns.specs.Groups as group
-use Rattle.otap_columns.specs.Schemas.{Forms, is_there, FormsFit, id_type, arrow_type_in, item_in, dict_for, members_there, schema_for, ArraySlot, Struct, Column, Items, items_after, slots_of_member}
+use Rattle.otap_columns.specs.Schemas.{Forms, is_present, FormsFit, id_type, arrow_type_in, item_in, dict_for, members_there, schema_for, ArraySlot, Struct, Column, Items, items_after, slots_of_member}
 use Rattle.otap_columns.specs.Schemas.{slots_under, slots_in, slots_for, item_type, slot_field, slot_column, IsArraySlot, IsFound}
 use Rattle.otap_columns.proofs.Finding.{PassesAt, passes_at}
 use Rattle.otap_columns.proofs.Grouping.{members_of, is_of, has_column, kinds_grouped}
@@ -112,23 +112,23 @@ module _ (kind : Kind) (forms : Forms) where
   any_one column m (Some type) rest = refl
 
   any_members : (column : ℕ) (members : List Member)
-      → list_any (is_column column) (map slot_column (flat_map (slots_of_member kind) (members_there forms members))) ≡ (is_there (forms column) && list_any (is_of column) members)
-  any_members column [] = and_none (is_there (forms column))
+      → list_any (is_column column) (map slot_column (flat_map (slots_of_member kind) (members_there forms members))) ≡ (is_present (forms column) && list_any (is_of column) members)
+  any_members column [] = and_none (is_present (forms column))
   any_members column (m ∷ members) =
       let rest = any_members column members in
       let later = flat_map (slots_of_member kind) (members_there forms members) in
-      elim (cases_Bool (is_there (forms m.column))) [
+      elim (cases_Bool (is_present (forms m.column))) [
         | inl there ↦
             elim (cases_Bool (is_of column m)) [
               | inl same ↦
-                  let own : is_there (forms column) ≡ true = subst (λ (c : ℕ). is_there (forms c) ≡ true) (eqb-true m.column column same) there in
+                  let own : is_present (forms column) ≡ true = subst (λ (c : ℕ). is_present (forms c) ≡ true) (eqb-true m.column column same) there in
                   rw there (any_one column m (item_in (column_at kind m.column).base) later ∙ rw (same, own) refl)
               | inr other ↦ rw there (any_one column m (item_in (column_at kind m.column).base) later ∙ rw other rest)
             ]
         | inr gone ↦
             elim (cases_Bool (is_of column m)) [
               | inl same ↦
-                  let own : is_there (forms column) ≡ false = subst (λ (c : ℕ). is_there (forms c) ≡ false) (eqb-true m.column column same) gone in
+                  let own : is_present (forms column) ≡ false = subst (λ (c : ℕ). is_present (forms c) ≡ false) (eqb-true m.column column same) gone in
                   rw gone (rest ∙ rw own refl)
               | inr other ↦ rw gone (rest ∙ rw other refl)
             ]
@@ -139,19 +139,19 @@ module _ (kind : Kind) (forms : Forms) where
   any_under column struct [] = refl
   any_under column struct (m ∷ there) = refl
 
-  any_group : (column : ℕ) (g : Group) → list_any (is_column column) (map slot_column (slots_in kind forms g)) ≡ (is_there (forms column) && list_any (is_of column) (members_of g))
+  any_group : (column : ℕ) (g : Group) → list_any (is_column column) (map slot_column (slots_in kind forms g)) ≡ (is_present (forms column) && list_any (is_of column) (members_of g))
   any_group column (group.Alone m) = any_members column (m ∷ [])
   any_group column (group.Under struct members) = any_under column struct (members_there forms members) ∙ any_members column members
 
   any_groups : (column : ℕ) (groups : List Group)
-      → list_any (is_column column) (map slot_column (flat_map (slots_in kind forms) groups)) ≡ (is_there (forms column) && has_column groups column)
-  any_groups column [] = and_none (is_there (forms column))
+      → list_any (is_column column) (map slot_column (flat_map (slots_in kind forms) groups)) ≡ (is_present (forms column) && has_column groups column)
+  any_groups column [] = and_none (is_present (forms column))
   any_groups column (g ∷ groups) =
       let later = flat_map (slots_in kind forms) groups in
       ap (list_any (is_column column)) (map-append slot_column (slots_in kind forms g) later)
       ∙ list_any-append (is_column column) (map slot_column (slots_in kind forms g)) (map slot_column later)
       ∙ (λ i. any_group column g i || any_groups column groups i)
-      ∙ and_or (is_there (forms column)) (list_any (is_of column) (members_of g)) (has_column groups column)
+      ∙ and_or (is_present (forms column)) (list_any (is_of column) (members_of g)) (has_column groups column)
 
   -- ---- elements come after their lists
 
@@ -287,17 +287,17 @@ module _ (kind : Kind) (forms : Forms) where
 
     -- ---- each column that is there is found, and no other
 
-    any_column : (column : ℕ) → list_any (is_column column) (known_columns kind arrays) ≡ (is_there (forms column) && has_column (grouped (columns_of kind)) column)
+    any_column : (column : ℕ) → list_any (is_column column) (known_columns kind arrays) ≡ (is_present (forms column) && has_column (grouped (columns_of kind)) column)
     unfolding slots_for
     any_column column = ap (list_any (is_column column)) known_are ∙ any_groups column (grouped (columns_of kind))
 
-    pub column_absent : (column : ℕ) → is_there (forms column) ≡ false → place_at kind arrays column ≡ None
+    pub column_absent : (column : ℕ) → is_present (forms column) ≡ false → place_at kind arrays column ≡ None
     unfolding place_in
     column_absent column gone =
         let none : list_any (is_column column) (known_columns kind arrays) ≡ false = any_column column ∙ rw gone refl in
         position_from-zero (is_column column) (known_columns kind arrays) ∙ none_found (is_column column) 0 (known_columns kind arrays) none
 
-    column_place : (column : ℕ) → column < width_of kind → is_there (forms column) ≡ true → (place : ℕ) × (place_at kind arrays column ≡ Some place)
+    column_place : (column : ℕ) → column < width_of kind → is_present (forms column) ≡ true → (place : ℕ) × (place_at kind arrays column ≡ Some place)
     unfolding place_in
     column_place column below there =
         let has : has_column (grouped (columns_of kind)) column ≡ true = all_below-at (has_column (grouped (columns_of kind))) (width_of kind) column (kinds_grouped kind).all below in
@@ -325,7 +325,7 @@ module _ (kind : Kind) (forms : Forms) where
           ap (λ (f : FieldIn). f.dict) field ∙ ap (λ (c : ℕ). dict_for c (forms c)) same,
         )
 
-    pub column_found : (column : ℕ) → column < width_of kind → is_there (forms column) ≡ true → IsFound kind forms column
+    pub column_found : (column : ℕ) → column < width_of kind → is_present (forms column) ≡ true → IsFound kind forms column
     column_found column below there =
         let p = column_place column below there in
         let k = known_here column p.0 p.1 in

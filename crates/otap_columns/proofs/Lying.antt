@@ -7,7 +7,7 @@ use Rattle.lists.proofs.Parts.{part_stays}
 use Rattle.arrow_buffers.specs.Columns.{cell_len}
 use Rattle.otap_columns.specs.declared.ends.End.{End}
 use Rattle.otap_columns.specs.Dictionaries.{value_weight}
-use Rattle.otap_columns.specs.Ends.{value_between, values_by_ends, start_of, IsEnd, AreEnds, bytes_in}
+use Rattle.otap_columns.specs.Ends.{value_between, values_by_ends, start_of, IsEnd, AreEnds, bytes_or_none}
 
 -- the bytes of the values, and 8 for each
 pub weighs : (values : List (Option (List ℕ))) → sum_by value_weight values ≡ sum_by cell_len values + 8 * length values
@@ -67,7 +67,7 @@ pub record Pushed (old new : List ℕ) (from : ℕ) (ends after : List End) (val
   pub are : AreEnds from after (length new)
   pub count : length after ≡ length ends + 1
 
-last_value : (value : Option (List ℕ)) (old : List ℕ) (e : End) → e.place ≡ length (old ++ bytes_in value) → e.there ≡ is_some value → value_between (old ++ bytes_in value) (length old) e ≡ value
+last_value : (value : Option (List ℕ)) (old : List ℕ) (e : End) → e.place ≡ length (old ++ bytes_or_none value) → e.there ≡ is_some value → value_between (old ++ bytes_or_none value) (length old) e ≡ value
 last_value None old e at there = rw there refl
 last_value (Some value) old e at there =
     let size : e.place - length old ≡ length value = omega (arith, at, length-append old value) in
@@ -78,22 +78,22 @@ last_value (Some value) old e at there =
     dropped [] = refl
     dropped (x ∷ xs) = dropped xs
 
-last_none : (value : Option (List ℕ)) (old : List ℕ) (e : End) → e.place ≡ length (old ++ bytes_in value) → e.there ≡ is_some value → e.there ≡ false → e.place ≡ length old
+last_none : (value : Option (List ℕ)) (old : List ℕ) (e : End) → e.place ≡ length (old ++ bytes_or_none value) → e.there ≡ is_some value → e.there ≡ false → e.place ≡ length old
 last_none None old e at there none = omega (arith, at, length-append old [])
 last_none (Some value) old e at there none = absurd (cc (there, none))
 
-pub pushed : (old : List ℕ) (from : ℕ) (ends : List End) (e : End) (value : Option (List ℕ)) → AreEnds from ends (length old) → e.place ≡ length (old ++ bytes_in value) → e.there ≡ is_some value
-    → Pushed old (old ++ bytes_in value) from ends (ends ++ e ∷ []) value
+pub pushed : (old : List ℕ) (from : ℕ) (ends : List End) (e : End) (value : Option (List ℕ)) → AreEnds from ends (length old) → e.place ≡ length (old ++ bytes_or_none value) → e.there ≡ is_some value
+    → Pushed old (old ++ bytes_or_none value) from ends (ends ++ e ∷ []) value
 pushed old from [] e value are at there =
-    let place : value_between (old ++ bytes_in value) from e ≡ value = ap (λ (f : ℕ). value_between (old ++ bytes_in value) f e) are ∙ last_value value old e at there in
+    let place : value_between (old ++ bytes_or_none value) from e ≡ value = ap (λ (f : ℕ). value_between (old ++ bytes_or_none value) f e) are ∙ last_value value old e at there in
     record {
       values = λ i. place i ∷ [];
-      are = (record { after = omega (arith, are, at, length-append old (bytes_in value)); none = λ none. last_none value old e at there none ∙ sym are }, at);
+      are = (record { after = omega (arith, are, at, length-append old (bytes_or_none value)); none = λ none. last_none value old e at there none ∙ sym are }, at);
       count = refl;
     }
 pushed old from (f ∷ ends) e value are at there =
-    let r : Pushed old (old ++ bytes_in value) f.place ends (ends ++ e ∷ []) value = pushed old f.place ends e value are.1 at there in
-    let here : value_between (old ++ bytes_in value) from f ≡ value_between old from f = value_stays old (bytes_in value) from f are.0.after (first_before f.place ends (length old) are.1) in
+    let r : Pushed old (old ++ bytes_or_none value) f.place ends (ends ++ e ∷ []) value = pushed old f.place ends e value are.1 at there in
+    let here : value_between (old ++ bytes_or_none value) from f ≡ value_between old from f = value_stays old (bytes_or_none value) from f are.0.after (first_before f.place ends (length old) are.1) in
     record {
       values = λ i. here i ∷ r.values i;
       are = (are.0, r.are);

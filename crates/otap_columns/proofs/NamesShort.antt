@@ -13,7 +13,7 @@ use Rattle.otap_cells.specs.declared.payload.Kind.TheVariants as table
 use Rattle.otap_cells.specs.Columns.{ColumnSpec, columns_of, column_at, logs, spans, metrics, attrs, deep_attrs, span_events, span_links, number_points, summary_points, hist_points, exemplars}
 use Rattle.otap_columns.specs.Groups.{Member, Group, grouped}
 use Rattle.otap_columns.specs.Groups as group
-use Rattle.otap_columns.specs.Schemas.{Forms, is_there, item_in, leaf_in, members_there, branches_under, branches_in, branches_for, schema_for}
+use Rattle.otap_columns.specs.Schemas.{Forms, is_present, item_in, leaf_in, members_there, branches_under, branches_in, branches_for, schema_for}
 
 -- ---- how long the names of a group are at most
 
@@ -106,7 +106,7 @@ module _ (kind : Kind) (forms : Forms) where
   leaves_short [] = omega arith
   leaves_short (m ∷ members) =
       let rest : sum_of (map leaf_names (map (leaf_in kind forms) (members_there forms members))) ≤ sum_of (map member_names members) = leaves_short members in
-      elim (cases_Bool (is_there (forms m.column))) [
+      elim (cases_Bool (is_present (forms m.column))) [
         | inl there ↦ rw there (omega (arith, rest, one_item (item_in (column_at kind m.column).base)))
         | inr gone ↦ rw gone (omega (arith, rest))
       ]
@@ -119,7 +119,7 @@ module _ (kind : Kind) (forms : Forms) where
   group_short : (g : Group) → sum_of (map branch_names (branches_in kind forms g)) ≤ group_names g
   unfolding member_names group_names
   group_short (group.Alone m) =
-      elim (cases_Bool (is_there (forms m.column))) [
+      elim (cases_Bool (is_present (forms m.column))) [
         | inl there ↦ rw there (omega (arith, one_item (item_in (column_at kind m.column).base)))
         | inr gone ↦ rw gone (omega arith)
       ]
@@ -155,7 +155,7 @@ module _ (kind : Kind) (forms : Forms) where
 
   pub group_named : (g : Group) → list_all is_branch_named (branches_in kind forms g) ≡ true
   group_named (group.Alone m) =
-      elim (cases_Bool (is_there (forms m.column))) [
+      elim (cases_Bool (is_present (forms m.column))) [
         | inl there ↦ rw there refl
         | inr gone ↦ rw gone refl
       ]

@@ -9,7 +9,7 @@ use Rattle.arrow_ipc.specs.declared.messages.IpcMessage.{IpcMessage}
 use Rattle.arrow_ipc.specs.declared.messages.IpcMessage.TheVariants.{Rows, Schema}
 use Rattle.arrow_ipc.specs.Batches.{BatchIn}
 use Rattle.arrow_ipc.specs.Fronts.{Front}
-use Rattle.arrow_ipc.specs.Written.{Appends, AppendsSchema, most_of, most_of_schema}
+use Rattle.arrow_ipc.specs.Written.{Appends, AppendsSchema, most_of_batch, most_of_schema}
 use Rattle.arrow_ipc.proofs.Fronting.{no_message}
 use Rattle.otap_cells.specs.declared.payload.Kind.{Kind}
 use Rattle.otap_cells.specs.declared.profile.Base.{Base}
@@ -102,14 +102,14 @@ module _ (kind : Kind) (opening : Bool) (forms : Forms) (values : Values) (count
   -- ---- the whole record
 
   pub record_whole : (t : Table) (a b new : List ℕ) (rows : BatchIn) → AddsMessages (schema_if opening (schema_for kind forms)) [] a → AddsHeads kind opening forms values counts (width_of kind) a b
-      → Appends (Rows rows) (most_of rows) b new → HoldsRows kind forms values t rows → IsRecordBy kind opening forms values counts t new
+      → Appends (Rows rows) (most_of_batch rows) b new → HoldsRows kind forms values t rows → IsRecordBy kind opening forms values counts t new
   record_whole t a b new rows first heads_are last holds = record {
     batches = heads_are.batches;
     rows = rows;
     front = starts (schema_if opening (schema_for kind forms) ++ heads (heads_by opening forms values counts heads_are.batches) (width_of kind) ++ Rows rows ∷ []) new
         (adds_both (schema_if opening (schema_for kind forms) ++ heads (heads_by opening forms values counts heads_are.batches) (width_of kind)) (Rows rows ∷ []) [] b new
         (adds_both (schema_if opening (schema_for kind forms)) (heads (heads_by opening forms values counts heads_are.batches) (width_of kind)) [] a b first heads_are.adds)
-        (adds_one (Rows rows) (most_of rows) b new last));
+        (adds_one (Rows rows) (most_of_batch rows) b new last));
     holds = heads_are.holds;
     rows_are = holds;
   }

@@ -33,7 +33,7 @@ use Rattle.otap_columns.specs.Known.{place_at, column_coding, column_greatest, s
 use Rattle.otap_columns.specs.Substreams.{SubstreamIn, held_if, held_in, schema_in, substream_of, substream_in, value_by_index, is_index_below, replaced}
 use Rattle.otap_columns.specs.Substreams.{field_value, value_if, column_value, column_cell, table_of_batch, field_fits, field_fits_if, indexes_fit}
 use Rattle.otap_columns.specs.Records.{IsFineBatch, IsFineIn, IsFine, is_fine_for}
-use Rattle.otap_columns.specs.Schemas.{Forms, FormsFit, IsFound, is_there, is_dictionary, arrow_type_in, dict_for, schema_for}
+use Rattle.otap_columns.specs.Schemas.{Forms, FormsFit, IsFound, is_present, is_dictionary, arrow_type_in, dict_for, schema_for}
 use Rattle.otap_columns.specs.Observed.{bytes_for}
 use Rattle.otap_columns.specs.BuiltCells.{FitsForm}
 use Rattle.otap_columns.specs.WrittenPayloads.{LeadsTo, Stores, HoldsRows, heads}
@@ -63,8 +63,8 @@ pub record Step (kind : Kind) (forms : Forms) (values : ℕ → List (List ℕ))
   pub kind_is : t.kind ≡ kind
   pub table : IsTable t
   pub codings : (column : ℕ) → is_id_at kind column ≡ true → coding_in t column ≡ coding_at kind column
-  pub absent_null : (column row : ℕ) → is_there (forms column) ≡ false → row < length t.rows → cell_in t.rows column row ≡ null
-  pub cells_fit : (column row : ℕ) → is_there (forms column) ≡ true → FitsForm (base_at kind column) (forms column) (cell_in t.rows column row)
+  pub absent_null : (column row : ℕ) → is_present (forms column) ≡ false → row < length t.rows → cell_in t.rows column row ≡ null
+  pub cells_fit : (column row : ℕ) → is_present (forms column) ≡ true → FitsForm (base_at kind column) (forms column) (cell_in t.rows column row)
 
 -- what is stored in a dictionary's form leads to the value, and in another form is it
 leads : (f : ColumnForm) (values : List (List ℕ)) (value found : Option (List ℕ)) → is_dictionary f ≡ true → Stores f values value found → LeadsTo values value found
@@ -74,7 +74,7 @@ leads form.Absent values value found is h = absurd (false≢true is)
 leads form.Plain values value found is h = absurd (false≢true is)
 leads form.Wide values value found is h = absurd (false≢true is)
 
-plainly : (column : ℕ) (f : ColumnForm) (values : List (List ℕ)) (value found : Option (List ℕ)) → is_there f ≡ true → dict_for column f ≡ None → Stores f values value found → found ≡ value
+plainly : (column : ℕ) (f : ColumnForm) (values : List (List ℕ)) (value found : Option (List ℕ)) → is_present f ≡ true → dict_for column f ≡ None → Stores f values value found → found ≡ value
 plainly column form.Plain values value found is none h = h
 plainly column form.Wide values value found is none h = h
 plainly column form.Absent values value found is none h = absurd (false≢true is)
@@ -216,7 +216,8 @@ module _ (kind : Kind) (forms : Forms) (values : ℕ → List (List ℕ)) (start
       ∙ (λ i. dictionary_over (type i) (id i) (start ++ (heads head (width_of kind) ++ Rows rows ∷ []))) ∙ dictionary_after column below dict
 
   -- the cell of an array is its own
-  cell_is : (place row : ℕ) (a : ArraySpec) → slice_get (arrays_of (schema_for kind forms)) place ≡ Some a → row < rows.rows → cell_of (arrays_of (schema_for kind forms)) rows place row ≡ own_cell rows (array_place a) row
+  cell_is : (place row : ℕ) (a : ArraySpec) → slice_get (arrays_of (schema_for kind forms)) place ≡ Some a → row < rows.rows
+      → cell_of (arrays_of (schema_for kind forms)) rows place row ≡ own_cell rows (array_place a) row
   cell_is place row a at low = own_cells kind forms s.fit rows row place a (s.holds.whole row (omega (arith, s.holds.count))) at
 
   -- EACH INDEX LEADS TO A VALUE
@@ -246,7 +247,7 @@ module _ (kind : Kind) (forms : Forms) (values : ℕ → List (List ℕ)) (start
       by place (Some a) at = index_fits place a at
 
   -- EACH CELL IS THE TABLE'S
-  value_is : (column row : ℕ) → column < width_of kind → row < length t.rows → (f : IsFound kind forms column) → is_there (forms column) ≡ true
+  value_is : (column row : ℕ) → column < width_of kind → row < length t.rows → (f : IsFound kind forms column) → is_present (forms column) ≡ true
       → replaced (dictionaries_in (arrays_of (schema_for kind forms)) whole) f.array.kind f.array.dict (cell_of (arrays_of (schema_for kind forms)) rows f.place row)
       ≡ bytes_for (base_at kind column) (forms column) (cell_in t.rows column row)
   value_is column row below low f here = by f.array.dict refl
@@ -273,7 +274,7 @@ module _ (kind : Kind) (forms : Forms) (values : ℕ → List (List ℕ)) (start
 
   cell_again : (column row : ℕ) → column < width_of kind → row < rows.rows → column_cell kind after rows column row ≡ cell_in t.rows column row
   unfolding column_cell column_value stored_cell
-  cell_again column row below in_rows = by (cases_Bool (is_there (forms column)))
+  cell_again column row below in_rows = by (cases_Bool (is_present (forms column)))
     where
       low : row < length t.rows
       low = omega (arith, s.holds.count)
@@ -282,7 +283,7 @@ module _ (kind : Kind) (forms : Forms) (values : ℕ → List (List ℕ)) (start
       null_again None is = refl
       null_again (Some place) is = absurd (cc)
 
-      by : (is_there (forms column) ≡ true) ⊎ (is_there (forms column) ≡ false)
+      by : (is_present (forms column) ≡ true) ⊎ (is_present (forms column) ≡ false)
           → stored_cell (base_at kind column) (value_if after rows row (place_at kind (arrays_of (schema_for kind forms)) column)) ≡ cell_in t.rows column row
       by (inl here) =
           let f : IsFound kind forms column = column_found kind forms s.fit column below here in

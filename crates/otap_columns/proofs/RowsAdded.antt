@@ -24,12 +24,12 @@ use Rattle.otap_cells.specs.Tables.{Table, IsTable, column_in}
 use Rattle.otap_cells.specs.Weights.{cell_weight, weight_of_row, weight_of_table}
 use Rattle.otap_columns.specs.declared.forms.ColumnForm.{ColumnForm}
 use Rattle.otap_columns.specs.declared.forms.ColumnForm.TheVariants as form
-use Rattle.otap_columns.specs.Observed.{number_bytes, bytes_for}
+use Rattle.otap_columns.specs.Observed.{bytes_of_number, bytes_for}
 use Rattle.otap_cells.specs.declared.payload.Kind.{Kind}
 use Rattle.otap_columns.specs.declared.writer_groups.Group.{Group}
 use Rattle.otap_columns.specs.declared.writer_groups.Member.{Member}
 use Rattle.otap_columns.specs.Groups as groups
-use Rattle.otap_columns.specs.Schemas.{Forms, FormsFit, ArraySlot, Struct, slots_for, is_there, members_there, slots_of_member, slots_under, slots_in}
+use Rattle.otap_columns.specs.Schemas.{Forms, FormsFit, ArraySlot, Struct, slots_for, is_present, members_there, slots_of_member, slots_under, slots_in}
 use Rattle.otap_columns.specs.WrittenGroups.{member_in, group_in}
 use Rattle.otap_columns.specs.WrittenCells.{place_among, stored_for, stored_column}
 use Rattle.otap_columns.specs.BuiltCells.{width_for, batch_parts, with_part, with_parts}
@@ -60,7 +60,7 @@ adds_more forms values t xs ys old mid new a b = record {
 
 -- ---- a column is light
 
-number_short : (holds : Base) (f : ColumnForm) (z : ℤ) → length (number_bytes holds f z) ≤ 8
+number_short : (holds : Base) (f : ColumnForm) (z : ℤ) → length (bytes_of_number holds f z) ≤ 8
 number_short base.U8 f z = omega (arith, length-bytes_low_first 0 1 (unsigned_abs z))
 number_short base.U16 f z = omega (arith, length-bytes_low_first 0 2 (unsigned_abs z))
 number_short base.U32 f z = omega (arith, length-bytes_low_first 0 4 (unsigned_abs z))
@@ -126,7 +126,7 @@ group_slots kind forms gs = flat_map (slots_in kind forms) (map group_in gs)
 member_slots-append : (kind : Kind) (forms : Forms) (xs ys : List Member) → member_slots kind forms (xs ++ ys) ≡ member_slots kind forms xs ++ member_slots kind forms ys
 member_slots-append kind forms xs ys =
     ap (λ (ms : List groups.Member). flat_map (slots_of_member kind) (members_there forms ms)) (map-append member_in xs ys)
-    ∙ ap (flat_map (slots_of_member kind)) (filter-append (λ (m : groups.Member). is_there (forms m.column)) (map member_in xs) (map member_in ys))
+    ∙ ap (flat_map (slots_of_member kind)) (filter-append (λ (m : groups.Member). is_present (forms m.column)) (map member_in xs) (map member_in ys))
     ∙ flat_map-append (slots_of_member kind) (members_there forms (map member_in xs)) (members_there forms (map member_in ys))
 
 group_slots-append : (kind : Kind) (forms : Forms) (xs ys : List Group) → group_slots kind forms (xs ++ ys) ≡ group_slots kind forms xs ++ group_slots kind forms ys
@@ -153,30 +153,31 @@ groups_step forms values t gs k d old mid new low a b =
     (adds_more forms values t (group_slots t.kind forms (take k gs)) (slots_in t.kind forms (group_in g)) old mid new a b)
 
 -- a struct is there where one of its columns is
-none_there : (forms : Forms) (ms : List Member) → list_any (λ m. is_there (forms m.column)) ms ≡ false → members_there forms (map member_in ms) ≡ []
+none_there : (forms : Forms) (ms : List Member) → list_any (λ m. is_present (forms m.column)) ms ≡ false → members_there forms (map member_in ms) ≡ []
 none_there forms [] none = refl
-none_there forms (m ∷ ms) none = by (is_there (forms m.column)) refl (none_there forms ms)
+none_there forms (m ∷ ms) none = by (is_present (forms m.column)) refl (none_there forms ms)
   where
-    by : (b : Bool) → is_there (forms m.column) ≡ b → (list_any (λ m. is_there (forms m.column)) ms ≡ false → members_there forms (map member_in ms) ≡ []) → members_there forms (map member_in (m ∷ ms)) ≡ []
+    by : (b : Bool) → is_present (forms m.column) ≡ b → (list_any (λ m. is_present (forms m.column)) ms ≡ false → members_there forms (map member_in ms) ≡ []) → members_there forms (map member_in (m ∷ ms)) ≡ []
     by true is rest = let no : true ≡ false = rw is at none in absurd (true≢false no)
     by false is rest = rw is (rest (rw is at none))
 
-some_there : (kind : Kind) (forms : Forms) (struct : List ℕ) (ms : List Member) → list_any (λ m. is_there (forms m.column)) ms ≡ true
+some_there : (kind : Kind) (forms : Forms) (struct : List ℕ) (ms : List Member) → list_any (λ m. is_present (forms m.column)) ms ≡ true
     → slots_under kind struct (members_there forms (map member_in ms)) ≡ Struct struct ∷ member_slots kind forms ms
 some_there kind forms struct [] some = absurd (false≢true some)
-some_there kind forms struct (m ∷ ms) some = by (is_there (forms m.column)) refl (some_there kind forms struct ms)
+some_there kind forms struct (m ∷ ms) some = by (is_present (forms m.column)) refl (some_there kind forms struct ms)
   where
-    by : (b : Bool) → is_there (forms m.column) ≡ b → (list_any (λ m. is_there (forms m.column)) ms ≡ true → slots_under kind struct (members_there forms (map member_in ms)) ≡ Struct struct ∷ member_slots kind forms ms)
+    by : (b : Bool) → is_present (forms m.column) ≡ b
+        → (list_any (λ m. is_present (forms m.column)) ms ≡ true → slots_under kind struct (members_there forms (map member_in ms)) ≡ Struct struct ∷ member_slots kind forms ms)
         → slots_under kind struct (members_there forms (map member_in (m ∷ ms))) ≡ Struct struct ∷ member_slots kind forms (m ∷ ms)
     by true is rest = rw is refl
     by false is rest = rw is (rest (rw is at some))
 
-pub under_none : (forms : Forms) (values : ℕ → List (List ℕ)) (t : Table) (struct : List ℕ) (ms : List Member) (old : BatchIn) → list_any (λ m. is_there (forms m.column)) ms ≡ false
+pub under_none : (forms : Forms) (values : ℕ → List (List ℕ)) (t : Table) (struct : List ℕ) (ms : List Member) (old : BatchIn) → list_any (λ m. is_present (forms m.column)) ms ≡ false
     → AddsSlots forms values t (slots_under t.kind struct (members_there forms (map member_in ms))) old old
 under_none forms values t struct ms old none =
     subst (λ (slots : List ArraySlot). AddsSlots forms values t slots old old) (sym (ap (slots_under t.kind struct) (none_there forms ms none))) (adds_none forms values t old)
 
-pub under_some : (forms : Forms) (values : ℕ → List (List ℕ)) (t : Table) (struct : List ℕ) (ms : List Member) (old mid new : BatchIn) → list_any (λ m. is_there (forms m.column)) ms ≡ true
+pub under_some : (forms : Forms) (values : ℕ → List (List ℕ)) (t : Table) (struct : List ℕ) (ms : List Member) (old mid new : BatchIn) → list_any (λ m. is_present (forms m.column)) ms ≡ true
     → mid ≡ with_part old (struct_part (length t.rows)) → AddsSlots forms values t (member_slots t.kind forms ms) mid new
     → AddsSlots forms values t (slots_under t.kind struct (members_there forms (map member_in ms))) old new
 under_some forms values t struct ms old mid new some first rest =
@@ -212,14 +213,14 @@ rows_light t = rows_weigh t.rows
 -- ---- what the calls give
 
 pub under_ok : {E : Type 0} (forms : Forms) (values : ℕ → List (List ℕ)) (t : Table) (struct : List ℕ) (ms : List Member) (old mid new : BatchIn) (r : Result (Unit {0}) E)
-    → list_any (λ m. is_there (forms m.column)) ms ≡ true
+    → list_any (λ m. is_present (forms m.column)) ms ≡ true
     → mid ≡ with_part old (struct_part (length t.rows)) → OnOk r (AddsSlots forms values t (member_slots t.kind forms ms) mid new)
     → OnOk r (AddsSlots forms values t (slots_under t.kind struct (members_there forms (map member_in ms))) old new)
 under_ok forms values t struct ms old mid new (Ok x) some first rest = under_some forms values t struct ms old mid new some first rest
 under_ok forms values t struct ms old mid new (Err e) some first rest = tt
 
 pub member_ok : {E : Type 0} (forms : Forms) (values : ℕ → List (List ℕ)) (t : Table) (table : IsTable t) (m : groups.Member) (b : Buffers) (old new : BatchIn) (w : Width) (r : Result (Unit {0}) E)
-    → is_there (forms m.column) ≡ true → IsBuiltOf forms values t table m b → w ≡ width_for (base_at t.kind m.column) (forms m.column) → OnOk r (new ≡ with_parts old (batch_parts w b))
+    → is_present (forms m.column) ≡ true → IsBuiltOf forms values t table m b → w ≡ width_for (base_at t.kind m.column) (forms m.column) → OnOk r (new ≡ with_parts old (batch_parts w b))
     → OnOk r (AddsSlots forms values t (flat_map (slots_of_member t.kind) (members_there forms (m ∷ []))) old new)
 member_ok forms values t table m b old new w (Ok x) here is same added =
     let one : AddsSlots forms values t (slots_of_member t.kind m) old new = record {

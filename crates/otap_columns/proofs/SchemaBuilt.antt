@@ -10,7 +10,7 @@ use Rattle.otap_cells.specs.declared.payload.Kind.{Kind}
 use Rattle.otap_columns.specs.declared.writer_groups.Group.{Group}
 use Rattle.otap_columns.specs.declared.writer_groups.Member.{Member}
 use Rattle.otap_columns.specs.Groups as groups
-use Rattle.otap_columns.specs.Schemas.{Forms, is_there, leaf_in, members_there, branches_in}
+use Rattle.otap_columns.specs.Schemas.{Forms, is_present, leaf_in, members_there, branches_in}
 use Rattle.otap_columns.specs.WrittenGroups.{member_in, group_in}
 
 -- the fields of members, and of groups
@@ -23,7 +23,7 @@ built kind forms gs = branch_fields (flat_map (branches_in kind forms) (map grou
 leaves-append : (kind : Kind) (forms : Forms) (xs ys : List Member) → leaves kind forms (xs ++ ys) ≡ leaves kind forms xs ++ leaves kind forms ys
 leaves-append kind forms xs ys =
     ap (λ (ms : List groups.Member). map leaf_field (map (leaf_in kind forms) (members_there forms ms))) (map-append member_in xs ys)
-    ∙ ap (λ (ms : List groups.Member). map leaf_field (map (leaf_in kind forms) ms)) (filter-append (λ (m : groups.Member). is_there (forms m.column)) (map member_in xs) (map member_in ys))
+    ∙ ap (λ (ms : List groups.Member). map leaf_field (map (leaf_in kind forms) ms)) (filter-append (λ (m : groups.Member). is_present (forms m.column)) (map member_in xs) (map member_in ys))
     ∙ ap (λ (ls : List Leaf). map leaf_field ls) (map-append (leaf_in kind forms) (members_there forms (map member_in xs)) (members_there forms (map member_in ys)))
     ∙ map-append leaf_field (map (leaf_in kind forms) (members_there forms (map member_in xs))) (map (leaf_in kind forms) (members_there forms (map member_in ys)))
 

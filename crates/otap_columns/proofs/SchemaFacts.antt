@@ -17,7 +17,7 @@ use Rattle.otap_cells.specs.Columns.{base_at, coding_at, width_of}
 use Rattle.otap_columns.specs.declared.forms.ColumnForm.{ColumnForm}
 use Rattle.otap_columns.specs.declared.forms.ColumnForm.TheVariants as form
 use Rattle.otap_columns.specs.Known.{known_column, coding_named, coding_if, array_of_column, array_of, column_coding}
-use Rattle.otap_columns.specs.Schemas.{Forms, FormsFit, IsFound, IsArraySlot, ArraySlot, Struct, Column, Items, is_there, is_dictionary, arrow_type_in, dict_for, slot_field, slot_column, schema_for}
+use Rattle.otap_columns.specs.Schemas.{Forms, FormsFit, IsFound, IsArraySlot, ArraySlot, Struct, Column, Items, is_present, is_dictionary, arrow_type_in, dict_for, slot_field, slot_column, schema_for}
 use Rattle.otap_columns.proofs.Finding.{known_column-below}
 use Rattle.otap_columns.proofs.Keeping.{schema_readable}
 use Rattle.otap_columns.proofs.Located.{slot_at, column_found, column_absent}
@@ -37,7 +37,7 @@ dict_there column form.Absent is = absurd (false≢true is)
 dict_there column form.Plain is = absurd (false≢true is)
 dict_there column form.Wide is = absurd (false≢true is)
 
-pub form_there : (f : ColumnForm) → is_dictionary f ≡ true → is_there f ≡ true
+pub form_there : (f : ColumnForm) → is_dictionary f ≡ true → is_present f ≡ true
 form_there form.Dict8 is = refl
 form_there form.Dict16 is = refl
 form_there form.Absent is = absurd (false≢true is)
@@ -79,9 +79,9 @@ module _ (kind : Kind) (forms : Forms) (fit : FormsFit kind forms) where
   -- so ids are stored as the profile says
   pub coded : (column : ℕ) → column < width_of kind → column_coding kind (arrays_of (schema_for kind forms)) column ≡ coding_at kind column
   unfolding array_of
-  coded column below = by (cases_Bool (is_there (forms column)))
+  coded column below = by (cases_Bool (is_present (forms column)))
     where
-      by : (is_there (forms column) ≡ true) ⊎ (is_there (forms column) ≡ false) → column_coding kind (arrays_of (schema_for kind forms)) column ≡ coding_at kind column
+      by : (is_present (forms column) ≡ true) ⊎ (is_present (forms column) ≡ false) → column_coding kind (arrays_of (schema_for kind forms)) column ≡ coding_at kind column
       by (inl here) =
           let f : IsFound kind forms column = column_found kind forms fit column below here in
           let s : IsArraySlot kind forms f.place f.array = slot_at kind forms fit f.place f.array f.at in

@@ -24,7 +24,7 @@ use Rattle.otap_cells.specs.Columns.{columns_of, column_at, place_of_path}
 use Rattle.otap_columns.specs.Known.{is_column}
 use Rattle.otap_columns.specs.Groups.{Member, Group, grouped}
 use Rattle.otap_columns.specs.Groups as group
-use Rattle.otap_columns.specs.Schemas.{Forms, is_there, item_in, leaf_in, members_there, branches_under, branches_in, branches_for, schema_for, ArraySlot, Struct, Column, Items, items_after}
+use Rattle.otap_columns.specs.Schemas.{Forms, is_present, item_in, leaf_in, members_there, branches_under, branches_in, branches_for, schema_for, ArraySlot, Struct, Column, Items, items_after}
 use Rattle.otap_columns.specs.Schemas.{slots_of_member, slots_under, slots_in, slots_for, item_type, slot_field, slot_column, is_items}
 use Rattle.otap_columns.proofs.Grouping.{under_tests, is_ascii, is_member, is_group, kinds_grouped}
 use Rattle.otap_columns.proofs.Keeping.{type_item, member_place}
@@ -186,7 +186,8 @@ module _ (kind : Kind) (forms : Forms) where
       let item = item_in (column_at kind m.column).base in
       let l = leaf_in kind forms m in
       let path = above ++ m.name ∷ [] in
-      let place : place_of_path (columns_of kind) path ≡ Some m.column = member_place m.column (place_of_path (columns_of kind) path) (and_parts (is_ascii m.name) (is_column m.column (place_of_path (columns_of kind) path)) is).1 in
+      let found = place_of_path (columns_of kind) path in
+      let place : found ≡ Some m.column = member_place m.column found (and_parts (is_ascii m.name) (is_column m.column found) is).1 in
       let fields : item_fields item ≡ map (slot_field kind forms) (items_after item m.column) = sym (item_slots m.column item refl) in
       let facts : map fact_of (item_paths item) ≡ map slot_fact (items_after item m.column) = item_facts m.column item (kinds_grouped kind).root in
       record {
@@ -202,7 +203,7 @@ module _ (kind : Kind) (forms : Forms) where
   members_slots above (m ∷ members) all =
       let parts = and_parts (is_member (columns_of kind) above m) (list_all (is_member (columns_of kind) above) members) all in
       let rest = members_slots above members parts.1 in
-      elim (cases_Bool (is_there (forms m.column))) [
+      elim (cases_Bool (is_present (forms m.column))) [
         | inl there ↦
             rw there
             (slots-append (Some above) (leaf_field (leaf_in kind forms m) ∷ []) (map leaf_field (map (leaf_in kind forms) (members_there forms members))) (slots_of_member kind m)
@@ -231,7 +232,7 @@ module _ (kind : Kind) (forms : Forms) where
 
   group_slots : (g : Group) → is_group (columns_of kind) g ≡ true → AreSlots (Some []) (map branch_field (branches_in kind forms g)) (slots_in kind forms g)
   group_slots (group.Alone m) is =
-      elim (cases_Bool (is_there (forms m.column))) [
+      elim (cases_Bool (is_present (forms m.column))) [
         | inl there ↦ rw there (slots-append (Some []) (leaf_field (leaf_in kind forms m) ∷ []) [] (slots_of_member kind m) [] (member_slots [] m is) (slots_none (Some [])))
         | inr gone ↦ rw gone (slots_none (Some []))
       ]

@@ -16,7 +16,7 @@ use Rattle.otap_cells.specs.Bases.{is_id}
 use Rattle.otap_columns.specs.declared.forms.ColumnForm.{ColumnForm}
 use Rattle.otap_columns.specs.declared.forms.ColumnForm.TheVariants as form
 use Rattle.otap_columns.specs.WrittenPayloads.{IsWritableTable}
-use Rattle.otap_columns.specs.Schemas.{FormsFit, fits_form, is_dictionary, is_there, item_in}
+use Rattle.otap_columns.specs.Schemas.{FormsFit, fits_form, is_dictionary, is_present, item_in}
 use Rattle.otap_columns.specs.Observed.{bytes_for, form_at, is_own_id, is_wide, of_ladder, dictionary_values}
 use Rattle.otap_columns.specs.BuiltCells.{FitsForm}
 use Rattle.otap_columns.specs.Seen.{SeenIn}
@@ -104,7 +104,8 @@ module _ (kind : Kind) (tables : List Table) (columns : List SeenIn) (forms : Li
         there = there;
         few = few_values kind tables column one;
         room = small_values kind tables column one;
-        holds_type = base_holds (base_at kind column) (forms_in forms column) (dictionary_values kind tables column) (no_id kind tables column one) (takes_one kind tables column low one) (values_are kind column tables writable);
+        holds_type = base_holds (base_at kind column) (forms_in forms column) (dictionary_values kind tables column) (no_id kind tables column one)
+            (takes_one kind tables column low one) (values_are kind column tables writable);
       })
 
 -- ---- the places of values
@@ -164,7 +165,7 @@ module _ (kind : Kind) (before : List Table) (t : Table) (columns : List SeenIn)
     fits = λ column low there row in_rows.
         let below : column < width_of kind = subst (λ (k : Kind). column < width_of k) writable.kind_is low in
         let is = form_is kind (before ++ t ∷ []) columns forms seen told column below in
-        subst (λ (k : Kind). FitsForm-at k column row) (sym writable.kind_is) (here column row (ap is_there (sym is) ∙ there) is);
+        subst (λ (k : Kind). FitsForm-at k column row) (sym writable.kind_is) (here column row (ap is_present (sym is) ∙ there) is);
     few = indexes_reach kind (before ++ t ∷ []) columns forms seen told;
     single = λ column is. subst (λ (k : Kind). item_in (base_at k column) ≡ None) (sym writable.kind_is) (is_single kind (before ++ t ∷ []) columns forms seen told column is);
     light = light;
@@ -173,7 +174,7 @@ module _ (kind : Kind) (before : List Table) (t : Table) (columns : List SeenIn)
       FitsForm-at : Kind → ℕ → ℕ → Type 0
       FitsForm-at k column row = FitsForm (base_at k column) (forms_in forms column) (cell_in t.rows column row)
 
-      here : (column row : ℕ) → is_there (form_at kind (before ++ t ∷ []) column) ≡ true → forms_in forms column ≡ form_at kind (before ++ t ∷ []) column → FitsForm-at kind column row
+      here : (column row : ℕ) → is_present (form_at kind (before ++ t ∷ []) column) ≡ true → forms_in forms column ≡ form_at kind (before ++ t ∷ []) column → FitsForm-at kind column row
       here column row there is =
           subst (λ (f : ColumnForm). FitsForm (base_at kind column) f (cell_in t.rows column row)) (sym is)
           (ids_fit kind before t column row there (writable.ids column) (subst (λ (k : Kind). IsCellOf (base_at k column) (cell_in t.rows column row)) writable.kind_is (writable.table.fits column row)))

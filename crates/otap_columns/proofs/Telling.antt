@@ -22,7 +22,7 @@ use Rattle.otap_columns.specs.declared.forms.ColumnForm.TheVariants as form
 use Rattle.otap_columns.specs.Known.{place_at}
 use Rattle.otap_columns.specs.Groups.{Member, Group, grouped}
 use Rattle.otap_columns.specs.Groups as group
-use Rattle.otap_columns.specs.Schemas.{Forms, is_there, fits_form, FormsFit, arrow_type_in, item_in, dict_for, leaf_in, members_there, branches_under, branches_in, branches_for, schema_for, IsFound}
+use Rattle.otap_columns.specs.Schemas.{Forms, is_present, fits_form, FormsFit, arrow_type_in, item_in, dict_for, leaf_in, members_there, branches_under, branches_in, branches_for, schema_for, IsFound}
 use Rattle.otap_columns.proofs.Grouping.{under_tests, is_member, is_group, kinds_grouped}
 use Rattle.otap_columns.proofs.Keeping.{member_below}
 use Rattle.otap_columns.proofs.Located.{column_absent, column_found}
@@ -42,11 +42,11 @@ is_wide : Option DictSpec → Bool
 is_wide None = false
 is_wide (Some dict) = dict.wide
 
-absent_is : (f : ColumnForm) → is_there f ≡ false → f ≡ form.Absent
+absent_is : (f : ColumnForm) → is_present f ≡ false → f ≡ form.Absent
 absent_is form.Absent is = refl
 absent_is other is = absurd (true≢false is)
 
-same_form : (c : ColumnSpec) (column : ℕ) (f g : ColumnForm) → is_there f ≡ true → is_there g ≡ true → fits_form c f ≡ true → fits_form c g ≡ true → arrow_type_in c.base f ≡ arrow_type_in c.base g
+same_form : (c : ColumnSpec) (column : ℕ) (f g : ColumnForm) → is_present f ≡ true → is_present g ≡ true → fits_form c f ≡ true → fits_form c g ≡ true → arrow_type_in c.base f ≡ arrow_type_in c.base g
     → dict_for column f ≡ dict_for column g → f ≡ g
 unfolding is_wide
 same_form c column form.Absent g there other fits also type dict = absurd (false≢true there)
@@ -73,7 +73,8 @@ same_form c column form.Wide form.Wide there other fits also type dict = refl
 
 module _ (kind : Kind) (f g : Forms) (fit : FormsFit kind f) (also : FormsFit kind g) where
   -- EQUAL SCHEMAS HAVE EQUAL FORMS
-  both_there : (column : ℕ) → column < width_of kind → schema_for kind f ≡ schema_for kind g → IsFound kind f column → IsFound kind g column → is_there (f column) ≡ true → is_there (g column) ≡ true → f column ≡ g column
+  both_there : (column : ℕ) → column < width_of kind → schema_for kind f ≡ schema_for kind g → IsFound kind f column → IsFound kind g column
+      → is_present (f column) ≡ true → is_present (g column) ≡ true → f column ≡ g column
   both_there column below same one two there other =
       let e : arrays_of (schema_for kind f) ≡ arrays_of (schema_for kind g) = ap arrays_of same in
       let place : one.place ≡ two.place = same_Some one.place two.place (sym one.found ∙ ap (λ (arrays : List ArraySpec). place_at kind arrays column) e ∙ two.found) in
@@ -88,14 +89,14 @@ module _ (kind : Kind) (f g : Forms) (fit : FormsFit kind f) (also : FormsFit ki
 
   pub forms_told : schema_for kind f ≡ schema_for kind g → (column : ℕ) → column < width_of kind → f column ≡ g column
   forms_told same column below =
-      elim (cases_Bool (is_there (f column))) [
+      elim (cases_Bool (is_present (f column))) [
         | inl there ↦
-            elim (cases_Bool (is_there (g column))) [
+            elim (cases_Bool (is_present (g column))) [
               | inl other ↦ both_there column below same (column_found kind f fit column below there) (column_found kind g also column below other) there other
               | inr gone ↦ absurd (not_one column f g same (column_found kind f fit column below there) (column_absent kind g also column gone))
             ]
         | inr none ↦
-            elim (cases_Bool (is_there (g column))) [
+            elim (cases_Bool (is_present (g column))) [
               | inl other ↦ absurd (not_one column g f (sym same) (column_found kind g also column below other) (column_absent kind f fit column none))
               | inr gone ↦ absent_is (f column) none ∙ sym (absent_is (g column) gone)
             ]
@@ -126,14 +127,14 @@ module _ (kind : Kind) (f g : Forms) (fit : FormsFit kind f) (same : (column : �
   same_there : (members : List Member) → AreAlike members → members_there f members ≡ members_there g members
   unfolding AreAlike
   same_there [] are = refl
-  same_there (m ∷ members) are = λ i. if is_there (are.0 i) then m ∷ same_there members are.1 i else same_there members are.1 i
+  same_there (m ∷ members) are = λ i. if is_present (are.0 i) then m ∷ same_there members are.1 i else same_there members are.1 i
 
   alike_there : (members : List Member) → AreAlike members → AreAlike (members_there f members)
   unfolding AreAlike
   alike_there [] are = tt
   alike_there (m ∷ members) are =
       let rest = alike_there members are.1 in
-      elim (cases_Bool (is_there (f m.column))) [
+      elim (cases_Bool (is_present (f m.column))) [
         | inl there ↦ rw there (are.0, rest)
         | inr gone ↦ rw gone rest
       ]
@@ -147,18 +148,18 @@ module _ (kind : Kind) (f g : Forms) (fit : FormsFit kind f) (same : (column : �
   same_under struct [] are = refl
   same_under struct (m ∷ there) are = λ i. Under struct (same_leaves (m ∷ there) are i) ∷ []
 
-  alone_there : (m : Member) → f m.column ≡ g m.column → (there : Bool) → is_there (f m.column) ≡ there → branches_in kind f (group.Alone m) ≡ branches_in kind g (group.Alone m)
+  alone_there : (m : Member) → f m.column ≡ g m.column → (there : Bool) → is_present (f m.column) ≡ there → branches_in kind f (group.Alone m) ≡ branches_in kind g (group.Alone m)
   alone_there m e true there =
-      let other : is_there (g m.column) ≡ true = ap is_there (sym e) ∙ there in
+      let other : is_present (g m.column) ≡ true = ap is_present (sym e) ∙ there in
       rw (there, other) (λ i. One (same_leaf m e i) ∷ [])
   alone_there m e false there =
-      let other : is_there (g m.column) ≡ false = ap is_there (sym e) ∙ there in
+      let other : is_present (g m.column) ≡ false = ap is_present (sym e) ∙ there in
       rw (there, other) refl
 
   same_group : (g' : Group) → is_group (columns_of kind) g' ≡ true → branches_in kind f g' ≡ branches_in kind g g'
   same_group (group.Alone m) is =
       let e : f m.column ≡ g m.column = same m.column (member_below kind f fit [] m is) in
-      alone_there m e (is_there (f m.column)) refl
+      alone_there m e (is_present (f m.column)) refl
   same_group (group.Under struct members) is =
       let tests = under_tests (columns_of kind) struct members is in
       let are = alike (struct ∷ []) members tests.each in

@@ -33,7 +33,7 @@ use Rattle.otap_columns.specs.declared.forms.ColumnForm.{ColumnForm}
 use Rattle.otap_columns.specs.declared.forms.ColumnForm.TheVariants as form
 use Rattle.otap_columns.specs.WrittenPayloads.{IsWritableTable}
 use Rattle.otap_columns.specs.Schemas.{fits_form, is_dictionary, item_in, arrow_type_in}
-use Rattle.otap_columns.specs.Observed.{bytes_for, given, values_in, values_in_tables, form_at, dictionary_values, is_own_id, id_form_if, of_ladder}
+use Rattle.otap_columns.specs.Observed.{bytes_for, given, bytes_of_values, values_in_tables, form_at, dictionary_values, is_own_id, id_form_if, of_ladder}
 use Rattle.otap_columns.specs.WrittenBatches.{IsSingle, HoldsType}
 use Rattle.otap_columns.specs.BuiltCells.{plain_width}
 use Rattle.otap_columns.specs.WrittenRows.{IsKnownIn}
@@ -88,10 +88,10 @@ cells_given holds (r ∷ rows) column each = by (bytes_for holds form.Wide (get_
     by (Some value) is rest = rw is (value_of holds (get_or r column null) value (each 0 (omega arith)) is, rest)
 
 tables_given : (kind : Kind) (column : ℕ) (tables : List Table) → AllByRecursion (IsWritableTable kind) tables
-    → AllByRecursion (IsValueOf (columns.base_at kind column)) (flat_map (values_in kind column) tables)
+    → AllByRecursion (IsValueOf (columns.base_at kind column)) (flat_map (bytes_of_values kind column) tables)
 tables_given kind column [] each = tt
 tables_given kind column (t ∷ tables) each =
-    every_append (IsValueOf (columns.base_at kind column)) (values_in kind column t) (flat_map (values_in kind column) tables)
+    every_append (IsValueOf (columns.base_at kind column)) (bytes_of_values kind column t) (flat_map (bytes_of_values kind column) tables)
     (cells_given (columns.base_at kind column) t.rows column
     (λ row low. subst (λ (k : Kind). IsCellOf (columns.base_at k column) (cell_in t.rows column row)) each.0.kind_is (each.0.table.fits column row)))
     (tables_given kind column tables each.1)
@@ -108,7 +108,7 @@ pub values_are : (kind : Kind) (column : ℕ) (tables : List Table) → AllByRec
     → AllByRecursion (IsValueOf (columns.base_at kind column)) (dictionary_values kind tables column)
 unfolding dictionary_values distinct values_in_tables
 values_are kind column tables each =
-    each_distinct (IsValueOf (columns.base_at kind column)) [] (flat_map (values_in kind column) tables) tt (tables_given kind column tables each)
+    each_distinct (IsValueOf (columns.base_at kind column)) [] (flat_map (bytes_of_values kind column) tables) tt (tables_given kind column tables each)
 
 -- ---- as values of a type
 
@@ -296,5 +296,5 @@ known_value kind before t column row f id low =
         has_value value is =
             members-law (values_in_tables kind (before ++ t ∷ []) column) value
             ∙ ap (list_any (bytes_eq value)) (seen-push kind before t column)
-            ∙ list_any-append (bytes_eq value) (values_in_tables kind before column) (values_in kind column t)
+            ∙ list_any-append (bytes_eq value) (values_in_tables kind before column) (bytes_of_values kind column t)
             ∙ or_right (list_any (bytes_eq value) (values_in_tables kind before column)) _ (rows_have (columns.base_at kind column) t.rows column row value low is)

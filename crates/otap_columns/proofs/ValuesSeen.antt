@@ -23,16 +23,16 @@ use Rattle.otap_dicts.proofs.Once.{grows-law}
 use Rattle.otap_dicts.specs.Limits.{narrow_limit, value_limit, byte_limit}
 use Rattle.otap_columns.specs.declared.forms.ColumnForm.{ColumnForm}
 use Rattle.otap_columns.specs.declared.forms.ColumnForm.TheVariants as form
-use Rattle.otap_columns.specs.Schemas.{is_there, is_dictionary, fits_form, FormsFit}
-use Rattle.otap_columns.specs.Observed.{bytes_for, given, values_in, values_in_tables, is_own_id, is_above, is_wide, has_wide_id, if_seen, id_form, id_form_if, of_ladder, form_at, dictionary_values, new_at}
+use Rattle.otap_columns.specs.Schemas.{is_present, is_dictionary, fits_form, FormsFit}
+use Rattle.otap_columns.specs.Observed.{bytes_for, given, bytes_of_values, values_in_tables, is_own_id, is_above, is_wide, has_wide_id, if_seen, id_form, id_form_if, of_ladder, form_at, dictionary_values, new_at}
 use Rattle.otap_columns.specs.BuiltCells.{id_bits, FitsForm}
 use Rattle.otap_columns.proofs.CellsBack.{null_bytes}
 
 -- ---- one more table
 
-pub seen-push : (kind : Kind) (tables : List Table) (t : Table) (column : ℕ) → values_in_tables kind (tables ++ t ∷ []) column ≡ values_in_tables kind tables column ++ values_in kind column t
+pub seen-push : (kind : Kind) (tables : List Table) (t : Table) (column : ℕ) → values_in_tables kind (tables ++ t ∷ []) column ≡ values_in_tables kind tables column ++ bytes_of_values kind column t
 unfolding values_in_tables
-seen-push kind tables t column = flat_map-append (values_in kind column) tables (t ∷ []) ∙ ap (λ vs. flat_map (values_in kind column) tables ++ vs) (append-nil (values_in kind column t))
+seen-push kind tables t column = flat_map-append (bytes_of_values kind column) tables (t ∷ []) ∙ ap (λ vs. flat_map (bytes_of_values kind column) tables ++ vs) (append-nil (bytes_of_values kind column t))
 
 -- new values are added at the end
 pub values_grow : (kind : Kind) (before : List Table) (t : Table) (column : ℕ)
@@ -40,7 +40,7 @@ pub values_grow : (kind : Kind) (before : List Table) (t : Table) (column : ℕ)
 unfolding dictionary_values new_at
 values_grow kind before t column =
     let e = seen-push kind before t column in
-    rw e (sym (grows-law (values_in_tables kind before column) (values_in kind column t)))
+    rw e (sym (grows-law (values_in_tables kind before column) (bytes_of_values kind column t)))
 
 -- ---- forms
 
@@ -163,33 +163,33 @@ given-cell holds column (r ∷ rows) (suc row) low none = by (bytes_for holds fo
         absurd (cc)
 
 -- a column that isn't written had no values
-unseen_ladder : (large wide : Bool) → is_there (of_ladder (if large then ladder.Plain else (if wide then ladder.Dict16 else ladder.Dict8))) ≡ true
+unseen_ladder : (large wide : Bool) → is_present (of_ladder (if large then ladder.Plain else (if wide then ladder.Dict16 else ladder.Dict8))) ≡ true
 unseen_ladder true wide = refl
 unseen_ladder false true = refl
 unseen_ladder false false = refl
 
-unseen_form : (marked : Bool) (values : List (List ℕ)) → is_there (of_ladder (form_of marked values)) ≡ false → values ≡ []
+unseen_form : (marked : Bool) (values : List (List ℕ)) → is_present (of_ladder (form_of marked values)) ≡ false → values ≡ []
 unseen_form marked [] is = refl
 unseen_form false (v ∷ vs) is = absurd (true≢false is)
 unseen_form true (v ∷ vs) is =
     absurd (true≢false (sym (unseen_ladder (is_too_large (length (distinct (v ∷ vs))) (byte_count (distinct (v ∷ vs)))) (nat_lt narrow_limit (length (distinct (v ∷ vs))))) ∙ is))
 
-id_there : (kind : Kind) (tables : List Table) (column : ℕ) → is_there (id_form kind tables column) ≡ true
+id_there : (kind : Kind) (tables : List Table) (column : ℕ) → is_present (id_form kind tables column) ≡ true
 id_there kind tables column = by (id_form_is kind tables column)
   where
-    by : (id_form kind tables column ≡ form.Wide) ⊎ (id_form kind tables column ≡ form.Plain) → is_there (id_form kind tables column) ≡ true
+    by : (id_form kind tables column ≡ form.Wide) ⊎ (id_form kind tables column ≡ form.Plain) → is_present (id_form kind tables column) ≡ true
     by (inl is) = rw is refl
     by (inr is) = rw is refl
 
-unseen_id : (own : Bool) (kind : Kind) (tables : List Table) (column : ℕ) → is_there (id_form_if own kind tables column) ≡ false → values_in_tables kind tables column ≡ []
+unseen_id : (own : Bool) (kind : Kind) (tables : List Table) (column : ℕ) → is_present (id_form_if own kind tables column) ≡ false → values_in_tables kind tables column ≡ []
 unseen_id true kind tables column is = absurd (true≢false (sym (id_there kind tables column) ∙ is))
 unseen_id false kind tables column is = by (values_in_tables kind tables column) is
   where
-    by : (values : List (List ℕ)) → is_there (if_seen values (id_form kind tables column)) ≡ false → values ≡ []
+    by : (values : List (List ℕ)) → is_present (if_seen values (id_form kind tables column)) ≡ false → values ≡ []
     by [] h = refl
     by (v ∷ vs) h = absurd (true≢false (sym (id_there kind tables column) ∙ h))
 
-pub unseen : (kind : Kind) (tables : List Table) (column : ℕ) → is_there (form_at kind tables column) ≡ false → values_in_tables kind tables column ≡ []
+pub unseen : (kind : Kind) (tables : List Table) (column : ℕ) → is_present (form_at kind tables column) ≡ false → values_in_tables kind tables column ≡ []
 unfolding form_at
 unseen kind tables column is = by (is_id_at kind column) refl
   where
@@ -202,10 +202,10 @@ append_none [] ys is = is
 append_none (x ∷ xs) ys is = absurd (cc)
 
 -- so its cells are null
-pub absent_null : (kind : Kind) (before : List Table) (t : Table) (column row : ℕ) → is_there (form_at kind (before ++ t ∷ []) column) ≡ false → row < length t.rows → cell_in t.rows column row ≡ null
+pub absent_null : (kind : Kind) (before : List Table) (t : Table) (column row : ℕ) → is_present (form_at kind (before ++ t ∷ []) column) ≡ false → row < length t.rows → cell_in t.rows column row ≡ null
 absent_null kind before t column row is low =
-    let none : values_in_tables kind before column ++ values_in kind column t ≡ [] = sym (seen-push kind before t column) ∙ unseen kind (before ++ t ∷ []) column is in
-    given-cell (base_at kind column) column t.rows row low (append_none (values_in_tables kind before column) (values_in kind column t) none)
+    let none : values_in_tables kind before column ++ bytes_of_values kind column t ≡ [] = sym (seen-push kind before t column) ∙ unseen kind (before ++ t ∷ []) column is in
+    given-cell (base_at kind column) column t.rows row low (append_none (values_in_tables kind before column) (bytes_of_values kind column t) none)
 
 -- ---- ids
 
@@ -242,11 +242,11 @@ stored-cell (r ∷ rows) column zero = refl
 stored-cell (r ∷ rows) column (suc row) = stored-cell rows column row
 
 -- a column of ids that is written is wide, or no id needs more than 16 bits
-by_width : (own : Bool) (kind : Kind) (tables : List Table) (column : ℕ) → is_there (id_form_if own kind tables column) ≡ true
+by_width : (own : Bool) (kind : Kind) (tables : List Table) (column : ℕ) → is_present (id_form_if own kind tables column) ≡ true
     → (id_form_if own kind tables column ≡ form.Wide) ⊎ ((id_form_if own kind tables column ≡ form.Plain) × (list_any (has_wide_id kind column) tables ≡ false))
 by_width own kind tables column there = by (is_wide (base_at kind column) || list_any (has_wide_id kind column) tables) refl
   where
-    same_own : (own : Bool) (values : List (List ℕ)) (f : ColumnForm) → is_there (if own then f else if_seen values f) ≡ true → (if own then f else if_seen values f) ≡ f
+    same_own : (own : Bool) (values : List (List ℕ)) (f : ColumnForm) → is_present (if own then f else if_seen values f) ≡ true → (if own then f else if_seen values f) ≡ f
     same_own true values f is = refl
     same_own false [] f is = absurd (false≢true is)
     same_own false (v ∷ vs) f is = refl
@@ -259,7 +259,7 @@ by_width own kind tables column there = by (is_wide (base_at kind column) || lis
     by true is = inl (same ∙ rw is refl)
     by false is = inr (same ∙ rw is refl, (or_parts (is_wide (base_at kind column)) (list_any (has_wide_id kind column) tables) is).1)
 
-pub ids_by_width : (kind : Kind) (tables : List Table) (column : ℕ) → is_id_at kind column ≡ true → is_there (form_at kind tables column) ≡ true
+pub ids_by_width : (kind : Kind) (tables : List Table) (column : ℕ) → is_id_at kind column ≡ true → is_present (form_at kind tables column) ≡ true
     → (form_at kind tables column ≡ form.Wide) ⊎ ((form_at kind tables column ≡ form.Plain) × (list_any (has_wide_id kind column) tables ≡ false))
 unfolding form_at
 ids_by_width kind tables column id there = rw id (by_width (is_own_id kind column) kind tables column (rw id at there))
@@ -334,7 +334,7 @@ fits_by holds f (flag b) is low = fits_other holds f (flag b) (λ z e. cc)
 fits_by holds f (bytes part) is low = fits_other holds f (bytes part) (λ z e. cc)
 
 -- each id fits its form
-pub ids_fit : (kind : Kind) (before : List Table) (t : Table) (column row : ℕ) → is_there (form_at kind (before ++ t ∷ []) column) ≡ true
+pub ids_fit : (kind : Kind) (before : List Table) (t : Table) (column row : ℕ) → is_present (form_at kind (before ++ t ∷ []) column) ≡ true
     → ((is_id_at kind column ≡ true) → (ids : List (Option ℕ)) × Ids (coding_at kind column) greatest_wide (continues_in t) (stored_in t column) ids)
     → IsCellOf (base_at kind column) (cell_in t.rows column row) → FitsForm (base_at kind column) (form_at kind (before ++ t ∷ []) column) (cell_in t.rows column row)
 ids_fit kind before t column row there stand is =

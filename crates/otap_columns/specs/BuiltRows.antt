@@ -6,7 +6,7 @@ use Rattle.arrow_arrays.specs.Written.{PartIn}
 use Rattle.otap_cells.specs.Columns.{base_at, width_of}
 use Rattle.otap_cells.specs.Tables.{Table, IsTable, column_in}
 use Rattle.otap_cells.specs.Weights.{row_weight_limit, weight_of_table}
-use Rattle.otap_columns.specs.Schemas.{Forms, ArraySlot, is_there, is_dictionary, item_in}
+use Rattle.otap_columns.specs.Schemas.{Forms, ArraySlot, is_present, is_dictionary, item_in}
 use Rattle.otap_columns.specs.Seen.{SeenIn}
 use Rattle.otap_columns.specs.SeenInside.{filled_up, places_of_cells}
 use Rattle.otap_columns.specs.WrittenCells.{FitsIndexes}
@@ -21,7 +21,7 @@ columns_in columns column = (slice_index_or columns column unseen).ladder.values
 pub record CanWrite (forms : Forms) (columns : List SeenIn) (t : Table) : Type 0 where
   pub table : IsTable t
   pub count : length columns ≡ width_of t.kind
-  pub fits : (column : ℕ) → column < width_of t.kind → is_there (forms column) ≡ true → FitsColumn (forms column) t column
+  pub fits : (column : ℕ) → column < width_of t.kind → is_present (forms column) ≡ true → FitsColumn (forms column) t column
   pub few : (column : ℕ) → FitsIndexes (forms column) (length (columns_in columns column))
   pub single : (column : ℕ) → is_dictionary (forms column) ≡ true → item_in (base_at t.kind column) ≡ None
   pub placed : (column : ℕ) → column < width_of t.kind → is_dictionary (forms column) ≡ true

@@ -28,6 +28,6 @@ AreEnds from [] last = from ≡ last
 AreEnds from (e ∷ ends) last = IsEnd from e × AreEnds e.place ends last
 
 -- the bytes of a value
-abbrev pub bytes_in : Option (List ℕ) → List ℕ
-bytes_in None = []
-bytes_in (Some value) = value
+abbrev pub bytes_or_none : Option (List ℕ) → List ℕ
+bytes_or_none None = []
+bytes_or_none (Some value) = value

@@ -6,7 +6,7 @@ use Rattle.otap_cells.specs.Tables.{Table}
 use Rattle.otap_cells.specs.Weights.{weight_of_table}
 use Rattle.otap_dicts.specs.Limits.{value_limit, byte_limit}
 
--- how many bytes the values of a dictionary have together at most, which no memory has
+-- the most bytes that the values of a dictionary have together; no memory is as large
 abbrev pub kept_limit : ℕ
 kept_limit = 2 ^ 48
 

@@ -29,19 +29,19 @@ id_width form.Wide = 4
 id_width other = 2
 
 -- the bytes of a number, the lowest first
-abbrev pub number_bytes : Base → ColumnForm → ℤ → List ℕ
-number_bytes base.U8 form n = little_bytes 1 (unsigned_abs n)
-number_bytes base.U16 form n = little_bytes 2 (unsigned_abs n)
-number_bytes base.U32 form n = little_bytes 4 (unsigned_abs n)
-number_bytes base.I32 form n = little_bytes 4 (cast_unsigned w32 n)
-number_bytes base.I64 form n = little_bytes 8 (cast_unsigned w64 n)
-number_bytes (base.Id wide) form n = little_bytes (id_width form) (unsigned_abs n)
-number_bytes other form n = []
+abbrev pub bytes_of_number : Base → ColumnForm → ℤ → List ℕ
+bytes_of_number base.U8 form n = little_bytes 1 (unsigned_abs n)
+bytes_of_number base.U16 form n = little_bytes 2 (unsigned_abs n)
+bytes_of_number base.U32 form n = little_bytes 4 (unsigned_abs n)
+bytes_of_number base.I32 form n = little_bytes 4 (cast_unsigned w32 n)
+bytes_of_number base.I64 form n = little_bytes 8 (cast_unsigned w64 n)
+bytes_of_number (base.Id wide) form n = little_bytes (id_width form) (unsigned_abs n)
+bytes_of_number other form n = []
 
 -- THE BYTES THAT STORE A CELL in a column of a base that has a form; null has none
 abbrev pub bytes_for : Base → ColumnForm → Cell → Option (List ℕ)
 bytes_for holds form null = None
-bytes_for holds form (number n) = Some (number_bytes holds form n)
+bytes_for holds form (number n) = Some (bytes_of_number holds form n)
 bytes_for holds form (bits n) = Some (little_bytes 8 n)
 bytes_for holds form (flag b) = Some (bit_byte b)
 bytes_for holds form (bytes part) = Some part
@@ -54,12 +54,12 @@ given [] = []
 given (None ∷ cells) = given cells
 given (Some value ∷ cells) = value ∷ given cells
 
-abbrev pub values_in : Kind → ℕ → Table → List (List ℕ)
-values_in kind column t = given (map (bytes_for (base_at kind column) form.Wide) (column_in t.rows column))
+abbrev pub bytes_of_values : Kind → ℕ → Table → List (List ℕ)
+bytes_of_values kind column t = given (map (bytes_for (base_at kind column) form.Wide) (column_in t.rows column))
 
 -- ALL THAT A COLUMN HAD in tables
 unfoldable pub values_in_tables : Kind → List Table → ℕ → List (List ℕ)
-values_in_tables kind tables column = flat_map (values_in kind column) tables
+values_in_tables kind tables column = flat_map (bytes_of_values kind column) tables
 
 -- ---- ids
 

@@ -27,9 +27,9 @@ use Rattle.otap_columns.specs.Known.{place_at, known_column}
 abbrev pub Forms : Type 0
 Forms = ℕ → ColumnForm
 
-abbrev pub is_there : ColumnForm → Bool
-is_there form.Absent = false
-is_there other = true
+abbrev pub is_present : ColumnForm → Bool
+is_present form.Absent = false
+is_present other = true
 
 abbrev pub is_dictionary : ColumnForm → Bool
 is_dictionary form.Dict8 = true
@@ -99,7 +99,7 @@ leaf_in kind forms m = record {
 
 -- the columns that are there
 abbrev pub members_there : Forms → List Member → List Member
-members_there forms members = filter (λ m. is_there (forms m.column)) members
+members_there forms members = filter (λ m. is_present (forms m.column)) members
 
 -- those of a struct, which is there where one of them is
 abbrev pub branches_under : Kind → Forms → List ℕ → List Member → List Branch

@@ -6,7 +6,7 @@ use Rattle.arrow_buffers.specs.declared.width.Width.TheVariants as width
 use Rattle.arrow_buffers.specs.Columns.{HasWidth}
 use Rattle.arrow_ipc.specs.declared.messages.IpcMessage.TheVariants.{Dictionary}
 use Rattle.arrow_ipc.specs.Batches.{BatchIn}
-use Rattle.arrow_ipc.specs.Written.{Appends, most_of}
+use Rattle.arrow_ipc.specs.Written.{Appends, most_of_batch}
 use Rattle.arrow_arrays.specs.Columns.{stored_width, AreTexts}
 use Rattle.arrow_arrays.specs.Layouts.{layout_of_values}
 use Rattle.otap_columns.specs.WrittenPayloads.{HoldsValues}
@@ -28,5 +28,5 @@ pub record HoldsType (type : ArrowType) (w : Width) (values : List (List ℕ)) :
 -- a dictionary batch of values was appended
 pub record AddsDictionary (type : ArrowType) (id : ℤ) (delta : Bool) (values : List (List ℕ)) (old new : List ℕ) : Type 0 where
   pub batch : BatchIn
-  pub appends : Appends (Dictionary id delta batch) (most_of batch) old new
+  pub appends : Appends (Dictionary id delta batch) (most_of_batch batch) old new
   pub holds : HoldsValues type values batch

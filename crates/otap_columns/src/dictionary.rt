@@ -20,7 +20,7 @@ pub(crate) struct Dictionary {
     id: i64,
     kind: ArrowType,
     ends: Vec<End>,
-    // The bytes of all values, one after the other.
+    /// The bytes of all values, one after the other.
     bytes: Vec<u8>,
 }
 

@@ -4,7 +4,7 @@ ghost use Rattle.std.specs.Prelude.{◌≡◌, ◌-◌, ◌<◌, ◌≤◌, ◌+
 ghost use Rattle.std.specs.List.{slice_index_or};
 ghost use Rattle.std.specs.Option.{option_copied};
 ghost use Rattle.otap_columns.specs.Limits.{kept_limit};
-ghost use Rattle.otap_columns.specs.Ends.{AreEnds, values_by_ends, start_of, bytes_in};
+ghost use Rattle.otap_columns.specs.Ends.{AreEnds, values_by_ends, start_of, bytes_or_none};
 
 use std::alloc::AllocError;
 
@@ -56,7 +56,7 @@ fn start(ends: &[End], place: usize) -> usize
 /// Appends the bytes of a value, and tells whether it is there. Where there are too many bytes there is no room for it.
 pub(crate) fn keep(kept: &mut Vec<u8>, value: Option<&[u8]>) -> Result<bool, AllocError>
     requires { vec_len kept.old ≤ kept_limit }
-    ensures bytes { OnOk result (kept.new.items ≡ kept.old.items ++ bytes_in (option_copied value.entry)) }
+    ensures bytes { OnOk result (kept.new.items ≡ kept.old.items ++ bytes_or_none (option_copied value.entry)) }
     ensures there { IfOk result (λ there. there ≡ is_some (option_copied value.entry)) }
     ensures small { vec_len kept.new ≤ kept_limit }
     ensures err { OnErr result (kept.new.items ≡ kept.old.items) }

@@ -10,7 +10,7 @@ ghost use Rattle.otap_columns.specs.declared.dictionary.TheConstants.{MAX_VALUES
 ghost use Rattle.otap_columns.specs.declared.ends.TheConstants.{MAX_KEPT};
 ghost use Rattle.otap_columns.specs.Limits.{kept_limit};
 ghost use Rattle.otap_columns.specs.Records.{IsRead, Stands, CanGoOn, IsJudged};
-ghost use Rattle.otap_columns.specs.Schemas.{Forms, is_there, FormsFit, item_in, schema_for, slots_for, IsArraySlot, IsFound};
+ghost use Rattle.otap_columns.specs.Schemas.{Forms, is_present, FormsFit, item_in, schema_for, slots_for, IsArraySlot, IsFound};
 ghost use Rattle.otap_columns.specs.Schemas.{Column, Items};
 ghost use Rattle.otap_columns.specs.Groups.{Member};
 ghost use Rattle.otap_columns.specs.Known.{known_column, place_at, columns_fit};
@@ -61,8 +61,8 @@ pub fn columns_make_a_schema()
     ensures arrays { (kind : Kind) (forms : Forms) → FormsFit kind forms → (place : ℕ) (a : ArraySpec) → slice_get (arrays_of (schema_for kind forms)) place ≡ Some a → IsArraySlot kind forms place a }
     ensures items { (kind : Kind) (forms : Forms) → FormsFit kind forms → (place : ℕ) (m : Member) (item : ArrowType) → slice_get (slots_for kind forms) place ≡ Some (Column m)
         → item_in (column_at kind m.column).base ≡ Some item → slice_get (slots_for kind forms) (place + 1) ≡ Some (Items m.column) }
-    ensures found { (kind : Kind) (forms : Forms) → FormsFit kind forms → (column : ℕ) → column < width_of kind → is_there (forms column) ≡ true → IsFound kind forms column }
-    ensures absent { (kind : Kind) (forms : Forms) → FormsFit kind forms → (column : ℕ) → is_there (forms column) ≡ false → place_at kind (arrays_of (schema_for kind forms)) column ≡ None }
+    ensures found { (kind : Kind) (forms : Forms) → FormsFit kind forms → (column : ℕ) → column < width_of kind → is_present (forms column) ≡ true → IsFound kind forms column }
+    ensures absent { (kind : Kind) (forms : Forms) → FormsFit kind forms → (column : ℕ) → is_present (forms column) ≡ false → place_at kind (arrays_of (schema_for kind forms)) column ≡ None }
 {}
 
 /// Two schemas of the columns of a table are equal exactly where the columns have the same forms.

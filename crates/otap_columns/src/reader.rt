@@ -23,10 +23,10 @@ pub struct Reader {
     alloc: Global,
     kind: Kind,
     arrays: Arrays,
-    // The place of the array of each column of the kind.
+    /// The place of the array of each column of the kind.
     places: Vec<Option<usize>>,
     dictionaries: Vec<Dictionary>,
-    // Where the record batch of the last record stands in it.
+    /// Where the record batch of the last record stands in it.
     place: usize,
     broken: bool,
 }

@@ -16,7 +16,8 @@ pub enum ColumnRefusal {
     /// A message can't be read.
     #[error("a message can't be read: {0}")]
     Ipc(IpcFault),
-    /// A known column has another type than the profile gives it.
+    /// A known column has a type that doesn't store what the profile gives it, or holds ids and names an encoding that
+    /// it doesn't allow.
     #[error("a column has another type")]
     Column,
     /// The buffers of a field or of a dictionary batch have a fault.

@@ -18,9 +18,9 @@ use otap_cells::{Base, CellView};
 pub(crate) struct ResolvedColumn<'v> {
     base: Base,
     stored: ColumnView<'v>,
-    // No bitmap has bytes.
+    /// No bitmap has bytes.
     whole: bool,
-    // The dictionary that the stored indexes lead into.
+    /// The dictionary that the stored indexes lead into.
     dictionary: Option<&'v Dictionary>,
 }
 

@@ -17,7 +17,7 @@ const MAX_COLUMNS: usize = 25;
 pub struct RowsView<'v> {
     reader: &'v Reader,
     batch: BatchView<'v>,
-    // The columns of the kind, found once for all rows.
+    /// The columns of the kind, found once for all rows.
     columns: [ResolvedColumn<'v>; MAX_COLUMNS],
 }
 

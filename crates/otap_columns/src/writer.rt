@@ -21,7 +21,9 @@ use std::marker::Model;
 /// A record that was written, and whether it opens a sub-stream.
 #[derive(Debug, Drop)]
 pub struct Written {
+    /// Whether it opens a sub-stream.
     pub opens: bool,
+    /// The record: Arrow IPC messages, one after the other.
     pub bytes: Vec<u8>,
 }
 
@@ -30,7 +32,7 @@ pub struct Written {
 pub struct Writer {
     alloc: Global,
     kind: Kind,
-    // Nothing before the first table.
+    /// Nothing before the first table.
     columns: Vec<SeenColumn>,
     started: bool,
     broken: bool,

@@ -9,7 +9,7 @@ ghost use Rattle.byteorder.specs.Endian.{little_bytes};
 ghost use Rattle.otap_cells.specs.Cells.{IsCellOf, IsNumberOf, null, number, seen};
 ghost use Rattle.otap_cells.specs.Columns.{width_of};
 ghost use Rattle.otap_cells.specs.Tables.{cell_in};
-ghost use Rattle.otap_columns.specs.Observed.{bytes_for, id_width, number_bytes};
+ghost use Rattle.otap_columns.specs.Observed.{bytes_for, id_width, bytes_of_number};
 ghost use Rattle.otap_columns.specs.BuiltCells.{FitsForm, id_bits, IsIndexFor, index_size, shown_bytes};
 ghost use Rattle.otap_columns.specs.Schemas.{is_dictionary};
 
@@ -52,7 +52,7 @@ pub(crate) fn bytes_for(base: Base, form: ColumnForm, cell: CellView<'_>) -> Cel
 {
     match cell {
         CellView::Null => CellBytes::Null,
-        CellView::Num(number) => number_bytes(base, form, number),
+        CellView::Num(number) => bytes_of_number(base, form, number),
         CellView::Bits(bits) => CellBytes::Eight(bits.to_le_bytes()),
         CellView::Flag(flag) => CellBytes::One([u8::from(flag)]),
         CellView::Bytes(part) => CellBytes::Part(part),
@@ -60,10 +60,10 @@ pub(crate) fn bytes_for(base: Base, form: ColumnForm, cell: CellView<'_>) -> Cel
 }
 
 /// A number of a base that has numbers.
-fn number_bytes<'a>(base: Base, form: ColumnForm, n: i64) -> CellBytes<'a>
+fn bytes_of_number<'a>(base: Base, form: ColumnForm, n: i64) -> CellBytes<'a>
     requires base { IsNumberOf base n }
     requires fits { FitsForm base form (number n) }
-    ensures { shown_bytes result ≡ Some (number_bytes base form n) }
+    ensures { shown_bytes result ≡ Some (bytes_of_number base form n) }
 {
     match base {
         Base::U8 => CellBytes::One([n as u8]),
@@ -126,9 +126,9 @@ fn push_number(
 ) -> Result<(), AllocError>
     requires base { IsNumberOf base n }
     requires fits { FitsForm base form (number n) }
-    requires width { HasWidth built.old.width (number_bytes base form n) }
-    requires room { cells_len built.old.cells + length (number_bytes base form n) < max_values }
-    ensures { OnOk result (built.new ≡ record { width = built.old.width; cells = built.old.cells ++ Some (number_bytes base form n) ∷ [] }) }
+    requires width { HasWidth built.old.width (bytes_of_number base form n) }
+    requires room { cells_len built.old.cells + length (bytes_of_number base form n) < max_values }
+    ensures { OnOk result (built.new ≡ record { width = built.old.width; cells = built.old.cells ++ Some (bytes_of_number base form n) ∷ [] }) }
 {
     match base {
         Base::U8 => built.push(Some(&[n as u8])),

@@ -22,7 +22,7 @@ use std::alloc::{AllocError, Global};
 /// The greatest id of 16 bits.
 const GREATEST_NARROW: u64 = 65_535;
 
-// Above this sum it is looked where a run begins.
+/// Above this sum it is looked where a run begins.
 const LARGE_SUM: u64 = 32_767;
 
 /// Whether an id of a column needs more than 16 bits.
@@ -82,7 +82,8 @@ fn are_narrow(table: &LogicalTable, column: u32) -> bool
     true
 }
 
-/// A bound of the id before a row taken to one of the id before the next row, where it is seen to need no more than 16 bits.
+/// From a bound of the id before a row, one of the id before the next row; `None` where that id may need more than 16
+/// bits, or where a row has no id and ids are stored in runs.
 fn most_after(
     table: &LogicalTable,
     column: u32,

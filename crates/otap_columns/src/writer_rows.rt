@@ -3,20 +3,20 @@
 ghost use Rattle.std.specs.Prelude.{◌≡◌, ◌+◌, ◌<◌, ◌≤◌, [], ◌∷◌, All, length, map, OnOk, IfOk};
 ghost use Rattle.std.specs.List.{flat_map, list_any, slice_index_or};
 ghost use Rattle.arrow_buffers.specs.Limits.{max_rows};
-ghost use Rattle.arrow_ipc.specs.Written.{most_of};
+ghost use Rattle.arrow_ipc.specs.Written.{most_of_batch};
 ghost use Rattle.arrow_arrays.specs.Written.{struct_part};
 ghost use Rattle.otap_cells.specs.Columns.{width_of};
 ghost use Rattle.otap_columns.specs.BuiltCells.{GrowsBy, HasRoom, column_most, columns_most, group_most, group_parts, rows_most, with_part};
 ghost use Rattle.otap_columns.specs.WrittenGroups.{IsWithin, forms_in, group_in, member_in};
 ghost use Rattle.otap_columns.specs.WrittenPayloads.{HoldsRows};
-ghost use Rattle.otap_columns.specs.Schemas.{FormsFit, is_there, members_there, slots_in, slots_of_member, slots_under};
+ghost use Rattle.otap_columns.specs.Schemas.{FormsFit, is_present, members_there, slots_in, slots_of_member, slots_under};
 ghost use Rattle.otap_columns.specs.WrittenRows.{HasValues, unseen};
 ghost use Rattle.otap_columns.specs.BuiltRows.{AddsSlots, CanWrite, columns_in};
 
 use crate::forms::ColumnForm;
 use crate::writer_columns::{add_column, column_for, width_for};
 use crate::writer_groups::{Group, Member, groups};
-use crate::writer_schema::{form_of, is_there};
+use crate::writer_schema::{form_of, is_present};
 use crate::writer_seen::SeenColumn;
 use arrow_ipc::BatchBuilder;
 use otap_cells::{LogicalTable, Rows, base_of};
@@ -52,7 +52,7 @@ fn add_member(
     ensures grows { OnOk result (GrowsBy 1 (column_most table.now member.now.column) batch.old batch.new) }
 {
     let form = form_of(forms, member.column);
-    if !is_there(form) {
+    if !is_present(form) {
         return Ok(());
     }
     let width = width_for(base_of(table.kind(), member.column), form);
@@ -102,11 +102,11 @@ fn add_members(
 
 /// Whether one of the columns is there.
 fn any_there(forms: &[ColumnForm], members: &[Member]) -> bool
-    ensures { result ≡ list_any (λ member. is_there (forms_in forms.now member.column)) members.now }
+    ensures { result ≡ list_any (λ member. is_present (forms_in forms.now member.column)) members.now }
 {
     members
         .iter()
-        .any(|member| is_there(form_of(forms, member.column)))
+        .any(|member| is_present(form_of(forms, member.column)))
 }
 
 /// Adds a struct and its columns, where one is there.
@@ -166,7 +166,7 @@ pub(crate) fn rows_of(
     requires fit { FormsFit table.now.kind (forms_in forms.now) }
     requires values { HasValues table.now.kind (forms_in forms.now) (columns_in columns.now) table.now }
     ensures holds { IfOk result (HoldsRows table.now.kind (forms_in forms.now) (columns_in columns.now) table.now) }
-    ensures short { IfOk result (λ batch. most_of batch ≤ rows_most table.now) }
+    ensures short { IfOk result (λ batch. most_of_batch batch ≤ rows_most table.now) }
 {
     let groups = groups(table.kind());
     let mut batch = BatchBuilder::new(alloc, table.rows());

@@ -5,7 +5,7 @@ ghost use Rattle.arrow_schema.specs.Branches as branches;
 ghost use Rattle.arrow_schema.specs.declared.spec.ArrowType.TheVariants as arrow;
 ghost use Rattle.otap_cells.specs.Columns.{width_of};
 ghost use Rattle.otap_columns.specs.Groups as group;
-ghost use Rattle.otap_columns.specs.Schemas.{branches_in, dict_for, is_there, item_in, leaf_in, members_there, schema_for, arrow_type_in};
+ghost use Rattle.otap_columns.specs.Schemas.{branches_in, dict_for, is_present, item_in, leaf_in, members_there, schema_for, arrow_type_in};
 ghost use Rattle.otap_columns.specs.WrittenGroups.{IsWithin, forms_in, group_in, member_in};
 
 use crate::forms::ColumnForm;
@@ -57,7 +57,7 @@ fn add_member(
     requires { member.now.column < width_of kind }
     ensures { OnOk result (schema.new ≡ schema.old ++ branches.branch_fields (branches_in kind (forms_in forms.now) (group.Alone (member_in member.now)))) }
 {
-    if !is_there(form_of(forms, member.column)) {
+    if !is_present(form_of(forms, member.column)) {
         return Ok(());
     }
     schema.push(leaf_field(alloc, kind, forms, member)?)
@@ -115,7 +115,7 @@ fn add_leaf(
     requires { member.now.column < width_of kind }
     ensures { OnOk result (fields.new ≡ fields.old ++ map branches.leaf_field (map (leaf_in kind (forms_in forms.now)) (members_there (forms_in forms.now) (member_in member.now ∷ [])))) }
 {
-    if !is_there(form_of(forms, member.column)) {
+    if !is_present(form_of(forms, member.column)) {
         return Ok(());
     }
     fields.push(leaf_field(alloc, kind, forms, member)?)
@@ -177,8 +177,8 @@ pub(crate) fn form_of(forms: &[ColumnForm], column: u32) -> ColumnForm
     }
 }
 
-pub(crate) fn is_there(form: ColumnForm) -> bool
-    ensures { result ≡ is_there form }
+pub(crate) fn is_present(form: ColumnForm) -> bool
+    ensures { result ≡ is_present form }
 {
     !matches!(form, ColumnForm::Absent)
 }

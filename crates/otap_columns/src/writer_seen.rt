@@ -28,8 +28,8 @@ use std::marker::Model;
 pub(crate) struct SeenColumn {
     pub(crate) ladder: Ladder,
     pub(crate) wide: bool,
-    // Of each row of the last table, up to the last one in which the column was set, the place of its value in the dictionary. Left
-    // open where the column isn't one.
+    /// Of each row of the last table, up to the last one in which the column was set, the place of its value in the dictionary. Left
+    /// open where the column isn't one.
     pub(crate) places: Vec<Option<u32>>,
 }
 

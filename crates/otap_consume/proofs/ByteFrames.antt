@@ -1,10 +1,11 @@
 -- The payloads of a batch are bytes where its message is.
 use Rattle.std.proofs.Common.{◌+◌, ℕ, zero, suc, List, [], ◌∷◌, take, drop, length, Ok, Err, IfOk, sym, subst}
-use Rattle.std.specs.Prelude.{nat_lt, ◌==◌, ◌/◌, ◌%◌, ◌^◌, ◌&&◌, filter, fold, if◌then◌else◌, slice_index}
+use Rattle.std.specs.Prelude.{nat_lt, ◌==◌, ◌/◌, ◌%◌, ◌&&◌, filter, fold, if◌then◌else◌, slice_index}
 use Rattle.std.specs.List.{AllByRecursion}
 use Rattle.lists.proofs.AllBytes.{IsBytes, IsBytes-nil, IsBytes-drop, IsBytes-take}
 use Rattle.otlp_wire.specs.declared.parts.WireError.{WireError}
 use Rattle.otlp_wire.specs.declared.parts.WireError.TheVariants.{Cut, BadVarint, BadTag}
+use Rattle.otlp_wire.specs.Limits.{number_limit}
 use Rattle.otlp_wire.specs.Fields.{WireRead, going_on, first_varint, as_varint, as_part, as_fixed, first_value, with_number, after_tag, first_field, and_then, reading_in, fields_of}
 use Rattle.otlp_wire.specs.Varint.{sevens}
 use Rattle.otlp_wire.specs.Wire.{FieldValue, Varint, Fixed64, Fixed32, Entry}
@@ -68,7 +69,7 @@ numbered_bytes n (Err e) fits = tt
 
 tag_bytes : (r : WireRead ℕ) → IfOk r NumberTaken → IfOk (after_tag r) EntryTaken
 tag_bytes (Ok x) fits =
-    either_or EntryTaken (nat_lt 0 (x.0 / 8) && nat_lt (x.0 / 8) (2 ^ 29)) (with_number (x.0 / 8) (first_value (x.0 % 8) x.1)) (Err BadTag)
+    either_or EntryTaken (nat_lt 0 (x.0 / 8) && nat_lt (x.0 / 8) number_limit) (with_number (x.0 / 8) (first_value (x.0 % 8) x.1)) (Err BadTag)
     (numbered_bytes (x.0 / 8) (first_value (x.0 % 8) x.1) (value_taken (x.0 % 8) x.1 fits)) tt
 tag_bytes (Err e) fits = tt
 

@@ -1,9 +1,9 @@
 -- What holds of each element of a list holds of those of the lists that are made of it.
-use Rattle.std.proofs.Common.{◌+◌, ◌<◌, ℕ, zero, suc, Bool, true, false, List, [], ◌∷◌, get_or, map, Option, Some, None, Result, Ok, Err, IfOk, All, subst}
+use Rattle.std.proofs.Common.{◌<◌, ℕ, zero, suc, Bool, true, false, List, [], ◌∷◌, get_or, map, Option, Some, None, Result, Ok, Err, IfOk, All, subst}
 use Rattle.std.specs.Prelude.{filter, if◌then◌else◌, IfSome, slice_get}
 use Rattle.std.specs.List.{AllByRecursion, cons_option, filter_map, flat_map, list_any}
 use Rattle.std.proofs.lemmas.List.{get_or_default}
-use Rattle.flat_tables.specs.Bytes.{◌>>=◌}
+use Rattle.lists.specs.Results.{◌>>=◌}
 use Rattle.lists.specs.Since.{since, last_after}
 use Rattle.lists.proofs.AllBytes.{IsBytes}
 use Rattle.lists.proofs.Every.{every_append}

@@ -10,7 +10,7 @@ use Rattle.flat_tables.specs.Bytes.{part_at}
 use Rattle.flat_tables.specs.Tables.{TableIn}
 use Rattle.arrow_ipc.specs.declared.messages.IpcMessage.{IpcMessage}
 use Rattle.arrow_ipc.specs.declared.messages.IpcMessage.TheVariants.{Schema, Dictionary, Rows}
-use Rattle.arrow_ipc.specs.Batches.{BatchIn, IsBatch, buffer_in}
+use Rattle.arrow_ipc.specs.Batches.{BatchIn, IsBatch, buffer_of}
 use Rattle.arrow_ipc.specs.Fronts.{Front, front_of, left_of}
 use Rattle.arrow_ipc.specs.Messages.{IsContent}
 use Rattle.arrow_ipc.proofs.Fronting.{front_of-is}
@@ -33,7 +33,7 @@ body_bytes bytes place n body is fits = subst (λ (r : Result (List ℕ) FlatFau
 
 batch_bytes : (table : TableIn) (body : List ℕ) (batch : BatchIn) → IsBatch table body batch → IsBytes body → BatchBytes batch
 batch_bytes table body batch is fits =
-    subst (AllByRecursion IsBytes) (sym is.buffers) (every_made IsBytes (buffer_in body) is.places (λ place. IsBytes-take _ _ (IsBytes-drop _ body fits)))
+    subst (AllByRecursion IsBytes) (sym is.buffers) (every_made IsBytes (buffer_of body) is.places (λ place. IsBytes-take _ _ (IsBytes-drop _ body fits)))
 
 content_bytes : (m : IpcMessage) (header : TableIn) (body : List ℕ) → IsContent header body m → IsBytes body → MessageBytes m
 content_bytes (Schema fields) header body is fits = tt

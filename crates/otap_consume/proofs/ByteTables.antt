@@ -31,7 +31,8 @@ use Rattle.otap_checks.specs.Deciding.{HasByteCells, HaveByteCells}
 use Rattle.otap_columns.specs.Dictionaries.{DictionaryIn, values_of, dictionary_batches, batches_of, dictionary_over, filled, empty_dictionaries, dictionaries_in, is_for, values_if, values_for}
 use Rattle.otap_columns.specs.Known.{place_at, stored_cell}
 use Rattle.otap_columns.specs.Streams.{of_type, is_of, marked_after, stream_of}
-use Rattle.otap_columns.specs.Substreams.{SubstreamIn, substream_of, substream_in, schema_in, value_by_index, replaced, field_value, value_if, column_value, column_cell, table_of_batch, record_batches, last_rows, table_if, logical}
+use Rattle.otap_columns.specs.Substreams.{SubstreamIn, substream_of, substream_in, schema_in, value_by_index, replaced, field_value, value_if}
+use Rattle.otap_columns.specs.Substreams.{column_value, column_cell, table_of_batch, record_batches, last_rows, table_if, logical}
 use Rattle.otap_consume.specs.Defects.{table_of, tables_of}
 use Rattle.otap_consume.proofs.ByteCells.{own_cell_bytes, cell_bytes}
 use Rattle.otap_consume.proofs.ByteLists.{IfBytes, all_bytes, each_at, each_filter, each_since, each_last, each_flat_map, each_filter_map}

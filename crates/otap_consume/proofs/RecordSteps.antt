@@ -16,8 +16,8 @@ use Rattle.otap_consume.specs.declared.not_taken.NotTaken.{NotTaken}
 use Rattle.otap_consume.specs.declared.not_taken.NotTaken.TheVariants.{Defect}
 use Rattle.otap_consume.specs.Defects.{IsReadAfter, StandsInRecord}
 use Rattle.otap_consume.specs.Payloads.{payload_type_of, messages_before}
-use Rattle.otap_consume.specs.Records.{EachTakes, OneRefuses, TakesAll}
-use Rattle.otap_consume.specs.Stops.{SaysDefect, StopOf, IsOfRecord}
+use Rattle.otap_consume.specs.Records.{EachTakes, OneRefuses, TakesPayloads}
+use Rattle.otap_consume.specs.Untaken.{SaysDefect, IsUntakenFor, IsOfRecord}
 use Rattle.otap_consume.specs.Streams.{StreamIn, AreAfter, IsAfter, kinds_in, ShowsLast, ShowsAfter}
 use Rattle.otap_consume.specs.StreamSteps.{Takes, RefusesFor, closed}
 use Rattle.otap_consume.proofs.IdSteps.{kind_at, count_of}
@@ -27,7 +27,7 @@ use Rattle.lists.specs.Payloads.{PayloadIn}
 use Rattle.otap_consume.proofs.Substreams.{last_of-other, last_of-own}
 
 -- nothing is taken yet
-pub takes_none : (streams : List StreamIn) → TakesAll streams [] streams
+pub takes_none : (streams : List StreamIn) → TakesPayloads streams [] streams
 takes_none streams = record {
   kinds = refl;
   shows = λ k d inside. tt;
@@ -48,8 +48,8 @@ shown done p old new before takes = go (cases_Bool (int_eq p.kind (payload_type_
         subst (λ (s : StreamIn). ShowsAfter (done ++ p ∷ []) s) (sym same)
         (subst (λ (last : Option PayloadIn). ShowsLast last old.current) (sym (last_of-other (payload_type_of old.kind) done p other)) before)
 
-pub takes_more : (old mid new : List StreamIn) (done : List PayloadIn) (p : PayloadIn) → TakesAll old done mid → EachTakes mid p new → kinds_in new ≡ kinds_in mid
-    → TakesAll old (done ++ p ∷ []) new
+pub takes_more : (old mid new : List StreamIn) (done : List PayloadIn) (p : PayloadIn) → TakesPayloads old done mid → EachTakes mid p new → kinds_in new ≡ kinds_in mid
+    → TakesPayloads old (done ++ p ∷ []) new
 takes_more old mid new done p before takes kinds = record {
   kinds = kinds ∙ before.kinds;
   shows = λ k d inside.
@@ -102,7 +102,7 @@ a_stream = record { kind = Logs; current = None }
 
 -- where a stream refuses the record of a payload, a defect stands in it, or memory ran out
 pub stops_at : (old mid : List StreamIn) (done rest payloads : List PayloadIn) (p : PayloadIn) (why : ColumnRefusal) (stop : NotTaken)
-    → TakesAll old done mid → payloads ≡ done ++ p ∷ rest → OneRefuses mid p why → StopOf why p.kind stop
+    → TakesPayloads old done mid → payloads ≡ done ++ p ∷ rest → OneRefuses mid p why → IsUntakenFor why p.kind stop
     → (signal : Signal) (past : List PayloadIn) → kinds_in old ≡ kinds_of signal → AreAfter past old → SaysDefect (IsOfRecord signal past payloads) stop
 stops_at old mid done rest payloads p why stop before whole refuses of signal past same are =
     go why of (refuses.refuses a_stream (past ++ done) (before.after past are refuses.i a_stream refuses.inside))
@@ -114,7 +114,7 @@ stops_at old mid done rest payloads p why stop before whole refuses of signal pa
         subst (SaysDefect (IsOfRecord signal past payloads)) (sym is)
         (defect_at signal past done rest payloads p why mid refuses.i a_stream whole (before.kinds ∙ same) refuses.inside stands)
 
-    go : (why : ColumnRefusal) → StopOf why p.kind stop → RefusesFor (past ++ done) (get_or mid refuses.i a_stream).kind p why → SaysDefect (IsOfRecord signal past payloads) stop
+    go : (why : ColumnRefusal) → IsUntakenFor why p.kind stop → RefusesFor (past ++ done) (get_or mid refuses.i a_stream).kind p why → SaysDefect (IsOfRecord signal past payloads) stop
     go (refusal.Memory e) is stands = subst (SaysDefect (IsOfRecord signal past payloads)) (sym is) tt
     go refusal.Order is stands = here refusal.Order stands is
     go (refusal.Ipc fault) is stands = here (refusal.Ipc fault) stands is

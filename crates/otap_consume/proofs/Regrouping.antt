@@ -24,8 +24,8 @@ use Rattle.otap_consume.specs.ReceiverInside.{AreLast, OfLast, KeepsBatch, Takes
 use Rattle.otap_consume.specs.Regroups.{IsRegrouped, IsLight}
 use Rattle.otap_consume.specs.Receivers.{HasReceived, Receives}
 use Rattle.otap_consume.specs.Receiving.{Settles}
-use Rattle.otap_consume.specs.Segments.{SegmentIn, StandsFor, Tells, HasNext, Next}
-use Rattle.otap_consume.specs.Stops.{SaysDefect}
+use Rattle.otap_consume.specs.Segments.{SegmentIn, StandsFor, TellsOutcome, HasNext, Next}
+use Rattle.otap_consume.specs.Untaken.{SaysDefect}
 use Rattle.otap_consume.proofs.SegmentSteps.{stands_broken}
 
 -- ---- the rows of a batch
@@ -108,7 +108,7 @@ told_batch {request} same_id same same_rows same_tree = rw (same_tree, same_id, 
 
 -- a batch whose rows are taken
 by_rows : (m : Meaning) (outcomes : List Outcome) (frame : Frame) (batch : BatchContent) (tables : List Table) (id : ℤ) (rows : ℕ) (mid new : SegmentIn) (returned : Taken)
-    → OutcomeAfter m.signal outcomes frame (Accepted batch tables) → Tells (Accepted batch tables) (seen.Batch id rows)
+    → OutcomeAfter m.signal outcomes frame (Accepted batch tables) → TellsOutcome (Accepted batch tables) (seen.Batch id rows)
     → StandsFor m.signal (outcomes ++ Accepted batch tables ∷ []) mid → TakesRows m frame id rows mid new returned → HasReceived m outcomes frame new returned
 by_rows m outcomes frame batch tables id rows mid new (taken.Accepted told request light tree) after tells stands takes =
     let last : AreLast frame mid tables = are_last m.signal outcomes frame batch tables mid after stands in
@@ -140,7 +140,7 @@ by_rows m outcomes frame batch tables id rows mid new (taken.Refused refusal) af
 by_rows m outcomes frame batch tables id rows mid new taken.Reset after tells stands takes = absurd takes
 
 from_batch : (m : Meaning) (outcomes : List Outcome) (frame : Frame) (outcome : Outcome) (id : ℤ) (rows : ℕ) (mid new : SegmentIn) (returned : Taken)
-    → OutcomeAfter m.signal outcomes frame outcome → Tells outcome (seen.Batch id rows) → StandsFor m.signal (outcomes ++ outcome ∷ []) mid → TakesRows m frame id rows mid new returned
+    → OutcomeAfter m.signal outcomes frame outcome → TellsOutcome outcome (seen.Batch id rows) → StandsFor m.signal (outcomes ++ outcome ∷ []) mid → TakesRows m frame id rows mid new returned
     → HasReceived m outcomes frame new returned
 from_batch m outcomes frame (Accepted batch tables) id rows mid new returned after tells stands takes = by_rows m outcomes frame batch tables id rows mid new returned after tells stands takes
 from_batch m outcomes frame (Refused refusal) id rows mid new returned after tells stands takes = absurd tells
@@ -163,7 +163,7 @@ after_batch (Ok taken) m frame id told rows seg old mid new returned view same_i
     (subst (λ (z : ℤ). TakesRows m frame z rows mid new taken) same_id takes)
 
 from_refused : (m : Meaning) (outcomes : List Outcome) (frame : Frame) (outcome : Outcome) (refusal : Refusal) (new : SegmentIn)
-    → OutcomeAfter m.signal outcomes frame outcome → Tells outcome (seen.Refused refusal) → StandsFor m.signal (outcomes ++ outcome ∷ []) new
+    → OutcomeAfter m.signal outcomes frame outcome → TellsOutcome outcome (seen.Refused refusal) → StandsFor m.signal (outcomes ++ outcome ∷ []) new
     → HasReceived m outcomes frame new (taken.Refused refusal)
 from_refused m outcomes frame (Accepted batch tables) refusal new after tells stands = absurd tells
 from_refused m outcomes frame (Refused told) refusal new after tells stands =
@@ -183,7 +183,7 @@ after_refused m frame refusal seg old new returned view is next =
     receives_refused m frame refusal old new (subst (λ (s : SegmentIn). Next s frame new (seen.Refused refusal)) view (subst (Next seg frame new) is next))
 
 from_reset : (m : Meaning) (outcomes : List Outcome) (frame : Frame) (outcome : Outcome) (new : SegmentIn)
-    → OutcomeAfter m.signal outcomes frame outcome → Tells outcome seen.Reset → StandsFor m.signal (outcomes ++ outcome ∷ []) new → HasReceived m outcomes frame new taken.Reset
+    → OutcomeAfter m.signal outcomes frame outcome → TellsOutcome outcome seen.Reset → StandsFor m.signal (outcomes ++ outcome ∷ []) new → HasReceived m outcomes frame new taken.Reset
 from_reset m outcomes frame (Accepted batch tables) new after tells stands = absurd tells
 from_reset m outcomes frame (Refused told) new after tells stands = absurd tells
 from_reset m outcomes frame Reset new after tells stands =

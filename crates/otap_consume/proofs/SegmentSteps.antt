@@ -25,7 +25,7 @@ use Rattle.otap_consume.specs.Defects.{Refuses, tables_of}
 use Rattle.otap_consume.specs.Outcomes.{Outcome, Accepted, Refused, Reset, GivesOutcome, StaysBroken, OutcomeAfter, is_reset, is_refused, payloads_if, segment, is_broken, payloads_after, refused, refusal_of}
 use Rattle.otap_consume.specs.Outcomes.{unread_cause}
 use Rattle.otap_consume.specs.Segments.{SegmentIn, StandsFor, HasNext, Next, IsNew}
-use Rattle.otap_consume.specs.Stops.{SaysDefect}
+use Rattle.otap_consume.specs.Untaken.{SaysDefect}
 use Rattle.otap_consume.specs.Streams.{StreamIn, AreAfter}
 use Rattle.otap_consume.specs.Taking.{AcceptsAfter, IsStopped, NextBatch}
 

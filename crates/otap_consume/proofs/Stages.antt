@@ -13,8 +13,8 @@ use Rattle.otap_consume.specs.Ids.{ids_of, ids_after}
 use Rattle.lists.specs.EachAfter.{AllAfter}
 use Rattle.lists.specs.Payloads.{PayloadIn}
 use Rattle.otap_consume.specs.PayloadTypes.{HasFineTypes, StandsInTypes}
-use Rattle.otap_consume.specs.Records.{TakesAll}
-use Rattle.otap_consume.specs.Stops.{SaysDefect, IsOfRecord, stop_of_types}
+use Rattle.otap_consume.specs.Records.{TakesPayloads}
+use Rattle.otap_consume.specs.Untaken.{SaysDefect, IsOfRecord, untaken_by_types}
 use Rattle.otap_consume.specs.Streams.{StreamIn, AreAfter, kinds_in}
 use Rattle.otap_consume.specs.Taking.{Weighs, StopsBySize, AcceptsAfter}
 use Rattle.otap_consume.proofs.IdSteps.{ids_are}
@@ -23,7 +23,7 @@ use Rattle.otap_consume.proofs.IdSteps.{ids_are}
 abbrev pub FreeIds : List StreamIn → List PayloadIn → Type 0
 FreeIds streams payloads = (signal : Signal) (past : List PayloadIn) → ids_of streams ≡ ids_after signal past → AllAfter (λ before p. is_taken signal before p ≡ false) past payloads
 
-pub by_types : (signal : Signal) (past payloads : List PayloadIn) (why : TypesRefusal) → StandsInTypes signal payloads why → SaysDefect (Refuses signal past payloads) (stop_of_types why)
+pub by_types : (signal : Signal) (past payloads : List PayloadIn) (why : TypesRefusal) → StandsInTypes signal payloads why → SaysDefect (Refuses signal past payloads) (untaken_by_types why)
 by_types signal past payloads (types.PayloadType kind) stands = Refuses.by_list PayloadType (Some kind) stands
 by_types signal past payloads (types.PayloadTwice kind) stands = Refuses.by_list PayloadTwice (Some kind) stands
 
@@ -53,7 +53,7 @@ module _ (signal : Signal) (payloads : List PayloadIn) (old : List StreamIn) (ki
   pub fine_list : (past : List PayloadIn) → AreAfter past old → HasFineList signal past payloads
   fine_list past are = record { types = types; ids = free signal past (ids_are signal past old kinds are) }
 
-  module _ (new : List StreamIn) (takes : TakesAll old payloads new) where
+  module _ (new : List StreamIn) (takes : TakesPayloads old payloads new) where
     pub accepts_if : (r : Result ℕ NotTaken) → IfOk r (λ rows. (past : List PayloadIn) → AreAfter (past ++ payloads) new → Weighs signal past payloads rows)
         → IfOk r (λ rows. (past : List PayloadIn) → AreAfter past old → AcceptsAfter signal past payloads new rows)
     accepts_if (Ok rows) weighs = λ past are.

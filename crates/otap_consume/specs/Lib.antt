@@ -6,7 +6,7 @@ pub mod Outcomes
 pub mod Streams
 pub mod StreamSteps
 pub mod StreamInside
-pub mod Stops
+pub mod Untaken
 pub mod Ids
 pub mod IdsInside
 pub mod Records

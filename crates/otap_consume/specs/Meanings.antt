@@ -22,7 +22,7 @@ pub record Meaning : Type 1 where
 abbrev pub AreClean : Meaning → List Table → Type 0
 AreClean m tables = (kind : Kind) (why : RowRefusal) → m.Stands tables kind why → ⊥
 
--- what is wrong with a batch that no earlier stage refuses: the fifth stage looks at its rows, the sixth at what its request weighs
+-- what is wrong with a batch that no earlier stage refuses: stage 5 looks at its rows, stage 6 at what its request weighs
 abbrev pub StandsInRows : Meaning → List Table → Cause → Option ℤ → Type 0
 StandsInRows m tables (Row why) payload = (kind : Kind) × (payload ≡ Some (payload_type_of kind)) × m.Stands tables kind why
 StandsInRows m tables TreeTooHeavy payload = (payload ≡ None) × AreClean m tables × (weight_limit < weight_of (m.request tables))

@@ -22,13 +22,13 @@ use Rattle.otap_consume.specs.Payloads.{payload_type_of}
 use Rattle.otap_consume.specs.Regroups.{IsRegrouped, IsLight}
 use Rattle.otap_consume.specs.Segments.{SegmentIn, StandsFor}
 
-abbrev pub stop_of_rows : CheckRefusal → NotTaken
-stop_of_rows (check.Defect kind why) = Defect (cause.Row why) (Some (payload_type_of kind))
-stop_of_rows (check.Memory e) = Memory e
+abbrev pub untaken_by_rows : CheckRefusal → NotTaken
+untaken_by_rows (check.Defect kind why) = Defect (cause.Row why) (Some (payload_type_of kind))
+untaken_by_rows (check.Memory e) = Memory e
 
-abbrev pub stop_of_regrouping : RegroupRefusal → NotTaken
-stop_of_regrouping (regroup.Rows refusal) = stop_of_rows refusal
-stop_of_regrouping regroup.TooHeavy = Defect cause.TreeTooHeavy None
+abbrev pub untaken_by_regrouping : RegroupRefusal → NotTaken
+untaken_by_regrouping (regroup.Rows refusal) = untaken_by_rows refusal
+untaken_by_regrouping regroup.TooHeavy = Defect cause.TreeTooHeavy None
 
 -- these are the tables of the batch that the segment took last
 pub record AreLast (frame : Frame) (s : SegmentIn) (tables : List Table) : Type 0 where

@@ -14,7 +14,7 @@ use Rattle.otap_consume.specs.Defects.{Refuses, Accepts, tables_of}
 use Rattle.otap_consume.specs.Meanings.{Meaning, StandsInRows, HasFineRows}
 use Rattle.otap_consume.specs.Outcomes.{Outcome, Accepted, Refused, Reset, OutcomeAfter, refused, unread_cause}
 
--- WHAT IS MADE OF AN OUTCOME of the first four stages: a batch stays accepted, or a later stage refuses it
+-- WHAT IS MADE OF AN OUTCOME of the stages 0 to 4: a batch stays accepted, or a later stage refuses it
 pub data Settles (m : Meaning) : Outcome → Outcome → Type 0 where
   accepted : (batch : BatchContent) (tables : List Table) → HasFineRows m tables → Settles m (Accepted batch tables) (Accepted batch tables)
   refuses : (batch : BatchContent) (tables : List Table) (cause : Cause) (payload : Option ℤ) → StandsInRows m tables cause payload

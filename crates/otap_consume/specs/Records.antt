@@ -21,7 +21,7 @@ pub record OneRefuses (old : List StreamIn) (p : PayloadIn) (refusal : ColumnRef
   pub refuses : (d : StreamIn) → DoesNotTake (slice_index_or old i d) p refusal
 
 -- the streams have taken payloads, one after the other
-pub record TakesAll (old : List StreamIn) (payloads : List PayloadIn) (new : List StreamIn) : Type 0 where
+pub record TakesPayloads (old : List StreamIn) (payloads : List PayloadIn) (new : List StreamIn) : Type 0 where
   pub kinds : kinds_in new ≡ kinds_in old
   pub shows : All (ShowsAfter payloads) new
   pub reads : (signal : Signal) (past : List PayloadIn) → kinds_in old ≡ kinds_of signal → AreAfter past old → HasFineRecords signal past payloads

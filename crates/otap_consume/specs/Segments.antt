@@ -29,17 +29,17 @@ pub record StandsFor (signal : Signal) (outcomes : List Outcome) (s : SegmentIn)
   pub streams : s.broken ≡ false → AreAfter (payloads_after outcomes) s.streams
 
 -- what is returned tells an outcome: of a batch its id and its row weight
-abbrev pub Tells : Outcome → Seen → Type 0
-Tells (Accepted batch tables) (seen.Batch id rows) = (id ≡ batch.id) × (rows ≡ weight_of_tables tables)
-Tells (Refused refusal) (seen.Refused told) = told ≡ refusal
-Tells Reset seen.Reset = ⊤
-Tells outcome returned = ⊥
+abbrev pub TellsOutcome : Outcome → Seen → Type 0
+TellsOutcome (Accepted batch tables) (seen.Batch id rows) = (id ≡ batch.id) × (rows ≡ weight_of_tables tables)
+TellsOutcome (Refused refusal) (seen.Refused told) = told ≡ refusal
+TellsOutcome Reset seen.Reset = ⊤
+TellsOutcome outcome returned = ⊥
 
 -- the next frame gives an outcome, which is told, and the segment stands for one more frame
 pub record HasNext (signal : Signal) (outcomes : List Outcome) (frame : Frame) (returned : Seen) (new : SegmentIn) : Type 0 where
   pub outcome : Outcome
   pub gives : OutcomeAfter signal outcomes frame outcome
-  pub tells : Tells outcome returned
+  pub tells : TellsOutcome outcome returned
   pub stands : StandsFor signal (outcomes ++ outcome ∷ []) new
 
 pub record Next (old : SegmentIn) (frame : Frame) (new : SegmentIn) (returned : Seen) : Type 0 where

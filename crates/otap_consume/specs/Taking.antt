@@ -12,7 +12,7 @@ use Rattle.otap_consume.specs.declared.not_taken.NotTaken.TheVariants.{Defect, M
 use Rattle.otap_consume.specs.Defects.{Accepts, IsTooLarge, IsWithinLimits, tables_of, held_after}
 use Rattle.otap_consume.specs.Outcomes.{refusal_of}
 use Rattle.otap_consume.specs.Segments.{SegmentIn, Next, CanShow}
-use Rattle.otap_consume.specs.Stops.{SaysDefect, IsOfSize}
+use Rattle.otap_consume.specs.Untaken.{SaysDefect, IsOfSize}
 use Rattle.otap_consume.specs.Streams.{StreamIn, AreAfter}
 
 -- as a whole the payloads are within the limits, and have this weight

@@ -7,7 +7,7 @@ ghost use Rattle.lists.specs.EachAfter.{AllAfter};
 ghost use Rattle.lists.specs.Payloads.{PayloadIn};
 ghost use Rattle.otap_consume.specs.Ids.{ids_of, ids_after, has_other, has_other_type, with_open_id};
 ghost use Rattle.otap_consume.specs.IdsInside.{open_id_in};
-ghost use Rattle.otap_consume.specs.Stops.{SaysDefect};
+ghost use Rattle.otap_consume.specs.Untaken.{SaysDefect};
 
 use crate::not_taken::{NotTaken, defect};
 use crate::refusal::Cause;
@@ -37,7 +37,7 @@ pub(crate) fn check_ids(
     Ok(())
 }
 
-// The schema id that is open for a type: that of a payload before in this batch, else that of the stream.
+/// The schema id that is open for a type: that of a payload before in this batch, else that of the stream.
 #[derive(Clone, Copy, Debug)]
 struct OpenId<'s, 'b> {
     stream: &'s Stream,
@@ -63,7 +63,7 @@ impl<'s, 'b> OpenId<'s, 'b> {
     }
 }
 
-// Those of all types of a signal.
+/// Those of all types of a signal.
 #[derive(Debug, Drop)]
 struct OpenIds<'s, 'b> {
     ids: Vec<OpenId<'s, 'b>>,

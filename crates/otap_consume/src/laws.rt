@@ -10,7 +10,7 @@ ghost use Rattle.otap_consume.specs.Defects.{Accepts, Refuses, AreTaken, AreJudg
 ghost use Rattle.otap_consume.specs.Outcomes.{stage_of, Outcome, Outcomes, OutcomeAfter};
 ghost use Rattle.otlp_model.specs.declared.request.Signal.{Signal};
 
-/// Payloads that are accepted are not refused, and after payloads that were taken they are one or the other.
+/// No payloads are both accepted and refused; after payloads that were taken they are one of the two.
 pub fn accepted_or_refused()
     ensures one { (signal : Signal) (past payloads : List PayloadIn) → AreTaken signal past → AreJudged signal past payloads }
     ensures never_both { (signal : Signal) (past payloads : List PayloadIn) (cause : Cause) (payload : Option ℤ)

@@ -26,9 +26,9 @@ impl From<AllocError> for NotTaken {
 }
 
 impl From<TypesRefusal> for NotTaken {
-    ghost use Rattle.otap_consume.specs.Stops.{stop_of_types};
+    ghost use Rattle.otap_consume.specs.Untaken.{untaken_by_types};
 
-    ghost from_gives = { λ refusal stop. stop ≡ stop_of_types refusal };
+    ghost from_gives = { λ refusal stop. stop ≡ untaken_by_types refusal };
 
     fn from(refusal: TypesRefusal) -> NotTaken {
         match refusal {
@@ -39,9 +39,9 @@ impl From<TypesRefusal> for NotTaken {
 }
 
 impl From<CheckRefusal> for NotTaken {
-    ghost use Rattle.otap_consume.specs.ReceiverInside.{stop_of_rows};
+    ghost use Rattle.otap_consume.specs.ReceiverInside.{untaken_by_rows};
 
-    ghost from_gives = { λ refusal stop. stop ≡ stop_of_rows refusal };
+    ghost from_gives = { λ refusal stop. stop ≡ untaken_by_rows refusal };
 
     fn from(refusal: CheckRefusal) -> NotTaken {
         match refusal {
@@ -52,9 +52,9 @@ impl From<CheckRefusal> for NotTaken {
 }
 
 impl From<RegroupRefusal> for NotTaken {
-    ghost use Rattle.otap_consume.specs.ReceiverInside.{stop_of_regrouping};
+    ghost use Rattle.otap_consume.specs.ReceiverInside.{untaken_by_regrouping};
 
-    ghost from_gives = { λ refusal stop. stop ≡ stop_of_regrouping refusal };
+    ghost from_gives = { λ refusal stop. stop ≡ untaken_by_regrouping refusal };
 
     fn from(refusal: RegroupRefusal) -> NotTaken {
         match refusal {

@@ -10,8 +10,10 @@ use thiserror::Error;
 /// What is wrong with the payload types of a batch. Where several of these stand, any may be named.
 #[derive(Clone, Copy, Debug, PartialEq, Eq, Error)]
 pub enum TypesRefusal {
+    /// A payload type is none of the signal's.
     #[error("the payload type {0} is none of the signal's")]
     PayloadType(i32),
+    /// Two payloads have this type.
     #[error("the payload type {0} stands twice")]
     PayloadTwice(i32),
 }

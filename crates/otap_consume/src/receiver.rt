@@ -7,7 +7,7 @@ ghost use Rattle.otap_consume.specs.Meanings.{StandsInRows};
 ghost use Rattle.otap_consume.specs.ReceiverInside.{OfLast, RefusesBy, TakesRows};
 ghost use Rattle.otap_consume.specs.Regroups.{IsLight, IsRegrouped};
 ghost use Rattle.otap_consume.specs.Segments.{IsTaken};
-ghost use Rattle.otap_consume.specs.Stops.{SaysDefect};
+ghost use Rattle.otap_consume.specs.Untaken.{SaysDefect};
 
 use crate::not_taken::NotTaken;
 use crate::refusal::Refusal;
@@ -39,7 +39,7 @@ impl<T: Telemetry> Model for Receiver<T> {
 
     ghost view = { λ s. s.segment };
 
-    // It is of the signal of its telemetry.
+    /// It is of the signal of its telemetry.
     ghost invariant = { λ s. s.segment.signal ≡ T.meaning.signal };
 }
 

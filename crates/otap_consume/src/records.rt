@@ -4,9 +4,9 @@ ghost use Rattle.lists.specs.Payloads.{PayloadIn};
 ghost use Rattle.otlp_model.specs.declared.request.Signal.{Signal};
 ghost use Rattle.otap_cells.specs.Payload.{kinds_of};
 ghost use Rattle.otap_capture.specs.Batch.{content_of};
-ghost use Rattle.otap_consume.specs.Records.{EachTakes, OneRefuses, TakesAll};
+ghost use Rattle.otap_consume.specs.Records.{EachTakes, OneRefuses, TakesPayloads};
 ghost use Rattle.otap_consume.specs.Streams.{AreAfter, kinds_in};
-ghost use Rattle.otap_consume.specs.Stops.{SaysDefect, IsOfRecord, StopOf};
+ghost use Rattle.otap_consume.specs.Untaken.{SaysDefect, IsOfRecord, IsUntakenFor};
 
 use crate::not_taken::{NotTaken, defect};
 use crate::refusal::Cause;
@@ -21,7 +21,7 @@ pub(crate) fn take_records(
     streams: &mut [Stream],
     batch: &Batch<'_>,
 ) -> Result<(), NotTaken>
-    ensures takes { OnOk result (TakesAll streams.old batch.now.payloads streams.new) }
+    ensures takes { OnOk result (TakesPayloads streams.old batch.now.payloads streams.new) }
     ensures stops { IfErr result (λ stop. (signal : Signal) (past : List PayloadIn) → kinds_in streams.old ≡ kinds_of signal
         → AreAfter past streams.old → SaysDefect (IsOfRecord signal past batch.now.payloads) stop) }
     ensures kinds { kinds_in streams.new ≡ kinds_in streams.old }
@@ -51,7 +51,7 @@ fn take_payload(
 }
 
 fn stop_of(refusal: ColumnRefusal, payload: &Payload<'_>) -> NotTaken
-    ensures { StopOf refusal payload.now.kind result }
+    ensures { IsUntakenFor refusal payload.now.kind result }
 {
     match refusal {
         ColumnRefusal::Memory(error) => NotTaken::Memory(error),

@@ -60,9 +60,13 @@ pub enum Cause {
 /// in which the cause stands, if it stands in one.
 #[derive(Debug, Drop)]
 pub struct Refusal {
+    /// The batch id; `None` where the message can't be read.
     pub id: Option<i64>,
+    /// The number of the stage, from 0 to 6.
     pub stage: u8,
+    /// Why it is refused.
     pub cause: Cause,
+    /// The payload type; `None` where the cause stands in no one payload.
     pub payload: Option<i32>,
 }
 

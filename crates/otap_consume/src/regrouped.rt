@@ -4,5 +4,6 @@ use otlp_model::Request;
 #[derive(Debug, Drop)]
 pub struct Regrouped {
     pub request: Request,
+    /// What the request weighs.
     pub tree: u64,
 }

@@ -8,9 +8,13 @@ pub enum Taken {
     Accepted {
         id: i64,
         request: Request,
+        /// The row weight, not a number of rows.
         rows: u64,
+        /// The tree weight of the request.
         tree: u64,
     },
+    /// A frame that is refused.
     Refused(Refusal),
+    /// A reset.
     Reset,
 }

@@ -5,7 +5,7 @@ ghost use Rattle.otap_cells.specs.Payload.{kinds_of};
 ghost use Rattle.otap_consume.specs.declared.not_taken.NotTaken.TheVariants.{Defect};
 ghost use Rattle.otap_consume.specs.Defects.{Refuses};
 ghost use Rattle.otap_consume.specs.Segments.{CanShow};
-ghost use Rattle.otap_consume.specs.Stops.{SaysDefect};
+ghost use Rattle.otap_consume.specs.Untaken.{SaysDefect};
 ghost use Rattle.otap_consume.specs.Streams.{AreAfter, kinds_in};
 ghost use Rattle.otap_consume.specs.Taking.{AcceptsAfter, Weighs, StopsBySize};
 

@@ -6,7 +6,7 @@ ghost use Rattle.std.specs.Cmp.Lexicographic.{bytes_decides, nat_list_eq_equiv};
 use indexmap::Equivalent;
 use std::hash::{Hash, Hasher};
 
-// A value of a dictionary. It feeds a hasher all its bytes at once, where a vector feeds one byte after the other.
+/// A value of a dictionary. It feeds a hasher all its bytes at once, where a vector feeds one byte after the other.
 #[derive(Debug, Drop)]
 pub(crate) struct Key {
     pub(crate) bytes: Vec<u8>,
@@ -36,7 +36,7 @@ impl Hash for Key {
     }
 }
 
-// A value that is looked up in a dictionary.
+/// A value that is looked up in a dictionary.
 #[derive(Clone, Copy, Debug)]
 pub(crate) struct Sought<'a> {
     pub(crate) bytes: &'a [u8],

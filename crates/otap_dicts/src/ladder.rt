@@ -20,7 +20,7 @@ pub struct Ladder {
     alloc: Global,
     dictionary: bool,
     form: Form,
-    // The bytes of all values together.
+    /// The bytes of all values together.
     bytes: usize,
     values: IndexSet<Key>,
 }

@@ -13,7 +13,7 @@ use Rattle.otlp_model.specs.declared.groups.ResourceGroup.{ResourceGroup}
 use Rattle.otlp_model.specs.declared.value.Pair.{Pair}
 use Rattle.otlp_model.specs.declared.value.Value.{Value, the_lemmas}
 use Rattle.otlp_model.specs.declared.value.Value as values
-use Rattle.otlp_load.specs.Pairs.{double, numbered_text, load_value, load_pair, pairs_of}
+use Rattle.otlp_load.specs.Pairs.{double_bits, numbered_text, load_value, load_pair, pairs_of}
 use Rattle.otlp_load.specs.Load.{items_each, item_number, places_below, requests_at_most, service_of, host_of, load_resource, scope_of_all, group_of, groups_of}
 use Rattle.otlp_load.proofs.ItemsLight.{numbered_at_most, pairs_at_most}
 use Rattle.otlp_load.proofs.LoadCounted.{places_counted}
@@ -47,7 +47,7 @@ either_plain false x y first second = second
 value_plain : (r n place : ℕ) → IsPlain (load_value r n place)
 value_plain r n place =
     either_plain (place == 8) _ _ (str_plain _) (either_plain (place % 4 == 0) _ _ (str_plain _) (either_plain (place % 4 == 1) _ _ (int_plain (n % 1000))
-    (either_plain (place % 4 == 2) _ _ (bool_plain (n % 2 == 1)) (double_plain (double n)))))
+    (either_plain (place % 4 == 2) _ _ (bool_plain (n % 2 == 1)) (double_plain (double_bits n)))))
 
 -- ---- pairs
 

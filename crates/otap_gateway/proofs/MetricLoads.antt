@@ -6,7 +6,7 @@ use Rattle.std.proofs.Math.Nat.{mod-lt}
 use Rattle.std.proofs.lemmas.List.Sums.{sum_by-cons}
 use Rattle.otlp_model.specs.declared.metrics.Number.{Number}
 use Rattle.otlp_model.specs.declared.metrics.Number.TheVariants as numbers
-use Rattle.otlp_load.specs.Pairs.{double, numbered_text}
+use Rattle.otlp_load.specs.Pairs.{double_bits, numbered_text}
 use Rattle.otlp_load.specs.Items.{load_metric, load_point, load_shape}
 use Rattle.otlp_load.specs.Load.{group_of, groups_of, items_each, item_number, places_below, requests_at_most, scope_of_all}
 use Rattle.otlp_load.proofs.ItemsLight.{numbered_at_most}
@@ -32,7 +32,7 @@ point_rows r n value request =
 
 shape_rows : (r n : ℕ) → r < requests_at_most → (b : Bool) → n % 2 == 1 ≡ b → sum_by point_weight (points_of (load_shape r n)) ≤ 560
 shape_rows r n request true odd = rw odd (point_rows r n (numbers.Int (pos n)) request)
-shape_rows r n request false even = rw even (point_rows r n (numbers.Double (double n)) request)
+shape_rows r n request false even = rw even (point_rows r n (numbers.Double (double_bits n)) request)
 
 metric_rows : (r n : ℕ) → r < requests_at_most → metric_weight (load_metric r n) ≤ 800
 metric_rows r n request =

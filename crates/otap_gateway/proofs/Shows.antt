@@ -12,7 +12,7 @@ use Rattle.otap_consume.specs.declared.seen.Seen.{Seen}
 use Rattle.otap_consume.specs.declared.seen.Seen.TheVariants as seen
 use Rattle.otap_consume.specs.Defects.{tables_of}
 use Rattle.otap_consume.specs.Outcomes.{Outcome, Accepted, Refused, Reset, GivesOutcome, StaysBroken, OutcomeAfter, Outcomes, is_broken, payloads_after}
-use Rattle.otap_consume.specs.Segments.{SegmentIn, StandsFor, HasNext, Next, Tells, IsNew}
+use Rattle.otap_consume.specs.Segments.{SegmentIn, StandsFor, HasNext, Next, TellsOutcome, IsNew}
 use Rattle.otap_consume.proofs.SegmentSteps.{stands_first}
 use Rattle.otap_gateway.specs.Reply.{ReplyText}
 use Rattle.otap_gateway.specs.Runs.{Sinks, BeginsWith, WritesFront}
@@ -48,7 +48,7 @@ accepted_from signal outcomes frame o batch tables is false GivesOutcome.resets 
 
 -- the reply is that of the outcome
 module _ (signal : Signal) (outcomes : List Outcome) (frame : Frame) (number : ℕ) (new : SegmentIn) (reply : ReplyText) where
-  text_of : (returned : Seen) (o : Outcome) → OutcomeAfter signal outcomes frame o → Tells o returned → StandsFor signal (outcomes ++ o ∷ []) new → ShowsSeen frame new number returned reply
+  text_of : (returned : Seen) (o : Outcome) → OutcomeAfter signal outcomes frame o → TellsOutcome o returned → StandsFor signal (outcomes ++ o ∷ []) new → ShowsSeen frame new number returned reply
       → reply ≡ show_reply number o
   text_of (seen.Batch id rows) (Accepted batch tables) gives tells stands replies =
       let is : IsAccepted signal outcomes frame batch tables = accepted_from signal outcomes frame (Accepted batch tables) batch tables refl (is_broken outcomes) gives in

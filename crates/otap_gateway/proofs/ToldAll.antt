@@ -1,8 +1,7 @@
 -- One list of outcomes gives the replies of a job that tells them, and each list of replies is given by one.
-use Rattle.std.proofs.Common.{◌≡◌, ℕ, suc, ◌+◌, List, [], ◌∷◌, ◌++◌, length, refl, sym, ap, ◌∙◌, subst, zero-add, append_assoc, arith}
+use Rattle.std.proofs.Common.{◌≡◌, ℕ, suc, ◌+◌, List, [], ◌∷◌, ◌++◌, length, refl, sym, ap, ◌∙◌, subst, zero-add, arith}
 use Rattle.std.specs.Prelude.{codes}
 use Rattle.std.proofs.lemmas.List.{length-append}
-use Rattle.std.specs.Fmt.{decimal}
 use Rattle.lists.specs.EachAfter.{EachAfter}
 use Rattle.lists.proofs.Growing.{each_after-push, each_after-keeps, each_after-length}
 use Rattle.otap_capture.specs.Capture.{Frame}
@@ -11,7 +10,6 @@ use Rattle.otap_consume.specs.Outcomes.{Outcome}
 use Rattle.otap_consume.specs.Receiving.{ReceivedAfter, Received}
 use Rattle.otlp_model.specs.declared.request.Signal.{Signal}
 use Rattle.otap_gateway.specs.declared.command.Command.TheVariants as command
-use Rattle.otap_gateway.specs.Causes.{cause_name}
 use Rattle.otap_gateway.specs.Commands.{ReplyOf}
 use Rattle.otap_gateway.specs.Encoding.{Encoded, Encodes, encoded, signal_rows}
 use Rattle.otap_gateway.specs.Lines.{batch_head, or_dash, line_feed}
@@ -108,11 +106,5 @@ unfolding ReplyOf
 encode_back signal = gives_back (Encodes (signal_rows signal) (meaning_of signal)) encoded
 
 -- the message of a status is what the line says from its stage on
-regrouped : (head says stage number blank cause payload dash end : List ℕ)
-    → head ++ (says ++ stage) ++ number ++ blank ++ cause ++ payload ++ dash ++ end ≡ head ++ (says ++ ((stage ++ number ++ blank ++ cause ++ payload ++ dash) ++ end))
-regrouped head says stage number blank cause payload dash end = simp append_assoc
-
 pub from_the_stage_on : (number : ℕ) (refusal : Refusal) → refusal_line number refusal ≡ batch_head number (or_dash refusal.id) ++ (codes " refused: " ++ ((refusal_status refusal).message ++ line_feed))
-from_the_stage_on number refusal =
-    regrouped (batch_head number (or_dash refusal.id)) (codes " refused: ") (codes "stage ") (decimal refusal.stage) (codes " ") (cause_name refusal.cause) (codes " payload ")
-    (or_dash refusal.payload) line_feed
+from_the_stage_on number refusal = refl

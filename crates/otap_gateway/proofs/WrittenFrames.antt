@@ -12,7 +12,7 @@ use Rattle.otlp_model.specs.declared.request.Signal.{Signal}
 use Rattle.otap_gateway.specs.declared.command.Command.TheVariants as command
 use Rattle.otap_gateway.specs.Commands.{ReplyOf}
 use Rattle.otap_gateway.specs.Encoding.{Encoded, Puts, Refuses, Encodes, Arrives, encoded, signal_rows, sent}
-use Rattle.otap_gateway.specs.ReadBack.{IsReadBack}
+use Rattle.otap_gateway.specs.ReadBack.{IsReadAgain}
 use Rattle.otap_gateway.specs.Receptions.{meaning_of}
 use Rattle.otap_gateway.specs.Reply.{ReplyText, out_text}
 use Rattle.otap_gateway.specs.Told.{Gave, told}
@@ -59,7 +59,7 @@ module _ (rows : SignalRows) (messages : MessagesAreRead) (resets : IsFrame rese
   }
 
   read_from : (m : Meaning) → ((ss : List Sending) → AreAllowed rows ss → Arrives m ss) → (frames : List Frame) (replies : List ReplyText) (os : List Encoded)
-      → Gave (Encodes rows m) frames os → replies ≡ told encoded 0 os → IsReadBack rows m frames replies
+      → Gave (Encodes rows m) frames os → replies ≡ told encoded 0 os → IsReadAgain rows m frames replies
   read_from m arrives frames replies os each texts =
       let gave = encoded_only rows m frames os each in
       let allowed : AreAllowed rows (sent os) = are_allowed rows frames os gave in
@@ -75,7 +75,7 @@ module _ (rows : SignalRows) (messages : MessagesAreRead) (resets : IsFrame rese
 
 pub read_back : (signal : Signal) → MessagesAreRead → IsFrame reset_frame capture.Reset → ((ss : List Sending) → AreAllowed (signal_rows signal) ss → Arrives (meaning_of signal) ss)
     → (frames : List Frame) (replies : List ReplyText) → EachAfter (ReplyOf (command.Encode signal)) [] [] frames replies
-    → IsReadBack (signal_rows signal) (meaning_of signal) frames replies
+    → IsReadAgain (signal_rows signal) (meaning_of signal) frames replies
 read_back signal messages resets arrives frames replies each =
     let some = encode_back signal frames replies each in
     read_from (signal_rows signal) messages resets (meaning_of signal) arrives frames replies some.0 some.1 some.2

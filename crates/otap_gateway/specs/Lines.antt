@@ -32,10 +32,13 @@ head_line number id = batch_head number (signed_decimal id) ++ line_feed
 abbrev pub payload_head : PayloadIn → List ℕ
 payload_head payload = codes "payload " ++ signed_decimal payload.kind ++ codes " schema \"" ++ quoted payload.schema_id ++ codes "\""
 
--- a refused batch: its id where it could be read, the stage and the cause, and the payload type that it stands in
+-- what a refusal says: its stage and its cause, and the payload type that it stands in
+abbrev pub refusal_text : ℕ → List ℕ → Option ℤ → List ℕ
+refusal_text stage cause payload = codes "stage " ++ decimal stage ++ codes " " ++ cause ++ codes " payload " ++ or_dash payload
+
+-- a refused batch: its id where it could be read, and what the refusal says
 abbrev pub refused_line : ℕ → Option ℤ → ℕ → List ℕ → Option ℤ → List ℕ
-refused_line number id stage cause payload = batch_head number (or_dash id)
-    ++ codes " refused: stage " ++ decimal stage ++ codes " " ++ cause ++ codes " payload " ++ or_dash payload ++ line_feed
+refused_line number id stage cause payload = batch_head number (or_dash id) ++ (codes " refused: " ++ (refusal_text stage cause payload ++ line_feed))
 
 -- a refused request, by the name of the cause
 abbrev pub request_line : ℕ → List ℕ → List ℕ

@@ -13,15 +13,15 @@ use Rattle.arrow_ipc.specs.Faults.{Stands}
 use Rattle.arrow_ipc.specs.Fronts.{front_of}
 
 -- the schema of a message, where it is a Schema message
-abbrev pub schema_in : IpcMessage → Option SchemaSpec
-schema_in (Schema fields) = Some fields
-schema_in (Dictionary id delta batch) = None
-schema_in (Rows batch) = None
+abbrev pub schema_if : IpcMessage → Option SchemaSpec
+schema_if (Schema fields) = Some fields
+schema_if (Dictionary id delta batch) = None
+schema_if (Rows batch) = None
 
 -- the schema of the first message, where that is a Schema message
 abbrev pub first_schema : List IpcMessage → Option SchemaSpec
 first_schema [] = None
-first_schema (message ∷ messages) = schema_in message
+first_schema (message ∷ messages) = schema_if message
 
 -- the schema that a record begins with
 abbrev pub opening_of : List ℕ → Option SchemaSpec

@@ -11,7 +11,7 @@ use Rattle.otap_gateway.specs.Told.{Gave, told}
 -- WHAT IS WRITTEN IS READ: the replies are the texts of what these frames gave, all that was sent was allowed, and all of it
 -- arrives. The bytes on out, read as one capture, are the frames of what was sent and end well; each frame of a capture begins
 -- below its limit.
-pub record IsReadBack (rows : SignalRows) (m : Meaning) (frames : List Frame) (replies : List ReplyText) : Type 0 where
+pub record IsReadAgain (rows : SignalRows) (m : Meaning) (frames : List Frame) (replies : List ReplyText) : Type 0 where
   pub outcomes : List Encoded
   pub gave : Gave (EncodedAfter rows) frames outcomes
   pub texts : replies ≡ told encoded 0 outcomes

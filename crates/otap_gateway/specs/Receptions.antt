@@ -19,7 +19,7 @@ use Rattle.otap_consume.specs.SpansMeaning.{spans_meaning}
 use Rattle.otlp_model.specs.declared.request.Signal.{Signal}
 use Rattle.otlp_model.specs.declared.request.Signal.TheVariants as signals
 use Rattle.otap_gateway.specs.Causes.{cause_name}
-use Rattle.otap_gateway.specs.Lines.{reset_line, batch_head, refused_line, or_dash, line_feed, printed, refuses}
+use Rattle.otap_gateway.specs.Lines.{reset_line, batch_head, refusal_text, refused_line, line_feed, printed, refuses}
 use Rattle.otap_gateway.specs.Reply.{ReplyText}
 
 -- what the tables of a signal mean
@@ -54,10 +54,6 @@ replayed number Reset = printed (reset_line number)
 -- `status`: the status of a batch. The codes are those of gRPC: ABORTED, RESOURCE_EXHAUSTED and INVALID_ARGUMENT
 abbrev pub code_of : ℕ → ℤ
 code_of stage = if stage == 0 then pos 10 else (if stage == 4 || stage == 6 then pos 8 else pos 3)
-
--- the message: what the refusal's line says from its stage on
-abbrev pub refusal_text : ℕ → List ℕ → Option ℤ → List ℕ
-refusal_text stage cause payload = codes "stage " ++ decimal stage ++ codes " " ++ cause ++ codes " payload " ++ or_dash payload
 
 abbrev pub id_or_less : Option ℤ → ℤ
 id_or_less (Some id) = id

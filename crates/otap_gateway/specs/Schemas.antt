@@ -59,7 +59,7 @@ pub record RefusesTypes (signal : Signal) (number : ℕ) (batch : BatchContent) 
   pub line : reply ≡ refused_types number batch.id refusal
 
 -- a record begins with a fault
-pub record RefusesRecord (number : ℕ) (batch : BatchContent) (reply : ReplyText) : Type 0 where
+pub record RefusesFault (number : ℕ) (batch : BatchContent) (reply : ReplyText) : Type 0 where
   pub kind : ℤ
   pub fault : IpcFault
   pub stands : HasRecordFault batch.payloads kind fault
@@ -71,7 +71,7 @@ pub record PrintsSchemas (number : ℕ) (batch : BatchContent) (reply : ReplyTex
   pub text : reply ≡ printed (batch_lines number batch)
 
 abbrev pub SchemasRecords : ℕ → BatchContent → ReplyText → Type 0
-SchemasRecords number batch reply = RefusesRecord number batch reply ⊎ PrintsSchemas number batch reply
+SchemasRecords number batch reply = RefusesFault number batch reply ⊎ PrintsSchemas number batch reply
 
 -- the records are looked at where all payload types are fine
 abbrev pub SchemasBatch : Signal → ℕ → BatchContent → ReplyText → Type 0

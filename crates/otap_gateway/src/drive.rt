@@ -75,7 +75,8 @@ pub(crate) fn flush_both<O: Sink, E: Sink>(out: &mut O, err: &mut E) -> Result<(
     Ok(())
 }
 
-/// Passes on what was written, where the source is to be asked. Returns whether some of it isn't.
+/// Flushes both sinks if the source is about to be asked and something was written since the last flush. Returns
+/// whether something is left to flush.
 fn settle<O: Sink, E: Sink>(
     frames: &Frames,
     unflushed: bool,

@@ -1,7 +1,8 @@
 //! Laws of runs: each is the contract of an empty function.
 ghost use Rattle.std.specs.Prelude.{◌≡◌, ◌⊎◌, List, ℕ, None, Some};
-ghost use Rattle.otap_capture.specs.Capture.{Frame, IsCapture};
+ghost use Rattle.otap_capture.specs.Capture.{Frame, IsCapture, longest_frame};
 ghost use Rattle.otap_capture.specs.Outside.{Rose};
+ghost use Rattle.otlp_codec.specs.Limits.{longest_request};
 ghost use Rattle.otap_gateway.specs.declared.command.Command.{Command};
 ghost use Rattle.otap_gateway.specs.declared.load.Load.{Load};
 ghost use Rattle.otap_gateway.specs.Commands.{words_of};
@@ -23,4 +24,9 @@ pub fn complete_runs()
 /// Each list of words is that of a job over a capture, or that of a load, or it isn't understood. These are the cases of `run`.
 pub fn each_words()
     ensures { (words : List (List ℕ)) → ((job : Command) × (words ≡ words_of job)) ⊎ (((load : Load) × IsLoad load × (words ≡ load_words load)) ⊎ IsNotUnderstood words) }
+{}
+
+/// The longest request that is written is as long as the longest message of a frame.
+pub fn requests_fit_in_frames()
+    ensures { longest_request ≡ longest_frame }
 {}

@@ -39,7 +39,7 @@ mod stop;
 mod tidy;
 mod words;
 
-pub use laws::{complete_runs, each_words};
+pub use laws::{complete_runs, each_words, requests_fit_in_frames};
 pub use load_laws::{complete_loads, loads_are_received};
 pub use reception_laws::{
     captures_have_texts, outcomes_give_the_texts, status_says_the_line, texts_have_outcomes,

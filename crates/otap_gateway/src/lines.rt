@@ -2,7 +2,7 @@
 ghost use Rattle.std.specs.Prelude.{◌≡◌, ◌++◌, IfOk, OnOk, string_bytes};
 ghost use Rattle.std.specs.Fmt.{signed_decimal};
 ghost use Rattle.otap_capture.specs.Batch.{content_of};
-ghost use Rattle.otap_gateway.specs.Lines.{reset_line, batch_head, head_line, payload_head, refused_line, request_line, or_dash, damage_line, why_name};
+ghost use Rattle.otap_gateway.specs.Lines.{reset_line, batch_head, head_line, payload_head, refusal_text, refused_line, request_line, or_dash, damage_line, why_name};
 
 use crate::numbers::push_signed;
 use crate::quoting::push_quoted;
@@ -69,12 +69,25 @@ pub(crate) fn refused_line(
     ensures { IfOk result (λ line. line.items ≡ refused_line number id stage cause.now payload) }
 {
     let id = or_dash(alloc, id)?;
-    let payload = or_dash(alloc, payload)?;
+    let text = refusal_text(alloc, stage, cause, payload)?;
     let mut line = Vec::new(alloc);
     push_batch_head(&mut line, number, id.as_bytes())?;
-    let rest = format!(in alloc; " refused: stage {stage} {cause} payload {payload}\n")?;
+    let rest = format!(in alloc; " refused: {text}\n")?;
     line.extend_from_slice(rest.as_bytes())?;
     Ok(line)
+}
+
+/// What a refusal says, in its line as in a status.
+pub(crate) fn refusal_text(
+    alloc: Global,
+    stage: u8,
+    cause: &str,
+    payload: Option<i64>,
+) -> Result<String, AllocError>
+    ensures { IfOk result (λ text. string_bytes text ≡ refusal_text stage cause.now payload) }
+{
+    let payload = or_dash(alloc, payload)?;
+    Ok(format!(in alloc; "stage {stage} {cause} payload {payload}")?)
 }
 
 /// A number, or a dash where there is none.

@@ -1,7 +1,7 @@
 //! What the record of a payload begins with.
 ghost use Rattle.std.specs.Prelude.{◌≡◌, IfOk, IfErr};
 ghost use Rattle.arrow_ipc.specs.Faults.{Refuses};
-ghost use Rattle.otap_gateway.specs.Openings.{BeginsWell, opening_of, schema_in, fault_name, flat_name, refusal_name};
+ghost use Rattle.otap_gateway.specs.Openings.{BeginsWell, opening_of, schema_if, fault_name, flat_name, refusal_name};
 
 use arrow_ipc::{IpcFault, IpcMessage, Messages};
 use arrow_schema::{SchemaRefusal, SchemaSpec};
@@ -23,7 +23,7 @@ pub(crate) fn opening(alloc: Global, bytes: &[u8]) -> Result<Option<SchemaSpec>,
 }
 
 fn schema_of(message: IpcMessage<'_>) -> Option<SchemaSpec>
-    ensures { result ≡ schema_in message.entry }
+    ensures { result ≡ schema_if message.entry }
 {
     match message {
         IpcMessage::Schema(schema) => Some(schema),

@@ -29,9 +29,11 @@ const NOT_UNDERSTOOD: &[u8] = b"otap: words not understood\n";
 
 /// Does the job that the words name over the capture that the source gives, or writes the load that they name, and returns the
 /// status with which the program ends. Each frame is handled as it comes: all that was written is passed on before the source
-/// is asked for more. For a load nothing is read. The statuses: 0 where all frames were handled or the load was written, 1
-/// where a frame was refused, 2 where the words aren't understood, 3 where the source failed, 4 where a sink failed, 5 where
-/// the capture has a damage, 6 where there was no memory.
+/// is asked for more. For a load nothing is read.
+///
+/// Where nothing stops the run, the status is 5 where the capture is damaged, else 1 where a frame was refused, else 0;
+/// and 2, once their line is written, for words that aren't understood. Where something stops it: 3 where the source
+/// failed, 4 where a sink failed, 6 where there was no memory.
 pub fn run<S: Source, O: Sink, E: Sink>(
     alloc: Global,
     words: &Words,

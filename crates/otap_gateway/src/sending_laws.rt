@@ -6,7 +6,7 @@ ghost use Rattle.otap_gateway.specs.declared.command.Command.TheVariants as comm
 ghost use Rattle.otlp_model.specs.declared.request.Signal.{Signal};
 ghost use Rattle.otap_gateway.specs.Commands.{ReplyOf};
 ghost use Rattle.otap_gateway.specs.Encoding.{Encoded, Encodes, encoded, signal_rows};
-ghost use Rattle.otap_gateway.specs.ReadBack.{IsReadBack};
+ghost use Rattle.otap_gateway.specs.ReadBack.{IsReadAgain};
 ghost use Rattle.otap_gateway.specs.Receptions.{meaning_of};
 ghost use Rattle.otap_gateway.specs.Reply.{ReplyText};
 ghost use Rattle.otap_gateway.specs.Told.{Gave, told};
@@ -25,7 +25,7 @@ pub fn encoded_texts_have_outcomes()
 /// arrives: each message is accepted and means the same telemetry as its request.
 pub fn what_is_written_is_read()
     ensures { (signal : Signal) (frames : List Frame) (replies : List ReplyText) → EachAfter (ReplyOf (command.Encode signal)) [] [] frames replies
-        → IsReadBack (signal_rows signal) (meaning_of signal) frames replies }
+        → IsReadAgain (signal_rows signal) (meaning_of signal) frames replies }
 {
     written_is_read();
     SpanTables::what_is_sent_arrives();

@@ -1,14 +1,14 @@
 //! `status`: what a Collector replies to each batch.
-ghost use Rattle.std.specs.Prelude.{◌≡◌, IfOk, string_bytes};
+ghost use Rattle.std.specs.Prelude.{◌≡◌, IfOk};
 ghost use Rattle.otap_consume.specs.declared.taken.Taken.TheVariants as taken;
 ghost use Rattle.otap_consume.specs.Segments.{IsNew};
 ghost use Rattle.otap_gateway.specs.declared.command.Command.TheVariants as command;
-ghost use Rattle.otap_gateway.specs.Receptions.{code_of, id_or_less, meaning_of, refusal_text, statused};
+ghost use Rattle.otap_gateway.specs.Receptions.{code_of, id_or_less, meaning_of, statused};
 ghost use Rattle.otap_gateway.specs.JobStates.{HasReplied};
 
 use crate::causes::cause_name;
 use crate::job::Job;
-use crate::lines::{or_dash, refused_line};
+use crate::lines::{refusal_text, refused_line};
 use crate::receiving::Serves;
 use crate::reply::Reply;
 use otap_capture::{Frame, Status};
@@ -94,17 +94,4 @@ fn code_of(stage: u8) -> i32
         4 | 6 => 8,
         _ => 3,
     }
-}
-
-/// What the line of a refusal says from its stage on.
-fn refusal_text(
-    alloc: Global,
-    stage: u8,
-    cause: &str,
-    payload: Option<i64>,
-) -> Result<String, AllocError>
-    ensures { IfOk result (λ text. string_bytes text ≡ refusal_text stage cause.now payload) }
-{
-    let payload = or_dash(alloc, payload)?;
-    Ok(format!(in alloc; "stage {stage} {cause} payload {payload}")?)
 }

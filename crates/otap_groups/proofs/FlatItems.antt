@@ -5,7 +5,6 @@ use Rattle.std.proofs.lemmas.Bool.{cases_Bool}
 use Rattle.otlp_model.specs.Telemetry.{item_entries, entries_of_group, entries_of_scope_group, item_entry, groups_with_items}
 use Rattle.std.specs.List.{flat_map}
 use Rattle.std.proofs.lemmas.List.{length-map, map-append}
-use Rattle.std.proofs.lemmas.List.Elements.{All-nil, All-cons, All-head, All-tail}
 use Rattle.lists.proofs.Every.{all_unmapped}
 use Rattle.lists.proofs.Truths.{empty}
 use Rattle.otlp_model.specs.declared.groups.Resource.{Resource}

@@ -3,6 +3,7 @@ use Rattle.std.proofs.Common.{◌≡◌, ℕ, ◌+◌, ◌^◌, min, Bool, true,
 use Rattle.std.specs.Prelude.{◌⊎◌, ◌||◌, filter, nat_lt, sum_by}
 use Rattle.std.proofs.lemmas.Bool.{cases_Bool}
 use Rattle.std.proofs.lemmas.List.Sums.{sum_by-cons}
+use Rattle.lists.proofs.Truths.{or_false}
 use Rattle.otlp_model.specs.Telemetry.{trimmed}
 use Rattle.otlp_model.specs.declared.groups.Resource.{Resource}
 use Rattle.otlp_model.specs.declared.groups.Scope.{Scope}
@@ -18,10 +19,7 @@ summed f p x xs = by (cases_Bool (p x)) where
 
 -- what a flag says at the end of a loop
 pub ends : {A : Type 0} (p : A → Bool) (some : Bool) (left : List A) (all : Bool) → left ≡ [] → (some || nat_lt 0 (length (filter p left))) ≡ all → all ≡ some
-ends p some left all over is = sym is ∙ ap (λ xs. some || nat_lt 0 (length (filter p xs))) over ∙ by some where
-  by : (b : Bool) → (b || false) ≡ b
-  by true = refl
-  by false = refl
+ends p some left all over is = sym is ∙ ap (λ xs. some || nat_lt 0 (length (filter p xs))) over ∙ or_false some
 
 module _ {I : Type 0} (of_resource : Resource → ℕ) (of_scope : Scope → ℕ) (of_item : I → ℕ) where
   pub rows_split : (group : ResourceGroup I) (groups : List (ResourceGroup I))

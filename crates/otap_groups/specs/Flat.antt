@@ -2,6 +2,7 @@
 use Rattle.std.specs.Prelude.{ℕ, suc, List, [], ◌∷◌, ◌++◌, Option, Some, map}
 use Rattle.std.specs.List.{flat_map}
 use Rattle.otlp_model.specs.Telemetry.{groups_with_items}
+use Rattle.otlp_model.specs.declared.value.Pair.{Pair}
 use Rattle.otlp_model.specs.declared.groups.Resource.{Resource}
 use Rattle.otlp_model.specs.declared.groups.Scope.{Scope}
 use Rattle.otlp_model.specs.declared.groups.ScopeGroup.{ScopeGroup}
@@ -53,6 +54,13 @@ resources_of groups = map (λ group. group.resource) (groups_with_items groups)
 
 abbrev pub scopes_of : {I : Type 0} → List (ResourceGroup I) → List Scope
 scopes_of groups = map (λ scope. scope.scope) (flat_map (λ group. group.scopes) (groups_with_items groups))
+
+-- the attributes of each resource, and of each scope
+abbrev pub resource_pairs : {I : Type 0} → List (ResourceGroup I) → List (List Pair)
+resource_pairs groups = map (λ resource. resource.pairs) (resources_of groups)
+
+abbrev pub scope_pairs : {I : Type 0} → List (ResourceGroup I) → List (List Pair)
+scope_pairs groups = map (λ scope. scope.pairs) (scopes_of groups)
 
 -- ---- the rows that an exporter writes, with their ids as they are
 

@@ -1,7 +1,8 @@
 -- The rows of a batch, with their ids as they are.
-use Rattle.std.specs.Prelude.{ℕ, Bool, true, false, not, ◌==◌, ◌&&◌, bytes_eq, List, [], ◌∷◌, Option, None, Some, length, map, drop}
+use Rattle.std.specs.Prelude.{ℕ, Bool, true, false, ◌==◌, ◌&&◌, bytes_eq, List, [], ◌∷◌, Option, None, Some, length, map, drop}
 use Rattle.std.specs.List.{slice_index_or, range_with_len}
 use Rattle.std.specs.Ordering.{int_eq}
+use Rattle.lists.specs.Flags.{same_flag}
 use Rattle.otap_cells.specs.Cells.{Cell, null, number, bits, flag, bytes, cell_at}
 
 -- a row of a main table; `own` are the cells of its item
@@ -58,15 +59,11 @@ child_rows ids parents cells = map (child_row_at ids parents cells) (range_with_
 
 -- ---- which rows are equal: cells are compared as cells, and null equals null alone
 
-abbrev pub flag_is : Bool → Bool → Bool
-flag_is true b = b
-flag_is false b = not b
-
 abbrev pub cell_is : Cell → Cell → Bool
 cell_is null null = true
 cell_is (number a) (number b) = int_eq a b
 cell_is (bits a) (bits b) = a == b
-cell_is (flag a) (flag b) = flag_is a b
+cell_is (flag a) (flag b) = same_flag a b
 cell_is (bytes a) (bytes b) = bytes_eq a b
 cell_is _ _ = false
 

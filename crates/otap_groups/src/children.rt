@@ -19,7 +19,7 @@ use std::alloc::{AllocError, Global};
 #[derive(Drop)]
 pub struct Children<'a, C: RowReader> {
     pub reader: C,
-    // Empty where the rows have no ids.
+    /// Empty where the rows have no ids.
     pub ids: &'a [Option<u32>],
     pub entries: Vec<ChildEntry>,
     starts: Vec<usize>,

@@ -29,7 +29,7 @@ impl<R: Rows> FrontColumns<'_, R> {
     }
 
     /// Whether rows of one resource id differ in another cell of `resource`. Takes n log n for n rows.
-    pub fn resources_differ(&self, alloc: Global) -> Result<bool, AllocError>
+    fn resources_differ(&self, alloc: Global) -> Result<bool, AllocError>
         ensures yes { IfOk result (λ found. found ≡ true → DifferBy (λ row. row.resource_id) (λ row. row.resource)
             (main_rows self.now.ids.now self.now.resource_ids.now self.now.scope_ids.now (R.table self.now.rows.now).rows)) }
         ensures no { IfOk result (λ found. found ≡ false → DifferBy (λ row. row.resource_id) (λ row. row.resource)
@@ -40,7 +40,7 @@ impl<R: Rows> FrontColumns<'_, R> {
     }
 
     /// Whether rows of one scope id differ in another cell of `scope`. Takes n log n for n rows.
-    pub fn scopes_differ(&self, alloc: Global) -> Result<bool, AllocError>
+    fn scopes_differ(&self, alloc: Global) -> Result<bool, AllocError>
         ensures yes { IfOk result (λ found. found ≡ true → DifferBy (λ row. row.scope_id) (λ row. row.scope)
             (main_rows self.now.ids.now self.now.resource_ids.now self.now.scope_ids.now (R.table self.now.rows.now).rows)) }
         ensures no { IfOk result (λ found. found ≡ false → DifferBy (λ row. row.scope_id) (λ row. row.scope)

@@ -24,7 +24,7 @@ pub struct Main<'a, R: Rows, S: RowReader, P: Lookup<Child = Pair>> {
     pub resources: P,
     pub scopes: P,
     ghost same_rows: { S.cells items ≡ map (drop 9) (R.table front.rows.now).rows },
-    // Rows of one id agree.
+    /// Rows of one id agree.
     ghost agree: { Disagree (main_rows front.ids.now front.resource_ids.now front.scope_ids.now (R.table front.rows.now).rows) → ⊥ },
 }
 

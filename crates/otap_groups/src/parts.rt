@@ -24,16 +24,16 @@ pub trait PartWriter {
 
     type Part;
 
-    // The kind of the table.
+    /// The kind of the table.
     ghost kind: { Kind };
 
-    // The parts of a parent.
+    /// The parts of a parent.
     ghost parts: { Self.Parent → List Self.Part };
 
-    // The own cells of a part.
+    /// The own cells of a part.
     ghost cells_of: { Self.Part → List Cell };
 
-    // The parts that can be written.
+    /// The parts that can be written.
     ghost CanWrite: { Self.Part → Type 0 };
 
     fn kind(&self) -> Kind

@@ -12,13 +12,13 @@ use std::alloc::{AllocError, Global};
 pub trait RowReader: Drop {
     type Item: Drop;
 
-    // The own cells of each row.
+    /// The own cells of each row.
     ghost cells: { Self → List (List Cell) };
 
-    // The item of an id and own cells.
+    /// The item of an id and own cells.
     ghost item: { Self → Option ℕ → List Cell → Self.Item };
 
-    // What an item weighs.
+    /// What an item weighs.
     ghost weigh: { Self → Self.Item → ℕ };
 
     /// The item of a row that has this id.
@@ -36,10 +36,10 @@ pub trait RowReader: Drop {
 pub trait Lookup: Drop {
     type Child: Drop;
 
-    // The children of a parent; of a row without an id there are none.
+    /// The children of a parent; of a row without an id there are none.
     ghost finds: { Self → Option ℕ → List Self.Child };
 
-    // What a child weighs.
+    /// What a child weighs.
     ghost weigh: { Self → Self.Child → ℕ };
 
     fn of(&self, alloc: Global, parent: Option<u32>) -> Result<Items<Self::Child>, AllocError>

@@ -15,15 +15,15 @@ use otlp_model::{Resource, ResourceGroup, Scope, ScopeGroup, add_capped, sum_cap
 pub trait RowWeights {
     type Item;
 
-    // The rows of a resource's pairs, and of a scope's.
+    /// The rows of a resource's pairs, and of a scope's.
     ghost of_resource: { Resource → ℕ };
 
     ghost of_scope: { Scope → ℕ };
 
-    // The own cells of an item, and the rows of its parts.
+    /// The own cells of an item, and the rows of its parts.
     ghost of_item: { Self.Item → ℕ };
 
-    // What can be written.
+    /// What can be written.
     ghost CanWriteResource: { Resource → Type 0 };
 
     ghost CanWriteScope: { Scope → Type 0 };

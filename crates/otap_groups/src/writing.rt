@@ -20,13 +20,13 @@ use std::alloc::{AllocError, Global};
 pub trait RowWriter {
     type Item;
 
-    // The kind of the table.
+    /// The kind of the table.
     ghost kind: { Kind };
 
-    // The own cells of an item.
+    /// The own cells of an item.
     ghost cells_of: { Self.Item → List Cell };
 
-    // The items that can be written.
+    /// The items that can be written.
     ghost CanWrite: { Self.Item → Type 0 };
 
     fn kind(&self) -> Kind

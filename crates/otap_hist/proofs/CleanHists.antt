@@ -20,13 +20,13 @@ use Rattle.otap_checks.specs.declared.known.ColumnIds.{ColumnIds}
 use Rattle.otap_checks.specs.declared.regrouping.RegroupRefusal.{RegroupRefusal}
 use Rattle.otap_checks.specs.declared.regrouping.RegroupRefusal.TheVariants as regroup
 use Rattle.otap_checks.specs.IdDefects.{IdDefect}
-use Rattle.otap_checks.specs.Known.{Knows}
+use Rattle.otap_checks.specs.Known.{KnowsAll, Knows}
 use Rattle.otap_checks.specs.Links.{attributes_link, items, links_of, parts}
 use Rattle.otap_checks.specs.Refusing.{RefusesCheck}
 use Rattle.otap_checks.specs.Regrouping.{RefusesRegroup}
 use Rattle.otap_metrics.specs.Whole.{KnowsMetrics}
 use Rattle.otap_metrics.specs.Requests.{WrongIds, WrongMetrics, is_hist_kind, regrouped_metrics}
-use Rattle.otap_hist.specs.Inside.{AreFine, AreWholeHists, KnowsWhole}
+use Rattle.otap_hist.specs.Inside.{AreFine, AreWholeHists}
 use Rattle.otap_hist.specs.Requests.{WrongHistCells, WrongHistIds, WrongHists, WrongWhole, hist_points_in, regrouped_whole, summary_points_in}
 
 -- ---- nothing is wrong
@@ -107,10 +107,10 @@ refuses_all tables groups regroup.TooHeavy same whole is = record {
 
 -- ---- ids that are known
 
-pub knows_metrics : (tables : List Table) (known : List ColumnIds) → KnowsWhole tables known → KnowsMetrics tables known
+pub knows_metrics : (tables : List Table) (known : List ColumnIds) → KnowsAll signal.Metrics tables known → KnowsMetrics tables known
 knows_metrics tables known all link listed own = all link listed
 
-module _ (tables : List Table) (known : List ColumnIds) (all : KnowsWhole tables known) where
+module _ (tables : List Table) (known : List ColumnIds) (all : KnowsAll signal.Metrics tables known) where
   pub known_metrics : Knows (table_named table.Metrics tables) table.Metrics known
   unfolding links_of
   known_metrics = all (items table.Metrics) (0, omega arith, refl)

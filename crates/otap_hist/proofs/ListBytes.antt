@@ -9,7 +9,8 @@ use Rattle.byteorder.specs.Numbers.{length-bytes_low_first, little_number-reads_
 use Rattle.lists.proofs.Numbers.{eights_divided, eights_whole}
 use Rattle.otlp_model.specs.declared.histograms.Quantile.{Quantile}
 use Rattle.otap_cells.proofs.ScalarLaws.{text_back}
-use Rattle.otap_hist.specs.Lists.{bytes_of, list_cell, list_in, numbers_in}
+use Rattle.lists.specs.Numbers.{little_numbers}
+use Rattle.otap_hist.specs.Lists.{bytes_of, list_cell, list_in}
 use Rattle.otap_hist.specs.Points.{quantiles_of}
 
 -- ---- how many bytes
@@ -23,18 +24,18 @@ whole_bytes bytes ns are = ap (λ (bytes : List ℕ). length bytes % 8) are ∙ 
 
 -- ---- that they come back
 
-numbers_back : (ns : List ℕ) → All (λ n. n < 2 ^ 64) ns → numbers_in (length ns) (bytes_of ns) ≡ ns
+numbers_back : (ns : List ℕ) → All (λ n. n < 2 ^ 64) ns → little_numbers (length ns) (bytes_of ns) ≡ ns
 numbers_back [] small = refl
 numbers_back (n ∷ ns) small =
-    ap (λ x. x ∷ numbers_in (length ns) (drop 8 (bytes_of (n ∷ ns)))) (little_number-reads_back 8 n (bytes_of ns) (All-head (λ n. n < 2 ^ 64) n ns small))
+    ap (λ x. x ∷ little_numbers (length ns) (drop 8 (bytes_of (n ∷ ns)))) (little_number-reads_back 8 n (bytes_of ns) (All-head (λ n. n < 2 ^ 64) n ns small))
     ∙ ap (λ rest. n ∷ rest) (numbers_back ns (All-tail (λ n. n < 2 ^ 64) n ns small))
 
 pub list_back : (ns : List ℕ) → All (λ n. n < 2 ^ 64) ns → list_in (list_cell ns) ≡ ns
 list_back ns small =
-    ap (λ (part : List ℕ). numbers_in (length part / 8) part) (text_back (bytes_of ns))
-    ∙ ap (λ count. numbers_in count (bytes_of ns)) (ap (λ size. size / 8) (length_bytes ns) ∙ eights_divided (length ns)) ∙ numbers_back ns small
+    ap (λ (part : List ℕ). little_numbers (length part / 8) part) (text_back (bytes_of ns))
+    ∙ ap (λ count. little_numbers count (bytes_of ns)) (ap (λ size. size / 8) (length_bytes ns) ∙ eights_divided (length ns)) ∙ numbers_back ns small
 
-pub count_of : (count : ℕ) (bytes : List ℕ) → length (numbers_in count bytes) ≡ count
+pub count_of : (count : ℕ) (bytes : List ℕ) → length (little_numbers count bytes) ≡ count
 count_of zero bytes = refl
 count_of (suc count) bytes = ap suc (count_of count (drop 8 bytes))
 
@@ -42,13 +43,13 @@ count_of (suc count) bytes = ap suc (count_of count (drop 8 bytes))
 
 -- the numbers from a place on
 abbrev pub from : List ℕ → ℕ → ℕ → List ℕ
-from part count place = numbers_in (count - place) (drop (8 * place) part)
+from part count place = little_numbers (count - place) (drop (8 * place) part)
 
 pub first_of : (part : List ℕ) (count place x : ℕ) → place < count → x ≡ little_number 8 (drop (8 * place) part) → from part count place ≡ x ∷ from part count (place + 1)
 first_of part count place x below is =
     let left : count - place ≡ suc (count - (place + 1)) = omega (arith, below) in
     let next : drop 8 (drop (8 * place) part) ≡ drop (8 * (place + 1)) part = drop-drop 8 (8 * place) part ∙ ap (λ n. drop n part) (omega arith) in
-    ap (λ n. numbers_in n (drop (8 * place) part)) left ∙ (λ i. sym is i ∷ numbers_in (count - (place + 1)) (next i))
+    ap (λ n. little_numbers n (drop (8 * place) part)) left ∙ (λ i. sym is i ∷ little_numbers (count - (place + 1)) (next i))
 
 pub one_more : (part old new whole : List ℕ) (count place x : ℕ) → place < count → old ++ from part count place ≡ whole
     → x ≡ little_number 8 (drop (8 * place) part) → new ≡ old ++ x ∷ [] → new ++ from part count (place + 1) ≡ whole
@@ -78,8 +79,8 @@ pub quantiles_end : (part other : List ℕ) (found whole : List Quantile) (count
 quantiles_end part other found whole count many place at before = elim (cases_Bool (nat_lt count many)) [
   | inl less ↦
       let none : count - place ≡ 0 = let l = ltb-true count many less in omega (arith, at, l) in
-      sym (append-nil found) ∙ ap (λ xs. found ++ xs) (ap (λ n. quantiles_of (numbers_in n (drop (8 * place) part)) (from other many place)) (sym none)) ∙ before
+      sym (append-nil found) ∙ ap (λ xs. found ++ xs) (ap (λ n. quantiles_of (little_numbers n (drop (8 * place) part)) (from other many place)) (sym none)) ∙ before
   | inr more ↦
       let none : many - place ≡ 0 = let l = ltb-false count many more in omega (arith, at, l) in
-      sym (append-nil found) ∙ ap (λ xs. found ++ xs) (sym (no_values (from part count place)) ∙ ap (λ n. quantiles_of (from part count place) (numbers_in n (drop (8 * place) other))) (sym none)) ∙ before
+      sym (append-nil found) ∙ ap (λ xs. found ++ xs) (sym (no_values (from part count place)) ∙ ap (λ n. quantiles_of (from part count place) (little_numbers n (drop (8 * place) other))) (sym none)) ∙ before
 ]

@@ -16,7 +16,8 @@ use Rattle.otap_attrs.specs.Tables.{attribute_table, beside_kind, where_rows}
 use Rattle.otap_attrs.proofs.FilledTables.{apart, filled, filled_set, filled_tables, numbers, IsBeside}
 use Rattle.otap_metrics.specs.Metrics.{metric_cells}
 use Rattle.otap_metrics.specs.Points.{exemplar_cells, point_cells}
-use Rattle.otap_metrics.specs.Tables.{exemplar_lists, exemplar_pairs, hist_lists, point_lists, point_pairs, resource_pairs, scope_pairs, summary_lists, tables_below, tables_of_metrics}
+use Rattle.otap_groups.specs.Flat.{resource_pairs, scope_pairs}
+use Rattle.otap_metrics.specs.Tables.{exemplar_lists, exemplar_pairs, hist_lists, point_lists, point_pairs, summary_lists, tables_below, tables_of_metrics}
 use Rattle.otap_hist.specs.Points.{hist_point_cells, sum_point_cells}
 use Rattle.otap_hist.specs.Tables.{hist_exemplar_lists, hist_exemplar_pairs, hist_pairs, hist_tables, put_all, put_in, summary_pairs, tables_below_all, whole_tables}
 

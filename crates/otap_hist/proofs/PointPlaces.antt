@@ -12,7 +12,8 @@ use Rattle.otap_cells.specs.Cells.{Cell, bytes_in, nat_in, cell_at}
 use Rattle.otap_cells.specs.Scalars.{bits_in}
 use Rattle.otap_cells.specs.Tables.{cell_in}
 use Rattle.otlp_model.proofs.Totals.{below_weighs}
-use Rattle.otap_hist.specs.Lists.{element_count, list_in, numbers_in}
+use Rattle.lists.specs.Numbers.{little_numbers}
+use Rattle.otap_hist.specs.Lists.{element_count, list_in}
 use Rattle.otap_hist.specs.Points.{hist_point_of, optional_in, quantiles_of, sum_point_of}
 use Rattle.otap_hist.proofs.ListBytes.{count_of}
 use Rattle.otap_cells.proofs.OwnCells.{own_cells, own_cell}
@@ -43,7 +44,7 @@ hist_read point rows row pairs exemplars inside is_start is_time is_count is_sum
 pub summary_read : (point : SumPoint) (rows : List (List Cell)) (row : ℕ) (pairs : List Pair) (asked values : List ℕ) → row < length (map (drop 2) rows)
     → asked ≡ bytes_in (cell_in rows 6 row) → values ≡ bytes_in (cell_in rows 7 row)
     → point.start ≡ bits_in (cell_in rows 2 row) → point.time ≡ bits_in (cell_in rows 3 row) → point.count ≡ bits_in (cell_in rows 4 row)
-    → point.sum ≡ bits_in (cell_in rows 5 row) → point.quantiles ≡ quantiles_of (numbers_in (length asked / 8) asked) (numbers_in (length values / 8) values)
+    → point.sum ≡ bits_in (cell_in rows 5 row) → point.quantiles ≡ quantiles_of (little_numbers (length asked / 8) asked) (little_numbers (length values / 8) values)
     → point.flags ≡ nat_in (cell_in rows 8 row) → point.pairs ≡ pairs → point ≡ sum_point_of (own_cells 2 rows row) pairs
 unfolding sum_point_of
 summary_read point rows row pairs asked values inside is_asked are_values is_start is_time is_count is_sum are_quantiles is_flags are_pairs =
@@ -53,7 +54,7 @@ summary_read point rows row pairs asked values inside is_asked are_values is_sta
       count = (is_count ∙ ap bits_in (sym (own_cell 2 rows row 2 within))) i;
       sum = (is_sum ∙ ap bits_in (sym (own_cell 2 rows row 3 within))) i;
       quantiles = (are_quantiles
-          ∙ (λ j. quantiles_of (numbers_in (length (is_asked j) / 8) (is_asked j)) (numbers_in (length (are_values j) / 8) (are_values j)))
+          ∙ (λ j. quantiles_of (little_numbers (length (is_asked j) / 8) (is_asked j)) (little_numbers (length (are_values j) / 8) (are_values j)))
           ∙ (λ j. quantiles_of (list_in (sym (own_cell 2 rows row 4 within) j)) (list_in (sym (own_cell 2 rows row 5 within) j)))) i;
       flags = (is_flags ∙ ap nat_in (sym (own_cell 2 rows row 6 within))) i;
       pairs = are_pairs i;

@@ -1,6 +1,6 @@
 -- Words of private contracts: the rows of points of histograms and summaries with all that is below them; and what the checks of these
 -- rows tell.
-use Rattle.std.specs.Prelude.{ℕ, ◌+◌, sum_by, Contains, List}
+use Rattle.std.specs.Prelude.{ℕ, ◌+◌, sum_by, List}
 use Rattle.otlp_model.specs.declared.groups.ScopeGroup.{ScopeGroup}
 use Rattle.otlp_model.specs.declared.groups.ResourceGroup.{ResourceGroup}
 use Rattle.otlp_model.specs.declared.histograms.HistPoint.{HistPoint}
@@ -15,10 +15,6 @@ use Rattle.otap_cells.specs.Tables.{Table}
 use Rattle.otap_groups.specs.Weighing.{cells_weight, parts_weight}
 use Rattle.otap_attrs.specs.Values.{pair_cells}
 use Rattle.otap_attrs.specs.declared.refusal.RowRefusal.{RowRefusal}
-use Rattle.otap_checks.specs.declared.known.ColumnIds.{ColumnIds}
-use Rattle.otap_checks.specs.declared.links.TableLink.{TableLink}
-use Rattle.otap_checks.specs.Known.{Knows}
-use Rattle.otap_checks.specs.Links.{links_of}
 use Rattle.otap_metrics.specs.Inside.{exemplar_weight}
 use Rattle.otap_checks.specs.ValueDefects.{HasFineValues}
 use Rattle.otap_metrics.specs.Metrics.{hist_points_of, summary_points_of}
@@ -58,7 +54,3 @@ pub record AreFine (tables : List Table) : Type 0 where
 pub record AreWholeHists (tables : List Table) : Type 0 where
   pub ids : (kind : Kind) (wrong : RowRefusal) → WrongHistIds tables kind wrong → ⊥
   pub cells : AreFine tables
-
--- the ids of all tables are known
-abbrev pub KnowsWhole : List Table → List ColumnIds → Type 0
-KnowsWhole tables known = (link : TableLink) → Contains (links_of signal.Metrics) link → Knows (table_named link.kind tables) link.kind known

@@ -1,7 +1,8 @@
 -- Lists of numbers of 64 bits as cells: 8 bytes for each number, the lowest first. The empty list is null, and null reads as it.
-use Rattle.std.specs.Prelude.{ℕ, zero, suc, ◌/◌, List, [], ◌∷◌, length, drop}
+use Rattle.std.specs.Prelude.{ℕ, ◌/◌, List, length}
 use Rattle.std.specs.List.{flat_map}
-use Rattle.byteorder.specs.Endian.{little_bytes, little_number}
+use Rattle.byteorder.specs.Endian.{little_bytes}
+use Rattle.lists.specs.Numbers.{little_numbers}
 use Rattle.otap_cells.specs.Cells.{Cell, bytes_in}
 use Rattle.otap_cells.specs.Scalars.{text_cell}
 
@@ -12,15 +13,10 @@ bytes_of numbers = flat_map (little_bytes 8) numbers
 abbrev pub list_cell : List ℕ → Cell
 list_cell numbers = text_cell (bytes_of numbers)
 
--- the first numbers in bytes
-abbrev pub numbers_in : ℕ → List ℕ → List ℕ
-numbers_in zero bytes = []
-numbers_in (suc count) bytes = little_number 8 bytes ∷ numbers_in count (drop 8 bytes)
-
 -- how many elements a cell has
 abbrev pub element_count : Cell → ℕ
 element_count cell = length (bytes_in cell) / 8
 
 -- THE LIST that a cell reads as
 abbrev pub list_in : Cell → List ℕ
-list_in cell = numbers_in (element_count cell) (bytes_in cell)
+list_in cell = little_numbers (element_count cell) (bytes_in cell)

@@ -16,7 +16,8 @@ use Rattle.otap_groups.specs.Stored.{main_table, part_table}
 use Rattle.otap_attrs.specs.Tables.{attribute_table, where_rows}
 use Rattle.otap_metrics.specs.Metrics.{metric_cells}
 use Rattle.otap_metrics.specs.Points.{exemplar_cells, point_cells}
-use Rattle.otap_metrics.specs.Tables.{exemplar_lists, exemplar_pairs, hist_lists, point_lists, point_pairs, resource_pairs, scope_pairs, summary_lists}
+use Rattle.otap_groups.specs.Flat.{resource_pairs, scope_pairs}
+use Rattle.otap_metrics.specs.Tables.{exemplar_lists, exemplar_pairs, hist_lists, point_lists, point_pairs, summary_lists}
 use Rattle.otap_hist.specs.Points.{hist_point_cells, sum_point_cells}
 
 -- all points of histograms, and of summaries

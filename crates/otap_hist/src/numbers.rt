@@ -5,7 +5,8 @@ ghost use Rattle.otlp_model.specs.declared.histograms.Quantile.{Quantile};
 ghost use Rattle.otap_cells.specs.declared.profile.Base.TheVariants as base;
 ghost use Rattle.otap_cells.specs.Cells.{seen, IsCellOf};
 ghost use Rattle.otap_cells.specs.Scalars.{text_cell};
-ghost use Rattle.otap_hist.specs.Lists.{bytes_of, numbers_in};
+ghost use Rattle.lists.specs.Numbers.{little_numbers};
+ghost use Rattle.otap_hist.specs.Lists.{bytes_of};
 ghost use Rattle.otap_hist.specs.Points.{quantiles_of};
 
 use byteorder::{ByteOrder, LittleEndian};
@@ -70,7 +71,7 @@ pub(crate) fn list_cell(bytes: &[u8]) -> CellView<'_>
 
 /// The numbers that bytes hold.
 pub(crate) fn numbers_in(alloc: Global, bytes: &[u8]) -> Result<Items<u64>, AllocError>
-    ensures { IfOk result (λ numbers. numbers ≡ numbers_in (length bytes.now / 8) bytes.now) }
+    ensures { IfOk result (λ numbers. numbers ≡ little_numbers (length bytes.now / 8) bytes.now) }
 {
     let mut numbers = Items::new(alloc);
     numbers.reserve(bytes.len() / 8)?;
@@ -86,7 +87,7 @@ pub(crate) fn quantiles_in(
     quantiles: &[u8],
     values: &[u8],
 ) -> Result<Items<Quantile>, AllocError>
-    ensures { IfOk result (λ found. found ≡ quantiles_of (numbers_in (length quantiles.now / 8) quantiles.now) (numbers_in (length values.now / 8) values.now)) }
+    ensures { IfOk result (λ found. found ≡ quantiles_of (little_numbers (length quantiles.now / 8) quantiles.now) (little_numbers (length values.now / 8) values.now)) }
 {
     let count = (quantiles.len() / 8).min(values.len() / 8);
     let mut found = Items::new(alloc);

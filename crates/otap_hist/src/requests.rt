@@ -1,5 +1,6 @@
 //! The request of the tables of a batch of metrics, with the points of histograms and summaries.
 ghost use Rattle.std.specs.Prelude.{◌≡◌, ◌≤◌, IfErr, IfOk, OnOk};
+ghost use Rattle.otlp_model.specs.declared.request.Signal.TheVariants as signal;
 ghost use Rattle.otlp_model.specs.Limits.{weight_limit};
 ghost use Rattle.otlp_model.specs.Weight.{weight_of};
 ghost use Rattle.otlp_model.specs.declared.request.Request.TheVariants.{Metrics};
@@ -10,7 +11,8 @@ ghost use Rattle.otap_attrs.specs.declared.refusal.RowRefusal.{RowRefusal};
 ghost use Rattle.otap_checks.specs.Refusing.{RefusesCheck};
 ghost use Rattle.otap_checks.specs.Regrouping.{RefusesRegroup};
 ghost use Rattle.otap_metrics.specs.Whole.{AreWhole};
-ghost use Rattle.otap_hist.specs.Inside.{AreFine, AreWholeHists, KnowsWhole};
+ghost use Rattle.otap_checks.specs.Known.{KnowsAll};
+ghost use Rattle.otap_hist.specs.Inside.{AreFine, AreWholeHists};
 ghost use Rattle.otap_hist.specs.Requests.{WrongHistCells, WrongWhole, regrouped_whole};
 
 use crate::checks::has_uneven_lists;
@@ -70,7 +72,7 @@ fn check_all<R: Rows>(alloc: Global, set: &TableSet<R>) -> Result<KnownIds, Chec
     requires { IsSet R.table set.now.tables.items }
     ensures metrics { OnOk result (AreWhole (tables_in R.table set.now.tables.items)) }
     ensures hists { OnOk result (AreWholeHists (tables_in R.table set.now.tables.items)) }
-    ensures known { IfOk result (λ known. KnowsWhole (tables_in R.table set.now.tables.items) known.columns.items) }
+    ensures known { IfOk result (λ known. KnowsAll signal.Metrics (tables_in R.table set.now.tables.items) known.columns.items) }
     ensures refused { IfErr result (RefusesCheck (WrongWhole (tables_in R.table set.now.tables.items))) }
 {
     let known = known_ids(alloc, set, Signal::Metrics)?;
@@ -86,7 +88,7 @@ fn check_hists<R: Rows>(
     known: &KnownIds,
 ) -> Result<(), CheckRefusal>
     requires set { IsSet R.table set.now.tables.items }
-    requires known { KnowsWhole (tables_in R.table set.now.tables.items) known.now.columns.items }
+    requires known { KnowsAll signal.Metrics (tables_in R.table set.now.tables.items) known.now.columns.items }
     ensures fine { OnOk result (AreFine (tables_in R.table set.now.tables.items)) }
     ensures refused { IfErr result (RefusesCheck (WrongHistCells (tables_in R.table set.now.tables.items))) }
 {

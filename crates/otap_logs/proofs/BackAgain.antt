@@ -20,7 +20,7 @@ use Rattle.otap_cells.specs.declared.payload.Kind.TheVariants as table
 use Rattle.otap_cells.specs.Cells.{Cell}
 use Rattle.otap_cells.specs.Tables.{Table}
 use Rattle.otap_groups.specs.Children.{Agree, ReadsEach, numbered}
-use Rattle.otap_groups.specs.Flat.{flat_items, items_of, numbered_rows, resources_of, scopes_of}
+use Rattle.otap_groups.specs.Flat.{flat_items, items_of, numbered_rows, resources_of, scopes_of, resource_pairs, scope_pairs}
 use Rattle.otap_groups.specs.Groups.{regrouped}
 use Rattle.otap_groups.proofs.GroupsTold.{groups_told}
 use Rattle.otap_groups.proofs.Grouping.{groups_back}
@@ -34,7 +34,7 @@ use Rattle.otap_logs.specs.Records.{record_cells, record_of}
 use Rattle.otap_logs.specs.Requests.{regrouped_logs}
 use Rattle.otap_logs.specs.Tables.{tables_of_logs}
 use Rattle.otap_logs.proofs.LogColumns.{logs_are_main}
-use Rattle.otap_logs.proofs.NamedTables.{named_main, named_records, named_resources, named_scopes, record_pairs, resource_pairs, scope_pairs}
+use Rattle.otap_logs.proofs.NamedTables.{named_main, named_records, named_resources, named_scopes, record_pairs}
 use Rattle.otap_logs.proofs.ReadAgain.{IsBack, IsBackRecord, groups_again, records_read}
 
 same_record : (cells : List Cell) (xs ys : List Pair) → SameOften xs ys → SameLogRecord (record_of cells xs) (record_of cells ys)

@@ -10,12 +10,12 @@ use Rattle.otap_attrs.specs.declared.refusal.RowRefusal.TheVariants as why
 use Rattle.otap_checks.specs.Links.{links_of, items, attributes_link}
 use Rattle.otap_checks.specs.declared.known.ColumnIds.{ColumnIds}
 use Rattle.otap_checks.specs.Given.{AreGiven}
-use Rattle.otap_checks.specs.Known.{Knows}
+use Rattle.otap_checks.specs.Known.{KnowsAll, Knows}
 use Rattle.otap_checks.specs.Reading.{Disagrees}
 use Rattle.otap_attrs.specs.Defects.{WrongValue}
 use Rattle.otap_checks.proofs.MissingRows.{none_differ}
 use Rattle.otap_checks.proofs.TableIds.{clean_given}
-use Rattle.otap_logs.specs.Inside.{AreWhole, KnowsLogs}
+use Rattle.otap_logs.specs.Inside.{AreWhole}
 use Rattle.otap_logs.specs.Requests.{WrongCells, WrongLogs}
 
 -- rows of one id differ
@@ -80,7 +80,7 @@ module _ (tables : List Table) (is_whole : AreWhole tables) where
   given_logs = clean_given signal.Logs tables table.Logs (items table.Logs) (0, omega arith, refl) refl (is_whole.ids table.Logs)
 
 -- and known
-module _ (tables : List Table) (known : List ColumnIds) (all : KnowsLogs tables known) where
+module _ (tables : List Table) (known : List ColumnIds) (all : KnowsAll signal.Logs tables known) where
   pub known_logs : Knows (table_named table.Logs tables) table.Logs known
   unfolding links_of
   known_logs = all (items table.Logs) (0, omega arith, refl)

@@ -14,7 +14,7 @@ use Rattle.otap_cells.specs.declared.payload.Kind.TheVariants as table
 use Rattle.otap_cells.specs.Cells.{Cell}
 use Rattle.otap_cells.specs.Named.{table_named}
 use Rattle.otap_cells.specs.Tables.{Table}
-use Rattle.otap_groups.specs.Flat.{FlatIn, flat_items, items_of, resources_of, scopes_of}
+use Rattle.otap_groups.specs.Flat.{FlatIn, flat_items, items_of, resources_of, scopes_of, resource_pairs, scope_pairs}
 use Rattle.otap_groups.specs.Stored.{main_table, stored_rows}
 use Rattle.otap_groups.specs.Weighing.{CanWriteGroup}
 use Rattle.otap_groups.proofs.FlatItems.{items_of_flat}
@@ -27,7 +27,7 @@ use Rattle.otap_attrs.specs.Defects.{WrongValue}
 use Rattle.otap_checks.proofs.FinePairs.{IsFine, IsFineFrom, IsFineList, IsFinePair, attributes_fine, fine_rows, pairs_fine, IsFineResource, IsFineScope}
 use Rattle.otap_logs.specs.Records.{last_cells, record_cells}
 use Rattle.otap_logs.specs.Tables.{tables_of_logs}
-use Rattle.otap_logs.proofs.NamedTables.{named_main, named_records, named_resources, named_scopes, record_pairs, resource_pairs, scope_pairs}
+use Rattle.otap_logs.proofs.NamedTables.{named_main, named_records, named_resources, named_scopes, record_pairs}
 use Rattle.otap_logs.proofs.ReadAgain.{seven_cells}
 
 -- ---- bodies

@@ -12,7 +12,7 @@ use Rattle.otlp_model.specs.declared.value.Pair.{Pair}
 use Rattle.otap_cells.specs.declared.payload.Kind.TheVariants as table
 use Rattle.otap_cells.specs.Cells.{Cell}
 use Rattle.otap_cells.specs.Tables.{Table}
-use Rattle.otap_groups.specs.Flat.{flat_items, numbered_rows}
+use Rattle.otap_groups.specs.Flat.{flat_items, numbered_rows, resource_pairs, scope_pairs}
 use Rattle.otap_groups.proofs.LightGroups.{kept_weigh, regrouped_weigh}
 use Rattle.otap_attrs.specs.Tables.{attribute_table}
 use Rattle.otap_attrs.specs.Index.{pairs_in}
@@ -21,7 +21,7 @@ use Rattle.otap_logs.specs.Records.{record_cells, record_of}
 use Rattle.otap_logs.specs.Requests.{regrouped_logs}
 use Rattle.otap_logs.specs.Tables.{tables_of_logs}
 use Rattle.otap_logs.proofs.BackAgain.{few_l, few_r, few_s, regrouped_is, unsorted_back}
-use Rattle.otap_logs.proofs.NamedTables.{record_pairs, resource_pairs, scope_pairs}
+use Rattle.otap_logs.proofs.NamedTables.{record_pairs}
 use Rattle.otap_logs.proofs.ReadAgain.{groups_again}
 
 record_weighs : (cells : List Cell) (xs ys : List Pair) → total 32 weight_of_pair xs ≡ total 32 weight_of_pair ys

@@ -5,13 +5,11 @@ use Rattle.lists.proofs.Truths.{empty}
 use Rattle.otlp_model.specs.declared.groups.ResourceGroup.{ResourceGroup}
 use Rattle.otlp_model.specs.declared.logs.LogRecord.{LogRecord}
 use Rattle.otlp_model.specs.declared.value.Pair.{Pair}
-use Rattle.otlp_model.specs.declared.groups.Resource.{Resource}
-use Rattle.otlp_model.specs.declared.groups.Scope.{Scope}
 use Rattle.otap_cells.specs.declared.payload.Kind.TheVariants as table
 use Rattle.otap_cells.specs.Cells.{Cell}
 use Rattle.otap_cells.specs.Named.{table_named}
 use Rattle.otap_cells.specs.Tables.{Table, profile_table}
-use Rattle.otap_groups.specs.Flat.{flat_items, items_of, placed, resources_of, scopes_of}
+use Rattle.otap_groups.specs.Flat.{flat_items, items_of, placed, resource_pairs, scope_pairs}
 use Rattle.otap_groups.specs.Stored.{main_table, stored_rows}
 use Rattle.otap_attrs.specs.Sorting.{coded_rows}
 use Rattle.otap_attrs.specs.Tables.{attribute_table, row_of_pair}
@@ -60,13 +58,7 @@ coded lists = coded_rows (map row_of_pair (placed lists))
 abbrev some : rows → Bool
 some xs = nat_lt 0 (length xs)
 
--- the lists of pairs of a request
-abbrev pub resource_pairs : List (ResourceGroup LogRecord) → List (List Pair)
-resource_pairs groups = map (λ (resource : Resource). resource.pairs) (resources_of groups)
-
-abbrev pub scope_pairs : List (ResourceGroup LogRecord) → List (List Pair)
-scope_pairs groups = map (λ (scope : Scope). scope.pairs) (scopes_of groups)
-
+-- the attributes of each record
 abbrev pub record_pairs : List (ResourceGroup LogRecord) → List (List Pair)
 record_pairs groups = map (λ (log : LogRecord). log.pairs) (items_of groups)
 

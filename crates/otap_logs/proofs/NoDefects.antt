@@ -18,7 +18,7 @@ use Rattle.otap_cells.specs.GivenIds.{HasIds}
 use Rattle.otap_cells.specs.Named.{table_named}
 use Rattle.otap_cells.specs.Tables.{Table}
 use Rattle.otap_groups.specs.Disagree.{Disagree}
-use Rattle.otap_groups.specs.Flat.{flat_items, items_of, numbered_rows, resources_of, scopes_of}
+use Rattle.otap_groups.specs.Flat.{flat_items, items_of, numbered_rows, resources_of, scopes_of, resource_pairs, scope_pairs}
 use Rattle.otap_groups.specs.Rows.{MainRow}
 use Rattle.otap_groups.specs.Stored.{main_table}
 use Rattle.otap_groups.proofs.GroupsApart.{item_there, own_once, resource_there, rows_agree, scope_there}
@@ -41,7 +41,7 @@ use Rattle.otap_logs.proofs.BackAgain.{few_l, few_main, few_r, few_s}
 use Rattle.otap_logs.proofs.Cleanness.{clean, IsUnlike}
 use Rattle.otap_logs.proofs.FineValues.{fine_bodies, fine_records, fine_resources, fine_scopes}
 use Rattle.otap_logs.proofs.LogColumns.{log_ids, logs_are_main}
-use Rattle.otap_logs.proofs.NamedTables.{named_main, named_records, named_resources, named_scopes, record_pairs, resource_pairs, scope_pairs}
+use Rattle.otap_logs.proofs.NamedTables.{named_main, named_records, named_resources, named_scopes, record_pairs}
 
 module _ (groups : List (ResourceGroup LogRecord)) (light : weight_of (Logs groups) ≤ weight_limit) where
   abbrev tables : List Table

@@ -17,7 +17,8 @@ use Rattle.otap_groups.proofs.StoredRows.{size_of_main}
 use Rattle.otap_attrs.specs.Tables.{attribute_table}
 use Rattle.otap_logs.specs.Records.{record_cells}
 use Rattle.otap_logs.specs.Tables.{tables_of_logs}
-use Rattle.otap_logs.proofs.NamedTables.{named_main, named_records, named_resources, named_scopes, record_pairs, resource_pairs, scope_pairs}
+use Rattle.otap_groups.specs.Flat.{resource_pairs, scope_pairs}
+use Rattle.otap_logs.proofs.NamedTables.{named_main, named_records, named_resources, named_scopes, record_pairs}
 
 abbrev filled : {A : Type 0} → Bool → A → List A
 filled b x = if b then x ∷ [] else []

@@ -18,7 +18,7 @@ use Rattle.otap_cells.specs.declared.payload.Kind.TheVariants as table
 use Rattle.otap_cells.specs.Columns.{columns_of, logs}
 use Rattle.otap_cells.specs.GivenIds.{HasIds}
 use Rattle.otap_cells.specs.Tables.{IsRow, Table}
-use Rattle.otap_groups.specs.Flat.{flat_items, items_of, numbered_rows, resources_of, scopes_of}
+use Rattle.otap_groups.specs.Flat.{flat_items, items_of, numbered_rows, resources_of, scopes_of, resource_pairs, scope_pairs}
 use Rattle.otap_groups.specs.ProfileTables.{IsProfileTable}
 use Rattle.otap_groups.specs.Rows.{MainRow}
 use Rattle.otap_groups.specs.Stored.{main_table, stored_rows}
@@ -33,7 +33,7 @@ use Rattle.otap_logs.specs.Records.{record_cells}
 use Rattle.otap_logs.specs.Tables.{tables_of_logs}
 use Rattle.otap_logs.proofs.BackAgain.{few_l, few_main, few_r, few_s}
 use Rattle.otap_logs.proofs.LogColumns.{log_ids, logs_are_main}
-use Rattle.otap_logs.proofs.NamedTables.{record_pairs, resource_pairs, scope_pairs}
+use Rattle.otap_logs.proofs.NamedTables.{record_pairs}
 use Rattle.otap_logs.proofs.ValueFits.{own_fits}
 
 where_written : (t : Table) → IsProfileTable t → All IsProfileTable (where_rows t)

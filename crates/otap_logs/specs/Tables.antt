@@ -4,7 +4,7 @@ use Rattle.otlp_model.specs.declared.groups.ResourceGroup.{ResourceGroup}
 use Rattle.otlp_model.specs.declared.logs.LogRecord.{LogRecord}
 use Rattle.otap_cells.specs.declared.payload.Kind.TheVariants as table
 use Rattle.otap_cells.specs.Tables.{Table}
-use Rattle.otap_groups.specs.Flat.{items_of, resources_of, scopes_of}
+use Rattle.otap_groups.specs.Flat.{items_of, resource_pairs, scope_pairs}
 use Rattle.otap_groups.specs.Stored.{main_table}
 use Rattle.otap_attrs.specs.Tables.{attribute_table, where_rows}
 use Rattle.otap_logs.specs.Records.{record_cells}
@@ -13,6 +13,6 @@ use Rattle.otap_logs.specs.Records.{record_cells}
 unfoldable pub tables_of_logs : List (ResourceGroup LogRecord) → List Table
 tables_of_logs groups =
     main_table table.Logs record_cells groups
-    ∷ where_rows (attribute_table table.ResourceAttrs (map (λ resource. resource.pairs) (resources_of groups)))
-    ++ (where_rows (attribute_table table.ScopeAttrs (map (λ scope. scope.pairs) (scopes_of groups)))
+    ∷ where_rows (attribute_table table.ResourceAttrs (resource_pairs groups))
+    ++ (where_rows (attribute_table table.ScopeAttrs (scope_pairs groups))
     ++ where_rows (attribute_table table.LogAttrs (map (λ log. log.pairs) (items_of groups))))

@@ -1,5 +1,6 @@
 //! The request of the tables of a batch.
 ghost use Rattle.std.specs.Prelude.{◌≡◌, ◌≤◌, ℕ, Option, drop, map, min, IfErr, IfOk, OnOk};
+ghost use Rattle.otlp_model.specs.declared.request.Signal.TheVariants as signal;
 ghost use Rattle.otlp_model.specs.Weight.{weight_of};
 ghost use Rattle.otlp_model.specs.declared.request.Request.TheVariants.{Logs};
 ghost use Rattle.otap_cells.specs.declared.payload.Kind.{Kind};
@@ -17,7 +18,8 @@ ghost use Rattle.otap_checks.specs.Regrouping.{RefusesRegroup};
 ghost use Rattle.otap_groups.specs.Disagree.{Disagree};
 ghost use Rattle.otap_groups.specs.Groups.{regrouped};
 ghost use Rattle.otlp_model.specs.Limits.{weight_limit, count_cap};
-ghost use Rattle.otap_logs.specs.Inside.{AreWhole, KnowsLogs};
+ghost use Rattle.otap_checks.specs.Known.{KnowsAll};
+ghost use Rattle.otap_logs.specs.Inside.{AreWhole};
 ghost use Rattle.otap_logs.specs.Records.{record_of};
 ghost use Rattle.otap_logs.specs.Requests.{WrongLogs, regrouped_logs};
 
@@ -33,7 +35,7 @@ use otap_groups::{Children, FrontColumns, Main};
 use otlp_model::{Items, LogRecord, ResourceGroup, Signal};
 use std::alloc::{AllocError, Global};
 
-// The main rows of logs, with their records and all pairs.
+/// The main rows of logs, with their records and all pairs.
 type LogRows<'a, R> = Main<
     'a,
     R,
@@ -103,7 +105,7 @@ pub fn request_of<R: Rows>(
 fn check_cells<R: Rows>(alloc: Global, set: &TableSet<R>) -> Result<KnownIds, CheckRefusal>
     requires { IsSet R.table set.now.tables.items }
     ensures clean { OnOk result (AreWhole (tables_in R.table set.now.tables.items)) }
-    ensures known { IfOk result (λ known. KnowsLogs (tables_in R.table set.now.tables.items) known.columns.items) }
+    ensures known { IfOk result (λ known. KnowsAll signal.Logs (tables_in R.table set.now.tables.items) known.columns.items) }
     ensures refused { IfErr result (RefusesCheck (WrongLogs (tables_in R.table set.now.tables.items))) }
 {
     let known = known_ids(alloc, set, Signal::Logs)?;
@@ -123,7 +125,7 @@ fn clean_main<'a, R: Rows>(
 ) -> Result<LogRows<'a, R>, CheckRefusal>
     requires set { IsSet R.table set.now.tables.items }
     requires whole { AreWhole (tables_in R.table set.now.tables.items) }
-    requires known { KnowsLogs (tables_in R.table set.now.tables.items) known.now.columns.items }
+    requires known { KnowsAll signal.Logs (tables_in R.table set.now.tables.items) known.now.columns.items }
     requires table { table_named table.Logs (tables_in R.table set.now.tables.items) ≡ R.table rows.now }
     requires kind { (R.table rows.now).kind ≡ table.Logs }
     ensures clean { OnOk result ((kind : Kind) (why : RowRefusal) → WrongLogs (tables_in R.table set.now.tables.items) kind why → ⊥) }
@@ -153,7 +155,7 @@ fn main_of<'a, R: Rows>(
     known: &'a KnownIds,
 ) -> Result<LogRows<'a, R>, AllocError>
     requires set { IsSet R.table set.now.tables.items }
-    requires known { KnowsLogs (tables_in R.table set.now.tables.items) known.now.columns.items }
+    requires known { KnowsAll signal.Logs (tables_in R.table set.now.tables.items) known.now.columns.items }
     requires kind { (R.table front.rows.now).kind ≡ table.Logs }
     requires agree { Disagree (main_rows front.ids.now front.resource_ids.now front.scope_ids.now (R.table front.rows.now).rows) → ⊥ }
     ensures front { IfOk result (λ main. main_rows main.front.ids.now main.front.resource_ids.now main.front.scope_ids.now (R.table main.front.rows.now).rows

@@ -16,7 +16,7 @@ use otap_attrs::attributes_weight;
 use otap_groups::{RowWeights, rows_weight};
 use otlp_model::{Items, LogRecord, Resource, ResourceGroup, Scope, add_capped};
 
-// Weighs the rows of log records and of attributes.
+/// Weighs the rows of log records and of attributes.
 #[derive(Clone, Copy, Debug)]
 struct LogWeights;
 

@@ -19,7 +19,7 @@ use otap_groups::{Flat, FrontCells, RowWriter, flatten, resources_of, scopes_of,
 use otlp_model::{Items, LogRecord, ResourceGroup, sum_capped};
 use std::alloc::{AllocError, Global};
 
-// Writes the rows of log records.
+/// Writes the rows of log records.
 #[derive(Clone, Copy, Debug)]
 struct RecordWriter {
     alloc: Global,

@@ -10,10 +10,10 @@ use Rattle.otlp_model.specs.declared.metrics.Exemplar.{Exemplar}
 use Rattle.otlp_model.specs.declared.metrics.Metric.{Metric}
 use Rattle.otlp_model.specs.declared.metrics.Point.{Point}
 use Rattle.otlp_model.specs.declared.request.Request.TheVariants.{Metrics}
-use Rattle.otap_groups.specs.Flat.{items_of, resources_of, scopes_of}
+use Rattle.otap_groups.specs.Flat.{items_of, resources_of, scopes_of, resource_pairs, scope_pairs}
 use Rattle.otap_groups.proofs.WritableGroups.{few_items, few_resources, few_scopes}
 use Rattle.otap_metrics.specs.Metrics.{points_of}
-use Rattle.otap_metrics.specs.Tables.{all_exemplars, all_points, exemplar_lists, exemplar_pairs, point_lists, point_pairs, resource_pairs, scope_pairs}
+use Rattle.otap_metrics.specs.Tables.{all_exemplars, all_points, exemplar_lists, exemplar_pairs, point_lists, point_pairs}
 use Rattle.otap_metrics.proofs.LightParts.{few_exemplars, few_points}
 
 module _ (groups : List (ResourceGroup Metric)) (light : weight_of (Metrics groups) ≤ weight_limit) where

@@ -20,7 +20,7 @@ use Rattle.otap_cells.specs.GivenIds.{HasIds}
 use Rattle.otap_cells.specs.Named.{table_named}
 use Rattle.otap_cells.specs.Tables.{Table}
 use Rattle.otap_groups.specs.Disagree.{Disagree}
-use Rattle.otap_groups.specs.Flat.{flat_items, items_of, numbered_rows, resources_of, scopes_of}
+use Rattle.otap_groups.specs.Flat.{flat_items, items_of, numbered_rows, resources_of, scopes_of, resource_pairs, scope_pairs}
 use Rattle.otap_groups.specs.Rows.{MainRow}
 use Rattle.otap_groups.specs.Stored.{main_table, part_table}
 use Rattle.otap_groups.proofs.GroupsApart.{item_there, own_once, resource_there, rows_agree, scope_there}
@@ -40,7 +40,7 @@ use Rattle.otap_checks.proofs.TableIds.{disagree_too}
 use Rattle.otap_metrics.specs.Metrics.{metric_cells, points_of}
 use Rattle.otap_metrics.specs.Points.{exemplar_cells, point_cells}
 use Rattle.otap_metrics.specs.Requests.{WrongIds, is_hist_kind}
-use Rattle.otap_metrics.specs.Tables.{HoldMetrics, all_exemplars, all_points, exemplar_lists, exemplar_pairs, point_lists, point_pairs, resource_pairs, scope_pairs}
+use Rattle.otap_metrics.specs.Tables.{HoldMetrics, all_exemplars, all_points, exemplar_lists, exemplar_pairs, point_lists, point_pairs}
 use Rattle.otap_metrics.proofs.FewParts.{few_all_exemplars, few_all_points, few_exemplar_lists, few_exemplar_pairs, few_metrics, few_point_lists, few_point_pairs, few_resource_pairs, few_scope_pairs}
 use Rattle.otap_metrics.proofs.MetricColumns.{exemplar_ids, exemplars_are_parts, metric_ids, metrics_are_main, point_ids, points_are_parts}
 use Rattle.otap_metrics.proofs.Cleanness.{IsUnlike}

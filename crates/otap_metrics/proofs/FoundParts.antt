@@ -19,7 +19,7 @@ use Rattle.otlp_model.specs.declared.request.Request.TheVariants.{Metrics}
 use Rattle.otlp_model.specs.declared.value.Pair.{Pair}
 use Rattle.otap_cells.specs.Cells.{Cell}
 use Rattle.otap_groups.specs.Children.{Agree, ReadsEach, children, numbered}
-use Rattle.otap_groups.specs.Flat.{flat_items, items_of, numbered_rows, part_rows, placed, resources_of, scopes_of}
+use Rattle.otap_groups.specs.Flat.{flat_items, items_of, numbered_rows, part_rows, placed, resources_of, scopes_of, resource_pairs, scope_pairs}
 use Rattle.otap_groups.specs.Groups.{regrouped}
 use Rattle.otap_groups.specs.Weighing.{CanWriteGroup}
 use Rattle.otap_groups.proofs.Grouping.{groups_back}
@@ -29,7 +29,7 @@ use Rattle.otap_groups.proofs.WritableGroups.{all_items_can, all_resources_can, 
 use Rattle.otap_checks.proofs.PairsAgain.{AreBack, IsBackResource, IsBackScope, pairs_agree, pairs_back, unsorted}
 use Rattle.otap_metrics.specs.Metrics.{Below, hist_points_of, metric_cells, metric_of, points_of, summary_points_of}
 use Rattle.otap_metrics.specs.Points.{exemplar_cells, exemplar_of, point_cells, point_of}
-use Rattle.otap_metrics.specs.Tables.{all_exemplars, all_points, exemplar_lists, exemplar_pairs, hist_lists, point_lists, point_pairs, resource_pairs, scope_pairs, summary_lists}
+use Rattle.otap_metrics.specs.Tables.{all_exemplars, all_points, exemplar_lists, exemplar_pairs, hist_lists, point_lists, point_pairs, summary_lists}
 use Rattle.otap_metrics.proofs.MetricsBack.{IsBackExemplar, IsBackMetric, IsBackPoint, below_of, metric_again}
 
 -- ---- what is found

@@ -23,7 +23,7 @@ use Rattle.otap_cells.specs.Cells.{Cell, nat_in, cell_at}
 use Rattle.otap_cells.specs.Scalars.{flag_in, int_in}
 use Rattle.otap_cells.specs.Tables.{Table}
 use Rattle.otap_groups.specs.Children.{Agree, children, numbered}
-use Rattle.otap_groups.specs.Flat.{flat_items, numbered_rows, part_rows, placed}
+use Rattle.otap_groups.specs.Flat.{flat_items, numbered_rows, part_rows, placed, resource_pairs, scope_pairs}
 use Rattle.otap_groups.specs.Groups.{regrouped}
 use Rattle.otap_groups.specs.Rows.{ChildRow}
 use Rattle.otap_groups.specs.Stored.{part_table}
@@ -38,7 +38,7 @@ use Rattle.otap_checks.proofs.RowsAgain.{main_rows_again, part_rows_again}
 use Rattle.otap_metrics.specs.Metrics.{Below, metric_cells, metric_of, shape_of}
 use Rattle.otap_metrics.specs.Points.{exemplar_cells, exemplar_of, point_cells, point_of}
 use Rattle.otap_metrics.specs.Requests.{exemplar_in, exemplars_in, point_in, regrouped_metrics}
-use Rattle.otap_metrics.specs.Tables.{HoldMetrics, exemplar_lists, exemplar_pairs, hist_lists, point_lists, point_pairs, resource_pairs, scope_pairs, summary_lists}
+use Rattle.otap_metrics.specs.Tables.{HoldMetrics, exemplar_lists, exemplar_pairs, hist_lists, point_lists, point_pairs, summary_lists}
 use Rattle.otap_metrics.proofs.FewParts.{few_all_exemplars, few_all_points, few_exemplar_lists, few_exemplar_pairs, few_metrics, few_point_lists, few_point_pairs, few_resource_pairs, few_scope_pairs}
 use Rattle.otap_metrics.proofs.FoundParts.{exemplars_found, groups_again, metric_found, metrics_read, points_found, resources_agree, scopes_agree, unsorted_back}
 use Rattle.otap_metrics.proofs.MetricColumns.{exemplars_are_parts, metrics_are_main, points_are_parts}

@@ -10,7 +10,7 @@ use Rattle.otap_cells.specs.declared.payload.Kind.{Kind}
 use Rattle.otap_cells.specs.declared.payload.Kind.TheVariants as table
 use Rattle.otap_cells.specs.Named.{table_named}
 use Rattle.otap_cells.specs.Tables.{Table, profile_table}
-use Rattle.otap_groups.specs.Flat.{FlatIn, flat_items}
+use Rattle.otap_groups.specs.Flat.{FlatIn, flat_items, resource_pairs, scope_pairs}
 use Rattle.otap_groups.specs.Stored.{main_table, part_table, stored_rows}
 use Rattle.otap_groups.proofs.Bounds.{size_of_flat}
 use Rattle.otap_groups.proofs.FlatItems.{length_entries}
@@ -18,7 +18,7 @@ use Rattle.otap_attrs.specs.Tables.{attribute_table}
 use Rattle.otap_attrs.proofs.FilledTables.{Formed, Tells, apart, filled, filled_named, kinds_filled, numbers}
 use Rattle.otap_metrics.specs.Metrics.{metric_cells}
 use Rattle.otap_metrics.specs.Points.{exemplar_cells, point_cells}
-use Rattle.otap_metrics.specs.Tables.{HoldMetrics, exemplar_lists, exemplar_pairs, point_lists, point_pairs, resource_pairs, scope_pairs, tables_below, tables_of_metrics}
+use Rattle.otap_metrics.specs.Tables.{HoldMetrics, exemplar_lists, exemplar_pairs, point_lists, point_pairs, tables_below, tables_of_metrics}
 
 -- ---- a list of kinds, where some pass a test
 

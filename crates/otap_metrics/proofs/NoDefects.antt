@@ -20,7 +20,7 @@ use Rattle.otap_cells.specs.declared.payload.Kind.{Kind}
 use Rattle.otap_cells.specs.declared.payload.Kind.TheVariants as table
 use Rattle.otap_cells.specs.Named.{table_named}
 use Rattle.otap_cells.specs.Tables.{Table}
-use Rattle.otap_groups.specs.Flat.{items_of, resources_of, scopes_of}
+use Rattle.otap_groups.specs.Flat.{items_of, resources_of, scopes_of, resource_pairs, scope_pairs}
 use Rattle.otap_groups.specs.Stored.{part_table}
 use Rattle.otap_groups.specs.Weighing.{CanWriteGroup}
 use Rattle.otap_groups.proofs.RealGroups.{real_groups}
@@ -31,7 +31,7 @@ use Rattle.otap_checks.specs.ValueDefects.{HasFineValues}
 use Rattle.otap_metrics.specs.Metrics.{points_of}
 use Rattle.otap_metrics.specs.Points.{point_cells}
 use Rattle.otap_metrics.specs.Requests.{HasTwoValues, WrongMetrics, WrongParent, WrongType, has_numbers}
-use Rattle.otap_metrics.specs.Tables.{HoldMetrics, all_exemplars, all_points, exemplar_lists, exemplar_pairs, point_lists, point_pairs, resource_pairs, scope_pairs}
+use Rattle.otap_metrics.specs.Tables.{HoldMetrics, all_exemplars, all_points, exemplar_lists, exemplar_pairs, point_lists, point_pairs}
 use Rattle.otap_metrics.proofs.Cleanness.{clean}
 use Rattle.otap_metrics.proofs.FewParts.{few_metrics}
 use Rattle.otap_metrics.proofs.FineIds.{alike, fine_ids}

@@ -3,7 +3,7 @@ use Rattle.std.proofs.Common.{◌≡◌, ◌<◌, ◌≤◌, ◌^◌, List, [], 
 use Rattle.std.specs.Prelude.{All}
 use Rattle.std.specs.List.{flat_map}
 use Rattle.std.proofs.lemmas.List.{length-map}
-use Rattle.std.proofs.lemmas.List.Elements.{All-nil, All-append, All-head, All-tail, All-weaker}
+use Rattle.std.proofs.lemmas.List.Elements.{All-weaker}
 use Rattle.lists.proofs.Every.{all_joined, map_over}
 use Rattle.otlp_model.specs.declared.groups.ResourceGroup.{ResourceGroup}
 use Rattle.otlp_model.specs.declared.metrics.Exemplar.{Exemplar}
@@ -22,7 +22,7 @@ use Rattle.otap_cells.specs.Sets.{IsSet, tables_in}
 use Rattle.otap_cells.specs.Tables.{Table, profile_table}
 use Rattle.otap_groups.specs.declared.flat.Flat.{Flat}
 use Rattle.otap_groups.specs.declared.flat.Placed.{Placed}
-use Rattle.otap_groups.specs.Flat.{flat_items, items_of, placed, resources_of, scopes_of}
+use Rattle.otap_groups.specs.Flat.{flat_items, items_of, placed, resources_of, scopes_of, resource_pairs, scope_pairs}
 use Rattle.otap_groups.specs.Stored.{main_table, part_table, stored_parts, stored_rows}
 use Rattle.otap_groups.specs.Views.{seen_flat, seen_placed}
 use Rattle.otap_groups.proofs.FlatItems.{all_items, all_parts, items_of_rows, parts_of_rows}
@@ -31,7 +31,7 @@ use Rattle.otap_attrs.specs.Tables.{attribute_table, beside_kind, where_rows}
 use Rattle.otap_attrs.proofs.FilledTables.{added, added_all, filled, filled_set, filled_tables}
 use Rattle.otap_metrics.specs.Metrics.{metric_cells, points_of}
 use Rattle.otap_metrics.specs.Points.{exemplar_cells, point_cells}
-use Rattle.otap_metrics.specs.Tables.{all_exemplars, all_points, exemplar_lists, exemplar_pairs, point_lists, point_pairs, resource_pairs, scope_pairs, tables_below, tables_of_metrics}
+use Rattle.otap_metrics.specs.Tables.{all_exemplars, all_points, exemplar_lists, exemplar_pairs, point_lists, point_pairs, tables_below, tables_of_metrics}
 use Rattle.otap_metrics.specs.Writable.{CanWriteExemplar, CanWriteMetric, CanWritePoint}
 use Rattle.otap_metrics.proofs.LightParts.{few_exemplars, few_points}
 use Rattle.otap_metrics.proofs.WrittenWeight.{CanWrite}

@@ -17,7 +17,7 @@ use Rattle.otlp_model.specs.Weight.{weight_of, weight_of_metric}
 use Rattle.otap_cells.specs.declared.payload.Kind.TheVariants as table
 use Rattle.otap_cells.specs.Tables.{Table}
 use Rattle.otap_cells.specs.Weights.{weight_of_table, weight_of_tables}
-use Rattle.otap_groups.specs.Flat.{items_of, resources_of, scopes_of}
+use Rattle.otap_groups.specs.Flat.{items_of, resources_of, scopes_of, resource_pairs, scope_pairs}
 use Rattle.otap_groups.specs.Stored.{main_table, part_table}
 use Rattle.otap_groups.specs.Weighing.{CanWriteGroup, cells_weight, parts_weight, rows_of_groups}
 use Rattle.otap_groups.proofs.RowsApart.{rows_apart}
@@ -30,7 +30,7 @@ use Rattle.otap_attrs.proofs.FilledTables.{filled_weigh}
 use Rattle.otap_metrics.specs.Inside.{exemplar_weight, metric_weight, point_weight}
 use Rattle.otap_metrics.specs.Metrics.{metric_cells, points_of}
 use Rattle.otap_metrics.specs.Points.{exemplar_cells, point_cells}
-use Rattle.otap_metrics.specs.Tables.{all_exemplars, all_points, exemplar_lists, exemplar_pairs, point_lists, point_pairs, resource_pairs, scope_pairs, tables_below, tables_of_metrics}
+use Rattle.otap_metrics.specs.Tables.{all_exemplars, all_points, exemplar_lists, exemplar_pairs, point_lists, point_pairs, tables_below, tables_of_metrics}
 use Rattle.otap_metrics.specs.Writable.{CanWriteMetric}
 use Rattle.otap_metrics.proofs.LightParts.{metric_can}
 

@@ -11,7 +11,7 @@ use Rattle.otlp_model.specs.declared.value.Pair.{Pair}
 use Rattle.otap_cells.specs.declared.payload.Kind.TheVariants as table
 use Rattle.otap_cells.specs.Named.{table_named}
 use Rattle.otap_cells.specs.Tables.{Table}
-use Rattle.otap_groups.specs.Flat.{items_of, resources_of, scopes_of}
+use Rattle.otap_groups.specs.Flat.{items_of, resource_pairs, scope_pairs}
 use Rattle.otap_groups.specs.Stored.{main_table, part_table}
 use Rattle.otap_attrs.specs.Tables.{attribute_table, where_rows}
 use Rattle.otap_metrics.specs.Metrics.{hist_points_of, metric_cells, points_of, summary_points_of}
@@ -38,13 +38,7 @@ exemplar_lists groups = map (λ point. point.exemplars) (all_points groups)
 abbrev pub all_exemplars : List (ResourceGroup Metric) → List Exemplar
 all_exemplars groups = flat_map (λ exemplars. exemplars) (exemplar_lists groups)
 
--- the attributes of each resource, each scope, each point and each exemplar
-abbrev pub resource_pairs : List (ResourceGroup Metric) → List (List Pair)
-resource_pairs groups = map (λ resource. resource.pairs) (resources_of groups)
-
-abbrev pub scope_pairs : List (ResourceGroup Metric) → List (List Pair)
-scope_pairs groups = map (λ scope. scope.pairs) (scopes_of groups)
-
+-- the attributes of each point and each exemplar
 abbrev pub point_pairs : List (ResourceGroup Metric) → List (List Pair)
 point_pairs groups = map (λ point. point.pairs) (all_points groups)
 

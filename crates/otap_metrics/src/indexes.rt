@@ -55,7 +55,7 @@ pub fn index_exemplars<'a, R: Rows, P: Lookup<Child = Pair>>(
 
 /// Finds the points of a gauge or a sum. A table that isn't there has none. Takes n log n for n rows, and time in proportion to
 /// them where parents rise or count from 0.
-pub fn index_points<'a, R: Rows, P: Lookup<Child = Pair>, X: Lookup<Child = Exemplar>>(
+pub(crate) fn index_points<'a, R: Rows, P: Lookup<Child = Pair>, X: Lookup<Child = Exemplar>>(
     alloc: Global,
     set: &'a TableSet<R>,
     known: &'a KnownIds,

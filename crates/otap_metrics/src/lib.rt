@@ -13,9 +13,9 @@ mod weights;
 mod writing;
 
 pub use checks::{PointSort, has_other_parents, has_two_values};
-pub use indexes::{index_exemplars, index_points};
+pub use indexes::index_exemplars;
 pub use numbers::{double_value, id_cell, int_value};
-pub use reading::{Exemplars, Metrics, Points, measured_at};
+pub use reading::{Exemplars, Metrics, Points};
 pub use requests::{check_metrics, regroup_with};
 pub use weights::table_weight;
 pub use writing::tables_of;

@@ -267,7 +267,7 @@ fn exemplar_weight<R: Rows, P: Lookup<Child = Pair>>(
 }
 
 /// The number that a row has: an integer in this column, or a double in the one after it.
-pub fn measured_at<R: Rows>(rows: &R, column: u32, row: u64) -> Number
+fn measured_at<R: Rows>(rows: &R, column: u32, row: u64) -> Number
     requires column { column + 1 < width_of (R.table rows.now).kind }
     requires few { column + 1 < 2 ^ 32 }
     requires row { row < length (R.table rows.now).rows }

@@ -16,7 +16,7 @@ use otap_attrs::attributes_weight;
 use otap_groups::{PartWriter, RowWeights, RowWriter, rows_weight};
 use otlp_model::{Exemplar, Items, Metric, Point, Resource, ResourceGroup, Scope, add_capped};
 
-// Weighs the rows of metrics and of all that is below them.
+/// Weighs the rows of metrics and of all that is below them.
 #[derive(Clone, Copy, Debug)]
 struct MetricWeights;
 

@@ -8,7 +8,7 @@ use Rattle.otap_cells.specs.Tables.{Table}
 use Rattle.otap_columns.specs.TableSets.{IsPayloadOf}
 use Rattle.otap_produce.specs.Exporters.{SendersIn}
 use Rattle.otap_produce.specs.SentMessages.{Adds, Sends}
-use Rattle.otap_produce.specs.Sizes.{most_of, size_of}
+use Rattle.otap_produce.specs.Sizes.{payloads_most, size_of}
 use Rattle.otap_produce.specs.Inside.{HaveHistory}
 
 pub sends_more : (ts us : List Table) (a b c : SendersIn) (ps qs : List PayloadIn) → Sends ts a b ps → Sends us b c qs → Sends (ts ++ us) a c (ps ++ qs)
@@ -22,7 +22,7 @@ size_more : (ps qs : List PayloadIn) → size_of (ps ++ qs) ≡ size_of ps + siz
 size_more [] qs = omega arith
 size_more (p ∷ ps) qs = omega (arith, size_more ps qs)
 
-most_more : (ts us : List Table) → most_of (ts ++ us) ≡ most_of ts + most_of us
+most_more : (ts us : List Table) → payloads_most (ts ++ us) ≡ payloads_most ts + payloads_most us
 most_more [] us = omega arith
 most_more (t ∷ ts) us = omega (arith, most_more ts us)
 

@@ -5,6 +5,7 @@ use Rattle.std.specs.Int.{w64, cast_unsigned}
 use Rattle.std.specs.List.{AllByRecursion}
 use Rattle.lists.specs.Payloads.{PayloadIn}
 use Rattle.lists.proofs.Numbers.{wider, unsigned_small}
+use Rattle.otlp_wire.specs.Limits.{number_limit}
 use Rattle.otlp_wire.specs.Varint.{varint}
 use Rattle.otlp_wire.specs.Wire.{Varint}
 use Rattle.otlp_wire.proofs.Shortest.{ten_at_most}
@@ -12,27 +13,27 @@ use Rattle.otlp_messages.specs.Canon.{bytes_row, canon_row, many_row, signed_row
 use Rattle.otap_capture.specs.Batch.{BatchContent, IsRealBatch, IsRealPayload, canon_batch, canon_payload}
 use Rattle.otap_produce.specs.Sizes.{size_of}
 
-part_most : (n : ℕ) (part : List ℕ) → n < 2 ^ 29 → length part < 2 ^ 64 → length (varint (8 * n + 2) ++ (varint (length part) ++ part)) ≤ 20 + length part
+part_most : (n : ℕ) (part : List ℕ) → n < number_limit → length part < 2 ^ 64 → length (varint (8 * n + 2) ++ (varint (length part) ++ part)) ≤ 20 + length part
 part_most n part low small =
     let tag = ten_at_most (8 * n + 2) (omega (arith, low)) in
     let len = ten_at_most (length part) small in
     omega (arith, tag, len, length-append (varint (8 * n + 2)) (varint (length part) ++ part), length-append (varint (length part)) part)
 
-bytes_most : (n : ℕ) (part : List ℕ) → n < 2 ^ 29 → length part < 2 ^ 64 → length (canon_row n (bytes_row part)) ≤ 20 + length part
+bytes_most : (n : ℕ) (part : List ℕ) → n < number_limit → length part < 2 ^ 64 → length (canon_row n (bytes_row part)) ≤ 20 + length part
 bytes_most n [] low small = omega arith
 bytes_most n (b ∷ bytes) low small =
     let part = b ∷ bytes in
     let one = varint (8 * n + 2) ++ (varint (length part) ++ part) in
     omega (arith, part_most n part low small, ap length (append-nil one))
 
-number_most : (n x : ℕ) (b : Bool) → n < 2 ^ 29 → x < 2 ^ 64 → length (canon_row n (if b then [] else Varint x ∷ [])) ≤ 20
+number_most : (n x : ℕ) (b : Bool) → n < number_limit → x < 2 ^ 64 → length (canon_row n (if b then [] else Varint x ∷ [])) ≤ 20
 number_most n x true low small = omega arith
 number_most n x false low small =
     let tag = ten_at_most (8 * n + 0) (omega (arith, low)) in
     let value = ten_at_most x small in
     omega (arith, tag, value, length-append (varint (8 * n + 0)) (varint x), ap length (append-nil (varint (8 * n + 0) ++ varint x)))
 
-signed_most : (n : ℕ) (z : ℤ) → n < 2 ^ 29 → FitsSigned w64 z → length (canon_row n (signed_row z)) ≤ 20
+signed_most : (n : ℕ) (z : ℤ) → n < number_limit → FitsSigned w64 z → length (canon_row n (signed_row z)) ≤ 20
 signed_most n z low fits = number_most n (cast_unsigned w64 z) (cast_unsigned w64 z == 0) low (unsigned_small z fits)
 
 payload_most : (p : PayloadIn) → IsRealPayload p → length p.schema_id + length p.bytes < 2 ^ 60 → length (canon_payload p) ≤ 60 + (length p.schema_id + length p.bytes)

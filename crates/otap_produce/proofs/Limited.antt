@@ -10,7 +10,7 @@ use Rattle.otap_cells.specs.Payload.{kinds_of}
 use Rattle.otap_cells.specs.Tables.{Table}
 use Rattle.otap_cells.specs.Weights.{row_weight_limit, weight_of_tables}
 use Rattle.otap_columns.specs.Limits.{columns_limit, dictionary_columns, record_limit, records_limit, tables_limit}
-use Rattle.otap_produce.specs.Sizes.{most_of, size_limit}
+use Rattle.otap_produce.specs.Sizes.{payloads_most, size_limit}
 use Rattle.otap_produce.specs.Writable.{AreInOrder}
 
 -- the records of the tables of a message are short together
@@ -41,12 +41,12 @@ columns_by_kind (t ∷ tables) =
       sum_by-cons dictionary_columns t.kind (map (λ (u : Table). u.kind) tables),
     )
 
-sizes : (tables : List Table) → most_of tables ≡ 20 * length tables + sum_by record_limit tables
+sizes : (tables : List Table) → payloads_most tables ≡ 20 * length tables + sum_by record_limit tables
 sizes [] = omega arith
 sizes (t ∷ tables) = omega (arith, sizes tables, sum_by-cons record_limit t tables)
 
 pub tables_limited : RecordsFit → (signal : Signal) (tables : List Table) → AreInOrder signal tables → weight_of_tables tables ≤ row_weight_limit
-    → (length tables ≤ tables_limit) × (most_of tables ≤ size_limit)
+    → (length tables ≤ tables_limit) × (payloads_most tables ≤ size_limit)
 tables_limited fit signal tables order light =
     let kinds : List Kind = map (λ (t : Table). t.kind) tables in
     let fewer_of = fewer order.has (kinds_of signal) in

@@ -5,18 +5,19 @@ use Rattle.std.specs.Int.{w64}
 use Rattle.std.specs.List.{AllByRecursion}
 use Rattle.std.proofs.lemmas.Int.{fits_signed_from_abs}
 use Rattle.otap_capture.specs.Batch.{BatchContent, IsRealBatch, IsRealPayload, ReadsBatch, batch_content, canon_batch}
+use Rattle.otap_capture.specs.Capture.{longest_frame}
 use Rattle.otap_cells.specs.Tables.{Table}
 use Rattle.otap_columns.specs.Limits.{tables_limit}
 use Rattle.otap_produce.specs.Exporters.{SendersIn}
 use Rattle.otap_produce.specs.Limits.{batch_limit}
 use Rattle.otap_produce.specs.SentMessages.{Adds, Sends, SendsMessage}
-use Rattle.otap_produce.specs.Sizes.{most_of, size_of, size_limit}
+use Rattle.otap_produce.specs.Sizes.{payloads_most, size_of, size_limit}
 use Rattle.otap_produce.proofs.Lengths.{batch_most}
 
 module _ (number : ℕ) (ts : List Table) (old new : SendersIn) (start batch : BatchContent) (bytes : List ℕ)
     (law : (b : BatchContent) → IsRealBatch b → length (canon_batch b) < 2 ^ 64 → ReadsBatch (canon_batch b) b)
     (begun : start ≡ record { id = pos number; payloads = [] }) (adds : Adds ts old new start batch) (spelled : bytes ≡ canon_batch batch)
-    (small : number < batch_limit) (few : length ts ≤ tables_limit) (size : most_of ts ≤ size_limit) where
+    (small : number < batch_limit) (few : length ts ≤ tables_limit) (size : payloads_most ts ≤ size_limit) where
   payloads_are : batch.payloads ≡ adds.payloads
   payloads_are = adds.are ∙ ap (λ (b : BatchContent). b.payloads ++ adds.payloads) begun
 
@@ -32,7 +33,7 @@ module _ (number : ℕ) (ts : List Table) (old new : SendersIn) (start batch : B
   size_is : size_of batch.payloads ≤ size_limit
   size_is = omega (arith, ap size_of payloads_are, adds.size, size)
 
-  short : length (canon_batch batch) ≤ 2 ^ 29
+  short : length (canon_batch batch) ≤ longest_frame
   short =
       let count : length batch.payloads ≤ tables_limit = omega (arith, ap length payloads_are, adds.count, few) in
       omega (arith, batch_most batch real (omega (arith, size_is)), count, size_is)

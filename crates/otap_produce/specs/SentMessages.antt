@@ -17,7 +17,7 @@ use Rattle.otap_produce.specs.declared.refusal.ProduceRefusal.{ProduceRefusal}
 use Rattle.otap_produce.specs.declared.refusal.ProduceRefusal.TheVariants.{Memory}
 use Rattle.otap_produce.specs.Exporters.{SendersIn, HaveSent, Refuses, kinds_in}
 use Rattle.otap_produce.specs.Policy.{SignalRows}
-use Rattle.otap_produce.specs.Sizes.{most_of, size_of, size_limit}
+use Rattle.otap_produce.specs.Sizes.{payloads_most, size_of, size_limit}
 use Rattle.otap_produce.specs.Inside.{HaveHistory}
 
 -- a table for which there is a sender can be written
@@ -42,7 +42,7 @@ pub record AreReadyForAll (tables : List Table) (s : SendersIn) : Type 0 where
   pub each : All (CanSend (kinds_in s.senders)) tables
   pub room : s.openings + length tables < 2 ^ 64
   pub few : length tables ≤ tables_limit
-  pub size : most_of tables ≤ size_limit
+  pub size : payloads_most tables ≤ size_limit
 
 -- whatever tables were sent before, as some payloads: these are the payloads of these tables after them, and now they were sent too
 pub record Sends (tables : List Table) (old new : SendersIn) (payloads : List PayloadIn) : Type 0 where
@@ -57,7 +57,7 @@ pub record Adds (tables : List Table) (old new : SendersIn) (batch grown : Batch
   pub real : AllByRecursion IsRealPayload payloads
   pub sends : Sends tables old new payloads
   pub openings : new.openings ≤ old.openings + length tables
-  pub size : size_of payloads ≤ most_of tables
+  pub size : size_of payloads ≤ payloads_most tables
   pub count : length payloads ≡ length tables
 
 -- the payloads of tables were written as a message

@@ -10,9 +10,9 @@ size_of [] = 0
 size_of (p ∷ payloads) = length p.schema_id + length p.bytes + size_of payloads
 
 -- how many these are at most for the payloads of tables: a schema id has at most 20 bytes
-abbrev pub most_of : List Table → ℕ
-most_of [] = 0
-most_of (t ∷ tables) = 20 + record_limit t + most_of tables
+abbrev pub payloads_most : List Table → ℕ
+payloads_most [] = 0
+payloads_most (t ∷ tables) = 20 + record_limit t + payloads_most tables
 
 -- and for the tables of a request
 abbrev pub size_limit : ℕ

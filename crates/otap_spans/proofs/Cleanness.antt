@@ -9,12 +9,12 @@ use Rattle.otap_attrs.specs.declared.refusal.RowRefusal.{RowRefusal}
 use Rattle.otap_attrs.specs.declared.refusal.RowRefusal.TheVariants as why
 use Rattle.otap_checks.specs.declared.known.ColumnIds.{ColumnIds}
 use Rattle.otap_checks.specs.Given.{AreGiven}
-use Rattle.otap_checks.specs.Known.{Knows}
+use Rattle.otap_checks.specs.Known.{KnowsAll, Knows}
 use Rattle.otap_checks.specs.Links.{attributes_link, items, links_of, parts}
 use Rattle.otap_checks.specs.Reading.{Disagrees}
 use Rattle.otap_checks.proofs.MissingRows.{none_differ}
 use Rattle.otap_checks.proofs.TableIds.{clean_given}
-use Rattle.otap_spans.specs.Inside.{AreWhole, KnowsSpans}
+use Rattle.otap_spans.specs.Inside.{AreWhole}
 use Rattle.otap_spans.specs.Requests.{WrongCells, WrongSpans}
 
 -- rows of one id differ
@@ -55,7 +55,7 @@ unfolding links_of
 given_spans tables whole = clean_given signal.Traces tables table.Spans (items table.Spans) (0, omega arith, refl) refl (whole.ids table.Spans)
 
 -- those of each table are known
-module _ (tables : List Table) (known : List ColumnIds) (all : KnowsSpans tables known) where
+module _ (tables : List Table) (known : List ColumnIds) (all : KnowsAll signal.Traces tables known) where
   pub known_spans : Knows (table_named table.Spans tables) table.Spans known
   unfolding links_of
   known_spans = all (items table.Spans) (0, omega arith, refl)

@@ -15,7 +15,7 @@ use Rattle.otap_cells.specs.declared.payload.Kind.TheVariants as table
 use Rattle.otap_cells.specs.Cells.{Cell}
 use Rattle.otap_cells.specs.Tables.{Table}
 use Rattle.otap_groups.specs.Children.{children, numbered}
-use Rattle.otap_groups.specs.Flat.{flat_items, numbered_rows, part_rows, placed}
+use Rattle.otap_groups.specs.Flat.{flat_items, numbered_rows, part_rows, placed, resource_pairs, scope_pairs}
 use Rattle.otap_groups.specs.Rows.{ChildRow}
 use Rattle.otap_groups.proofs.LightGroups.{children_weigh, kept_weigh, regrouped_weigh}
 use Rattle.otap_attrs.specs.Tables.{attribute_table}
@@ -23,7 +23,7 @@ use Rattle.otap_attrs.specs.Index.{pairs_in}
 use Rattle.otap_checks.proofs.PairsAgain.{sorted_weigh, unsorted}
 use Rattle.otap_spans.specs.Records.{event_cells, event_of, link_cells, link_of, span_cells, span_of}
 use Rattle.otap_spans.specs.Requests.{event_in, events_in, link_in, links_in, regrouped_spans}
-use Rattle.otap_spans.specs.Tables.{event_lists, event_pairs, link_lists, link_pairs, resource_pairs, scope_pairs, span_pairs, tables_of_spans}
+use Rattle.otap_spans.specs.Tables.{event_lists, event_pairs, link_lists, link_pairs, span_pairs, tables_of_spans}
 use Rattle.otap_spans.proofs.SpansAgain.{event_rows, event_table, few_e, few_l, few_p, few_r, few_s, groups_again, link_rows, link_table}
 use Rattle.otap_spans.proofs.SpansAgain.{pair_table_of_events, pair_table_of_links, regrouped_is, span_from, unsorted_back, unsorted_event, unsorted_events, unsorted_link, unsorted_links, unsorted_span}
 

@@ -10,7 +10,8 @@ use Rattle.otap_groups.specs.Stored.{main_table, part_table}
 use Rattle.otap_attrs.specs.Tables.{attribute_table}
 use Rattle.otap_attrs.proofs.FilledTables.{Formed, apart, filled_named, numbers}
 use Rattle.otap_spans.specs.Records.{event_cells, link_cells, span_cells}
-use Rattle.otap_spans.specs.Tables.{event_lists, event_pairs, link_lists, link_pairs, resource_pairs, scope_pairs, span_pairs, tables_below, tables_of_spans}
+use Rattle.otap_groups.specs.Flat.{resource_pairs, scope_pairs}
+use Rattle.otap_spans.specs.Tables.{event_lists, event_pairs, link_lists, link_pairs, span_pairs, tables_below, tables_of_spans}
 
 module _ (groups : List (ResourceGroup Span)) where
   pub below_apart : apart (numbers (tables_below groups)) ≡ true

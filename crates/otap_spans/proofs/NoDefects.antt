@@ -25,7 +25,7 @@ use Rattle.otap_cells.specs.GivenIds.{HasIds}
 use Rattle.otap_cells.specs.Named.{table_named}
 use Rattle.otap_cells.specs.Tables.{Table}
 use Rattle.otap_groups.specs.Disagree.{Disagree}
-use Rattle.otap_groups.specs.Flat.{flat_items, items_of, numbered_rows, resources_of, scopes_of}
+use Rattle.otap_groups.specs.Flat.{flat_items, items_of, numbered_rows, resources_of, scopes_of, resource_pairs, scope_pairs}
 use Rattle.otap_groups.specs.Rows.{MainRow}
 use Rattle.otap_groups.specs.Stored.{main_table, part_table}
 use Rattle.otap_groups.specs.Weighing.{CanWriteGroup}
@@ -50,7 +50,7 @@ use Rattle.otap_checks.proofs.TableIds.{disagree_too}
 use Rattle.otap_checks.specs.ValueDefects.{HasFineValues}
 use Rattle.otap_spans.specs.Records.{event_cells, link_cells, span_cells}
 use Rattle.otap_spans.specs.Requests.{WrongSpans}
-use Rattle.otap_spans.specs.Tables.{all_events, all_links, event_lists, event_pairs, link_lists, link_pairs, resource_pairs, scope_pairs, span_pairs, tables_of_spans}
+use Rattle.otap_spans.specs.Tables.{all_events, all_links, event_lists, event_pairs, link_lists, link_pairs, span_pairs, tables_of_spans}
 use Rattle.otap_spans.proofs.Cleanness.{clean, IsUnlike}
 use Rattle.otap_spans.proofs.NamedTables.{named_event_pairs, named_events, named_link_pairs, named_links, named_main, named_resources, named_scopes, named_spans}
 use Rattle.otap_spans.proofs.SpanColumns.{spans_are_main}

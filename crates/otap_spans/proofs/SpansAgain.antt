@@ -27,7 +27,7 @@ use Rattle.otap_cells.specs.declared.payload.Kind.TheVariants as table
 use Rattle.otap_cells.specs.Cells.{Cell}
 use Rattle.otap_cells.specs.Tables.{Table}
 use Rattle.otap_groups.specs.Children.{Agree, ReadsEach, children, numbered}
-use Rattle.otap_groups.specs.Flat.{flat_items, items_of, numbered_rows, part_rows, placed, resources_of, scopes_of}
+use Rattle.otap_groups.specs.Flat.{flat_items, items_of, numbered_rows, part_rows, placed, resources_of, scopes_of, resource_pairs, scope_pairs}
 use Rattle.otap_groups.specs.Groups.{regrouped}
 use Rattle.otap_groups.specs.Rows.{ChildRow}
 use Rattle.otap_groups.specs.Stored.{part_table}
@@ -47,7 +47,7 @@ use Rattle.otap_checks.proofs.PairsAgain.{AreBack, IsBackResource, IsBackScope, 
 use Rattle.otap_checks.proofs.RowsAgain.{main_rows_again, part_rows_again}
 use Rattle.otap_spans.specs.Records.{event_cells, event_of, link_cells, link_of, span_cells, span_of}
 use Rattle.otap_spans.specs.Requests.{event_in, events_in, link_in, links_in, regrouped_spans}
-use Rattle.otap_spans.specs.Tables.{all_events, all_links, event_lists, event_pairs, link_lists, link_pairs, resource_pairs, scope_pairs, span_pairs, tables_of_spans}
+use Rattle.otap_spans.specs.Tables.{all_events, all_links, event_lists, event_pairs, link_lists, link_pairs, span_pairs, tables_of_spans}
 use Rattle.otap_spans.proofs.NamedTables.{named_event_pairs, named_events, named_link_pairs, named_links, named_main, named_resources, named_scopes, named_spans}
 use Rattle.otap_spans.proofs.SpanColumns.{spans_are_main}
 use Rattle.otap_spans.proofs.SpansBack.{event_back, link_back, span_back}

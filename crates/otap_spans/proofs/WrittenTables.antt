@@ -20,7 +20,7 @@ use Rattle.otap_cells.specs.declared.payload.Kind.TheVariants as table
 use Rattle.otap_cells.specs.Columns.{columns_of, spans, span_events as event_columns, span_links as link_columns}
 use Rattle.otap_cells.specs.GivenIds.{HasIds}
 use Rattle.otap_cells.specs.Tables.{IsRow}
-use Rattle.otap_groups.specs.Flat.{flat_items, items_of, numbered_rows, resources_of, scopes_of}
+use Rattle.otap_groups.specs.Flat.{flat_items, items_of, numbered_rows, resources_of, scopes_of, resource_pairs, scope_pairs}
 use Rattle.otap_groups.specs.ProfileTables.{IsProfileTable}
 use Rattle.otap_groups.specs.Rows.{MainRow}
 use Rattle.otap_groups.specs.Stored.{main_table, part_table, stored_rows}
@@ -34,7 +34,7 @@ use Rattle.otap_groups.proofs.FrontKinds.{events_front, links_front}
 use Rattle.otap_attrs.proofs.FilledTables.{filled, filled_all}
 use Rattle.otap_checks.proofs.WrittenPairs.{AreReal, attributes_written}
 use Rattle.otap_spans.specs.Records.{event_cells, link_cells, span_cells}
-use Rattle.otap_spans.specs.Tables.{all_events, all_links, event_lists, event_pairs, link_lists, link_pairs, resource_pairs, scope_pairs, span_pairs, tables_below, tables_of_spans}
+use Rattle.otap_spans.specs.Tables.{all_events, all_links, event_lists, event_pairs, link_lists, link_pairs, span_pairs, tables_below, tables_of_spans}
 use Rattle.otap_spans.proofs.SpanColumns.{spans_are_main}
 use Rattle.otap_spans.proofs.SpanFits.{event_ids, event_own, event_row, link_ids, link_own, link_row, span_ids, span_own}
 use Rattle.otap_spans.proofs.SpansAgain.{events_joined, few_e, few_event_lists, few_events, few_l, few_link_lists, few_links, few_main, few_p, few_r, few_s, links_joined}

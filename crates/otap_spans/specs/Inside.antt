@@ -1,5 +1,5 @@
 -- Words of private contracts.
-use Rattle.std.specs.Prelude.{ℕ, Contains, List, Option}
+use Rattle.std.specs.Prelude.{ℕ, List, Option}
 use Rattle.otlp_model.specs.declared.request.Signal.TheVariants as signal
 use Rattle.otlp_model.specs.declared.spans.Event.{Event}
 use Rattle.otlp_model.specs.declared.spans.Link.{Link}
@@ -7,17 +7,12 @@ use Rattle.otlp_model.specs.declared.value.Pair.{Pair}
 use Rattle.otap_cells.specs.declared.payload.Kind.{Kind}
 use Rattle.otap_cells.specs.declared.payload.Kind.TheVariants as table
 use Rattle.otap_cells.specs.Cells.{Cell}
-use Rattle.otap_cells.specs.Named.{table_named}
 use Rattle.otap_cells.specs.Tables.{Table}
 use Rattle.otap_groups.specs.declared.entry.ChildEntry.{ChildEntry}
 use Rattle.otap_groups.specs.Found.{found}
 use Rattle.otap_attrs.specs.declared.refusal.RowRefusal.{RowRefusal}
 use Rattle.otap_attrs.specs.Values.{pair_in}
-use Rattle.otap_checks.specs.declared.known.ColumnIds.{ColumnIds}
-use Rattle.otap_checks.specs.declared.links.TableLink.{TableLink}
 use Rattle.otap_checks.specs.IdDefects.{IdDefect}
-use Rattle.otap_checks.specs.Known.{Knows}
-use Rattle.otap_checks.specs.Links.{links_of}
 use Rattle.otap_checks.specs.Pairing.{cells_or}
 use Rattle.otap_checks.specs.ValueDefects.{HasFineValues}
 use Rattle.otap_spans.specs.Records.{event_of, link_of}
@@ -30,10 +25,6 @@ pub record AreWhole (tables : List Table) : Type 0 where
   pub spans : HasFineValues tables table.SpanAttrs
   pub events : HasFineValues tables table.EventAttrs
   pub links : HasFineValues tables table.LinkAttrs
-
--- the ids of each table are known
-abbrev pub KnowsSpans : List Table → List ColumnIds → Type 0
-KnowsSpans tables known = (link : TableLink) → Contains (links_of signal.Traces) link → Knows (table_named link.kind tables) link.kind known
 
 -- ---- what is found below a parent by an index
 

@@ -8,7 +8,7 @@ use Rattle.otlp_model.specs.declared.spans.Link.{Link}
 use Rattle.otlp_model.specs.declared.value.Pair.{Pair}
 use Rattle.otap_cells.specs.declared.payload.Kind.TheVariants as table
 use Rattle.otap_cells.specs.Tables.{Table}
-use Rattle.otap_groups.specs.Flat.{items_of, resources_of, scopes_of}
+use Rattle.otap_groups.specs.Flat.{items_of, resource_pairs, scope_pairs}
 use Rattle.otap_groups.specs.Stored.{main_table, part_table}
 use Rattle.otap_attrs.specs.Tables.{attribute_table, where_rows}
 use Rattle.otap_spans.specs.Records.{span_cells, event_cells, link_cells}
@@ -26,13 +26,7 @@ link_lists groups = map (λ span. span.links) (items_of groups)
 abbrev pub all_links : List (ResourceGroup Span) → List Link
 all_links groups = flat_map (λ (span : Span). span.links) (items_of groups)
 
--- the attributes of each resource, each scope, each span, each event and each link
-abbrev pub resource_pairs : List (ResourceGroup Span) → List (List Pair)
-resource_pairs groups = map (λ resource. resource.pairs) (resources_of groups)
-
-abbrev pub scope_pairs : List (ResourceGroup Span) → List (List Pair)
-scope_pairs groups = map (λ scope. scope.pairs) (scopes_of groups)
-
+-- the attributes of each span, each event and each link
 abbrev pub span_pairs : List (ResourceGroup Span) → List (List Pair)
 span_pairs groups = map (λ span. span.pairs) (items_of groups)
 

@@ -28,7 +28,7 @@ pub type EventRows<'a, R> = Option<Children<'a, Events<'a, R, PairRows<'a, R>>>>
 pub type LinkRows<'a, R> = Option<Children<'a, Links<'a, R, PairRows<'a, R>>>>;
 
 /// Finds the events of a span, whose pairs are found by a lookup. A table that isn't there has none.
-pub fn index_events<'a, R: Rows, P: Lookup<Child = Pair>>(
+pub(crate) fn index_events<'a, R: Rows, P: Lookup<Child = Pair>>(
     alloc: Global,
     set: &'a TableSet<R>,
     known: &'a KnownIds,
@@ -52,7 +52,7 @@ pub fn index_events<'a, R: Rows, P: Lookup<Child = Pair>>(
 }
 
 /// Finds the links of a span, whose pairs are found by a lookup. A table that isn't there has none.
-pub fn index_links<'a, R: Rows, P: Lookup<Child = Pair>>(
+pub(crate) fn index_links<'a, R: Rows, P: Lookup<Child = Pair>>(
     alloc: Global,
     set: &'a TableSet<R>,
     known: &'a KnownIds,

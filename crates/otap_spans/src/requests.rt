@@ -1,5 +1,6 @@
 //! The request of the tables of a batch.
 ghost use Rattle.std.specs.Prelude.{◌≡◌, ◌≤◌, ℕ, Option, drop, map, min, IfErr, IfOk, OnOk};
+ghost use Rattle.otlp_model.specs.declared.request.Signal.TheVariants as signal;
 ghost use Rattle.otlp_model.specs.Limits.{weight_limit, count_cap};
 ghost use Rattle.otlp_model.specs.Weight.{weight_of};
 ghost use Rattle.otlp_model.specs.declared.request.Request.TheVariants.{Traces};
@@ -15,7 +16,8 @@ ghost use Rattle.otap_attrs.specs.declared.refusal.RowRefusal.{RowRefusal};
 ghost use Rattle.otap_attrs.specs.Index.{pairs_in};
 ghost use Rattle.otap_checks.specs.Refusing.{RefusesCheck};
 ghost use Rattle.otap_checks.specs.Regrouping.{RefusesRegroup};
-ghost use Rattle.otap_spans.specs.Inside.{AreWhole, KnowsSpans, events_by, links_by, pairs_by};
+ghost use Rattle.otap_checks.specs.Known.{KnowsAll};
+ghost use Rattle.otap_spans.specs.Inside.{AreWhole, events_by, links_by, pairs_by};
 ghost use Rattle.otap_spans.specs.Records.{span_of};
 ghost use Rattle.otap_spans.specs.Requests.{WrongSpans, events_in, links_in, regrouped_spans};
 
@@ -31,7 +33,7 @@ use otap_groups::{FrontColumns, Main};
 use otlp_model::{Items, ResourceGroup, Signal, Span};
 use std::alloc::{AllocError, Global};
 
-// The main rows of spans, with their spans and all pairs.
+/// The main rows of spans, with their spans and all pairs.
 type SpanRows<'a, R> = Main<
     'a,
     R,
@@ -98,7 +100,7 @@ pub fn request_of<R: Rows>(
 fn check_cells<R: Rows>(alloc: Global, set: &TableSet<R>) -> Result<KnownIds, CheckRefusal>
     requires { IsSet R.table set.now.tables.items }
     ensures clean { OnOk result (AreWhole (tables_in R.table set.now.tables.items)) }
-    ensures known { IfOk result (λ known. KnowsSpans (tables_in R.table set.now.tables.items) known.columns.items) }
+    ensures known { IfOk result (λ known. KnowsAll signal.Traces (tables_in R.table set.now.tables.items) known.columns.items) }
     ensures refused { IfErr result (RefusesCheck (WrongSpans (tables_in R.table set.now.tables.items))) }
 {
     let known = known_ids(alloc, set, Signal::Traces)?;
@@ -119,7 +121,7 @@ fn clean_main<'a, R: Rows>(
 ) -> Result<SpanRows<'a, R>, CheckRefusal>
     requires set { IsSet R.table set.now.tables.items }
     requires whole { AreWhole (tables_in R.table set.now.tables.items) }
-    requires known { KnowsSpans (tables_in R.table set.now.tables.items) known.now.columns.items }
+    requires known { KnowsAll signal.Traces (tables_in R.table set.now.tables.items) known.now.columns.items }
     requires table { table_named table.Spans (tables_in R.table set.now.tables.items) ≡ R.table rows.now }
     requires kind { (R.table rows.now).kind ≡ table.Spans }
     ensures clean { OnOk result ((kind : Kind) (why : RowRefusal) → WrongSpans (tables_in R.table set.now.tables.items) kind why → ⊥) }
@@ -155,7 +157,7 @@ fn main_of<'a, R: Rows>(
     known: &'a KnownIds,
 ) -> Result<SpanRows<'a, R>, AllocError>
     requires set { IsSet R.table set.now.tables.items }
-    requires known { KnowsSpans (tables_in R.table set.now.tables.items) known.now.columns.items }
+    requires known { KnowsAll signal.Traces (tables_in R.table set.now.tables.items) known.now.columns.items }
     requires kind { (R.table front.rows.now).kind ≡ table.Spans }
     requires agree { Disagree (main_rows front.ids.now front.resource_ids.now front.scope_ids.now (R.table front.rows.now).rows) → ⊥ }
     ensures front { IfOk result (λ main. main_rows main.front.ids.now main.front.resource_ids.now main.front.scope_ids.now (R.table main.front.rows.now).rows

@@ -19,7 +19,7 @@ use otlp_model::{
     Event, Items, Link, Resource, ResourceGroup, Scope, Span, add_capped, sum_capped,
 };
 
-// Weighs the rows of spans and of what is below them.
+/// Weighs the rows of spans and of what is below them.
 #[derive(Clone, Copy, Debug)]
 struct SpanWeights;
 

@@ -1,5 +1,5 @@
 -- The payloads of a segment by the policy, each after those before it: what the far end finds of it.
-use Rattle.std.proofs.Common.{◌≡◌, ℕ, suc, ◌+◌, ◌*◌, ◌^◌, ◌<◌, ◌≤◌, Bool, true, false, ◌&&◌, List, [], ◌∷◌, ◌++◌, length, Option, Some, None, ℤ, pos, inl, inr, if◌then◌else◌}
+use Rattle.std.proofs.Common.{◌≡◌, ℕ, suc, ◌+◌, ◌*◌, ◌^◌, ◌<◌, ◌≤◌, Bool, false, ◌&&◌, List, [], ◌∷◌, ◌++◌, length, Option, Some, None, ℤ, pos, inl, inr, if◌then◌else◌}
 use Rattle.std.proofs.Common.{refl, sym, ap, ◌∙◌, subst, append-nil, append_assoc, length-append, arith}
 use Rattle.std.specs.Prelude.{not, bytes_eq}
 use Rattle.std.specs.List.{AllByRecursion, list_any}
@@ -8,6 +8,7 @@ use Rattle.std.specs.Str.{IsUtf8}
 use Rattle.std.proofs.lemmas.Bool.{cases_Bool}
 use Rattle.std.proofs.lemmas.Bool.Decides.{Decides-int_eq}
 use Rattle.std.proofs.lemmas.Slice.Eq.{bytes_eq-Decides}
+use Rattle.lists.proofs.Truths.{and_false}
 use Rattle.lists.specs.EachAfter.{EachAfter}
 use Rattle.lists.proofs.Growing.{each_after-push}
 use Rattle.lists.specs.Payloads.{PayloadIn}
@@ -77,10 +78,6 @@ module _ (far : FarEndReads) (before : List Table) (past : List PayloadIn) (t : 
   -- its id is open for no other type
   not_open : (kind : Kind) (id : Option (List ℕ)) → open_id (payload_type_of kind) past ≡ id → (not (int_eq p.kind (payload_type_of kind)) && is_open_id p.schema_id id) ≡ false
   not_open kind None is = and_false (not (int_eq p.kind (payload_type_of kind)))
-    where
-      and_false : (b : Bool) → (b && false) ≡ false
-      and_false true = refl
-      and_false false = refl
   not_open kind (Some current) is =
       elim (cases_Bool (bytes_eq current p.schema_id)) [
         | inl equal ↦
@@ -90,10 +87,6 @@ module _ (far : FarEndReads) (before : List Table) (past : List PayloadIn) (t : 
             rw (equal, (Decides-int_eq p.kind (payload_type_of kind)).1 (sym own)) refl
         | inr differs ↦ rw differs (and_false (not (int_eq p.kind (payload_type_of kind))))
       ]
-    where
-      and_false : (b : Bool) → (b && false) ≡ false
-      and_false true = refl
-      and_false false = refl
 
   pub reaches : (signal : Signal) → kind_numbered signal (payload_type_of t.kind) ≡ Some t.kind → Reaches signal before past t p
   reaches signal known = record {

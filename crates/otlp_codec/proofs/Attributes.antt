@@ -7,7 +7,7 @@ use Rattle.lists.proofs.Every.{every_weaker}
 use Rattle.otlp_messages.specs.declared.messages.Message.{Message}
 use Rattle.otlp_messages.specs.declared.messages.Message.TheVariants as messages
 use Rattle.otlp_messages.specs.declared.messages.FieldKind.TheVariants as kinds
-use Rattle.otlp_messages.specs.Limits.{level_limit}
+use Rattle.otlp_codec.specs.Limits.{level_limit}
 use Rattle.otlp_messages.specs.Table.{kind_of, mark_of}
 use Rattle.otlp_messages.specs.Rows.{many_in}
 use Rattle.otlp_messages.specs.Canon.{many_row}

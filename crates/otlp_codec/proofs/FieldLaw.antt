@@ -11,7 +11,7 @@ use Rattle.otlp_wire.proofs.Shortest.{ten_at_most, length_varint}
 use Rattle.otlp_wire.specs.Wire as wire
 use Rattle.otlp_messages.specs.declared.messages.Message.{Message}
 use Rattle.otlp_messages.specs.declared.messages.FieldKind.TheVariants as kinds
-use Rattle.otlp_messages.specs.Limits.{level_limit}
+use Rattle.otlp_codec.specs.Limits.{level_limit}
 use Rattle.otlp_messages.specs.Table.{kind_of, mark_of}
 use Rattle.otlp_messages.specs.Rows.{fixed64_in, fixed32_in, uint32_in, int32_in, bool_in, bytes_in, embedded_in, many_in}
 use Rattle.otlp_messages.specs.Canon.{canon_row, varint_row, signed_row, bool_row, fixed64_row, fixed32_row, bytes_row, many_row}

@@ -9,7 +9,7 @@ use Rattle.otlp_wire.specs.Wire.{FieldValue}
 use Rattle.otlp_messages.specs.declared.messages.Of.{Of}
 use Rattle.otlp_messages.specs.declared.messages.Message.{Message}
 use Rattle.otlp_messages.specs.declared.messages.Message.TheVariants as messages
-use Rattle.otlp_messages.specs.Limits.{level_limit}
+use Rattle.otlp_codec.specs.Limits.{level_limit}
 use Rattle.otlp_messages.specs.Table.{item_of}
 use Rattle.otlp_messages.specs.Rows.{bytes_in, embedded_in}
 use Rattle.otlp_messages.specs.Canon.{canon, bytes_row}

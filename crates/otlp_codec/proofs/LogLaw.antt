@@ -1,7 +1,7 @@
 -- The law of a log record.
 use Rattle.std.proofs.Common.{refl, arith}
 use Rattle.otlp_messages.specs.declared.messages.Message.TheVariants as messages
-use Rattle.otlp_messages.specs.Limits.{level_limit}
+use Rattle.otlp_codec.specs.Limits.{level_limit}
 use Rattle.otlp_model.specs.declared.logs.LogRecord.{LogRecord}
 use Rattle.otlp_model.specs.Weight.{weight_of_log_record}
 use Rattle.otlp_model.specs.Real.{IsRealLogRecord}

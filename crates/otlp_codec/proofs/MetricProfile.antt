@@ -16,7 +16,7 @@ use Rattle.otlp_model.specs.declared.metrics.Shape.{Shape}
 use Rattle.otlp_model.specs.declared.metrics.Shape.TheVariants as shapes
 use Rattle.otlp_model.specs.Each.{Each}
 use Rattle.otlp_model.specs.Profile.{IsProfileExemplar, IsProfilePoint, IsProfileHistPoint, IsProfileSumPoint, IsProfileShape, IsProfileMetric}
-use Rattle.otlp_messages.specs.Limits.{level_limit}
+use Rattle.otlp_codec.specs.Limits.{level_limit}
 use Rattle.otlp_codec.specs.Points.{exemplar_in, point_in, hist_point_in, sum_point_in}
 use Rattle.otlp_codec.specs.Metrics.{gauge_in, sum_in, histogram_in, summary_in, gauge_shape_in, sum_shape_in, histogram_shape_in, summary_shape_in, shape_step, metric_in}
 use Rattle.otlp_codec.proofs.ProfileLaw.{each_said, id_said, pairs_profile}

@@ -17,7 +17,8 @@ use Rattle.otlp_messages.specs.declared.messages.Message.TheVariants as messages
 use Rattle.otlp_messages.specs.declared.messages.FieldKind.{FieldKind}
 use Rattle.otlp_messages.specs.Table.{kind_of}
 use Rattle.otlp_messages.specs.Fine.{FineValue}
-use Rattle.otlp_messages.specs.Rows.{said, at, little_numbers, optional_in, packed_in}
+use Rattle.lists.specs.Numbers.{little_numbers}
+use Rattle.otlp_messages.specs.Rows.{said, at, optional_in, packed_in}
 use Rattle.otlp_messages.proofs.EachFine.{fine_fields}
 use Rattle.otlp_model.specs.declared.metrics.Number.{Number}
 use Rattle.otlp_model.specs.declared.metrics.Number.TheVariants.{Missing}
@@ -25,7 +26,7 @@ use Rattle.otlp_model.specs.declared.metrics.Shape.{Shape}
 use Rattle.otlp_model.specs.declared.metrics.Shape.TheVariants as shapes
 use Rattle.otlp_model.specs.Each.{Each}
 use Rattle.otlp_model.specs.Real.{is_real_number, is_real_optional, IsRealExemplar, IsRealPoint, IsRealHistPoint, IsRealQuantile, IsRealSumPoint, IsRealShape, IsRealMetric}
-use Rattle.otlp_messages.specs.Limits.{level_limit}
+use Rattle.otlp_codec.specs.Limits.{level_limit}
 use Rattle.otlp_codec.specs.Numbers.{double_in, int_in, number_step, number_said}
 use Rattle.otlp_codec.specs.Points.{exemplar_in, point_in, hist_point_in, quantile_in, sum_point_in}
 use Rattle.otlp_codec.specs.Metrics.{gauge_in, sum_in, histogram_in, summary_in, gauge_shape_in, sum_shape_in, histogram_shape_in, summary_shape_in, shape_step, metric_in}

@@ -2,7 +2,7 @@
 use Rattle.std.proofs.Common.{◌≡◌, ◌≢◌, ℕ, suc, ◌+◌, ◌*◌, ◌-◌, ◌^◌, ◌<◌, min, List, [], ◌∷◌, ◌++◌, length, drop, append_assoc, refl, sym, ap, ◌∙◌, arith}
 use Rattle.std.proofs.lemmas.List.{drop-drop}
 use Rattle.byteorder.specs.Endian.{little_number}
-use Rattle.otlp_messages.specs.Rows.{little_numbers}
+use Rattle.lists.specs.Numbers.{little_numbers}
 use Rattle.otlp_messages.specs.Canon.{canon_row, packed_row}
 use Rattle.otlp_messages.proofs.Packed.{run, length-run}
 use Rattle.otlp_codec.specs.Lengths.{part_len}

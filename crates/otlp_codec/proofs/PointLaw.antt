@@ -3,7 +3,7 @@ use Rattle.std.proofs.Common.{◌≡◌, true, refl, arith}
 use Rattle.std.proofs.lemmas.List.Elements.{recursion_from_All}
 use Rattle.lists.proofs.Every.{every_weaker}
 use Rattle.otlp_messages.specs.declared.messages.Message.TheVariants as messages
-use Rattle.otlp_messages.specs.Limits.{level_limit}
+use Rattle.otlp_codec.specs.Limits.{level_limit}
 use Rattle.otlp_messages.specs.Canon.{is_laid_out}
 use Rattle.otlp_model.specs.declared.metrics.Number.TheVariants.{Missing, Int, Double}
 use Rattle.otlp_model.specs.declared.metrics.Exemplar.{Exemplar}

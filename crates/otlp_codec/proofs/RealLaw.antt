@@ -29,7 +29,7 @@ use Rattle.otlp_model.specs.Real.{fits_i64, is_real_value, is_real_pair, are_rea
 use Rattle.lists.proofs.RealBytes.{real_text}
 use Rattle.lists.proofs.Folds.{fold_keeps_where}
 use Rattle.otlp_model.proofs.Levels.{is_real_array, is_real_map}
-use Rattle.otlp_messages.specs.Limits.{level_limit}
+use Rattle.otlp_codec.specs.Limits.{level_limit}
 use Rattle.otlp_codec.specs.Values.{string_in, bool_value_in, int_value_in, double_value_in, array_value_in, kvlist_value_in, bytes_value_in, any_in, any_of, pair_of, members_of, any_value_at, key_value_at}
 use Rattle.otlp_codec.specs.Groups.{value_in, pair_in}
 use Rattle.otlp_codec.proofs.Lists.{all_both}

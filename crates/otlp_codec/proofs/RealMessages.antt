@@ -11,7 +11,7 @@ use Rattle.otlp_model.specs.Real.{IsRealResource, IsRealScope, IsRealScopeGroup,
 use Rattle.lists.specs.Bytes.{is_real_text}
 use Rattle.otlp_model.specs.Each.{Each}
 use Rattle.otlp_codec.specs.declared.spans.SpanStatus.{SpanStatus}
-use Rattle.otlp_messages.specs.Limits.{level_limit}
+use Rattle.otlp_codec.specs.Limits.{level_limit}
 use Rattle.otlp_codec.specs.Groups.{value_in, resource_in, scope_in, scope_group_in, resource_group_in, groups_in}
 use Rattle.otlp_codec.specs.Logs.{log_record_in}
 use Rattle.otlp_codec.specs.Spans.{event_in, link_in, no_status, span_status_in, span_in}

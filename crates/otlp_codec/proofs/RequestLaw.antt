@@ -18,7 +18,7 @@ use Rattle.otlp_model.specs.Weight.{total, weight_of, weight_of_resource_group, 
 use Rattle.otlp_model.specs.Real.{IsReal, IsRealResourceGroup, IsRealSpan, IsRealLogRecord, IsRealMetric}
 use Rattle.otlp_model.specs.Profile.{IsProfile, IsProfileResourceGroup, IsProfileSpan, IsProfileLogRecord, IsProfileMetric}
 use Rattle.otlp_model.specs.Telemetry.{signal_of}
-use Rattle.otlp_messages.specs.Limits.{level_limit}
+use Rattle.otlp_codec.specs.Limits.{level_limit}
 use Rattle.otlp_codec.specs.Groups.{groups_in}
 use Rattle.otlp_codec.specs.Logs.{log_record_in}
 use Rattle.otlp_codec.specs.Spans.{span_in}

@@ -5,7 +5,7 @@ use Rattle.otlp_messages.specs.Defects.{IsFine}
 use Rattle.otlp_model.specs.declared.request.Signal.{Signal}
 use Rattle.otlp_model.specs.declared.request.Signal.TheVariants as signals
 use Rattle.otlp_model.specs.Profile.{IsProfileLogRecord, IsProfileSpan, IsProfileMetric, IsProfile}
-use Rattle.otlp_messages.specs.Limits.{level_limit}
+use Rattle.otlp_codec.specs.Limits.{level_limit}
 use Rattle.otlp_codec.specs.Logs.{log_record_in}
 use Rattle.otlp_codec.specs.Spans.{span_in}
 use Rattle.otlp_codec.specs.Metrics.{metric_in}

@@ -4,7 +4,7 @@ use Rattle.otlp_messages.specs.declared.messages.Of.TheVariants.{Spans, LogRecor
 use Rattle.otlp_model.specs.declared.request.Signal.{Signal}
 use Rattle.otlp_model.specs.declared.request.Signal.TheVariants as signals
 use Rattle.otlp_model.specs.Real.{IsRealLogRecord, IsRealSpan, IsRealMetric, IsReal}
-use Rattle.otlp_messages.specs.Limits.{level_limit}
+use Rattle.otlp_codec.specs.Limits.{level_limit}
 use Rattle.otlp_codec.specs.Logs.{log_record_in}
 use Rattle.otlp_codec.specs.Spans.{span_in}
 use Rattle.otlp_codec.specs.Metrics.{metric_in}

@@ -15,7 +15,7 @@ use Rattle.otlp_model.specs.Weight.{weight_of_event, weight_of_link, weight_of_s
 use Rattle.otlp_model.specs.Real.{IsRealEvent, IsRealLink, IsRealSpan}
 use Rattle.otlp_model.specs.Profile.{IsProfileEvent, IsProfileLink, IsProfileSpan}
 use Rattle.otlp_codec.specs.declared.spans.SpanStatus.{SpanStatus}
-use Rattle.otlp_messages.specs.Limits.{level_limit}
+use Rattle.otlp_codec.specs.Limits.{level_limit}
 use Rattle.otlp_codec.specs.Spans.{event_in, link_in, no_status, span_status_in, span_in, span_status_of}
 use Rattle.otlp_codec.specs.SpanSteps.{status_step, span_step}
 use Rattle.otlp_codec.specs.SpanSpelling.{canon_event, canon_link, canon_span_status, canon_span}

@@ -1,7 +1,7 @@
 -- What a resource and a scope say (OTLP, resource.proto and common.proto).
 use Rattle.std.specs.Prelude.{ℕ, List, []}
 use Rattle.otlp_messages.specs.Rows.{said, uint32_in, bytes_in, many_in}
-use Rattle.otlp_messages.specs.Limits.{level_limit}
+use Rattle.otlp_codec.specs.Limits.{level_limit}
 use Rattle.otlp_model.specs.declared.value.Value.{Value}
 use Rattle.otlp_model.specs.declared.value.Pair.{Pair}
 use Rattle.otlp_model.specs.declared.groups.Resource.{Resource}

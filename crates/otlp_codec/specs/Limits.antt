@@ -1,6 +1,11 @@
--- How long the written requests may be.
-use Rattle.std.specs.Prelude.{ℕ, ◌^◌}
+-- How deep the values of a request may be, and how long the written requests.
+use Rattle.std.specs.Prelude.{ℕ, ◌-◌, ◌*◌}
+use Rattle.otlp_model.specs.Limits.{depth_limit, weight_limit}
+
+-- how many levels of members may stand below a value that is in no array and no key-value list
+abbrev pub level_limit : ℕ
+level_limit = depth_limit - 1
 
 -- a request that weighs at most weight_limit is written in at most this number of bytes
 abbrev pub longest_request : ℕ
-longest_request = 2 ^ 29
+longest_request = 8 * weight_limit

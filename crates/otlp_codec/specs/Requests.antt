@@ -10,7 +10,7 @@ use Rattle.otlp_model.specs.declared.request.Request.{Request}
 use Rattle.otlp_model.specs.declared.request.Request.TheVariants as requests
 use Rattle.otlp_model.specs.declared.request.Signal.{Signal}
 use Rattle.otlp_model.specs.declared.request.Signal.TheVariants as signals
-use Rattle.otlp_messages.specs.Limits.{level_limit}
+use Rattle.otlp_codec.specs.Limits.{level_limit}
 use Rattle.otlp_codec.specs.Groups.{groups_in}
 use Rattle.otlp_codec.specs.Logs.{log_record_in}
 use Rattle.otlp_codec.specs.Spans.{span_in}

@@ -8,7 +8,7 @@ ghost use Rattle.otlp_wire.specs.Wire.{value_of};
 ghost use Rattle.otlp_messages.specs.declared.messages.FieldKind.TheVariants as kinds;
 ghost use Rattle.otlp_messages.specs.Fine.{FineValue};
 ghost use Rattle.otlp_messages.specs.Rows.{fixed64_in, fixed32_in, uint32_in, int32_in, bytes_in};
-ghost use Rattle.otlp_messages.specs.Limits.{level_limit};
+ghost use Rattle.otlp_codec.specs.Limits.{level_limit};
 ghost use Rattle.otlp_codec.specs.PartRefusals.{RefusesValue};
 
 use crate::refusal::ReadRefusal;

@@ -4,7 +4,7 @@ ghost use Rattle.std.specs.Prelude.{◌≡◌, OnOk, IfOk, IfErr};
 ghost use Rattle.otlp_wire.specs.Wire.{value_of};
 ghost use Rattle.otlp_messages.specs.declared.messages.FieldKind.TheVariants as kinds;
 ghost use Rattle.otlp_messages.specs.declared.messages.Message.TheVariants as messages;
-ghost use Rattle.otlp_messages.specs.Limits.{level_limit};
+ghost use Rattle.otlp_codec.specs.Limits.{level_limit};
 ghost use Rattle.otlp_messages.specs.Fine.{FineValue};
 ghost use Rattle.otlp_codec.specs.PartRefusals.{RefusesValue};
 ghost use Rattle.otlp_codec.specs.Groups.{resource_in, scope_in, scope_group_in, resource_group_in, groups_in};
@@ -16,7 +16,7 @@ ghost use Rattle.otlp_codec.specs.Canonical.{resource_rows, scope_rows, canon_sc
 
 use crate::cells::{take_text, take_uint32};
 use crate::lengths::{len_bytes_row, len_more, len_one, len_pairs, len_varint_row};
-use crate::part::{ItemPart, Part, read_part, take_items, take_more, take_pairs};
+use crate::part::{ItemMessage, Submessage, read_part, take_items, take_more, take_pairs};
 use crate::refusal::ReadRefusal;
 use crate::writing::{Spelled, write_more, write_one, write_pairs};
 use otlp_messages::{Backward, Message};
@@ -24,7 +24,7 @@ use otlp_model::{Items, Resource, ResourceGroup, Scope, ScopeGroup, Text, add_ca
 use otlp_wire::{Field, Wire};
 use std::alloc::{AllocError, Global};
 
-impl Part for Resource {
+impl Submessage for Resource {
     ghost named = { messages.Resource };
 
     ghost none = { no_resource };
@@ -57,7 +57,7 @@ impl Part for Resource {
     }
 }
 
-impl Part for Scope {
+impl Submessage for Scope {
     ghost named = { messages.InstrumentationScope };
 
     ghost none = { no_scope };
@@ -94,7 +94,7 @@ impl Part for Scope {
     }
 }
 
-impl<I: ItemPart + Drop> Part for ScopeGroup<I> {
+impl<I: ItemMessage + Drop> Submessage for ScopeGroup<I> {
     ghost named = { messages.ScopeGroup I.of };
 
     ghost none = { no_scope_group };
@@ -127,7 +127,7 @@ impl<I: ItemPart + Drop> Part for ScopeGroup<I> {
     }
 }
 
-impl<I: ItemPart + Drop> Part for ResourceGroup<I> {
+impl<I: ItemMessage + Drop> Submessage for ResourceGroup<I> {
     ghost named = { messages.ResourceGroup I.of };
 
     ghost none = { no_resource_group };
@@ -160,7 +160,7 @@ impl<I: ItemPart + Drop> Part for ResourceGroup<I> {
     }
 }
 
-impl<I: ItemPart + Drop> Part for Items<ResourceGroup<I>> {
+impl<I: ItemMessage + Drop> Submessage for Items<ResourceGroup<I>> {
     ghost named = { messages.Request I.of };
 
     ghost none = { [] };

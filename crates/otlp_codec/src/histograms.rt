@@ -9,7 +9,7 @@ ghost use Rattle.otlp_codec.specs.lemmas.MetricsPassed.{hist_point_passes, quant
 use crate::cells::{take_fixed64, take_uint32};
 use crate::lengths::{len_fixed64_row, len_more, len_pairs, len_varint_row};
 use crate::numbers::{len_optional, len_packed, take_optional, take_packed};
-use crate::part::{Part, take_more, take_pairs};
+use crate::part::{Submessage, take_more, take_pairs};
 use crate::refusal::ReadRefusal;
 use crate::writing::{Spelled, write_more, write_pairs};
 use otlp_messages::{Backward, Message};
@@ -17,7 +17,7 @@ use otlp_model::{HistPoint, Items, Quantile, SumPoint, sum_capped};
 use otlp_wire::Field;
 use std::alloc::{AllocError, Global};
 
-impl Part for HistPoint {
+impl Submessage for HistPoint {
     ghost named = { messages.HistogramDataPoint };
 
     ghost none = { no_hist_point };
@@ -103,7 +103,7 @@ impl Spelled for HistPoint {
     }
 }
 
-impl Part for Quantile {
+impl Submessage for Quantile {
     ghost named = { messages.ValueAtQuantile };
 
     ghost none = { no_quantile };
@@ -150,7 +150,7 @@ impl Spelled for Quantile {
     }
 }
 
-impl Part for SumPoint {
+impl Submessage for SumPoint {
     ghost named = { messages.SummaryDataPoint };
 
     ghost none = { no_sum_point };

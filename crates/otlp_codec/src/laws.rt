@@ -1,21 +1,22 @@
 //! What holds of the definitions themselves: each law is the contract of a function that does nothing.
 
-ghost use Rattle.std.specs.Prelude.{◌≡◌, ℕ, ◌+◌, ◌*◌, ◌≤◌, List, length, IsTrue};
+ghost use Rattle.std.specs.Prelude.{◌≡◌, ℕ, ◌*◌, ◌≤◌, List, length, IsTrue};
 ghost use Rattle.otlp_messages.specs.declared.messages.Defect.{Defect};
-ghost use Rattle.otlp_messages.specs.Limits.{level_limit};
 ghost use Rattle.otlp_model.specs.declared.request.Request.{Request};
 ghost use Rattle.otlp_model.specs.declared.request.Signal.{Signal};
-ghost use Rattle.otlp_model.specs.Limits.{depth_limit, weight_limit};
+ghost use Rattle.otlp_model.specs.Limits.{weight_limit};
 ghost use Rattle.otlp_model.specs.Weight.{weight_of};
 ghost use Rattle.lists.specs.Bytes.{is_real_octets};
 ghost use Rattle.otlp_model.specs.Real.{IsReal};
 ghost use Rattle.otlp_model.specs.Profile.{IsProfile};
 ghost use Rattle.otlp_model.specs.Telemetry.{signal_of};
+ghost use Rattle.otlp_codec.specs.declared.part.TheConstants.{LEVELS};
+ghost use Rattle.otlp_codec.specs.Limits.{level_limit};
 ghost use Rattle.otlp_codec.specs.Requests.{Stands, Reads, canon_request};
 
-/// The levels of members in a message are those of a value: one fewer than it may be deep.
+/// The limit of the code is the one that the definitions name.
 pub fn limits()
-    ensures { level_limit + 1 ≡ depth_limit }
+    ensures { LEVELS ≡ level_limit }
 {}
 
 /// Bytes say one request at most.

@@ -12,7 +12,7 @@ use crate::cells::{take_fixed32, take_fixed64, take_id, take_int32, take_text, t
 use crate::lengths::{
     len_bytes_row, len_fixed32_row, len_fixed64_row, len_one, len_pairs, len_varint_row,
 };
-use crate::part::{ItemPart, Part, take_pairs, take_value};
+use crate::part::{ItemMessage, Submessage, take_pairs, take_value};
 use crate::refusal::ReadRefusal;
 use crate::writing::{Spelled, write_one, write_pairs};
 use otlp_messages::{Backward, Message, Of};
@@ -20,7 +20,7 @@ use otlp_model::{Items, LogRecord, Octets, Text, Value, sum_capped};
 use otlp_wire::Field;
 use std::alloc::{AllocError, Global};
 
-impl Part for LogRecord {
+impl Submessage for LogRecord {
     ghost named = { messages.LogRecord };
 
     ghost none = { no_log_record };
@@ -106,7 +106,7 @@ impl Spelled for LogRecord {
     }
 }
 
-impl ItemPart for LogRecord {
+impl ItemMessage for LogRecord {
     ghost of = { ofs.LogRecords };
 
     ghost is_item = { refl };

@@ -4,7 +4,7 @@ ghost use Rattle.std.specs.Prelude.{◌≡◌, ◌++◌, min, length, OnOk};
 ghost use Rattle.otlp_wire.specs.Wire.{value_of};
 ghost use Rattle.otlp_messages.specs.declared.messages.FieldKind.TheVariants as kinds;
 ghost use Rattle.otlp_messages.specs.declared.messages.Message.TheVariants as messages;
-ghost use Rattle.otlp_messages.specs.Limits.{level_limit};
+ghost use Rattle.otlp_codec.specs.Limits.{level_limit};
 ghost use Rattle.otlp_messages.specs.Canon.{canon};
 ghost use Rattle.otlp_codec.specs.PartRefusals.{RefusesValue};
 ghost use Rattle.otlp_codec.specs.Metrics.{metric_in};
@@ -17,7 +17,7 @@ ghost use Rattle.otlp_model.specs.Limits.{count_cap};
 
 use crate::cells::take_text;
 use crate::lengths::len_bytes_row;
-use crate::part::{ItemPart, Part};
+use crate::part::{ItemMessage, Submessage};
 use crate::refusal::ReadRefusal;
 use crate::shapes::{
     len_gauge, len_histogram, len_sum, len_summary, take_gauge, take_histogram, take_sum,
@@ -29,7 +29,7 @@ use otlp_model::{Metric, Shape, Text, sum_capped};
 use otlp_wire::{Field, Wire};
 use std::alloc::{AllocError, Global};
 
-impl Part for Metric {
+impl Submessage for Metric {
     ghost named = { messages.Metric };
 
     ghost none = { no_metric };
@@ -69,7 +69,7 @@ impl Part for Metric {
     }
 }
 
-impl ItemPart for Metric {
+impl ItemMessage for Metric {
     ghost of = { ofs.Metrics };
 
     ghost is_item = { refl };

@@ -3,9 +3,10 @@
 ghost use Rattle.std.specs.Prelude.{◌≡◌, ◌≤◌, ◌/◌, ◌++◌, min, length, OnOk, IfErr, IfOk};
 ghost use Rattle.otlp_wire.specs.Wire.{value_of, IsNumber};
 ghost use Rattle.otlp_messages.specs.declared.messages.FieldKind.TheVariants as kinds;
-ghost use Rattle.otlp_messages.specs.Limits.{level_limit};
+ghost use Rattle.otlp_codec.specs.Limits.{level_limit};
 ghost use Rattle.otlp_messages.specs.Fine.{FineValue};
-ghost use Rattle.otlp_messages.specs.Rows.{bool_in, optional_in, packed_in, little_numbers};
+ghost use Rattle.lists.specs.Numbers.{little_numbers};
+ghost use Rattle.otlp_messages.specs.Rows.{bool_in, optional_in, packed_in};
 ghost use Rattle.otlp_messages.specs.Canon.{canon_row, bool_row, optional_row, packed_row};
 ghost use Rattle.otlp_model.specs.Limits.{count_cap};
 ghost use Rattle.otlp_codec.specs.PartRefusals.{RefusesValue};

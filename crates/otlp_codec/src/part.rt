@@ -6,27 +6,30 @@ ghost use Rattle.otlp_wire.specs.Fields.{fields_of};
 ghost use Rattle.otlp_messages.specs.declared.messages.Message.{Message};
 ghost use Rattle.otlp_messages.specs.declared.messages.FieldKind.TheVariants as kinds;
 ghost use Rattle.otlp_messages.specs.declared.messages.Message.TheVariants as messages;
-ghost use Rattle.otlp_messages.specs.Limits.{level_limit};
 ghost use Rattle.otlp_messages.specs.declared.messages.Of.{Of};
 ghost use Rattle.otlp_messages.specs.Table.{kind_of, item_of};
 ghost use Rattle.otlp_messages.specs.Defects.{IsFine};
 ghost use Rattle.otlp_messages.specs.Fine.{FineValue};
 ghost use Rattle.otlp_messages.specs.Rows.{embedded_in, many_in};
+ghost use Rattle.otlp_codec.specs.Limits.{level_limit};
 ghost use Rattle.otlp_codec.specs.PartRefusals.{Refuses, RefusesValue};
 ghost use Rattle.otlp_codec.specs.Groups.{value_in, pair_in};
 
 use crate::refusal::ReadRefusal;
 use crate::values::{empty_pair, fill_pair, fill_value};
-use otlp_messages::{LEVELS, MARKS, Message, Of, row_of};
-use otlp_model::{Items, Pair, Value};
+use otlp_messages::{MARKS, Message, Of, row_of};
+use otlp_model::{Items, MAX_DEPTH, Pair, Value};
 use otlp_wire::{Field, Fields, Wire};
 use std::alloc::Global;
+
+/// How many levels of members may stand below a value that is in no array and no key-value list.
+pub(crate) const LEVELS: u8 = MAX_DEPTH as u8 - 1;
 
 /// Room for this number of attributes is found when the first one is read.
 const FIRST_PAIRS: usize = 8;
 
 /// A message of which each field is read over what was read before.
-pub(crate) trait Part {
+pub(crate) trait Submessage {
     /// Which message it is.
     ghost named: { Message };
 
@@ -55,19 +58,19 @@ pub(crate) trait Part {
 }
 
 /// A message that is a main item of a request.
-pub(crate) trait ItemPart: Part {
+pub(crate) trait ItemMessage: Submessage {
     /// Which of the three it is.
     ghost of: { Of };
 
     fn of() -> Of
         ensures { result ≡ of };
 
-    ghost is_item: { Self.Part.named ≡ item_of of };
+    ghost is_item: { Self.Submessage.named ≡ item_of of };
 }
 
 /// Reads a message, in one pass over its bytes.
 #[inline]
-pub(crate) fn read_part<P: Part + Drop>(alloc: Global, bytes: &[u8]) -> Result<P, ReadRefusal>
+pub(crate) fn read_part<P: Submessage + Drop>(alloc: Global, bytes: &[u8]) -> Result<P, ReadRefusal>
     ensures value { IfOk result (λ part. IsFine P.named level_limit bytes.now × (part ≡ P.reads bytes.now)) }
     ensures fault { IfErr result (Refuses P.named level_limit bytes.now) }
 {
@@ -77,7 +80,7 @@ pub(crate) fn read_part<P: Part + Drop>(alloc: Global, bytes: &[u8]) -> Result<P
 }
 
 /// Reads a message into one that is empty.
-fn fill<P: Part>(alloc: Global, part: &mut P, bytes: &[u8]) -> Result<(), ReadRefusal>
+fn fill<P: Submessage>(alloc: Global, part: &mut P, bytes: &[u8]) -> Result<(), ReadRefusal>
     requires { part.old ≡ P.none }
     ensures value { OnOk result (IsFine P.named level_limit bytes.now × (part.new ≡ P.reads bytes.now)) }
     ensures fault { IfErr result (Refuses P.named level_limit bytes.now) }
@@ -99,7 +102,7 @@ fn fill<P: Part>(alloc: Global, part: &mut P, bytes: &[u8]) -> Result<(), ReadRe
 
 /// Reads one more message of those that may occur any number of times.
 #[inline]
-pub(crate) fn take_more<P: Part + Drop>(
+pub(crate) fn take_more<P: Submessage + Drop>(
     alloc: Global,
     to: &mut Items<P>,
     value: &Wire<'_>,
@@ -119,7 +122,7 @@ pub(crate) fn take_more<P: Part + Drop>(
 
 /// Reads one more main item.
 #[inline]
-pub(crate) fn take_items<I: ItemPart + Drop>(
+pub(crate) fn take_items<I: ItemMessage + Drop>(
     alloc: Global,
     to: &mut Items<I>,
     value: &Wire<'_>,

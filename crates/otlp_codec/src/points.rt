@@ -9,7 +9,7 @@ ghost use Rattle.otlp_codec.specs.lemmas.MetricsPassed.{exemplar_passes, point_p
 use crate::cells::{take_fixed64, take_id, take_uint32};
 use crate::lengths::{len_bytes_row, len_fixed64_row, len_more, len_pairs, len_varint_row};
 use crate::numbers::{len_double, len_int, take_double, take_int, write_double, write_int};
-use crate::part::{Part, take_more, take_pairs};
+use crate::part::{Submessage, take_more, take_pairs};
 use crate::refusal::ReadRefusal;
 use crate::writing::{Spelled, write_more, write_pairs};
 use otlp_messages::{Backward, Message};
@@ -17,7 +17,7 @@ use otlp_model::{Exemplar, Items, Number, Octets, Point, sum_capped};
 use otlp_wire::Field;
 use std::alloc::{AllocError, Global};
 
-impl Part for Exemplar {
+impl Submessage for Exemplar {
     ghost named = { messages.Exemplar };
 
     ghost none = { no_exemplar };
@@ -82,7 +82,7 @@ impl Spelled for Exemplar {
     }
 }
 
-impl Part for Point {
+impl Submessage for Point {
     ghost named = { messages.NumberDataPoint };
 
     ghost none = { no_point };

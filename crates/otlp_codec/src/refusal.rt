@@ -10,7 +10,8 @@ use thiserror::Error;
 /// named.
 #[derive(Debug, Drop, Error)]
 pub enum ReadRefusal {
-    /// The bytes do not end with a whole field, or a known field has another wire type.
+    /// The bytes do not end with a whole field, a known field has another wire type, or the bytes of packed 64 bits are
+    /// no multiple of 8.
     #[error("the message is malformed")]
     BadMessage,
     /// A singular field occurs twice, or two members of one oneof.

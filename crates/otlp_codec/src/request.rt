@@ -46,8 +46,9 @@ pub fn len_request(request: &Request) -> u64
     }
 }
 
-/// Writes the canonical spelling of the request: fields in ascending number, the shortest varints, and no
-/// field that holds its default. One walk, from the last field to the first.
+/// Writes the canonical spelling of the request: fields in ascending number, the shortest varints, and a
+/// field that holds its default only where it belongs to a oneof or is optional. One walk, from the last
+/// field to the first.
 ///
 /// A request that weighs at most `MAX_TREE_WEIGHT` takes at most 2^29 bytes.
 pub fn write_request(alloc: Global, request: &Request) -> Result<Vec<u8>, AllocError>

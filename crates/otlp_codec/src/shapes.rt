@@ -5,7 +5,7 @@ ghost use Rattle.otlp_wire.specs.Wire as wire;
 ghost use Rattle.otlp_wire.specs.Wire.{value_of};
 ghost use Rattle.otlp_messages.specs.declared.messages.FieldKind.TheVariants as kinds;
 ghost use Rattle.otlp_messages.specs.declared.messages.Message.TheVariants as messages;
-ghost use Rattle.otlp_messages.specs.Limits.{level_limit};
+ghost use Rattle.otlp_codec.specs.Limits.{level_limit};
 ghost use Rattle.otlp_messages.specs.Fine.{FineValue};
 ghost use Rattle.otlp_messages.specs.Canon.{canon_row};
 ghost use Rattle.otlp_model.specs.Limits.{count_cap};
@@ -18,7 +18,7 @@ ghost use Rattle.otlp_codec.specs.lemmas.MetricsPassed.{gauge_passes, sum_passes
 use crate::cells::take_int32;
 use crate::lengths::{len_more, len_part, len_varint_row};
 use crate::numbers::{len_bool, take_bool};
-use crate::part::{Part, read_part, take_more};
+use crate::part::{Submessage, read_part, take_more};
 use crate::refusal::ReadRefusal;
 use crate::writing::write_more;
 use otlp_messages::{Backward, Message};
@@ -41,7 +41,7 @@ pub(crate) struct Histogram {
     temporality: i32,
 }
 
-impl Part for Items<Point> {
+impl Submessage for Items<Point> {
     ghost named = { messages.Gauge };
 
     ghost none = { [] };
@@ -68,7 +68,7 @@ impl Part for Items<Point> {
     }
 }
 
-impl Part for Sum {
+impl Submessage for Sum {
     ghost named = { messages.Sum };
 
     ghost none = { no_sum };
@@ -102,7 +102,7 @@ impl Part for Sum {
     }
 }
 
-impl Part for Histogram {
+impl Submessage for Histogram {
     ghost named = { messages.Histogram };
 
     ghost none = { no_histogram };
@@ -134,7 +134,7 @@ impl Part for Histogram {
     }
 }
 
-impl Part for Items<SumPoint> {
+impl Submessage for Items<SumPoint> {
     ghost named = { messages.Summary };
 
     ghost none = { [] };

@@ -9,7 +9,7 @@ ghost use Rattle.otlp_wire.specs.Wire.{value_of};
 ghost use Rattle.otlp_messages.specs.declared.messages.FieldKind.TheVariants as kinds;
 ghost use Rattle.otlp_messages.specs.Fine.{FineValue};
 ghost use Rattle.otlp_messages.specs.Rows.{embedded_in};
-ghost use Rattle.otlp_messages.specs.Limits.{level_limit};
+ghost use Rattle.otlp_codec.specs.Limits.{level_limit};
 ghost use Rattle.otlp_model.specs.Limits.{count_cap};
 ghost use Rattle.otlp_codec.specs.PartRefusals.{RefusesValue};
 ghost use Rattle.otlp_codec.specs.Spans.{event_in, link_in, no_status, span_status_in, span_in};
@@ -21,7 +21,7 @@ use crate::cells::{take_fixed32, take_fixed64, take_id, take_int32, take_text, t
 use crate::lengths::{
     len_bytes_row, len_fixed32_row, len_fixed64_row, len_more, len_one, len_pairs, len_varint_row,
 };
-use crate::part::{ItemPart, Part, read_part, take_more, take_pairs};
+use crate::part::{ItemMessage, Submessage, read_part, take_more, take_pairs};
 use crate::refusal::ReadRefusal;
 use crate::writing::{Spelled, write_more, write_one, write_pairs};
 use otlp_messages::{Backward, Message, Of};
@@ -43,7 +43,7 @@ struct SpanStatusOf<'a> {
     code: i32,
 }
 
-impl Part for Event {
+impl Submessage for Event {
     ghost named = { messages.Event };
 
     ghost none = { no_event };
@@ -79,7 +79,7 @@ impl Part for Event {
     }
 }
 
-impl Part for Link {
+impl Submessage for Link {
     ghost named = { messages.Link };
 
     ghost none = { no_link };
@@ -119,7 +119,7 @@ impl Part for Link {
     }
 }
 
-impl Part for SpanStatus {
+impl Submessage for SpanStatus {
     ghost named = { messages.Status };
 
     ghost none = { no_status };
@@ -151,7 +151,7 @@ impl Part for SpanStatus {
     }
 }
 
-impl Part for Span {
+impl Submessage for Span {
     ghost named = { messages.Span };
 
     ghost none = { no_span };
@@ -217,7 +217,7 @@ impl Part for Span {
     }
 }
 
-impl ItemPart for Span {
+impl ItemMessage for Span {
     ghost of = { ofs.Spans };
 
     ghost is_item = { refl };

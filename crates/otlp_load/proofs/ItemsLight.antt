@@ -12,8 +12,9 @@ use Rattle.otlp_model.specs.declared.value.Value.{Value, the_lemmas}
 use Rattle.otlp_model.specs.declared.value.Value as values
 use Rattle.otlp_model.specs.declared.metrics.Number.{Number}
 use Rattle.otlp_model.specs.declared.metrics.Number.TheVariants as numbers
-use Rattle.otlp_load.specs.Pairs.{numbered_text, double, load_value, load_pair, pairs_of}
+use Rattle.otlp_load.specs.Pairs.{numbered_text, double_bits, load_value, load_pair, pairs_of}
 use Rattle.otlp_load.specs.Items.{load_span, load_log_record, load_point, load_shape, load_metric}
+use Rattle.otlp_load.specs.Load.{requests_at_most}
 
 -- where each part weighs at most so much
 pub total_at_most : {A : Type 0} (each bound : ℕ) (weigh : A → ℕ) (parts : List A) → All (λ part. weigh part ≤ bound) parts → total each weigh parts ≤ length parts * (each + bound)
@@ -61,15 +62,15 @@ remainder_below n m some few =
     let below : n % m < m = mod-lt n some in
     omega arith
 
-value_at_most : (r n place : ℕ) → r < 1000 → place < 12 → weight_of_value (load_value r n place) ≤ 9
+value_at_most : (r n place : ℕ) → r < requests_at_most → place < 12 → weight_of_value (load_value r n place) ≤ 9
 value_at_most r n place request below =
     let few : (n + place) % (64 * (place + 1)) < 1000 = remainder_below (n + place) (64 * (place + 1)) (omega arith) (omega arith) in
     either_at_most (place == 8) _ _ 9 (str_at_most _ 9 (numbered_at_most 3 r (codes "batch-") (omega arith) (omega arith) (omega arith)))
     (either_at_most (place % 4 == 0) _ _ 9 (str_at_most _ 9 (let v = numbered_at_most 3 _ (codes "v") (omega arith) few (omega arith) in omega arith))
     (either_at_most (place % 4 == 1) _ _ 9 (int_at_most (n % 1000) 9)
-    (either_at_most (place % 4 == 2) _ _ 9 (bool_at_most (n % 2 == 1) 9) (double_at_most (double n) 9))))
+    (either_at_most (place % 4 == 2) _ _ 9 (bool_at_most (n % 2 == 1) 9) (double_at_most (double_bits n) 9))))
 
-pair_at_most : (r n place : ℕ) → r < 1000 → place < 12 → weight_of_pair (load_pair r n place) ≤ 12
+pair_at_most : (r n place : ℕ) → r < requests_at_most → place < 12 → weight_of_pair (load_pair r n place) ≤ 12
 pair_at_most r n place request below =
     let key = numbered_at_most 2 place (codes "k") (omega arith) (omega arith) (omega arith) in
     let value = value_at_most r n place request below in
@@ -81,7 +82,7 @@ place_below k d below =
     let few : k < 12 = omega arith in
     rw (get_or-range_with_len 0 12 k d few) (omega arith)
 
-pub pairs_at_most : (r n : ℕ) → r < 1000 → total 32 weight_of_pair (pairs_of r n) ≤ 528
+pub pairs_at_most : (r n : ℕ) → r < requests_at_most → total 32 weight_of_pair (pairs_of r n) ≤ 528
 unfolding pairs_of
 pairs_at_most r n request =
     let each : All (λ pair. weight_of_pair pair ≤ 12) (map (load_pair r n) (range_with_len 0 12)) =
@@ -89,29 +90,29 @@ pairs_at_most r n request =
     pair_at_most r n (get_or (range_with_len 0 12) k d) request (place_below k d below)) in
     counted_at_most 12 32 12 weight_of_pair (map (load_pair r n) (range_with_len 0 12)) (length-map-range_with_len (load_pair r n) 0 12) each
 
-pub span_at_most : (r n : ℕ) → r < 1000 → weight_of_span (load_span r n) ≤ 700
+pub span_at_most : (r n : ℕ) → r < requests_at_most → weight_of_span (load_span r n) ≤ 700
 span_at_most r n request =
     let name = numbered_at_most 3 (n % 300) (codes "op-") (omega arith) (remainder_below n 300 (omega arith) (omega arith)) (let b = remainder_below n 300 (omega arith) (omega arith) in omega arith) in
     let pairs = pairs_at_most r n request in
     omega arith
 
-pub log_record_at_most : (r n : ℕ) → r < 1000 → weight_of_log_record (load_log_record r n) ≤ 700
+pub log_record_at_most : (r n : ℕ) → r < requests_at_most → weight_of_log_record (load_log_record r n) ≤ 700
 log_record_at_most r n request =
     let few : n % 5000 < 5000 = mod-lt n (omega arith) in
     let body : weight_of_value (values.Str (numbered_text (codes "message ") (n % 5000))) ≤ 12 = str_at_most _ 12 (numbered_at_most 4 (n % 5000) (codes "message ") (omega arith) (omega arith) (omega arith)) in
     let pairs = pairs_at_most r n request in
     omega arith
 
-point_at_most : (r n : ℕ) (value : Number) → r < 1000 → weight_of_point (load_point r n value) ≤ 528
+point_at_most : (r n : ℕ) (value : Number) → r < requests_at_most → weight_of_point (load_point r n value) ≤ 528
 point_at_most r n value request =
     let pairs = pairs_at_most r n request in
     omega arith
 
-shape_at_most : (r n : ℕ) → r < 1000 → (b : Bool) → n % 2 == 1 ≡ b → weight_of_shape (load_shape r n) ≤ 560
+shape_at_most : (r n : ℕ) → r < requests_at_most → (b : Bool) → n % 2 == 1 ≡ b → weight_of_shape (load_shape r n) ≤ 560
 shape_at_most r n request true odd = rw odd (let point = point_at_most r n (numbers.Int (pos n)) request in omega arith)
-shape_at_most r n request false even = rw even (let point = point_at_most r n (numbers.Double (double n)) request in omega arith)
+shape_at_most r n request false even = rw even (let point = point_at_most r n (numbers.Double (double_bits n)) request in omega arith)
 
-pub metric_at_most : (r n : ℕ) → r < 1000 → weight_of_metric (load_metric r n) ≤ 700
+pub metric_at_most : (r n : ℕ) → r < requests_at_most → weight_of_metric (load_metric r n) ≤ 700
 metric_at_most r n request =
     let few : n % 300 < 300 = mod-lt n (omega arith) in
     let name = numbered_at_most 3 (n % 300) (codes "m-") (omega arith) (omega arith) (omega arith) in

@@ -1,15 +1,16 @@
 -- What a request of the load weighs at most.
-use Rattle.std.proofs.Common.{◌≤◌, ◌<◌, ℕ, ◌+◌, ◌*◌, ◌^◌, List, length, get_or, arith}
+use Rattle.std.proofs.Common.{◌≤◌, ◌<◌, ℕ, ◌+◌, ◌*◌, List, length, get_or, arith}
 use Rattle.std.specs.Prelude.{map, codes, pos}
 use Rattle.std.proofs.lemmas.List.{length-map}
 use Rattle.std.proofs.lemmas.List.Elements.{All-map}
+use Rattle.otlp_model.specs.Limits.{weight_limit}
 use Rattle.otlp_model.specs.Weight.{total, weight_of, weight_of_pair, weight_of_value, weight_of_resource, weight_of_resource_group, weight_of_span, weight_of_log_record, weight_of_metric}
 use Rattle.otlp_model.specs.declared.value.Value as values
 use Rattle.otlp_model.specs.declared.request.Signal.{Signal}
 use Rattle.otlp_model.specs.declared.request.Signal.TheVariants as signals
 use Rattle.otlp_load.specs.Pairs.{numbered_text}
 use Rattle.otlp_load.specs.Items.{load_span, load_log_record, load_metric}
-use Rattle.otlp_load.specs.Load.{generated, service_of, host_of, load_resource, group_of, groups_of, item_number, places_below, items_each}
+use Rattle.otlp_load.specs.Load.{generated, service_of, host_of, load_resource, group_of, groups_of, item_number, places_below, items_each, requests_at_most}
 use Rattle.otlp_load.proofs.ItemsLight.{str_at_most, int_at_most, counted_at_most, numbered_at_most, span_at_most, log_record_at_most, metric_at_most}
 use Rattle.otlp_load.proofs.LoadCounted.{places_counted}
 
@@ -34,15 +35,15 @@ group_at_most weigh item_of r each g few =
     omega arith
 
 groups_at_most : {I : Type 0} (weigh : I → ℕ) (item_of : ℕ → ℕ → I) (r : ℕ) → ((n : ℕ) → weigh (item_of r n) ≤ 700)
-    → total 32 (weight_of_resource_group weigh) (groups_of item_of r) ≤ 2 ^ 26
+    → total 32 (weight_of_resource_group weigh) (groups_of item_of r) ≤ weight_limit
 groups_at_most weigh item_of r each =
     let g0 = group_at_most weigh item_of r each 0 (omega arith) in
     let g1 = group_at_most weigh item_of r each 1 (omega arith) in
     let g2 = group_at_most weigh item_of r each 2 (omega arith) in
-    let all = places_counted 8192 in
+    let all = places_counted items_each in
     omega arith
 
-pub is_light : (s : Signal) (r : ℕ) → r < 1000 → weight_of (generated s r) ≤ 2 ^ 26
+pub is_light : (s : Signal) (r : ℕ) → r < requests_at_most → weight_of (generated s r) ≤ weight_limit
 is_light signals.Traces r request = groups_at_most weight_of_span load_span r (λ n. span_at_most r n request)
 is_light signals.Logs r request = groups_at_most weight_of_log_record load_log_record r (λ n. log_record_at_most r n request)
 is_light signals.Metrics r request = groups_at_most weight_of_metric load_metric r (λ n. metric_at_most r n request)

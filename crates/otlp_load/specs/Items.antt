@@ -1,7 +1,7 @@
 -- The items of the load, by their numbers: item `number` stands in request r. What isn't told of an item is absent or 0.
 use Rattle.std.specs.Prelude.{ℕ, ◌+◌, ◌*◌, ◌%◌, ◌==◌, true, List, [], ◌∷◌, ◌++◌, codes, pos, if◌then◌else◌}
 use Rattle.std.specs.Int.{w64, to_be_bytes}
-use Rattle.otlp_load.specs.Pairs.{numbered_text, double, pairs_of}
+use Rattle.otlp_load.specs.Pairs.{numbered_text, double_bits, pairs_of}
 use Rattle.otlp_model.specs.declared.value.Value.TheVariants as values
 use Rattle.otlp_model.specs.declared.spans.Span.{Span}
 use Rattle.otlp_model.specs.declared.spans.Event.{Event}
@@ -74,7 +74,7 @@ load_point r number value = record {
 abbrev pub load_shape : ℕ → ℕ → Shape
 load_shape r number =
     if number % 2 == 1 then shapes.Sum (load_point r number (numbers.Int (pos number)) ∷ []) (pos 2) true
-    else shapes.Gauge (load_point r number (numbers.Double (double number)) ∷ [])
+    else shapes.Gauge (load_point r number (numbers.Double (double_bits number)) ∷ [])
 
 abbrev pub load_metric : ℕ → ℕ → Metric
 load_metric r number = record {

@@ -8,8 +8,8 @@ use Rattle.otlp_model.specs.declared.value.Value.TheVariants as values
 use Rattle.otlp_model.specs.declared.value.Pair.{Pair}
 
 -- the bits of the double that is this number (IEEE 754 binary64)
-abbrev pub double : ℕ → ℕ
-double number = to_bits binary64 (of_int binary64 (pos number))
+abbrev pub double_bits : ℕ → ℕ
+double_bits number = to_bits binary64 (of_int binary64 (pos number))
 
 -- a text with a number after it, in decimal
 abbrev pub numbered_text : List ℕ → ℕ → List ℕ
@@ -22,7 +22,7 @@ load_value r number place =
     else if place % 4 == 0 then values.Str (numbered_text (codes "v") ((number + place) % (64 * (place + 1))))
     else if place % 4 == 1 then values.Int (pos (number % 1000))
     else if place % 4 == 2 then values.Bool (number % 2 == 1)
-    else values.Double (double number)
+    else values.Double (double_bits number)
 
 abbrev pub load_pair : ℕ → ℕ → ℕ → Pair
 load_pair r number place = record { key = numbered_text (codes "k") place; value = load_value r number place }

@@ -3,7 +3,7 @@ ghost use Rattle.std.specs.Prelude.{◌≡◌, ◌<◌, [], ◌∷◌, ◌++◌,
 ghost use Rattle.otlp_load.specs.Items.{time_of, event_at, load_span, load_log_record, load_point, load_shape, load_metric};
 ghost use Rattle.otlp_load.specs.Inside.{numbers_end};
 
-use crate::pairs::{double, numbered, pairs};
+use crate::pairs::{double_bits, numbered, pairs};
 use otlp_model::{
     Event, Items, LogRecord, Metric, Number, Octets, Point, Shape, Span, Text, Value,
 };
@@ -144,7 +144,7 @@ fn shape(alloc: Global, request: u32, number: u32) -> Result<Shape, AllocError>
             monotonic: true,
         })
     } else {
-        let value = Number::Double(double(number));
+        let value = Number::Double(double_bits(number));
         let point = point(alloc, request, number, value)?;
         Ok(Shape::Gauge(list_of_one(alloc, point)?))
     }

@@ -1,7 +1,7 @@
 //! The texts and the pairs of an item.
 ghost use Rattle.std.specs.Prelude.{◌≡◌, ◌<◌, IfOk, codes};
 ghost use Rattle.otlp_load.specs.Inside.{numbers_end};
-ghost use Rattle.otlp_load.specs.Pairs.{double, numbered_text, load_value, load_pair, pairs_of};
+ghost use Rattle.otlp_load.specs.Pairs.{double_bits, numbered_text, load_value, load_pair, pairs_of};
 
 use otlp_model::{Items, Pair, Text, Value};
 use std::alloc::{AllocError, Global};
@@ -19,8 +19,8 @@ pub(crate) fn numbered(alloc: Global, text: &str, number: u32) -> Result<Text, A
 }
 
 /// The bits of the double that is this number.
-pub(crate) fn double(number: u32) -> u64
-    ensures { result ≡ double number }
+pub(crate) fn double_bits(number: u32) -> u64
+    ensures { result ≡ double_bits number }
 {
     f64_to_bits_with_nan(f64::from(number))
 }
@@ -83,6 +83,6 @@ fn value(alloc: Global, request: u32, number: u32, place: u32) -> Result<Value, 
         0 => Value::Str(numbered(alloc, "v", (number + place) % (64 * (place + 1)))?),
         1 => Value::Int(i64::from(number % 1000)),
         2 => Value::Bool(number % 2 == 1),
-        _ => Value::Double(double(number)),
+        _ => Value::Double(double_bits(number)),
     })
 }

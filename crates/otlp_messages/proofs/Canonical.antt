@@ -10,6 +10,7 @@ use Rattle.std.proofs.lemmas.List.Elements.{filter-append}
 use Rattle.lists.proofs.Every.{every_append}
 use Rattle.otlp_messages.specs.declared.messages.Message.{Message}
 use Rattle.otlp_wire.specs.declared.parts.WireError.{WireError}
+use Rattle.otlp_wire.specs.Limits.{number_limit}
 use Rattle.otlp_wire.specs.Wire.{FieldValue, Varint, Fixed64, Bytes, Fixed32, Entry, IsNumber, Fits, spelling}
 use Rattle.otlp_wire.specs.Varint.{varint}
 use Rattle.otlp_wire.specs.Reading.{Reads, Spells}
@@ -29,10 +30,10 @@ record LaidOut (m : Message) (r : Filled) (rows : List Filled) : Type 0 where
 laid_first : (m : Message) (r : Filled) (rows : List Filled) → is_laid_out m (r ∷ rows) ≡ true → LaidOut m r rows
 laid_first m r rows h =
     let n = r.number in
-    let a = and_parts (nat_lt 0 n && nat_lt n (2 ^ 29) && list_all (apart m r) rows) (is_laid_out m rows) h in
-    let b = and_parts (nat_lt 0 n && nat_lt n (2 ^ 29)) (list_all (apart m r) rows) a.0 in
-    let c = and_parts (nat_lt 0 n) (nat_lt n (2 ^ 29)) b.0 in
-    record { number = (ltb-true 0 n c.0, ltb-true n (2 ^ 29) c.1); apart_from = b.1; others = a.1 }
+    let a = and_parts (nat_lt 0 n && nat_lt n number_limit && list_all (apart m r) rows) (is_laid_out m rows) h in
+    let b = and_parts (nat_lt 0 n && nat_lt n number_limit) (list_all (apart m r) rows) a.0 in
+    let c = and_parts (nat_lt 0 n) (nat_lt n number_limit) b.0 in
+    record { number = (ltb-true 0 n c.0, ltb-true n number_limit c.1); apart_from = b.1; others = a.1 }
 
 -- fields that fit are spelled
 AllWritten : List Entry → Type 0

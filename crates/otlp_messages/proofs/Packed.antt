@@ -11,7 +11,8 @@ use Rattle.otlp_messages.specs.declared.messages.Message.{Message}
 use Rattle.otlp_messages.specs.declared.messages.FieldKind.TheVariants as kinds
 use Rattle.otlp_wire.specs.Wire.{Fixed64}
 use Rattle.otlp_messages.specs.Table.{kind_of}
-use Rattle.otlp_messages.specs.Rows.{little_numbers, packed_in}
+use Rattle.lists.specs.Numbers.{little_numbers}
+use Rattle.otlp_messages.specs.Rows.{packed_in}
 use Rattle.otlp_messages.specs.Canon.{row, packed_row, RowFits}
 use Rattle.otlp_messages.proofs.RowKinds.{part_field_fits, none_fits, fixed64_field_fits}
 

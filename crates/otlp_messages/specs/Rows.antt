@@ -1,7 +1,7 @@
 -- What the fields of a number say: their values from the left, each over what was read before.
-use Rattle.std.specs.Prelude.{ℕ, zero, suc, ◌/◌, ◌%◌, ◌^◌, List, [], ◌∷◌, ◌++◌, length, drop, map, filter, fold, ◌==◌, if◌then◌else◌, Option, Some, Bool, not, ℤ}
+use Rattle.std.specs.Prelude.{ℕ, ◌/◌, ◌%◌, ◌^◌, List, [], ◌∷◌, ◌++◌, length, map, filter, fold, ◌==◌, if◌then◌else◌, Option, Some, Bool, not, ℤ}
 use Rattle.std.specs.Int.{w32, w64, cast_signed}
-use Rattle.byteorder.specs.Endian.{little_number}
+use Rattle.lists.specs.Numbers.{little_numbers}
 use Rattle.otlp_wire.specs.Wire.{FieldValue, Varint, Fixed64, Bytes, Fixed32, Entry}
 use Rattle.otlp_wire.specs.Fields.{fields_of}
 
@@ -47,11 +47,6 @@ bool_in old value = old
 abbrev pub optional_in : Option ℕ → FieldValue → Option ℕ
 optional_in old (Fixed64 n) = Some n
 optional_in old value = old
-
--- the first numbers of 64 bits in the bytes, each little-endian
-abbrev pub little_numbers : ℕ → List ℕ → List ℕ
-little_numbers zero bytes = []
-little_numbers (suc count) bytes = little_number 8 bytes ∷ little_numbers count (drop 8 bytes)
 
 -- one more number, or more packed numbers
 abbrev pub packed_in : List ℕ → FieldValue → List ℕ

@@ -84,7 +84,7 @@ impl Backward {
     /// Writes the shortest varint of the value before all others.
     #[inline(always)]
     #[tactic(auto, using(otlp_wire::proofs::Shortest::varint_small))]
-    pub fn push_varint(&mut self, value: u64) -> Result<(), AllocError>
+    pub(crate) fn push_varint(&mut self, value: u64) -> Result<(), AllocError>
         ensures { OnOk result (self.new ≡ varint value ++ self.old) }
     {
         if value < 128 {

@@ -11,12 +11,8 @@ use crate::messages::{Defect, FieldKind, Message};
 use crate::table::{MARKS, row_of};
 use otlp_wire::{Fields, Wire};
 
-/// How many levels of members may stand below a value that is in no array and no key-value list: a
-/// value is at most 32 deep.
-pub const LEVELS: u8 = 31;
-
 /// Whether the bytes are the message, in one pass over them. `levels` says how many levels of members
-/// may stand below the values of the message: [`LEVELS`], where it stands in no array and no list.
+/// may stand below the values of the message.
 #[cycle(check)]
 pub fn check(message: Message, levels: u8, bytes: &[u8]) -> Result<(), Defect>
     ensures fine { OnOk result (IsFine message levels bytes.now) }

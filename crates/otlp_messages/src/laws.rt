@@ -3,10 +3,9 @@
 ghost use Rattle.std.specs.Prelude.{◌≡◌, ℕ, ◌^◌, ◌<◌, List, true, length};
 ghost use Rattle.std.specs.List.{AllByRecursion};
 ghost use Rattle.otlp_messages.specs.declared.messages.Message.{Message};
-ghost use Rattle.otlp_messages.specs.declared.checking.TheConstants.{LEVELS};
 ghost use Rattle.otlp_messages.specs.declared.table.TheConstants.{MARKS};
 ghost use Rattle.otlp_messages.specs.Defects.{FineOrDefect};
-ghost use Rattle.otlp_messages.specs.Limits.{level_limit, mark_limit};
+ghost use Rattle.otlp_messages.specs.Limits.{mark_limit};
 ghost use Rattle.otlp_messages.specs.Canon.{Filled, canon, is_laid_out, RowFits, IsReadBack};
 
 /// Rows that are written are the fields that are read, and no defect stands in them.
@@ -15,10 +14,9 @@ pub fn rows_are_read()
         → AllByRecursion (RowFits m levels) rows → length (canon rows) < 2 ^ 64 → IsReadBack m levels rows }
 {}
 
-/// The limits of the code are those that the definitions name.
+/// The limit of the code is the one that the definitions name.
 pub fn limits()
-    ensures levels { LEVELS ≡ level_limit }
-    ensures marks { MARKS ≡ mark_limit }
+    ensures { MARKS ≡ mark_limit }
 {}
 
 /// Whatever the bytes are, they are the message, or a defect stands in them.

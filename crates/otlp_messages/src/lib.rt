@@ -13,7 +13,7 @@ mod single;
 mod table;
 
 pub use backward::Backward;
-pub use checking::{LEVELS, check, is_text};
+pub use checking::{check, is_text};
 pub use laws::{fine_or_defect, limits, rows_are_read};
 pub use messages::{Defect, FieldKind, Message, Of, Row};
 pub use names::defect_name;

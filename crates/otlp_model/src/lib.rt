@@ -20,7 +20,7 @@ mod weights;
 pub use depths::depth;
 pub use groups::{Resource, ResourceGroup, Scope, ScopeGroup};
 pub use histograms::{HistPoint, Quantile, SumPoint};
-pub use limits::{CAP, MAX_DEPTH, MAX_ITEMS, MAX_TREE_WEIGHT, add_capped, sum_capped};
+pub use limits::{CAP, MAX_DEPTH, MAX_ITEMS, MAX_TREE_WEIGHT, add_capped, capped_len, sum_capped};
 pub use lists::{Items, Octets, Text};
 pub use logs::LogRecord;
 pub use metrics::{Exemplar, Metric, Number, Point, Shape};

@@ -1,4 +1,4 @@
-ghost use Rattle.std.specs.Prelude.{◌≡◌, ◌+◌, min, sum};
+ghost use Rattle.std.specs.Prelude.{◌≡◌, ◌+◌, length, min, sum};
 ghost use Rattle.otlp_model.specs.Limits.{count_cap};
 
 /// How many main items (spans, log records or metrics) a request may have.
@@ -18,6 +18,13 @@ pub fn add_capped(a: u64, b: u64) -> u64
     ensures { result ≡ min (a + b) count_cap }
 {
     a.saturating_add(b).min(CAP)
+}
+
+/// The length, or `CAP` where it is larger.
+pub fn capped_len(part: &[u8]) -> u64
+    ensures { result ≡ min (length part.now) count_cap }
+{
+    (part.len() as u64).min(CAP)
 }
 
 /// The sum of all, or `CAP` where it is larger.

@@ -1,5 +1,5 @@
 -- After a tag stands exactly one value or exactly one fault, and at the front of bytes exactly one field or exactly one fault.
-use Rattle.std.proofs.Common.{◌≡◌, ℕ, zero, suc, ◌+◌, ◌*◌, ◌/◌, ◌%◌, ◌^◌, ◌<◌, ◌≤◌, List, ◌++◌, length, take, drop, append_assoc, Result, Ok, Err, true, false, refl, sym, subst, ap, ◌∙◌, arith, inl, inr, ◌⊎◌}
+use Rattle.std.proofs.Common.{◌≡◌, ℕ, zero, suc, ◌+◌, ◌*◌, ◌/◌, ◌%◌, ◌<◌, ◌≤◌, List, ◌++◌, length, take, drop, append_assoc, Result, Ok, Err, true, false, refl, sym, subst, ap, ◌∙◌, arith, inl, inr, ◌⊎◌}
 use Rattle.std.specs.Prelude.{nat_lt, ◌&&◌}
 use Rattle.std.proofs.lemmas.Bool.{cases_lt, lt-ltb, le-ltb}
 use Rattle.std.proofs.lemmas.List.{length-append, length-take-le, take-append-drop}
@@ -7,6 +7,7 @@ use Rattle.std.proofs.Math.Seq.{take-append_seam, drop-append_seam}
 use Rattle.byteorder.specs.Endian.{little_number}
 use Rattle.otlp_wire.specs.declared.parts.WireError.{WireError}
 use Rattle.otlp_wire.specs.declared.parts.WireError.TheVariants.{Cut, BadVarint, BadWireType, BadTag}
+use Rattle.otlp_wire.specs.Limits.{number_limit}
 use Rattle.otlp_wire.specs.Varint.{IsVarint, IsCutVarint, IsLongVarint}
 use Rattle.otlp_wire.specs.Wire.{FieldValue, Varint, Fixed64, Bytes, Fixed32, Entry, wire_type, IsNumber, IsValue, IsField}
 use Rattle.otlp_wire.specs.Reading.{Begins, VarintFaults, IsCutPart, ValueFaults, TagFaults, Faults}
@@ -150,13 +151,13 @@ some_value (suc (suc (suc (suc (suc (suc (suc zero))))))) bytes small = (Err Bad
 some_value (suc (suc (suc (suc (suc (suc (suc (suc t)))))))) bytes small = absurd (omega arith)
 
 -- a field
-number_test : (n : ℕ) → IsNumber n → (nat_lt 0 n && nat_lt n (2 ^ 29)) ≡ true
-number_test n h = rw (lt-ltb 0 n h.0, lt-ltb n (2 ^ 29) h.1) refl
+number_test : (n : ℕ) → IsNumber n → (nat_lt 0 n && nat_lt n number_limit) ≡ true
+number_test n h = rw (lt-ltb 0 n h.0, lt-ltb n number_limit h.1) refl
 
-no_number : (n : ℕ) → (IsNumber n → ⊥) → (nat_lt 0 n && nat_lt n (2 ^ 29)) ≡ false
+no_number : (n : ℕ) → (IsNumber n → ⊥) → (nat_lt 0 n && nat_lt n number_limit) ≡ false
 no_number n h =
     elim (cases_lt 0 n) [
-      | inl low ↦ elim (cases_lt n (2 ^ 29)) [ inl high ↦ absurd (h (low, high)) | inr above ↦ rw (lt-ltb 0 n low, le-ltb n (2 ^ 29) above) refl ]
+      | inl low ↦ elim (cases_lt n number_limit) [ inl high ↦ absurd (h (low, high)) | inr above ↦ rw (lt-ltb 0 n low, le-ltb n number_limit above) refl ]
       | inr none ↦ rw (le-ltb 0 n none) refl
     ]
 
@@ -199,7 +200,7 @@ SomeField bytes = (x : WireRead Entry) × FieldIs bytes x
 number_or_not : (n : ℕ) → IsNumber n ⊎ (IsNumber n → ⊥)
 number_or_not n =
     elim (cases_lt 0 n) [
-      | inl low ↦ elim (cases_lt n (2 ^ 29)) [ inl high ↦ inl (low, high) | inr above ↦ inr (λ h. omega (arith, h.1)) ]
+      | inl low ↦ elim (cases_lt n number_limit) [ inl high ↦ inl (low, high) | inr above ↦ inr (λ h. omega (arith, h.1)) ]
       | inr none ↦ inr (λ h. omega (arith, h.0))
     ]
 

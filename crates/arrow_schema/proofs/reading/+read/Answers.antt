@@ -1,7 +1,7 @@
 use Rattle.std.proofs.Common.{Result, ◌-◌, List, Ok, sym, ap, ◌∙◌, arith}
 use Rattle.std.proofs.lemmas.Result.{err_from_is_err_and}
 use Rattle.arrow_schema.specs.declared.spec.FieldSpec.{FieldSpec}
-use Rattle.flat_tables.specs.Bytes.{◌>>=◌}
+use Rattle.lists.specs.Results.{◌>>=◌}
 use Rattle.arrow_schema.specs.declared.refusal.SchemaRefusal.{SchemaRefusal}
 use Rattle.arrow_schema.specs.Trees.{names_differ}
 use Rattle.arrow_schema.specs.Reading.{FieldsRead, with_own_names, field_of, vector_of}

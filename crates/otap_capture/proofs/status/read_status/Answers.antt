@@ -1,6 +1,5 @@
 use Rattle.std.proofs.Common.{refl}
 use Rattle.otlp_messages.specs.declared.messages.Message.TheVariants.{BatchStatus}
-use Rattle.otlp_messages.specs.Limits.{level_limit}
 use Rattle.otlp_messages.proofs.EachFine.{text_said}
 use Rattle.otap_capture.proofs.status.read_status.Goals as goal
 
@@ -8,4 +7,4 @@ use Rattle.otap_capture.proofs.status.read_status.Goals as goal
 pub unreachable-requires : goal.unreachable-requires
 unreachable-requires c =
     let no_text = rw (c.in_default-from_utf8.is, c.bytes_of.ensures) at c.from_utf8.ensures.cases in
-    no_text.0 (text_said BatchStatus level_limit 3 _ refl c.in_default.ensures.fine)
+    no_text.0 (text_said BatchStatus 0 3 _ refl c.in_default.ensures.fine)

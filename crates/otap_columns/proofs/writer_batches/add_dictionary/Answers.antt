@@ -5,7 +5,7 @@ use Rattle.std.proofs.lemmas.List.{length-map}
 use Rattle.arrow_buffers.specs.Columns.{ColumnIn, HasNoFault, cells_of, offsets_len, values_len}
 use Rattle.arrow_buffers.specs.declared.width.Width.{Width}
 use Rattle.arrow_ipc.specs.Batches.{BatchIn}
-use Rattle.arrow_ipc.specs.Written.{most_of}
+use Rattle.arrow_ipc.specs.Written.{most_of_batch}
 use Rattle.otap_columns.specs.Limits.{head_limit}
 use Rattle.otap_columns.specs.WrittenPayloads.{HoldsValues}
 use Rattle.otap_columns.specs.BuiltCells.{HasRoom, batch_parts, with_parts}
@@ -37,8 +37,8 @@ returns-clause-short c =
     let short : sizes b ≤ 1441850 =
     dictionary_short c.args.width c.args.ladder.now.values c.args.from b c.requires.holds.single c.requires.holds.wide c.requires.few c.requires.room
     (e.rows ∙ ap length cells) e.validity_len (e.offsets_len ∙ ap (λ (w : Width). offsets_len w b.rows) width) (e.values_len ∙ (λ i. values_len (width i) (cells i))) in
-    message_ok _ head_limit (most_of c.add_column.new.batch) c.args.to.now.items c.finish_dictionary.new.to.items c.finish_dictionary.result
-    (subst (λ (k : BatchIn). most_of k ≤ head_limit) (sym batch) (dictionary_message c.args.width b short)) c.finish_dictionary.ensures.ok
+    message_ok _ head_limit (most_of_batch c.add_column.new.batch) c.args.to.now.items c.finish_dictionary.new.to.items c.finish_dictionary.result
+    (subst (λ (k : BatchIn). most_of_batch k ≤ head_limit) (sym batch) (dictionary_message c.args.width b short)) c.finish_dictionary.ensures.ok
 
 pub returns-clause-adds : goal.returns-clause-adds
 returns-clause-adds c =

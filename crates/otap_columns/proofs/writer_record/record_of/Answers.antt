@@ -1,5 +1,5 @@
 use Rattle.std.proofs.Common.{ℕ, List, [], subst}
-use Rattle.arrow_ipc.specs.Written.{most_of}
+use Rattle.arrow_ipc.specs.Written.{most_of_batch}
 use Rattle.otap_cells.specs.declared.payload.Kind.{Kind}
 use Rattle.otap_cells.specs.Columns.{width_of}
 use Rattle.otap_columns.specs.WrittenPayloads.{schema_if}
@@ -25,7 +25,7 @@ pub returns-clause-short : goal.returns-clause-short
 returns-clause-short c =
     let a = c.add_opening.new.to.items in
     let b = c.add_heads.new.to.items in
-    record_short c.args.table.now (forms_in c.args.forms.now) a b (most_of c.in_ok-rows.rows) c.finish_rows.new.to.items c.requires.fit
+    record_short c.args.table.now (forms_in c.args.forms.now) a b (most_of_batch c.in_ok-rows.rows) c.finish_rows.new.to.items c.requires.fit
     (subst (λ (old : List ℕ). AddsAtMost schema_most old a) c.new-bytes.ensures.items c.in_ok-add_opening.ensures.short)
     (subst (λ (k : Kind). AddsAtMost (heads_most (forms_in c.args.forms.now) (width_of k)) a b) c.kind-2.ensures c.in_ok-add_heads.ensures.short)
-    c.in_ok-rows.ensures.short (appended_rows _ (most_of c.in_ok-rows.rows) b c.finish_rows.new.to.items c.in_ok-finish_rows.ensures.ok)
+    c.in_ok-rows.ensures.short (appended_rows _ (most_of_batch c.in_ok-rows.rows) b c.finish_rows.new.to.items c.in_ok-finish_rows.ensures.ok)

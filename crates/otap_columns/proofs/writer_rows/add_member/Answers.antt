@@ -5,7 +5,7 @@ use Rattle.otap_cells.specs.Columns.{base_at}
 use Rattle.otap_cells.specs.Tables.{column_in}
 use Rattle.otap_columns.specs.Seen.{SeenIn}
 use Rattle.otap_columns.specs.SeenInside.{filled_up, places_of_cells}
-use Rattle.otap_columns.specs.Schemas.{is_dictionary, is_there}
+use Rattle.otap_columns.specs.Schemas.{is_dictionary, is_present}
 use Rattle.otap_columns.specs.WrittenCells.{stored_column}
 use Rattle.otap_columns.specs.BuiltCells.{column_most, width_for}
 use Rattle.otap_columns.specs.WrittenGroups.{forms_in, member_in}
@@ -40,7 +40,7 @@ returns-clause-ok c =
     let values_is : c.seen_at-seen.result.now.ladder.values ≡ columns_in c.args.columns.now c.args.member.now.column = ap (λ (s : SeenIn). s.ladder.values) c.seen_at-seen.ensures in
     let base_is : c.base_of.result ≡ base_at t.kind column = c.base_of.ensures ∙ ap (λ k. base_at k column) c.kind.ensures in
     let width_is : c.width_for-width.result ≡ width_for (base_at t.kind column) (forms_in c.args.forms.now column) = c.width_for-width.ensures ∙ (λ i. width_for (base_is i) (form_is i)) in
-    let here : is_there (forms_in c.args.forms.now column) ≡ true = ap is_there (sym form_is) ∙ sym c.is_there.ensures ∙ c.if-not-is_there.false in
+    let here : is_present (forms_in c.args.forms.now column) ≡ true = ap is_present (sym form_is) ∙ sym c.is_present.ensures ∙ c.if-not-is_present.false in
     let cells : c.in_ok-built.built.cells ≡ stored_column (forms_in c.args.forms.now column) (columns_in c.args.columns.now column) t column =
     ap (λ (k : ColumnIn). k.cells) c.in_ok-built.ensures ∙ (λ i. stored_column (form_is i) (values_is i) t column) in
     let width : c.in_ok-built.built.width ≡ width_for (base_at t.kind column) (forms_in c.args.forms.now column) =

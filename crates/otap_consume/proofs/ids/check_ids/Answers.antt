@@ -5,7 +5,7 @@ use Rattle.otap_consume.specs.declared.not_taken.NotTaken.{NotTaken}
 use Rattle.otap_consume.specs.declared.not_taken.NotTaken.TheVariants.{Defect}
 use Rattle.otap_consume.specs.Defects.{StandsInList, is_taken}
 use Rattle.otap_consume.specs.Ids.{ids_after, has_other, with_open_id}
-use Rattle.otap_consume.specs.Stops.{SaysDefect}
+use Rattle.otap_consume.specs.Untaken.{SaysDefect}
 use Rattle.lists.proofs.Lists.{front_more}
 use Rattle.otap_consume.proofs.IdSteps.{ids_step, taken_is}
 use Rattle.lists.proofs.Growing.{all_after-push}

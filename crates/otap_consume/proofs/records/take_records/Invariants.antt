@@ -1,7 +1,7 @@
 use Rattle.std.proofs.Common.{◌≡◌, ◌++◌, List}
 use Rattle.lists.specs.Payloads.{PayloadIn}
 use Rattle.otap_consume.specs.Streams.{kinds_in}
-use Rattle.otap_consume.specs.Records.{TakesAll}
+use Rattle.otap_consume.specs.Records.{TakesPayloads}
 use Rattle.otap_consume.proofs.records.take_records.Given as goal
 
 -- the payloads so far are taken, and stand before those that are left
@@ -9,6 +9,6 @@ abbrev pub invariant-payloads : goal.invariant-payloads
 invariant-payloads l = record {
   front : List PayloadIn;
   whole : l.initial.payload-iterator ≡ front ++ l.payload-iterator;
-  takes : TakesAll l.initial.streams front l.streams;
+  takes : TakesPayloads l.initial.streams front l.streams;
   kinds : kinds_in l.streams ≡ kinds_in l.initial.streams;
 }

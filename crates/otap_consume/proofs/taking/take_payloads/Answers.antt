@@ -2,7 +2,7 @@ use Rattle.std.proofs.Common.{sym, subst}
 use Rattle.std.proofs.lemmas.Result.{err_from_is_err_and}
 use Rattle.otap_consume.specs.declared.not_taken.NotTaken.{NotTaken}
 use Rattle.otap_consume.specs.Defects.{Refuses}
-use Rattle.otap_consume.specs.Stops.{SaysDefect}
+use Rattle.otap_consume.specs.Untaken.{SaysDefect}
 use Rattle.otap_consume.proofs.IdSteps.{ids_are}
 use Rattle.otap_consume.proofs.Stages.{by_types, by_ids, by_records, fine_list, accepts_if, refuses_if}
 use Rattle.otap_consume.proofs.taking.take_payloads.Goals as goal

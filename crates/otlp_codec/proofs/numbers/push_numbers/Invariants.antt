@@ -1,5 +1,5 @@
 use Rattle.std.proofs.Common.{◌≡◌, ◌*◌, ◌-◌, ◌/◌, ◌++◌, length, drop}
-use Rattle.otlp_messages.specs.Rows.{little_numbers}
+use Rattle.lists.specs.Numbers.{little_numbers}
 use Rattle.otlp_codec.proofs.numbers.push_numbers.Given as goal
 
 abbrev pub invariant-numbers : goal.invariant-numbers

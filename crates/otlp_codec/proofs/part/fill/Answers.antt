@@ -24,7 +24,7 @@ returns-in_default-clause-fault g c =
 pub returns-then-seen-mark-clause-fault : goal.returns-then-seen-mark-clause-fault
 returns-then-seen-mark-clause-fault g c =
     let first = rw c.in-Ok.is at c.in-Some.ensures.steps in
-    let mark : c.row_of-mark.result.mark ≡ mark_of g.P.Part.named c.in-Ok.field.number =
+    let mark : c.row_of-mark.result.mark ≡ mark_of g.P.Submessage.named c.in-Ok.field.number =
     ap (λ (r : Row). r.mark) c.row_of-mark.ensures.row ∙ ap (λ (m : Message). mark_of m c.in-Ok.field.number) c.message.ensures in
     twice_stands _ _ _ _ _ _ (entry c.in-Ok.field) c.fields.invariant.checked first.0
     (subst (λ (k : ℕ). slice_index_or c.fields.seen k false ≡ true) mark c.if-seen-mark.true)
@@ -32,7 +32,7 @@ returns-then-seen-mark-clause-fault g c =
 pub fields-preserved : goal.fields-preserved
 fields-preserved g c =
     let first = rw c.in-Ok.is at c.in-Some.ensures.steps in
-    let mark : c.row_of-mark.result.mark ≡ mark_of g.P.Part.named c.in-Ok.field.number =
+    let mark : c.row_of-mark.result.mark ≡ mark_of g.P.Submessage.named c.in-Ok.field.number =
     ap (λ (r : Row). r.mark) c.row_of-mark.ensures.row ∙ ap (λ (m : Message). mark_of m c.in-Ok.field.number) c.message.ensures in
     passes_more _ _ _ _ _ _ _ _ _ _ (entry c.in-Ok.field) c.row_of-mark.result.mark c.fields.invariant first mark
     c.row_of-mark.ensures.few c.if-seen-mark.false c.in_ok-take.ensures.ok c.in_ok-take.ensures.fine
@@ -47,4 +47,4 @@ pub returns-clause-value : goal.returns-clause-value
 returns-clause-value g c =
     let ends = c.in-None.ensures.steps in
     let all = passes_all _ _ _ _ _ _ _ _ c.fields.invariant (ends.0, ends.1) in
-    (all.0, all.1 ∙ g.met.P.Part.passes c.args.bytes.now)
+    (all.0, all.1 ∙ g.met.P.Submessage.passes c.args.bytes.now)

@@ -2,7 +2,7 @@ use Rattle.std.proofs.Common.{◌≡◌, [], ◌∷◌, ◌++◌, length, map, s
 use Rattle.std.proofs.lemmas.Grind.{common_steps}
 use Rattle.std.proofs.lemmas.Int.{to_z_pos}
 use Rattle.std.proofs.lemmas.List.{length-map}
-use Rattle.arrow_ipc.specs.Batches.{BatchIn, buffer_in}
+use Rattle.arrow_ipc.specs.Batches.{BatchIn, buffer_of}
 use Rattle.arrow_ipc.specs.Written.{body_size}
 use Rattle.arrow_ipc.proofs.Growing.{next_place, next_body, Grown, grown}
 use Rattle.arrow_ipc.proofs.builder.BatchBuilder.add_buffer.Goals as goal
@@ -18,12 +18,12 @@ grown_to c =
 pub invariant_of-self-2 : goal.invariant_of-self-2
 invariant_of-self-2 c =
     let g : Grown c.self.inside.body.items c.args.part.now c.append.new.body.items c.self.inside.places.items c.push.new.self.items = grown_to c in
-    let buffers : c.args.self.now.buffers ≡ map (buffer_in c.self.inside.body.items) c.self.inside.places.items =
+    let buffers : c.args.self.now.buffers ≡ map (buffer_of c.self.inside.body.items) c.self.inside.places.items =
     ap (λ (batch : BatchIn). batch.buffers) (sym c.self.view_is) in
     record {
       rows = c.self.invariant.rows;
       few_nodes = c.self.invariant.few_nodes;
-      few_buffers = omega (arith, g.count, c.requires.few, ap length buffers, length-map c.self.inside.places.items (buffer_in c.self.inside.body.items));
+      few_buffers = omega (arith, g.count, c.requires.few, ap length buffers, length-map c.self.inside.places.items (buffer_of c.self.inside.body.items));
       inside = g.inside;
       aligned = g.aligned;
       size = g.size;

@@ -7,7 +7,7 @@ use Rattle.flat_tables.specs.Building.{StaysAt}
 use Rattle.flat_tables.proofs.Standing.{stands_on}
 use Rattle.arrow_ipc.specs.declared.messages.IpcMessage.TheVariants.{Dictionary}
 use Rattle.arrow_ipc.specs.Batches.{BatchIn}
-use Rattle.arrow_ipc.specs.Written.{most_of, Appends}
+use Rattle.arrow_ipc.specs.Written.{most_of_batch, Appends}
 use Rattle.arrow_ipc.specs.Laying.{IsBatchTable, HasMessage}
 use Rattle.arrow_ipc.proofs.Appending.{dictionary_appended}
 use Rattle.arrow_ipc.proofs.TablesBuilt.{IsDictionaryTable, dictionary_stands}
@@ -34,7 +34,7 @@ returns-clause-ok c =
     let message : HasMessage more header 2 c.self.inside.body.items c.args.to.now.items c.write_message.new.to.items =
     subst (λ (body : List ℕ). HasMessage more header 2 body c.args.to.now.items c.write_message.new.to.items) c.deref-3.ensures.value
     c.in_ok-write_message.ensures.ok in
-    subst (λ (made : BatchIn). Appends (Dictionary c.args.id c.args.delta made) (most_of made) c.args.to.now.items c.write_message.new.to.items) c.self.view_is
+    subst (λ (made : BatchIn). Appends (Dictionary c.args.id c.args.delta made) (most_of_batch made) c.args.to.now.items c.write_message.new.to.items) c.self.view_is
     (dictionary_appended c.args.id c.args.delta c.self.inside.rows c.self.inside.nodes.items c.self.inside.places.items c.self.inside.body.items more header
     c.args.to.now.items c.write_message.new.to.items message dictionary (omega (arith, few, c.in_ok-header.ensures.size))
     c.self.invariant.few_nodes c.self.invariant.few_buffers c.self.invariant.inside c.self.invariant.aligned c.self.invariant.size)

@@ -3,7 +3,7 @@ use Rattle.std.specs.Prelude.{ℤ}
 use Rattle.flat_tables.specs.Building.{StaysAt}
 use Rattle.arrow_ipc.specs.declared.messages.IpcMessage.TheVariants.{Rows}
 use Rattle.arrow_ipc.specs.Batches.{BatchIn}
-use Rattle.arrow_ipc.specs.Written.{most_of, Appends}
+use Rattle.arrow_ipc.specs.Written.{most_of_batch, Appends}
 use Rattle.arrow_ipc.specs.Laying.{IsBatchTable, HasMessage}
 use Rattle.arrow_ipc.proofs.Appending.{rows_appended}
 use Rattle.arrow_ipc.proofs.builder.BatchBuilder.finish_rows.Goals as goal
@@ -22,7 +22,7 @@ returns-clause-ok c =
     let message : HasMessage built batch 3 c.self.inside.body.items c.args.to.now.items c.write_message.new.to.items =
     subst (λ (body : List ℕ). HasMessage built batch 3 body c.args.to.now.items c.write_message.new.to.items) c.deref-3.ensures.value
     c.in_ok-write_message.ensures.ok in
-    subst (λ (made : BatchIn). Appends (Rows made) (most_of made) c.args.to.now.items c.write_message.new.to.items) c.self.view_is
+    subst (λ (made : BatchIn). Appends (Rows made) (most_of_batch made) c.args.to.now.items c.write_message.new.to.items) c.self.view_is
     (rows_appended c.self.inside.rows c.self.inside.nodes.items c.self.inside.places.items c.self.inside.body.items built batch
     c.args.to.now.items c.write_message.new.to.items message table few
     c.self.invariant.few_nodes c.self.invariant.few_buffers c.self.invariant.inside c.self.invariant.aligned c.self.invariant.size)

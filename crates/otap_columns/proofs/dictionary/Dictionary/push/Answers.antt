@@ -3,17 +3,17 @@ use Rattle.std.specs.Option.{option_copied}
 use Rattle.std.proofs.lemmas.Grind.{common_steps}
 use Rattle.otap_columns.specs.declared.ends.End.{End}
 use Rattle.otap_columns.specs.Dictionaries.{DictionaryIn}
-use Rattle.otap_columns.specs.Ends.{bytes_in}
+use Rattle.otap_columns.specs.Ends.{bytes_or_none}
 use Rattle.otap_columns.proofs.Lying.{Pushed, pushed, values_len}
 use Rattle.otap_columns.proofs.dictionary.Dictionary.push.Goals as goal
 
 grown_to : (c : goal.In_ok-push) → Pushed c.self.inside.bytes.items c.keep.new.kept.items 0 c.self.inside.ends.items c.push.new.self.items (option_copied c.args.value)
 grown_to c =
     let ends : c.push.new.self.items ≡ c.self.inside.ends.items ++ record { place = c.len-place.result; there = c.in_ok-there.there } ∷ [] = grind (arith, common_steps, c.in_ok-push.ensures.items) in
-    let bytes : c.keep.new.kept.items ≡ c.self.inside.bytes.items ++ bytes_in (option_copied c.args.value) = c.in_ok-there.ensures.bytes in
-    let place : c.len-place.result ≡ length (c.self.inside.bytes.items ++ bytes_in (option_copied c.args.value)) = omega (arith, c.len-place.ensures, ap length bytes, c.keep.new.kept.ok.0) in
+    let bytes : c.keep.new.kept.items ≡ c.self.inside.bytes.items ++ bytes_or_none (option_copied c.args.value) = c.in_ok-there.ensures.bytes in
+    let place : c.len-place.result ≡ length (c.self.inside.bytes.items ++ bytes_or_none (option_copied c.args.value)) = omega (arith, c.len-place.ensures, ap length bytes, c.keep.new.kept.ok.0) in
     subst (λ (bs : List ℕ). Pushed c.self.inside.bytes.items bs 0 c.self.inside.ends.items c.push.new.self.items (option_copied c.args.value)) (sym bytes)
-    (subst (λ (es : List End). Pushed c.self.inside.bytes.items (c.self.inside.bytes.items ++ bytes_in (option_copied c.args.value)) 0 c.self.inside.ends.items es (option_copied c.args.value)) (sym ends)
+    (subst (λ (es : List End). Pushed c.self.inside.bytes.items (c.self.inside.bytes.items ++ bytes_or_none (option_copied c.args.value)) 0 c.self.inside.ends.items es (option_copied c.args.value)) (sym ends)
     (pushed c.self.inside.bytes.items 0 c.self.inside.ends.items (record { place = c.len-place.result; there = c.in_ok-there.there }) (option_copied c.args.value) c.self.invariant.ends place c.in_ok-there.ensures.there))
 
 pub invariant_of-self-2 : goal.invariant_of-self-2

@@ -28,10 +28,10 @@ abbrev pub IsOfSize : (Cause → Type 0) → Cause → Option ℤ → Type 0
 IsOfSize L cause payload = (payload ≡ None) × L cause
 
 -- the result for the refusal of a record of this type
-abbrev pub StopOf : ColumnRefusal → ℤ → NotTaken → Type 0
-StopOf (refusal.Memory e) kind stop = stop ≡ Memory e
-StopOf refusal kind stop = stop ≡ Defect (Column refusal) (Some kind)
+abbrev pub IsUntakenFor : ColumnRefusal → ℤ → NotTaken → Type 0
+IsUntakenFor (refusal.Memory e) kind stop = stop ≡ Memory e
+IsUntakenFor refusal kind stop = stop ≡ Defect (Column refusal) (Some kind)
 
-abbrev pub stop_of_types : TypesRefusal → NotTaken
-stop_of_types (PayloadType kind) = Defect cause.PayloadType (Some kind)
-stop_of_types (PayloadTwice kind) = Defect cause.PayloadTwice (Some kind)
+abbrev pub untaken_by_types : TypesRefusal → NotTaken
+untaken_by_types (PayloadType kind) = Defect cause.PayloadType (Some kind)
+untaken_by_types (PayloadTwice kind) = Defect cause.PayloadTwice (Some kind)

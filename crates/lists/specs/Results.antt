@@ -1,0 +1,13 @@
+-- Results, of reading and of calls.
+use Rattle.std.specs.Prelude.{◌≡◌, Result, Ok, Err}
+
+infixl 10 ◌>>=◌
+-- what follows on a value; an error stays
+abbrev pub ◌>>=◌ : {A B E : Type 0} → Result A E → (A → Result B E) → Result B E
+(Ok x) >>= f = f x
+(Err e) >>= f = Err e
+
+-- a call returned what reading gives, its value seen by view
+abbrev pub Gives : {X Y E : Type 0} → (X → Y) → Result X E → Result Y E → Type 0
+Gives view (Ok x) read = read ≡ Ok (view x)
+Gives view (Err e) read = read ≡ Err e
