@@ -10,7 +10,7 @@ use std::alloc::{AllocError, Global};
 use std::test::Fail;
 
 /// What has this pair, if it weighs little.
-#[tactic(auto, using(otap_attrs::proofs::PairRows::one_pair))]
+#[tactic(auto, using(crate::proofs::OnePair::one_pair))]
 fn parent(alloc: Global, key: &str, value: Value) -> Result<Resource, AllocError>
     ensures { IfOk result (λ parent. total 32 weight_of_pair parent.pairs ≤ weight_limit) }
 {

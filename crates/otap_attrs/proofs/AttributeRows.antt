@@ -120,6 +120,3 @@ seven_fit (x0 ∷ x1 ∷ x2 ∷ x3 ∷ x4 ∷ x5 ∷ x6 ∷ x7 ∷ more) d fits 
 -- attributes of log records
 pub log_width : (kind : Kind) → kind ≡ table.LogAttrs → width_of kind ≡ 9
 log_width kind e = subst (λ (k : Kind). width_of k ≡ 9) (sym e) (attribute_width table.LogAttrs refl)
-
-pub log_value : (kind : Kind) → kind ≡ table.LogAttrs → HasValueAt kind 2
-log_value kind e = subst (λ (k : Kind). HasValueAt k 2) (sym e) (has_value table.LogAttrs refl)

@@ -1,11 +1,10 @@
 -- A load, as one request after the other is exported.
-use Rattle.std.proofs.Common.{◌≡◌, ℕ, ◌+◌, ◌<◌, true, List, [], ◌∷◌, ◌++◌, length, sym, ◌∙◌, subst, zero-add, arith}
+use Rattle.std.proofs.Common.{◌≡◌, ℕ, ◌+◌, ◌<◌, List, [], ◌∷◌, ◌++◌, length, sym, subst, zero-add, arith}
 use Rattle.std.specs.Prelude.{All}
 use Rattle.std.specs.List.{flat_map}
 use Rattle.std.proofs.lemmas.List.{flat_map_more}
 use Rattle.std.proofs.lemmas.List.Elements.{All-nil, All-push}
 use Rattle.std.proofs.lemmas.List.FromFn.{length-map-range_with_len, map-range_with_len_more}
-use Rattle.std.proofs.lemmas.Bool.{false≢true}
 use Rattle.lists.specs.EachAfter.{EachAfter}
 use Rattle.lists.proofs.Growing.{each_after-last}
 use Rattle.otap_capture.specs.Batch.{ReadsBatch, batch_content, payloads_in}
@@ -60,7 +59,3 @@ module _ (rows : SignalRows) where
       let exported = All-push (IsExported rows) requests request loading.loaded.exported exports.exported in
       let received = each_after-last (IsReceivedAs m) [] [] requests messages request message (law (requests ++ request ∷ []) (messages ++ message ∷ []) exported stands.policy) in
       received.reads
-
-  -- it isn't refused
-  pub not_broken : (n : ℕ) (e : ExporterIn) (o : Opened) → IsLoading rows n e o → e.broken ≡ true → ⊥
-  not_broken n e o loading broken = false≢true (sym loading.loaded.stands.sound ∙ broken)
