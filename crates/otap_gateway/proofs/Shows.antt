@@ -2,7 +2,6 @@
 use Rattle.std.proofs.Common.{◌≡◌, ℕ, Bool, true, false, List, [], ◌∷◌, ◌++◌, length, Some, None, Option, refl, sym, ap, ◌∙◌, subst, append-nil}
 use Rattle.std.specs.Prelude.{MatchBool, IfSome}
 use Rattle.std.specs.Io.KnownBytes.{Appends}
-use Rattle.lists.proofs.Growing.{each_after-push}
 use Rattle.otlp_model.specs.declared.request.Signal.{Signal}
 use Rattle.otap_capture.specs.Batch.{BatchContent, ReadsBatch}
 use Rattle.otap_capture.specs.Capture.{Frame, Message}
@@ -11,14 +10,18 @@ use Rattle.otap_cells.specs.Tables.{Table}
 use Rattle.otap_consume.specs.declared.seen.Seen.{Seen}
 use Rattle.otap_consume.specs.declared.seen.Seen.TheVariants as seen
 use Rattle.otap_consume.specs.Defects.{tables_of}
-use Rattle.otap_consume.specs.Outcomes.{Outcome, Accepted, Refused, Reset, GivesOutcome, StaysBroken, OutcomeAfter, Outcomes, is_broken, payloads_after}
+use Rattle.otap_consume.specs.Outcomes.{Outcome, Accepted, Refused, Reset, GivesOutcome, StaysBroken, OutcomeAfter, is_broken, payloads_after}
 use Rattle.otap_consume.specs.Segments.{SegmentIn, StandsFor, HasNext, Next, TellsOutcome, IsNew}
 use Rattle.otap_consume.proofs.SegmentSteps.{stands_first}
 use Rattle.otap_gateway.specs.Reply.{ReplyText}
 use Rattle.otap_gateway.specs.Runs.{Sinks, BeginsWith, WritesFront}
 use Rattle.otap_gateway.specs.declared.command.Command.{Command}
-use Rattle.otap_gateway.specs.Showing.{ShowsFrame, show_reply}
+use Rattle.otap_gateway.specs.EncodingSteps.{HasMore}
+use Rattle.otap_gateway.specs.JobStates.{HasShown, HasTold}
+use Rattle.otap_gateway.specs.Showing.{shown}
 use Rattle.otap_gateway.specs.ShowingSeen.{ShowsSeen}
+use Rattle.otap_gateway.specs.Told.{Tells}
+use Rattle.otap_gateway.proofs.Telling.{tells_more}
 
 -- a frame that gives an accepted batch
 pub record IsAccepted (signal : Signal) (outcomes : List Outcome) (frame : Frame) (batch : BatchContent) (tables : List Table) : Type 0 where
@@ -49,48 +52,40 @@ accepted_from signal outcomes frame o batch tables is false GivesOutcome.resets 
 -- the reply is that of the outcome
 module _ (signal : Signal) (outcomes : List Outcome) (frame : Frame) (number : ℕ) (new : SegmentIn) (reply : ReplyText) where
   text_of : (returned : Seen) (o : Outcome) → OutcomeAfter signal outcomes frame o → TellsOutcome o returned → StandsFor signal (outcomes ++ o ∷ []) new → ShowsSeen frame new number returned reply
-      → reply ≡ show_reply number o
+      → reply ≡ shown number o
   text_of (seen.Batch id rows) (Accepted batch tables) gives tells stands replies =
       let is : IsAccepted signal outcomes frame batch tables = accepted_from signal outcomes frame (Accepted batch tables) batch tables refl (is_broken outcomes) gives in
-      replies.at signal outcomes is.bytes batch tables is.message is.reads stands ∙ ap (λ (ts : List Table). show_reply number (Accepted batch ts)) (sym is.same)
+      replies.at signal outcomes is.bytes batch tables is.message is.reads stands ∙ ap (λ (ts : List Table). shown number (Accepted batch ts)) (sym is.same)
   text_of (seen.Batch id rows) (Refused refusal) gives tells stands replies = absurd tells
   text_of (seen.Batch id rows) Reset gives tells stands replies = absurd tells
   text_of (seen.Refused told) (Accepted batch tables) gives tells stands replies = absurd tells
-  text_of (seen.Refused told) (Refused refusal) gives tells stands replies = replies ∙ ap (λ r. show_reply number (Refused r)) tells
+  text_of (seen.Refused told) (Refused refusal) gives tells stands replies = replies ∙ ap (λ r. shown number (Refused r)) tells
   text_of (seen.Refused told) Reset gives tells stands replies = absurd tells
   text_of seen.Reset (Accepted batch tables) gives tells stands replies = absurd tells
   text_of seen.Reset (Refused refusal) gives tells stands replies = absurd tells
   text_of seen.Reset Reset gives tells stands replies = replies
 
--- the frames and replies that a segment stands for
-abbrev pub Shown : SegmentIn → List Frame → List ReplyText → Type 0
-Shown s frames replies = (outcomes : List Outcome) × Outcomes s.signal frames outcomes × StandsFor s.signal outcomes s
-
 pub shows : (old new : SegmentIn) (frame : Frame) (returned : Seen) (number : ℕ) (reply : ReplyText) → Next old frame new returned → new.signal ≡ old.signal → ShowsSeen frame new number returned reply
-    → (frames : List Frame) (replies : List ReplyText) → length frames ≡ number → Shown old frames replies
-    → ShowsFrame old.signal frames frame reply × Shown new (frames ++ frame ∷ []) (replies ++ reply ∷ [])
+    → (frames : List Frame) (replies : List ReplyText) → length frames ≡ number → HasShown old frames replies
+    → Tells (OutcomeAfter old.signal) shown frames replies frame reply × HasShown new (frames ++ frame ∷ []) (replies ++ reply ∷ [])
 shows old new frame returned number reply next same replies frames before count history =
-    let outcomes : List Outcome = history.0 in
-    let n : HasNext old.signal outcomes frame returned new = next.at old.signal outcomes history.2 in
-    let all : Outcomes old.signal (frames ++ frame ∷ []) (outcomes ++ n.outcome ∷ [])
-    = each_after-push (λ past past' f o. OutcomeAfter old.signal past' f o) [] [] frames outcomes frame n.outcome history.1 n.gives in (
-      record {
-        outcomes = outcomes;
-        before = history.1;
-        outcome = n.outcome;
-        gives = n.gives;
-        text = text_of old.signal outcomes frame number new reply returned n.outcome n.gives n.tells n.stands replies ∙ ap (λ k. show_reply k n.outcome) (sym count);
-      },
-      (
-        outcomes ++ n.outcome ∷ [],
-        subst (λ (s : Signal). Outcomes s (frames ++ frame ∷ []) (outcomes ++ n.outcome ∷ [])) (sym same) all,
-        subst (λ (s : Signal). StandsFor s (outcomes ++ n.outcome ∷ []) new) (sym same) n.stands,
-      ),
-    )
+    let both =
+    tells_more (OutcomeAfter old.signal) shown (λ os. StandsFor old.signal os old) (λ os. StandsFor old.signal os new) frame number reply
+    (λ past outcomes gave stands. step outcomes (next.at old.signal outcomes stands)) frames before count history in
+    (both.0, subst (λ (s : Signal). HasTold (OutcomeAfter s) shown (λ os. StandsFor s os new) (frames ++ frame ∷ []) (before ++ reply ∷ [])) (sym same) both.1)
+  where
+    step : (outcomes : List Outcome) → HasNext old.signal outcomes frame returned new → HasMore (OutcomeAfter old.signal) shown (λ os. StandsFor old.signal os new) outcomes frame number reply
+    step outcomes n = record {
+      outcome = n.outcome;
+      gives = n.gives;
+      says = text_of old.signal outcomes frame number new reply returned n.outcome n.gives n.tells n.stands replies;
+      stands = n.stands;
+    }
 
 -- a segment at its start stands for no frames
-pub shows_none : (signal : Signal) (s : SegmentIn) → IsNew signal s → Shown s [] []
-shows_none signal s new = ([], tt, stands_first s.signal s (record { same = refl; whole = new.whole; empty = new.empty }))
+pub shows_none : (signal : Signal) (s : SegmentIn) → IsNew signal s → HasShown s [] []
+shows_none signal s new =
+    record { outcomes = []; before = tt; so_far = refl; stood = stands_first s.signal s (record { same = refl; whole = new.whole; empty = new.empty }) }
 
 -- ---- a run that found no memory at its start
 

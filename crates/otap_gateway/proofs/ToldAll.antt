@@ -1,21 +1,30 @@
 -- One list of outcomes gives the replies of a job that tells them, and each list of replies is given by one.
 use Rattle.std.proofs.Common.{◌≡◌, ℕ, suc, ◌+◌, List, [], ◌∷◌, ◌++◌, length, refl, sym, ap, ◌∙◌, subst, zero-add, arith}
-use Rattle.std.specs.Prelude.{codes}
+use Rattle.std.specs.Prelude.{codes, ◌≤◌, ℤ, Option, All}
+use Rattle.std.specs.List.{AllByRecursion}
+use Rattle.std.proofs.lemmas.List.Elements.{recursion_from_All}
 use Rattle.std.proofs.lemmas.List.{length-append}
 use Rattle.lists.specs.EachAfter.{EachAfter}
 use Rattle.lists.proofs.Growing.{each_after-push, each_after-keeps, each_after-length}
 use Rattle.otap_capture.specs.Capture.{Frame}
 use Rattle.otap_consume.specs.declared.refusal.Refusal.{Refusal}
-use Rattle.otap_consume.specs.Outcomes.{Outcome}
-use Rattle.otap_consume.specs.Receiving.{ReceivedAfter, Received}
+use Rattle.otap_cells.specs.Tables.{Table}
+use Rattle.otap_consume.specs.declared.refusal.Cause.{Cause}
+use Rattle.otap_consume.specs.declared.refusal.Cause.TheVariants.{Compressed, BadMessage, Repeated, BadUtf8, PayloadType, PayloadTwice, SchemaIdTaken}
+use Rattle.otap_consume.specs.declared.refusal.Cause.TheVariants.{Column, TooManyItems, RowsTooHeavy, HeldTooMuch, Row, TreeTooHeavy, Broken}
+use Rattle.otap_consume.specs.Meanings.{Meaning, StandsInRows}
+use Rattle.otap_consume.specs.Outcomes.{Outcome, Outcomes, OutcomeAfter, stage_of}
+use Rattle.otap_consume.specs.Receiving.{ReceivedAfter, Received, Settles}
 use Rattle.otlp_model.specs.declared.request.Signal.{Signal}
+use Rattle.otlp_model.specs.declared.request.Signal.TheVariants as signals
 use Rattle.otap_gateway.specs.declared.command.Command.TheVariants as command
 use Rattle.otap_gateway.specs.Commands.{ReplyOf}
 use Rattle.otap_gateway.specs.Encoding.{Encoded, Encodes, encoded, signal_rows}
 use Rattle.otap_gateway.specs.Lines.{batch_head, or_dash, line_feed}
 use Rattle.otap_gateway.specs.Receptions.{as_taken, decoded, statused, replayed, meaning_of, refusal_line, refusal_status}
 use Rattle.otap_gateway.specs.Reply.{ReplyText}
-use Rattle.otap_gateway.specs.Texts.{HaveTexts}
+use Rattle.otap_gateway.specs.Showing.{shown}
+use Rattle.otap_gateway.specs.Texts.{HaveTexts, IsEarly}
 use Rattle.otap_gateway.specs.Told.{Giving, Gave, told, Tells}
 use Rattle.otap_gateway.proofs.Telling.{told_more}
 
@@ -76,14 +85,98 @@ pub replay_given : (signal : Signal) (frames : List Frame) (outcomes : List Outc
 unfolding ReplyOf
 replay_given signal = given (ReceivedAfter (meaning_of signal)) (as_taken (meaning_of signal) replayed)
 
-pub all_given : (signal : Signal) (frames : List Frame) → (outcomes : List Outcome) × Received (meaning_of signal) frames outcomes → HaveTexts signal frames
-all_given signal frames some = record {
-  outcomes = some.0;
-  received = some.1;
-  decode = decode_given signal frames some.0 some.1;
-  status = status_given signal frames some.0 some.1;
-  replay = replay_given signal frames some.0 some.1;
-}
+-- ---- show
+
+pub show_given : (signal : Signal) (frames : List Frame) (outcomes : List Outcome) → Outcomes signal frames outcomes
+    → EachAfter (ReplyOf (command.Show signal)) [] [] frames (told shown 0 outcomes)
+unfolding ReplyOf
+show_given signal = given (OutcomeAfter signal) shown
+
+-- what stands in rows isn't in an early stage
+not_early : (m : Meaning) (tables : List Table) (cause : Cause) (payload : Option ℤ) → StandsInRows m tables cause payload → stage_of cause ≤ 4 → ⊥
+not_early m tables Compressed payload stands early = stands
+not_early m tables BadMessage payload stands early = stands
+not_early m tables Repeated payload stands early = stands
+not_early m tables BadUtf8 payload stands early = stands
+not_early m tables PayloadType payload stands early = stands
+not_early m tables PayloadTwice payload stands early = stands
+not_early m tables SchemaIdTaken payload stands early = stands
+not_early m tables (Column refusal) payload stands early = stands
+not_early m tables TooManyItems payload stands early = stands
+not_early m tables RowsTooHeavy payload stands early = stands
+not_early m tables HeldTooMuch payload stands early = stands
+not_early m tables (Row why) payload stands early = let late : 5 ≤ 4 = early in omega arith
+not_early m tables TreeTooHeavy payload stands early = let late : 6 ≤ 4 = early in omega arith
+not_early m tables Broken payload stands early = stands
+
+-- where no later stage refuses a frame, it gives a segment what it gives a receiver
+seen_alike : (m : Meaning) (outcomes : List Outcome) (frame : Frame) (seen outcome : Outcome) → OutcomeAfter m.signal outcomes frame seen → Settles m seen outcome → IsEarly outcome
+    → OutcomeAfter m.signal outcomes frame outcome
+seen_alike m outcomes frame seen outcome gives (Settles.accepted batch tables fine) early = gives
+seen_alike m outcomes frame seen outcome gives (Settles.refuses batch tables cause payload stands) early = absurd (not_early m tables cause payload stands early)
+seen_alike m outcomes frame seen outcome gives (Settles.stays_refused refusal) early = gives
+seen_alike m outcomes frame seen outcome gives Settles.resets early = gives
+
+all_alike : (m : Meaning) (past : List Frame) (before : List Outcome) (frames : List Frame) (outcomes : List Outcome) → AllByRecursion IsEarly outcomes
+    → EachAfter (λ past before frame outcome. ReceivedAfter m before frame outcome) past before frames outcomes
+    → EachAfter (λ past before frame outcome. OutcomeAfter m.signal before frame outcome) past before frames outcomes
+all_alike m past before [] [] early each = tt
+all_alike m past before [] (o ∷ outcomes) early each = absurd each
+all_alike m past before (f ∷ frames) [] early each = absurd each
+all_alike m past before (f ∷ frames) (o ∷ outcomes) early each = (
+  seen_alike m before f each.0.seen o each.0.gives each.0.settles early.0,
+  all_alike m (past ++ f ∷ []) (before ++ o ∷ []) frames outcomes early.1 each.1,
+)
+
+-- a meaning's signal is the one it was taken by
+of_signal : (signal : Signal) → (meaning_of signal).signal ≡ signal
+of_signal signals.Traces = refl
+of_signal signals.Logs = refl
+of_signal signals.Metrics = refl
+
+pub show_alike : (signal : Signal) (frames : List Frame) (outcomes : List Outcome) → Received (meaning_of signal) frames outcomes → All IsEarly outcomes
+    → EachAfter (ReplyOf (command.Show signal)) [] [] frames (told shown 0 outcomes)
+show_alike signal frames outcomes received early =
+    show_given signal frames outcomes
+    (subst (λ (s : Signal). Outcomes s frames outcomes) (of_signal signal) (all_alike (meaning_of signal) [] [] frames outcomes (recursion_from_All IsEarly outcomes early) received))
+
+-- each frame gives a segment something, and so do all
+abbrev pub SomeOutcome : Type 0
+SomeOutcome = (signal : Signal) (frames : List Frame) (outcomes : List Outcome) (frame : Frame) → Outcomes signal frames outcomes → (outcome : Outcome) × OutcomeAfter signal outcomes frame outcome
+
+seen_from : SomeOutcome → (signal : Signal) (past : List Frame) (before : List Outcome) → Outcomes signal past before → (frames : List Frame)
+    → (outcomes : List Outcome) × EachAfter (λ past before frame outcome. OutcomeAfter signal before frame outcome) past before frames outcomes
+seen_from some signal past before gave [] = ([], tt)
+seen_from some signal past before gave (f ∷ frames) =
+    let o : (outcome : Outcome) × OutcomeAfter signal before f outcome = some signal past before f gave in
+    let rest =
+    seen_from some signal (past ++ f ∷ []) (before ++ o.0 ∷ [])
+    (each_after-push (λ past before frame outcome. OutcomeAfter signal before frame outcome) [] [] past before f o.0 gave o.1) frames in
+    (o.0 ∷ rest.0, o.1, rest.1)
+
+-- ---- a capture
+
+pub all_given : SomeOutcome → (signal : Signal) (frames : List Frame) → (outcomes : List Outcome) × Received (meaning_of signal) frames outcomes → HaveTexts signal frames
+all_given each signal frames some =
+    let seen = seen_from each signal [] [] tt frames in
+    record {
+      outcomes = some.0;
+      received = some.1;
+      decode = decode_given signal frames some.0 some.1;
+      status = status_given signal frames some.0 some.1;
+      replay = replay_given signal frames some.0 some.1;
+      show_alike = show_alike signal frames some.0 some.1;
+      seen = seen.0;
+      given = seen.1;
+      show = show_given signal frames seen.0 seen.1;
+    }
+
+-- ---- and back
+
+pub show_back : (signal : Signal) (frames : List Frame) (replies : List ReplyText) → EachAfter (ReplyOf (command.Show signal)) [] [] frames replies
+    → (outcomes : List Outcome) × Outcomes signal frames outcomes × (replies ≡ told shown 0 outcomes)
+unfolding ReplyOf
+show_back signal = gives_back (OutcomeAfter signal) shown
 
 pub decode_back : (signal : Signal) (frames : List Frame) (replies : List ReplyText) → EachAfter (ReplyOf (command.Decode signal)) [] [] frames replies
     → (outcomes : List Outcome) × Received (meaning_of signal) frames outcomes × (replies ≡ told (as_taken (meaning_of signal) decoded) 0 outcomes)

@@ -1,6 +1,7 @@
 -- The jobs: their words, and what each may reply to a frame.
 use Rattle.std.specs.Prelude.{◌≢◌, ℕ, List, [], ◌∷◌, length, codes}
 use Rattle.otap_capture.specs.Capture.{Frame}
+use Rattle.otap_consume.specs.Outcomes.{OutcomeAfter}
 use Rattle.otap_consume.specs.Receiving.{ReceivedAfter}
 use Rattle.otlp_model.specs.declared.request.Signal.{Signal}
 use Rattle.otlp_model.specs.declared.request.Signal.TheVariants as signals
@@ -11,7 +12,7 @@ use Rattle.otap_gateway.specs.Listing.{ListsFrame}
 use Rattle.otap_gateway.specs.Receptions.{decoded, statused, replayed, as_taken, meaning_of}
 use Rattle.otap_gateway.specs.Reply.{ReplyText}
 use Rattle.otap_gateway.specs.Schemas.{SchemasFrame}
-use Rattle.otap_gateway.specs.Showing.{ShowsFrame}
+use Rattle.otap_gateway.specs.Showing.{shown}
 use Rattle.otap_gateway.specs.Tidying.{TidiesFrame}
 use Rattle.otap_gateway.specs.Told.{Tells}
 
@@ -41,7 +42,7 @@ ReplyOf command.List frames replies frame reply = ListsFrame (length frames) fra
 ReplyOf (command.Tidy signal) frames replies frame reply = TidiesFrame signal (length frames) frame reply
 ReplyOf (command.Encode signal) frames replies frame reply = Tells (Encodes (signal_rows signal) (meaning_of signal)) encoded frames replies frame reply
 ReplyOf (command.Schema signal) frames replies frame reply = SchemasFrame signal (length frames) frame reply
-ReplyOf (command.Show signal) frames replies frame reply = ShowsFrame signal frames frame reply
+ReplyOf (command.Show signal) frames replies frame reply = Tells (OutcomeAfter signal) shown frames replies frame reply
 ReplyOf (command.Decode signal) frames replies frame reply = Tells (ReceivedAfter (meaning_of signal)) (as_taken (meaning_of signal) decoded) frames replies frame reply
 ReplyOf (command.Status signal) frames replies frame reply = Tells (ReceivedAfter (meaning_of signal)) (as_taken (meaning_of signal) statused) frames replies frame reply
 ReplyOf (command.Replay signal) frames replies frame reply = Tells (ReceivedAfter (meaning_of signal)) (as_taken (meaning_of signal) replayed) frames replies frame reply

@@ -3,10 +3,12 @@ use Rattle.std.specs.Prelude.{◌≡◌, ℕ, List}
 use Rattle.otap_capture.specs.Capture.{Frame}
 use Rattle.otap_consume.specs.declared.taken.Taken.{Taken}
 use Rattle.otap_consume.specs.Meanings.{Meaning}
+use Rattle.otap_consume.specs.Outcomes.{OutcomeAfter}
 use Rattle.otap_consume.specs.Receiving.{ReceivedAfter}
 use Rattle.otap_consume.specs.Segments.{SegmentIn, StandsFor}
 use Rattle.otap_gateway.specs.Receptions.{as_taken}
 use Rattle.otap_gateway.specs.Reply.{ReplyText}
+use Rattle.otap_gateway.specs.Showing.{shown}
 use Rattle.otap_gateway.specs.Told.{Giving, Gave, told}
 
 -- the frames and the replies that a state stands for which stands for outcomes
@@ -15,6 +17,10 @@ pub record HasTold {O : Type 0} (Gives : Giving O) (text : ℕ → O → ReplyTe
   pub before : Gave Gives frames outcomes
   pub so_far : replies ≡ told text 0 outcomes
   pub stood : stands outcomes
+
+-- the frames and the replies that a segment stands for
+abbrev pub HasShown : SegmentIn → List Frame → List ReplyText → Type 0
+HasShown s frames replies = HasTold (OutcomeAfter s.signal) shown (λ outcomes. StandsFor s.signal outcomes s) frames replies
 
 -- the frames and the replies that a receiver stands for
 abbrev pub HasReplied : Meaning → (ℕ → Taken → ReplyText) → SegmentIn → List Frame → List ReplyText → Type 0

@@ -1,14 +1,12 @@
 -- The texts of `show`: the cells of each batch as they are stored.
-use Rattle.std.specs.Prelude.{◌≡◌, ℕ, List, [], ◌∷◌, ◌++◌, length, codes}
+use Rattle.std.specs.Prelude.{ℕ, List, [], ◌∷◌, ◌++◌, length, codes}
 use Rattle.std.specs.Fmt.{decimal}
 use Rattle.lists.specs.Payloads.{PayloadIn}
-use Rattle.otlp_model.specs.declared.request.Signal.{Signal}
 use Rattle.otap_capture.specs.Batch.{BatchContent}
-use Rattle.otap_capture.specs.Capture.{Frame}
 use Rattle.otap_cells.specs.Tables.{Table}
-use Rattle.otap_consume.specs.Outcomes.{Outcome, Accepted, Refused, Reset, OutcomeAfter, Outcomes}
-use Rattle.otap_gateway.specs.Causes.{cause_name}
-use Rattle.otap_gateway.specs.Lines.{reset_line, refused_line, head_line, payload_head, line_feed, printed, refuses}
+use Rattle.otap_consume.specs.Outcomes.{Outcome, Accepted, Refused, Reset}
+use Rattle.otap_gateway.specs.Lines.{reset_line, head_line, payload_head, line_feed, printed, refuses}
+use Rattle.otap_gateway.specs.Receptions.{refusal_line}
 use Rattle.otap_gateway.specs.Reply.{ReplyText}
 use Rattle.otap_gateway.specs.Rows.{table_text}
 
@@ -27,16 +25,8 @@ payloads_text _ _ = []
 abbrev pub batch_text : ℕ → BatchContent → List Table → List ℕ
 batch_text number batch tables = head_line number batch.id ++ payloads_text batch.payloads tables
 
--- the reply to a frame that gave this
-abbrev pub show_reply : ℕ → Outcome → ReplyText
-show_reply number (Accepted batch tables) = printed (batch_text number batch tables)
-show_reply number (Refused refusal) = refuses (refused_line number refusal.id refusal.stage (cause_name refusal.cause) refusal.payload)
-show_reply number Reset = printed (reset_line number)
-
--- What `show` replies to a frame after these: that of what the frame gives after what they gave.
-pub record ShowsFrame (signal : Signal) (frames : List Frame) (frame : Frame) (reply : ReplyText) : Type 0 where
-  pub outcomes : List Outcome
-  pub before : Outcomes signal frames outcomes
-  pub outcome : Outcome
-  pub gives : OutcomeAfter signal outcomes frame outcome
-  pub text : reply ≡ show_reply (length frames) outcome
+-- `show`: the tables of a batch
+abbrev pub shown : ℕ → Outcome → ReplyText
+shown number (Accepted batch tables) = printed (batch_text number batch tables)
+shown number (Refused refusal) = refuses (refusal_line number refusal)
+shown number Reset = printed (reset_line number)

@@ -11,7 +11,7 @@ use Rattle.otap_consume.specs.Outcomes.{Outcome, Accepted, Refused, Reset, paylo
 use Rattle.otap_consume.specs.Segments.{SegmentIn, StandsFor}
 use Rattle.otap_gateway.specs.Lines.{printed}
 use Rattle.otap_gateway.specs.Reply.{ReplyText}
-use Rattle.otap_gateway.specs.Showing.{batch_text, show_reply}
+use Rattle.otap_gateway.specs.Showing.{batch_text, shown}
 
 -- a reply to a batch that the segment took last
 pub record ShowsTaken (frame : Frame) (s : SegmentIn) (number : ℕ) (reply : ReplyText) : Type 0 where
@@ -21,5 +21,5 @@ pub record ShowsTaken (frame : Frame) (s : SegmentIn) (number : ℕ) (reply : Re
 -- a reply to what the segment gave
 abbrev pub ShowsSeen : Frame → SegmentIn → ℕ → Seen → ReplyText → Type 0
 ShowsSeen frame s number (seen.Batch id rows) reply = ShowsTaken frame s number reply
-ShowsSeen frame s number (seen.Refused refusal) reply = reply ≡ show_reply number (Refused refusal)
-ShowsSeen frame s number seen.Reset reply = reply ≡ show_reply number Reset
+ShowsSeen frame s number (seen.Refused refusal) reply = reply ≡ shown number (Refused refusal)
+ShowsSeen frame s number seen.Reset reply = reply ≡ shown number Reset

@@ -1,4 +1,4 @@
-//! What the jobs of a receiver share.
+//! What the jobs of a receiver share, and `show` with them.
 ghost use Rattle.std.specs.Prelude.{◌≡◌, IfOk};
 ghost use Rattle.otap_capture.specs.Capture.{Frame};
 ghost use Rattle.otap_consume.specs.declared.taken.Taken.{Taken};

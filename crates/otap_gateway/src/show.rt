@@ -1,23 +1,23 @@
 //! `show`: the cells of each batch as they are stored.
-ghost use Rattle.std.specs.Prelude.{◌≡◌, ◌++◌, List, length, IfOk, OnOk};
+ghost use Rattle.std.specs.Prelude.{◌≡◌, ◌++◌, length, IfOk, OnOk};
 ghost use Rattle.otap_capture.specs.Batch.{content_of};
 ghost use Rattle.otap_capture.specs.Capture.{frame_of};
 ghost use Rattle.otap_cells.specs.Sets.{tables_in};
-ghost use Rattle.otap_consume.specs.Outcomes.{Outcome, Outcomes, Refused};
-ghost use Rattle.otap_consume.specs.Segments.{IsNew, IsTaken, StandsFor, TakesIf};
+ghost use Rattle.otap_consume.specs.Segments.{IsNew, IsTaken, TakesIf};
 ghost use Rattle.otap_gateway.specs.declared.command.Command.TheVariants as command;
-ghost use Rattle.otap_gateway.specs.Showing.{rows_line, payload_rows_text, batch_text, show_reply};
+ghost use Rattle.otap_gateway.specs.JobStates.{HasShown};
+ghost use Rattle.otap_gateway.specs.Showing.{rows_line, payload_rows_text, batch_text};
 ghost use Rattle.otap_gateway.specs.ShowingSeen.{ShowsSeen, ShowsTaken};
 
-use crate::causes::cause_name;
 use crate::job::Job;
-use crate::lines::{push_head_line, push_payload_head, refused_line, reset_line};
+use crate::lines::{push_head_line, push_payload_head, reset_line};
 use crate::numbers::push_number;
+use crate::receiving::refused;
 use crate::reply::Reply;
 use crate::rows::push_rows;
 use otap_capture::{Batch, Frame, Payload, read_batch};
 use otap_cells::{Rows, TableSet};
-use otap_consume::{Refusal, Seen, Segment};
+use otap_consume::{Seen, Segment};
 use otlp_model::Signal;
 use std::alloc::{AllocError, Global};
 
@@ -39,7 +39,7 @@ impl Shower {
 impl Job for Shower {
     ghost command = { λ s. command.Show s.segment.signal };
 
-    ghost stands = { λ s frames replies. (outcomes : List Outcome) × Outcomes s.segment.signal frames outcomes × StandsFor s.segment.signal outcomes s.segment };
+    ghost stands = { λ s. HasShown s.segment };
 
     fn step(&mut self, alloc: Global, number: u64, frame: &Frame<'_>) -> Result<Reply, AllocError> {
         let returned = self.segment.take(frame)?;
@@ -126,13 +126,4 @@ fn push_rows_line(out: &mut Vec<u8>, payload: &Payload<'_>, rows: u64) -> Result
     push_number(out, rows)?;
     out.push(b'\n')?;
     Ok(())
-}
-
-fn refused(alloc: Global, number: u64, refusal: Refusal) -> Result<Reply, AllocError>
-    ensures { IfOk result (λ reply. reply ≡ show_reply number (Refused refusal)) }
-{
-    let payload = refusal.payload.map(i64::from);
-    let cause = cause_name(refusal.cause)?;
-    let line = refused_line(alloc, number, refusal.id, refusal.stage, cause, payload)?;
-    Ok(Reply::refusal(alloc, line))
 }

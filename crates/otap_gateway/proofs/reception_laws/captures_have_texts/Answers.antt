@@ -20,5 +20,5 @@ of_signal traces logs metrics signals.Metrics = metrics
 
 pub returns : goal.returns
 returns c signal bytes frames end real capture =
-    all_given signal frames (of_signal c.received_some_outcome.ensures.capture c.received_some_outcome-2.ensures.capture c.received_some_outcome-3.ensures.capture
+    all_given c.some_outcome.ensures signal frames (of_signal c.received_some_outcome.ensures.capture c.received_some_outcome-2.ensures.capture c.received_some_outcome-3.ensures.capture
     signal bytes frames end real capture)
