@@ -13,7 +13,6 @@ pub mod LoadWords
 pub mod LogLoads
 pub mod MetricLoads
 pub mod OneJob
-pub mod OpenedIds
 pub mod Progress
 pub mod RowText
 pub mod SentSoFar

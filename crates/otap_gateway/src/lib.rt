@@ -15,7 +15,6 @@ mod load;
 mod load_laws;
 mod loads;
 mod numbers;
-mod opened;
 mod opening;
 mod quoting;
 mod receiving;

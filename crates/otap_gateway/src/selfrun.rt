@@ -1,16 +1,15 @@
 //! `selfrun`: the batch messages of a load that the program makes itself, and a line that counts them.
-ghost use Rattle.std.specs.Prelude.{◌≡◌, ◌<◌, ◌*◌, ◌++◌, [], codes, IfOk, string_bytes};
+ghost use Rattle.std.specs.Prelude.{◌≡◌, ◌<◌, ◌*◌, ◌++◌, codes, IfOk, string_bytes};
 ghost use Rattle.std.specs.Fmt.{decimal};
 ghost use Rattle.otlp_load.specs.Load.{items_each, requests_at_most};
 ghost use Rattle.otap_gateway.specs.Lines.{line_feed};
-ghost use Rattle.otap_gateway.specs.Loading.{HasLoaded, IsLoading, LoadsNext};
+ghost use Rattle.otap_gateway.specs.Loading.{IsLoading, LoadsNext};
 ghost use Rattle.otap_gateway.specs.Loads.{IsLoad, LeavesLoad, load_status};
 ghost use Rattle.otap_gateway.specs.Runs.{sinks, SinkFaults};
 
 use crate::drive::flush_both;
 use crate::load::Load;
 use crate::loads::Loads;
-use crate::opened::Opened;
 use crate::stop::{Stop, stop_status};
 use otap_capture::{Sink, write_frame, write_whole};
 use otap_produce::{Exporter, LogTables, MetricTables, ProduceRefusal, SpanTables};
@@ -19,43 +18,26 @@ use otlp_load::{ITEMS, generated};
 use otlp_model::Signal;
 use std::alloc::{AllocError, Global};
 
-/// The requests of a load, as they are exported one after the other.
-#[derive(Drop)]
-struct Loader<T: Loads> {
-    exporter: Exporter<T>,
-    opened: Opened,
-}
-
-impl<T: Loads> Loader<T> {
-    fn new(alloc: Global) -> Result<Loader<T>, AllocError>
-        ensures { IfOk result (λ loader. HasLoaded T.rows 0 [] loader.exporter loader.opened) }
-    {
-        Ok(Loader {
-            exporter: Exporter::new(alloc)?,
-            opened: Opened::new(alloc),
-        })
-    }
-
-    /// The message of the next request.
-    fn next(&mut self, alloc: Global, request: u32) -> Result<Vec<u8>, AllocError>
-        requires few { request < requests_at_most }
-        requires stands { IsLoading T.rows request self.old.exporter self.old.opened }
-        ensures { IfOk result (λ message. LoadsNext T.rows request self.old.exporter self.new.exporter self.old.opened self.new.opened message.items) }
-    {
-        T::loads_are_light();
-        T::messages_are_received();
-        requests_have_their_items();
-        requests_are_within_the_limits();
-        let request = generated(alloc, T::signal(), request)?;
-        let message = match self.exporter.encode(&request) {
-            Ok(message) => message,
-            Err(ProduceRefusal::Memory(error)) => return Err(error),
-            Err(ProduceRefusal::Broken) => unreachable!(),
-            Err(ProduceRefusal::TooManyItems) => unreachable!(),
-            Err(ProduceRefusal::TooHeavy) => unreachable!(),
-        };
-        self.opened.add(&message)?;
-        Ok(message)
+/// The message of the next request of a load.
+fn next_message<T: Loads>(
+    alloc: Global,
+    exporter: &mut Exporter<T>,
+    request: u32,
+) -> Result<Vec<u8>, AllocError>
+    requires few { request < requests_at_most }
+    requires loading { IsLoading T.rows request exporter.old }
+    ensures { IfOk result (λ message. LoadsNext T.rows request exporter.old exporter.new message.items) }
+{
+    T::loads_are_light();
+    requests_have_their_items();
+    requests_are_within_the_limits();
+    let request = generated(alloc, T::signal(), request)?;
+    match exporter.encode(&request) {
+        Ok(message) => Ok(message),
+        Err(ProduceRefusal::Memory(error)) => Err(error),
+        Err(ProduceRefusal::Broken) => unreachable!(),
+        Err(ProduceRefusal::TooManyItems) => unreachable!(),
+        Err(ProduceRefusal::TooHeavy) => unreachable!(),
     }
 }
 
@@ -113,17 +95,17 @@ fn send_load<T: Loads, O: Sink, E: Sink>(
         (sinks O.Sink out.new E.Sink err.new) result }
 {
     requests_have_their_items();
-    let Ok(mut loader) = Loader::<T>::new(alloc) else {
+    let Ok(mut exporter) = Exporter::<T>::new(alloc) else {
         return Err(Stop::Memory);
     };
     'requests: for request in 0..load.requests {
-        let Ok(message) = loader.next(alloc, request) else {
+        let Ok(message) = next_message(alloc, &mut exporter, request) else {
             return Err(Stop::Memory);
         };
         write_frame(out, &message)?;
     }
     let items = items_of(load.requests);
-    let Ok(line) = load_line(alloc, load.requests, items, loader.opened.count()) else {
+    let Ok(line) = load_line(alloc, load.requests, items, exporter.openings()) else {
         return Err(Stop::Memory);
     };
     write_whole(err, line.as_bytes())?;

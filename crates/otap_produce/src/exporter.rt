@@ -1,9 +1,13 @@
 //! Exports requests: a batch message for each, after those of its segment.
-ghost use Rattle.std.specs.Prelude.{[], ◌≡◌, ◌≤◌, ◌<◌, ◌+◌, ◌*◌, true, false, IfOk, IfErr, OnOk};
+ghost use Rattle.std.specs.Prelude.{[], ◌≡◌, ◌≤◌, ◌<◌, ◌+◌, ◌*◌, ℕ, List, true, false, IfOk, IfErr, OnOk, OnErr};
+ghost use Rattle.std.specs.List.{flat_map};
+ghost use Rattle.otlp_model.specs.declared.request.Request.{Request};
 ghost use Rattle.otlp_model.specs.Profile.{IsProfile};
 ghost use Rattle.otlp_model.specs.Telemetry.{signal_of};
+ghost use Rattle.otap_capture.specs.Batch.{payloads_in};
 ghost use Rattle.otap_cells.specs.Payload.{kinds_of};
 ghost use Rattle.otap_columns.specs.Limits.{tables_limit};
+ghost use Rattle.otap_columns.specs.TableSets.{openings};
 ghost use Rattle.otap_produce.specs.Exporters.{Exports, AfterRefusal, Refuses, StandsFor, kinds_in};
 ghost use Rattle.otap_produce.specs.Limits.{batch_limit};
 ghost use Rattle.otap_produce.specs.Policy.{IsExported};
@@ -59,8 +63,8 @@ impl<T: Tabled> Exporter<T> {
         })
     }
 
-    /// The batch message of one more request of the segment. A request that is too large leaves the exporter as it was; after
-    /// want of memory it is broken until a reset.
+    /// The batch message of one more request of the segment. A request that is too large leaves the exporter as it was; where
+    /// memory runs out, it is broken until a reset, and what it counts stays as it was.
     pub fn encode(&mut self, request: &Request) -> Result<Vec<u8>, ProduceRefusal>
         requires signal { signal_of request.now ≡ T.rows.signal }
         requires profile { IsProfile request.now }
@@ -99,6 +103,15 @@ impl<T: Tabled> Exporter<T> {
     {
         self.batches
     }
+
+    /// How many payloads of the batches since the last reset opened a sub-stream.
+    pub fn openings(&self) -> u64
+        ensures count { result ≡ self.now.sent.openings }
+        ensures opened { (requests : List Request) (messages : List (List ℕ)) → StandsFor T.rows requests messages self.now
+            → result ≡ openings (flat_map payloads_in messages) }
+    {
+        self.senders.openings()
+    }
 }
 
 /// Whether a request is exported; nothing is written yet.
@@ -136,6 +149,7 @@ fn message_of<T: Tabled>(
     ensures sends { IfOk result (λ bytes. SendsMessage batches (T.rows.tables request.now) senders.old senders.new bytes.items) }
     ensures kinds { kinds_in senders.new.senders ≡ kinds_in senders.old.senders }
     ensures few { OnOk result (senders.new.openings ≤ senders.old.openings + tables_limit) }
+    ensures uncounted { OnErr result (senders.new.openings ≡ senders.old.openings) }
 {
     T::can_be_written();
     records_fit_a_message();

@@ -1,5 +1,5 @@
 //! Sends the tables of a signal: a sender for each kind, and the schema ids, which are counted over all kinds.
-ghost use Rattle.std.specs.Prelude.{◌≡◌, ◌≤◌, ◌<◌, ◌+◌, ◌^◌, [], ◌∷◌, length, All, Contains, IfOk, OnOk, if◌then◌else◌};
+ghost use Rattle.std.specs.Prelude.{◌≡◌, ◌≤◌, ◌<◌, ◌+◌, ◌^◌, [], ◌∷◌, length, All, Contains, IfOk, OnOk, OnErr, if◌then◌else◌};
 ghost use Rattle.std.specs.List.{slice_index_or};
 ghost use Rattle.otap_cells.specs.Payload.{kinds_of};
 ghost use Rattle.otap_cells.specs.Sets.{tables_in};
@@ -56,7 +56,14 @@ impl Senders {
         self.openings = 0;
     }
 
-    /// The batch message of tables: a payload for each.
+    /// How many payloads opened a sub-stream.
+    pub(crate) fn openings(&self) -> u64
+        ensures { result ≡ self.now.openings }
+    {
+        self.openings
+    }
+
+    /// The batch message of tables: a payload for each. Where memory runs out, none of them counts as an opening.
     pub(crate) fn send_all(
         &mut self,
         id: u64,
@@ -66,12 +73,21 @@ impl Senders {
         requires id { id < batch_limit }
         ensures sends { IfOk result (λ bytes. SendsMessage id (tables_in (λ t. t) tables.now) self.old self.new bytes.items) }
         ensures openings { OnOk result (self.new.openings ≤ self.old.openings + length tables.now) }
+        ensures uncounted { OnErr result (self.new.openings ≡ self.old.openings) }
         ensures kinds { kinds_in self.new.senders ≡ kinds_in self.old.senders }
     {
         let mut batch = BatchWriter::new(self.alloc, id as i64)?;
-        self.add_all(tables, &mut batch)?;
-        written_batch_is_read();
-        Ok(batch.finish())
+        let before = self.openings;
+        match self.add_all(tables, &mut batch) {
+            Ok(()) => {
+                written_batch_is_read();
+                Ok(batch.finish())
+            }
+            Err(error) => {
+                self.openings = before;
+                Err(error)
+            }
+        }
     }
 
     /// Adds a payload for each table to a batch.

@@ -7,6 +7,6 @@ invariant-requests g l =
     let before = sinks g.O.Sink l.initial.out g.E.Sink l.err in
     let now = sinks g.O.Sink l.out g.E.Sink l.err in
     record {
-      sent : HasSent g.T.Tabled.rows l.request before.out.written now.out.written l.loader.exporter l.loader.opened;
+      sent : HasSent g.T.Tabled.rows l.request before.out.written now.out.written l.exporter;
       faults : NoneFailed before now;
     }
