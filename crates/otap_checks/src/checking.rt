@@ -19,20 +19,6 @@ use otap_cells::{IdFault, Kind, Rows, TableSet, has_twice};
 use otlp_model::Signal;
 use std::alloc::{AllocError, Global};
 
-/// Tells what is wrong with the ids of a batch. Takes n log n for n rows.
-pub fn check_ids<R: Rows>(
-    alloc: Global,
-    set: &TableSet<R>,
-    signal: Signal,
-) -> Result<(), CheckRefusal>
-    requires { IsSet R.table set.now.tables.items }
-    ensures ok { OnOk result ((kind : Kind) (why : RowRefusal) → IdDefect signal (tables_in R.table set.now.tables.items) kind why → ⊥) }
-    ensures err { IfErr result (RefusesCheck (IdDefect signal (tables_in R.table set.now.tables.items))) }
-{
-    known_ids(alloc, set, signal)?;
-    Ok(())
-}
-
 /// The ids of the tables of a batch, where nothing is wrong with them. Each column is read once. Takes n log n for n rows, and
 /// time in proportion to them where ids and parents rise or count from 0.
 pub fn known_ids<R: Rows>(

@@ -1,6 +1,5 @@
 //! The tables of parts: events, links, points and exemplars, below the rows of another table.
-ghost use Rattle.std.specs.Prelude.{◌≡◌, ◌++◌, ◌∷◌, [], ◌≤◌, ◌^◌, List, length, map, min, All, None, option_map, IfOk, OnOk};
-ghost use Rattle.otlp_model.specs.Limits.{count_cap};
+ghost use Rattle.std.specs.Prelude.{◌≡◌, ◌++◌, ◌∷◌, [], ◌≤◌, ◌^◌, List, length, map, take, All, None, option_map, IfOk, OnOk, OnErr};
 ghost use Rattle.otap_cells.specs.declared.payload.Kind.{Kind};
 ghost use Rattle.otap_cells.specs.Cells.{Cell};
 ghost use Rattle.otap_cells.specs.Continuing.{again_of, goes_on_after};
@@ -11,11 +10,9 @@ ghost use Rattle.otap_cells.specs.Ids.{base_of};
 ghost use Rattle.otap_groups.specs.Kinds.{IsPart};
 ghost use Rattle.otap_groups.specs.Stored.{RisingParts, id_cell, stored_parts};
 ghost use Rattle.otap_groups.specs.Views.{seen_placed};
-ghost use Rattle.otap_groups.specs.Weighing.{cells_weight};
 
 use crate::flat::Placed;
 use otap_cells::{Coding, Kind, LogicalTable, coding_of};
-use otlp_model::add_capped;
 use std::alloc::{AllocError, Global};
 
 /// Writes the rows of the parts of parents.
@@ -47,8 +44,8 @@ pub trait PartWriter {
     fn goes_on(&self, before: &Self::Part, part: &Self::Part) -> bool
         ensures { result ≡ again_of kind (cells_of before.now) (cells_of part.now) };
 
-    /// Appends a row: the numbers stored for both ids, and the cells of the part. After want of memory the table may hold a
-    /// part of the row.
+    /// Appends a row: the numbers stored for both ids, and the cells of the part. Where memory runs out, the former rows stand
+    /// first; whether a row follows them isn't told.
     fn push(
         &self,
         table: &mut LogicalTable,
@@ -59,12 +56,8 @@ pub trait PartWriter {
         requires kind { table.old.kind ≡ kind }
         requires part { CanWrite part.now }
         ensures ok { OnOk result (table.new ≡ record table.old { rows = table.old.rows ++ (id_cell id ∷ id_cell parent ∷ cells_of part.now) ∷ [] }) }
+        ensures err { OnErr result (take (length table.old.rows) table.new.rows ≡ table.old.rows) }
         ensures kind { table.new.kind ≡ table.old.kind };
-
-    /// The bytes of the part's own cells, or `CAP` where they are more.
-    fn weight(&self, part: &Self::Part) -> u64
-        requires { CanWrite part.now }
-        ensures { result ≡ min (cells_weight (cells_of part.now)) count_cap };
 }
 
 /// The parts of some parents in order, each with the place of its parent.

@@ -3,12 +3,9 @@ ghost use Rattle.std.specs.Prelude.{◌≡◌, ◌∷◌, [], ℕ, min, All};
 ghost use Rattle.otlp_model.specs.Limits.{count_cap};
 ghost use Rattle.otlp_model.specs.declared.groups.Resource.{Resource};
 ghost use Rattle.otlp_model.specs.declared.groups.Scope.{Scope};
-ghost use Rattle.otap_cells.specs.Cells.{seen};
-ghost use Rattle.otap_cells.specs.Weights.{cell_weight};
 ghost use Rattle.otap_groups.specs.Weighing.{CanWriteGroup, CanWriteScope, front_weight, rows_of_groups, rows_of_scope};
 
 use crate::sources::has_items;
-use otap_cells::CellView;
 use otlp_model::{Resource, ResourceGroup, Scope, ScopeGroup, add_capped, sum_capped};
 
 /// What a request's rows weigh beside the fronts of its main rows: a number for each resource, scope and item.
@@ -98,13 +95,4 @@ fn front_weight(resource: &Resource, scope: &Scope) -> u64
         scope.version.len() as u64,
         scope.schema_url.len() as u64,
     ])
-}
-
-fn bytes_of(cell: CellView<'_>) -> u64
-    ensures { result ≡ cell_weight (seen cell.entry) }
-{
-    match cell {
-        CellView::Bytes(part) => part.len() as u64,
-        CellView::Null | CellView::Num(_) | CellView::Bits(_) | CellView::Flag(_) => 0,
-    }
 }

@@ -1,6 +1,5 @@
 //! The main table of a request.
-ghost use Rattle.std.specs.Prelude.{◌≡◌, ◌++◌, ◌∷◌, [], List, map, min, All, IfOk, OnOk};
-ghost use Rattle.otlp_model.specs.Limits.{count_cap};
+ghost use Rattle.std.specs.Prelude.{◌≡◌, ◌++◌, ◌∷◌, [], List, length, map, take, All, IfOk, OnOk, OnErr};
 ghost use Rattle.otap_cells.specs.declared.payload.Kind.{Kind};
 ghost use Rattle.otap_cells.specs.Cells.{Cell};
 ghost use Rattle.otap_cells.specs.Columns.{common};
@@ -8,7 +7,6 @@ ghost use Rattle.otap_cells.specs.Tables.{IsRow, profile_table};
 ghost use Rattle.otap_groups.specs.Flat.{resource_cells, scope_cells};
 ghost use Rattle.otap_groups.specs.Stored.{Rising, id_cell, stored_rows};
 ghost use Rattle.otap_groups.specs.Views.{front_cells, seen_flat};
-ghost use Rattle.otap_groups.specs.Weighing.{cells_weight};
 ghost use Rattle.otap_cells.specs.Scalars.{text_cell};
 
 use crate::cells::FrontCells;
@@ -32,7 +30,8 @@ pub trait RowWriter {
     fn kind(&self) -> Kind
         ensures { result ≡ kind };
 
-    /// Appends a row: the cells in front, and those of the item. After want of memory the table may hold a part of the row.
+    /// Appends a row: the cells in front, and those of the item. Where memory runs out, the former rows stand first; whether a row
+    /// follows them isn't told.
     fn push<'a>(
         &self,
         table: &mut LogicalTable,
@@ -43,12 +42,8 @@ pub trait RowWriter {
         requires front { IsRow common (front_cells front.now) }
         requires item { CanWrite item.now }
         ensures ok { OnOk result (table.new ≡ record table.old { rows = table.old.rows ++ (front_cells front.now ++ cells_of item.now) ∷ [] }) }
+        ensures err { OnErr result (take (length table.old.rows) table.new.rows ≡ table.old.rows) }
         ensures kind { table.new.kind ≡ table.old.kind };
-
-    /// The bytes of the item's own cells, or `CAP` where they are more.
-    fn weight(&self, item: &Self::Item) -> u64
-        requires { CanWrite item.now }
-        ensures { result ≡ min (cells_weight (cells_of item.now)) count_cap };
 }
 
 /// The main table of a request's items.

@@ -16,7 +16,7 @@ use crate::numbers::{bytes_of, list_cell, quantile_bytes, value_bytes};
 use otap_cells::{CellView, Kind, LogicalTable, bits_cell, number_cell, octets_cell};
 use otap_groups::PartWriter;
 use otap_metrics::{double_value, id_cell, int_value};
-use otlp_model::{CAP, Exemplar, HistPoint, Metric, Shape, SumPoint, add_capped, sum_capped};
+use otlp_model::{CAP, Exemplar, HistPoint, Metric, Shape, SumPoint, add_capped};
 use std::alloc::{AllocError, Global};
 
 /// Writes the rows of the points of histograms.
@@ -83,10 +83,6 @@ impl PartWriter for HistPointWriter {
             optional_cell(point.max),
         ])
     }
-
-    fn weight(&self, point: &HistPoint) -> u64 {
-        hist_cells_weight(point)
-    }
 }
 
 impl PartWriter for SumPointWriter {
@@ -136,10 +132,6 @@ impl PartWriter for SumPointWriter {
         ])?;
         Ok(())
     }
-
-    fn weight(&self, point: &SumPoint) -> u64 {
-        summary_cells_weight(point)
-    }
 }
 
 impl PartWriter for HistExemplarWriter {
@@ -182,13 +174,6 @@ impl PartWriter for HistExemplarWriter {
             double_value(&exemplar.value),
             octets_cell(&exemplar.span_id),
             octets_cell(&exemplar.trace_id),
-        ])
-    }
-
-    fn weight(&self, exemplar: &Exemplar) -> u64 {
-        sum_capped(&[
-            exemplar.span_id.len() as u64,
-            exemplar.trace_id.len() as u64,
         ])
     }
 }

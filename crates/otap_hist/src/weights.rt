@@ -11,11 +11,9 @@ ghost use Rattle.otap_hist.specs.Inside.{group_weight, hist_point_weight, hist_m
 ghost use Rattle.otap_hist.specs.Writable.{CanWriteHistGroup, CanWriteHistScope, CanWriteHistPoint, CanWriteHistMetric, CanWriteSumPoint};
 ghost use Rattle.otap_hist.specs.Tables.{hist_tables};
 
-use crate::points::{
-    HistExemplarWriter, hist_cells_weight, hist_points_of, summary_cells_weight, summary_points_of,
-};
+use crate::points::{hist_cells_weight, hist_points_of, summary_cells_weight, summary_points_of};
 use otap_attrs::attributes_weight;
-use otap_groups::PartWriter;
+use otap_metrics::exemplar_cells_weight;
 use otlp_model::{
     Exemplar, HistPoint, Items, Metric, ResourceGroup, ScopeGroup, SumPoint, add_capped,
 };
@@ -129,6 +127,6 @@ fn exemplar_weight(exemplar: &Exemplar) -> u64
     requires { CanWriteExemplar exemplar.now }
     ensures { result ≡ min (exemplar_weight exemplar.now) count_cap }
 {
-    let own = add_capped(32, HistExemplarWriter.weight(exemplar));
+    let own = add_capped(32, exemplar_cells_weight(exemplar));
     add_capped(own, attributes_weight(&exemplar.pairs))
 }

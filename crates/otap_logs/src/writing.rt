@@ -75,10 +75,6 @@ impl RowWriter for RecordWriter {
             text_cell(&log.event_name),
         ])
     }
-
-    fn weight(&self, log: &LogRecord) -> u64 {
-        record_weight(log)
-    }
 }
 
 /// The bytes of a record's own cells, or `CAP` where they are more.

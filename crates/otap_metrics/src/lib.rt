@@ -18,4 +18,4 @@ pub use numbers::{double_value, id_cell, int_value};
 pub use reading::{Exemplars, Metrics, Points};
 pub use requests::{check_metrics, regroup_with};
 pub use weights::table_weight;
-pub use writing::tables_of;
+pub use writing::{exemplar_cells_weight, tables_of};

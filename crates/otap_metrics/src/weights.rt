@@ -11,9 +11,9 @@ ghost use Rattle.otap_metrics.specs.Inside.{exemplar_weight, metric_weight, poin
 ghost use Rattle.otap_metrics.specs.Tables.{tables_of_metrics};
 ghost use Rattle.otap_metrics.specs.Writable.{CanWriteExemplar, CanWriteMetric, CanWritePoint};
 
-use crate::writing::{ExemplarWriter, MetricWriter, PointWriter, points_of};
+use crate::writing::{exemplar_cells_weight, metric_cells_weight, points_of};
 use otap_attrs::attributes_weight;
-use otap_groups::{PartWriter, RowWeights, RowWriter, rows_weight};
+use otap_groups::{RowWeights, rows_weight};
 use otlp_model::{Exemplar, Items, Metric, Point, Resource, ResourceGroup, Scope, add_capped};
 
 /// Weighs the rows of metrics and of all that is below them.
@@ -45,7 +45,7 @@ impl RowWeights for MetricWeights {
 
     fn item(&self, metric: &Metric) -> u64 {
         add_capped(
-            MetricWriter.weight(metric),
+            metric_cells_weight(metric),
             points_weight(points_of(&metric.shape)),
         )
     }
@@ -63,16 +63,17 @@ fn points_weight(points: &[Point]) -> u64
     weight
 }
 
+/// The row of a point, whose own cells hold no bytes, and all that is below it.
+#[tactic(auto, using(crate::proofs::MetricRows::point_weighs))]
 fn point_weight(point: &Point) -> u64
     requires { CanWritePoint point.now }
     ensures { result ≡ min (point_weight point.now) count_cap }
 {
-    let own = add_capped(32, PointWriter.weight(point));
     let below = add_capped(
         attributes_weight(&point.pairs),
         exemplars_weight(point.exemplars.as_slice()),
     );
-    add_capped(own, below)
+    add_capped(32, below)
 }
 
 fn exemplars_weight(exemplars: &[Exemplar]) -> u64
@@ -90,7 +91,7 @@ fn exemplar_weight(exemplar: &Exemplar) -> u64
     requires { CanWriteExemplar exemplar.now }
     ensures { result ≡ min (exemplar_weight exemplar.now) count_cap }
 {
-    let own = add_capped(32, ExemplarWriter.weight(exemplar));
+    let own = add_capped(32, exemplar_cells_weight(exemplar));
     add_capped(own, attributes_weight(&exemplar.pairs))
 }
 

@@ -1,11 +1,12 @@
 //! The tables of a request of metrics.
-ghost use Rattle.std.specs.Prelude.{◌≡◌, ◌≤◌, IfOk};
-ghost use Rattle.otlp_model.specs.Limits.{weight_limit};
+ghost use Rattle.std.specs.Prelude.{◌≡◌, ◌≤◌, min, IfOk};
+ghost use Rattle.otlp_model.specs.Limits.{weight_limit, count_cap};
 ghost use Rattle.otlp_model.specs.Profile.{IsProfile};
 ghost use Rattle.otlp_model.specs.Weight.{weight_of};
 ghost use Rattle.otlp_model.specs.declared.request.Request.TheVariants.{Metrics};
 ghost use Rattle.otap_cells.specs.declared.payload.Kind.TheVariants as table;
 ghost use Rattle.otap_cells.specs.Sets.{IsSet, tables_in};
+ghost use Rattle.otap_groups.specs.Weighing.{cells_weight};
 ghost use Rattle.otap_metrics.specs.Metrics.{is_monotonic, metric_cells, points_of, temporality_of, shape_number};
 ghost use Rattle.otap_metrics.specs.Points.{exemplar_cells, point_cells};
 ghost use Rattle.otap_metrics.specs.Tables.{tables_of_metrics};
@@ -70,14 +71,6 @@ impl RowWriter for MetricWriter {
             flag_cell(is_monotonic(&metric.shape)),
         ])
     }
-
-    fn weight(&self, metric: &Metric) -> u64 {
-        sum_capped(&[
-            metric.name.len() as u64,
-            metric.description.len() as u64,
-            metric.unit.len() as u64,
-        ])
-    }
 }
 
 impl PartWriter for PointWriter {
@@ -121,10 +114,6 @@ impl PartWriter for PointWriter {
             double_value(&point.value),
             number_cell(point.flags),
         ])
-    }
-
-    fn weight(&self, _point: &Point) -> u64 {
-        0
     }
 }
 
@@ -170,13 +159,27 @@ impl PartWriter for ExemplarWriter {
             octets_cell(&exemplar.trace_id),
         ])
     }
+}
 
-    fn weight(&self, exemplar: &Exemplar) -> u64 {
-        sum_capped(&[
-            exemplar.span_id.len() as u64,
-            exemplar.trace_id.len() as u64,
-        ])
-    }
+/// The bytes of a metric's own cells, or `CAP` where they are more.
+pub(crate) fn metric_cells_weight(metric: &Metric) -> u64
+    ensures { result ≡ min (cells_weight (metric_cells metric.now)) count_cap }
+{
+    sum_capped(&[
+        metric.name.len() as u64,
+        metric.description.len() as u64,
+        metric.unit.len() as u64,
+    ])
+}
+
+/// The bytes of an exemplar's own cells, or `CAP` where they are more.
+pub fn exemplar_cells_weight(exemplar: &Exemplar) -> u64
+    ensures { result ≡ min (cells_weight (exemplar_cells exemplar.now)) count_cap }
+{
+    sum_capped(&[
+        exemplar.span_id.len() as u64,
+        exemplar.trace_id.len() as u64,
+    ])
 }
 
 /// The number of a shape.

@@ -62,10 +62,6 @@ impl RowWriter for SpanWriter {
             number_cell(span.flags),
         ])
     }
-
-    fn weight(&self, span: &Span) -> u64 {
-        span_weight(span)
-    }
 }
 
 /// Writes the rows of events.
@@ -111,10 +107,6 @@ impl PartWriter for EventWriter {
             text_cell(&event.name),
             number_cell(event.dropped),
         ])
-    }
-
-    fn weight(&self, event: &Event) -> u64 {
-        event_weight(event)
     }
 }
 
@@ -163,10 +155,6 @@ impl PartWriter for LinkWriter {
             number_cell(link.dropped),
             number_cell(link.flags),
         ])
-    }
-
-    fn weight(&self, link: &Link) -> u64 {
-        link_weight(link)
     }
 }
 
