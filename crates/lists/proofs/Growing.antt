@@ -66,15 +66,26 @@ module _ {A B : Type 0} (R : List A → List B → A → B → Type 0) where
 -- ---- one list
 
 module _ {A : Type 0} (P : List A → A → Type 0) where
+  -- one more element, which is allowed after all that came before
   pub all_after-push : (past xs : List A) (x : A) → AllAfter P past xs → P (past ++ xs) x → AllAfter P past (xs ++ x ∷ [])
-  all_after-push past xs x all here = each_after-push (λ before same y again. P before y) past past xs xs x x all here
+  all_after-push past [] x all here = (rw (← append-nil past) here, tt)
+  all_after-push past (y ∷ xs) x all here = (all.0, all_after-push (past ++ y ∷ []) xs x all.1 (rw (append_assoc past (y ∷ []) xs) here))
 
+  -- more elements, each of which is allowed after all that came before
   pub all_after-append : (past xs us : List A) → AllAfter P past xs → AllAfter P (past ++ xs) us → AllAfter P past (xs ++ us)
-  all_after-append past xs us all more = each_after-append (λ before same y again. P before y) past past xs us xs us all more
+  all_after-append past [] us all more = rw (← append-nil past) more
+  all_after-append past (x ∷ xs) us all more = (all.0, all_after-append (past ++ x ∷ []) xs us all.1 (rw (append_assoc past (x ∷ []) xs) more))
 
+  -- what holds at the start, and is kept by each step that is allowed, holds at the end
+  pub all_after-keeps : (I : List A → Type 0) → ((xs : List A) (x : A) → I xs → P xs x → I (xs ++ x ∷ [])) → (past xs : List A) → I past → AllAfter P past xs → I (past ++ xs)
+  all_after-keeps I step past [] start all = rw (append-nil past) start
+  all_after-keeps I step past (x ∷ xs) start all =
+      rw (← append_assoc past (x ∷ []) xs) (all_after-keeps I step (past ++ x ∷ []) xs (step past x start all.0) all.1)
+
+  -- what is allowed by one relation is allowed by a weaker one
   pub all_after-weaker : (Q : List A → A → Type 0) → ((before : List A) (x : A) → P before x → Q before x) → (past xs : List A) → AllAfter P past xs → AllAfter Q past xs
-  all_after-weaker Q weaker past xs all =
-      each_after-weaker (λ before same y again. P before y) (λ before same y again. Q before y) (λ before same y again h. weaker before y h) past past xs xs all
+  all_after-weaker Q weaker past [] all = tt
+  all_after-weaker Q weaker past (x ∷ xs) all = (weaker past x all.0, all_after-weaker Q weaker (past ++ x ∷ []) xs all.1)
 
   -- what holds of each holds of one of them
   pub all_after-at : (past front rest : List A) (x : A) → AllAfter P past (front ++ x ∷ rest) → P (past ++ front) x

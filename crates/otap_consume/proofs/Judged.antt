@@ -6,7 +6,7 @@ use Rattle.std.specs.Ordering.{int_eq}
 use Rattle.std.proofs.lemmas.Bool.{cases_Bool, cases_lt}
 use Rattle.std.proofs.lemmas.Bool.Decides.{Decides-int_eq}
 use Rattle.lists.specs.EachAfter.{AllAfter}
-use Rattle.lists.proofs.Growing.{each_after-keeps, all_after-push}
+use Rattle.lists.proofs.Growing.{all_after-keeps, all_after-push}
 use Rattle.lists.specs.Payloads.{PayloadIn}
 use Rattle.otlp_model.specs.Limits.{item_limit}
 use Rattle.otlp_model.specs.declared.request.Signal.{Signal}
@@ -77,8 +77,7 @@ none_yet type = inl refl
 
 can_go_on : (signal : Signal) (past : List PayloadIn) → AreTaken signal past → (type : ℤ) → CanGoOn (stream_of type past)
 can_go_on signal past taken =
-    each_after-keeps (λ before same p again. IsTakenAfter signal before p) (λ before same. (type : ℤ) → CanGoOn (stream_of type before))
-    (λ before same p again can t. all_go_on signal before p can t) [] [] past past none_yet taken
+    all_after-keeps (IsTakenAfter signal) (λ before. (type : ℤ) → CanGoOn (stream_of type before)) (λ before p can t. all_go_on signal before p can t) [] past none_yet taken
 
 can_come : (before : List PayloadIn) (p : PayloadIn) → CanGoOn (stream_of p.kind before) → CanGoOn (messages_before before p)
 can_come before p can = by_test (opens before p) refl
