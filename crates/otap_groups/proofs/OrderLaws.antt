@@ -5,8 +5,9 @@ use Rattle.std.specs.List.Sorted.{IsPermutation}
 use Rattle.std.proofs.lemmas.Bool.{cases_Bool}
 use Rattle.std.proofs.lemmas.List.Sums.{sum_by-cons}
 use Rattle.std.proofs.lemmas.List.Sorted.{sum_by-IsPermutation}
-use Rattle.otlp_model.specs.Equal.{pair_is}
-use Rattle.otlp_model.specs.Same.{SameOften, occurrences}
+use Rattle.otlp_model.specs.Equal.{pair_is, occurrences}
+use Rattle.otlp_model.specs.Same.{SameOften}
+use Rattle.otlp_model.proofs.Often.{same_often_from}
 use Rattle.otlp_model.specs.declared.value.Pair.{Pair}
 use Rattle.otap_cells.specs.Cells.{Cell}
 use Rattle.otap_groups.specs.Rows.{ChildRow, is_child_of}
@@ -34,5 +35,6 @@ module _ (item : Option ℕ → List Cell → Pair) (parent : ℕ) (pair : Pair)
 
 pub reordered : (item : Option ℕ → List Cell → Pair) (xs ys : List ChildRow) → IsPermutation xs ys → (parent : Option ℕ)
     → SameOften (children item xs parent) (children item ys parent)
-reordered item xs ys moved None = record { each = λ pair. refl }
-reordered item xs ys moved (Some parent) = record { each = λ pair. counted_alike item parent pair xs ys moved }
+reordered item xs ys moved None = same_often_from (children item xs None) (children item ys None) (λ pair. refl)
+reordered item xs ys moved (Some parent) =
+    same_often_from (children item xs (Some parent)) (children item ys (Some parent)) (λ pair. counted_alike item parent pair xs ys moved)

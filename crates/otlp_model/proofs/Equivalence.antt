@@ -1,6 +1,7 @@
 -- Denoting the same telemetry is an equivalence.
 use Rattle.std.proofs.Common.{List, [], ◌∷◌, refl, sym, ◌∙◌, ap}
 use Rattle.std.specs.List.{AllZip}
+use Rattle.std.proofs.lemmas.List.Sorted.{IsPermutation-refl, IsPermutation-sym, IsPermutation-trans}
 use Rattle.otlp_model.specs.Telemetry.{Item, span, log_record, metric, telemetry}
 use Rattle.otlp_model.specs.Same.{SameOften, SameEvent, SameLink, SameSpan, SameLogRecord, SameExemplar, SamePoint, SameHistPoint, SameSumPoint, SameShape, SameMetric, SameResource, SameScope, SameItem, SameEntry, Same}
 use Rattle.otlp_model.specs.declared.groups.Resource.{Resource}
@@ -46,10 +47,11 @@ module _ {A : Type 0} (R : A → A → Type 0) (e : IsEquivalence R) where
   zipped = record { itself = zipped_itself; turned = zipped_turned; joined = zipped_joined }
 
 often : IsEquivalence SameOften
+unfolding SameOften
 often = record {
-  itself = λ xs. record { each = λ p. refl };
-  turned = λ xs ys h. record { each = λ p. sym (h.each p) };
-  joined = λ xs ys zs h k. record { each = λ p. h.each p ∙ k.each p };
+  itself = IsPermutation-refl;
+  turned = IsPermutation-sym;
+  joined = IsPermutation-trans;
 }
 
 event : IsEquivalence SameEvent

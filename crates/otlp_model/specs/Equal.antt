@@ -1,5 +1,5 @@
--- Whether two pairs are the same pair, as a test.
-use Rattle.std.specs.Prelude.{◌==◌, ◌&&◌, Bool, true, false}
+-- Whether two pairs are the same pair, as a test, and how often a pair occurs.
+use Rattle.std.specs.Prelude.{◌==◌, ◌&&◌, ℕ, Bool, true, false, List, count_by}
 use base.Stored.{Gv, gnil, gnum, gcons}
 use Rattle.otlp_model.specs.declared.value.Pair.{Pair}
 use Rattle.otlp_model.specs.contracts.value.Pair as contract
@@ -13,3 +13,7 @@ code_is _ _ = false
 
 unfoldable pub pair_is : Pair → Pair → Bool
 pair_is p q = code_is (contract.the_row.coded.code p) (contract.the_row.coded.code q)
+
+-- how often the pair occurs
+unfoldable pub occurrences : Pair → List Pair → ℕ
+occurrences pair pairs = count_by (pair_is pair) pairs

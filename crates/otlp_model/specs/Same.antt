@@ -1,7 +1,6 @@
 -- Which requests tell the same.
-use Rattle.std.specs.Prelude.{◌≡◌, ℕ, List, count_by}
+use Rattle.std.specs.Prelude.{◌≡◌, List, IsPermutation}
 use Rattle.std.specs.List.{AllZip}
-use Rattle.otlp_model.specs.Equal.{pair_is}
 use Rattle.otlp_model.specs.Telemetry.{ItemEntry, Item, span, log_record, metric, telemetry}
 use Rattle.otlp_model.specs.declared.value.Pair.{Pair}
 use Rattle.otlp_model.specs.declared.groups.Resource.{Resource}
@@ -19,13 +18,9 @@ use Rattle.otlp_model.specs.declared.histograms.SumPoint.{SumPoint}
 use Rattle.otlp_model.specs.declared.metrics.Exemplar.{Exemplar}
 use Rattle.otlp_model.specs.declared.request.Request.{Request}
 
--- how often the pair occurs
-unfoldable pub occurrences : Pair → List Pair → ℕ
-occurrences pair pairs = count_by (pair_is pair) pairs
-
--- each pair occurs equally often
-pub record SameOften (xs ys : List Pair) : Type 0 where
-  pub each : (pair : Pair) → occurrences pair xs ≡ occurrences pair ys
+-- each pair occurs equally often: the one list is the other in some order
+unfoldable pub SameOften : List Pair → List Pair → Type 0
+SameOften xs ys = IsPermutation xs ys
 
 -- equal but for the order of their pairs
 pub record SameEvent (a b : Event) : Type 0 where

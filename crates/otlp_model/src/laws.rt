@@ -1,7 +1,7 @@
 //! What the definitions mean, as functions that do nothing: each ensures a law for all requests.
 
-ghost use Rattle.std.specs.Prelude.{◌≡◌, ◌≢◌, ◌↔◌, [], List, IsTrue, IsPermutation};
-ghost use Rattle.otlp_model.specs.Equal.{pair_is};
+ghost use Rattle.std.specs.Prelude.{◌≡◌, ◌≢◌, ◌↔◌, [], List, IsTrue};
+ghost use Rattle.otlp_model.specs.Equal.{pair_is, occurrences};
 ghost use Rattle.otlp_model.specs.declared.limits.TheConstants.{MAX_ITEMS, MAX_TREE_WEIGHT, MAX_DEPTH, CAP};
 ghost use Rattle.otlp_model.specs.Limits.{item_limit, weight_limit, depth_limit, count_cap};
 ghost use Rattle.otlp_model.specs.Same.{Same, SameOften};
@@ -35,9 +35,10 @@ pub fn signals_differ()
     ensures { (p q : Request) → signal_of p ≢ signal_of q → Same p q ↔ ((telemetry p ≡ []) × (telemetry q ≡ [])) }
 {}
 
-/// The order of a list of attributes doesn't count.
+/// Only the order of a list of attributes doesn't count: two lists tell the same exactly where each pair occurs in both
+/// equally often.
 pub fn order_does_not_count()
-    ensures { (xs ys : List Pair) → IsPermutation xs ys → SameOften xs ys }
+    ensures { (xs ys : List Pair) → SameOften xs ys ↔ ((pair : Pair) → occurrences pair xs ≡ occurrences pair ys) }
 {}
 
 /// The test that pairs are counted by tells exactly the equal ones.

@@ -1,8 +1,8 @@
 ghost use Rattle.std.specs.Prelude.{◌≡◌, ◌↔◌, ◌≤◌, IsTrue, length, take};
 ghost use Rattle.std.specs.List.{AllZip};
 ghost use Rattle.otlp_model.specs.Each.{Each};
-ghost use Rattle.otlp_model.specs.Equal.{pair_is};
-ghost use Rattle.otlp_model.specs.Same.{occurrences, SameOften};
+ghost use Rattle.otlp_model.specs.Equal.{pair_is, occurrences};
+ghost use Rattle.otlp_model.specs.Same.{SameOften};
 
 use crate::value::{Pair, Value};
 
@@ -94,7 +94,7 @@ fn is_pair(a: &Pair, b: &Pair) -> bool
 }
 
 /// How often the pair occurs.
-#[tactic(auto, unfolding(crate::specs::Same::occurrences))]
+#[tactic(auto, unfolding(crate::specs::Equal::occurrences))]
 fn count(wanted: &Pair, pairs: &[Pair]) -> usize
     ensures { result ≡ occurrences wanted.now pairs.now }
 {
