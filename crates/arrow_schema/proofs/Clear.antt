@@ -295,8 +295,12 @@ no_unsupported t name kind dict children encoding tables c has say fits (defects
 no_unsupported t name kind dict children encoding tables c has say fits (defects.UnsupportedField.other_count v k slot other) =
     let one = one_counts children (list_fits t kind children c.has_kind k fits) in
     other (omega (arith, say.long, one, counted children_slot t tables v has slot))
-no_unsupported t name kind dict children encoding tables c has say fits (defects.UnsupportedField.other_child u k child bad) =
-    let one = one_child t u children tables has say (list_fits t kind children c.has_kind k fits) child in
+
+-- nor does a list have another child
+pub no_other_child : (t u : TableIn) (kind : ArrowType) (children : List FieldSpec) (tables : List TableIn) → kind_slot t ≡ Ok (type_number kind) → HasTables children_slot t tables
+    → SayFields tables children → fits_children kind children ≡ true → kind_slot t ≡ Ok 12 → IsChild children_slot t u → UnsupportedElement u → ⊥
+no_other_child t u kind children tables has_kind has say fits list child bad =
+    let one = one_child t u children tables has say (list_fits t kind children has_kind list fits) child in
     let both = and_parts (is_element_type (kind_in one.0)) (has_none (dict_in one.0)) one.1.fits in
     no_bad_element u one.0 one.1.says_it both.0 both.1 bad
 

@@ -23,7 +23,7 @@ use Rattle.arrow_schema.specs.Defects as defects
 use Rattle.arrow_schema.proofs.Elements.{inside, same_vector, no_vector_fault, one_of}
 use Rattle.arrow_schema.proofs.Folds.{count_in_is, uses_in_is}
 use Rattle.arrow_schema.proofs.FieldParts.{OwnDefect, faulty, unsupported, no_text, type_says}
-use Rattle.arrow_schema.proofs.Clear.{IsClear, no_own_defect}
+use Rattle.arrow_schema.proofs.Clear.{IsClear, no_other_child, no_own_defect}
 use Rattle.arrow_schema.proofs.Found.{schema_found}
 use Rattle.arrow_schema.proofs.Only.{Tests, tests_of}
 use Rattle.arrow_schema.proofs.Lists.{names_once, IsIn, in_left, in_right, use_in, uses_alike}
@@ -73,7 +73,7 @@ inner_of _ _ (says t f tables n k numbers d e has long each) =
 
 reached : (schema : TableIn) (fields : List FieldSpec) (depth : ℕ) (t : TableIn) → SaysSchema schema fields → IsReadable fields → IsField schema depth t → Reached fields depth t
 reached schema fields _ _ s r (defects.IsField.own t c) = child_reached fields fields 0 fields_slot max_depth schema t s.tables s.has s.say r.each (omega arith) (λ u h. h) c
-reached schema fields _ _ s r (defects.IsField.inner depth parent t f c) =
+reached schema fields _ _ s r (defects.IsField.inner depth parent t low f c) =
     let p = reached schema fields depth parent s r f in
     let i = inner_of parent p.f p.says_it in
     let test = tests_of p.inner p.f p.readable in
@@ -161,7 +161,10 @@ no_flat : (schema : TableIn) (fields : List FieldSpec) (f : FlatFault) → SaysS
 no_flat schema fields f s r (defects.HasFlatFault.in_order at) = cc (s.order, at)
 no_flat schema fields f s r (defects.HasFlatFault.in_vector depth slot t parent fault) =
     let o = own_of schema fields depth slot t s r parent in
-    no_vector_fault f slot t o.tables o.has fault
+    no_vector_fault f slot t o.tables o.has (defects.VectorFault.of_vector fault)
+no_flat schema fields f s r (defects.HasFlatFault.in_element depth slot t v place parent low at fault) =
+    let o = own_of schema fields depth slot t s r parent in
+    no_vector_fault f slot t o.tables o.has (defects.VectorFault.of_element v place at fault)
 no_flat schema fields f s r (defects.HasFlatFault.in_field depth t field fault) = none_own fields depth t (Flat f) (reached schema fields depth t s r field) (faulty f fault)
 
 no_unsupported : (schema : TableIn) (fields : List FieldSpec) → SaysSchema schema fields → IsReadable fields → IsUnsupported schema → ⊥
@@ -169,6 +172,11 @@ no_unsupported schema fields s r (defects.IsUnsupported.other_order n at big) =
     let same : pos 0 ≡ n = cc (s.order, at) in
     cc (subst (λ (z : ℤ). is_number 0 z ≡ false) (sym same) big)
 no_unsupported schema fields s r (defects.IsUnsupported.unsupported depth t field h) = none_own fields depth t Unsupported (reached schema fields depth t s r field) (unsupported h)
+no_unsupported schema fields s r (defects.IsUnsupported.other_child depth t u field low list child bad) =
+    let p = reached schema fields depth t s r field in
+    let i = inner_of t p.f p.says_it in
+    let test = tests_of p.inner p.f p.readable in
+    no_other_child t u (kind_in p.f) (children_in p.f) i.tables i.kind i.has i.say test.fits list child bad
 
 no_deep : (schema : TableIn) (fields : List FieldSpec) → SaysSchema schema fields → IsReadable fields → IsTooDeep schema → ⊥
 unfolding are_readable
@@ -208,7 +216,7 @@ not_twice (f ∷ own) tables v i j t u name level say e readable lt i_in j_in i_
 
 no_name : (schema : TableIn) (fields : List FieldSpec) → SaysSchema schema fields → IsReadable fields → HasBadName schema → ⊥
 no_name schema fields s r (defects.HasBadName.no_text depth t name field at fails) = none_own fields depth t BadName (reached schema fields depth t s r field) (no_text name at fails)
-no_name schema fields s r (defects.HasBadName.twice depth slot parent v i j t u name p has lt i_at j_at i_name j_name) =
+no_name schema fields s r (defects.HasBadName.twice depth slot parent v i j t u name p low has lt i_at j_at i_name j_name) =
     let o = own_of schema fields depth slot parent s r p in
     let e = same_vector slot parent v o.tables o.has has in
     let j_in : j < length o.tables = omega (arith, inside v j u j_at, e.count) in
@@ -243,7 +251,7 @@ no_two_types schema fields s r d =
 pub no_defect : (schema : TableIn) (fields : List FieldSpec) (e : SchemaRefusal) → SaysSchema schema fields → IsReadable fields → HasDefect schema e → ⊥
 no_defect schema fields (Flat f) s r d = no_flat schema fields f s r d
 no_defect schema fields Unsupported s r d = no_unsupported schema fields s r d
-no_defect schema fields TooManyFields s r d = omega (arith, below_schema d.depth schema fields s, d.many, r.count)
+no_defect schema fields TooManyFields s r d = omega (arith, below_schema (max_depth + 1) schema fields s, d, r.count)
 no_defect schema fields TooDeep s r d = no_deep schema fields s r d
 no_defect schema fields BadName s r d = no_name schema fields s r d
 no_defect schema fields DictionaryTypes s r d = no_two_types schema fields s r d

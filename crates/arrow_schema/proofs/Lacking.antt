@@ -1,5 +1,5 @@
 -- Children that a field of its type may not have.
-use Rattle.std.specs.Prelude.{◌≡◌, ℕ, ◌<◌, ◌&&◌, ◌||◌, true, false, List, [], ◌∷◌, length, slice_index_or, Ok, Option, None, Some, pos}
+use Rattle.std.specs.Prelude.{◌≡◌, ◌⊎◌, ℕ, zero, suc, ◌<◌, ◌&&◌, ◌||◌, true, false, List, [], ◌∷◌, length, slice_index_or, Ok, Option, None, Some, pos}
 use Rattle.std.proofs.Common.{refl, sym, ap, ◌∙◌, inl, inr, eqb, arith}
 use Rattle.std.proofs.lemmas.Bool.{cases_Bool}
 use Rattle.std.proofs.Math.Bool.{or-true}
@@ -13,8 +13,8 @@ use Rattle.arrow_schema.specs.Types.{type_number, is_struct, is_list, is_element
 use Rattle.arrow_schema.specs.Slots.{kind_slot, children_slot}
 use Rattle.arrow_schema.specs.Trees.{kind_in, dict_in}
 use Rattle.arrow_schema.specs.Says.{SaysNumbers, SaysDictionary, SaysField, says}
-use Rattle.arrow_schema.specs.Readable.{has_none, is_element, is_one_element, no_fields, fits_children}
-use Rattle.arrow_schema.specs.Defects.{UnsupportedElement, other_element, narrow_element, signed_element, with_dictionary, UnsupportedField, with_children, no_child, other_count, other_child}
+use Rattle.arrow_schema.specs.Readable.{are_readable, has_none, is_element, is_one_element, no_fields, fits_children}
+use Rattle.arrow_schema.specs.Defects.{UnsupportedElement, other_element, narrow_element, signed_element, with_dictionary, UnsupportedField, with_children, no_child, other_count, IsChild}
 use Rattle.arrow_schema.proofs.Found.{SlotSays}
 
 no_struct_number : (kind : ArrowType) → is_struct kind ≡ false → type_number kind ≡ 13 → ⊥
@@ -55,22 +55,40 @@ no_element _ _ (says u g tables n k numbers d e has long each) h = elim (cases_B
   | inl element ↦ has_dictionary u (dict_in g) d (rw element at h)
 ]
 
+-- a list has a child that it can't have, which was read
+pub record HasOtherChild (t : TableIn) (depth : ℕ) : Type 0 where
+  pub list : kind_slot t ≡ Ok 12
+  pub u : TableIn
+  pub child : IsChild children_slot t u
+  pub bad : UnsupportedElement u
+  pub deep : 0 < depth
+
+some_depth : (depth : ℕ) (g : FieldSpec) → are_readable depth (g ∷ []) ≡ true → 0 < depth
+unfolding are_readable
+some_depth zero g h = cc (h)
+some_depth (suc depth) g h = omega arith
+
 lacks_one : (t : TableIn) (children : List FieldSpec) (depth left rest : ℕ) → kind_slot t ≡ Ok 12 → is_one_element children ≡ false
-    → SlotSays depth children_slot left t children rest → UnsupportedField t
+    → SlotSays depth children_slot left t children rest → UnsupportedField t ⊎ HasOtherChild t depth
 lacks_one t [] depth left rest read fits s = elim s.has [
-  | inl empty ↦ no_child read empty.0
-  | inr h ↦ other_count h.0 read h.1 (λ one. omega (arith, one, h.2.count, s.say.long))
+  | inl empty ↦ inl (no_child read empty.0)
+  | inr h ↦ inl (other_count h.0 read h.1 (λ one. omega (arith, one, h.2.count, s.say.long)))
 ]
 lacks_one t (g ∷ []) depth left rest read fits s = elim s.has [
   | inl empty ↦ absurd (omega (arith, s.say.long, ap length empty.1))
   | inr h ↦
       let inside : 0 < length s.tables = omega (arith, s.say.long) in
-      other_child (slice_index_or s.tables 0 t) read (record { vector = h.0; has = h.1; place = 0; at = h.2.each 0 t inside })
-      (no_element (slice_index_or s.tables 0 t) g (s.say.each 0 t g inside) fits)
+      inr (record {
+        list = read;
+        u = slice_index_or s.tables 0 t;
+        child = record { vector = h.0; has = h.1; place = 0; at = h.2.each 0 t inside };
+        bad = no_element (slice_index_or s.tables 0 t) g (s.say.each 0 t g inside) fits;
+        deep = some_depth depth g s.readable;
+      })
 ]
 lacks_one t (g ∷ h ∷ fields) depth left rest read fits s = elim s.has [
   | inl empty ↦ absurd (omega (arith, s.say.long, ap length empty.1))
-  | inr v ↦ other_count v.0 read v.1 (λ one. omega (arith, one, v.2.count, s.say.long))
+  | inr v ↦ inl (other_count v.0 read v.1 (λ one. omega (arith, one, v.2.count, s.say.long)))
 ]
 
 with_others : (t : TableIn) (kind : ArrowType) (children : List FieldSpec) (depth left rest : ℕ) → kind_slot t ≡ Ok (type_number kind) → is_list kind ≡ false
@@ -83,8 +101,8 @@ with_others t kind (g ∷ fields) depth left rest read listless fits s = elim s.
 ]
 
 pub lacks_children : (t : TableIn) (kind : ArrowType) (children : List FieldSpec) (depth left rest : ℕ) → kind_slot t ≡ Ok (type_number kind) → fits_children kind children ≡ false
-    → SlotSays depth children_slot left t children rest → UnsupportedField t
+    → SlotSays depth children_slot left t children rest → UnsupportedField t ⊎ HasOtherChild t depth
 lacks_children t kind children depth left rest read fits s = elim (cases_Bool (is_list kind)) [
   | inl list ↦ lacks_one t children depth left rest (read ∙ ap Ok (list_number kind list)) (rw list at fits) s
-  | inr listless ↦ with_others t kind children depth left rest read listless (rw listless at fits) s
+  | inr listless ↦ inl (with_others t kind children depth left rest read listless (rw listless at fits) s)
 ]

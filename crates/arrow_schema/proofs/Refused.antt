@@ -18,14 +18,14 @@ use Rattle.arrow_schema.specs.Readable.{fits_children}
 use Rattle.arrow_schema.specs.Reading.{flat, name_of, type_of, dict_spec_of, encoding_of, FieldsRead, in_slot, slot_of, field_of, of_element, fields_from, with_own_names, vector_of, with_agreeing_uses, schema_of}
 use Rattle.arrow_schema.specs.Defects.{IsChild, IsField, IsParent, FieldFault, VectorFault, HasFlatFault}
 use Rattle.arrow_schema.specs.Defects.{IsUnsupported}
-use Rattle.arrow_schema.specs.Defects.{IsTooDeep, HasBadName, HasDefect, of_vector_in, of_table_in, below_elements, fields_below}
+use Rattle.arrow_schema.specs.Defects.{UnsupportedField, IsUnsupported, IsTooDeep, HasBadName, HasDefect, of_vector_in, of_table_in, below_elements, fields_below}
 use Rattle.arrow_schema.specs.Defects as defects
 use Rattle.arrow_schema.proofs.Steps.{bind_ok, bind_err, flat_ok, flat_err, supported_ok, supported_err}
 use Rattle.arrow_schema.proofs.FieldParts.{OwnDefect, faulty, unsupported, no_text, name_refused, type_reads, type_refused}
 use Rattle.arrow_schema.proofs.DictionaryParts.{dictionary_refused}
 use Rattle.arrow_schema.proofs.Elements.{element_there}
 use Rattle.arrow_schema.proofs.Metadata.{encoding_refused}
-use Rattle.arrow_schema.proofs.Lacking.{lacks_children}
+use Rattle.arrow_schema.proofs.Lacking.{HasOtherChild, lacks_children}
 use Rattle.arrow_schema.proofs.UsesStand.{two_types}
 use Rattle.arrow_schema.proofs.Found.{ElementsSay, slot_says, elements_say, vector_says}
 use Rattle.arrow_schema.proofs.Lists.{Twice, names_twice, uses_disagree}
@@ -144,9 +144,9 @@ own_stands schema depth t _ f (unsupported h) = defects.IsUnsupported.unsupporte
 own_stands schema depth t _ f (no_text name read fails) = defects.HasBadName.no_text depth t name f read fails
 
 -- a child is a field, one deeper
-pub child_is : (schema : TableIn) (depth slot : ℕ) (parent t : TableIn) → IsParent schema depth slot parent → IsChild slot parent t → IsField schema (suc depth) t
-child_is schema _ _ _ t defects.IsParent.root c = defects.IsField.own t c
-child_is schema _ _ _ t (defects.IsParent.field depth parent f) c = defects.IsField.inner depth parent t f c
+pub child_is : (schema : TableIn) (depth slot : ℕ) (parent t : TableIn) → IsParent schema depth slot parent → depth < max_depth → IsChild slot parent t → IsField schema (suc depth) t
+child_is schema _ _ _ t defects.IsParent.root low c = defects.IsField.own t c
+child_is schema _ _ _ t (defects.IsParent.field depth parent f) low c = defects.IsField.inner depth parent t low f c
 
 -- what is below the root is a field
 field_is : (schema : TableIn) (depth slot : ℕ) (t : TableIn) → IsParent schema depth slot t → 0 < depth → (slot ≡ children_slot) × IsField schema depth t
@@ -163,7 +163,7 @@ unfolding slot_of fields_below
 slot_refused rest refuse schema depth slot left t e parent deep h = elim (bind_err (flat (vector_slot 4 t slot)) (in_slot (vector_of rest) left) e h) [
   | inl fault ↦
       let f = flat_err (vector_slot 4 t slot) e fault in
-      subst (Refused schema left _) (sym f.2) (stands (Flat f.0) (defects.HasFlatFault.in_vector depth slot t parent (defects.VectorFault.of_vector f.1)))
+      subst (Refused schema left _) (sym f.2) (stands (Flat f.0) (defects.HasFlatFault.in_vector depth slot t parent f.1))
   | inr b ↦ from_found b.0 (flat_ok (vector_slot 4 t slot) b.0 b.1) b.2
 ]
   where
@@ -171,6 +171,11 @@ slot_refused rest refuse schema depth slot left t e parent deep h = elim (bind_e
         → Refused schema left (of_vector_in (below_vector rest) (vector_slot 4 t slot)) e
     from_found None at g = cc (g)
     from_found (Some v) at g = rw at (refuse schema depth slot left t v e parent deep at g)
+
+-- what a field lacks is a defect of the schema
+lacking : (schema : TableIn) (depth : ℕ) (t : TableIn) (rest : ℕ) → IsField schema depth t → depth + rest ≡ max_depth → UnsupportedField t ⊎ HasOtherChild t rest → IsUnsupported schema
+lacking schema depth t rest f deep (inl own) = defects.IsUnsupported.unsupported depth t f own
+lacking schema depth t rest f deep (inr o) = defects.IsUnsupported.other_child depth t o.u f (omega (arith, deep, o.deep)) o.list o.child o.bad
 
 field_refused : (rest : ℕ) → VectorsRefuse rest → (schema : TableIn) (depth left : ℕ) (t : TableIn) (e : SchemaRefusal) → IsField schema depth t → depth + rest ≡ max_depth
     → field_of (vector_of rest) left t ≡ Err e → Refused schema left (fields_below (suc rest) children_slot t) e
@@ -194,7 +199,7 @@ field_refused rest refuse schema depth left t e f deep h = elim (bind_err (name_
                   let s = supported_err (fits_children k.0 c.0.0) (field_with n.0 k.0 d.0 m.0 c.0.0, c.0.1) e c.2 in
                   let says_it = slot_says rest (vector_says rest) children_slot left t c.0.0 c.0.1 c.1 in
                   subst (Refused schema left _) (sym s.1)
-                  (stands Unsupported (defects.IsUnsupported.unsupported depth t f (lacks_children t k.0 c.0.0 rest left c.0.1 kind.0 s.0 says_it)))
+                  (stands Unsupported (lacking schema depth t rest f deep (lacks_children t k.0 c.0.0 rest left c.0.1 kind.0 s.0 says_it)))
             ]
           ]
         ]
@@ -209,7 +214,7 @@ elements_refused rest refuse schema depth slot t v place zero left e parent deep
 elements_refused rest refuse schema depth slot t v place (suc n) left e parent deep has h = elim (bind_err (flat (element_table v place)) _ e h) [
   | inl fault ↦
       let f = flat_err (element_table v place) e fault in
-      subst (Refused schema left _) (sym f.2) (stands (Flat f.0) (defects.HasFlatFault.in_vector depth slot t parent (defects.VectorFault.of_element v place has f.1)))
+      subst (Refused schema left _) (sym f.2) (stands (Flat f.0) (defects.HasFlatFault.in_element depth slot t v place parent (omega (arith, deep)) has f.1))
   | inr b ↦ from_found b.0 (λ between g. elements_refused rest refuse schema depth slot t v (place + 1) n between e parent deep has g) (flat_ok (element_table v place) b.0 b.1) b.2
 ]
   where
@@ -220,7 +225,7 @@ elements_refused rest refuse schema depth slot t v place (suc n) left e parent d
         → Refused schema left (of_table_in (fields_below (suc rest) children_slot) (element_table v place) + below_elements (fields_below (suc rest) children_slot) v (place + 1) n) e
     from_found None others at g = cc (g)
     from_found (Some u) others at g =
-        let f = child_is schema depth slot t u parent (record { vector = v; has = has; place = place; at = at }) in
+        let f = child_is schema depth slot t u parent (omega (arith, deep)) (record { vector = v; has = has; place = place; at = at }) in
         rw at (elim (bind_err (field_of (vector_of rest) left u) _ e g) [
           | inl fails ↦ refused_more schema left (fields_below (suc rest) children_slot u) _ e (omega arith) (field_refused rest refuse schema (suc depth) left u e f deep fails)
           | inr b ↦ elim (bind_err (fields_from (field_of (vector_of rest)) v (place + 1) n b.0.1) _ e b.2) [
@@ -234,10 +239,10 @@ name_said : (t : TableIn) (f : FieldSpec) → SaysField t f → name_slot t ≡ 
 name_said _ _ (says t f tables n k numbers d e has long each) = n
 
 -- two elements with one name
-names_stand : (schema : TableIn) (depth slot : ℕ) (parent : TableIn) (v : VectorIn) (fields : List FieldSpec) (inner left rest : ℕ) → IsParent schema depth slot parent
+names_stand : (schema : TableIn) (depth slot : ℕ) (parent : TableIn) (v : VectorIn) (fields : List FieldSpec) (inner left rest : ℕ) → IsParent schema depth slot parent → depth < max_depth
     → vector_slot 4 parent slot ≡ Ok (Some v) → ElementsSay inner left v 0 v.count fields rest → Twice fields → HasBadName schema
-names_stand schema depth slot parent v [] inner left rest p has s w = absurd (omega (arith, w.inside))
-names_stand schema depth slot parent v (f ∷ fields) inner left rest p has s w =
+names_stand schema depth slot parent v [] inner left rest p low has s w = absurd (omega (arith, w.inside))
+names_stand schema depth slot parent v (f ∷ fields) inner left rest p low has s w =
     let size : length (f ∷ fields) ≡ v.count = sym s.say.long ∙ s.size in
     let j_in : w.j < v.count = omega (arith, w.inside, size) in
     let i_in : w.i < v.count = omega (arith, w.before, j_in) in
@@ -246,7 +251,7 @@ names_stand schema depth slot parent v (f ∷ fields) inner left rest p has s w 
     let j_at : element_table v w.j ≡ Ok (Some (slice_index_or s.tables w.j d)) = ap (element_table v) (omega arith) ∙ s.at w.j d j_in in
     let i_name = name_said _ _ (s.say.each w.i d f (omega (arith, i_in, s.size))) in
     let j_name = name_said _ _ (s.say.each w.j d f (omega (arith, j_in, s.size))) in
-    defects.HasBadName.twice depth slot parent v w.i w.j (slice_index_or s.tables w.i d) (slice_index_or s.tables w.j d) (name_in (slice_index_or (f ∷ fields) w.i f)) p has w.before i_at j_at
+    defects.HasBadName.twice depth slot parent v w.i w.j (slice_index_or s.tables w.i d) (slice_index_or s.tables w.j d) (name_in (slice_index_or (f ∷ fields) w.i f)) p low has w.before i_at j_at
     i_name (j_name ∙ ap Ok (sym (w.same f)))
 
 deepest : (schema : TableIn) (depth slot : ℕ) (t : TableIn) (v : VectorIn) → IsParent schema depth slot t → depth + 0 ≡ max_depth → vector_slot 4 t slot ≡ Ok (Some v) → v.count ≢ 0 → IsTooDeep schema
@@ -288,7 +293,7 @@ vector_refused (suc rest) schema depth slot left t v e parent deep has h = elim 
         | inr g ↦
             let is : BadName ≡ e = cc (g.1) in
             let says_it = elements_say rest (vector_says rest) v 0 v.count (left - v.count) b.0.0 b.0.1 (omega arith) b.1 in
-            subst (Refused schema left _) is (stands BadName (names_stand schema depth slot t v b.0.0 rest (left - v.count) b.0.1 parent has says_it (names_twice b.0.0 g.0)))
+            subst (Refused schema left _) is (stands BadName (names_stand schema depth slot t v b.0.0 rest (left - v.count) b.0.1 parent (omega (arith, deep)) has says_it (names_twice b.0.0 g.0)))
       ]
     ]
   ]
@@ -297,7 +302,7 @@ vector_refused (suc rest) schema depth slot left t v e parent deep has h = elim 
 -- ---- the schema
 schema_defect : (schema : TableIn) (e : SchemaRefusal) → Refused schema max_fields (fields_below (suc max_depth) fields_slot schema) e → HasDefect schema e
 schema_defect schema _ (stands e d) = d
-schema_defect schema _ (too_many lt) = record { depth = suc max_depth; many = lt }
+schema_defect schema _ (too_many lt) = lt
 
 fields_refused : (schema : TableIn) (e : SchemaRefusal) → (slot_of (vector_of max_depth) fields_slot max_fields schema >>= with_agreeing_uses) ≡ Err e → HasDefect schema e
 fields_refused schema e h = elim (bind_err (slot_of (vector_of max_depth) fields_slot max_fields schema) with_agreeing_uses e h) [

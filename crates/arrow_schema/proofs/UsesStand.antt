@@ -1,5 +1,5 @@
 -- Uses of dictionaries stand at fields of the schema.
-use Rattle.std.specs.Prelude.{◌≡◌, ℕ, zero, suc, ◌<◌, true, List, [], ◌∷◌, length, slice_index_or, Ok, Option, None, Some, ℤ}
+use Rattle.std.specs.Prelude.{◌≡◌, ℕ, ◌+◌, zero, suc, ◌<◌, true, List, [], ◌∷◌, length, slice_index_or, Ok, Option, None, Some, ℤ}
 use Rattle.std.proofs.Common.{refl, sym, subst, inl, inr, arith}
 use Rattle.std.proofs.lemmas.Bool.{and_parts}
 use Rattle.lists.proofs.Every.{all_pass_at}
@@ -49,9 +49,9 @@ readable_at zero [] i d h lt = absurd (omega (arith, lt))
 readable_at zero (f ∷ fields) i d h lt = cc (h)
 readable_at (suc inner) fields i d h lt = (inner, refl, all_pass_at (is_readable (are_readable inner)) fields i d (and_parts (names_differ fields) _ h).1 lt)
 
-use_found : (schema : TableIn) (depth inner : ℕ) (t : TableIn) (f : FieldSpec) (u : Use) → SaysField t f → IsField schema depth t → is_readable (are_readable inner) f ≡ true → IsIn u (uses_in f)
-    → UseStands schema u
-use_found schema depth inner _ _ u (says t f tables n k numbers d e has long each) field readable h =
+use_found : (schema : TableIn) (depth inner : ℕ) (t : TableIn) (f : FieldSpec) (u : Use) → SaysField t f → IsField schema depth t → depth + inner ≡ max_depth → is_readable (are_readable inner) f ≡ true
+    → IsIn u (uses_in f) → UseStands schema u
+use_found schema depth inner _ _ u (says t f tables n k numbers d e has long each) field deep readable h =
     let test = tests_of inner f readable in
     elim (in_either u (use_of (kind_in f) (dict_in f)) (uses_of (children_in f)) (subst (IsIn u) (uses_in_is f) h)) [
       | inl own ↦ own_use schema depth t (kind_in f) (dict_in f) u field k numbers test.supported d own
@@ -60,7 +60,7 @@ use_found schema depth inner _ _ u (says t f tables n k numbers d e has long eac
           let deeper = readable_at inner (children_in f) r.0 f test.children r.1 in
           let in_tables : r.0 < length tables = omega (arith, r.1, long) in
           use_found schema (suc depth) deeper.0 _ _ u (each r.0 t f in_tables)
-          (defects.IsField.inner depth t _ field (parent_child children_slot t tables r.0 t has in_tables)) deeper.2 (r.2 f)
+          (defects.IsField.inner depth t _ (omega (arith, deep, deeper.1)) field (parent_child children_slot t tables r.0 t has in_tables)) (omega (arith, deep, deeper.1)) deeper.2 (r.2 f)
     ]
 
 use_of_schema : (schema : TableIn) (tables : List TableIn) (fields : List FieldSpec) (u : Use) → HasTables fields_slot schema tables → SayFields tables fields → are_readable max_depth fields ≡ true
@@ -70,7 +70,7 @@ use_of_schema schema tables (f ∷ fields) u has say readable h =
     let r = use_at u (f ∷ fields) h in
     let deeper = readable_at max_depth (f ∷ fields) r.0 f readable r.1 in
     let in_tables : r.0 < length tables = omega (arith, r.1, say.long) in
-    use_found schema 1 deeper.0 _ _ u (say.each r.0 schema f in_tables) (defects.IsField.own _ (parent_child fields_slot schema tables r.0 schema has in_tables)) deeper.2 (r.2 f)
+    use_found schema 1 deeper.0 _ _ u (say.each r.0 schema f in_tables) (defects.IsField.own _ (parent_child fields_slot schema tables r.0 schema has in_tables)) (omega (arith, deeper.1)) deeper.2 (r.2 f)
 
 pub two_types : (schema : TableIn) (tables : List TableIn) (fields : List FieldSpec) → HasTables fields_slot schema tables → SayFields tables fields → are_readable max_depth fields ≡ true
     → Disagree (uses_of fields) → HasTwoTypes schema

@@ -1,4 +1,5 @@
--- What can be wrong with the tables of a schema, each defect by itself.
+-- What can be wrong with the tables of a schema, each defect by itself. What is nested deeper than a schema may be is looked at no
+-- more: that there is any is a defect.
 use Rattle.std.specs.Prelude.{◌≡◌, ◌≢◌, ℕ, zero, suc, ◌+◌, ◌<◌, ◌==◌, ◌||◌, Bool, true, false, List, Result, Ok, Err, Option, None, Some, ℤ, IsUtf8}
 use Rattle.flat_tables.specs.declared.fault.FlatFault.{FlatFault}
 use Rattle.flat_tables.specs.Tables.{TableIn, VectorIn, vector_slot, element_table}
@@ -18,10 +19,10 @@ pub record IsChild (slot : ℕ) (parent t : TableIn) : Type 0 where
   pub place : ℕ
   pub at : element_table vector place ≡ Ok (Some t)
 
--- the table of a field, at its depth: the schema's own fields have depth 1
+-- the table of a field, at its depth: the schema's own fields have depth 1, and none is deeper than the limit
 pub data IsField (schema : TableIn) : ℕ → TableIn → Type 0 where
   own : (t : TableIn) → IsChild fields_slot schema t → IsField schema 1 t
-  inner : (depth : ℕ) (parent t : TableIn) → IsField schema depth parent → IsChild children_slot parent t → IsField schema (suc depth) t
+  inner : (depth : ℕ) (parent t : TableIn) → depth < max_depth → IsField schema depth parent → IsChild children_slot parent t → IsField schema (suc depth) t
 
 -- what has fields, and in which slot: the schema, at depth 0, and each field
 pub data IsParent (schema : TableIn) : ℕ → ℕ → TableIn → Type 0 where
@@ -66,7 +67,10 @@ pub data FieldFault (e : FlatFault) (t : TableIn) : Type 0 where
 
 pub data HasFlatFault (e : FlatFault) (schema : TableIn) : Type 0 where
   in_order : byte_order schema ≡ Err e → HasFlatFault e schema
-  in_vector : (depth slot : ℕ) (t : TableIn) → IsParent schema depth slot t → VectorFault e slot t → HasFlatFault e schema
+  in_vector : (depth slot : ℕ) (t : TableIn) → IsParent schema depth slot t → vector_slot 4 t slot ≡ Err e → HasFlatFault e schema
+  -- an element that isn't too deep
+  in_element : (depth slot : ℕ) (t : TableIn) (v : VectorIn) (place : ℕ) → IsParent schema depth slot t → depth < max_depth
+      → vector_slot 4 t slot ≡ Ok (Some v) → element_table v place ≡ Err e → HasFlatFault e schema
   in_field : (depth : ℕ) (t : TableIn) → IsField schema depth t → FieldFault e t → HasFlatFault e schema
 
 -- ---- what isn't supported
@@ -104,11 +108,13 @@ pub data UnsupportedField (t : TableIn) : Type 0 where
   -- a list has exactly one child
   no_child : kind_slot t ≡ Ok 12 → vector_slot 4 t children_slot ≡ Ok None → UnsupportedField t
   other_count : (v : VectorIn) → kind_slot t ≡ Ok 12 → vector_slot 4 t children_slot ≡ Ok (Some v) → v.count ≢ 1 → UnsupportedField t
-  other_child : (u : TableIn) → kind_slot t ≡ Ok 12 → IsChild children_slot t u → UnsupportedElement u → UnsupportedField t
 
 pub data IsUnsupported (schema : TableIn) : Type 0 where
   other_order : (n : ℤ) → byte_order schema ≡ Ok n → is_number 0 n ≡ false → IsUnsupported schema
   unsupported : (depth : ℕ) (t : TableIn) → IsField schema depth t → UnsupportedField t → IsUnsupported schema
+  -- the child of a list that isn't too deep
+  other_child : (depth : ℕ) (t u : TableIn) → IsField schema depth t → depth < max_depth → kind_slot t ≡ Ok 12 → IsChild children_slot t u
+      → UnsupportedElement u → IsUnsupported schema
 
 -- ---- too many and too deep
 
@@ -131,9 +137,9 @@ unfoldable pub fields_below : ℕ → ℕ → TableIn → ℕ
 fields_below zero slot t = 0
 fields_below (suc depth) slot t = of_vector_in (λ v. v.count + below_elements (fields_below depth children_slot) v 0 v.count) (vector_slot 4 t slot)
 
-pub record HasTooManyFields (schema : TableIn) : Type 0 where
-  pub depth : ℕ
-  pub many : max_fields < fields_below depth fields_slot schema
+-- the vectors of the schema and of its fields count, down to those of the deepest ones
+abbrev pub HasTooManyFields : TableIn → Type 0
+HasTooManyFields schema = max_fields < fields_below (max_depth + 1) fields_slot schema
 
 pub record IsTooDeep (schema : TableIn) : Type 0 where
   pub t : TableIn
@@ -146,7 +152,7 @@ pub record IsTooDeep (schema : TableIn) : Type 0 where
 
 pub data HasBadName (schema : TableIn) : Type 0 where
   no_text : (depth : ℕ) (t : TableIn) (name : List ℕ) → IsField schema depth t → name_slot t ≡ Ok name → (IsUtf8 name → ⊥) → HasBadName schema
-  twice : (depth slot : ℕ) (parent : TableIn) (v : VectorIn) (i j : ℕ) (t u : TableIn) (name : List ℕ) → IsParent schema depth slot parent
+  twice : (depth slot : ℕ) (parent : TableIn) (v : VectorIn) (i j : ℕ) (t u : TableIn) (name : List ℕ) → IsParent schema depth slot parent → depth < max_depth
       → vector_slot 4 parent slot ≡ Ok (Some v) → i < j → element_table v i ≡ Ok (Some t) → element_table v j ≡ Ok (Some u)
       → name_slot t ≡ Ok name → name_slot u ≡ Ok name → HasBadName schema
 
