@@ -1,5 +1,6 @@
 pub mod Checked
 pub mod Parts
+pub mod FaultsNamed
 pub mod Fits
 pub mod Finding
 pub mod Nested

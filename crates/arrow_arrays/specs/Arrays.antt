@@ -18,6 +18,7 @@ use Rattle.arrow_arrays.specs.declared.spec.Above.TheVariants as parent
 use Rattle.arrow_arrays.specs.declared.spec.ArraySpec.{ArraySpec}
 use Rattle.arrow_arrays.specs.Layouts.{layout_of, own_buffers, element_len, FitsLayout}
 use Rattle.arrow_arrays.specs.Cells.{array_check, own_cell}
+use Rattle.arrow_arrays.specs.Faults.{IsArrayFault}
 
 -- what a list is above holds the list's elements
 abbrev pub is_below_list : Above → Bool
@@ -103,18 +104,18 @@ path_within (suc depth) arrays place = path_to (path_within depth arrays) (slice
 abbrev pub path_of : List ArraySpec → ℕ → List (List ℕ)
 path_of arrays place = path_within max_depth arrays place
 
--- THE FIRST FAULT of arrays in a batch, depth first
+-- the first fault of arrays in a batch, depth first
 unfoldable pub arrays_check : BatchIn → List ArraySpec → Result (Unit {0}) BufferFault
 arrays_check batch [] = Ok tt
 arrays_check batch (a ∷ arrays) = result_and (array_check batch (array_place a)) (arrays_check batch arrays)
 
 -- one of the arrays has the fault
 abbrev pub HasFault : BatchIn → List ArraySpec → BufferFault → Type 0
-HasFault batch arrays fault = (place : ℕ) × (a : ArraySpec) × (slice_get arrays place ≡ Some a) × (array_check batch (array_place a) ≡ Err fault)
+HasFault batch arrays fault = (place : ℕ) × (a : ArraySpec) × (slice_get arrays place ≡ Some a) × IsArrayFault batch (array_place a) fault
 
 -- none of them has a fault
 abbrev pub HasNoFault : BatchIn → List ArraySpec → Type 0
-HasNoFault batch arrays = (place : ℕ) (a : ArraySpec) → slice_get arrays place ≡ Some a → array_check batch (array_place a) ≡ Ok tt
+HasNoFault batch arrays = (fault : BufferFault) → HasFault batch arrays fault → ⊥
 
 -- the cell of the struct above: where none is above, nothing is null by it
 abbrev pub cell_above : (ℕ → ℕ → Option (List ℕ)) → Above → ℕ → Option (List ℕ)

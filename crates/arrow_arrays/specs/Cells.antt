@@ -1,6 +1,5 @@
--- The array at a place of a record batch, what is wrong with it, and its cells (Arrow columnar format, "RecordBatch
--- message" and "Physical memory layout"). Where several faults stand, it is the first one in the order of the parts: node,
--- validity, values.
+-- The array at a place of a record batch, the first fault that a reader meets in it, and its cells (Arrow columnar format,
+-- "RecordBatch message" and "Physical memory layout"). All faults that it may have are those of Faults.
 use Rattle.std.specs.Prelude.{ℕ, ◌+◌, ◌*◌, ◌==◌, ℤ, pos, negsuc, false, nat_lt, if◌then◌else◌, List, [], length, take, slice_get, Option, None, Some, option_map, Result, Ok, Err}
 use Rattle.lists.specs.Results.{◌>>=◌}
 use Rattle.arrow_schema.specs.declared.spec.ArrowType.{ArrowType}
@@ -97,7 +96,7 @@ values_by batch rows a layout.List = lists_in batch rows a
 unfoldable pub values_in : BatchIn → ℕ → ArrayPlace → Result RowValues BufferFault
 values_in batch rows a = values_by batch rows a a.layout
 
--- THE ARRAY AT A PLACE, or its fault
+-- THE ARRAY AT A PLACE, or the first fault in the order of its parts: node, validity, values
 unfoldable pub array_in : BatchIn → ArrayPlace → Result ArrayView BufferFault
 array_in batch a =
     rows_in batch a >>= λ rows. validity_in batch rows a.node a.buffer >>= λ valid. values_in batch rows a >>= λ values.
@@ -113,7 +112,7 @@ content_in other valid values = Ok tt
 abbrev pub content_check : Layout → ArrayView → Result (Unit {0}) BufferFault
 content_check layout array = content_in layout array.valid array.values
 
--- THE FAULT OF AN ARRAY, if it has one
+-- the first fault of an array, if it has one
 unfoldable pub array_check : BatchIn → ArrayPlace → Result (Unit {0}) BufferFault
 array_check batch a = array_in batch a >>= content_check a.layout
 

@@ -1,7 +1,8 @@
-ghost use Rattle.std.specs.Prelude.{◌≡◌, ℕ, IsOk, IfSome};
+ghost use Rattle.std.specs.Prelude.{◌≡◌, ℕ, IsOk, IfErr, IfSome, OnOk};
 ghost use Rattle.std.specs.Option.{option_copied};
 ghost use Rattle.arrow_arrays.specs.Layouts.{FitsLayout};
 ghost use Rattle.arrow_arrays.specs.Cells.{place_of_values, array_check, own_cell};
+ghost use Rattle.arrow_arrays.specs.Faults.{IsArrayFault, HasNoArrayFault};
 ghost use Rattle.arrow_arrays.specs.Views.{cell_seen};
 
 use crate::column::ColumnView;
@@ -39,14 +40,16 @@ impl ArrayPlace {
         }
     }
 
-    /// Whether the array has no fault: `Short` where its node or a buffer is missing, the node
-    /// counts other rows than the array has, or a buffer is too small; `BadNulls` where nulls are
-    /// counted and no bitmap stands, or a list that isn't null has an element that is; `BadOffsets`
-    /// and `BadUtf8` as their names say. A text and a list are judged where the array's own bitmap
-    /// has its row. It takes time linear in the array's bytes.
+    /// Whether the array has no fault, else the first that is met: `Short` where its node or a
+    /// buffer is missing, the node counts other rows than the array has, or a buffer is too small;
+    /// `BadNulls` where nulls are counted and no bitmap stands, or a list that isn't null has an
+    /// element that is; `BadOffsets` and `BadUtf8` as their names say. A text and a list are judged
+    /// where the array's own bitmap has its row. It takes time linear in the array's bytes.
     #[tactic(auto, unfolding(crate::specs::Cells::array_check))]
     pub fn check(self, batch: &BatchView<'_>) -> Result<(), BufferFault>
-        ensures { result ≡ array_check batch.now self }
+        ensures exact { result ≡ array_check batch.now self }
+        ensures none { OnOk result (HasNoArrayFault batch.now self) }
+        ensures fault { IfErr result (IsArrayFault batch.now self) }
     {
         let array = array_in(batch, self)?;
         array.check_content(self.layout)

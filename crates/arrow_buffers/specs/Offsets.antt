@@ -56,8 +56,15 @@ pub record AreOffsets (width : ℕ) (offsets values : List ℕ) (rows : ℕ) : T
   pub rising : (row : ℕ) → row < rows → offset_at offsets row ≤ offset_at offsets (row + 1)
   pub within : offset_at offsets rows * width ≤ length values
 
--- an offset that is negative, less than the one before, or past the values
-abbrev pub IsBad : ℕ → List ℕ → List ℕ → ℕ → Type 0
-IsBad width offsets values place =
+-- there are too few for the rows
+abbrev pub AreTooFew : List ℕ → ℕ → Type 0
+AreTooFew offsets rows = (AreNone offsets rows → ⊥) × (length offsets < 4 * (rows + 1))
+
+-- an offset that is negative, less than the one before, or past values of this length
+abbrev pub IsBadIn : ℕ → ℕ → List ℕ → ℕ → Type 0
+IsBadIn width len offsets place =
     (max_values ≤ offset_at offsets place) ⊎ ((offset_at offsets place < offset_before offsets place)
-    ⊎ (length values < offset_at offsets place * width))
+    ⊎ (len < offset_at offsets place * width))
+
+abbrev pub IsBad : ℕ → List ℕ → List ℕ → ℕ → Type 0
+IsBad width offsets values place = IsBadIn width (length values) offsets place

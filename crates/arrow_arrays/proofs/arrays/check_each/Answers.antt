@@ -11,14 +11,14 @@ returns-in_err-check c =
     let batch = c.args.batch.now in
     let arrays = c.args.arrays.now in
     rw (p.1, p.2) (check_fails batch arrays c.loop-array.array-index c.array-item.result c.in_err-check.field-0.0 (arrays_check batch arrays)
-    (omega arith) c.array-item.is (c.in_err-check.ensures ∙ ap (array_check batch) c.place.ensures) c.loop-array.invariant)
+    (omega arith) c.array-item.is (c.in_err-check.ensures.exact ∙ ap (array_check batch) c.place.ensures) c.loop-array.invariant)
 
 pub loop-array-preserved : goal.loop-array-preserved
 loop-array-preserved c =
     let batch = c.args.batch.now in
     let arrays = c.args.arrays.now in
     check_step batch arrays c.loop-array.array-index c.array-item.result (arrays_check batch arrays)
-    (omega arith) c.array-item.is (c.in_ok-check.ensures ∙ ap (array_check batch) c.place.ensures) c.loop-array.invariant
+    (omega arith) c.array-item.is (c.in_ok-check.ensures.exact ∙ ap (array_check batch) c.place.ensures) c.loop-array.invariant
 
 pub returns : goal.returns
 returns c =
