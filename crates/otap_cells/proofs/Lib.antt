@@ -17,4 +17,5 @@ pub mod Rowwise
 pub mod ScalarLaws
 pub mod Slots
 pub mod Twice
+pub mod Widths
 pub mod WithoutRuns

@@ -7,6 +7,7 @@ pub mod GivenIds
 pub mod Ids
 pub mod Inside
 pub mod Kept
+pub mod Limits
 pub mod Named
 pub mod Payload
 pub mod Scalars

@@ -1,13 +1,13 @@
-ghost use Rattle.std.specs.Prelude.{◌≡◌, ◌<◌, ℕ, ℤ, Bool, List, Option};
+ghost use Rattle.std.specs.Prelude.{◌≡◌, ◌<◌, ◌≤◌, ℕ, ℤ, Bool, List, Option};
 ghost use Rattle.otap_cells.specs.declared.payload.Kind.{Kind};
-ghost use Rattle.otap_cells.specs.declared.weight.TheConstants.{MAX_ROW_WEIGHT};
+ghost use Rattle.otap_cells.specs.declared.weight.TheConstants.{MAX_ROW_WEIGHT, ROW_UNIT};
 ghost use Rattle.otap_cells.specs.declared.profile.Coding.{Coding};
 ghost use Rattle.otap_cells.specs.Payload.{number_of};
 ghost use Rattle.otap_cells.specs.Cells.{bytes_in, nat_in};
 ghost use Rattle.otap_cells.specs.Columns.{name_at, width_of};
 ghost use Rattle.otap_cells.specs.Ids.{Ids};
 ghost use Rattle.otap_cells.specs.Scalars.{text_cell, number_cell, int_cell, bits_cell, flag_cell, int_in, bits_in, flag_in};
-ghost use Rattle.otap_cells.specs.Weights.{row_weight_limit};
+ghost use Rattle.otap_cells.specs.Limits.{columns_most, row_unit, row_weight_limit};
 
 /// Law: a payload type has a number of its own.
 pub fn numbers_tell_kinds_apart()
@@ -19,9 +19,15 @@ pub fn names_tell_columns_apart()
     ensures { (kind : Kind) (a b : ℕ) → a < width_of kind → b < width_of kind → name_at kind a ≡ name_at kind b → a ≡ b }
 {}
 
-/// Law: the constant is the limit of the profile.
+/// Law: the constants are the limits of the profile.
 pub fn the_row_weight_is_limited()
-    ensures { MAX_ROW_WEIGHT ≡ row_weight_limit }
+    ensures limit { MAX_ROW_WEIGHT ≡ row_weight_limit }
+    ensures unit { ROW_UNIT ≡ row_unit }
+{}
+
+/// Law: no table has more columns than the limit.
+pub fn tables_have_few_columns()
+    ensures { (kind : Kind) → width_of kind ≤ columns_most }
 {}
 
 /// Law: the numbers that a column stores stand for one list of ids at most.

@@ -15,7 +15,10 @@ use otlp_model::{CAP, add_capped};
 /// How much the tables of a batch may weigh.
 pub const MAX_ROW_WEIGHT: u64 = 1 << 26;
 
-/// The row weight of a set of tables, or `CAP` where it is larger: 32 for each row, and the bytes of each text,
+/// What a row weighs beside its cells.
+const ROW_UNIT: u64 = 32;
+
+/// The row weight of a set of tables, or `CAP` where it is larger: a unit for each row, and the bytes of each text,
 /// binary and fixed cell that isn't null. Visits each of these cells once.
 pub fn row_weight<R: Rows>(set: &TableSet<R>) -> u64
     ensures { result ≡ min (weight_of_tables (tables_in R.table set.now.tables.items)) count_cap }
@@ -31,7 +34,7 @@ fn table_weight<R: Rows>(rows: &R) -> u64
     ensures { result ≡ min (weight_of_table (R.table rows.now)) count_cap }
 {
     let width = columns(rows.kind()).len();
-    let mut total = rows.rows().saturating_mul(32).min(CAP);
+    let mut total = rows.rows().saturating_mul(ROW_UNIT).min(CAP);
     'columns: for column in 0..width {
         total = add_capped(total, column_weight(rows, column as u32));
     }
