@@ -6,3 +6,4 @@ pub mod Canon
 pub mod Limits
 pub mod Names
 pub mod Inside
+pub mod Kept

@@ -2,6 +2,7 @@
 //! when its last byte, the first one, is written.
 
 ghost use Rattle.std.specs.Prelude.{◌≡◌, ◌+◌, ◌-◌, ◌≤◌, ◌∷◌, ◌++◌, [], length, take, drop, vec_len, IfOk, OnOk, OnErr, IsTrue, ◌↔◌};
+ghost use Rattle.otlp_messages.specs.Kept.{KeepsEnd};
 ghost use Rattle.otlp_wire.specs.Varint.{varint};
 
 use std::alloc::{AllocError, Global};
@@ -13,8 +14,8 @@ const PIECE: usize = 1024;
 /// The least room that a buffer gets.
 const LEAST: usize = 4096;
 
-/// A buffer that grows at its front. After an `Err` of a method that writes, nothing is promised of what
-/// it holds.
+/// A buffer that grows at its front. After an `Err` of a method that writes, what was written before is still the end of
+/// what it holds.
 #[derive(Debug, Drop)]
 pub struct Backward {
     bytes: Vec<u8>,
@@ -60,7 +61,8 @@ impl Backward {
     /// Writes a byte before all others.
     #[inline]
     pub fn push(&mut self, byte: u8) -> Result<(), AllocError>
-        ensures { OnOk result (self.new ≡ byte ∷ self.old) }
+        ensures ok { OnOk result (self.new ≡ byte ∷ self.old) }
+        ensures err { OnErr result (self.new ≡ self.old) }
     {
         let end = reserve_front(&mut self.bytes, self.start, 1)?;
         let start = end - 1;
@@ -72,7 +74,8 @@ impl Backward {
     /// Writes the bytes before all others.
     #[inline]
     pub fn push_slice(&mut self, part: &[u8]) -> Result<(), AllocError>
-        ensures { OnOk result (self.new ≡ part.now ++ self.old) }
+        ensures ok { OnOk result (self.new ≡ part.now ++ self.old) }
+        ensures err { OnErr result (self.new ≡ self.old) }
     {
         let end = reserve_front(&mut self.bytes, self.start, part.len())?;
         let start = end - part.len();
@@ -83,9 +86,10 @@ impl Backward {
 
     /// Writes the shortest varint of the value before all others.
     #[inline(always)]
-    #[tactic(auto, using(otlp_wire::proofs::Shortest::varint_small))]
+    #[tactic(auto, using(otlp_wire::proofs::Shortest::varint_small, crate::proofs::Keeping::keeps_itself))]
     pub(crate) fn push_varint(&mut self, value: u64) -> Result<(), AllocError>
-        ensures { OnOk result (self.new ≡ varint value ++ self.old) }
+        ensures ok { OnOk result (self.new ≡ varint value ++ self.old) }
+        ensures err { OnErr result (KeepsEnd self.old self.new) }
     {
         if value < 128 {
             return self.push(value as u8);
@@ -95,9 +99,10 @@ impl Backward {
 
     /// The same without the short way of a varint of one byte.
     #[inline(never)]
-    #[tactic(auto, using(otlp_wire::proofs::Shortest::varint_small, otlp_wire::proofs::Shortest::varint_large))]
+    #[tactic(auto, using(otlp_wire::proofs::Shortest::varint_small, otlp_wire::proofs::Shortest::varint_large, crate::proofs::Keeping::keeps_itself))]
     fn push_long_varint(&mut self, value: u64) -> Result<(), AllocError>
-        ensures { OnOk result (self.new ≡ varint value ++ self.old) }
+        ensures ok { OnOk result (self.new ≡ varint value ++ self.old) }
+        ensures err { OnErr result (KeepsEnd self.old self.new) }
     {
         if value < 128 {
             return self.push(value as u8);
@@ -109,9 +114,9 @@ impl Backward {
         self.push((value % 128) as u8 + 128)
     }
 
-    /// Finds room for `more` bytes before those that are written, so that writing them allocates nothing.
+    /// Finds room for `more` bytes before those that are written, so that writing them allocates nothing. They stay.
     pub fn reserve(&mut self, more: usize) -> Result<(), AllocError>
-        ensures { OnOk result (self.new ≡ self.old) }
+        ensures { self.new ≡ self.old }
     {
         self.start = reserve_front(&mut self.bytes, self.start, more)?;
         Ok(())
@@ -137,7 +142,7 @@ fn reserve_front(bytes: &mut Vec<u8>, start: usize, room: usize) -> Result<usize
     requires { start ≤ vec_len bytes.old }
     ensures room { IfOk result (λ s. (room ≤ s) × (s ≤ vec_len bytes.new)) }
     ensures kept { IfOk result (λ s. drop s bytes.new.items ≡ drop start bytes.old.items) }
-    ensures err { OnErr result (start ≤ vec_len bytes.new) }
+    ensures err { OnErr result (bytes.new.items ≡ bytes.old.items) }
 {
     if room <= start {
         return Ok(start);
@@ -151,7 +156,7 @@ fn grow_front(bytes: &mut Vec<u8>, start: usize, room: usize) -> Result<usize, A
     requires { start ≤ vec_len bytes.old }
     ensures room { IfOk result (λ s. (room ≤ s) × (s ≤ vec_len bytes.new)) }
     ensures kept { IfOk result (λ s. drop s bytes.new.items ≡ drop start bytes.old.items) }
-    ensures err { OnErr result (start ≤ vec_len bytes.new) }
+    ensures err { OnErr result (bytes.new.items ≡ bytes.old.items) }
 {
     let old = bytes.len();
     let more = room.max(old).max(LEAST);

@@ -10,4 +10,4 @@ returns c =
     let fits : FitsSigned w32 c.args.status.now.code = search rules in
     let code = as_given c.args.status.now.code c.from.result c.from.ensures fits in
     c.finish.ensures ∙ status_written (status_content c.args.status.now) _ _ _ _ _ _ _ id code c.as_bytes.ensures.value
-    c.new-to.ensures c.in_ok-put_bytes_row.ensures c.in_ok-put_signed_row.ensures c.in_ok-put_signed_row-2.ensures
+    c.new-to.ensures c.in_ok-put_bytes_row.ensures.ok c.in_ok-put_signed_row.ensures.ok c.in_ok-put_signed_row-2.ensures.ok
