@@ -4,6 +4,7 @@ use Rattle.std.specs.Prelude.{filter}
 use Rattle.std.specs.List.{AllZip, flat_map}
 use Rattle.lists.proofs.Zipped.{zipped_append}
 use Rattle.otlp_model.specs.Same.{SameEntry, SameItem, SameOften, SameResource, SameScope}
+use Rattle.otlp_model.proofs.Often.{same_often_from}
 use Rattle.otlp_model.specs.Telemetry.{ItemEntry, Item, item_entries, entries_of_scope_group, item_entry, told_as}
 use Rattle.otlp_model.specs.declared.value.Pair.{Pair}
 use Rattle.otlp_model.specs.declared.groups.Resource.{Resource}
@@ -30,11 +31,11 @@ module _ {I : Type 0} (SameOne : I → I → Type 0) (d d' e e' : Option ℕ →
     (resources : (id : Option ℕ) → SameOften (d id) (d' id)) (scopes : (id : Option ℕ) → SameOften (e id) (e' id))
     (items : (id : Option ℕ) (cells : List Cell) → SameOne (item id cells) (item' id cells)) where
   alike_resource : (rows : List MainRow) → SameResource (resource_of_run d rows) (resource_of_run d' rows)
-  alike_resource [] = record { scalars = refl; pairs = record { each = λ pair. refl } }
+  alike_resource [] = record { scalars = refl; pairs = same_often_from [] [] (λ pair. refl) }
   alike_resource (row ∷ rows) = record { scalars = refl; pairs = resources row.resource_id }
 
   alike_scope : (rows : List MainRow) → SameScope (scope_of_run e rows) (scope_of_run e' rows)
-  alike_scope [] = record { scalars = refl; pairs = record { each = λ pair. refl } }
+  alike_scope [] = record { scalars = refl; pairs = same_often_from [] [] (λ pair. refl) }
   alike_scope (row ∷ rows) = record { scalars = refl; pairs = scopes row.scope_id }
 
   alike_items : (a a' : Resource) (b b' : Scope) → SameResource a a' → SameScope b b' → (rows : List MainRow)
