@@ -19,5 +19,6 @@ mod Loop
 mod PairLoop
 mod Returned
 mod Written
+mod PlainWritten
 mod Writable
 pub mod Branched

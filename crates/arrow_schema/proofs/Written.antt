@@ -27,10 +27,10 @@ use Rattle.arrow_schema.proofs.Only.{schema_again}
 use Rattle.arrow_schema.proofs.FieldsStand.{AllStand, all_stand_on}
 
 -- ---- slots
-default_is : {A : Type 0} (d x : A) (read : Result (Option A) FlatFault) → read ≡ Ok (Some x) → or_default d read ≡ Ok x
+pub default_is : {A : Type 0} (d x : A) (read : Result (Option A) FlatFault) → read ≡ Ok (Some x) → or_default d read ≡ Ok x
 default_is d x read e = rw e refl
 
-refers : {A : Type 0} (read : ℕ → Result A FlatFault) (place : ℕ) (x : A) (reference : Result (Option ℕ) FlatFault) → reference ≡ Ok (Some place) → read place ≡ Ok x
+pub refers : {A : Type 0} (read : ℕ → Result A FlatFault) (place : ℕ) (x : A) (reference : Result (Option ℕ) FlatFault) → reference ≡ Ok (Some place) → read place ≡ Ok x
     → (reference >>= each read) ≡ Ok (Some x)
 refers read place x reference e f = rw (e, f) refl
 

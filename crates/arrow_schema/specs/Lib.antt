@@ -8,5 +8,6 @@ pub mod Readable
 pub mod Reading
 pub mod Defects
 pub mod Writing
+pub mod Plain
 pub mod Branches
 pub mod Standing

@@ -11,7 +11,8 @@ ghost use Rattle.arrow_schema.specs.Says.{SaysSchema};
 ghost use Rattle.arrow_schema.specs.Readable.{IsReadable};
 ghost use Rattle.arrow_schema.specs.Defects.{HasDefect};
 ghost use Rattle.arrow_schema.specs.Reading.{schema_of};
-ghost use Rattle.arrow_schema.specs.Writing.{names_of, widths_fit, encodings_named, IsSchemaTable};
+ghost use Rattle.arrow_schema.specs.Writing.{names_of, widths_fit, encodings_named, IsSchemaTable, WritesSchema};
+ghost use Rattle.arrow_schema.specs.Plain.{IsPlainSchema};
 ghost use Rattle.arrow_schema.specs.Branches.{Branch, AreBranches, branch_fields, branch_size, branch_names, is_branch_named};
 ghost use Rattle.arrow_schema.specs.Trees.{sum_of};
 ghost use Rattle.arrow_schema.specs.declared.spec.ArrowType.{ArrowType};
@@ -47,6 +48,13 @@ pub fn added_is_read()
     ensures again { (schema : List FieldSpec) (built bytes : List ℕ) (place : ℕ) → IsReadable schema
         → Grows built bytes → StaysAt (IsSchemaTable schema) built place
         → (t : TableIn) × (table_at bytes (length bytes - place) ≡ Ok t) × (schema_of t ≡ Ok schema) }
+{}
+
+/// What is written for a schema reads as plain, by its tables alone: each field is nullable, no timestamp has a timezone, and no
+/// custom metadata stands but the one pair that names an encoding.
+pub fn written_schemas_are_plain()
+    ensures { (fields : List FieldSpec) (bytes : List ℕ) (place : ℕ) (schema : TableIn) → WritesSchema fields bytes place
+        → table_at bytes place ≡ Ok schema → IsPlainSchema schema }
 {}
 
 /// Any columns, and structs of columns, with names that differ, supported types and one type for
