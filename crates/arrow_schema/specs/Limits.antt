@@ -26,3 +26,7 @@ max_size_before = 4194304
 -- how many bytes a field that is written takes at most, beside its name
 abbrev pub max_field_size : ℕ
 max_field_size = 1500
+
+-- and how many a schema that is written takes at most, beside its fields
+abbrev pub max_schema_size : ℕ
+max_schema_size = 512

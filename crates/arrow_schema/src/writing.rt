@@ -2,7 +2,7 @@ ghost use Rattle.std.specs.Prelude.{◌+◌, ◌*◌, ◌≤◌, ◌<◌, List, 
 ghost use Rattle.flat_tables.specs.Limits.{max_size};
 ghost use Rattle.flat_tables.specs.Slots.{Reaches};
 ghost use Rattle.flat_tables.specs.Building.{Grows, StaysAt, HasSlots};
-ghost use Rattle.arrow_schema.specs.Limits.{max_written_fields, max_written_names, max_size_before, max_field_size};
+ghost use Rattle.arrow_schema.specs.Limits.{max_written_fields, max_written_names, max_size_before, max_field_size, max_schema_size};
 ghost use Rattle.arrow_schema.specs.Trees.{field_count, count_of};
 ghost use Rattle.arrow_schema.specs.Writing.{names_in, names_of, fits_width, widths_in, widths_fit, is_named, named_in, encodings_named, type_slots, WritesDict, WritesPair, WritesField, WritesFields, IsSchemaTable};
 ghost use Rattle.arrow_schema.specs.Standing.{DictionaryStands, MetadataStands};
@@ -32,7 +32,7 @@ pub fn add_schema(builder: &mut Builder, spec: &SchemaSpec) -> Result<Place, All
     requires room { length builder.old < max_size_before }
     ensures schema { IfOk result (StaysAt (IsSchemaTable spec.now) builder.new) }
     ensures grows { Grows builder.old builder.new }
-    ensures size { length builder.new ≤ length builder.old + names_of spec.now + max_field_size * count_of spec.now + 512 }
+    ensures size { length builder.new ≤ length builder.old + names_of spec.now + max_field_size * count_of spec.now + max_schema_size }
 {
     let fields = add_fields(builder, spec.as_slice())?;
     let place = builder.add_table(&[Slot::Absent, Slot::At(fields)])?;
