@@ -82,8 +82,8 @@ dictionaries_in-rows arrays batch ms = filled-rows batch ms (empty_dictionaries 
 pub schema_in-stays : (ms ns : List IpcMessage) (fields : List FieldSpec) → schema_in ms ≡ Some fields → schema_in (ms ++ ns) ≡ Some fields
 schema_in-stays [] ns fields h = absurd (cc)
 schema_in-stays (Schema f ∷ ms) ns fields h = h
-schema_in-stays (Dictionary id delta batch ∷ ms) ns fields h = schema_in-stays ms ns fields h
-schema_in-stays (Rows batch ∷ ms) ns fields h = schema_in-stays ms ns fields h
+schema_in-stays (Dictionary id delta batch ∷ ms) ns fields h = absurd (cc)
+schema_in-stays (Rows batch ∷ ms) ns fields h = absurd (cc)
 
 -- a sub-stream has a schema
 pub record Has (ms : List IpcMessage) (s : SubstreamIn) : Type 0 where

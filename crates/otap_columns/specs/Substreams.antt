@@ -23,14 +23,14 @@ pub record SubstreamIn : Type 0 where
   pub arrays : List ArraySpec
   pub dictionaries : List DictionaryIn
 
--- the schema of a stream: that of its first Schema message
+-- the schema of a stream: its first message, where that is one
 abbrev pub schema_in : List IpcMessage → Option (List FieldSpec)
 schema_in [] = None
 schema_in (Schema fields ∷ messages) = Some fields
-schema_in (Dictionary id delta batch ∷ messages) = schema_in messages
-schema_in (Rows batch ∷ messages) = schema_in messages
+schema_in (Dictionary id delta batch ∷ messages) = None
+schema_in (Rows batch ∷ messages) = None
 
--- THE SUB-STREAM AFTER MESSAGES; there is none before a schema
+-- THE SUB-STREAM AFTER MESSAGES; there is none where they don't begin with a schema
 abbrev pub substream_of : List IpcMessage → List FieldSpec → SubstreamIn
 substream_of messages fields = record { arrays = arrays_of fields; dictionaries = dictionaries_in (arrays_of fields) messages }
 
