@@ -1,5 +1,6 @@
 -- What one more payload does to the sub-stream of a type.
 use Rattle.std.proofs.Common.{◌≡◌, ℕ, Bool, true, false, List, [], ◌∷◌, ◌++◌, Option, Some, None, ℤ, if◌then◌else◌, refl, ap, ◌∙◌, append-nil, inl, inr, sym}
+use Rattle.std.specs.Fmt.{decimal}
 use Rattle.std.specs.List.{flat_map}
 use Rattle.std.specs.Prelude.{not, bytes_eq}
 use Rattle.std.proofs.lemmas.Grind.{flat_map-append}
@@ -11,7 +12,9 @@ use Rattle.lists.specs.Since.{since, last_after}
 use Rattle.lists.proofs.Latest.{since-append, last_after-push}
 use Rattle.lists.specs.Payloads.{PayloadIn}
 use Rattle.arrow_ipc.specs.Fronts.{front_of}
+use Rattle.otap_cells.specs.Tables.{Table}
 use Rattle.otap_columns.specs.Streams.{is_of, of_type, last_of, opens_after, open_id, marked_after, stream_of, opens, schema_id_in}
+use Rattle.otap_columns.specs.TableSets.{IsPayloadOf, id_for, openings}
 
 -- a payload of another type is passed over
 pub of_type-other : (kind : ℤ) (ps : List PayloadIn) (p : PayloadIn) → is_of kind p ≡ false → of_type kind (ps ++ p ∷ []) ≡ of_type kind ps
@@ -71,3 +74,23 @@ id_stays (Some last) p stays =
 pub stays_open : (past : List PayloadIn) (p : PayloadIn) → opens past p ≡ false → open_id p.kind past ≡ Some p.schema_id
 unfolding opens open_id
 stays_open past p stays = id_stays (last_of p.kind past) p stays
+
+-- ---- a payload by the policy
+
+pub same_test : (a b : Bool) → (a ≡ false → b ≡ false) → (b ≡ false → a ≡ false) → a ≡ b
+same_test true true there back = refl
+same_test true false there back = cc (back refl)
+same_test false true there back = cc (there refl)
+same_test false false there back = refl
+
+module _ (tables : List Table) (past : List PayloadIn) (t : Table) (p : PayloadIn) (is : IsPayloadOf tables past t p) where
+  -- it opens a sub-stream exactly where its schema id says so
+  pub opens_is : opens past p ≡ is.opening
+  opens_is =
+      same_test (opens past p) is.opening (λ stays. is.goes_on.1 (is.written.record_is.goes_on.0 stays)) (λ stays. is.written.record_is.goes_on.1 (is.goes_on.0 stays))
+
+  -- the id of one that opens is a number
+  pub numbered : opens past p ≡ true → p.schema_id ≡ decimal (openings past)
+  numbered opening =
+      let id : Some (decimal (openings past)) ≡ Some p.schema_id = ap (λ b. id_for b p.kind past) (sym opening ∙ opens_is) ∙ is.schema_id in
+      sym (cc id)

@@ -1,10 +1,10 @@
 -- The policy decides the type and the schema id of each payload. So whatever messages it allows for some requests, the same
 -- schema ids are open after them, and as many of their payloads opened a sub-stream.
-use Rattle.std.proofs.Common.{◌≡◌, inl, inr, ℕ, ◌+◌, Bool, true, false, List, [], ◌∷◌, ◌++◌, get_or, Some, ℤ, pos, refl, sym, ap, ◌∙◌, subst, append_assoc, append-nil, arith}
+use Rattle.std.proofs.Common.{◌≡◌, inl, inr, ℕ, ◌+◌, Bool, List, [], ◌∷◌, ◌++◌, get_or, Some, ℤ, pos, refl, sym, ap, ◌∙◌, subst, append_assoc, append-nil, arith}
 use Rattle.std.specs.Fmt.{decimal}
 use Rattle.std.specs.List.{flat_map}
 use Rattle.std.specs.Ordering.{int_eq}
-use Rattle.std.proofs.lemmas.Bool.{cases_Bool, false≢true}
+use Rattle.std.proofs.lemmas.Bool.{cases_Bool}
 use Rattle.std.proofs.lemmas.Grind.{flat_map-append}
 use Rattle.lists.specs.EachAfter.{EachAfter}
 use Rattle.lists.proofs.Growing.{each_after-append}
@@ -14,19 +14,13 @@ use Rattle.otap_cells.specs.Payload.{number_of}
 use Rattle.otap_cells.specs.Tables.{Table}
 use Rattle.otap_columns.specs.Streams.{is_of, opens, open_id}
 use Rattle.otap_columns.specs.TableSets.{ArePayloadsOf, IsPayloadOf, openings}
-use Rattle.otap_columns.proofs.Openings.{open_id-own, open_id-other, stays_open}
+use Rattle.otap_columns.proofs.Openings.{numbered, same_test, open_id-own, open_id-other, stays_open}
 use Rattle.otap_produce.specs.Exporters.{ExporterIn, HasSentTables, HaveSent, SenderIn, SendersIn, StandsFor}
 use Rattle.otap_capture.specs.Batch.{payloads_in}
 use Rattle.otap_produce.specs.Policy.{IsMessageOf, Policy, SignalRows}
 use Rattle.otap_produce.proofs.Counting.{if_opens, openings-push}
 
 -- ---- one payload
-
-same_test : (a b : Bool) → (a ≡ false → b ≡ false) → (b ≡ false → a ≡ false) → a ≡ b
-same_test true true there back = refl
-same_test true false there back = absurd (false≢true (sym (back refl)))
-same_test false true there back = absurd (false≢true (sym (there refl)))
-same_test false false there back = refl
 
 -- after both, the same schema ids are open, and as many sub-streams were opened: this decides the schema ids to come
 pub record LookAlike (past past' : List PayloadIn) : Type 0 where
@@ -47,7 +41,7 @@ module _ (before : List Table) (past past' : List PayloadIn) (t : Table) (p p' :
   same_id : p.schema_id ≡ p'.schema_id
   same_id =
       elim (cases_Bool (opens past p)) [
-        | inl opening ↦ one.schema_id opening ∙ ap decimal alike.count ∙ sym (other.schema_id (sym same_opens ∙ opening))
+        | inl opening ↦ numbered before past t p one opening ∙ ap decimal alike.count ∙ sym (numbered before past' t p' other (sym same_opens ∙ opening))
         | inr stays ↦
             let ids : Some p.schema_id ≡ Some p'.schema_id =
             sym (stays_open past p stays) ∙ alike.ids p.kind ∙ ap (λ type. open_id type past') same_type ∙ stays_open past' p' (sym same_opens ∙ stays) in

@@ -15,10 +15,10 @@ use Rattle.lists.specs.Payloads.{PayloadIn}
 use Rattle.arrow_ipc.specs.declared.messages.IpcMessage.{IpcMessage}
 use Rattle.otlp_model.specs.declared.request.Signal.{Signal}
 use Rattle.otap_cells.specs.declared.payload.Kind.{Kind}
-use Rattle.otap_cells.specs.Columns.{width_of}
 use Rattle.otap_cells.specs.GivenIds.{ReadsAs}
 use Rattle.otap_cells.specs.Payload.{kinds_of, kind_numbered, number_of}
 use Rattle.otap_cells.specs.Tables.{Table}
+use Rattle.otap_columns.specs.Limits.{held_of_kind}
 use Rattle.otap_columns.specs.WrittenPayloads.{IsReadAs}
 use Rattle.otap_columns.specs.Records.{IsRead}
 use Rattle.otap_columns.specs.Streams.{opens, stream_of, open_id}
@@ -26,7 +26,7 @@ use Rattle.otap_columns.specs.Substreams.{held_in, logical, substream_in}
 use Rattle.otap_columns.specs.TableSets.{IsPayloadOf, of_kind}
 use Rattle.otap_consume.specs.Defects.{is_open_id, is_open_for, is_taken}
 use Rattle.otap_consume.specs.Payloads.{payload_type_of, messages_before}
-use Rattle.otap_columns.proofs.Openings.{stream_of-other}
+use Rattle.otap_columns.proofs.Openings.{numbered, stream_of-other}
 use Rattle.otap_cells.proofs.KindsApart.{same_number}
 use Rattle.otap_transit.proofs.Projected.{FarEndReads, read_as}
 use Rattle.otap_transit.proofs.Reading.{reads_as}
@@ -36,7 +36,7 @@ use Rattle.otap_transit.proofs.SchemaIds.{AreApart, none_open, is_free, still_ap
 
 -- all open sub-streams hold no more than their columns may
 abbrev pub AreHeld : List PayloadIn → Type 0
-AreHeld past = (kind : Kind) → held_in (stream_of (payload_type_of kind) past) ≤ 1572864 * width_of kind
+AreHeld past = (kind : Kind) → held_in (stream_of (payload_type_of kind) past) ≤ held_of_kind kind
 
 pub record AreSoFar (before : List Table) (past : List PayloadIn) : Type 0 where
   pub each : EachAfter IsPayloadOf [] [] before past
@@ -83,7 +83,7 @@ module _ (far : FarEndReads) (before : List Table) (past : List PayloadIn) (t : 
         | inl equal ↦
             let same : current ≡ p.schema_id = (bytes_eq-Decides current p.schema_id).0 equal in
             let own : payload_type_of kind ≡ p.kind
-            = is_free past p so_far.apart few follows.schema_id (payload_type_of kind) (is ∙ ap (λ (id : List ℕ). Some id) same) in
+            = is_free past p so_far.apart few (numbered before past t p follows) (payload_type_of kind) (is ∙ ap (λ (id : List ℕ). Some id) same) in
             rw (equal, (Decides-int_eq p.kind (payload_type_of kind)).1 (sym own)) refl
         | inr differs ↦ rw differs (and_false (not (int_eq p.kind (payload_type_of kind))))
       ]
@@ -92,7 +92,7 @@ module _ (far : FarEndReads) (before : List Table) (past : List PayloadIn) (t : 
   reaches signal known = record {
     type = follows.written.type;
     known = ap (kind_numbered signal) follows.written.type ∙ known;
-    text = id_is_text past p so_far.apart few follows.schema_id;
+    text = id_is_text past p so_far.apart few (numbered before past t p follows);
     free = none_passes (is_open_for past p) (kinds_of signal) (λ kind. not_open kind (open_id (payload_type_of kind) past) refl);
     read = subst (λ (type : ℤ). IsRead t.kind (if opens past p then [] else stream_of type past) p.bytes) (sym follows.written.type) r.read;
     table = r.table;
@@ -106,17 +106,17 @@ module _ (far : FarEndReads) (before : List Table) (past : List PayloadIn) (t : 
         | inl own ↦
             let numbers : pos (number_of t.kind) ≡ pos (number_of kind) = sym follows.written.type ∙ (Decides-int_eq p.kind (payload_type_of kind)).0 own in
             let same : t.kind ≡ kind = same_number t.kind kind (cc numbers) in
-            let here : held_in (stream_of p.kind (past ++ p ∷ [])) ≤ 1572864 * width_of t.kind
-            = subst (λ (ms : List IpcMessage). held_in ms ≤ 1572864 * width_of t.kind) stream r.held in
-            subst (λ (k : Kind). held_in (stream_of (payload_type_of k) (past ++ p ∷ [])) ≤ 1572864 * width_of k) same
-            (subst (λ (type : ℤ). held_in (stream_of type (past ++ p ∷ [])) ≤ 1572864 * width_of t.kind) follows.written.type here)
+            let here : held_in (stream_of p.kind (past ++ p ∷ [])) ≤ held_of_kind t.kind
+            = subst (λ (ms : List IpcMessage). held_in ms ≤ held_of_kind t.kind) stream r.held in
+            subst (λ (k : Kind). held_in (stream_of (payload_type_of k) (past ++ p ∷ [])) ≤ held_of_kind k) same
+            (subst (λ (type : ℤ). held_in (stream_of type (past ++ p ∷ [])) ≤ held_of_kind t.kind) follows.written.type here)
         | inr other ↦ rw (stream_of-other (payload_type_of kind) past p other) (so_far.held kind)
       ]
 
   pub one_more : AreSoFar (before ++ t ∷ []) (past ++ p ∷ [])
   one_more = record {
     each = each_after-push IsPayloadOf [] [] before past t p so_far.each follows;
-    apart = still_apart past p so_far.apart few follows.schema_id;
+    apart = still_apart past p so_far.apart few (numbered before past t p follows);
     held = still_held;
   }
 
