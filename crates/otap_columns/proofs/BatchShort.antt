@@ -9,11 +9,11 @@ use Rattle.otap_cells.specs.Columns.{logs, spans, metrics, attrs, deep_attrs, sp
 use Rattle.otap_cells.specs.Payload.{kinds_of}
 use Rattle.otap_cells.specs.Tables.{Table}
 use Rattle.otap_cells.specs.Weights.{row_weight_limit, weight_of_table, weight_of_tables}
-use Rattle.otap_columns.specs.Limits.{dictionary_columns, record_limit, head_limit, row_limit, columns_limit, tables_limit, records_limit}
+use Rattle.otap_columns.specs.Limits.{dictionary_columns, record_limit, head_limit, row_limit, columns_limit, tables_limit, records_limit, rest_limit}
 use Rattle.otap_columns.proofs.RowsAdded.{rows_light}
 
 limits_are : (tables : List Table) → sum_by record_limit tables
-    ≡ row_limit * sum_by (λ (t : Table). length t.rows) tables + weight_of_tables tables + head_limit * sum_by (λ (t : Table). dictionary_columns t.kind) tables + 131072 * length tables
+    ≡ row_limit * sum_by (λ (t : Table). length t.rows) tables + weight_of_tables tables + head_limit * sum_by (λ (t : Table). dictionary_columns t.kind) tables + rest_limit * length tables
 limits_are [] = omega arith
 limits_are (t ∷ tables) =
     omega (

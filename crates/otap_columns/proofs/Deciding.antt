@@ -13,7 +13,9 @@ use Rattle.arrow_ipc.specs.Fronts.{front_of}
 use Rattle.arrow_ipc.proofs.Fronting.{front_ends}
 use Rattle.arrow_arrays.specs.Arrays.{arrays_of, arrays_check}
 use Rattle.arrow_arrays.specs.Cells.{array_check, place_of_values}
+use Rattle.arrow_arrays.specs.Faults.{IsArrayFault}
 use Rattle.arrow_arrays.proofs.Checked.{first_fault}
+use Rattle.arrow_arrays.proofs.FaultsNamed.{named}
 use Rattle.otap_cells.specs.declared.payload.Kind.{Kind}
 use Rattle.otap_columns.specs.declared.refusal.ColumnRefusal.TheVariants.{Order, Ipc, Column, Buffers, BadIndex, DictionarySize}
 use Rattle.otap_columns.specs.Dictionaries.{DictionaryIn, has_id, all_grown, is_too_large}
@@ -34,13 +36,13 @@ failed (Err fault) h = (fault, refl)
 pub record IsFaulty (id : ℤ) (batch : BatchIn) (d : DictionaryIn) : Type 0 where
   pub own : has_id id d ≡ true
   pub fault : BufferFault
-  pub is : array_check batch (place_of_values d.kind) ≡ Err fault
+  pub is : IsArrayFault batch (place_of_values d.kind) fault
 
 not_fine : (id : ℤ) (batch : BatchIn) (d : DictionaryIn) → is_fine_for id batch d ≡ false → IsFaulty id batch d
 not_fine id batch d h =
     let parts : (not (has_id id d) ≡ false) × (is_ok (array_check batch (place_of_values d.kind)) ≡ false) = or_parts (not (has_id id d)) (is_ok (array_check batch (place_of_values d.kind))) h in
     let f : (fault : BufferFault) × (array_check batch (place_of_values d.kind) ≡ Err fault) = failed (array_check batch (place_of_values d.kind)) parts.1 in
-    record { own = not-false (has_id id d) parts.0; fault = f.0; is = f.1 }
+    record { own = not-false (has_id id d) parts.0; fault = f.0; is = named batch (place_of_values d.kind) f.0 f.1 }
 
 values_fail : (id : ℤ) (batch : BatchIn) (ds : List DictionaryIn) → list_all (is_fine_for id batch) ds ≡ false → (fault : BufferFault) × HasValueFault ds id batch fault
 values_fail id batch [] h = absurd (false≢true (sym h))

@@ -2,16 +2,16 @@
 use Rattle.std.proofs.Common.{◌≡◌, ℕ, ◌+◌, ◌<◌, ◌≤◌, Bool, true, false, List, [], ◌∷◌, ◌++◌, length, get_or, set, refl, sym, ap, ◌∙◌, append_assoc, append-nil, arith, length-append}
 use Rattle.std.specs.Prelude.{ℤ, map}
 use Rattle.std.specs.List.{list_any, list_all}
-use Rattle.std.proofs.lemmas.Bool.{le-ltb, or_right}
+use Rattle.std.proofs.lemmas.Bool.{le-ltb, lt-ltb, or_right}
 use Rattle.std.proofs.lemmas.List.{map-append, length-map, get_or_at, set_at}
 use Rattle.std.proofs.lemmas.List.Folds.{list_any-append, list_all-append}
 use Rattle.arrow_ipc.specs.Batches.{BatchIn}
-use Rattle.otap_dicts.specs.Limits.{value_limit}
+use Rattle.otap_columns.specs.Limits.{dictionary_limit}
 use Rattle.otap_columns.specs.declared.refusal.ColumnRefusal.{ColumnRefusal}
 use Rattle.otap_columns.specs.declared.refusal.ColumnRefusal.TheVariants.{Order, Ipc, Column, Buffers, BadIndex, DictionarySize, Memory}
-use Rattle.otap_columns.specs.Dictionaries.{DictionaryIn, grown_if, all_grown, is_too_large}
+use Rattle.otap_columns.specs.Dictionaries.{DictionaryIn, grown, grown_if, has_id, all_grown, is_too_large}
 use Rattle.otap_columns.specs.Records.{is_fine_for}
-use Rattle.otap_columns.specs.Reading.{RefusesDictionaryBatch, RefusesIf}
+use Rattle.otap_columns.specs.Reading.{RefusesDictionaryBatch, RefusesIf, RefusesValues}
 
 pub any_here : {A : Type 0} (p : A → Bool) (front : List A) (x : A) (rest : List A) → p x ≡ true → list_any p (front ++ x ∷ rest) ≡ true
 any_here p [] x rest h = rw h refl
@@ -122,5 +122,17 @@ module _ (id : ℤ) (delta : Bool) (batch : BatchIn) where
   refused_by old new place x (Memory e) n h = tt
 
   -- not too many are not too many
-  pub not_too_large : (d : DictionaryIn) → length d.values ≤ value_limit → is_too_large d ≡ false
-  not_too_large d h = le-ltb value_limit (length d.values) h
+  pub not_too_large : (d : DictionaryIn) → length d.values ≤ dictionary_limit → is_too_large d ≡ false
+  not_too_large d h = le-ltb dictionary_limit (length d.values) h
+
+-- why a dictionary of this id doesn't take a batch of its own
+pub refuses_own : (id : ℤ) (delta : Bool) (batch : BatchIn) (d : DictionaryIn) (r : ColumnRefusal) → has_id id d ≡ true → RefusesValues delta batch d r → RefusesIf id delta batch d r
+refuses_own id delta batch d (Buffers fault) own h = (own, h)
+refuses_own id delta batch d DictionarySize own h =
+    let grows : grown_if id delta batch d ≡ grown delta batch d = rw own refl in
+    ap is_too_large grows ∙ lt-ltb dictionary_limit (length (grown delta batch d).values) h
+refuses_own id delta batch d (Memory e) own h = tt
+refuses_own id delta batch d Order own h = absurd h
+refuses_own id delta batch d (Ipc e) own h = absurd h
+refuses_own id delta batch d Column own h = absurd h
+refuses_own id delta batch d BadIndex own h = absurd h

@@ -1,6 +1,6 @@
 -- A record that was read message by message, judged as a whole.
-use Rattle.std.proofs.Common.{◌≡◌, ℕ, Bool, true, false, List, [], ◌∷◌, ◌++◌, drop, Option, Some, None, Ok, refl, sym, ap, ◌∙◌, subst, append_assoc, append-nil, inl, inr}
-use Rattle.std.specs.Prelude.{ℤ, is_ok}
+use Rattle.std.proofs.Common.{◌≡◌, ℕ, Bool, true, false, List, [], ◌∷◌, ◌++◌, drop, Option, Some, None, Result, Ok, Err, ◌||◌, refl, sym, ap, ◌∙◌, subst, append_assoc, append-nil, inl, inr}
+use Rattle.std.specs.Prelude.{ℤ, is_ok, not}
 use Rattle.std.specs.List.{list_any, list_all, flat_map}
 use Rattle.std.proofs.lemmas.Bool.{false≢true, not-true}
 use Rattle.std.proofs.lemmas.List.Folds.{list_any-append}
@@ -17,11 +17,13 @@ use Rattle.arrow_ipc.specs.declared.messages.IpcMessage.TheVariants.{Schema, Dic
 use Rattle.arrow_ipc.specs.Batches.{BatchIn}
 use Rattle.arrow_ipc.specs.Fronts.{MessagesIn, front_of, left_of, rest_of, record_batch_in}
 use Rattle.arrow_arrays.specs.Arrays.{arrays_of, arrays_check}
+use Rattle.arrow_arrays.specs.Cells.{array_check, place_of_values}
 use Rattle.arrow_arrays.proofs.Checked.{fault_fails}
+use Rattle.arrow_arrays.proofs.FaultsNamed.{never_fault}
 use Rattle.otap_cells.specs.declared.payload.Kind.{Kind}
 use Rattle.otap_columns.specs.declared.refusal.ColumnRefusal.{ColumnRefusal}
 use Rattle.otap_columns.specs.declared.refusal.ColumnRefusal.TheVariants.{Order, Ipc, Column, Buffers, BadIndex, DictionarySize, Memory}
-use Rattle.otap_columns.specs.Dictionaries.{DictionaryIn}
+use Rattle.otap_columns.specs.Dictionaries.{DictionaryIn, has_id}
 use Rattle.otap_columns.specs.Known.{columns_fit}
 use Rattle.otap_columns.specs.Records.{is_schema, is_rows, is_fine_for, HasValueFault, HasFineBuffers, begins_otherwise, schema_later, more_after_rows, no_rows, unknown_id, ends_badly, other_type}
 use Rattle.otap_columns.specs.Records.{bad_buffers, bad_index, too_many_values, Refuses, IsFineBatch, IsFineIn, IsFine, IsRead}
@@ -68,7 +70,11 @@ takes_more s t u a b first then' = record {
 values_fine : (ds : List DictionaryIn) (id : ℤ) (batch : BatchIn) (fault : BufferFault) → list_all (is_fine_for id batch) ds ≡ true → HasValueFault ds id batch fault → ⊥
 values_fine ds id batch fault fine (k, d, below, at, bad) =
     let here : is_fine_for id batch d ≡ true = ap (is_fine_for id batch) (sym at) ∙ all_pass_at (is_fine_for id batch) ds k d fine below in
-    false≢true (rw (bad.0, bad.1) at here)
+    never_fault batch (place_of_values d.kind) fault (ok_when (not (has_id id d)) (array_check batch (place_of_values d.kind)) (ap not bad.0) here) bad.1
+  where
+    ok_when : (b : Bool) (r : Result (Unit {0}) BufferFault) → b ≡ false → (b || is_ok r) ≡ true → r ≡ Ok tt
+    ok_when b (Ok x) none h = refl
+    ok_when b (Err e) none h = absurd (false≢true (rw none at h))
 
 pub fine_buffers : (kind : Kind) (before : List IpcMessage) (m : IpcMessage) → IsFine kind before m → HasFineBuffers before m
 fine_buffers kind before (Schema fields) fine = λ s fault stands bad. bad

@@ -15,10 +15,10 @@ use Rattle.otap_cells.specs.Tables.{Table}
 use Rattle.otap_columns.specs.declared.forms.ColumnForm.{ColumnForm}
 use Rattle.otap_columns.specs.declared.forms.ColumnForm.TheVariants as form
 use Rattle.otap_columns.specs.Groups.{grouped}
-use Rattle.otap_columns.specs.Limits.{dictionary_columns, record_limit, head_limit}
+use Rattle.otap_columns.specs.Limits.{dictionary_columns, record_limit, head_limit, schema_most}
 use Rattle.otap_columns.specs.Schemas.{Forms, FormsFit, fits_form, schema_for}
 use Rattle.otap_columns.specs.BuiltCells.{rows_most}
-use Rattle.otap_columns.specs.WrittenRecords.{AddsAtMost, head_most, heads_most, schema_most}
+use Rattle.otap_columns.specs.WrittenRecords.{AddsAtMost, head_most, heads_most}
 use Rattle.otap_columns.proofs.Counting.{kinds_counted, mark}
 use Rattle.otap_columns.proofs.Grouping.{group_size}
 use Rattle.otap_columns.proofs.Keeping.{fields_few}

@@ -25,7 +25,7 @@ use Rattle.otap_cells.specs.Cells.{Cell, null, IsCellOf}
 use Rattle.otap_cells.specs.Columns.{base_at, coding_at, is_id_at, width_of}
 use Rattle.otap_cells.specs.Tables.{Table, IsTable, SameTable, cell_in, coding_in, row_by, rows_by}
 use Rattle.otap_cells.proofs.ByPlace.{id_within, rows-table_by}
-use Rattle.otap_dicts.specs.Limits.{value_limit}
+use Rattle.otap_columns.specs.Limits.{dictionary_limit, held_most, held_of_kind}
 use Rattle.otap_columns.specs.declared.forms.ColumnForm.{ColumnForm}
 use Rattle.otap_columns.specs.declared.forms.ColumnForm.TheVariants as form
 use Rattle.otap_columns.specs.Dictionaries.{value_weight, dictionary_weight, dictionary_over, DictionaryIn, has_id, filled, empty_dictionaries, dictionaries_in, is_too_large, values_for}
@@ -56,9 +56,9 @@ pub record Step (kind : Kind) (forms : Forms) (values : ℕ → List (List ℕ))
   pub rest : List IpcMessage
   pub is : start ≡ Schema (schema_for kind forms) ∷ rest
   pub turns : Turns (type_at kind forms) (λ column. is_dictionary (forms column)) (width_of kind) start values head
-  pub light : (column : ℕ) → column < width_of kind → is_dictionary (forms column) ≡ true → sum_by value_weight (all_some (values column)) ≤ 1572864
-  pub few : (column : ℕ) → column < width_of kind → is_dictionary (forms column) ≡ true → length (values column) ≤ value_limit
-  pub small : (column : ℕ) → column < width_of kind → is_dictionary (forms column) ≡ true → length (dictionary_over (type_at kind forms column) (pos column) start) ≤ value_limit
+  pub light : (column : ℕ) → column < width_of kind → is_dictionary (forms column) ≡ true → sum_by value_weight (all_some (values column)) ≤ held_most
+  pub few : (column : ℕ) → column < width_of kind → is_dictionary (forms column) ≡ true → length (values column) ≤ dictionary_limit
+  pub small : (column : ℕ) → column < width_of kind → is_dictionary (forms column) ≡ true → length (dictionary_over (type_at kind forms column) (pos column) start) ≤ dictionary_limit
   pub holds : HoldsRows kind forms values t rows
   pub kind_is : t.kind ≡ kind
   pub table : IsTable t
@@ -121,12 +121,12 @@ module _ (kind : Kind) (forms : Forms) (values : ℕ → List (List ℕ)) (start
       none_by is_too_large (filled (start ++ heads head n)) (empty_dictionaries (arrays_of (schema_for kind forms)))
       (every_weaker (λ (d : DictionaryIn). IsOwn d.kind d.id) (λ (d : DictionaryIn). is_too_large (filled (start ++ heads head n) d) ≡ false) each (empty_dictionaries (arrays_of (schema_for kind forms))) each_owned)
     where
-      each : (d : DictionaryIn) → IsOwn d.kind d.id → nat_lt value_limit (length (dictionary_over d.kind d.id (start ++ heads head n))) ≡ false
+      each : (d : DictionaryIn) → IsOwn d.kind d.id → nat_lt dictionary_limit (length (dictionary_over d.kind d.id (start ++ heads head n))) ≡ false
       each d o =
-          let here : length (dictionary_over (arrow_type_in (base_at kind o.column) (forms o.column)) (pos o.column) (start ++ heads head n)) ≤ value_limit =
-          few_after (type_at kind forms) (λ column. is_dictionary (forms column)) (width_of kind) start values head s.turns value_limit o.column n low o.dict
+          let here : length (dictionary_over (arrow_type_in (base_at kind o.column) (forms o.column)) (pos o.column) (start ++ heads head n)) ≤ dictionary_limit =
+          few_after (type_at kind forms) (λ column. is_dictionary (forms column)) (width_of kind) start values head s.turns dictionary_limit o.column n low o.dict
           (s.few o.column o.below o.dict) (s.small o.column o.below o.dict) in
-          le-ltb value_limit (length (dictionary_over d.kind d.id (start ++ heads head n))) (rw (o.type_is, o.id_is) here)
+          le-ltb dictionary_limit (length (dictionary_over d.kind d.id (start ++ heads head n))) (rw (o.type_is, o.id_is) here)
 
   -- the values of a column's batch are fine for each dictionary of its id
   fine_for : (column : ℕ) (batch : BatchIn) (ms : List IpcMessage) → array_check batch (place_of_values (arrow_type_in (base_at kind column) (forms column))) ≡ Ok tt
@@ -306,17 +306,17 @@ module _ (kind : Kind) (forms : Forms) (values : ℕ → List (List ℕ)) (start
   }
 
   -- WHAT IS HELD
-  pub held : held_in (start ++ (heads head (width_of kind) ++ Rows rows ∷ [])) ≤ 1572864 * width_of kind
+  pub held : held_in (start ++ (heads head (width_of kind) ++ Rows rows ∷ [])) ≤ held_of_kind kind
   unfolding held_in dictionaries_in
   held =
       let few = few_dictionaries kind forms s.fit in
-      let all = all_light (filled (start ++ (heads head (width_of kind) ++ Rows rows ∷ []))) 1572864 (empty_dictionaries (arrays_of (schema_for kind forms)))
-      (every_weaker (λ (d : DictionaryIn). IsOwn d.kind d.id) (λ (d : DictionaryIn). dictionary_weight (filled (start ++ (heads head (width_of kind) ++ Rows rows ∷ [])) d) ≤ 1572864) each
+      let all = all_light (filled (start ++ (heads head (width_of kind) ++ Rows rows ∷ []))) held_most (empty_dictionaries (arrays_of (schema_for kind forms)))
+      (every_weaker (λ (d : DictionaryIn). IsOwn d.kind d.id) (λ (d : DictionaryIn). dictionary_weight (filled (start ++ (heads head (width_of kind) ++ Rows rows ∷ [])) d) ≤ held_most) each
       (empty_dictionaries (arrays_of (schema_for kind forms))) each_owned) in
-      subst (λ (o : Option SubstreamIn). held_if o ≤ 1572864 * width_of kind) (sym (stands (heads head (width_of kind) ++ Rows rows ∷ []))) (omega (arith, few, all))
+      subst (λ (o : Option SubstreamIn). held_if o ≤ held_of_kind kind) (sym (stands (heads head (width_of kind) ++ Rows rows ∷ []))) (omega (arith, few, all))
     where
-      each : (d : DictionaryIn) → IsOwn d.kind d.id → dictionary_weight (filled (start ++ (heads head (width_of kind) ++ Rows rows ∷ [])) d) ≤ 1572864
+      each : (d : DictionaryIn) → IsOwn d.kind d.id → dictionary_weight (filled (start ++ (heads head (width_of kind) ++ Rows rows ∷ [])) d) ≤ held_most
       each d o =
-          let here : sum_by value_weight (dictionary_over (arrow_type_in (base_at kind o.column) (forms o.column)) (pos o.column) (start ++ (heads head (width_of kind) ++ Rows rows ∷ []))) ≤ 1572864 =
-          subst (λ (vs : List (Option (List ℕ))). sum_by value_weight vs ≤ 1572864) (sym (dictionary_after o.column o.below o.dict)) (s.light o.column o.below o.dict) in
+          let here : sum_by value_weight (dictionary_over (arrow_type_in (base_at kind o.column) (forms o.column)) (pos o.column) (start ++ (heads head (width_of kind) ++ Rows rows ∷ []))) ≤ held_most =
+          subst (λ (vs : List (Option (List ℕ))). sum_by value_weight vs ≤ held_most) (sym (dictionary_after o.column o.below o.dict)) (s.light o.column o.below o.dict) in
           rw (o.type_is, o.id_is) here

@@ -24,6 +24,7 @@ use Rattle.otap_cells.specs.Columns.{base_at, width_of}
 use Rattle.otap_cells.specs.Payload.{number_of}
 use Rattle.otap_cells.specs.Tables.{Table, cell_in}
 use Rattle.otap_dicts.specs.Limits.{value_limit}
+use Rattle.otap_columns.specs.Limits.{dictionary_limit, held_of_kind}
 use Rattle.otap_columns.specs.Streams.{is_of, last_of, opens_after, opens, stream_of}
 use Rattle.otap_columns.specs.Dictionaries.{dictionary_over}
 use Rattle.otap_columns.specs.Known.{columns_fit}
@@ -59,6 +60,10 @@ no_values : (values : List (List ℕ)) → has_some values ≡ false → values 
 no_values [] is = refl
 no_values (v ∷ vs) is = absurd (true≢false is)
 
+-- a dictionary that may be written is one that is read
+is_taken : (count : ℕ) → count ≤ value_limit → count ≤ dictionary_limit
+is_taken count few = omega (arith, few)
+
 module _ (kind : Kind) (before : List Table) (t : Table) (bytes : List ℕ) where
   -- an opening
   opening_turns : (r : IsRecord kind before t true bytes)
@@ -72,7 +77,7 @@ module _ (kind : Kind) (before : List Table) (t : Table) (bytes : List ℕ) wher
     quiet = λ column not. rw not refl;
   }
 
-  opened_empty : (fields : List FieldSpec) (type : ArrowType) (column : ℕ) → length (dictionary_over type (pos column) (Schema fields ∷ [])) ≤ value_limit
+  opened_empty : (fields : List FieldSpec) (type : ArrowType) (column : ℕ) → length (dictionary_over type (pos column) (Schema fields ∷ [])) ≤ dictionary_limit
   unfolding dictionary_over
   opened_empty fields type column = omega arith
 
@@ -86,7 +91,7 @@ module _ (kind : Kind) (before : List Table) (t : Table) (bytes : List ℕ) wher
       is = refl;
       turns = opening_turns r;
       light = λ column below dict. light (dictionary_values kind (before ++ t ∷ []) column) (few_values kind (before ++ t ∷ []) column dict) (small_values kind (before ++ t ∷ []) column dict);
-      few = λ column below dict. few_values kind (before ++ t ∷ []) column dict;
+      few = λ column below dict. is_taken (length (dictionary_values kind (before ++ t ∷ []) column)) (few_values kind (before ++ t ∷ []) column dict);
       small = λ column below dict. opened_empty (schema_for kind (form_at kind (before ++ t ∷ []))) (type_at kind (form_at kind (before ++ t ∷ [])) column) column;
       holds = r.holds;
       kind_is = w.kind_is;
@@ -145,10 +150,10 @@ module _ (kind : Kind) (before : List Table) (t : Table) (bytes : List ℕ) wher
         is = c.is ∙ ap (λ fields. Schema fields ∷ c.rest) same;
         turns = going_turns r;
         light = λ column below dict. light (dictionary_values kind (before ++ t ∷ []) column) (few_values kind (before ++ t ∷ []) column dict) (small_values kind (before ++ t ∷ []) column dict);
-        few = λ column below dict. few_values kind (before ++ t ∷ []) column dict;
+        few = λ column below dict. is_taken (length (dictionary_values kind (before ++ t ∷ []) column)) (few_values kind (before ++ t ∷ []) column dict);
         small = λ column below dict.
-            subst (λ (n : ℕ). n ≤ value_limit) (sym (ap length (was column below dict) ∙ length-map (dictionary_values kind before column) (λ (value : List ℕ). Some value)))
-            (few_values kind before column (was_dictionary column below dict));
+            subst (λ (n : ℕ). n ≤ dictionary_limit) (sym (ap length (was column below dict) ∙ length-map (dictionary_values kind before column) (λ (value : List ℕ). Some value)))
+            (is_taken (length (dictionary_values kind before column)) (few_values kind before column (was_dictionary column below dict)));
         holds = r.holds;
         kind_is = w.kind_is;
         table = w.table;
@@ -258,7 +263,7 @@ module _ (kind : Kind) (before : List Table) (past : List PayloadIn) (t : Table)
         same = same_table kind (form_at kind (before ++ t ∷ [])) (dictionary_values kind (before ++ t ∷ [])) start head rows t s;
         ids = ids_read kind before t final rows refl (same_table kind (form_at kind (before ++ t ∷ [])) (dictionary_values kind (before ++ t ∷ [])) start head rows t s) s.codings;
         schema = ap schema_in (stream ∙ ap (λ ms. ms ++ (heads head (width_of kind) ++ Rows rows ∷ [])) s.is);
-        held = subst (λ (ms : List IpcMessage). held_in ms ≤ 1572864 * width_of kind) (sym stream) (held kind (form_at kind (before ++ t ∷ [])) (dictionary_values kind (before ++ t ∷ [])) start head rows t s);
+        held = subst (λ (ms : List IpcMessage). held_in ms ≤ held_of_kind kind) (sym stream) (held kind (form_at kind (before ++ t ∷ [])) (dictionary_values kind (before ++ t ∷ [])) start head rows t s);
       };
       next = next;
     }

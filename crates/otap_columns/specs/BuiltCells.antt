@@ -16,7 +16,7 @@ use Rattle.otap_cells.specs.Columns.{base_at}
 use Rattle.otap_cells.specs.Tables.{Table, cell_in, column_in}
 use Rattle.otap_cells.specs.Weights.{cell_weight, weight_of_table}
 use Rattle.otap_dicts.specs.Limits.{narrow_limit, value_limit}
-use Rattle.otap_columns.specs.Limits.{row_limit}
+use Rattle.otap_columns.specs.Limits.{row_limit, rows_rest}
 use Rattle.otap_columns.specs.declared.forms.ColumnForm.{ColumnForm}
 use Rattle.otap_columns.specs.declared.forms.ColumnForm.TheVariants as form
 use Rattle.otap_columns.specs.declared.writer_cells.CellBytes.{CellBytes}
@@ -163,4 +163,4 @@ group_most t (Under struct members) = columns_most t members
 
 -- how many bytes the record batch of a table takes at most
 abbrev pub rows_most : Table → ℕ
-rows_most t = row_limit * length t.rows + weight_of_table t + 8192
+rows_most t = row_limit * length t.rows + weight_of_table t + rows_rest

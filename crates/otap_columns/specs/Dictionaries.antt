@@ -13,7 +13,7 @@ use Rattle.arrow_ipc.specs.declared.messages.IpcMessage.TheVariants.{Schema, Dic
 use Rattle.arrow_ipc.specs.Batches.{BatchIn}
 use Rattle.arrow_arrays.specs.declared.spec.ArraySpec.{ArraySpec}
 use Rattle.arrow_arrays.specs.Cells.{own_cell, place_of_values}
-use Rattle.otap_dicts.specs.Limits.{value_limit}
+use Rattle.otap_columns.specs.Limits.{dictionary_limit, held_unit}
 
 -- the values of a dictionary batch: the cells of its one array, each null or its bytes
 unfoldable pub values_of : ArrowType → BatchIn → List (Option (List ℕ))
@@ -86,13 +86,13 @@ all_grown id delta batch dictionaries = map (grown_if id delta batch) dictionari
 
 -- more values than a dictionary may have
 abbrev pub is_too_large : DictionaryIn → Bool
-is_too_large d = nat_lt value_limit (length d.values)
+is_too_large d = nat_lt dictionary_limit (length d.values)
 
 -- ---- what is held
 
--- the bytes of a value, and 8 more; null has no bytes
+-- the bytes of a value, and a unit; null has no bytes
 abbrev pub value_weight : Option (List ℕ) → ℕ
-value_weight value = cell_len value + 8
+value_weight value = cell_len value + held_unit
 
 abbrev pub dictionary_weight : DictionaryIn → ℕ
 dictionary_weight d = sum_by value_weight d.values

@@ -1,6 +1,6 @@
 -- What a dictionary keeps: words of private contracts.
 use Rattle.std.specs.Prelude.{◌≤◌, length}
-use Rattle.otap_dicts.specs.Limits.{value_limit}
+use Rattle.otap_columns.specs.Limits.{dictionary_limit}
 use Rattle.otap_columns.specs.declared.dictionary.Dictionary.TheInside as dictionary
 use Rattle.otap_columns.specs.Dictionaries.{DictionaryIn}
 use Rattle.otap_columns.specs.Limits.{kept_limit}
@@ -10,6 +10,6 @@ abbrev pub dictionary_in : dictionary.Inside → DictionaryIn
 dictionary_in d = record { id = d.id; kind = d.kind; values = values_by_ends d.bytes.items 0 d.ends.items }
 
 pub record IsDictionaryInside (d : dictionary.Inside) : Type 0 where
-  pub few : length d.ends.items ≤ value_limit
+  pub few : length d.ends.items ≤ dictionary_limit
   pub small : length d.bytes.items ≤ kept_limit
   pub ends : AreEnds 0 d.ends.items (length d.bytes.items)

@@ -11,7 +11,8 @@ use Rattle.arrow_ipc.specs.Batches.{BatchIn}
 use Rattle.arrow_ipc.specs.Faults as ipc
 use Rattle.arrow_ipc.specs.Fronts.{MessagesIn, front_of, left_of, rest_of, record_batch_in}
 use Rattle.arrow_arrays.specs.Arrays.{arrays_of, arrays_check, HasFault}
-use Rattle.arrow_arrays.specs.Cells.{array_check, place_of_values}
+use Rattle.arrow_arrays.specs.Cells.{place_of_values}
+use Rattle.arrow_arrays.specs.Faults.{IsArrayFault}
 use Rattle.otap_cells.specs.declared.payload.Kind.{Kind}
 use Rattle.otap_columns.specs.declared.messages.AnyBatch.{AnyBatch}
 use Rattle.otap_columns.specs.declared.messages.AnyBatch.TheVariants as any
@@ -22,7 +23,7 @@ use Rattle.otap_columns.specs.Known.{columns_fit}
 use Rattle.otap_columns.specs.Records.{is_schema, is_rows, IsFineBatch, IsFine, HasValueFault}
 use Rattle.otap_columns.specs.Substreams.{SubstreamIn, substream_in, indexes_fit}
 use Rattle.otap_columns.specs.Views.{ReaderIn}
-use Rattle.otap_dicts.specs.Limits.{value_limit}
+use Rattle.otap_columns.specs.Limits.{dictionary_limit}
 
 -- the message stands first in what was left to read, and was taken off
 pub record Passes (old new : MessagesIn) (m : IpcMessage) : Type 0 where
@@ -126,8 +127,8 @@ pub record TakesBatch (s : SubstreamIn) (old new : MessagesIn) (s' : SubstreamIn
 
 -- why a dictionary doesn't take a batch of its own
 abbrev pub RefusesValues : Bool → BatchIn → DictionaryIn → ColumnRefusal → Type 0
-RefusesValues delta batch d (Buffers fault) = array_check batch (place_of_values d.kind) ≡ Err fault
-RefusesValues delta batch d DictionarySize = value_limit < length (grown delta batch d).values
+RefusesValues delta batch d (Buffers fault) = IsArrayFault batch (place_of_values d.kind) fault
+RefusesValues delta batch d DictionarySize = dictionary_limit < length (grown delta batch d).values
 RefusesValues delta batch d (Memory e) = Unit {0}
 RefusesValues delta batch d refusal = ⊥
 
@@ -141,7 +142,7 @@ RefusesDictionaryBatch id delta batch dictionaries refusal = ⊥
 
 -- why a dictionary doesn't take a batch of some id
 abbrev pub RefusesIf : ℤ → Bool → BatchIn → DictionaryIn → ColumnRefusal → Type 0
-RefusesIf id delta batch d (Buffers fault) = (has_id id d ≡ true) × (array_check batch (place_of_values d.kind) ≡ Err fault)
+RefusesIf id delta batch d (Buffers fault) = (has_id id d ≡ true) × IsArrayFault batch (place_of_values d.kind) fault
 RefusesIf id delta batch d DictionarySize = is_too_large (grown_if id delta batch d) ≡ true
 RefusesIf id delta batch d (Memory e) = Unit {0}
 RefusesIf id delta batch d refusal = ⊥

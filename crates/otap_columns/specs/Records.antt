@@ -12,6 +12,7 @@ use Rattle.arrow_ipc.specs.Faults as ipc
 use Rattle.arrow_ipc.specs.Fronts.{front_of, left_of}
 use Rattle.arrow_arrays.specs.Arrays.{arrays_of, arrays_check, HasFault}
 use Rattle.arrow_arrays.specs.Cells.{array_check, place_of_values}
+use Rattle.arrow_arrays.specs.Faults.{IsArrayFault}
 use Rattle.otap_cells.specs.declared.payload.Kind.{Kind}
 use Rattle.otap_columns.specs.declared.refusal.ColumnRefusal.{ColumnRefusal}
 use Rattle.otap_columns.specs.declared.refusal.ColumnRefusal.TheVariants.{Order, Ipc, Column, Buffers, BadIndex, DictionarySize, Memory}
@@ -31,7 +32,7 @@ is_rows (Rows batch) = true
 
 -- the values of a dictionary batch have a fault, as those of a dictionary of this id
 abbrev pub HasValueFault : List DictionaryIn → ℤ → BatchIn → BufferFault → Type 0
-HasValueFault dictionaries id batch fault = Any (λ d. (has_id id d ≡ true) × (array_check batch (place_of_values d.kind) ≡ Err fault)) dictionaries
+HasValueFault dictionaries id batch fault = Any (λ d. (has_id id d ≡ true) × IsArrayFault batch (place_of_values d.kind) fault) dictionaries
 
 -- the values have no fault, if they are those of this dictionary
 abbrev pub is_fine_for : ℤ → BatchIn → DictionaryIn → Bool
@@ -48,7 +49,8 @@ abbrev pub HasFineBuffers : List IpcMessage → IpcMessage → Type 0
 HasFineBuffers before m = (s : SubstreamIn) (fault : BufferFault) → substream_in before ≡ Some s → HasBufferFault s m fault → ⊥
 
 -- THE DEFECTS OF A RECORD, whose bytes are read after the messages `past` of its sub-stream; a record that opens one is read
--- after none. Several may stand side by side. A message that stands before any schema is only out of order.
+-- after none. Several may stand side by side. Where the messages of a sub-stream don't begin with a schema, nothing is read by one:
+-- they are out of order, and only the columns of a schema among them may be wrong too.
 pub data Stands (kind : Kind) (past : List IpcMessage) (bytes : List ℕ) : ColumnRefusal → Type 0 where
   -- a sub-stream begins with another message than a schema
   begins_otherwise : (m : IpcMessage) (after : List IpcMessage) → past ≡ [] → front_of bytes ≡ m ∷ after → is_schema m ≡ false → Stands kind past bytes Order
@@ -117,7 +119,7 @@ pub record IsRead (kind : Kind) (past : List IpcMessage) (bytes : List ℕ) : Ty
 
 -- ---- each record is one or the other
 
--- messages that have a schema
+-- messages that begin with a schema
 abbrev pub HasSchema : List IpcMessage → Type 0
 HasSchema messages = (fields : List FieldSpec) × (schema_in messages ≡ Some fields)
 

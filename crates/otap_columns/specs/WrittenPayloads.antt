@@ -27,7 +27,7 @@ use Rattle.otap_columns.specs.declared.forms.ColumnForm.TheVariants as form
 use Rattle.otap_columns.specs.Streams.{opens, stream_of}
 use Rattle.otap_columns.specs.Dictionaries.{values_of}
 use Rattle.otap_columns.specs.Known.{known_column}
-use Rattle.otap_columns.specs.Limits.{held_most}
+use Rattle.otap_columns.specs.Limits.{held_of_kind}
 use Rattle.otap_columns.specs.Substreams.{held_in, value_by_index, is_index_below, logical, schema_in}
 use Rattle.otap_columns.specs.Records.{IsRead}
 use Rattle.otap_columns.specs.Schemas.{Forms, is_dictionary, arrow_type_in, schema_for}
@@ -145,5 +145,5 @@ pub record IsReadAs (kind : Kind) (before : List Table) (past : List PayloadIn) 
   -- its ids, within the type that the schema gives them, are those of the table that was written
   pub ids : (column : ℕ) (ids : List (Option ℕ)) → is_id_at kind column ≡ true → Ids (coding_at kind column) greatest_wide (continues_in t) (stored_in t column) ids → HasIds table column ids
   pub schema : schema_in (stream_of (pos (number_of kind)) (past ++ p ∷ [])) ≡ Some (schema_for kind (form_at kind (before ++ t ∷ [])))
-  -- and how much the far end holds, as if each column were a dictionary
-  pub held : held_in (stream_of (pos (number_of kind)) (past ++ p ∷ [])) ≤ held_most * width_of kind
+  -- and how much the far end holds
+  pub held : held_in (stream_of (pos (number_of kind)) (past ++ p ∷ [])) ≤ held_of_kind kind

@@ -11,8 +11,11 @@ use arrow_schema::ArrowType;
 use std::alloc::{AllocError, Global};
 use std::marker::Model;
 
-/// The most values that a dictionary has.
-pub const MAX_VALUES: u64 = otap_dicts::MAX_VALUES as u64;
+/// The most values that a dictionary has that is read.
+pub const MAX_VALUES: u64 = 65_536;
+
+/// What is held of a value beside its bytes.
+pub(crate) const HELD_UNIT: u64 = 8;
 
 /// A dictionary and its values. A contract sees the values, each null or its bytes.
 #[derive(Debug, Drop)]
@@ -40,7 +43,7 @@ impl Dictionary {
     ghost use Rattle.otap_columns.specs.Dictionaries.{has_id, is_for, kept, grown, grown_if, dictionary_weight, values_of};
     ghost use Rattle.otap_columns.specs.Steps.{FitsIn};
     ghost use Rattle.otap_columns.specs.Reading.{RefusesValues, RefusesIf};
-    ghost use Rattle.otap_dicts.specs.Limits.{value_limit};
+    ghost use Rattle.otap_columns.specs.Limits.{dictionary_limit};
     ghost use Rattle.otap_columns.specs.Records.{is_fine_for};
 
     pub(crate) fn new(alloc: Global, id: i64, kind: ArrowType) -> Dictionary
@@ -75,17 +78,17 @@ impl Dictionary {
 
     pub(crate) fn len(&self) -> usize
         ensures value { result ≡ length self.now.values }
-        ensures few { result ≤ value_limit }
+        ensures few { result ≤ dictionary_limit }
     {
         self.ends.len()
     }
 
-    /// The bytes of the values, and 8 for each.
+    /// The bytes of the values, and a unit for each.
     pub(crate) fn weight(&self) -> u64
         ensures value { result ≡ dictionary_weight self.now }
         ensures few { result < 2 ^ 50 }
     {
-        self.bytes.len() as u64 + 8 * self.ends.len() as u64
+        self.bytes.len() as u64 + HELD_UNIT * self.ends.len() as u64
     }
 
     /// Takes the values of a batch, if it has this dictionary's id.
@@ -98,7 +101,7 @@ impl Dictionary {
         ensures ok { OnOk result (self.new ≡ grown_if id delta batch.now self.old) }
         ensures fine { OnOk result (IsTrue (is_fine_for id batch.now self.old)) }
         ensures fits { FitsIn self.old → FitsIn self.new }
-        ensures few { OnOk result (length self.new.values ≤ value_limit) }
+        ensures few { OnOk result (length self.new.values ≤ dictionary_limit) }
         ensures err { IfErr result (RefusesIf id delta batch.now self.old) }
     {
         if self.id != id {
@@ -113,7 +116,7 @@ impl Dictionary {
         ensures ok { OnOk result (self.new ≡ grown delta batch.now self.old) }
         ensures fine { OnOk result (IsOk (array_check batch.now (place_of_values self.old.kind))) }
         ensures fits { FitsIn self.old → FitsIn self.new }
-        ensures few { OnOk result (length self.new.values ≤ value_limit) }
+        ensures few { OnOk result (length self.new.values ≤ dictionary_limit) }
         ensures err { IfErr result (RefusesValues delta batch.now self.old) }
     {
         let array = ArrayPlace::of_values(self.kind);
@@ -140,7 +143,7 @@ impl Dictionary {
     fn append(&mut self, array: ArrayPlace, batch: &BatchView<'_>) -> Result<(), AllocError>
         requires array { array ≡ place_of_values self.old.kind }
         requires fine { IsOk (array_check batch.now array) }
-        requires room { length self.old.values + batch.now.rows ≤ value_limit }
+        requires room { length self.old.values + batch.now.rows ≤ dictionary_limit }
         ensures ok { OnOk result (self.new ≡ record self.old { values = self.old.values ++ values_of self.old.kind batch.now }) }
         ensures fits { FitsIn self.old → FitsIn self.new }
     {
@@ -153,7 +156,7 @@ impl Dictionary {
 
     /// Appends a value. Where there are too many bytes there is no room for it.
     fn push(&mut self, value: Option<&[u8]>) -> Result<(), AllocError>
-        requires { length self.old.values < value_limit }
+        requires { length self.old.values < dictionary_limit }
         ensures ok { OnOk result (self.new ≡ record self.old { values = self.old.values ++ option_copied value.entry ∷ [] }) }
         ensures err { OnErr result (self.new ≡ self.old) }
     {

@@ -4,11 +4,12 @@ ghost use Rattle.std.specs.Prelude.{◌≡◌, ◌+◌, ◌<◌, ◌++◌, ◌�
 ghost use Rattle.arrow_ipc.specs.declared.messages.IpcMessage.{IpcMessage};
 ghost use Rattle.arrow_ipc.specs.Fronts.{front_of};
 ghost use Rattle.otap_cells.specs.declared.payload.Kind.{Kind};
-ghost use Rattle.otap_dicts.specs.Limits.{value_limit};
 ghost use Rattle.otap_columns.specs.declared.refusal.ColumnRefusal.{ColumnRefusal};
-ghost use Rattle.otap_columns.specs.declared.dictionary.TheConstants.{MAX_VALUES};
+ghost use Rattle.otap_columns.specs.declared.dictionary.TheConstants.{HELD_UNIT, MAX_VALUES};
 ghost use Rattle.otap_columns.specs.declared.ends.TheConstants.{MAX_KEPT};
-ghost use Rattle.otap_columns.specs.Limits.{kept_limit};
+ghost use Rattle.otap_columns.specs.declared.view.TheConstants.{MAX_COLUMNS};
+ghost use Rattle.otap_cells.specs.Limits.{columns_most};
+ghost use Rattle.otap_columns.specs.Limits.{dictionary_limit, held_unit, kept_limit};
 ghost use Rattle.otap_columns.specs.Records.{IsRead, Stands, CanGoOn, IsJudged};
 ghost use Rattle.otap_columns.specs.Schemas.{Forms, is_present, FormsFit, item_in, schema_for, slots_for, IsArraySlot, IsFound};
 ghost use Rattle.otap_columns.specs.Schemas.{Column, Items};
@@ -29,10 +30,13 @@ pub fn read_or_refused()
     ensures never_both { (kind : Kind) (past : List IpcMessage) (bytes : List ℕ) (refusal : ColumnRefusal) → IsRead kind past bytes → Stands kind past bytes refusal → ⊥ }
 {}
 
-/// The constants are the limits: how many values a dictionary has at most, and how many bytes these have together.
+/// The constants are the limits: how many values a dictionary that is read has at most, how many bytes these have together, what is
+/// held of a value beside its bytes, and how many columns a table has at most.
 pub fn values_are_limited()
-    ensures count { MAX_VALUES ≡ value_limit }
+    ensures count { MAX_VALUES ≡ dictionary_limit }
     ensures bytes { MAX_KEPT ≡ kept_limit }
+    ensures unit { HELD_UNIT ≡ held_unit }
+    ensures columns { MAX_COLUMNS ≡ columns_most }
 {}
 
 /// A payload changes only the sub-stream of its own type: it opens another one, or its messages come after the open one's.

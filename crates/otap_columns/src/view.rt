@@ -9,7 +9,7 @@ use otap_cells::{Base, CellView, Coding, Kind, Rows, columns};
 use std::marker::Model;
 
 /// The most columns that a table has.
-const MAX_COLUMNS: usize = 25;
+pub(crate) const MAX_COLUMNS: usize = 25;
 
 /// The table of a record. It hands out parts of the record's bytes and of the reader's dictionaries, and takes no memory. A
 /// contract sees it as the table.

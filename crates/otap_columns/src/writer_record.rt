@@ -6,7 +6,8 @@ ghost use Rattle.otap_columns.specs.Limits.{record_limit};
 ghost use Rattle.otap_columns.specs.WrittenPayloads.{schema_if};
 ghost use Rattle.otap_columns.specs.Schemas.{FormsFit, is_dictionary, schema_for, arrow_type_in};
 ghost use Rattle.otap_columns.specs.WrittenGroups.{forms_in};
-ghost use Rattle.otap_columns.specs.WrittenRecords.{AddsAtMost, AddsHead, AddsHeads, AddsMessages, CanSendColumn, IsRecordBy, from_in, head_most, heads_most, is_sent, schema_most};
+ghost use Rattle.otap_columns.specs.WrittenRecords.{AddsAtMost, AddsHead, AddsHeads, AddsMessages, CanSendColumn, IsRecordBy, from_in, head_most, heads_most, is_sent};
+ghost use Rattle.otap_columns.specs.Limits.{schema_most};
 ghost use Rattle.otap_columns.specs.WrittenRows.{HasValues};
 ghost use Rattle.otap_columns.specs.BuiltRows.{CanWrite, columns_in};
 

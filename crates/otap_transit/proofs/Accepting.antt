@@ -11,13 +11,13 @@ use Rattle.lists.specs.Payloads.{PayloadIn}
 use Rattle.otlp_model.specs.Limits.{item_limit}
 use Rattle.otlp_model.specs.declared.request.Signal.{Signal}
 use Rattle.otap_cells.specs.Cells.{Cell}
-use Rattle.otap_cells.specs.Columns.{width_of}
 use Rattle.otap_cells.specs.GivenIds.{ReadAs}
 use Rattle.otap_cells.specs.declared.payload.Kind.{Kind}
 use Rattle.otap_cells.specs.Payload.{is_kind, kinds_of, main_of}
 use Rattle.otap_cells.specs.Sets.{rows_named}
 use Rattle.otap_cells.specs.Tables.{Table}
 use Rattle.otap_cells.specs.Weights.{row_weight_limit, weight_of_table, weight_of_row, weight_of_tables}
+use Rattle.otap_columns.specs.Limits.{held_of_kind}
 use Rattle.otap_columns.specs.Records.{IsRead}
 use Rattle.otap_columns.specs.Substreams.{held_in, logical}
 use Rattle.otap_columns.specs.Streams.{stream_of}
@@ -149,7 +149,7 @@ same_weight (u ∷ us) (t ∷ ts) read =
 pub held_little : (signal : Signal) (all : List PayloadIn) → AreHeld all → held_after signal all ≤ held_limit
 unfolding held_after
 held_little signal all held =
-    omega (arith, all_columns signal, sum_by-le-sum_by (λ kind. held_in (stream_of (payload_type_of kind) all)) (λ kind. 1572864 * width_of kind) (kinds_of signal) held)
+    omega (arith, all_columns signal, sum_by-le-sum_by (λ kind. held_in (stream_of (payload_type_of kind) all)) held_of_kind (kinds_of signal) held)
 
 -- ---- all together
 

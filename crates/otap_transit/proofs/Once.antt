@@ -8,10 +8,10 @@ use Rattle.std.proofs.lemmas.List.Sums.{sum_by-cons, length-filter, count_by-le-
 use Rattle.otlp_model.specs.declared.request.Signal.{Signal}
 use Rattle.otlp_model.specs.declared.request.Signal.TheVariants.{Traces, Logs, Metrics}
 use Rattle.otap_cells.specs.declared.payload.Kind.{Kind}
-use Rattle.otap_cells.specs.Columns.{width_of, logs, spans, metrics, attrs, deep_attrs, span_events, span_links, number_points, summary_points, hist_points, exemplars}
+use Rattle.otap_cells.specs.Columns.{logs, spans, metrics, attrs, deep_attrs, span_events, span_links, number_points, summary_points, hist_points, exemplars}
 use Rattle.otap_cells.specs.Payload.{kinds_of, kind_numbered, is_kind}
 use Rattle.otap_cells.specs.Tables.{Table}
-use Rattle.otap_columns.specs.Limits.{tables_limit}
+use Rattle.otap_columns.specs.Limits.{held_of_kind, tables_limit}
 use Rattle.otap_consume.specs.Limits.{held_limit}
 use Rattle.otap_consume.specs.Payloads.{payload_type_of}
 use Rattle.otap_produce.specs.Writable.{AreInOrder}
@@ -130,7 +130,7 @@ tables_known signal ts order =
 
 -- ---- what all columns of a signal may hold
 
-pub all_columns : (signal : Signal) → sum_by (λ kind. 1572864 * width_of kind) (kinds_of signal) ≤ held_limit
+pub all_columns : (signal : Signal) → sum_by held_of_kind (kinds_of signal) ≤ held_limit
 unfolding logs spans metrics attrs deep_attrs span_events span_links number_points summary_points hist_points exemplars
 all_columns Traces = lit≤ tt
 all_columns Logs = lit≤ tt

@@ -10,7 +10,7 @@ use Rattle.arrow_ipc.specs.declared.messages.IpcMessage.{IpcMessage}
 use Rattle.otap_cells.specs.declared.payload.Kind.{Kind}
 use Rattle.otap_cells.specs.Payload.{number_of, is_kind}
 use Rattle.otap_cells.specs.Tables.{Table}
-use Rattle.otap_cells.specs.Columns.{width_of}
+use Rattle.otap_columns.specs.Limits.{held_of_kind}
 use Rattle.otap_columns.specs.WrittenPayloads.{IsWritten, IsRecord, IsReadAs, AreWrittenAs}
 use Rattle.otap_columns.specs.Records.{IsRead}
 use Rattle.otap_columns.specs.Substreams.{held_in, logical, schema_in}
@@ -89,7 +89,7 @@ read_among kind before past t p same r =
       same = r.same;
       ids = r.ids;
       schema = ap schema_in (sym stream) ∙ r.schema;
-      held = subst (λ (ms : List IpcMessage). held_in ms ≤ 1572864 * width_of kind) stream r.held;
+      held = subst (λ (ms : List IpcMessage). held_in ms ≤ held_of_kind kind) stream r.held;
     }
 
 abbrev pub FarEndReads : Type 0

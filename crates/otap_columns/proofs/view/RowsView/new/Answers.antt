@@ -1,7 +1,7 @@
 use Rattle.std.proofs.Common.{◌≡◌, ◌<◌, length, ap, arith, length-set}
 use Rattle.otap_cells.specs.Columns.{width_of}
 use Rattle.otap_columns.proofs.Resolving.{one_more_column}
-use Rattle.otap_columns.proofs.Widths.{few_columns}
+use Rattle.otap_cells.proofs.Widths.{few_columns}
 use Rattle.otap_columns.proofs.view.RowsView.new.Goals as goal
 
 pub bounds-found-column : goal.bounds-found-column
