@@ -1,5 +1,5 @@
 -- The first fault of an array is among its faults, and where there is no first one it has none.
-use Rattle.std.proofs.Common.{◌≡◌, ℕ, ◌+◌, ◌*◌, ◌<◌, ◌≤◌, ◌⊎◌, ◌==◌, ◌&&◌, ℤ, pos, int_lt, nat_lt, Bool, true, false, if◌then◌else◌, List, length, take, slice_get, Option, Some, None, Result, Ok, Err, IfErr, OnOk, refl, sym, ap, ◌∙◌, subst, inl, inr, arith}
+use Rattle.std.proofs.Common.{◌≡◌, ℕ, ◌+◌, ◌*◌, ◌≤◌, ◌⊎◌, ◌==◌, ◌&&◌, ℤ, pos, int_lt, nat_lt, Bool, true, false, if◌then◌else◌, List, length, take, slice_get, Option, Some, None, Result, Ok, Err, IfErr, OnOk, refl, sym, ap, ◌∙◌, subst, inl, inr, arith}
 use Rattle.std.specs.Result.{result_and}
 use Rattle.lists.proofs.Truths.{chosen}
 use Rattle.lists.proofs.Equals.{ok_is}

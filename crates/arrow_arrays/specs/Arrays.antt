@@ -1,6 +1,6 @@
 -- The arrays of a schema's fields, and their faults and cells in a record batch (Arrow columnar format, "RecordBatch
 -- message": nodes and buffers stand depth first, a field before its children, and its own buffers before theirs).
-use Rattle.std.specs.Prelude.{◌≡◌, ℕ, zero, suc, ◌+◌, Bool, true, false, List, [], ◌∷◌, ◌++◌, length, sum_by, slice_get, Option, None, Some, Result, Ok, Err}
+use Rattle.std.specs.Prelude.{◌≡◌, ℕ, zero, suc, ◌+◌, Bool, true, false, List, [], ◌∷◌, ◌++◌, length, sum_by, slice_get, Option, None, Some, Result, Ok}
 use Rattle.std.specs.Result.{result_and}
 use Rattle.arrow_schema.specs.Limits.{max_depth}
 use Rattle.arrow_schema.specs.declared.spec.ArrowType.{ArrowType}

@@ -1,5 +1,5 @@
 -- What is written for a schema is plain: each of its fields is one that was written.
-use Rattle.std.proofs.Common.{◌≡◌, ℕ, ◌-◌, ◌<◌, ◌⊎◌, List, [], ◌∷◌, length, Result, Ok, Err, Some, None, refl, sym, ap, ◌∙◌, subst, inl, inr, arith}
+use Rattle.std.proofs.Common.{◌≡◌, ℕ, ◌-◌, ◌<◌, ◌⊎◌, List, [], ◌∷◌, length, Result, Ok, Err, Some, None, refl, sym, ◌∙◌, subst, inl, inr, arith}
 use Rattle.std.specs.Prelude.{slice_index_or, slice_index, codes}
 use Rattle.lists.proofs.Equals.{ok_is}
 use Rattle.lists.specs.Results.{◌>>=◌}

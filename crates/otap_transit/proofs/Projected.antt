@@ -1,6 +1,6 @@
 -- The tables and the payloads of all kinds, looked at by one kind.
 use Rattle.std.proofs.Common.{◌≡◌, pos, Bool, true, false, List, [], ◌∷◌, ◌++◌, ℤ, inl, inr, if◌then◌else◌, refl, sym, ap, ◌∙◌, subst}
-use Rattle.std.specs.Prelude.{◌*◌, ◌≤◌, filter, ◌⊎◌}
+use Rattle.std.specs.Prelude.{◌≤◌, filter, ◌⊎◌}
 use Rattle.std.specs.Ordering.{int_eq}
 use Rattle.std.proofs.lemmas.Bool.{cases_Bool}
 use Rattle.lists.specs.EachAfter.{EachAfter}
