@@ -1,5 +1,5 @@
 -- How a reader goes through the messages of a record, in the words of private contracts: what the first message of the rest does, or why it is refused.
-use Rattle.std.specs.Prelude.{◌≡◌, ℕ, Bool, true, false, not, List, [], ◌∷◌, ◌++◌, drop, ◌⊎◌, Some, ℤ, Ok, ◌<◌, length, Err}
+use Rattle.std.specs.Prelude.{◌≡◌, ℕ, Bool, true, false, not, List, [], ◌∷◌, ◌++◌, drop, ◌⊎◌, Some, ℤ, Ok, ◌<◌, length}
 use Rattle.std.specs.List.{list_any}
 use Rattle.lists.specs.EachAfter.{AllAfter}
 use Rattle.arrow_schema.specs.declared.spec.FieldSpec.{FieldSpec}

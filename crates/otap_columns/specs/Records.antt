@@ -1,5 +1,5 @@
 -- What is wrong with a record, read after the messages of its sub-stream so far, and what it is when nothing is.
-use Rattle.std.specs.Prelude.{◌≡◌, ◌≢◌, ℕ, Bool, true, false, List, [], ◌∷◌, ◌++◌, Option, Some, None, ℤ, Ok, Err, Any, not, ◌||◌, is_ok, ◌⊎◌}
+use Rattle.std.specs.Prelude.{◌≡◌, ◌≢◌, ℕ, Bool, true, false, List, [], ◌∷◌, ◌++◌, Option, Some, None, ℤ, Ok, Any, not, ◌||◌, is_ok, ◌⊎◌}
 use Rattle.std.specs.List.{list_any, list_all}
 use Rattle.lists.specs.EachAfter.{AllAfter}
 use Rattle.arrow_schema.specs.declared.spec.FieldSpec.{FieldSpec}

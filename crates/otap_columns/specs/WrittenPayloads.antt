@@ -1,6 +1,6 @@
 -- What an exporter writes: for the tables of a kind, one after the other, the records of their payloads (OpenTelemetry Arrow
 -- Protocol, "Schema and Dictionary Resets" and "Delta Dictionaries").
-use Rattle.std.specs.Prelude.{◌≡◌, ◌≢◌, ◌↔◌, ℕ, zero, suc, ◌*◌, ◌<◌, ◌≤◌, ⊤, Bool, true, false, not, ◌&&◌, if◌then◌else◌, List, [], ◌∷◌, ◌++◌, length, map, slice_get, Option, Some, pos, Ok}
+use Rattle.std.specs.Prelude.{◌≡◌, ◌≢◌, ◌↔◌, ℕ, zero, suc, ◌<◌, ◌≤◌, ⊤, Bool, true, false, not, ◌&&◌, if◌then◌else◌, List, [], ◌∷◌, ◌++◌, length, map, slice_get, Option, Some, pos, Ok}
 use Rattle.lists.specs.EachAfter.{EachAfter}
 use Rattle.lists.specs.Payloads.{PayloadIn}
 use Rattle.arrow_schema.specs.declared.spec.ArrowType.{ArrowType}
