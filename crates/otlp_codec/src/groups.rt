@@ -238,9 +238,11 @@ pub(crate) fn take_scope(alloc: Global, to: &mut Scope, value: &Wire<'_>) -> Res
 impl Spelled for Resource {
     ghost spelled = { λ resource. canon (resource_rows resource) };
 
+    #[tactic(auto, using(otlp_messages::proofs::Keeping::keeps_more, otlp_messages::proofs::Keeping::keeps_four))]
     fn write(&self, to: &mut Backward) -> Result<(), AllocError> {
         to.put_varint_row(2, u64::from(self.dropped))?;
-        write_pairs(to, 1, self.pairs.as_slice())
+        write_pairs(to, 1, self.pairs.as_slice())?;
+        Ok(())
     }
 
     fn len(&self) -> u64 {
@@ -254,11 +256,13 @@ impl Spelled for Resource {
 impl Spelled for Scope {
     ghost spelled = { λ scope. canon (scope_rows scope) };
 
+    #[tactic(auto, using(otlp_messages::proofs::Keeping::keeps_more, otlp_messages::proofs::Keeping::keeps_four))]
     fn write(&self, to: &mut Backward) -> Result<(), AllocError> {
         to.put_varint_row(4, u64::from(self.dropped))?;
         write_pairs(to, 3, self.pairs.as_slice())?;
         to.put_bytes_row(2, self.version.as_slice())?;
-        to.put_bytes_row(1, self.name.as_slice())
+        to.put_bytes_row(1, self.name.as_slice())?;
+        Ok(())
     }
 
     fn len(&self) -> u64 {
@@ -274,10 +278,12 @@ impl Spelled for Scope {
 impl<I: Spelled> Spelled for ScopeGroup<I> {
     ghost spelled = { canon_scope_group I.spelled };
 
+    #[tactic(auto, using(otlp_messages::proofs::Keeping::keeps_more, otlp_messages::proofs::Keeping::keeps_four))]
     fn write(&self, to: &mut Backward) -> Result<(), AllocError> {
         to.put_bytes_row(3, self.scope.schema_url.as_slice())?;
         write_more(to, 2, self.items.as_slice())?;
-        write_one(to, 1, &self.scope)
+        write_one(to, 1, &self.scope)?;
+        Ok(())
     }
 
     fn len(&self) -> u64 {
@@ -292,10 +298,12 @@ impl<I: Spelled> Spelled for ScopeGroup<I> {
 impl<I: Spelled> Spelled for ResourceGroup<I> {
     ghost spelled = { canon_resource_group I.spelled };
 
+    #[tactic(auto, using(otlp_messages::proofs::Keeping::keeps_more, otlp_messages::proofs::Keeping::keeps_four))]
     fn write(&self, to: &mut Backward) -> Result<(), AllocError> {
         to.put_bytes_row(3, self.resource.schema_url.as_slice())?;
         write_more(to, 2, self.scopes.as_slice())?;
-        write_one(to, 1, &self.resource)
+        write_one(to, 1, &self.resource)?;
+        Ok(())
     }
 
     fn len(&self) -> u64 {

@@ -70,7 +70,7 @@ impl Submessage for HistPoint {
 impl Spelled for HistPoint {
     ghost spelled = { canon_hist_point };
 
-    #[tactic(auto, unfolding(crate::specs::MetricSpelling::canon_hist_point))]
+    #[tactic(auto, using(otlp_messages::proofs::Keeping::keeps_more, otlp_messages::proofs::Keeping::keeps_four), unfolding(crate::specs::MetricSpelling::canon_hist_point))]
     fn write(&self, to: &mut Backward) -> Result<(), AllocError> {
         to.put_optional_row(12, self.max)?;
         to.put_optional_row(11, self.min)?;
@@ -82,7 +82,8 @@ impl Spelled for HistPoint {
         to.put_optional_row(5, self.sum)?;
         to.put_fixed64_row(4, self.count)?;
         to.put_fixed64_row(3, self.time)?;
-        to.put_fixed64_row(2, self.start)
+        to.put_fixed64_row(2, self.start)?;
+        Ok(())
     }
 
     #[tactic(auto, unfolding(crate::specs::MetricSpelling::canon_hist_point))]
@@ -138,10 +139,11 @@ impl Submessage for Quantile {
 impl Spelled for Quantile {
     ghost spelled = { canon_quantile };
 
-    #[tactic(auto, unfolding(crate::specs::MetricSpelling::canon_quantile))]
+    #[tactic(auto, using(otlp_messages::proofs::Keeping::keeps_more, otlp_messages::proofs::Keeping::keeps_four), unfolding(crate::specs::MetricSpelling::canon_quantile))]
     fn write(&self, to: &mut Backward) -> Result<(), AllocError> {
         to.put_fixed64_row(2, self.value)?;
-        to.put_fixed64_row(1, self.quantile)
+        to.put_fixed64_row(1, self.quantile)?;
+        Ok(())
     }
 
     #[tactic(auto, unfolding(crate::specs::MetricSpelling::canon_quantile))]
@@ -195,7 +197,7 @@ impl Submessage for SumPoint {
 impl Spelled for SumPoint {
     ghost spelled = { canon_sum_point };
 
-    #[tactic(auto, unfolding(crate::specs::MetricSpelling::canon_sum_point))]
+    #[tactic(auto, using(otlp_messages::proofs::Keeping::keeps_more, otlp_messages::proofs::Keeping::keeps_four), unfolding(crate::specs::MetricSpelling::canon_sum_point))]
     fn write(&self, to: &mut Backward) -> Result<(), AllocError> {
         to.put_varint_row(8, u64::from(self.flags))?;
         write_pairs(to, 7, self.pairs.as_slice())?;
@@ -203,7 +205,8 @@ impl Spelled for SumPoint {
         to.put_fixed64_row(5, self.sum)?;
         to.put_fixed64_row(4, self.count)?;
         to.put_fixed64_row(3, self.time)?;
-        to.put_fixed64_row(2, self.start)
+        to.put_fixed64_row(2, self.start)?;
+        Ok(())
     }
 
     #[tactic(auto, unfolding(crate::specs::MetricSpelling::canon_sum_point))]

@@ -73,7 +73,7 @@ impl Submessage for LogRecord {
 impl Spelled for LogRecord {
     ghost spelled = { canon_log_record };
 
-    #[tactic(auto, unfolding(crate::specs::Canonical::canon_log_record))]
+    #[tactic(auto, using(otlp_messages::proofs::Keeping::keeps_more, otlp_messages::proofs::Keeping::keeps_four), unfolding(crate::specs::Canonical::canon_log_record))]
     fn write(&self, to: &mut Backward) -> Result<(), AllocError> {
         to.put_bytes_row(12, self.event_name.as_slice())?;
         to.put_fixed64_row(11, self.observed)?;
@@ -85,7 +85,8 @@ impl Spelled for LogRecord {
         write_one(to, 5, &self.body)?;
         to.put_bytes_row(3, self.severity_text.as_slice())?;
         to.put_signed_row(2, i64::from(self.severity))?;
-        to.put_fixed64_row(1, self.time)
+        to.put_fixed64_row(1, self.time)?;
+        Ok(())
     }
 
     #[tactic(auto, unfolding(crate::specs::Canonical::canon_log_record))]

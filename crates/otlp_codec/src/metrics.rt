@@ -1,7 +1,8 @@
 //! Metrics.
 
-ghost use Rattle.std.specs.Prelude.{◌≡◌, ◌++◌, min, length, OnOk};
+ghost use Rattle.std.specs.Prelude.{◌≡◌, ◌++◌, min, length, OnOk, OnErr};
 ghost use Rattle.otlp_wire.specs.Wire.{value_of};
+ghost use Rattle.otlp_messages.specs.Kept.{KeepsEnd};
 ghost use Rattle.otlp_messages.specs.declared.messages.FieldKind.TheVariants as kinds;
 ghost use Rattle.otlp_messages.specs.declared.messages.Message.TheVariants as messages;
 ghost use Rattle.otlp_codec.specs.Limits.{level_limit};
@@ -92,12 +93,13 @@ fn unsupported(value: &Wire<'_>) -> ReadRefusal
 impl Spelled for Metric {
     ghost spelled = { canon_metric };
 
-    #[tactic(auto, unfolding(crate::specs::MetricSpelling::canon_metric))]
+    #[tactic(auto, using(otlp_messages::proofs::Keeping::keeps_more, otlp_messages::proofs::Keeping::keeps_four), unfolding(crate::specs::MetricSpelling::canon_metric))]
     fn write(&self, to: &mut Backward) -> Result<(), AllocError> {
         write_shape(to, &self.shape)?;
         to.put_bytes_row(3, self.unit.as_slice())?;
         to.put_bytes_row(2, self.description.as_slice())?;
-        to.put_bytes_row(1, self.name.as_slice())
+        to.put_bytes_row(1, self.name.as_slice())?;
+        Ok(())
     }
 
     #[tactic(auto, unfolding(crate::specs::MetricSpelling::canon_metric))]
@@ -113,7 +115,8 @@ impl Spelled for Metric {
 
 /// Writes the member of the oneof that the shape is.
 fn write_shape(to: &mut Backward, shape: &Shape) -> Result<(), AllocError>
-    ensures { OnOk result (to.new ≡ canon (shape_rows shape.now) ++ to.old) }
+    ensures ok { OnOk result (to.new ≡ canon (shape_rows shape.now) ++ to.old) }
+    ensures err { OnErr result (KeepsEnd to.old to.new) }
 {
     match shape {
         Shape::Empty => Ok(()),

@@ -1,7 +1,8 @@
 //! Fields that only points have: the oneof of a number, doubles that may be missing, packed numbers.
 
-ghost use Rattle.std.specs.Prelude.{◌≡◌, ◌≤◌, ◌/◌, ◌++◌, min, length, OnOk, IfErr, IfOk};
+ghost use Rattle.std.specs.Prelude.{◌≡◌, ◌≤◌, ◌/◌, ◌++◌, min, length, OnOk, OnErr, IfErr, IfOk};
 ghost use Rattle.otlp_wire.specs.Wire.{value_of, IsNumber};
+ghost use Rattle.otlp_messages.specs.Kept.{KeepsEnd};
 ghost use Rattle.otlp_messages.specs.declared.messages.FieldKind.TheVariants as kinds;
 ghost use Rattle.otlp_codec.specs.Limits.{level_limit};
 ghost use Rattle.otlp_messages.specs.Fine.{FineValue};
@@ -105,7 +106,8 @@ fn push_numbers(to: &mut Items<u64>, part: &[u8]) -> Result<(), AllocError>
 /// Writes `as_double`, where the number is a double.
 pub(crate) fn write_double(to: &mut Backward, number: u32, value: Number) -> Result<(), AllocError>
     requires { IsNumber number }
-    ensures { OnOk result (to.new ≡ canon_row number (double_row value) ++ to.old) }
+    ensures ok { OnOk result (to.new ≡ canon_row number (double_row value) ++ to.old) }
+    ensures err { OnErr result (KeepsEnd to.old to.new) }
 {
     match value {
         Number::Double(bits) => to.put_fixed64_field(number, bits),
@@ -116,7 +118,8 @@ pub(crate) fn write_double(to: &mut Backward, number: u32, value: Number) -> Res
 /// Writes `as_int`, where the number is an integer.
 pub(crate) fn write_int(to: &mut Backward, number: u32, value: Number) -> Result<(), AllocError>
     requires { IsNumber number }
-    ensures { OnOk result (to.new ≡ canon_row number (int_row value) ++ to.old) }
+    ensures ok { OnOk result (to.new ≡ canon_row number (int_row value) ++ to.old) }
+    ensures err { OnErr result (KeepsEnd to.old to.new) }
 {
     match value {
         Number::Int(int) => to.put_fixed64_field(number, int.cast_unsigned()),

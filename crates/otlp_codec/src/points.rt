@@ -59,14 +59,15 @@ impl Submessage for Exemplar {
 impl Spelled for Exemplar {
     ghost spelled = { canon_exemplar };
 
-    #[tactic(auto, unfolding(crate::specs::MetricSpelling::canon_exemplar))]
+    #[tactic(auto, using(otlp_messages::proofs::Keeping::keeps_more, otlp_messages::proofs::Keeping::keeps_four), unfolding(crate::specs::MetricSpelling::canon_exemplar))]
     fn write(&self, to: &mut Backward) -> Result<(), AllocError> {
         write_pairs(to, 7, self.pairs.as_slice())?;
         write_int(to, 6, self.value)?;
         to.put_bytes_row(5, self.trace_id.as_slice())?;
         to.put_bytes_row(4, self.span_id.as_slice())?;
         write_double(to, 3, self.value)?;
-        to.put_fixed64_row(2, self.time)
+        to.put_fixed64_row(2, self.time)?;
+        Ok(())
     }
 
     #[tactic(auto, unfolding(crate::specs::MetricSpelling::canon_exemplar))]
@@ -126,7 +127,7 @@ impl Submessage for Point {
 impl Spelled for Point {
     ghost spelled = { canon_point };
 
-    #[tactic(auto, unfolding(crate::specs::MetricSpelling::canon_point))]
+    #[tactic(auto, using(otlp_messages::proofs::Keeping::keeps_more, otlp_messages::proofs::Keeping::keeps_four), unfolding(crate::specs::MetricSpelling::canon_point))]
     fn write(&self, to: &mut Backward) -> Result<(), AllocError> {
         to.put_varint_row(8, u64::from(self.flags))?;
         write_pairs(to, 7, self.pairs.as_slice())?;
@@ -134,7 +135,8 @@ impl Spelled for Point {
         write_more(to, 5, self.exemplars.as_slice())?;
         write_double(to, 4, self.value)?;
         to.put_fixed64_row(3, self.time)?;
-        to.put_fixed64_row(2, self.start)
+        to.put_fixed64_row(2, self.start)?;
+        Ok(())
     }
 
     #[tactic(auto, unfolding(crate::specs::MetricSpelling::canon_point))]

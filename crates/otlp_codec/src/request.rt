@@ -1,10 +1,11 @@
 //! Requests, read and written.
 
-ghost use Rattle.std.specs.Prelude.{◌≡◌, ◌≤◌, ◌++◌, ◌+◌, length, min, IfOk, IfErr, OnOk};
+ghost use Rattle.std.specs.Prelude.{◌≡◌, ◌≤◌, ◌++◌, ◌+◌, length, min, IfOk, IfErr, OnOk, OnErr};
 ghost use Rattle.otlp_model.specs.Limits.{count_cap, weight_limit};
 ghost use Rattle.otlp_model.specs.Weight.{weight_of};
 ghost use Rattle.otlp_model.specs.Profile.{IsProfile};
 ghost use Rattle.otlp_model.specs.Real.{IsReal};
+ghost use Rattle.otlp_messages.specs.Kept.{KeepsEnd};
 ghost use Rattle.otlp_codec.specs.Limits.{longest_request};
 ghost use Rattle.otlp_codec.specs.Refusals.{HoldsNamed};
 ghost use Rattle.otlp_codec.specs.Requests.{Stands, Reads, canon_request};
@@ -60,9 +61,11 @@ pub fn write_request(alloc: Global, request: &Request) -> Result<Vec<u8>, AllocE
     Ok(to.finish())
 }
 
-/// Writes the same before what is written, so that a head can be written before it without a copy.
+/// Writes the same before what is written, so that a head can be written before it without a copy. After an `Err`, what was
+/// written before is still the end of what is there.
 pub fn put_request(to: &mut Backward, request: &Request) -> Result<(), AllocError>
     ensures spelled { OnOk result (to.new ≡ canon_request request.now ++ to.old) }
+    ensures err { OnErr result (KeepsEnd to.old to.new) }
     ensures bound { OnOk result (IsReal request.now → weight_of request.now ≤ weight_limit → length to.new ≤ length to.old + longest_request) }
 {
     put_groups(to, request)?;
@@ -71,7 +74,8 @@ pub fn put_request(to: &mut Backward, request: &Request) -> Result<(), AllocErro
 
 /// Writes the groups of the request.
 fn put_groups(to: &mut Backward, request: &Request) -> Result<(), AllocError>
-    ensures { OnOk result (to.new ≡ canon_request request.now ++ to.old) }
+    ensures ok { OnOk result (to.new ≡ canon_request request.now ++ to.old) }
+    ensures err { OnErr result (KeepsEnd to.old to.new) }
 {
     match request {
         Request::Traces(groups) => write_more(to, 1, groups.as_slice()),

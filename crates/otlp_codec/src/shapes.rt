@@ -1,8 +1,9 @@
 //! Gauges, sums, histograms and summaries: the members of a metric's oneof.
 
-ghost use Rattle.std.specs.Prelude.{◌≡◌, [], ◌∷◌, ◌++◌, min, length, OnOk, IfErr, IfOk};
+ghost use Rattle.std.specs.Prelude.{◌≡◌, [], ◌∷◌, ◌++◌, min, length, OnOk, OnErr, IfErr, IfOk};
 ghost use Rattle.otlp_wire.specs.Wire as wire;
 ghost use Rattle.otlp_wire.specs.Wire.{value_of};
+ghost use Rattle.otlp_messages.specs.Kept.{KeepsEnd};
 ghost use Rattle.otlp_messages.specs.declared.messages.FieldKind.TheVariants as kinds;
 ghost use Rattle.otlp_messages.specs.declared.messages.Message.TheVariants as messages;
 ghost use Rattle.otlp_codec.specs.Limits.{level_limit};
@@ -233,59 +234,67 @@ pub(crate) fn take_summary(
 }
 
 /// Writes a gauge as the member of the oneof that it is.
-#[tactic(auto, unfolding(crate::specs::MetricSpelling::canon_gauge))]
+#[tactic(auto, using(otlp_messages::proofs::Keeping::keeps_more, otlp_messages::proofs::Keeping::keeps_four), unfolding(crate::specs::MetricSpelling::canon_gauge))]
 pub(crate) fn write_gauge(to: &mut Backward, points: &Items<Point>) -> Result<(), AllocError>
-    ensures { OnOk result (to.new ≡ canon_row 5 (wire.Bytes (canon_gauge points.now) ∷ []) ++ to.old) }
+    ensures ok { OnOk result (to.new ≡ canon_row 5 (wire.Bytes (canon_gauge points.now) ∷ []) ++ to.old) }
+    ensures err { OnErr result (KeepsEnd to.old to.new) }
 {
     let before = to.len();
     write_more(to, 1, points.as_slice())?;
     let size = to.len() - before;
-    to.close_field(5, size)
+    to.close_field(5, size)?;
+    Ok(())
 }
 
 /// Writes a sum as the member of the oneof that it is.
-#[tactic(auto, unfolding(crate::specs::MetricSpelling::canon_sum))]
+#[tactic(auto, using(otlp_messages::proofs::Keeping::keeps_more, otlp_messages::proofs::Keeping::keeps_four), unfolding(crate::specs::MetricSpelling::canon_sum))]
 pub(crate) fn write_sum(
     to: &mut Backward,
     points: &Items<Point>,
     temporality: i32,
     monotonic: bool,
 ) -> Result<(), AllocError>
-    ensures { OnOk result (to.new ≡ canon_row 7 (wire.Bytes (canon_sum (record { points = points.now; temporality = temporality; monotonic = monotonic })) ∷ []) ++ to.old) }
+    ensures ok { OnOk result (to.new ≡ canon_row 7 (wire.Bytes (canon_sum (record { points = points.now; temporality = temporality; monotonic = monotonic })) ∷ []) ++ to.old) }
+    ensures err { OnErr result (KeepsEnd to.old to.new) }
 {
     let before = to.len();
     to.put_bool_row(3, monotonic)?;
     to.put_signed_row(2, i64::from(temporality))?;
     write_more(to, 1, points.as_slice())?;
     let size = to.len() - before;
-    to.close_field(7, size)
+    to.close_field(7, size)?;
+    Ok(())
 }
 
 /// Writes a histogram as the member of the oneof that it is.
-#[tactic(auto, unfolding(crate::specs::MetricSpelling::canon_histogram))]
+#[tactic(auto, using(otlp_messages::proofs::Keeping::keeps_more, otlp_messages::proofs::Keeping::keeps_four), unfolding(crate::specs::MetricSpelling::canon_histogram))]
 pub(crate) fn write_histogram(
     to: &mut Backward,
     points: &Items<HistPoint>,
     temporality: i32,
 ) -> Result<(), AllocError>
-    ensures { OnOk result (to.new ≡ canon_row 9 (wire.Bytes (canon_histogram (record { points = points.now; temporality = temporality })) ∷ []) ++ to.old) }
+    ensures ok { OnOk result (to.new ≡ canon_row 9 (wire.Bytes (canon_histogram (record { points = points.now; temporality = temporality })) ∷ []) ++ to.old) }
+    ensures err { OnErr result (KeepsEnd to.old to.new) }
 {
     let before = to.len();
     to.put_signed_row(2, i64::from(temporality))?;
     write_more(to, 1, points.as_slice())?;
     let size = to.len() - before;
-    to.close_field(9, size)
+    to.close_field(9, size)?;
+    Ok(())
 }
 
 /// Writes a summary as the member of the oneof that it is.
-#[tactic(auto, unfolding(crate::specs::MetricSpelling::canon_summary))]
+#[tactic(auto, using(otlp_messages::proofs::Keeping::keeps_more, otlp_messages::proofs::Keeping::keeps_four), unfolding(crate::specs::MetricSpelling::canon_summary))]
 pub(crate) fn write_summary(to: &mut Backward, points: &Items<SumPoint>) -> Result<(), AllocError>
-    ensures { OnOk result (to.new ≡ canon_row 11 (wire.Bytes (canon_summary points.now) ∷ []) ++ to.old) }
+    ensures ok { OnOk result (to.new ≡ canon_row 11 (wire.Bytes (canon_summary points.now) ∷ []) ++ to.old) }
+    ensures err { OnErr result (KeepsEnd to.old to.new) }
 {
     let before = to.len();
     write_more(to, 1, points.as_slice())?;
     let size = to.len() - before;
-    to.close_field(11, size)
+    to.close_field(11, size)?;
+    Ok(())
 }
 
 /// How many bytes a gauge takes as the member of the oneof, or 2^63 where there are more.

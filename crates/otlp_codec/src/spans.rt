@@ -250,12 +250,13 @@ fn take_status(
 impl Spelled for Event {
     ghost spelled = { canon_event };
 
-    #[tactic(auto, unfolding(crate::specs::SpanSpelling::canon_event))]
+    #[tactic(auto, using(otlp_messages::proofs::Keeping::keeps_more, otlp_messages::proofs::Keeping::keeps_four), unfolding(crate::specs::SpanSpelling::canon_event))]
     fn write(&self, to: &mut Backward) -> Result<(), AllocError> {
         to.put_varint_row(4, u64::from(self.dropped))?;
         write_pairs(to, 3, self.pairs.as_slice())?;
         to.put_bytes_row(2, self.name.as_slice())?;
-        to.put_fixed64_row(1, self.time)
+        to.put_fixed64_row(1, self.time)?;
+        Ok(())
     }
 
     #[tactic(auto, unfolding(crate::specs::SpanSpelling::canon_event))]
@@ -272,14 +273,15 @@ impl Spelled for Event {
 impl Spelled for Link {
     ghost spelled = { canon_link };
 
-    #[tactic(auto, unfolding(crate::specs::SpanSpelling::canon_link))]
+    #[tactic(auto, using(otlp_messages::proofs::Keeping::keeps_more, otlp_messages::proofs::Keeping::keeps_four), unfolding(crate::specs::SpanSpelling::canon_link))]
     fn write(&self, to: &mut Backward) -> Result<(), AllocError> {
         to.put_fixed32_row(6, self.flags)?;
         to.put_varint_row(5, u64::from(self.dropped))?;
         write_pairs(to, 4, self.pairs.as_slice())?;
         to.put_bytes_row(3, self.trace_state.as_slice())?;
         to.put_bytes_row(2, self.span_id.as_slice())?;
-        to.put_bytes_row(1, self.trace_id.as_slice())
+        to.put_bytes_row(1, self.trace_id.as_slice())?;
+        Ok(())
     }
 
     #[tactic(auto, unfolding(crate::specs::SpanSpelling::canon_link))]
@@ -298,7 +300,7 @@ impl Spelled for Link {
 impl Spelled for Span {
     ghost spelled = { canon_span };
 
-    #[tactic(auto, unfolding(crate::specs::SpanSpelling::canon_span))]
+    #[tactic(auto, using(otlp_messages::proofs::Keeping::keeps_more, otlp_messages::proofs::Keeping::keeps_four), unfolding(crate::specs::SpanSpelling::canon_span))]
     fn write(&self, to: &mut Backward) -> Result<(), AllocError> {
         to.put_fixed32_row(16, self.flags)?;
         write_one(to, 15, &ending(self))?;
@@ -327,9 +329,11 @@ impl Spelled for Span {
 impl Spelled for SpanStatusOf<'_> {
     ghost spelled = { λ s. canon_span_status (record { message = s.message.now; code = s.code }) };
 
+    #[tactic(auto, using(otlp_messages::proofs::Keeping::keeps_more))]
     fn write(&self, to: &mut Backward) -> Result<(), AllocError> {
         to.put_signed_row(3, i64::from(self.code))?;
-        to.put_bytes_row(2, self.message.as_slice())
+        to.put_bytes_row(2, self.message.as_slice())?;
+        Ok(())
     }
 
     fn len(&self) -> u64 {

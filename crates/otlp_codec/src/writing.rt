@@ -1,8 +1,9 @@
 //! Writing, from the last field to the first.
 
-ghost use Rattle.std.specs.Prelude.{◌≡◌, ℕ, List, ◌++◌, [], ◌∷◌, min, length, map, OnOk};
+ghost use Rattle.std.specs.Prelude.{◌≡◌, ℕ, List, ◌++◌, [], ◌∷◌, min, length, map, OnOk, OnErr};
 ghost use Rattle.otlp_wire.specs.Wire as wire;
 ghost use Rattle.otlp_wire.specs.Wire.{IsNumber};
+ghost use Rattle.otlp_messages.specs.Kept.{KeepsEnd};
 ghost use Rattle.otlp_messages.specs.Canon.{canon_row, canon, bytes_row, many_row};
 ghost use Rattle.otlp_model.specs.Limits.{count_cap};
 ghost use Rattle.otlp_codec.specs.Canonical.{canon_value, canon_pair, members_rows};
@@ -19,7 +20,8 @@ pub(crate) trait Spelled {
 
     /// Writes it before what is written.
     fn write(&self, to: &mut Backward) -> Result<(), AllocError>
-        ensures { OnOk result (to.new ≡ spelled self.now ++ to.old) };
+        ensures ok { OnOk result (to.new ≡ spelled self.now ++ to.old) }
+        ensures err { OnErr result (KeepsEnd to.old to.new) };
 
     /// How many bytes it has, or 2^63 where there are more.
     fn len(&self) -> u64
@@ -28,29 +30,34 @@ pub(crate) trait Spelled {
 
 /// Writes a message that occurs once.
 #[inline]
+#[tactic(auto, using(otlp_messages::proofs::Keeping::keeps_more, otlp_messages::proofs::Keeping::keeps_four))]
 pub(crate) fn write_one<P: Spelled>(
     to: &mut Backward,
     number: u32,
     part: &P,
 ) -> Result<(), AllocError>
     requires { IsNumber number }
-    ensures { OnOk result (to.new ≡ canon_row number (bytes_row (P.spelled part.now)) ++ to.old) }
+    ensures ok { OnOk result (to.new ≡ canon_row number (bytes_row (P.spelled part.now)) ++ to.old) }
+    ensures err { OnErr result (KeepsEnd to.old to.new) }
 {
     let before = to.len();
     part.write(to)?;
     let size = to.len() - before;
-    to.close_row(number, size)
+    to.close_row(number, size)?;
+    Ok(())
 }
 
 /// Writes the messages of a repeated field.
 #[inline]
+#[tactic(auto, using(otlp_messages::proofs::Keeping::keeps_more, otlp_messages::proofs::Keeping::keeps_four))]
 pub(crate) fn write_more<P: Spelled>(
     to: &mut Backward,
     number: u32,
     parts: &[P],
 ) -> Result<(), AllocError>
     requires { IsNumber number }
-    ensures { OnOk result (to.new ≡ canon_row number (many_row (map P.spelled parts.now)) ++ to.old) }
+    ensures ok { OnOk result (to.new ≡ canon_row number (many_row (map P.spelled parts.now)) ++ to.old) }
+    ensures err { OnErr result (KeepsEnd to.old to.new) }
 {
     for place in (0..parts.len()).rev() {
         let before = to.len();
@@ -76,7 +83,8 @@ impl Spelled for Value {
 /// Writes an `AnyValue`.
 #[cycle(writing)]
 fn write_value(to: &mut Backward, value: &Value) -> Result<(), AllocError>
-    ensures { OnOk result (to.new ≡ canon_value value.now ++ to.old) }
+    ensures ok { OnOk result (to.new ≡ canon_value value.now ++ to.old) }
+    ensures err { OnErr result (KeepsEnd to.old to.new) }
 {
     match value {
         Value::Empty => Ok(()),
@@ -92,30 +100,38 @@ fn write_value(to: &mut Backward, value: &Value) -> Result<(), AllocError>
 
 /// Writes an array as the member of the oneof that it is.
 #[cycle(writing)]
+#[tactic(auto, using(otlp_messages::proofs::Keeping::keeps_more, otlp_messages::proofs::Keeping::keeps_four))]
 fn write_array(to: &mut Backward, members: &Items<Value>) -> Result<(), AllocError>
-    ensures { OnOk result (to.new ≡ canon_row 5 (wire.Bytes (canon (members_rows (map canon_value members.now))) ∷ []) ++ to.old) }
+    ensures ok { OnOk result (to.new ≡ canon_row 5 (wire.Bytes (canon (members_rows (map canon_value members.now))) ∷ []) ++ to.old) }
+    ensures err { OnErr result (KeepsEnd to.old to.new) }
 {
     let before = to.len();
     write_members(to, members.as_slice())?;
     let size = to.len() - before;
-    to.close_field(5, size)
+    to.close_field(5, size)?;
+    Ok(())
 }
 
 /// Writes a key-value list as the member of the oneof that it is.
 #[cycle(writing)]
+#[tactic(auto, using(otlp_messages::proofs::Keeping::keeps_more, otlp_messages::proofs::Keeping::keeps_four))]
 fn write_map(to: &mut Backward, pairs: &Items<Pair>) -> Result<(), AllocError>
-    ensures { OnOk result (to.new ≡ canon_row 6 (wire.Bytes (canon (members_rows (map canon_pair pairs.now))) ∷ []) ++ to.old) }
+    ensures ok { OnOk result (to.new ≡ canon_row 6 (wire.Bytes (canon (members_rows (map canon_pair pairs.now))) ∷ []) ++ to.old) }
+    ensures err { OnErr result (KeepsEnd to.old to.new) }
 {
     let before = to.len();
     write_pairs(to, 1, pairs.as_slice())?;
     let size = to.len() - before;
-    to.close_field(6, size)
+    to.close_field(6, size)?;
+    Ok(())
 }
 
 /// Writes the members of an array.
 #[cycle(writing)]
+#[tactic(auto, using(otlp_messages::proofs::Keeping::keeps_more, otlp_messages::proofs::Keeping::keeps_four))]
 fn write_members(to: &mut Backward, members: &[Value]) -> Result<(), AllocError>
-    ensures { OnOk result (to.new ≡ canon_row 1 (many_row (map canon_value members.now)) ++ to.old) }
+    ensures ok { OnOk result (to.new ≡ canon_row 1 (many_row (map canon_value members.now)) ++ to.old) }
+    ensures err { OnErr result (KeepsEnd to.old to.new) }
 {
     for place in (0..members.len()).rev() {
         let before = to.len();
@@ -128,9 +144,11 @@ fn write_members(to: &mut Backward, members: &[Value]) -> Result<(), AllocError>
 
 /// Writes the pairs of a repeated field.
 #[cycle(writing)]
+#[tactic(auto, using(otlp_messages::proofs::Keeping::keeps_more, otlp_messages::proofs::Keeping::keeps_four))]
 pub(crate) fn write_pairs(to: &mut Backward, number: u32, pairs: &[Pair]) -> Result<(), AllocError>
     requires { IsNumber number }
-    ensures { OnOk result (to.new ≡ canon_row number (many_row (map canon_pair pairs.now)) ++ to.old) }
+    ensures ok { OnOk result (to.new ≡ canon_row number (many_row (map canon_pair pairs.now)) ++ to.old) }
+    ensures err { OnErr result (KeepsEnd to.old to.new) }
 {
     for place in (0..pairs.len()).rev() {
         let before = to.len();
@@ -143,12 +161,15 @@ pub(crate) fn write_pairs(to: &mut Backward, number: u32, pairs: &[Pair]) -> Res
 
 /// Writes a `KeyValue`.
 #[cycle(writing)]
+#[tactic(auto, using(otlp_messages::proofs::Keeping::keeps_more, otlp_messages::proofs::Keeping::keeps_four))]
 fn write_pair(to: &mut Backward, pair: &Pair) -> Result<(), AllocError>
-    ensures { OnOk result (to.new ≡ canon_pair pair.now ++ to.old) }
+    ensures ok { OnOk result (to.new ≡ canon_pair pair.now ++ to.old) }
+    ensures err { OnErr result (KeepsEnd to.old to.new) }
 {
     let before = to.len();
     write_value(to, &pair.value)?;
     let size = to.len() - before;
     to.close_row(2, size)?;
-    to.put_bytes_row(1, pair.key.as_slice())
+    to.put_bytes_row(1, pair.key.as_slice())?;
+    Ok(())
 }
