@@ -6,7 +6,7 @@ use Rattle.otap_capture.specs.declared.front.Flag.{Flag}
 use Rattle.otap_capture.specs.declared.frames.Frames.TheInside.{Inside}
 use Rattle.otap_capture.specs.Cutting.{BeginsFrame, CutsFrame}
 use Rattle.otap_capture.specs.Inside.{reading_of, frame_in, IsSound}
-use Rattle.otap_capture.specs.Deciding.{read_ahead}
+use Rattle.otap_capture.specs.Limits.{read_ahead}
 use Rattle.otap_capture.specs.Reading.{KeepsFew}
 use Rattle.otap_capture.proofs.Decided.{few_lean, frame_bound, lean_rest}
 use Rattle.otap_capture.proofs.Framing.{split}

@@ -9,7 +9,8 @@ use Rattle.byteorder.specs.Endian.{big_number}
 use Rattle.otap_capture.specs.declared.frame.Damage.{Damage}
 use Rattle.otap_capture.specs.declared.frame.Why.TheVariants.{Truncated, Endless}
 use Rattle.otap_capture.specs.Capture.{Frame, IsFrame, head_reason, front_reason, reason_at, EndsAt, longest_frame, capture_limit}
-use Rattle.otap_capture.specs.Deciding.{IsShort, IsOpen, IsLean, read_ahead}
+use Rattle.otap_capture.specs.Deciding.{IsShort, IsOpen, IsLean}
+use Rattle.otap_capture.specs.Limits.{read_ahead}
 use Rattle.otap_capture.proofs.Framing.{frame_length}
 use Rattle.otap_capture.proofs.OneCapture.{front_fine}
 

@@ -1,20 +1,13 @@
 -- A capture: frames one after the other, and what ends them (gRPC's length-prefixed messages).
-use Rattle.std.specs.Prelude.{◌≡◌, ℕ, ◌+◌, ◌^◌, ◌<◌, ◌≤◌, nat_lt, nat_le, nat_eq, not, ◌&&◌, ◌||◌, if◌then◌else◌, List, [], ◌∷◌, ◌++◌, length, Some, None}
+use Rattle.std.specs.Prelude.{◌≡◌, ℕ, ◌+◌, ◌<◌, ◌≤◌, nat_lt, nat_le, nat_eq, not, ◌&&◌, ◌||◌, if◌then◌else◌, List, [], ◌∷◌, ◌++◌, length, Some, None}
 use Rattle.std.specs.declared.option.Option.{Option}
 use Rattle.byteorder.specs.Endian.{big_number, big_bytes}
+pub use Rattle.otap_capture.specs.Limits.{longest_frame, capture_limit}
 use Rattle.otap_capture.specs.declared.frame.Frame.{Frame as Lent}
 use Rattle.otap_capture.specs.declared.frame.Frame.TheVariants as lent
 use Rattle.otap_capture.specs.declared.frame.Why.{Why}
 use Rattle.otap_capture.specs.declared.frame.Why.TheVariants.{Truncated, BadFrame, TooLong, Endless}
 use Rattle.otap_capture.specs.declared.frame.Damage.{Damage}
-
--- the bytes of a frame after its head are at most this many
-abbrev pub longest_frame : ℕ
-longest_frame = 2 ^ 29
-
--- each frame of a capture begins below this place
-abbrev pub capture_limit : ℕ
-capture_limit = 2 ^ 40
 
 -- a frame: a message by its bytes, a compressed message, whose bytes are passed over, or a reset
 pub data Frame : Type 0 where

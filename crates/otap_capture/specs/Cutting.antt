@@ -14,15 +14,15 @@ use Rattle.otap_capture.specs.declared.front.Flag.TheVariants as flags
 use Rattle.otap_capture.specs.declared.front.NextFrame.{NextFrame}
 use Rattle.otap_capture.specs.declared.front.NextFrame.TheVariants as fronts
 use Rattle.otap_capture.specs.Capture.{Frame, IsFrame, EndsAt, reason_at, head_reason, longest_frame, capture_limit}
-use Rattle.otap_capture.specs.Deciding.{read_ahead}
+use Rattle.otap_capture.specs.Limits.{frame_head, read_ahead}
 use Rattle.otap_capture.specs.Inside.{frame_in}
 use Rattle.otap_capture.specs.Reading.{Reading, IsWaiting, end_step}
 
 -- a frame with that flag and that number of bytes after its head, stands at the front of these bytes
 pub record BeginsFrame (place : ℕ) (bytes : List ℕ) (f : Flag) (size : ℕ) : Type 0 where
   pub begins : place < capture_limit
-  pub room : 5 + size ≤ length bytes
-  pub is_frame : IsFrame (take 5 bytes ++ take size (drop 5 bytes)) (frame_in f (take size (drop 5 bytes)))
+  pub room : frame_head + size ≤ length bytes
+  pub is_frame : IsFrame (take frame_head bytes ++ take size (drop frame_head bytes)) (frame_in f (take size (drop frame_head bytes)))
 
 abbrev pub StandsAt : ℕ → List ℕ → NextFrame → Type 0
 StandsAt place bytes (fronts.Frame f size) = BeginsFrame place bytes f size

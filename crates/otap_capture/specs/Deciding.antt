@@ -1,7 +1,8 @@
 -- Whether the bytes at a place decide what stands there, whatever comes after them.
 use Rattle.std.specs.Prelude.{◌≡◌, ◌⊎◌, ℕ, ◌<◌, ◌≤◌, List, [], ◌++◌, length, Some}
 use Rattle.otap_capture.specs.declared.frame.Why.TheVariants.{Truncated}
-use Rattle.otap_capture.specs.Capture.{capture_limit, front_reason}
+use Rattle.otap_capture.specs.Limits.{capture_limit, read_ahead}
+use Rattle.otap_capture.specs.Capture.{front_reason}
 
 -- no byte, a part of a head, or fewer bytes than a head says
 abbrev pub IsShort : List ℕ → Type 0
@@ -11,11 +12,7 @@ IsShort bytes = (bytes ≡ []) ⊎ (front_reason bytes ≡ Some Truncated)
 abbrev pub IsOpen : ℕ → List ℕ → Type 0
 IsOpen place bytes = (place < capture_limit) × IsShort bytes
 
--- a reader takes at most this many bytes at a time
-abbrev pub read_ahead : ℕ
-read_ahead = 65536
-
--- All of the bytes but the last 65,536 at most are short: the bytes of one frame, and few more.
+-- All of the bytes but the last few, read_ahead at most, are short: the bytes of one frame, and few more.
 pub record IsLean (bytes : List ℕ) : Type 0 where
   pub front : List ℕ
   pub rest : List ℕ

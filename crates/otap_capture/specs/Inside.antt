@@ -1,11 +1,12 @@
 -- The fields of `Frames` as callers see them.
-use Rattle.std.specs.Prelude.{◌≤◌, ◌+◌, ◌*◌, ℕ, List, drop, length, slice_range, Some, None}
+use Rattle.std.specs.Prelude.{◌≤◌, ◌+◌, ℕ, List, drop, length, slice_range, Some, None}
 use Rattle.std.specs.declared.option.Option.{Option}
 use Rattle.otap_capture.specs.declared.front.Flag.{Flag}
 use Rattle.otap_capture.specs.declared.front.Flag.TheVariants as flags
 use Rattle.otap_capture.specs.declared.frames.Frames.TheInside.{Inside}
-use Rattle.otap_capture.specs.Capture.{Frame, Message, Packed, Reset, longest_frame, capture_limit}
-use Rattle.otap_capture.specs.Deciding.{IsLean, read_ahead}
+use Rattle.otap_capture.specs.Capture.{Frame, Message, Packed, Reset}
+use Rattle.otap_capture.specs.Deciding.{IsLean}
+use Rattle.otap_capture.specs.Limits.{frame_head, longest_frame, capture_limit, most_held}
 use Rattle.otap_capture.specs.Reading.{Reading}
 
 -- a frame with that flag and these bytes
@@ -33,5 +34,5 @@ pub record IsSound (s : Inside) : Type 0 where
   pub ordered : s.begin ≤ s.place
   pub within : s.place ≤ length s.bytes.items
   pub lean : IsLean (drop s.place s.bytes.items)
-  pub few : length s.bytes.items ≤ 2 * (longest_frame + 5) + read_ahead
-  pub below : s.handed ≤ capture_limit + longest_frame + 5
+  pub few : length s.bytes.items ≤ most_held
+  pub below : s.handed ≤ capture_limit + longest_frame + frame_head

@@ -7,6 +7,7 @@ pub mod Capture
 pub mod Cutting
 pub mod Deciding
 pub mod Inside
+pub mod Limits
 pub mod Memory
 pub mod Outside
 pub mod Reading

@@ -1,5 +1,5 @@
 -- How far a capture is read, and what each step of it does.
-use Rattle.std.specs.Prelude.{◌≡◌, ℕ, ◌+◌, ◌*◌, ◌<◌, ◌≤◌, ⊤, Bool, true, false, if◌then◌else◌, List, length, Some, None, IfSome}
+use Rattle.std.specs.Prelude.{◌≡◌, ℕ, ◌+◌, ◌<◌, ◌≤◌, ⊤, Bool, true, false, if◌then◌else◌, List, length, Some, None, IfSome}
 use Rattle.std.specs.declared.option.Option.{Option}
 use Rattle.std.specs.declared.result.Result.{Result}
 use Rattle.std.specs.declared.result.Result.TheVariants.{Ok, Err}
@@ -9,8 +9,9 @@ use Rattle.otap_capture.specs.declared.frame.Step.{Step}
 use Rattle.otap_capture.specs.declared.frame.Step.TheVariants as step
 use Rattle.otap_capture.specs.declared.frame.FramesRefusal.{FramesRefusal}
 use Rattle.otap_capture.specs.declared.frame.FramesRefusal.TheVariants.{Source, Memory}
-use Rattle.otap_capture.specs.Capture.{Frame, IsFrame, EndsAt, capture_limit, longest_frame}
-use Rattle.otap_capture.specs.Deciding.{IsOpen, IsLean, read_ahead}
+use Rattle.otap_capture.specs.Capture.{Frame, IsFrame, EndsAt}
+use Rattle.otap_capture.specs.Deciding.{IsOpen, IsLean}
+use Rattle.otap_capture.specs.Limits.{frame_head, longest_frame, capture_limit, read_ahead, most_held}
 use Rattle.otap_capture.specs.Outside.{Rose}
 
 -- how far a capture is read
@@ -45,7 +46,7 @@ pub record TakesFrame (old new : Reading) (before after : Option (List ℕ)) : T
   pub begins : old.handed < capture_limit
   pub taken : Consumes before after front
   pub handed : new.handed ≡ old.handed + length front
-  pub further : old.handed + 5 ≤ new.handed
+  pub further : old.handed + frame_head ≤ new.handed
   pub shown : new.frame ≡ Some frame
   pub goes_on : new.ended ≡ None
 
@@ -101,16 +102,16 @@ Asked old new (Ok x) = ⊤
 Asked old new (Err Source) = IsWaiting old × IsWaiting new
 Asked old new (Err (Memory e)) = ⊤
 
--- after a frame at most 65,536 bytes are kept
+-- after a frame at most read_ahead bytes are kept
 abbrev pub KeepsRest : Reading → Result Step FramesRefusal → Type 0
 KeepsRest new (Ok step.Frame) = length new.kept ≤ read_ahead
 KeepsRest new (Ok step.End) = ⊤
 KeepsRest new (Ok (step.Damage damage)) = ⊤
 KeepsRest new (Err refusal) = ⊤
 
--- What a step leaves: all that was taken from the source is more than what was handed out before by one frame and 65,536
--- bytes at most; those that are kept are one frame and 65,536 bytes at most; and few more are held in memory.
+-- What a step leaves: all that was taken from the source is more than what was handed out before by one frame and read_ahead
+-- bytes at most; those that are kept are one frame and read_ahead bytes at most; and few more are held in memory.
 pub record KeepsFew (old new : Reading) : Type 0 where
-  pub taken : new.handed + length new.kept ≤ old.handed + (longest_frame + 5 + read_ahead)
+  pub taken : new.handed + length new.kept ≤ old.handed + (longest_frame + frame_head + read_ahead)
   pub lean : IsLean new.kept
-  pub memory : new.held ≤ 2 * (longest_frame + 5) + read_ahead
+  pub memory : new.held ≤ most_held

@@ -3,9 +3,10 @@ ghost use Rattle.std.specs.Prelude.{◌≡◌, ◌≤◌, List, ℕ, ◌++◌, l
 ghost use Rattle.std.specs.declared.option.Option.{Option};
 ghost use Rattle.otap_capture.specs.Capture.{Frame, IsFrame, IsCapture, capture_limit, longest_frame, message_frame, reason_at, reset_frame};
 ghost use Rattle.otap_capture.specs.Capture as frame;
-ghost use Rattle.otap_capture.specs.Deciding.{IsOpen, read_ahead};
+ghost use Rattle.otap_capture.specs.Deciding.{IsOpen};
+ghost use Rattle.otap_capture.specs.Limits.{frame_head, read_ahead};
 
-use crate::frame::{Damage, MAX_CAPTURE, MAX_FRAME};
+use crate::frame::{Damage, FRAME_HEAD, MAX_CAPTURE, MAX_FRAME};
 use crate::frames::ROOM;
 
 /// Every list of bytes has a capture.
@@ -32,6 +33,7 @@ pub fn written_is_read()
 
 /// The limits of the code are those of the definitions.
 pub fn limits_are_stated()
+    ensures head { FRAME_HEAD ≡ frame_head }
     ensures frame { MAX_FRAME ≡ longest_frame }
     ensures capture { MAX_CAPTURE ≡ capture_limit }
     ensures ahead { ROOM ≡ read_ahead }
