@@ -1,6 +1,6 @@
 -- What private calls return of what reading gives: words of private contracts.
 use Rattle.std.specs.Prelude.{◌≡◌, ℕ, min, List, length, Result, Ok, Err, ℤ, pos}
-use Rattle.otlp_model.specs.Limits.{count_cap}
+use Rattle.otlp_model.specs.Limits.{count_cap, part_weight}
 use Rattle.otlp_model.specs.declared.value.Value.{Value}
 use Rattle.otlp_model.specs.declared.value.Pair.{Pair}
 use Rattle.otlp_model.specs.Weight.{weight_of_value, weight_of_pair, total}
@@ -20,10 +20,10 @@ abbrev pub long : List ℕ → ℕ
 long part = min (length part) count_cap
 
 abbrev pub weight_of_members : List Value → ℕ
-weight_of_members members = min (total 32 weight_of_value members) count_cap
+weight_of_members members = min (total part_weight weight_of_value members) count_cap
 
 abbrev pub weight_of_pairs : List Pair → ℕ
-weight_of_pairs pairs = min (total 32 weight_of_pair pairs) count_cap
+weight_of_pairs pairs = min (total part_weight weight_of_pair pairs) count_cap
 
 abbrev pub pair_weighed : Pair → ℕ
 pair_weighed pair = min (weight_of_pair pair) count_cap

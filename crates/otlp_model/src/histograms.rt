@@ -3,7 +3,7 @@ ghost use Rattle.otlp_model.specs.Real.{is_real_optional, IsRealHistPoint, IsRea
 ghost use Rattle.otlp_model.specs.Profile.{IsProfileHistPoint, IsProfileSumPoint};
 ghost use Rattle.otlp_model.specs.Same.{SameHistPoint, SameSumPoint};
 ghost use Rattle.std.specs.Prelude.{◌≡◌, ◌↔◌, ◌*◌, ◌<◌, ◌^◌, min, length, IsTrue};
-ghost use Rattle.otlp_model.specs.Limits.{count_cap};
+ghost use Rattle.otlp_model.specs.Limits.{count_cap, number_weight};
 ghost use Rattle.otlp_model.specs.Each.{Each};
 
 use crate::limits::{CAP, sum_capped};
@@ -59,7 +59,7 @@ pub struct SumPoint {
 
 /// What a list of bucket counts or of bounds weighs.
 fn numbers_weight(numbers: &[u64]) -> u64
-    ensures weight { result ≡ min (8 * length numbers.now) count_cap }
+    ensures weight { result ≡ min (number_weight * length numbers.now) count_cap }
     ensures real { Each (λ number. number < 2 ^ 64) numbers.now }
 {
     // The variable tells the proof that each number fits its type.

@@ -1,7 +1,7 @@
 ghost use Rattle.std.specs.Prelude.{◌≡◌, ℕ, min, length, IsTrue};
 ghost use Rattle.std.specs.List.{list_all};
 ghost use Rattle.lists.specs.Bytes.{is_real_text, is_real_octets};
-ghost use Rattle.otlp_model.specs.Limits.{count_cap};
+ghost use Rattle.otlp_model.specs.Limits.{count_cap, part_weight};
 ghost use Rattle.otlp_model.specs.Each.{Each};
 ghost use Rattle.otlp_model.specs.Weight.{weight_of_value, weight_of_pair, total};
 ghost use Rattle.otlp_model.specs.Real.{is_real_value, are_real_pairs};
@@ -43,7 +43,7 @@ pub fn value_weight(value: &Value) -> u64
 /// The weight of the members of an array, with 32 for each.
 #[cycle(weight)]
 fn members_weight(members: &[Value]) -> u64
-    ensures weight { result ≡ min (total 32 weight_of_value members.now) count_cap }
+    ensures weight { result ≡ min (total part_weight weight_of_value members.now) count_cap }
     ensures real { IsTrue (list_all is_real_value members.now) }
 {
     let mut weight = 0;
@@ -56,7 +56,7 @@ fn members_weight(members: &[Value]) -> u64
 /// The weight of a list of pairs, with 32 for each.
 #[cycle(weight)]
 pub(crate) fn pairs_weight(pairs: &[Pair]) -> u64
-    ensures weight { result ≡ min (total 32 weight_of_pair pairs.now) count_cap }
+    ensures weight { result ≡ min (total part_weight weight_of_pair pairs.now) count_cap }
     ensures real { IsTrue (are_real_pairs pairs.now) }
 {
     let mut weight = 0;
