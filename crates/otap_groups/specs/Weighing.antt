@@ -8,6 +8,7 @@ use Rattle.otlp_model.specs.declared.groups.ResourceGroup.{ResourceGroup}
 use Rattle.otlp_model.specs.declared.value.Pair.{Pair}
 use Rattle.otlp_model.specs.Weight.{total}
 use Rattle.otap_cells.specs.Cells.{Cell}
+use Rattle.otap_cells.specs.Limits.{row_unit}
 use Rattle.otap_cells.specs.Weights.{cell_weight}
 
 -- ---- groups, by the weights of pairs of resources, of pairs of scopes, and of items
@@ -29,7 +30,7 @@ weigh_resource_group of_resource of_scope of_item group =
 
 -- the bytes of an item's row that come from its resource and its scope, and the row itself
 abbrev pub front_weight : Resource → Scope → ℕ
-front_weight resource scope = 32 + length resource.schema_url + length scope.name + length scope.version + length scope.schema_url
+front_weight resource scope = row_unit + length resource.schema_url + length scope.name + length scope.version + length scope.schema_url
 
 -- the rows of a scope group and of a resource group, where each resource, scope and item has further rows or cells of this weight
 abbrev pub rows_of_scope : {I : Type 0} → (Scope → ℕ) → (I → ℕ) → Resource → ScopeGroup I → ℕ
@@ -50,7 +51,7 @@ cells_weight cells = sum_by cell_weight cells
 
 -- the rows of parts, beside the numbers in front
 abbrev pub parts_weight : {C : Type 0} → (C → List Cell) → List C → ℕ
-parts_weight cells_of parts = sum_by (λ part. 32 + cells_weight (cells_of part)) parts
+parts_weight cells_of parts = sum_by (λ part. row_unit + cells_weight (cells_of part)) parts
 
 -- each resource, scope and item of the groups can be written
 abbrev pub CanWriteScope : {I : Type 0} → (Scope → Type 0) → (I → Type 0) → ScopeGroup I → Type 0

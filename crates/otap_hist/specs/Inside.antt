@@ -10,6 +10,7 @@ use Rattle.otlp_model.specs.declared.metrics.Shape.{Shape}
 use Rattle.otlp_model.specs.declared.request.Signal.TheVariants as signal
 use Rattle.otap_cells.specs.declared.payload.Kind.{Kind}
 use Rattle.otap_cells.specs.declared.payload.Kind.TheVariants as table
+use Rattle.otap_cells.specs.Limits.{row_unit}
 use Rattle.otap_cells.specs.Named.{table_named}
 use Rattle.otap_cells.specs.Tables.{Table}
 use Rattle.otap_groups.specs.Weighing.{cells_weight, parts_weight}
@@ -23,10 +24,10 @@ use Rattle.otap_hist.specs.Points.{hist_point_cells, sum_point_cells}
 use Rattle.otap_hist.specs.Requests.{HasUnevenLists, WrongHistIds}
 
 abbrev pub hist_point_weight : HistPoint → ℕ
-hist_point_weight point = 32 + cells_weight (hist_point_cells point) + (parts_weight pair_cells point.pairs + sum_by exemplar_weight point.exemplars)
+hist_point_weight point = row_unit + cells_weight (hist_point_cells point) + (parts_weight pair_cells point.pairs + sum_by exemplar_weight point.exemplars)
 
 abbrev pub summary_point_weight : SumPoint → ℕ
-summary_point_weight point = 32 + cells_weight (sum_point_cells point) + parts_weight pair_cells point.pairs
+summary_point_weight point = row_unit + cells_weight (sum_point_cells point) + parts_weight pair_cells point.pairs
 
 abbrev pub shape_weight : Shape → ℕ
 shape_weight shape = sum_by hist_point_weight (hist_points_of shape) + sum_by summary_point_weight (summary_points_of shape)
