@@ -152,7 +152,7 @@ seen_from some signal past before gave (f ∷ frames) =
     let rest =
     seen_from some signal (past ++ f ∷ []) (before ++ o.0 ∷ [])
     (each_after-push (λ past before frame outcome. OutcomeAfter signal before frame outcome) [] [] past before f o.0 gave o.1) frames in
-    (o.0 ∷ rest.0, o.1, rest.1)
+    (o.0 ∷ rest.0, (o.1, rest.1))
 
 -- ---- a capture
 
