@@ -1,5 +1,6 @@
 -- The first fault of an array is among its faults, and where there is no first one it has none.
-use Rattle.std.proofs.Common.{◌≡◌, ℕ, ◌+◌, ◌*◌, ◌≤◌, ◌⊎◌, ◌==◌, ◌&&◌, ℤ, pos, int_lt, nat_lt, Bool, true, false, if◌then◌else◌, List, length, take, slice_get, Option, Some, None, Result, Ok, Err, IfErr, OnOk, refl, sym, ap, ◌∙◌, subst, inl, inr, arith}
+use Rattle.std.proofs.Common.{◌≡◌, ℕ, ◌+◌, ◌*◌, ◌≤◌, ◌⊎◌, ◌==◌, ◌&&◌, ℤ, pos, int_lt, nat_lt, Bool, true, false, if◌then◌else◌}
+use Rattle.std.proofs.Common.{List, length, take, slice_get, Option, Some, None, Result, Ok, Err, IfErr, OnOk, refl, sym, ap, ◌∙◌, subst, inl, inr, arith}
 use Rattle.std.specs.Result.{result_and}
 use Rattle.lists.proofs.Truths.{chosen}
 use Rattle.lists.proofs.Equals.{ok_is}
@@ -24,7 +25,8 @@ use Rattle.arrow_arrays.specs.declared.view.RowValues.{RowValues}
 use Rattle.arrow_arrays.specs.declared.view.RowValues.TheVariants.{Vars, Lists}
 use Rattle.arrow_arrays.specs.declared.view.ArrayView.{ArrayView}
 use Rattle.arrow_arrays.specs.Layouts.{element_len}
-use Rattle.arrow_arrays.specs.Cells.{or_short, length_in, rows_in, nulls_if, nulls_in, buffer_in, validity_in, bit_values, fixed_in, vars_in, element_bytes, elements_in, lists_in, values_by, values_in, array_in, content_in, content_check, array_check}
+use Rattle.arrow_arrays.specs.Cells.{or_short, length_in, rows_in, nulls_if, nulls_in, buffer_in, validity_in, bit_values, fixed_in, vars_in, element_bytes, elements_in, lists_in, values_by}
+use Rattle.arrow_arrays.specs.Cells.{values_in, array_in, content_in, content_check, array_check}
 use Rattle.arrow_arrays.specs.Faults.{counted_nulls, bitmap_in, IsValidityFault, bad_node, bad_bitmap, IsVarsFault, no_offsets, no_values, few_offsets, bad_offset, IsElementsFault, no_count, invalid, few_bytes}
 use Rattle.arrow_arrays.specs.Faults.{HasNoArrayFault, IsListsFault, no_list_offsets, few_list_offsets, bad_list_offset, bad_elements, IsValuesFault, IsArrayFault, no_rows, bad_validity, bad_values, bad_content}
 use Rattle.arrow_arrays.proofs.Parts.{IsRead, array_is}

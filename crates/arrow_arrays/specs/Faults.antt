@@ -1,5 +1,5 @@
 -- What is wrong with the array at a place of a record batch (Arrow columnar format, "RecordBatch message" and "Physical memory
--- layout"). Several faults may stand side by side: each is judged by the parts that it needs, whatever is wrong with the others.
+-- layout"). Several may be there side by side: each is judged by the parts that it needs, whatever is wrong with the others.
 use Rattle.std.specs.Prelude.{◌≡◌, ℕ, ◌+◌, ◌*◌, ◌≤◌, ℤ, pos, List, length, slice_get, Option, None, Some, Result, Ok, Err}
 use Rattle.lists.specs.Results.{◌>>=◌}
 use Rattle.arrow_buffers.specs.declared.fault.BufferFault.{BufferFault}
@@ -47,7 +47,7 @@ pub data IsElementsFault (batch : BatchIn) (node buffer : ℕ) (fault : BufferFa
   invalid : (count : ℕ) → length_in batch node ≡ Ok count → IsValidityFault batch count node buffer fault → IsElementsFault batch node buffer fault
   few_bytes : (count : ℕ) → length_in batch node ≡ Ok count → (buffer_in batch (buffer + 1) >>= λ bytes. element_bytes bytes count) ≡ Err fault → IsElementsFault batch node buffer fault
 
--- lists: after their bitmap stand the offsets, and then their elements, which are the next array
+-- lists: after their bitmap come the offsets, and then their elements, which are the next array
 pub data IsListsFault (batch : BatchIn) (rows : ℕ) (a : ArrayPlace) : BufferFault → Type 0 where
   no_list_offsets : slice_get batch.buffers (a.buffer + 1) ≡ None → IsListsFault batch rows a Short
   few_list_offsets : (offsets : List ℕ) → slice_get batch.buffers (a.buffer + 1) ≡ Some offsets → AreTooFew offsets rows → IsListsFault batch rows a Short
@@ -56,7 +56,7 @@ pub data IsListsFault (batch : BatchIn) (rows : ℕ) (a : ArrayPlace) : BufferFa
       → row ≤ rows → 4 * (rows + 1) ≤ length offsets → IsBadIn element_len (count * element_len) offsets row → IsListsFault batch rows a BadOffsets
   bad_elements : (fault : BufferFault) → IsElementsFault batch (a.node + 1) (a.buffer + 2) fault → IsListsFault batch rows a fault
 
--- the values of an array stand after its bitmap
+-- the values of an array come after its bitmap
 abbrev pub IsValuesFault : BatchIn → ℕ → ArrayPlace → Layout → BufferFault → Type 0
 IsValuesFault batch rows a layout.Struct fault = ⊥
 IsValuesFault batch rows a layout.Bits fault = bit_values batch rows (a.buffer + 1) ≡ Err fault

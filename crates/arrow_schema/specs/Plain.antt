@@ -1,5 +1,5 @@
 -- How the tables of a schema that is written read, slot by slot (Arrow's Schema.fbs): each field is nullable, no timestamp has a
--- timezone, and no custom metadata stands but the one pair that names an encoding.
+-- timezone, and there is no custom metadata but the one pair that names an encoding.
 use Rattle.std.specs.Prelude.{◌≡◌, ◌⊎◌, ℕ, codes, Ok, Some, None}
 use Rattle.flat_tables.specs.Tables.{TableIn, VectorIn, byte_slot, table_slot, vector_slot, element_table, place_of}
 use Rattle.arrow_schema.specs.Defects.{IsChild}

@@ -8,7 +8,7 @@ EachAfter R past past' [] (y ∷ ys) = ⊥
 EachAfter R past past' (x ∷ xs) [] = ⊥
 EachAfter R past past' (x ∷ xs) (y ∷ ys) = R past past' x y × EachAfter R (past ++ x ∷ []) (past' ++ y ∷ []) xs ys
 
--- P holds of each element of a list after those before it. The past stands before the list.
+-- P holds of each element of a list after those before it. The past is before the list.
 abbrev pub AllAfter : {A : Type 0} → (List A → A → Type 0) → List A → List A → Type 0
 AllAfter P past [] = ⊤
 AllAfter P past (x ∷ xs) = P past x × AllAfter P (past ++ x ∷ []) xs

@@ -17,6 +17,6 @@ capture_limit = 2 ^ 40
 abbrev pub read_ahead : ℕ
 read_ahead = 65536
 
--- and has room for at most this many
+-- and the bytes that it holds, those handed out among them, are at most this many
 abbrev pub most_held : ℕ
 most_held = 2 * (longest_frame + frame_head) + read_ahead

@@ -2,10 +2,10 @@
 use Rattle.std.proofs.Common.{◌≤◌, arith}
 use Rattle.otap_cells.specs.declared.payload.Kind.{Kind}
 use Rattle.otap_cells.specs.declared.payload.Kind.TheVariants as table
-use Rattle.otap_cells.specs.Limits.{columns_most}
+use Rattle.otap_cells.specs.Limits.{column_limit}
 use Rattle.otap_cells.specs.Columns.{width_of, logs, spans, metrics, attrs, deep_attrs, span_events, span_links, number_points, summary_points, hist_points, exemplars}
 
-pub few_columns : (kind : Kind) → width_of kind ≤ columns_most
+pub few_columns : (kind : Kind) → width_of kind ≤ column_limit
 unfolding logs spans metrics attrs deep_attrs span_events span_links number_points summary_points hist_points exemplars
 few_columns table.ResourceAttrs = omega arith
 few_columns table.ScopeAttrs = omega arith

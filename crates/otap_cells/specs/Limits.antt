@@ -2,8 +2,8 @@
 use Rattle.std.specs.Prelude.{ℕ, ◌^◌}
 
 -- how many columns a table has at most
-abbrev pub columns_most : ℕ
-columns_most = 25
+abbrev pub column_limit : ℕ
+column_limit = 25
 
 -- what a row weighs beside its cells
 abbrev pub row_unit : ℕ

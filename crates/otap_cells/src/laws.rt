@@ -7,7 +7,7 @@ ghost use Rattle.otap_cells.specs.Cells.{bytes_in, nat_in};
 ghost use Rattle.otap_cells.specs.Columns.{name_at, width_of};
 ghost use Rattle.otap_cells.specs.Ids.{Ids};
 ghost use Rattle.otap_cells.specs.Scalars.{text_cell, number_cell, int_cell, bits_cell, flag_cell, int_in, bits_in, flag_in};
-ghost use Rattle.otap_cells.specs.Limits.{columns_most, row_unit, row_weight_limit};
+ghost use Rattle.otap_cells.specs.Limits.{column_limit, row_unit, row_weight_limit};
 
 /// Law: a payload type has a number of its own.
 pub fn numbers_tell_kinds_apart()
@@ -27,7 +27,7 @@ pub fn the_row_weight_is_limited()
 
 /// Law: no table has more columns than the limit.
 pub fn tables_have_few_columns()
-    ensures { (kind : Kind) → width_of kind ≤ columns_most }
+    ensures { (kind : Kind) → width_of kind ≤ column_limit }
 {}
 
 /// Law: the numbers that a column stores stand for one list of ids at most.

@@ -33,7 +33,8 @@ use Rattle.otap_columns.proofs.Located.{count_is, slot_at}
 pub values_weigh : (values : List (List ℕ)) → sum_by value_weight (all_some values) ≡ byte_count values + held_unit * length values
 values_weigh [] = refl
 values_weigh (v ∷ vs) =
-    sum_by-cons value_weight (Some v) (all_some vs) ∙ ap (λ n. (length v + held_unit) + n) (values_weigh vs) ∙ sum (length v) (byte_count vs) (length vs) ∙ ap (λ n. n + held_unit * length (v ∷ vs)) (sym (sum_by-cons length v vs))
+    sum_by-cons value_weight (Some v) (all_some vs) ∙ ap (λ n. (length v + held_unit) + n) (values_weigh vs)
+    ∙ sum (length v) (byte_count vs) (length vs) ∙ ap (λ n. n + held_unit * length (v ∷ vs)) (sym (sum_by-cons length v vs))
   where
     sum : (a b n : ℕ) → (a + held_unit) + (b + held_unit * n) ≡ (a + b) + held_unit * suc n
     sum a b n = omega arith

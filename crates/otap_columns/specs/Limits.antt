@@ -37,14 +37,15 @@ row_limit = 136
 abbrev pub head_limit : ℕ
 head_limit = 1500000
 
--- how many bytes a record has at most beside these; a message of its schema has at most this number, and the message of its rows
--- at most this number beside its rows and their weight
+-- how many bytes a record has at most beside these
 abbrev pub rest_limit : ℕ
 rest_limit = 131072
 
+-- of these, the message of its schema
 abbrev pub schema_most : ℕ
 schema_most = 81920
 
+-- and the message of its rows, beside its rows and their weight
 abbrev pub rows_rest : ℕ
 rows_rest = 8192
 

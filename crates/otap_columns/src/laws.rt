@@ -8,7 +8,7 @@ ghost use Rattle.otap_columns.specs.declared.refusal.ColumnRefusal.{ColumnRefusa
 ghost use Rattle.otap_columns.specs.declared.dictionary.TheConstants.{HELD_UNIT, MAX_VALUES};
 ghost use Rattle.otap_columns.specs.declared.ends.TheConstants.{MAX_KEPT};
 ghost use Rattle.otap_columns.specs.declared.view.TheConstants.{MAX_COLUMNS};
-ghost use Rattle.otap_cells.specs.Limits.{columns_most};
+ghost use Rattle.otap_cells.specs.Limits.{column_limit};
 ghost use Rattle.otap_columns.specs.Limits.{dictionary_limit, held_unit, kept_limit};
 ghost use Rattle.otap_columns.specs.Records.{IsRead, Stands, CanGoOn, IsJudged};
 ghost use Rattle.otap_columns.specs.Schemas.{Forms, is_present, FormsFit, item_in, schema_for, slots_for, IsArraySlot, IsFound};
@@ -36,7 +36,7 @@ pub fn values_are_limited()
     ensures count { MAX_VALUES ≡ dictionary_limit }
     ensures bytes { MAX_KEPT ≡ kept_limit }
     ensures unit { HELD_UNIT ≡ held_unit }
-    ensures columns { MAX_COLUMNS ≡ columns_most }
+    ensures columns { MAX_COLUMNS ≡ column_limit }
 {}
 
 /// A payload changes only the sub-stream of its own type: it opens another one, or its messages come after the open one's.

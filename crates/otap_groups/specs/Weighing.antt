@@ -1,5 +1,6 @@
 -- What rows and requests weigh, where weights of their parts are given.
 use Rattle.std.specs.Prelude.{ℕ, ◌+◌, List, length, sum_by, All}
+use Rattle.otlp_model.specs.Limits.{part_weight}
 use Rattle.otlp_model.specs.Telemetry.{groups_with_items}
 use Rattle.otlp_model.specs.declared.groups.Resource.{Resource}
 use Rattle.otlp_model.specs.declared.groups.Scope.{Scope}
@@ -14,17 +15,17 @@ use Rattle.otap_cells.specs.Weights.{cell_weight}
 -- ---- groups, by the weights of pairs of resources, of pairs of scopes, and of items
 
 abbrev pub weigh_resource : (Pair → ℕ) → Resource → ℕ
-weigh_resource of_pair resource = length resource.schema_url + total 32 of_pair resource.pairs
+weigh_resource of_pair resource = length resource.schema_url + total part_weight of_pair resource.pairs
 
 abbrev pub weigh_scope : (Pair → ℕ) → Scope → ℕ
-weigh_scope of_pair scope = length scope.schema_url + length scope.name + length scope.version + total 32 of_pair scope.pairs
+weigh_scope of_pair scope = length scope.schema_url + length scope.name + length scope.version + total part_weight of_pair scope.pairs
 
 abbrev pub weigh_scope_group : {I : Type 0} → (Pair → ℕ) → (I → ℕ) → ScopeGroup I → ℕ
-weigh_scope_group of_pair of_item group = weigh_scope of_pair group.scope + total 32 of_item group.items
+weigh_scope_group of_pair of_item group = weigh_scope of_pair group.scope + total part_weight of_item group.items
 
 abbrev pub weigh_resource_group : {I : Type 0} → (Pair → ℕ) → (Pair → ℕ) → (I → ℕ) → ResourceGroup I → ℕ
 weigh_resource_group of_resource of_scope of_item group =
-    weigh_resource of_resource group.resource + total 32 (weigh_scope_group of_scope of_item) group.scopes
+    weigh_resource of_resource group.resource + total part_weight (weigh_scope_group of_scope of_item) group.scopes
 
 -- ---- the rows of a request, without making them
 

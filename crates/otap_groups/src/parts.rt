@@ -44,8 +44,8 @@ pub trait PartWriter {
     fn goes_on(&self, before: &Self::Part, part: &Self::Part) -> bool
         ensures { result ≡ again_of kind (cells_of before.now) (cells_of part.now) };
 
-    /// Appends a row: the numbers stored for both ids, and the cells of the part. Where memory runs out, the former rows stand
-    /// first; whether a row follows them isn't told.
+    /// Appends a row: the numbers stored for both ids, and the cells of the part. Where memory runs out, the former rows
+    /// come first; whether a row follows them isn't said.
     fn push(
         &self,
         table: &mut LogicalTable,

@@ -30,8 +30,8 @@ pub trait RowWriter {
     fn kind(&self) -> Kind
         ensures { result ≡ kind };
 
-    /// Appends a row: the cells in front, and those of the item. Where memory runs out, the former rows stand first; whether a row
-    /// follows them isn't told.
+    /// Appends a row: the cells in front, and those of the item. Where memory runs out, the former rows come first; whether a row
+    /// follows them isn't said.
     fn push<'a>(
         &self,
         table: &mut LogicalTable,

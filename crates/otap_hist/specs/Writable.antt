@@ -1,6 +1,6 @@
 -- Words of private contracts: what can be written of a request of metrics, beside the points of numbers.
 use Rattle.std.specs.Prelude.{◌≤◌, All}
-use Rattle.otlp_model.specs.Limits.{weight_limit}
+use Rattle.otlp_model.specs.Limits.{weight_limit, part_weight}
 use Rattle.otlp_model.specs.Weight.{total, weight_of_pair}
 use Rattle.otlp_model.specs.declared.groups.ScopeGroup.{ScopeGroup}
 use Rattle.otlp_model.specs.declared.groups.ResourceGroup.{ResourceGroup}
@@ -12,11 +12,11 @@ use Rattle.otap_metrics.specs.Writable.{CanWriteExemplar}
 
 -- what can be written: the attributes of each weigh no more than the limit, and the exemplars can be written
 pub record CanWriteHistPoint (point : HistPoint) : Type 0 where
-  pub pairs : total 32 weight_of_pair point.pairs ≤ weight_limit
+  pub pairs : total part_weight weight_of_pair point.pairs ≤ weight_limit
   pub exemplars : All CanWriteExemplar point.exemplars
 
 pub record CanWriteSumPoint (point : SumPoint) : Type 0 where
-  pub pairs : total 32 weight_of_pair point.pairs ≤ weight_limit
+  pub pairs : total part_weight weight_of_pair point.pairs ≤ weight_limit
 
 pub record CanWriteHistMetric (metric : Metric) : Type 0 where
   pub hist_points : All CanWriteHistPoint (hist_points_of metric.shape)

@@ -1,6 +1,6 @@
 -- Words of private contracts: what of a request of metrics can be written.
 use Rattle.std.specs.Prelude.{◌≤◌, All}
-use Rattle.otlp_model.specs.Limits.{weight_limit}
+use Rattle.otlp_model.specs.Limits.{weight_limit, part_weight}
 use Rattle.otlp_model.specs.Profile.{IsTraceId, IsSpanId}
 use Rattle.otlp_model.specs.Weight.{total, weight_of_pair}
 use Rattle.otlp_model.specs.declared.metrics.Exemplar.{Exemplar}
@@ -12,10 +12,10 @@ use Rattle.otap_metrics.specs.Metrics.{points_of}
 pub record CanWriteExemplar (exemplar : Exemplar) : Type 0 where
   pub trace_id : IsTraceId exemplar.trace_id
   pub span_id : IsSpanId exemplar.span_id
-  pub pairs : total 32 weight_of_pair exemplar.pairs ≤ weight_limit
+  pub pairs : total part_weight weight_of_pair exemplar.pairs ≤ weight_limit
 
 pub record CanWritePoint (point : Point) : Type 0 where
-  pub pairs : total 32 weight_of_pair point.pairs ≤ weight_limit
+  pub pairs : total part_weight weight_of_pair point.pairs ≤ weight_limit
   pub exemplars : All CanWriteExemplar point.exemplars
 
 abbrev pub CanWriteMetric : Metric → Type 0

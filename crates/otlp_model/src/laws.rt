@@ -40,7 +40,7 @@ pub fn signals_differ()
     ensures { (p q : Request) → signal_of p ≢ signal_of q → Same p q ↔ ((telemetry p ≡ []) × (telemetry q ≡ [])) }
 {}
 
-/// Only the order of a list of attributes doesn't count: two lists tell the same exactly where each pair occurs in both
+/// Only the order of a list of attributes doesn't count: two lists are the same exactly where each pair occurs in both
 /// equally often.
 pub fn order_does_not_count()
     ensures { (xs ys : List Pair) → SameOften xs ys ↔ ((pair : Pair) → occurrences pair xs ≡ occurrences pair ys) }
