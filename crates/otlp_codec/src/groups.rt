@@ -10,7 +10,9 @@ ghost use Rattle.otlp_codec.specs.PartRefusals.{RefusesValue};
 ghost use Rattle.otlp_codec.specs.Groups.{resource_in, scope_in, scope_group_in, resource_group_in, groups_in};
 ghost use Rattle.otlp_codec.specs.Steps.{no_resource, resource_step, resource_part_in, no_scope, scope_step, scope_part_in, no_scope_group, scope_group_step, no_resource_group, resource_group_step, request_step};
 ghost use Rattle.otlp_codec.specs.lemmas.Passed.{resource_passes, scope_passes, scope_group_passes, resource_group_passes, request_passes};
-ghost use Rattle.std.specs.Prelude.{[]};
+ghost use Rattle.std.specs.Prelude.{[], ◌<◌, ◌^◌, IsTrue};
+ghost use Rattle.lists.specs.Bytes.{is_real_text};
+ghost use Rattle.otlp_model.specs.Real.{are_real_pairs, IsRealScopeGroup, IsRealResourceGroup};
 ghost use Rattle.otlp_messages.specs.Canon.{canon};
 ghost use Rattle.otlp_codec.specs.Canonical.{resource_rows, scope_rows, canon_scope_group, canon_resource_group};
 
@@ -18,7 +20,7 @@ use crate::cells::{take_text, take_uint32};
 use crate::lengths::{len_bytes_row, len_more, len_one, len_pairs, len_varint_row};
 use crate::part::{ItemMessage, Submessage, read_part, take_items, take_more, take_pairs};
 use crate::refusal::ReadRefusal;
-use crate::writing::{Spelled, write_more, write_one, write_pairs};
+use crate::writing::{Spelled, write_more, write_one, write_pairs, write_text};
 use otlp_messages::{Backward, Message};
 use otlp_model::{Items, Resource, ResourceGroup, Scope, ScopeGroup, Text, add_capped, sum_capped};
 use otlp_wire::{Field, Wire};
@@ -238,6 +240,8 @@ pub(crate) fn take_scope(alloc: Global, to: &mut Scope, value: &Wire<'_>) -> Res
 impl Spelled for Resource {
     ghost spelled = { λ resource. canon (resource_rows resource) };
 
+    ghost is_real = { λ resource. (resource.dropped < 2 ^ 32) × IsTrue (are_real_pairs resource.pairs) };
+
     #[tactic(auto, using(otlp_messages::proofs::Keeping::keeps_more, otlp_messages::proofs::Keeping::keeps_four))]
     fn write(&self, to: &mut Backward) -> Result<(), AllocError> {
         to.put_varint_row(2, u64::from(self.dropped))?;
@@ -256,12 +260,14 @@ impl Spelled for Resource {
 impl Spelled for Scope {
     ghost spelled = { λ scope. canon (scope_rows scope) };
 
+    ghost is_real = { λ scope. IsTrue (is_real_text scope.name) × IsTrue (is_real_text scope.version) × (scope.dropped < 2 ^ 32) × IsTrue (are_real_pairs scope.pairs) };
+
     #[tactic(auto, using(otlp_messages::proofs::Keeping::keeps_more, otlp_messages::proofs::Keeping::keeps_four))]
     fn write(&self, to: &mut Backward) -> Result<(), AllocError> {
         to.put_varint_row(4, u64::from(self.dropped))?;
         write_pairs(to, 3, self.pairs.as_slice())?;
-        to.put_bytes_row(2, self.version.as_slice())?;
-        to.put_bytes_row(1, self.name.as_slice())?;
+        write_text(to, 2, &self.version)?;
+        write_text(to, 1, &self.name)?;
         Ok(())
     }
 
@@ -278,9 +284,11 @@ impl Spelled for Scope {
 impl<I: Spelled> Spelled for ScopeGroup<I> {
     ghost spelled = { canon_scope_group I.spelled };
 
+    ghost is_real = { IsRealScopeGroup I.is_real };
+
     #[tactic(auto, using(otlp_messages::proofs::Keeping::keeps_more, otlp_messages::proofs::Keeping::keeps_four))]
     fn write(&self, to: &mut Backward) -> Result<(), AllocError> {
-        to.put_bytes_row(3, self.scope.schema_url.as_slice())?;
+        write_text(to, 3, &self.scope.schema_url)?;
         write_more(to, 2, self.items.as_slice())?;
         write_one(to, 1, &self.scope)?;
         Ok(())
@@ -298,9 +306,11 @@ impl<I: Spelled> Spelled for ScopeGroup<I> {
 impl<I: Spelled> Spelled for ResourceGroup<I> {
     ghost spelled = { canon_resource_group I.spelled };
 
+    ghost is_real = { IsRealResourceGroup I.is_real };
+
     #[tactic(auto, using(otlp_messages::proofs::Keeping::keeps_more, otlp_messages::proofs::Keeping::keeps_four))]
     fn write(&self, to: &mut Backward) -> Result<(), AllocError> {
-        to.put_bytes_row(3, self.resource.schema_url.as_slice())?;
+        write_text(to, 3, &self.resource.schema_url)?;
         write_more(to, 2, self.scopes.as_slice())?;
         write_one(to, 1, &self.resource)?;
         Ok(())

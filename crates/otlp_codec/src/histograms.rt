@@ -2,13 +2,16 @@
 
 ghost use Rattle.otlp_messages.specs.declared.messages.Message.TheVariants as messages;
 ghost use Rattle.otlp_codec.specs.Points.{hist_point_in, quantile_in, sum_point_in};
+ghost use Rattle.otlp_model.specs.Real.{IsRealHistPoint, IsRealQuantile, IsRealSumPoint};
 ghost use Rattle.otlp_codec.specs.MetricSteps.{no_hist_point, hist_point_step, no_quantile, quantile_step, no_sum_point, sum_point_step};
 ghost use Rattle.otlp_codec.specs.MetricSpelling.{canon_hist_point, canon_quantile, canon_sum_point};
 ghost use Rattle.otlp_codec.specs.lemmas.MetricsPassed.{hist_point_passes, quantile_passes, sum_point_passes};
 
 use crate::cells::{take_fixed64, take_uint32};
 use crate::lengths::{len_fixed64_row, len_more, len_pairs, len_varint_row};
-use crate::numbers::{len_optional, len_packed, take_optional, take_packed};
+use crate::numbers::{
+    len_optional, len_packed, take_optional, take_packed, write_optional, write_packed,
+};
 use crate::part::{Submessage, take_more, take_pairs};
 use crate::refusal::ReadRefusal;
 use crate::writing::{Spelled, write_more, write_pairs};
@@ -70,16 +73,18 @@ impl Submessage for HistPoint {
 impl Spelled for HistPoint {
     ghost spelled = { canon_hist_point };
 
+    ghost is_real = { IsRealHistPoint };
+
     #[tactic(auto, using(otlp_messages::proofs::Keeping::keeps_more, otlp_messages::proofs::Keeping::keeps_four), unfolding(crate::specs::MetricSpelling::canon_hist_point))]
     fn write(&self, to: &mut Backward) -> Result<(), AllocError> {
-        to.put_optional_row(12, self.max)?;
-        to.put_optional_row(11, self.min)?;
+        write_optional(to, 12, self.max)?;
+        write_optional(to, 11, self.min)?;
         to.put_varint_row(10, u64::from(self.flags))?;
         write_pairs(to, 9, self.pairs.as_slice())?;
         write_more(to, 8, self.exemplars.as_slice())?;
-        to.put_packed64_row(7, self.bounds.as_slice())?;
-        to.put_packed64_row(6, self.buckets.as_slice())?;
-        to.put_optional_row(5, self.sum)?;
+        write_packed(to, 7, &self.bounds)?;
+        write_packed(to, 6, &self.buckets)?;
+        write_optional(to, 5, self.sum)?;
         to.put_fixed64_row(4, self.count)?;
         to.put_fixed64_row(3, self.time)?;
         to.put_fixed64_row(2, self.start)?;
@@ -139,6 +144,8 @@ impl Submessage for Quantile {
 impl Spelled for Quantile {
     ghost spelled = { canon_quantile };
 
+    ghost is_real = { IsRealQuantile };
+
     #[tactic(auto, using(otlp_messages::proofs::Keeping::keeps_more, otlp_messages::proofs::Keeping::keeps_four), unfolding(crate::specs::MetricSpelling::canon_quantile))]
     fn write(&self, to: &mut Backward) -> Result<(), AllocError> {
         to.put_fixed64_row(2, self.value)?;
@@ -196,6 +203,8 @@ impl Submessage for SumPoint {
 
 impl Spelled for SumPoint {
     ghost spelled = { canon_sum_point };
+
+    ghost is_real = { IsRealSumPoint };
 
     #[tactic(auto, using(otlp_messages::proofs::Keeping::keeps_more, otlp_messages::proofs::Keeping::keeps_four), unfolding(crate::specs::MetricSpelling::canon_sum_point))]
     fn write(&self, to: &mut Backward) -> Result<(), AllocError> {

@@ -1,6 +1,7 @@
 //! Log records.
 
 ghost use Rattle.std.proofs.Common.{refl};
+ghost use Rattle.otlp_model.specs.Real.{IsRealLogRecord};
 ghost use Rattle.otlp_messages.specs.declared.messages.Message.TheVariants as messages;
 ghost use Rattle.otlp_messages.specs.declared.messages.Of.TheVariants as ofs;
 ghost use Rattle.otlp_codec.specs.Canonical.{canon_log_record};
@@ -14,7 +15,7 @@ use crate::lengths::{
 };
 use crate::part::{ItemMessage, Submessage, take_pairs, take_value};
 use crate::refusal::ReadRefusal;
-use crate::writing::{Spelled, write_one, write_pairs};
+use crate::writing::{Spelled, write_octets, write_one, write_pairs, write_text};
 use otlp_messages::{Backward, Message, Of};
 use otlp_model::{Items, LogRecord, Octets, Text, Value, sum_capped};
 use otlp_wire::Field;
@@ -73,17 +74,19 @@ impl Submessage for LogRecord {
 impl Spelled for LogRecord {
     ghost spelled = { canon_log_record };
 
+    ghost is_real = { IsRealLogRecord };
+
     #[tactic(auto, using(otlp_messages::proofs::Keeping::keeps_more, otlp_messages::proofs::Keeping::keeps_four), unfolding(crate::specs::Canonical::canon_log_record))]
     fn write(&self, to: &mut Backward) -> Result<(), AllocError> {
-        to.put_bytes_row(12, self.event_name.as_slice())?;
+        write_text(to, 12, &self.event_name)?;
         to.put_fixed64_row(11, self.observed)?;
-        to.put_bytes_row(10, self.span_id.as_slice())?;
-        to.put_bytes_row(9, self.trace_id.as_slice())?;
+        write_octets(to, 10, &self.span_id)?;
+        write_octets(to, 9, &self.trace_id)?;
         to.put_fixed32_row(8, self.flags)?;
         to.put_varint_row(7, u64::from(self.dropped))?;
         write_pairs(to, 6, self.pairs.as_slice())?;
         write_one(to, 5, &self.body)?;
-        to.put_bytes_row(3, self.severity_text.as_slice())?;
+        write_text(to, 3, &self.severity_text)?;
         to.put_signed_row(2, i64::from(self.severity))?;
         to.put_fixed64_row(1, self.time)?;
         Ok(())

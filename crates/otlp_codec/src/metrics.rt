@@ -14,6 +14,7 @@ ghost use Rattle.otlp_codec.specs.MetricSpelling.{shape_rows, canon_metric};
 ghost use Rattle.otlp_codec.specs.lemmas.MetricsPassed.{metric_passes};
 ghost use Rattle.otlp_messages.specs.declared.messages.Of.TheVariants as ofs;
 ghost use Rattle.std.proofs.Common.{refl};
+ghost use Rattle.otlp_model.specs.Real.{IsRealMetric, IsRealShape};
 ghost use Rattle.otlp_model.specs.Limits.{count_cap};
 
 use crate::cells::take_text;
@@ -24,7 +25,7 @@ use crate::shapes::{
     len_gauge, len_histogram, len_sum, len_summary, take_gauge, take_histogram, take_sum,
     take_summary, write_gauge, write_histogram, write_sum, write_summary,
 };
-use crate::writing::Spelled;
+use crate::writing::{Spelled, write_text};
 use otlp_messages::{Backward, Message, Of};
 use otlp_model::{Metric, Shape, Text, sum_capped};
 use otlp_wire::{Field, Wire};
@@ -93,12 +94,14 @@ fn unsupported(value: &Wire<'_>) -> ReadRefusal
 impl Spelled for Metric {
     ghost spelled = { canon_metric };
 
+    ghost is_real = { IsRealMetric };
+
     #[tactic(auto, using(otlp_messages::proofs::Keeping::keeps_more, otlp_messages::proofs::Keeping::keeps_four), unfolding(crate::specs::MetricSpelling::canon_metric))]
     fn write(&self, to: &mut Backward) -> Result<(), AllocError> {
         write_shape(to, &self.shape)?;
-        to.put_bytes_row(3, self.unit.as_slice())?;
-        to.put_bytes_row(2, self.description.as_slice())?;
-        to.put_bytes_row(1, self.name.as_slice())?;
+        write_text(to, 3, &self.unit)?;
+        write_text(to, 2, &self.description)?;
+        write_text(to, 1, &self.name)?;
         Ok(())
     }
 
@@ -117,6 +120,7 @@ impl Spelled for Metric {
 fn write_shape(to: &mut Backward, shape: &Shape) -> Result<(), AllocError>
     ensures ok { OnOk result (to.new ≡ canon (shape_rows shape.now) ++ to.old) }
     ensures err { OnErr result (KeepsEnd to.old to.new) }
+    ensures real { OnOk result (IsRealShape shape.now) }
 {
     match shape {
         Shape::Empty => Ok(()),

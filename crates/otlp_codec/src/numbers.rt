@@ -1,6 +1,6 @@
 //! Fields that only points have: the oneof of a number, doubles that may be missing, packed numbers.
 
-ghost use Rattle.std.specs.Prelude.{◌≡◌, ◌≤◌, ◌/◌, ◌++◌, min, length, OnOk, OnErr, IfErr, IfOk};
+ghost use Rattle.std.specs.Prelude.{◌≡◌, ◌≤◌, ◌<◌, ◌/◌, ◌^◌, ◌++◌, min, length, IsTrue, OnOk, OnErr, IfErr, IfOk};
 ghost use Rattle.otlp_wire.specs.Wire.{value_of, IsNumber};
 ghost use Rattle.otlp_messages.specs.Kept.{KeepsEnd};
 ghost use Rattle.otlp_messages.specs.declared.messages.FieldKind.TheVariants as kinds;
@@ -9,7 +9,9 @@ ghost use Rattle.otlp_messages.specs.Fine.{FineValue};
 ghost use Rattle.lists.specs.Numbers.{little_numbers};
 ghost use Rattle.otlp_messages.specs.Rows.{bool_in, optional_in, packed_in};
 ghost use Rattle.otlp_messages.specs.Canon.{canon_row, bool_row, optional_row, packed_row};
+ghost use Rattle.otlp_model.specs.Each.{Each};
 ghost use Rattle.otlp_model.specs.Limits.{count_cap};
+ghost use Rattle.otlp_model.specs.Real.{is_real_number, is_real_optional};
 ghost use Rattle.otlp_codec.specs.PartRefusals.{RefusesValue};
 ghost use Rattle.otlp_codec.specs.Numbers.{double_in, int_in, double_row, int_row};
 
@@ -108,6 +110,7 @@ pub(crate) fn write_double(to: &mut Backward, number: u32, value: Number) -> Res
     requires { IsNumber number }
     ensures ok { OnOk result (to.new ≡ canon_row number (double_row value) ++ to.old) }
     ensures err { OnErr result (KeepsEnd to.old to.new) }
+    ensures real { OnOk result (IsTrue (is_real_number value)) }
 {
     match value {
         Number::Double(bits) => to.put_fixed64_field(number, bits),
@@ -120,11 +123,42 @@ pub(crate) fn write_int(to: &mut Backward, number: u32, value: Number) -> Result
     requires { IsNumber number }
     ensures ok { OnOk result (to.new ≡ canon_row number (int_row value) ++ to.old) }
     ensures err { OnErr result (KeepsEnd to.old to.new) }
+    ensures real { OnOk result (IsTrue (is_real_number value)) }
 {
     match value {
         Number::Int(int) => to.put_fixed64_field(number, int.cast_unsigned()),
         _ => Ok(()),
     }
+}
+
+/// Writes a double that may be missing.
+pub(crate) fn write_optional(
+    to: &mut Backward,
+    number: u32,
+    value: Option<u64>,
+) -> Result<(), AllocError>
+    requires { IsNumber number }
+    ensures ok { OnOk result (to.new ≡ canon_row number (optional_row value) ++ to.old) }
+    ensures err { OnErr result (KeepsEnd to.old to.new) }
+    ensures real { OnOk result (IsTrue (is_real_optional value)) }
+{
+    to.put_optional_row(number, value)
+}
+
+/// Writes packed numbers.
+pub(crate) fn write_packed(
+    to: &mut Backward,
+    number: u32,
+    values: &Items<u64>,
+) -> Result<(), AllocError>
+    requires { IsNumber number }
+    ensures ok { OnOk result (to.new ≡ canon_row number (packed_row values.now) ++ to.old) }
+    ensures err { OnErr result (KeepsEnd to.old to.new) }
+    ensures real { OnOk result (Each (λ value. value < 2 ^ 64) values.now) }
+{
+    // The variable tells the proof that each number fits its type.
+    let values = values.as_slice();
+    to.put_packed64_row(number, values)
 }
 
 /// How many bytes `as_double` takes.

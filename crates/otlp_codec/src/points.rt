@@ -2,6 +2,7 @@
 
 ghost use Rattle.otlp_messages.specs.declared.messages.Message.TheVariants as messages;
 ghost use Rattle.otlp_codec.specs.Points.{exemplar_in, point_in};
+ghost use Rattle.otlp_model.specs.Real.{IsRealExemplar, IsRealPoint};
 ghost use Rattle.otlp_codec.specs.MetricSteps.{no_exemplar, exemplar_step, no_point, point_step};
 ghost use Rattle.otlp_codec.specs.MetricSpelling.{canon_exemplar, canon_point};
 ghost use Rattle.otlp_codec.specs.lemmas.MetricsPassed.{exemplar_passes, point_passes};
@@ -11,7 +12,7 @@ use crate::lengths::{len_bytes_row, len_fixed64_row, len_more, len_pairs, len_va
 use crate::numbers::{len_double, len_int, take_double, take_int, write_double, write_int};
 use crate::part::{Submessage, take_more, take_pairs};
 use crate::refusal::ReadRefusal;
-use crate::writing::{Spelled, write_more, write_pairs};
+use crate::writing::{Spelled, write_more, write_octets, write_pairs};
 use otlp_messages::{Backward, Message};
 use otlp_model::{Exemplar, Items, Number, Octets, Point, sum_capped};
 use otlp_wire::Field;
@@ -59,12 +60,14 @@ impl Submessage for Exemplar {
 impl Spelled for Exemplar {
     ghost spelled = { canon_exemplar };
 
+    ghost is_real = { IsRealExemplar };
+
     #[tactic(auto, using(otlp_messages::proofs::Keeping::keeps_more, otlp_messages::proofs::Keeping::keeps_four), unfolding(crate::specs::MetricSpelling::canon_exemplar))]
     fn write(&self, to: &mut Backward) -> Result<(), AllocError> {
         write_pairs(to, 7, self.pairs.as_slice())?;
         write_int(to, 6, self.value)?;
-        to.put_bytes_row(5, self.trace_id.as_slice())?;
-        to.put_bytes_row(4, self.span_id.as_slice())?;
+        write_octets(to, 5, &self.trace_id)?;
+        write_octets(to, 4, &self.span_id)?;
         write_double(to, 3, self.value)?;
         to.put_fixed64_row(2, self.time)?;
         Ok(())
@@ -126,6 +129,8 @@ impl Submessage for Point {
 
 impl Spelled for Point {
     ghost spelled = { canon_point };
+
+    ghost is_real = { IsRealPoint };
 
     #[tactic(auto, using(otlp_messages::proofs::Keeping::keeps_more, otlp_messages::proofs::Keeping::keeps_four), unfolding(crate::specs::MetricSpelling::canon_point))]
     fn write(&self, to: &mut Backward) -> Result<(), AllocError> {

@@ -54,7 +54,7 @@ pub fn len_request(request: &Request) -> u64
 /// A request that weighs at most `MAX_TREE_WEIGHT` takes at most 2^29 bytes.
 pub fn write_request(alloc: Global, request: &Request) -> Result<Vec<u8>, AllocError>
     ensures spelled { IfOk result (λ bytes. bytes.items ≡ canon_request request.now) }
-    ensures bound { IfOk result (λ bytes. IsReal request.now → weight_of request.now ≤ weight_limit → length bytes.items ≤ longest_request) }
+    ensures bound { IfOk result (λ bytes. weight_of request.now ≤ weight_limit → length bytes.items ≤ longest_request) }
 {
     let mut to = Backward::new(alloc);
     put_request(&mut to, request)?;
@@ -66,7 +66,7 @@ pub fn write_request(alloc: Global, request: &Request) -> Result<Vec<u8>, AllocE
 pub fn put_request(to: &mut Backward, request: &Request) -> Result<(), AllocError>
     ensures spelled { OnOk result (to.new ≡ canon_request request.now ++ to.old) }
     ensures err { OnErr result (KeepsEnd to.old to.new) }
-    ensures bound { OnOk result (IsReal request.now → weight_of request.now ≤ weight_limit → length to.new ≤ length to.old + longest_request) }
+    ensures bound { OnOk result (weight_of request.now ≤ weight_limit → length to.new ≤ length to.old + longest_request) }
 {
     put_groups(to, request)?;
     Ok(())
@@ -76,6 +76,7 @@ pub fn put_request(to: &mut Backward, request: &Request) -> Result<(), AllocErro
 fn put_groups(to: &mut Backward, request: &Request) -> Result<(), AllocError>
     ensures ok { OnOk result (to.new ≡ canon_request request.now ++ to.old) }
     ensures err { OnErr result (KeepsEnd to.old to.new) }
+    ensures real { OnOk result (IsReal request.now) }
 {
     match request {
         Request::Traces(groups) => write_more(to, 1, groups.as_slice()),

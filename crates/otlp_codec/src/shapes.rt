@@ -10,6 +10,8 @@ ghost use Rattle.otlp_codec.specs.Limits.{level_limit};
 ghost use Rattle.otlp_messages.specs.Fine.{FineValue};
 ghost use Rattle.otlp_messages.specs.Canon.{canon_row};
 ghost use Rattle.otlp_model.specs.Limits.{count_cap};
+ghost use Rattle.otlp_model.specs.Real.{IsRealShape};
+ghost use Rattle.otlp_model.specs.declared.metrics.Shape.TheVariants as shapes;
 ghost use Rattle.otlp_codec.specs.PartRefusals.{RefusesValue};
 ghost use Rattle.otlp_codec.specs.Metrics.{gauge_in, sum_in, histogram_in, summary_in, gauge_shape_in, sum_shape_in, histogram_shape_in, summary_shape_in};
 ghost use Rattle.otlp_codec.specs.MetricSteps.{gauge_step, no_sum, sum_step, no_histogram, histogram_step, summary_step};
@@ -238,6 +240,7 @@ pub(crate) fn take_summary(
 pub(crate) fn write_gauge(to: &mut Backward, points: &Items<Point>) -> Result<(), AllocError>
     ensures ok { OnOk result (to.new ≡ canon_row 5 (wire.Bytes (canon_gauge points.now) ∷ []) ++ to.old) }
     ensures err { OnErr result (KeepsEnd to.old to.new) }
+    ensures real { OnOk result (IsRealShape (shapes.Gauge points.now)) }
 {
     let before = to.len();
     write_more(to, 1, points.as_slice())?;
@@ -256,6 +259,7 @@ pub(crate) fn write_sum(
 ) -> Result<(), AllocError>
     ensures ok { OnOk result (to.new ≡ canon_row 7 (wire.Bytes (canon_sum (record { points = points.now; temporality = temporality; monotonic = monotonic })) ∷ []) ++ to.old) }
     ensures err { OnErr result (KeepsEnd to.old to.new) }
+    ensures real { OnOk result (IsRealShape (shapes.Sum points.now temporality monotonic)) }
 {
     let before = to.len();
     to.put_bool_row(3, monotonic)?;
@@ -275,6 +279,7 @@ pub(crate) fn write_histogram(
 ) -> Result<(), AllocError>
     ensures ok { OnOk result (to.new ≡ canon_row 9 (wire.Bytes (canon_histogram (record { points = points.now; temporality = temporality })) ∷ []) ++ to.old) }
     ensures err { OnErr result (KeepsEnd to.old to.new) }
+    ensures real { OnOk result (IsRealShape (shapes.Histogram points.now temporality)) }
 {
     let before = to.len();
     to.put_signed_row(2, i64::from(temporality))?;
@@ -289,6 +294,7 @@ pub(crate) fn write_histogram(
 pub(crate) fn write_summary(to: &mut Backward, points: &Items<SumPoint>) -> Result<(), AllocError>
     ensures ok { OnOk result (to.new ≡ canon_row 11 (wire.Bytes (canon_summary points.now) ∷ []) ++ to.old) }
     ensures err { OnErr result (KeepsEnd to.old to.new) }
+    ensures real { OnOk result (IsRealShape (shapes.Summary points.now)) }
 {
     let before = to.len();
     write_more(to, 1, points.as_slice())?;

@@ -1,7 +1,10 @@
 //! Spans, their events, links and statuses.
 
-ghost use Rattle.std.specs.Prelude.{◌≡◌, length, min, OnOk, IfOk, IfErr};
+ghost use Rattle.std.specs.Prelude.{◌≡◌, length, min, IsTrue, FitsSigned, OnOk, IfOk, IfErr};
+ghost use Rattle.std.specs.Int.{w32};
 ghost use Rattle.std.proofs.Common.{refl};
+ghost use Rattle.lists.specs.Bytes.{is_real_text};
+ghost use Rattle.otlp_model.specs.Real.{IsRealEvent, IsRealLink, IsRealSpan};
 ghost use Rattle.otlp_messages.specs.Canon.{canon};
 ghost use Rattle.otlp_messages.specs.declared.messages.Message.TheVariants as messages;
 ghost use Rattle.otlp_messages.specs.declared.messages.Of.TheVariants as ofs;
@@ -23,7 +26,7 @@ use crate::lengths::{
 };
 use crate::part::{ItemMessage, Submessage, read_part, take_more, take_pairs};
 use crate::refusal::ReadRefusal;
-use crate::writing::{Spelled, write_more, write_one, write_pairs};
+use crate::writing::{Spelled, write_more, write_octets, write_one, write_pairs, write_text};
 use otlp_messages::{Backward, Message, Of};
 use otlp_model::{Event, Items, Link, Octets, Span, Text, add_capped, sum_capped};
 use otlp_wire::{Field, Wire};
@@ -250,11 +253,13 @@ fn take_status(
 impl Spelled for Event {
     ghost spelled = { canon_event };
 
+    ghost is_real = { IsRealEvent };
+
     #[tactic(auto, using(otlp_messages::proofs::Keeping::keeps_more, otlp_messages::proofs::Keeping::keeps_four), unfolding(crate::specs::SpanSpelling::canon_event))]
     fn write(&self, to: &mut Backward) -> Result<(), AllocError> {
         to.put_varint_row(4, u64::from(self.dropped))?;
         write_pairs(to, 3, self.pairs.as_slice())?;
-        to.put_bytes_row(2, self.name.as_slice())?;
+        write_text(to, 2, &self.name)?;
         to.put_fixed64_row(1, self.time)?;
         Ok(())
     }
@@ -273,14 +278,16 @@ impl Spelled for Event {
 impl Spelled for Link {
     ghost spelled = { canon_link };
 
+    ghost is_real = { IsRealLink };
+
     #[tactic(auto, using(otlp_messages::proofs::Keeping::keeps_more, otlp_messages::proofs::Keeping::keeps_four), unfolding(crate::specs::SpanSpelling::canon_link))]
     fn write(&self, to: &mut Backward) -> Result<(), AllocError> {
         to.put_fixed32_row(6, self.flags)?;
         to.put_varint_row(5, u64::from(self.dropped))?;
         write_pairs(to, 4, self.pairs.as_slice())?;
-        to.put_bytes_row(3, self.trace_state.as_slice())?;
-        to.put_bytes_row(2, self.span_id.as_slice())?;
-        to.put_bytes_row(1, self.trace_id.as_slice())?;
+        write_text(to, 3, &self.trace_state)?;
+        write_octets(to, 2, &self.span_id)?;
+        write_octets(to, 1, &self.trace_id)?;
         Ok(())
     }
 
@@ -300,6 +307,8 @@ impl Spelled for Link {
 impl Spelled for Span {
     ghost spelled = { canon_span };
 
+    ghost is_real = { IsRealSpan };
+
     #[tactic(auto, using(otlp_messages::proofs::Keeping::keeps_more, otlp_messages::proofs::Keeping::keeps_four), unfolding(crate::specs::SpanSpelling::canon_span))]
     fn write(&self, to: &mut Backward) -> Result<(), AllocError> {
         to.put_fixed32_row(16, self.flags)?;
@@ -313,11 +322,11 @@ impl Spelled for Span {
         to.put_fixed64_row(8, self.end)?;
         to.put_fixed64_row(7, self.start)?;
         to.put_signed_row(6, i64::from(self.kind))?;
-        to.put_bytes_row(5, self.name.as_slice())?;
-        to.put_bytes_row(4, self.parent_span_id.as_slice())?;
-        to.put_bytes_row(3, self.trace_state.as_slice())?;
-        to.put_bytes_row(2, self.span_id.as_slice())?;
-        to.put_bytes_row(1, self.trace_id.as_slice())
+        write_text(to, 5, &self.name)?;
+        write_octets(to, 4, &self.parent_span_id)?;
+        write_text(to, 3, &self.trace_state)?;
+        write_octets(to, 2, &self.span_id)?;
+        write_octets(to, 1, &self.trace_id)
     }
 
     #[tactic(auto, unfolding(crate::specs::SpanSpelling::canon_span))]
@@ -329,10 +338,12 @@ impl Spelled for Span {
 impl Spelled for SpanStatusOf<'_> {
     ghost spelled = { λ s. canon_span_status (record { message = s.message.now; code = s.code }) };
 
+    ghost is_real = { λ s. IsTrue (is_real_text s.message.now) × FitsSigned w32 s.code };
+
     #[tactic(auto, using(otlp_messages::proofs::Keeping::keeps_more))]
     fn write(&self, to: &mut Backward) -> Result<(), AllocError> {
         to.put_signed_row(3, i64::from(self.code))?;
-        to.put_bytes_row(2, self.message.as_slice())?;
+        write_text(to, 2, self.message)?;
         Ok(())
     }
 

@@ -4,7 +4,7 @@ use Rattle.otlp_codec.proofs.spans.SpanSpelled.write.Goals as goal
 
 pub returns-clause-err : goal.returns-clause-err
 returns-clause-err c =
-    on_err_weaker c.put_bytes_row-5.result
+    on_err_weaker c.write_octets-3.result
     (λ kept.
     keeps_on _ _ _ _ c.in_ok-put_fixed32_row.ensures.ok
     (keeps_on _ _ _ _ c.in_ok-write_one.ensures.ok
@@ -17,9 +17,9 @@ returns-clause-err c =
     (keeps_on _ _ _ _ c.in_ok-put_fixed64_row.ensures.ok
     (keeps_on _ _ _ _ c.in_ok-put_fixed64_row-2.ensures.ok
     (keeps_on _ _ _ _ c.in_ok-put_signed_row.ensures.ok
-    (keeps_on _ _ _ _ c.in_ok-put_bytes_row.ensures.ok
-    (keeps_on _ _ _ _ c.in_ok-put_bytes_row-2.ensures.ok
-    (keeps_on _ _ _ _ c.in_ok-put_bytes_row-3.ensures.ok
-    (keeps_on _ _ _ _ c.in_ok-put_bytes_row-4.ensures.ok
+    (keeps_on _ _ _ _ c.in_ok-write_text.ensures.ok
+    (keeps_on _ _ _ _ c.in_ok-write_octets.ensures.ok
+    (keeps_on _ _ _ _ c.in_ok-write_text-2.ensures.ok
+    (keeps_on _ _ _ _ c.in_ok-write_octets-2.ensures.ok
     kept)))))))))))))))
-    c.put_bytes_row-5.ensures.err
+    c.write_octets-3.ensures.err
