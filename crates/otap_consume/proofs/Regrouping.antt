@@ -119,7 +119,7 @@ by_rows m outcomes frame batch tables id rows mid new (taken.Accepted told reque
       gives = record {
         seen = Accepted batch tables;
         gives = after;
-        settles = Settles.accepted batch tables (record { clean = is.clean; light = subst (λ (r : Request). weight_of r ≤ weight_limit) is.request kept.light.light });
+        settles = Settles.accepted batch tables (record { clean = is.clean; light = subst (λ (r : Request). weight_of r ≤ weight_limit) is.request kept.light });
       };
       tells = told_batch (takes.0 ∙ tells.0) is.request (takes.1 ∙ tells.1) is.tree;
       stands = subst (StandsFor m.signal (outcomes ++ Accepted batch tables ∷ [])) (sym kept.same) stands;

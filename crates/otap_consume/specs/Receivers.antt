@@ -1,7 +1,6 @@
 -- A receiver: the segment that it keeps, and what it returns for a frame.
 use Rattle.std.specs.Prelude.{◌≡◌, ◌≤◌, ⊤, List, [], ◌∷◌, ◌++◌}
 use Rattle.otlp_model.specs.Limits.{weight_limit}
-use Rattle.otlp_model.specs.Real.{IsReal}
 use Rattle.otlp_model.specs.Weight.{weight_of}
 use Rattle.otap_capture.specs.Capture.{Frame}
 use Rattle.otap_cells.specs.Weights.{weight_of_tables}
@@ -28,7 +27,7 @@ pub record HasReceived (m : Meaning) (outcomes : List Outcome) (frame : Frame) (
 pub record Receives (m : Meaning) (old : SegmentIn) (frame : Frame) (new : SegmentIn) (returned : Taken) : Type 0 where
   pub at : (outcomes : List Outcome) → StandsFor m.signal outcomes old → HasReceived m outcomes frame new returned
 
--- a request that is returned is one that a program holds, and within its limit
-abbrev pub HasRealRequest : Taken → Type 0
-HasRealRequest (taken.Accepted id request rows tree) = IsReal request × (weight_of request ≤ weight_limit)
-HasRealRequest returned = ⊤
+-- a request that is returned is within its limit
+abbrev pub HasLightRequest : Taken → Type 0
+HasLightRequest (taken.Accepted id request rows tree) = weight_of request ≤ weight_limit
+HasLightRequest returned = ⊤

@@ -1,7 +1,6 @@
 -- The request that the tables of a batch make, and what it weighs.
 use Rattle.std.specs.Prelude.{◌≡◌, ◌≤◌, List}
 use Rattle.otlp_model.specs.Limits.{weight_limit}
-use Rattle.otlp_model.specs.Real.{IsReal}
 use Rattle.otlp_model.specs.Weight.{weight_of}
 use Rattle.otap_cells.specs.Tables.{Table}
 use Rattle.otap_checks.specs.Regrouping.{RefusesRegroup}
@@ -15,10 +14,9 @@ pub record IsRegrouped (m : Meaning) (tables : List Table) (regrouped : Regroupe
   pub request : regrouped.request ≡ m.request tables
   pub tree : regrouped.tree ≡ weight_of regrouped.request
 
--- it is one that a program holds, and within its limit
-pub record IsLight (regrouped : Regrouped) : Type 0 where
-  pub real : IsReal regrouped.request
-  pub light : weight_of regrouped.request ≤ weight_limit
+-- it is within its limit
+abbrev pub IsLight : Regrouped → Type 0
+IsLight regrouped = weight_of regrouped.request ≤ weight_limit
 
 -- WHY TABLES MAKE NO REQUEST
 abbrev pub RefusesTables : Meaning → List Table → RegroupRefusal → Type 0

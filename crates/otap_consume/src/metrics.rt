@@ -8,7 +8,7 @@ use otap_checks::RegroupRefusal;
 use otap_columns::RowsView;
 use otap_hist::reading_laws::clean_or_wrong;
 use otap_hist::regroup;
-use otlp_model::{Request, Signal, weight};
+use otlp_model::{Request, Signal};
 use std::alloc::Global;
 
 /// Metrics, as a receiver takes them.
@@ -24,11 +24,8 @@ impl Telemetry for MetricTelemetry {
 
     fn regroup(alloc: Global, set: &TableSet<RowsView<'_>>) -> Result<Regrouped, RegroupRefusal> {
         let made = regroup(alloc, set)?;
-        let request = Request::Metrics(made.groups);
-        // The walk tells a proof that a program can hold the request.
-        let _weight = weight(&request);
         Ok(Regrouped {
-            request,
+            request: Request::Metrics(made.groups),
             tree: made.tree,
         })
     }

@@ -44,7 +44,7 @@ impl<T: Telemetry> Model for Receiver<T> {
 }
 
 impl<T: Telemetry> Receiver<T> {
-    ghost use Rattle.otap_consume.specs.Receivers.{Receives, HasRealRequest};
+    ghost use Rattle.otap_consume.specs.Receivers.{Receives, HasLightRequest};
     ghost use Rattle.otap_consume.specs.Segments.{IsNew};
 
     /// A receiver in which no frame stands.
@@ -64,7 +64,7 @@ impl<T: Telemetry> Receiver<T> {
     /// only where its weight is within the limit.
     pub fn take(&mut self, frame: &Frame<'_>) -> Result<Taken, AllocError>
         ensures next { IfOk result (Receives T.meaning self.old (frame_of frame.now) self.new) }
-        ensures sound { IfOk result HasRealRequest }
+        ensures light { IfOk result HasLightRequest }
         ensures memory { OnErr result (self.new.broken ≡ true) }
         ensures signal { self.new.signal ≡ T.meaning.signal }
     {
@@ -93,7 +93,7 @@ impl<T: Telemetry> Receiver<T> {
     fn take_rows(&mut self, frame: &Frame<'_>, id: i64, rows: u64) -> Result<Taken, AllocError>
         requires { IsTaken (frame_of frame.now) self.old }
         ensures takes { IfOk result (TakesRows T.meaning (frame_of frame.now) id rows self.old self.new) }
-        ensures sound { IfOk result HasRealRequest }
+        ensures light { IfOk result HasLightRequest }
         ensures memory { OnErr result (self.new.broken ≡ true) }
         ensures signal { self.new.signal ≡ T.meaning.signal }
     {

@@ -1,6 +1,6 @@
 //! `decode`: the request of each batch.
 ghost use Rattle.std.specs.Prelude.{◌≡◌, IfOk};
-ghost use Rattle.otap_consume.specs.Receivers.{HasRealRequest};
+ghost use Rattle.otap_consume.specs.Receivers.{HasLightRequest};
 ghost use Rattle.otap_consume.specs.Segments.{IsNew};
 ghost use Rattle.otap_gateway.specs.declared.command.Command.TheVariants as command;
 ghost use Rattle.otap_gateway.specs.Receptions.{decoded, meaning_of};
@@ -47,7 +47,7 @@ impl<T: Serves> Job for Decoder<T> {
 
 /// The reply to what a frame gave.
 fn decode(alloc: Global, number: u64, taken: Taken) -> Result<Reply, AllocError>
-    requires { HasRealRequest taken }
+    requires { HasLightRequest taken }
     ensures { IfOk result (λ reply. reply ≡ decoded number taken) }
 {
     match taken {

@@ -3,7 +3,7 @@ ghost use Rattle.std.specs.Prelude.{◌≡◌, ◌≤◌, ◌++◌, IfOk, OnOk, 
 ghost use Rattle.otlp_model.specs.Limits.{weight_limit};
 ghost use Rattle.otlp_model.specs.Telemetry.{telemetry};
 ghost use Rattle.otlp_model.specs.Weight.{weight_of};
-ghost use Rattle.otap_consume.specs.Receivers.{HasRealRequest};
+ghost use Rattle.otap_consume.specs.Receivers.{HasLightRequest};
 ghost use Rattle.otap_consume.specs.Segments.{IsNew};
 ghost use Rattle.otap_gateway.specs.declared.command.Command.TheVariants as command;
 ghost use Rattle.otap_gateway.specs.Receptions.{meaning_of, replayed, replay_line, weights_text};
@@ -51,7 +51,7 @@ impl<T: Serves> Job for Replayer<T> {
 
 /// The reply to what a frame gave.
 fn replay(alloc: Global, number: u64, taken: Taken) -> Result<Reply, AllocError>
-    requires { HasRealRequest taken }
+    requires { HasLightRequest taken }
     ensures { IfOk result (λ reply. reply ≡ replayed number taken) }
 {
     match taken {
