@@ -6,6 +6,7 @@ pub mod EncodedFrames
 pub mod Extending
 pub mod FaultlessRuns
 pub mod ItemsWeigh
+pub mod LaidSegments
 pub mod LoadRows
 pub mod LoadRuns
 pub mod LoadSteps

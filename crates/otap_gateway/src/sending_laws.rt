@@ -1,19 +1,24 @@
 //! Laws of `encode`: each is the contract of a function that does nothing.
 ghost use Rattle.std.specs.Prelude.{◌≡◌, [], List};
+ghost use Rattle.std.specs.List.{flat_map};
 ghost use Rattle.lists.specs.EachAfter.{EachAfter};
+ghost use Rattle.otap_capture.specs.Batch.{payloads_in};
 ghost use Rattle.otap_capture.specs.Capture.{Frame};
 ghost use Rattle.otap_gateway.specs.declared.command.Command.TheVariants as command;
 ghost use Rattle.otlp_model.specs.declared.request.Signal.{Signal};
 ghost use Rattle.otap_gateway.specs.Commands.{ReplyOf};
-ghost use Rattle.otap_gateway.specs.Encoding.{Encoded, Encodes, encoded, signal_rows};
+ghost use Rattle.otap_gateway.specs.Encoding.{Encoded, Encodes, encoded, sent, signal_rows};
 ghost use Rattle.otap_gateway.specs.ReadBack.{IsReadAgain};
 ghost use Rattle.otap_gateway.specs.Receptions.{meaning_of};
 ghost use Rattle.otap_gateway.specs.Reply.{ReplyText};
 ghost use Rattle.otap_gateway.specs.Told.{Gave, told};
+ghost use Rattle.otap_transit.specs.Layouts.{AreLaidPayloads};
+ghost use Rattle.otap_transit.specs.Sendings.{messages_since};
 
 use crate::sending::ExportsRows;
 use otap_capture::written_is_read;
 use otap_produce::{LogTables, MetricTables, SpanTables};
+use otap_transit::laws::layouts_are_read;
 
 /// What `encode` writes is given by one list of what the frames of the capture gave, and all of it arrives.
 pub fn encoded_texts_have_outcomes()
@@ -31,4 +36,13 @@ pub fn what_is_written_is_read()
     SpanTables::what_is_sent_arrives();
     LogTables::what_is_sent_arrives();
     MetricTables::what_is_sent_arrives();
+}
+
+/// After each frame, the payloads of all messages that `encode` wrote since the latest reset are laid out, by their bytes alone:
+/// each by the schema that its sub-stream then has.
+pub fn what_is_written_is_laid_out()
+    ensures { (signal : Signal) (frames : List Frame) (outcomes : List Encoded) → Gave (Encodes (signal_rows signal) (meaning_of signal)) frames outcomes
+        → AreLaidPayloads (flat_map payloads_in (messages_since (sent outcomes))) }
+{
+    layouts_are_read();
 }
