@@ -1,5 +1,5 @@
 //! Values in cells, both ways: the type, then a cell for a text, an integer, a double, a truth value, bytes, and a nested value.
-ghost use Rattle.std.specs.Prelude.{◌≡◌, ◌<◌, ◌≤◌, ◌∷◌, [], drop, length, map, min, unwrap_or, IfErr, IfOk, OnOk};
+ghost use Rattle.std.specs.Prelude.{◌≡◌, ◌<◌, ◌≤◌, ◌∷◌, [], drop, length, map, min, unwrap_or, IfErr, IfOk, OnErr, OnOk};
 ghost use Rattle.std.specs.List.{slice_index_or};
 ghost use Rattle.otlp_model.specs.Limits.{weight_limit, count_cap};
 ghost use Rattle.otlp_model.specs.Weight.{weight_of_value};
@@ -55,10 +55,11 @@ fn nested_value(alloc: Global, part: &[u8]) -> Result<Value, AllocError>
     }
 }
 
-/// Writes the bytes of the cell of a nested value; of other values there are none.
+/// Writes the bytes of the cell of a nested value in place of what was there; of other values there are none.
 pub fn nested_bytes(to: &mut Vec<u8>, value: &Value) -> Result<(), AllocError>
     requires { weight_of_value value.now ≤ weight_limit }
-    ensures { OnOk result (to.new.items ≡ nested_of value.now) }
+    ensures ok { OnOk result (to.new.items ≡ nested_of value.now) }
+    ensures err { OnErr result (to.new.items ≡ []) }
 {
     to.clear();
     match value {

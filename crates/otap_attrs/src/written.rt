@@ -1,5 +1,5 @@
 //! The tables of attributes of a request, and what their rows weigh.
-ghost use Rattle.std.specs.Prelude.{◌≡◌, ◌≤◌, ◌++◌, ◌^◌, List, true, All, length, map, min, IfOk, OnOk};
+ghost use Rattle.std.specs.Prelude.{◌≡◌, ◌≤◌, ◌++◌, ◌^◌, List, true, All, length, map, min, IfOk, OnErr, OnOk};
 ghost use Rattle.otlp_model.specs.declared.value.Pair.{Pair};
 ghost use Rattle.otlp_model.specs.Limits.{weight_limit, count_cap};
 ghost use Rattle.otlp_model.specs.Weight.{total, weight_of_pair, weight_of_value};
@@ -157,7 +157,8 @@ pub fn push_filled(
     tables: &mut Vec<(Kind, LogicalTable)>,
     table: LogicalTable,
 ) -> Result<(), AllocError>
-    ensures { OnOk result (tables.new.items ≡ tables.old.items ++ map beside_kind (where_rows table)) }
+    ensures ok { OnOk result (tables.new.items ≡ tables.old.items ++ map beside_kind (where_rows table)) }
+    ensures err { OnErr result (tables.new.items ≡ tables.old.items) }
 {
     if table.rows() == 0 {
         return Ok(());

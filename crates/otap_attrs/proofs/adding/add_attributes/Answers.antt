@@ -14,6 +14,6 @@ write_attributes-requires-clause-weight g c =
 
 pub returns : goal.returns
 returns g c =
-    c.in_ok-push_filled.ensures ∙ ap (λ t. c.args.tables.now.items ++ map beside_kind (where_rows t))
+    c.in_ok-push_filled.ensures.ok ∙ ap (λ t. c.args.tables.now.items ++ map beside_kind (where_rows t))
     (found_through c.args.kind (λ (b : Bor g.row.P.Denot). b.now) (λ (p : Placed g.row.P.Denot). p.part.now) g.P.Attributed.pairs c.deref.result.now c.args.parts.now _
     (ap (map (λ (b : Bor g.row.P.Denot). b.now)) c.deref.ensures.value ∙ c.in_ok-parents.ensures) c.in_ok-attributes.ensures)

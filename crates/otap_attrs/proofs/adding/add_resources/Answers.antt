@@ -17,6 +17,6 @@ write_attributes-requires-clause-weight g c =
 
 pub returns : goal.returns
 returns g c =
-    c.in_ok-push_filled.ensures ∙ ap (λ t. c.args.tables.now.items ++ map beside_kind (where_rows t))
+    c.in_ok-push_filled.ensures.ok ∙ ap (λ t. c.args.tables.now.items ++ map beside_kind (where_rows t))
     (found_table table.ResourceAttrs (λ (b : Bor Resource). b.now) (λ (x : Resource). x.pairs) c.deref.result.now (resources_of c.args.groups.now) _
     (ap (map (λ (b : Bor Resource). b.now)) c.deref.ensures.value ∙ c.in_ok-resources.ensures) c.in_ok-attributes.ensures)

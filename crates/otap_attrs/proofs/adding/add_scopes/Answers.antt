@@ -17,6 +17,6 @@ write_attributes-requires-clause-weight g c =
 
 pub returns : goal.returns
 returns g c =
-    c.in_ok-push_filled.ensures ∙ ap (λ t. c.args.tables.now.items ++ map beside_kind (where_rows t))
+    c.in_ok-push_filled.ensures.ok ∙ ap (λ t. c.args.tables.now.items ++ map beside_kind (where_rows t))
     (found_table table.ScopeAttrs (λ (b : Bor Scope). b.now) (λ (x : Scope). x.pairs) c.deref.result.now (scopes_of c.args.groups.now) _
     (ap (map (λ (b : Bor Scope). b.now)) c.deref.ensures.value ∙ c.in_ok-scopes.ensures) c.in_ok-attributes.ensures)

@@ -58,7 +58,7 @@ pub returns-clause-tables : goal.returns-clause-tables
 returns-clause-tables c =
     are_tables c.in_ok-main.main c.in_ok-resources-2.resources c.in_ok-scopes-2.scopes c.in_ok-records-2.records _
     (pushed c.in_ok-main.main c.in_ok-resources-2.resources c.in_ok-scopes-2.scopes c.in_ok-records-2.records _ _ _ _ c.push_filled-3.new.tables.items
-    c.new-tables.ensures.items c.in_ok-push.ensures.items c.in_ok-push_filled.ensures c.in_ok-push_filled-2.ensures c.in_ok-push_filled-3.ensures)
+    c.new-tables.ensures.items c.in_ok-push.ensures.items c.in_ok-push_filled.ensures.ok c.in_ok-push_filled-2.ensures.ok c.in_ok-push_filled-3.ensures.ok)
     ∙ written c.args.groups.now c.as_slice-groups.result.now (map seen_flat c.deref.result.now) c.in_ok-main.main c.in_ok-resources-2.resources c.in_ok-scopes-2.scopes c.in_ok-records-2.records
     c.as_slice-groups.ensures (ap (map seen_flat) c.deref.ensures.value ∙ c.in_ok-rows.ensures.items) c.in_ok-main.ensures
     (found_table table.ResourceAttrs (λ (b : Bor Resource). b.now) (λ (x : Resource). x.pairs) c.deref-2.result.now _ _
@@ -73,6 +73,6 @@ pub returns-clause-set : goal.returns-clause-set
 returns-clause-set c =
     is_set c.in_ok-main.main c.in_ok-resources-2.resources c.in_ok-scopes-2.scopes c.in_ok-records-2.records _
     (pushed c.in_ok-main.main c.in_ok-resources-2.resources c.in_ok-scopes-2.scopes c.in_ok-records-2.records _ _ _ _ c.push_filled-3.new.tables.items
-    c.new-tables.ensures.items c.in_ok-push.ensures.items c.in_ok-push_filled.ensures c.in_ok-push_filled-2.ensures c.in_ok-push_filled-3.ensures)
+    c.new-tables.ensures.items c.in_ok-push.ensures.items c.in_ok-push_filled.ensures.ok c.in_ok-push_filled-2.ensures.ok c.in_ok-push_filled-3.ensures.ok)
     (ap (λ (t : Table). t.kind) c.in_ok-main.ensures) (attributes_kind _ _ _ c.in_ok-resources-2.ensures) (attributes_kind _ _ _ c.in_ok-scopes-2.ensures)
     (attributes_kind _ _ _ c.in_ok-records-2.ensures)
