@@ -1,0 +1,128 @@
+// Package otlp has OTLP's messages by their descriptors: those of edge/proto, as protoc compiled them when this was
+// built. There is no generated code. It trusts the protobuf library to read messages; a test compares each field number
+// with the formats of docs/PROFILE.md, and the messages with those that Google's library for Python makes.
+package otlp
+
+import (
+	_ "embed"
+	"fmt"
+	"sort"
+
+	"google.golang.org/protobuf/proto"
+	"google.golang.org/protobuf/reflect/protodesc"
+	"google.golang.org/protobuf/reflect/protoreflect"
+	"google.golang.org/protobuf/reflect/protoregistry"
+	"google.golang.org/protobuf/types/descriptorpb"
+	"google.golang.org/protobuf/types/dynamicpb"
+
+	"finavoluth/edge/internal/signal"
+)
+
+//go:embed out/descriptors
+var descriptors []byte
+
+// files are the descriptors of all messages. They never change.
+var files = mustLoad(descriptors)
+
+// ascending has the fields of each message by ascending number. It never changes.
+var ascending = byNumber(files)
+
+// mustLoad reads the descriptor set that is embedded. Where it can't be read, the program was built wrong.
+func mustLoad(set []byte) *protoregistry.Files {
+	var all descriptorpb.FileDescriptorSet
+	if err := proto.Unmarshal(set, &all); err != nil {
+		panic(fmt.Sprintf("the embedded descriptors of OTLP: %v", err))
+	}
+	files, err := protodesc.NewFiles(&all)
+	if err != nil {
+		panic(fmt.Sprintf("the embedded descriptors of OTLP: %v", err))
+	}
+	return files
+}
+
+func byNumber(files *protoregistry.Files) map[protoreflect.FullName][]protoreflect.FieldDescriptor {
+	sorted := map[protoreflect.FullName][]protoreflect.FieldDescriptor{}
+	files.RangeFiles(func(file protoreflect.FileDescriptor) bool {
+		addSorted(file.Messages(), sorted)
+		return true
+	})
+	return sorted
+}
+
+func addSorted(messages protoreflect.MessageDescriptors, sorted map[protoreflect.FullName][]protoreflect.FieldDescriptor) {
+	for i := 0; i < messages.Len(); i++ {
+		message := messages.Get(i)
+		fields := make([]protoreflect.FieldDescriptor, message.Fields().Len())
+		for j := range fields {
+			fields[j] = message.Fields().Get(j)
+		}
+		sort.Slice(fields, func(a, b int) bool { return fields[a].Number() < fields[b].Number() })
+		sorted[message.FullName()] = fields
+		addSorted(message.Messages(), sorted)
+	}
+}
+
+// Message is the descriptor with this name, as "opentelemetry.proto.trace.v1.Span", and nil where there is none.
+func Message(name string) protoreflect.MessageDescriptor {
+	found, err := files.FindDescriptorByName(protoreflect.FullName(name))
+	if err != nil {
+		return nil
+	}
+	message, _ := found.(protoreflect.MessageDescriptor)
+	return message
+}
+
+// Messages are the descriptors of all messages, those inside others too, sorted by name.
+func Messages() []protoreflect.MessageDescriptor {
+	var names []string
+	for name := range ascending {
+		names = append(names, string(name))
+	}
+	sort.Strings(names)
+	messages := make([]protoreflect.MessageDescriptor, len(names))
+	for i, name := range names {
+		messages[i] = Message(name)
+	}
+	return messages
+}
+
+// requests are the names of the export requests.
+var requests = map[signal.Signal]string{
+	signal.Traces:  "opentelemetry.proto.collector.trace.v1.ExportTraceServiceRequest",
+	signal.Logs:    "opentelemetry.proto.collector.logs.v1.ExportLogsServiceRequest",
+	signal.Metrics: "opentelemetry.proto.collector.metrics.v1.ExportMetricsServiceRequest",
+}
+
+// Request is the descriptor of the export request of the signal.
+func Request(s signal.Signal) protoreflect.MessageDescriptor {
+	return Message(requests[s])
+}
+
+// Levels are the fields that lead from a request to its items.
+type Levels struct {
+	Groups protoreflect.FieldDescriptor // of the request: resourceSpans, resourceLogs or resourceMetrics
+	Scopes protoreflect.FieldDescriptor // of a resource group: scopeSpans, scopeLogs or scopeMetrics
+	Items  protoreflect.FieldDescriptor // of a scope group: spans, logRecords or metrics
+}
+
+// LevelsOf are the levels of the signal.
+func LevelsOf(s signal.Signal) Levels {
+	groups := Request(s).Fields().ByNumber(1)
+	scopes := groups.Message().Fields().ByNumber(2)
+	return Levels{Groups: groups, Scopes: scopes, Items: scopes.Message().Fields().ByNumber(2)}
+}
+
+// New is an empty request of the signal.
+func New(s signal.Signal) *dynamicpb.Message {
+	return dynamicpb.NewMessage(Request(s))
+}
+
+// Read reads a request of the signal by the rules of protobuf: of a scalar that occurs twice the last one is taken, a
+// message that occurs twice is merged, and unknown fields are kept.
+func Read(s signal.Signal, request []byte) (*dynamicpb.Message, error) {
+	message := New(s)
+	if err := proto.Unmarshal(request, message); err != nil {
+		return nil, fmt.Errorf("no OTLP request of %v: %w", s, err)
+	}
+	return message, nil
+}
