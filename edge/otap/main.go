@@ -3,19 +3,64 @@
 package main
 
 import (
+	"context"
 	"fmt"
+	"io"
 	"os"
+	ossignal "os/signal"
+	"sync"
+	"syscall"
 
-	"github.com/spf13/cobra"
+	"finavoluth/edge/internal/command"
 )
 
 // version is set by edge/build.
 var version = "unknown"
 
-func main() {
-	root := &cobra.Command{Use: "otap", Short: "Turns OpenTelemetry requests into the columns of OTAP, and back"}
-	if err := root.Execute(); err != nil {
-		fmt.Fprintln(os.Stderr, "otap:", err)
-		os.Exit(2)
+func main() { os.Exit(run(os.Args[1:])) }
+
+func run(args []string) int {
+	// A write to a pipe that nobody reads returns an error, and doesn't end the process.
+	ossignal.Notify(make(chan os.Signal, 1), syscall.SIGPIPE)
+	ctx, stop := ossignal.NotifyContext(context.Background(), os.Interrupt, syscall.SIGTERM)
+	defer stop()
+	env := &command.Env{Stdin: os.Stdin, Stdout: os.Stdout, Stderr: &locked{target: os.Stderr}}
+	root := newRoot(env)
+	root.SetArgs(args)
+	err := root.ExecuteContext(ctx)
+	if err == nil {
+		return command.OK
 	}
+	status, text := command.StatusOf(err)
+	if text != "" {
+		env.Say("%s", text)
+	}
+	return status
+}
+
+// locked lets several goroutines write whole lines to one target.
+type locked struct {
+	sync.Mutex
+	target io.Writer
+}
+
+func (l *locked) Write(text []byte) (int, error) {
+	l.Lock()
+	defer l.Unlock()
+	return l.target.Write(text)
+}
+
+// versionText says which build this is, and which program it asks.
+func versionText(env *command.Env) (string, error) {
+	text := fmt.Sprintf("otap %s\n", version)
+	program, err := env.Program()
+	if err != nil {
+		return text + "program: none: " + err.Error() + "\n", nil
+	}
+	defer program.Close()
+	sum, err := program.Sum()
+	if err != nil {
+		return "", &command.Exit{Status: command.ReadFailed, Err: err}
+	}
+	return text + fmt.Sprintf("program: %s, sha256 %s\n", program, sum), nil
 }

@@ -13,6 +13,7 @@ import (
 	"os"
 	"os/exec"
 	"path/filepath"
+	"syscall"
 
 	"golang.org/x/sys/unix"
 )
@@ -120,10 +121,12 @@ func (p *Program) Sum() (string, error) {
 	return hex.EncodeToString(sum.Sum(nil)), nil
 }
 
-// Command is a run of the program with these words. The end of the context kills it.
+// Command is a run of the program with these words. The end of the context kills it. It is a process group of its own, so
+// that what interrupts otap at a terminal doesn't end the program before otap has handled it.
 func (p *Program) Command(ctx context.Context, words ...string) *exec.Cmd {
 	cmd := exec.CommandContext(ctx, p.path, words...)
 	cmd.Args[0] = Name
+	cmd.SysProcAttr = &syscall.SysProcAttr{Setpgid: true}
 	return cmd
 }
 

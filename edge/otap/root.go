@@ -1,0 +1,99 @@
+package main
+
+import (
+	"fmt"
+	"strings"
+
+	"github.com/spf13/cobra"
+	"github.com/spf13/pflag"
+
+	"finavoluth/edge/internal/command"
+	"finavoluth/edge/internal/words"
+)
+
+// The subcommands besides the jobs of the program, in the order in which help lists them.
+var makers = []command.Maker{}
+
+const about = `otap turns OpenTelemetry requests (OTLP) into the columns of OTAP, and back.
+
+It takes files as people have them: a Collector's file in protobuf or JSON, captures,
+and all of these in gzip or zstd. Where no file is named, it reads standard input.
+What concerns OTAP is done by a program that is proved; otap itself isn't.`
+
+const examples = `  otap encode logs otlp.json -o batches.capture     a Collector's file, as batches
+  otap decode logs batches.capture --to json        the requests that they stand for
+  otap text logs batches.capture | jq .             the same, to look at
+  otap diff logs otlp.json batches.capture          the same telemetry or not
+  otap explain logs batches.capture                 why a batch is refused`
+
+func newRoot(env *command.Env) *cobra.Command {
+	root := &cobra.Command{
+		Use:               "otap",
+		Short:             "Turns OpenTelemetry requests into the columns of OTAP, and back",
+		Long:              about,
+		Example:           examples,
+		SilenceErrors:     true,
+		SilenceUsage:      true,
+		DisableAutoGenTag: true,
+		Args:              cobra.ArbitraryArgs,
+		CompletionOptions: cobra.CompletionOptions{HiddenDefaultCmd: false},
+	}
+	root.SetOut(env.Stdout)
+	root.SetErr(env.Stderr)
+	root.PersistentFlags().StringVar(&env.OtapCLI, "otap-cli", "", "`FILE` of the proved program, instead of the one in otap")
+	showVersion := root.Flags().Bool("version", false, "print the version, and the sum of the program that is asked")
+	root.RunE = func(cmd *cobra.Command, args []string) error {
+		switch {
+		case *showVersion:
+			text, err := versionText(env)
+			if err != nil {
+				return err
+			}
+			return print(env, text)
+		case len(args) > 0:
+			return unknownJob(root, args[0])
+		}
+		return cmd.Help()
+	}
+	root.SetFlagErrorFunc(flagError)
+	for _, make := range makers {
+		root.AddCommand(make(env))
+	}
+	return root
+}
+
+// print writes to standard output, and names what fails.
+func print(env *command.Env, text string) error {
+	if _, err := fmt.Fprint(env.Stdout, text); err != nil {
+		return command.Fail(command.WriteFailed, "writing standard output: %w", err)
+	}
+	return nil
+}
+
+// unknownJob names the nearest word for a misspelt one.
+func unknownJob(root *cobra.Command, word string) error {
+	var names []string
+	for _, cmd := range root.Commands() {
+		if cmd.IsAvailableCommand() || cmd.Name() == "help" {
+			names = append(names, cmd.Name())
+		}
+	}
+	if nearest := words.Nearest(word, names); nearest != "" {
+		return command.Misuse("no command is called %q: did you mean %s?", word, nearest)
+	}
+	return command.Misuse("no command is called %q: `otap --help` lists them", word)
+}
+
+// flagError names the nearest flag for a misspelt one.
+func flagError(cmd *cobra.Command, err error) error {
+	var names []string
+	cmd.Flags().VisitAll(func(flag *pflag.Flag) { names = append(names, "--"+flag.Name) })
+	text := err.Error()
+	if word := strings.TrimPrefix(text, "unknown flag: "); word != text {
+		if nearest := words.Nearest(word, names); nearest != "" {
+			return command.Misuse("%s has no flag %s: did you mean %s?", cmd.CommandPath(), word, nearest)
+		}
+		return command.Misuse("%s has no flag %s: `%s --help` lists them", cmd.CommandPath(), word, cmd.CommandPath())
+	}
+	return command.Misuse("%s: %s", cmd.CommandPath(), text)
+}
