@@ -66,13 +66,13 @@ func check(text []byte) error {
 	return nil
 }
 
-// notJSON is the error of encoding/json on the text, which is no JSON, with its offset.
+// notJSON is the error of encoding/json on a text that is no JSON, and how many bytes show it.
 func notJSON(text []byte) error {
 	var all json.RawMessage
 	err := json.Unmarshal(text, &all)
 	var syntax *json.SyntaxError
-	if errors.As(err, &syntax) {
-		return fmt.Errorf("no JSON at byte %d: %w", syntax.Offset, err)
+	if errors.As(err, &syntax) && syntax.Offset > 0 {
+		return fmt.Errorf("no JSON in its first %d bytes: %w", syntax.Offset, err)
 	}
 	return fmt.Errorf("no JSON: %w", err)
 }

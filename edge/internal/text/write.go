@@ -105,6 +105,8 @@ func appendDouble(b []byte, x float64) []byte {
 		return append(b, `"Infinity"`...)
 	case math.IsInf(x, -1):
 		return append(b, `"-Infinity"`...)
+	case x == 0 && math.Signbit(x):
+		return append(b, "-0.0"...) // some readers take -0 for a whole number, which has no sign
 	}
 	format := byte('f')
 	if size := math.Abs(x); size != 0 && (size < 1e-6 || size >= 1e21) {
