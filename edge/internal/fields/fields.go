@@ -14,6 +14,7 @@ import (
 
 	"google.golang.org/protobuf/encoding/protowire"
 
+	"finavoluth/edge/internal/otlp"
 	"finavoluth/edge/internal/signal"
 )
 
@@ -83,11 +84,11 @@ func (c *Count) message(plan *plan, whole []byte) error {
 	for rest := whole; len(rest) > 0; {
 		number, wire, head := protowire.ConsumeTag(rest)
 		if head < 0 {
-			return fmt.Errorf("a field of %s: %w", plan.message, protowire.ParseError(head))
+			return fmt.Errorf("a field of %s: %s", plan.message, otlp.Reason(protowire.ParseError(head)))
 		}
 		size := protowire.ConsumeFieldValue(number, wire, rest[head:])
 		if size < 0 {
-			return fmt.Errorf("field %d of %s: %w", number, plan.message, protowire.ParseError(size))
+			return fmt.Errorf("field %d of %s: %s", number, plan.message, otlp.Reason(protowire.ParseError(size)))
 		}
 		value := rest[head : head+size]
 		rest = rest[head+size:]

@@ -7,6 +7,7 @@ import (
 	_ "embed"
 	"fmt"
 	"sort"
+	"strings"
 
 	"google.golang.org/protobuf/proto"
 	"google.golang.org/protobuf/reflect/protodesc"
@@ -122,7 +123,13 @@ func New(s signal.Signal) *dynamicpb.Message {
 func Read(s signal.Signal, request []byte) (*dynamicpb.Message, error) {
 	message := New(s)
 	if err := proto.Unmarshal(request, message); err != nil {
-		return nil, fmt.Errorf("no OTLP request of %v: %w", s, err)
+		return nil, fmt.Errorf("no OTLP request of %v: %s", s, Reason(err))
 	}
 	return message, nil
+}
+
+// Reason is the text of an error of the protobuf library, without the mark that it begins with: the blank in it differs
+// from build to build.
+func Reason(err error) string {
+	return strings.TrimLeft(strings.TrimPrefix(err.Error(), "proto:"), " \u00a0")
 }
