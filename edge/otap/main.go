@@ -17,14 +17,18 @@ import (
 // version is set by edge/build.
 var version = "unknown"
 
-func main() { os.Exit(run(os.Args[1:])) }
+func main() { os.Exit(otap(os.Args[1:])) }
 
-func run(args []string) int {
+func otap(args []string) int {
 	// A write to a pipe that nobody reads returns an error, and doesn't end the process.
 	ossignal.Notify(make(chan os.Signal, 1), syscall.SIGPIPE)
 	ctx, stop := ossignal.NotifyContext(context.Background(), os.Interrupt, syscall.SIGTERM)
 	defer stop()
-	env := &command.Env{Stdin: os.Stdin, Stdout: os.Stdout, Stderr: &locked{target: os.Stderr}}
+	stderr := &speaker{target: os.Stderr}
+	env := &command.Env{Stdin: os.Stdin, Stdout: os.Stdout, Stderr: stderr}
+	if isTerminal(os.Stderr) {
+		env.Progress = stderr.progress
+	}
 	root := newRoot(env)
 	root.SetArgs(args)
 	err := root.ExecuteContext(ctx)
@@ -38,16 +42,38 @@ func run(args []string) int {
 	return status
 }
 
-// locked lets several goroutines write whole lines to one target.
-type locked struct {
+// A speaker lets several goroutines write whole lines to one target, and shows progress below them.
+type speaker struct {
 	sync.Mutex
 	target io.Writer
+	shown  bool // whether progress stands in the last line
 }
 
-func (l *locked) Write(text []byte) (int, error) {
-	l.Lock()
-	defer l.Unlock()
-	return l.target.Write(text)
+// clear is what a terminal takes for: go to the start of the line, and clear it.
+const clear = "\r\033[K"
+
+func (s *speaker) Write(text []byte) (int, error) {
+	s.Lock()
+	defer s.Unlock()
+	s.hide()
+	return s.target.Write(text)
+}
+
+func (s *speaker) progress(text string) {
+	s.Lock()
+	defer s.Unlock()
+	s.hide()
+	if text != "" {
+		s.shown = true
+		fmt.Fprint(s.target, text)
+	}
+}
+
+func (s *speaker) hide() {
+	if s.shown {
+		fmt.Fprint(s.target, clear)
+	}
+	s.shown = false
 }
 
 // versionText says which build this is, and which program it asks.

@@ -8,6 +8,7 @@ import (
 	"github.com/spf13/pflag"
 
 	"finavoluth/edge/internal/command"
+	"finavoluth/edge/internal/jobs"
 	"finavoluth/edge/internal/words"
 )
 
@@ -56,6 +57,9 @@ func newRoot(env *command.Env) *cobra.Command {
 		return cmd.Help()
 	}
 	root.SetFlagErrorFunc(flagError)
+	for _, job := range jobs.All() {
+		root.AddCommand(jobCommand(env, job))
+	}
 	for _, make := range makers {
 		root.AddCommand(make(env))
 	}

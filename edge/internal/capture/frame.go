@@ -2,7 +2,10 @@
 // (docs/PROFILE.md, Captures). It knows nothing of what a message holds, and trusts no length before the bytes are there.
 package capture
 
-import "fmt"
+import (
+	"errors"
+	"fmt"
+)
 
 // The flags of a frame.
 const (
@@ -49,6 +52,15 @@ type Damage struct {
 }
 
 func (d *Damage) Error() string { return fmt.Sprintf("damage at %d: %s", d.Offset, d.Reason) }
+
+// Length is the length that a whole head says. The error is the Reason why the head can't begin a frame.
+func Length(head []byte) (int, error) {
+	length, reason := check(head)
+	if reason != "" {
+		return 0, errors.New(string(reason))
+	}
+	return length, nil
+}
 
 // check says why a whole head can't begin a frame, or nothing.
 func check(head []byte) (length int, reason Reason) {

@@ -60,7 +60,7 @@ func (r *Reader) read(room []byte) (Frame, error) {
 	if reason != "" {
 		return Frame{}, r.damaged(reason, head[:])
 	}
-	payload, err := readPayload(r.source, length, room)
+	payload, err := ReadPayload(r.source, length, room)
 	if err != nil {
 		r.taken = append(head[:], payload...)
 		if errors.Is(err, io.ErrUnexpectedEOF) {
@@ -76,9 +76,9 @@ func (r *Reader) damaged(reason Reason, taken []byte) error {
 	return &Damage{Offset: r.offset, Reason: reason}
 }
 
-// readPayload takes as many bytes, or those that are there and an error. Room beyond what it was lent is taken step by
+// ReadPayload takes as many bytes, or those that are there and an error (io.ErrUnexpectedEOF where they end). Room beyond what it was lent is taken step by
 // step as the bytes come, so that a false length costs nothing.
-func readPayload(source io.Reader, length int, room []byte) ([]byte, error) {
+func ReadPayload(source io.Reader, length int, room []byte) ([]byte, error) {
 	const step = 1 << 20
 	payload := room[:0]
 	for len(payload) < length {

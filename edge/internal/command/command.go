@@ -76,6 +76,10 @@ type Env struct {
 	Stdout  *os.File
 	Stderr  io.Writer // where otap speaks; locked, so that several goroutines may speak
 	OtapCLI string    // the program's file, where one is named by --otap-cli
+
+	// Progress shows a text on the terminal until the next one, or until something is said; nil where standard error is no
+	// terminal.
+	Progress func(text string)
 }
 
 // Say prints one line on standard error, begun with the name of the command.

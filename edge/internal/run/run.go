@@ -1,0 +1,231 @@
+// Package run runs one job of the proved program over a user's files: it brings requests and batches to the program's
+// standard input, its output to where the user wants it, and says what the program can't: the system's reason where a read
+// or a write fails, what isn't carried, and what a refusal mostly comes from. The program's answers are trusted; batches
+// pass through as they are.
+package run
+
+import (
+	"context"
+	"errors"
+	"io"
+	"os"
+	"os/exec"
+	"sync"
+
+	"golang.org/x/sys/unix"
+
+	"finavoluth/edge/internal/child"
+	"finavoluth/edge/internal/command"
+	"finavoluth/edge/internal/forms"
+	"finavoluth/edge/internal/jobs"
+	"finavoluth/edge/internal/signal"
+	"finavoluth/edge/internal/source"
+)
+
+// A Plan is what to run.
+type Plan struct {
+	Job     jobs.Job
+	Signal  signal.Signal
+	Words   []string   // the program's words: the job's name, the signal, and what else it takes
+	Files   []string   // none means standard input
+	From    forms.Form // Unknown has it found out
+	To      forms.Form // of requests; Unknown means a capture
+	Indent  bool       // whether JSON is indented
+	Output  string     // a file, or nothing for standard output
+	Follow  bool
+	Streams bool // whether resets are put in where a stream begins anew
+	Strict  bool // whether what isn't carried ends the run with Refused
+	NoCheck bool // whether bytes are only passed on where that is possible
+}
+
+// Run runs the plan. The error is a *command.Exit, or nil where all went well.
+func (p *Plan) Run(ctx context.Context, env *command.Env) error {
+	program, err := env.Program()
+	if err != nil {
+		return err
+	}
+	defer program.Close()
+	inputs, err := p.inspect(ctx, env)
+	if err != nil {
+		return err
+	}
+	target, err := openTarget(p.Output, env.Stdout, inputs)
+	if err != nil {
+		return err
+	}
+	defer target.discard()
+	r := &running{plan: p, env: env, program: program, inputs: inputs, target: target}
+	return r.run(ctx)
+}
+
+// inspect finds out the form of each input, before anything is run.
+func (p *Plan) inspect(ctx context.Context, env *command.Env) ([]*forms.Input, error) {
+	if p.Job.Takes == jobs.Nothing {
+		return nil, nil
+	}
+	options := forms.Options{Options: source.Options{Stdin: env.Stdin, Follow: p.Follow}, From: p.From,
+		Captures: p.Job.Takes == jobs.Batches}
+	return Inspect(ctx, env, p.Files, options)
+}
+
+// Inspect finds out the forms of files, or of standard input where there are none, and says those of requests.
+func Inspect(ctx context.Context, env *command.Env, files []string, options forms.Options) ([]*forms.Input, error) {
+	if len(files) == 0 {
+		files = []string{source.Stdin}
+	}
+	var inputs []*forms.Input
+	for _, file := range files {
+		input, err := forms.Inspect(ctx, file, options)
+		if err != nil {
+			return nil, inspected(err)
+		}
+		if options.From == forms.Unknown && !options.Captures {
+			env.Say("%s", input.Describe())
+		}
+		inputs = append(inputs, input)
+	}
+	return inputs, nil
+}
+
+func inspected(err error) error {
+	var ambiguous *forms.Ambiguous
+	var none *forms.NoCapture
+	if errors.As(err, &ambiguous) || errors.As(err, &none) {
+		return &command.Exit{Status: command.Misused, Err: err}
+	}
+	return &command.Exit{Status: command.ReadFailed, Err: err}
+}
+
+// running is one run. The goroutines that feed the program, take its output and hear what it says tell what they met to
+// notes and outcomes.
+type running struct {
+	plan    *Plan
+	env     *command.Env
+	program *child.Program
+	inputs  []*forms.Input
+	target  *target
+	notes   notes
+}
+
+// outcomes of the parts of a run. The zero outcome is a good end.
+type outcomes struct {
+	fed     error // from the inputs
+	written error // to the target
+	status  int   // of the program
+	ended   error // how the program ended, where it gave no status
+}
+
+func (r *running) run(ctx context.Context) error {
+	// Where a file is followed, an interrupt is its end, and the program handles what is there.
+	background, cancel := context.WithCancel(context.Background())
+	defer cancel()
+	if !r.plan.Follow {
+		go func() {
+			<-ctx.Done()
+			cancel()
+		}()
+	}
+	result, err := r.start(ctx, background, cancel)
+	if err != nil {
+		return err
+	}
+	if ctx.Err() != nil && !r.plan.Follow {
+		return &command.Exit{Status: command.Interrupted, Err: errors.New("interrupted")}
+	}
+	return r.conclude(ctx, result)
+}
+
+// start runs the program, and waits for its end.
+func (r *running) start(reading, running context.Context, stop func()) (outcomes, error) {
+	cmd := r.program.Command(running, r.plan.Words...)
+	in, out, said, err := pipes(cmd, r.plan.Job.Takes != jobs.Nothing)
+	if err != nil {
+		return outcomes{}, &command.Exit{Status: command.Broken, Err: err}
+	}
+	if err := cmd.Start(); err != nil {
+		return outcomes{}, command.Fail(command.Broken, "starting the program (%s): %w", r.program, source.Reason(err))
+	}
+	closeAll(cmd.Stdin, cmd.Stdout, cmd.Stderr)
+	shown := r.progress(running)
+	defer shown()
+
+	var result outcomes
+	var taken sync.WaitGroup
+	taken.Add(2)
+	go func() {
+		defer taken.Done()
+		if result.written = r.drain(out); result.written != nil {
+			stop()
+		}
+	}()
+	go func() {
+		defer taken.Done()
+		r.hear(said)
+	}()
+	fed := make(chan error, 1)
+	go func() {
+		err := r.feed(reading, running, in)
+		fed <- err
+		in.Close()
+	}()
+	taken.Wait()
+	ended := cmd.Wait()
+	select {
+	case result.fed = <-fed:
+	default: // the program ended before its input did
+		result.fed = <-r.abandoned(fed)
+	}
+	result.status, result.ended = statusOf(cmd, ended)
+	return result, nil
+}
+
+// abandoned is what fed gives, where it doesn't wait for somebody who writes: the program is gone, and takes nothing more.
+func (r *running) abandoned(fed chan error) chan error {
+	for _, input := range r.inputs {
+		if input.Size() < 0 {
+			return done
+		}
+	}
+	if len(r.inputs) == 0 {
+		return done
+	}
+	return fed
+}
+
+// done gives nothing, at once.
+var done = func() chan error { it := make(chan error); close(it); return it }()
+
+// pipes connects a command with three pipes. Without input it reads nothing.
+func pipes(cmd *exec.Cmd, input bool) (in, out, said *os.File, err error) {
+	var ends [3][2]*os.File
+	for i := range ends {
+		if ends[i][0], ends[i][1], err = os.Pipe(); err != nil {
+			return nil, nil, nil, source.Reason(err)
+		}
+	}
+	for _, pair := range ends[:2] {
+		// A larger pipe saves turns between the processes; where the system allows none, the usual one does.
+		_, _ = unix.FcntlInt(pair[1].Fd(), unix.F_SETPIPE_SZ, 1<<20)
+	}
+	cmd.Stdin, cmd.Stdout, cmd.Stderr = ends[0][0], ends[1][1], ends[2][1]
+	return ends[0][1], ends[1][0], ends[2][0], nil
+}
+
+func closeAll(files ...interface{}) {
+	for _, file := range files {
+		if it, ok := file.(io.Closer); ok {
+			it.Close()
+		}
+	}
+}
+
+// statusOf is the status of an ended program, or how else it ended.
+func statusOf(cmd *exec.Cmd, ended error) (int, error) {
+	if code := cmd.ProcessState.ExitCode(); code >= 0 && code <= command.NoMemory {
+		return code, nil
+	}
+	if ended == nil {
+		ended = errors.New(cmd.ProcessState.String())
+	}
+	return command.Broken, ended
+}

@@ -1,0 +1,145 @@
+package run
+
+import (
+	"bufio"
+	"errors"
+	"fmt"
+	"io/fs"
+	"os"
+	"path/filepath"
+
+	"finavoluth/edge/internal/command"
+	"finavoluth/edge/internal/forms"
+	"finavoluth/edge/internal/source"
+)
+
+// A target is where output goes: standard output, a file that is written beside the one that is named and takes its place
+// at the end, or something that is named and is no regular file, as a device, which is written to as it is.
+type target struct {
+	name   string
+	file   *os.File
+	buffer *bufio.Writer
+	beside string // the name of the file that is written, where it is to take the place of another
+	final  string // the name that it takes
+	end    error
+}
+
+// openTarget opens the target. One that is an input is refused.
+func openTarget(output string, stdout *os.File, inputs []*forms.Input) (*target, error) {
+	if output == "" {
+		if what, err := stdout.Stat(); err == nil && what.Mode().IsRegular() {
+			if name, same := inputOf(inputs, what); same {
+				return nil, command.Misuse("standard output is the input %s: nothing was written", name)
+			}
+		}
+		return newTarget("standard output", stdout), nil
+	}
+	what, err := os.Stat(output)
+	switch {
+	case err == nil:
+		if name, same := inputOf(inputs, what); same && what.Mode().IsRegular() {
+			return nil, command.Misuse("-o %s is the input %s: nothing was written", output, name)
+		}
+		if what.IsDir() {
+			return nil, command.Misuse("-o %s is a folder", output)
+		}
+		if !what.Mode().IsRegular() {
+			file, err := os.OpenFile(output, os.O_WRONLY, 0)
+			if err != nil {
+				return nil, writing(output, err)
+			}
+			return newTarget(output, file), nil
+		}
+	case !errors.Is(err, fs.ErrNotExist):
+		return nil, writing(output, err)
+	}
+	return openBeside(output, what)
+}
+
+func newTarget(name string, file *os.File) *target {
+	return &target{name: name, file: file, buffer: bufio.NewWriterSize(file, 1<<16)}
+}
+
+func inputOf(inputs []*forms.Input, what os.FileInfo) (string, bool) {
+	for _, input := range inputs {
+		if input.IsFile(what) {
+			return input.Name, true
+		}
+	}
+	return "", false
+}
+
+// openBeside makes a new file in the folder of the output; `old` is what stands there now, or nil.
+func openBeside(output string, old os.FileInfo) (*target, error) {
+	final := output
+	if old != nil {
+		whole, err := filepath.EvalSymlinks(output)
+		if err != nil {
+			return nil, writing(output, err)
+		}
+		final = whole
+	}
+	for try := 0; ; try++ {
+		beside := fmt.Sprintf("%s.part%d", final, os.Getpid()+try)
+		file, err := os.OpenFile(beside, os.O_WRONLY|os.O_CREATE|os.O_EXCL, 0o666)
+		if errors.Is(err, fs.ErrExist) && try < 100 {
+			continue
+		}
+		if err != nil {
+			return nil, writing(output, err)
+		}
+		if old != nil {
+			_ = file.Chmod(old.Mode().Perm())
+		}
+		t := newTarget(output, file)
+		t.beside, t.final = beside, final
+		return t, nil
+	}
+}
+
+func writing(name string, err error) error {
+	return &command.Exit{Status: command.WriteFailed, Err: fmt.Errorf("writing %s: %w", name, source.Reason(err))}
+}
+
+// Write keeps the text until Flush, or until there is much of it.
+func (t *target) Write(text []byte) (int, error) {
+	n, err := t.buffer.Write(text)
+	return n, t.failed(err)
+}
+
+// Flush hands on what was written.
+func (t *target) Flush() error { return t.failed(t.buffer.Flush()) }
+
+func (t *target) failed(err error) error {
+	if err == nil {
+		return nil
+	}
+	return writing(t.name, err)
+}
+
+// keep ends a good run: the file takes its name.
+func (t *target) keep() error {
+	if err := t.Flush(); err != nil {
+		return err
+	}
+	if t.beside == "" {
+		return nil
+	}
+	if err := t.file.Close(); err != nil {
+		return writing(t.name, err)
+	}
+	if err := os.Rename(t.beside, t.final); err != nil {
+		return writing(t.name, err)
+	}
+	t.beside = ""
+	return nil
+}
+
+// discard ends a run that wasn't kept: what stood under the name stays.
+func (t *target) discard() {
+	if t.beside != "" {
+		t.file.Close()
+		os.Remove(t.beside)
+		t.beside = ""
+	}
+}
