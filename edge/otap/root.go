@@ -13,7 +13,10 @@ import (
 )
 
 // The subcommands besides the jobs of the program, in the order in which help lists them.
-var makers = []command.Maker{}
+var makers = []command.Maker{
+	textCommand,
+	diffCommand,
+}
 
 const about = `otap turns OpenTelemetry requests (OTLP) into the columns of OTAP, and back.
 

@@ -9,6 +9,7 @@ import (
 
 	"finavoluth/edge/internal/capture"
 	"finavoluth/edge/internal/command"
+	"finavoluth/edge/internal/forms"
 	"finavoluth/edge/internal/jobs"
 )
 
@@ -26,7 +27,7 @@ func (r *running) conclude(ctx context.Context, result outcomes) error {
 		return result.written
 	}
 	if result.fed != nil {
-		return failedInput(result.fed)
+		return Failed(result.fed)
 	}
 	if err := r.programFailed(result); err != nil {
 		return err
@@ -51,7 +52,7 @@ func (r *running) conclude(ctx context.Context, result outcomes) error {
 func (r *running) keep(status int) error {
 	some := status == command.Refused && !r.plan.Strict && r.notes.refused < r.notes.messages
 	if status == command.OK || some {
-		return r.target.keep()
+		return r.target.Keep()
 	}
 	if err := r.target.Flush(); err != nil {
 		return err
@@ -79,7 +80,7 @@ func (r *running) programFailed(result outcomes) error {
 
 // sayLost lists what isn't carried, and says whether there is something.
 func (r *running) sayLost() bool {
-	lost := false
+	lost := len(r.notes.keys) > 0
 	for _, field := range r.notes.carried.Fields() {
 		lost = true
 		what := ""
@@ -88,15 +89,19 @@ func (r *running) sayLost() bool {
 		}
 		r.env.Say("not carried: %d × %s%s", field.Times, field.Path, what)
 	}
-	for _, path := range sortedKeys(r.notes.keys) {
-		lost = true
-		r.env.Say("passed over: %d × %s, a key that OTLP doesn't have", r.notes.keys[path], path)
-	}
+	SayKeys(r.env, r.notes.keys)
 	names, metrics := r.notes.carried.Exponential()
 	if metrics > 0 && r.notes.causes["Unsupported"] > 0 {
 		r.env.Say("refused as Unsupported for an exponential histogram: %s", listed(names, metrics))
 	}
 	return lost
+}
+
+// SayKeys lists the keys of JSON that OTLP doesn't have.
+func SayKeys(env *command.Env, keys forms.UnknownKeys) {
+	for _, path := range sortedKeys(keys) {
+		env.Say("passed over: %d × %s, a key that OTLP doesn't have", keys[path], path)
+	}
 }
 
 // listed joins names, at most ten.

@@ -183,8 +183,8 @@ func (f *flushing) Read(room []byte) (int, error) {
 	return f.source.Read(room)
 }
 
-// failedInput is the Exit for an error of an input.
-func failedInput(err error) error {
+// Failed is the Exit for an error of an input.
+func Failed(err error) error {
 	var failure *source.Failure
 	var wrong *forms.Wrong
 	var signal *text.WrongSignal

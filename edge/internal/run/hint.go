@@ -14,7 +14,7 @@ import (
 )
 
 // hint says what refusals mostly come from: a wrong signal, or batches where requests are wanted, or the other way round;
-// and a damage.
+// and a damage. It tries the program on the first messages.
 func (r *running) hint(ctx context.Context) {
 	if r.notes.damage != nil {
 		r.env.Say("%s", damageText(r.notes.damage))
@@ -50,24 +50,25 @@ func (r *running) allRefused() bool {
 }
 
 func (r *running) hintRefused(ctx context.Context) {
-	kept := r.notes.kept
 	first := "the first message is"
-	if len(kept) > 1 {
-		first = fmt.Sprintf("the first %d messages are", len(kept))
+	if len(r.notes.kept) > 1 {
+		first = fmt.Sprintf("the first %d messages are", len(r.notes.kept))
 	}
 	if others := r.reading(ctx, r.plan.Job.Takes, r.plan.Signal.Others()); len(others) > 0 {
 		r.env.Say("%s read as %s: %s", first, joined(others), r.commands(r.plan.Job.Name, others))
 		return
 	}
-	switch r.plan.Job.Takes {
-	case jobs.Requests:
-		if others := r.reading(ctx, jobs.Batches, signal.All()); len(others) > 0 {
-			r.env.Say("%s no requests, but batches of %s: %s", first, joined(others), r.commands("decode", others))
-		}
-	case jobs.Batches:
-		if others := r.reading(ctx, jobs.Requests, signal.All()); len(others) > 0 {
-			r.env.Say("%s no batches, but requests of %s: %s", first, joined(others), r.commands("encode", others))
-		}
+	r.hintOtherKind(ctx, first)
+}
+
+// hintOtherKind says where batches stand in the place of requests, or the other way round.
+func (r *running) hintOtherKind(ctx context.Context, first string) {
+	kind, job, not, but := jobs.Batches, "decode", "requests", "batches"
+	if r.plan.Job.Takes == jobs.Batches {
+		kind, job, not, but = jobs.Requests, "encode", "batches", "requests"
+	}
+	if others := r.reading(ctx, kind, signal.All()); len(others) > 0 {
+		r.env.Say("%s no %s, but %s of %s: %s", first, not, but, joined(others), r.commands(job, others))
 	}
 }
 
@@ -92,9 +93,12 @@ func (r *running) hintUnknown(ctx context.Context) {
 	if !hasUnknown(r.plan.Signal, r.notes.kept) {
 		return
 	}
-	if others := r.reading(ctx, jobs.Requests, r.plan.Signal.Others()); len(others) > 0 && !hasUnknown(others[0], r.notes.kept) {
+	others := r.reading(ctx, jobs.Requests, r.plan.Signal.Others())
+	if len(others) > 0 && !hasUnknown(others[0], r.notes.kept) {
 		r.env.Say("some have fields that %v don't have, and read as %s without any: is it the wrong signal?", r.plan.Signal, others[0])
+		return
 	}
+	r.hintOtherKind(ctx, "the messages are")
 }
 
 func hasUnknown(s signal.Signal, frames []capture.Frame) bool {

@@ -14,6 +14,7 @@ import (
 	"finavoluth/edge/internal/child"
 	"finavoluth/edge/internal/command"
 	"finavoluth/edge/internal/source"
+	"finavoluth/edge/internal/streams"
 )
 
 // A lister asks the program's `list` for the id of each batch, to see where a stream begins anew without a reset. It asks
@@ -21,38 +22,13 @@ import (
 type lister struct {
 	notes *notes
 	talk  *child.Conversation // in lock-step
-	ids   rising
+	ids   streams.Rising
 
 	to    *capture.Writer // beside
 	in    *os.File
 	cmd   *exec.Cmd
 	heard sync.WaitGroup
 	ended bool
-}
-
-// rising watches the ids of batches.
-type rising struct {
-	last int64
-	has  bool
-}
-
-// next reads what list prints for a frame. It says whether the frame is a batch whose id doesn't rise above the one before
-// it since a reset, and both ids.
-func (r *rising) next(line string) (anew bool, before, id int64) {
-	words := strings.Fields(line)
-	if len(words) == 3 && words[2] == "reset" {
-		r.has = false
-	}
-	if len(words) < 4 || words[2] != "batch" {
-		return false, 0, 0
-	}
-	id, err := strconv.ParseInt(words[3], 10, 64)
-	if err != nil {
-		return false, 0, 0
-	}
-	before, anew = r.last, r.has && id <= r.last
-	r.last, r.has = id, true
-	return anew, before, id
 }
 
 func newLister(ctx context.Context, r *running) (*lister, error) {
@@ -93,7 +69,7 @@ func (l *lister) hear(out io.ReadCloser) {
 		if err != nil {
 			return
 		}
-		if anew, before, id := l.ids.next(line); anew {
+		if anew, before, id := l.ids.Next(line); anew {
 			l.notes.begun(frameOf(line), before, id)
 		}
 	}
@@ -116,7 +92,7 @@ func (l *lister) see(f *feeder, frame capture.Frame) error {
 	if err != nil {
 		return &command.Exit{Status: command.Broken, Err: err}
 	}
-	anew, before, id := l.ids.next(answer.Text)
+	anew, before, id := l.ids.Next(answer.Text)
 	if !anew {
 		return nil
 	}

@@ -49,11 +49,11 @@ func (p *Plan) Run(ctx context.Context, env *command.Env) error {
 	if err != nil {
 		return err
 	}
-	target, err := openTarget(p.Output, env.Stdout, inputs)
+	target, err := OpenTarget(p.Output, env.Stdout, inputs)
 	if err != nil {
 		return err
 	}
-	defer target.discard()
+	defer target.Discard()
 	r := &running{plan: p, env: env, program: program, inputs: inputs, target: target}
 	return r.run(ctx)
 }
@@ -103,7 +103,7 @@ type running struct {
 	env     *command.Env
 	program *child.Program
 	inputs  []*forms.Input
-	target  *target
+	target  *Target
 	notes   notes
 }
 

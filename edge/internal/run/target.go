@@ -13,9 +13,9 @@ import (
 	"finavoluth/edge/internal/source"
 )
 
-// A target is where output goes: standard output, a file that is written beside the one that is named and takes its place
+// A Target is where output goes: standard output, a file that is written beside the one that is named and takes its place
 // at the end, or something that is named and is no regular file, as a device, which is written to as it is.
-type target struct {
+type Target struct {
 	name   string
 	file   *os.File
 	buffer *bufio.Writer
@@ -24,8 +24,8 @@ type target struct {
 	end    error
 }
 
-// openTarget opens the target. One that is an input is refused.
-func openTarget(output string, stdout *os.File, inputs []*forms.Input) (*target, error) {
+// OpenTarget opens the target. One that is an input is refused.
+func OpenTarget(output string, stdout *os.File, inputs []*forms.Input) (*Target, error) {
 	if output == "" {
 		if what, err := stdout.Stat(); err == nil && what.Mode().IsRegular() {
 			if name, same := inputOf(inputs, what); same {
@@ -56,8 +56,8 @@ func openTarget(output string, stdout *os.File, inputs []*forms.Input) (*target,
 	return openBeside(output, what)
 }
 
-func newTarget(name string, file *os.File) *target {
-	return &target{name: name, file: file, buffer: bufio.NewWriterSize(file, 1<<16)}
+func newTarget(name string, file *os.File) *Target {
+	return &Target{name: name, file: file, buffer: bufio.NewWriterSize(file, 1<<16)}
 }
 
 func inputOf(inputs []*forms.Input, what os.FileInfo) (string, bool) {
@@ -70,7 +70,7 @@ func inputOf(inputs []*forms.Input, what os.FileInfo) (string, bool) {
 }
 
 // openBeside makes a new file in the folder of the output; `old` is what stands there now, or nil.
-func openBeside(output string, old os.FileInfo) (*target, error) {
+func openBeside(output string, old os.FileInfo) (*Target, error) {
 	final := output
 	if old != nil {
 		whole, err := filepath.EvalSymlinks(output)
@@ -102,23 +102,23 @@ func writing(name string, err error) error {
 }
 
 // Write keeps the text until Flush, or until there is much of it.
-func (t *target) Write(text []byte) (int, error) {
+func (t *Target) Write(text []byte) (int, error) {
 	n, err := t.buffer.Write(text)
 	return n, t.failed(err)
 }
 
 // Flush hands on what was written.
-func (t *target) Flush() error { return t.failed(t.buffer.Flush()) }
+func (t *Target) Flush() error { return t.failed(t.buffer.Flush()) }
 
-func (t *target) failed(err error) error {
+func (t *Target) failed(err error) error {
 	if err == nil {
 		return nil
 	}
 	return writing(t.name, err)
 }
 
-// keep ends a good run: the file takes its name.
-func (t *target) keep() error {
+// Keep ends a good run: the file takes its name.
+func (t *Target) Keep() error {
 	if err := t.Flush(); err != nil {
 		return err
 	}
@@ -135,8 +135,8 @@ func (t *target) keep() error {
 	return nil
 }
 
-// discard ends a run that wasn't kept: what stood under the name stays.
-func (t *target) discard() {
+// Discard ends a run that wasn't kept: what stood under the name stays.
+func (t *Target) Discard() {
 	if t.beside != "" {
 		t.file.Close()
 		os.Remove(t.beside)
