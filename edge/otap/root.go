@@ -16,6 +16,11 @@ import (
 var makers = []command.Maker{
 	textCommand,
 	diffCommand,
+	explainCommand,
+	reportCommand,
+	splitCommand,
+	partCommand,
+	joinCommand,
 }
 
 const about = `otap turns OpenTelemetry requests (OTLP) into the columns of OTAP, and back.

@@ -85,6 +85,9 @@ func (i *Input) Open(ctx context.Context) (*Opened, error) {
 // IsFile says whether the input is the file of which this is known.
 func (i *Input) IsFile(other os.FileInfo) bool { return os.SameFile(i.is, other) }
 
+// Path is the file, where it can be opened by its name again.
+func (i *Input) Path() (string, bool) { return i.file, i.open == nil }
+
 // Size is the size of the file, packed as it is, or -1 where it isn't known.
 func (i *Input) Size() int64 { return i.size }
 

@@ -29,6 +29,15 @@ func (p *Page) Table(payload int) (Table, bool) {
 	return table, ok
 }
 
+// Rows is what the rows of each payload type's table are.
+func (p *Page) Rows() map[int]string {
+	rows := make(map[int]string, len(p.tables))
+	for payload, table := range p.tables {
+		rows[payload] = table.Rows
+	}
+	return rows
+}
+
 // Columns lists the columns of a payload type's table, in their order. It has none for a type that the profile doesn't have.
 func (p *Page) Columns(payload int) []Column { return p.columns[payload] }
 

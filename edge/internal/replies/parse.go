@@ -47,27 +47,6 @@ func Replayed(line string) (a Accepted, err error) {
 	return a, nil
 }
 
-// Refusal is a line on a refused frame, in its parts. A request has neither batch nor stage nor payload.
-type Refusal struct {
-	Batch   string // the id, or - where the message can't be read
-	Stage   int
-	Cause   string
-	Payload string // the payload type that it concerns, or -
-	Request bool
-}
-
-// Refused reads "batch - refused: stage 1 Compressed payload -" or "request refused: Repeated".
-func Refused(line string) (r Refusal, err error) {
-	const request = "request refused: "
-	if strings.HasPrefix(line, request) {
-		return Refusal{Batch: "-", Cause: line[len(request):], Payload: "-", Request: true}, nil
-	}
-	if n, err := fmt.Sscanf(line, "batch %s refused: stage %d %s payload %s", &r.Batch, &r.Stage, &r.Cause, &r.Payload); n != 4 {
-		return r, fmt.Errorf("a refusal says %q: %v", line, err)
-	}
-	return r, nil
-}
-
 // Schema is what schema says of one payload. Where the record goes on with an earlier schema, Fields is empty.
 type Schema struct {
 	Type   int

@@ -27,7 +27,7 @@ import (
 type Reply struct {
 	Frame   int64
 	Lines   []string // on standard output; the first without "frame N: "
-	Refused string   // the line on standard error without "frame N: ", or "" where the frame wasn't refused
+	Refused string   // the line on standard error, or "" where the frame wasn't refused
 }
 
 // Reset says whether the frame was a reset.
@@ -156,8 +156,8 @@ func (t *Texts) readOut(limit int) error {
 
 func (t *Texts) readErr() error {
 	return eachLine(t.run.stderr, func(line []byte) error {
-		if frame, rest, ok := ofFrame(line); ok {
-			return t.send(t.err, Reply{Frame: frame, Refused: string(rest)})
+		if frame, _, ok := ofFrame(line); ok {
+			return t.send(t.err, Reply{Frame: frame, Refused: string(line)})
 		}
 		return t.run.other(line)
 	})
@@ -214,9 +214,9 @@ func (m *Messages) readOut() error {
 
 func (m *Messages) readErr() error {
 	return eachLine(m.run.stderr, func(line []byte) error {
-		if frame, rest, ok := ofFrame(line); ok {
+		if frame, _, ok := ofFrame(line); ok {
 			if m.said != nil {
-				m.said(Reply{Frame: frame, Refused: string(rest)})
+				m.said(Reply{Frame: frame, Refused: string(line)})
 			}
 			return nil
 		}

@@ -308,10 +308,6 @@ func (f *facts) refusedTable(tables names) table {
 	})
 	for _, key := range keys {
 		one := f.refusals[key]
-		stage := strconv.Itoa(key.stage)
-		if key.request {
-			stage = "-"
-		}
 		payload := key.payload
 		if kind, err := strconv.Atoi(key.payload); err == nil && tables[kind] != "" {
 			payload += " " + tables[kind]
@@ -323,7 +319,7 @@ func (f *facts) refusedTable(tables names) table {
 		if one.count > int64(len(one.frames)) {
 			which = append(which, "…")
 		}
-		t.Rows = append(t.Rows, []string{stage, key.cause, payload, whole(one.count), strings.Join(which, ", ")})
+		t.Rows = append(t.Rows, []string{strconv.Itoa(key.stage), key.cause, payload, whole(one.count), strings.Join(which, ", ")})
 	}
 	return t
 }

@@ -5,6 +5,7 @@ import (
 	"math/bits"
 	"sort"
 
+	"finavoluth/edge/internal/refusal"
 	"finavoluth/edge/internal/replies"
 )
 
@@ -82,7 +83,6 @@ type refusalKey struct {
 	stage   int
 	cause   string
 	payload string
-	request bool
 }
 
 type refusals struct {
@@ -161,8 +161,8 @@ func (f *facts) bytes(b *bin, one frame) {
 }
 
 // refuse adds a refused frame to its line.
-func (f *facts) refuse(number int64, r replies.Refusal) {
-	key := refusalKey{r.Stage, r.Cause, r.Payload, r.Request}
+func (f *facts) refuse(number int64, r refusal.Refusal) {
+	key := refusalKey{r.Stage, r.Cause, r.Payload}
 	line := f.refusals[key]
 	if line == nil {
 		line = &refusals{}

@@ -11,6 +11,7 @@ import (
 
 	"finavoluth/edge/internal/capture"
 	"finavoluth/edge/internal/child"
+	"finavoluth/edge/internal/refusal"
 	"finavoluth/edge/internal/replies"
 	"finavoluth/edge/internal/signal"
 )
@@ -54,7 +55,7 @@ type frame struct {
 	schemas  []replies.Schema
 	accepted bool
 	items    int64
-	refusal  replies.Refusal
+	refusal  refusal.Refusal
 	batch    size // the message
 	request  size // the same as OTLP, where it was accepted
 }
@@ -116,8 +117,9 @@ func (j *jobs) next(number int64) (frame, error) {
 		}
 		f.items = accepted.Items
 	} else if said.Refused != "" {
-		if f.refusal, err = replies.Refused(said.Refused); err != nil {
-			return f, err
+		var ok bool
+		if f.refusal, ok = refusal.Parse(said.Refused); !ok {
+			return f, fmt.Errorf("replay says %q", said.Refused)
 		}
 	}
 	if said.Reset() != f.reset {
