@@ -130,7 +130,7 @@ the segment. Requests are looked at as encode takes them. Where a frame is refus
 }
 
 func (l *look) explain(ctx context.Context, rows int) error {
-	out, err := run.OpenOutput("", l.env.Stdout, nil)
+	out, err := run.OpenTarget("", l.env.Stdout, nil)
 	if err != nil {
 		return err
 	}
@@ -188,7 +188,7 @@ nothing; it can be sent and printed.`,
 			return err
 		}
 		defer l.close()
-		out, err := run.OpenOutput(output, env.Stdout, []*forms.Input{l.input})
+		out, err := run.OpenTarget(output, env.Stdout, []*forms.Input{l.input})
 		if err != nil {
 			return err
 		}

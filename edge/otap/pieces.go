@@ -151,7 +151,7 @@ comes after a damage. It ends with the status of one run. Where a result is miss
 		if len(args) < 2 {
 			return command.Misuse("join wants a folder of pieces, and the words of a job")
 		}
-		out, err := run.OpenOutput(output, env.Stdout, nil)
+		out, err := run.OpenTarget(output, env.Stdout, nil)
 		if err != nil {
 			return err
 		}
@@ -161,7 +161,7 @@ comes after a damage. It ends with the status of one run. Where a result is miss
 	return cmd
 }
 
-func join(folder string, words []string, out *run.Output, said io.Writer) error {
+func join(folder string, words []string, out *run.Target, said io.Writer) error {
 	status, err := pieces.Join(folder, words, out, said)
 	var misfit *pieces.Misfit
 	var exit *command.Exit
