@@ -9,6 +9,7 @@ import (
 	"sort"
 	"strings"
 
+	"google.golang.org/protobuf/encoding/protowire"
 	"google.golang.org/protobuf/proto"
 	"google.golang.org/protobuf/reflect/protodesc"
 	"google.golang.org/protobuf/reflect/protoreflect"
@@ -119,13 +120,42 @@ func New(s signal.Signal) *dynamicpb.Message {
 }
 
 // Read reads a request of the signal by the rules of protobuf: of a scalar that occurs twice the last one is taken, a
-// message that occurs twice is merged, and unknown fields are kept.
+// message that occurs twice is merged, and unknown fields are kept. But a known field with another wire type, which the
+// library keeps as an unknown one, is an error: so a request of another signal is seldom read.
 func Read(s signal.Signal, request []byte) (*dynamicpb.Message, error) {
 	message := New(s)
 	if err := proto.Unmarshal(request, message); err != nil {
 		return nil, fmt.Errorf("no OTLP request of %v: %s", s, Reason(err))
 	}
+	if err := checkTypes(message); err != nil {
+		return nil, fmt.Errorf("no OTLP request of %v: %w", s, err)
+	}
 	return message, nil
+}
+
+// checkTypes refuses known fields among the unknown ones.
+func checkTypes(message protoreflect.Message) error {
+	for rest := message.GetUnknown(); len(rest) > 0; {
+		number, wire, size := protowire.ConsumeField(rest)
+		if field := message.Descriptor().Fields().ByNumber(number); field != nil {
+			return fmt.Errorf("%s of %s has wire type %d", field.Name(), message.Descriptor().Name(), wire)
+		}
+		rest = rest[size:]
+	}
+	var err error
+	message.Range(func(field protoreflect.FieldDescriptor, value protoreflect.Value) bool {
+		switch {
+		case field.Message() == nil:
+		case field.IsList():
+			for i := 0; i < value.List().Len() && err == nil; i++ {
+				err = checkTypes(value.List().Get(i).Message())
+			}
+		default:
+			err = checkTypes(value.Message())
+		}
+		return err == nil
+	})
+	return err
 }
 
 // Reason is the text of an error of the protobuf library, without the mark that it begins with: the blank in it differs
