@@ -1,15 +1,13 @@
 package main
 
 import (
-	"fmt"
-	"strings"
+	"errors"
 
 	"github.com/spf13/cobra"
 
 	"finavoluth/edge/internal/command"
 	"finavoluth/edge/internal/diff"
 	"finavoluth/edge/internal/run"
-	"finavoluth/edge/internal/signal"
 )
 
 // diffCommand compares the telemetry of two inputs.
@@ -22,7 +20,8 @@ func diffCommand(env *command.Env) *cobra.Command {
 		Long: `diff compares the spans, log records or metrics of A and B in order, each with its resource and its scope, however
 they are cut into requests. Attributes may come in any order; groups without items are passed over; doubles are compared
 by their bits. A and B may be requests or batches, in any form. The status is 0 where they are the same, and 1 where
-they differ.`,
+they differ; the first differences are printed with their paths, which are those of jq over all requests:
+"otap text traces A | jq -s '.[0].resourceSpans[1]'" prints what is at .[0].resourceSpans[1].`,
 		Example: `  otap diff logs otlp.json batches.capture
   otap diff metrics --carried otlp.bin back.bin`,
 		DisableFlagsInUseLine: true,
@@ -44,21 +43,25 @@ they differ.`,
 		}
 		program := &lazyProgram{env: env}
 		defer program.close()
-		a, err := reading.open(cmd.Context(), env, program, s, inputs[0])
+		a, err := reading.open(cmd.Context(), env, program, s, inputs[0], nil)
 		if err != nil {
 			return run.Failed(err)
 		}
 		defer a.Close()
-		b, err := reading.open(cmd.Context(), env, program, s, inputs[1])
+		b, err := reading.open(cmd.Context(), env, program, s, inputs[1], nil)
 		if err != nil {
 			return run.Failed(err)
 		}
 		defer b.Close()
 		report, err := diff.Compare(s, a, b, options)
+		var unreadable *diff.Unreadable
+		if errors.As(err, &unreadable) {
+			return &command.Exit{Status: command.Damaged, Err: err}
+		}
 		if err != nil {
 			return run.Failed(err)
 		}
-		if err := print(env, differences(s, report)); err != nil {
+		if err := print(env, report.Text(s)); err != nil {
 			return err
 		}
 		status := worst(streamStatus(env, a), streamStatus(env, b))
@@ -71,37 +74,4 @@ they differ.`,
 		return nil
 	}
 	return cmd
-}
-
-// items names what a request of the signal has.
-func items(s signal.Signal, n int) string {
-	word := map[signal.Signal]string{signal.Traces: "span", signal.Logs: "log record", signal.Metrics: "metric"}[s]
-	if n != 1 {
-		word += "s"
-	}
-	return fmt.Sprintf("%d %s", n, word)
-}
-
-// differences is what is printed of a report.
-func differences(s signal.Signal, report *diff.Report) string {
-	if report.Same() {
-		return fmt.Sprintf("the same telemetry: %s\n", items(s, report.ItemsA))
-	}
-	var text strings.Builder
-	for _, it := range report.Differences {
-		fmt.Fprintf(&text, "item %d\n", it.Item)
-		for _, side := range []struct {
-			name string
-			side diff.Side
-		}{{"A", it.A}, {"B", it.B}} {
-			fmt.Fprintf(&text, "  %s %s\n", side.name, strings.TrimSpace(side.side.Path+" "+side.side.Text))
-		}
-	}
-	found := "differences"
-	if report.Found == 1 {
-		found = "difference"
-	}
-	fmt.Fprintf(&text, "%d %s, %d printed; A has %s, B has %s\n", report.Found, found, len(report.Differences),
-		items(s, report.ItemsA), items(s, report.ItemsB))
-	return text.String()
 }

@@ -4,7 +4,6 @@ import (
 	"context"
 	"errors"
 	"fmt"
-	"io"
 
 	"github.com/spf13/cobra"
 
@@ -39,8 +38,8 @@ func (r *readers) inspect(ctx context.Context, env *command.Env, files []string)
 	return run.Inspect(ctx, env, files, forms.Options{Options: source.Options{Stdin: env.Stdin}, From: from})
 }
 
-func (r *readers) open(ctx context.Context, env *command.Env, program *lazyProgram, s signal.Signal, input *forms.Input) (*requests.Stream, error) {
-	return requests.Open(ctx, input, requests.Options{Signal: s, Program: program.get, Say: env.Say, Streams: r.streams,
+func (r *readers) open(ctx context.Context, env *command.Env, program *lazyProgram, s signal.Signal, input *forms.Input, before func() error) (*requests.Stream, error) {
+	return requests.Open(ctx, input, requests.Options{Signal: s, Program: program.get, Say: env.Say, Streams: r.streams, Before: before,
 		Line: func(line string) { fmt.Fprintln(env.Stderr, line) }})
 }
 
@@ -100,22 +99,29 @@ Ids are hexadecimal, other bytes base64, 64-bit numbers texts, and enums numbers
 		defer target.Discard()
 		program := &lazyProgram{env: env}
 		defer program.close()
-		writer := &run.FormWriter{To: forms.JSON, Signal: s, Indent: indent, Target: target}
+		printer := &requests.Printer{Signal: s, Indent: indent, Target: target, Say: env.Say}
 		status := command.OK
 		for _, input := range inputs {
-			stream, err := reading.open(cmd.Context(), env, program, s, input)
+			stream, err := reading.open(cmd.Context(), env, program, s, input, target.Flush)
 			if err != nil {
 				return run.Failed(err)
 			}
-			err = printAll(cmd.Context(), stream, writer)
+			err = printer.Print(cmd.Context(), input.Name, stream)
 			if closed := stream.Close(); err == nil {
 				err = closed
+			}
+			if cmd.Context().Err() != nil {
+				err = &command.Exit{Status: command.Interrupted, Err: errors.New("interrupted")}
 			}
 			if err != nil {
 				_ = target.Flush()
 				return run.Failed(err)
 			}
 			status = worst(status, streamStatus(env, stream))
+		}
+		printer.SayUnknown()
+		if printer.Refused > 0 {
+			status = worst(status, command.Refused)
 		}
 		if err := target.Keep(); err != nil {
 			return err
@@ -126,24 +132,6 @@ Ids are hexadecimal, other bytes base64, 64-bit numbers texts, and enums numbers
 		return nil
 	}
 	return cmd
-}
-
-func printAll(ctx context.Context, stream *requests.Stream, writer *run.FormWriter) error {
-	for {
-		request, err := stream.Next()
-		if err == io.EOF {
-			return nil
-		}
-		if err == nil {
-			err = writer.Write(request)
-		}
-		if ctx.Err() != nil {
-			return &command.Exit{Status: command.Interrupted, Err: errors.New("interrupted")}
-		}
-		if err != nil {
-			return err
-		}
-	}
 }
 
 // streamStatus is the status for what a stream met; the keys that OTLP doesn't have are said.

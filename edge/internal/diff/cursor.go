@@ -83,7 +83,7 @@ func (c *cursor) next() (*item, error) {
 			if err := c.read(); errors.Is(err, io.EOF) {
 				return nil, nil
 			} else if err != nil {
-				return nil, fmt.Errorf("%s, request %d: %w", c.name, c.at.request+1, err)
+				return nil, err
 			}
 		}
 	}
@@ -100,18 +100,34 @@ func (c *cursor) take(value protoreflect.Value, field protoreflect.FieldDescript
 // read reads the next request.
 func (c *cursor) read() error {
 	request, err := c.requests.Next()
-	if err != nil {
+	if err == io.EOF {
 		return err
+	}
+	if err != nil {
+		return fmt.Errorf("%s: %w", c.name, err)
 	}
 	message, err := otlp.Read(c.signal, request)
 	if err != nil {
-		return err
+		return &Unreadable{List: c.name, Request: c.at.request + 1, Err: err}
 	}
 	settle(message, c.carried)
 	c.at = place{levels: &c.levels, request: c.at.request + 1, group: -1, scope: -1, item: -1}
 	c.groups, c.scopes, c.items = message.Get(c.levels.Groups).List(), nil, nil
 	return nil
 }
+
+// Unreadable is the error of a request that isn't one of the signal.
+type Unreadable struct {
+	List    string // A or B
+	Request int    // counted from 0
+	Err     error
+}
+
+func (u *Unreadable) Error() string {
+	return fmt.Sprintf("%s, request %d: %v", u.List, u.Request, u.Err)
+}
+
+func (u *Unreadable) Unwrap() error { return u.Err }
 
 // settle takes away what says nothing, the empty messages that are no element of a list and no member of a oneof, and,
 // where only what is carried is wanted, all else. So what is left is equal where it means the same, but for the order of

@@ -1,6 +1,7 @@
 package diff
 
 import (
+	"errors"
 	"fmt"
 	"io"
 	"math"
@@ -34,7 +35,7 @@ func written(messages ...protoreflect.Message) *list {
 	return l
 }
 
-func compared(t *testing.T, s signal.Signal, a, b *list, options Options) *Report {
+func compared(t *testing.T, s signal.Signal, a, b Requests, options Options) *Report {
 	t.Helper()
 	report, err := Compare(s, a, b, options)
 	if err != nil {
@@ -195,6 +196,54 @@ func TestRequestsThatCantBeRead(t *testing.T) {
 	} {
 		if report, err := Compare(signal.Traces, test.a, test.b, all); err == nil || err.Error() != test.want {
 			t.Errorf("%v, %v, not %s", report, err, test.want)
+		}
+	}
+}
+
+// A list whose reading fails is named.
+func TestAFailedRead(t *testing.T) {
+	good := written(ofText(t, signal.Traces, span(``)))
+	_, err := Compare(signal.Traces, good, failing{}, all)
+	if !errors.Is(err, errFailing) || err.Error() != "B: reading x: it fails" {
+		t.Errorf("%v", err)
+	}
+}
+
+var errFailing = errors.New("reading x: it fails")
+
+type failing struct{}
+
+func (failing) Next() ([]byte, error) { return nil, errFailing }
+
+// What is printed, whole.
+func TestText(t *testing.T) {
+	a := ofText(t, signal.Traces, span(`name: "a" flags: 1`)+span(`name: "b"`))
+	b := ofText(t, signal.Traces, span(`name: "c"`))
+	for _, test := range []struct {
+		a, b protoreflect.Message
+		most int
+		want string
+	}{
+		{a, a, 9, "the same telemetry: 2 spans\n"},
+		{b, b, 9, "the same telemetry: 1 span\n"},
+		{a, b, 9, `span 0
+  A .[0].resourceSpans[0].scopeSpans[0].spans[0].flags = 1
+  B .[0].resourceSpans[0].scopeSpans[0].spans[0].flags = 0
+  A .[0].resourceSpans[0].scopeSpans[0].spans[0].name = "a"
+  B .[0].resourceSpans[0].scopeSpans[0].spans[0].name = "c"
+span 1
+  A .[0].resourceSpans[1].scopeSpans[0].spans[0] = {"name":"b"}
+  B none
+3 differences; A has 2 spans, B has 1 span
+`},
+		{b, a, 1, `span 0
+  A .[0].resourceSpans[0].scopeSpans[0].spans[0].flags = 0
+  B .[0].resourceSpans[0].scopeSpans[0].spans[0].flags = 1
+3 differences, of which 2 aren't printed; A has 1 span, B has 2 spans
+`},
+	} {
+		if got := compared(t, signal.Traces, written(test.a), written(test.b), Options{Most: test.most}).Text(signal.Traces); got != test.want {
+			t.Errorf("%s\nnot\n%s", got, test.want)
 		}
 	}
 }

@@ -5,6 +5,7 @@ package otlp
 
 import (
 	_ "embed"
+	"errors"
 	"fmt"
 	"sort"
 	"strings"
@@ -121,16 +122,59 @@ func New(s signal.Signal) *dynamicpb.Message {
 
 // Read reads a request of the signal by the rules of protobuf: of a scalar that occurs twice the last one is taken, a
 // message that occurs twice is merged, and unknown fields are kept. But a known field with another wire type, which the
-// library keeps as an unknown one, is an error: so a request of another signal is seldom read.
+// library keeps as an unknown one, is an error: so a request of another signal is seldom read. The error names the other
+// signal where there is just one that reads the request.
 func Read(s signal.Signal, request []byte) (*dynamicpb.Message, error) {
+	message, err := read(s, request)
+	if err == nil {
+		return message, nil
+	}
+	var fitting []signal.Signal
+	for _, other := range s.Others() {
+		if message, err := read(other, request); err == nil && !hasUnknown(message) {
+			fitting = append(fitting, other)
+		}
+	}
+	if len(fitting) == 1 {
+		return nil, fmt.Errorf("no OTLP request of %v, but one of %v: %w", s, fitting[0], err)
+	}
+	return nil, fmt.Errorf("no OTLP request of %v: %w", s, err)
+}
+
+func read(s signal.Signal, request []byte) (*dynamicpb.Message, error) {
 	message := New(s)
 	if err := proto.Unmarshal(request, message); err != nil {
-		return nil, fmt.Errorf("no OTLP request of %v: %s", s, Reason(err))
+		return nil, errors.New(Reason(err))
 	}
-	if err := checkTypes(message); err != nil {
-		return nil, fmt.Errorf("no OTLP request of %v: %w", s, err)
-	}
-	return message, nil
+	return message, checkTypes(message)
+}
+
+// inside calls f for the messages that are right inside the message, as long as it returns true.
+func inside(message protoreflect.Message, f func(protoreflect.Message) bool) {
+	message.Range(func(field protoreflect.FieldDescriptor, value protoreflect.Value) bool {
+		switch {
+		case field.Message() == nil:
+			return true
+		case !field.IsList():
+			return f(value.Message())
+		}
+		for i := 0; i < value.List().Len(); i++ {
+			if !f(value.List().Get(i).Message()) {
+				return false
+			}
+		}
+		return true
+	})
+}
+
+// hasUnknown is whether the message or one inside it has unknown fields.
+func hasUnknown(message protoreflect.Message) bool {
+	found := len(message.GetUnknown()) > 0
+	inside(message, func(inner protoreflect.Message) bool {
+		found = found || hasUnknown(inner)
+		return !found
+	})
+	return found
 }
 
 // checkTypes refuses known fields among the unknown ones.
@@ -143,16 +187,8 @@ func checkTypes(message protoreflect.Message) error {
 		rest = rest[size:]
 	}
 	var err error
-	message.Range(func(field protoreflect.FieldDescriptor, value protoreflect.Value) bool {
-		switch {
-		case field.Message() == nil:
-		case field.IsList():
-			for i := 0; i < value.List().Len() && err == nil; i++ {
-				err = checkTypes(value.List().Get(i).Message())
-			}
-		default:
-			err = checkTypes(value.Message())
-		}
+	inside(message, func(inner protoreflect.Message) bool {
+		err = checkTypes(inner)
 		return err == nil
 	})
 	return err

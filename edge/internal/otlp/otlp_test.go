@@ -56,11 +56,9 @@ func TestOtherWireTypes(t *testing.T) {
 				if field.Kind() == protoreflect.Fixed32Kind {
 					wrong = protowire.AppendVarint(protowire.AppendTag(nil, field.Number(), protowire.VarintType), 0)
 				}
-				want := fmt.Sprintf("no OTLP request of %v: %s of %s has wire type %d", s, field.Name(), message.Name(), wrong[0]&7)
-				if len(protowire.AppendTag(nil, field.Number(), 0)) > 1 {
-					want = fmt.Sprintf("no OTLP request of %v: %s of %s has wire type ", s, field.Name(), message.Name())
-				}
-				if _, err := Read(s, within(wrong)); err == nil || !strings.HasPrefix(err.Error(), want) {
+				_, wire, _ := protowire.ConsumeTag(wrong)
+				want := fmt.Sprintf(": %s of %s has wire type %d", field.Name(), message.Name(), wire)
+				if _, err := Read(s, within(wrong)); err == nil || !strings.HasSuffix(err.Error(), want) {
 					t.Errorf("%v, not %s", err, want)
 				}
 				if field.Message() != nil {
@@ -73,6 +71,24 @@ func TestOtherWireTypes(t *testing.T) {
 		try(Request(s), func(b []byte) []byte { return b })
 		if _, err := Read(s, []byte{0x98, 0x3e, 7}); err != nil {
 			t.Errorf("an unknown field: %v", err)
+		}
+	}
+}
+
+// A request of another signal is named where just one other signal reads it.
+func TestAnotherSignal(t *testing.T) {
+	span := []byte{0x0a, 0x0b, 0x12, 0x09, 0x12, 0x07, 0x2a, 0x01, 'a', 0x7a, 0x02, 0x18, 0x01}
+	for _, test := range []struct {
+		signal  signal.Signal
+		request []byte
+		want    string
+	}{
+		{signal.Metrics, span, "no OTLP request of metrics, but one of traces: cannot parse invalid wire-format data"},
+		{signal.Logs, []byte{0x08, 1}, "no OTLP request of logs: resource_logs of ExportLogsServiceRequest has wire type 0"},
+		{signal.Traces, []byte{0x0a, 0x06, 0x12, 0x04, 0x12, 0x02, 0x10, 0x09}, "no OTLP request of traces, but one of logs: span_id of Span has wire type 0"},
+	} {
+		if _, err := Read(test.signal, test.request); err == nil || err.Error() != test.want {
+			t.Errorf("%x: %v, not %s", test.request, err, test.want)
 		}
 	}
 }

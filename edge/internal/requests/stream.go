@@ -40,6 +40,20 @@ type Options struct {
 	Say     func(format string, values ...interface{})
 	Line    func(line string) // takes what the program says of a batch
 	Streams bool              // whether a stream of batches that begins anew is read as after a reset
+	Before  func() error      // called before more of the input is asked for, where the caller has to hand on what it has
+}
+
+// asking calls a function before each read.
+type asking struct {
+	io.Reader
+	before func() error
+}
+
+func (a *asking) Read(room []byte) (int, error) {
+	if err := a.before(); err != nil {
+		return 0, err
+	}
+	return a.Reader.Read(room)
 }
 
 // Open begins to read an input.
@@ -49,7 +63,11 @@ func Open(ctx context.Context, input *forms.Input, options Options) (*Stream, er
 		return nil, err
 	}
 	s := &Stream{options: options, input: input, opened: opened, Keys: forms.UnknownKeys{}}
-	s.messages = input.Messages(options.Signal, opened, s.Keys)
+	var content io.Reader = opened
+	if options.Before != nil {
+		content = &asking{opened, options.Before}
+	}
+	s.messages = input.Messages(options.Signal, content, s.Keys)
 	if input.Form == forms.Capture {
 		err = s.look(ctx)
 	}

@@ -65,10 +65,20 @@ func run(t *testing.T, input []byte, words ...string) []string {
 	return strings.Split(strings.TrimSuffix(string(out), "\n"), "\n")
 }
 
+// eachSignal runs a test for each signal, side by side.
+func eachSignal(t *testing.T, code string, test func(t *testing.T, code string, s signal.Signal)) {
+	for _, s := range signal.All() {
+		s := s
+		t.Run(s.String(), func(t *testing.T) {
+			t.Parallel()
+			test(t, code, s)
+		})
+	}
+}
+
 // What Google's library writes is read as it means, as protobuf and as JSON, and what is written of it is the same JSON.
 func TestGooglesRequests(t *testing.T) {
-	code := pythonCode(t)
-	for _, s := range signal.All() {
+	eachSignal(t, pythonCode(t), func(t *testing.T, code string, s signal.Signal) {
 		set := map[protoreflect.FullName]bool{}
 		for i, line := range run(t, nil, "make", code, "17", "120", s.String()) {
 			hexed, text, _ := strings.Cut(line, " ")
@@ -94,13 +104,12 @@ func TestGooglesRequests(t *testing.T) {
 			}
 		}
 		everyField(t, otlp.Request(s), set)
-	}
+	})
 }
 
 // What is written as JSON is read by Google's library as the same request.
 func TestGoogleReads(t *testing.T) {
-	code := pythonCode(t)
-	for _, s := range signal.All() {
+	eachSignal(t, pythonCode(t), func(t *testing.T, code string, s signal.Signal) {
 		var lines bytes.Buffer
 		var want []string
 		for seed := int64(0); seed < 100; seed++ {
@@ -117,7 +126,7 @@ func TestGoogleReads(t *testing.T) {
 				t.Errorf("%v %d: Google's library reads %s, not %s", s, i, got, want[i])
 			}
 		}
-	}
+	})
 }
 
 // parsed is JSON as values that can be compared: numbers by the double that they are.
