@@ -21,6 +21,9 @@ var makers = []command.Maker{
 	splitCommand,
 	partCommand,
 	joinCommand,
+	recordCommand,
+	nearCommand,
+	farCommand,
 }
 
 const about = `otap turns OpenTelemetry requests (OTLP) into the columns of OTAP, and back.

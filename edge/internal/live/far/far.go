@@ -1,0 +1,249 @@
+// Package far is the far end of a bridge: it takes OTel-Arrow's streams, has the proved program decode their batches, and
+// sends the requests on as OTLP. A batch is acknowledged only once the backend has acknowledged its request.
+//
+// It trusts the program for all that is in a batch or a request. A stream's batches build on each other, so each stream
+// has a child of its own, which ends with it.
+package far
+
+import (
+	"context"
+	"fmt"
+	"io"
+	"sync/atomic"
+	"time"
+
+	"finavoluth/edge/internal/live/logline"
+	"finavoluth/edge/internal/live/metrics"
+	"finavoluth/edge/internal/live/wire"
+	"finavoluth/edge/internal/signal"
+
+	"google.golang.org/grpc"
+	"google.golang.org/grpc/codes"
+	"google.golang.org/grpc/status"
+)
+
+// A Config says how a far end works.
+type Config struct {
+	// Streams is how many streams there may be at once.
+	Streams int
+	// Window is how many batches of a stream may be unanswered.
+	Window int
+	// Timeout is how long the backend may take for a request.
+	Timeout  time.Duration
+	Messages wire.Limits
+	// Start begins a conversation for a signal.
+	Start func(context.Context, signal.Signal) (Decoder, error)
+	// Backend is the connection to the backend.
+	Backend *grpc.ClientConn
+	Log     *logline.Log
+	Metrics *metrics.Registry
+}
+
+// Far is a far end.
+type Far struct {
+	config  Config
+	streams int64
+	stop    chan struct{}
+}
+
+// Open probes the program.
+func Open(config Config) (*Far, error) {
+	for _, s := range signal.All() {
+		if err := probe(config, s); err != nil {
+			return nil, err
+		}
+	}
+	return &Far{config: config, stop: make(chan struct{})}, nil
+}
+
+// Stop has each stream take no more batches, answer those that it has, and end.
+func (f *Far) Stop() { close(f.stop) }
+
+// Serve is the handler of a call.
+func (f *Far) Serve(service wire.Service, call grpc.ServerStream) error {
+	if !service.Arrow {
+		return status.Errorf(codes.Unimplemented, "%s isn't served here", service.Name())
+	}
+	defer atomic.AddInt64(&f.streams, -1)
+	if atomic.AddInt64(&f.streams, 1) > int64(f.config.Streams) {
+		f.config.Metrics.Add("otap_streams_refused_total", 1, service.Signal.String())
+		return status.Errorf(codes.ResourceExhausted, "more than %d streams", f.config.Streams)
+	}
+	s := service.Signal.String()
+	f.config.Metrics.Add("otap_streams_started_total", 1, s)
+	f.config.Metrics.Add("otap_streams_open", 1, s)
+	defer f.config.Metrics.Add("otap_streams_open", -1, s)
+	err := f.stream(service.Signal, call)
+	f.config.Metrics.Add("otap_streams_ended_total", 1, s, status.Code(err).String())
+	if err != nil {
+		f.config.Log.Warn("stream ended", "signal", s, "code", status.Code(err), "reason", status.Convert(err).Message())
+	}
+	return err
+}
+
+// A stream is what its owner, the goroutine of its handler, has: the child, the call, and the batches that wait for the
+// backend.
+type stream struct {
+	*Far
+	signal  signal.Signal
+	call    grpc.ServerStream
+	child   Decoder
+	taken   chan taken
+	answers chan answer
+	// room has a token for each batch that may be taken.
+	room    chan struct{}
+	waiting int
+}
+
+// taken is a message of the near end, or why there is none.
+type taken struct {
+	message wire.Message
+	err     error
+}
+
+// answer is what the backend said of a request.
+type answer struct {
+	id      int64
+	err     error
+	message wire.Message
+}
+
+func (f *Far) stream(s signal.Signal, call grpc.ServerStream) error {
+	ctx, cancel := context.WithCancel(call.Context())
+	defer cancel()
+	child, err := f.config.Start(ctx, s)
+	if err != nil {
+		return status.Errorf(codes.Unavailable, "start a child: %v", err)
+	}
+	f.config.Metrics.Add("otap_children_started_total", 1, "decode")
+	defer child.Close()
+	messages, err := wire.NewMessages(call, f.config.Messages)
+	if err != nil {
+		return err
+	}
+	x := &stream{Far: f, signal: s, call: call, child: child, taken: make(chan taken),
+		answers: make(chan answer, f.config.Window), room: make(chan struct{}, f.config.Window)}
+	for i := 0; i < f.config.Window; i++ {
+		x.room <- struct{}{}
+	}
+	go x.take(ctx, messages)
+	return x.serve(ctx)
+}
+
+// take reads messages as far as there is room for them.
+func (x *stream) take(ctx context.Context, messages *wire.Messages) {
+	for {
+		select {
+		case <-x.room:
+		case <-ctx.Done():
+			return
+		}
+		message, err := messages.Next()
+		select {
+		case x.taken <- taken{message, err}:
+		case <-ctx.Done():
+			message.Ticket.Release()
+			return
+		}
+		if err != nil {
+			return
+		}
+	}
+}
+
+// serve answers batches until the stream ends. Once it is to end, it takes no more and waits for the backend's answers.
+func (x *stream) serve(ctx context.Context) error {
+	from, stop := x.taken, x.stop
+	var end error
+	ending := false
+	for !ending || x.waiting > 0 {
+		var err error
+		select {
+		case t := <-from:
+			if err = t.err; err == nil {
+				err = x.batch(ctx, t.message)
+			}
+		case a := <-x.answers:
+			if err := x.answer(a); err != nil {
+				return err
+			}
+		case <-stop:
+			err = status.Error(codes.Unavailable, "shutting down")
+		case <-ctx.Done():
+			return status.FromContextError(ctx.Err()).Err()
+		}
+		if err != nil {
+			ending, from, stop = true, nil, nil
+			if err != io.EOF {
+				end = err
+			}
+		}
+	}
+	return end
+}
+
+// batch has a batch decoded and its request sent. An error ends the stream, after what is open was answered.
+func (x *stream) batch(ctx context.Context, message wire.Message) error {
+	s := x.signal.String()
+	x.config.Metrics.Add("otap_batches_total", 1, s)
+	x.config.Metrics.Add("otap_batch_bytes_total", float64(len(message.Bytes)), s)
+	request, refused, err := x.child.Decode(message.Bytes)
+	if err != nil {
+		message.Ticket.Release()
+		x.config.Metrics.Add("otap_children_lost_total", 1, "decode")
+		return status.Errorf(codes.Unavailable, "the decoding child ended: %v", err)
+	}
+	if refused != nil {
+		message.Ticket.Release()
+		x.config.Metrics.Add("otap_refused_total", 1, s, refused.Cause)
+		if err := x.say(refused.Status); err != nil {
+			return err
+		}
+		return status.Errorf(codes.Aborted, "batch %d refused: %s", refused.Status.ID, refused.Status.Message)
+	}
+	id, err := wire.BatchID(message.Bytes)
+	if err != nil {
+		message.Ticket.Release()
+		return status.Errorf(codes.Internal, "a batch that decode took: %v", err)
+	}
+	if most := x.config.Messages.Bytes; len(request) > most {
+		message.Ticket.Release()
+		x.room <- struct{}{}
+		return x.say(wire.Status{ID: id, Code: codes.ResourceExhausted,
+			Message: fmt.Sprintf("its request has %d bytes, above the %d of --max-message", len(request), most)})
+	}
+	message.Bytes = request
+	message.Ticket.Resize(int64(len(request)))
+	x.waiting++
+	go x.send(ctx, id, message)
+	return nil
+}
+
+// send asks the backend; there are never more answers than the window has room for.
+func (x *stream) send(ctx context.Context, id int64, message wire.Message) {
+	ctx, cancel := context.WithTimeout(ctx, x.config.Timeout)
+	defer cancel()
+	var response []byte
+	err := x.config.Backend.Invoke(ctx, wire.Service{Signal: x.signal}.Method(), &message.Bytes, &response)
+	message.Bytes = nil
+	message.Ticket.Release()
+	x.answers <- answer{id: id, err: err}
+}
+
+// answer puts what the backend said into the status of its batch.
+func (x *stream) answer(a answer) error {
+	x.waiting--
+	x.room <- struct{}{}
+	s := status.Convert(a.err)
+	x.config.Metrics.Add("otap_requests_total", 1, x.signal.String(), s.Code().String())
+	return x.say(wire.Status{ID: a.id, Code: wire.ToEnum(s.Code()), Message: s.Message()})
+}
+
+func (x *stream) say(s wire.Status) error {
+	x.config.Metrics.Add("otap_statuses_total", 1, x.signal.String(), s.Code.String())
+	bytes := s.Append(nil)
+	if err := x.call.SendMsg(&bytes); err != nil {
+		return fmt.Errorf("send the status of batch %d: %w", s.ID, err)
+	}
+	return nil
+}

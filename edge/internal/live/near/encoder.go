@@ -1,0 +1,98 @@
+package near
+
+import (
+	"context"
+	"fmt"
+	"strings"
+	"time"
+
+	"finavoluth/edge/internal/capture"
+	"finavoluth/edge/internal/child"
+	"finavoluth/edge/internal/signal"
+
+	"google.golang.org/grpc/codes"
+)
+
+// An Encoder is a conversation with the program. The one there is runs `encode`; one that keeps open requests over a
+// reset would be another.
+type Encoder interface {
+	// Encode gives the batch of a request, or the cause for which the program refused it.
+	Encode(request []byte) (batch []byte, cause string, err error)
+	Close() error
+}
+
+// Encode starts a child that runs `encode`; one that takes longer than the timeout for an answer is killed.
+func Encode(program *child.Program, timeout time.Duration) func(context.Context, signal.Signal) (Encoder, error) {
+	return func(ctx context.Context, s signal.Signal) (Encoder, error) {
+		ctx, cancel := context.WithCancel(ctx)
+		talk, err := program.Ask(ctx, "encode", s.String())
+		if err != nil {
+			cancel()
+			return nil, err
+		}
+		return &encoder{talk, cancel, timeout}, nil
+	}
+}
+
+type encoder struct {
+	talk    *child.Conversation
+	cancel  context.CancelFunc
+	timeout time.Duration
+}
+
+func (e *encoder) Close() error {
+	late := time.AfterFunc(e.timeout, e.cancel)
+	defer late.Stop()
+	defer e.cancel()
+	return e.talk.Close()
+}
+
+func (e *encoder) Encode(request []byte) ([]byte, string, error) {
+	late := time.AfterFunc(e.timeout, e.cancel)
+	answer, err := e.talk.Send(capture.Message(request))
+	late.Stop()
+	switch {
+	case err != nil:
+		return nil, "", err
+	case answer.Refused():
+		return nil, cause(answer.Line), nil
+	case answer.Frame == nil || answer.Frame.IsReset():
+		return nil, "", fmt.Errorf("encode answered a request by no batch")
+	}
+	return answer.Frame.Payload, "", nil
+}
+
+// cause is the last word of `frame 0: request refused: CAUSE`.
+func cause(line string) string {
+	const before = "request refused: "
+	if at := strings.Index(line, before); at >= 0 {
+		return line[at+len(before):]
+	}
+	return line
+}
+
+// refusals has the codes for causes that say more than that the request is wrong.
+var refusals = map[string]codes.Code{
+	"TooHeavy":     codes.ResourceExhausted,
+	"TooManyItems": codes.ResourceExhausted,
+}
+
+func refusal(cause string) codes.Code {
+	if code, ok := refusals[cause]; ok {
+		return code
+	}
+	return codes.InvalidArgument
+}
+
+// probe has a child encode a request of no bytes, so that a program that can't do the job is found before anybody sends.
+func probe(config Config, s signal.Signal) error {
+	e, err := config.Start(context.Background(), s)
+	if err != nil {
+		return fmt.Errorf("probe the program for %s: %w", s, err)
+	}
+	defer e.Close()
+	if _, cause, err := e.Encode(nil); err != nil || cause != "" {
+		return fmt.Errorf("probe the program for %s: %v%s", s, err, cause)
+	}
+	return nil
+}

@@ -1,0 +1,292 @@
+package near
+
+import (
+	"context"
+	"errors"
+	"fmt"
+	"io"
+	"math/rand"
+	"sync/atomic"
+	"time"
+
+	"finavoluth/edge/internal/live/wire"
+
+	"google.golang.org/grpc"
+	"google.golang.org/grpc/codes"
+	"google.golang.org/grpc/status"
+)
+
+// An owner has one stream after the other: its child, its call, and the requests whose batches are open. Only its own
+// goroutine touches them.
+type owner struct {
+	config Config
+	pool   *pool
+	number int
+	conn   *grpc.ClientConn
+}
+
+const (
+	firstPause = 100 * time.Millisecond
+	lastPause  = 5 * time.Second
+)
+
+// run opens a stream whenever there is none, until the context ends.
+func (o *owner) run(ctx context.Context) {
+	pause := firstPause
+	for ctx.Err() == nil {
+		answered, err := o.live(ctx)
+		if err == nil {
+			continue
+		}
+		if ctx.Err() != nil {
+			return
+		}
+		if answered {
+			pause = firstPause
+		}
+		o.config.Log.Warn("stream ended", "signal", o.pool.signal, "stream", o.number, "reason", reason(err))
+		o.rest(ctx, pause, err)
+		if pause *= 2; pause > lastPause {
+			pause = lastPause
+		}
+	}
+}
+
+// rest waits before the next try. Where no other stream of the signal is open, it answers those who ask meanwhile.
+func (o *owner) rest(ctx context.Context, pause time.Duration, why error) {
+	timer := time.NewTimer(pause/2 + time.Duration(rand.Int63n(int64(pause))))
+	defer timer.Stop()
+	for {
+		queue := o.pool.queue
+		if atomic.LoadInt64(&o.pool.open) > 0 {
+			queue = nil
+		}
+		select {
+		case <-ctx.Done():
+			return
+		case <-timer.C:
+			return
+		case r := <-queue:
+			r.settle(codes.Unavailable, "no stream to the far end: "+reason(why))
+		}
+	}
+}
+
+// A life is that of one stream.
+type life struct {
+	*owner
+	child Encoder
+	call  grpc.ClientStream
+	// open has the requests whose batches are sent, by batch id.
+	open map[int64]*request
+	// answered says that a status came.
+	answered bool
+	// leaving says that no more batches are sent, as the stream is to be replaced.
+	leaving bool
+	heard   chan heard
+}
+
+// heard is what came from the far end: a status, or how the stream ended.
+type heard struct {
+	status wire.Status
+	err    error
+}
+
+// live opens a stream and serves it to its end. No error is where it was replaced in order.
+func (o *owner) live(ctx context.Context) (answered bool, err error) {
+	ctx, cancel := context.WithCancel(ctx)
+	defer cancel()
+	s := o.pool.signal.String()
+	child, err := o.config.Start(ctx, o.pool.signal)
+	if err != nil {
+		return false, err
+	}
+	o.config.Metrics.Add("otap_children_started_total", 1, "encode")
+	defer child.Close()
+	call, err := o.conn.NewStream(ctx, &grpc.StreamDesc{ClientStreams: true, ServerStreams: true},
+		wire.Service{Signal: o.pool.signal, Arrow: true}.Method())
+	if err != nil {
+		return false, err
+	}
+	l := &life{owner: o, child: child, call: call, open: map[int64]*request{}, heard: make(chan heard, o.config.Window+1)}
+	go l.listen(ctx)
+	o.config.Metrics.Add("otap_streams_started_total", 1, s)
+	o.config.Log.Info("stream open", "signal", s, "stream", o.number)
+	o.pool.opened(o.config, 1)
+	err = l.serve(ctx)
+	o.pool.opened(o.config, -1)
+	o.config.Metrics.Add("otap_streams_ended_total", 1, s, status.Code(err).String())
+	for _, r := range l.open {
+		r.settle(codes.Unavailable, "the stream to the far end ended: "+reason(err))
+	}
+	return l.answered, err
+}
+
+// listen hands on what the far end sends.
+func (l *life) listen(ctx context.Context) {
+	for {
+		var bytes []byte
+		err := l.call.RecvMsg(&bytes)
+		h := heard{err: err}
+		if err == nil {
+			h.status, h.err = wire.ReadStatus(bytes)
+		}
+		select {
+		case l.heard <- h:
+		case <-ctx.Done():
+			return
+		}
+		if h.err != nil {
+			return
+		}
+	}
+}
+
+func (l *life) serve(ctx context.Context) error {
+	var lived <-chan time.Time
+	if l.config.Lifetime > 0 {
+		timer := time.NewTimer(l.config.Lifetime)
+		defer timer.Stop()
+		lived = timer.C
+	}
+	silent := time.NewTimer(l.config.Timeout)
+	defer silent.Stop()
+	for {
+		if l.leaving && len(l.open) == 0 {
+			l.why(nil)
+			return nil
+		}
+		queue := l.pool.queue
+		if l.leaving || len(l.open) >= l.config.Window {
+			queue = nil
+		}
+		select {
+		case r := <-queue:
+			if len(l.open) == 0 {
+				restart(silent, l.config.Timeout)
+			}
+			if err := l.place(r); err != nil {
+				return err
+			}
+		case h := <-l.heard:
+			if h.err != nil {
+				return h.err
+			}
+			restart(silent, l.config.Timeout)
+			l.answer(h.status)
+		case <-lived:
+			lived = nil
+			l.leave()
+		case <-silent.C:
+			if len(l.open) > 0 {
+				return fmt.Errorf("no status for %d batches within %v", len(l.open), l.config.Timeout)
+			}
+			silent.Reset(l.config.Timeout)
+		case <-ctx.Done():
+			return ctx.Err()
+		}
+	}
+}
+
+func restart(timer *time.Timer, after time.Duration) {
+	if !timer.Stop() {
+		select {
+		case <-timer.C:
+		default:
+		}
+	}
+	timer.Reset(after)
+}
+
+// place has a request encoded and sends its batch. An error ends the stream.
+func (l *life) place(r *request) error {
+	if r.ctx.Err() != nil {
+		r.settle(codes.Canceled, "given up before it was encoded")
+		return nil
+	}
+	s := l.pool.signal.String()
+	batch, cause, err := l.child.Encode(r.message.Bytes)
+	r.message.Bytes = nil
+	if err != nil {
+		l.config.Metrics.Add("otap_children_lost_total", 1, "encode")
+		r.settle(codes.Unavailable, "the encoding child ended: "+err.Error())
+		return err
+	}
+	if cause != "" {
+		l.config.Metrics.Add("otap_refused_total", 1, s, cause)
+		r.settle(refusal(cause), "refused: "+cause)
+		return nil
+	}
+	if len(batch) > l.config.MaxBatch {
+		// The batch won't be sent, and those after it build on it, so they go on a new stream with a new child.
+		l.config.Metrics.Add("otap_refused_total", 1, s, "MaxBatch")
+		r.settle(codes.ResourceExhausted, fmt.Sprintf("its batch has %d bytes, above the %d of --max-batch", len(batch), l.config.MaxBatch))
+		l.leave()
+		return nil
+	}
+	id, err := wire.BatchID(batch)
+	if err != nil || l.open[id] != nil {
+		r.settle(codes.Unavailable, "the encoding child wrote a batch without an id of its own")
+		return fmt.Errorf("a batch of encode: id %d, open already: %v, %v", id, l.open[id] != nil, err)
+	}
+	l.open[id] = r
+	l.config.Metrics.Add("otap_batches_total", 1, s)
+	l.config.Metrics.Add("otap_batch_bytes_total", float64(len(batch)), s)
+	if err := l.call.SendMsg(&batch); err != nil {
+		return l.why(err)
+	}
+	return nil
+}
+
+// leave sends no more batches; the far end answers those that are open and then ends the call.
+func (l *life) leave() {
+	if !l.leaving {
+		l.leaving = true
+		l.call.CloseSend()
+	}
+}
+
+// answer settles the request that a status is for.
+func (l *life) answer(s wire.Status) {
+	l.answered = true
+	l.config.Metrics.Add("otap_statuses_total", 1, l.pool.signal.String(), s.Code.String())
+	r := l.open[s.ID]
+	if r == nil {
+		l.config.Log.Warn("status for no open batch", "signal", l.pool.signal, "stream", l.number, "batch", s.ID, "code", s.Code)
+		return
+	}
+	delete(l.open, s.ID)
+	if s.Code > codes.Unauthenticated {
+		s.Code = codes.Unknown
+	}
+	r.settle(s.Code, s.Message)
+}
+
+// why waits for the end of the stream and its reason, which only the receiving side knows; statuses that came before it
+// are heard first.
+func (l *life) why(sending error) error {
+	late := time.NewTimer(l.config.Timeout)
+	defer late.Stop()
+	for {
+		select {
+		case h := <-l.heard:
+			if h.err != nil {
+				return h.err
+			}
+			l.answer(h.status)
+		case <-late.C:
+			return sending
+		}
+	}
+}
+
+func reason(err error) string {
+	if err == io.EOF {
+		return "the far end had no more to say"
+	}
+	var s interface{ GRPCStatus() *status.Status }
+	if errors.As(err, &s) {
+		return fmt.Sprintf("%v: %s", s.GRPCStatus().Code(), s.GRPCStatus().Message())
+	}
+	return err.Error()
+}
