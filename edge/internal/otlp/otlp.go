@@ -10,7 +10,6 @@ import (
 	"sort"
 	"strings"
 
-	"google.golang.org/protobuf/encoding/protowire"
 	"google.golang.org/protobuf/proto"
 	"google.golang.org/protobuf/reflect/protodesc"
 	"google.golang.org/protobuf/reflect/protoreflect"
@@ -27,8 +26,8 @@ var descriptors []byte
 // files are the descriptors of all messages. They never change.
 var files = mustLoad(descriptors)
 
-// ascending has the fields of each message by ascending number. It never changes.
-var ascending = byNumber(files)
+// layouts are those of all messages. They never change.
+var layouts = layoutsOf(files)
 
 // mustLoad reads the descriptor set that is embedded. Where it can't be read, the program was built wrong.
 func mustLoad(set []byte) *protoregistry.Files {
@@ -41,28 +40,6 @@ func mustLoad(set []byte) *protoregistry.Files {
 		panic(fmt.Sprintf("the embedded descriptors of OTLP: %v", err))
 	}
 	return files
-}
-
-func byNumber(files *protoregistry.Files) map[protoreflect.FullName][]protoreflect.FieldDescriptor {
-	sorted := map[protoreflect.FullName][]protoreflect.FieldDescriptor{}
-	files.RangeFiles(func(file protoreflect.FileDescriptor) bool {
-		addSorted(file.Messages(), sorted)
-		return true
-	})
-	return sorted
-}
-
-func addSorted(messages protoreflect.MessageDescriptors, sorted map[protoreflect.FullName][]protoreflect.FieldDescriptor) {
-	for i := 0; i < messages.Len(); i++ {
-		message := messages.Get(i)
-		fields := make([]protoreflect.FieldDescriptor, message.Fields().Len())
-		for j := range fields {
-			fields[j] = message.Fields().Get(j)
-		}
-		sort.Slice(fields, func(a, b int) bool { return fields[a].Number() < fields[b].Number() })
-		sorted[message.FullName()] = fields
-		addSorted(message.Messages(), sorted)
-	}
 }
 
 // Message is the descriptor with this name, as "opentelemetry.proto.trace.v1.Span", and nil where there is none.
@@ -78,7 +55,7 @@ func Message(name string) protoreflect.MessageDescriptor {
 // Messages are the descriptors of all messages, those inside others too, sorted by name.
 func Messages() []protoreflect.MessageDescriptor {
 	var names []string
-	for name := range ascending {
+	for name := range layouts {
 		names = append(names, string(name))
 	}
 	sort.Strings(names)
@@ -143,10 +120,11 @@ func Read(s signal.Signal, request []byte) (*dynamicpb.Message, error) {
 
 func read(s signal.Signal, request []byte) (*dynamicpb.Message, error) {
 	message := New(s)
-	if err := proto.Unmarshal(request, message); err != nil {
+	options := proto.UnmarshalOptions{AllowPartial: true} // no message of OTLP has required fields, so none is looked for
+	if err := options.Unmarshal(request, message); err != nil {
 		return nil, errors.New(Reason(err))
 	}
-	return message, checkTypes(message)
+	return message, checkTypes(layouts[message.Descriptor().FullName()], request)
 }
 
 // inside calls f for the messages that are right inside the message, as long as it returns true.
@@ -175,23 +153,6 @@ func hasUnknown(message protoreflect.Message) bool {
 		return !found
 	})
 	return found
-}
-
-// checkTypes refuses known fields among the unknown ones.
-func checkTypes(message protoreflect.Message) error {
-	for rest := message.GetUnknown(); len(rest) > 0; {
-		number, wire, size := protowire.ConsumeField(rest)
-		if field := message.Descriptor().Fields().ByNumber(number); field != nil {
-			return fmt.Errorf("%s of %s has wire type %d", field.Name(), message.Descriptor().Name(), wire)
-		}
-		rest = rest[size:]
-	}
-	var err error
-	inside(message, func(inner protoreflect.Message) bool {
-		err = checkTypes(inner)
-		return err == nil
-	})
-	return err
 }
 
 // Reason is the text of an error of the protobuf library, without the mark that it begins with: the blank in it differs

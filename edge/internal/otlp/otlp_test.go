@@ -35,8 +35,8 @@ func TestMessagesByName(t *testing.T) {
 			t.Errorf("%q is %v", name, message.FullName())
 		}
 	}
-	if messages := Messages(); len(messages) != len(ascending) || messages[0].FullName() > messages[1].FullName() {
-		t.Errorf("%d messages, not %d", len(messages), len(ascending))
+	if messages := Messages(); len(messages) != len(layouts) || messages[0].FullName() > messages[1].FullName() {
+		t.Errorf("%d messages, not %d", len(messages), len(layouts))
 	}
 }
 
@@ -50,7 +50,7 @@ func TestOtherWireTypes(t *testing.T) {
 				return
 			}
 			seen[message.FullName()] = true
-			for _, field := range ascending[message.FullName()] {
+			for _, field := range layouts[message.FullName()].ascending {
 				field := field
 				wrong := protowire.AppendFixed32(protowire.AppendTag(nil, field.Number(), protowire.Fixed32Type), 0)
 				if field.Kind() == protoreflect.Fixed32Kind {
@@ -126,7 +126,7 @@ func TestWriteIsRead(t *testing.T) {
 
 // fill sets some fields of the message, and unknown ones now and then.
 func fill(r *rand.Rand, message protoreflect.Message, depth int) {
-	for _, field := range ascending[message.Descriptor().FullName()] {
+	for _, field := range layouts[message.Descriptor().FullName()].ascending {
 		switch {
 		case r.Intn(3) == 0 || depth > 4 && field.Message() != nil:
 		case field.IsList() && field.Message() != nil:

@@ -16,7 +16,7 @@ func Write(message protoreflect.Message) []byte {
 }
 
 func appendMessage(b []byte, message protoreflect.Message) []byte {
-	for _, field := range ascending[message.Descriptor().FullName()] {
+	for _, field := range layouts[message.Descriptor().FullName()].ascending {
 		if !message.Has(field) {
 			continue
 		}
@@ -46,19 +46,6 @@ func appendPacked(b []byte, field protoreflect.FieldDescriptor, list protoreflec
 
 func appendField(b []byte, field protoreflect.FieldDescriptor, value protoreflect.Value) []byte {
 	return appendValue(protowire.AppendTag(b, field.Number(), wireType(field.Kind())), field, value)
-}
-
-// wireType is the wire type of the kinds that OTLP has.
-func wireType(kind protoreflect.Kind) protowire.Type {
-	switch kind {
-	case protoreflect.Fixed64Kind, protoreflect.Sfixed64Kind, protoreflect.DoubleKind:
-		return protowire.Fixed64Type
-	case protoreflect.Fixed32Kind:
-		return protowire.Fixed32Type
-	case protoreflect.StringKind, protoreflect.BytesKind, protoreflect.MessageKind:
-		return protowire.BytesType
-	}
-	return protowire.VarintType
 }
 
 func appendValue(b []byte, field protoreflect.FieldDescriptor, value protoreflect.Value) []byte {

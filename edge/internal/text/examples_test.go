@@ -15,7 +15,7 @@ import (
 )
 
 // requests are those of a capture under examples/.
-func requests(t *testing.T, path string) [][]byte {
+func requests(t testing.TB, path string) [][]byte {
 	t.Helper()
 	file, err := os.Open(path)
 	if err != nil {
