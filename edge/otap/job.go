@@ -2,6 +2,8 @@ package main
 
 import (
 	"os"
+	"strconv"
+	"strings"
 
 	"github.com/spf13/cobra"
 	"golang.org/x/sys/unix"
@@ -95,8 +97,8 @@ func fill(plan *run.Plan, cmd *cobra.Command, args []string, from, to string) er
 		plan.Words = append(plan.Words, s.String())
 	}
 	if plan.Job.Takes == jobs.Nothing {
-		if len(args) != 1 {
-			return command.Misuse("%s wants one number of requests, 1 to 1000", plan.Job.Name)
+		if n, err := strconv.Atoi(strings.Join(args, " ")); err != nil || n < 1 || n > 1000 {
+			return command.Misuse("%s wants one number of requests after the signal, 1 to 1000", plan.Job.Name)
 		}
 		plan.Words = append(plan.Words, args[0])
 		return nil

@@ -11,6 +11,8 @@ import (
 	"sync"
 	"syscall"
 
+	"github.com/spf13/cobra"
+
 	"finavoluth/edge/internal/command"
 )
 
@@ -20,6 +22,7 @@ var version = "unknown"
 func main() { os.Exit(otap(os.Args[1:])) }
 
 func otap(args []string) int {
+	cobra.EnableCommandSorting = false
 	// A write to a pipe that nobody reads returns an error, and doesn't end the process.
 	ossignal.Notify(make(chan os.Signal, 1), syscall.SIGPIPE)
 	ctx, stop := ossignal.NotifyContext(context.Background(), os.Interrupt, syscall.SIGTERM)

@@ -12,18 +12,34 @@ import (
 	"finavoluth/edge/internal/words"
 )
 
+// The groups of subcommands, in the order in which help lists them.
+const (
+	groupJobs  = "jobs"
+	groupFiles = "files"
+	groupLive  = "live"
+)
+
+var groups = []*cobra.Group{
+	{ID: groupJobs, Title: "Jobs of the proved program:"},
+	{ID: groupFiles, Title: "To look at files, and to cut and join them:"},
+	{ID: groupLive, Title: "Between running Collectors:"},
+}
+
 // The subcommands besides the jobs of the program, in the order in which help lists them.
-var makers = []command.Maker{
-	textCommand,
-	diffCommand,
-	explainCommand,
-	reportCommand,
-	splitCommand,
-	partCommand,
-	joinCommand,
-	recordCommand,
-	nearCommand,
-	farCommand,
+var makers = []struct {
+	group string
+	make  command.Maker
+}{
+	{groupFiles, textCommand},
+	{groupFiles, diffCommand},
+	{groupFiles, explainCommand},
+	{groupFiles, reportCommand},
+	{groupFiles, splitCommand},
+	{groupFiles, partCommand},
+	{groupFiles, joinCommand},
+	{groupLive, recordCommand},
+	{groupLive, nearCommand},
+	{groupLive, farCommand},
 }
 
 const about = `otap turns OpenTelemetry requests (OTLP) into the columns of OTAP, and back.
@@ -69,12 +85,25 @@ func newRoot(env *command.Env) *cobra.Command {
 	}
 	root.SetFlagErrorFunc(flagError)
 	for _, job := range jobs.All() {
-		root.AddCommand(jobCommand(env, job))
+		add(root, groupJobs, jobCommand(env, job))
 	}
-	for _, make := range makers {
-		root.AddCommand(make(env))
+	for _, it := range makers {
+		add(root, it.group, it.make(env))
 	}
+	root.SetHelpCommand(helpCommand(env))
+	root.AddCommand(manCommand(env))
 	return root
+}
+
+// add adds a subcommand to its group, which is there once it has one.
+func add(root *cobra.Command, group string, cmd *cobra.Command) {
+	for _, it := range groups {
+		if it.ID == group && !root.ContainsGroup(group) {
+			root.AddGroup(it)
+		}
+	}
+	cmd.GroupID = group
+	root.AddCommand(cmd)
 }
 
 // print writes to standard output, and names what fails.
@@ -106,9 +135,9 @@ func flagError(cmd *cobra.Command, err error) error {
 	text := err.Error()
 	if word := strings.TrimPrefix(text, "unknown flag: "); word != text {
 		if nearest := words.Nearest(word, names); nearest != "" {
-			return command.Misuse("%s has no flag %s: did you mean %s?", cmd.CommandPath(), word, nearest)
+			return command.Misuse("%s has no flag %s: did you mean %s?", cmd.Name(), word, nearest)
 		}
-		return command.Misuse("%s has no flag %s: `%s --help` lists them", cmd.CommandPath(), word, cmd.CommandPath())
+		return command.Misuse("%s has no flag %s: `%s --help` lists them", cmd.Name(), word, cmd.CommandPath())
 	}
-	return command.Misuse("%s: %s", cmd.CommandPath(), text)
+	return command.Misuse("%s: %s", cmd.Name(), text)
 }

@@ -68,8 +68,9 @@ func Detect(name string, begin []byte, end bool, left int64) (Look, error) {
 	}
 	looks := LookAll(begin, end, left)
 	var holding, cut []Look
+	some := anyWhole(looks)
 	for _, look := range looks {
-		if look.Holds() {
+		if look.Holds() && (look.Whole > 0 || !some) {
 			holding = append(holding, look)
 		} else if look.Ending == Cut && look.Whole > 0 {
 			cut = append(cut, look)
@@ -82,6 +83,16 @@ func Detect(name string, begin []byte, end bool, left int64) (Look, error) {
 		return cut[0], nil
 	}
 	return Look{}, &Ambiguous{Name: name, Looks: looks}
+}
+
+// anyWhole says whether a framing that holds has something whole. Then one that has nothing whole yet doesn't count.
+func anyWhole(looks []Look) bool {
+	for _, look := range looks {
+		if look.Holds() && look.Whole > 0 {
+			return true
+		}
+	}
+	return false
 }
 
 // LookAll looks at the bytes as each of the forms.
