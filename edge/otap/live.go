@@ -1,6 +1,8 @@
 package main
 
 import (
+	"fmt"
+	"strings"
 	"time"
 
 	"github.com/spf13/cobra"
@@ -8,6 +10,8 @@ import (
 
 	"finavoluth/edge/internal/command"
 	"finavoluth/edge/internal/live"
+	"finavoluth/edge/internal/live/pcap"
+	"finavoluth/edge/internal/live/record"
 	"finavoluth/edge/internal/signal"
 )
 
@@ -139,6 +143,69 @@ Headers are passed on and never written. Where the folder is full, calls get Res
 		return served(live.Record(cmd.Context(), o))
 	}
 	return cmd
+}
+
+func pcapCommand(env *command.Env) *cobra.Command {
+	o := pcap.Options{}
+	var dir string
+	var maxBytes, rotate int64
+	cmd := &cobra.Command{
+		Use:   "pcap --port N --dir DIR TRACE",
+		Short: "Make captures of a packet trace",
+		Long: `pcap makes captures of what was sent to a port in a packet trace, as tcpdump writes it: OTLP over gRPC, and
+OTel-Arrow's streams, as record does. The traffic has to be plain (no TLS), and the trace has to have the beginning of
+each connection. It takes tshark. The status is 5 where a call isn't whole.`,
+		Example: `  tcpdump -i lo -w trace.pcap tcp port 4317
+  otap pcap --port 4317 --dir captures trace.pcap`,
+		DisableFlagsInUseLine: true,
+	}
+	flags := cmd.Flags()
+	flags.IntVar(&o.Port, "port", 4317, "the `PORT` that was served")
+	flags.StringVar(&dir, "dir", "", "the `FOLDER` of the captures; it is made where it isn't there")
+	flags.IntVar(&o.MaxMessage, "max-message", 64*mebibyte, "the most `BYTES` that a message may have, also where it is unpacked")
+	flags.Int64Var(&maxBytes, "max-bytes", 1024*mebibyte, "have at most so many `BYTES` in the folder")
+	flags.Int64Var(&rotate, "rotate", 256*mebibyte, "begin a new capture where one would have more `BYTES`")
+	cmd.RunE = func(cmd *cobra.Command, args []string) error {
+		if len(args) != 1 || dir == "" {
+			return command.Misuse("pcap wants --dir FOLDER and one trace")
+		}
+		store, err := record.OpenStore(dir, maxBytes, rotate)
+		if err != nil {
+			return served(err)
+		}
+		o.Store, o.Trace, o.Stdin = store, args[0], env.Stdin
+		report, err := pcap.Extract(cmd.Context(), o)
+		if err != nil {
+			return &command.Exit{Status: command.ReadFailed, Err: err}
+		}
+		return reportTrace(env, report)
+	}
+	return cmd
+}
+
+// reportTrace prints a line for each signal and form, and says which calls aren't whole.
+func reportTrace(env *command.Env, report *pcap.Report) error {
+	var text strings.Builder
+	for _, s := range signal.Names() {
+		for _, form := range []string{"otlp", "otap"} {
+			if n := report.Messages[s+" "+form]; n > 0 {
+				fmt.Fprintf(&text, "%s %s: messages %d\n", s, form, n)
+			}
+		}
+	}
+	if err := print(env, text.String()); err != nil {
+		return err
+	}
+	for _, damage := range report.Damaged {
+		env.Say("%s", damage)
+	}
+	if report.Unnamed > 0 {
+		env.Say("%d calls began before the trace, and are left out", report.Unnamed)
+	}
+	if len(report.Damaged) > 0 {
+		return &command.Exit{Status: command.Damaged}
+	}
+	return nil
 }
 
 // served is the Exit for a server that didn't start, or couldn't go on.

@@ -40,6 +40,7 @@ var makers = []struct {
 	{groupLive, recordCommand},
 	{groupLive, nearCommand},
 	{groupLive, farCommand},
+	{groupLive, pcapCommand},
 }
 
 const about = `otap turns OpenTelemetry requests (OTLP) into the columns of OTAP, and back.

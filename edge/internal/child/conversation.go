@@ -30,6 +30,7 @@ func (a Answer) Refused() bool { return a.Line != "" }
 type Conversation struct {
 	job    string
 	cmd    *exec.Cmd
+	given  context.Context // its end kills the program
 	cancel context.CancelFunc
 	stdin  io.WriteCloser
 	frames *capture.Writer
@@ -54,7 +55,7 @@ func (p *Program) Ask(ctx context.Context, words ...string) (*Conversation, erro
 		return nil, errors.New("no job to ask for")
 	}
 	ctx, cancel := context.WithCancel(ctx)
-	c := &Conversation{job: words[0], cmd: p.Command(ctx, words...), cancel: cancel,
+	c := &Conversation{job: words[0], cmd: p.Command(ctx, words...), given: ctx, cancel: cancel,
 		out: make(chan said), err: make(chan said)}
 	fail := func(err error) (*Conversation, error) {
 		cancel()
@@ -145,6 +146,18 @@ func (c *Conversation) Send(f capture.Frame) (Answer, error) {
 			return Answer{}, c.broken(it.err)
 		}
 		return Answer{Line: it.line}, nil
+	case <-c.given.Done():
+		return Answer{}, c.broken(c.given.Err())
+	}
+}
+
+// next waits for what one output says next.
+func (c *Conversation) next(from <-chan said) said {
+	select {
+	case it := <-from:
+		return it
+	case <-c.given.Done():
+		return said{err: c.given.Err()}
 	}
 }
 
@@ -157,7 +170,7 @@ func (c *Conversation) put(it said) Answer {
 
 // status takes the status of a batch, and the line too where the status says that the batch was refused.
 func (c *Conversation) status() (Answer, error) {
-	it := <-c.out
+	it := c.next(c.out)
 	if it.err != nil {
 		return Answer{}, c.broken(it.err)
 	}
@@ -165,7 +178,7 @@ func (c *Conversation) status() (Answer, error) {
 	if it.frame.IsReset() || statusCode(it.frame.Payload) == 0 {
 		return answer, nil
 	}
-	line := <-c.err
+	line := c.next(c.err)
 	if line.err != nil {
 		return Answer{}, c.broken(line.err)
 	}

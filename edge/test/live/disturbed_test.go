@@ -229,14 +229,13 @@ func TestClientsLeave(t *testing.T) {
 		}
 		leave()
 	}
-	l.next = total
 	if n := x.near.count(streamOpen); n != 1 {
 		t.Errorf("near opened %d streams, and clients that leave end none", n)
 	}
-	after := x.load(4, 0, func(i int) bool { return i < 40 })
-	after.finish(after.begin())
-	if len(after.acked) != 40 {
-		t.Errorf("after the clients left, %d of 40 were acknowledged", len(after.acked))
+	l.workers, l.next, l.more = 4, total, times(total+40)
+	l.finish(l.begin())
+	if len(l.acked) != total/2+40 {
+		t.Errorf("%d were acknowledged, and not each second of %d and 40", len(l.acked), total)
 	}
 	x.end(l)
 }

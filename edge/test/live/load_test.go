@@ -115,7 +115,10 @@ func times(n int) func(int) bool { return func(i int) bool { return i < n } }
 const streamOpen = `msg="stream open"`
 
 func (l *load) begin() (done chan struct{}) {
-	l.acked, l.failures, l.grew = map[int]bool{}, map[string]int{}, make(chan struct{})
+	if l.acked == nil {
+		l.acked, l.failures = map[int]bool{}, map[string]int{}
+	}
+	l.grew = make(chan struct{})
 	done = make(chan struct{})
 	var workers sync.WaitGroup
 	for k := 0; k < l.workers; k++ {

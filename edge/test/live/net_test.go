@@ -83,6 +83,7 @@ type backend struct {
 	mu      sync.Mutex
 	came    int
 	kept    map[string]int // each request that was answered with OK, and how often
+	order   [][]byte       // these requests as they came
 	headers metadata.MD
 	grew    chan struct{}
 	now     int // how many requests are with it
@@ -141,6 +142,7 @@ func (b *backend) serve(_ interface{}, call grpc.ServerStream) error {
 	}
 	b.mu.Lock()
 	b.kept[string(request)]++
+	b.order = append(b.order, request)
 	b.tell()
 	b.mu.Unlock()
 	none := []byte{}

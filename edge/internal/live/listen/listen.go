@@ -153,6 +153,6 @@ type counter struct{}
 func (running) TagConn(ctx context.Context, _ *stats.ConnTagInfo) context.Context {
 	return context.WithValue(ctx, counter{}, new(int64))
 }
-func (running) HandleConn(context.Context, stats.ConnStats)                       {}
+func (running) HandleConn(context.Context, stats.ConnStats)                     {}
 func (running) TagRPC(ctx context.Context, _ *stats.RPCTagInfo) context.Context { return ctx }
-func (running) HandleRPC(context.Context, stats.RPCStats)                         {}
+func (running) HandleRPC(context.Context, stats.RPCStats)                       {}

@@ -4,6 +4,7 @@ import (
 	"context"
 	"encoding/binary"
 	"errors"
+	"fmt"
 	"io"
 	"time"
 
@@ -39,6 +40,9 @@ type Message struct {
 	Ticket *window.Ticket
 }
 
+// headSize is that of gRPC's length-prefixed messages: whether it is compressed, and its length.
+const headSize = 5
+
 type stream interface {
 	io.Reader
 	RecvCompress() string
@@ -55,7 +59,7 @@ func NewMessages(call grpc.ServerStream, limits Limits) (*Messages, error) {
 
 // Next waits for the next message. Errors are io.EOF at the end, and else have a status.
 func (m *Messages) Next() (Message, error) {
-	var head [5]byte
+	var head [headSize]byte
 	if _, err := m.from.Read(head[:]); err == io.EOF {
 		return Message{}, io.EOF
 	} else if err != nil {
@@ -136,4 +140,31 @@ func (m *Messages) broken(err error) error {
 		return err
 	}
 	return status.FromContextError(err).Err()
+}
+
+// Cut takes the first message off the bytes of a call, unpacked, and gives those after it. There is none where the bytes
+// don't have it whole.
+func Cut(bytes []byte, encoding string, limit int) (message, rest []byte, err error) {
+	if len(bytes) < headSize {
+		return nil, bytes, nil
+	}
+	length := int64(binary.BigEndian.Uint32(bytes[1:]))
+	switch {
+	case bytes[0] > 1:
+		return nil, nil, fmt.Errorf("a message with the flag %d: bytes are missing, or it isn't gRPC", bytes[0])
+	case length > int64(limit):
+		return nil, nil, fmt.Errorf("a message of %d bytes, above the %d of --max-message", length, limit)
+	case int64(len(bytes)-headSize) < length:
+		return nil, bytes, nil
+	}
+	message, rest = bytes[headSize:headSize+length], bytes[headSize+length:]
+	if bytes[0] == 1 {
+		if message, err = Unpack(encoding, message, limit); err != nil {
+			return nil, nil, err
+		}
+	}
+	if message == nil {
+		message = []byte{}
+	}
+	return message, rest, nil
 }
