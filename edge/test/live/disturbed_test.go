@@ -278,3 +278,26 @@ func TestFarTermedUnderLoad(t *testing.T) {
 		t.Errorf("%d of %d were acknowledged", len(l.acked), total)
 	}
 }
+
+// TestChildHangs stops a child under load: it is killed once it has kept a request
+// for longer than the timeout, and only its stream fails.
+func TestChildHangs(t *testing.T) {
+	t.Parallel()
+	const total = 200
+	x := newBridge(t, newBackend(t, nil, nil), []string{"--signals", "logs", "--timeout", "2s"}, nil)
+	l := x.load(8, 100, times(total))
+	l.again = func(_ int, err error) bool { return status.Code(err) == codes.Unavailable }
+	done := l.begin()
+	l.reached(total / 4)
+	stopped := x.near.watch()
+	for _, pid := range x.near.children() {
+		syscall.Kill(pid, syscall.SIGSTOP)
+	}
+	fell(t, l, total)
+	gone(t, stopped)
+	l.finish(done)
+	x.end(l)
+	if len(l.acked) != total {
+		t.Errorf("%d of %d were acknowledged", len(l.acked), total)
+	}
+}

@@ -56,6 +56,37 @@ func Open(address string, secured, insecure bool, connections int) (net.Listener
 type Server struct {
 	*grpc.Server
 	Health *health.Server
+	// unwatch ends the calls that watch health, which would go on for ever.
+	unwatch context.CancelFunc
+}
+
+const watchMethod = "/grpc.health.v1.Health/Watch"
+
+// watched is a call that ends with a context besides its own.
+type watched struct {
+	grpc.ServerStream
+	ctx context.Context
+}
+
+func (w watched) Context() context.Context { return w.ctx }
+
+// endWatches gives the calls that watch health a context that ends with the server's.
+func endWatches(server context.Context) grpc.StreamServerInterceptor {
+	return func(srv interface{}, call grpc.ServerStream, info *grpc.StreamServerInfo, handler grpc.StreamHandler) error {
+		if info.FullMethod != watchMethod {
+			return handler(srv, call)
+		}
+		ctx, cancel := context.WithCancel(call.Context())
+		defer cancel()
+		go func() {
+			select {
+			case <-server.Done():
+				cancel()
+			case <-ctx.Done():
+			}
+		}()
+		return handler(srv, watched{call, ctx})
+	}
 }
 
 // A Handler serves a call of one of the services of package wire.
@@ -64,7 +95,9 @@ type Handler func(service wire.Service, call grpc.ServerStream) error
 // New makes a server whose calls go to the handler; nil credentials stand for none. A connection may have so many calls,
 // those among them that the peer gave up and whose handler still runs.
 func New(calls int, creds credentials.TransportCredentials, handler Handler) *Server {
+	ctx, unwatch := context.WithCancel(context.Background())
 	options := []grpc.ServerOption{
+		grpc.StreamInterceptor(endWatches(ctx)),
 		grpc.CustomCodec(wire.Codec{}),
 		grpc.UnknownServiceHandler(func(_ interface{}, call grpc.ServerStream) error { return serve(call, calls, handler) }),
 		grpc.MaxRecvMsgSize(longestOther),
@@ -81,7 +114,7 @@ func New(calls int, creds credentials.TransportCredentials, handler Handler) *Se
 	if creds != nil {
 		options = append(options, grpc.Creds(creds))
 	}
-	s := &Server{Server: grpc.NewServer(options...), Health: health.NewServer()}
+	s := &Server{Server: grpc.NewServer(options...), Health: health.NewServer(), unwatch: unwatch}
 	healthpb.RegisterHealthServer(s.Server, s.Health)
 	return s
 }
@@ -99,6 +132,7 @@ func (s *Server) Serving(name string, yes bool) {
 // served any more from the beginning.
 func (s *Server) StopWithin(grace time.Duration) (inTime bool) {
 	s.Health.Shutdown()
+	s.unwatch()
 	done := make(chan struct{})
 	go func() {
 		s.GracefulStop()
