@@ -22,6 +22,7 @@ func helpCommand(env *command.Env) *cobra.Command {
 	cmd.RunE = func(cmd *cobra.Command, args []string) error {
 		root := cmd.Root()
 		if len(args) == 0 {
+			root.InitDefaultHelpFlag()
 			return root.Help()
 		}
 		found, rest, err := root.Find(args)

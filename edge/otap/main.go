@@ -32,9 +32,13 @@ func otap(args []string) int {
 	if isTerminal(os.Stderr) {
 		env.Progress = stderr.progress
 	}
-	root := newRoot(env)
+	help := &helpWriter{target: os.Stdout}
+	root := newRoot(env, help)
 	root.SetArgs(args)
 	err := root.ExecuteContext(ctx)
+	if err == nil {
+		err = help.failed
+	}
 	if err == nil {
 		return command.OK
 	}

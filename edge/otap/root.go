@@ -2,6 +2,7 @@ package main
 
 import (
 	"fmt"
+	"io"
 	"strings"
 
 	"github.com/spf13/cobra"
@@ -9,6 +10,7 @@ import (
 
 	"finavoluth/edge/internal/command"
 	"finavoluth/edge/internal/jobs"
+	"finavoluth/edge/internal/source"
 	"finavoluth/edge/internal/words"
 )
 
@@ -55,7 +57,7 @@ const examples = `  otap encode logs otlp.json -o batches.capture     a Collecto
   otap diff logs otlp.json batches.capture          the same telemetry or not
   otap explain logs batches.capture                 why a batch is refused`
 
-func newRoot(env *command.Env) *cobra.Command {
+func newRoot(env *command.Env, out io.Writer) *cobra.Command {
 	root := &cobra.Command{
 		Use:               "otap",
 		Short:             "Turns OpenTelemetry requests into the columns of OTAP, and back",
@@ -67,7 +69,7 @@ func newRoot(env *command.Env) *cobra.Command {
 		Args:              cobra.ArbitraryArgs,
 		CompletionOptions: cobra.CompletionOptions{HiddenDefaultCmd: false},
 	}
-	root.SetOut(env.Stdout)
+	root.SetOut(out)
 	root.SetErr(env.Stderr)
 	root.PersistentFlags().StringVar(&env.OtapCLI, "otap-cli", "", "`FILE` of the proved program, instead of the one in otap")
 	showVersion := root.Flags().Bool("version", false, "print the version, and the sum of the program that is asked")
@@ -110,9 +112,27 @@ func add(root *cobra.Command, group string, cmd *cobra.Command) {
 // print writes to standard output, and names what fails.
 func print(env *command.Env, text string) error {
 	if _, err := fmt.Fprint(env.Stdout, text); err != nil {
-		return command.Fail(command.WriteFailed, "writing standard output: %w", err)
+		return writingFailed(err)
 	}
 	return nil
+}
+
+func writingFailed(err error) error {
+	return command.Fail(command.WriteFailed, "writing standard output: %w", source.Reason(err))
+}
+
+// A helpWriter keeps what fails where help is printed: cobra doesn't say it.
+type helpWriter struct {
+	target io.Writer
+	failed error
+}
+
+func (h *helpWriter) Write(text []byte) (int, error) {
+	n, err := h.target.Write(text)
+	if err != nil && h.failed == nil {
+		h.failed = writingFailed(err)
+	}
+	return n, err
 }
 
 // unknownJob names the nearest word for a misspelt one.

@@ -57,6 +57,10 @@ func (w *FormWriter) All(captured io.Reader) error {
 		if err == io.EOF || errors.As(err, &damage) {
 			return nil // where the program ended early, its status says why
 		}
+		var exit *command.Exit
+		if errors.As(err, &exit) {
+			return exit
+		}
 		if err != nil {
 			return command.Fail(command.Broken, "reading what the program puts out: %w", err)
 		}

@@ -55,6 +55,10 @@ func (r *running) feedAll(reading, running context.Context, in *os.File) error {
 			}
 		}
 		if err := f.input(reading, input); err != nil {
+			// What came before is whole, and is handled.
+			if gone := f.flush(); gone != nil {
+				return gone
+			}
 			var damage *capture.Damage
 			if errors.As(err, &damage) {
 				r.notes.damaged(input.Name, damage, r.inputs[i+1:])
