@@ -239,7 +239,7 @@ span 1
 		{b, a, 1, `span 0
   A .[0].resourceSpans[0].scopeSpans[0].spans[0].flags = 0
   B .[0].resourceSpans[0].scopeSpans[0].spans[0].flags = 1
-3 differences, of which 2 aren't printed; A has 1 span, B has 2 spans
+3 differences, the first 1 printed; A has 1 span, B has 2 spans
 `},
 	} {
 		if got := compared(t, signal.Traces, written(test.a), written(test.b), Options{Most: test.most}).Text(signal.Traces); got != test.want {

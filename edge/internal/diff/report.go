@@ -21,8 +21,8 @@ func (r *Report) Text(s signal.Signal) string {
 		fmt.Fprintf(&b, "  A %v\n  B %v\n", it.A, it.B)
 	}
 	more := ""
-	if n := r.Found - len(r.Differences); n > 0 {
-		more = fmt.Sprintf(", of which %d aren't printed", n)
+	if n := len(r.Differences); n < r.Found {
+		more = fmt.Sprintf(", the first %d printed", n)
 	}
 	fmt.Fprintf(&b, "%s%s; A has %s, B has %s\n", counted(r.Found, "difference"), more,
 		counted(r.ItemsA, nouns[s]), counted(r.ItemsB, nouns[s]))
