@@ -1,11 +1,9 @@
 package text
 
 import (
-	"bytes"
 	"encoding/json"
 	"errors"
 	"fmt"
-	"io"
 	"strconv"
 	"unicode/utf8"
 
@@ -32,15 +30,10 @@ func Read(s signal.Signal, text []byte) (request []byte, unknown []string, err e
 	if err := check(text); err != nil {
 		return nil, nil, err
 	}
-	r := &reader{signal: s, tokens: json.NewDecoder(bytes.NewReader(text)), listed: map[string]bool{}}
-	r.tokens.UseNumber()
+	r := &reader{signal: s, tokens: tokens{json: text}, listed: map[string]bool{}}
 	message := otlp.New(s)
-	first, err := r.tokens.Token()
-	if err != nil {
-		return nil, nil, fmt.Errorf("reading JSON: %w", err)
-	}
-	if first != json.Delim('{') {
-		return nil, nil, fmt.Errorf("a request is a JSON object, not %s", describe(first))
+	if first := r.tokens.next(); first.kind != '{' {
+		return nil, nil, fmt.Errorf("a request is a JSON object, not %v", first)
 	}
 	if err := r.message(message); err != nil {
 		var wrong *WrongSignal
@@ -114,7 +107,7 @@ func escaped(text []byte, at int) uint64 {
 // lists, their numbers.
 type reader struct {
 	signal  signal.Signal
-	tokens  *json.Decoder
+	tokens  tokens
 	path    []step
 	unknown []string
 	listed  map[string]bool
@@ -128,15 +121,11 @@ type step struct {
 // message reads the keys and values of an object, whose opening brace has been read, and its closing brace.
 func (r *reader) message(message protoreflect.Message) error {
 	var seen uint64 // a bit for each field that the object has had; no message has 64 of them
-	for r.tokens.More() {
-		token, err := r.tokens.Token()
-		if err != nil {
-			return r.wrap(err)
-		}
-		key := token.(string)
+	for r.tokens.more() {
+		key := r.tokens.next().text
 		r.path = append(r.path, step{name: key, element: -1})
-		field := fieldOf(message.Descriptor(), key)
-		if field == nil {
+		var err error
+		if field := fieldOf(message.Descriptor(), key); field == nil {
 			err = r.passOver(len(r.path) == 1)
 		} else if seen>>field.Index()&1 == 1 {
 			err = r.errorf("the key occurs twice")
@@ -149,8 +138,8 @@ func (r *reader) message(message protoreflect.Message) error {
 		}
 		r.path = r.path[:len(r.path)-1]
 	}
-	_, err := r.tokens.Token()
-	return r.wrap(err)
+	r.tokens.next()
+	return nil
 }
 
 // fieldOf is the field with this name in lowerCamelCase or as in the .proto file, or nil.
@@ -173,17 +162,14 @@ func (r *reader) passOver(top bool) error {
 		r.listed[path] = true
 		r.unknown = append(r.unknown, path)
 	}
-	var value json.RawMessage
-	return r.wrap(r.tokens.Decode(&value))
+	r.tokens.pass()
+	return nil
 }
 
 // field reads the value of a key.
 func (r *reader) field(message protoreflect.Message, field protoreflect.FieldDescriptor) error {
-	token, err := r.tokens.Token()
-	if err != nil {
-		return r.wrap(err)
-	}
-	if token == nil {
+	token := r.tokens.next()
+	if token.kind == 'n' {
 		return nil
 	}
 	if oneof := field.ContainingOneof(); oneof != nil && message.WhichOneof(oneof) != nil {
@@ -203,16 +189,14 @@ func (r *reader) field(message protoreflect.Message, field protoreflect.FieldDes
 	return nil
 }
 
-func (r *reader) list(list protoreflect.List, field protoreflect.FieldDescriptor, token json.Token) error {
-	if token != json.Delim('[') {
-		return r.errorf("a list is expected, not %s", describe(token))
+func (r *reader) list(list protoreflect.List, field protoreflect.FieldDescriptor, token token) error {
+	if token.kind != '[' {
+		return r.errorf("a list is expected, not %v", token)
 	}
-	for r.tokens.More() {
+	for r.tokens.more() {
 		r.path = append(r.path, step{element: list.Len()})
-		token, err := r.tokens.Token()
-		if err != nil {
-			return r.wrap(err)
-		}
+		token := r.tokens.next()
+		var err error
 		if field.Kind() == protoreflect.MessageKind {
 			err = r.object(list.AppendMutable().Message(), token)
 		} else {
@@ -223,11 +207,11 @@ func (r *reader) list(list protoreflect.List, field protoreflect.FieldDescriptor
 		}
 		r.path = r.path[:len(r.path)-1]
 	}
-	_, err := r.tokens.Token()
-	return r.wrap(err)
+	r.tokens.next()
+	return nil
 }
 
-func (r *reader) element(list protoreflect.List, field protoreflect.FieldDescriptor, token json.Token) error {
+func (r *reader) element(list protoreflect.List, field protoreflect.FieldDescriptor, token token) error {
 	value, err := scalar(field, token)
 	if err != nil {
 		return r.wrap(err)
@@ -236,9 +220,9 @@ func (r *reader) element(list protoreflect.List, field protoreflect.FieldDescrip
 	return nil
 }
 
-func (r *reader) object(message protoreflect.Message, token json.Token) error {
-	if token != json.Delim('{') {
-		return r.errorf("an object is expected, not %s", describe(token))
+func (r *reader) object(message protoreflect.Message, token token) error {
+	if token.kind != '{' {
+		return r.errorf("an object is expected, not %v", token)
 	}
 	return r.message(message)
 }
@@ -262,9 +246,6 @@ func (r *reader) dotted() string {
 func (r *reader) wrap(err error) error {
 	if err == nil {
 		return nil
-	}
-	if errors.Is(err, io.EOF) {
-		err = io.ErrUnexpectedEOF
 	}
 	var b []byte
 	for _, s := range r.path {

@@ -12,39 +12,20 @@ import (
 	"google.golang.org/protobuf/reflect/protoreflect"
 )
 
-// describe says what a token is, for errors.
-func describe(token json.Token) string {
-	switch t := token.(type) {
-	case json.Delim:
-		if t == '{' || t == '}' {
-			return "an object"
-		}
-		return "a list"
-	case string:
-		if len(t) > 40 {
-			t = strings.ToValidUTF8(t[:40], "") + "…"
-		}
-		return strconv.Quote(t)
-	case nil:
-		return "null"
-	}
-	return fmt.Sprint(token)
-}
-
 // scalar is the value of a field, or of one element of a repeated one, that is no message.
-func scalar(field protoreflect.FieldDescriptor, token json.Token) (protoreflect.Value, error) {
+func scalar(field protoreflect.FieldDescriptor, token token) (protoreflect.Value, error) {
 	none := protoreflect.Value{}
 	switch field.Kind() {
 	case protoreflect.BoolKind:
-		if b, ok := token.(bool); ok {
-			return protoreflect.ValueOfBool(b), nil
+		if token.kind == 't' || token.kind == 'f' {
+			return protoreflect.ValueOfBool(token.kind == 't'), nil
 		}
-		return none, fmt.Errorf("true or false is expected, not %s", describe(token))
+		return none, fmt.Errorf("true or false is expected, not %v", token)
 	case protoreflect.StringKind:
-		if text, ok := token.(string); ok {
-			return protoreflect.ValueOfString(text), nil
+		if token.kind == '"' {
+			return protoreflect.ValueOfString(token.text), nil
 		}
-		return none, fmt.Errorf("a text is expected, not %s", describe(token))
+		return none, fmt.Errorf("a text is expected, not %v", token)
 	case protoreflect.BytesKind:
 		return bytesOf(field, token)
 	case protoreflect.DoubleKind:
@@ -56,36 +37,35 @@ func scalar(field protoreflect.FieldDescriptor, token json.Token) (protoreflect.
 }
 
 // bytesOf reads an id in hexadecimal, and other bytes in base64.
-func bytesOf(field protoreflect.FieldDescriptor, token json.Token) (protoreflect.Value, error) {
-	text, ok := token.(string)
-	if !ok {
-		return protoreflect.Value{}, fmt.Errorf("a text is expected, not %s", describe(token))
+func bytesOf(field protoreflect.FieldDescriptor, token token) (protoreflect.Value, error) {
+	if token.kind != '"' {
+		return protoreflect.Value{}, fmt.Errorf("a text is expected, not %v", token)
 	}
 	if isID(field) {
-		id, err := hex.DecodeString(text)
+		id, err := hex.DecodeString(token.text)
 		if err != nil {
-			return protoreflect.Value{}, fmt.Errorf("an id is hexadecimal, and %s isn't", describe(token))
+			return protoreflect.Value{}, fmt.Errorf("an id is hexadecimal, and %v isn't", token)
 		}
 		return protoreflect.ValueOfBytes(id), nil
 	}
 	encoding := base64.RawStdEncoding
-	if strings.ContainsAny(text, "-_") {
+	if strings.ContainsAny(token.text, "-_") {
 		encoding = base64.RawURLEncoding
 	}
-	content, err := encoding.DecodeString(strings.TrimRight(text, "="))
+	content, err := encoding.DecodeString(strings.TrimRight(token.text, "="))
 	if err != nil {
-		return protoreflect.Value{}, fmt.Errorf("bytes are in base64, and %s isn't", describe(token))
+		return protoreflect.Value{}, fmt.Errorf("bytes are in base64, and %v isn't", token)
 	}
 	return protoreflect.ValueOfBytes(content), nil
 }
 
 // numeral is the text of a number, or of a string that holds one.
-func numeral(token json.Token) (string, bool) {
-	switch t := token.(type) {
-	case json.Number:
-		return t.String(), true
-	case string:
-		return t, t != "" && json.Valid([]byte(t)) && strings.Trim(t, "+-.0123456789eE") == ""
+func numeral(token token) (string, bool) {
+	switch token.kind {
+	case '0':
+		return token.text, true
+	case '"':
+		return token.text, strings.Trim(token.text, "+-.0123456789eE") == "" && json.Valid([]byte(token.text))
 	}
 	return "", false
 }
@@ -93,8 +73,8 @@ func numeral(token json.Token) (string, bool) {
 // quietNaN is the NaN that other languages mean by its name; Go's own has another fraction.
 const quietNaN = 0x7ff8000000000000
 
-func double(token json.Token) (protoreflect.Value, error) {
-	switch token {
+func double(token token) (protoreflect.Value, error) {
+	switch token.text {
 	case "NaN":
 		return protoreflect.ValueOfFloat64(math.Float64frombits(quietNaN)), nil
 	case "Infinity":
@@ -104,7 +84,7 @@ func double(token json.Token) (protoreflect.Value, error) {
 	}
 	text, ok := numeral(token)
 	if !ok {
-		return protoreflect.Value{}, fmt.Errorf("a number is expected, not %s", describe(token))
+		return protoreflect.Value{}, fmt.Errorf("a number is expected, not %v", token)
 	}
 	x, err := strconv.ParseFloat(text, 64)
 	if err != nil {
@@ -114,15 +94,13 @@ func double(token json.Token) (protoreflect.Value, error) {
 }
 
 // enum reads a number, known or not, or the name of one that is known.
-func enum(names protoreflect.EnumDescriptor, token json.Token) (protoreflect.Value, error) {
-	if name, ok := token.(string); ok {
-		if value := names.Values().ByName(protoreflect.Name(name)); value != nil {
-			return protoreflect.ValueOfEnum(value.Number()), nil
-		}
+func enum(names protoreflect.EnumDescriptor, token token) (protoreflect.Value, error) {
+	if value := names.Values().ByName(protoreflect.Name(token.text)); value != nil {
+		return protoreflect.ValueOfEnum(value.Number()), nil
 	}
 	text, ok := numeral(token)
 	if !ok {
-		return protoreflect.Value{}, fmt.Errorf("a number or a name of %s is expected, not %s", names.Name(), describe(token))
+		return protoreflect.Value{}, fmt.Errorf("a number or a name of %s is expected, not %v", names.Name(), token)
 	}
 	number, err := strconv.ParseInt(plain(text), 10, 32)
 	if err != nil {
@@ -132,10 +110,10 @@ func enum(names protoreflect.EnumDescriptor, token json.Token) (protoreflect.Val
 }
 
 // whole reads a whole number of the kind.
-func whole(kind protoreflect.Kind, token json.Token) (protoreflect.Value, error) {
+func whole(kind protoreflect.Kind, token token) (protoreflect.Value, error) {
 	text, ok := numeral(token)
 	if !ok {
-		return protoreflect.Value{}, fmt.Errorf("a whole number is expected, not %s", describe(token))
+		return protoreflect.Value{}, fmt.Errorf("a whole number is expected, not %v", token)
 	}
 	var err error
 	switch kind {
