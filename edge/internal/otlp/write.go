@@ -26,10 +26,10 @@ func appendMessage(b []byte, message protoreflect.Message) []byte {
 			b = appendPacked(b, field, value.List())
 		case field.IsList():
 			for i := 0; i < value.List().Len(); i++ {
-				b = appendField(b, field, value.List().Get(i))
+				b = AppendField(b, field, value.List().Get(i))
 			}
 		default:
-			b = appendField(b, field, value)
+			b = AppendField(b, field, value)
 		}
 	}
 	return append(b, message.GetUnknown()...)
@@ -38,17 +38,30 @@ func appendMessage(b []byte, message protoreflect.Message) []byte {
 func appendPacked(b []byte, field protoreflect.FieldDescriptor, list protoreflect.List) []byte {
 	var packed []byte
 	for i := 0; i < list.Len(); i++ {
-		packed = appendValue(packed, field, list.Get(i))
+		packed = AppendValue(packed, field, list.Get(i))
 	}
 	b = protowire.AppendTag(b, field.Number(), protowire.BytesType)
 	return protowire.AppendBytes(b, packed)
 }
 
-func appendField(b []byte, field protoreflect.FieldDescriptor, value protoreflect.Value) []byte {
-	return appendValue(protowire.AppendTag(b, field.Number(), wireType(field.Kind())), field, value)
+// AppendField appends a field with one value.
+func AppendField(b []byte, field protoreflect.FieldDescriptor, value protoreflect.Value) []byte {
+	return AppendValue(protowire.AppendTag(b, field.Number(), wireType(field.Kind())), field, value)
 }
 
-func appendValue(b []byte, field protoreflect.FieldDescriptor, value protoreflect.Value) []byte {
+// IsDefault is whether the value, which is no message, is the one that a field without presence has where it is absent.
+func IsDefault(field protoreflect.FieldDescriptor, value protoreflect.Value) bool {
+	switch field.Kind() {
+	case protoreflect.DoubleKind:
+		return math.Float64bits(value.Float()) == 0
+	case protoreflect.BytesKind:
+		return len(value.Bytes()) == 0
+	}
+	return value.Interface() == field.Default().Interface()
+}
+
+// AppendValue appends a value without a tag, as an element of a packed list is written.
+func AppendValue(b []byte, field protoreflect.FieldDescriptor, value protoreflect.Value) []byte {
 	switch field.Kind() {
 	case protoreflect.BoolKind:
 		return protowire.AppendVarint(b, protowire.EncodeBool(value.Bool()))

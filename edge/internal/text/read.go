@@ -1,12 +1,11 @@
 package text
 
 import (
-	"encoding/json"
 	"errors"
 	"fmt"
 	"strconv"
-	"unicode/utf8"
 
+	"google.golang.org/protobuf/encoding/protowire"
 	"google.golang.org/protobuf/reflect/protoreflect"
 
 	"finavoluth/edge/internal/otlp"
@@ -31,86 +30,29 @@ func Read(s signal.Signal, text []byte) (request []byte, unknown []string, err e
 		return nil, nil, err
 	}
 	r := &reader{signal: s, tokens: tokens{json: text}, listed: map[string]bool{}}
-	message := otlp.New(s)
 	if first := r.tokens.next(); first.kind != '{' {
 		return nil, nil, fmt.Errorf("a request is a JSON object, not %v", first)
 	}
-	if err := r.message(message); err != nil {
+	if err := r.message(otlp.Request(s)); err != nil {
 		var wrong *WrongSignal
 		if errors.As(err, &wrong) {
 			return nil, nil, wrong
 		}
 		return nil, nil, err
 	}
-	return otlp.Write(message), r.unknown, nil
+	return r.out, r.unknown, nil
 }
 
-// check refuses what isn't JSON, and texts that encoding/json would change without a word.
-func check(text []byte) error {
-	if !utf8.Valid(text) {
-		return errors.New("the JSON isn't UTF-8")
-	}
-	if !json.Valid(text) {
-		return notJSON(text)
-	}
-	if at := loneSurrogate(text); at >= 0 {
-		return fmt.Errorf("at byte %d is half of a surrogate pair (%s), which is no character", at, text[at:at+6])
-	}
-	return nil
-}
-
-// notJSON is the error of encoding/json on a text that is no JSON, and how many bytes show it.
-func notJSON(text []byte) error {
-	var all json.RawMessage
-	err := json.Unmarshal(text, &all)
-	var syntax *json.SyntaxError
-	if errors.As(err, &syntax) && syntax.Offset > 0 {
-		return fmt.Errorf("no JSON in its first %d bytes: %w", syntax.Offset, err)
-	}
-	return fmt.Errorf("no JSON: %w", err)
-}
-
-// loneSurrogate is the offset of the first \u escape of a surrogate that has no other half, and -1 where there is none.
-func loneSurrogate(text []byte) int {
-	for i := 0; i < len(text); i++ {
-		if text[i] != '\\' {
-			continue
-		}
-		if text[i+1] != 'u' {
-			i++
-			continue
-		}
-		switch unit := escaped(text, i); {
-		case unit >= 0xdc00 && unit <= 0xdfff:
-			return i
-		case unit >= 0xd800 && unit <= 0xdbff:
-			if low := escaped(text, i+6); low < 0xdc00 || low > 0xdfff {
-				return i
-			}
-			i += 6
-		}
-		i += 5
-	}
-	return -1
-}
-
-// escaped is the number of the \u escape at the offset, and 0 where there is none.
-func escaped(text []byte, at int) uint64 {
-	if at+6 > len(text) || text[at] != '\\' || text[at+1] != 'u' {
-		return 0
-	}
-	unit, _ := strconv.ParseUint(string(text[at+2:at+6]), 16, 16)
-	return unit
-}
-
-// A reader reads the messages of one request. path leads to what is being read: names of fields and, for the elements of
-// lists, their numbers.
+// A reader reads the messages of one request, and writes them to out in protobuf as it goes. path leads to what is being
+// read: names of fields and, for the elements of lists, their numbers.
 type reader struct {
 	signal  signal.Signal
 	tokens  tokens
 	path    []step
 	unknown []string
 	listed  map[string]bool
+	out     []byte
+	room    []byte // of fields that are put into order
 }
 
 type step struct {
@@ -119,19 +61,22 @@ type step struct {
 }
 
 // message reads the keys and values of an object, whose opening brace has been read, and its closing brace.
-func (r *reader) message(message protoreflect.Message) error {
-	var seen uint64 // a bit for each field that the object has had; no message has 64 of them
+func (r *reader) message(message protoreflect.MessageDescriptor) error {
+	var seen, oneofs uint64 // a bit for each field and each oneof that the object has had; no message has 64 of them
+	var written parts
 	for r.tokens.more() {
 		key := r.tokens.next().text
 		r.path = append(r.path, step{name: key, element: -1})
+		from := len(r.out)
 		var err error
-		if field := fieldOf(message.Descriptor(), key); field == nil {
+		if field := fieldOf(message, key); field == nil {
 			err = r.passOver(len(r.path) == 1)
 		} else if seen>>field.Index()&1 == 1 {
 			err = r.errorf("the key occurs twice")
 		} else {
 			seen |= 1 << field.Index()
-			err = r.field(message, field)
+			err = r.field(field, &oneofs)
+			written.add(field.Number(), from, len(r.out))
 		}
 		if err != nil {
 			return err
@@ -139,6 +84,7 @@ func (r *reader) message(message protoreflect.Message) error {
 		r.path = r.path[:len(r.path)-1]
 	}
 	r.tokens.next()
+	r.room = written.sort(r.out, r.room)
 	return nil
 }
 
@@ -166,65 +112,91 @@ func (r *reader) passOver(top bool) error {
 	return nil
 }
 
-// field reads the value of a key.
-func (r *reader) field(message protoreflect.Message, field protoreflect.FieldDescriptor) error {
+// field reads the value of a key, of a message that has had these oneofs.
+func (r *reader) field(field protoreflect.FieldDescriptor, oneofs *uint64) error {
 	token := r.tokens.next()
 	if token.kind == 'n' {
 		return nil
 	}
-	if oneof := field.ContainingOneof(); oneof != nil && message.WhichOneof(oneof) != nil {
-		return r.errorf("another member of %s is set already", oneof.Name())
+	if oneof := field.ContainingOneof(); oneof != nil {
+		if *oneofs>>oneof.Index()&1 == 1 {
+			return r.errorf("another member of %s is set already", oneof.Name())
+		}
+		*oneofs |= 1 << oneof.Index()
 	}
 	switch {
 	case field.IsList():
-		return r.list(message.Mutable(field).List(), field, token)
+		return r.list(field, token)
 	case field.Kind() == protoreflect.MessageKind:
-		return r.object(message.Mutable(field).Message(), token)
+		return r.object(field, token)
 	}
 	value, err := scalar(field, token)
-	if err != nil {
-		return r.wrap(err)
+	if err == nil && (field.HasPresence() || !otlp.IsDefault(field, value)) {
+		r.out = otlp.AppendField(r.out, field, value)
 	}
-	message.Set(field, value)
-	return nil
+	return r.wrap(err)
 }
 
-func (r *reader) list(list protoreflect.List, field protoreflect.FieldDescriptor, token token) error {
+func (r *reader) list(field protoreflect.FieldDescriptor, token token) error {
 	if token.kind != '[' {
 		return r.errorf("a list is expected, not %v", token)
 	}
-	for r.tokens.more() {
-		r.path = append(r.path, step{element: list.Len()})
-		token := r.tokens.next()
-		var err error
-		if field.Kind() == protoreflect.MessageKind {
-			err = r.object(list.AppendMutable().Message(), token)
-		} else {
-			err = r.element(list, field, token)
+	begin := 0 // of the elements, where they are packed
+	for element := 0; r.tokens.more(); element++ {
+		r.path = append(r.path, step{element: element})
+		if element == 0 && field.IsPacked() {
+			r.out = protowire.AppendTag(r.out, field.Number(), protowire.BytesType)
+			begin = len(r.out)
 		}
-		if err != nil {
+		if err := r.element(field, r.tokens.next()); err != nil {
 			return err
 		}
 		r.path = r.path[:len(r.path)-1]
+	}
+	if begin > 0 {
+		r.lengthAt(begin)
 	}
 	r.tokens.next()
 	return nil
 }
 
-func (r *reader) element(list protoreflect.List, field protoreflect.FieldDescriptor, token token) error {
-	value, err := scalar(field, token)
-	if err != nil {
-		return r.wrap(err)
+func (r *reader) element(field protoreflect.FieldDescriptor, token token) error {
+	if field.Kind() == protoreflect.MessageKind {
+		return r.object(field, token)
 	}
-	list.Append(value)
+	value, err := scalar(field, token)
+	switch {
+	case err != nil:
+		return r.wrap(err)
+	case field.IsPacked():
+		r.out = otlp.AppendValue(r.out, field, value)
+	default:
+		r.out = otlp.AppendField(r.out, field, value)
+	}
 	return nil
 }
 
-func (r *reader) object(message protoreflect.Message, token token) error {
+func (r *reader) object(field protoreflect.FieldDescriptor, token token) error {
 	if token.kind != '{' {
 		return r.errorf("an object is expected, not %v", token)
 	}
-	return r.message(message)
+	r.out = protowire.AppendTag(r.out, field.Number(), protowire.BytesType)
+	begin := len(r.out)
+	if err := r.message(field.Message()); err != nil {
+		return err
+	}
+	r.lengthAt(begin)
+	return nil
+}
+
+// lengthAt puts the length of what was written from a place on before it.
+func (r *reader) lengthAt(begin int) {
+	length := uint64(len(r.out) - begin)
+	size := protowire.SizeVarint(length)
+	var zeros [10]byte
+	r.out = append(r.out, zeros[:size]...)
+	copy(r.out[begin+size:], r.out[begin:])
+	protowire.AppendVarint(r.out[:begin], length)
 }
 
 // dotted is the path without the numbers of elements.
