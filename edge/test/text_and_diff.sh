@@ -1,14 +1,13 @@
 #!/usr/bin/env bash
 # Tries `otap text` and `otap diff` with real files and processes, and compares all that they print and say.
 #
-#     edge/test/text_and_diff.sh PROGRAM
+#     edge/test/text_and_diff.sh OTAP PROGRAM
 #
-# PROGRAM is the proved program, crates/otap_cli/out/otap_cli. `edge/build` has built edge/out/otap before. Environment:
-# OTAP, another build of the command.
+# OTAP is the built command, edge/out/otap, and PROGRAM the proved program, crates/otap_cli/out/otap_cli.
 set -u
 cd "$(dirname "$0")/../.."
-program=$(realpath "${1:?edge/test/text_and_diff.sh wants the proved program}")
-otap=$(realpath "${OTAP:-edge/out/otap}")
+otap=$(realpath "${1:?edge/test/text_and_diff.sh wants the built command}")
+program=$(realpath "${2:?edge/test/text_and_diff.sh wants the proved program}")
 cases=$PWD/examples/cases
 hand=$PWD/edge/internal/text/testdata
 room=$(mktemp -d)
