@@ -121,18 +121,19 @@ func writingFailed(err error) error {
 	return command.Fail(command.WriteFailed, "writing standard output: %w", source.Reason(err))
 }
 
-// A helpWriter keeps what fails where help is printed: cobra doesn't say it.
+// A helpWriter keeps what fails where help is printed, which cobra would print in its own words.
 type helpWriter struct {
 	target io.Writer
 	failed error
 }
 
 func (h *helpWriter) Write(text []byte) (int, error) {
-	n, err := h.target.Write(text)
-	if err != nil && h.failed == nil {
-		h.failed = writingFailed(err)
+	if h.failed == nil {
+		if _, err := h.target.Write(text); err != nil {
+			h.failed = writingFailed(err)
+		}
 	}
-	return n, err
+	return len(text), nil
 }
 
 // unknownJob names the nearest word for a misspelt one.

@@ -423,12 +423,12 @@ class WrongUses(Room):
             self.assertTrue(got.err.endswith("otap: writing standard output: no space left on device\n"), got.err)
 
     def test_a_closed_pipe_is_silent(self):
-        self.write("x", self.program("encode", "logs", data=capture(*(logs(n % 9).SerializeToString() for n in range(400)))).out)
-        for words in (("show", "logs", "x"), ("decode", "logs", "x", "--to", "json"), ("text", "logs", "--from", "capture", "x")):
+        batches = self.program("encode", "logs", data=capture(*(logs(n).SerializeToString() for n in range(9)))).out
+        for words in (("show", "logs"), ("decode", "logs", "--to", "json"), ("text", "logs", "--from", "capture")):
             child = self.start(*words)
-            child.stdin.close()
-            child.stdout.read(1)
             child.stdout.close()
+            child.stdin.write(batches)
+            child.stdin.close()
             self.assertEqual((child.wait(LIMIT), child.stderr.read()), (4, b""), words)
 
     def test_a_terminal(self):
@@ -651,7 +651,11 @@ class About(Room):
         self.assertTrue(first.startswith("otap "))
         with open(PROGRAM, "rb") as file:
             whole = hashlib.sha256(file.read()).hexdigest()
-        if "embedded" not in second:
+        inside = REPOSITORY / "edge/internal/child/out/program"
+        if "embedded" in second:
+            whole_inside = hashlib.sha256(inside.read_bytes()).hexdigest()
+            self.assertEqual(second, f"program: embedded, sha256 {whole_inside}")
+        else:
             self.assertTrue(second.endswith(f"sha256 {whole}"), second)
         got = self.otap("--version", "--otap-cli", PROGRAM)
         self.assertEqual(got.out.decode().splitlines()[1], f"program: {PROGRAM}, sha256 {whole}")

@@ -126,11 +126,11 @@ func (r *running) run(ctx context.Context) error {
 		}()
 	}
 	result, err := r.start(ctx, background, cancel)
-	if err != nil {
-		return err
-	}
 	if ctx.Err() != nil && !r.plan.Follow {
 		return &command.Exit{Status: command.Interrupted, Err: errors.New("interrupted")}
+	}
+	if err != nil {
+		return err
 	}
 	return r.conclude(ctx, result)
 }
