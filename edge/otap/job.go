@@ -58,6 +58,9 @@ func jobCommand(env *command.Env, job jobs.Job) *cobra.Command {
 		if err := refuseTerminal(env, plan); err != nil {
 			return err
 		}
+		if len(plan.Files) == 0 && job.Takes != jobs.Nothing && isTerminal(env.Stdin) {
+			env.Say("reading standard input, which is a terminal")
+		}
 		return plan.Run(cmd.Context(), env)
 	}
 	return cmd

@@ -20,7 +20,7 @@ func (r *running) conclude(ctx context.Context, result outcomes) error {
 	}
 	r.notes.mu.Lock()
 	defer r.notes.mu.Unlock()
-	lost := r.sayLost()
+	lost := r.sayLost(result.left)
 	r.sayFiles()
 	r.sayStreams()
 	if result.written != nil {
@@ -78,9 +78,10 @@ func (r *running) programFailed(result outcomes) error {
 	return nil
 }
 
-// sayLost lists what isn't carried, and says whether there is something.
-func (r *running) sayLost() bool {
-	lost := len(r.notes.keys) > 0
+// sayLost lists what isn't carried, and says whether there is something. The keys of JSON are the reader's as long as it
+// reads.
+func (r *running) sayLost(reading bool) bool {
+	lost := !reading && len(r.notes.keys) > 0
 	for _, field := range r.notes.carried.Fields() {
 		lost = true
 		what := ""
@@ -89,7 +90,9 @@ func (r *running) sayLost() bool {
 		}
 		r.env.Say("not carried: %d × %s%s", field.Times, field.Path, what)
 	}
-	SayKeys(r.env, r.notes.keys)
+	if !reading {
+		SayKeys(r.env, r.notes.keys)
+	}
 	names, metrics := r.notes.carried.Exponential()
 	if metrics > 0 && r.notes.causes["Unsupported"] > 0 {
 		r.env.Say("refused as Unsupported for an exponential histogram: %s", listed(names, metrics))

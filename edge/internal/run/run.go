@@ -11,6 +11,7 @@ import (
 	"os"
 	"os/exec"
 	"sync"
+	"time"
 
 	"golang.org/x/sys/unix"
 
@@ -113,6 +114,7 @@ type outcomes struct {
 	written error // to the target
 	status  int   // of the program
 	ended   error // how the program ended, where it gave no status
+	left    bool  // whether the inputs are still being read
 }
 
 func (r *running) run(ctx context.Context) error {
@@ -172,28 +174,15 @@ func (r *running) start(reading, running context.Context, stop func()) (outcomes
 	ended := cmd.Wait()
 	select {
 	case result.fed = <-fed:
-	default: // the program ended before its input did
-		result.fed = <-r.abandoned(fed)
+	case <-time.After(grace):
+		result.left = true // it waits for somebody who writes, and the program takes nothing more
 	}
 	result.status, result.ended = statusOf(cmd, ended)
 	return result, nil
 }
 
-// abandoned is what fed gives, where it doesn't wait for somebody who writes: the program is gone, and takes nothing more.
-func (r *running) abandoned(fed chan error) chan error {
-	for _, input := range r.inputs {
-		if input.Size() < 0 {
-			return done
-		}
-	}
-	if len(r.inputs) == 0 {
-		return done
-	}
-	return fed
-}
-
-// done gives nothing, at once.
-var done = func() chan error { it := make(chan error); close(it); return it }()
+// grace is how long the inputs are waited for once the program has ended.
+const grace = time.Second / 4
 
 // pipes connects a command with three pipes. Without input it reads nothing.
 func pipes(cmd *exec.Cmd, input bool) (in, out, said *os.File, err error) {
