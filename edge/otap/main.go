@@ -43,6 +43,9 @@ func otap(args []string) int {
 		return command.OK
 	}
 	status, text := command.StatusOf(err)
+	if ctx.Err() != nil {
+		status, text = command.Interrupted, "interrupted"
+	}
 	if text != "" {
 		env.Say("%s", text)
 	}

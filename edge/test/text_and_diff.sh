@@ -188,6 +188,20 @@ for _ in 1 2; do
 done
 exec {piped[1]}>&-
 wait "$piped_PID" || { echo "wrong: the end of a pipe"; failed=1; }
+coproc stopped { exec "$otap" --otap-cli "$program" text logs --from capture 2>err; }
+pid=$stopped_PID
+printf '\0\0\0\0\2\x0a\0' >&"${stopped[1]}"
+read -r -t 60 line <&"${stopped[0]}"
+kill -TERM "$pid"
+timeout 60 tail --pid="$pid" -f /dev/null || kill -KILL "$pid"
+wait "$pid"
+status=$?
+echo "$line" >out
+want "interrupted while it waits for more" 130 <<'END'
+{"resourceLogs":[{}]}
+--
+otap: interrupted
+END
 for _ in $(seq 1 20); do cat "$cases/tidy-logs/realistic.capture"; done >long
 "$otap" text logs --from capture long 2>err | head -c 1 >out
 status=${PIPESTATUS[0]}

@@ -82,6 +82,9 @@ func Open(ctx context.Context, name string, options Options) (*Source, error) {
 		s.size = what.Size()
 	}
 	var raw io.Reader = &counted{source: s}
+	if !what.Mode().IsRegular() {
+		raw = newWaiting(ctx, raw)
+	}
 	if s.follow {
 		raw = &growing{ctx: ctx, source: s}
 	}
