@@ -1,10 +1,10 @@
 """Requests for the tests and for the picture in the README, made anew each time and always the same.
 
-    telemetry.py SIGNAL REQUESTS [RESETS] [ITEMS]  > requests.capture
+    telemetry.py SIGNAL REQUESTS [RESETS] [MOST]  > requests.capture
 
 A service grows: the routes, users and hosts in the attributes become more, an attribute comes up after some requests,
-and requests have between 10 and 400 items (or ITEMS, where that is given). With RESETS above 0 a reset comes after each
-so many requests. Bytes are written by the field numbers of OTLP; nothing of this repository takes part.
+and requests have between 10 and 400 items (or between 1 and MOST, where that is given). With RESETS above 0 a reset comes
+after each so many requests. Bytes are written by the field numbers of OTLP; nothing of this repository takes part.
 """
 
 import sys
@@ -97,19 +97,19 @@ def metric(request, k):
 ITEMS = {"traces": span, "logs": log, "metrics": metric}
 
 
-def request(signal, r, items=None):
-    count = items or 10 + mixed(r) % 391
+def request(signal, r, most=None):
+    count = 1 + mixed(r) % most if most else 10 + mixed(r) % 391
     resource = part(1, text(1, "service.name", "shop-%d" % (r % 3)) + text(1, "host.name", "node-%d" % (r % (4 + r))))
     scope = part(1, part(1, b"io.example.http") + part(2, b"1.4.%d" % (r // 10)))
     return part(1, resource + part(2, scope + b"".join(part(2, ITEMS[signal](r, k)) for k in range(count))))
 
 
-def capture(signal, requests, resets=0, items=None):
+def capture(signal, requests, resets=0, most=None):
     """The frames of the requests, one by one."""
     for r in range(requests):
         if resets and r and r % resets == 0:
             yield RESET
-        yield frame(request(signal, r, items))
+        yield frame(request(signal, r, most))
 
 
 if __name__ == "__main__":
