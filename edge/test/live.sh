@@ -8,8 +8,8 @@
 # is no apt-get, the tests that need it are left out, and say so.
 #
 # PROGRAM is the proved program, crates/otap_cli/out/otap_cli. What it makes on the command line is what the bridges have
-# to make, and it is their child too. The words that follow go to the tests, as -test.run Codes. `edge/build` has built
-# edge/out/otap before. Environment: OTAP, another build of the command.
+# to make, and it is their child too. The words that follow go to the tests, as -test.run Codes. edge/out/otap
+# is built where it isn't there. Environment: OTAP, another build of the command.
 set -eu
 cd "$(dirname "$0")/../.."
 
@@ -42,6 +42,7 @@ fi
 PROGRAM=$(realpath "${1:?edge/test/live.sh wants the proved program}")
 shift
 OTAP=$(realpath "${OTAP:-edge/out/otap}")
+[ -x "$OTAP" ] || edge/build --program "$PROGRAM"
 export PROGRAM OTAP OTAP_CLI="$PROGRAM"
 tests="$PWD/edge/out/live_test"
 edge/build --go test -c -o "$tests" finavoluth/edge/test/live

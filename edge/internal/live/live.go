@@ -95,9 +95,10 @@ func begin(o Options) (*edge, error) {
 }
 
 // boundMemory has the garbage collector keep this process's part of the memory that the window allows: half of what a
-// message costs is its child's.
+// message costs is its child's. Below that, it may wait until four times as much is dead as lives.
 func boundMemory(windowBytes int64) {
 	debug.SetMemoryLimit(32<<20 + 3*windowBytes)
+	debug.SetGCPercent(400)
 }
 
 func (e *edge) limits() wire.Limits {

@@ -77,6 +77,8 @@ func (r *relay) pass(c net.Conn) {
 type backend struct {
 	server  *grpc.Server
 	address string
+	// forget has it keep nothing.
+	forget bool
 	// before is called before a request is answered, with how many came before it; an error is the answer.
 	before func(n int, request []byte) error
 
@@ -141,8 +143,10 @@ func (b *backend) serve(_ interface{}, call grpc.ServerStream) error {
 		}
 	}
 	b.mu.Lock()
-	b.kept[string(request)]++
-	b.order = append(b.order, request)
+	if !b.forget {
+		b.kept[string(request)]++
+		b.order = append(b.order, request)
+	}
 	b.tell()
 	b.mu.Unlock()
 	none := []byte{}

@@ -77,7 +77,7 @@ func startProcess(t *testing.T, name string, cmd *exec.Cmd) *process {
 			cmd.Process.Kill()
 			<-p.done
 		}
-		if t.Failed() {
+		if t.Failed() && os.Getenv("NUMBERS") == "" {
 			t.Logf("the log of %s:\n%s", name, strings.Join(p.log(), "\n"))
 		}
 	})
@@ -167,6 +167,9 @@ func (p *process) term() {
 	p.ended()
 	if p.err != nil {
 		p.t.Errorf("%s ended with %v", p.name, p.err)
+	}
+	if p.count("some calls were ended before they were answered") > 0 {
+		p.t.Errorf("%s didn't end in order", p.name)
 	}
 }
 

@@ -28,6 +28,8 @@ type owner struct {
 const (
 	firstPause = 100 * time.Millisecond
 	lastPause  = 5 * time.Second
+	// farewell is how long a stream may take to end in order when the near end stops.
+	farewell = 2 * time.Second
 )
 
 // run opens a stream whenever there is none, until the context ends.
@@ -92,10 +94,17 @@ type heard struct {
 	err    error
 }
 
-// live opens a stream and serves it to its end. No error is where it was replaced in order.
-func (o *owner) live(ctx context.Context) (answered bool, err error) {
-	ctx, cancel := context.WithCancel(ctx)
+// live opens a stream and serves it to its end. No error is where it was replaced in order, or the near end stops.
+func (o *owner) live(stop context.Context) (answered bool, err error) {
+	ctx, cancel := context.WithCancel(context.Background())
 	defer cancel()
+	go func() {
+		select {
+		case <-stop.Done():
+			time.AfterFunc(farewell, cancel)
+		case <-ctx.Done():
+		}
+	}()
 	s := o.pool.signal.String()
 	child, err := o.config.Start(ctx, o.pool.signal)
 	if err != nil {
@@ -113,7 +122,7 @@ func (o *owner) live(ctx context.Context) (answered bool, err error) {
 	o.config.Metrics.Add("otap_streams_started_total", 1, s)
 	o.config.Log.Info("stream open", "signal", s, "stream", o.number)
 	o.pool.opened(o.config, 1)
-	err = l.serve(ctx)
+	err = l.serve(stop)
 	o.pool.opened(o.config, -1)
 	o.config.Metrics.Add("otap_streams_ended_total", 1, s, status.Code(err).String())
 	for _, r := range l.open {
@@ -142,7 +151,7 @@ func (l *life) listen(ctx context.Context) {
 	}
 }
 
-func (l *life) serve(ctx context.Context) error {
+func (l *life) serve(stop context.Context) error {
 	var lived <-chan time.Time
 	if l.config.Lifetime > 0 {
 		timer := time.NewTimer(l.config.Lifetime)
@@ -182,8 +191,11 @@ func (l *life) serve(ctx context.Context) error {
 				return fmt.Errorf("no status for %d batches within %v", len(l.open), l.config.Timeout)
 			}
 			silent.Reset(l.config.Timeout)
-		case <-ctx.Done():
-			return ctx.Err()
+		case <-stop.Done():
+			if len(l.open) > 0 {
+				return errors.New("the near end stops")
+			}
+			l.leave()
 		}
 	}
 }
