@@ -111,7 +111,9 @@ class Facts:
             if match := re.match(r'payload (\d+) schema ".*"( goes on)?$', line):
                 found.append((int(match[1]), None if match[2] else {}))
             else:
-                name, kind = re.match(r"field (.*) ((?:list|struct|fixed \d+|\w+)(?: dict u\d+)?)$", line).groups()
+                types = r"(?:list|struct|fixed \d+|\w+)"
+                match = re.match(r"field (.*) (%s dict u\d+)$" % types, line) or re.match(r"field (.*) (%s)$" % types, line)
+                name, kind = match.groups()
                 columns = found[-1][1]
                 if kind != "struct" and not (name.endswith(".item") and name[:-5] in columns):
                     columns[name] = kind
