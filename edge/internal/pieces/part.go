@@ -81,6 +81,9 @@ func Run(ctx context.Context, program *child.Program, piece string, words []stri
 // runInto writes the members of a result: what the job puts out goes to the file as it comes, and its length into the
 // head before it once it is known.
 func runInto(ctx context.Context, program *child.Program, input, target *os.File, words []string) (int, error) {
+	if err := target.Truncate(block); err != nil {
+		return 0, err
+	}
 	if _, err := target.Seek(block, io.SeekStart); err != nil {
 		return 0, err
 	}
