@@ -211,7 +211,7 @@ func TestEachChange(t *testing.T) {
 		differ, same := map[string]int{}, map[string]int{}
 		for seed := int64(0); seed < 200; seed++ {
 			request := samples.Request(s, seed)
-			if len(otlp.Write(request)) > 2000 {
+			if len(otlp.Write(request)) > 1200 {
 				continue // each change is made in a copy of the request
 			}
 			before := told(t, s, request)

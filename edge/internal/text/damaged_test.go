@@ -36,12 +36,12 @@ func TestDamagedJSON(t *testing.T) {
 	r := rand.New(rand.NewSource(11))
 	read := 0
 	for _, s := range signal.All() {
-		for seed := int64(0); seed < 60; seed++ {
+		for seed := int64(0); seed < 40; seed++ {
 			line, err := Write(s, otlp.Write(samples.Request(s, seed)), seed%2 == 0)
 			if err != nil {
 				t.Fatal(err)
 			}
-			for i := 0; i < 20; i++ {
+			for i := 0; i < 15; i++ {
 				damaged := damage(r, line, []byte("{}[]\",:0123456789.eE+-\\ntrufalse Nai\x00\xff"))
 				request, _, err := Read(s, damaged)
 				if err != nil {
@@ -70,9 +70,9 @@ func TestDamagedProtobuf(t *testing.T) {
 	r := rand.New(rand.NewSource(12))
 	read := 0
 	for _, s := range signal.All() {
-		for seed := int64(0); seed < 60; seed++ {
+		for seed := int64(0); seed < 40; seed++ {
 			request := otlp.Write(samples.Request(s, seed))
-			for i := 0; i < 20; i++ {
+			for i := 0; i < 15; i++ {
 				damaged := damage(r, request, []byte{0, 1, 2, 8, 0x0a, 0x12, 0x1a, 0x7f, 0x80, 0xff, 0x0b, 0x0c})
 				message, err := otlp.Read(s, damaged)
 				var count fields.Count

@@ -80,7 +80,7 @@ func eachSignal(t *testing.T, code string, test func(t *testing.T, code string, 
 func TestGooglesRequests(t *testing.T) {
 	eachSignal(t, pythonCode(t), func(t *testing.T, code string, s signal.Signal) {
 		set := map[protoreflect.FullName]bool{}
-		for i, line := range run(t, nil, "make", code, "17", "120", s.String()) {
+		for i, line := range run(t, nil, "make", code, "17", "80", s.String()) {
 			hexed, text, _ := strings.Cut(line, " ")
 			request, err := hex.DecodeString(hexed)
 			if err != nil {
@@ -112,7 +112,7 @@ func TestGoogleReads(t *testing.T) {
 	eachSignal(t, pythonCode(t), func(t *testing.T, code string, s signal.Signal) {
 		var lines bytes.Buffer
 		var want []string
-		for seed := int64(0); seed < 100; seed++ {
+		for seed := int64(0); seed < 60; seed++ {
 			request := otlp.Write(samples.Request(s, seed))
 			line, err := Write(s, request, false)
 			if err != nil {
