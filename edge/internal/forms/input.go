@@ -41,6 +41,10 @@ type Opened struct {
 // Taken is how many bytes of the file were read; another goroutine may ask.
 func (o *Opened) Taken() int64 { return o.source.Taken() }
 
+// File is the file itself at the begin of its content, or nil where it can't be read by another process as it is. It is asked
+// for before anything is read.
+func (o *Opened) File() (*os.File, error) { return o.source.File() }
+
 // Close closes the file.
 func (o *Opened) Close() error { return o.source.Close() }
 
@@ -81,6 +85,9 @@ func (i *Input) Open(ctx context.Context) (*Opened, error) {
 	}
 	return openSource(ctx, i.file, i.options)
 }
+
+// Again says whether the input can be opened more than once.
+func (i *Input) Again() bool { return i.open == nil }
 
 // IsFile says whether the input is the file of which this is known.
 func (i *Input) IsFile(other os.FileInfo) bool { return os.SameFile(i.is, other) }

@@ -42,7 +42,7 @@ func newLister(ctx context.Context, r *running) (*lister, error) {
 		return l, nil
 	}
 	l.cmd = r.program.Command(ctx, "list")
-	in, out, said, err := pipes(l.cmd, true)
+	in, out, said, err := pipes(l.cmd, nil)
 	if err != nil {
 		return nil, &command.Exit{Status: command.Broken, Err: err}
 	}

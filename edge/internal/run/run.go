@@ -140,14 +140,21 @@ func (r *running) run(ctx context.Context) error {
 // start runs the program, and waits for its end.
 func (r *running) start(reading, running context.Context, stop func()) (outcomes, error) {
 	cmd := r.program.Command(running, r.plan.Words...)
-	in, out, said, err := pipes(cmd, r.plan.Job.Takes != jobs.Nothing)
+	handed, err := r.handOver(reading)
+	if err != nil {
+		return outcomes{}, err
+	}
+	in, out, said, err := pipes(cmd, handed)
 	if err != nil {
 		return outcomes{}, &command.Exit{Status: command.Broken, Err: err}
 	}
 	if err := cmd.Start(); err != nil {
 		return outcomes{}, command.Fail(command.Broken, "starting the program (%s): %w", r.program, source.Reason(err))
 	}
-	closeAll(cmd.Stdin, cmd.Stdout, cmd.Stderr)
+	if handed == nil {
+		closeAll(cmd.Stdin)
+	}
+	closeAll(cmd.Stdout, cmd.Stderr)
 	shown := r.progress(running)
 	defer shown()
 
@@ -166,6 +173,10 @@ func (r *running) start(reading, running context.Context, stop func()) (outcomes
 	}()
 	fed := make(chan error, 1)
 	go func() {
+		if handed != nil {
+			fed <- nil
+			return
+		}
 		err := r.feed(reading, running, in)
 		fed <- err
 		in.Close()
@@ -178,25 +189,58 @@ func (r *running) start(reading, running context.Context, stop func()) (outcomes
 		result.left = true // it waits for somebody who writes, and the program takes nothing more
 	}
 	result.status, result.ended = statusOf(cmd, ended)
+	if handed != nil && result.status == command.ReadFailed {
+		_, result.fed = io.Copy(io.Discard, handed) // the read that failed, once more, for the system's reason
+	}
 	return result, nil
+}
+
+// handOver is the input's file, where the program can read it as it is: bytes that are only passed on needn't pass through
+// here.
+func (r *running) handOver(reading context.Context) (*os.File, error) {
+	if !r.passesOn() {
+		return nil, nil
+	}
+	opened, err := r.open(reading, r.inputs[0])
+	if err != nil {
+		return nil, Failed(err)
+	}
+	file, err := opened.File()
+	if err != nil {
+		return nil, Failed(err)
+	}
+	if file == nil && !r.inputs[0].Again() {
+		return nil, nil // it stays open, and is fed
+	}
+	if file == nil {
+		return nil, opened.Close()
+	}
+	return file, nil
 }
 
 // grace is how long the inputs are waited for once the program has ended.
 const grace = time.Second / 4
 
-// pipes connects a command with three pipes. Without input it reads nothing.
-func pipes(cmd *exec.Cmd, input bool) (in, out, said *os.File, err error) {
+// pipes connects a command with three pipes, or with two where a file is its standard input. Without input nothing comes on
+// the first.
+func pipes(cmd *exec.Cmd, input *os.File) (in, out, said *os.File, err error) {
 	var ends [3][2]*os.File
 	for i := range ends {
+		if i == 0 && input != nil {
+			continue
+		}
 		if ends[i][0], ends[i][1], err = os.Pipe(); err != nil {
 			return nil, nil, nil, source.Reason(err)
 		}
-	}
-	for _, pair := range ends[:2] {
-		// A larger pipe saves turns between the processes; where the system allows none, the usual one does.
-		_, _ = unix.FcntlInt(pair[1].Fd(), unix.F_SETPIPE_SZ, 1<<20)
+		if i < 2 {
+			// A larger pipe saves turns between the processes; where the system allows none, the usual one does.
+			_, _ = unix.FcntlInt(ends[i][1].Fd(), unix.F_SETPIPE_SZ, 1<<20)
+		}
 	}
 	cmd.Stdin, cmd.Stdout, cmd.Stderr = ends[0][0], ends[1][1], ends[2][1]
+	if input != nil {
+		cmd.Stdin = input
+	}
 	return ends[0][1], ends[1][0], ends[2][0], nil
 }
 

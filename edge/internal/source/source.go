@@ -47,6 +47,7 @@ type Source struct {
 	file    *os.File
 	info    os.FileInfo
 	size    int64 // of the file, or -1 where it isn't known
+	begin   int64 // where in the file the content begins, where the size is known
 	taken   int64 // bytes of the file that were read; atomic
 	content *bufio.Reader
 	packing Packing
@@ -80,6 +81,10 @@ func Open(ctx context.Context, name string, options Options) (*Source, error) {
 	s.info = what
 	if what.Mode().IsRegular() && !s.follow {
 		s.size = what.Size()
+		if s.begin, err = s.file.Seek(0, io.SeekCurrent); err != nil {
+			s.Close()
+			return nil, fmt.Errorf("reading %s: %w", s.name, Reason(err))
+		}
 	}
 	var raw io.Reader = &counted{source: s}
 	if !what.Mode().IsRegular() {
@@ -137,6 +142,18 @@ func (s *Source) Taken() int64 { return atomic.LoadInt64(&s.taken) }
 
 // Regular says whether the content can be looked at without waiting for somebody who writes it.
 func (s *Source) Regular() bool { return s.size >= 0 }
+
+// File is the file at the begin of its content, to be read by a process as it is: nil where that isn't possible. Nothing is
+// read by Read afterwards.
+func (s *Source) File() (*os.File, error) {
+	if !s.Regular() || s.packing != Plain {
+		return nil, nil
+	}
+	if _, err := s.file.Seek(s.begin, io.SeekStart); err != nil {
+		return nil, s.failed(err)
+	}
+	return s.file, nil
+}
 
 // Read reads the content, unpacked.
 func (s *Source) Read(room []byte) (int, error) { return s.content.Read(room) }
