@@ -8,6 +8,7 @@ import (
 	"finavoluth/edge/internal/command"
 	"finavoluth/edge/internal/diff"
 	"finavoluth/edge/internal/run"
+	"finavoluth/edge/internal/source"
 )
 
 // diffCommand compares the telemetry of two inputs.
@@ -36,6 +37,9 @@ they differ; the first differences are printed with their paths, which are those
 		}
 		if len(files) != 2 {
 			return command.Misuse("diff wants two files after the signal, A and B")
+		}
+		if files[0] == source.Stdin && files[1] == source.Stdin {
+			return command.Misuse("there is one standard input: A and B can't both be -")
 		}
 		inputs, err := reading.inspect(cmd.Context(), env, files)
 		if err != nil {

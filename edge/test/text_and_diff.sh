@@ -224,6 +224,11 @@ want "one file" 2 <<'END'
 --
 otap: diff wants two files after the signal, A and B
 END
+otap diff logs - -
+want "standard input twice" 2 <<'END'
+--
+otap: there is one standard input: A and B can't both be -
+END
 otap diff span span
 want "no signal" 2 <<'END'
 --
