@@ -12,6 +12,7 @@ import (
 	"finavoluth/edge/internal/forms"
 	"finavoluth/edge/internal/jobs"
 	"finavoluth/edge/internal/run"
+	"finavoluth/edge/internal/signal"
 )
 
 // jobCommand is the subcommand of one of the program's jobs.
@@ -106,6 +107,14 @@ func fill(plan *run.Plan, cmd *cobra.Command, args []string, from, to string) er
 		plan.Words = append(plan.Words, args[0])
 		return nil
 	}
+	if !plan.Job.Signal && len(args) > 0 {
+		if _, err := signal.Parse(args[0]); err == nil && !exists(args[0]) {
+			return command.Misuse("%s takes no signal, but files alone", plan.Job.Name)
+		}
+	}
+	if plan.Indent && to != forms.JSON.String() {
+		return command.Misuse("--indent goes with --to json")
+	}
 	plan.Files = args
 	if plan.Follow && (len(args) != 1 || args[0] == "-") {
 		return command.Misuse("--follow wants one FILE")
@@ -119,6 +128,11 @@ func fill(plan *run.Plan, cmd *cobra.Command, args []string, from, to string) er
 	}
 	plan.To, err = form(to, "--to")
 	return err
+}
+
+func exists(file string) bool {
+	_, err := os.Stat(file)
+	return err == nil
 }
 
 func form(word, flag string) (forms.Form, error) {

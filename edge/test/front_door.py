@@ -334,6 +334,8 @@ class WrongUses(Room):
             (("selfrun", "logs"), 2, "selfrun wants one number of requests after the signal, 1 to 1000"),
             (("selfrun", "logs", "1001"), 2, "selfrun wants one number of requests after the signal, 1 to 1000"),
             (("diff", "logs", "x.json"), 2, "diff wants two files after the signal, A and B"),
+            (("list", "logs", "x.json"), 2, "list takes no signal, but files alone"),
+            (("decode", "logs", "--indent", "x.json"), 2, "--indent goes with --to json"),
             (("encode", "logs", "--follow"), 2, "--follow wants one FILE"),
             (("list", "nothing"), 3, "reading nothing: no such file or directory"),
             (("list", "."), 3, "reading .: is a directory"),

@@ -86,8 +86,8 @@ func (i *Input) Open(ctx context.Context) (*Opened, error) {
 	return openSource(ctx, i.file, i.options)
 }
 
-// Again says whether the input can be opened more than once.
-func (i *Input) Again() bool { return i.open == nil }
+// IsPlainFile says whether the input is a file that isn't packed, and that doesn't grow.
+func (i *Input) IsPlainFile() bool { return i.size >= 0 && i.packing == source.Plain }
 
 // IsFile says whether the input is the file of which this is known.
 func (i *Input) IsFile(other os.FileInfo) bool { return os.SameFile(i.is, other) }

@@ -137,60 +137,73 @@ func (r *running) run(ctx context.Context) error {
 	return r.conclude(ctx, result)
 }
 
+// A process is the program as it runs.
+type process struct {
+	cmd           *exec.Cmd
+	in, out, said *os.File
+	handed        *os.File // the input's file, where the program reads it itself; then nothing goes to `in`
+}
+
+// launch starts the program.
+func (r *running) launch(reading, running context.Context) (*process, error) {
+	p := &process{cmd: r.program.Command(running, r.plan.Words...)}
+	var err error
+	if p.handed, err = r.handOver(reading); err != nil {
+		return nil, err
+	}
+	if p.in, p.out, p.said, err = pipes(p.cmd, p.handed); err != nil {
+		return nil, &command.Exit{Status: command.Broken, Err: err}
+	}
+	if err := p.cmd.Start(); err != nil {
+		return nil, command.Fail(command.Broken, "starting the program (%s): %w", r.program, source.Reason(err))
+	}
+	if p.handed == nil {
+		closeAll(p.cmd.Stdin)
+	}
+	closeAll(p.cmd.Stdout, p.cmd.Stderr)
+	return p, nil
+}
+
 // start runs the program, and waits for its end.
 func (r *running) start(reading, running context.Context, stop func()) (outcomes, error) {
-	cmd := r.program.Command(running, r.plan.Words...)
-	handed, err := r.handOver(reading)
+	p, err := r.launch(reading, running)
 	if err != nil {
 		return outcomes{}, err
 	}
-	in, out, said, err := pipes(cmd, handed)
-	if err != nil {
-		return outcomes{}, &command.Exit{Status: command.Broken, Err: err}
-	}
-	if err := cmd.Start(); err != nil {
-		return outcomes{}, command.Fail(command.Broken, "starting the program (%s): %w", r.program, source.Reason(err))
-	}
-	if handed == nil {
-		closeAll(cmd.Stdin)
-	}
-	closeAll(cmd.Stdout, cmd.Stderr)
-	shown := r.progress(running)
-	defer shown()
+	defer r.progress(running)()
 
 	var result outcomes
 	var taken sync.WaitGroup
 	taken.Add(2)
 	go func() {
 		defer taken.Done()
-		if result.written = r.drain(out); result.written != nil {
+		if result.written = r.drain(p.out); result.written != nil {
 			stop()
 		}
 	}()
 	go func() {
 		defer taken.Done()
-		r.hear(said)
+		r.hear(p.said)
 	}()
 	fed := make(chan error, 1)
-	go func() {
-		if handed != nil {
-			fed <- nil
-			return
-		}
-		err := r.feed(reading, running, in)
-		fed <- err
-		in.Close()
-	}()
+	if p.handed != nil {
+		fed <- nil
+	} else {
+		go func() {
+			fed <- r.feed(reading, running, p.in)
+			p.in.Close()
+		}()
+	}
 	taken.Wait()
-	ended := cmd.Wait()
+	ended := p.cmd.Wait()
 	select {
 	case result.fed = <-fed:
 	case <-time.After(grace):
 		result.left = true // it waits for somebody who writes, and the program takes nothing more
 	}
-	result.status, result.ended = statusOf(cmd, ended)
-	if handed != nil && result.status == command.ReadFailed {
-		_, result.fed = io.Copy(io.Discard, handed) // the read that failed, once more, for the system's reason
+	result.status, result.ended = statusOf(p.cmd, ended)
+	if p.handed != nil && result.status == command.ReadFailed {
+		_, result.fed = io.Copy(io.Discard, p.handed) // the read that failed, once more, for the system's reason
 	}
 	return result, nil
 }
@@ -198,7 +211,7 @@ func (r *running) start(reading, running context.Context, stop func()) (outcomes
 // handOver is the input's file, where the program can read it as it is: bytes that are only passed on needn't pass through
 // here.
 func (r *running) handOver(reading context.Context) (*os.File, error) {
-	if !r.passesOn() {
+	if !r.passesOn() || !r.inputs[0].IsPlainFile() {
 		return nil, nil
 	}
 	opened, err := r.open(reading, r.inputs[0])
@@ -208,12 +221,6 @@ func (r *running) handOver(reading context.Context) (*os.File, error) {
 	file, err := opened.File()
 	if err != nil {
 		return nil, Failed(err)
-	}
-	if file == nil && !r.inputs[0].Again() {
-		return nil, nil // it stays open, and is fed
-	}
-	if file == nil {
-		return nil, opened.Close()
 	}
 	return file, nil
 }
