@@ -111,7 +111,7 @@ class Facts:
             if match := re.match(r'payload (\d+) schema ".*"( goes on)?$', line):
                 found.append((int(match[1]), None if match[2] else {}))
             else:
-                types = r"(?:list|struct|fixed \d+|\w+)"
+                types = r"(?:bool|[ui]\d+|f64|utf8|binary|fixed \d+|timestamp|duration|struct|list)"
                 match = re.match(r"field (.*) (%s dict u\d+)$" % types, line) or re.match(r"field (.*) (%s)$" % types, line)
                 name, kind = match.groups()
                 columns = found[-1][1]

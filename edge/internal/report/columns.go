@@ -7,8 +7,11 @@ import (
 	"strings"
 )
 
-// maxStrips is how many columns the first chart shows.
-const maxStrips = 160
+// How many columns the first chart shows at most, and how many marks: beyond these no further column is drawn.
+const (
+	maxStrips = 160
+	maxMarks  = 12000
+)
 
 // cell is the form of a column in one bin: its type, whether the table has rows there, and what class that is drawn in.
 type cell struct{ class, text string }
@@ -76,10 +79,9 @@ func (f *facts) columnsFigure(tables names) figure {
 		Table: table{Head: []string{"Table", "Column", "Changes", "Forms, by the frame in which each is first seen"}},
 	}
 	all := f.shown()
-	columns := all
-	if len(columns) > maxStrips {
-		columns = columns[:maxStrips]
-		g.Lead += fmt.Sprintf(" Of %d columns the first %d are shown.", len(all), maxStrips)
+	columns := all[:f.fits(all)]
+	if len(columns) < len(all) {
+		g.Lead += fmt.Sprintf(" Of %d columns the first %d are shown.", len(all), len(columns))
 	}
 	if len(columns) == 0 {
 		return g
@@ -112,6 +114,25 @@ func (f *facts) columnsFigure(tables names) figure {
 	return g
 }
 
+// fits is how many of the columns are drawn.
+func (f *facts) fits(columns []column) int {
+	marks := 0
+	for n, c := range columns {
+		var before cell
+		for _, now := range f.cells(c) {
+			if now != before && now != noTable {
+				marks++
+			}
+			before = now
+		}
+		marks += len(f.columns[c].at)
+		if n == maxStrips || n > 0 && marks > maxMarks {
+			return n
+		}
+	}
+	return len(columns)
+}
+
 // strip draws one column, runs of bins with one form as one rect, and writes its row of the table.
 func (f *facts) strip(g *figure, a across, y coord, c column, tables names, areas map[string]*area, changes *area) {
 	s := f.columns[c]
@@ -134,7 +155,7 @@ func (f *facts) strip(g *figure, a across, y coord, c column, tables names, area
 		if now := cells[i]; now != noTable {
 			run := bin{first: f.bins[i].first, last: f.bins[end-1].last}
 			areas[now.class].Rects = append(areas[now.class].Rects,
-				rect{a.x(i), y + 1, a.x(end-1) + a.width - a.x(i), 12, fmt.Sprintf("%s, %s: %s", full, run.name(), now.text)})
+				rect{a.x(i), y + 1, a.x(end-1) + a.width - a.x(i), 12, fmt.Sprintf("%s, %s: %s", c.name, run.name(), now.text)})
 			if len(forms) < 6 {
 				forms = append(forms, fmt.Sprintf("%d: %s", run.first, now.text))
 			} else if len(forms) == 6 {
@@ -150,7 +171,7 @@ func (f *facts) strip(g *figure, a across, y coord, c column, tables names, area
 	sort.Ints(bins)
 	for _, i := range bins {
 		changes.Rects = append(changes.Rects, rect{a.x(i) - 0.5, y, 3, 14,
-			fmt.Sprintf("%s, %s: changes %d", full, f.bins[i].name(), s.at[i])})
+			fmt.Sprintf("%s, %s: changes %d", c.name, f.bins[i].name(), s.at[i])})
 	}
 	g.Table.Rows = append(g.Table.Rows, []string{strconv.Itoa(c.table) + " " + tables[c.table], c.name, whole(s.changes), strings.Join(forms, "; ")})
 }
