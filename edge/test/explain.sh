@@ -55,7 +55,7 @@ printf '\0\0\0\0\1\x08' >"$room/cut"
 cat ../logs.capture "$room/cut" ../logs.capture >"$room/joined"
 says 1 logs "$room/joined" <<'W'
 frame 4: batch - refused: stage 1 BadMessage payload -
-  means: a wire error, or a known field with another wire type
+  means: the bytes break protobuf's wire format, or a known field has another wire type
   where: the message has 1 bytes: 08
 frame 5: batch 0 refused: stage 0 Broken payload -
   means: a frame since the latest reset was refused
@@ -70,7 +70,7 @@ printf '\0\0\0\0\2\x0a\x05' >"$room/request"
 cat tidy-logs/realistic.capture "$room/request" >"$room/requests"
 says 1 logs "$room/requests" <<'W'
 frame 4: request refused: BadMessage
-  means: a wire error, or a known field with another wire type
+  means: the bytes break protobuf's wire format, or a known field has another wire type
 otap: 1 of 5 frames of requests are refused
 W
 

@@ -21,7 +21,7 @@ func (f *facts) bytesFigure(tables names) figure {
 		Title:  "What each batch weighs, by payload type",
 		Height: 330,
 		Lead: "Bytes of the records of each payload type, one upon the other, and of what else the message holds. " +
-			"The dark line is the same telemetry as OTLP. A number above a bar says how many sub-streams open there.",
+			"A line across a bar is the same telemetry as OTLP, and a number above it says how many sub-streams open there.",
 		Empty: "The capture has no batch.",
 	}
 	if f.width > 1 {
