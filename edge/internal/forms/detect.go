@@ -180,7 +180,7 @@ func lookJSON(b []byte, end bool) Look {
 			return look
 		case errors.Is(err, io.ErrUnexpectedEOF):
 			look.Ending, look.Reason = open(end, 1, -1), "half a value"
-			if rest := bytes.TrimSpace(b[look.Offset:]); rest[0] != '{' {
+			if rest := bytes.TrimSpace(b[look.Offset:]); len(rest) == 0 || rest[0] != '{' {
 				look.Ending, look.Reason = Broken, "no object"
 			}
 			return look
