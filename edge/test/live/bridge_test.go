@@ -26,7 +26,7 @@ func newBridge(t *testing.T, b *backend, nearArgs, farArgs []string) *bridge {
 	t.Helper()
 	x := &bridge{t: t, relay: newRelay(t), backend: b, farArgs: farArgs, windows: windowBytes}
 	x.startFar()
-	near := append([]string{"near", "--listen", "127.0.0.1:0", "--to", x.relay.address()}, smallWindow...)
+	near := append([]string{"near", "--listen", "127.0.0.1:0", "--to", x.relay.address(), "--timeout", "55s"}, smallWindow...)
 	x.near = start(t, append(near, nearArgs...)...)
 	x.near.at("grpc")
 	return x
@@ -34,7 +34,7 @@ func newBridge(t *testing.T, b *backend, nearArgs, farArgs []string) *bridge {
 
 func (x *bridge) startFar() {
 	x.t.Helper()
-	args := append([]string{"far", "--listen", "127.0.0.1:0", "--to", x.backend.address}, smallWindow...)
+	args := append([]string{"far", "--listen", "127.0.0.1:0", "--to", x.backend.address, "--timeout", "50s"}, smallWindow...)
 	x.far = start(x.t, append(args, x.farArgs...)...)
 	x.relay.to(x.far.at("grpc"))
 }

@@ -57,6 +57,9 @@ func TestStatuses(t *testing.T) {
 			}
 			for _, segment := range segments(t, data) {
 				expected := frames(t, ask(t, captured(segment...), "status", s.String()))
+				if len(expected) != len(segment) {
+					t.Fatalf("%s: the program writes %d statuses for %d messages", file, len(expected), len(segment))
+				}
 				stream := arrow(t, conn, s)
 				for i, batch := range segment {
 					stream.SendMsg(&batch)

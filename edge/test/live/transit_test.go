@@ -47,8 +47,13 @@ type client func(t *testing.T, address string, s signal.Signal, requests [][]byt
 func byGo(options ...grpc.CallOption) client {
 	return func(t *testing.T, address string, s signal.Signal, requests [][]byte) (answers []codes.Code) {
 		conn := connect(t, address)
-		for _, r := range requests {
-			answers = append(answers, status.Code(export(context.Background(), conn, s, r, options...)))
+		for i, r := range requests {
+			err := export(context.Background(), conn, s, r, options...)
+			code := status.Code(err)
+			if code != codes.OK && code != codes.InvalidArgument && code != codes.ResourceExhausted {
+				t.Errorf("%s %d: %v", s, i, err)
+			}
+			answers = append(answers, code)
 		}
 		return answers
 	}

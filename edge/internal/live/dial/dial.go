@@ -33,8 +33,10 @@ const (
 	longestAnswer = 1 << 20
 	connectFirst  = 200 * time.Millisecond
 	connectMost   = 5 * time.Second
-	pingAfter     = 30 * time.Second
-	pingTimeout   = 10 * time.Second
+	// pingAfter is longer than the five minutes below which servers of grpc-go, as they come, end a connection for its
+	// pings. A next hop that falls silent is noticed sooner, by what isn't answered.
+	pingAfter   = 5*time.Minute + 30*time.Second
+	pingTimeout = 20 * time.Second
 )
 
 // Connect makes a connection, which is opened when it is first used and again whenever it breaks.

@@ -59,7 +59,9 @@ func Extract(ctx context.Context, o Options) (*Report, error) {
 	if err != nil {
 		return nil, fmt.Errorf("start tshark: %w", err)
 	}
-	if err := cmd.Start(); err != nil {
+	if err := cmd.Start(); errors.Is(err, exec.ErrNotFound) {
+		return nil, errors.New("this takes tshark, which isn't on the path; Debian's package for it is tshark")
+	} else if err != nil {
 		return nil, fmt.Errorf("start tshark: %w", err)
 	}
 	x := &extractor{options: o, calls: map[callID]*call{}, report: &Report{Messages: map[string]int{}}}
