@@ -205,7 +205,7 @@ chmod +x bin/ssh_here
 printf '2/one\n2/two\n' >machines
 rm -rf pieces
 run_otap split logs.batches --size 1 -o pieces 2>/dev/null
-PARALLEL_SSH=$room/bin/ssh_here PARALLEL_RSYNC_OPTS="-e $room/bin/ssh_here" parallel --sshloginfile machines --joblog machines.log \
+PARALLEL_SSH=$room/bin/ssh_here parallel --sshloginfile machines --joblog machines.log \
     --transferfile {} --return {.}.decode-logs.tar --cleanup otap part decode logs {} ::: pieces/*.capture 2>err || wrong "two machines: $(cat err)"
 same pieces "decode logs" logs.batches
 for name in one two; do
@@ -213,9 +213,8 @@ for name in one two; do
     find "$name/home" -name '*.tar' | grep -q . && wrong "results stay on $name"
 done
 # A machine whose key isn't the known one gets nothing.
-rm -f two/host two/host.pub
-ssh-keygen -q -t ed25519 -N '' -f two/host
-sed "s,^\(\[127.0.0.1\]:$(awk '/^Port/{print $2}' two/sshd)\) .*,\1 $(cut -d' ' -f1,2 two/host.pub)," known >others && mv others known
+ssh-keygen -q -t ed25519 -N '' -f other
+sed -i "s,^\(\[127.0.0.1\]:$(awk '/^Port/{print $2}' two/sshd)\) .*,\1 $(cut -d' ' -f1,2 other.pub)," known
 ssh -F ssh two true 2>err && wrong "a machine with another key was taken"
 grep -q 'Host key verification failed' err || wrong "another host key: $(cat err)"
 
