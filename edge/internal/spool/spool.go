@@ -28,15 +28,15 @@ type Capture struct {
 	Frames int64           // that are whole
 	Damage *capture.Damage // nil where all of it is frames
 
-	temporary bool
+	temporary *os.File // where it was made here: a file without a name, which ends with this process
 }
 
-// Close removes the file where it was made here.
+// Close gives up the file where it was made here.
 func (c *Capture) Close() error {
-	if !c.temporary {
+	if c.temporary == nil {
 		return nil
 	}
-	return os.Remove(c.File)
+	return c.temporary.Close()
 }
 
 // Of makes a capture of an input. A capture that lies in a plain file is that file.
@@ -50,27 +50,29 @@ func Of(ctx context.Context, input *forms.Input, s signal.Signal) (*Capture, err
 		c := &Capture{File: path}
 		return c, c.count(ctx, input.Messages(s, opened, forms.UnknownKeys{}))
 	}
-	c, target, err := temporary()
+	c, err := temporary()
 	if err != nil {
 		return nil, err
 	}
-	err = c.fill(ctx, input.Messages(s, opened, forms.UnknownKeys{}), target)
-	if closed := target.Close(); err == nil && closed != nil {
-		err = fmt.Errorf("writing %s: %w", c.File, source.Reason(closed))
-	}
-	if err != nil {
+	if err := c.fill(ctx, input.Messages(s, opened, forms.UnknownKeys{}), c.temporary); err != nil {
 		c.Close()
 		return nil, err
 	}
 	return c, nil
 }
 
-func temporary() (*Capture, *os.File, error) {
+// temporary makes a file whose name is taken away at once, so that nothing is left however this process ends. It is
+// opened anew by its place among this process's files.
+func temporary() (*Capture, error) {
 	file, err := os.CreateTemp("", "otap-*.capture")
 	if err != nil {
-		return nil, nil, fmt.Errorf("a temporary file: %w", err)
+		return nil, fmt.Errorf("a temporary file: %w", err)
 	}
-	return &Capture{File: file.Name(), temporary: true}, file, nil
+	if err := os.Remove(file.Name()); err != nil {
+		file.Close()
+		return nil, fmt.Errorf("a temporary file: %w", err)
+	}
+	return &Capture{File: fmt.Sprintf("/proc/self/fd/%d", file.Fd()), temporary: file}, nil
 }
 
 // count counts the frames of a capture that stays where it is.
@@ -107,11 +109,11 @@ func (c *Capture) fill(ctx context.Context, messages forms.Messages, target *os.
 			break
 		}
 		if err := frames.Write(frame); err != nil {
-			return fmt.Errorf("writing %s: %w", c.File, source.Reason(err))
+			return fmt.Errorf("writing a temporary file: %w", source.Reason(err))
 		}
 	}
 	if err := frames.Flush(); err != nil {
-		return fmt.Errorf("writing %s: %w", c.File, source.Reason(err))
+		return fmt.Errorf("writing a temporary file: %w", source.Reason(err))
 	}
 	if rest, has := messages.(interface{ Rest() io.Reader }); has && c.Damage != nil {
 		if _, err := io.Copy(target, rest.Rest()); err != nil {
@@ -203,16 +205,12 @@ const keep = 200
 
 // Encode makes a capture of batches of one of requests.
 func (c *Capture) Encode(ctx context.Context, program *child.Program, s signal.Signal) (*Encoded, error) {
-	made, target, err := temporary()
+	made, err := temporary()
 	if err != nil {
 		return nil, err
 	}
 	e := &Encoded{Capture: made}
-	err = e.run(ctx, program, s, c.File, target)
-	if closed := target.Close(); err == nil && closed != nil {
-		err = fmt.Errorf("writing %s: %w", made.File, source.Reason(closed))
-	}
-	if err != nil {
+	if err := e.run(ctx, program, s, c.File, made.temporary); err != nil {
 		made.Close()
 		return nil, err
 	}
@@ -254,7 +252,7 @@ func (e *Encoded) run(ctx context.Context, program *child.Program, s signal.Sign
 	}
 	_, err = job.End()
 	if failed != nil {
-		return fmt.Errorf("writing %s: %w", e.File, source.Reason(failed))
+		return fmt.Errorf("writing a temporary file: %w", source.Reason(failed))
 	}
 	e.Requests += e.Count
 	return err
