@@ -4,7 +4,6 @@ import (
 	"context"
 	"errors"
 	"io"
-	"os"
 	"strconv"
 	"strings"
 
@@ -18,8 +17,7 @@ import (
 )
 
 func splitCommand(env *command.Env) *cobra.Command {
-	var folder, at, size string
-	var captured bool
+	var folder, at, size, from string
 	cmd := &cobra.Command{
 		Use:   "split [CAPTURE] -o FOLDER",
 		Short: "Cuts a capture at its resets, for several processors or machines",
@@ -36,7 +34,8 @@ capture writes. A capture without resets is one piece. For list, schema and tidy
 	flags.StringVarP(&folder, "output", "o", "", "write the pieces to `FOLDER`, which must not be there yet")
 	flags.StringVar(&at, "at", pieces.AtResets, "cut at `PLACES`: resets or frames")
 	flags.StringVar(&size, "size", "64M", "begin a new piece once one has `BYTES`; K, M and G are units")
-	flags.BoolVar(&captured, "damaged", false, "split a capture even where it is damaged: the last piece has the damage")
+	flags.StringVar(&from, "from", "", "take input as `FORM`: capture, even where it is damaged; the last piece has the damage")
+	completeForms(cmd)
 	_ = cmd.RegisterFlagCompletionFunc("at", cobra.FixedCompletions([]string{pieces.AtResets, pieces.AtFrames}, cobra.ShellCompDirectiveNoFileComp))
 	cmd.RunE = func(cmd *cobra.Command, args []string) error {
 		bytes, err := bytesOf(size)
@@ -50,16 +49,20 @@ capture writes. A capture without resets is one piece. For list, schema and tidy
 		case at != pieces.AtResets && at != pieces.AtFrames:
 			return command.Misuse("--at %s: it is resets or frames", at)
 		}
-		return split(cmd.Context(), env, args, folder, at, bytes, captured)
+		asked, err := form(from, "--from")
+		if err != nil {
+			return err
+		}
+		if asked != forms.Unknown && asked != forms.Capture {
+			return command.Misuse("split cuts captures: not --from %v", asked)
+		}
+		return split(cmd.Context(), env, args, folder, at, bytes, asked)
 	}
 	return cmd
 }
 
-func split(ctx context.Context, env *command.Env, args []string, folder, at string, size int64, captured bool) error {
-	options := forms.Options{Options: source.Options{Stdin: env.Stdin}, Captures: true}
-	if captured {
-		options.From = forms.Capture
-	}
+func split(ctx context.Context, env *command.Env, args []string, folder, at string, size int64, from forms.Form) error {
+	options := forms.Options{Options: source.Options{Stdin: env.Stdin}, From: from, Captures: true}
 	inputs, err := run.Inspect(ctx, env, args, options)
 	if err != nil {
 		return err
@@ -71,7 +74,7 @@ func split(ctx context.Context, env *command.Env, args []string, folder, at stri
 	defer opened.Close()
 	list, err := pieces.Split(ctx, opened, folder, at, size)
 	if err != nil {
-		if errors.Is(err, os.ErrExist) {
+		if errors.Is(err, pieces.ErrThere) {
 			return command.Misuse("%w", err)
 		}
 		return failed(ctx, err)

@@ -47,7 +47,7 @@ share() {
     local capture=$1 at=$2 words piece
     shift 2
     rm -rf pieces
-    run_otap split "$capture" --damaged --size 1 --at "$at" -o pieces 2>split.err || wrong "split $capture: $(cat split.err)"
+    run_otap split "$capture" --from capture --size 1 --at "$at" -o pieces 2>split.err || wrong "split $capture: $(cat split.err)"
     cat pieces/*.capture | cmp - "$capture" || wrong "the pieces of $capture"
     for words in "$@"; do
         for piece in pieces/*.capture; do

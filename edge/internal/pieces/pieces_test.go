@@ -83,8 +83,8 @@ func TestPiecesAreTheCapture(t *testing.T) {
 
 func TestAFolderThatIsThereStays(t *testing.T) {
 	folder := t.TempDir()
-	if _, err := Split(context.Background(), strings.NewReader(""), folder, AtResets, 1); err == nil {
-		t.Error("a folder was written over")
+	if _, err := Split(context.Background(), strings.NewReader(""), folder, AtResets, 1); !errors.Is(err, ErrThere) {
+		t.Errorf("over a folder that is there: %v", err)
 	}
 }
 

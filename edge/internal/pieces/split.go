@@ -35,6 +35,9 @@ const Suffix = ".capture"
 // be judged otherwise.
 const longest = 1 << 40
 
+// ErrThere says that there is something already where the pieces should go.
+var ErrThere = errors.New("is there already")
+
 // Piece is a part of a capture: whole frames, and in the last piece what may follow them.
 type Piece struct {
 	Name   string // of its file, without the folder
@@ -53,7 +56,7 @@ type List struct {
 func Split(ctx context.Context, source io.Reader, folder, at string, size int64) (List, error) {
 	list := List{At: at}
 	if _, err := os.Lstat(folder); err == nil {
-		return list, fmt.Errorf("%s is there already", folder)
+		return list, fmt.Errorf("%s %w", folder, ErrThere)
 	}
 	room := fmt.Sprintf("%s.part%d", filepath.Clean(folder), os.Getpid())
 	if err := os.Mkdir(room, 0o777); err != nil {
