@@ -181,13 +181,14 @@ tail -1 out | grep -qx '1 difference, the first 0 printed; A has 12 log records,
 
 # In a pipe a line comes as soon as its request is there; a reader that goes away is no news; a full disk is.
 coproc piped { "$otap" --otap-cli "$program" text logs --from capture 2>/dev/null; }
+pid=$piped_PID
 for _ in 1 2; do
     printf '\0\0\0\0\2\x0a\0' >&"${piped[1]}"
     read -r -t 60 line <&"${piped[0]}" || line=nothing
     [ "$line" = '{"resourceLogs":[{}]}' ] || { echo "wrong: $line in a pipe"; failed=1; }
 done
 exec {piped[1]}>&-
-wait "$piped_PID" || { echo "wrong: the end of a pipe"; failed=1; }
+wait "$pid" || { echo "wrong: the end of a pipe"; failed=1; }
 coproc stopped { exec "$otap" --otap-cli "$program" text logs --from capture 2>err; }
 pid=$stopped_PID
 printf '\0\0\0\0\2\x0a\0' >&"${stopped[1]}"
