@@ -3,6 +3,7 @@ package main
 import (
 	"context"
 	"fmt"
+	"path/filepath"
 	"strings"
 
 	"github.com/spf13/cobra"
@@ -213,7 +214,7 @@ func (l *look) report(ctx context.Context) (*report.Page, error) {
 	if err != nil {
 		return nil, err
 	}
-	from := report.Source{Program: l.program, Signal: l.signal, Name: l.input.Name, Batches: l.capture.File, Frames: l.capture.Frames,
+	from := report.Source{Program: l.program, Signal: l.signal, Name: filepath.Base(l.input.Name), Batches: l.capture.File, Frames: l.capture.Frames,
 		Tables: l.page.Rows(), Version: fmt.Sprintf("Made by otap report. The program that was asked has the SHA-256 %s.", sum)}
 	if l.holds == jobs.Requests {
 		made, err := l.capture.Encode(ctx, l.program, l.signal)

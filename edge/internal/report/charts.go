@@ -206,16 +206,16 @@ func (f *facts) pays() string {
 		}
 		switch at {
 		case 0:
-			return "not yet at the end of the longest segment"
+			return "isn't smaller even at the end of the longest segment"
 		case 1:
-			return "from the first batch on"
+			return "is smaller from the first batch on"
 		}
-		return fmt.Sprintf("from batch %s of a segment on", whole(at))
+		return fmt.Sprintf("is smaller from batch %s of a segment on", whole(at))
 	}
 	if len(f.steps) == 0 {
 		return ""
 	}
-	return fmt.Sprintf("All bytes since a segment began, OTAP to OTLP. Plain, OTAP is smaller %s; with both compressed, %s. Where several segments come so far, they are added up.",
+	return fmt.Sprintf("All bytes since a segment began, OTAP to OTLP. As they are, OTAP %s; with both compressed, it %s. Where several segments come so far, they are added up.",
 		from(func(s step) (int64, int64) { return s.otap.plain, s.otlp.plain }),
 		from(func(s step) (int64, int64) { return s.otap.packed, s.otlp.packed }))
 }

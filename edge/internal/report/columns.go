@@ -143,8 +143,8 @@ func (f *facts) strip(g *figure, a across, y coord, c column, tables names, area
 	}
 	full := fmt.Sprintf("%d %s: %s", c.table, tables[c.table], c.name)
 	g.Labels = append(g.Labels,
-		label{X: 4, Y: y + 11, Class: "s", Text: cut(fmt.Sprintf("%d %s", c.table, tables[c.table]), 25), Title: full},
-		label{X: 150, Y: y + 11, Class: class, Text: cut(c.name, 29), Title: full})
+		label{X: 4, Y: y + 11, Class: "s", Text: cut(fmt.Sprintf("%d %s", c.table, tables[c.table]), 26), Title: full},
+		label{X: 162, Y: y + 11, Class: class, Text: cut(c.name, 26), Title: full})
 	cells := f.cells(c)
 	var forms []string
 	for i := 0; i < len(cells); {
