@@ -3,11 +3,12 @@
 import os
 import re
 import shutil
+import signal
 import subprocess
 import tempfile
 from html.parser import HTMLParser
 
-LIMIT = 120  # seconds, for a browser that hangs
+LIMIT = 180  # seconds, for a browser that hangs
 
 
 def there():
@@ -23,11 +24,21 @@ def run(page, *words):
                        "--disable-background-networking", "--user-data-dir=" + profile, "--enable-logging=stderr", "--log-level=0", *words]
             if os.geteuid() == 0:
                 command.append("--no-sandbox")  # chromium refuses to run as root with one
-            done = subprocess.run([*command, "file://" + os.path.abspath(page)], capture_output=True, timeout=LIMIT)
-        if done.returncode == 0:
-            said = done.stderr.decode(errors="replace")
-            return done.stdout.decode(), [line for line in said.splitlines() if re.search(r":CONSOLE[:(]", line)]
-    raise SystemExit("chromium doesn't start: %s" % done.stderr.decode(errors="replace")[-2000:])
+            status, shown, said = ended([*command, "file://" + os.path.abspath(page)])
+        if status == 0:
+            return shown, [line for line in said.splitlines() if re.search(r":CONSOLE[:(]", line)]
+    raise SystemExit("chromium doesn't start: %s" % said[-2000:])
+
+
+def ended(command):
+    """The status and the outputs of a browser. One that doesn't end is killed with all its processes."""
+    started = subprocess.Popen(command, stdout=subprocess.PIPE, stderr=subprocess.PIPE, start_new_session=True)
+    try:
+        shown, said = started.communicate(timeout=LIMIT)
+    except subprocess.TimeoutExpired:
+        os.killpg(started.pid, signal.SIGKILL)
+        shown, said = started.communicate()
+    return started.returncode, shown.decode(errors="replace"), said.decode(errors="replace")
 
 
 def drawn(page):

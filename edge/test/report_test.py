@@ -443,13 +443,14 @@ def control(room):
 def main(otap, program, count=20000):
     with tempfile.TemporaryDirectory(prefix="otap-report-") as folder:
         room = Room(folder, os.path.abspath(otap), os.path.abspath(program))
-        with concurrent.futures.ThreadPoolExecutor(4) as pool:
+        with concurrent.futures.ThreadPoolExecutor(4) as pool, concurrent.futures.ThreadPoolExecutor(2) as two:
             makers = [pool.submit(many_case, room, int(count))] + [pool.submit(signal_case, room, s) for s in telemetry.ITEMS]
             makers += [pool.submit(requests_case, room), pool.submit(evil_case, room)]
             empty = pool.submit(empty_cases, room)
             cases = [maker.result() for maker in makers] + empty.result()
             if browser.there():
-                looks = [pool.submit(case.look) for case in cases] + [pool.submit(control, room)]
+                # A browser has several processes of its own.
+                looks = [two.submit(case.look) for case in cases] + [two.submit(control, room)]
                 for look in looks:
                     look.result()
             else:
