@@ -223,6 +223,9 @@ func (l *look) report(ctx context.Context) (*report.Page, error) {
 		}
 		defer made.Close()
 		from.Batches, from.Frames = made.File, made.Frames
+		if l.capture.Damage != nil {
+			from.Damage = l.capture.Damage.Error()
+		}
 		from.Encoded = &report.Encoding{Requests: made.Requests, Count: made.Count}
 		for _, line := range made.Refused {
 			if why, ok := refusal.Parse(line); ok {

@@ -26,6 +26,7 @@ type Source struct {
 	Batches string         // a file with the capture of batches
 	Frames  int64          // how many frames it has, a damaged rest left out
 	Encoded *Encoding      // where requests were encoded first
+	Damage  string         // where the requests are damaged that were encoded; "" where they aren't
 	Tables  map[int]string // what each payload type holds
 	Version string         // of this program and of the proved one, for the foot of the page
 
@@ -131,8 +132,8 @@ func (f *facts) notes(s Source) []string {
 	if s.Encoded != nil {
 		notes = append(notes, fmt.Sprintf("This is a file of %s requests. They were encoded first, and what is drawn is the batches that came out: what an exporter would send. Frames are those of the batches.", whole(s.Encoded.Requests)))
 	}
-	if f.damage != "" {
-		notes = append(notes, fmt.Sprintf("The capture is damaged (%s): what follows is left out.", f.damage))
+	if damage := f.damage + s.Damage; damage != "" {
+		notes = append(notes, fmt.Sprintf("The capture is damaged (%s): what follows is left out.", damage))
 	}
 	if f.width > 1 {
 		notes = append(notes, fmt.Sprintf("The capture has %s frames, so a place on the first two charts stands for %s of them.", whole(f.frames), whole(f.width)))
