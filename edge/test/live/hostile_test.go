@@ -51,7 +51,7 @@ func TestHostilePeers(t *testing.T) {
 
 func randomBytes(t *testing.T, address string) {
 	t.Helper()
-	source := rand.New(rand.NewSource(46))
+	source := rand.New(rand.NewSource(1))
 	for i := 0; i < 20; i++ {
 		c, err := net.Dial("tcp", address)
 		if err != nil {

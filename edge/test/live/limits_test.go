@@ -116,7 +116,7 @@ func resets(t *testing.T, address string, total int) {
 			break
 		}
 	}
-	f.WritePing(false, [8]byte{4, 6})
+	f.WritePing(false, [8]byte{1})
 	select {
 	case <-ponged:
 	case <-time.After(limit):

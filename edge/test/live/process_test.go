@@ -10,6 +10,7 @@ import (
 	"os/exec"
 	"path/filepath"
 	"regexp"
+	"runtime"
 	"strconv"
 	"strings"
 	"sync"
@@ -66,7 +67,7 @@ func startProcess(t *testing.T, name string, cmd *exec.Cmd) *process {
 	if err != nil {
 		t.Fatal(err)
 	}
-	if err := cmd.Start(); err != nil {
+	if err := begin(cmd); err != nil {
 		t.Fatal(err)
 	}
 	go p.follow(stderr)
@@ -82,6 +83,26 @@ func startProcess(t *testing.T, name string, cmd *exec.Cmd) *process {
 		}
 	})
 	return p
+}
+
+// beginning has what one thread starts, which lives as long as the tests: a process that a thread started is killed with it,
+// so none is left where the tests themselves end early.
+var beginning = make(chan func())
+
+func init() {
+	go func() {
+		runtime.LockOSThread()
+		for f := range beginning {
+			f()
+		}
+	}()
+}
+
+func begin(cmd *exec.Cmd) error {
+	cmd.SysProcAttr = &syscall.SysProcAttr{Pdeathsig: syscall.SIGKILL}
+	result := make(chan error)
+	beginning <- func() { result <- cmd.Start() }
+	return <-result
 }
 
 func (p *process) follow(from io.Reader) {
