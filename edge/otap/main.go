@@ -27,6 +27,11 @@ func otap(args []string) int {
 	ossignal.Notify(make(chan os.Signal, 1), syscall.SIGPIPE)
 	ctx, stop := ossignal.NotifyContext(context.Background(), os.Interrupt, syscall.SIGTERM)
 	defer stop()
+	// A second interrupt ends the process at once.
+	go func() {
+		<-ctx.Done()
+		stop()
+	}()
 	stderr := &speaker{target: os.Stderr}
 	env := &command.Env{Stdin: os.Stdin, Stdout: os.Stdout, Stderr: stderr}
 	if isTerminal(os.Stderr) {
