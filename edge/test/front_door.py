@@ -413,11 +413,13 @@ class WrongUses(Room):
     def test_a_full_disk(self):
         self.write("x", self.program("encode", "logs", data=capture(logs(1).SerializeToString())).out)
         self.write("r", capture(logs(1).SerializeToString()))
-        for words in (("list", "x"), ("decode", "logs", "x"), ("decode", "logs", "x", "--to", "json"), ("--version",), ("--help",)):
+        for words in (("list", "x"), ("decode", "logs", "x"), ("decode", "logs", "x", "--no-check"), ("decode", "logs", "x", "--to", "json"),
+                      ("--version",), ("--help",)):
             with open(FULL_DISK, "wb") as full:
                 got = self.otap(*words, stdout=full)
             self.assertEqual((got.status, got.err), (4, "otap: writing standard output: no space left on device\n"), words)
-        self.says(("list", "x", "-o", FULL_DISK), 4, f"otap: writing {FULL_DISK}: no space left on device\n")
+        for words in (("list", "x"), ("list", "x", "--no-check")):
+            self.says((*words, "-o", FULL_DISK), 4, f"otap: writing {FULL_DISK}: no space left on device\n")
         for words in (("text", "logs", "x"), ("diff", "logs", "x", "r")):
             with open(FULL_DISK, "wb") as full:
                 got = self.otap(*words, stdout=full)
@@ -432,6 +434,14 @@ class WrongUses(Room):
             child.stdin.write(batches)
             child.stdin.close()
             self.assertEqual((child.wait(LIMIT), child.stderr.read()), (4, b""), words)
+        self.write("x", batches * 200)
+        child = self.start("show", "logs", "x", "--streams", "--no-check")
+        child.stdout.close()
+        self.assertEqual((child.wait(LIMIT), child.stderr.read()), (4, b""))
+        self.write("x", batches * 2000)  # more lines than a pipe holds, so the program meets its end
+        child = self.start("list", "x", "--no-check")
+        child.stdout.close()
+        self.assertEqual((child.wait(LIMIT), child.stderr.read()), (4, b""))
 
     def test_a_terminal(self):
         self.write("x", capture(logs(1).SerializeToString()))

@@ -16,10 +16,15 @@ import (
 	"finavoluth/edge/internal/text"
 )
 
+// translates says whether what the program puts out is wanted in another form.
+func (r *running) translates() bool {
+	return r.plan.Job.Gives == jobs.Requests && (r.plan.To == forms.Proto || r.plan.To == forms.JSON)
+}
+
 // drain takes what the program puts out to the target, in the form that is wanted.
 func (r *running) drain(out io.ReadCloser) error {
 	defer out.Close()
-	if r.plan.Job.Gives == jobs.Requests && (r.plan.To == forms.Proto || r.plan.To == forms.JSON) {
+	if r.translates() {
 		writer := &FormWriter{To: r.plan.To, Signal: r.plan.Signal, Indent: r.plan.Indent, Target: r.target}
 		return writer.All(&flushing{source: out, flush: r.target.Flush})
 	}

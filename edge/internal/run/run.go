@@ -11,6 +11,7 @@ import (
 	"os"
 	"os/exec"
 	"sync"
+	"syscall"
 	"time"
 
 	"golang.org/x/sys/unix"
@@ -142,6 +143,7 @@ type process struct {
 	cmd           *exec.Cmd
 	in, out, said *os.File
 	handed        *os.File // the input's file, where the program reads it itself; then nothing goes to `in`
+	// where the program reads the input itself and its output stays as it is, it writes to the target itself, and `out` is nil
 }
 
 // launch starts the program.
@@ -154,13 +156,20 @@ func (r *running) launch(reading, running context.Context) (*process, error) {
 	if p.in, p.out, p.said, err = pipes(p.cmd, p.handed); err != nil {
 		return nil, &command.Exit{Status: command.Broken, Err: err}
 	}
+	if p.handed != nil && !r.translates() {
+		closeAll(p.out, p.cmd.Stdout)
+		p.out, p.cmd.Stdout = nil, r.target.file
+	}
 	if err := p.cmd.Start(); err != nil {
 		return nil, command.Fail(command.Broken, "starting the program (%s): %w", r.program, source.Reason(err))
 	}
 	if p.handed == nil {
 		closeAll(p.cmd.Stdin)
 	}
-	closeAll(p.cmd.Stdout, p.cmd.Stderr)
+	if p.out != nil {
+		closeAll(p.cmd.Stdout)
+	}
+	closeAll(p.cmd.Stderr)
 	return p, nil
 }
 
@@ -174,17 +183,20 @@ func (r *running) start(reading, running context.Context, stop func()) (outcomes
 
 	var result outcomes
 	var taken sync.WaitGroup
-	taken.Add(2)
-	go func() {
-		defer taken.Done()
-		if result.written = r.drain(p.out); result.written != nil {
-			stop()
-		}
-	}()
+	taken.Add(1)
 	go func() {
 		defer taken.Done()
 		r.hear(p.said)
 	}()
+	if p.out != nil {
+		taken.Add(1)
+		go func() {
+			defer taken.Done()
+			if result.written = r.drain(p.out); result.written != nil {
+				stop()
+			}
+		}()
+	}
 	fed := make(chan error, 1)
 	if p.handed != nil {
 		fed <- nil
@@ -202,6 +214,9 @@ func (r *running) start(reading, running context.Context, stop func()) (outcomes
 		result.left = true // it waits for somebody who writes, and the program takes nothing more
 	}
 	result.status, result.ended = statusOf(p.cmd, ended)
+	if p.out == nil && (result.status == command.WriteFailed || killedByPipe(p.cmd)) {
+		result.written = r.target.why()
+	}
 	if p.handed != nil && result.status == command.ReadFailed {
 		_, result.fed = io.Copy(io.Discard, p.handed) // the read that failed, once more, for the system's reason
 	}
@@ -257,6 +272,12 @@ func closeAll(files ...interface{}) {
 			it.Close()
 		}
 	}
+}
+
+// killedByPipe says whether the program was ended by the system, as nobody reads what it writes.
+func killedByPipe(cmd *exec.Cmd) bool {
+	status, ok := cmd.ProcessState.Sys().(syscall.WaitStatus)
+	return ok && status.Signaled() && status.Signal() == syscall.SIGPIPE
 }
 
 // statusOf is the status of an ended program, or how else it ended.

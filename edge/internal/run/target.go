@@ -4,9 +4,11 @@ import (
 	"bufio"
 	"errors"
 	"fmt"
+	"io"
 	"io/fs"
 	"os"
 	"path/filepath"
+	"syscall"
 
 	"finavoluth/edge/internal/command"
 	"finavoluth/edge/internal/forms"
@@ -115,6 +117,23 @@ func (t *Target) failed(err error) error {
 		return nil
 	}
 	return writing(t.name, err)
+}
+
+// why is the system's reason for a write of the program's own that failed. A pipe or a socket has none but that nobody
+// reads; elsewhere a byte is written once more, and taken back where that goes well.
+func (t *Target) why() error {
+	what, err := t.file.Stat()
+	if err != nil || what.Mode()&(fs.ModeNamedPipe|fs.ModeSocket) != 0 {
+		return writing(t.name, syscall.EPIPE)
+	}
+	if _, err := t.file.Write([]byte{'\n'}); err != nil {
+		return writing(t.name, err)
+	}
+	end, err := t.file.Seek(0, io.SeekCurrent)
+	if grown, failed := t.file.Stat(); err == nil && failed == nil && grown.Mode().IsRegular() && grown.Size() == end {
+		_ = t.file.Truncate(end - 1)
+	}
+	return nil
 }
 
 // Keep ends a good run: the file takes its name.
