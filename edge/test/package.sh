@@ -23,13 +23,18 @@ wrong() { echo "wrong: $*"; failed=1; }
 # What this checkout has, committed or not, as one commit in two folders of different names.
 git ls-files -z --cached --others --exclude-standard | tar --null -T - -cf "$room/files.tar"
 export GIT_AUTHOR_DATE='2026-01-02T03:04:05Z' GIT_COMMITTER_DATE='2026-01-02T03:04:05Z'
-for name in one another/longer/name; do
-    mkdir -p "$room/$name"
-    tar xf "$room/files.tar" -C "$room/$name"
-    (cd "$room/$name" && git init -q && git add -A && git -c user.name=test -c user.email=test@invalid commit -qm test \
-        && tools/package --program "$program" --out "$room/$name/made" >"$room/sums" 2>"$room/said") \
-        || { cat "$room/said"; wrong "tools/package in $name"; exit 1; }
-done
+make() {
+    local folder=$room/$1
+    mkdir -p "$folder"
+    tar xf "$room/files.tar" -C "$folder"
+    (cd "$folder" && git init -q && git add -A && git -c user.name=test -c user.email=test@invalid commit -qm test \
+        && tools/package --program "$program" --out "$folder/made") >"$room/said.$2" 2>&1
+}
+# Both at once: what one leaves the other mustn't need.
+make one 1 &
+first=$!
+make another/longer/name 2 || { cat "$room/said.2"; wrong "tools/package in another/longer/name"; exit 1; }
+wait "$first" || { cat "$room/said.1"; wrong "tools/package in one"; exit 1; }
 diff -r "$room/one/made" "$room/another/longer/name/made" >"$room/differ" || wrong "not the same bytes: $(cat "$room/differ")"
 (cd "$room/one/made" && sha256sum --check --quiet SHA256SUMS) || wrong "the sums of the packages"
 package=$(echo "$room"/one/made/*.deb) tarball=$(echo "$room"/one/made/*.tar.gz)
