@@ -88,7 +88,7 @@ one() {
     inside /usr/bin/otap $words --from capture --no-check <"$capture" >"$made/out" 2>"$made/said"
     status=$?
     { grep -v '^otap: ' "$made/said"; echo "status $status"; } >"$made/err"
-    cmp "$made/want.out" "$made/out" && cmp "$made/want.err" "$made/err" || echo "$capture"
+    cmp "$made/want.out" "$made/out" && cmp "$made/want.err" "$made/err" || echo "$capture $(grep -m 1 '^otap: ' "$made/said")"
     rm -r "$made"
 }
 export -f one inside
