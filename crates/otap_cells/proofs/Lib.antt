@@ -12,6 +12,7 @@ pub mod IdLaws
 pub mod IdSteps
 pub mod KindNamed
 pub mod KindsApart
+pub mod NamedTables
 pub mod OwnCells
 pub mod Rowwise
 pub mod ScalarLaws

@@ -3,7 +3,6 @@ ghost use Rattle.otlp_model.specs.Limits.{count_cap};
 ghost use Rattle.otap_cells.specs.Cells.{seen};
 ghost use Rattle.otap_cells.specs.Columns.{width_of};
 ghost use Rattle.otap_cells.specs.Tables.{column_in};
-ghost use Rattle.otap_cells.specs.Sets.{tables_in};
 ghost use Rattle.otap_cells.specs.Weights.{cell_weight, weight_of_table, weight_of_tables};
 
 use crate::profile::{base_of, columns};
@@ -21,7 +20,7 @@ const ROW_UNIT: u64 = 32;
 /// The row weight of a set of tables, or `CAP` where it is larger: a unit for each row, and the bytes of each text,
 /// binary and fixed cell that isn't null. Visits each of these cells once.
 pub fn row_weight<R: Rows>(set: &TableSet<R>) -> u64
-    ensures { result ≡ min (weight_of_tables (tables_in R.table set.now.tables.items)) count_cap }
+    ensures { result ≡ min (weight_of_tables set.now) count_cap }
 {
     let mut total = 0;
     'tables: for (_, rows) in &set.tables {

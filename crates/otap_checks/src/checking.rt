@@ -1,9 +1,6 @@
 //! What is wrong with the ids of a batch.
-ghost use Rattle.std.specs.Prelude.{◌≡◌, [], true, false, All, IfErr, IfOk, IfSome, OnOk, MatchOption};
+ghost use Rattle.std.specs.Prelude.{◌≡◌, true, false, All, IfErr, IfOk, OnOk};
 ghost use Rattle.otap_cells.specs.declared.payload.Kind.{Kind};
-ghost use Rattle.otap_cells.specs.Named.{table_named};
-ghost use Rattle.otap_cells.specs.Sets.{IsSet, tables_in};
-ghost use Rattle.otap_cells.specs.Tables.{profile_table};
 ghost use Rattle.otap_attrs.specs.declared.refusal.RowRefusal.{RowRefusal};
 ghost use Rattle.otap_checks.specs.declared.links.TableLink.{TableLink};
 ghost use Rattle.otap_checks.specs.IdDefects.{IdDefect};
@@ -26,10 +23,9 @@ pub fn known_ids<R: Rows>(
     set: &TableSet<R>,
     signal: Signal,
 ) -> Result<KnownIds, CheckRefusal>
-    requires { IsSet R.table set.now.tables.items }
-    ensures clean { OnOk result ((kind : Kind) (why : RowRefusal) → IdDefect signal (tables_in R.table set.now.tables.items) kind why → ⊥) }
-    ensures known { IfOk result (λ known. KnowsAll signal (tables_in R.table set.now.tables.items) known.columns.items) }
-    ensures err { IfErr result (RefusesCheck (IdDefect signal (tables_in R.table set.now.tables.items))) }
+    ensures clean { OnOk result ((kind : Kind) (why : RowRefusal) → IdDefect signal set.now kind why → ⊥) }
+    ensures known { IfOk result (λ known. KnowsAll signal set.now known.columns.items) }
+    ensures err { IfErr result (RefusesCheck (IdDefect signal set.now)) }
 {
     let links = links_of(signal);
     let known = read_tables(alloc, set, links)?;
@@ -91,16 +87,6 @@ fn has_lost_row(alloc: Global, known: &KnownIds, link: &TableLink) -> Result<boo
     let parents = known.of(link.kind, above.column);
     let found = has_orphan(alloc, parents, known.of(above.of, above.at))?;
     Ok(found)
-}
-
-/// The table of a kind. One that isn't there has no rows.
-pub fn table_of<R: Rows>(set: &TableSet<R>, kind: Kind) -> Option<&R>
-    requires { IsSet R.table set.now.tables.items }
-    ensures table { MatchOption result (table_named kind (tables_in R.table set.now.tables.items) ≡ profile_table kind [])
-        (λ rows. table_named kind (tables_in R.table set.now.tables.items) ≡ R.table rows.now) }
-    ensures kind { IfSome result (λ rows. (R.table rows.now).kind ≡ kind) }
-{
-    set.get(kind)
 }
 
 /// The refusal of a batch, where the rows of the table of a kind are refused.

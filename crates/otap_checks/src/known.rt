@@ -2,13 +2,12 @@
 ghost use Rattle.std.specs.Prelude.{◌≡◌, ◌++◌, ◌∷◌, [], true, All, IfErr, IfOk, OnOk};
 ghost use Rattle.otap_cells.specs.Columns.{is_id_at};
 ghost use Rattle.otap_cells.specs.Named.{table_named};
-ghost use Rattle.otap_cells.specs.Sets.{IsSet, tables_in};
 ghost use Rattle.otap_checks.specs.declared.links.TableLink.{TableLink};
 ghost use Rattle.otap_checks.specs.Inside.{ColumnsWrong, ColumnWrong, HasColumns, IsRight, KeepsIds};
 ghost use Rattle.otap_checks.specs.Known.{IsKnown, ids_named};
 ghost use Rattle.otap_checks.specs.Refusing.{RefusesCheck};
 
-use crate::checking::{refused, table_of};
+use crate::checking::refused;
 use crate::links::TableLink;
 use otap_attrs::{CheckRefusal, RowRefusal};
 use otap_cells::{Kind, Rows, TableSet, base_of, columns, read_ids};
@@ -55,10 +54,9 @@ pub(crate) fn read_tables<R: Rows>(
     set: &TableSet<R>,
     links: &[TableLink],
 ) -> Result<KnownIds, CheckRefusal>
-    requires { IsSet R.table set.now.tables.items }
-    ensures right { IfOk result (λ known. All (IsRight (tables_in R.table set.now.tables.items)) known.columns.items) }
+    ensures right { IfOk result (λ known. All (IsRight set.now) known.columns.items) }
     ensures all { IfOk result (λ known. All (λ (link : TableLink). HasColumns link.kind known.columns.items) links.now) }
-    ensures err { IfErr result (RefusesCheck (ColumnsWrong (tables_in R.table set.now.tables.items) links.now)) }
+    ensures err { IfErr result (RefusesCheck (ColumnsWrong set.now links.now)) }
 {
     let mut known = Vec::new(alloc);
     'links: for place in 0..links.len() {
@@ -74,11 +72,10 @@ fn read_table<R: Rows>(
     kind: Kind,
     known: &mut Vec<ColumnIds>,
 ) -> Result<(), CheckRefusal>
-    requires { IsSet R.table set.now.tables.items }
-    ensures right { OnOk result (All (IsRight (tables_in R.table set.now.tables.items)) known.old.items → All (IsRight (tables_in R.table set.now.tables.items)) known.new.items) }
+    ensures right { OnOk result (All (IsRight set.now) known.old.items → All (IsRight set.now) known.new.items) }
     ensures kept { OnOk result (KeepsIds known.old.items known.new.items) }
     ensures all { OnOk result (HasColumns kind known.new.items) }
-    ensures err { IfErr result (RefusesCheck (ColumnWrong (tables_in R.table set.now.tables.items) kind)) }
+    ensures err { IfErr result (RefusesCheck (ColumnWrong set.now kind)) }
 {
     let count = columns(kind).len();
     'columns: for place in 0..count {
@@ -106,12 +103,11 @@ fn read_column<R: Rows>(
     kind: Kind,
     column: u32,
 ) -> Result<Vec<Option<u32>>, CheckRefusal>
-    requires set { IsSet R.table set.now.tables.items }
-    requires id { is_id_at kind column ≡ true }
-    ensures known { IfOk result (λ ids. IsKnown (table_named kind (tables_in R.table set.now.tables.items)) column ids.items) }
-    ensures err { IfErr result (RefusesCheck (ColumnWrong (tables_in R.table set.now.tables.items) kind)) }
+    requires { is_id_at kind column ≡ true }
+    ensures known { IfOk result (λ ids. IsKnown (table_named kind set.now) column ids.items) }
+    ensures err { IfErr result (RefusesCheck (ColumnWrong set.now kind)) }
 {
-    let Some(rows) = table_of(set, kind) else {
+    let Some(rows) = set.get(kind) else {
         return Ok(Vec::new(alloc));
     };
     match read_ids(alloc, rows, column) {

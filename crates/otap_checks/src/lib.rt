@@ -10,7 +10,7 @@ mod pairs;
 mod regrouping;
 mod values;
 
-pub use checking::{known_ids, refused, table_of};
+pub use checking::{known_ids, refused};
 pub use fronts::{disagrees, front_of};
 pub use known::{ColumnIds, KnownIds};
 pub use links::{Parents, TableLink, links_of};

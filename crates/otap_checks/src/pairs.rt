@@ -3,14 +3,12 @@ ghost use Rattle.std.specs.Prelude.{◌≡◌, ℕ, Option, true, drop, map, IfO
 ghost use Rattle.otlp_model.specs.Weight.{weight_of_pair};
 ghost use Rattle.otap_cells.specs.Continuing.{has_attributes};
 ghost use Rattle.otap_cells.specs.Named.{table_named};
-ghost use Rattle.otap_cells.specs.Sets.{IsSet, tables_in};
 ghost use Rattle.otap_attrs.specs.Values.{pair_in};
 ghost use Rattle.otap_groups.specs.Found.{found};
 ghost use Rattle.otap_checks.specs.Known.{Knows};
 ghost use Rattle.otap_checks.specs.Pairing.{cells_or};
 ghost use Rattle.otap_attrs.specs.Index.{pairs_in};
 
-use crate::checking::table_of;
 use crate::known::KnownIds;
 use otap_attrs::Pairs;
 use otap_cells::{Kind, Rows, TableSet};
@@ -57,14 +55,13 @@ pub fn find_pairs<'a, R: Rows>(
     kind: Kind,
     known: &KnownIds,
 ) -> Result<Children<'a, TablePairs<'a, R>>, AllocError>
-    requires set { IsSet R.table set.now.tables.items }
     requires kind { has_attributes kind ≡ true }
-    requires known { Knows (table_named kind (tables_in R.table set.now.tables.items)) kind known.now.columns.items }
+    requires known { Knows (table_named kind set.now) kind known.now.columns.items }
     ensures { IfOk result (λ made. (parent : Option ℕ)
         → found (λ id cells. pair_in cells) made.ids.now (cells_or (λ p. map (drop 1) (R.table p.rows.now).rows) made.reader.pairs) made.entries.items parent
-        ≡ pairs_in (table_named kind (tables_in R.table set.now.tables.items)) parent) }
+        ≡ pairs_in (table_named kind set.now) parent) }
 {
-    let Some(rows) = table_of(set, kind) else {
+    let Some(rows) = set.get(kind) else {
         let none = TablePairs { pairs: None };
         let made = Children::new(alloc, none, &[], &[])?;
         return Ok(made);

@@ -1,25 +1,23 @@
 //! What is wrong with the values of a table's rows.
 ghost use Rattle.std.specs.Prelude.{IfErr, OnOk};
 ghost use Rattle.otap_cells.specs.Named.{table_named};
-ghost use Rattle.otap_cells.specs.Sets.{IsSet, tables_in};
 ghost use Rattle.otap_attrs.specs.declared.refusal.RowRefusal.{RowRefusal};
 ghost use Rattle.otap_attrs.specs.Values.{HasValueAt};
 ghost use Rattle.otap_attrs.specs.Defects.{WrongValue};
 ghost use Rattle.otap_checks.specs.Refusing.{RefusesCheck};
 ghost use Rattle.otap_checks.specs.ValueDefects.{WrongValueOf};
 
-use crate::checking::{refused, table_of};
+use crate::checking::refused;
 use otap_attrs::{CheckRefusal, RowRefusal, check_value};
 use otap_cells::{Kind, Rows, TableSet};
 
 /// Tells what is wrong with the values of the table of a kind, whose columns stand from this one on. It builds nothing.
 pub fn check_values<R: Rows>(set: &TableSet<R>, kind: Kind, column: u32) -> Result<(), CheckRefusal>
-    requires set { IsSet R.table set.now.tables.items }
-    requires columns { HasValueAt kind column }
-    ensures ok { OnOk result ((why : RowRefusal) → WrongValue (table_named kind (tables_in R.table set.now.tables.items)) column why → ⊥) }
-    ensures err { IfErr result (RefusesCheck (WrongValueOf (tables_in R.table set.now.tables.items) kind column)) }
+    requires { HasValueAt kind column }
+    ensures ok { OnOk result ((why : RowRefusal) → WrongValue (table_named kind set.now) column why → ⊥) }
+    ensures err { IfErr result (RefusesCheck (WrongValueOf set.now kind column)) }
 {
-    let Some(rows) = table_of(set, kind) else {
+    let Some(rows) = set.get(kind) else {
         return Ok(());
     };
     match check_rows(rows, column) {

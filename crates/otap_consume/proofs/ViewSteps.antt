@@ -1,11 +1,11 @@
 -- The views of the records that were taken last.
 use Rattle.std.proofs.Common.{◌≡◌, ℕ, ◌+◌, ◌<◌, ◌≤◌, inl, inr, true, false, List, [], ◌∷◌, ◌++◌, length, get_or, map, Option, Some, None, ℤ, refl, sym, ap, ◌∙◌, subst, append_assoc, append-nil, arith}
-use Rattle.std.specs.Prelude.{find, nat_eq, nat_lt, pos, sum_by, if◌then◌else◌, IsSome}
+use Rattle.std.specs.Prelude.{find, nat_eq, nat_lt, pos, sum_by, if◌then◌else◌, IsSome, All}
 use Rattle.std.specs.List.{AllZip, AllByRecursion, IsDistinct, filter_map}
 use Rattle.std.specs.Ordering.{int_eq}
 use Rattle.std.proofs.lemmas.Bool.{cases_Bool, both_ways, ne_eqb, ltb-false}
 use Rattle.std.proofs.lemmas.Bool.Decides.{Decides-int_eq}
-use Rattle.std.proofs.lemmas.List.Elements.{All-from_recursion}
+use Rattle.std.proofs.lemmas.List.Elements.{All-head, All-tail}
 use Rattle.std.proofs.lemmas.List.Sums.{sum_by-cons, sum_by-append}
 use Rattle.lists.specs.Payloads.{PayloadIn}
 use Rattle.lists.proofs.Every.{every_at}
@@ -13,7 +13,7 @@ use Rattle.otlp_model.specs.declared.request.Signal.{Signal}
 use Rattle.otlp_model.specs.declared.request.Signal.TheVariants.{Traces, Logs, Metrics}
 use Rattle.otap_cells.specs.declared.payload.Kind.{Kind}
 use Rattle.otap_cells.specs.Payload.{number_of, kinds_of, kind_numbered}
-use Rattle.otap_cells.specs.Sets.{IsSet}
+use Rattle.otap_cells.specs.Sets.{IsSet, tables_in}
 use Rattle.otap_cells.specs.Tables.{Table}
 use Rattle.otap_columns.specs.Streams.{last_of}
 use Rattle.otap_consume.specs.declared.refusal.Cause.{Cause}
@@ -101,73 +101,72 @@ shown_at streams payloads front rest p can whole = known (kind_numbered can.sign
 
 module _ (signal : Signal) (past payloads : List PayloadIn) (streams : List StreamIn) (same : kinds_in streams ≡ kinds_of signal)
     (are : AreAfter (past ++ payloads) streams) (types : HasFineTypes signal payloads) where
-  table_is : (front rest : List PayloadIn) (p : PayloadIn) (view : Kind × Table) → payloads ≡ front ++ p ∷ rest → IsViewOf streams p view
-      → table_of signal (past ++ payloads) p ≡ Some view.1
-  table_is front rest p view whole is =
+  table_is : (front rest : List PayloadIn) (p : PayloadIn) (table : Table) → payloads ≡ front ++ p ∷ rest → IsViewOf streams p table
+      → table_of signal (past ++ payloads) p ≡ Some table
+  table_is front rest p table whole is =
       let once : times p.kind (front ++ p ∷ rest) ≤ 1 = subst (λ (ps : List PayloadIn). times p.kind ps ≤ 1) whole (fine_at signal payloads front rest p types whole).once in
       let last : last_of p.kind (past ++ payloads) ≡ Some p = ap (λ (ps : List PayloadIn). last_of p.kind (past ++ ps)) whole ∙ last_is past front rest p once in
-      rw (is.known signal same) (is.table (past ++ payloads) are last)
+      rw (is.known signal same) (is.shows (past ++ payloads) are last)
 
-  tables_from : (front rest : List PayloadIn) (views : List (Kind × Table)) → payloads ≡ front ++ rest → AllZip (IsViewOf streams) rest views
-      → map (λ view. view.1) views ≡ filter_map (table_of signal (past ++ payloads)) rest
+  tables_from : (front rest : List PayloadIn) (tables : List Table) → payloads ≡ front ++ rest → AllZip (IsViewOf streams) rest tables
+      → tables ≡ filter_map (table_of signal (past ++ payloads)) rest
   tables_from front [] [] whole zip = refl
-  tables_from front [] (view ∷ views) whole zip = absurd zip
+  tables_from front [] (table ∷ tables) whole zip = absurd zip
   tables_from front (p ∷ rest) [] whole zip = absurd zip
-  tables_from front (p ∷ rest) (view ∷ views) whole zip =
-      let later : map (λ (v : Kind × Table). v.1) views ≡ filter_map (table_of signal (past ++ payloads)) rest
-      = tables_from (front ++ p ∷ []) rest views (whole ∙ sym (append_assoc front (p ∷ []) rest)) zip.1 in
-      rw (table_is front rest p view whole zip.0) (λ i. view.1 ∷ later i)
+  tables_from front (p ∷ rest) (table ∷ tables) whole zip =
+      let later : tables ≡ filter_map (table_of signal (past ++ payloads)) rest = tables_from (front ++ p ∷ []) rest tables (whole ∙ sym (append_assoc front (p ∷ []) rest)) zip.1 in
+      rw (table_is front rest p table whole zip.0) (λ i. table ∷ later i)
 
-  pub tables_are : (views : List (Kind × Table)) → AreViewsOf streams payloads views → map (λ view. view.1) views ≡ tables_of signal past payloads
+  pub tables_are : (tables : List Table) → AreViewsOf streams payloads tables → tables ≡ tables_of signal past payloads
   unfolding tables_of
-  tables_are views zip = tables_from [] payloads views refl zip
+  tables_are tables zip = tables_from [] payloads tables refl zip
 
--- ---- each stands beside its kind, and a kind once
-
-beside_from : (streams : List StreamIn) (payloads : List PayloadIn) (views : List (Kind × Table)) → AreViewsOf streams payloads views
-    → AllByRecursion (λ view. view.1.kind ≡ view.0) views
-beside_from streams [] [] zip = tt
-beside_from streams [] (view ∷ views) zip = absurd zip
-beside_from streams (p ∷ payloads) [] zip = absurd zip
-beside_from streams (p ∷ payloads) (view ∷ views) zip = (zip.0.kind, beside_from streams payloads views zip.1)
+-- ---- views beside their kinds are a set: a kind is there once
 
 -- none of these has the type
-others : (streams : List StreamIn) (p : PayloadIn) (view : Kind × Table) (payloads : List PayloadIn) (views : List (Kind × Table)) → payload_type_of view.0 ≡ p.kind
-    → times p.kind payloads ≡ 0 → AllZip (IsViewOf streams) payloads views → AllByRecursion (λ n. nat_eq (number_of view.0) n ≡ false) (map (λ v. number_of v.0) views)
-others streams p view [] [] type none zip = tt
-others streams p view [] (v ∷ views) type none zip = absurd zip
-others streams p view (q ∷ payloads) [] type none zip = absurd zip
-others streams p view (q ∷ payloads) (v ∷ views) type none zip =
+others : (streams : List StreamIn) (p : PayloadIn) (table : Table) (payloads : List PayloadIn) (tables : List Table) → payload_type_of table.kind ≡ p.kind
+    → times p.kind payloads ≡ 0 → AllZip (IsViewOf streams) payloads tables → AllByRecursion (λ n. nat_eq (number_of table.kind) n ≡ false) (map (λ t. number_of t.kind) tables)
+others streams p table [] [] type none zip = tt
+others streams p table [] (t ∷ tables) type none zip = absurd zip
+others streams p table (q ∷ payloads) [] type none zip = absurd zip
+others streams p table (q ∷ payloads) (t ∷ tables) type none zip =
     let count : times p.kind (q ∷ payloads) ≡ (if int_eq q.kind p.kind then 1 else 0) + times p.kind payloads
     = sum_by-cons (λ (r : PayloadIn). if int_eq r.kind p.kind then 1 else 0) q payloads in
     elim (cases_Bool (int_eq q.kind p.kind)) [
       | inl own ↦ absurd (omega (arith, count ∙ ap (λ b. (if b then 1 else 0) + times p.kind payloads) own, none))
       | inr other ↦ (
-        ne_eqb (number_of view.0) (number_of v.0)
+        ne_eqb (number_of table.kind) (number_of t.kind)
             (λ same. both_ways (int_eq q.kind p.kind) other ((Decides-int_eq q.kind p.kind).1 (sym zip.0.type ∙ ap pos (sym same) ∙ type))),
-        others streams p view payloads views type (omega (arith, count ∙ ap (λ b. (if b then 1 else 0) + times p.kind payloads) other, none)) zip.1,
+        others streams p table payloads tables type (omega (arith, count ∙ ap (λ b. (if b then 1 else 0) + times p.kind payloads) other, none)) zip.1,
       )
     ]
 
-distinct_from : (signal : Signal) (streams : List StreamIn) (payloads front rest : List PayloadIn) (views : List (Kind × Table)) → HasFineTypes signal payloads
-    → payloads ≡ front ++ rest → AllZip (IsViewOf streams) rest views → IsDistinct nat_eq (map (λ view. number_of view.0) views)
+distinct_from : (signal : Signal) (streams : List StreamIn) (payloads front rest : List PayloadIn) (tables : List Table) → HasFineTypes signal payloads
+    → payloads ≡ front ++ rest → AllZip (IsViewOf streams) rest tables → IsDistinct nat_eq (map (λ table. number_of table.kind) tables)
 unfolding IsDistinct
 distinct_from signal streams payloads front [] [] types whole zip = tt
-distinct_from signal streams payloads front [] (view ∷ views) types whole zip = absurd zip
+distinct_from signal streams payloads front [] (table ∷ tables) types whole zip = absurd zip
 distinct_from signal streams payloads front (p ∷ rest) [] types whole zip = absurd zip
-distinct_from signal streams payloads front (p ∷ rest) (view ∷ views) types whole zip =
+distinct_from signal streams payloads front (p ∷ rest) (table ∷ tables) types whole zip =
     let test : PayloadIn → ℕ = λ q. if int_eq q.kind p.kind then 1 else 0 in
     let once : times p.kind payloads ≤ 1 = (fine_at signal payloads front rest p types whole).once in
     let own : int_eq p.kind p.kind ≡ true = (Decides-int_eq p.kind p.kind).1 refl in
     let here : times p.kind (p ∷ rest) ≡ 1 + times p.kind rest = sum_by-cons test p rest ∙ rw own refl in
     let none : times p.kind rest ≡ 0 = omega (arith, sum_by-append test front (p ∷ rest), here, ap (times p.kind) whole, once) in
-    (others streams p view rest views zip.0.type none zip.1, distinct_from signal streams payloads (front ++ p ∷ []) rest views types (whole ∙ sym (append_assoc front (p ∷ []) rest)) zip.1)
+    (others streams p table rest tables zip.0.type none zip.1, distinct_from signal streams payloads (front ++ p ∷ []) rest tables types (whole ∙ sym (append_assoc front (p ∷ []) rest)) zip.1)
 
-pub set_of : (signal : Signal) (streams : List StreamIn) (payloads : List PayloadIn) (views : List (Kind × Table)) → HasFineTypes signal payloads → AreViewsOf streams payloads views
-    → IsSet (λ table. table) views
-set_of signal streams payloads views types zip = record {
-  beside = All-from_recursion (λ (view : Kind × Table). view.1.kind ≡ view.0) views (beside_from streams payloads views zip);
-  once = distinct_from signal streams payloads [] payloads views types refl zip;
+abbrev pub IsBeside : Kind × Table → Type 0
+IsBeside pair = pair.1.kind ≡ pair.0
+
+numbers_beside : (pairs : List (Kind × Table)) → All IsBeside pairs → map (λ pair. number_of pair.0) pairs ≡ map (λ table. number_of table.kind) (tables_in (λ table. table) pairs)
+numbers_beside [] beside = refl
+numbers_beside (pair ∷ pairs) beside = λ i. number_of (sym (All-head IsBeside pair pairs beside) i) ∷ numbers_beside pairs (All-tail IsBeside pair pairs beside) i
+
+pub set_of : (signal : Signal) (streams : List StreamIn) (payloads : List PayloadIn) (pairs : List (Kind × Table)) → HasFineTypes signal payloads
+    → AreViewsOf streams payloads (tables_in (λ table. table) pairs) → All IsBeside pairs → IsSet (λ table. table) pairs
+set_of signal streams payloads pairs types zip beside = record {
+  beside = beside;
+  once = subst (IsDistinct nat_eq) (sym (numbers_beside pairs beside)) (distinct_from signal streams payloads [] payloads (tables_in (λ table. table) pairs) types refl zip);
 }
 
 -- ---- the tables, whatever the signal of the views is
@@ -183,24 +182,23 @@ one_signal Logs Metrics same = absurd (cc same)
 one_signal Metrics Traces same = absurd (cc same)
 one_signal Metrics Logs same = absurd (cc same)
 
-pub views_tables : (signal : Signal) (past payloads : List PayloadIn) (streams : List StreamIn) (views : List (Kind × Table)) → kinds_in streams ≡ kinds_of signal
-    → AreAfter (past ++ payloads) streams → CanShow streams payloads → AreViewsOf streams payloads views → map (λ view. view.1) views ≡ tables_of signal past payloads
-views_tables signal past payloads streams views kinds are can zip =
+pub views_tables : (signal : Signal) (past payloads : List PayloadIn) (streams : List StreamIn) (tables : List Table) → kinds_in streams ≡ kinds_of signal
+    → AreAfter (past ++ payloads) streams → CanShow streams payloads → AreViewsOf streams payloads tables → tables ≡ tables_of signal past payloads
+views_tables signal past payloads streams tables kinds are can zip =
     let types : HasFineTypes signal payloads = subst (λ (x : Signal). HasFineTypes x payloads) (one_signal can.signal signal (sym can.kinds ∙ kinds)) can.types in
-    tables_are signal past payloads streams kinds are types views zip
+    tables_are signal past payloads streams kinds are types tables zip
 
-pub gives_tables : (s : SegmentIn) (payloads : List PayloadIn) (views : List (Kind × Table)) → kinds_in s.streams ≡ kinds_of s.signal → s.broken ≡ false
-    → CanShow s.streams payloads → AreViewsOf s.streams payloads views → TablesOf s payloads views
-gives_tables s payloads views kinds whole can zip = record {
-  set = set_of can.signal s.streams payloads views can.types zip;
-  long = sym (zip-length (IsViewOf s.streams) payloads views zip);
-  tables = λ signal outcomes batch before same stands.
+pub gives_tables : (s : SegmentIn) (payloads : List PayloadIn) (tables : List Table) → kinds_in s.streams ≡ kinds_of s.signal → s.broken ≡ false
+    → CanShow s.streams payloads → AreViewsOf s.streams payloads tables → TablesOf s payloads tables
+gives_tables s payloads tables kinds whole can zip = record {
+  long = sym (zip-length (IsViewOf s.streams) payloads tables zip);
+  are = λ signal outcomes batch before same stands.
       let is : s.signal ≡ signal = stands.same in
       let kinds' : kinds_in s.streams ≡ kinds_of signal = kinds ∙ ap kinds_of is in
       let are : AreAfter (payloads_after outcomes ++ payloads) s.streams
       = subst (λ (ps : List PayloadIn). AreAfter ps s.streams)
       (payloads_accepted outcomes batch before ∙ ap (λ (ps : List PayloadIn). payloads_after outcomes ++ ps) same) (stands.streams whole) in
-      views_tables signal (payloads_after outcomes) payloads s.streams views kinds' are can zip;
+      views_tables signal (payloads_after outcomes) payloads s.streams tables kinds' are can zip;
 }
 
 -- ---- what is said of the tables of the views is said of the batch
@@ -210,11 +208,11 @@ too_large signal tables these held TooManyItems same past = subst (λ (ts : List
 too_large signal tables these held RowsTooHeavy same past = subst (λ (ts : List Table). IsTooLarge signal ts held RowsTooHeavy) same past
 too_large signal tables these held _ same past = absurd past
 
-pub weighs : (signal : Signal) (past payloads : List PayloadIn) (streams : List StreamIn) (views : List (Kind × Table)) (weight : ℕ) → kinds_in streams ≡ kinds_of signal
-    → AreAfter (past ++ payloads) streams → CanShow streams payloads → AreViewsOf streams payloads views → WithinLimits signal (map (λ view. view.1) views) weight
+pub weighs : (signal : Signal) (past payloads : List PayloadIn) (streams : List StreamIn) (tables : List Table) (weight : ℕ) → kinds_in streams ≡ kinds_of signal
+    → AreAfter (past ++ payloads) streams → CanShow streams payloads → AreViewsOf streams payloads tables → WithinLimits signal tables weight
     → nat_lt held_limit (sum_by held_of streams) ≡ false → Weighs signal past payloads weight
-weighs signal past payloads streams views weight kinds are can zip within light =
-    let same : map (λ (v : Kind × Table). v.1) views ≡ tables_of signal past payloads = views_tables signal past payloads streams views kinds are can zip in
+weighs signal past payloads streams tables weight kinds are can zip within light =
+    let same : tables ≡ tables_of signal past payloads = views_tables signal past payloads streams tables kinds are can zip in
     let held : sum_by held_of streams ≡ held_after signal (past ++ payloads) = held_are signal (past ++ payloads) streams kinds are in
     let w : WithinLimits signal (tables_of signal past payloads) weight = subst (λ (ts : List Table). WithinLimits signal ts weight) same within in
     record {

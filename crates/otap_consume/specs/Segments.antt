@@ -4,9 +4,7 @@ use Rattle.lists.specs.Payloads.{PayloadIn}
 use Rattle.otlp_model.specs.declared.request.Signal.{Signal}
 use Rattle.otap_capture.specs.Batch.{BatchContent, ReadsBatch}
 use Rattle.otap_capture.specs.Capture.{Frame, Message}
-use Rattle.otap_cells.specs.declared.payload.Kind.{Kind}
 use Rattle.otap_cells.specs.Payload.{kinds_of}
-use Rattle.otap_cells.specs.Sets.{IsSet, tables_in}
 use Rattle.otap_cells.specs.Tables.{Table}
 use Rattle.otap_cells.specs.Weights.{weight_of_tables}
 use Rattle.otap_consume.specs.declared.seen.Seen.{Seen}
@@ -68,12 +66,11 @@ abbrev pub TakesIf : Frame → SegmentIn → Seen → Type 0
 TakesIf frame s (seen.Batch id rows) = IsTaken frame s
 TakesIf frame s returned = ⊤
 
--- the tables of the payloads that were taken last, each beside its kind: wherever these are those of the last batch
-pub record TablesOf (s : SegmentIn) (payloads : List PayloadIn) (views : List (Kind × Table)) : Type 0 where
-  pub set : IsSet (λ table. table) views
-  pub long : length views ≡ length payloads
-  pub tables : (signal : Signal) (outcomes : List Outcome) (batch : BatchContent) (before : List Table) → batch.payloads ≡ payloads
-      → StandsFor signal (outcomes ++ Accepted batch before ∷ []) s → tables_in (λ table. table) views ≡ tables_of signal (payloads_after outcomes) payloads
+-- the tables of the payloads that were taken last, wherever these are those of the last batch
+pub record TablesOf (s : SegmentIn) (payloads : List PayloadIn) (tables : List Table) : Type 0 where
+  pub long : length tables ≡ length payloads
+  pub are : (signal : Signal) (outcomes : List Outcome) (batch : BatchContent) (before : List Table) → batch.payloads ≡ payloads
+      → StandsFor signal (outcomes ++ Accepted batch before ∷ []) s → tables ≡ tables_of signal (payloads_after outcomes) payloads
 
 -- a segment in which no frame stands
 pub record IsNew (signal : Signal) (s : SegmentIn) : Type 0 where

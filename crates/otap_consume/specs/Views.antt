@@ -4,7 +4,6 @@ use Rattle.std.specs.List.{AllZip}
 use Rattle.std.specs.Ordering.{int_eq}
 use Rattle.lists.specs.Payloads.{PayloadIn}
 use Rattle.otlp_model.specs.declared.request.Signal.{Signal}
-use Rattle.otap_cells.specs.declared.payload.Kind.{Kind}
 use Rattle.otap_cells.specs.Payload.{kinds_of, kind_numbered}
 use Rattle.otap_cells.specs.Tables.{Table}
 use Rattle.otap_columns.specs.Substreams.{logical}
@@ -23,14 +22,13 @@ is_stream_of type s = int_eq type (payload_type_of s.kind)
 abbrev pub Shown : List StreamIn → PayloadIn → Type 0
 Shown streams p = ShownBy (find (is_stream_of p.kind) streams) p
 
--- a table beside its kind is that of a payload, wherever the payload is the last one of its type
-pub record IsViewOf (streams : List StreamIn) (p : PayloadIn) (view : Kind × Table) : Type 0 where
-  pub type : payload_type_of view.0 ≡ p.kind
-  pub kind : view.1.kind ≡ view.0
-  pub known : (signal : Signal) → kinds_in streams ≡ kinds_of signal → kind_numbered signal p.kind ≡ Some view.0
-  pub table : (payloads : List PayloadIn) → AreAfter payloads streams → last_of p.kind payloads ≡ Some p
-      → logical view.0 (stream_of p.kind payloads) ≡ Some view.1
+-- a table is that of a payload, wherever the payload is the last one of its type
+pub record IsViewOf (streams : List StreamIn) (p : PayloadIn) (table : Table) : Type 0 where
+  pub type : payload_type_of table.kind ≡ p.kind
+  pub known : (signal : Signal) → kinds_in streams ≡ kinds_of signal → kind_numbered signal p.kind ≡ Some table.kind
+  pub shows : (payloads : List PayloadIn) → AreAfter payloads streams → last_of p.kind payloads ≡ Some p
+      → logical table.kind (stream_of p.kind payloads) ≡ Some table
 
 -- each of these is that of its payload
-abbrev pub AreViewsOf : List StreamIn → List PayloadIn → List (Kind × Table) → Type 0
-AreViewsOf streams payloads views = AllZip (IsViewOf streams) payloads views
+abbrev pub AreViewsOf : List StreamIn → List PayloadIn → List Table → Type 0
+AreViewsOf streams payloads tables = AllZip (IsViewOf streams) payloads tables

@@ -1,7 +1,6 @@
 //! The receiver of batches.
 ghost use Rattle.std.specs.Prelude.{◌≡◌, true, IfOk, IfErr, OnErr};
 ghost use Rattle.otap_capture.specs.Capture.{frame_of};
-ghost use Rattle.otap_cells.specs.Sets.{IsSet, tables_in};
 ghost use Rattle.otap_consume.specs.declared.taken.Taken.TheVariants as taken;
 ghost use Rattle.otap_consume.specs.Meanings.{StandsInRows};
 ghost use Rattle.otap_consume.specs.ReceiverInside.{OfLast, RefusesBy, TakesRows};
@@ -130,10 +129,9 @@ fn regroup_last<T: Telemetry>(
 
 /// The request of the tables of a batch.
 fn regroup<T: Telemetry>(alloc: Global, set: &TableSet<RowsView<'_>>) -> Result<Regrouped, NotTaken>
-    requires { IsSet (λ table. table) set.now.tables.items }
-    ensures regrouped { IfOk result (IsRegrouped T.meaning (tables_in (λ table. table) set.now.tables.items)) }
+    ensures regrouped { IfOk result (IsRegrouped T.meaning set.now) }
     ensures light { IfOk result IsLight }
-    ensures stops { IfErr result (SaysDefect (StandsInRows T.meaning (tables_in (λ table. table) set.now.tables.items))) }
+    ensures stops { IfErr result (SaysDefect (StandsInRows T.meaning set.now)) }
 {
     let kept = T::regroup(alloc, set)?;
     Ok(kept)

@@ -87,7 +87,7 @@ impl Segment {
     ) -> Result<TableSet<RowsView<'v>>, AllocError>
         requires whole { self.now.broken ≡ false }
         requires taken { CanShow self.now.streams batch.now.payloads }
-        ensures { IfOk result (λ set. TablesOf self.now batch.now.payloads set.tables.items) }
+        ensures { IfOk result (λ set. TablesOf self.now batch.now.payloads set) }
     {
         let set = views(alloc, &self.streams, batch)?;
         Ok(set)

@@ -2,7 +2,7 @@
 ghost use Rattle.std.specs.Prelude.{◌≡◌, length, sum_by, min, nat_lt, MatchResult};
 ghost use Rattle.otlp_model.specs.Limits.{count_cap};
 ghost use Rattle.otap_cells.specs.Payload.{main_of};
-ghost use Rattle.otap_cells.specs.Sets.{IsSet, tables_in, rows_named};
+ghost use Rattle.otap_cells.specs.Sets.{rows_named};
 ghost use Rattle.otap_consume.specs.Limits.{held_limit};
 ghost use Rattle.otap_consume.specs.Sizes.{WithinLimits, PastLimit, count_of_rows};
 ghost use Rattle.otap_consume.specs.StreamSteps.{held_of};
@@ -15,8 +15,7 @@ use otlp_model::{MAX_ITEMS, Signal, add_capped};
 /// The row weight of a set of tables, where it and the number of main rows are within their limits. No cell is visited
 /// where the number of rows alone is too heavy.
 pub(crate) fn weigh<R: Rows>(signal: Signal, set: &TableSet<R>) -> Result<u64, Cause>
-    requires { IsSet R.table set.now.tables.items }
-    ensures { MatchResult result (WithinLimits signal (tables_in R.table set.now.tables.items)) (PastLimit signal (tables_in R.table set.now.tables.items)) }
+    ensures { MatchResult result (WithinLimits signal set.now) (PastLimit signal set.now) }
 {
     if main_rows(signal, set) > MAX_ITEMS {
         return Err(Cause::TooManyItems);
@@ -32,8 +31,7 @@ pub(crate) fn weigh<R: Rows>(signal: Signal, set: &TableSet<R>) -> Result<u64, C
 }
 
 fn main_rows<R: Rows>(signal: Signal, set: &TableSet<R>) -> u64
-    requires { IsSet R.table set.now.tables.items }
-    ensures { result ≡ length (rows_named (main_of signal) (tables_in R.table set.now.tables.items)) }
+    ensures { result ≡ length (rows_named (main_of signal) set.now) }
 {
     match set.get(main_of(signal)) {
         Some(rows) => rows.rows(),
@@ -43,7 +41,7 @@ fn main_rows<R: Rows>(signal: Signal, set: &TableSet<R>) -> u64
 
 /// How many rows all tables have.
 fn count_rows<R: Rows>(set: &TableSet<R>) -> u64
-    ensures { result ≡ min (count_of_rows (tables_in R.table set.now.tables.items)) count_cap }
+    ensures { result ≡ min (count_of_rows set.now) count_cap }
 {
     let mut total = 0;
     'tables: for (_, rows) in &set.tables {

@@ -1,6 +1,5 @@
 //! What the tables of a signal mean: a receiver is written over this trait, and knows no signal.
 ghost use Rattle.std.specs.Prelude.{◌≡◌, List, IfOk, IfErr};
-ghost use Rattle.otap_cells.specs.Sets.{IsSet, tables_in};
 ghost use Rattle.otap_cells.specs.Tables.{Table};
 ghost use Rattle.otap_consume.specs.Meanings.{Meaning};
 ghost use Rattle.otap_consume.specs.Regroups.{IsLight, IsRegrouped, RefusesTables};
@@ -25,10 +24,9 @@ pub trait Telemetry {
     /// Looks at the rows of a batch, and then returns their request and its weight. The request is built only where its weight
     /// is within the limit.
     fn regroup(alloc: Global, set: &TableSet<RowsView<'_>>) -> Result<Regrouped, RegroupRefusal>
-        requires { IsSet (λ table. table) set.now.tables.items }
-        ensures regrouped { IfOk result (IsRegrouped meaning (tables_in (λ table. table) set.now.tables.items)) }
+        ensures regrouped { IfOk result (IsRegrouped meaning set.now) }
         ensures light { IfOk result IsLight }
-        ensures refuses { IfErr result (RefusesTables meaning (tables_in (λ table. table) set.now.tables.items)) };
+        ensures refuses { IfErr result (RefusesTables meaning set.now) };
 
     /// Law: nothing is wrong with the rows of tables, or something is.
     fn clean_or_wrong()

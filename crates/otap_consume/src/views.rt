@@ -18,7 +18,7 @@ pub(crate) fn views<'v>(
     batch: &Batch<'v>,
 ) -> Result<TableSet<RowsView<'v>>, AllocError>
     requires { CanShow streams.now batch.now.payloads }
-    ensures { IfOk result (λ set. AreViewsOf streams.now batch.now.payloads set.tables.items) }
+    ensures { IfOk result (λ set. AreViewsOf streams.now batch.now.payloads set) }
 {
     let mut tables = Vec::new(alloc);
     'payloads: for payload in batch.payloads() {
@@ -29,7 +29,8 @@ pub(crate) fn views<'v>(
 
 fn view<'v>(streams: &'v [Stream], payload: &Payload<'v>) -> (Kind, RowsView<'v>)
     requires { Shown streams.now (content_of payload.now) }
-    ensures { IsViewOf streams.now (content_of payload.now) result }
+    ensures view { IsViewOf streams.now (content_of payload.now) result.1 }
+    ensures beside { result.1.kind ≡ result.0 }
 {
     let Some(stream) = stream_of(streams, payload.kind) else {
         unreachable!()

@@ -2,7 +2,6 @@
 ghost use Rattle.std.specs.Prelude.{◌≡◌, ◌++◌, length, IfOk, OnOk};
 ghost use Rattle.otap_capture.specs.Batch.{content_of};
 ghost use Rattle.otap_capture.specs.Capture.{frame_of};
-ghost use Rattle.otap_cells.specs.Sets.{tables_in};
 ghost use Rattle.otap_consume.specs.Segments.{IsNew, IsTaken, TakesIf};
 ghost use Rattle.otap_gateway.specs.declared.command.Command.TheVariants as command;
 ghost use Rattle.otap_gateway.specs.JobStates.{HasShown};
@@ -92,8 +91,8 @@ fn batch_text<R: Rows>(
     batch: &Batch<'_>,
     set: &TableSet<R>,
 ) -> Result<Vec<u8>, AllocError>
-    requires { length set.now.tables.items ≡ length batch.now.payloads }
-    ensures { IfOk result (λ text. text.items ≡ batch_text number batch.now (tables_in R.table set.now.tables.items)) }
+    requires { length set.now ≡ length batch.now.payloads }
+    ensures { IfOk result (λ text. text.items ≡ batch_text number batch.now set.now) }
 {
     let mut out = Vec::new(alloc);
     push_head_line(&mut out, number, batch.id())?;

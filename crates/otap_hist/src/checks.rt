@@ -2,20 +2,17 @@
 ghost use Rattle.std.specs.Prelude.{◌≡◌, true, false};
 ghost use Rattle.otap_cells.specs.declared.payload.Kind.TheVariants as table;
 ghost use Rattle.otap_cells.specs.Named.{table_named};
-ghost use Rattle.otap_cells.specs.Sets.{IsSet, tables_in};
 ghost use Rattle.otap_hist.specs.Requests.{HasUnevenLists};
 
 use crate::columns::sum_point;
 use otap_cells::{Kind, Rows, TableSet, bytes_in};
-use otap_checks::table_of;
 
 /// Whether a point of a summary has other numbers of quantiles and of values.
 pub(crate) fn has_uneven_lists<R: Rows>(set: &TableSet<R>) -> bool
-    requires { IsSet R.table set.now.tables.items }
-    ensures yes { result ≡ true → HasUnevenLists (table_named table.SummaryPoints (tables_in R.table set.now.tables.items)) }
-    ensures no { result ≡ false → HasUnevenLists (table_named table.SummaryPoints (tables_in R.table set.now.tables.items)) → ⊥ }
+    ensures yes { result ≡ true → HasUnevenLists (table_named table.SummaryPoints set.now) }
+    ensures no { result ≡ false → HasUnevenLists (table_named table.SummaryPoints set.now) → ⊥ }
 {
-    match table_of(set, Kind::SummaryPoints) {
+    match set.get(Kind::SummaryPoints) {
         Some(rows) => any_uneven(rows),
         None => false,
     }

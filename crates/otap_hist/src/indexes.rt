@@ -5,7 +5,6 @@ ghost use Rattle.otlp_model.specs.declared.metrics.Exemplar.{Exemplar};
 ghost use Rattle.otlp_model.specs.declared.value.Pair.{Pair};
 ghost use Rattle.otap_cells.specs.declared.payload.Kind.TheVariants as table;
 ghost use Rattle.otap_cells.specs.Named.{table_named};
-ghost use Rattle.otap_cells.specs.Sets.{IsSet, tables_in};
 ghost use Rattle.otap_groups.specs.Children.{children};
 ghost use Rattle.otap_groups.specs.Found.{found};
 ghost use Rattle.otap_checks.specs.Known.{Knows};
@@ -15,7 +14,7 @@ ghost use Rattle.otap_hist.specs.Points.{hist_point_of, sum_point_of};
 
 use crate::reading::{HistPoints, SumPoints};
 use otap_cells::{Kind, Rows, TableSet};
-use otap_checks::{KnownIds, table_of};
+use otap_checks::KnownIds;
 use otap_groups::{Children, Lookup};
 use otlp_model::{Exemplar, Pair};
 use std::alloc::{AllocError, Global};
@@ -29,15 +28,14 @@ pub(crate) fn index_hists<'a, R: Rows, P: Lookup<Child = Pair>, X: Lookup<Child 
     pairs: P,
     exemplars: X,
 ) -> Result<Children<'a, HistPoints<'a, R, P, X>>, AllocError>
-    requires set { IsSet R.table set.now.tables.items }
-    requires known { Knows (table_named table.HistPoints (tables_in R.table set.now.tables.items)) table.HistPoints known.now.columns.items }
+    requires known { Knows (table_named table.HistPoints set.now) table.HistPoints known.now.columns.items }
     requires pairs_weighed { (pair : Pair) → P.weigh pairs pair ≡ weight_of_pair pair }
     requires exemplars_weighed { (exemplar : Exemplar) → X.weigh exemplars exemplar ≡ weight_of_exemplar exemplar }
     ensures { IfOk result (λ made. (parent : Option ℕ)
         → found (λ id own. hist_point_of own (P.finds made.reader.pairs id) (X.finds made.reader.exemplars id)) made.ids.now (cells_or (λ rows. map (drop 2) (R.table rows.now).rows) made.reader.rows) made.entries.items parent
-        ≡ children (λ id own. hist_point_of own (P.finds pairs id) (X.finds exemplars id)) (part_rows_in (table_named table.HistPoints (tables_in R.table set.now.tables.items))) parent) }
+        ≡ children (λ id own. hist_point_of own (P.finds pairs id) (X.finds exemplars id)) (part_rows_in (table_named table.HistPoints set.now)) parent) }
 {
-    let Some(rows) = table_of(set, Kind::HistPoints) else {
+    let Some(rows) = set.get(Kind::HistPoints) else {
         let none = HistPoints {
             rows: None,
             pairs,
@@ -63,14 +61,13 @@ pub(crate) fn index_summaries<'a, R: Rows, P: Lookup<Child = Pair>>(
     known: &'a KnownIds,
     pairs: P,
 ) -> Result<Children<'a, SumPoints<'a, R, P>>, AllocError>
-    requires set { IsSet R.table set.now.tables.items }
-    requires known { Knows (table_named table.SummaryPoints (tables_in R.table set.now.tables.items)) table.SummaryPoints known.now.columns.items }
+    requires known { Knows (table_named table.SummaryPoints set.now) table.SummaryPoints known.now.columns.items }
     requires weighed { (pair : Pair) → P.weigh pairs pair ≡ weight_of_pair pair }
     ensures { IfOk result (λ made. (parent : Option ℕ)
         → found (λ id own. sum_point_of own (P.finds made.reader.pairs id)) made.ids.now (cells_or (λ rows. map (drop 2) (R.table rows.now).rows) made.reader.rows) made.entries.items parent
-        ≡ children (λ id own. sum_point_of own (P.finds pairs id)) (part_rows_in (table_named table.SummaryPoints (tables_in R.table set.now.tables.items))) parent) }
+        ≡ children (λ id own. sum_point_of own (P.finds pairs id)) (part_rows_in (table_named table.SummaryPoints set.now)) parent) }
 {
-    let Some(rows) = table_of(set, Kind::SummaryPoints) else {
+    let Some(rows) = set.get(Kind::SummaryPoints) else {
         let none = SumPoints { rows: None, pairs };
         let made = Children::new(alloc, none, &[], &[])?;
         return Ok(made);

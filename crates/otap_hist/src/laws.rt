@@ -1,6 +1,5 @@
 //! What the definitions mean, as functions that do nothing: each ensures a law for all requests.
 ghost use Rattle.std.specs.Prelude.{◌≡◌, ◌≤◌, ◌+◌, ◌||◌, All, List, length, map, filter, nat_lt};
-ghost use Rattle.std.specs.List.{flat_map};
 ghost use Rattle.otlp_model.specs.Limits.{weight_limit};
 ghost use Rattle.otlp_model.specs.Profile.{IsProfile};
 ghost use Rattle.otlp_model.specs.Real.{IsReal};
@@ -15,23 +14,17 @@ ghost use Rattle.otap_cells.specs.declared.payload.Kind.{Kind};
 ghost use Rattle.otap_cells.specs.declared.payload.Kind.TheVariants as table;
 ghost use Rattle.otap_cells.specs.Named.{table_named};
 ghost use Rattle.otap_cells.specs.Payload.{is_kind, kinds_of, main_of};
-ghost use Rattle.otap_cells.specs.Sets.{IsSet, tables_in};
-ghost use Rattle.otap_cells.specs.Tables.{Table};
 ghost use Rattle.otap_cells.specs.Weights.{weight_of_tables};
-ghost use Rattle.otap_attrs.specs.Tables.{beside_kind, where_rows};
 ghost use Rattle.otap_groups.specs.ProfileTables.{IsProfileTable};
 ghost use Rattle.otap_metrics.specs.Tables.{HoldMetrics, tables_of_metrics};
 ghost use Rattle.otap_attrs.specs.declared.refusal.RowRefusal.{RowRefusal};
 ghost use Rattle.otap_hist.specs.Requests.{WrongWhole, regrouped_whole};
-ghost use Rattle.otap_hist.specs.Tables.{HoldHists, hist_tables, put_all, whole_tables};
+ghost use Rattle.otap_hist.specs.Tables.{HoldHists, hist_tables, whole_tables};
 
-/// Law: the tables of the points of histograms and summaries, put among the other tables of a request, make all its tables.
-pub fn tables_are_whole()
-    ensures tables { (groups : List (ResourceGroup Metric)) (pairs : List (Kind × Table)) → IsSet (λ t. t) pairs → tables_in (λ t. t) pairs ≡ tables_of_metrics groups
-        → tables_in (λ t. t) (put_all (map beside_kind (flat_map where_rows (hist_tables groups))) pairs) ≡ whole_tables groups }
-    ensures set { (groups : List (ResourceGroup Metric)) (pairs : List (Kind × Table)) → IsSet (λ t. t) pairs → tables_in (λ t. t) pairs ≡ tables_of_metrics groups
-        → IsSet (λ t. t) (put_all (map beside_kind (flat_map where_rows (hist_tables groups))) pairs) }
-    ensures weight { (groups : List (ResourceGroup Metric)) → weight_of_tables (whole_tables groups) ≡ weight_of_tables (tables_of_metrics groups) + weight_of_tables (hist_tables groups) }
+/// Law: what all tables of a request of metrics weigh is the sum of what those of otap_metrics and those of the points of
+/// histograms and summaries weigh.
+pub fn tables_weigh_together()
+    ensures { (groups : List (ResourceGroup Metric)) → weight_of_tables (whole_tables groups) ≡ weight_of_tables (tables_of_metrics groups) + weight_of_tables (hist_tables groups) }
 {}
 
 /// Law: all tables of a request stand among themselves.

@@ -5,7 +5,6 @@ ghost use Rattle.otlp_model.specs.Limits.{weight_limit};
 ghost use Rattle.otlp_model.specs.Weight.{weight_of};
 ghost use Rattle.otlp_model.specs.declared.request.Request.TheVariants.{Metrics};
 ghost use Rattle.otap_cells.specs.declared.payload.Kind.{Kind};
-ghost use Rattle.otap_cells.specs.Sets.{IsSet, tables_in};
 ghost use Rattle.otap_attrs.specs.declared.refusal.CheckRefusal.TheVariants as check;
 ghost use Rattle.otap_attrs.specs.declared.refusal.RowRefusal.{RowRefusal};
 ghost use Rattle.otap_checks.specs.Refusing.{RefusesCheck};
@@ -32,12 +31,11 @@ const VALUE: u32 = 3;
 /// The request of a batch of metrics and what it weighs, where nothing is wrong with the rows and it weighs at most the limit.
 /// It is built only then. Takes n log n for n rows, and time in proportion to them where ids and parents rise or count from 0.
 pub fn regroup<R: Rows>(alloc: Global, set: &TableSet<R>) -> Result<Grouped<Metric>, RegroupRefusal>
-    requires { IsSet R.table set.now.tables.items }
-    ensures clean { OnOk result ((kind : Kind) (why : RowRefusal) → WrongWhole (tables_in R.table set.now.tables.items) kind why → ⊥) }
-    ensures groups { IfOk result (λ made. made.groups ≡ regrouped_whole (tables_in R.table set.now.tables.items)) }
+    ensures clean { OnOk result ((kind : Kind) (why : RowRefusal) → WrongWhole set.now kind why → ⊥) }
+    ensures groups { IfOk result (λ made. made.groups ≡ regrouped_whole set.now) }
     ensures tree { IfOk result (λ made. made.tree ≡ weight_of (Metrics made.groups)) }
     ensures light { IfOk result (λ made. made.tree ≤ weight_limit) }
-    ensures refused { IfErr result (RefusesRegroup (WrongWhole (tables_in R.table set.now.tables.items)) (weight_of (Metrics (regrouped_whole (tables_in R.table set.now.tables.items))))) }
+    ensures refused { IfErr result (RefusesRegroup (WrongWhole set.now) (weight_of (Metrics (regrouped_whole set.now)))) }
 {
     let known = check_all(alloc, set)?;
     let of_exemplars = find_pairs(alloc, set, Kind::HistExemplarAttrs, &known)?;
@@ -55,10 +53,9 @@ pub fn request_of<R: Rows>(
     alloc: Global,
     set: &TableSet<R>,
 ) -> Result<Items<ResourceGroup<Metric>>, AllocError>
-    requires set { IsSet R.table set.now.tables.items }
-    requires clean { (kind : Kind) (why : RowRefusal) → WrongWhole (tables_in R.table set.now.tables.items) kind why → ⊥ }
-    requires light { weight_of (Metrics (regrouped_whole (tables_in R.table set.now.tables.items))) ≤ weight_limit }
-    ensures { IfOk result (λ groups. groups ≡ regrouped_whole (tables_in R.table set.now.tables.items)) }
+    requires clean { (kind : Kind) (why : RowRefusal) → WrongWhole set.now kind why → ⊥ }
+    requires light { weight_of (Metrics (regrouped_whole set.now)) ≤ weight_limit }
+    ensures { IfOk result (λ groups. groups ≡ regrouped_whole set.now) }
 {
     match regroup(alloc, set) {
         Ok(made) => Ok(made.groups),
@@ -69,11 +66,10 @@ pub fn request_of<R: Rows>(
 
 /// Looks at all rows but whether those of one id agree, and returns the ids of the tables.
 fn check_all<R: Rows>(alloc: Global, set: &TableSet<R>) -> Result<KnownIds, CheckRefusal>
-    requires { IsSet R.table set.now.tables.items }
-    ensures metrics { OnOk result (AreWhole (tables_in R.table set.now.tables.items)) }
-    ensures hists { OnOk result (AreWholeHists (tables_in R.table set.now.tables.items)) }
-    ensures known { IfOk result (λ known. KnowsAll signal.Metrics (tables_in R.table set.now.tables.items) known.columns.items) }
-    ensures refused { IfErr result (RefusesCheck (WrongWhole (tables_in R.table set.now.tables.items))) }
+    ensures metrics { OnOk result (AreWhole set.now) }
+    ensures hists { OnOk result (AreWholeHists set.now) }
+    ensures known { IfOk result (λ known. KnowsAll signal.Metrics set.now known.columns.items) }
+    ensures refused { IfErr result (RefusesCheck (WrongWhole set.now)) }
 {
     let known = known_ids(alloc, set, Signal::Metrics)?;
     check_metrics(alloc, set, &known)?;
@@ -87,10 +83,9 @@ fn check_hists<R: Rows>(
     set: &TableSet<R>,
     known: &KnownIds,
 ) -> Result<(), CheckRefusal>
-    requires set { IsSet R.table set.now.tables.items }
-    requires known { KnowsAll signal.Metrics (tables_in R.table set.now.tables.items) known.now.columns.items }
-    ensures fine { OnOk result (AreFine (tables_in R.table set.now.tables.items)) }
-    ensures refused { IfErr result (RefusesCheck (WrongHistCells (tables_in R.table set.now.tables.items))) }
+    requires { KnowsAll signal.Metrics set.now known.now.columns.items }
+    ensures fine { OnOk result (AreFine set.now) }
+    ensures refused { IfErr result (RefusesCheck (WrongHistCells set.now)) }
 {
     if has_other_parents(alloc, set, known, Kind::SummaryPoints, PointSort::Summaries)? {
         return Err(defect(Kind::SummaryPoints, RowRefusal::BadKind));

@@ -8,7 +8,8 @@ ghost use Rattle.otlp_model.specs.declared.request.Request.TheVariants.{Metrics}
 ghost use Rattle.otap_cells.specs.Payload.{number_of};
 ghost use Rattle.otap_cells.specs.Tables.{Table};
 ghost use Rattle.otap_attrs.specs.Tables.{beside_kind, where_rows};
-ghost use Rattle.otap_hist.specs.Tables.{hist_tables, put_all, put_in};
+ghost use Rattle.otap_hist.specs.Tables.{hist_tables, put_all, put_in, whole_tables};
+ghost use Rattle.otap_metrics.specs.Tables.{tables_of_metrics};
 
 use crate::points::{HistExemplarWriter, HistPointWriter, SumPointWriter};
 use otap_attrs::{add_attributes, add_parts};
@@ -18,20 +19,32 @@ use otlp_model::{Items, Metric, ResourceGroup};
 use std::alloc::{AllocError, Global};
 
 /// Puts the tables of the points of histograms and summaries, and of what is below these points, among the other tables of
-/// the request: each that has rows before the first of a greater payload type. Takes n log n for n attributes. After want of
-/// memory some of them may be there.
+/// the request: each that has rows before the first of a greater payload type. Takes n log n for n attributes.
 pub fn add_tables(
     alloc: Global,
     groups: &Items<ResourceGroup<Metric>>,
-    set: &mut TableSet<LogicalTable>,
-) -> Result<(), AllocError>
+    set: TableSet<LogicalTable>,
+) -> Result<TableSet<LogicalTable>, AllocError>
     requires profile { IsProfile (Metrics groups.now) }
     requires weight { weight_of (Metrics groups.now) ≤ weight_limit }
-    ensures { OnOk result (set.new.tables.items ≡ put_all (map beside_kind (flat_map where_rows (hist_tables groups.now))) set.old.tables.items) }
+    requires others { set ≡ tables_of_metrics groups.now }
+    ensures { IfOk result (λ all. all ≡ whole_tables groups.now) }
 {
     let ones = tables_of(alloc, groups.as_slice())?;
+    let mut tables = set.tables;
+    put_each(&mut tables, ones)?;
+    Ok(TableSet { tables })
+}
+
+/// Puts tables among others, one after the other.
+fn put_each(
+    tables: &mut Vec<(Kind, LogicalTable)>,
+    ones: Vec<(Kind, LogicalTable)>,
+) -> Result<(), AllocError>
+    ensures { OnOk result (tables.new.items ≡ put_all ones.items tables.old.items) }
+{
     'ones: for (kind, table) in ones {
-        put(&mut set.tables, kind, table)?;
+        put(tables, kind, table)?;
     }
     Ok(())
 }

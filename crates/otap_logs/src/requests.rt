@@ -6,7 +6,6 @@ ghost use Rattle.otlp_model.specs.declared.request.Request.TheVariants.{Logs};
 ghost use Rattle.otap_cells.specs.declared.payload.Kind.{Kind};
 ghost use Rattle.otap_cells.specs.declared.payload.Kind.TheVariants as table;
 ghost use Rattle.otap_cells.specs.Named.{table_named};
-ghost use Rattle.otap_cells.specs.Sets.{IsSet, tables_in};
 ghost use Rattle.otap_groups.specs.Found.{found};
 ghost use Rattle.otap_groups.specs.Rows.{main_rows};
 ghost use Rattle.otap_attrs.specs.declared.refusal.RowRefusal.{RowRefusal};
@@ -29,7 +28,7 @@ use otap_attrs::{CheckRefusal, RowRefusal};
 use otap_cells::{Kind, Rows, TableSet};
 use otap_checks::{
     Grouped, KnownIds, RegroupRefusal, TablePairs, check_values, disagrees, find_pairs, front_of,
-    groups_within, known_ids, table_of,
+    groups_within, known_ids,
 };
 use otap_groups::{Children, FrontColumns, Main};
 use otlp_model::{Items, LogRecord, ResourceGroup, Signal};
@@ -46,13 +45,12 @@ type LogRows<'a, R> = Main<
 /// Looks at the rows of a batch of logs, and returns what their request weighs, or `CAP` where it is more. It builds nothing.
 /// Takes n log n for n rows.
 pub fn check_rows<R: Rows>(alloc: Global, set: &TableSet<R>) -> Result<u64, CheckRefusal>
-    requires { IsSet R.table set.now.tables.items }
-    ensures clean { OnOk result ((kind : Kind) (why : RowRefusal) → WrongLogs (tables_in R.table set.now.tables.items) kind why → ⊥) }
-    ensures weight { IfOk result (λ weight. weight ≡ min (weight_of (Logs (regrouped_logs (tables_in R.table set.now.tables.items)))) count_cap) }
-    ensures refused { IfErr result (RefusesCheck (WrongLogs (tables_in R.table set.now.tables.items))) }
+    ensures clean { OnOk result ((kind : Kind) (why : RowRefusal) → WrongLogs set.now kind why → ⊥) }
+    ensures weight { IfOk result (λ weight. weight ≡ min (weight_of (Logs (regrouped_logs set.now))) count_cap) }
+    ensures refused { IfErr result (RefusesCheck (WrongLogs set.now)) }
 {
     let known = check_cells(alloc, set)?;
-    let Some(rows) = table_of(set, Kind::Logs) else {
+    let Some(rows) = set.get(Kind::Logs) else {
         return Ok(0);
     };
     let main = clean_main(alloc, set, rows, &known)?;
@@ -65,15 +63,14 @@ pub fn regroup<R: Rows>(
     alloc: Global,
     set: &TableSet<R>,
 ) -> Result<Grouped<LogRecord>, RegroupRefusal>
-    requires { IsSet R.table set.now.tables.items }
-    ensures clean { OnOk result ((kind : Kind) (why : RowRefusal) → WrongLogs (tables_in R.table set.now.tables.items) kind why → ⊥) }
-    ensures groups { IfOk result (λ made. made.groups ≡ regrouped_logs (tables_in R.table set.now.tables.items)) }
+    ensures clean { OnOk result ((kind : Kind) (why : RowRefusal) → WrongLogs set.now kind why → ⊥) }
+    ensures groups { IfOk result (λ made. made.groups ≡ regrouped_logs set.now) }
     ensures tree { IfOk result (λ made. made.tree ≡ weight_of (Logs made.groups)) }
     ensures light { IfOk result (λ made. made.tree ≤ weight_limit) }
-    ensures refused { IfErr result (RefusesRegroup (WrongLogs (tables_in R.table set.now.tables.items)) (weight_of (Logs (regrouped_logs (tables_in R.table set.now.tables.items))))) }
+    ensures refused { IfErr result (RefusesRegroup (WrongLogs set.now) (weight_of (Logs (regrouped_logs set.now)))) }
 {
     let known = check_cells(alloc, set)?;
-    let Some(rows) = table_of(set, Kind::Logs) else {
+    let Some(rows) = set.get(Kind::Logs) else {
         return Ok(Grouped {
             groups: Items::new(alloc),
             tree: 0,
@@ -89,10 +86,9 @@ pub fn request_of<R: Rows>(
     alloc: Global,
     set: &TableSet<R>,
 ) -> Result<Items<ResourceGroup<LogRecord>>, AllocError>
-    requires set { IsSet R.table set.now.tables.items }
-    requires clean { (kind : Kind) (why : RowRefusal) → WrongLogs (tables_in R.table set.now.tables.items) kind why → ⊥ }
-    requires light { weight_of (Logs (regrouped_logs (tables_in R.table set.now.tables.items))) ≤ weight_limit }
-    ensures { IfOk result (λ groups. groups ≡ regrouped_logs (tables_in R.table set.now.tables.items)) }
+    requires clean { (kind : Kind) (why : RowRefusal) → WrongLogs set.now kind why → ⊥ }
+    requires light { weight_of (Logs (regrouped_logs set.now)) ≤ weight_limit }
+    ensures { IfOk result (λ groups. groups ≡ regrouped_logs set.now) }
 {
     match regroup(alloc, set) {
         Ok(made) => Ok(made.groups),
@@ -103,10 +99,9 @@ pub fn request_of<R: Rows>(
 
 /// Looks at all but whether rows of one id agree, and returns the ids of the tables.
 fn check_cells<R: Rows>(alloc: Global, set: &TableSet<R>) -> Result<KnownIds, CheckRefusal>
-    requires { IsSet R.table set.now.tables.items }
-    ensures clean { OnOk result (AreWhole (tables_in R.table set.now.tables.items)) }
-    ensures known { IfOk result (λ known. KnowsAll signal.Logs (tables_in R.table set.now.tables.items) known.columns.items) }
-    ensures refused { IfErr result (RefusesCheck (WrongLogs (tables_in R.table set.now.tables.items))) }
+    ensures clean { OnOk result (AreWhole set.now) }
+    ensures known { IfOk result (λ known. KnowsAll signal.Logs set.now known.columns.items) }
+    ensures refused { IfErr result (RefusesCheck (WrongLogs set.now)) }
 {
     let known = known_ids(alloc, set, Signal::Logs)?;
     check_values(set, Kind::Logs, columns::BODY)?;
@@ -123,18 +118,17 @@ fn clean_main<'a, R: Rows>(
     rows: &'a R,
     known: &'a KnownIds,
 ) -> Result<LogRows<'a, R>, CheckRefusal>
-    requires set { IsSet R.table set.now.tables.items }
-    requires whole { AreWhole (tables_in R.table set.now.tables.items) }
-    requires known { KnowsAll signal.Logs (tables_in R.table set.now.tables.items) known.now.columns.items }
-    requires table { table_named table.Logs (tables_in R.table set.now.tables.items) ≡ R.table rows.now }
+    requires whole { AreWhole set.now }
+    requires known { KnowsAll signal.Logs set.now known.now.columns.items }
+    requires table { table_named table.Logs set.now ≡ R.table rows.now }
     requires kind { (R.table rows.now).kind ≡ table.Logs }
-    ensures clean { OnOk result ((kind : Kind) (why : RowRefusal) → WrongLogs (tables_in R.table set.now.tables.items) kind why → ⊥) }
+    ensures clean { OnOk result ((kind : Kind) (why : RowRefusal) → WrongLogs set.now kind why → ⊥) }
     ensures groups { IfOk result (λ main. regrouped (λ parent. found (λ id cells. pair_in cells) main.resources.ids.now (cells_or (λ p. map (drop 1) (R.table p.rows.now).rows) main.resources.reader.pairs) main.resources.entries.items parent)
         (λ parent. found (λ id cells. pair_in cells) main.scopes.ids.now (cells_or (λ p. map (drop 1) (R.table p.rows.now).rows) main.scopes.reader.pairs) main.scopes.entries.items parent)
         (λ id own. record_of own (found (λ id cells. pair_in cells) main.items.pairs.ids.now (cells_or (λ p. map (drop 1) (R.table p.rows.now).rows) main.items.pairs.reader.pairs) main.items.pairs.entries.items id))
         (main_rows main.front.ids.now main.front.resource_ids.now main.front.scope_ids.now (R.table main.front.rows.now).rows)
-        ≡ regrouped_logs (tables_in R.table set.now.tables.items)) }
-    ensures refused { IfErr result (RefusesCheck (WrongLogs (tables_in R.table set.now.tables.items))) }
+        ≡ regrouped_logs set.now) }
+    ensures refused { IfErr result (RefusesCheck (WrongLogs set.now)) }
 {
     let front = front_of(rows, known);
     if disagrees(alloc, &front)? {
@@ -154,21 +148,20 @@ fn main_of<'a, R: Rows>(
     front: FrontColumns<'a, R>,
     known: &'a KnownIds,
 ) -> Result<LogRows<'a, R>, AllocError>
-    requires set { IsSet R.table set.now.tables.items }
-    requires known { KnowsAll signal.Logs (tables_in R.table set.now.tables.items) known.now.columns.items }
+    requires known { KnowsAll signal.Logs set.now known.now.columns.items }
     requires kind { (R.table front.rows.now).kind ≡ table.Logs }
     requires agree { Disagree (main_rows front.ids.now front.resource_ids.now front.scope_ids.now (R.table front.rows.now).rows) → ⊥ }
     ensures front { IfOk result (λ main. main_rows main.front.ids.now main.front.resource_ids.now main.front.scope_ids.now (R.table main.front.rows.now).rows
         ≡ main_rows front.entry.ids.now front.entry.resource_ids.now front.entry.scope_ids.now (R.table front.entry.rows.now).rows) }
     ensures resources { IfOk result (λ main. (parent : Option ℕ)
         → found (λ id cells. pair_in cells) main.resources.ids.now (cells_or (λ p. map (drop 1) (R.table p.rows.now).rows) main.resources.reader.pairs) main.resources.entries.items parent
-        ≡ pairs_in (table_named table.ResourceAttrs (tables_in R.table set.now.tables.items)) parent) }
+        ≡ pairs_in (table_named table.ResourceAttrs set.now) parent) }
     ensures scopes { IfOk result (λ main. (parent : Option ℕ)
         → found (λ id cells. pair_in cells) main.scopes.ids.now (cells_or (λ p. map (drop 1) (R.table p.rows.now).rows) main.scopes.reader.pairs) main.scopes.entries.items parent
-        ≡ pairs_in (table_named table.ScopeAttrs (tables_in R.table set.now.tables.items)) parent) }
+        ≡ pairs_in (table_named table.ScopeAttrs set.now) parent) }
     ensures records { IfOk result (λ main. (parent : Option ℕ)
         → found (λ id cells. pair_in cells) main.items.pairs.ids.now (cells_or (λ p. map (drop 1) (R.table p.rows.now).rows) main.items.pairs.reader.pairs) main.items.pairs.entries.items parent
-        ≡ pairs_in (table_named table.LogAttrs (tables_in R.table set.now.tables.items)) parent) }
+        ≡ pairs_in (table_named table.LogAttrs set.now) parent) }
 {
     let rows = front.rows;
     let resources = find_pairs(alloc, set, Kind::ResourceAttrs, known)?;

@@ -5,7 +5,6 @@ ghost use Rattle.otlp_model.specs.Profile.{IsProfile};
 ghost use Rattle.otlp_model.specs.Weight.{weight_of};
 ghost use Rattle.otlp_model.specs.declared.request.Request.TheVariants.{Logs};
 ghost use Rattle.otap_cells.specs.declared.payload.Kind.TheVariants as table;
-ghost use Rattle.otap_cells.specs.Sets.{IsSet, tables_in};
 ghost use Rattle.otap_groups.specs.Weighing.{cells_weight};
 ghost use Rattle.otap_logs.specs.Records.{record_cells};
 ghost use Rattle.otap_logs.specs.Tables.{tables_of_logs};
@@ -99,8 +98,7 @@ pub fn tables_of(
 ) -> Result<TableSet<LogicalTable>, AllocError>
     requires profile { IsProfile (Logs groups.now) }
     requires weight { weight_of (Logs groups.now) ≤ weight_limit }
-    ensures tables { IfOk result (λ set. tables_in (λ t. t) set.tables.items ≡ tables_of_logs groups.now) }
-    ensures set { IfOk result (λ set. IsSet (λ t. t) set.tables.items) }
+    ensures { IfOk result (λ set. set ≡ tables_of_logs groups.now) }
 {
     let groups = groups.as_slice();
     let rows = flatten(alloc, groups)?;

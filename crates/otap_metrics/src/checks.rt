@@ -5,7 +5,6 @@ ghost use Rattle.otap_cells.specs.declared.payload.Kind.TheVariants as table;
 ghost use Rattle.otap_cells.specs.Columns.{is_id_at, width_of};
 ghost use Rattle.otap_cells.specs.Inside.{numbers};
 ghost use Rattle.otap_cells.specs.Named.{table_named};
-ghost use Rattle.otap_cells.specs.Sets.{IsSet, tables_in};
 ghost use Rattle.otap_cells.specs.Cells.{seen};
 ghost use Rattle.otap_checks.specs.Known.{Knows};
 ghost use Rattle.otap_metrics.specs.Inside.{FindsOther, HoldsId};
@@ -15,7 +14,7 @@ ghost use Rattle.otap_metrics.specs.Requests.{HasTwoValues, NamesOther, WrongPar
 
 use crate::columns::metric;
 use otap_cells::{CellView, Kind, Rows, TableSet, number_in};
-use otap_checks::{KnownIds, table_of};
+use otap_checks::KnownIds;
 use std::alloc::{AllocError, Global};
 
 /// Which points a table has: those of gauges and sums, of histograms, or of summaries.
@@ -44,11 +43,10 @@ impl PointSort {
 
 /// Whether a metric's type is none of those that there are.
 pub(crate) fn has_wrong_type<R: Rows>(set: &TableSet<R>) -> bool
-    requires { IsSet R.table set.now.tables.items }
-    ensures yes { result ≡ true → WrongType (table_named table.Metrics (tables_in R.table set.now.tables.items)) }
-    ensures no { result ≡ false → WrongType (table_named table.Metrics (tables_in R.table set.now.tables.items)) → ⊥ }
+    ensures yes { result ≡ true → WrongType (table_named table.Metrics set.now) }
+    ensures no { result ≡ false → WrongType (table_named table.Metrics set.now) → ⊥ }
 {
-    match table_of(set, Kind::Metrics) {
+    match set.get(Kind::Metrics) {
         Some(rows) => any_wrong_type(rows),
         None => false,
     }
@@ -76,13 +74,12 @@ fn is_type(number: u32) -> bool
 
 /// Whether a row of a kind's table has an integer in this column and a double in the one after it.
 pub fn has_two_values<R: Rows>(set: &TableSet<R>, kind: Kind, column: u32) -> bool
-    requires set { IsSet R.table set.now.tables.items }
     requires column { column + 1 < width_of kind }
     requires few { column + 1 < 2 ^ 32 }
-    ensures yes { result ≡ true → HasTwoValues (table_named kind (tables_in R.table set.now.tables.items)) column }
-    ensures no { result ≡ false → HasTwoValues (table_named kind (tables_in R.table set.now.tables.items)) column → ⊥ }
+    ensures yes { result ≡ true → HasTwoValues (table_named kind set.now) column }
+    ensures no { result ≡ false → HasTwoValues (table_named kind set.now) column → ⊥ }
 {
-    match table_of(set, kind) {
+    match set.get(kind) {
         Some(rows) => any_two_values(rows, column),
         None => false,
     }
@@ -120,14 +117,13 @@ pub fn has_other_parents<R: Rows>(
     kind: Kind,
     sort: PointSort,
 ) -> Result<bool, AllocError>
-    requires set { IsSet R.table set.now.tables.items }
-    requires metrics { Knows (table_named table.Metrics (tables_in R.table set.now.tables.items)) table.Metrics known.now.columns.items }
-    requires points { Knows (table_named kind (tables_in R.table set.now.tables.items)) kind known.now.columns.items }
+    requires metrics { Knows (table_named table.Metrics set.now) table.Metrics known.now.columns.items }
+    requires points { Knows (table_named kind set.now) kind known.now.columns.items }
     requires parent { is_id_at kind 1 ≡ true }
-    ensures yes { IfOk result (λ found. found ≡ true → WrongParent (fits_of sort) (table_named kind (tables_in R.table set.now.tables.items)) (table_named table.Metrics (tables_in R.table set.now.tables.items))) }
-    ensures no { IfOk result (λ found. found ≡ false → WrongParent (fits_of sort) (table_named kind (tables_in R.table set.now.tables.items)) (table_named table.Metrics (tables_in R.table set.now.tables.items)) → ⊥) }
+    ensures yes { IfOk result (λ found. found ≡ true → WrongParent (fits_of sort) (table_named kind set.now) (table_named table.Metrics set.now)) }
+    ensures no { IfOk result (λ found. found ≡ false → WrongParent (fits_of sort) (table_named kind set.now) (table_named table.Metrics set.now) → ⊥) }
 {
-    let Some(rows) = table_of(set, Kind::Metrics) else {
+    let Some(rows) = set.get(Kind::Metrics) else {
         return Ok(false);
     };
     let ids = known.of(Kind::Metrics, 0);

@@ -6,7 +6,6 @@ ghost use Rattle.otlp_model.specs.declared.value.Pair.{Pair};
 ghost use Rattle.otap_cells.specs.declared.payload.Kind.TheVariants as table;
 ghost use Rattle.otap_cells.specs.Columns.{columns_of, exemplars};
 ghost use Rattle.otap_cells.specs.Named.{table_named};
-ghost use Rattle.otap_cells.specs.Sets.{IsSet, tables_in};
 ghost use Rattle.otap_groups.specs.Children.{children};
 ghost use Rattle.otap_groups.specs.Found.{found};
 ghost use Rattle.otap_groups.specs.Kinds.{IsPart};
@@ -17,7 +16,7 @@ ghost use Rattle.otap_metrics.specs.Points.{exemplar_of, point_of};
 
 use crate::reading::{Exemplars, Points};
 use otap_cells::{Kind, Rows, TableSet};
-use otap_checks::{KnownIds, table_of};
+use otap_checks::KnownIds;
 use otap_groups::{Children, Lookup};
 use otlp_model::{Exemplar, Pair};
 use std::alloc::{AllocError, Global};
@@ -31,16 +30,15 @@ pub fn index_exemplars<'a, R: Rows, P: Lookup<Child = Pair>>(
     known: &'a KnownIds,
     pairs: P,
 ) -> Result<Children<'a, Exemplars<'a, R, P>>, AllocError>
-    requires set { IsSet R.table set.now.tables.items }
     requires part { IsPart kind }
     requires columns { columns_of kind ≡ exemplars }
-    requires known { Knows (table_named kind (tables_in R.table set.now.tables.items)) kind known.now.columns.items }
+    requires known { Knows (table_named kind set.now) kind known.now.columns.items }
     requires weighed { (pair : Pair) → P.weigh pairs pair ≡ weight_of_pair pair }
     ensures { IfOk result (λ made. (parent : Option ℕ)
         → found (λ id own. exemplar_of own (P.finds made.reader.pairs id)) made.ids.now (cells_or (λ rows. map (drop 2) (R.table rows.now).rows) made.reader.rows) made.entries.items parent
-        ≡ children (λ id own. exemplar_of own (P.finds pairs id)) (part_rows_in (table_named kind (tables_in R.table set.now.tables.items))) parent) }
+        ≡ children (λ id own. exemplar_of own (P.finds pairs id)) (part_rows_in (table_named kind set.now)) parent) }
 {
-    let Some(rows) = table_of(set, kind) else {
+    let Some(rows) = set.get(kind) else {
         let none = Exemplars { rows: None, pairs };
         let made = Children::new(alloc, none, &[], &[])?;
         return Ok(made);
@@ -62,15 +60,14 @@ pub(crate) fn index_points<'a, R: Rows, P: Lookup<Child = Pair>, X: Lookup<Child
     pairs: P,
     exemplars: X,
 ) -> Result<Children<'a, Points<'a, R, P, X>>, AllocError>
-    requires set { IsSet R.table set.now.tables.items }
-    requires known { Knows (table_named table.NumberPoints (tables_in R.table set.now.tables.items)) table.NumberPoints known.now.columns.items }
+    requires known { Knows (table_named table.NumberPoints set.now) table.NumberPoints known.now.columns.items }
     requires pairs_weighed { (pair : Pair) → P.weigh pairs pair ≡ weight_of_pair pair }
     requires exemplars_weighed { (exemplar : Exemplar) → X.weigh exemplars exemplar ≡ weight_of_exemplar exemplar }
     ensures { IfOk result (λ made. (parent : Option ℕ)
         → found (λ id own. point_of own (P.finds made.reader.pairs id) (X.finds made.reader.exemplars id)) made.ids.now (cells_or (λ rows. map (drop 2) (R.table rows.now).rows) made.reader.rows) made.entries.items parent
-        ≡ children (λ id own. point_of own (P.finds pairs id) (X.finds exemplars id)) (part_rows_in (table_named table.NumberPoints (tables_in R.table set.now.tables.items))) parent) }
+        ≡ children (λ id own. point_of own (P.finds pairs id) (X.finds exemplars id)) (part_rows_in (table_named table.NumberPoints set.now)) parent) }
 {
-    let Some(rows) = table_of(set, Kind::NumberPoints) else {
+    let Some(rows) = set.get(Kind::NumberPoints) else {
         let none = Points {
             rows: None,
             pairs,

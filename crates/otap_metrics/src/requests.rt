@@ -10,7 +10,6 @@ ghost use Rattle.otlp_model.specs.declared.value.Pair.{Pair};
 ghost use Rattle.otap_cells.specs.declared.payload.Kind.{Kind};
 ghost use Rattle.otap_cells.specs.declared.payload.Kind.TheVariants as table;
 ghost use Rattle.otap_cells.specs.Named.{table_named};
-ghost use Rattle.otap_cells.specs.Sets.{IsSet, tables_in};
 ghost use Rattle.otap_groups.specs.Groups.{regrouped};
 ghost use Rattle.otap_groups.specs.Rows.{main_rows};
 ghost use Rattle.otap_attrs.specs.declared.refusal.CheckRefusal.TheVariants as check;
@@ -29,8 +28,7 @@ use crate::reading::Metrics as MetricRows;
 use otap_attrs::{CheckRefusal, RowRefusal};
 use otap_cells::{Kind, Rows, TableSet};
 use otap_checks::{
-    Grouped, KnownIds, RegroupRefusal, check_values, disagrees, find_pairs, front_of,
-    groups_within, table_of,
+    Grouped, KnownIds, RegroupRefusal, check_values, disagrees, find_pairs, front_of, groups_within,
 };
 use otap_groups::{Lookup, Main};
 use otlp_model::{HistPoint, Items, Metric, Pair, Point, SumPoint};
@@ -43,11 +41,10 @@ pub fn check_metrics<R: Rows>(
     set: &TableSet<R>,
     known: &KnownIds,
 ) -> Result<(), CheckRefusal>
-    requires set { IsSet R.table set.now.tables.items }
-    requires ids { (kind : Kind) (why : RowRefusal) → WrongIds (tables_in R.table set.now.tables.items) kind why → ⊥ }
-    requires known { KnowsMetrics (tables_in R.table set.now.tables.items) known.now.columns.items }
-    ensures whole { OnOk result (AreWhole (tables_in R.table set.now.tables.items)) }
-    ensures refused { IfErr result (RefusesCheck (WrongMetrics (tables_in R.table set.now.tables.items))) }
+    requires ids { (kind : Kind) (why : RowRefusal) → WrongIds set.now kind why → ⊥ }
+    requires known { KnowsMetrics set.now known.now.columns.items }
+    ensures whole { OnOk result (AreWhole set.now) }
+    ensures refused { IfErr result (RefusesCheck (WrongMetrics set.now)) }
 {
     if has_wrong_type(set) {
         return Err(defect(Kind::Metrics, RowRefusal::BadKind));
@@ -84,19 +81,18 @@ pub fn regroup_with<R: Rows, H: Lookup<Child = HistPoint>, S: Lookup<Child = Sum
     hists: H,
     summaries: S,
 ) -> Result<Grouped<Metric>, RegroupRefusal>
-    requires set { IsSet R.table set.now.tables.items }
-    requires whole { AreWhole (tables_in R.table set.now.tables.items) }
-    requires known { KnowsMetrics (tables_in R.table set.now.tables.items) known.now.columns.items }
+    requires whole { AreWhole set.now }
+    requires known { KnowsMetrics set.now known.now.columns.items }
     requires hists_weighed { (point : HistPoint) → H.weigh hists point ≡ weight_of_hist_point point }
     requires summaries_weighed { (point : SumPoint) → S.weigh summaries point ≡ weight_of_sum_point point }
-    ensures clean { OnOk result ((kind : Kind) (why : RowRefusal) → WrongMetrics (tables_in R.table set.now.tables.items) kind why → ⊥) }
-    ensures groups { IfOk result (λ made. made.groups ≡ regrouped_metrics (H.finds hists) (S.finds summaries) (tables_in R.table set.now.tables.items)) }
+    ensures clean { OnOk result ((kind : Kind) (why : RowRefusal) → WrongMetrics set.now kind why → ⊥) }
+    ensures groups { IfOk result (λ made. made.groups ≡ regrouped_metrics (H.finds hists) (S.finds summaries) set.now) }
     ensures tree { IfOk result (λ made. made.tree ≡ weight_of (Metrics made.groups)) }
     ensures light { IfOk result (λ made. made.tree ≤ weight_limit) }
-    ensures refused { IfErr result (RefusesRegroup (WrongMetrics (tables_in R.table set.now.tables.items))
-        (weight_of (Metrics (regrouped_metrics (H.finds hists) (S.finds summaries) (tables_in R.table set.now.tables.items))))) }
+    ensures refused { IfErr result (RefusesRegroup (WrongMetrics set.now)
+        (weight_of (Metrics (regrouped_metrics (H.finds hists) (S.finds summaries) set.now)))) }
 {
-    let Some(rows) = table_of(set, Kind::Metrics) else {
+    let Some(rows) = set.get(Kind::Metrics) else {
         return Ok(Grouped {
             groups: Items::new(alloc),
             tree: 0,
@@ -134,21 +130,20 @@ fn main_groups<
     resources: P,
     scopes: P,
 ) -> Result<Grouped<Metric>, RegroupRefusal>
-    requires set { IsSet R.table set.now.tables.items }
-    requires whole { AreWhole (tables_in R.table set.now.tables.items) }
-    requires known { KnowsMetrics (tables_in R.table set.now.tables.items) known.now.columns.items }
-    requires table { table_named table.Metrics (tables_in R.table set.now.tables.items) ≡ R.table items.rows.now }
-    requires resources { (parent : Option ℕ) → P.finds resources parent ≡ pairs_in (table_named table.ResourceAttrs (tables_in R.table set.now.tables.items)) parent }
-    requires scopes { (parent : Option ℕ) → P.finds scopes parent ≡ pairs_in (table_named table.ScopeAttrs (tables_in R.table set.now.tables.items)) parent }
-    requires points { (parent : Option ℕ) → N.finds items.points parent ≡ points_in (tables_in R.table set.now.tables.items) parent }
+    requires whole { AreWhole set.now }
+    requires known { KnowsMetrics set.now known.now.columns.items }
+    requires table { table_named table.Metrics set.now ≡ R.table items.rows.now }
+    requires resources { (parent : Option ℕ) → P.finds resources parent ≡ pairs_in (table_named table.ResourceAttrs set.now) parent }
+    requires scopes { (parent : Option ℕ) → P.finds scopes parent ≡ pairs_in (table_named table.ScopeAttrs set.now) parent }
+    requires points { (parent : Option ℕ) → N.finds items.points parent ≡ points_in set.now parent }
     requires resources_weighed { (pair : Pair) → P.weigh resources pair ≡ weight_of_pair pair }
     requires scopes_weighed { (pair : Pair) → P.weigh scopes pair ≡ weight_of_pair pair }
-    ensures clean { OnOk result ((kind : Kind) (why : RowRefusal) → WrongMetrics (tables_in R.table set.now.tables.items) kind why → ⊥) }
-    ensures groups { IfOk result (λ made. made.groups ≡ regrouped_metrics (H.finds items.entry.hist_points) (S.finds items.entry.summary_points) (tables_in R.table set.now.tables.items)) }
+    ensures clean { OnOk result ((kind : Kind) (why : RowRefusal) → WrongMetrics set.now kind why → ⊥) }
+    ensures groups { IfOk result (λ made. made.groups ≡ regrouped_metrics (H.finds items.entry.hist_points) (S.finds items.entry.summary_points) set.now) }
     ensures tree { IfOk result (λ made. made.tree ≡ weight_of (Metrics made.groups)) }
     ensures light { IfOk result (λ made. made.tree ≤ weight_limit) }
-    ensures refused { IfErr result (RefusesRegroup (WrongMetrics (tables_in R.table set.now.tables.items))
-        (weight_of (Metrics (regrouped_metrics (H.finds items.entry.hist_points) (S.finds items.entry.summary_points) (tables_in R.table set.now.tables.items))))) }
+    ensures refused { IfErr result (RefusesRegroup (WrongMetrics set.now)
+        (weight_of (Metrics (regrouped_metrics (H.finds items.entry.hist_points) (S.finds items.entry.summary_points) set.now)))) }
 {
     let main = clean_main(alloc, set, known, items, resources, scopes)?;
     let made = groups_within(alloc, &main)?;
@@ -171,23 +166,22 @@ fn clean_main<
     resources: P,
     scopes: P,
 ) -> Result<Main<'a, R, MetricRows<'a, R, N, H, S>, P>, CheckRefusal>
-    requires set { IsSet R.table set.now.tables.items }
-    requires whole { AreWhole (tables_in R.table set.now.tables.items) }
-    requires known { KnowsMetrics (tables_in R.table set.now.tables.items) known.now.columns.items }
-    requires table { table_named table.Metrics (tables_in R.table set.now.tables.items) ≡ R.table items.rows.now }
-    requires resources { (parent : Option ℕ) → P.finds resources parent ≡ pairs_in (table_named table.ResourceAttrs (tables_in R.table set.now.tables.items)) parent }
-    requires scopes { (parent : Option ℕ) → P.finds scopes parent ≡ pairs_in (table_named table.ScopeAttrs (tables_in R.table set.now.tables.items)) parent }
-    requires points { (parent : Option ℕ) → N.finds items.points parent ≡ points_in (tables_in R.table set.now.tables.items) parent }
+    requires whole { AreWhole set.now }
+    requires known { KnowsMetrics set.now known.now.columns.items }
+    requires table { table_named table.Metrics set.now ≡ R.table items.rows.now }
+    requires resources { (parent : Option ℕ) → P.finds resources parent ≡ pairs_in (table_named table.ResourceAttrs set.now) parent }
+    requires scopes { (parent : Option ℕ) → P.finds scopes parent ≡ pairs_in (table_named table.ScopeAttrs set.now) parent }
+    requires points { (parent : Option ℕ) → N.finds items.points parent ≡ points_in set.now parent }
     requires resources_weighed { (pair : Pair) → P.weigh resources pair ≡ weight_of_pair pair }
     requires scopes_weighed { (pair : Pair) → P.weigh scopes pair ≡ weight_of_pair pair }
-    ensures clean { OnOk result ((kind : Kind) (why : RowRefusal) → WrongMetrics (tables_in R.table set.now.tables.items) kind why → ⊥) }
+    ensures clean { OnOk result ((kind : Kind) (why : RowRefusal) → WrongMetrics set.now kind why → ⊥) }
     ensures resources_weighed { IfOk result (λ main. (pair : Pair) → P.weigh main.resources pair ≡ weight_of_pair pair) }
     ensures scopes_weighed { IfOk result (λ main. (pair : Pair) → P.weigh main.scopes pair ≡ weight_of_pair pair) }
     ensures groups { IfOk result (λ main. regrouped (P.finds main.resources) (P.finds main.scopes)
         (λ id own. metric_of own (record { points = N.finds main.items.points id; hist_points = H.finds main.items.hist_points id; summary_points = S.finds main.items.summary_points id }))
         (main_rows main.front.ids.now main.front.resource_ids.now main.front.scope_ids.now (R.table main.front.rows.now).rows)
-        ≡ regrouped_metrics (H.finds items.entry.hist_points) (S.finds items.entry.summary_points) (tables_in R.table set.now.tables.items)) }
-    ensures refused { IfErr result (RefusesCheck (WrongMetrics (tables_in R.table set.now.tables.items))) }
+        ≡ regrouped_metrics (H.finds items.entry.hist_points) (S.finds items.entry.summary_points) set.now) }
+    ensures refused { IfErr result (RefusesCheck (WrongMetrics set.now)) }
 {
     let front = front_of(items.rows, known);
     if disagrees(alloc, &front)? {

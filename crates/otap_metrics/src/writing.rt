@@ -5,7 +5,6 @@ ghost use Rattle.otlp_model.specs.Profile.{IsProfile};
 ghost use Rattle.otlp_model.specs.Weight.{weight_of};
 ghost use Rattle.otlp_model.specs.declared.request.Request.TheVariants.{Metrics};
 ghost use Rattle.otap_cells.specs.declared.payload.Kind.TheVariants as table;
-ghost use Rattle.otap_cells.specs.Sets.{IsSet, tables_in};
 ghost use Rattle.otap_groups.specs.Weighing.{cells_weight};
 ghost use Rattle.otap_metrics.specs.Metrics.{is_monotonic, metric_cells, points_of, temporality_of, shape_number};
 ghost use Rattle.otap_metrics.specs.Points.{exemplar_cells, point_cells};
@@ -232,8 +231,7 @@ pub fn tables_of(
 ) -> Result<TableSet<LogicalTable>, AllocError>
     requires profile { IsProfile (Metrics groups.now) }
     requires weight { weight_of (Metrics groups.now) ≤ weight_limit }
-    ensures tables { IfOk result (λ set. tables_in (λ t. t) set.tables.items ≡ tables_of_metrics groups.now) }
-    ensures set { IfOk result (λ set. IsSet (λ t. t) set.tables.items) }
+    ensures { IfOk result (λ set. set ≡ tables_of_metrics groups.now) }
 {
     let groups = groups.as_slice();
     let rows = flatten(alloc, groups)?;

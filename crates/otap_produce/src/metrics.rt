@@ -1,6 +1,5 @@
 //! The tables of metrics.
 ghost use Rattle.std.specs.Prelude.{◌≡◌, ◌≤◌, min, IfOk};
-ghost use Rattle.otap_cells.specs.Sets.{tables_in};
 ghost use Rattle.otap_cells.specs.Weights.{weight_of_tables};
 ghost use Rattle.otap_hist.specs.Tables.{whole_tables};
 ghost use Rattle.otap_produce.specs.MetricRows.{metrics_rows};
@@ -11,7 +10,7 @@ ghost use Rattle.otlp_model.specs.declared.request.Request.TheVariants.{Metrics}
 
 use crate::tabled::Tabled;
 use otap_cells::{LogicalTable, TableSet};
-use otap_hist::laws::{tables_are_whole, tables_by_type, tables_can_be_written};
+use otap_hist::laws::{tables_by_type, tables_can_be_written, tables_weigh_together};
 use otap_hist::{add_tables, points_weight};
 use otap_metrics::{table_weight, tables_of};
 use otlp_model::{Items, Metric, Request, ResourceGroup, Signal, add_capped};
@@ -54,7 +53,7 @@ fn all_weight(groups: &Items<ResourceGroup<Metric>>) -> u64
     requires light { weight_of (Metrics groups.now) ≤ weight_limit }
     ensures { result ≡ min (weight_of_tables (whole_tables groups.now)) count_cap }
 {
-    tables_are_whole();
+    tables_weigh_together();
     add_capped(table_weight(groups), points_weight(groups))
 }
 
@@ -65,10 +64,9 @@ fn all_tables(
 ) -> Result<TableSet<LogicalTable>, AllocError>
     requires profile { IsProfile (Metrics groups.now) }
     requires light { weight_of (Metrics groups.now) ≤ weight_limit }
-    ensures { IfOk result (λ set. tables_in (λ t. t) set.tables.items ≡ whole_tables groups.now) }
+    ensures { IfOk result (λ set. set ≡ whole_tables groups.now) }
 {
-    let mut set = tables_of(alloc, groups)?;
-    add_tables(alloc, groups, &mut set)?;
-    tables_are_whole();
-    Ok(set)
+    let set = tables_of(alloc, groups)?;
+    let all = add_tables(alloc, groups, set)?;
+    Ok(all)
 }

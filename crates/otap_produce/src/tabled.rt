@@ -1,6 +1,5 @@
 //! The tables of a signal: an exporter is written over this trait, and knows no signal.
 ghost use Rattle.std.specs.Prelude.{◌≡◌, ◌≤◌, min, IfOk};
-ghost use Rattle.otap_cells.specs.Sets.{tables_in};
 ghost use Rattle.otap_cells.specs.Weights.{weight_of_tables};
 ghost use Rattle.otlp_model.specs.Limits.{weight_limit, count_cap};
 ghost use Rattle.otlp_model.specs.Profile.{IsProfile};
@@ -32,7 +31,7 @@ pub trait Tabled {
     /// The tables of a request.
     fn tables(alloc: Global, request: &Request) -> Result<TableSet<LogicalTable>, AllocError>
         requires { IsExported rows request.now }
-        ensures { IfOk result (λ set. tables_in (λ t. t) set.tables.items ≡ rows.tables request.now) };
+        ensures { IfOk result (λ set. set ≡ rows.tables request.now) };
 
     /// Law: the tables of a request that is exported can be written.
     fn can_be_written()

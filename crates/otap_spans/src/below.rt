@@ -4,7 +4,6 @@ ghost use Rattle.otlp_model.specs.Weight.{weight_of_pair};
 ghost use Rattle.otlp_model.specs.declared.value.Pair.{Pair};
 ghost use Rattle.otap_cells.specs.declared.payload.Kind.TheVariants as table;
 ghost use Rattle.otap_cells.specs.Named.{table_named};
-ghost use Rattle.otap_cells.specs.Sets.{IsSet, tables_in};
 ghost use Rattle.otap_groups.specs.Found.{finds_in};
 ghost use Rattle.otap_checks.specs.Known.{Knows};
 ghost use Rattle.otap_attrs.specs.Index.{pairs_in};
@@ -13,7 +12,7 @@ ghost use Rattle.otap_spans.specs.Requests.{events_in, links_in};
 
 use crate::reading::{Events, Links};
 use otap_cells::{Kind, Rows, TableSet};
-use otap_checks::{KnownIds, TablePairs, table_of};
+use otap_checks::{KnownIds, TablePairs};
 use otap_groups::{Children, Lookup};
 use otlp_model::Pair;
 use std::alloc::{AllocError, Global};
@@ -34,15 +33,14 @@ pub(crate) fn index_events<'a, R: Rows, P: Lookup<Child = Pair>>(
     known: &'a KnownIds,
     pairs: P,
 ) -> Result<Option<Children<'a, Events<'a, R, P>>>, AllocError>
-    requires set { IsSet R.table set.now.tables.items }
-    requires known { Knows (table_named table.SpanEvents (tables_in R.table set.now.tables.items)) table.SpanEvents known.now.columns.items }
+    requires known { Knows (table_named table.SpanEvents set.now) table.SpanEvents known.now.columns.items }
     requires weighed { (pair : Pair) → P.weigh pairs pair ≡ weight_of_pair pair }
-    requires pairs { (id : Option ℕ) → P.finds pairs id ≡ pairs_in (table_named table.EventAttrs (tables_in R.table set.now.tables.items)) id }
+    requires pairs { (id : Option ℕ) → P.finds pairs id ≡ pairs_in (table_named table.EventAttrs set.now) id }
     ensures { IfOk result (λ made. (parent : Option ℕ)
         → finds_in (λ e. events_by (P.finds e.reader.pairs) e.ids.now (map (drop 2) (R.table e.reader.rows.now).rows) e.entries.items) made parent
-        ≡ events_in (table_named table.SpanEvents (tables_in R.table set.now.tables.items)) (table_named table.EventAttrs (tables_in R.table set.now.tables.items)) parent) }
+        ≡ events_in (table_named table.SpanEvents set.now) (table_named table.EventAttrs set.now) parent) }
 {
-    let Some(rows) = table_of(set, Kind::SpanEvents) else {
+    let Some(rows) = set.get(Kind::SpanEvents) else {
         return Ok(None);
     };
     let ids = known.of(Kind::SpanEvents, 0);
@@ -58,15 +56,14 @@ pub(crate) fn index_links<'a, R: Rows, P: Lookup<Child = Pair>>(
     known: &'a KnownIds,
     pairs: P,
 ) -> Result<Option<Children<'a, Links<'a, R, P>>>, AllocError>
-    requires set { IsSet R.table set.now.tables.items }
-    requires known { Knows (table_named table.SpanLinks (tables_in R.table set.now.tables.items)) table.SpanLinks known.now.columns.items }
+    requires known { Knows (table_named table.SpanLinks set.now) table.SpanLinks known.now.columns.items }
     requires weighed { (pair : Pair) → P.weigh pairs pair ≡ weight_of_pair pair }
-    requires pairs { (id : Option ℕ) → P.finds pairs id ≡ pairs_in (table_named table.LinkAttrs (tables_in R.table set.now.tables.items)) id }
+    requires pairs { (id : Option ℕ) → P.finds pairs id ≡ pairs_in (table_named table.LinkAttrs set.now) id }
     ensures { IfOk result (λ made. (parent : Option ℕ)
         → finds_in (λ l. links_by (P.finds l.reader.pairs) l.ids.now (map (drop 2) (R.table l.reader.rows.now).rows) l.entries.items) made parent
-        ≡ links_in (table_named table.SpanLinks (tables_in R.table set.now.tables.items)) (table_named table.LinkAttrs (tables_in R.table set.now.tables.items)) parent) }
+        ≡ links_in (table_named table.SpanLinks set.now) (table_named table.LinkAttrs set.now) parent) }
 {
-    let Some(rows) = table_of(set, Kind::SpanLinks) else {
+    let Some(rows) = set.get(Kind::SpanLinks) else {
         return Ok(None);
     };
     let ids = known.of(Kind::SpanLinks, 0);

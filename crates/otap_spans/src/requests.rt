@@ -7,7 +7,6 @@ ghost use Rattle.otlp_model.specs.declared.request.Request.TheVariants.{Traces};
 ghost use Rattle.otap_cells.specs.declared.payload.Kind.{Kind};
 ghost use Rattle.otap_cells.specs.declared.payload.Kind.TheVariants as table;
 ghost use Rattle.otap_cells.specs.Named.{table_named};
-ghost use Rattle.otap_cells.specs.Sets.{IsSet, tables_in};
 ghost use Rattle.otap_groups.specs.Disagree.{Disagree};
 ghost use Rattle.otap_groups.specs.Groups.{regrouped};
 ghost use Rattle.otap_groups.specs.Found.{finds_in};
@@ -27,7 +26,7 @@ use otap_attrs::{CheckRefusal, RowRefusal};
 use otap_cells::{Kind, Rows, TableSet};
 use otap_checks::{
     Grouped, KnownIds, RegroupRefusal, check_values, disagrees, find_pairs, front_of,
-    groups_within, known_ids, table_of,
+    groups_within, known_ids,
 };
 use otap_groups::{FrontColumns, Main};
 use otlp_model::{Items, ResourceGroup, Signal, Span};
@@ -44,13 +43,12 @@ type SpanRows<'a, R> = Main<
 /// Looks at the rows of a batch of spans, and returns what their request weighs, or `CAP` where it is more. It builds nothing.
 /// Takes n log n for n rows.
 pub fn check_rows<R: Rows>(alloc: Global, set: &TableSet<R>) -> Result<u64, CheckRefusal>
-    requires { IsSet R.table set.now.tables.items }
-    ensures clean { OnOk result ((kind : Kind) (why : RowRefusal) → WrongSpans (tables_in R.table set.now.tables.items) kind why → ⊥) }
-    ensures weight { IfOk result (λ weight. weight ≡ min (weight_of (Traces (regrouped_spans (tables_in R.table set.now.tables.items)))) count_cap) }
-    ensures refused { IfErr result (RefusesCheck (WrongSpans (tables_in R.table set.now.tables.items))) }
+    ensures clean { OnOk result ((kind : Kind) (why : RowRefusal) → WrongSpans set.now kind why → ⊥) }
+    ensures weight { IfOk result (λ weight. weight ≡ min (weight_of (Traces (regrouped_spans set.now))) count_cap) }
+    ensures refused { IfErr result (RefusesCheck (WrongSpans set.now)) }
 {
     let known = check_cells(alloc, set)?;
-    let Some(rows) = table_of(set, Kind::Spans) else {
+    let Some(rows) = set.get(Kind::Spans) else {
         return Ok(0);
     };
     let main = clean_main(alloc, set, rows, &known)?;
@@ -60,15 +58,14 @@ pub fn check_rows<R: Rows>(alloc: Global, set: &TableSet<R>) -> Result<u64, Chec
 /// The request of a batch of spans and what it weighs, where nothing is wrong with the rows and it weighs at most the limit.
 /// It is built only then. Takes n log n for n rows, and time in proportion to them where ids and parents rise or count from 0.
 pub fn regroup<R: Rows>(alloc: Global, set: &TableSet<R>) -> Result<Grouped<Span>, RegroupRefusal>
-    requires { IsSet R.table set.now.tables.items }
-    ensures clean { OnOk result ((kind : Kind) (why : RowRefusal) → WrongSpans (tables_in R.table set.now.tables.items) kind why → ⊥) }
-    ensures groups { IfOk result (λ made. made.groups ≡ regrouped_spans (tables_in R.table set.now.tables.items)) }
+    ensures clean { OnOk result ((kind : Kind) (why : RowRefusal) → WrongSpans set.now kind why → ⊥) }
+    ensures groups { IfOk result (λ made. made.groups ≡ regrouped_spans set.now) }
     ensures tree { IfOk result (λ made. made.tree ≡ weight_of (Traces made.groups)) }
     ensures light { IfOk result (λ made. made.tree ≤ weight_limit) }
-    ensures refused { IfErr result (RefusesRegroup (WrongSpans (tables_in R.table set.now.tables.items)) (weight_of (Traces (regrouped_spans (tables_in R.table set.now.tables.items))))) }
+    ensures refused { IfErr result (RefusesRegroup (WrongSpans set.now) (weight_of (Traces (regrouped_spans set.now)))) }
 {
     let known = check_cells(alloc, set)?;
-    let Some(rows) = table_of(set, Kind::Spans) else {
+    let Some(rows) = set.get(Kind::Spans) else {
         return Ok(Grouped {
             groups: Items::new(alloc),
             tree: 0,
@@ -84,10 +81,9 @@ pub fn request_of<R: Rows>(
     alloc: Global,
     set: &TableSet<R>,
 ) -> Result<Items<ResourceGroup<Span>>, AllocError>
-    requires set { IsSet R.table set.now.tables.items }
-    requires clean { (kind : Kind) (why : RowRefusal) → WrongSpans (tables_in R.table set.now.tables.items) kind why → ⊥ }
-    requires light { weight_of (Traces (regrouped_spans (tables_in R.table set.now.tables.items))) ≤ weight_limit }
-    ensures { IfOk result (λ groups. groups ≡ regrouped_spans (tables_in R.table set.now.tables.items)) }
+    requires clean { (kind : Kind) (why : RowRefusal) → WrongSpans set.now kind why → ⊥ }
+    requires light { weight_of (Traces (regrouped_spans set.now)) ≤ weight_limit }
+    ensures { IfOk result (λ groups. groups ≡ regrouped_spans set.now) }
 {
     match regroup(alloc, set) {
         Ok(made) => Ok(made.groups),
@@ -98,10 +94,9 @@ pub fn request_of<R: Rows>(
 
 /// Looks at all but whether rows of one id agree, and returns the ids of the tables.
 fn check_cells<R: Rows>(alloc: Global, set: &TableSet<R>) -> Result<KnownIds, CheckRefusal>
-    requires { IsSet R.table set.now.tables.items }
-    ensures clean { OnOk result (AreWhole (tables_in R.table set.now.tables.items)) }
-    ensures known { IfOk result (λ known. KnowsAll signal.Traces (tables_in R.table set.now.tables.items) known.columns.items) }
-    ensures refused { IfErr result (RefusesCheck (WrongSpans (tables_in R.table set.now.tables.items))) }
+    ensures clean { OnOk result (AreWhole set.now) }
+    ensures known { IfOk result (λ known. KnowsAll signal.Traces set.now known.columns.items) }
+    ensures refused { IfErr result (RefusesCheck (WrongSpans set.now)) }
 {
     let known = known_ids(alloc, set, Signal::Traces)?;
     check_values(set, Kind::ResourceAttrs, 2)?;
@@ -119,12 +114,11 @@ fn clean_main<'a, R: Rows>(
     rows: &'a R,
     known: &'a KnownIds,
 ) -> Result<SpanRows<'a, R>, CheckRefusal>
-    requires set { IsSet R.table set.now.tables.items }
-    requires whole { AreWhole (tables_in R.table set.now.tables.items) }
-    requires known { KnowsAll signal.Traces (tables_in R.table set.now.tables.items) known.now.columns.items }
-    requires table { table_named table.Spans (tables_in R.table set.now.tables.items) ≡ R.table rows.now }
+    requires whole { AreWhole set.now }
+    requires known { KnowsAll signal.Traces set.now known.now.columns.items }
+    requires table { table_named table.Spans set.now ≡ R.table rows.now }
     requires kind { (R.table rows.now).kind ≡ table.Spans }
-    ensures clean { OnOk result ((kind : Kind) (why : RowRefusal) → WrongSpans (tables_in R.table set.now.tables.items) kind why → ⊥) }
+    ensures clean { OnOk result ((kind : Kind) (why : RowRefusal) → WrongSpans set.now kind why → ⊥) }
     ensures groups { IfOk result (λ main. regrouped
         (pairs_by (λ p. map (drop 1) (R.table p.rows.now).rows) main.resources.ids.now main.resources.reader.pairs main.resources.entries.items)
         (pairs_by (λ p. map (drop 1) (R.table p.rows.now).rows) main.scopes.ids.now main.scopes.reader.pairs main.scopes.entries.items)
@@ -135,8 +129,8 @@ fn clean_main<'a, R: Rows>(
         (finds_in (λ l. links_by (pairs_by (λ p. map (drop 1) (R.table p.rows.now).rows) l.reader.pairs.ids.now l.reader.pairs.reader.pairs l.reader.pairs.entries.items)
         l.ids.now (map (drop 2) (R.table l.reader.rows.now).rows) l.entries.items) main.items.links id))
         (main_rows main.front.ids.now main.front.resource_ids.now main.front.scope_ids.now (R.table main.front.rows.now).rows)
-        ≡ regrouped_spans (tables_in R.table set.now.tables.items)) }
-    ensures refused { IfErr result (RefusesCheck (WrongSpans (tables_in R.table set.now.tables.items))) }
+        ≡ regrouped_spans set.now) }
+    ensures refused { IfErr result (RefusesCheck (WrongSpans set.now)) }
 {
     let front = front_of(rows, known);
     if disagrees(alloc, &front)? {
@@ -156,29 +150,28 @@ fn main_of<'a, R: Rows>(
     front: FrontColumns<'a, R>,
     known: &'a KnownIds,
 ) -> Result<SpanRows<'a, R>, AllocError>
-    requires set { IsSet R.table set.now.tables.items }
-    requires known { KnowsAll signal.Traces (tables_in R.table set.now.tables.items) known.now.columns.items }
+    requires known { KnowsAll signal.Traces set.now known.now.columns.items }
     requires kind { (R.table front.rows.now).kind ≡ table.Spans }
     requires agree { Disagree (main_rows front.ids.now front.resource_ids.now front.scope_ids.now (R.table front.rows.now).rows) → ⊥ }
     ensures front { IfOk result (λ main. main_rows main.front.ids.now main.front.resource_ids.now main.front.scope_ids.now (R.table main.front.rows.now).rows
         ≡ main_rows front.entry.ids.now front.entry.resource_ids.now front.entry.scope_ids.now (R.table front.entry.rows.now).rows) }
     ensures resources { IfOk result (λ main. (parent : Option ℕ)
         → pairs_by (λ p. map (drop 1) (R.table p.rows.now).rows) main.resources.ids.now main.resources.reader.pairs main.resources.entries.items parent
-        ≡ pairs_in (table_named table.ResourceAttrs (tables_in R.table set.now.tables.items)) parent) }
+        ≡ pairs_in (table_named table.ResourceAttrs set.now) parent) }
     ensures scopes { IfOk result (λ main. (parent : Option ℕ)
         → pairs_by (λ p. map (drop 1) (R.table p.rows.now).rows) main.scopes.ids.now main.scopes.reader.pairs main.scopes.entries.items parent
-        ≡ pairs_in (table_named table.ScopeAttrs (tables_in R.table set.now.tables.items)) parent) }
+        ≡ pairs_in (table_named table.ScopeAttrs set.now) parent) }
     ensures pairs { IfOk result (λ main. (parent : Option ℕ)
         → pairs_by (λ p. map (drop 1) (R.table p.rows.now).rows) main.items.pairs.ids.now main.items.pairs.reader.pairs main.items.pairs.entries.items parent
-        ≡ pairs_in (table_named table.SpanAttrs (tables_in R.table set.now.tables.items)) parent) }
+        ≡ pairs_in (table_named table.SpanAttrs set.now) parent) }
     ensures events { IfOk result (λ main. (parent : Option ℕ)
         → finds_in (λ e. events_by (pairs_by (λ p. map (drop 1) (R.table p.rows.now).rows) e.reader.pairs.ids.now e.reader.pairs.reader.pairs e.reader.pairs.entries.items)
         e.ids.now (map (drop 2) (R.table e.reader.rows.now).rows) e.entries.items) main.items.events parent
-        ≡ events_in (table_named table.SpanEvents (tables_in R.table set.now.tables.items)) (table_named table.EventAttrs (tables_in R.table set.now.tables.items)) parent) }
+        ≡ events_in (table_named table.SpanEvents set.now) (table_named table.EventAttrs set.now) parent) }
     ensures links { IfOk result (λ main. (parent : Option ℕ)
         → finds_in (λ l. links_by (pairs_by (λ p. map (drop 1) (R.table p.rows.now).rows) l.reader.pairs.ids.now l.reader.pairs.reader.pairs l.reader.pairs.entries.items)
         l.ids.now (map (drop 2) (R.table l.reader.rows.now).rows) l.entries.items) main.items.links parent
-        ≡ links_in (table_named table.SpanLinks (tables_in R.table set.now.tables.items)) (table_named table.LinkAttrs (tables_in R.table set.now.tables.items)) parent) }
+        ≡ links_in (table_named table.SpanLinks set.now) (table_named table.LinkAttrs set.now) parent) }
 {
     let rows = front.rows;
     let resources = find_pairs(alloc, set, Kind::ResourceAttrs, known)?;

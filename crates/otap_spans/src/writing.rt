@@ -4,7 +4,6 @@ ghost use Rattle.otlp_model.specs.Limits.{weight_limit};
 ghost use Rattle.otlp_model.specs.Profile.{IsProfile};
 ghost use Rattle.otlp_model.specs.Weight.{weight_of};
 ghost use Rattle.otlp_model.specs.declared.request.Request.TheVariants.{Traces};
-ghost use Rattle.otap_cells.specs.Sets.{IsSet, tables_in};
 ghost use Rattle.otap_spans.specs.Tables.{tables_of_spans};
 
 use crate::writers::{EventWriter, LinkWriter, SpanWriter};
@@ -22,8 +21,7 @@ pub fn tables_of(
 ) -> Result<TableSet<LogicalTable>, AllocError>
     requires profile { IsProfile (Traces groups.now) }
     requires weight { weight_of (Traces groups.now) ≤ weight_limit }
-    ensures tables { IfOk result (λ set. tables_in (λ t. t) set.tables.items ≡ tables_of_spans groups.now) }
-    ensures set { IfOk result (λ set. IsSet (λ t. t) set.tables.items) }
+    ensures { IfOk result (λ set. set ≡ tables_of_spans groups.now) }
 {
     let groups = groups.as_slice();
     let rows = flatten(alloc, groups)?;

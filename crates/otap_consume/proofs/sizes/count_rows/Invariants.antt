@@ -4,4 +4,4 @@ use Rattle.otap_consume.specs.Sizes.{count_of_rows}
 use Rattle.otap_consume.proofs.sizes.count_rows.Given as goal
 
 abbrev pub invariant-tables : goal.invariant-tables
-invariant-tables g l = l.total ≡ min (count_of_rows (tables_in g.R.Rows.table (take l.rows-index l.set.tables.items))) (2 ^ 63)
+invariant-tables g l = l.total ≡ min (count_of_rows (tables_in g.R.Rows.table (take l.rows-index l.rows-items))) (2 ^ 63)

@@ -1,4 +1,4 @@
-use Rattle.std.proofs.Common.{◌<◌, ◌∙◌, ◌++◌, ℕ, map, sym, subst, refl}
+use Rattle.std.proofs.Common.{◌<◌, ◌∙◌, ◌++◌, ℕ, sym, subst, refl}
 use Rattle.std.specs.Prelude.{sum_by}
 use Rattle.std.proofs.lemmas.Bool.{ltb-true}
 use Rattle.otap_consume.specs.Limits.{held_limit}
@@ -7,11 +7,8 @@ use Rattle.otap_consume.specs.Defects.{tables_of, held_after}
 use Rattle.otap_consume.specs.StreamSteps.{held_of}
 use Rattle.otap_consume.specs.Taking.{StopsBySize}
 use Rattle.otap_consume.proofs.SizeSteps.{held_are}
-use Rattle.otap_consume.proofs.ViewSteps.{set_of, too_large, views_tables, weighs}
+use Rattle.otap_consume.proofs.ViewSteps.{too_large, views_tables, weighs}
 use Rattle.otap_consume.proofs.taking.check_sizes.Goals as goal
-
-pub weigh-requires : goal.weigh-requires
-weigh-requires c = set_of c.requires.shows.signal c.args.streams.now c.args.batch.now.payloads c.in_ok-set.set.tables.items c.requires.shows.types c.in_ok-set.ensures
 
 pub returns-in-Ok-clause-stops : goal.returns-in-Ok-clause-stops
 returns-in-Ok-clause-stops c = λ past are.
@@ -25,16 +22,16 @@ returns-in-Ok-clause-stops c = λ past are.
 
 pub returns-in-Ok-2-clause-weighs : goal.returns-in-Ok-2-clause-weighs
 returns-in-Ok-2-clause-weighs c = λ past are.
-    weighs c.args.signal past c.args.batch.now.payloads c.args.streams.now c.in_ok-set.set.tables.items c.in-Ok.field-0 c.requires.kinds are c.requires.shows c.in_ok-set.ensures
+    weighs c.args.signal past c.args.batch.now.payloads c.args.streams.now c.in_ok-set.set c.in-Ok.field-0 c.requires.kinds are c.requires.shows c.in_ok-set.ensures
     c.in-Ok.ensures (sym c.hold_too_much.ensures ∙ c.if-hold_too_much.false)
 
 pub returns-clause-stops : goal.returns-clause-stops
 returns-clause-stops c = λ past are.
     let payloads = c.args.batch.now.payloads in
-    let views = c.in_ok-set.set.tables.items in
+    let views = c.in_ok-set.set in
     let P : NotTaken → Type 0 = StopsBySize c.args.signal past payloads in
     subst P (sym c.of_size-in-Err.ensures) (
       refl,
-      too_large c.args.signal (map (λ view. view.1) views) (tables_of c.args.signal past payloads) (held_after c.args.signal (past ++ payloads)) c.in-Err.cause
+      too_large c.args.signal views (tables_of c.args.signal past payloads) (held_after c.args.signal (past ++ payloads)) c.in-Err.cause
           (views_tables c.args.signal past payloads c.args.streams.now views c.requires.kinds are c.requires.shows c.in_ok-set.ensures) c.in-Err.ensures,
     )

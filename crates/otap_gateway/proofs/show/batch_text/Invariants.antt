@@ -5,7 +5,7 @@ use Rattle.otap_gateway.proofs.show.batch_text.Given as goal
 
 abbrev pub invariant-tables : goal.invariant-tables
 invariant-tables g l = record {
-  text : l.out.items ++ payloads_text l.payloads (tables_in g.R.Rows.table (drop l.rows-index l.set.tables.items))
-      ≡ l.initial.out.items ++ payloads_text l.initial.payloads (tables_in g.R.Rows.table l.set.tables.items);
-  long : length l.payloads ≡ length (drop l.rows-index l.set.tables.items);
+  text : l.out.items ++ payloads_text l.payloads (tables_in g.R.Rows.table (drop l.rows-index l.rows-items))
+      ≡ l.initial.out.items ++ payloads_text l.initial.payloads (tables_in g.R.Rows.table l.rows-items);
+  long : length l.payloads ≡ length (drop l.rows-index l.rows-items);
 }

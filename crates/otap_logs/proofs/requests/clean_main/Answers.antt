@@ -1,6 +1,5 @@
 use Rattle.std.proofs.Common.{◌∙◌, sym, subst}
 use Rattle.otap_cells.specs.declared.payload.Kind.TheVariants as table
-use Rattle.otap_cells.specs.Sets.{tables_in}
 use Rattle.otap_checks.specs.Given.{AreGiven}
 use Rattle.otap_checks.specs.Known.{Knows}
 use Rattle.otap_checks.specs.Reading.{Disagrees}
@@ -16,18 +15,18 @@ pub front_of-front-requires-clause-known : goal.front_of-front-requires-clause-k
 front_of-front-requires-clause-known g c =
     rw c.requires.kind
     (subst (λ t. Knows t table.Logs c.args.known.now.columns.items) c.requires.table
-    (known_logs (tables_in g.R.Rows.table c.args.set.now.tables.items) c.args.known.now.columns.items c.requires.known))
+    (known_logs c.args.set.now c.args.known.now.columns.items c.requires.known))
 
 pub disagrees-requires-clause-given : goal.disagrees-requires-clause-given
 disagrees-requires-clause-given g c =
-    subst AreGiven (c.requires.table ∙ sym c.front_of-front.ensures.table) (given_logs (tables_in g.R.Rows.table c.args.set.now.tables.items) c.requires.whole)
+    subst AreGiven (c.requires.table ∙ sym c.front_of-front.ensures.table) (given_logs c.args.set.now c.requires.whole)
 
 pub returns-clause-clean : goal.returns-clause-clean
 returns-clause-clean g c =
-    clean (tables_in g.R.Rows.table c.args.set.now.tables.items) c.requires.whole
+    clean c.args.set.now c.requires.whole
     (λ unlike. c.in_ok-disagrees.ensures.no c.if-branch.false (subst Disagrees (c.requires.table ∙ sym c.front_of-front.ensures.table) unlike))
 
 pub returns-clause-groups : goal.returns-clause-groups
 returns-clause-groups g c =
-    regrouped_is (tables_in g.R.Rows.table c.args.set.now.tables.items) (g.R.Rows.table c.args.rows.now) _ _ _ _ c.requires.table
+    regrouped_is c.args.set.now (g.R.Rows.table c.args.rows.now) _ _ _ _ c.requires.table
     (c.in_ok-main.ensures.front ∙ c.front_of-front.ensures.rows) c.in_ok-main.ensures.resources c.in_ok-main.ensures.scopes c.in_ok-main.ensures.records

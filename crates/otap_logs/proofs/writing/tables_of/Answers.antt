@@ -54,8 +54,8 @@ write_attributes-requires-3-clause-weight c =
     (ap (map (λ (b : Bor LogRecord). b.now)) c.deref-5.ensures.value ∙ c.in_ok-records.ensures
     ∙ items_of_rows c.deref-4.result.now c.as_slice-groups.result.now (ap (map seen_flat) c.deref-4.ensures.value ∙ c.in_ok-rows.ensures.items))
 
-pub returns-clause-tables : goal.returns-clause-tables
-returns-clause-tables c =
+pub returns : goal.returns
+returns c =
     are_tables c.in_ok-main.main c.in_ok-resources-2.resources c.in_ok-scopes-2.scopes c.in_ok-records-2.records _
     (pushed c.in_ok-main.main c.in_ok-resources-2.resources c.in_ok-scopes-2.scopes c.in_ok-records-2.records _ _ _ _ c.push_filled-3.new.tables.items
     c.new-tables.ensures.items c.in_ok-push.ensures.items c.in_ok-push_filled.ensures.ok c.in_ok-push_filled-2.ensures.ok c.in_ok-push_filled-3.ensures.ok)
@@ -69,8 +69,8 @@ returns-clause-tables c =
     (ap (map (λ (b : Bor LogRecord). b.now)) c.deref-5.ensures.value ∙ c.in_ok-records.ensures
     ∙ items_of_rows c.deref-4.result.now c.as_slice-groups.result.now (ap (map seen_flat) c.deref-4.ensures.value ∙ c.in_ok-rows.ensures.items)) c.in_ok-records-2.ensures)
 
-pub returns-clause-set : goal.returns-clause-set
-returns-clause-set c =
+pub invariant_of-result : goal.invariant_of-result
+invariant_of-result c =
     is_set c.in_ok-main.main c.in_ok-resources-2.resources c.in_ok-scopes-2.scopes c.in_ok-records-2.records _
     (pushed c.in_ok-main.main c.in_ok-resources-2.resources c.in_ok-scopes-2.scopes c.in_ok-records-2.records _ _ _ _ c.push_filled-3.new.tables.items
     c.new-tables.ensures.items c.in_ok-push.ensures.items c.in_ok-push_filled.ensures.ok c.in_ok-push_filled-2.ensures.ok c.in_ok-push_filled-3.ensures.ok)

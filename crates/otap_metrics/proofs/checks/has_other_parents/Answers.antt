@@ -2,7 +2,6 @@ use Rattle.std.proofs.Common.{sym, subst}
 use Rattle.otap_cells.specs.declared.payload.Kind.TheVariants as table
 use Rattle.otap_cells.specs.GivenIds.{HasIds}
 use Rattle.otap_cells.specs.Named.{table_named}
-use Rattle.otap_cells.specs.Sets.{tables_in}
 use Rattle.otap_checks.specs.Known.{ids_named}
 use Rattle.otap_attrs.proofs.TablePairs.{ids_long}
 use Rattle.otap_metrics.specs.Whole.{fits_of}
@@ -20,7 +19,7 @@ names_other-requires-clause-long g c =
 
 pub returns-clause-yes : goal.returns-clause-yes
 returns-clause-yes g c = λ found.
-    let main = table_named table.Metrics (tables_in g.R.Rows.table c.args.set.now.tables.items) in
+    let main = table_named table.Metrics c.args.set.now in
     let own : HasIds main 0 c.of-ids.result.now = rw c.of-ids.ensures (c.requires.metrics 0 metrics_are_main.id).are in
     record {
       parents = c.of-parents.result.now;
@@ -32,8 +31,8 @@ returns-clause-yes g c = λ found.
 
 pub returns-clause-no : goal.returns-clause-no
 returns-clause-no g c = λ found wrong.
-    let main = table_named table.Metrics (tables_in g.R.Rows.table c.args.set.now.tables.items) in
-    let points = table_named c.args.kind (tables_in g.R.Rows.table c.args.set.now.tables.items) in
+    let main = table_named table.Metrics c.args.set.now in
+    let points = table_named c.args.kind c.args.set.now in
     let own : HasIds main 0 c.of-ids.result.now = rw c.of-ids.ensures (c.requires.metrics 0 metrics_are_main.id).are in
     let above : HasIds points 1 c.of-parents.result.now = rw c.of-parents.ensures (c.requires.points 1 c.requires.parent).are in
     c.in_ok-found.ensures.no found

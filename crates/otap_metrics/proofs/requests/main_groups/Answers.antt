@@ -1,6 +1,5 @@
 use Rattle.std.proofs.Common.{◌∙◌}
 use Rattle.std.proofs.lemmas.Result.{err_from_is_err_and}
-use Rattle.otap_cells.specs.Sets.{tables_in}
 use Rattle.otap_metrics.proofs.Regrouping.{refused_still, weighed_as}
 use Rattle.otap_metrics.proofs.requests.main_groups.Goals as goal
 
@@ -12,5 +11,5 @@ pub returns-in_err-made-clause-refused : goal.returns-in_err-made-clause-refused
 returns-in_err-made-clause-refused g c =
     let p = err_from_is_err_and c.from_residual-in_err-made.result c.from_residual-in_err-made.ensures.1 in
     rw (p.1, p.2)
-    (refused_still (tables_in g.R.Rows.table c.args.set.now.tables.items) (g.H.Lookup.finds c.args.items.hist_points) (g.S.Lookup.finds c.args.items.summary_points) _ _ _
+    (refused_still c.args.set.now (g.H.Lookup.finds c.args.items.hist_points) (g.S.Lookup.finds c.args.items.summary_points) _ _ _
     c.in_err-made.field-0.0 c.in_ok-main.ensures.resources_weighed c.in_ok-main.ensures.scopes_weighed c.in_ok-main.ensures.groups c.in_ok-main.ensures.clean c.in_err-made.ensures.refused)

@@ -100,8 +100,8 @@ add_attributes-requires-2-clause-weight c =
     (ap (map (λ (p : Placed Metric). p.part.now)) c.deref-3.ensures.value ∙ c.in_ok-metrics.ensures
     ∙ items_of_rows c.deref-2.result.now c.as_slice-groups.result.now (ap (map seen_flat) c.deref-2.ensures.value ∙ c.in_ok-rows.ensures.items)) c.in_ok-points.ensures.parts) c.in_ok-exemplars.ensures.parts)
 
-pub returns-clause-tables : goal.returns-clause-tables
-returns-clause-tables c =
+pub returns : goal.returns
+returns c =
     are_tables c.as_slice-groups.result.now c.in_ok-main.main c.deref-5.result.now c.deref-6.result.now c.deref-7.result.now c.deref-8.result.now
     (ap (map seen_placed) c.deref-5.ensures.value ∙ points_placed c.as_slice-groups.result.now c.deref-3.result.now c.in_ok-points.points.items
     (ap (map (λ (p : Placed Metric). p.part.now)) c.deref-3.ensures.value ∙ c.in_ok-metrics.ensures
@@ -122,8 +122,8 @@ returns-clause-tables c =
     c.in_ok-add_attributes-2.ensures (ap (λ (t : Table). t.kind) c.in_ok-main.ensures)
     c.args.groups.now c.as_slice-groups.ensures (main_is c.deref.result.now c.as_slice-groups.result.now c.in_ok-main.main (ap (map seen_flat) c.deref.ensures.value ∙ c.in_ok-rows.ensures.items) c.in_ok-main.ensures)
 
-pub returns-clause-set : goal.returns-clause-set
-returns-clause-set c =
+pub invariant_of-result : goal.invariant_of-result
+invariant_of-result c =
     is_set c.as_slice-groups.result.now c.in_ok-main.main c.deref-5.result.now c.deref-6.result.now c.deref-7.result.now c.deref-8.result.now
     (ap (map seen_placed) c.deref-5.ensures.value ∙ points_placed c.as_slice-groups.result.now c.deref-3.result.now c.in_ok-points.points.items
     (ap (map (λ (p : Placed Metric). p.part.now)) c.deref-3.ensures.value ∙ c.in_ok-metrics.ensures

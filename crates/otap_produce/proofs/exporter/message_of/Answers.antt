@@ -9,7 +9,7 @@ use Rattle.otap_produce.proofs.exporter.message_of.Goals as goal
 
 pub send_all-requires-clause-ready : goal.send_all-requires-clause-ready
 send_all-requires-clause-ready g c =
-    let are : tables c.deref.result.now ≡ g.T.Tabled.rows.tables c.args.request.now = ap tables c.deref.ensures.value ∙ c.in_ok-set.ensures in
+    let are : tables c.deref.result.now ≡ g.T.Tabled.rows.tables c.args.request.now = ap tables c.deref.ensures.value ∙ c.set.view_is ∙ c.in_ok-set.ensures in
     subst (λ (ts : List Table). AreReadyForAll ts c.args.senders.now) (sym are)
     (ready_for_all g.T.Tabled.rows c.args.request.now c.requires.exported c.can_be_written.ensures
     (record { bound = c.records_fit_a_message.ensures.bound; columns = c.records_fit_a_message.ensures.columns; tables = c.records_fit_a_message.ensures.tables })
@@ -17,7 +17,7 @@ send_all-requires-clause-ready g c =
 
 pub returns-clause-few : goal.returns-clause-few
 returns-clause-few g c =
-    let are : tables c.deref.result.now ≡ g.T.Tabled.rows.tables c.args.request.now = ap tables c.deref.ensures.value ∙ c.in_ok-set.ensures in
+    let are : tables c.deref.result.now ≡ g.T.Tabled.rows.tables c.args.request.now = ap tables c.deref.ensures.value ∙ c.set.view_is ∙ c.in_ok-set.ensures in
     let count : length (tables c.deref.result.now) ≡ length c.deref.result.now = length-map c.deref.result.now (λ (pair : Kind × Table). pair.1) in
     let few =
     few_tables g.T.Tabled.rows c.args.request.now c.requires.exported c.can_be_written.ensures

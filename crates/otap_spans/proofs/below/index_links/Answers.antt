@@ -3,7 +3,6 @@ use Rattle.std.proofs.lemmas.List.{length-map}
 use Rattle.otap_cells.specs.declared.payload.Kind.TheVariants as table
 use Rattle.otap_cells.specs.GivenIds.{HasIds}
 use Rattle.otap_cells.specs.Named.{table_named}
-use Rattle.otap_cells.specs.Sets.{tables_in}
 use Rattle.otap_cells.specs.Tables.{Table}
 use Rattle.otap_groups.specs.Children.{children}
 use Rattle.otap_checks.specs.Reading.{part_rows_in}
@@ -16,7 +15,7 @@ use Rattle.otap_groups.proofs.FrontKinds.{links_front}
 
 pub returns-in_default : goal.returns-in_default
 returns-in_default g c = λ parent.
-    let tables = tables_in g.R.Rows.table c.args.set.now.tables.items in
+    let tables = c.args.set.now in
     no_parts (link_in (table_named table.LinkAttrs tables)) table.SpanLinks parent
     ∙ ap (λ (t : Table). links_in t (table_named table.LinkAttrs tables) parent) (sym c.in_default.ensures.table)
 
@@ -28,7 +27,7 @@ new-requires g c =
 
 pub returns : goal.returns
 returns g c = λ parent.
-    let tables = tables_in g.R.Rows.table c.args.set.now.tables.items in
+    let tables = c.args.set.now in
     let t = g.R.Rows.table c.in-Some.rows.now in
     let own : HasIds t 0 c.of-ids.result.now = rw (c.of-ids.ensures, ← c.in-Some.ensures.table) (c.requires.known 0 links_front.id).are in
     let above : HasIds t 1 c.of-parents.result.now = rw (c.of-parents.ensures, ← c.in-Some.ensures.table) (c.requires.known 1 links_front.parent).are in

@@ -5,7 +5,6 @@ use Rattle.otlp_model.specs.declared.groups.ResourceGroup.{ResourceGroup}
 use Rattle.otlp_model.specs.declared.request.Request.TheVariants.{Traces}
 use Rattle.otlp_model.specs.declared.spans.Span.{Span}
 use Rattle.otap_cells.specs.declared.payload.Kind.TheVariants as table
-use Rattle.otap_cells.specs.Sets.{tables_in}
 use Rattle.otap_spans.proofs.Cleanness.{clean, none_unlike}
 use Rattle.otap_spans.specs.Requests.{WrongSpans}
 use Rattle.otap_spans.proofs.Refused.{refused_so}
@@ -14,14 +13,14 @@ use Rattle.otap_spans.proofs.requests.regroup.Goals as goal
 
 pub returns-in_default-clause-clean : goal.returns-in_default-clause-clean
 returns-in_default-clause-clean g c =
-    let tables = tables_in g.R.Rows.table c.args.set.now.tables.items in
+    let tables = c.args.set.now in
     clean tables c.in_ok-known.ensures.clean (none_unlike tables table.Spans c.in_default.ensures.table)
 
 pub returns-in_default-clause-groups : goal.returns-in_default-clause-groups
-returns-in_default-clause-groups g c = c.new.ensures ∙ sym (no_groups (tables_in g.R.Rows.table c.args.set.now.tables.items) c.in_default.ensures.table)
+returns-in_default-clause-groups g c = c.new.ensures ∙ sym (no_groups c.args.set.now c.in_default.ensures.table)
 
 pub returns-in_err-made-clause-refused : goal.returns-in_err-made-clause-refused
 returns-in_err-made-clause-refused g c =
     let p = err_from_is_err_and c.from_residual-in_err-made.result c.from_residual-in_err-made.ensures.1 in
-    rw (p.1, p.2) (refused_so (WrongSpans (tables_in g.R.Rows.table c.args.set.now.tables.items)) _ _ c.in_err-made.field-0.0
+    rw (p.1, p.2) (refused_so (WrongSpans c.args.set.now) _ _ c.in_err-made.field-0.0
     (ap (λ (groups : List (ResourceGroup Span)). weight_of (Traces groups)) c.in_ok-main.ensures.groups) c.in_ok-main.ensures.clean c.in_err-made.ensures.refused)

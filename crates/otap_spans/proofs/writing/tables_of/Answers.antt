@@ -143,8 +143,8 @@ add_attributes-requires-3-clause-weight c =
     (ap (map seen_flat) c.deref-2.ensures.value ∙ c.in_ok-rows.ensures.items) c.in_ok-spans.ensures) c.in_ok-links.ensures.parts)
     (link_pairs_can c.as_slice-groups.result.now (all_can c.args.groups.now c.as_slice-groups.result.now c.as_slice-groups.ensures c.requires.profile c.requires.weight))
 
-pub returns-clause-tables : goal.returns-clause-tables
-returns-clause-tables c =
+pub returns : goal.returns
+returns c =
     written c.as_slice-groups.result.now c.add_attributes-3.new.tables.items _ _ _ _ _ _
     (pushed c.in_ok-main.main _ _ _ _ _ _ _ _ _ _ _ _ _ _ _ c.add_attributes-3.new.tables.items c.new-tables.ensures.items c.in_ok-push.ensures.items (ap (λ (t : Table). t.kind) c.in_ok-main.ensures)
     c.in_ok-add_resources.ensures c.in_ok-add_scopes.ensures c.in_ok-add_attributes.ensures c.in_ok-add_parts.ensures c.in_ok-add_parts-2.ensures c.in_ok-add_attributes-2.ensures
@@ -171,8 +171,8 @@ returns-clause-tables c =
     (ap (map seen_flat) c.deref-2.ensures.value ∙ c.in_ok-rows.ensures.items) c.in_ok-spans.ensures) c.in_ok-links.ensures.parts))
     c.args.groups.now c.as_slice-groups.ensures
 
-pub returns-clause-set : goal.returns-clause-set
-returns-clause-set c =
+pub invariant_of-result : goal.invariant_of-result
+invariant_of-result c =
     written_set c.as_slice-groups.result.now c.add_attributes-3.new.tables.items _ _ _ _ _ _
     (pushed c.in_ok-main.main _ _ _ _ _ _ _ _ _ _ _ _ _ _ _ c.add_attributes-3.new.tables.items c.new-tables.ensures.items c.in_ok-push.ensures.items (ap (λ (t : Table). t.kind) c.in_ok-main.ensures)
     c.in_ok-add_resources.ensures c.in_ok-add_scopes.ensures c.in_ok-add_attributes.ensures c.in_ok-add_parts.ensures c.in_ok-add_parts-2.ensures c.in_ok-add_attributes-2.ensures

@@ -10,7 +10,7 @@ pub returns : goal.returns
 returns c =
     let s = c.args.self.now in
     let payloads = c.args.batch.now.payloads in
-    let views = c.in_ok-set.set.tables.items in
+    let views = c.in_ok-set.set in
     let same : c.deref.result.now ≡ s.streams = c.deref.ensures.value ∙ ap (λ (x : SegmentIn). x.streams) c.self.view_is in
     gives_tables s payloads views (subst (λ (x : SegmentIn). kinds_in x.streams ≡ kinds_of x.signal) c.self.view_is c.self.invariant.kinds) c.requires.whole c.requires.taken
     (subst (λ (streams : List StreamIn). AreViewsOf streams payloads views) same c.in_ok-set.ensures)
