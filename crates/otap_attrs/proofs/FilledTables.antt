@@ -14,21 +14,13 @@ use Rattle.otap_cells.specs.Payload.{is_kind, number_of}
 use Rattle.otap_cells.specs.Sets.{IsSet, tables_in}
 use Rattle.otap_cells.specs.Tables.{Table, profile_table}
 use Rattle.otap_cells.specs.Weights.{weight_of_row, weight_of_table, weight_of_tables}
-use Rattle.otap_attrs.specs.Tables.{beside_kind, where_rows}
+use Rattle.otap_attrs.specs.Tables.{apart, beside_kind, missing, where_rows}
 use Rattle.otap_cells.proofs.KindsApart.{same_kind}
 
 abbrev pub filled : List Table → List Table
 filled tables = flat_map where_rows tables
 
 -- ---- kinds that differ
-
-abbrev pub missing : ℕ → List ℕ → Bool
-missing n [] = true
-missing n (m ∷ ms) = not (n == m) && missing n ms
-
-abbrev pub apart : List ℕ → Bool
-apart [] = true
-apart (n ∷ ns) = missing n ns && apart ns
 
 abbrev pub numbers : List Table → List ℕ
 numbers tables = map (λ (t : Table). number_of t.kind) tables

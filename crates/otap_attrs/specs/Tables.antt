@@ -1,5 +1,5 @@
 -- Tables of attributes as they are written.
-use Rattle.std.specs.Prelude.{List, [], ◌∷◌, length, map, nat_lt, if◌then◌else◌}
+use Rattle.std.specs.Prelude.{ℕ, List, [], ◌∷◌, length, map, nat_lt, Bool, true, ◌==◌, ◌&&◌, not, if◌then◌else◌}
 use Rattle.otlp_model.specs.declared.value.Pair.{Pair}
 use Rattle.otap_cells.specs.declared.payload.Kind.{Kind}
 use Rattle.otap_cells.specs.Cells.{Cell}
@@ -22,3 +22,12 @@ where_rows t = if nat_lt 0 (length t.rows) then t ∷ [] else []
 
 abbrev pub beside_kind : Table → Kind × Table
 beside_kind t = (t.kind, t)
+
+-- no number is there twice
+abbrev pub missing : ℕ → List ℕ → Bool
+missing n [] = true
+missing n (m ∷ ms) = not (n == m) && missing n ms
+
+abbrev pub apart : List ℕ → Bool
+apart [] = true
+apart (n ∷ ns) = missing n ns && apart ns

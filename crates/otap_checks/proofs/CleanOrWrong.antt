@@ -50,11 +50,11 @@ use Rattle.otap_checks.proofs.GivenColumns.{nothing_wrong, one_given}
 -- ---- the ids of columns
 
 -- the numbers of a column stand for no ids
-abbrev IsUnknown : Table → ℕ → Type 0
+abbrev pub IsUnknown : Table → ℕ → Type 0
 IsUnknown t column = (ids : List (Option ℕ)) → HasIds t column ids → ⊥
 
 -- a column has ids, or none
-ids_or_none : (t : Table) (column : ℕ) → ((ids : List (Option ℕ)) × HasIds t column ids) ⊎ IsUnknown t column
+pub ids_or_none : (t : Table) (column : ℕ) → ((ids : List (Option ℕ)) × HasIds t column ids) ⊎ IsUnknown t column
 ids_or_none t column = elim (cases_Bool (fits_after (coding_in t column) (greatest_in t column) 0 (continues_in t) (stored_in t column))) [
   | inl fits ↦ inl (
     undone_after (coding_in t column) (greatest_in t column) 0 (continues_in t) (stored_in t column),

@@ -4,8 +4,14 @@ pub mod IdDefects
 pub mod Inside
 pub mod Known
 pub mod Links
+pub mod Measured
 pub mod Pairing
 pub mod Reading
 pub mod Refusing
 pub mod Regrouping
+pub mod RowDefects
+pub mod Ruled
+pub mod Rules
+pub mod Shapes
 pub mod ValueDefects
+pub mod Written

@@ -7,11 +7,12 @@ ghost use Rattle.otap_cells.specs.GivenIds.{ReadsAs, ReadAs};
 ghost use Rattle.otap_cells.specs.Named.{table_named};
 ghost use Rattle.otap_cells.specs.Tables.{Table};
 ghost use Rattle.otap_cells.specs.declared.payload.Kind.{Kind};
-ghost use Rattle.otap_checks.specs.Deciding.{CleanOrWrong, HasByteCells};
+ghost use Rattle.otap_checks.specs.Deciding.{CleanOrWrong, HasByteCells, HaveByteCells};
 ghost use Rattle.otap_checks.specs.IdDefects.{IdDefect};
 ghost use Rattle.otap_attrs.specs.Index.{pairs_in};
 ghost use Rattle.otap_checks.specs.Reading.{Disagrees, HasAllIds, main_rows_in};
 ghost use Rattle.otap_attrs.specs.Defects.{WrongValue};
+ghost use Rattle.otap_checks.specs.RowDefects.{RowDefect};
 
 /// Law: nothing is wrong with the rows of tables, or something is: with their ids, their values, and rows of one id.
 pub fn clean_or_wrong()
@@ -35,4 +36,12 @@ pub fn rows_read_alike()
     ensures alike { (a b : Table) → ReadsAs a b → HasAllIds b → is_id_at b.kind 1 ≡ true → is_id_at b.kind 4 ≡ true → Disagrees a → Disagrees b }
     ensures values { (a b : Table) → ReadsAs a b → (column : ℕ) (why : RowRefusal) → WrongValue a column why → WrongValue b column why }
     ensures named { (tables others : List Table) (kind : Kind) → ReadAs tables others → ReadsAs (table_named kind tables) (table_named kind others) }
+{}
+
+/// Law: nothing is wrong with the rows of a signal's tables, or something is. What is wrong with tables that read as others, whose
+/// ids are given, is wrong with the others.
+pub fn row_defects_are_decided()
+    ensures decided { (of : Signal) (tables : List Table) → HaveByteCells tables → CleanOrWrong (RowDefect of tables) }
+    ensures alike { (of : Signal) (tables others : List Table) → ReadAs tables others → All HasAllIds others
+        → (kind : Kind) (why : RowRefusal) → RowDefect of tables kind why → RowDefect of others kind why }
 {}

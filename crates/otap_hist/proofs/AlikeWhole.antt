@@ -16,20 +16,15 @@ use Rattle.otap_attrs.specs.declared.refusal.RowRefusal.TheVariants as why
 use Rattle.otap_checks.specs.Reading.{HasAllIds}
 use Rattle.otap_checks.proofs.ReadAlike.{id_defect_told, reads_named}
 use Rattle.otap_checks.proofs.NamedAlike.{pairs_alike, parts_alike, value_alike}
+use Rattle.otap_checks.specs.Shapes.{has_hist_points, has_summary_points}
+use Rattle.otap_checks.specs.Measured.{HasUnevenLists, element_count}
 use Rattle.otap_metrics.specs.Points.{exemplar_of}
-use Rattle.otap_metrics.specs.Requests.{WrongMetrics, exemplars_in, has_hist_points, has_summary_points, regrouped_metrics}
-use Rattle.otap_metrics.proofs.AlikeReading.{parent_alike, two_alike}
-use Rattle.otap_hist.specs.Lists.{element_count}
+use Rattle.otap_metrics.specs.Requests.{WrongMetrics, exemplars_in, regrouped_metrics}
+use Rattle.otap_checks.proofs.RulesAlike.{parent_alike, uneven_told}
+use Rattle.otap_metrics.proofs.AlikeReading.{two_alike}
 use Rattle.otap_hist.specs.Points.{hist_point_of, sum_point_of}
-use Rattle.otap_hist.specs.Requests.{HasUnevenLists, WrongHistCells, WrongWhole, hist_points_in, regrouped_whole, summary_points_in}
+use Rattle.otap_hist.specs.Requests.{WrongHistCells, WrongWhole, hist_points_in, regrouped_whole, summary_points_in}
 use Rattle.otap_hist.proofs.HistColumns.{exemplars_are_parts, hists_are_parts, summaries_are_parts}
-
-uneven_told : (a b : Table) → a.rows ≡ b.rows → HasUnevenLists a → HasUnevenLists b
-uneven_told a b same w = record {
-  row = w.row;
-  there = subst (λ (rows : List (List Cell)). w.row < length rows) same w.there;
-  other = subst (λ (rows : List (List Cell)). (element_count (cell_in rows 6 w.row) == element_count (cell_in rows 7 w.row)) ≡ false) same w.other;
-}
 
 module _ (tables others : List Table) (reads : ReadAs tables others) (given : All HasAllIds others) where
   exemplars_alike : (parent : Option ℕ) → exemplars_in (table_named table.HistExemplars tables) (table_named table.HistExemplarAttrs tables) parent
@@ -57,7 +52,7 @@ module _ (tables others : List Table) (reads : ReadAs tables others) (given : Al
   of_summaries : (wrong : RowRefusal) → WrongHistCells tables table.SummaryPoints wrong → WrongHistCells others table.SummaryPoints wrong
   of_summaries why.BadKind (inl parent) = inl (parent_alike tables others reads given has_summary_points table.SummaryPoints summaries_are_parts.parent parent)
   of_summaries why.BadKind (inr lists) =
-      inr (uneven_told (table_named table.SummaryPoints tables) (table_named table.SummaryPoints others) (reads_named tables others table.SummaryPoints reads).same.rows lists)
+      inr (uneven_told (table_named table.SummaryPoints tables) (table_named table.SummaryPoints others) (reads_named tables others table.SummaryPoints reads).same.rows 6 7 lists)
   of_summaries _ is = absurd is
 
   of_hists : (wrong : RowRefusal) → WrongHistCells tables table.HistPoints wrong → WrongHistCells others table.HistPoints wrong

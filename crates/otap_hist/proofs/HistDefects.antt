@@ -30,16 +30,17 @@ use Rattle.otap_groups.proofs.WritableGroups.{all_items_can}
 use Rattle.otap_attrs.specs.declared.refusal.RowRefusal.{RowRefusal}
 use Rattle.otap_checks.proofs.FinePairs.{IsFineList, pairs_fine, fine_table, IsFineResource, IsFineScope}
 use Rattle.otap_checks.specs.ValueDefects.{HasFineValues}
+use Rattle.otap_checks.specs.Measured.{HasTwoValues, HasUnevenLists, element_count}
+use Rattle.otap_checks.specs.Shapes.{WrongParent, has_hist_points, has_summary_points}
 use Rattle.otap_metrics.specs.Metrics.{hist_points_of, summary_points_of, shape_number}
-use Rattle.otap_metrics.specs.Requests.{HasTwoValues, WrongParent, has_hist_points, has_summary_points}
 use Rattle.otap_metrics.specs.Tables.{HoldMetrics, summary_lists}
 use Rattle.otap_metrics.proofs.FewParts.{few_metrics}
 use Rattle.otap_metrics.proofs.FittingParents.{parents_fine}
 use Rattle.otap_metrics.proofs.NoDefects.{IsFineExemplar, exemplar_fine, no_defects as metrics_fine}
 use Rattle.otap_metrics.proofs.OneValue.{all_rows, exemplar_values}
-use Rattle.otap_hist.specs.Lists.{bytes_of, element_count, list_cell}
+use Rattle.otap_hist.specs.Lists.{bytes_of, list_cell}
 use Rattle.otap_hist.specs.Points.{hist_point_cells, quantile_cell, sum_point_cells, value_cell}
-use Rattle.otap_hist.specs.Requests.{HasUnevenLists, WrongWhole}
+use Rattle.otap_hist.specs.Requests.{WrongWhole}
 use Rattle.otap_hist.specs.Tables.{HoldHists, all_hist_exemplars, all_hist_points, all_summary_points, hist_exemplar_lists, hist_exemplar_pairs, hist_pairs, summary_pairs, whole_tables}
 use Rattle.otap_hist.proofs.CleanHists.{clean_whole}
 use Rattle.otap_hist.proofs.HistColumns.{hists_are_parts, summaries_are_parts}
@@ -63,7 +64,7 @@ even_lists id parent point =
     (one_count (map (λ (q : Quantile). q.quantile) point.quantiles) (map (λ (q : Quantile). q.value) point.quantiles)
     (length-map point.quantiles (λ (q : Quantile). q.quantile) ∙ sym (length-map point.quantiles (λ (q : Quantile). q.value))))
 
-lists_even : (kind : Kind) (lists : List (List SumPoint)) → HasUnevenLists (part_table kind sum_point_cells lists) → ⊥
+lists_even : (kind : Kind) (lists : List (List SumPoint)) → HasUnevenLists (part_table kind sum_point_cells lists) 6 7 → ⊥
 unfolding part_table
 lists_even kind lists uneven =
     false≢true (sym uneven.other
@@ -168,7 +169,7 @@ fine_tables groups tables metrics have real is light = clean_whole tables (metri
   cells = record {
     summaries = no_parent has_summary_points _ _ _ _ have.summary_points metrics.main
         (parents_fine has_summary_points summary_points_of summaries_fit groups table.SummaryPoints sum_point_cells summaries_are_parts (few_metrics groups light));
-    lists = λ uneven. lists_even table.SummaryPoints (summary_lists groups) (subst HasUnevenLists have.summary_points uneven);
+    lists = λ uneven. lists_even table.SummaryPoints (summary_lists groups) (subst (λ (t : Table). HasUnevenLists t 6 7) have.summary_points uneven);
     hists = no_parent has_hist_points _ _ _ _ have.hist_points metrics.main
         (parents_fine has_hist_points hist_points_of hists_fit groups table.HistPoints hist_point_cells hists_are_parts (few_metrics groups light));
     exemplars = λ two. exemplar_values table.HistExemplars (hist_exemplar_lists groups) (subst (λ (t : Table). HasTwoValues t 3) have.exemplars two);

@@ -12,8 +12,8 @@ use Rattle.otap_cells.specs.Payload.{number_of}
 use Rattle.otap_cells.specs.Sets.{IsSet, tables_in}
 use Rattle.otap_cells.specs.Tables.{Table}
 use Rattle.otap_groups.specs.Stored.{main_table, part_table}
-use Rattle.otap_attrs.specs.Tables.{attribute_table, beside_kind, where_rows}
-use Rattle.otap_attrs.proofs.FilledTables.{apart, filled, filled_set, filled_tables, numbers, IsBeside}
+use Rattle.otap_attrs.specs.Tables.{apart, attribute_table, beside_kind, where_rows}
+use Rattle.otap_attrs.proofs.FilledTables.{filled, filled_set, filled_tables, numbers, IsBeside}
 use Rattle.otap_metrics.specs.Metrics.{metric_cells}
 use Rattle.otap_metrics.specs.Points.{exemplar_cells, point_cells}
 use Rattle.otap_groups.specs.Flat.{resource_pairs, scope_pairs}

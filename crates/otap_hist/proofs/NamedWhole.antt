@@ -12,8 +12,8 @@ use Rattle.otap_cells.specs.Named.{table_named}
 use Rattle.otap_cells.specs.Tables.{Table}
 use Rattle.otap_cells.specs.Weights.{weight_of_table, weight_of_tables}
 use Rattle.otap_groups.specs.Stored.{main_table, part_table}
-use Rattle.otap_attrs.specs.Tables.{attribute_table}
-use Rattle.otap_attrs.proofs.FilledTables.{Formed, Tells, apart, filled, filled_named, filled_weigh, kinds_filled, numbers}
+use Rattle.otap_attrs.specs.Tables.{apart, attribute_table}
+use Rattle.otap_attrs.proofs.FilledTables.{Formed, Tells, filled, filled_named, filled_weigh, kinds_filled, numbers}
 use Rattle.otap_metrics.specs.Metrics.{metric_cells}
 use Rattle.otap_metrics.specs.Points.{exemplar_cells, point_cells}
 use Rattle.otap_groups.specs.Flat.{resource_pairs, scope_pairs}

@@ -13,7 +13,8 @@ use Rattle.otap_cells.specs.Scalars.{bits_in}
 use Rattle.otap_cells.specs.Tables.{cell_in}
 use Rattle.otlp_model.proofs.Totals.{below_weighs}
 use Rattle.lists.specs.Numbers.{little_numbers}
-use Rattle.otap_hist.specs.Lists.{element_count, list_in}
+use Rattle.otap_checks.specs.Measured.{element_count}
+use Rattle.otap_hist.specs.Lists.{list_in}
 use Rattle.otap_hist.specs.Points.{hist_point_of, optional_in, quantiles_of, sum_point_of}
 use Rattle.otap_hist.proofs.ListBytes.{count_of}
 use Rattle.otap_cells.proofs.OwnCells.{own_cells, own_cell}

@@ -13,22 +13,15 @@ use Rattle.otap_checks.specs.Given.{AreGiven}
 use Rattle.otap_checks.specs.Links.{items, links_of, parts}
 use Rattle.otap_checks.proofs.CleanOrWrong.{AreDecided, attributes_clean_or_wrong, ids_clean_or_wrong}
 use Rattle.otap_checks.proofs.TableIds.{clean_given}
-use Rattle.otap_metrics.specs.Requests.{HasTwoValues, WrongMetrics, WrongParent, has_hist_points, has_summary_points}
-use Rattle.otap_metrics.proofs.AlikeOrWrong.{Decided, is_false, parent_or_not, some_below, two_or_not}
-use Rattle.otap_metrics.proofs.MetricColumns.{metrics_are_main}
-use Rattle.otap_hist.specs.Lists.{element_count}
-use Rattle.otap_hist.specs.Requests.{HasUnevenLists, WrongWhole}
+use Rattle.otap_checks.specs.Measured.{HasTwoValues, HasUnevenLists, element_count}
+use Rattle.otap_checks.specs.Shapes.{WrongParent, has_hist_points, has_summary_points}
+use Rattle.otap_checks.proofs.MainKinds.{metrics_are_main}
+use Rattle.otap_metrics.specs.Requests.{WrongMetrics}
+use Rattle.otap_checks.proofs.RulesDecided.{Decided, parent_or_not, two_or_not, uneven_or_not}
+use Rattle.otap_hist.specs.Requests.{WrongWhole}
 use Rattle.otap_hist.proofs.CleanHists.{clean_whole, wrong_ids}
 use Rattle.otap_hist.proofs.HistColumns.{hists_are_parts, summaries_are_parts}
 use Rattle.otap_cells.proofs.KindNamed.{id_named}
-
-uneven_or_not : (t : Table) → Decided (HasUnevenLists t)
-uneven_or_not t =
-    elim (some_below (λ row. (element_count (cell_in t.rows 6 row) == element_count (cell_in t.rows 7 row)) ≡ false)
-    (λ row. is_false (element_count (cell_in t.rows 6 row) == element_count (cell_in t.rows 7 row))) (length t.rows)) [
-      | inl some ↦ inl (record { row = some.0; there = some.1; other = some.2 })
-      | inr none ↦ inr (λ (w : HasUnevenLists t). none w.row w.there w.other)
-    ]
 
 module _ (tables : List Table) (ids : (kind : Kind) (wrong : RowRefusal) → IdDefect signal.Metrics tables kind wrong → ⊥) where
   given_metrics : AreGiven (table_named table.Metrics tables)
@@ -64,7 +57,7 @@ clean_or_wrong tables octets (inl metrics) = by_ids (ids_clean_or_wrong signal.M
 
     by_cells : ((kind : Kind) (wrong : RowRefusal) → IdDefect signal.Metrics tables kind wrong → ⊥)
         → Decided (WrongParent has_summary_points (table_named table.SummaryPoints tables) (table_named table.Metrics tables))
-        → Decided (HasUnevenLists (table_named table.SummaryPoints tables))
+        → Decided (HasUnevenLists (table_named table.SummaryPoints tables) 6 7)
         → Decided (WrongParent has_hist_points (table_named table.HistPoints tables) (table_named table.Metrics tables))
         → Decided (HasTwoValues (table_named table.HistExemplars tables) 3)
         → AreDecided tables table.SummaryPointAttrs → AreDecided tables table.HistPointAttrs → AreDecided tables table.HistExemplarAttrs → CleanOrWrong (WrongWhole tables)
@@ -92,5 +85,5 @@ clean_or_wrong tables octets (inl metrics) = by_ids (ids_clean_or_wrong signal.M
     by_ids : CleanOrWrong (IdDefect signal.Metrics tables) → CleanOrWrong (WrongWhole tables)
     by_ids (inr (kind, wrong, is)) = inr (kind, wrong, wrong_ids tables kind wrong is)
     by_ids (inl ids) =
-        by_cells ids (summary_parent_or_not tables ids) (uneven_or_not (table_named table.SummaryPoints tables)) (hist_parent_or_not tables ids)
+        by_cells ids (summary_parent_or_not tables ids) (uneven_or_not (table_named table.SummaryPoints tables) 6 7) (hist_parent_or_not tables ids)
         (two_or_not (table_named table.HistExemplars tables) 3) (decided table.SummaryPointAttrs) (decided table.HistPointAttrs) (decided table.HistExemplarAttrs)

@@ -1,10 +1,11 @@
 -- Lists of numbers of 64 bits as cells: 8 bytes for each number, the lowest first. The empty list is null, and null reads as it.
-use Rattle.std.specs.Prelude.{ℕ, ◌/◌, List, length}
+use Rattle.std.specs.Prelude.{ℕ, List}
 use Rattle.std.specs.List.{flat_map}
 use Rattle.byteorder.specs.Endian.{little_bytes}
 use Rattle.lists.specs.Numbers.{little_numbers}
 use Rattle.otap_cells.specs.Cells.{Cell, bytes_in}
 use Rattle.otap_cells.specs.Scalars.{text_cell}
+use Rattle.otap_checks.specs.Measured.{element_count}
 
 -- the bytes of numbers
 abbrev pub bytes_of : List ℕ → List ℕ
@@ -12,10 +13,6 @@ bytes_of numbers = flat_map (little_bytes 8) numbers
 
 abbrev pub list_cell : List ℕ → Cell
 list_cell numbers = text_cell (bytes_of numbers)
-
--- how many elements a cell has
-abbrev pub element_count : Cell → ℕ
-element_count cell = length (bytes_in cell) / 8
 
 -- THE LIST that a cell reads as
 abbrev pub list_in : Cell → List ℕ

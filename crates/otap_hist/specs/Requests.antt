@@ -1,5 +1,5 @@
 -- The points of histograms and summaries that tables make, and what may be wrong with their rows.
-use Rattle.std.specs.Prelude.{◌≡◌, ℕ, ◌<◌, ◌==◌, ◌⊎◌, true, false, List, Option, length}
+use Rattle.std.specs.Prelude.{◌≡◌, ℕ, ◌⊎◌, true, List, Option}
 use Rattle.otlp_model.specs.declared.groups.ResourceGroup.{ResourceGroup}
 use Rattle.otlp_model.specs.declared.histograms.HistPoint.{HistPoint}
 use Rattle.otlp_model.specs.declared.histograms.SumPoint.{SumPoint}
@@ -10,7 +10,7 @@ use Rattle.otap_cells.specs.declared.payload.Kind.{Kind}
 use Rattle.otap_cells.specs.declared.payload.Kind.TheVariants as table
 use Rattle.otap_cells.specs.Cells.{Cell}
 use Rattle.otap_cells.specs.Named.{table_named}
-use Rattle.otap_cells.specs.Tables.{Table, cell_in}
+use Rattle.otap_cells.specs.Tables.{Table}
 use Rattle.otap_groups.specs.Children.{children}
 use Rattle.otap_attrs.specs.declared.refusal.RowRefusal.{RowRefusal}
 use Rattle.otap_attrs.specs.declared.refusal.RowRefusal.TheVariants as why
@@ -18,8 +18,9 @@ use Rattle.otap_checks.specs.IdDefects.{IdDefect}
 use Rattle.otap_attrs.specs.Defects.{WrongValue}
 use Rattle.otap_attrs.specs.Index.{pairs_in}
 use Rattle.otap_checks.specs.Reading.{part_rows_in}
-use Rattle.otap_metrics.specs.Requests.{HasTwoValues, WrongMetrics, WrongParent, exemplars_in, has_hist_points, has_summary_points, is_hist_kind, regrouped_metrics}
-use Rattle.otap_hist.specs.Lists.{element_count}
+use Rattle.otap_checks.specs.Shapes.{WrongParent, has_hist_points, has_summary_points}
+use Rattle.otap_metrics.specs.Requests.{WrongMetrics, exemplars_in, is_hist_kind, regrouped_metrics}
+use Rattle.otap_checks.specs.Measured.{HasTwoValues, HasUnevenLists}
 use Rattle.otap_hist.specs.Points.{hist_point_of, sum_point_of}
 
 -- ---- what is found below
@@ -48,16 +49,10 @@ regrouped_whole tables = regrouped_metrics (hist_points_in tables) (summary_poin
 
 -- ---- what may be wrong
 
--- a row has other numbers of quantiles and of values
-pub record HasUnevenLists (t : Table) : Type 0 where
-  pub row : ℕ
-  pub there : row < length t.rows
-  pub other : (element_count (cell_in t.rows 6 row) == element_count (cell_in t.rows 7 row)) ≡ false
-
 -- what is wrong with a table beside its ids
 abbrev pub WrongHistCells : List Table → Kind → RowRefusal → Type 0
 WrongHistCells tables table.SummaryPoints why.BadKind =
-    WrongParent has_summary_points (table_named table.SummaryPoints tables) (table_named table.Metrics tables) ⊎ HasUnevenLists (table_named table.SummaryPoints tables)
+    WrongParent has_summary_points (table_named table.SummaryPoints tables) (table_named table.Metrics tables) ⊎ HasUnevenLists (table_named table.SummaryPoints tables) 6 7
 WrongHistCells tables table.HistPoints why.BadKind = WrongParent has_hist_points (table_named table.HistPoints tables) (table_named table.Metrics tables)
 WrongHistCells tables table.HistExemplars why.TwoValues = HasTwoValues (table_named table.HistExemplars tables) 3
 WrongHistCells tables table.SummaryPointAttrs wrong = WrongValue (table_named table.SummaryPointAttrs tables) 2 wrong

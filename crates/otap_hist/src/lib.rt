@@ -1,7 +1,6 @@
 //! The points of histograms and summaries as rows: their tables, and the points of tables.
 #![tactic(auto)]
 
-mod checks;
 mod columns;
 mod indexes;
 pub mod laws;

@@ -14,14 +14,15 @@ ghost use Rattle.otap_checks.specs.Known.{KnowsAll};
 ghost use Rattle.otap_hist.specs.Inside.{AreFine, AreWholeHists};
 ghost use Rattle.otap_hist.specs.Requests.{WrongHistCells, WrongWhole, regrouped_whole};
 
-use crate::checks::has_uneven_lists;
+use crate::columns::sum_point;
 use crate::indexes::{index_hists, index_summaries};
 use otap_attrs::{CheckRefusal, RowRefusal};
 use otap_cells::{Kind, Rows, TableSet};
-use otap_checks::{Grouped, KnownIds, RegroupRefusal, check_values, find_pairs, known_ids};
-use otap_metrics::{
-    PointSort, check_metrics, has_other_parents, has_two_values, index_exemplars, regroup_with,
+use otap_checks::{
+    Grouped, KnownIds, PointSort, RegroupRefusal, check_values, find_pairs, has_other_parents,
+    has_two_values, has_uneven_lists, known_ids,
 };
+use otap_metrics::{check_metrics, index_exemplars, regroup_with};
 use otlp_model::{Items, Metric, ResourceGroup, Signal};
 use std::alloc::{AllocError, Global};
 
@@ -90,7 +91,12 @@ fn check_hists<R: Rows>(
     if has_other_parents(alloc, set, known, Kind::SummaryPoints, PointSort::Summaries)? {
         return Err(defect(Kind::SummaryPoints, RowRefusal::BadKind));
     }
-    if has_uneven_lists(set) {
+    if has_uneven_lists(
+        set,
+        Kind::SummaryPoints,
+        sum_point::QUANTILES,
+        sum_point::VALUES,
+    ) {
         return Err(defect(Kind::SummaryPoints, RowRefusal::BadKind));
     }
     if has_other_parents(alloc, set, known, Kind::HistPoints, PointSort::Histograms)? {

@@ -19,113 +19,14 @@ use Rattle.otap_checks.specs.declared.links.TableLink.{TableLink}
 use Rattle.otap_checks.specs.IdDefects.{WrongIn}
 use Rattle.otap_checks.specs.Links.{links_of}
 use Rattle.otap_checks.proofs.CleanOrWrong.{AreDecided, attributes_clean_or_wrong, SomeWrong, table_or_wrong, disagrees_or_not}
-use Rattle.otap_checks.proofs.GivenColumns.{one_given}
-use Rattle.otap_metrics.specs.Numbers.{IsThere}
-use Rattle.otap_metrics.specs.Requests.{HasTwoValues, NamesOther, WrongIds, WrongMetrics, WrongParent, WrongType, has_numbers, is_hist_kind, is_type, type_at}
+use Rattle.otap_checks.proofs.RulesDecided.{Decided, both_or_not, is_false, parent_or_not, two_or_not, type_or_not}
+use Rattle.otap_checks.specs.Measured.{HasTwoValues, IsThere}
+use Rattle.otap_checks.specs.Shapes.{NamesOther, WrongParent, WrongType, has_numbers, is_type, type_at}
+use Rattle.otap_checks.proofs.MainKinds.{metrics_are_main}
+use Rattle.otap_metrics.specs.Requests.{WrongIds, WrongMetrics, is_hist_kind}
 use Rattle.otap_metrics.proofs.Cleanness.{clean, given_metrics, given_points, IsUnlike}
-use Rattle.otap_metrics.proofs.MetricColumns.{metrics_are_main, points_are_parts}
+use Rattle.otap_metrics.proofs.MetricColumns.{points_are_parts}
 use Rattle.otap_cells.proofs.KindNamed.{id_named}
-
--- ---- what is decided row by row
-
-abbrev pub Decided : Type 0 → Type 0
-Decided P = P ⊎ (P → ⊥)
-
--- some number below n has it, or none
-pub some_below : (P : ℕ → Type 0) → ((k : ℕ) → Decided (P k)) → (n : ℕ) → ((k : ℕ) × (k < n) × P k) ⊎ ((k : ℕ) → k < n → P k → ⊥)
-some_below P each zero = inr (λ k less is. absurd (omega arith))
-some_below P each (suc n) = by_rest (some_below P each n) (each n)
-  where
-    more : ((k : ℕ) → k < n → P k → ⊥) → (P n → ⊥) → (k : ℕ) → k < suc n → P k → ⊥
-    more below here k less is = elim (cases_eq k n) [
-      | inl equal ↦ here (subst P equal is)
-      | inr differ ↦ below k (omega (arith, less, differ)) is
-    ]
-
-    by_rest : ((k : ℕ) × (k < n) × P k) ⊎ ((k : ℕ) → k < n → P k → ⊥) → Decided (P n) → ((k : ℕ) × (k < suc n) × P k) ⊎ ((k : ℕ) → k < suc n → P k → ⊥)
-    by_rest (inl (k, less, is)) here = inl (k, omega arith, is)
-    by_rest (inr none) (inl is) = inl (n, omega arith, is)
-    by_rest (inr none) (inr is_not) = inr (more none is_not)
-
-pub is_false : (b : Bool) → Decided (b ≡ false)
-is_false true = inr (λ e. false≢true (sym e))
-is_false false = inl refl
-
-there_or_not : (cell : Cell) → Decided (IsThere cell)
-there_or_not null = inr (λ is. is)
-there_or_not (number n) = inl tt
-there_or_not (bits n) = inl tt
-there_or_not (flag b) = inl tt
-there_or_not (bytes part) = inl tt
-
-both_or_not : (P Q : Type 0) → Decided P → Decided Q → Decided (P × Q)
-both_or_not P Q (inr none) q = inr (λ both. none both.0)
-both_or_not P Q (inl p) (inr none) = inr (λ both. none both.1)
-both_or_not P Q (inl p) (inl q) = inl (p, q)
-
-type_or_not : (t : Table) → Decided (WrongType t)
-type_or_not t = elim (some_below (λ row. is_type (type_at t row) ≡ false) (λ row. is_false (is_type (type_at t row))) (length t.rows)) [
-  | inl some ↦ inl (record { row = some.0; there = some.1; is = some.2 })
-  | inr none ↦ inr (λ (w : WrongType t). none w.row w.there w.is)
-]
-
-pub two_or_not : (t : Table) (column : ℕ) → Decided (HasTwoValues t column)
-two_or_not t column =
-    let P : ℕ → Type 0 = λ row. IsThere (cell_in t.rows column row) × IsThere (cell_in t.rows (column + 1) row) in
-    elim (some_below P (λ row. both_or_not (IsThere (cell_in t.rows column row)) (IsThere (cell_in t.rows (column + 1) row)) (there_or_not (cell_in t.rows column row))
-    (there_or_not (cell_in t.rows (column + 1) row))) (length t.rows)) [
-      | inl some ↦ inl (record { row = some.0; there = some.1; int = some.2.0; double = some.2.1 })
-      | inr none ↦ inr (λ (w : HasTwoValues t column). none w.row w.there (w.int, w.double))
-    ]
-
--- ---- points of metrics of other types
-
--- the parents name this id
-abbrev pub Names : List (Option ℕ) → Option ℕ → Type 0
-Names parents None = ⊥
-Names parents (Some id) = Contains parents (Some id)
-
-names_or_not : (parents : List (Option ℕ)) (id : Option ℕ) → Decided (Names parents id)
-names_or_not parents None = inr (λ is. is)
-names_or_not parents (Some id) = number_or_not parents id
-
-has_id : (parents : List (Option ℕ)) (id : Option ℕ) → Names parents id → (n : ℕ) × (id ≡ Some n) × Contains parents (Some n)
-has_id parents None is = absurd is
-has_id parents (Some n) is = (n, refl, is)
-
-module _ (fits : ℕ → Bool) (main : Table) (parents ids : List (Option ℕ)) where
-  abbrev pub IsBad : ℕ → Type 0
-  IsBad row = (fits (type_at main row) ≡ false) × Names parents (id_at ids row)
-
-  bad_or_not : (row : ℕ) → Decided (IsBad row)
-  bad_or_not row = both_or_not (fits (type_at main row) ≡ false) (Names parents (id_at ids row)) (is_false (fits (type_at main row))) (names_or_not parents (id_at ids row))
-
-  pub bad_names : (row : ℕ) → row < length main.rows → IsBad row → NamesOther fits main parents ids
-  bad_names row there bad =
-      let found = has_id parents (id_at ids row) bad.1 in
-      record { row = row; there = there; other = bad.0; id = found.0; own = found.1; named = found.2 }
-
-  pub is_bad : (w : NamesOther fits main parents ids) → IsBad w.row
-  is_bad w = (w.other, subst (Names parents) (sym w.own) w.named)
-
-  names_other_or_not : Decided (NamesOther fits main parents ids)
-  names_other_or_not = elim (some_below IsBad bad_or_not (length main.rows)) [
-    | inl some ↦ inl (bad_names some.0 some.1 some.2)
-    | inr none ↦ inr (λ (w : NamesOther fits main parents ids). none w.row w.there (is_bad w))
-  ]
-
-module _ (fits : ℕ → Bool) (t main : Table) (parents ids : List (Option ℕ)) (are : HasIds t 1 parents) (known : HasIds main 0 ids) where
-  -- which ids there are doesn't depend on how they are told
-  pub same_ids : WrongParent fits t main → NamesOther fits main parents ids
-  same_ids w =
-      subst (NamesOther fits main parents) (one_given main 0 w.ids ids w.known known)
-      (subst (λ (parents : List (Option ℕ)). NamesOther fits main parents w.ids) (one_given t 1 w.parents parents w.are are) w.is)
-
-  pub parent_or_not : Decided (WrongParent fits t main)
-  parent_or_not = elim (names_other_or_not fits main parents ids) [
-    | inl some ↦ inl (record { parents = parents; ids = ids; are = are; known = known; is = some })
-    | inr none ↦ inr (λ w. none (same_ids w))
-  ]
 
 -- ---- ids
 

@@ -17,28 +17,16 @@ use Rattle.otap_attrs.specs.declared.refusal.RowRefusal.{RowRefusal}
 use Rattle.otap_attrs.specs.declared.refusal.RowRefusal.TheVariants as why
 use Rattle.otap_checks.specs.Reading.{HasAllIds}
 use Rattle.otap_checks.proofs.ReadAlike.{all_ids_named, disagrees_told, id_defect_told, ids_told, reads_named}
+use Rattle.otap_checks.proofs.RulesAlike.{parent_alike, two_told, type_told}
 use Rattle.otap_checks.proofs.NamedAlike.{main_alike, pairs_alike, parts_alike, value_alike}
+use Rattle.otap_checks.specs.Measured.{HasTwoValues, IsThere}
+use Rattle.otap_checks.specs.Shapes.{WrongParent, WrongType, has_numbers, is_type}
+use Rattle.otap_checks.proofs.MainKinds.{metrics_are_main}
 use Rattle.otap_metrics.specs.Metrics.{metric_of}
-use Rattle.otap_metrics.specs.Numbers.{IsThere}
 use Rattle.otap_metrics.specs.Points.{exemplar_of, point_of}
-use Rattle.otap_metrics.specs.Requests.{HasTwoValues, WrongCells, WrongMetrics, WrongParent, WrongType, exemplars_in, has_numbers, is_type, points_in, regrouped_metrics}
-use Rattle.otap_metrics.proofs.MetricColumns.{exemplars_are_parts, metrics_are_main, points_are_parts}
+use Rattle.otap_metrics.specs.Requests.{WrongCells, WrongMetrics, exemplars_in, points_in, regrouped_metrics}
+use Rattle.otap_metrics.proofs.MetricColumns.{exemplars_are_parts, points_are_parts}
 use Rattle.otap_cells.proofs.KindNamed.{id_named}
-
-two_told : (a b : Table) → a.rows ≡ b.rows → (column : ℕ) → HasTwoValues a column → HasTwoValues b column
-two_told a b same column w = record {
-  row = w.row;
-  there = subst (λ (rows : List (List Cell)). w.row < length rows) same w.there;
-  int = subst (λ (rows : List (List Cell)). IsThere (cell_in rows column w.row)) same w.int;
-  double = subst (λ (rows : List (List Cell)). IsThere (cell_in rows (column + 1) w.row)) same w.double;
-}
-
-type_told : (a b : Table) → a.rows ≡ b.rows → WrongType a → WrongType b
-type_told a b same w = record {
-  row = w.row;
-  there = subst (λ (rows : List (List Cell)). w.row < length rows) same w.there;
-  is = subst (λ (rows : List (List Cell)). is_type (nat_in (cell_in rows 9 w.row)) ≡ false) same w.is;
-}
 
 module _ (tables others : List Table) (reads : ReadAs tables others) (given : All HasAllIds others) where
   exemplars_alike : (parent : Option ℕ) → exemplars_in (table_named table.NumberExemplars tables) (table_named table.NumberExemplarAttrs tables) parent
@@ -59,27 +47,6 @@ module _ (tables others : List Table) (reads : ReadAs tables others) (given : Al
   pub two_alike : (kind : Kind) (column : ℕ) → HasTwoValues (table_named kind tables) column → HasTwoValues (table_named kind others) column
   two_alike kind = two_told (table_named kind tables) (table_named kind others) (reads_named tables others kind reads).same.rows
 
-  -- a point of a metric of another type
-  pub parent_alike : (fits : ℕ → Bool) (kind : Kind) → is_id_at kind 1 ≡ true → WrongParent fits (table_named kind tables) (table_named table.Metrics tables)
-      → WrongParent fits (table_named kind others) (table_named table.Metrics others)
-  parent_alike fits kind id w =
-      let same = (reads_named tables others table.Metrics reads).same.rows in
-      record {
-        parents = w.parents;
-        ids = w.ids;
-        are = ids_told (table_named kind tables) (table_named kind others) (reads_named tables others kind reads) (all_ids_named others kind given) 1 w.parents (id_named kind 1 id others) w.are;
-        known = ids_told (table_named table.Metrics tables) (table_named table.Metrics others) (reads_named tables others table.Metrics reads) (all_ids_named others table.Metrics given)
-            0 w.ids (id_named table.Metrics 0 metrics_are_main.id others) w.known;
-        is = record {
-          row = w.is.row;
-          there = subst (λ (rows : List (List Cell)). w.is.row < length rows) same w.is.there;
-          other = subst (λ (rows : List (List Cell)). fits (nat_in (cell_in rows 9 w.is.row)) ≡ false) same w.is.other;
-          id = w.is.id;
-          own = w.is.own;
-          named = w.is.named;
-        };
-      }
-
   metrics_alike : (wrong : RowRefusal) → WrongCells tables table.Metrics wrong → WrongCells others table.Metrics wrong
   metrics_alike why.Disagree is =
       disagrees_told (table_named table.Metrics tables) (table_named table.Metrics others) (reads_named tables others table.Metrics reads)
@@ -88,7 +55,7 @@ module _ (tables others : List Table) (reads : ReadAs tables others) (given : Al
   metrics_alike _ is = absurd is
 
   numbers_alike : (wrong : RowRefusal) → WrongCells tables table.NumberPoints wrong → WrongCells others table.NumberPoints wrong
-  numbers_alike why.BadKind is = parent_alike has_numbers table.NumberPoints points_are_parts.parent is
+  numbers_alike why.BadKind is = parent_alike tables others reads given has_numbers table.NumberPoints points_are_parts.parent is
   numbers_alike why.TwoValues is = two_alike table.NumberPoints 4 is
   numbers_alike _ is = absurd is
 

@@ -37,12 +37,13 @@ use Rattle.otap_checks.proofs.FineLinks.{fine_attributes, fine_parts, settle}
 use Rattle.otap_checks.proofs.GivenColumns.{nothing_wrong, own_once as once_in_column}
 use Rattle.otap_checks.proofs.RowsAgain.{main_rows_again}
 use Rattle.otap_checks.proofs.TableIds.{disagree_too}
+use Rattle.otap_checks.proofs.MainKinds.{metrics_are_main}
 use Rattle.otap_metrics.specs.Metrics.{metric_cells, points_of}
 use Rattle.otap_metrics.specs.Points.{exemplar_cells, point_cells}
 use Rattle.otap_metrics.specs.Requests.{WrongIds, is_hist_kind}
 use Rattle.otap_metrics.specs.Tables.{HoldMetrics, all_exemplars, all_points, exemplar_lists, exemplar_pairs, point_lists, point_pairs}
 use Rattle.otap_metrics.proofs.FewParts.{few_all_exemplars, few_all_points, few_exemplar_lists, few_exemplar_pairs, few_metrics, few_point_lists, few_point_pairs, few_resource_pairs, few_scope_pairs}
-use Rattle.otap_metrics.proofs.MetricColumns.{exemplar_ids, exemplars_are_parts, metric_ids, metrics_are_main, point_ids, points_are_parts}
+use Rattle.otap_metrics.proofs.MetricColumns.{exemplar_ids, exemplars_are_parts, metric_ids, point_ids, points_are_parts}
 use Rattle.otap_metrics.proofs.Cleanness.{IsUnlike}
 
 -- the table of a link isn't one of these

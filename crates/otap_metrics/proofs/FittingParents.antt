@@ -22,9 +22,9 @@ use Rattle.otap_groups.proofs.FlatItems.{items_of_flat}
 use Rattle.otap_groups.proofs.PartTables.{parents_of}
 use Rattle.otap_groups.proofs.StoredRows.{own_ids_of, part_parents_of}
 use Rattle.otap_checks.proofs.GivenColumns.{one_given}
+use Rattle.otap_checks.specs.Shapes.{WrongParent, WrongType, has_numbers, is_type, type_at}
+use Rattle.otap_checks.proofs.MainKinds.{metrics_are_main}
 use Rattle.otap_metrics.specs.Metrics.{metric_cells, points_of, shape_number}
-use Rattle.otap_metrics.specs.Requests.{WrongParent, WrongType, has_numbers, is_type, type_at}
-use Rattle.otap_metrics.proofs.MetricColumns.{metrics_are_main}
 use Rattle.otap_metrics.proofs.NamedTables.{size_of_stored}
 
 -- ---- the shapes of rows

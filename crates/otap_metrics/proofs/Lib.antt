@@ -15,7 +15,6 @@ pub mod MetricsTold
 pub mod NamedTables
 pub mod NoDefects
 pub mod OneValue
-pub mod OtherParents
 pub mod Regrouping
 pub mod WrittenParts
 pub mod WrittenTables

@@ -3,27 +3,9 @@ use Rattle.std.proofs.Common.{◌≡◌, ℕ, ◌<◌, true, List, length, refl,
 use Rattle.otap_cells.specs.declared.payload.Kind.TheVariants as table
 use Rattle.otap_cells.specs.declared.payload.Kind.{Kind}
 use Rattle.otap_cells.specs.Columns.{ColumnSpec, columns_of, deep_attrs, exemplars, is_id_at, metrics, number_points, width_of}
-use Rattle.otap_groups.specs.Kinds.{IsMain, IsPart}
+use Rattle.otap_groups.specs.Kinds.{IsPart}
 use Rattle.otap_groups.proofs.IdColumns.{each_id}
 use Rattle.otap_attrs.specs.Values.{HasValueAt}
-
-pub metrics_are_main : IsMain table.Metrics
-unfolding metrics
-metrics_are_main = record {
-  wide = omega arith;
-  id = refl;
-  resource_id = refl;
-  resource_url = refl;
-  resource_dropped = refl;
-  scope_id = refl;
-  scope_name = refl;
-  scope_version = refl;
-  scope_dropped = refl;
-  schema_url = refl;
-  ids_rise = refl;
-  resource_ids_rise = refl;
-  scope_ids_rise = refl;
-}
 
 pub points_are_parts : IsPart table.NumberPoints
 unfolding number_points

@@ -35,13 +35,14 @@ use Rattle.otap_attrs.specs.Index.{pairs_in}
 use Rattle.otap_checks.specs.Reading.{main_rows_in, part_rows_in}
 use Rattle.otap_checks.proofs.PairsAgain.{sorted_alike, sorted_weigh, unsorted}
 use Rattle.otap_checks.proofs.RowsAgain.{main_rows_again, part_rows_again}
+use Rattle.otap_checks.proofs.MainKinds.{metrics_are_main}
 use Rattle.otap_metrics.specs.Metrics.{Below, metric_cells, metric_of, shape_of}
 use Rattle.otap_metrics.specs.Points.{exemplar_cells, exemplar_of, point_cells, point_of}
 use Rattle.otap_metrics.specs.Requests.{exemplar_in, exemplars_in, point_in, regrouped_metrics}
 use Rattle.otap_metrics.specs.Tables.{HoldMetrics, exemplar_lists, exemplar_pairs, hist_lists, point_lists, point_pairs, summary_lists}
 use Rattle.otap_metrics.proofs.FewParts.{few_all_exemplars, few_all_points, few_exemplar_lists, few_exemplar_pairs, few_metrics, few_point_lists, few_point_pairs, few_resource_pairs, few_scope_pairs}
 use Rattle.otap_metrics.proofs.FoundParts.{exemplars_found, groups_again, metric_found, metrics_read, points_found, resources_agree, scopes_agree, unsorted_back}
-use Rattle.otap_metrics.proofs.MetricColumns.{exemplars_are_parts, metrics_are_main, points_are_parts}
+use Rattle.otap_metrics.proofs.MetricColumns.{exemplars_are_parts, points_are_parts}
 
 -- ---- parts that are read alike
 

@@ -14,8 +14,8 @@ use Rattle.otap_groups.specs.Flat.{FlatIn, flat_items, resource_pairs, scope_pai
 use Rattle.otap_groups.specs.Stored.{main_table, part_table, stored_rows}
 use Rattle.otap_groups.proofs.Bounds.{size_of_flat}
 use Rattle.otap_groups.proofs.FlatItems.{length_entries}
-use Rattle.otap_attrs.specs.Tables.{attribute_table}
-use Rattle.otap_attrs.proofs.FilledTables.{Formed, Tells, apart, filled, filled_named, kinds_filled, numbers}
+use Rattle.otap_attrs.specs.Tables.{apart, attribute_table}
+use Rattle.otap_attrs.proofs.FilledTables.{Formed, Tells, filled, filled_named, kinds_filled, numbers}
 use Rattle.otap_metrics.specs.Metrics.{metric_cells}
 use Rattle.otap_metrics.specs.Points.{exemplar_cells, point_cells}
 use Rattle.otap_metrics.specs.Tables.{HoldMetrics, exemplar_lists, exemplar_pairs, point_lists, point_pairs, tables_below, tables_of_metrics}

@@ -28,9 +28,11 @@ use Rattle.otap_groups.proofs.WritableGroups.{all_items_can, all_resources_can, 
 use Rattle.otap_attrs.specs.declared.refusal.RowRefusal.{RowRefusal}
 use Rattle.otap_checks.proofs.FinePairs.{IsFineList, pairs_fine, fine_table, IsFineResource, IsFineScope}
 use Rattle.otap_checks.specs.ValueDefects.{HasFineValues}
+use Rattle.otap_checks.specs.Measured.{HasTwoValues}
+use Rattle.otap_checks.specs.Shapes.{WrongParent, WrongType, has_numbers}
 use Rattle.otap_metrics.specs.Metrics.{points_of}
 use Rattle.otap_metrics.specs.Points.{point_cells}
-use Rattle.otap_metrics.specs.Requests.{HasTwoValues, WrongMetrics, WrongParent, WrongType, has_numbers}
+use Rattle.otap_metrics.specs.Requests.{WrongMetrics}
 use Rattle.otap_metrics.specs.Tables.{HoldMetrics, all_exemplars, all_points, exemplar_lists, exemplar_pairs, point_lists, point_pairs}
 use Rattle.otap_metrics.proofs.Cleanness.{clean}
 use Rattle.otap_metrics.proofs.FewParts.{few_metrics}

@@ -34,11 +34,12 @@ use Rattle.otap_groups.proofs.StoredRows.{own_ids_of, resource_ids_of, scope_ids
 use Rattle.otap_groups.proofs.WritableGroups.{all_items_can, all_resources_can, all_scopes_can}
 use Rattle.otap_attrs.proofs.FilledTables.{filled, filled_all}
 use Rattle.otap_checks.proofs.WrittenPairs.{AreReal, attributes_written}
+use Rattle.otap_checks.proofs.MainKinds.{metrics_are_main}
 use Rattle.otap_metrics.specs.Metrics.{metric_cells, points_of}
 use Rattle.otap_metrics.specs.Points.{exemplar_cells, point_cells}
 use Rattle.otap_metrics.specs.Tables.{all_exemplars, all_points, exemplar_lists, exemplar_pairs, point_lists, point_pairs, tables_below, tables_of_metrics}
 use Rattle.otap_metrics.proofs.FewParts.{few_all_exemplars, few_all_points, few_exemplar_lists, few_exemplar_pairs, few_metrics, few_point_lists, few_point_pairs, few_resource_pairs, few_scope_pairs}
-use Rattle.otap_metrics.proofs.MetricColumns.{exemplar_ids, exemplars_are_parts, metric_ids, metrics_are_main, point_ids, points_are_parts}
+use Rattle.otap_metrics.proofs.MetricColumns.{exemplar_ids, exemplars_are_parts, metric_ids, point_ids, points_are_parts}
 use Rattle.otap_metrics.proofs.MetricFits.{exemplar_own, exemplar_row, metric_own, point_own, point_row}
 
 -- ---- what fits

@@ -23,8 +23,3 @@ double_in _ = numbers.Missing
 abbrev pub measured_in : Cell → Cell → Number
 measured_in (number n) double = numbers.Int n
 measured_in int double = double_in double
-
--- the cell isn't null
-abbrev pub IsThere : Cell → Type 0
-IsThere null = ⊥
-IsThere _ = Unit {0}

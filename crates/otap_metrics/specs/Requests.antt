@@ -1,5 +1,5 @@
 -- The request that tables of metrics make, and what may be wrong with their rows.
-use Rattle.std.specs.Prelude.{◌≡◌, ℕ, ◌<◌, ◌+◌, ◌==◌, ◌||◌, ◌⊎◌, Bool, true, false, List, Option, Some, Contains, length}
+use Rattle.std.specs.Prelude.{◌≡◌, ℕ, ◌⊎◌, Bool, true, false, List, Option}
 use Rattle.otlp_model.specs.declared.groups.ResourceGroup.{ResourceGroup}
 use Rattle.otlp_model.specs.declared.histograms.HistPoint.{HistPoint}
 use Rattle.otlp_model.specs.declared.histograms.SumPoint.{SumPoint}
@@ -9,21 +9,20 @@ use Rattle.otlp_model.specs.declared.metrics.Point.{Point}
 use Rattle.otlp_model.specs.declared.request.Signal.TheVariants as signal
 use Rattle.otap_cells.specs.declared.payload.Kind.{Kind}
 use Rattle.otap_cells.specs.declared.payload.Kind.TheVariants as table
-use Rattle.otap_cells.specs.Cells.{Cell, nat_in}
-use Rattle.otap_cells.specs.GivenIds.{HasIds}
+use Rattle.otap_cells.specs.Cells.{Cell}
 use Rattle.otap_cells.specs.Named.{table_named}
-use Rattle.otap_cells.specs.Tables.{Table, cell_in}
+use Rattle.otap_cells.specs.Tables.{Table}
 use Rattle.otap_groups.specs.Children.{children}
 use Rattle.otap_groups.specs.Groups.{regrouped}
-use Rattle.otap_groups.specs.Rows.{id_at}
 use Rattle.otap_attrs.specs.declared.refusal.RowRefusal.{RowRefusal}
 use Rattle.otap_attrs.specs.declared.refusal.RowRefusal.TheVariants as why
 use Rattle.otap_checks.specs.IdDefects.{IdDefect}
 use Rattle.otap_attrs.specs.Defects.{WrongValue}
 use Rattle.otap_attrs.specs.Index.{pairs_in}
 use Rattle.otap_checks.specs.Reading.{main_rows_in, part_rows_in, Disagrees}
+use Rattle.otap_checks.specs.Measured.{HasTwoValues}
+use Rattle.otap_checks.specs.Shapes.{WrongParent, WrongType, has_numbers}
 use Rattle.otap_metrics.specs.Metrics.{metric_of}
-use Rattle.otap_metrics.specs.Numbers.{IsThere}
 use Rattle.otap_metrics.specs.Points.{exemplar_of, point_of}
 
 -- ---- what is found below
@@ -59,54 +58,6 @@ regrouped_metrics hists summaries tables = regrouped
     (main_rows_in (table_named table.Metrics tables))
 
 -- ---- what may be wrong
-
--- the number of a metric's shape, in a row of the main table
-abbrev pub type_at : Table → ℕ → ℕ
-type_at t row = nat_in (cell_in t.rows 9 row)
-
--- the numbers of shapes: none, gauges, sums, histograms, summaries
-abbrev pub is_type : ℕ → Bool
-is_type n = n == 0 || n == 1 || n == 2 || n == 3 || n == 5
-
--- those whose points are single numbers: gauges and sums; those of histograms, and of summaries
-abbrev pub has_numbers : ℕ → Bool
-has_numbers n = n == 1 || n == 2
-
-abbrev pub has_hist_points : ℕ → Bool
-has_hist_points n = n == 3
-
-abbrev pub has_summary_points : ℕ → Bool
-has_summary_points n = n == 5
-
--- a metric's shape has no such number
-pub record WrongType (t : Table) : Type 0 where
-  pub row : ℕ
-  pub there : row < length t.rows
-  pub is : is_type (type_at t row) ≡ false
-
--- a parent is the id of a metric that has another shape
-pub record NamesOther (fits : ℕ → Bool) (main : Table) (parents ids : List (Option ℕ)) : Type 0 where
-  pub row : ℕ
-  pub there : row < length main.rows
-  pub other : fits (type_at main row) ≡ false
-  pub id : ℕ
-  pub own : id_at ids row ≡ Some id
-  pub named : Contains parents (Some id)
-
--- a point names such a metric
-pub record WrongParent (fits : ℕ → Bool) (t main : Table) : Type 0 where
-  pub parents : List (Option ℕ)
-  pub ids : List (Option ℕ)
-  pub are : HasIds t 1 parents
-  pub known : HasIds main 0 ids
-  pub is : NamesOther fits main parents ids
-
--- a row has an integer and, in the column after it, a double
-pub record HasTwoValues (t : Table) (column : ℕ) : Type 0 where
-  pub row : ℕ
-  pub there : row < length t.rows
-  pub int : IsThere (cell_in t.rows column row)
-  pub double : IsThere (cell_in t.rows (column + 1) row)
 
 -- what is wrong with a table beside its ids
 abbrev pub WrongCells : List Table → Kind → RowRefusal → Type 0

@@ -1,6 +1,5 @@
--- What the checks of the rows of metrics tell: that nothing is wrong with them but that rows of one id may differ, and which
--- metrics have points of a sort.
-use Rattle.std.specs.Prelude.{◌≡◌, ℕ, Bool, false, List, Contains}
+-- What the checks of the rows of metrics tell: that nothing is wrong with them but that rows of one id may differ.
+use Rattle.std.specs.Prelude.{◌≡◌, false, List, Contains}
 use Rattle.otlp_model.specs.declared.request.Signal.TheVariants as signal
 use Rattle.otap_cells.specs.declared.payload.Kind.{Kind}
 use Rattle.otap_cells.specs.declared.payload.Kind.TheVariants as table
@@ -12,9 +11,9 @@ use Rattle.otap_checks.specs.declared.links.TableLink.{TableLink}
 use Rattle.otap_checks.specs.Known.{Knows}
 use Rattle.otap_checks.specs.Links.{links_of}
 use Rattle.otap_checks.specs.ValueDefects.{HasFineValues}
-use Rattle.otap_metrics.specs.declared.checks.PointSort.{PointSort}
-use Rattle.otap_metrics.specs.declared.checks.PointSort.TheVariants as sort
-use Rattle.otap_metrics.specs.Requests.{HasTwoValues, WrongIds, WrongParent, WrongType, is_hist_kind, has_hist_points, has_numbers, has_summary_points}
+use Rattle.otap_checks.specs.Measured.{HasTwoValues}
+use Rattle.otap_checks.specs.Shapes.{WrongParent, WrongType, has_numbers}
+use Rattle.otap_metrics.specs.Requests.{WrongIds, is_hist_kind}
 
 -- nothing is wrong but that rows of one id may differ
 pub record AreWhole (tables : List Table) : Type 0 where
@@ -27,12 +26,6 @@ pub record AreWhole (tables : List Table) : Type 0 where
   pub scopes : HasFineValues tables table.ScopeAttrs
   pub of_points : HasFineValues tables table.NumberPointAttrs
   pub of_exemplars : HasFineValues tables table.NumberExemplarAttrs
-
--- which metrics have points of a sort
-abbrev pub fits_of : PointSort → ℕ → Bool
-fits_of sort.Numbers = has_numbers
-fits_of sort.Histograms = has_hist_points
-fits_of sort.Summaries = has_summary_points
 
 -- the ids of each table but those of histograms and summaries are known
 abbrev pub KnowsMetrics : List Table → List ColumnIds → Type 0

@@ -1,7 +1,6 @@
 //! The rows of metrics: the tables of a request, and the request of tables.
 #![tactic(auto)]
 
-mod checks;
 mod columns;
 mod indexes;
 pub mod laws;
@@ -12,7 +11,6 @@ mod requests;
 mod weights;
 mod writing;
 
-pub use checks::{PointSort, has_other_parents, has_two_values};
 pub use indexes::index_exemplars;
 pub use numbers::{double_value, id_cell, int_value};
 pub use reading::{Exemplars, Metrics, Points};

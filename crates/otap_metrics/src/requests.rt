@@ -21,14 +21,14 @@ ghost use Rattle.otap_metrics.specs.Whole.{AreWhole, KnowsMetrics};
 ghost use Rattle.otap_metrics.specs.Metrics.{metric_of};
 ghost use Rattle.otap_metrics.specs.Requests.{WrongIds, WrongMetrics, points_in, regrouped_metrics};
 
-use crate::checks::{PointSort, has_other_parents, has_two_values, has_wrong_type};
 use crate::columns::{exemplar, point};
 use crate::indexes::{index_exemplars, index_points};
 use crate::reading::Metrics as MetricRows;
 use otap_attrs::{CheckRefusal, RowRefusal};
 use otap_cells::{Kind, Rows, TableSet};
 use otap_checks::{
-    Grouped, KnownIds, RegroupRefusal, check_values, disagrees, find_pairs, front_of, groups_within,
+    Grouped, KnownIds, PointSort, RegroupRefusal, check_values, disagrees, find_pairs, front_of,
+    groups_within, has_other_parents, has_two_values, has_wrong_type,
 };
 use otap_groups::{Lookup, Main};
 use otlp_model::{HistPoint, Items, Metric, Pair, Point, SumPoint};
@@ -46,7 +46,7 @@ pub fn check_metrics<R: Rows>(
     ensures whole { OnOk result (AreWhole set.now) }
     ensures refused { IfErr result (RefusesCheck (WrongMetrics set.now)) }
 {
-    if has_wrong_type(set) {
+    if has_wrong_type(set, Kind::Metrics) {
         return Err(defect(Kind::Metrics, RowRefusal::BadKind));
     }
     if has_other_parents(alloc, set, known, Kind::NumberPoints, PointSort::Numbers)? {

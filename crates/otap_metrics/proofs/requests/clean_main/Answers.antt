@@ -3,8 +3,8 @@ use Rattle.otap_cells.specs.declared.payload.Kind.TheVariants as table
 use Rattle.otap_checks.specs.Given.{AreGiven}
 use Rattle.otap_checks.specs.Known.{Knows}
 use Rattle.otap_checks.specs.Reading.{Disagrees}
+use Rattle.otap_checks.proofs.MainKinds.{metrics_are_main}
 use Rattle.otap_metrics.proofs.Cleanness.{clean, given_metrics, known_metrics}
-use Rattle.otap_metrics.proofs.MetricColumns.{metrics_are_main}
 use Rattle.otap_metrics.proofs.Regrouping.{regrouped_is}
 use Rattle.otap_metrics.proofs.requests.clean_main.Goals as goal
 

@@ -1,7 +1,0 @@
-use Rattle.std.proofs.Common.{ℕ, ◌+◌, ◌<◌}
-use Rattle.otap_cells.specs.Tables.{cell_in}
-use Rattle.otap_metrics.specs.Numbers.{IsThere}
-use Rattle.otap_metrics.proofs.checks.any_two_values.Given as goal
-
-abbrev pub invariant-rows : goal.invariant-rows
-invariant-rows g l = (k : ℕ) → k < l.row → IsThere (cell_in (g.R.Rows.table l.rows).rows l.column k) → IsThere (cell_in (g.R.Rows.table l.rows).rows (l.column + 1) k) → ⊥
