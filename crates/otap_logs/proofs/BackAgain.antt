@@ -32,9 +32,9 @@ use Rattle.otap_checks.proofs.RowsAgain.{main_rows_again}
 use Rattle.otap_attrs.specs.Tables.{attribute_table}
 use Rattle.otap_logs.specs.Records.{record_cells, record_of}
 use Rattle.otap_logs.specs.Requests.{regrouped_logs}
-use Rattle.otap_logs.specs.Tables.{tables_of_logs}
-use Rattle.otap_logs.proofs.LogColumns.{logs_are_main}
-use Rattle.otap_logs.proofs.NamedTables.{named_main, named_records, named_resources, named_scopes, record_pairs}
+use Rattle.otap_logs.specs.Tables.{record_pairs, tables_of_logs}
+use Rattle.otap_checks.proofs.MainKinds.{logs_are_main}
+use Rattle.otap_logs.proofs.NamedTables.{named_main, named_records, named_resources, named_scopes}
 use Rattle.otap_logs.proofs.ReadAgain.{IsBack, IsBackRecord, groups_again, records_read}
 
 same_record : (cells : List Cell) (xs ys : List Pair) → SameOften xs ys → SameLogRecord (record_of cells xs) (record_of cells ys)

@@ -26,8 +26,8 @@ use Rattle.otap_attrs.proofs.ValueLaws.{value_fine}
 use Rattle.otap_attrs.specs.Defects.{WrongValue}
 use Rattle.otap_checks.proofs.FinePairs.{IsFine, IsFineFrom, IsFineList, IsFinePair, attributes_fine, fine_rows, pairs_fine, IsFineResource, IsFineScope}
 use Rattle.otap_logs.specs.Records.{last_cells, record_cells}
-use Rattle.otap_logs.specs.Tables.{tables_of_logs}
-use Rattle.otap_logs.proofs.NamedTables.{named_main, named_records, named_resources, named_scopes, record_pairs}
+use Rattle.otap_logs.specs.Tables.{record_pairs, tables_of_logs}
+use Rattle.otap_logs.proofs.NamedTables.{named_main, named_records, named_resources, named_scopes}
 use Rattle.otap_logs.proofs.ReadAgain.{seven_cells}
 
 -- ---- bodies

@@ -19,9 +19,8 @@ use Rattle.otap_attrs.specs.Index.{pairs_in}
 use Rattle.otap_checks.proofs.PairsAgain.{sorted_weigh, unsorted}
 use Rattle.otap_logs.specs.Records.{record_cells, record_of}
 use Rattle.otap_logs.specs.Requests.{regrouped_logs}
-use Rattle.otap_logs.specs.Tables.{tables_of_logs}
+use Rattle.otap_logs.specs.Tables.{record_pairs, tables_of_logs}
 use Rattle.otap_logs.proofs.BackAgain.{few_l, few_r, few_s, regrouped_is, unsorted_back}
-use Rattle.otap_logs.proofs.NamedTables.{record_pairs}
 use Rattle.otap_logs.proofs.ReadAgain.{groups_again}
 
 record_weighs : (cells : List Cell) (xs ys : List Pair) → total 32 weight_of_pair xs ≡ total 32 weight_of_pair ys

@@ -1,5 +1,5 @@
 -- The parts of a request that its tables are written from.
-use Rattle.std.proofs.Common.{◌≡◌, ℕ, ◌*◌, ◌<◌, ◌≤◌, ◌^◌, List, ◌∷◌, ◌++◌, length, map, sym, ap, ◌∙◌, subst, arith}
+use Rattle.std.proofs.Common.{◌≡◌, ℕ, ◌*◌, ◌<◌, ◌≤◌, ◌^◌, List, [], ◌∷◌, ◌++◌, length, map, refl, sym, ap, ◌∙◌, subst, arith}
 use Rattle.std.specs.Prelude.{All}
 use Rattle.std.proofs.lemmas.List.{length-map}
 use Rattle.std.proofs.lemmas.List.Elements.{All-weaker}
@@ -14,6 +14,7 @@ use Rattle.otlp_model.specs.Limits.{weight_limit}
 use Rattle.otlp_model.specs.Weight.{total, weight_of, weight_of_log_record, weight_of_pair}
 use Rattle.otap_cells.specs.declared.payload.Kind.{Kind}
 use Rattle.otap_cells.specs.declared.payload.Kind.TheVariants as table
+use Rattle.otap_cells.specs.Sets.{IsSet, tables_in}
 use Rattle.otap_cells.specs.Tables.{Table, profile_table}
 use Rattle.otap_groups.specs.declared.flat.Flat.{Flat}
 use Rattle.otap_groups.specs.Flat.{FlatIn, flat_items, items_of, resources_of, scopes_of}
@@ -21,9 +22,11 @@ use Rattle.otap_groups.specs.Stored.{main_table, stored_rows}
 use Rattle.otap_groups.specs.Views.{seen_flat}
 use Rattle.otap_groups.proofs.FlatItems.{all_items}
 use Rattle.otap_groups.proofs.WritableGroups.{all_items_can, all_resources_can, all_scopes_can, few_items, few_resources, few_scopes, IsLightResource, IsLightScope}
-use Rattle.otap_attrs.specs.Tables.{attribute_table, where_rows}
+use Rattle.otap_attrs.specs.Tables.{attribute_table, beside_kind, where_rows}
+use Rattle.otap_attrs.proofs.FilledTables.{added, added_all, filled, filled_set, filled_tables}
+use Rattle.otap_checks.specs.Written.{table_of, tables_written}
 use Rattle.otap_logs.specs.Records.{record_cells}
-use Rattle.otap_logs.specs.Tables.{tables_of_logs}
+use Rattle.otap_logs.specs.Tables.{below_logs, tables_of_logs}
 use Rattle.otap_logs.specs.Writable.{CanWriteRecord}
 use Rattle.otap_logs.proofs.WrittenWeight.{CanWrite}
 
@@ -84,17 +87,39 @@ module _ (gs : List (ResourceGroup LogRecord)) (can : All CanWrite gs) where
 
 -- ---- the tables
 
-pub written : (groups gs : List (ResourceGroup LogRecord)) (flats : List (FlatIn LogRecord)) (main r s l : Table) → gs ≡ groups → flats ≡ flat_items gs
-    → main ≡ profile_table table.Logs (stored_rows record_cells 0 0 0 flats)
-    → r ≡ attribute_table table.ResourceAttrs (map (λ (resource : Resource). resource.pairs) (resources_of gs))
-    → s ≡ attribute_table table.ScopeAttrs (map (λ (scope : Scope). scope.pairs) (scopes_of gs))
-    → l ≡ attribute_table table.LogAttrs (map (λ (log : LogRecord). log.pairs) (items_of gs))
-    → main ∷ where_rows r ++ (where_rows s ++ where_rows l) ≡ tables_of_logs groups
-unfolding tables_of_logs main_table
-written groups gs flats main r s l same is m er es el =
-    (λ i. (m ∙ ap (λ fs. profile_table table.Logs (stored_rows record_cells 0 0 0 fs)) is) i ∷ where_rows (er i) ++ (where_rows (es i) ++ where_rows (el i)))
-    ∙ ap tables_of_logs same
+pub main_is : (gs : List (ResourceGroup LogRecord)) (flats : List (FlatIn LogRecord)) (main : Table) → flats ≡ flat_items gs
+    → main ≡ profile_table table.Logs (stored_rows record_cells 0 0 0 flats) → main ≡ main_table table.Logs record_cells gs
+unfolding main_table
+main_is gs flats main is m = m ∙ ap (λ fs. profile_table table.Logs (stored_rows record_cells 0 0 0 fs)) is
 
-pub attributes_kind : (kind : Kind) (lists : List (List Pair)) (t : Table) → t ≡ attribute_table kind lists → t.kind ≡ kind
-unfolding attribute_table
-attributes_kind kind lists t is = ap (λ (t : Table). t.kind) is
+abbrev pub Items : Type 0
+Items = List (Kind × Table)
+
+pub pushed : (main r s l : Table) (i0 i1 i2 i3 i4 : Items) → i0 ≡ [] → i1 ≡ i0 ++ (table.Logs, main) ∷ [] → main.kind ≡ table.Logs
+    → i2 ≡ i1 ++ map beside_kind (where_rows r) → i3 ≡ i2 ++ map beside_kind (where_rows s) → i4 ≡ i3 ++ map beside_kind (where_rows l)
+    → i4 ≡ map beside_kind (main ∷ filled (r ∷ s ∷ l ∷ []))
+pushed main r s l i0 i1 i2 i3 i4 e0 e1 km e2 e3 e4 =
+    let b3 = added i3 i4 i4 l [] e4 (added_all i4) in
+    let b2 = added i2 i3 i4 s (l ∷ []) e3 b3 in
+    let b1 = added i1 i2 i4 r (s ∷ l ∷ []) e2 b2 in
+    let front : i1 ≡ beside_kind main ∷ [] = e1 ∙ ap (λ (xs : Items). xs ++ (table.Logs, main) ∷ []) e0 ∙ (λ i. (sym km i, main) ∷ []) in
+    b1 ∙ ap (λ (xs : Items). xs ++ map beside_kind (filled (r ∷ s ∷ l ∷ []))) front
+
+module _ (gs : List (ResourceGroup LogRecord)) (items : Items) (main r s l : Table) (are : items ≡ map beside_kind (main ∷ filled (r ∷ s ∷ l ∷ [])))
+    (is_main : main ≡ main_table table.Logs record_cells gs)
+    (is_r : r ≡ attribute_table table.ResourceAttrs (map (λ (resource : Resource). resource.pairs) (resources_of gs)))
+    (is_s : s ≡ attribute_table table.ScopeAttrs (map (λ (scope : Scope). scope.pairs) (scopes_of gs)))
+    (is_l : l ≡ attribute_table table.LogAttrs (map (λ (log : LogRecord). log.pairs) (items_of gs))) where
+  items_are : items ≡ map beside_kind (main_table table.Logs record_cells gs ∷ filled (map table_of (below_logs gs)))
+  items_are = are ∙ (λ i. map beside_kind (is_main i ∷ filled (is_r i ∷ is_s i ∷ is_l i ∷ [])))
+
+  tables_are : tables_in (λ t. t) items ≡ tables_of_logs gs
+  unfolding tables_of_logs tables_written
+  tables_are = filled_tables (main_table table.Logs record_cells gs) (map table_of (below_logs gs)) items items_are
+
+  pub written : (groups : List (ResourceGroup LogRecord)) → gs ≡ groups → tables_in (λ t. t) items ≡ tables_of_logs groups
+  written groups same = tables_are ∙ ap tables_of_logs same
+
+  pub written_set : IsSet (λ t. t) items
+  unfolding main_table attribute_table
+  written_set = filled_set (main_table table.Logs record_cells gs) (map table_of (below_logs gs)) items items_are refl

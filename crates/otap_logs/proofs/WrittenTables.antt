@@ -1,8 +1,8 @@
 -- The tables of a request are tables of the profile.
 use Rattle.std.proofs.Common.{ℕ, ◌^◌, ◌≤◌, List, [], ◌∷◌, ◌++◌, Option, length, map, drop, refl, arith, inl, inr}
-use Rattle.std.specs.Prelude.{All, nat_lt}
-use Rattle.std.proofs.lemmas.Bool.{cases_Bool}
-use Rattle.std.proofs.lemmas.List.Elements.{All-nil, All-cons, All-head, All-tail, All-append, All-map, All-weaker}
+use Rattle.std.specs.Prelude.{All}
+use Rattle.std.specs.List.{AllByRecursion}
+use Rattle.std.proofs.lemmas.List.Elements.{All-nil, All-cons, All-head, All-tail, All-from_recursion, All-map, All-weaker}
 use Rattle.lists.proofs.Every.{every_weaker}
 use Rattle.otlp_model.specs.Limits.{weight_limit}
 use Rattle.otlp_model.specs.Profile.{IsProfile, IsProfileLogRecord, IsProfileResourceGroup, IsProfileScopeGroup}
@@ -16,31 +16,22 @@ use Rattle.otlp_model.specs.declared.logs.LogRecord.{LogRecord}
 use Rattle.otlp_model.specs.declared.request.Request.TheVariants.{Logs}
 use Rattle.otap_cells.specs.declared.payload.Kind.TheVariants as table
 use Rattle.otap_cells.specs.Columns.{columns_of, logs}
-use Rattle.otap_cells.specs.GivenIds.{HasIds}
-use Rattle.otap_cells.specs.Tables.{IsRow, Table}
-use Rattle.otap_groups.specs.Flat.{flat_items, items_of, numbered_rows, resources_of, scopes_of, resource_pairs, scope_pairs}
+use Rattle.otap_cells.specs.Tables.{IsRow}
+use Rattle.otap_groups.specs.Flat.{flat_items, items_of, resources_of, scopes_of, resource_pairs, scope_pairs}
 use Rattle.otap_groups.specs.ProfileTables.{IsProfileTable}
-use Rattle.otap_groups.specs.Rows.{MainRow}
 use Rattle.otap_groups.specs.Stored.{main_table, stored_rows}
 use Rattle.otap_groups.specs.Weighing.{CanWriteGroup, CanWriteScope}
 use Rattle.otap_groups.proofs.Bounds.{bounded}
-use Rattle.otap_groups.proofs.ProfileRows.{OfFlat, OwnFit, is_profile_table, of_flat, rows_fit}
-use Rattle.otap_groups.proofs.StoredRows.{own_ids_of, resource_ids_of, scope_ids_of}
+use Rattle.otap_groups.proofs.ProfileRows.{OfFlat, OwnFit, of_flat, rows_fit}
 use Rattle.otap_groups.proofs.WritableGroups.{all_items_can, all_resources_can, all_scopes_can}
-use Rattle.otap_attrs.specs.Tables.{attribute_table, where_rows}
+use Rattle.otap_checks.specs.Written.{Written, table_of}
+use Rattle.otap_checks.proofs.AllWritten.{main_profile, profile}
+use Rattle.otap_checks.proofs.MainKinds.{logs_kind}
 use Rattle.otap_checks.proofs.WrittenPairs.{AreReal, attributes_written}
 use Rattle.otap_logs.specs.Records.{record_cells}
-use Rattle.otap_logs.specs.Tables.{tables_of_logs}
+use Rattle.otap_logs.specs.Tables.{below_logs, record_pairs, tables_of_logs}
 use Rattle.otap_logs.proofs.BackAgain.{few_l, few_main, few_r, few_s}
-use Rattle.otap_logs.proofs.LogColumns.{log_ids, logs_are_main}
-use Rattle.otap_logs.proofs.NamedTables.{record_pairs}
 use Rattle.otap_logs.proofs.ValueFits.{own_fits}
-
-where_written : (t : Table) → IsProfileTable t → All IsProfileTable (where_rows t)
-where_written t is = elim (cases_Bool (nat_lt 0 (length t.rows))) [
-  | inl some ↦ rw some (All-cons IsProfileTable t [] is (All-nil IsProfileTable))
-  | inr none ↦ rw none (All-nil IsProfileTable)
-]
 
 -- ---- all of a request
 
@@ -89,14 +80,7 @@ module _ (groups : List (ResourceGroup LogRecord)) (fit : All IsFit groups) (lig
       (λ f of. (of.0, of.1, of.2.own)) (flat_items groups) (of_flat IsRealResource IsRealScope IsFitRecord groups fit))
 
   main_written : IsProfileTable (main_table table.Logs record_cells groups)
-  unfolding main_table
-  main_written =
-      let rows : List MainRow = numbered_rows record_cells 0 (flat_items groups) in
-      is_profile_table table.Logs (stored_rows record_cells 0 0 0 (flat_items groups)) main_rows_fit
-      (log_ids (λ column. (ids : List (Option ℕ)) × HasIds (main_table table.Logs record_cells groups) column ids)
-      (map (λ (row : MainRow). row.id) rows, own_ids_of record_cells table.Logs groups logs_are_main few)
-      (map (λ (row : MainRow). row.resource_id) rows, resource_ids_of record_cells table.Logs groups logs_are_main few)
-      (map (λ (row : MainRow). row.scope_id) rows, scope_ids_of record_cells table.Logs groups logs_are_main few))
+  main_written = main_profile table.Logs record_cells groups logs_kind few main_rows_fit
 
   real_resources : All AreReal (resource_pairs groups)
   real_resources = All-map AreReal (λ (resource : Resource). resource.pairs) (resources_of groups)
@@ -113,18 +97,22 @@ module _ (groups : List (ResourceGroup LogRecord)) (fit : All IsFit groups) (lig
       (All-weaker IsFitRecord (λ (log : LogRecord). AreReal log.pairs) (λ log fit. fit.pairs) (items_of groups)
       (all_items_can IsRealResource IsRealScope IsFitRecord groups fit))
 
+  below_written : AllByRecursion (λ (w : Written). IsProfileTable (table_of w)) (below_logs groups)
+  below_written = (
+    attributes_written table.ResourceAttrs (resource_pairs groups) refl (few_r groups light) real_resources,
+    (
+      attributes_written table.ScopeAttrs (scope_pairs groups) refl (few_s groups light) real_scopes,
+      (
+        attributes_written table.LogAttrs (record_pairs groups) refl (few_l groups light) real_records,
+        tt,
+      ),
+    ),
+  )
+
   all_written : All IsProfileTable (tables_of_logs groups)
   unfolding tables_of_logs
-  all_written =
-      let r : Table = attribute_table table.ResourceAttrs (resource_pairs groups) in
-      let s : Table = attribute_table table.ScopeAttrs (scope_pairs groups) in
-      let l : Table = attribute_table table.LogAttrs (record_pairs groups) in
-      All-cons IsProfileTable (main_table table.Logs record_cells groups) (where_rows r ++ (where_rows s ++ where_rows l)) main_written
-      (All-append IsProfileTable (where_rows r) (where_rows s ++ where_rows l)
-      (where_written r (attributes_written table.ResourceAttrs (resource_pairs groups) refl (few_r groups light) real_resources))
-      (All-append IsProfileTable (where_rows s) (where_rows l)
-      (where_written s (attributes_written table.ScopeAttrs (scope_pairs groups) refl (few_s groups light) real_scopes))
-      (where_written l (attributes_written table.LogAttrs (record_pairs groups) refl (few_l groups light) real_records))))
+  all_written = profile table.Logs record_cells (below_logs groups) groups main_written
+      (All-from_recursion (λ (w : Written). IsProfileTable (table_of w)) (below_logs groups) below_written)
 
 pub tables_written : (groups : List (ResourceGroup LogRecord)) → IsReal (Logs groups) → IsProfile (Logs groups) → weight_of (Logs groups) ≤ weight_limit
     → All IsProfileTable (tables_of_logs groups)

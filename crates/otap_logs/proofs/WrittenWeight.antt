@@ -1,8 +1,7 @@
 -- What the tables of a request of logs weigh, and which of its parts can be written.
-use Rattle.std.proofs.Common.{◌≡◌, ℕ, ◌+◌, ◌≤◌, ◌^◌, inl, inr, List, [], ◌++◌, length, map, sym, ap, ◌∙◌, subst, arith}
-use Rattle.std.specs.Prelude.{All, min, nat_lt}
-use Rattle.std.proofs.lemmas.Bool.{cases_Bool}
-use Rattle.std.proofs.lemmas.List.Sums.{sum_by-append, sum_by-cons}
+use Rattle.std.proofs.Common.{◌≡◌, ℕ, ◌+◌, ◌≤◌, ◌^◌, List, [], ◌∷◌, length, map, sym, ap, ◌∙◌, subst, arith}
+use Rattle.std.specs.Prelude.{All, min, sum_by}
+use Rattle.std.proofs.lemmas.List.Sums.{sum_by-cons}
 use Rattle.otlp_model.specs.declared.groups.Resource.{Resource}
 use Rattle.otlp_model.specs.declared.groups.Scope.{Scope}
 use Rattle.otlp_model.specs.declared.groups.ResourceGroup.{ResourceGroup}
@@ -14,19 +13,19 @@ use Rattle.otlp_model.specs.Weight.{weight_of, weight_of_log_record}
 use Rattle.otap_cells.specs.declared.payload.Kind.TheVariants as table
 use Rattle.otap_cells.specs.Tables.{Table}
 use Rattle.otap_cells.specs.Weights.{weight_of_table, weight_of_tables}
-use Rattle.otap_groups.specs.Flat.{items_of, resources_of, scopes_of}
-use Rattle.otap_groups.specs.Stored.{main_table}
+use Rattle.otap_groups.specs.Flat.{items_of, resource_pairs, resources_of, scope_pairs, scopes_of}
 use Rattle.otap_groups.specs.Weighing.{CanWriteGroup, cells_weight, parts_weight, rows_of_groups}
 use Rattle.otap_groups.proofs.RowsApart.{rows_apart}
 use Rattle.otap_groups.proofs.RowsWeighed.{main_weighs}
 use Rattle.otap_groups.proofs.WritableGroups.{groups_can, IsLightResource, IsLightScope}
-use Rattle.otap_attrs.specs.Tables.{attribute_table, where_rows}
+use Rattle.otap_attrs.specs.Tables.{attribute_table}
 use Rattle.otap_attrs.specs.Values.{pair_cells}
 use Rattle.otap_attrs.proofs.AttributesWeighed.{table_weighs}
-use Rattle.otap_attrs.proofs.FilledTables.{no_weight}
+use Rattle.otap_checks.specs.Written.{Written, pairs_below, table_of}
+use Rattle.otap_checks.proofs.AllWritten.{weighs}
 use Rattle.lists.proofs.MadeSums.{sum_of_map}
 use Rattle.otap_logs.specs.Records.{record_cells}
-use Rattle.otap_logs.specs.Tables.{tables_of_logs}
+use Rattle.otap_logs.specs.Tables.{below_logs, record_pairs, tables_of_logs}
 use Rattle.otap_logs.specs.Writable.{CanWriteRecord}
 
 -- ---- what can be written
@@ -42,34 +41,34 @@ all_can groups gs same is few = subst (All CanWrite) (sym same) (groups_can IsPr
 
 -- ---- weights
 
-where_weighs : (t : Table) → weight_of_tables (where_rows t) ≡ weight_of_table t
-where_weighs t = elim (cases_Bool (nat_lt 0 (length t.rows))) [
-  | inl some ↦ rw some (let a = sum_by-cons weight_of_table t [] in omega (arith, a))
-  | inr none ↦ rw none (sym (no_weight t.rows none))
-]
+three : (f : Written → ℕ) (a b c : Written) → sum_by f (a ∷ b ∷ c ∷ []) ≡ f a + f b + f c
+three f a b c = let w3 = sum_by-cons f c [] in let w2 = sum_by-cons f b (c ∷ []) in let w1 = sum_by-cons f a (b ∷ c ∷ []) in omega (arith, w1, w2, w3)
 
 pub tables_weigh : (groups : List (ResourceGroup LogRecord))
     → rows_of_groups (λ resource. parts_weight pair_cells resource.pairs) (λ scope. parts_weight pair_cells scope.pairs)
     (λ log. cells_weight (record_cells log) + parts_weight pair_cells log.pairs) groups ≡ weight_of_tables (tables_of_logs groups)
 unfolding tables_of_logs
 tables_weigh groups =
-    let main : Table = main_table table.Logs record_cells groups in
     let r : Table = attribute_table table.ResourceAttrs (map (λ (resource : Resource). resource.pairs) (resources_of groups)) in
     let s : Table = attribute_table table.ScopeAttrs (map (λ (scope : Scope). scope.pairs) (scopes_of groups)) in
     let l : Table = attribute_table table.LogAttrs (map (λ (log : LogRecord). log.pairs) (items_of groups)) in
-    let all = sum_by-cons weight_of_table main (where_rows r ++ (where_rows s ++ where_rows l)) in
-    let first = sum_by-append weight_of_table (where_rows r) (where_rows s ++ where_rows l) in
-    let second = sum_by-append weight_of_table (where_rows s) (where_rows l) in
-    let wr = where_weighs r ∙ table_weighs table.ResourceAttrs (map (λ (resource : Resource). resource.pairs) (resources_of groups))
+    let all = weighs table.Logs record_cells (below_logs groups) groups in
+    let below : sum_by (λ w. weight_of_table (table_of w)) (below_logs groups) ≡ weight_of_table r + weight_of_table s + weight_of_table l =
+    three (λ w. weight_of_table (table_of w)) (pairs_below table.ResourceAttrs table.Logs 1 (resource_pairs groups))
+    (pairs_below table.ScopeAttrs table.Logs 4 (scope_pairs groups)) (pairs_below table.LogAttrs table.Logs 0 (record_pairs groups)) in
+    let wr : weight_of_table r ≡ sum_by (λ (resource : Resource). parts_weight pair_cells resource.pairs) (resources_of groups) =
+    table_weighs table.ResourceAttrs (map (λ (resource : Resource). resource.pairs) (resources_of groups))
     ∙ sum_of_map (parts_weight pair_cells) (λ (resource : Resource). resource.pairs) (resources_of groups) in
-    let ws = where_weighs s ∙ table_weighs table.ScopeAttrs (map (λ (scope : Scope). scope.pairs) (scopes_of groups))
+    let ws : weight_of_table s ≡ sum_by (λ (scope : Scope). parts_weight pair_cells scope.pairs) (scopes_of groups) =
+    table_weighs table.ScopeAttrs (map (λ (scope : Scope). scope.pairs) (scopes_of groups))
     ∙ sum_of_map (parts_weight pair_cells) (λ (scope : Scope). scope.pairs) (scopes_of groups) in
-    let wl = where_weighs l ∙ table_weighs table.LogAttrs (map (λ (log : LogRecord). log.pairs) (items_of groups))
+    let wl : weight_of_table l ≡ sum_by (λ (log : LogRecord). parts_weight pair_cells log.pairs) (items_of groups) =
+    table_weighs table.LogAttrs (map (λ (log : LogRecord). log.pairs) (items_of groups))
     ∙ sum_of_map (parts_weight pair_cells) (λ (log : LogRecord). log.pairs) (items_of groups) in
     let wm = main_weighs record_cells table.Logs groups in
     let apart = rows_apart (λ (resource : Resource). parts_weight pair_cells resource.pairs) (λ (scope : Scope). parts_weight pair_cells scope.pairs)
     (λ (log : LogRecord). cells_weight (record_cells log)) (λ (log : LogRecord). parts_weight pair_cells log.pairs) groups in
-    omega (arith, all, first, second, wr, ws, wl, wm, apart)
+    omega (arith, all, below, wr, ws, wl, wm, apart)
 
 pub weighed : (groups gs : List (ResourceGroup LogRecord)) (n : ℕ) → gs ≡ groups
     → n ≡ min (rows_of_groups (λ resource. parts_weight pair_cells resource.pairs) (λ scope. parts_weight pair_cells scope.pairs)

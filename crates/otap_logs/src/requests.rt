@@ -11,26 +11,21 @@ ghost use Rattle.otap_groups.specs.Rows.{main_rows};
 ghost use Rattle.otap_attrs.specs.declared.refusal.RowRefusal.{RowRefusal};
 ghost use Rattle.otap_attrs.specs.Values.{pair_in};
 ghost use Rattle.otap_checks.specs.Pairing.{cells_or};
-ghost use Rattle.otap_attrs.specs.Index.{pairs_in};
 ghost use Rattle.otap_checks.specs.Refusing.{RefusesCheck};
 ghost use Rattle.otap_checks.specs.Regrouping.{RefusesRegroup};
-ghost use Rattle.otap_groups.specs.Disagree.{Disagree};
 ghost use Rattle.otap_groups.specs.Groups.{regrouped};
 ghost use Rattle.otlp_model.specs.Limits.{weight_limit, count_cap};
 ghost use Rattle.otap_checks.specs.Known.{KnowsAll};
-ghost use Rattle.otap_logs.specs.Inside.{AreWhole};
 ghost use Rattle.otap_logs.specs.Records.{record_of};
 ghost use Rattle.otap_logs.specs.Requests.{WrongLogs, regrouped_logs};
 
-use crate::columns;
 use crate::reading::Records;
-use otap_attrs::{CheckRefusal, RowRefusal};
+use otap_attrs::CheckRefusal;
 use otap_cells::{Kind, Rows, TableSet};
 use otap_checks::{
-    Grouped, KnownIds, RegroupRefusal, TablePairs, check_values, disagrees, find_pairs, front_of,
-    groups_within, known_ids,
+    Grouped, KnownIds, RegroupRefusal, TablePairs, checked_ids, find_pairs, front_of, groups_within,
 };
-use otap_groups::{Children, FrontColumns, Main};
+use otap_groups::{Children, Main};
 use otlp_model::{Items, LogRecord, ResourceGroup, Signal};
 use std::alloc::{AllocError, Global};
 
@@ -49,11 +44,11 @@ pub fn check_rows<R: Rows>(alloc: Global, set: &TableSet<R>) -> Result<u64, Chec
     ensures weight { IfOk result (λ weight. weight ≡ min (weight_of (Logs (regrouped_logs set.now))) count_cap) }
     ensures refused { IfErr result (RefusesCheck (WrongLogs set.now)) }
 {
-    let known = check_cells(alloc, set)?;
+    let known = checked_ids(alloc, set, Signal::Logs)?;
     let Some(rows) = set.get(Kind::Logs) else {
         return Ok(0);
     };
-    let main = clean_main(alloc, set, rows, &known)?;
+    let main = main_of(alloc, set, rows, &known)?;
     Ok(main.weight())
 }
 
@@ -69,14 +64,14 @@ pub fn regroup<R: Rows>(
     ensures light { IfOk result (λ made. made.tree ≤ weight_limit) }
     ensures refused { IfErr result (RefusesRegroup (WrongLogs set.now) (weight_of (Logs (regrouped_logs set.now)))) }
 {
-    let known = check_cells(alloc, set)?;
+    let known = checked_ids(alloc, set, Signal::Logs)?;
     let Some(rows) = set.get(Kind::Logs) else {
         return Ok(Grouped {
             groups: Items::new(alloc),
             tree: 0,
         });
     };
-    let main = clean_main(alloc, set, rows, &known)?;
+    let main = main_of(alloc, set, rows, &known)?;
     let made = groups_within(alloc, &main)?;
     Ok(made)
 }
@@ -97,73 +92,24 @@ pub fn request_of<R: Rows>(
     }
 }
 
-/// Looks at all but whether rows of one id agree, and returns the ids of the tables.
-fn check_cells<R: Rows>(alloc: Global, set: &TableSet<R>) -> Result<KnownIds, CheckRefusal>
-    ensures clean { OnOk result (AreWhole set.now) }
-    ensures known { IfOk result (λ known. KnowsAll signal.Logs set.now known.columns.items) }
-    ensures refused { IfErr result (RefusesCheck (WrongLogs set.now)) }
-{
-    let known = known_ids(alloc, set, Signal::Logs)?;
-    check_values(set, Kind::Logs, columns::BODY)?;
-    check_values(set, Kind::ResourceAttrs, 2)?;
-    check_values(set, Kind::ScopeAttrs, 2)?;
-    check_values(set, Kind::LogAttrs, 2)?;
-    Ok(known)
-}
-
-/// The main rows, where rows of one id agree.
-fn clean_main<'a, R: Rows>(
+/// The main rows of a batch whose rows have nothing wrong, with their records and all pairs.
+fn main_of<'a, R: Rows>(
     alloc: Global,
     set: &'a TableSet<R>,
     rows: &'a R,
     known: &'a KnownIds,
-) -> Result<LogRows<'a, R>, CheckRefusal>
-    requires whole { AreWhole set.now }
+) -> Result<LogRows<'a, R>, AllocError>
+    requires clean { (kind : Kind) (why : RowRefusal) → WrongLogs set.now kind why → ⊥ }
     requires known { KnowsAll signal.Logs set.now known.now.columns.items }
     requires table { table_named table.Logs set.now ≡ R.table rows.now }
     requires kind { (R.table rows.now).kind ≡ table.Logs }
-    ensures clean { OnOk result ((kind : Kind) (why : RowRefusal) → WrongLogs set.now kind why → ⊥) }
-    ensures groups { IfOk result (λ main. regrouped (λ parent. found (λ id cells. pair_in cells) main.resources.ids.now (cells_or (λ p. map (drop 1) (R.table p.rows.now).rows) main.resources.reader.pairs) main.resources.entries.items parent)
+    ensures { IfOk result (λ main. regrouped (λ parent. found (λ id cells. pair_in cells) main.resources.ids.now (cells_or (λ p. map (drop 1) (R.table p.rows.now).rows) main.resources.reader.pairs) main.resources.entries.items parent)
         (λ parent. found (λ id cells. pair_in cells) main.scopes.ids.now (cells_or (λ p. map (drop 1) (R.table p.rows.now).rows) main.scopes.reader.pairs) main.scopes.entries.items parent)
         (λ id own. record_of own (found (λ id cells. pair_in cells) main.items.pairs.ids.now (cells_or (λ p. map (drop 1) (R.table p.rows.now).rows) main.items.pairs.reader.pairs) main.items.pairs.entries.items id))
         (main_rows main.front.ids.now main.front.resource_ids.now main.front.scope_ids.now (R.table main.front.rows.now).rows)
         ≡ regrouped_logs set.now) }
-    ensures refused { IfErr result (RefusesCheck (WrongLogs set.now)) }
 {
     let front = front_of(rows, known);
-    if disagrees(alloc, &front)? {
-        return Err(CheckRefusal::Defect {
-            kind: Kind::Logs,
-            why: RowRefusal::Disagree,
-        });
-    }
-    let main = main_of(alloc, set, front, known)?;
-    Ok(main)
-}
-
-/// The main rows of a front, with their records and all pairs.
-fn main_of<'a, R: Rows>(
-    alloc: Global,
-    set: &'a TableSet<R>,
-    front: FrontColumns<'a, R>,
-    known: &'a KnownIds,
-) -> Result<LogRows<'a, R>, AllocError>
-    requires known { KnowsAll signal.Logs set.now known.now.columns.items }
-    requires kind { (R.table front.rows.now).kind ≡ table.Logs }
-    requires agree { Disagree (main_rows front.ids.now front.resource_ids.now front.scope_ids.now (R.table front.rows.now).rows) → ⊥ }
-    ensures front { IfOk result (λ main. main_rows main.front.ids.now main.front.resource_ids.now main.front.scope_ids.now (R.table main.front.rows.now).rows
-        ≡ main_rows front.entry.ids.now front.entry.resource_ids.now front.entry.scope_ids.now (R.table front.entry.rows.now).rows) }
-    ensures resources { IfOk result (λ main. (parent : Option ℕ)
-        → found (λ id cells. pair_in cells) main.resources.ids.now (cells_or (λ p. map (drop 1) (R.table p.rows.now).rows) main.resources.reader.pairs) main.resources.entries.items parent
-        ≡ pairs_in (table_named table.ResourceAttrs set.now) parent) }
-    ensures scopes { IfOk result (λ main. (parent : Option ℕ)
-        → found (λ id cells. pair_in cells) main.scopes.ids.now (cells_or (λ p. map (drop 1) (R.table p.rows.now).rows) main.scopes.reader.pairs) main.scopes.entries.items parent
-        ≡ pairs_in (table_named table.ScopeAttrs set.now) parent) }
-    ensures records { IfOk result (λ main. (parent : Option ℕ)
-        → found (λ id cells. pair_in cells) main.items.pairs.ids.now (cells_or (λ p. map (drop 1) (R.table p.rows.now).rows) main.items.pairs.reader.pairs) main.items.pairs.entries.items parent
-        ≡ pairs_in (table_named table.LogAttrs set.now) parent) }
-{
-    let rows = front.rows;
     let resources = find_pairs(alloc, set, Kind::ResourceAttrs, known)?;
     let scopes = find_pairs(alloc, set, Kind::ScopeAttrs, known)?;
     let pairs = find_pairs(alloc, set, Kind::LogAttrs, known)?;

@@ -49,7 +49,7 @@ use Rattle.otap_spans.specs.Records.{event_cells, event_of, link_cells, link_of,
 use Rattle.otap_spans.specs.Requests.{event_in, events_in, link_in, links_in, regrouped_spans}
 use Rattle.otap_spans.specs.Tables.{all_events, all_links, event_lists, event_pairs, link_lists, link_pairs, span_pairs, tables_of_spans}
 use Rattle.otap_spans.proofs.NamedTables.{named_event_pairs, named_events, named_link_pairs, named_links, named_main, named_resources, named_scopes, named_spans}
-use Rattle.otap_spans.proofs.SpanColumns.{spans_are_main}
+use Rattle.otap_checks.proofs.MainKinds.{spans_are_main}
 use Rattle.otap_spans.proofs.SpansBack.{event_back, link_back, span_back}
 
 -- ---- what comes back

@@ -27,8 +27,10 @@ use Rattle.otap_groups.proofs.FlatItems.{items_of_rows, parts_of_rows}
 use Rattle.otap_attrs.specs.Tables.{attribute_table, beside_kind, where_rows}
 use Rattle.otap_attrs.proofs.FilledTables.{added, added_all, filled, filled_set, filled_tables}
 use Rattle.otap_attrs.proofs.FoundLists.{found_table}
+use Rattle.otap_checks.specs.Written.{table_of, tables_written}
+use Rattle.otap_checks.proofs.SeenParts.{table_seen}
 use Rattle.otap_spans.specs.Records.{event_cells, link_cells, span_cells}
-use Rattle.otap_spans.specs.Tables.{all_events, all_links, tables_below, tables_of_spans}
+use Rattle.otap_spans.specs.Tables.{all_events, all_links, below_spans, event_lists, link_lists, tables_of_spans}
 
 -- ---- what is found, by what it is seen as
 
@@ -100,18 +102,19 @@ module _ (gs : List (ResourceGroup Span)) (items : Items) (main a e l ea la : Ta
     (is_l : l ≡ part_table table.SpanLinks link_cells (map (λ (span : Span). span.links) (items_of gs)))
     (is_ea : ea ≡ attribute_table table.EventAttrs (map (λ (event : Event). event.pairs) (all_events gs)))
     (is_la : la ≡ attribute_table table.LinkAttrs (map (λ (link : Link). link.pairs) (all_links gs))) where
-  items_are : items ≡ map beside_kind (main_table table.Spans span_cells gs ∷ filled (tables_below gs))
+  items_are : items ≡ map beside_kind (main_table table.Spans span_cells gs ∷ filled (map table_of (below_spans gs)))
   items_are =
       are ∙ (λ i. map beside_kind (is_main i ∷ filled (attribute_table table.ResourceAttrs (map (λ (resource : Resource). resource.pairs) (resources_of gs))
-      ∷ attribute_table table.ScopeAttrs (map (λ (scope : Scope). scope.pairs) (scopes_of gs)) ∷ is_a i ∷ is_e i ∷ is_l i ∷ is_ea i ∷ is_la i ∷ [])))
+      ∷ attribute_table table.ScopeAttrs (map (λ (scope : Scope). scope.pairs) (scopes_of gs)) ∷ is_a i ∷ (is_e ∙ sym (table_seen event_cells table.SpanEvents (event_lists gs))) i
+      ∷ (is_l ∙ sym (table_seen link_cells table.SpanLinks (link_lists gs))) i ∷ is_ea i ∷ is_la i ∷ [])))
 
   tables_are : tables_in (λ t. t) items ≡ tables_of_spans gs
-  unfolding tables_of_spans
-  tables_are = filled_tables (main_table table.Spans span_cells gs) (tables_below gs) items items_are
+  unfolding tables_of_spans tables_written
+  tables_are = filled_tables (main_table table.Spans span_cells gs) (map table_of (below_spans gs)) items items_are
 
   pub written : (groups : List (ResourceGroup Span)) → gs ≡ groups → tables_in (λ t. t) items ≡ tables_of_spans groups
   written groups same = tables_are ∙ ap tables_of_spans same
 
   pub written_set : IsSet (λ t. t) items
   unfolding main_table part_table attribute_table
-  written_set = filled_set (main_table table.Spans span_cells gs) (tables_below gs) items items_are refl
+  written_set = filled_set (main_table table.Spans span_cells gs) (map table_of (below_spans gs)) items items_are refl

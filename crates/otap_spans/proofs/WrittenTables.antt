@@ -18,25 +18,24 @@ use Rattle.otlp_model.specs.declared.spans.Link.{Link}
 use Rattle.otlp_model.specs.declared.request.Request.TheVariants.{Traces}
 use Rattle.otap_cells.specs.declared.payload.Kind.TheVariants as table
 use Rattle.otap_cells.specs.Columns.{columns_of, spans, span_events as event_columns, span_links as link_columns}
-use Rattle.otap_cells.specs.GivenIds.{HasIds}
 use Rattle.otap_cells.specs.Tables.{IsRow}
-use Rattle.otap_groups.specs.Flat.{flat_items, items_of, numbered_rows, resources_of, scopes_of, resource_pairs, scope_pairs}
+use Rattle.otap_groups.specs.Flat.{flat_items, items_of, resources_of, scopes_of, resource_pairs, scope_pairs}
 use Rattle.otap_groups.specs.ProfileTables.{IsProfileTable}
-use Rattle.otap_groups.specs.Rows.{MainRow}
 use Rattle.otap_groups.specs.Stored.{main_table, part_table, stored_rows}
 use Rattle.otap_groups.specs.Weighing.{CanWriteGroup, CanWriteScope}
 use Rattle.otap_groups.proofs.Bounds.{bounded}
 use Rattle.otap_groups.proofs.PartTables.{part_written}
-use Rattle.otap_groups.proofs.ProfileRows.{OfFlat, OwnFit, is_profile_table, of_flat, rows_fit}
-use Rattle.otap_groups.proofs.StoredRows.{own_ids_of, resource_ids_of, scope_ids_of}
+use Rattle.otap_groups.proofs.ProfileRows.{OfFlat, OwnFit, of_flat, rows_fit}
 use Rattle.otap_groups.proofs.WritableGroups.{all_items_can, all_resources_can, all_scopes_can}
 use Rattle.otap_groups.proofs.FrontKinds.{events_front, links_front}
-use Rattle.otap_attrs.proofs.FilledTables.{filled, filled_all}
+use Rattle.otap_checks.specs.Written.{Written, table_of}
+use Rattle.otap_checks.proofs.AllWritten.{main_profile, profile}
+use Rattle.otap_checks.proofs.MainKinds.{spans_kind}
+use Rattle.otap_checks.proofs.SeenParts.{table_seen}
 use Rattle.otap_checks.proofs.WrittenPairs.{AreReal, attributes_written}
 use Rattle.otap_spans.specs.Records.{event_cells, link_cells, span_cells}
-use Rattle.otap_spans.specs.Tables.{all_events, all_links, event_lists, event_pairs, link_lists, link_pairs, span_pairs, tables_below, tables_of_spans}
-use Rattle.otap_spans.proofs.SpanColumns.{spans_are_main}
-use Rattle.otap_spans.proofs.SpanFits.{event_ids, event_own, event_row, link_ids, link_own, link_row, span_ids, span_own}
+use Rattle.otap_spans.specs.Tables.{all_events, all_links, below_spans, event_lists, event_pairs, link_lists, link_pairs, span_pairs, tables_of_spans}
+use Rattle.otap_spans.proofs.SpanFits.{event_ids, event_own, event_row, link_ids, link_own, link_row, span_own}
 use Rattle.otap_spans.proofs.SpansAgain.{events_joined, few_e, few_event_lists, few_events, few_l, few_link_lists, few_links, few_main, few_p, few_r, few_s, links_joined}
 
 -- ---- what fits
@@ -105,14 +104,7 @@ module _ (groups : List (ResourceGroup Span)) (fit : All IsFit groups) (light : 
       (λ f of. (of.0, of.1, of.2.own)) (flat_items groups) (of_flat IsRealResource IsRealScope IsFitSpan groups fit))
 
   main_written : IsProfileTable (main_table table.Spans span_cells groups)
-  unfolding main_table
-  main_written =
-      let rows : List MainRow = numbered_rows span_cells 0 (flat_items groups) in
-      is_profile_table table.Spans (stored_rows span_cells 0 0 0 (flat_items groups)) main_rows_fit
-      (span_ids (λ column. (ids : List (Option ℕ)) × HasIds (main_table table.Spans span_cells groups) column ids)
-      (map (λ (row : MainRow). row.id) rows, own_ids_of span_cells table.Spans groups spans_are_main few)
-      (map (λ (row : MainRow). row.resource_id) rows, resource_ids_of span_cells table.Spans groups spans_are_main few)
-      (map (λ (row : MainRow). row.scope_id) rows, scope_ids_of span_cells table.Spans groups spans_are_main few))
+  main_written = main_profile table.Spans span_cells groups spans_kind few main_rows_fit
 
   fit_spans : All IsFitSpan (items_of groups)
   fit_spans = all_items_can IsRealResource IsRealScope IsFitSpan groups fit
@@ -163,7 +155,7 @@ module _ (groups : List (ResourceGroup Span)) (fit : All IsFit groups) (light : 
       (recursion_from_All (λ (link : Link). IsRow (drop 2 link_columns) (link_cells link)) (all_links groups)
       (All-weaker IsFitLink (λ (link : Link). IsRow (drop 2 link_columns) (link_cells link)) (λ link fit. fit.own) (all_links groups) fit_links)))
 
-  below_written : AllByRecursion IsProfileTable (tables_below groups)
+  below_written : AllByRecursion (λ (w : Written). IsProfileTable (table_of w)) (below_spans groups)
   below_written = (
     attributes_written table.ResourceAttrs (resource_pairs groups) refl (few_r groups light) real_resources,
     (
@@ -171,12 +163,15 @@ module _ (groups : List (ResourceGroup Span)) (fit : All IsFit groups) (light : 
       (
         attributes_written table.SpanAttrs (span_pairs groups) refl (few_p groups light) real_spans,
         (
-          events_written,
+          subst IsProfileTable (sym (table_seen event_cells table.SpanEvents (event_lists groups))) events_written,
           (
-            links_written,
+            subst IsProfileTable (sym (table_seen link_cells table.SpanLinks (link_lists groups))) links_written,
             (
               attributes_written table.EventAttrs (event_pairs groups) refl (few_e groups light) real_events,
-              (attributes_written table.LinkAttrs (link_pairs groups) refl (few_l groups light) real_links, tt),
+              (
+                attributes_written table.LinkAttrs (link_pairs groups) refl (few_l groups light) real_links,
+                tt,
+              ),
             ),
           ),
         ),
@@ -186,9 +181,8 @@ module _ (groups : List (ResourceGroup Span)) (fit : All IsFit groups) (light : 
 
   all_written : All IsProfileTable (tables_of_spans groups)
   unfolding tables_of_spans
-  all_written =
-      All-cons IsProfileTable (main_table table.Spans span_cells groups) (filled (tables_below groups)) main_written
-      (filled_all IsProfileTable (tables_below groups) (All-from_recursion IsProfileTable (tables_below groups) below_written))
+  all_written = profile table.Spans span_cells (below_spans groups) groups main_written
+      (All-from_recursion (λ (w : Written). IsProfileTable (table_of w)) (below_spans groups) below_written)
 
 pub tables_written : (groups : List (ResourceGroup Span)) → IsReal (Traces groups) → IsProfile (Traces groups) → weight_of (Traces groups) ≤ weight_limit
     → All IsProfileTable (tables_of_spans groups)

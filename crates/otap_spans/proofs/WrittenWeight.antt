@@ -14,7 +14,7 @@ use Rattle.otap_cells.specs.declared.payload.Kind.TheVariants as table
 use Rattle.otap_cells.specs.Cells.{Cell}
 use Rattle.otap_cells.specs.Tables.{Table}
 use Rattle.otap_cells.specs.Weights.{weight_of_table, weight_of_tables}
-use Rattle.otap_groups.specs.Flat.{items_of, resources_of, scopes_of}
+use Rattle.otap_groups.specs.Flat.{items_of, resource_pairs, resources_of, scope_pairs, scopes_of}
 use Rattle.otap_groups.specs.Stored.{main_table, part_table}
 use Rattle.otap_groups.specs.Weighing.{cells_weight, parts_weight, rows_of_groups}
 use Rattle.otap_groups.proofs.RowsApart.{rows_apart}
@@ -23,9 +23,11 @@ use Rattle.otap_attrs.specs.Tables.{attribute_table}
 use Rattle.otap_attrs.specs.Values.{pair_cells}
 use Rattle.otap_attrs.proofs.AttributesWeighed.{table_weighs}
 use Rattle.lists.proofs.MadeSums.{sum_of_both, sum_of_flat, sum_of_map}
-use Rattle.otap_attrs.proofs.FilledTables.{filled, filled_weigh}
+use Rattle.otap_checks.specs.Written.{Written, pairs_below, parts_below, table_of}
+use Rattle.otap_checks.proofs.AllWritten.{weighs}
+use Rattle.otap_checks.proofs.SeenParts.{table_seen}
 use Rattle.otap_spans.specs.Records.{event_cells, link_cells, span_cells}
-use Rattle.otap_spans.specs.Tables.{all_events, all_links, tables_below, tables_of_spans}
+use Rattle.otap_spans.specs.Tables.{all_events, all_links, below_spans, event_lists, event_pairs, link_lists, link_pairs, span_pairs, tables_of_spans}
 use Rattle.otap_spans.specs.Weighing.{below_weight, event_weight, link_weight}
 
 abbrev pairs_weight : {A : Type 0} → (A → List Pair) → A → ℕ
@@ -73,16 +75,15 @@ below_apart spans =
     let b = sum_of_both (pairs_weight (λ (span : Span). span.pairs)) (λ (span : Span). sum_by event_weight span.events) spans in
     omega (arith, a, b)
 
-seven : (a b c d e f g : Table) → weight_of_tables (a ∷ b ∷ c ∷ d ∷ e ∷ f ∷ g ∷ [])
-    ≡ weight_of_table a + weight_of_table b + weight_of_table c + weight_of_table d + weight_of_table e + weight_of_table f + weight_of_table g
-seven a b c d e f g =
-    let w7 = sum_by-cons weight_of_table g [] in
-    let w6 = sum_by-cons weight_of_table f (g ∷ []) in
-    let w5 = sum_by-cons weight_of_table e (f ∷ g ∷ []) in
-    let w4 = sum_by-cons weight_of_table d (e ∷ f ∷ g ∷ []) in
-    let w3 = sum_by-cons weight_of_table c (d ∷ e ∷ f ∷ g ∷ []) in
-    let w2 = sum_by-cons weight_of_table b (c ∷ d ∷ e ∷ f ∷ g ∷ []) in
-    let w1 = sum_by-cons weight_of_table a (b ∷ c ∷ d ∷ e ∷ f ∷ g ∷ []) in
+seven : (h : Written → ℕ) (a b c d e f g : Written) → sum_by h (a ∷ b ∷ c ∷ d ∷ e ∷ f ∷ g ∷ []) ≡ h a + h b + h c + h d + h e + h f + h g
+seven h a b c d e f g =
+    let w7 = sum_by-cons h g [] in
+    let w6 = sum_by-cons h f (g ∷ []) in
+    let w5 = sum_by-cons h e (f ∷ g ∷ []) in
+    let w4 = sum_by-cons h d (e ∷ f ∷ g ∷ []) in
+    let w3 = sum_by-cons h c (d ∷ e ∷ f ∷ g ∷ []) in
+    let w2 = sum_by-cons h b (c ∷ d ∷ e ∷ f ∷ g ∷ []) in
+    let w1 = sum_by-cons h a (b ∷ c ∷ d ∷ e ∷ f ∷ g ∷ []) in
     omega (arith, w1, w2, w3, w4, w5, w6, w7)
 
 abbrev of_resource : Resource → ℕ
@@ -95,7 +96,6 @@ pub tables_weigh : (groups : List (ResourceGroup Span))
     → rows_of_groups of_resource of_scope (λ span. cells_weight (span_cells span) + below_weight span) groups ≡ weight_of_tables (tables_of_spans groups)
 unfolding tables_of_spans
 tables_weigh groups =
-    let main : Table = main_table table.Spans span_cells groups in
     let r : Table = attribute_table table.ResourceAttrs (map (λ (resource : Resource). resource.pairs) (resources_of groups)) in
     let s : Table = attribute_table table.ScopeAttrs (map (λ (scope : Scope). scope.pairs) (scopes_of groups)) in
     let a : Table = attribute_table table.SpanAttrs (map (λ (span : Span). span.pairs) (items_of groups)) in
@@ -103,9 +103,18 @@ tables_weigh groups =
     let l : Table = part_table table.SpanLinks link_cells (map (λ (span : Span). span.links) (items_of groups)) in
     let ea : Table = attribute_table table.EventAttrs (map (λ (event : Event). event.pairs) (all_events groups)) in
     let la : Table = attribute_table table.LinkAttrs (map (λ (link : Link). link.pairs) (all_links groups)) in
-    let rows = sum_by-cons weight_of_table main (filled (tables_below groups)) in
-    let below = filled_weigh (tables_below groups) in
-    let parts = seven r s a e l ea la in
+    let rows = weighs table.Spans span_cells (below_spans groups) groups in
+    let seen_e : weight_of_table (table_of (parts_below table.SpanEvents table.Spans event_cells (event_lists groups))) ≡ weight_of_table e =
+    ap weight_of_table (table_seen event_cells table.SpanEvents (event_lists groups)) in
+    let seen_l : weight_of_table (table_of (parts_below table.SpanLinks table.Spans link_cells (link_lists groups))) ≡ weight_of_table l =
+    ap weight_of_table (table_seen link_cells table.SpanLinks (link_lists groups)) in
+    let parts : sum_by (λ w. weight_of_table (table_of w)) (below_spans groups)
+    ≡ weight_of_table r + weight_of_table s + weight_of_table a + weight_of_table (table_of (parts_below table.SpanEvents table.Spans event_cells (event_lists groups)))
+    + weight_of_table (table_of (parts_below table.SpanLinks table.Spans link_cells (link_lists groups))) + weight_of_table ea + weight_of_table la =
+    seven (λ w. weight_of_table (table_of w)) (pairs_below table.ResourceAttrs table.Spans 1 (resource_pairs groups))
+    (pairs_below table.ScopeAttrs table.Spans 4 (scope_pairs groups)) (pairs_below table.SpanAttrs table.Spans 0 (span_pairs groups))
+    (parts_below table.SpanEvents table.Spans event_cells (event_lists groups)) (parts_below table.SpanLinks table.Spans link_cells (link_lists groups))
+    (pairs_below table.EventAttrs table.SpanEvents 0 (event_pairs groups)) (pairs_below table.LinkAttrs table.SpanLinks 0 (link_pairs groups)) in
     let wm = main_weighs span_cells table.Spans groups in
     let wr = pairs_weigh table.ResourceAttrs (λ (resource : Resource). resource.pairs) (resources_of groups) in
     let ws = pairs_weigh table.ScopeAttrs (λ (scope : Scope). scope.pairs) (scopes_of groups) in
@@ -116,7 +125,7 @@ tables_weigh groups =
     (sum_of_flat (pairs_weight (λ (link : Link). link.pairs)) (λ (span : Span). span.links) (items_of groups)) in
     let apart = rows_apart of_resource of_scope (λ (span : Span). cells_weight (span_cells span)) below_weight groups in
     let more = below_apart (items_of groups) in
-    omega (arith, rows, below, parts, wm, wr, ws, wa, we, wl, apart, more)
+    omega (arith, rows, parts, seen_e, seen_l, wm, wr, ws, wa, we, wl, apart, more)
 
 pub weighed : (groups gs : List (ResourceGroup Span)) (n : ℕ) → gs ≡ groups
     → n ≡ min (rows_of_groups of_resource of_scope (λ span. cells_weight (span_cells span) + below_weight span) gs) (2 ^ 63)

@@ -1,5 +1,5 @@
 -- The request that tables of spans make, and what may be wrong with their rows.
-use Rattle.std.specs.Prelude.{ℕ, List, Option, ◌⊎◌}
+use Rattle.std.specs.Prelude.{ℕ, List, Option}
 use Rattle.otlp_model.specs.declared.groups.ResourceGroup.{ResourceGroup}
 use Rattle.otlp_model.specs.declared.spans.Span.{Span}
 use Rattle.otlp_model.specs.declared.spans.Event.{Event}
@@ -11,13 +11,11 @@ use Rattle.otap_cells.specs.Cells.{Cell}
 use Rattle.otap_cells.specs.Named.{table_named}
 use Rattle.otap_cells.specs.Tables.{Table}
 use Rattle.otap_groups.specs.Children.{children}
-use Rattle.otap_groups.specs.Groups.{regrouped}
 use Rattle.otap_attrs.specs.declared.refusal.RowRefusal.{RowRefusal}
-use Rattle.otap_attrs.specs.declared.refusal.RowRefusal.TheVariants as why
-use Rattle.otap_checks.specs.IdDefects.{IdDefect}
-use Rattle.otap_attrs.specs.Defects.{WrongValue}
 use Rattle.otap_attrs.specs.Index.{pairs_in}
-use Rattle.otap_checks.specs.Reading.{main_rows_in, part_rows_in, Disagrees}
+use Rattle.otap_checks.specs.Reading.{part_rows_in}
+use Rattle.otap_checks.specs.Regrouping.{regrouped_in}
+use Rattle.otap_checks.specs.RowDefects.{RowDefect}
 use Rattle.otap_spans.specs.Records.{span_of, event_of, link_of}
 
 -- the event of an id and own cells, with the pairs that the table has for the id; and the same for links
@@ -43,22 +41,8 @@ span_in tables id cells = span_of cells
 
 -- THE REQUEST that tables make
 unfoldable pub regrouped_spans : List Table → List (ResourceGroup Span)
-regrouped_spans tables = regrouped
-    (pairs_in (table_named table.ResourceAttrs tables))
-    (pairs_in (table_named table.ScopeAttrs tables))
-    (span_in tables)
-    (main_rows_in (table_named table.Spans tables))
-
--- what is wrong with a table beside its ids
-abbrev pub WrongCells : Table → Kind → RowRefusal → Type 0
-WrongCells t table.Spans why.Disagree = Disagrees t
-WrongCells t table.ResourceAttrs wrong = WrongValue t 2 wrong
-WrongCells t table.ScopeAttrs wrong = WrongValue t 2 wrong
-WrongCells t table.SpanAttrs wrong = WrongValue t 2 wrong
-WrongCells t table.EventAttrs wrong = WrongValue t 2 wrong
-WrongCells t table.LinkAttrs wrong = WrongValue t 2 wrong
-WrongCells t kind wrong = ⊥
+regrouped_spans tables = regrouped_in table.Spans span_in tables
 
 -- WHAT IS WRONG WITH THE ROWS of a kind's table among the tables of spans
 abbrev pub WrongSpans : List Table → Kind → RowRefusal → Type 0
-WrongSpans tables kind wrong = IdDefect signal.Traces tables kind wrong ⊎ WrongCells (table_named kind tables) kind wrong
+WrongSpans tables kind wrong = RowDefect signal.Traces tables kind wrong

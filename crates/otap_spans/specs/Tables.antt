@@ -9,8 +9,7 @@ use Rattle.otlp_model.specs.declared.value.Pair.{Pair}
 use Rattle.otap_cells.specs.declared.payload.Kind.TheVariants as table
 use Rattle.otap_cells.specs.Tables.{Table}
 use Rattle.otap_groups.specs.Flat.{items_of, resource_pairs, scope_pairs}
-use Rattle.otap_groups.specs.Stored.{main_table, part_table}
-use Rattle.otap_attrs.specs.Tables.{attribute_table, where_rows}
+use Rattle.otap_checks.specs.Written.{Written, pairs_below, parts_below, tables_written}
 use Rattle.otap_spans.specs.Records.{span_cells, event_cells, link_cells}
 
 -- the events of each span, and all of them; the same of links
@@ -36,18 +35,18 @@ event_pairs groups = map (λ event. event.pairs) (all_events groups)
 abbrev pub link_pairs : List (ResourceGroup Span) → List (List Pair)
 link_pairs groups = map (λ link. link.pairs) (all_links groups)
 
--- the tables below the spans: the attributes of resources, scopes and spans, the events, the links, and the attributes of both
-abbrev pub tables_below : List (ResourceGroup Span) → List Table
-tables_below groups =
-    attribute_table table.ResourceAttrs (resource_pairs groups)
-    ∷ attribute_table table.ScopeAttrs (scope_pairs groups)
-    ∷ attribute_table table.SpanAttrs (span_pairs groups)
-    ∷ part_table table.SpanEvents event_cells (event_lists groups)
-    ∷ part_table table.SpanLinks link_cells (link_lists groups)
-    ∷ attribute_table table.EventAttrs (event_pairs groups)
-    ∷ attribute_table table.LinkAttrs (link_pairs groups)
+-- below the spans: the attributes of resources, scopes and spans, the events, the links, and the attributes of both
+abbrev pub below_spans : List (ResourceGroup Span) → List Written
+below_spans groups =
+    pairs_below table.ResourceAttrs table.Spans 1 (resource_pairs groups)
+    ∷ pairs_below table.ScopeAttrs table.Spans 4 (scope_pairs groups)
+    ∷ pairs_below table.SpanAttrs table.Spans 0 (span_pairs groups)
+    ∷ parts_below table.SpanEvents table.Spans event_cells (event_lists groups)
+    ∷ parts_below table.SpanLinks table.Spans link_cells (link_lists groups)
+    ∷ pairs_below table.EventAttrs table.SpanEvents 0 (event_pairs groups)
+    ∷ pairs_below table.LinkAttrs table.SpanLinks 0 (link_pairs groups)
     ∷ []
 
 -- THE TABLES of a request: its spans, and of the tables below them those that have rows
 unfoldable pub tables_of_spans : List (ResourceGroup Span) → List Table
-tables_of_spans groups = main_table table.Spans span_cells groups ∷ flat_map where_rows (tables_below groups)
+tables_of_spans groups = tables_written table.Spans span_cells (below_spans groups) groups

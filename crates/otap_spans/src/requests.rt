@@ -1,5 +1,5 @@
 //! The request of the tables of a batch.
-ghost use Rattle.std.specs.Prelude.{◌≡◌, ◌≤◌, ℕ, Option, drop, map, min, IfErr, IfOk, OnOk};
+ghost use Rattle.std.specs.Prelude.{◌≡◌, ◌≤◌, drop, map, min, IfErr, IfOk, OnOk};
 ghost use Rattle.otlp_model.specs.declared.request.Signal.TheVariants as signal;
 ghost use Rattle.otlp_model.specs.Limits.{weight_limit, count_cap};
 ghost use Rattle.otlp_model.specs.Weight.{weight_of};
@@ -7,28 +7,25 @@ ghost use Rattle.otlp_model.specs.declared.request.Request.TheVariants.{Traces};
 ghost use Rattle.otap_cells.specs.declared.payload.Kind.{Kind};
 ghost use Rattle.otap_cells.specs.declared.payload.Kind.TheVariants as table;
 ghost use Rattle.otap_cells.specs.Named.{table_named};
-ghost use Rattle.otap_groups.specs.Disagree.{Disagree};
 ghost use Rattle.otap_groups.specs.Groups.{regrouped};
 ghost use Rattle.otap_groups.specs.Found.{finds_in};
 ghost use Rattle.otap_groups.specs.Rows.{main_rows};
 ghost use Rattle.otap_attrs.specs.declared.refusal.RowRefusal.{RowRefusal};
-ghost use Rattle.otap_attrs.specs.Index.{pairs_in};
 ghost use Rattle.otap_checks.specs.Refusing.{RefusesCheck};
 ghost use Rattle.otap_checks.specs.Regrouping.{RefusesRegroup};
 ghost use Rattle.otap_checks.specs.Known.{KnowsAll};
-ghost use Rattle.otap_spans.specs.Inside.{AreWhole, events_by, links_by, pairs_by};
+ghost use Rattle.otap_spans.specs.Inside.{events_by, links_by, pairs_by};
 ghost use Rattle.otap_spans.specs.Records.{span_of};
-ghost use Rattle.otap_spans.specs.Requests.{WrongSpans, events_in, links_in, regrouped_spans};
+ghost use Rattle.otap_spans.specs.Requests.{WrongSpans, regrouped_spans};
 
 use crate::below::{EventRows, LinkRows, PairRows, index_events, index_links};
 use crate::reading::Spans;
-use otap_attrs::{CheckRefusal, RowRefusal};
+use otap_attrs::CheckRefusal;
 use otap_cells::{Kind, Rows, TableSet};
 use otap_checks::{
-    Grouped, KnownIds, RegroupRefusal, check_values, disagrees, find_pairs, front_of,
-    groups_within, known_ids,
+    Grouped, KnownIds, RegroupRefusal, checked_ids, find_pairs, front_of, groups_within,
 };
-use otap_groups::{FrontColumns, Main};
+use otap_groups::Main;
 use otlp_model::{Items, ResourceGroup, Signal, Span};
 use std::alloc::{AllocError, Global};
 
@@ -47,11 +44,11 @@ pub fn check_rows<R: Rows>(alloc: Global, set: &TableSet<R>) -> Result<u64, Chec
     ensures weight { IfOk result (λ weight. weight ≡ min (weight_of (Traces (regrouped_spans set.now))) count_cap) }
     ensures refused { IfErr result (RefusesCheck (WrongSpans set.now)) }
 {
-    let known = check_cells(alloc, set)?;
+    let known = checked_ids(alloc, set, Signal::Traces)?;
     let Some(rows) = set.get(Kind::Spans) else {
         return Ok(0);
     };
-    let main = clean_main(alloc, set, rows, &known)?;
+    let main = main_of(alloc, set, rows, &known)?;
     Ok(main.weight())
 }
 
@@ -64,14 +61,14 @@ pub fn regroup<R: Rows>(alloc: Global, set: &TableSet<R>) -> Result<Grouped<Span
     ensures light { IfOk result (λ made. made.tree ≤ weight_limit) }
     ensures refused { IfErr result (RefusesRegroup (WrongSpans set.now) (weight_of (Traces (regrouped_spans set.now)))) }
 {
-    let known = check_cells(alloc, set)?;
+    let known = checked_ids(alloc, set, Signal::Traces)?;
     let Some(rows) = set.get(Kind::Spans) else {
         return Ok(Grouped {
             groups: Items::new(alloc),
             tree: 0,
         });
     };
-    let main = clean_main(alloc, set, rows, &known)?;
+    let main = main_of(alloc, set, rows, &known)?;
     let made = groups_within(alloc, &main)?;
     Ok(made)
 }
@@ -92,34 +89,18 @@ pub fn request_of<R: Rows>(
     }
 }
 
-/// Looks at all but whether rows of one id agree, and returns the ids of the tables.
-fn check_cells<R: Rows>(alloc: Global, set: &TableSet<R>) -> Result<KnownIds, CheckRefusal>
-    ensures clean { OnOk result (AreWhole set.now) }
-    ensures known { IfOk result (λ known. KnowsAll signal.Traces set.now known.columns.items) }
-    ensures refused { IfErr result (RefusesCheck (WrongSpans set.now)) }
-{
-    let known = known_ids(alloc, set, Signal::Traces)?;
-    check_values(set, Kind::ResourceAttrs, 2)?;
-    check_values(set, Kind::ScopeAttrs, 2)?;
-    check_values(set, Kind::SpanAttrs, 2)?;
-    check_values(set, Kind::EventAttrs, 2)?;
-    check_values(set, Kind::LinkAttrs, 2)?;
-    Ok(known)
-}
-
-/// The main rows, where rows of one id agree.
-fn clean_main<'a, R: Rows>(
+/// The main rows of a batch whose rows have nothing wrong, with their spans and all that is below.
+fn main_of<'a, R: Rows>(
     alloc: Global,
     set: &'a TableSet<R>,
     rows: &'a R,
     known: &'a KnownIds,
-) -> Result<SpanRows<'a, R>, CheckRefusal>
-    requires whole { AreWhole set.now }
+) -> Result<SpanRows<'a, R>, AllocError>
+    requires clean { (kind : Kind) (why : RowRefusal) → WrongSpans set.now kind why → ⊥ }
     requires known { KnowsAll signal.Traces set.now known.now.columns.items }
     requires table { table_named table.Spans set.now ≡ R.table rows.now }
     requires kind { (R.table rows.now).kind ≡ table.Spans }
-    ensures clean { OnOk result ((kind : Kind) (why : RowRefusal) → WrongSpans set.now kind why → ⊥) }
-    ensures groups { IfOk result (λ main. regrouped
+    ensures { IfOk result (λ main. regrouped
         (pairs_by (λ p. map (drop 1) (R.table p.rows.now).rows) main.resources.ids.now main.resources.reader.pairs main.resources.entries.items)
         (pairs_by (λ p. map (drop 1) (R.table p.rows.now).rows) main.scopes.ids.now main.scopes.reader.pairs main.scopes.entries.items)
         (λ id own. span_of own
@@ -130,50 +111,8 @@ fn clean_main<'a, R: Rows>(
         l.ids.now (map (drop 2) (R.table l.reader.rows.now).rows) l.entries.items) main.items.links id))
         (main_rows main.front.ids.now main.front.resource_ids.now main.front.scope_ids.now (R.table main.front.rows.now).rows)
         ≡ regrouped_spans set.now) }
-    ensures refused { IfErr result (RefusesCheck (WrongSpans set.now)) }
 {
     let front = front_of(rows, known);
-    if disagrees(alloc, &front)? {
-        return Err(CheckRefusal::Defect {
-            kind: Kind::Spans,
-            why: RowRefusal::Disagree,
-        });
-    }
-    let main = main_of(alloc, set, front, known)?;
-    Ok(main)
-}
-
-/// The main rows of a front, with their spans and all that is below.
-fn main_of<'a, R: Rows>(
-    alloc: Global,
-    set: &'a TableSet<R>,
-    front: FrontColumns<'a, R>,
-    known: &'a KnownIds,
-) -> Result<SpanRows<'a, R>, AllocError>
-    requires known { KnowsAll signal.Traces set.now known.now.columns.items }
-    requires kind { (R.table front.rows.now).kind ≡ table.Spans }
-    requires agree { Disagree (main_rows front.ids.now front.resource_ids.now front.scope_ids.now (R.table front.rows.now).rows) → ⊥ }
-    ensures front { IfOk result (λ main. main_rows main.front.ids.now main.front.resource_ids.now main.front.scope_ids.now (R.table main.front.rows.now).rows
-        ≡ main_rows front.entry.ids.now front.entry.resource_ids.now front.entry.scope_ids.now (R.table front.entry.rows.now).rows) }
-    ensures resources { IfOk result (λ main. (parent : Option ℕ)
-        → pairs_by (λ p. map (drop 1) (R.table p.rows.now).rows) main.resources.ids.now main.resources.reader.pairs main.resources.entries.items parent
-        ≡ pairs_in (table_named table.ResourceAttrs set.now) parent) }
-    ensures scopes { IfOk result (λ main. (parent : Option ℕ)
-        → pairs_by (λ p. map (drop 1) (R.table p.rows.now).rows) main.scopes.ids.now main.scopes.reader.pairs main.scopes.entries.items parent
-        ≡ pairs_in (table_named table.ScopeAttrs set.now) parent) }
-    ensures pairs { IfOk result (λ main. (parent : Option ℕ)
-        → pairs_by (λ p. map (drop 1) (R.table p.rows.now).rows) main.items.pairs.ids.now main.items.pairs.reader.pairs main.items.pairs.entries.items parent
-        ≡ pairs_in (table_named table.SpanAttrs set.now) parent) }
-    ensures events { IfOk result (λ main. (parent : Option ℕ)
-        → finds_in (λ e. events_by (pairs_by (λ p. map (drop 1) (R.table p.rows.now).rows) e.reader.pairs.ids.now e.reader.pairs.reader.pairs e.reader.pairs.entries.items)
-        e.ids.now (map (drop 2) (R.table e.reader.rows.now).rows) e.entries.items) main.items.events parent
-        ≡ events_in (table_named table.SpanEvents set.now) (table_named table.EventAttrs set.now) parent) }
-    ensures links { IfOk result (λ main. (parent : Option ℕ)
-        → finds_in (λ l. links_by (pairs_by (λ p. map (drop 1) (R.table p.rows.now).rows) l.reader.pairs.ids.now l.reader.pairs.reader.pairs l.reader.pairs.entries.items)
-        l.ids.now (map (drop 2) (R.table l.reader.rows.now).rows) l.entries.items) main.items.links parent
-        ≡ links_in (table_named table.SpanLinks set.now) (table_named table.LinkAttrs set.now) parent) }
-{
-    let rows = front.rows;
     let resources = find_pairs(alloc, set, Kind::ResourceAttrs, known)?;
     let scopes = find_pairs(alloc, set, Kind::ScopeAttrs, known)?;
     let pairs = find_pairs(alloc, set, Kind::SpanAttrs, known)?;

@@ -1,11 +1,51 @@
-use Rattle.otap_logs.proofs.Cleanness.{known_resources, known_scopes, known_records}
+use Rattle.std.proofs.Common.{◌∙◌, List, refl, sym, ap, subst, arith}
+use Rattle.otlp_model.specs.declared.request.Signal.TheVariants as signal
+use Rattle.otap_cells.specs.declared.payload.Kind.TheVariants as table
+use Rattle.otap_groups.specs.Disagree.{Disagree}
+use Rattle.otap_groups.specs.Rows.{MainRow}
+use Rattle.otap_checks.specs.Known.{Knows}
+use Rattle.otap_checks.specs.Links.{links_of}
+use Rattle.otap_checks.specs.Reading.{main_rows_in}
+use Rattle.otap_checks.specs.Rules.{rules_of}
+use Rattle.otap_checks.proofs.KeptRules.{rows_agree}
+use Rattle.otap_checks.proofs.MainKinds.{logs_are_main}
+use Rattle.otap_checks.proofs.Regrouped.{request_is}
+use Rattle.otap_checks.proofs.RulesFit.{known_at}
+use Rattle.otap_logs.specs.Records.{record_of}
+use Rattle.otap_logs.specs.Requests.{record_in, regrouped_logs}
 use Rattle.otap_logs.proofs.requests.main_of.Goals as goal
 
+pub front_of-front-requires-clause-main : goal.front_of-front-requires-clause-main
+front_of-front-requires-clause-main g c = rw c.requires.kind logs_are_main
+
+pub front_of-front-requires-clause-known : goal.front_of-front-requires-clause-known
+unfolding links_of
+front_of-front-requires-clause-known g c =
+    rw c.requires.kind (subst (λ t. Knows t table.Logs c.args.known.now.columns.items) c.requires.table
+    (known_at signal.Logs c.args.set.now c.args.known.now.columns.items c.requires.known 0 table.Logs (omega arith) refl))
+
 pub find_pairs-requires-clause-known : goal.find_pairs-requires-clause-known
-find_pairs-requires-clause-known g c = known_resources c.args.set.now c.args.known.now.columns.items c.requires.known
+unfolding links_of
+find_pairs-requires-clause-known g c = known_at signal.Logs c.args.set.now c.args.known.now.columns.items c.requires.known 1 table.ResourceAttrs (omega arith) refl
 
 pub find_pairs-requires-2-clause-known : goal.find_pairs-requires-2-clause-known
-find_pairs-requires-2-clause-known g c = known_scopes c.args.set.now c.args.known.now.columns.items c.requires.known
+unfolding links_of
+find_pairs-requires-2-clause-known g c = known_at signal.Logs c.args.set.now c.args.known.now.columns.items c.requires.known 2 table.ScopeAttrs (omega arith) refl
 
 pub find_pairs-requires-3-clause-known : goal.find_pairs-requires-3-clause-known
-find_pairs-requires-3-clause-known g c = known_records c.args.set.now c.args.known.now.columns.items c.requires.known
+unfolding links_of
+find_pairs-requires-3-clause-known g c = known_at signal.Logs c.args.set.now c.args.known.now.columns.items c.requires.known 3 table.LogAttrs (omega arith) refl
+
+pub invariant_of-result-2-clause-agree : goal.invariant_of-result-2-clause-agree
+unfolding links_of rules_of
+invariant_of-result-2-clause-agree g c =
+    let tables = c.args.set.now in
+    let known = known_at signal.Logs tables c.args.known.now.columns.items c.requires.known 0 table.Logs (omega arith) refl in
+    λ unlike. rows_agree signal.Logs tables c.args.known.now.columns.items table.Logs c.requires.clean (4, omega arith, refl) logs_are_main known
+    (subst Disagree (c.front_of-front.ensures.rows ∙ ap main_rows_in (sym c.requires.table)) unlike)
+
+pub returns : goal.returns
+unfolding regrouped_logs
+returns g c =
+    request_is table.Logs record_in c.args.set.now _ _ _ _ (c.front_of-front.ensures.rows ∙ ap main_rows_in (sym c.requires.table))
+    c.in_ok-resources.ensures c.in_ok-scopes.ensures (λ id cells. ap (record_of cells) (c.in_ok-pairs.ensures id))

@@ -8,8 +8,7 @@ use Rattle.otap_cells.specs.Tables.{Table}
 use Rattle.otap_groups.specs.Views.{seen_flat}
 use Rattle.otap_groups.proofs.FlatItems.{items_of_rows}
 use Rattle.otap_attrs.proofs.FoundLists.{found_table}
-use Rattle.otap_logs.proofs.WrittenParts.{attributes_kind, items_few, records_can, records_few, resources_can, resources_few, rows_can, scopes_can, scopes_few, written}
-use Rattle.otap_logs.proofs.WrittenSet.{are_tables, is_set, pushed}
+use Rattle.otap_logs.proofs.WrittenParts.{items_few, main_is, pushed, records_can, records_few, resources_can, resources_few, rows_can, scopes_can, scopes_few, written, written_set}
 use Rattle.otap_logs.proofs.WrittenWeight.{all_can}
 use Rattle.otap_logs.proofs.writing.tables_of.Goals as goal
 
@@ -56,11 +55,11 @@ write_attributes-requires-3-clause-weight c =
 
 pub returns : goal.returns
 returns c =
-    are_tables c.in_ok-main.main c.in_ok-resources-2.resources c.in_ok-scopes-2.scopes c.in_ok-records-2.records _
+    written c.as_slice-groups.result.now _ c.in_ok-main.main c.in_ok-resources-2.resources c.in_ok-scopes-2.scopes c.in_ok-records-2.records
     (pushed c.in_ok-main.main c.in_ok-resources-2.resources c.in_ok-scopes-2.scopes c.in_ok-records-2.records _ _ _ _ c.push_filled-3.new.tables.items
-    c.new-tables.ensures.items c.in_ok-push.ensures.items c.in_ok-push_filled.ensures.ok c.in_ok-push_filled-2.ensures.ok c.in_ok-push_filled-3.ensures.ok)
-    ∙ written c.args.groups.now c.as_slice-groups.result.now (map seen_flat c.deref.result.now) c.in_ok-main.main c.in_ok-resources-2.resources c.in_ok-scopes-2.scopes c.in_ok-records-2.records
-    c.as_slice-groups.ensures (ap (map seen_flat) c.deref.ensures.value ∙ c.in_ok-rows.ensures.items) c.in_ok-main.ensures
+    c.new-tables.ensures.items c.in_ok-push.ensures.items (ap (λ (t : Table). t.kind) c.in_ok-main.ensures) c.in_ok-push_filled.ensures.ok c.in_ok-push_filled-2.ensures.ok
+    c.in_ok-push_filled-3.ensures.ok)
+    (main_is c.as_slice-groups.result.now (map seen_flat c.deref.result.now) c.in_ok-main.main (ap (map seen_flat) c.deref.ensures.value ∙ c.in_ok-rows.ensures.items) c.in_ok-main.ensures)
     (found_table table.ResourceAttrs (λ (b : Bor Resource). b.now) (λ (x : Resource). x.pairs) c.deref-2.result.now _ _
     (ap (map (λ (b : Bor Resource). b.now)) c.deref-2.ensures.value ∙ c.in_ok-resources.ensures) c.in_ok-resources-2.ensures)
     (found_table table.ScopeAttrs (λ (b : Bor Scope). b.now) (λ (x : Scope). x.pairs) c.deref-3.result.now _ _
@@ -68,11 +67,19 @@ returns c =
     (found_table table.LogAttrs (λ (b : Bor LogRecord). b.now) (λ (x : LogRecord). x.pairs) c.deref-5.result.now _ _
     (ap (map (λ (b : Bor LogRecord). b.now)) c.deref-5.ensures.value ∙ c.in_ok-records.ensures
     ∙ items_of_rows c.deref-4.result.now c.as_slice-groups.result.now (ap (map seen_flat) c.deref-4.ensures.value ∙ c.in_ok-rows.ensures.items)) c.in_ok-records-2.ensures)
+    c.args.groups.now c.as_slice-groups.ensures
 
 pub invariant_of-result : goal.invariant_of-result
 invariant_of-result c =
-    is_set c.in_ok-main.main c.in_ok-resources-2.resources c.in_ok-scopes-2.scopes c.in_ok-records-2.records _
+    written_set c.as_slice-groups.result.now _ c.in_ok-main.main c.in_ok-resources-2.resources c.in_ok-scopes-2.scopes c.in_ok-records-2.records
     (pushed c.in_ok-main.main c.in_ok-resources-2.resources c.in_ok-scopes-2.scopes c.in_ok-records-2.records _ _ _ _ c.push_filled-3.new.tables.items
-    c.new-tables.ensures.items c.in_ok-push.ensures.items c.in_ok-push_filled.ensures.ok c.in_ok-push_filled-2.ensures.ok c.in_ok-push_filled-3.ensures.ok)
-    (ap (λ (t : Table). t.kind) c.in_ok-main.ensures) (attributes_kind _ _ _ c.in_ok-resources-2.ensures) (attributes_kind _ _ _ c.in_ok-scopes-2.ensures)
-    (attributes_kind _ _ _ c.in_ok-records-2.ensures)
+    c.new-tables.ensures.items c.in_ok-push.ensures.items (ap (λ (t : Table). t.kind) c.in_ok-main.ensures) c.in_ok-push_filled.ensures.ok c.in_ok-push_filled-2.ensures.ok
+    c.in_ok-push_filled-3.ensures.ok)
+    (main_is c.as_slice-groups.result.now (map seen_flat c.deref.result.now) c.in_ok-main.main (ap (map seen_flat) c.deref.ensures.value ∙ c.in_ok-rows.ensures.items) c.in_ok-main.ensures)
+    (found_table table.ResourceAttrs (λ (b : Bor Resource). b.now) (λ (x : Resource). x.pairs) c.deref-2.result.now _ _
+    (ap (map (λ (b : Bor Resource). b.now)) c.deref-2.ensures.value ∙ c.in_ok-resources.ensures) c.in_ok-resources-2.ensures)
+    (found_table table.ScopeAttrs (λ (b : Bor Scope). b.now) (λ (x : Scope). x.pairs) c.deref-3.result.now _ _
+    (ap (map (λ (b : Bor Scope). b.now)) c.deref-3.ensures.value ∙ c.in_ok-scopes.ensures) c.in_ok-scopes-2.ensures)
+    (found_table table.LogAttrs (λ (b : Bor LogRecord). b.now) (λ (x : LogRecord). x.pairs) c.deref-5.result.now _ _
+    (ap (map (λ (b : Bor LogRecord). b.now)) c.deref-5.ensures.value ∙ c.in_ok-records.ensures
+    ∙ items_of_rows c.deref-4.result.now c.as_slice-groups.result.now (ap (map seen_flat) c.deref-4.ensures.value ∙ c.in_ok-rows.ensures.items)) c.in_ok-records-2.ensures)

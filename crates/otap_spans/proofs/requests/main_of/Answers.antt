@@ -1,28 +1,56 @@
-use Rattle.std.proofs.Common.{refl}
-use Rattle.otap_spans.proofs.Cleanness.{known_event_pairs, known_events, known_link_pairs, known_links, known_resource_pairs, known_scope_pairs, known_span_pairs}
+use Rattle.std.proofs.Common.{◌∙◌, List, refl, sym, ap, subst, arith}
+use Rattle.otlp_model.specs.declared.request.Signal.TheVariants as signal
+use Rattle.otap_cells.specs.declared.payload.Kind.TheVariants as table
+use Rattle.otap_groups.specs.Disagree.{Disagree}
+use Rattle.otap_checks.specs.Known.{Knows}
+use Rattle.otap_checks.specs.Links.{links_of}
+use Rattle.otap_checks.specs.Reading.{main_rows_in}
+use Rattle.otap_checks.specs.Rules.{rules_of}
+use Rattle.otap_checks.proofs.KeptRules.{rows_agree}
+use Rattle.otap_checks.proofs.MainKinds.{spans_are_main}
+use Rattle.otap_checks.proofs.Regrouped.{request_is}
+use Rattle.otap_checks.proofs.RulesFit.{known_at}
+use Rattle.otap_spans.specs.Records.{span_of}
+use Rattle.otap_spans.specs.Requests.{regrouped_spans, span_in}
 use Rattle.otap_spans.proofs.SpanPlaces.{found_weigh}
 use Rattle.otap_spans.proofs.requests.main_of.Goals as goal
 
+pub front_of-front-requires-clause-main : goal.front_of-front-requires-clause-main
+front_of-front-requires-clause-main g c = rw c.requires.kind spans_are_main
+
+pub front_of-front-requires-clause-known : goal.front_of-front-requires-clause-known
+unfolding links_of
+front_of-front-requires-clause-known g c =
+    rw c.requires.kind (subst (λ t. Knows t table.Spans c.args.known.now.columns.items) c.requires.table
+    (known_at signal.Traces c.args.set.now c.args.known.now.columns.items c.requires.known 0 table.Spans (omega arith) refl))
+
 pub find_pairs-requires-clause-known : goal.find_pairs-requires-clause-known
-find_pairs-requires-clause-known g c = known_resource_pairs c.args.set.now c.args.known.now.columns.items c.requires.known
+unfolding links_of
+find_pairs-requires-clause-known g c = known_at signal.Traces c.args.set.now c.args.known.now.columns.items c.requires.known 1 table.ResourceAttrs (omega arith) refl
 
 pub find_pairs-requires-2-clause-known : goal.find_pairs-requires-2-clause-known
-find_pairs-requires-2-clause-known g c = known_scope_pairs c.args.set.now c.args.known.now.columns.items c.requires.known
+unfolding links_of
+find_pairs-requires-2-clause-known g c = known_at signal.Traces c.args.set.now c.args.known.now.columns.items c.requires.known 2 table.ScopeAttrs (omega arith) refl
 
 pub find_pairs-requires-3-clause-known : goal.find_pairs-requires-3-clause-known
-find_pairs-requires-3-clause-known g c = known_span_pairs c.args.set.now c.args.known.now.columns.items c.requires.known
+unfolding links_of
+find_pairs-requires-3-clause-known g c = known_at signal.Traces c.args.set.now c.args.known.now.columns.items c.requires.known 3 table.SpanAttrs (omega arith) refl
 
 pub find_pairs-requires-4-clause-known : goal.find_pairs-requires-4-clause-known
-find_pairs-requires-4-clause-known g c = known_event_pairs c.args.set.now c.args.known.now.columns.items c.requires.known
+unfolding links_of
+find_pairs-requires-4-clause-known g c = known_at signal.Traces c.args.set.now c.args.known.now.columns.items c.requires.known 6 table.EventAttrs (omega arith) refl
 
 pub find_pairs-requires-5-clause-known : goal.find_pairs-requires-5-clause-known
-find_pairs-requires-5-clause-known g c = known_link_pairs c.args.set.now c.args.known.now.columns.items c.requires.known
+unfolding links_of
+find_pairs-requires-5-clause-known g c = known_at signal.Traces c.args.set.now c.args.known.now.columns.items c.requires.known 7 table.LinkAttrs (omega arith) refl
 
 pub index_events-requires-clause-known : goal.index_events-requires-clause-known
-index_events-requires-clause-known g c = known_events c.args.set.now c.args.known.now.columns.items c.requires.known
+unfolding links_of
+index_events-requires-clause-known g c = known_at signal.Traces c.args.set.now c.args.known.now.columns.items c.requires.known 4 table.SpanEvents (omega arith) refl
 
 pub index_links-requires-clause-known : goal.index_links-requires-clause-known
-index_links-requires-clause-known g c = known_links c.args.set.now c.args.known.now.columns.items c.requires.known
+unfolding links_of
+index_links-requires-clause-known g c = known_at signal.Traces c.args.set.now c.args.known.now.columns.items c.requires.known 5 table.SpanLinks (omega arith) refl
 
 pub invariant_of-result : goal.invariant_of-result
 invariant_of-result g c = record {
@@ -31,3 +59,17 @@ invariant_of-result g c = record {
   events_weighed = λ id. found_weigh _ _ _ c.in_ok-events.events (λ l part. refl) id;
   links_weighed = λ id. found_weigh _ _ _ c.in_ok-links.links (λ l part. refl) id;
 }
+
+pub invariant_of-result-2-clause-agree : goal.invariant_of-result-2-clause-agree
+unfolding links_of rules_of
+invariant_of-result-2-clause-agree g c =
+    let tables = c.args.set.now in
+    let known = known_at signal.Traces tables c.args.known.now.columns.items c.requires.known 0 table.Spans (omega arith) refl in
+    λ unlike. rows_agree signal.Traces tables c.args.known.now.columns.items table.Spans c.requires.clean (5, omega arith, refl) spans_are_main known
+    (subst Disagree (c.front_of-front.ensures.rows ∙ ap main_rows_in (sym c.requires.table)) unlike)
+
+pub returns : goal.returns
+unfolding regrouped_spans
+returns g c =
+    request_is table.Spans span_in c.args.set.now _ _ _ _ (c.front_of-front.ensures.rows ∙ ap main_rows_in (sym c.requires.table))
+    c.in_ok-resources.ensures c.in_ok-scopes.ensures (λ id cells. λ i. span_of cells (c.in_ok-pairs.ensures id i) (c.in_ok-events.ensures id i) (c.in_ok-links.ensures id i))

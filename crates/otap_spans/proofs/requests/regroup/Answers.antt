@@ -4,23 +4,16 @@ use Rattle.otlp_model.specs.Weight.{weight_of}
 use Rattle.otlp_model.specs.declared.groups.ResourceGroup.{ResourceGroup}
 use Rattle.otlp_model.specs.declared.request.Request.TheVariants.{Traces}
 use Rattle.otlp_model.specs.declared.spans.Span.{Span}
-use Rattle.otap_cells.specs.declared.payload.Kind.TheVariants as table
-use Rattle.otap_spans.proofs.Cleanness.{clean, none_unlike}
 use Rattle.otap_spans.specs.Requests.{WrongSpans}
 use Rattle.otap_spans.proofs.Refused.{refused_so}
-use Rattle.otap_spans.proofs.Regrouping.{no_groups}
+use Rattle.otap_spans.proofs.SpansRegrouped.{no_spans}
 use Rattle.otap_spans.proofs.requests.regroup.Goals as goal
 
-pub returns-in_default-clause-clean : goal.returns-in_default-clause-clean
-returns-in_default-clause-clean g c =
-    let tables = c.args.set.now in
-    clean tables c.in_ok-known.ensures.clean (none_unlike tables table.Spans c.in_default.ensures.table)
-
 pub returns-in_default-clause-groups : goal.returns-in_default-clause-groups
-returns-in_default-clause-groups g c = c.new.ensures ∙ sym (no_groups c.args.set.now c.in_default.ensures.table)
+returns-in_default-clause-groups g c = c.new.ensures ∙ sym (no_spans c.args.set.now c.in_default.ensures.table)
 
 pub returns-in_err-made-clause-refused : goal.returns-in_err-made-clause-refused
 returns-in_err-made-clause-refused g c =
     let p = err_from_is_err_and c.from_residual-in_err-made.result c.from_residual-in_err-made.ensures.1 in
     rw (p.1, p.2) (refused_so (WrongSpans c.args.set.now) _ _ c.in_err-made.field-0.0
-    (ap (λ (groups : List (ResourceGroup Span)). weight_of (Traces groups)) c.in_ok-main.ensures.groups) c.in_ok-main.ensures.clean c.in_err-made.ensures.refused)
+    (ap (λ (groups : List (ResourceGroup Span)). weight_of (Traces groups)) c.in_ok-main.ensures) c.in_ok-known.ensures.clean c.in_err-made.ensures.refused)
