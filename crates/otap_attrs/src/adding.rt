@@ -1,6 +1,6 @@
 //! The tables below the main one, added one after the other: each where it has rows.
 ghost use Rattle.std.specs.Prelude.{◌≡◌, ◌≤◌, ◌++◌, ◌^◌, None, true, All, length, map, IfOk, OnOk};
-ghost use Rattle.otlp_model.specs.Limits.{weight_limit};
+ghost use Rattle.otlp_model.specs.Limits.{weight_limit, part_weight};
 ghost use Rattle.otlp_model.specs.Weight.{total, weight_of_pair};
 ghost use Rattle.otap_cells.specs.Columns.{coding_at};
 ghost use Rattle.otap_cells.specs.Continuing.{again_of, has_attributes};
@@ -24,7 +24,7 @@ pub fn add_resources<I>(
     groups: &[ResourceGroup<I>],
 ) -> Result<(), AllocError>
     requires few { length (resources_of groups.now) ≤ 2 ^ 32 }
-    requires weight { All (λ resource. total 32 weight_of_pair resource.pairs ≤ weight_limit) (resources_of groups.now) }
+    requires weight { All (λ resource. total part_weight weight_of_pair resource.pairs ≤ weight_limit) (resources_of groups.now) }
     ensures { OnOk result (tables.new.items
         ≡ tables.old.items ++ map beside_kind (where_rows (attribute_table table.ResourceAttrs (map (λ resource. resource.pairs) (resources_of groups.now))))) }
 {
@@ -41,7 +41,7 @@ pub fn add_scopes<I>(
     groups: &[ResourceGroup<I>],
 ) -> Result<(), AllocError>
     requires few { length (scopes_of groups.now) ≤ 2 ^ 32 }
-    requires weight { All (λ scope. total 32 weight_of_pair scope.pairs ≤ weight_limit) (scopes_of groups.now) }
+    requires weight { All (λ scope. total part_weight weight_of_pair scope.pairs ≤ weight_limit) (scopes_of groups.now) }
     ensures { OnOk result (tables.new.items
         ≡ tables.old.items ++ map beside_kind (where_rows (attribute_table table.ScopeAttrs (map (λ scope. scope.pairs) (scopes_of groups.now))))) }
 {
@@ -60,7 +60,7 @@ pub fn add_attributes<P: Attributed>(
 ) -> Result<(), AllocError>
     requires kind { has_attributes kind ≡ true }
     requires few { length parts.now ≤ 2 ^ 32 }
-    requires weight { All (λ placed. total 32 weight_of_pair (P.pairs placed.part.now) ≤ weight_limit) parts.now }
+    requires weight { All (λ placed. total part_weight weight_of_pair (P.pairs placed.part.now) ≤ weight_limit) parts.now }
     ensures { OnOk result (tables.new.items
         ≡ tables.old.items ++ map beside_kind (where_rows (attribute_table kind (map (λ placed. P.pairs placed.part.now) parts.now)))) }
 {

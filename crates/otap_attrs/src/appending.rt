@@ -1,6 +1,6 @@
 //! The rows of pairs, appended to a table of attributes.
 ghost use Rattle.std.specs.Prelude.{◌≡◌, ◌≤◌, ◌++◌, true, length, map, take, OnErr, OnOk};
-ghost use Rattle.otlp_model.specs.Limits.{weight_limit};
+ghost use Rattle.otlp_model.specs.Limits.{weight_limit, part_weight};
 ghost use Rattle.otlp_model.specs.Weight.{total, weight_of_pair};
 ghost use Rattle.otap_cells.specs.Continuing.{has_attributes};
 ghost use Rattle.otap_attrs.specs.Values.{pair_row};
@@ -20,7 +20,7 @@ pub fn add_pairs(
     pairs: &Items<Pair>,
 ) -> Result<(), AllocError>
     requires kind { has_attributes table.old.kind ≡ true }
-    requires weight { total 32 weight_of_pair pairs.now ≤ weight_limit }
+    requires weight { total part_weight weight_of_pair pairs.now ≤ weight_limit }
     ensures ok { OnOk result (table.new ≡ record table.old { rows = table.old.rows ++ map (pair_row parent) pairs.now }) }
     ensures err { OnErr result (take (length table.old.rows) table.new.rows ≡ table.old.rows) }
     ensures kind { table.new.kind ≡ table.old.kind }

@@ -1,7 +1,7 @@
 //! The pairs of parents, found in a table of attributes.
 ghost use Rattle.std.specs.Prelude.{◌≡◌, Some, true, map, min, IfErr, IfOk, OnOk};
 ghost use Rattle.std.specs.List.Sorted.{IsNonDecreasingBy};
-ghost use Rattle.otlp_model.specs.Limits.{count_cap};
+ghost use Rattle.otlp_model.specs.Limits.{count_cap, part_weight};
 ghost use Rattle.otlp_model.specs.Weight.{total, weight_of_pair};
 ghost use Rattle.otap_cells.specs.Continuing.{has_attributes};
 ghost use Rattle.otap_cells.specs.Tables.{Table};
@@ -73,7 +73,7 @@ impl PairIndex {
     /// What the pairs of a parent weigh, with 32 for each, or 2^63 where it is more. Takes log n for n rows, and time in
     /// proportion to the pairs.
     pub fn weight_of(&self, parent: u32) -> u64
-        ensures { (t : Table) → IsIndexOf t self.now → result ≡ min (total 32 weight_of_pair (pairs_in t (Some parent))) count_cap }
+        ensures { (t : Table) → IsIndexOf t self.now → result ≡ min (total part_weight weight_of_pair (pairs_in t (Some parent))) count_cap }
     {
         let entries = entries_of(&self.entries, parent);
         let mut weight = 0;

@@ -1,6 +1,6 @@
 //! Pairs as rows of attributes.
 ghost use Rattle.std.specs.Prelude.{◌≡◌, ◌<◌, ◌≤◌, ◌++◌, ◌∷◌, [], true, suc, All, length, map, pos, take, IfOk, OnErr, OnOk};
-ghost use Rattle.otlp_model.specs.Limits.{weight_limit};
+ghost use Rattle.otlp_model.specs.Limits.{weight_limit, part_weight};
 ghost use Rattle.otlp_model.specs.Weight.{total, weight_of_pair, weight_of_value};
 ghost use Rattle.otap_cells.specs.declared.profile.Base.TheVariants as base;
 ghost use Rattle.otap_cells.specs.Cells.{IsCellOf, number, seen};
@@ -31,7 +31,7 @@ pub(crate) fn place_pairs<'a>(
     parent: u32,
     pairs: &'a Items<Pair>,
 ) -> Result<(), AllocError>
-    requires weight { total 32 weight_of_pair pairs.now ≤ weight_limit }
+    requires weight { total part_weight weight_of_pair pairs.now ≤ weight_limit }
     requires nested { All HasNested placed.old.items }
     ensures are { OnOk result (map seen_placed placed.new.items ≡ map seen_placed placed.old.items ++ map (placed_at parent) pairs.now) }
     ensures nested { OnOk result (All HasNested placed.new.items) }

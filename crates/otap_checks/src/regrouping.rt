@@ -1,6 +1,6 @@
 //! The request of main rows, which is built only where it isn't too heavy.
 ghost use Rattle.std.specs.Prelude.{◌≡◌, ◌≤◌, IfErr, IfOk};
-ghost use Rattle.otlp_model.specs.Limits.{weight_limit};
+ghost use Rattle.otlp_model.specs.Limits.{weight_limit, part_weight};
 ghost use Rattle.otlp_model.specs.Weight.{total};
 ghost use Rattle.otap_attrs.specs.declared.refusal.CheckRefusal.TheVariants as check;
 ghost use Rattle.otap_groups.specs.Groups.{regrouped};
@@ -60,9 +60,9 @@ pub fn groups_within<R: Rows, S: RowReader, P: Lookup<Child = Pair>>(
 ) -> Result<Grouped<S::Item>, RegroupRefusal>
     ensures groups { IfOk result (λ made. made.groups ≡ regrouped (P.finds main.now.resources) (P.finds main.now.scopes) (S.item main.now.items)
         (main_rows main.now.front.ids.now main.now.front.resource_ids.now main.now.front.scope_ids.now (R.table main.now.front.rows.now).rows)) }
-    ensures tree { IfOk result (λ made. made.tree ≡ total 32 (weigh_resource_group (P.weigh main.now.resources) (P.weigh main.now.scopes) (S.weigh main.now.items)) made.groups) }
+    ensures tree { IfOk result (λ made. made.tree ≡ total part_weight (weigh_resource_group (P.weigh main.now.resources) (P.weigh main.now.scopes) (S.weigh main.now.items)) made.groups) }
     ensures light { IfOk result (λ made. made.tree ≤ weight_limit) }
-    ensures refused { IfErr result (RefusesRegroup Nothing (total 32 (weigh_resource_group (P.weigh main.now.resources) (P.weigh main.now.scopes) (S.weigh main.now.items))
+    ensures refused { IfErr result (RefusesRegroup Nothing (total part_weight (weigh_resource_group (P.weigh main.now.resources) (P.weigh main.now.scopes) (S.weigh main.now.items))
         (regrouped (P.finds main.now.resources) (P.finds main.now.scopes) (S.item main.now.items)
         (main_rows main.now.front.ids.now main.now.front.resource_ids.now main.now.front.scope_ids.now (R.table main.now.front.rows.now).rows)))) }
 {

@@ -1,7 +1,7 @@
 //! What a signal brings to read its rows.
 ghost use Rattle.std.specs.Prelude.{◌≡◌, ◌<◌, ℕ, List, [], Option, length, min, IfOk};
 ghost use Rattle.std.specs.List.{slice_index_or};
-ghost use Rattle.otlp_model.specs.Limits.{count_cap};
+ghost use Rattle.otlp_model.specs.Limits.{count_cap, part_weight};
 ghost use Rattle.otlp_model.specs.Weight.{total};
 ghost use Rattle.otap_cells.specs.Cells.{Cell};
 
@@ -47,5 +47,5 @@ pub trait Lookup: Drop {
 
     /// What the children weigh, with 32 for each, or `CAP` where it is more. It builds nothing.
     fn weight_of(&self, parent: Option<u32>) -> u64
-        ensures { result ≡ min (total 32 (weigh self.now) (finds self.now parent)) count_cap };
+        ensures { result ≡ min (total part_weight (weigh self.now) (finds self.now parent)) count_cap };
 }

@@ -1,6 +1,6 @@
 //! What the groups of main rows weigh, without building anything.
 ghost use Rattle.std.specs.Prelude.{◌≡◌, ◌-◌, ◌<◌, ◌≤◌, length, map, min};
-ghost use Rattle.otlp_model.specs.Limits.{count_cap};
+ghost use Rattle.otlp_model.specs.Limits.{count_cap, part_weight};
 ghost use Rattle.otlp_model.specs.Weight.{total};
 ghost use Rattle.otap_groups.specs.Rows.{main_row_at, main_rows, same_scope};
 ghost use Rattle.otap_groups.specs.Runs.{runs};
@@ -19,7 +19,7 @@ impl<R: Rows, S: RowReader, P: Lookup<Child = Pair>> Main<'_, R, S, P> {
     /// What the groups of the request weigh, with 32 for each, or `CAP` where it is more. It builds nothing.
     #[tactic(auto, unfolding(crate::specs::Runs::runs, crate::specs::Groups::regrouped, crate::specs::Rows::main_rows))]
     pub fn weight(&self) -> u64
-        ensures { result ≡ min (total 32 (weigh_resource_group (P.weigh self.now.resources) (P.weigh self.now.scopes) (S.weigh self.now.items))
+        ensures { result ≡ min (total part_weight (weigh_resource_group (P.weigh self.now.resources) (P.weigh self.now.scopes) (S.weigh self.now.items))
             (regrouped (P.finds self.now.resources) (P.finds self.now.scopes) (S.item self.now.items)
             (main_rows self.now.front.ids.now self.now.front.resource_ids.now self.now.front.scope_ids.now (R.table self.now.front.rows.now).rows))) count_cap }
     {
@@ -52,7 +52,7 @@ impl<R: Rows, S: RowReader, P: Lookup<Child = Pair>> Main<'_, R, S, P> {
     fn scope_groups_weight(&self, from: usize, to: usize) -> u64
         requires some { from < to }
         requires within { to ≤ length (R.table self.now.front.rows.now).rows }
-        ensures { result ≡ min (total 32 (weigh_scope_group (P.weigh self.now.scopes) (S.weigh self.now.items))
+        ensures { result ≡ min (total part_weight (weigh_scope_group (P.weigh self.now.scopes) (S.weigh self.now.items))
             (map (scope_group (P.finds self.now.scopes) (S.item self.now.items))
             (runs same_scope (part (main_row_at self.now.front.ids.now self.now.front.resource_ids.now self.now.front.scope_ids.now (R.table self.now.front.rows.now).rows) from (to - from))))) count_cap }
     {
@@ -80,7 +80,7 @@ impl<R: Rows, S: RowReader, P: Lookup<Child = Pair>> Main<'_, R, S, P> {
     #[tactic(auto, using(crate::proofs::PartSteps::part_next, crate::proofs::PartSteps::part_over, crate::proofs::PartSteps::own_at))]
     fn items_weight(&self, from: usize, to: usize) -> u64
         requires { to ≤ length (R.table self.now.front.rows.now).rows }
-        ensures { result ≡ min (total 32 (S.weigh self.now.items) (map (item_of_row (S.item self.now.items))
+        ensures { result ≡ min (total part_weight (S.weigh self.now.items) (map (item_of_row (S.item self.now.items))
             (part (main_row_at self.now.front.ids.now self.now.front.resource_ids.now self.now.front.scope_ids.now (R.table self.now.front.rows.now).rows) from (to - from)))) count_cap }
     {
         let mut weight = 0;

@@ -20,7 +20,7 @@ use Rattle.otap_checks.specs.IdDefects.{IdDefect}
 use Rattle.otap_checks.specs.Links.{items, links_of}
 use Rattle.otap_checks.specs.Reading.{Disagrees}
 use Rattle.otap_checks.specs.Rules.{rules_of}
-use Rattle.otap_checks.specs.Written.{AreSound, HaveParentsIn, Written, link_of}
+use Rattle.otap_checks.specs.Written.{AreSound, HaveParentsIn, link_of}
 use Rattle.otap_checks.proofs.FineWritten.{fine_ids, rows_alike}
 use Rattle.otap_checks.proofs.KeptRules.{keeps_agree, none_wrong}
 use Rattle.otap_checks.proofs.MainKinds.{logs_kind}

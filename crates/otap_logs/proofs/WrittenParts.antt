@@ -9,7 +9,6 @@ use Rattle.otlp_model.specs.declared.groups.Scope.{Scope}
 use Rattle.otlp_model.specs.declared.groups.ResourceGroup.{ResourceGroup}
 use Rattle.otlp_model.specs.declared.logs.LogRecord.{LogRecord}
 use Rattle.otlp_model.specs.declared.request.Request.TheVariants.{Logs}
-use Rattle.otlp_model.specs.declared.value.Pair.{Pair}
 use Rattle.otlp_model.specs.Limits.{weight_limit}
 use Rattle.otlp_model.specs.Weight.{total, weight_of, weight_of_log_record, weight_of_pair}
 use Rattle.otap_cells.specs.declared.payload.Kind.{Kind}

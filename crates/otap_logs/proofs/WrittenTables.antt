@@ -1,5 +1,5 @@
 -- The tables of a request are tables of the profile.
-use Rattle.std.proofs.Common.{ℕ, ◌^◌, ◌≤◌, List, [], ◌∷◌, ◌++◌, Option, length, map, drop, refl, arith, inl, inr}
+use Rattle.std.proofs.Common.{◌^◌, ◌≤◌, List, [], ◌∷◌, length, drop, refl, arith}
 use Rattle.std.specs.Prelude.{All}
 use Rattle.std.specs.List.{AllByRecursion}
 use Rattle.std.proofs.lemmas.List.Elements.{All-nil, All-cons, All-head, All-tail, All-from_recursion, All-map, All-weaker}

@@ -16,7 +16,6 @@ ghost use Rattle.otap_cells.specs.Named.{table_named};
 ghost use Rattle.otap_cells.specs.Payload.{is_kind, kinds_of, main_of};
 ghost use Rattle.otap_groups.specs.ProfileTables.{IsProfileTable};
 ghost use Rattle.otap_attrs.specs.declared.refusal.RowRefusal.{RowRefusal};
-ghost use Rattle.otap_checks.specs.ValueDefects.{HasFineValues, HasFineValuesAt};
 ghost use Rattle.otap_logs.specs.Requests.{WrongLogs, regrouped_logs};
 ghost use Rattle.otap_logs.specs.Tables.{tables_of_logs};
 
@@ -24,19 +23,6 @@ ghost use Rattle.otap_logs.specs.Tables.{tables_of_logs};
 pub fn tables_tell_the_same()
     ensures { (groups : List (ResourceGroup LogRecord)) → IsReal (Logs groups) → IsProfile (Logs groups) → weight_of (Logs groups) ≤ weight_limit
         → Same (Logs groups) (Logs (regrouped_logs (tables_of_logs groups))) }
-{}
-
-/// Law: nothing is wrong with the values in the tables of a request. Their types stand in column 15 of the logs, `body.type`, and
-/// in column 2 of each table of attributes, `type`.
-pub fn tables_have_fine_values()
-    ensures bodies { (groups : List (ResourceGroup LogRecord)) → IsReal (Logs groups) → IsProfile (Logs groups)
-        → HasFineValuesAt 15 (tables_of_logs groups) table.Logs }
-    ensures resources { (groups : List (ResourceGroup LogRecord)) → IsReal (Logs groups) → IsProfile (Logs groups)
-        → HasFineValues (tables_of_logs groups) table.ResourceAttrs }
-    ensures scopes { (groups : List (ResourceGroup LogRecord)) → IsReal (Logs groups) → IsProfile (Logs groups)
-        → HasFineValues (tables_of_logs groups) table.ScopeAttrs }
-    ensures records { (groups : List (ResourceGroup LogRecord)) → IsReal (Logs groups) → IsProfile (Logs groups)
-        → HasFineValues (tables_of_logs groups) table.LogAttrs }
 {}
 
 /// Law: nothing is wrong with the rows of the tables of a request.

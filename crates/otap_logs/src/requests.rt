@@ -1,5 +1,5 @@
 //! The request of the tables of a batch.
-ghost use Rattle.std.specs.Prelude.{◌≡◌, ◌≤◌, ℕ, Option, drop, map, min, IfErr, IfOk, OnOk};
+ghost use Rattle.std.specs.Prelude.{◌≡◌, ◌≤◌, drop, map, min, IfErr, IfOk, OnOk};
 ghost use Rattle.otlp_model.specs.declared.request.Signal.TheVariants as signal;
 ghost use Rattle.otlp_model.specs.Weight.{weight_of};
 ghost use Rattle.otlp_model.specs.declared.request.Request.TheVariants.{Logs};

@@ -1,6 +1,6 @@
 //! What the tables of a request of logs weigh, without making them.
 ghost use Rattle.std.specs.Prelude.{◌≡◌, ◌≤◌, ◌+◌, min};
-ghost use Rattle.otlp_model.specs.Limits.{weight_limit, count_cap};
+ghost use Rattle.otlp_model.specs.Limits.{weight_limit, count_cap, part_weight};
 ghost use Rattle.otlp_model.specs.Profile.{IsProfile};
 ghost use Rattle.otlp_model.specs.Weight.{total, weight_of, weight_of_pair};
 ghost use Rattle.otlp_model.specs.declared.request.Request.TheVariants.{Logs};
@@ -29,9 +29,9 @@ impl RowWeights for LogWeights {
 
     ghost of_item = { λ log. cells_weight (record_cells log) + parts_weight pair_cells log.pairs };
 
-    ghost CanWriteResource = { λ resource. total 32 weight_of_pair resource.pairs ≤ weight_limit };
+    ghost CanWriteResource = { λ resource. total part_weight weight_of_pair resource.pairs ≤ weight_limit };
 
-    ghost CanWriteScope = { λ scope. total 32 weight_of_pair scope.pairs ≤ weight_limit };
+    ghost CanWriteScope = { λ scope. total part_weight weight_of_pair scope.pairs ≤ weight_limit };
 
     ghost CanWriteItem = { CanWriteRecord };
 

@@ -1,5 +1,5 @@
 -- Nothing is wrong with the rows of the tables of a request.
-use Rattle.std.proofs.Common.{◌≡◌, ◌∙◌, ℕ, ◌+◌, ◌<◌, ◌≤◌, ◌^◌, List, [], ◌∷◌, ◌++◌, length, map, refl, sym, ap, arith, inl, inr}
+use Rattle.std.proofs.Common.{◌≡◌, ◌∙◌, ◌≤◌, List, ◌∷◌, length, map, refl, sym, ap, arith, inl, inr}
 use Rattle.std.specs.Prelude.{All, ◌⊎◌}
 use Rattle.std.specs.List.{flat_map}
 use Rattle.std.proofs.lemmas.List.{length-map}
@@ -32,7 +32,7 @@ use Rattle.otap_checks.specs.Links.{items, links_of}
 use Rattle.otap_checks.specs.Reading.{Disagrees}
 use Rattle.otap_checks.specs.Rules.{rules_of}
 use Rattle.otap_checks.specs.ValueDefects.{HasFineValues}
-use Rattle.otap_checks.specs.Written.{AreSound, HaveParentsIn, IsPartKind, Written, link_of, parts_below}
+use Rattle.otap_checks.specs.Written.{AreSound, HaveParentsIn, IsPartKind, link_of, parts_below}
 use Rattle.otap_checks.proofs.FinePairs.{IsFineList, IsFineResource, IsFineScope, fine_table, pairs_fine}
 use Rattle.otap_checks.proofs.FineWritten.{fine_ids, rows_alike}
 use Rattle.otap_checks.proofs.KeptRules.{keeps_agree, none_wrong}

@@ -1,5 +1,5 @@
 -- The tables of a request are tables of the profile.
-use Rattle.std.proofs.Common.{ℕ, ◌^◌, ◌≤◌, List, [], ◌∷◌, Option, length, map, drop, refl, sym, subst, arith}
+use Rattle.std.proofs.Common.{◌^◌, ◌≤◌, List, [], ◌∷◌, length, drop, refl, sym, subst, arith}
 use Rattle.std.specs.Prelude.{All}
 use Rattle.std.specs.List.{AllByRecursion}
 use Rattle.std.proofs.lemmas.List.Elements.{All-nil, All-cons, All-head, All-tail, All-map, All-weaker, All-from_recursion, recursion_from_All}

@@ -15,7 +15,7 @@ use Rattle.otap_cells.specs.Cells.{Cell}
 use Rattle.otap_cells.specs.Tables.{Table}
 use Rattle.otap_cells.specs.Weights.{weight_of_table, weight_of_tables}
 use Rattle.otap_groups.specs.Flat.{items_of, resource_pairs, resources_of, scope_pairs, scopes_of}
-use Rattle.otap_groups.specs.Stored.{main_table, part_table}
+use Rattle.otap_groups.specs.Stored.{part_table}
 use Rattle.otap_groups.specs.Weighing.{cells_weight, parts_weight, rows_of_groups}
 use Rattle.otap_groups.proofs.RowsApart.{rows_apart}
 use Rattle.otap_groups.proofs.RowsWeighed.{main_weighs, parts_weigh}

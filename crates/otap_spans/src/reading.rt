@@ -1,5 +1,6 @@
 //! Spans, events and links, read from the rows of their tables.
 ghost use Rattle.std.specs.Prelude.{◌≡◌, ℕ, Option, map, drop};
+ghost use Rattle.otlp_model.specs.Limits.{part_weight};
 ghost use Rattle.otlp_model.specs.Weight.{total, weight_of_event, weight_of_link, weight_of_pair, weight_of_span};
 ghost use Rattle.otlp_model.specs.declared.value.Pair.{Pair};
 ghost use Rattle.otap_cells.specs.declared.payload.Kind.TheVariants as table;
@@ -26,8 +27,8 @@ pub struct Spans<
     pub links: L,
     ghost of_spans: { (R.table rows.now).kind ≡ table.Spans },
     ghost pairs_weighed: { (pair : Pair) → P.weigh pairs pair ≡ weight_of_pair pair },
-    ghost events_weighed: { (id : Option ℕ) → total 32 (E.weigh events) (E.finds events id) ≡ total 32 weight_of_event (E.finds events id) },
-    ghost links_weighed: { (id : Option ℕ) → total 32 (L.weigh links) (L.finds links id) ≡ total 32 weight_of_link (L.finds links id) },
+    ghost events_weighed: { (id : Option ℕ) → total part_weight (E.weigh events) (E.finds events id) ≡ total part_weight weight_of_event (E.finds events id) },
+    ghost links_weighed: { (id : Option ℕ) → total part_weight (L.weigh links) (L.finds links id) ≡ total part_weight weight_of_link (L.finds links id) },
 }
 
 impl<R: Rows, P: Lookup<Child = Pair>, E: Lookup<Child = Event>, L: Lookup<Child = Link>> RowReader

@@ -1,6 +1,6 @@
 //! What the tables of a request of spans weigh, without making them.
 ghost use Rattle.std.specs.Prelude.{◌≡◌, ◌≤◌, ◌+◌, All, min, sum_by};
-ghost use Rattle.otlp_model.specs.Limits.{weight_limit, count_cap};
+ghost use Rattle.otlp_model.specs.Limits.{weight_limit, count_cap, part_weight};
 ghost use Rattle.otlp_model.specs.Profile.{IsProfile};
 ghost use Rattle.otlp_model.specs.Weight.{total, weight_of, weight_of_pair};
 ghost use Rattle.otlp_model.specs.declared.request.Request.TheVariants.{Traces};
@@ -32,9 +32,9 @@ impl RowWeights for SpanWeights {
 
     ghost of_item = { λ span. cells_weight (span_cells span) + below_weight span };
 
-    ghost CanWriteResource = { λ resource. total 32 weight_of_pair resource.pairs ≤ weight_limit };
+    ghost CanWriteResource = { λ resource. total part_weight weight_of_pair resource.pairs ≤ weight_limit };
 
-    ghost CanWriteScope = { λ scope. total 32 weight_of_pair scope.pairs ≤ weight_limit };
+    ghost CanWriteScope = { λ scope. total part_weight weight_of_pair scope.pairs ≤ weight_limit };
 
     ghost CanWriteItem = { CanWriteSpan };
 

@@ -1,8 +1,7 @@
-use Rattle.std.proofs.Common.{◌∙◌, List, refl, sym, ap, subst, arith}
+use Rattle.std.proofs.Common.{◌∙◌, refl, sym, ap, subst, arith}
 use Rattle.otlp_model.specs.declared.request.Signal.TheVariants as signal
 use Rattle.otap_cells.specs.declared.payload.Kind.TheVariants as table
 use Rattle.otap_groups.specs.Disagree.{Disagree}
-use Rattle.otap_groups.specs.Rows.{MainRow}
 use Rattle.otap_checks.specs.Known.{Knows}
 use Rattle.otap_checks.specs.Links.{links_of}
 use Rattle.otap_checks.specs.Reading.{main_rows_in}
