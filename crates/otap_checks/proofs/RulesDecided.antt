@@ -161,7 +161,7 @@ agree_alone tables t none why.TwoValues is = is
 agree_alone tables t none why.BadKind is = is
 agree_alone tables t none (why.Memory error) is = is
 
-one_alone : (tables : List Table) (t : Table) (column : ℕ) → (HasTwoValues t column → ⊥) → (wrong : RowRefusal) → Breaks tables (asks.OneNumber column) t wrong → ⊥
+pub one_alone : (tables : List Table) (t : Table) (column : ℕ) → (HasTwoValues t column → ⊥) → (wrong : RowRefusal) → Breaks tables (asks.OneNumber column) t wrong → ⊥
 one_alone tables t column none why.TwoValues is = none is
 one_alone tables t column none why.Disagree is = is
 one_alone tables t column none (why.Ids fault) is = is
@@ -171,7 +171,7 @@ one_alone tables t column none (why.BadCbor refusal) is = is
 one_alone tables t column none why.BadKind is = is
 one_alone tables t column none (why.Memory error) is = is
 
-even_alone : (tables : List Table) (t : Table) (first second : ℕ) → (HasUnevenLists t first second → ⊥) → (wrong : RowRefusal) → Breaks tables (asks.EvenLists first second) t wrong → ⊥
+pub even_alone : (tables : List Table) (t : Table) (first second : ℕ) → (HasUnevenLists t first second → ⊥) → (wrong : RowRefusal) → Breaks tables (asks.EvenLists first second) t wrong → ⊥
 even_alone tables t first second none why.BadKind is = none is
 even_alone tables t first second none why.Disagree is = is
 even_alone tables t first second none (why.Ids fault) is = is
@@ -181,7 +181,7 @@ even_alone tables t first second none (why.BadCbor refusal) is = is
 even_alone tables t first second none why.TwoValues is = is
 even_alone tables t first second none (why.Memory error) is = is
 
-known_alone : (tables : List Table) (t : Table) → (WrongType t → ⊥) → (wrong : RowRefusal) → Breaks tables asks.KnownShape t wrong → ⊥
+pub known_alone : (tables : List Table) (t : Table) → (WrongType t → ⊥) → (wrong : RowRefusal) → Breaks tables asks.KnownShape t wrong → ⊥
 known_alone tables t none why.BadKind is = none is
 known_alone tables t none why.Disagree is = is
 known_alone tables t none (why.Ids fault) is = is
@@ -191,7 +191,7 @@ known_alone tables t none (why.BadCbor refusal) is = is
 known_alone tables t none why.TwoValues is = is
 known_alone tables t none (why.Memory error) is = is
 
-shape_alone : (tables : List Table) (t : Table) (sort : PointSort) → (WrongParent (fits_of sort) t (table_named table.Metrics tables) → ⊥) → (wrong : RowRefusal) → Breaks tables (asks.OfShape sort) t wrong → ⊥
+pub shape_alone : (tables : List Table) (t : Table) (sort : PointSort) → (WrongParent (fits_of sort) t (table_named table.Metrics tables) → ⊥) → (wrong : RowRefusal) → Breaks tables (asks.OfShape sort) t wrong → ⊥
 shape_alone tables t sort none why.BadKind is = none is
 shape_alone tables t sort none why.Disagree is = is
 shape_alone tables t sort none (why.Ids fault) is = is

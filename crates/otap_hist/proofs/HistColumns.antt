@@ -1,10 +1,9 @@
 -- The columns of the tables of points of histograms and summaries, and of what is below them.
-use Rattle.std.proofs.Common.{◌≡◌, ◌<◌, ℕ, true, refl, arith}
+use Rattle.std.proofs.Common.{◌≡◌, ℕ, true, refl, arith}
 use Rattle.otap_cells.specs.declared.payload.Kind.TheVariants as table
-use Rattle.otap_cells.specs.Columns.{deep_attrs, exemplars, hist_points, is_id_at, summary_points, width_of}
+use Rattle.otap_cells.specs.Columns.{exemplars, hist_points, is_id_at, summary_points}
 use Rattle.otap_groups.specs.Kinds.{IsPart}
 use Rattle.otap_groups.proofs.IdColumns.{each_id}
-use Rattle.otap_attrs.specs.Values.{HasValueAt}
 
 pub hists_are_parts : IsPart table.HistPoints
 unfolding hist_points
@@ -17,22 +16,6 @@ summaries_are_parts = record { wide = omega arith; other = refl; id = refl; pare
 pub exemplars_are_parts : IsPart table.HistExemplars
 unfolding exemplars
 exemplars_are_parts = record { wide = omega arith; other = refl; id = refl; parent = refl; ids_rise = refl }
-
-pub has_summary_value : HasValueAt table.SummaryPointAttrs 2
-unfolding deep_attrs
-has_summary_value = record { bases = refl }
-
-pub has_hist_value : HasValueAt table.HistPointAttrs 2
-unfolding deep_attrs
-has_hist_value = record { bases = refl }
-
-pub has_exemplar_value : HasValueAt table.HistExemplarAttrs 2
-unfolding deep_attrs
-has_exemplar_value = record { bases = refl }
-
-pub exemplar_wide : 4 < width_of table.HistExemplars
-unfolding exemplars
-exemplar_wide = omega arith
 
 -- the id columns of points and of exemplars
 pub hist_ids : (P : ℕ → Type 0) → P 0 → P 1 → (column : ℕ) → is_id_at table.HistPoints column ≡ true → P column

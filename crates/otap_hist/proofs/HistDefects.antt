@@ -18,9 +18,11 @@ use Rattle.otlp_model.specs.declared.metrics.Metric.{Metric}
 use Rattle.otlp_model.specs.declared.metrics.Shape.{Shape}
 use Rattle.otlp_model.specs.declared.metrics.Shape.TheVariants as shapes
 use Rattle.otlp_model.specs.declared.request.Request.TheVariants.{Metrics}
+use Rattle.otlp_model.specs.declared.request.Signal.TheVariants as signal
 use Rattle.otap_cells.specs.declared.payload.Kind.{Kind}
 use Rattle.otap_cells.specs.declared.payload.Kind.TheVariants as table
 use Rattle.otap_cells.specs.Cells.{Cell, cell_at}
+use Rattle.otap_cells.specs.Named.{table_named}
 use Rattle.otap_cells.specs.Tables.{Table}
 use Rattle.otap_cells.proofs.ScalarLaws.{text_back}
 use Rattle.otap_groups.specs.Flat.{items_of, placed}
@@ -31,22 +33,27 @@ use Rattle.otap_attrs.specs.declared.refusal.RowRefusal.{RowRefusal}
 use Rattle.otap_checks.proofs.FinePairs.{IsFineList, pairs_fine, fine_table, IsFineResource, IsFineScope}
 use Rattle.otap_checks.specs.ValueDefects.{HasFineValues}
 use Rattle.otap_checks.specs.Measured.{HasTwoValues, HasUnevenLists, element_count}
-use Rattle.otap_checks.specs.Shapes.{WrongParent, has_hist_points, has_summary_points}
-use Rattle.otap_metrics.specs.Metrics.{hist_points_of, summary_points_of, shape_number}
-use Rattle.otap_metrics.specs.Tables.{HoldMetrics, summary_lists}
+use Rattle.otap_checks.specs.Rules.{rules_of}
+use Rattle.otap_checks.specs.Shapes.{WrongParent, WrongType, has_hist_points, has_numbers, has_summary_points}
+use Rattle.otap_checks.specs.declared.shapes.PointSort.TheVariants as sort
+use Rattle.otap_checks.proofs.KeptRules.{keeps_agree, none_wrong}
+use Rattle.otap_checks.proofs.RulesDecided.{even_alone, known_alone, one_alone, shape_alone}
+use Rattle.otap_metrics.specs.Metrics.{hist_points_of, points_of, shape_number, summary_points_of}
+use Rattle.otap_metrics.specs.Points.{point_cells}
+use Rattle.otap_metrics.specs.Tables.{HoldMetrics, exemplar_lists, point_lists, summary_lists}
 use Rattle.otap_metrics.proofs.FewParts.{few_metrics}
-use Rattle.otap_metrics.proofs.FittingParents.{parents_fine}
-use Rattle.otap_metrics.proofs.NoDefects.{IsFineExemplar, exemplar_fine, no_defects as metrics_fine}
-use Rattle.otap_metrics.proofs.OneValue.{all_rows, exemplar_values}
+use Rattle.otap_metrics.proofs.FineValues.{IsFineExemplar, exemplar_fine, fine_exemplars, fine_points, fine_resources, fine_scopes}
+use Rattle.otap_metrics.proofs.FittingParents.{numbers_fit, parents_fine, types_fine}
+use Rattle.otap_metrics.proofs.MetricColumns.{points_are_parts}
+use Rattle.otap_metrics.proofs.OneValue.{all_rows, exemplar_values, point_values}
 use Rattle.otap_hist.specs.Lists.{bytes_of, list_cell}
 use Rattle.otap_hist.specs.Points.{hist_point_cells, quantile_cell, sum_point_cells, value_cell}
 use Rattle.otap_hist.specs.Requests.{WrongWhole}
 use Rattle.otap_hist.specs.Tables.{HoldHists, all_hist_exemplars, all_hist_points, all_summary_points, hist_exemplar_lists, hist_exemplar_pairs, hist_pairs, summary_pairs, whole_tables}
-use Rattle.otap_hist.proofs.CleanHists.{clean_whole}
 use Rattle.otap_hist.proofs.HistColumns.{hists_are_parts, summaries_are_parts}
-use Rattle.otap_hist.proofs.HistIds.{fine_hist_ids}
 use Rattle.otap_hist.proofs.ListBytes.{length_bytes}
 use Rattle.otap_hist.proofs.NamedWhole.{hists_there, metrics_there}
+use Rattle.otap_hist.proofs.WholeIds.{whole_alike, whole_ids}
 
 -- ---- lists of one length
 
@@ -162,23 +169,68 @@ module _ (groups : List (ResourceGroup Metric)) (tables : List Table) (have : Ho
 no_parent : (fits : ℕ → Bool) (t u main other : Table) → t ≡ u → main ≡ other → (WrongParent fits u other → ⊥) → WrongParent fits t main → ⊥
 no_parent fits t u main other same are fine wrong = fine (subst (λ (m : Table). WrongParent fits u m) are (subst (λ (t : Table). WrongParent fits t main) same wrong))
 
-fine_tables : (groups : List (ResourceGroup Metric)) (tables : List Table) → HoldMetrics groups tables → HoldHists groups tables → IsReal (Metrics groups) → IsProfile (Metrics groups)
-    → weight_of (Metrics groups) ≤ weight_limit → (kind : Kind) (wrong : RowRefusal) → WrongWhole tables kind wrong → ⊥
-fine_tables groups tables metrics have real is light = clean_whole tables (metrics_fine groups tables real is light metrics) (record {
-  ids = fine_hist_ids groups tables metrics have light;
-  cells = record {
-    summaries = no_parent has_summary_points _ _ _ _ have.summary_points metrics.main
-        (parents_fine has_summary_points summary_points_of summaries_fit groups table.SummaryPoints sum_point_cells summaries_are_parts (few_metrics groups light));
-    lists = λ uneven. lists_even table.SummaryPoints (summary_lists groups) (subst (λ (t : Table). HasUnevenLists t 6 7) have.summary_points uneven);
-    hists = no_parent has_hist_points _ _ _ _ have.hist_points metrics.main
-        (parents_fine has_hist_points hist_points_of hists_fit groups table.HistPoints hist_point_cells hists_are_parts (few_metrics groups light));
-    exemplars = λ two. exemplar_values table.HistExemplars (hist_exemplar_lists groups) (subst (λ (t : Table). HasTwoValues t 3) have.exemplars two);
-    of_summaries = of_summaries groups tables have real is;
-    of_hists = of_hists groups tables have real is;
-    of_exemplars = of_exemplars groups tables have real is;
-  };
-})
-
 pub whole_fine : (groups : List (ResourceGroup Metric)) → IsReal (Metrics groups) → IsProfile (Metrics groups) → weight_of (Metrics groups) ≤ weight_limit
     → (kind : Kind) (wrong : RowRefusal) → WrongWhole (whole_tables groups) kind wrong → ⊥
-whole_fine groups = fine_tables groups (whole_tables groups) (metrics_there groups) (hists_there groups)
+unfolding rules_of
+whole_fine groups real is light =
+    let tables : List Table = whole_tables groups in
+    let metrics : HoldMetrics groups tables = metrics_there groups in
+    let have : HoldHists groups tables = hists_there groups in
+    let types : WrongType (table_named table.Metrics tables) → ⊥ = λ wrong. types_fine groups (subst WrongType metrics.main wrong) in
+    let numbers : WrongParent has_numbers (table_named table.NumberPoints tables) (table_named table.Metrics tables) → ⊥ = no_parent has_numbers _ _ _ _ metrics.points metrics.main
+    (parents_fine has_numbers points_of numbers_fit groups table.NumberPoints point_cells points_are_parts (few_metrics groups light)) in
+    let points : HasTwoValues (table_named table.NumberPoints tables) 4 → ⊥ =
+    λ two. point_values table.NumberPoints (point_lists groups) (subst (λ (t : Table). HasTwoValues t 4) metrics.points two) in
+    let exemplars : HasTwoValues (table_named table.NumberExemplars tables) 3 → ⊥ =
+    λ two. exemplar_values table.NumberExemplars (exemplar_lists groups) (subst (λ (t : Table). HasTwoValues t 3) metrics.exemplars two) in
+    let summaries : WrongParent has_summary_points (table_named table.SummaryPoints tables) (table_named table.Metrics tables) → ⊥ = no_parent has_summary_points _ _ _ _ have.summary_points metrics.main
+    (parents_fine has_summary_points summary_points_of summaries_fit groups table.SummaryPoints sum_point_cells summaries_are_parts (few_metrics groups light)) in
+    let lists : HasUnevenLists (table_named table.SummaryPoints tables) 6 7 → ⊥ =
+    λ uneven. lists_even table.SummaryPoints (summary_lists groups) (subst (λ (t : Table). HasUnevenLists t 6 7) have.summary_points uneven) in
+    let hists : WrongParent has_hist_points (table_named table.HistPoints tables) (table_named table.Metrics tables) → ⊥ = no_parent has_hist_points _ _ _ _ have.hist_points metrics.main
+    (parents_fine has_hist_points hist_points_of hists_fit groups table.HistPoints hist_point_cells hists_are_parts (few_metrics groups light)) in
+    let hist_exemplars : HasTwoValues (table_named table.HistExemplars tables) 3 → ⊥ =
+    λ two. exemplar_values table.HistExemplars (hist_exemplar_lists groups) (subst (λ (t : Table). HasTwoValues t 3) have.exemplars two) in
+    none_wrong signal.Metrics tables (whole_ids groups light) (
+      known_alone tables (table_named table.Metrics tables) types,
+      (
+        shape_alone tables (table_named table.NumberPoints tables) sort.Numbers numbers,
+        (
+          one_alone tables (table_named table.NumberPoints tables) 4 points,
+          (
+            one_alone tables (table_named table.NumberExemplars tables) 3 exemplars,
+            (
+              fine_resources groups tables metrics real is,
+              (
+                fine_scopes groups tables metrics real is,
+                (
+                  fine_points groups tables metrics real is,
+                  (
+                    fine_exemplars groups tables metrics real is,
+                    (
+                      shape_alone tables (table_named table.SummaryPoints tables) sort.Summaries summaries,
+                      (
+                        even_alone tables (table_named table.SummaryPoints tables) 6 7 lists,
+                        (
+                          shape_alone tables (table_named table.HistPoints tables) sort.Histograms hists,
+                          (
+                            one_alone tables (table_named table.HistExemplars tables) 3 hist_exemplars,
+                            (
+                              of_summaries groups tables have real is,
+                              (
+                                of_hists groups tables have real is,
+                                (of_exemplars groups tables have real is, (keeps_agree tables table.Metrics (whole_alike groups light), tt)),
+                              ),
+                            ),
+                          ),
+                        ),
+                      ),
+                    ),
+                  ),
+                ),
+              ),
+            ),
+          ),
+        ),
+      ),
+    )

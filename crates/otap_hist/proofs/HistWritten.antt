@@ -1,5 +1,5 @@
 -- All tables of a request of metrics are tables of the profile.
-use Rattle.std.proofs.Common.{◌≡◌, ℕ, ◌^◌, ◌<◌, ◌≤◌, true, List, [], ◌∷◌, Option, None, Some, inl, inr, drop, refl, false}
+use Rattle.std.proofs.Common.{◌≡◌, ℕ, ◌^◌, ◌<◌, ◌≤◌, true, List, [], ◌∷◌, Option, None, Some, inl, inr, drop, refl, false, sym, subst}
 use Rattle.std.specs.Prelude.{◌==◌, All, IsTrue}
 use Rattle.std.specs.List.{AllByRecursion}
 use Rattle.std.proofs.lemmas.Bool.{cases_Bool, ltb-true}
@@ -42,7 +42,8 @@ use Rattle.otap_metrics.proofs.MetricFits.{exemplar_row}
 use Rattle.otap_metrics.proofs.WrittenTables.{IsFitExemplar, below_are_written, exemplar_fit, main_is_written}
 use Rattle.otap_hist.specs.Lists.{bytes_of, list_cell}
 use Rattle.otap_hist.specs.Points.{hist_point_cells, optional_cell, sum_point_cells}
-use Rattle.otap_hist.specs.Tables.{all_hist_exemplars, all_hist_points, all_summary_points, hist_exemplar_lists, hist_exemplar_pairs, hist_pairs, summary_pairs, tables_below_all, whole_tables}
+use Rattle.otap_hist.specs.Tables.{all_hist_exemplars, all_hist_points, all_summary_points, hist_exemplar_lists, hist_exemplar_pairs, hist_pairs, summary_pairs, whole_tables}
+use Rattle.otap_hist.proofs.AllTables.{tables_below_all, whole_are}
 use Rattle.otap_hist.proofs.FoundHists.{few_all_exemplars, few_all_hists, few_all_summaries, few_exemplar_lists, few_exemplar_pairs, few_hist_lists, few_hist_pairs, few_summary_lists, few_summary_pairs}
 use Rattle.otap_hist.proofs.HistColumns.{exemplar_ids, exemplars_are_parts, hist_ids, hists_are_parts, summaries_are_parts, summary_ids}
 use Rattle.otap_hist.proofs.ListBytes.{whole_bytes}
@@ -241,7 +242,7 @@ module _ (groups : List (ResourceGroup Metric)) (real : IsReal (Metrics groups))
       )
 
   pub whole_written : All IsProfileTable (whole_tables groups)
-  unfolding whole_tables
   whole_written =
-      All-cons IsProfileTable (main_table table.Metrics metric_cells groups) (filled (tables_below_all groups)) (main_is_written groups real is light)
-      (filled_all IsProfileTable (tables_below_all groups) (All-from_recursion IsProfileTable (tables_below_all groups) below_written))
+      subst (All IsProfileTable) (sym (whole_are groups))
+      (All-cons IsProfileTable (main_table table.Metrics metric_cells groups) (filled (tables_below_all groups)) (main_is_written groups real is light)
+      (filled_all IsProfileTable (tables_below_all groups) (All-from_recursion IsProfileTable (tables_below_all groups) below_written)))

@@ -1,9 +1,8 @@
 pub mod AlikeWhole
-pub mod CleanHists
+pub mod AllTables
 pub mod FoundHists
 pub mod HistColumns
 pub mod HistDefects
-pub mod HistIds
 pub mod HistParts
 pub mod HistRows
 pub mod HistWeight
@@ -16,5 +15,5 @@ pub mod MergedTables
 pub mod NamedWhole
 pub mod PointPlaces
 pub mod PutTables
-pub mod WholeOrWrong
+pub mod WholeIds
 pub mod WholeTold

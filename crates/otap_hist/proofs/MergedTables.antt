@@ -19,7 +19,8 @@ use Rattle.otap_metrics.specs.Points.{exemplar_cells, point_cells}
 use Rattle.otap_groups.specs.Flat.{resource_pairs, scope_pairs}
 use Rattle.otap_metrics.specs.Tables.{exemplar_lists, exemplar_pairs, hist_lists, point_lists, point_pairs, summary_lists, tables_below, tables_of_metrics}
 use Rattle.otap_hist.specs.Points.{hist_point_cells, sum_point_cells}
-use Rattle.otap_hist.specs.Tables.{hist_exemplar_lists, hist_exemplar_pairs, hist_pairs, hist_tables, put_all, put_in, summary_pairs, tables_below_all, whole_tables}
+use Rattle.otap_hist.specs.Tables.{hist_exemplar_lists, hist_exemplar_pairs, hist_pairs, hist_tables, put_all, put_in, summary_pairs, whole_tables}
+use Rattle.otap_hist.proofs.AllTables.{tables_below_all, whole_are}
 
 -- ---- numbers before and after one
 
@@ -159,8 +160,7 @@ module _ (groups : List (ResourceGroup Metric)) (pairs : List (Kind × Table)) (
   all_are = ap (put_all (map beside_kind (filled (hist_tables groups)))) (pairs_are pairs set.beside ∙ ap pairs_of are) ∙ merged groups
 
   pub are_whole : tables_in (λ t. t) all ≡ whole_tables groups
-  unfolding whole_tables
-  are_whole = filled_tables (main groups) (tables_below_all groups) all all_are
+  are_whole = filled_tables (main groups) (tables_below_all groups) all all_are ∙ sym (whole_are groups)
 
   pub whole_set : IsSet (λ t. t) all
   whole_set = filled_set (main groups) (tables_below_all groups) all all_are (differ groups)

@@ -1,5 +1,5 @@
 -- The points of histograms and summaries that tables make, and what may be wrong with their rows.
-use Rattle.std.specs.Prelude.{◌≡◌, ℕ, ◌⊎◌, true, List, Option}
+use Rattle.std.specs.Prelude.{ℕ, List, Option}
 use Rattle.otlp_model.specs.declared.groups.ResourceGroup.{ResourceGroup}
 use Rattle.otlp_model.specs.declared.histograms.HistPoint.{HistPoint}
 use Rattle.otlp_model.specs.declared.histograms.SumPoint.{SumPoint}
@@ -13,17 +13,11 @@ use Rattle.otap_cells.specs.Named.{table_named}
 use Rattle.otap_cells.specs.Tables.{Table}
 use Rattle.otap_groups.specs.Children.{children}
 use Rattle.otap_attrs.specs.declared.refusal.RowRefusal.{RowRefusal}
-use Rattle.otap_attrs.specs.declared.refusal.RowRefusal.TheVariants as why
-use Rattle.otap_checks.specs.IdDefects.{IdDefect}
-use Rattle.otap_attrs.specs.Defects.{WrongValue}
 use Rattle.otap_attrs.specs.Index.{pairs_in}
 use Rattle.otap_checks.specs.Reading.{part_rows_in}
-use Rattle.otap_checks.specs.Shapes.{WrongParent, has_hist_points, has_summary_points}
-use Rattle.otap_metrics.specs.Requests.{WrongMetrics, exemplars_in, is_hist_kind, regrouped_metrics}
-use Rattle.otap_checks.specs.Measured.{HasTwoValues, HasUnevenLists}
+use Rattle.otap_checks.specs.RowDefects.{RowDefect}
+use Rattle.otap_metrics.specs.Requests.{exemplars_in, regrouped_metrics}
 use Rattle.otap_hist.specs.Points.{hist_point_of, sum_point_of}
-
--- ---- what is found below
 
 -- the point of an id and own cells, with the pairs that a table has for the id, and the exemplars that are found for it
 abbrev pub hist_point_in : Table → (Option ℕ → List Exemplar) → Option ℕ → List Cell → HistPoint
@@ -47,27 +41,6 @@ summary_points_in tables = children (summary_point_in (table_named table.Summary
 abbrev pub regrouped_whole : List Table → List (ResourceGroup Metric)
 regrouped_whole tables = regrouped_metrics (hist_points_in tables) (summary_points_in tables) tables
 
--- ---- what may be wrong
-
--- what is wrong with a table beside its ids
-abbrev pub WrongHistCells : List Table → Kind → RowRefusal → Type 0
-WrongHistCells tables table.SummaryPoints why.BadKind =
-    WrongParent has_summary_points (table_named table.SummaryPoints tables) (table_named table.Metrics tables) ⊎ HasUnevenLists (table_named table.SummaryPoints tables) 6 7
-WrongHistCells tables table.HistPoints why.BadKind = WrongParent has_hist_points (table_named table.HistPoints tables) (table_named table.Metrics tables)
-WrongHistCells tables table.HistExemplars why.TwoValues = HasTwoValues (table_named table.HistExemplars tables) 3
-WrongHistCells tables table.SummaryPointAttrs wrong = WrongValue (table_named table.SummaryPointAttrs tables) 2 wrong
-WrongHistCells tables table.HistPointAttrs wrong = WrongValue (table_named table.HistPointAttrs tables) 2 wrong
-WrongHistCells tables table.HistExemplarAttrs wrong = WrongValue (table_named table.HistExemplarAttrs tables) 2 wrong
-WrongHistCells tables kind wrong = ⊥
-
--- what is wrong with the ids of these tables
-abbrev pub WrongHistIds : List Table → Kind → RowRefusal → Type 0
-WrongHistIds tables kind wrong = (is_hist_kind kind ≡ true) × IdDefect signal.Metrics tables kind wrong
-
--- WHAT IS WRONG WITH THE ROWS of a kind's table among those of points of histograms and summaries, and of what is below them
-abbrev pub WrongHists : List Table → Kind → RowRefusal → Type 0
-WrongHists tables kind wrong = WrongHistIds tables kind wrong ⊎ WrongHistCells tables kind wrong
-
 -- WHAT IS WRONG WITH THE ROWS of a kind's table among all tables of metrics
 abbrev pub WrongWhole : List Table → Kind → RowRefusal → Type 0
-WrongWhole tables kind wrong = WrongMetrics tables kind wrong ⊎ WrongHists tables kind wrong
+WrongWhole tables kind wrong = RowDefect signal.Metrics tables kind wrong

@@ -12,8 +12,9 @@ use Rattle.otap_cells.specs.declared.payload.Kind.TheVariants as table
 use Rattle.otap_cells.specs.Named.{table_named}
 use Rattle.otap_cells.specs.Payload.{number_of}
 use Rattle.otap_cells.specs.Tables.{Table}
-use Rattle.otap_groups.specs.Stored.{main_table, part_table}
-use Rattle.otap_attrs.specs.Tables.{attribute_table, where_rows}
+use Rattle.otap_groups.specs.Stored.{part_table}
+use Rattle.otap_attrs.specs.Tables.{attribute_table}
+use Rattle.otap_checks.specs.Written.{Written, pairs_below, parts_below, tables_written}
 use Rattle.otap_metrics.specs.Metrics.{metric_cells}
 use Rattle.otap_metrics.specs.Points.{exemplar_cells, point_cells}
 use Rattle.otap_groups.specs.Flat.{resource_pairs, scope_pairs}
@@ -65,26 +66,26 @@ abbrev pub put_all : {R : Type 0} → List (Kind × R) → List (Kind × R) → 
 put_all [] others = others
 put_all (one ∷ ones) others = put_all ones (put_in one others)
 
--- all tables below the metrics, by their payload types
-abbrev pub tables_below_all : List (ResourceGroup Metric) → List Table
-tables_below_all groups =
-    attribute_table table.ResourceAttrs (resource_pairs groups)
-    ∷ attribute_table table.ScopeAttrs (scope_pairs groups)
-    ∷ part_table table.NumberPoints point_cells (point_lists groups)
-    ∷ part_table table.SummaryPoints sum_point_cells (summary_lists groups)
-    ∷ part_table table.HistPoints hist_point_cells (hist_lists groups)
-    ∷ attribute_table table.NumberPointAttrs (point_pairs groups)
-    ∷ attribute_table table.SummaryPointAttrs (summary_pairs groups)
-    ∷ attribute_table table.HistPointAttrs (hist_pairs groups)
-    ∷ part_table table.NumberExemplars exemplar_cells (exemplar_lists groups)
-    ∷ part_table table.HistExemplars exemplar_cells (hist_exemplar_lists groups)
-    ∷ attribute_table table.NumberExemplarAttrs (exemplar_pairs groups)
-    ∷ attribute_table table.HistExemplarAttrs (hist_exemplar_pairs groups)
+-- below the metrics, by their payload types: the attributes of resources and scopes, the points of all sorts and theirs, the exemplars and theirs
+abbrev pub below_metrics : List (ResourceGroup Metric) → List Written
+below_metrics groups =
+    pairs_below table.ResourceAttrs table.Metrics 1 (resource_pairs groups)
+    ∷ pairs_below table.ScopeAttrs table.Metrics 4 (scope_pairs groups)
+    ∷ parts_below table.NumberPoints table.Metrics point_cells (point_lists groups)
+    ∷ parts_below table.SummaryPoints table.Metrics sum_point_cells (summary_lists groups)
+    ∷ parts_below table.HistPoints table.Metrics hist_point_cells (hist_lists groups)
+    ∷ pairs_below table.NumberPointAttrs table.NumberPoints 0 (point_pairs groups)
+    ∷ pairs_below table.SummaryPointAttrs table.SummaryPoints 0 (summary_pairs groups)
+    ∷ pairs_below table.HistPointAttrs table.HistPoints 0 (hist_pairs groups)
+    ∷ parts_below table.NumberExemplars table.NumberPoints exemplar_cells (exemplar_lists groups)
+    ∷ parts_below table.HistExemplars table.HistPoints exemplar_cells (hist_exemplar_lists groups)
+    ∷ pairs_below table.NumberExemplarAttrs table.NumberExemplars 0 (exemplar_pairs groups)
+    ∷ pairs_below table.HistExemplarAttrs table.HistExemplars 0 (hist_exemplar_pairs groups)
     ∷ []
 
--- THE TABLES of a request, with the points of its histograms and summaries: its metrics, and what is below them where there are rows
+-- THE TABLES of a request, with the points of its histograms and summaries: its metrics, and of the tables below them those that have rows
 unfoldable pub whole_tables : List (ResourceGroup Metric) → List Table
-whole_tables groups = main_table table.Metrics metric_cells groups ∷ flat_map where_rows (tables_below_all groups)
+whole_tables groups = tables_written table.Metrics metric_cells (below_metrics groups) groups
 
 -- AMONG THESE TABLES stand those of the points of histograms and summaries; one that has no rows may be missing
 pub record HoldHists (groups : List (ResourceGroup Metric)) (tables : List Table) : Type 0 where

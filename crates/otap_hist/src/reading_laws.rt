@@ -13,9 +13,7 @@ use otap_metrics::reading_laws as metrics;
 /// Law: nothing is wrong with the rows of tables, or something is.
 pub fn clean_or_wrong()
     ensures { (tables : List Table) → HaveByteCells tables → CleanOrWrong (WrongWhole tables) }
-{
-    metrics::clean_or_wrong();
-}
+{}
 
 /// Law: tables that read as others, whose ids are given, make their request, and nothing is wrong with them that isn't wrong
 /// with the others.

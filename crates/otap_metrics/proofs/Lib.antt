@@ -1,8 +1,5 @@
-pub mod AlikeOrWrong
-pub mod AlikeReading
-pub mod Cleanness
 pub mod FewParts
-pub mod FineIds
+pub mod FineValues
 pub mod FittingParents
 pub mod FoundParts
 pub mod LightParts
@@ -13,7 +10,6 @@ pub mod MetricRows
 pub mod MetricsBack
 pub mod MetricsTold
 pub mod NamedTables
-pub mod NoDefects
 pub mod OneValue
 pub mod Regrouping
 pub mod WrittenParts

@@ -1,11 +1,10 @@
 -- The columns of the tables of metrics.
-use Rattle.std.proofs.Common.{◌≡◌, ℕ, ◌<◌, true, List, length, refl, ap, arith}
+use Rattle.std.proofs.Common.{◌≡◌, ℕ, true, List, length, refl, ap, arith}
 use Rattle.otap_cells.specs.declared.payload.Kind.TheVariants as table
 use Rattle.otap_cells.specs.declared.payload.Kind.{Kind}
-use Rattle.otap_cells.specs.Columns.{ColumnSpec, columns_of, deep_attrs, exemplars, is_id_at, metrics, number_points, width_of}
+use Rattle.otap_cells.specs.Columns.{ColumnSpec, columns_of, exemplars, is_id_at, number_points, width_of}
 use Rattle.otap_groups.specs.Kinds.{IsPart}
 use Rattle.otap_groups.proofs.IdColumns.{each_id}
-use Rattle.otap_attrs.specs.Values.{HasValueAt}
 
 pub points_are_parts : IsPart table.NumberPoints
 unfolding number_points
@@ -15,31 +14,11 @@ pub exemplars_are_parts : IsPart table.NumberExemplars
 unfolding exemplars
 exemplars_are_parts = record { wide = omega arith; other = refl; id = refl; parent = refl; ids_rise = refl }
 
-pub has_point_value : HasValueAt table.NumberPointAttrs 2
-unfolding deep_attrs
-has_point_value = record { bases = refl }
-
-pub has_exemplar_value : HasValueAt table.NumberExemplarAttrs 2
-unfolding deep_attrs
-has_exemplar_value = record { bases = refl }
-
-pub point_width : 5 < width_of table.NumberPoints
-unfolding number_points
-point_width = omega arith
-
-pub exemplar_wide : 4 < width_of table.NumberExemplars
-unfolding exemplars
-exemplar_wide = omega arith
-
 pub exemplar_width : (kind : Kind) → columns_of kind ≡ exemplars → width_of kind ≡ 7
 unfolding exemplars
 exemplar_width kind is = ap (λ (columns : List ColumnSpec). length columns) is
 
--- the id columns of metrics, of points and of exemplars
-pub metric_ids : (P : ℕ → Type 0) → P 0 → P 1 → P 4 → (column : ℕ) → is_id_at table.Metrics column ≡ true → P column
-unfolding metrics
-metric_ids P own resource scope column is = each_id P table.Metrics (own, (resource, (scope, tt))) column is
-
+-- the id columns of points and of exemplars
 pub point_ids : (P : ℕ → Type 0) → P 0 → P 1 → (column : ℕ) → is_id_at table.NumberPoints column ≡ true → P column
 unfolding number_points
 point_ids P own parent column is = each_id P table.NumberPoints (own, (parent, tt)) column is

@@ -1,6 +1,6 @@
 -- The request that main rows, points and pairs make.
-use Rattle.std.proofs.Common.{◌≡◌, ◌<◌, ◌∙◌, ℕ, List, [], Option, refl, sym, ap, subst}
-use Rattle.otlp_model.specs.Limits.{weight_limit}
+use Rattle.std.proofs.Common.{◌≡◌, ◌∙◌, ℕ, List, [], Option, refl, sym, ap}
+use Rattle.std.specs.Prelude.{All}
 use Rattle.otlp_model.specs.Weight.{total, weight_of, weight_of_metric, weight_of_pair}
 use Rattle.otlp_model.specs.declared.groups.ResourceGroup.{ResourceGroup}
 use Rattle.otlp_model.specs.declared.metrics.Metric.{Metric}
@@ -13,24 +13,21 @@ use Rattle.otlp_model.specs.declared.metrics.Point.{Point}
 use Rattle.otlp_model.specs.declared.value.Pair.{Pair}
 use Rattle.otap_cells.specs.declared.payload.Kind.TheVariants as table
 use Rattle.otap_cells.specs.Cells.{Cell}
+use Rattle.otap_cells.specs.GivenIds.{ReadAs}
 use Rattle.otap_cells.specs.Named.{table_named}
 use Rattle.otap_cells.specs.Tables.{Table, profile_table}
 use Rattle.otap_groups.specs.Children.{children}
-use Rattle.otap_groups.specs.Rows.{MainRow, child_rows, main_rows}
-use Rattle.otap_groups.specs.Runs.{runs}
+use Rattle.otap_groups.specs.Rows.{MainRow, child_rows}
 use Rattle.otap_groups.specs.Groups.{regrouped}
-use Rattle.otap_attrs.specs.declared.refusal.CheckRefusal.TheVariants as check
-use Rattle.otap_attrs.specs.declared.refusal.RowRefusal.{RowRefusal}
-use Rattle.otap_cells.specs.declared.payload.Kind.{Kind}
-use Rattle.otap_checks.specs.declared.regrouping.RegroupRefusal.{RegroupRefusal}
-use Rattle.otap_checks.specs.declared.regrouping.RegroupRefusal.TheVariants as regroup
-use Rattle.otap_checks.specs.Refusing.{Nothing}
-use Rattle.otap_checks.specs.Regrouping.{RefusesRegroup}
 use Rattle.otap_attrs.specs.Index.{pairs_in}
-use Rattle.otap_checks.specs.Reading.{main_rows_in, part_rows_in}
+use Rattle.otap_checks.specs.Reading.{HasAllIds, main_rows_in, part_rows_in}
+use Rattle.otap_checks.proofs.MainKinds.{metrics_are_main}
+use Rattle.otap_checks.proofs.NamedAlike.{pairs_alike, parts_alike}
+use Rattle.otap_checks.proofs.Regrouped.{no_groups, request_alike, request_is}
 use Rattle.otap_metrics.specs.Metrics.{metric_of}
 use Rattle.otap_metrics.specs.Points.{exemplar_of, point_of}
-use Rattle.otap_metrics.specs.Requests.{WrongMetrics, points_in, regrouped_metrics}
+use Rattle.otap_metrics.specs.Requests.{exemplars_in, metric_in, points_in, regrouped_metrics}
+use Rattle.otap_metrics.proofs.MetricColumns.{exemplars_are_parts, points_are_parts}
 
 -- ---- parts, by ids that are known
 
@@ -64,29 +61,34 @@ pub regrouped_is : (tables : List Table) (t : Table) (resources scopes : Option 
     ≡ regrouped_metrics hists summaries tables
 unfolding regrouped_metrics
 regrouped_is tables t resources scopes points hists summaries rows is are of_resources of_scopes of_points =
-    λ i. regrouped (λ parent. of_resources parent i) (λ parent. of_scopes parent i)
-    (λ id own. metric_of own (record { points = of_points id i; hist_points = hists id; summary_points = summaries id })) ((are ∙ ap main_rows_in (sym is)) i)
+    request_is table.Metrics (metric_in hists summaries) tables resources scopes _ rows (are ∙ ap main_rows_in (sym is)) of_resources of_scopes
+    (λ id cells. λ i. metric_of cells (record { points = of_points id i; hist_points = hists id; summary_points = summaries id }))
 
 -- what groups weigh, where pairs weigh what they do
 pub weighed_as : (one other : Pair → ℕ) → ((pair : Pair) → one pair ≡ weight_of_pair pair) → ((pair : Pair) → other pair ≡ weight_of_pair pair)
     → (groups : List (ResourceGroup Metric)) → total 32 (weigh_resource_group one other weight_of_metric) groups ≡ weight_of (Metrics groups)
 weighed_as one other are are_other groups = λ i. total 32 (weigh_resource_group (λ pair. are pair i) (λ pair. are_other pair i) weight_of_metric) groups
 
--- a refusal of them says the same of what may be wrong with tables, where nothing is
-pub refused_still : (tables : List Table) (hists : Option ℕ → List HistPoint) (summaries : Option ℕ → List SumPoint) (one other : Pair → ℕ) (groups : List (ResourceGroup Metric)) (refusal : RegroupRefusal)
-    → ((pair : Pair) → one pair ≡ weight_of_pair pair) → ((pair : Pair) → other pair ≡ weight_of_pair pair) → groups ≡ regrouped_metrics hists summaries tables
-    → ((kind : Kind) (wrong : RowRefusal) → WrongMetrics tables kind wrong → ⊥)
-    → RefusesRegroup Nothing (total 32 (weigh_resource_group one other weight_of_metric) groups) refusal
-    → RefusesRegroup (WrongMetrics tables) (weight_of (Metrics (regrouped_metrics hists summaries tables))) refusal
-refused_still tables hists summaries one other groups (regroup.Rows (check.Memory error)) are are_other made clean refuses = tt
-refused_still tables hists summaries one other groups (regroup.Rows (check.Defect kind wrong)) are are_other made clean refuses = absurd refuses
-refused_still tables hists summaries one other groups regroup.TooHeavy are are_other made clean refuses = record {
-  clean = clean;
-  heavy = subst (λ weight. weight_limit < weight) (weighed_as one other are are_other groups ∙ ap (λ groups. weight_of (Metrics groups)) made) refuses.heavy;
-}
-
 -- no rows make no groups
-pub no_groups : (tables : List Table) (hists : Option ℕ → List HistPoint) (summaries : Option ℕ → List SumPoint)
+pub no_metrics : (tables : List Table) (hists : Option ℕ → List HistPoint) (summaries : Option ℕ → List SumPoint)
     → table_named table.Metrics tables ≡ profile_table table.Metrics [] → regrouped_metrics hists summaries tables ≡ []
-unfolding regrouped_metrics regrouped runs main_rows
-no_groups tables hists summaries none = rw none refl
+unfolding regrouped_metrics
+no_metrics tables hists summaries = no_groups table.Metrics (metric_in hists summaries) tables
+
+-- ---- tables that read as others make their request
+
+module _ (tables others : List Table) (reads : ReadAs tables others) (given : All HasAllIds others) where
+  exemplars_alike : (parent : Option ℕ) → exemplars_in (table_named table.NumberExemplars tables) (table_named table.NumberExemplarAttrs tables) parent
+      ≡ exemplars_in (table_named table.NumberExemplars others) (table_named table.NumberExemplarAttrs others) parent
+  exemplars_alike parent = λ i.
+      children (λ id cells. exemplar_of cells (pairs_alike tables others reads given table.NumberExemplarAttrs refl id i)) (parts_alike tables others reads given table.NumberExemplars exemplars_are_parts i) parent
+
+  points_alike : (parent : Option ℕ) → points_in tables parent ≡ points_in others parent
+  points_alike parent = λ i.
+      children (λ id cells. point_of cells (pairs_alike tables others reads given table.NumberPointAttrs refl id i) (exemplars_alike id i))
+      (parts_alike tables others reads given table.NumberPoints points_are_parts i) parent
+
+  pub same_request : (hists : Option ℕ → List HistPoint) (summaries : Option ℕ → List SumPoint) → regrouped_metrics hists summaries tables ≡ regrouped_metrics hists summaries others
+  unfolding regrouped_metrics
+  same_request hists summaries = request_alike table.Metrics (metric_in hists summaries) tables others reads given metrics_are_main
+      (λ id cells. λ i. metric_of cells (record { points = points_alike id i; hist_points = hists id; summary_points = summaries id }))

@@ -1,5 +1,5 @@
 -- The tables of a request of metrics are tables of the profile.
-use Rattle.std.proofs.Common.{ℕ, ◌^◌, ◌≤◌, List, [], ◌∷◌, Option, length, map, drop, refl, arith}
+use Rattle.std.proofs.Common.{◌≤◌, List, [], ◌∷◌, drop, refl, arith}
 use Rattle.std.specs.Prelude.{All}
 use Rattle.std.specs.List.{AllByRecursion}
 use Rattle.std.proofs.lemmas.List.Elements.{All-nil, All-cons, All-head, All-tail, All-map, All-weaker, All-from_recursion, recursion_from_All}
@@ -20,26 +20,24 @@ use Rattle.otlp_model.specs.declared.metrics.Shape.TheVariants as shapes
 use Rattle.otlp_model.specs.declared.request.Request.TheVariants.{Metrics}
 use Rattle.otap_cells.specs.declared.payload.Kind.TheVariants as table
 use Rattle.otap_cells.specs.Columns.{columns_of, exemplars, metrics, number_points}
-use Rattle.otap_cells.specs.GivenIds.{HasIds}
 use Rattle.otap_cells.specs.Tables.{IsRow}
-use Rattle.otap_groups.specs.Flat.{flat_items, items_of, numbered_rows, resources_of, scopes_of, resource_pairs, scope_pairs}
+use Rattle.otap_groups.specs.Flat.{flat_items, items_of, resources_of, scopes_of, resource_pairs, scope_pairs}
 use Rattle.otap_groups.specs.ProfileTables.{IsProfileTable}
-use Rattle.otap_groups.specs.Rows.{MainRow}
 use Rattle.otap_groups.specs.Stored.{main_table, part_table, stored_rows}
 use Rattle.otap_groups.specs.Weighing.{CanWriteGroup, CanWriteScope}
 use Rattle.otap_groups.proofs.Bounds.{bounded}
 use Rattle.otap_groups.proofs.PartTables.{part_written}
-use Rattle.otap_groups.proofs.ProfileRows.{OfFlat, OwnFit, is_profile_table, of_flat, rows_fit}
-use Rattle.otap_groups.proofs.StoredRows.{own_ids_of, resource_ids_of, scope_ids_of}
+use Rattle.otap_groups.proofs.ProfileRows.{OfFlat, OwnFit, of_flat, rows_fit}
 use Rattle.otap_groups.proofs.WritableGroups.{all_items_can, all_resources_can, all_scopes_can}
 use Rattle.otap_attrs.proofs.FilledTables.{filled, filled_all}
 use Rattle.otap_checks.proofs.WrittenPairs.{AreReal, attributes_written}
-use Rattle.otap_checks.proofs.MainKinds.{metrics_are_main}
+use Rattle.otap_checks.proofs.AllWritten.{main_profile}
+use Rattle.otap_checks.proofs.MainKinds.{metrics_kind}
 use Rattle.otap_metrics.specs.Metrics.{metric_cells, points_of}
 use Rattle.otap_metrics.specs.Points.{exemplar_cells, point_cells}
 use Rattle.otap_metrics.specs.Tables.{all_exemplars, all_points, exemplar_lists, exemplar_pairs, point_lists, point_pairs, tables_below, tables_of_metrics}
 use Rattle.otap_metrics.proofs.FewParts.{few_all_exemplars, few_all_points, few_exemplar_lists, few_exemplar_pairs, few_metrics, few_point_lists, few_point_pairs, few_resource_pairs, few_scope_pairs}
-use Rattle.otap_metrics.proofs.MetricColumns.{exemplar_ids, exemplars_are_parts, metric_ids, point_ids, points_are_parts}
+use Rattle.otap_metrics.proofs.MetricColumns.{exemplar_ids, exemplars_are_parts, point_ids, points_are_parts}
 use Rattle.otap_metrics.proofs.MetricFits.{exemplar_own, exemplar_row, metric_own, point_own, point_row}
 
 -- ---- what fits
@@ -110,15 +108,7 @@ module _ (groups : List (ResourceGroup Metric)) (fit : All IsFit groups) (light 
       (λ f of. (of.0, of.1, of.2.own)) (flat_items groups) (of_flat IsRealResource IsRealScope IsFitMetric groups fit))
 
   main_written : IsProfileTable (main_table table.Metrics metric_cells groups)
-  unfolding main_table
-  main_written =
-      let rows : List MainRow = numbered_rows metric_cells 0 (flat_items groups) in
-      let few : length (items_of groups) ≤ 2 ^ 32 = few_metrics groups light in
-      is_profile_table table.Metrics (stored_rows metric_cells 0 0 0 (flat_items groups)) main_rows_fit
-      (metric_ids (λ column. (ids : List (Option ℕ)) × HasIds (main_table table.Metrics metric_cells groups) column ids)
-      (map (λ (row : MainRow). row.id) rows, own_ids_of metric_cells table.Metrics groups metrics_are_main few)
-      (map (λ (row : MainRow). row.resource_id) rows, resource_ids_of metric_cells table.Metrics groups metrics_are_main few)
-      (map (λ (row : MainRow). row.scope_id) rows, scope_ids_of metric_cells table.Metrics groups metrics_are_main few))
+  main_written = main_profile table.Metrics metric_cells groups metrics_kind (few_metrics groups light) main_rows_fit
 
   fit_metrics : All IsFitMetric (items_of groups)
   fit_metrics = all_items_can IsRealResource IsRealScope IsFitMetric groups fit

@@ -4,5 +4,4 @@ pub mod Numbers
 pub mod Points
 pub mod Requests
 pub mod Tables
-pub mod Whole
 pub mod Writable

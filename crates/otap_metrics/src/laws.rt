@@ -1,7 +1,7 @@
 //! What the definitions mean, as functions that do nothing: each ensures a law for all requests.
 ghost use Rattle.std.specs.Prelude.{◌≡◌, ◌≤◌, ◌||◌, ℕ, List, Option, All, length, map, filter, nat_lt};
 ghost use Rattle.std.specs.List.{AllZip};
-ghost use Rattle.otlp_model.specs.Limits.{weight_limit};
+ghost use Rattle.otlp_model.specs.Limits.{weight_limit, part_weight};
 ghost use Rattle.otlp_model.specs.Profile.{IsProfile};
 ghost use Rattle.otlp_model.specs.Real.{IsReal};
 ghost use Rattle.otlp_model.specs.Same.{Same, SameHistPoint, SameSumPoint};
@@ -13,15 +13,13 @@ ghost use Rattle.otlp_model.specs.declared.histograms.SumPoint.{SumPoint};
 ghost use Rattle.otlp_model.specs.declared.metrics.Metric.{Metric};
 ghost use Rattle.otlp_model.specs.declared.request.Request.TheVariants.{Metrics};
 ghost use Rattle.otlp_model.specs.declared.request.Signal.TheVariants as signal;
-ghost use Rattle.otap_cells.specs.declared.payload.Kind.{Kind};
 ghost use Rattle.otap_cells.specs.declared.payload.Kind.TheVariants as table;
 ghost use Rattle.otap_cells.specs.Named.{table_named};
 ghost use Rattle.otap_cells.specs.Payload.{is_kind, kinds_of, main_of};
 ghost use Rattle.otap_cells.specs.Tables.{Table};
 ghost use Rattle.otap_groups.specs.Children.{Agree};
 ghost use Rattle.otap_groups.specs.ProfileTables.{IsProfileTable};
-ghost use Rattle.otap_attrs.specs.declared.refusal.RowRefusal.{RowRefusal};
-ghost use Rattle.otap_metrics.specs.Requests.{WrongMetrics, regrouped_metrics};
+ghost use Rattle.otap_metrics.specs.Requests.{regrouped_metrics};
 ghost use Rattle.otap_metrics.specs.Tables.{HoldMetrics, hist_lists, summary_lists, tables_of_metrics};
 
 /// Law: the tables of a request stand among themselves.
@@ -46,8 +44,8 @@ pub fn tables_are_light()
     ensures { (groups : List (ResourceGroup Metric)) (tables : List Table) (hists found_hists : Option ℕ → List HistPoint) (summaries found_summaries : Option ℕ → List SumPoint)
         → IsReal (Metrics groups) → IsProfile (Metrics groups) → weight_of (Metrics groups) ≤ weight_limit → HoldMetrics groups tables
         → Agree hists 0 (hist_lists groups) → Agree summaries 0 (summary_lists groups)
-        → ((id : Option ℕ) → total 32 weight_of_hist_point (hists id) ≡ total 32 weight_of_hist_point (found_hists id))
-        → ((id : Option ℕ) → total 32 weight_of_sum_point (summaries id) ≡ total 32 weight_of_sum_point (found_summaries id))
+        → ((id : Option ℕ) → total part_weight weight_of_hist_point (hists id) ≡ total part_weight weight_of_hist_point (found_hists id))
+        → ((id : Option ℕ) → total part_weight weight_of_sum_point (summaries id) ≡ total part_weight weight_of_sum_point (found_summaries id))
         → weight_of (Metrics (regrouped_metrics found_hists found_summaries tables)) ≤ weight_of (Metrics groups) }
 {}
 
@@ -67,11 +65,4 @@ pub fn each_metric_has_a_row()
 pub fn tables_can_be_written()
     ensures { (groups : List (ResourceGroup Metric)) → IsReal (Metrics groups) → IsProfile (Metrics groups) → weight_of (Metrics groups) ≤ weight_limit
         → All IsProfileTable (tables_of_metrics groups) }
-{}
-
-/// Law: nothing is wrong with the rows of tables among which those of a request stand, but for the points of its histograms and
-/// summaries and what is below them.
-pub fn tables_have_no_defects()
-    ensures { (groups : List (ResourceGroup Metric)) (tables : List Table) → IsReal (Metrics groups) → IsProfile (Metrics groups) → weight_of (Metrics groups) ≤ weight_limit
-        → HoldMetrics groups tables → (kind : Kind) (why : RowRefusal) → WrongMetrics tables kind why → ⊥ }
 {}

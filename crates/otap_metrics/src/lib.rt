@@ -14,6 +14,6 @@ mod writing;
 pub use indexes::index_exemplars;
 pub use numbers::{double_value, id_cell, int_value};
 pub use reading::{Exemplars, Metrics, Points};
-pub use requests::{check_metrics, regroup_with};
+pub use requests::regroup_with;
 pub use weights::table_weight;
 pub use writing::{exemplar_cells_weight, tables_of};

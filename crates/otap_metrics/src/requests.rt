@@ -1,79 +1,35 @@
 //! The request of the tables of a batch of metrics, where the points of histograms and summaries are found in given ways.
-ghost use Rattle.std.specs.Prelude.{◌≡◌, ◌≤◌, ℕ, Option, IfErr, IfOk, OnOk};
+ghost use Rattle.std.specs.Prelude.{◌≡◌, ◌≤◌, ℕ, Option, IfErr, IfOk};
 ghost use Rattle.otlp_model.specs.Limits.{weight_limit};
 ghost use Rattle.otlp_model.specs.Weight.{weight_of, weight_of_hist_point, weight_of_pair, weight_of_sum_point};
 ghost use Rattle.otlp_model.specs.declared.histograms.HistPoint.{HistPoint};
 ghost use Rattle.otlp_model.specs.declared.histograms.SumPoint.{SumPoint};
 ghost use Rattle.otlp_model.specs.declared.metrics.Point.{Point};
 ghost use Rattle.otlp_model.specs.declared.request.Request.TheVariants.{Metrics};
+ghost use Rattle.otlp_model.specs.declared.request.Signal.TheVariants as signal;
 ghost use Rattle.otlp_model.specs.declared.value.Pair.{Pair};
 ghost use Rattle.otap_cells.specs.declared.payload.Kind.{Kind};
 ghost use Rattle.otap_cells.specs.declared.payload.Kind.TheVariants as table;
 ghost use Rattle.otap_cells.specs.Named.{table_named};
-ghost use Rattle.otap_groups.specs.Groups.{regrouped};
-ghost use Rattle.otap_groups.specs.Rows.{main_rows};
-ghost use Rattle.otap_attrs.specs.declared.refusal.CheckRefusal.TheVariants as check;
 ghost use Rattle.otap_attrs.specs.declared.refusal.RowRefusal.{RowRefusal};
 ghost use Rattle.otap_attrs.specs.Index.{pairs_in};
-ghost use Rattle.otap_checks.specs.Refusing.{RefusesCheck};
+ghost use Rattle.otap_checks.specs.Known.{KnowsAll};
+ghost use Rattle.otap_checks.specs.Refusing.{Nothing};
 ghost use Rattle.otap_checks.specs.Regrouping.{RefusesRegroup};
-ghost use Rattle.otap_metrics.specs.Whole.{AreWhole, KnowsMetrics};
-ghost use Rattle.otap_metrics.specs.Metrics.{metric_of};
-ghost use Rattle.otap_metrics.specs.Requests.{WrongIds, WrongMetrics, points_in, regrouped_metrics};
+ghost use Rattle.otap_checks.specs.RowDefects.{RowDefect};
+ghost use Rattle.otap_metrics.specs.Requests.{points_in, regrouped_metrics};
 
-use crate::columns::{exemplar, point};
 use crate::indexes::{index_exemplars, index_points};
 use crate::reading::Metrics as MetricRows;
-use otap_attrs::{CheckRefusal, RowRefusal};
 use otap_cells::{Kind, Rows, TableSet};
-use otap_checks::{
-    Grouped, KnownIds, PointSort, RegroupRefusal, check_values, disagrees, find_pairs, front_of,
-    groups_within, has_other_parents, has_two_values, has_wrong_type,
-};
+use otap_checks::{Grouped, KnownIds, RegroupRefusal, find_pairs, front_of, groups_within};
 use otap_groups::{Lookup, Main};
 use otlp_model::{HistPoint, Items, Metric, Pair, Point, SumPoint};
 use std::alloc::Global;
 
-/// Looks at the rows of a batch, whose ids are known and have nothing wrong: at all but whether rows of one id agree. It passes
-/// over the points of histograms and summaries, and builds nothing. Takes n log n for n rows.
-pub fn check_metrics<R: Rows>(
-    alloc: Global,
-    set: &TableSet<R>,
-    known: &KnownIds,
-) -> Result<(), CheckRefusal>
-    requires ids { (kind : Kind) (why : RowRefusal) → WrongIds set.now kind why → ⊥ }
-    requires known { KnowsMetrics set.now known.now.columns.items }
-    ensures whole { OnOk result (AreWhole set.now) }
-    ensures refused { IfErr result (RefusesCheck (WrongMetrics set.now)) }
-{
-    if has_wrong_type(set, Kind::Metrics) {
-        return Err(defect(Kind::Metrics, RowRefusal::BadKind));
-    }
-    if has_other_parents(alloc, set, known, Kind::NumberPoints, PointSort::Numbers)? {
-        return Err(defect(Kind::NumberPoints, RowRefusal::BadKind));
-    }
-    if has_two_values(set, Kind::NumberPoints, point::VALUE) {
-        return Err(defect(Kind::NumberPoints, RowRefusal::TwoValues));
-    }
-    if has_two_values(set, Kind::NumberExemplars, exemplar::VALUE) {
-        return Err(defect(Kind::NumberExemplars, RowRefusal::TwoValues));
-    }
-    check_values(set, Kind::ResourceAttrs, 2)?;
-    check_values(set, Kind::ScopeAttrs, 2)?;
-    check_values(set, Kind::NumberPointAttrs, 2)?;
-    check_values(set, Kind::NumberExemplarAttrs, 2)?;
-    Ok(())
-}
-
-fn defect(kind: Kind, why: RowRefusal) -> CheckRefusal
-    ensures { result ≡ check.Defect kind why }
-{
-    CheckRefusal::Defect { kind, why }
-}
-
-/// The request of a batch and what it weighs, where nothing is wrong with the rows and it weighs at most the limit. It is built
-/// only then. The points of histograms and summaries are found by their metrics' ids. Takes n log n for n rows, and time in
-/// proportion to them where ids and parents rise or count from 0.
+/// The request of a batch whose rows have nothing wrong, and what it weighs, where that is at most the limit. It is built only
+/// then. The points of histograms and summaries are found by their metrics' ids. Takes n log n for n rows, and time in proportion
+/// to them where ids and parents rise or count from 0.
 pub fn regroup_with<R: Rows, H: Lookup<Child = HistPoint>, S: Lookup<Child = SumPoint>>(
     alloc: Global,
     set: &TableSet<R>,
@@ -81,16 +37,14 @@ pub fn regroup_with<R: Rows, H: Lookup<Child = HistPoint>, S: Lookup<Child = Sum
     hists: H,
     summaries: S,
 ) -> Result<Grouped<Metric>, RegroupRefusal>
-    requires whole { AreWhole set.now }
-    requires known { KnowsMetrics set.now known.now.columns.items }
+    requires clean { (kind : Kind) (why : RowRefusal) → RowDefect signal.Metrics set.now kind why → ⊥ }
+    requires known { KnowsAll signal.Metrics set.now known.now.columns.items }
     requires hists_weighed { (point : HistPoint) → H.weigh hists point ≡ weight_of_hist_point point }
     requires summaries_weighed { (point : SumPoint) → S.weigh summaries point ≡ weight_of_sum_point point }
-    ensures clean { OnOk result ((kind : Kind) (why : RowRefusal) → WrongMetrics set.now kind why → ⊥) }
     ensures groups { IfOk result (λ made. made.groups ≡ regrouped_metrics (H.finds hists) (S.finds summaries) set.now) }
     ensures tree { IfOk result (λ made. made.tree ≡ weight_of (Metrics made.groups)) }
     ensures light { IfOk result (λ made. made.tree ≤ weight_limit) }
-    ensures refused { IfErr result (RefusesRegroup (WrongMetrics set.now)
-        (weight_of (Metrics (regrouped_metrics (H.finds hists) (S.finds summaries) set.now)))) }
+    ensures refused { IfErr result (RefusesRegroup Nothing (weight_of (Metrics (regrouped_metrics (H.finds hists) (S.finds summaries) set.now)))) }
 {
     let Some(rows) = set.get(Kind::Metrics) else {
         return Ok(Grouped {
@@ -114,7 +68,7 @@ pub fn regroup_with<R: Rows, H: Lookup<Child = HistPoint>, S: Lookup<Child = Sum
     Ok(made)
 }
 
-/// The groups of the main rows, where rows of one id agree.
+/// The groups of the main rows of a batch whose rows have nothing wrong.
 fn main_groups<
     'a,
     R: Rows,
@@ -130,67 +84,26 @@ fn main_groups<
     resources: P,
     scopes: P,
 ) -> Result<Grouped<Metric>, RegroupRefusal>
-    requires whole { AreWhole set.now }
-    requires known { KnowsMetrics set.now known.now.columns.items }
+    requires clean { (kind : Kind) (why : RowRefusal) → RowDefect signal.Metrics set.now kind why → ⊥ }
+    requires known { KnowsAll signal.Metrics set.now known.now.columns.items }
     requires table { table_named table.Metrics set.now ≡ R.table items.rows.now }
     requires resources { (parent : Option ℕ) → P.finds resources parent ≡ pairs_in (table_named table.ResourceAttrs set.now) parent }
     requires scopes { (parent : Option ℕ) → P.finds scopes parent ≡ pairs_in (table_named table.ScopeAttrs set.now) parent }
     requires points { (parent : Option ℕ) → N.finds items.points parent ≡ points_in set.now parent }
     requires resources_weighed { (pair : Pair) → P.weigh resources pair ≡ weight_of_pair pair }
     requires scopes_weighed { (pair : Pair) → P.weigh scopes pair ≡ weight_of_pair pair }
-    ensures clean { OnOk result ((kind : Kind) (why : RowRefusal) → WrongMetrics set.now kind why → ⊥) }
     ensures groups { IfOk result (λ made. made.groups ≡ regrouped_metrics (H.finds items.entry.hist_points) (S.finds items.entry.summary_points) set.now) }
     ensures tree { IfOk result (λ made. made.tree ≡ weight_of (Metrics made.groups)) }
     ensures light { IfOk result (λ made. made.tree ≤ weight_limit) }
-    ensures refused { IfErr result (RefusesRegroup (WrongMetrics set.now)
-        (weight_of (Metrics (regrouped_metrics (H.finds items.entry.hist_points) (S.finds items.entry.summary_points) set.now)))) }
-{
-    let main = clean_main(alloc, set, known, items, resources, scopes)?;
-    let made = groups_within(alloc, &main)?;
-    Ok(made)
-}
-
-/// The main rows, where rows of one id agree.
-fn clean_main<
-    'a,
-    R: Rows,
-    P: Lookup<Child = Pair>,
-    N: Lookup<Child = Point>,
-    H: Lookup<Child = HistPoint>,
-    S: Lookup<Child = SumPoint>,
->(
-    alloc: Global,
-    set: &TableSet<R>,
-    known: &'a KnownIds,
-    items: MetricRows<'a, R, N, H, S>,
-    resources: P,
-    scopes: P,
-) -> Result<Main<'a, R, MetricRows<'a, R, N, H, S>, P>, CheckRefusal>
-    requires whole { AreWhole set.now }
-    requires known { KnowsMetrics set.now known.now.columns.items }
-    requires table { table_named table.Metrics set.now ≡ R.table items.rows.now }
-    requires resources { (parent : Option ℕ) → P.finds resources parent ≡ pairs_in (table_named table.ResourceAttrs set.now) parent }
-    requires scopes { (parent : Option ℕ) → P.finds scopes parent ≡ pairs_in (table_named table.ScopeAttrs set.now) parent }
-    requires points { (parent : Option ℕ) → N.finds items.points parent ≡ points_in set.now parent }
-    requires resources_weighed { (pair : Pair) → P.weigh resources pair ≡ weight_of_pair pair }
-    requires scopes_weighed { (pair : Pair) → P.weigh scopes pair ≡ weight_of_pair pair }
-    ensures clean { OnOk result ((kind : Kind) (why : RowRefusal) → WrongMetrics set.now kind why → ⊥) }
-    ensures resources_weighed { IfOk result (λ main. (pair : Pair) → P.weigh main.resources pair ≡ weight_of_pair pair) }
-    ensures scopes_weighed { IfOk result (λ main. (pair : Pair) → P.weigh main.scopes pair ≡ weight_of_pair pair) }
-    ensures groups { IfOk result (λ main. regrouped (P.finds main.resources) (P.finds main.scopes)
-        (λ id own. metric_of own (record { points = N.finds main.items.points id; hist_points = H.finds main.items.hist_points id; summary_points = S.finds main.items.summary_points id }))
-        (main_rows main.front.ids.now main.front.resource_ids.now main.front.scope_ids.now (R.table main.front.rows.now).rows)
-        ≡ regrouped_metrics (H.finds items.entry.hist_points) (S.finds items.entry.summary_points) set.now) }
-    ensures refused { IfErr result (RefusesCheck (WrongMetrics set.now)) }
+    ensures refused { IfErr result (RefusesRegroup Nothing (weight_of (Metrics (regrouped_metrics (H.finds items.entry.hist_points) (S.finds items.entry.summary_points) set.now)))) }
 {
     let front = front_of(items.rows, known);
-    if disagrees(alloc, &front)? {
-        return Err(defect(Kind::Metrics, RowRefusal::Disagree));
-    }
-    Ok(Main {
+    let main = Main {
         front,
         items,
         resources,
         scopes,
-    })
+    };
+    let made = groups_within(alloc, &main)?;
+    Ok(made)
 }

@@ -1,6 +1,6 @@
 //! What the tables of a request of metrics weigh, without making them.
 ghost use Rattle.std.specs.Prelude.{◌≡◌, ◌≤◌, min, sum_by, All};
-ghost use Rattle.otlp_model.specs.Limits.{weight_limit, count_cap};
+ghost use Rattle.otlp_model.specs.Limits.{weight_limit, count_cap, part_weight};
 ghost use Rattle.otlp_model.specs.Profile.{IsProfile};
 ghost use Rattle.otlp_model.specs.Weight.{total, weight_of, weight_of_pair};
 ghost use Rattle.otlp_model.specs.declared.request.Request.TheVariants.{Metrics};
@@ -29,9 +29,9 @@ impl RowWeights for MetricWeights {
 
     ghost of_item = { metric_weight };
 
-    ghost CanWriteResource = { λ resource. total 32 weight_of_pair resource.pairs ≤ weight_limit };
+    ghost CanWriteResource = { λ resource. total part_weight weight_of_pair resource.pairs ≤ weight_limit };
 
-    ghost CanWriteScope = { λ scope. total 32 weight_of_pair scope.pairs ≤ weight_limit };
+    ghost CanWriteScope = { λ scope. total part_weight weight_of_pair scope.pairs ≤ weight_limit };
 
     ghost CanWriteItem = { CanWriteMetric };
 

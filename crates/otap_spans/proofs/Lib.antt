@@ -1,7 +1,6 @@
 pub mod LightTables
 pub mod NamedTables
 pub mod NoDefects
-pub mod Refused
 pub mod SpanFits
 pub mod SpanPlaces
 pub mod SpanRows

@@ -5,7 +5,7 @@ use Rattle.otlp_model.specs.declared.groups.ResourceGroup.{ResourceGroup}
 use Rattle.otlp_model.specs.declared.request.Request.TheVariants.{Traces}
 use Rattle.otlp_model.specs.declared.spans.Span.{Span}
 use Rattle.otap_spans.specs.Requests.{WrongSpans}
-use Rattle.otap_spans.proofs.Refused.{refused_so}
+use Rattle.otap_checks.proofs.CleanRefusals.{refused_so}
 use Rattle.otap_spans.proofs.SpansRegrouped.{no_spans}
 use Rattle.otap_spans.proofs.requests.regroup.Goals as goal
 

@@ -1,12 +1,10 @@
--- Nothing is wrong with the rows of the tables of a request.
-use Rattle.std.proofs.Common.{◌≤◌, List, subst}
+-- Nothing is wrong with the values of the attributes of a request of metrics, but for those below histograms and summaries.
+use Rattle.std.proofs.Common.{List}
 use Rattle.std.specs.Prelude.{All}
 use Rattle.std.proofs.lemmas.List.Elements.{All-map, All-nil, All-weaker}
 use Rattle.lists.proofs.Every.{all_joined, all_of_both}
-use Rattle.otlp_model.specs.Limits.{weight_limit}
 use Rattle.otlp_model.specs.Profile.{IsProfile, IsProfileExemplar, IsProfileMetric, IsProfilePoint, IsProfileShape}
 use Rattle.otlp_model.specs.Real.{IsReal, IsRealExemplar, IsRealMetric, IsRealPoint, IsRealShape}
-use Rattle.otlp_model.specs.Weight.{weight_of}
 use Rattle.otlp_model.specs.declared.groups.Resource.{Resource}
 use Rattle.otlp_model.specs.declared.groups.Scope.{Scope}
 use Rattle.otlp_model.specs.declared.groups.ResourceGroup.{ResourceGroup}
@@ -16,32 +14,16 @@ use Rattle.otlp_model.specs.declared.metrics.Point.{Point}
 use Rattle.otlp_model.specs.declared.metrics.Shape.{Shape}
 use Rattle.otlp_model.specs.declared.metrics.Shape.TheVariants as shapes
 use Rattle.otlp_model.specs.declared.request.Request.TheVariants.{Metrics}
-use Rattle.otap_cells.specs.declared.payload.Kind.{Kind}
 use Rattle.otap_cells.specs.declared.payload.Kind.TheVariants as table
-use Rattle.otap_cells.specs.Named.{table_named}
 use Rattle.otap_cells.specs.Tables.{Table}
 use Rattle.otap_groups.specs.Flat.{items_of, resources_of, scopes_of, resource_pairs, scope_pairs}
-use Rattle.otap_groups.specs.Stored.{part_table}
 use Rattle.otap_groups.specs.Weighing.{CanWriteGroup}
 use Rattle.otap_groups.proofs.RealGroups.{real_groups}
 use Rattle.otap_groups.proofs.WritableGroups.{all_items_can, all_resources_can, all_scopes_can}
-use Rattle.otap_attrs.specs.declared.refusal.RowRefusal.{RowRefusal}
 use Rattle.otap_checks.proofs.FinePairs.{IsFineList, pairs_fine, fine_table, IsFineResource, IsFineScope}
 use Rattle.otap_checks.specs.ValueDefects.{HasFineValues}
-use Rattle.otap_checks.specs.Measured.{HasTwoValues}
-use Rattle.otap_checks.specs.Shapes.{WrongParent, WrongType, has_numbers}
 use Rattle.otap_metrics.specs.Metrics.{points_of}
-use Rattle.otap_metrics.specs.Points.{point_cells}
-use Rattle.otap_metrics.specs.Requests.{WrongMetrics}
-use Rattle.otap_metrics.specs.Tables.{HoldMetrics, all_exemplars, all_points, exemplar_lists, exemplar_pairs, point_lists, point_pairs}
-use Rattle.otap_metrics.proofs.Cleanness.{clean}
-use Rattle.otap_metrics.proofs.FewParts.{few_metrics}
-use Rattle.otap_metrics.proofs.FineIds.{alike, fine_ids}
-use Rattle.otap_metrics.proofs.FittingParents.{numbers_fit, parents_fine, types_fine}
-use Rattle.otap_metrics.proofs.MetricColumns.{points_are_parts}
-use Rattle.otap_metrics.proofs.OneValue.{exemplar_values, point_values}
-
--- ---- values
+use Rattle.otap_metrics.specs.Tables.{HoldMetrics, all_exemplars, all_points, exemplar_pairs, point_pairs}
 
 pub record IsFineExemplar (exemplar : Exemplar) : Type 0 where
   pub pairs : IsFineList exemplar.pairs
@@ -86,36 +68,20 @@ module _ (groups : List (ResourceGroup Metric)) (tables : List Table) (have : Ho
   all_fine_exemplars = all_joined IsFineExemplar (λ (point : Point). point.exemplars) (all_points groups)
       (All-weaker IsFinePoint (λ (point : Point). All IsFineExemplar point.exemplars) (λ point fine. fine.exemplars) (all_points groups) all_fine_points)
 
-  fine_resources : HasFineValues tables table.ResourceAttrs
+  pub fine_resources : HasFineValues tables table.ResourceAttrs
   fine_resources = fine_table tables table.ResourceAttrs (resource_pairs groups) have.resources
       (All-map IsFineList (λ (resource : Resource). resource.pairs) (resources_of groups) (all_resources_can IsFineResource IsFineScope IsFineMetric groups all))
 
-  fine_scopes : HasFineValues tables table.ScopeAttrs
+  pub fine_scopes : HasFineValues tables table.ScopeAttrs
   fine_scopes = fine_table tables table.ScopeAttrs (scope_pairs groups) have.scopes
       (All-map IsFineList (λ (scope : Scope). scope.pairs) (scopes_of groups) (all_scopes_can IsFineResource IsFineScope IsFineMetric groups all))
 
-  fine_points : HasFineValues tables table.NumberPointAttrs
+  pub fine_points : HasFineValues tables table.NumberPointAttrs
   fine_points = fine_table tables table.NumberPointAttrs (point_pairs groups) have.of_points
       (All-map IsFineList (λ (point : Point). point.pairs) (all_points groups)
       (All-weaker IsFinePoint (λ (point : Point). IsFineList point.pairs) (λ point fine. fine.pairs) (all_points groups) all_fine_points))
 
-  fine_exemplars : HasFineValues tables table.NumberExemplarAttrs
+  pub fine_exemplars : HasFineValues tables table.NumberExemplarAttrs
   fine_exemplars = fine_table tables table.NumberExemplarAttrs (exemplar_pairs groups) have.of_exemplars
       (All-map IsFineList (λ (exemplar : Exemplar). exemplar.pairs) (all_exemplars groups)
       (All-weaker IsFineExemplar (λ (exemplar : Exemplar). IsFineList exemplar.pairs) (λ exemplar fine. fine.pairs) (all_exemplars groups) all_fine_exemplars))
-
-pub no_defects : (groups : List (ResourceGroup Metric)) (tables : List Table) → IsReal (Metrics groups) → IsProfile (Metrics groups) → weight_of (Metrics groups) ≤ weight_limit
-    → HoldMetrics groups tables → (kind : Kind) (wrong : RowRefusal) → WrongMetrics tables kind wrong → ⊥
-no_defects groups tables real is light have = clean tables (record {
-  ids = fine_ids groups tables have light;
-  types = λ wrong. types_fine groups (subst WrongType have.main wrong);
-  parents = λ wrong. parents_fine has_numbers points_of numbers_fit groups table.NumberPoints point_cells points_are_parts (few_metrics groups light)
-      (subst (λ (t : Table). WrongParent has_numbers (part_table table.NumberPoints point_cells (point_lists groups)) t) have.main
-      (subst (λ (t : Table). WrongParent has_numbers t (table_named table.Metrics tables)) have.points wrong));
-  points = λ two. point_values table.NumberPoints (point_lists groups) (subst (λ (t : Table). HasTwoValues t 4) have.points two);
-  exemplars = λ two. exemplar_values table.NumberExemplars (exemplar_lists groups) (subst (λ (t : Table). HasTwoValues t 3) have.exemplars two);
-  resources = fine_resources groups tables have real is;
-  scopes = fine_scopes groups tables have real is;
-  of_points = fine_points groups tables have real is;
-  of_exemplars = fine_exemplars groups tables have real is;
-}) (alike groups tables have light)
