@@ -1,6 +1,6 @@
 -- The tables below a main one, of which those with rows stand in a request: what the table of a kind is, and what holds of all.
 use Rattle.std.proofs.Common.{◌≡◌, ℕ, true, false, Bool, List, [], ◌∷◌, ◌++◌, length, map, refl, sym, ap, ◌∙◌, subst, arith, inl, inr, append-nil, append_assoc}
-use Rattle.std.specs.Prelude.{All, ◌==◌, ◌&&◌, not, if◌then◌else◌, filter, nat_eq, nat_lt, sum_by}
+use Rattle.std.specs.Prelude.{All, ◌==◌, not, if◌then◌else◌, filter, nat_eq, nat_lt, sum_by}
 use Rattle.std.specs.List.{AllByRecursion, IsDistinct, flat_map}
 use Rattle.std.proofs.lemmas.Bool.{and_parts, cases_Bool, ltb-false, not-true}
 use Rattle.std.proofs.lemmas.Bool.Decides.{nat_tests}

@@ -1,5 +1,5 @@
 -- The columns of a value, wherever they begin.
-use Rattle.std.proofs.Common.{◌≡◌, ℕ, ◌+◌, ◌<◌, ◌≤◌, true, List, [], take, drop, length, sym, ap, ◌∙◌, arith, refl}
+use Rattle.std.proofs.Common.{◌≡◌, ℕ, ◌+◌, ◌<◌, ◌≤◌, true, List, [], take, drop, length, sym, ap, ◌∙◌, arith}
 use Rattle.std.specs.List.{slice_index_or}
 use Rattle.std.proofs.Math.ListN.{get_or-map}
 use Rattle.std.proofs.lemmas.List.{get_or-take, get_or-drop, length-map, length-take, length-drop}
@@ -69,12 +69,3 @@ small_width table.SpanEvents = omega arith
 small_width table.SpanLinks = omega arith
 small_width table.EventAttrs = omega arith
 small_width table.LinkAttrs = omega arith
-
--- attributes of resources and of scopes have a value
-pub has_resource_value : HasValueAt table.ResourceAttrs 2
-unfolding attrs
-has_resource_value = record { bases = refl }
-
-pub has_scope_value : HasValueAt table.ScopeAttrs 2
-unfolding attrs
-has_scope_value = record { bases = refl }

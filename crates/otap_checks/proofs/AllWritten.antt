@@ -1,5 +1,5 @@
 -- What holds of all written tables: their kinds, their weight, and that they are the profile's.
-use Rattle.std.proofs.Common.{◌≡◌, ◌∙◌, ℕ, zero, suc, ◌+◌, ◌<◌, ◌≤◌, ◌^◌, true, Bool, List, [], ◌∷◌, length, map, filter, get_or, Option, refl, sym, ap, subst, arith, inl, inr}
+use Rattle.std.proofs.Common.{◌≡◌, ◌∙◌, ℕ, suc, ◌+◌, ◌≤◌, ◌^◌, Bool, List, [], ◌∷◌, length, map, filter, Option, refl, sym, ap, subst, arith, inl, inr}
 use Rattle.std.specs.Prelude.{All, Contains, nat_lt, sum_by}
 use Rattle.std.proofs.lemmas.List.Sums.{sum_by-cons}
 use Rattle.std.proofs.lemmas.List.Elements.{All-cons}
@@ -9,7 +9,7 @@ use Rattle.otlp_model.specs.declared.request.Signal.TheVariants as signal
 use Rattle.otap_cells.specs.declared.payload.Kind.{Kind}
 use Rattle.otap_cells.specs.Cells.{Cell}
 use Rattle.otap_cells.specs.Named.{table_named}
-use Rattle.otap_cells.specs.Payload.{kinds_of, main_of, is_kind, number_of}
+use Rattle.otap_cells.specs.Payload.{kinds_of}
 use Rattle.otap_cells.specs.Tables.{IsRow, Table}
 use Rattle.otap_cells.specs.Weights.{weight_of_table, weight_of_tables}
 use Rattle.otap_cells.specs.Columns.{columns_of}
@@ -22,8 +22,8 @@ use Rattle.otap_groups.proofs.ProfileRows.{is_profile_table}
 use Rattle.otap_groups.proofs.StoredRows.{own_ids_of, resource_ids_of, scope_ids_of}
 use Rattle.otap_attrs.proofs.FilledTables.{Tells, filled, filled_all, filled_weigh, kinds_filled}
 use Rattle.otap_checks.specs.declared.links.TableLink.{TableLink}
-use Rattle.otap_checks.specs.Links.{links_of, items}
-use Rattle.otap_checks.specs.Written.{AreApart, IsMainKind, Written, link_of, table_of, tables_written}
+use Rattle.otap_checks.specs.Links.{links_of}
+use Rattle.otap_checks.specs.Written.{AreApart, IsMainKind, Written, table_of, tables_written}
 use Rattle.otap_checks.proofs.NamedWritten.{kind_of, written_named}
 
 -- the kinds of a signal are those of its table

@@ -15,7 +15,6 @@ use Rattle.cbor_values.specs.Values.{value_of}
 use Rattle.cbor_values.specs.Weighing.{nesting_of, weighed}
 use Rattle.cbor_values.proofs.Told.{refusal_told}
 use Rattle.otap_cells.specs.declared.ids.IdFault.TheVariants as fault
-use Rattle.otap_cells.specs.declared.payload.Kind.{Kind}
 use Rattle.otap_cells.specs.Cells.{Cell, bytes_in}
 use Rattle.otap_cells.specs.Cells as cell
 use Rattle.otap_cells.specs.Columns.{is_id_at, name_at, width_of}
@@ -37,13 +36,12 @@ use Rattle.otap_attrs.proofs.ValueFaults.{nested_is_fine, map_is_fine, array_is_
 use Rattle.otap_attrs.proofs.ValueLaws.{flat_is_fine}
 use Rattle.otap_checks.specs.declared.links.TableLink.{TableLink}
 use Rattle.otap_checks.specs.declared.links.Parents.{Parents}
-use Rattle.otap_checks.specs.Deciding.{CleanOrWrong, HasByteCells, HaveByteCells}
+use Rattle.otap_checks.specs.Deciding.{CleanOrWrong, HasByteCells}
 use Rattle.otap_attrs.specs.Defects.{OrphanIn, WrongValue}
 use Rattle.otap_checks.specs.IdDefects.{PastType, Duplicate, Orphan, Some_column, DuplicateOf, OrphanOf, WrongIn, IdDefect}
 use Rattle.otap_checks.specs.Given.{AreGiven, IsGiven}
 use Rattle.otap_checks.specs.Links.{links_of}
 use Rattle.otap_checks.specs.Reading.{ResourcesDiffer, ScopesDiffer, Disagrees}
-use Rattle.otap_checks.specs.ValueDefects.{HasFineValues}
 use Rattle.otap_checks.proofs.Decided.{twice_or_not, orphan_or_not, differ_or_not}
 use Rattle.otap_checks.proofs.GivenColumns.{nothing_wrong, one_given}
 
@@ -262,13 +260,6 @@ module _ (t : Table) (column : ℕ) (cells : HasByteCells t) where
     | inl fine ↦ inl (λ wrong (bad : WrongValue t column wrong). fine bad.row bad.there wrong bad.is)
     | inr (row, there, wrong, is) ↦ inr (wrong, record { row = row; there = there; is = is })
   ]
-
--- nothing is wrong with the values of a table of attributes, or something is
-abbrev pub AreDecided : List Table → Kind → Type 0
-AreDecided tables kind = HasFineValues tables kind ⊎ ((wrong : RowRefusal) × WrongValue (table_named kind tables) 2 wrong)
-
-pub attributes_clean_or_wrong : (tables : List Table) → HaveByteCells tables → (kind : Kind) → AreDecided tables kind
-attributes_clean_or_wrong tables octets kind = values_clean_or_wrong (table_named kind tables) 2 (octets kind)
 
 -- ---- rows of one id
 

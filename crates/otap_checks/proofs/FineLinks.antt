@@ -1,5 +1,5 @@
 -- Nothing is wrong with the ids of written tables, where the ids of their parents stand in another table.
-use Rattle.std.proofs.Common.{◌≡◌, ℕ, ◌<◌, ◌≤◌, ◌^◌, true, List, length, Option, Some, refl, sym, subst}
+use Rattle.std.proofs.Common.{◌≡◌, ℕ, ◌<◌, ◌≤◌, ◌^◌, true, List, length, Option, Some, refl}
 use Rattle.std.specs.Prelude.{Contains}
 use Rattle.std.specs.List.{flat_map}
 use Rattle.otlp_model.specs.declared.value.Pair.{Pair}
@@ -18,7 +18,6 @@ use Rattle.otap_groups.proofs.PartTables as parts_in
 use Rattle.otap_groups.proofs.StoredRows.{part_ids_of, part_parents_of}
 use Rattle.otap_attrs.specs.declared.refusal.RowRefusal.{RowRefusal}
 use Rattle.otap_attrs.specs.Tables.{attribute_table}
-use Rattle.otap_checks.specs.declared.links.TableLink.{TableLink}
 use Rattle.otap_attrs.specs.Defects.{OrphanIn}
 use Rattle.otap_checks.specs.IdDefects.{WrongIn}
 use Rattle.otap_checks.specs.Given.{AreGiven, IsGiven}
@@ -75,10 +74,3 @@ module _ {C : Type 0} (tables : List Table) (kind of : Kind) (at : ℕ) (cells_o
       (columns.own_once t (Some 0) 0 (ids_of cells_of lists) refl own (part_once cells_of lists))
       (no_orphan tables t (Some (record { column = 1; of = of; at = at })) (record { column = 1; of = of; at = at })
       (parts_in.parents_of cells_of lists) known refl above are part_known)
-
--- what is wrong with the table of a link, where the link is this one and the table that one
-pub settle : (tables : List Table) (link here : TableLink) (kind : Kind) (t : Table) (wrong : RowRefusal) → here ≡ link → link.kind ≡ kind → table_named here.kind tables ≡ t
-    → (WrongIn tables t here wrong → ⊥) → WrongIn tables (table_named kind tables) link wrong → ⊥
-settle tables link here kind t wrong same names named fine is =
-    fine (subst (λ (t : Table). WrongIn tables t here wrong) named (subst (λ (link : TableLink). WrongIn tables (table_named link.kind tables) link wrong) (sym same)
-    (subst (λ (kind : Kind). WrongIn tables (table_named kind tables) link wrong) (sym names) is)))

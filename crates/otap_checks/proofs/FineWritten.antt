@@ -1,21 +1,17 @@
 -- Nothing is wrong with the ids of what is written.
-use Rattle.std.proofs.Common.{◌≡◌, ◌∙◌, ℕ, zero, suc, ◌<◌, ◌≤◌, ◌^◌, true, codes, List, [], ◌∷◌, get_or, length, map, Option, Some, None, refl, sym, ap, subst, arith, inl, inr}
+use Rattle.std.proofs.Common.{◌≡◌, ◌∙◌, ℕ, zero, suc, ◌<◌, ◌≤◌, ◌^◌, List, [], ◌∷◌, get_or, length, map, Option, Some, refl, sym, ap, subst, arith, inl, inr}
 use Rattle.std.specs.Prelude.{All, Contains, ◌⊎◌}
 use Rattle.std.specs.List.{flat_map}
 use Rattle.std.proofs.lemmas.List.Elements.{All-nil, All-cons}
 use Rattle.otlp_model.specs.declared.groups.ResourceGroup.{ResourceGroup}
 use Rattle.otlp_model.specs.declared.request.Signal.{Signal}
-use Rattle.otlp_model.specs.declared.value.Pair.{Pair}
 use Rattle.otap_cells.specs.declared.payload.Kind.{Kind}
 use Rattle.otap_cells.specs.Cells.{Cell}
-use Rattle.otap_cells.specs.ColumnIds.{HasNullParent}
-use Rattle.otap_cells.specs.Columns.{is_id_at, name_at}
 use Rattle.otap_cells.specs.GivenIds.{HasIds}
 use Rattle.otap_cells.specs.Named.{table_named}
 use Rattle.otap_cells.specs.Tables.{Table}
-use Rattle.otap_groups.specs.Flat.{flat_items, items_of, numbered_rows, resources_of, scopes_of}
+use Rattle.otap_groups.specs.Flat.{flat_items, items_of, numbered_rows}
 use Rattle.otap_groups.specs.Disagree.{Disagree}
-use Rattle.otap_groups.specs.Kinds.{IsMain}
 use Rattle.otap_groups.specs.Rows.{MainRow}
 use Rattle.otap_groups.specs.Stored.{main_table, part_table}
 use Rattle.otap_groups.proofs.GroupsApart.{item_there, own_once, resource_there, rows_agree, scope_there}
@@ -29,7 +25,7 @@ use Rattle.otap_checks.specs.Links.{items, links_of}
 use Rattle.otap_checks.specs.Reading.{Disagrees}
 use Rattle.otap_checks.proofs.FineLinks.{fine_attributes, fine_parts}
 use Rattle.otap_checks.proofs.GivenColumns.{nothing_wrong, own_once as once_in_column}
-use Rattle.otap_checks.specs.Written.{AreApart, AreSound, Content, HasParentsIn, HaveParentsIn, IsBelowMain, IsBelowParts, IsMainKind, IsPartKind, IsSound, IsSoundBy, Pairs, Parts, Written, count_at, link_by, link_of, parents_in, table_by, table_of, tables_written}
+use Rattle.otap_checks.specs.Written.{AreApart, AreSound, Content, HasParentsIn, HaveParentsIn, IsMainKind, IsSound, IsSoundBy, Pairs, Parts, Written, count_at, link_by, link_of, parents_in, table_by, table_of, tables_written}
 use Rattle.otap_checks.proofs.RowsAgain.{main_rows_again}
 use Rattle.otap_checks.proofs.TableIds.{disagree_too}
 use Rattle.otap_checks.proofs.NamedWritten.{main_named, written_named}

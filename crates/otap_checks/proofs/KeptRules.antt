@@ -1,5 +1,5 @@
 -- Where a signal's rules are kept, one after the other, nothing is wrong with its rows.
-use Rattle.std.proofs.Common.{◌≡◌, ℕ, zero, suc, ◌<◌, List, [], ◌∷◌, get_or, length, refl, subst, arith, inr}
+use Rattle.std.proofs.Common.{List, [], ◌∷◌, refl, inr}
 use Rattle.std.specs.Prelude.{All, Contains}
 use Rattle.std.proofs.lemmas.List.Elements.{All-cons, All-nil}
 use Rattle.otlp_model.specs.declared.request.Signal.{Signal}

@@ -5,7 +5,6 @@ use Rattle.std.specs.Str.{bytes_eq}
 use Rattle.std.proofs.lemmas.Bool.{false≢true}
 use Rattle.otap_cells.specs.declared.payload.Kind.TheVariants as table
 use Rattle.otap_cells.specs.Columns.{logs, metrics, spans}
-use Rattle.otap_cells.specs.Columns.{is_id_at}
 use Rattle.otap_groups.specs.Kinds.{IsMain}
 use Rattle.otap_groups.proofs.IdColumns.{each_id}
 use Rattle.otap_checks.specs.Written.{IsMainKind}

@@ -10,12 +10,10 @@ use Rattle.otap_cells.specs.Tables.{Table}
 use Rattle.otap_cells.proofs.KindNamed.{id_named}
 use Rattle.otap_groups.specs.Kinds.{IsMain, IsPart}
 use Rattle.otap_groups.specs.Rows.{child_rows}
-use Rattle.otap_attrs.specs.declared.refusal.RowRefusal.{RowRefusal}
-use Rattle.otap_attrs.specs.Defects.{WrongValue}
 use Rattle.otap_attrs.specs.Index.{pairs_in}
 use Rattle.otap_attrs.proofs.TablePairs.{attribute_id}
 use Rattle.otap_checks.specs.Reading.{HasAllIds, main_rows_in, part_rows_in}
-use Rattle.otap_checks.proofs.ReadAlike.{all_ids_named, ids_same, main_rows_same, pairs_same, reads_named, value_told}
+use Rattle.otap_checks.proofs.ReadAlike.{all_ids_named, ids_same, main_rows_same, pairs_same, reads_named}
 
 module _ (tables others : List Table) (reads : ReadAs tables others) (given : All HasAllIds others) where
   pub pairs_alike : (kind : Kind) → has_attributes kind ≡ true → (parent : Option ℕ) → pairs_in (table_named kind tables) parent ≡ pairs_in (table_named kind others) parent
@@ -35,6 +33,3 @@ module _ (tables others : List Table) (reads : ReadAs tables others) (given : Al
   main_alike kind main =
       main_rows_same (table_named kind tables) (table_named kind others) (reads_named tables others kind reads) (all_ids_named others kind given)
       (id_named kind 0 main.id others) (id_named kind 1 main.resource_id others) (id_named kind 4 main.scope_id others)
-
-  pub value_alike : (kind : Kind) (column : ℕ) (wrong : RowRefusal) → WrongValue (table_named kind tables) column wrong → WrongValue (table_named kind others) column wrong
-  value_alike kind column wrong = value_told (table_named kind tables) (table_named kind others) (reads_named tables others kind reads) column wrong

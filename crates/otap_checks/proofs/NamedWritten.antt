@@ -1,8 +1,7 @@
 -- The table of a kind among those that are written.
-use Rattle.std.proofs.Common.{◌≡◌, ◌∙◌, ℕ, zero, suc, ◌<◌, true, false, Bool, List, [], ◌∷◌, get_or, length, map, refl, sym, ap, subst, arith, inl, inr}
-use Rattle.std.specs.Prelude.{Contains, ◌==◌, ◌&&◌, not}
-use Rattle.std.specs.List.{flat_map}
-use Rattle.std.proofs.lemmas.Bool.{and_parts, not-true, cases_Bool}
+use Rattle.std.proofs.Common.{◌≡◌, ◌∙◌, ℕ, zero, suc, ◌<◌, true, false, List, [], ◌∷◌, get_or, length, map, refl, sym, ap, subst, arith}
+use Rattle.std.specs.Prelude.{Contains, ◌==◌, not}
+use Rattle.std.proofs.lemmas.Bool.{and_parts, not-true}
 use Rattle.std.proofs.lemmas.Bool.Decides.{nat_tests}
 use Rattle.otlp_model.specs.declared.groups.ResourceGroup.{ResourceGroup}
 use Rattle.otap_cells.specs.declared.payload.Kind.{Kind}
@@ -11,8 +10,8 @@ use Rattle.otap_cells.specs.Named.{table_named}
 use Rattle.otap_cells.specs.Payload.{is_kind, number_of}
 use Rattle.otap_cells.specs.Tables.{Table, profile_table}
 use Rattle.otap_groups.specs.Stored.{main_table, part_table}
-use Rattle.otap_attrs.specs.Tables.{apart, attribute_table, missing, where_rows}
-use Rattle.otap_attrs.proofs.FilledTables.{Formed, filled, filled_named, numbers}
+use Rattle.otap_attrs.specs.Tables.{apart, attribute_table, missing}
+use Rattle.otap_attrs.proofs.FilledTables.{Formed, filled_named, numbers}
 use Rattle.otap_checks.specs.Written.{AreApart, Content, Written, Parts, Pairs, table_by, table_of, tables_written}
 
 missing_at : (n : ℕ) (ts : List Table) (k : ℕ) (t : Table) → missing n (numbers ts) ≡ true → k < length ts → get_or ts k t ≡ t → (n == number_of t.kind) ≡ false

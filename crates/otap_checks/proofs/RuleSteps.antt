@@ -1,19 +1,13 @@
 -- Rules one after the other.
-use Rattle.std.proofs.Common.{◌≡◌, ◌∙◌, ℕ, zero, suc, ◌+◌, ◌<◌, List, [], ◌∷◌, get_or, length, refl, sym, ap, subst, arith, inl, inr}
-use Rattle.std.specs.Prelude.{All, Contains}
+use Rattle.std.proofs.Common.{◌≡◌, ◌∙◌, ℕ, ◌+◌, ◌<◌, List, [], get_or, length, sym, ap, subst, arith, inl, inr}
 use Rattle.std.proofs.lemmas.Bool.{cases_eq}
 use Rattle.std.proofs.lemmas.List.{get_or_default}
 use Rattle.otap_cells.specs.declared.payload.Kind.{Kind}
-use Rattle.otap_cells.specs.Named.{table_named}
 use Rattle.otap_cells.specs.Tables.{Table, profile_table}
-use Rattle.otap_attrs.specs.declared.refusal.RowRefusal.{RowRefusal}
-use Rattle.otap_attrs.specs.declared.refusal.CheckRefusal.{CheckRefusal}
-use Rattle.otap_attrs.specs.declared.refusal.CheckRefusal.TheVariants as check
 use Rattle.otap_checks.specs.Reading.{Disagrees}
-use Rattle.otap_checks.specs.Refusing.{RefusesCheck}
 use Rattle.otap_checks.proofs.MissingRows.{none_differ}
 use Rattle.otap_checks.specs.declared.rules.CellRule.{CellRule}
-use Rattle.otap_checks.specs.Ruled.{BreaksOne, BreaksRule, Keeps}
+use Rattle.otap_checks.specs.Ruled.{Keeps}
 
 pub one_more : (tables : List Table) (rules : List CellRule) (place : ℕ) (e : CellRule) → place < length rules
     → ((k : ℕ) (d : CellRule) → k < place → Keeps tables (get_or rules k d)) → Keeps tables (get_or rules place e)

@@ -1,11 +1,10 @@
 -- Nothing is wrong with the rows of a signal's tables, or something is.
-use Rattle.std.proofs.Common.{◌≡◌, ◌∙◌, ℕ, zero, suc, ◌+◌, ◌<◌, ◌==◌, Bool, true, false, List, length, Option, Some, None, refl, sym, ap, subst, arith, inl, inr}
+use Rattle.std.proofs.Common.{◌≡◌, ℕ, zero, suc, ◌+◌, ◌<◌, ◌==◌, Bool, true, false, List, length, Option, Some, None, refl, sym, subst, arith, inl, inr}
 use Rattle.std.specs.Prelude.{Contains, ◌⊎◌}
 use Rattle.std.proofs.lemmas.Bool.{cases_eq, false≢true}
 use Rattle.lists.proofs.Every.{some_or_none}
 use Rattle.lists.proofs.Contained.{number_or_not}
 use Rattle.otlp_model.specs.declared.request.Signal.{Signal}
-use Rattle.otap_cells.specs.declared.payload.Kind.{Kind}
 use Rattle.otap_cells.specs.declared.payload.Kind.TheVariants as table
 use Rattle.otap_cells.specs.Cells.{Cell, null, number, bits, flag, bytes}
 use Rattle.otap_cells.specs.GivenIds.{HasIds}

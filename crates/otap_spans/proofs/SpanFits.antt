@@ -69,10 +69,6 @@ link_own link real is = (
 
 -- ---- the columns of ids, and the cells after them
 
-pub span_ids : (P : ℕ → Type 0) → P 0 → P 1 → P 4 → (column : ℕ) → is_id_at table.Spans column ≡ true → P column
-unfolding spans
-span_ids P own resource scope column is = each_id P table.Spans (own, (resource, (scope, tt))) column is
-
 pub event_ids : (P : ℕ → Type 0) → P 0 → P 1 → (column : ℕ) → is_id_at table.SpanEvents column ≡ true → P column
 unfolding span_events
 event_ids P own parent column is = each_id P table.SpanEvents (own, (parent, tt)) column is

@@ -1,4 +1,4 @@
-use Rattle.std.proofs.Common.{◌∙◌, List, drop, length, map, sym, ap, subst}
+use Rattle.std.proofs.Common.{◌∙◌, List, drop, length, sym, ap}
 use Rattle.std.proofs.lemmas.List.{length-map}
 use Rattle.otap_cells.specs.Cells.{Cell}
 use Rattle.otap_cells.specs.GivenIds.{HasIds}
