@@ -13,7 +13,7 @@ use Rattle.otap_cells.specs.Columns.{ColumnSpec, base_at, columns_of, width_of, 
 use Rattle.otap_cells.specs.Tables.{Table}
 use Rattle.otap_cells.specs.Weights.{row_weight_limit, weight_of_table}
 use Rattle.otap_columns.specs.Limits.{row_limit}
-use Rattle.otap_columns.specs.declared.writer_groups.Group as code
+use Rattle.otap_columns.specs.declared.writer.groups.Group as code
 use Rattle.otap_columns.specs.Groups.{Member, Group, Alone, Under, grouped}
 use Rattle.otap_columns.specs.BuiltCells.{HasRoom, row_most, column_weight, column_most, columns_most, group_parts, group_most}
 use Rattle.otap_columns.specs.WrittenGroups.{group_in}

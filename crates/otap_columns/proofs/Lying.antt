@@ -5,7 +5,7 @@ use Rattle.std.proofs.lemmas.List.{drop-append-le, take_all, length-take, get_or
 use Rattle.std.proofs.lemmas.List.Sums.{sum_by-cons}
 use Rattle.lists.proofs.Parts.{part_stays}
 use Rattle.arrow_buffers.specs.Columns.{cell_len}
-use Rattle.otap_columns.specs.declared.ends.End.{End}
+use Rattle.otap_columns.specs.declared.reader.ends.End.{End}
 use Rattle.otap_columns.specs.Dictionaries.{value_weight}
 use Rattle.otap_columns.specs.Ends.{value_between, values_by_ends, start_of, IsEnd, AreEnds, bytes_or_none}
 

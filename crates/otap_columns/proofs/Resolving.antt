@@ -10,7 +10,7 @@ use Rattle.otap_cells.specs.declared.payload.Kind.{Kind}
 use Rattle.otap_cells.specs.Columns.{base_at, width_of}
 use Rattle.otap_cells.specs.declared.profile.Base.{Base}
 use Rattle.otap_cells.specs.Tables.{Table, IsTable, cell_in}
-use Rattle.otap_columns.specs.declared.resolved.ResolvedColumn.{ResolvedColumn}
+use Rattle.otap_columns.specs.declared.reader.resolved.ResolvedColumn.{ResolvedColumn}
 use Rattle.otap_columns.specs.Known.{place_at, columns_fit, stored_cell}
 use Rattle.otap_columns.specs.Resolved.{FitsBase, resolved_value, IsResolved, IsFieldColumn, IsColumn, ShowsColumn}
 use Rattle.otap_columns.specs.Steps.{FitsIn}

@@ -7,8 +7,8 @@ use Rattle.std.proofs.lemmas.Grind.{flat_map-append}
 use Rattle.arrow_schema.specs.Branches.{Leaf, Branch, leaf_field, branch_field, branch_fields}
 use Rattle.arrow_schema.specs.declared.spec.FieldSpec.{FieldSpec}
 use Rattle.otap_cells.specs.declared.payload.Kind.{Kind}
-use Rattle.otap_columns.specs.declared.writer_groups.Group.{Group}
-use Rattle.otap_columns.specs.declared.writer_groups.Member.{Member}
+use Rattle.otap_columns.specs.declared.writer.groups.Group.{Group}
+use Rattle.otap_columns.specs.declared.writer.groups.Member.{Member}
 use Rattle.otap_columns.specs.Groups as groups
 use Rattle.otap_columns.specs.Schemas.{Forms, is_present, leaf_in, members_there, branches_in}
 use Rattle.otap_columns.specs.WrittenGroups.{member_in, group_in}

@@ -19,8 +19,8 @@ use Rattle.otap_dicts.specs.Limits.{narrow_limit, value_limit}
 use Rattle.otap_columns.specs.Limits.{row_limit, rows_rest}
 use Rattle.otap_columns.specs.declared.forms.ColumnForm.{ColumnForm}
 use Rattle.otap_columns.specs.declared.forms.ColumnForm.TheVariants as form
-use Rattle.otap_columns.specs.declared.writer_cells.CellBytes.{CellBytes}
-use Rattle.otap_columns.specs.declared.writer_cells.CellBytes.TheVariants as bytes
+use Rattle.otap_columns.specs.declared.writer.cells.CellBytes.{CellBytes}
+use Rattle.otap_columns.specs.declared.writer.cells.CellBytes.TheVariants as bytes
 use Rattle.otap_columns.specs.Groups.{Member, Group, Alone, Under}
 use Rattle.otap_columns.specs.Observed.{id_width}
 

@@ -1,6 +1,6 @@
 -- Where the values of a dictionary lie in its bytes, in the words of private contracts.
 use Rattle.std.specs.Prelude.{◌≡◌, ℕ, zero, suc, ◌-◌, ◌≤◌, false, List, [], ◌∷◌, take, drop, Option, None, Some, if◌then◌else◌}
-use Rattle.otap_columns.specs.declared.ends.End.{End}
+use Rattle.otap_columns.specs.declared.reader.ends.End.{End}
 
 -- the value between two places, if it is there
 abbrev pub value_between : List ℕ → ℕ → End → Option (List ℕ)

@@ -1,7 +1,7 @@
 -- What a dictionary keeps: words of private contracts.
 use Rattle.std.specs.Prelude.{◌≤◌, length}
 use Rattle.otap_columns.specs.Limits.{dictionary_limit}
-use Rattle.otap_columns.specs.declared.dictionary.Dictionary.TheInside as dictionary
+use Rattle.otap_columns.specs.declared.reader.dictionary.Dictionary.TheInside as dictionary
 use Rattle.otap_columns.specs.Dictionaries.{DictionaryIn}
 use Rattle.otap_columns.specs.Limits.{kept_limit}
 use Rattle.otap_columns.specs.Ends.{values_by_ends, AreEnds}

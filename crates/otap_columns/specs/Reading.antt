@@ -14,8 +14,8 @@ use Rattle.arrow_arrays.specs.Arrays.{arrays_of, arrays_check, HasFault}
 use Rattle.arrow_arrays.specs.Cells.{place_of_values}
 use Rattle.arrow_arrays.specs.Faults.{IsArrayFault}
 use Rattle.otap_cells.specs.declared.payload.Kind.{Kind}
-use Rattle.otap_columns.specs.declared.messages.AnyBatch.{AnyBatch}
-use Rattle.otap_columns.specs.declared.messages.AnyBatch.TheVariants as any
+use Rattle.otap_columns.specs.declared.reader.messages.AnyBatch.{AnyBatch}
+use Rattle.otap_columns.specs.declared.reader.messages.AnyBatch.TheVariants as any
 use Rattle.otap_columns.specs.declared.refusal.ColumnRefusal.{ColumnRefusal}
 use Rattle.otap_columns.specs.declared.refusal.ColumnRefusal.TheVariants.{Order, Ipc, Column, Buffers, BadIndex, Memory, DictionarySize}
 use Rattle.otap_columns.specs.Dictionaries.{empty_dictionaries, all_grown, DictionaryIn, has_id, grown, grown_if, is_too_large}

@@ -3,8 +3,8 @@ use Rattle.std.specs.Prelude.{◌≡◌, ℕ, ◌<◌, ◌≤◌, Ok, length, ge
 use Rattle.arrow_arrays.specs.Arrays.{arrays_check}
 use Rattle.otap_cells.specs.Columns.{width_of}
 use Rattle.otap_cells.specs.Tables.{Table, IsTable}
-use Rattle.otap_columns.specs.declared.resolved.ResolvedColumn.{ResolvedColumn}
-use Rattle.otap_columns.specs.declared.view.RowsView.TheInside as rows
+use Rattle.otap_columns.specs.declared.reader.resolved.ResolvedColumn.{ResolvedColumn}
+use Rattle.otap_columns.specs.declared.reader.view.RowsView.TheInside as rows
 use Rattle.otap_columns.specs.Resolved.{IsColumn}
 use Rattle.otap_columns.specs.Substreams.{table_of_batch}
 

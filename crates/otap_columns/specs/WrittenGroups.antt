@@ -3,9 +3,9 @@ use Rattle.std.specs.Prelude.{ℕ, ◌<◌, List, map, All}
 use Rattle.std.specs.List.{slice_index_or}
 use Rattle.otap_columns.specs.declared.forms.ColumnForm.{ColumnForm}
 use Rattle.otap_columns.specs.declared.forms.ColumnForm.TheVariants as form
-use Rattle.otap_columns.specs.declared.writer_groups.Group.{Group}
-use Rattle.otap_columns.specs.declared.writer_groups.Group.TheVariants as own
-use Rattle.otap_columns.specs.declared.writer_groups.Member.{Member}
+use Rattle.otap_columns.specs.declared.writer.groups.Group.{Group}
+use Rattle.otap_columns.specs.declared.writer.groups.Group.TheVariants as own
+use Rattle.otap_columns.specs.declared.writer.groups.Member.{Member}
 use Rattle.otap_columns.specs.Groups as groups
 use Rattle.otap_columns.specs.Schemas.{Forms}
 

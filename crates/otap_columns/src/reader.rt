@@ -3,12 +3,21 @@ ghost use Rattle.std.specs.Option.{option_copied};
 ghost use Rattle.arrow_ipc.specs.declared.messages.IpcMessage.{IpcMessage};
 ghost use Rattle.arrow_ipc.specs.Fronts.{front_of};
 
-use crate::dictionary::Dictionary;
-use crate::messages::{self, AnyBatch};
+pub(crate) mod cells;
+pub(crate) mod dictionaries;
+pub(crate) mod dictionary;
+pub(crate) mod ends;
+pub(crate) mod indexes;
+pub(crate) mod known;
+pub(crate) mod messages;
+pub(crate) mod resolved;
+pub(crate) mod view;
+
+use crate::reader::dictionary::Dictionary;
+use crate::reader::messages::AnyBatch;
+use crate::reader::resolved::ResolvedColumn;
+use crate::reader::view::RowsView;
 use crate::refusal::ColumnRefusal;
-use crate::resolved::ResolvedColumn;
-use crate::view::RowsView;
-use crate::{dictionaries, indexes, known};
 use arrow_arrays::{ArraySpec, Arrays};
 use arrow_ipc::{BatchView, Messages, rows_at};
 use arrow_schema::SchemaSpec;

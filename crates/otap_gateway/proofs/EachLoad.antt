@@ -1,10 +1,10 @@
 -- Each list of words is that of a job over a capture, that of a load, or not understood.
 use Rattle.std.proofs.Common.{◌≡◌, ◌⊎◌, inl, inr, ℕ, zero, suc, ◌<◌, ◌≤◌, List, ap, subst, arith}
 use Rattle.otlp_load.specs.Load.{requests_at_most}
-use Rattle.otap_gateway.specs.declared.command.Command.{Command}
+use Rattle.otap_gateway.specs.declared.jobs.command.Command.{Command}
 use Rattle.otlp_model.specs.declared.request.Signal.{Signal}
 use Rattle.otlp_model.specs.declared.request.Signal.TheVariants as signals
-use Rattle.otap_gateway.specs.declared.load.Load.{Load}
+use Rattle.otap_gateway.specs.declared.runs.load.Load.{Load}
 use Rattle.otap_gateway.specs.Commands.{IsNoCommand, words_of}
 use Rattle.otap_gateway.specs.Loads.{IsLoad, IsNoLoad, IsNotUnderstood, load_words}
 use Rattle.otap_gateway.proofs.EachWords.{each_words, same_words}

@@ -7,8 +7,8 @@ use Rattle.std.specs.Str.{bytes_eq}
 use lib.Pointwise.{pointwise}
 use Rattle.otlp_model.specs.declared.request.Signal.{Signal}
 use Rattle.otlp_model.specs.declared.request.Signal.TheVariants.{Traces, Logs, Metrics}
-use Rattle.otap_gateway.specs.declared.command.Command.{Command}
-use Rattle.otap_gateway.specs.declared.command.Command.TheVariants as command
+use Rattle.otap_gateway.specs.declared.jobs.command.Command.{Command}
+use Rattle.otap_gateway.specs.declared.jobs.command.Command.TheVariants as command
 use Rattle.otap_gateway.specs.Commands.{IsNoCommand, words_of}
 
 -- the words are those of this job

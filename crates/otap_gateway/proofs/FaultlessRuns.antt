@@ -8,10 +8,10 @@ use Rattle.otap_capture.specs.declared.frame.Damage.{Damage}
 use Rattle.otap_capture.specs.Capture.{Frame, IsCapture}
 use Rattle.otap_capture.specs.Outside.{Rose}
 use Rattle.otap_capture.proofs.OneCapture.{one_capture}
-use Rattle.otap_gateway.specs.declared.command.Command.{Command}
-use Rattle.otap_gateway.specs.declared.stop.Stop.{Stop}
-use Rattle.otap_gateway.specs.declared.stop.Stop.TheVariants as stop
-use Rattle.otap_gateway.specs.declared.stop.Tally.{Tally}
+use Rattle.otap_gateway.specs.declared.jobs.command.Command.{Command}
+use Rattle.otap_gateway.specs.declared.runs.stop.Stop.{Stop}
+use Rattle.otap_gateway.specs.declared.runs.stop.Stop.TheVariants as stop
+use Rattle.otap_gateway.specs.declared.runs.stop.Tally.{Tally}
 use Rattle.otap_gateway.specs.Commands.{ReplyOf}
 use Rattle.otap_gateway.specs.Lines.{end_text}
 use Rattle.otap_gateway.specs.Reply.{err_text}

@@ -4,11 +4,11 @@ use Rattle.std.specs.Prelude.{All, codes}
 use Rattle.std.specs.Fmt.{decimal}
 use Rattle.std.proofs.lemmas.Fmt.{decimal_injective}
 use Rattle.otap_capture.specs.Outside.{Rose}
-use Rattle.otap_gateway.specs.declared.command.Command.TheVariants as command
+use Rattle.otap_gateway.specs.declared.jobs.command.Command.TheVariants as command
 use Rattle.otlp_model.specs.declared.request.Signal.{Signal}
-use Rattle.otap_gateway.specs.declared.load.Load.{Load}
-use Rattle.otap_gateway.specs.declared.stop.Stop.{Stop}
-use Rattle.otap_gateway.specs.declared.stop.Stop.TheVariants as stop
+use Rattle.otap_gateway.specs.declared.runs.load.Load.{Load}
+use Rattle.otap_gateway.specs.declared.runs.stop.Stop.{Stop}
+use Rattle.otap_gateway.specs.declared.runs.stop.Stop.TheVariants as stop
 use Rattle.otap_gateway.specs.Commands.{signal_word}
 use Rattle.otap_gateway.specs.Loads.{IsLoad, LeavesLoad, RunsLoad, WritesLoad, load_status, load_words}
 use Rattle.otap_gateway.specs.Runs.{Sinks, SinkFaults}

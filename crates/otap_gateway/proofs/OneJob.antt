@@ -4,10 +4,10 @@ use Rattle.std.specs.Prelude.{find}
 use Rattle.std.specs.Str.{bytes_eq}
 use lib.Pointwise.{pointwise}
 use Rattle.otlp_model.specs.declared.request.Signal.TheVariants.{Traces, Logs, Metrics}
-use Rattle.otap_gateway.specs.declared.command.Command.{Command}
-use Rattle.otap_gateway.specs.declared.command.Command.TheVariants.{List as Listing, Tidy, Encode, Schema, Show, Decode, Status, Replay}
-use Rattle.otap_gateway.specs.declared.stop.Stop.{Stop}
-use Rattle.otap_gateway.specs.declared.stop.Tally.{Tally}
+use Rattle.otap_gateway.specs.declared.jobs.command.Command.{Command}
+use Rattle.otap_gateway.specs.declared.jobs.command.Command.TheVariants.{List as Listing, Tidy, Encode, Schema, Show, Decode, Status, Replay}
+use Rattle.otap_gateway.specs.declared.runs.stop.Stop.{Stop}
+use Rattle.otap_gateway.specs.declared.runs.stop.Tally.{Tally}
 use Rattle.otap_gateway.specs.Commands.{words_of}
 use Rattle.otap_gateway.specs.Runs.{World, Leaves, Stops, CountsFaults, Runs, exit_status}
 

@@ -17,14 +17,14 @@ use Rattle.otap_capture.specs.Deciding.{IsOpen}
 use Rattle.otap_capture.specs.Reading.{Reading, IsWaiting, TakesFrame, ahead}
 use Rattle.otap_capture.proofs.Framing.{are_frames-push}
 use Rattle.otap_capture.proofs.Known.{front_more, front_of_first, front_of_all}
-use Rattle.otap_gateway.specs.declared.command.Command.{Command}
+use Rattle.otap_gateway.specs.declared.jobs.command.Command.{Command}
 use Rattle.otap_gateway.specs.Commands.{ReplyOf}
 use Rattle.otap_gateway.specs.Jobs.{Rule, History}
 use Rattle.otap_gateway.specs.Lines.{words_line}
 use Rattle.otap_gateway.specs.Reply.{ReplyText, out_text, err_text, any_refused}
-use Rattle.otap_gateway.specs.declared.stop.Stop.{Stop}
-use Rattle.otap_gateway.specs.declared.stop.Stop.TheVariants as stop
-use Rattle.otap_gateway.specs.declared.drive.Handled.{Handled}
+use Rattle.otap_gateway.specs.declared.runs.stop.Stop.{Stop}
+use Rattle.otap_gateway.specs.declared.runs.stop.Stop.TheVariants as stop
+use Rattle.otap_gateway.specs.declared.runs.drive.Handled.{Handled}
 use Rattle.otap_gateway.specs.Runs.{Sinks, World, BeginsWith, WritesAll, WritesFront, WritesTaken, Stops, LeavesLine, NoneFailed, IsFlushed, IsQuiet}
 use Rattle.otap_gateway.specs.Turns.{KeepsBoth, Settled, TurnAsks, TurnsFailing, TurnsFrame, TurnsFramePart, TurnsEnd, TurnsEndPart}
 

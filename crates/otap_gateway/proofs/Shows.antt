@@ -15,7 +15,7 @@ use Rattle.otap_consume.specs.Segments.{SegmentIn, StandsFor, HasNext, Next, Tel
 use Rattle.otap_consume.proofs.SegmentSteps.{stands_first}
 use Rattle.otap_gateway.specs.Reply.{ReplyText}
 use Rattle.otap_gateway.specs.Runs.{Sinks, BeginsWith, WritesFront}
-use Rattle.otap_gateway.specs.declared.command.Command.{Command}
+use Rattle.otap_gateway.specs.declared.jobs.command.Command.{Command}
 use Rattle.otap_gateway.specs.EncodingSteps.{HasMore}
 use Rattle.otap_gateway.specs.JobStates.{HasShown, HasTold}
 use Rattle.otap_gateway.specs.Showing.{shown}

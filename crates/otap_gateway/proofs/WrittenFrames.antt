@@ -9,7 +9,7 @@ use Rattle.otap_consume.specs.Meanings.{Meaning}
 use Rattle.otap_produce.specs.Policy.{SignalRows}
 use Rattle.otap_transit.specs.Sendings.{Sending, Sent, Reset, AreAllowed, IsAllowed, frame_sent}
 use Rattle.otlp_model.specs.declared.request.Signal.{Signal}
-use Rattle.otap_gateway.specs.declared.command.Command.TheVariants as command
+use Rattle.otap_gateway.specs.declared.jobs.command.Command.TheVariants as command
 use Rattle.otap_gateway.specs.Commands.{ReplyOf}
 use Rattle.otap_gateway.specs.Encoding.{Encoded, Puts, Refuses, Encodes, Arrives, encoded, signal_rows, sent}
 use Rattle.otap_gateway.specs.ReadBack.{IsReadAgain}

@@ -5,8 +5,8 @@ use Rattle.otap_consume.specs.Outcomes.{OutcomeAfter}
 use Rattle.otap_consume.specs.Receiving.{ReceivedAfter}
 use Rattle.otlp_model.specs.declared.request.Signal.{Signal}
 use Rattle.otlp_model.specs.declared.request.Signal.TheVariants as signals
-use Rattle.otap_gateway.specs.declared.command.Command.{Command}
-use Rattle.otap_gateway.specs.declared.command.Command.TheVariants as command
+use Rattle.otap_gateway.specs.declared.jobs.command.Command.{Command}
+use Rattle.otap_gateway.specs.declared.jobs.command.Command.TheVariants as command
 use Rattle.otap_gateway.specs.Encoding.{Encodes, encoded, signal_rows}
 use Rattle.otap_gateway.specs.Listing.{ListsFrame}
 use Rattle.otap_gateway.specs.Receptions.{decoded, statused, replayed, as_taken, meaning_of}

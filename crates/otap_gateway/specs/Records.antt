@@ -2,8 +2,8 @@
 use Rattle.std.specs.Prelude.{◌≡◌, ℕ, ℤ, List, Some}
 use Rattle.lists.specs.Payloads.{PayloadIn}
 use Rattle.arrow_ipc.specs.Faults.{Stands}
-use Rattle.otap_gateway.specs.declared.schema.RecordRefusal.{RecordRefusal}
-use Rattle.otap_gateway.specs.declared.schema.RecordRefusal.TheVariants.{Ipc, Memory}
+use Rattle.otap_gateway.specs.declared.jobs.schema.RecordRefusal.{RecordRefusal}
+use Rattle.otap_gateway.specs.declared.jobs.schema.RecordRefusal.TheVariants.{Ipc, Memory}
 use Rattle.otap_gateway.specs.Openings.{fault_name}
 use Rattle.otap_gateway.specs.Refused.{refused_batch}
 use Rattle.otap_gateway.specs.Reply.{ReplyText}

@@ -11,10 +11,10 @@ use Rattle.otap_capture.specs.declared.outside.Source.{Ghosts as SourceGhosts}
 use Rattle.otap_capture.specs.Capture.{Frame, AreFrames, IsCapture}
 use Rattle.otap_capture.specs.Deciding.{IsOpen}
 use Rattle.otap_capture.specs.Outside.{AppendsFront, Rose}
-use Rattle.otap_gateway.specs.declared.command.Command.{Command}
-use Rattle.otap_gateway.specs.declared.stop.Stop.{Stop}
-use Rattle.otap_gateway.specs.declared.stop.Stop.TheVariants as stop
-use Rattle.otap_gateway.specs.declared.stop.Tally.{Tally}
+use Rattle.otap_gateway.specs.declared.jobs.command.Command.{Command}
+use Rattle.otap_gateway.specs.declared.runs.stop.Stop.{Stop}
+use Rattle.otap_gateway.specs.declared.runs.stop.Stop.TheVariants as stop
+use Rattle.otap_gateway.specs.declared.runs.stop.Tally.{Tally}
 use Rattle.otap_gateway.specs.Commands.{ReplyOf}
 use Rattle.otap_gateway.specs.Lines.{end_text, words_line}
 use Rattle.otap_gateway.specs.Reply.{ReplyText, out_text, err_text, any_refused}

@@ -4,7 +4,7 @@ use Rattle.lists.specs.EachAfter.{EachAfter}
 use Rattle.otap_capture.specs.Capture.{Frame}
 use Rattle.otap_consume.specs.Outcomes.{Outcome, Accepted, Refused, Reset, Outcomes}
 use Rattle.otap_consume.specs.Receiving.{Received}
-use Rattle.otap_gateway.specs.declared.command.Command.TheVariants as command
+use Rattle.otap_gateway.specs.declared.jobs.command.Command.TheVariants as command
 use Rattle.otlp_model.specs.declared.request.Signal.{Signal}
 use Rattle.otap_gateway.specs.Commands.{ReplyOf}
 use Rattle.otap_gateway.specs.Receptions.{decoded, statused, replayed, as_taken, meaning_of}

@@ -13,11 +13,11 @@ use Rattle.otap_capture.specs.declared.outside.Source.{Ghosts as SourceGhosts}
 use Rattle.otap_capture.specs.Capture.{Frame}
 use Rattle.otap_capture.specs.Outside.{AppendsFront}
 use Rattle.otap_capture.specs.Reading.{Reading, IsWaiting, TakesFrame, ComesToEnd, ahead}
-use Rattle.otap_gateway.specs.declared.stop.Stop.{Stop}
-use Rattle.otap_gateway.specs.declared.stop.Stop.TheVariants as stop
-use Rattle.otap_gateway.specs.declared.drive.Handled.{Handled}
-use Rattle.otap_gateway.specs.declared.drive.Turn.{Turn}
-use Rattle.otap_gateway.specs.declared.drive.Turn.TheVariants as turn
+use Rattle.otap_gateway.specs.declared.runs.stop.Stop.{Stop}
+use Rattle.otap_gateway.specs.declared.runs.stop.Stop.TheVariants as stop
+use Rattle.otap_gateway.specs.declared.runs.drive.Handled.{Handled}
+use Rattle.otap_gateway.specs.declared.runs.drive.Turn.{Turn}
+use Rattle.otap_gateway.specs.declared.runs.drive.Turn.TheVariants as turn
 use Rattle.otap_gateway.specs.Jobs.{Rule, History, Extends}
 use Rattle.otap_gateway.specs.Lines.{end_text}
 use Rattle.otap_gateway.specs.Reply.{ReplyText}

@@ -1,5 +1,0 @@
-use Rattle.otap_columns.proofs.RowsBuilt.{rows_held}
-use Rattle.otap_columns.proofs.writer_laws.rows_are_held.Goals as goal
-
-pub returns : goal.returns
-returns c = rows_held

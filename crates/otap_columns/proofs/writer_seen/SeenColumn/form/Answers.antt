@@ -1,5 +1,0 @@
-use Rattle.otap_columns.proofs.SeenOn.{stands}
-use Rattle.otap_columns.proofs.writer_seen.SeenColumn.form.Goals as goal
-
-pub returns : goal.returns
-returns c = λ tables is. stands c.args.kind c.args.column c.args.self.now c.told.result c.told.ensures tables is

@@ -1,0 +1,7 @@
+use Rattle.otap_gateway.specs.Commands.{ReplyOf}
+use Rattle.otap_gateway.proofs.Extending.{extends_ok}
+use Rattle.otap_gateway.proofs.jobs.list.ListerJob.step.Goals as goal
+
+pub returns-clause-next : goal.returns-clause-next
+unfolding ReplyOf
+returns-clause-next c = extends_ok _ _ _ _ _ _ _ c.list_frame.ensures (λ reply lists frames replies count stands. (rw count lists, tt))

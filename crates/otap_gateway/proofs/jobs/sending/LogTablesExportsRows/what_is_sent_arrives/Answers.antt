@@ -1,0 +1,12 @@
+use Rattle.otap_produce.specs.LogRows.{logs_rows}
+use Rattle.otap_gateway.proofs.jobs.sending.LogTablesExportsRows.what_is_sent_arrives.Goals as goal
+
+pub returns : goal.returns
+returns c sendings allowed =
+    let faithful = c.logs_are_faithful.ensures in
+    let some = c.what_is_sent_arrives.ensures.some logs_rows sendings faithful allowed in
+    record {
+      received = some.0;
+      some = some.1;
+      all = λ received are. c.what_is_sent_arrives.ensures.all logs_rows sendings received faithful allowed are;
+    }

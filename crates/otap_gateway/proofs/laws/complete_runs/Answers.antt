@@ -1,5 +1,0 @@
-use Rattle.otap_gateway.proofs.FaultlessRuns.{complete_runs}
-use Rattle.otap_gateway.proofs.laws.complete_runs.Goals as goal
-
-pub returns : goal.returns
-returns c = complete_runs

@@ -1,5 +1,0 @@
-use Rattle.otap_gateway.proofs.ToldAll.{from_the_stage_on}
-use Rattle.otap_gateway.proofs.reception_laws.status_says_the_line.Goals as goal
-
-pub returns : goal.returns
-returns c = from_the_stage_on

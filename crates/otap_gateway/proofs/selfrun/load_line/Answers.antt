@@ -1,5 +1,0 @@
-use Rattle.std.proofs.Common.{append_assoc}
-use Rattle.otap_gateway.proofs.selfrun.load_line.Goals as goal
-
-pub returns : goal.returns
-returns c = rw (c.in_ok-format.ensures.ok) (simp append_assoc)

@@ -1,0 +1,20 @@
+//! The jobs: each is a value with a step that replies to a frame, and never sees a sink.
+
+pub(crate) mod command;
+pub(crate) mod decode;
+pub(crate) mod encode;
+pub(crate) mod job;
+pub(crate) mod list;
+pub(crate) mod opening;
+pub(crate) mod receiving;
+pub(crate) mod reception_laws;
+pub(crate) mod refused;
+pub(crate) mod refused_requests;
+pub(crate) mod replay;
+pub(crate) mod reply;
+pub(crate) mod schema;
+pub(crate) mod sending;
+pub(crate) mod sending_laws;
+pub(crate) mod show;
+pub(crate) mod status;
+pub(crate) mod tidy;

@@ -1,0 +1,97 @@
+//! `status`: what a Collector replies to each batch.
+ghost use Rattle.std.specs.Prelude.{◌≡◌, IfOk};
+ghost use Rattle.otap_consume.specs.declared.taken.Taken.TheVariants as taken;
+ghost use Rattle.otap_consume.specs.Segments.{IsNew};
+ghost use Rattle.otap_gateway.specs.declared.jobs.command.Command.TheVariants as command;
+ghost use Rattle.otap_gateway.specs.Receptions.{code_of, id_or_less, meaning_of, statused};
+ghost use Rattle.otap_gateway.specs.JobStates.{HasReplied};
+
+use crate::jobs::job::Job;
+use crate::jobs::receiving::Serves;
+use crate::jobs::reply::Reply;
+use crate::texts::causes::cause_name;
+use crate::texts::lines::{refusal_text, refused_line};
+use otap_capture::{Frame, Status};
+use otap_consume::{Receiver, Refusal, Taken, Telemetry};
+use std::alloc::{AllocError, Global};
+
+/// The job `status` of a signal.
+#[derive(Drop)]
+pub(crate) struct StatusTeller<T: Telemetry> {
+    receiver: Receiver<T>,
+    telemetry: T,
+}
+
+impl<T: Serves + Drop> StatusTeller<T> {
+    pub(crate) fn new(alloc: Global, telemetry: T) -> Result<StatusTeller<T>, AllocError>
+        ensures { IfOk result (λ teller. IsNew T.meaning.signal teller.receiver) }
+    {
+        let receiver = Receiver::new(alloc)?;
+        Ok(StatusTeller {
+            receiver,
+            telemetry,
+        })
+    }
+}
+
+impl<T: Serves> Job for StatusTeller<T> {
+    ghost command = { λ s. command.Status T.served };
+
+    ghost stands = { λ s. HasReplied (meaning_of T.served) statused s.receiver };
+
+    fn step(&mut self, alloc: Global, number: u64, frame: &Frame<'_>) -> Result<Reply, AllocError> {
+        let taken = self.receiver.take(frame)?;
+        tell(alloc, number, taken)
+    }
+}
+
+/// The reply to what a frame gave.
+fn tell(alloc: Global, number: u64, taken: Taken) -> Result<Reply, AllocError>
+    ensures { IfOk result (λ reply. reply ≡ statused number taken) }
+{
+    match taken {
+        Taken::Accepted { id, .. } => {
+            let status = Status {
+                id,
+                code: 0,
+                message: "",
+            };
+            Reply::status(alloc, &status)
+        }
+        Taken::Refused(refusal) => refuse(alloc, number, refusal),
+        Taken::Reset => Reply::reset(alloc),
+    }
+}
+
+/// The status of a refused batch, beside the line that names the same cause.
+fn refuse(alloc: Global, number: u64, refusal: Refusal) -> Result<Reply, AllocError>
+    ensures { IfOk result (λ reply. reply ≡ statused number (taken.Refused refusal)) }
+{
+    let payload = refusal.payload.map(i64::from);
+    let cause = cause_name(refusal.cause)?;
+    let message = refusal_text(alloc, refusal.stage, cause, payload)?;
+    let line = refused_line(alloc, number, refusal.id, refusal.stage, cause, payload)?;
+    let status = Status {
+        id: id_or_less(refusal.id),
+        code: code_of(refusal.stage),
+        message: message.as_str(),
+    };
+    Ok(Reply::status(alloc, &status)?.refusing(line))
+}
+
+fn id_or_less(id: Option<i64>) -> i64
+    ensures { result ≡ id_or_less id }
+{
+    id.unwrap_or(-1)
+}
+
+/// The code of gRPC for a stage.
+fn code_of(stage: u8) -> i32
+    ensures { result ≡ code_of stage }
+{
+    match stage {
+        0 => 10,
+        4 | 6 => 8,
+        _ => 3,
+    }
+}

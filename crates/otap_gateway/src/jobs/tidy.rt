@@ -1,0 +1,88 @@
+//! `tidy`: each request in canonical spelling.
+ghost use Rattle.std.specs.Prelude.{◌≡◌, IfOk};
+ghost use Rattle.otap_capture.specs.Capture.{frame_of};
+ghost use Rattle.otap_gateway.specs.declared.jobs.command.Command.TheVariants as command;
+ghost use Rattle.otap_gateway.specs.Tidying.{TidiesFrame, TidiesMessage, tidied};
+
+use crate::jobs::job::Job;
+use crate::jobs::refused_requests::{refusal_name, refused};
+use crate::jobs::reply::Reply;
+use otap_capture::{FRAME_HEAD, Frame};
+use otlp_codec::{put_request, read_request};
+use otlp_messages::Backward;
+use otlp_model::{MAX_ITEMS, MAX_TREE_WEIGHT, Request, Signal, items, weight};
+use std::alloc::{AllocError, Global};
+
+/// The job `tidy` of a signal. It takes each frame by itself.
+#[derive(Clone, Copy)]
+pub(crate) struct Tidier {
+    signal: Signal,
+}
+
+impl Tidier {
+    pub(crate) fn new(signal: Signal) -> Tidier
+        ensures { result.signal ≡ signal }
+    {
+        Tidier { signal }
+    }
+}
+
+impl Job for Tidier {
+    ghost command = { λ s. command.Tidy s.signal };
+
+    ghost stands = { λ s frames replies. Unit {0} };
+
+    fn step(&mut self, alloc: Global, number: u64, frame: &Frame<'_>) -> Result<Reply, AllocError> {
+        tidy_frame(alloc, self.signal, number, frame)
+    }
+}
+
+fn tidy_frame(
+    alloc: Global,
+    signal: Signal,
+    number: u64,
+    frame: &Frame<'_>,
+) -> Result<Reply, AllocError>
+    ensures { IfOk result (TidiesFrame signal number (frame_of frame.now)) }
+{
+    match frame {
+        Frame::Message(bytes) => tidy_message(alloc, signal, number, bytes),
+        Frame::Packed => refused(alloc, number, "Compressed"),
+        Frame::Reset => Reply::reset(alloc),
+    }
+}
+
+fn tidy_message(
+    alloc: Global,
+    signal: Signal,
+    number: u64,
+    bytes: &[u8],
+) -> Result<Reply, AllocError>
+    ensures { IfOk result (TidiesMessage signal number bytes.now) }
+{
+    match read_request(alloc, signal, bytes) {
+        Ok(request) => tidy_request(alloc, number, &request, bytes.len()),
+        Err(refusal) => refused(alloc, number, refusal_name(refusal)?),
+    }
+}
+
+/// What is written is about as long as `len`, the length of what was read.
+fn tidy_request(
+    alloc: Global,
+    number: u64,
+    request: &Request,
+    len: usize,
+) -> Result<Reply, AllocError>
+    ensures { IfOk result (λ reply. reply ≡ tidied number request.now) }
+{
+    if items(request) > MAX_ITEMS {
+        return refused(alloc, number, "TooManyItems");
+    }
+    if weight(request) > MAX_TREE_WEIGHT {
+        return refused(alloc, number, "TooHeavy");
+    }
+    let mut spelling = Backward::new(alloc);
+    spelling.reserve(len.saturating_add(FRAME_HEAD))?;
+    put_request(&mut spelling, request)?;
+    Reply::message(alloc, spelling)
+}

@@ -1,0 +1,13 @@
+//! Runs: the words that a run is called with, its driver, its end, and the load that it may make itself.
+
+pub(crate) mod drive;
+pub(crate) mod laws;
+pub(crate) mod load;
+pub(crate) mod load_laws;
+pub(crate) mod loads;
+pub(crate) mod receiving_runs;
+pub(crate) mod running;
+pub(crate) mod selfrun;
+pub(crate) mod sending_runs;
+pub(crate) mod stop;
+pub(crate) mod words;

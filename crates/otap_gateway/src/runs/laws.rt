@@ -1,0 +1,32 @@
+//! Laws of runs: each is the contract of an empty function.
+ghost use Rattle.std.specs.Prelude.{◌≡◌, ◌⊎◌, List, ℕ, None, Some};
+ghost use Rattle.otap_capture.specs.Capture.{Frame, IsCapture, longest_frame};
+ghost use Rattle.otap_capture.specs.Outside.{Rose};
+ghost use Rattle.otlp_codec.specs.Limits.{longest_request};
+ghost use Rattle.otap_gateway.specs.declared.jobs.command.Command.{Command};
+ghost use Rattle.otap_gateway.specs.declared.runs.load.Load.{Load};
+ghost use Rattle.otap_gateway.specs.Commands.{words_of};
+ghost use Rattle.otap_gateway.specs.Loads.{IsLoad, IsNotUnderstood, load_words};
+ghost use Rattle.otap_gateway.specs.Runs.{World, Runs, Completes};
+
+/// Where no count of faults rose and the capture ends well, a run for the words of a job writes what it
+/// replies to each frame, passes all of it on, and returns 0 exactly where none is refused, and else 1;
+/// or there was no memory.
+pub fn complete_runs()
+    ensures { (job : Command) (old new : World) (status : ℕ) (bytes : List ℕ) (frames : List Frame)
+        → Runs job old new status → old.left ≡ Some bytes → IsCapture bytes frames None
+        → (Rose old.faults new.faults → ⊥)
+        → (Rose old.sinks.out.faults new.sinks.out.faults → ⊥)
+        → (Rose old.sinks.err.faults new.sinks.err.faults → ⊥)
+        → (status ≡ 6) ⊎ Completes job frames old.sinks new.sinks status }
+{}
+
+/// Each list of words is that of a job over a capture, or that of a load, or it isn't understood. These are the cases of `run`.
+pub fn each_words()
+    ensures { (words : List (List ℕ)) → ((job : Command) × (words ≡ words_of job)) ⊎ (((load : Load) × IsLoad load × (words ≡ load_words load)) ⊎ IsNotUnderstood words) }
+{}
+
+/// The longest request that is written is as long as the longest message of a frame.
+pub fn requests_fit_in_frames()
+    ensures { longest_request ≡ longest_frame }
+{}

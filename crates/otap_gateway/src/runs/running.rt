@@ -1,0 +1,130 @@
+//! The whole of what the program does.
+ghost use Rattle.std.specs.Prelude.{◌≡◌};
+ghost use Rattle.std.specs.Io.KnownBytes.{Keeps};
+ghost use Rattle.otap_gateway.specs.declared.jobs.command.Command.{Command};
+ghost use Rattle.otap_gateway.specs.declared.jobs.command.Command.TheVariants as command;
+ghost use Rattle.otap_gateway.specs.Commands.{words_of};
+ghost use Rattle.otap_gateway.specs.declared.runs.load.Load.{Load};
+ghost use Rattle.otap_gateway.specs.Loads.{IsLoad, IsNotUnderstood, RunsLoad, load_words};
+ghost use Rattle.otap_gateway.specs.Runs.{sinks, world, Leaves, Stops, CountsFaults, SinkFaults, LeavesLine, Runs, RefusesWords};
+
+use crate::jobs::command::Command;
+use crate::jobs::list::Lister;
+use crate::jobs::schema::SchemaLister;
+use crate::jobs::show::Shower;
+use crate::jobs::tidy::Tidier;
+use crate::runs::drive::{drive, flush_both};
+use crate::runs::receiving_runs::{decode, replay, tell_statuses};
+use crate::runs::selfrun::{load_status, run_load};
+use crate::runs::sending_runs::encode;
+use crate::runs::stop::{Stop, Tally, status, words_status};
+use crate::runs::words::Words;
+use otap_capture::{Sink, Source, write_whole};
+use otap_consume::{LogTelemetry, MetricTelemetry, SpanTelemetry};
+use otap_produce::{LogTables, MetricTables, SpanTables};
+use otlp_model::Signal;
+use std::alloc::Global;
+
+const NOT_UNDERSTOOD: &[u8] = b"otap: words not understood\n";
+
+/// Does the job that the words name over the capture that the source gives, or writes the load that they name, and returns the
+/// status with which the program ends. Each frame is handled as it comes: all that was written is passed on before the source
+/// is asked for more. For a load nothing is read.
+///
+/// Where nothing stops the run, the status is 5 where the capture is damaged, else 1 where a frame was refused, else 0;
+/// and 2, once their line is written, for words that aren't understood. Where something stops it: 3 where the source
+/// failed, 4 where a sink failed, 6 where there was no memory.
+pub fn run<S: Source, O: Sink, E: Sink>(
+    alloc: Global,
+    words: &Words,
+    source: &mut S,
+    out: &mut O,
+    err: &mut E,
+) -> u8
+    ensures understood { (job : Command) → words.now ≡ words_of job → Runs job
+        (world S.Source source.old (sinks O.Sink out.old E.Sink err.old))
+        (world S.Source source.new (sinks O.Sink out.new E.Sink err.new)) result }
+    ensures load { (load : Load) → IsLoad load → words.now ≡ load_words load → RunsLoad load source.old source.new
+        (sinks O.Sink out.old E.Sink err.old)
+        (sinks O.Sink out.new E.Sink err.new) result }
+    ensures otherwise { IsNotUnderstood words.now → RefusesWords source.old source.new
+        (world S.Source source.old (sinks O.Sink out.old E.Sink err.old))
+        (world S.Source source.new (sinks O.Sink out.new E.Sink err.new)) result }
+{
+    match words.command() {
+        Some(job) => status(run_job(alloc, job, source, out, err)),
+        None => match words.load() {
+            Some(load) => load_status(run_load(alloc, load, out, err)),
+            None => words_status(refuse_words(out, err)),
+        },
+    }
+}
+
+fn run_job<S: Source, O: Sink, E: Sink>(
+    alloc: Global,
+    job: Command,
+    source: &mut S,
+    out: &mut O,
+    err: &mut E,
+) -> Result<Tally, Stop>
+    ensures leaves { Leaves job (S.left source.old)
+        (sinks O.Sink out.old E.Sink err.old)
+        (sinks O.Sink out.new E.Sink err.new) result }
+    ensures stops { Stops job
+        (world S.Source source.old (sinks O.Sink out.old E.Sink err.old))
+        (world S.Source source.new (sinks O.Sink out.new E.Sink err.new)) result }
+    ensures faults { CountsFaults
+        (world S.Source source.old (sinks O.Sink out.old E.Sink err.old))
+        (world S.Source source.new (sinks O.Sink out.new E.Sink err.new)) result }
+{
+    match job {
+        Command::List => drive(alloc, &mut Lister::new(alloc), source, out, err),
+        Command::Tidy(signal) => drive(alloc, &mut Tidier::new(signal), source, out, err),
+        Command::Encode(Signal::Traces) => encode(alloc, SpanTables, source, out, err),
+        Command::Encode(Signal::Logs) => encode(alloc, LogTables, source, out, err),
+        Command::Encode(Signal::Metrics) => encode(alloc, MetricTables, source, out, err),
+        Command::Schema(signal) => drive(alloc, &mut SchemaLister::new(signal), source, out, err),
+        Command::Show(signal) => show(alloc, signal, source, out, err),
+        Command::Decode(Signal::Traces) => decode(alloc, SpanTelemetry, source, out, err),
+        Command::Decode(Signal::Logs) => decode(alloc, LogTelemetry, source, out, err),
+        Command::Decode(Signal::Metrics) => decode(alloc, MetricTelemetry, source, out, err),
+        Command::Status(Signal::Traces) => tell_statuses(alloc, SpanTelemetry, source, out, err),
+        Command::Status(Signal::Logs) => tell_statuses(alloc, LogTelemetry, source, out, err),
+        Command::Status(Signal::Metrics) => tell_statuses(alloc, MetricTelemetry, source, out, err),
+        Command::Replay(Signal::Traces) => replay(alloc, SpanTelemetry, source, out, err),
+        Command::Replay(Signal::Logs) => replay(alloc, LogTelemetry, source, out, err),
+        Command::Replay(Signal::Metrics) => replay(alloc, MetricTelemetry, source, out, err),
+    }
+}
+
+fn show<S: Source, O: Sink, E: Sink>(
+    alloc: Global,
+    signal: Signal,
+    source: &mut S,
+    out: &mut O,
+    err: &mut E,
+) -> Result<Tally, Stop>
+    ensures leaves { Leaves (command.Show signal) (S.left source.old)
+        (sinks O.Sink out.old E.Sink err.old)
+        (sinks O.Sink out.new E.Sink err.new) result }
+    ensures stops { Stops (command.Show signal)
+        (world S.Source source.old (sinks O.Sink out.old E.Sink err.old))
+        (world S.Source source.new (sinks O.Sink out.new E.Sink err.new)) result }
+    ensures faults { CountsFaults
+        (world S.Source source.old (sinks O.Sink out.old E.Sink err.old))
+        (world S.Source source.new (sinks O.Sink out.new E.Sink err.new)) result }
+{
+    let Ok(mut shower) = Shower::new(alloc, signal) else {
+        return Err(Stop::Memory);
+    };
+    drive(alloc, &mut shower, source, out, err)
+}
+
+fn refuse_words<O: Sink, E: Sink>(out: &mut O, err: &mut E) -> Result<(), Stop>
+    ensures out { Keeps (O.written out.old) (O.written out.new) }
+    ensures line { LeavesLine (sinks O.Sink out.old E.Sink err.old) (sinks O.Sink out.new E.Sink err.new) result }
+    ensures faults { SinkFaults (sinks O.Sink out.old E.Sink err.old) (sinks O.Sink out.new E.Sink err.new) result }
+{
+    write_whole(err, NOT_UNDERSTOOD)?;
+    flush_both(out, err)
+}

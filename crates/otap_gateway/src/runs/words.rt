@@ -1,0 +1,69 @@
+//! The words that the program is called with.
+ghost use Rattle.std.specs.Prelude.{◌≡◌, [], ◌∷◌, ◌++◌, OnOk, OnErr, MatchOption};
+ghost use Rattle.otap_gateway.specs.Commands.{IsNoCommand, words_of};
+ghost use Rattle.otap_gateway.specs.Loads.{IsLoad, IsNoLoad, load_words};
+
+use crate::jobs::command::{Command, one_word, two_words};
+use crate::runs::load::{Load, three_words};
+use std::alloc::{AllocError, Global};
+use std::marker::Model;
+
+/// A list of words.
+#[derive(Drop)]
+pub struct Words {
+    alloc: Global,
+    words: Vec<String>,
+}
+
+impl Model for Words {
+    ghost use Rattle.std.specs.Prelude.{List, ℕ, map, string_bytes};
+
+    ghost Value = { List (List ℕ) };
+
+    ghost view = { λ s. map (λ word. string_bytes word) s.words.items };
+}
+
+impl Words {
+    /// No words.
+    pub fn new(alloc: Global) -> Words
+        ensures { result ≡ [] }
+    {
+        Words {
+            alloc,
+            words: Vec::new(alloc),
+        }
+    }
+
+    /// Adds a word at the end. After a refusal the words are as before.
+    pub fn push(&mut self, word: &str) -> Result<(), AllocError>
+        ensures ok { OnOk result (self.new ≡ self.old ++ word.now ∷ []) }
+        ensures err { OnErr result (self.new ≡ self.old) }
+    {
+        let word = String::from_str(self.alloc, word)?;
+        self.words.push(word)?;
+        Ok(())
+    }
+
+    /// The job that these are the words of.
+    pub(crate) fn command(&self) -> Option<Command>
+        ensures { MatchOption result (IsNoCommand self.now) (λ command. self.now ≡ words_of command) }
+    {
+        match self.words.as_slice() {
+            [job] => one_word(job.as_str()),
+            [job, signal] => two_words(job.as_str(), signal.as_str()),
+            _ => None,
+        }
+    }
+
+    /// The load that these are the words of.
+    pub(crate) fn load(&self) -> Option<Load>
+        ensures { MatchOption result (IsNoLoad self.now) (λ load. IsLoad load × (self.now ≡ load_words load)) }
+    {
+        match self.words.as_slice() {
+            [job, signal, requests] => {
+                three_words(job.as_str(), signal.as_str(), requests.as_str())
+            }
+            _ => None,
+        }
+    }
+}
