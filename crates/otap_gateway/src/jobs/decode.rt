@@ -17,24 +17,24 @@ use std::alloc::{AllocError, Global};
 
 /// The job `decode` of a signal.
 #[derive(Drop)]
-pub(crate) struct Decoder<T: Telemetry> {
+pub(crate) struct DecodeJob<T: Telemetry> {
     receiver: Receiver<T>,
     telemetry: T,
 }
 
-impl<T: Serves + Drop> Decoder<T> {
-    pub(crate) fn new(alloc: Global, telemetry: T) -> Result<Decoder<T>, AllocError>
-        ensures { IfOk result (λ decoder. IsNew T.meaning.signal decoder.receiver) }
+impl<T: Serves + Drop> DecodeJob<T> {
+    pub(crate) fn new(alloc: Global, telemetry: T) -> Result<DecodeJob<T>, AllocError>
+        ensures { IfOk result (λ job. IsNew T.meaning.signal job.receiver) }
     {
         let receiver = Receiver::new(alloc)?;
-        Ok(Decoder {
+        Ok(DecodeJob {
             receiver,
             telemetry,
         })
     }
 }
 
-impl<T: Serves> Job for Decoder<T> {
+impl<T: Serves> Job for DecodeJob<T> {
     ghost command = { λ s. command.Decode T.served };
 
     ghost stands = { λ s. HasReplied (meaning_of T.served) decoded s.receiver };

@@ -23,21 +23,21 @@ use std::alloc::{AllocError, Global};
 
 /// The job `encode` of a signal.
 #[derive(Drop)]
-pub(crate) struct Encoder<T: Tabled> {
+pub(crate) struct EncodeJob<T: Tabled> {
     exporter: Exporter<T>,
     tables: T,
 }
 
-impl<T: ExportsRows + Drop> Encoder<T> {
-    pub(crate) fn new(alloc: Global, tables: T) -> Result<Encoder<T>, AllocError>
-        ensures { IfOk result (λ encoder. StandsFor T.rows [] [] encoder.exporter) }
+impl<T: ExportsRows + Drop> EncodeJob<T> {
+    pub(crate) fn new(alloc: Global, tables: T) -> Result<EncodeJob<T>, AllocError>
+        ensures { IfOk result (λ job. StandsFor T.rows [] [] job.exporter) }
     {
         let exporter = Exporter::new(alloc)?;
-        Ok(Encoder { exporter, tables })
+        Ok(EncodeJob { exporter, tables })
     }
 }
 
-impl<T: ExportsRows> Job for Encoder<T> {
+impl<T: ExportsRows> Job for EncodeJob<T> {
     ghost command = { λ s. command.Encode T.served };
 
     ghost stands = { λ s. HasTold (Encodes (signal_rows T.served) (meaning_of T.served)) encoded (HasEncoded (signal_rows T.served) s.exporter) };

@@ -16,21 +16,21 @@ use std::alloc::{AllocError, Global};
 
 /// The job `list`. It takes each frame by itself, and writes each line into the memory of the one before.
 #[derive(Drop)]
-pub(crate) struct Lister {
+pub(crate) struct ListJob {
     line: Vec<u8>,
 }
 
-impl Lister {
-    pub(crate) fn new(alloc: Global) -> Lister
+impl ListJob {
+    pub(crate) fn new(alloc: Global) -> ListJob
         ensures { result.line.items ≡ [] }
     {
-        Lister {
+        ListJob {
             line: Vec::new(alloc),
         }
     }
 }
 
-impl Job for Lister {
+impl Job for ListJob {
     ghost command = { λ s. command.List };
 
     ghost stands = { λ s frames replies. Unit {0} };

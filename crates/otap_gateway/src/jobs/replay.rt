@@ -21,24 +21,24 @@ use std::alloc::{AllocError, Global};
 
 /// The job `replay` of a signal.
 #[derive(Drop)]
-pub(crate) struct Replayer<T: Telemetry> {
+pub(crate) struct ReplayJob<T: Telemetry> {
     receiver: Receiver<T>,
     telemetry: T,
 }
 
-impl<T: Serves + Drop> Replayer<T> {
-    pub(crate) fn new(alloc: Global, telemetry: T) -> Result<Replayer<T>, AllocError>
-        ensures { IfOk result (λ replayer. IsNew T.meaning.signal replayer.receiver) }
+impl<T: Serves + Drop> ReplayJob<T> {
+    pub(crate) fn new(alloc: Global, telemetry: T) -> Result<ReplayJob<T>, AllocError>
+        ensures { IfOk result (λ job. IsNew T.meaning.signal job.receiver) }
     {
         let receiver = Receiver::new(alloc)?;
-        Ok(Replayer {
+        Ok(ReplayJob {
             receiver,
             telemetry,
         })
     }
 }
 
-impl<T: Serves> Job for Replayer<T> {
+impl<T: Serves> Job for ReplayJob<T> {
     ghost command = { λ s. command.Replay T.served };
 
     ghost stands = { λ s. HasReplied (meaning_of T.served) replayed s.receiver };

@@ -26,19 +26,19 @@ use thiserror::Error;
 
 /// The job `schema` of a signal. It takes each frame by itself.
 #[derive(Clone, Copy)]
-pub(crate) struct SchemaLister {
+pub(crate) struct SchemaJob {
     signal: Signal,
 }
 
-impl SchemaLister {
-    pub(crate) fn new(signal: Signal) -> SchemaLister
+impl SchemaJob {
+    pub(crate) fn new(signal: Signal) -> SchemaJob
         ensures { result.signal ≡ signal }
     {
-        SchemaLister { signal }
+        SchemaJob { signal }
     }
 }
 
-impl Job for SchemaLister {
+impl Job for SchemaJob {
     ghost command = { λ s. command.Schema s.signal };
 
     ghost stands = { λ s frames replies. Unit {0} };

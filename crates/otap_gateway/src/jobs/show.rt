@@ -22,20 +22,20 @@ use std::alloc::{AllocError, Global};
 
 /// The job `show` of a signal. It keeps the sub-streams of the segment that are open.
 #[derive(Drop)]
-pub(crate) struct Shower {
+pub(crate) struct ShowJob {
     segment: Segment,
 }
 
-impl Shower {
-    pub(crate) fn new(alloc: Global, signal: Signal) -> Result<Shower, AllocError>
-        ensures { IfOk result (λ shower. IsNew signal shower.segment) }
+impl ShowJob {
+    pub(crate) fn new(alloc: Global, signal: Signal) -> Result<ShowJob, AllocError>
+        ensures { IfOk result (λ job. IsNew signal job.segment) }
     {
         let segment = Segment::new(alloc, signal)?;
-        Ok(Shower { segment })
+        Ok(ShowJob { segment })
     }
 }
 
-impl Job for Shower {
+impl Job for ShowJob {
     ghost command = { λ s. command.Show s.segment.signal };
 
     ghost stands = { λ s. HasShown s.segment };

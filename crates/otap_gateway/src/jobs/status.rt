@@ -17,36 +17,36 @@ use std::alloc::{AllocError, Global};
 
 /// The job `status` of a signal.
 #[derive(Drop)]
-pub(crate) struct StatusTeller<T: Telemetry> {
+pub(crate) struct StatusJob<T: Telemetry> {
     receiver: Receiver<T>,
     telemetry: T,
 }
 
-impl<T: Serves + Drop> StatusTeller<T> {
-    pub(crate) fn new(alloc: Global, telemetry: T) -> Result<StatusTeller<T>, AllocError>
-        ensures { IfOk result (λ teller. IsNew T.meaning.signal teller.receiver) }
+impl<T: Serves + Drop> StatusJob<T> {
+    pub(crate) fn new(alloc: Global, telemetry: T) -> Result<StatusJob<T>, AllocError>
+        ensures { IfOk result (λ job. IsNew T.meaning.signal job.receiver) }
     {
         let receiver = Receiver::new(alloc)?;
-        Ok(StatusTeller {
+        Ok(StatusJob {
             receiver,
             telemetry,
         })
     }
 }
 
-impl<T: Serves> Job for StatusTeller<T> {
+impl<T: Serves> Job for StatusJob<T> {
     ghost command = { λ s. command.Status T.served };
 
     ghost stands = { λ s. HasReplied (meaning_of T.served) statused s.receiver };
 
     fn step(&mut self, alloc: Global, number: u64, frame: &Frame<'_>) -> Result<Reply, AllocError> {
         let taken = self.receiver.take(frame)?;
-        tell(alloc, number, taken)
+        status_of(alloc, number, taken)
     }
 }
 
 /// The reply to what a frame gave.
-fn tell(alloc: Global, number: u64, taken: Taken) -> Result<Reply, AllocError>
+fn status_of(alloc: Global, number: u64, taken: Taken) -> Result<Reply, AllocError>
     ensures { IfOk result (λ reply. reply ≡ statused number taken) }
 {
     match taken {

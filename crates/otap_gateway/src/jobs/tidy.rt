@@ -15,19 +15,19 @@ use std::alloc::{AllocError, Global};
 
 /// The job `tidy` of a signal. It takes each frame by itself.
 #[derive(Clone, Copy)]
-pub(crate) struct Tidier {
+pub(crate) struct TidyJob {
     signal: Signal,
 }
 
-impl Tidier {
-    pub(crate) fn new(signal: Signal) -> Tidier
+impl TidyJob {
+    pub(crate) fn new(signal: Signal) -> TidyJob
         ensures { result.signal ≡ signal }
     {
-        Tidier { signal }
+        TidyJob { signal }
     }
 }
 
-impl Job for Tidier {
+impl Job for TidyJob {
     ghost command = { λ s. command.Tidy s.signal };
 
     ghost stands = { λ s frames replies. Unit {0} };

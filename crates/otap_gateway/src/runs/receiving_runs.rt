@@ -2,10 +2,10 @@
 ghost use Rattle.otap_gateway.specs.declared.jobs.command.Command.TheVariants as command;
 ghost use Rattle.otap_gateway.specs.Runs.{sinks, world, Leaves, Stops, CountsFaults};
 
-use crate::jobs::decode::Decoder;
+use crate::jobs::decode::DecodeJob;
 use crate::jobs::receiving::Serves;
-use crate::jobs::replay::Replayer;
-use crate::jobs::status::StatusTeller;
+use crate::jobs::replay::ReplayJob;
+use crate::jobs::status::StatusJob;
 use crate::runs::drive::drive;
 use crate::runs::stop::{Stop, Tally};
 use otap_capture::{Sink, Source};
@@ -29,14 +29,14 @@ pub(crate) fn decode<T: Serves + Drop, S: Source, O: Sink, E: Sink>(
         (world S.Source source.old (sinks O.Sink out.old E.Sink err.old))
         (world S.Source source.new (sinks O.Sink out.new E.Sink err.new)) result }
 {
-    let Ok(mut decoder) = Decoder::new(alloc, telemetry) else {
+    let Ok(mut job) = DecodeJob::new(alloc, telemetry) else {
         return Err(Stop::Memory);
     };
-    drive(alloc, &mut decoder, source, out, err)
+    drive(alloc, &mut job, source, out, err)
 }
 
 /// Runs `status`.
-pub(crate) fn tell_statuses<T: Serves + Drop, S: Source, O: Sink, E: Sink>(
+pub(crate) fn statuses<T: Serves + Drop, S: Source, O: Sink, E: Sink>(
     alloc: Global,
     telemetry: T,
     source: &mut S,
@@ -53,10 +53,10 @@ pub(crate) fn tell_statuses<T: Serves + Drop, S: Source, O: Sink, E: Sink>(
         (world S.Source source.old (sinks O.Sink out.old E.Sink err.old))
         (world S.Source source.new (sinks O.Sink out.new E.Sink err.new)) result }
 {
-    let Ok(mut teller) = StatusTeller::new(alloc, telemetry) else {
+    let Ok(mut job) = StatusJob::new(alloc, telemetry) else {
         return Err(Stop::Memory);
     };
-    drive(alloc, &mut teller, source, out, err)
+    drive(alloc, &mut job, source, out, err)
 }
 
 /// Runs `replay`.
@@ -77,8 +77,8 @@ pub(crate) fn replay<T: Serves + Drop, S: Source, O: Sink, E: Sink>(
         (world S.Source source.old (sinks O.Sink out.old E.Sink err.old))
         (world S.Source source.new (sinks O.Sink out.new E.Sink err.new)) result }
 {
-    let Ok(mut replayer) = Replayer::new(alloc, telemetry) else {
+    let Ok(mut job) = ReplayJob::new(alloc, telemetry) else {
         return Err(Stop::Memory);
     };
-    drive(alloc, &mut replayer, source, out, err)
+    drive(alloc, &mut job, source, out, err)
 }

@@ -9,12 +9,12 @@ ghost use Rattle.otap_gateway.specs.Loads.{IsLoad, IsNotUnderstood, RunsLoad, lo
 ghost use Rattle.otap_gateway.specs.Runs.{sinks, world, Leaves, Stops, CountsFaults, SinkFaults, LeavesLine, Runs, RefusesWords};
 
 use crate::jobs::command::Command;
-use crate::jobs::list::Lister;
-use crate::jobs::schema::SchemaLister;
-use crate::jobs::show::Shower;
-use crate::jobs::tidy::Tidier;
+use crate::jobs::list::ListJob;
+use crate::jobs::schema::SchemaJob;
+use crate::jobs::show::ShowJob;
+use crate::jobs::tidy::TidyJob;
 use crate::runs::drive::{drive, flush_both};
-use crate::runs::receiving_runs::{decode, replay, tell_statuses};
+use crate::runs::receiving_runs::{decode, replay, statuses};
 use crate::runs::selfrun::{load_status, run_load};
 use crate::runs::sending_runs::encode;
 use crate::runs::stop::{Stop, Tally, status, words_status};
@@ -78,19 +78,19 @@ fn run_job<S: Source, O: Sink, E: Sink>(
         (world S.Source source.new (sinks O.Sink out.new E.Sink err.new)) result }
 {
     match job {
-        Command::List => drive(alloc, &mut Lister::new(alloc), source, out, err),
-        Command::Tidy(signal) => drive(alloc, &mut Tidier::new(signal), source, out, err),
+        Command::List => drive(alloc, &mut ListJob::new(alloc), source, out, err),
+        Command::Tidy(signal) => drive(alloc, &mut TidyJob::new(signal), source, out, err),
         Command::Encode(Signal::Traces) => encode(alloc, SpanTables, source, out, err),
         Command::Encode(Signal::Logs) => encode(alloc, LogTables, source, out, err),
         Command::Encode(Signal::Metrics) => encode(alloc, MetricTables, source, out, err),
-        Command::Schema(signal) => drive(alloc, &mut SchemaLister::new(signal), source, out, err),
+        Command::Schema(signal) => drive(alloc, &mut SchemaJob::new(signal), source, out, err),
         Command::Show(signal) => show(alloc, signal, source, out, err),
         Command::Decode(Signal::Traces) => decode(alloc, SpanTelemetry, source, out, err),
         Command::Decode(Signal::Logs) => decode(alloc, LogTelemetry, source, out, err),
         Command::Decode(Signal::Metrics) => decode(alloc, MetricTelemetry, source, out, err),
-        Command::Status(Signal::Traces) => tell_statuses(alloc, SpanTelemetry, source, out, err),
-        Command::Status(Signal::Logs) => tell_statuses(alloc, LogTelemetry, source, out, err),
-        Command::Status(Signal::Metrics) => tell_statuses(alloc, MetricTelemetry, source, out, err),
+        Command::Status(Signal::Traces) => statuses(alloc, SpanTelemetry, source, out, err),
+        Command::Status(Signal::Logs) => statuses(alloc, LogTelemetry, source, out, err),
+        Command::Status(Signal::Metrics) => statuses(alloc, MetricTelemetry, source, out, err),
         Command::Replay(Signal::Traces) => replay(alloc, SpanTelemetry, source, out, err),
         Command::Replay(Signal::Logs) => replay(alloc, LogTelemetry, source, out, err),
         Command::Replay(Signal::Metrics) => replay(alloc, MetricTelemetry, source, out, err),
@@ -114,10 +114,10 @@ fn show<S: Source, O: Sink, E: Sink>(
         (world S.Source source.old (sinks O.Sink out.old E.Sink err.old))
         (world S.Source source.new (sinks O.Sink out.new E.Sink err.new)) result }
 {
-    let Ok(mut shower) = Shower::new(alloc, signal) else {
+    let Ok(mut job) = ShowJob::new(alloc, signal) else {
         return Err(Stop::Memory);
     };
-    drive(alloc, &mut shower, source, out, err)
+    drive(alloc, &mut job, source, out, err)
 }
 
 fn refuse_words<O: Sink, E: Sink>(out: &mut O, err: &mut E) -> Result<(), Stop>

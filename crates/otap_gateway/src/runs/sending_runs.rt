@@ -2,7 +2,7 @@
 ghost use Rattle.otap_gateway.specs.declared.jobs.command.Command.TheVariants as command;
 ghost use Rattle.otap_gateway.specs.Runs.{sinks, world, Leaves, Stops, CountsFaults};
 
-use crate::jobs::encode::Encoder;
+use crate::jobs::encode::EncodeJob;
 use crate::jobs::sending::ExportsRows;
 use crate::runs::drive::drive;
 use crate::runs::stop::{Stop, Tally};
@@ -27,8 +27,8 @@ pub(crate) fn encode<T: ExportsRows + Drop, S: Source, O: Sink, E: Sink>(
         (world S.Source source.old (sinks O.Sink out.old E.Sink err.old))
         (world S.Source source.new (sinks O.Sink out.new E.Sink err.new)) result }
 {
-    let Ok(mut encoder) = Encoder::new(alloc, tables) else {
+    let Ok(mut job) = EncodeJob::new(alloc, tables) else {
         return Err(Stop::Memory);
     };
-    drive(alloc, &mut encoder, source, out, err)
+    drive(alloc, &mut job, source, out, err)
 }

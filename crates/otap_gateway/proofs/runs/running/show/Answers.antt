@@ -5,4 +5,4 @@ pub returns-in_default-clause-leaves : goal.returns-in_default-clause-leaves
 returns-in_default-clause-leaves c c' = writes_nothing _ _ _
 
 pub drive-requires : goal.drive-requires
-drive-requires c c' = shows_none c'.args.signal c'.in-Ok.shower.segment c'.in-Ok.ensures
+drive-requires c c' = shows_none c'.args.signal c'.in-Ok.job.segment c'.in-Ok.ensures

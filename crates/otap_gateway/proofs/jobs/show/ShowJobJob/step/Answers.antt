@@ -1,7 +1,7 @@
 use Rattle.otap_gateway.specs.Commands.{ReplyOf}
 use Rattle.otap_gateway.proofs.Extending.{extends_ok}
 use Rattle.otap_gateway.proofs.Shows.{shows}
-use Rattle.otap_gateway.proofs.jobs.show.ShowerJob.step.Goals as goal
+use Rattle.otap_gateway.proofs.jobs.show.ShowJobJob.step.Goals as goal
 
 pub returns-clause-next : goal.returns-clause-next
 unfolding ReplyOf

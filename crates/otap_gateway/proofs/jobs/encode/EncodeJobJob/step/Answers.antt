@@ -3,7 +3,7 @@ use Rattle.otap_gateway.specs.Encoding.{signal_rows}
 use Rattle.otap_gateway.specs.Receptions.{meaning_of}
 use Rattle.otap_gateway.proofs.Extending.{extends_ok}
 use Rattle.otap_gateway.proofs.EncodedFrames.{exporter_tells, is_encoding, few_batches}
-use Rattle.otap_gateway.proofs.jobs.encode.EncoderJob.step.Goals as goal
+use Rattle.otap_gateway.proofs.jobs.encode.EncodeJobJob.step.Goals as goal
 
 pub returns-clause-next : goal.returns-clause-next
 unfolding ReplyOf

@@ -1,6 +1,6 @@
 use Rattle.otap_gateway.specs.Commands.{ReplyOf}
 use Rattle.otap_gateway.proofs.Extending.{extends_ok}
-use Rattle.otap_gateway.proofs.jobs.schema.SchemaListerJob.step.Goals as goal
+use Rattle.otap_gateway.proofs.jobs.schema.SchemaJobJob.step.Goals as goal
 
 pub returns-clause-next : goal.returns-clause-next
 unfolding ReplyOf

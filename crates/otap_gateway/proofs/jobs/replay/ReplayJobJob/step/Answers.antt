@@ -2,7 +2,7 @@ use Rattle.otap_gateway.specs.Commands.{ReplyOf}
 use Rattle.otap_gateway.specs.Receptions.{replayed, meaning_of}
 use Rattle.otap_gateway.proofs.Extending.{extends_ok}
 use Rattle.otap_gateway.proofs.Telling.{receiver_tells}
-use Rattle.otap_gateway.proofs.jobs.replay.ReplayerJob.step.Goals as goal
+use Rattle.otap_gateway.proofs.jobs.replay.ReplayJobJob.step.Goals as goal
 
 pub returns-clause-next : goal.returns-clause-next
 unfolding ReplyOf

@@ -2,7 +2,7 @@ use Rattle.otap_gateway.specs.Commands.{ReplyOf}
 use Rattle.otap_gateway.specs.Receptions.{decoded, meaning_of}
 use Rattle.otap_gateway.proofs.Extending.{extends_ok}
 use Rattle.otap_gateway.proofs.Telling.{receiver_tells}
-use Rattle.otap_gateway.proofs.jobs.decode.DecoderJob.step.Goals as goal
+use Rattle.otap_gateway.proofs.jobs.decode.DecodeJobJob.step.Goals as goal
 
 pub returns-clause-next : goal.returns-clause-next
 unfolding ReplyOf

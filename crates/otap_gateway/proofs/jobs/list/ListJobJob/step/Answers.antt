@@ -1,6 +1,6 @@
 use Rattle.otap_gateway.specs.Commands.{ReplyOf}
 use Rattle.otap_gateway.proofs.Extending.{extends_ok}
-use Rattle.otap_gateway.proofs.jobs.list.ListerJob.step.Goals as goal
+use Rattle.otap_gateway.proofs.jobs.list.ListJobJob.step.Goals as goal
 
 pub returns-clause-next : goal.returns-clause-next
 unfolding ReplyOf

@@ -1,7 +1,7 @@
 use Rattle.otap_gateway.specs.Receptions.{statused, meaning_of}
 use Rattle.otap_gateway.proofs.Shows.{writes_nothing}
 use Rattle.otap_gateway.proofs.Telling.{told_none}
-use Rattle.otap_gateway.proofs.runs.receiving_runs.tell_statuses.Goals as goal
+use Rattle.otap_gateway.proofs.runs.receiving_runs.statuses.Goals as goal
 
 pub returns-in_default-clause-leaves : goal.returns-in_default-clause-leaves
 returns-in_default-clause-leaves g c = writes_nothing _ _ _
