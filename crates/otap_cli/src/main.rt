@@ -1,5 +1,5 @@
 //! The OTAP gateway as a program: it reads a capture on standard input, writes on standard output, and
-//! tells what it refuses on standard error. Its words name the job.
+//! says what it refuses on standard error. Its words name the job.
 #![tactic(auto)]
 
 use otap_capture::{ReadSource, WriteSink};

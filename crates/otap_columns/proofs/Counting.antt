@@ -26,7 +26,7 @@ use Rattle.otap_columns.proofs.Summing.{sum_of-times, sum_of-same, columns_weigh
 abbrev pub mark : ColumnSpec → ℕ
 mark c = if c.dictionary then 1 else 0
 
--- each column stands in the groups once; the groups make few parts and few fields; and so on
+-- each column is in the groups once; the groups make few parts and few fields; and so on
 pub record IsCounted (columns : List ColumnSpec) : Type 0 where
   pub order : map (λ (m : Member). m.column) (flat_map members_of (grouped columns)) ≡ range_with_len 0 (length columns)
   pub parts : nat_le (sum_by group_parts (grouped columns)) 32 ≡ true

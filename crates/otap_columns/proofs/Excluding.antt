@@ -21,7 +21,7 @@ use Rattle.otap_columns.proofs.Giving.{any_here}
 use Rattle.otap_columns.proofs.Growing.{substream-none}
 use Rattle.otap_columns.proofs.Judging.{fine_as, fine_buffers}
 
--- no record batch stands before the last one
+-- no record batch comes before the last one
 pub record IsLast (batch other : BatchIn) (after : List IpcMessage) : Type 0 where
   pub same : other ≡ batch
   pub none : after ≡ []

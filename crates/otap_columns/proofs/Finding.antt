@@ -1,4 +1,4 @@
--- Which column an array is, and where the array of a column stands.
+-- Which column an array is, and the place of the array of a column.
 use Rattle.std.proofs.Common.{◌≡◌, ℕ, ◌+◌, ◌<◌, ◌≤◌, suc, zero, Bool, true, false, List, [], ◌∷◌, length, get_or, Option, Some, None, refl, ap, ◌∙◌, arith, add-one, ◌⊎◌, inl, inr}
 use Rattle.std.specs.List.{position_from, list_any, join_with_byte}
 use Rattle.std.specs.Str.{bytes_eq}

@@ -49,7 +49,7 @@ narrowed how last before rows (n ∷ ns) [] are none = absurd are
 narrowed how last before rows (None ∷ ns) (Some id ∷ ids) are none = absurd are
 narrowed how last before rows (Some n ∷ ns) (None ∷ ids) are none = absurd are
 
--- the type of ids tells how great they may be
+-- the type of ids says how great they may be
 id_greatest : (holds : Base) (f : ColumnForm) → is_id holds ≡ true → greatest_of (arrow_type_in holds f) ≡ greatest_of (id_type f)
 id_greatest (base.Id wide) f id = refl
 id_greatest base.U8 f id = absurd (false≢true id)

@@ -77,7 +77,7 @@ module _ (t : Table) (column row : ℕ) (within : row < length t.rows) where
 
 -- ---- all rows
 
--- some id up to `most` tells of the rows from one on whether a wide one follows
+-- whether a wide id follows from a row on is known by some id up to `most`
 pub record IsNarrowSoFar (t : Table) (column row most : ℕ) : Type 0 where
   pub low : most ≤ greatest_narrow
   pub before : ℕ

@@ -22,7 +22,7 @@ use Rattle.otap_columns.proofs.Finding.{known_column-below}
 use Rattle.otap_columns.proofs.Keeping.{schema_readable}
 use Rattle.otap_columns.proofs.Located.{slot_at, column_found, column_absent}
 
--- a dictionary's form tells the id
+-- a dictionary's form says the id
 pub dict_told : (column : ℕ) (f : ColumnForm) (d : DictSpec) → dict_for column f ≡ Some d → (is_dictionary f ≡ true) × (d.id ≡ pos column)
 dict_told column form.Dict8 d is = (refl, let same : record { id = pos column; wide = false } ≡ d = cc in sym (ap (λ (x : DictSpec). x.id) same))
 dict_told column form.Dict16 d is = (refl, let same : record { id = pos column; wide = true } ≡ d = cc in sym (ap (λ (x : DictSpec). x.id) same))

@@ -1,4 +1,4 @@
--- What is kept of a column after one more table, and the form that it tells.
+-- What is kept of a column after one more table, and the form that follows.
 use Rattle.std.proofs.Common.{◌≡◌, ℕ, zero, suc, ◌+◌, ◌<◌, ◌≤◌, Bool, true, false, ◌||◌, List, [], ◌∷◌, ◌++◌, length, take, get_or, map, fold, nat_lt, Option, Some, None}
 use Rattle.std.proofs.Common.{refl, sym, ap, ◌∙◌, arith, append-nil, append_assoc}
 use Rattle.std.specs.Prelude.{◌&&◌, not, if◌then◌else◌, Result, Ok, Err, OnOk}
@@ -71,7 +71,7 @@ pub seen_to_last : (holds : Base) (rows : List (List Cell)) (column k : ℕ) (st
     → fold observed_if start (take k (map (bytes_for holds form.Wide) (column_in rows column))) ≡ fold observed_if start (map (bytes_for holds form.Wide) (column_in rows column))
 seen_to_last holds rows column k start none = nulls_at_end start k (map (bytes_for holds form.Wide) (column_in rows column)) (λ row le. null_cell holds rows column row (none row le))
 
--- no cell stands after the last row
+-- no cell comes after the last row
 pub null_beyond : (rows : List (List Cell)) (column row : ℕ) → length rows ≤ row → cell_in rows column row ≡ null
 null_beyond rows column row all = ap (λ (cells : List Cell). get_or cells column null) (get_or_past rows row [] all)
 
@@ -134,7 +134,7 @@ wide_anyway (base.Id true) any is = refl
 wide_anyway (base.Id false) any is = refl
 wide_anyway other any is = absurd (false≢true is)
 
--- what a column that saw tables tells
+-- the form of a column that saw tables
 seen_after : Kind → List Table → ℕ → SeenIn
 seen_after kind tables column =
     record { ladder = ladder_of (column_at kind column).dictionary (values_in_tables kind tables column); wide = may_widen (base_at kind column) && list_any (has_wide_id kind column) tables; places = [] }

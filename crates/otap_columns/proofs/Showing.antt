@@ -61,7 +61,7 @@ value_there kind values place all =
       | inr past ↦ λ x is. absurd (cc (get_or_past values place None past, is))
     ]
 
--- so is what stands in the field
+-- so is what is in the field
 replaced_fits : (dictionaries : List DictionaryIn) (kind : ArrowType) (dict : Option DictSpec) (cell : Option (List ℕ)) → All FitsIn dictionaries
     → ForSome cell (FitsLayout (layout_of kind dict)) → ForSome (replaced dictionaries kind dict cell) (FitsLayout (layout_of_values kind))
 replaced_fits dictionaries kind None cell all fits = fits
@@ -107,7 +107,7 @@ typed_at kind arrays column place types at =
     }
 
 module _ (kind : Kind) (s : SubstreamIn) (batch : BatchIn) (types : columns_fit kind s.arrays ≡ true) (all : All FitsIn s.dictionaries) (fine : IsOk (arrays_check batch s.arrays)) where
-  -- what stands in a column fits its base
+  -- what is in a column fits its base
   pub column_value_fits : (column row : ℕ) → ForSome (column_value kind s batch column row) (FitsBase (base_at kind column))
   unfolding column_value
   column_value_fits column row = by_place (place_at kind s.arrays column) refl

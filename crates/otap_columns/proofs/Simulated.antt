@@ -268,7 +268,7 @@ module _ (kind : Kind) (before : List Table) (past : List PayloadIn) (t : Table)
       next = next;
     }
 
-  -- a schema is fine where no message stands before it
+  -- a schema is fine where no message comes before it
   schema_fine : (forms : Forms) → columns_fit kind (arrays_of (schema_for kind forms)) ≡ true → AllAfter (IsFine kind) [] (Schema (schema_for kind forms) ∷ [])
   schema_fine forms fit = (subst (λ (o : Option SubstreamIn). IsFineIn kind [] o (Schema (schema_for kind forms))) (sym substream-none) (refl, fit), tt)
 

@@ -90,7 +90,7 @@ leaf_paths l above fits =
     append-nil (paths_in (leaf_field l) (Some above)) ∙ paths_with l.name l.kind l.dict l.encoding (branch_items l.item) (Some above)
     ∙ ap (λ (paths : List (List (List ℕ))). (above ++ l.name ∷ []) ∷ paths) (items_paths l.kind l.item (above ++ l.name ∷ []) fits)
 
--- ---- what is told of an array by its path
+-- ---- what the path of an array says of it
 
 unfoldable pub is_empty : List (List ℕ) → Bool
 is_empty [] = true

@@ -1,4 +1,4 @@
--- A schema tells the forms of its columns, and they tell it.
+-- A schema says the forms of its columns, and they make it.
 use Rattle.std.proofs.Common.{◌≡◌, ℕ, ◌<◌, Bool, true, false, List, [], ◌∷◌, ◌++◌, map, Option, None, Some, refl, sym, ap, ◌∙◌, inl, inr, arith}
 use Rattle.std.specs.Prelude.{slice_get, if◌then◌else◌}
 use Rattle.std.specs.List.{list_all, flat_map}
@@ -27,7 +27,7 @@ use Rattle.otap_columns.proofs.Grouping.{under_tests, is_member, is_group, kinds
 use Rattle.otap_columns.proofs.Keeping.{member_below}
 use Rattle.otap_columns.proofs.Located.{column_absent, column_found}
 
--- ---- a field tells the form of its column
+-- ---- a field says the form of its column
 
 bits_in : ArrowType → ℕ
 bits_in (arrow.Int bits signed) = bits

@@ -1,4 +1,4 @@
--- The values that a column had, and what its form tells of them.
+-- The values that a column had, and what its form says of them.
 use Rattle.std.proofs.Common.{◌≡◌, ℕ, suc, zero, ◌+◌, ◌<◌, ◌≤◌, ◌^◌, nat_lt, nat_le, Bool, true, false, true≢false, if◌then◌else◌, List, [], ◌∷◌, ◌++◌, length, map, drop, get_or}
 use Rattle.std.proofs.Common.{Option, Some, None, refl, sym, ap, ◌∙◌, subst, arith, append-nil, ◌⊎◌, inl, inr}
 use Rattle.std.specs.Prelude.{ℤ, pos, negsuc, ◌||◌}
@@ -44,7 +44,7 @@ values_grow kind before t column =
 
 -- ---- forms
 
--- a column that isn't one of ids has the form that a ladder tells
+-- a column that isn't one of ids has the form of a ladder
 abbrev by_test : Bool → Kind → List Table → ℕ → ColumnForm
 by_test id kind tables column =
     if id then id_form_if (is_own_id kind column) kind tables column else of_ladder (form_of (column_at kind column).dictionary (values_in_tables kind tables column))

@@ -4,7 +4,7 @@ use Rattle.arrow_ipc.specs.declared.fault.IpcFault.TheVariants as ipc
 use Rattle.otap_columns.specs.declared.refusal.ColumnRefusal.{ColumnRefusal}
 use Rattle.otap_columns.specs.declared.refusal.ColumnRefusal.TheVariants.{Ipc, Memory}
 
--- want of memory is a refusal of its own
+-- out of memory is a refusal of its own
 abbrev pub refusal_of : IpcFault → ColumnRefusal
 refusal_of (ipc.Memory e) = Memory e
 refusal_of fault = Ipc fault

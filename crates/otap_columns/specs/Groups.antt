@@ -12,7 +12,7 @@ pub data Group : Type 0 where
   Alone : Member → Group
   Under : List ℕ → List Member → Group
 
--- what stands before the first dot of a name, and what after it; nothing where there is no dot
+-- what comes before the first dot of a name, and what after it; nothing where there is no dot
 abbrev pub split : List ℕ → Option (List ℕ × List ℕ)
 split [] = None
 split (byte ∷ name) = if byte == 46 then Some ([], name) else option_map (λ (p : List ℕ × List ℕ). (byte ∷ p.0, p.1)) (split name)
@@ -33,6 +33,6 @@ abbrev pub grouped_from : ℕ → List ColumnSpec → List Group
 grouped_from column [] = []
 grouped_from column (c ∷ columns) = group_before column c.name (split c.name) (grouped_from (suc column) columns)
 
--- THE GROUPS of columns: neighbours of one struct stand together
+-- THE GROUPS of columns: neighbours of one struct are together
 unfoldable pub grouped : List ColumnSpec → List Group
 grouped columns = grouped_from 0 columns

@@ -29,7 +29,7 @@ abbrev pub is_list_of : ArrowType → ArrowType → Option ArrowType → Bool
 is_list_of element type None = false
 is_list_of element type (Some own) = same_type arrow.List type && same_type element own
 
--- THE TYPES THAT STORE A BASE; of a list its elements' type is told beside
+-- THE TYPES THAT STORE A BASE; the type of a list's elements is given beside it
 abbrev pub stores : Base → ArrowType → Option ArrowType → Bool
 stores base.U8 type elements = same_type (arrow.Int 8 false) type
 stores base.U16 type elements = same_type (arrow.Int 16 false) type
@@ -49,7 +49,7 @@ stores base.ListU64 type elements = is_list_of (arrow.Int 64 false) type element
 stores base.ListF64 type elements = is_list_of arrow.Double type elements
 stores (base.Id wide) type elements = same_type (arrow.Int 16 false) type || same_type (arrow.Int 32 false) type
 
--- the type of the elements of a list whose array stands at a place: that of the next array
+-- the type of the elements of the list whose array is at a place: that of the next array
 abbrev pub elements_at : List ArraySpec → ℕ → Option ArrowType
 elements_at arrays place = option_map (λ (a : ArraySpec). a.kind) (slice_get arrays (place + 1))
 

@@ -17,6 +17,6 @@ is_wide_after how before rows ns = list_any is_above (undone_after how greatest_
 abbrev pub is_wide_from : Table → ℕ → ℕ → ℕ → Bool
 is_wide_from t column row before = is_wide_after (coding_at t.kind column) before (drop row (continues_in t)) (drop row (stored_in t column))
 
--- whatever id up to `most` stands before a row, the rows after it tell whether a wide one follows, by an id up to `next`
+-- whatever id up to `most` comes before a row, whether a wide one follows is known by the rows after it and an id up to `next`
 pub record StaysNarrow (t : Table) (column row most next : ℕ) : Type 0 where
   pub at : (before : ℕ) → before ≤ most → (after : ℕ) × (after ≤ next) × (is_wide_from t column row before ≡ is_wide_from t column (row + 1) after)

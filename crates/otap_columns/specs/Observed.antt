@@ -73,7 +73,7 @@ is_main other = false
 abbrev pub is_own_id : Kind → ℕ → Bool
 is_own_id kind column = if is_main kind then bytes_eq (name_at kind column) (codes "id") else false
 
--- the ids of a column, told by its stored numbers
+-- the ids of a column, by its stored numbers
 abbrev pub profile_ids_in : Kind → ℕ → Table → List (Option ℕ)
 profile_ids_in kind column t = undone (coding_at kind column) greatest_wide (continues_in t) (stored_in t column)
 
@@ -104,7 +104,7 @@ id_form kind tables column = if is_wide (base_at kind column) || list_any (has_w
 abbrev pub id_form_if : Bool → Kind → List Table → ℕ → ColumnForm
 id_form_if own kind tables column = if own then id_form kind tables column else if_seen (values_in_tables kind tables column) (id_form kind tables column)
 
--- the form that a ladder tells
+-- the form of a ladder
 abbrev pub of_ladder : Form → ColumnForm
 of_ladder ladder.Absent = form.Absent
 of_ladder ladder.Dict8 = form.Dict8

@@ -25,7 +25,7 @@ use Rattle.otap_columns.specs.Substreams.{SubstreamIn, substream_in, indexes_fit
 use Rattle.otap_columns.specs.Views.{ReaderIn}
 use Rattle.otap_columns.specs.Limits.{dictionary_limit}
 
--- the message stands first in what was left to read, and was taken off
+-- the message was the first of what was left to read, and was taken off
 pub record Passes (old new : MessagesIn) (m : IpcMessage) : Type 0 where
   pub front : front_of (rest_of old) ≡ m ∷ front_of (rest_of new)
   pub left : left_of (rest_of old) ≡ left_of (rest_of new)
@@ -65,11 +65,11 @@ PassesNext old new (any.Rows batch) = PassesRows old new batch
 abbrev pub IsAtEnd : List IpcMessage → List ℕ → Type 0
 IsAtEnd front left = (front ≡ []) × (left ≡ [])
 
--- a fault stands first
+-- a fault comes first
 abbrev pub IsAtFault : List IpcMessage → List ℕ → IpcFault → Type 0
 IsAtFault front left fault = (front ≡ []) × ipc.Stands left fault
 
--- a message that passes the test stands first
+-- a message that passes the test comes first
 abbrev pub FirstPasses : (IpcMessage → Bool) → List IpcMessage → Type 0
 FirstPasses p front = (m : IpcMessage) × (after : List IpcMessage) × (front ≡ m ∷ after) × (p m ≡ true)
 
@@ -192,7 +192,7 @@ RefusesRows s batch (Buffers fault) = HasFault batch s.arrays fault
 RefusesRows s batch BadIndex = (arrays_check batch s.arrays ≡ Ok tt) × (indexes_fit s batch ≡ false)
 RefusesRows s batch refusal = ⊥
 
--- why a record isn't taken whose record batch stands first
+-- why a record isn't taken whose record batch comes first
 pub record RefusesAtRows (s : SubstreamIn) (front : List IpcMessage) (left : List ℕ) (refusal : ColumnRefusal) : Type 0 where
   pub batch : BatchIn
   pub after : List IpcMessage

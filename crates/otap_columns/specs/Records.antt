@@ -44,26 +44,26 @@ HasBufferFault s (Schema fields) fault = ⊥
 HasBufferFault s (Dictionary id delta batch) fault = HasValueFault s.dictionaries id batch fault
 HasBufferFault s (Rows batch) fault = HasFault batch s.arrays fault
 
--- no buffer of the messages has a fault, each read in the sub-stream that stands before it
+-- no buffer of the messages has a fault, each read in the sub-stream before it
 abbrev pub HasFineBuffers : List IpcMessage → IpcMessage → Type 0
 HasFineBuffers before m = (s : SubstreamIn) (fault : BufferFault) → substream_in before ≡ Some s → HasBufferFault s m fault → ⊥
 
 -- THE DEFECTS OF A RECORD, whose bytes are read after the messages `past` of its sub-stream; a record that opens one is read
--- after none. Several may stand side by side. Where the messages of a sub-stream don't begin with a schema, nothing is read by one:
+-- after none. Several may hold side by side. Where the messages of a sub-stream don't begin with a schema, nothing is read by one:
 -- they are out of order, and only the columns of a schema among them may be wrong too.
 pub data Stands (kind : Kind) (past : List IpcMessage) (bytes : List ℕ) : ColumnRefusal → Type 0 where
   -- a sub-stream begins with another message than a schema
   begins_otherwise : (m : IpcMessage) (after : List IpcMessage) → past ≡ [] → front_of bytes ≡ m ∷ after → is_schema m ≡ false → Stands kind past bytes Order
-  -- a schema stands after other messages
+  -- a schema comes after other messages
   schema_later : (before after : List IpcMessage) (fields : List FieldSpec) → front_of bytes ≡ before ++ Schema fields ∷ after → past ++ before ≢ [] → Stands kind past bytes Order
-  -- a message stands after a record batch
+  -- a message comes after a record batch
   more_after_rows : (before after : List IpcMessage) (batch : BatchIn) (m : IpcMessage) → front_of bytes ≡ before ++ Rows batch ∷ m ∷ after → Stands kind past bytes Order
   -- the record ends without a record batch
   no_rows : left_of bytes ≡ [] → list_any is_rows (front_of bytes) ≡ false → Stands kind past bytes Order
   -- no field has the id of a dictionary batch
   unknown_id : (before after : List IpcMessage) (id : ℤ) (delta : Bool) (batch : BatchIn) (s : SubstreamIn) → front_of bytes ≡ before ++ Dictionary id delta batch ∷ after
       → substream_in (past ++ before) ≡ Some s → list_any (has_id id) s.dictionaries ≡ false → Stands kind past bytes Order
-  -- a fault stands after the last message that can be read
+  -- a fault comes after the last message that can be read
   ends_badly : (fault : IpcFault) → ipc.Stands (left_of bytes) fault → Stands kind past bytes (Ipc fault)
   -- a known column of a schema has a type that doesn't store its base, or an encoding that it doesn't allow
   other_type : (before after : List IpcMessage) (fields : List FieldSpec) → front_of bytes ≡ before ++ Schema fields ∷ after → columns_fit kind (arrays_of fields) ≡ false
@@ -78,7 +78,7 @@ pub data Stands (kind : Kind) (past : List IpcMessage) (bytes : List ℕ) : Colu
   too_many_values : (before after : List IpcMessage) (id : ℤ) (delta : Bool) (batch : BatchIn) (s : SubstreamIn) → front_of bytes ≡ before ++ Dictionary id delta batch ∷ after
       → substream_in (past ++ before) ≡ Some s → list_any is_too_large (all_grown id delta batch s.dictionaries) ≡ true → Stands kind past bytes DictionarySize
 
--- what a call returns in place of a reader: a defect that stands, or that memory ran out
+-- what a call returns in place of a reader: a defect of the record, or out of memory
 abbrev pub Refuses : Kind → List IpcMessage → List ℕ → ColumnRefusal → Type 0
 Refuses kind past bytes (Memory e) = Unit {0}
 Refuses kind past bytes refusal = Stands kind past bytes refusal

@@ -46,7 +46,7 @@ abbrev pub led_to : Option DictionaryIn → Option (List ℕ) → Option (List �
 led_to None cell = cell
 led_to (Some d) cell = value_by_index d.values cell
 
--- what stands in a row of a column
+-- the value in a row of a column
 abbrev pub resolved_value : ResolvedColumn → ℕ → Option (List ℕ)
 resolved_value c row = led_to (option_copied c.dictionary) (cell_seen c.stored row)
 
@@ -59,7 +59,7 @@ abbrev pub LeadsBy : Option DictionaryIn → ColumnView → Type 0
 LeadsBy None v = ⊤
 LeadsBy (Some d) v = HasIndexSizes v
 
--- what a column tells of itself is so: each cell holds an index where there is a dictionary, and no bitmap has bytes where it is
+-- what a column says of itself is so: each cell holds an index where there is a dictionary, and no bitmap has bytes where it is
 -- whole
 pub record IsResolved (c : ResolvedColumn) : Type 0 where
   pub indexes : LeadsBy (option_copied c.dictionary) c.stored

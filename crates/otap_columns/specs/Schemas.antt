@@ -85,7 +85,7 @@ dict_for column form.Dict8 = Some (record { id = pos column; wide = false })
 dict_for column form.Dict16 = Some (record { id = pos column; wide = true })
 dict_for column other = None
 
--- what stands for a column in a schema, under this name
+-- what a schema has for a column, under this name
 abbrev pub leaf_in : Kind → Forms → Member → Leaf
 leaf_in kind forms m = record {
   name = m.name;

@@ -18,7 +18,7 @@ use Rattle.otap_columns.specs.Seen.{SeenIn, IsSeenAfter}
 abbrev pub places_of_cells : Base → ColumnForm → List (List ℕ) → List Cell → List (Option ℕ)
 places_of_cells holds form values cells = map (λ cell. place_among values (bytes_for holds form cell)) cells
 
--- the places of a number of cells, where those of the first ones are told and the others have none
+-- the places of a number of cells, where those of the first ones are given and the others have none
 abbrev pub filled_up : ℕ → List (Option ℕ) → List (Option ℕ)
 filled_up count places = places ++ replicate (count - length places) None
 
@@ -38,7 +38,7 @@ abbrev pub is_absent : Form → Bool
 is_absent ladder.Absent = true
 is_absent told = false
 
--- the form of a column of ids, and of any column, that a state tells
+-- the form of a column of ids, and of any column, that follows from a state
 abbrev pub id_form_told : Bool → Bool → Bool → ColumnForm
 id_form_told own absent wide = if absent && not own then form.Absent else (if wide then form.Wide else form.Plain)
 

@@ -57,7 +57,7 @@ abbrev pub is_index_below : ℕ → Option (List ℕ) → Bool
 is_index_below count None = true
 is_index_below count (Some index) = nat_lt (little_number (length index) index) count
 
--- what stands in a field: with a dictionary the value at the index
+-- what is in a field: with a dictionary the value at the index
 abbrev pub replaced : List DictionaryIn → ArrowType → Option DictSpec → Option (List ℕ) → Option (List ℕ)
 replaced dictionaries kind None cell = cell
 replaced dictionaries kind (Some dict) cell = value_by_index (values_for kind dict.id dictionaries) cell
@@ -66,7 +66,7 @@ abbrev pub field_value : SubstreamIn → BatchIn → ℕ → ℕ → Option Arra
 field_value s batch row place None = None
 field_value s batch row place (Some a) = replaced s.dictionaries a.kind a.dict (cell_of s.arrays batch place row)
 
--- what stands in a row of a known column; a column that is missing is null in each row
+-- the value in a row of a known column; a column that is missing is null in each row
 abbrev pub value_if : SubstreamIn → BatchIn → ℕ → Option ℕ → Option (List ℕ)
 value_if s batch row None = None
 value_if s batch row (Some place) = field_value s batch row place (slice_get s.arrays place)
@@ -78,7 +78,7 @@ column_value kind s batch column row = value_if s batch row (place_at kind s.arr
 unfoldable pub column_cell : Kind → SubstreamIn → BatchIn → ℕ → ℕ → Cell
 column_cell kind s batch column row = stored_cell (base_at kind column) (column_value kind s batch column row)
 
--- the table of a record batch, read in a sub-stream; its schema tells how ids are stored
+-- the table of a record batch, read in a sub-stream; its schema says how ids are stored
 unfoldable pub table_of_batch : Kind → SubstreamIn → BatchIn → Table
 table_of_batch kind s batch = table_by kind (column_coding kind s.arrays) (column_greatest kind s.arrays) batch.rows (column_cell kind s batch)
 

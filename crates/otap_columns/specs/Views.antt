@@ -24,7 +24,7 @@ pub record StandsForRecord (messages : List IpcMessage) (bytes : List ℕ) (r : 
   pub stands : StandsFor messages r
   pub finds : last_rows messages ≡ record_batch_in (drop r.place bytes)
 
--- a record batch without a fault stands in the bytes at the reader's place, and its indexes lead to values
+-- the bytes have a record batch without a fault at the reader's place, and its indexes lead to values
 pub record Shows (r : ReaderIn) (bytes : List ℕ) : Type 0 where
   pub batch : BatchIn
   pub found : record_batch_in (drop r.place bytes) ≡ Some batch

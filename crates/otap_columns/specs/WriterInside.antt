@@ -23,7 +23,7 @@ pub record SeesAll (kind : Kind) (t : Table) (old new : List SeenIn) : Type 0 wh
   pub count : length new ≡ length old
   pub each : (column : ℕ) → column < width_of kind → SeesTable kind column t (slice_index_or old column unseen) (slice_index_or new column unseen)
 
--- forms are those that what is kept tells
+-- forms are those that follow from what is kept
 pub record AreForms (kind : Kind) (columns : List SeenIn) (forms : List ColumnForm) : Type 0 where
   pub count : length forms ≡ width_of kind
   pub each : (column : ℕ) → column < width_of kind → forms_in forms column ≡ form_told kind column (slice_index_or columns column unseen)

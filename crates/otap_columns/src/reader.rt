@@ -35,7 +35,7 @@ pub struct Reader {
     /// The place of the array of each column of the kind.
     places: Vec<Option<usize>>,
     dictionaries: Vec<Dictionary>,
-    /// Where the record batch of the last record stands in it.
+    /// The offset of the record batch in the last record.
     place: usize,
     broken: bool,
 }
@@ -74,7 +74,7 @@ impl Reader {
         Ok(reader)
     }
 
-    /// Takes a further record. After a refusal, want of memory among them, the reader is broken.
+    /// Takes a further record. After a refusal, out of memory among them, the reader is broken.
     pub fn take(&mut self, bytes: &[u8]) -> Result<(), ColumnRefusal>
         requires { self.old.broken ≡ false }
         ensures takes { OnOk result (Takes self.old bytes.now self.new) }
@@ -200,7 +200,7 @@ impl Reader {
         }
     }
 
-    /// That the buffers of a record batch have no fault, and its indexes lead to values.
+    /// Checks that the buffers of a record batch have no fault, and that its indexes lead to values.
     fn check_rows(&self, batch: &BatchView<'_>) -> Result<(), ColumnRefusal>
         ensures ok { OnOk result (FitsRows self.now.substream batch.now) }
         ensures err { IfErr result (RefusesRows self.now.substream batch.now) }

@@ -9,7 +9,7 @@ use thiserror::Error;
 /// Why a record can't be read after the records before it.
 #[derive(Debug, Drop, Error)]
 pub enum ColumnRefusal {
-    /// A sub-stream doesn't begin with a schema, or another one stands in it; a record doesn't end with its one record
+    /// A sub-stream doesn't begin with a schema, or another one follows in it; a record doesn't end with its one record
     /// batch; or no field has the id of a dictionary batch.
     #[error("the messages stand in a wrong order")]
     Order,
@@ -56,7 +56,7 @@ impl From<IpcFault> for ColumnRefusal {
 
     ghost from_gives = { λ fault refusal. refusal ≡ refusal_of fault };
 
-    /// Want of memory is a refusal of its own.
+    /// Out of memory is a refusal of its own.
     fn from(fault: IpcFault) -> ColumnRefusal {
         match fault {
             IpcFault::Memory(e) => ColumnRefusal::Memory(e),

@@ -1,4 +1,4 @@
--- What stands in the messages of a capture are bytes where the capture is.
+-- The messages of a capture are bytes where the capture is.
 use Rattle.std.proofs.Common.{◌+◌, ℕ, List, [], ◌∷◌, ◌++◌, Option, length, refl, subst}
 use Rattle.std.specs.List.{AllByRecursion}
 use Rattle.std.proofs.lemmas.List.{take_at}

@@ -1,4 +1,4 @@
--- The buffers of messages are bytes where the messages stand in bytes.
+-- The buffers of messages are bytes where the messages are in bytes.
 use Rattle.std.proofs.Common.{◌≡◌, ◌+◌, ℕ, List, [], ◌∷◌, take, drop, length, Ok, IfOk, sym, subst}
 use Rattle.std.specs.Prelude.{nat_lt, Result}
 use Rattle.std.specs.List.{AllByRecursion}

@@ -25,7 +25,7 @@ use Rattle.otap_consume.specs.Payloads.{messages_before}
 use Rattle.otap_consume.specs.PayloadTypes.{IsFineType, times}
 use Rattle.otap_consume.proofs.ViewSteps.{fine_at}
 
--- a type that is there stands once in a list of fine types
+-- a type that is there occurs once in a list of fine types
 once_at : (signal : Signal) (all : List PayloadIn) (type : ℤ) (xs : List PayloadIn) → AllByRecursion (IsFineType signal all) xs → 0 < times type xs → times type all ≤ 1
 once_at signal all type [] fine some = absurd (omega (arith, some))
 once_at signal all type (p ∷ xs) fine some =

@@ -23,7 +23,7 @@ use Rattle.otap_consume.specs.PayloadTypes.{IsFineType}
 use Rattle.otap_consume.proofs.Judged.{are_judged}
 use Rattle.otap_consume.proofs.SegmentSteps.{payloads_accepted, broken_accepted, broken_refused, payloads_reset}
 
--- ---- a message is a batch, or a defect stands in it
+-- ---- a message is a batch, or has a defect
 
 abbrev pub IsReadOrRefused : Frame → Type 0
 IsReadOrRefused (Message bytes) = ((batch : BatchContent) × ReadsBatch bytes batch) ⊎ ((refusal : BatchRefusal) × RefusesBatch bytes refusal)

@@ -312,7 +312,7 @@ defects_in_one m past capture.Reset a b p q x y = absurd (reset_none m past capt
 
 -- ---- stage 0
 
--- what is wrong with a frame stands in a stage after it
+-- what is wrong with a frame is in a stage after it
 has_stage : (m : Meaning) (past : List PayloadIn) (frame : Frame) (cause : Cause) (payload : Option ℤ) → HasDefect m past frame cause payload → 0 < stage_of cause
 has_stage m past frame cause payload HasDefect.compressed = omega arith
 has_stage m past frame cause payload (HasDefect.unreadable bytes refusal bad) = let first = unread_first refusal in omega (arith, first)

@@ -43,7 +43,7 @@ numbered Metrics (suc (suc (suc (suc (suc (suc (suc (suc (suc (suc (suc (suc (su
 pub same_kind_number : (p type : ℤ) → int_eq p type ≡ true → p ≡ type
 same_kind_number p type h = (Decides-int_eq p type).0 h
 
--- a kind that has a number stands at a place, and has that number
+-- a kind that has a number is at a place, and has that number
 pub record HasNumber (signal : Signal) (number : ℤ) (kind : Kind) : Type 0 where
   pub at : ℕ
   pub inside : at < length (kinds_of signal)

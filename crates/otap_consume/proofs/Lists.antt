@@ -6,7 +6,7 @@ use Rattle.std.proofs.lemmas.Bool.{cases_Bool, cases_eq}
 use Rattle.std.proofs.lemmas.List.{get_or-set_same, get_or-set_other, get_or_default}
 use Rattle.std.proofs.lemmas.List.Sums.{sum_by-cons}
 
--- what is found stands somewhere, and passes the test
+-- what is found is in the list, and passes the test
 pub record Finds {X : Type 0} (test : X → Bool) (xs : List X) (x : X) : Type 0 where
   pub at : ℕ
   pub inside : at < length xs

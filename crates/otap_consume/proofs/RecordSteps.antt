@@ -100,7 +100,7 @@ defect_at signal past done rest payloads p why mid i d whole same inside stands 
 a_stream : StreamIn
 a_stream = record { kind = Logs; current = None }
 
--- where a stream refuses the record of a payload, a defect stands in it, or memory ran out
+-- where a stream refuses the record of a payload, it has a defect, or memory ran out
 pub stops_at : (old mid : List StreamIn) (done rest payloads : List PayloadIn) (p : PayloadIn) (why : ColumnRefusal) (stop : NotTaken)
     → TakesPayloads old done mid → payloads ≡ done ++ p ∷ rest → OneRefuses mid p why → IsUntakenFor why p.kind stop
     → (signal : Signal) (past : List PayloadIn) → kinds_in old ≡ kinds_of signal → AreAfter past old → SaysDefect (IsOfRecord signal past payloads) stop

@@ -31,7 +31,7 @@ use Rattle.otap_consume.specs.Taking.{AcceptsAfter, IsStopped, NextBatch}
 
 -- ---- one more outcome
 
--- one that is no reset stands in the segment of those before it
+-- one that is no reset is in the segment of those before it
 more : (outcomes : List Outcome) (o : Outcome) → is_reset o ≡ false → segment (outcomes ++ o ∷ []) ≡ segment outcomes ++ o ∷ []
 more outcomes o stays = since-append is_reset outcomes (o ∷ []) ∙ rw stays refl
 

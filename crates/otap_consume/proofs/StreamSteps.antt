@@ -50,7 +50,7 @@ passes s p other = record {
 same_type : (p : PayloadIn) (kind : Kind) → int_eq p.kind (payload_type_of kind) ≡ true → p.kind ≡ payload_type_of kind
 same_type p kind own = (Decides-int_eq p.kind (payload_type_of kind)).0 own
 
--- where the payload opens, its record stands after no messages; else after those of the sub-stream
+-- where the payload opens, its record comes after no messages; else after those of the sub-stream
 before_open : (past : List PayloadIn) (p : PayloadIn) (kind : Kind) (b : Bool) → p.kind ≡ payload_type_of kind → opens_after (last_of (payload_type_of kind) past) p ≡ b
     → messages_before past p ≡ (if b then [] else stream_of (payload_type_of kind) past)
 unfolding opens

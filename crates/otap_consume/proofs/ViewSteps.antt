@@ -51,7 +51,7 @@ last_of-none type xs (y ∷ ys) none =
           ∙ last_of-other type xs y other
     ]
 
--- a payload whose type stands once is the last one of its type
+-- a payload whose type occurs once is the last one of its type
 pub last_is : (past front rest : List PayloadIn) (p : PayloadIn) → times p.kind (front ++ p ∷ rest) ≤ 1
     → last_of p.kind (past ++ (front ++ p ∷ rest)) ≡ Some p
 last_is past front rest p once =

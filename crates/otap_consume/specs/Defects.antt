@@ -49,7 +49,7 @@ StandsInList signal past payloads PayloadTwice (Some type) = StandsInTypes signa
 StandsInList signal past payloads SchemaIdTaken (Some type) = HasTakenId signal past payloads type
 StandsInList signal past payloads cause payload = ⊥
 
--- nothing is
+-- nothing is wrong with the list
 pub record HasFineList (signal : Signal) (past payloads : List PayloadIn) : Type 0 where
   pub types : HasFineTypes signal payloads
   pub ids : AllAfter (λ before p. is_taken signal before p ≡ false) past payloads
@@ -65,7 +65,7 @@ pub record StandsInRecord (signal : Signal) (past payloads : List PayloadIn) (re
   pub stands : Stands kind (messages_before (past ++ has.before) p) p.bytes refusal
   pub named : payload ≡ Some p.kind
 
--- none has one
+-- no record has a defect
 abbrev pub IsReadAfter : Signal → List PayloadIn → PayloadIn → Type 0
 IsReadAfter signal before p = (kind : Kind) → kind_numbered signal p.kind ≡ Some kind → IsRead kind (messages_before before p) p.bytes
 
@@ -104,7 +104,7 @@ IsTooLarge signal tables held RowsTooHeavy = row_weight_limit < weight_of_tables
 IsTooLarge signal tables held HeldTooMuch = held_limit < held
 IsTooLarge signal tables held cause = ⊥
 
--- it is within these limits
+-- a batch is within these limits
 pub record IsWithinLimits (signal : Signal) (tables : List Table) (held : ℕ) : Type 0 where
   pub items : length (rows_named (main_of signal) tables) ≤ item_limit
   pub rows : weight_of_tables tables ≤ row_weight_limit
@@ -126,6 +126,6 @@ pub record Accepts (signal : Signal) (past payloads : List PayloadIn) : Type 0 w
   pub records : HasFineRecords signal past payloads
   pub size : IsWithinLimits signal (tables_of signal past payloads) (held_after signal (past ++ payloads))
 
--- they are one or the other
+-- the payloads are refused or accepted
 abbrev pub AreJudged : Signal → List PayloadIn → List PayloadIn → Type 0
 AreJudged signal past payloads = Accepts signal past payloads ⊎ ((cause : Cause) × (payload : Option ℤ) × Refuses signal past payloads cause payload)

@@ -16,14 +16,14 @@ pub record OpenIdIn : Type 0 where
   pub kind : Kind
   pub id : Option (List ℕ)
 
--- those of streams, and those after payloads
+-- the ids that are open in streams, and after payloads
 abbrev pub ids_of : List StreamIn → List OpenIdIn
 ids_of streams = map (λ s. record { kind = s.kind; id = schema_id_of s }) streams
 
 abbrev pub ids_after : Signal → List PayloadIn → List OpenIdIn
 ids_after signal payloads = map (λ kind. record { kind = kind; id = open_id (payload_type_of kind) payloads }) (kinds_of signal)
 
--- one of another type is that of the payload
+-- the id that is open for another type is that of the payload
 abbrev pub has_other_type : PayloadIn → OpenIdIn → Bool
 has_other_type p x = not (int_eq p.kind (payload_type_of x.kind)) && is_open_id p.schema_id x.id
 

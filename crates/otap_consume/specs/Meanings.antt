@@ -28,7 +28,7 @@ StandsInRows m tables (Row why) payload = (kind : Kind) × (payload ≡ Some (pa
 StandsInRows m tables TreeTooHeavy payload = (payload ≡ None) × AreClean m tables × (weight_limit < weight_of (m.request tables))
 StandsInRows m tables cause payload = ⊥
 
--- nothing is
+-- nothing is wrong with it
 pub record HasFineRows (m : Meaning) (tables : List Table) : Type 0 where
   pub clean : AreClean m tables
   pub light : weight_of (m.request tables) ≤ weight_limit

@@ -23,7 +23,7 @@ pub data Outcome : Type 0 where
   Refused : Refusal → Outcome
   Reset : Outcome
 
--- the stage in which a cause stands
+-- the stage of a cause
 abbrev pub stage_of : Cause → ℕ
 stage_of Broken = 0
 stage_of Compressed = 1

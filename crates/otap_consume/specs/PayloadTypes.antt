@@ -1,4 +1,4 @@
--- The payload types of a batch: each is one of the signal's, and stands there once.
+-- The payload types of a batch: each is one of the signal's, and occurs once.
 use Rattle.std.specs.Prelude.{◌≡◌, ℕ, ◌<◌, ◌≤◌, ℤ, List, ◌∷◌, ◌++◌, None, IsSome, count_by}
 use Rattle.std.specs.List.{AllByRecursion}
 use Rattle.std.specs.Ordering.{int_eq}
@@ -23,7 +23,7 @@ StandsInTypes signal payloads (PayloadType kind) =
     (payload : PayloadIn) × HasPayload payloads payload × (payload.kind ≡ kind) × (kind_numbered signal kind ≡ None)
 StandsInTypes signal payloads (PayloadTwice kind) = 1 < times kind payloads
 
--- none of these stands
+-- none of these holds
 pub record IsFineType (signal : Signal) (payloads : List PayloadIn) (payload : PayloadIn) : Type 0 where
   pub known : IsSome (kind_numbered signal payload.kind)
   pub once : times payload.kind payloads ≤ 1

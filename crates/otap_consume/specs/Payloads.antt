@@ -10,6 +10,6 @@ use Rattle.otap_columns.specs.Streams.{opens, stream_of}
 abbrev pub payload_type_of : Kind → ℤ
 payload_type_of kind = pos (number_of kind)
 
--- the messages after which the record of a payload stands: none where it opens a sub-stream
+-- the messages after which the record of a payload comes: none where it opens a sub-stream
 abbrev pub messages_before : List PayloadIn → PayloadIn → List IpcMessage
 messages_before before p = if opens before p then [] else stream_of p.kind before

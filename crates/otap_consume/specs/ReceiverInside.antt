@@ -41,7 +41,7 @@ pub record AreLast (frame : Frame) (s : SegmentIn) (tables : List Table) : Type 
   pub stands : StandsFor signal (outcomes ++ Accepted batch tables ∷ []) s
   pub are : tables ≡ tables_of signal (payloads_after outcomes) batch.payloads
 
--- what is made of it is that of its tables
+-- what is made of the batch is what is made of its tables
 abbrev pub OfLast : Frame → SegmentIn → (List Table → Type 0) → Type 0
 OfLast frame s P = (tables : List Table) → AreLast frame s tables → P tables
 
@@ -62,7 +62,7 @@ TakesRows m frame id rows old new (taken.Refused refusal) =
     (cause : Cause) × (payload : Option ℤ) × (refusal ≡ refusal_of (Some id) cause payload) × BreaksAt m frame old new cause payload
 TakesRows m frame id rows old new taken.Reset = ⊥
 
--- what is returned where the rows are not taken; want of memory is handed on
+-- what is returned where the rows are not taken; out of memory is passed on
 abbrev pub RefusesBy : ℤ → NotTaken → Taken → Type 0
 RefusesBy id (Defect cause payload) returned = returned ≡ taken.Refused (refusal_of (Some id) cause payload)
 RefusesBy id (Memory e) returned = ⊥

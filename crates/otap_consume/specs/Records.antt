@@ -14,7 +14,7 @@ pub record EachTakes (old : List StreamIn) (p : PayloadIn) (new : List StreamIn)
   pub long : length new ≡ length old
   pub each : (i : ℕ) (d : StreamIn) → i < length old → Takes (slice_index_or old i d) p (slice_index_or new i d)
 
--- one of them has found a defect in it
+-- a stream has found a defect in the payload
 pub record OneRefuses (old : List StreamIn) (p : PayloadIn) (refusal : ColumnRefusal) : Type 0 where
   pub i : ℕ
   pub inside : i < length old

@@ -14,7 +14,7 @@ pub record IsRegrouped (m : Meaning) (tables : List Table) (regrouped : Regroupe
   pub request : regrouped.request ≡ m.request tables
   pub tree : regrouped.tree ≡ weight_of regrouped.request
 
--- it is within its limit
+-- the request is within its limit
 abbrev pub IsLight : Regrouped → Type 0
 IsLight regrouped = weight_of regrouped.request ≤ weight_limit
 

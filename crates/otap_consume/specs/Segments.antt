@@ -26,14 +26,14 @@ pub record StandsFor (signal : Signal) (outcomes : List Outcome) (s : SegmentIn)
   pub broken : s.broken ≡ is_broken outcomes
   pub streams : s.broken ≡ false → AreAfter (payloads_after outcomes) s.streams
 
--- what is returned tells an outcome: of a batch its id and its row weight
+-- what is returned says an outcome: of a batch its id and its row weight
 abbrev pub TellsOutcome : Outcome → Seen → Type 0
 TellsOutcome (Accepted batch tables) (seen.Batch id rows) = (id ≡ batch.id) × (rows ≡ weight_of_tables tables)
 TellsOutcome (Refused refusal) (seen.Refused told) = told ≡ refusal
 TellsOutcome Reset seen.Reset = ⊤
 TellsOutcome outcome returned = ⊥
 
--- the next frame gives an outcome, which is told, and the segment stands for one more frame
+-- the next frame gives an outcome, which is returned, and the segment stands for one more frame
 pub record HasNext (signal : Signal) (outcomes : List Outcome) (frame : Frame) (returned : Seen) (new : SegmentIn) : Type 0 where
   pub outcome : Outcome
   pub gives : OutcomeAfter signal outcomes frame outcome
@@ -72,7 +72,7 @@ pub record TablesOf (s : SegmentIn) (payloads : List PayloadIn) (tables : List T
   pub are : (signal : Signal) (outcomes : List Outcome) (batch : BatchContent) (before : List Table) → batch.payloads ≡ payloads
       → StandsFor signal (outcomes ++ Accepted batch before ∷ []) s → tables ≡ tables_of signal (payloads_after outcomes) payloads
 
--- a segment in which no frame stands
+-- a segment that has taken no frame
 pub record IsNew (signal : Signal) (s : SegmentIn) : Type 0 where
   pub same : s.signal ≡ signal
   pub whole : s.broken ≡ false

@@ -21,7 +21,7 @@ pub record Takes (old : StreamIn) (p : PayloadIn) (new : StreamIn) : Type 0 wher
   pub reads : (past : List PayloadIn) → IsAfter past old → int_eq p.kind (payload_type_of old.kind) ≡ true → IsRead old.kind (messages_before past p) p.bytes
   pub after : (past : List PayloadIn) → IsAfter past old → IsAfter (past ++ p ∷ []) new
 
--- or it has found a defect in it
+-- or the stream has found a defect in the payload
 abbrev pub RefusesFor : List PayloadIn → Kind → PayloadIn → ColumnRefusal → Type 0
 RefusesFor past kind p (refusal.Memory e) = ⊤
 RefusesFor past kind p refusal = int_eq p.kind (payload_type_of kind) ≡ true × Stands kind (messages_before past p) p.bytes refusal
@@ -54,6 +54,6 @@ held_if (Some current) = held_weight current.reader.substream.dictionaries
 abbrev pub held_of : StreamIn → ℕ
 held_of s = held_if s.current
 
--- the stream of a kind in which none is open
+-- the stream of a kind, with no open sub-stream
 abbrev pub closed : StreamIn → StreamIn
 closed s = record { kind = s.kind; current = None }

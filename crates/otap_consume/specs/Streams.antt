@@ -15,7 +15,7 @@ pub record StreamIn : Type 0 where
   pub kind : Kind
   pub current : Option OpenIn
 
--- it is that of the last payload of its type, and its reader has read to it
+-- the sub-stream is that of the last payload of its type, and its reader has read to it
 pub record IsReadTo (payloads : List PayloadIn) (kind : Kind) (last : PayloadIn) (current : OpenIn) : Type 0 where
   pub id : current.schema_id ≡ last.schema_id
   pub stands : StandsForRecord (stream_of (payload_type_of kind) payloads) last.bytes current.reader

@@ -20,7 +20,7 @@ pub record Weighs (signal : Signal) (past payloads : List PayloadIn) (weight : �
   pub within : IsWithinLimits signal (tables_of signal past payloads) (held_after signal (past ++ payloads))
   pub rows : weight ≡ weight_of_tables (tables_of signal past payloads)
 
--- or they aren't
+-- or the payloads aren't within the limits
 abbrev pub StopsBySize : Signal → List PayloadIn → List PayloadIn → NotTaken → Type 0
 StopsBySize signal past payloads = SaysDefect (IsOfSize (IsTooLarge signal (tables_of signal past payloads) (held_after signal (past ++ payloads))))
 
@@ -30,7 +30,7 @@ pub record AcceptsAfter (signal : Signal) (past payloads : List PayloadIn) (new 
   pub after : AreAfter (past ++ payloads) new
   pub rows : weight ≡ weight_of_tables (tables_of signal past payloads)
 
--- what is returned where the payloads are not taken; want of memory is handed on
+-- what is returned where the payloads are not taken; out of memory is passed on
 abbrev pub IsStopped : NotTaken → BatchContent → Seen → Type 0
 IsStopped (Defect cause payload) batch returned = returned ≡ seen.Refused (refusal_of (Some batch.id) cause payload)
 IsStopped (Memory e) batch returned = ⊥

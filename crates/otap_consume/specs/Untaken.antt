@@ -13,7 +13,7 @@ use Rattle.otap_consume.specs.declared.not_taken.NotTaken.{NotTaken}
 use Rattle.otap_consume.specs.declared.not_taken.NotTaken.TheVariants.{Defect, Memory}
 use Rattle.otap_consume.specs.Defects.{StandsInRecord}
 
--- memory may run out at any time; else a defect stands
+-- memory may run out at any time; else there is a defect
 abbrev pub SaysDefect : (Cause → Option ℤ → Type 0) → NotTaken → Type 0
 SaysDefect D (Defect cause payload) = D cause payload
 SaysDefect D (Memory e) = ⊤
@@ -23,7 +23,7 @@ abbrev pub IsOfRecord : Signal → List PayloadIn → List PayloadIn → Cause �
 IsOfRecord signal past payloads (Column refusal) payload = StandsInRecord signal past payloads refusal payload
 IsOfRecord signal past payloads cause payload = ⊥
 
--- a limit that is passed is no payload's
+-- a limit that is exceeded names no payload
 abbrev pub IsOfSize : (Cause → Type 0) → Cause → Option ℤ → Type 0
 IsOfSize L cause payload = (payload ≡ None) × L cause
 

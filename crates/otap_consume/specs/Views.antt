@@ -29,6 +29,6 @@ pub record IsViewOf (streams : List StreamIn) (p : PayloadIn) (table : Table) : 
   pub shows : (payloads : List PayloadIn) → AreAfter payloads streams → last_of p.kind payloads ≡ Some p
       → logical table.kind (stream_of p.kind payloads) ≡ Some table
 
--- each of these is that of its payload
+-- each of these tables is that of its payload
 abbrev pub AreViewsOf : List StreamIn → List PayloadIn → List Table → Type 0
 AreViewsOf streams payloads tables = AllZip (IsViewOf streams) payloads tables

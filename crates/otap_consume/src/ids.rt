@@ -16,7 +16,7 @@ use otap_capture::{Batch, Payload};
 use std::alloc::{AllocError, Global};
 use std::marker::Model;
 
-/// Looks at the schema ids of a batch: none is to be open for another type, where its payload stands.
+/// Looks at the schema ids of a batch: where a payload comes, its id is not to be open for another type.
 pub(crate) fn check_ids(
     alloc: Global,
     streams: &[Stream],
@@ -37,7 +37,7 @@ pub(crate) fn check_ids(
     Ok(())
 }
 
-/// The schema id that is open for a type: that of a payload before in this batch, else that of the stream.
+/// The schema id that is open for a type: that of an earlier payload of this batch, else that of the stream.
 #[derive(Clone, Copy, Debug)]
 struct OpenId<'s, 'b> {
     stream: &'s Stream,
@@ -63,7 +63,7 @@ impl<'s, 'b> OpenId<'s, 'b> {
     }
 }
 
-/// Those of all types of a signal.
+/// The schema ids that are open for the types of a signal.
 #[derive(Debug, Drop)]
 struct OpenIds<'s, 'b> {
     ids: Vec<OpenId<'s, 'b>>,
@@ -103,7 +103,7 @@ impl<'s, 'b> OpenIds<'s, 'b> {
         false
     }
 
-    /// The schema id of the payload is open for its type.
+    /// Makes the schema id of the payload the one that is open for its type.
     fn set(&mut self, payload: &Payload<'b>)
         ensures { self.new ≡ map (with_open_id (content_of payload.now)) self.old }
     {

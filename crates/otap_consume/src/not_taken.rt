@@ -8,10 +8,10 @@ use otap_attrs::CheckRefusal;
 use otap_checks::RegroupRefusal;
 use std::alloc::AllocError;
 
-/// Something is wrong with them, or memory ran out.
+/// Something is wrong with the payloads, or memory ran out.
 #[derive(Debug, Drop)]
 pub(crate) enum NotTaken {
-    /// A cause, and the type of the payload in which it stands, if it stands in one.
+    /// A cause, and the type of the payload that it is in, if it is in one.
     Defect { cause: Cause, payload: Option<i32> },
     /// Memory ran out.
     Memory(AllocError),
@@ -67,7 +67,7 @@ impl From<RegroupRefusal> for NotTaken {
     }
 }
 
-/// A cause that stands in a payload of this type.
+/// A cause in a payload of this type.
 pub(crate) fn defect(cause: Cause, kind: i32) -> NotTaken
     ensures { result ≡ Defect cause (Some kind) }
 {

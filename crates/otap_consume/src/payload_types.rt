@@ -7,7 +7,7 @@ use otap_cells::table_of;
 use otlp_model::Signal;
 use thiserror::Error;
 
-/// What is wrong with the payload types of a batch. Where several of these stand, any may be named.
+/// What is wrong with the payload types of a batch. Where several of these hold, any may be named.
 #[derive(Clone, Copy, Debug, PartialEq, Eq, Error)]
 pub enum TypesRefusal {
     /// A payload type is none of the signal's.
@@ -18,7 +18,7 @@ pub enum TypesRefusal {
     PayloadTwice(i32),
 }
 
-/// Looks at the payload types of a batch: each is to be one of the signal's, and to stand there once.
+/// Looks at the payload types of a batch: each is to be one of the signal's, and to occur once.
 /// It is linear, since a signal has few types: of more payloads one of the first is refused.
 pub fn check_types(signal: Signal, batch: &Batch<'_>) -> Result<(), TypesRefusal>
     ensures { MatchResult result (λ x. HasFineTypes signal batch.now.payloads) (StandsInTypes signal batch.now.payloads) }

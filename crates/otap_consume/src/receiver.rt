@@ -46,7 +46,7 @@ impl<T: Telemetry> Receiver<T> {
     ghost use Rattle.otap_consume.specs.Receivers.{Receives, HasLightRequest};
     ghost use Rattle.otap_consume.specs.Segments.{IsNew};
 
-    /// A receiver in which no frame stands.
+    /// A receiver that has taken no frame.
     pub fn new(alloc: Global) -> Result<Receiver<T>, AllocError>
         ensures { IfOk result (IsNew T.meaning.signal) }
     {
@@ -59,7 +59,7 @@ impl<T: Telemetry> Receiver<T> {
     }
 
     /// Takes the next frame: a batch after those before it, or a reset, which begins a segment. A refused frame breaks the
-    /// segment, as want of memory does: until a reset each batch is then refused. The request of a batch is built
+    /// segment, and so does running out of memory: until a reset each batch is then refused. The request of a batch is built
     /// only where its weight is within the limit.
     pub fn take(&mut self, frame: &Frame<'_>) -> Result<Taken, AllocError>
         ensures next { IfOk result (Receives T.meaning self.old (frame_of frame.now) self.new) }
@@ -149,7 +149,7 @@ fn accepted(id: i64, rows: u64, kept: Regrouped) -> Taken
     }
 }
 
-/// The result where the rows are not taken. Want of memory is handed on.
+/// The result where the rows are not taken. Out of memory is passed on.
 fn refused(id: i64, stop: NotTaken) -> Result<Taken, AllocError>
     ensures { IfOk result (RefusesBy id stop) }
 {

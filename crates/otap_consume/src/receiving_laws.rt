@@ -36,8 +36,8 @@ pub fn refused_by_what_is_wrong<T: Telemetry>()
         → ReceivedAfter T.meaning outcomes frame (Refused refusal) → (refusal.stage ≡ 0) ↔ (is_broken outcomes ≡ true) }
 {}
 
-/// Each frame has an outcome after frames with outcomes, and so have all frames, and those of each capture. What stands in
-/// messages and captures are bytes, numbers below 256.
+/// Each frame has an outcome after frames with outcomes, and so have all frames, and those of each capture. Messages and
+/// captures are lists of bytes, numbers below 256.
 pub fn received_some_outcome<T: Telemetry>()
     ensures next { (frames : List Frame) (outcomes : List Outcome) (frame : Frame) → All IsOfBytes frames → IsOfBytes frame → Received T.meaning frames outcomes
         → (outcome : Outcome) × ReceivedAfter T.meaning outcomes frame outcome }

@@ -9,7 +9,7 @@ use thiserror::Error;
 /// What the dictionaries of all sub-streams that are open may hold: the bytes of each value, and 8 for each.
 pub const MAX_HELD: u64 = 1 << 28;
 
-/// Why a frame is refused. Where several causes stand in the first stage that has any, any of them may be named.
+/// Why a frame is refused. Where several causes hold in the first stage that has any, any of them may be named.
 #[derive(Debug, Drop, Error)]
 pub enum Cause {
     /// Stage 1: the message is compressed.
@@ -27,7 +27,7 @@ pub enum Cause {
     /// Stage 2: the payload type is none of the signal's.
     #[error("the payload type is none of the signal's")]
     PayloadType,
-    /// Stage 2: the payload type stands twice in the batch.
+    /// Stage 2: the payload type occurs twice in the batch.
     #[error("the payload type stands twice")]
     PayloadTwice,
     /// Stage 2: the schema id is open for another payload type.
@@ -57,7 +57,7 @@ pub enum Cause {
 }
 
 /// A frame that is refused: its batch id where the message can be read, the stage and the cause, and the type of the payload
-/// in which the cause stands, if it stands in one.
+/// that the cause is in, if it is in one.
 #[derive(Debug, Drop)]
 pub struct Refusal {
     /// The batch id; `None` where the message can't be read.
@@ -66,7 +66,7 @@ pub struct Refusal {
     pub stage: u8,
     /// Why it is refused.
     pub cause: Cause,
-    /// The payload type; `None` where the cause stands in no one payload.
+    /// The payload type; `None` where the cause is in no one payload.
     pub payload: Option<i32>,
 }
 

@@ -45,7 +45,7 @@ impl Segment {
     ghost use Rattle.otap_consume.specs.declared.refusal.Cause.TheVariants.{Broken};
     ghost use Rattle.otap_consume.specs.Segments.{IsNew, Next, TakesIf, CanShow, TablesOf};
 
-    /// A segment in which no frame stands.
+    /// A segment that has taken no frame.
     pub fn new(alloc: Global, signal: Signal) -> Result<Segment, AllocError>
         ensures { IfOk result (IsNew signal) }
     {
@@ -62,7 +62,7 @@ impl Segment {
     }
 
     /// Takes the next frame: a batch after those before it, or a reset, which begins a segment. A refused frame breaks the
-    /// segment, as want of memory does: until a reset each batch is then refused.
+    /// segment, and so does running out of memory: until a reset each batch is then refused.
     pub fn take(&mut self, frame: &Frame<'_>) -> Result<Seen, AllocError>
         ensures next { IfOk result (Next self.old (frame_of frame.now) self.new) }
         ensures taken { IfOk result (TakesIf (frame_of frame.now) self.new) }
@@ -168,7 +168,7 @@ fn refused(batch: &Batch<'_>, cause: Cause, payload: Option<i32>) -> Seen
     refusal(Some(batch.id()), cause, payload)
 }
 
-/// The result where the payloads are not taken. Want of memory is handed on.
+/// The result where the payloads are not taken. Out of memory is passed on.
 fn stopped(batch: &Batch<'_>, stop: NotTaken) -> Result<Seen, AllocError>
     ensures { IfOk result (IsStopped stop batch.now) }
 {
@@ -194,7 +194,7 @@ fn unread_cause(refusal: BatchRefusal) -> Cause
     }
 }
 
-/// No sub-stream is open any more.
+/// Closes all sub-streams.
 fn close_all(streams: &mut [Stream])
     ensures { streams.new ≡ map closed streams.old }
 {

@@ -43,7 +43,7 @@ impl Stream {
     ghost use Rattle.otap_consume.specs.Payloads.{payload_type_of};
     ghost use Rattle.otap_consume.specs.StreamSteps.{Takes, DoesNotTake, closed, schema_id_of, held_of, reader_of};
 
-    /// No sub-stream is open.
+    /// A stream with no open sub-stream.
     pub(crate) fn new(kind: Kind) -> Stream
         ensures { result ≡ record { kind = kind; current = None } }
     {
@@ -122,7 +122,7 @@ impl Stream {
         Ok(())
     }
 
-    /// No sub-stream is open any more.
+    /// Closes the sub-stream that is open.
     pub(crate) fn close(&mut self)
         ensures { self.new ≡ closed self.old }
     {

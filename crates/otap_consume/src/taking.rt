@@ -65,7 +65,7 @@ fn check_sizes(
     }
 }
 
-/// A limit that is passed is no payload's.
+/// A limit that is exceeded names no payload.
 fn of_size(cause: Cause) -> NotTaken
     ensures { result ≡ Defect cause None }
 {

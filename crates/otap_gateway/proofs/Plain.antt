@@ -4,7 +4,7 @@ use Rattle.std.specs.List.{list_any}
 use Rattle.std.proofs.lemmas.Bool.{or_parts}
 use Rattle.otap_gateway.specs.Quoting.{is_special, escaped, quoted}
 
--- they stand as they are
+-- they are written as they are
 pub quoted_plain : (text : List ℕ) → list_any is_special text ≡ false → quoted text ≡ text
 quoted_plain [] none = refl
 quoted_plain (byte ∷ text) none =

@@ -22,7 +22,7 @@ joined : (f : ℕ → List ℕ) (n : ℕ) (ns : List ℕ) → join_with_byte 44 
 joined f n [] = sym (append-nil (f n))
 joined f n (m ∷ ns) = ap (λ text. f n ++ (44 ∷ text)) (joined f m ns)
 
--- the digits of bytes that stand after others
+-- the digits of bytes that come after others
 pub digits_join : (xs ys : List ℕ) → encode_lower (xs ++ ys) ≡ encode_lower xs ++ encode_lower ys
 unfolding encode_with
 digits_join [] ys = refl

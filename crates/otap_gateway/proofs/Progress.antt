@@ -28,7 +28,7 @@ use Rattle.otap_gateway.specs.declared.runs.drive.Handled.{Handled}
 use Rattle.otap_gateway.specs.Runs.{Sinks, World, BeginsWith, WritesAll, WritesFront, WritesTaken, Stops, LeavesLine, NoneFailed, IsFlushed, IsQuiet}
 use Rattle.otap_gateway.specs.Turns.{KeepsBoth, Settled, TurnAsks, TurnsFailing, TurnsFrame, TurnsFramePart, TurnsEnd, TurnsEndPart}
 
--- A run so far: what is ahead stands after the frames that were taken, and the sinks grew by the replies to them.
+-- A run so far: what is ahead comes after the frames that were taken, and the sinks grew by the replies to them.
 pub record Progress (R : Rule) (stands : History) (old new : World) (place number : ℕ) (any unflushed : Bool) : Type 0 where
   pub frames : List Frame
   pub replies : List ReplyText

@@ -1,4 +1,4 @@
--- One list of outcomes gives the replies of a job that tells them, and each list of replies is given by one.
+-- One list of outcomes gives the replies of a job, and each list of replies is given by one.
 use Rattle.std.proofs.Common.{◌≡◌, ℕ, suc, ◌+◌, List, [], ◌∷◌, ◌++◌, length, refl, sym, ap, ◌∙◌, subst, zero-add, arith}
 use Rattle.std.specs.Prelude.{codes, ◌≤◌, ℤ, Option, All}
 use Rattle.std.specs.List.{AllByRecursion}
@@ -92,7 +92,7 @@ pub show_given : (signal : Signal) (frames : List Frame) (outcomes : List Outcom
 unfolding ReplyOf
 show_given signal = given (OutcomeAfter signal) shown
 
--- what stands in rows isn't in an early stage
+-- what is wrong with rows isn't in an early stage
 not_early : (m : Meaning) (tables : List Table) (cause : Cause) (payload : Option ℤ) → StandsInRows m tables cause payload → stage_of cause ≤ 4 → ⊥
 not_early m tables Compressed payload stands early = stands
 not_early m tables BadMessage payload stands early = stands

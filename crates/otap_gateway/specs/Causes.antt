@@ -17,7 +17,7 @@ buffer_name BadOffsets = codes "Buffers.BadOffsets"
 buffer_name BadNulls = codes "Buffers.BadNulls"
 buffer_name BadUtf8 = codes "Buffers.BadUtf8"
 
--- want of memory is one that is never printed
+-- out of memory is never printed
 abbrev pub column_name : ColumnRefusal → List ℕ
 column_name refusal.Order = codes "Order"
 column_name (refusal.Ipc fault) = fault_name fault

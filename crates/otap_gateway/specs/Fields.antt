@@ -22,7 +22,7 @@ type_word type.Duration = codes "duration"
 type_word type.Struct = codes "struct"
 type_word type.List = codes "list"
 
--- what stands after the type of a field with this dictionary: the type of its indexes
+-- what a line has after the type of a field with this dictionary: the type of its indexes
 abbrev pub dictionary_word : Option DictSpec → List ℕ
 dictionary_word None = []
 dictionary_word (Some dict) = if dict.wide then codes " dict u16" else codes " dict u8"

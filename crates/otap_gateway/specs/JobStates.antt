@@ -11,7 +11,7 @@ use Rattle.otap_gateway.specs.Reply.{ReplyText}
 use Rattle.otap_gateway.specs.Showing.{shown}
 use Rattle.otap_gateway.specs.Told.{Giving, Gave, told}
 
--- the frames and the replies that a state stands for which stands for outcomes
+-- the frames and the replies that a state stands for, by the outcomes that it stands for
 pub record HasTold {O : Type 0} (Gives : Giving O) (text : ℕ → O → ReplyText) (stands : List O → Type 0) (frames : List Frame) (replies : List ReplyText) : Type 0 where
   pub outcomes : List O
   pub before : Gave Gives frames outcomes

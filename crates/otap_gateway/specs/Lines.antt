@@ -32,7 +32,7 @@ head_line number id = batch_head number (signed_decimal id) ++ line_feed
 abbrev pub payload_head : PayloadIn → List ℕ
 payload_head payload = codes "payload " ++ signed_decimal payload.kind ++ codes " schema \"" ++ quoted payload.schema_id ++ codes "\""
 
--- what a refusal says: its stage and its cause, and the payload type that it stands in
+-- what a refusal says: its stage and its cause, and the type of the payload that it is in
 abbrev pub refusal_text : ℕ → List ℕ → Option ℤ → List ℕ
 refusal_text stage cause payload = codes "stage " ++ decimal stage ++ codes " " ++ cause ++ codes " payload " ++ or_dash payload
 

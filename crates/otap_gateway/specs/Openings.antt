@@ -27,11 +27,11 @@ first_schema (message ∷ messages) = schema_if message
 abbrev pub opening_of : List ℕ → Option SchemaSpec
 opening_of bytes = first_schema (front_of bytes)
 
--- no fault stands at the start of a record: it is empty, or begins with a message
+-- there is no fault at the start of a record: it is empty, or begins with a message
 abbrev pub BeginsWell : List ℕ → Type 0
 BeginsWell bytes = (fault : IpcFault) → Stands bytes fault → ⊥
 
--- the printed names of faults. Want of memory is one that is never printed
+-- the printed names of faults. Out of memory is never printed
 abbrev pub flat_name : FlatFault → List ℕ
 flat_name OutOfRange = codes "Ipc.Flat.OutOfRange"
 flat_name BadVtable = codes "Ipc.Flat.BadVtable"

@@ -1,4 +1,4 @@
--- What stands at the start of records, in the words of private contracts.
+-- What is at the start of records, in the words of private contracts.
 use Rattle.std.specs.Prelude.{◌≡◌, ℕ, ℤ, List, Some}
 use Rattle.lists.specs.Payloads.{PayloadIn}
 use Rattle.arrow_ipc.specs.Faults.{Stands}
@@ -18,7 +18,7 @@ abbrev pub RefusesRecords : List PayloadIn → RecordRefusal → Type 0
 RefusesRecords payloads (Ipc kind fault) = HasRecordFault payloads kind fault
 RefusesRecords payloads (Memory e) = Unit {0}
 
--- the reply to it
+-- the reply to a refusal
 abbrev pub RepliesTo : RecordRefusal → ℕ → ℤ → ReplyText → Type 0
 RepliesTo (Ipc kind fault) number id reply = reply ≡ refused_batch number id 3 (fault_name fault) (Some kind)
 RepliesTo (Memory e) number id reply = ⊥

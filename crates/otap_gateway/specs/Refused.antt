@@ -14,12 +14,12 @@ unread_name refusal = defect_text (defect_of refusal)
 abbrev pub refused_unread : ℕ → List ℕ → ReplyText
 refused_unread number cause = refuses (refused_line number None 1 cause None)
 
--- the reply to a message in which that defect stands
+-- the reply to a message that has that defect
 pub record RefusesUnread (number : ℕ) (bytes : List ℕ) (reply : ReplyText) : Type 0 where
   pub refusal : BatchRefusal
   pub stands : RefusesBatch bytes refusal
   pub line : reply ≡ refused_unread number (unread_name refusal)
 
--- the reply to a batch that is refused in a stage, by the name of the cause and the payload type that it stands in
+-- the reply to a batch that is refused in a stage, by the name of the cause and the type of the payload that it is in
 abbrev pub refused_batch : ℕ → ℤ → ℕ → List ℕ → Option ℤ → ReplyText
 refused_batch number id stage cause payload = refuses (refused_line number (Some id) stage cause payload)

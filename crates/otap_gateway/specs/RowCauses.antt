@@ -12,7 +12,7 @@ id_fault_name fault.PastType = codes "Ids.PastType"
 id_fault_name fault.Duplicate = codes "Ids.Duplicate"
 id_fault_name fault.NullParent = codes "Ids.NullParent"
 
--- want of memory is one that is never printed
+-- out of memory is never printed
 abbrev pub cbor_name : CborRefusal → List ℕ
 cbor_name cbor.Cut = codes "BadCbor.Cut"
 cbor_name cbor.BadHead = codes "BadCbor.BadHead"

@@ -29,7 +29,7 @@ pub record Sinks : Type 0 where
   pub out : SinkState
   pub err : SinkState
 
--- a sink as it stands; the first argument says what its type tells
+-- the state of a sink; the first argument has the ghost members of its type
 abbrev pub sink_state : {K : Type 0} → SinkGhosts K → K → SinkState
 sink_state tells sink = record { written = tells.written sink; passed = tells.passed sink; faults = tells.faults sink }
 

@@ -28,14 +28,14 @@ payload_lines payload = opening_text payload (opening_of payload.bytes)
 abbrev pub batch_lines : ℕ → BatchContent → List ℕ
 batch_lines number batch = head_line number batch.id ++ flat_map payload_lines batch.payloads
 
--- a fault stands at the start of the record of a payload of this type
+-- there is a fault at the start of the record of a payload of this type
 pub record HasRecordFault (payloads : List PayloadIn) (kind : ℤ) (fault : IpcFault) : Type 0 where
   pub payload : PayloadIn
   pub has : HasPayload payloads payload
   pub same : payload.kind ≡ kind
   pub stands : Stands payload.bytes fault
 
--- no record begins with one
+-- no record begins with a fault
 abbrev pub BeginWell : List PayloadIn → Type 0
 BeginWell payloads = AllByRecursion (λ payload. BeginsWell payload.bytes) payloads
 
@@ -65,7 +65,7 @@ pub record RefusesFault (number : ℕ) (batch : BatchContent) (reply : ReplyText
   pub stands : HasRecordFault batch.payloads kind fault
   pub line : reply ≡ refused_batch number batch.id 3 (fault_name fault) (Some kind)
 
--- no record does
+-- no record begins with a fault, and the schemas are printed
 pub record PrintsSchemas (number : ℕ) (batch : BatchContent) (reply : ReplyText) : Type 0 where
   pub well : BeginWell batch.payloads
   pub text : reply ≡ printed (batch_lines number batch)

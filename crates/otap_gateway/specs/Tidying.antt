@@ -20,7 +20,7 @@ tidied number request =
     else if nat_lt weight_limit (weight_of request) then refused_request number (codes "TooHeavy")
     else printed (message_frame (canon_request request))
 
--- the reply to a message that is a request, or to one in which that defect stands
+-- the reply to a message that is a request, or to one that has that defect
 pub record TidiesRequest (signal : Signal) (number : ℕ) (bytes : List ℕ) (reply : ReplyText) : Type 0 where
   pub request : Request
   pub reads : Reads signal bytes request

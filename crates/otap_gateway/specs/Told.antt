@@ -1,4 +1,4 @@
--- Replies that tell what frames gave.
+-- Replies that are the texts of what frames gave.
 use Rattle.std.specs.Prelude.{◌≡◌, ℕ, suc, List, [], ◌∷◌, length}
 use Rattle.lists.specs.EachAfter.{EachAfter}
 use Rattle.otap_capture.specs.Capture.{Frame}

@@ -67,7 +67,7 @@ pub record Finishes (end : Option Damage) (old new : Sinks) (damaged : Bool) : T
   pub flushed : IsFlushed new
   pub same : damaged ≡ is_some end
 
--- a front of it is written
+-- a front of the text is written
 pub record FinishesPart (end : Option Damage) (old new : Sinks) : Type 0 where
   pub out : Keeps old.out.written new.out.written
   pub err : AppendsFront old.err.written new.err.written (end_text end)

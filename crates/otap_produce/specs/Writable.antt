@@ -8,12 +8,12 @@ use Rattle.otap_cells.specs.Tables.{Table}
 use Rattle.otap_columns.specs.WrittenPayloads.{IsWritableTable}
 use Rattle.otap_produce.specs.Policy.{SignalRows, IsExported}
 
--- tables stand in the order of the signal's kinds, each kind at most once
+-- tables are in the order of the signal's kinds, each kind at most once
 pub record AreInOrder (signal : Signal) (tables : List Table) : Type 0 where
   pub has : Kind → Bool
   pub kinds : map (λ t. t.kind) tables ≡ filter has (kinds_of signal)
 
--- the tables of a request stand in order, and each can be written
+-- the tables of a request are in order, and each can be written
 pub record HaveWritable (signal : Signal) (tables : List Table) : Type 0 where
   pub order : AreInOrder signal tables
   pub each : All (λ t. IsWritableTable t.kind t) tables

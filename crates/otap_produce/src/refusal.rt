@@ -5,7 +5,7 @@ ghost use Rattle.otap_produce.specs.declared.refusal.ProduceRefusal.TheVariants.
 use std::alloc::AllocError;
 use thiserror::Error;
 
-/// Why a request is not exported: the first of these that stands.
+/// Why a request is not exported: the first of these that holds.
 #[derive(Debug, Drop, Error)]
 pub enum ProduceRefusal {
     /// Memory ran out since the last reset.

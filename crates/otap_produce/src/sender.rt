@@ -31,7 +31,7 @@ impl Model for Sender {
 }
 
 impl Sender {
-    /// One that sent nothing.
+    /// A sender that has sent nothing.
     pub(crate) fn new(alloc: Global, kind: Kind) -> Sender
         ensures wrote { HasWritten [] result.writer }
         ensures kind { result.writer.kind ≡ kind }

@@ -31,7 +31,7 @@ impl Model for Senders {
 }
 
 impl Senders {
-    /// Those of a signal, which sent nothing.
+    /// The senders of a signal, which have sent nothing.
     pub(crate) fn new(alloc: Global, signal: Signal) -> Result<Senders, AllocError>
         ensures kinds { IfOk result (λ s. kinds_in s.senders ≡ kinds_of signal) }
         ensures sent { IfOk result (λ s. HaveSent [] [] s) }
@@ -132,7 +132,7 @@ fn openings_after(openings: u64, opens: bool) -> u64
     if opens { openings + 1 } else { openings }
 }
 
-/// Each sender sent nothing.
+/// Makes each sender one that has sent nothing.
 fn begin_anew(alloc: Global, senders: &mut [Sender])
     ensures kinds { kinds_in senders.new ≡ kinds_in senders.old }
     ensures sent { All (HasSentTables [] []) senders.new }

@@ -36,7 +36,7 @@ module _ (signal : Signal) where
   told : (before : List Table) (past : List PayloadIn) (t : Table) (p : PayloadIn) (kind : Kind) → Reaches signal before past t p → int_eq p.kind (payload_type_of kind) ≡ is_kind t.kind kind
   told before past t p kind r = ap (λ (type : ℤ). int_eq type (payload_type_of kind)) r.type ∙ types_compared t.kind kind
 
-  -- a type stands as often among payloads as its kind among their tables
+  -- a type occurs as often among payloads as its kind among their tables
   as_often : (before : List Table) (past : List PayloadIn) (ts : List Table) (ps : List PayloadIn) (kind : Kind) → EachAfter (Reaches signal) before past ts ps
       → times (payload_type_of kind) ps ≡ count_by (λ t. is_kind t.kind kind) ts
   as_often before past [] [] kind each = refl

@@ -85,7 +85,7 @@ module _ (far : FarEndReads) (m : Meaning) (rows : SignalRows) (faithful : AreFa
   few_payloads : length ps ≤ tables_limit
   few_payloads = omega (arith, each_after-length IsPayloadOf before past ts ps each, few_tables rows.signal ts order)
 
-  -- the id tells that there were not too many
+  -- the id says that there were not too many
   few_requests : length requests < 2 ^ 63
   few_requests = let fits : FitsSigned w64 (pos (length requests)) = subst (λ (id : ℤ). FitsSigned w64 id) is.id (id_fits message) in omega (arith, fits.sfits)
 

@@ -1,4 +1,4 @@
--- Each kind of a signal stands once among its kinds, and so among tables in their order.
+-- Each kind of a signal occurs once among its kinds, and so among tables in their order.
 use Rattle.std.proofs.Common.{◌≡◌, ℕ, ◌+◌, ◌≤◌, Bool, true, false, List, [], ◌∷◌, map, length, if◌then◌else◌, Some, inl, inr, refl, sym, ap, ◌∙◌, subst, arith, lit≤}
 use Rattle.std.specs.Prelude.{◌⊎◌, count_by, sum_by, filter}
 use Rattle.std.specs.List.{AllByRecursion, list_any}
@@ -83,7 +83,7 @@ counted_mapped kind (t ∷ ts) =
     ]
 
 module _ (signal : Signal) (ts : List Table) (order : AreInOrder signal ts) where
-  -- no kind stands twice among the tables
+  -- no kind occurs twice among the tables
   pub kinds_once : (kind : Kind) → count_by (λ t. is_kind t.kind kind) ts ≤ 1
   unfolding times_kind
   kinds_once kind =

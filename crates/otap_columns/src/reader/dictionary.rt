@@ -11,7 +11,7 @@ use arrow_schema::ArrowType;
 use std::alloc::{AllocError, Global};
 use std::marker::Model;
 
-/// The most values that a dictionary has that is read.
+/// The most values of a dictionary that is read.
 pub const MAX_VALUES: u64 = 65_536;
 
 /// What is held of a value beside its bytes.

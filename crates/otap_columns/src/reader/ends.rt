@@ -53,7 +53,7 @@ fn start(ends: &[End], place: usize) -> usize
     before.place
 }
 
-/// Appends the bytes of a value, and tells whether it is there. Where there are too many bytes there is no room for it.
+/// Appends the bytes of a value, and whether it is there. Where the bytes would be too many, there is no room for it.
 pub(crate) fn keep(kept: &mut Vec<u8>, value: Option<&[u8]>) -> Result<bool, AllocError>
     requires { vec_len kept.old ≤ kept_limit }
     ensures bytes { OnOk result (kept.new.items ≡ kept.old.items ++ bytes_or_none (option_copied value.entry)) }

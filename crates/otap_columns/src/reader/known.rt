@@ -81,7 +81,7 @@ pub(crate) fn columns_fit(kind: Kind, arrays: &Arrays, known: &[Option<u32>]) ->
     true
 }
 
-/// The type of the elements of a list whose array stands at a place.
+/// The type of the elements of the list whose array is at a place.
 fn elements(arrays: &Arrays, place: usize) -> Option<ArrowType>
     requires { place < max_fields }
     ensures { result ≡ elements_at arrays.now place }
@@ -183,7 +183,7 @@ fn is_list_of(element: ArrowType, kind: ArrowType, elements: Option<ArrowType>) 
     }
 }
 
-/// How the ids of a column are stored whose array this is, where the profile stores them so.
+/// How the ids of this array's column are stored, where the profile stores them so.
 pub(crate) fn coding_if(own: Coding, array: Option<&ArraySpec>) -> Coding
     ensures { result ≡ coding_if own (option_copied array.entry) }
 {
@@ -204,7 +204,7 @@ fn coding_named(encoding: Encoding, own: Coding) -> Coding
     }
 }
 
-/// The greatest number that a column of ids may hold whose array this is.
+/// The greatest number that this array may hold as an id.
 pub(crate) fn greatest_if(array: Option<&ArraySpec>) -> u32
     ensures { result ≡ greatest_if (option_copied array.entry) }
 {

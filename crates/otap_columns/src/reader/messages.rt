@@ -13,7 +13,7 @@ use arrow_ipc::{BatchView, IpcMessage, Messages};
 use arrow_schema::SchemaSpec;
 use std::alloc::Global;
 
-/// A dictionary batch or a record batch: what stands after the schema of a record.
+/// A dictionary batch or a record batch: a message after the schema of a record.
 #[derive(Debug, Drop)]
 pub(crate) enum AnyBatch<'a> {
     Dictionary {
@@ -88,7 +88,7 @@ fn without_schema(message: IpcMessage<'_>) -> Result<AnyBatch<'_>, ColumnRefusal
     }
 }
 
-/// That no message follows.
+/// Checks that no message follows.
 pub(crate) fn end(alloc: Global, messages: &mut Messages<'_>) -> Result<(), ColumnRefusal>
     ensures end { OnOk result (IsAtEnd (front_of (rest_of messages.old)) (left_of (rest_of messages.old))) }
     ensures err { IfErr result (RefusesEnd (front_of (rest_of messages.old)) (left_of (rest_of messages.old))) }

@@ -39,7 +39,7 @@ impl<'v> ResolvedColumn<'v> {
         }
     }
 
-    /// A column whose values stand in the array itself.
+    /// A column whose values are in the array itself.
     pub(crate) fn plain(base: Base, stored: ColumnView<'v>) -> ResolvedColumn<'v>
         ensures values { (row : ℕ) → resolved_value result row ≡ cell_seen stored.entry row }
         ensures resolved { IsResolved result }
@@ -72,7 +72,7 @@ impl<'v> ResolvedColumn<'v> {
         }
     }
 
-    /// What stands in a row; `None` where it is null, or there is no such row.
+    /// The value in a row; `None` where it is null, or there is no such row.
     #[inline(always)]
     pub(crate) fn value(&self, row: u64) -> Option<&'v [u8]>
         requires { IsResolved self.now }

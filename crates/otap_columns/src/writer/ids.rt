@@ -22,7 +22,7 @@ use std::alloc::{AllocError, Global};
 /// The greatest id of 16 bits.
 const GREATEST_NARROW: u64 = 65_535;
 
-/// Above this sum it is looked where a run begins.
+/// Above this sum, each row is looked at for whether a run begins there.
 const LARGE_SUM: u64 = 32_767;
 
 /// Whether an id of a column needs more than 16 bits.
@@ -42,7 +42,7 @@ pub(crate) fn has_wide_id(
     has_above(alloc, table, column)
 }
 
-/// The same, told by the ids themselves.
+/// The same, by the ids themselves.
 fn has_above(alloc: Global, table: &LogicalTable, column: u32) -> Result<bool, AllocError>
     requires id { is_id_at table.now.kind column ≡ true }
     requires coded { coding_in table.now column ≡ coding_at table.now.kind column }
@@ -112,7 +112,7 @@ fn most_after(
     }
 }
 
-/// A row without an id is passed over, but where ids are stored in runs.
+/// A row without an id is passed over, except where ids are stored in runs.
 fn without_id(coding: Coding, most: u64) -> Option<u64>
     ensures { IfSome result (λ next. (next ≡ most) × (takes_null coding ≡ true)) }
 {
@@ -134,7 +134,7 @@ fn id_of(base: Base, cell: CellView<'_>) -> Option<u32>
     }
 }
 
-/// A bound of the id for which a number is stored, told by one of the id before it.
+/// A bound of the id for which a number is stored, from a bound of the id before it.
 fn most_with(table: &LogicalTable, coding: Coding, row: u64, most: u64, number: u32) -> u64
     requires row { row < length table.now.rows }
     requires most { most ≤ greatest_narrow }

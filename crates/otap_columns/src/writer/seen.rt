@@ -55,7 +55,7 @@ impl SeenColumn {
         }
     }
 
-    /// Observes a column of one more table. After want of memory it stands for no list of tables.
+    /// Observes a column of one more table. Where memory runs out it stands for no list of tables.
     pub(crate) fn observe(
         &mut self,
         alloc: Global,
@@ -99,7 +99,7 @@ impl SeenColumn {
     }
 }
 
-/// The form that is told by that of the ladder, and by whether an id needs more than 16 bits.
+/// The form that follows from that of the ladder, and from whether an id needs more than 16 bits.
 fn form_of(kind: Kind, column: u32, told: Form, wide: bool) -> ColumnForm
     requires { column < width_of kind }
     ensures { result ≡ (if is_id_at kind column then id_form_told (is_own_id kind column) (is_absent told) (is_wide (base_at kind column) || wide) else of_ladder told) }

@@ -24,7 +24,7 @@ pub(crate) fn unread_name(refusal: BatchRefusal) -> &'static str
 }
 
 /// The reply to a batch that is refused in a stage, by the name of the cause and the payload type
-/// that it stands in.
+/// of the payload that it is in.
 pub(crate) fn refused_batch(
     alloc: Global,
     number: u64,

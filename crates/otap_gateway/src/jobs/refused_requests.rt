@@ -17,7 +17,7 @@ pub(crate) fn refused(alloc: Global, number: u64, cause: &str) -> Result<Reply, 
     Ok(Reply::refusal(alloc, request_line(alloc, number, cause)?))
 }
 
-/// The printed name of the defect that a refusal names. Want of memory is handed on.
+/// The printed name of the defect that a refusal names. Out of memory is passed on.
 pub(crate) fn refusal_name(refusal: ReadRefusal) -> Result<&'static str, AllocError>
     ensures { IfOk result (λ name. NamesDefect refusal name.now) }
 {

@@ -69,7 +69,7 @@ fn replay(alloc: Global, number: u64, taken: Taken) -> Result<Reply, AllocError>
     }
 }
 
-/// How many items a request has that weighs no more than it may.
+/// How many items a request has, which is within the limit on its weight.
 fn count_items(request: &Request) -> u64
     requires { weight_of request.now ≤ weight_limit }
     ensures { result ≡ length (telemetry request.now) }

@@ -127,7 +127,7 @@ impl Reply {
         &self.err
     }
 
-    /// The bytes for out, with the memory that they stand in.
+    /// The bytes for out, with their memory.
     pub(crate) fn into_out(self) -> Vec<u8>
         ensures { result.items ≡ self.out }
     {

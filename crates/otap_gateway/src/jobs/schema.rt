@@ -134,7 +134,7 @@ fn refused_record(
     }
 }
 
-/// Why the schemas of a batch can't be told.
+/// Why the schemas of a batch can't be read.
 #[derive(Debug, Drop, Error)]
 enum RecordRefusal {
     /// No message can be read at the start of the record of this payload type.

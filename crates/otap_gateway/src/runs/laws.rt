@@ -11,7 +11,7 @@ ghost use Rattle.otap_gateway.specs.Runs.{World, Runs, Completes};
 
 /// Where no count of faults rose and the capture ends well, a run for the words of a job writes what it
 /// replies to each frame, passes all of it on, and returns 0 exactly where none is refused, and else 1;
-/// or there was no memory.
+/// or memory ran out.
 pub fn complete_runs()
     ensures { (job : Command) (old new : World) (status : ℕ) (bytes : List ℕ) (frames : List Frame)
         → Runs job old new status → old.left ≡ Some bytes → IsCapture bytes frames None

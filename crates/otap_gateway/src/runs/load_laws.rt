@@ -12,7 +12,7 @@ use crate::runs::loads::Loads;
 use otap_produce::{LogTables, MetricTables, SpanTables};
 
 /// Where no count of faults rose, a run for the words of a load writes its messages and its line, passes all of it on, and
-/// returns 0; or there was no memory.
+/// returns 0; or memory ran out.
 pub fn complete_loads<S>()
     ensures { (load : Load) (source source' : S) (old new : Sinks) (status : ℕ) → RunsLoad load source source' old new status
         → (Rose old.out.faults new.out.faults → ⊥) → (Rose old.err.faults new.err.faults → ⊥)

@@ -33,7 +33,7 @@ const NOT_UNDERSTOOD: &[u8] = b"otap: words not understood\n";
 ///
 /// Where nothing stops the run, the status is 5 where the capture is damaged, else 1 where a frame was refused, else 0;
 /// and 2, once their line is written, for words that aren't understood. Where something stops it: 3 where the source
-/// failed, 4 where a sink failed, 6 where there was no memory.
+/// failed, 4 where a sink failed, 6 where memory ran out.
 pub fn run<S: Source, O: Sink, E: Sink>(
     alloc: Global,
     words: &Words,

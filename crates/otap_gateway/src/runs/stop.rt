@@ -12,7 +12,7 @@ pub(crate) enum Stop {
     Source,
     /// Out or err failed.
     Sink,
-    /// There was no memory.
+    /// Memory ran out.
     Memory,
 }
 

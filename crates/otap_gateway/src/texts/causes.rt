@@ -10,7 +10,7 @@ use otap_consume::Cause;
 use otlp_messages::{Defect, defect_name};
 use std::alloc::AllocError;
 
-/// The printed name of a cause: its variants from the outside in, joined by dots. Want of memory is handed on.
+/// The printed name of a cause: its variants from the outside in, joined by dots. Out of memory is passed on.
 pub(crate) fn cause_name(cause: Cause) -> Result<&'static str, AllocError>
     ensures { IfOk result (λ name. name.now ≡ cause_name cause) }
 {

@@ -7,7 +7,7 @@ use crate::texts::quoting::push_quoted;
 use arrow_schema::{ArrowType, DictSpec, FieldSpec};
 use std::alloc::{AllocError, Global};
 
-/// Appends a line for each field, its children after it. Their names stand after the path, which
+/// Appends a line for each field, its children after it. Their names come after the path, which
 /// is empty or ends with a dot.
 pub(crate) fn push_fields(
     alloc: Global,
@@ -82,7 +82,7 @@ fn type_word(alloc: Global, kind: ArrowType) -> Result<String, AllocError>
     }
 }
 
-/// What stands after the type of a field with this dictionary.
+/// What a line has after the type of a field with this dictionary.
 fn dictionary_word(dict: Option<DictSpec>) -> &'static str
     ensures { result.now ≡ dictionary_word dict }
 {

@@ -5,7 +5,7 @@ ghost use Rattle.otap_gateway.specs.Quoting.{quoted, quoted_byte, escaped, is_sp
 
 use std::alloc::AllocError;
 
-/// Appends a text as it stands between double quotes: a control character, the double quote and the
+/// Appends a text as it is between double quotes: a control character, the double quote and the
 /// backslash as `\x` and two hexadecimal digits, every other byte as it is.
 #[tactic(auto, using(crate::proofs::Plain::quoted_plain))]
 pub(crate) fn push_quoted(out: &mut Vec<u8>, text: &[u8]) -> Result<(), AllocError>

@@ -7,7 +7,7 @@ use otap_attrs::RowRefusal;
 use otap_cells::IdFault;
 use std::alloc::AllocError;
 
-/// The printed name. Want of memory is handed on.
+/// The printed name. Out of memory is passed on.
 pub(crate) fn row_name(why: RowRefusal) -> Result<&'static str, AllocError>
     ensures { IfOk result (λ name. name.now ≡ row_name why) }
 {

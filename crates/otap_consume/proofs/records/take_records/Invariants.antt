@@ -4,7 +4,7 @@ use Rattle.otap_consume.specs.Streams.{kinds_in}
 use Rattle.otap_consume.specs.Records.{TakesPayloads}
 use Rattle.otap_consume.proofs.records.take_records.Given as goal
 
--- the payloads so far are taken, and stand before those that are left
+-- the payloads so far are taken, and come before those that are left
 abbrev pub invariant-payloads : goal.invariant-payloads
 invariant-payloads l = record {
   front : List PayloadIn;

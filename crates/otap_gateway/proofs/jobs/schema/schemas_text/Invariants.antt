@@ -4,7 +4,7 @@ use Rattle.lists.specs.Payloads.{PayloadIn}
 use Rattle.otap_gateway.specs.Schemas.{BeginWell, payload_lines}
 use Rattle.otap_gateway.proofs.jobs.schema.schemas_text.Given as goal
 
--- the payloads so far stand before those that are left, their lines are written, and their records begin well
+-- the payloads so far come before those that are left, their lines are written, and their records begin well
 abbrev pub invariant-payloads : goal.invariant-payloads
 invariant-payloads l = record {
   front : List PayloadIn;
