@@ -42,7 +42,7 @@ use Rattle.otap_columns.proofs.Growing.{dictionary-other, dictionaries_in-batch,
 use Rattle.otap_columns.proofs.HeldLess.{all_light, few_dictionaries}
 use Rattle.otap_columns.proofs.HeadsTaken.{all_some, Turn, stays, gets, Turns, after_turn, few_after}
 use Rattle.otap_columns.proofs.LookedUp.{all_by, none_by, values_found, id_known, each_dictionary}
-use Rattle.otap_columns.proofs.SchemaFacts.{HasColumn, has_column, coded, own_cells, dict_told, dict_there, form_there}
+use Rattle.otap_columns.proofs.SchemaFacts.{HasColumn, has_column, coded, own_cells, dict_given, dict_there, form_there}
 use Rattle.otap_columns.proofs.Located.{column_found, column_absent}
 use Rattle.otap_columns.proofs.Tabled.{table_kind, table_coding}
 
@@ -108,7 +108,7 @@ module _ (kind : Kind) (forms : Forms) (values : ℕ → List (List ℕ)) (start
   owned : (place : ℕ) (a : ArraySpec) (d : DictSpec) → slice_get (arrays_of (schema_for kind forms)) place ≡ Some a → a.dict ≡ Some d → IsOwn a.kind d.id
   owned place a d at is =
       let h : HasColumn kind forms s.fit place a = has_column kind forms s.fit place a d at is in
-      let told = dict_told h.column (forms h.column) d (sym h.dict ∙ is) in
+      let told = dict_given h.column (forms h.column) d (sym h.dict ∙ is) in
       record { column = h.column; below = h.below; dict = told.0; id_is = told.1; type_is = h.type }
 
   each_owned : AllByRecursion (λ (d : DictionaryIn). IsOwn d.kind d.id) (empty_dictionaries (arrays_of (schema_for kind forms)))
@@ -228,7 +228,7 @@ module _ (kind : Kind) (forms : Forms) (values : ℕ → List (List ℕ)) (start
       by None is = refl
       by (Some d) is =
           let h : HasColumn kind forms s.fit place a = has_column kind forms s.fit place a d at is in
-          let told = dict_told h.column (forms h.column) d (sym h.dict ∙ is) in
+          let told = dict_given h.column (forms h.column) d (sym h.dict ∙ is) in
           all_below-each (λ row. is_index_below (length (values_for a.kind d.id (dictionaries_in (arrays_of (schema_for kind forms)) whole))) (cell_of (arrays_of (schema_for kind forms)) rows place row)) rows.rows
           (λ row low.
           let stored = leads (forms h.column) (values h.column) (bytes_for (base_at kind h.column) (forms h.column) (cell_in t.rows h.column row)) (own_cell rows (array_place a) row) told.0
@@ -265,7 +265,7 @@ module _ (kind : Kind) (forms : Forms) (values : ℕ → List (List ℕ)) (start
           ∙ plainly column (forms column) (values column) (bytes_for (base_at kind column) (forms column) (cell_in t.rows column row)) (own_cell rows (array_place f.array) row)
           here (sym f.dict ∙ is) stored
       by (Some d) is =
-          let told = dict_told column (forms column) d (sym f.dict ∙ is) in
+          let told = dict_given column (forms column) d (sym f.dict ∙ is) in
           let lead = leads (forms column) (values column) (bytes_for (base_at kind column) (forms column) (cell_in t.rows column row)) (own_cell rows (array_place f.array) row) told.0 stored in
           (λ i. value_by_index (values_after f.place column f.array d f.at is below f.type told.0 told.1 i) (cell_is f.place row f.array f.at in_rows i)) ∙ lead.is
 

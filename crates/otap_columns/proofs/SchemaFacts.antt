@@ -23,12 +23,12 @@ use Rattle.otap_columns.proofs.Keeping.{schema_readable}
 use Rattle.otap_columns.proofs.Located.{slot_at, column_found, column_absent}
 
 -- a dictionary's form says the id
-pub dict_told : (column : ℕ) (f : ColumnForm) (d : DictSpec) → dict_for column f ≡ Some d → (is_dictionary f ≡ true) × (d.id ≡ pos column)
-dict_told column form.Dict8 d is = (refl, let same : record { id = pos column; wide = false } ≡ d = cc in sym (ap (λ (x : DictSpec). x.id) same))
-dict_told column form.Dict16 d is = (refl, let same : record { id = pos column; wide = true } ≡ d = cc in sym (ap (λ (x : DictSpec). x.id) same))
-dict_told column form.Absent d is = absurd (cc)
-dict_told column form.Plain d is = absurd (cc)
-dict_told column form.Wide d is = absurd (cc)
+pub dict_given : (column : ℕ) (f : ColumnForm) (d : DictSpec) → dict_for column f ≡ Some d → (is_dictionary f ≡ true) × (d.id ≡ pos column)
+dict_given column form.Dict8 d is = (refl, let same : record { id = pos column; wide = false } ≡ d = cc in sym (ap (λ (x : DictSpec). x.id) same))
+dict_given column form.Dict16 d is = (refl, let same : record { id = pos column; wide = true } ≡ d = cc in sym (ap (λ (x : DictSpec). x.id) same))
+dict_given column form.Absent d is = absurd (cc)
+dict_given column form.Plain d is = absurd (cc)
+dict_given column form.Wide d is = absurd (cc)
 
 pub dict_there : (column : ℕ) (f : ColumnForm) → is_dictionary f ≡ true → (d : DictSpec) × (dict_for column f ≡ Some d) × (d.id ≡ pos column)
 dict_there column form.Dict8 is = (record { id = pos column; wide = false }, refl, refl)

@@ -25,7 +25,7 @@ use Rattle.otap_columns.specs.declared.forms.ColumnForm.{ColumnForm}
 use Rattle.otap_columns.specs.declared.forms.ColumnForm.TheVariants as form
 use Rattle.otap_columns.specs.Observed.{bytes_for, given, values_in_tables, has_wide_id, is_own_id, is_wide, if_seen, id_form, form_at}
 use Rattle.otap_columns.specs.Seen.{SeenIn, IsSeenAfter, may_widen}
-use Rattle.otap_columns.specs.SeenInside.{filled_up, observed_if, places_of_cells, SeesTable, is_absent, form_told, id_form_told}
+use Rattle.otap_columns.specs.SeenInside.{filled_up, observed_if, places_of_cells, SeesTable, is_absent, form_kept, id_form_kept}
 use Rattle.otap_columns.proofs.ColumnsBuilt.{cell_at-map}
 use Rattle.otap_columns.proofs.ValuesSeen.{seen-push}
 
@@ -113,15 +113,15 @@ absent_ladder false true = refl
 absent_ladder false false = refl
 
 -- a ladder is absent exactly where no value was seen
-told_id : (own marked : Bool) (values : List (List ℕ)) (f : ColumnForm) → (if is_absent (form_of marked values) && not own then form.Absent else f) ≡ (if own then f else if_seen values f)
-told_id true marked [] f = refl
-told_id false marked [] f = refl
-told_id own false (v ∷ vs) f = by own
+kept_id : (own marked : Bool) (values : List (List ℕ)) (f : ColumnForm) → (if is_absent (form_of marked values) && not own then form.Absent else f) ≡ (if own then f else if_seen values f)
+kept_id true marked [] f = refl
+kept_id false marked [] f = refl
+kept_id own false (v ∷ vs) f = by own
   where
     by : (own : Bool) → f ≡ (if own then f else f)
     by true = refl
     by false = refl
-told_id own true (v ∷ vs) f =
+kept_id own true (v ∷ vs) f =
     rw (absent_ladder (is_too_large (length (distinct (v ∷ vs))) (byte_count (distinct (v ∷ vs)))) (nat_lt narrow_limit (length (distinct (v ∷ vs))))) (by own)
   where
     by : (own : Bool) → f ≡ (if own then f else f)
@@ -139,24 +139,24 @@ seen_after : Kind → List Table → ℕ → SeenIn
 seen_after kind tables column =
     record { ladder = ladder_of (column_at kind column).dictionary (values_in_tables kind tables column); wide = may_widen (base_at kind column) && list_any (has_wide_id kind column) tables; places = [] }
 
-told_after : (kind : Kind) (tables : List Table) (column : ℕ) → form_told kind column (seen_after kind tables column) ≡ form_at kind tables column
+kept_after : (kind : Kind) (tables : List Table) (column : ℕ) → form_kept kind column (seen_after kind tables column) ≡ form_at kind tables column
 unfolding seen_after ladder_of form_at
-told_after kind tables column = by (is_id_at kind column) refl
+kept_after kind tables column = by (is_id_at kind column) refl
   where
-    by : (id : Bool) → is_id_at kind column ≡ id → form_told kind column (seen_after kind tables column) ≡ form_at kind tables column
+    by : (id : Bool) → is_id_at kind column ≡ id → form_kept kind column (seen_after kind tables column) ≡ form_at kind tables column
     by true is =
         rw is
-        (ap (id_form_told (is_own_id kind column) (is_absent (form_of (column_at kind column).dictionary (values_in_tables kind tables column))))
+        (ap (id_form_kept (is_own_id kind column) (is_absent (form_of (column_at kind column).dictionary (values_in_tables kind tables column))))
         (wide_anyway (base_at kind column) (list_any (has_wide_id kind column) tables) is)
-        ∙ told_id (is_own_id kind column) (column_at kind column).dictionary (values_in_tables kind tables column) (id_form kind tables column))
+        ∙ kept_id (is_own_id kind column) (column_at kind column).dictionary (values_in_tables kind tables column) (id_form kind tables column))
     by false is = rw is refl
 
-pub told_is : (kind : Kind) (tables : List Table) (column : ℕ) (s : SeenIn) → IsSeenAfter kind tables column s → form_told kind column s ≡ form_at kind tables column
+pub kept_is : (kind : Kind) (tables : List Table) (column : ℕ) (s : SeenIn) → IsSeenAfter kind tables column s → form_kept kind column s ≡ form_at kind tables column
 unfolding seen_after
-told_is kind tables column s is = (λ i. form_told kind column (record { ladder = is.ladder_is i; wide = is.wide_is i; places = [] })) ∙ told_after kind tables column
+kept_is kind tables column s is = (λ i. form_kept kind column (record { ladder = is.ladder_is i; wide = is.wide_is i; places = [] })) ∙ kept_after kind tables column
 
-pub stands : (kind : Kind) (column : ℕ) (s : SeenIn) (f : ColumnForm) → f ≡ form_told kind column s → (tables : List Table) → IsSeenAfter kind tables column s → f ≡ form_at kind tables column
-stands kind column s f told tables is = told ∙ told_is kind tables column s is
+pub stands : (kind : Kind) (column : ℕ) (s : SeenIn) (f : ColumnForm) → f ≡ form_kept kind column s → (tables : List Table) → IsSeenAfter kind tables column s → f ≡ form_at kind tables column
+stands kind column s f told tables is = told ∙ kept_is kind tables column s is
 
 pub sees_step : {E : Type 0} (kind : Kind) (column : ℕ) (t : Table) (old new : SeenIn) (r : Result (Unit {0}) E)
     → OnOk r (new.ladder ≡ fold observed_if old.ladder (map (bytes_for (base_at kind column) form.Wide) (column_in t.rows column)))

@@ -40,7 +40,7 @@ use Rattle.otap_columns.proofs.HeadsTaken.{all_some, Turn, stays, gets, Turns}
 use Rattle.otap_columns.proofs.Openings.{stream_of-own, own_type}
 use Rattle.otap_columns.proofs.RecordTaken.{type_at, Step, held, stands, fine_all, dictionary_after, indexes, same_table}
 use Rattle.otap_columns.proofs.Located.{schema_fits}
-use Rattle.otap_columns.proofs.Telling.{forms_told}
+use Rattle.otap_columns.proofs.SchemaForms.{equal_forms}
 use Rattle.otap_columns.proofs.Tabled.{logical_is}
 use Rattle.otap_columns.proofs.ValuesSeen.{values_grow, forms_fit, few_values, small_values, absent_null, ids_fit}
 
@@ -104,7 +104,7 @@ module _ (kind : Kind) (before : List Table) (t : Table) (bytes : List ℕ) wher
     -- a record that goes on
     module _ (ms : List IpcMessage) (c : Current kind before ms) (same : schema_for kind (form_at kind before) ≡ schema_for kind (form_at kind (before ++ t ∷ []))) where
       told : (column : ℕ) → column < width_of kind → form_at kind before column ≡ form_at kind (before ++ t ∷ []) column
-      told column below = forms_told kind (form_at kind before) (form_at kind (before ++ t ∷ [])) (forms_fit kind before) (forms_fit kind (before ++ t ∷ [])) same column below
+      told column below = equal_forms kind (form_at kind before) (form_at kind (before ++ t ∷ [])) (forms_fit kind before) (forms_fit kind (before ++ t ∷ [])) same column below
 
       was_dictionary : (column : ℕ) → column < width_of kind → is_dictionary (form_at kind (before ++ t ∷ []) column) ≡ true → is_dictionary (form_at kind before column) ≡ true
       was_dictionary column below dict = ap is_dictionary (told column below) ∙ dict

@@ -20,7 +20,7 @@ use Rattle.otap_columns.specs.Schemas.{FormsFit, fits_form, is_dictionary, is_pr
 use Rattle.otap_columns.specs.Observed.{bytes_for, form_at, is_own_id, is_wide, of_ladder, dictionary_values}
 use Rattle.otap_columns.specs.BuiltCells.{FitsForm}
 use Rattle.otap_columns.specs.Seen.{SeenIn}
-use Rattle.otap_columns.specs.SeenInside.{filled_up, form_told, id_form_told, is_absent, places_of_cells}
+use Rattle.otap_columns.specs.SeenInside.{filled_up, form_kept, id_form_kept, is_absent, places_of_cells}
 use Rattle.otap_columns.specs.WrittenCells.{FitsIndexes, place_among}
 use Rattle.otap_columns.specs.WrittenGroups.{forms_in}
 use Rattle.otap_columns.specs.WrittenRecords.{CanSendColumn}
@@ -28,7 +28,7 @@ use Rattle.otap_columns.specs.WrittenRows.{HasValues, IsKnownIn, unseen as unsee
 use Rattle.otap_columns.specs.BuiltRows.{CanWrite, columns_in}
 use Rattle.otap_columns.specs.Writers.{AreSeen, AreWritable, is_started}
 use Rattle.otap_columns.specs.WriterInside.{AreForms, SeesAll}
-use Rattle.otap_columns.proofs.SeenOn.{told_is}
+use Rattle.otap_columns.proofs.SeenOn.{kept_is}
 use Rattle.otap_columns.proofs.ValuesSeen.{forms_fit, few_values, small_values, ids_fit}
 use Rattle.otap_columns.proofs.ValuesKept.{base_holds, bytes_alike, kept_values, known_value, narrow_values, no_id, no_list, takes_one, values_are}
 
@@ -57,7 +57,7 @@ past_forms forms column past = get_or_past forms column form.Absent past
 
 module _ (kind : Kind) (tables : List Table) (columns : List SeenIn) (forms : List ColumnForm) (seen : AreSeen kind tables columns) (told : AreForms kind columns forms) where
   pub form_is : (column : ℕ) → column < width_of kind → forms_in forms column ≡ form_at kind tables column
-  form_is column low = told.each column low ∙ told_is kind tables column _ (seen.each column low)
+  form_is column low = told.each column low ∙ kept_is kind tables column _ (seen.each column low)
 
   pub values_is : (column : ℕ) → column < width_of kind → is_dictionary (forms_in forms column) ≡ true → columns_in columns column ≡ dictionary_values kind tables column
   values_is column low is = ap (λ (l : LadderIn). l.values) (seen.each column low).ladder_is ∙ kept_values kind tables column (ap is_dictionary (sym (form_is column low)) ∙ is)
@@ -119,10 +119,10 @@ pub are_placed : (kind : Kind) (t : Table) (old new : List SeenIn) → SeesAll k
 are_placed kind t old new sees = λ column low. (sees.each column low).placed
 
 -- a column that is written as a dictionary is one
-dictionary_placed : (kind : Kind) (column : ℕ) (s : SeenIn) → is_dictionary (form_told kind column s) ≡ true → has_dictionary s.ladder.form ≡ true
+dictionary_placed : (kind : Kind) (column : ℕ) (s : SeenIn) → is_dictionary (form_kept kind column s) ≡ true → has_dictionary s.ladder.form ≡ true
 dictionary_placed kind column s is = by (is_id_at kind column) refl
   where
-    of_id : (own absent wide : Bool) → is_dictionary (id_form_told own absent wide) ≡ true → has_dictionary s.ladder.form ≡ true
+    of_id : (own absent wide : Bool) → is_dictionary (id_form_kept own absent wide) ≡ true → has_dictionary s.ladder.form ≡ true
     of_id true true true one = absurd (false≢true one)
     of_id true true false one = absurd (false≢true one)
     of_id true false true one = absurd (false≢true one)

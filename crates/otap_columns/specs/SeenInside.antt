@@ -39,10 +39,10 @@ is_absent ladder.Absent = true
 is_absent told = false
 
 -- the form of a column of ids, and of any column, that follows from a state
-abbrev pub id_form_told : Bool → Bool → Bool → ColumnForm
-id_form_told own absent wide = if absent && not own then form.Absent else (if wide then form.Wide else form.Plain)
+abbrev pub id_form_kept : Bool → Bool → Bool → ColumnForm
+id_form_kept own absent wide = if absent && not own then form.Absent else (if wide then form.Wide else form.Plain)
 
-abbrev pub form_told : Kind → ℕ → SeenIn → ColumnForm
-form_told kind column s =
-    if is_id_at kind column then id_form_told (is_own_id kind column) (is_absent s.ladder.form) (is_wide (base_at kind column) || s.wide)
+abbrev pub form_kept : Kind → ℕ → SeenIn → ColumnForm
+form_kept kind column s =
+    if is_id_at kind column then id_form_kept (is_own_id kind column) (is_absent s.ladder.form) (is_wide (base_at kind column) || s.wide)
     else of_ladder s.ladder.form

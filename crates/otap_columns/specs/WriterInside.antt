@@ -6,7 +6,7 @@ use Rattle.otap_cells.specs.Columns.{width_of}
 use Rattle.otap_cells.specs.Tables.{Table}
 use Rattle.otap_columns.specs.declared.forms.ColumnForm.{ColumnForm}
 use Rattle.otap_columns.specs.Seen.{SeenIn}
-use Rattle.otap_columns.specs.SeenInside.{SeesTable, form_told}
+use Rattle.otap_columns.specs.SeenInside.{SeesTable, form_kept}
 use Rattle.otap_columns.specs.WrittenGroups.{forms_in}
 use Rattle.otap_columns.specs.WrittenRows.{unseen}
 use Rattle.otap_columns.specs.BuiltRows.{columns_in}
@@ -26,7 +26,7 @@ pub record SeesAll (kind : Kind) (t : Table) (old new : List SeenIn) : Type 0 wh
 -- forms are those that follow from what is kept
 pub record AreForms (kind : Kind) (columns : List SeenIn) (forms : List ColumnForm) : Type 0 where
   pub count : length forms ≡ width_of kind
-  pub each : (column : ℕ) → column < width_of kind → forms_in forms column ≡ form_told kind column (slice_index_or columns column unseen)
+  pub each : (column : ℕ) → column < width_of kind → forms_in forms column ≡ form_kept kind column (slice_index_or columns column unseen)
 
 -- numbers are those of the values of the dictionaries
 abbrev pub AreCounts : Kind → List SeenIn → List ℕ → Type 0

@@ -19,7 +19,7 @@ use Rattle.otap_columns.proofs.Excluding.{never_both}
 use Rattle.otap_consume.specs.declared.refusal.Cause.{Cause}
 use Rattle.otap_consume.specs.declared.refusal.Cause.TheVariants.{Compressed, BadMessage, Repeated, BadUtf8, PayloadType, PayloadTwice, SchemaIdTaken}
 use Rattle.otap_consume.specs.declared.refusal.Cause.TheVariants.{Column, TooManyItems, RowsTooHeavy, HeldTooMuch, Row, TreeTooHeavy, Broken}
-use Rattle.otap_consume.specs.Defects.{Accepts, Refuses, StandsInList, HasFineList, StandsInRecord, HasFineRecords, IsReadAfter, IsTooLarge, IsWithinLimits, is_taken, tables_of, held_after}
+use Rattle.otap_consume.specs.Defects.{Accepts, Refuses, IsDefectOfList, HasFineList, IsDefectOfRecord, HasFineRecords, IsReadAfter, IsTooLarge, IsWithinLimits, is_taken, tables_of, held_after}
 use Rattle.otap_consume.specs.Outcomes.{stage_of}
 use Rattle.otap_consume.specs.Payloads.{messages_before}
 use Rattle.otap_consume.specs.PayloadTypes.{IsFineType, times}
@@ -37,7 +37,7 @@ once_at signal all type (p ∷ xs) fine some =
 
 module _ (signal : Signal) (past payloads : List PayloadIn) where
   -- nothing is wrong with a list that is fine
-  list_not : HasFineList signal past payloads → (cause : Cause) (payload : Option ℤ) → StandsInList signal past payloads cause payload → ⊥
+  list_not : HasFineList signal past payloads → (cause : Cause) (payload : Option ℤ) → IsDefectOfList signal past payloads cause payload → ⊥
   list_not fine PayloadType (Some type) h =
       let known : IsSome (kind_numbered signal h.0.kind) = (fine_at signal payloads h.1.before h.1.after h.0 fine.types h.1.is).known in
       cc (subst (λ (o : Option Kind). IsSome o) (ap (kind_numbered signal) h.2 ∙ h.3) known)
@@ -61,7 +61,7 @@ module _ (signal : Signal) (past payloads : List PayloadIn) where
   list_not fine TreeTooHeavy payload h = h
   list_not fine Broken payload h = h
 
-  list_stage : (cause : Cause) (payload : Option ℤ) → StandsInList signal past payloads cause payload → stage_of cause ≡ 2
+  list_stage : (cause : Cause) (payload : Option ℤ) → IsDefectOfList signal past payloads cause payload → stage_of cause ≡ 2
   list_stage PayloadType payload h = refl
   list_stage PayloadTwice payload h = refl
   list_stage SchemaIdTaken payload h = refl
@@ -78,7 +78,7 @@ module _ (signal : Signal) (past payloads : List PayloadIn) where
   list_stage Broken payload h = absurd h
 
   -- nor with records that are
-  records_not : HasFineRecords signal past payloads → (refusal : ColumnRefusal) (payload : Option ℤ) → StandsInRecord signal past payloads refusal payload → ⊥
+  records_not : HasFineRecords signal past payloads → (refusal : ColumnRefusal) (payload : Option ℤ) → IsDefectOfRecord signal past payloads refusal payload → ⊥
   records_not fine refusal payload h =
       let each : AllAfter (IsReadAfter signal) past (h.has.before ++ h.p ∷ h.has.after) = subst (λ (ps : List PayloadIn). AllAfter (IsReadAfter signal) past ps) h.has.is fine in
       let read : IsRead h.kind (messages_before (past ++ h.has.before) h.p) h.p.bytes = all_after-at (IsReadAfter signal) past h.has.before h.has.after h.p each h.kind h.known in

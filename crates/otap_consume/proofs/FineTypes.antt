@@ -14,7 +14,7 @@ found (Some kind) h = search rules
 
 pub fine_type : (signal : Signal) (all payloads : List PayloadIn) (p : PayloadIn) (kind : Option Kind) (none twice : Bool) → all ≡ payloads
     → kind ≡ kind_numbered signal p.kind → is_some kind ≡ not none → none ≡ false → twice ≡ nat_lt 1 (times p.kind payloads) → twice ≡ false → IsFineType signal all p
-fine_type signal all payloads p kind none twice same named told some counted once = record {
-  known = subst (λ (k : Option Kind). IsSome k) named (found kind (told ∙ ap not some));
+fine_type signal all payloads p kind none twice same named reported some counted once = record {
+  known = subst (λ (k : Option Kind). IsSome k) named (found kind (reported ∙ ap not some));
   once = subst (λ (ps : List PayloadIn). times p.kind ps ≤ 1) (sym same) (ltb-false 1 (times p.kind payloads) (sym counted ∙ once));
 }

@@ -18,7 +18,7 @@ use Rattle.otap_consume.specs.declared.refusal.Cause.TheVariants.{Compressed, Ba
 use Rattle.otap_consume.specs.declared.refusal.Cause.TheVariants.{Column, TooManyItems, RowsTooHeavy, HeldTooMuch, Row, TreeTooHeavy, Broken}
 use Rattle.otap_consume.specs.declared.refusal.Refusal.{Refusal}
 use Rattle.otap_consume.specs.Defects.{Refuses, Accepts, AreTaken, AreJudged, tables_of}
-use Rattle.otap_consume.specs.Meanings.{Meaning, AreClean, StandsInRows, HasFineRows}
+use Rattle.otap_consume.specs.Meanings.{Meaning, AreClean, IsDefectOfRows, HasFineRows}
 use Rattle.otap_consume.specs.Payloads.{payload_type_of}
 use Rattle.otap_consume.specs.Outcomes.{Outcome, Accepted, Refused, Reset, GivesOutcome, StaysBroken, OutcomeAfter, stage_of, refusal_of, unread_cause, is_broken, payloads_after}
 use Rattle.otap_consume.specs.Receiving.{Settles, ReceivedAfter, Received, HasDefect, IsInFormat}
@@ -43,7 +43,7 @@ pub record IsLate (m : Meaning) (seen : Outcome) (refusal : Refusal) : Type 0 wh
   pub cause : Cause
   pub payload : Option ℤ
   pub before : seen ≡ Accepted batch tables
-  pub stands : StandsInRows m tables cause payload
+  pub stands : IsDefectOfRows m tables cause payload
   pub is : refusal ≡ refusal_of (Some batch.id) cause payload
 
 pub settles_refused : (m : Meaning) (seen o : Outcome) (refusal : Refusal) → o ≡ Refused refusal → Settles m seen o → (seen ≡ Refused refusal) ⊎ IsLate m seen refusal
@@ -78,7 +78,7 @@ not_unread bytes batch refusal reads bad = reads.0.none (defect_of refusal) bad
 -- ---- what is accepted is in the format
 
 -- nothing is wrong with rows that are fine
-rows_not : (m : Meaning) (tables : List Table) (cause : Cause) (payload : Option ℤ) → HasFineRows m tables → StandsInRows m tables cause payload → ⊥
+rows_not : (m : Meaning) (tables : List Table) (cause : Cause) (payload : Option ℤ) → HasFineRows m tables → IsDefectOfRows m tables cause payload → ⊥
 rows_not m tables (Row why) payload fine stands = fine.clean stands.0 why stands.2
 rows_not m tables TreeTooHeavy payload fine stands = absurd (omega (arith, fine.light, stands.2))
 rows_not m tables Compressed payload fine stands = stands
@@ -109,7 +109,7 @@ module _ (m : Meaning) (past : List PayloadIn) (bytes : List ℕ) (batch : Batch
   no_defect reads accepts fine frame is cause payload (HasDefect.late other b c p reads' accepts' bad) =
       let same : other ≡ bytes = cc is in
       let one : b ≡ batch = one_batch bytes b batch (subst (λ (bs : List ℕ). ReadsBatch bs b) same reads') reads in
-      rows_not m (tables_of m.signal past batch.payloads) c p fine (subst (λ (x : BatchContent). StandsInRows m (tables_of m.signal past x.payloads) c p) one bad)
+      rows_not m (tables_of m.signal past batch.payloads) c p fine (subst (λ (x : BatchContent). IsDefectOfRows m (tables_of m.signal past x.payloads) c p) one bad)
 
 pub in_format : (m : Meaning) (outcomes : List Outcome) (frame : Frame) (batch : BatchContent) (tables : List Table) → ReceivedAfter m outcomes frame (Accepted batch tables)
     → (is_broken outcomes ≡ false) × IsInFormat m (payloads_after outcomes) frame
@@ -188,10 +188,10 @@ named_early m past frame o refusal is (GivesOutcome.accepts bytes batch reads ac
 named_early m past frame o refusal is GivesOutcome.resets = absurd (cc is)
 
 named_late : (m : Meaning) (past : List PayloadIn) (frame : Frame) (late : Refusal) (batch : BatchContent) (tables : List Table) (cause : Cause) (payload : Option ℤ)
-    → GivesBatch m.signal past frame batch tables → StandsInRows m tables cause payload → late ≡ refusal_of (Some batch.id) cause payload → Named m past frame late
+    → GivesBatch m.signal past frame batch tables → IsDefectOfRows m tables cause payload → late ≡ refusal_of (Some batch.id) cause payload → Named m past frame late
 named_late m past frame late batch tables cause payload g stands is =
     let here : HasDefect m past (Message g.bytes) cause payload
-    = HasDefect.late g.bytes batch cause payload g.reads g.accepts (subst (λ (ts : List Table). StandsInRows m ts cause payload) g.are stands) in
+    = HasDefect.late g.bytes batch cause payload g.reads g.accepts (subst (λ (ts : List Table). IsDefectOfRows m ts cause payload) g.are stands) in
     subst (Named m past frame) (sym is) (subst (λ (f : Frame). HasDefect m past f cause payload) (sym g.message) here, refl)
 
 pub named : (m : Meaning) (outcomes : List Outcome) (frame : Frame) (refusal : Refusal) → ReceivedAfter m outcomes frame (Refused refusal) → is_broken outcomes ≡ false
@@ -215,7 +215,7 @@ unread_first unread.Repeated = refl
 unread_first unread.BadUtf8 = refl
 
 -- rows are wrong, or a request is too heavy, but not both
-late_stage : (m : Meaning) (tables : List Table) (cause : Cause) (payload : Option ℤ) → StandsInRows m tables cause payload → 4 < stage_of cause
+late_stage : (m : Meaning) (tables : List Table) (cause : Cause) (payload : Option ℤ) → IsDefectOfRows m tables cause payload → 4 < stage_of cause
 late_stage m tables (Row why) payload stands = omega arith
 late_stage m tables TreeTooHeavy payload stands = omega arith
 late_stage m tables Compressed payload stands = absurd stands
@@ -235,7 +235,7 @@ late_stage m tables Broken payload stands = absurd stands
 abbrev Late : Meaning → List Table → Cause → Type 0
 Late m tables cause = (AreClean m tables × (stage_of cause ≡ 6)) ⊎ (((AreClean m tables → ⊥)) × (stage_of cause ≡ 5))
 
-which_late : (m : Meaning) (tables : List Table) (cause : Cause) (payload : Option ℤ) → StandsInRows m tables cause payload → Late m tables cause
+which_late : (m : Meaning) (tables : List Table) (cause : Cause) (payload : Option ℤ) → IsDefectOfRows m tables cause payload → Late m tables cause
 which_late m tables (Row why) payload stands = inr (λ clean. clean stands.0 why stands.2, refl)
 which_late m tables TreeTooHeavy payload stands = inl (stands.1, refl)
 which_late m tables Compressed payload stands = absurd stands
@@ -261,7 +261,7 @@ same_late m tables a b (inr x) (inr y) = x.1 ∙ sym y.1
 pub data MessageDefect (m : Meaning) (past : List PayloadIn) (bytes : List ℕ) (cause : Cause) (payload : Option ℤ) : Type 0 where
   unreadable : (refusal : BatchRefusal) → RefusesBatch bytes refusal → cause ≡ unread_cause refusal → MessageDefect m past bytes cause payload
   early : ReadsBatch bytes (batch_content bytes) → Refuses m.signal past (batch_content bytes).payloads cause payload → MessageDefect m past bytes cause payload
-  late : ReadsBatch bytes (batch_content bytes) → Accepts m.signal past (batch_content bytes).payloads → StandsInRows m (tables_of m.signal past (batch_content bytes).payloads) cause payload
+  late : ReadsBatch bytes (batch_content bytes) → Accepts m.signal past (batch_content bytes).payloads → IsDefectOfRows m (tables_of m.signal past (batch_content bytes).payloads) cause payload
       → MessageDefect m past bytes cause payload
 
 of_message : (m : Meaning) (past : List PayloadIn) (frame : Frame) (bytes : List ℕ) (cause : Cause) (payload : Option ℤ) → frame ≡ Message bytes → HasDefect m past frame cause payload
@@ -277,7 +277,7 @@ of_message m past frame bytes cause payload is (HasDefect.late other b c p reads
     let same : other ≡ bytes = cc is in
     let here : ReadsBatch bytes b = subst (λ (bs : List ℕ). ReadsBatch bs b) same reads in
     MessageDefect.late (subst (ReadsBatch bytes) here.1 here) (subst (λ (x : BatchContent). Accepts m.signal past x.payloads) here.1 accepts)
-    (subst (λ (x : BatchContent). StandsInRows m (tables_of m.signal past x.payloads) c p) here.1 bad)
+    (subst (λ (x : BatchContent). IsDefectOfRows m (tables_of m.signal past x.payloads) c p) here.1 bad)
 
 message_stage : (m : Meaning) (past : List PayloadIn) (bytes : List ℕ) (a b : Cause) (p q : Option ℤ) → MessageDefect m past bytes a p → MessageDefect m past bytes b q → stage_of a ≡ stage_of b
 message_stage m past bytes a b p q (MessageDefect.unreadable r bad is) (MessageDefect.unreadable s bad' is') = ap stage_of is ∙ unread_first r ∙ sym (ap stage_of is' ∙ unread_first s)

@@ -26,10 +26,10 @@ use Rattle.otap_consume.specs.declared.payload_types.TypesRefusal.TheVariants as
 use Rattle.otap_consume.specs.declared.refusal.Cause.{Cause}
 use Rattle.otap_consume.specs.declared.refusal.Cause.TheVariants.{PayloadType, PayloadTwice, SchemaIdTaken, Column, TooManyItems, RowsTooHeavy, HeldTooMuch}
 use Rattle.otap_consume.specs.Limits.{held_limit}
-use Rattle.otap_consume.specs.Defects.{is_taken, HasTakenId, StandsInList, HasFineList, StandsInRecord, IsReadAfter, HasFineRecords, IsTakenAfter}
+use Rattle.otap_consume.specs.Defects.{is_taken, HasTakenId, IsDefectOfList, HasFineList, IsDefectOfRecord, IsReadAfter, HasFineRecords, IsTakenAfter}
 use Rattle.otap_consume.specs.Defects.{AreTaken, IsTooLarge, IsWithinLimits, tables_of, held_after, Refuses, AreJudged}
 use Rattle.otap_consume.specs.Payloads.{messages_before}
-use Rattle.otap_consume.specs.PayloadTypes.{IsFineType, HasFineTypes, StandsInTypes, times}
+use Rattle.otap_consume.specs.PayloadTypes.{IsFineType, HasFineTypes, IsDefectOfTypes, times}
 use Rattle.otap_columns.proofs.Openings.{stream_of-other, stream_of-own}
 use Rattle.otap_consume.proofs.ViewSteps.{fine_at}
 
@@ -89,15 +89,15 @@ can_come before p can = by_test (opens before p) refl
 -- ---- stage by stage
 
 module _ (signal : Signal) (past payloads : List PayloadIn) where
-  types_from : (front xs : List PayloadIn) → payloads ≡ front ++ xs → AllByRecursion (IsFineType signal payloads) xs ⊎ ((r : TypesRefusal) × StandsInTypes signal payloads r)
+  types_from : (front xs : List PayloadIn) → payloads ≡ front ++ xs → AllByRecursion (IsFineType signal payloads) xs ⊎ ((r : TypesRefusal) × IsDefectOfTypes signal payloads r)
   types_from front [] is = inl tt
   types_from front (p ∷ xs) is = by_kind (kind_numbered signal p.kind) refl (types_from (front ++ p ∷ []) xs (is ∙ sym (append_assoc front (p ∷ []) xs)))
     where
       some : (kind : Kind) → kind_numbered signal p.kind ≡ Some kind → IsSome (kind_numbered signal p.kind)
       some kind at = subst (λ (o : Option Kind). IsSome o) (sym at) (search rules)
 
-      by_kind : (o : Option Kind) → kind_numbered signal p.kind ≡ o → AllByRecursion (IsFineType signal payloads) xs ⊎ ((r : TypesRefusal) × StandsInTypes signal payloads r)
-          → AllByRecursion (IsFineType signal payloads) (p ∷ xs) ⊎ ((r : TypesRefusal) × StandsInTypes signal payloads r)
+      by_kind : (o : Option Kind) → kind_numbered signal p.kind ≡ o → AllByRecursion (IsFineType signal payloads) xs ⊎ ((r : TypesRefusal) × IsDefectOfTypes signal payloads r)
+          → AllByRecursion (IsFineType signal payloads) (p ∷ xs) ⊎ ((r : TypesRefusal) × IsDefectOfTypes signal payloads r)
       by_kind None at rest = inr (types.PayloadType p.kind, (p, record { before = front; after = xs; is = is }, refl, at))
       by_kind (Some kind) at rest =
           elim (cases_lt 1 (times p.kind payloads)) [
@@ -105,7 +105,7 @@ module _ (signal : Signal) (past payloads : List PayloadIn) where
             | inr once ↦ elim rest [ inl fine ↦ inl (record { known = some kind at; once = once }, fine) | inr bad ↦ inr bad ]
           ]
 
-  in_list : (r : TypesRefusal) → StandsInTypes signal payloads r → (cause : Cause) × (payload : Option ℤ) × StandsInList signal past payloads cause payload
+  in_list : (r : TypesRefusal) → IsDefectOfTypes signal payloads r → (cause : Cause) × (payload : Option ℤ) × IsDefectOfList signal past payloads cause payload
   in_list (types.PayloadType type) h = (PayloadType, Some type, h)
   in_list (types.PayloadTwice type) h = (PayloadTwice, Some type, h)
 
@@ -122,7 +122,7 @@ module _ (signal : Signal) (past payloads : List PayloadIn) where
       by_test (inr free) (inl rest) =
           inl (free, subst (λ (before : List PayloadIn). AllAfter (λ before p. is_taken signal before p ≡ false) before xs) (sym (append_assoc past front (p ∷ []))) rest)
 
-  judged_list : HasFineList signal past payloads ⊎ ((cause : Cause) × (payload : Option ℤ) × StandsInList signal past payloads cause payload)
+  judged_list : HasFineList signal past payloads ⊎ ((cause : Cause) × (payload : Option ℤ) × IsDefectOfList signal past payloads cause payload)
   judged_list =
       elim (types_from [] payloads refl) [
         | inr bad ↦ inr (in_list bad.0 bad.1)
@@ -133,7 +133,7 @@ module _ (signal : Signal) (past payloads : List PayloadIn) where
       ]
 
   abbrev Unread : Type 0
-  Unread = (refusal : ColumnRefusal) × (payload : Option ℤ) × StandsInRecord signal past payloads refusal payload
+  Unread = (refusal : ColumnRefusal) × (payload : Option ℤ) × IsDefectOfRecord signal past payloads refusal payload
 
   records_from : HasFineTypes signal payloads → (front xs : List PayloadIn) → payloads ≡ front ++ xs → AreTaken signal (past ++ front) → AllAfter (IsReadAfter signal) (past ++ front) xs ⊎ Unread
   records_from fine front [] is taken = inl tt

@@ -14,7 +14,7 @@ use Rattle.otap_columns.specs.Records.{IsRead, Stands}
 use Rattle.otap_consume.specs.declared.refusal.Cause.TheVariants.{Column}
 use Rattle.otap_consume.specs.declared.not_taken.NotTaken.{NotTaken}
 use Rattle.otap_consume.specs.declared.not_taken.NotTaken.TheVariants.{Defect}
-use Rattle.otap_consume.specs.Defects.{IsReadAfter, StandsInRecord}
+use Rattle.otap_consume.specs.Defects.{IsReadAfter, IsDefectOfRecord}
 use Rattle.otap_consume.specs.Payloads.{payload_type_of, messages_before}
 use Rattle.otap_consume.specs.Records.{EachTakes, OneRefuses, TakesPayloads}
 use Rattle.otap_consume.specs.Untaken.{SaysDefect, IsUntakenFor, IsOfRecord}
@@ -83,7 +83,7 @@ takes_more old mid new done p before takes kinds = record {
 defect_at : (signal : Signal) (past done rest payloads : List PayloadIn) (p : PayloadIn) (why : ColumnRefusal) (mid : List StreamIn) (i : ℕ) (d : StreamIn)
     → payloads ≡ done ++ p ∷ rest → kinds_in mid ≡ kinds_of signal → i < length mid
     → (int_eq p.kind (payload_type_of (get_or mid i d).kind) ≡ true) × Stands (get_or mid i d).kind (messages_before (past ++ done) p) p.bytes why
-    → StandsInRecord signal past payloads why (Some p.kind)
+    → IsDefectOfRecord signal past payloads why (Some p.kind)
 defect_at signal past done rest payloads p why mid i d whole same inside stands =
     let is : get_or (kinds_of signal) i d.kind ≡ (get_or mid i d).kind = kind_at signal mid i d d.kind same inside in
     let known : kind_numbered signal (payload_type_of (get_or mid i d).kind) ≡ Some (get_or mid i d).kind

@@ -110,7 +110,7 @@ next_reset old new is = record {
   at = λ signal outcomes stands. record {
     outcome = Reset;
     gives = either signal outcomes capture.Reset Reset StaysBroken.resets GivesOutcome.resets;
-    tells = tt;
+    reports = tt;
     stands = stands_new signal outcomes new (subst (λ (s : Signal). IsNew s new) stands.same is);
   };
 }
@@ -127,13 +127,13 @@ unread frame cause old new is stays gives = record { at = λ signal outcomes sta
     go signal outcomes stands true broken = record {
       outcome = refused None Broken None;
       gives = when_broken signal outcomes frame (refused None Broken None) (sym stands.broken ∙ broken) stays;
-      tells = rw broken refl;
+      reports = rw broken refl;
       stands = stands_broken signal outcomes (refusal_of None Broken None) new (rw is stands.same) (rw is refl);
     }
     go signal outcomes stands false whole = record {
       outcome = refused None cause None;
       gives = when_whole signal outcomes frame (refused None cause None) (sym stands.broken ∙ whole) (gives signal (payloads_after outcomes));
-      tells = rw whole refl;
+      reports = rw whole refl;
       stands = stands_broken signal outcomes (refusal_of None cause None) new (rw is stands.same) (rw is refl);
     }
 
@@ -153,7 +153,7 @@ next_broken old batch broken = record {
     at = λ signal outcomes stands. record {
       outcome = refused (Some batch.id) Broken None;
       gives = when_broken signal outcomes (Message bytes) (refused (Some batch.id) Broken None) (sym stands.broken ∙ broken) (StaysBroken.readable bytes batch reads);
-      tells = refl;
+      reports = refl;
       stands = stands_broken signal outcomes (refusal_of (Some batch.id) Broken None) old stands.same broken;
     };
   };
@@ -169,7 +169,7 @@ next_refused old new batch cause payload whole broken same refuses = record {
       gives = when_whole signal outcomes (Message bytes) (refused (Some batch.id) cause payload) (sym stands.broken ∙ whole)
           (GivesOutcome.refuses bytes batch cause payload reads
           (subst (λ (s : Signal). Refuses s (payloads_after outcomes) batch.payloads cause payload) stands.same (refuses (payloads_after outcomes) (stands.streams whole))));
-      tells = refl;
+      reports = refl;
       stands = stands_broken signal outcomes (refusal_of (Some batch.id) cause payload) new (same ∙ stands.same) broken;
     };
   };
@@ -188,7 +188,7 @@ next_accepted old new batch rows whole whole' same accepts = record {
         record {
           outcome = Accepted batch tables;
           gives = when_whole signal outcomes (Message bytes) (Accepted batch tables) (sym stands.broken ∙ whole) (GivesOutcome.accepts bytes batch reads a.accepts);
-          tells = (refl, a.rows);
+          reports = (refl, a.rows);
           stands = record {
             same = same ∙ stands.same;
             broken = whole' ∙ sym (broken_accepted outcomes batch tables ∙ sym stands.broken ∙ whole);

@@ -8,11 +8,11 @@ use Rattle.otap_consume.specs.declared.refusal.Cause.{Cause}
 use Rattle.otap_consume.specs.declared.refusal.Cause.TheVariants.{PayloadType, PayloadTwice, Column}
 use Rattle.otap_consume.specs.declared.not_taken.NotTaken.{NotTaken}
 use Rattle.otap_consume.specs.declared.not_taken.NotTaken.TheVariants.{Defect, Memory}
-use Rattle.otap_consume.specs.Defects.{HasFineList, HasFineRecords, StandsInList, Refuses, is_taken}
+use Rattle.otap_consume.specs.Defects.{HasFineList, HasFineRecords, IsDefectOfList, Refuses, is_taken}
 use Rattle.otap_consume.specs.Ids.{ids_of, ids_after}
 use Rattle.lists.specs.EachAfter.{AllAfter}
 use Rattle.lists.specs.Payloads.{PayloadIn}
-use Rattle.otap_consume.specs.PayloadTypes.{HasFineTypes, StandsInTypes}
+use Rattle.otap_consume.specs.PayloadTypes.{HasFineTypes, IsDefectOfTypes}
 use Rattle.otap_consume.specs.Records.{TakesPayloads}
 use Rattle.otap_consume.specs.Untaken.{SaysDefect, IsOfRecord, untaken_by_types}
 use Rattle.otap_consume.specs.Streams.{StreamIn, AreAfter, kinds_in}
@@ -23,11 +23,11 @@ use Rattle.otap_consume.proofs.IdSteps.{ids_are}
 abbrev pub FreeIds : List StreamIn → List PayloadIn → Type 0
 FreeIds streams payloads = (signal : Signal) (past : List PayloadIn) → ids_of streams ≡ ids_after signal past → AllAfter (λ before p. is_taken signal before p ≡ false) past payloads
 
-pub by_types : (signal : Signal) (past payloads : List PayloadIn) (why : TypesRefusal) → StandsInTypes signal payloads why → SaysDefect (Refuses signal past payloads) (untaken_by_types why)
+pub by_types : (signal : Signal) (past payloads : List PayloadIn) (why : TypesRefusal) → IsDefectOfTypes signal payloads why → SaysDefect (Refuses signal past payloads) (untaken_by_types why)
 by_types signal past payloads (types.PayloadType kind) stands = Refuses.by_list PayloadType (Some kind) stands
 by_types signal past payloads (types.PayloadTwice kind) stands = Refuses.by_list PayloadTwice (Some kind) stands
 
-pub by_ids : (signal : Signal) (past payloads : List PayloadIn) (stop : NotTaken) → SaysDefect (StandsInList signal past payloads) stop → SaysDefect (Refuses signal past payloads) stop
+pub by_ids : (signal : Signal) (past payloads : List PayloadIn) (stop : NotTaken) → SaysDefect (IsDefectOfList signal past payloads) stop → SaysDefect (Refuses signal past payloads) stop
 by_ids signal past payloads (Defect cause payload) stands = Refuses.by_list cause payload stands
 by_ids signal past payloads (Memory e) stands = tt
 

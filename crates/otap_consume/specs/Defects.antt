@@ -20,7 +20,7 @@ use Rattle.otap_consume.specs.declared.refusal.Cause.TheVariants.{PayloadType, P
 use Rattle.otap_consume.specs.Limits.{held_limit}
 use Rattle.otap_consume.specs.declared.payload_types.TypesRefusal.TheVariants as types
 use Rattle.otap_consume.specs.Payloads.{payload_type_of, messages_before}
-use Rattle.otap_consume.specs.PayloadTypes.{HasPayload, StandsInTypes, HasFineTypes}
+use Rattle.otap_consume.specs.PayloadTypes.{HasPayload, IsDefectOfTypes, HasFineTypes}
 
 -- ---- the list of payloads
 
@@ -43,11 +43,11 @@ pub record HasTakenId (signal : Signal) (past payloads : List PayloadIn) (type :
   pub of : p.kind ≡ type
 
 -- what is wrong with the list, by the cause and the type that is named
-abbrev pub StandsInList : Signal → List PayloadIn → List PayloadIn → Cause → Option ℤ → Type 0
-StandsInList signal past payloads PayloadType (Some type) = StandsInTypes signal payloads (types.PayloadType type)
-StandsInList signal past payloads PayloadTwice (Some type) = StandsInTypes signal payloads (types.PayloadTwice type)
-StandsInList signal past payloads SchemaIdTaken (Some type) = HasTakenId signal past payloads type
-StandsInList signal past payloads cause payload = ⊥
+abbrev pub IsDefectOfList : Signal → List PayloadIn → List PayloadIn → Cause → Option ℤ → Type 0
+IsDefectOfList signal past payloads PayloadType (Some type) = IsDefectOfTypes signal payloads (types.PayloadType type)
+IsDefectOfList signal past payloads PayloadTwice (Some type) = IsDefectOfTypes signal payloads (types.PayloadTwice type)
+IsDefectOfList signal past payloads SchemaIdTaken (Some type) = HasTakenId signal past payloads type
+IsDefectOfList signal past payloads cause payload = ⊥
 
 -- nothing is wrong with the list
 pub record HasFineList (signal : Signal) (past payloads : List PayloadIn) : Type 0 where
@@ -57,7 +57,7 @@ pub record HasFineList (signal : Signal) (past payloads : List PayloadIn) : Type
 -- ---- the records, each read after the messages of its sub-stream
 
 -- the record of one of the payloads has a defect; the type of the payload is named
-pub record StandsInRecord (signal : Signal) (past payloads : List PayloadIn) (refusal : ColumnRefusal) (payload : Option ℤ) : Type 0 where
+pub record IsDefectOfRecord (signal : Signal) (past payloads : List PayloadIn) (refusal : ColumnRefusal) (payload : Option ℤ) : Type 0 where
   pub p : PayloadIn
   pub has : HasPayload payloads p
   pub kind : Kind
@@ -114,8 +114,8 @@ pub record IsWithinLimits (signal : Signal) (tables : List Table) (held : ℕ) :
 
 -- THE PAYLOADS ARE REFUSED, by the first stage in which something is wrong: the list, then the records, then the whole
 pub data Refuses (signal : Signal) (past payloads : List PayloadIn) : Cause → Option ℤ → Type 0 where
-  by_list : (cause : Cause) (payload : Option ℤ) → StandsInList signal past payloads cause payload → Refuses signal past payloads cause payload
-  by_record : (refusal : ColumnRefusal) (payload : Option ℤ) → HasFineList signal past payloads → StandsInRecord signal past payloads refusal payload
+  by_list : (cause : Cause) (payload : Option ℤ) → IsDefectOfList signal past payloads cause payload → Refuses signal past payloads cause payload
+  by_record : (refusal : ColumnRefusal) (payload : Option ℤ) → HasFineList signal past payloads → IsDefectOfRecord signal past payloads refusal payload
       → Refuses signal past payloads (Column refusal) payload
   by_size : (cause : Cause) → HasFineList signal past payloads → HasFineRecords signal past payloads
       → IsTooLarge signal (tables_of signal past payloads) (held_after signal (past ++ payloads)) cause → Refuses signal past payloads cause None

@@ -23,10 +23,10 @@ abbrev pub AreClean : Meaning → List Table → Type 0
 AreClean m tables = (kind : Kind) (why : RowRefusal) → m.Stands tables kind why → ⊥
 
 -- what is wrong with a batch that no earlier stage refuses: stage 5 looks at its rows, stage 6 at what its request weighs
-abbrev pub StandsInRows : Meaning → List Table → Cause → Option ℤ → Type 0
-StandsInRows m tables (Row why) payload = (kind : Kind) × (payload ≡ Some (payload_type_of kind)) × m.Stands tables kind why
-StandsInRows m tables TreeTooHeavy payload = (payload ≡ None) × AreClean m tables × (weight_limit < weight_of (m.request tables))
-StandsInRows m tables cause payload = ⊥
+abbrev pub IsDefectOfRows : Meaning → List Table → Cause → Option ℤ → Type 0
+IsDefectOfRows m tables (Row why) payload = (kind : Kind) × (payload ≡ Some (payload_type_of kind)) × m.Stands tables kind why
+IsDefectOfRows m tables TreeTooHeavy payload = (payload ≡ None) × AreClean m tables × (weight_limit < weight_of (m.request tables))
+IsDefectOfRows m tables cause payload = ⊥
 
 -- nothing is wrong with it
 pub record HasFineRows (m : Meaning) (tables : List Table) : Type 0 where

@@ -18,10 +18,10 @@ pub record HasPayload (payloads : List PayloadIn) (payload : PayloadIn) : Type 0
 abbrev pub times : ℤ → List PayloadIn → ℕ
 times kind payloads = count_by (λ payload. int_eq payload.kind kind) payloads
 
-abbrev pub StandsInTypes : Signal → List PayloadIn → TypesRefusal → Type 0
-StandsInTypes signal payloads (PayloadType kind) =
+abbrev pub IsDefectOfTypes : Signal → List PayloadIn → TypesRefusal → Type 0
+IsDefectOfTypes signal payloads (PayloadType kind) =
     (payload : PayloadIn) × HasPayload payloads payload × (payload.kind ≡ kind) × (kind_numbered signal kind ≡ None)
-StandsInTypes signal payloads (PayloadTwice kind) = 1 < times kind payloads
+IsDefectOfTypes signal payloads (PayloadTwice kind) = 1 < times kind payloads
 
 -- none of these holds
 pub record IsFineType (signal : Signal) (payloads : List PayloadIn) (payload : PayloadIn) : Type 0 where

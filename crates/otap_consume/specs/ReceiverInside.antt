@@ -16,7 +16,7 @@ use Rattle.otap_consume.specs.declared.not_taken.NotTaken.TheVariants.{Defect, M
 use Rattle.otap_consume.specs.declared.taken.Taken.{Taken}
 use Rattle.otap_consume.specs.declared.taken.Taken.TheVariants as taken
 use Rattle.otap_consume.specs.Defects.{tables_of}
-use Rattle.otap_consume.specs.Meanings.{Meaning, StandsInRows}
+use Rattle.otap_consume.specs.Meanings.{Meaning, IsDefectOfRows}
 use Rattle.otap_consume.specs.Outcomes.{Outcome, Accepted, payloads_after, refusal_of}
 use Rattle.otap_consume.specs.Payloads.{payload_type_of}
 use Rattle.otap_consume.specs.Regroups.{IsRegrouped, IsLight}
@@ -53,7 +53,7 @@ pub record KeepsBatch (m : Meaning) (frame : Frame) (old new : SegmentIn) (kept 
 
 pub record BreaksAt (m : Meaning) (frame : Frame) (old new : SegmentIn) (cause : Cause) (payload : Option ℤ) : Type 0 where
   pub broken : new ≡ record old { broken = true }
-  pub of_last : OfLast frame old (λ tables. StandsInRows m tables cause payload)
+  pub of_last : OfLast frame old (λ tables. IsDefectOfRows m tables cause payload)
 
 abbrev pub TakesRows : Meaning → Frame → ℤ → ℕ → SegmentIn → SegmentIn → Taken → Type 0
 TakesRows m frame id rows old new (taken.Accepted id' request rows' tree) =

@@ -21,7 +21,7 @@ taken_of m Reset = taken.Reset
 pub record HasReceived (m : Meaning) (outcomes : List Outcome) (frame : Frame) (new : SegmentIn) (returned : Taken) : Type 0 where
   pub outcome : Outcome
   pub gives : ReceivedAfter m outcomes frame outcome
-  pub tells : returned ≡ taken_of m outcome
+  pub reports : returned ≡ taken_of m outcome
   pub stands : StandsFor m.signal (outcomes ++ outcome ∷ []) new
 
 pub record Receives (m : Meaning) (old : SegmentIn) (frame : Frame) (new : SegmentIn) (returned : Taken) : Type 0 where

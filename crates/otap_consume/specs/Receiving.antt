@@ -11,13 +11,13 @@ use Rattle.otap_consume.specs.declared.refusal.Cause.{Cause}
 use Rattle.otap_consume.specs.declared.refusal.Cause.TheVariants.{Compressed}
 use Rattle.otap_consume.specs.declared.refusal.Refusal.{Refusal}
 use Rattle.otap_consume.specs.Defects.{Refuses, Accepts, tables_of}
-use Rattle.otap_consume.specs.Meanings.{Meaning, StandsInRows, HasFineRows}
+use Rattle.otap_consume.specs.Meanings.{Meaning, IsDefectOfRows, HasFineRows}
 use Rattle.otap_consume.specs.Outcomes.{Outcome, Accepted, Refused, Reset, OutcomeAfter, refused, unread_cause}
 
 -- WHAT IS MADE OF AN OUTCOME of the stages 0 to 4: a batch stays accepted, or a later stage refuses it
 pub data Settles (m : Meaning) : Outcome → Outcome → Type 0 where
   accepted : (batch : BatchContent) (tables : List Table) → HasFineRows m tables → Settles m (Accepted batch tables) (Accepted batch tables)
-  refuses : (batch : BatchContent) (tables : List Table) (cause : Cause) (payload : Option ℤ) → StandsInRows m tables cause payload
+  refuses : (batch : BatchContent) (tables : List Table) (cause : Cause) (payload : Option ℤ) → IsDefectOfRows m tables cause payload
       → Settles m (Accepted batch tables) (refused (Some batch.id) cause payload)
   stays_refused : (refusal : Refusal) → Settles m (Refused refusal) (Refused refusal)
   resets : Settles m Reset Reset
@@ -42,7 +42,7 @@ pub data HasDefect (m : Meaning) (past : List PayloadIn) : Frame → Cause → O
   early : (bytes : List ℕ) (batch : BatchContent) (cause : Cause) (payload : Option ℤ) → ReadsBatch bytes batch → Refuses m.signal past batch.payloads cause payload
       → HasDefect m past (Message bytes) cause payload
   late : (bytes : List ℕ) (batch : BatchContent) (cause : Cause) (payload : Option ℤ) → ReadsBatch bytes batch → Accepts m.signal past batch.payloads
-      → StandsInRows m (tables_of m.signal past batch.payloads) cause payload → HasDefect m past (Message bytes) cause payload
+      → IsDefectOfRows m (tables_of m.signal past batch.payloads) cause payload → HasDefect m past (Message bytes) cause payload
 
 -- A FRAME IS IN THE FORMAT: it is a message with which nothing is wrong in any stage
 pub record IsInFormat (m : Meaning) (past : List PayloadIn) (frame : Frame) : Type 0 where

@@ -27,17 +27,17 @@ pub record StandsFor (signal : Signal) (outcomes : List Outcome) (s : SegmentIn)
   pub streams : s.broken ≡ false → AreAfter (payloads_after outcomes) s.streams
 
 -- what is returned says an outcome: of a batch its id and its row weight
-abbrev pub TellsOutcome : Outcome → Seen → Type 0
-TellsOutcome (Accepted batch tables) (seen.Batch id rows) = (id ≡ batch.id) × (rows ≡ weight_of_tables tables)
-TellsOutcome (Refused refusal) (seen.Refused told) = told ≡ refusal
-TellsOutcome Reset seen.Reset = ⊤
-TellsOutcome outcome returned = ⊥
+abbrev pub ReportsOutcome : Outcome → Seen → Type 0
+ReportsOutcome (Accepted batch tables) (seen.Batch id rows) = (id ≡ batch.id) × (rows ≡ weight_of_tables tables)
+ReportsOutcome (Refused refusal) (seen.Refused reported) = reported ≡ refusal
+ReportsOutcome Reset seen.Reset = ⊤
+ReportsOutcome outcome returned = ⊥
 
 -- the next frame gives an outcome, which is returned, and the segment stands for one more frame
 pub record HasNext (signal : Signal) (outcomes : List Outcome) (frame : Frame) (returned : Seen) (new : SegmentIn) : Type 0 where
   pub outcome : Outcome
   pub gives : OutcomeAfter signal outcomes frame outcome
-  pub tells : TellsOutcome outcome returned
+  pub reports : ReportsOutcome outcome returned
   pub stands : StandsFor signal (outcomes ++ outcome ∷ []) new
 
 pub record Next (old : SegmentIn) (frame : Frame) (new : SegmentIn) (returned : Seen) : Type 0 where

@@ -11,7 +11,7 @@ use Rattle.otap_consume.specs.declared.payload_types.TypesRefusal.{TypesRefusal}
 use Rattle.otap_consume.specs.declared.payload_types.TypesRefusal.TheVariants.{PayloadType, PayloadTwice}
 use Rattle.otap_consume.specs.declared.not_taken.NotTaken.{NotTaken}
 use Rattle.otap_consume.specs.declared.not_taken.NotTaken.TheVariants.{Defect, Memory}
-use Rattle.otap_consume.specs.Defects.{StandsInRecord}
+use Rattle.otap_consume.specs.Defects.{IsDefectOfRecord}
 
 -- memory may run out at any time; else there is a defect
 abbrev pub SaysDefect : (Cause → Option ℤ → Type 0) → NotTaken → Type 0
@@ -20,7 +20,7 @@ SaysDefect D (Memory e) = ⊤
 
 -- a defect of a record is named by its column refusal
 abbrev pub IsOfRecord : Signal → List PayloadIn → List PayloadIn → Cause → Option ℤ → Type 0
-IsOfRecord signal past payloads (Column refusal) payload = StandsInRecord signal past payloads refusal payload
+IsOfRecord signal past payloads (Column refusal) payload = IsDefectOfRecord signal past payloads refusal payload
 IsOfRecord signal past payloads cause payload = ⊥
 
 -- a limit that is exceeded names no payload

@@ -2,7 +2,7 @@
 ghost use Rattle.std.specs.Prelude.{◌≡◌, List, IfOk, IfErr, OnOk, map, false};
 ghost use Rattle.otlp_model.specs.declared.request.Signal.{Signal};
 ghost use Rattle.otap_capture.specs.Batch.{content_of};
-ghost use Rattle.otap_consume.specs.Defects.{StandsInList, is_open_id, is_taken};
+ghost use Rattle.otap_consume.specs.Defects.{IsDefectOfList, is_open_id, is_taken};
 ghost use Rattle.lists.specs.EachAfter.{AllAfter};
 ghost use Rattle.lists.specs.Payloads.{PayloadIn};
 ghost use Rattle.otap_consume.specs.Ids.{ids_of, ids_after, has_other, has_other_type, with_open_id};
@@ -25,7 +25,7 @@ pub(crate) fn check_ids(
     ensures free { OnOk result ((signal : Signal) (past : List PayloadIn) → ids_of streams.now ≡ ids_after signal past
         → AllAfter (λ before p. is_taken signal before p ≡ false) past batch.now.payloads) }
     ensures stops { IfErr result (λ stop. (signal : Signal) (past : List PayloadIn) → ids_of streams.now ≡ ids_after signal past
-        → SaysDefect (StandsInList signal past batch.now.payloads) stop) }
+        → SaysDefect (IsDefectOfList signal past batch.now.payloads) stop) }
 {
     let mut ids = OpenIds::of(alloc, streams)?;
     'payloads: for payload in batch.payloads() {

@@ -1,6 +1,6 @@
 //! The payload types of a batch.
 ghost use Rattle.std.specs.Prelude.{◌≡◌, nat_lt, MatchResult};
-ghost use Rattle.otap_consume.specs.PayloadTypes.{HasFineTypes, StandsInTypes, times};
+ghost use Rattle.otap_consume.specs.PayloadTypes.{HasFineTypes, IsDefectOfTypes, times};
 
 use otap_capture::Batch;
 use otap_cells::table_of;
@@ -21,14 +21,14 @@ pub enum TypesRefusal {
 /// Looks at the payload types of a batch: each is to be one of the signal's, and to occur once.
 /// It is linear, since a signal has few types: of more payloads one of the first is refused.
 pub fn check_types(signal: Signal, batch: &Batch<'_>) -> Result<(), TypesRefusal>
-    ensures { MatchResult result (λ x. HasFineTypes signal batch.now.payloads) (StandsInTypes signal batch.now.payloads) }
+    ensures { MatchResult result (λ x. HasFineTypes signal batch.now.payloads) (IsDefectOfTypes signal batch.now.payloads) }
 {
     'payloads: for payload in batch.payloads() {
         let kind = payload.kind;
         if table_of(signal, kind).is_none() {
             return Err(TypesRefusal::PayloadType(kind));
         }
-        if stands_twice(batch, kind) {
+        if occurs_twice(batch, kind) {
             return Err(TypesRefusal::PayloadTwice(kind));
         }
     }
@@ -36,7 +36,7 @@ pub fn check_types(signal: Signal, batch: &Batch<'_>) -> Result<(), TypesRefusal
 }
 
 /// Whether two payloads of a batch have a type.
-fn stands_twice(batch: &Batch<'_>, kind: i32) -> bool
+fn occurs_twice(batch: &Batch<'_>, kind: i32) -> bool
     ensures { result ≡ nat_lt 1 (times kind batch.now.payloads) }
 {
     let mut found = false;

@@ -2,7 +2,7 @@
 ghost use Rattle.std.specs.Prelude.{◌≡◌, true, IfOk, IfErr, OnErr};
 ghost use Rattle.otap_capture.specs.Capture.{frame_of};
 ghost use Rattle.otap_consume.specs.declared.taken.Taken.TheVariants as taken;
-ghost use Rattle.otap_consume.specs.Meanings.{StandsInRows};
+ghost use Rattle.otap_consume.specs.Meanings.{IsDefectOfRows};
 ghost use Rattle.otap_consume.specs.ReceiverInside.{OfLast, RefusesBy, TakesRows};
 ghost use Rattle.otap_consume.specs.Regroups.{IsLight, IsRegrouped};
 ghost use Rattle.otap_consume.specs.Segments.{IsTaken};
@@ -115,7 +115,7 @@ fn regroup_last<T: Telemetry>(
     requires { IsTaken (frame_of frame.now) segment.now }
     ensures regrouped { IfOk result (λ kept. OfLast (frame_of frame.now) segment.now (λ tables. IsRegrouped T.meaning tables kept)) }
     ensures light { IfOk result IsLight }
-    ensures stops { IfErr result (λ stop. OfLast (frame_of frame.now) segment.now (λ tables. SaysDefect (StandsInRows T.meaning tables) stop)) }
+    ensures stops { IfErr result (λ stop. OfLast (frame_of frame.now) segment.now (λ tables. SaysDefect (IsDefectOfRows T.meaning tables) stop)) }
 {
     let Frame::Message(bytes) = frame else {
         unreachable!()
@@ -131,7 +131,7 @@ fn regroup_last<T: Telemetry>(
 fn regroup<T: Telemetry>(alloc: Global, set: &TableSet<RowsView<'_>>) -> Result<Regrouped, NotTaken>
     ensures regrouped { IfOk result (IsRegrouped T.meaning set.now) }
     ensures light { IfOk result IsLight }
-    ensures stops { IfErr result (SaysDefect (StandsInRows T.meaning set.now)) }
+    ensures stops { IfErr result (SaysDefect (IsDefectOfRows T.meaning set.now)) }
 {
     let kept = T::regroup(alloc, set)?;
     Ok(kept)

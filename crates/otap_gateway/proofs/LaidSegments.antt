@@ -8,7 +8,7 @@ use Rattle.otap_produce.specs.Policy.{SignalRows, IsMessageOf, Policy}
 use Rattle.otap_transit.specs.Sendings.{Sent, Reset, requests_since, messages_since}
 use Rattle.otap_transit.proofs.SendingsGrown.{requests_sent, messages_sent, requests_reset, messages_reset}
 use Rattle.otap_gateway.specs.Encoding.{Encoded, EncodedAfter, Encodes, IsLaidOutcome, sent}
-use Rattle.otap_gateway.specs.Told.{Gave}
+use Rattle.otap_gateway.specs.Replies.{Gave}
 use Rattle.otap_gateway.proofs.SentSoFar.{sent_on, sent_still, requests_first, messages_first}
 
 module _ (rows : SignalRows) (m : Meaning) where

@@ -19,8 +19,8 @@ pub mod RowText
 pub mod SentSoFar
 pub mod Shows
 pub mod SpanLoads
-pub mod Telling
-pub mod ToldAll
+pub mod Replying
+pub mod AllReplies
 pub mod WrittenFrames
 mod Plain
 mod Printed

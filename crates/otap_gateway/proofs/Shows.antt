@@ -11,17 +11,17 @@ use Rattle.otap_consume.specs.declared.seen.Seen.{Seen}
 use Rattle.otap_consume.specs.declared.seen.Seen.TheVariants as seen
 use Rattle.otap_consume.specs.Defects.{tables_of}
 use Rattle.otap_consume.specs.Outcomes.{Outcome, Accepted, Refused, Reset, GivesOutcome, StaysBroken, OutcomeAfter, is_broken, payloads_after}
-use Rattle.otap_consume.specs.Segments.{SegmentIn, StandsFor, HasNext, Next, TellsOutcome, IsNew}
+use Rattle.otap_consume.specs.Segments.{SegmentIn, StandsFor, HasNext, Next, ReportsOutcome, IsNew}
 use Rattle.otap_consume.proofs.SegmentSteps.{stands_first}
 use Rattle.otap_gateway.specs.Reply.{ReplyText}
 use Rattle.otap_gateway.specs.Runs.{Sinks, BeginsWith, WritesFront}
 use Rattle.otap_gateway.specs.declared.jobs.command.Command.{Command}
 use Rattle.otap_gateway.specs.EncodingSteps.{HasMore}
-use Rattle.otap_gateway.specs.JobStates.{HasShown, HasTold}
+use Rattle.otap_gateway.specs.JobStates.{HasShown, HasRepliedBy}
 use Rattle.otap_gateway.specs.Showing.{shown}
 use Rattle.otap_gateway.specs.ShowingSeen.{ShowsSeen}
-use Rattle.otap_gateway.specs.Told.{Tells}
-use Rattle.otap_gateway.proofs.Telling.{tells_more}
+use Rattle.otap_gateway.specs.Replies.{IsReplyAfter}
+use Rattle.otap_gateway.proofs.Replying.{is_reply_more}
 
 -- a frame that gives an accepted batch
 pub record IsAccepted (signal : Signal) (outcomes : List Outcome) (frame : Frame) (batch : BatchContent) (tables : List Table) : Type 0 where
@@ -51,34 +51,34 @@ accepted_from signal outcomes frame o batch tables is false GivesOutcome.resets 
 
 -- the reply is that of the outcome
 module _ (signal : Signal) (outcomes : List Outcome) (frame : Frame) (number : ℕ) (new : SegmentIn) (reply : ReplyText) where
-  text_of : (returned : Seen) (o : Outcome) → OutcomeAfter signal outcomes frame o → TellsOutcome o returned → StandsFor signal (outcomes ++ o ∷ []) new → ShowsSeen frame new number returned reply
+  text_of : (returned : Seen) (o : Outcome) → OutcomeAfter signal outcomes frame o → ReportsOutcome o returned → StandsFor signal (outcomes ++ o ∷ []) new → ShowsSeen frame new number returned reply
       → reply ≡ shown number o
-  text_of (seen.Batch id rows) (Accepted batch tables) gives tells stands replies =
+  text_of (seen.Batch id rows) (Accepted batch tables) gives reports stands replies =
       let is : IsAccepted signal outcomes frame batch tables = accepted_from signal outcomes frame (Accepted batch tables) batch tables refl (is_broken outcomes) gives in
       replies.at signal outcomes is.bytes batch tables is.message is.reads stands ∙ ap (λ (ts : List Table). shown number (Accepted batch ts)) (sym is.same)
-  text_of (seen.Batch id rows) (Refused refusal) gives tells stands replies = absurd tells
-  text_of (seen.Batch id rows) Reset gives tells stands replies = absurd tells
-  text_of (seen.Refused told) (Accepted batch tables) gives tells stands replies = absurd tells
-  text_of (seen.Refused told) (Refused refusal) gives tells stands replies = replies ∙ ap (λ r. shown number (Refused r)) tells
-  text_of (seen.Refused told) Reset gives tells stands replies = absurd tells
-  text_of seen.Reset (Accepted batch tables) gives tells stands replies = absurd tells
-  text_of seen.Reset (Refused refusal) gives tells stands replies = absurd tells
-  text_of seen.Reset Reset gives tells stands replies = replies
+  text_of (seen.Batch id rows) (Refused refusal) gives reports stands replies = absurd reports
+  text_of (seen.Batch id rows) Reset gives reports stands replies = absurd reports
+  text_of (seen.Refused reported) (Accepted batch tables) gives reports stands replies = absurd reports
+  text_of (seen.Refused reported) (Refused refusal) gives reports stands replies = replies ∙ ap (λ r. shown number (Refused r)) reports
+  text_of (seen.Refused reported) Reset gives reports stands replies = absurd reports
+  text_of seen.Reset (Accepted batch tables) gives reports stands replies = absurd reports
+  text_of seen.Reset (Refused refusal) gives reports stands replies = absurd reports
+  text_of seen.Reset Reset gives reports stands replies = replies
 
 pub shows : (old new : SegmentIn) (frame : Frame) (returned : Seen) (number : ℕ) (reply : ReplyText) → Next old frame new returned → new.signal ≡ old.signal → ShowsSeen frame new number returned reply
     → (frames : List Frame) (replies : List ReplyText) → length frames ≡ number → HasShown old frames replies
-    → Tells (OutcomeAfter old.signal) shown frames replies frame reply × HasShown new (frames ++ frame ∷ []) (replies ++ reply ∷ [])
+    → IsReplyAfter (OutcomeAfter old.signal) shown frames replies frame reply × HasShown new (frames ++ frame ∷ []) (replies ++ reply ∷ [])
 shows old new frame returned number reply next same replies frames before count history =
     let both =
-    tells_more (OutcomeAfter old.signal) shown (λ os. StandsFor old.signal os old) (λ os. StandsFor old.signal os new) frame number reply
+    is_reply_more (OutcomeAfter old.signal) shown (λ os. StandsFor old.signal os old) (λ os. StandsFor old.signal os new) frame number reply
     (λ past outcomes gave stands. step outcomes (next.at old.signal outcomes stands)) frames before count history in
-    (both.0, subst (λ (s : Signal). HasTold (OutcomeAfter s) shown (λ os. StandsFor s os new) (frames ++ frame ∷ []) (before ++ reply ∷ [])) (sym same) both.1)
+    (both.0, subst (λ (s : Signal). HasRepliedBy (OutcomeAfter s) shown (λ os. StandsFor s os new) (frames ++ frame ∷ []) (before ++ reply ∷ [])) (sym same) both.1)
   where
     step : (outcomes : List Outcome) → HasNext old.signal outcomes frame returned new → HasMore (OutcomeAfter old.signal) shown (λ os. StandsFor old.signal os new) outcomes frame number reply
     step outcomes n = record {
       outcome = n.outcome;
       gives = n.gives;
-      says = text_of old.signal outcomes frame number new reply returned n.outcome n.gives n.tells n.stands replies;
+      says = text_of old.signal outcomes frame number new reply returned n.outcome n.gives n.reports n.stands replies;
       stands = n.stands;
     }
 

@@ -15,21 +15,21 @@ use Rattle.otap_gateway.specs.Encoding.{Encoded, Puts, Refuses, Encodes, Arrives
 use Rattle.otap_gateway.specs.ReadBack.{IsReadAgain}
 use Rattle.otap_gateway.specs.Receptions.{meaning_of}
 use Rattle.otap_gateway.specs.Reply.{ReplyText, out_text}
-use Rattle.otap_gateway.specs.Told.{Gave, told}
+use Rattle.otap_gateway.specs.Replies.{Gave, replies_from}
 use Rattle.otap_gateway.proofs.EncodedFrames.{encoded_only}
 use Rattle.otap_gateway.proofs.SentSoFar.{are_allowed}
-use Rattle.otap_gateway.proofs.ToldAll.{encode_back}
+use Rattle.otap_gateway.proofs.AllReplies.{encode_back}
 
 -- the bytes of what is sent
 abbrev pub spelled : Sending → List ℕ
 spelled (Sent request message) = message_frame message
 spelled Reset = reset_frame
 
-out_told : (number : ℕ) (os : List Encoded) → out_text (told encoded number os) ≡ flat_map spelled (sent os)
-out_told number [] = refl
-out_told number (Puts (Sent q m) ∷ os) = ap (λ l. message_frame m ++ l) (out_told (suc number) os)
-out_told number (Puts Reset ∷ os) = ap (λ l. reset_frame ++ l) (out_told (suc number) os)
-out_told number (Refuses name ∷ os) = out_told (suc number) os
+out_replies : (number : ℕ) (os : List Encoded) → out_text (replies_from encoded number os) ≡ flat_map spelled (sent os)
+out_replies number [] = refl
+out_replies number (Puts (Sent q m) ∷ os) = ap (λ l. message_frame m ++ l) (out_replies (suc number) os)
+out_replies number (Puts Reset ∷ os) = ap (λ l. reset_frame ++ l) (out_replies (suc number) os)
+out_replies number (Refuses name ∷ os) = out_replies (suc number) os
 
 -- a frame is read where it is written
 abbrev pub MessagesAreRead : Type 0
@@ -59,11 +59,11 @@ module _ (rows : SignalRows) (messages : MessagesAreRead) (resets : IsFrame rese
   }
 
   read_from : (m : Meaning) → ((ss : List Sending) → AreAllowed rows ss → Arrives m ss) → (frames : List Frame) (replies : List ReplyText) (os : List Encoded)
-      → Gave (Encodes rows m) frames os → replies ≡ told encoded 0 os → IsReadAgain rows m frames replies
+      → Gave (Encodes rows m) frames os → replies ≡ replies_from encoded 0 os → IsReadAgain rows m frames replies
   read_from m arrives frames replies os each texts =
       let gave = encoded_only rows m frames os each in
       let allowed : AreAllowed rows (sent os) = are_allowed rows frames os gave in
-      let out : flat_map spelled (sent os) ≡ out_text replies = sym (ap out_text texts ∙ out_told 0 os) in
+      let out : flat_map spelled (sent os) ≡ out_text replies = sym (ap out_text texts ∙ out_replies 0 os) in
       record {
         outcomes = os;
         gave = gave;

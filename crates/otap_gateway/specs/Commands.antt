@@ -14,7 +14,7 @@ use Rattle.otap_gateway.specs.Reply.{ReplyText}
 use Rattle.otap_gateway.specs.Schemas.{SchemasFrame}
 use Rattle.otap_gateway.specs.Showing.{shown}
 use Rattle.otap_gateway.specs.Tidying.{TidiesFrame}
-use Rattle.otap_gateway.specs.Told.{Tells}
+use Rattle.otap_gateway.specs.Replies.{IsReplyAfter}
 
 abbrev pub signal_word : Signal → List ℕ
 signal_word signals.Traces = codes "traces"
@@ -40,9 +40,9 @@ IsNoCommand words = (job : Command) → words ≢ words_of job
 unfoldable pub ReplyOf : Command → List Frame → List ReplyText → Frame → ReplyText → Type 0
 ReplyOf command.List frames replies frame reply = ListsFrame (length frames) frame reply
 ReplyOf (command.Tidy signal) frames replies frame reply = TidiesFrame signal (length frames) frame reply
-ReplyOf (command.Encode signal) frames replies frame reply = Tells (Encodes (signal_rows signal) (meaning_of signal)) encoded frames replies frame reply
+ReplyOf (command.Encode signal) frames replies frame reply = IsReplyAfter (Encodes (signal_rows signal) (meaning_of signal)) encoded frames replies frame reply
 ReplyOf (command.Schema signal) frames replies frame reply = SchemasFrame signal (length frames) frame reply
-ReplyOf (command.Show signal) frames replies frame reply = Tells (OutcomeAfter signal) shown frames replies frame reply
-ReplyOf (command.Decode signal) frames replies frame reply = Tells (ReceivedAfter (meaning_of signal)) (as_taken (meaning_of signal) decoded) frames replies frame reply
-ReplyOf (command.Status signal) frames replies frame reply = Tells (ReceivedAfter (meaning_of signal)) (as_taken (meaning_of signal) statused) frames replies frame reply
-ReplyOf (command.Replay signal) frames replies frame reply = Tells (ReceivedAfter (meaning_of signal)) (as_taken (meaning_of signal) replayed) frames replies frame reply
+ReplyOf (command.Show signal) frames replies frame reply = IsReplyAfter (OutcomeAfter signal) shown frames replies frame reply
+ReplyOf (command.Decode signal) frames replies frame reply = IsReplyAfter (ReceivedAfter (meaning_of signal)) (as_taken (meaning_of signal) decoded) frames replies frame reply
+ReplyOf (command.Status signal) frames replies frame reply = IsReplyAfter (ReceivedAfter (meaning_of signal)) (as_taken (meaning_of signal) statused) frames replies frame reply
+ReplyOf (command.Replay signal) frames replies frame reply = IsReplyAfter (ReceivedAfter (meaning_of signal)) (as_taken (meaning_of signal) replayed) frames replies frame reply

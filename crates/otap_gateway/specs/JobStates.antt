@@ -9,19 +9,19 @@ use Rattle.otap_consume.specs.Segments.{SegmentIn, StandsFor}
 use Rattle.otap_gateway.specs.Receptions.{as_taken}
 use Rattle.otap_gateway.specs.Reply.{ReplyText}
 use Rattle.otap_gateway.specs.Showing.{shown}
-use Rattle.otap_gateway.specs.Told.{Giving, Gave, told}
+use Rattle.otap_gateway.specs.Replies.{Giving, Gave, replies_from}
 
 -- the frames and the replies that a state stands for, by the outcomes that it stands for
-pub record HasTold {O : Type 0} (Gives : Giving O) (text : ℕ → O → ReplyText) (stands : List O → Type 0) (frames : List Frame) (replies : List ReplyText) : Type 0 where
+pub record HasRepliedBy {O : Type 0} (Gives : Giving O) (text : ℕ → O → ReplyText) (stands : List O → Type 0) (frames : List Frame) (replies : List ReplyText) : Type 0 where
   pub outcomes : List O
   pub before : Gave Gives frames outcomes
-  pub so_far : replies ≡ told text 0 outcomes
+  pub so_far : replies ≡ replies_from text 0 outcomes
   pub stood : stands outcomes
 
 -- the frames and the replies that a segment stands for
 abbrev pub HasShown : SegmentIn → List Frame → List ReplyText → Type 0
-HasShown s frames replies = HasTold (OutcomeAfter s.signal) shown (λ outcomes. StandsFor s.signal outcomes s) frames replies
+HasShown s frames replies = HasRepliedBy (OutcomeAfter s.signal) shown (λ outcomes. StandsFor s.signal outcomes s) frames replies
 
 -- the frames and the replies that a receiver stands for
 abbrev pub HasReplied : Meaning → (ℕ → Taken → ReplyText) → SegmentIn → List Frame → List ReplyText → Type 0
-HasReplied m text s frames replies = HasTold (ReceivedAfter m) (as_taken m text) (λ outcomes. StandsFor m.signal outcomes s) frames replies
+HasReplied m text s frames replies = HasRepliedBy (ReceivedAfter m) (as_taken m text) (λ outcomes. StandsFor m.signal outcomes s) frames replies

@@ -27,5 +27,5 @@ pub mod Showing
 pub mod ShowingSeen
 pub mod Texts
 pub mod Tidying
-pub mod Told
+pub mod Replies
 pub mod Turns

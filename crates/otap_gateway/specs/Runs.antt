@@ -31,10 +31,10 @@ pub record Sinks : Type 0 where
 
 -- the state of a sink; the first argument has the ghost members of its type
 abbrev pub sink_state : {K : Type 0} → SinkGhosts K → K → SinkState
-sink_state tells sink = record { written = tells.written sink; passed = tells.passed sink; faults = tells.faults sink }
+sink_state ghosts sink = record { written = ghosts.written sink; passed = ghosts.passed sink; faults = ghosts.faults sink }
 
 abbrev pub sinks : {O E : Type 0} → SinkGhosts O → O → SinkGhosts E → E → Sinks
-sinks tells out tells' err = record { out = sink_state tells out; err = sink_state tells' err }
+sinks ghosts out ghosts' err = record { out = sink_state ghosts out; err = sink_state ghosts' err }
 
 -- what a run meets: the bytes that the source has left, its count of faults, and the sinks
 pub record World : Type 0 where
@@ -43,7 +43,7 @@ pub record World : Type 0 where
   pub sinks : Sinks
 
 abbrev pub world : {S : Type 0} → SourceGhosts S → S → Sinks → World
-world tells source sinks = record { left = tells.left source; faults = tells.faults source; sinks = sinks }
+world ghosts source sinks = record { left = ghosts.left source; faults = ghosts.faults source; sinks = sinks }
 
 -- all that was written is passed on
 pub record IsFlushed (sinks : Sinks) : Type 0 where

@@ -13,7 +13,7 @@ use Rattle.otap_consume.specs.declared.payload_types.TypesRefusal.TheVariants.{P
 use Rattle.otap_gateway.specs.Fields.{fields_text}
 use Rattle.otap_gateway.specs.Lines.{reset_line, line_feed, head_line, payload_head, printed}
 use Rattle.otap_gateway.specs.Openings.{BeginsWell, opening_of, fault_name}
-use Rattle.otap_consume.specs.PayloadTypes.{HasPayload, HasFineTypes, StandsInTypes}
+use Rattle.otap_consume.specs.PayloadTypes.{HasPayload, HasFineTypes, IsDefectOfTypes}
 use Rattle.otap_gateway.specs.Refused.{RefusesUnread, refused_unread, refused_batch}
 use Rattle.otap_gateway.specs.Reply.{ReplyText}
 
@@ -55,7 +55,7 @@ refused_types number id refusal = refused_batch number id 2 (types_name refusal)
 -- a payload type is refused
 pub record RefusesTypes (signal : Signal) (number : ℕ) (batch : BatchContent) (reply : ReplyText) : Type 0 where
   pub refusal : TypesRefusal
-  pub stands : StandsInTypes signal batch.payloads refusal
+  pub stands : IsDefectOfTypes signal batch.payloads refusal
   pub line : reply ≡ refused_types number batch.id refusal
 
 -- a record begins with a fault

@@ -9,7 +9,7 @@ use Rattle.otlp_model.specs.declared.request.Signal.{Signal}
 use Rattle.otap_gateway.specs.Commands.{ReplyOf}
 use Rattle.otap_gateway.specs.Receptions.{decoded, statused, replayed, as_taken, meaning_of}
 use Rattle.otap_gateway.specs.Showing.{shown}
-use Rattle.otap_gateway.specs.Told.{told}
+use Rattle.otap_gateway.specs.Replies.{replies_from}
 
 -- no stage after the fourth refused the frame: `show` looks no further
 abbrev pub IsEarly : Outcome → Type 0
@@ -22,10 +22,10 @@ IsEarly Reset = ⊤
 pub record HaveTexts (signal : Signal) (frames : List Frame) : Type 0 where
   pub outcomes : List Outcome
   pub received : Received (meaning_of signal) frames outcomes
-  pub decode : EachAfter (ReplyOf (command.Decode signal)) [] [] frames (told (as_taken (meaning_of signal) decoded) 0 outcomes)
-  pub status : EachAfter (ReplyOf (command.Status signal)) [] [] frames (told (as_taken (meaning_of signal) statused) 0 outcomes)
-  pub replay : EachAfter (ReplyOf (command.Replay signal)) [] [] frames (told (as_taken (meaning_of signal) replayed) 0 outcomes)
-  pub show_alike : All IsEarly outcomes → EachAfter (ReplyOf (command.Show signal)) [] [] frames (told shown 0 outcomes)
+  pub decode : EachAfter (ReplyOf (command.Decode signal)) [] [] frames (replies_from (as_taken (meaning_of signal) decoded) 0 outcomes)
+  pub status : EachAfter (ReplyOf (command.Status signal)) [] [] frames (replies_from (as_taken (meaning_of signal) statused) 0 outcomes)
+  pub replay : EachAfter (ReplyOf (command.Replay signal)) [] [] frames (replies_from (as_taken (meaning_of signal) replayed) 0 outcomes)
+  pub show_alike : All IsEarly outcomes → EachAfter (ReplyOf (command.Show signal)) [] [] frames (replies_from shown 0 outcomes)
   pub seen : List Outcome
   pub given : Outcomes signal frames seen
-  pub show : EachAfter (ReplyOf (command.Show signal)) [] [] frames (told shown 0 seen)
+  pub show : EachAfter (ReplyOf (command.Show signal)) [] [] frames (replies_from shown 0 seen)

@@ -33,7 +33,7 @@ stop_of_frames (frames.Memory e) = stop.Memory
 
 -- what a run meets after the frames that were handed out
 abbrev pub world_ahead : {S : Type 0} → Reading → SourceGhosts S → S → Sinks → World
-world_ahead read tells source sinks = record { left = ahead read (tells.left source); faults = tells.faults source; sinks = sinks }
+world_ahead read ghosts source sinks = record { left = ahead read (ghosts.left source); faults = ghosts.faults source; sinks = sinks }
 
 -- nothing is written
 pub record KeepsBoth (old new : Sinks) : Type 0 where

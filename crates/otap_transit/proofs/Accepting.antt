@@ -33,8 +33,8 @@ use Rattle.otap_transit.proofs.Reaching.{Reaches, AreHeld}
 module _ (signal : Signal) where
   -- ---- the types
 
-  told : (before : List Table) (past : List PayloadIn) (t : Table) (p : PayloadIn) (kind : Kind) → Reaches signal before past t p → int_eq p.kind (payload_type_of kind) ≡ is_kind t.kind kind
-  told before past t p kind r = ap (λ (type : ℤ). int_eq type (payload_type_of kind)) r.type ∙ types_compared t.kind kind
+  returned : (before : List Table) (past : List PayloadIn) (t : Table) (p : PayloadIn) (kind : Kind) → Reaches signal before past t p → int_eq p.kind (payload_type_of kind) ≡ is_kind t.kind kind
+  returned before past t p kind r = ap (λ (type : ℤ). int_eq type (payload_type_of kind)) r.type ∙ types_compared t.kind kind
 
   -- a type occurs as often among payloads as its kind among their tables
   as_often : (before : List Table) (past : List PayloadIn) (ts : List Table) (ps : List PayloadIn) (kind : Kind) → EachAfter (Reaches signal) before past ts ps
@@ -44,7 +44,7 @@ module _ (signal : Signal) where
   as_often before past (t ∷ ts) [] kind each = absurd each
   as_often before past (t ∷ ts) (p ∷ ps) kind each =
       let later : times (payload_type_of kind) ps ≡ count_by (λ t. is_kind t.kind kind) ts = as_often (before ++ t ∷ []) (past ++ p ∷ []) ts ps kind each.1 in
-      let same : int_eq p.kind (payload_type_of kind) ≡ is_kind t.kind kind = told before past t p kind each.0 in
+      let same : int_eq p.kind (payload_type_of kind) ≡ is_kind t.kind kind = returned before past t p kind each.0 in
       elim (cases_Bool (is_kind t.kind kind)) [
         | inl own ↦
             count_hit (λ (q : PayloadIn). int_eq q.kind (payload_type_of kind)) p ps (same ∙ own) ∙ ap (λ (n : ℕ). 1 + n) later

@@ -56,16 +56,16 @@ one_more : (kind : Kind) (before : List Table) (past : List PayloadIn) (t : Tabl
     → AreWrittenAs kind (of_kind kind (before ++ t ∷ [])) (of_type (type_of kind) (past ++ p ∷ []))
 one_more kind before past t p each is = by_kind (cases_Bool (is_kind t.kind kind))
   where
-    told : is_of (type_of kind) p ≡ is_kind t.kind kind
-    told = ap (λ (type : ℤ). int_eq type (type_of kind)) is.written.type ∙ types_compared t.kind kind
+    returned : is_of (type_of kind) p ≡ is_kind t.kind kind
+    returned = ap (λ (type : ℤ). int_eq type (type_of kind)) is.written.type ∙ types_compared t.kind kind
 
     by_kind : (is_kind t.kind kind ≡ true) ⊎ (is_kind t.kind kind ≡ false) → AreWrittenAs kind (of_kind kind (before ++ t ∷ [])) (of_type (type_of kind) (past ++ p ∷ []))
     by_kind (inl own) =
         let same : t.kind ≡ kind = same_kind t.kind kind own in
         let here : IsWritten kind (of_kind kind before) past t p = subst (λ (k : Kind). IsWritten k (of_kind k before) past t p) same is.written in
-        rw (of_kind-own kind before t own, of_type-own (type_of kind) past p (told ∙ own))
+        rw (of_kind-own kind before t own, of_type-own (type_of kind) past p (returned ∙ own))
         (each_after-push (IsWritten kind) [] [] (of_kind kind before) (of_type (type_of kind) past) t p each (written_among kind (of_kind kind before) past t p here))
-    by_kind (inr other) = rw (of_kind-other kind before t other, of_type-other (type_of kind) past p (told ∙ other)) each
+    by_kind (inr other) = rw (of_kind-other kind before t other, of_type-other (type_of kind) past p (returned ∙ other)) each
 
 pub each_kind : (kind : Kind) (tables : List Table) (payloads : List PayloadIn) → EachAfter IsPayloadOf [] [] tables payloads → AreWrittenAs kind (of_kind kind tables) (of_type (type_of kind) payloads)
 each_kind kind tables payloads each =

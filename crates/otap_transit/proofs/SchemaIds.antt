@@ -107,8 +107,8 @@ module _ (past : List PayloadIn) (p : PayloadIn) (apart : AreApart past) (few : 
   abbrev Opens : ℤ → List ℕ → Type 0
   Opens type id = ((type ≡ p.kind) × (id ≡ p.schema_id)) ⊎ (open_id type past ≡ Some id)
 
-  told : (type : ℤ) (id : List ℕ) → open_id type (past ++ p ∷ []) ≡ Some id → Opens type id
-  told type id is =
+  returned : (type : ℤ) (id : List ℕ) → open_id type (past ++ p ∷ []) ≡ Some id → Opens type id
+  returned type id is =
       elim (cases_Bool (is_of type p)) [
         | inl own ↦
             let here : Some p.schema_id ≡ Some id = sym (open_id-own type past p own) ∙ is in
@@ -128,8 +128,8 @@ module _ (past : List PayloadIn) (p : PayloadIn) (apart : AreApart past) (few : 
 
   pub still_apart : AreApart (past ++ p ∷ [])
   still_apart = record {
-    below = λ type id is. below_of type id (told type id is);
-    apart = λ a b id is same. by_two a b id (told a id is) (told b id same);
+    below = λ type id is. below_of type id (returned type id is);
+    apart = λ a b id is same. by_two a b id (returned a id is) (returned b id same);
   }
 
   -- and it is a text

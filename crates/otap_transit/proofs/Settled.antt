@@ -16,21 +16,21 @@ use Rattle.otap_consume.proofs.Regrouping.{GivesBatch, accepted_batch}
 use Rattle.otap_consume.proofs.SegmentSteps.{when_whole}
 use Rattle.otap_transit.proofs.InFormat.{in_format_by}
 
-given_whole : (signal : Signal) (told : List Outcome) (frame : Frame) (o : Outcome) → is_broken told ≡ false → OutcomeAfter signal told frame o → GivesOutcome signal (payloads_after told) frame o
-given_whole signal told frame o whole after = subst (λ (b : Bool). MatchBool b (StaysBroken frame o) (GivesOutcome signal (payloads_after told) frame o)) whole after
+given_whole : (signal : Signal) (returned : List Outcome) (frame : Frame) (o : Outcome) → is_broken returned ≡ false → OutcomeAfter signal returned frame o → GivesOutcome signal (payloads_after returned) frame o
+given_whole signal returned frame o whole after = subst (λ (b : Bool). MatchBool b (StaysBroken frame o) (GivesOutcome signal (payloads_after returned) frame o)) whole after
 
 -- ---- a message
 
-pub gives_accepted : (m : Meaning) (told : List Outcome) (past : List PayloadIn) (message : List ℕ) → is_broken told ≡ false → payloads_after told ≡ past → ReadsBatch message (batch_content message)
+pub gives_accepted : (m : Meaning) (returned : List Outcome) (past : List PayloadIn) (message : List ℕ) → is_broken returned ≡ false → payloads_after returned ≡ past → ReadsBatch message (batch_content message)
     → Accepts m.signal past (batch_content message).payloads → HasFineRows m (tables_of m.signal past (batch_content message).payloads)
-    → ReceivedAfter m told (Message message) (Accepted (batch_content message) (tables_of m.signal past (batch_content message).payloads))
-gives_accepted m told past message whole payloads reads accepts fine =
+    → ReceivedAfter m returned (Message message) (Accepted (batch_content message) (tables_of m.signal past (batch_content message).payloads))
+gives_accepted m returned past message whole payloads reads accepts fine =
     let batch : BatchContent = batch_content message in
     let tables : List Table = tables_of m.signal past batch.payloads in
     let here : GivesOutcome m.signal past (Message message) (Accepted batch tables) = GivesOutcome.accepts message batch reads accepts in
     record {
       seen = Accepted batch tables;
-      gives = when_whole m.signal told (Message message) (Accepted batch tables) whole
+      gives = when_whole m.signal returned (Message message) (Accepted batch tables) whole
           (subst (λ (now : List PayloadIn). GivesOutcome m.signal now (Message message) (Accepted batch tables)) (sym payloads) here);
       settles = Settles.accepted batch tables fine;
     }
@@ -48,33 +48,33 @@ settles_reset m seen o same (Settles.refuses batch tables cause payload stands) 
 settles_reset m seen o same (Settles.stays_refused refusal) = absurd (cc same)
 settles_reset m seen o same Settles.resets = refl
 
-pub only_accepted : (m : Meaning) (told : List Outcome) (past : List PayloadIn) (message : List ℕ) (outcome : Outcome) → is_broken told ≡ false → payloads_after told ≡ past
+pub only_accepted : (m : Meaning) (returned : List Outcome) (past : List PayloadIn) (message : List ℕ) (outcome : Outcome) → is_broken returned ≡ false → payloads_after returned ≡ past
     → ReadsBatch message (batch_content message) → Accepts m.signal past (batch_content message).payloads → HasFineRows m (tables_of m.signal past (batch_content message).payloads)
-    → ReceivedAfter m told (Message message) outcome → outcome ≡ Accepted (batch_content message) (tables_of m.signal past (batch_content message).payloads)
-only_accepted m told past message (Accepted batch tables) whole payloads reads accepts fine after =
+    → ReceivedAfter m returned (Message message) outcome → outcome ≡ Accepted (batch_content message) (tables_of m.signal past (batch_content message).payloads)
+only_accepted m returned past message (Accepted batch tables) whole payloads reads accepts fine after =
     let seen : after.seen ≡ Accepted batch tables = (settles_accepted m after.seen (Accepted batch tables) batch tables refl after.settles).0 in
-    let given : GivesBatch m.signal (payloads_after told) (Message message) batch tables
-    = (accepted_batch m.signal told (Message message) batch tables (subst (OutcomeAfter m.signal told (Message message)) seen after.gives)).1 in
+    let given : GivesBatch m.signal (payloads_after returned) (Message message) batch tables
+    = (accepted_batch m.signal returned (Message message) batch tables (subst (OutcomeAfter m.signal returned (Message message)) seen after.gives)).1 in
     let bytes : message ≡ given.bytes = cc given.message in
     let one : batch ≡ batch_content message = given.reads.1 ∙ ap batch_content (sym bytes) in
     let are : tables ≡ tables_of m.signal past (batch_content message).payloads
     = given.are ∙ ap (λ (now : List PayloadIn). tables_of m.signal now batch.payloads) payloads ∙ ap (λ (b : BatchContent). tables_of m.signal past b.payloads) one in
     λ i. Accepted (one i) (are i)
-only_accepted m told past message (Refused refusal) whole payloads reads accepts fine after =
+only_accepted m returned past message (Refused refusal) whole payloads reads accepts fine after =
     let format : IsInFormat m past (Message message) = in_format_by m past message (batch_content message) reads accepts fine in
     let bad : HasDefect m past (Message message) refusal.cause refusal.payload
-    = subst (λ (now : List PayloadIn). HasDefect m now (Message message) refusal.cause refusal.payload) payloads (named m told (Message message) refusal after whole).0 in
+    = subst (λ (now : List PayloadIn). HasDefect m now (Message message) refusal.cause refusal.payload) payloads (named m returned (Message message) refusal after whole).0 in
     absurd (format.fine refusal.cause refusal.payload bad)
-only_accepted m told past message Reset whole payloads reads accepts fine after =
+only_accepted m returned past message Reset whole payloads reads accepts fine after =
     let seen : after.seen ≡ Reset = settles_reset m after.seen Reset refl after.settles in
-    absurd (not_reset m.signal (payloads_after told) message (Message message) after.seen refl seen (given_whole m.signal told (Message message) after.seen whole after.gives))
+    absurd (not_reset m.signal (payloads_after returned) message (Message message) after.seen refl seen (given_whole m.signal returned (Message message) after.seen whole after.gives))
 
 -- ---- a reset
 
-pub gives_reset : (m : Meaning) (told : List Outcome) → is_broken told ≡ false → ReceivedAfter m told capture.Reset Reset
-gives_reset m told whole = record {
+pub gives_reset : (m : Meaning) (returned : List Outcome) → is_broken returned ≡ false → ReceivedAfter m returned capture.Reset Reset
+gives_reset m returned whole = record {
   seen = Reset;
-  gives = when_whole m.signal told capture.Reset Reset whole GivesOutcome.resets;
+  gives = when_whole m.signal returned capture.Reset Reset whole GivesOutcome.resets;
   settles = Settles.resets;
 }
 
@@ -91,7 +91,7 @@ reset_settled m seen o same (Settles.refuses batch tables cause payload stands) 
 reset_settled m seen o same (Settles.stays_refused refusal) = absurd (cc same)
 reset_settled m seen o same Settles.resets = refl
 
-pub only_reset : (m : Meaning) (told : List Outcome) (outcome : Outcome) → is_broken told ≡ false → ReceivedAfter m told capture.Reset outcome → outcome ≡ Reset
-only_reset m told outcome whole after =
-    let seen : after.seen ≡ Reset = reset_given m.signal (payloads_after told) capture.Reset after.seen refl (given_whole m.signal told capture.Reset after.seen whole after.gives) in
+pub only_reset : (m : Meaning) (returned : List Outcome) (outcome : Outcome) → is_broken returned ≡ false → ReceivedAfter m returned capture.Reset outcome → outcome ≡ Reset
+only_reset m returned outcome whole after =
+    let seen : after.seen ≡ Reset = reset_given m.signal (payloads_after returned) capture.Reset after.seen refl (given_whole m.signal returned capture.Reset after.seen whole after.gives) in
     reset_settled m after.seen outcome seen after.settles

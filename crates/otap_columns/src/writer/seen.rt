@@ -10,7 +10,7 @@ ghost use Rattle.otap_dicts.specs.Ladders.{is_dictionary, is_plain};
 ghost use Rattle.otap_columns.specs.declared.forms.ColumnForm.TheVariants as form;
 ghost use Rattle.otap_columns.specs.Observed.{bytes_for, form_at, has_wide_id, is_main, is_own_id, is_wide, of_ladder};
 ghost use Rattle.otap_columns.specs.Seen.{IsSeenAfter, may_widen};
-ghost use Rattle.otap_columns.specs.SeenInside.{SeesTable, filled_up, form_told, id_form_told, is_absent, observed_if, places_of_cells};
+ghost use Rattle.otap_columns.specs.SeenInside.{SeesTable, filled_up, form_kept, id_form_kept, is_absent, observed_if, places_of_cells};
 ghost use Rattle.otap_columns.specs.WrittenCells.{place_among};
 ghost use Rattle.otap_columns.specs.BuiltCells.{shown_bytes};
 
@@ -88,36 +88,36 @@ impl SeenColumn {
         requires { column < width_of kind }
         ensures { (tables : List Table) → IsSeenAfter kind tables column self.now → result ≡ form_at kind tables column }
     {
-        self.told(kind, column)
+        self.form_now(kind, column)
     }
 
-    pub(crate) fn told(&self, kind: Kind, column: u32) -> ColumnForm
+    pub(crate) fn form_now(&self, kind: Kind, column: u32) -> ColumnForm
         requires { column < width_of kind }
-        ensures { result ≡ form_told kind column self.now }
+        ensures { result ≡ form_kept kind column self.now }
     {
         form_of(kind, column, self.ladder.form(), self.wide)
     }
 }
 
 /// The form that follows from that of the ladder, and from whether an id needs more than 16 bits.
-fn form_of(kind: Kind, column: u32, told: Form, wide: bool) -> ColumnForm
+fn form_of(kind: Kind, column: u32, ladder: Form, wide: bool) -> ColumnForm
     requires { column < width_of kind }
-    ensures { result ≡ (if is_id_at kind column then id_form_told (is_own_id kind column) (is_absent told) (is_wide (base_at kind column) || wide) else of_ladder told) }
+    ensures { result ≡ (if is_id_at kind column then id_form_kept (is_own_id kind column) (is_absent ladder) (is_wide (base_at kind column) || wide) else of_ladder ladder) }
 {
     let base = base_of(kind, column);
     if base.is_id() {
         id_form(
             is_own_id(kind, column),
-            told == Form::Absent,
+            ladder == Form::Absent,
             is_wide(base) || wide,
         )
     } else {
-        of_ladder(told)
+        of_ladder(ladder)
     }
 }
 
 fn id_form(own: bool, absent: bool, wide: bool) -> ColumnForm
-    ensures { result ≡ id_form_told own absent wide }
+    ensures { result ≡ id_form_kept own absent wide }
 {
     if absent && !own {
         ColumnForm::Absent
@@ -128,10 +128,10 @@ fn id_form(own: bool, absent: bool, wide: bool) -> ColumnForm
     }
 }
 
-fn of_ladder(told: Form) -> ColumnForm
-    ensures { result ≡ of_ladder told }
+fn of_ladder(ladder: Form) -> ColumnForm
+    ensures { result ≡ of_ladder ladder }
 {
-    match told {
+    match ladder {
         Form::Absent => ColumnForm::Absent,
         Form::Dict8 => ColumnForm::Dict8,
         Form::Dict16 => ColumnForm::Dict16,

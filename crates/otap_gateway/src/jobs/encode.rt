@@ -9,7 +9,7 @@ ghost use Rattle.otap_gateway.specs.declared.jobs.command.Command.TheVariants as
 ghost use Rattle.otap_gateway.specs.Encoding.{encoded, signal_rows, Encodes};
 ghost use Rattle.otap_gateway.specs.EncodingSteps.{EncodesFrame, EncodesRequest, IsEncoding, HasEncoded};
 ghost use Rattle.otap_gateway.specs.Receptions.{meaning_of};
-ghost use Rattle.otap_gateway.specs.JobStates.{HasTold};
+ghost use Rattle.otap_gateway.specs.JobStates.{HasRepliedBy};
 
 use crate::jobs::job::Job;
 use crate::jobs::refused_requests::{refusal_name, refused};
@@ -40,7 +40,7 @@ impl<T: ExportsRows + Drop> EncodeJob<T> {
 impl<T: ExportsRows> Job for EncodeJob<T> {
     ghost command = { λ s. command.Encode T.served };
 
-    ghost stands = { λ s. HasTold (Encodes (signal_rows T.served) (meaning_of T.served)) encoded (HasEncoded (signal_rows T.served) s.exporter) };
+    ghost stands = { λ s. HasRepliedBy (Encodes (signal_rows T.served) (meaning_of T.served)) encoded (HasEncoded (signal_rows T.served) s.exporter) };
 
     fn step(&mut self, alloc: Global, number: u64, frame: &Frame<'_>) -> Result<Reply, AllocError> {
         T::what_is_sent_arrives();

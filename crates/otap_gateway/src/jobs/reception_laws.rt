@@ -14,7 +14,7 @@ ghost use Rattle.otap_gateway.specs.Receptions.{decoded, statused, replayed, as_
 ghost use Rattle.otap_gateway.specs.Reply.{ReplyText};
 ghost use Rattle.otap_gateway.specs.Showing.{shown};
 ghost use Rattle.otap_gateway.specs.Texts.{HaveTexts, IsEarly};
-ghost use Rattle.otap_gateway.specs.Told.{told};
+ghost use Rattle.otap_gateway.specs.Replies.{replies_from};
 
 use otap_consume::laws::some_outcome;
 use otap_consume::receiving_laws::received_some_outcome;
@@ -25,27 +25,27 @@ use otap_consume::{LogTelemetry, MetricTelemetry, SpanTelemetry};
 /// may write (`show`).
 pub fn outcomes_give_the_texts()
     ensures decode { (signal : Signal) (frames : List Frame) (outcomes : List Outcome) → Received (meaning_of signal) frames outcomes
-        → EachAfter (ReplyOf (command.Decode signal)) [] [] frames (told (as_taken (meaning_of signal) decoded) 0 outcomes) }
+        → EachAfter (ReplyOf (command.Decode signal)) [] [] frames (replies_from (as_taken (meaning_of signal) decoded) 0 outcomes) }
     ensures status { (signal : Signal) (frames : List Frame) (outcomes : List Outcome) → Received (meaning_of signal) frames outcomes
-        → EachAfter (ReplyOf (command.Status signal)) [] [] frames (told (as_taken (meaning_of signal) statused) 0 outcomes) }
+        → EachAfter (ReplyOf (command.Status signal)) [] [] frames (replies_from (as_taken (meaning_of signal) statused) 0 outcomes) }
     ensures replay { (signal : Signal) (frames : List Frame) (outcomes : List Outcome) → Received (meaning_of signal) frames outcomes
-        → EachAfter (ReplyOf (command.Replay signal)) [] [] frames (told (as_taken (meaning_of signal) replayed) 0 outcomes) }
+        → EachAfter (ReplyOf (command.Replay signal)) [] [] frames (replies_from (as_taken (meaning_of signal) replayed) 0 outcomes) }
     ensures show { (signal : Signal) (frames : List Frame) (outcomes : List Outcome) → Outcomes signal frames outcomes
-        → EachAfter (ReplyOf (command.Show signal)) [] [] frames (told shown 0 outcomes) }
+        → EachAfter (ReplyOf (command.Show signal)) [] [] frames (replies_from shown 0 outcomes) }
     ensures show_alike { (signal : Signal) (frames : List Frame) (outcomes : List Outcome) → Received (meaning_of signal) frames outcomes → All IsEarly outcomes
-        → EachAfter (ReplyOf (command.Show signal)) [] [] frames (told shown 0 outcomes) }
+        → EachAfter (ReplyOf (command.Show signal)) [] [] frames (replies_from shown 0 outcomes) }
 {}
 
 /// What each of these jobs writes is given by one list of outcomes of the frames of the capture.
 pub fn texts_have_outcomes()
     ensures decode { (signal : Signal) (frames : List Frame) (replies : List ReplyText) → EachAfter (ReplyOf (command.Decode signal)) [] [] frames replies
-        → (outcomes : List Outcome) × Received (meaning_of signal) frames outcomes × (replies ≡ told (as_taken (meaning_of signal) decoded) 0 outcomes) }
+        → (outcomes : List Outcome) × Received (meaning_of signal) frames outcomes × (replies ≡ replies_from (as_taken (meaning_of signal) decoded) 0 outcomes) }
     ensures status { (signal : Signal) (frames : List Frame) (replies : List ReplyText) → EachAfter (ReplyOf (command.Status signal)) [] [] frames replies
-        → (outcomes : List Outcome) × Received (meaning_of signal) frames outcomes × (replies ≡ told (as_taken (meaning_of signal) statused) 0 outcomes) }
+        → (outcomes : List Outcome) × Received (meaning_of signal) frames outcomes × (replies ≡ replies_from (as_taken (meaning_of signal) statused) 0 outcomes) }
     ensures replay { (signal : Signal) (frames : List Frame) (replies : List ReplyText) → EachAfter (ReplyOf (command.Replay signal)) [] [] frames replies
-        → (outcomes : List Outcome) × Received (meaning_of signal) frames outcomes × (replies ≡ told (as_taken (meaning_of signal) replayed) 0 outcomes) }
+        → (outcomes : List Outcome) × Received (meaning_of signal) frames outcomes × (replies ≡ replies_from (as_taken (meaning_of signal) replayed) 0 outcomes) }
     ensures show { (signal : Signal) (frames : List Frame) (replies : List ReplyText) → EachAfter (ReplyOf (command.Show signal)) [] [] frames replies
-        → (outcomes : List Outcome) × Outcomes signal frames outcomes × (replies ≡ told shown 0 outcomes) }
+        → (outcomes : List Outcome) × Outcomes signal frames outcomes × (replies ≡ replies_from shown 0 outcomes) }
 {}
 
 /// For each capture, one list of outcomes of its frames gives what `decode`, what `status` and what `replay` may write, and one of

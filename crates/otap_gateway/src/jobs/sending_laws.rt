@@ -11,7 +11,7 @@ ghost use Rattle.otap_gateway.specs.Encoding.{Encoded, Encodes, encoded, sent, s
 ghost use Rattle.otap_gateway.specs.ReadBack.{IsReadAgain};
 ghost use Rattle.otap_gateway.specs.Receptions.{meaning_of};
 ghost use Rattle.otap_gateway.specs.Reply.{ReplyText};
-ghost use Rattle.otap_gateway.specs.Told.{Gave, told};
+ghost use Rattle.otap_gateway.specs.Replies.{Gave, replies_from};
 ghost use Rattle.otap_transit.specs.Layouts.{AreLaidPayloads};
 ghost use Rattle.otap_transit.specs.Sendings.{messages_since};
 
@@ -23,7 +23,7 @@ use otap_transit::laws::layouts_are_read;
 /// What `encode` writes is given by one list of what the frames of the capture gave, and all of it arrives.
 pub fn encoded_texts_have_outcomes()
     ensures { (signal : Signal) (frames : List Frame) (replies : List ReplyText) → EachAfter (ReplyOf (command.Encode signal)) [] [] frames replies
-        → (outcomes : List Encoded) × Gave (Encodes (signal_rows signal) (meaning_of signal)) frames outcomes × (replies ≡ told encoded 0 outcomes) }
+        → (outcomes : List Encoded) × Gave (Encodes (signal_rows signal) (meaning_of signal)) frames outcomes × (replies ≡ replies_from encoded 0 outcomes) }
 {}
 
 /// What `encode` writes, read as one capture where it has fewer than 2^40 bytes, is the frames of what it sent, and all of it

@@ -3,7 +3,7 @@ use Rattle.otap_capture.specs.Batch.{content_of}
 use Rattle.otap_consume.specs.declared.refusal.Cause.TheVariants.{SchemaIdTaken}
 use Rattle.otap_consume.specs.declared.not_taken.NotTaken.{NotTaken}
 use Rattle.otap_consume.specs.declared.not_taken.NotTaken.TheVariants.{Defect}
-use Rattle.otap_consume.specs.Defects.{StandsInList, is_taken}
+use Rattle.otap_consume.specs.Defects.{IsDefectOfList, is_taken}
 use Rattle.otap_consume.specs.Ids.{ids_after, has_other, with_open_id}
 use Rattle.otap_consume.specs.Untaken.{SaysDefect}
 use Rattle.lists.proofs.Lists.{front_more}
@@ -40,7 +40,7 @@ returns-then-has_other-clause-stops c = λ signal past are.
     let kept = c.payloads.invariant in
     let payload = content_of c.in-Some.payload in
     let is : c.defect.result ≡ Defect SchemaIdTaken (Some payload.kind) = search rules in
-    let P : NotTaken → Type 0 = SaysDefect (StandsInList signal past c.args.batch.now.payloads) in
+    let P : NotTaken → Type 0 = SaysDefect (IsDefectOfList signal past c.args.batch.now.payloads) in
     subst P (sym is)
     (record {
       p = payload;

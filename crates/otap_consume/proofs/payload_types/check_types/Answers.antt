@@ -14,10 +14,10 @@ payloads-preserved c =
     let payload = content_of c.in-Some.payload in
     let all = c.into_iter-payload-iterator.result in
     let named : c.table_of.result ≡ kind_numbered c.args.signal payload.kind = search rules in
-    let counted : c.stands_twice.result ≡ nat_lt 1 (times payload.kind c.args.batch.now.payloads) =
-    c.stands_twice.ensures ∙ ap (λ (k : ℤ). nat_lt 1 (times k c.args.batch.now.payloads)) (to_z-of_z w32 c.in-Some.payload.kind (search rules)) in
-    let fine = fine_type c.args.signal all c.args.batch.now.payloads payload c.table_of.result c.is_none.result c.stands_twice.result
-    (c.into_iter-payload-iterator.ensures.into_iter_gives ∙ c.payloads-payload-items.ensures) named c.is_none.ensures c.if-is_none.false counted c.if-stands_twice.false in
+    let counted : c.occurs_twice.result ≡ nat_lt 1 (times payload.kind c.args.batch.now.payloads) =
+    c.occurs_twice.ensures ∙ ap (λ (k : ℤ). nat_lt 1 (times k c.args.batch.now.payloads)) (to_z-of_z w32 c.in-Some.payload.kind (search rules)) in
+    let fine = fine_type c.args.signal all c.args.batch.now.payloads payload c.table_of.result c.is_none.result c.occurs_twice.result
+    (c.into_iter-payload-iterator.ensures.into_iter_gives ∙ c.payloads-payload-items.ensures) named c.is_none.ensures c.if-is_none.false counted c.if-occurs_twice.false in
     record {
       front = kept.front ++ payload ∷ [];
       whole = front_more all kept.front c.payloads.payload-iterator payload c.next.new.self kept.whole c.in-Some.ensures.steps;

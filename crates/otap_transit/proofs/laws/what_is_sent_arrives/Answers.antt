@@ -6,4 +6,4 @@ pub returns-clause-some : goal.returns-clause-some
 returns-clause-some g c = λ rows sendings faithful allowed. some far_end g.T.Telemetry.meaning rows faithful sendings allowed
 
 pub returns-clause-all : goal.returns-clause-all
-returns-clause-all g c = λ rows sendings told faithful allowed each. arrive far_end g.T.Telemetry.meaning rows faithful sendings told allowed each
+returns-clause-all g c = λ rows sendings returned faithful allowed each. arrive far_end g.T.Telemetry.meaning rows faithful sendings returned allowed each

@@ -7,5 +7,5 @@ use Rattle.otap_consume.proofs.stream.Stream.take.Goals as goal
 
 pub returns-then-not-is_of-clause-ok : goal.returns-then-not-is_of-clause-ok
 returns-then-not-is_of-clause-ok c =
-    let told : c.is_of.result ≡ int_eq c.args.payload.now.kind (payload_type_of c.args.self.now.kind) = search rules in
-    passes c.args.self.now (content_of c.args.payload.now) (sym told ∙ c.if-not-is_of.true)
+    let reported : c.is_of.result ≡ int_eq c.args.payload.now.kind (payload_type_of c.args.self.now.kind) = search rules in
+    passes c.args.self.now (content_of c.args.payload.now) (sym reported ∙ c.if-not-is_of.true)

@@ -6,7 +6,7 @@ use Rattle.otap_consume.specs.Receiving.{Received}
 use Rattle.otlp_model.specs.declared.request.Signal.{Signal}
 use Rattle.otlp_model.specs.declared.request.Signal.TheVariants as signals
 use Rattle.otap_gateway.specs.Receptions.{meaning_of}
-use Rattle.otap_gateway.proofs.ToldAll.{all_given}
+use Rattle.otap_gateway.proofs.AllReplies.{all_given}
 use Rattle.otap_gateway.proofs.jobs.reception_laws.captures_have_texts.Goals as goal
 
 abbrev Have : Signal → Type 0

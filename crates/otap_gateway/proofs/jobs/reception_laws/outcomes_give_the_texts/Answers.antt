@@ -1,4 +1,4 @@
-use Rattle.otap_gateway.proofs.ToldAll.{decode_given, status_given, replay_given, show_given, show_alike}
+use Rattle.otap_gateway.proofs.AllReplies.{decode_given, status_given, replay_given, show_given, show_alike}
 use Rattle.otap_gateway.proofs.jobs.reception_laws.outcomes_give_the_texts.Goals as goal
 
 pub returns-clause-decode : goal.returns-clause-decode

@@ -1,4 +1,4 @@
-use Rattle.otap_gateway.proofs.ToldAll.{decode_back, status_back, replay_back, show_back}
+use Rattle.otap_gateway.proofs.AllReplies.{decode_back, status_back, replay_back, show_back}
 use Rattle.otap_gateway.proofs.jobs.reception_laws.texts_have_outcomes.Goals as goal
 
 pub returns-clause-decode : goal.returns-clause-decode

@@ -4,7 +4,7 @@ use Rattle.std.specs.Fmt.{decimal, signed_decimal}
 use Rattle.std.proofs.lemmas.Int.{to_z-of_z}
 use Rattle.otap_gateway.specs.Lines.{batch_head}
 use Rattle.otap_gateway.specs.Receptions.{weights_text}
-use Rattle.otap_gateway.proofs.Telling.{line_made}
+use Rattle.otap_gateway.proofs.Replying.{line_made}
 use Rattle.otap_gateway.proofs.jobs.replay.replay_line.Goals as goal
 
 pub returns : goal.returns

@@ -1,10 +1,10 @@
 use Rattle.otap_gateway.specs.Receptions.{statused, meaning_of}
 use Rattle.otap_gateway.proofs.Shows.{writes_nothing}
-use Rattle.otap_gateway.proofs.Telling.{told_none}
+use Rattle.otap_gateway.proofs.Replying.{replied_none}
 use Rattle.otap_gateway.proofs.runs.receiving_runs.statuses.Goals as goal
 
 pub returns-in_default-clause-leaves : goal.returns-in_default-clause-leaves
 returns-in_default-clause-leaves g c = writes_nothing _ _ _
 
 pub drive-requires : goal.drive-requires
-drive-requires g c = told_none (meaning_of g.T.Serves.served) statused _ _ g.met.T.Serves.of_signal c.in-Ok.ensures
+drive-requires g c = replied_none (meaning_of g.T.Serves.served) statused _ _ g.met.T.Serves.of_signal c.in-Ok.ensures

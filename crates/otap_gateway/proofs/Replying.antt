@@ -11,22 +11,22 @@ use Rattle.otap_consume.specs.Receiving.{ReceivedAfter}
 use Rattle.otap_consume.specs.Segments.{SegmentIn, StandsFor, IsNew}
 use Rattle.otap_consume.proofs.SegmentSteps.{stands_first}
 use Rattle.otap_gateway.specs.Receptions.{as_taken}
-use Rattle.otap_gateway.specs.JobStates.{HasReplied, HasTold}
+use Rattle.otap_gateway.specs.JobStates.{HasReplied, HasRepliedBy}
 use Rattle.otap_gateway.specs.Reply.{ReplyText}
 use Rattle.otap_gateway.specs.EncodingSteps.{HasMore}
-use Rattle.otap_gateway.specs.Told.{Giving, Gave, told, Tells}
+use Rattle.otap_gateway.specs.Replies.{Giving, Gave, replies_from, IsReplyAfter}
 
-pub told_more : {O : Type 0} (text : ℕ → O → ReplyText) (number : ℕ) (os : List O) (o : O) → told text number (os ++ o ∷ []) ≡ told text number os ++ text (number + length os) o ∷ []
-told_more text number [] o = let same : number ≡ number + 0 = omega arith in ap (λ k. text k o ∷ []) same
-told_more text number (p ∷ os) o =
+pub replies_from_more : {O : Type 0} (text : ℕ → O → ReplyText) (number : ℕ) (os : List O) (o : O) → replies_from text number (os ++ o ∷ []) ≡ replies_from text number os ++ text (number + length os) o ∷ []
+replies_from_more text number [] o = let same : number ≡ number + 0 = omega arith in ap (λ k. text k o ∷ []) same
+replies_from_more text number (p ∷ os) o =
     let same : suc number + length os ≡ number + suc (length os) = omega arith in
-    ap (λ rs. text number p ∷ rs) (told_more text (suc number) os o ∙ ap (λ k. told text (suc number) os ++ text k o ∷ []) same)
+    ap (λ rs. text number p ∷ rs) (replies_from_more text (suc number) os o ∙ ap (λ k. replies_from text (suc number) os ++ text k o ∷ []) same)
 
-pub tells_more : {O : Type 0} (Gives : Giving O) (text : ℕ → O → ReplyText) (old new : List O → Type 0) (frame : Frame) (number : ℕ) (reply : ReplyText)
+pub is_reply_more : {O : Type 0} (Gives : Giving O) (text : ℕ → O → ReplyText) (old new : List O → Type 0) (frame : Frame) (number : ℕ) (reply : ReplyText)
     → ((past : List Frame) (outcomes : List O) → Gave Gives past outcomes → old outcomes → HasMore Gives text new outcomes frame number reply)
-    → (frames : List Frame) (replies : List ReplyText) → length frames ≡ number → HasTold Gives text old frames replies
-    → Tells Gives text frames replies frame reply × HasTold Gives text new (frames ++ frame ∷ []) (replies ++ reply ∷ [])
-tells_more {O} Gives text old new frame number reply step frames replies count history =
+    → (frames : List Frame) (replies : List ReplyText) → length frames ≡ number → HasRepliedBy Gives text old frames replies
+    → IsReplyAfter Gives text frames replies frame reply × HasRepliedBy Gives text new (frames ++ frame ∷ []) (replies ++ reply ∷ [])
+is_reply_more {O} Gives text old new frame number reply step frames replies count history =
     let outcomes : List O = history.outcomes in
     let n : HasMore Gives text new outcomes frame number reply = step frames outcomes history.before history.stood in
     let here : reply ≡ text (length frames) n.outcome = n.says ∙ ap (λ k. text k n.outcome) (sym count) in
@@ -43,7 +43,7 @@ tells_more {O} Gives text old new frame number reply step frames replies count h
       record {
         outcomes = outcomes ++ n.outcome ∷ [];
         before = each_after-push (λ past before f o. Gives before f o) [] [] frames outcomes frame n.outcome history.before n.gives;
-        so_far = (λ i. history.so_far i ++ last i ∷ []) ∙ sym (told_more text 0 outcomes n.outcome);
+        so_far = (λ i. history.so_far i ++ last i ∷ []) ∙ sym (replies_from_more text 0 outcomes n.outcome);
         stood = n.stands;
       },
     )
@@ -56,17 +56,17 @@ module _ (m : Meaning) (text : ℕ → Taken → ReplyText) where
       → HasMore (ReceivedAfter m) (as_taken m text) (λ os. StandsFor m.signal os new) outcomes frame number reply
   takes old new frame taken number reply receives says past outcomes before stands =
       let n : HasReceived m outcomes frame new taken = receives.at outcomes stands in
-      record { outcome = n.outcome; gives = n.gives; says = says ∙ ap (text number) n.tells; stands = n.stands }
+      record { outcome = n.outcome; gives = n.gives; says = says ∙ ap (text number) n.reports; stands = n.stands }
 
-  pub receiver_tells : (old new : SegmentIn) (frame : Frame) (taken : Taken) (number : ℕ) → Receives m old frame new taken → (reply : ReplyText) → reply ≡ text number taken
+  pub receiver_replies : (old new : SegmentIn) (frame : Frame) (taken : Taken) (number : ℕ) → Receives m old frame new taken → (reply : ReplyText) → reply ≡ text number taken
       → (frames : List Frame) (replies : List ReplyText) → length frames ≡ number → HasReplied m text old frames replies
-      → Tells (ReceivedAfter m) (as_taken m text) frames replies frame reply × HasReplied m text new (frames ++ frame ∷ []) (replies ++ reply ∷ [])
-  receiver_tells old new frame taken number receives reply says =
-      tells_more (ReceivedAfter m) (as_taken m text) (λ os. StandsFor m.signal os old) (λ os. StandsFor m.signal os new) frame number reply
+      → IsReplyAfter (ReceivedAfter m) (as_taken m text) frames replies frame reply × HasReplied m text new (frames ++ frame ∷ []) (replies ++ reply ∷ [])
+  receiver_replies old new frame taken number receives reply says =
+      is_reply_more (ReceivedAfter m) (as_taken m text) (λ os. StandsFor m.signal os old) (λ os. StandsFor m.signal os new) frame number reply
       (takes old new frame taken number reply receives says)
 
-  pub told_none : (signal : Signal) (s : SegmentIn) → signal ≡ m.signal → IsNew signal s → HasReplied m text s [] []
-  told_none signal s same new =
+  pub replied_none : (signal : Signal) (s : SegmentIn) → signal ≡ m.signal → IsNew signal s → HasReplied m text s [] []
+  replied_none signal s same new =
       record { outcomes = []; before = tt; so_far = refl; stood = stands_first m.signal s (subst (λ (x : Signal). IsNew x s) same new) }
 
 -- a line of four parts

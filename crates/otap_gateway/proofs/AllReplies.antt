@@ -12,7 +12,7 @@ use Rattle.otap_cells.specs.Tables.{Table}
 use Rattle.otap_consume.specs.declared.refusal.Cause.{Cause}
 use Rattle.otap_consume.specs.declared.refusal.Cause.TheVariants.{Compressed, BadMessage, Repeated, BadUtf8, PayloadType, PayloadTwice, SchemaIdTaken}
 use Rattle.otap_consume.specs.declared.refusal.Cause.TheVariants.{Column, TooManyItems, RowsTooHeavy, HeldTooMuch, Row, TreeTooHeavy, Broken}
-use Rattle.otap_consume.specs.Meanings.{Meaning, StandsInRows}
+use Rattle.otap_consume.specs.Meanings.{Meaning, IsDefectOfRows}
 use Rattle.otap_consume.specs.Outcomes.{Outcome, Outcomes, OutcomeAfter, stage_of}
 use Rattle.otap_consume.specs.Receiving.{ReceivedAfter, Received, Settles}
 use Rattle.otlp_model.specs.declared.request.Signal.{Signal}
@@ -25,75 +25,75 @@ use Rattle.otap_gateway.specs.Receptions.{as_taken, decoded, statused, replayed,
 use Rattle.otap_gateway.specs.Reply.{ReplyText}
 use Rattle.otap_gateway.specs.Showing.{shown}
 use Rattle.otap_gateway.specs.Texts.{HaveTexts, IsEarly}
-use Rattle.otap_gateway.specs.Told.{Giving, Gave, told, Tells}
-use Rattle.otap_gateway.proofs.Telling.{told_more}
+use Rattle.otap_gateway.specs.Replies.{Giving, Gave, replies_from, IsReplyAfter}
+use Rattle.otap_gateway.proofs.Replying.{replies_from_more}
 
 module _ {O : Type 0} (Gives : Giving O) (text : ℕ → O → ReplyText) where
   -- the replies that outcomes give, after frames that gave others
   from : (ps : List Frame) (qs : List O) (xs : List Frame) (ys : List O) → Gave Gives ps qs → EachAfter (λ past before frame outcome. Gives before frame outcome) ps qs xs ys
-      → EachAfter (Tells Gives text) ps (told text 0 qs) xs (told text (length qs) ys)
+      → EachAfter (IsReplyAfter Gives text) ps (replies_from text 0 qs) xs (replies_from text (length qs) ys)
   from ps qs [] [] before each = tt
   from ps qs [] (y ∷ ys) before each = absurd each
   from ps qs (x ∷ xs) [] before each = absurd each
   from ps qs (x ∷ xs) (y ∷ ys) before each =
       let long : length qs ≡ length ps = sym (each_after-length (λ past before frame outcome. Gives before frame outcome) [] [] ps qs before) in
-      let more : told text 0 (qs ++ y ∷ []) ≡ told text 0 qs ++ text (length qs) y ∷ []
-      = told_more text 0 qs y ∙ ap (λ k. told text 0 qs ++ text k y ∷ []) (zero-add (length qs)) in
+      let more : replies_from text 0 (qs ++ y ∷ []) ≡ replies_from text 0 qs ++ text (length qs) y ∷ []
+      = replies_from_more text 0 qs y ∙ ap (λ k. replies_from text 0 qs ++ text k y ∷ []) (zero-add (length qs)) in
       let size : length (qs ++ y ∷ []) ≡ suc (length qs) = let n = length-append qs (y ∷ []) in omega (arith, n) in
-      let rest : EachAfter (Tells Gives text) (ps ++ x ∷ []) (told text 0 (qs ++ y ∷ [])) xs (told text (length (qs ++ y ∷ [])) ys)
+      let rest : EachAfter (IsReplyAfter Gives text) (ps ++ x ∷ []) (replies_from text 0 (qs ++ y ∷ [])) xs (replies_from text (length (qs ++ y ∷ [])) ys)
       = from (ps ++ x ∷ []) (qs ++ y ∷ []) xs ys
       (each_after-push (λ past before frame outcome. Gives before frame outcome) [] [] ps qs x y before each.0) each.1 in (
         record { outcomes = qs; before = before; so_far = refl; outcome = y; gives = each.0; says = ap (λ k. text k y) long },
-        subst (λ (k : ℕ). EachAfter (Tells Gives text) (ps ++ x ∷ []) (told text 0 qs ++ text (length qs) y ∷ []) xs (told text k ys)) size
-            (subst (λ (rs : List ReplyText). EachAfter (Tells Gives text) (ps ++ x ∷ []) rs xs (told text (length (qs ++ y ∷ [])) ys)) more rest),
+        subst (λ (k : ℕ). EachAfter (IsReplyAfter Gives text) (ps ++ x ∷ []) (replies_from text 0 qs ++ text (length qs) y ∷ []) xs (replies_from text k ys)) size
+            (subst (λ (rs : List ReplyText). EachAfter (IsReplyAfter Gives text) (ps ++ x ∷ []) rs xs (replies_from text (length (qs ++ y ∷ [])) ys)) more rest),
       )
 
-  pub given : (frames : List Frame) (outcomes : List O) → Gave Gives frames outcomes → EachAfter (Tells Gives text) [] [] frames (told text 0 outcomes)
+  pub given : (frames : List Frame) (outcomes : List O) → Gave Gives frames outcomes → EachAfter (IsReplyAfter Gives text) [] [] frames (replies_from text 0 outcomes)
   given frames outcomes each = from [] [] frames outcomes tt each
 
   abbrev pub GivenBy : List Frame → List ReplyText → Type 0
-  GivenBy frames replies = (outcomes : List O) × Gave Gives frames outcomes × (replies ≡ told text 0 outcomes)
+  GivenBy frames replies = (outcomes : List O) × Gave Gives frames outcomes × (replies ≡ replies_from text 0 outcomes)
 
-  one_more : (frames : List Frame) (replies : List ReplyText) (frame : Frame) (reply : ReplyText) → Tells Gives text frames replies frame reply → GivenBy (frames ++ frame ∷ []) (replies ++ reply ∷ [])
+  one_more : (frames : List Frame) (replies : List ReplyText) (frame : Frame) (reply : ReplyText) → IsReplyAfter Gives text frames replies frame reply → GivenBy (frames ++ frame ∷ []) (replies ++ reply ∷ [])
   one_more frames replies frame reply t =
       let long : length frames ≡ 0 + length t.outcomes
       = each_after-length (λ past before f o. Gives before f o) [] [] frames t.outcomes t.before ∙ sym (zero-add (length t.outcomes)) in
       let last : reply ≡ text (0 + length t.outcomes) t.outcome = t.says ∙ ap (λ k. text k t.outcome) long in (
         t.outcomes ++ t.outcome ∷ [],
         each_after-push (λ past before f o. Gives before f o) [] [] frames t.outcomes frame t.outcome t.before t.gives,
-        (λ i. t.so_far i ++ last i ∷ []) ∙ sym (told_more text 0 t.outcomes t.outcome),
+        (λ i. t.so_far i ++ last i ∷ []) ∙ sym (replies_from_more text 0 t.outcomes t.outcome),
       )
 
-  pub gives_back : (frames : List Frame) (replies : List ReplyText) → EachAfter (Tells Gives text) [] [] frames replies → GivenBy frames replies
+  pub gives_back : (frames : List Frame) (replies : List ReplyText) → EachAfter (IsReplyAfter Gives text) [] [] frames replies → GivenBy frames replies
   gives_back frames replies each =
-      each_after-keeps (Tells Gives text) GivenBy (λ xs ys x y before t. one_more xs ys x y t) [] [] frames replies ([], tt, refl) each
+      each_after-keeps (IsReplyAfter Gives text) GivenBy (λ xs ys x y before t. one_more xs ys x y t) [] [] frames replies ([], tt, refl) each
 
 -- ---- the jobs
 
 pub decode_given : (signal : Signal) (frames : List Frame) (outcomes : List Outcome) → Received (meaning_of signal) frames outcomes
-    → EachAfter (ReplyOf (command.Decode signal)) [] [] frames (told (as_taken (meaning_of signal) decoded) 0 outcomes)
+    → EachAfter (ReplyOf (command.Decode signal)) [] [] frames (replies_from (as_taken (meaning_of signal) decoded) 0 outcomes)
 unfolding ReplyOf
 decode_given signal = given (ReceivedAfter (meaning_of signal)) (as_taken (meaning_of signal) decoded)
 
 pub status_given : (signal : Signal) (frames : List Frame) (outcomes : List Outcome) → Received (meaning_of signal) frames outcomes
-    → EachAfter (ReplyOf (command.Status signal)) [] [] frames (told (as_taken (meaning_of signal) statused) 0 outcomes)
+    → EachAfter (ReplyOf (command.Status signal)) [] [] frames (replies_from (as_taken (meaning_of signal) statused) 0 outcomes)
 unfolding ReplyOf
 status_given signal = given (ReceivedAfter (meaning_of signal)) (as_taken (meaning_of signal) statused)
 
 pub replay_given : (signal : Signal) (frames : List Frame) (outcomes : List Outcome) → Received (meaning_of signal) frames outcomes
-    → EachAfter (ReplyOf (command.Replay signal)) [] [] frames (told (as_taken (meaning_of signal) replayed) 0 outcomes)
+    → EachAfter (ReplyOf (command.Replay signal)) [] [] frames (replies_from (as_taken (meaning_of signal) replayed) 0 outcomes)
 unfolding ReplyOf
 replay_given signal = given (ReceivedAfter (meaning_of signal)) (as_taken (meaning_of signal) replayed)
 
 -- ---- show
 
 pub show_given : (signal : Signal) (frames : List Frame) (outcomes : List Outcome) → Outcomes signal frames outcomes
-    → EachAfter (ReplyOf (command.Show signal)) [] [] frames (told shown 0 outcomes)
+    → EachAfter (ReplyOf (command.Show signal)) [] [] frames (replies_from shown 0 outcomes)
 unfolding ReplyOf
 show_given signal = given (OutcomeAfter signal) shown
 
 -- what is wrong with rows isn't in an early stage
-not_early : (m : Meaning) (tables : List Table) (cause : Cause) (payload : Option ℤ) → StandsInRows m tables cause payload → stage_of cause ≤ 4 → ⊥
+not_early : (m : Meaning) (tables : List Table) (cause : Cause) (payload : Option ℤ) → IsDefectOfRows m tables cause payload → stage_of cause ≤ 4 → ⊥
 not_early m tables Compressed payload stands early = stands
 not_early m tables BadMessage payload stands early = stands
 not_early m tables Repeated payload stands early = stands
@@ -135,7 +135,7 @@ of_signal signals.Logs = refl
 of_signal signals.Metrics = refl
 
 pub show_alike : (signal : Signal) (frames : List Frame) (outcomes : List Outcome) → Received (meaning_of signal) frames outcomes → All IsEarly outcomes
-    → EachAfter (ReplyOf (command.Show signal)) [] [] frames (told shown 0 outcomes)
+    → EachAfter (ReplyOf (command.Show signal)) [] [] frames (replies_from shown 0 outcomes)
 show_alike signal frames outcomes received early =
     show_given signal frames outcomes
     (subst (λ (s : Signal). Outcomes s frames outcomes) (of_signal signal) (all_alike (meaning_of signal) [] [] frames outcomes (recursion_from_All IsEarly outcomes early) received))
@@ -174,27 +174,27 @@ all_given each signal frames some =
 -- ---- and back
 
 pub show_back : (signal : Signal) (frames : List Frame) (replies : List ReplyText) → EachAfter (ReplyOf (command.Show signal)) [] [] frames replies
-    → (outcomes : List Outcome) × Outcomes signal frames outcomes × (replies ≡ told shown 0 outcomes)
+    → (outcomes : List Outcome) × Outcomes signal frames outcomes × (replies ≡ replies_from shown 0 outcomes)
 unfolding ReplyOf
 show_back signal = gives_back (OutcomeAfter signal) shown
 
 pub decode_back : (signal : Signal) (frames : List Frame) (replies : List ReplyText) → EachAfter (ReplyOf (command.Decode signal)) [] [] frames replies
-    → (outcomes : List Outcome) × Received (meaning_of signal) frames outcomes × (replies ≡ told (as_taken (meaning_of signal) decoded) 0 outcomes)
+    → (outcomes : List Outcome) × Received (meaning_of signal) frames outcomes × (replies ≡ replies_from (as_taken (meaning_of signal) decoded) 0 outcomes)
 unfolding ReplyOf
 decode_back signal = gives_back (ReceivedAfter (meaning_of signal)) (as_taken (meaning_of signal) decoded)
 
 pub status_back : (signal : Signal) (frames : List Frame) (replies : List ReplyText) → EachAfter (ReplyOf (command.Status signal)) [] [] frames replies
-    → (outcomes : List Outcome) × Received (meaning_of signal) frames outcomes × (replies ≡ told (as_taken (meaning_of signal) statused) 0 outcomes)
+    → (outcomes : List Outcome) × Received (meaning_of signal) frames outcomes × (replies ≡ replies_from (as_taken (meaning_of signal) statused) 0 outcomes)
 unfolding ReplyOf
 status_back signal = gives_back (ReceivedAfter (meaning_of signal)) (as_taken (meaning_of signal) statused)
 
 pub replay_back : (signal : Signal) (frames : List Frame) (replies : List ReplyText) → EachAfter (ReplyOf (command.Replay signal)) [] [] frames replies
-    → (outcomes : List Outcome) × Received (meaning_of signal) frames outcomes × (replies ≡ told (as_taken (meaning_of signal) replayed) 0 outcomes)
+    → (outcomes : List Outcome) × Received (meaning_of signal) frames outcomes × (replies ≡ replies_from (as_taken (meaning_of signal) replayed) 0 outcomes)
 unfolding ReplyOf
 replay_back signal = gives_back (ReceivedAfter (meaning_of signal)) (as_taken (meaning_of signal) replayed)
 
 pub encode_back : (signal : Signal) (frames : List Frame) (replies : List ReplyText) → EachAfter (ReplyOf (command.Encode signal)) [] [] frames replies
-    → (outcomes : List Encoded) × Gave (Encodes (signal_rows signal) (meaning_of signal)) frames outcomes × (replies ≡ told encoded 0 outcomes)
+    → (outcomes : List Encoded) × Gave (Encodes (signal_rows signal) (meaning_of signal)) frames outcomes × (replies ≡ replies_from encoded 0 outcomes)
 unfolding ReplyOf
 encode_back signal = gives_back (Encodes (signal_rows signal) (meaning_of signal)) encoded
 

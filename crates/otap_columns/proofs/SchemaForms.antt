@@ -87,8 +87,8 @@ module _ (kind : Kind) (f g : Forms) (fit : FormsFit kind f) (also : FormsFit ki
       let some : Some one.place ≡ None = sym one.found ∙ ap (λ (fields : List FieldSpec). place_at kind (arrays_of fields) column) same ∙ none in
       cc (some)
 
-  pub forms_told : schema_for kind f ≡ schema_for kind g → (column : ℕ) → column < width_of kind → f column ≡ g column
-  forms_told same column below =
+  pub equal_forms : schema_for kind f ≡ schema_for kind g → (column : ℕ) → column < width_of kind → f column ≡ g column
+  equal_forms same column below =
       elim (cases_Bool (is_present (f column))) [
         | inl there ↦
             elim (cases_Bool (is_present (g column))) [
