@@ -31,8 +31,11 @@ type Target struct {
 const (
 	// longestAnswer is how long an answer may be: a response of an Export, or a BatchStatus.
 	longestAnswer = 1 << 20
-	connectFirst  = 200 * time.Millisecond
-	connectMost   = 5 * time.Second
+	// window is HTTP/2's own, of a call and of the connection. Answers are short, so it needn't grow; where it is named,
+	// grpc-go doesn't measure the connection either, by a ping for nearly each answer.
+	window       = 64<<10 - 1
+	connectFirst = 200 * time.Millisecond
+	connectMost  = 5 * time.Second
 	// pingAfter is longer than the five minutes below which servers of grpc-go, as they come, end a connection for its
 	// pings. A next hop that falls silent is noticed sooner, by what isn't answered.
 	pingAfter   = 5*time.Minute + 30*time.Second
@@ -63,6 +66,8 @@ func (t Target) Connect() (*grpc.ClientConn, error) {
 			Backoff:           backoff.Config{BaseDelay: connectFirst, Multiplier: 1.6, Jitter: 0.2, MaxDelay: connectMost},
 			MinConnectTimeout: connectMost,
 		}),
+		grpc.WithInitialWindowSize(window),
+		grpc.WithInitialConnWindowSize(window),
 		grpc.WithKeepaliveParams(keepalive.ClientParameters{Time: pingAfter, Timeout: pingTimeout}),
 		grpc.WithDisableServiceConfig(),
 		grpc.WithUserAgent("otap"))
