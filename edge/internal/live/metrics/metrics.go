@@ -19,7 +19,7 @@ const (
 	Gauge   Kind = "gauge"
 )
 
-// A Metric is known by its name, and has the labels that it is declared with, in their order.
+// A Metric is known by its name, and has the labels that it is declared with, in their order: two at most.
 type Metric struct {
 	Name   string
 	Kind   Kind
@@ -27,34 +27,37 @@ type Metric struct {
 	Labels []string
 }
 
+// labels are the values of a metric's labels.
+type labels [2]string
+
 // A Registry has metrics and their values; its methods may be called by several goroutines.
 type Registry struct {
 	metrics []Metric
 
 	mu     sync.Mutex
-	values map[string]map[string]float64 // by name, then by labels as they are printed
+	values map[string]map[labels]float64
 	read   map[string]func() float64
 }
 
 // New makes a registry of the metrics of a table.
 func New(metrics []Metric) *Registry {
-	r := &Registry{metrics: metrics, values: map[string]map[string]float64{}, read: map[string]func() float64{}}
+	r := &Registry{metrics: metrics, values: map[string]map[labels]float64{}, read: map[string]func() float64{}}
 	for _, m := range metrics {
-		r.values[m.Name] = map[string]float64{}
+		r.values[m.Name] = map[labels]float64{}
 	}
 	return r
 }
 
-// Add adds to a metric, with the values of its labels in their order.
-func (r *Registry) Add(name string, amount float64, labels ...string) {
+// Add adds to a metric, with the values of its labels in their order. It is called several times a message, so labels are
+// printed only where they are asked for.
+func (r *Registry) Add(name string, amount float64, values ...string) {
+	var l labels
+	copy(l[:], values)
 	r.mu.Lock()
-	defer r.mu.Unlock()
-	for _, m := range r.metrics {
-		if m.Name == name {
-			r.values[name][printed(m.Labels, labels)] += amount
-			return
-		}
+	if of := r.values[name]; of != nil {
+		of[l] += amount
 	}
+	r.mu.Unlock()
 }
 
 // Read has the value of a metric without labels read whenever it is asked for.
@@ -74,14 +77,13 @@ func (r *Registry) WriteTo(out io.Writer) (int64, error) {
 			fmt.Fprintf(&b, "%s %v\n", m.Name, read())
 			continue
 		}
-		values := r.values[m.Name]
-		keys := make([]string, 0, len(values))
-		for k := range values {
-			keys = append(keys, k)
+		lines := make([]string, 0, len(r.values[m.Name]))
+		for l, value := range r.values[m.Name] {
+			lines = append(lines, fmt.Sprintf("%s%s %v\n", m.Name, printed(m.Labels, l), value))
 		}
-		sort.Strings(keys)
-		for _, k := range keys {
-			fmt.Fprintf(&b, "%s%s %v\n", m.Name, k, values[k])
+		sort.Strings(lines)
+		for _, line := range lines {
+			b.WriteString(line)
 		}
 	}
 	r.mu.Unlock()
@@ -101,17 +103,13 @@ func (r *Registry) ServeHTTP(w http.ResponseWriter, request *http.Request) {
 
 var escapes = strings.NewReplacer(`\`, `\\`, "\n", `\n`, `"`, `\"`)
 
-func printed(names, values []string) string {
+func printed(names []string, values labels) string {
 	if len(names) == 0 {
 		return ""
 	}
 	pairs := make([]string, len(names))
 	for i, name := range names {
-		value := ""
-		if i < len(values) {
-			value = values[i]
-		}
-		pairs[i] = name + `="` + escapes.Replace(value) + `"`
+		pairs[i] = name + `="` + escapes.Replace(values[i]) + `"`
 	}
 	return "{" + strings.Join(pairs, ",") + "}"
 }
