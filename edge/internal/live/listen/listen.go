@@ -19,7 +19,7 @@ import (
 	"google.golang.org/grpc/health"
 	healthpb "google.golang.org/grpc/health/grpc_health_v1"
 	"google.golang.org/grpc/keepalive"
-	"google.golang.org/grpc/stats"
+	"google.golang.org/grpc/peer"
 	"google.golang.org/grpc/status"
 )
 
@@ -55,39 +55,39 @@ func Open(address string, secured, insecure bool, connections int) (net.Listener
 // A Server is grpc's, with health.
 type Server struct {
 	*grpc.Server
-	Health *health.Server
+	health *health.Server
 	// unwatch ends the calls that watch health, which would go on for ever.
 	unwatch context.CancelFunc
 }
 
-const watchMethod = "/grpc.health.v1.Health/Watch"
+// Serve takes connections until the server stops.
+func (s *Server) Serve(l net.Listener) error { return s.Server.Serve(counting{l}) }
 
-// watched is a call that ends with a context besides its own.
+// watching is the health service whose calls that watch end with a context besides their own.
+type watching struct {
+	*health.Server
+	server context.Context
+}
+
+func (w watching) Watch(of *healthpb.HealthCheckRequest, call healthpb.Health_WatchServer) error {
+	ctx, cancel := context.WithCancel(call.Context())
+	defer cancel()
+	go func() {
+		select {
+		case <-w.server.Done():
+			cancel()
+		case <-ctx.Done():
+		}
+	}()
+	return w.Server.Watch(of, watched{call, ctx})
+}
+
 type watched struct {
-	grpc.ServerStream
+	healthpb.Health_WatchServer
 	ctx context.Context
 }
 
 func (w watched) Context() context.Context { return w.ctx }
-
-// endWatches gives the calls that watch health a context that ends with the server's.
-func endWatches(server context.Context) grpc.StreamServerInterceptor {
-	return func(srv interface{}, call grpc.ServerStream, info *grpc.StreamServerInfo, handler grpc.StreamHandler) error {
-		if info.FullMethod != watchMethod {
-			return handler(srv, call)
-		}
-		ctx, cancel := context.WithCancel(call.Context())
-		defer cancel()
-		go func() {
-			select {
-			case <-server.Done():
-				cancel()
-			case <-ctx.Done():
-			}
-		}()
-		return handler(srv, watched{call, ctx})
-	}
-}
 
 // A Handler serves a call of one of the services of package wire.
 type Handler func(service wire.Service, call grpc.ServerStream) error
@@ -97,7 +97,6 @@ type Handler func(service wire.Service, call grpc.ServerStream) error
 func New(calls int, creds credentials.TransportCredentials, handler Handler) *Server {
 	ctx, unwatch := context.WithCancel(context.Background())
 	options := []grpc.ServerOption{
-		grpc.StreamInterceptor(endWatches(ctx)),
 		grpc.CustomCodec(wire.Codec{}),
 		grpc.UnknownServiceHandler(func(_ interface{}, call grpc.ServerStream) error { return serve(call, calls, handler) }),
 		grpc.MaxRecvMsgSize(longestOther),
@@ -109,13 +108,12 @@ func New(calls int, creds credentials.TransportCredentials, handler Handler) *Se
 		grpc.ConnectionTimeout(handshake),
 		grpc.KeepaliveParams(keepalive.ServerParameters{Time: pingAfter, Timeout: pingTimeout}),
 		grpc.KeepaliveEnforcementPolicy(keepalive.EnforcementPolicy{MinTime: leastPing, PermitWithoutStream: true}),
-		grpc.StatsHandler(running{}),
 	}
 	if creds != nil {
 		options = append(options, grpc.Creds(creds))
 	}
-	s := &Server{Server: grpc.NewServer(options...), Health: health.NewServer(), unwatch: unwatch}
-	healthpb.RegisterHealthServer(s.Server, s.Health)
+	s := &Server{Server: grpc.NewServer(options...), health: health.NewServer(), unwatch: unwatch}
+	healthpb.RegisterHealthServer(s.Server, watching{s.health, ctx})
 	return s
 }
 
@@ -125,13 +123,13 @@ func (s *Server) Serving(name string, yes bool) {
 	if yes {
 		state = healthpb.HealthCheckResponse_SERVING
 	}
-	s.Health.SetServingStatus(name, state)
+	s.health.SetServingStatus(name, state)
 }
 
 // StopWithin lets the calls that run come to their end, and after that long ends them. Health says that nothing is
 // served any more from the beginning.
 func (s *Server) StopWithin(grace time.Duration) (inTime bool) {
-	s.Health.Shutdown()
+	s.health.Shutdown()
 	s.unwatch()
 	done := make(chan struct{})
 	go func() {
@@ -154,12 +152,12 @@ func serve(call grpc.ServerStream, most int, handler Handler) error {
 	if !ok {
 		return status.Errorf(codes.Unimplemented, "%s isn't served here", method)
 	}
-	count, ok := call.Context().Value(counter{}).(*int64)
-	if !ok {
+	from := peerOf(call)
+	if from == nil {
 		return status.Error(codes.Internal, "a call without its connection")
 	}
-	defer atomic.AddInt64(count, -1)
-	if atomic.AddInt64(count, 1) > int64(most) {
+	defer atomic.AddInt64(&from.running, -1)
+	if atomic.AddInt64(&from.running, 1) > int64(most) {
 		return status.Errorf(codes.Unavailable, "more than %d calls on this connection", most)
 	}
 	return asStatus(handler(service, call))
@@ -179,14 +177,37 @@ func asStatus(err error) error {
 	return status.Error(codes.Unavailable, err.Error())
 }
 
-// running counts the handlers of each connection, since grpc-go 1.33 counts a call no more once its peer has reset it.
-type running struct{}
+// counting has each connection count its handlers, since grpc-go 1.33 counts a call no more once its peer has reset it.
+// The count comes with the peer's address, the one thing of a connection that grpc-go shows to each of its calls at no
+// cost.
+type counting struct{ net.Listener }
 
-type counter struct{}
-
-func (running) TagConn(ctx context.Context, _ *stats.ConnTagInfo) context.Context {
-	return context.WithValue(ctx, counter{}, new(int64))
+func (l counting) Accept() (net.Conn, error) {
+	c, err := l.Listener.Accept()
+	if err != nil {
+		return nil, err
+	}
+	return connection{c, &counted{Addr: c.RemoteAddr()}}, nil
 }
-func (running) HandleConn(context.Context, stats.ConnStats)                     {}
-func (running) TagRPC(ctx context.Context, _ *stats.RPCTagInfo) context.Context { return ctx }
-func (running) HandleRPC(context.Context, stats.RPCStats)                       {}
+
+type connection struct {
+	net.Conn
+	from *counted
+}
+
+func (c connection) RemoteAddr() net.Addr { return c.from }
+
+// counted is an address, and how many handlers run for the connection from there.
+type counted struct {
+	net.Addr
+	running int64
+}
+
+// peerOf is nil for a call that didn't come by a counted connection.
+func peerOf(call grpc.ServerStream) *counted {
+	if p, ok := peer.FromContext(call.Context()); ok {
+		from, _ := p.Addr.(*counted)
+		return from
+	}
+	return nil
+}
