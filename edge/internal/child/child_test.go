@@ -12,12 +12,14 @@ import (
 	"path/filepath"
 	"strings"
 	"testing"
+	"time"
 
 	"finavoluth/edge/internal/capture"
 )
 
 // standIn is set where this test's executable is to be the program: it answers as the program's jobs do, by the first byte
-// of each message: o for a frame, r for a refusal, e for an end, k for an end in the middle of a frame.
+// of each message: o for a frame, r for a refusal, e for an end, k for an end in the middle of a frame, h for no answer and
+// no end.
 const standIn = "FINAVOLUTH_STAND_IN"
 
 func TestMain(m *testing.M) {
@@ -41,6 +43,8 @@ func answer(job string, in io.Reader, out, err io.Writer) int {
 		switch {
 		case kind == 'e':
 			return 6
+		case kind == 'h':
+			io.Copy(io.Discard, in)
 		case kind == 'k':
 			out.Write([]byte{0, 0, 0})
 			return 0
@@ -119,6 +123,34 @@ func TestALineForEachFrame(t *testing.T) {
 		if err != nil || answer.Text != want.Text || answer.Line != want.Line {
 			t.Errorf("frame %d: %+v, %v", n, answer, err)
 		}
+	}
+}
+
+// What is said comes while its asker does something else, and so does an end that nobody asked for.
+func TestSaid(t *testing.T) {
+	c := ask(t, "encode")
+	for _, text := range []string{"o1", "r", "o2"} {
+		if err := c.Put(capture.Message([]byte(text))); err != nil {
+			t.Fatal(err)
+		}
+		answer, err := c.Answer(<-c.Said())
+		if err != nil || answer.Refused() != (text == "r") || !answer.Refused() && string(answer.Frame.Payload) != text {
+			t.Errorf("%s: %+v, %v", text, answer, err)
+		}
+	}
+	c.cmd.Process.Kill()
+	if _, err := c.Answer(<-c.Said()); err == nil || err.Error() != "otap_cli encode ended with signal: killed" {
+		t.Errorf("killed while it wasn't asked: %v", err)
+	}
+}
+
+func TestWithin(t *testing.T) {
+	c := ask(t, "encode")
+	if _, err := c.Send(capture.Message([]byte("o"))); err != nil {
+		t.Error(err)
+	}
+	if _, err := c.Within(10 * time.Millisecond).Send(capture.Message([]byte("h"))); err == nil || err.Error() != "otap_cli encode ended with signal: killed" {
+		t.Errorf("no answer: %v", err)
 	}
 }
 

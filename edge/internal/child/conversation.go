@@ -9,6 +9,7 @@ import (
 	"os/exec"
 	"strings"
 	"sync"
+	"time"
 
 	"google.golang.org/protobuf/encoding/protowire"
 
@@ -32,21 +33,24 @@ type Conversation struct {
 	cmd    *exec.Cmd
 	given  context.Context // its end kills the program
 	cancel context.CancelFunc
+	limit  time.Duration // for an answer; 0 for none
+	late   *time.Timer   // runs while an answer is awaited
 	stdin  io.WriteCloser
 	frames *capture.Writer
-	out    chan said
-	err    chan said
+	said   chan Said
 	read   sync.WaitGroup // for both outputs to be read to their ends
 	closed bool
 	ended  error // how the run ended, once it is closed
 }
 
-// said is a frame or a line, or the end of an output.
-type said struct {
-	frame capture.Frame
-	line  string
-	err   error
+// Said is a frame or a line of one of the program's outputs, or the output's end.
+type Said struct {
+	answer Answer
+	err    error
 }
+
+// unheard is how much may be said before anybody listens: an answer, and the ends of both outputs.
+const unheard = 3
 
 // Ask begins a run for a lock-step. The jobs are those that answer each frame by one frame (encode, decode, tidy, status)
 // or by one line (list, replay).
@@ -55,8 +59,9 @@ func (p *Program) Ask(ctx context.Context, words ...string) (*Conversation, erro
 		return nil, errors.New("no job to ask for")
 	}
 	ctx, cancel := context.WithCancel(ctx)
-	c := &Conversation{job: words[0], cmd: p.Command(ctx, words...), given: ctx, cancel: cancel,
-		out: make(chan said), err: make(chan said)}
+	c := &Conversation{job: words[0], cmd: p.Command(ctx, words...), given: ctx, cancel: cancel, said: make(chan Said, unheard)}
+	c.late = time.AfterFunc(time.Hour, cancel)
+	c.late.Stop()
 	fail := func(err error) (*Conversation, error) {
 		cancel()
 		return nil, fmt.Errorf("starting %s: %w", p, err)
@@ -79,29 +84,35 @@ func (p *Program) Ask(ctx context.Context, words ...string) (*Conversation, erro
 	c.frames = capture.NewWriter(c.stdin)
 	c.read.Add(2)
 	if lines(c.job) {
-		go c.readLines(ctx, stdout, c.out)
+		go c.readLines(stdout, func(line string) Answer { return Answer{Text: line} })
 	} else {
-		go c.readFrames(ctx, stdout, c.out)
+		go c.readFrames(stdout)
 	}
-	go c.readLines(ctx, stderr, c.err)
+	go c.readLines(stderr, func(line string) Answer { return Answer{Line: line} })
 	return c, nil
+}
+
+// Within has the program killed where it takes longer for an answer, or to end when it is closed.
+func (c *Conversation) Within(limit time.Duration) *Conversation {
+	c.limit = limit
+	return c
 }
 
 // lines says whether the job answers by a line on standard output.
 func lines(job string) bool { return job == "list" || job == "replay" }
 
-func (c *Conversation) readFrames(ctx context.Context, from io.Reader, to chan<- said) {
+func (c *Conversation) readFrames(from io.Reader) {
 	defer c.read.Done()
 	source := capture.NewReader(from)
 	for {
 		frame, err := source.Next()
-		if !tell(ctx, to, said{frame: frame, err: err}) || err != nil {
+		if !c.tell(Said{Answer{Frame: &frame}, err}) || err != nil {
 			return
 		}
 	}
 }
 
-func (c *Conversation) readLines(ctx context.Context, from io.Reader, to chan<- said) {
+func (c *Conversation) readLines(from io.Reader, as func(string) Answer) {
 	defer c.read.Done()
 	source := bufio.NewReader(from)
 	for {
@@ -109,81 +120,79 @@ func (c *Conversation) readLines(ctx context.Context, from io.Reader, to chan<- 
 		if err == io.EOF && line != "" {
 			err = nil
 		}
-		if !tell(ctx, to, said{line: strings.TrimSuffix(line, "\n"), err: err}) || err != nil {
+		if !c.tell(Said{as(strings.TrimSuffix(line, "\n")), err}) || err != nil {
 			return
 		}
 	}
 }
 
-func tell(ctx context.Context, to chan<- said, what said) bool {
+// tell leaves off where nobody listens any more. What there is room for is said also then, as the end of a run that was
+// killed.
+func (c *Conversation) tell(what Said) bool {
+	c.late.Stop()
 	select {
-	case to <- what:
+	case c.said <- what:
 		return true
-	case <-ctx.Done():
+	default:
+	}
+	select {
+	case c.said <- what:
+		return true
+	case <-c.given.Done():
 		return false
 	}
 }
 
 // Send hands the program one frame, and waits for its answer.
 func (c *Conversation) Send(f capture.Frame) (Answer, error) {
+	if err := c.Put(f); err != nil {
+		return Answer{}, err
+	}
+	answer, err := c.Answer(<-c.said)
+	if err != nil || c.job != "status" {
+		return answer, err
+	}
+	return c.status(answer)
+}
+
+// Put hands the program one frame. The answer is what is said next, and the next frame is put after it.
+func (c *Conversation) Put(f capture.Frame) error {
+	if c.limit > 0 {
+		c.late.Reset(c.limit)
+	}
 	if err := c.frames.Write(f); err != nil {
-		return Answer{}, c.broken(err)
+		return c.broken(err)
 	}
 	if err := c.frames.Flush(); err != nil {
-		return Answer{}, c.broken(err)
+		return c.broken(err)
 	}
-	if c.job == "status" {
-		return c.status()
-	}
-	select {
-	case it := <-c.out:
-		if it.err != nil {
-			return Answer{}, c.broken(it.err)
-		}
-		return c.put(it), nil
-	case it := <-c.err:
-		if it.err != nil {
-			return Answer{}, c.broken(it.err)
-		}
-		return Answer{Line: it.line}, nil
-	case <-c.given.Done():
-		return Answer{}, c.broken(c.given.Err())
-	}
+	return nil
 }
 
-// next waits for what one output says next.
-func (c *Conversation) next(from <-chan said) said {
-	select {
-	case it := <-from:
-		return it
-	case <-c.given.Done():
-		return said{err: c.given.Err()}
-	}
-}
+// Said is where the program's answers come. Where the job is `status`, Send puts together what it says of a batch.
+func (c *Conversation) Said() <-chan Said { return c.said }
 
-func (c *Conversation) put(it said) Answer {
-	if lines(c.job) {
-		return Answer{Text: it.line}
-	}
-	return Answer{Frame: &it.frame}
-}
-
-// status takes the status of a batch, and the line too where the status says that the batch was refused.
-func (c *Conversation) status() (Answer, error) {
-	it := c.next(c.out)
+// Answer is what was said, or how the run ended.
+func (c *Conversation) Answer(it Said) (Answer, error) {
 	if it.err != nil {
 		return Answer{}, c.broken(it.err)
 	}
-	answer := c.put(it)
-	if it.frame.IsReset() || statusCode(it.frame.Payload) == 0 {
-		return answer, nil
+	return it.answer, nil
+}
+
+// status takes the line too where the status says that the batch was refused. Either may come first.
+func (c *Conversation) status(first Answer) (Answer, error) {
+	if f := first.Frame; f != nil && (f.IsReset() || statusCode(f.Payload) == 0) {
+		return first, nil
 	}
-	line := c.next(c.err)
-	if line.err != nil {
-		return Answer{}, c.broken(line.err)
+	second, err := c.Answer(<-c.said)
+	if err != nil {
+		return Answer{}, err
 	}
-	answer.Line = line.line
-	return answer, nil
+	if second.Frame == nil {
+		first, second = second, first
+	}
+	return Answer{Frame: second.Frame, Line: first.Line}, nil
 }
 
 // statusCode is the second field of a BatchStatus; 0 is OK.
@@ -225,22 +234,23 @@ func (c *Conversation) Close() error {
 
 func (c *Conversation) end() error {
 	defer c.cancel()
-	c.stdin.Close()
-	for _, output := range []chan said{c.out, c.err} {
-		go drain(output)
+	c.late.Stop()
+	if c.limit > 0 {
+		defer time.AfterFunc(c.limit, c.cancel).Stop()
 	}
+	c.stdin.Close()
+	go drain(c.said)
 	c.read.Wait()
 	err := c.cmd.Wait()
-	close(c.out)
-	close(c.err)
+	close(c.said)
 	if code := c.cmd.ProcessState.ExitCode(); code == 0 || code == 1 {
 		return nil
 	}
 	return fmt.Errorf("%s %s ended with %s", Name, c.job, ending(c.cmd, err))
 }
 
-func drain(output <-chan said) {
-	for range output {
+func drain(said <-chan Said) {
+	for range said {
 	}
 }
 

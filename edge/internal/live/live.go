@@ -54,7 +54,7 @@ var table = []metrics.Metric{
 	{Name: "otap_streams_ended_total", Kind: metrics.Counter, Help: "OTel-Arrow streams that ended, by code.", Labels: []string{"signal", "code"}},
 	{Name: "otap_streams_refused_total", Kind: metrics.Counter, Help: "OTel-Arrow streams above --max-streams.", Labels: []string{"signal"}},
 	{Name: "otap_children_started_total", Kind: metrics.Counter, Help: "Children that were started.", Labels: []string{"job"}},
-	{Name: "otap_children_lost_total", Kind: metrics.Counter, Help: "Children that ended while they were asked.", Labels: []string{"job"}},
+	{Name: "otap_children_lost_total", Kind: metrics.Counter, Help: "Children that ended by themselves.", Labels: []string{"job"}},
 	{Name: "otap_kept_total", Kind: metrics.Counter, Help: "Messages written to captures.", Labels: []string{"signal", "form"}},
 	{Name: "otap_kept_bytes_total", Kind: metrics.Counter, Help: "Bytes of these messages.", Labels: []string{"signal", "form"}},
 	{Name: "otap_not_kept_total", Kind: metrics.Counter, Help: "Messages that couldn't be written.", Labels: []string{"signal", "form"}},

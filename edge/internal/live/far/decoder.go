@@ -18,8 +18,12 @@ import (
 
 // A Decoder is a conversation with the program.
 type Decoder interface {
-	// Decode gives the request of a batch, or how the program refused it.
-	Decode(batch []byte) (request []byte, refused *Refusal, err error)
+	// Ask has a batch decoded, once the one before is answered.
+	Ask(batch []byte) error
+	// Said is where the answers come, and the end of a program that ends by itself.
+	Said() <-chan child.Said
+	// Answer gives the request of the batch, or how the program refused it.
+	Answer(child.Said) (request []byte, refused *Refusal, err error)
 	Close() error
 }
 
@@ -33,33 +37,20 @@ type Refusal struct {
 // Decode starts a child that runs `decode`; one that takes longer than the timeout for an answer is killed.
 func Decode(program *child.Program, timeout time.Duration) func(context.Context, signal.Signal) (Decoder, error) {
 	return func(ctx context.Context, s signal.Signal) (Decoder, error) {
-		ctx, cancel := context.WithCancel(ctx)
 		talk, err := program.Ask(ctx, "decode", s.String())
 		if err != nil {
-			cancel()
 			return nil, err
 		}
-		return &decoder{talk, cancel, timeout}, nil
+		return decoder{talk.Within(timeout)}, nil
 	}
 }
 
-type decoder struct {
-	talk    *child.Conversation
-	cancel  context.CancelFunc
-	timeout time.Duration
-}
+type decoder struct{ *child.Conversation }
 
-func (d *decoder) Close() error {
-	late := time.AfterFunc(d.timeout, d.cancel)
-	defer late.Stop()
-	defer d.cancel()
-	return d.talk.Close()
-}
+func (d decoder) Ask(batch []byte) error { return d.Put(capture.Message(batch)) }
 
-func (d *decoder) Decode(batch []byte) ([]byte, *Refusal, error) {
-	late := time.AfterFunc(d.timeout, d.cancel)
-	answer, err := d.talk.Send(capture.Message(batch))
-	late.Stop()
+func (d decoder) Answer(said child.Said) ([]byte, *Refusal, error) {
+	answer, err := d.Conversation.Answer(said)
 	switch {
 	case err != nil:
 		return nil, nil, err
@@ -108,7 +99,10 @@ func probe(config Config, s signal.Signal) error {
 		return fmt.Errorf("probe the program for %s: %w", s, err)
 	}
 	defer d.Close()
-	if _, _, err := d.Decode(nil); err != nil {
+	if err = d.Ask(nil); err == nil {
+		_, _, err = d.Answer(<-d.Said())
+	}
+	if err != nil {
 		return fmt.Errorf("probe the program for %s: %w", s, err)
 	}
 	return nil

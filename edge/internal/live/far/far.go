@@ -7,11 +7,13 @@ package far
 
 import (
 	"context"
+	"errors"
 	"fmt"
 	"io"
 	"sync/atomic"
 	"time"
 
+	"finavoluth/edge/internal/child"
 	"finavoluth/edge/internal/live/logline"
 	"finavoluth/edge/internal/live/metrics"
 	"finavoluth/edge/internal/live/wire"
@@ -85,14 +87,18 @@ func (f *Far) Serve(service wire.Service, call grpc.ServerStream) error {
 // backend.
 type stream struct {
 	*Far
-	signal  signal.Signal
-	call    grpc.ServerStream
-	child   Decoder
-	taken   chan taken
+	signal signal.Signal
+	call   grpc.ServerStream
+	child  Decoder
+	taken  chan taken
+	// asked is the batch that the child has; nil where it has none.
+	asked   *wire.Message
 	answers chan answer
 	// room has a token for each batch that may be taken.
 	room    chan struct{}
 	waiting int
+	// ending says that no more batches are taken.
+	ending bool
 }
 
 // taken is a message of the near end, or why there is none.
@@ -111,17 +117,17 @@ type answer struct {
 func (f *Far) stream(s signal.Signal, call grpc.ServerStream) error {
 	ctx, cancel := context.WithCancel(call.Context())
 	defer cancel()
-	child, err := f.config.Start(ctx, s)
+	decoder, err := f.config.Start(ctx, s)
 	if err != nil {
 		return status.Errorf(codes.Unavailable, "start a child: %v", err)
 	}
 	f.config.Metrics.Add("otap_children_started_total", 1, "decode")
-	defer child.Close()
+	defer decoder.Close()
 	messages, err := wire.NewMessages(call, f.config.Messages)
 	if err != nil {
 		return err
 	}
-	x := &stream{Far: f, signal: s, call: call, child: child, taken: make(chan taken),
+	x := &stream{Far: f, signal: s, call: call, child: decoder, taken: make(chan taken),
 		answers: make(chan answer, f.config.Window), room: make(chan struct{}, f.config.Window)}
 	for i := 0; i < f.config.Window; i++ {
 		x.room <- struct{}{}
@@ -151,18 +157,21 @@ func (x *stream) take(ctx context.Context, messages *wire.Messages) {
 	}
 }
 
-// serve answers batches until the stream ends. Once it is to end, it takes no more and waits for the backend's answers.
+// serve answers batches until the stream ends. Once it is to end, it takes no more and waits for the child's answer and
+// the backend's.
 func (x *stream) serve(ctx context.Context) error {
-	from, stop := x.taken, x.stop
+	defer x.forget()
+	stop := x.stop
 	var end error
-	ending := false
-	for !ending || x.waiting > 0 {
+	for !x.ending || x.asked != nil || x.waiting > 0 {
 		var err error
 		select {
-		case t := <-from:
+		case t := <-x.batches():
 			if err = t.err; err == nil {
-				err = x.batch(ctx, t.message)
+				err = x.ask(t.message)
 			}
+		case said := <-x.said():
+			err = x.decoded(ctx, said)
 		case a := <-x.answers:
 			if err := x.answer(a); err != nil {
 				return err
@@ -173,7 +182,7 @@ func (x *stream) serve(ctx context.Context) error {
 			return status.FromContextError(ctx.Err()).Err()
 		}
 		if err != nil {
-			ending, from, stop = true, nil, nil
+			x.ending, stop = true, nil
 			if err != io.EOF {
 				end = err
 			}
@@ -182,20 +191,64 @@ func (x *stream) serve(ctx context.Context) error {
 	return end
 }
 
-// batch has a batch decoded and its request sent. An error ends the stream, after what is open was answered.
-func (x *stream) batch(ctx context.Context, message wire.Message) error {
+// batches is where the next batch comes from, while the child has none.
+func (x *stream) batches() <-chan taken {
+	if x.asked != nil || x.ending {
+		return nil
+	}
+	return x.taken
+}
+
+// said is where the child answers. How it ends doesn't matter to a stream that ends.
+func (x *stream) said() <-chan child.Said {
+	if x.asked == nil && x.ending {
+		return nil
+	}
+	return x.child.Said()
+}
+
+// forget gives up the batch that the child has.
+func (x *stream) forget() {
+	if x.asked != nil {
+		x.asked.Ticket.Release()
+	}
+}
+
+// ask has the child decode a batch. An error ends the stream, after what is open was answered.
+func (x *stream) ask(message wire.Message) error {
 	s := x.signal.String()
 	x.config.Metrics.Add("otap_batches_total", 1, s)
 	x.config.Metrics.Add("otap_batch_bytes_total", float64(len(message.Bytes)), s)
-	request, refused, err := x.child.Decode(message.Bytes)
-	if err != nil {
+	if err := x.child.Ask(message.Bytes); err != nil {
 		message.Ticket.Release()
-		x.config.Metrics.Add("otap_children_lost_total", 1, "decode")
-		return status.Errorf(codes.Unavailable, "the decoding child ended: %v", err)
+		return x.lost(err)
+	}
+	x.asked = &message
+	return nil
+}
+
+func (x *stream) lost(err error) error {
+	x.config.Metrics.Add("otap_children_lost_total", 1, "decode")
+	return status.Errorf(codes.Unavailable, "the decoding child ended: %v", err)
+}
+
+// decoded sends the request of the batch that the child had. An error ends the stream, as for ask.
+func (x *stream) decoded(ctx context.Context, said child.Said) error {
+	message := x.asked
+	x.asked = nil
+	made, refused, err := x.child.Answer(said)
+	if message == nil && err == nil {
+		err = errors.New("it answered what it wasn't asked")
+	}
+	if err != nil {
+		if message != nil {
+			message.Ticket.Release()
+		}
+		return x.lost(err)
 	}
 	if refused != nil {
 		message.Ticket.Release()
-		x.config.Metrics.Add("otap_refused_total", 1, s, refused.Cause)
+		x.config.Metrics.Add("otap_refused_total", 1, x.signal.String(), refused.Cause)
 		if err := x.say(refused.Status); err != nil {
 			return err
 		}
@@ -206,16 +259,16 @@ func (x *stream) batch(ctx context.Context, message wire.Message) error {
 		message.Ticket.Release()
 		return status.Errorf(codes.Internal, "a batch that decode took: %v", err)
 	}
-	if most := x.config.Messages.Bytes; len(request) > most {
+	if most := x.config.Messages.Bytes; len(made) > most {
 		message.Ticket.Release()
 		x.room <- struct{}{}
 		return x.say(wire.Status{ID: id, Code: codes.ResourceExhausted,
-			Message: fmt.Sprintf("its request has %d bytes, above the %d of --max-message", len(request), most)})
+			Message: fmt.Sprintf("its request has %d bytes, above the %d of --max-message", len(made), most)})
 	}
-	message.Bytes = request
-	message.Ticket.Resize(int64(len(request)))
+	message.Bytes = made
+	message.Ticket.Resize(int64(len(made)))
 	x.waiting++
-	go x.send(ctx, id, message)
+	go x.send(ctx, id, *message)
 	return nil
 }
 

@@ -16,41 +16,32 @@ import (
 // An Encoder is a conversation with the program. The one there is runs `encode`; one that keeps open requests over a
 // reset would be another.
 type Encoder interface {
-	// Encode gives the batch of a request, or the cause for which the program refused it.
-	Encode(request []byte) (batch []byte, cause string, err error)
+	// Ask has a request encoded, once the one before is answered.
+	Ask(request []byte) error
+	// Said is where the answers come, and the end of a program that ends by itself.
+	Said() <-chan child.Said
+	// Answer gives the batch of the request, or the cause for which the program refused it.
+	Answer(child.Said) (batch []byte, cause string, err error)
 	Close() error
 }
 
 // Encode starts a child that runs `encode`; one that takes longer than the timeout for an answer is killed.
 func Encode(program *child.Program, timeout time.Duration) func(context.Context, signal.Signal) (Encoder, error) {
 	return func(ctx context.Context, s signal.Signal) (Encoder, error) {
-		ctx, cancel := context.WithCancel(ctx)
 		talk, err := program.Ask(ctx, "encode", s.String())
 		if err != nil {
-			cancel()
 			return nil, err
 		}
-		return &encoder{talk, cancel, timeout}, nil
+		return encoder{talk.Within(timeout)}, nil
 	}
 }
 
-type encoder struct {
-	talk    *child.Conversation
-	cancel  context.CancelFunc
-	timeout time.Duration
-}
+type encoder struct{ *child.Conversation }
 
-func (e *encoder) Close() error {
-	late := time.AfterFunc(e.timeout, e.cancel)
-	defer late.Stop()
-	defer e.cancel()
-	return e.talk.Close()
-}
+func (e encoder) Ask(request []byte) error { return e.Put(capture.Message(request)) }
 
-func (e *encoder) Encode(request []byte) ([]byte, string, error) {
-	late := time.AfterFunc(e.timeout, e.cancel)
-	answer, err := e.talk.Send(capture.Message(request))
-	late.Stop()
+func (e encoder) Answer(said child.Said) ([]byte, string, error) {
+	answer, err := e.Conversation.Answer(said)
 	switch {
 	case err != nil:
 		return nil, "", err
@@ -91,7 +82,11 @@ func probe(config Config, s signal.Signal) error {
 		return fmt.Errorf("probe the program for %s: %w", s, err)
 	}
 	defer e.Close()
-	if _, cause, err := e.Encode(nil); err != nil || cause != "" {
+	var cause string
+	if err = e.Ask(nil); err == nil {
+		_, cause, err = e.Answer(<-e.Said())
+	}
+	if err != nil || cause != "" {
 		return fmt.Errorf("probe the program for %s: %v%s", s, err, cause)
 	}
 	return nil

@@ -9,6 +9,7 @@ import (
 	"sync/atomic"
 	"time"
 
+	"finavoluth/edge/internal/child"
 	"finavoluth/edge/internal/live/wire"
 
 	"google.golang.org/grpc"
@@ -79,6 +80,8 @@ type life struct {
 	*owner
 	child Encoder
 	call  grpc.ClientStream
+	// asked is the request that the child has; nil where it has none.
+	asked *request
 	// open has the requests whose batches are sent, by batch id.
 	open map[int64]*request
 	// answered says that a status came.
@@ -86,6 +89,8 @@ type life struct {
 	// leaving says that no more batches are sent, as the stream is to be replaced.
 	leaving bool
 	heard   chan heard
+	// silent fires once no status came for too long.
+	silent *time.Timer
 }
 
 // heard is what came from the far end: a status, or how the stream ended.
@@ -106,18 +111,20 @@ func (o *owner) live(stop context.Context) (answered bool, err error) {
 		}
 	}()
 	s := o.pool.signal.String()
-	child, err := o.config.Start(ctx, o.pool.signal)
+	encoder, err := o.config.Start(ctx, o.pool.signal)
 	if err != nil {
 		return false, err
 	}
 	o.config.Metrics.Add("otap_children_started_total", 1, "encode")
-	defer child.Close()
+	defer encoder.Close()
 	call, err := o.conn.NewStream(ctx, &grpc.StreamDesc{ClientStreams: true, ServerStreams: true},
 		wire.Service{Signal: o.pool.signal, Arrow: true}.Method())
 	if err != nil {
 		return false, err
 	}
-	l := &life{owner: o, child: child, call: call, open: map[int64]*request{}, heard: make(chan heard, o.config.Window+1)}
+	l := &life{owner: o, child: encoder, call: call, open: map[int64]*request{}, heard: make(chan heard, o.config.Window+1),
+		silent: time.NewTimer(o.config.Timeout)}
+	defer l.silent.Stop()
 	go l.listen(ctx)
 	o.config.Metrics.Add("otap_streams_started_total", 1, s)
 	o.config.Log.Info("stream open", "signal", s, "stream", o.number)
@@ -125,9 +132,7 @@ func (o *owner) live(stop context.Context) (answered bool, err error) {
 	err = l.serve(stop)
 	o.pool.opened(o.config, -1)
 	o.config.Metrics.Add("otap_streams_ended_total", 1, s, status.Code(err).String())
-	for _, r := range l.open {
-		r.settle(codes.Unavailable, "the stream to the far end ended: "+reason(err))
-	}
+	l.giveUp(err)
 	return l.answered, err
 }
 
@@ -151,6 +156,20 @@ func (l *life) listen(ctx context.Context) {
 	}
 }
 
+// giveUp settles what a stream leaves behind that doesn't end in order.
+func (l *life) giveUp(err error) {
+	if err == nil {
+		return
+	}
+	text := "the stream to the far end ended: " + reason(err)
+	if l.asked != nil {
+		l.asked.settle(codes.Unavailable, text)
+	}
+	for _, r := range l.open {
+		r.settle(codes.Unavailable, text)
+	}
+}
+
 func (l *life) serve(stop context.Context) error {
 	var lived <-chan time.Time
 	if l.config.Lifetime > 0 {
@@ -158,46 +177,47 @@ func (l *life) serve(stop context.Context) error {
 		defer timer.Stop()
 		lived = timer.C
 	}
-	silent := time.NewTimer(l.config.Timeout)
-	defer silent.Stop()
 	for {
-		if l.leaving && len(l.open) == 0 {
-			l.why(nil)
-			return nil
-		}
-		queue := l.pool.queue
-		if l.leaving || len(l.open) >= l.config.Window {
-			queue = nil
-		}
-		select {
-		case r := <-queue:
+		if l.leaving && l.asked == nil {
+			l.call.CloseSend() // the far end answers the batches that are open, and then ends the call
 			if len(l.open) == 0 {
-				restart(silent, l.config.Timeout)
+				l.why(nil)
+				return nil
 			}
-			if err := l.place(r); err != nil {
-				return err
-			}
+		}
+		var err error
+		select {
+		case r := <-l.queue():
+			err = l.ask(r)
+		case said := <-l.child.Said():
+			err = l.encoded(said)
 		case h := <-l.heard:
-			if h.err != nil {
-				return h.err
-			}
-			restart(silent, l.config.Timeout)
-			l.answer(h.status)
+			err = l.answer(h)
 		case <-lived:
-			lived = nil
-			l.leave()
-		case <-silent.C:
+			lived, l.leaving = nil, true
+		case <-l.silent.C:
 			if len(l.open) > 0 {
-				return fmt.Errorf("no status for %d batches within %v", len(l.open), l.config.Timeout)
+				err = fmt.Errorf("no status for %d batches within %v", len(l.open), l.config.Timeout)
 			}
-			silent.Reset(l.config.Timeout)
+			l.silent.Reset(l.config.Timeout)
 		case <-stop.Done():
-			if len(l.open) > 0 {
+			if l.asked != nil || len(l.open) > 0 {
 				return errors.New("the near end stops")
 			}
-			l.leave()
+			l.leaving = true
+		}
+		if err != nil {
+			return err
 		}
 	}
+}
+
+// queue is where the next request comes from, while the child has none and the window has room for one.
+func (l *life) queue() <-chan *request {
+	if l.asked != nil || l.leaving || len(l.open) >= l.config.Window {
+		return nil
+	}
+	return l.pool.queue
 }
 
 func restart(timer *time.Timer, after time.Duration) {
@@ -210,19 +230,39 @@ func restart(timer *time.Timer, after time.Duration) {
 	timer.Reset(after)
 }
 
-// place has a request encoded and sends its batch. An error ends the stream.
-func (l *life) place(r *request) error {
+// ask has the child encode a request. An error ends the stream.
+func (l *life) ask(r *request) error {
 	if r.ctx.Err() != nil {
 		r.settle(codes.Canceled, "given up before it was encoded")
 		return nil
 	}
-	s := l.pool.signal.String()
-	batch, cause, err := l.child.Encode(r.message.Bytes)
+	err := l.child.Ask(r.message.Bytes)
 	r.message.Bytes = nil
 	if err != nil {
-		l.config.Metrics.Add("otap_children_lost_total", 1, "encode")
+		return l.lost(r, err)
+	}
+	l.asked = r
+	return nil
+}
+
+func (l *life) lost(r *request, err error) error {
+	l.config.Metrics.Add("otap_children_lost_total", 1, "encode")
+	if r != nil {
 		r.settle(codes.Unavailable, "the encoding child ended: "+err.Error())
-		return err
+	}
+	return fmt.Errorf("the encoding child ended: %w", err)
+}
+
+// encoded sends the batch of the request that the child had. An error ends the stream.
+func (l *life) encoded(said child.Said) error {
+	r, s := l.asked, l.pool.signal.String()
+	l.asked = nil
+	batch, cause, err := l.child.Answer(said)
+	if err != nil {
+		return l.lost(r, err)
+	}
+	if r == nil {
+		return errors.New("the encoding child answered what it wasn't asked")
 	}
 	if cause != "" {
 		l.config.Metrics.Add("otap_refused_total", 1, s, cause)
@@ -233,15 +273,31 @@ func (l *life) place(r *request) error {
 		// The batch won't be sent, and those after it build on it, so they go on a new stream with a new child.
 		l.config.Metrics.Add("otap_refused_total", 1, s, "MaxBatch")
 		r.settle(codes.ResourceExhausted, fmt.Sprintf("its batch has %d bytes, above the %d of --max-batch", len(batch), l.config.MaxBatch))
-		l.leave()
+		l.leaving = true
 		return nil
 	}
+	return l.send(r, batch)
+}
+
+// send sends a batch, which is open from then on. The child gets the next request first, so that it works meanwhile.
+func (l *life) send(r *request, batch []byte) error {
 	id, err := wire.BatchID(batch)
 	if err != nil || l.open[id] != nil {
 		r.settle(codes.Unavailable, "the encoding child wrote a batch without an id of its own")
 		return fmt.Errorf("a batch of encode: id %d, open already: %v, %v", id, l.open[id] != nil, err)
 	}
+	if len(l.open) == 0 {
+		restart(l.silent, l.config.Timeout)
+	}
 	l.open[id] = r
+	select {
+	case next := <-l.queue():
+		if err := l.ask(next); err != nil {
+			return err
+		}
+	default:
+	}
+	s := l.pool.signal.String()
 	l.config.Metrics.Add("otap_batches_total", 1, s)
 	l.config.Metrics.Add("otap_batch_bytes_total", float64(len(batch)), s)
 	if err := l.call.SendMsg(&batch); err != nil {
@@ -250,28 +306,26 @@ func (l *life) place(r *request) error {
 	return nil
 }
 
-// leave sends no more batches; the far end answers those that are open and then ends the call.
-func (l *life) leave() {
-	if !l.leaving {
-		l.leaving = true
-		l.call.CloseSend()
-	}
-}
-
 // answer settles the request that a status is for.
-func (l *life) answer(s wire.Status) {
+func (l *life) answer(h heard) error {
+	if h.err != nil {
+		return h.err
+	}
+	s := h.status
 	l.answered = true
+	restart(l.silent, l.config.Timeout)
 	l.config.Metrics.Add("otap_statuses_total", 1, l.pool.signal.String(), s.Code.String())
 	r := l.open[s.ID]
 	if r == nil {
 		l.config.Log.Warn("status for no open batch", "signal", l.pool.signal, "stream", l.number, "batch", s.ID, "code", s.Code)
-		return
+		return nil
 	}
 	delete(l.open, s.ID)
 	if s.Code > codes.Unauthenticated {
 		s.Code = codes.Unknown
 	}
 	r.settle(s.Code, s.Message)
+	return nil
 }
 
 // why waits for the end of the stream and its reason, which only the receiving side knows; statuses that came before it
@@ -282,10 +336,9 @@ func (l *life) why(sending error) error {
 	for {
 		select {
 		case h := <-l.heard:
-			if h.err != nil {
-				return h.err
+			if err := l.answer(h); err != nil {
+				return err
 			}
-			l.answer(h.status)
 		case <-late.C:
 			return sending
 		}
