@@ -92,8 +92,10 @@ type stream struct {
 	child  Decoder
 	taken  chan taken
 	// asked is the batch that the child has; nil where it has none.
-	asked   *wire.Message
-	answers chan answer
+	asked *wire.Message
+	// requests is for the senders that wait for one; there are never more answers than the window has room for.
+	requests chan request
+	answers  chan answer
 	// room has a token for each batch that may be taken.
 	room    chan struct{}
 	waiting int
@@ -107,11 +109,16 @@ type taken struct {
 	err     error
 }
 
+// request is what the child made of a batch, which it has the id of.
+type request struct {
+	id      int64
+	message wire.Message
+}
+
 // answer is what the backend said of a request.
 type answer struct {
-	id      int64
-	err     error
-	message wire.Message
+	id  int64
+	err error
 }
 
 func (f *Far) stream(s signal.Signal, call grpc.ServerStream) error {
@@ -128,7 +135,7 @@ func (f *Far) stream(s signal.Signal, call grpc.ServerStream) error {
 		return err
 	}
 	x := &stream{Far: f, signal: s, call: call, child: decoder, taken: make(chan taken),
-		answers: make(chan answer, f.config.Window), room: make(chan struct{}, f.config.Window)}
+		requests: make(chan request), answers: make(chan answer, f.config.Window), room: make(chan struct{}, f.config.Window)}
 	for i := 0; i < f.config.Window; i++ {
 		x.room <- struct{}{}
 	}
@@ -268,19 +275,35 @@ func (x *stream) decoded(ctx context.Context, said child.Said) error {
 	message.Bytes = made
 	message.Ticket.Resize(int64(len(made)))
 	x.waiting++
-	go x.send(ctx, id, *message)
+	select {
+	case x.requests <- request{id, *message}:
+	default:
+		go x.send(ctx, request{id, *message})
+	}
 	return nil
 }
 
-// send asks the backend; there are never more answers than the window has room for.
-func (x *stream) send(ctx context.Context, id int64, message wire.Message) {
+// send asks the backend, and then waits for the next request. So there are as many senders as there were requests at once,
+// and their stacks, which a call makes grow, are used again.
+func (x *stream) send(ctx context.Context, r request) {
+	for {
+		err := x.invoke(ctx, r.message.Bytes)
+		r.message.Bytes = nil
+		r.message.Ticket.Release()
+		x.answers <- answer{r.id, err}
+		select {
+		case r = <-x.requests:
+		case <-ctx.Done():
+			return
+		}
+	}
+}
+
+func (x *stream) invoke(ctx context.Context, bytes []byte) error {
 	ctx, cancel := context.WithTimeout(ctx, x.config.Timeout)
 	defer cancel()
 	var response []byte
-	err := x.config.Backend.Invoke(ctx, wire.Service{Signal: x.signal}.Method(), &message.Bytes, &response)
-	message.Bytes = nil
-	message.Ticket.Release()
-	x.answers <- answer{id: id, err: err}
+	return x.config.Backend.Invoke(ctx, wire.Service{Signal: x.signal}.Method(), &bytes, &response)
 }
 
 // answer puts what the backend said into the status of its batch.
