@@ -120,17 +120,25 @@ func (n *Near) disconnect() {
 	}
 }
 
-// Serve is the handler of a call.
+// none is a response: one with no partial success.
+var none = []byte{}
+
+// Serve is the handler of a call. The answer is sent from here and not from within, where the goroutine's stack would have
+// to grow for it.
 func (n *Near) Serve(service wire.Service, call grpc.ServerStream) error {
 	p := n.pools[service.Signal]
 	if service.Arrow || p == nil {
 		return status.Errorf(codes.Unimplemented, "%s isn't served here", service.Name())
 	}
 	err := n.export(p, call)
+	if err == nil {
+		err = call.SendMsg(&none)
+	}
 	n.config.Metrics.Add("otap_requests_total", 1, p.signal.String(), status.Code(err).String())
 	return err
 }
 
+// export has a request sent on, and waits until it is acknowledged.
 func (n *Near) export(p *pool, call grpc.ServerStream) error {
 	messages, err := wire.NewMessages(call, n.config.Messages)
 	if err != nil {
@@ -155,11 +163,7 @@ func (n *Near) export(p *pool, call grpc.ServerStream) error {
 	}
 	select {
 	case s := <-r.answer:
-		if s.Code() != codes.OK {
-			return s.Err()
-		}
-		none := []byte{}
-		return call.SendMsg(&none)
+		return s.Err()
 	case <-ctx.Done():
 		return n.late(call, "no answer")
 	}
