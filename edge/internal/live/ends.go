@@ -37,6 +37,7 @@ func Near(ctx context.Context, program *child.Program, o NearOptions) error {
 		}
 		signals = append(signals, s)
 	}
+	shareProcessors()
 	n, err := near.Open(near.Config{
 		Signals: signals, Streams: o.Streams, Window: o.Window, Timeout: o.Timeout, Lifetime: o.Lifetime, MaxBatch: o.MaxBatch,
 		Messages: e.limits(), Start: near.Encode(program, o.Timeout), Connect: o.To.Connect, Log: e.log, Metrics: e.metrics,
@@ -67,6 +68,7 @@ func Far(ctx context.Context, program *child.Program, o FarOptions) error {
 		return err
 	}
 	defer backend.Close()
+	shareProcessors()
 	f, err := far.Open(far.Config{
 		Streams: o.MaxStreams, Window: o.Window, Timeout: o.Timeout, Messages: e.limits(), Start: far.Decode(program, o.Timeout),
 		Backend: backend, Log: e.log, Metrics: e.metrics,

@@ -10,6 +10,8 @@ import (
 	"io"
 	"net"
 	"net/http"
+	"os"
+	"runtime"
 	"runtime/debug"
 	"time"
 
@@ -99,6 +101,14 @@ func begin(o Options) (*edge, error) {
 func boundMemory(windowBytes int64) {
 	debug.SetMemoryLimit(32<<20 + 3*windowBytes)
 	debug.SetGCPercent(400)
+}
+
+// shareProcessors leaves half of the processors to the children, which take as much as the edge does. More would do little
+// but wake each other: Go has a thread look for work for each goroutine that could run on another processor.
+func shareProcessors() {
+	if os.Getenv("GOMAXPROCS") == "" {
+		runtime.GOMAXPROCS((runtime.NumCPU() + 1) / 2)
+	}
 }
 
 func (e *edge) limits() wire.Limits {
