@@ -25,7 +25,7 @@ type NearOptions struct {
 
 // Near runs a near end until the context ends.
 func Near(ctx context.Context, program *child.Program, o NearOptions) error {
-	e, err := begin(o.Options)
+	e, err := begin(o.Options, listen.AheadOfCall)
 	if err != nil {
 		return err
 	}
@@ -59,7 +59,7 @@ type FarOptions struct {
 
 // Far runs a far end until the context ends.
 func Far(ctx context.Context, program *child.Program, o FarOptions) error {
-	e, err := begin(o.Options)
+	e, err := begin(o.Options, listen.AheadOfStream)
 	if err != nil {
 		return err
 	}
@@ -95,7 +95,7 @@ type RecordOptions struct {
 
 // Record runs a recorder until the context ends.
 func Record(ctx context.Context, o RecordOptions) error {
-	e, err := begin(o.Options)
+	e, err := begin(o.Options, listen.AheadOfCall)
 	if err != nil {
 		return err
 	}

@@ -75,8 +75,8 @@ type edge struct {
 	handler listen.Handler
 }
 
-// begin checks the options and makes what all have.
-func begin(o Options) (*edge, error) {
+// begin checks the options and makes what all have. A peer may send so many bytes of a call ahead of its handler.
+func begin(o Options, ahead int32) (*edge, error) {
 	if o.WindowBytes < 2*int64(o.MaxMessage) {
 		return nil, fmt.Errorf("--window-bytes %d: it has to be at least twice --max-message, %d", o.WindowBytes, o.MaxMessage)
 	}
@@ -89,7 +89,7 @@ func begin(o Options) (*edge, error) {
 	if config != nil {
 		creds = credentials.NewTLS(config)
 	}
-	e.server = listen.New(o.Calls, creds, func(s wire.Service, call grpc.ServerStream) error { return e.handler(s, call) })
+	e.server = listen.New(o.Calls, ahead, creds, func(s wire.Service, call grpc.ServerStream) error { return e.handler(s, call) })
 	e.metrics.Read("otap_window_bytes", func() float64 { bytes, _ := e.window.Used(); return float64(bytes) })
 	e.metrics.Read("otap_window_messages", func() float64 { _, tickets := e.window.Used(); return float64(tickets) })
 	boundMemory(o.WindowBytes)

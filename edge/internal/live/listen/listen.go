@@ -23,10 +23,17 @@ import (
 	"google.golang.org/grpc/status"
 )
 
+// How many bytes of a call a peer may send ahead of its handler, which grpc-go holds.
 const (
-	// streamWindow is what grpc-go holds of a call before its handler reads.
-	streamWindow = 64 << 10
-	// connWindow is what it lets a connection send before it acknowledges.
+	// AheadOfCall is for calls of one message, of which there may be many.
+	AheadOfCall = 64 << 10
+	// AheadOfStream is for streams, which are few. A peer is told of more room after each quarter of it, so it bounds how
+	// much goes through a stream in a round trip.
+	AheadOfStream = 256 << 10
+)
+
+const (
+	// connWindow is what grpc-go lets a connection send before it acknowledges.
 	connWindow = 1 << 20
 	// longestHeaders is how long the headers of a call may be.
 	longestHeaders = 16 << 10
@@ -93,8 +100,8 @@ func (w watched) Context() context.Context { return w.ctx }
 type Handler func(service wire.Service, call grpc.ServerStream) error
 
 // New makes a server whose calls go to the handler; nil credentials stand for none. A connection may have so many calls,
-// those among them that the peer gave up and whose handler still runs.
-func New(calls int, creds credentials.TransportCredentials, handler Handler) *Server {
+// those among them that the peer gave up and whose handler still runs, and may send so far ahead on each.
+func New(calls int, ahead int32, creds credentials.TransportCredentials, handler Handler) *Server {
 	ctx, unwatch := context.WithCancel(context.Background())
 	options := []grpc.ServerOption{
 		grpc.CustomCodec(wire.Codec{}),
@@ -103,7 +110,7 @@ func New(calls int, creds credentials.TransportCredentials, handler Handler) *Se
 		grpc.MaxSendMsgSize(1 << 30),
 		grpc.MaxConcurrentStreams(uint32(calls)),
 		grpc.MaxHeaderListSize(longestHeaders),
-		grpc.InitialWindowSize(streamWindow),
+		grpc.InitialWindowSize(ahead),
 		grpc.InitialConnWindowSize(connWindow),
 		grpc.ConnectionTimeout(handshake),
 		grpc.KeepaliveParams(keepalive.ServerParameters{Time: pingAfter, Timeout: pingTimeout}),
