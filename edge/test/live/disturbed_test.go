@@ -74,6 +74,28 @@ func TestChildrenKilled(t *testing.T) {
 	}
 }
 
+// TestChildrenKilledWhileIdle has children end that nobody asks just then: a stream begins anew before anybody has to fail.
+func TestChildrenKilledWhileIdle(t *testing.T) {
+	t.Parallel()
+	x := newBridge(t, newBackend(t, nil, nil), []string{"--signals", "logs"}, nil)
+	l := x.load(4, 100, times(20))
+	l.finish(l.begin())
+	for k, of := range []*process{x.near, x.far} {
+		children := of.watch()
+		for _, pid := range of.children() {
+			syscall.Kill(pid, syscall.SIGKILL)
+		}
+		gone(t, children)
+		x.near.said(streamOpen, k+2)
+		l.more = times(l.next + 20)
+		l.finish(l.begin())
+	}
+	x.end(l)
+	if len(l.acked) != 60 || len(l.failures) > 0 {
+		t.Errorf("%d of 60 were acknowledged, with failures %v", len(l.acked), l.failures)
+	}
+}
+
 func TestStreamsOfHalfASecond(t *testing.T) {
 	t.Parallel()
 	x := newBridge(t, newBackend(t, nil, nil), []string{"--signals", "logs", "--max-stream-lifetime", "500ms"}, nil)
