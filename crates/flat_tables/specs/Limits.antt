@@ -3,7 +3,7 @@ use Rattle.std.specs.Prelude.{ℕ}
 
 -- how many bytes an element of a vector takes at most
 abbrev pub max_width : ℕ
-max_width = 16
+max_width = 24
 
 -- how many slots a new table has at most
 abbrev pub max_slots : ℕ

@@ -11,7 +11,7 @@ use byteorder::{ByteOrder, LittleEndian};
 use std::marker::Model;
 
 /// The most bytes that an element of a vector takes.
-pub const MAX_WIDTH: u32 = 16;
+pub const MAX_WIDTH: u32 = 24;
 
 /// A table in bytes, all of whose vtable lies in them. It borrows the bytes, and copies none.
 #[derive(Debug, Drop)]
