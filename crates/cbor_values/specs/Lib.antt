@@ -1,3 +1,4 @@
+pub mod Limits
 pub mod Floats
 pub mod Heads
 pub mod Strings

@@ -4,6 +4,7 @@ ghost use Rattle.std.specs.Prelude.{◌≡◌, ℕ, ◌+◌, ◌*◌, ◌/◌, �
 ghost use Rattle.otlp_model.specs.declared.value.Value.{Value};
 ghost use Rattle.otlp_model.specs.Depth.{depth_of};
 ghost use Rattle.otlp_model.specs.Limits.{depth_limit};
+ghost use Rattle.cbor_values.specs.Limits.{longest_head};
 ghost use Rattle.otlp_model.specs.Real.{is_real_value};
 ghost use Rattle.otlp_model.specs.Weight.{weight_of_value};
 ghost use Rattle.cbor_values.specs.declared.refusal.CborRefusal.{CborRefusal};
@@ -34,10 +35,10 @@ pub fn same_number()
     ensures single_sign { (bits : ℕ) → bits < 2 ^ 32 → of_single bits / 2 ^ 63 ≡ bits / 2 ^ 31 }
 {}
 
-/// What is written for a value stands for it, is read as it, and is at most 9 bytes longer than the value weighs.
+/// What is written for a value stands for it, is read as it, and is longer than the value weighs by a head at most.
 pub fn written_form()
     ensures stands { (v : Value) → IsTrue (is_real_value v) → Cbor (cbor_of v) v }
     ensures again { (v : Value) → IsTrue (is_real_value v) → depth_of v ≤ depth_limit → value_of (cbor_of v) ≡ Some v }
     ensures bytes { (v : Value) → IsTrue (is_real_value v) → All (λ byte. byte < 256) (cbor_of v) }
-    ensures short { (v : Value) → length (cbor_of v) ≤ weight_of_value v + 9 }
+    ensures short { (v : Value) → length (cbor_of v) ≤ weight_of_value v + longest_head }
 {}
