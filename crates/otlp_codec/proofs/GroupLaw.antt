@@ -6,7 +6,7 @@ use Rattle.std.proofs.lemmas.List.Elements.{recursion_from_All}
 use Rattle.lists.proofs.Every.{every_weaker}
 use Rattle.otlp_wire.specs.Wire as wire
 use Rattle.otlp_wire.specs.Wire.{FieldValue}
-use Rattle.otlp_messages.specs.declared.messages.Of.{Of}
+use Rattle.otlp_messages.specs.declared.messages.ItemKind.{ItemKind}
 use Rattle.otlp_messages.specs.declared.messages.Message.{Message}
 use Rattle.otlp_messages.specs.declared.messages.Message.TheVariants as messages
 use Rattle.otlp_codec.specs.Limits.{level_limit}
@@ -78,7 +78,7 @@ resource_url read x a (wire.Varint n) = refl
 resource_url read x a (wire.Fixed64 n) = refl
 resource_url read x a (wire.Fixed32 n) = refl
 
-scope_group_law : {I : Type 0} (Q : I → Type 0) (of : Of) (read : List ℕ → I) (write : I → List ℕ) (weigh : I → ℕ) (x : ScopeGroup I) → IsRealScope x.scope
+scope_group_law : {I : Type 0} (Q : I → Type 0) (of : ItemKind) (read : List ℕ → I) (write : I → List ℕ) (weigh : I → ℕ) (x : ScopeGroup I) → IsRealScope x.scope
     → AllByRecursion (λ i. Law (Q i) (item_of of) level_limit read write i (weigh i) 236) x.items
     → Law (IsProfileScopeGroup Q x) (messages.ScopeGroup of) level_limit (scope_group_in read) (canon_scope_group write) x (weight_of_scope_group weigh x) 236
 scope_group_law Q of read write weigh x real items =
@@ -91,7 +91,7 @@ scope_group_law Q of read write weigh x real items =
     (also (λ a r. record r { scope = record r.scope { schema_url = a } }) (text_held m 3 x.scope.schema_url refl refl real.schema_url) refl (scope_url read x) last)))
     (scope_group_passes read) refl refl (omega arith) (omega arith)
 
-resource_group_law : {I : Type 0} (Q : I → Type 0) (of : Of) (read : List ℕ → I) (write : I → List ℕ) (weigh : I → ℕ) (x : ResourceGroup I) → IsRealResource x.resource
+resource_group_law : {I : Type 0} (Q : I → Type 0) (of : ItemKind) (read : List ℕ → I) (write : I → List ℕ) (weigh : I → ℕ) (x : ResourceGroup I) → IsRealResource x.resource
     → AllByRecursion (λ s. Law (IsProfileScopeGroup Q s) (messages.ScopeGroup of) level_limit (scope_group_in read) (canon_scope_group write) s (weight_of_scope_group weigh s) 236) x.scopes
     → Law (IsProfileResourceGroup Q x) (messages.ResourceGroup of) level_limit (resource_group_in read) (canon_resource_group write) x (weight_of_resource_group weigh x) 236
 resource_group_law Q of read write weigh x real scopes =
@@ -107,7 +107,7 @@ resource_group_law Q of read write weigh x real scopes =
     (resource_group_passes read) refl refl (omega arith) (omega arith)
 
 -- a request, by the law of its items
-pub request_law : {I : Type 0} (Real Q : I → Type 0) (of : Of) (read : List ℕ → I) (write : I → List ℕ) (weigh : I → ℕ)
+pub request_law : {I : Type 0} (Real Q : I → Type 0) (of : ItemKind) (read : List ℕ → I) (write : I → List ℕ) (weigh : I → ℕ)
     → ((i : I) → Real i → Law (Q i) (item_of of) level_limit read write i (weigh i) 236) → (x : List (ResourceGroup I)) → All (IsRealResourceGroup Real) x
     → Law (All (IsProfileResourceGroup Q) x) (messages.Request of) level_limit (groups_in read) (canon_groups write) x (total 32 (weight_of_resource_group weigh) x) 0
 request_law {I = I} Real Q of read write weigh item x real =

@@ -12,7 +12,7 @@ use Rattle.otlp_wire.specs.Wire.{FieldValue, Entry}
 use Rattle.otlp_wire.specs.Fields.{fields_of}
 use Rattle.otlp_messages.specs.declared.messages.Message.{Message}
 use Rattle.otlp_messages.specs.declared.messages.Message.TheVariants as messages
-use Rattle.otlp_messages.specs.declared.messages.Of.{Of}
+use Rattle.otlp_messages.specs.declared.messages.ItemKind.{ItemKind}
 use Rattle.otlp_messages.specs.declared.messages.FieldKind.{FieldKind}
 use Rattle.otlp_messages.specs.declared.messages.FieldKind.TheVariants as kinds
 use Rattle.otlp_codec.specs.Limits.{level_limit}
@@ -221,20 +221,20 @@ span_profile bytes fine = record {
 }
 
 -- groups, whatever their items are
-scope_group_profile : {I : Type 0} (P : I → Type 0) (of : Of) (read : List ℕ → I) → ((part : List ℕ) → IsFine (item_of of) level_limit part → P (read part))
+scope_group_profile : {I : Type 0} (P : I → Type 0) (of : ItemKind) (read : List ℕ → I) → ((part : List ℕ) → IsFine (item_of of) level_limit part → P (read part))
     → (bytes : List ℕ) → IsFine (messages.ScopeGroup of) level_limit bytes → IsProfileScopeGroup P (scope_group_in read bytes)
 scope_group_profile P of read each bytes fine = record {
   scope = scope_profile (said 3 bytes_in [] bytes) (said 1 bytes_in [] bytes);
   items = each_said P (messages.ScopeGroup of) 2 read each bytes fine;
 }
 
-resource_group_profile : {I : Type 0} (P : I → Type 0) (of : Of) (read : List ℕ → I) → ((part : List ℕ) → IsFine (item_of of) level_limit part → P (read part))
+resource_group_profile : {I : Type 0} (P : I → Type 0) (of : ItemKind) (read : List ℕ → I) → ((part : List ℕ) → IsFine (item_of of) level_limit part → P (read part))
     → (bytes : List ℕ) → IsFine (messages.ResourceGroup of) level_limit bytes → IsProfileResourceGroup P (resource_group_in read bytes)
 resource_group_profile P of read each bytes fine = record {
   resource = resource_profile (said 3 bytes_in [] bytes) (said 1 bytes_in [] bytes);
   scopes = each_said (IsProfileScopeGroup P) (messages.ResourceGroup of) 2 (scope_group_in read) (scope_group_profile P of read each) bytes fine;
 }
 
-pub groups_profile : {I : Type 0} (P : I → Type 0) (of : Of) (read : List ℕ → I) → ((part : List ℕ) → IsFine (item_of of) level_limit part → P (read part))
+pub groups_profile : {I : Type 0} (P : I → Type 0) (of : ItemKind) (read : List ℕ → I) → ((part : List ℕ) → IsFine (item_of of) level_limit part → P (read part))
     → (bytes : List ℕ) → IsFine (messages.Request of) level_limit bytes → Each (IsProfileResourceGroup P) (groups_in read bytes)
 groups_profile P of read each bytes fine = each_said (IsProfileResourceGroup P) (messages.Request of) 1 (resource_group_in read) (resource_group_profile P of read each) bytes fine

@@ -2,7 +2,7 @@
 use Rattle.std.proofs.Common.{ℕ, List, [], refl, arith}
 use Rattle.std.specs.Int.{w32}
 use Rattle.std.specs.Prelude.{FitsSigned, IsTrue}
-use Rattle.otlp_messages.specs.declared.messages.Of.{Of}
+use Rattle.otlp_messages.specs.declared.messages.ItemKind.{ItemKind}
 use Rattle.otlp_messages.specs.declared.messages.Message.TheVariants as messages
 use Rattle.otlp_messages.specs.Table.{item_of}
 use Rattle.otlp_messages.specs.Rows.{said, bytes_in}
@@ -106,7 +106,7 @@ span_real bytes h =
     }
 
 -- groups, whatever their items are
-module _ {I : Type 0} (Real : I → Type 0) (of : Of) (read : List ℕ → I) (each : (part : List ℕ) → Sound (item_of of) level_limit part → Real (read part)) where
+module _ {I : Type 0} (Real : I → Type 0) (of : ItemKind) (read : List ℕ → I) (each : (part : List ℕ) → Sound (item_of of) level_limit part → Real (read part)) where
   scope_group_real : (bytes : List ℕ) → Sound (messages.ScopeGroup of) level_limit bytes → IsRealScopeGroup Real (scope_group_in read bytes)
   scope_group_real bytes h = record {
     scope = scope_real (said 3 bytes_in [] bytes) (said 1 bytes_in [] bytes) (text_real (messages.ScopeGroup of) level_limit 3 bytes refl h)

@@ -5,7 +5,7 @@ use Rattle.otlp_messages.specs.declared.messages.Defect.{Defect}
 use Rattle.otlp_messages.specs.declared.messages.Message.{Message}
 use Rattle.otlp_messages.specs.declared.messages.Message.TheVariants as messages
 use Rattle.otlp_messages.specs.Defects.{IsFine}
-use Rattle.otlp_messages.specs.declared.messages.Of.TheVariants.{Spans, LogRecords, Metrics}
+use Rattle.otlp_messages.specs.declared.messages.ItemKind.TheVariants.{Spans, LogRecords, Metrics}
 use Rattle.otlp_model.specs.declared.request.Request.{Request}
 use Rattle.otlp_model.specs.declared.request.Request.TheVariants as requests
 use Rattle.otlp_model.specs.declared.request.Signal.{Signal}

@@ -1,6 +1,6 @@
 -- What is read is real: of requests.
 use Rattle.std.proofs.Common.{ℕ, List}
-use Rattle.otlp_messages.specs.declared.messages.Of.TheVariants.{Spans, LogRecords, Metrics}
+use Rattle.otlp_messages.specs.declared.messages.ItemKind.TheVariants.{Spans, LogRecords, Metrics}
 use Rattle.otlp_model.specs.declared.request.Signal.{Signal}
 use Rattle.otlp_model.specs.declared.request.Signal.TheVariants as signals
 use Rattle.otlp_model.specs.Real.{IsRealLogRecord, IsRealSpan, IsRealMetric, IsReal}

@@ -6,6 +6,10 @@ use Rattle.otlp_model.specs.Limits.{depth_limit, weight_limit}
 abbrev pub level_limit : ℕ
 level_limit = depth_limit - 1
 
+-- the most bytes that a unit of weight is written in
+abbrev pub bytes_for_unit : ℕ
+bytes_for_unit = 8
+
 -- a request that weighs at most weight_limit is written in at most this number of bytes
 abbrev pub longest_request : ℕ
-longest_request = 8 * weight_limit
+longest_request = bytes_for_unit * weight_limit

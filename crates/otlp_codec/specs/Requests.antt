@@ -1,6 +1,6 @@
 -- Requests of a signal: which of them bytes say, and their canonical spelling.
 use Rattle.std.specs.Prelude.{◌≡◌, ℕ, List}
-use Rattle.otlp_messages.specs.declared.messages.Of.TheVariants.{Spans, LogRecords, Metrics}
+use Rattle.otlp_messages.specs.declared.messages.ItemKind.TheVariants.{Spans, LogRecords, Metrics}
 use Rattle.otlp_messages.specs.declared.messages.Message.{Message}
 use Rattle.otlp_messages.specs.declared.messages.Message.TheVariants as messages
 use Rattle.otlp_messages.specs.declared.messages.Defect.{Defect}

@@ -11,7 +11,7 @@ ghost use Rattle.otlp_model.specs.Real.{IsReal};
 ghost use Rattle.otlp_model.specs.Profile.{IsProfile};
 ghost use Rattle.otlp_model.specs.Telemetry.{signal_of};
 ghost use Rattle.otlp_codec.specs.declared.part.TheConstants.{LEVELS};
-ghost use Rattle.otlp_codec.specs.Limits.{level_limit};
+ghost use Rattle.otlp_codec.specs.Limits.{bytes_for_unit, level_limit};
 ghost use Rattle.otlp_codec.specs.Requests.{Stands, Reads, canon_request};
 
 /// The limit of the code is the one that the definitions name.
@@ -43,7 +43,7 @@ pub fn written_is_read()
 
 /// A canonical spelling takes at most eight bytes for each unit of weight.
 pub fn spelling_is_short()
-    ensures { (q : Request) → IsReal q → weight_of q ≤ weight_limit → length (canon_request q) ≤ 8 * weight_of q }
+    ensures { (q : Request) → IsReal q → weight_of q ≤ weight_limit → length (canon_request q) ≤ bytes_for_unit * weight_of q }
 {}
 
 /// Tidying twice changes nothing: what a canonical spelling reads as has that canonical spelling.

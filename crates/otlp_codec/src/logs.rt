@@ -3,7 +3,7 @@
 ghost use Rattle.std.proofs.Common.{refl};
 ghost use Rattle.otlp_model.specs.Real.{IsRealLogRecord};
 ghost use Rattle.otlp_messages.specs.declared.messages.Message.TheVariants as messages;
-ghost use Rattle.otlp_messages.specs.declared.messages.Of.TheVariants as ofs;
+ghost use Rattle.otlp_messages.specs.declared.messages.ItemKind.TheVariants as ofs;
 ghost use Rattle.otlp_codec.specs.Canonical.{canon_log_record};
 ghost use Rattle.otlp_codec.specs.Logs.{log_record_in};
 ghost use Rattle.otlp_codec.specs.Steps.{no_log_record, log_record_step};
@@ -16,7 +16,7 @@ use crate::lengths::{
 use crate::part::{ItemMessage, Submessage, take_pairs, take_value};
 use crate::refusal::ReadRefusal;
 use crate::writing::{Spelled, write_octets, write_one, write_pairs, write_text};
-use otlp_messages::{Backward, Message, Of};
+use otlp_messages::{Backward, ItemKind, Message};
 use otlp_model::{Items, LogRecord, Octets, Text, Value, sum_capped};
 use otlp_wire::Field;
 use std::alloc::{AllocError, Global};
@@ -115,7 +115,7 @@ impl ItemMessage for LogRecord {
 
     ghost is_item = { refl };
 
-    fn of() -> Of {
-        Of::LogRecords
+    fn of() -> ItemKind {
+        ItemKind::LogRecords
     }
 }

@@ -12,7 +12,7 @@ ghost use Rattle.otlp_codec.specs.Metrics.{metric_in};
 ghost use Rattle.otlp_codec.specs.MetricSteps.{no_metric, metric_step};
 ghost use Rattle.otlp_codec.specs.MetricSpelling.{shape_rows, canon_metric};
 ghost use Rattle.otlp_codec.specs.lemmas.MetricsPassed.{metric_passes};
-ghost use Rattle.otlp_messages.specs.declared.messages.Of.TheVariants as ofs;
+ghost use Rattle.otlp_messages.specs.declared.messages.ItemKind.TheVariants as ofs;
 ghost use Rattle.std.proofs.Common.{refl};
 ghost use Rattle.otlp_model.specs.Real.{IsRealMetric, IsRealShape};
 ghost use Rattle.otlp_model.specs.Limits.{count_cap};
@@ -26,7 +26,7 @@ use crate::shapes::{
     take_summary, write_gauge, write_histogram, write_sum, write_summary,
 };
 use crate::writing::{Spelled, write_text};
-use otlp_messages::{Backward, Message, Of};
+use otlp_messages::{Backward, ItemKind, Message};
 use otlp_model::{Metric, Shape, Text, sum_capped};
 use otlp_wire::{Field, Wire};
 use std::alloc::{AllocError, Global};
@@ -76,8 +76,8 @@ impl ItemMessage for Metric {
 
     ghost is_item = { refl };
 
-    fn of() -> Of {
-        Of::Metrics
+    fn of() -> ItemKind {
+        ItemKind::Metrics
     }
 }
 

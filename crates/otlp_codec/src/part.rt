@@ -6,7 +6,7 @@ ghost use Rattle.otlp_wire.specs.Fields.{fields_of};
 ghost use Rattle.otlp_messages.specs.declared.messages.Message.{Message};
 ghost use Rattle.otlp_messages.specs.declared.messages.FieldKind.TheVariants as kinds;
 ghost use Rattle.otlp_messages.specs.declared.messages.Message.TheVariants as messages;
-ghost use Rattle.otlp_messages.specs.declared.messages.Of.{Of};
+ghost use Rattle.otlp_messages.specs.declared.messages.ItemKind.{ItemKind};
 ghost use Rattle.otlp_messages.specs.Table.{kind_of, item_of};
 ghost use Rattle.otlp_messages.specs.Defects.{IsFine};
 ghost use Rattle.otlp_messages.specs.Fine.{FineValue};
@@ -17,7 +17,7 @@ ghost use Rattle.otlp_codec.specs.Groups.{value_in, pair_in};
 
 use crate::refusal::ReadRefusal;
 use crate::values::{empty_pair, fill_pair, fill_value};
-use otlp_messages::{MARKS, Message, Of, row_of};
+use otlp_messages::{ItemKind, MARKS, Message, row_of};
 use otlp_model::{Items, MAX_DEPTH, Pair, Value};
 use otlp_wire::{Field, Fields, Wire};
 use std::alloc::Global;
@@ -60,9 +60,9 @@ pub(crate) trait Submessage {
 /// A message that is a main item of a request.
 pub(crate) trait ItemMessage: Submessage {
     /// Which of the three it is.
-    ghost of: { Of };
+    ghost of: { ItemKind };
 
-    fn of() -> Of
+    fn of() -> ItemKind
         ensures { result ≡ of };
 
     ghost is_item: { Self.Submessage.named ≡ item_of of };

@@ -7,7 +7,7 @@ ghost use Rattle.lists.specs.Bytes.{is_real_text};
 ghost use Rattle.otlp_model.specs.Real.{IsRealEvent, IsRealLink, IsRealSpan};
 ghost use Rattle.otlp_messages.specs.Canon.{canon};
 ghost use Rattle.otlp_messages.specs.declared.messages.Message.TheVariants as messages;
-ghost use Rattle.otlp_messages.specs.declared.messages.Of.TheVariants as ofs;
+ghost use Rattle.otlp_messages.specs.declared.messages.ItemKind.TheVariants as ofs;
 ghost use Rattle.otlp_wire.specs.Wire.{value_of};
 ghost use Rattle.otlp_messages.specs.declared.messages.FieldKind.TheVariants as kinds;
 ghost use Rattle.otlp_messages.specs.Fine.{FineValue};
@@ -27,7 +27,7 @@ use crate::lengths::{
 use crate::part::{ItemMessage, Submessage, read_part, take_more, take_pairs};
 use crate::refusal::ReadRefusal;
 use crate::writing::{Spelled, write_more, write_octets, write_one, write_pairs, write_text};
-use otlp_messages::{Backward, Message, Of};
+use otlp_messages::{Backward, ItemKind, Message};
 use otlp_model::{Event, Items, Link, Octets, Span, Text, add_capped, sum_capped};
 use otlp_wire::{Field, Wire};
 use std::alloc::{AllocError, Global};
@@ -225,8 +225,8 @@ impl ItemMessage for Span {
 
     ghost is_item = { refl };
 
-    fn of() -> Of {
-        Of::Spans
+    fn of() -> ItemKind {
+        ItemKind::Spans
     }
 }
 

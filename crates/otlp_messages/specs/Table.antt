@@ -1,12 +1,13 @@
--- The fields of each message, a line for each, by the protobuf definitions of OTLP 1.x and of OTAP.
+-- The fields of each message, a line for each, by the protobuf definitions of OTLP 1.x and of OTAP; those of SendEvent are ours.
 use Rattle.std.specs.Prelude.{ℕ, List, [], ◌∷◌, ◌==◌, if◌then◌else◌}
-use Rattle.otlp_messages.specs.declared.messages.Of.{Of}
-use Rattle.otlp_messages.specs.declared.messages.Of.TheVariants.{Spans, LogRecords, Metrics}
+use Rattle.otlp_messages.specs.declared.messages.ItemKind.{ItemKind}
+use Rattle.otlp_messages.specs.declared.messages.ItemKind.TheVariants.{Spans, LogRecords, Metrics}
 use Rattle.otlp_messages.specs.declared.messages.Message.{Message}
 use Rattle.otlp_messages.specs.declared.messages.Message.TheVariants.{
   BatchArrowRecords,
   ArrowPayload,
   BatchStatus,
+  SendEvent,
   Request,
   ResourceGroup,
   ScopeGroup,
@@ -53,7 +54,7 @@ abbrev pub choice : ℕ → ℕ → FieldKind → Line
 choice mark number kind = record { number = number; mark = mark; kind = kind }
 
 -- the message of a scope group's items
-abbrev pub item_of : Of → Message
+abbrev pub item_of : ItemKind → Message
 item_of Spans = Span
 item_of LogRecords = LogRecord
 item_of Metrics = Metric
@@ -72,6 +73,10 @@ lines_of BatchStatus =
     once 1 Varint  -- batch_id, int64
     ∷ once 2 Varint  -- status_code, enum
     ∷ once 3 Text  -- status_message
+    ∷ []
+lines_of SendEvent =
+    choice 1 1 Octets  -- request, an export request
+    ∷ choice 1 2 (Embedded BatchStatus)  -- status
     ∷ []
 lines_of (Request of) =
     many 1 (Embedded (ResourceGroup of))  -- resource_spans, resource_logs or resource_metrics

@@ -15,7 +15,7 @@ mod table;
 pub use backward::Backward;
 pub use checking::{check, is_text};
 pub use laws::{fine_or_defect, limits, rows_are_read};
-pub use messages::{Defect, FieldKind, Message, Of, Row};
+pub use messages::{Defect, FieldKind, ItemKind, Message, Row};
 pub use names::defect_name;
 pub use single::{bytes_of, int32_of, int64_of};
 pub use table::{MARKS, row_of};

@@ -4,7 +4,7 @@ use thiserror::Error;
 
 /// What the scope groups of a request hold: its signal.
 #[derive(Clone, Copy, Debug, PartialEq, Eq)]
-pub enum Of {
+pub enum ItemKind {
     Spans,
     LogRecords,
     Metrics,
@@ -16,12 +16,15 @@ pub enum Message {
     BatchArrowRecords,
     ArrowPayload,
     BatchStatus,
+    /// One of a resending exporter's events: a request to send, or the status of a batch. This message is
+    /// ours: neither protocol has it.
+    SendEvent,
     /// `ExportTraceServiceRequest`, `ExportLogsServiceRequest` or `ExportMetricsServiceRequest`.
-    Request(Of),
+    Request(ItemKind),
     /// `ResourceSpans`, `ResourceLogs` or `ResourceMetrics`.
-    ResourceGroup(Of),
+    ResourceGroup(ItemKind),
     /// `ScopeSpans`, `ScopeLogs` or `ScopeMetrics`.
-    ScopeGroup(Of),
+    ScopeGroup(ItemKind),
     Resource,
     InstrumentationScope,
     KeyValue,

@@ -5,7 +5,7 @@ ghost use Rattle.otlp_messages.specs.Limits.{mark_limit};
 ghost use Rattle.otlp_messages.specs.Table as table;
 ghost use Rattle.otlp_messages.specs.Table.{row_in};
 
-use crate::messages::{FieldKind, Message, Of, Row};
+use crate::messages::{FieldKind, ItemKind, Message, Row};
 use crate::metric_table::{
     exemplar, gauge, histogram, histogram_data_point, metric, number_data_point, sum, summary,
     summary_data_point, value_at_quantile,
@@ -24,6 +24,7 @@ pub fn row_of(message: Message, number: u32) -> Row
         Message::BatchArrowRecords => batch_arrow_records(number),
         Message::ArrowPayload => arrow_payload(number),
         Message::BatchStatus => batch_status(number),
+        Message::SendEvent => send_event(number),
         Message::Request(of) => request(of, number),
         Message::ResourceGroup(of) => resource_group(of, number),
         Message::ScopeGroup(of) => scope_group(of, number),
@@ -52,13 +53,13 @@ pub fn row_of(message: Message, number: u32) -> Row
 }
 
 /// The message of a scope group's items.
-fn item_of(of: Of) -> Message
+fn item_of(of: ItemKind) -> Message
     ensures { result ≡ table.item_of of }
 {
     match of {
-        Of::Spans => Message::Span,
-        Of::LogRecords => Message::LogRecord,
-        Of::Metrics => Message::Metric,
+        ItemKind::Spans => Message::Span,
+        ItemKind::LogRecords => Message::LogRecord,
+        ItemKind::Metrics => Message::Metric,
     }
 }
 
@@ -108,7 +109,17 @@ fn batch_status(number: u32) -> Row
     }
 }
 
-fn request(of: Of, number: u32) -> Row
+fn send_event(number: u32) -> Row
+    ensures { result ≡ row_in Message.SendEvent number }
+{
+    match number {
+        1 => once(1, FieldKind::Octets),
+        2 => once(1, FieldKind::Embedded(Message::BatchStatus)),
+        _ => many(FieldKind::Unknown),
+    }
+}
+
+fn request(of: ItemKind, number: u32) -> Row
     ensures { result ≡ row_in (Message.Request of) number }
 {
     match number {
@@ -117,7 +128,7 @@ fn request(of: Of, number: u32) -> Row
     }
 }
 
-fn resource_group(of: Of, number: u32) -> Row
+fn resource_group(of: ItemKind, number: u32) -> Row
     ensures { result ≡ row_in (Message.ResourceGroup of) number }
 {
     match number {
@@ -128,7 +139,7 @@ fn resource_group(of: Of, number: u32) -> Row
     }
 }
 
-fn scope_group(of: Of, number: u32) -> Row
+fn scope_group(of: ItemKind, number: u32) -> Row
     ensures { result ≡ row_in (Message.ScopeGroup of) number }
 {
     match number {
