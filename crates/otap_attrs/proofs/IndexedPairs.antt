@@ -10,7 +10,7 @@ use Rattle.otap_cells.specs.Tables.{Table}
 use Rattle.otap_groups.specs.declared.entry.ChildEntry.{ChildEntry}
 use Rattle.otap_groups.specs.Found.{child_at, of_parent}
 use Rattle.otap_groups.proofs.IndexLaws.{found_below}
-use Rattle.otap_attrs.specs.Index.{IndexIn, IsIndexOf, pairs_in, row_weight}
+use Rattle.otap_attrs.specs.Index.{IndexIn, IsIndexOf, pairs_in, pair_weight_in}
 use Rattle.otap_attrs.specs.Values.{pair_in}
 
 -- the pair of a row
@@ -19,23 +19,23 @@ pair_of rows entry = child_at (λ id cells. pair_in cells) [] (map (drop 1) rows
 
 -- what the pair of a row weighs
 weight_at : (rows : List (List Cell)) (row : ℕ) → row < length rows
-    → min (weight_of_pair (pair_in (get_or (map (drop 1) rows) row []))) (2 ^ 63) ≡ row_weight (get_or rows row [])
+    → min (weight_of_pair (pair_in (get_or (map (drop 1) rows) row []))) (2 ^ 63) ≡ pair_weight_in (get_or rows row [])
 weight_at rows row within = ap (λ (cells : List Cell). min (weight_of_pair (pair_in cells)) (2 ^ 63)) (get_or-map (drop 1) rows row [] [] within)
 
 pub weights_more : (rows : List (List Cell)) (row weight : ℕ) (old new : List ℕ) → row < length rows
     → weight ≡ min (weight_of_pair (pair_in (get_or (map (drop 1) rows) row []))) (2 ^ 63) → new ≡ old ++ weight ∷ []
-    → old ≡ map row_weight (take row rows) → new ≡ map row_weight (take (row + 1) rows)
+    → old ≡ map pair_weight_in (take row rows) → new ≡ map pair_weight_in (take (row + 1) rows)
 weights_more rows row weight old new within is pushed so_far =
-    pushed ∙ (λ i. so_far i ++ (is ∙ weight_at rows row within) i ∷ []) ∙ sym (map_more row_weight rows row [] within)
+    pushed ∙ (λ i. so_far i ++ (is ∙ weight_at rows row within) i ∷ []) ∙ sym (map_more pair_weight_in rows row [] within)
 
 -- weights up to a number, summed up to it
 pub weigh_all : (rows : List (List Cell)) (entries : List ChildEntry) → All (λ (e : ChildEntry). e.place < length rows) entries
-    → min (total 32 (λ (e : ChildEntry). get_or (map row_weight rows) e.place 0) entries) (2 ^ 63) ≡ min (total 32 weight_of_pair (map (pair_of rows) entries)) (2 ^ 63)
+    → min (total 32 (λ (e : ChildEntry). get_or (map pair_weight_in rows) e.place 0) entries) (2 ^ 63) ≡ min (total 32 weight_of_pair (map (pair_of rows) entries)) (2 ^ 63)
 weigh_all rows [] below = refl
 weigh_all rows (entry ∷ entries) below =
     let within : entry.place < length rows = All-head (λ (e : ChildEntry). e.place < length rows) entry entries below in
-    let here : get_or (map row_weight rows) entry.place 0 ≡ min (weight_of_pair (pair_of rows entry)) (2 ^ 63) =
-    get_or-map row_weight rows entry.place [] 0 within ∙ sym (weight_at rows entry.place within) in
+    let here : get_or (map pair_weight_in rows) entry.place 0 ≡ min (weight_of_pair (pair_of rows entry)) (2 ^ 63) =
+    get_or-map pair_weight_in rows entry.place [] 0 within ∙ sym (weight_at rows entry.place within) in
     let more = weigh_all rows entries (All-tail (λ (e : ChildEntry). e.place < length rows) entry entries below) in
     omega (arith, here, more)
 
@@ -72,7 +72,7 @@ module _ (t : Table) (index : IndexIn) (parent : ℕ) (is : IsIndexOf t index) w
   pub below_rows : (entries : List ChildEntry) → entries ≡ of_parent parent index.entries → All (λ (e : ChildEntry). e.place < length index.weights) index.entries
       → All (λ (e : ChildEntry). e.place < length t.rows) entries
   below_rows entries are below =
-      let long : length index.weights ≡ length t.rows = ap length is.weights ∙ length-map t.rows row_weight in
+      let long : length index.weights ≡ length t.rows = ap length is.weights ∙ length-map t.rows pair_weight_in in
       subst (λ (es : List ChildEntry). All (λ (e : ChildEntry). e.place < length t.rows) es) (sym are)
       (found_below (length t.rows) index.entries (Some parent) (subst (λ n. All (λ (e : ChildEntry). e.place < n) index.entries) long below))
 

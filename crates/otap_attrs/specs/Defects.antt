@@ -27,7 +27,7 @@ pub record WrongValue (t : Table) (column : ℕ) (wrong : RowRefusal) : Type 0 w
   pub there : row < length t.rows
   pub is : BadValue (drop column (slice_index_or t.rows row [])) wrong
 
--- WHAT IS WRONG with a table of attributes whose parents are to stand among these ids
+-- WHAT IS WRONG with a table of attributes whose parents are to be among these ids
 abbrev pub PairDefect : Table → List (Option ℕ) → RowRefusal → Type 0
 PairDefect t ids (why.Ids fault) = HasIdFault t 0 (continues_in t) fault
 PairDefect t ids why.Orphan = HasOrphan t ids
@@ -35,7 +35,7 @@ PairDefect t ids why.BadValueType = WrongValue t 2 why.BadValueType
 PairDefect t ids (why.BadCbor refusal) = WrongValue t 2 (why.BadCbor refusal)
 PairDefect t ids _ = ⊥
 
--- a refusal of a table's rows, where these are wrong in some ways; want of memory says nothing of the rows
+-- a refusal of a table's rows, where `Wrong` says what is wrong with them; being out of memory says nothing of the rows
 abbrev pub RefusesRow : (RowRefusal → Type 0) → RowRefusal → Type 0
 RefusesRow Wrong (why.Memory error) = Unit {0}
 RefusesRow Wrong (why.Ids fault) = Wrong (why.Ids fault)

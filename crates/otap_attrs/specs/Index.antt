@@ -26,12 +26,12 @@ pub record IndexIn : Type 0 where
   pub entries : List ChildEntry
   pub weights : List ℕ
 
--- what the pair of a row weighs, or 2^63 where it is more
-abbrev pub row_weight : List Cell → ℕ
-row_weight row = min (weight_of_pair (pair_in (drop 1 row))) count_cap
+-- the tree weight of the pair of a row, or 2^63 where it is more
+abbrev pub pair_weight_in : List Cell → ℕ
+pair_weight_in row = min (weight_of_pair (pair_in (drop 1 row))) count_cap
 
 -- AN INDEX OF A TABLE of attributes: it finds the pairs of each parent
 pub record IsIndexOf (t : Table) (index : IndexIn) : Type 0 where
   pub attributes : has_attributes t.kind ≡ true
   pub finds : (parent : Option ℕ) → found (λ id cells. pair_in cells) [] (map (drop 1) t.rows) index.entries parent ≡ pairs_in t parent
-  pub weights : index.weights ≡ map row_weight t.rows
+  pub weights : index.weights ≡ map pair_weight_in t.rows

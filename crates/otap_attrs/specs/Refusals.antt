@@ -6,7 +6,7 @@ use Rattle.cbor_values.specs.declared.refusal.CborRefusal.TheVariants as cbor
 use Rattle.otap_attrs.specs.declared.refusal.RowRefusal.{RowRefusal}
 use Rattle.otap_attrs.specs.declared.refusal.RowRefusal.TheVariants as row
 
--- want of memory is a refusal of its own
+-- being out of memory is a refusal of its own
 abbrev pub refusal_of_ids : IdsRefusal → RowRefusal
 refusal_of_ids (ids.Memory error) = row.Memory error
 refusal_of_ids (ids.Ids fault) = row.Ids fault

@@ -23,11 +23,12 @@ where_rows t = if nat_lt 0 (length t.rows) then t ∷ [] else []
 abbrev pub beside_kind : Table → Kind × Table
 beside_kind t = (t.kind, t)
 
--- no number is there twice
+-- a number isn't in the list
 abbrev pub missing : ℕ → List ℕ → Bool
 missing n [] = true
 missing n (m ∷ ms) = not (n == m) && missing n ms
 
+-- no number is there twice
 abbrev pub apart : List ℕ → Bool
 apart [] = true
 apart (n ∷ ns) = missing n ns && apart ns

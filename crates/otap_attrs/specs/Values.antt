@@ -43,7 +43,7 @@ value_of_type kind cells =
     else if kind == 5 || kind == 6 then unwrap_or (value_of (nested_in cells)) values.Empty
     else values.Empty
 
--- THE VALUE that the cell of its type says; cells of other types are passed over. Where the cells are wrong it is empty
+-- THE VALUE that the cell of its type says; cells of other types are passed over. Where the type is above 7, or CBOR is refused, it is empty
 unfoldable pub value_in : List Cell → Value
 value_in cells = value_of_type (value_type_in cells) cells
 

@@ -1,9 +1,10 @@
 //! The tables below the main one, added one after the other: each where it has rows.
-ghost use Rattle.std.specs.Prelude.{◌≡◌, ◌≤◌, ◌++◌, ◌^◌, None, true, All, length, map, IfOk, OnOk};
+ghost use Rattle.std.specs.Prelude.{◌≡◌, ◌≤◌, ◌++◌, None, true, All, length, map, IfOk, OnErr, OnOk};
 ghost use Rattle.otlp_model.specs.Limits.{weight_limit, part_weight};
 ghost use Rattle.otlp_model.specs.Weight.{total, weight_of_pair};
 ghost use Rattle.otap_cells.specs.Columns.{coding_at};
 ghost use Rattle.otap_cells.specs.Continuing.{again_of, has_attributes};
+ghost use Rattle.otap_cells.specs.Limits.{wide_ids};
 ghost use Rattle.otap_cells.specs.Tables.{profile_table};
 ghost use Rattle.otap_cells.specs.declared.payload.Kind.TheVariants as table;
 ghost use Rattle.otap_groups.specs.Flat.{resources_of, scopes_of};
@@ -23,10 +24,11 @@ pub fn add_resources<I>(
     tables: &mut Vec<(Kind, LogicalTable)>,
     groups: &[ResourceGroup<I>],
 ) -> Result<(), AllocError>
-    requires few { length (resources_of groups.now) ≤ 2 ^ 32 }
+    requires few { length (resources_of groups.now) ≤ wide_ids }
     requires weight { All (λ resource. total part_weight weight_of_pair resource.pairs ≤ weight_limit) (resources_of groups.now) }
-    ensures { OnOk result (tables.new.items
+    ensures ok { OnOk result (tables.new.items
         ≡ tables.old.items ++ map beside_kind (where_rows (attribute_table table.ResourceAttrs (map (λ resource. resource.pairs) (resources_of groups.now))))) }
+    ensures err { OnErr result (tables.new.items ≡ tables.old.items) }
 {
     let resources = resources_of(alloc, groups)?;
     let attributes = write_attributes(alloc, Kind::ResourceAttrs, &resources)?;
@@ -40,10 +42,11 @@ pub fn add_scopes<I>(
     tables: &mut Vec<(Kind, LogicalTable)>,
     groups: &[ResourceGroup<I>],
 ) -> Result<(), AllocError>
-    requires few { length (scopes_of groups.now) ≤ 2 ^ 32 }
+    requires few { length (scopes_of groups.now) ≤ wide_ids }
     requires weight { All (λ scope. total part_weight weight_of_pair scope.pairs ≤ weight_limit) (scopes_of groups.now) }
-    ensures { OnOk result (tables.new.items
+    ensures ok { OnOk result (tables.new.items
         ≡ tables.old.items ++ map beside_kind (where_rows (attribute_table table.ScopeAttrs (map (λ scope. scope.pairs) (scopes_of groups.now))))) }
+    ensures err { OnErr result (tables.new.items ≡ tables.old.items) }
 {
     let scopes = scopes_of(alloc, groups)?;
     let attributes = write_attributes(alloc, Kind::ScopeAttrs, &scopes)?;
@@ -59,10 +62,11 @@ pub fn add_attributes<P: Attributed>(
     parts: &[Placed<'_, P>],
 ) -> Result<(), AllocError>
     requires kind { has_attributes kind ≡ true }
-    requires few { length parts.now ≤ 2 ^ 32 }
+    requires few { length parts.now ≤ wide_ids }
     requires weight { All (λ placed. total part_weight weight_of_pair (P.pairs placed.part.now) ≤ weight_limit) parts.now }
-    ensures { OnOk result (tables.new.items
+    ensures ok { OnOk result (tables.new.items
         ≡ tables.old.items ++ map beside_kind (where_rows (attribute_table kind (map (λ placed. P.pairs placed.part.now) parts.now)))) }
+    ensures err { OnErr result (tables.new.items ≡ tables.old.items) }
 {
     let parents = parts_alone(alloc, parts)?;
     let attributes = write_attributes(alloc, kind, &parents)?;
@@ -90,8 +94,9 @@ pub fn add_parts<W: PartWriter>(
 ) -> Result<(), AllocError>
     requires rising { RisingParts 0 (map seen_placed parts.now) }
     requires parts { All (λ placed. W.CanWrite placed.part.now) parts.now }
-    ensures { OnOk result (tables.new.items ≡ tables.old.items
+    ensures ok { OnOk result (tables.new.items ≡ tables.old.items
         ++ map beside_kind (where_rows (profile_table W.kind (stored_parts (coding_at W.kind 1) (again_of W.kind) W.cells_of 0 0 None (map seen_placed parts.now))))) }
+    ensures err { OnErr result (tables.new.items ≡ tables.old.items) }
 {
     let table = write_parts(alloc, writer, parts)?;
     push_filled(tables, table)?;

@@ -9,7 +9,7 @@ ghost use Rattle.otap_groups.specs.declared.entry.ChildEntry.{ChildEntry};
 ghost use Rattle.otap_groups.specs.Found.{of_parent};
 ghost use Rattle.otap_attrs.specs.declared.refusal.RowRefusal.{RowRefusal};
 ghost use Rattle.otap_attrs.specs.Defects.{PairDefect, RefusesRow, WrongValue};
-ghost use Rattle.otap_attrs.specs.Index.{IsIndexOf, pairs_in, row_weight};
+ghost use Rattle.otap_attrs.specs.Index.{IsIndexOf, pairs_in, pair_weight_in};
 
 use crate::orphans::has_orphan;
 use crate::reading::Pairs;
@@ -130,7 +130,7 @@ fn check_values<R: Rows>(rows: &R) -> Result<(), RowRefusal>
 /// Of each row what its pair weighs.
 fn weights_of<R: Rows>(alloc: Global, rows: &R) -> Result<Vec<u64>, AllocError>
     requires { has_attributes (R.table rows.now).kind ≡ true }
-    ensures { IfOk result (λ weights. weights.items ≡ map row_weight (R.table rows.now).rows) }
+    ensures { IfOk result (λ weights. weights.items ≡ map pair_weight_in (R.table rows.now).rows) }
 {
     let pairs = Pairs { rows };
     let count = rows.rows();

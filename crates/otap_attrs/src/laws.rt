@@ -1,5 +1,5 @@
 //! What the definitions mean, as functions that do nothing: each ensures a law for all rows.
-ghost use Rattle.std.specs.Prelude.{◌≡◌, ◌≤◌, ◌^◌, List, true, length, sum_by, IsPermutation, IsTrue};
+ghost use Rattle.std.specs.Prelude.{◌≡◌, ◌≤◌, List, true, length, sum_by, IsPermutation, IsTrue};
 ghost use Rattle.otlp_model.specs.Depth.{depth_of};
 ghost use Rattle.otlp_model.specs.Limits.{depth_limit};
 ghost use Rattle.otlp_model.specs.Real.{is_real_value};
@@ -7,6 +7,7 @@ ghost use Rattle.otlp_model.specs.declared.value.Pair.{Pair};
 ghost use Rattle.otlp_model.specs.declared.value.Value.{Value};
 ghost use Rattle.otap_cells.specs.declared.payload.Kind.{Kind};
 ghost use Rattle.otap_cells.specs.Continuing.{has_attributes};
+ghost use Rattle.otap_cells.specs.Limits.{wide_ids};
 ghost use Rattle.otap_cells.specs.Weights.{weight_of_table};
 ghost use Rattle.otap_groups.specs.Children.{unnumbered};
 ghost use Rattle.otap_groups.specs.Flat.{part_rows, placed};
@@ -26,7 +27,7 @@ pub fn written_values_come_back()
 /// Law: the table that is written for the pairs of parents has a row for each pair, though in another order, and its parents
 /// are theirs.
 pub fn attribute_tables_have_their_rows()
-    ensures { (kind : Kind) (lists : List (List Pair)) → has_attributes kind ≡ true → length lists ≤ 2 ^ 32
+    ensures { (kind : Kind) (lists : List (List Pair)) → has_attributes kind ≡ true → length lists ≤ wide_ids
         → (rows : List ChildRow) × IsPairRows (attribute_table kind lists) rows × IsPermutation (part_rows unnumbered pair_cells 0 (placed lists)) rows }
 {}
 

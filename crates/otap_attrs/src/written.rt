@@ -1,9 +1,10 @@
 //! The tables of attributes of a request, and what their rows weigh.
-ghost use Rattle.std.specs.Prelude.{◌≡◌, ◌≤◌, ◌++◌, ◌^◌, List, true, All, length, map, min, IfOk, OnErr, OnOk};
+ghost use Rattle.std.specs.Prelude.{◌≡◌, ◌≤◌, ◌++◌, List, true, All, length, map, min, IfOk, OnErr, OnOk};
 ghost use Rattle.otlp_model.specs.declared.value.Pair.{Pair};
 ghost use Rattle.otlp_model.specs.Limits.{weight_limit, count_cap, part_weight};
 ghost use Rattle.otlp_model.specs.Weight.{total, weight_of_pair, weight_of_value};
 ghost use Rattle.otap_cells.specs.Continuing.{has_attributes};
+ghost use Rattle.otap_cells.specs.Limits.{wide_ids};
 ghost use Rattle.otap_groups.specs.Weighing.{cells_weight, parts_weight};
 ghost use Rattle.otap_groups.specs.Flat.{placed};
 ghost use Rattle.otap_attrs.specs.Inside.{HasNested, seen_placed};
@@ -117,7 +118,7 @@ pub fn write_attributes<P: Attributed>(
     parents: &[&P],
 ) -> Result<LogicalTable, AllocError>
     requires kind { has_attributes kind ≡ true }
-    requires few { length parents.now ≤ 2 ^ 32 }
+    requires few { length parents.now ≤ wide_ids }
     requires weight { All (λ parent. total part_weight weight_of_pair (P.pairs parent.now) ≤ weight_limit) parents.now }
     ensures { IfOk result (λ table. table ≡ attribute_table kind (map (λ parent. P.pairs parent.now) parents.now)) }
 {
@@ -131,7 +132,7 @@ fn placed_of<'a, P: Attributed>(
     alloc: Global,
     parents: &[&'a P],
 ) -> Result<Vec<PlacedPair<'a>>, AllocError>
-    requires few { length parents.now ≤ 2 ^ 32 }
+    requires few { length parents.now ≤ wide_ids }
     requires weight { All (λ parent. total part_weight weight_of_pair (P.pairs parent.now) ≤ weight_limit) parents.now }
     ensures are { IfOk result (λ found. map seen_placed found.items ≡ placed (map (λ parent. P.pairs parent.now) parents.now)) }
     ensures nested { IfOk result (λ found. All HasNested found.items) }

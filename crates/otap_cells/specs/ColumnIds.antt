@@ -23,7 +23,7 @@ stored_in t column = map id_in (column_in t.rows column)
 abbrev pub IdsOf : Table → ℕ → List Bool → List (Option ℕ) → Type 0
 IdsOf t column rows ids = Ids (coding_in t column) (greatest_in t column) rows (stored_in t column) ids
 
--- a row has no parent
+-- a cell of `parent_id` is null
 pub record HasNullParent (t : Table) (column : ℕ) : Type 0 where
   pub named : name_at t.kind column ≡ codes "parent_id"
   pub null : Contains (stored_in t column) None
@@ -34,7 +34,7 @@ HasIdFault t column rows NullParent = HasNullParent t column
 HasIdFault t column rows PastType = (HasNullParent t column → ⊥) × ((ids : List (Option ℕ)) → IdsOf t column rows ids → ⊥)
 HasIdFault t column rows Duplicate = ⊥
 
--- want of memory says nothing of the column
+-- being out of memory says nothing of the column
 abbrev pub RefusesIds : Table → ℕ → List Bool → IdsRefusal → Type 0
 RefusesIds t column rows (refusal.Ids fault) = HasIdFault t column rows fault
 RefusesIds t column rows (refusal.Memory error) = Unit {0}

@@ -9,6 +9,17 @@ column_limit = 25
 abbrev pub row_unit : ℕ
 row_unit = 32
 
+-- the greatest number of 32 bits, and of 16
+abbrev pub greatest_wide : ℕ
+greatest_wide = 4294967295
+
+abbrev pub greatest_narrow : ℕ
+greatest_narrow = 65535
+
+-- how many ids of 32 bits there are
+abbrev pub wide_ids : ℕ
+wide_ids = 2 ^ 32
+
 -- how much the tables of a batch may weigh
 abbrev pub row_weight_limit : ℕ
 row_weight_limit = 2 ^ 26

@@ -6,6 +6,7 @@ use Rattle.otap_cells.specs.declared.profile.Coding.{Coding}
 use Rattle.otap_cells.specs.declared.profile.Coding.TheVariants as coding
 use Rattle.otap_cells.specs.Columns.{ColumnSpec, width_of, column_at, base_at, coding_at, is_id_at, allows}
 use Rattle.otap_cells.specs.Cells.{Cell, null, nat_in, IsCellOf}
+pub use Rattle.otap_cells.specs.Limits.{greatest_wide, greatest_narrow}
 
 -- the rows of a table, each a list of cells, and the kind that names their columns; and for each column how its ids are
 -- stored, and the greatest number that it may hold
@@ -22,13 +23,6 @@ coding_in t column = slice_index_or t.codings column coding.Plain
 -- the greatest number that a column of ids may hold, stored or not
 abbrev pub greatest_in : Table → ℕ → ℕ
 greatest_in t column = slice_index_or t.greatest column 0
-
--- the greatest number of 32 bits, and of 16
-abbrev pub greatest_wide : ℕ
-greatest_wide = 4294967295
-
-abbrev pub greatest_narrow : ℕ
-greatest_narrow = 65535
 
 -- the cell of a row in a column, null where there is none
 abbrev pub cell_in : List (List Cell) → ℕ → ℕ → Cell

@@ -6,7 +6,7 @@ use Rattle.otap_cells.specs.Cells.{bytes_in}
 use Rattle.otap_cells.specs.Named.{table_named}
 use Rattle.otap_cells.specs.Tables.{Table, cell_in}
 
--- NOTHING IS WRONG with the table of any kind, or something is with one
+-- it is decided whether NOTHING IS WRONG with the table of any kind, or something is with one
 abbrev pub CleanOrWrong : (Kind → RowRefusal → Type 0) → Type 0
 CleanOrWrong Wrong = ((kind : Kind) (why : RowRefusal) → Wrong kind why → ⊥) ⊎ ((kind : Kind) × (why : RowRefusal) × Wrong kind why)
 
@@ -14,6 +14,6 @@ CleanOrWrong Wrong = ((kind : Kind) (why : RowRefusal) → Wrong kind why → �
 abbrev pub HasByteCells : Table → Type 0
 HasByteCells t = (column row : ℕ) → All (λ byte. byte < 256) (bytes_in (cell_in t.rows column row))
 
--- so does the table of each kind
+-- the same of the table of each kind
 abbrev pub HaveByteCells : List Table → Type 0
 HaveByteCells tables = (kind : Kind) → HasByteCells (table_named kind tables)

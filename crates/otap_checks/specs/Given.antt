@@ -5,7 +5,7 @@ use Rattle.otap_cells.specs.ColumnIds.{HasNullParent}
 use Rattle.otap_cells.specs.GivenIds.{HasIds}
 use Rattle.otap_cells.specs.Tables.{Table}
 
--- the ids of a column are given
+-- the ids of a column are given, and no parent is null
 pub record IsGiven (t : Table) (column : ℕ) : Type 0 where
   pub ids : List (Option ℕ)
   pub are : HasIds t column ids

@@ -16,7 +16,7 @@ use Rattle.otap_checks.specs.declared.links.Parents.{Parents}
 use Rattle.otap_checks.specs.Links.{links_of}
 use Rattle.otap_attrs.specs.Defects.{OrphanIn}
 
--- an id would be above the greatest number of its column; in runs a null parent is another defect, and leaves no ids
+-- the stored numbers of a column give no ids, and not because of a null parent in a run, which is another defect
 pub record PastType (t : Table) (column : ℕ) : Type 0 where
   pub summed : takes_null (coding_in t column) ≡ false → HasNullParent t column → ⊥
   pub none : (ids : List (Option ℕ)) → HasIds t column ids → ⊥
@@ -27,7 +27,7 @@ pub record Duplicate (t : Table) (column : ℕ) : Type 0 where
   pub are : HasIds t column ids
   pub twice : Twice ids
 
--- no row of the other table has the id of a parent
+-- a row's parent is the id of no row of the other table
 pub record Orphan (t : Table) (column : ℕ) (other : Table) (at : ℕ) : Type 0 where
   pub parents : List (Option ℕ)
   pub ids : List (Option ℕ)

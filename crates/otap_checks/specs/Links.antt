@@ -6,7 +6,8 @@ use Rattle.otap_cells.specs.declared.payload.Kind.{Kind}
 use Rattle.otap_cells.specs.declared.payload.Kind.TheVariants as table
 use Rattle.otap_checks.specs.declared.links.TableLink.{TableLink}
 
--- items have ids; parts have ids and parents; attributes have parents. The ids of the parents stand in a column of a table
+-- items have ids; parts have ids and parents; attributes have parents. `at` is the column of
+-- the parents' table that holds the parents' ids
 abbrev pub items : Kind → TableLink
 items kind = record { kind = kind; own = Some 0; parents = None }
 

@@ -19,7 +19,7 @@ pub record HasTwoValues (t : Table) (column : ℕ) : Type 0 where
   pub int : IsThere (cell_in t.rows column row)
   pub double : IsThere (cell_in t.rows (column + 1) row)
 
--- a row has lists of other lengths in two columns
+-- a row has lists of different lengths in two columns
 pub record HasUnevenLists (t : Table) (first second : ℕ) : Type 0 where
   pub row : ℕ
   pub there : row < length t.rows

@@ -6,7 +6,7 @@ use Rattle.otap_cells.specs.Tables.{Table}
 use Rattle.otap_groups.specs.Rows.{MainRow, ChildRow, main_rows, child_rows}
 use Rattle.otap_groups.specs.Disagree.{DifferBy}
 
--- the numbers of each column of ids stand for some
+-- each column of ids has ids
 abbrev pub HasAllIds : Table → Type 0
 HasAllIds t = (column : ℕ) → is_id_at t.kind column ≡ true → (ids : List (Option ℕ)) × HasIds t column ids
 
@@ -17,16 +17,18 @@ main_rows_in t = main_rows (ids_in t 0) (ids_in t 1) (ids_in t 4) t.rows
 abbrev pub part_rows_in : Table → List ChildRow
 part_rows_in t = child_rows (ids_in t 0) (ids_in t 1) (map (drop 2) t.rows)
 
--- rows of one resource id differ in another cell of `resource`, or rows of one scope id in another cell of `scope`
+-- rows of one resource id differ in another cell of `resource`
 pub record ResourcesDiffer (t : Table) : Type 0 where
   pub ids : List (Option ℕ)
   pub are : HasIds t 1 ids
   pub differ : DifferBy (λ row. row.resource_id) (λ row. row.resource) (main_rows [] ids [] t.rows)
 
+-- rows of one scope id differ in another cell of `scope`
 pub record ScopesDiffer (t : Table) : Type 0 where
   pub ids : List (Option ℕ)
   pub are : HasIds t 4 ids
   pub differ : DifferBy (λ row. row.scope_id) (λ row. row.scope) (main_rows [] [] ids t.rows)
 
+-- rows of one resource id, or of one scope id, differ
 abbrev pub Disagrees : Table → Type 0
 Disagrees t = ResourcesDiffer t ⊎ ScopesDiffer t

@@ -1,4 +1,4 @@
--- What a refusal to take rows says: something that is wrong. Want of memory says nothing of the rows.
+-- What a refusal to take rows says: something that is wrong. Being out of memory says nothing of the rows.
 use Rattle.otap_attrs.specs.declared.refusal.RowRefusal.{RowRefusal}
 use Rattle.otap_attrs.specs.declared.refusal.CheckRefusal.{CheckRefusal}
 use Rattle.otap_attrs.specs.declared.refusal.CheckRefusal.TheVariants as check

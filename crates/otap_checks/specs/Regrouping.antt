@@ -29,7 +29,7 @@ pub record IsTooHeavy (Wrong : Kind → RowRefusal → Type 0) (weight : ℕ) : 
   pub clean : (kind : Kind) (why : RowRefusal) → Wrong kind why → ⊥
   pub heavy : weight_limit < weight
 
--- WHY TABLES MAKE NO REQUEST, where their rows are wrong in some ways and their request has a weight
+-- WHY TABLES MAKE NO REQUEST, where `Wrong` says what is wrong with their rows, and their request has this weight
 abbrev pub RefusesRegroup : (Kind → RowRefusal → Type 0) → ℕ → RegroupRefusal → Type 0
 RefusesRegroup Wrong weight (regroup.Rows refusal) = RefusesCheck Wrong refusal
 RefusesRegroup Wrong weight regroup.TooHeavy = IsTooHeavy Wrong weight

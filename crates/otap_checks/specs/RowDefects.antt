@@ -27,7 +27,7 @@ Breaks tables (asks.OfShape sort) t why.BadKind = WrongParent (fits_of sort) t (
 Breaks tables (asks.Values column) t wrong = WrongValue t column wrong
 Breaks tables _ t wrong = ⊥
 
--- WHAT IS WRONG WITH THE CELLS of the table of a kind among the tables of a signal
+-- WHAT BREAKS A RULE for the table of a kind among the tables of a signal
 pub record CellDefect (of : Signal) (tables : List Table) (kind : Kind) (wrong : RowRefusal) : Type 0 where
   pub rule : CellRule
   pub listed : Contains (rules_of of) rule

@@ -1,4 +1,4 @@
--- What the cells of the tables of a signal must satisfy, rule by rule.
+-- What the tables of a signal must satisfy beside their ids, rule by rule.
 use Rattle.std.specs.Prelude.{List, [], ◌∷◌}
 use Rattle.otlp_model.specs.declared.request.Signal.{Signal}
 use Rattle.otlp_model.specs.declared.request.Signal.TheVariants as signal
@@ -16,7 +16,7 @@ rule kind asked = record { kind = kind; asks = asked }
 abbrev pub pairs : Kind → CellRule
 pairs kind = rule kind (asks.Values 2)
 
--- THE RULES for the tables of a signal, in the order in which they are checked
+-- THE RULES for the tables of a signal
 unfoldable pub rules_of : Signal → List CellRule
 rules_of signal.Logs = rule table.Logs (asks.Values 15) ∷ pairs table.ResourceAttrs ∷ pairs table.ScopeAttrs ∷ pairs table.LogAttrs
     ∷ rule table.Logs asks.Agree ∷ []

@@ -31,7 +31,7 @@ fits_of sort.Numbers = has_numbers
 fits_of sort.Histograms = has_hist_points
 fits_of sort.Summaries = has_summary_points
 
--- a metric's shape has no such number
+-- a metric's type is none of these
 pub record WrongType (t : Table) : Type 0 where
   pub row : ℕ
   pub there : row < length t.rows

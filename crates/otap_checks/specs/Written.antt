@@ -1,5 +1,5 @@
 -- What is written below the items of a request, table by table.
-use Rattle.std.specs.Prelude.{◌≡◌, ℕ, ◌≤◌, ◌^◌, ◌⊎◌, true, List, [], ◌∷◌, length, map, ◌==◌, if◌then◌else◌, codes, Contains}
+use Rattle.std.specs.Prelude.{◌≡◌, ℕ, ◌≤◌, ◌⊎◌, true, List, [], ◌∷◌, length, map, ◌==◌, if◌then◌else◌, codes, Contains}
 use Rattle.std.specs.List.{flat_map}
 use Rattle.otlp_model.specs.declared.groups.ResourceGroup.{ResourceGroup}
 use Rattle.otlp_model.specs.declared.value.Pair.{Pair}
@@ -7,6 +7,7 @@ use Rattle.otap_cells.specs.declared.payload.Kind.{Kind}
 use Rattle.otap_cells.specs.Cells.{Cell}
 use Rattle.otap_cells.specs.Columns.{is_id_at, name_at}
 use Rattle.otap_cells.specs.Continuing.{has_attributes}
+use Rattle.otap_cells.specs.Limits.{wide_ids}
 use Rattle.otap_cells.specs.Payload.{number_of}
 use Rattle.otap_cells.specs.Tables.{Table}
 use Rattle.otap_groups.specs.Flat.{items_of, resources_of, scopes_of}
@@ -88,7 +89,7 @@ pub record IsBelowMain {I : Type 0} (main : Kind) (groups : List (ResourceGroup 
 abbrev pub HasParentsIn : {I : Type 0} → Kind → List (ResourceGroup I) → List Written → Written → Type 0
 HasParentsIn main groups ws w = IsBelowMain main groups w ⊎ IsBelowParts ws w
 
--- what its kind is
+-- the table of this kind is one of parts
 pub record IsPartKind (kind : Kind) : Type 0 where
   pub part : IsPart kind
   pub ids : (column : ℕ) → is_id_at kind column ≡ true → (column ≡ 0) ⊎ (column ≡ 1)
@@ -102,13 +103,13 @@ pub record IsMainKind (kind : Kind) : Type 0 where
   pub scope : name_at kind 4 ≡ codes "parent_id" → ⊥
 
 abbrev pub IsSoundBy : Kind → Content → Type 0
-IsSoundBy kind (Parts lists) = IsPartKind kind × (length lists ≤ 2 ^ 32) × (length (flat_map (λ rows. rows) lists) ≤ 2 ^ 32)
-IsSoundBy kind (Pairs lists) = (has_attributes kind ≡ true) × (length lists ≤ 2 ^ 32)
+IsSoundBy kind (Parts lists) = IsPartKind kind × (length lists ≤ wide_ids) × (length (flat_map (λ rows. rows) lists) ≤ wide_ids)
+IsSoundBy kind (Pairs lists) = (has_attributes kind ≡ true) × (length lists ≤ wide_ids)
 
 abbrev pub IsSound : Written → Type 0
 IsSound w = IsSoundBy w.kind w.content
 
--- each is so, and has its parents among all
+-- the same of each
 abbrev pub AreSound : List Written → Type 0
 AreSound [] = Unit {0}
 AreSound (w ∷ ws) = IsSound w × AreSound ws

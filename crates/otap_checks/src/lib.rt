@@ -4,7 +4,6 @@
 mod cells;
 mod checking;
 mod fronts;
-mod indexing;
 mod known;
 pub mod laws;
 mod links;
@@ -19,7 +18,6 @@ pub mod written_laws;
 pub use cells::{check_cells, checked_ids};
 pub use checking::{known_ids, refused};
 pub use fronts::{disagrees, front_of};
-pub use indexing::index_rows;
 pub use known::{ColumnIds, KnownIds};
 pub use links::{Parents, TableLink, links_of};
 pub use measured::{has_two_values, has_uneven_lists};

@@ -1,8 +1,9 @@
 //! What holds of the tables that a signal writes, as functions that do nothing: each ensures a law for all items.
-ghost use Rattle.std.specs.Prelude.{◌≡◌, ◌≤◌, ◌+◌, ◌^◌, ◌∷◌, All, Contains, List, filter, length, map, nat_lt, sum_by};
+ghost use Rattle.std.specs.Prelude.{◌≡◌, ◌≤◌, ◌+◌, ◌∷◌, All, Contains, List, filter, length, map, nat_lt, sum_by};
 ghost use Rattle.otlp_model.specs.declared.groups.ResourceGroup.{ResourceGroup};
 ghost use Rattle.otlp_model.specs.declared.request.Signal.{Signal};
 ghost use Rattle.otap_cells.specs.Cells.{Cell};
+ghost use Rattle.otap_cells.specs.Limits.{wide_ids};
 ghost use Rattle.otap_cells.specs.Named.{table_named};
 ghost use Rattle.otap_cells.specs.Payload.{kinds_of};
 ghost use Rattle.otap_cells.specs.Weights.{weight_of_table, weight_of_tables};
@@ -40,7 +41,7 @@ pub fn written_tables_add_up<I>()
 /// Law: nothing is wrong with the ids of the tables that are written, where they hang together as a signal's do.
 pub fn written_ids_are_fine<I>()
     ensures { (main : Kind) (cells_of : I → List Cell) (ws : List Written) (groups : List (ResourceGroup I)) → AreApart main ws
-        → IsMainKind main → length (items_of groups) ≤ 2 ^ 32 → AreSound ws → HaveParentsIn main groups ws ws
+        → IsMainKind main → length (items_of groups) ≤ wide_ids → AreSound ws → HaveParentsIn main groups ws ws
         → (of : Signal) → links_of of ≡ items main ∷ map link_of ws
         → (kind : Kind) (wrong : RowRefusal) → IdDefect of (tables_written main cells_of ws groups) kind wrong → ⊥ }
 {}

@@ -1,4 +1,5 @@
--- The request that rows make: an item for each main row, in groups of rows whose cells of `resource` and of `scope` are equal.
+-- The request that rows make: an item for each main row, in groups that are longest runs of rows whose cells of
+-- `resource`, and of `scope` and `schema_url`, are equal.
 use Rattle.std.specs.Prelude.{ℕ, List, [], ◌∷◌, Option, map}
 use Rattle.otlp_model.specs.declared.value.Pair.{Pair}
 use Rattle.otlp_model.specs.declared.groups.Resource.{Resource}

@@ -81,7 +81,7 @@ id_is _ _ = false
 abbrev pub same_resource : MainRow → MainRow → Bool
 same_resource a b = id_is a.resource_id b.resource_id && cells_are a.resource b.resource
 
--- all cells of `scope`, and the cell beside it
+-- all cells of `scope`, and that of `schema_url`, are equal
 abbrev pub same_scope : MainRow → MainRow → Bool
 same_scope a b = id_is a.scope_id b.scope_id && (cells_are a.scope b.scope && cell_is a.schema_url b.schema_url)
 

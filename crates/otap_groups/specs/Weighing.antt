@@ -12,7 +12,7 @@ use Rattle.otap_cells.specs.Cells.{Cell}
 use Rattle.otap_cells.specs.Limits.{row_unit}
 use Rattle.otap_cells.specs.Weights.{cell_weight}
 
--- ---- groups, by the weights of pairs of resources, of pairs of scopes, and of items
+-- ---- the tree weight of groups, by the weights of pairs of resources, of pairs of scopes, and of items
 
 abbrev pub weigh_resource : (Pair → ℕ) → Resource → ℕ
 weigh_resource of_pair resource = length resource.schema_url + total part_weight of_pair resource.pairs
@@ -27,13 +27,13 @@ abbrev pub weigh_resource_group : {I : Type 0} → (Pair → ℕ) → (Pair → 
 weigh_resource_group of_resource of_scope of_item group =
     weigh_resource of_resource group.resource + total part_weight (weigh_scope_group of_scope of_item) group.scopes
 
--- ---- the rows of a request, without making them
+-- ---- the row weight of a request, without making its rows
 
 -- the bytes of an item's row that come from its resource and its scope, and the row itself
 abbrev pub front_weight : Resource → Scope → ℕ
 front_weight resource scope = row_unit + length resource.schema_url + length scope.name + length scope.version + length scope.schema_url
 
--- the rows of a scope group and of a resource group, where each resource, scope and item has further rows or cells of this weight
+-- the row weight of a scope group and of a resource group, where each resource, scope and item has further rows or cells of this weight
 abbrev pub rows_of_scope : {I : Type 0} → (Scope → ℕ) → (I → ℕ) → Resource → ScopeGroup I → ℕ
 rows_of_scope of_scope of_item resource group =
     of_scope group.scope + sum_by (λ item. front_weight resource group.scope + of_item item) group.items
@@ -42,7 +42,7 @@ abbrev pub rows_of_resource : {I : Type 0} → (Resource → ℕ) → (Scope →
 rows_of_resource of_resource of_scope of_item group =
     of_resource group.resource + sum_by (rows_of_scope of_scope of_item group.resource) group.scopes
 
--- THE ROWS of a request: groups without items have none
+-- THE ROW WEIGHT of a request: groups without items have no rows
 unfoldable pub rows_of_groups : {I : Type 0} → (Resource → ℕ) → (Scope → ℕ) → (I → ℕ) → List (ResourceGroup I) → ℕ
 rows_of_groups of_resource of_scope of_item groups = sum_by (rows_of_resource of_resource of_scope of_item) (groups_with_items groups)
 
@@ -50,7 +50,7 @@ rows_of_groups of_resource of_scope of_item groups = sum_by (rows_of_resource of
 abbrev pub cells_weight : List Cell → ℕ
 cells_weight cells = sum_by cell_weight cells
 
--- the rows of parts, beside the numbers in front
+-- the row weight of parts, which their ids add nothing to
 abbrev pub parts_weight : {C : Type 0} → (C → List Cell) → List C → ℕ
 parts_weight cells_of parts = sum_by (λ part. row_unit + cells_weight (cells_of part)) parts
 

@@ -1,5 +1,5 @@
 //! What the definitions mean, as functions that do nothing: each ensures a law for all rows.
-ghost use Rattle.std.specs.Prelude.{◌≡◌, ◌+◌, ◌≤◌, ◌^◌, ℕ, true, List, Option, length, map, sum_by, IsPermutation};
+ghost use Rattle.std.specs.Prelude.{◌≡◌, ◌+◌, ◌≤◌, ℕ, true, List, Option, length, map, sum_by, IsPermutation};
 ghost use Rattle.std.specs.List.{flat_map};
 ghost use Rattle.otlp_model.specs.Same.{SameItem, SameOften, SameTelemetry};
 ghost use Rattle.otlp_model.specs.Telemetry.{Item, item_entries, groups_with_items, told_as};
@@ -10,6 +10,7 @@ ghost use Rattle.otlp_model.specs.declared.groups.ResourceGroup.{ResourceGroup};
 ghost use Rattle.otap_cells.specs.declared.payload.Kind.{Kind};
 ghost use Rattle.otap_cells.specs.Cells.{Cell};
 ghost use Rattle.otap_cells.specs.Columns.{is_id_at};
+ghost use Rattle.otap_cells.specs.Limits.{wide_ids};
 ghost use Rattle.otap_cells.specs.Tables.{Table, SameTable};
 ghost use Rattle.otap_cells.specs.Weights.{weight_of_table};
 ghost use Rattle.otap_groups.specs.Weighing.{cells_weight, parts_weight, rows_of_groups};
@@ -65,14 +66,14 @@ pub fn rows_follow_from_cells()
 
 /// Law: the main table of a request has the rows that are written for it.
 pub fn main_tables_have_their_rows<I>()
-    ensures { (kind : Kind) (cells_of : I → List Cell) (groups : List (ResourceGroup I)) → IsMain kind → length (items_of groups) ≤ 2 ^ 32
+    ensures { (kind : Kind) (cells_of : I → List Cell) (groups : List (ResourceGroup I)) → IsMain kind → length (items_of groups) ≤ wide_ids
         → IsMainRows (main_table kind cells_of groups) (numbered_rows cells_of 0 (flat_items groups)) }
 {}
 
 /// Law: a table of parts has the rows that are written for them.
 pub fn part_tables_have_their_rows<C>()
     ensures { (kind : Kind) (cells_of : C → List Cell) (lists : List (List C)) → IsPart kind
-        → length lists ≤ 2 ^ 32 → length (flat_map (λ parts. parts) lists) ≤ 2 ^ 32
+        → length lists ≤ wide_ids → length (flat_map (λ parts. parts) lists) ≤ wide_ids
         → IsPartRows (part_table kind cells_of lists) (part_rows numbered cells_of 0 (placed lists)) }
 {}
 

@@ -1,5 +1,5 @@
 //! The tables of parts: events, links, points and exemplars, below the rows of another table.
-ghost use Rattle.std.specs.Prelude.{◌≡◌, ◌++◌, ◌∷◌, [], ◌≤◌, ◌^◌, List, length, map, take, All, None, option_map, IfOk, OnOk, OnErr};
+ghost use Rattle.std.specs.Prelude.{◌≡◌, ◌++◌, ◌∷◌, [], ◌≤◌, List, length, map, take, All, None, option_map, IfOk, OnOk, OnErr};
 ghost use Rattle.otap_cells.specs.declared.payload.Kind.{Kind};
 ghost use Rattle.otap_cells.specs.Cells.{Cell};
 ghost use Rattle.otap_cells.specs.Continuing.{again_of, goes_on_after};
@@ -7,6 +7,7 @@ ghost use Rattle.otap_cells.specs.Columns.{coding_at};
 ghost use Rattle.otap_cells.specs.Tables.{profile_table};
 ghost use Rattle.otap_groups.specs.Flat.{placed, placed_at};
 ghost use Rattle.otap_cells.specs.Ids.{base_of};
+ghost use Rattle.otap_cells.specs.Limits.{wide_ids};
 ghost use Rattle.otap_groups.specs.Kinds.{IsPart};
 ghost use Rattle.otap_groups.specs.Stored.{RisingParts, id_cell, stored_parts};
 ghost use Rattle.otap_groups.specs.Views.{seen_placed};
@@ -66,7 +67,7 @@ pub fn parts_of<'a, W: PartWriter>(
     writer: &W,
     parents: &[Placed<'a, W::Parent>],
 ) -> Result<Vec<Placed<'a, W::Part>>, AllocError>
-    requires few { length parents.now ≤ 2 ^ 32 }
+    requires few { length parents.now ≤ wide_ids }
     ensures parts { IfOk result (λ found. map seen_placed found.items ≡ placed (map (λ p. W.parts p.part.now) parents.now)) }
     ensures rising { IfOk result (λ found. RisingParts 0 (map seen_placed found.items)) }
 {

@@ -1,6 +1,6 @@
 //! The rows of points of histograms and summaries, and of exemplars.
 ghost use Rattle.std.specs.Prelude.{◌≡◌, ◌*◌, min};
-ghost use Rattle.otlp_model.specs.Limits.{count_cap};
+ghost use Rattle.otlp_model.specs.Limits.{count_cap, number_weight};
 ghost use Rattle.otap_cells.specs.declared.payload.Kind.TheVariants as table;
 ghost use Rattle.otap_cells.specs.declared.profile.Base.TheVariants as base;
 ghost use Rattle.otap_cells.specs.Cells.{seen, IsCellOf};
@@ -209,7 +209,7 @@ pub(crate) fn summary_cells_weight(point: &SumPoint) -> u64
 
 /// The bytes of a list of this many numbers, or `CAP` where they are more.
 pub(crate) fn list_weight(len: usize) -> u64
-    ensures { result ≡ min (8 * len) count_cap }
+    ensures { result ≡ min (number_weight * len) count_cap }
 {
     (len as u64).saturating_mul(8).min(CAP)
 }

@@ -2,7 +2,7 @@
 ghost use Rattle.std.specs.Prelude.{◌≡◌, ◌<◌, ◌*◌, ◌/◌, [], length, map, min, drop, IfOk};
 ghost use Rattle.std.specs.List.{slice_index_or};
 ghost use Rattle.std.specs.Option.{ForSome};
-ghost use Rattle.otlp_model.specs.Limits.{count_cap};
+ghost use Rattle.otlp_model.specs.Limits.{count_cap, quantile_weight};
 ghost use Rattle.otlp_model.specs.Weight.{weight_of_exemplar, weight_of_hist_point, weight_of_pair, weight_of_sum_point};
 ghost use Rattle.otlp_model.specs.declared.metrics.Exemplar.{Exemplar};
 ghost use Rattle.otlp_model.specs.declared.value.Pair.{Pair};
@@ -190,7 +190,7 @@ fn sum_point_weight<R: Rows, P: Lookup<Child = Pair>>(
 
 /// What as many quantiles weigh as both lists have, or `CAP` where it is more.
 fn quantiles_weight(asked: usize, values: usize) -> u64
-    ensures { result ≡ min (16 * min asked values) count_cap }
+    ensures { result ≡ min (quantile_weight * min asked values) count_cap }
 {
     let count = if asked < values { asked } else { values };
     (count as u64).saturating_mul(16).min(CAP)

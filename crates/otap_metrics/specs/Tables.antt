@@ -56,7 +56,8 @@ tables_below groups =
     ∷ attribute_table table.NumberExemplarAttrs (exemplar_pairs groups)
     ∷ []
 
--- THE TABLES of a request: its metrics, and what is below them where there are rows
+-- THE TABLES of a request, but for the points of histograms and summaries and what is below these: its metrics, and what is
+-- below them where there are rows
 unfoldable pub tables_of_metrics : List (ResourceGroup Metric) → List Table
 tables_of_metrics groups = main_table table.Metrics metric_cells groups ∷ flat_map where_rows (tables_below groups)
 

@@ -12,8 +12,8 @@ write_attributes-requires-clause-weight g c =
     all_through (λ (b : Bor g.row.P.Denot). b.now) (λ (p : Placed g.row.P.Denot). p.part.now) (λ x. total 32 weight_of_pair (g.P.Attributed.pairs x) ≤ weight_limit)
     c.deref.result.now c.args.parts.now (ap (map (λ (b : Bor g.row.P.Denot). b.now)) c.deref.ensures.value ∙ c.in_ok-parents.ensures) c.requires.weight
 
-pub returns : goal.returns
-returns g c =
+pub returns-clause-ok : goal.returns-clause-ok
+returns-clause-ok g c =
     c.in_ok-push_filled.ensures.ok ∙ ap (λ t. c.args.tables.now.items ++ map beside_kind (where_rows t))
     (found_through c.args.kind (λ (b : Bor g.row.P.Denot). b.now) (λ (p : Placed g.row.P.Denot). p.part.now) g.P.Attributed.pairs c.deref.result.now c.args.parts.now _
     (ap (map (λ (b : Bor g.row.P.Denot). b.now)) c.deref.ensures.value ∙ c.in_ok-parents.ensures) c.in_ok-attributes.ensures)

@@ -15,8 +15,8 @@ write_attributes-requires-clause-weight g c =
     found_all (λ (b : Bor Resource). b.now) (λ (x : Resource). total 32 weight_of_pair x.pairs ≤ weight_limit) c.deref.result.now (resources_of c.args.groups.now)
     (ap (map (λ (b : Bor Resource). b.now)) c.deref.ensures.value ∙ c.in_ok-resources.ensures) c.requires.weight
 
-pub returns : goal.returns
-returns g c =
+pub returns-clause-ok : goal.returns-clause-ok
+returns-clause-ok g c =
     c.in_ok-push_filled.ensures.ok ∙ ap (λ t. c.args.tables.now.items ++ map beside_kind (where_rows t))
     (found_table table.ResourceAttrs (λ (b : Bor Resource). b.now) (λ (x : Resource). x.pairs) c.deref.result.now (resources_of c.args.groups.now) _
     (ap (map (λ (b : Bor Resource). b.now)) c.deref.ensures.value ∙ c.in_ok-resources.ensures) c.in_ok-attributes.ensures)

@@ -15,8 +15,8 @@ write_attributes-requires-clause-weight g c =
     found_all (λ (b : Bor Scope). b.now) (λ (x : Scope). total 32 weight_of_pair x.pairs ≤ weight_limit) c.deref.result.now (scopes_of c.args.groups.now)
     (ap (map (λ (b : Bor Scope). b.now)) c.deref.ensures.value ∙ c.in_ok-scopes.ensures) c.requires.weight
 
-pub returns : goal.returns
-returns g c =
+pub returns-clause-ok : goal.returns-clause-ok
+returns-clause-ok g c =
     c.in_ok-push_filled.ensures.ok ∙ ap (λ t. c.args.tables.now.items ++ map beside_kind (where_rows t))
     (found_table table.ScopeAttrs (λ (b : Bor Scope). b.now) (λ (x : Scope). x.pairs) c.deref.result.now (scopes_of c.args.groups.now) _
     (ap (map (λ (b : Bor Scope). b.now)) c.deref.ensures.value ∙ c.in_ok-scopes.ensures) c.in_ok-attributes.ensures)

@@ -126,4 +126,4 @@ returns c =
     ∙ c.in_ok-metrics.ensures ∙ items_of_rows c.deref.result.now c.args.groups.now (ap (map seen_flat) c.deref.ensures.value
     ∙ c.in_ok-rows.ensures.items)) c.in_ok-hist_points.ensures.parts) c.in_ok-exemplars.ensures.parts)
     _ _ _ _ _ _ c.add_attributes-3.new.tables.items c.new-tables.ensures.items
-    c.in_ok-add_parts.ensures c.in_ok-add_parts-2.ensures c.in_ok-add_attributes.ensures c.in_ok-add_attributes-2.ensures c.in_ok-add_parts-3.ensures c.in_ok-add_attributes-3.ensures
+    c.in_ok-add_parts.ensures.ok c.in_ok-add_parts-2.ensures.ok c.in_ok-add_attributes.ensures.ok c.in_ok-add_attributes-2.ensures.ok c.in_ok-add_parts-3.ensures.ok c.in_ok-add_attributes-3.ensures.ok

@@ -118,8 +118,8 @@ returns c =
     (ap (map (λ (p : Placed Metric). p.part.now)) c.deref-3.ensures.value ∙ c.in_ok-metrics.ensures
     ∙ items_of_rows c.deref-2.result.now c.as_slice-groups.result.now (ap (map seen_flat) c.deref-2.ensures.value ∙ c.in_ok-rows.ensures.items)) c.in_ok-points.ensures.parts) c.in_ok-exemplars.ensures.parts)
     _ _ _ _ _ _ _ c.add_attributes-2.new.tables.items
-    c.new-tables.ensures.items c.in_ok-push.ensures.items c.in_ok-add_resources.ensures c.in_ok-add_scopes.ensures c.in_ok-add_parts.ensures c.in_ok-add_attributes.ensures c.in_ok-add_parts-2.ensures
-    c.in_ok-add_attributes-2.ensures (ap (λ (t : Table). t.kind) c.in_ok-main.ensures)
+    c.new-tables.ensures.items c.in_ok-push.ensures.items c.in_ok-add_resources.ensures.ok c.in_ok-add_scopes.ensures.ok c.in_ok-add_parts.ensures.ok c.in_ok-add_attributes.ensures.ok c.in_ok-add_parts-2.ensures.ok
+    c.in_ok-add_attributes-2.ensures.ok (ap (λ (t : Table). t.kind) c.in_ok-main.ensures)
     c.args.groups.now c.as_slice-groups.ensures (main_is c.deref.result.now c.as_slice-groups.result.now c.in_ok-main.main (ap (map seen_flat) c.deref.ensures.value ∙ c.in_ok-rows.ensures.items) c.in_ok-main.ensures)
 
 pub invariant_of-result : goal.invariant_of-result
@@ -140,5 +140,5 @@ invariant_of-result c =
     (ap (map (λ (p : Placed Metric). p.part.now)) c.deref-3.ensures.value ∙ c.in_ok-metrics.ensures
     ∙ items_of_rows c.deref-2.result.now c.as_slice-groups.result.now (ap (map seen_flat) c.deref-2.ensures.value ∙ c.in_ok-rows.ensures.items)) c.in_ok-points.ensures.parts) c.in_ok-exemplars.ensures.parts)
     _ _ _ _ _ _ _ c.add_attributes-2.new.tables.items
-    c.new-tables.ensures.items c.in_ok-push.ensures.items c.in_ok-add_resources.ensures c.in_ok-add_scopes.ensures c.in_ok-add_parts.ensures c.in_ok-add_attributes.ensures c.in_ok-add_parts-2.ensures
-    c.in_ok-add_attributes-2.ensures (ap (λ (t : Table). t.kind) c.in_ok-main.ensures)
+    c.new-tables.ensures.items c.in_ok-push.ensures.items c.in_ok-add_resources.ensures.ok c.in_ok-add_scopes.ensures.ok c.in_ok-add_parts.ensures.ok c.in_ok-add_attributes.ensures.ok c.in_ok-add_parts-2.ensures.ok
+    c.in_ok-add_attributes-2.ensures.ok (ap (λ (t : Table). t.kind) c.in_ok-main.ensures)

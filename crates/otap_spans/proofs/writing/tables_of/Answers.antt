@@ -147,8 +147,8 @@ pub returns : goal.returns
 returns c =
     written c.as_slice-groups.result.now c.add_attributes-3.new.tables.items _ _ _ _ _ _
     (pushed c.in_ok-main.main _ _ _ _ _ _ _ _ _ _ _ _ _ _ _ c.add_attributes-3.new.tables.items c.new-tables.ensures.items c.in_ok-push.ensures.items (ap (λ (t : Table). t.kind) c.in_ok-main.ensures)
-    c.in_ok-add_resources.ensures c.in_ok-add_scopes.ensures c.in_ok-add_attributes.ensures c.in_ok-add_parts.ensures c.in_ok-add_parts-2.ensures c.in_ok-add_attributes-2.ensures
-    c.in_ok-add_attributes-3.ensures)
+    c.in_ok-add_resources.ensures.ok c.in_ok-add_scopes.ensures.ok c.in_ok-add_attributes.ensures.ok c.in_ok-add_parts.ensures.ok c.in_ok-add_parts-2.ensures.ok c.in_ok-add_attributes-2.ensures.ok
+    c.in_ok-add_attributes-3.ensures.ok)
     (main_is c.as_slice-groups.result.now c.deref.result.now c.in_ok-main.main (ap (map seen_flat) c.deref.ensures.value ∙ c.in_ok-rows.ensures.items) c.in_ok-main.ensures)
     (pairs_table table.SpanAttrs span_now (λ (span : Span). span.pairs) c.deref-5.result.now (items_of c.as_slice-groups.result.now)
     (ap (map span_now) c.deref-5.ensures.value ∙ spans_seen c.as_slice-groups.result.now c.deref-2.result.now c.in_ok-spans.spans.items
@@ -175,8 +175,8 @@ pub invariant_of-result : goal.invariant_of-result
 invariant_of-result c =
     written_set c.as_slice-groups.result.now c.add_attributes-3.new.tables.items _ _ _ _ _ _
     (pushed c.in_ok-main.main _ _ _ _ _ _ _ _ _ _ _ _ _ _ _ c.add_attributes-3.new.tables.items c.new-tables.ensures.items c.in_ok-push.ensures.items (ap (λ (t : Table). t.kind) c.in_ok-main.ensures)
-    c.in_ok-add_resources.ensures c.in_ok-add_scopes.ensures c.in_ok-add_attributes.ensures c.in_ok-add_parts.ensures c.in_ok-add_parts-2.ensures c.in_ok-add_attributes-2.ensures
-    c.in_ok-add_attributes-3.ensures)
+    c.in_ok-add_resources.ensures.ok c.in_ok-add_scopes.ensures.ok c.in_ok-add_attributes.ensures.ok c.in_ok-add_parts.ensures.ok c.in_ok-add_parts-2.ensures.ok c.in_ok-add_attributes-2.ensures.ok
+    c.in_ok-add_attributes-3.ensures.ok)
     (main_is c.as_slice-groups.result.now c.deref.result.now c.in_ok-main.main (ap (map seen_flat) c.deref.ensures.value ∙ c.in_ok-rows.ensures.items) c.in_ok-main.ensures)
     (pairs_table table.SpanAttrs span_now (λ (span : Span). span.pairs) c.deref-5.result.now (items_of c.as_slice-groups.result.now)
     (ap (map span_now) c.deref-5.ensures.value ∙ spans_seen c.as_slice-groups.result.now c.deref-2.result.now c.in_ok-spans.spans.items
