@@ -69,7 +69,7 @@ value_of_batch k s levels (wire.Bytes part) e (inl fault) = bad_message e fault.
 value_of_batch k s levels (wire.Bytes part) e (inr fault) = part_of_batch k s levels part e fault
 
 -- the message of a pair
-first : {m n : Message} {a b : ℕ} → ◌≡◌ {A = Option (Message × ℕ)} (Some (m, a)) (Some (n, b)) → m ≡ n
+pub first : {m n : Message} {a b : ℕ} → ◌≡◌ {A = Option (Message × ℕ)} (Some (m, a)) (Some (n, b)) → m ≡ n
 first {m} both = ap message both
   where
     message : Option (Message × ℕ) → Message

@@ -2,6 +2,7 @@ pub mod BatchDefects
 pub mod BatchFields
 pub mod Cuts
 pub mod Decided
+pub mod Events
 pub mod Framing
 pub mod Known
 pub mod OneCapture

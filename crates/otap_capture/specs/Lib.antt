@@ -11,4 +11,5 @@ pub mod Limits
 pub mod Memory
 pub mod Outside
 pub mod Reading
+pub mod SendEvents
 pub mod Statuses

@@ -16,10 +16,11 @@ use otlp_wire::{Field, Fields, Wire};
 use std::marker::Model;
 use thiserror::Error;
 
-/// Why a message is no batch message, or no batch status. Where several of these stand in it, any of them may be named.
+/// Why a message is no batch message, no batch status, or no event. Where several of these stand in it, any of them may be named.
 #[derive(Clone, Copy, Debug, PartialEq, Eq, Error)]
 pub enum BatchRefusal {
-    /// A wire error, or a known field with another wire type, in the message or in a payload.
+    /// A wire error, or a known field with another wire type, in the message or in a payload; or an event
+    /// without its one field.
     #[error("the message is malformed")]
     BadMessage,
     /// A singular field occurs twice.
@@ -303,7 +304,7 @@ fn parts_with<'a>(parts: Parts<'a>, field: Field<'a>) -> Parts<'a>
     }
 }
 
-/// The refusal that names the defect, one of those that can stand in a batch message or a status.
+/// The refusal that names the defect, one of those that can stand in a batch message, a status or an event.
 pub(crate) fn refusal_of(defect: Defect) -> BatchRefusal
     requires { IsOfBatch defect }
     ensures { defect_of result ≡ defect }

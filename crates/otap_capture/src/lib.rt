@@ -1,10 +1,12 @@
-//! What the gateway reads and writes: sources and sinks of bytes, the frames of a capture, batch messages and statuses.
+//! What the gateway reads and writes: sources and sinks of bytes, the frames of a capture, batch messages, statuses and events.
 #![tactic(auto)]
 
 mod adapters;
 mod batch;
 mod batch_laws;
 mod batch_writer;
+mod event;
+mod event_laws;
 mod frame;
 mod frames;
 mod front;
@@ -20,6 +22,8 @@ pub use adapters::{ReadSource, WriteSink};
 pub use batch::{Batch, BatchRefusal, Payload, Payloads, read_batch};
 pub use batch_laws::{one_batch, read_or_refused, written_batch_is_read};
 pub use batch_writer::BatchWriter;
+pub use event::{SendEvent, read_event};
+pub use event_laws::{event_or_refused, one_event};
 pub use frame::{Damage, FRAME_HEAD, Frame, FramesRefusal, MAX_CAPTURE, MAX_FRAME, Step, Why};
 pub use frames::Frames;
 pub use laws::{decided_stays, limits_are_stated, one_capture, some_capture, written_is_read};

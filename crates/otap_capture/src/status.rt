@@ -1,7 +1,8 @@
 //! A status: what a Collector replies to a batch message.
 
 ghost use Rattle.std.specs.Prelude.{◌≡◌, IfOk, IfErr};
-ghost use Rattle.otap_capture.specs.Statuses.{status_content, canon_status, ReadsStatus, RefusesStatus};
+ghost use Rattle.otlp_messages.specs.Defects.{IsFine};
+ghost use Rattle.otap_capture.specs.Statuses.{status_content, status_in, canon_status, ReadsStatus, RefusesStatus};
 
 use crate::batch::{BatchRefusal, refusal_of};
 use otlp_messages::{Backward, Message, bytes_of, check, int32_of, int64_of};
@@ -23,14 +24,22 @@ pub fn read_status(bytes: &[u8]) -> Result<Status<'_>, BatchRefusal>
     if let Err(defect) = check(Message::BatchStatus, 0, bytes) {
         return Err(refusal_of(defect));
     }
+    Ok(status_of(bytes))
+}
+
+/// What the fields of a status say, in which no defect is.
+pub(crate) fn status_of(bytes: &[u8]) -> Status<'_>
+    requires { IsFine Message.BatchStatus 0 bytes.now }
+    ensures { status_content result ≡ status_in bytes.now }
+{
     let Ok(message) = std::str::from_utf8(bytes_of(bytes, 3)) else {
         unreachable!()
     };
-    Ok(Status {
+    Status {
         id: int64_of(bytes, 1),
         code: int32_of(bytes, 2),
         message,
-    })
+    }
 }
 
 /// The canonical spelling of a status.

@@ -6,6 +6,8 @@ mod base_lists;
 #[cfg(test)]
 mod capture;
 #[cfg(test)]
+mod capture_events;
+#[cfg(test)]
 mod capture_statuses;
 #[cfg(test)]
 mod codec;
