@@ -1,4 +1,5 @@
 pub mod Items
+pub mod Limits
 pub mod Load
 pub mod Pairs
 pub mod Inside

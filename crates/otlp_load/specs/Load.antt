@@ -2,6 +2,8 @@
 -- 8192 r + k, in three groups.
 use Rattle.std.specs.Prelude.{ℕ, ◌+◌, ◌*◌, ◌%◌, ◌==◌, List, [], ◌∷◌, map, filter, codes, pos}
 use Rattle.std.specs.List.{range_with_len}
+use Rattle.otlp_load.specs.Limits.{groups_each}
+pub use Rattle.otlp_load.specs.Limits.{items_each, requests_at_most}
 use Rattle.otlp_load.specs.Pairs.{numbered_text}
 use Rattle.otlp_load.specs.Items.{load_span, load_log_record, load_metric}
 use Rattle.otlp_model.specs.declared.value.Value.TheVariants as values
@@ -14,21 +16,13 @@ use Rattle.otlp_model.specs.declared.request.Request.TheVariants.{Traces, Logs, 
 use Rattle.otlp_model.specs.declared.request.Signal.{Signal}
 use Rattle.otlp_model.specs.declared.request.Signal.TheVariants as signals
 
--- how many items a request has
-abbrev pub items_each : ℕ
-items_each = 8192
-
--- how many requests there are
-abbrev pub requests_at_most : ℕ
-requests_at_most = 1000
-
 -- the number of the item at the place k of request r
 abbrev pub item_number : ℕ → ℕ → ℕ
 item_number r k = items_each * r + k
 
--- the places of group g below some place, in ascending order: those that leave g when they are divided by 3
+-- the places of group g below some place, in ascending order: those that leave g when they are divided by the number of groups
 unfoldable pub places_below : ℕ → ℕ → List ℕ
-places_below end g = filter (λ k. k % 3 == g) (range_with_len 0 end)
+places_below end g = filter (λ k. k % groups_each == g) (range_with_len 0 end)
 
 abbrev pub service_of : ℕ → Pair
 service_of g = record { key = codes "service.name"; value = values.Str (numbered_text (codes "svc-") g) }
@@ -50,7 +44,7 @@ group_of item_of r g = record {
 }
 
 abbrev pub groups_of : {I : Type 0} → (ℕ → ℕ → I) → ℕ → List (ResourceGroup I)
-groups_of item_of r = map (group_of item_of r) (range_with_len 0 3)
+groups_of item_of r = map (group_of item_of r) (range_with_len 0 groups_each)
 
 -- request r of a signal
 abbrev pub generated : Signal → ℕ → Request

@@ -1,8 +1,9 @@
--- The texts and the twelve pairs of an item of the load.
+-- The texts and the pairs of an item of the load.
 use Rattle.std.specs.Prelude.{ℕ, ◌+◌, ◌*◌, ◌%◌, ◌==◌, List, ◌++◌, map, codes, pos, to_bits, if◌then◌else◌}
 use Rattle.std.specs.List.{range_with_len}
 use Rattle.std.specs.Fmt.{decimal}
 use lib.Ieee.{binary64, of_int}
+use Rattle.otlp_load.specs.Limits.{pairs_each}
 use Rattle.otlp_model.specs.declared.value.Value.{Value}
 use Rattle.otlp_model.specs.declared.value.Value.TheVariants as values
 use Rattle.otlp_model.specs.declared.value.Pair.{Pair}
@@ -27,6 +28,6 @@ load_value r number place =
 abbrev pub load_pair : ℕ → ℕ → ℕ → Pair
 load_pair r number place = record { key = numbered_text (codes "k") place; value = load_value r number place }
 
--- the twelve pairs
+-- the pairs
 unfoldable pub pairs_of : ℕ → ℕ → List Pair
-pairs_of r number = map (load_pair r number) (range_with_len 0 12)
+pairs_of r number = map (load_pair r number) (range_with_len 0 pairs_each)

@@ -1,6 +1,7 @@
 //! The groups of a request, for items of any signal.
 ghost use Rattle.std.specs.Prelude.{◌≡◌, ◌<◌, IfOk, map};
-ghost use Rattle.otlp_load.specs.Load.{items_each, requests_at_most, item_number, places_below, load_resource, scope_of_all, group_of, groups_of};
+ghost use Rattle.otlp_load.specs.Limits.{groups_each, items_each, requests_at_most};
+ghost use Rattle.otlp_load.specs.Load.{item_number, places_below, load_resource, scope_of_all, group_of, groups_of};
 
 use crate::items::{LoadItem, list_of_one};
 use crate::pairs::numbered;
@@ -9,7 +10,7 @@ use otlp_model::{Items, Pair, Resource, ResourceGroup, Scope, ScopeGroup, Text, 
 use std::alloc::{AllocError, Global};
 
 /// How many resource groups a request has, with one scope group each.
-const GROUPS: u32 = 3;
+pub(crate) const GROUPS: u32 = 3;
 
 /// The groups of a request.
 #[tactic(auto, using(crate::proofs::GroupPlaces::one_more))]
@@ -34,7 +35,7 @@ fn group<I: LoadItem>(
     place: u32,
 ) -> Result<ResourceGroup<I>, AllocError>
     requires request { request < requests_at_most }
-    requires place { place < 3 }
+    requires place { place < groups_each }
     ensures { IfOk result (λ group. group ≡ group_of I.item_of request place) }
 {
     let scope = ScopeGroup {
@@ -82,7 +83,7 @@ fn scope(alloc: Global) -> Result<Scope, AllocError>
 /// The items of a group: every third one, from the group's own place on.
 fn items<I: LoadItem>(alloc: Global, request: u32, group: u32) -> Result<Items<I>, AllocError>
     requires request { request < requests_at_most }
-    requires group { group < 3 }
+    requires group { group < groups_each }
     ensures { IfOk result (λ items. items ≡ map (λ k. I.item_of request (item_number request k)) (places_below items_each group)) }
 {
     let mut items = Items::new(alloc);

@@ -6,12 +6,17 @@ ghost use Rattle.otlp_model.specs.Telemetry.{signal_of, telemetry};
 ghost use Rattle.otlp_model.specs.Weight.{weight_of};
 ghost use Rattle.otlp_model.specs.declared.request.Signal.{Signal};
 ghost use Rattle.otlp_load.specs.declared.requests.TheConstants.{ITEMS, REQUESTS};
-ghost use Rattle.otlp_load.specs.Load.{generated, items_each, requests_at_most};
+ghost use Rattle.otlp_load.specs.declared.pairs.TheConstants.{PAIRS};
+ghost use Rattle.otlp_load.specs.declared.groups.TheConstants.{GROUPS};
+ghost use Rattle.otlp_load.specs.Limits.{groups_each, items_each, pairs_each, requests_at_most};
+ghost use Rattle.otlp_load.specs.Load.{generated};
 
 /// Law: the numbers that the code goes by are those of the definitions.
 pub fn limits()
     ensures items { ITEMS ≡ items_each }
     ensures requests { REQUESTS ≡ requests_at_most }
+    ensures pairs { PAIRS ≡ pairs_each }
+    ensures groups { GROUPS ≡ groups_each }
 {}
 
 /// Law: a request of the load is one of its signal and has 8,192 items.

@@ -1,6 +1,7 @@
 //! The texts and the pairs of an item.
 ghost use Rattle.std.specs.Prelude.{◌≡◌, ◌<◌, IfOk, codes};
 ghost use Rattle.otlp_load.specs.Inside.{numbers_end};
+ghost use Rattle.otlp_load.specs.Limits.{pairs_each};
 ghost use Rattle.otlp_load.specs.Pairs.{double_bits, numbered_text, load_value, load_pair, pairs_of};
 
 use otlp_model::{Items, Pair, Text, Value};
@@ -8,7 +9,7 @@ use std::alloc::{AllocError, Global};
 use std::num::f64_to_bits_with_nan;
 
 /// How many pairs an item has.
-const PAIRS: u32 = 12;
+pub(crate) const PAIRS: u32 = 12;
 
 /// The text with the number after it.
 pub(crate) fn numbered(alloc: Global, text: &str, number: u32) -> Result<Text, AllocError>
@@ -25,7 +26,7 @@ pub(crate) fn double_bits(number: u32) -> u64
     f64_to_bits_with_nan(f64::from(number))
 }
 
-/// The twelve pairs of an item: its number, and that of its request.
+/// The pairs of an item: its number, and that of its request.
 #[tactic(auto, using(crate::proofs::GroupPlaces::one_more), unfolding(crate::specs::Pairs::pairs_of))]
 pub(crate) fn pairs(alloc: Global, request: u32, number: u32) -> Result<Items<Pair>, AllocError>
     requires { number < numbers_end }
@@ -41,7 +42,7 @@ pub(crate) fn pairs(alloc: Global, request: u32, number: u32) -> Result<Items<Pa
 
 fn pair(alloc: Global, request: u32, number: u32, place: u32) -> Result<Pair, AllocError>
     requires number { number < numbers_end }
-    requires place { place < 12 }
+    requires place { place < pairs_each }
     ensures { IfOk result (λ pair. pair ≡ load_pair request number place) }
 {
     Ok(Pair {
@@ -52,7 +53,7 @@ fn pair(alloc: Global, request: u32, number: u32, place: u32) -> Result<Pair, Al
 
 /// The key at a place.
 fn key(place: u32) -> &'static str
-    requires { place < 12 }
+    requires { place < pairs_each }
     ensures { result.now ≡ numbered_text (codes "k") place }
 {
     match place {
@@ -75,7 +76,7 @@ fn key(place: u32) -> &'static str
 /// The value at a place.
 fn value(alloc: Global, request: u32, number: u32, place: u32) -> Result<Value, AllocError>
     requires number { number < numbers_end }
-    requires place { place < 12 }
+    requires place { place < pairs_each }
     ensures { IfOk result (λ value. value ≡ load_value request number place) }
 {
     Ok(match place % 4 {
