@@ -21,6 +21,7 @@ pub mod Shows
 pub mod SpanLoads
 pub mod Replying
 pub mod AllReplies
+pub mod WholeRuns
 pub mod WrittenFrames
 mod Plain
 mod Printed

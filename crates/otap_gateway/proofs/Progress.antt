@@ -1,5 +1,5 @@
 -- A run so far, and what the next turn makes of it.
-use Rattle.std.proofs.Common.{◌≡◌, ◌⊎◌, inl, inr, ℕ, ◌+◌, Bool, true, false, List, [], ◌∷◌, ◌++◌, length, Some, None, IfSome, OnOk, Result, Ok, Err, refl, sym, ap, ◌∙◌, subst, append_assoc, length-append, arith}
+use Rattle.std.proofs.Common.{◌≡◌, ◌⊎◌, inl, inr, ℕ, ◌+◌, Bool, true, false, List, [], ◌∷◌, ◌++◌, length, Some, None, IfSome, OnOk, Result, Ok, Err, refl, sym, ap, ◌∙◌, subst, append_assoc, length-append, append-nil, arith}
 use Rattle.std.specs.Prelude.{◌||◌}
 use Rattle.std.specs.declared.option.Option.{Option}
 use Rattle.std.specs.Io.KnownBytes.{Appends, Consumes, Keeps, prepend_known}
@@ -12,21 +12,20 @@ use Rattle.lists.proofs.Truths.{or_false}
 use Rattle.lists.proofs.Known.{Appends-trans, Appends-kept}
 use Rattle.otap_capture.specs.declared.frame.Damage.{Damage}
 use Rattle.otap_capture.specs.Capture.{Frame, IsFrame, AreFrames, EndsAt, IsCapture}
-use Rattle.otap_capture.specs.Outside.{AppendsFront}
 use Rattle.otap_capture.specs.Deciding.{IsOpen}
 use Rattle.otap_capture.specs.Reading.{Reading, IsWaiting, TakesFrame, ahead}
 use Rattle.otap_capture.proofs.Framing.{are_frames-push}
 use Rattle.otap_capture.proofs.Known.{front_more, front_of_first, front_of_all}
-use Rattle.otap_gateway.specs.declared.jobs.command.Command.{Command}
-use Rattle.otap_gateway.specs.Commands.{ReplyOf}
 use Rattle.otap_gateway.specs.Jobs.{Rule, History}
 use Rattle.otap_gateway.specs.Lines.{words_line}
 use Rattle.otap_gateway.specs.Reply.{ReplyText, out_text, err_text, any_refused}
 use Rattle.otap_gateway.specs.declared.runs.stop.Stop.{Stop}
 use Rattle.otap_gateway.specs.declared.runs.stop.Stop.TheVariants as stop
-use Rattle.otap_gateway.specs.declared.runs.drive.Handled.{Handled}
-use Rattle.otap_gateway.specs.Runs.{Sinks, World, BeginsWith, WritesAll, WritesFront, WritesTaken, Stops, LeavesLine, NoneFailed, IsFlushed, IsQuiet}
-use Rattle.otap_gateway.specs.Turns.{KeepsBoth, Settled, TurnAsks, TurnsFailing, TurnsFrame, TurnsFramePart, TurnsEnd, TurnsEndPart}
+use Rattle.otap_gateway.specs.declared.runs.drive.Ended.{Ended}
+use Rattle.otap_gateway.specs.declared.runs.handler.Handled.{Handled}
+use Rattle.otap_gateway.specs.Begun.{WritesBegun}
+use Rattle.otap_gateway.specs.Runs.{Sinks, World, BeginsWith, WritesTaken, StopsBy, LeavesLine, NoneFailed, IsFlushed, IsQuiet}
+use Rattle.otap_gateway.specs.Turns.{KeepsBoth, Settled, TakesAll, TurnAsks, TurnsFailing, TurnsFrame, TurnsFramePart, TurnsEnd}
 
 -- A run so far: what is ahead comes after the frames that were taken, and the sinks grew by the replies to them.
 pub record Progress (R : Rule) (stands : History) (old new : World) (place number : ℕ) (any unflushed : Bool) : Type 0 where
@@ -69,10 +68,10 @@ consumed_all (Some xs) (Some ys) front frames place end at taken each ends = rec
   ends = subst (λ n. EndsAt n ys end) at ends;
 }
 
-out_push : (replies : List ReplyText) (reply : ReplyText) → out_text replies ++ reply.out ≡ out_text (replies ++ reply ∷ [])
+pub out_push : (replies : List ReplyText) (reply : ReplyText) → out_text replies ++ reply.out ≡ out_text (replies ++ reply ∷ [])
 out_push replies reply = flat_map_more (λ (r : ReplyText). r.out) [] replies reply
 
-err_push : (replies : List ReplyText) (reply : ReplyText) → err_text replies ++ reply.err ≡ err_text (replies ++ reply ∷ [])
+pub err_push : (replies : List ReplyText) (reply : ReplyText) → err_text replies ++ reply.err ≡ err_text (replies ++ reply ∷ [])
 err_push replies reply = flat_map_more (λ (r : ReplyText). r.err) [] replies reply
 
 refused_push : (replies : List ReplyText) (reply : ReplyText) (any refused : Bool) → any ≡ any_refused replies → refused ≡ reply.refused → (any || refused) ≡ any_refused (replies ++ reply ∷ [])
@@ -150,86 +149,61 @@ module _ (R : Rule) (old mid : World) where
         passed = λ none. passed_more p.replies w.reply mid.sinks world.sinks unflushed handled.wrote p.passed w.quiet none;
       }
 
--- the text of one more reply is a front of the longer text
-part_push : (old mid new : Option (List ℕ)) (text part longer : List ℕ) → text ++ part ≡ longer → Appends old mid text → AppendsFront mid new part → AppendsFront old new longer
-part_push old mid new text part longer same before part' = subst (AppendsFront old new) same (front_more old mid new text part before part')
-
-module _ (job : Command) (old mid : World) where
+module _ (R B : Rule) (old mid : World) where
   -- the frames and replies so far, in a run that goes no further
-  pub so_far : {stands : History} {place number : ℕ} {any unflushed : Bool} (new : Sinks) → Progress (ReplyOf job) stands old mid place number any unflushed
-      → KeepsBoth mid.sinks new → WritesFront job old.left old.sinks new
+  pub so_far : {stands : History} {place number : ℕ} {any unflushed : Bool} (new : Sinks) → Progress R stands old mid place number any unflushed
+      → KeepsBoth mid.sinks new → WritesBegun R B old.left old.sinks new
   so_far new p keeps = record {
     frames = p.frames;
-    last = None;
     replies = p.replies;
-    begins = consumed_front old.left mid.left p.front p.frames p.taken p.each;
-    all = tt;
+    begun = None;
+    begins = subst (λ l. IfSome old.left (λ bytes. BeginsWith bytes l)) (sym (append-nil p.frames)) (consumed_front old.left mid.left p.front p.frames p.taken p.each);
     texts = p.texts;
-    out = front_of_all _ _ _ (Appends-kept _ _ _ _ p.out keeps.out);
+    allowed = tt;
+    out = front_of_first _ _ _ [] (front_of_all _ _ _ (Appends-kept _ _ _ _ p.out keeps.out));
     err = front_of_first _ _ _ [] (front_of_all _ _ _ (Appends-kept _ _ _ _ p.err keeps.err));
   }
 
   -- with a frame whose reply is written in part
-  one_more : {stands stands' : History} {read read' : Reading} {world : World} {number : ℕ} {any unflushed : Bool}
-      → Progress (ReplyOf job) stands old mid read.handed number any unflushed → TurnsFramePart (ReplyOf job) stands stands' number read read' mid world
-      → WritesFront job old.left old.sinks world.sinks
+  one_more : {stands : History} {read read' : Reading} {world : World} {number : ℕ} {any unflushed : Bool}
+      → Progress R stands old mid read.handed number any unflushed → TurnsFramePart B stands number read read' mid world
+      → WritesBegun R B old.left old.sinks world.sinks
   one_more {read = read} {read' = read'} {world = world} {number = number} p turn =
       let w = turn.writes in
-      let next = w.follows.at p.frames p.replies (sym p.count) p.history in
-      let is_frame = subst (λ f. IsFrame turn.takes.front f) (sym (same_frame (ReplyOf job) old mid read read' mid.left world.left turn.takes turn.frame turn.shown)) turn.takes.is_frame in
+      let is_frame = subst (λ f. IsFrame turn.takes.front f) (sym (same_frame R old mid read read' mid.left world.left turn.takes turn.frame turn.shown)) turn.takes.is_frame in
       record {
-        frames = p.frames ++ turn.frame ∷ [];
-        last = None;
-        replies = p.replies ++ w.reply ∷ [];
+        frames = p.frames;
+        replies = p.replies;
+        begun = Some (record { frame = turn.frame; reply = w.reply });
         begins = consumed_front old.left world.left (p.front ++ turn.takes.front) _ (Consumes-trans old.left mid.left world.left p.front turn.takes.front p.taken turn.takes.taken)
             (are_frames-push 0 p.front turn.takes.front p.frames turn.frame p.each is_frame (let begins = turn.takes.begins in let at = p.at in omega arith));
-        all = tt;
-        texts = each_after-push (ReplyOf job) [] [] p.frames p.replies turn.frame w.reply p.texts next.0;
-        out = part_push _ _ _ _ _ _ (out_push p.replies w.reply) p.out w.out;
-        err = front_of_first _ _ _ [] (part_push _ _ _ _ _ _ (err_push p.replies w.reply) p.err w.err);
+        texts = p.texts;
+        allowed = w.begins.at p.frames p.replies (sym p.count) p.history;
+        out = front_more _ _ _ _ _ p.out w.out;
+        err = front_more _ _ _ _ _ p.err w.err;
       }
 
-  -- with a front of the text of the end
-  at_end : {stands : History} {read read' : Reading} {world : World} {number : ℕ} {any unflushed : Bool}
-      → Progress (ReplyOf job) stands old mid read.handed number any unflushed → TurnsEndPart read read' mid world
-      → WritesFront job old.left old.sinks world.sinks
-  at_end {read = read} {world = world} p turn = record {
-    frames = p.frames;
-    last = turn.end;
-    replies = p.replies;
-    begins = consumed_front old.left mid.left p.front p.frames p.taken p.each;
-    all = whole turn.end turn.comes.ends;
-    texts = p.texts;
-    out = front_of_all _ _ _ (Appends-kept _ _ _ _ p.out turn.writes.out);
-    err = front_more _ _ _ _ _ p.err turn.writes.err;
-  }
-    where
-      whole : (end : Option Damage) → IfSome mid.left (λ rest. EndsAt read.handed rest end) → IfSome end (λ damage. IfSome old.left (λ bytes. IsCapture bytes p.frames (Some damage)))
-      whole None ends = tt
-      whole (Some damage) ends = consumed_all old.left mid.left p.front p.frames read.handed (Some damage) p.at p.taken p.each ends
-
-  pub progress_part : {stands stands' : History} {read read' : Reading} {world : World} {number : ℕ} {any unflushed : Bool}
-      → Progress (ReplyOf job) stands old mid read.handed number any unflushed
-      → KeepsBoth mid.sinks world.sinks ⊎ (TurnsFramePart (ReplyOf job) stands stands' number read read' mid world ⊎ TurnsEndPart read read' mid world)
-      → WritesFront job old.left old.sinks world.sinks
+  pub progress_part : {stands : History} {read read' : Reading} {world : World} {number : ℕ} {any unflushed : Bool}
+      → Progress R stands old mid read.handed number any unflushed
+      → KeepsBoth mid.sinks world.sinks ⊎ TurnsFramePart B stands number read read' mid world
+      → WritesBegun R B old.left old.sinks world.sinks
   progress_part {world = world} p (inl keeps) = so_far world.sinks p keeps
-  progress_part p (inr (inl turn)) = one_more p turn
-  progress_part p (inr (inr turn)) = at_end p turn
+  progress_part p (inr turn) = one_more p turn
 
-  pub progress_all : {stands : History} {read read' : Reading} {world : World} {number : ℕ} {any unflushed damaged : Bool}
-      → Progress (ReplyOf job) stands old mid read.handed number any unflushed → TurnsEnd read read' mid world damaged
-      → WritesAll job old.left old.sinks world.sinks (record { refused = any; damaged = damaged })
-  progress_all {read = read} p turn = record {
+module _ (R : Rule) (old mid : World) where
+  -- all frames of the capture were replied to
+  pub progress_all : {stands : History} {read read' : Reading} {world : World} {number : ℕ} {any unflushed : Bool} {end : Option Damage}
+      → Progress R stands old mid read.handed number any unflushed → TurnsEnd read read' mid world end
+      → TakesAll R stands old.left old.sinks world.sinks (record { refused = any; end = end })
+  progress_all {read = read} {end = end} p turn = record {
     frames = p.frames;
-    end = turn.end;
     replies = p.replies;
-    capture = consumed_all old.left mid.left p.front p.frames read.handed turn.end p.at p.taken p.each turn.comes.ends;
+    capture = consumed_all old.left mid.left p.front p.frames read.handed end p.at p.taken p.each turn.comes.ends;
+    history = p.history;
     texts = p.texts;
-    out = Appends-kept _ _ _ _ p.out turn.writes.out;
-    err = Appends-trans _ _ _ _ _ p.err turn.writes.err;
-    flushed = turn.writes.flushed;
+    out = subst (λ s. Appends old.sinks.out.written s.out.written (out_text p.replies)) (sym turn.unwritten) p.out;
+    err = subst (λ s. Appends old.sinks.err.written s.err.written (err_text p.replies)) (sym turn.unwritten) p.err;
     refused = p.refused;
-    damaged = turn.writes.same;
   }
 
 -- what is taken in front of bytes that are kept is taken together with them
@@ -241,10 +215,10 @@ taken_kept (Some xs) None (Some ys) front kept taken same = absurd same
 taken_kept (Some xs) (Some zs) (Some ys) front kept taken same = taken ∙ ap (λ l. front ++ l) (sym same) ∙ sym (append_assoc front kept zs)
 
 -- the source failed: all frames that are whole in what was taken were handled
-progress_stopped : (job : Command) (old mid : World) {stands : History} {number : ℕ} {any : Bool} {read read' : Reading} (left' : Option (List ℕ)) (faults : ℕ) (new : World)
-    → Progress (ReplyOf job) stands old mid read.handed number any false → TurnsFailing read read' mid new → new.left ≡ ahead read' left'
-    → WritesTaken job old (record { left = left'; faults = faults; sinks = new.sinks })
-progress_stopped job old mid {read = read} {read' = read'} left' faults new p turn is = record {
+progress_stopped : (R : Rule) (old mid : World) {stands : History} {number : ℕ} {any : Bool} {read read' : Reading} (left' : Option (List ℕ)) (faults : ℕ) (new : World)
+    → Progress R stands old mid read.handed number any false → TurnsFailing read read' mid new → new.left ≡ ahead read' left'
+    → WritesTaken R old (record { left = left'; faults = faults; sinks = new.sinks })
+progress_stopped R old mid {read = read} {read' = read'} left' faults new p turn is = record {
   frames = p.frames;
   replies = p.replies;
   front = p.front;
@@ -265,13 +239,13 @@ progress_stopped job old mid {read = read} {read' = read'} left' faults new p tu
     by_passed (inl quiet) = inl quiet
     by_passed (inr flushed) = inr (subst IsFlushed (sym turn.unwritten) flushed)
 
-pub progress_stops : (job : Command) (old mid : World) {stands : History} {number : ℕ} {any still : Bool} (read read' : Reading) (left' : Option (List ℕ)) (faults : ℕ) (new : World) (why : Stop)
-    → Progress (ReplyOf job) stands old mid read.handed number any still → (IsWaiting read → still ≡ false) → TurnAsks read read' mid new (Err why) → new.left ≡ ahead read' left'
-    → Stops job old (record { left = left'; faults = faults; sinks = new.sinks }) (Err why)
-progress_stops job old mid {stands = stands} {number = number} {any = any} read read' left' faults new stop.Source p asks turn is =
-    progress_stopped job old mid left' faults new (subst (λ b. Progress (ReplyOf job) stands old mid read.handed number any b) (asks turn.before) p) turn is
-progress_stops job old mid read read' left' faults new stop.Sink p asks turn is = tt
-progress_stops job old mid read read' left' faults new stop.Memory p asks turn is = tt
+pub progress_stops : (R : Rule) (old mid : World) {stands : History} {number : ℕ} {any still : Bool} (read read' : Reading) (left' : Option (List ℕ)) (faults : ℕ) (new : World) (why : Stop)
+    → Progress R stands old mid read.handed number any still → (IsWaiting read → still ≡ false) → TurnAsks read read' mid new (Err why) → new.left ≡ ahead read' left'
+    → StopsBy {T = Ended} R old (record { left = left'; faults = faults; sinks = new.sinks }) (Err why)
+progress_stops R old mid {stands = stands} {number = number} {any = any} read read' left' faults new stop.Source p asks turn is =
+    progress_stopped R old mid left' faults new (subst (λ b. Progress R stands old mid read.handed number any b) (asks turn.before) p) turn is
+progress_stops R old mid read read' left' faults new stop.Sink p asks turn is = tt
+progress_stops R old mid read read' left' faults new stop.Memory p asks turn is = tt
 
 -- no count of the sinks changed, and then again none
 pub none_failed-trans : (a b c : Sinks) → NoneFailed a b → NoneFailed b c → NoneFailed a c

@@ -1,3 +1,4 @@
+pub mod Begun
 pub mod Causes
 pub mod Commands
 pub mod Encoding

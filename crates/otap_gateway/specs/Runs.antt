@@ -16,6 +16,7 @@ use Rattle.otap_gateway.specs.declared.runs.stop.Stop.{Stop}
 use Rattle.otap_gateway.specs.declared.runs.stop.Stop.TheVariants as stop
 use Rattle.otap_gateway.specs.declared.runs.stop.Tally.{Tally}
 use Rattle.otap_gateway.specs.Commands.{ReplyOf}
+use Rattle.otap_gateway.specs.Jobs.{Rule}
 use Rattle.otap_gateway.specs.Lines.{end_text, words_line}
 use Rattle.otap_gateway.specs.Reply.{ReplyText, out_text, err_text, any_refused}
 
@@ -84,8 +85,8 @@ abbrev pub IsQuiet : List ReplyText → Type 0
 IsQuiet replies = (out_text replies ≡ []) × (err_text replies ≡ [])
 
 -- The source stopped the run: the sinks grew by the whole texts of all frames that are whole in the bytes that were taken
--- from it, and all of that is passed on.
-pub record WritesTaken (job : Command) (old new : World) : Type 0 where
+-- from it, and all of that is passed on. The rule says what may be replied.
+pub record WritesTaken (R : Rule) (old new : World) : Type 0 where
   pub frames : List Frame
   pub replies : List ReplyText
   pub front : List ℕ
@@ -93,17 +94,21 @@ pub record WritesTaken (job : Command) (old new : World) : Type 0 where
   pub taken : Consumes old.left new.left (front ++ rest)
   pub each : AreFrames 0 front frames
   pub no_more : IsOpen (length front) rest
-  pub texts : EachAfter (ReplyOf job) [] [] frames replies
+  pub texts : EachAfter R [] [] frames replies
   pub out : Appends old.sinks.out.written new.sinks.out.written (out_text replies)
   pub err : Appends old.sinks.err.written new.sinks.err.written (err_text replies)
   pub passed : IsQuiet replies ⊎ IsFlushed new.sinks
 
--- what a run leaves where the source stopped it
+-- what is left where the source stopped it
+abbrev pub StopsBy : {T : Type 0} → Rule → World → World → Result T Stop → Type 0
+StopsBy R old new (Ok x) = ⊤
+StopsBy R old new (Err stop.Source) = WritesTaken R old new
+StopsBy R old new (Err stop.Sink) = ⊤
+StopsBy R old new (Err stop.Memory) = ⊤
+
+-- what a run of a job leaves there
 abbrev pub Stops : Command → World → World → Result Tally Stop → Type 0
-Stops job old new (Ok tally) = ⊤
-Stops job old new (Err stop.Source) = WritesTaken job old new
-Stops job old new (Err stop.Sink) = ⊤
-Stops job old new (Err stop.Memory) = ⊤
+Stops job old new returned = StopsBy (ReplyOf job) old new returned
 
 abbrev pub Leaves : Command → Option (List ℕ) → Sinks → Sinks → Result Tally Stop → Type 0
 Leaves job left old new (Ok tally) = WritesAll job left old new tally

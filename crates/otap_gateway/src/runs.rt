@@ -1,6 +1,7 @@
 //! Runs: the words that a run is called with, its driver, its end, and the load that it may make itself.
 
 pub(crate) mod drive;
+pub(crate) mod handler;
 pub(crate) mod laws;
 pub(crate) mod load;
 pub(crate) mod load_laws;

@@ -1,64 +1,32 @@
 //! The run of a job over a capture: frames are read, and replies are written and passed on.
-ghost use Rattle.std.specs.Prelude.{◌≡◌, ◌<◌, ◌≤◌, [], None, OnOk};
+ghost use Rattle.std.specs.Prelude.{◌≡◌, ◌≤◌, [], None, OnOk};
 ghost use Rattle.std.specs.Io.KnownBytes.{Keeps};
-ghost use Rattle.otap_capture.specs.Capture.{capture_limit, frame_of};
 ghost use Rattle.otap_gateway.specs.Commands.{ReplyOf};
 ghost use Rattle.otap_gateway.specs.Jobs.{HasHistory};
-ghost use Rattle.otap_gateway.specs.Runs.{sinks, world, Leaves, Stops, CountsFaults, SinkFaults, IsFlushed};
-ghost use Rattle.otap_gateway.specs.Turns.{Handles, Ends, SettlesTurn, Turns, TurnAsks, world_ahead};
+ghost use Rattle.otap_gateway.specs.Runs.{sinks, world, Leaves, Stops, StopsBy, CountsFaults, SinkFaults, IsFlushed};
+ghost use Rattle.otap_gateway.specs.Turns.{Drives, Ends, OnEnd, SettlesTurn, Turns, TurnAsks, world_ahead};
 
 use crate::jobs::job::Job;
+use crate::runs::handler::{Handled, Handler};
 use crate::runs::stop::{Stop, Tally};
 use crate::texts::lines::damage_line;
-use otap_capture::{Damage, Frame, Frames, Sink, Source, Step, write_whole};
+use otap_capture::{Damage, Frames, Sink, Source, Step, write_whole};
 use std::alloc::Global;
-
-/// What a frame came to.
-#[derive(Clone, Copy)]
-pub(crate) struct Handled {
-    /// Whether it was refused.
-    pub(crate) refused: bool,
-    /// Whether something was written.
-    pub(crate) wrote: bool,
-}
 
 /// What a turn came to.
 pub(crate) enum Turn {
     Frame(Handled),
-    /// The end, and whether it is a damage.
-    End(bool),
+    /// The end of the capture.
+    End(Option<Damage>),
 }
 
-/// Writes the reply of the job to a frame.
-fn handle<J: Job, O: Sink, E: Sink>(
-    alloc: Global,
-    job: &mut J,
-    number: u64,
-    frame: &Frame<'_>,
-    out: &mut O,
-    err: &mut E,
-) -> Result<Handled, Stop>
-    requires history { HasHistory (J.stands job.old) number }
-    requires few { number < capture_limit }
-    ensures same { J.command job.new ≡ J.command job.old }
-    ensures handles { Handles (ReplyOf (J.command job.old)) (J.stands job.old) (J.stands job.new) number (frame_of frame.now)
-        (sinks O.Sink out.old E.Sink err.old)
-        (sinks O.Sink out.new E.Sink err.new) result }
-    ensures faults { SinkFaults
-        (sinks O.Sink out.old E.Sink err.old)
-        (sinks O.Sink out.new E.Sink err.new) result }
-{
-    let Ok(reply) = job.step(alloc, number, frame) else {
-        return Err(Stop::Memory);
-    };
-    write_whole(out, reply.out())?;
-    write_whole(err, reply.err())?;
-    let handled = Handled {
-        refused: reply.is_refused(),
-        wrote: reply.is_written(),
-    };
-    job.take_back(reply);
-    Ok(handled)
+/// All frames of a capture were handled.
+#[derive(Clone, Copy)]
+pub(crate) struct Ended {
+    /// Whether a frame was refused.
+    pub(crate) refused: bool,
+    /// The damage of the capture, if it has one.
+    pub(crate) end: Option<Damage>,
 }
 
 /// Passes on all that was written.
@@ -127,10 +95,10 @@ fn finish<O: Sink, E: Sink>(
     }
 }
 
-/// Takes the next step over the capture, and writes what belongs to it.
-fn take_turn<J: Job, S: Source, O: Sink, E: Sink>(
+/// Takes the next step over the capture, and writes the reply to a frame.
+fn take_turn<H: Handler, S: Source, O: Sink, E: Sink>(
     alloc: Global,
-    job: &mut J,
+    handler: &mut H,
     number: u64,
     frames: &mut Frames,
     source: &mut S,
@@ -138,12 +106,15 @@ fn take_turn<J: Job, S: Source, O: Sink, E: Sink>(
     err: &mut E,
 ) -> Result<Turn, Stop>
     requires goes_on { frames.old.ended ≡ None }
-    requires history { HasHistory (J.stands job.old) number }
+    requires history { HasHistory (H.histories handler.old) number }
     requires few { number ≤ frames.old.handed }
-    ensures same { J.command job.new ≡ J.command job.old }
-    ensures turns { Turns (ReplyOf (J.command job.old)) (J.stands job.old) (J.stands job.new) number frames.old frames.new
+    ensures same { H.task handler.new ≡ H.task handler.old }
+    ensures turns { Turns (ReplyOf (H.task handler.old)) (ReplyOf (H.task handler.old))
+        (H.histories handler.old) (H.histories handler.new) number frames.old frames.new
         (world_ahead frames.old S.Source source.old (sinks O.Sink out.old E.Sink err.old))
         (world_ahead frames.new S.Source source.new (sinks O.Sink out.new E.Sink err.new)) result }
+    // At the end of the capture the job isn't called.
+    ensures stays { OnEnd result (handler.new ≡ handler.old) }
     ensures asks { TurnAsks frames.old frames.new
         (world_ahead frames.old S.Source source.old (sinks O.Sink out.old E.Sink err.old))
         (world_ahead frames.new S.Source source.new (sinks O.Sink out.new E.Sink err.new)) result }
@@ -151,22 +122,58 @@ fn take_turn<J: Job, S: Source, O: Sink, E: Sink>(
         (world_ahead frames.old S.Source source.old (sinks O.Sink out.old E.Sink err.old))
         (world_ahead frames.new S.Source source.new (sinks O.Sink out.new E.Sink err.new)) result }
 {
-    let end = match frames.next(source)? {
+    match frames.next(source)? {
         Step::Frame => {
             let Some(frame) = frames.frame() else {
                 unreachable!()
             };
-            let handled = handle(alloc, job, number, &frame, out, err)?;
-            return Ok(Turn::Frame(handled));
+            let handled = handler.handle(alloc, number, &frame, out, err)?;
+            Ok(Turn::Frame(handled))
         }
-        Step::End => None,
-        Step::Damage(damage) => Some(damage),
-    };
-    Ok(Turn::End(finish(alloc, end, out, err)?))
+        Step::End => Ok(Turn::End(None)),
+        Step::Damage(damage) => Ok(Turn::End(Some(damage))),
+    }
 }
 
-/// Runs a job over the whole capture that the source gives. Each frame is handled before the next is
+/// Writes the replies of a job to all frames of the capture that the source gives. Each frame is handled before the next is
 /// asked for, and what was written is passed on before the source is asked for more.
+fn drive_frames<H: Handler, S: Source, O: Sink, E: Sink>(
+    alloc: Global,
+    handler: &mut H,
+    source: &mut S,
+    out: &mut O,
+    err: &mut E,
+) -> Result<Ended, Stop>
+    requires { H.histories handler.old [] [] }
+    ensures same { OnOk result (H.task handler.new ≡ H.task handler.old) }
+    ensures drives { Drives (ReplyOf (H.task handler.old)) (ReplyOf (H.task handler.old)) (H.histories handler.new) (S.left source.old)
+        (sinks O.Sink out.old E.Sink err.old)
+        (sinks O.Sink out.new E.Sink err.new) result }
+    ensures stops { StopsBy (ReplyOf (H.task handler.old))
+        (world S.Source source.old (sinks O.Sink out.old E.Sink err.old))
+        (world S.Source source.new (sinks O.Sink out.new E.Sink err.new)) result }
+    ensures faults { CountsFaults
+        (world S.Source source.old (sinks O.Sink out.old E.Sink err.old))
+        (world S.Source source.new (sinks O.Sink out.new E.Sink err.new)) result }
+{
+    let mut frames = Frames::new(alloc);
+    let mut number = 0;
+    let mut refused = false;
+    let mut unflushed = false;
+    'frames: loop {
+        unflushed = settle(&frames, unflushed, out, err)?;
+        match take_turn(alloc, handler, number, &mut frames, source, out, err)? {
+            Turn::Frame(handled) => {
+                refused |= handled.refused;
+                unflushed |= handled.wrote;
+                number += 1;
+            }
+            Turn::End(end) => return Ok(Ended { refused, end }),
+        }
+    }
+}
+
+/// Runs a job over the whole capture that the source gives.
 pub(crate) fn drive<J: Job, S: Source, O: Sink, E: Sink>(
     alloc: Global,
     job: &mut J,
@@ -185,19 +192,10 @@ pub(crate) fn drive<J: Job, S: Source, O: Sink, E: Sink>(
         (world S.Source source.old (sinks O.Sink out.old E.Sink err.old))
         (world S.Source source.new (sinks O.Sink out.new E.Sink err.new)) result }
 {
-    let mut frames = Frames::new(alloc);
-    let mut number = 0;
-    let mut refused = false;
-    let mut unflushed = false;
-    'frames: loop {
-        unflushed = settle(&frames, unflushed, out, err)?;
-        match take_turn(alloc, job, number, &mut frames, source, out, err)? {
-            Turn::Frame(handled) => {
-                refused |= handled.refused;
-                unflushed |= handled.wrote;
-                number += 1;
-            }
-            Turn::End(damaged) => return Ok(Tally { refused, damaged }),
-        }
-    }
+    let ended = drive_frames(alloc, job, source, out, err)?;
+    let damaged = finish(alloc, ended.end, out, err)?;
+    Ok(Tally {
+        refused: ended.refused,
+        damaged,
+    })
 }
