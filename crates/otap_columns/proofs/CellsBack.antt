@@ -40,6 +40,7 @@ long_back z fits =
 
 id_back : (form : ColumnForm) (n : ℕ) → n < 2 ^ id_bits form → unsigned (little_bytes (id_width form) n) ≡ n
 id_back form.Wide n low = unsigned_back 4 n (omega arith) (omega arith)
+id_back (form.Coded how) n low = unsigned_back 4 n (omega arith) (omega arith)
 id_back form.Absent n low = unsigned_back 2 n (omega arith) (omega arith)
 id_back form.Plain n low = unsigned_back 2 n (omega arith) (omega arith)
 id_back form.Dict8 n low = unsigned_back 2 n (omega arith) (omega arith)

@@ -101,6 +101,7 @@ pub plain_stored : (holds : Base) (f : ColumnForm) (values : List (List ℕ)) (c
 plain_stored holds form.Absent values cell plain = refl
 plain_stored holds form.Plain values cell plain = refl
 plain_stored holds form.Wide values cell plain = refl
+plain_stored holds (form.Coded how) values cell plain = refl
 plain_stored holds form.Dict8 values cell plain = cc
 plain_stored holds form.Dict16 values cell plain = cc
 
@@ -111,12 +112,14 @@ index_stored holds form.Dict16 values cell dictionary = refl
 index_stored holds form.Absent values cell dictionary = cc
 index_stored holds form.Plain values cell dictionary = cc
 index_stored holds form.Wide values cell dictionary = cc
+index_stored holds (form.Coded how) values cell dictionary = cc
 
 pub plain_column : (f : ColumnForm) (values : List (List ℕ)) (t : Table) (column : ℕ) → is_dictionary f ≡ false → stored_column f [] t column ≡ stored_column f values t column
 unfolding stored_column
 plain_column form.Absent values t column plain = refl
 plain_column form.Plain values t column plain = refl
 plain_column form.Wide values t column plain = refl
+plain_column (form.Coded how) values t column plain = refl
 plain_column form.Dict8 values t column plain = cc
 plain_column form.Dict16 values t column plain = cc
 

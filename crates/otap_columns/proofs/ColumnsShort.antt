@@ -71,6 +71,7 @@ plain_most (base.Id wide) form.Plain = omega arith
 plain_most (base.Id wide) form.Dict8 = omega arith
 plain_most (base.Id wide) form.Dict16 = omega arith
 plain_most (base.Id wide) form.Wide = omega arith
+plain_most (base.Id wide) (form.Coded how) = omega arith
 
 form_most : (holds : Base) (f : ColumnForm) → width_most (width_for holds f) ≤ row_most holds
 unfolding width_most
@@ -79,6 +80,7 @@ form_most holds form.Dict16 = omega (arith, index_most holds)
 form_most holds form.Absent = plain_most holds form.Absent
 form_most holds form.Plain = plain_most holds form.Plain
 form_most holds form.Wide = plain_most holds form.Wide
+form_most holds (form.Coded how) = plain_most holds (form.Coded how)
 
 -- ---- texts and lists are as long as they weigh
 
@@ -151,6 +153,7 @@ long_cell holds form.Dict16 values cell long is = absurd (false≢true long)
 long_cell holds form.Absent values cell long is = plain_cell holds form.Absent cell long is
 long_cell holds form.Plain values cell long is = plain_cell holds form.Plain cell long is
 long_cell holds form.Wide values cell long is = plain_cell holds form.Wide cell long is
+long_cell holds (form.Coded how) values cell long is = plain_cell holds (form.Coded how) cell long is
 
 long_cells : (g : Cell → Option (List ℕ)) (rows : List (List Cell)) (column : ℕ) → ((row : ℕ) → row < length rows → cell_len (g (cell_in rows column row)) ≤ cell_weight (cell_in rows column row))
     → cells_len (map g (column_in rows column)) ≤ sum_by cell_weight (column_in rows column)

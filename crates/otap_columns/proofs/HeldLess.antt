@@ -174,6 +174,7 @@ module _ (kind : Kind) (forms : Forms) where
   form_marked column form.Absent fits is = absurd (false≢true is)
   form_marked column form.Plain fits is = absurd (false≢true is)
   form_marked column form.Wide fits is = absurd (false≢true is)
+  form_marked column (form.Coded how) fits is = absurd (false≢true is)
 
   by_slot : FormsFit kind forms → (place : ℕ) (a : ArraySpec) (slot : ArraySlot) → field_of_array a ≡ slot_field kind forms slot
       → known_column kind (arrays_of (schema_for kind forms)) place ≡ slot_column slot → has_dictionary a ≡ true → is_marked slot ≡ true

@@ -44,6 +44,7 @@ one_reached form.Dict16 values n low dictionary few = omega (arith, low, few)
 one_reached form.Absent values n low dictionary few = absurd (false≢true dictionary)
 one_reached form.Plain values n low dictionary few = absurd (false≢true dictionary)
 one_reached form.Wide values n low dictionary few = absurd (false≢true dictionary)
+one_reached (form.Coded how) values n low dictionary few = absurd (false≢true dictionary)
 
 place_reached : (f : ColumnForm) (values : List (List ℕ)) (x : Option (List ℕ)) → is_dictionary f ≡ true → FitsIndexes f (length values) → IsIndexFor f (place_among values x)
 place_reached f values None dictionary few = tt
@@ -112,3 +113,4 @@ index_fixed holds form.Dict16 dictionary = refl
 index_fixed holds form.Absent dictionary = absurd (false≢true dictionary)
 index_fixed holds form.Plain dictionary = absurd (false≢true dictionary)
 index_fixed holds form.Wide dictionary = absurd (false≢true dictionary)
+index_fixed holds (form.Coded how) dictionary = absurd (false≢true dictionary)

@@ -33,6 +33,7 @@ id_supported form.Plain = refl
 id_supported form.Dict8 = refl
 id_supported form.Dict16 = refl
 id_supported form.Wide = refl
+id_supported (form.Coded how) = refl
 
 type_supported : (b : Base) (f : ColumnForm) → is_supported (arrow_type_in b f) ≡ true
 type_supported base.U8 f = refl
@@ -59,6 +60,7 @@ id_no_list form.Plain = refl
 id_no_list form.Dict8 = refl
 id_no_list form.Dict16 = refl
 id_no_list form.Wide = refl
+id_no_list (form.Coded how) = refl
 
 pub type_item : (b : Base) (f : ColumnForm) → FitsItem (arrow_type_in b f) (item_in b)
 type_item base.U8 f = refl
@@ -86,6 +88,7 @@ id_takes form.Plain = refl
 id_takes form.Dict8 = refl
 id_takes form.Dict16 = refl
 id_takes form.Wide = refl
+id_takes (form.Coded how) = refl
 
 type_takes : (b : Base) (f : ColumnForm) → takes_dictionary (arrow_type_in b form.Plain) ≡ true → takes_dictionary (arrow_type_in b f) ≡ true
 type_takes base.U8 f is = is
@@ -138,6 +141,7 @@ module _ (kind : Kind) (forms : Forms) (fit : FormsFit kind forms) where
   types_fit column form.Dict8 below is fits = (dictionary_fits column form.Dict8 below fits, ap (arrow_type_in (column_at kind column).base) is)
   types_fit column form.Dict16 below is fits = (dictionary_fits column form.Dict16 below fits, ap (arrow_type_in (column_at kind column).base) is)
   types_fit column form.Wide below is fits = tt
+  types_fit column (form.Coded how) below is fits = tt
 
   member_leaf : (above : List (List ℕ)) (m : Member) → is_member (columns_of kind) above m ≡ true → IsLeaf types (leaf_in kind forms m)
   member_leaf above m is =

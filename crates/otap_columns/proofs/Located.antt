@@ -2,7 +2,7 @@
 use Rattle.std.proofs.Common.{◌≡◌, ℕ, zero, suc, ◌+◌, ◌<◌, Bool, true, false, List, [], ◌∷◌, ◌++◌, map, length, slice_get, get_or, Option, None, Some, refl, sym, ap, ◌∙◌, subst, inl, inr, arith}
 use Rattle.std.specs.Prelude.{◌&&◌, ◌||◌, not, option_map}
 use Rattle.std.specs.List.{list_any, flat_map, range_with_len, position_from}
-use Rattle.std.proofs.lemmas.Bool.{cases_Bool, and_from, eqb-true, true≢false}
+use Rattle.std.proofs.lemmas.Bool.{cases_Bool, and_from, and_parts, eqb-true, true≢false}
 use Rattle.std.proofs.lemmas.Iterator.Adapters.{position_from-zero}
 use Rattle.std.proofs.lemmas.List.{length-map, map-append}
 use Rattle.std.proofs.lemmas.List.Folds.{list_any-append}
@@ -12,7 +12,6 @@ use Rattle.std.proofs.Math.Bool.{or-true}
 use Rattle.lists.proofs.Every.{map_over}
 use Rattle.arrow_schema.specs.declared.spec.ArrowType.{ArrowType}
 use Rattle.arrow_schema.specs.declared.spec.ArrowType.TheVariants as arrow
-use Rattle.arrow_schema.specs.declared.spec.Encoding.TheVariants as encoding
 use Rattle.arrow_buffers.proofs.EachBelow.{all_below-at, all_below-each}
 use Rattle.arrow_arrays.specs.declared.spec.Above.{Above}
 use Rattle.arrow_arrays.specs.declared.spec.Above.TheVariants as parent
@@ -24,17 +23,19 @@ use Rattle.arrow_arrays.proofs.PathsWalked.{paths_law}
 use Rattle.otap_cells.specs.declared.payload.Kind.{Kind}
 use Rattle.otap_cells.specs.declared.profile.Base.{Base}
 use Rattle.otap_cells.specs.declared.profile.Base.TheVariants as base
+use Rattle.otap_cells.specs.declared.profile.Coding.{Coding}
+use Rattle.otap_cells.specs.declared.profile.Coding.TheVariants as coding
 use Rattle.otap_cells.specs.Bases.{is_id}
-use Rattle.otap_cells.specs.Columns.{columns_of, column_at, base_at, width_of}
+use Rattle.otap_cells.specs.Columns.{ColumnSpec, columns_of, column_at, base_at, width_of, allows}
 use Rattle.otap_dicts.proofs.Places.{found_from}
 use Rattle.otap_columns.specs.declared.forms.ColumnForm.{ColumnForm}
 use Rattle.otap_columns.specs.declared.forms.ColumnForm.TheVariants as form
-use Rattle.otap_columns.specs.Known.{is_column, known_column, known_columns, place_in, place_at, elements_at, stores, fits_encoding, fits_as, fits_column, fits_at, columns_fit}
+use Rattle.otap_columns.specs.Known.{is_allowed, is_column, known_column, known_columns, place_in, place_at, elements_at, stores, fits_encoding, fits_as, fits_column, fits_at, columns_fit}
 use Rattle.otap_columns.specs.Groups.{Member, Group, grouped}
 use Rattle.otap_columns.specs.Groups as group
-use Rattle.otap_columns.specs.Schemas.{Forms, is_present, FormsFit, id_type, arrow_type_in, item_in, dict_for, members_there, schema_for, ArraySlot, Struct, Column, Items, items_after, slots_of_member}
+use Rattle.otap_columns.specs.Schemas.{Forms, is_present, fits_form, FormsFit, id_type, arrow_type_in, item_in, dict_for, encoding_of, encoding_for, members_there, schema_for, ArraySlot, Struct, Column, Items, items_after, slots_of_member}
 use Rattle.otap_columns.specs.Schemas.{slots_under, slots_in, slots_for, item_type, slot_field, slot_column, IsArraySlot, IsFound}
-use Rattle.otap_columns.proofs.Finding.{PassesAt, passes_at}
+use Rattle.otap_columns.proofs.Finding.{PassesAt, passes_at, known_column-below}
 use Rattle.otap_columns.proofs.Grouping.{members_of, is_of, has_column, kinds_grouped}
 use Rattle.otap_columns.proofs.Keeping.{schema_readable, member_place}
 use Rattle.otap_columns.proofs.Slotted.{is_empty, not_empty, fact_of, slot_fact, FollowsItem, HasItems, Follow, schema_slots}
@@ -75,6 +76,7 @@ id_stored form.Plain wide elements = refl
 id_stored form.Dict8 wide elements = refl
 id_stored form.Dict16 wide elements = refl
 id_stored form.Wide wide elements = refl
+id_stored (form.Coded how) wide elements = refl
 
 type_stored : (b : Base) (f : ColumnForm) (elements : Option ArrowType) → ((item : ArrowType) → item_in b ≡ Some item → elements ≡ Some item) → stores b (arrow_type_in b f) elements ≡ true
 type_stored base.U8 f elements items = refl
@@ -94,6 +96,21 @@ type_stored base.Duration f elements items = refl
 type_stored base.ListU64 f elements items = rw (items (arrow.Int 64 false) refl) refl
 type_stored base.ListF64 f elements items = rw (items arrow.Double refl) refl
 type_stored (base.Id wide) f elements items = id_stored f wide elements
+
+-- a form that fits names an encoding that the column allows
+coding_allowed : (c : ColumnSpec) (how : Coding) → is_allowed c (encoding_of how) ≡ allows c how
+coding_allowed c coding.Plain = refl
+coding_allowed c coding.Delta = refl
+coding_allowed c coding.Run = refl
+
+form_encoded : (c : ColumnSpec) (f : ColumnForm) → fits_form c f ≡ true → fits_encoding c (encoding_for f) ≡ true
+form_encoded c form.Absent fits = or-true (not (is_id c.base))
+form_encoded c form.Plain fits = or-true (not (is_id c.base))
+form_encoded c form.Dict8 fits = or-true (not (is_id c.base))
+form_encoded c form.Dict16 fits = or-true (not (is_id c.base))
+form_encoded c form.Wide fits = or-true (not (is_id c.base))
+form_encoded c (form.Coded how) fits =
+    ap (λ (b : Bool). not (is_id c.base) || b) (coding_allowed c how ∙ (and_parts (is_id c.base) (allows c how) fits).1) ∙ or-true (not (is_id c.base))
 
 module _ (kind : Kind) (forms : Forms) where
   -- ---- which columns are there
@@ -263,23 +280,23 @@ module _ (kind : Kind) (forms : Forms) where
 
     -- ---- each known column has its type
 
-    fits_slot : (place : ℕ) (a : ArraySpec) (s : ArraySlot) → slice_get slots place ≡ Some s → field_of_array a ≡ slot_field kind forms s
+    fits_slot : (place : ℕ) (a : ArraySpec) (s : ArraySlot) → slice_get slots place ≡ Some s → field_of_array a ≡ slot_field kind forms s → known_column kind arrays place ≡ slot_column s
         → fits_as kind a.kind a.encoding (elements_at arrays place) (slot_column s) ≡ true
-    fits_slot place a (Struct name) there field = refl
-    fits_slot place a (Items column) there field = refl
-    fits_slot place a (Column m) there field =
+    fits_slot place a (Struct name) there field known = refl
+    fits_slot place a (Items column) there field known = refl
+    fits_slot place a (Column m) there field known =
         let type : a.kind ≡ arrow_type_in (column_at kind m.column).base (forms m.column) = ap (λ (f : FieldIn). f.kind) field in
-        let named : a.encoding ≡ encoding.None = ap (λ (f : FieldIn). f.encoding) field in
+        let named : a.encoding ≡ encoding_for (forms m.column) = ap (λ (f : FieldIn). f.encoding) field in
         and_from (stores (base_at kind m.column) a.kind (elements_at arrays place)) (fits_encoding (column_at kind m.column) a.encoding)
         (ap (λ (t : ArrowType). stores (base_at kind m.column) t (elements_at arrays place)) type
         ∙ type_stored (column_at kind m.column).base (forms m.column) (elements_at arrays place) (λ item has. elements_are place m item there has))
-        (ap (fits_encoding (column_at kind m.column)) named ∙ or-true (not (is_id (column_at kind m.column).base)))
+        (ap (fits_encoding (column_at kind m.column)) named ∙ form_encoded (column_at kind m.column) (forms m.column) (fit m.column (known_column-below kind arrays place m.column known)))
 
     fits_place : (place : ℕ) (o : Option ArraySpec) → slice_get arrays place ≡ o → fits_column kind o (elements_at arrays place) (known_column kind arrays place) ≡ true
     fits_place place None here = refl
     fits_place place (Some a) here =
         let s = slot_at place a here in
-        ap (fits_as kind a.kind a.encoding (elements_at arrays place)) s.known ∙ fits_slot place a s.slot s.at s.field
+        ap (fits_as kind a.kind a.encoding (elements_at arrays place)) s.known ∙ fits_slot place a s.slot s.at s.field s.known
 
     pub schema_fits : columns_fit kind arrays ≡ true
     unfolding columns_fit
@@ -316,13 +333,14 @@ module _ (kind : Kind) (forms : Forms) where
 
     -- the field of a column
     column_field : (column : ℕ) (s : ArraySlot) (a : ArraySpec) → slot_column s ≡ Some column → field_of_array a ≡ slot_field kind forms s
-        → (a.kind ≡ arrow_type_in (column_at kind column).base (forms column)) × (a.dict ≡ dict_for column (forms column))
+        → (a.kind ≡ arrow_type_in (column_at kind column).base (forms column)) × (a.dict ≡ dict_for column (forms column)) × (a.encoding ≡ encoding_for (forms column))
     column_field column (Struct name) a is field = absurd (cc (is))
     column_field column (Items of) a is field = absurd (cc (is))
     column_field column (Column m) a is field =
         let same : m.column ≡ column = cc (is) in (
           ap (λ (f : FieldIn). f.kind) field ∙ ap (λ (c : ℕ). arrow_type_in (column_at kind c).base (forms c)) same,
           ap (λ (f : FieldIn). f.dict) field ∙ ap (λ (c : ℕ). dict_for c (forms c)) same,
+          ap (λ (f : FieldIn). f.encoding) field ∙ ap (λ (c : ℕ). encoding_for (forms c)) same,
         )
 
     pub column_found : (column : ℕ) → column < width_of kind → is_present (forms column) ≡ true → IsFound kind forms column
@@ -332,4 +350,4 @@ module _ (kind : Kind) (forms : Forms) where
         let a = get_within arrays p.0 k.0 in
         let s = slot_at p.0 a.0 a.1 in
         let own = column_field column s.slot a.0 (sym s.known ∙ k.1) s.field in
-        record { place = p.0; found = p.1; array = a.0; at = a.1; known = k.1; type = own.0; dict = own.1 }
+        record { place = p.0; found = p.1; array = a.0; at = a.1; known = k.1; type = own.0; dict = own.1; encoding = own.2 }

@@ -10,10 +10,13 @@ use Rattle.arrow_schema.specs.Branches.{Branch, Leaf, items_in, leaf_names, bran
 use Rattle.arrow_schema.proofs.Branched.{branches_names, branches_named}
 use Rattle.otap_cells.specs.declared.payload.Kind.{Kind}
 use Rattle.otap_cells.specs.declared.payload.Kind.TheVariants as table
+use Rattle.otap_cells.specs.declared.profile.Coding.TheVariants as coding
 use Rattle.otap_cells.specs.Columns.{ColumnSpec, columns_of, column_at, logs, spans, metrics, attrs, deep_attrs, span_events, span_links, number_points, summary_points, hist_points, exemplars}
+use Rattle.otap_columns.specs.declared.forms.ColumnForm.{ColumnForm}
+use Rattle.otap_columns.specs.declared.forms.ColumnForm.TheVariants as form
 use Rattle.otap_columns.specs.Groups.{Member, Group, grouped}
 use Rattle.otap_columns.specs.Groups as group
-use Rattle.otap_columns.specs.Schemas.{Forms, is_present, item_in, leaf_in, members_there, branches_under, branches_in, branches_for, schema_for}
+use Rattle.otap_columns.specs.Schemas.{Forms, is_present, encoding_for, item_in, leaf_in, members_there, branches_under, branches_in, branches_for, schema_for}
 
 -- ---- how long the names of a group are at most
 
@@ -145,18 +148,28 @@ module _ (kind : Kind) (forms : Forms) where
 
   -- ---- encodings
 
+  form_named : (f : ColumnForm) → is_named (encoding_for f) ≡ true
+  form_named form.Absent = refl
+  form_named form.Plain = refl
+  form_named form.Dict8 = refl
+  form_named form.Dict16 = refl
+  form_named form.Wide = refl
+  form_named (form.Coded coding.Plain) = refl
+  form_named (form.Coded coding.Delta) = refl
+  form_named (form.Coded coding.Run) = refl
+
   leaves_named : (ms : List Member) → list_all (λ (l : Leaf). is_named l.encoding) (map (leaf_in kind forms) ms) ≡ true
   leaves_named [] = refl
-  leaves_named (m ∷ ms) = leaves_named ms
+  leaves_named (m ∷ ms) = and_from (is_named (encoding_for (forms m.column))) (list_all (λ (l : Leaf). is_named l.encoding) (map (leaf_in kind forms) ms)) (form_named (forms m.column)) (leaves_named ms)
 
   under_named : (struct : List ℕ) (there : List Member) → list_all is_branch_named (branches_under kind forms struct there) ≡ true
   under_named struct [] = refl
-  under_named struct (m ∷ there) = and_from (list_all (λ (l : Leaf). is_named l.encoding) (map (leaf_in kind forms) there)) true (leaves_named there) refl
+  under_named struct (m ∷ there) = and_from (list_all (λ (l : Leaf). is_named l.encoding) (map (leaf_in kind forms) (m ∷ there))) true (leaves_named (m ∷ there)) refl
 
   pub group_named : (g : Group) → list_all is_branch_named (branches_in kind forms g) ≡ true
   group_named (group.Alone m) =
       elim (cases_Bool (is_present (forms m.column))) [
-        | inl there ↦ rw there refl
+        | inl there ↦ rw there (and_from (is_named (encoding_for (forms m.column))) true (form_named (forms m.column)) refl)
         | inr gone ↦ rw gone refl
       ]
   group_named (group.Under struct members) = under_named struct (members_there forms members)

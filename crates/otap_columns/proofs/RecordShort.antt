@@ -58,6 +58,7 @@ head_marked c form.Dict16 fits = let marked : mark c ≡ 1 = rw fits refl in ome
 head_marked c form.Absent fits = omega arith
 head_marked c form.Plain fits = omega arith
 head_marked c form.Wide fits = omega arith
+head_marked c (form.Coded how) fits = omega arith
 
 heads_marked : (kind : Kind) (forms : Forms) → FormsFit kind forms → heads_most forms (width_of kind) ≤ head_limit * dictionary_columns kind
 heads_marked kind forms fit =

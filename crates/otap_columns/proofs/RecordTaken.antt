@@ -33,7 +33,7 @@ use Rattle.otap_columns.specs.Known.{place_at, column_coding, column_greatest, s
 use Rattle.otap_columns.specs.Substreams.{SubstreamIn, held_if, held_in, schema_in, substream_of, substream_in, value_by_index, is_index_below, replaced}
 use Rattle.otap_columns.specs.Substreams.{field_value, value_if, column_value, column_cell, table_of_batch, field_fits, field_fits_if, indexes_fit}
 use Rattle.otap_columns.specs.Records.{IsFineBatch, IsFineIn, IsFine, is_fine_for}
-use Rattle.otap_columns.specs.Schemas.{Forms, FormsFit, IsFound, is_present, is_dictionary, arrow_type_in, dict_for, schema_for}
+use Rattle.otap_columns.specs.Schemas.{Forms, FormsFit, IsFound, is_present, is_dictionary, arrow_type_in, coding_for, dict_for, schema_for}
 use Rattle.otap_columns.specs.Observed.{bytes_for}
 use Rattle.otap_columns.specs.BuiltCells.{FitsForm}
 use Rattle.otap_columns.specs.WrittenPayloads.{LeadsTo, Stores, HoldsRows, heads}
@@ -62,7 +62,7 @@ pub record Step (kind : Kind) (forms : Forms) (values : ℕ → List (List ℕ))
   pub holds : HoldsRows kind forms values t rows
   pub kind_is : t.kind ≡ kind
   pub table : IsTable t
-  pub codings : (column : ℕ) → is_id_at kind column ≡ true → coding_in t column ≡ coding_at kind column
+  pub codings : (column : ℕ) → is_id_at kind column ≡ true → coding_in t column ≡ coding_for (coding_at kind column) (forms column)
   pub absent_null : (column row : ℕ) → is_present (forms column) ≡ false → row < length t.rows → cell_in t.rows column row ≡ null
   pub cells_fit : (column row : ℕ) → is_present (forms column) ≡ true → FitsForm (base_at kind column) (forms column) (cell_in t.rows column row)
 
@@ -73,10 +73,12 @@ leads form.Dict16 values value found is h = h
 leads form.Absent values value found is h = absurd (false≢true is)
 leads form.Plain values value found is h = absurd (false≢true is)
 leads form.Wide values value found is h = absurd (false≢true is)
+leads (form.Coded how) values value found is h = absurd (false≢true is)
 
 plainly : (column : ℕ) (f : ColumnForm) (values : List (List ℕ)) (value found : Option (List ℕ)) → is_present f ≡ true → dict_for column f ≡ None → Stores f values value found → found ≡ value
 plainly column form.Plain values value found is none h = h
 plainly column form.Wide values value found is none h = h
+plainly column (form.Coded how) values value found is none h = h
 plainly column form.Absent values value found is none h = absurd (false≢true is)
 plainly column form.Dict8 values value found is none h = absurd (cc)
 plainly column form.Dict16 values value found is none h = absurd (cc)

@@ -15,6 +15,8 @@ use Rattle.arrow_arrays.specs.Arrays.{arrays_of}
 use Rattle.otap_cells.specs.declared.payload.Kind.{Kind}
 use Rattle.otap_cells.specs.declared.profile.Base.{Base}
 use Rattle.otap_cells.specs.declared.profile.Base.TheVariants as base
+use Rattle.otap_cells.specs.declared.profile.Coding.{Coding}
+use Rattle.otap_cells.specs.declared.profile.Coding.TheVariants as coding
 use Rattle.otap_cells.specs.Bases.{is_id}
 use Rattle.otap_cells.specs.Columns.{ColumnSpec, columns_of, column_at, width_of}
 use Rattle.otap_columns.specs.declared.forms.ColumnForm.{ColumnForm}
@@ -22,7 +24,7 @@ use Rattle.otap_columns.specs.declared.forms.ColumnForm.TheVariants as form
 use Rattle.otap_columns.specs.Known.{place_at}
 use Rattle.otap_columns.specs.Groups.{Member, Group, grouped}
 use Rattle.otap_columns.specs.Groups as group
-use Rattle.otap_columns.specs.Schemas.{Forms, is_present, fits_form, FormsFit, arrow_type_in, item_in, dict_for, leaf_in, members_there, branches_under, branches_in, branches_for, schema_for, IsFound}
+use Rattle.otap_columns.specs.Schemas.{Forms, is_present, fits_form, FormsFit, arrow_type_in, item_in, dict_for, encoding_of, encoding_for, leaf_in, members_there, branches_under, branches_in, branches_for, schema_for, IsFound}
 use Rattle.otap_columns.proofs.Grouping.{under_tests, is_member, is_group, kinds_grouped}
 use Rattle.otap_columns.proofs.Keeping.{member_below}
 use Rattle.otap_columns.proofs.Located.{column_absent, column_found}
@@ -46,30 +48,57 @@ absent_is : (f : ColumnForm) → is_present f ≡ false → f ≡ form.Absent
 absent_is form.Absent is = refl
 absent_is other is = absurd (true≢false is)
 
+-- the encodings of codings differ, and each is one
+codings_told : (a b : Coding) → encoding_of a ≡ encoding_of b → a ≡ b
+codings_told coding.Plain coding.Plain same = refl
+codings_told coding.Plain coding.Delta same = absurd (cc (same))
+codings_told coding.Plain coding.Run same = absurd (cc (same))
+codings_told coding.Delta coding.Plain same = absurd (cc (same))
+codings_told coding.Delta coding.Delta same = refl
+codings_told coding.Delta coding.Run same = absurd (cc (same))
+codings_told coding.Run coding.Plain same = absurd (cc (same))
+codings_told coding.Run coding.Delta same = absurd (cc (same))
+codings_told coding.Run coding.Run same = refl
+
+names_one : (a : Coding) → encoding.None ≡ encoding_of a → ⊥
+names_one coding.Plain same = cc (same)
+names_one coding.Delta same = cc (same)
+names_one coding.Run same = cc (same)
+
 same_form : (c : ColumnSpec) (column : ℕ) (f g : ColumnForm) → is_present f ≡ true → is_present g ≡ true → fits_form c f ≡ true → fits_form c g ≡ true → arrow_type_in c.base f ≡ arrow_type_in c.base g
-    → dict_for column f ≡ dict_for column g → f ≡ g
+    → dict_for column f ≡ dict_for column g → encoding_for f ≡ encoding_for g → f ≡ g
 unfolding is_wide
-same_form c column form.Absent g there other fits also type dict = absurd (false≢true there)
-same_form c column form.Plain form.Absent there other fits also type dict = absurd (false≢true other)
-same_form c column form.Plain form.Plain there other fits also type dict = refl
-same_form c column form.Plain form.Dict8 there other fits also type dict = absurd (cc (dict))
-same_form c column form.Plain form.Dict16 there other fits also type dict = absurd (cc (dict))
-same_form c column form.Plain form.Wide there other fits also type dict = absurd (plain_wide c.base also type)
-same_form c column form.Dict8 form.Absent there other fits also type dict = absurd (false≢true other)
-same_form c column form.Dict8 form.Plain there other fits also type dict = absurd (cc (dict))
-same_form c column form.Dict8 form.Dict8 there other fits also type dict = refl
-same_form c column form.Dict8 form.Dict16 there other fits also type dict = absurd (false≢true (ap is_wide dict))
-same_form c column form.Dict8 form.Wide there other fits also type dict = absurd (cc (dict))
-same_form c column form.Dict16 form.Absent there other fits also type dict = absurd (false≢true other)
-same_form c column form.Dict16 form.Plain there other fits also type dict = absurd (cc (dict))
-same_form c column form.Dict16 form.Dict8 there other fits also type dict = absurd (true≢false (ap is_wide dict))
-same_form c column form.Dict16 form.Dict16 there other fits also type dict = refl
-same_form c column form.Dict16 form.Wide there other fits also type dict = absurd (cc (dict))
-same_form c column form.Wide form.Absent there other fits also type dict = absurd (false≢true other)
-same_form c column form.Wide form.Plain there other fits also type dict = absurd (plain_wide c.base fits (sym type))
-same_form c column form.Wide form.Dict8 there other fits also type dict = absurd (cc (dict))
-same_form c column form.Wide form.Dict16 there other fits also type dict = absurd (cc (dict))
-same_form c column form.Wide form.Wide there other fits also type dict = refl
+same_form c column form.Absent g there other fits also type dict named = absurd (false≢true there)
+same_form c column form.Plain form.Absent there other fits also type dict named = absurd (false≢true other)
+same_form c column form.Plain form.Plain there other fits also type dict named = refl
+same_form c column form.Plain form.Dict8 there other fits also type dict named = absurd (cc (dict))
+same_form c column form.Plain form.Dict16 there other fits also type dict named = absurd (cc (dict))
+same_form c column form.Plain form.Wide there other fits also type dict named = absurd (plain_wide c.base also type)
+same_form c column form.Plain (form.Coded b) there other fits also type dict named = absurd (names_one b named)
+same_form c column form.Dict8 form.Absent there other fits also type dict named = absurd (false≢true other)
+same_form c column form.Dict8 form.Plain there other fits also type dict named = absurd (cc (dict))
+same_form c column form.Dict8 form.Dict8 there other fits also type dict named = refl
+same_form c column form.Dict8 form.Dict16 there other fits also type dict named = absurd (false≢true (ap is_wide dict))
+same_form c column form.Dict8 form.Wide there other fits also type dict named = absurd (cc (dict))
+same_form c column form.Dict8 (form.Coded b) there other fits also type dict named = absurd (names_one b named)
+same_form c column form.Dict16 form.Absent there other fits also type dict named = absurd (false≢true other)
+same_form c column form.Dict16 form.Plain there other fits also type dict named = absurd (cc (dict))
+same_form c column form.Dict16 form.Dict8 there other fits also type dict named = absurd (true≢false (ap is_wide dict))
+same_form c column form.Dict16 form.Dict16 there other fits also type dict named = refl
+same_form c column form.Dict16 form.Wide there other fits also type dict named = absurd (cc (dict))
+same_form c column form.Dict16 (form.Coded b) there other fits also type dict named = absurd (names_one b named)
+same_form c column form.Wide form.Absent there other fits also type dict named = absurd (false≢true other)
+same_form c column form.Wide form.Plain there other fits also type dict named = absurd (plain_wide c.base fits (sym type))
+same_form c column form.Wide form.Dict8 there other fits also type dict named = absurd (cc (dict))
+same_form c column form.Wide form.Dict16 there other fits also type dict named = absurd (cc (dict))
+same_form c column form.Wide form.Wide there other fits also type dict named = refl
+same_form c column form.Wide (form.Coded b) there other fits also type dict named = absurd (names_one b named)
+same_form c column (form.Coded a) form.Absent there other fits also type dict named = absurd (false≢true other)
+same_form c column (form.Coded a) form.Plain there other fits also type dict named = absurd (names_one a (sym named))
+same_form c column (form.Coded a) form.Dict8 there other fits also type dict named = absurd (names_one a (sym named))
+same_form c column (form.Coded a) form.Dict16 there other fits also type dict named = absurd (names_one a (sym named))
+same_form c column (form.Coded a) form.Wide there other fits also type dict named = absurd (names_one a (sym named))
+same_form c column (form.Coded a) (form.Coded b) there other fits also type dict named = ap form.Coded (codings_told a b named)
 
 module _ (kind : Kind) (f g : Forms) (fit : FormsFit kind f) (also : FormsFit kind g) where
   -- EQUAL SCHEMAS HAVE EQUAL FORMS
@@ -81,6 +110,7 @@ module _ (kind : Kind) (f g : Forms) (fit : FormsFit kind f) (also : FormsFit ki
       let array : one.array ≡ two.array = same_Some one.array two.array (sym one.at ∙ (λ i. slice_get (e i) (place i)) ∙ two.at) in
       same_form (column_at kind column) column (f column) (g column) there other (fit column below) (also column below)
       (sym one.type ∙ ap (λ (a : ArraySpec). a.kind) array ∙ two.type) (sym one.dict ∙ ap (λ (a : ArraySpec). a.dict) array ∙ two.dict)
+      (sym one.encoding ∙ ap (λ (a : ArraySpec). a.encoding) array ∙ two.encoding)
 
   not_one : (column : ℕ) (h k : Forms) → schema_for kind h ≡ schema_for kind k → IsFound kind h column → place_at kind (arrays_of (schema_for kind k)) column ≡ None → ⊥
   not_one column h k same one none =
@@ -120,7 +150,7 @@ module _ (kind : Kind) (f g : Forms) (fit : FormsFit kind f) (same : (column : �
     name = m.name;
     kind = arrow_type_in (column_at kind m.column).base (is i);
     dict = dict_for m.column (is i);
-    encoding = encoding.None;
+    encoding = encoding_for (is i);
     item = item_in (column_at kind m.column).base;
   }
 

@@ -20,7 +20,7 @@ use Rattle.arrow_ipc.specs.Fronts.{front_of, left_of}
 use Rattle.arrow_arrays.specs.Arrays.{arrays_of}
 use Rattle.otap_cells.specs.declared.payload.Kind.{Kind}
 use Rattle.otap_cells.specs.Cells.{IsCellOf}
-use Rattle.otap_cells.specs.Columns.{base_at, width_of}
+use Rattle.otap_cells.specs.Columns.{base_at, coding_at, width_of}
 use Rattle.otap_cells.specs.Payload.{number_of}
 use Rattle.otap_cells.specs.Tables.{Table, cell_in}
 use Rattle.otap_dicts.specs.Limits.{value_limit}
@@ -42,7 +42,7 @@ use Rattle.otap_columns.proofs.RecordTaken.{type_at, Step, held, stands, fine_al
 use Rattle.otap_columns.proofs.Located.{schema_fits}
 use Rattle.otap_columns.proofs.SchemaForms.{equal_forms}
 use Rattle.otap_columns.proofs.Tabled.{logical_is}
-use Rattle.otap_columns.proofs.ValuesSeen.{values_grow, forms_fit, few_values, small_values, absent_null, ids_fit}
+use Rattle.otap_columns.proofs.ValuesSeen.{values_grow, forms_fit, forms_own, few_values, small_values, absent_null, ids_fit}
 
 -- what a sub-stream is after tables: it begins with the schema of their forms, and each dictionary has their values
 pub record Current (kind : Kind) (tables : List Table) (ms : List IpcMessage) : Type 0 where
@@ -96,7 +96,7 @@ module _ (kind : Kind) (before : List Table) (t : Table) (bytes : List ℕ) wher
       holds = r.holds;
       kind_is = w.kind_is;
       table = w.table;
-      codings = w.coded;
+      codings = λ column id. w.coded column id ∙ sym (forms_own (coding_at kind column) kind (before ++ t ∷ []) column);
       absent_null = λ column row not low. absent_null kind before t column row not low;
       cells_fit = λ column row here. ids_fit kind before t column row here (w.ids column) (subst (λ (k : Kind). IsCellOf (base_at k column) (cell_in t.rows column row)) w.kind_is (w.table.fits column row));
     }
@@ -157,7 +157,7 @@ module _ (kind : Kind) (before : List Table) (t : Table) (bytes : List ℕ) wher
         holds = r.holds;
         kind_is = w.kind_is;
         table = w.table;
-        codings = w.coded;
+        codings = λ column id. w.coded column id ∙ sym (forms_own (coding_at kind column) kind (before ++ t ∷ []) column);
         absent_null = λ column row not low. absent_null kind before t column row not low;
         cells_fit = λ column row here. ids_fit kind before t column row here (w.ids column) (subst (λ (k : Kind). IsCellOf (base_at k column) (cell_in t.rows column row)) w.kind_is (w.table.fits column row));
       }
@@ -261,7 +261,8 @@ module _ (kind : Kind) (before : List Table) (past : List PayloadIn) (t : Table)
         table = table_of_batch kind final rows;
         gives = gives;
         same = same_table kind (form_at kind (before ++ t ∷ [])) (dictionary_values kind (before ++ t ∷ [])) start head rows t s;
-        ids = ids_read kind before t final rows refl (same_table kind (form_at kind (before ++ t ∷ [])) (dictionary_values kind (before ++ t ∷ [])) start head rows t s) s.codings;
+        ids = ids_read kind before t final rows refl (same_table kind (form_at kind (before ++ t ∷ [])) (dictionary_values kind (before ++ t ∷ [])) start head rows t s)
+            (λ column id. s.codings column id ∙ forms_own (coding_at kind column) kind (before ++ t ∷ []) column);
         schema = ap schema_in (stream ∙ ap (λ ms. ms ++ (heads head (width_of kind) ++ Rows rows ∷ [])) s.is);
         held = subst (λ (ms : List IpcMessage). held_in ms ≤ held_of_kind kind) (sym stream) (held kind (form_at kind (before ++ t ∷ [])) (dictionary_values kind (before ++ t ∷ [])) start head rows t s);
       };

@@ -4,7 +4,10 @@ use Rattle.std.proofs.Math.ListN.{get_or-append}
 use Rattle.std.proofs.Math.Seq.{get_or-append_seam}
 use Rattle.std.proofs.lemmas.List.{get_or-set_same, get_or-set_other}
 use Rattle.std.proofs.lemmas.Bool.{cases_lt, true≢false}
+use Rattle.otap_cells.specs.contracts.profile.CodingPartialEq.TheImpl as coding-contract
 use Rattle.otap_cells.specs.declared.payload.Kind.{Kind}
+use Rattle.otap_cells.specs.declared.profile.Coding.{Coding}
+use Rattle.otap_cells.specs.declared.profile.Coding.TheVariants as coding
 use Rattle.otap_cells.specs.Tables.{Table}
 use Rattle.otap_columns.specs.contracts.forms.ColumnFormPartialEq.TheImpl.{eq-value}
 use Rattle.otap_columns.specs.declared.forms.ColumnForm.{ColumnForm}
@@ -78,29 +81,54 @@ none_first kind (t ∷ tables) columns none seen = absurd (true≢false none)
 
 -- ---- forms
 
+coding_decides : (a b : Coding) → Decides (coding-contract.eq-value.it a b) (a ≡ b)
+coding_decides coding.Plain coding.Plain = (λ is. refl, λ same. refl)
+coding_decides coding.Plain coding.Delta = (λ is. cc, λ same. cc)
+coding_decides coding.Plain coding.Run = (λ is. cc, λ same. cc)
+coding_decides coding.Delta coding.Plain = (λ is. cc, λ same. cc)
+coding_decides coding.Delta coding.Delta = (λ is. refl, λ same. refl)
+coding_decides coding.Delta coding.Run = (λ is. cc, λ same. cc)
+coding_decides coding.Run coding.Plain = (λ is. cc, λ same. cc)
+coding_decides coding.Run coding.Delta = (λ is. cc, λ same. cc)
+coding_decides coding.Run coding.Run = (λ is. refl, λ same. refl)
+
+coded_decides : (a b : Coding) → Decides (eq-value.it (form.Coded a) (form.Coded b)) (form.Coded a ≡ form.Coded b)
+coded_decides a b = (λ is. ap form.Coded ((coding_decides a b).0 is), λ same. let codings : a ≡ b = cc in (coding_decides a b).1 codings)
+
 pub form_decides : (a b : ColumnForm) → Decides (eq-value.it a b) (a ≡ b)
 form_decides form.Absent form.Absent = (λ is. refl, λ same. refl)
 form_decides form.Absent form.Plain = (λ is. cc, λ same. cc)
 form_decides form.Absent form.Dict8 = (λ is. cc, λ same. cc)
 form_decides form.Absent form.Dict16 = (λ is. cc, λ same. cc)
 form_decides form.Absent form.Wide = (λ is. cc, λ same. cc)
+form_decides form.Absent (form.Coded b) = (λ is. cc, λ same. cc)
 form_decides form.Plain form.Absent = (λ is. cc, λ same. cc)
 form_decides form.Plain form.Plain = (λ is. refl, λ same. refl)
 form_decides form.Plain form.Dict8 = (λ is. cc, λ same. cc)
 form_decides form.Plain form.Dict16 = (λ is. cc, λ same. cc)
 form_decides form.Plain form.Wide = (λ is. cc, λ same. cc)
+form_decides form.Plain (form.Coded b) = (λ is. cc, λ same. cc)
 form_decides form.Dict8 form.Absent = (λ is. cc, λ same. cc)
 form_decides form.Dict8 form.Plain = (λ is. cc, λ same. cc)
 form_decides form.Dict8 form.Dict8 = (λ is. refl, λ same. refl)
 form_decides form.Dict8 form.Dict16 = (λ is. cc, λ same. cc)
 form_decides form.Dict8 form.Wide = (λ is. cc, λ same. cc)
+form_decides form.Dict8 (form.Coded b) = (λ is. cc, λ same. cc)
 form_decides form.Dict16 form.Absent = (λ is. cc, λ same. cc)
 form_decides form.Dict16 form.Plain = (λ is. cc, λ same. cc)
 form_decides form.Dict16 form.Dict8 = (λ is. cc, λ same. cc)
 form_decides form.Dict16 form.Dict16 = (λ is. refl, λ same. refl)
 form_decides form.Dict16 form.Wide = (λ is. cc, λ same. cc)
+form_decides form.Dict16 (form.Coded b) = (λ is. cc, λ same. cc)
 form_decides form.Wide form.Absent = (λ is. cc, λ same. cc)
 form_decides form.Wide form.Plain = (λ is. cc, λ same. cc)
 form_decides form.Wide form.Dict8 = (λ is. cc, λ same. cc)
 form_decides form.Wide form.Dict16 = (λ is. cc, λ same. cc)
 form_decides form.Wide form.Wide = (λ is. refl, λ same. refl)
+form_decides form.Wide (form.Coded b) = (λ is. cc, λ same. cc)
+form_decides (form.Coded a) form.Absent = (λ is. cc, λ same. cc)
+form_decides (form.Coded a) form.Plain = (λ is. cc, λ same. cc)
+form_decides (form.Coded a) form.Dict8 = (λ is. cc, λ same. cc)
+form_decides (form.Coded a) form.Dict16 = (λ is. cc, λ same. cc)
+form_decides (form.Coded a) form.Wide = (λ is. cc, λ same. cc)
+form_decides (form.Coded a) (form.Coded b) = coded_decides a b

@@ -82,6 +82,7 @@ module _ (kind : Kind) (tables : List Table) (columns : List SeenIn) (forms : Li
       by form.Absent is = tt
       by form.Plain is = tt
       by form.Wide is = tt
+      by (form.Coded how) is = tt
       by form.Dict8 is =
           let one : is_dictionary (forms_in forms column) ≡ true = ap is_dictionary is in
           let low : column < width_of kind = dictionary_low column one in

@@ -183,6 +183,7 @@ marked c form.Plain fits is = absurd (false≢true is)
 marked c form.Dict8 fits is = fits
 marked c form.Dict16 fits is = fits
 marked c form.Wide fits is = absurd (false≢true is)
+marked c (form.Coded how) fits is = absurd (false≢true is)
 
 -- nor is one of lists
 pub takes_one : (kind : Kind) (tables : List Table) (column : ℕ) → column < columns.width_of kind → is_dictionary (form_at kind tables column) ≡ true

@@ -17,13 +17,14 @@ use Rattle.otap_cells.specs.ColumnIds.{id_in, stored_in}
 use Rattle.otap_cells.specs.Continuing.{continues_in}
 use Rattle.otap_cells.specs.Ids.{Ids, IdsAfter, undone_after, base_of, goes_on}
 use Rattle.otap_cells.specs.Tables.{Table, cell_in, column_in, greatest_wide, greatest_narrow}
+use Rattle.otap_dicts.specs.declared.form.Form.{Form}
 use Rattle.otap_dicts.specs.declared.form.Form.TheVariants as ladder
 use Rattle.otap_dicts.specs.Forms.{distinct, byte_count, is_too_large, form_of}
 use Rattle.otap_dicts.proofs.Once.{grows-law}
 use Rattle.otap_dicts.specs.Limits.{narrow_limit, value_limit, byte_limit}
 use Rattle.otap_columns.specs.declared.forms.ColumnForm.{ColumnForm}
 use Rattle.otap_columns.specs.declared.forms.ColumnForm.TheVariants as form
-use Rattle.otap_columns.specs.Schemas.{is_present, is_dictionary, fits_form, FormsFit}
+use Rattle.otap_columns.specs.Schemas.{is_present, is_dictionary, coding_for, fits_form, FormsFit}
 use Rattle.otap_columns.specs.Observed.{bytes_for, given, bytes_of_values, values_in_tables, is_own_id, is_above, is_wide, has_wide_id, if_seen, id_form, id_form_if, of_ladder, form_at, dictionary_values, new_at}
 use Rattle.otap_columns.specs.BuiltCells.{id_bits, FitsForm}
 use Rattle.otap_columns.proofs.CellsBack.{null_bytes}
@@ -92,6 +93,21 @@ forms_fit kind tables column below = by (is_id_at kind column) refl
     by : (id : Bool) → is_id_at kind column ≡ id → fits_form (column_at kind column) (by_test id kind tables column) ≡ true
     by true is = ids_have (λ f. fits_form (column_at kind column) f ≡ true) (is_own_id kind column) kind tables column refl refl is
     by false is = form_of_fits kind column (column_at kind column).dictionary (values_in_tables kind tables column) refl
+
+-- no form names how ids are stored, so these are stored in their column's own way
+ladder_own : (own : Coding) (told : Form) → coding_for own (of_ladder told) ≡ own
+ladder_own own ladder.Absent = refl
+ladder_own own ladder.Dict8 = refl
+ladder_own own ladder.Dict16 = refl
+ladder_own own ladder.Plain = refl
+
+pub forms_own : (own : Coding) (kind : Kind) (tables : List Table) (column : ℕ) → coding_for own (form_at kind tables column) ≡ own
+unfolding form_at
+forms_own own kind tables column = by (is_id_at kind column)
+  where
+    by : (id : Bool) → coding_for own (by_test id kind tables column) ≡ own
+    by true = ids_have (λ f. coding_for own f ≡ own) (is_own_id kind column) kind tables column refl refl refl
+    by false = ladder_own own (form_of (column_at kind column).dictionary (values_in_tables kind tables column))
 
 -- a dictionary has at most 65,536 values
 few_ladder : (large wide : Bool) → is_dictionary (of_ladder (if large then ladder.Plain else (if wide then ladder.Dict16 else ladder.Dict8))) ≡ true → large ≡ false

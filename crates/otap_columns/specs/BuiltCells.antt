@@ -27,6 +27,7 @@ use Rattle.otap_columns.specs.Observed.{id_width}
 -- an id that fits a form
 abbrev pub id_bits : ColumnForm → ℕ
 id_bits form.Wide = 32
+id_bits (form.Coded how) = 32
 id_bits other = 16
 
 abbrev pub FitsForm : Base → ColumnForm → Cell → Type 0
@@ -83,6 +84,7 @@ width_for holds form.Dict16 = width.Fixed 2
 width_for holds form.Absent = plain_width holds form.Absent
 width_for holds form.Plain = plain_width holds form.Plain
 width_for holds form.Wide = plain_width holds form.Wide
+width_for holds (form.Coded how) = plain_width holds (form.Coded how)
 
 -- each cell of a column of a table fits the form
 abbrev pub FitsColumn : ColumnForm → Table → ℕ → Type 0

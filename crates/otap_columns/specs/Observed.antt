@@ -23,9 +23,10 @@ use Rattle.otap_columns.specs.declared.forms.ColumnForm.TheVariants as form
 
 -- ---- bytes
 
--- an id in a form: 4 bytes where it is wide, else 2
+-- an id in a form: 4 bytes where it is wide, coded or not, else 2
 abbrev pub id_width : ColumnForm → ℕ
 id_width form.Wide = 4
+id_width (form.Coded how) = 4
 id_width other = 2
 
 -- the bytes of a number, the lowest first

@@ -1,9 +1,10 @@
 -- The schema that the columns of a table make, each in its form.
-use Rattle.std.specs.Prelude.{◌≡◌, ℕ, ◌<◌, Bool, true, false, List, [], ◌∷◌, map, filter, slice_get, Option, None, Some, pos, codes}
+use Rattle.std.specs.Prelude.{◌≡◌, ℕ, ◌<◌, ◌&&◌, Bool, true, false, List, [], ◌∷◌, map, filter, slice_get, Option, None, Some, pos, codes}
 use Rattle.std.specs.List.{flat_map}
 use Rattle.arrow_schema.specs.declared.spec.ArrowType.{ArrowType}
 use Rattle.arrow_schema.specs.declared.spec.ArrowType.TheVariants as arrow
 use Rattle.arrow_schema.specs.declared.spec.DictSpec.{DictSpec}
+use Rattle.arrow_schema.specs.declared.spec.Encoding.{Encoding}
 use Rattle.arrow_schema.specs.declared.spec.Encoding.TheVariants as encoding
 use Rattle.arrow_schema.specs.declared.spec.FieldSpec.{FieldSpec}
 use Rattle.arrow_schema.specs.Branches.{Leaf, Branch, One, Under, branch_fields}
@@ -13,8 +14,10 @@ use Rattle.arrow_arrays.specs.Fields.{FieldIn, field_of_array}
 use Rattle.otap_cells.specs.declared.payload.Kind.{Kind}
 use Rattle.otap_cells.specs.declared.profile.Base.{Base}
 use Rattle.otap_cells.specs.declared.profile.Base.TheVariants as base
+use Rattle.otap_cells.specs.declared.profile.Coding.{Coding}
+use Rattle.otap_cells.specs.declared.profile.Coding.TheVariants as coding
 use Rattle.otap_cells.specs.Bases.{is_id}
-use Rattle.otap_cells.specs.Columns.{ColumnSpec, columns_of, column_at, width_of}
+use Rattle.otap_cells.specs.Columns.{ColumnSpec, columns_of, column_at, width_of, allows}
 use Rattle.otap_columns.specs.declared.forms.ColumnForm.{ColumnForm}
 use Rattle.otap_columns.specs.declared.forms.ColumnForm.TheVariants as form
 use Rattle.otap_columns.specs.Groups.{Member, Group, grouped}
@@ -36,13 +39,15 @@ is_dictionary form.Dict8 = true
 is_dictionary form.Dict16 = true
 is_dictionary other = false
 
--- a column that the profile marks may be a dictionary, and one of ids may be wide
+-- a column that the profile marks may be a dictionary; one of ids may be wide, and may then name how it is stored, in a way that
+-- it allows
 abbrev pub fits_form : ColumnSpec → ColumnForm → Bool
 fits_form c form.Absent = true
 fits_form c form.Plain = true
 fits_form c form.Dict8 = c.dictionary
 fits_form c form.Dict16 = c.dictionary
 fits_form c form.Wide = is_id c.base
+fits_form c (form.Coded how) = is_id c.base && allows c how
 
 abbrev pub FormsFit : Kind → Forms → Type 0
 FormsFit kind forms = (column : ℕ) → column < width_of kind → fits_form (column_at kind column) (forms column) ≡ true
@@ -52,6 +57,7 @@ FormsFit kind forms = (column : ℕ) → column < width_of kind → fits_form (c
 -- the type of a column's values; a wide column of ids has numbers of 32 bits
 abbrev pub id_type : ColumnForm → ArrowType
 id_type form.Wide = arrow.Int 32 false
+id_type (form.Coded how) = arrow.Int 32 false
 id_type other = arrow.Int 16 false
 
 abbrev pub arrow_type_in : Base → ColumnForm → ArrowType
@@ -85,13 +91,28 @@ dict_for column form.Dict8 = Some (record { id = pos column; wide = false })
 dict_for column form.Dict16 = Some (record { id = pos column; wide = true })
 dict_for column other = None
 
+-- the encoding that a field names, which only that of a coded column does
+abbrev pub encoding_of : Coding → Encoding
+encoding_of coding.Plain = encoding.Plain
+encoding_of coding.Delta = encoding.Delta
+encoding_of coding.Run = encoding.Run
+
+abbrev pub encoding_for : ColumnForm → Encoding
+encoding_for (form.Coded how) = encoding_of how
+encoding_for other = encoding.None
+
+-- HOW THE IDS OF A COLUMN ARE STORED in a form: as its field names it, else in the column's own way
+abbrev pub coding_for : Coding → ColumnForm → Coding
+coding_for own (form.Coded how) = how
+coding_for own other = own
+
 -- what a schema has for a column, under this name
 abbrev pub leaf_in : Kind → Forms → Member → Leaf
 leaf_in kind forms m = record {
   name = m.name;
   kind = arrow_type_in (column_at kind m.column).base (forms m.column);
   dict = dict_for m.column (forms m.column);
-  encoding = encoding.None;
+  encoding = encoding_for (forms m.column);
   item = item_in (column_at kind m.column).base;
 }
 
@@ -156,7 +177,7 @@ slot_field kind forms (Column m) = record {
   name = m.name;
   kind = arrow_type_in (column_at kind m.column).base (forms m.column);
   dict = dict_for m.column (forms m.column);
-  encoding = encoding.None;
+  encoding = encoding_for (forms m.column);
 }
 slot_field kind forms (Items column) =
     record { name = codes "item"; kind = item_type (item_in (column_at kind column).base); dict = None; encoding = encoding.None }
@@ -180,7 +201,7 @@ pub record IsArraySlot (kind : Kind) (forms : Forms) (place : ℕ) (a : ArraySpe
   pub known : known_column kind (arrays_of (schema_for kind forms)) place ≡ slot_column slot
   pub element : is_below_list a.above ≡ is_items slot
 
--- a column is found at its path, in its type and its form
+-- a column is found at its path, in its type and its form, with the encoding that its form names
 pub record IsFound (kind : Kind) (forms : Forms) (column : ℕ) : Type 0 where
   pub place : ℕ
   pub found : place_at kind (arrays_of (schema_for kind forms)) column ≡ Some place
@@ -189,3 +210,4 @@ pub record IsFound (kind : Kind) (forms : Forms) (column : ℕ) : Type 0 where
   pub known : known_column kind (arrays_of (schema_for kind forms)) place ≡ Some column
   pub type : array.kind ≡ arrow_type_in (column_at kind column).base (forms column)
   pub dict : array.dict ≡ dict_for column (forms column)
+  pub encoding : array.encoding ≡ encoding_for (forms column)

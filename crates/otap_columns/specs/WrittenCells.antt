@@ -32,6 +32,7 @@ stored_for holds form.Dict16 values cell = index_bytes 2 values (bytes_for holds
 stored_for holds form.Absent values cell = bytes_for holds form.Absent cell
 stored_for holds form.Plain values cell = bytes_for holds form.Plain cell
 stored_for holds form.Wide values cell = bytes_for holds form.Wide cell
+stored_for holds (form.Coded how) values cell = bytes_for holds (form.Coded how) cell
 
 -- a column of a table, as it is written
 unfoldable pub stored_column : ColumnForm → List (List ℕ) → Table → ℕ → List (Option (List ℕ))

@@ -88,6 +88,7 @@ Stores form.Plain values value found = found ≡ value
 Stores form.Dict8 values value found = LeadsTo values value found
 Stores form.Dict16 values value found = LeadsTo values value found
 Stores form.Wide values value found = found ≡ value
+Stores (form.Coded how) values value found = found ≡ value
 
 -- a record batch holds the cells of a table whose columns have these forms, and has no fault
 pub record HoldsRows (kind : Kind) (forms : Forms) (values : ℕ → List (List ℕ)) (t : Table) (batch : BatchIn) : Type 0 where

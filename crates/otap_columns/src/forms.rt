@@ -1,3 +1,5 @@
+use otap_cells::Coding;
+
 /// How a column is written in a record.
 #[derive(Clone, Copy, Debug, PartialEq, Eq)]
 pub enum ColumnForm {
@@ -11,4 +13,6 @@ pub enum ColumnForm {
     Dict16,
     /// As ids of 32 bits.
     Wide,
+    /// As ids of 32 bits, in a field that names how they are stored.
+    Coded(Coding),
 }

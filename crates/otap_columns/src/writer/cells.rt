@@ -76,13 +76,13 @@ fn bytes_of_number<'a>(base: Base, form: ColumnForm, n: i64) -> CellBytes<'a>
     }
 }
 
-/// An id: 4 bytes where the form is wide, else 2.
+/// An id: 4 bytes where the form is wide, coded or not, else 2.
 fn id_bytes<'a>(form: ColumnForm, id: u32) -> CellBytes<'a>
     requires { id < 2 ^ id_bits form }
     ensures { shown_bytes result ≡ Some (little_bytes (id_width form) id) }
 {
     match form {
-        ColumnForm::Wide => CellBytes::Four(id.to_le_bytes()),
+        ColumnForm::Wide | ColumnForm::Coded(_) => CellBytes::Four(id.to_le_bytes()),
         ColumnForm::Absent | ColumnForm::Plain | ColumnForm::Dict8 | ColumnForm::Dict16 => {
             CellBytes::Two((id as u16).to_le_bytes())
         }
@@ -148,7 +148,7 @@ fn push_id(built: &mut ColumnBuilder, form: ColumnForm, id: u32) -> Result<(), A
     ensures { OnOk result (built.new ≡ record { width = built.old.width; cells = built.old.cells ++ Some (little_bytes (id_width form) id) ∷ [] }) }
 {
     match form {
-        ColumnForm::Wide => built.push(Some(&id.to_le_bytes())),
+        ColumnForm::Wide | ColumnForm::Coded(_) => built.push(Some(&id.to_le_bytes())),
         ColumnForm::Absent | ColumnForm::Plain | ColumnForm::Dict8 | ColumnForm::Dict16 => {
             built.push(Some(&(id as u16).to_le_bytes()))
         }
@@ -170,7 +170,11 @@ pub(crate) fn push_index(
         None => built.push(None),
         Some(place) => match form {
             ColumnForm::Dict8 => built.push(Some(&[place as u8])),
-            ColumnForm::Absent | ColumnForm::Plain | ColumnForm::Wide | ColumnForm::Dict16 => {
+            ColumnForm::Absent
+            | ColumnForm::Plain
+            | ColumnForm::Wide
+            | ColumnForm::Coded(_)
+            | ColumnForm::Dict16 => {
                 built.push(Some(&(place as u16).to_le_bytes()))
             }
         },

@@ -29,7 +29,9 @@ pub(crate) fn width_for(base: Base, form: ColumnForm) -> Width
     match form {
         ColumnForm::Dict8 => Width::Fixed(1),
         ColumnForm::Dict16 => Width::Fixed(2),
-        ColumnForm::Absent | ColumnForm::Plain | ColumnForm::Wide => plain_width(base, form),
+        ColumnForm::Absent | ColumnForm::Plain | ColumnForm::Wide | ColumnForm::Coded(_) => {
+            plain_width(base, form)
+        }
     }
 }
 
@@ -48,7 +50,7 @@ pub(crate) fn plain_width(base: Base, form: ColumnForm) -> Width
         Base::Utf8 | Base::Binary => Width::Var,
         Base::ListU64 | Base::ListF64 => Width::List(8),
         Base::Id { .. } => match form {
-            ColumnForm::Wide => Width::Fixed(4),
+            ColumnForm::Wide | ColumnForm::Coded(_) => Width::Fixed(4),
             _ => Width::Fixed(2),
         },
     }
@@ -145,7 +147,11 @@ fn index_width(form: ColumnForm) -> u32
 {
     match form {
         ColumnForm::Dict8 => 1,
-        ColumnForm::Absent | ColumnForm::Plain | ColumnForm::Wide | ColumnForm::Dict16 => 2,
+        ColumnForm::Absent
+        | ColumnForm::Plain
+        | ColumnForm::Wide
+        | ColumnForm::Coded(_)
+        | ColumnForm::Dict16 => 2,
     }
 }
 

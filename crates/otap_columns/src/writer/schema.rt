@@ -5,13 +5,13 @@ ghost use Rattle.arrow_schema.specs.Branches as branches;
 ghost use Rattle.arrow_schema.specs.declared.spec.ArrowType.TheVariants as arrow;
 ghost use Rattle.otap_cells.specs.Columns.{width_of};
 ghost use Rattle.otap_columns.specs.Groups as group;
-ghost use Rattle.otap_columns.specs.Schemas.{branches_in, dict_for, is_present, item_in, leaf_in, members_there, schema_for, arrow_type_in};
+ghost use Rattle.otap_columns.specs.Schemas.{branches_in, dict_for, encoding_for, encoding_of, is_present, item_in, leaf_in, members_there, schema_for, arrow_type_in};
 ghost use Rattle.otap_columns.specs.WrittenGroups.{IsWithin, forms_in, group_in, member_in};
 
 use crate::forms::ColumnForm;
 use crate::writer::groups::{Group, Member, groups};
 use arrow_schema::{ArrowType, DictSpec, Encoding, FieldList, FieldSpec, Name, SchemaSpec};
-use otap_cells::{Base, Kind, base_of};
+use otap_cells::{Base, Coding, Kind, base_of};
 use std::alloc::{AllocError, Global};
 
 /// The schema of a table whose columns have these forms.
@@ -138,7 +138,7 @@ fn leaf_field(
         name,
         kind: type_of(base, form),
         dict: dict_of(member.column, form),
-        encoding: Encoding::None,
+        encoding: encoding_for(form),
         children,
     })
 }
@@ -204,7 +204,7 @@ pub(crate) fn type_of(base: Base, form: ColumnForm) -> ArrowType
         Base::Duration => ArrowType::Duration,
         Base::ListU64 | Base::ListF64 => ArrowType::List,
         Base::Id { .. } => match form {
-            ColumnForm::Wide => int(32, false),
+            ColumnForm::Wide | ColumnForm::Coded(_) => int(32, false),
             _ => int(16, false),
         },
     }
@@ -240,6 +240,26 @@ fn dict_of(column: u32, form: ColumnForm) -> Option<DictSpec>
             id: i64::from(column),
             wide: true,
         }),
-        ColumnForm::Absent | ColumnForm::Plain | ColumnForm::Wide => None,
+        ColumnForm::Absent | ColumnForm::Plain | ColumnForm::Wide | ColumnForm::Coded(_) => None,
+    }
+}
+
+/// The encoding that the field of a column names, which only that of a coded column does.
+fn encoding_for(form: ColumnForm) -> Encoding
+    ensures { result ≡ encoding_for form }
+{
+    match form {
+        ColumnForm::Coded(coding) => encoding_of(coding),
+        _ => Encoding::None,
+    }
+}
+
+fn encoding_of(coding: Coding) -> Encoding
+    ensures { result ≡ encoding_of coding }
+{
+    match coding {
+        Coding::Plain => Encoding::Plain,
+        Coding::Delta => Encoding::Delta,
+        Coding::Run => Encoding::Run,
     }
 }
