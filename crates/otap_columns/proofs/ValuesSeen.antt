@@ -280,7 +280,7 @@ pub ids_by_width : (kind : Kind) (tables : List Table) (column : ℕ) → is_id_
 unfolding form_at
 ids_by_width kind tables column id there = rw id (by_width (is_own_id kind column) kind tables column (rw id at there))
 
-wide_low : (holds : Base) (n : ℕ) → is_id holds ≡ true → IsCellOf holds (number (pos n)) → n < 2 ^ 32
+pub wide_low : (holds : Base) (n : ℕ) → is_id holds ≡ true → IsCellOf holds (number (pos n)) → n < 2 ^ 32
 wide_low (base.Id wide) n id is = is
 wide_low base.U8 n id is = absurd (false≢true id)
 wide_low base.U16 n id is = absurd (false≢true id)
@@ -342,7 +342,7 @@ fits_other base.Duration f cell none = tt
 fits_other base.ListU64 f cell none = tt
 fits_other base.ListF64 f cell none = tt
 
-fits_by : (holds : Base) (f : ColumnForm) (cell : Cell) → IsCellOf holds cell → ((n : ℕ) → is_id holds ≡ true → cell ≡ number (pos n) → n < 2 ^ id_bits f) → FitsForm holds f cell
+pub fits_by : (holds : Base) (f : ColumnForm) (cell : Cell) → IsCellOf holds cell → ((n : ℕ) → is_id holds ≡ true → cell ≡ number (pos n) → n < 2 ^ id_bits f) → FitsForm holds f cell
 fits_by holds f (number z) is low = fits_number holds f z is low
 fits_by holds f null is low = fits_other holds f null (λ z e. cc)
 fits_by holds f (bits n) is low = fits_other holds f (bits n) (λ z e. cc)

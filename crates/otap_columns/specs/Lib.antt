@@ -31,3 +31,5 @@ pub mod Inside
 pub mod ReaderInside
 pub mod Resolved
 pub mod RowsInside
+pub mod Plain
+pub mod PlainInside

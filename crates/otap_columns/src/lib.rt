@@ -4,11 +4,13 @@
 
 mod forms;
 pub mod laws;
+mod plain;
 mod reader;
 mod refusal;
 mod writer;
 
 pub use forms::ColumnForm;
+pub use plain::{plain_batch, plain_schema};
 pub use reader::Reader;
 pub use reader::dictionary::MAX_VALUES;
 pub use reader::view::RowsView;

@@ -174,9 +174,7 @@ pub(crate) fn push_index(
             | ColumnForm::Plain
             | ColumnForm::Wide
             | ColumnForm::Coded(_)
-            | ColumnForm::Dict16 => {
-                built.push(Some(&(place as u16).to_le_bytes()))
-            }
+            | ColumnForm::Dict16 => { built.push(Some(&(place as u16).to_le_bytes())) }
         },
     }
 }
@@ -207,7 +205,7 @@ pub(crate) fn unset_rows(table: &LogicalTable, column: u32, count: u64) -> u64
 }
 
 /// Whether a cell is null.
-fn is_null(cell: CellView<'_>) -> bool
+pub(crate) fn is_null(cell: CellView<'_>) -> bool
     ensures { result ≡ true → seen cell.entry ≡ null }
 {
     matches!(cell, CellView::Null)
