@@ -51,7 +51,7 @@ profile_sound t sound = record {
 
 -- ---- the forms
 
-abbrev plain_if : Table → ℕ → Bool → ColumnForm
+abbrev pub plain_if : Table → ℕ → Bool → ColumnForm
 plain_if t column id = if id then form.Coded (coding_in t column) else form.Plain
 
 fits_if : (t : Table) (column : ℕ) (id : Bool) → IsTable t → is_id_at t.kind column ≡ id → fits_form (column_at t.kind column) (plain_if t column id) ≡ true

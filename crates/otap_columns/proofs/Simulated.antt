@@ -175,7 +175,7 @@ no_rows-heads kind opening before now batches (suc n) =
     list_any-append is_rows (heads (batches_for kind opening before now batches) n) (batches_for kind opening before now batches n)
     ∙ rw (no_rows-heads kind opening before now batches n) (no_rows-batch (is_wanted opening kind before now n) (not opening) n (batches n))
 
-last_rows-after : (start ms : List IpcMessage) (rows : BatchIn) → last_rows (start ++ (ms ++ Rows rows ∷ [])) ≡ Some rows
+pub last_rows-after : (start ms : List IpcMessage) (rows : BatchIn) → last_rows (start ++ (ms ++ Rows rows ∷ [])) ≡ Some rows
 unfolding last_rows
 last_rows-after start ms rows =
     ap (λ all. last_after None (flat_map record_batches all)) (sym (append_assoc start ms (Rows rows ∷ [])))
@@ -194,10 +194,10 @@ module _ (kind : Kind) (before : List Table) (past : List PayloadIn) (t : Table)
   unfolding opens
   same_opens = ap (λ k. opens_after (last_of k past) p) (sym type)
 
-  stream_opens : opens past p ≡ true → stream_of (pos (number_of kind)) (past ++ p ∷ []) ≡ front_of p.bytes
+  pub stream_opens : opens past p ≡ true → stream_of (pos (number_of kind)) (past ++ p ∷ []) ≡ front_of p.bytes
   stream_opens is = stream_of-own (pos (number_of kind)) past p is_own ∙ rw (same_opens ∙ is) refl
 
-  stream_goes : opens past p ≡ false → stream_of (pos (number_of kind)) (past ++ p ∷ []) ≡ stream_of (pos (number_of kind)) past ++ front_of p.bytes
+  pub stream_goes : opens past p ≡ false → stream_of (pos (number_of kind)) (past ++ p ∷ []) ≡ stream_of (pos (number_of kind)) past ++ front_of p.bytes
   stream_goes is = stream_of-own (pos (number_of kind)) past p is_own ∙ rw (same_opens ∙ is) refl
 
   -- by its step: the messages before it, those of its record, and what the record is read after

@@ -33,3 +33,4 @@ pub mod Resolved
 pub mod RowsInside
 pub mod Plain
 pub mod PlainInside
+pub mod PlainPayloads

@@ -15,7 +15,8 @@ ghost use Rattle.otap_columns.specs.Schemas.{Forms, is_present, FormsFit, item_i
 ghost use Rattle.otap_columns.specs.Schemas.{Column, Items};
 ghost use Rattle.otap_columns.specs.Groups.{Member};
 ghost use Rattle.otap_columns.specs.Known.{known_column, place_at, columns_fit};
-ghost use Rattle.otap_cells.specs.Columns.{column_at, has_dot, name_at, width_of};
+ghost use Rattle.otap_cells.specs.Columns.{column_at, has_dot, is_id_at, name_at, width_of};
+ghost use Rattle.otap_cells.specs.Tables.{Table, coding_in};
 ghost use Rattle.arrow_arrays.specs.Arrays.{arrays_of, path_of};
 ghost use Rattle.std.specs.List.{join_with_byte, list_any};
 ghost use Rattle.lists.specs.Payloads.{PayloadIn};
@@ -23,6 +24,10 @@ ghost use Rattle.arrow_arrays.specs.declared.spec.ArraySpec.{ArraySpec};
 ghost use Rattle.arrow_schema.specs.declared.spec.ArrowType.{ArrowType};
 ghost use Rattle.arrow_schema.specs.Readable.{IsReadable};
 ghost use Rattle.otap_columns.specs.Streams.{is_of, opens, stream_of};
+ghost use Rattle.arrow_schema.specs.declared.spec.FieldSpec.{FieldSpec};
+ghost use Rattle.otap_columns.specs.Plain.{plain_schema};
+ghost use Rattle.otap_columns.specs.PlainPayloads.{HoldsTable, IsReadAgain};
+ghost use Rattle.otap_columns.specs.Substreams.{logical, schema_in};
 
 /// A record that is read has no defect, and one that isn't has one, after nothing and after messages that have a schema.
 pub fn read_or_refused()
@@ -73,4 +78,13 @@ pub fn columns_make_a_schema()
 pub fn schemas_tell_forms()
     ensures told { (kind : Kind) (f g : Forms) → FormsFit kind f → FormsFit kind g → schema_for kind f ≡ schema_for kind g → (column : ℕ) → column < width_of kind → f column ≡ g column }
     ensures same { (kind : Kind) (f g : Forms) → FormsFit kind f → ((column : ℕ) → column < width_of kind → f column ≡ g column) → schema_for kind f ≡ schema_for kind g }
+{}
+
+/// A payload that holds a table plain is read again as that table, cell by cell, after whatever came before it; the ids of tables
+/// that are read in one sub-stream are stored alike, so these tables have one plain schema.
+pub fn plain_payloads_are_read()
+    ensures again { (past : List PayloadIn) (t : Table) (p : PayloadIn) → HoldsTable past t p → IsReadAgain past t p }
+    ensures one { (t u : Table) → t.kind ≡ u.kind → ((column : ℕ) → is_id_at t.kind column ≡ true → coding_in t column ≡ coding_in u column) → plain_schema t ≡ plain_schema u }
+    ensures stream { (kind : Kind) (fields : List FieldSpec) (before after : List IpcMessage) (t u : Table) → schema_in before ≡ Some fields → schema_in after ≡ Some fields
+        → logical kind before ≡ Some t → logical kind after ≡ Some u → plain_schema t ≡ plain_schema u }
 {}
