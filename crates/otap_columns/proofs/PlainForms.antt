@@ -1,7 +1,7 @@
 -- All columns of a table in the forms of a file: these fit, and the table can be written in them.
 use Rattle.std.proofs.Common.{◌≡◌, ℕ, ◌<◌, ◌≤◌, Bool, true, false, if◌then◌else◌, List, [], ◌∷◌, ◌++◌, ◌+◌, length, get_or, take, Ok, Err, refl, sym, ap, ◌∙◌, subst, arith, inl, inr}
 use Rattle.std.specs.Prelude.{IfOk, Result}
-use Rattle.std.proofs.lemmas.Bool.{and_from, cases_lt, false≢true, true≢false}
+use Rattle.std.proofs.lemmas.Bool.{and_from, cases_lt, true≢false}
 use Rattle.std.proofs.lemmas.List.{get_or_past, take_all, take_more}
 use Rattle.std.proofs.lemmas.List.Elements.{All-get_or}
 use Rattle.arrow_schema.specs.declared.spec.FieldSpec.{FieldSpec}
@@ -12,7 +12,7 @@ use Rattle.otap_cells.specs.declared.payload.Kind.{Kind}
 use Rattle.otap_cells.specs.declared.profile.Base.{Base}
 use Rattle.otap_cells.specs.declared.profile.Coding.{Coding}
 use Rattle.otap_cells.specs.Bases.{is_id}
-use Rattle.otap_cells.specs.Cells.{Cell, null, number, nat_in, IsCellOf}
+use Rattle.otap_cells.specs.Cells.{Cell, null, nat_in, IsCellOf}
 use Rattle.otap_cells.specs.Columns.{allows, base_at, coding_at, column_at, is_id_at, width_of}
 use Rattle.otap_cells.specs.Tables.{Table, IsTable, cell_in, coding_in, greatest_wide, profile_table, table_by}
 use Rattle.otap_cells.specs.Weights.{row_weight_limit, weight_of_table}

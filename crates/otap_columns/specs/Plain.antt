@@ -1,6 +1,6 @@
 -- All columns of a table as they are read, for Arrow files: no dictionaries, ids in 32 bits, and fields that name how these are
 -- stored.
-use Rattle.std.specs.Prelude.{ℕ, List, [], if◌then◌else◌}
+use Rattle.std.specs.Prelude.{List, [], if◌then◌else◌}
 use Rattle.arrow_schema.specs.declared.spec.FieldSpec.{FieldSpec}
 use Rattle.arrow_ipc.specs.Batches.{BatchIn}
 use Rattle.otap_cells.specs.Columns.{is_id_at}
