@@ -3,7 +3,7 @@ ghost use Rattle.otlp_model.specs.Telemetry.{signal_of};
 ghost use Rattle.otlp_model.specs.declared.request.Signal.TheVariants.{Logs};
 
 use otap_produce::*;
-use otlp_model::{Items, Request, is_profile};
+use otlp_model::{Items, Request, Signal, is_profile};
 use std::alloc::Global;
 use std::test::Fail;
 
@@ -19,7 +19,7 @@ fn batches_are_counted(rt: HostRuntime) -> Result<(), Fail> {
     let alloc = rt.alloc();
     let request = empty(alloc);
     assert!(rt; is_profile(&request));
-    let mut exporter = Exporter::<LogTables>::new(alloc)?;
+    let mut exporter = Exporter::new(alloc, Signal::Logs)?;
     exporter.encode(&request)?;
     exporter.encode(&request)?;
     assert_eq!(rt; exporter.batches(), 2);

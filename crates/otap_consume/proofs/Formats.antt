@@ -18,7 +18,8 @@ use Rattle.otap_consume.specs.declared.refusal.Cause.TheVariants.{Compressed, Ba
 use Rattle.otap_consume.specs.declared.refusal.Cause.TheVariants.{Column, TooManyItems, RowsTooHeavy, HeldTooMuch, Row, TreeTooHeavy, Broken}
 use Rattle.otap_consume.specs.declared.refusal.Refusal.{Refusal}
 use Rattle.otap_consume.specs.Defects.{Refuses, Accepts, AreTaken, AreJudged, tables_of}
-use Rattle.otap_consume.specs.Meanings.{Meaning, AreClean, IsDefectOfRows, HasFineRows}
+use Rattle.otap_signals.specs.Meanings.{Meaning, AreClean}
+use Rattle.otap_consume.specs.LateStages.{IsDefectOfRows, HasFineRows}
 use Rattle.otap_consume.specs.Payloads.{payload_type_of}
 use Rattle.otap_consume.specs.Outcomes.{Outcome, Accepted, Refused, Reset, GivesOutcome, StaysBroken, OutcomeAfter, stage_of, refusal_of, unread_cause, is_broken, payloads_after}
 use Rattle.otap_consume.specs.Receiving.{Settles, ReceivedAfter, Received, HasDefect, IsInFormat}

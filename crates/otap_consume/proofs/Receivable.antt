@@ -13,7 +13,7 @@ use Rattle.otap_cells.specs.Tables.{Table}
 use Rattle.otap_checks.specs.Deciding.{CleanOrWrong, HaveByteCells}
 use Rattle.otap_consume.specs.declared.refusal.Cause.TheVariants.{Row, TreeTooHeavy}
 use Rattle.otap_consume.specs.Bytes.{IsOfBytes}
-use Rattle.otap_consume.specs.Meanings.{Meaning}
+use Rattle.otap_signals.specs.Meanings.{Meaning}
 use Rattle.otap_consume.specs.Outcomes.{Outcome, Accepted, Refused, Reset, OutcomeAfter, refused, is_broken, payloads_after}
 use Rattle.otap_consume.specs.Payloads.{payload_type_of}
 use Rattle.otap_consume.specs.Receiving.{Settles, ReceivedAfter, Received}

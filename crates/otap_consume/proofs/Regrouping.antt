@@ -9,7 +9,7 @@ use Rattle.otlp_model.specs.declared.request.Signal.{Signal}
 use Rattle.otap_capture.specs.Batch.{BatchContent, ReadsBatch}
 use Rattle.otap_capture.specs.Capture.{Frame, Message}
 use Rattle.otap_cells.specs.Tables.{Table}
-use Rattle.otap_consume.specs.declared.regrouped.Regrouped.{Regrouped}
+use Rattle.otap_signals.specs.declared.regrouped.Regrouped.{Regrouped}
 use Rattle.otap_consume.specs.declared.refusal.Refusal.{Refusal}
 use Rattle.otap_consume.specs.declared.seen.Seen.{Seen}
 use Rattle.otap_consume.specs.declared.seen.Seen.TheVariants as seen
@@ -18,10 +18,11 @@ use Rattle.otap_consume.specs.declared.not_taken.NotTaken.TheVariants.{Defect, M
 use Rattle.otap_consume.specs.declared.taken.Taken.{Taken}
 use Rattle.otap_consume.specs.declared.taken.Taken.TheVariants as taken
 use Rattle.otap_consume.specs.Defects.{Accepts, tables_of}
-use Rattle.otap_consume.specs.Meanings.{Meaning, IsDefectOfRows}
+use Rattle.otap_signals.specs.Meanings.{Meaning}
+use Rattle.otap_consume.specs.LateStages.{IsDefectOfRows}
 use Rattle.otap_consume.specs.Outcomes.{Outcome, Accepted, Refused, Reset, GivesOutcome, StaysBroken, OutcomeAfter, refused, refusal_of, is_broken, payloads_after}
 use Rattle.otap_consume.specs.ReceiverInside.{AreLast, OfLast, KeepsBatch, TakesRows, RefusesBy}
-use Rattle.otap_consume.specs.Regroups.{IsRegrouped, IsLight}
+use Rattle.otap_signals.specs.Regroups.{IsRegrouped, IsLight}
 use Rattle.otap_consume.specs.Receivers.{HasReceived, Receives}
 use Rattle.otap_consume.specs.Receiving.{Settles}
 use Rattle.otap_consume.specs.Segments.{SegmentIn, StandsFor, ReportsOutcome, HasNext, Next}

@@ -15,12 +15,8 @@ pub mod Sizes
 pub mod Segments
 pub mod SegmentInside
 pub mod Taking
-pub mod Meanings
+pub mod LateStages
 pub mod Receiving
 pub mod Receivers
-pub mod Regroups
 pub mod ReceiverInside
-pub mod LogsMeaning
-pub mod SpansMeaning
-pub mod MetricsMeaning
 pub mod Bytes

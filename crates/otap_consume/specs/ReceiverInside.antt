@@ -8,7 +8,7 @@ use Rattle.otap_capture.specs.Capture.{Frame, Message}
 use Rattle.otap_cells.specs.Tables.{Table}
 use Rattle.otap_checks.specs.declared.regrouping.RegroupRefusal.{RegroupRefusal}
 use Rattle.otap_checks.specs.declared.regrouping.RegroupRefusal.TheVariants as regroup
-use Rattle.otap_consume.specs.declared.regrouped.Regrouped.{Regrouped}
+use Rattle.otap_signals.specs.declared.regrouped.Regrouped.{Regrouped}
 use Rattle.otap_consume.specs.declared.refusal.Cause.{Cause}
 use Rattle.otap_consume.specs.declared.refusal.Cause.TheVariants as cause
 use Rattle.otap_consume.specs.declared.not_taken.NotTaken.{NotTaken}
@@ -16,10 +16,11 @@ use Rattle.otap_consume.specs.declared.not_taken.NotTaken.TheVariants.{Defect, M
 use Rattle.otap_consume.specs.declared.taken.Taken.{Taken}
 use Rattle.otap_consume.specs.declared.taken.Taken.TheVariants as taken
 use Rattle.otap_consume.specs.Defects.{tables_of}
-use Rattle.otap_consume.specs.Meanings.{Meaning, IsDefectOfRows}
+use Rattle.otap_signals.specs.Meanings.{Meaning}
+use Rattle.otap_consume.specs.LateStages.{IsDefectOfRows}
 use Rattle.otap_consume.specs.Outcomes.{Outcome, Accepted, payloads_after, refusal_of}
 use Rattle.otap_consume.specs.Payloads.{payload_type_of}
-use Rattle.otap_consume.specs.Regroups.{IsRegrouped, IsLight}
+use Rattle.otap_signals.specs.Regroups.{IsRegrouped, IsLight}
 use Rattle.otap_consume.specs.Segments.{SegmentIn, StandsFor}
 
 abbrev pub untaken_by_rows : CheckRefusal → NotTaken

@@ -6,7 +6,7 @@ use Rattle.otap_capture.specs.Capture.{Frame}
 use Rattle.otap_cells.specs.Weights.{weight_of_tables}
 use Rattle.otap_consume.specs.declared.taken.Taken.{Taken}
 use Rattle.otap_consume.specs.declared.taken.Taken.TheVariants as taken
-use Rattle.otap_consume.specs.Meanings.{Meaning}
+use Rattle.otap_signals.specs.Meanings.{Meaning}
 use Rattle.otap_consume.specs.Outcomes.{Outcome, Accepted, Refused, Reset}
 use Rattle.otap_consume.specs.Receiving.{ReceivedAfter}
 use Rattle.otap_consume.specs.Segments.{SegmentIn, StandsFor}

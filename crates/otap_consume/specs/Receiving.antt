@@ -11,7 +11,8 @@ use Rattle.otap_consume.specs.declared.refusal.Cause.{Cause}
 use Rattle.otap_consume.specs.declared.refusal.Cause.TheVariants.{Compressed}
 use Rattle.otap_consume.specs.declared.refusal.Refusal.{Refusal}
 use Rattle.otap_consume.specs.Defects.{Refuses, Accepts, tables_of}
-use Rattle.otap_consume.specs.Meanings.{Meaning, IsDefectOfRows, HasFineRows}
+use Rattle.otap_signals.specs.Meanings.{Meaning}
+use Rattle.otap_consume.specs.LateStages.{IsDefectOfRows, HasFineRows}
 use Rattle.otap_consume.specs.Outcomes.{Outcome, Accepted, Refused, Reset, OutcomeAfter, refused, unread_cause}
 
 -- WHAT IS MADE OF AN OUTCOME of the stages 0 to 4: a batch stays accepted, or a later stage refuses it

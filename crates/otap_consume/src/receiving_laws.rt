@@ -2,48 +2,50 @@
 
 ghost use Rattle.std.specs.Prelude.{◌≡◌, ◌<◌, ℕ, ℤ, ◌↔◌, true, false, All, List, Option};
 ghost use Rattle.lists.specs.Payloads.{PayloadIn};
+ghost use Rattle.otlp_model.specs.declared.request.Signal.{Signal};
 ghost use Rattle.otap_capture.specs.Batch.{BatchContent};
 ghost use Rattle.otap_capture.specs.declared.frame.Damage.{Damage};
 ghost use Rattle.otap_capture.specs.Capture.{Frame, IsCapture};
 ghost use Rattle.otap_cells.specs.Tables.{Table};
+ghost use Rattle.otap_signals.specs.BySignal.{meaning_by};
 ghost use Rattle.otap_consume.specs.declared.refusal.Cause.{Cause};
 ghost use Rattle.otap_consume.specs.declared.refusal.Refusal.{Refusal};
 ghost use Rattle.otap_consume.specs.Bytes.{IsOfBytes};
 ghost use Rattle.otap_consume.specs.Outcomes.{stage_of, Outcome, Accepted, Refused, is_broken, payloads_after};
 ghost use Rattle.otap_consume.specs.Receiving.{ReceivedAfter, Received, HasDefect, IsInFormat};
 
-use crate::telemetry::Telemetry;
+use otap_checks::laws::row_defects_are_decided;
 
 /// A frame is accepted exactly where it is in the format and no frame of its segment was refused before it.
-pub fn accepted_where_in_the_format<T: Telemetry>()
-    ensures in_format { (outcomes : List Outcome) (frame : Frame) (batch : BatchContent) (tables : List Table)
-        → ReceivedAfter T.meaning outcomes frame (Accepted batch tables)
-        → (is_broken outcomes ≡ false) × IsInFormat T.meaning (payloads_after outcomes) frame }
-    ensures accepted { (frames : List Frame) (outcomes : List Outcome) (frame : Frame)
-        → Received T.meaning frames outcomes → is_broken outcomes ≡ false → IsInFormat T.meaning (payloads_after outcomes) frame
-        → (batch : BatchContent) × (tables : List Table) × ReceivedAfter T.meaning outcomes frame (Accepted batch tables) }
+pub fn accepted_where_in_the_format()
+    ensures in_format { (signal : Signal) (outcomes : List Outcome) (frame : Frame) (batch : BatchContent) (tables : List Table)
+        → ReceivedAfter (meaning_by signal) outcomes frame (Accepted batch tables)
+        → (is_broken outcomes ≡ false) × IsInFormat (meaning_by signal) (payloads_after outcomes) frame }
+    ensures accepted { (signal : Signal) (frames : List Frame) (outcomes : List Outcome) (frame : Frame)
+        → Received (meaning_by signal) frames outcomes → is_broken outcomes ≡ false → IsInFormat (meaning_by signal) (payloads_after outcomes) frame
+        → (batch : BatchContent) × (tables : List Table) × ReceivedAfter (meaning_by signal) outcomes frame (Accepted batch tables) }
 {}
 
 /// A refusal names something that is wrong with the frame, in the one stage in which something is; or an earlier frame of
 /// the segment was refused, and exactly then its stage is 0.
-pub fn refused_by_what_is_wrong<T: Telemetry>()
-    ensures named { (outcomes : List Outcome) (frame : Frame) (refusal : Refusal)
-        → ReceivedAfter T.meaning outcomes frame (Refused refusal) → is_broken outcomes ≡ false
-        → HasDefect T.meaning (payloads_after outcomes) frame refusal.cause refusal.payload × (refusal.stage ≡ stage_of refusal.cause) }
-    ensures one_stage { (past : List PayloadIn) (frame : Frame) (a b : Cause) (p q : Option ℤ)
-        → HasDefect T.meaning past frame a p → HasDefect T.meaning past frame b q → stage_of a ≡ stage_of b }
-    ensures broken { (outcomes : List Outcome) (frame : Frame) (refusal : Refusal)
-        → ReceivedAfter T.meaning outcomes frame (Refused refusal) → (refusal.stage ≡ 0) ↔ (is_broken outcomes ≡ true) }
+pub fn refused_by_what_is_wrong()
+    ensures named { (signal : Signal) (outcomes : List Outcome) (frame : Frame) (refusal : Refusal)
+        → ReceivedAfter (meaning_by signal) outcomes frame (Refused refusal) → is_broken outcomes ≡ false
+        → HasDefect (meaning_by signal) (payloads_after outcomes) frame refusal.cause refusal.payload × (refusal.stage ≡ stage_of refusal.cause) }
+    ensures one_stage { (signal : Signal) (past : List PayloadIn) (frame : Frame) (a b : Cause) (p q : Option ℤ)
+        → HasDefect (meaning_by signal) past frame a p → HasDefect (meaning_by signal) past frame b q → stage_of a ≡ stage_of b }
+    ensures broken { (signal : Signal) (outcomes : List Outcome) (frame : Frame) (refusal : Refusal)
+        → ReceivedAfter (meaning_by signal) outcomes frame (Refused refusal) → (refusal.stage ≡ 0) ↔ (is_broken outcomes ≡ true) }
 {}
 
 /// Each frame has an outcome after frames with outcomes, and so have all frames, and those of each capture. Messages and
 /// captures are lists of bytes, numbers below 256.
-pub fn received_some_outcome<T: Telemetry>()
-    ensures next { (frames : List Frame) (outcomes : List Outcome) (frame : Frame) → All IsOfBytes frames → IsOfBytes frame → Received T.meaning frames outcomes
-        → (outcome : Outcome) × ReceivedAfter T.meaning outcomes frame outcome }
-    ensures all { (frames : List Frame) → All IsOfBytes frames → (outcomes : List Outcome) × Received T.meaning frames outcomes }
-    ensures capture { (bytes : List ℕ) (frames : List Frame) (end : Option Damage) → All (λ byte. byte < 256) bytes → IsCapture bytes frames end
-        → (outcomes : List Outcome) × Received T.meaning frames outcomes }
+pub fn received_some_outcome()
+    ensures next { (signal : Signal) (frames : List Frame) (outcomes : List Outcome) (frame : Frame) → All IsOfBytes frames → IsOfBytes frame → Received (meaning_by signal) frames outcomes
+        → (outcome : Outcome) × ReceivedAfter (meaning_by signal) outcomes frame outcome }
+    ensures all { (signal : Signal) (frames : List Frame) → All IsOfBytes frames → (outcomes : List Outcome) × Received (meaning_by signal) frames outcomes }
+    ensures capture { (signal : Signal) (bytes : List ℕ) (frames : List Frame) (end : Option Damage) → All (λ byte. byte < 256) bytes → IsCapture bytes frames end
+        → (outcomes : List Outcome) × Received (meaning_by signal) frames outcomes }
 {
-    T::clean_or_wrong();
+    row_defects_are_decided();
 }

@@ -115,6 +115,13 @@ impl Segment {
         self.broken
     }
 
+    /// The signal of its batches.
+    pub fn signal(&self) -> Signal
+        ensures { result ≡ self.now.signal }
+    {
+        self.signal
+    }
+
     fn take_message(&mut self, bytes: &[u8]) -> Result<Seen, AllocError>
         ensures next { IfOk result (Next self.old (Message bytes.now) self.new) }
         ensures taken { IfOk result (TakesIf (Message bytes.now) self.new) }

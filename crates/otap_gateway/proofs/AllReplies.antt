@@ -12,16 +12,18 @@ use Rattle.otap_cells.specs.Tables.{Table}
 use Rattle.otap_consume.specs.declared.refusal.Cause.{Cause}
 use Rattle.otap_consume.specs.declared.refusal.Cause.TheVariants.{Compressed, BadMessage, Repeated, BadUtf8, PayloadType, PayloadTwice, SchemaIdTaken}
 use Rattle.otap_consume.specs.declared.refusal.Cause.TheVariants.{Column, TooManyItems, RowsTooHeavy, HeldTooMuch, Row, TreeTooHeavy, Broken}
-use Rattle.otap_consume.specs.Meanings.{Meaning, IsDefectOfRows}
+use Rattle.otap_signals.specs.Meanings.{Meaning}
+use Rattle.otap_consume.specs.LateStages.{IsDefectOfRows}
 use Rattle.otap_consume.specs.Outcomes.{Outcome, Outcomes, OutcomeAfter, stage_of}
 use Rattle.otap_consume.specs.Receiving.{ReceivedAfter, Received, Settles}
 use Rattle.otlp_model.specs.declared.request.Signal.{Signal}
-use Rattle.otlp_model.specs.declared.request.Signal.TheVariants as signals
 use Rattle.otap_gateway.specs.declared.jobs.command.Command.TheVariants as command
+use Rattle.otap_gateway.specs.declared.jobs.command.ReceiverText.{ReceiverText}
 use Rattle.otap_gateway.specs.Commands.{ReplyOf}
-use Rattle.otap_gateway.specs.Encoding.{Encoded, Encodes, encoded, signal_rows}
+use Rattle.otap_signals.specs.BySignal.{rows_by, meaning_by}
+use Rattle.otap_gateway.specs.Encoding.{Encoded, Encodes, encoded}
 use Rattle.otap_gateway.specs.Lines.{batch_head, or_dash, line_feed}
-use Rattle.otap_gateway.specs.Receptions.{as_taken, decoded, statused, replayed, meaning_of, refusal_line, refusal_status}
+use Rattle.otap_gateway.specs.Receptions.{as_taken, refusal_line, refusal_status, text_of}
 use Rattle.otap_gateway.specs.Reply.{ReplyText}
 use Rattle.otap_gateway.specs.Showing.{shown}
 use Rattle.otap_gateway.specs.Texts.{HaveTexts, IsEarly}
@@ -70,20 +72,10 @@ module _ {O : Type 0} (Gives : Giving O) (text : ℕ → O → ReplyText) where
 
 -- ---- the jobs
 
-pub decode_given : (signal : Signal) (frames : List Frame) (outcomes : List Outcome) → Received (meaning_of signal) frames outcomes
-    → EachAfter (ReplyOf (command.Decode signal)) [] [] frames (replies_from (as_taken (meaning_of signal) decoded) 0 outcomes)
+pub receive_given : (text : ReceiverText) (signal : Signal) (frames : List Frame) (outcomes : List Outcome) → Received (meaning_by signal) frames outcomes
+    → EachAfter (ReplyOf (command.Receive text signal)) [] [] frames (replies_from (as_taken (meaning_by signal) (text_of text)) 0 outcomes)
 unfolding ReplyOf
-decode_given signal = given (ReceivedAfter (meaning_of signal)) (as_taken (meaning_of signal) decoded)
-
-pub status_given : (signal : Signal) (frames : List Frame) (outcomes : List Outcome) → Received (meaning_of signal) frames outcomes
-    → EachAfter (ReplyOf (command.Status signal)) [] [] frames (replies_from (as_taken (meaning_of signal) statused) 0 outcomes)
-unfolding ReplyOf
-status_given signal = given (ReceivedAfter (meaning_of signal)) (as_taken (meaning_of signal) statused)
-
-pub replay_given : (signal : Signal) (frames : List Frame) (outcomes : List Outcome) → Received (meaning_of signal) frames outcomes
-    → EachAfter (ReplyOf (command.Replay signal)) [] [] frames (replies_from (as_taken (meaning_of signal) replayed) 0 outcomes)
-unfolding ReplyOf
-replay_given signal = given (ReceivedAfter (meaning_of signal)) (as_taken (meaning_of signal) replayed)
+receive_given text signal = given (ReceivedAfter (meaning_by signal)) (as_taken (meaning_by signal) (text_of text))
 
 -- ---- show
 
@@ -128,17 +120,10 @@ all_alike m past before (f ∷ frames) (o ∷ outcomes) early each = (
   all_alike m (past ++ f ∷ []) (before ++ o ∷ []) frames outcomes early.1 each.1,
 )
 
--- a meaning's signal is the one it was taken by
-of_signal : (signal : Signal) → (meaning_of signal).signal ≡ signal
-of_signal signals.Traces = refl
-of_signal signals.Logs = refl
-of_signal signals.Metrics = refl
-
-pub show_alike : (signal : Signal) (frames : List Frame) (outcomes : List Outcome) → Received (meaning_of signal) frames outcomes → All IsEarly outcomes
+pub show_alike : (signal : Signal) (frames : List Frame) (outcomes : List Outcome) → Received (meaning_by signal) frames outcomes → All IsEarly outcomes
     → EachAfter (ReplyOf (command.Show signal)) [] [] frames (replies_from shown 0 outcomes)
 show_alike signal frames outcomes received early =
-    show_given signal frames outcomes
-    (subst (λ (s : Signal). Outcomes s frames outcomes) (of_signal signal) (all_alike (meaning_of signal) [] [] frames outcomes (recursion_from_All IsEarly outcomes early) received))
+    show_given signal frames outcomes (all_alike (meaning_by signal) [] [] frames outcomes (recursion_from_All IsEarly outcomes early) received)
 
 -- each frame gives a segment something, and so do all
 abbrev pub SomeOutcome : Type 0
@@ -156,15 +141,13 @@ seen_from some signal past before gave (f ∷ frames) =
 
 -- ---- a capture
 
-pub all_given : SomeOutcome → (signal : Signal) (frames : List Frame) → (outcomes : List Outcome) × Received (meaning_of signal) frames outcomes → HaveTexts signal frames
+pub all_given : SomeOutcome → (signal : Signal) (frames : List Frame) → (outcomes : List Outcome) × Received (meaning_by signal) frames outcomes → HaveTexts signal frames
 all_given each signal frames some =
     let seen = seen_from each signal [] [] tt frames in
     record {
       outcomes = some.0;
       received = some.1;
-      decode = decode_given signal frames some.0 some.1;
-      status = status_given signal frames some.0 some.1;
-      replay = replay_given signal frames some.0 some.1;
+      receive = λ text. receive_given text signal frames some.0 some.1;
       show_alike = show_alike signal frames some.0 some.1;
       seen = seen.0;
       given = seen.1;
@@ -178,25 +161,15 @@ pub show_back : (signal : Signal) (frames : List Frame) (replies : List ReplyTex
 unfolding ReplyOf
 show_back signal = gives_back (OutcomeAfter signal) shown
 
-pub decode_back : (signal : Signal) (frames : List Frame) (replies : List ReplyText) → EachAfter (ReplyOf (command.Decode signal)) [] [] frames replies
-    → (outcomes : List Outcome) × Received (meaning_of signal) frames outcomes × (replies ≡ replies_from (as_taken (meaning_of signal) decoded) 0 outcomes)
+pub receive_back : (text : ReceiverText) (signal : Signal) (frames : List Frame) (replies : List ReplyText) → EachAfter (ReplyOf (command.Receive text signal)) [] [] frames replies
+    → (outcomes : List Outcome) × Received (meaning_by signal) frames outcomes × (replies ≡ replies_from (as_taken (meaning_by signal) (text_of text)) 0 outcomes)
 unfolding ReplyOf
-decode_back signal = gives_back (ReceivedAfter (meaning_of signal)) (as_taken (meaning_of signal) decoded)
-
-pub status_back : (signal : Signal) (frames : List Frame) (replies : List ReplyText) → EachAfter (ReplyOf (command.Status signal)) [] [] frames replies
-    → (outcomes : List Outcome) × Received (meaning_of signal) frames outcomes × (replies ≡ replies_from (as_taken (meaning_of signal) statused) 0 outcomes)
-unfolding ReplyOf
-status_back signal = gives_back (ReceivedAfter (meaning_of signal)) (as_taken (meaning_of signal) statused)
-
-pub replay_back : (signal : Signal) (frames : List Frame) (replies : List ReplyText) → EachAfter (ReplyOf (command.Replay signal)) [] [] frames replies
-    → (outcomes : List Outcome) × Received (meaning_of signal) frames outcomes × (replies ≡ replies_from (as_taken (meaning_of signal) replayed) 0 outcomes)
-unfolding ReplyOf
-replay_back signal = gives_back (ReceivedAfter (meaning_of signal)) (as_taken (meaning_of signal) replayed)
+receive_back text signal = gives_back (ReceivedAfter (meaning_by signal)) (as_taken (meaning_by signal) (text_of text))
 
 pub encode_back : (signal : Signal) (frames : List Frame) (replies : List ReplyText) → EachAfter (ReplyOf (command.Encode signal)) [] [] frames replies
-    → (outcomes : List Encoded) × Gave (Encodes (signal_rows signal) (meaning_of signal)) frames outcomes × (replies ≡ replies_from encoded 0 outcomes)
+    → (outcomes : List Encoded) × Gave (Encodes (rows_by signal) (meaning_by signal)) frames outcomes × (replies ≡ replies_from encoded 0 outcomes)
 unfolding ReplyOf
-encode_back signal = gives_back (Encodes (signal_rows signal) (meaning_of signal)) encoded
+encode_back signal = gives_back (Encodes (rows_by signal) (meaning_by signal)) encoded
 
 -- the message of a status is what the line says from its stage on
 pub from_the_stage_on : (number : ℕ) (refusal : Refusal) → refusal_line number refusal ≡ batch_head number (or_dash refusal.id) ++ (codes " refused: " ++ ((refusal_status refusal).message ++ line_feed))

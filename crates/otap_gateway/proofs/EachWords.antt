@@ -9,6 +9,7 @@ use Rattle.otlp_model.specs.declared.request.Signal.{Signal}
 use Rattle.otlp_model.specs.declared.request.Signal.TheVariants.{Traces, Logs, Metrics}
 use Rattle.otap_gateway.specs.declared.jobs.command.Command.{Command}
 use Rattle.otap_gateway.specs.declared.jobs.command.Command.TheVariants as command
+use Rattle.otap_gateway.specs.declared.jobs.command.ReceiverText.TheVariants as texts
 use Rattle.otap_gateway.specs.Commands.{IsNoCommand, words_of}
 
 -- the words are those of this job
@@ -56,28 +57,29 @@ of_signal words job = by_signal (names words (job Traces)) (names words (job Log
 
 pub each_words : (words : List (List ℕ)) → ((job : Command) × (words ≡ words_of job)) ⊎ IsNoCommand words
 each_words words = by_job (names words command.List) (of_signal words command.Tidy) (of_signal words command.Encode) (of_signal words command.Schema) (of_signal words command.Show)
-    (of_signal words command.Decode) (of_signal words command.Status) (of_signal words command.Replay)
+    (of_signal words (command.Receive texts.Decode)) (of_signal words (command.Receive texts.Status)) (of_signal words (command.Receive texts.Replay))
   where
     none : NamesNot words command.List → NoneOf words command.Tidy → NoneOf words command.Encode → NoneOf words command.Schema → NoneOf words command.Show
-        → NoneOf words command.Decode → NoneOf words command.Status → NoneOf words command.Replay → IsNoCommand words
+        → NoneOf words (command.Receive texts.Decode) → NoneOf words (command.Receive texts.Status) → NoneOf words (command.Receive texts.Replay) → IsNoCommand words
     none list tidy encode schema show decode status replay command.List = list
     none list tidy encode schema show decode status replay (command.Tidy signal) = tidy signal
     none list tidy encode schema show decode status replay (command.Encode signal) = encode signal
     none list tidy encode schema show decode status replay (command.Schema signal) = schema signal
     none list tidy encode schema show decode status replay (command.Show signal) = show signal
-    none list tidy encode schema show decode status replay (command.Decode signal) = decode signal
-    none list tidy encode schema show decode status replay (command.Status signal) = status signal
-    none list tidy encode schema show decode status replay (command.Replay signal) = replay signal
+    none list tidy encode schema show decode status replay (command.Receive texts.Decode signal) = decode signal
+    none list tidy encode schema show decode status replay (command.Receive texts.Status signal) = status signal
+    none list tidy encode schema show decode status replay (command.Receive texts.Replay signal) = replay signal
 
     by_job : Names words command.List ⊎ NamesNot words command.List → OneOf words command.Tidy → OneOf words command.Encode → OneOf words command.Schema → OneOf words command.Show
-        → OneOf words command.Decode → OneOf words command.Status → OneOf words command.Replay → ((job : Command) × (words ≡ words_of job)) ⊎ IsNoCommand words
+        → OneOf words (command.Receive texts.Decode) → OneOf words (command.Receive texts.Status) → OneOf words (command.Receive texts.Replay)
+        → ((job : Command) × (words ≡ words_of job)) ⊎ IsNoCommand words
     by_job (inl list) tidy encode schema show decode status replay = inl (command.List, list)
     by_job (inr no_list) (inl tidy) encode schema show decode status replay = inl (command.Tidy tidy.0, tidy.1)
     by_job (inr no_list) (inr no_tidy) (inl encode) schema show decode status replay = inl (command.Encode encode.0, encode.1)
     by_job (inr no_list) (inr no_tidy) (inr no_encode) (inl schema) show decode status replay = inl (command.Schema schema.0, schema.1)
     by_job (inr no_list) (inr no_tidy) (inr no_encode) (inr no_schema) (inl show) decode status replay = inl (command.Show show.0, show.1)
-    by_job (inr no_list) (inr no_tidy) (inr no_encode) (inr no_schema) (inr no_show) (inl decode) status replay = inl (command.Decode decode.0, decode.1)
-    by_job (inr no_list) (inr no_tidy) (inr no_encode) (inr no_schema) (inr no_show) (inr no_decode) (inl status) replay = inl (command.Status status.0, status.1)
-    by_job (inr no_list) (inr no_tidy) (inr no_encode) (inr no_schema) (inr no_show) (inr no_decode) (inr no_status) (inl replay) = inl (command.Replay replay.0, replay.1)
+    by_job (inr no_list) (inr no_tidy) (inr no_encode) (inr no_schema) (inr no_show) (inl decode) status replay = inl (command.Receive texts.Decode decode.0, decode.1)
+    by_job (inr no_list) (inr no_tidy) (inr no_encode) (inr no_schema) (inr no_show) (inr no_decode) (inl status) replay = inl (command.Receive texts.Status status.0, status.1)
+    by_job (inr no_list) (inr no_tidy) (inr no_encode) (inr no_schema) (inr no_show) (inr no_decode) (inr no_status) (inl replay) = inl (command.Receive texts.Replay replay.0, replay.1)
     by_job (inr no_list) (inr no_tidy) (inr no_encode) (inr no_schema) (inr no_show) (inr no_decode) (inr no_status) (inr no_replay)
         = inr (none no_list no_tidy no_encode no_schema no_show no_decode no_status no_replay)

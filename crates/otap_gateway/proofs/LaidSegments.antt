@@ -2,9 +2,9 @@
 use Rattle.std.proofs.Common.{List, [], ◌∷◌, ◌++◌}
 use Rattle.lists.proofs.Growing.{each_after-push, each_after-keeps}
 use Rattle.otap_capture.specs.Capture.{Frame}
-use Rattle.otap_consume.specs.Meanings.{Meaning}
+use Rattle.otap_signals.specs.Meanings.{Meaning, SignalRows}
 use Rattle.otap_produce.specs.Exporters.{AreLaidMessages, IsLaidMessage}
-use Rattle.otap_produce.specs.Policy.{SignalRows, IsMessageOf, Policy}
+use Rattle.otap_produce.specs.Policy.{IsMessageOf, Policy}
 use Rattle.otap_transit.specs.Sendings.{Sent, Reset, requests_since, messages_since}
 use Rattle.otap_transit.proofs.SendingsGrown.{requests_sent, messages_sent, requests_reset, messages_reset}
 use Rattle.otap_gateway.specs.Encoding.{Encoded, EncodedAfter, Encodes, IsLaidOutcome, sent}

@@ -13,6 +13,7 @@ pub mod LoadSteps
 pub mod LoadWords
 pub mod LogLoads
 pub mod MetricLoads
+pub mod AllLoads
 pub mod OneJob
 pub mod Progress
 pub mod RowText

@@ -1,6 +1,6 @@
 -- The words of loads are those of one load at most; and what a load's run leaves where nothing failed.
 use Rattle.std.proofs.Common.{◌≡◌, ◌⊎◌, inl, inr, ℕ, List, [], ◌∷◌, Result, Ok, Err, refl, sym, ap, ◌∙◌, subst, arith}
-use Rattle.std.specs.Prelude.{All, codes}
+use Rattle.std.specs.Prelude.{codes}
 use Rattle.std.specs.Fmt.{decimal}
 use Rattle.std.proofs.lemmas.Fmt.{decimal_injective}
 use Rattle.otap_capture.specs.Outside.{Rose}
@@ -12,13 +12,6 @@ use Rattle.otap_gateway.specs.declared.runs.stop.Stop.TheVariants as stop
 use Rattle.otap_gateway.specs.Commands.{signal_word}
 use Rattle.otap_gateway.specs.Loads.{IsLoad, LeavesLoad, RunsLoad, WritesLoad, load_status, load_words}
 use Rattle.otap_gateway.specs.Runs.{Sinks, SinkFaults}
-use Rattle.otap_gateway.specs.Receptions.{meaning_of}
-use Rattle.otap_transit.specs.Transits.{IsReceivedAs}
-use Rattle.otap_produce.specs.Policy.{IsExported, Policy}
-use Rattle.otap_gateway.specs.Encoding.{signal_rows}
-use Rattle.otlp_model.specs.declared.request.Signal.TheVariants as signals
-use Rattle.otlp_model.specs.declared.request.Request.{Request}
-use Rattle.lists.specs.EachAfter.{EachAfter}
 use Rattle.otap_gateway.proofs.OneJob.{one_job}
 
 -- ---- one load
@@ -59,15 +52,3 @@ complete load old new status (Err stop.Memory) same leaves faults out err = inl 
 pub complete_loads : {S : Type 0} (load : Load) (source source' : S) (old new : Sinks) (status : ℕ) → RunsLoad load source source' old new status
     → (Rose old.out.faults new.out.faults → ⊥) → (Rose old.err.faults new.err.faults → ⊥) → (status ≡ 6) ⊎ ((status ≡ 0) × WritesLoad load old new)
 complete_loads load source source' old new status runs out err = complete load old new status runs.returned runs.same runs.leaves runs.faults out err
-
--- ---- the far end
-
--- a signal's messages are received as their requests
-abbrev pub AreReceived : Signal → Type 0
-AreReceived signal = (requests : List Request) (messages : List (List ℕ)) → All (IsExported (signal_rows signal)) requests → Policy (signal_rows signal) requests messages
-    → EachAfter (IsReceivedAs (meaning_of signal)) [] [] requests messages
-
-pub loads_received : AreReceived signals.Traces → AreReceived signals.Logs → AreReceived signals.Metrics → (signal : Signal) → AreReceived signal
-loads_received traces logs metrics signals.Traces = traces
-loads_received traces logs metrics signals.Logs = logs
-loads_received traces logs metrics signals.Metrics = metrics

@@ -5,7 +5,8 @@ use Rattle.std.specs.Str.{bytes_eq}
 use lib.Pointwise.{pointwise}
 use Rattle.otlp_model.specs.declared.request.Signal.TheVariants.{Traces, Logs, Metrics}
 use Rattle.otap_gateway.specs.declared.jobs.command.Command.{Command}
-use Rattle.otap_gateway.specs.declared.jobs.command.Command.TheVariants.{List as Listing, Tidy, Encode, Schema, Show, Decode, Status, Replay}
+use Rattle.otap_gateway.specs.declared.jobs.command.Command.TheVariants.{List as Listing, Tidy, Encode, Schema, Show, Receive}
+use Rattle.otap_gateway.specs.declared.jobs.command.ReceiverText.TheVariants.{Decode, Status, Replay}
 use Rattle.otap_gateway.specs.declared.runs.stop.Stop.{Stop}
 use Rattle.otap_gateway.specs.declared.runs.stop.Tally.{Tally}
 use Rattle.otap_gateway.specs.Commands.{words_of}
@@ -13,8 +14,8 @@ use Rattle.otap_gateway.specs.Runs.{World, Leaves, Stops, CountsFaults, Runs, ex
 
 jobs : List Command
 jobs = Listing ∷ Tidy Traces ∷ Tidy Logs ∷ Tidy Metrics ∷ Schema Traces ∷ Schema Logs ∷ Schema Metrics ∷ Show Traces ∷ Show Logs ∷ Show Metrics
-    ∷ Encode Traces ∷ Encode Logs ∷ Encode Metrics ∷ Decode Traces ∷ Decode Logs ∷ Decode Metrics
-    ∷ Status Traces ∷ Status Logs ∷ Status Metrics ∷ Replay Traces ∷ Replay Logs ∷ Replay Metrics ∷ []
+    ∷ Encode Traces ∷ Encode Logs ∷ Encode Metrics ∷ Receive Decode Traces ∷ Receive Decode Logs ∷ Receive Decode Metrics
+    ∷ Receive Status Traces ∷ Receive Status Logs ∷ Receive Status Metrics ∷ Receive Replay Traces ∷ Receive Replay Logs ∷ Receive Replay Metrics ∷ []
 
 -- the first job that has the words
 named : List (List ℕ) → Option Command
@@ -35,15 +36,15 @@ is_named (Show Metrics) = refl
 is_named (Encode Traces) = refl
 is_named (Encode Logs) = refl
 is_named (Encode Metrics) = refl
-is_named (Decode Traces) = refl
-is_named (Decode Logs) = refl
-is_named (Decode Metrics) = refl
-is_named (Status Traces) = refl
-is_named (Status Logs) = refl
-is_named (Status Metrics) = refl
-is_named (Replay Traces) = refl
-is_named (Replay Logs) = refl
-is_named (Replay Metrics) = refl
+is_named (Receive Decode Traces) = refl
+is_named (Receive Decode Logs) = refl
+is_named (Receive Decode Metrics) = refl
+is_named (Receive Status Traces) = refl
+is_named (Receive Status Logs) = refl
+is_named (Receive Status Metrics) = refl
+is_named (Receive Replay Traces) = refl
+is_named (Receive Replay Logs) = refl
+is_named (Receive Replay Metrics) = refl
 
 pub one_job : (a b : Command) → words_of a ≡ words_of b → a ≡ b
 one_job a b is = let same : Some a ≡ Some b = sym (is_named a) ∙ ap named is ∙ is_named b in cc

@@ -4,7 +4,8 @@ use Rattle.lists.proofs.Growing.{each_after-push, each_after-length}
 use Rattle.otlp_model.specs.declared.request.Signal.{Signal}
 use Rattle.otap_capture.specs.Capture.{Frame}
 use Rattle.otap_consume.specs.declared.taken.Taken.{Taken}
-use Rattle.otap_consume.specs.Meanings.{Meaning}
+use Rattle.otap_signals.specs.BySignal.{meaning_by}
+use Rattle.otap_signals.specs.Meanings.{Meaning}
 use Rattle.otap_consume.specs.Outcomes.{Outcome}
 use Rattle.otap_consume.specs.Receivers.{HasReceived, Receives}
 use Rattle.otap_consume.specs.Receiving.{ReceivedAfter}
@@ -65,9 +66,10 @@ module _ (m : Meaning) (text : ℕ → Taken → ReplyText) where
       is_reply_more (ReceivedAfter m) (as_taken m text) (λ os. StandsFor m.signal os old) (λ os. StandsFor m.signal os new) frame number reply
       (takes old new frame taken number reply receives says)
 
-  pub replied_none : (signal : Signal) (s : SegmentIn) → signal ≡ m.signal → IsNew signal s → HasReplied m text s [] []
-  replied_none signal s same new =
-      record { outcomes = []; before = tt; so_far = refl; stood = stands_first m.signal s (subst (λ (x : Signal). IsNew x s) same new) }
+-- a receiver of a signal that has taken no frame
+pub replied_none : (text : ℕ → Taken → ReplyText) (signal : Signal) (s : SegmentIn) → IsNew signal s → HasReplied (meaning_by s.signal) text s [] []
+replied_none text signal s new =
+    record { outcomes = []; before = tt; so_far = refl; stood = stands_first s.signal s (subst (λ (x : Signal). IsNew x s) (sym new.same) new) }
 
 -- a line of four parts
 pub line_made : (a b c d e head words items weights : List ℕ) → a ≡ [] → b ≡ a ++ head → c ≡ b ++ words → d ≡ c ++ items → e ≡ d ++ weights → e ≡ head ++ words ++ items ++ weights

@@ -8,7 +8,7 @@ use Rattle.lists.specs.EachAfter.{EachAfter}
 use Rattle.lists.specs.Since.{since}
 use Rattle.lists.proofs.Growing.{all_after-push, each_after-keeps}
 use Rattle.otap_capture.specs.Capture.{Frame}
-use Rattle.otap_produce.specs.Policy.{SignalRows}
+use Rattle.otap_signals.specs.Meanings.{SignalRows}
 use Rattle.otap_transit.specs.Sendings.{Sending, Sent, Reset, is_reset, request_if, requests_since, messages_since, AreAllowed, IsAllowed}
 use Rattle.otap_gateway.specs.Encoding.{Encoded, Puts, Refuses, EncodedAfter, sending_if, sent}
 

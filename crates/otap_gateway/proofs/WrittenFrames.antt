@@ -5,15 +5,14 @@ use Rattle.std.proofs.lemmas.Bool.{lt-leb}
 use Rattle.lists.specs.EachAfter.{EachAfter, AllAfter}
 use Rattle.otap_capture.specs.Capture.{Frame, IsFrame, AreFrames, IsCapture, Message, message_frame, reset_frame, longest_frame, capture_limit}
 use Rattle.otap_capture.specs.Capture as capture
-use Rattle.otap_consume.specs.Meanings.{Meaning}
-use Rattle.otap_produce.specs.Policy.{SignalRows}
+use Rattle.otap_signals.specs.Meanings.{Meaning, SignalRows}
 use Rattle.otap_transit.specs.Sendings.{Sending, Sent, Reset, AreAllowed, IsAllowed, frame_sent}
 use Rattle.otlp_model.specs.declared.request.Signal.{Signal}
 use Rattle.otap_gateway.specs.declared.jobs.command.Command.TheVariants as command
 use Rattle.otap_gateway.specs.Commands.{ReplyOf}
-use Rattle.otap_gateway.specs.Encoding.{Encoded, Puts, Refuses, Encodes, Arrives, encoded, signal_rows, sent}
+use Rattle.otap_signals.specs.BySignal.{rows_by, meaning_by}
+use Rattle.otap_gateway.specs.Encoding.{Encoded, Puts, Refuses, Encodes, Arrives, encoded, sent}
 use Rattle.otap_gateway.specs.ReadBack.{IsReadAgain}
-use Rattle.otap_gateway.specs.Receptions.{meaning_of}
 use Rattle.otap_gateway.specs.Reply.{ReplyText, out_text}
 use Rattle.otap_gateway.specs.Replies.{Gave, replies_from}
 use Rattle.otap_gateway.proofs.EncodedFrames.{encoded_only}
@@ -73,9 +72,9 @@ module _ (rows : SignalRows) (messages : MessagesAreRead) (resets : IsFrame rese
         capture = subst (λ (l : List ℕ). length l < capture_limit → IsCapture l (map frame_sent (sent os)) None) out (capture_of (sent os) allowed);
       }
 
-pub read_back : (signal : Signal) → MessagesAreRead → IsFrame reset_frame capture.Reset → ((ss : List Sending) → AreAllowed (signal_rows signal) ss → Arrives (meaning_of signal) ss)
+pub read_back : (signal : Signal) → MessagesAreRead → IsFrame reset_frame capture.Reset → ((ss : List Sending) → AreAllowed (rows_by signal) ss → Arrives (meaning_by signal) ss)
     → (frames : List Frame) (replies : List ReplyText) → EachAfter (ReplyOf (command.Encode signal)) [] [] frames replies
-    → IsReadAgain (signal_rows signal) (meaning_of signal) frames replies
+    → IsReadAgain (rows_by signal) (meaning_by signal) frames replies
 read_back signal messages resets arrives frames replies each =
     let some = encode_back signal frames replies each in
-    read_from (signal_rows signal) messages resets (meaning_of signal) arrives frames replies some.0 some.1 some.2
+    read_from (rows_by signal) messages resets (meaning_by signal) arrives frames replies some.0 some.1 some.2

@@ -2,7 +2,7 @@
 use Rattle.std.specs.Prelude.{◌≡◌, ℕ, List}
 use Rattle.otap_capture.specs.Capture.{Frame}
 use Rattle.otap_consume.specs.declared.taken.Taken.{Taken}
-use Rattle.otap_consume.specs.Meanings.{Meaning}
+use Rattle.otap_signals.specs.Meanings.{Meaning}
 use Rattle.otap_consume.specs.Outcomes.{OutcomeAfter}
 use Rattle.otap_consume.specs.Receiving.{ReceivedAfter}
 use Rattle.otap_consume.specs.Segments.{SegmentIn, StandsFor}

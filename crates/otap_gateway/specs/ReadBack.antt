@@ -1,8 +1,7 @@
 -- What the far end reads of all that `encode` wrote.
 use Rattle.std.specs.Prelude.{◌≡◌, ◌<◌, List, length, map, None}
 use Rattle.otap_capture.specs.Capture.{Frame, IsCapture, capture_limit}
-use Rattle.otap_consume.specs.Meanings.{Meaning}
-use Rattle.otap_produce.specs.Policy.{SignalRows}
+use Rattle.otap_signals.specs.Meanings.{Meaning, SignalRows}
 use Rattle.otap_transit.specs.Sendings.{AreAllowed, frame_sent}
 use Rattle.otap_gateway.specs.Encoding.{Encoded, EncodedAfter, Arrives, encoded, sent}
 use Rattle.otap_gateway.specs.Reply.{ReplyText, out_text}

@@ -10,23 +10,14 @@ use Rattle.otap_capture.specs.Statuses.{StatusContent, canon_status}
 use Rattle.otap_consume.specs.declared.refusal.Refusal.{Refusal}
 use Rattle.otap_consume.specs.declared.taken.Taken.{Taken}
 use Rattle.otap_consume.specs.declared.taken.Taken.TheVariants.{Accepted, Refused, Reset}
-use Rattle.otap_consume.specs.LogsMeaning.{logs_meaning}
-use Rattle.otap_consume.specs.Meanings.{Meaning}
-use Rattle.otap_consume.specs.MetricsMeaning.{metrics_meaning}
+use Rattle.otap_signals.specs.Meanings.{Meaning}
 use Rattle.otap_consume.specs.Outcomes.{Outcome}
 use Rattle.otap_consume.specs.Receivers.{taken_of}
-use Rattle.otap_consume.specs.SpansMeaning.{spans_meaning}
-use Rattle.otlp_model.specs.declared.request.Signal.{Signal}
-use Rattle.otlp_model.specs.declared.request.Signal.TheVariants as signals
+use Rattle.otap_gateway.specs.declared.jobs.command.ReceiverText.{ReceiverText}
+use Rattle.otap_gateway.specs.declared.jobs.command.ReceiverText.TheVariants as text
 use Rattle.otap_gateway.specs.Causes.{cause_name}
 use Rattle.otap_gateway.specs.Lines.{reset_line, batch_head, refusal_text, refused_line, line_feed, printed, refuses}
 use Rattle.otap_gateway.specs.Reply.{ReplyText}
-
--- what the tables of a signal mean
-abbrev pub meaning_of : Signal → Meaning
-meaning_of signals.Traces = spans_meaning
-meaning_of signals.Logs = logs_meaning
-meaning_of signals.Metrics = metrics_meaning
 
 -- ---- what each job prints of what a frame gave
 
@@ -73,6 +64,12 @@ abbrev pub statused : ℕ → Taken → ReplyText
 statused number (Accepted id request rows tree) = printed (message_frame (canon_status (fine_status id)))
 statused number (Refused refusal) = record { out = message_frame (canon_status (refusal_status refusal)); err = refusal_line number refusal; refused = true }
 statused number Reset = printed reset_frame
+
+-- the text of a job
+abbrev pub text_of : ReceiverText → ℕ → Taken → ReplyText
+text_of text.Decode = decoded
+text_of text.Status = statused
+text_of text.Replay = replayed
 
 -- the text of what is returned for an outcome
 abbrev pub as_taken : Meaning → (ℕ → Taken → ReplyText) → ℕ → Outcome → ReplyText

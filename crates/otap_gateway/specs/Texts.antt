@@ -5,9 +5,11 @@ use Rattle.otap_capture.specs.Capture.{Frame}
 use Rattle.otap_consume.specs.Outcomes.{Outcome, Accepted, Refused, Reset, Outcomes}
 use Rattle.otap_consume.specs.Receiving.{Received}
 use Rattle.otap_gateway.specs.declared.jobs.command.Command.TheVariants as command
+use Rattle.otap_gateway.specs.declared.jobs.command.ReceiverText.{ReceiverText}
 use Rattle.otlp_model.specs.declared.request.Signal.{Signal}
 use Rattle.otap_gateway.specs.Commands.{ReplyOf}
-use Rattle.otap_gateway.specs.Receptions.{decoded, statused, replayed, as_taken, meaning_of}
+use Rattle.otap_signals.specs.BySignal.{meaning_by}
+use Rattle.otap_gateway.specs.Receptions.{as_taken, text_of}
 use Rattle.otap_gateway.specs.Showing.{shown}
 use Rattle.otap_gateway.specs.Replies.{replies_from}
 
@@ -17,14 +19,12 @@ IsEarly (Accepted batch tables) = ⊤
 IsEarly (Refused refusal) = refusal.stage ≤ 4
 IsEarly Reset = ⊤
 
--- ONE LIST OF OUTCOMES of the frames gives what `decode`, what `status` and what `replay` may write, and where no later stage refused
--- a frame, what `show` may write too. In any case some list of what the stages 0 to 4 make of the frames gives that.
+-- ONE LIST OF OUTCOMES of the frames gives what each job of a receiver may write, and where no later stage refused a frame, what
+-- `show` may write too. In any case some list of what the stages 0 to 4 make of the frames gives that.
 pub record HaveTexts (signal : Signal) (frames : List Frame) : Type 0 where
   pub outcomes : List Outcome
-  pub received : Received (meaning_of signal) frames outcomes
-  pub decode : EachAfter (ReplyOf (command.Decode signal)) [] [] frames (replies_from (as_taken (meaning_of signal) decoded) 0 outcomes)
-  pub status : EachAfter (ReplyOf (command.Status signal)) [] [] frames (replies_from (as_taken (meaning_of signal) statused) 0 outcomes)
-  pub replay : EachAfter (ReplyOf (command.Replay signal)) [] [] frames (replies_from (as_taken (meaning_of signal) replayed) 0 outcomes)
+  pub received : Received (meaning_by signal) frames outcomes
+  pub receive : (text : ReceiverText) → EachAfter (ReplyOf (command.Receive text signal)) [] [] frames (replies_from (as_taken (meaning_by signal) (text_of text)) 0 outcomes)
   pub show_alike : All IsEarly outcomes → EachAfter (ReplyOf (command.Show signal)) [] [] frames (replies_from shown 0 outcomes)
   pub seen : List Outcome
   pub given : Outcomes signal frames seen

@@ -13,7 +13,6 @@ pub(crate) mod refused_requests;
 pub(crate) mod replay;
 pub(crate) mod reply;
 pub(crate) mod schema;
-pub(crate) mod sending;
 pub(crate) mod sending_laws;
 pub(crate) mod show;
 pub(crate) mod status;

@@ -17,7 +17,8 @@ use Rattle.otap_columns.specs.TableSets.{ArePayloadsOf, IsPayloadOf, openings}
 use Rattle.otap_columns.proofs.Openings.{numbered, same_test, open_id-own, open_id-other, stays_open}
 use Rattle.otap_produce.specs.Exporters.{ExporterIn, HasSentTables, HaveSent, SenderIn, SendersIn, StandsFor}
 use Rattle.otap_capture.specs.Batch.{payloads_in}
-use Rattle.otap_produce.specs.Policy.{IsMessageOf, Policy, SignalRows}
+use Rattle.otap_signals.specs.Meanings.{SignalRows}
+use Rattle.otap_produce.specs.Policy.{IsMessageOf, Policy}
 use Rattle.otap_produce.proofs.Counting.{if_opens, openings-push}
 
 -- ---- one payload
@@ -119,6 +120,7 @@ all_sent_alike tables past past' s alike sent = record {
 pub stands_with : (rows : SignalRows) (requests : List Request) (messages others : List (List ℕ)) (e : ExporterIn) → StandsFor rows requests messages e → Policy rows requests others
     → StandsFor rows requests others e
 stands_with rows requests messages others e stands allowed = record {
+  same = stands.same;
   sound = stands.sound;
   kinds = stands.kinds;
   batches = stands.batches;

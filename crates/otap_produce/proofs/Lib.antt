@@ -4,9 +4,6 @@ pub mod Stepping
 pub mod Fresh
 pub mod OneMore
 pub mod WritableTables
-pub mod WrittenLogs
-pub mod WrittenSpans
-pub mod WrittenMetrics
 pub mod Lengths
 pub mod Limited
 pub mod Batches

@@ -11,7 +11,7 @@ use Rattle.otap_cells.specs.Tables.{Table}
 use Rattle.otap_cells.specs.Weights.{row_weight_limit, weight_of_tables}
 use Rattle.otap_columns.specs.Limits.{columns_limit, dictionary_columns, record_limit, records_limit, tables_limit}
 use Rattle.otap_produce.specs.Sizes.{payloads_most, size_limit}
-use Rattle.otap_produce.specs.Writable.{AreInOrder}
+use Rattle.otap_produce.specs.TableOrder.{AreInOrder}
 
 -- the records of the tables of a message are short together
 pub record RecordsFit : Type 0 where

@@ -13,10 +13,12 @@ use Rattle.otap_cells.specs.Weights.{weight_of_table}
 use Rattle.otap_columns.specs.Limits.{tables_limit}
 use Rattle.otap_produce.specs.Exporters.{SendersIn, kinds_in}
 use Rattle.otap_produce.specs.Limits.{batch_limit}
-use Rattle.otap_produce.specs.Policy.{IsExported, SignalRows}
+use Rattle.otap_signals.specs.Meanings.{SignalRows}
+use Rattle.otap_produce.specs.Policy.{IsExported}
 use Rattle.otap_produce.specs.SentMessages.{AreReadyForAll}
-use Rattle.otap_produce.specs.Writable.{AreInOrder, AreWritableRows}
+use Rattle.otap_produce.specs.TableOrder.{AreInOrder}
 use Rattle.otap_produce.specs.Inside.{HaveHistory}
+use Rattle.otap_produce.proofs.WritableTables.{HaveWritable}
 use Rattle.otap_produce.proofs.Limited.{RecordsFit, tables_limited}
 
 -- the kind of each table is one of the signal's
@@ -27,13 +29,12 @@ of_signal signal tables order k d low =
     subst (All (Contains (kinds_of signal))) (sym order.kinds) (All-filter order.has (Contains (kinds_of signal)) (kinds_of signal) (All-contains_itself (kinds_of signal))) in
     subst (Contains (kinds_of signal)) (get_or-map kind tables k d d.kind low) (all k d.kind (omega (arith, low, length-map tables kind)))
 
-module _ (rows : SignalRows) (q : Request) (exported : IsExported rows q) (writable : AreWritableRows rows) (fit : RecordsFit) where
+module _ (rows : SignalRows) (q : Request) (exported : IsExported rows q) (have : HaveWritable rows.signal (rows.tables q)) (fit : RecordsFit) where
   pub few_tables : length (rows.tables q) ≤ tables_limit
-  few_tables = (tables_limited fit rows.signal (rows.tables q) (writable.tables q exported).order exported.row_weight).0
+  few_tables = (tables_limited fit rows.signal (rows.tables q) have.order exported.row_weight).0
 
   pub ready_for_all : (s : SendersIn) (batches : ℕ) → kinds_in s.senders ≡ kinds_of rows.signal → HaveHistory s → s.openings ≤ tables_limit * batches → batches < batch_limit → AreReadyForAll (rows.tables q) s
   ready_for_all s batches kinds history few low =
-      let have = writable.tables q exported in
       let limited = tables_limited fit rows.signal (rows.tables q) have.order exported.row_weight in
       record {
         signal = rows.signal;

@@ -1,7 +1,9 @@
--- Tables of the profile, in the order of their kinds, can be written.
+-- The tables of a request that is exported are in order, and can be written.
 use Rattle.std.proofs.Common.{◌≡◌, ℕ, List, Bool, subst}
 use Rattle.std.specs.Prelude.{All, ◌||◌, filter, length, map, nat_lt}
 use Rattle.std.proofs.lemmas.List.Elements.{All-weaker}
+use Rattle.otlp_model.specs.Telemetry.{signal_of}
+use Rattle.otlp_model.specs.declared.request.Request.{Request}
 use Rattle.otlp_model.specs.declared.request.Signal.{Signal}
 use Rattle.otap_cells.specs.declared.payload.Kind.{Kind}
 use Rattle.otap_cells.specs.declared.profile.Coding.{Coding}
@@ -13,7 +15,15 @@ use Rattle.otap_cells.specs.ColumnIds.{stored_in}
 use Rattle.otap_cells.specs.Ids.{Ids}
 use Rattle.otap_groups.specs.ProfileTables.{HasProfileIds, IsProfileTable}
 use Rattle.otap_columns.specs.WrittenPayloads.{IsWritableTable}
-use Rattle.otap_produce.specs.Writable.{HaveWritable}
+use Rattle.otap_signals.specs.BySignal.{RequestComesBack, rows_by, tables_of_request}
+use Rattle.otap_signals.specs.Signals.{IsWritten}
+use Rattle.otap_produce.specs.Policy.{IsExported}
+use Rattle.otap_produce.specs.TableOrder.{AreInOrder}
+
+-- the tables of a signal are in order, and each can be written
+pub record HaveWritable (signal : Signal) (tables : List Table) : Type 0 where
+  pub order : AreInOrder signal tables
+  pub each : All (λ t. IsWritableTable t.kind t) tables
 
 -- a table of the profile can be written
 can_be_written : (t : Table) → IsProfileTable t → IsWritableTable t.kind t
@@ -33,7 +43,7 @@ can_be_written t profile = record {
 kept : Signal → List Table → Kind → Bool
 kept signal ts kind = is_kind kind (main_of signal) || nat_lt 0 (length (table_named kind ts).rows)
 
-pub writable : (signal : Signal) (ts : List Table)
+writable : (signal : Signal) (ts : List Table)
     → map (λ t. t.kind) ts ≡ filter (λ kind. is_kind kind (main_of signal) || nat_lt 0 (length (table_named kind ts).rows)) (kinds_of signal)
     → All IsProfileTable ts → HaveWritable signal ts
 unfolding kept
@@ -41,3 +51,8 @@ writable signal ts kinds profile = record {
   order = record { has = kept signal ts; kinds = kinds };
   each = All-weaker IsProfileTable (λ (t : Table). IsWritableTable t.kind t) can_be_written ts profile;
 }
+
+pub exported_writable : ((request : Request) → IsWritten request → RequestComesBack request) → (signal : Signal) (q : Request) → IsExported (rows_by signal) q → HaveWritable signal (tables_of_request q)
+exported_writable back signal q exported =
+    let here : RequestComesBack q = back q (record { real = exported.real; profile = exported.profile; light = exported.tree }) in
+    subst (λ (s : Signal). HaveWritable s (tables_of_request q)) exported.signal (writable (signal_of q) (tables_of_request q) here.order here.profile)

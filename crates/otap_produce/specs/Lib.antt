@@ -1,9 +1,6 @@
 pub mod Limits
 pub mod Policy
-pub mod LogRows
-pub mod SpanRows
-pub mod MetricRows
-pub mod Writable
+pub mod TableOrder
 pub mod Exporters
 pub mod Sizes
 pub mod SentMessages

@@ -8,17 +8,11 @@ use Rattle.otlp_model.specs.Real.{IsReal}
 use Rattle.otlp_model.specs.Telemetry.{signal_of, telemetry}
 use Rattle.otlp_model.specs.Weight.{weight_of}
 use Rattle.otlp_model.specs.declared.request.Request.{Request}
-use Rattle.otlp_model.specs.declared.request.Signal.{Signal}
 use Rattle.otap_capture.specs.Batch.{batch_content, canon_batch, payloads_in}
 use Rattle.otap_capture.specs.Capture.{longest_frame}
-use Rattle.otap_cells.specs.Tables.{Table}
 use Rattle.otap_cells.specs.Weights.{row_weight_limit, weight_of_tables}
 use Rattle.otap_columns.specs.TableSets.{ArePayloadsOf}
-
--- A SIGNAL, and which tables its requests are written as
-pub record SignalRows : Type 0 where
-  pub signal : Signal
-  pub tables : Request → List Table
+use Rattle.otap_signals.specs.Meanings.{SignalRows}
 
 -- A REQUEST THAT IS EXPORTED: of the signal, real, of the profile, and within the limits on items, tree weight and row weight
 pub record IsExported (rows : SignalRows) (q : Request) : Type 0 where

@@ -8,6 +8,7 @@ ghost use Rattle.otap_capture.specs.Batch.{payloads_in};
 ghost use Rattle.otap_cells.specs.Payload.{kinds_of};
 ghost use Rattle.otap_columns.specs.Limits.{tables_limit};
 ghost use Rattle.otap_columns.specs.TableSets.{openings};
+ghost use Rattle.otap_signals.specs.BySignal.{rows_by, tables_of_request};
 ghost use Rattle.otap_produce.specs.Exporters.{Exports, AfterRefusal, Refuses, StandsFor, kinds_in};
 ghost use Rattle.otap_produce.specs.Limits.{batch_limit};
 ghost use Rattle.otap_produce.specs.Policy.{IsExported};
@@ -16,66 +17,74 @@ ghost use Rattle.otap_produce.specs.Inside.{HaveHistory};
 
 use crate::refusal::ProduceRefusal;
 use crate::senders::Senders;
-use crate::tabled::Tabled;
 use otap_cells::MAX_ROW_WEIGHT;
 use otap_columns::writer_laws::records_fit_a_message;
-use otlp_model::{MAX_ITEMS, MAX_TREE_WEIGHT, Request, items, weight};
+use otap_signals::laws::requests_come_back;
+use otap_signals::{row_weight, tables_of};
+use otlp_model::{MAX_ITEMS, MAX_TREE_WEIGHT, Request, Signal, items, weight};
 use std::alloc::{AllocError, Global};
-use std::marker::{Model, PhantomData};
+use std::marker::Model;
 
 /// An exporter of the requests of a signal. Of a segment it keeps what decides the next messages: the columns and dictionaries
 /// of each kind of table, and the schema ids. A contract sees this state, and `StandsFor` ties it to the requests and messages.
 /// It stands for its requests with all messages that the policy allows for them
 /// ([`stands_for_all_messages`](crate::laws::stands_for_all_messages)).
 #[derive(Debug, Drop)]
-pub struct Exporter<T: Tabled> {
+pub struct Exporter {
     alloc: Global,
+    signal: Signal,
     senders: Senders,
     batches: u64,
     broken: bool,
-    tables: PhantomData<T>,
 }
 
-impl<T: Tabled> Model for Exporter<T> {
+impl Model for Exporter {
     ghost use Rattle.otap_produce.specs.Exporters.{ExporterIn};
 
     ghost Value = { ExporterIn };
 
     ghost use Rattle.otap_produce.specs.Inside.{IsExporter};
 
-    ghost view = { λ e. record { sent = e.senders; batches = e.batches; broken = e.broken } };
+    ghost view = { λ e. record { signal = e.signal; sent = e.senders; batches = e.batches; broken = e.broken } };
 
-    ghost invariant = { λ e. IsExporter T.rows.signal e.senders e.batches e.broken };
+    ghost invariant = { λ e. IsExporter e.signal e.senders e.batches e.broken };
 }
 
-impl<T: Tabled> Exporter<T> {
-    /// An exporter at the beginning of a segment.
-    pub fn new(alloc: Global) -> Result<Exporter<T>, AllocError>
-        ensures { IfOk result (StandsFor T.rows [] []) }
+impl Exporter {
+    /// An exporter of a signal, at the beginning of a segment.
+    pub fn new(alloc: Global, signal: Signal) -> Result<Exporter, AllocError>
+        ensures { IfOk result (StandsFor (rows_by signal) [] []) }
     {
-        let senders = Senders::new(alloc, T::signal())?;
+        let senders = Senders::new(alloc, signal)?;
         Ok(Exporter {
             alloc,
+            signal,
             senders,
             batches: 0,
             broken: false,
-            tables: PhantomData,
         })
     }
 
     /// The batch message of one more request of the segment. A request that is too large leaves the exporter as it was; where
     /// memory runs out, it is broken until a reset, and what it counts stays as it was.
     pub fn encode(&mut self, request: &Request) -> Result<Vec<u8>, ProduceRefusal>
-        requires signal { signal_of request.now ≡ T.rows.signal }
+        requires signal { signal_of request.now ≡ self.old.signal }
         requires profile { IsProfile request.now }
         requires batches { self.old.batches < batch_limit }
-        ensures exports { IfOk result (λ bytes. Exports T.rows request.now self.old self.new bytes.items) }
-        ensures refuses { IfErr result (Refuses T.rows request.now self.old.broken) }
+        ensures exports { IfOk result (λ bytes. Exports (rows_by self.old.signal) request.now self.old self.new bytes.items) }
+        ensures refuses { IfErr result (Refuses (rows_by self.old.signal) request.now self.old.broken) }
         ensures after { IfErr result (λ refusal. AfterRefusal refusal self.old self.new) }
+        ensures signal { self.new.signal ≡ self.old.signal }
     {
-        check::<T>(self.broken, request)?;
+        check(self.signal, self.broken, request)?;
         self.broken = true;
-        let bytes = message_of::<T>(self.alloc, &mut self.senders, self.batches, request)?;
+        let bytes = message_of(
+            self.alloc,
+            self.signal,
+            &mut self.senders,
+            self.batches,
+            request,
+        )?;
         self.batches += 1;
         self.broken = false;
         Ok(bytes)
@@ -83,11 +92,18 @@ impl<T: Tabled> Exporter<T> {
 
     /// Begins a new segment.
     pub fn reset(&mut self)
-        ensures { StandsFor T.rows [] [] self.new }
+        ensures { StandsFor (rows_by self.old.signal) [] [] self.new }
     {
         self.senders.reset();
         self.batches = 0;
         self.broken = false;
+    }
+
+    /// The signal of its requests.
+    pub fn signal(&self) -> Signal
+        ensures { result ≡ self.now.signal }
+    {
+        self.signal
     }
 
     /// Whether memory ran out since the last reset.
@@ -107,7 +123,7 @@ impl<T: Tabled> Exporter<T> {
     /// How many payloads of the batches since the last reset opened a sub-stream.
     pub fn openings(&self) -> u64
         ensures count { result ≡ self.now.sent.openings }
-        ensures opened { (requests : List Request) (messages : List (List ℕ)) → StandsFor T.rows requests messages self.now
+        ensures opened { (requests : List Request) (messages : List (List ℕ)) → StandsFor (rows_by self.now.signal) requests messages self.now
             → result ≡ openings (flat_map payloads_in messages) }
     {
         self.senders.openings()
@@ -115,12 +131,12 @@ impl<T: Tabled> Exporter<T> {
 }
 
 /// Whether a request is exported; nothing is written yet.
-fn check<T: Tabled>(broken: bool, request: &Request) -> Result<(), ProduceRefusal>
-    requires signal { signal_of request.now ≡ T.rows.signal }
+fn check(signal: Signal, broken: bool, request: &Request) -> Result<(), ProduceRefusal>
+    requires signal { signal_of request.now ≡ signal }
     requires profile { IsProfile request.now }
     ensures sound { OnOk result (broken ≡ false) }
-    ensures exported { OnOk result (IsExported T.rows request.now) }
-    ensures refuses { IfErr result (RefusesUnwritten T.rows request.now broken) }
+    ensures exported { OnOk result (IsExported (rows_by signal) request.now) }
+    ensures refuses { IfErr result (RefusesUnwritten (rows_by signal) request.now broken) }
 {
     if broken {
         return Err(ProduceRefusal::Broken);
@@ -128,32 +144,33 @@ fn check<T: Tabled>(broken: bool, request: &Request) -> Result<(), ProduceRefusa
     if items(request) > MAX_ITEMS {
         return Err(ProduceRefusal::TooManyItems);
     }
-    if weight(request) > MAX_TREE_WEIGHT || T::row_weight(request) > MAX_ROW_WEIGHT {
+    if weight(request) > MAX_TREE_WEIGHT || row_weight(request) > MAX_ROW_WEIGHT {
         return Err(ProduceRefusal::TooHeavy);
     }
     Ok(())
 }
 
 /// The message of a request that is exported.
-fn message_of<T: Tabled>(
+fn message_of(
     alloc: Global,
+    signal: Signal,
     senders: &mut Senders,
     batches: u64,
     request: &Request,
 ) -> Result<Vec<u8>, AllocError>
-    requires exported { IsExported T.rows request.now }
-    requires kinds { kinds_in senders.old.senders ≡ kinds_of T.rows.signal }
+    requires exported { IsExported (rows_by signal) request.now }
+    requires kinds { kinds_in senders.old.senders ≡ kinds_of signal }
     requires history { HaveHistory senders.old }
     requires few { senders.old.openings ≤ tables_limit * batches }
     requires batches { batches < batch_limit }
-    ensures sends { IfOk result (λ bytes. SendsMessage batches (T.rows.tables request.now) senders.old senders.new bytes.items) }
+    ensures sends { IfOk result (λ bytes. SendsMessage batches (tables_of_request request.now) senders.old senders.new bytes.items) }
     ensures kinds { kinds_in senders.new.senders ≡ kinds_in senders.old.senders }
     ensures few { OnOk result (senders.new.openings ≤ senders.old.openings + tables_limit) }
     ensures uncounted { OnErr result (senders.new.openings ≡ senders.old.openings) }
 {
-    T::can_be_written();
+    requests_come_back();
     records_fit_a_message();
-    let set = T::tables(alloc, request)?;
+    let set = tables_of(alloc, request)?;
     let bytes = senders.send_all(batches, &set.tables)?;
     Ok(bytes)
 }

@@ -3,7 +3,8 @@
 ghost use Rattle.std.specs.Prelude.{ℕ, List};
 ghost use Rattle.otlp_model.specs.declared.request.Request.{Request};
 ghost use Rattle.otap_produce.specs.Exporters.{ExporterIn, StandsFor};
-ghost use Rattle.otap_produce.specs.Policy.{SignalRows, Policy};
+ghost use Rattle.otap_signals.specs.Meanings.{SignalRows};
+ghost use Rattle.otap_produce.specs.Policy.{Policy};
 
 /// The policy decides the schema ids. So an exporter that stands for requests with some messages stands for them with every list
 /// of messages that the policy allows.

@@ -8,12 +8,11 @@ use Rattle.otap_capture.specs.Batch.{batch_content, payloads_in}
 use Rattle.otap_capture.specs.Capture.{Frame, Message}
 use Rattle.otap_capture.specs.Capture as capture
 use Rattle.otap_cells.specs.Tables.{Table}
-use Rattle.otap_consume.specs.Meanings.{Meaning}
+use Rattle.otap_signals.specs.Meanings.{Meaning, SignalRows}
 use Rattle.otap_consume.specs.Outcomes.{Outcome, Accepted, is_broken, payloads_after}
 use Rattle.otap_consume.specs.Outcomes as outcomes
 use Rattle.otap_consume.specs.Receiving.{ReceivedAfter, Received}
 use Rattle.otap_consume.proofs.SegmentSteps.{payloads_accepted, broken_accepted, broken_reset, payloads_reset}
-use Rattle.otap_produce.specs.Policy.{SignalRows}
 use Rattle.otap_transit.specs.Faithful.{AreFaithful}
 use Rattle.otap_transit.specs.Sendings.{Sending, Sent, Reset, MaySend, IsAllowed, AreAllowed, IsAccepted, ArrivesAs, Arrive, frame_sent, requests_since, messages_since}
 use Rattle.otap_transit.specs.Transits.{payloads_in_all, tables_after}

@@ -16,9 +16,10 @@ use Rattle.otap_cells.specs.Tables.{Table}
 use Rattle.otap_columns.specs.Limits.{tables_limit}
 use Rattle.otap_columns.specs.TableSets.{IsPayloadOf}
 use Rattle.otap_consume.specs.Defects.{Accepts, tables_of}
-use Rattle.otap_consume.specs.Meanings.{Meaning, HasFineRows}
-use Rattle.otap_produce.specs.Policy.{SignalRows, IsExported, IsMessageOf}
-use Rattle.otap_produce.specs.Writable.{AreInOrder}
+use Rattle.otap_signals.specs.Meanings.{Meaning, SignalRows}
+use Rattle.otap_consume.specs.LateStages.{HasFineRows}
+use Rattle.otap_produce.specs.Policy.{IsExported, IsMessageOf}
+use Rattle.otap_produce.specs.TableOrder.{AreInOrder}
 use Rattle.otap_transit.specs.Faithful.{AreFaithful, MeanTheSame}
 use Rattle.otap_transit.specs.Transits.{IsReceivedAs, payloads_in_all, tables_after}
 use Rattle.otap_transit.proofs.Accepting.{accepts, tables_read}

@@ -6,7 +6,8 @@ use Rattle.otap_capture.specs.Batch.{BatchContent, ReadsBatch}
 use Rattle.otap_capture.specs.Capture.{Message}
 use Rattle.otap_cells.specs.Tables.{Table}
 use Rattle.otap_consume.specs.Defects.{Accepts, tables_of}
-use Rattle.otap_consume.specs.Meanings.{Meaning, HasFineRows}
+use Rattle.otap_signals.specs.Meanings.{Meaning}
+use Rattle.otap_consume.specs.LateStages.{HasFineRows}
 use Rattle.otap_consume.specs.Outcomes.{Outcome, Accepted, GivesOutcome, StaysBroken, is_broken, payloads_after}
 use Rattle.otap_consume.specs.Receiving.{IsInFormat, ReceivedAfter, Settles}
 use Rattle.otap_consume.proofs.Formats.{in_format}

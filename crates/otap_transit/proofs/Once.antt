@@ -14,7 +14,7 @@ use Rattle.otap_cells.specs.Tables.{Table}
 use Rattle.otap_columns.specs.Limits.{held_of_kind, tables_limit}
 use Rattle.otap_consume.specs.Limits.{held_limit}
 use Rattle.otap_consume.specs.Payloads.{payload_type_of}
-use Rattle.otap_produce.specs.Writable.{AreInOrder}
+use Rattle.otap_produce.specs.TableOrder.{AreInOrder}
 use Rattle.otap_cells.proofs.KindsApart.{same_kind}
 
 -- ---- how often

@@ -8,7 +8,8 @@ use Rattle.otap_capture.specs.Capture as capture
 use Rattle.otap_cells.specs.Tables.{Table}
 use Rattle.otlp_model.specs.declared.request.Signal.{Signal}
 use Rattle.otap_consume.specs.Defects.{Accepts, tables_of}
-use Rattle.otap_consume.specs.Meanings.{Meaning, HasFineRows}
+use Rattle.otap_signals.specs.Meanings.{Meaning}
+use Rattle.otap_consume.specs.LateStages.{HasFineRows}
 use Rattle.otap_consume.specs.Outcomes.{Outcome, Accepted, Refused, Reset, GivesOutcome, StaysBroken, OutcomeAfter, is_broken, payloads_after}
 use Rattle.otap_consume.specs.Receiving.{Settles, ReceivedAfter, HasDefect, IsInFormat}
 use Rattle.otap_consume.proofs.Formats.{named, settles_accepted}

@@ -9,9 +9,9 @@ use Rattle.otap_cells.specs.GivenIds.{ReadAs}
 use Rattle.otap_cells.specs.Payload.{main_of}
 use Rattle.otap_cells.specs.Sets.{rows_named}
 use Rattle.otap_cells.specs.Tables.{Table}
-use Rattle.otap_consume.specs.Meanings.{Meaning, AreClean}
-use Rattle.otap_produce.specs.Policy.{SignalRows, IsExported}
-use Rattle.otap_produce.specs.Writable.{AreInOrder}
+use Rattle.otap_signals.specs.Meanings.{Meaning, AreClean, SignalRows}
+use Rattle.otap_produce.specs.Policy.{IsExported}
+use Rattle.otap_produce.specs.TableOrder.{AreInOrder}
 
 -- tables that read as those of a request: nothing is wrong with their rows, and they mean the same telemetry
 pub record MeanTheSame (m : Meaning) (q : Request) (tables : List Table) : Type 0 where

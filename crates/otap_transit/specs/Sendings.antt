@@ -9,10 +9,10 @@ use Rattle.otap_capture.specs.Batch.{batch_content}
 use Rattle.otap_capture.specs.Capture.{Frame, Message}
 use Rattle.otap_capture.specs.Capture as capture
 use Rattle.otap_cells.specs.Tables.{Table}
-use Rattle.otap_consume.specs.Meanings.{Meaning}
+use Rattle.otap_signals.specs.Meanings.{Meaning, SignalRows}
 use Rattle.otap_consume.specs.Outcomes.{Outcome, Accepted}
 use Rattle.otap_consume.specs.Outcomes as outcomes
-use Rattle.otap_produce.specs.Policy.{SignalRows, IsExported, IsMessageOf}
+use Rattle.otap_produce.specs.Policy.{IsExported, IsMessageOf}
 
 -- the message of a request is sent, or a reset
 pub data Sending : Type 0 where

@@ -8,7 +8,7 @@ use Rattle.otap_capture.specs.Batch.{ReadsBatch, batch_content, payloads_in}
 use Rattle.otap_capture.specs.Capture.{Message}
 use Rattle.otap_cells.specs.Tables.{Table}
 use Rattle.otap_consume.specs.Defects.{tables_of}
-use Rattle.otap_consume.specs.Meanings.{Meaning}
+use Rattle.otap_signals.specs.Meanings.{Meaning}
 use Rattle.otap_consume.specs.Receiving.{IsInFormat}
 
 -- the payloads of messages, in order

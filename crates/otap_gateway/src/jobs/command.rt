@@ -18,12 +18,19 @@ pub(crate) enum Command {
     Schema(Signal),
     /// The cells of each batch of the signal.
     Show(Signal),
-    /// The request of each batch of the signal.
-    Decode(Signal),
-    /// The status of each batch of the signal.
-    Status(Signal),
-    /// What each batch of the signal holds.
-    Replay(Signal),
+    /// What is said of each batch of the signal.
+    Receive(ReceiverText, Signal),
+}
+
+/// What a job of a receiver says of each batch.
+#[derive(Clone, Copy)]
+pub(crate) enum ReceiverText {
+    /// Its request.
+    Decode,
+    /// Its status.
+    Status,
+    /// What it holds.
+    Replay,
 }
 
 /// The job of one word.
@@ -46,9 +53,9 @@ pub(crate) fn two_words(job: &str, signal: &str) -> Option<Command>
         "encode" => Some(Command::Encode(any_signal(signal)?)),
         "schema" => Some(Command::Schema(any_signal(signal)?)),
         "show" => Some(Command::Show(any_signal(signal)?)),
-        "decode" => Some(Command::Decode(any_signal(signal)?)),
-        "status" => Some(Command::Status(any_signal(signal)?)),
-        "replay" => Some(Command::Replay(any_signal(signal)?)),
+        "decode" => Some(Command::Receive(ReceiverText::Decode, any_signal(signal)?)),
+        "status" => Some(Command::Receive(ReceiverText::Status, any_signal(signal)?)),
+        "replay" => Some(Command::Receive(ReceiverText::Replay, any_signal(signal)?)),
         _ => None,
     }
 }

@@ -6,57 +6,57 @@ ghost use Rattle.otap_produce.specs.Limits.{batch_limit};
 ghost use Rattle.otlp_model.specs.Profile.{IsProfile};
 ghost use Rattle.otlp_model.specs.Telemetry.{signal_of};
 ghost use Rattle.otap_gateway.specs.declared.jobs.command.Command.TheVariants as command;
-ghost use Rattle.otap_gateway.specs.Encoding.{encoded, signal_rows, Encodes};
+ghost use Rattle.otap_signals.specs.BySignal.{rows_by, meaning_by};
+ghost use Rattle.otap_gateway.specs.Encoding.{encoded, Encodes};
 ghost use Rattle.otap_gateway.specs.EncodingSteps.{EncodesFrame, EncodesRequest, IsEncoding, HasEncoded};
-ghost use Rattle.otap_gateway.specs.Receptions.{meaning_of};
 ghost use Rattle.otap_gateway.specs.JobStates.{HasRepliedBy};
 
 use crate::jobs::job::Job;
 use crate::jobs::refused_requests::{refusal_name, refused};
 use crate::jobs::reply::Reply;
-use crate::jobs::sending::ExportsRows;
 use otap_capture::Frame;
-use otap_produce::{Exporter, ProduceRefusal, Tabled};
+use otap_produce::{Exporter, ProduceRefusal};
+use otap_transit::laws::what_is_sent_arrives;
 use otlp_codec::read_request;
-use otlp_model::Request;
+use otlp_model::{Request, Signal};
 use std::alloc::{AllocError, Global};
 
 /// The job `encode` of a signal.
 #[derive(Drop)]
-pub(crate) struct EncodeJob<T: Tabled> {
-    exporter: Exporter<T>,
-    tables: T,
+pub(crate) struct EncodeJob {
+    exporter: Exporter,
 }
 
-impl<T: ExportsRows + Drop> EncodeJob<T> {
-    pub(crate) fn new(alloc: Global, tables: T) -> Result<EncodeJob<T>, AllocError>
-        ensures { IfOk result (λ job. StandsFor T.rows [] [] job.exporter) }
+impl EncodeJob {
+    pub(crate) fn new(alloc: Global, signal: Signal) -> Result<EncodeJob, AllocError>
+        ensures { IfOk result (λ job. StandsFor (rows_by signal) [] [] job.exporter) }
     {
-        let exporter = Exporter::new(alloc)?;
-        Ok(EncodeJob { exporter, tables })
+        let exporter = Exporter::new(alloc, signal)?;
+        Ok(EncodeJob { exporter })
     }
 }
 
-impl<T: ExportsRows> Job for EncodeJob<T> {
-    ghost command = { λ s. command.Encode T.served };
+impl Job for EncodeJob {
+    ghost command = { λ s. command.Encode s.exporter.signal };
 
-    ghost stands = { λ s. HasRepliedBy (Encodes (signal_rows T.served) (meaning_of T.served)) encoded (HasEncoded (signal_rows T.served) s.exporter) };
+    ghost stands = { λ s. HasRepliedBy (Encodes (rows_by s.exporter.signal) (meaning_by s.exporter.signal)) encoded (HasEncoded (rows_by s.exporter.signal) s.exporter) };
 
     fn step(&mut self, alloc: Global, number: u64, frame: &Frame<'_>) -> Result<Reply, AllocError> {
-        T::what_is_sent_arrives();
+        what_is_sent_arrives();
         encode_frame(alloc, &mut self.exporter, number, frame)
     }
 }
 
-fn encode_frame<T: ExportsRows>(
+fn encode_frame(
     alloc: Global,
-    exporter: &mut Exporter<T>,
+    exporter: &mut Exporter,
     number: u64,
     frame: &Frame<'_>,
 ) -> Result<Reply, AllocError>
-    requires history { IsEncoding T.rows exporter.old }
+    requires history { IsEncoding (rows_by exporter.old.signal) exporter.old }
     requires few { exporter.old.batches < batch_limit }
-    ensures { IfOk result (EncodesFrame T.rows exporter.old exporter.new number (frame_of frame.now)) }
+    ensures encodes { IfOk result (EncodesFrame (rows_by exporter.old.signal) exporter.old exporter.new number (frame_of frame.now)) }
+    ensures signal { exporter.new.signal ≡ exporter.old.signal }
 {
     match frame {
         Frame::Message(bytes) => encode_message(alloc, exporter, number, bytes),
@@ -68,33 +68,35 @@ fn encode_frame<T: ExportsRows>(
     }
 }
 
-fn encode_message<T: ExportsRows>(
+fn encode_message(
     alloc: Global,
-    exporter: &mut Exporter<T>,
+    exporter: &mut Exporter,
     number: u64,
     bytes: &[u8],
 ) -> Result<Reply, AllocError>
-    requires history { IsEncoding T.rows exporter.old }
+    requires history { IsEncoding (rows_by exporter.old.signal) exporter.old }
     requires few { exporter.old.batches < batch_limit }
-    ensures { IfOk result (EncodesFrame T.rows exporter.old exporter.new number (Message bytes.now)) }
+    ensures encodes { IfOk result (EncodesFrame (rows_by exporter.old.signal) exporter.old exporter.new number (Message bytes.now)) }
+    ensures signal { exporter.new.signal ≡ exporter.old.signal }
 {
-    match read_request(alloc, T::signal(), bytes) {
+    match read_request(alloc, exporter.signal(), bytes) {
         Ok(request) => encode_request(alloc, exporter, number, &request),
         Err(refusal) => refused(alloc, number, refusal_name(refusal)?),
     }
 }
 
-fn encode_request<T: ExportsRows>(
+fn encode_request(
     alloc: Global,
-    exporter: &mut Exporter<T>,
+    exporter: &mut Exporter,
     number: u64,
     request: &Request,
 ) -> Result<Reply, AllocError>
-    requires history { IsEncoding T.rows exporter.old }
+    requires history { IsEncoding (rows_by exporter.old.signal) exporter.old }
     requires few { exporter.old.batches < batch_limit }
-    requires of_signal { signal_of request.now ≡ T.rows.signal }
+    requires of_signal { signal_of request.now ≡ exporter.old.signal }
     requires profile { IsProfile request.now }
-    ensures { IfOk result (EncodesRequest T.rows exporter.old exporter.new number request.now) }
+    ensures encodes { IfOk result (EncodesRequest (rows_by exporter.old.signal) exporter.old exporter.new number request.now) }
+    ensures signal { exporter.new.signal ≡ exporter.old.signal }
 {
     match exporter.encode(request) {
         Ok(message) => Reply::frame(alloc, &message),

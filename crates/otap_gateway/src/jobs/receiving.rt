@@ -1,58 +1,73 @@
-//! What the jobs of a receiver share, and `show` with them.
+//! The jobs of a receiver: each is the text of what the frames give.
 ghost use Rattle.std.specs.Prelude.{◌≡◌, IfOk};
-ghost use Rattle.otap_capture.specs.Capture.{Frame};
-ghost use Rattle.otap_consume.specs.declared.taken.Taken.{Taken};
-ghost use Rattle.otap_consume.specs.Receivers.{Receives};
-ghost use Rattle.otap_consume.specs.Segments.{SegmentIn};
-ghost use Rattle.otlp_model.specs.declared.request.Signal.{Signal};
-ghost use Rattle.otlp_model.specs.declared.request.Signal.TheVariants as signals;
+ghost use Rattle.otap_signals.specs.BySignal.{meaning_by};
+ghost use Rattle.otap_consume.specs.Receivers.{HasLightRequest};
+ghost use Rattle.otap_consume.specs.Segments.{IsNew};
+ghost use Rattle.otap_gateway.specs.declared.jobs.command.Command.TheVariants as command;
+ghost use Rattle.otap_gateway.specs.JobStates.{HasReplied};
 ghost use Rattle.otap_gateway.specs.Lines.{refuses};
-ghost use Rattle.otap_gateway.specs.Receptions.{refusal_line, meaning_of};
+ghost use Rattle.otap_gateway.specs.Receptions.{refusal_line, text_of};
 
+use crate::jobs::command::ReceiverText;
+use crate::jobs::decode::decode;
+use crate::jobs::job::Job;
+use crate::jobs::replay::replay;
 use crate::jobs::reply::Reply;
+use crate::jobs::status::status_of;
 use crate::texts::causes::cause_name;
 use crate::texts::lines::refused_line;
-use otap_consume::{LogTelemetry, MetricTelemetry, Refusal, SpanTelemetry, Telemetry};
+use otap_capture::Frame;
+use otap_consume::{Receiver, Refusal, Taken};
+use otlp_model::Signal;
 use std::alloc::{AllocError, Global};
 
-/// A signal that the jobs of a receiver serve: its tables mean what the texts say of them.
-pub(crate) trait Serves: Telemetry {
-    ghost served: { Signal };
-
-    ghost of_signal: { Self.meaning.signal ≡ (meaning_of served).signal };
-
-    ghost receives: { (old : SegmentIn) (frame : Frame) (new : SegmentIn) (taken : Taken)
-        → Receives Self.meaning old frame new taken → Receives (meaning_of served) old frame new taken };
+/// A job of a receiver.
+#[derive(Drop)]
+pub(crate) struct ReceiverJob {
+    text: ReceiverText,
+    receiver: Receiver,
 }
 
-impl Serves for SpanTelemetry {
-    ghost use Rattle.std.specs.Prelude.{refl};
-
-    ghost served = { signals.Traces };
-
-    ghost of_signal = { refl };
-
-    ghost receives = { λ old frame new taken receives. receives };
+impl ReceiverJob {
+    pub(crate) fn new(
+        alloc: Global,
+        text: ReceiverText,
+        signal: Signal,
+    ) -> Result<ReceiverJob, AllocError>
+        ensures text { IfOk result (λ job. job.text ≡ text) }
+        ensures receiver { IfOk result (λ job. IsNew signal job.receiver) }
+    {
+        let receiver = Receiver::new(alloc, signal)?;
+        Ok(ReceiverJob { text, receiver })
+    }
 }
 
-impl Serves for LogTelemetry {
-    ghost use Rattle.std.specs.Prelude.{refl};
+impl Job for ReceiverJob {
+    ghost command = { λ s. command.Receive s.text s.receiver.signal };
 
-    ghost served = { signals.Logs };
+    ghost stands = { λ s. HasReplied (meaning_by s.receiver.signal) (text_of s.text) s.receiver };
 
-    ghost of_signal = { refl };
-
-    ghost receives = { λ old frame new taken receives. receives };
+    fn step(&mut self, alloc: Global, number: u64, frame: &Frame<'_>) -> Result<Reply, AllocError> {
+        let taken = self.receiver.take(frame)?;
+        reply_of(self.text, alloc, number, taken)
+    }
 }
 
-impl Serves for MetricTelemetry {
-    ghost use Rattle.std.specs.Prelude.{refl};
-
-    ghost served = { signals.Metrics };
-
-    ghost of_signal = { refl };
-
-    ghost receives = { λ old frame new taken receives. receives };
+/// The reply to what a frame gave.
+fn reply_of(
+    text: ReceiverText,
+    alloc: Global,
+    number: u64,
+    taken: Taken,
+) -> Result<Reply, AllocError>
+    requires { HasLightRequest taken }
+    ensures { IfOk result (λ reply. reply ≡ text_of text number taken) }
+{
+    match text {
+        ReceiverText::Decode => decode(alloc, number, taken),
+        ReceiverText::Status => status_of(alloc, number, taken),
+        ReceiverText::Replay => replay(alloc, number, taken),
+    }
 }
 
 /// The reply to a frame that is refused.

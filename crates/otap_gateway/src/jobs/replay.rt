@@ -4,53 +4,18 @@ ghost use Rattle.otlp_model.specs.Limits.{weight_limit};
 ghost use Rattle.otlp_model.specs.Telemetry.{telemetry};
 ghost use Rattle.otlp_model.specs.Weight.{weight_of};
 ghost use Rattle.otap_consume.specs.Receivers.{HasLightRequest};
-ghost use Rattle.otap_consume.specs.Segments.{IsNew};
-ghost use Rattle.otap_gateway.specs.declared.jobs.command.Command.TheVariants as command;
-ghost use Rattle.otap_gateway.specs.Receptions.{meaning_of, replayed, replay_line, weights_text};
-ghost use Rattle.otap_gateway.specs.JobStates.{HasReplied};
+ghost use Rattle.otap_gateway.specs.Receptions.{replayed, replay_line, weights_text};
 
-use crate::jobs::job::Job;
-use crate::jobs::receiving::{Serves, refused};
+use crate::jobs::receiving::refused;
 use crate::jobs::reply::Reply;
 use crate::texts::lines::{push_head, reset_line};
 use crate::texts::numbers::push_number;
-use otap_capture::Frame;
-use otap_consume::{Receiver, Taken, Telemetry};
+use otap_consume::Taken;
 use otlp_model::{Request, items};
 use std::alloc::{AllocError, Global};
 
-/// The job `replay` of a signal.
-#[derive(Drop)]
-pub(crate) struct ReplayJob<T: Telemetry> {
-    receiver: Receiver<T>,
-    telemetry: T,
-}
-
-impl<T: Serves + Drop> ReplayJob<T> {
-    pub(crate) fn new(alloc: Global, telemetry: T) -> Result<ReplayJob<T>, AllocError>
-        ensures { IfOk result (λ job. IsNew T.meaning.signal job.receiver) }
-    {
-        let receiver = Receiver::new(alloc)?;
-        Ok(ReplayJob {
-            receiver,
-            telemetry,
-        })
-    }
-}
-
-impl<T: Serves> Job for ReplayJob<T> {
-    ghost command = { λ s. command.Replay T.served };
-
-    ghost stands = { λ s. HasReplied (meaning_of T.served) replayed s.receiver };
-
-    fn step(&mut self, alloc: Global, number: u64, frame: &Frame<'_>) -> Result<Reply, AllocError> {
-        let taken = self.receiver.take(frame)?;
-        replay(alloc, number, taken)
-    }
-}
-
 /// The reply to what a frame gave.
-fn replay(alloc: Global, number: u64, taken: Taken) -> Result<Reply, AllocError>
+pub(crate) fn replay(alloc: Global, number: u64, taken: Taken) -> Result<Reply, AllocError>
     requires { HasLightRequest taken }
     ensures { IfOk result (λ reply. reply ≡ replayed number taken) }
 {

@@ -1,52 +1,17 @@
 //! `status`: what a Collector replies to each batch.
 ghost use Rattle.std.specs.Prelude.{◌≡◌, IfOk};
 ghost use Rattle.otap_consume.specs.declared.taken.Taken.TheVariants as taken;
-ghost use Rattle.otap_consume.specs.Segments.{IsNew};
-ghost use Rattle.otap_gateway.specs.declared.jobs.command.Command.TheVariants as command;
-ghost use Rattle.otap_gateway.specs.Receptions.{code_of, id_or_less, meaning_of, statused};
-ghost use Rattle.otap_gateway.specs.JobStates.{HasReplied};
+ghost use Rattle.otap_gateway.specs.Receptions.{code_of, id_or_less, statused};
 
-use crate::jobs::job::Job;
-use crate::jobs::receiving::Serves;
 use crate::jobs::reply::Reply;
 use crate::texts::causes::cause_name;
 use crate::texts::lines::{refusal_text, refused_line};
-use otap_capture::{Frame, Status};
-use otap_consume::{Receiver, Refusal, Taken, Telemetry};
+use otap_capture::Status;
+use otap_consume::{Refusal, Taken};
 use std::alloc::{AllocError, Global};
 
-/// The job `status` of a signal.
-#[derive(Drop)]
-pub(crate) struct StatusJob<T: Telemetry> {
-    receiver: Receiver<T>,
-    telemetry: T,
-}
-
-impl<T: Serves + Drop> StatusJob<T> {
-    pub(crate) fn new(alloc: Global, telemetry: T) -> Result<StatusJob<T>, AllocError>
-        ensures { IfOk result (λ job. IsNew T.meaning.signal job.receiver) }
-    {
-        let receiver = Receiver::new(alloc)?;
-        Ok(StatusJob {
-            receiver,
-            telemetry,
-        })
-    }
-}
-
-impl<T: Serves> Job for StatusJob<T> {
-    ghost command = { λ s. command.Status T.served };
-
-    ghost stands = { λ s. HasReplied (meaning_of T.served) statused s.receiver };
-
-    fn step(&mut self, alloc: Global, number: u64, frame: &Frame<'_>) -> Result<Reply, AllocError> {
-        let taken = self.receiver.take(frame)?;
-        status_of(alloc, number, taken)
-    }
-}
-
 /// The reply to what a frame gave.
-fn status_of(alloc: Global, number: u64, taken: Taken) -> Result<Reply, AllocError>
+pub(crate) fn status_of(alloc: Global, number: u64, taken: Taken) -> Result<Reply, AllocError>
     ensures { IfOk result (λ reply. reply ≡ statused number taken) }
 {
     match taken {

@@ -4,12 +4,11 @@ ghost use Rattle.lists.specs.EachAfter.{EachAfter};
 ghost use Rattle.otap_capture.specs.Outside.{Rose};
 ghost use Rattle.otap_gateway.specs.declared.runs.load.Load.{Load};
 ghost use Rattle.otap_gateway.specs.Loads.{RunsLoad, WritesLoad, requests_of};
-ghost use Rattle.otap_gateway.specs.Receptions.{meaning_of};
+ghost use Rattle.otap_signals.specs.BySignal.{meaning_by};
 ghost use Rattle.otap_transit.specs.Transits.{IsReceivedAs};
 ghost use Rattle.otap_gateway.specs.Runs.{Sinks};
 
-use crate::runs::loads::Loads;
-use otap_produce::{LogTables, MetricTables, SpanTables};
+use otap_transit::laws::both_ends;
 
 /// Where no count of faults rose, a run for the words of a load writes its messages and its line, passes all of it on, and
 /// returns 0; or memory ran out.
@@ -23,9 +22,7 @@ pub fn complete_loads<S>()
 /// the same telemetry as its request.
 pub fn loads_are_received()
     ensures { (load : Load) (old new : Sinks) (written : WritesLoad load old new)
-        → EachAfter (IsReceivedAs (meaning_of load.signal)) [] [] (requests_of load) written.messages }
+        → EachAfter (IsReceivedAs (meaning_by load.signal)) [] [] (requests_of load) written.messages }
 {
-    SpanTables::messages_are_received();
-    LogTables::messages_are_received();
-    MetricTables::messages_are_received();
+    both_ends();
 }

@@ -8,20 +8,18 @@ ghost use Rattle.otap_gateway.specs.declared.runs.load.Load.{Load};
 ghost use Rattle.otap_gateway.specs.Loads.{IsLoad, IsNotUnderstood, RunsLoad, load_words};
 ghost use Rattle.otap_gateway.specs.Runs.{sinks, world, Leaves, Stops, CountsFaults, SinkFaults, LeavesLine, Runs, RefusesWords};
 
-use crate::jobs::command::Command;
+use crate::jobs::command::{Command, ReceiverText};
+use crate::jobs::encode::EncodeJob;
 use crate::jobs::list::ListJob;
+use crate::jobs::receiving::ReceiverJob;
 use crate::jobs::schema::SchemaJob;
 use crate::jobs::show::ShowJob;
 use crate::jobs::tidy::TidyJob;
 use crate::runs::drive::{drive, flush_both};
-use crate::runs::receiving_runs::{decode, replay, statuses};
 use crate::runs::selfrun::{load_status, run_load};
-use crate::runs::sending_runs::encode;
 use crate::runs::stop::{Stop, Tally, status, words_status};
 use crate::runs::words::Words;
 use otap_capture::{Sink, Source, write_whole};
-use otap_consume::{LogTelemetry, MetricTelemetry, SpanTelemetry};
-use otap_produce::{LogTables, MetricTables, SpanTables};
 use otlp_model::Signal;
 use std::alloc::Global;
 
@@ -80,20 +78,10 @@ fn run_job<S: Source, O: Sink, E: Sink>(
     match job {
         Command::List => drive(alloc, &mut ListJob::new(alloc), source, out, err),
         Command::Tidy(signal) => drive(alloc, &mut TidyJob::new(signal), source, out, err),
-        Command::Encode(Signal::Traces) => encode(alloc, SpanTables, source, out, err),
-        Command::Encode(Signal::Logs) => encode(alloc, LogTables, source, out, err),
-        Command::Encode(Signal::Metrics) => encode(alloc, MetricTables, source, out, err),
+        Command::Encode(signal) => encode(alloc, signal, source, out, err),
         Command::Schema(signal) => drive(alloc, &mut SchemaJob::new(signal), source, out, err),
         Command::Show(signal) => show(alloc, signal, source, out, err),
-        Command::Decode(Signal::Traces) => decode(alloc, SpanTelemetry, source, out, err),
-        Command::Decode(Signal::Logs) => decode(alloc, LogTelemetry, source, out, err),
-        Command::Decode(Signal::Metrics) => decode(alloc, MetricTelemetry, source, out, err),
-        Command::Status(Signal::Traces) => statuses(alloc, SpanTelemetry, source, out, err),
-        Command::Status(Signal::Logs) => statuses(alloc, LogTelemetry, source, out, err),
-        Command::Status(Signal::Metrics) => statuses(alloc, MetricTelemetry, source, out, err),
-        Command::Replay(Signal::Traces) => replay(alloc, SpanTelemetry, source, out, err),
-        Command::Replay(Signal::Logs) => replay(alloc, LogTelemetry, source, out, err),
-        Command::Replay(Signal::Metrics) => replay(alloc, MetricTelemetry, source, out, err),
+        Command::Receive(text, signal) => receive(alloc, text, signal, source, out, err),
     }
 }
 
@@ -115,6 +103,53 @@ fn show<S: Source, O: Sink, E: Sink>(
         (world S.Source source.new (sinks O.Sink out.new E.Sink err.new)) result }
 {
     let Ok(mut job) = ShowJob::new(alloc, signal) else {
+        return Err(Stop::Memory);
+    };
+    drive(alloc, &mut job, source, out, err)
+}
+
+fn receive<S: Source, O: Sink, E: Sink>(
+    alloc: Global,
+    text: ReceiverText,
+    signal: Signal,
+    source: &mut S,
+    out: &mut O,
+    err: &mut E,
+) -> Result<Tally, Stop>
+    ensures leaves { Leaves (command.Receive text signal) (S.left source.old)
+        (sinks O.Sink out.old E.Sink err.old)
+        (sinks O.Sink out.new E.Sink err.new) result }
+    ensures stops { Stops (command.Receive text signal)
+        (world S.Source source.old (sinks O.Sink out.old E.Sink err.old))
+        (world S.Source source.new (sinks O.Sink out.new E.Sink err.new)) result }
+    ensures faults { CountsFaults
+        (world S.Source source.old (sinks O.Sink out.old E.Sink err.old))
+        (world S.Source source.new (sinks O.Sink out.new E.Sink err.new)) result }
+{
+    let Ok(mut job) = ReceiverJob::new(alloc, text, signal) else {
+        return Err(Stop::Memory);
+    };
+    drive(alloc, &mut job, source, out, err)
+}
+
+fn encode<S: Source, O: Sink, E: Sink>(
+    alloc: Global,
+    signal: Signal,
+    source: &mut S,
+    out: &mut O,
+    err: &mut E,
+) -> Result<Tally, Stop>
+    ensures leaves { Leaves (command.Encode signal) (S.left source.old)
+        (sinks O.Sink out.old E.Sink err.old)
+        (sinks O.Sink out.new E.Sink err.new) result }
+    ensures stops { Stops (command.Encode signal)
+        (world S.Source source.old (sinks O.Sink out.old E.Sink err.old))
+        (world S.Source source.new (sinks O.Sink out.new E.Sink err.new)) result }
+    ensures faults { CountsFaults
+        (world S.Source source.old (sinks O.Sink out.old E.Sink err.old))
+        (world S.Source source.new (sinks O.Sink out.new E.Sink err.new)) result }
+{
+    let Ok(mut job) = EncodeJob::new(alloc, signal) else {
         return Err(Stop::Memory);
     };
     drive(alloc, &mut job, source, out, err)

@@ -1,7 +1,10 @@
 //! `selfrun`: the batch messages of a load that the program makes itself, and a line that counts them.
-ghost use Rattle.std.specs.Prelude.{◌≡◌, ◌<◌, ◌*◌, ◌++◌, codes, IfOk, string_bytes};
+ghost use Rattle.std.specs.Prelude.{◌≡◌, ◌<◌, ◌≤◌, ◌*◌, ℕ, ◌++◌, codes, IfOk, string_bytes};
 ghost use Rattle.std.specs.Fmt.{decimal};
-ghost use Rattle.otlp_load.specs.Load.{items_each, requests_at_most};
+ghost use Rattle.otlp_load.specs.Load.{generated, items_each, requests_at_most};
+ghost use Rattle.otlp_model.specs.declared.request.Signal.{Signal};
+ghost use Rattle.otap_cells.specs.Weights.{row_weight_limit, weight_of_tables};
+ghost use Rattle.otap_signals.specs.BySignal.{rows_by, tables_of_request};
 ghost use Rattle.otap_gateway.specs.Lines.{line_feed};
 ghost use Rattle.otap_gateway.specs.Loading.{IsLoading, LoadsNext};
 ghost use Rattle.otap_gateway.specs.Loads.{IsLoad, LeavesLoad, load_status};
@@ -9,29 +12,34 @@ ghost use Rattle.otap_gateway.specs.Runs.{sinks, SinkFaults};
 
 use crate::runs::drive::flush_both;
 use crate::runs::load::Load;
-use crate::runs::loads::Loads;
 use crate::runs::stop::{Stop, stop_status};
 use otap_capture::{Sink, write_frame, write_whole};
-use otap_produce::{Exporter, LogTables, MetricTables, ProduceRefusal, SpanTables};
+use otap_produce::{Exporter, ProduceRefusal};
 use otlp_load::laws::{requests_are_within_the_limits, requests_have_their_items};
 use otlp_load::{ITEMS, generated};
 use otlp_model::Signal;
 use std::alloc::{AllocError, Global};
 
+/// Law: the tables of a load's requests aren't too heavy.
+fn loads_are_light()
+    ensures { (signal : Signal) (r : ℕ) → r < requests_at_most → weight_of_tables (tables_of_request (generated signal r)) ≤ row_weight_limit }
+{}
+
 /// The message of the next request of a load.
-fn next_message<T: Loads>(
+fn next_message(
     alloc: Global,
-    exporter: &mut Exporter<T>,
+    exporter: &mut Exporter,
+    signal: Signal,
     request: u32,
 ) -> Result<Vec<u8>, AllocError>
     requires few { request < requests_at_most }
-    requires loading { IsLoading T.rows request exporter.old }
-    ensures { IfOk result (λ message. LoadsNext T.rows request exporter.old exporter.new message.items) }
+    requires loading { IsLoading (rows_by signal) request exporter.old }
+    ensures { IfOk result (λ message. LoadsNext (rows_by signal) request exporter.old exporter.new message.items) }
 {
-    T::loads_are_light();
+    loads_are_light();
     requests_have_their_items();
     requests_are_within_the_limits();
-    let request = generated(alloc, T::signal(), request)?;
+    let request = generated(alloc, signal, request)?;
     match exporter.encode(&request) {
         Ok(message) => Ok(message),
         Err(ProduceRefusal::Memory(error)) => Err(error),
@@ -56,7 +64,7 @@ fn load_line(alloc: Global, requests: u32, items: u64, openings: u64) -> Result<
     Ok(format!(in alloc; "requests {requests} items {items} openings {openings}\n")?)
 }
 
-/// Runs `selfrun`.
+/// Runs `selfrun`: it writes the messages of a load, and then its line.
 pub(crate) fn run_load<O: Sink, E: Sink>(
     alloc: Global,
     load: Load,
@@ -71,35 +79,12 @@ pub(crate) fn run_load<O: Sink, E: Sink>(
         (sinks O.Sink out.old E.Sink err.old)
         (sinks O.Sink out.new E.Sink err.new) result }
 {
-    match load.signal {
-        Signal::Traces => send_load::<SpanTables, O, E>(alloc, load, out, err),
-        Signal::Logs => send_load::<LogTables, O, E>(alloc, load, out, err),
-        Signal::Metrics => send_load::<MetricTables, O, E>(alloc, load, out, err),
-    }
-}
-
-/// Writes the messages of a load, and then its line.
-fn send_load<T: Loads, O: Sink, E: Sink>(
-    alloc: Global,
-    load: Load,
-    out: &mut O,
-    err: &mut E,
-) -> Result<(), Stop>
-    requires load { IsLoad load }
-    requires signal { load.signal ≡ T.served }
-    ensures leaves { LeavesLoad load
-        (sinks O.Sink out.old E.Sink err.old)
-        (sinks O.Sink out.new E.Sink err.new) result }
-    ensures faults { SinkFaults
-        (sinks O.Sink out.old E.Sink err.old)
-        (sinks O.Sink out.new E.Sink err.new) result }
-{
     requests_have_their_items();
-    let Ok(mut exporter) = Exporter::<T>::new(alloc) else {
+    let Ok(mut exporter) = Exporter::new(alloc, load.signal) else {
         return Err(Stop::Memory);
     };
     'requests: for request in 0..load.requests {
-        let Ok(message) = next_message(alloc, &mut exporter, request) else {
+        let Ok(message) = next_message(alloc, &mut exporter, load.signal, request) else {
             return Err(Stop::Memory);
         };
         write_frame(out, &message)?;

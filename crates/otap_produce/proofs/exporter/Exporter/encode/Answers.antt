@@ -1,25 +1,26 @@
 use Rattle.std.proofs.Common.{◌+◌, false, refl, ◌∙◌, subst, arith}
 use Rattle.otap_produce.specs.Exporters.{ExporterIn, Exports}
 use Rattle.otap_capture.specs.Batch.{payloads_in}
+use Rattle.otap_signals.specs.BySignal.{rows_by, tables_of_request}
 use Rattle.otap_produce.proofs.Batches.{history_after}
 use Rattle.otap_produce.proofs.Exporting.{exports}
 use Rattle.otap_produce.proofs.exporter.Exporter.encode.Goals as goal
 
 pub invariant_of-self-2 : goal.invariant_of-self-2
-invariant_of-self-2 g c =
+invariant_of-self-2 c =
     let sound = c.in_ok-check.ensures.sound in
     record {
       kinds = c.in_ok-bytes.ensures.kinds ∙ c.self.invariant.kinds;
       history = λ is.
-          history_after (g.T.Tabled.rows.tables c.args.request.now) c.self.inside.senders c.message_of.new.senders (payloads_in c.in_ok-bytes.bytes.items)
+          history_after (tables_of_request c.args.request.now) c.self.inside.senders c.message_of.new.senders (payloads_in c.in_ok-bytes.bytes.items)
           (c.self.invariant.history sound) c.in_ok-bytes.ensures.sends.sends;
       few = λ is. omega (arith, c.in_ok-bytes.ensures.few, c.self.invariant.few sound);
     }
 
 pub returns-clause-exports : goal.returns-clause-exports
-returns-clause-exports g c =
-    let old : ExporterIn = record { sent = c.self.inside.senders; batches = c.self.inside.batches; broken = c.self.inside.broken } in
-    let new : ExporterIn = record { sent = c.message_of.new.senders; batches = c.self.inside.batches + 1; broken = false } in
-    subst (λ (o : ExporterIn). Exports g.T.Tabled.rows c.args.request.now o new c.in_ok-bytes.bytes.items) c.self.view_is
-    (exports g.T.Tabled.rows c.args.request.now old new c.in_ok-bytes.bytes.items c.in_ok-check.ensures.sound c.in_ok-check.ensures.exported
-    c.in_ok-bytes.ensures.sends c.in_ok-bytes.ensures.kinds refl refl)
+returns-clause-exports c =
+    let old : ExporterIn = record { signal = c.self.inside.signal; sent = c.self.inside.senders; batches = c.self.inside.batches; broken = c.self.inside.broken } in
+    let new : ExporterIn = record { signal = c.self.inside.signal; sent = c.message_of.new.senders; batches = c.self.inside.batches + 1; broken = false } in
+    subst (λ (o : ExporterIn). Exports (rows_by o.signal) c.args.request.now o new c.in_ok-bytes.bytes.items) c.self.view_is
+    (exports (rows_by c.self.inside.signal) c.args.request.now old new c.in_ok-bytes.bytes.items c.in_ok-check.ensures.sound c.in_ok-check.ensures.exported
+    c.in_ok-bytes.ensures.sends c.in_ok-bytes.ensures.kinds refl refl refl)

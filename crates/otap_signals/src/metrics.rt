@@ -1,0 +1,66 @@
+//! Metrics. The points of histograms and summaries have a crate of their own, so the calls of two crates are joined here.
+ghost use Rattle.std.specs.Prelude.{◌≡◌};
+ghost use Rattle.otap_signals.specs.Instances.{metrics};
+
+use crate::signal_tables::SignalTables;
+use otap_cells::{LogicalTable, Rows, TableSet};
+use otap_checks::{Grouped, RegroupRefusal};
+use otap_hist::laws::{
+    each_metric_has_a_row, tables_are_light, tables_by_type, tables_can_be_written,
+    tables_have_no_defects, tables_tell_the_same, tables_weigh_together,
+};
+use otap_hist::reading_laws::cells_and_ids_decide;
+use otap_hist::{add_tables, points_weight, regroup};
+use otap_metrics::{table_weight, tables_of};
+use otlp_model::{Items, Metric, Request, ResourceGroup, add_capped};
+use std::alloc::{AllocError, Global};
+
+/// Metrics.
+#[derive(Clone, Copy, Debug)]
+pub struct MetricSignal;
+
+impl SignalTables for MetricSignal {
+    type Item = Metric;
+
+    ghost rows = { metrics };
+
+    fn request(groups: Items<ResourceGroup<Metric>>) -> Request
+        ensures { result ≡ metrics.request groups }
+    {
+        Request::Metrics(groups)
+    }
+
+    fn table_weight(groups: &Items<ResourceGroup<Metric>>) -> u64 {
+        tables_weigh_together();
+        add_capped(table_weight(groups), points_weight(groups))
+    }
+
+    fn tables_of(
+        alloc: Global,
+        groups: &Items<ResourceGroup<Metric>>,
+    ) -> Result<TableSet<LogicalTable>, AllocError> {
+        let set = tables_of(alloc, groups)?;
+        let all = add_tables(alloc, groups, set)?;
+        Ok(all)
+    }
+
+    fn regroup<R: Rows>(
+        alloc: Global,
+        set: &TableSet<R>,
+    ) -> Result<Grouped<Metric>, RegroupRefusal> {
+        regroup(alloc, set)
+    }
+
+    fn tables_come_back() {
+        tables_tell_the_same();
+        tables_have_no_defects();
+        tables_are_light();
+        tables_can_be_written();
+        tables_by_type();
+        each_metric_has_a_row();
+    }
+
+    fn requests_read_alike() {
+        cells_and_ids_decide();
+    }
+}

@@ -1,7 +1,0 @@
-use Rattle.otap_transit.proofs.SpansFaithful.{spans_faithful}
-use Rattle.otap_transit.proofs.laws.spans_are_faithful.Goals as goal
-
-pub returns : goal.returns
-returns c =
-    spans_faithful c.tables_tell_the_same.ensures c.tables_have_no_defects.ensures c.tables_are_light.ensures c.tables_can_be_written.ensures
-    c.can_be_written.ensures c.each_span_has_a_row.ensures c.cells_and_ids_decide.ensures.request c.cells_and_ids_decide.ensures.wrong
