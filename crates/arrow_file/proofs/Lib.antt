@@ -1,0 +1,12 @@
+pub mod BlocksFound
+pub mod Finding
+pub mod Frames
+pub mod Taking
+pub mod BlocksBack
+pub mod FooterBuilt
+pub mod Opening
+pub mod RowsWritten
+pub mod RowsAdded
+pub mod Filed
+pub mod Judged
+pub mod FirstDefect

@@ -1,0 +1,11 @@
+pub mod Limits
+pub mod Blocks
+pub mod Files
+pub mod Defects
+pub mod Views
+pub mod Written
+pub mod BlockBytes
+pub mod Footers
+pub mod Reading
+pub mod Writers
+pub mod Inside
