@@ -9,6 +9,8 @@ mod buffers;
 #[cfg(test)]
 mod faults;
 #[cfg(test)]
+mod files;
+#[cfg(test)]
 mod ipc;
 #[cfg(test)]
 mod schemas;
