@@ -1,0 +1,6 @@
+pub mod Accounting
+pub mod Kept
+pub mod Places
+pub mod Removing
+pub mod Segments
+pub mod Turning
