@@ -18,7 +18,7 @@ use Rattle.otap_gateway.specs.Reply.{err_text}
 use Rattle.otap_gateway.specs.Runs.{World, Sinks, Runs, WritesAll, Completes, Leaves, CountsFaults, exit_status}
 
 -- the capture that was written out is the one that ends well
-same_capture : (left : Option (List ℕ)) (bytes : List ℕ) (frames others : List Frame) (end : Option Damage) → left ≡ Some bytes → IsCapture bytes frames None
+pub same_capture : (left : Option (List ℕ)) (bytes : List ℕ) (frames others : List Frame) (end : Option Damage) → left ≡ Some bytes → IsCapture bytes frames None
     → IfSome left (λ bytes. IsCapture bytes others end) → (frames ≡ others) × (end ≡ None)
 same_capture None bytes frames others end bytes_left capture other = let clash : None ≡ Some bytes = bytes_left in cc
 same_capture (Some xs) bytes frames others end bytes_left capture other =

@@ -1,9 +1,12 @@
 mod FieldLines
 mod FirstMessages
 pub mod EachLoad
+pub mod EachNumber
 pub mod EachWords
 pub mod EncodedFrames
+pub mod EndingWords
 pub mod Extending
+pub mod FaultlessEndings
 pub mod FaultlessRuns
 pub mod ItemsWeigh
 pub mod LaidSegments
@@ -21,6 +24,12 @@ pub mod SentSoFar
 pub mod Shows
 pub mod SpanLoads
 pub mod Replying
+pub mod ResendReplies
+pub mod ResentFrames
+pub mod ResentRuns
+pub mod RewrittenFrames
+pub mod AcceptedRequests
+pub mod AddedRuns
 pub mod AllReplies
 pub mod WholeRuns
 pub mod WrittenFrames

@@ -16,7 +16,7 @@ use Rattle.otap_gateway.proofs.OneJob.{one_job}
 
 -- ---- one load
 
-same_signal : (a b : Signal) → signal_word a ≡ signal_word b → a ≡ b
+pub same_signal : (a b : Signal) → signal_word a ≡ signal_word b → a ≡ b
 same_signal a b same =
     let job : command.Encode a ≡ command.Encode b = one_job (command.Encode a) (command.Encode b) (ap (λ (word : List ℕ). codes "encode" ∷ word ∷ []) same) in
     cc job

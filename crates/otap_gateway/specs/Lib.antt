@@ -1,8 +1,11 @@
+pub mod Accepted
 pub mod Begun
 pub mod Causes
 pub mod Commands
 pub mod Encoding
 pub mod EncodingSteps
+pub mod EndingRuns
+pub mod Endings
 pub mod Fields
 pub mod FieldsInside
 pub mod JobStates
@@ -19,6 +22,8 @@ pub mod Records
 pub mod Refused
 pub mod RefusedRequests
 pub mod Reply
+pub mod ResendingSteps
+pub mod Resends
 pub mod RowCauses
 pub mod Rows
 pub mod RowsInside

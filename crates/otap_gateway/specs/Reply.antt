@@ -1,5 +1,5 @@
 -- What a job puts on its sinks for a frame.
-use Rattle.std.specs.Prelude.{ℕ, Bool, List}
+use Rattle.std.specs.Prelude.{ℕ, Bool, false, List, []}
 use Rattle.std.specs.List.{flat_map, list_any}
 
 -- the bytes for out and for err, and whether the frame is refused
@@ -16,3 +16,14 @@ err_text replies = flat_map (λ reply. reply.err) replies
 
 abbrev pub any_refused : List ReplyText → Bool
 any_refused replies = list_any (λ reply. reply.refused) replies
+
+-- what a job adds at the end of the capture: on out, on err before the line of a damage and after it, and whether it refuses
+pub record Closing : Type 0 where
+  pub out : List ℕ
+  pub before : List ℕ
+  pub after : List ℕ
+  pub refused : Bool
+
+-- a text on err after the line of a damage, and nothing else
+abbrev pub adds_after : List ℕ → Closing
+adds_after text = record { out = []; before = []; after = text; refused = false }

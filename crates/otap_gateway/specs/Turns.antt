@@ -21,9 +21,11 @@ use Rattle.otap_gateway.specs.declared.runs.drive.Ended.{Ended}
 use Rattle.otap_gateway.specs.declared.runs.drive.Turn.{Turn}
 use Rattle.otap_gateway.specs.declared.runs.drive.Turn.TheVariants as turn
 use Rattle.otap_gateway.specs.Begun.{WritesBegun}
+use Rattle.otap_gateway.specs.EndingRuns.{GrowsInTurn}
+use Rattle.otap_gateway.specs.Endings.{closing_text}
 use Rattle.otap_gateway.specs.Jobs.{Rule, History, Extends}
 use Rattle.otap_gateway.specs.Lines.{end_text}
-use Rattle.otap_gateway.specs.Reply.{ReplyText, out_text, err_text, any_refused}
+use Rattle.otap_gateway.specs.Reply.{ReplyText, Closing, out_text, err_text, any_refused}
 use Rattle.otap_gateway.specs.Runs.{Sinks, World, IsFlushed}
 
 abbrev pub stop_of_sink : SinkRefusal → Stop
@@ -42,6 +44,22 @@ world_ahead read ghosts source sinks = record { left = ahead read (ghosts.left s
 pub record KeepsBoth (old new : Sinks) : Type 0 where
   pub out : Keeps old.out.written new.out.written
   pub err : Keeps old.err.written new.err.written
+
+-- a reply is written
+pub record WritesWhole (reply : ReplyText) (old new : Sinks) (handled : Handled) : Type 0 where
+  pub out : Appends old.out.written new.out.written reply.out
+  pub err : Appends old.err.written new.err.written reply.err
+  pub same : handled.refused ≡ reply.refused
+  pub quiet : handled.wrote ≡ false → (reply.out ≡ []) × (reply.err ≡ []) × (new ≡ old)
+
+-- or fronts of it are
+pub record WritesFronts (reply : ReplyText) (old new : Sinks) : Type 0 where
+  pub out : AppendsFront old.out.written new.out.written reply.out
+  pub err : AppendsFront old.err.written new.err.written reply.err
+
+abbrev pub WritesReply : ReplyText → Sinks → Sinks → Result Handled Stop → Type 0
+WritesReply reply old new (Ok handled) = WritesWhole reply old new handled
+WritesReply reply old new (Err stop) = WritesFronts reply old new
 
 -- a reply to the frame is written
 pub record Writes (R : Rule) (stands stands' : History) (number : ℕ) (frame : Frame) (old new : Sinks) (handled : Handled) : Type 0 where
@@ -127,6 +145,17 @@ pub record TakesAll (R : Rule) (stands : History) (left : Option (List ℕ)) (ol
 abbrev pub Drives : Rule → Rule → History → Option (List ℕ) → Sinks → Sinks → Result Ended Stop → Type 0
 Drives R B stands left old new (Ok ended) = TakesAll R stands left old new ended
 Drives R B stands left old new (Err stop) = WritesBegun R B left old new
+
+-- what is added at the end is written, and all is passed on
+pub record Adds (closing : Closing) (end : Option Damage) (old new : Sinks) (damaged : Bool) : Type 0 where
+  pub out : Appends old.out.written new.out.written closing.out
+  pub err : Appends old.err.written new.err.written (closing_text closing end)
+  pub flushed : IsFlushed new
+  pub same : damaged ≡ is_some end
+
+abbrev pub AddsIn : Closing → Option Damage → Sinks → Sinks → Result Bool Stop → Type 0
+AddsIn closing end old new (Ok damaged) = Adds closing end old new damaged
+AddsIn closing end old new (Err stop) = GrowsInTurn old new [] closing.out [] (closing_text closing end)
 
 -- a turn in which the source failed: it was asked, and nothing was written
 pub record TurnsFailing (read read' : Reading) (old new : World) : Type 0 where

@@ -3,6 +3,7 @@
 pub(crate) mod command;
 pub(crate) mod decode;
 pub(crate) mod encode;
+pub(crate) mod ending;
 pub(crate) mod job;
 pub(crate) mod list;
 pub(crate) mod opening;
@@ -12,6 +13,8 @@ pub(crate) mod refused;
 pub(crate) mod refused_requests;
 pub(crate) mod replay;
 pub(crate) mod reply;
+pub(crate) mod resend;
+pub(crate) mod resending_laws;
 pub(crate) mod schema;
 pub(crate) mod sending_laws;
 pub(crate) mod show;

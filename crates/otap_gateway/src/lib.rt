@@ -8,8 +8,9 @@ mod texts;
 pub use jobs::reception_laws::{
     captures_have_texts, outcomes_give_the_texts, status_says_the_line, texts_have_outcomes,
 };
+pub use jobs::resending_laws::{done_is_accepted, resent_texts_are_of_a_run};
 pub use jobs::sending_laws::{encoded_texts_have_outcomes, what_is_written_is_read};
-pub use runs::laws::{complete_runs, each_words, requests_fit_in_frames};
+pub use runs::laws::{complete_endings, complete_runs, each_words, requests_fit_in_frames};
 pub use runs::load_laws::{complete_loads, loads_are_received};
 pub use runs::running::run;
 pub use runs::words::Words;

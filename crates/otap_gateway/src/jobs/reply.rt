@@ -77,6 +77,17 @@ impl Reply {
         }
     }
 
+    /// A line on err, for a frame that isn't refused.
+    pub(crate) fn on_err(alloc: Global, line: Vec<u8>) -> Reply
+        ensures { result ≡ record { out = []; err = line.items; refused = false } }
+    {
+        Reply {
+            out: Vec::new(alloc),
+            err: line,
+            refused: false,
+        }
+    }
+
     /// A refusal, by its line on err.
     pub(crate) fn refusal(alloc: Global, line: Vec<u8>) -> Reply
         ensures { result ≡ refuses line.items }

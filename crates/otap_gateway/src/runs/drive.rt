@@ -1,7 +1,7 @@
 //! The run of a job over a capture: frames are read, and replies are written and passed on.
 ghost use Rattle.std.specs.Prelude.{◌≡◌, ◌≤◌, [], None, OnOk};
 ghost use Rattle.std.specs.Io.KnownBytes.{Keeps};
-ghost use Rattle.otap_gateway.specs.Commands.{ReplyOf};
+ghost use Rattle.otap_gateway.specs.Endings.{RuleOf, BegunBy};
 ghost use Rattle.otap_gateway.specs.Jobs.{HasHistory};
 ghost use Rattle.otap_gateway.specs.Runs.{sinks, world, Leaves, Stops, StopsBy, CountsFaults, SinkFaults, IsFlushed};
 ghost use Rattle.otap_gateway.specs.Turns.{Drives, Ends, OnEnd, SettlesTurn, Turns, TurnAsks, world_ahead};
@@ -109,7 +109,7 @@ fn take_turn<H: Handler, S: Source, O: Sink, E: Sink>(
     requires history { HasHistory (H.histories handler.old) number }
     requires few { number ≤ frames.old.handed }
     ensures same { H.task handler.new ≡ H.task handler.old }
-    ensures turns { Turns (ReplyOf (H.task handler.old)) (ReplyOf (H.task handler.old))
+    ensures turns { Turns (RuleOf (H.task handler.old)) (BegunBy (H.task handler.old))
         (H.histories handler.old) (H.histories handler.new) number frames.old frames.new
         (world_ahead frames.old S.Source source.old (sinks O.Sink out.old E.Sink err.old))
         (world_ahead frames.new S.Source source.new (sinks O.Sink out.new E.Sink err.new)) result }
@@ -137,7 +137,7 @@ fn take_turn<H: Handler, S: Source, O: Sink, E: Sink>(
 
 /// Writes the replies of a job to all frames of the capture that the source gives. Each frame is handled before the next is
 /// asked for, and what was written is passed on before the source is asked for more.
-fn drive_frames<H: Handler, S: Source, O: Sink, E: Sink>(
+pub(crate) fn drive_frames<H: Handler, S: Source, O: Sink, E: Sink>(
     alloc: Global,
     handler: &mut H,
     source: &mut S,
@@ -146,10 +146,10 @@ fn drive_frames<H: Handler, S: Source, O: Sink, E: Sink>(
 ) -> Result<Ended, Stop>
     requires { H.histories handler.old [] [] }
     ensures same { OnOk result (H.task handler.new ≡ H.task handler.old) }
-    ensures drives { Drives (ReplyOf (H.task handler.old)) (ReplyOf (H.task handler.old)) (H.histories handler.new) (S.left source.old)
+    ensures drives { Drives (RuleOf (H.task handler.old)) (BegunBy (H.task handler.old)) (H.histories handler.new) (S.left source.old)
         (sinks O.Sink out.old E.Sink err.old)
         (sinks O.Sink out.new E.Sink err.new) result }
-    ensures stops { StopsBy (ReplyOf (H.task handler.old))
+    ensures stops { StopsBy (RuleOf (H.task handler.old))
         (world S.Source source.old (sinks O.Sink out.old E.Sink err.old))
         (world S.Source source.new (sinks O.Sink out.new E.Sink err.new)) result }
     ensures faults { CountsFaults

@@ -4,8 +4,11 @@ ghost use Rattle.otap_capture.specs.Capture.{Frame, IsCapture, longest_frame};
 ghost use Rattle.otap_capture.specs.Outside.{Rose};
 ghost use Rattle.otlp_codec.specs.Limits.{longest_request};
 ghost use Rattle.otap_gateway.specs.declared.jobs.command.Command.{Command};
+ghost use Rattle.otap_gateway.specs.declared.jobs.ending.Ending.{Ending};
 ghost use Rattle.otap_gateway.specs.declared.runs.load.Load.{Load};
 ghost use Rattle.otap_gateway.specs.Commands.{words_of};
+ghost use Rattle.otap_gateway.specs.EndingRuns.{CompletesEnding, RunsEnding};
+ghost use Rattle.otap_gateway.specs.Endings.{IsEnding, ending_words};
 ghost use Rattle.otap_gateway.specs.Loads.{IsLoad, IsNotUnderstood, load_words};
 ghost use Rattle.otap_gateway.specs.Runs.{World, Runs, Completes};
 
@@ -21,9 +24,22 @@ pub fn complete_runs()
         → (status ≡ 6) ⊎ Completes job frames old.sinks new.sinks status }
 {}
 
-/// Each list of words is that of a job over a capture, or that of a load, or it isn't understood. These are the cases of `run`.
+/// The same for a job that adds something at the end.
+pub fn complete_endings()
+    ensures { (job : Ending) (old new : World) (status : ℕ) (bytes : List ℕ) (frames : List Frame)
+        → RunsEnding job old new status → old.left ≡ Some bytes → IsCapture bytes frames None
+        → (Rose old.faults new.faults → ⊥)
+        → (Rose old.sinks.out.faults new.sinks.out.faults → ⊥)
+        → (Rose old.sinks.err.faults new.sinks.err.faults → ⊥)
+        → (status ≡ 6) ⊎ CompletesEnding job frames old.sinks new.sinks status }
+{}
+
+/// Each list of words is that of a job over a capture, which may add something at the end, or that of a load, or it isn't
+/// understood. These are the cases of `run`.
 pub fn each_words()
-    ensures { (words : List (List ℕ)) → ((job : Command) × (words ≡ words_of job)) ⊎ (((load : Load) × IsLoad load × (words ≡ load_words load)) ⊎ IsNotUnderstood words) }
+    ensures { (words : List (List ℕ)) → ((job : Command) × (words ≡ words_of job))
+        ⊎ (((job : Ending) × IsEnding job × (words ≡ ending_words job))
+        ⊎ (((load : Load) × IsLoad load × (words ≡ load_words load)) ⊎ IsNotUnderstood words)) }
 {}
 
 /// The longest request that is written is as long as the longest message of a frame.

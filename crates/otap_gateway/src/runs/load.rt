@@ -1,11 +1,11 @@
 //! The job that makes its own load, by its words.
-ghost use Rattle.std.specs.Prelude.{◌≡◌, ◌≢◌, ◌<◌, ◌≤◌, ◌^◌, ℕ, [], ◌∷◌, MatchOption};
+ghost use Rattle.std.specs.Prelude.{◌≡◌, ◌≢◌, ◌<◌, ◌≤◌, ℕ, [], ◌∷◌, MatchOption};
 ghost use Rattle.std.specs.Fmt.{decimal};
 ghost use Rattle.otlp_load.specs.Load.{requests_at_most};
 ghost use Rattle.otap_gateway.specs.Loads.{IsLoad, IsNoLoad, load_words};
 
 use crate::jobs::command::any_signal;
-use itoa::Buffer;
+use crate::texts::numbers::decimal_of;
 use otlp_load::REQUESTS;
 use otlp_model::Signal;
 
@@ -40,20 +40,4 @@ fn count_of(word: &str) -> Option<u32>
         return None;
     }
     Some(count)
-}
-
-/// The number that the word is in decimal, without a leading zero.
-fn decimal_of(word: &str) -> Option<u32>
-    ensures { MatchOption result ((n : ℕ) → n < 2 ^ 32 → word.now ≢ decimal n) (λ n. (n < 2 ^ 32) × (word.now ≡ decimal n)) }
-{
-    match word.parse::<u32>() {
-        Ok(number) => {
-            if Buffer::new().format(number) == word {
-                Some(number)
-            } else {
-                None
-            }
-        }
-        Err(_) => None,
-    }
 }

@@ -3,19 +3,24 @@ ghost use Rattle.std.specs.Prelude.{◌≡◌};
 ghost use Rattle.std.specs.Io.KnownBytes.{Keeps};
 ghost use Rattle.otap_gateway.specs.declared.jobs.command.Command.{Command};
 ghost use Rattle.otap_gateway.specs.declared.jobs.command.Command.TheVariants as command;
+ghost use Rattle.otap_gateway.specs.declared.jobs.ending.Ending.{Ending};
 ghost use Rattle.otap_gateway.specs.Commands.{words_of};
+ghost use Rattle.otap_gateway.specs.EndingRuns.{LeavesEnding, RunsEnding};
+ghost use Rattle.otap_gateway.specs.Endings.{AnswerOf, IsEnding, ending_words};
 ghost use Rattle.otap_gateway.specs.declared.runs.load.Load.{Load};
 ghost use Rattle.otap_gateway.specs.Loads.{IsLoad, IsNotUnderstood, RunsLoad, load_words};
-ghost use Rattle.otap_gateway.specs.Runs.{sinks, world, Leaves, Stops, CountsFaults, SinkFaults, LeavesLine, Runs, RefusesWords};
+ghost use Rattle.otap_gateway.specs.Runs.{sinks, world, Leaves, Stops, StopsBy, CountsFaults, SinkFaults, LeavesLine, Runs, RefusesWords};
 
 use crate::jobs::command::{Command, ReceiverText};
 use crate::jobs::encode::EncodeJob;
+use crate::jobs::ending::Ending;
 use crate::jobs::list::ListJob;
 use crate::jobs::receiving::ReceiverJob;
 use crate::jobs::schema::SchemaJob;
 use crate::jobs::show::ShowJob;
 use crate::jobs::tidy::TidyJob;
 use crate::runs::drive::{drive, flush_both};
+use crate::runs::resending::resend;
 use crate::runs::selfrun::{load_status, run_load};
 use crate::runs::stop::{Stop, Tally, status, words_status};
 use crate::runs::words::Words;
@@ -42,6 +47,9 @@ pub fn run<S: Source, O: Sink, E: Sink>(
     ensures understood { (job : Command) → words.now ≡ words_of job → Runs job
         (world S.Source source.old (sinks O.Sink out.old E.Sink err.old))
         (world S.Source source.new (sinks O.Sink out.new E.Sink err.new)) result }
+    ensures ending { (job : Ending) → IsEnding job → words.now ≡ ending_words job → RunsEnding job
+        (world S.Source source.old (sinks O.Sink out.old E.Sink err.old))
+        (world S.Source source.new (sinks O.Sink out.new E.Sink err.new)) result }
     ensures load { (load : Load) → IsLoad load → words.now ≡ load_words load → RunsLoad load source.old source.new
         (sinks O.Sink out.old E.Sink err.old)
         (sinks O.Sink out.new E.Sink err.new) result }
@@ -51,11 +59,56 @@ pub fn run<S: Source, O: Sink, E: Sink>(
 {
     match words.command() {
         Some(job) => status(run_job(alloc, job, source, out, err)),
+        None => run_other(alloc, words, source, out, err),
+    }
+}
+
+/// The same, for words of a job that adds something at the end of the capture, or of a load.
+fn run_other<S: Source, O: Sink, E: Sink>(
+    alloc: Global,
+    words: &Words,
+    source: &mut S,
+    out: &mut O,
+    err: &mut E,
+) -> u8
+    ensures ending { (job : Ending) → IsEnding job → words.now ≡ ending_words job → RunsEnding job
+        (world S.Source source.old (sinks O.Sink out.old E.Sink err.old))
+        (world S.Source source.new (sinks O.Sink out.new E.Sink err.new)) result }
+    ensures load { (load : Load) → IsLoad load → words.now ≡ load_words load → RunsLoad load source.old source.new
+        (sinks O.Sink out.old E.Sink err.old)
+        (sinks O.Sink out.new E.Sink err.new) result }
+    ensures otherwise { IsNotUnderstood words.now → RefusesWords source.old source.new
+        (world S.Source source.old (sinks O.Sink out.old E.Sink err.old))
+        (world S.Source source.new (sinks O.Sink out.new E.Sink err.new)) result }
+{
+    match words.ending() {
+        Some(job) => status(run_ending(alloc, job, source, out, err)),
         None => match words.load() {
             Some(load) => load_status(run_load(alloc, load, out, err)),
             None => words_status(refuse_words(out, err)),
         },
     }
+}
+
+fn run_ending<S: Source, O: Sink, E: Sink>(
+    alloc: Global,
+    job: Ending,
+    source: &mut S,
+    out: &mut O,
+    err: &mut E,
+) -> Result<Tally, Stop>
+    ensures leaves { LeavesEnding job (S.left source.old)
+        (sinks O.Sink out.old E.Sink err.old)
+        (sinks O.Sink out.new E.Sink err.new) result }
+    ensures stops { StopsBy (AnswerOf job)
+        (world S.Source source.old (sinks O.Sink out.old E.Sink err.old))
+        (world S.Source source.new (sinks O.Sink out.new E.Sink err.new)) result }
+    ensures faults { CountsFaults
+        (world S.Source source.old (sinks O.Sink out.old E.Sink err.old))
+        (world S.Source source.new (sinks O.Sink out.new E.Sink err.new)) result }
+{
+    let Ending::Resend { signal, window } = job;
+    resend(alloc, signal, window, source, out, err)
 }
 
 fn run_job<S: Source, O: Sink, E: Sink>(

@@ -1,9 +1,11 @@
 //! The words that the program is called with.
 ghost use Rattle.std.specs.Prelude.{◌≡◌, [], ◌∷◌, ◌++◌, OnOk, OnErr, MatchOption};
 ghost use Rattle.otap_gateway.specs.Commands.{IsNoCommand, words_of};
+ghost use Rattle.otap_gateway.specs.Endings.{IsEnding, IsNoEnding, ending_words};
 ghost use Rattle.otap_gateway.specs.Loads.{IsLoad, IsNoLoad, load_words};
 
 use crate::jobs::command::{Command, one_word, two_words};
+use crate::jobs::ending::{Ending, ending_of};
 use crate::runs::load::{Load, three_words};
 use std::alloc::{AllocError, Global};
 use std::marker::Model;
@@ -51,6 +53,16 @@ impl Words {
         match self.words.as_slice() {
             [job] => one_word(job.as_str()),
             [job, signal] => two_words(job.as_str(), signal.as_str()),
+            _ => None,
+        }
+    }
+
+    /// The job that these are the words of, where it adds something at the end of the capture.
+    pub(crate) fn ending(&self) -> Option<Ending>
+        ensures { MatchOption result (IsNoEnding self.now) (λ job. IsEnding job × (self.now ≡ ending_words job)) }
+    {
+        match self.words.as_slice() {
+            [job, signal, last] => ending_of(job.as_str(), signal.as_str(), last.as_str()),
             _ => None,
         }
     }

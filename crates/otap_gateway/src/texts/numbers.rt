@@ -1,5 +1,5 @@
 //! Numbers as decimal digits.
-ghost use Rattle.std.specs.Prelude.{◌≡◌, ◌++◌, OnOk};
+ghost use Rattle.std.specs.Prelude.{◌≡◌, ◌≢◌, ◌<◌, ◌^◌, ◌++◌, ℕ, MatchOption, OnOk};
 ghost use Rattle.std.specs.Fmt.{decimal, signed_decimal};
 
 use itoa::Buffer;
@@ -17,4 +17,20 @@ pub(crate) fn push_signed(to: &mut Vec<u8>, number: i64) -> Result<(), AllocErro
     ensures { OnOk result (to.new.items ≡ to.old.items ++ signed_decimal number) }
 {
     to.extend_from_slice(Buffer::new().format(number).as_bytes())
+}
+
+/// The number that the word is in decimal, without a leading zero.
+pub(crate) fn decimal_of(word: &str) -> Option<u32>
+    ensures { MatchOption result ((n : ℕ) → n < 2 ^ 32 → word.now ≢ decimal n) (λ n. (n < 2 ^ 32) × (word.now ≡ decimal n)) }
+{
+    match word.parse::<u32>() {
+        Ok(number) => {
+            if Buffer::new().format(number) == word {
+                Some(number)
+            } else {
+                None
+            }
+        }
+        Err(_) => None,
+    }
 }

@@ -1,6 +1,6 @@
 use Rattle.std.proofs.Common.{◌∙◌, arith, refl}
 use Rattle.std.proofs.lemmas.Result.{err_from_is_err_and}
-use Rattle.otap_gateway.specs.Commands.{ReplyOf}
+use Rattle.otap_gateway.specs.Endings.{RuleOf, BegunBy}
 use Rattle.otap_gateway.specs.Runs.{sinks, world}
 use Rattle.otap_gateway.specs.Turns.{world_ahead}
 use Rattle.otap_gateway.proofs.Progress.{progress_all, progress_more, progress_part, progress_settled, progress_stops, so_far, none_failed-trans}
@@ -9,7 +9,7 @@ use Rattle.otap_gateway.proofs.runs.drive.drive_frames.Goals as goal
 pub frames-preserved : goal.frames-preserved
 frames-preserved g c =
     let kept = c.frames.invariant in
-    let R = ReplyOf (g.H.Handler.task c.args.handler.now) in
+    let R = RuleOf (g.H.Handler.task c.args.handler.now) in
     let before = world g.S.Source c.args.source.now (sinks g.O.Sink c.args.out.now g.E.Sink c.args.err.now) in
     let now = world_ahead c.frames.frames g.S.Source c.frames.source (sinks g.O.Sink c.frames.out g.E.Sink c.frames.err) in
     let settled = world_ahead c.frames.frames g.S.Source c.frames.source (sinks g.O.Sink c.settle.new.out g.E.Sink c.settle.new.err) in
@@ -26,7 +26,7 @@ frames-preserved g c =
 
 pub returns-in-End-clause-drives : goal.returns-in-End-clause-drives
 returns-in-End-clause-drives g c =
-    let R = ReplyOf (g.H.Handler.task c.args.handler.now) in
+    let R = RuleOf (g.H.Handler.task c.args.handler.now) in
     let before = world g.S.Source c.args.source.now (sinks g.O.Sink c.args.out.now g.E.Sink c.args.err.now) in
     let now = world_ahead c.frames.frames g.S.Source c.frames.source (sinks g.O.Sink c.frames.out g.E.Sink c.frames.err) in
     let settled = world_ahead c.frames.frames g.S.Source c.frames.source (sinks g.O.Sink c.settle.new.out g.E.Sink c.settle.new.err) in
@@ -36,8 +36,8 @@ returns-in-End-clause-drives g c =
 pub returns-in_err-unflushed-clause-drives : goal.returns-in_err-unflushed-clause-drives
 returns-in_err-unflushed-clause-drives g c =
     let p = err_from_is_err_and c.from_residual.result c.from_residual.ensures.1 in
-    let R = ReplyOf (g.H.Handler.task c.args.handler.now) in
-    let B = ReplyOf (g.H.Handler.task c.args.handler.now) in
+    let R = RuleOf (g.H.Handler.task c.args.handler.now) in
+    let B = BegunBy (g.H.Handler.task c.args.handler.now) in
     let before = world g.S.Source c.args.source.now (sinks g.O.Sink c.args.out.now g.E.Sink c.args.err.now) in
     let now = world_ahead c.frames.frames g.S.Source c.frames.source (sinks g.O.Sink c.frames.out g.E.Sink c.frames.err) in
     rw p.1 (so_far R B before now _ c.frames.invariant.so_far c.in_err-unflushed.ensures.settles)
@@ -45,8 +45,8 @@ returns-in_err-unflushed-clause-drives g c =
 pub returns-in_err-handled-clause-drives : goal.returns-in_err-handled-clause-drives
 returns-in_err-handled-clause-drives g c =
     let p = err_from_is_err_and c.from_residual-in_err-handled.result c.from_residual-in_err-handled.ensures.1 in
-    let R = ReplyOf (g.H.Handler.task c.args.handler.now) in
-    let B = ReplyOf (g.H.Handler.task c.args.handler.now) in
+    let R = RuleOf (g.H.Handler.task c.args.handler.now) in
+    let B = BegunBy (g.H.Handler.task c.args.handler.now) in
     let before = world g.S.Source c.args.source.now (sinks g.O.Sink c.args.out.now g.E.Sink c.args.err.now) in
     let now = world_ahead c.frames.frames g.S.Source c.frames.source (sinks g.O.Sink c.frames.out g.E.Sink c.frames.err) in
     let settled = world_ahead c.frames.frames g.S.Source c.frames.source (sinks g.O.Sink c.settle.new.out g.E.Sink c.settle.new.err) in
@@ -56,7 +56,7 @@ returns-in_err-handled-clause-drives g c =
 pub returns-in_err-handled-clause-stops : goal.returns-in_err-handled-clause-stops
 returns-in_err-handled-clause-stops g c =
     let p = err_from_is_err_and c.from_residual-in_err-handled.result c.from_residual-in_err-handled.ensures.1 in
-    let R = ReplyOf (g.H.Handler.task c.args.handler.now) in
+    let R = RuleOf (g.H.Handler.task c.args.handler.now) in
     let before = world g.S.Source c.args.source.now (sinks g.O.Sink c.args.out.now g.E.Sink c.args.err.now) in
     let now = world_ahead c.frames.frames g.S.Source c.frames.source (sinks g.O.Sink c.frames.out g.E.Sink c.frames.err) in
     let settled = world_ahead c.frames.frames g.S.Source c.frames.source (sinks g.O.Sink c.settle.new.out g.E.Sink c.settle.new.err) in

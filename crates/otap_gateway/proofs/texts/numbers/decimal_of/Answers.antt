@@ -1,6 +1,6 @@
 use Rattle.std.proofs.Common.{◌≡◌, rules, arith}
 use Rattle.std.proofs.lemmas.Fmt.{parse-decimal}
-use Rattle.otap_gateway.proofs.runs.load.decimal_of.Goals as goal
+use Rattle.otap_gateway.proofs.texts.numbers.decimal_of.Goals as goal
 
 pub returns-else-eq : goal.returns-else-eq
 returns-else-eq c = λ n fits is.
