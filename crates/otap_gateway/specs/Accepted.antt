@@ -12,7 +12,8 @@ use Rattle.otap_resend.specs.declared.unanswered.Unanswered.{Unanswered}
 use Rattle.otap_resend.specs.States.{State, has_id}
 
 -- the message with this index, which is its batch id, was accepted as the same telemetry as the request
-pub record IsAcceptedAs (m : Meaning) (messages : List (List ℕ)) (received : List Outcome) (index : ℕ) (request : Request) : Type 0 where
+pub record IsAcceptedAs (m : Meaning) (messages : List (List ℕ)) (received : List Outcome)
+    (index : ℕ) (request : Request) : Type 0 where
   pub message : List ℕ
   pub tables : List Table
   pub written : slice_get messages index ≡ Some message
@@ -20,15 +21,16 @@ pub record IsAcceptedAs (m : Meaning) (messages : List (List ℕ)) (received : L
   pub accepted : slice_get received index ≡ Some (Accepted (batch_content message) tables)
   pub same : Same request (m.request tables)
 
--- A SEGMENT ACCEPTS A REQUEST at an index: its messages have outcomes at the far end, and in all that they have the message with this
--- index is accepted as the request
+-- A SEGMENT ACCEPTS A REQUEST at an index: its messages have outcomes at the far end, and in all that they have the message
+-- with this index is accepted as the request
 pub record AcceptsAt (m : Meaning) (messages : List (List ℕ)) (index : ℕ) (request : Request) : Type 0 where
   pub received : List Outcome
   pub some : Received m (map Message messages) received
-  pub all : (outcomes : List Outcome) → Received m (map Message messages) outcomes → IsAcceptedAs m messages outcomes index request
+  pub all : (outcomes : List Outcome) → Received m (map Message messages) outcomes
+      → IsAcceptedAs m messages outcomes index request
 
--- A REQUEST THAT IS DONE WAS ACCEPTED: it is the unanswered one that was written with the status's batch id, and the segment in which
--- these messages were written accepts it there
+-- A REQUEST THAT IS DONE WAS ACCEPTED: it is the unanswered one that was written with the status's batch id, and the segment
+-- in which these messages were written accepts it there
 pub record WasAccepted (m : Meaning) (s : State) (messages : List (List ℕ)) (id : ℤ) (number : ℕ) : Type 0 where
   pub done : Unanswered
   pub found : find (has_id id) s.unanswered ≡ Some done

@@ -16,8 +16,8 @@ use Rattle.otap_gateway.specs.Endings.{AnswerOf, BegunOf, ClosingOf, closing_tex
 use Rattle.otap_gateway.specs.Reply.{ReplyText, Closing, out_text, err_text, any_refused}
 use Rattle.otap_gateway.specs.Runs.{Sinks, World, CountsFaults, IsFlushed, StopsBy, exit_status}
 
--- The run came to its end: the sinks grew by the texts of all frames of the capture and by what the job adds, the line of a damage
--- in its place, and all of it is passed on.
+-- The run came to its end: the sinks grew by the texts of all frames of the capture and by what the job adds, the line of a
+-- damage in its place, and all of it is passed on.
 pub record EndsAll (job : Ending) (left : Option (List ℕ)) (old new : Sinks) (tally : Tally) : Type 0 where
   pub frames : List Frame
   pub end : Option Damage
@@ -65,9 +65,9 @@ pub record RunsEnding (job : Ending) (old new : World) (status : ℕ) : Type 0 w
   pub stops : StopsBy (AnswerOf job) old new returned
   pub faults : CountsFaults old new returned
 
--- A run in which nothing failed, over a capture of these frames that ends well: each frame has a reply that the job allows, and
--- the job adds what it may; the sinks grew by these texts, all of it passed on, and the status is 0 exactly where nothing of it is
--- a refusal, and else 1.
+-- A run in which nothing failed, over a capture of these frames that ends well: each frame has a reply that the job allows,
+-- and the job adds what it may; the sinks grew by these texts, all of it passed on, and the status is 0 exactly where nothing
+-- of it is a refusal, and else 1.
 pub record CompletesEnding (job : Ending) (frames : List Frame) (old new : Sinks) (status : ℕ) : Type 0 where
   pub replies : List ReplyText
   pub closing : Closing

@@ -38,15 +38,18 @@ IsNoEnding words = (job : Ending) → IsEnding job → words ≢ ending_words jo
 
 -- what the job may reply to a frame, after these frames and the replies to them
 unfoldable pub AnswerOf : Ending → List Frame → List ReplyText → Frame → ReplyText → Type 0
-AnswerOf (ending.Resend signal window) frames replies frame reply = ResendsFrame (rows_by signal) window frames replies frame reply
+AnswerOf (ending.Resend signal window) frames replies frame reply =
+    ResendsFrame (rows_by signal) window frames replies frame reply
 
 -- what it may have begun to reply where something stops it: the first pieces of a reply
 unfoldable pub BegunOf : Ending → List Frame → List ReplyText → Frame → ReplyText → Type 0
-BegunOf (ending.Resend signal window) frames replies frame reply = BeginsFrame (rows_by signal) window frames replies frame reply
+BegunOf (ending.Resend signal window) frames replies frame reply =
+    BeginsFrame (rows_by signal) window frames replies frame reply
 
 -- what it may add once these are all frames of the capture and the replies to them
 unfoldable pub ClosingOf : Ending → List Frame → List ReplyText → Closing → Type 0
-ClosingOf (ending.Resend signal window) frames replies closing = ResendCloses (rows_by signal) window frames replies closing
+ClosingOf (ending.Resend signal window) frames replies closing =
+    ResendCloses (rows_by signal) window frames replies closing
 
 -- what follows the replies to all frames on err: the line of a damage is inside what is added
 abbrev pub closing_text : Closing → Option Damage → List ℕ

@@ -1,5 +1,5 @@
 -- What one frame makes of a resending exporter, in the words of the private contracts of `resend`.
-use Rattle.std.specs.Prelude.{◌≡◌, ◌⊎◌, ◌≤◌, ◌<◌, ◌+◌, ℕ, false, None, List, [], ◌∷◌, ◌++◌, length, map, find, codes}
+use Rattle.std.specs.Prelude.{◌≡◌, ◌⊎◌, ◌≤◌, ◌<◌, ◌+◌, ℕ, false, None, List, [], ◌∷◌, ◌++◌, length, map, find}
 use Rattle.std.specs.List.{flat_map}
 use Rattle.std.specs.declared.option.Option.{Option}
 use Rattle.std.specs.declared.result.Result.{Result}
@@ -56,22 +56,26 @@ pub record AreFew (r : ResenderIn) (counts : Counts) : Type 0 where
   pub given_up : counts.given_up < batch_limit
 
 -- one frame more: what it gives, whose text is the reply, and the new state stands for it too
-pub record GivesMore (Gives : Resent → Type 0) (new : List Resent → Type 0) (given : List Resent) (number : ℕ) (reply : ReplyText) : Type 0 where
+pub record GivesMore (Gives : Resent → Type 0) (new : List Resent → Type 0) (given : List Resent)
+    (number : ℕ) (reply : ReplyText) : Type 0 where
   pub gives : Resent
   pub is : Gives gives
   pub says : reply ≡ resent_text number gives
   pub stands : new (given ++ gives ∷ [])
 
 -- the bytes of a request, a status, or the bytes of an event, whatever the resender stands for
-pub record TakesRequest (rows : SignalRows) (old new : ResenderIn) (number : ℕ) (part : List ℕ) (reply : ReplyText) : Type 0 where
+pub record TakesRequest (rows : SignalRows) (old new : ResenderIn)
+    (number : ℕ) (part : List ℕ) (reply : ReplyText) : Type 0 where
   pub at : (window : ℕ) (given : List Resent) (counts : Counts) → HasResent rows window old counts given
       → GivesMore (RequestGives rows window given part) (HasResent rows window new counts) given number reply
 
-pub record TakesStatus (rows : SignalRows) (old new : ResenderIn) (counts counts' : Counts) (number : ℕ) (status : StatusContent) (reply : ReplyText) : Type 0 where
+pub record TakesStatus (rows : SignalRows) (old new : ResenderIn) (counts counts' : Counts)
+    (number : ℕ) (status : StatusContent) (reply : ReplyText) : Type 0 where
   pub at : (window : ℕ) (given : List Resent) → HasResent rows window old counts given
       → GivesMore (StatusGives rows window given status) (HasResent rows window new counts') given number reply
 
-pub record TakesEvent (rows : SignalRows) (old new : ResenderIn) (counts counts' : Counts) (number : ℕ) (bytes : List ℕ) (reply : ReplyText) : Type 0 where
+pub record TakesEvent (rows : SignalRows) (old new : ResenderIn) (counts counts' : Counts)
+    (number : ℕ) (bytes : List ℕ) (reply : ReplyText) : Type 0 where
   pub at : (window : ℕ) (given : List Resent) → HasResent rows window old counts given
       → GivesMore (EventGives rows window given bytes) (HasResent rows window new counts') given number reply
 
@@ -90,7 +94,8 @@ NamesWhy why.TooManyItems name = name ≡ why_text TooManyItems
 NamesWhy why.TooHeavy name = name ≡ why_text TooHeavy
 NamesWhy (why.Memory e) name = ⊥
 
-pub record RefusesToSend (rows : SignalRows) (old new : ResenderIn) (number : ℕ) (request : Request) (reply : ReplyText) : Type 0 where
+pub record RefusesToSend (rows : SignalRows) (old new : ResenderIn)
+    (number : ℕ) (request : Request) (reply : ReplyText) : Type 0 where
   pub why : SendRefusal
   pub turn : TakesTurnOf rows (Send request) (not_sent why) old new
   pub name : List ℕ
@@ -98,7 +103,8 @@ pub record RefusesToSend (rows : SignalRows) (old new : ResenderIn) (number : �
   pub says : reply ≡ refused_request number name
 
 abbrev pub SendsOne : SignalRows → ResenderIn → ResenderIn → ℕ → Request → ReplyText → Type 0
-SendsOne rows old new number request reply = SendsMessage rows old new request reply ⊎ RefusesToSend rows old new number request reply
+SendsOne rows old new number request reply =
+    SendsMessage rows old new request reply ⊎ RefusesToSend rows old new number request reply
 
 -- ---- a status
 
@@ -121,7 +127,8 @@ frames_of messages = flat_map message_frame messages
 -- these messages are written after the steps that it stands for, whatever these are
 pub record Rewrites (rows : SignalRows) (old new : ResenderIn) (messages : List (List ℕ)) : Type 0 where
   pub at : (window : ℕ) (steps : List Step) → HasState rows (state_after window steps) old
-      → AllAfter (MayStep rows window) steps (map resend_step messages) × HasState rows (state_after window (steps ++ map resend_step messages)) new
+      → AllAfter (MayStep rows window) steps (map resend_step messages)
+      × HasState rows (state_after window (steps ++ map resend_step messages)) new
 
 -- all requests that weren't written are written
 pub record ResendsWhole (rows : SignalRows) (old new : ResenderIn) (written written' : Option (List ℕ)) : Type 0 where
@@ -133,10 +140,12 @@ pub record ResendsWhole (rows : SignalRows) (old new : ResenderIn) (written writ
 -- or something stopped it: the messages of some are, or a front of their frames
 pub record ResendsPart (rows : SignalRows) (old : ResenderIn) (written written' : Option (List ℕ)) : Type 0 where
   pub messages : List (List ℕ)
-  pub may : (window : ℕ) (steps : List Step) → HasState rows (state_after window steps) old → AllAfter (MayStep rows window) steps (map resend_step messages)
+  pub may : (window : ℕ) (steps : List Step) → HasState rows (state_after window steps) old
+      → AllAfter (MayStep rows window) steps (map resend_step messages)
   pub out : AppendsFront written written' (frames_of messages)
 
-abbrev pub ResendsAll : SignalRows → ResenderIn → ResenderIn → Option (List ℕ) → Option (List ℕ) → Result (Unit {0}) Stop → Type 0
+abbrev pub ResendsAll : SignalRows → ResenderIn → ResenderIn → Option (List ℕ) → Option (List ℕ)
+    → Result (Unit {0}) Stop → Type 0
 ResendsAll rows old new written written' (Ok x) = ResendsWhole rows old new written written'
 ResendsAll rows old new written written' (Err stop) = ResendsPart rows old written written'
 
@@ -149,10 +158,12 @@ pub record RestartsWhole (rows : SignalRows) (old new : ResenderIn) (written wri
 
 pub record RestartsPart (rows : SignalRows) (old : ResenderIn) (written written' : Option (List ℕ)) : Type 0 where
   pub messages : List (List ℕ)
-  pub at : (window : ℕ) (given : List Resent) (counts : Counts) → HasResent rows window old counts given → ResetGives rows window given messages
+  pub at : (window : ℕ) (given : List Resent) (counts : Counts) → HasResent rows window old counts given
+      → ResetGives rows window given messages
   pub out : AppendsFront written written' (reset_frame ++ frames_of messages)
 
-abbrev pub Restarts : SignalRows → ResenderIn → ResenderIn → Option (List ℕ) → Option (List ℕ) → Result (Unit {0}) Stop → Type 0
+abbrev pub Restarts : SignalRows → ResenderIn → ResenderIn → Option (List ℕ) → Option (List ℕ)
+    → Result (Unit {0}) Stop → Type 0
 Restarts rows old new written written' (Ok x) = RestartsWhole rows old new written written'
 Restarts rows old new written written' (Err stop) = RestartsPart rows old written written'
 

@@ -67,12 +67,15 @@ IsSettled other = ⊥
 
 -- WHAT THE BYTES OF A REQUEST GIVE after frames that gave these: the request is sent or refused
 pub data RequestGives (rows : SignalRows) (window : ℕ) (given : List Resent) (part : List ℕ) : Resent → Type 0 where
-  unread : (defect : Defect) → Stands rows.signal part defect → RequestGives rows window given part (Unread (defect_text defect))
-  sends : (request : Request) (outcome : Outcome) → Reads rows.signal part request → MayGive rows (state_by window given) (Send request) outcome → IsSettled outcome
+  unread : (defect : Defect) → Stands rows.signal part defect
+      → RequestGives rows window given part (Unread (defect_text defect))
+  sends : (request : Request) (outcome : Outcome) → Reads rows.signal part request
+      → MayGive rows (state_by window given) (Send request) outcome → IsSettled outcome
       → RequestGives rows window given part (Calls (Send request) outcome)
 
 -- what a status gives
-pub record StatusGives (rows : SignalRows) (window : ℕ) (given : List Resent) (status : StatusContent) (gives : Resent) : Type 0 where
+pub record StatusGives (rows : SignalRows) (window : ℕ) (given : List Resent)
+    (status : StatusContent) (gives : Resent) : Type 0 where
   pub outcome : Outcome
   pub same : gives ≡ Calls (Answer status.id status.code) outcome
   pub may : MayGive rows (state_by window given) (Answer status.id status.code) outcome
@@ -80,8 +83,10 @@ pub record StatusGives (rows : SignalRows) (window : ℕ) (given : List Resent) 
 -- what the bytes of an event give
 pub data EventGives (rows : SignalRows) (window : ℕ) (given : List Resent) (bytes : List ℕ) : Resent → Type 0 where
   ill : (refusal : BatchRefusal) → RefusesEvent bytes refusal → EventGives rows window given bytes (Ill (unread_name refusal))
-  request : (part : List ℕ) (gives : Resent) → ReadsEvent bytes (event.Request part) → RequestGives rows window given part gives → EventGives rows window given bytes gives
-  status : (content : StatusContent) (gives : Resent) → ReadsEvent bytes (event.Status content) → StatusGives rows window given content gives → EventGives rows window given bytes gives
+  request : (part : List ℕ) (gives : Resent) → ReadsEvent bytes (event.Request part)
+      → RequestGives rows window given part gives → EventGives rows window given bytes gives
+  status : (content : StatusContent) (gives : Resent) → ReadsEvent bytes (event.Status content)
+      → StatusGives rows window given content gives → EventGives rows window given bytes gives
 
 -- what a reset gives or begins: the first of the requests that are written again
 pub record ResetGives (rows : SignalRows) (window : ℕ) (given : List Resent) (messages : List (List ℕ)) : Type 0 where
@@ -90,8 +95,10 @@ pub record ResetGives (rows : SignalRows) (window : ℕ) (given : List Resent) (
 -- WHAT A FRAME MAY BEGIN after frames that gave these
 pub data BeginsAfter (rows : SignalRows) (window : ℕ) (given : List Resent) : Frame → Resent → Type 0 where
   compressed : BeginsAfter rows window given Packed (Ill (codes "Compressed"))
-  takes : (bytes : List ℕ) (gives : Resent) → EventGives rows window given bytes gives → BeginsAfter rows window given (Message bytes) gives
-  resets : (messages : List (List ℕ)) → ResetGives rows window given messages → BeginsAfter rows window given capture.Reset (Begins messages)
+  takes : (bytes : List ℕ) (gives : Resent) → EventGives rows window given bytes gives
+      → BeginsAfter rows window given (Message bytes) gives
+  resets : (messages : List (List ℕ)) → ResetGives rows window given messages
+      → BeginsAfter rows window given capture.Reset (Begins messages)
 
 -- WHAT A FRAME GIVES: after it each unanswered request is written
 pub record ResendsAfter (rows : SignalRows) (window : ℕ) (given : List Resent) (frame : Frame) (gives : Resent) : Type 0 where
@@ -104,7 +111,8 @@ abbrev pub event_line : ℕ → List ℕ → List ℕ
 event_line number name = codes "frame " ++ decimal number ++ codes ": event refused: " ++ name ++ line_feed
 
 abbrev pub answer_line : ℕ → ℤ → List ℕ → List ℕ
-answer_line number id word = codes "frame " ++ decimal number ++ codes ": answer " ++ signed_decimal id ++ codes " " ++ word ++ line_feed
+answer_line number id word =
+    codes "frame " ++ decimal number ++ codes ": answer " ++ signed_decimal id ++ codes " " ++ word ++ line_feed
 
 -- what became of the request of a batch
 abbrev pub answer_word : Outcome → List ℕ
@@ -119,7 +127,8 @@ is_unknown Unknown = true
 is_unknown other = false
 
 abbrev pub answer_text : ℕ → ℤ → Outcome → ReplyText
-answer_text number id outcome = record { out = []; err = answer_line number id (answer_word outcome); refused = is_unknown outcome }
+answer_text number id outcome =
+    record { out = []; err = answer_line number id (answer_word outcome); refused = is_unknown outcome }
 
 -- why a request isn't sent
 abbrev pub why_text : Refusal → List ℕ
@@ -147,7 +156,9 @@ resent_text number (Begins messages) = printed (reset_frame ++ flat_map message_
 
 -- the last line: how many requests were sent, done and given up, and how many are open
 abbrev pub counts_line : ℕ → ℕ → ℕ → ℕ → List ℕ
-counts_line sent done given_up still = codes "sent " ++ decimal sent ++ codes " done " ++ decimal done ++ codes " given up " ++ decimal given_up ++ codes " open " ++ decimal still ++ line_feed
+counts_line sent done given_up still =
+    codes "sent " ++ decimal sent ++ codes " done " ++ decimal done ++ codes " given up " ++ decimal given_up
+    ++ codes " open " ++ decimal still ++ line_feed
 
 abbrev pub sent_line : State → List ℕ
 sent_line s = counts_line s.sent (length s.done) (length s.given_up) (length s.unanswered)
@@ -159,7 +170,8 @@ abbrev pub ResendsFrame : SignalRows → ℕ → List Frame → List ReplyText �
 ResendsFrame rows window = IsReplyAfter (ResendsAfter rows window) resent_text
 
 -- what it may have begun to reply where something stops it
-pub record BeginsFrame (rows : SignalRows) (window : ℕ) (frames : List Frame) (replies : List ReplyText) (frame : Frame) (reply : ReplyText) : Type 0 where
+pub record BeginsFrame (rows : SignalRows) (window : ℕ) (frames : List Frame) (replies : List ReplyText)
+    (frame : Frame) (reply : ReplyText) : Type 0 where
   pub given : List Resent
   pub before : Gave (ResendsAfter rows window) frames given
   pub so_far : replies ≡ replies_from resent_text 0 given
@@ -168,14 +180,15 @@ pub record BeginsFrame (rows : SignalRows) (window : ℕ) (frames : List Frame) 
   pub says : reply ≡ resent_text (length frames) gives
 
 -- what it adds after all frames
-pub record ResendCloses (rows : SignalRows) (window : ℕ) (frames : List Frame) (replies : List ReplyText) (closing : Closing) : Type 0 where
+pub record ResendCloses (rows : SignalRows) (window : ℕ) (frames : List Frame) (replies : List ReplyText)
+    (closing : Closing) : Type 0 where
   pub given : List Resent
   pub before : Gave (ResendsAfter rows window) frames given
   pub so_far : replies ≡ replies_from resent_text 0 given
   pub says : closing ≡ adds_after (sent_line (state_by window given))
 
--- WHAT IT WROTE BELONGS TO A RUN: the replies are the texts of what these frames gave, and the calls that these made are a run of a
--- resending exporter
+-- WHAT IT WROTE BELONGS TO A RUN: the replies are the texts of what these frames gave, and the calls that these made are a run
+-- of a resending exporter
 pub record IsResent (rows : SignalRows) (window : ℕ) (frames : List Frame) (replies : List ReplyText) : Type 0 where
   pub given : List Resent
   pub gave : Gave (ResendsAfter rows window) frames given

@@ -53,7 +53,9 @@ pub(crate) fn take_event(
 ) -> Result<Reply, AllocError>
     requires state { HasSomeState (rows_by signal) resender.old }
     requires few { AreFew resender.old counts.old }
-    ensures { IfOk result (TakesEvent (rows_by signal) resender.old resender.new counts.old counts.new number bytes.now) }
+    ensures { IfOk result (TakesEvent (rows_by signal)
+        resender.old resender.new
+        counts.old counts.new number bytes.now) }
 {
     match read_event(bytes) {
         Ok(SendEvent::Request(part)) => take_request(alloc, signal, resender, number, part),
@@ -122,7 +124,9 @@ fn take_status(
     status: &Status<'_>,
 ) -> Result<Reply, AllocError>
     requires few { AreFew resender.old counts.old }
-    ensures { IfOk result (TakesStatus (rows_in resender.old) resender.old resender.new counts.old counts.new number (status_content status.now)) }
+    ensures { IfOk result (TakesStatus (rows_in resender.old)
+        resender.old resender.new
+        counts.old counts.new number (status_content status.now)) }
 {
     let answer = resender.answer(status);
     counts.add(&answer);
@@ -176,7 +180,8 @@ pub(crate) fn sent_line(
     resender: &Resender,
     counts: Counts,
 ) -> Result<Vec<u8>, AllocError>
-    ensures { IfOk result (λ line. line.items ≡ counts_line resender.now.sent counts.done counts.given_up (length resender.now.unanswered)) }
+    ensures { IfOk result (λ line. line.items ≡ counts_line
+        resender.now.sent counts.done counts.given_up (length resender.now.unanswered)) }
 {
     let sent = resender.sent();
     let Counts { done, given_up } = counts;

@@ -146,7 +146,8 @@ pub(crate) fn drive_frames<H: Handler, S: Source, O: Sink, E: Sink>(
 ) -> Result<Ended, Stop>
     requires { H.histories handler.old [] [] }
     ensures same { OnOk result (H.task handler.new ≡ H.task handler.old) }
-    ensures drives { Drives (RuleOf (H.task handler.old)) (BegunBy (H.task handler.old)) (H.histories handler.new) (S.left source.old)
+    ensures drives { Drives (RuleOf (H.task handler.old)) (BegunBy (H.task handler.old))
+        (H.histories handler.new) (S.left source.old)
         (sinks O.Sink out.old E.Sink err.old)
         (sinks O.Sink out.new E.Sink err.new) result }
     ensures stops { StopsBy (RuleOf (H.task handler.old))

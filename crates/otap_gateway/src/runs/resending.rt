@@ -44,7 +44,8 @@ impl Handler for ResendJob {
             Frame::Message(bytes) => {
                 let resender = &mut self.resender;
                 let counts = &mut self.counts;
-                let Ok(reply) = take_event(alloc, self.signal, resender, counts, number, bytes) else {
+                let Ok(reply) = take_event(alloc, self.signal, resender, counts, number, bytes)
+                else {
                     return Err(Stop::Memory);
                 };
                 write_reply(&reply, out, err)
