@@ -43,7 +43,35 @@ fn words_of(alloc: Global, job: &[&str]) -> Result<Words, AllocError> {
     Ok(words)
 }
 
+/// What a run wrote, and its status.
+#[derive(Drop)]
+struct Ran {
+    out: MemorySink,
+    err: MemorySink,
+    status: u8,
+}
+
 /// Runs a job over a capture that comes in pieces of that size.
+fn run_job(
+    alloc: Global,
+    job: &[&str],
+    capture: &[u8],
+    piece: u32,
+    failing: Failing<'_>,
+) -> Result<Ran, AllocError>
+    requires { 0 < piece }
+{
+    let words = words_of(alloc, job)?;
+    let pieces = vec![in alloc; piece; capture.len()]?;
+    let failing_reads = failing.source.to_vec(alloc)?;
+    let mut source = MemorySource::new(capture.to_vec(alloc)?, pieces, failing_reads);
+    let mut out = MemorySink::new(alloc, failing.out.to_vec(alloc)?);
+    let mut err = MemorySink::new(alloc, failing.err.to_vec(alloc)?);
+    let status = run(alloc, &words, &mut source, &mut out, &mut err);
+    Ok(Ran { out, err, status })
+}
+
+/// Runs a job, and compares all that it leaves.
 fn runs<R: Abort + AllocGlobal>(
     rt: &R,
     job: &[&str],
@@ -54,17 +82,10 @@ fn runs<R: Abort + AllocGlobal>(
 ) -> Result<(), Fail>
     requires { 0 < piece }
 {
-    let alloc = rt.alloc();
-    let words = words_of(alloc, job)?;
-    let pieces = vec![in alloc; piece; capture.len()]?;
-    let failing_reads = failing.source.to_vec(alloc)?;
-    let mut source = MemorySource::new(capture.to_vec(alloc)?, pieces, failing_reads);
-    let mut out = MemorySink::new(alloc, failing.out.to_vec(alloc)?);
-    let mut err = MemorySink::new(alloc, failing.err.to_vec(alloc)?);
-    let status = run(alloc, &words, &mut source, &mut out, &mut err);
-    assert_eq!(rt; out.bytes(), left.out);
-    assert_eq!(rt; err.bytes(), left.err.as_bytes());
-    assert_eq!(rt; status, left.status);
+    let ran = run_job(rt.alloc(), job, capture, piece, failing)?;
+    assert_eq!(rt; ran.out.bytes(), left.out);
+    assert_eq!(rt; ran.err.bytes(), left.err.as_bytes());
+    assert_eq!(rt; ran.status, left.status);
     Ok(())
 }
 
@@ -257,24 +278,22 @@ fn encodes<R: Abort + AllocGlobal>(
 ) -> Result<(), Fail>
     requires { front ≤ 27 }
 {
-    let alloc = rt.alloc();
-    let words = words_of(alloc, &["encode", "logs"])?;
-    let pieces = vec![in alloc; 1; DECODED.len()]?;
-    let mut source = MemorySource::new(
-        DECODED.to_vec(alloc)?,
-        pieces,
-        failing.source.to_vec(alloc)?,
-    );
-    let mut out = MemorySink::new(alloc, failing.out.to_vec(alloc)?);
-    let mut err = MemorySink::new(alloc, failing.err.to_vec(alloc)?);
-    assert_eq!(rt; run(alloc, &words, &mut source, &mut out, &mut err), status);
-    assert!(rt; err.bytes().is_empty());
+    let ran = run_job(rt.alloc(), &["encode", "logs"], &DECODED, 1, failing)?;
+    assert!(rt; ran.err.bytes().is_empty());
+    assert_eq!(rt; ran.status, status);
     let left = Left {
         out: &DECODED[..front],
         err: "",
         status: 0,
     };
-    runs(rt, &["decode", "logs"], out.bytes(), 1 << 16, NONE, left)
+    runs(
+        rt,
+        &["decode", "logs"],
+        ran.out.bytes(),
+        1 << 16,
+        NONE,
+        left,
+    )
 }
 
 #[test]
@@ -308,4 +327,102 @@ fn each_failing_write_leaves_whole_batches(rt: HostRuntime) -> Result<(), Fail> 
     }
     let failing = Failing { out: &[7], ..NONE };
     encodes(&rt, failing, 27, 0)
+}
+
+/// A capture of 26 bytes: two requests without groups as events, a reset, and a status that accepts the first of them.
+const EVENTS: [u8; 26] = [
+    0, 0, 0, 0, 2, 0x0a, 0, 0, 0, 0, 0, 2, 0x0a, 0, 2, 0, 0, 0, 0, 0, 0, 0, 0, 2, 0x12, 0,
+];
+
+/// The requests that are written for it, as frames: both, and after a reset both again.
+const RESENT: [u8; 25] = [
+    0, 0, 0, 0, 0, 0, 0, 0, 0, 0, 2, 0, 0, 0, 0, 0, 0, 0, 0, 0, 0, 0, 0, 0, 0,
+];
+
+/// What is said of the status, and then at the end.
+const ANSWERED: &str = "frame 3: answer 0 done\n";
+
+const SENT: &str = "frame 3: answer 0 done\nsent 2 done 1 given up 0 open 1\n";
+
+/// Resends over these events in pieces of one byte, and decodes what is written as far as it is whole: it is the front of that
+/// length.
+fn resends<R: Abort + AllocGlobal>(
+    rt: &R,
+    failing: Failing<'_>,
+    front: usize,
+    err: &str,
+    status: u8,
+) -> Result<(), Fail>
+    requires { front ≤ 25 }
+{
+    let alloc = rt.alloc();
+    let ran = run_job(alloc, &["resend", "logs", "2"], &EVENTS, 1, failing)?;
+    assert_eq!(rt; ran.err.bytes(), err.as_bytes());
+    assert_eq!(rt; ran.status, status);
+    let read = run_job(alloc, &["decode", "logs"], ran.out.bytes(), 1 << 16, NONE)?;
+    assert_eq!(rt; read.out.bytes(), &RESENT[..front]);
+    Ok(())
+}
+
+#[test]
+fn each_failing_read_leaves_no_last_line(rt: HostRuntime) -> Result<(), Fail> {
+    for call in 0..27u64 {
+        let failing = Failing {
+            source: &[call],
+            ..NONE
+        };
+        let front = match call {
+            0..7 => 0,
+            7..14 => 5,
+            14..19 => 10,
+            _ => 25,
+        };
+        let err = if call == 26 { ANSWERED } else { "" };
+        resends(&rt, failing, front, err, 3)?;
+    }
+    Ok(())
+}
+
+#[test]
+fn each_failing_write_leaves_a_front_of_what_is_resent(rt: HostRuntime) -> Result<(), Fail> {
+    // Each batch is written and passed on. After the reset the head and the message of each batch are written, and all of it
+    // is passed on together; then nothing is written on out, but it is passed on, and once more at the end.
+    for (call, front) in [0, 5, 5, 10, 10, 15, 15, 20, 20, 25, 25, 25]
+        .into_iter()
+        .enumerate()
+    {
+        let failing = Failing {
+            out: &[call as u64],
+            ..NONE
+        };
+        let err = match call {
+            0..10 => "",
+            10 => ANSWERED,
+            _ => SENT,
+        };
+        assert!(rt; front <= 25);
+        resends(&rt, failing, front, err, 4)?;
+    }
+    let failing = Failing { out: &[12], ..NONE };
+    resends(&rt, failing, 25, SENT, 0)
+}
+
+#[test]
+fn the_last_line_comes_after_all_replies(rt: HostRuntime) -> Result<(), Fail> {
+    // What was written is passed on three times; then come the line of the status, and the last line.
+    for (call, front) in [5, 10, 25, 25, 25, 25, 25].into_iter().enumerate() {
+        let failing = Failing {
+            err: &[call as u64],
+            ..NONE
+        };
+        let err = match call {
+            0..4 => "",
+            4..6 => ANSWERED,
+            _ => SENT,
+        };
+        assert!(rt; front <= 25);
+        resends(&rt, failing, front, err, 4)?;
+    }
+    let failing = Failing { err: &[7], ..NONE };
+    resends(&rt, failing, 25, SENT, 0)
 }

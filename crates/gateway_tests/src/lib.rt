@@ -5,3 +5,5 @@
 mod gateway;
 #[cfg(test)]
 mod produce;
+#[cfg(test)]
+mod resend;
