@@ -1,8 +1,13 @@
 -- Each call takes a turn, in plain variables: from what it did to what the resender keeps.
 use Rattle.std.proofs.Common.{◌≡◌, ℕ, ℤ, pos, ◌+◌, Bool, true, false, List, [], ◌∷◌, ◌++◌, length, map, Some, None, refl, sym, ap, ◌∙◌, subst}
 use Rattle.std.specs.Prelude.{find, ◌||◌}
+use Rattle.std.specs.List.{flat_map}
 use Rattle.std.proofs.lemmas.Bool.{false≢true}
+use Rattle.lists.specs.Payloads.{PayloadIn}
 use Rattle.otlp_model.specs.declared.request.Request.{Request}
+use Rattle.otap_capture.specs.Batch.{payloads_in}
+use Rattle.otap_cells.specs.Tables.{Table}
+use Rattle.otap_columns.specs.TableSets.{AreLaidAfter}
 use Rattle.otap_signals.specs.Meanings.{SignalRows}
 use Rattle.otap_produce.specs.declared.refusal.ProduceRefusal.{ProduceRefusal}
 use Rattle.otap_produce.specs.declared.refusal.ProduceRefusal.TheVariants as produce
@@ -16,6 +21,15 @@ use Rattle.otap_resend.specs.Resenders.{ResenderIn, HasState, TakesTurnOf, After
 use Rattle.otap_resend.specs.States.{State, Call, Send, Answer, Reset, Resend, Outcome, Wrote, Refused, OutOfMemory, Done, GivenUp, Kept, Unknown, Nothing, Full, Pending, Broken, TooManyItems, TooHeavy, next, has_id, is_unwritten, without_first, with_first_written, without_id}
 use Rattle.otap_resend.specs.Turns.{MayGive, Turn, HasRoom, IsReady, IsNextMessage, is_accepted, is_refused}
 use Rattle.otap_resend.specs.Turns as turns
+
+-- the layout of a message doesn't look at the payloads before it
+laid_after_any : (before : List Table) (past others : List PayloadIn) (tables : List Table) (payloads : List PayloadIn)
+    → AreLaidAfter before past tables payloads → AreLaidAfter before others tables payloads
+laid_after_any before past others [] [] laid = tt
+laid_after_any before past others [] (p ∷ ps) laid = absurd laid
+laid_after_any before past others (t ∷ ts) [] laid = absurd laid
+laid_after_any before past others (t ∷ ts) (p ∷ ps) laid =
+    (laid.0, laid_after_any (before ++ t ∷ []) (past ++ p ∷ []) (others ++ p ∷ []) ts ps laid.1)
 
 -- after the exporter's refusal the exporter alone may be another one
 pub after_encode : (old : ResenderIn) (e : ExporterIn) (refusal : ProduceRefusal) → exporters.AfterRefusal refusal old.exporter e → e.signal ≡ old.exporter.signal
@@ -87,6 +101,9 @@ module _ (rows : SignalRows) (old new : ResenderIn) where
         id = exports.id ∙ ap pos stood.1.batches;
         short = exports.short;
         policy = λ messages allowed. exports.policy s.written stood.0 messages stood.1 allowed;
+        laid = λ messages allowed.
+            laid_after_any (flat_map rows.tables s.written) (flat_map payloads_in stood.0) (flat_map payloads_in messages)
+            (rows.tables q) (payloads_in message) (exports.laid s.written stood.0 stood.1);
       }
 
   batches_in : (s : State) (q : Request) (message : List ℕ) → HasState rows s old → Exports rows q old.exporter new.exporter message → old.exporter.batches ≡ length s.written

@@ -9,18 +9,20 @@ use Rattle.otap_capture.specs.Batch.{batch_content}
 use Rattle.otap_capture.specs.Capture.{longest_frame}
 use Rattle.otap_cells.specs.Weights.{row_weight_limit, weight_of_tables}
 use Rattle.otap_signals.specs.Meanings.{SignalRows}
+use Rattle.otap_produce.specs.Exporters.{IsLaidMessage}
 use Rattle.otap_produce.specs.Policy.{IsExported, Policy}
 use Rattle.otap_resend.specs.declared.unanswered.Unanswered.{Unanswered}
 use Rattle.otap_resend.specs.States.{State, Call, Send, Answer, Reset, Resend, Outcome, Wrote, Refused, OutOfMemory, Done, GivenUp, Kept, Unknown, Nothing, Full, Pending, Broken, TooManyItems, TooHeavy, is_unwritten, has_id, next}
 
 -- THE NEXT MESSAGE OF A SEGMENT in which these requests were written: a request that is exported is written as a message that fits
 -- into a frame. Its batch id counts the requests before it. Whatever messages the policy allows for these requests, it allows this
--- one after them.
+-- one after them, and this one is laid out after them.
 pub record IsNextMessage (rows : SignalRows) (written : List Request) (request : Request) (message : List ℕ) : Type 0 where
   pub exported : IsExported rows request
   pub id : (batch_content message).id ≡ pos (length written)
   pub short : length message ≤ longest_frame
   pub policy : (messages : List (List ℕ)) → Policy rows written messages → Policy rows (written ++ request ∷ []) (messages ++ message ∷ [])
+  pub laid : (messages : List (List ℕ)) → Policy rows written messages → IsLaidMessage rows written messages request message
 
 -- fewer requests than the window are unanswered, and each was written since the last reset
 pub record HasRoom (window : ℕ) (unanswered : List Unanswered) : Type 0 where
