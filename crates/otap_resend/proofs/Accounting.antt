@@ -117,11 +117,11 @@ module _ (rows : SignalRows) (s : State) where
 
 -- ---- places
 
-get-last : {A : Type 0} (xs : List A) (x : A) → slice_get (xs ++ x ∷ []) (length xs) ≡ Some x
+pub get-last : {A : Type 0} (xs : List A) (x : A) → slice_get (xs ++ x ∷ []) (length xs) ≡ Some x
 get-last [] x = refl
 get-last (y ∷ xs) x = get-last xs x
 
-get-more : {A : Type 0} (xs : List A) (x y : A) (i : ℕ) → slice_get xs i ≡ Some y → slice_get (xs ++ x ∷ []) i ≡ Some y
+pub get-more : {A : Type 0} (xs : List A) (x y : A) (i : ℕ) → slice_get xs i ≡ Some y → slice_get (xs ++ x ∷ []) i ≡ Some y
 get-more [] x y i is = let clash : None ≡ Some y = is in cc
 get-more (z ∷ xs) x y zero is = is
 get-more (z ∷ xs) x y (suc i) is = get-more xs x y i is
@@ -137,11 +137,11 @@ all-more : (written : List Request) (q : Request) (ws : List Unanswered) → All
 all-more written q [] all = tt
 all-more written q (w ∷ ws) all = (placed-more written q w all.0, all-more written q ws all.1)
 
-all-push : (P : Unanswered → Type 0) (ws : List Unanswered) (w : Unanswered) → AllByRecursion P ws → P w → AllByRecursion P (ws ++ w ∷ [])
+pub all-push : (P : Unanswered → Type 0) (ws : List Unanswered) (w : Unanswered) → AllByRecursion P ws → P w → AllByRecursion P (ws ++ w ∷ [])
 all-push P [] w all here = (here, tt)
 all-push P (v ∷ ws) w all here = (all.0, all-push P ws w all.1 here)
 
-all-without : (P : Unanswered → Type 0) (p : Unanswered → Bool) (ws : List Unanswered) → AllByRecursion P ws → AllByRecursion P (without_first p ws)
+pub all-without : (P : Unanswered → Type 0) (p : Unanswered → Bool) (ws : List Unanswered) → AllByRecursion P ws → AllByRecursion P (without_first p ws)
 all-without P p [] all = tt
 all-without P p (w ∷ ws) all = by (cases_Bool (p w)) (all-without P p ws all.1)
   where

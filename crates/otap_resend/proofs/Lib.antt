@@ -3,4 +3,5 @@ pub mod Kept
 pub mod Places
 pub mod Removing
 pub mod Segments
+pub mod Sent
 pub mod Turning

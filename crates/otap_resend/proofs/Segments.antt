@@ -5,17 +5,20 @@ use Rattle.std.proofs.lemmas.Bool.{cases_Bool, ltb-true}
 use Rattle.std.specs.List.{AllByRecursion, flat_map, list_any}
 use Rattle.std.proofs.lemmas.List.Sums.{fold-append}
 use Rattle.std.proofs.lemmas.List.{flat_map_more}
-use Rattle.lists.proofs.Growing.{all_after-keeps}
+use Rattle.lists.proofs.Growing.{all_after-keeps, all_after-push, each_after-push}
 use Rattle.lists.proofs.Latest.{since-append}
 use Rattle.lists.specs.Since.{since}
 use Rattle.otap_signals.specs.Meanings.{SignalRows}
+use Rattle.otlp_model.specs.declared.request.Request.{Request}
+use Rattle.otap_produce.specs.Exporters.{AreLaidMessages, IsLaidMessage}
 use Rattle.otap_produce.specs.Policy.{Policy}
 use Rattle.otap_resend.specs.declared.unanswered.Unanswered.{Unanswered}
-use Rattle.otap_resend.specs.Runs.{Step, IsRun, IsSound, IsAccounted, IsPlaced, is_reset, is_reset_call, state_after, message_of, messages_since}
+use Rattle.otap_resend.specs.Runs.{Step, IsRun, IsSound, IsAccounted, IsPlaced, IsSoundStep, Carries, is_reset, is_reset_call, state_after, message_of, messages_since, request_of, requests_sent}
 use Rattle.otap_resend.specs.States.{State, Call, Send, Answer, Resend, Outcome, next, new_state, is_unwritten, request_if}
 use Rattle.otap_resend.specs.Turns.{MayGive, IsNextMessage}
 use Rattle.otap_resend.specs.Turns as turns
 use Rattle.otap_resend.proofs.Accounting.{accounted, placed}
+use Rattle.otap_resend.proofs.Sent.{KeepsRequests, keeps_requests, handed_back, carried}
 
 -- one more step
 state_more : (window : ℕ) (steps : List Step) (step : Step) → state_after window (steps ++ step ∷ []) ≡ next (state_after window steps) step.call step.outcome
@@ -36,34 +39,50 @@ messages_reset steps step begins = ap (λ l. flat_map (λ (t : Step). message_of
     anew : (if list_any is_reset (step ∷ []) then since is_reset (step ∷ []) else since is_reset steps ++ step ∷ []) ≡ step ∷ []
     anew = rw begins refl
 
-abbrev pub InStep : SignalRows → ℕ → List Step → Type 0
-InStep rows window steps = Policy rows (state_after window steps).written (messages_since steps)
+requests_more : (steps : List Step) (step : Step)
+    → requests_sent (steps ++ step ∷ []) ≡ requests_sent steps ++ request_of step.call step.outcome
+requests_more steps step = sym (flat_map_more (λ (t : Step). request_of t.call t.outcome) [] steps step)
+
+-- messages that the policy allows for these requests, and that are laid out
+abbrev pub InSegment : SignalRows → List Request → List (List ℕ) → Type 0
+InSegment rows written messages = Policy rows written messages × AreLaidMessages rows written messages
 
 module _ (rows : SignalRows) where
-  resent_policy : (s : State) (found : Option Unanswered) (w : Unanswered) (messages : List (List ℕ)) (message : List ℕ) → found ≡ Some w → IsNextMessage rows s.written w.request message
-      → Policy rows s.written messages → Policy rows (s.written ++ request_if found) (messages ++ message ∷ [])
-  resent_policy s found w messages message is next' policy = rw is (next'.policy messages policy)
+  more_in : (written : List Request) (q : Request) (messages : List (List ℕ)) (message : List ℕ)
+      → IsNextMessage rows written q message → InSegment rows written messages
+      → InSegment rows (written ++ q ∷ []) (messages ++ message ∷ [])
+  more_in written q messages message is both = (
+    is.policy messages both.0,
+    each_after-push (IsLaidMessage rows) [] [] written messages q message both.1 (is.laid messages both.0),
+  )
+
+  resent_in : (s : State) (found : Option Unanswered) (w : Unanswered) (messages : List (List ℕ)) (message : List ℕ)
+      → found ≡ Some w → IsNextMessage rows s.written w.request message
+      → InSegment rows s.written messages → InSegment rows (s.written ++ request_if found) (messages ++ message ∷ [])
+  resent_in s found w messages message is next' both = rw is (more_in s.written w.request messages message next' both)
 
   -- what a call does to the requests that were written and to the messages of the segment
-  pub in_step : (s : State) (messages : List (List ℕ)) (call : Call) (outcome : Outcome) → MayGive rows s call outcome → Policy rows s.written messages
-      → Policy rows (next s call outcome).written (if is_reset_call call then [] else messages ++ message_of outcome)
+  pub in_step : (s : State) (messages : List (List ℕ)) (call : Call) (outcome : Outcome)
+      → MayGive rows s call outcome → InSegment rows s.written messages
+      → InSegment rows (next s call outcome).written (if is_reset_call call then [] else messages ++ message_of outcome)
   unfolding next
-  in_step s messages _ _ (turns.full q full) policy = rw (append-nil messages) policy
-  in_step s messages _ _ (turns.pending q w room some) policy = rw (append-nil messages) policy
-  in_step s messages _ _ (turns.broken q room broken) policy = rw (append-nil messages) policy
-  in_step s messages _ _ (turns.too_many_items q ready many) policy = rw (append-nil messages) policy
-  in_step s messages _ _ (turns.too_heavy q ready few heavy) policy = rw (append-nil messages) policy
-  in_step s messages _ _ (turns.out_of_memory q ready exported) policy = rw (append-nil messages) policy
-  in_step s messages _ _ (turns.sends q message ready is) policy = is.policy messages policy
-  in_step s messages _ _ (turns.unknown id code none) policy = rw (append-nil messages) policy
-  in_step s messages _ _ (turns.done id code w found accepted) policy = rw (append-nil messages) policy
-  in_step s messages _ _ (turns.given_up id code w found given) policy = rw (append-nil messages) policy
-  in_step s messages _ _ (turns.kept id code w found none) policy = rw (append-nil messages) policy
-  in_step s messages _ _ turns.resets policy = tt
-  in_step s messages _ _ (turns.resend_broken broken) policy = rw (append-nil messages) policy
-  in_step s messages _ _ (turns.all_written sound none) policy = rw (append-nil messages) policy
-  in_step s messages _ _ (turns.resend_out_of_memory w sound found) policy = rw (append-nil messages) policy
-  in_step s messages _ _ (turns.resends w message sound found is) policy = resent_policy s (find is_unwritten s.unanswered) w messages message found is policy
+  in_step s messages _ _ (turns.full q full) both = rw (append-nil messages) both
+  in_step s messages _ _ (turns.pending q w room some) both = rw (append-nil messages) both
+  in_step s messages _ _ (turns.broken q room broken) both = rw (append-nil messages) both
+  in_step s messages _ _ (turns.too_many_items q ready many) both = rw (append-nil messages) both
+  in_step s messages _ _ (turns.too_heavy q ready few heavy) both = rw (append-nil messages) both
+  in_step s messages _ _ (turns.out_of_memory q ready exported) both = rw (append-nil messages) both
+  in_step s messages _ _ (turns.sends q message ready is) both = more_in s.written q messages message is both
+  in_step s messages _ _ (turns.unknown id code none) both = rw (append-nil messages) both
+  in_step s messages _ _ (turns.done id code w found accepted) both = rw (append-nil messages) both
+  in_step s messages _ _ (turns.given_up id code w found given) both = rw (append-nil messages) both
+  in_step s messages _ _ (turns.kept id code w found none) both = rw (append-nil messages) both
+  in_step s messages _ _ turns.resets both = (tt, tt)
+  in_step s messages _ _ (turns.resend_broken broken) both = rw (append-nil messages) both
+  in_step s messages _ _ (turns.all_written sound none) both = rw (append-nil messages) both
+  in_step s messages _ _ (turns.resend_out_of_memory w sound found) both = rw (append-nil messages) both
+  in_step s messages _ _ (turns.resends w message sound found is) both =
+      resent_in s (find is_unwritten s.unanswered) w messages message found is both
 
   no_reset_message : (s : State) (step : Step) → is_reset step ≡ true → MayGive rows s step.call step.outcome → message_of step.outcome ≡ []
   no_reset_message s step reset may = by step.call step.outcome may reset
@@ -83,20 +102,45 @@ module _ (rows : SignalRows) where
         by (inl reset) = messages_reset steps step reset ∙ append-nil (message_of step.outcome) ∙ no_reset_message (state_after window steps) step reset may ∙ sym (rw reset refl)
         by (inr goes_on) = messages_more steps step goes_on ∙ sym (rw goes_on refl)
 
-    abbrev pub so_far : List Step → Type 0
-    so_far steps = IsAccounted (state_after window steps) × AllByRecursion (IsPlaced (state_after window steps).written) (state_after window steps).unanswered × InStep rows window steps
-
-    step_on : (steps : List Step) (step : Step) → so_far steps → MayGive rows (state_after window steps) step.call step.outcome → so_far (steps ++ step ∷ [])
-    step_on steps step so may = (
-      subst IsAccounted (sym (state_more window steps step)) (accounted rows (state_after window steps) step.call step.outcome may so.0),
-      subst (λ (s : State). AllByRecursion (IsPlaced s.written) s.unanswered) (sym (state_more window steps step)) (placed rows (state_after window steps) step.call step.outcome may so.1),
-      rw (state_more window steps step, messages_by steps step may) (in_step (state_after window steps) (messages_since steps) step.call step.outcome may so.2),
-    )
+    pub sound_on : (steps : List Step) (step : Step) → IsSound rows window steps
+        → MayGive rows (state_after window steps) step.call step.outcome → IsSound rows window (steps ++ step ∷ [])
+    sound_on steps step so may =
+        let s = state_after window steps in
+        let sent = requests_sent steps in
+        let s' = state_after window (steps ++ step ∷ []) in
+        let sent' = requests_sent (steps ++ step ∷ []) in
+        let after : s' ≡ next s step.call step.outcome = state_more window steps step in
+        let more : sent' ≡ sent ++ request_of step.call step.outcome = requests_more steps step in
+        let before : KeepsRequests sent s.sent s.unanswered s.written =
+        record { counted = so.counted; ascending = so.ascending; unanswered = so.unanswered; written = so.written } in
+        let in_next = keeps_requests rows s sent step.call step.outcome may before in
+        let requests : KeepsRequests sent' s'.sent s'.unanswered s'.written =
+        subst (λ (l : List Request). KeepsRequests l s'.sent s'.unanswered s'.written) (sym more)
+        (subst (λ (t : State). KeepsRequests (sent ++ request_of step.call step.outcome) t.sent t.unanswered t.written) (sym after) in_next) in
+        let segment : InSegment rows s'.written (messages_since (steps ++ step ∷ [])) =
+        rw (after, messages_by steps step may) (in_step s (messages_since steps) step.call step.outcome may (so.policy, so.laid)) in
+        let carries : Carries rows sent' s s' step.outcome =
+        subst (λ (t : State). Carries rows sent' s t step.outcome) (sym after)
+        (subst (λ (l : List Request). Carries rows l s (next s step.call step.outcome) step.outcome) (sym more)
+        (carried rows s (sent ++ request_of step.call step.outcome) step.call step.outcome may so.placed in_next.unanswered)) in
+        record {
+          accounted = subst IsAccounted (sym after) (accounted rows s step.call step.outcome may so.accounted);
+          counted = requests.counted;
+          ascending = requests.ascending;
+          unanswered = requests.unanswered;
+          written = requests.written;
+          placed = subst (λ (t : State). AllByRecursion (IsPlaced t.written) t.unanswered) (sym after)
+              (placed rows s step.call step.outcome may so.placed);
+          each = all_after-push (IsSoundStep rows window) [] steps step so.each
+              (record { hands_back = handed_back rows s sent step.call step.outcome may so.unanswered; carries = carries });
+          policy = segment.0;
+          laid = segment.1;
+        }
 
 pub sound : (rows : SignalRows) (window : ℕ) (steps : List Step) → IsRun rows window steps → IsSound rows window steps
 sound rows window steps run =
-    let all = all_after-keeps (λ before step. MayGive rows (state_after window before) step.call step.outcome) (so_far rows window) (step_on rows window) [] steps (start, tt, tt) run in
-    record { accounted = all.0; placed = all.1; policy = all.2 }
+    all_after-keeps (λ before step. MayGive rows (state_after window before) step.call step.outcome) (IsSound rows window)
+    (sound_on rows window) [] steps start run
   where
     none_below : (n m : ℕ) → m ≡ 0 → m ≡ (if nat_lt n 0 then 1 else 0)
     none_below n m none = by (cases_Bool (nat_lt n 0))
@@ -105,5 +149,15 @@ sound rows window steps run =
         by (inl is_so) = let lt = ltb-true n 0 is_so in absurd (omega (arith, lt))
         by (inr is_not) = rw is_not none
 
-    start : IsAccounted (new_state window)
-    start n = none_below n _ refl
+    start : IsSound rows window []
+    start = record {
+      accounted = λ n. none_below n _ refl;
+      counted = refl;
+      ascending = tt;
+      unanswered = tt;
+      written = tt;
+      placed = tt;
+      each = tt;
+      policy = tt;
+      laid = tt;
+    }
