@@ -4,6 +4,8 @@ use Rattle.std.specs.Ordering.{int_eq}
 use Rattle.otlp_model.specs.declared.request.Request.{Request}
 use Rattle.otap_resend.specs.declared.unanswered.Unanswered.{Unanswered}
 
+-- A request that was sent is unanswered until it is done or given up; printed lines call it open. One that is kept stays unanswered.
+
 -- THE STATE: the window; whether memory ran out since the last reset; the unanswered requests, by ascending number; how many
 -- requests were sent; the numbers of those that are done, and of those that were given up; and the requests that were written
 -- since the last reset

@@ -1,4 +1,4 @@
-//! The requests that are not answered yet.
+//! The requests that were sent, and are neither done nor given up.
 
 ghost use Rattle.std.specs.Prelude.{◌≡◌, ◌<◌, ◌≤◌, [], ◌∷◌, ◌++◌, ℤ, map, position, vec_capacity, vec_len};
 ghost use Rattle.otap_resend.specs.States.{has_id, is_unwritten, without_id};
