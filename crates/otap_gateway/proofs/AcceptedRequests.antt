@@ -6,7 +6,6 @@ use Rattle.std.specs.Ordering.{int_eq}
 use Rattle.std.proofs.lemmas.Bool.{cases_Bool, false≢true}
 use Rattle.std.proofs.lemmas.Bool.Decides.{Decides-int_eq}
 use Rattle.std.proofs.lemmas.List.{length-append}
-use Rattle.std.proofs.lemmas.List.Sums.{fold-append}
 use Rattle.lists.specs.EachAfter.{AllAfter, EachAfter}
 use Rattle.lists.proofs.Growing.{all_after-keeps}
 use Rattle.otlp_model.specs.Same.{Same}
@@ -19,13 +18,13 @@ use Rattle.otap_consume.specs.Outcomes.{Outcome, Accepted}
 use Rattle.otap_consume.specs.Receiving.{Received}
 use Rattle.otap_produce.specs.Policy.{IsExported, IsMessageOf, Policy}
 use Rattle.otap_resend.specs.declared.unanswered.Unanswered.{Unanswered}
-use Rattle.otap_resend.specs.Runs.{Step, IsRun, IsSound, messages_since, state_after}
+use Rattle.otap_resend.specs.Runs.{Step, IsRun, IsSound, IsSentAs, messages_since, requests_sent as sent_in, state_after}
 use Rattle.otap_resend.specs.States.{State, Call, Answer, Outcome as CallOutcome, Done, has_id, is_id, next}
 use Rattle.otap_resend.specs.Turns.{MayGive}
 use Rattle.otap_resend.specs.Turns as turns
 use Rattle.otap_transit.specs.Sendings.{Sending, Sent, AreAllowed, Arrive, ArrivesAs, IsAllowed, frame_sent, messages_since as messages_sent_since, requests_since}
 use Rattle.otap_transit.proofs.SendingsGrown.{messages_sent, requests_sent}
-use Rattle.otap_gateway.specs.Accepted.{AcceptsAt, IsAcceptedAs, WasAccepted}
+use Rattle.otap_gateway.specs.Accepted.{AcceptsAt, WasAccepted}
 use Rattle.otap_gateway.specs.Encoding.{Arrives}
 use Rattle.otap_gateway.proofs.RewrittenFrames.{after_more}
 
@@ -174,7 +173,7 @@ module _ (rows : SignalRows) (m : Meaning) where
       }
 
   pub accepted_by : (window : ℕ) (before : List Step) (id code : ℤ) (number : ℕ) → ((ss : List Sending) → AreAllowed rows ss → Arrives m ss) → IsSound rows window before → IsRun rows window before
-      → MayGive rows (state_after window before) (Answer id code) (Done number) → WasAccepted m (state_after window before) (messages_since before) id number
+      → MayGive rows (state_after window before) (Answer id code) (Done number) → WasAccepted m (state_after window before) (sent_in before) (messages_since before) id number
   accepted_by window before id code _ arrives sound run (turns.done _ _ w found accepted) =
       let s = state_after window before in
       let has = found_has (has_id id) (λ (u : Unanswered). IfSome u.id (λ own. slice_get s.written own ≡ Some u.request)) s.unanswered w found sound.placed in
@@ -184,6 +183,7 @@ module _ (rows : SignalRows) (m : Meaning) where
         done = w;
         found = found;
         numbered = refl;
+        was_sent = (found_has (has_id id) (λ (u : Unanswered). IsSentAs (sent_in before) u.number u.request) s.unanswered w found sound.unanswered).1;
         index = index.0;
         is_id = index.2;
         accepts = accepts_at s.written (messages_since before) index.0 w.request arrives sound.policy (exported_after rows window before run) at;

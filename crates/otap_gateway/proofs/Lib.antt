@@ -18,6 +18,7 @@ pub mod LogLoads
 pub mod MetricLoads
 pub mod AllLoads
 pub mod OneJob
+pub mod OneRuns
 pub mod Progress
 pub mod RowText
 pub mod SentSoFar
@@ -25,6 +26,7 @@ pub mod Shows
 pub mod SpanLoads
 pub mod Replying
 pub mod ResendReplies
+pub mod ResentBytes
 pub mod ResentFrames
 pub mod ResentRuns
 pub mod RewrittenFrames

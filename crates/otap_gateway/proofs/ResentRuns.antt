@@ -1,6 +1,5 @@
 -- The calls that `resend` makes are a run of a resending exporter.
-use Rattle.std.proofs.Common.{◌≡◌, ℕ, List, [], ◌∷◌, ◌++◌, refl, sym, subst}
-use Rattle.std.specs.List.{flat_map}
+use Rattle.std.proofs.Common.{ℕ, List, [], ◌∷◌, ◌++◌, sym, subst}
 use Rattle.lists.specs.EachAfter.{AllAfter, EachAfter}
 use Rattle.lists.proofs.Growing.{all_after-append}
 use Rattle.otap_capture.specs.Capture.{Frame}
@@ -12,8 +11,7 @@ use Rattle.otap_gateway.specs.declared.jobs.ending.Ending.TheVariants as ending
 use Rattle.otap_signals.specs.BySignal.{rows_by}
 use Rattle.otap_gateway.specs.Endings.{AnswerOf}
 use Rattle.otap_gateway.specs.Reply.{ReplyText}
-use Rattle.otap_gateway.specs.Replies.{Gave}
-use Rattle.otap_gateway.specs.Resends.{Resent, BeginsAfter, EventGives, IsResent, MayStep, RequestGives, ResendsAfter, StatusGives, resent_text, steps_in, steps_of}
+use Rattle.otap_gateway.specs.Resends.{Resent, BeginsAfter, EventGives, IsResent, MayStep, RequestGives, ResendsAfter, resent_text, steps_in, steps_of}
 use Rattle.otap_gateway.specs.Resends as resends
 use Rattle.otap_gateway.proofs.AllReplies.{gives_back}
 use Rattle.otap_gateway.proofs.ResentFrames.{steps_more}
@@ -36,7 +34,7 @@ module _ (rows : SignalRows) (window : ℕ) where
   of_frame given _ _ (resends.resets messages is) = (turns.resets, is.each)
 
   -- and of all frames
-  of_frames : (past : List Frame) (before : List Resent) (frames : List Frame) (given : List Resent)
+  pub of_frames : (past : List Frame) (before : List Resent) (frames : List Frame) (given : List Resent)
       → EachAfter (λ gone was frame gives. ResendsAfter rows window was frame gives) past before frames given → AllAfter (MayStep rows window) (steps_of before) (steps_of given)
   of_frames past before [] [] each = tt
   of_frames past before [] (g ∷ gs) each = absurd each

@@ -48,7 +48,7 @@ module _ (rows : SignalRows) (messages : MessagesAreRead) (resets : IsFrame rese
       let after : (place + length (spelled s)) + length (flat_map spelled ss) < capture_limit = omega (arith, few, size) in
       (spelled s, flat_map spelled ss, refl, begins, one_frame past s each.0, frames_of (past ++ s ∷ []) ss (place + length (spelled s)) each.1 after)
 
-  capture_of : (ss : List Sending) → AreAllowed rows ss → length (flat_map spelled ss) < capture_limit → IsCapture (flat_map spelled ss) (map frame_sent ss) None
+  pub capture_of : (ss : List Sending) → AreAllowed rows ss → length (flat_map spelled ss) < capture_limit → IsCapture (flat_map spelled ss) (map frame_sent ss) None
   capture_of ss allowed few = record {
     front = flat_map spelled ss;
     rest = [];

@@ -9,9 +9,10 @@ use Rattle.otap_signals.specs.Meanings.{Meaning}
 use Rattle.otap_consume.specs.Outcomes.{Outcome, Accepted}
 use Rattle.otap_consume.specs.Receiving.{Received}
 use Rattle.otap_resend.specs.declared.unanswered.Unanswered.{Unanswered}
+use Rattle.otap_resend.specs.Runs.{IsSentAs}
 use Rattle.otap_resend.specs.States.{State, has_id}
 
--- the message with this index, which is its batch id, was accepted as the same telemetry as the request
+-- the message with this index, which is its batch id, is accepted as the same telemetry as the request
 pub record IsAcceptedAs (m : Meaning) (messages : List (List ℕ)) (received : List Outcome)
     (index : ℕ) (request : Request) : Type 0 where
   pub message : List ℕ
@@ -29,12 +30,15 @@ pub record AcceptsAt (m : Meaning) (messages : List (List ℕ)) (index : ℕ) (r
   pub all : (outcomes : List Outcome) → Received m (map Message messages) outcomes
       → IsAcceptedAs m messages outcomes index request
 
--- A REQUEST THAT IS DONE WAS ACCEPTED: it is the unanswered one that was written with the status's batch id, and the segment
--- in which these messages were written accepts it there
-pub record WasAccepted (m : Meaning) (s : State) (messages : List (List ℕ)) (id : ℤ) (number : ℕ) : Type 0 where
+-- A REQUEST THAT IS DONE IS ACCEPTED: it is the unanswered one that was written with the status's batch id, it was sent with this
+-- number, and the segment in which these messages were written accepts it there. Of the status only its id is in this: it is
+-- taken as one for a message of this segment.
+pub record WasAccepted (m : Meaning) (s : State) (sent : List Request) (messages : List (List ℕ))
+    (id : ℤ) (number : ℕ) : Type 0 where
   pub done : Unanswered
   pub found : find (has_id id) s.unanswered ≡ Some done
   pub numbered : done.number ≡ number
+  pub was_sent : IsSentAs sent number done.request
   pub index : ℕ
   pub is_id : id ≡ pos index
   pub accepts : AcceptsAt m messages index done.request

@@ -14,6 +14,7 @@ pub mod Lines
 pub mod Listing
 pub mod Loading
 pub mod Loads
+pub mod OneRun
 pub mod Openings
 pub mod Quoting
 pub mod ReadBack

@@ -8,7 +8,10 @@ mod texts;
 pub use jobs::reception_laws::{
     captures_have_texts, outcomes_give_the_texts, status_says_the_line, texts_have_outcomes,
 };
-pub use jobs::resending_laws::{done_is_accepted, resent_texts_are_of_a_run};
+pub use jobs::resending_laws::{
+    all_texts_are_of_one_run, done_is_accepted, resent_texts_are_of_a_run, sinks_grow_by_one_run,
+    what_is_resent_is_read,
+};
 pub use jobs::sending_laws::{encoded_texts_have_outcomes, what_is_written_is_read};
 pub use runs::laws::{complete_endings, complete_runs, each_words, requests_fit_in_frames};
 pub use runs::load_laws::{complete_loads, loads_are_received};
