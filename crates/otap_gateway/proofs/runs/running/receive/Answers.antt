@@ -1,5 +1,3 @@
-use Rattle.std.proofs.Common.{subst, sym}
-use Rattle.otap_signals.specs.BySignal.{meaning_by}
 use Rattle.otap_gateway.specs.Receptions.{text_of}
 use Rattle.otap_gateway.proofs.Replying.{replied_none}
 use Rattle.otap_gateway.proofs.Shows.{writes_nothing}
