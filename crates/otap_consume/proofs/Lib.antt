@@ -14,6 +14,7 @@ pub mod Excluding
 pub mod Judged
 pub mod Following
 pub mod Regrouping
+pub mod OpeningSteps
 pub mod Formats
 pub mod ByteLists
 pub mod ByteCells

@@ -1,5 +1,5 @@
 -- The next frame of a segment.
-use Rattle.std.proofs.Common.{◌≡◌, ℕ, Bool, true, false, List, [], ◌∷◌, ◌++◌, Option, Some, None, ℤ, Result, Ok, Err, IfOk, refl, sym, ap, ◌∙◌, subst, append-nil}
+use Rattle.std.proofs.Common.{◌≡◌, ℕ, Bool, true, false, List, [], ◌∷◌, ◌++◌, Option, Some, None, ℤ, Ok, refl, sym, ap, ◌∙◌, subst, append-nil}
 use Rattle.std.specs.Prelude.{MatchBool, if◌then◌else◌}
 use Rattle.std.specs.List.{flat_map, list_any}
 use Rattle.std.proofs.lemmas.Bool.{both_ways}
@@ -17,17 +17,17 @@ use Rattle.otap_cells.specs.Tables.{Table}
 use Rattle.otap_consume.specs.declared.refusal.Cause.{Cause}
 use Rattle.otap_consume.specs.declared.refusal.Cause.TheVariants.{Compressed, Broken}
 use Rattle.otap_consume.specs.declared.refusal.Refusal.{Refusal}
-use Rattle.otap_consume.specs.declared.seen.Seen.{Seen}
 use Rattle.otap_consume.specs.declared.seen.Seen.TheVariants as seen
 use Rattle.otap_consume.specs.declared.not_taken.NotTaken.{NotTaken}
 use Rattle.otap_consume.specs.declared.not_taken.NotTaken.TheVariants.{Defect, Memory}
 use Rattle.otap_consume.specs.Defects.{Refuses, tables_of}
 use Rattle.otap_consume.specs.Outcomes.{Outcome, Accepted, Refused, Reset, GivesOutcome, StaysBroken, OutcomeAfter, is_reset, is_refused, payloads_if, segment, is_broken, payloads_after, refused, refusal_of}
 use Rattle.otap_consume.specs.Outcomes.{unread_cause}
-use Rattle.otap_consume.specs.Segments.{SegmentIn, StandsFor, HasNext, Next, IsNew}
+use Rattle.otap_consume.specs.Opening.{OpensAfter, OpensBatch, refusal_by}
+use Rattle.otap_consume.specs.Segments.{SegmentIn, StandsFor, HasNext, Next, IsNew, CanShow}
 use Rattle.otap_consume.specs.Untaken.{SaysDefect}
 use Rattle.otap_consume.specs.Streams.{StreamIn, AreAfter}
-use Rattle.otap_consume.specs.Taking.{AcceptsAfter, IsStopped, NextBatch}
+use Rattle.otap_consume.specs.Taking.{AcceptsAfter, NextBatch}
 
 -- ---- one more outcome
 
@@ -200,14 +200,22 @@ next_accepted old new batch rows whole whole' same accepts = record {
 
 -- ---- the same, whatever the parts are called
 
-pub accepted_parts : (old new : SegmentIn) (batch : BatchContent) (rows : ℕ) (signal : Signal) (streams streams' : List StreamIn) → signal ≡ old.signal → streams ≡ old.streams → streams' ≡ new.streams
+pub opened_parts : (old new : SegmentIn) (batch : BatchContent) (signal : Signal) (streams streams' : List StreamIn)
+    → signal ≡ old.signal → streams ≡ old.streams → streams' ≡ new.streams
     → old.broken ≡ false → new.broken ≡ false → new.signal ≡ old.signal
-    → ((past : List PayloadIn) → AreAfter past streams → AcceptsAfter signal past batch.payloads streams' rows) → NextBatch old batch new (seen.Batch batch.id rows)
-accepted_parts old new batch rows signal streams streams' same are are' whole whole' kept accepts =
-    next_accepted old new batch rows whole whole' kept
-    (λ past after.
-    subst (λ (s : Signal). AcceptsAfter s past batch.payloads new.streams rows) same
-    (subst (λ (ss : List StreamIn). AcceptsAfter signal past batch.payloads ss rows) are' (accepts past (subst (λ (ss : List StreamIn). AreAfter past ss) (sym are) after))))
+    → CanShow streams' batch.payloads
+    → ((past : List PayloadIn) → AreAfter past streams → OpensAfter signal past batch.payloads streams')
+    → OpensBatch old batch new
+opened_parts old new batch signal streams streams' same are are' whole whole' kept shows opens = record {
+  was_whole = whole;
+  whole = whole';
+  same = kept;
+  shows = subst (λ (ss : List StreamIn). CanShow ss batch.payloads) are' shows;
+  opens = λ past after.
+      let before : AreAfter past streams = subst (λ (ss : List StreamIn). AreAfter past ss) (sym are) after in
+      subst (λ (s : Signal). OpensAfter s past batch.payloads new.streams) same
+      (subst (λ (ss : List StreamIn). OpensAfter signal past batch.payloads ss) are' (opens past before));
+}
 
 refused_parts : (old new : SegmentIn) (batch : BatchContent) (cause : Cause) (payload : Option ℤ) (signal : Signal) (streams : List StreamIn) → signal ≡ old.signal → streams ≡ old.streams
     → old.broken ≡ false → new.broken ≡ true → new.signal ≡ old.signal
@@ -219,10 +227,12 @@ refused_parts old new batch cause payload signal streams same are whole broken k
     subst (λ (s : Signal). Refuses s past batch.payloads cause payload) same (refuses past (subst (λ (ss : List StreamIn). AreAfter past ss) (sym are) after)))
 
 -- a batch whose payloads are not taken
-pub stopped_next : {E : Type 0} (r : Result Seen E) (old new : SegmentIn) (batch : BatchContent) (stop : NotTaken) (signal : Signal) (streams : List StreamIn) → signal ≡ old.signal
-    → streams ≡ old.streams → old.broken ≡ false → new.broken ≡ true → new.signal ≡ old.signal
-    → ((past : List PayloadIn) → AreAfter past streams → SaysDefect (Refuses signal past batch.payloads) stop) → IfOk r (IsStopped stop batch) → IfOk r (NextBatch old batch new)
-stopped_next (Err e) old new batch stop signal streams same are whole broken kept refuses stopped = tt
-stopped_next (Ok returned) old new batch (Memory e) signal streams same are whole broken kept refuses stopped = absurd stopped
-stopped_next (Ok returned) old new batch (Defect cause payload) signal streams same are whole broken kept refuses stopped =
-    subst (NextBatch old batch new) (sym stopped) (refused_parts old new batch cause payload signal streams same are whole broken kept refuses)
+pub stopped_parts : (old new : SegmentIn) (batch : BatchContent) (why : NotTaken) (refusal : Refusal)
+    (signal : Signal) (streams : List StreamIn) → signal ≡ old.signal → streams ≡ old.streams → old.broken ≡ false → new.broken ≡ true → new.signal ≡ old.signal
+    → refusal_by batch why ≡ Ok refusal
+    → ((past : List PayloadIn) → AreAfter past streams → SaysDefect (Refuses signal past batch.payloads) why)
+    → NextBatch old batch new (seen.Refused refusal)
+stopped_parts old new batch (Defect cause payload) refusal signal streams same are whole broken kept is refuses =
+    subst (λ (r : Refusal). NextBatch old batch new (seen.Refused r)) (cc is)
+    (refused_parts old new batch cause payload signal streams same are whole broken kept refuses)
+stopped_parts old new batch (Memory e) refusal signal streams same are whole broken kept is refuses = absurd (cc is)

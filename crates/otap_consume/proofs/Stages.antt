@@ -1,5 +1,5 @@
 -- The stages of a batch, one after the other.
-use Rattle.std.proofs.Common.{◌≡◌, ℕ, false, List, ◌++◌, Option, Some, ℤ, Result, Ok, Err, IfOk, IfErr, sym, subst}
+use Rattle.std.proofs.Common.{◌≡◌, false, List, Option, Some, ℤ, sym, subst}
 use Rattle.otlp_model.specs.declared.request.Signal.{Signal}
 use Rattle.otap_cells.specs.Payload.{kinds_of}
 use Rattle.otap_consume.specs.declared.payload_types.TypesRefusal.{TypesRefusal}
@@ -16,7 +16,7 @@ use Rattle.otap_consume.specs.PayloadTypes.{HasFineTypes, IsDefectOfTypes}
 use Rattle.otap_consume.specs.Records.{TakesPayloads}
 use Rattle.otap_consume.specs.Untaken.{SaysDefect, IsOfRecord, untaken_by_types}
 use Rattle.otap_consume.specs.Streams.{StreamIn, AreAfter, kinds_in}
-use Rattle.otap_consume.specs.Taking.{Weighs, StopsBySize, AcceptsAfter}
+use Rattle.otap_consume.specs.Opening.{OpensAfter, StopsBySize}
 use Rattle.otap_consume.proofs.IdSteps.{ids_are}
 
 -- the words of `check_ids` about ids that are free, and about one that is taken
@@ -41,8 +41,8 @@ pub by_records : (signal : Signal) (past payloads : List PayloadIn) (stop : NotT
 by_records signal past payloads (Defect cause payload) list stands = of_record signal past payloads cause payload list stands
 by_records signal past payloads (Memory e) list stands = tt
 
-by_size : (signal : Signal) (past payloads : List PayloadIn) (stop : NotTaken) → HasFineList signal past payloads → HasFineRecords signal past payloads
-    → StopsBySize signal past payloads stop → SaysDefect (Refuses signal past payloads) stop
+pub by_size : (signal : Signal) (past payloads : List PayloadIn) (stop : NotTaken)
+    → HasFineList signal past payloads → HasFineRecords signal past payloads → StopsBySize signal past payloads stop → SaysDefect (Refuses signal past payloads) stop
 by_size signal past payloads (Defect cause payload) list records stands =
     subst (λ (named : Option ℤ). Refuses signal past payloads cause named) (sym stands.0) (Refuses.by_size cause list records stands.1)
 by_size signal past payloads (Memory e) list records stands = tt
@@ -54,20 +54,6 @@ module _ (signal : Signal) (payloads : List PayloadIn) (old : List StreamIn) (ki
   fine_list past are = record { types = types; ids = free signal past (ids_are signal past old kinds are) }
 
   module _ (new : List StreamIn) (takes : TakesPayloads old payloads new) where
-    pub accepts_if : (r : Result ℕ NotTaken) → IfOk r (λ rows. (past : List PayloadIn) → AreAfter (past ++ payloads) new → Weighs signal past payloads rows)
-        → IfOk r (λ rows. (past : List PayloadIn) → AreAfter past old → AcceptsAfter signal past payloads new rows)
-    accepts_if (Ok rows) weighs = λ past are.
-        let after : AreAfter (past ++ payloads) new = takes.after past are in
-        let w : Weighs signal past payloads rows = weighs past after in
-        record {
-          accepts = record { list = fine_list past are; records = takes.reads signal past kinds are; size = w.within };
-          after = after;
-          rows = w.rows;
-        }
-    accepts_if (Err stop) weighs = tt
-
-    pub refuses_if : (r : Result ℕ NotTaken) → IfErr r (λ stop. (past : List PayloadIn) → AreAfter (past ++ payloads) new → StopsBySize signal past payloads stop)
-        → IfErr r (λ stop. (past : List PayloadIn) → AreAfter past old → SaysDefect (Refuses signal past payloads) stop)
-    refuses_if (Ok rows) stops = tt
-    refuses_if (Err stop) stops = λ past are.
-        by_size signal past payloads stop (fine_list past are) (takes.reads signal past kinds are) (stops past (takes.after past are))
+    -- so is it with their records, and the streams took them
+    pub opens : (past : List PayloadIn) → AreAfter past old → OpensAfter signal past payloads new
+    opens past are = record { list = fine_list past are; records = takes.reads signal past kinds are; after = takes.after past are }

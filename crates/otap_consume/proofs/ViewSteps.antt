@@ -27,7 +27,7 @@ use Rattle.otap_consume.specs.Segments.{SegmentIn, CanShow, TablesOf}
 use Rattle.otap_consume.specs.Sizes.{PastLimit, WithinLimits}
 use Rattle.otap_consume.specs.Streams.{StreamIn, AreAfter, ShowsIf, kinds_in, ShowsLast, ShowsAfter}
 use Rattle.otap_consume.specs.StreamSteps.{held_of}
-use Rattle.otap_consume.specs.Taking.{Weighs}
+use Rattle.otap_consume.specs.Opening.{Weighs}
 use Rattle.otap_consume.specs.Views.{IsViewOf, AreViewsOf, Shown, ShownBy, is_stream_of}
 use Rattle.otap_consume.proofs.IdSteps.{kind_at, count_of}
 use Rattle.otap_consume.proofs.KindNumbers.{HasNumber, has_number}

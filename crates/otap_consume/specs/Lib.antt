@@ -15,6 +15,7 @@ pub mod Sizes
 pub mod Segments
 pub mod SegmentInside
 pub mod Taking
+pub mod Opening
 pub mod LateStages
 pub mod Receiving
 pub mod Receivers

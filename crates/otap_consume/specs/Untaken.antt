@@ -1,7 +1,11 @@
--- The results of the stages, in the words of private contracts.
+-- Why a batch is not taken: the results of the stages that look at it.
 use Rattle.std.specs.Prelude.{◌≡◌, ⊤, ℤ, List, None, Some, Option}
 use Rattle.lists.specs.Payloads.{PayloadIn}
 use Rattle.otlp_model.specs.declared.request.Signal.{Signal}
+use Rattle.otap_attrs.specs.declared.refusal.CheckRefusal.{CheckRefusal}
+use Rattle.otap_attrs.specs.declared.refusal.CheckRefusal.TheVariants as check
+use Rattle.otap_checks.specs.declared.regrouping.RegroupRefusal.{RegroupRefusal}
+use Rattle.otap_checks.specs.declared.regrouping.RegroupRefusal.TheVariants as regroup
 use Rattle.otap_columns.specs.declared.refusal.ColumnRefusal.{ColumnRefusal}
 use Rattle.otap_columns.specs.declared.refusal.ColumnRefusal.TheVariants as refusal
 use Rattle.otap_consume.specs.declared.refusal.Cause.{Cause}
@@ -12,6 +16,7 @@ use Rattle.otap_consume.specs.declared.payload_types.TypesRefusal.TheVariants.{P
 use Rattle.otap_consume.specs.declared.not_taken.NotTaken.{NotTaken}
 use Rattle.otap_consume.specs.declared.not_taken.NotTaken.TheVariants.{Defect, Memory}
 use Rattle.otap_consume.specs.Defects.{IsDefectOfRecord}
+use Rattle.otap_consume.specs.Payloads.{payload_type_of}
 
 -- memory may run out at any time; else there is a defect
 abbrev pub SaysDefect : (Cause → Option ℤ → Type 0) → NotTaken → Type 0
@@ -35,3 +40,11 @@ IsUntakenFor refusal kind stop = stop ≡ Defect (Column refusal) (Some kind)
 abbrev pub untaken_by_types : TypesRefusal → NotTaken
 untaken_by_types (PayloadType kind) = Defect cause.PayloadType (Some kind)
 untaken_by_types (PayloadTwice kind) = Defect cause.PayloadTwice (Some kind)
+
+abbrev pub untaken_by_rows : CheckRefusal → NotTaken
+untaken_by_rows (check.Defect kind why) = Defect (cause.Row why) (Some (payload_type_of kind))
+untaken_by_rows (check.Memory e) = Memory e
+
+abbrev pub untaken_by_regrouping : RegroupRefusal → NotTaken
+untaken_by_regrouping (regroup.Rows refusal) = untaken_by_rows refusal
+untaken_by_regrouping regroup.TooHeavy = Defect cause.TreeTooHeavy None

@@ -5,6 +5,7 @@
 mod ids;
 pub mod laws;
 mod not_taken;
+mod opened;
 mod payload_types;
 mod receiver;
 pub mod receiving_laws;
@@ -18,6 +19,8 @@ mod taken;
 mod taking;
 mod views;
 
+pub use not_taken::NotTaken;
+pub use opened::{Opened, Weighed};
 pub use payload_types::{TypesRefusal, check_types};
 pub use receiver::Receiver;
 pub use refusal::{Cause, MAX_HELD, Refusal};

@@ -10,7 +10,7 @@ use std::alloc::AllocError;
 
 /// Something is wrong with the payloads, or memory ran out.
 #[derive(Debug, Drop)]
-pub(crate) enum NotTaken {
+pub enum NotTaken {
     /// A cause, and the type of the payload that it is in, if it is in one.
     Defect { cause: Cause, payload: Option<i32> },
     /// Memory ran out.
@@ -39,7 +39,7 @@ impl From<TypesRefusal> for NotTaken {
 }
 
 impl From<CheckRefusal> for NotTaken {
-    ghost use Rattle.otap_consume.specs.ReceiverInside.{untaken_by_rows};
+    ghost use Rattle.otap_consume.specs.Untaken.{untaken_by_rows};
 
     ghost from_gives = { λ refusal stop. stop ≡ untaken_by_rows refusal };
 
@@ -52,7 +52,7 @@ impl From<CheckRefusal> for NotTaken {
 }
 
 impl From<RegroupRefusal> for NotTaken {
-    ghost use Rattle.otap_consume.specs.ReceiverInside.{untaken_by_regrouping};
+    ghost use Rattle.otap_consume.specs.Untaken.{untaken_by_regrouping};
 
     ghost from_gives = { λ refusal stop. stop ≡ untaken_by_regrouping refusal };
 

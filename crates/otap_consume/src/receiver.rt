@@ -1,20 +1,22 @@
 //! The receiver of batches.
-ghost use Rattle.std.specs.Prelude.{◌≡◌, true, IfOk, IfErr, OnErr};
+ghost use Rattle.std.specs.Prelude.{◌≡◌, ◌++◌, List, true, IfOk, IfErr, OnErr};
+ghost use Rattle.lists.specs.Payloads.{PayloadIn};
 ghost use Rattle.otap_capture.specs.Capture.{frame_of};
 ghost use Rattle.otap_signals.specs.BySignal.{meaning_by};
 ghost use Rattle.otap_signals.specs.Regroups.{IsLight, IsRegrouped};
 ghost use Rattle.otap_consume.specs.declared.taken.Taken.TheVariants as taken;
 ghost use Rattle.otap_consume.specs.LateStages.{IsDefectOfRows};
-ghost use Rattle.otap_consume.specs.ReceiverInside.{OfLast, RefusesBy, TakesRows};
-ghost use Rattle.otap_consume.specs.Segments.{IsTaken};
+ghost use Rattle.otap_consume.specs.Opening.{IsLateDefect};
+ghost use Rattle.otap_consume.specs.ReceiverInside.{MakesRequest, ReceivesOpened};
+ghost use Rattle.otap_consume.specs.Segments.{CanShow};
+ghost use Rattle.otap_consume.specs.Streams.{AreAfter};
 ghost use Rattle.otap_consume.specs.Untaken.{SaysDefect};
 
 use crate::not_taken::NotTaken;
-use crate::refusal::Refusal;
-use crate::seen::Seen;
+use crate::opened::Opened;
 use crate::segment::Segment;
 use crate::taken::Taken;
-use otap_capture::{Frame, read_batch};
+use otap_capture::{Batch, Frame};
 use otap_cells::TableSet;
 use otap_columns::RowsView;
 use otap_signals::Regrouped;
@@ -59,10 +61,10 @@ impl Receiver {
         ensures memory { OnErr result (self.new.broken ≡ true) }
         ensures signal { self.new.signal ≡ self.old.signal }
     {
-        match self.segment.take(frame)? {
-            Seen::Batch { id, rows } => self.take_rows(frame, id, rows),
-            Seen::Refused(refusal) => Ok(Taken::Refused(refusal)),
-            Seen::Reset => Ok(Taken::Reset),
+        match self.segment.open(frame)? {
+            Opened::Batch(batch) => self.take_batch(&batch),
+            Opened::Refused(refusal) => Ok(Taken::Refused(refusal)),
+            Opened::Reset => Ok(Taken::Reset),
         }
     }
 
@@ -80,39 +82,43 @@ impl Receiver {
         self.segment.is_broken()
     }
 
-    /// Regroups the rows of the batch that the segment took last.
-    fn take_rows(&mut self, frame: &Frame<'_>, id: i64, rows: u64) -> Result<Taken, AllocError>
-        requires { IsTaken (frame_of frame.now) self.old }
-        ensures takes { IfOk result (TakesRows (meaning_by self.old.signal) (frame_of frame.now) id rows self.old self.new) }
+    /// Takes a batch that the segment opened last.
+    fn take_batch(&mut self, batch: &Batch<'_>) -> Result<Taken, AllocError>
+        requires { CanShow self.old.streams batch.now.payloads }
+        ensures takes { IfOk result (ReceivesOpened batch.now self.old self.new) }
         ensures light { IfOk result HasLightRequest }
         ensures memory { OnErr result (self.new.broken ≡ true) }
         ensures signal { self.new.signal ≡ self.old.signal }
     {
-        match regroup_last(self.alloc, &self.segment, frame) {
-            Ok(kept) => Ok(accepted(id, rows, kept)),
-            Err(stop) => {
-                self.segment.refuse();
-                refused(id, stop)
-            }
+        match made_of(self.alloc, &self.segment, batch) {
+            Ok(made) => Ok(accepted(batch, made)),
+            Err(why) => Ok(Taken::Refused(self.segment.refuse_batch(batch, why)?)),
         }
     }
 }
 
-/// The request of the batch that the segment took last.
-fn regroup_last(alloc: Global, segment: &Segment, frame: &Frame<'_>) -> Result<Regrouped, NotTaken>
-    requires { IsTaken (frame_of frame.now) segment.now }
-    ensures regrouped { IfOk result (λ kept. OfLast (frame_of frame.now) segment.now (λ tables. IsRegrouped (meaning_by segment.now.signal) tables kept)) }
-    ensures light { IfOk result IsLight }
-    ensures stops { IfErr result (λ stop. OfLast (frame_of frame.now) segment.now (λ tables. SaysDefect (IsDefectOfRows (meaning_by segment.now.signal) tables) stop)) }
+/// What is made of a batch: its row weight, and its request.
+#[derive(Drop)]
+struct Made {
+    rows: u64,
+    kept: Regrouped,
+}
+
+/// What is made of the batch that the segment opened last.
+fn made_of(alloc: Global, segment: &Segment, batch: &Batch<'_>) -> Result<Made, NotTaken>
+    requires { CanShow segment.now.streams batch.now.payloads }
+    ensures makes { IfOk result (λ made. (past : List PayloadIn) → AreAfter (past ++ batch.now.payloads) segment.now.streams
+        → MakesRequest segment.now.signal past batch.now.payloads made.rows made.kept) }
+    ensures light { IfOk result (λ made. IsLight made.kept) }
+    ensures stops { IfErr result (λ stop. (past : List PayloadIn) → AreAfter (past ++ batch.now.payloads) segment.now.streams
+        → SaysDefect (IsLateDefect segment.now.signal past batch.now.payloads) stop) }
 {
-    let Frame::Message(bytes) = frame else {
-        unreachable!()
-    };
-    let Ok(batch) = read_batch(bytes) else {
-        unreachable!()
-    };
-    let set = segment.tables(alloc, &batch)?;
-    regroup(alloc, segment.signal(), &set)
+    let weighed = segment.weigh(batch)?;
+    let kept = regroup(alloc, segment.signal(), &weighed.tables)?;
+    Ok(Made {
+        rows: weighed.rows,
+        kept,
+    })
 }
 
 /// The request of the tables of a batch.
@@ -129,26 +135,14 @@ fn regroup(
     Ok(kept)
 }
 
-fn accepted(id: i64, rows: u64, kept: Regrouped) -> Taken
-    ensures { result ≡ taken.Accepted id kept.request rows kept.tree }
+fn accepted(batch: &Batch<'_>, made: Made) -> Taken
+    ensures { result ≡ taken.Accepted batch.now.id made.kept.request made.rows made.kept.tree }
 {
-    let Regrouped { request, tree } = kept;
+    let Made { rows, kept } = made;
     Taken::Accepted {
-        id,
-        request,
+        id: batch.id(),
+        request: kept.request,
         rows,
-        tree,
-    }
-}
-
-/// The result where the rows are not taken. Out of memory is passed on.
-fn refused(id: i64, stop: NotTaken) -> Result<Taken, AllocError>
-    ensures { IfOk result (RefusesBy id stop) }
-{
-    match stop {
-        NotTaken::Defect { cause, payload } => {
-            Ok(Taken::Refused(Refusal::new(Some(id), cause, payload)))
-        }
-        NotTaken::Memory(error) => Err(error),
+        tree: kept.tree,
     }
 }

@@ -1,6 +1,6 @@
 //! What the outcomes of a receiver say of the format. The functions do nothing: their contracts are the laws.
 
-ghost use Rattle.std.specs.Prelude.{◌≡◌, ◌<◌, ℕ, ℤ, ◌↔◌, true, false, All, List, Option};
+ghost use Rattle.std.specs.Prelude.{◌≡◌, ◌<◌, ℕ, ℤ, ◌↔◌, true, false, All, List, Option, Some};
 ghost use Rattle.lists.specs.Payloads.{PayloadIn};
 ghost use Rattle.otlp_model.specs.declared.request.Signal.{Signal};
 ghost use Rattle.otap_capture.specs.Batch.{BatchContent};
@@ -11,8 +11,12 @@ ghost use Rattle.otap_signals.specs.BySignal.{meaning_by};
 ghost use Rattle.otap_consume.specs.declared.refusal.Cause.{Cause};
 ghost use Rattle.otap_consume.specs.declared.refusal.Refusal.{Refusal};
 ghost use Rattle.otap_consume.specs.Bytes.{IsOfBytes};
-ghost use Rattle.otap_consume.specs.Outcomes.{stage_of, Outcome, Accepted, Refused, is_broken, payloads_after};
+ghost use Rattle.otap_consume.specs.Defects.{tables_of};
+ghost use Rattle.otap_consume.specs.LateStages.{HasFineRows};
+ghost use Rattle.otap_consume.specs.Opening.{AreWithinLimits, IsLateDefect, LeadsTo, OpensFrame};
+ghost use Rattle.otap_consume.specs.Outcomes.{stage_of, Outcome, Accepted, Refused, is_broken, payloads_after, refused};
 ghost use Rattle.otap_consume.specs.Receiving.{ReceivedAfter, Received, HasDefect, IsInFormat};
+ghost use Rattle.otap_consume.specs.Segments.{SegmentIn, StandsFor};
 
 use otap_checks::laws::row_defects_are_decided;
 
@@ -36,6 +40,22 @@ pub fn refused_by_what_is_wrong()
         → HasDefect (meaning_by signal) past frame a p → HasDefect (meaning_by signal) past frame b q → stage_of a ≡ stage_of b }
     ensures broken { (signal : Signal) (outcomes : List Outcome) (frame : Frame) (refusal : Refusal)
         → ReceivedAfter (meaning_by signal) outcomes frame (Refused refusal) → (refusal.stage ≡ 0) ↔ (is_broken outcomes ≡ true) }
+{}
+
+/// A batch that is opened, and then found to be within the limits with nothing wrong in its rows, is accepted; else it is
+/// refused by what is wrong. The segment stands for one more frame, once it is broken where the batch is refused.
+pub fn opened_leads_to_an_outcome()
+    ensures accepted { (old new : SegmentIn) (outcomes : List Outcome) (frame : Frame) (batch : BatchContent)
+        → OpensFrame old frame batch new → StandsFor old.signal outcomes old
+        → AreWithinLimits old.signal (payloads_after outcomes) batch.payloads
+        → HasFineRows (meaning_by old.signal) (tables_of old.signal (payloads_after outcomes) batch.payloads)
+        → LeadsTo (meaning_by old.signal) outcomes frame
+        (Accepted batch (tables_of old.signal (payloads_after outcomes) batch.payloads)) new }
+    ensures refused { (old opened new : SegmentIn) (outcomes : List Outcome) (frame : Frame) (batch : BatchContent)
+        (cause : Cause) (payload : Option ℤ)
+        → OpensFrame old frame batch opened → StandsFor old.signal outcomes old → new ≡ record opened { broken = true }
+        → IsLateDefect old.signal (payloads_after outcomes) batch.payloads cause payload
+        → LeadsTo (meaning_by old.signal) outcomes frame (refused (Some batch.id) cause payload) new }
 {}
 
 /// Each frame has an outcome after frames with outcomes, and so have all frames, and those of each capture. Messages and

@@ -1,16 +1,20 @@
 //! Segments of captures.
-ghost use Rattle.std.specs.Prelude.{◌≡◌, map, None, Some, IfOk, OnErr, true, false, if◌then◌else◌};
-ghost use Rattle.otap_capture.specs.Capture.{frame_of, Message};
+ghost use Rattle.std.specs.Prelude.{◌≡◌, ◌++◌, List, map, None, Some, IfOk, IfErr, OnErr, true, false, if◌then◌else◌};
+ghost use Rattle.lists.specs.Payloads.{PayloadIn};
+ghost use Rattle.otap_capture.specs.Capture.{Message, frame_of};
 ghost use Rattle.otap_consume.specs.declared.seen.Seen.TheVariants as seen;
+ghost use Rattle.otap_consume.specs.Opening.{IsOverLimit, IsWeighed, Opens, Weighs, refusal_by};
 ghost use Rattle.otap_consume.specs.Outcomes.{refusal_of, unread_cause};
+ghost use Rattle.otap_consume.specs.Streams.{AreAfter};
 ghost use Rattle.otap_consume.specs.StreamSteps.{closed};
-ghost use Rattle.otap_consume.specs.Taking.{IsStopped, NextBatch, ShowsTables};
+ghost use Rattle.otap_consume.specs.Taking.{NextOpened, OpensMessage};
 
 use crate::not_taken::NotTaken;
+use crate::opened::{Opened, Weighed};
 use crate::refusal::{Cause, Refusal};
 use crate::seen::Seen;
 use crate::stream::Stream;
-use crate::taking::take_payloads;
+use crate::taking::{open_payloads, weighed};
 use crate::views::views;
 use otap_capture::{Batch, BatchRefusal, Frame, read_batch};
 use otap_cells::{TableSet, kinds};
@@ -69,13 +73,52 @@ impl Segment {
         ensures memory { OnErr result (self.new.broken ≡ true) }
         ensures signal { self.new.signal ≡ self.old.signal }
     {
+        match self.open(frame)? {
+            Opened::Batch(batch) => self.weigh_batch(&batch),
+            Opened::Refused(refusal) => Ok(Seen::Refused(refusal)),
+            Opened::Reset => Ok(Seen::Reset),
+        }
+    }
+
+    /// Opens the next frame: a batch after those before it, as far as its records, or a reset, which begins a segment. What it
+    /// refuses `take` refuses, and as there a refused frame breaks the segment, and so does running out of memory. The caller
+    /// weighs the batch by [`Segment::weigh`], and looks at its rows; where it isn't taken then,
+    /// [`Segment::refuse_batch`] breaks the segment.
+    pub fn open<'f>(&mut self, frame: &Frame<'f>) -> Result<Opened<'f>, AllocError>
+        ensures opens { IfOk result (Opens self.old (frame_of frame.now) self.new) }
+        ensures memory { OnErr result (self.new.broken ≡ true) }
+        ensures signal { self.new.signal ≡ self.old.signal }
+    {
         match frame {
-            Frame::Message(bytes) => self.take_message(bytes),
-            Frame::Packed => Ok(self.refuse_unread(Cause::Compressed)),
+            Frame::Message(bytes) => self.open_message(bytes),
+            Frame::Packed => Ok(Opened::Refused(self.refuse_unread(Cause::Compressed))),
             Frame::Reset => {
                 self.reset();
-                Ok(Seen::Reset)
+                Ok(Opened::Reset)
             }
+        }
+    }
+
+    /// The tables of the batch that the last call of `open` returned, one for each payload, and their row weight. Where the
+    /// batch exceeds a limit the cause is [`Cause::TooManyItems`], [`Cause::RowsTooHeavy`] or [`Cause::HeldTooMuch`], of no
+    /// one payload.
+    pub fn weigh<'v>(&'v self, batch: &Batch<'v>) -> Result<Weighed<'v>, NotTaken>
+        requires { CanShow self.now.streams batch.now.payloads }
+        ensures weighs { IfOk result (IsWeighed self.now.signal self.now.streams batch.now.payloads) }
+        ensures stops { IfErr result (IsOverLimit self.now.signal self.now.streams batch.now.payloads) }
+    {
+        weighed(self.alloc, self.signal, &self.streams, batch)
+    }
+
+    /// Breaks the segment, as the batch that was opened last is not taken, and returns its refusal. Out of memory is passed on.
+    pub fn refuse_batch(&mut self, batch: &Batch<'_>, why: NotTaken) -> Result<Refusal, AllocError>
+        ensures refusal { result ≡ refusal_by batch.now why }
+        ensures broken { self.new ≡ record self.old { broken = true } }
+    {
+        self.refuse();
+        match why {
+            NotTaken::Defect { cause, payload } => Ok(refused(batch, cause, payload)),
+            NotTaken::Memory(error) => Err(error),
         }
     }
 
@@ -122,43 +165,63 @@ impl Segment {
         self.signal
     }
 
-    fn take_message(&mut self, bytes: &[u8]) -> Result<Seen, AllocError>
-        ensures next { IfOk result (Next self.old (Message bytes.now) self.new) }
-        ensures taken { IfOk result (TakesIf (Message bytes.now) self.new) }
+    fn open_message<'f>(&mut self, bytes: &'f [u8]) -> Result<Opened<'f>, AllocError>
+        ensures opens { IfOk result (Opens self.old (Message bytes.now) self.new) }
         ensures memory { OnErr result (self.new.broken ≡ true) }
         ensures signal { self.new.signal ≡ self.old.signal }
     {
         match read_batch(bytes) {
-            Ok(batch) => self.take_batch(&batch),
-            Err(refusal) => Ok(self.refuse_unread(unread_cause(refusal))),
+            Ok(batch) => self.open_batch(batch),
+            Err(refusal) => Ok(Opened::Refused(self.refuse_unread(unread_cause(refusal)))),
         }
     }
 
-    fn take_batch(&mut self, batch: &Batch<'_>) -> Result<Seen, AllocError>
-        ensures next { IfOk result (NextBatch self.old batch.now self.new) }
-        ensures taken { IfOk result (ShowsTables batch.now.payloads self.new) }
+    fn open_batch<'f>(&mut self, batch: Batch<'f>) -> Result<Opened<'f>, AllocError>
+        ensures opens { IfOk result (OpensMessage self.old batch.entry self.new) }
         ensures memory { OnErr result (self.new.broken ≡ true) }
         ensures signal { self.new.signal ≡ self.old.signal }
     {
         if self.broken {
-            return Ok(refused(batch, Cause::Broken, None));
+            return Ok(Opened::Refused(refused(&batch, Cause::Broken, None)));
         }
-        let taken = take_payloads(self.alloc, self.signal, &mut self.streams, batch);
-        self.broken = taken.is_err();
-        match taken {
-            Ok(rows) => Ok(accepted(batch, rows)),
-            Err(stop) => stopped(batch, stop),
+        match open_payloads(self.alloc, self.signal, &mut self.streams, &batch) {
+            Ok(()) => Ok(Opened::Batch(batch)),
+            Err(why) => Ok(Opened::Refused(self.refuse_batch(&batch, why)?)),
         }
     }
 
+    /// What a batch gives that was opened last.
+    fn weigh_batch(&mut self, batch: &Batch<'_>) -> Result<Seen, AllocError>
+        requires { CanShow self.old.streams batch.now.payloads }
+        ensures next { IfOk result (NextOpened batch.now self.old self.new) }
+        ensures memory { OnErr result (self.new.broken ≡ true) }
+        ensures signal { self.new.signal ≡ self.old.signal }
+    {
+        match self.row_weight(batch) {
+            Ok(rows) => Ok(accepted(batch, rows)),
+            Err(why) => Ok(Seen::Refused(self.refuse_batch(batch, why)?)),
+        }
+    }
+
+    /// The row weight of the batch that was opened last.
+    fn row_weight(&self, batch: &Batch<'_>) -> Result<u64, NotTaken>
+        requires { CanShow self.now.streams batch.now.payloads }
+        ensures weighs { IfOk result (λ rows. (past : List PayloadIn) → AreAfter (past ++ batch.now.payloads) self.now.streams
+            → Weighs self.now.signal past batch.now.payloads rows) }
+        ensures stops { IfErr result (IsOverLimit self.now.signal self.now.streams batch.now.payloads) }
+    {
+        let made = self.weigh(batch)?;
+        Ok(made.rows)
+    }
+
     /// A frame whose message can't be read.
-    fn refuse_unread(&mut self, cause: Cause) -> Seen
-        ensures returned { result ≡ seen.Refused (refusal_of None (if self.old.broken then Broken else cause) None) }
+    fn refuse_unread(&mut self, cause: Cause) -> Refusal
+        ensures returned { result ≡ refusal_of None (if self.old.broken then Broken else cause) None }
         ensures broken { self.new ≡ record self.old { broken = true } }
     {
         let cause = if self.broken { Cause::Broken } else { cause };
         self.refuse();
-        refusal(None, cause, None)
+        Refusal::new(None, cause, None)
     }
 }
 
@@ -169,26 +232,10 @@ fn accepted(batch: &Batch<'_>, rows: u64) -> Seen
     Seen::Batch { id, rows }
 }
 
-fn refused(batch: &Batch<'_>, cause: Cause, payload: Option<i32>) -> Seen
-    ensures { result ≡ seen.Refused (refusal_of (Some batch.now.id) cause payload) }
+fn refused(batch: &Batch<'_>, cause: Cause, payload: Option<i32>) -> Refusal
+    ensures { result ≡ refusal_of (Some batch.now.id) cause payload }
 {
-    refusal(Some(batch.id()), cause, payload)
-}
-
-/// The result where the payloads are not taken. Out of memory is passed on.
-fn stopped(batch: &Batch<'_>, stop: NotTaken) -> Result<Seen, AllocError>
-    ensures { IfOk result (IsStopped stop batch.now) }
-{
-    match stop {
-        NotTaken::Defect { cause, payload } => Ok(refused(batch, cause, payload)),
-        NotTaken::Memory(error) => Err(error),
-    }
-}
-
-fn refusal(id: Option<i64>, cause: Cause, payload: Option<i32>) -> Seen
-    ensures { result ≡ seen.Refused (refusal_of id cause payload) }
-{
-    Seen::Refused(Refusal::new(id, cause, payload))
+    Refusal::new(Some(batch.id()), cause, payload)
 }
 
 fn unread_cause(refusal: BatchRefusal) -> Cause

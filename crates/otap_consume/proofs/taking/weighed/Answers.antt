@@ -5,10 +5,10 @@ use Rattle.otap_consume.specs.Limits.{held_limit}
 use Rattle.otap_consume.specs.declared.not_taken.NotTaken.{NotTaken}
 use Rattle.otap_consume.specs.Defects.{tables_of, held_after}
 use Rattle.otap_consume.specs.StreamSteps.{held_of}
-use Rattle.otap_consume.specs.Taking.{StopsBySize}
+use Rattle.otap_consume.specs.Opening.{StopsBySize}
 use Rattle.otap_consume.proofs.SizeSteps.{held_are}
 use Rattle.otap_consume.proofs.ViewSteps.{too_large, views_tables, weighs}
-use Rattle.otap_consume.proofs.taking.check_sizes.Goals as goal
+use Rattle.otap_consume.proofs.taking.weighed.Goals as goal
 
 pub returns-in-Ok-clause-stops : goal.returns-in-Ok-clause-stops
 returns-in-Ok-clause-stops c = λ past are.
@@ -21,17 +21,25 @@ returns-in-Ok-clause-stops c = λ past are.
     )
 
 pub returns-in-Ok-2-clause-weighs : goal.returns-in-Ok-2-clause-weighs
-returns-in-Ok-2-clause-weighs c = λ past are.
-    weighs c.args.signal past c.args.batch.now.payloads c.args.streams.now c.in_ok-set.set c.in-Ok.field-0 c.requires.kinds are c.requires.shows c.in_ok-set.ensures
-    c.in-Ok.ensures (sym c.hold_too_much.ensures ∙ c.if-hold_too_much.false)
+returns-in-Ok-2-clause-weighs c =
+    let signal = c.args.signal in
+    let payloads = c.args.batch.now.payloads in
+    let streams = c.args.streams.now in
+    let tables = c.in_ok-tables.tables in
+    record {
+      tables = λ past are. views_tables signal past payloads streams tables c.requires.kinds are c.requires.shows c.in_ok-tables.ensures;
+      weighs = λ past are.
+          weighs signal past payloads streams tables c.in-Ok.field-0 c.requires.kinds are c.requires.shows c.in_ok-tables.ensures
+          c.in-Ok.ensures (sym c.hold_too_much.ensures ∙ c.if-hold_too_much.false);
+    }
 
 pub returns-clause-stops : goal.returns-clause-stops
 returns-clause-stops c = λ past are.
     let payloads = c.args.batch.now.payloads in
-    let views = c.in_ok-set.set in
+    let views = c.in_ok-tables.tables in
     let P : NotTaken → Type 0 = StopsBySize c.args.signal past payloads in
     subst P (sym c.of_size-in-Err.ensures) (
       refl,
       too_large c.args.signal views (tables_of c.args.signal past payloads) (held_after c.args.signal (past ++ payloads)) c.in-Err.cause
-          (views_tables c.args.signal past payloads c.args.streams.now views c.requires.kinds are c.requires.shows c.in_ok-set.ensures) c.in-Err.ensures,
+          (views_tables c.args.signal past payloads c.args.streams.now views c.requires.kinds are c.requires.shows c.in_ok-tables.ensures) c.in-Err.ensures,
     )
