@@ -10,11 +10,16 @@ captures that are longer than 1,000 bytes, and those around the ends of frames.
 For `decode`, `replay`, `schema` and `show` the text of the whole capture was made by an independent program; `tidy` writes
 its requests as they stand. For `encode` and `status` the program's own output for the whole capture is taken.
 
+`resend` says a line at the end too: what it writes is compared with what the program writes for the whole frames alone, and
+the damage stands before that line.
+
 It prints each job with the number of cuts tried and of wrong ones, and the status is 1 where one was wrong."""
 
 import os
 import subprocess
 import sys
+
+from small_runs import events
 
 EXAMPLES = os.path.join(os.path.dirname(os.path.abspath(__file__)), "..", "examples")
 # What `list` writes for a batch of one payload, a reset, and the batch again.
@@ -46,21 +51,44 @@ def line_ends(text):
     return places + [len(text)]
 
 
-def wrong_cuts(program, words, capture, written, parts, step):
-    """The cuts of a capture for which a job writes or says something else than is to be."""
-    begins, wrong, tried = ends(capture), [], 0
-    assert len(parts) == len(begins), (words, len(parts), len(begins))
+def cuts(capture, begins, step):
+    """The cuts of a capture that are tried: each with the number of its whole frames, and the line of its damage, if any."""
     for cut in range(len(capture) + 1):
         near = min(abs(cut - place) for place in begins) <= 6
         if len(capture) > 1000 and cut % step and not near:
             continue
         whole = max(n for n, place in enumerate(begins) if place <= cut)
-        said, status = (b"", 0) if begins[whole] == cut else (b"damage at %d: Truncated\n" % begins[whole], 5)
-        tried += 1
-        if run(program, words, capture[:cut]) != (written[: parts[whole]], said, status):
-            wrong.append(cut)
+        yield cut, whole, b"" if begins[whole] == cut else b"damage at %d: Truncated\n" % begins[whole]
+
+
+def told(words, tried, wrong):
     print(f"{' '.join(words)}: {tried} cuts, {len(wrong)} wrong {wrong[:5] if wrong else ''}".rstrip())
     return len(wrong)
+
+
+def wrong_cuts(program, words, capture, written, parts, step):
+    """The cuts of a capture for which a job writes or says something else than is to be."""
+    begins, wrong, tried = ends(capture), [], 0
+    assert len(parts) == len(begins), (words, len(parts), len(begins))
+    for cut, whole, damage in cuts(capture, begins, step):
+        tried += 1
+        if run(program, words, capture[:cut]) != (written[: parts[whole]], damage, 5 if damage else 0):
+            wrong.append(cut)
+    return told(words, tried, wrong)
+
+
+def wrong_cuts_with_an_end(program, words, capture, step):
+    """The same of a job that says a line at the end, which stands behind the damage."""
+    begins, wrong, tried = ends(capture), [], 0
+    frames = [run(program, words, capture[:place]) for place in begins]
+    for cut, whole, damage in cuts(capture, begins, step):
+        out, err, status = frames[whole]
+        lines = err.splitlines(keepends=True)
+        lines.insert(len(lines) - 1, damage)
+        tried += 1
+        if run(program, words, capture[:cut]) != (out, b"".join(lines), 5 if damage else status):
+            wrong.append(cut)
+    return told(words, tried, wrong)
 
 
 def of_signal(program, signal, step):
@@ -77,6 +105,7 @@ def of_signal(program, signal, step):
         if os.path.exists(f"{place}.{job}"):
             text = read(f"{place}.{job}")
             wrong += wrong_cuts(program, [job, signal], batches, text, line_ends(text), step)
+    wrong += wrong_cuts_with_an_end(program, ["resend", signal, "8"], events(requests), step)
     return wrong
 
 

@@ -1,6 +1,6 @@
 #!/usr/bin/env python3
-"""Runs `encode logs` on requests that are as large as the profile takes, and on requests one larger, and then `decode logs`,
-`replay logs` and `schema logs` on the batches.
+"""Runs `encode logs` and `resend logs 1` on requests that are as large as the profile takes, and on requests one larger, and
+then `decode logs`, `replay logs` and `schema logs` on the batches.
 
     tools/largest_requests.py [PROGRAM [REFERENCE...]]
 
@@ -83,8 +83,8 @@ def value_cases():
         yield Case(f"a value of {size} bytes", pairs(texts), 1, 32 + weight_of(texts), RECORD + weight_of(texts), form)
 
 
-def answer(command, job, capture):
-    run = subprocess.run([*command, job, "logs"], input=capture, capture_output=True, check=False)
+def answer(command, job, capture, *more):
+    run = subprocess.run([*command, job, "logs", *more], input=capture, capture_output=True, check=False)
     return run.stdout, run.stderr, run.returncode
 
 
@@ -101,11 +101,15 @@ def is_read(case, command, batch):
 
 
 def right(case, program, reference):
+    """Whether both jobs send the request, or refuse it. `resend` says at its end what became of it."""
     made = answer([program], "encode", frame(case.request))
+    sent = answer([program], "resend", frame(field(1, case.request)), "1")
     if case.refusal:
-        return made == (b"", f"frame 0: request refused: {case.refusal}\n".encode(), 1)
+        line = f"frame 0: request refused: {case.refusal}\n".encode()
+        return made == (b"", line, 1) and sent == (b"", line + b"sent 0 done 0 given up 0 open 0\n", 1)
     ends = [[program], reference] if reference else [[program]]
-    return made[1:] == (b"", 0) and all(is_read(case, end, made[0]) for end in ends)
+    fine = made[1:] == (b"", 0) and sent[1:] == (b"sent 1 done 0 given up 0 open 1\n", 0)
+    return fine and all(is_read(case, end, batch) for end in ends for batch in {made[0], sent[0]})
 
 
 def main(program, reference):

@@ -7,6 +7,8 @@ import subprocess
 import tempfile
 from typing import NamedTuple
 
+from at_the_limits import field, frame
+
 EXAMPLES = os.path.join(os.path.dirname(os.path.abspath(__file__)), "..", "examples")
 REQUESTS = {"logs": "pairs_pause", "traces": "row_events_pause", "metrics": "row_points_pause"}
 READERS = ("schema", "show", "decode", "status", "replay")
@@ -68,16 +70,31 @@ def refused_once(frames):
     return frames + PACKED + frames + RESET + frames
 
 
+def events(capture):
+    """The requests of a capture as events for `resend`: two that are open, a status that ends the first, and all others."""
+    sent = [frame(field(1, capture[begin + 5 : end])) for begin, end in zip(ends(capture), ends(capture)[1:])]
+    return b"".join(sent[:2]) + frame(field(2, b"")) + b"".join(sent[2:])
+
+
 def jobs(program):
     """Each job of each signal over a capture, of which a frame is refused."""
     found = []
     for name, requests in REQUESTS.items():
         with open(os.path.join(EXAMPLES, "transits", name, requests + ".capture"), "rb") as file:
-            requests = refused_once(file.read())
+            sent = file.read()
+        requests = refused_once(sent)
         batches = refused_once(run(program, Job(["encode", name], requests)).out)
         found += [Job(["tidy", name], requests), Job(["encode", name], requests), Job(["list"], batches)]
         found += [Job([job, name], batches) for job in READERS]
+        found += [Job(["resend", name, "2"], refused_once(events(sent)))]
     return found
+
+
+def before_the_end(job, done):
+    """Of what a job says on frames, the part that it doesn't put off until it knows that they end."""
+    if job.words[0] == "resend":
+        return done._replace(err=b"".join(done.err.splitlines(keepends=True)[:-1]))
+    return done
 
 
 def jobs_without_capture():
