@@ -3,8 +3,8 @@
 
     edge/test/readme.py OTAP
 
-A block that begins with ```sh is run, in the order of the page, in one folder that holds examples/ of the repository; OTAP
-is the built command, which is put on the path. The block after it, where it begins with ```text, is what the commands print
+A block that begins with ```sh is run, in the order of the page, in one folder that holds examples/ and crates/ of the
+repository, where the program has been built; OTAP is the built command, which is put on the path. The block after it, where it begins with ```text, is what the commands print
 on standard output and standard error together; ```text begins means that they print that first. Where no such block follows,
 what they print isn't compared. All must end with status 0 or 1, and with 0 where nothing is shown. A block without a word
 after its ``` isn't run: what builds the program, and what that prints; no command of otap may stand there.
@@ -56,7 +56,8 @@ def main():
     page = blocks((REPOSITORY / "README.md").read_text())
     failed = ran = 0
     with tempfile.TemporaryDirectory(prefix="readme_") as folder:
-        (Path(folder) / "examples").symlink_to(REPOSITORY / "examples")
+        for name in ("examples", "crates"):
+            (Path(folder) / name).symlink_to(REPOSITORY / name)
         for i, (line, words, text) in enumerate(page):
             if words == "" and any(it.startswith("otap ") for it in text.splitlines()):
                 print(f"README.md:{line}: commands of otap that aren't run: begin their block with ```sh")
