@@ -6,6 +6,7 @@ import (
 	"context"
 	"crypto/sha256"
 	"encoding/hex"
+	"errors"
 	"fmt"
 	"io"
 	"os"
@@ -18,8 +19,8 @@ import (
 )
 
 // standIn is set where this test's executable is to be the program: it answers as the program's jobs do, by the first byte
-// of each message: o for a frame, r for a refusal, e for an end, k for an end in the middle of a frame, h for no answer and
-// no end.
+// of each message: o for a frame, t for three, r for a refusal, e for an end, k for an end in the middle of a frame, h for no
+// answer and no end.
 const standIn = "FINAVOLUTH_STAND_IN"
 
 func TestMain(m *testing.M) {
@@ -59,6 +60,10 @@ func answer(job string, in io.Reader, out, err io.Writer) int {
 			if kind == 'r' {
 				fmt.Fprintf(err, "frame %d: batch 1 refused: stage 1 BadMessage payload -\n", n)
 			}
+		case kind == 't':
+			put(out, frame)
+			put(out, frame)
+			put(out, frame)
 		case kind == 'r':
 			fmt.Fprintf(err, "frame %d: request refused: BadMessage\n", n)
 		default:
@@ -151,6 +156,38 @@ func TestWithin(t *testing.T) {
 	}
 	if _, err := c.Within(10 * time.Millisecond).Send(capture.Message([]byte("h"))); err == nil || err.Error() != "otap_cli encode ended with signal: killed" {
 		t.Errorf("no answer: %v", err)
+	}
+}
+
+func TestCollect(t *testing.T) {
+	c := ask(t, "resend").Within(time.Minute)
+	for _, text := range []string{"o", "t", "o"} {
+		if text == "o" {
+			if answer, err := c.Send(capture.Message([]byte(text))); err != nil || string(answer.Frame.Payload) != text {
+				t.Errorf("%+v, %v", answer, err)
+			}
+			continue
+		}
+		got := ""
+		err := c.Collect(capture.Message([]byte(text)), 3, func(a Answer) error {
+			got += string(a.Frame.Payload)
+			return nil
+		})
+		if err != nil || got != "ttt" {
+			t.Errorf("%q, %v", got, err)
+		}
+	}
+	untaken := errors.New("not taken")
+	if err := c.Collect(capture.Message([]byte("t")), 3, func(Answer) error { return untaken }); err != untaken {
+		t.Errorf("what isn't taken: %v", err)
+	}
+	if err := c.Close(); err != nil {
+		t.Error(err)
+	}
+	c = ask(t, "resend").Within(10 * time.Millisecond)
+	err := c.Collect(capture.Message([]byte("o")), 2, func(Answer) error { return nil })
+	if err == nil || err.Error() != "otap_cli resend ended with signal: killed" {
+		t.Errorf("one answer of two: %v", err)
 	}
 }
 

@@ -53,7 +53,7 @@ type Said struct {
 const unheard = 3
 
 // Ask begins a run for a lock-step. The jobs are those that answer each frame by one frame (encode, decode, tidy, status)
-// or by one line (list, replay).
+// or by one line (list, replay), and resend, whose reset is answered by several frames (Collect).
 func (p *Program) Ask(ctx context.Context, words ...string) (*Conversation, error) {
 	if len(words) == 0 {
 		return nil, errors.New("no job to ask for")
@@ -165,6 +165,28 @@ func (c *Conversation) Put(f capture.Frame) error {
 	}
 	if err := c.frames.Flush(); err != nil {
 		return c.broken(err)
+	}
+	return nil
+}
+
+// Collect hands the program one frame that has so many answers, and each of these on as it comes. Where one isn't taken, it
+// is done at once, and the conversation is of no more use.
+func (c *Conversation) Collect(f capture.Frame, answers int, take func(Answer) error) error {
+	if err := c.Put(f); err != nil {
+		return err
+	}
+	defer c.late.Stop()
+	for ; answers > 0; answers-- {
+		if c.limit > 0 {
+			c.late.Reset(c.limit)
+		}
+		answer, err := c.Answer(<-c.said)
+		if err != nil {
+			return err
+		}
+		if err := take(answer); err != nil {
+			return err
+		}
 	}
 	return nil
 }
