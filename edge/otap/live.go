@@ -10,6 +10,7 @@ import (
 
 	"finavoluth/edge/internal/command"
 	"finavoluth/edge/internal/live"
+	"finavoluth/edge/internal/live/near"
 	"finavoluth/edge/internal/live/pcap"
 	"finavoluth/edge/internal/live/record"
 	"finavoluth/edge/internal/signal"
@@ -45,7 +46,8 @@ func nearCommand(env *command.Env) *cobra.Command {
 		Short: "Take OTLP from Collectors, and send it as OTAP to a far end",
 		Long: `near serves OTLP over gRPC. It has the program encode each request, sends the batches over OTel-Arrow's streams to
 --to, and acknowledges a request once its batch was. A request that isn't acknowledged when a stream or a child ends is
-answered with Unavailable, and is the sender's to send again.`,
+answered with Unavailable, and is the sender's to send again. With --resend the program keeps it when a stream ends, and
+near sends it again on the next one, as long as its sender waits.`,
 		Example:               `  otap near --to 127.0.0.1:4320`,
 		Args:                  cobra.NoArgs,
 		DisableFlagsInUseLine: true,
@@ -57,6 +59,7 @@ answered with Unavailable, and is the sender's to send again.`,
 	flags.IntVar(&o.Window, "window", 64, "have at most `N` batches of a stream unanswered")
 	flags.DurationVar(&o.Timeout, "timeout", 30*time.Second, "how long a request may take to be acknowledged")
 	flags.DurationVar(&o.Lifetime, "max-stream-lifetime", 0, "replace a stream after so long; 0 never does")
+	flags.BoolVar(&o.Resend, "resend", false, "send requests again when a stream ends; --window is at most 64 then")
 	flags.IntVar(&o.MaxBatch, "max-batch", 64*mebibyte, "refuse a request whose batch has more `BYTES`: the far end's --max-message")
 	cmd.RunE = func(cmd *cobra.Command, _ []string) error {
 		if err := positive(map[string]int{"streams": o.Streams, "window": o.Window, "max-batch": o.MaxBatch}); err != nil {
@@ -64,6 +67,9 @@ answered with Unavailable, and is the sender's to send again.`,
 		}
 		if o.To.Address == "" {
 			return command.Misuse("near wants --to HOST:PORT, the far end")
+		}
+		if o.Resend && o.Window > near.MostResent {
+			return command.Misuse("--window %d: with --resend it is at most %d", o.Window, near.MostResent)
 		}
 		program, err := env.Program()
 		if err != nil {

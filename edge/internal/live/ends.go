@@ -21,6 +21,8 @@ type NearOptions struct {
 	Streams, Window int
 	Lifetime        time.Duration
 	MaxBatch        int
+	// Resend keeps requests over the end of a stream, and sends them again.
+	Resend bool
 }
 
 // Near runs a near end until the context ends.
@@ -37,10 +39,14 @@ func Near(ctx context.Context, program *child.Program, o NearOptions) error {
 		}
 		signals = append(signals, s)
 	}
+	encoders := near.Encode(program, o.Timeout)
+	if o.Resend {
+		encoders = near.Resend(program, o.Window, o.Timeout)
+	}
 	shareProcessors()
 	n, err := near.Open(near.Config{
 		Signals: signals, Streams: o.Streams, Window: o.Window, Timeout: o.Timeout, Lifetime: o.Lifetime, MaxBatch: o.MaxBatch,
-		Messages: e.limits(), Start: near.Encode(program, o.Timeout), Connect: o.To.Connect, Log: e.log, Metrics: e.metrics,
+		Resend: o.Resend, Messages: e.limits(), Start: encoders, Connect: o.To.Connect, Log: e.log, Metrics: e.metrics,
 		Up: func(s signal.Signal, up bool) { e.server.Serving(wire.Service{Signal: s}.Name(), up) },
 	})
 	if err != nil {

@@ -49,6 +49,7 @@ var table = []metrics.Metric{
 	{Name: "otap_request_bytes_total", Kind: metrics.Counter, Help: "Bytes of OTLP requests that came.", Labels: []string{"signal"}},
 	{Name: "otap_batches_total", Kind: metrics.Counter, Help: "Batches that were sent (near) or came (far).", Labels: []string{"signal"}},
 	{Name: "otap_batch_bytes_total", Kind: metrics.Counter, Help: "Bytes of these batches.", Labels: []string{"signal"}},
+	{Name: "otap_resent_total", Kind: metrics.Counter, Help: "Batches of requests that were sent again on a new stream.", Labels: []string{"signal"}},
 	{Name: "otap_statuses_total", Kind: metrics.Counter, Help: "Statuses of batches, by code.", Labels: []string{"signal", "code"}},
 	{Name: "otap_refused_total", Kind: metrics.Counter, Help: "Requests or batches that the program refused, by cause.", Labels: []string{"signal", "cause"}},
 	{Name: "otap_streams_open", Kind: metrics.Gauge, Help: "OTel-Arrow streams that are open.", Labels: []string{"signal"}},

@@ -13,8 +13,7 @@ import (
 	"google.golang.org/grpc/codes"
 )
 
-// An Encoder is a conversation with the program. The one there is runs `encode`; one that keeps open requests over a
-// reset would be another.
+// An Encoder is a conversation with the program, which runs `encode`, or `resend` (a Resender).
 type Encoder interface {
 	// Ask has a request encoded, once the one before is answered.
 	Ask(request []byte) error

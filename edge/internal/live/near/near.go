@@ -3,7 +3,8 @@
 //
 // It trusts the program for all that is in a request or a batch; of a batch it reads the id alone. It holds nothing
 // back: what isn't acknowledged when a stream or a child ends is answered with Unavailable, and whoever sent it has to
-// send it again.
+// send it again. Where the program keeps the requests (`resend`), a stream's end leaves them open: they are sent again on
+// the next stream, as long as somebody waits for them.
 package near
 
 import (
@@ -37,6 +38,8 @@ type Config struct {
 	// MaxBatch is how long a batch may be for the far end to take it.
 	MaxBatch int
 	Messages wire.Limits
+	// Resend says that the encoder keeps its requests, so that it goes on with the next stream.
+	Resend bool
 	// Start begins a conversation for a signal.
 	Start func(context.Context, signal.Signal) (Encoder, error)
 	// Connect makes a connection to the far end.
@@ -60,8 +63,15 @@ type Near struct {
 type pool struct {
 	signal signal.Signal
 	queue  chan *request
-	// open is how many of the streams are open.
+	// open is how many of the streams are open, and last when one of them ended last: a time.Time, once one did.
 	open int64
+	last atomic.Value
+}
+
+// lately says whether a stream of the signal was open within this time.
+func (p *pool) lately(within time.Duration) bool {
+	last, ended := p.last.Load().(time.Time)
+	return ended && time.Since(last) < within
 }
 
 // A request waits for its answer. Its stream's owner settles it exactly once.
@@ -69,6 +79,9 @@ type request struct {
 	ctx     context.Context
 	message wire.Message
 	answer  chan *status.Status
+	// number is that of the request among those that became batches, and batch the id of its batch on its stream.
+	number uint64
+	batch  int64
 }
 
 func (r *request) settle(code codes.Code, text string) {
@@ -178,6 +191,9 @@ func (n *Near) late(call grpc.ServerStream, what string) error {
 }
 
 func (p *pool) opened(config Config, by int64) {
+	if by < 0 {
+		p.last.Store(time.Now())
+	}
 	now := atomic.AddInt64(&p.open, by)
 	config.Metrics.Add("otap_streams_open", float64(by), p.signal.String())
 	if config.Up != nil && (now == 0 || now == 1 && by > 0) {

@@ -24,6 +24,8 @@ type owner struct {
 	pool   *pool
 	number int
 	conn   *grpc.ClientConn
+	// session is the one that goes on, between streams; nil where there is none, or the child doesn't keep its requests.
+	session *session
 }
 
 const (
@@ -35,6 +37,7 @@ const (
 
 // run opens a stream whenever there is none, until the context ends.
 func (o *owner) run(ctx context.Context) {
+	defer o.quit()
 	pause := firstPause
 	for ctx.Err() == nil {
 		answered, err := o.live(ctx)
@@ -55,13 +58,22 @@ func (o *owner) run(ctx context.Context) {
 	}
 }
 
-// rest waits before the next try. Where no other stream of the signal is open, it answers those who ask meanwhile.
+// quit ends the session that there is when the near end stops.
+func (o *owner) quit() {
+	if o.session != nil {
+		o.session.giveUp("the near end stops")
+		o.session.child.Close()
+	}
+}
+
+// rest waits before the next try. Where no other stream of the signal is open, it answers those who ask meanwhile; but where
+// requests are sent again, they wait too, until none was open for as long as a request may take.
 func (o *owner) rest(ctx context.Context, pause time.Duration, why error) {
 	timer := time.NewTimer(pause/2 + time.Duration(rand.Int63n(int64(pause))))
 	defer timer.Stop()
 	for {
 		queue := o.pool.queue
-		if atomic.LoadInt64(&o.pool.open) > 0 {
+		if atomic.LoadInt64(&o.pool.open) > 0 || o.config.Resend && o.pool.lately(o.config.Timeout) {
 			queue = nil
 		}
 		select {
@@ -78,13 +90,9 @@ func (o *owner) rest(ctx context.Context, pause time.Duration, why error) {
 // A life is that of one stream.
 type life struct {
 	*owner
-	child Encoder
-	call  grpc.ClientStream
-	// asked is the request that the child has; nil where it has none.
-	asked *request
-	// open has the requests whose batches are sent, by batch id.
-	open map[int64]*request
-	// answered says that a status came.
+	*session
+	call grpc.ClientStream
+	// answered says that a status came; where requests are sent again, one that ended a request.
 	answered bool
 	// leaving says that no more batches are sent, as the stream is to be replaced.
 	leaving bool
@@ -111,19 +119,17 @@ func (o *owner) live(stop context.Context) (answered bool, err error) {
 		}
 	}()
 	s := o.pool.signal.String()
-	encoder, err := o.config.Start(ctx, o.pool.signal)
+	now, err := o.begin(ctx)
 	if err != nil {
 		return false, err
 	}
-	o.config.Metrics.Add("otap_children_started_total", 1, "encode")
-	defer encoder.Close()
+	defer o.done(now)
 	call, err := o.conn.NewStream(ctx, &grpc.StreamDesc{ClientStreams: true, ServerStreams: true},
 		wire.Service{Signal: o.pool.signal, Arrow: true}.Method())
 	if err != nil {
 		return false, err
 	}
-	l := &life{owner: o, child: encoder, call: call, open: map[int64]*request{}, heard: make(chan heard, o.config.Window+1),
-		silent: time.NewTimer(o.config.Timeout)}
+	l := &life{owner: o, session: now, call: call, heard: make(chan heard, o.config.Window+1), silent: time.NewTimer(o.config.Timeout)}
 	defer l.silent.Stop()
 	go l.listen(ctx)
 	o.config.Metrics.Add("otap_streams_started_total", 1, s)
@@ -132,8 +138,41 @@ func (o *owner) live(stop context.Context) (answered bool, err error) {
 	err = l.serve(stop)
 	o.pool.opened(o.config, -1)
 	o.config.Metrics.Add("otap_streams_ended_total", 1, s, status.Code(err).String())
-	l.giveUp(err)
+	switch {
+	case l.again != nil && !l.lost:
+		l.part()
+	case err != nil:
+		l.giveUp("the stream to the far end ended: " + reason(err))
+	}
 	return l.answered, err
+}
+
+// begin is the session of the next stream: the one that goes on, or one with a child of its own. A child that goes on has no
+// end with its first stream.
+func (o *owner) begin(ctx context.Context) (*session, error) {
+	if o.session != nil {
+		return o.session, nil
+	}
+	if o.config.Resend {
+		ctx = context.Background()
+	}
+	child, err := o.config.Start(ctx, o.pool.signal)
+	if err != nil {
+		return nil, err
+	}
+	now := newSession(child)
+	o.config.Metrics.Add("otap_children_started_total", 1, now.job())
+	return now, nil
+}
+
+// done closes the child, unless it goes on.
+func (o *owner) done(now *session) {
+	o.session = nil
+	if now.again != nil && !now.lost {
+		o.session = now
+		return
+	}
+	now.child.Close()
 }
 
 // listen hands on what the far end sends.
@@ -156,20 +195,6 @@ func (l *life) listen(ctx context.Context) {
 	}
 }
 
-// giveUp settles what a stream leaves behind that doesn't end in order.
-func (l *life) giveUp(err error) {
-	if err == nil {
-		return
-	}
-	text := "the stream to the far end ended: " + reason(err)
-	if l.asked != nil {
-		l.asked.settle(codes.Unavailable, text)
-	}
-	for _, r := range l.open {
-		r.settle(codes.Unavailable, text)
-	}
-}
-
 func (l *life) serve(stop context.Context) error {
 	var lived <-chan time.Time
 	if l.config.Lifetime > 0 {
@@ -177,20 +202,31 @@ func (l *life) serve(stop context.Context) error {
 		defer timer.Stop()
 		lived = timer.C
 	}
+	if l.again != nil {
+		if err := l.resume(); err != nil {
+			return err
+		}
+	}
 	for {
 		if l.leaving && l.asked == nil {
 			l.call.CloseSend() // the far end answers the batches that are open, and then ends the call
 			if len(l.open) == 0 {
 				l.why(nil)
+				if len(l.kept) > 0 {
+					return errKept
+				}
 				return nil
 			}
 		}
-		var err error
+		err := l.tell()
+		if err != nil {
+			return err
+		}
 		select {
 		case r := <-l.queue():
 			err = l.ask(r)
 		case said := <-l.child.Said():
-			err = l.encoded(said)
+			err = l.said(said, l.pass)
 		case h := <-l.heard:
 			err = l.answer(h)
 		case <-lived:
@@ -201,7 +237,7 @@ func (l *life) serve(stop context.Context) error {
 			}
 			l.silent.Reset(l.config.Timeout)
 		case <-stop.Done():
-			if l.asked != nil || len(l.open) > 0 {
+			if l.asked != nil || len(l.open) > 0 || len(l.kept) > 0 {
 				return errors.New("the near end stops")
 			}
 			l.leaving = true
@@ -214,7 +250,7 @@ func (l *life) serve(stop context.Context) error {
 
 // queue is where the next request comes from, while the child has none and the window has room for one.
 func (l *life) queue() <-chan *request {
-	if l.asked != nil || l.leaving || len(l.open) >= l.config.Window {
+	if l.busy() || l.leaving || l.held() >= l.config.Window {
 		return nil
 	}
 	return l.pool.queue
@@ -239,27 +275,36 @@ func (l *life) ask(r *request) error {
 	err := l.child.Ask(r.message.Bytes)
 	r.message.Bytes = nil
 	if err != nil {
-		return l.lost(r, err)
+		return l.lostChild(r, err)
 	}
 	l.asked = r
 	return nil
 }
 
-func (l *life) lost(r *request, err error) error {
-	l.config.Metrics.Add("otap_children_lost_total", 1, "encode")
+// lostChild gives up a child that ended, or answered what it mustn't. The request that it had, if any, is settled.
+func (l *life) lostChild(r *request, err error) error {
+	l.lost = true
+	l.config.Metrics.Add("otap_children_lost_total", 1, l.job())
 	if r != nil {
 		r.settle(codes.Unavailable, "the encoding child ended: "+err.Error())
 	}
 	return fmt.Errorf("the encoding child ended: %w", err)
 }
 
-// encoded sends the batch of the request that the child had. An error ends the stream.
-func (l *life) encoded(said child.Said) error {
+// said hears the child, of a status or of the request that it had, whose batch is passed on. An error ends the stream.
+func (l *life) said(said child.Said, pass func(*request, []byte) error) error {
+	if l.telling {
+		l.telling = false
+		if err := l.again.Told(said); err != nil {
+			return l.lostChild(nil, err)
+		}
+		return nil
+	}
 	r, s := l.asked, l.pool.signal.String()
 	l.asked = nil
 	batch, cause, err := l.child.Answer(said)
 	if err != nil {
-		return l.lost(r, err)
+		return l.lostChild(r, err)
 	}
 	if r == nil {
 		return errors.New("the encoding child answered what it wasn't asked")
@@ -269,27 +314,32 @@ func (l *life) encoded(said child.Said) error {
 		r.settle(refusal(cause), "refused: "+cause)
 		return nil
 	}
-	if len(batch) > l.config.MaxBatch {
-		// The batch won't be sent, and those after it build on it, so they go on a new stream with a new child.
-		l.config.Metrics.Add("otap_refused_total", 1, s, "MaxBatch")
-		r.settle(codes.ResourceExhausted, fmt.Sprintf("its batch has %d bytes, above the %d of --max-batch", len(batch), l.config.MaxBatch))
-		l.leaving = true
-		return nil
+	if err := l.identify(r, batch); err != nil {
+		return l.lostChild(r, err)
 	}
-	return l.send(r, batch)
+	r.number = l.numbers
+	l.numbers++
+	return pass(r, batch)
 }
 
-// send sends a batch, which is open from then on. The child gets the next request first, so that it works meanwhile.
-func (l *life) send(r *request, batch []byte) error {
+// identify reads the id of a request's batch.
+func (l *life) identify(r *request, batch []byte) error {
 	id, err := wire.BatchID(batch)
 	if err != nil || l.open[id] != nil {
-		r.settle(codes.Unavailable, "the encoding child wrote a batch without an id of its own")
-		return fmt.Errorf("a batch of encode: id %d, open already: %v, %v", id, l.open[id] != nil, err)
+		return fmt.Errorf("it wrote a batch without an id of its own: id %d, open already: %v, %v", id, l.open[id] != nil, err)
 	}
-	if len(l.open) == 0 {
-		restart(l.silent, l.config.Timeout)
+	r.batch = id
+	return nil
+}
+
+// pass sends a batch. The child gets what comes next first, so that it works meanwhile.
+func (l *life) pass(r *request, batch []byte) error {
+	if !l.opens(r, batch) {
+		return nil
 	}
-	l.open[id] = r
+	if err := l.tell(); err != nil {
+		return err
+	}
 	select {
 	case next := <-l.queue():
 		if err := l.ask(next); err != nil {
@@ -297,6 +347,27 @@ func (l *life) send(r *request, batch []byte) error {
 		}
 	default:
 	}
+	return l.send(batch)
+}
+
+// opens says whether the far end takes the batch, which is open from then on.
+func (l *life) opens(r *request, batch []byte) bool {
+	if len(batch) > l.config.MaxBatch {
+		// The batch won't be sent, and those after it build on it, so they go on a new stream.
+		l.config.Metrics.Add("otap_refused_total", 1, l.pool.signal.String(), "MaxBatch")
+		r.settle(codes.ResourceExhausted, fmt.Sprintf("its batch has %d bytes, above the %d of --max-batch", len(batch), l.config.MaxBatch))
+		l.end(r.batch, false)
+		l.leaving = true
+		return false
+	}
+	if len(l.open) == 0 {
+		restart(l.silent, l.config.Timeout)
+	}
+	l.open[r.batch] = r
+	return true
+}
+
+func (l *life) send(batch []byte) error {
 	s := l.pool.signal.String()
 	l.config.Metrics.Add("otap_batches_total", 1, s)
 	l.config.Metrics.Add("otap_batch_bytes_total", float64(len(batch)), s)
@@ -312,7 +383,6 @@ func (l *life) answer(h heard) error {
 		return h.err
 	}
 	s := h.status
-	l.answered = true
 	restart(l.silent, l.config.Timeout)
 	l.config.Metrics.Add("otap_statuses_total", 1, l.pool.signal.String(), s.Code.String())
 	r := l.open[s.ID]
@@ -324,7 +394,7 @@ func (l *life) answer(h heard) error {
 	if s.Code > codes.Unauthenticated {
 		s.Code = codes.Unknown
 	}
-	r.settle(s.Code, s.Message)
+	l.verdict(r, s)
 	return nil
 }
 
