@@ -19,11 +19,12 @@ import (
 )
 
 // A relay has one address, and connects whoever comes to a target that may change, so that what is restarted on another
-// port is found again.
+// port is found again. Its connections can be cut.
 type relay struct {
 	listener net.Listener
 	mu       sync.Mutex
 	target   string
+	passing  map[net.Conn]bool
 }
 
 func newRelay(t *testing.T) *relay {
@@ -31,7 +32,7 @@ func newRelay(t *testing.T) *relay {
 	if err != nil {
 		t.Fatal(err)
 	}
-	r := &relay{listener: l}
+	r := &relay{listener: l, passing: map[net.Conn]bool{}}
 	t.Cleanup(func() { l.Close() })
 	go func() {
 		for {
@@ -53,11 +54,27 @@ func (r *relay) to(target string) {
 	r.mu.Unlock()
 }
 
+// cut ends the connections that there are, at both of their ends, and says how many they were.
+func (r *relay) cut() int {
+	r.mu.Lock()
+	defer r.mu.Unlock()
+	for c := range r.passing {
+		c.Close()
+	}
+	return len(r.passing)
+}
+
 func (r *relay) pass(c net.Conn) {
 	defer c.Close()
 	r.mu.Lock()
 	target := r.target
+	r.passing[c] = true
 	r.mu.Unlock()
+	defer func() {
+		r.mu.Lock()
+		delete(r.passing, c)
+		r.mu.Unlock()
+	}()
 	d, err := net.Dial("tcp", target)
 	if err != nil {
 		return
