@@ -1,6 +1,8 @@
 mod FieldLines
 mod FirstMessages
+pub mod EachFile
 pub mod EachLoad
+pub mod FileWords
 pub mod EachNumber
 pub mod EachWords
 pub mod EncodedFrames
@@ -32,7 +34,15 @@ pub mod ResentRuns
 pub mod RewrittenFrames
 pub mod AcceptedRequests
 pub mod AddedRuns
+pub mod AlikeTables
 pub mod AllReplies
+pub mod ChosenTables
+pub mod UnfiledBatches
+pub mod UnfiledRuns
+pub mod FileAdded
+pub mod FiledBatches
+pub mod FiledRuns
+pub mod FilesBack
 pub mod WholeRuns
 pub mod WrittenFrames
 mod Plain

@@ -8,6 +8,9 @@ pub mod EndingRuns
 pub mod Endings
 pub mod Fields
 pub mod FieldsInside
+pub mod FilesBack
+pub mod Filing
+pub mod FilingSteps
 pub mod JobStates
 pub mod Jobs
 pub mod Lines
@@ -36,3 +39,5 @@ pub mod Texts
 pub mod Tidying
 pub mod Replies
 pub mod Turns
+pub mod Unfiling
+pub mod UnfilingSteps

@@ -1,5 +1,5 @@
 -- What a job puts on its sinks for a frame.
-use Rattle.std.specs.Prelude.{ℕ, Bool, false, List, []}
+use Rattle.std.specs.Prelude.{ℕ, Bool, true, false, List, []}
 use Rattle.std.specs.List.{flat_map, list_any}
 
 -- the bytes for out and for err, and whether the frame is refused
@@ -27,3 +27,11 @@ pub record Closing : Type 0 where
 -- a text on err after the line of a damage, and nothing else
 abbrev pub adds_after : List ℕ → Closing
 adds_after text = record { out = []; before = []; after = text; refused = false }
+
+-- bytes on out, and nothing else
+abbrev pub adds_on_out : List ℕ → Closing
+adds_on_out bytes = record { out = bytes; before = []; after = []; refused = false }
+
+-- a refusal, by its line before that of a damage
+abbrev pub refuses_before : List ℕ → Closing
+refuses_before line = record { out = []; before = line; after = []; refused = true }

@@ -5,6 +5,7 @@ mod jobs;
 mod runs;
 mod texts;
 
+pub use jobs::filing_laws::{files_come_back, one_unfiling};
 pub use jobs::reception_laws::{
     captures_have_texts, outcomes_give_the_texts, status_says_the_line, texts_have_outcomes,
 };
@@ -13,7 +14,9 @@ pub use jobs::resending_laws::{
     what_is_resent_is_read,
 };
 pub use jobs::sending_laws::{encoded_texts_have_outcomes, what_is_written_is_read};
-pub use runs::laws::{complete_endings, complete_runs, each_words, requests_fit_in_frames};
+pub use runs::laws::{
+    complete_endings, complete_runs, complete_unfiles, each_words, requests_fit_in_frames,
+};
 pub use runs::load_laws::{complete_loads, loads_are_received};
 pub use runs::running::run;
 pub use runs::words::Words;

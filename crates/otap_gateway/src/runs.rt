@@ -2,6 +2,7 @@
 
 pub(crate) mod drive;
 pub(crate) mod ending;
+pub(crate) mod filing;
 pub(crate) mod handler;
 pub(crate) mod laws;
 pub(crate) mod load;
@@ -10,4 +11,5 @@ pub(crate) mod resending;
 pub(crate) mod running;
 pub(crate) mod selfrun;
 pub(crate) mod stop;
+pub(crate) mod unfiling;
 pub(crate) mod words;

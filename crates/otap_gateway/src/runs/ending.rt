@@ -5,7 +5,7 @@ ghost use Rattle.otap_gateway.specs.declared.jobs.ending.Ending.{Ending};
 ghost use Rattle.otap_gateway.specs.EndingRuns.{LeavesEnding};
 ghost use Rattle.otap_gateway.specs.Endings.{Ends as EndsTask, AnswerOf, ClosingOf, closing_text};
 ghost use Rattle.otap_gateway.specs.Lines.{end_text};
-ghost use Rattle.otap_gateway.specs.Reply.{ReplyText, adds_after};
+ghost use Rattle.otap_gateway.specs.Reply.{ReplyText, adds_after, adds_on_out, refuses_before};
 ghost use Rattle.otap_gateway.specs.Runs.{sinks, world, StopsBy, CountsFaults, SinkFaults};
 ghost use Rattle.otap_gateway.specs.Turns.{AddsIn};
 
@@ -46,6 +46,30 @@ impl Added {
             before: Vec::new(alloc),
             after,
             refused: false,
+        }
+    }
+
+    /// Bytes on out.
+    pub(crate) fn on_out(alloc: Global, out: Vec<u8>) -> Added
+        ensures { result ≡ adds_on_out out.items }
+    {
+        Added {
+            out,
+            before: Vec::new(alloc),
+            after: Vec::new(alloc),
+            refused: false,
+        }
+    }
+
+    /// A refusal, by its line on err, before the line of a damage.
+    pub(crate) fn refusal(alloc: Global, line: Vec<u8>) -> Added
+        ensures { result ≡ refuses_before line.items }
+    {
+        Added {
+            out: Vec::new(alloc),
+            before: line,
+            after: Vec::new(alloc),
+            refused: true,
         }
     }
 

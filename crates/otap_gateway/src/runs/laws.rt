@@ -10,7 +10,9 @@ ghost use Rattle.otap_gateway.specs.Commands.{words_of};
 ghost use Rattle.otap_gateway.specs.EndingRuns.{CompletesEnding, RunsEnding};
 ghost use Rattle.otap_gateway.specs.Endings.{IsEnding, ending_words};
 ghost use Rattle.otap_gateway.specs.Loads.{IsLoad, IsNotUnderstood, load_words};
+ghost use Rattle.otap_gateway.specs.declared.jobs.unfile.Unfile.{Unfile};
 ghost use Rattle.otap_gateway.specs.Runs.{World, Runs, Completes};
+ghost use Rattle.otap_gateway.specs.Unfiling.{CompletesUnfile, IsUnfile, RunsUnfile, unfile_words};
 
 /// Where no count of faults rose and the capture ends well, a run for the words of a job writes what it
 /// replies to each frame, passes all of it on, and returns 0 exactly where none is refused, and else 1;
@@ -34,12 +36,24 @@ pub fn complete_endings()
         → (status ≡ 6) ⊎ CompletesEnding job frames old.sinks new.sinks status }
 {}
 
-/// Each list of words is that of a job over a capture, which may add something at the end, or that of a load, or it isn't
+/// Where no count of faults rose, a run of `unfile` over known bytes writes what it replies to them, passes all of it on, and
+/// returns 1 exactly where they are refused, and else 0; or memory ran out.
+pub fn complete_unfiles()
+    ensures { (job : Unfile) (old new : World) (status : ℕ) (bytes : List ℕ)
+        → RunsUnfile job old new status → old.left ≡ Some bytes
+        → (Rose old.faults new.faults → ⊥)
+        → (Rose old.sinks.out.faults new.sinks.out.faults → ⊥)
+        → (Rose old.sinks.err.faults new.sinks.err.faults → ⊥)
+        → (status ≡ 6) ⊎ CompletesUnfile job bytes old.sinks new.sinks status }
+{}
+
+/// Each list of words is that of a job over a capture, which may add something at the end, of `unfile`, or of a load, or it isn't
 /// understood. These are the cases of `run`.
 pub fn each_words()
     ensures { (words : List (List ℕ)) → ((job : Command) × (words ≡ words_of job))
         ⊎ (((job : Ending) × IsEnding job × (words ≡ ending_words job))
-        ⊎ (((load : Load) × IsLoad load × (words ≡ load_words load)) ⊎ IsNotUnderstood words)) }
+        ⊎ (((job : Unfile) × IsUnfile job × (words ≡ unfile_words job))
+        ⊎ (((load : Load) × IsLoad load × (words ≡ load_words load)) ⊎ IsNotUnderstood words))) }
 {}
 
 /// The longest request that is written is as long as the longest message of a frame.

@@ -9,6 +9,8 @@ ghost use Rattle.otap_gateway.specs.EndingRuns.{LeavesEnding, RunsEnding};
 ghost use Rattle.otap_gateway.specs.Endings.{AnswerOf, IsEnding, ending_words};
 ghost use Rattle.otap_gateway.specs.declared.runs.load.Load.{Load};
 ghost use Rattle.otap_gateway.specs.Loads.{IsLoad, IsNotUnderstood, RunsLoad, load_words};
+ghost use Rattle.otap_gateway.specs.declared.jobs.unfile.Unfile.{Unfile};
+ghost use Rattle.otap_gateway.specs.Unfiling.{IsUnfile, RunsUnfile, unfile_words};
 ghost use Rattle.otap_gateway.specs.Runs.{sinks, world, Leaves, Stops, StopsBy, CountsFaults, SinkFaults, LeavesLine, Runs, RefusesWords};
 
 use crate::jobs::command::{Command, ReceiverText};
@@ -20,9 +22,11 @@ use crate::jobs::schema::SchemaJob;
 use crate::jobs::show::ShowJob;
 use crate::jobs::tidy::TidyJob;
 use crate::runs::drive::{drive, flush_both};
+use crate::runs::filing::file;
 use crate::runs::resending::resend;
 use crate::runs::selfrun::{load_status, run_load};
 use crate::runs::stop::{Stop, Tally, status, words_status};
+use crate::runs::unfiling::unfile;
 use crate::runs::words::Words;
 use otap_capture::{Sink, Source, write_whole};
 use otlp_model::Signal;
@@ -32,9 +36,9 @@ const NOT_UNDERSTOOD: &[u8] = b"otap: words not understood\n";
 
 /// Does the job that the words name over the capture that the source gives, or writes the load that they name, and returns the
 /// status with which the program ends. Each frame is handled as it comes: all that was written is passed on before the source
-/// is asked for more. For a load nothing is read.
+/// is asked for more. For a load nothing is read; an Arrow file is read whole before anything is written.
 ///
-/// Where nothing stops the run, the status is 5 where the capture is damaged, else 1 where a frame was refused, else 0;
+/// Where nothing stops the run, the status is 5 where the capture is damaged, else 1 where something was refused, else 0;
 /// and 2, once their line is written, for words that aren't understood. Where something stops it: 3 where the source
 /// failed, 4 where a sink failed, 6 where memory ran out.
 pub fn run<S: Source, O: Sink, E: Sink>(
@@ -50,6 +54,9 @@ pub fn run<S: Source, O: Sink, E: Sink>(
     ensures ending { (job : Ending) → IsEnding job → words.now ≡ ending_words job → RunsEnding job
         (world S.Source source.old (sinks O.Sink out.old E.Sink err.old))
         (world S.Source source.new (sinks O.Sink out.new E.Sink err.new)) result }
+    ensures unfile { (job : Unfile) → IsUnfile job → words.now ≡ unfile_words job → RunsUnfile job
+        (world S.Source source.old (sinks O.Sink out.old E.Sink err.old))
+        (world S.Source source.new (sinks O.Sink out.new E.Sink err.new)) result }
     ensures load { (load : Load) → IsLoad load → words.now ≡ load_words load → RunsLoad load source.old source.new
         (sinks O.Sink out.old E.Sink err.old)
         (sinks O.Sink out.new E.Sink err.new) result }
@@ -63,7 +70,7 @@ pub fn run<S: Source, O: Sink, E: Sink>(
     }
 }
 
-/// The same, for words of a job that adds something at the end of the capture, or of a load.
+/// The same, for words of a job that adds something at the end of the capture, of `unfile`, or of a load.
 fn run_other<S: Source, O: Sink, E: Sink>(
     alloc: Global,
     words: &Words,
@@ -72,6 +79,9 @@ fn run_other<S: Source, O: Sink, E: Sink>(
     err: &mut E,
 ) -> u8
     ensures ending { (job : Ending) → IsEnding job → words.now ≡ ending_words job → RunsEnding job
+        (world S.Source source.old (sinks O.Sink out.old E.Sink err.old))
+        (world S.Source source.new (sinks O.Sink out.new E.Sink err.new)) result }
+    ensures unfile { (job : Unfile) → IsUnfile job → words.now ≡ unfile_words job → RunsUnfile job
         (world S.Source source.old (sinks O.Sink out.old E.Sink err.old))
         (world S.Source source.new (sinks O.Sink out.new E.Sink err.new)) result }
     ensures load { (load : Load) → IsLoad load → words.now ≡ load_words load → RunsLoad load source.old source.new
@@ -83,9 +93,12 @@ fn run_other<S: Source, O: Sink, E: Sink>(
 {
     match words.ending() {
         Some(job) => status(run_ending(alloc, job, source, out, err)),
-        None => match words.load() {
-            Some(load) => load_status(run_load(alloc, load, out, err)),
-            None => words_status(refuse_words(out, err)),
+        None => match words.unfile() {
+            Some(job) => status(unfile(alloc, job.kind, source, out, err)),
+            None => match words.load() {
+                Some(load) => load_status(run_load(alloc, load, out, err)),
+                None => words_status(refuse_words(out, err)),
+            },
         },
     }
 }
@@ -107,8 +120,14 @@ fn run_ending<S: Source, O: Sink, E: Sink>(
         (world S.Source source.old (sinks O.Sink out.old E.Sink err.old))
         (world S.Source source.new (sinks O.Sink out.new E.Sink err.new)) result }
 {
-    let Ending::Resend { signal, window } = job;
-    resend(alloc, signal, window, source, out, err)
+    match job {
+        Ending::File {
+            signal,
+            kind,
+            number,
+        } => file(alloc, signal, kind, number, source, out, err),
+        Ending::Resend { signal, window } => resend(alloc, signal, window, source, out, err),
+    }
 }
 
 fn run_job<S: Source, O: Sink, E: Sink>(

@@ -3,9 +3,11 @@ ghost use Rattle.std.specs.Prelude.{◌≡◌, [], ◌∷◌, ◌++◌, OnOk, On
 ghost use Rattle.otap_gateway.specs.Commands.{IsNoCommand, words_of};
 ghost use Rattle.otap_gateway.specs.Endings.{IsEnding, IsNoEnding, ending_words};
 ghost use Rattle.otap_gateway.specs.Loads.{IsLoad, IsNoLoad, load_words};
+ghost use Rattle.otap_gateway.specs.Unfiling.{IsUnfile, IsNoUnfile, unfile_words};
 
 use crate::jobs::command::{Command, one_word, two_words};
-use crate::jobs::ending::{Ending, ending_of};
+use crate::jobs::ending::{Ending, ending_of, file_of};
+use crate::jobs::unfile::{Unfile, unfile_of};
 use crate::runs::load::{Load, three_words};
 use std::alloc::{AllocError, Global};
 use std::marker::Model;
@@ -63,6 +65,22 @@ impl Words {
     {
         match self.words.as_slice() {
             [job, signal, last] => ending_of(job.as_str(), signal.as_str(), last.as_str()),
+            [job, signal, kind, number] => file_of(
+                job.as_str(),
+                signal.as_str(),
+                kind.as_str(),
+                number.as_str(),
+            ),
+            _ => None,
+        }
+    }
+
+    /// The job `unfile`, where these are its words.
+    pub(crate) fn unfile(&self) -> Option<Unfile>
+        ensures { MatchOption result (IsNoUnfile self.now) (λ job. IsUnfile job × (self.now ≡ unfile_words job)) }
+    {
+        match self.words.as_slice() {
+            [job, signal, kind] => unfile_of(job.as_str(), signal.as_str(), kind.as_str()),
             _ => None,
         }
     }
