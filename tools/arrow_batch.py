@@ -15,15 +15,15 @@ class Number(NamedTuple):
 
 
 class Table(NamedTuple):
-    """A table by its slots: each a number, a text (bytes), a table, a list of tables, `Pairs`, or None where absent."""
+    """A table by its slots: each a number, a text (bytes), a table, a list of tables, `Structs`, or None where absent."""
 
     slots: tuple = ()
 
 
-class Pairs(NamedTuple):
-    """A vector of structs of two numbers of eight bytes."""
+class Structs(NamedTuple):
+    """A vector of structs, each some numbers of eight bytes: two in a node and in a buffer, three in a block of a file."""
 
-    pairs: list
+    structs: list
 
 
 class Column(NamedTuple):
@@ -58,11 +58,11 @@ def put(out, part):
         return put_table(out, part.slots)
     pad(out, 4, 8)
     place = len(out)
-    out += len(part.pairs if isinstance(part, Pairs) else part).to_bytes(4, "little")
+    out += len(part.structs if isinstance(part, Structs) else part).to_bytes(4, "little")
     if isinstance(part, bytes):
         out += part + b"\0"
-    elif isinstance(part, Pairs):
-        out += b"".join(number.to_bytes(8, "little") for pair in part.pairs for number in pair)
+    elif isinstance(part, Structs):
+        out += b"".join(number.to_bytes(8, "little") for struct in part.structs for number in struct)
     else:
         out += bytes(4 * len(part))
         for index, table in enumerate(part):
@@ -93,12 +93,18 @@ def refer(out, cell, place):
     out[cell : cell + 4] = (place - cell).to_bytes(4, "little")
 
 
-def message(kind, header, buffers=()):
+def laid_out(table):
+    """A table with all that it refers to, and before it the place where it begins."""
+    out = bytearray(4)
+    refer(out, 0, put(out, table))
+    pad(out, 0, 8)
+    return out
+
+
+def message(kind, header, buffers=(), version=4):
     """A message with its header and the buffers of its body."""
     body = b"".join(buffer + bytes(-len(buffer) % 8) for buffer in buffers)
-    metadata = bytearray(4)
-    refer(metadata, 0, put(metadata, Table((Number(2, 4), Number(1, kind), header, Number(8, len(body))))))
-    pad(metadata, 0, 8)
+    metadata = laid_out(Table((Number(2, version), Number(1, kind), header, Number(8, len(body)))))
     return b"\xff" * 4 + len(metadata).to_bytes(4, "little") + bytes(metadata) + body
 
 
@@ -121,7 +127,7 @@ def rows_of(rows, arrays):
     for buffer in buffers:
         places.append((place, len(buffer)))
         place += len(buffer) + -len(buffer) % 8
-    return Table((Number(8, rows), Pairs([(rows, nulls) for nulls, _ in arrays]), Pairs(places))), buffers
+    return Table((Number(8, rows), Structs([(rows, nulls) for nulls, _ in arrays]), Structs(places))), buffers
 
 
 def dictionary(number, values, delta=False):
@@ -135,11 +141,18 @@ def dictionary(number, values, delta=False):
     return message(2, Table((Number(8, number), header, Number(1, delta))), buffers)
 
 
+def schema_table(columns):
+    return Table((None, [schema_field(column) for column in columns]))
+
+
+def rows_message(rows, columns):
+    header, buffers = rows_of(rows, [(column.nulls, column.buffers) for column in depth_first(columns)])
+    return message(3, header, buffers)
+
+
 def record(rows, columns, dictionaries=()):
     """A record that opens a sub-stream: its schema, the dictionary batches given, and its rows."""
-    header, buffers = rows_of(rows, [(column.nulls, column.buffers) for column in depth_first(columns)])
-    schema = message(1, Table((None, [schema_field(column) for column in columns])))
-    return schema + b"".join(dictionaries) + message(3, header, buffers)
+    return message(1, schema_table(columns)) + b"".join(dictionaries) + rows_message(rows, columns)
 
 
 def batch(*payloads):

@@ -5,8 +5,8 @@
 #
 # The bytes must be the same both times; lintian must find no error; the sums must be right; and the command, unpacked by
 # dpkg-deb into a folder that holds nothing else and run there by chroot (with /proc, from which it runs the program
-# inside), must answer each capture of examples/cases as PROGRAM does, but for `resend`, which it doesn't have. Without
-# lintian, or where no chroot can be made, that part is left out, and that is said.
+# inside), must answer each capture of examples/cases as PROGRAM does, but for those of `file`, `unfile` and `resend`, which it
+# doesn't have. Without lintian, or where no chroot can be made, that part is left out, and that is said.
 set -u
 program=$(realpath "$1")
 cd "$(dirname "$0")/../.." || exit 1
@@ -93,7 +93,8 @@ one() {
 }
 export -f one inside
 export room program
-captures=$(find examples/cases -type f ! -path '*/resend-*' ! -name '*.stdout' ! -name '*.stderr' | sort)
+captures=$(find examples/cases -type f ! -path '*/file-*' ! -path '*/unfile-*' ! -path '*/resend-*' \
+    ! -name '*.stdout' ! -name '*.stderr' | sort)
 [ -n "$captures" ] || wrong "no captures"
 for capture in $captures; do echo "$capture"; done | xargs -P 4 -I{} bash -c 'one {}' >"$room/differs"
 [ ! -s "$room/differs" ] || wrong "other answers than the program's: $(cat "$room/differs")"
