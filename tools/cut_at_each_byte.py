@@ -10,8 +10,9 @@ captures that are longer than 1,000 bytes, and those around the ends of frames.
 For `decode`, `replay`, `schema` and `show` the text of the whole capture was made by an independent program; `tidy` writes
 its requests as they stand. For `encode` and `status` the program's own output for the whole capture is taken.
 
-`resend` says a line at the end too: what it writes is compared with what the program writes for the whole frames alone, and
-the damage stands before that line.
+`file` and `resend` write at the end too: what they write is compared with what the program writes for the whole frames alone,
+and the damage stands behind the line of `file`, and before that of `resend`. Of a file that is cut `unfile` says that it is
+none.
 
 It prints each job with the number of cuts tried and of wrong ones, and the status is 1 where one was wrong."""
 
@@ -19,7 +20,7 @@ import os
 import subprocess
 import sys
 
-from small_runs import events
+from small_runs import MAIN, events
 
 EXAMPLES = os.path.join(os.path.dirname(os.path.abspath(__file__)), "..", "examples")
 # What `list` writes for a batch of one payload, a reset, and the batch again.
@@ -77,18 +78,25 @@ def wrong_cuts(program, words, capture, written, parts, step):
     return told(words, tried, wrong)
 
 
-def wrong_cuts_with_an_end(program, words, capture, step):
-    """The same of a job that says a line at the end, which stands behind the damage."""
+def wrong_cuts_with_an_end(program, words, capture, last, step):
+    """The same of a job that writes something at the end; so many lines of it stand behind the damage."""
     begins, wrong, tried = ends(capture), [], 0
     frames = [run(program, words, capture[:place]) for place in begins]
     for cut, whole, damage in cuts(capture, begins, step):
         out, err, status = frames[whole]
         lines = err.splitlines(keepends=True)
-        lines.insert(len(lines) - 1, damage)
+        lines.insert(len(lines) - last, damage)
         tried += 1
         if run(program, words, capture[:cut]) != (out, b"".join(lines), 5 if damage else status):
             wrong.append(cut)
     return told(words, tried, wrong)
+
+
+def wrong_cuts_of_a_file(program, words, made, step):
+    """The cuts of a file of which `unfile` says something else than that they are none."""
+    tried = [cut for cut in range(len(made)) if cut % step == 0 or cut < 20 or len(made) - cut < 20]
+    wrong = [cut for cut in tried if run(program, words, made[:cut]) != (b"", b"file refused: BadMagic\n", 1)]
+    return told(words, len(tried), wrong)
 
 
 def of_signal(program, signal, step):
@@ -105,7 +113,10 @@ def of_signal(program, signal, step):
         if os.path.exists(f"{place}.{job}"):
             text = read(f"{place}.{job}")
             wrong += wrong_cuts(program, [job, signal], batches, text, line_ends(text), step)
-    wrong += wrong_cuts_with_an_end(program, ["resend", signal, "8"], events(requests), step)
+    file = ["file", signal, MAIN[signal], "0"]
+    wrong += wrong_cuts_with_an_end(program, file, batches, 0, step)
+    wrong += wrong_cuts_of_a_file(program, ["unfile", signal, MAIN[signal]], run(program, file, batches)[0], step)
+    wrong += wrong_cuts_with_an_end(program, ["resend", signal, "8"], events(requests), 1, step)
     return wrong
 
 

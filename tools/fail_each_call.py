@@ -5,10 +5,10 @@
 
 So each read, and each write to standard output or standard error, fails in turn. The objects are real ones: a socket
 whose other end is gone, a directory, a file that has as many bytes as it may, a full device, and a pipe that nobody
-reads. Where reading fails, the status is 3, and all that belongs to the frames before is there, and nothing else, not
-even the last line of `resend`. Where writing fails, the status is 4, and what was written to each is a front of what is
-written else. With N only each Nth place is tried, and those around the ends of frames. A load is tried at some 20 places of
-what it writes.
+reads. Where reading fails, the status is 3, and all that belongs to the frames before is there, and nothing else: nothing of
+what `file` and `resend` put off until the capture ends, and nothing at all of `unfile`. Where writing fails, the status is 4,
+and what was written to each is a front of what is written else. With N only each Nth place is tried, and those around the
+ends of frames. A load is tried at some 20 places of what it writes.
 
 It prints each job with the number of places tried and of wrong ones, and the status is 1 where one was wrong."""
 
@@ -20,7 +20,7 @@ import subprocess
 import sys
 import tempfile
 
-from small_runs import Job, Run, before_the_end, ends, jobs, jobs_without_capture, run, run_within, tell
+from small_runs import Job, Run, before_the_end, ends_of, jobs, jobs_without_capture, run, run_within, tell
 
 
 def places(count, every, near=()):
@@ -42,7 +42,7 @@ def run_cut_off(program, words, given):
 
 def wrong_reads(program, job, every):
     """The numbers of bytes after which a failing read gives something other than what the whole frames give."""
-    begins = ends(job.capture)
+    begins = ends_of(job)
     whole = {place: before_the_end(job, run(program, Job(job.words, job.capture[:place]))) for place in begins}
     tried = places(len(job.capture) + 1, every, begins)
     wrong = []

@@ -11,6 +11,7 @@ from at_the_limits import field, frame
 
 EXAMPLES = os.path.join(os.path.dirname(os.path.abspath(__file__)), "..", "examples")
 REQUESTS = {"logs": "pairs_pause", "traces": "row_events_pause", "metrics": "row_points_pause"}
+MAIN = {"logs": "30", "traces": "40", "metrics": "10"}
 READERS = ("schema", "show", "decode", "status", "replay")
 PACKED = b"\x01\x00\x00\x00\x02xx"
 RESET = b"\x02\x00\x00\x00\x00"
@@ -77,7 +78,7 @@ def events(capture):
 
 
 def jobs(program):
-    """Each job of each signal over a capture, of which a frame is refused."""
+    """Each job of each signal over a capture, of which a frame is refused; for `unfile` over the file that `file` makes."""
     found = []
     for name, requests in REQUESTS.items():
         with open(os.path.join(EXAMPLES, "transits", name, requests + ".capture"), "rb") as file:
@@ -87,13 +88,25 @@ def jobs(program):
         found += [Job(["tidy", name], requests), Job(["encode", name], requests), Job(["list"], batches)]
         found += [Job([job, name], batches) for job in READERS]
         found += [Job(["resend", name, "2"], refused_once(events(sent)))]
+        made = Job(["file", name, MAIN[name], "0"], batches)
+        found += [made, Job(["unfile", name, MAIN[name]], run(program, made).out)]
     return found
 
 
+def ends_of(job):
+    """Where the frames of a job's capture end; a file has none."""
+    return [0] if job.words[0] == "unfile" else ends(job.capture)
+
+
 def before_the_end(job, done):
-    """Of what a job says on frames, the part that it doesn't put off until it knows that they end."""
+    """Of what a job writes and says on frames, the part that it doesn't put off until it knows that they end."""
+    lines = done.err.splitlines(keepends=True)
+    if job.words[0] == "file":
+        return done._replace(out=b"", err=b"".join(line for line in lines if not line.startswith(b"file: ")))
+    if job.words[0] == "unfile":
+        return done._replace(out=b"", err=b"")
     if job.words[0] == "resend":
-        return done._replace(err=b"".join(done.err.splitlines(keepends=True)[:-1]))
+        return done._replace(err=b"".join(lines[:-1]))
     return done
 
 
