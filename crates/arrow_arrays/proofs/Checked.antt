@@ -1,4 +1,4 @@
--- What the check of arrays tells: a first fault is one of the arrays' faults, and without a fault none of them has one.
+-- What the check of arrays returns: a first fault is one of the arrays' faults, and without a fault none of them has one.
 use Rattle.std.proofs.Common.{◌≡◌, ℕ, zero, suc, ◌⊎◌, List, [], ◌∷◌, slice_get, Some, Result, Ok, Err, IsOk, OnOk, refl, subst, inl, inr}
 use Rattle.std.specs.Result.{result_and}
 use Rattle.std.proofs.lemmas.Bool.{false≢true}
@@ -33,7 +33,7 @@ is_ok_tt (Err e) ok = absurd (false≢true ok)
 pub first_at : {A : Type 0} (x y : A) (xs : List A) → slice_get (x ∷ xs) zero ≡ Some y → x ≡ y
 first_at x y xs is = cc
 
--- where no array has a fault, the one at a place has none
+-- where no array has a fault, the one at an index has none
 pub check_at : (batch : BatchIn) (arrays : List ArraySpec) (place : ℕ) (a : ArraySpec) → IsOk (arrays_check batch arrays) → slice_get arrays place ≡ Some a → IsOk (array_check batch (array_place a))
 unfolding arrays_check
 check_at batch [] place a ok at = absurd (cc)

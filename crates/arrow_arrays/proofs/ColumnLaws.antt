@@ -1,4 +1,4 @@
--- A column that stands in a batch is read back.
+-- A column that a batch holds is read back.
 use Rattle.std.proofs.Common.{◌≡◌, ◌<◌, ◌+◌, ◌*◌, ◌-◌, ℕ, ℤ, pos, nat_lt, List, [], length, take, slice_get, Option, None, Some, Result, Ok, Err, is_ok, if◌then◌else◌, Bool, true, false, not, refl}
 use Rattle.std.proofs.Common.{sym, ap, ◌∙◌, subst, arith}
 use Rattle.std.proofs.lemmas.Bool.{eq-eqb, ne_eqb, le-ltb}
@@ -38,7 +38,7 @@ values_for (width.List n) offsets values count rows = Lists (record { offsets = 
 view_for : Width → List ℕ → List ℕ → List ℕ → ℕ → ℕ → ArrayView
 view_for width validity offsets values count rows = record { valid = flags_for validity rows; values = values_for width offsets values count rows }
 
--- how many elements stand there, where they do
+-- how many elements the array below a list has; 0 for another column
 count_for : (width : Width) (batch : BatchIn) (a : ArrayPlace) (offsets values : List ℕ) → StandAt batch a width offsets values → ℕ
 count_for (width.List n) batch a offsets values stand = stand.1.count
 count_for other batch a offsets values stand = 0

@@ -98,7 +98,7 @@ text_fits valid parts row value checked flag has =
           sym (ap is_text cell) ∙ one
     ]
 
--- from one offset to a later one stand whole elements
+-- from one offset to a later one the elements are whole
 span_whole : (width : ℕ) (values : List ℕ) (a b : ℕ) → a ≤ b → b * width ≤ length values → length (slice_range values (a * width) (b * width)) % width ≡ 0
 span_whole width values a b order within =
     let start : a * width ≤ b * width = mul-le-mul_right width order in

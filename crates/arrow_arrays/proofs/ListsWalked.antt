@@ -67,7 +67,7 @@ element_of inner g is readable =
 HasElements : List ArraySpec → Type 0
 HasElements arrays = (place : ℕ) (a : ArraySpec) → slice_get arrays place ≡ Some a → is_list a.kind ≡ true → HoldsElements arrays place a
 
--- what stands there still stands there with one more
+-- what is there is still there with one more
 still : (arrays : List ArraySpec) (x : ArraySpec) (place : ℕ) (a : ArraySpec) → HoldsElements arrays place a → HoldsElements (arrays ++ x ∷ []) place a
 still arrays x place a holds =
     (holds.0, slice_get_front arrays (x ∷ []) (place + 1) (slice_get_within arrays (place + 1) holds.0 holds.1) ∙ holds.1, holds.2)

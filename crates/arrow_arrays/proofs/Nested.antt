@@ -69,13 +69,13 @@ missing_within arrays batch place zero v is empty = empty_within zero arrays bat
 missing_within arrays batch place (suc depth) v is empty =
     empty_within (suc depth) arrays batch place v empty (λ row. ap (cell_in_array (cell_within depth arrays batch) batch row) (sym is))
 
--- an array that stands in a list, with its place
+-- an array of the list, at its index
 cell_is : (depth : ℕ) (arrays : List ArraySpec) (batch : BatchIn) (place row : ℕ) (a : ArraySpec) → Some a ≡ slice_get arrays place
     → cell_within (suc depth) arrays batch place row ≡ cell_below (cell_above (cell_within depth arrays batch) a.above row) (own_cell batch (array_place a) row)
 unfolding cell_within
 cell_is depth arrays batch place row a at = ap (cell_in_array (cell_within depth arrays batch) batch row) (sym at)
 
--- no outer stands above
+-- no struct is above
 pub data IsAlone (above : Above) : Type 0 where
   at_top : above ≡ parent.Top → IsAlone above
   in_list : above ≡ parent.List → IsAlone above

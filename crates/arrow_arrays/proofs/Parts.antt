@@ -1,4 +1,4 @@
--- What an array is made of that has no fault: its buffers, by their places.
+-- What an array is made of that has no fault: its buffers, by their indexes.
 use Rattle.std.proofs.Common.{◌≡◌, ℕ, ◌+◌, ◌*◌, ◌≤◌, ◌==◌, nat_lt, ℤ, pos, int_lt, if◌then◌else◌, List, [], length, take, slice_get, Option, Some, None, unwrap_or, Result, Ok, Err, IsOk, refl, ap, ◌∙◌, inl, inr, arith}
 use Rattle.std.specs.Result.{result_and}
 use Rattle.std.proofs.lemmas.Bool.{eqb-true, ltb-false}

@@ -38,7 +38,7 @@ extends_walk = each_walk Extends (λ above arrays. ([], sym (append-nil arrays))
     let own = one_extends f above arrays below in
     (own.0 ++ rest.0, rest.1 ∙ ap (λ (front : List ArraySpec). front ++ rest.0) own.1 ∙ append_assoc arrays own.0 rest.0))
 
--- what stands above stands before
+-- what is above comes before
 AreBefore : List ArraySpec → Type 0
 AreBefore arrays = (place : ℕ) (a : ArraySpec) (p : ℕ) → slice_get arrays place ≡ Some a → a.above ≡ parent.Struct p → p < place
 
@@ -67,7 +67,7 @@ path_last : (d : ℕ) (arrays : List ArraySpec) (x : ArraySpec)
 unfolding path_within
 path_last d arrays x = ap (path_to (path_within d (arrays ++ x ∷ []))) (slice_get_last arrays x (length arrays) refl)
 
--- the paths to what is a child of what stands above, at a level
+-- the paths to the children of what is above, at a level
 IsAbove : ℕ → List ArraySpec → Above → Option (List (List ℕ)) → Type 0
 IsAbove level arrays above path = (d : ℕ) (name : List ℕ) → level ≤ d → path_below (path_within d arrays) above name ≡ path_in path name
 

@@ -25,7 +25,7 @@ use Rattle.arrow_arrays.proofs.Walked.{array_for, each_walk, slice_get_front, sl
 use Rattle.arrow_arrays.proofs.PathsWalked.{deep, one_extends, extends_walk, Extends}
 use Rattle.arrow_arrays.proofs.ListsWalked.{list_is, no_fields_is}
 
--- ---- arrays that stand at most at that depth, below structs
+-- ---- arrays at most so deep, below structs
 
 abbrev IsStructAt : List ArraySpec → ℕ → Type 0
 IsStructAt arrays place = (a : ArraySpec) × (slice_get arrays place ≡ Some a) × (layout_of a.kind a.dict ≡ layout.Struct)

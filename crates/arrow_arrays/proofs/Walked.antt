@@ -1,4 +1,4 @@
--- What the walk of a schema gives: the fields in order, and the places of their nodes and buffers.
+-- What the walk of a schema gives: the fields in order, and the indexes of their nodes and buffers.
 use Rattle.std.proofs.Common.{◌≡◌, ◌≤◌, ◌<◌, ◌+◌, ℕ, zero, suc, List, [], ◌∷◌, ◌++◌, map, length, take, slice_get, append_assoc, Some, refl, sym, ap, ◌∙◌, subst, inl, inr, arith, rules}
 use Rattle.std.specs.List.{flat_map}
 use Rattle.std.proofs.lemmas.Bool.{cases_lt}
@@ -96,7 +96,7 @@ among xs x i y at =
           last end (cc (both))
     ]
 
--- ---- the places
+-- ---- the indexes
 
 pub IsPlaced : List ArraySpec → Type 0
 IsPlaced arrays = (place : ℕ) (a : ArraySpec) → slice_get arrays place ≡ Some a → (a.node ≡ place) × (a.buffer ≡ buffers_of (take place arrays))

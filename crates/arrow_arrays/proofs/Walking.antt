@@ -89,7 +89,7 @@ field_step f above below arrays pushed children own at one =
 pub length_one_more : (arrays pushed : List ArraySpec) (a : ArraySpec) → pushed ≡ arrays ++ a ∷ [] → length pushed ≡ length arrays + 1
 length_one_more arrays pushed a is = ap length is ∙ length_push arrays a
 
--- the path to an array, by what stands above
+-- the path to an array, by what is above
 pub path_step : (depth : ℕ) (arrays : List ArraySpec) (place : ℕ) (a : ArraySpec) → 0 < depth → Some a ≡ slice_get arrays place
     → path_below (path_within (depth - 1) arrays) a.above a.name ≡ path_within depth arrays place
 unfolding path_within
@@ -98,7 +98,7 @@ path_step (suc depth) arrays place a some at =
     let less : suc depth - 1 ≡ depth = omega arith in
     ap (λ (d : ℕ). path_below (path_within d arrays) a.above a.name) less ∙ ap (path_to (path_within depth arrays)) at
 
--- one more name, after those of what stands above
+-- one more name, after those of what is above
 pub path_pushed : {B : Type 0} (view : B → List ℕ) (middle new : List B) (x : B) (before above whole : List (List ℕ)) (name : List ℕ) → new ≡ middle ++ x ∷ [] → view x ≡ name
     → map view middle ≡ before ++ above → above ++ name ∷ [] ≡ whole → map view new ≡ before ++ whole
 path_pushed view middle new x before above whole name one named mid all =

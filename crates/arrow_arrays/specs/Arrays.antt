@@ -1,5 +1,5 @@
 -- The arrays of a schema's fields, and their faults and cells in a record batch (Arrow columnar format, "RecordBatch
--- message": nodes and buffers stand depth first, a field before its children, and its own buffers before theirs).
+-- message": nodes and buffers come depth first, a field before its children, and its own buffers before theirs).
 use Rattle.std.specs.Prelude.{◌≡◌, ℕ, zero, suc, ◌+◌, Bool, true, false, List, [], ◌∷◌, ◌++◌, length, sum_by, slice_get, Option, None, Some, Result, Ok}
 use Rattle.std.specs.Result.{result_and}
 use Rattle.arrow_schema.specs.Limits.{max_depth}
@@ -20,17 +20,17 @@ use Rattle.arrow_arrays.specs.Layouts.{layout_of, own_buffers, element_len, Fits
 use Rattle.arrow_arrays.specs.Cells.{array_check, own_cell}
 use Rattle.arrow_arrays.specs.Faults.{IsArrayFault}
 
--- what a list is above holds the list's elements
+-- whether the parent is a list, whose elements the array holds then
 abbrev pub is_below_list : Above → Bool
 is_below_list parent.List = true
 is_below_list other = false
 
--- where the array of a field stands
+-- where the array of a field is
 abbrev pub array_place : ArraySpec → ArrayPlace
 array_place a =
     record { layout = layout_of a.kind a.dict; node = a.node; buffer = a.buffer; element = is_below_list a.above }
 
--- where the elements of a list stand: in the next array
+-- where the elements of a list are: in the next array
 abbrev pub place_of_elements : ArraySpec → ArrayPlace
 place_of_elements a =
     record { layout = layout.Fixed element_len; node = a.node + 1; buffer = a.buffer + 2; element = true }
@@ -54,12 +54,12 @@ array_after arrays above name kind dict encoding = record {
   buffer = buffers_of arrays;
 }
 
--- what stands above the children of a field whose array has this place
+-- what is above the children of a field whose array has this index
 abbrev pub above_children : ArrowType → ℕ → Above
 above_children kind.List place = parent.List
 above_children other place = parent.Struct place
 
--- the arrays so far with those that are added, from what stands above
+-- the arrays so far and those that are added, given what is above them
 abbrev pub AddsArrays : Type 0
 AddsArrays = Above → List ArraySpec → List ArraySpec
 
@@ -85,7 +85,7 @@ add_fields (f ∷ fields) above arrays = add_fields fields above (add_field f ab
 unfoldable pub arrays_of : List FieldSpec → List ArraySpec
 arrays_of fields = add_fields fields parent.Top []
 
--- the names that lead to an array, from what stands above and its own name; none to what is a child of a list
+-- the names that lead to an array, from those of what is above and its own name; none to what is a child of a list
 abbrev pub path_below : (ℕ → List (List ℕ)) → Above → List ℕ → List (List ℕ)
 path_below path parent.Top name = name ∷ []
 path_below path (parent.Struct place) name = path place ++ name ∷ []
@@ -95,12 +95,12 @@ abbrev pub path_to : (ℕ → List (List ℕ)) → Option ArraySpec → List (Li
 path_to path None = []
 path_to path (Some a) = path_below path a.above a.name
 
--- the names that lead to an array that stands at most at that depth
+-- the names that lead to an array at most so deep
 unfoldable pub path_within : ℕ → List ArraySpec → ℕ → List (List ℕ)
 path_within zero arrays place = []
 path_within (suc depth) arrays place = path_to (path_within depth arrays) (slice_get arrays place)
 
--- THE PATH OF NAMES that leads through structs alone to the array at a place of the list
+-- THE PATH OF NAMES that leads through structs alone to the array at an index of the list
 abbrev pub path_of : List ArraySpec → ℕ → List (List ℕ)
 path_of arrays place = path_within max_depth arrays place
 
@@ -131,17 +131,17 @@ abbrev pub cell_in_array : (ℕ → ℕ → Option (List ℕ)) → BatchIn → �
 cell_in_array cell batch row None = None
 cell_in_array cell batch row (Some a) = cell_below (cell_above cell a.above row) (own_cell batch (array_place a) row)
 
--- the cell of a row in an array that stands at most at that depth
+-- the cell of a row in an array at most so deep
 unfoldable pub cell_within : ℕ → List ArraySpec → BatchIn → ℕ → ℕ → Option (List ℕ)
 cell_within zero arrays batch place row = None
 cell_within (suc depth) arrays batch place row = cell_in_array (cell_within depth arrays batch) batch row (slice_get arrays place)
 
--- THE CELL OF A ROW in the array at a place of the list: null where the array's own bitmap or that of a struct above says
+-- THE CELL OF A ROW in the array at an index of the list: null where the array's own bitmap or that of a struct above says
 -- so, else the bytes of its value
 abbrev pub cell_of : List ArraySpec → BatchIn → ℕ → ℕ → Option (List ℕ)
 cell_of arrays batch place row = cell_within max_depth arrays batch place row
 
--- the bytes fit the array at a place of the list
+-- the bytes fit the array at an index of the list
 abbrev pub fits_if : Option ArraySpec → List ℕ → Type 0
 fits_if None value = ⊥
 fits_if (Some a) value = FitsLayout (layout_of a.kind a.dict) value

@@ -1,4 +1,4 @@
--- The array at a place of a record batch, the first fault that a reader meets in it, and its cells (Arrow columnar format,
+-- An array of a record batch, the first fault that a reader meets in it, and its cells (Arrow columnar format,
 -- "RecordBatch message" and "Physical memory layout"). All faults that it may have are those of Faults.
 use Rattle.std.specs.Prelude.{ℕ, ◌+◌, ◌*◌, ◌==◌, ℤ, pos, negsuc, false, nat_lt, if◌then◌else◌, List, [], length, take, slice_get, Option, None, Some, option_map, Result, Ok, Err}
 use Rattle.lists.specs.Results.{◌>>=◌}
@@ -38,7 +38,7 @@ length_in batch place = or_short (slice_get batch.nodes place) >>= λ node. leng
 unfoldable pub rows_in : BatchIn → ArrayPlace → Result ℕ BufferFault
 rows_in batch a = if a.element then length_in batch a.node else Ok batch.rows
 
--- the null count of the node at a place, which counts the rows
+-- the null count of the node at an index, which counts the rows
 abbrev pub nulls_if : ℕ → ℤ × ℤ → Result ℤ BufferFault
 nulls_if rows node = if is_number rows node.0 then Ok node.1 else Err Short
 
@@ -48,12 +48,12 @@ nulls_in batch rows place = or_short (slice_get batch.nodes place) >>= nulls_if 
 abbrev pub buffer_in : BatchIn → ℕ → Result (List ℕ) BufferFault
 buffer_in batch place = or_short (slice_get batch.buffers place)
 
--- which rows of an array are there, by its own node and bitmap
+-- which rows of an array are valid, by its own node and bitmap
 unfoldable pub validity_in : BatchIn → ℕ → ℕ → ℕ → Result BitsIn BufferFault
 validity_in batch rows node buffer =
     nulls_in batch rows node >>= λ nulls. buffer_in batch buffer >>= λ bytes. validity_of bytes rows nulls
 
--- its values, whose first buffer has this place
+-- its values, whose first buffer has this index
 unfoldable pub bit_values : BatchIn → ℕ → ℕ → Result RowValues BufferFault
 bit_values batch rows place = buffer_in batch place >>= λ bytes. bits_of bytes rows >>= λ bits. Ok (Bits bits)
 
@@ -72,19 +72,19 @@ abbrev pub element_bytes : List ℕ → ℕ → Result (List ℕ) BufferFault
 element_bytes bytes count =
     if nat_lt (length bytes) (count * element_len) then Err Short else Ok (take (count * element_len) bytes)
 
--- the elements of lists, whose array has this node and this first buffer: their bytes, and which of them are there
+-- the elements of lists, whose array has this node and this first buffer: their bytes, and which of them are valid
 unfoldable pub elements_in : BatchIn → ℕ → ℕ → Result (List ℕ × BitsIn) BufferFault
 elements_in batch node buffer =
     length_in batch node >>= λ count. validity_in batch count node buffer >>= λ there. buffer_in batch (buffer + 1) >>= λ bytes.
     element_bytes bytes count >>= λ elements. Ok (elements, there)
 
--- lists: after their own validity bitmap stand the offsets, and then their elements, which are the next array
+-- lists: after their own validity bitmap come the offsets, and then their elements, which are the next array
 unfoldable pub lists_in : BatchIn → ℕ → ArrayPlace → Result RowValues BufferFault
 lists_in batch rows a =
     buffer_in batch (a.buffer + 1) >>= λ offsets. elements_in batch (a.node + 1) (a.buffer + 2) >>= λ elements.
     lists_of offsets elements.0 element_len rows >>= λ all. Ok (Lists all elements.1)
 
--- its values stand after its validity bitmap; a struct has none of its own
+-- its values come after its validity bitmap; a struct has none of its own
 abbrev pub values_by : BatchIn → ℕ → ArrayPlace → Layout → Result RowValues BufferFault
 values_by batch rows a layout.Struct = Ok Nothing
 values_by batch rows a layout.Bits = bit_values batch rows (a.buffer + 1)
@@ -102,8 +102,8 @@ array_in batch a =
     rows_in batch a >>= λ rows. validity_in batch rows a.node a.buffer >>= λ valid. values_in batch rows a >>= λ values.
     Ok (record { valid = valid; values = values })
 
--- Where the values are texts, each that the array's own bitmap has is UTF-8. Where they are lists, none that it has has a
--- null among its elements.
+-- Where the values are texts, each that is valid in the array's own bitmap is UTF-8. Where they are lists, none that is valid
+-- there has a null among its elements.
 abbrev pub content_in : Layout → BitsIn → RowValues → Result (Unit {0}) BufferFault
 content_in layout.Text valid (Vars parts) = utf8_check parts valid
 content_in layout.List valid (Lists all there) = nulls_check all valid there

@@ -22,7 +22,7 @@ stored_width layout.Binary = Some width.Var
 stored_width layout.Text = Some width.Var
 stored_width layout.List = Some (width.List element_len)
 
--- the elements of lists stand in the array of this node and this first buffer, each of them there
+-- the elements of lists are the array of this node and this first buffer, and none of them is null
 pub record AreElements (batch : BatchIn) (place buffer : ℕ) (values : List ℕ) : Type 0 where
   pub count : ℕ
   pub len : length values ≡ count * element_len
@@ -30,14 +30,14 @@ pub record AreElements (batch : BatchIn) (place buffer : ℕ) (values : List ℕ
   pub bitmap : slice_get batch.buffers buffer ≡ Some []
   pub stand : slice_get batch.buffers (buffer + 1) ≡ Some values
 
--- the values of a column stand in the buffers of the array at a place, after their offsets where they have them
+-- the buffers of an array hold the values of a column, after their offsets where they have them
 abbrev pub StandAt : BatchIn → ArrayPlace → Width → List ℕ → List ℕ → Type 0
 StandAt batch a width.Bit offsets values = slice_get batch.buffers (a.buffer + 1) ≡ Some values
 StandAt batch a (width.Fixed n) offsets values = (1 ≤ n) × (slice_get batch.buffers (a.buffer + 1) ≡ Some values)
 StandAt batch a width.Var offsets values = (slice_get batch.buffers (a.buffer + 1) ≡ Some offsets) × (slice_get batch.buffers (a.buffer + 2) ≡ Some values)
 StandAt batch a (width.List n) offsets values = (slice_get batch.buffers (a.buffer + 1) ≡ Some offsets) × AreElements batch (a.node + 1) (a.buffer + 2) values
 
--- a column of some rows, without a fault, stands in a batch as the array at a place
+-- a batch holds a column of some rows, without a fault, as this array
 pub record HoldsColumn (batch : BatchIn) (a : ArrayPlace) (width : Width) (rows : ℕ) (validity offsets values : List ℕ) : Type 0 where
   pub layout : stored_width a.layout ≡ Some width
   pub counted : rows_in batch a ≡ Ok rows

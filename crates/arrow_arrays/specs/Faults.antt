@@ -1,5 +1,5 @@
--- What is wrong with the array at a place of a record batch (Arrow columnar format, "RecordBatch message" and "Physical memory
--- layout"). Several may be there side by side: each is judged by the parts that it needs, whatever is wrong with the others.
+-- What is wrong with an array of a record batch (Arrow columnar format, "RecordBatch message" and "Physical memory
+-- layout"). There may be several faults side by side: each is judged by the parts that it needs, whatever is wrong with the others.
 use Rattle.std.specs.Prelude.{◌≡◌, ℕ, ◌+◌, ◌*◌, ◌≤◌, ℤ, pos, List, length, slice_get, Option, None, Some, Result, Ok, Err}
 use Rattle.lists.specs.Results.{◌>>=◌}
 use Rattle.arrow_buffers.specs.declared.fault.BufferFault.{BufferFault}
@@ -14,7 +14,7 @@ use Rattle.arrow_arrays.specs.declared.view.RowValues.{RowValues}
 use Rattle.arrow_arrays.specs.Layouts.{element_len}
 use Rattle.arrow_arrays.specs.Cells.{length_in, rows_in, nulls_in, buffer_in, bit_values, fixed_in, element_bytes, values_in, content_in}
 
--- how many nulls the node at a place counts, whatever rows it counts; none where it is missing
+-- how many nulls the node at an index counts, whatever rows it counts; none where it is missing
 abbrev pub counted_nulls : Option (ℤ × ℤ) → ℤ
 counted_nulls None = pos 0
 counted_nulls (Some node) = node.1
@@ -31,7 +31,7 @@ pub data IsValidityFault (batch : BatchIn) (rows node buffer : ℕ) (fault : Buf
   -- its bitmap is missing or too small, or it is left out and the node counts nulls
   bad_bitmap : bitmap_in batch rows (counted_nulls (slice_get batch.nodes node)) buffer ≡ Err fault → IsValidityFault batch rows node buffer fault
 
--- values that differ in length: their offsets are the buffer at a place
+-- values that differ in length: the buffer at an index holds their offsets
 pub data IsVarsFault (batch : BatchIn) (rows place : ℕ) : BufferFault → Type 0 where
   no_offsets : slice_get batch.buffers place ≡ None → IsVarsFault batch rows place Short
   no_values : slice_get batch.buffers (place + 1) ≡ None → IsVarsFault batch rows place Short

@@ -1,4 +1,4 @@
--- How an array without a fault is found, by the places of its bytes, before anything is told of them: words of private contracts.
+-- How an array without a fault is found, by the indexes of its buffers, before anything is said of its bytes: used in private contracts.
 use Rattle.std.specs.Prelude.{◌≡◌, ℕ, ◌+◌, ◌*◌, ◌<◌, min, List, [], slice_get, Option, Some, None, Result, Ok, Err, unwrap_or, IsSome}
 use Rattle.arrow_buffers.specs.declared.fault.BufferFault.{BufferFault}
 use Rattle.arrow_buffers.specs.Bits.{is_valid}
@@ -26,7 +26,7 @@ rows_at batch a = or_zero (rows_in batch a)
 abbrev pub bytes_at : BatchIn → ℕ → List ℕ
 bytes_at batch place = unwrap_or (slice_get batch.buffers place) []
 
--- a row's value, by the buffers from a place on
+-- a row's value, by the buffers from an index on
 abbrev pub value_by_buffers : BatchIn → ℕ → Layout → ℕ → Option (List ℕ)
 value_by_buffers batch place layout.Struct row = Some []
 value_by_buffers batch place layout.Bits row = Some (bit_byte (is_valid (bytes_at batch place) row))
@@ -62,7 +62,7 @@ pub record Finds (batch : BatchIn) (a : ArrayPlace) (v : ColumnView) : Type 0 wh
   pub above : v.above.now ≡ []
   pub top : v.top.now ≡ []
 
--- a column of the cells of an array that stands at most at that depth: with at most one bitmap for each struct above
+-- a column of the cells of an array at most so deep: with at most one bitmap for each struct above
 pub record FindsWithin (depth : ℕ) (arrays : List ArraySpec) (batch : BatchIn) (place : ℕ) (v : ColumnView) : Type 0 where
   pub cells : (row : ℕ) → cell_seen v row ≡ cell_within depth arrays batch place row
   pub full : IsFull v

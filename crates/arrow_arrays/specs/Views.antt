@@ -1,4 +1,4 @@
--- A column that is resolved: the bytes that its cells are found in. A place outside these bytes gives no cell.
+-- A column that is resolved: the bytes that its cells are found in. An offset outside these bytes gives no cell.
 use Rattle.std.specs.Prelude.{ℕ, ◌+◌, ◌*◌, nat_lt, nat_le, ◌==◌, Bool, ◌&&◌, if◌then◌else◌, List, [], length, slice_range, Option, None, Some}
 use Rattle.arrow_buffers.specs.Bits.{is_valid}
 use Rattle.arrow_buffers.specs.Columns.{bit_byte}
@@ -7,7 +7,7 @@ use Rattle.arrow_arrays.specs.declared.column.Stored.{Stored}
 use Rattle.arrow_arrays.specs.declared.column.Stored.TheVariants as stored
 use Rattle.arrow_arrays.specs.declared.column.ColumnView.{ColumnView}
 
--- the bytes between two places
+-- the bytes between two offsets
 abbrev pub part_between : List ℕ → ℕ → ℕ → Option (List ℕ)
 part_between bytes start end =
     if nat_le start end && nat_le end (length bytes) then Some (slice_range bytes start end) else None

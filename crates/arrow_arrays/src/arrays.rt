@@ -17,7 +17,7 @@ use arrow_schema::{FieldSpec, MAX_DEPTH, Name, SchemaSpec};
 use std::alloc::{AllocError, Global};
 use std::marker::Model;
 
-/// The arrays of a schema's fields, depth first: a field stands before its children. The place of
+/// The arrays of a schema's fields, depth first: a field comes before its children. The index of
 /// an array in the list is that of its node.
 #[derive(Debug, Drop)]
 pub struct Arrays {
@@ -133,14 +133,14 @@ impl Arrays {
         &self.arrays
     }
 
-    /// The array at a place of the list; `None` where there is no such array.
+    /// The array at an index of the list; `None` where there is no such array.
     pub fn get(&self, place: usize) -> Option<&ArraySpec>
         ensures { option_copied result ≡ slice_get self.now place }
     {
         self.arrays.get(place)
     }
 
-    /// The names that lead through structs to the array at a place, those of the structs first; none
+    /// The names that lead through structs to the array at an index, the outermost first; none
     /// where there is no such array, or it is the child of a list.
     pub fn path(&self, alloc: Global, place: usize) -> Result<Vec<&[u8]>, AllocError>
         ensures { IfOk result (λ path. map (λ name. name.now) path.items ≡ path_of self.now place) }
@@ -163,7 +163,7 @@ impl Arrays {
         check_each(&self.arrays, batch)
     }
 
-    /// The column of the array at a place of the list, in a batch without a fault: null by the
+    /// The column of the array at an index of the list, in a batch without a fault: null by the
     /// array's own bitmap or by that of a struct above, and where there is no such array. It takes
     /// constant time and no memory.
     pub fn view<'v>(&self, batch: &BatchView<'v>, place: usize) -> ColumnView<'v>
@@ -174,7 +174,7 @@ impl Arrays {
         view_within(&self.arrays, batch, place, MAX_DEPTH)
     }
 
-    /// The bytes of a row's cell in the array at a place of the list, in a batch without a fault;
+    /// The bytes of a row's cell in the array at an index of the list, in a batch without a fault;
     /// `None` where it is null, or where there is no such row or array. Where more than one cell is
     /// asked for, `view` is found once for all of them.
     pub fn cell<'v>(&self, batch: &BatchView<'v>, place: usize, row: u64) -> Option<&'v [u8]>
@@ -202,7 +202,7 @@ fn array_at(arrays: &[ArraySpec], place: usize) -> Option<&ArraySpec>
     arrays.get(place)
 }
 
-/// Appends the names that lead to an array that stands at most at that depth.
+/// Appends the names that lead to an array at most this deep.
 #[tactic(auto, unfolding(crate::specs::Arrays::path_within))]
 fn push_path<'a>(
     arrays: &'a [ArraySpec],
@@ -227,7 +227,7 @@ fn push_path<'a>(
     Ok(())
 }
 
-/// The column of an array that stands at most at that depth.
+/// The column of an array at most this deep.
 fn view_within<'v>(
     arrays: &[ArraySpec],
     batch: &BatchView<'v>,

@@ -11,7 +11,7 @@ ghost use Rattle.arrow_arrays.specs.Found.{IsBelow, IsEmpty};
 
 use byteorder::{ByteOrder, LittleEndian};
 
-/// The bytes in which the values of a column stand.
+/// The bytes that hold the values of a column.
 #[derive(Clone, Copy, Debug)]
 pub(crate) enum Stored<'a> {
     /// No bytes for any row.
@@ -149,7 +149,7 @@ impl<'a> Stored<'a> {
     }
 }
 
-/// Whether a bitmap has a row. One without bytes has each row.
+/// Whether a row is valid in a bitmap. In one without bytes each row is.
 #[inline(always)]
 #[tactic(auto, unfolding(arrow_buffers::specs::Bits::bit_at))]
 fn has(bytes: &[u8], row: u64) -> bool
@@ -211,7 +211,7 @@ fn span<'a>(offsets: &[u8], values: &'a [u8], width: u32, row: u64) -> Option<&'
     between(values, start, end)
 }
 
-/// The offset at a place.
+/// The offset at an index.
 #[inline(always)]
 #[tactic(auto, unfolding(arrow_buffers::specs::Offsets::offset_at))]
 fn offset_at(offsets: &[u8], place: usize) -> u32

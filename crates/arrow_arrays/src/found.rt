@@ -26,7 +26,7 @@ pub(crate) fn own_column<'v>(batch: &BatchView<'v>, place: ArrayPlace) -> Column
     }
 }
 
-/// The rows of an array; none where they can't be told.
+/// The number of rows of an array; 0 where it can't be read.
 fn rows_at(batch: &BatchView<'_>, place: ArrayPlace) -> u64
     ensures { result ≡ rows_at batch.now place }
 {
@@ -36,7 +36,7 @@ fn rows_at(batch: &BatchView<'_>, place: ArrayPlace) -> u64
     }
 }
 
-/// The buffer at a place; no bytes where there is none.
+/// The buffer at an index; no bytes where there is none.
 fn bytes_at<'v>(batch: &BatchView<'v>, place: u32) -> &'v [u8]
     ensures { result.now ≡ bytes_at batch.now place }
 {
@@ -46,7 +46,7 @@ fn bytes_at<'v>(batch: &BatchView<'v>, place: u32) -> &'v [u8]
     }
 }
 
-/// Where the values stand of an array whose first buffer after its bitmap has this place.
+/// The values of an array whose first buffer after its bitmap has this index.
 #[tactic(auto, unfolding(crate::specs::Views::value_seen))]
 fn stored_at<'v>(batch: &BatchView<'v>, place: u32, layout: Layout) -> Stored<'v>
     requires { place + 2 < 2 ^ 32 }

@@ -13,14 +13,14 @@ use arrow_buffers::BufferFault;
 use arrow_ipc::BatchView;
 use arrow_schema::ArrowType;
 
-/// Where an array stands in a record batch, and how its values are stored. Nodes and buffers stand
+/// Where an array is in a record batch, and how its values are stored. Nodes and buffers come
 /// depth first (Arrow columnar format, "RecordBatch message").
 #[derive(Clone, Copy, Debug, PartialEq, Eq)]
 pub struct ArrayPlace {
     pub layout: Layout,
-    /// The place of its node among all nodes.
+    /// The index of its node among all nodes.
     pub node: u16,
-    /// The place of its validity bitmap among all buffers. Its other buffers come next.
+    /// The index of its validity bitmap among all buffers. Its other buffers come next.
     pub buffer: u16,
     /// Whether it holds the elements of lists. These are as many as its node counts; the rows of
     /// every other array are those of the batch.
@@ -42,9 +42,9 @@ impl ArrayPlace {
 
     /// Whether the array has no fault, else the first that is met: `Short` where its node or a
     /// buffer is missing, the node counts other rows than the array has, or a buffer is too small;
-    /// `BadNulls` where nulls are counted and no bitmap stands, or a list that isn't null has an
-    /// element that is; `BadOffsets` and `BadUtf8` as their names say. A text and a list are judged
-    /// where the array's own bitmap has its row. It takes time linear in the array's bytes.
+    /// `BadNulls` where nulls are counted and there is no bitmap, or a list that isn't null has an
+    /// element that is; `BadOffsets` and `BadUtf8` as their names say. A text or a list is checked
+    /// where its row is valid in the array's own bitmap. It takes time linear in the array's bytes.
     #[tactic(auto, unfolding(crate::specs::Cells::array_check))]
     pub fn check(self, batch: &BatchView<'_>) -> Result<(), BufferFault>
         ensures exact { result ≡ array_check batch.now self }

@@ -10,14 +10,14 @@ use arrow_schema::{ArrowType, DictSpec, Encoding, Name};
 pub enum Above {
     /// Nothing: it is a field of the schema.
     Top,
-    /// The struct whose array has this place in the list of arrays.
+    /// The struct whose array has this index in the list of arrays.
     Struct(usize),
     /// A list, whose elements its array holds.
     List,
 }
 
 impl Above {
-    /// What stands above the children of a field whose array has this place.
+    /// What is above the children of a field whose array has this index.
     pub(crate) fn of_children(kind: ArrowType, place: usize) -> Above
         ensures { result ≡ above_children kind place }
     {
@@ -48,13 +48,13 @@ pub struct ArraySpec {
     pub encoding: Encoding,
     /// What the field is a child of.
     pub above: Above,
-    /// The places of its node and of its first buffer.
+    /// The indexes of its node and of its first buffer.
     pub node: u16,
     pub buffer: u16,
 }
 
 impl ArraySpec {
-    /// Where it stands, and how its values are stored.
+    /// Where it is, and how its values are stored.
     pub fn place(&self) -> ArrayPlace
         ensures { result ≡ array_place self.now }
     {

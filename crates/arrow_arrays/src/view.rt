@@ -1,4 +1,4 @@
-//! The array at a place of a batch, with its faults.
+//! An array of a batch, with its faults.
 
 ghost use Rattle.std.specs.Prelude.{◌≡◌, ◌+◌, ◌^◌, ◌<◌};
 ghost use Rattle.arrow_arrays.specs.Cells.{length_in, rows_in, nulls_in, buffer_in, validity_in, bit_values, fixed_in, vars_in, elements_in, element_bytes, lists_in, values_in, array_in, content_check};
@@ -17,11 +17,11 @@ pub(crate) enum RowValues<'a> {
     Bits(Bits<'a>),
     Fixed(Fixed<'a>),
     Vars(Vars<'a>),
-    /// Lists, and which of their elements are there.
+    /// Lists, and which of their elements are valid.
     Lists(Lists<'a>, Bits<'a>),
 }
 
-/// An array: which rows are there, and their values.
+/// An array: which rows are valid, and their values.
 #[derive(Debug, Drop)]
 pub(crate) struct ArrayView<'a> {
     pub(crate) valid: Bits<'a>,
@@ -53,7 +53,7 @@ pub(crate) fn rows_in(batch: &BatchView<'_>, place: ArrayPlace) -> Result<u64, B
     Ok(batch.rows())
 }
 
-/// The length of the node at a place, which isn't negative.
+/// The length of the node at an index, which isn't negative.
 #[tactic(auto, unfolding(crate::specs::Cells::length_in))]
 fn length_in(batch: &BatchView<'_>, place: u32) -> Result<u64, BufferFault>
     ensures { result ≡ length_in batch.now place }
@@ -65,7 +65,7 @@ fn length_in(batch: &BatchView<'_>, place: u32) -> Result<u64, BufferFault>
     }
 }
 
-/// The null count of the node at a place, which counts the rows.
+/// The null count of the node at an index, which counts the rows.
 #[tactic(auto, unfolding(crate::specs::Cells::nulls_in))]
 fn nulls_in(batch: &BatchView<'_>, rows: u64, place: u32) -> Result<i64, BufferFault>
     ensures { result ≡ nulls_in batch.now rows place }
@@ -77,7 +77,7 @@ fn nulls_in(batch: &BatchView<'_>, rows: u64, place: u32) -> Result<i64, BufferF
     }
 }
 
-/// The buffer at a place.
+/// The buffer at an index.
 pub(crate) fn buffer_in<'a>(batch: &BatchView<'a>, place: u32) -> Result<&'a [u8], BufferFault>
     ensures { Gives (λ bytes. bytes.now) result (buffer_in batch.now place) }
 {
@@ -123,7 +123,7 @@ fn fixed_in<'a>(
     Ok(RowValues::Fixed(Fixed::new(bytes, width, rows)?))
 }
 
-/// The offsets stand at the place, and the values after them.
+/// The buffer at the index holds the offsets, and the next one the values.
 #[tactic(auto, unfolding(crate::specs::Cells::vars_in))]
 fn vars_in<'a>(batch: &BatchView<'a>, rows: u64, place: u32) -> Result<RowValues<'a>, BufferFault>
     requires { place + 1 < 2 ^ 32 }
@@ -175,7 +175,7 @@ fn lists_in<'a>(
     Ok(RowValues::Lists(lists, there))
 }
 
-/// The values stand after the validity bitmap.
+/// The values come after the validity bitmap.
 #[tactic(auto, unfolding(crate::specs::Cells::values_in))]
 fn values_in<'a>(
     batch: &BatchView<'a>,

@@ -61,7 +61,7 @@ bit-cell validity offsets values rows row below ok =
     let there : is_valid values row ≡ bit_at values row = cond-false (length values == 0) true (bit_at values row) (ne_eqb (length values) 0 (omega arith)) in
     rw (lt-ltb row rows below, there) (where-some (is_valid validity row) (value_at Bit offsets values row))
 
--- a test of each place below is one of each number in order
+-- a test of each number below one is a test of them in order
 all_below-list : (test : ℕ → Bool) (n : ℕ) → all_below test n ≡ list_all test (range_with_len 0 n)
 all_below-list test zero = refl
 all_below-list test (suc n) =

@@ -1,9 +1,9 @@
--- A test that holds at each place below a number.
+-- A test that holds for each number below one.
 use Rattle.std.proofs.Common.{◌≡◌, ℕ, zero, suc, ◌<◌, Bool, true, false, ◌&&◌, inl, inr, refl, ap, ◌∙◌, arith}
 use Rattle.std.proofs.lemmas.Bool.{and_parts, and_from, and_left, and_right, and_cases, cases_eq, true≢false}
 use Rattle.arrow_buffers.specs.Below.{all_below}
 
--- it holds at one of them
+-- it holds for one of them
 pub all_below-at : (test : ℕ → Bool) (n i : ℕ) → all_below test n ≡ true → i < n → test i ≡ true
 all_below-at test zero i holds below = absurd (omega arith)
 all_below-at test (suc n) i holds below =
@@ -16,7 +16,7 @@ all_below-each test zero each = refl
 all_below-each test (suc n) each =
     and_from (all_below test n) (test n) (all_below-each test n (λ i below. each i (omega arith))) (each n (omega arith))
 
--- one place where it fails is enough
+-- one number for which it fails is enough
 pub all_below-fails : (test : ℕ → Bool) (n i : ℕ) → test i ≡ false → i < n → all_below test n ≡ false
 all_below-fails test zero i fails below = absurd (omega arith)
 all_below-fails test (suc n) i fails below =
@@ -25,7 +25,7 @@ all_below-fails test (suc n) i fails below =
       | inr e ↦ and_left (all_below test n) (test n) (all_below-fails test n i fails (omega arith))
     ]
 
--- where it fails, it fails at one of them
+-- where it fails, it fails for one of them
 pub all_below-where : (test : ℕ → Bool) (n : ℕ) → all_below test n ≡ false → (i : ℕ) × (i < n) × (test i ≡ false)
 all_below-where test zero fails = absurd (true≢false fails)
 all_below-where test (suc n) fails =

@@ -87,7 +87,7 @@ spans-fine element rows offsets values has =
     let some : (rows == 0 && length all == 0) ≡ false = and_right (rows == 0) (length all == 0) (ne_eqb (length all) 0 (omega arith)) in
     rw (some, le-ltb (length all) (4 * (rows + 1)) (omega arith), has.fine) refl
 
--- no fault stands in what is stored
+-- what is stored has no fault
 pub no-fault : (width : Width) (rows : ℕ) (offsets values : List ℕ) → HasValueForEach width rows offsets values → HasNoFault width (ended_offsets width offsets values) values rows
 unfolding bits_of fixed_of vars_of lists_of
 no-fault Bit rows offsets values has = let len = has.1.len in rw (le-ltb (length values * 8) rows (omega arith)) refl

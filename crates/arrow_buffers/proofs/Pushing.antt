@@ -49,7 +49,7 @@ pushes-bit rows cell offsets values new stored width pushed =
       grown = λ cells len _. let packed = pushed.packed.len in omega (arith, length_push cells cell);
     }
 
--- what stands for a cell has the column's width
+-- what is stored for a cell has the column's width
 part-len : (width : ℕ) (cell : Option (List ℕ)) → ForSome cell (HasWidth (Fixed width)) → length (unwrap_or cell (replicate width 0)) ≡ width
 part-len width None fits = length-replicate {A = ℕ} width 0
 part-len width (Some value) fits = fits value refl

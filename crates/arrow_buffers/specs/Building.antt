@@ -1,4 +1,4 @@
--- What a column has in hand while it grows: words of an invariant and of private contracts.
+-- What a builder keeps while its column grows: used in an invariant and in private contracts.
 use Rattle.std.specs.Prelude.{◌≡◌, ℕ, zero, suc, ◌+◌, ◌*◌, ◌/◌, ◌%◌, ◌<◌, ◌≤◌, ⊤, true, is_none, count_by, List, [], ◌∷◌, ◌++◌, length, replicate, Option, None, ◌==◌, Bool, false, slice_index, Some}
 use Rattle.std.specs.Option.{ForSome}
 use Rattle.arrow_buffers.specs.declared.width.Width.{Width}
@@ -46,7 +46,7 @@ pub record PushesValue (width : Width) (rows : ℕ) (cell : Option (List ℕ)) (
   pub there : ForSome cell (λ value. value_at width (ended_offsets width new_offsets new_values) new_values rows ≡ value)
   pub grown : (cells : List (Option (List ℕ))) → length cells ≡ rows → length values ≡ values_len width cells → length new_values ≡ values_len width (cells ++ cell ∷ [])
 
--- what stands for nulls after the values of the rows, which are as they were
+-- what is stored for nulls, after the values of the rows, which are as they were
 pub record PushesNulls (width : Width) (rows count : ℕ) (offsets values new_offsets new_values : List ℕ) : Type 0 where
   pub stored : HasValueForEach width (rows + count) new_offsets new_values
   pub before : (k : ℕ) → k < rows → value_at width (ended_offsets width new_offsets new_values) new_values k ≡ value_at width (ended_offsets width offsets values) values k

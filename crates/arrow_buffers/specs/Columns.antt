@@ -1,4 +1,4 @@
--- A column of cells, and how they stand in its buffers (Arrow columnar format, "Physical memory
+-- A column of cells, and how its buffers hold them (Arrow columnar format, "Physical memory
 -- layout").
 use Rattle.std.specs.Prelude.{◌≡◌, ℕ, ◌+◌, ◌*◌, ◌/◌, ◌%◌, ◌<◌, ◌≤◌, ◌==◌, Bool, ⊤, if◌then◌else◌, List, [], ◌∷◌, length, map, sum_by, slice_index, Option, Some, None, Ok, ◌++◌}
 use Rattle.std.specs.List.{range_with_len}
@@ -40,7 +40,7 @@ cells_len cells = sum_by cell_len cells
 abbrev pub bit_byte : Bool → List ℕ
 bit_byte bit = (if bit then 1 else 0) ∷ []
 
--- a row's value by its place in the buffers
+-- a row's value by its index in the buffers
 abbrev pub value_at : Width → List ℕ → List ℕ → ℕ → List ℕ
 value_at Bit offsets values row = bit_byte (bit_at values row)
 value_at (Fixed width) offsets values row = row_part width values row
@@ -56,7 +56,7 @@ cell_at width validity offsets values row =
 unfoldable pub cells_of : Width → List ℕ → List ℕ → List ℕ → ℕ → List (Option (List ℕ))
 cells_of width validity offsets values rows = map (cell_at width validity offsets values) (range_with_len 0 rows)
 
--- no fault stands in the offsets and values of the rows
+-- the offsets and values of the rows have no fault
 abbrev pub HasNoFault : Width → List ℕ → List ℕ → ℕ → Type 0
 HasNoFault Bit offsets values rows = bits_of values rows ≡ Ok (record { bytes = values; rows = rows })
 HasNoFault (Fixed width) offsets values rows =

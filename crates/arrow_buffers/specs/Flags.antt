@@ -1,4 +1,4 @@
--- The validity bitmap of a column that grows: words of an invariant and of private contracts.
+-- The validity bitmap of a column that grows: used in an invariant and in private contracts.
 use Rattle.std.specs.Prelude.{◌≡◌, ℕ, ◌+◌, ◌<◌, ◌≤◌, Bool, false, if◌then◌else◌, List, []}
 use Rattle.arrow_buffers.specs.Bits.{is_valid}
 use Rattle.arrow_buffers.specs.Packed.{IsPacked}

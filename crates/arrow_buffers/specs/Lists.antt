@@ -23,7 +23,7 @@ lists_of offsets values width rows =
 unfoldable pub elements_of : ListsIn → ℕ → Option (List ℕ)
 elements_of l row = if nat_lt row l.rows then Some (span_at l.width l.offsets l.values row) else None
 
--- a row that a bitmap has, and one that it has not; past its rows it says neither
+-- a row that is valid in a bitmap, and one that is null; a row past the bitmap's rows is neither
 abbrev pub is_set : Option Bool → Bool
 is_set (Some bit) = bit
 is_set None = false
@@ -37,7 +37,7 @@ abbrev pub is_full : ListsIn → BitsIn → ℕ → Bool
 is_full l elements row =
     all_below (λ k. not (is_null (flag_of elements (offset_at l.offsets row + k)))) (offset_at l.offsets (row + 1) - offset_at l.offsets row)
 
--- a row that is null has no elements
+-- the elements of a row that is null are not looked at
 abbrev pub is_full_at : ListsIn → BitsIn → BitsIn → ℕ → Bool
 is_full_at l valid elements row = if is_set (flag_of valid row) then is_full l elements row else true
 

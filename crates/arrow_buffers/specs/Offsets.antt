@@ -7,7 +7,7 @@ use Rattle.arrow_buffers.specs.declared.fault.BufferFault.TheVariants.{Short, Ba
 use Rattle.arrow_buffers.specs.Below.{all_below}
 use Rattle.arrow_buffers.specs.Limits.{max_values}
 
--- the offset at a place: 32 bits, the lowest byte first
+-- the offset at an index: 32 bits, little-endian
 unfoldable pub offset_at : List ℕ → ℕ → ℕ
 offset_at offsets place = little_number 4 (drop (4 * place) offsets)
 
@@ -25,11 +25,11 @@ abbrev pub is_fine : ℕ → ℕ → ℕ → ℕ → Bool
 is_fine before offset width len =
     nat_lt offset max_values && (nat_le before offset && nat_le (offset * width) len)
 
--- the offset before a place, or 0 at the first
+-- the offset before an index, or 0 at the first
 abbrev pub offset_before : List ℕ → ℕ → ℕ
 offset_before offsets place = if place == 0 then 0 else offset_at offsets (place - 1)
 
--- whether the offset at a place is fine
+-- whether the offset at an index is fine
 abbrev pub is_fine_at : ℕ → List ℕ → List ℕ → ℕ → Bool
 is_fine_at width offsets values place =
     is_fine (offset_before offsets place) (offset_at offsets place) width (length values)

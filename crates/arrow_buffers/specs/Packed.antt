@@ -1,4 +1,4 @@
--- Bits that grow, the lowest bit of a byte first: words of an invariant and of private contracts.
+-- Bits that grow, the lowest bit of a byte first: used in an invariant and in private contracts.
 use Rattle.std.specs.Prelude.{◌≡◌, ℕ, ◌+◌, ◌/◌, ◌≤◌, ◌==◌, Bool, false, if◌then◌else◌, List, length}
 use Rattle.arrow_buffers.specs.Bits.{bit_at}
 

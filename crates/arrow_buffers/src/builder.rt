@@ -87,7 +87,7 @@ impl ColumnBuilder {
 
     /// Adds a cell after the others; `None` is null. The cell has the column's width, and the
     /// values of all cells stay below 2^31 bytes together. Takes amortised constant time for each
-    /// byte of the cell. Want of memory is returned for a row that Arrow could not count too; after
+    /// byte of the cell. Out of memory is also returned for a row that Arrow could not count; after
     /// it the column is as before.
     #[inline(always)]
     pub fn push(&mut self, cell: Option<&[u8]>) -> Result<(), AllocError>
@@ -115,7 +115,7 @@ impl ColumnBuilder {
     }
 
     /// Adds some nulls after the other cells. Takes amortised constant time for each byte that the
-    /// buffers grow by. Want of memory is returned for rows that Arrow could not count too; after
+    /// buffers grow by. Out of memory is also returned for rows that Arrow could not count; after
     /// it the column is as before.
     pub fn push_nulls(&mut self, count: u64) -> Result<(), AllocError>
         ensures ok { OnOk result (self.new ≡ record { width = self.old.width; cells = self.old.cells ++ replicate count None }) }
@@ -142,7 +142,7 @@ impl ColumnBuilder {
     }
 
     /// The buffers of the column. Where no cell is null the bitmap is left out; without rows there
-    /// still is one offset. What stands for a null among the values is left open.
+    /// still is one offset. What is stored for a null among the values is left open.
     pub fn finish(self) -> Result<Buffers, AllocError>
         ensures rows { IfOk result (λ b. b.rows ≡ length self.cells) }
         ensures few { IfOk result (λ b. b.rows < max_rows) }
@@ -224,7 +224,7 @@ fn push_value(
     }
 }
 
-/// Puts what stands for nulls after the values of the first `rows`.
+/// Puts the stored values of nulls after those of the first `rows`.
 fn push_null_values(
     width: Width,
     rows: u64,

@@ -22,13 +22,13 @@ pub fn limits_hold()
     ensures rows { MAX_ROWS ≡ max_rows }
 {}
 
-/// A test holds below a number where it holds at each place.
+/// A test holds for all numbers below one where it holds for each of them.
 pub fn below_is_at_each_place()
     ensures { (test : ℕ → Bool) (n : ℕ) → IsTrue (all_below test n) ↔ ((i : ℕ) → i < n → IsTrue (test i)) }
 {}
 
 /// Offsets have no fault exactly where they are as the format wants them, or there is nothing that
-/// they could lead to; and each fault stands exactly by its own condition.
+/// they could lead to; and each fault is found exactly under its own condition.
 pub fn offsets_have_their_faults()
     ensures no_fault { (width : ℕ) (offsets values : List ℕ) (rows : ℕ) → IsOk (offsets_check width offsets values rows)
         ↔ (AreNone offsets rows ⊎ AreOffsets width offsets values rows) }
@@ -46,7 +46,7 @@ pub fn values_are_joined()
         → flat_map (span_at width offsets values) (range_with_len 0 rows) ≡ slice_range values (offset_at offsets 0 * width) (offset_at offsets rows * width) }
 {}
 
-/// A column has one cell a row, by the row's place in the buffers.
+/// A column has one cell a row, by the row's index in the buffers.
 pub fn cells_are_read_by_row()
     ensures count { (width : Width) (validity offsets values : List ℕ) (rows : ℕ) → length (cells_of width validity offsets values rows) ≡ rows }
     ensures row { (width : Width) (validity offsets values : List ℕ) (rows row : ℕ) → row < rows

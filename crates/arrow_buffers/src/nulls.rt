@@ -1,4 +1,4 @@
-//! What stands among the values for nulls in a row.
+//! What is stored among the values for consecutive nulls.
 
 ghost use Rattle.std.specs.Prelude.{◌≡◌, ◌*◌, ◌/◌, ◌^◌, ◌<◌, ◌≤◌, ◌++◌, length, replicate, OnOk, OnErr};
 ghost use Rattle.arrow_buffers.specs.Building.{ended_times};

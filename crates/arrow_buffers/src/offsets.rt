@@ -7,7 +7,7 @@ ghost use Rattle.arrow_buffers.specs.Offsets.{offset_at, is_fine, offsets_check,
 use crate::BufferFault;
 use byteorder::{ByteOrder, LittleEndian};
 
-/// The offset at a place.
+/// The offset at an index.
 #[tactic(auto, unfolding(crate::specs::Offsets::offset_at))]
 fn offset_at(offsets: &[u8], place: usize) -> u32
     requires { 4 * (place + 1) ≤ length offsets.now }

@@ -95,7 +95,7 @@ pub(crate) fn push_part(
     }
 }
 
-/// Puts what stands for a null after the others.
+/// Puts zeros for a null after the others.
 #[inline(always)]
 fn push_null(values: &mut Vec<u8>, width: u32) -> Result<(), AllocError>
     ensures ok { OnOk result (values.new.items ≡ values.old.items ++ replicate width 0) }

@@ -11,7 +11,7 @@ use Rattle.lists.proofs.AllBytes.{IsBytes, IsBytes-drop, IsBytes-take}
 use Rattle.arrow_file.specs.Files.{magic, head, IsFramedFile}
 use Rattle.arrow_file.specs.Defects.{HasMagics, footer_size}
 
--- the sizes and the places that a footer determines
+-- the sizes and the offsets that a footer determines
 pub record Framing (bytes footer : List ℕ) : Type 0 where
   pub magics : HasMagics bytes
   pub size : footer_size bytes ≡ pos (length footer)

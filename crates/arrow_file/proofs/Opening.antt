@@ -11,7 +11,7 @@ use Rattle.arrow_file.specs.Defects
 use Rattle.arrow_file.specs.Defects.{IsShortFile, HasFileDefect}
 use Rattle.arrow_file.specs.Reading.{vectors_of}
 
--- what isn't there is None
+-- what is absent is None
 pub absent : {A : Type 0} (found : Option A) (P : Type 0) → ((x : A) → found ≡ Some x → ⊥) → IfNone found P → P
 absent None P none h = h
 absent (Some x) P none h = absurd (none x refl)

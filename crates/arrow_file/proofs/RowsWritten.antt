@@ -13,7 +13,7 @@ use Rattle.arrow_ipc.specs.Written.{padded, padded_part, body_of, most_of_batch,
 use Rattle.arrow_file.specs.declared.block.Block.{Block}
 use Rattle.arrow_file.specs.BlockBytes.{IsBlock, AppendsRows}
 
--- a number that is read at a place is the one in the bytes there
+-- a number that is read at an offset is the one in the bytes there
 number_is : (n : ℕ) (bytes : List ℕ) (place x : ℕ) → number_at n bytes place ≡ Ok x → little_number n (drop place bytes) ≡ x
 unfolding number_at part_at
 number_is n bytes place x h =

@@ -15,7 +15,7 @@ use Rattle.arrow_file.specs.Reading.{Finds}
 use Rattle.arrow_file.proofs.BlocksFound.{slice_get-blocks_in, length-blocks_in}
 use Rattle.arrow_file.proofs.Finding.{one_from}
 
--- Of the blocks' messages these were taken, up to a place: with those of the blocks that are left they are all, and the blocks have no
+-- Of the blocks' messages these were taken, up to an offset: with those of the blocks that are left they are all, and the blocks have no
 -- messages unless those that are left have some.
 pub record Took (bytes : List ℕ) (kind from : ℕ) (blocks left : List Block) (end : ℕ) (taken : List (List ℕ)) : Type 0 where
   pub all : (rest : List (List ℕ)) → AreMessagesOf bytes kind end left rest → AreMessagesOf bytes kind from blocks (taken ++ rest)
@@ -45,7 +45,7 @@ none_further : (bytes : List ℕ) (kind end : ℕ) (block : Block) (left : List 
 none_further bytes kind end block left none [] h = h
 none_further bytes kind end block left none (m ∷ rest) (first, h) = none m first
 
--- ---- by the places of a vector
+-- ---- by the indexes of a vector
 
 left_at : (v : VectorIn) (place : ℕ) → place < v.count → drop place (blocks_in v) ≡ block_at v place ∷ drop (place + 1) (blocks_in v)
 left_at v place h =

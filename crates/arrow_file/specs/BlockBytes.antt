@@ -1,4 +1,4 @@
--- How blocks are made and laid out, and what is appended with one: words of private contracts.
+-- How blocks are made and laid out, and what is appended with one: used in private contracts.
 use Rattle.std.specs.Prelude.{◌≡◌, ℕ, ◌+◌, ◌-◌, ◌%◌, ◌<◌, List, ◌++◌, length, drop, slice_index_or, ℤ, pos, FitsSigned}
 use Rattle.std.specs.Int.{w32, w64, cast_unsigned}
 use Rattle.std.specs.List.{flat_map}

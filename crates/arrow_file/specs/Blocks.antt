@@ -8,7 +8,7 @@ use Rattle.flat_tables.specs.declared.fault.FlatFault.{FlatFault}
 use Rattle.flat_tables.specs.Tables.{TableIn, VectorIn, vector_slot, element_part}
 use Rattle.arrow_file.specs.declared.block.Block.{Block}
 
--- struct Block: the offset of the message (i64), the size of its metadata with the mark and the size in front of them (i32), four
+-- struct Block: the offset of the message (i64), the size of its metadata with the continuation marker and the size before them (i32), four
 -- bytes that align what follows, and the size of its body (i64)
 abbrev pub block_in : List ℕ → Block
 block_in part = record {
@@ -17,7 +17,7 @@ block_in part = record {
   body_size = cast_signed w64 (little_number 8 (drop 16 part));
 }
 
--- the block at a place of a vector
+-- the block at an index of a vector
 abbrev pub block_at : VectorIn → ℕ → Block
 block_at v i = block_in (unwrap_or (element_part v i) [])
 

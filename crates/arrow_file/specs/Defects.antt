@@ -45,7 +45,7 @@ pub data HasFileDefect (bytes : List ℕ) : FileRefusal → Type 0 where
   bad_root : (footer : List ℕ) (e : FlatFault) → IsShortFile bytes footer → root_at footer ≡ Err e → HasFileDefect bytes (BadFooter e)
   bad_blocks : (footer : List ℕ) (table : TableIn) (e : FlatFault) → IsShortFile bytes footer → root_at footer ≡ Ok table
       → (blocks_slot table 2 ≡ Err e) ⊎ (blocks_slot table 3 ≡ Err e) → HasFileDefect bytes (BadFooter e)
-  -- no Schema message is at its place
+  -- no Schema message is at offset 8
   bad_schema : (dictionaries batches : List Block) → length bytes ≤ max_file → HasFooter bytes dictionaries batches
       → HasNoMessageAt bytes 1 8 → HasFileDefect bytes BadSchema
   -- one of the two vectors has a block with no message of its kind, or with one that begins too early
@@ -54,7 +54,7 @@ pub data HasFileDefect (bytes : List ℕ) : FileRefusal → Type 0 where
       → HaveNoMessages bytes 2 (8 + length schema) dictionaries ⊎ HaveNoMessages bytes 3 (8 + length schema) batches
       → HasFileDefect bytes BadBlock
 
--- what a call returns in the place of a file: a defect of it, or that memory ran out
+-- what a call returns instead of a file: a defect of it, or that memory ran out
 abbrev pub Refuses : List ℕ → FileRefusal → Type 0
 Refuses bytes (Memory e) = Unit {0}
 Refuses bytes refusal = HasFileDefect bytes refusal

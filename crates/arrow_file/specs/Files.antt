@@ -29,7 +29,7 @@ pub record HasFooter (bytes : List ℕ) (dictionaries batches : List Block) : Ty
   pub dictionary_blocks : blocks_slot table 2 ≡ Ok dictionaries
   pub batch_blocks : blocks_slot table 3 ≡ Ok batches
 
--- A message of this kind (1 Schema, 2 DictionaryBatch, 3 RecordBatch) is at an offset, and these are its bytes. It is read against all
+-- A message of this kind (1 Schema, 2 DictionaryBatch, 3 RecordBatch) is at an offset, and these are its bytes. It is read in all the
 -- bytes from the offset on.
 pub record IsMessageAt (bytes : List ℕ) (kind offset : ℕ) (message : List ℕ) : Type 0 where
   pub reads : IpcMessage

@@ -1,4 +1,4 @@
--- How a footer is built: words of private contracts.
+-- How a footer is built: used in private contracts.
 use Rattle.std.specs.Prelude.{◌≡◌, ℕ, ◌-◌, ◌<◌, ◌^◌, List, [], ◌∷◌, length, Ok, Some, pos}
 use Rattle.std.specs.Int.{w16}
 use Rattle.lists.specs.Results.{◌>>=◌}
@@ -8,7 +8,7 @@ use Rattle.arrow_ipc.specs.Written.{version_5, IsTableOf, RootAfterZeros}
 use Rattle.arrow_file.specs.declared.block.Block.{Block}
 use Rattle.arrow_file.specs.Written.{HoldsBlocks}
 
--- the footer whose schema was built at a place, counted from the end, and which has these blocks
+-- the footer whose schema was built at an offset, counted from the end, and which has these blocks
 pub record IsFooter (built : List ℕ) (schema : ℕ) (blocks : List Block) (footer : List ℕ) : Type 0 where
   pub grows : Grows built footer
   pub table : TableIn

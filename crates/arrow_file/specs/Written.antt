@@ -37,7 +37,7 @@ abbrev pub message_bytes : List WrittenBatch → List ℕ
 message_bytes written = flat_map (λ b. b.message) written
 
 -- A record batch is written at an offset: its message is laid out as each one that is written, and its block has the offset, the size
--- of the metadata with the mark and the size in front of them, and the size of the body. Each is a multiple of 8.
+-- of the metadata with the continuation marker and the size before them, and the size of the body. Each is a multiple of 8.
 pub record IsWrittenAt (offset : ℕ) (b : WrittenBatch) : Type 0 where
   pub laid : IsLaidOut b.message (Rows b.batch) (length b.message)
   pub offset_is : b.block.offset ≡ pos offset
@@ -84,7 +84,7 @@ pub record IsWrittenFooter (spec : SchemaSpec) (blocks : List Block) (footer : L
 
 -- ---- the file
 
--- the end of a row of messages: a mark, and the size 0 (Arrow columnar format, "IPC Streaming Format")
+-- the end of the messages: the continuation marker, and the size 0 (Arrow columnar format, "IPC Streaming Format")
 abbrev pub end_mark : List ℕ
 end_mark = 0xFF ∷ 0xFF ∷ 0xFF ∷ 0xFF ∷ 0 ∷ 0 ∷ 0 ∷ 0 ∷ []
 

@@ -9,7 +9,7 @@ use byteorder::{ByteOrder, LittleEndian};
 use flat_tables::VectorView;
 use std::alloc::{AllocError, Global};
 
-/// How many bytes the mark and the size in front of a message's metadata take.
+/// How many bytes the continuation marker and the size before a message's metadata take.
 const PREFIX: usize = 8;
 
 /// How many bytes a block takes.
@@ -18,9 +18,9 @@ pub(crate) const BLOCK: u32 = 24;
 /// Where a message is in a file, and how long its parts are (struct Block of File.fbs).
 #[derive(Clone, Copy, Debug)]
 pub(crate) struct Block {
-    /// Where the message's mark begins.
+    /// Where the message's continuation marker begins.
     pub(crate) offset: i64,
-    /// The bytes of the mark, the size and the metadata.
+    /// The bytes of the continuation marker, the size and the metadata.
     pub(crate) metadata_size: i32,
     pub(crate) body_size: i64,
 }

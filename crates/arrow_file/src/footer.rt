@@ -13,7 +13,7 @@ use std::alloc::AllocError;
 /// The version that is written: V5.
 const VERSION: i16 = 4;
 
-/// The end of the messages: a mark, and the size 0.
+/// The end of the messages: the continuation marker, and the size 0.
 const END_MARK: [u8; 8] = [0xFF, 0xFF, 0xFF, 0xFF, 0, 0, 0, 0];
 
 /// The footer of a file: the table Footer, with no dictionary batches. Its schema was built before.

@@ -26,7 +26,7 @@ pub struct FileWriter {
     /// The file so far, up to the last record batch message.
     bytes: Vec<u8>,
     blocks: Vec<Block>,
-    /// What was built of the footer, and the place of the schema in it.
+    /// What was built of the footer, and the offset of the schema in it.
     footer: Builder,
     schema: Place,
 }
@@ -66,7 +66,7 @@ impl FileWriter {
         })
     }
 
-    /// Adds a record batch. Where memory runs out, the file is as it was, and the batch is given up.
+    /// Adds a record batch. Where memory runs out, the file is as it was, and the batch is dropped.
     pub fn add_rows(&mut self, batch: BatchBuilder) -> Result<(), AllocError>
         requires { length self.old.blocks < max_batches }
         ensures ok { OnOk result (AddsRows batch self.old self.new) }

@@ -1,4 +1,4 @@
--- At the start of bytes stands one message and no fault, or at least one fault; at their end neither.
+-- At the start of bytes there is one message and no fault, or at least one fault; at their end there is neither.
 use Rattle.std.proofs.Common.{◌≡◌, ◌≢◌, ℕ, ◌+◌, ◌-◌, ◌≤◌, Bool, true, List, [], length, Result, Ok, Err, Option, Some, None, MatchResult, inl, inr, refl, sym, ap, ◌∙◌, subst, arith}
 use Rattle.std.specs.Prelude.{ℤ, pos, negsuc}
 use Rattle.std.specs.List.{list_all}
@@ -173,7 +173,7 @@ metadata_decided bytes =
       ]
     ]
 
--- the body at a place
+-- the body at an offset
 record HasPart (bytes : List ℕ) (place : ℕ) (table : TableIn) (part : List ℕ) : Type 0 where
   size : body_size_of table ≡ Ok (pos (length part))
   whole : part_at bytes place (length part) ≡ Ok part

@@ -74,7 +74,7 @@ left_has_none : (bytes : List ℕ) (messages : List IpcMessage) (left : List ℕ
 left_has_none bytes [] left f = subst HasNoMessage (sym f.0) f.1
 left_has_none bytes (m ∷ ms) left (size, h, f) = left_has_none (drop size bytes) ms left f
 
--- a message stands at the start of bytes, or a fault
+-- bytes begin with a message, or have a fault
 pub message_or_fault : (bytes : List ℕ) → bytes ≢ [] → ((m : IpcMessage) × (size : ℕ) × IsMessage bytes m size) ⊎ ((fault : IpcFault) × Stands bytes fault)
 message_or_fault bytes some = go (order.message bytes) (decided bytes)
   where
@@ -83,7 +83,7 @@ message_or_fault bytes some = go (order.message bytes) (decided bytes)
     go (Ok (m, size)) h = inl (m, size, h)
     go (Err e) h = inr (e, h some)
 
--- so what is left is empty, or a fault stands there
+-- so what is left is empty, or has a fault
 fault_or_end : (bytes : List ℕ) → HasNoMessage bytes → (bytes ≡ []) ⊎ ((fault : IpcFault) × Stands bytes fault)
 fault_or_end [] none = inl refl
 fault_or_end (byte ∷ bytes) none = elim (message_or_fault (byte ∷ bytes) (λ empty. cc)) [ inl (m, size, h) ↦ absurd (none m size h) | inr found ↦ inr found ]

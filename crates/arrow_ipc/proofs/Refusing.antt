@@ -1,4 +1,4 @@
--- Why a schema isn't given.
+-- Why no schema is returned.
 use Rattle.flat_tables.specs.Tables.{TableIn}
 use Rattle.arrow_schema.specs.declared.refusal.SchemaRefusal.{SchemaRefusal}
 use Rattle.arrow_schema.specs.declared.refusal.SchemaRefusal.TheVariants.{Flat, Unsupported, TooManyFields, TooDeep, BadName, DictionaryTypes, Memory}

@@ -1,4 +1,4 @@
--- A message that stands is the only one, and no fault stands beside it.
+-- A message at the start of bytes is the only one, and there is no fault beside it.
 use Rattle.std.proofs.Common.{◌≡◌, ◌≢◌, ℕ, ◌+◌, ◌≤◌, Bool, List, [], length, Ok, Some, inl, inr, refl, sym, ap, ◌∙◌, subst, arith}
 use Rattle.std.specs.Prelude.{ℤ}
 use Rattle.std.specs.List.{list_all}
@@ -19,7 +19,7 @@ use Rattle.arrow_ipc.specs.Faults.{HasTable, HasHeader, HasBatch, HasBody, Stand
 use Rattle.arrow_ipc.specs.Order as order
 use Rattle.arrow_ipc.proofs.Parts.{part_lies}
 
--- ---- a message that stands is what reading gives
+-- ---- a message that is there is what reading gives
 
 batch_read : (table : TableIn) (part : List ℕ) (batch : BatchIn) → IsBatch table part batch → order.batch_of table part ≡ Ok batch
 unfolding order.batch_of
@@ -80,7 +80,7 @@ one_message bytes m n a b h k =
     let same : p ≡ q = cc (message_read bytes m a h, message_read bytes n b k) in
     (ap (λ x. x.0) same, ap (λ x. x.1) same)
 
--- ---- no fault stands beside it
+-- ---- there is no fault beside it
 
 same_metadata : (bytes a b : List ℕ) → IsFramed bytes a → IsFramed bytes b → a ≡ b
 same_metadata bytes a b f g = cc (metadata_read bytes a f, metadata_read bytes b g)
@@ -193,7 +193,7 @@ alone bytes m size e h (Faults.bad_schema table refusal has is) =
     let told : (fields : SchemaSpec) × (schema_of table ≡ Ok fields) = schema_told bytes m size h table has in
     read_has_none table told.0 refusal told.1 is
 
--- ---- and none stands at the end of the bytes
+-- ---- and there is none at the end of the bytes
 
 framed_some : (bytes metadata : List ℕ) → IsFramed bytes metadata → bytes ≢ []
 framed_some bytes metadata f empty = absurd (omega (arith, ap length empty, (part_lies bytes 8 (length metadata) metadata f.whole).inside))

@@ -17,7 +17,7 @@ pub record BatchIn : Type 0 where
 abbrev pub struct_of : List ℕ → ℤ × ℤ
 struct_of part = (cast_signed w64 (little_number 8 part), cast_signed w64 (little_number 8 (drop 8 part)))
 
--- the struct at a place of a vector
+-- the struct at an index of a vector
 abbrev pub struct_at : VectorIn → ℕ → ℤ × ℤ
 struct_at v i = struct_of (unwrap_or (element_part v i) [])
 
@@ -42,7 +42,7 @@ lies_in size place = lies_from size place.0 place.1
 abbrev pub buffer_of : List ℕ → ℤ × ℤ → List ℕ
 buffer_of body place = take (unsigned_abs place.1) (drop (unsigned_abs place.0) body)
 
--- table RecordBatch: the number of rows (slot 0), the nodes (1), the places of the buffers (2)
+-- table RecordBatch: the number of rows (slot 0), the nodes (1), the offsets and lengths of the buffers (2)
 unfoldable pub row_count : TableIn → Result ℤ FlatFault
 row_count t = or_default (pos 0) (signed_slot w64 8 t 0)
 

@@ -1,4 +1,4 @@
--- Why no message stands at the start of bytes.
+-- Why bytes begin with no message.
 use Rattle.std.specs.Prelude.{◌≡◌, ◌≢◌, ℕ, ◌+◌, ◌<◌, ◌⊎◌, false, List, [], length, Ok, Err, None, Some, IsSome, ℤ, pos, negsuc}
 use Rattle.std.specs.List.{list_all}
 use Rattle.flat_tables.specs.declared.fault.FlatFault.{FlatFault}
@@ -10,7 +10,7 @@ use Rattle.arrow_ipc.specs.declared.fault.IpcFault.TheVariants.{Cut, Flat, BadVe
 use Rattle.arrow_ipc.specs.Batches.{lies_in, row_count, nodes_of, places_of}
 use Rattle.arrow_ipc.specs.Messages.{IsFramed, version_of, header_kind, header_table_of, body_size_of, is_known, id_of, data_of, delta_of}
 
--- the root table of the metadata, and how many bytes stand after the metadata
+-- the root table of the metadata, and how many bytes come after the metadata
 pub record HasTable (bytes : List ℕ) (table : TableIn) (after : ℕ) : Type 0 where
   pub metadata : List ℕ
   pub framed : IsFramed bytes metadata
@@ -33,9 +33,9 @@ HasBatch bytes batch = HasHeader bytes 3 batch ⊎ ((header : TableIn) × HasHea
 abbrev pub HasBody : List ℕ → ℕ → Type 0
 HasBody bytes size = (table : TableIn) × (after : ℕ) × HasTable bytes table after × (body_size_of table ≡ Ok (pos size))
 
--- Each fault that stands at the start of bytes. Several may stand side by side, and at the end of the bytes none does.
+-- Each fault at the start of bytes. There may be several side by side, and at the end of the bytes there is none.
 pub data Stands (bytes : List ℕ) : IpcFault → Type 0 where
-  -- another mark stands there, or the mark, the size or the metadata runs past the bytes; or the body does
+  -- another marker is there, or the marker, the size or the metadata runs past the bytes; or the body does
   no_frame : bytes ≢ [] → ((metadata : List ℕ) → IsFramed bytes metadata → ⊥) → Stands bytes Cut
   no_body : (table : TableIn) (after size : ℕ) → HasTable bytes table after → body_size_of table ≡ Ok (pos size) → after < size → Stands bytes Cut
   -- a part that is needed can't be read: of the table Message ..
@@ -69,7 +69,7 @@ pub data Stands (bytes : List ℕ) : IpcFault → Type 0 where
   -- the schema is refused
   bad_schema : (header : TableIn) (refusal : SchemaRefusal) → HasHeader bytes 1 header → HasDefect header refusal → Stands bytes (Schema refusal)
 
--- what a call returns in the place of a message: a fault that stands there, or that memory ran out
+-- what a call returns instead of a message: a fault that is there, or that memory ran out
 abbrev pub Refuses : List ℕ → IpcFault → Type 0
 Refuses bytes (Memory e) = Unit {0}
 Refuses bytes fault = Stands bytes fault

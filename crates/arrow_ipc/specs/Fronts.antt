@@ -1,4 +1,4 @@
--- The messages that stand one after the other in bytes.
+-- The messages that follow one another in bytes.
 use Rattle.std.specs.Prelude.{◌≡◌, ℕ, zero, suc, ◌+◌, Bool, true, false, List, [], ◌∷◌, length, drop, if◌then◌else◌, Result, Ok, Err, Option, Some, None, MatchResult, MatchOption}
 use Rattle.arrow_ipc.specs.declared.fault.IpcFault.{IpcFault}
 use Rattle.arrow_ipc.specs.declared.fault.IpcFault.TheVariants.{Memory}
@@ -11,11 +11,11 @@ use Rattle.arrow_ipc.specs.Batches.{BatchIn}
 use Rattle.arrow_ipc.specs.Messages.{IsMessage}
 use Rattle.arrow_ipc.specs.Order as order
 
--- no message stands at the start of the bytes
+-- the bytes begin with no message
 abbrev pub HasNoMessage : List ℕ → Type 0
 HasNoMessage bytes = (message : IpcMessage) (size : ℕ) → IsMessage bytes message size → ⊥
 
--- The front of the bytes: all the messages that stand one after the other from their start on, and the bytes that are left.
+-- The front of the bytes: all the messages that follow one another from their start on, and the bytes that are left.
 abbrev pub Front : List ℕ → List IpcMessage → List ℕ → Type 0
 Front bytes [] left = (left ≡ bytes) × HasNoMessage bytes
 Front bytes (message ∷ messages) left = (size : ℕ) × IsMessage bytes message size × Front (drop size bytes) messages left
@@ -55,7 +55,7 @@ pub record MessagesIn : Type 0 where
 abbrev pub rest_of : MessagesIn → List ℕ
 rest_of m = if m.ended then [] else drop m.place m.bytes
 
--- it gave the message that stood at its place, and moved after it
+-- it returned the message at its offset, and moved past it
 pub record Advances (old new : MessagesIn) (message : IpcMessage) : Type 0 where
   pub goes_on : old.ended ≡ false
   pub size : ℕ
@@ -66,7 +66,7 @@ pub record Advances (old new : MessagesIn) (message : IpcMessage) : Type 0 where
 abbrev pub ReadsNoFurther : MessagesIn → MessagesIn → Type 0
 ReadsNoFurther old new = new ≡ record { bytes = old.bytes; place = old.place; ended = true }
 
--- no message stands in front, unless memory ran out
+-- the bytes begin with no message, unless memory ran out
 abbrev pub EndsFront : List ℕ → IpcFault → Type 0
 EndsFront bytes (Memory e) = Unit {0}
 EndsFront bytes fault = (front_of bytes ≡ []) × (left_of bytes ≡ bytes)
@@ -89,10 +89,10 @@ abbrev pub rows_found : Result FoundHeader IpcFault → Option BatchIn
 rows_found (Ok found) = rows_held found.header
 rows_found (Err fault) = None
 
--- the batch of the record batch message that stands at the start of the bytes
+-- the batch of the record batch message that the bytes begin with
 unfoldable pub record_batch_in : List ℕ → Option BatchIn
 record_batch_in bytes = rows_found (order.find bytes)
 
--- a record batch message stands at the start of the bytes
+-- the bytes begin with a record batch message
 abbrev pub HasRows : List ℕ → BatchIn → Type 0
 HasRows bytes batch = (size : ℕ) × IsMessage bytes (content.Rows batch) size

@@ -24,6 +24,6 @@ pub record IsBatchInside (b : batch.Inside) : Type 0 where
 abbrev pub messages_in : messages.Inside → MessagesIn
 messages_in m = record { bytes = m.bytes.now; place = m.place; ended = m.ended }
 
--- the place is in the bytes
+-- the offset is in the bytes
 pub record IsMessagesInside (m : messages.Inside) : Type 0 where
   pub place : m.place ≤ length m.bytes.now

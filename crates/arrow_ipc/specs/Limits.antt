@@ -17,7 +17,7 @@ max_body = 536870912
 abbrev pub message_most : ℕ
 message_most = 2048
 
--- for a node, and for the place of a buffer
+-- for a node, and for the offset and the length of a buffer
 abbrev pub node_most : ℕ
 node_most = 16
 

@@ -10,11 +10,11 @@ use Rattle.arrow_ipc.specs.declared.messages.IpcMessage.{IpcMessage}
 use Rattle.arrow_ipc.specs.declared.messages.IpcMessage.TheVariants.{Schema, Dictionary, Rows}
 use Rattle.arrow_ipc.specs.Batches.{BatchIn, IsBatch}
 
--- what stands in front of each message
+-- the continuation marker, which each message begins with
 abbrev pub continuation : ℕ
 continuation = 0xFFFF_FFFF
 
--- the continuation, the size of the metadata, and the metadata stand whole at the start of the bytes
+-- the bytes begin with the continuation marker, the size of the metadata, and the whole metadata
 pub record IsFramed (bytes metadata : List ℕ) : Type 0 where
   pub marked : number_at 4 bytes 0 ≡ Ok continuation
   pub size : number_at 4 bytes 4 ≡ Ok (length metadata)
@@ -67,7 +67,7 @@ kind_number (Schema fields) = 1
 kind_number (Dictionary id delta batch) = 2
 kind_number (Rows batch) = 3
 
--- a message stands at the start of the bytes, and takes `size` of them
+-- the bytes begin with a message, which takes `size` of them
 pub record IsMessage (bytes : List ℕ) (message : IpcMessage) (size : ℕ) : Type 0 where
   pub metadata : List ℕ
   pub framed : IsFramed bytes metadata

@@ -105,7 +105,7 @@ message_of (header.Rows batch) = Ok (content.Rows batch)
 unfoldable pub message : List ℕ → Result (IpcMessage × ℕ) IpcFault
 message bytes = find bytes >>= λ found. message_of found.header >>= λ m. Ok (m, found.size)
 
--- the fault of a schema that is refused: want of memory is a fault of its own
+-- the fault of a schema that is refused: out of memory is a fault of its own
 abbrev pub fault_of : SchemaRefusal → IpcFault
 fault_of (refusal.Memory e) = Memory e
 fault_of other = Schema other

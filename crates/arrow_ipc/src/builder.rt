@@ -78,7 +78,7 @@ impl BatchBuilder {
         Ok(())
     }
 
-    /// Appends the batch as a record batch message. Its length and the place of its body are
+    /// Appends the batch as a record batch message. Its length and the offset of its body are
     /// multiples of 8.
     pub fn finish_rows(self, to: &mut Vec<u8>) -> Result<(), AllocError>
         ensures ok { OnOk result (Appends (Rows self) (most_of_batch self) to.old.items to.new.items) }

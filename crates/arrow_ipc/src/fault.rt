@@ -3,11 +3,11 @@ use flat_tables::FlatFault;
 use std::alloc::AllocError;
 use thiserror::Error;
 
-/// Why no message can be read at a place.
+/// Why no message can be read at an offset.
 #[derive(Debug, Drop, Error)]
 pub enum IpcFault {
-    /// The mark, the size, the metadata or the body runs past the bytes, or another mark stands
-    /// there.
+    /// The continuation marker, the size, the metadata or the body runs past the bytes, or another
+    /// marker is there.
     #[error("the message is cut off, or begins with another mark")]
     Cut,
     /// A part of the metadata's tables that is needed can't be read.
@@ -19,8 +19,8 @@ pub enum IpcFault {
     /// The buffers of a batch are compressed.
     #[error("the buffers are compressed")]
     Compressed,
-    /// The body's size, the number of rows, or a place of a buffer is below zero, or a buffer
-    /// doesn't lie in the body.
+    /// The body's size, the number of rows, or the offset or length of a buffer is below zero, or a
+    /// buffer doesn't lie in the body.
     #[error("a buffer doesn't lie in the body, or a size is below zero")]
     BadBody,
     /// The header is of another kind than a schema, a dictionary batch or a record batch; or it,
@@ -52,7 +52,7 @@ impl From<SchemaRefusal> for IpcFault {
 
     ghost from_gives = { λ refusal fault. fault ≡ fault_of refusal };
 
-    /// Want of memory is a fault of its own.
+    /// Out of memory is a fault of its own.
     fn from(refusal: SchemaRefusal) -> IpcFault {
         match refusal {
             SchemaRefusal::Memory(e) => IpcFault::Memory(e),

@@ -11,7 +11,7 @@ use crate::fault::IpcFault;
 use byteorder::{ByteOrder, LittleEndian};
 use flat_tables::{TableView, VectorView};
 
-/// What stands in front of each message.
+/// The continuation marker, which each message begins with.
 pub(crate) const CONTINUATION: u32 = 0xFFFF_FFFF;
 
 /// How many bytes the continuation and the size of the metadata take.
@@ -77,7 +77,7 @@ fn number(bytes: &[u8], place: usize) -> Result<u32, IpcFault>
     Ok(LittleEndian::read_u32(part(bytes, place, 4)?))
 }
 
-/// The metadata, where it and what stands before it are whole.
+/// The metadata, where it and the prefix before it are whole.
 #[tactic(auto, unfolding(crate::specs::Order::metadata))]
 fn metadata(bytes: &[u8]) -> Result<&[u8], IpcFault>
     ensures value { Gives (λ part. part.now) result (order.metadata bytes.now) }

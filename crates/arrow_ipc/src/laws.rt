@@ -14,8 +14,8 @@ pub fn limits_hold()
     ensures body { MAX_BODY ≡ max_body }
 {}
 
-/// At the start of bytes stands one message and no fault, or at least one fault and no message; at
-/// the end of the bytes stands neither.
+/// At the start of bytes there is one message and no fault, or at least one fault and no message;
+/// at the end of the bytes there is neither.
 pub fn message_or_fault()
     ensures one { (bytes : List ℕ) (m n : IpcMessage) (a b : ℕ) → IsMessage bytes m a → IsMessage bytes n b → (m ≡ n) × (a ≡ b) }
     ensures never_both { (bytes : List ℕ) (m : IpcMessage) (size : ℕ) (fault : IpcFault) → IsMessage bytes m size → Stands bytes fault → ⊥ }
@@ -23,8 +23,8 @@ pub fn message_or_fault()
     ensures end { (fault : IpcFault) → Stands [] fault → ⊥ }
 {}
 
-/// All bytes have just one front. It ends at their end or at a place where a fault stands, and never
-/// at both.
+/// All bytes have just one front. It ends at their end or at an offset with a fault, and never at
+/// both.
 pub fn one_front()
     ensures one { (bytes : List ℕ) (ms ns : List IpcMessage) (left rest : List ℕ) → Front bytes ms left → Front bytes ns rest → (ms ≡ ns) × (left ≡ rest) }
     ensures some { (bytes : List ℕ) → Front bytes (front_of bytes) (left_of bytes) }

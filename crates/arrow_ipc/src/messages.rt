@@ -29,7 +29,7 @@ pub enum IpcMessage<'a> {
     Rows(BatchView<'a>),
 }
 
-/// The messages that stand one after the other in bytes.
+/// The messages that follow one another in bytes.
 #[derive(Debug, Drop)]
 pub struct Messages<'a> {
     bytes: &'a [u8],
@@ -68,8 +68,8 @@ impl<'a> Messages<'a> {
         self.place
     }
 
-    /// The next message, or a fault that stands in its place; `None` at the end of the bytes and
-    /// after a fault, want of memory among them. Where several faults stand, any of them is
+    /// The next message, or a fault instead; `None` at the end of the bytes and after a fault, also
+    /// after out of memory. Where there are several faults, any of them is
     /// returned.
     ///
     /// It costs as much as the metadata is long: bodies are not walked. Only a schema takes
@@ -125,15 +125,15 @@ fn message_of(alloc: Global, header: Header<'_>) -> Result<IpcMessage<'_>, IpcFa
     }
 }
 
-/// The bytes from a place on.
+/// The bytes from an offset on.
 fn rest(bytes: &[u8], place: usize) -> &[u8]
     ensures { result.now ≡ drop place bytes.now }
 {
     &bytes[place.min(bytes.len())..]
 }
 
-/// The record batch message that stands at a place; `None` where no such message stands there
-/// without a fault. It takes no memory.
+/// The record batch message at an offset; `None` where there is none, or it has a fault. It takes
+/// no memory.
 pub fn rows_at<'a>(bytes: &'a [u8], place: usize) -> Option<BatchView<'a>>
     ensures value { result ≡ record_batch_in (drop place bytes.now) }
     ensures some { IfSome result (HasRows (drop place bytes.now)) }

@@ -96,7 +96,7 @@ fn push(bytes: &mut Vec<u8>, number: i64) -> Result<(), AllocError>
     Ok(())
 }
 
-/// Appends a message, whose header stands at a place of the builder.
+/// Appends a message, whose header is at an offset of the builder.
 pub(crate) fn write_message(
     to: &mut Vec<u8>,
     builder: Builder,

@@ -1,4 +1,4 @@
--- Where tables say a schema within the limits, no defect stands.
+-- Tables that say a schema within the limits have no defect.
 use Rattle.std.specs.Prelude.{◌≡◌, ℕ, zero, suc, ◌+◌, ◌<◌, ◌≤◌, true, false, List, [], ◌∷◌, length, slice_index_or, Ok, Option, None, Some, ℤ, pos}
 use Rattle.std.proofs.Common.{refl, sym, ap, ◌∙◌, subst, inl, inr, arith}
 use Rattle.std.proofs.lemmas.Bool.{and_parts}

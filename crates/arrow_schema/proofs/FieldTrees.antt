@@ -48,7 +48,7 @@ named_below f h = and_parts (is_named (encoding_in f)) (encodings_named (childre
 pub widths_below : (f : FieldSpec) → IsTrue (widths_in f) → IsTrue (widths_fit (children_in f))
 widths_below f h = (and_parts (fits_width (kind_in f)) (widths_fit (children_in f)) (sym (widths_in_is f) ∙ h)).1
 
--- what a field costs, in bytes of names and in fields, and what the fields from a place on do
+-- what a field costs, in bytes of names and in fields, and what the fields from an index on do
 pub costs : (f : FieldSpec) → (names_in f ≡ length (name_in f) + names_of (children_in f)) × (field_count f ≡ 1 + count_of (children_in f))
 costs f = (names_in_is f, count_in_is f)
 

@@ -1,4 +1,4 @@
--- Uses of dictionaries stand at fields of the schema.
+-- Each use of a dictionary is at a field of the schema.
 use Rattle.std.specs.Prelude.{◌≡◌, ℕ, ◌+◌, zero, suc, ◌<◌, true, List, [], ◌∷◌, length, slice_index_or, Ok, Option, None, Some, ℤ}
 use Rattle.std.proofs.Common.{refl, sym, subst, inl, inr, arith}
 use Rattle.std.proofs.lemmas.Bool.{and_parts}

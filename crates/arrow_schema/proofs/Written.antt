@@ -186,7 +186,7 @@ field_stands bytes f children name kind place dict metadata c n k d m s = record
       (dict_written (dict_in f) bytes front dict d) (metadata_written (encoding_in f) bytes front metadata m) w.vector w.long w.each;
 }
 
--- fields that stand at places
+-- fields that are written at offsets
 each_written : (fs : List FieldSpec) (places bytes front : List ℕ) → AllStand fs places bytes → (i p : ℕ) (g : FieldSpec) → i < length places
     → WritesField (slice_index_or fs i g) (front ++ bytes) (length (front ++ bytes) - slice_index_or places i p)
 each_written [] [] bytes front h i p g lt = absurd (omega (arith, lt))
@@ -207,7 +207,7 @@ vector_stands bytes places fs place h s = record {
   always = λ front. record { places = places; vector = s.always front; long = as_many fs places bytes h; each = each_written fs places bytes front h };
 }
 
--- all fields stood when the loop ended
+-- all fields are written when the loop ends
 pub all_fields_stand : (fs : List FieldSpec) (items places : List ℕ) (i place : ℕ) (old new : List ℕ) → length fs ≤ i → places ≡ items → AllStand (take i fs) items old → Grows old new
     → StaysAt (IsPlaces places) new place → StaysAt (WritesFields fs) new place
 all_fields_stand fs items places i place old new le same h g s =

@@ -1,5 +1,5 @@
--- What can be wrong with the tables of a schema, each defect by itself. What is nested deeper than a schema may be is looked at no
--- more: that there is any is a defect.
+-- What can be wrong with the tables of a schema, each defect by itself. Fields that are nested too deep are not looked at: that
+-- there are any is a defect.
 use Rattle.std.specs.Prelude.{◌≡◌, ◌≢◌, ℕ, zero, suc, ◌+◌, ◌<◌, ◌==◌, ◌||◌, Bool, true, false, List, Result, Ok, Err, Option, None, Some, ℤ, IsUtf8}
 use Rattle.flat_tables.specs.declared.fault.FlatFault.{FlatFault}
 use Rattle.flat_tables.specs.Tables.{TableIn, VectorIn, vector_slot, element_table}
@@ -187,7 +187,7 @@ HasDefect schema BadName = HasBadName schema
 HasDefect schema DictionaryTypes = HasTwoTypes schema
 HasDefect schema (Memory e) = ⊥
 
--- a refusal that is returned stands, unless memory ran out
+-- a refusal that is returned is a defect of the tables, unless memory ran out
 abbrev pub RefusalStands : TableIn → SchemaRefusal → Type 0
 RefusalStands schema (Memory e) = Unit {0}
 RefusalStands schema e = HasDefect schema e

@@ -94,7 +94,7 @@ abbrev pub encoding_with : Option (List ℕ) → Option (List ℕ) → Encoding 
 encoding_with key value encoding.None = if is_encoding_key key then encoding_by value else encoding.None
 encoding_with key value found = found
 
--- the encoding that a vector's pairs from a place on name, where those before it named this one; each is read
+-- the encoding that a vector's pairs from an index on name, where those before it named this one; each is read
 abbrev pub of_pair : Encoding → Option TableIn → Result Encoding FlatFault
 of_pair found None = Ok found
 of_pair found (Some t) = key_slot t >>= λ key. value_slot t >>= λ value. Ok (encoding_with key value found)

@@ -1,4 +1,4 @@
--- Slots whose parts stand in a builder: words of private contracts.
+-- Slots whose parts are in a builder: used in private contracts.
 use Rattle.std.specs.Prelude.{◌≡◌, ℕ, List, Option, None, Some}
 use Rattle.flat_tables.specs.declared.place.Slot.{Slot}
 use Rattle.flat_tables.specs.declared.place.Slot.TheVariants.{Absent, At}

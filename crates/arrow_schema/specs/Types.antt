@@ -31,7 +31,7 @@ is_element_type (Int bits signed) = bits == 64 && not signed
 is_element_type Double = true
 is_element_type kind = false
 
--- values of these types may stand in a dictionary
+-- values of these types may be dictionary-encoded
 abbrev pub takes_dictionary : ArrowType → Bool
 takes_dictionary Boolean = false
 takes_dictionary Struct = false

@@ -58,8 +58,8 @@ abbrev pub encodings_named : List FieldSpec → Bool
 encodings_named fields = list_all named_in fields
 
 -- ---- the tables that are written
--- They are said by the words of the builder, and so with the zero byte that follows each text, with the slots that are
--- absent, and with the alignment of each part in finished bytes. A part that a slot refers to is counted from the end.
+-- They are described as the builder adds them: with the zero byte that follows each text, the slots that are absent, and
+-- the alignment of each part in finished bytes. The offset of a part that a slot refers to is counted from the end.
 
 -- the slots of a type's table: a Timestamp has no timezone
 abbrev pub type_slots : ArrowType → List Slot
@@ -80,7 +80,7 @@ pub record WritesDict (dict : DictSpec) (bytes : List ℕ) (place : ℕ) : Type 
   pub table : HasSlots (I64 dict.id ∷ At index ∷ []) bytes place
   pub index_table : HasSlots (index_slots dict.wide) bytes (length bytes - index)
 
--- the slot of a dictionary: absent, or the place of its table
+-- the slot of a dictionary: absent, or the offset of its table
 abbrev pub WritesDictionary : Option DictSpec → List ℕ → Slot → Type 0
 WritesDictionary None bytes slot = slot ≡ Absent
 WritesDictionary (Some dict) bytes slot = (place : ℕ) × (slot ≡ At place) × WritesDict dict bytes (length bytes - place)
@@ -102,7 +102,7 @@ pub record WritesPair (word : List ℕ) (bytes : List ℕ) (place : ℕ) : Type 
   pub key_text : IsText (codes "encoding") bytes (length bytes - key)
   pub value_text : IsText word bytes (length bytes - value)
 
--- the slot of the custom metadata: absent, or the place of a vector of one pair
+-- the slot of the custom metadata: absent, or the offset of a vector of one pair
 abbrev pub WritesMetadata : Encoding → List ℕ → Slot → Type 0
 WritesMetadata encoding.None bytes slot = slot ≡ Absent
 WritesMetadata named bytes slot = (place : ℕ) × (slot ≡ At place) × WritesPair (encoding_word named) bytes (length bytes - place)
@@ -112,7 +112,7 @@ abbrev pub field_slots : FieldSpec → ℕ → ℕ → Slot → ℕ → Slot →
 field_slots f name kind dict children metadata =
     At name ∷ U8 1 ∷ U8 (type_number (kind_in f)) ∷ At kind ∷ dict ∷ At children ∷ metadata ∷ []
 
--- a field is written at a place: its table, its name, the table of its type, its dictionary, its custom metadata and its children
+-- a field is written at an offset: its table, its name, the table of its type, its dictionary, its custom metadata and its children
 pub data WritesField : FieldSpec → List ℕ → ℕ → Type 0 where
   writes : (f : FieldSpec) (bytes : List ℕ) (place name kind children : ℕ) (dict metadata : Slot) (places : List ℕ)
       → HasSlots (field_slots f name kind dict children metadata) bytes place
@@ -124,20 +124,20 @@ pub data WritesField : FieldSpec → List ℕ → ℕ → Type 0 where
       → ((i p : ℕ) (g : FieldSpec) → i < length places → WritesField (slice_index_or (children_in f) i g) bytes (length bytes - slice_index_or places i p))
       → WritesField f bytes place
 
--- a vector of fields is written at a place
+-- a vector of fields is written at an offset
 pub record WritesFields (fields : List FieldSpec) (bytes : List ℕ) (place : ℕ) : Type 0 where
   pub places : List ℕ
   pub vector : IsPlaces places bytes place
   pub long : length places ≡ length fields
   pub each : (i p : ℕ) (g : FieldSpec) → i < length places → WritesField (slice_index_or fields i g) bytes (length bytes - slice_index_or places i p)
 
--- a schema is written at a place: a table Schema, little-endian and without custom metadata, and its fields
+-- a schema is written at an offset: a table Schema, little-endian and without custom metadata, and its fields
 pub record WritesSchema (fields : List FieldSpec) (bytes : List ℕ) (place : ℕ) : Type 0 where
   pub vector : ℕ
   pub table : HasSlots (Absent ∷ At vector ∷ []) bytes place
   pub written : WritesFields fields bytes (length bytes - vector)
 
--- The table of a schema is written so at the place. It says the schema, and is read as it where the schema is readable.
+-- The table of a schema is written so at the offset. It says the schema, and is read as it where the schema is readable.
 pub record IsSchemaTable (fields : List FieldSpec) (bytes : List ℕ) (place : ℕ) : Type 0 where
   pub writes : WritesSchema fields bytes place
   pub table : TableIn

@@ -39,9 +39,9 @@ pub fn schema_or_defect()
     ensures some { (t : TableIn) → ((schema : List FieldSpec) × SaysSchema t schema × IsReadable schema) ⊎ ((defect : SchemaRefusal) × HasDefect t defect) }
 {}
 
-/// Each schema that can be read may be added where its names are short enough and its encodings are
-/// named, and what was added for it is read as it, in the finished bytes, at its distance from their
-/// end.
+/// Each schema that can be read can be added, where its names are short enough and its encodings
+/// are named. What was added is read as that schema in the finished bytes, at its distance from
+/// their end.
 pub fn added_is_read()
     ensures few { (schema : List FieldSpec) → IsReadable schema → count_of schema ≤ max_written_fields }
     ensures widths { (schema : List FieldSpec) → IsReadable schema → IsTrue (widths_fit schema) }
@@ -50,8 +50,8 @@ pub fn added_is_read()
         → (t : TableIn) × (table_at bytes (length bytes - place) ≡ Ok t) × (schema_of t ≡ Ok schema) }
 {}
 
-/// What is written for a schema reads as plain, by its tables alone: each field is nullable, no timestamp has a timezone, and no
-/// custom metadata stands but the one pair that names an encoding.
+/// The tables of a schema that is written read as plain: each field is nullable, no timestamp has a timezone, and there is no
+/// custom metadata but the one pair that names an encoding.
 pub fn written_schemas_are_plain()
     ensures { (fields : List FieldSpec) (bytes : List ℕ) (place : ℕ) (schema : TableIn) → WritesSchema fields bytes place
         → table_at bytes place ≡ Ok schema → IsPlainSchema schema }

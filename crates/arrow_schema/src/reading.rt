@@ -16,7 +16,7 @@ use crate::spec::{ArrowType, FieldSpec, MAX_DEPTH, MAX_FIELDS, SchemaSpec};
 use flat_tables::{TableView, VectorView};
 use std::alloc::Global;
 
-/// Reads the schema of a `Schema` table. Where several refusals stand, it returns one of them.
+/// Reads the schema of a `Schema` table. Where there are several defects, it returns one of them.
 ///
 /// The fields are counted before they are read, and nested at most [`MAX_DEPTH`] deep, so it ends
 /// soon, however the tables refer to one another.

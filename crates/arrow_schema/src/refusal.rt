@@ -11,13 +11,13 @@ pub enum SchemaRefusal {
     /// A needed part of the tables does not lie in the bytes, or a vtable is bad.
     #[error("{0}")]
     Flat(FlatFault),
-    /// The byte order, a type, an index type, or what stands with a type is none that is supported.
+    /// The byte order, a type, an index type, or a type's children or dictionary aren't supported.
     #[error("a type is not supported")]
     Unsupported,
     /// There are more than [`MAX_FIELDS`](crate::MAX_FIELDS) fields, children counted.
     #[error("there are too many fields")]
     TooManyFields,
-    /// A field stands deeper than [`MAX_DEPTH`](crate::MAX_DEPTH).
+    /// A field is nested deeper than [`MAX_DEPTH`](crate::MAX_DEPTH).
     #[error("fields are nested too deep")]
     TooDeep,
     /// A name is not UTF-8, or two fields of one parent have one name.

@@ -73,7 +73,7 @@ impl ArrowType {
         )
     }
 
-    /// Whether values of the type may stand in a dictionary.
+    /// Whether values of the type may be dictionary-encoded.
     pub(crate) fn takes_dictionary(self) -> bool
         ensures { result ≡ takes_dictionary self }
     {
@@ -171,14 +171,14 @@ impl SchemaSpec {
         self.fields.as_slice()
     }
 
-    /// The field at a place; `None` where there is no such field.
+    /// The field at an index; `None` where there is no such field.
     pub fn get(&self, place: usize) -> Option<&FieldSpec>
         ensures { option_copied result ≡ slice_get self.now place }
     {
         self.fields.get(place)
     }
 
-    /// Appends a field, or gives it up where there is no memory.
+    /// Appends a field; where memory runs out, the field is dropped.
     pub fn push(&mut self, field: FieldSpec) -> Result<(), AllocError>
         ensures ok { OnOk result (self.new ≡ self.old ++ field ∷ []) }
         ensures err { OnErr result (self.new ≡ self.old) }

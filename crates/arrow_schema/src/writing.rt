@@ -23,7 +23,7 @@ pub const MAX_SIZE_BEFORE: usize = 1 << 22;
 /// Adds the `Schema` table of a schema, in little-endian order. All fields are nullable, no timestamp has
 /// a timezone, and the custom metadata of a field has no pair but the one that names its encoding.
 ///
-/// Where memory runs out, what stood in the builder still stands, and parts of the schema may.
+/// Where memory runs out, what was in the builder is still there; parts of the schema may be too.
 pub fn add_schema(builder: &mut Builder, spec: &SchemaSpec) -> Result<Place, AllocError>
     requires few { count_of spec.now ≤ max_written_fields }
     requires names { names_of spec.now ≤ max_written_names }

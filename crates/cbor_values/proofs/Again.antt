@@ -1,4 +1,4 @@
--- Bytes that stand for a value are read as it.
+-- Bytes that encode a value are read as it.
 use Rattle.std.proofs.Common.{◌≡◌, ℕ, zero, suc, ◌+◌, ◌^◌, ◌<◌, ◌≤◌, List, [], ◌∷◌, ◌++◌, length, map, Option, Some, None, Ok, refl, sym, ap, subst, ◌∙◌, append_assoc, arith}
 use Rattle.std.specs.Prelude.{true, false}
 use Rattle.std.specs.Str.{IsUtf8}
@@ -246,7 +246,7 @@ item_again (suc d) _ _ (is_open_map bytes pairs inner, deep) rest =
     (ap (λ (t : List ℕ). head_at (191 ∷ t)) (behind_break bytes rest) ∙ open_head 5 (heads.Map None) (omega arith) refl (bytes ++ 255 ∷ rest))
     ∙ rw read refl
 
--- bytes that stand for a value stand for no other
+-- bytes that encode a value encode no other
 pub one_value : (bytes : List ℕ) (v w : Value) → Cbor bytes v → Cbor bytes w → v ≡ w
 one_value bytes v w first second =
     let d = depth_of v + depth_of w in

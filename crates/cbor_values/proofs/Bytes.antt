@@ -14,7 +14,7 @@ byte_is (suc k) n = refl
 power_pos : (n : ℕ) → 0 < 256 ^ n
 power_pos n = let some = one-le-pow n 256 (omega arith) in omega (arith, some)
 
--- the low bytes don't see what stands above them
+-- the low bytes don't depend on what is above them
 high_bytes : (n above low : ℕ) → bytes_high_first n (above * 256 ^ n + low) ≡ bytes_high_first n low
 high_bytes zero above low = refl
 high_bytes (suc n) above low =
@@ -23,7 +23,7 @@ high_bytes (suc n) above low =
     let same : (above * 256 + low / 256 ^ n) % 256 ≡ low / 256 ^ n % 256 = omega arith in
     rw (shift, byte_is n (above * 256 * 256 ^ n + low), divided, same, byte_is n low, high_bytes n (above * 256) low) refl
 
--- a number that is read spells the bytes
+-- a number that is read is written as the same bytes
 pub number_back : (bytes : List ℕ) → IsBytes bytes → big_bytes (length bytes) (big_number (length bytes) bytes) ≡ bytes
 number_back [] fits = refl
 number_back (byte ∷ bytes) fits =

@@ -1,4 +1,4 @@
--- Where a refusal stands nothing is read.
+-- Where a refusal applies nothing is read.
 use Rattle.std.proofs.Common.{◌≡◌, ℕ, zero, suc, ◌+◌, ◌-◌, ◌*◌, ◌/◌, ◌%◌, ◌^◌, ◌<◌, ◌≤◌, Bool, true, false, cond, eqb, ltb}
 use Rattle.std.proofs.Common.{List, [], ◌∷◌, ◌++◌, length, Option, Some, None, Ok, Err, refl, sym, ap, subst, ◌∙◌, arith, inl, inr}
 use Rattle.std.specs.Prelude.{pos, negsuc}
@@ -635,7 +635,7 @@ excluded e _ _ _ (in_value place inside k may head pairs key_bytes rest on are i
 alone_excluded : (e : CborRefusal) (bytes : List ℕ) (v : Value) → IsBytes bytes → Within e (places.item false) 0 bytes → item_at 32 bytes ≡ got v [] → ⊥
 alone_excluded e bytes v fits within read = excluded e (places.item false) 0 bytes within 32 (omega arith) fits ((v, []), read)
 
--- no refusal stands in bytes that have a value
+-- no refusal applies to bytes that have a value
 pub never_both : (bytes : List ℕ) (v : Value) (e : CborRefusal) → IsBytes bytes → Cbor bytes v → depth_of v ≤ 32 → Stands e bytes → ⊥
 never_both bytes v e fits cbor deep stands =
     let read : item_at 32 bytes ≡ got v [] = ap (item_at 32) (sym (append-nil bytes)) ∙ item_again 32 bytes v (cbor, deep) [] in

@@ -1,4 +1,4 @@
--- A refusal at the front of the bytes stands there.
+-- A refusal at the front of the bytes applies there.
 use Rattle.std.proofs.Common.{◌≡◌, ℕ, ◌+◌, ◌*◌, ◌/◌, ◌%◌, ◌<◌, ◌≤◌, Bool, true, false, cond, eqb, ltb, List, [], ◌∷◌, ◌++◌, length, Option, Some, None, Ok, Err, refl, sym, ap, subst, ◌∙◌, arith, ◌⊎◌, inl, inr}
 use Rattle.std.specs.Str.{IsUtf8, is_utf8}
 use Rattle.std.proofs.lemmas.Bool.{ltb-false, ltb-true, le-ltb, lt-ltb, eqb-true, eqb-false, ne_eqb, cases_Bool, cases_eq, eq-eqb, or_parts}
@@ -54,7 +54,7 @@ begins_reserved major info high other = elim (cases_Bool (ltb major 2)) [
 begins_number : (major info : ℕ) → major < 2 → info ≡ 31 → begins major info ≡ false
 begins_number major info low is = rw (lt-ltb major 2 low, is) refl
 
--- a first byte from 192 on that isn't one of those that stand for themselves
+-- a first byte from 192 on that is none of `false`, `true`, `null` and the floats
 begins_high : (first : ℕ) → 6 ≤ first / 32 → (first ≡ 244 → ⊥) → (first ≡ 245 → ⊥) → (first ≡ 246 → ⊥)
     → (first ≡ 249 → ⊥) → (first ≡ 250 → ⊥) → (first ≡ 251 → ⊥) → begins (first / 32) (first % 32) ≡ false
 begins_high first high n0 n1 n2 n3 n4 n5 = elim (cases_Bool (eqb (first / 32) 7)) [
@@ -197,9 +197,9 @@ head_fails (first ∷ bytes) e fits fails =
       ]
     ]
 
--- ---- places
+-- ---- breaks, and heads
 
--- no break, or none that may stand there
+-- no break is at the front, or none may be there
 abbrev pub Closed : Bool → List ℕ → Type 0
 Closed may [] = Unit {0}
 Closed may (first ∷ rest) = first ≡ 255 → may ≡ false
@@ -212,7 +212,7 @@ pub closed_unbroken : (may : Bool) (bytes : List ℕ) → break_at bytes ≡ Non
 closed_unbroken may [] unbroken = tt
 closed_unbroken may (first ∷ rest) unbroken = λ e. absurd (let clash = rw (eq-eqb first 255 e) at unbroken in cc)
 
--- a head that isn't read is a fault at its place
+-- a head that isn't read is a fault where it is due
 pub head_faults : (place : Due) (inside : ℕ) (bytes : List ℕ) (e : CborRefusal) → Closed (may_break place) bytes
     → HeadFails e bytes → Faults e place inside bytes
 head_faults place inside bytes e closed (inl cut) = subst (λ (d : CborRefusal). Faults d place inside bytes) cut.0 (inl cut.1)
@@ -232,7 +232,7 @@ major_of (heads.Bool flag) = 7
 major_of heads.Null = 7
 major_of (heads.Double wide) = 7
 
--- the major type that the first byte tells
+-- the major type of the first byte
 abbrev pub TellsMajor : ℕ → List ℕ → Type 0
 TellsMajor major [] = ⊥
 TellsMajor major (first ∷ rest) = first / 32 ≡ major

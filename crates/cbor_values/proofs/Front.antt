@@ -1,4 +1,4 @@
--- What stands at the front is read again: heads, strings.
+-- What is at the front is read again: heads, strings.
 use Rattle.std.proofs.Common.{◌≡◌, ℕ, ◌+◌, ◌*◌, ◌/◌, ◌%◌, ◌^◌, ◌<◌, ◌≤◌, List, [], ◌∷◌, ◌++◌, length, Some, None, Ok, Err, refl, sym, ap, ◌∙◌, arith}
 use Rattle.std.proofs.lemmas.Bool.{ne_eqb, lt-ltb, le-ltb}
 use Rattle.std.proofs.lemmas.List.{append-nil, length-append, take_at, drop_at}
@@ -20,7 +20,7 @@ number_again : (width n : ℕ) → n < 256 ^ width → big_number width (big_byt
 number_again width n fits =
     ap (big_number width) (sym (append-nil (big_bytes width n))) ∙ big_number-reads_back width n [] fits
 
--- a first byte that isn't one of those that stand for themselves
+-- a first byte of a major type below 7, whose argument is read
 head_by_argument : (first : ℕ) (rest : List ℕ) → first < 224
     → head_at (first ∷ rest) ≡ (argument_at (first % 32) rest >>= λ argument. head_by (first / 32) argument.0 >>= λ head. Ok (head, argument.1))
 unfolding head_at

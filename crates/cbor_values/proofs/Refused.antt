@@ -1,4 +1,4 @@
--- A refusal that is returned stands in the bytes.
+-- A refusal that is returned applies to the bytes.
 use Rattle.std.proofs.Common.{◌≡◌, ℕ, zero, suc, ◌+◌, ◌^◌, ◌<◌, Bool, true, false, ltb, List, [], ◌∷◌, ◌++◌, length, Option, Some, None, Ok, Err, sym, ap, subst, ◌∙◌, arith, inl, inr}
 use Rattle.std.specs.Prelude.{pos, negsuc}
 use Rattle.std.specs.Str.{IsUtf8}
@@ -34,7 +34,7 @@ fault : (place : Due) (inside : ℕ) (bytes : List ℕ) (d e : CborRefusal) → 
     → Within e place inside bytes
 fault place inside bytes d e same is = at_front place inside bytes (subst (λ (r : CborRefusal). Faults r place inside bytes) same is)
 
--- bytes that are told apart
+-- the same bytes in another form
 at_bytes : (e : CborRefusal) (place : Due) (inside : ℕ) (bytes told : List ℕ) → bytes ≡ told → Within e place inside told
     → Within e place inside bytes
 at_bytes e place inside bytes told same is = subst (λ (b : List ℕ). Within e place inside b) (sym same) is
@@ -139,7 +139,7 @@ out_of_range major n make front bytes inner e place inside low parts is fails = 
       (record { major = major; n = n; head = front; rest = inner; integer = low; is = parts; is_head = is; large = ltb-false n (2 ^ 63) large })
 ]
 
--- what stands within an item, d levels being left
+-- a refusal of an item applies within it, d levels being left
 abbrev pub ItemRefused : ℕ → ℕ → Type 0
 ItemRefused d inside = (place : Due) (bytes : List ℕ) (e : CborRefusal) → IsBytes bytes → Closed (may_break place) bytes
     → item_at d bytes ≡ Err e → Within e place inside bytes

@@ -1,4 +1,4 @@
--- Things that stand one after the other, in general.
+-- Things one after the other, in general.
 use Rattle.std.proofs.Common.{◌≡◌, ℕ, zero, suc, ◌<◌, ◌≤◌, List, [], ◌∷◌, ◌++◌, length, None, Ok, Err, refl, sym, ap, ◌∙◌, append_assoc, arith, inl, inr}
 use Rattle.std.proofs.lemmas.Bool.{cases_eq, ne_eqb}
 use Rattle.std.proofs.lemmas.List.{length-append}
@@ -11,7 +11,7 @@ pub data Row {X : Type 0} (R : List ℕ → X → Type 0) : List ℕ → List X 
   one_more : (bytes others : List ℕ) (x : X) (xs : List X) → R bytes x → Row R others xs
       → Row R (bytes ++ others) (x ∷ xs)
 
--- what stands in a row is read again
+-- what is in a row is read again
 pub many_again : {X : Type 0} (R : List ℕ → X → Type 0) (one : List ℕ → ValueReading X)
     → ((bytes : List ℕ) (x : X) → R bytes x → (rest : List ℕ) → one (bytes ++ rest) ≡ Ok (x, rest))
     → (bytes : List ℕ) (xs : List X) → Row R bytes xs → (rest : List ℕ)

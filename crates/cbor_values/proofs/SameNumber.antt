@@ -39,7 +39,7 @@ normal_same w b e f few small some =
     rw (ne_eqb e 0 (λ is. omega arith), ne_eqb (e + 1023 - b) 0 (λ is. omega arith), whole_fraction w f few, powers)
     (swap m (2 ^ (52 - w)) (2 ^ (e - 1)) (2 ^ (1023 - b)) ∙ ap (λ (n : ℕ). m * 2 ^ (e - 1) * n) units)
 
--- the place of the highest bit
+-- the position of the highest bit
 pub record IsHighest (width n top : ℕ) : Type 0 where
   pub low : 2 ^ top ≤ n
   pub high : n < 2 * 2 ^ top

@@ -32,7 +32,7 @@ ok_is x y e = cc
 abbrev pub got : {X : Type 0} → X → List ℕ → ValueReading X
 got x rest = Ok (x, rest)
 
--- what was got is what is told
+-- what was read is this value, and these bytes are left
 pub got_is : {X : Type 0} (P : X → List ℕ → Type 0) (x : X) (bytes : List ℕ) (y : X) (rest : List ℕ)
     → got x bytes ≡ got y rest → P x bytes → P y rest
 got_is {X} P x bytes y rest e p = subst (λ (z : X × List ℕ). P z.0 z.1) (ok_is (x, bytes) (y, rest) e) p

@@ -1,4 +1,4 @@
--- What is read is spelled by the bytes that it took.
+-- What is read is what the bytes that it took encode.
 use Rattle.std.proofs.Common.{◌≡◌, ℕ, zero, suc, ◌+◌, ◌*◌, ◌/◌, ◌%◌, ◌^◌, ◌<◌, ◌≤◌, true, false, cond, eqb, ltb, List, [], ◌∷◌}
 use Rattle.std.proofs.Common.{◌++◌, length, take, drop, Option, Some, None, Ok, Err, refl, sym, ap, subst, ◌∙◌, append_assoc, arith, inl, inr}
 use Rattle.std.specs.Str.{IsUtf8, is_utf8}
@@ -54,7 +54,7 @@ part_takes n bytes part rest fits e = elim (cases_Bool (ltb (length bytes) n)) [
       got_is (Taken (IsPart n) bytes) (take n bytes) (drop n bytes) part rest read here
 ]
 
--- the argument that additional information stands for, in that number of bytes
+-- the argument that additional information gives, in the bytes that follow
 pub data IsArgument (info : ℕ) : List ℕ → Option ℕ → Type 0 where
   direct : info < 24 → IsArgument info [] (Some info)
   following : (n : ℕ) → 24 ≤ info → info < 28 → n < 256 ^ argument_len info

@@ -1,4 +1,4 @@
--- What is told of parts, one after the other, as loops do.
+-- What the code returns of parts, one after the other, as loops do.
 use Rattle.std.proofs.Common.{◌≡◌, ℕ, suc, ◌+◌, ◌-◌, ◌^◌, ◌<◌, ◌≤◌, min, List, [], ◌∷◌, ◌++◌, Some, None, Err, refl, sym, ◌∙◌, arith}
 use Rattle.std.proofs.lemmas.List.{length-append}
 use Rattle.lists.proofs.AllBytes.{IsBytes}

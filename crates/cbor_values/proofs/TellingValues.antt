@@ -1,4 +1,4 @@
--- What is told of a value, by what is told of its parts.
+-- What the code returns of a value, by what it returns of its parts.
 use Rattle.std.proofs.Common.{◌≡◌, ℕ, zero, suc, ◌+◌, ◌^◌, min, List, Option, Some, None, Result, Ok, Err, refl, sym, ap, ◌∙◌, arith, rules}
 use Rattle.std.specs.Prelude.{ℤ, pos, negsuc, Bool, IfOk, IfErr, OnOk}
 use Rattle.lists.proofs.AllBytes.{IsBytes}
@@ -20,7 +20,7 @@ use Rattle.cbor_values.proofs.Told.{no_value}
 use Rattle.cbor_values.specs.Weighing.{IsWeighed, nesting_of, weighed}
 use Rattle.cbor_values.specs.Returned.{IsTold, TellsAll, long, pair_weighed, told_of, weight_of_members, weight_of_pairs}
 
--- what is told of each
+-- what is returned of each
 told_is : (nested : Nesting) (weight : ℕ) (value : Value) → nesting_of value ≡ nested → weight ≡ min (weight_of_value value) (2 ^ 63) → told_of nested weight ≡ weighed value
 told_is nested weight value same is = λ k. record { nesting = sym same k; weight = is k }
 

@@ -1,4 +1,4 @@
--- The value of bytes, the relation and the refusals tell the same.
+-- The value of bytes, the relation and the refusals agree.
 use Rattle.std.proofs.Common.{◌≡◌, ℕ, ◌<◌, ◌≤◌, ◌↔◌, List, Option, Some, None, All, refl, true}
 use Rattle.lists.proofs.AllBytes.{IsBytes, IsBytes-from_all}
 use Rattle.otlp_model.specs.declared.value.Value.{Value}

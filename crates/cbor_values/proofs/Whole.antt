@@ -89,7 +89,7 @@ value_takes bytes v fits e = go (all_at bytes) refl
         all_takes bytes v fits (is ∙ ap done same)
     go (Err d) is = absurd (let clash : None ≡ Some v = ap value_if (sym is) ∙ e in cc)
 
--- bytes without a value have a refusal that stands
+-- bytes without a value have a refusal that applies
 pub refusal_stands : (bytes : List ℕ) → IsBytes bytes → value_of bytes ≡ None → (e : CborRefusal) × Stands e bytes
 unfolding value_of
 refusal_stands bytes fits e = go (all_at bytes) refl

@@ -1,4 +1,4 @@
--- The written form stands for its value, and is little longer than the value weighs.
+-- The written form encodes its value, and is little longer than the value weighs.
 use Rattle.std.proofs.Common.{◌≡◌, ℕ, ◌+◌, ◌^◌, ◌<◌, ◌≤◌, Bool, true, false, cond, List, [], ◌∷◌, ◌++◌, length, sym, subst, ◌∙◌, append_assoc, arith, inl, inr}
 use Rattle.std.specs.Prelude.{ℤ, pos, negsuc, nat_lt}
 use Rattle.std.specs.List.{AllByRecursion, list_all}
@@ -22,7 +22,7 @@ use Rattle.cbor_values.specs.Lengths.{cbor_of_pair, lengths, int_argument}
 use Rattle.cbor_values.proofs.WrittenForm.{written_empty, written_str, written_bool, written_int, written_double, written_bytes, written_array, written_map, head_len_bound}
 use Rattle.cbor_values.proofs.WrittenForm.{length_empty, length_str, length_bool, length_int, length_double, length_bytes, length_array, length_pair, length_map}
 
--- ---- the written form stands for the value
+-- ---- the written form encodes the value
 
 pub head_is : (major n : ℕ) → n < 2 ^ 64 → IsHead major n (head major n)
 unfolding head
@@ -40,7 +40,7 @@ head_is major n fits = elim (cases_lt n 24) [
   ])
 ]
 
--- a real value is what its written form stands for
+-- a real value is the one that its written form encodes
 abbrev IsWritten : Value → Type 0
 IsWritten value = is_real_value value ≡ true → Cbor (cbor_of value) value
 
@@ -73,7 +73,7 @@ int_is : (z : ℤ) → fits_i64 z ≡ true → Cbor (int z) (values.Int z)
 int_is (pos n) fits = let small = ltb-true n (2 ^ 63) fits in is_whole n (head 0 n) (head_is 0 n (omega arith)) small
 int_is (negsuc n) fits = let small = ltb-true n (2 ^ 63) fits in is_negative n (head 1 n) (head_is 1 n (omega arith)) small
 
--- the form is the one that is told
+-- where the written form is known to be this one
 told : (value : Value) (form : List ℕ) → cbor_of value ≡ form → Cbor form value → Cbor (cbor_of value) value
 told value form is cbor = subst (λ (b : List ℕ). Cbor b value) (sym is) cbor
 

@@ -1,4 +1,4 @@
--- What bytes stand for (RFC 8949).
+-- The value that bytes encode (RFC 8949).
 use Rattle.std.specs.Prelude.{ℕ, ◌^◌, ◌<◌, true, false, List, [], ◌∷◌, ◌++◌, length, pos, negsuc}
 use Rattle.std.specs.Str.{IsUtf8}
 use Rattle.byteorder.specs.Endian.{big_bytes}

@@ -1,7 +1,7 @@
 -- Narrow floats as doubles, by their bits (IEEE 754-2019, section 3.4).
 use Rattle.std.specs.Prelude.{ℕ, zero, suc, ◌+◌, ◌-◌, ◌*◌, ◌/◌, ◌%◌, ◌^◌, ◌==◌, nat_lt, nat_le, if◌then◌else◌}
 
--- the place of the highest set bit of a number below 2 ^ width, counted from 0
+-- the position of the highest set bit of a number below 2 ^ width, counted from 0
 unfoldable pub highest_bit : ℕ → ℕ → ℕ
 highest_bit zero n = 0
 highest_bit (suc width) n = if nat_le (2 ^ width) n then width else highest_bit width n
@@ -12,7 +12,7 @@ double sign exponent fraction = sign * 2 ^ 63 + exponent * 2 ^ 52 + fraction
 
 -- The double of a float with w bits of fraction and the bias b, whose exponent field is at most greatest.
 -- Infinities and NaNs have the greatest exponent, zeros and subnormal numbers the exponent 0. A subnormal number becomes
--- normal: its highest bit is no longer written, and the exponent says where it stood.
+-- normal: its highest bit is no longer written, and the exponent says where it was.
 unfoldable pub widened : ℕ → ℕ → ℕ → ℕ → ℕ → ℕ → ℕ
 widened greatest w b sign exponent fraction =
     if exponent == greatest then double sign 2047 (fraction * 2 ^ (52 - w))

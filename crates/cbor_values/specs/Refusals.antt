@@ -1,4 +1,4 @@
--- When a refusal stands in bytes.
+-- When a refusal applies to bytes.
 use Rattle.std.specs.Prelude.{◌≡◌, ◌≢◌, ℕ, suc, ◌+◌, ◌*◌, ◌/◌, ◌%◌, ◌^◌, ◌<◌, ◌≤◌, ◌==◌, ◌||◌, ◌⊎◌, Bool, true, false, nat_lt, if◌then◌else◌, List, [], ◌∷◌, ◌++◌, length}
 use Rattle.std.specs.Str.{IsUtf8}
 use Rattle.otlp_model.specs.Limits.{depth_limit}
@@ -8,14 +8,14 @@ use Rattle.cbor_values.specs.Heads.{IsHead, argument_len}
 use Rattle.cbor_values.specs.Strings.{IsAny, Chunks}
 use Rattle.cbor_values.specs.Items.{IsItem, AreItems, ArePairs}
 
--- What is due at a place, and whether a break may stand there: an item, alone or in an array; the key of a pair; the
--- value of a pair.
+-- What is due at an offset, and whether a break may be there: an item, alone or in an array; the key of a pair; the value of
+-- a pair.
 pub data Due : Type 0 where
   item : Bool → Due
   key : Bool → Due
   value : Due
 
--- a break may stand there: it ends an array or a map of indefinite length
+-- a break may be there: it ends an array or a map of indefinite length
 abbrev pub may_break : Due → Bool
 may_break (item may) = may
 may_break (key may) = may
@@ -43,12 +43,12 @@ pub record IsCutString (major : ℕ) (bytes : List ℕ) : Type 0 where
   pub is_head : IsHead major n head
   pub short : length rest < n
 
--- the front is no head of an item, and no break that may stand there
+-- the front is no head of an item, and no break that may be there
 abbrev pub IsBadHead : Bool → List ℕ → Type 0
 IsBadHead may [] = ⊥
 IsBadHead may (first ∷ rest) = (begins (first / 32) (first % 32) ≡ false) × (first ≡ 255 → may ≡ false)
 
--- a key that is no text, and no break that may stand there, or a break in the place of a value
+-- a key that is no text, and no break that may be there, or a break instead of a value
 abbrev pub IsBadKey : Due → List ℕ → Type 0
 IsBadKey place [] = ⊥
 IsBadKey (item may) (first ∷ rest) = ⊥
@@ -103,12 +103,12 @@ ChunkFaults BadHead major bytes = IsOtherChunk major bytes
 ChunkFaults BadUtf8 major bytes = (major ≡ 3) × IsBadText bytes
 ChunkFaults _ major bytes = ⊥
 
--- The head of an array or a map that goes on after k members or pairs, and whether a break may stand there.
+-- The head of an array or a map that goes on after k members or pairs, and whether a break may follow them.
 pub data HasNextMember (major k : ℕ) : Bool → List ℕ → Type 0 where
   definite : (n : ℕ) (head : List ℕ) → IsHead major n head → k < n → HasNextMember major k false head
   indefinite : HasNextMember major k true ((32 * major + 31) ∷ [])
 
--- The refusal stands at the front of the bytes, where that is due, inside that number of arrays and maps: in the front itself,
+-- The refusal applies to the front of the bytes, where that is due, inside that number of arrays and maps: to the front itself,
 -- or within the string, array or map that begins there, after chunks, items and pairs.
 pub data Within (refusal : CborRefusal) : Due → ℕ → List ℕ → Type 0 where
   at_front : (place : Due) (inside : ℕ) (bytes : List ℕ) → Faults refusal place inside bytes
@@ -135,13 +135,13 @@ pub record IsTrailing (bytes : List ℕ) : Type 0 where
   pub is_item : IsItem item_bytes
   pub is : bytes ≡ item_bytes ++ first ∷ rest
 
--- the refusal stands in the bytes, which are to be one item
+-- the refusal applies to the bytes, which are to be one item
 abbrev pub Stands : CborRefusal → List ℕ → Type 0
 Stands Trailing bytes = IsTrailing bytes
 Stands (Memory error) bytes = ⊥
 Stands refusal bytes = Within refusal (item false) 0 bytes
 
--- what a reader may return: a refusal that stands, or that memory ran out
+-- what a reader may return: a refusal that applies, or that memory ran out
 abbrev pub Refuses : List ℕ → CborRefusal → Type 0
 Refuses bytes (Memory error) = Unit {0}
 Refuses bytes refusal = Stands refusal bytes

@@ -12,7 +12,7 @@ use Rattle.lists.specs.Results.{◌>>=◌}
 use Rattle.cbor_values.specs.Reading.{ValueReading, whole_of}
 use Rattle.cbor_values.specs.declared.refusal.CborRefusal.TheVariants.{Memory}
 
--- what the code tells of a value, and of its parts
+-- what the code returns of a value, and of its parts
 abbrev pub told_of : Nesting → ℕ → WeighedValue
 told_of nested weight = record { nesting = nested; weight = weight }
 
@@ -28,13 +28,13 @@ weight_of_pairs pairs = min (total part_weight weight_of_pair pairs) count_cap
 abbrev pub pair_weighed : Pair → ℕ
 pair_weighed pair = min (weight_of_pair pair) count_cap
 
--- something is read, of which the code tells this, and these bytes are left
+-- something is read, of which the code returns this, and these bytes are left
 pub record IsTold {X Y : Type 0} (tell : Y → X) (reading : ValueReading Y) (told : X) (rest : List ℕ) : Type 0 where
   pub value : Y
   pub is : reading ≡ Ok (value, rest)
   pub of : told ≡ tell value
 
--- a result of the code tells of what reading gives
+-- a result of the code agrees with what reading gives
 abbrev pub TellsReading : {R X Y : Type 0} → (R → X × List ℕ) → (Y → X) → Result R CborRefusal → ValueReading Y → Type 0
 TellsReading view tell (Ok found) reading = IsTold tell reading (view found).0 (view found).1
 TellsReading view tell (Err refusal) reading = reading ≡ Err refusal

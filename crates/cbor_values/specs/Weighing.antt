@@ -1,4 +1,4 @@
--- What is told of a value that isn't built.
+-- What weighing a value returns: whether it holds others, and its weight.
 use Rattle.std.specs.Prelude.{◌≡◌, ℕ, min, List, Some}
 use Rattle.otlp_model.specs.Limits.{count_cap}
 use Rattle.otlp_model.specs.declared.value.Value.{Value, out-Value}
@@ -19,11 +19,11 @@ nesting_step _ = nesting.Plain
 abbrev pub nesting_of : Value → Nesting
 nesting_of value = nesting_step (out-Value value)
 
--- what is told of a value, and what its parts weigh: at most 2^63
+-- whether a value holds others, and what it weighs, up to 2^63
 abbrev pub weighed : Value → WeighedValue
 weighed value = record { nesting = nesting_of value; weight = min (weight_of_value value) count_cap }
 
--- the value of these bytes is told of
+-- this is what weighing the value of these bytes returns
 pub record IsWeighed (bytes : List ℕ) (told : WeighedValue) : Type 0 where
   pub value : Value
   pub is : value_of bytes ≡ Some value

@@ -5,7 +5,7 @@ use Rattle.otlp_model.specs.declared.value.Value.{Value, fold-Value}
 use Rattle.otlp_model.specs.declared.value.Value.TheOpen.{Value-F, Pair-F}
 use Rattle.cbor_values.specs.Heads.{argument_len}
 
--- a head whose argument stands after the first byte
+-- a head whose argument follows the first byte
 abbrev pub long_head : ℕ → ℕ → ℕ → List ℕ
 long_head major info n = (32 * major + info) ∷ big_bytes (argument_len info) n
 

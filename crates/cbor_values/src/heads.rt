@@ -103,7 +103,7 @@ fn kind(major: u8, argument: Option<u64>) -> Result<Head, CborRefusal>
     }
 }
 
-/// The argument that the additional information stands for, and the bytes after it; `None` for an indefinite length.
+/// The argument of a head, by its additional information, and the bytes after it; `None` for an indefinite length.
 #[tactic(auto, using(crate::proofs::Fractions::width_small), unfolding(crate::specs::Reading::argument_at))]
 fn argument(info: u8, bytes: &[u8]) -> Result<(Option<u64>, &[u8]), CborRefusal>
     ensures reads { ReturnsReading (λ x. (x.0, x.1.now)) result (argument_at info bytes.now) }

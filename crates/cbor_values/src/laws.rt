@@ -14,13 +14,13 @@ ghost use Rattle.cbor_values.specs.Refusals.{Stands};
 ghost use Rattle.cbor_values.specs.Written.{cbor_of};
 ghost use Rattle.cbor_values.specs.Values.{value_of};
 
-/// Bytes stand for one value at most.
+/// Bytes encode one value at most.
 pub fn one_value()
     ensures { (bytes : List ℕ) (v w : Value) → Cbor bytes v → Cbor bytes w → v ≡ w }
 {}
 
-/// Bytes are read as a value exactly where they stand for one that is at most 32 deep; in all other bytes, and only in
-/// these, a refusal stands.
+/// Bytes are read as a value exactly where they encode one that is at most 32 deep; a refusal applies to all other bytes, and
+/// to no others.
 pub fn value_or_refusal()
     ensures value { (bytes : List ℕ) (v : Value) → All (λ byte. byte < 256) bytes → value_of bytes ≡ Some v ↔ (Cbor bytes v × (depth_of v ≤ depth_limit)) }
     ensures refusal { (bytes : List ℕ) → All (λ byte. byte < 256) bytes → value_of bytes ≡ None ↔ ((refusal : CborRefusal) × Stands refusal bytes) }
@@ -35,7 +35,7 @@ pub fn same_number()
     ensures single_sign { (bits : ℕ) → bits < 2 ^ 32 → of_single bits / 2 ^ 63 ≡ bits / 2 ^ 31 }
 {}
 
-/// What is written for a value stands for it, is read as it, and is longer than the value weighs by a head at most.
+/// What is written for a value encodes it, is read as it, and is longer than the value weighs by a head at most.
 pub fn written_form()
     ensures stands { (v : Value) → IsTrue (is_real_value v) → Cbor (cbor_of v) v }
     ensures again { (v : Value) → IsTrue (is_real_value v) → depth_of v ≤ depth_limit → value_of (cbor_of v) ≡ Some v }

@@ -27,11 +27,11 @@ const FIRST_ROOM: u64 = 32;
 ///
 /// It goes over the bytes once. Before members are read it takes memory for 32 of them at most, whatever number a head claims.
 pub fn read_value(alloc: Global, bytes: &[u8]) -> Result<Value, CborRefusal>
-    // What is read is what the bytes stand for.
+    // The value is the one that the bytes encode.
     ensures found { IfOk result (λ v. Cbor bytes.now v × (depth_of v ≤ depth_limit)) }
     // A value that is at most 32 deep is read, unless memory runs out.
     ensures only { (v : Value) → Cbor bytes.now v → depth_of v ≤ depth_limit → GivesValue result (Some v) }
-    // A refusal comes only where it stands.
+    // A refusal is returned only where it applies, `Memory` for any bytes.
     ensures refused { IfErr result (Refuses bytes.now) }
     // The same as an equation, for callers.
     ensures value { GivesValue result (value_of bytes.now) }

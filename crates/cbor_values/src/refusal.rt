@@ -15,7 +15,7 @@ pub enum CborRefusal {
     /// simple value other than `false`, `true` and `null`, a break in a wrong place, or a chunk of another kind.
     #[error("a head of no read form")]
     BadHead,
-    /// A key of a map that is no text, or a break in the place of a value.
+    /// A key of a map that is no text, or a break instead of a value.
     #[error("a key that is no text, or that has no value")]
     BadKey,
     /// A text, or a chunk of one, that isn't UTF-8 (RFC 3629).

@@ -1,4 +1,4 @@
-//! What bytes hold, told without building the value.
+//! What an encoded value weighs and whether it holds others, read without building it.
 ghost use Rattle.std.specs.Prelude.{◌≡◌, None, IfErr, IfOk, OnOk, length};
 ghost use Rattle.cbor_values.specs.declared.heads.Head.TheVariants as heads;
 ghost use Rattle.cbor_values.specs.declared.refusal.CborRefusal.{CborRefusal};
@@ -25,7 +25,7 @@ pub enum Nesting {
     Plain,
 }
 
-/// What is told of a value that isn't built.
+/// What weighing a value returns.
 #[derive(Clone, Copy, Debug)]
 pub struct WeighedValue {
     pub nesting: Nesting,
@@ -55,7 +55,7 @@ fn all(bytes: &[u8]) -> Result<WeighedValue, CborRefusal>
     Ok(told)
 }
 
-/// What the item at the front tells, which may be `depth` deep, and the bytes after it.
+/// Weighs the item at the front, which may be `depth` deep; also returns the bytes after it.
 #[cycle(weigh)]
 #[tactic(auto, unfolding(crate::specs::Reading::item_at))]
 fn item(depth: u64, bytes: &[u8]) -> Result<(WeighedValue, &[u8]), CborRefusal>
@@ -68,7 +68,7 @@ fn item(depth: u64, bytes: &[u8]) -> Result<(WeighedValue, &[u8]), CborRefusal>
     body(depth - 1, head, rest)
 }
 
-/// What an item tells after its head. Its members may be `depth` deep.
+/// Weighs an item after its head. Its members may be `depth` deep.
 #[cycle(weigh)]
 #[tactic(auto, unfolding(crate::specs::Reading::body_at))]
 fn body(depth: u64, head: Head, bytes: &[u8]) -> Result<(WeighedValue, &[u8]), CborRefusal>

@@ -246,7 +246,7 @@ fn put_head(to: &mut Vec<u8>, major: u8, argument: u64)
     }
 }
 
-/// A head whose argument stands after the first byte.
+/// A head whose argument follows the first byte.
 #[tactic(auto, using(crate::proofs::Fractions::width_small, crate::proofs::Fractions::width_is))]
 fn put_long_head(to: &mut Vec<u8>, major: u8, info: u8, argument: u64)
     requires major { major < 6 }

@@ -1,4 +1,4 @@
--- A part that lies at a place of the bytes, and what is read there.
+-- A part that lies at an offset of the bytes, and what is read there.
 use Rattle.std.proofs.Common.{◌≡◌, ℕ, zero, suc, get_or, subst, length-drop, ◌+◌, ◌*◌, ◌<◌, ◌≤◌, ◌^◌, List, [], ◌∷◌, ◌++◌, length, take, drop, Ok, refl, sym, ap, ◌∙◌, append_assoc, length-append, arith}
 use Rattle.std.proofs.lemmas.Bool.{le-ltb}
 use Rattle.std.proofs.lemmas.List.{take_at, drop_at, append-nil, drop-drop, drop-append-le, take-append-le}
@@ -37,7 +37,7 @@ lies_within : (part bytes : List ℕ) (place : ℕ) → Lies part bytes place �
 lies_within part bytes place l =
     omega (arith, ap length l.whole, length-append l.before (part ++ l.rest), length-append part l.rest, l.here)
 
--- the part is read at its place
+-- the part is read at its offset
 pub part_at-lies : (part bytes : List ℕ) (place : ℕ) → Lies part bytes place → part_at bytes place (length part) ≡ Ok part
 unfolding part_at
 part_at-lies part bytes place l =
@@ -56,11 +56,11 @@ pub little_number-lies : (n x : ℕ) (bytes : List ℕ) (place : ℕ) → x < 25
 little_number-lies n x bytes place fits l =
     ap (little_number n) (lies_drop (little_bytes n x) bytes place l) ∙ little_number-reads_back n x l.rest fits
 
--- the same part at an equal place
+-- the same part at an equal offset
 pub lies_at : (part bytes : List ℕ) (place place' : ℕ) → place ≡ place' → Lies part bytes place → Lies part bytes place'
 lies_at part bytes place place' e l = subst (Lies part bytes) e l
 
--- what stands within a part
+-- what lies within a part
 pub take-lies : (n i : ℕ) (part bytes : List ℕ) (place : ℕ) → i + n ≤ length part → Lies part bytes place → take n (drop (place + i) bytes) ≡ take n (drop i part)
 take-lies n i part bytes place h l =
     let from_there : drop (place + i) bytes ≡ drop i part ++ l.rest =

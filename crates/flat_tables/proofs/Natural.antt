@@ -1,4 +1,4 @@
--- A place that may lie before the bytes.
+-- An offset that may lie before the bytes.
 use Rattle.std.proofs.Common.{◌≡◌, ℕ, ◌^◌, Option, Some, None, arith, refl, ap}
 use Rattle.std.proofs.lemmas.Int.{ints}
 use Rattle.std.specs.Prelude.{ℤ, pos, negsuc, ◌<ℤ◌, ok_or, unsigned_abs, Ok, SomeIff}

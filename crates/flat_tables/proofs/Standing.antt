@@ -1,4 +1,4 @@
--- What stood in a builder still stands.
+-- What holds at an offset of a builder still holds later.
 use Rattle.std.proofs.Common.{◌≡◌, ℕ, ◌-◌, List, [], ◌++◌, length, sym, ap, ◌∙◌, subst, append_assoc, length-append, arith}
 use Rattle.flat_tables.specs.Building.{Grows, StaysAt}
 

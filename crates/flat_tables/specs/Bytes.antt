@@ -7,11 +7,11 @@ use Rattle.byteorder.specs.Endian.{little_number}
 use Rattle.flat_tables.specs.declared.fault.FlatFault.{FlatFault}
 use Rattle.flat_tables.specs.declared.fault.FlatFault.TheVariants.{OutOfRange}
 
--- the n bytes at a place, which must all lie in the bytes; places are added as whole numbers, and never wrap
+-- the n bytes at an offset, which must all lie in the bytes; offsets are added as whole numbers, and never wrap
 unfoldable pub part_at : List ℕ → ℕ → ℕ → Result (List ℕ) FlatFault
 part_at bytes place n = if nat_lt (length bytes) (place + n) then Err OutOfRange else Ok (take n (drop place bytes))
 
--- the number in the n bytes at a place, the lowest byte first
+-- the little-endian number in the n bytes at an offset
 abbrev pub number_in : ℕ → List ℕ → ℕ → ℕ
 number_in n bytes place = little_number n (drop place bytes)
 

@@ -1,4 +1,4 @@
--- How the builder lays out what it adds: words of private contracts.
+-- How the builder lays out what it adds: used in private contracts.
 use Rattle.std.specs.Prelude.{ℕ, ◌+◌, ◌-◌, ◌*◌, ◌<◌, ◌^◌, FitsSigned, List, [], ◌∷◌, ◌++◌, length, replicate}
 use Rattle.std.specs.Int.{w16, w32, w64, cast_unsigned}
 use Rattle.byteorder.specs.Endian.{little_bytes}
@@ -23,7 +23,7 @@ abbrev pub bytes_of_numbers : {A : Type 0} → ℕ → (ℕ → A → ℕ) → �
 bytes_of_numbers width number index [] = []
 bytes_of_numbers width number index (x ∷ xs) = little_bytes width (number index x) ++ bytes_of_numbers width number (index + 1) xs
 
--- references to places; the first reference is `from` bytes from the end
+-- references to offsets counted from the end; the first reference is `from` bytes from the end
 abbrev pub reference : ℕ → ℕ → ℕ → ℕ
 reference from index place = from - 4 * index - place
 
@@ -46,7 +46,7 @@ cell from index slot = slot_number (from - 8 * index) slot
 abbrev pub cells : ℕ → List Slot → List ℕ
 cells from slots = bytes_of_numbers 8 (cell from) 0 slots
 
--- the vtable's entry of a slot: how far its cell is from the table's place
+-- the vtable's entry of a slot: the offset of its cell in the table
 abbrev pub vtable_entry : ℕ → Slot → ℕ
 vtable_entry index Absent = 0
 vtable_entry index slot = 4 + 8 * index

@@ -14,7 +14,7 @@ abbrev pub AllReach : ℕ → List Slot → Type 0
 AllReach size [] = Unit {0}
 AllReach size (slot ∷ slots) = Reaches size slot × AllReach size slots
 
--- A table's slot reads as this. A place that it refers to is counted from the end.
+-- A table's slot reads as this. An offset that it refers to is counted from the end.
 abbrev pub Holds : TableIn → ℕ → Slot → Type 0
 Holds t slot Absent = place_of t slot ≡ None
 Holds t slot (U8 n) = byte_slot t slot ≡ Ok (Some n)
@@ -23,7 +23,7 @@ Holds t slot (I32 z) = signed_slot w32 4 t slot ≡ Ok (Some z)
 Holds t slot (I64 z) = signed_slot w64 8 t slot ≡ Ok (Some z)
 Holds t slot (At place) = reference_slot t slot ≡ Ok (Some (length t.bytes - place))
 
--- the size of a slot's value, of which its place is to be a multiple
+-- the size of a slot's value; its offset is to be a multiple of it
 abbrev pub alignment : Slot → ℕ
 alignment Absent = 1
 alignment (U8 n) = 1

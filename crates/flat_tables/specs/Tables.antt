@@ -7,21 +7,21 @@ use Rattle.flat_tables.specs.declared.fault.FlatFault.TheVariants.{OutOfRange, B
 use Rattle.lists.specs.Results.{◌>>=◌}
 use Rattle.flat_tables.specs.Bytes.{part_at, number_in, number_at, signed_at}
 
--- a table: the bytes that it lies in, its place, the place of its vtable, and the size that the vtable gives itself
+-- a table: the bytes that it lies in, its offset, the offset of its vtable, and the size that the vtable gives itself
 pub record TableIn : Type 0 where
   pub bytes : List ℕ
   pub place : ℕ
   pub vtable : ℕ
   pub size : ℕ
 
--- a vector: the bytes that it lies in, the place of its first element, how many it has, and how many bytes each takes
+-- a vector: the bytes that it lies in, the offset of its first element, how many it has, and how many bytes each takes
 pub record VectorIn : Type 0 where
   pub bytes : List ℕ
   pub first : ℕ
   pub count : ℕ
   pub width : ℕ
 
--- a place may not lie before the bytes
+-- an offset may not lie before the bytes
 abbrev pub natural : ℤ → Result ℕ FlatFault
 natural (pos n) = Ok n
 natural (negsuc n) = Err OutOfRange
@@ -30,7 +30,7 @@ natural (negsuc n) = Err OutOfRange
 abbrev pub is_bad_size : ℕ → Bool
 is_bad_size size = nat_lt size 4 || not (size % 2 == 0)
 
--- "Tables": a table begins with an i32, which subtracted from the table's place gives the place of its vtable
+-- "Tables": a table begins with an i32, which subtracted from the table's offset gives the offset of the vtable
 unfoldable pub vtable_at : List ℕ → ℕ → Result ℕ FlatFault
 vtable_at bytes place = signed_at w32 4 bytes place >>= λ distance. natural (pos place -ℤ distance)
 
@@ -48,7 +48,7 @@ table_at bytes place =
     size_at bytes vtable >>= λ size.
     Ok (record { bytes = bytes; place = place; vtable = vtable; size = size })
 
--- the place that the u32 at a place refers to: that far after it
+-- the offset that the u32 at an offset refers to: that many bytes after it
 unfoldable pub referred : List ℕ → ℕ → Result ℕ FlatFault
 referred bytes place = number_at 4 bytes place >>= λ distance. Ok (place + distance)
 
@@ -67,20 +67,20 @@ vector_at width bytes place =
     part_at bytes (place + 4) (count * width) >>= λ _.
     Ok (record { bytes = bytes; first = place + 4; count = count; width = width })
 
--- what is read at a place, where there is one
+-- what is read at an offset, where there is one
 abbrev pub each : {A B : Type 0} → (A → Result B FlatFault) → Option A → Result (Option B) FlatFault
 each read None = Ok None
 each read (Some x) = read x >>= λ y. Ok (Some y)
 
--- how far a slot's value is from the table's place. It is absent where the distance is 0, or past the vtable's own size
+-- how far a slot's value is from the table's offset: 0 where it is absent, and so where the vtable has no entry for it
 unfoldable pub distance_at : TableIn → ℕ → ℕ
 distance_at t slot = if nat_lt t.size (6 + 2 * slot) then 0 else number_in 2 t.bytes (t.vtable + 4 + 2 * slot)
 
--- the place of a slot's value
+-- the offset of a slot's value
 unfoldable pub place_of : TableIn → ℕ → Option ℕ
 place_of t slot = if distance_at t slot == 0 then None else Some (t.place + distance_at t slot)
 
--- the place that a slot refers to
+-- the offset that a slot refers to
 abbrev pub reference_slot : TableIn → ℕ → Result (Option ℕ) FlatFault
 reference_slot t slot = each (referred t.bytes) (place_of t slot)
 
@@ -104,7 +104,7 @@ vector_slot width t slot = reference_slot t slot >>= each (vector_at width t.byt
 abbrev pub or_default : {A : Type 0} → A → Result (Option A) FlatFault → Result A FlatFault
 or_default default read = read >>= λ found. Ok (unwrap_or found default)
 
--- the place of a vector's element
+-- the offset of a vector's element
 unfoldable pub element_place : VectorIn → ℕ → Option ℕ
 element_place v i = if nat_lt i v.count then Some (v.first + i * v.width) else None
 
@@ -112,7 +112,7 @@ element_place v i = if nat_lt i v.count then Some (v.first + i * v.width) else N
 unfoldable pub element_part : VectorIn → ℕ → Option (List ℕ)
 element_part v i = option_map (λ place. take v.width (drop place v.bytes)) (element_place v i)
 
--- the place that a vector's element refers to
+-- the offset that a vector's element refers to
 abbrev pub element_reference : VectorIn → ℕ → Result (Option ℕ) FlatFault
 element_reference v i = each (referred v.bytes) (element_place v i)
 

@@ -18,7 +18,7 @@ pub fn limits_hold()
     ensures size { MAX_SIZE ≡ max_size }
 {}
 
-/// When a table is read at a place, and which fault comes when none is.
+/// When a table is read at an offset, and which fault is returned when none is.
 pub fn tables_in_words()
     ensures table { (bytes : List ℕ) (place vtable size : ℕ) → IsTableAt bytes place vtable size
         → table_at bytes place ≡ Ok (record { bytes = bytes; place = place; vtable = vtable; size = size }) }
@@ -27,7 +27,7 @@ pub fn tables_in_words()
         → (HasBadVtable bytes place → ⊥) → table_at bytes place ≡ Err FlatFault.OutOfRange }
 {}
 
-/// What stands for something in a builder still does so after later calls.
+/// What holds at an offset of a builder, counted from the end, also holds after later calls.
 pub fn places_stay()
     ensures texts { (text old new : List ℕ) (place : ℕ) → Grows old new → StaysAt (IsText text) old place → StaysAt (IsText text) new place }
     ensures parts { (width : ℕ) (parts old new : List ℕ) (place : ℕ) → Grows old new

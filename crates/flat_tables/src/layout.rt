@@ -79,7 +79,7 @@ fn push_u64(bytes: &mut Vec<u8>, number: u64) -> Result<(), AllocError>
     Ok(())
 }
 
-/// References to places, where the first reference is `from` bytes from the end.
+/// References to parts of the builder, where the first reference is `from` bytes from the end.
 pub(crate) fn references(
     alloc: Global,
     places: &[Place],
@@ -156,7 +156,7 @@ fn entry(slot: Slot, index: usize) -> u16
     }
 }
 
-/// How far the vtable stands after its table, as the table says it: below zero, since it subtracts.
+/// How far the vtable is after its table, as the table stores it: negative, since it is subtracted.
 pub(crate) fn vtable_distance(slots: usize) -> u32
     requires { slots ≤ max_slots }
     ensures { result ≡ 2 ^ 32 - (4 + 8 * slots) }

@@ -62,7 +62,7 @@ pub(crate) fn i64_at(bytes: &[u8], place: usize) -> Result<i64, FlatFault>
     Ok(LittleEndian::read_i64(part(bytes, place, 8)?))
 }
 
-/// The place that the u32 at `place` refers to: that far after it.
+/// The offset that the u32 at `place` refers to: that many bytes after it.
 #[tactic(auto, unfolding(crate::specs::Tables::referred))]
 pub(crate) fn referred(bytes: &[u8], place: usize) -> Result<usize, FlatFault>
     ensures { result ≡ referred bytes.now place }
@@ -70,7 +70,7 @@ pub(crate) fn referred(bytes: &[u8], place: usize) -> Result<usize, FlatFault>
     Ok(place + u32_at(bytes, place)? as usize)
 }
 
-/// The place of the vtable of the table at `place`.
+/// The offset of the vtable of the table at `place`.
 #[tactic(auto, unfolding(crate::specs::Tables::vtable_at), using(crate::proofs::Natural::natural_place))]
 pub(crate) fn vtable_at(bytes: &[u8], place: usize) -> Result<usize, FlatFault>
     ensures value { result ≡ vtable_at bytes.now place }

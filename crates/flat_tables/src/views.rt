@@ -44,7 +44,7 @@ impl<'a> TableView<'a> {
         TableView::at(bytes, place)
     }
 
-    /// The table at a place.
+    /// The table at an offset.
     #[tactic(auto, unfolding(crate::specs::Tables::table_at))]
     fn at(bytes: &'a [u8], place: usize) -> Result<TableView<'a>, FlatFault>
         ensures { result ≡ table_at bytes.now place }
@@ -59,7 +59,7 @@ impl<'a> TableView<'a> {
         })
     }
 
-    /// How far the value of a slot is from the table's place; 0 where it is absent.
+    /// How far the value of a slot is from the table's offset; 0 where it is absent.
     #[tactic(auto, unfolding(crate::specs::Tables::distance_at))]
     fn distance(&self, slot: u16) -> u16
         ensures { result ≡ distance_at self.now slot }
@@ -71,7 +71,7 @@ impl<'a> TableView<'a> {
         LittleEndian::read_u16(&self.bytes[self.vtable + entry..])
     }
 
-    /// The place of the value of a slot, where there is one.
+    /// The offset of the value of a slot, where there is one.
     #[tactic(auto, unfolding(crate::specs::Tables::place_of))]
     fn place_of(&self, slot: u16) -> Option<usize>
         ensures { result ≡ place_of self.now slot }
@@ -83,7 +83,7 @@ impl<'a> TableView<'a> {
         Some(self.place + distance as usize)
     }
 
-    /// The place that a slot refers to, where there is one.
+    /// The offset that a slot refers to, where there is one.
     fn reference(&self, slot: u16) -> Result<Option<usize>, FlatFault>
         ensures { result ≡ reference_slot self.now slot }
     {
@@ -196,7 +196,7 @@ impl<'a> Model for VectorView<'a> {
 }
 
 impl<'a> VectorView<'a> {
-    /// The vector at a place.
+    /// The vector at an offset.
     #[tactic(auto, unfolding(crate::specs::Tables::vector_at))]
     fn at(bytes: &'a [u8], place: usize, width: u32) -> Result<VectorView<'a>, FlatFault>
         requires { width ≤ max_width }
@@ -220,7 +220,7 @@ impl<'a> VectorView<'a> {
         self.count
     }
 
-    /// The place of an element.
+    /// The offset of an element.
     #[tactic(auto, unfolding(crate::specs::Tables::element_place))]
     fn element_place(&self, index: u32) -> Option<usize>
         ensures value { result ≡ element_place self.now index }
@@ -243,7 +243,7 @@ impl<'a> VectorView<'a> {
         Some(&self.bytes[start..start + self.width as usize])
     }
 
-    /// The place that an element refers to, where there is one.
+    /// The offset that an element refers to, where there is one.
     fn reference(&self, index: u32) -> Result<Option<usize>, FlatFault>
         requires { self.now.width ≡ 4 }
         ensures { result ≡ element_reference self.now index }

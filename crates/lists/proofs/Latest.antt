@@ -19,7 +19,7 @@ since-none {A} p (x ∷ xs) none = rest (cases_Bool (list_any p xs))
     rest (inl some) = absurd (false≢true (sym none ∙ ap (λ b. p x || b) some ∙ passes (p x)))
     rest (inr none') = rw none' refl
 
--- what stands after the latest element stays after it, and a later element that passes begins anew
+-- what comes after the latest element stays after it, and a later element that passes begins anew
 pub since-append : {A : Type 0} (p : A → Bool) (xs ys : List A) → since p (xs ++ ys) ≡ (if list_any p ys then since p ys else since p xs ++ ys)
 since-append {A} p [] ys = by_test (cases_Bool (list_any p ys))
   where

@@ -1,4 +1,4 @@
--- Parts of lists, and what stands at a place of a list.
+-- Parts of lists, and the element at an index of a list.
 use Rattle.std.proofs.Common.{◌≡◌, ℕ, zero, suc, ◌+◌, ◌<◌, ◌≤◌, List, [], ◌∷◌, ◌++◌, length, get_or, take, drop, replicate, Option, Some, None, refl, ap, ◌∙◌, arith, length-drop}
 use Rattle.std.proofs.lemmas.List.{drop-append-le, take-append-le}
 
@@ -15,7 +15,7 @@ same_all_over zero x k = refl
 same_all_over (suc n) x zero = refl
 same_all_over (suc n) x (suc k) = same_all_over n x k
 
--- the places before the first one that is filled
+-- the indices before the first one that may be filled
 pub nones_first : {A : Type 0} (k : ℕ) (xs : List (Option A)) → ((i : ℕ) → i < k → get_or xs i None ≡ None) → k ≤ length xs → replicate k None ≡ take k xs
 nones_first zero xs none low = refl
 nones_first (suc k) [] none low = absurd (omega (arith, low))

@@ -1,4 +1,4 @@
--- What texts and byte strings hold, where short ones stand inside themselves.
+-- What texts and byte strings hold, where short ones are kept inline.
 use Rattle.std.specs.Prelude.{ℕ, ◌≤◌, List, take, string_bytes, IsUtf8}
 use Rattle.lists.specs.declared.text.Letters.{Letters}
 use Rattle.lists.specs.declared.text.Letters.TheVariants as letters

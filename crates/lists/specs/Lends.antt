@@ -3,6 +3,6 @@ use Rattle.std.specs.Prelude.{ℕ, List, Option, slice_set}
 use Rattle.std.specs.Borrow.{LendsIf, Fml, RattleType, MutBor}
 use Rattle.lists.specs.contracts.items.Items.{the_row}
 
--- once the borrow r ends, the place has the last value written through r, and at `None` the list stays as it is
+-- once the borrow r ends, the element at the index has the last value written through r; at `None` the list stays as it is
 abbrev pub lends_item : (T : RattleType) → MutBor (List T.Denot) → ℕ → Option (MutBor T.Denot) → Fml
 lends_item T items place r = LendsIf (the_row T) T items r (λ w. slice_set items.now place w) items.now

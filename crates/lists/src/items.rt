@@ -50,7 +50,7 @@ impl<T> Items<T> {
         self.items.is_empty()
     }
 
-    /// `None` exactly where the place isn't below `len`.
+    /// The item at the index; `None` exactly where the index isn't below `len`.
     #[inline]
     pub fn get(&self, place: usize) -> Option<&T>
         ensures { option_copied result ≡ slice_get self.now place }
@@ -58,7 +58,7 @@ impl<T> Items<T> {
         self.items.get(place)
     }
 
-    /// The item at the place, to write to; `None` exactly where the place isn't below `len`. The other items stay.
+    /// The item at the index, to write to; `None` exactly where the index isn't below `len`. The other items stay.
     pub fn get_mut(&mut self, place: usize) -> Option<&mut T>
         ensures* writes_back { sem 𝓛 (lends_item T.row self.entry place result) }
         ensures value { option_copied_mut result ≡ slice_get self.old place }
@@ -76,7 +76,7 @@ impl<T> Items<T> {
 }
 
 impl<T: Drop> Items<T> {
-    /// Appends the item. Where no memory is found the item is dropped and the list is as before.
+    /// Appends the item. Out of memory, the item is dropped and the list is as before.
     #[inline]
     pub fn push(&mut self, item: T) -> Result<(), AllocError>
         ensures ok { OnOk result (self.new ≡ self.old ++ item ∷ []) }
@@ -86,7 +86,7 @@ impl<T: Drop> Items<T> {
         Ok(())
     }
 
-    /// Finds room for `more` items beside those that stand, so that pushing them allocates nothing. The list stays as it
+    /// Reserves room for `more` items beside those in the list, so that pushing them allocates nothing. The list stays as it
     /// is, and one that has no room at all gets exactly that much.
     pub fn reserve(&mut self, more: usize) -> Result<(), AllocError>
         ensures { self.new ≡ self.old }

@@ -1,6 +1,6 @@
-//! Lists: growing lists, texts and byte strings that contracts see as plain lists, and words for lists that look back.
+//! Lists: growing lists, texts and byte strings that contracts see as plain lists, and definitions for lists that look back.
 //!
-//! The words are a relation that holds of each element after what came before it, a list from its latest element on that
+//! These are a relation that holds of each element after what came before it, the list from its latest element on that
 //! passes a test, and its last element, with their few laws.
 #![tactic(auto)]
 

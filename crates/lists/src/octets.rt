@@ -3,18 +3,18 @@ ghost use Rattle.std.specs.Prelude.{◌≡◌, [], ◌∷◌, ◌++◌, ◌<◌,
 use std::alloc::{AllocError, Global};
 use std::marker::Model;
 
-/// How many bytes a byte string holds inside itself.
+/// How many bytes of a byte string are kept inline at most.
 const SHORT: usize = 30;
 
 /// A growing list of bytes. Contracts see it as that list.
 ///
-/// Up to 30 bytes, as ids have, it takes no memory beside itself.
+/// A copy of up to 30 bytes, as ids have, is kept inline and allocates nothing.
 #[derive(Debug, Drop)]
 pub struct Octets {
     held: Held,
 }
 
-/// Where the bytes stand.
+/// Where the bytes are kept.
 #[derive(Debug, Drop)]
 enum Held {
     Short {
@@ -99,7 +99,7 @@ impl Octets {
         ensures value { result.now ≡ self.now }
         ensures bytes { All (λ byte. byte < 256) self.now }
     {
-        // The variable tells the proof that each byte fits its type.
+        // The variable shows the proof that each byte fits its type.
         let bytes = self.held();
         bytes
     }
@@ -113,7 +113,7 @@ impl Octets {
         }
     }
 
-    /// Appends the byte. Where no memory is found the bytes are as before.
+    /// Appends the byte. Out of memory, the bytes are as before.
     #[inline]
     pub fn push(&mut self, byte: u8) -> Result<(), AllocError>
         ensures ok { OnOk result (self.new ≡ self.old ++ byte ∷ []) }

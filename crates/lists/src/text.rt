@@ -4,18 +4,18 @@ ghost use Rattle.std.specs.Option.{SomeIff};
 use std::alloc::{AllocError, Global};
 use std::marker::Model;
 
-/// How many bytes a text holds inside itself.
+/// How many bytes of a text are kept inline at most.
 const SHORT: usize = 30;
 
 /// A growing text. Contracts see it as its bytes, which are UTF-8.
 ///
-/// Up to 30 bytes it takes no memory beside itself.
+/// A copy of up to 30 bytes is kept inline and allocates nothing.
 #[derive(Debug, Drop)]
 pub struct Text {
     letters: Letters,
 }
 
-/// Where the bytes of a text stand.
+/// Where the bytes of a text are kept.
 #[derive(Debug, Drop)]
 enum Letters {
     Short(Short),
@@ -95,7 +95,7 @@ impl Text {
         requires { IsUtf8 part.now }
         ensures { IfOk result (λ text. text ≡ part.now) }
     {
-        // SAFETY: the part is UTF-8, as the caller has to see to.
+        // SAFETY: the part is UTF-8, which the contract requires.
         Text::from_str(alloc, unsafe { str::from_utf8_unchecked(part) })
     }
 
@@ -112,7 +112,7 @@ impl Text {
         }
     }
 
-    /// Makes the text a copy of the part, in place where that is short. Where no memory is found the text is as before.
+    /// Makes the text a copy of the part, inline where that is short. Out of memory, the text is as before.
     #[inline(always)]
     pub fn set(&mut self, alloc: Global, part: &str) -> Result<(), AllocError>
         ensures ok { OnOk result (self.new ≡ part.now) }
@@ -178,7 +178,7 @@ impl Text {
         unsafe { str::from_utf8_unchecked(self.as_slice()) }
     }
 
-    /// Appends the UTF-8 bytes of the letter. Where no memory is found the text is as before.
+    /// Appends the UTF-8 bytes of the letter. Out of memory, the text is as before.
     #[inline]
     pub fn push(&mut self, letter: char) -> Result<(), AllocError>
         ensures ok { OnOk result (self.new ≡ self.old ++ encode_utf8 letter) }

@@ -1,4 +1,4 @@
--- The defects that can stand in a batch message.
+-- The defects that can be in a batch message.
 use Rattle.std.proofs.Common.{◌≡◌, ◌⊎◌, inl, inr, ℕ, true, false, List, Some, None, refl, sym, ap}
 use Rattle.std.specs.Prelude.{nat_eq}
 use Rattle.std.specs.declared.option.Option.{Option}
@@ -76,7 +76,7 @@ first {m} both = ap message both
     message None = m
     message (Some p) = p.0
 
--- only payloads stand inside
+-- only payloads are inside
 payload_inside : (k : FieldKind) → Simple k → (levels : ℕ) (next : Message) (deep : ℕ) → inside k levels ≡ Some (next, deep) → InBatch next
 payload_inside k (inl is) levels next deep at = let clash : ◌≡◌ {A = Option (Message × ℕ)} None (Some (next, deep)) = rw is at at in cc
 payload_inside k (inr (inl is)) levels next deep at = let clash : ◌≡◌ {A = Option (Message × ℕ)} None (Some (next, deep)) = rw is at at in cc

@@ -1,4 +1,4 @@
--- What stands at a place is decided by the bytes that are there, unless they are short.
+-- What is at an offset is decided by the bytes that are there, unless they are short.
 use Rattle.std.proofs.Common.{◌≡◌, ◌⊎◌, inl, inr, ℕ, ◌+◌, ◌<◌, ◌≤◌, true, false, List, [], ◌∷◌, ◌++◌, length, take, drop, Some, None, refl, sym, ap, ◌∙◌, length-append, take-append-drop, subst, arith}
 use Rattle.std.specs.Prelude.{nat_lt, nat_eq, not, ◌&&◌, ◌||◌}
 use Rattle.std.specs.declared.option.Option.{Option}
@@ -14,7 +14,7 @@ use Rattle.otap_capture.specs.Limits.{read_ahead}
 use Rattle.otap_capture.proofs.Framing.{frame_length}
 use Rattle.otap_capture.proofs.OneCapture.{front_fine}
 
--- a reason after a head that isn't for want of bytes stays, whatever bytes come
+-- a reason after a head stays, whatever bytes come, unless it is that bytes are missing
 head_more : (flag size left more : ℕ) → (head_reason flag size left ≡ Some Truncated → ⊥) → head_reason flag size (left + more) ≡ head_reason flag size left
 head_more flag size left more enough = by_cases (cases_Bool (nat_lt 2 flag || (nat_eq flag 2 && not (nat_eq size 0)))) (cases_lt longest_frame size) (cases_lt left size)
   where

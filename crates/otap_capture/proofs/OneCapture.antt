@@ -7,7 +7,7 @@ use Rattle.otlp_wire.proofs.Varints.{same_front}
 use Rattle.otap_capture.specs.declared.frame.Damage.{Damage}
 use Rattle.otap_capture.specs.Capture.{Frame, Message, Packed, Reset, Carries, IsFrame, AreFrames, EndsAt, IsCapture, head_reason, front_reason, longest_frame, capture_limit}
 
--- a flag and the bytes after a head stand for one frame
+-- a flag and the bytes after a head are one frame at most
 one_carried : (flag : ℕ) (part : List ℕ) (f g : Frame) → Carries flag part f → Carries flag part g → f ≡ g
 one_carried flag part (Message xs) (Message ys) p q = ap Message (sym p.1 ∙ q.1)
 one_carried flag part (Message xs) Packed p q = absurd (omega arith)
@@ -47,7 +47,7 @@ parts_of (flag ∷ a ∷ b ∷ c ∷ d ∷ part) frame p = record {
   carries = p.2;
 }
 
--- one frame stands at the front of bytes
+-- one frame at most is at the front of bytes
 one_frame : (front front' rest rest' : List ℕ) (f g : Frame) → front ++ rest ≡ front' ++ rest' → IsFrame front f → IsFrame front' g → (front ≡ front') × (rest ≡ rest') × (f ≡ g)
 one_frame front front' rest rest' f g whole p q =
     let a = parts_of front f p in
@@ -60,7 +60,7 @@ one_frame front front' rest rest' f g whole p q =
     let front_is : front ≡ front' = a.whole ∙ ap (λ l. a.flag ∷ (l ++ a.part)) sizes.0 ∙ ap (λ l. a.flag ∷ (b.size ++ l)) parts.0 ∙ ap (λ n. n ∷ (b.size ++ b.part)) flag ∙ sym b.whole in
     (front_is, parts.1, one_carried a.flag a.part f g a.carries (subst (λ l. Carries a.flag l g) (sym parts.0) (subst (λ n. Carries n b.part g) (sym flag) b.carries)))
 
--- where a frame stands no reason stands
+-- where a frame begins there is no reason
 head_fine : (flag size left : ℕ) (part : List ℕ) (f : Frame) → Carries flag part f → length part ≡ size → size ≤ longest_frame → size ≤ left → head_reason flag size left ≡ None
 head_fine flag size left part (Message xs) p long fits room = rw (p.0, le-ltb longest_frame size fits, le-ltb left size room) refl
 head_fine flag size left part Packed p long fits room = rw (p, le-ltb longest_frame size fits, le-ltb left size room) refl
@@ -84,7 +84,7 @@ front_fine (flag ∷ a ∷ b ∷ c ∷ d ∷ part) rest f p =
 some_bytes : (front : List ℕ) (f : Frame) → IsFrame front f → 0 < length front
 some_bytes front f p = let a = parts_of front f p in let e = ap length a.whole in omega (arith, e)
 
--- a capture doesn't end where a frame stands
+-- a capture doesn't end where a frame begins
 no_end : (place : ℕ) (front rest : List ℕ) (f : Frame) (end : Option Damage) → place < capture_limit → IsFrame front f → EndsAt place (front ++ rest) end → ⊥
 no_end place front rest f None below p ends = let none = ap length ends.0 in let some = some_bytes front f p in omega (arith, length-append front rest, none, some)
 no_end place front rest f (Some damage) below p ends =
@@ -101,7 +101,7 @@ one_end place rest (Some d) (Some e) p q =
     let at : d.at ≡ e.at = p.0 ∙ sym q.0 in
     λ i. Some (record { at = at i; why = why i })
 
--- where a frame stands in front of a capture's end, the end is that after it
+-- where a frame comes before a capture's end, the end is that after it
 after_frame : (place : ℕ) (front first more rest : List ℕ) (end : Option Damage) → front ≡ first ++ more → EndsAt (place + length front) rest end
     → EndsAt (place + length first + length more) rest end
 after_frame place front first more rest end whole ends =
@@ -113,7 +113,7 @@ at_place place front rest end none ends =
     let at : place + length front ≡ place = let e = ap length none in omega (arith, e) in
     subst (λ n. EndsAt n rest end) at ends
 
--- the frames from a place on, and the end, are one
+-- the frames from an offset on, and the end, are unique
 one_reading : (place : ℕ) (front front' rest rest' : List ℕ) (fs gs : List Frame) (end other : Option Damage) → front ++ rest ≡ front' ++ rest'
     → AreFrames place front fs → AreFrames place front' gs → EndsAt (place + length front) rest end → EndsAt (place + length front') rest' other → (fs ≡ gs) × (end ≡ other)
 one_reading place front front' rest rest' [] [] end other whole p q ends ends' =

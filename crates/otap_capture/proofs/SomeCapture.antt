@@ -12,7 +12,7 @@ use Rattle.otap_capture.specs.declared.frame.Why.{Why}
 use Rattle.otap_capture.specs.declared.frame.Why.TheVariants.{Truncated, BadFrame, TooLong, Endless}
 use Rattle.otap_capture.specs.Capture.{Frame, Message, Packed, Reset, Carries, IsFrame, AreFrames, EndsAt, IsCapture, head_reason, front_reason, longest_frame, capture_limit}
 
--- a flag and a length of which no reason stands are those of a frame
+-- a flag and a length without a reason are those of a frame
 record IsHead (flag size left : ℕ) : Type 0 where
   fits : size ≤ longest_frame
   room : size ≤ left
@@ -76,7 +76,7 @@ after_head place flag a b c d after below = by_head (head_of flag (big_number 4 
           shorter = omega (arith, length-drop size after);
         })
 
--- a frame stands at a place, or an end
+-- at an offset a frame begins, or a capture ends
 here : (place : ℕ) (bytes : List ℕ) → ((end : Option Damage) × EndsAt place bytes end) ⊎ Begins place bytes
 here place bytes = by_place (cases_lt place capture_limit)
   where
@@ -95,7 +95,7 @@ here place bytes = by_place (cases_lt place capture_limit)
     by_place (inl below) = by_bytes below bytes
     by_place (inr endless) = inl (Some (record { at = place; why = Endless }), (refl, rw (le-leb capture_limit place endless) refl))
 
--- a capture from a place on
+-- a capture from an offset on
 record Rest (place : ℕ) (bytes : List ℕ) : Type 0 where
   frames : List Frame
   end : Option Damage

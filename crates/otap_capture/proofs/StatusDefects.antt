@@ -1,4 +1,4 @@
--- The defects that can stand in a status.
+-- The defects that can be in a status.
 use Rattle.std.proofs.Common.{◌≡◌, ◌⊎◌, inl, inr, ℕ, true, false, List, Some, None, refl}
 use Rattle.std.specs.Prelude.{nat_eq}
 use Rattle.std.specs.declared.option.Option.{Option}
@@ -49,7 +49,7 @@ of_value k s levels (wire.Fixed32 v) e fault = bad_message e fault.0
 of_value k s levels (wire.Bytes part) e (inl fault) = bad_message e fault.0
 of_value k s levels (wire.Bytes part) e (inr fault) = of_part k s levels part e fault
 
--- no message stands inside
+-- no message is inside
 none_inside : (k : FieldKind) → Plain k → (levels : ℕ) (p : Message × ℕ) → inside k levels ≡ Some p → ⊥
 none_inside k (inl is) levels p at = let clash : ◌≡◌ {A = Option (Message × ℕ)} None (Some p) = rw is at at in cc
 none_inside k (inr (inl is)) levels p at = let clash : ◌≡◌ {A = Option (Message × ℕ)} None (Some p) = rw is at at in cc

@@ -38,7 +38,7 @@ payloads_in bytes = map payload_in (parts_of (only 2 (fields_of bytes)))
 abbrev pub batch_content : List ℕ → BatchContent
 batch_content bytes = record { id = said 1 int64_in (pos 0) bytes; payloads = payloads_in bytes }
 
--- the bytes are a batch message, which says this; no value stands in it, so it has no levels of members
+-- the bytes are a batch message, which says this; no value is in it, so it has no levels of members
 abbrev pub ReadsBatch : List ℕ → BatchContent → Type 0
 ReadsBatch bytes batch = IsFine BatchArrowRecords 0 bytes × (batch ≡ batch_content bytes)
 
@@ -48,7 +48,7 @@ defect_of BadMessage = defects.BadMessage
 defect_of Repeated = defects.Repeated
 defect_of BadUtf8 = defects.BadUtf8
 
--- a defect stands in the bytes, read as a batch message
+-- a defect is in the bytes, read as a batch message
 abbrev pub RefusesBatch : List ℕ → BatchRefusal → Type 0
 RefusesBatch bytes refusal = Stands BatchArrowRecords 0 bytes (defect_of refusal)
 

@@ -12,12 +12,12 @@ use Rattle.otap_capture.specs.Batch.{BatchContent, batch_content}
 abbrev pub message_content : Inside → BatchContent
 message_content b = batch_content b.bytes.now
 
--- no defect stands in its bytes, and it knows its id and how many payloads there are
+-- its bytes have no defect, and it knows its id and how many payloads there are
 pub record HoldsMessage (b : Inside) : Type 0 where
   pub fine : IsFine BatchArrowRecords 0 b.bytes.now
   pub id : b.id ≡ (message_content b).id
   pub count : b.count ≡ length (message_content b).payloads
 
--- no defect stands in the payloads of the bytes
+-- the payloads of the bytes have no defect
 abbrev pub HasFinePayloads : List ℕ → Type 0
 HasFinePayloads bytes = AllByRecursion (IsFine ArrowPayload 0) (parts_of (only 2 (fields_of bytes)))

@@ -32,11 +32,11 @@ pub record SaysMore (old new : Scan) (f : Entry) : Type 0 where
   pub id : new.id ≡ at 1 int64_in old.id f
   pub count : new.count ≡ old.count + cond (is_some (numbered_part 2 f)) 1 0
 
--- a defect stands in the field, or the id occurs again
+-- a defect is in the field, or the id occurs again
 abbrev pub FieldFaults : Bool → Entry → BatchRefusal → Type 0
 FieldFaults seen f refusal = ValueStands (kind_of BatchArrowRecords f.number) 0 f.value (defect_of refusal) ⊎ ((refusal ≡ Repeated) × (seen ≡ true) × (f.number ≡ 1))
 
--- the defects that can stand in a batch message
+-- the defects that can be in a batch message
 abbrev pub IsOfBatch : Defect → Type 0
 IsOfBatch defects.BadMessage = ⊤
 IsOfBatch defects.Repeated = ⊤

@@ -21,7 +21,7 @@ frame_of (lent.Message part) = Message part.now
 frame_of lent.Packed = Packed
 frame_of lent.Reset = Reset
 
--- what a flag and the bytes after a head stand for
+-- which frame a flag and the bytes after a head are
 abbrev pub Carries : ℕ → List ℕ → Frame → Type 0
 Carries flag part (Message bytes) = (flag ≡ 0) × (part ≡ bytes)
 Carries flag part Packed = flag ≡ 1
@@ -33,7 +33,7 @@ IsFrame (flag ∷ a ∷ b ∷ c ∷ d ∷ part) frame =
     (length part ≡ big_number 4 (a ∷ b ∷ c ∷ d ∷ [])) × (length part ≤ longest_frame) × Carries flag part frame
 IsFrame bytes frame = ⊥
 
--- From this place on the bytes are these frames, one after the other. Each begins below the limit of a capture.
+-- From this offset on the bytes are these frames, one after the other. Each begins below the limit of a capture.
 abbrev pub AreFrames : ℕ → List ℕ → List Frame → Type 0
 AreFrames place bytes [] = bytes ≡ []
 AreFrames place bytes (frame ∷ frames) = (front : List ℕ) × (rest : List ℕ)
@@ -47,17 +47,17 @@ head_reason flag size left =
     else if nat_lt left size then Some Truncated
     else None
 
--- the first reason why no frame stands at the front of these bytes; there is none where no byte is left
+-- the first reason why no frame is at the front of these bytes; there is none where no byte is left
 abbrev pub front_reason : List ℕ → Option Why
 front_reason [] = None
 front_reason (flag ∷ a ∷ b ∷ c ∷ d ∷ rest) = head_reason flag (big_number 4 (a ∷ b ∷ c ∷ d ∷ [])) (length rest)
 front_reason bytes = Some Truncated
 
--- the first reason at this place, from which on the bytes are these
+-- the first reason at this offset, from which on the bytes are these
 abbrev pub reason_at : ℕ → List ℕ → Option Why
 reason_at place bytes = if nat_le capture_limit place then Some Endless else front_reason bytes
 
--- a capture ends well where no byte is left and no reason stands, and else with the first reason
+-- a capture ends well where no byte is left and there is no reason, and else with the first reason
 abbrev pub EndsAt : ℕ → List ℕ → Option Damage → Type 0
 EndsAt place rest None = (rest ≡ []) × (reason_at place rest ≡ None)
 EndsAt place rest (Some damage) = (damage.at ≡ place) × (reason_at place rest ≡ Some damage.why)
@@ -70,10 +70,10 @@ pub record IsCapture (bytes : List ℕ) (frames : List Frame) (end : Option Dama
   pub each : AreFrames 0 front frames
   pub ends : EndsAt (length front) rest end
 
--- the one spelling of a message
+-- the one encoding of a message
 abbrev pub message_frame : List ℕ → List ℕ
 message_frame part = 0 ∷ big_bytes 4 (length part) ++ part
 
--- the one spelling of a reset
+-- the one encoding of a reset
 abbrev pub reset_frame : List ℕ
 reset_frame = 2 ∷ 0 ∷ 0 ∷ 0 ∷ 0 ∷ []

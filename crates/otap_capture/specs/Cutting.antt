@@ -18,7 +18,7 @@ use Rattle.otap_capture.specs.Limits.{frame_head, read_ahead}
 use Rattle.otap_capture.specs.Inside.{frame_in}
 use Rattle.otap_capture.specs.Reading.{Reading, IsWaiting, end_step}
 
--- a frame with that flag and that number of bytes after its head, stands at the front of these bytes
+-- a frame with that flag, and that number of bytes after its head, is at the front of these bytes
 pub record BeginsFrame (place : ℕ) (bytes : List ℕ) (f : Flag) (size : ℕ) : Type 0 where
   pub begins : place < capture_limit
   pub room : frame_head + size ≤ length bytes

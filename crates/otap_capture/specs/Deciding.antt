@@ -1,4 +1,4 @@
--- Whether the bytes at a place decide what stands there, whatever comes after them.
+-- Whether the bytes at an offset decide what is there, whatever comes after them.
 use Rattle.std.specs.Prelude.{◌≡◌, ◌⊎◌, ℕ, ◌<◌, ◌≤◌, List, [], ◌++◌, length, Some}
 use Rattle.otap_capture.specs.declared.frame.Why.TheVariants.{Truncated}
 use Rattle.otap_capture.specs.Limits.{capture_limit, read_ahead}
@@ -8,7 +8,7 @@ use Rattle.otap_capture.specs.Capture.{front_reason}
 abbrev pub IsShort : List ℕ → Type 0
 IsShort bytes = (bytes ≡ []) ⊎ (front_reason bytes ≡ Some Truncated)
 
--- What stands at this place isn't decided by the bytes that are there: more of them change it.
+-- What is at this offset isn't decided by the bytes that are there: more of them change it.
 abbrev pub IsOpen : ℕ → List ℕ → Type 0
 IsOpen place bytes = (place < capture_limit) × IsShort bytes
 

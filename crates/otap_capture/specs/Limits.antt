@@ -9,7 +9,7 @@ frame_head = 5
 abbrev pub longest_frame : ℕ
 longest_frame = 2 ^ 29
 
--- each frame of a capture begins below this place
+-- each frame of a capture begins below this offset
 abbrev pub capture_limit : ℕ
 capture_limit = 2 ^ 40
 

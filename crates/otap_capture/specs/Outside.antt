@@ -7,17 +7,17 @@ use Rattle.std.specs.Io.KnownBytes.{Appends, Keeps}
 use Rattle.otap_capture.specs.declared.outside.SinkRefusal.{SinkRefusal}
 use Rattle.otap_capture.specs.declared.outside.SinkRefusal.TheVariants.{Failed, Memory}
 
--- A count of faults rose: it is greater than it was, unless it stood at the last value of a u64. It never falls.
+-- A count of faults rose: it is greater than it was, unless it was the last value of a u64. It never falls.
 pub record Rose (before now : ℕ) : Type 0 where
   pub later : before ≤ now
   pub greater : before ≢ 2 ^ 64 - 1 → before < now
 
--- a call's count of faults: it rises where the call fails, and stands still elsewhere
+-- a call's count of faults: it rises where the call fails, and is the same elsewhere
 abbrev pub Counts : {T E : Type 0} → ℕ → ℕ → Result T E → Type 0
 Counts before now (Ok x) = now ≡ before
 Counts before now (Err e) = Rose before now
 
--- a refusal by a sink: want of memory is no fault
+-- a refusal by a sink: running out of memory is no fault
 abbrev pub RefusalCounts : ℕ → ℕ → SinkRefusal → Type 0
 RefusalCounts before now Failed = Rose before now
 RefusalCounts before now (Memory e) = now ≡ before
@@ -41,7 +41,7 @@ abbrev pub FlushPasses : {E : Type 0} → Option (List ℕ) → Option (List ℕ
 FlushPasses old new written (Ok x) = new ≡ written
 FlushPasses old new written (Err e) = Keeps old new
 
--- what is passed on is a front of what is written, and is told where that is
+-- what is passed on is a front of what is written, and is known where that is
 abbrev pub IsFront : Option (List ℕ) → Option (List ℕ) → Type 0
 IsFront None None = ⊤
 IsFront None (Some whole) = ⊥

@@ -29,11 +29,11 @@ pub record Reading : Type 0 where
   -- how many bytes it holds in memory: those that are kept, and some of those that were handed out
   pub held : ℕ
 
--- the bytes after the frames handed out, where they are told: those kept, and those that the source has left
+-- the bytes after the frames handed out, where they are known: those kept, and those that the source has left
 abbrev pub ahead : Reading → Option (List ℕ) → Option (List ℕ)
 ahead reading left = if reading.complete then Some reading.kept else prepend_known reading.kept left
 
--- the step that tells an end
+-- the step that reports an end
 abbrev pub end_step : Option Damage → Step
 end_step None = step.End
 end_step (Some damage) = step.Damage damage
@@ -77,7 +77,7 @@ pub record EndsAgain {S : Type 0} (old new : Reading) (source source' : S) (end 
   pub unread : source' ≡ source
   pub same : new ≡ record old { frame = None }
 
--- a step's count of faults: it rises where the source failed, and stands still elsewhere
+-- a step's count of faults: it rises where the source failed, and is the same elsewhere
 abbrev pub StepCounts : {T : Type 0} → ℕ → ℕ → Result T FramesRefusal → Type 0
 StepCounts before now (Ok x) = now ≡ before
 StepCounts before now (Err Source) = Rose before now

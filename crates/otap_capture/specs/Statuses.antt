@@ -26,11 +26,11 @@ status_in bytes = record {
   message = said 3 bytes_in [] bytes;
 }
 
--- the bytes are a status, which says this; no value stands in it, so it has no levels of members
+-- the bytes are a status, which says this; no value is in it, so it has no levels of members
 abbrev pub ReadsStatus : List ℕ → StatusContent → Type 0
 ReadsStatus bytes status = IsFine BatchStatus 0 bytes × (status ≡ status_in bytes)
 
--- a defect stands in the bytes, read as a status
+-- a defect is in the bytes, read as a status
 abbrev pub RefusesStatus : List ℕ → BatchRefusal → Type 0
 RefusesStatus bytes refusal = Stands BatchStatus 0 bytes (defect_of refusal)
 

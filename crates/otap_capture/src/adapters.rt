@@ -1,6 +1,6 @@
-//! Standard readers and writers as sources and sinks: the edge of what is proved. As a source or a sink they tell no
-//! content; where the reader or the writer inside tells its bytes, each call's clause `through` says that they are
-//! handed on.
+//! Standard readers and writers as sources and sinks: the edge of what is proved. As a source or a sink their content
+//! is unknown; where the bytes of the reader or the writer inside are known, each call's clause `through` says that they
+//! are handed on.
 ghost use Rattle.std.specs.Prelude.{◌≡◌, None};
 ghost use Rattle.std.specs.Io.{ReadsAtMost, WritesAtMost};
 ghost use Rattle.std.specs.Io.KnownBytes.{Keeps, ReadConsumes, WriteAppends};

@@ -16,7 +16,7 @@ use otlp_wire::{Field, Fields, Wire};
 use std::marker::Model;
 use thiserror::Error;
 
-/// Why a message is no batch message, no batch status, or no event. Where several of these stand in it, any of them may be named.
+/// Why a message is no batch message, no batch status, or no event. Where several of these are true of it, any of them may be named.
 #[derive(Clone, Copy, Debug, PartialEq, Eq, Error)]
 pub enum BatchRefusal {
     /// A wire error, or a known field with another wire type, in the message or in a payload; or an event
@@ -104,7 +104,7 @@ impl<'a> Batch<'a> {
         self.count
     }
 
-    /// The payload at this place, or `None` exactly where the place is not below [`Batch::count`]. It
+    /// The payload at this index, or `None` exactly where the index is not below [`Batch::count`]. It
     /// walks the payloads before it: [`Batch::payloads`] gives all of them in one walk.
     pub fn payload(&self, place: usize) -> Option<Payload<'a>>
         ensures { option_map content_of result ≡ slice_get self.now.payloads place }
@@ -229,7 +229,7 @@ impl Scan {
     }
 }
 
-/// What the fields of a payload say, in which no defect stands.
+/// What the fields of a payload without a defect say.
 fn payload_of(part: &[u8]) -> Payload<'_>
     requires { IsFine Message.ArrowPayload 0 part.now }
     ensures { content_of result ≡ payload_in part.now }
@@ -304,7 +304,7 @@ fn parts_with<'a>(parts: Parts<'a>, field: Field<'a>) -> Parts<'a>
     }
 }
 
-/// The refusal that names the defect, one of those that can stand in a batch message, a status or an event.
+/// The refusal that names the defect, one of those that can be in a batch message, a status or an event.
 pub(crate) fn refusal_of(defect: Defect) -> BatchRefusal
     requires { IsOfBatch defect }
     ensures { defect_of result ≡ defect }

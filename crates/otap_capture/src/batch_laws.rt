@@ -12,7 +12,7 @@ pub fn one_batch()
         → ReadsBatch bytes batch → RefusesBatch bytes refusal → ⊥ }
 {}
 
-/// Bytes in which no defect stands are read as a batch message, and all others are refused.
+/// Bytes without a defect are read as a batch message, and all others are refused.
 pub fn read_or_refused()
     ensures read { (bytes : List ℕ) → ((refusal : BatchRefusal) → RefusesBatch bytes refusal → ⊥) → ReadsBatch bytes (batch_content bytes) }
     ensures either { (bytes : List ℕ) → ((batch : BatchContent) × ReadsBatch bytes batch) ⊎ ((refusal : BatchRefusal) × RefusesBatch bytes refusal) }

@@ -11,7 +11,7 @@ pub const FRAME_HEAD: usize = 5;
 /// A frame has at most this many bytes after its head.
 pub const MAX_FRAME: u32 = 1 << 29;
 
-/// Each frame of a capture begins below this place.
+/// Each frame of a capture begins below this offset.
 pub const MAX_CAPTURE: u64 = 1 << 40;
 
 /// A frame of a capture (gRPC's length-prefixed messages; the reset is this project's own mark).
@@ -25,12 +25,12 @@ pub enum Frame<'f> {
     Reset,
 }
 
-/// Why no frame stands at a place.
+/// Why no frame begins at an offset.
 #[derive(Clone, Copy, Debug, PartialEq, Eq)]
 pub enum Why {
     /// The bytes end within a frame.
     Truncated,
-    /// The flag is none, or a reset has a length.
+    /// The flag is above 2, or a reset has a length.
     BadFrame,
     /// The length is above [`MAX_FRAME`].
     TooLong,
@@ -38,10 +38,10 @@ pub enum Why {
     Endless,
 }
 
-/// A place of a capture at which no frame stands, counted from 0, and the first reason why.
+/// An offset of a capture at which no frame begins, counted from 0, and the first reason why.
 #[derive(Clone, Copy, Debug, PartialEq, Eq)]
 pub struct Damage {
-    /// The place: how many bytes of the capture stand before it.
+    /// The offset: how many bytes of the capture come before it.
     pub at: u64,
     /// The first reason.
     pub why: Why,
@@ -54,11 +54,11 @@ pub enum Step {
     Frame,
     /// The capture ends well.
     End,
-    /// No frame stands at this place.
+    /// No frame begins at this offset.
     Damage(Damage),
 }
 
-/// Why the next step of a capture could not be told. A further call goes on.
+/// Why the next step of a capture was not returned. A further call goes on.
 #[derive(Debug, Drop, Error)]
 pub enum FramesRefusal {
     /// The source failed: its count of faults rose in that call.

@@ -99,7 +99,7 @@ impl Frames {
         }
     }
 
-    /// What stands at the front of the bytes that are kept.
+    /// What is at the front of the bytes that are kept.
     fn front(&self) -> NextFrame
         ensures { StandsAt self.now.handed self.now.kept result }
     {

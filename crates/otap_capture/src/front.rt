@@ -1,4 +1,4 @@
-//! What stands at the front of the bytes of a capture that are left.
+//! What is at the front of the bytes of a capture that are left.
 ghost use Rattle.std.specs.Prelude.{◌≡◌};
 ghost use Rattle.otap_capture.specs.Cutting.{StandsAt, StandsAfter, leaves_open};
 

@@ -20,7 +20,7 @@ pub fn one_capture()
         → IsCapture bytes frames end → IsCapture bytes others other → (frames ≡ others) × (end ≡ other) }
 {}
 
-/// What the bytes at a place decide stays, whatever bytes come after them.
+/// What the bytes at an offset decide stays, whatever bytes come after them.
 pub fn decided_stays()
     ensures { (place : ℕ) (bytes more : List ℕ) → (IsOpen place bytes → ⊥) → reason_at place (bytes ++ more) ≡ reason_at place bytes }
 {}

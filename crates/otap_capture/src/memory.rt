@@ -11,7 +11,7 @@ use crate::steady::copy_front;
 use std::alloc::Global;
 use std::marker::Model;
 
-/// Gives its bytes in pieces. Call number c, counted from 0, fails where c stands in `failing`, and
+/// Gives its bytes in pieces. Call number c, counted from 0, fails where c is in `failing`, and
 /// gives at most `pieces[c]` bytes, or as many as the room takes where there is no such piece.
 #[derive(Drop)]
 pub struct MemorySource {
@@ -84,7 +84,7 @@ impl Source for MemorySource {
 }
 
 /// Keeps what is written to it. Call number c, counted from 0 over writes and flushes together, fails
-/// where c stands in `failing`.
+/// where c is in `failing`.
 #[derive(Drop)]
 pub struct MemorySink {
     bytes: Vec<u8>,

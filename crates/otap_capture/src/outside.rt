@@ -35,7 +35,7 @@ impl From<AllocError> for SinkRefusal {
 
 /// Bytes that come in pieces.
 pub trait Source {
-    /// The bytes that it has still to give, where they are told.
+    /// The bytes that it has still to give, where they are known.
     ghost left: { Self → Option (List ℕ) };
 
     /// How often it failed.
@@ -49,9 +49,9 @@ pub trait Source {
         ensures count { Counts (faults self.old) (faults self.new) result };
 }
 
-/// A place to which bytes are written.
+/// A destination for bytes.
 pub trait Sink {
-    /// The bytes written so far, where they are told.
+    /// The bytes written so far, where they are known.
     ghost written: { Self → Option (List ℕ) };
 
     /// Those of them that were passed on, to wherever the sink leads.
@@ -74,7 +74,7 @@ pub trait Sink {
         ensures flushed { FlushPasses (passed self.old) (passed self.new) (written self.new) result }
         ensures count { SinkCounts (faults self.old) (faults self.new) result };
 
-    /// What was passed on stands in front of the rest, so it never shrinks.
+    /// What was passed on is a front of what was written, so it never shrinks.
     ghost front: { (sink : Self) → IsFront (passed sink) (written sink) };
 }
 

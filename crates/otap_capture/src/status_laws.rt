@@ -11,7 +11,7 @@ pub fn one_status()
         → ReadsStatus bytes status → RefusesStatus bytes refusal → ⊥ }
 {}
 
-/// Bytes in which no defect stands are read as a status, and all others are refused.
+/// Bytes without a defect are read as a status, and all others are refused.
 pub fn status_or_refused()
     ensures read { (bytes : List ℕ) → ((refusal : BatchRefusal) → RefusesStatus bytes refusal → ⊥) → ReadsStatus bytes (status_in bytes) }
     ensures either { (bytes : List ℕ) → ((status : StatusContent) × ReadsStatus bytes status) ⊎ ((refusal : BatchRefusal) × RefusesStatus bytes refusal) }

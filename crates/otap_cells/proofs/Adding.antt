@@ -52,7 +52,7 @@ columns_in t = each_column t.kind (column_in t.rows)
 pub weight_by_columns : (t : Table) → IsTable t → weight_of_table t ≡ 32 * length t.rows + column_weights (columns_in t)
 weight_by_columns t sound = by_columns (width_of t.kind) t.rows sound.wide
 
--- no bytes stand in a cell of any other base
+-- no cell of any other base has bytes
 pub no_bytes : (holds : Base) (cell : Cell) → IsCellOf holds cell → holds_bytes holds ≡ false → cell_weight cell ≡ 0
 no_bytes holds null fits not = refl
 no_bytes holds (number n) fits not = refl

@@ -1,4 +1,4 @@
--- What tells the columns of a table apart.
+-- No two columns of a table have the same name.
 use Rattle.std.proofs.Common.{◌≡◌, ℕ, zero, suc, ◌<◌, ◌^◌, Bool, true, false, not, ◌&&◌, List, [], ◌∷◌, length, get_or, map, refl, sym, ◌∙◌, ap, arith, lit<}
 use Rattle.std.proofs.lemmas.List.{length-map, get_or-map}
 use Rattle.std.proofs.lemmas.Slice.Eq.{bytes_eq-Decides}
@@ -10,7 +10,7 @@ use Rattle.otap_cells.specs.declared.payload.Kind.{Kind}
 use Rattle.otap_cells.specs.declared.payload.Kind.TheVariants as table
 use Rattle.otap_cells.specs.Columns.{plain, columns_of, width_of, name_at, logs, spans, metrics, attrs, deep_attrs, span_events, span_links, number_points, summary_points, hist_points, exemplars}
 
--- no name stands twice
+-- no name occurs twice
 abbrev all_apart : List (List ℕ) → Bool
 all_apart [] = true
 all_apart (name ∷ names) = not (list_any (bytes_eq name) names) && all_apart names
@@ -66,7 +66,7 @@ same_names kind a b in_a in_b same =
     apart_at (map (λ column. column.name) (columns_of kind)) a b (names_apart kind) (omega arith) (omega arith)
     (name a (plain [] base.Binary) [] in_a ∙ same ∙ sym (name b (plain [] base.Binary) [] in_b))
 
--- a place fits 32 bits
+-- the number of columns fits 32 bits
 pub narrow : (kind : Kind) → width_of kind < 2 ^ 32
 unfolding logs spans metrics attrs deep_attrs span_events span_links number_points summary_points hist_points exemplars
 narrow table.ResourceAttrs = lit< tt

@@ -27,13 +27,13 @@ length-row_by kind cell row = length-map-range_with_len (λ column. cell column 
 pub get_or-row_by : (kind : Kind) (cell : ℕ → ℕ → Cell) (column row : ℕ) → column < width_of kind → get_or (row_by kind cell row) column null ≡ cell column row
 get_or-row_by kind cell column row within = get_or-map-range_with_len (λ column. cell column row) 0 (width_of kind) column column null within (omega arith)
 
--- the cell at each place is the one that was given
+-- the cell of each row and column is the one that was given
 pub cell_in-rows_by : (kind : Kind) (count : ℕ) (cell : ℕ → ℕ → Cell) (column row : ℕ) → column < width_of kind → row < count
     → cell_in (rows_by kind count cell) column row ≡ cell column row
 cell_in-rows_by kind count cell column row there within =
     ap (λ cells. get_or cells column null) (get_or-rows_by kind count cell row within) ∙ get_or-row_by kind cell column row there
 
--- and null at any other place
+-- and null past the rows or the columns
 pub cell_in-beyond : (kind : Kind) (count : ℕ) (cell : ℕ → ℕ → Cell) (column row : ℕ) → (width_of kind ≤ column) ⊎ (count ≤ row)
     → cell_in (rows_by kind count cell) column row ≡ null
 cell_in-beyond kind count cell column row (inr low) =

@@ -43,7 +43,7 @@ module _ (t : Table) (column : ℕ) (rows : List Bool) (how : Coding) (last : �
   pub ids_missing : (ids : List (Option ℕ)) → fits_after how last 0 rows numbers ≡ false → IdsOf t column rows ids → ⊥
   ids_missing ids fits given = false≢true (sym fits ∙ stands_fits how last 0 rows numbers ids (rw (← coded, ← bounded, ← stored) at given))
 
--- no parent is null, as the test of the numbers tells
+-- no parent is null, as the test of the numbers says
 pub all_parents : (t : Table) (column : ℕ) (kind : Kind) (numbers : List (Option ℕ)) (returned : Bool) → kind ≡ t.kind → numbers ≡ stored_in t column
     → ((name_at kind column ≡ codes "parent_id") × Contains numbers None → returned ≡ true) → returned ≡ false → HasNullParent t column → ⊥
 all_parents t column kind numbers returned same stored told miss lacks =

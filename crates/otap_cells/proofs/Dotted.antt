@@ -21,7 +21,7 @@ joined_after path [] first dotted rest is some after = cc
 joined_after path (next ∷ inner) first dotted rest is some after =
     rw (is, after) (front_same first.now (join_with_byte 46 (map (λ name. name.now) (next ∷ inner))) rest)
 
--- where the first name and a dot don't stand at the front
+-- where the first name and a dot aren't at the front
 pub joined_elsewhere : (path inner : List (Bor (List ℕ))) (first : Bor (List ℕ)) (dotted : List ℕ)
     → path ≡ first ∷ inner → eqb (length inner) 0 ≡ false → ((rest : List ℕ) → dotted ≡ first.now ++ 46 ∷ rest → ⊥)
     → bytes_eq (join_with_byte 46 (map (λ name. name.now) path)) dotted ≡ false
@@ -35,7 +35,7 @@ joined_elsewhere path (next ∷ inner) first dotted is some none =
 abbrev pub is_named : List (Bor (List ℕ)) → ColumnSpec → Bool
 is_named path column = bytes_eq (join_with_byte 46 (map (λ name. name.now) path)) column.name
 
--- at a place before which no column has the path: what was told of the column there
+-- at an index before which no column has the path: the test of the column there
 module _ (xs : List Column) (columns : List ColumnSpec) (place : ℕ) (d : Column) (path : List (Bor (List ℕ))) (name : List ℕ) (returned : Bool)
     (is : map described xs ≡ columns) (within : place < length xs) (read : name ≡ (get_or xs place d).name.now)
     (asked : returned ≡ bytes_eq (join_with_byte 46 (map (λ name. name.now) path)) name)

@@ -1,4 +1,4 @@
--- The table of a kind, in a set whose tables stand beside their kinds.
+-- The table of a kind, in a set of pairs of a kind and its table.
 use Rattle.std.proofs.Common.{◌≡◌, suc, true, false, if◌then◌else◌, Some, List, [], ◌∷◌, refl, arith}
 use Rattle.std.specs.Prelude.{All}
 use Rattle.otap_cells.specs.declared.payload.Kind.{Kind}

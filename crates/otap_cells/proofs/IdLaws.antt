@@ -1,11 +1,11 @@
--- Ids and the numbers that stand for them, one after the other.
+-- Ids and the numbers that encode them, one after the other.
 use Rattle.std.proofs.Common.{◌≡◌, ℕ, ◌+◌, ◌≤◌, nat_le, Bool, true, List, [], ◌∷◌, drop, Option, None, Some, refl, sym, ◌∙◌, ap, arith, leb-true, le-leb}
 use Rattle.std.proofs.lemmas.Bool.{and_parts}
 use Rattle.otap_cells.specs.declared.profile.Coding.{Coding}
 use Rattle.otap_cells.specs.Ids.{IdsAfter, RiseAfter, AtMost, base_of, goes_on, takes_null, fits_after, undone_after}
 use Rattle.otap_cells.specs.Inside.{stored_after}
 
--- what is stored for ids that rise stands for them
+-- what is stored for ids that rise encodes them
 pub stored_stands : (how : Coding) (last before : ℕ) (rows : List Bool) (ids : List (Option ℕ)) → RiseAfter how before rows ids → AtMost last ids
     → IdsAfter how last before rows (stored_after how before rows ids) ids
 stored_stands how last before rows [] rise most = tt
@@ -13,7 +13,7 @@ stored_stands how last before rows (None ∷ ids) rise most = (rise.0, stored_st
 stored_stands how last before rows (Some id ∷ ids) rise most =
     (let low : base_of how (goes_on rows) before ≤ id = rise.0 in omega (arith, low), most.0, stored_stands how last id (drop 1 rows) ids rise.1 most.1)
 
--- numbers that fit stand for the ids that are given back
+-- numbers that have ids encode those that replace them
 pub undone_stands : (how : Coding) (last before : ℕ) (rows : List Bool) (ns : List (Option ℕ)) → fits_after how last before rows ns ≡ true
     → IdsAfter how last before rows ns (undone_after how last before rows ns)
 undone_stands how last before rows [] fits = tt
@@ -24,7 +24,7 @@ undone_stands how last before rows (Some n ∷ ns) fits =
     let parts = and_parts (nat_le (base_of how (goes_on rows) before + n) last) (fits_after how last (base_of how (goes_on rows) before + n) (drop 1 rows) ns) fits in
     rw parts.0 (refl, leb-true (base_of how (goes_on rows) before + n) last parts.0, undone_stands how last (base_of how (goes_on rows) before + n) (drop 1 rows) ns parts.1)
 
--- numbers that have ids fit
+-- numbers that encode ids have ids
 pub stands_fits : (how : Coding) (last before : ℕ) (rows : List Bool) (ns ids : List (Option ℕ)) → IdsAfter how last before rows ns ids → fits_after how last before rows ns ≡ true
 stands_fits how last before rows [] [] is = refl
 stands_fits how last before rows (None ∷ ns) (None ∷ ids) is = rw is.0 (stands_fits how last before (drop 1 rows) ns ids is.1)
@@ -36,7 +36,7 @@ stands_fits how last before rows (n ∷ ns) [] is = absurd is
 stands_fits how last before rows (None ∷ ns) (Some id ∷ ids) is = absurd is
 stands_fits how last before rows (Some n ∷ ns) (None ∷ ids) is = absurd is
 
--- numbers stand for one list of ids
+-- numbers encode one list of ids at most
 pub one_list : (how : Coding) (last before : ℕ) (rows : List Bool) (ns xs ys : List (Option ℕ)) → IdsAfter how last before rows ns xs → IdsAfter how last before rows ns ys → xs ≡ ys
 one_list how last before rows [] [] [] a b = refl
 one_list how last before rows (None ∷ ns) (None ∷ xs) (None ∷ ys) a b = ap (λ ids. None ∷ ids) (one_list how last before (drop 1 rows) ns xs ys a.1 b.1)

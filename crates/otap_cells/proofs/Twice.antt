@@ -1,4 +1,4 @@
--- Numbers that stand twice, and neighbours among sorted numbers.
+-- Numbers that occur twice, and neighbours among sorted numbers.
 use Rattle.std.proofs.Common.{◌≡◌, ℕ, zero, suc, ◌+◌, ◌≤◌, ◌<◌, nat_eq, List, [], ◌∷◌, get_or, length, Option, None, Some, if◌then◌else◌, inl, inr, eq-eqb, ne_eqb, refl, sym, ◌∙◌, ap, arith, add-one}
 use Rattle.std.specs.Prelude.{sum_by}
 use Rattle.std.specs.List.Sorted.{IsPermutation, IsSorted}
@@ -39,14 +39,14 @@ pair_often (x ∷ y ∷ xs) zero n within first second =
 pair_often (x ∷ y ∷ xs) (suc k) n within first second =
     omega (arith, often_more n x (y ∷ xs), pair_often (y ∷ xs) k n (omega arith) first (let e : suc (k + 1) ≡ suc k + 1 = omega arith in ap (λ m. get_or (x ∷ y ∷ xs) m 0) e ∙ second))
 
--- a number below all others doesn't stand among them
+-- a number below all others doesn't occur among them
 none_below : (xs : List ℕ) (n : ℕ) → ((k : ℕ) → k < length xs → n < get_or xs k 0) → often n xs ≡ 0
 none_below [] n below = refl
 none_below (x ∷ xs) n below =
     let differs : one_if n x ≡ 0 = rw (ne_eqb x n (λ same. absurd (omega (arith, below 0 (omega arith), same)))) refl in
     omega (arith, often_more n x xs, differs, none_below xs n (λ k within. below (suc k) (omega arith)))
 
--- numbers that rise stand once
+-- numbers that rise occur once
 rising_once : (xs : List ℕ) (n : ℕ) → ((k : ℕ) → k + 1 < length xs → get_or xs k 0 < get_or xs (k + 1) 0) → often n xs ≤ 1
 rising_once [] n rise = omega arith
 rising_once (x ∷ xs) n rise =

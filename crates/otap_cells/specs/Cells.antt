@@ -1,4 +1,4 @@
--- Cells: what stands in one row of one column.
+-- Cells: what one row has in one column.
 use Rattle.std.specs.Prelude.{◌≡◌, ℕ, ◌^◌, ◌%◌, ◌<◌, ℤ, pos, Bool, List, [], length, FitsSigned}
 use Rattle.std.specs.Int.{w32, w64, FitsUnsignedBits}
 use Rattle.std.specs.List.{slice_index_or}

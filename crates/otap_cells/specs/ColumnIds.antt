@@ -18,8 +18,8 @@ id_in _ = None
 abbrev pub stored_in : Table → ℕ → List (Option ℕ)
 stored_in t column = map id_in (column_in t.rows column)
 
--- THE IDS of a column of a table, as its coding and its greatest number give them; `rows` tells of each row whether it continues
--- the run of the one before
+-- THE IDS of a column of a table, as its coding and its greatest number give them; `rows` says of each row whether it
+-- continues the run of the one before
 abbrev pub IdsOf : Table → ℕ → List Bool → List (Option ℕ) → Type 0
 IdsOf t column rows ids = Ids (coding_in t column) (greatest_in t column) rows (stored_in t column) ids
 

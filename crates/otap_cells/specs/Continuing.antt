@@ -69,7 +69,7 @@ seen_attribute a = record { kind = a.kind; key = a.key.now; int = a.int; bits = 
 abbrev pub attribute_is : AttributeIn → AttributeIn → Bool
 attribute_is a b = a.kind == b.kind && bytes_eq a.key b.key && int_eq a.int b.int && a.bits == b.bits && bytes_eq a.bytes b.bytes
 
--- the types of values that stand in runs: neither empty nor nested
+-- the types of values that have runs: neither empty nor nested
 abbrev pub is_run_kind : ℕ → Bool
 is_run_kind kind = kind == 1 || kind == 2 || kind == 3 || kind == 4 || kind == 7
 
@@ -100,7 +100,7 @@ continues_after test before (cells ∷ rows) = goes_on_after test before cells �
 unfoldable pub continues_of : (List Cell → List Cell → Bool) → List (List Cell) → List Bool
 continues_of test rows = continues_after test None rows
 
--- how many ids stand in front of a row's other cells, where its kind has runs
+-- how many ids come before a row's other cells, where its kind has runs
 abbrev pub ids_in_front : Kind → ℕ
 ids_in_front kind = if has_attributes kind then 1 else 2
 

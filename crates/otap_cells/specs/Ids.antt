@@ -20,7 +20,7 @@ takes_null coding.Plain = true
 takes_null coding.Delta = true
 takes_null coding.Run = false
 
--- these numbers stand for these ids, none of them above `last`, after an id
+-- these numbers encode these ids, none of them above `last`, after the id `before`
 abbrev pub IdsAfter : Coding → ℕ → ℕ → List Bool → List (Option ℕ) → List (Option ℕ) → Type 0
 IdsAfter how last before rows [] [] = Unit {0}
 IdsAfter how last before rows (None ∷ ns) (None ∷ ids) = (takes_null how ≡ true) × IdsAfter how last before (drop 1 rows) ns ids
@@ -30,7 +30,7 @@ IdsAfter how last before rows (n ∷ ns) [] = ⊥
 IdsAfter how last before rows (None ∷ ns) (Some id ∷ ids) = ⊥
 IdsAfter how last before rows (Some n ∷ ns) (None ∷ ids) = ⊥
 
--- THE IDS of a column: the first number that isn't null is the id itself; `rows` tells of each row whether it continues a run
+-- THE IDS of a column: the first number that isn't null is the id itself; `rows` says of each row whether it continues a run
 abbrev pub Ids : Coding → ℕ → List Bool → List (Option ℕ) → List (Option ℕ) → Type 0
 Ids how last rows numbers ids = IdsAfter how last 0 rows numbers ids
 
@@ -49,8 +49,8 @@ AtMost last [] = Unit {0}
 AtMost last (None ∷ ids) = AtMost last ids
 AtMost last (Some id ∷ ids) = (id ≤ last) × AtMost last ids
 
--- numbers in the place of which their ids stand, up to the first one that would be above `last`; that one and all after it
--- are as they were
+-- numbers replaced by their ids, up to the first that has none: its id would be above `last`, or it is a null in a run; that
+-- one and all after it are as they were
 abbrev pub undone_after : Coding → ℕ → ℕ → List Bool → List (Option ℕ) → List (Option ℕ)
 undone_after how last before rows [] = []
 undone_after how last before rows (None ∷ ns) = None ∷ (if takes_null how then undone_after how last before (drop 1 rows) ns else ns)
@@ -62,19 +62,19 @@ undone_after how last before rows (Some n ∷ ns) =
 abbrev pub undone : Coding → ℕ → List Bool → List (Option ℕ) → List (Option ℕ)
 undone how last rows numbers = undone_after how last 0 rows numbers
 
--- numbers that have ids
+-- whether all numbers have ids
 abbrev pub fits_after : Coding → ℕ → ℕ → List Bool → List (Option ℕ) → Bool
 fits_after how last before rows [] = true
 fits_after how last before rows (None ∷ ns) = takes_null how && fits_after how last before (drop 1 rows) ns
 fits_after how last before rows (Some n ∷ ns) =
     nat_le (base_of how (goes_on rows) before + n) last && fits_after how last (base_of how (goes_on rows) before + n) (drop 1 rows) ns
 
--- how often a number stands among ids
+-- how often a number occurs among ids
 abbrev pub times : ℕ → List (Option ℕ) → ℕ
 times n [] = 0
 times n (None ∷ ids) = times n ids
 times n (Some id ∷ ids) = if nat_eq id n then suc (times n ids) else times n ids
 
--- some number stands there twice
+-- some number occurs twice
 abbrev pub Twice : List (Option ℕ) → Type 0
 Twice ids = (n : ℕ) × (1 < times n ids)

@@ -6,12 +6,12 @@ use Rattle.otap_cells.specs.Payload.{number_of, is_kind}
 use Rattle.otap_cells.specs.Cells.{Cell}
 use Rattle.otap_cells.specs.Tables.{Table}
 
--- the first table beside the kind
+-- the first table of the kind
 abbrev pub named : {R : Type 0} → Kind → List (Kind × R) → Option R
 named kind [] = None
 named kind (pair ∷ pairs) = if is_kind pair.0 kind then Some pair.1 else named kind pairs
 
--- each table stands beside its kind, and a kind at most once
+-- each table is paired with its kind, and a kind occurs at most once
 pub record IsSet {R : Type 0} (table : R → Table) (pairs : List (Kind × R)) : Type 0 where
   pub beside : All (λ pair. (table pair.1).kind ≡ pair.0) pairs
   pub once : IsDistinct nat_eq (map (λ pair. number_of pair.0) pairs)

@@ -36,7 +36,7 @@ impl From<AllocError> for IdsRefusal {
     }
 }
 
-/// The ids of a column, by its coding and its greatest number. `continues` tells of each row whether it continues the run of
+/// The ids of a column, by its coding and its greatest number. `continues` says of each row whether it continues the run of
 /// the one before, at which only runs look. Refuses with `NullParent` where the column is `parent_id` and a cell is null, and
 /// else with `PastType` where an id would be above the greatest number.
 pub fn ids_of<R: Rows>(
@@ -66,8 +66,8 @@ pub fn ids_of<R: Rows>(
     }
 }
 
-/// The ids of a column, where the table itself tells which rows continue a run. Its rows are looked through for runs only
-/// where the ids are stored in runs. Refuses as `ids_of` does.
+/// The ids of a column, where the table's own cells say which rows continue a run. They are compared only where the ids are
+/// stored in runs. Refuses as `ids_of` does.
 pub fn read_ids<R: Rows>(
     alloc: Global,
     rows: &R,

@@ -113,7 +113,7 @@ pub fn continues<R: Rows>(rows: &R, row: u64) -> bool
     row > 0 && again(rows, row - 1, row)
 }
 
-/// Whether a row continues the run of an earlier one that stands before it.
+/// Whether a row continues the run of the row `before`.
 #[tactic(auto, using(crate::proofs::AttributeColumns::attribute_width, crate::proofs::AttributeColumns::event_width, crate::proofs::AttributeColumns::link_width, crate::proofs::Flags::after_two))]
 fn again<R: Rows>(rows: &R, before: u64, row: u64) -> bool
     requires before { before < length (R.table rows.now).rows }

@@ -81,7 +81,7 @@ pub fn undo_run(ids: &mut [u32], continues: &[bool], last: u32) -> Result<(), Id
     Ok(())
 }
 
-/// Whether a number stands twice among ids. Takes n log n for n of them.
+/// Whether some number occurs twice among ids. Takes n log n for n of them.
 pub fn has_twice(alloc: Global, ids: &[Option<u32>]) -> Result<bool, AllocError>
     ensures yes { IfOk result (λ found. found ≡ true → Twice ids.now) }
     ensures no { IfOk result (λ found. found ≡ false → Twice ids.now → ⊥) }
@@ -134,7 +134,8 @@ fn code(how: Coding, ids: &mut [Option<u32>], continues: &[bool])
     }
 }
 
-/// Gives the ids of stored numbers back, up to the first one that would be above `last`, and tells whether there is none.
+/// Replaces stored numbers by their ids, up to the first that has none: its id would be above `last`, or it is a null in a
+/// run. Returns whether all have ids.
 pub fn undo(how: Coding, ids: &mut [Option<u32>], continues: &[bool], last: u32) -> bool
     ensures undone { ids.new ≡ undone_after how last 0 continues.now ids.old }
     ensures exactly { result ≡ fits_after how last 0 continues.now ids.old }
@@ -195,7 +196,7 @@ fn takes_null(how: Coding) -> bool
     }
 }
 
-/// Whether a row continues the run of the one before; one that nothing is told of doesn't.
+/// Whether a row continues the run of the one before; one past the end of `continues` doesn't.
 fn continues_at(continues: &[bool], place: usize) -> bool
     ensures { result ≡ goes_on (drop place continues.now) }
 {

@@ -73,8 +73,8 @@ impl Cells {
         }
     }
 
-    /// Writes the cell of a row after which no cell stands. The bytes of a cell that stood there keep their room. With the first
-    /// cell comes the room for that many.
+    /// Writes the cell of a row after which no row has a cell. The bytes of a cell that was there before keep their room. The
+    /// first cell reserves room for `room` cells.
     #[inline(always)]
     pub fn set(&mut self, row: usize, cell: CellView<'_>, room: usize) -> Result<(), AllocError>
         requires last { length self.old ≤ row + 1 }

@@ -30,7 +30,7 @@ pub fn tables_have_few_columns()
     ensures { (kind : Kind) → width_of kind ≤ column_limit }
 {}
 
-/// Law: the numbers that a column stores stand for one list of ids at most.
+/// Law: the numbers that a column stores encode one list of ids at most.
 pub fn numbers_stand_for_one_list()
     ensures { (how : Coding) (last : ℕ) (rows : List Bool) (numbers a b : List (Option ℕ)) → Ids how last rows numbers a → Ids how last rows numbers b → a ≡ b }
 {}

@@ -103,7 +103,7 @@ impl LogicalTable {
 
 impl LogicalTable {
     /// Appends a row of these cells, one for each column. Takes the time to copy the bytes of those that aren't null, and
-    /// constant time for each null. After want of memory the former rows stand first; whether a row follows them isn't told.
+    /// constant time for each null. Out of memory, the former rows come first; whether a row follows them is unspecified.
     #[inline(always)]
     pub fn push_cells(&mut self, cells: &[CellView<'_>]) -> Result<(), AllocError>
         requires { IsRow (columns_of self.old.kind) (map seen cells.now) }

@@ -6,7 +6,7 @@ ghost use Rattle.otap_cells.specs.Columns.{columns_of, has_dot, place_of_path};
 use crate::payload::Kind;
 use crate::profile::columns;
 
-/// The place of the column with this path of names, the outermost struct's first. A name that holds a dot is on no path.
+/// The index of the column with this path of names, the outermost struct's first. A name that holds a dot is on no path.
 pub fn column_of(kind: Kind, path: &[&[u8]]) -> Option<u32>
     ensures { result ≡ place_of_path (columns_of kind) (map (λ name. name.now) path.now) }
 {
@@ -49,7 +49,7 @@ fn is_joined(path: &[&[u8]], dotted: &[u8]) -> bool
     }
 }
 
-/// What stands after the name and a dot.
+/// What follows the name and a dot.
 fn after_dot<'a>(dotted: &'a [u8], name: &[u8]) -> Option<&'a [u8]>
     ensures { MatchOption result ((rest : List ℕ) → dotted.now ≢ name.now ++ 46 ∷ rest) (λ rest. dotted.now ≡ name.now ++ 46 ∷ rest.now) }
 {

@@ -345,7 +345,7 @@ static EXEMPLARS: &[Column] = table![
     "trace_id" trace_id;
 ];
 
-/// The columns of the tables of a kind, in their order; a column is named by its place here.
+/// The columns of the tables of a kind, in their order; a column is named by its index here.
 #[tactic(auto, unfolding(crate::specs::Columns::logs, crate::specs::Columns::spans, crate::specs::Columns::metrics, crate::specs::Columns::attrs, crate::specs::Columns::deep_attrs, crate::specs::Columns::span_events, crate::specs::Columns::span_links, crate::specs::Columns::number_points, crate::specs::Columns::summary_points, crate::specs::Columns::hist_points, crate::specs::Columns::exemplars))]
 pub fn columns(kind: Kind) -> &'static [Column]
     ensures table { map described result.now ≡ columns_of kind }

@@ -1,4 +1,4 @@
--- Which column an array is, and the place of the array of a column.
+-- Which column an array is, and the index of the array of a column.
 use Rattle.std.proofs.Common.{◌≡◌, ℕ, ◌+◌, ◌<◌, ◌≤◌, suc, zero, Bool, true, false, List, [], ◌∷◌, length, get_or, Option, Some, None, refl, ap, ◌∙◌, arith, add-one, ◌⊎◌, inl, inr}
 use Rattle.std.specs.List.{position_from, list_any, join_with_byte}
 use Rattle.std.specs.Str.{bytes_eq}
@@ -11,7 +11,7 @@ use Rattle.otap_cells.specs.declared.payload.Kind.{Kind}
 use Rattle.otap_cells.specs.Columns.{ColumnSpec, columns_of, width_of, has_dot, place_of_path}
 use Rattle.otap_columns.specs.Known.{known_column, known_columns}
 
--- a place that is found is one of the list, and passes
+-- an index that is found is one of the list, and passes
 pub record PassesAt {X : Type 0} (p : X → Bool) (from : ℕ) (xs : List X) (place : ℕ) : Type 0 where
   pub first : from ≤ place
   pub below : place < from + length xs
@@ -64,6 +64,6 @@ unfolding known_columns
 known_at kind arrays known is place below =
     ap (λ (k : List (Option ℕ)). get_or k place None) is ∙ get_or-map-range_with_len (known_column kind arrays) 0 (length arrays) place place None below (omega arith)
 
--- a test of one more place
+-- a test of one more index
 pub all_below-one_more : (test : ℕ → Bool) (n : ℕ) → all_below test n ≡ true → test n ≡ true → all_below test (n + 1) ≡ true
 all_below-one_more test n before here = rw add-one (and_from (all_below test n) (test n) before here)

@@ -18,7 +18,7 @@ any_here p [] x rest h = rw h refl
 any_here p (y ∷ front) x rest h = or_right (p y) (list_any p (front ++ x ∷ rest)) (any_here p front x rest h)
 
 module _ (id : ℤ) (delta : Bool) (batch : BatchIn) where
-  -- the dictionaries up to a place were given the batch
+  -- the dictionaries up to an index were given the batch
   pub record Given (old new : List DictionaryIn) (place : ℕ) : Type 0 where
     pub done : List DictionaryIn
     pub rest : List DictionaryIn
@@ -31,7 +31,7 @@ module _ (id : ℤ) (delta : Bool) (batch : BatchIn) where
   pub none_given : (old : List DictionaryIn) → Given old old 0
   none_given old = record { done = []; rest = old; old_is = refl; new_is = refl; at = refl; fine = refl; few = refl }
 
-  -- the dictionary at the place, as it was
+  -- the dictionary at the index, as it was
   pub record Next (old new : List DictionaryIn) (place : ℕ) (x : DictionaryIn) : Type 0 where
     pub done : List DictionaryIn
     pub rest : List DictionaryIn

@@ -125,7 +125,7 @@ substream-rows ms s batch h =
     ∙ (λ i. Some (record { arrays = arrays_of g.fields; dictionaries = dictionaries_in-rows (arrays_of g.fields) batch ms i }))
     ∙ ap Some g.is
 
--- it doesn't stand for no messages
+-- a sub-stream comes after at least one message
 pub some_messages : (ms : List IpcMessage) (s : SubstreamIn) → substream_in ms ≡ Some s → ms ≢ []
 unfolding substream_in
 some_messages ms s h empty = no (ap (λ ms. substream_in ms) (sym empty) ∙ h)

@@ -1,4 +1,4 @@
--- A column that is written as the places of its values.
+-- A column that is written as the indexes of its values.
 use Rattle.std.proofs.Common.{◌≡◌, ℕ, zero, suc, ◌+◌, ◌-◌, ◌<◌, ◌≤◌, true, replicate, List, [], ◌∷◌, ◌++◌, length, take, get_or, map, Option, Some, None, refl, sym, ap, ◌∙◌, subst, arith, position, bytes_eq}
 use Rattle.std.proofs.lemmas.Bool.{false≢true}
 use Rattle.std.proofs.lemmas.List.{length-append, length-map, map-append, take_more, take-map}
@@ -36,7 +36,7 @@ index_room f places row w b low is room =
     let short = sum_by-take-le cell_len (map (index_of f) places) (row + 1) in
     omega (arith, sum, ap cells_len more, short, ap (λ (k : ColumnIn). cells_len k.cells) is, room)
 
--- ---- places as indexes
+-- ---- indexes of cells
 
 one_reached : (f : ColumnForm) (values : List (List ℕ)) (n : ℕ) → n < length values → is_dictionary f ≡ true → FitsIndexes f (length values) → IsIndexFor f (Some n)
 one_reached form.Dict8 values n low dictionary few = omega (arith, low, few)
@@ -54,7 +54,7 @@ place_reached f values (Some value) dictionary few = by (position (bytes_eq valu
     by None is = subst (IsIndexFor f) (sym is) tt
     by (Some n) is = subst (IsIndexFor f) (sym is) (one_reached f values n (position-Some (bytes_eq value) values n [] is).0 dictionary few)
 
--- the indexes of a form reach all places
+-- the indexes of a form reach all values
 places_reached : (holds : Base) (f : ColumnForm) (values : List (List ℕ)) (cells : List Cell) → is_dictionary f ≡ true → FitsIndexes f (length values)
     → (row : ℕ) → IsIndexFor f (get_or (places_of_cells holds f values cells) row None)
 places_reached holds f values [] dictionary few row = tt
@@ -71,7 +71,7 @@ pub indexes_column : (f : ColumnForm) (values : List (List ℕ)) (t : Table) (co
 unfolding stored_column
 indexes_column f values t column dictionary = indexes_stored (base_at t.kind column) f values (column_in t.rows column) dictionary
 
--- ---- nulls after the places
+-- ---- nulls after the indexes
 
 filled_at : (places : List (Option ℕ)) (n row : ℕ) → get_or (places ++ replicate n None) row None ≡ get_or places row None
 filled_at [] n row = same_all_over {A = Option ℕ} n None row

@@ -1,4 +1,4 @@
--- The places of the columns of a table in the schema that they make.
+-- The indexes of the columns of a table in the schema that they make.
 use Rattle.std.proofs.Common.{◌≡◌, ℕ, zero, suc, ◌+◌, ◌<◌, Bool, true, false, List, [], ◌∷◌, ◌++◌, map, length, slice_get, get_or, Option, None, Some, refl, sym, ap, ◌∙◌, subst, inl, inr, arith}
 use Rattle.std.specs.Prelude.{◌&&◌, ◌||◌, not, option_map}
 use Rattle.std.specs.List.{list_any, flat_map, range_with_len, position_from}

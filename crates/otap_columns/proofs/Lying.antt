@@ -19,19 +19,19 @@ pub values_len : (bytes : List ℕ) (from : ℕ) (ends : List End) → length (v
 values_len bytes from [] = refl
 values_len bytes from (e ∷ ends) = ap (λ n. suc n) (values_len bytes e.place ends)
 
--- none begins after the last place
+-- none begins after the last offset
 pub first_before : (from : ℕ) (ends : List End) (last : ℕ) → AreEnds from ends last → from ≤ last
 first_before from [] last are = omega (arith, are)
 first_before from (e ∷ ends) last are = omega (arith, are.0.after, first_before e.place ends last are.1)
 
--- a value by whether it is there
+-- a value by whether it is valid
 pub value_none : (bytes : List ℕ) (from : ℕ) (e : End) → e.there ≡ false → value_between bytes from e ≡ None
 value_none bytes from e is = rw is refl
 
 pub value_some : (bytes : List ℕ) (from : ℕ) (e : End) → e.there ≡ true → value_between bytes from e ≡ Some (take (e.place - from) (drop from bytes))
 value_some bytes from e is = rw is refl
 
--- the value at a place
+-- the value at an index
 pub record IsThere (bytes : List ℕ) (from : ℕ) (ends : List End) (place : ℕ) (last : ℕ) (e : End) : Type 0 where
   pub is : get_or (values_by_ends bytes from ends) place None ≡ value_between bytes (start_of from ends place) e
   pub first : start_of from ends place ≤ e.place

@@ -1,4 +1,4 @@
--- What a reader's places lead to.
+-- What a reader's indexes of arrays lead to.
 use Rattle.std.proofs.Common.{◌≡◌, ℕ, ◌<◌, List, length, get_or, Option, sym, ap, ◌∙◌, arith}
 use Rattle.std.specs.Prelude.{map}
 use Rattle.std.specs.List.{range_with_len}
@@ -18,7 +18,7 @@ pub place_found : (kind : Kind) (arrays : List ArraySpec) (places : List (Option
 place_found kind arrays places column found is below there =
     sym (there ∙ ap (λ (ps : List (Option ℕ)). get_or ps column found) is ∙ get_or-map-range_with_len (place_at kind arrays) 0 (width_of kind) column column found below (omega arith))
 
--- what is in a column, by the place of its array
+-- what is in a column, by the index of its array
 pub column_value_is : (kind : Kind) (s : SubstreamIn) (batch : BatchIn) (column row : ℕ) (place : Option ℕ) → place_at kind s.arrays column ≡ place → value_if s batch row place ≡ column_value kind s batch column row
 unfolding column_value
 column_value_is kind s batch column row place at = λ i. value_if s batch row (sym at i)

@@ -1,4 +1,4 @@
--- The places of a column's values in its dictionary, cell by cell.
+-- The indexes of a column's values in its dictionary, cell by cell.
 use Rattle.std.proofs.Common.{◌≡◌, ℕ, zero, suc, ◌+◌, ◌-◌, ◌<◌, ◌≤◌, false, List, [], ◌∷◌, ◌++◌, length, take, drop, get_or, map, fold, Option, Some, None, refl, sym, ap, ◌∙◌, subst, arith, position, bytes_eq, replicate}
 use Rattle.std.proofs.lemmas.List.{length-map, map-append, take_more, take-append-drop, length-take-le}
 use Rattle.std.proofs.lemmas.List.Sums.{fold-append}
@@ -15,7 +15,7 @@ use Rattle.otap_columns.specs.WrittenCells.{place_among}
 use Rattle.otap_columns.proofs.ColumnsBuilt.{cell_at-map}
 use Rattle.otap_columns.proofs.SeenOn.{again_changes_nothing, cells_more, null_cell, plain_stays}
 
--- a value that has a place
+-- a value that has an index
 abbrev pub IsFound : List (List ℕ) → Option (List ℕ) → Type 0
 IsFound values None = Unit {0}
 IsFound values (Some value) = (place : ℕ) × (position (bytes_eq value) values ≡ Some place)
@@ -28,7 +28,7 @@ found_more : (values : List (List ℕ)) (xs : List (Option (List ℕ))) (x : Opt
 found_more values [] x all one = (one, tt)
 found_more values (y ∷ xs) x all one = (all.0, found_more values xs x all.1 one)
 
--- the places stay where those of the values do
+-- the indexes stay where those of the values do
 abbrev pub Stays : List (List ℕ) → List (List ℕ) → Type 0
 Stays old new = (other : List ℕ) (place : ℕ) → position (bytes_eq other) old ≡ Some place → position (bytes_eq other) new ≡ Some place
 
@@ -43,7 +43,7 @@ places_stay old new (x ∷ xs) stays all =
     let rest = places_stay old new xs stays all.1 in
     ((λ i. one.0 i ∷ rest.0 i), (one.1, rest.1))
 
--- what otap_dicts promises of places
+-- what otap_dicts promises of indexes
 pub record Laws : Type 0 where
   pub twice : (l : LadderIn) (value : List ℕ) → observed (observed l value) value ≡ observed l value
   pub plain : (l : LadderIn) (value : List ℕ) → l.form ≡ ladder.Plain → observed l value ≡ l
@@ -55,7 +55,7 @@ one_stays : Laws → (l : LadderIn) (x : Option (List ℕ)) → is_plain (observ
 one_stays laws l None climbs = ((λ other place is. is), tt)
 one_stays laws l (Some value) climbs = ((λ other place is. laws.stay l value other place climbs is), laws.found l value climbs)
 
--- the first rows of a column were observed, of which the last has this value, whose place is known
+-- the first rows of a column were observed; the last of them has this value, whose index is known
 pub record IsObserved (holds : Base) (rows : List (List Cell)) (column row : ℕ) (start now : LadderIn) (places : List (Option ℕ)) (last : Option (List ℕ)) (place : Option ℕ) : Type 0 where
   pub so_far : now ≡ fold observed_if start (take row (map (bytes_for holds form.Wide) (column_in rows column)))
   pub again : observed_if now last ≡ now
@@ -135,7 +135,7 @@ module _ (laws : Laws) (holds : Base) (rows : List (List Cell)) (column row : �
       ∙ sym (fold-append observed_if start (take (row + 1) cells) (drop (row + 1) cells))
       ∙ ap (λ (cs : List (Option (List ℕ))). fold observed_if start cs) (take-append-drop (row + 1) cells)
 
--- the rows after the last one that was set have no place
+-- the rows after the last one that was set have no index
 none_after : (values : List (List ℕ)) (k n : ℕ) (cells : List (Option (List ℕ))) → ((row : ℕ) → k ≤ row → get_or cells row None ≡ None) → k + n ≡ length cells
     → map (place_among values) (take k cells) ++ replicate n None ≡ map (place_among values) cells
 none_after values zero n cells none all =

@@ -1,4 +1,4 @@
--- The cells that a sub-stream gives a record batch are of their columns' bases.
+-- The cells of a record batch in a sub-stream are of their columns' bases.
 use Rattle.std.proofs.Common.{◌≡◌, ℕ, ◌<◌, ◌≤◌, true, false, List, [], ◌∷◌, length, get_or, Option, Some, None, IsOk, refl, sym, ap, ◌∙◌, subst, arith, ◌⊎◌, inl, inr}
 use Rattle.std.specs.Prelude.{ℤ, All, slice_get}
 use Rattle.std.specs.Option.{ForSome}
@@ -53,7 +53,7 @@ values_fit kind id (d ∷ ds) all = by_test (cases_Bool (is_for kind id d)) (val
         let here : values_for kind id ds ≡ values_for kind id (d ∷ ds) = rw bad refl in
         subst (λ (vs : List (Option (List ℕ))). All (FitsValue kind) vs) here rest
 
--- the one at a place is, or there is none
+-- the value at an index fits, or there is none
 value_there : (kind : ArrowType) (values : List (Option (List ℕ))) (place : ℕ) → All (FitsValue kind) values → FitsValue kind (get_or values place None)
 value_there kind values place all =
     elim (cases_lt place (length values)) [

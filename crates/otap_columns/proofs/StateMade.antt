@@ -17,7 +17,7 @@ use Rattle.otap_columns.specs.SeenInside.{SeesTable}
 use Rattle.otap_columns.specs.WrittenRows.{unseen}
 use Rattle.otap_columns.specs.Writers.{AreSeen, is_started}
 
--- what holds of each of the first columns, by its place
+-- what holds of each of the first columns, by its index
 pub record Made {A : Type 0} (P : ℕ → A → Type 0) (d : A) (n : ℕ) (xs : List A) : Type 0 where
   pub count : length xs ≡ n
   pub each : (column : ℕ) → column < n → P column (get_or xs column d)
@@ -72,7 +72,7 @@ observed_more kind t old new n x low o one = record {
         (subst (SeesTable kind n t (get_or old n unseen)) (sym (get_or-set_same new n x unseen low))
         (subst (λ s. SeesTable kind n t s x) (o.rest n (omega arith)) one))
 
--- ---- places inside
+-- ---- the first table
 
 -- where nothing was written there are no tables
 pub none_first : (kind : Kind) (tables : List Table) (columns : List SeenIn) → is_started tables ≡ false → AreSeen kind [] columns → AreSeen kind tables columns

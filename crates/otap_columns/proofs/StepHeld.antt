@@ -95,7 +95,7 @@ module _ (kind : Kind) (tables : List Table) (columns : List SeenIn) (forms : Li
   pub is_single : (column : ℕ) → is_dictionary (forms_in forms column) ≡ true → item_in (base_at kind column) ≡ None
   is_single column is = no_list (base_at kind column) (takes_one kind tables column (dictionary_low column is) (is_one column is))
 
-  -- the values of a dictionary can be written from a place on
+  -- the values of a dictionary can be written from an index on
   pub can_send : AllByRecursion (IsWritableTable kind) tables → (column from : ℕ) → is_dictionary (forms_in forms column) ≡ true → from ≤ length (dictionary_values kind tables column)
       → CanSendColumn (base_at kind column) (forms_in forms column) from (columns_in columns column)
   can_send writable column from is there =
@@ -109,9 +109,9 @@ module _ (kind : Kind) (tables : List Table) (columns : List SeenIn) (forms : Li
             (takes_one kind tables column low one) (values_are kind column tables writable);
       })
 
--- ---- the places of values
+-- ---- the indexes of values
 
--- each column that is a dictionary has the places of its cells
+-- each column that is a dictionary has the indexes of its cells
 abbrev pub ArePlaced : Kind → Table → List SeenIn → Type 0
 ArePlaced kind t columns = (column : ℕ) → column < width_of kind → has_dictionary (get_or columns column unseen_column).ladder.form ≡ true
     → filled_up (length t.rows) (get_or columns column unseen_column).places ≡ places_of_cells (base_at kind column) form.Wide (get_or columns column unseen_column).ladder.values (column_in t.rows column)

@@ -1,4 +1,4 @@
--- How the writer builds the columns of a batch, and how much they take, in the words of private contracts.
+-- How the writer builds the columns of a batch, and how much they take: used in private contracts.
 use Rattle.std.specs.Prelude.{ℕ, ◌+◌, ◌*◌, ◌/◌, ◌<◌, ◌≤◌, List, [], ◌∷◌, ◌++◌, length, sum_by, Option, Some, None, option_map, pos}
 use Rattle.std.specs.Int.{FitsUnsignedBits}
 use Rattle.byteorder.specs.Endian.{little_bytes}
@@ -48,11 +48,11 @@ abbrev pub index_size : ColumnForm → ℕ
 index_size form.Dict8 = 1
 index_size other = 2
 
--- the index of a place
+-- an index as bytes
 abbrev pub index_of : ColumnForm → Option ℕ → Option (List ℕ)
 index_of form place = option_map (little_bytes (index_size form)) place
 
--- a place is one that the form reaches
+-- an index is one that the form reaches
 abbrev pub IsIndexFor : ColumnForm → Option ℕ → Type 0
 IsIndexFor form None = Unit {0}
 IsIndexFor form.Dict8 (Some place) = place < narrow_limit

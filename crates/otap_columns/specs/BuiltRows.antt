@@ -1,4 +1,4 @@
--- How the writer builds the record batch of a table, in the words of private contracts.
+-- How the writer builds the record batch of a table: used in private contracts.
 use Rattle.std.specs.Prelude.{◌≡◌, ◌<◌, ◌≤◌, ℕ, true, List, length, None}
 use Rattle.std.specs.List.{slice_index_or}
 use Rattle.arrow_ipc.specs.Batches.{BatchIn}

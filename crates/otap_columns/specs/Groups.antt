@@ -2,7 +2,7 @@
 use Rattle.std.specs.Prelude.{ℕ, suc, ◌==◌, if◌then◌else◌, List, [], ◌∷◌, Option, None, Some, option_map, bytes_eq}
 use Rattle.otap_cells.specs.Columns.{ColumnSpec}
 
--- a column by its place in the table, and the name of its field
+-- a column by its index in the table, and the name of its field
 pub record Member : Type 0 where
   pub column : ℕ
   pub name : List ℕ

@@ -1,4 +1,4 @@
--- What a dictionary keeps: words of private contracts.
+-- What a dictionary keeps: used in private contracts.
 use Rattle.std.specs.Prelude.{◌≤◌, length}
 use Rattle.otap_columns.specs.Limits.{dictionary_limit}
 use Rattle.otap_columns.specs.declared.reader.dictionary.Dictionary.TheInside as dictionary

@@ -49,7 +49,7 @@ stores base.ListU64 type elements = is_list_of (arrow.Int 64 false) type element
 stores base.ListF64 type elements = is_list_of arrow.Double type elements
 stores (base.Id wide) type elements = same_type (arrow.Int 16 false) type || same_type (arrow.Int 32 false) type
 
--- the type of the elements of the list whose array is at a place: that of the next array
+-- the type of the elements of the list whose array is at an index: that of the next array
 abbrev pub elements_at : List ArraySpec → ℕ → Option ArrowType
 elements_at arrays place = option_map (λ (a : ArraySpec). a.kind) (slice_get arrays (place + 1))
 
@@ -82,7 +82,7 @@ greatest_of type = greatest_wide
 
 -- ---- columns and arrays
 
--- the column that the array at a place is, by its path of names
+-- the column that the array at an index is, by its path of names
 abbrev pub known_column : Kind → List ArraySpec → ℕ → Option ℕ
 known_column kind arrays place = place_of_path (columns_of kind) (path_of arrays place)
 
@@ -93,7 +93,7 @@ abbrev pub is_column : ℕ → Option ℕ → Bool
 is_column column None = false
 is_column column (Some known) = known == column
 
--- the place of the array of a column, if it has one
+-- the index of the array of a column, if it has one
 unfoldable pub place_in : List (Option ℕ) → ℕ → Option ℕ
 place_in known column = position (is_column column) known
 
@@ -142,7 +142,7 @@ column_greatest kind arrays column = greatest_if (array_of kind arrays column)
 
 -- ---- cells
 
--- a number by its bytes, the lowest first; its width is that of the bytes
+-- a number by its little-endian bytes; its width is that of the bytes
 abbrev pub unsigned : List ℕ → ℕ
 unsigned value = little_number (length value) value % 2 ^ (8 * length value)
 

@@ -29,7 +29,7 @@ id_width form.Wide = 4
 id_width (form.Coded how) = 4
 id_width other = 2
 
--- the bytes of a number, the lowest first
+-- the bytes of a number, little-endian
 abbrev pub bytes_of_number : Base → ColumnForm → ℤ → List ℕ
 bytes_of_number base.U8 form n = little_bytes 1 (unsigned_abs n)
 bytes_of_number base.U16 form n = little_bytes 2 (unsigned_abs n)

@@ -1,4 +1,4 @@
--- The forms that are listed for all columns of a table, in the words of private contracts.
+-- The forms that are listed for all columns of a table: used in private contracts.
 use Rattle.std.specs.Prelude.{◌≡◌, ℕ, ◌<◌, List, length}
 use Rattle.otap_cells.specs.Columns.{width_of}
 use Rattle.otap_cells.specs.Tables.{Table}

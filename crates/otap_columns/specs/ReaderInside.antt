@@ -16,7 +16,7 @@ reader_in r = record {
   broken = r.broken;
 }
 
--- each column is found at its place and has its type; the values of each dictionary are of its type
+-- each column is found at its index and has its type; the values of each dictionary are of its type
 pub record IsReaderInside (r : reader.Inside) : Type 0 where
   pub places : r.places.items ≡ map (place_at r.kind r.arrays) (range_with_len 0 (width_of r.kind))
   pub types : columns_fit r.kind r.arrays ≡ true

@@ -1,4 +1,4 @@
--- How a reader goes through the messages of a record, in the words of private contracts: what the first message of the rest does, or why it is refused.
+-- How a reader goes through the messages of a record: what the first message of the rest does, or why it is refused. Used in private contracts.
 use Rattle.std.specs.Prelude.{◌≡◌, ℕ, Bool, true, false, not, List, [], ◌∷◌, ◌++◌, drop, ◌⊎◌, Some, ℤ, Ok, ◌<◌, length}
 use Rattle.std.specs.List.{list_any}
 use Rattle.lists.specs.EachAfter.{AllAfter}
@@ -31,7 +31,7 @@ pub record Passes (old new : MessagesIn) (m : IpcMessage) : Type 0 where
   pub left : left_of (rest_of old) ≡ left_of (rest_of new)
   pub bytes : new.bytes ≡ old.bytes
 
--- a record batch is found again by its place
+-- a record batch is found again by its offset
 abbrev pub FindsRows : MessagesIn → IpcMessage → Type 0
 FindsRows m (Schema fields) = Unit {0}
 FindsRows m (Dictionary id delta batch) = Unit {0}

@@ -1,4 +1,4 @@
--- What is wrong with a record, read after the messages of its sub-stream so far, and what it is when nothing is.
+-- What is wrong with a record, read after the messages of its sub-stream so far, and what a record is in which nothing is wrong.
 use Rattle.std.specs.Prelude.{◌≡◌, ◌≢◌, ℕ, Bool, true, false, List, [], ◌∷◌, ◌++◌, Option, Some, None, ℤ, Ok, Any, not, ◌||◌, is_ok, ◌⊎◌}
 use Rattle.std.specs.List.{list_any, list_all}
 use Rattle.lists.specs.EachAfter.{AllAfter}
@@ -78,7 +78,7 @@ pub data Stands (kind : Kind) (past : List IpcMessage) (bytes : List ℕ) : Colu
   too_many_values : (before after : List IpcMessage) (id : ℤ) (delta : Bool) (batch : BatchIn) (s : SubstreamIn) → front_of bytes ≡ before ++ Dictionary id delta batch ∷ after
       → substream_in (past ++ before) ≡ Some s → list_any is_too_large (all_grown id delta batch s.dictionaries) ≡ true → Stands kind past bytes DictionarySize
 
--- what a call returns in place of a reader: a defect of the record, or out of memory
+-- what a call returns instead of a reader: a defect of the record, or out of memory
 abbrev pub Refuses : Kind → List IpcMessage → List ℕ → ColumnRefusal → Type 0
 Refuses kind past bytes (Memory e) = Unit {0}
 Refuses kind past bytes refusal = Stands kind past bytes refusal

@@ -1,4 +1,4 @@
--- Columns that are found once, in the words of an invariant and of private contracts.
+-- Columns that are found once: used in an invariant and in private contracts.
 use Rattle.std.specs.Prelude.{◌≡◌, ℕ, ◌<◌, ⊤, true, List, Option, None, Some, length, slice_get, ◌%◌, ◌⊎◌, IsUtf8}
 use Rattle.std.specs.Option.{ForSome, option_copied}
 use Rattle.arrow_buffers.specs.declared.width.Width.TheVariants.{Bit}
@@ -65,7 +65,7 @@ pub record IsResolved (c : ResolvedColumn) : Type 0 where
   pub indexes : LeadsBy (option_copied c.dictionary) c.stored
   pub whole : c.whole ≡ true → has_no_bitmap c.stored ≡ true
 
--- the column of the field at a place is this one
+-- the column of the field at an index is this one
 pub record IsFieldColumn (s : SubstreamIn) (batch : BatchIn) (place : ℕ) (c : ResolvedColumn) : Type 0 where
   pub values : (row : ℕ) → resolved_value c row ≡ field_value s batch row place (slice_get s.arrays place)
   pub resolved : IsResolved c

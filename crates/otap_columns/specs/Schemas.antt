@@ -26,7 +26,7 @@ use Rattle.otap_columns.specs.Known.{place_at, known_column}
 
 -- ---- forms
 
--- the form of each column, by its place
+-- the form of each column, by its index
 abbrev pub Forms : Type 0
 Forms = ℕ → ColumnForm
 
@@ -85,7 +85,7 @@ item_in base.ListU64 = Some (arrow.Int 64 false)
 item_in base.ListF64 = Some arrow.Double
 item_in other = None
 
--- the id of a column's dictionary is its place among the columns
+-- the id of a column's dictionary is the index of the column
 abbrev pub dict_for : ℕ → ColumnForm → Option DictSpec
 dict_for column form.Dict8 = Some (record { id = pos column; wide = false })
 dict_for column form.Dict16 = Some (record { id = pos column; wide = true })

@@ -10,7 +10,7 @@ use Rattle.otap_dicts.specs.Ladders.{LadderIn, ladder_of}
 use Rattle.otap_columns.specs.Observed.{values_in_tables, has_wide_id}
 
 -- of a column: its ladder, whether its ids became wide, and of each cell of the last table, up to the last one that was set, the
--- place of its value in the ladder's dictionary, where it has one
+-- index of its value in the ladder's dictionary, where it has one
 pub record SeenIn : Type 0 where
   pub ladder : LadderIn
   pub wide : Bool

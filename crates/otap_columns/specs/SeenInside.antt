@@ -1,4 +1,4 @@
--- What the writer keeps of columns from one table to the next, in the words of private contracts.
+-- What the writer keeps of columns from one table to the next: used in private contracts.
 use Rattle.std.specs.Prelude.{◌≡◌, ℕ, ◌-◌, length, map, replicate, ◌&&◌, ◌||◌, not, Bool, true, false, if◌then◌else◌, List, ◌∷◌, ◌++◌, [], Option, None, Some}
 use Rattle.otap_cells.specs.declared.payload.Kind.{Kind}
 use Rattle.otap_cells.specs.Columns.{base_at, is_id_at}
@@ -14,11 +14,11 @@ use Rattle.otap_columns.specs.Observed.{bytes_for, is_wide, is_own_id, of_ladder
 use Rattle.otap_columns.specs.WrittenCells.{place_among}
 use Rattle.otap_columns.specs.Seen.{SeenIn, IsSeenAfter}
 
--- the places of cells among values
+-- the indexes of cells among values
 abbrev pub places_of_cells : Base → ColumnForm → List (List ℕ) → List Cell → List (Option ℕ)
 places_of_cells holds form values cells = map (λ cell. place_among values (bytes_for holds form cell)) cells
 
--- the places of a number of cells, where those of the first ones are given and the others have none
+-- the indexes of a number of cells, where those of the first ones are given and the others have none
 abbrev pub filled_up : ℕ → List (Option ℕ) → List (Option ℕ)
 filled_up count places = places ++ replicate (count - length places) None
 
@@ -27,8 +27,8 @@ abbrev pub observed_if : LadderIn → Option (List ℕ) → LadderIn
 observed_if ladder None = ladder
 observed_if ladder (Some value) = observed ladder value
 
--- whatever tables the old state stands for, the new one stands for these and the table after them; where the column is a
--- dictionary it has the places of the table's cells
+-- where the old state is the one after some tables, the new one is the one after these and this table; where the column is a
+-- dictionary it has the indexes of the table's cells
 pub record SeesTable (kind : Kind) (column : ℕ) (t : Table) (old new : SeenIn) : Type 0 where
   pub at : (tables : List Table) → IsSeenAfter kind tables column old → IsSeenAfter kind (tables ++ t ∷ []) column new
   pub placed : is_dictionary new.ladder.form ≡ true → filled_up (length t.rows) new.places ≡ places_of_cells (base_at kind column) form.Wide new.ladder.values (column_in t.rows column)

@@ -1,4 +1,4 @@
--- What a writer does on the way from one table to the next, in the words of private contracts.
+-- What a writer does on the way from one table to the next: used in private contracts.
 use Rattle.std.specs.Prelude.{◌≡◌, ℕ, ◌<◌, Bool, List, length}
 use Rattle.std.specs.List.{slice_index_or}
 use Rattle.otap_cells.specs.declared.payload.Kind.{Kind}

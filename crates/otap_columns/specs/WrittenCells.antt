@@ -10,12 +10,12 @@ use Rattle.otap_columns.specs.declared.forms.ColumnForm.{ColumnForm}
 use Rattle.otap_columns.specs.declared.forms.ColumnForm.TheVariants as form
 use Rattle.otap_columns.specs.Observed.{bytes_for}
 
--- the place of a value among values; null has none
+-- the index of a value among values; null has none
 abbrev pub place_among : List (List ℕ) → Option (List ℕ) → Option ℕ
 place_among values None = None
 place_among values (Some value) = position (bytes_eq value) values
 
--- its index, in this number of bytes
+-- this index in so many bytes
 abbrev pub index_bytes : ℕ → List (List ℕ) → Option (List ℕ) → Option (List ℕ)
 index_bytes width values value = option_map (little_bytes width) (place_among values value)
 

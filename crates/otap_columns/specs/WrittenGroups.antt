@@ -1,4 +1,4 @@
--- The groups and forms that the writer keeps, as the definitions name them: words of private contracts.
+-- The groups and forms that the writer keeps, as the definitions name them: used in private contracts.
 use Rattle.std.specs.Prelude.{ℕ, ◌<◌, List, map, All}
 use Rattle.std.specs.List.{slice_index_or}
 use Rattle.otap_columns.specs.declared.forms.ColumnForm.{ColumnForm}

@@ -60,7 +60,7 @@ heads head (suc n) = heads head n ++ head n
 abbrev pub schema_if : Bool → List FieldSpec → List IpcMessage
 schema_if opening fields = if opening then Schema fields ∷ [] else []
 
--- the dictionary batches, in the order of their columns; the id of a dictionary is the place of its column
+-- the dictionary batches, in the order of their columns; the id of a dictionary is the index of its column
 abbrev pub batches_for : Kind → Bool → List Table → List Table → (ℕ → BatchIn) → ℕ → List IpcMessage
 batches_for kind opening before now batches column = batch_if (is_wanted opening kind before now column) (not opening) column (batches column)
 
@@ -102,7 +102,7 @@ pub record HoldsRows (kind : Kind) (forms : Forms) (values : ℕ → List (List 
 
 -- ---- records and payloads
 
--- a table that is written: its ids are stored as the profile says, and its stored numbers stand for ids
+-- a table that is written: its ids are stored as the profile says, and its stored numbers are those of ids
 pub record IsWritableTable (kind : Kind) (t : Table) : Type 0 where
   pub kind_is : t.kind ≡ kind
   pub table : IsTable t

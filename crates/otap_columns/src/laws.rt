@@ -50,8 +50,8 @@ pub fn streams_grow_by_payloads()
     ensures own { (before : List PayloadIn) (p : PayloadIn) → stream_of p.kind (before ++ p ∷ []) ≡ (if opens before p then front_of p.bytes else stream_of p.kind before ++ front_of p.bytes) }
 {}
 
-/// An array is the column that its path names: the names of the path, joined by dots, are the column's own name. A path of which
-/// a name holds a dot leads to no column.
+/// An array is the column that its path names: the names of the path, joined by dots, are the column's own name. A path with a
+/// name that holds a dot leads to no column.
 pub fn paths_are_names()
     ensures named { (kind : Kind) (arrays : List ArraySpec) (place column : ℕ) → known_column kind arrays place ≡ Some column
         → (column < width_of kind) × (join_with_byte 46 (path_of arrays place) ≡ name_at kind column) }

@@ -1,5 +1,5 @@
 //! Sub-streams: the schema and the dictionaries that a sub-stream has after its records, and the tables that its record
-//! batches stand for.
+//! batches hold.
 #![tactic(auto)]
 
 mod forms;

@@ -78,7 +78,7 @@ taken_bytes bytes count fits =
 abbrev ElementBytes : List ℕ × BitsIn → Type 0
 ElementBytes elements = IsBytes elements.0
 
--- ---- arrays; of values is said what is in each of their rows
+-- ---- arrays: of their values, what is in each row
 
 module _ (batch : BatchIn) (fits : AllByRecursion IsBytes batch.buffers) where
   buffer_bytes : (place : ℕ) → IfOk (buffer_in batch place) IsBytes

@@ -1,4 +1,4 @@
--- What holds of each element of a list holds of those of the lists that are made of it.
+-- What holds of each element of a list holds of each element of the lists that are made of it.
 use Rattle.std.proofs.Common.{◌<◌, ℕ, zero, suc, Bool, true, false, List, [], ◌∷◌, get_or, map, Option, Some, None, Result, Ok, Err, IfOk, All, subst}
 use Rattle.std.specs.Prelude.{filter, if◌then◌else◌, IfSome, slice_get}
 use Rattle.std.specs.List.{AllByRecursion, cons_option, filter_map, flat_map, list_any}

@@ -138,7 +138,7 @@ stored_bytes (base.Id wide) (Some value) fits = IsBytes-nil
 
 -- ---- tables
 
--- cells that are bytes in each row are so at each place
+-- cells that are bytes in each row are so at each index
 at_each_place : (rows : List (List Cell)) → AllByRecursion (λ row. AllByRecursion CellBytes row) rows → (column row : ℕ) → All (λ byte. byte < 256) (bytes_in (cell_in rows column row))
 at_each_place rows fits column row =
     all_bytes _ (each_at CellBytes (get_or rows row []) column null IsBytes-nil (each_at (λ row. AllByRecursion CellBytes row) rows row [] tt fits))

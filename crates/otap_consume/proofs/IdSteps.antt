@@ -18,7 +18,7 @@ use Rattle.otap_consume.specs.StreamSteps.{id_if, schema_id_of}
 use Rattle.otap_consume.proofs.Lists.{map_same}
 use Rattle.otap_columns.proofs.Openings.{open_id-other, open_id-own}
 
--- the stream at a place, of a kind that is at this place among those of the signal
+-- the stream at an index, of the kind at this index among those of the signal
 pub kind_at : (signal : Signal) (streams : List StreamIn) (k : ℕ) (d : StreamIn) (e : Kind) → kinds_in streams ≡ kinds_of signal → k < length streams
     → get_or (kinds_of signal) k e ≡ (get_or streams k d).kind
 kind_at signal streams k d e same inside = rw (← same) (get_or-map (λ (s : StreamIn). s.kind) streams k d e inside)

@@ -9,7 +9,7 @@ use Rattle.otap_cells.specs.Payload.{kinds_of, kind_numbered}
 use Rattle.otap_consume.specs.Payloads.{payload_type_of}
 use Rattle.otap_consume.proofs.Lists.{Finds, finds}
 
--- the kind at each place is found by its number
+-- the kind at each index is found by its number
 pub numbered : (signal : Signal) (k : ℕ) (d : Kind) → k < length (kinds_of signal) → kind_numbered signal (payload_type_of (get_or (kinds_of signal) k d)) ≡ Some (get_or (kinds_of signal) k d)
 numbered Logs zero d h = refl
 numbered Logs (suc zero) d h = refl
@@ -43,7 +43,7 @@ numbered Metrics (suc (suc (suc (suc (suc (suc (suc (suc (suc (suc (suc (suc (su
 pub same_kind_number : (p type : ℤ) → int_eq p type ≡ true → p ≡ type
 same_kind_number p type h = (Decides-int_eq p type).0 h
 
--- a kind that has a number is at a place, and has that number
+-- a kind that has a number is at an index, and has that number
 pub record HasNumber (signal : Signal) (number : ℤ) (kind : Kind) : Type 0 where
   pub at : ℕ
   pub inside : at < length (kinds_of signal)

@@ -1,4 +1,4 @@
--- What a batch gives that was opened: the stages after its records.
+-- What an opened batch gives: the stages after its records.
 use Rattle.std.proofs.Common.{◌≡◌, ◌≤◌, inl, inr, ℕ, ℤ, true, List, ◌++◌, Option, Some, Ok, refl, sym, ap, ◌∙◌, subst}
 use Rattle.lists.specs.Payloads.{PayloadIn}
 use Rattle.otlp_model.specs.Limits.{weight_limit}

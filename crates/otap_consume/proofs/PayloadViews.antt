@@ -18,7 +18,7 @@ use Rattle.otap_consume.proofs.IdSteps.{kind_at, count_of}
 use Rattle.otap_consume.proofs.KindNumbers.{numbered}
 use Rattle.otap_consume.proofs.Lists.{Finds, finds}
 
--- the reader of the sub-stream that the last payload of a type is in has read to it
+-- the reader of a sub-stream has read up to the last payload of its type
 read_by : (payloads : List PayloadIn) (kind : Kind) (last : PayloadIn) (current : Option OpenIn) (reader : ReaderIn) → reader_if current ≡ Some reader
     → IsOpenAfter payloads kind (Some last) current → StandsForRecord (stream_of (payload_type_of kind) payloads) last.bytes reader
 read_by payloads kind last None reader is h = absurd h

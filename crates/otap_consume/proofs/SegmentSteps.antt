@@ -62,7 +62,7 @@ pub payloads_reset : (outcomes : List Outcome) → payloads_after (outcomes ++ R
 unfolding payloads_after
 payloads_reset outcomes = ap (flat_map payloads_if) (since-append is_reset outcomes (Reset ∷ []))
 
--- ---- what stands for them
+-- ---- the segment after them
 
 -- a segment of which a frame was refused
 pub stands_broken : (signal : Signal) (outcomes : List Outcome) (refusal : Refusal) (s : SegmentIn) → s.signal ≡ signal → s.broken ≡ true

@@ -37,7 +37,7 @@ too_many_rows tables count is many = omega (arith, tables_weigh tables)
 
 -- ---- what is held
 
--- no message is in the sub-stream of a type of which no payload went before
+-- a type without earlier payloads has no messages in its sub-stream
 no_messages : (type : ℤ) (payloads : List PayloadIn) → last_of type payloads ≡ None → stream_of type payloads ≡ []
 unfolding stream_of
 no_messages type payloads none = rw (last_after-none (of_type type payloads) none) refl

@@ -19,7 +19,7 @@ use Rattle.otap_consume.specs.Streams.{StreamIn, AreAfter, kinds_in}
 use Rattle.otap_consume.specs.Opening.{OpensAfter, StopsBySize}
 use Rattle.otap_consume.proofs.IdSteps.{ids_are}
 
--- the words of `check_ids` about ids that are free, and about one that is taken
+-- what `check_ids` says of ids that are free, and of one that is taken
 abbrev pub FreeIds : List StreamIn → List PayloadIn → Type 0
 FreeIds streams payloads = (signal : Signal) (past : List PayloadIn) → ids_of streams ≡ ids_after signal past → AllAfter (λ before p. is_taken signal before p ≡ false) past payloads
 
@@ -49,7 +49,7 @@ by_size signal past payloads (Memory e) list records stands = tt
 
 module _ (signal : Signal) (payloads : List PayloadIn) (old : List StreamIn) (kinds : kinds_in old ≡ kinds_of signal) (types : HasFineTypes signal payloads)
     (free : FreeIds old payloads) where
-  -- the list of payloads is fine after what the streams stand for
+  -- the list of payloads is fine after those that the streams took
   pub fine_list : (past : List PayloadIn) → AreAfter past old → HasFineList signal past payloads
   fine_list past are = record { types = types; ids = free signal past (ids_are signal past old kinds are) }
 

@@ -24,7 +24,7 @@ use Rattle.otap_consume.specs.PayloadTypes.{HasPayload, IsDefectOfTypes, HasFine
 
 -- ---- the list of payloads
 
--- the schema id of a payload is open for another type of the signal's; openings before it in its own batch count
+-- the schema id of a payload is open for another type of the signal; what earlier payloads of its own batch open counts
 abbrev pub is_open_id : List ℕ → Option (List ℕ) → Bool
 is_open_id id None = false
 is_open_id id (Some current) = bytes_eq current id
@@ -83,7 +83,7 @@ pub record IsTakenAfter (signal : Signal) (before : List PayloadIn) (p : Payload
 abbrev pub AreTaken : Signal → List PayloadIn → Type 0
 AreTaken signal payloads = AllAfter (IsTakenAfter signal) [] payloads
 
--- ---- the tables that the payloads stand for, and what all sub-streams hold
+-- ---- the tables of the payloads, and what all sub-streams hold
 
 -- the table of a payload, after all payloads
 abbrev pub table_of : Signal → List PayloadIn → PayloadIn → Option Table

@@ -1,4 +1,4 @@
--- The schema ids that are open for the types of a signal: words of private contracts.
+-- The schema ids that are open for the types of a signal: used in private contracts.
 use Rattle.std.specs.Prelude.{ℕ, ◌&&◌, not, Bool, List, map, Option, Some, if◌then◌else◌}
 use Rattle.std.specs.List.{list_any}
 use Rattle.std.specs.Ordering.{int_eq}

@@ -1,4 +1,4 @@
--- What the open schema ids are kept as: words of private contracts.
+-- What the open schema ids are kept as: used in private contracts.
 use Rattle.std.specs.Prelude.{ℕ, List, map, Option, None, Some, option_map}
 use Rattle.otap_consume.specs.declared.ids.OpenId.{OpenId}
 use Rattle.otap_consume.specs.declared.ids.OpenIds.TheInside as ids

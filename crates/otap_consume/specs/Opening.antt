@@ -30,7 +30,7 @@ pub record OpensAfter (signal : Signal) (past payloads : List PayloadIn) (new : 
   pub records : HasFineRecords signal past payloads
   pub after : AreAfter (past ++ payloads) new
 
--- so it is with the payloads of a batch, and the segment shows them
+-- this holds for the payloads of a batch, and the segment shows them
 pub record OpensBatch (old : SegmentIn) (batch : BatchContent) (new : SegmentIn) : Type 0 where
   pub was_whole : old.broken ≡ false
   pub whole : new.broken ≡ false
@@ -38,7 +38,7 @@ pub record OpensBatch (old : SegmentIn) (batch : BatchContent) (new : SegmentIn)
   pub shows : CanShow new.streams batch.payloads
   pub opens : (past : List PayloadIn) → AreAfter past old.streams → OpensAfter old.signal past batch.payloads new.streams
 
--- and the frame is a message that says the batch
+-- and the frame is the message of the batch
 pub record OpensFrame (old : SegmentIn) (frame : Frame) (batch : BatchContent) (new : SegmentIn) : Type 0 where
   pub bytes : List ℕ
   pub message : frame ≡ Message bytes
@@ -53,7 +53,7 @@ Opens old frame new opened.Reset = Next old frame new seen.Reset
 
 -- ---- how large a batch is that was opened
 
--- as a whole its payloads, which came after others, are within the limits, or too large
+-- the payloads of a batch, after others, are within the limits as a whole, or too large
 abbrev pub AreWithinLimits : Signal → List PayloadIn → List PayloadIn → Type 0
 AreWithinLimits signal past payloads =
     IsWithinLimits signal (tables_of signal past payloads) (held_after signal (past ++ payloads))
@@ -93,7 +93,7 @@ abbrev pub refusal_by : BatchContent → NotTaken → Result Refusal AllocError
 refusal_by batch (Defect cause payload) = Ok (refusal_of (Some batch.id) cause payload)
 refusal_by batch (Memory e) = Err e
 
--- the frame gives a receiver this outcome, and the segment then stands for one more frame
+-- the frame gives a receiver this outcome, and the segment is then the one after one more frame
 pub record LeadsTo (m : Meaning) (outcomes : List Outcome) (frame : Frame) (outcome : Outcome) (new : SegmentIn) : Type 0 where
   pub gives : ReceivedAfter m outcomes frame outcome
   pub stands : StandsFor m.signal (outcomes ++ outcome ∷ []) new

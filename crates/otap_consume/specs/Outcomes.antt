@@ -46,7 +46,7 @@ refusal_of id cause payload = record { id = id; stage = stage_of cause; cause = 
 abbrev pub refused : Option ℤ → Cause → Option ℤ → Outcome
 refused id cause payload = Refused (refusal_of id cause payload)
 
--- the cause that a message can't be read
+-- the cause of a message that can't be read
 abbrev pub unread_cause : BatchRefusal → Cause
 unread_cause unread.BadMessage = BadMessage
 unread_cause unread.Repeated = Repeated
@@ -93,7 +93,7 @@ pub data GivesOutcome (signal : Signal) (past : List PayloadIn) : Frame → Outc
       → GivesOutcome signal past (Message bytes) (Accepted batch (tables_of signal past batch.payloads))
   resets : GivesOutcome signal past capture.Reset Reset
 
--- what a frame gives in a segment of which a frame was refused: the id is named where the message can be read
+-- what a frame gives in a broken segment: the id is named where the message can be read
 pub data StaysBroken : Frame → Outcome → Type 0 where
   compressed : StaysBroken Packed (refused None Broken None)
   unreadable : (bytes : List ℕ) (refusal : BatchRefusal) → RefusesBatch bytes refusal → StaysBroken (Message bytes) (refused None Broken None)

@@ -1,4 +1,4 @@
--- What a receiver makes of a batch that its segment opened, in the words of private contracts.
+-- What a receiver makes of a batch that its segment opened: used in private contracts.
 use Rattle.std.specs.Prelude.{ℕ, List}
 use Rattle.lists.specs.Payloads.{PayloadIn}
 use Rattle.otlp_model.specs.declared.request.Signal.{Signal}

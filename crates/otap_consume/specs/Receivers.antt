@@ -17,7 +17,7 @@ taken_of m (Accepted batch tables) = taken.Accepted batch.id (m.request tables) 
 taken_of m (Refused refusal) = taken.Refused refusal
 taken_of m Reset = taken.Reset
 
--- the next frame gives an outcome, for which this is returned, and the receiver stands for one more frame
+-- the next frame gives an outcome, for which this is returned, and the receiver is the one after this frame too
 pub record HasReceived (m : Meaning) (outcomes : List Outcome) (frame : Frame) (new : SegmentIn) (returned : Taken) : Type 0 where
   pub outcome : Outcome
   pub gives : ReceivedAfter m outcomes frame outcome

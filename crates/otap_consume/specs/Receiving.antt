@@ -35,8 +35,8 @@ Received m frames outcomes = EachAfter (λ past before frame outcome. ReceivedAf
 
 -- ---- the format
 
--- WHAT IS WRONG WITH A FRAME after these payloads of the accepted batches of its segment, by cause and payload type; in a stage
--- something is wrong only where nothing is in an earlier one
+-- WHAT IS WRONG WITH A FRAME after these payloads of the accepted batches of its segment, by cause and payload type. A stage finds
+-- something wrong only where no earlier stage does
 pub data HasDefect (m : Meaning) (past : List PayloadIn) : Frame → Cause → Option ℤ → Type 0 where
   compressed : HasDefect m past Packed Compressed None
   unreadable : (bytes : List ℕ) (refusal : BatchRefusal) → RefusesBatch bytes refusal → HasDefect m past (Message bytes) (unread_cause refusal) None

@@ -1,4 +1,4 @@
--- How streams take the payloads of a batch, in the words of private contracts.
+-- How streams take the payloads of a batch: used in private contracts.
 use Rattle.std.specs.Prelude.{◌≡◌, ℕ, ◌<◌, List, ◌++◌, length, All}
 use Rattle.std.specs.List.{slice_index_or}
 use Rattle.lists.specs.Payloads.{PayloadIn}

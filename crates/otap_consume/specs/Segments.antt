@@ -1,4 +1,4 @@
--- A segment: the sub-streams that are open, or that an earlier frame was refused.
+-- A segment: its open sub-streams, or that an earlier frame was refused.
 use Rattle.std.specs.Prelude.{◌≡◌, ⊤, ℕ, Bool, false, List, [], ◌∷◌, ◌++◌, length, All}
 use Rattle.lists.specs.Payloads.{PayloadIn}
 use Rattle.otlp_model.specs.declared.request.Signal.{Signal}
@@ -19,21 +19,21 @@ pub record SegmentIn : Type 0 where
   pub broken : Bool
   pub streams : List StreamIn
 
--- THE SEGMENT STANDS FOR FRAMES with these outcomes: a frame since the latest reset was refused, or its streams are those
+-- THE SEGMENT AFTER FRAMES with these outcomes: a frame since the latest reset was refused, or its streams are those
 -- after the payloads that were accepted since
 pub record StandsFor (signal : Signal) (outcomes : List Outcome) (s : SegmentIn) : Type 0 where
   pub same : s.signal ≡ signal
   pub broken : s.broken ≡ is_broken outcomes
   pub streams : s.broken ≡ false → AreAfter (payloads_after outcomes) s.streams
 
--- what is returned says an outcome: of a batch its id and its row weight
+-- what is returned for an outcome: of a batch its id and its row weight
 abbrev pub ReportsOutcome : Outcome → Seen → Type 0
 ReportsOutcome (Accepted batch tables) (seen.Batch id rows) = (id ≡ batch.id) × (rows ≡ weight_of_tables tables)
 ReportsOutcome (Refused refusal) (seen.Refused reported) = reported ≡ refusal
 ReportsOutcome Reset seen.Reset = ⊤
 ReportsOutcome outcome returned = ⊥
 
--- the next frame gives an outcome, which is returned, and the segment stands for one more frame
+-- the next frame gives an outcome, which is returned, and the segment is the one after this frame too
 pub record HasNext (signal : Signal) (outcomes : List Outcome) (frame : Frame) (returned : Seen) (new : SegmentIn) : Type 0 where
   pub outcome : Outcome
   pub gives : OutcomeAfter signal outcomes frame outcome

@@ -1,4 +1,4 @@
--- The limits of a batch as a whole, in the words of private contracts.
+-- The limits of a batch as a whole: used in private contracts.
 use Rattle.std.specs.Prelude.{◌≡◌, ℕ, ◌<◌, ◌≤◌, List, length, sum_by}
 use Rattle.otlp_model.specs.Limits.{item_limit}
 use Rattle.otlp_model.specs.declared.request.Signal.{Signal}

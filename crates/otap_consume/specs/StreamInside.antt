@@ -1,4 +1,4 @@
--- What a stream keeps, in the words of private contracts: a reader of its kind that isn't broken.
+-- What a stream keeps, a reader of its kind that isn't broken: used in private contracts.
 use Rattle.std.specs.Prelude.{◌≡◌, ⊤, false, Option, Some, None}
 use Rattle.otap_cells.specs.declared.payload.Kind.{Kind}
 use Rattle.otap_consume.specs.declared.stream.Substream.{Substream}

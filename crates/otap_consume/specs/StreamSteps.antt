@@ -1,4 +1,4 @@
--- What a stream makes of one payload, and what is asked of it, in the words of private contracts.
+-- What a stream makes of one payload, and what is asked of it: used in private contracts.
 use Rattle.std.specs.Prelude.{◌≡◌, ⊤, ℕ, true, false, List, [], ◌∷◌, ◌++◌, Option, Some, None}
 use Rattle.std.specs.Ordering.{int_eq}
 use Rattle.lists.specs.Payloads.{PayloadIn}

@@ -1,4 +1,4 @@
--- The sub-streams of the types of a signal, as a segment keeps them: of each the one that is open, with its reader.
+-- The sub-streams of the types of a signal, as a segment keeps them: of each type the open one, with its reader.
 use Rattle.std.specs.Prelude.{◌≡◌, ⊤, ℕ, List, map, All, Option, Some, None}
 use Rattle.lists.specs.Payloads.{PayloadIn}
 use Rattle.otap_cells.specs.declared.payload.Kind.{Kind}
@@ -27,7 +27,7 @@ IsOpenAfter payloads kind None (Some current) = ⊥
 IsOpenAfter payloads kind (Some last) None = ⊥
 IsOpenAfter payloads kind (Some last) (Some current) = IsReadTo payloads kind last current
 
--- THE STREAM OF A TYPE AFTER PAYLOADS: none is open where none of the type went before
+-- THE STREAM OF A TYPE AFTER PAYLOADS: no sub-stream is open where no payload of the type came before
 pub record IsAfter (payloads : List PayloadIn) (s : StreamIn) : Type 0 where
   pub current : IsOpenAfter payloads s.kind (last_of (payload_type_of s.kind) payloads) s.current
 

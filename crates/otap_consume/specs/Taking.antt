@@ -1,4 +1,4 @@
--- How the payloads of a batch are taken, in the words of private contracts.
+-- How the payloads of a batch are taken: used in private contracts.
 use Rattle.std.specs.Prelude.{◌≡◌, ℕ, List, ◌++◌}
 use Rattle.lists.specs.Payloads.{PayloadIn}
 use Rattle.otlp_model.specs.declared.request.Signal.{Signal}
@@ -20,7 +20,7 @@ pub record AcceptsAfter (signal : Signal) (past payloads : List PayloadIn) (new 
   pub after : AreAfter (past ++ payloads) new
   pub rows : weight ≡ weight_of_tables (tables_of signal past payloads)
 
--- the next frame is a message that says this batch
+-- the next frame is the message of this batch
 pub record NextBatch (old : SegmentIn) (batch : BatchContent) (new : SegmentIn) (returned : Seen) : Type 0 where
   pub at : (bytes : List ℕ) → ReadsBatch bytes batch → Next old (Message bytes) new returned
 

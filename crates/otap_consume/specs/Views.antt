@@ -1,4 +1,4 @@
--- The views of the records of a batch, in the words of private contracts.
+-- The views of the records of a batch: used in private contracts.
 use Rattle.std.specs.Prelude.{◌≡◌, ℤ, Bool, List, Option, Some, None, find}
 use Rattle.std.specs.List.{AllZip}
 use Rattle.std.specs.Ordering.{int_eq}

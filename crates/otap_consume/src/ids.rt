@@ -16,7 +16,7 @@ use otap_capture::{Batch, Payload};
 use std::alloc::{AllocError, Global};
 use std::marker::Model;
 
-/// Looks at the schema ids of a batch: where a payload comes, its id is not to be open for another type.
+/// Checks the schema ids of a batch: when a payload comes, its id must not be open for another type.
 pub(crate) fn check_ids(
     alloc: Global,
     streams: &[Stream],

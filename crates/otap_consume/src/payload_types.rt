@@ -19,7 +19,7 @@ pub enum TypesRefusal {
 }
 
 /// Looks at the payload types of a batch: each is to be one of the signal's, and to occur once.
-/// It is linear, since a signal has few types: of more payloads one of the first is refused.
+/// It takes linear time, since a signal has few types: where there are more payloads, one of the first is refused.
 pub fn check_types(signal: Signal, batch: &Batch<'_>) -> Result<(), TypesRefusal>
     ensures { MatchResult result (λ x. HasFineTypes signal batch.now.payloads) (IsDefectOfTypes signal batch.now.payloads) }
 {

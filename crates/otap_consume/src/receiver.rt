@@ -25,7 +25,7 @@ use std::alloc::{AllocError, Global};
 use std::marker::Model;
 
 /// A receiver of the batches of a signal, frame by frame. It keeps what a segment keeps. A contract sees it as the frames
-/// that it stands for, by their outcomes.
+/// that it has taken, by their outcomes.
 #[derive(Debug, Drop)]
 pub struct Receiver {
     alloc: Global,

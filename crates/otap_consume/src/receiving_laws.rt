@@ -42,8 +42,8 @@ pub fn refused_by_what_is_wrong()
         → ReceivedAfter (meaning_by signal) outcomes frame (Refused refusal) → (refusal.stage ≡ 0) ↔ (is_broken outcomes ≡ true) }
 {}
 
-/// A batch that is opened, and then found to be within the limits with nothing wrong in its rows, is accepted; else it is
-/// refused by what is wrong. The segment stands for one more frame, once it is broken where the batch is refused.
+/// An opened batch that is within the limits, and has nothing wrong in its rows, is accepted; else it is refused by what is
+/// wrong. The segment has then taken one more frame; a refused batch breaks it.
 pub fn opened_leads_to_an_outcome()
     ensures accepted { (old new : SegmentIn) (outcomes : List Outcome) (frame : Frame) (batch : BatchContent)
         → OpensFrame old frame batch new → StandsFor old.signal outcomes old

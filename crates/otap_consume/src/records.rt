@@ -15,7 +15,7 @@ use otap_capture::{Batch, Payload};
 use otap_columns::ColumnRefusal;
 use std::alloc::Global;
 
-/// Takes the payloads of a batch, in order. After a refusal the streams are those of no list of payloads.
+/// Takes the payloads of a batch, in order. After a refusal the streams are of no use.
 pub(crate) fn take_records(
     alloc: Global,
     streams: &mut [Stream],

@@ -24,7 +24,7 @@ use std::alloc::{AllocError, Global};
 use std::marker::Model;
 
 /// The batches of a segment: the frames between two resets. It keeps of each payload type the sub-stream that is open, and
-/// no batch. A contract sees it as the frames that it stands for, by their outcomes.
+/// no batch. A contract sees it as the frames that it has taken, by their outcomes.
 #[derive(Debug, Drop)]
 pub struct Segment {
     alloc: Global,
@@ -81,8 +81,8 @@ impl Segment {
     }
 
     /// Opens the next frame: a batch after those before it, as far as its records, or a reset, which begins a segment. What it
-    /// refuses `take` refuses, and as there a refused frame breaks the segment, and so does running out of memory. The caller
-    /// weighs the batch by [`Segment::weigh`], and looks at its rows; where it isn't taken then,
+    /// refuses, `take` refuses too. A refused frame breaks the segment, and so does running out of memory. The caller then
+    /// weighs the batch by [`Segment::weigh`] and checks its rows; where the batch isn't taken,
     /// [`Segment::refuse_batch`] breaks the segment.
     pub fn open<'f>(&mut self, frame: &Frame<'f>) -> Result<Opened<'f>, AllocError>
         ensures opens { IfOk result (Opens self.old (frame_of frame.now) self.new) }
@@ -110,7 +110,7 @@ impl Segment {
         weighed(self.alloc, self.signal, &self.streams, batch)
     }
 
-    /// Breaks the segment, as the batch that was opened last is not taken, and returns its refusal. Out of memory is passed on.
+    /// Breaks the segment, and returns the refusal of the batch that was opened last. Out of memory is passed on.
     pub fn refuse_batch(&mut self, batch: &Batch<'_>, why: NotTaken) -> Result<Refusal, AllocError>
         ensures refusal { result ≡ refusal_by batch.now why }
         ensures broken { self.new ≡ record self.old { broken = true } }

@@ -108,7 +108,7 @@ impl Stream {
         Ok(())
     }
 
-    /// Opens a sub-stream in place of the one that is open.
+    /// Opens a sub-stream, and closes the one that is open.
     fn begin(&mut self, alloc: Global, payload: &Payload<'_>) -> Result<(), ColumnRefusal>
         requires of_type { int_eq payload.now.kind (payload_type_of self.old.kind) ≡ true }
         requires other { is_open_id payload.now.schema_id.now (schema_id_of self.old) ≡ false }

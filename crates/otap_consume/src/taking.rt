@@ -22,8 +22,8 @@ use otap_capture::Batch;
 use otlp_model::Signal;
 use std::alloc::Global;
 
-/// Takes the payloads of a batch as far as their records, stage by stage, each over all of them. After a refusal the streams are
-/// those of no list of payloads.
+/// Takes the payloads of a batch as far as their records, stage by stage, each over all of them. After a refusal the streams
+/// are of no use.
 pub(crate) fn open_payloads(
     alloc: Global,
     signal: Signal,

@@ -1,4 +1,4 @@
--- What a ladder tells of the values that were observed, and what one more value changes.
+-- What a ladder says of the values that were observed, and what one more value changes.
 use Rattle.std.specs.Prelude.{◌≡◌, ℕ, ◌+◌, Bool, true, false, ◌&&◌, not, if◌then◌else◌, List, [], ◌∷◌, ◌++◌, length, bytes_eq}
 use Rattle.std.specs.List.{list_any}
 use Rattle.otap_dicts.specs.declared.form.Form.{Form}
@@ -24,7 +24,7 @@ pub record LadderIn : Type 0 where
 abbrev pub kept_in : Form → List (List ℕ) → List (List ℕ)
 kept_in form values = if is_dictionary form then values else []
 
--- The ladder that stands for a list of observed values.
+-- The ladder of a list of observed values.
 unfoldable pub ladder_of : Bool → List (List ℕ) → LadderIn
 ladder_of dictionary values = record { dictionary = dictionary; form = form_of dictionary values; values = kept_in (form_of dictionary values) (distinct values) }
 
@@ -45,6 +45,6 @@ observed ladder value =
     then (if list_any (bytes_eq value) ladder.values then ladder else with_new ladder value)
     else record { dictionary = ladder.dictionary; form = Plain; values = ladder.values }
 
--- Whatever values the old ladder stands for, the new one stands for these and the value after them.
+-- Where the old ladder is that of some values, the new one is that of these and of one more value after them.
 pub record StandsForMore (old new : LadderIn) (value : List ℕ) : Type 0 where
   pub at : (values : List (List ℕ)) → old ≡ ladder_of old.dictionary values → new ≡ ladder_of old.dictionary (values ++ value ∷ [])

@@ -37,7 +37,7 @@ impl Model for Ladder {
 }
 
 impl Ladder {
-    /// A ladder that has observed no value. `dictionary` tells whether the column may be written as a dictionary.
+    /// A ladder that has observed no value. `dictionary` says whether the column may be written as a dictionary.
     #[tactic(auto, unfolding(crate::specs::Ladders::ladder_of, crate::specs::Forms::distinct))]
     pub fn new(alloc: Global, dictionary: bool) -> Ladder
         ensures { result ≡ ladder_of dictionary [] }
@@ -65,7 +65,7 @@ impl Ladder {
         self.values.len() as u32
     }
 
-    /// The place of a value in the dictionary; `None` exactly where it isn't in it, as in any other form. Takes the time
+    /// The index of a value in the dictionary; `None` exactly where it isn't in it, as in any other form. Takes the time
     /// of one look-up by hash.
     pub fn index_of(&self, value: &[u8]) -> Option<u32>
         ensures { result ≡ position (bytes_eq value.now) self.now.values }
@@ -74,7 +74,7 @@ impl Ladder {
         Some(place as u32)
     }
 
-    /// The value at a place of the dictionary; `None` exactly where there is none.
+    /// The value at an index of the dictionary; `None` exactly where there is none.
     pub fn value(&self, place: u32) -> Option<&[u8]>
         ensures { option_copied result ≡ slice_get self.now.values place }
     {
@@ -84,8 +84,8 @@ impl Ladder {
         }
     }
 
-    /// Observes a value, and returns its place in the dictionary; `None` exactly where the column has none. Takes one look-up by
-    /// hash for a value that is known, and two for a new one. After want of memory the ladder is as before.
+    /// Observes a value, and returns its index in the dictionary; `None` exactly where the column has none. Takes one look-up by
+    /// hash for a value that is known, and two for a new one. After out of memory the ladder is as before.
     #[tactic(auto, using(crate::proofs::Observing::stands_for_more))]
     pub fn observe(&mut self, value: &[u8]) -> Result<Option<u32>, AllocError>
         ensures ok { OnOk result (self.new ≡ observed self.old value.now) }
@@ -120,7 +120,7 @@ impl Ladder {
         self.dictionary && self.form != Form::Plain
     }
 
-    /// Adds a value that the dictionary hasn't, or gives the dictionary up where it becomes too large.
+    /// Adds a value that isn't in the dictionary, or gives the dictionary up where it becomes too large.
     #[tactic(auto, unfolding(crate::specs::Ladders::with_new))]
     fn add(&mut self, value: &[u8]) -> Result<Option<u32>, AllocError>
         requires takes { takes self.old ≡ true }
@@ -143,7 +143,7 @@ impl Ladder {
         Ok(Some(place))
     }
 
-    /// Puts a value last, and returns its place.
+    /// Puts a value last, and returns its index.
     fn insert(&mut self, value: &[u8], form: Form) -> Result<u32, AllocError>
         requires new { list_any (bytes_eq value.now) self.old.values ≡ false }
         requires dictionary { is_dictionary form ≡ true }

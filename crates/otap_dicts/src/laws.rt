@@ -33,7 +33,7 @@ pub fn a_value_again_changes_nothing()
     ensures plain { (ladder : LadderIn) (value : List ℕ) → ladder.form ≡ Plain → observed ladder value ≡ ladder }
 {}
 
-/// A value keeps its place in a dictionary as others are observed, and one that was observed has a place, until the dictionary is
+/// A value keeps its index in a dictionary as others are observed, and each observed one has an index, until the dictionary is
 /// given up.
 pub fn places_stay()
     ensures stay { (ladder : LadderIn) (value other : List ℕ) (place : ℕ) → is_plain (observed ladder value).form ≡ false → position (bytes_eq other) ladder.values ≡ Some place → position (bytes_eq other) (observed ladder value).values ≡ Some place }

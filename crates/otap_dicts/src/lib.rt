@@ -1,4 +1,4 @@
-//! Dictionaries of the exporter: in which form a column is written, and which place each of its values has.
+//! Dictionaries of the exporter: in which form a column is written, and which index each of its values has.
 #![tactic(auto)]
 
 mod form;

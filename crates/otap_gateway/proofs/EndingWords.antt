@@ -25,7 +25,7 @@ same_resend a b v w signal window = λ i. ending.Resend (signal i) (window i)
 same_file : (a b : Signal) (k l : Kind) (n m : ℕ) → a ≡ b → k ≡ l → n ≡ m → ending.File a k n ≡ ending.File b l m
 same_file a b k l n m signal kind number = λ i. ending.File (signal i) (kind i) (number i)
 
--- a payload type is told by its number in decimal
+-- a payload type is known by its number in decimal
 pub kind_told : (k l : Kind) → decimal (number_of k) ≡ decimal (number_of l) → k ≡ l
 kind_told k l same =
     let small = number_small k in

@@ -26,7 +26,7 @@ use Rattle.otap_gateway.proofs.LoadWords.{same_signal}
 
 -- ---- words of `file`
 
--- four words, by their places
+-- four words, by their indexes
 pub four_words : {X : Type 0} (f : X → List ℕ) (ws : List X) (a b c d : X) → 4 ≤ length ws → length ws < 5 → a ≡ get_or ws 0 a → b ≡ get_or ws 1 b → c ≡ get_or ws 2 c → d ≡ get_or ws 3 d
     → map f ws ≡ f a ∷ f b ∷ f c ∷ f d ∷ []
 four_words f [] a b c d many few first second third fourth = absurd (omega (arith, many))

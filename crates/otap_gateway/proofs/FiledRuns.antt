@@ -1,4 +1,4 @@
--- What `file` replies and adds at the end, from what its state stands for.
+-- What `file` replies and adds at the end, by its state.
 use Rattle.std.proofs.Common.{◌≡◌, inr, ℕ, List, [], ◌++◌, ◌∷◌, None, Result, Ok, Err, refl, sym, subst, arith}
 use Rattle.otlp_model.specs.declared.request.Signal.{Signal}
 use Rattle.otap_capture.specs.Capture.{Frame}

@@ -1,4 +1,4 @@
--- What `resend` replies, and what it may begin and add, from what its state stands for.
+-- What `resend` replies, and what it may begin and add, by its state.
 use Rattle.std.proofs.Common.{◌≡◌, inr, ℕ, ◌<◌, false, List, [], ◌++◌, length, Option, Some, None, IfSome, Result, Ok, Err, refl, ◌∙◌, arith}
 use Rattle.std.specs.Prelude.{codes}
 use Rattle.std.specs.Io.KnownBytes.{Keeps}
@@ -27,7 +27,7 @@ use Rattle.otap_gateway.proofs.Replying.{is_reply_more}
 use Rattle.otap_gateway.proofs.ResentFrames.{still}
 
 module _ (rows : SignalRows) (window : ℕ) where
-  -- what a resender and counts stand for
+  -- a resender and counts after what frames gave
   abbrev pub Stood : ResenderIn → Counts → History
   Stood r counts = HasRepliedBy (ResendsAfter rows window) resent_text (HasResent rows window r counts)
 

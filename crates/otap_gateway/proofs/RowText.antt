@@ -7,7 +7,7 @@ use Rattle.otap_cells.specs.Cells.{Cell, null}
 use Rattle.otap_cells.specs.Columns.{ColumnSpec, described}
 use Rattle.otap_gateway.specs.Rows.{named_cell, cells_text}
 
--- the cell at a place, below the column that the program's table has there, comes before those after it
+-- the cell at an index, below the column that the program's table has there, comes before those after it
 pub cells_go_on : (columns : List ColumnSpec) (known : List Column) (cells : List Cell) (i : ℕ) (d : Column) (cell : Cell) (before after whole : List ℕ)
     → map described known ≡ columns → i < length known → length cells ≡ length columns
     → before ++ cells_text (drop i columns) (drop i cells) ≡ whole → cell ≡ get_or cells i null

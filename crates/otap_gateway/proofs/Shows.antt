@@ -82,7 +82,7 @@ shows old new frame returned number reply next same replies frames before count 
       stands = n.stands;
     }
 
--- a segment at its start stands for no frames
+-- a segment at its start has taken no frames
 pub shows_none : (signal : Signal) (s : SegmentIn) → IsNew signal s → HasShown s [] []
 shows_none signal s new =
     record { outcomes = []; before = tt; so_far = refl; stood = stands_first s.signal s (record { same = refl; whole = new.whole; empty = new.empty }) }

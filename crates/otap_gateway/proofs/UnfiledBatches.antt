@@ -1,4 +1,4 @@
--- The batches of a file: how they are spelled, and that they fit frames.
+-- The batches of a file: how they are encoded, and that they fit frames.
 use Rattle.std.proofs.Common.{◌≡◌, ℕ, ◌+◌, ◌*◌, ◌<◌, ◌≤◌, ◌^◌, suc, Bool, true, false, List, [], ◌∷◌, ◌++◌, length, take, drop, Result, Ok, Err, OnOk, ℤ, pos, ap, ◌∙◌, append-nil, length-append, arith}
 use Rattle.std.specs.Prelude.{All, slice_index_or, codes, if◌then◌else◌, ◌==◌}
 use Rattle.std.specs.Int.{w64, cast_unsigned}

@@ -1,4 +1,4 @@
--- The line of one field, in the words of private contracts.
+-- The line of one field: used in private contracts.
 use Rattle.std.specs.Prelude.{ℕ, List}
 use Rattle.arrow_schema.specs.declared.spec.FieldSpec.{FieldSpec}
 use Rattle.arrow_schema.specs.Trees.{name_in, kind_in, dict_in}

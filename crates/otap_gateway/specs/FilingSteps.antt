@@ -1,4 +1,4 @@
--- What one frame adds to the file of a sub-stream, in the words of the private contracts of `file`.
+-- What one frame adds to the file of a sub-stream: used in the private contracts of `file`.
 use Rattle.std.specs.Prelude.{◌≡◌, ◌≤◌, ◌<◌, ◌+◌, ℕ, suc, not, Bool, true, false, if◌then◌else◌, List, [], ◌∷◌, ◌++◌, length, bytes_eq, Option, Some, None, All, ⊤}
 use Rattle.std.specs.Option.{option_map}
 use Rattle.std.specs.List.{AllZip}
@@ -108,7 +108,7 @@ pub record HasFiled (kind : Kind) (number : ℕ) (outcomes : List Outcome) (s : 
   pub current : open_in s ≡ open_id (payload_type_of kind) (payloads_after outcomes)
   pub file : HoldsTables (chosen kind number outcomes) s.file
 
--- the segment and the sub-stream stand for frames that gave these
+-- the segment and the sub-stream after frames that gave these
 pub record HasFile (kind : Kind) (number : ℕ) (segment : SegmentIn) (s : Substream) (outcomes : List Outcome) : Type 0 where
   pub frames : StandsFor segment.signal outcomes segment
   pub tables : HasFiled kind number outcomes s
@@ -165,7 +165,7 @@ pub record AddsRows (t : Table) (old new : Substream) : Type 0 where
   pub current : new.schema_id ≡ old.schema_id
   pub file : AddsTable t old.file new.file
 
--- one frame more: its outcome, whose text is the reply, and the new state stands for it too
+-- one frame more: its outcome, whose text is the reply; the new state is the one after this outcome too
 pub record TakesFrame (kind : Kind) (frame : Frame) (old new : SegmentIn) (s s' : Substream) (number : ℕ) (reply : ReplyText) : Type 0 where
   pub at : (place : ℕ) (outcomes : List Outcome) → HasFile kind place old s outcomes → HasMore (OutcomeAfter old.signal) filed (HasFile kind place new s') outcomes frame number reply
 

@@ -1,4 +1,4 @@
--- What is at the start of records, in the words of private contracts.
+-- What is at the start of records: used in private contracts.
 use Rattle.std.specs.Prelude.{◌≡◌, ℕ, ℤ, List, Some}
 use Rattle.lists.specs.Payloads.{PayloadIn}
 use Rattle.arrow_ipc.specs.Faults.{Stands}

@@ -1,4 +1,4 @@
--- The replies to batches that are refused.
+-- The replies to refused batches.
 use Rattle.std.specs.Prelude.{◌≡◌, ℕ, ℤ, List, Option, None, Some}
 use Rattle.otap_capture.specs.declared.batch.BatchRefusal.{BatchRefusal}
 use Rattle.otap_capture.specs.Batch.{RefusesBatch, defect_of}
@@ -20,6 +20,6 @@ pub record RefusesUnread (number : ℕ) (bytes : List ℕ) (reply : ReplyText) :
   pub stands : RefusesBatch bytes refusal
   pub line : reply ≡ refused_unread number (unread_name refusal)
 
--- the reply to a batch that is refused in a stage, by the name of the cause and the type of the payload that it is in
+-- the reply to a batch that a stage refuses, by the name of the cause and the type of the payload that it is in
 abbrev pub refused_batch : ℕ → ℤ → ℕ → List ℕ → Option ℤ → ReplyText
 refused_batch number id stage cause payload = refuses (refused_line number (Some id) stage cause payload)

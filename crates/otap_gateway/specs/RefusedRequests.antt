@@ -1,4 +1,4 @@
--- The replies to requests that are refused.
+-- The replies to refused requests.
 use Rattle.std.specs.Prelude.{ℕ, List}
 use Rattle.otap_gateway.specs.Lines.{request_line, refuses}
 use Rattle.otap_gateway.specs.Reply.{ReplyText}

@@ -1,4 +1,4 @@
--- What one frame makes of a resending exporter, in the words of the private contracts of `resend`.
+-- What one frame makes of a resending exporter: used in the private contracts of `resend`.
 use Rattle.std.specs.Prelude.{◌≡◌, ◌⊎◌, ◌≤◌, ◌<◌, ◌+◌, ℕ, false, None, List, [], ◌∷◌, ◌++◌, length, map, find}
 use Rattle.std.specs.List.{flat_map}
 use Rattle.std.specs.declared.option.Option.{Option}
@@ -43,7 +43,7 @@ pub record HasCounts (s : State) (frames : ℕ) (counts : Counts) : Type 0 where
   pub few_done : length s.done ≤ frames
   pub few_given_up : length s.given_up ≤ frames
 
--- a resender and counts that stand for what frames gave
+-- a resender and counts after frames that gave these
 pub record HasResent (rows : SignalRows) (window : ℕ) (r : ResenderIn) (counts : Counts) (given : List Resent) : Type 0 where
   pub state : HasState rows (state_by window given) r
   pub calm : IsCalm (state_by window given)
@@ -55,7 +55,7 @@ pub record AreFew (r : ResenderIn) (counts : Counts) : Type 0 where
   pub done : counts.done < batch_limit
   pub given_up : counts.given_up < batch_limit
 
--- one frame more: what it gives, whose text is the reply, and the new state stands for it too
+-- one frame more: what it gives, whose text is the reply; the new state is the one after that too
 pub record GivesMore (Gives : Resent → Type 0) (new : List Resent → Type 0) (given : List Resent)
     (number : ℕ) (reply : ReplyText) : Type 0 where
   pub gives : Resent
@@ -63,7 +63,7 @@ pub record GivesMore (Gives : Resent → Type 0) (new : List Resent → Type 0) 
   pub says : reply ≡ resent_text number gives
   pub stands : new (given ++ gives ∷ [])
 
--- the bytes of a request, a status, or the bytes of an event, whatever the resender stands for
+-- the bytes of a request, a status, or the bytes of an event, whatever the resender took before
 pub record TakesRequest (rows : SignalRows) (old new : ResenderIn)
     (number : ℕ) (part : List ℕ) (reply : ReplyText) : Type 0 where
   pub at : (window : ℕ) (given : List Resent) (counts : Counts) → HasResent rows window old counts given
@@ -124,7 +124,7 @@ pub record HasSomeState (rows : SignalRows) (r : ResenderIn) : Type 0 where
 abbrev pub frames_of : List (List ℕ) → List ℕ
 frames_of messages = flat_map message_frame messages
 
--- these messages are written after the steps that it stands for, whatever these are
+-- these messages are written after the resender's steps so far, whatever these are
 pub record Rewrites (rows : SignalRows) (old new : ResenderIn) (messages : List (List ℕ)) : Type 0 where
   pub at : (window : ℕ) (steps : List Step) → HasState rows (state_after window steps) old
       → AllAfter (MayStep rows window) steps (map resend_step messages)

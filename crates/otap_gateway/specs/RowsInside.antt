@@ -1,4 +1,4 @@
--- How the lines of rows are written, in the words of private contracts.
+-- How the lines of rows are written: used in private contracts.
 use Rattle.std.specs.Prelude.{ℕ, List, ◌∷◌}
 use Rattle.std.specs.List.{flat_map}
 use Rattle.otap_cells.specs.declared.profile.Base.{Base}

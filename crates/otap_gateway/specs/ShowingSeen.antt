@@ -1,4 +1,4 @@
--- What `show` replies to what the segment gave, in the words of its private contracts.
+-- What `show` replies to what the segment gave: used in private contracts.
 use Rattle.std.specs.Prelude.{◌≡◌, ℕ, List, [], ◌∷◌, ◌++◌}
 use Rattle.otlp_model.specs.declared.request.Signal.{Signal}
 use Rattle.otap_capture.specs.Batch.{BatchContent, ReadsBatch}

@@ -1,4 +1,4 @@
--- The steps of a run, in the words of its private contracts.
+-- The steps of a run: used in private contracts.
 use Rattle.std.specs.Prelude.{◌≡◌, ◌⊎◌, ℕ, Bool, false, List, [], length, ⊤, Some, IfSome, is_some}
 use Rattle.std.specs.declared.option.Option.{Option}
 use Rattle.std.specs.declared.result.Result.{Result}
@@ -70,7 +70,7 @@ pub record Writes (R : Rule) (stands stands' : History) (number : ℕ) (frame : 
   pub same : handled.refused ≡ reply.refused
   pub quiet : handled.wrote ≡ false → (reply.out ≡ []) × (reply.err ≡ []) × (new ≡ old)
 
--- from each history that the state stands for, the rule allows the text
+-- after each history of the state, the rule allows the text
 pub record Allows (B : Rule) (stands : History) (number : ℕ) (frame : Frame) (reply : ReplyText) : Type 0 where
   pub at : (frames : List Frame) (replies : List ReplyText) → length frames ≡ number → stands frames replies → B frames replies frame reply
 

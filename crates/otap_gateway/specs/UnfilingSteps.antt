@@ -1,4 +1,4 @@
--- The steps of `unfile`, in the words of its private contracts.
+-- The steps of `unfile`: used in private contracts.
 use Rattle.std.specs.Prelude.{◌≡◌, ◌⊎◌, ◌≤◌, ◌+◌, ℕ, Bool, List, ◌++◌, length, drop, All}
 use Rattle.std.specs.List.{flat_map}
 use Rattle.std.specs.declared.option.Option.{Option}

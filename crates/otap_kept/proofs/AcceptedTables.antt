@@ -1,4 +1,4 @@
--- The tables of a batch that is accepted: their rows are few, their ids are given, and no id stands twice.
+-- The tables of a batch that is accepted: their rows are few, their ids are given, and no id occurs twice.
 use Rattle.std.proofs.Common.{◌≡◌, ℕ, ◌*◌, ◌≤◌, ◌^◌, true, Bool, List, [], ◌∷◌, get_or, Option, None, Some, length, map, drop, refl, sym, ◌∙◌, ap, subst, inl, inr, arith}
 use Rattle.std.specs.Prelude.{Contains, filter, sum_by}
 use Rattle.std.specs.List.{range_with_len}

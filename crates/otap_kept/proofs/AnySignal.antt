@@ -1,5 +1,5 @@
--- The law for any signal: what the kept tables tell is the filter of what the tables tell, and it is no heavier. An item is read from its
--- own cells and from what is found for its id in the tables below.
+-- The law for any signal: the telemetry of the kept tables is the filter of that of the tables, and it is no heavier. An item is
+-- read from its own cells and from what is found for its id in the tables below.
 use Rattle.std.proofs.Common.{◌≡◌, ℕ, ◌+◌, ◌≤◌, ◌^◌, Bool, List, get_or, Option, None, Some, length, map, refl, sym, ◌∙◌, ap, subst, arith}
 use Rattle.std.specs.Prelude.{filter}
 use Rattle.std.proofs.lemmas.List.{length-map}
@@ -37,8 +37,8 @@ of_resources tables = pairs_in (table_named table.ResourceAttrs tables)
 abbrev pub of_scopes : List Table → Option ℕ → List Pair
 of_scopes tables = pairs_in (table_named table.ScopeAttrs tables)
 
--- WHAT TIES TABLES to those of which they keep these main rows. What is below an item is found in the tables by its id; among the rows
--- that are kept, before attributes are sorted, it is found by its place
+-- WHAT TIES TABLES to those of which they keep these main rows. What is below an item is found in the tables by its id; among
+-- the rows that are kept, before attributes are sorted, it is found by its index
 pub record AreKept {D : Type 0} (main : Kind) (found : List Table → Option ℕ → D) (before : Option ℕ → D) (tables others : List Table) (rows : List MainRow) : Type 0 where
   pub main_rows : main_rows_in (table_named main others) ≡ renewed rows
   pub resources : table_named table.ResourceAttrs others ≡ attributes_under table.ResourceAttrs (first_ids (resource_ids rows)) (table_named table.ResourceAttrs tables)

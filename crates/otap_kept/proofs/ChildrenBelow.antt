@@ -51,7 +51,7 @@ module _ (ids : List (Option ℕ)) where
   under_found p n is (row ∷ rows) =
       meets n row (under ids rows) (filter (is_child_of p) rows) (new_number ids row.parent) (id_is row.parent (Some p)) (judged p n is row.parent) (under_found p n is rows)
 
-  -- below a place without an id there are none
+  -- below an index without an id there are none
   missing : (n : ℕ) → get_or ids n None ≡ None → (parent : Option ℕ) (m : ℕ) → new_number ids parent ≡ Some m → (m == n) ≡ false
   missing n none None m e = absurd (let s : None ≡ Some m = e in cc s)
   missing n none (Some q) m e = elim (cases_Bool (m == n)) [
@@ -71,7 +71,7 @@ module _ (ids : List (Option ℕ)) where
   under_none n none [] = refl
   under_none n none (row ∷ rows) = none_here n row (under ids rows) (new_number ids row.parent) (missing n none row.parent) (under_none n none rows)
 
--- ---- the sort by parent leaves those of each parent as they stand
+-- ---- the sort by parent leaves those of each parent in their order
 
 placed_kept : (n : ℕ) (x : PlacedIn ChildRow) (ys : List (PlacedIn ChildRow)) → filter (names n) (placed_by is_above x ys) ≡ filter (names n) (x ∷ ys)
 placed_kept n x [] = refl
@@ -111,7 +111,7 @@ module _ {C : Type 0} (item item' : Option ℕ → List Cell → C) (own : ℕ �
         | inr f ↦ rw f ih
       ]
 
-  -- THE CHILDREN of a new number are those of the id that it stands for
+  -- THE CHILDREN of a new number are those of the id that has it
   pub children_by_number : (ids : List (Option ℕ)) (rows : List ChildRow) (ps : List (PlacedIn ChildRow)) → ((n : ℕ) → filter (names n) ps ≡ filter (names n) (under ids rows))
       → Renews 0 ps → (p n : ℕ) → new_number ids (Some p) ≡ Some n
       → children item' (part_rows own own_cells 0 ps) (Some n) ≡ children item rows (Some p)
@@ -124,7 +124,7 @@ module _ {C : Type 0} (item item' : Option ℕ → List Cell → C) (own : ℕ �
   none_by_number ids rows ps same renews n none =
       renewed_children 0 n ps renews ∙ ap (λ (qs : List (PlacedIn ChildRow)). map (child_of_row item) (map part_in qs)) (same n ∙ under_none ids n none rows)
 
-  -- the same by place, where no two ids are equal: below a place without an id there are none
+  -- the same by index, where no two ids are equal: below an index without an id there are none
   pub children_by_place : (ids : List (Option ℕ)) (rows : List ChildRow) (ps : List (PlacedIn ChildRow)) → ((n : ℕ) → filter (names n) ps ≡ filter (names n) (under ids rows))
       → Renews 0 ps → AreApart ids → (k : ℕ) → children item' (part_rows own own_cells 0 ps) (Some k) ≡ children item rows (get_or ids k None)
   children_by_place ids rows ps same renews apart k = by (get_or ids k None) refl where
@@ -132,7 +132,7 @@ module _ {C : Type 0} (item item' : Option ℕ → List Cell → C) (own : ℕ �
     by None e = none_by_number ids rows ps same renews k e
     by (Some p) e = children_by_number ids rows ps same renews p k (number_at ids apart k p e)
 
--- parts whose children are found by place are read again with their new ids
+-- parts whose children are found by index are read again with their new ids
 module _ {C D : Type 0} (item : List Cell → D → C) (lookup lookup' : Option ℕ → D) where
   renews_from : (n : ℕ) (ps : List (PlacedIn ChildRow)) → ((k : ℕ) → lookup' (Some (n + k)) ≡ lookup (get_or (former_ids ps) k None))
       → Renews (λ id cells. item cells (lookup id)) (λ id cells. item cells (lookup' id)) (λ k. Some k) n ps

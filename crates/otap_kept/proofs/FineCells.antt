@@ -166,7 +166,7 @@ running_at n (row ∷ rows) zero m is = (let s : n ≡ m = some_same n m is in o
   some_same a b s = cc s
 running_at n (row ∷ rows) (suc k) m is = let more = running_at (suc n) rows k m is in omega (arith, more)
 
--- the cells of a main row by its place
+-- the cells of a main row by its index
 own_at : (resources scopes : List (Option ℕ)) (n o r s : ℕ) (rows : List MainRow) (d : MainRow) (k : ℕ) → AllByRecursion IsShaped rows → k < length rows
     → drop 9 (get_or (stored_main o r s (renewed_from resources scopes n rows)) k []) ≡ (get_or rows k d).own
 own_at resources scopes n o r s [] d k shaped within = absurd (omega arith)
@@ -174,7 +174,7 @@ own_at resources scopes n o r s (row ∷ rows) d zero shaped within = rw (shaped
 own_at resources scopes n o r s (row ∷ rows) d (suc k) shaped within =
     own_at resources scopes (suc n) n (past_id r (new_number resources row.resource_id)) (past_id s (new_number scopes row.scope_id)) rows d k shaped.1 (omega arith)
 
--- the first cell behind the front of a row
+-- the first cell after the front of a row
 ninth : (cells : List Cell) → get_or cells 9 null ≡ get_or (drop 9 cells) 0 null
 ninth cells = sym (cell_behind 9 0 9 cells (omega arith))
 
@@ -186,7 +186,7 @@ own_id_at (row ∷ rows) d (suc k) within = own_id_at rows d k (omega arith)
 no_row : MainRow
 no_row = main_row None None None []
 
--- a row of a main table by its place
+-- a row of a main table by its index
 record IsRowAt (t : Table) (x : MainRow) : Type 0 where
   place : ℕ
   there : place < length t.rows
@@ -212,7 +212,7 @@ parent_at t row p long at is =
     let low : at.0 < length (ids_in t 1) = omega (arith, within, size, long) in
     (at.0, low, get_or_default (ids_in t 1) at.0 (Some p) None low ∙ ap (λ (row : ChildRow). row.parent) here ∙ is)
 
--- a number that stands for a parent which some row names
+-- a new number of a parent which some row names
 abbrev IsNamed : List (Option ℕ) → List ChildRow → ℕ → Type 0
 IsNamed ids rows n = (row : ChildRow) × Contains rows row × (new_number ids row.parent ≡ Some n)
 
@@ -236,7 +236,7 @@ module _ (fits : ℕ → Bool) (kind main : Kind) (t other_main : Table) (test :
   abbrev kept_metrics : Table
   kept_metrics = kept_main main (renewed rows)
 
-  -- the number of a kept row is its place; the row of that place stands in the batch, with the same type
+  -- the number of a kept row is its index; the row of that index is in the batch, with the same type
   module _ (row id p : ℕ) (within : row < length rows) (part : ChildRow) (named : Contains (part_rows_in t) part) (parent : part.parent ≡ Some p)
       (number : new_number (own_ids rows) (Some p) ≡ Some row) (other : fits (type_at kept_metrics row) ≡ false) where
     abbrev x : MainRow

@@ -74,7 +74,7 @@ parents_from P n [] all k at = absurd (omega (arith, at.1))
 parents_from P n (p ∷ ps) all k (zero, within, at) = subst P (let s : Some p.parent ≡ Some k = at in cc s) all.0
 parents_from P n (p ∷ ps) all k (suc i, within, at) = parents_from P (suc n) ps all.1 k (i, omega arith, at)
 
--- new numbers are places among the parents
+-- new numbers are indices among the parents
 number_below : (ids : List (Option ℕ)) (parent : Option ℕ) (n : ℕ) → new_number ids parent ≡ Some n → n < length ids
 number_below ids None n is = absurd (let s : None ≡ Some n = is in cc s)
 number_below ids (Some p) n is = number_low ids p n is
@@ -91,7 +91,7 @@ parts_below ids rows = each_sorted (λ p. p.parent < length ids) is_above (under
 
 -- ---- one table below, the ids of whose parents another table has
 
--- a column of the table of a kind has each place among these ids as an id
+-- a column of the table of a kind has each index among these ids as an id
 abbrev pub Covers : List Table → Kind → ℕ → List (Option ℕ) → Type 0
 Covers all kind column ids = (xs : List (Option ℕ)) → HasIds (table_named kind all) column xs → (n : ℕ) → n < length ids → Contains xs (Some n)
 

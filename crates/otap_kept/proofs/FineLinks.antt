@@ -252,7 +252,7 @@ module _ (of : Signal) (tables : List Table) (rows : List MainRow) (accepted : A
   fine_one link known sound (inl is) named = attributes_fine link known sound is named
   fine_one link known sound (inr is) named = parts_fine link known sound is named
 
-  -- one table is passed over: those of the kinds after it stand behind it
+  -- one table is passed over: those of the kinds after it come after it
   abbrev pub Names : List Table → TableLink → Type 0
   Names ts link = table_named link.kind all ≡ table_named link.kind ts
 

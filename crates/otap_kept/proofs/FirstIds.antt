@@ -16,7 +16,7 @@ times_after : (n : ℕ) (xs ys : List (Option ℕ)) → times n (xs ++ ys) ≡ t
 times_after n [] ys = omega arith
 times_after n (x ∷ xs) ys = omega (arith, times_after n xs ys, times_more n x (xs ++ ys), times_more n x xs)
 
--- an id that isn't among others stands among them no time
+-- an id that isn't among others occurs 0 times among them
 not_there : (n : ℕ) (xs : List (Option ℕ)) → is_among xs n ≡ false → times n xs ≡ 0
 not_there n [] none = refl
 not_there n (x ∷ xs) none = elim (cases_Bool (id_is x (Some n))) [
@@ -81,7 +81,7 @@ one_at all [] are n within = absurd (omega arith)
 one_at all (id ∷ ids) are zero within = are.0
 one_at all (id ∷ ids) are (suc n) within = one_at all ids are.1 n (omega arith)
 
--- EACH PLACE among the first ids is the number of one of the ids
+-- EACH INDEX among the first ids is the number of one of the ids
 pub number_there : (ids : List (Option ℕ)) (n : ℕ) → n < length (first_ids ids) → (p : ℕ) × Contains ids (Some p) × (new_number (first_ids ids) (Some p) ≡ Some n)
 unfolding first_ids
 number_there ids n within =

@@ -62,7 +62,7 @@ two_fit (one ∷ two ∷ columns) (u ∷ v ∷ cells) x y fits wide a b = (a, (b
 -- ---- attributes
 
 module _ (kind : Kind) where
-  -- cells that fit behind a parent; behind an id and a parent
+  -- cells that fit after a parent; after an id and a parent
   abbrev pub FitBehindOne : List Cell → Type 0
   FitBehindOne cells = (x : Cell) → IsCellOf (base_at kind 0) x → IsRow (columns_of kind) (x ∷ cells)
 
@@ -103,7 +103,7 @@ module _ (kind : Kind) where
     each [] all = tt
     each (row ∷ rows) all = (λ n is. (all.0, numbers_low ids few row.parent n is), each rows all.1)
 
-  -- what holds of the cells behind the ids of a table's rows
+  -- what holds of the cells after the ids of a table's rows
   dropped : (Q : List Cell → Type 0) (f : ℕ) (rows : List (List Cell)) → ((row : ℕ) → row < length rows → Q (drop f (get_or rows row []))) → AllByRecursion Q (map (drop f) rows)
   dropped Q f [] all = tt
   dropped Q f (row ∷ rows) all = (all 0 (omega arith), dropped Q f rows (λ k within. all (suc k) (omega (arith, within))))

@@ -1,4 +1,4 @@
--- The kept rows tell the filter of what all rows tell.
+-- The telemetry of the kept rows is the filter of that of all rows.
 use Rattle.std.proofs.Common.{◌≡◌, ℕ, suc, Bool, List, [], ◌∷◌, Option, None, Some, map, refl, sym, ◌∙◌, ap, inl, inr}
 use Rattle.std.specs.Prelude.{filter}
 use Rattle.std.specs.List.{AllByRecursion}

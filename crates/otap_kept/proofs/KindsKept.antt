@@ -1,4 +1,4 @@
--- What is kept stands in the order of its signal's kinds, and has no more items than the batch.
+-- What is kept comes in the order of its signal's kinds, and has no more items than the batch.
 use Rattle.std.proofs.Common.{◌≡◌, ℕ, ◌≤◌, Bool, true, false, List, [], ◌∷◌, length, Option, map, refl, sym, ◌∙◌, ap, arith}
 use Rattle.std.specs.Prelude.{◌==◌, ◌||◌, filter, nat_lt, not}
 use Rattle.std.specs.List.{AllByRecursion}

@@ -1,4 +1,4 @@
--- New numbers tell ids apart, and each kept id has one.
+-- Different ids have different new numbers, and each kept id has one.
 use Rattle.std.proofs.Common.{◌≡◌, ℕ, zero, suc, ◌+◌, Bool, true, false, List, [], ◌∷◌, ◌++◌, get_or, Option, None, Some, refl, sym, ◌∙◌, ap, subst, inl, inr, arith}
 use Rattle.std.specs.Prelude.{if◌then◌else◌}
 use Rattle.std.proofs.lemmas.Bool.{cases_Bool, eqb-true, eq-eqb, false≢true}
@@ -9,7 +9,7 @@ use Rattle.otap_kept.specs.Numbers.{first_ids, first_ids_after, new_number, plac
 some_same : (m n : ℕ) → Some m ≡ Some n → m ≡ n
 some_same m n e = cc e
 
--- an id that is found stands at its place
+-- an id that is found is the one at its index
 hit : (other : Option ℕ) (id : ℕ) → id_is other (Some id) ≡ true → other ≡ Some id
 hit None id t = absurd (false≢true t)
 hit (Some n) id t = ap Some (eqb-true n id t)
@@ -30,7 +30,7 @@ found_at n (other ∷ ids) id k e = by (id_is other (Some id)) refl e (found_at 
   by true t e later = record { j = 0; is = (let s : Some n ≡ Some k = e in omega (arith, some_same n k s)); at = hit other id t }
   by false f e later = let more : StandsAt ids (suc n) id k = later e in record { j = suc more.j; is = omega (arith, more.is); at = more.at }
 
--- two ids have not one number
+-- two ids don't have the same number
 pub one_number : (ids : List (Option ℕ)) (p q k : ℕ) → new_number ids (Some p) ≡ Some k → new_number ids (Some q) ≡ Some k → p ≡ q
 one_number ids p q k a b =
     let x = found_at 0 ids p k a in
@@ -38,7 +38,7 @@ one_number ids p q k a b =
     let e : x.j ≡ y.j = omega (arith, x.is, y.is) in
     some_same p q (sym x.at ∙ ap (λ j. get_or ids j None) e ∙ y.at)
 
--- ids of which no two are equal; null may stand anywhere
+-- ids of which no two are equal; null may be anywhere
 abbrev pub AreApart : List (Option ℕ) → Type 0
 AreApart ids = (i j p : ℕ) → get_or ids i None ≡ Some p → get_or ids j None ≡ Some p → i ≡ j
 
@@ -52,11 +52,11 @@ placed_apart n (other ∷ ids) apart (suc k) p e =
       | inr f ↦ rw f (later ∙ ap Some (omega arith))
     ]
 
--- the number of an id that stands once is its place
+-- the number of an id that occurs once is its index
 pub number_at : (ids : List (Option ℕ)) → AreApart ids → (k p : ℕ) → get_or ids k None ≡ Some p → new_number ids (Some p) ≡ Some k
 number_at ids apart k p e = placed_apart 0 ids apart k p e ∙ ap Some (omega arith)
 
--- ---- ids at their first places
+-- ---- ids where they first occur
 
 abbrev pub is_among : List (Option ℕ) → ℕ → Bool
 is_among ids id = list_any (λ other. id_is other (Some id)) ids

@@ -1,4 +1,4 @@
--- Ids of which none stands twice are apart, and so are those of kept rows.
+-- Ids of which none occurs twice are apart, and so are those of kept rows.
 use Rattle.std.proofs.Common.{◌≡◌, ℕ, zero, suc, ◌+◌, ◌≤◌, Bool, true, List, [], ◌∷◌, get_or, Option, None, Some, map, refl, ◌∙◌, ap, inl, inr, arith}
 use Rattle.std.specs.Prelude.{nat_eq, nat_lt, filter, if◌then◌else◌}
 use Rattle.std.proofs.lemmas.Bool.{cases_Bool, eq-eqb}

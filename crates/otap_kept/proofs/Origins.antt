@@ -1,4 +1,4 @@
--- The cells of rows that are kept, behind their ids, are those of rows of the batch.
+-- The cells of rows that are kept, after their ids, are those of rows of the batch.
 use Rattle.std.proofs.Common.{◌≡◌, ℕ, zero, suc, ◌+◌, ◌-◌, ◌≤◌, ◌<◌, Bool, List, [], ◌∷◌, length, get_or, drop, Option, None, Some, map, refl, sym, ◌∙◌, ap, subst, inl, inr, arith}
 use Rattle.std.specs.Prelude.{Contains, filter}
 use Rattle.std.specs.List.{AllByRecursion, range_with_len}
@@ -105,7 +105,7 @@ own_there ids resources scopes rows = each_is (λ row. Contains (map (drop 9) ro
       let is : main_row_at ids resources scopes rows at.0 ≡ row = sym (get_or-map-range_with_len (main_row_at ids resources scopes rows) 0 (length rows) at.0 at.0 row within (omega arith)) ∙ at.2 in
       subst (λ (row : MainRow). Contains (map (drop 9) rows) row.own) is (dropped_there 9 rows at.0 within)
 
--- EACH ROW of a table comes from a row of another: behind so many columns it has its cells
+-- EACH ROW of a table comes from a row of another: after so many columns it has its cells
 pub record IsFrom (f : ℕ) (others : List (List Cell)) (cells : List Cell) : Type 0 where
   pub row : ℕ
   pub there : row < length others
@@ -154,7 +154,7 @@ below_come_from tables ids kind = elim (cases_Bool (has_attributes kind)) [
     t : Table
     t = table_named kind tables
 
--- ---- cells behind the ids
+-- ---- cells after the ids
 
 pub cell_behind : (f j column : ℕ) (cells : List Cell) → column ≡ f + j → get_or (drop f cells) j null ≡ get_or cells column null
 cell_behind zero j column cells is = ap (λ k. get_or cells k null) (omega (arith, is))

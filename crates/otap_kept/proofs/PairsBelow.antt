@@ -46,7 +46,7 @@ pairs_by_place ids t apart k =
 abbrev pub parts_before : {C D : Type 0} → (List Cell → D → C) → List (Option ℕ) → List ChildRow → (Option ℕ → D) → Option ℕ → List C
 parts_before part ids rows before = children (λ id cells. part cells (before id)) (part_rows numbered own_cells 0 (parts_under ids rows))
 
--- where what is below a part is found by its place, the parts of a place are those of the id that is there
+-- where what is below a part is found by its index, the parts below an index are those of the id that is there
 pub parts_by_place : {C D : Type 0} (part : List Cell → D → C) (ids : List (Option ℕ)) (rows : List ChildRow) (found before : Option ℕ → D) → AreApart ids
     → ((k : ℕ) → before (Some k) ≡ found (get_or (former_ids (parts_under ids rows)) k None)) → (k : ℕ)
     → parts_before part ids rows before (Some k) ≡ children (λ id cells. part cells (found id)) rows (get_or ids k None)
@@ -54,7 +54,7 @@ parts_by_place part ids rows found before apart below k =
     children_by_place (λ id cells. part cells (found id)) (λ id cells. part cells (before id)) numbered ids rows (parts_under ids rows)
     (λ n. parts_found ids n rows) (renews_by_place part found before (parts_under ids rows) below) apart k
 
--- items below which things are found by place are read again with their new numbers
+-- items below which things are found by index are read again with their new numbers
 pub renews_items : {I D : Type 0} (d d' e e' : Option ℕ → List Pair) (item : List Cell → D → I) (found before : Option ℕ → D) (n : ℕ) (rows : List MainRow)
     → ((k : ℕ) → before (Some (n + k)) ≡ found (get_or (own_ids rows) k None))
     → RenewsItems d d' e e' (λ id cells. item cells (found id)) (λ id cells. item cells (before id)) n rows

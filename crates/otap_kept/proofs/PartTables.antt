@@ -77,7 +77,7 @@ size_under : (ids : List (Option ℕ)) (rows : List ChildRow) → length (under 
 size_under ids [] = omega arith
 size_under ids (row ∷ rows) = omega (arith, size_if (new_number ids row.parent) row (under ids rows), size_under ids rows)
 
--- parts stand by parent, their parents have numbers, and they are no more than the rows
+-- parts come by parent, their parents have numbers, and they are no more than the rows
 pub parts_rising : (ids : List (Option ℕ)) (rows : List ChildRow) → RisingParts 0 (parts_under ids rows)
 unfolding parts_under
 parts_rising ids rows = rising_sorted (under ids rows)

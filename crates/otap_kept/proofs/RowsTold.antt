@@ -1,4 +1,4 @@
--- What groups of rows tell is told row by row: groups are only a way to write it.
+-- The telemetry of groups of rows is that of the rows, one by one: groups are only a way to write it.
 use Rattle.std.proofs.Common.{◌≡◌, ℕ, Bool, true, ◌&&◌, List, [], ◌∷◌, ◌++◌, Option, None, Some, map, refl, sym, ◌∙◌, ap, inl, inr}
 use Rattle.std.specs.List.{flat_map}
 use Rattle.std.proofs.lemmas.Bool.{cases_Bool, and_from, and_parts, eqb-true, false≢true}
@@ -12,7 +12,7 @@ use Rattle.otap_groups.specs.Runs.{before_runs, runs}
 use Rattle.otap_groups.specs.Groups.{item_of_row, regrouped, resource_at, resource_group, resource_of, resource_of_run, scope_at, scope_group, scope_of}
 use Rattle.otap_groups.proofs.CellTests.{cells_told}
 
--- what a row tells, where pairs of resources and of scopes and the items are found in these ways
+-- the entry of a row, where pairs of resources and of scopes and the items are found in these ways
 abbrev pub entry_of_row : {I : Type 0} → (Option ℕ → List Pair) → (Option ℕ → List Pair) → (Option ℕ → List Cell → I) → MainRow → ItemEntry I
 entry_of_row d e item row = item_entry (resource_at d row) (scope_at e row) (item_of_row item row)
 

@@ -26,11 +26,11 @@ entry_has whose.Resource pair entry = has pair entry.resource.pairs
 abbrev pub filtered : Whose → Pair → List (ItemEntry Item) → List (ItemEntry Item)
 filtered by pair entries = filter (entry_has by pair) entries
 
--- WHAT IS KEPT TELLS THE FILTER of what the tables tell
+-- THE TELEMETRY OF WHAT IS KEPT is the filter of that of the tables
 abbrev pub TellsFilter : Signal → Whose → Pair → List Table → Type 0
 TellsFilter of by pair tables =
     SameTelemetry (filtered by pair (telemetry (request_in of tables))) (telemetry (request_in of (kept of by pair tables)))
 
--- and is no heavier
+-- and it weighs no more
 abbrev pub IsNoHeavier : Signal → Whose → Pair → List Table → Type 0
 IsNoHeavier of by pair tables = weight_of (request_in of (kept of by pair tables)) ≤ weight_of (request_in of tables)

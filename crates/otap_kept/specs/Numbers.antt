@@ -3,12 +3,12 @@ use Rattle.std.specs.Prelude.{ℕ, suc, Bool, true, ◌&&◌, nat_le, if◌then�
 use Rattle.std.specs.List.{list_any}
 use Rattle.otap_groups.specs.Rows.{id_is}
 
--- the place of an id among ids, counted from a number on
+-- the index of an id among ids, counted from a number on
 abbrev pub place_from : ℕ → List (Option ℕ) → ℕ → Option ℕ
 place_from n [] id = None
 place_from n (other ∷ ids) id = if id_is other (Some id) then Some n else place_from (suc n) ids id
 
--- THE NEW NUMBER of an id: its place among the ids that are kept, in their new order. Null stays null
+-- THE NEW NUMBER of an id: its index among the ids that are kept, in their new order. Null stays null
 abbrev pub new_number : List (Option ℕ) → Option ℕ → Option ℕ
 new_number ids None = None
 new_number ids (Some id) = place_from 0 ids id

@@ -1,4 +1,4 @@
-//! What is kept, said of telemetry and of weights. The functions do nothing: their contracts are the laws.
+//! What is kept, in terms of telemetry and of weights. The functions do nothing: their contracts are the laws.
 ghost use Rattle.std.specs.Prelude.{◌≡◌, ◌≤◌, ◌||◌, true, All, List, filter, length, map, nat_lt};
 ghost use Rattle.otlp_model.specs.declared.request.Signal.{Signal};
 ghost use Rattle.otlp_model.specs.declared.value.Pair.{Pair};
@@ -15,7 +15,7 @@ ghost use Rattle.otap_kept.specs.Accepted.{AreAccepted};
 ghost use Rattle.otap_kept.specs.Filtered.{IsNoHeavier, TellsFilter};
 ghost use Rattle.otap_kept.specs.Kept.{is_ordered, kept};
 
-/// Law: where its new numbers don't fall, what is kept of the tables of a batch tells the filter of what they tell.
+/// Law: where its new numbers don't fall, the telemetry of what is kept of a batch is the filter of the batch's telemetry.
 pub fn what_is_kept_tells_the_filter()
     ensures { (of : Signal) (by : Whose) (pair : Pair) (tables : List Table) → AreAccepted of tables → is_ordered of by pair tables ≡ true
         → TellsFilter of by pair tables }

@@ -38,7 +38,7 @@ kinds_apart Logs = distinct (numbers (kinds_of Logs)) refl
 kinds_apart Traces = distinct (numbers (kinds_of Traces)) refl
 kinds_apart Metrics = distinct (numbers (kinds_of Metrics)) refl
 
--- the senders at two places have different kinds
+-- the senders at two indexes have different kinds
 pub apart : (signal : Signal) (senders : List SenderIn) (i j : ℕ) (d : SenderIn) → kinds_in senders ≡ kinds_of signal → i < length senders → j < length senders → i ≢ j
     → is_kind (get_or senders i d).writer.kind (get_or senders j d).writer.kind ≡ false
 apart signal senders i j d same low high differ = go (cases_lt i j)

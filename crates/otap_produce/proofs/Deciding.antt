@@ -101,7 +101,7 @@ messages_alike rows requests messages others one other =
     all_alike [] [] [] (flat_map rows.tables requests) (flat_map payloads_in messages) (flat_map payloads_in others) (record { ids = λ type. refl; count = refl })
     (all_payloads rows [] [] requests messages one) (all_payloads rows [] [] requests others other)
 
--- ---- what an exporter stands for
+-- ---- the requests and messages that lead to an exporter's state
 
 sent_alike : (tables : List Table) (past past' : List PayloadIn) (s : SenderIn) → LookAlike past past' → HasSentTables tables past s → HasSentTables tables past' s
 sent_alike tables past past' s alike has = record {

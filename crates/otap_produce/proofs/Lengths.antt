@@ -1,4 +1,4 @@
--- How long the spelling of a batch is at most.
+-- How long the canonical spelling of a batch is at most.
 use Rattle.std.proofs.Common.{ℕ, ◌+◌, ◌*◌, ◌<◌, ◌≤◌, ◌^◌, Bool, true, false, List, [], ◌∷◌, ◌++◌, length, ℤ, ap, arith, append-nil, length-append}
 use Rattle.std.specs.Prelude.{map, FitsSigned, ◌==◌, if◌then◌else◌}
 use Rattle.std.specs.Int.{w64, cast_unsigned}

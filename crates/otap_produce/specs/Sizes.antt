@@ -1,4 +1,4 @@
--- How long messages may be: words of private contracts.
+-- How long messages may be: used in private contracts.
 use Rattle.std.specs.Prelude.{ℕ, ◌+◌, ◌*◌, List, [], ◌∷◌, length}
 use Rattle.lists.specs.Payloads.{PayloadIn}
 use Rattle.otap_cells.specs.Tables.{Table}

@@ -26,8 +26,8 @@ use std::alloc::{AllocError, Global};
 use std::marker::Model;
 
 /// An exporter of the requests of a signal. Of a segment it keeps what decides the next messages: the columns and dictionaries
-/// of each kind of table, and the schema ids. A contract sees this state, and `StandsFor` ties it to the requests and messages.
-/// It stands for its requests with all messages that the policy allows for them
+/// of each kind of table, and the schema ids. A contract sees this state, and `StandsFor` says after which requests and messages
+/// an exporter has it. For the same requests it is one state after all messages that the policy allows
 /// ([`stands_for_all_messages`](crate::laws::stands_for_all_messages)).
 #[derive(Debug, Drop)]
 pub struct Exporter {

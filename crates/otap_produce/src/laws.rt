@@ -6,8 +6,8 @@ ghost use Rattle.otap_produce.specs.Exporters.{ExporterIn, StandsFor};
 ghost use Rattle.otap_signals.specs.Meanings.{SignalRows};
 ghost use Rattle.otap_produce.specs.Policy.{Policy};
 
-/// The policy decides the schema ids. So an exporter that stands for requests with some messages stands for them with every list
-/// of messages that the policy allows.
+/// The policy decides the schema ids. So the state of an exporter after requests and some messages is also its state after these
+/// requests and every list of messages that the policy allows for them.
 pub fn stands_for_all_messages()
     ensures { (rows : SignalRows) (requests : List Request) (messages others : List (List ℕ)) (exporter : ExporterIn) → StandsFor rows requests messages exporter
         → Policy rows requests others → StandsFor rows requests others exporter }

@@ -143,7 +143,7 @@ fn begin_anew(alloc: Global, senders: &mut [Sender])
     }
 }
 
-/// The place of the sender of a kind.
+/// The index of the sender of a kind.
 fn place_of(senders: &[Sender], kind: Kind) -> usize
     requires { Contains (kinds_in senders.now) kind }
     ensures inside { result < length senders.now }

@@ -1,4 +1,4 @@
--- Each number is where it belongs: among those that wait, were done or were given up; and each id is a place.
+-- Each number is where it belongs: among those that wait, were done or were given up; and each id is an index.
 use Rattle.std.proofs.Common.{◌≡◌, ◌⊎◌, inl, inr, ℕ, zero, suc, ◌+◌, ◌<◌, Bool, true, false, List, [], ◌∷◌, ◌++◌, length, Option, Some, None, refl, sym, ap, ◌∙◌, arith}
 use Rattle.std.specs.Prelude.{◌==◌, cond, nat_lt, if◌then◌else◌, map, find, slice_get, IfSome}
 use Rattle.std.specs.List.{AllByRecursion}
@@ -115,7 +115,7 @@ module _ (rows : SignalRows) (s : State) where
   accounted _ _ (turns.resend_out_of_memory w sound found) so = so
   accounted _ _ (turns.resends w message sound found is) so = λ n. ap (λ t. t + (times n s.done + times n s.given_up)) (times-written n (length s.written) s.unanswered) ∙ so n
 
--- ---- places
+-- ---- indexes
 
 pub get-last : {A : Type 0} (xs : List A) (x : A) → slice_get (xs ++ x ∷ []) (length xs) ≡ Some x
 get-last [] x = refl
@@ -153,7 +153,7 @@ all-unwritten : (written : List Request) (ws : List Unanswered) → AllByRecursi
 all-unwritten written [] = tt
 all-unwritten written (w ∷ ws) = (tt, all-unwritten written ws)
 
--- the first that wasn't written gets the place of its own request
+-- the first that wasn't written gets the index of its own request
 all-written : (written : List Request) (q : Request) (w : Unanswered) (ws : List Unanswered) → find is_unwritten ws ≡ Some w → w.request ≡ q → AllByRecursion (IsPlaced written) ws
     → AllByRecursion (IsPlaced (written ++ q ∷ [])) (with_first_written (length written) ws)
 all-written written q w [] found same all = tt

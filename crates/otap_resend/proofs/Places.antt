@@ -1,4 +1,4 @@
--- The first unanswered request that passes a test, by its place.
+-- The first unanswered request that passes a test, by its index.
 use Rattle.std.proofs.Common.{◌≡◌, ◌⊎◌, inl, inr, ℕ, zero, suc, ◌+◌, ◌<◌, ◌≤◌, Bool, true, false, List, [], ◌∷◌, length, set, Option, Some, None, refl, sym, ap, ◌∙◌, arith}
 use Rattle.std.specs.Prelude.{find, position, remove, is_some, slice_get, slice_index_or, nat_lt}
 use Rattle.std.specs.List.{position_or_len}
@@ -10,7 +10,7 @@ use Rattle.otap_resend.specs.States.{is_unwritten, without_first, with_first_wri
 plus_one : (n : ℕ) → 1 + n ≡ suc n
 plus_one n = omega arith
 
--- what is at the first place is taken away
+-- what is at the first index is taken away
 without_at : (p : Unanswered → Bool) (ws : List Unanswered) → remove ws (position_or_len p ws) ≡ without_first p ws
 without_at p [] = refl
 without_at p (w ∷ ws) = by (cases_Bool (p w)) (without_at p ws)

@@ -31,7 +31,7 @@ laid_after_any before past others (t ∷ ts) [] laid = absurd laid
 laid_after_any before past others (t ∷ ts) (p ∷ ps) laid =
     (laid.0, laid_after_any (before ++ t ∷ []) (past ++ p ∷ []) (others ++ p ∷ []) ts ps laid.1)
 
--- after the exporter's refusal the exporter alone may be another one
+-- a refusal of the exporter changes at most the exporter
 pub after_encode : (old : ResenderIn) (e : ExporterIn) (refusal : ProduceRefusal) → exporters.AfterRefusal refusal old.exporter e → e.signal ≡ old.exporter.signal
     → AfterRefusal (not_sent (refusal_of refusal)) old (record old { exporter = e })
 after_encode old e produce.Broken is signal = ap (λ (x : ExporterIn). record old { exporter = x }) is

@@ -1,4 +1,4 @@
--- What is true of the fields of a resending exporter, and words of private contracts.
+-- What is true of the fields of a resending exporter, and definitions of private contracts.
 use Rattle.std.specs.Prelude.{◌≡◌, ◌≤◌, ◌<◌, ◌+◌, ◌^◌, ℕ, true, false, List, length, count_by, find, Some}
 use Rattle.std.specs.List.{AllByRecursion}
 use Rattle.otap_signals.specs.Meanings.{SignalRows}

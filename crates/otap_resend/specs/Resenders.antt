@@ -20,7 +20,7 @@ pub record ResenderIn : Type 0 where
   pub sent : ℕ
   pub exporter : ExporterIn
 
--- A RESENDER OF A SIGNAL HAS A STATE: it keeps what is in it, and until memory runs out its exporter stands for the requests that
+-- A RESENDER OF A SIGNAL HAS A STATE: it keeps what is in it, and until memory runs out its exporter is one after the requests that
 -- were written since the last reset
 pub record HasState (rows : SignalRows) (s : State) (r : ResenderIn) : Type 0 where
   pub signal : r.exporter.signal ≡ rows.signal
@@ -63,7 +63,7 @@ outcome_of (answered.GivenUp number request) = GivenUp number request
 outcome_of (answered.Kept number) = Kept number
 outcome_of answered.Unknown = Unknown
 
--- after a refusal all is as before; where memory ran out the resender is broken, and its exporter alone is another one, of the
+-- after a refusal all is as before; where memory ran out the resender is broken, and only its exporter may have changed, of the
 -- same signal
 pub record IsBroken (old new : ResenderIn) : Type 0 where
   pub broken : new.exporter.broken ≡ true

@@ -32,14 +32,14 @@ impl Unanswered {
     }
 }
 
-/// The place of the first request that was written with the id.
+/// The index of the first request that was written with the id.
 pub(crate) fn place_with_id(requests: &[Unanswered], id: i64) -> Option<usize>
     ensures { result ≡ position (has_id id) requests.now }
 {
     requests.iter().position(|request| request.has_id(id))
 }
 
-/// The place of the first request that wasn't written since the last reset.
+/// The index of the first request that wasn't written since the last reset.
 pub(crate) fn place_unwritten(requests: &[Unanswered]) -> Option<usize>
     ensures { result ≡ position is_unwritten requests.now }
 {

@@ -1,4 +1,4 @@
--- Payloads of which the far end finds all that it looks for are accepted, and their tables read as those that were written.
+-- Payloads in which the far end finds all that it checks are accepted, and their tables read as those that were written.
 use Rattle.std.proofs.Common.{◌≡◌, ℕ, ◌+◌, ◌≤◌, false, List, [], ◌∷◌, ◌++◌, length, Option, Some, ℤ, inl, inr, refl, sym, ap, ◌∙◌, subst, append-nil, append_assoc, arith}
 use Rattle.std.specs.Prelude.{count_by, sum_by}
 use Rattle.std.specs.List.{AllByRecursion, filter_map}
@@ -110,7 +110,7 @@ module _ (signal : Signal) where
   none_later : (t : Table) (ts : List Table) → ((kind : Kind) → count_by (λ u. is_kind u.kind kind) (t ∷ ts) ≤ 1) → count_by (λ u. is_kind u.kind t.kind) ts ≡ 0
   none_later t ts once = omega (arith, once t.kind, count_hit (λ (u : Table). is_kind u.kind t.kind) t ts (is_itself t.kind))
 
-  -- the table that a payload stands for after all payloads of its batch
+  -- the table of a payload after all payloads of its batch
   table_is : (before : List Table) (past : List PayloadIn) (t : Table) (p : PayloadIn) (later : List PayloadIn) → (r : Reaches signal before past t p) → times (payload_type_of t.kind) later ≡ 0
       → table_of signal (past ++ p ∷ later) p ≡ Some r.table
   table_is before past t p later r none =

@@ -1,4 +1,4 @@
--- A payload that is read as a table stands for one that reads as it.
+-- A payload that is read as a table: its cells and ids read as those of the table that was written.
 use Rattle.std.proofs.Common.{◌≡◌, ℕ, Bool, List, [], ◌∷◌, drop, Option, None, Some, refl, sym, ap, ◌∙◌, subst}
 use Rattle.lists.specs.Payloads.{PayloadIn}
 use Rattle.otap_cells.specs.declared.profile.Coding.{Coding}
@@ -10,7 +10,7 @@ use Rattle.otap_cells.specs.Ids.{Ids, IdsAfter}
 use Rattle.otap_cells.specs.Tables.{Table, greatest_in, greatest_wide}
 use Rattle.otap_columns.specs.WrittenPayloads.{IsReadAs, IsWritableTable}
 
--- numbers stand for one list of ids, however great these may be
+-- numbers give one list of ids, however great these may be
 one_list : (how : Coding) (last most before : ℕ) (rows : List Bool) (ns xs ys : List (Option ℕ)) → IdsAfter how last before rows ns xs → IdsAfter how most before rows ns ys → xs ≡ ys
 one_list how last most before rows [] [] [] a b = refl
 one_list how last most before rows (None ∷ ns) (None ∷ xs) (None ∷ ys) a b = ap (λ ids. None ∷ ids) (one_list how last most before (drop 1 rows) ns xs ys a.1 b.1)

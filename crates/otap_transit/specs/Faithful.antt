@@ -1,4 +1,4 @@
--- What ties the tables that requests are written as to what such tables mean.
+-- How the tables of requests agree with what such tables mean.
 use Rattle.std.specs.Prelude.{◌≡◌, ◌≤◌, List, length}
 use Rattle.otlp_model.specs.Limits.{weight_limit}
 use Rattle.otlp_model.specs.Same.{Same}

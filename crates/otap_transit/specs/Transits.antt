@@ -15,7 +15,7 @@ use Rattle.otap_consume.specs.Receiving.{IsInFormat}
 abbrev pub payloads_in_all : List (List ℕ) → List PayloadIn
 payloads_in_all messages = flat_map payloads_in messages
 
--- the tables that a message stands for, after the messages of its segment before it
+-- the tables of a message, after the messages of its segment before it
 abbrev pub tables_after : Meaning → List (List ℕ) → List ℕ → List Table
 tables_after m messages message = tables_of m.signal (payloads_in_all messages) (payloads_in message)
 

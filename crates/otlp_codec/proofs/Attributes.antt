@@ -1,4 +1,4 @@
--- The law of attribute lists and of values that stand in no array and no key-value list.
+-- The law of attribute lists and of values that are in no array and no key-value list.
 use Rattle.std.proofs.Common.{◌≡◌, ℕ, List, [], map, true, refl}
 use Rattle.std.specs.Prelude.{nat_lt}
 use Rattle.std.specs.List.{All}

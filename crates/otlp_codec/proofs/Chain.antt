@@ -32,7 +32,7 @@ fold-append : {R : Type 0} (step : R → Entry → R) (r : R) (fs gs : List Entr
 fold-append step r [] gs = refl
 fold-append step r (f ∷ fs) gs = fold-append step (step r f) fs gs
 
--- the values of one field are heard by one part of the record
+-- one part of the record reads the values of one field
 heard : {R A : Type 0} (step : R → Entry → R) (n : ℕ) (read : A → FieldValue → A) (set : A → R → R) (old : R)
     → ((a : A) (v : FieldValue) → step (set a old) (record { number = n; value = v }) ≡ set (read a v) old)
     → (a : A) (vs : List FieldValue) → fold step (set a old) (entries_of (row n vs)) ≡ set (fold read a vs) old

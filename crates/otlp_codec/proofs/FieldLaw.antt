@@ -123,7 +123,7 @@ embedded_held m n item read write {none = none} {x = x} is low law empty light =
   bound = λ few. omega (arith, law.bound few, few, ltb-true _ _ light, bytes_short n (write x) low (omega (arith, law.bound few, few, ltb-true _ _ light)));
 }
 
--- a message of little weight is spelled in few bytes: eight for each unit, and e more
+-- a message of little weight is written in few bytes: eight for each unit, and e more
 pub record IsShortFor {A : Type 0} (write : A → List ℕ) (weigh : A → ℕ) (e : ℕ) (x : A) : Type 0 where
   pub at : weigh x ≤ weight_limit → length (write x) ≤ 8 * weigh x + e
 

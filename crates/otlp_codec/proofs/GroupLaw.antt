@@ -28,7 +28,7 @@ use Rattle.otlp_codec.proofs.Chain.{Held, Law, under, last, also, law_of}
 use Rattle.otlp_codec.proofs.FieldLaw.{uint32_held, text_held, embedded_held, many_held}
 use Rattle.otlp_codec.proofs.Attributes.{pairs_held}
 
--- the schema url stands in the group, so the resource is taken without it
+-- the schema url is a field of the group, so the resource is taken without it
 resource_law : (x : Resource) → IsRealResource x
     → Law (IsProfileResource x) messages.Resource level_limit (resource_in []) (λ r. canon (resource_rows r)) (record x { schema_url = [] }) (weight_of_resource (record x { schema_url = [] })) 12
 resource_law x real =

@@ -15,7 +15,7 @@ use Rattle.otlp_codec.specs.declared.refusal.ReadRefusal.TheVariants.{BadMessage
 use Rattle.otlp_codec.specs.Refusals.{HoldsNamed}
 use Rattle.otlp_codec.specs.PartRefusals.{Refuses, RefusesValue}
 
--- what is read so far, and what is left; no defect stands in the fields that are read
+-- what is read so far, and what is left; the fields that are read have no defect
 pub record PassesFields {A : Type 0} (message : Message) (levels : ℕ) (step : A → Entry → A) (none : A) (bytes : List ℕ) (seen : List Bool) (rest : List ℕ) (now : A) : Type 0 where
   pub checked : Checked message levels bytes seen rest
   pub read : fold step now (fields_of rest) ≡ fold step none (fields_of bytes)

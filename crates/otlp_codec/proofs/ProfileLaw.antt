@@ -51,7 +51,7 @@ embedded_kept P read each old (wire.Fixed32 n) p = p
 all_said : {A : Type 0} (P : A → Type 0) (read : List ℕ → A) → ((part : List ℕ) → P (read part)) → (n : ℕ) (bytes : List ℕ) → All P (said n (many_in read) [] bytes)
 all_said P read each n bytes = fold_keeps (All P) (many_in read) (λ old v p. many_kept P (λ v. ⊤) read (λ part _. each part) old v p tt) [] (only n (fields_of bytes)) (All-nil P)
 
--- the messages of a repeated field, where no defect stands
+-- the messages of a repeated field, in bytes without a defect
 pub each_said : {A : Type 0} (P : A → Type 0) (m : Message) (n : ℕ) (read : List ℕ → A) → ((part : List ℕ) → FinePart (kind_of m n) level_limit part → P (read part))
     → (bytes : List ℕ) → IsFine m level_limit bytes → Each P (said n (many_in read) [] bytes)
 each_said P m n read each bytes fine = record {
@@ -165,7 +165,7 @@ any_deep n array pairs members few bytes = fold_keeps (Shallow n) (any_in array 
 value_deep : (n : ℕ) (read : List ℕ → Value) → ((part : List ℕ) → Shallow n (read part)) → (k : ℕ) (bytes : List ℕ) → Shallow n (said k (embedded_in read) values.Empty bytes)
 value_deep n read each k bytes = fold_keeps (Shallow n) (embedded_in read) (embedded_kept (Shallow n) read each) values.Empty (only k (fields_of bytes)) (no_depth n)
 
--- a value below whose members this number of levels of members may stand
+-- a value below which this number of levels of members may be
 pub deep_at : (l : ℕ) (bytes : List ℕ) → depth_of (any_value_at l bytes) ≤ l + 1
 unfolding any_value_at Shallow
 deep_at zero bytes = any_deep 0 (λ part. []) (λ part. []) (λ part. All-nil (λ v. depth_of v ≤ 0)) (λ part. All-nil (λ p. depth_of_pair p ≤ 0)) bytes

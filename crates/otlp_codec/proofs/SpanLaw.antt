@@ -57,7 +57,7 @@ status_law x real =
     (also (λ a r. record r { code = a }) (int32_held m 3 x.status_code refl refl real.status_code) refl (λ a v. refl) last))
     status_passes refl refl (omega arith) (omega arith)
 
--- the status, whose parts stand in the span
+-- the status, whose parts are in the span
 status_heard : (old : Span) (a : SpanStatus) (v : FieldValue)
     → span_step (record old { status_message = a.message; status_code = a.code }) (record { number = 15; value = v })
     ≡ record old { status_message = (embedded_in span_status_in a v).message; status_code = (embedded_in span_status_in a v).code }

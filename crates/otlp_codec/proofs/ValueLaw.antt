@@ -34,7 +34,7 @@ use Rattle.otlp_codec.proofs.Folded.{value_is}
 use Rattle.otlp_codec.proofs.Lists.{tests_from, all_both, below_greatest}
 use Rattle.otlp_codec.proofs.Returning.{Returns, repeated_returns, in_row}
 
--- so deep that this number of levels of members may stand below
+-- so deep that this number of levels of members may be below
 pub record ValueReturns (v : Value) : Type 0 where
   pub at : (l : ℕ) → is_real_value v ≡ true → depth_of v ≤ l + 1 → Returns messages.AnyValue l (any_value_at l) canon_value v
 

@@ -17,7 +17,7 @@ value_in = any_value_at level_limit
 abbrev pub pair_in : List ℕ → Pair
 pair_in = key_value_at level_limit
 
--- Resource; its schema url stands in the group
+-- Resource; its schema url is a field of the group
 abbrev pub resource_in : List ℕ → List ℕ → Resource
 resource_in schema_url bytes = record {
   schema_url = schema_url;
@@ -25,7 +25,7 @@ resource_in schema_url bytes = record {
   pairs = said 1 (many_in pair_in) [] bytes;
 }
 
--- InstrumentationScope; its schema url stands in the group
+-- InstrumentationScope; its schema url is a field of the group
 abbrev pub scope_in : List ℕ → List ℕ → Scope
 scope_in schema_url bytes = record {
   schema_url = schema_url;

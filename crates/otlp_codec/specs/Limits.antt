@@ -2,7 +2,7 @@
 use Rattle.std.specs.Prelude.{ℕ, ◌-◌, ◌*◌}
 use Rattle.otlp_model.specs.Limits.{depth_limit, weight_limit}
 
--- how many levels of members may stand below a value that is in no array and no key-value list
+-- how many levels of members may be below a value that is in no array and no key-value list
 abbrev pub level_limit : ℕ
 level_limit = depth_limit - 1
 

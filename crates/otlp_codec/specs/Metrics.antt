@@ -59,7 +59,7 @@ abbrev pub summary_shape_in : Shape → FieldValue → Shape
 summary_shape_in old (wire.Bytes part) = shapes.Summary (summary_in part)
 summary_shape_in old value = old
 
--- the oneof, a line for each member: the member that stands there
+-- the oneof, a line for each member: the member that is there
 abbrev pub shape_step : Shape → Entry → Shape
 shape_step old f =
     at 5 gauge_shape_in

@@ -1,5 +1,5 @@
 -- The numbers of points and exemplars: a oneof of a double and an integer (OTLP, metrics.proto). Its
--- members stand in two fields, between which others may stand, so each is read and written by itself.
+-- members are two fields, between which others may come, so each is read and written by itself.
 use Rattle.std.specs.Prelude.{ℕ, List, [], ◌∷◌, fold}
 use Rattle.std.specs.Int.{w64, cast_signed, cast_unsigned}
 use Rattle.otlp_wire.specs.Wire as wire
@@ -18,7 +18,7 @@ abbrev pub int_in : Number → FieldValue → Number
 int_in old (wire.Fixed64 bits) = Int (cast_signed w64 bits)
 int_in old value = old
 
--- the number, whose members have these field numbers: the member that stands there
+-- the number, whose members have these field numbers: the member that is there
 abbrev pub number_step : ℕ → ℕ → Number → Entry → Number
 number_step double int old f = at int int_in (at double double_in old f) f
 

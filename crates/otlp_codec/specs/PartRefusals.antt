@@ -8,7 +8,7 @@ use Rattle.otlp_messages.specs.Inside.{ValueStands}
 use Rattle.otlp_codec.specs.declared.refusal.ReadRefusal.{ReadRefusal}
 use Rattle.otlp_codec.specs.Refusals.{HoldsNamed}
 
--- the defect that is named stands in the bytes
+-- the defect that is named is in the bytes
 abbrev pub Refuses : Message → ℕ → List ℕ → ReadRefusal → Type 0
 Refuses message levels bytes refusal = HoldsNamed refusal (Stands message levels bytes)
 

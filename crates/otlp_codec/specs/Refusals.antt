@@ -14,7 +14,7 @@ refusal_of defect.BadLength = BadLength
 refusal_of defect.Unsupported = Unsupported
 refusal_of defect.TooDeep = TooDeep
 
--- what a refusal names is so, and want of memory says nothing
+-- what a refusal names is true; running out of memory names nothing
 abbrev pub HoldsNamed : ReadRefusal → (Defect → Type 0) → Type 0
 HoldsNamed BadMessage IsSo = IsSo defect.BadMessage
 HoldsNamed Repeated IsSo = IsSo defect.Repeated

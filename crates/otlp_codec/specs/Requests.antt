@@ -31,11 +31,11 @@ request_in signals.Traces bytes = requests.Traces (groups_in span_in bytes)
 request_in signals.Logs bytes = requests.Logs (groups_in log_record_in bytes)
 request_in signals.Metrics bytes = requests.Metrics (groups_in metric_in bytes)
 
--- the defect stands in the bytes of a request
+-- the defect is in the bytes of a request
 abbrev pub Stands : Signal → List ℕ → Defect → Type 0
 Stands signal bytes defect = defects.Stands (request_message signal) level_limit bytes defect
 
--- the bytes say the request, and no defect stands in them
+-- the bytes say the request, and have no defect
 abbrev pub Reads : Signal → List ℕ → Request → Type 0
 Reads signal bytes request = IsFine (request_message signal) level_limit bytes × (request ≡ request_in signal bytes)
 

@@ -59,6 +59,6 @@ span_in bytes = record {
   flags = said 16 fixed32_in 0 bytes;
 }
 
--- the status, whose parts stand in the span
+-- the status, whose parts are in the span
 abbrev pub span_status_of : Span → SpanStatus
 span_status_of span = record { message = span.status_message; code = span.status_code }

@@ -15,7 +15,7 @@ use Rattle.otlp_model.specs.declared.logs.LogRecord.{LogRecord}
 use Rattle.otlp_codec.specs.Values.{any_value_at, key_value_at, members_of}
 use Rattle.otlp_codec.specs.Groups.{value_in, pair_in, resource_in, scope_in, scope_group_in, resource_group_in}
 
--- what an array and a key-value list say, below which this number of levels of members may stand
+-- what an array and a key-value list say, below which this number of levels of members may be
 unfoldable pub array_at : ℕ → List ℕ → List Value
 array_at zero bytes = []
 array_at (suc levels) bytes = members_of (any_value_at levels) bytes
@@ -33,7 +33,7 @@ pair_step levels old f = record {
   value = at 2 (embedded_in (any_value_at levels)) old.value f;
 }
 
--- at level 0 no member may stand
+-- at level 0 there may be no member
 abbrev pub array_step : ℕ → List Value → Entry → List Value
 array_step zero old f = old
 array_step (suc levels) old f = at 1 (many_in (any_value_at levels)) old f
@@ -64,7 +64,7 @@ scope_step old f = record {
   pairs = at 3 (many_in pair_in) old.pairs f;
 }
 
--- a scope and its schema url, which stand in two fields of the group
+-- a scope and its schema url, which are two fields of the group
 abbrev pub scope_part_in : Scope → FieldValue → Scope
 scope_part_in old (wire.Bytes part) = scope_in old.schema_url part
 scope_part_in old value = old

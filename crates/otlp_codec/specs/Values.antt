@@ -38,7 +38,7 @@ abbrev pub bytes_value_in : Value → FieldValue → Value
 bytes_value_in old (wire.Bytes part) = Bytes part
 bytes_value_in old value = old
 
--- AnyValue, a line for each member: the member that stands there
+-- AnyValue, a line for each member: the member that is there
 abbrev pub any_in : (List ℕ → List Value) → (List ℕ → List Pair) → Value → Entry → Value
 any_in array map old f =
     at 1 string_in
@@ -63,7 +63,7 @@ pair_of value bytes = record {
 abbrev pub members_of : {A : Type 0} → (List ℕ → A) → List ℕ → List A
 members_of member bytes = said 1 (many_in member) [] bytes
 
--- what an AnyValue says below whose members this number of levels of members may stand
+-- what an AnyValue says below which this number of levels of members may be
 unfoldable pub any_value_at : ℕ → List ℕ → Value
 any_value_at zero = any_of (λ part. []) (λ part. [])
 any_value_at (suc levels) = any_of (members_of (any_value_at levels)) (members_of (pair_of (any_value_at levels)))

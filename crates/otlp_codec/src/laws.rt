@@ -24,7 +24,7 @@ pub fn one_reading()
     ensures { (signal : Signal) (bytes : List ℕ) (q r : Request) → Reads signal bytes q → Reads signal bytes r → q ≡ r }
 {}
 
-/// Bytes say a request exactly where no defect stands in them.
+/// Bytes say a request exactly where they have no defect.
 pub fn some_reading()
     ensures some { (signal : Signal) (bytes : List ℕ) → ((e : Defect) → Stands signal bytes e → ⊥) → (q : Request) × Reads signal bytes q }
     ensures none { (signal : Signal) (bytes : List ℕ) (q : Request) (e : Defect) → Reads signal bytes q → Stands signal bytes e → ⊥ }

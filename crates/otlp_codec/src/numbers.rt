@@ -156,7 +156,7 @@ pub(crate) fn write_packed(
     ensures err { OnErr result (KeepsEnd to.old to.new) }
     ensures real { OnOk result (Each (λ value. value < 2 ^ 64) values.now) }
 {
-    // The variable tells the proof that each number fits its type.
+    // The variable shows the proof that each number fits its type.
     let values = values.as_slice();
     to.put_packed64_row(number, values)
 }

@@ -22,10 +22,10 @@ use otlp_model::{Items, MAX_DEPTH, Pair, Value};
 use otlp_wire::{Field, Fields, Wire};
 use std::alloc::Global;
 
-/// How many levels of members may stand below a value that is in no array and no key-value list.
+/// How many levels of members may be below a value that is in no array and no key-value list.
 pub(crate) const LEVELS: u8 = MAX_DEPTH as u8 - 1;
 
-/// Room for this number of attributes is found when the first one is read.
+/// Room for this number of attributes is reserved when the first one is read.
 const FIRST_PAIRS: usize = 8;
 
 /// A message of which each field is read over what was read before.
@@ -157,7 +157,7 @@ pub(crate) fn take_pairs(
     Ok(())
 }
 
-/// Reads a value that stands in no array and no key-value list.
+/// Reads a value that is in no array and no key-value list.
 #[inline]
 pub(crate) fn take_value(alloc: Global, to: &mut Value, value: &Wire<'_>) -> Result<(), ReadRefusal>
     ensures ok { OnOk result (to.new ≡ embedded_in value_in to.old (value_of value.now)) }

@@ -6,7 +6,7 @@ use otlp_messages::Defect;
 use std::alloc::AllocError;
 use thiserror::Error;
 
-/// Why bytes are not read as a request. Where several of these stand in the bytes, any of them may be
+/// Why bytes are not read as a request. Where several of these are in the bytes, any of them may be
 /// named.
 #[derive(Debug, Drop, Error)]
 pub enum ReadRefusal {
@@ -26,7 +26,7 @@ pub enum ReadRefusal {
     /// A shape of metric occurs that is left out.
     #[error("a message occurs that is not supported")]
     Unsupported,
-    /// A member of an array or of a key-value list stands inside 32 of them.
+    /// A member of an array or of a key-value list is inside 32 of them.
     #[error("a value is nested too deep")]
     TooDeep,
     /// Memory ran out.

@@ -18,7 +18,7 @@ use otlp_model::{Items, Octets, Pair, Text, Value};
 use otlp_wire::{Field, Fields, Wire};
 use std::alloc::Global;
 
-/// Reads an `AnyValue` into an empty one. Below its members `levels` levels of members may stand.
+/// Reads an `AnyValue` into an empty one. At most `levels` levels of members may be below it.
 #[cycle(value)]
 pub(crate) fn fill_value(
     alloc: Global,

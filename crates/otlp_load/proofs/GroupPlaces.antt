@@ -1,4 +1,4 @@
--- What is made for one place after the other, and the places of a group.
+-- What is made for one index after the other, and the indices of a group.
 use Rattle.std.proofs.Common.{◌≡◌, ◌≢◌, ℕ, ◌+◌, ◌%◌, List, [], ◌∷◌, ◌++◌, refl, ap, zero-add, append-nil}
 use Rattle.std.specs.Prelude.{◌==◌, map, if◌then◌else◌}
 use Rattle.std.specs.List.{range_with_len}
@@ -24,7 +24,7 @@ pub no_places : (g : ℕ) → places_below 0 g ≡ []
 unfolding places_below
 no_places g = refl
 
--- what is made for each place of a group, where the next place is one of the group
+-- what is made for each index of a group, where the next index is one of the group
 pub made_for_one : {X : Type 0} (f : ℕ → X) (g k : ℕ) (made : List X) → made ≡ map f (places_below k g) → k % 3 ≡ g
     → made ++ f k ∷ [] ≡ map f (places_below (k + 1) g)
 made_for_one f g k made so_far here =

@@ -16,7 +16,7 @@ is_of_signal signals.Traces r = refl
 is_of_signal signals.Logs r = refl
 is_of_signal signals.Metrics r = refl
 
--- a place stands in one of the three groups
+-- an index is in one of the three groups
 one_group : (m k : ℕ) → m < 3
     → length (if m == 0 then k ∷ [] else []) + length (if m == 1 then k ∷ [] else []) + length (if m == 2 then k ∷ [] else []) ≡ 1
 one_group zero k below = refl

@@ -1,4 +1,4 @@
--- The items of the load, by their numbers: item `number` stands in request r. What isn't told of an item is absent or 0.
+-- The items of the load, by their numbers: item `number` is in request r. What isn't given for an item is absent or 0.
 use Rattle.std.specs.Prelude.{ℕ, ◌+◌, ◌*◌, ◌%◌, ◌==◌, true, List, [], ◌∷◌, ◌++◌, codes, pos, if◌then◌else◌}
 use Rattle.std.specs.Int.{w64, to_be_bytes}
 use Rattle.otlp_load.specs.Pairs.{numbered_text, double_bits, pairs_of}

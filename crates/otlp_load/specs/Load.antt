@@ -1,4 +1,4 @@
--- The load: a request of any signal for each number r. It has 8,192 items, of which the one at the place k has the number
+-- The load: a request of any signal for each number r. It has 8,192 items, of which the one at the index k has the number
 -- 8192 r + k, in three groups.
 use Rattle.std.specs.Prelude.{ℕ, ◌+◌, ◌*◌, ◌%◌, ◌==◌, List, [], ◌∷◌, map, filter, codes, pos}
 use Rattle.std.specs.List.{range_with_len}
@@ -16,11 +16,11 @@ use Rattle.otlp_model.specs.declared.request.Request.TheVariants.{Traces, Logs, 
 use Rattle.otlp_model.specs.declared.request.Signal.{Signal}
 use Rattle.otlp_model.specs.declared.request.Signal.TheVariants as signals
 
--- the number of the item at the place k of request r
+-- the number of the item at the index k of request r
 abbrev pub item_number : ℕ → ℕ → ℕ
 item_number r k = items_each * r + k
 
--- the places of group g below some place, in ascending order: those that leave g when they are divided by the number of groups
+-- the indices of group g below some index, in ascending order: those that leave g when divided by the number of groups
 unfoldable pub places_below : ℕ → ℕ → List ℕ
 places_below end g = filter (λ k. k % groups_each == g) (range_with_len 0 end)
 

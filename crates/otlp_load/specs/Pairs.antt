@@ -16,7 +16,7 @@ double_bits number = to_bits binary64 (of_int binary64 (pos number))
 abbrev pub numbered_text : List ℕ → ℕ → List ℕ
 numbered_text text number = text ++ decimal number
 
--- the value at a place among the pairs of item `number`, which stands in request r
+-- the value at an index among the pairs of item `number`, which is in request r
 abbrev pub load_value : ℕ → ℕ → ℕ → Value
 load_value r number place =
     if place == 8 then values.Str (numbered_text (codes "batch-") r)

@@ -80,7 +80,7 @@ fn scope(alloc: Global) -> Result<Scope, AllocError>
     })
 }
 
-/// The items of a group: every third one, from the group's own place on.
+/// The items of a group: every third one, from the group's own index on.
 fn items<I: LoadItem>(alloc: Global, request: u32, group: u32) -> Result<Items<I>, AllocError>
     requires request { request < requests_at_most }
     requires group { group < groups_each }

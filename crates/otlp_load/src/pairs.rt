@@ -51,7 +51,7 @@ fn pair(alloc: Global, request: u32, number: u32, place: u32) -> Result<Pair, Al
     })
 }
 
-/// The key at a place.
+/// The key at an index.
 fn key(place: u32) -> &'static str
     requires { place < pairs_each }
     ensures { result.now ≡ numbered_text (codes "k") place }
@@ -73,7 +73,7 @@ fn key(place: u32) -> &'static str
     }
 }
 
-/// The value at a place.
+/// The value at an index.
 fn value(alloc: Global, request: u32, number: u32, place: u32) -> Result<Value, AllocError>
     requires number { number < numbers_end }
     requires place { place < pairs_each }

@@ -35,7 +35,7 @@ laid_first m r rows h =
     let c = and_parts (nat_lt 0 n) (nat_lt n number_limit) b.0 in
     record { number = (ltb-true 0 n c.0, ltb-true n number_limit c.1); apart_from = b.1; others = a.1 }
 
--- fields that fit are spelled
+-- fields that fit are read back as they were written
 AllWritten : List Entry → Type 0
 AllWritten fs = AllByRecursion (λ f. IsNumber f.number × Fits f.value) fs
 

@@ -1,4 +1,4 @@
--- Whatever the bytes are, they are the message, or a defect stands in them.
+-- Whatever the bytes are, they are the message, or a defect is in them.
 use Rattle.std.proofs.Common.{◌≡◌, ℕ, zero, suc, ◌+◌, ◌%◌, ◌<◌, ◌≤◌, Bool, cond, List, [], ◌∷◌, ◌++◌, length, append_assoc, append-nil, Option, Some, None, refl, sym, ap, ◌∙◌, subst, ◌⊎◌, inl, inr, arith}
 use Rattle.std.specs.Prelude.{◌==◌}
 use Rattle.std.specs.Str.{is_utf8}
@@ -60,7 +60,7 @@ value_decided k l (wire.Fixed64 n) inner = elim (cases_Bool (has_type k 1)) [ in
 value_decided k l (wire.Fixed32 n) inner = elim (cases_Bool (has_type k 5)) [ inl has ↦ inl has | inr other ↦ inr (BadMessage, (refl, other)) ]
 value_decided k l (wire.Bytes part) inner = part_decided k l part (inner part refl)
 
--- all fields have none, and no mark stands twice; or a defect stands
+-- no field has a defect, and no mark occurs twice; or a defect is in the bytes
 record AreFine (m : Message) (l : ℕ) (fs : List Entry) : Type 0 where
   each : AllFine m l fs
   once : (k : ℕ) → 0 < k → marked m k fs ≤ 1
@@ -85,7 +85,7 @@ one_fine m l done f h fine first = record {
       ];
 }
 
--- a mark that stands again
+-- a mark that occurs again
 again : (m : Message) (l : ℕ) (bytes : List ℕ) (done rest : List Entry) (f : Entry) → fields_of bytes ≡ done ++ f ∷ rest → 0 < mark_of m f.number → 0 < marked m (mark_of m f.number) done → Stands m l bytes Repeated
 again m l bytes done rest f is above seen =
     let k = mark_of m f.number in

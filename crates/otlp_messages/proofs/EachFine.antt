@@ -1,4 +1,4 @@
--- What the fields of a message hold in which no defect stands.
+-- What the fields of a message without a defect hold.
 use Rattle.std.proofs.Common.{◌≡◌, ℕ, zero, suc, ◌%◌, true, false, List, [], ◌∷◌, ◌++◌, length, append_assoc, refl, sym, ◌∙◌, subst, inl, inr}
 use Rattle.std.specs.Prelude.{fold, IsUtf8}
 use Rattle.std.specs.List.{AllByRecursion}
@@ -20,7 +20,7 @@ use Rattle.otlp_messages.specs.Rows.{only, said, bytes_in, parts_of}
 use Rattle.otlp_messages.specs.Inside.{ValueStands}
 use Rattle.otlp_messages.proofs.Steps.{AllFine, value_stands}
 
--- no defect stands in the value
+-- the value has no defect
 None_in : FieldKind → ℕ → FieldValue → Type 0
 None_in k l v = (e : Defect) → ValueStands k l v e → ⊥
 
@@ -66,7 +66,7 @@ pub fine_field : (m : Message) (l : ℕ) (bytes : List ℕ) (f : Entry) → IsFi
 unfolding None_in
 fine_field m l bytes f fine occurs = fine_value (kind_of m f.number) l f.value (λ e s. fine.none e (value_stands m l bytes f.number f.value e occurs s))
 
--- what holds of each element, whatever stands before and after it
+-- what holds of each element, whatever comes before and after it
 all_after : {X : Type 0} (P : X → Type 0) (front rest : List X) → ((before after : List X) (x : X) → front ++ rest ≡ before ++ x ∷ after → P x) → AllByRecursion P rest
 all_after P front [] each = tt
 all_after P front (x ∷ rest) each =

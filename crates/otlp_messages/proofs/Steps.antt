@@ -24,7 +24,7 @@ use Rattle.otlp_messages.specs.Defects.{ValueFaults, inside, Occurs, Stands, wir
 use Rattle.otlp_messages.specs.Fine.{FinePart, FineValue}
 use Rattle.otlp_messages.specs.Inside.{StandsIn, ValueStands}
 
--- a reader has looked at the fields `done` of the bytes, and `rest` is left. No defect stands in them,
+-- a reader has looked at the fields `done` of the bytes, and `rest` is left. No defect is in the fields,
 -- and `seen` says which marks they have.
 pub record Checked (message : Message) (levels : ℕ) (bytes : List ℕ) (seen : List Bool) (rest : List ℕ) : Type 0 where
   pub done : List Entry
@@ -176,7 +176,7 @@ faults_stand k l (wire.Fixed64 n) e h = h
 faults_stand k l (wire.Fixed32 n) e h = h
 faults_stand k l (wire.Bytes part) e h = inl h
 
--- no defect stands in these fields
+-- these fields have no defect
 abbrev pub AllFine : Message → ℕ → List Entry → Type 0
 AllFine m l fs = AllByRecursion (λ f. FineValue (kind_of m f.number) l f.value) fs
 

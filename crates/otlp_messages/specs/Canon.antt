@@ -1,4 +1,4 @@
--- The canonical spelling of a message: its fields by ascending number, each in its shortest spelling,
+-- The canonical spelling of a message: its fields by ascending number, each in its shortest encoding,
 -- and none that holds its default.
 use Rattle.std.specs.Prelude.{◌≡◌, ℕ, ◌<◌, ◌≤◌, ◌^◌, List, [], ◌∷◌, length, map, ◌==◌, ◌&&◌, ◌||◌, not, nat_lt, if◌then◌else◌, Bool, true, false, ℤ, Option, None, Some, ⊤, ◌⊎◌}
 use Rattle.std.specs.List.{flat_map, AllByRecursion, list_all}
@@ -85,12 +85,12 @@ abbrev pub is_laid_out : Message → List Filled → Bool
 is_laid_out m [] = true
 is_laid_out m (r ∷ rows) = nat_lt 0 r.number && nat_lt r.number number_limit && list_all (apart m r) rows && is_laid_out m rows
 
--- bytes that a length can tell; it follows for each part from the length of the whole
+-- bytes whose length fits 64 bits; it follows for each part from the length of the whole
 abbrev pub FitsLength : FieldValue → Type 0
 FitsLength (Bytes part) = length part < 2 ^ 64
 FitsLength value = ⊤
 
--- no defect stands in the values of the row
+-- the values of the row have no defect
 pub record RowFits (m : Message) (levels : ℕ) (r : Filled) : Type 0 where
   pub few : (mark_of m r.number ≡ 0) ⊎ (length r.values ≤ 1)
   pub fine : AllByRecursion (λ v. FitsLength v → Fits v × FineValue (kind_of m r.number) levels v) r.values
@@ -100,7 +100,7 @@ abbrev pub values_at : ℕ → List Filled → List FieldValue
 values_at n [] = []
 values_at n (r ∷ rows) = if r.number == n then r.values else values_at n rows
 
--- what the rows spell is read as the rows, and no defect stands in it
+-- what is written of the rows is read as the rows, and has no defect
 pub record IsReadBack (m : Message) (levels : ℕ) (rows : List Filled) : Type 0 where
   pub fine : IsFine m levels (canon rows)
   pub fields : fields_of (canon rows) ≡ entries rows

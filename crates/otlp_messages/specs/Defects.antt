@@ -20,7 +20,7 @@ has_type Fixed32 t = t == 5
 has_type Packed64 t = t == 1 || t == 2
 has_type kind t = t == 2
 
--- what is wrong with bytes of this kind, in a message below whose values this number of levels of members may stand
+-- what is wrong with bytes of this kind, in a message below whose values this number of levels of members may be
 abbrev pub PartFaults : FieldKind → ℕ → List ℕ → Defect → Type 0
 PartFaults Packed64 levels part e = (e ≡ BadMessage) × (length part % 8 ≢ 0)
 PartFaults Text levels part e = (e ≡ BadUtf8) × (IsUtf8 part → ⊥)
@@ -34,7 +34,7 @@ abbrev pub ValueFaults : FieldKind → ℕ → FieldValue → Defect → Type 0
 ValueFaults kind levels (wire.Bytes part) e = ((e ≡ BadMessage) × (has_type kind 2 ≡ false)) ⊎ PartFaults kind levels part e
 ValueFaults kind levels value e = (e ≡ BadMessage) × (has_type kind (wire_type value) ≡ false)
 
--- the message that bytes of this kind are, and how many levels may stand below its values
+-- the message that bytes of this kind are, and how many levels may be below its values
 abbrev pub inside : FieldKind → ℕ → Option (Message × ℕ)
 inside (Embedded message) levels = Some (message, levels)
 inside (Member message) (suc levels) = Some (message, levels)
@@ -44,8 +44,8 @@ inside kind levels = None
 abbrev pub Occurs : List ℕ → Entry → Type 0
 Occurs bytes f = (before : List Entry) × (after : List Entry) × (fields_of bytes ≡ before ++ f ∷ after)
 
--- The defect stands in the bytes, read as this message. The fields are those of the longest front of
--- the bytes that spells fields, so defects of fields before a wire error stand beside it.
+-- The defect is in the bytes, read as this message. The fields are those of the longest front of the bytes
+-- that is whole fields, so defects of fields before a wire error count beside it.
 pub data Stands : Message → ℕ → List ℕ → Defect → Type 0 where
   wire_error : (message : Message) (levels : ℕ) (bytes : List ℕ) (e : WireError) → end_of bytes ≡ Some e → Stands message levels bytes BadMessage
   twice : (message : Message) (levels : ℕ) (bytes : List ℕ) (mark : ℕ) → 0 < mark → 1 < count_by (λ f. mark_of message f.number == mark) (fields_of bytes)
@@ -60,6 +60,6 @@ pub data Stands : Message → ℕ → List ℕ → Defect → Type 0 where
 pub record IsFine (message : Message) (levels : ℕ) (bytes : List ℕ) : Type 0 where
   pub none : (e : Defect) → Stands message levels bytes e → ⊥
 
--- they are the message, or a defect stands in them
+-- they are the message, or a defect is in them
 abbrev pub FineOrDefect : Message → ℕ → List ℕ → Type 0
 FineOrDefect message levels bytes = IsFine message levels bytes ⊎ ((e : Defect) × Stands message levels bytes e)

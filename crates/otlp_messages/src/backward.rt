@@ -114,7 +114,7 @@ impl Backward {
         self.push((value % 128) as u8 + 128)
     }
 
-    /// Finds room for `more` bytes before those that are written, so that writing them allocates nothing. They stay.
+    /// Reserves room for `more` bytes before those that are written, so that writing them allocates nothing. They stay.
     pub fn reserve(&mut self, more: usize) -> Result<(), AllocError>
         ensures { self.new ≡ self.old }
     {
@@ -136,7 +136,7 @@ impl Backward {
     }
 }
 
-/// Where what stands from `start` on begins, once there is room for `room` bytes before it.
+/// Where the bytes from `start` on begin, once there is room for `room` bytes before them.
 #[inline(always)]
 fn reserve_front(bytes: &mut Vec<u8>, start: usize, room: usize) -> Result<usize, AllocError>
     requires { start ≤ vec_len bytes.old }
@@ -150,7 +150,7 @@ fn reserve_front(bytes: &mut Vec<u8>, start: usize, room: usize) -> Result<usize
     grow_front(bytes, start, room)
 }
 
-/// Moves what stands from `start` on to the end of a longer vector.
+/// Moves the bytes from `start` on to the end of a longer vector.
 #[inline(never)]
 fn grow_front(bytes: &mut Vec<u8>, start: usize, room: usize) -> Result<usize, AllocError>
     requires { start ≤ vec_len bytes.old }
@@ -166,7 +166,7 @@ fn grow_front(bytes: &mut Vec<u8>, start: usize, room: usize) -> Result<usize, A
     Ok(moved)
 }
 
-/// Moves what stands from `start` on to the front.
+/// Moves the bytes from `start` on to the front.
 fn move_to_front(bytes: &mut [u8], start: usize)
     requires { start ≤ length bytes.old }
     ensures moved { take (length bytes.old - start) bytes.new ≡ drop start bytes.old }
@@ -181,7 +181,7 @@ fn move_to_front(bytes: &mut [u8], start: usize)
     }
 }
 
-/// Moves some bytes to a place that is no later. They go by a buffer, since a copy between parts that may
+/// Moves some bytes to an offset that is no later. They go by a buffer, since a copy between parts that may
 /// share bytes takes them one by one.
 fn move_piece(bytes: &mut [u8], from: usize, to: usize, size: usize)
     requires size { size ≤ 1024 }

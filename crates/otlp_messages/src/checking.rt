@@ -12,7 +12,7 @@ use crate::table::{MARKS, row_of};
 use otlp_wire::{Fields, Wire};
 
 /// Whether the bytes are the message, in one pass over them. `levels` says how many levels of members
-/// may stand below the values of the message.
+/// may be below the values of the message.
 #[cycle(check)]
 pub fn check(message: Message, levels: u8, bytes: &[u8]) -> Result<(), Defect>
     ensures fine { OnOk result (IsFine message levels bytes.now) }

@@ -8,7 +8,7 @@ ghost use Rattle.otlp_messages.specs.Defects.{FineOrDefect};
 ghost use Rattle.otlp_messages.specs.Limits.{mark_limit};
 ghost use Rattle.otlp_messages.specs.Canon.{Filled, canon, is_laid_out, RowFits, IsReadBack};
 
-/// Rows that are written are the fields that are read, and no defect stands in them.
+/// Rows that are written are the fields that are read, without a defect.
 pub fn rows_are_read()
     ensures { (m : Message) (levels : ℕ) (rows : List Filled) → is_laid_out m rows ≡ true
         → AllByRecursion (RowFits m levels) rows → length (canon rows) < 2 ^ 64 → IsReadBack m levels rows }
@@ -19,7 +19,7 @@ pub fn limits()
     ensures { MARKS ≡ mark_limit }
 {}
 
-/// Whatever the bytes are, they are the message, or a defect stands in them.
+/// Whatever the bytes are, they are the message, or a defect is in them.
 pub fn fine_or_defect()
     ensures { (m : Message) (levels : ℕ) (bytes : List ℕ) → FineOrDefect m levels bytes }
 {}

@@ -88,7 +88,7 @@ pub struct Row {
     pub mark: usize,
 }
 
-/// Why bytes are not read as a message. Where several of these stand in the bytes, any of them may be
+/// Why bytes are not read as a message. Where several of these are in the bytes, any of them may be
 /// named.
 #[derive(Clone, Copy, Debug, PartialEq, Eq, Error)]
 pub enum Defect {
@@ -108,7 +108,7 @@ pub enum Defect {
     /// A message that is refused occurs.
     #[error("a message occurs that is not supported")]
     Unsupported,
-    /// A member of an array or of a key-value list stands too deep.
+    /// A member of an array or of a key-value list is too deep.
     #[error("a value is nested too deep")]
     TooDeep,
 }

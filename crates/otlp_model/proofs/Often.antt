@@ -154,7 +154,7 @@ module _ (n : ℕ) (xs ys : List Pair) (front : take n xs ≡ take n ys) where
   same_without : SameOften xs ys → SameOften (drop n xs) (drop n ys)
   same_without same = same_often_from (drop n xs) (drop n ys) (λ p. (both_counts p).1 (same_often_counts xs ys same p))
 
--- a result about what stands after a common front is one about the whole
+-- a result about what follows a common front is one about the whole
 pub same_front : (n : ℕ) (xs ys : List Pair) (r : Bool) → take n xs ≡ take n ys
     → (IsTrue r ↔ SameOften (take (length xs - n) (drop n xs)) (take (length ys - n) (drop n ys))) → IsTrue r ↔ SameOften xs ys
 same_front n xs ys r front told =

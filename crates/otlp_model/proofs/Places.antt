@@ -1,4 +1,4 @@
--- Places among the items of groups.
+-- Positions among the items of groups.
 use Rattle.std.proofs.Common.{◌≡◌, ℕ, suc, ◌+◌, ◌-◌, ◌<◌, ◌≤◌, List, [], ◌∷◌, ◌++◌, length, get_or, take, drop, refl, sym, ◌∙◌, ap, arith, append_assoc, drop-cons, add-one, length-drop}
 use Rattle.std.specs.List.{flat_map}
 use Rattle.std.proofs.lemmas.List.{take_rest, drop-drop, get_or_default}
@@ -14,7 +14,7 @@ abbrev pub steps : {I : Type 0} → List (ResourceGroup I) → ℕ → ℕ
 steps [] scope = 0
 steps (group ∷ groups) scope = 1 + (length group.scopes - scope) + steps groups 0
 
--- a list from one of its places on
+-- a list from one of its indices on
 opened : {A : Type 0} (xs : List A) (i : ℕ) (x : A) → i < length xs → x ≡ get_or xs i x → drop i xs ≡ x ∷ drop (i + 1) xs
 opened xs i x h e = rw add-one (drop-cons xs i x h ∙ ap (λ y. y ∷ drop (suc i) xs) (sym e))
 

@@ -12,7 +12,7 @@ use Rattle.otlp_model.specs.declared.metrics.Metric.{Metric}
 use Rattle.otlp_model.specs.declared.request.Request.{Request}
 use Rattle.otlp_model.specs.declared.request.Request.TheVariants.{Traces, Logs, Metrics}
 
--- entries of one kind tell the same as items of any kind exactly where they do as such
+-- entries of one kind are the same exactly where they are as items of any kind
 module _ {I : Type 0} (kind : I → Item) (SameOne : I → I → Type 0) where
   pub kept : ((x y : I) → SameOne x y → SameItem (kind x) (kind y)) → (xs ys : List (ItemEntry I))
       → AllZip (SameEntry SameOne) xs ys → AllZip (SameEntry SameItem) (map (told_as kind) xs) (map (told_as kind) ys)
@@ -45,7 +45,7 @@ pub same_metrics : (a b : Request) (x y xs ys : List (ResourceGroup Metric)) (r 
 same_metrics a b x y xs ys r ax by' xx yy h = rw (ax, by', ← xx, ← yy)
     (λ t. kept metric SameMetric (λ p q e. e) _ _ (h.0 t), λ s. h.1 (kept_back metric SameMetric (λ p q e. e) _ _ s))
 
--- entries of two kinds tell the same only where there are none
+-- entries of two kinds are the same only where there are none
 unlike : {I J : Type 0} (kind : I → Item) (other : J → Item) → ((x : I) (y : J) → SameItem (kind x) (other y) → ⊥)
     → (xs : List (ItemEntry I)) (ys : List (ItemEntry J)) → AllZip (SameEntry SameItem) (map (told_as kind) xs) (map (told_as other) ys)
     → (length (map (told_as kind) xs) ≡ 0) × (length (map (told_as other) ys) ≡ 0)
@@ -65,7 +65,7 @@ same_unlike (Metrics x) (Traces y) d h = unlike metric span (λ p q e. e) (item_
 same_unlike (Metrics x) (Logs y) d h = unlike metric log_record (λ p q e. e) (item_entries x) (item_entries y) h
 same_unlike (Metrics x) (Metrics y) d h = absurd (d refl)
 
--- requests without items tell the same
+-- requests without items denote the same telemetry
 none_told : (xs ys : List (ItemEntry Item)) → length xs ≡ 0 → length ys ≡ 0 → AllZip (SameEntry SameItem) xs ys
 none_told [] [] a b = tt
 none_told [] (y ∷ ys) a b = absurd (omega arith)

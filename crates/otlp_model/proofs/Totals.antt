@@ -16,7 +16,7 @@ parts_can IsPart OfPart weigh n can [] all few = All-nil OfPart
 parts_can IsPart OfPart weigh n can (part ∷ parts) all few =
     All-cons OfPart part parts (can part (All-head IsPart part parts all) (omega arith)) (parts_can IsPart OfPart weigh n can parts (All-tail IsPart part parts all) (omega arith))
 
--- what is below weighs as it is told, where each part does
+-- what is below has the weight that is asked for, where each part has
 pub below_weighs : {C : Type 0} (below : ℕ) (weigh weight : C → ℕ) (parts : List C) → ((part : C) → weigh part ≡ weight part) → below ≡ min (total 32 weigh parts) (2 ^ 63)
     → below ≡ min (total 32 weight parts) (2 ^ 63)
 below_weighs {C = C} below weigh weight parts same is = is ∙ ap (λ (w : C → ℕ). min (total 32 w parts) (2 ^ 63)) (λ i part. same part i)

@@ -33,7 +33,7 @@ abbrev pub fits_i64 : ℤ → Bool
 fits_i64 (pos n) = nat_lt n (2 ^ 63)
 fits_i64 (negsuc n) = nat_lt n (2 ^ 63)
 
--- whether a value is real, its members being real or not as told
+-- whether a value is real, given whether its members are
 abbrev pub real_step : Value-F Bool Bool → Bool
 real_step Value-F.Empty = true
 real_step (Value-F.Str text) = is_real_text text

@@ -1,4 +1,4 @@
--- Which requests tell the same.
+-- Which requests denote the same telemetry.
 use Rattle.std.specs.Prelude.{◌≡◌, List, IsPermutation}
 use Rattle.std.specs.List.{AllZip}
 use Rattle.otlp_model.specs.Telemetry.{ItemEntry, Item, span, log_record, metric, telemetry}
@@ -95,6 +95,6 @@ pub record SameEntry {I : Type 0} (SameOne : I → I → Type 0) (a b : ItemEntr
 abbrev pub SameTelemetry : List (ItemEntry Item) → List (ItemEntry Item) → Type 0
 SameTelemetry xs ys = AllZip (SameEntry SameItem) xs ys
 
--- both requests tell the same
+-- both requests denote the same telemetry
 abbrev pub Same : Request → Request → Type 0
 Same a b = SameTelemetry (telemetry a) (telemetry b)

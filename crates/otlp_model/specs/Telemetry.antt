@@ -1,4 +1,4 @@
--- What a request tells: its items in order, each with its resource and its scope.
+-- What a request denotes: its items in order, each with its resource and its scope.
 use Rattle.std.specs.Prelude.{List, length, map, nat_lt, filter}
 use Rattle.std.specs.List.{flat_map}
 use Rattle.otlp_model.specs.declared.groups.Resource.{Resource}

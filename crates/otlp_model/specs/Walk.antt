@@ -1,4 +1,4 @@
--- What is left of the items of some groups, from a place among them on: words of private contracts.
+-- What is left of the items of some groups, from a position among them on: words of private contracts.
 use Rattle.std.specs.Prelude.{◌≡◌, ℕ, ◌+◌, ◌≤◌, ◌<◌, List, [], ◌∷◌, ◌++◌, length, map, take, drop}
 use Rattle.std.specs.List.{flat_map, slice_index_or, AllZip}
 use Rattle.otlp_model.specs.Same.{SameResource, SameScope}
@@ -22,7 +22,7 @@ left_of_groups (group ∷ groups) scope item = left_of_scopes group.resource (dr
 unfoldable pub left : {I : Type 0} → List (ResourceGroup I) → ℕ → ℕ → ℕ → List (ItemEntry I)
 left groups group scope item = left_of_groups (drop group groups) scope item
 
--- at the place stand these items, of this resource and this scope
+-- at the position are these items, of this resource and this scope
 pub record IsRun {I : Type 0} (groups : List (ResourceGroup I)) (group place item : ℕ)
     (resource : Resource) (scope : Scope) (items : List I) : Type 0 where
   pub more : List (ItemEntry I)
@@ -31,7 +31,7 @@ pub record IsRun {I : Type 0} (groups : List (ResourceGroup I)) (group place ite
   pub inside : group < length groups
   pub whose : (d : ResourceGroup I) → resource ≡ (slice_index_or groups group d).resource
 
--- the first n items of two runs tell the same
+-- the first n items of two runs are the same
 pub record StartsSame {I : Type 0} (SameOne : I → I → Type 0) (n : ℕ) (r q : Resource) (s t : Scope) (xs ys : List I) : Type 0 where
   pub resource : SameResource r q
   pub scope : SameScope s t

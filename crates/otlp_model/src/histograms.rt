@@ -62,12 +62,12 @@ fn numbers_weight(numbers: &[u64]) -> u64
     ensures weight { result ≡ min (number_weight * length numbers.now) count_cap }
     ensures real { Each (λ number. number < 2 ^ 64) numbers.now }
 {
-    // The variable tells the proof that each number fits its type.
+    // The variable shows the proof that each number fits its type.
     let numbers = numbers;
     NUMBER.saturating_mul(numbers.len() as u64).min(CAP)
 }
 
-/// Reads a double that may be there, which tells a proof that it fits its type.
+/// Reads a double that may be there, which shows a proof that it fits its type.
 fn touch(bits: &Option<u64>)
     ensures { IsTrue (is_real_optional bits.now) }
 {

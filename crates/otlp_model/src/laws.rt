@@ -46,7 +46,7 @@ pub fn order_does_not_count()
     ensures { (xs ys : List Pair) → SameOften xs ys ↔ ((pair : Pair) → occurrences pair xs ≡ occurrences pair ys) }
 {}
 
-/// The test that pairs are counted by tells exactly the equal ones.
+/// The test that pairs are counted by accepts exactly the equal ones.
 pub fn pairs_are_told()
     ensures { (p q : Pair) → IsTrue (pair_is p q) ↔ (p ≡ q) }
 {}

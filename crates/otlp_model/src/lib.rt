@@ -1,4 +1,4 @@
-//! Telemetry as values: requests of traces, logs and metrics, what they weigh, and which of them tell the same.
+//! Telemetry as values: requests of traces, logs and metrics, what they weigh, and which of them denote the same telemetry.
 #![tactic(auto)]
 
 mod counts;

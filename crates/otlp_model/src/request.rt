@@ -34,7 +34,7 @@ pub enum Request {
 }
 
 impl Request {
-    /// The signal that the request tells of.
+    /// The signal of the request.
     pub fn signal(&self) -> Signal
         ensures { result ≡ signal_of self.now }
     {
@@ -61,7 +61,7 @@ pub fn items(request: &Request) -> u64
 /// group, scope group, item, event, link, point, exemplar, pair, and member of an array or a key-value list; 8 for each
 /// bucket count and each bound; and 16 for each quantile.
 ///
-/// The walk also tells a proof that the request is one that a program can hold: its texts are UTF-8 and its numbers
+/// The walk also shows a proof that the request is one that a program can hold: its texts are UTF-8 and its numbers
 /// fit their types. Linear in the request; it recurses as `depth` does.
 pub fn weight(request: &Request) -> u64
     ensures weight { result ≡ min (weight_of request.now) count_cap }
@@ -91,8 +91,8 @@ pub fn is_profile(request: &Request) -> bool
 /// and scope. Lists of attributes are compared by how often each pair occurs, everything else in order; groups without
 /// items don't count. Requests of different signals denote the same exactly where neither has items.
 ///
-/// It takes no memory. Linear in both requests as far as lists of attributes stand in the same order; what is left of a
-/// list after the first difference is counted, in a comparison for each two of its pairs. It recurses as `depth` does.
+/// It takes no memory. Linear in both requests as far as lists of attributes have the same order; from the first
+/// difference on, a list is compared by counting, each two of its pairs. It recurses as `depth` does.
 pub fn same(a: &Request, b: &Request) -> bool
     ensures { IsTrue result ↔ Same a.now b.now }
 {

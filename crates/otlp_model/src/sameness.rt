@@ -6,17 +6,17 @@ ghost use Rattle.otlp_model.specs.Same.{SameOften};
 
 use crate::value::{Pair, Value};
 
-/// A part of a request that can tell the same as another one: an item, an event, a link, a point, an exemplar, a resource
+/// A part of a request that can be the same as another one: an item, an event, a link, a point, an exemplar, a resource
 /// or a scope.
 pub(crate) trait Alike: Drop {
     ghost alike: { Self → Self → Type 0 };
 
-    /// Whether both tell the same: they are equal but for the order of their attributes.
+    /// Whether both are the same: equal but for the order of their attributes.
     fn is_same(&self, other: &Self) -> bool
         ensures { IsTrue result ↔ alike self.now other.now };
 }
 
-/// Whether both lists tell the same, one by one.
+/// Whether both lists are the same, element by element.
 pub(crate) fn each_same<P: Alike>(a: &[P], b: &[P]) -> bool
     ensures { IsTrue result ↔ AllZip P.alike a.now b.now }
 {

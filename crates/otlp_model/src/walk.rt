@@ -7,7 +7,7 @@ ghost use Rattle.otlp_model.specs.Walk.{left, IsRun, StartsSame};
 use crate::groups::{Resource, ResourceGroup, Scope};
 use crate::sameness::{Alike, each_same};
 
-/// A place among the items of some groups, by the numbers of the group, of its scope group and of its item.
+/// A position among the items of some groups: the indices of the group, of its scope group and of its item.
 #[derive(Drop)]
 struct ItemCursor<'a, I> {
     groups: &'a [ResourceGroup<I>],
@@ -16,7 +16,7 @@ struct ItemCursor<'a, I> {
     item: usize,
 }
 
-/// Some items of one scope group, with what they come from: the resource is that of the group with this number.
+/// Some items of one scope group, with what they come from: the resource is that of the group with this index.
 #[derive(Drop)]
 struct Run<'a, I> {
     group: usize,
@@ -74,7 +74,7 @@ impl<'a, I> ItemCursor<'a, I> {
     }
 }
 
-/// Whether the first `n` items of both runs tell the same; `known` says that their resources do.
+/// Whether the first `n` items of both runs are the same; `known` says that their resources are.
 fn starts_same<I: Alike>(x: &Run<'_, I>, y: &Run<'_, I>, n: usize, known: bool) -> bool
     requires in_x { n ≤ length x.now.items.now }
     requires in_y { n ≤ length y.now.items.now }
@@ -86,7 +86,7 @@ fn starts_same<I: Alike>(x: &Run<'_, I>, y: &Run<'_, I>, n: usize, known: bool) 
         && each_same(&x.items[..n], &y.items[..n])
 }
 
-/// Whether both lists of groups tell the same items in order, each with the same resource and scope.
+/// Whether both lists of groups have the same items in order, each with the same resource and scope.
 ///
 /// It goes over both at once, run by run, so each two resources that items have in common are compared once.
 pub(crate) fn same_groups<I: Alike>(a: &[ResourceGroup<I>], b: &[ResourceGroup<I>]) -> bool

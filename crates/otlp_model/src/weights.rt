@@ -70,7 +70,7 @@ pub(crate) fn pairs_weight(pairs: &[Pair]) -> u64
 /// A part of a request that weighs: an item, an event, a link, a point, a quantile, an exemplar, a group, or a text or
 /// byte string, which weighs its bytes.
 ///
-/// An `impl` reads the part's numbers too, which tells a proof that they fit their types.
+/// An `impl` reads the part's numbers too, which shows a proof that they fit their types.
 pub(crate) trait HasWeight {
     ghost weight_of: { Self → ℕ };
 

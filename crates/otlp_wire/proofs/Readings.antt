@@ -72,7 +72,7 @@ reading_within (suc most) (byte ∷ bytes) small =
 pub reading_is : (bytes : List ℕ) → Reads bytes (reading_in (length bytes) bytes).fields (reading_in (length bytes) bytes).end
 reading_is bytes = reading_within (length bytes) bytes (omega arith)
 
--- bytes that spell fields, and then bytes with a reading
+-- bytes that encode fields, and then bytes with a reading
 pub joined : (front rest : List ℕ) (fs gs : List Entry) (end : Option WireError) → Spells front fs → Reads rest gs end → Reads (front ++ rest) (fs ++ gs) end
 joined front rest [] gs end spells reads = subst (λ (f : List ℕ). Reads (f ++ rest) gs end) (sym spells) reads
 joined front rest (f ∷ fs) gs end spells reads =

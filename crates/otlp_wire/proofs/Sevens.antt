@@ -25,7 +25,7 @@ sevens-take-suc (b ∷ bs) (suc i) below =
 pub sevens-take_more : (bytes : List ℕ) (i : ℕ) → i < length bytes → sevens (take (i + 1) bytes) ≡ sevens (take i bytes) + (get_or bytes i 0 % 128) * 2 ^ (7 * i)
 sevens-take_more bytes i below = rw add-one (sevens-take-suc bytes i below)
 
--- the bits of a byte stand above those before it
+-- the bits of a byte are above those before it
 pub below_shift : (v x i : ℕ) → v < 2 ^ (7 * i) → x < 128 → v + x * 2 ^ (7 * i) < 2 ^ (7 * (i + 1))
 below_shift v x i low small =
     rw (add-one, shift_more i) (omega (arith, mul-le-mul_right (2 ^ (7 * i)) (let le : x ≤ 127 = omega arith in le)))
@@ -44,7 +44,7 @@ fits v x i low small nine tenth =
           rw is (omega arith))
     ]
 
--- the number once the byte at the place i is added
+-- the number once the byte at the index i is added
 pub record Grown (bytes : List ℕ) (i v : ℕ) : Type 0 where
   pub fits : v < 2 ^ 64
   pub value : v ≡ sevens (take (i + 1) bytes)
@@ -65,7 +65,7 @@ pub early : (i b : ℕ) → i ≤ 9 → 128 ≤ b → (i ≡ 9 → b ≤ 1) → 
 early i b nine high tenth =
     elim (cases_eq i 9) [ inl here ↦ (let low : b ≤ 1 = tenth here in absurd (omega arith)) | inr away ↦ omega arith ]
 
--- a varint ends at the place i, and the rest is a slice of the bytes
+-- a varint ends at the index i, and the rest is a slice of the bytes
 pub ends_before : (bytes : List ℕ) (i v : ℕ) → i < length bytes → i ≤ 9 → IsFollowed bytes i → get_or bytes i 0 < 128 → (i ≡ 9 → get_or bytes i 0 ≤ 1)
     → v ≡ sevens (take (i + 1) bytes)
     → Begins (λ front. IsVarint front v) bytes (take (length bytes - (i + 1)) (drop (i + 1) bytes))

@@ -1,4 +1,4 @@
--- After a tag stands exactly one value or exactly one fault, and at the front of bytes exactly one field or exactly one fault.
+-- A tag is followed by exactly one value or exactly one fault, and bytes begin with exactly one field or exactly one fault.
 use Rattle.std.proofs.Common.{◌≡◌, ℕ, zero, suc, ◌+◌, ◌*◌, ◌/◌, ◌%◌, ◌<◌, ◌≤◌, List, ◌++◌, length, take, drop, append_assoc, Result, Ok, Err, true, false, refl, sym, subst, ap, ◌∙◌, arith, inl, inr, ◌⊎◌}
 use Rattle.std.specs.Prelude.{nat_lt, ◌&&◌}
 use Rattle.std.proofs.lemmas.Bool.{cases_lt, lt-ltb, le-ltb}
@@ -222,7 +222,7 @@ some_tagged bytes (Err e) f = (Err e, inl f)
 some_field : (bytes : List ℕ) → SomeField bytes
 some_field bytes = some_tagged bytes (first_varint bytes) (first_varint_is bytes)
 
--- what `first_field` names stands at the front
+-- what `first_field` returns is at the front
 pub first_field_is : (bytes : List ℕ) → FieldIs bytes (first_field bytes)
 first_field_is bytes = go (some_field bytes).0 (some_field bytes).1
   where

@@ -10,7 +10,7 @@ use Rattle.otlp_wire.specs.Varint.{sevens, IsFollowed, IsVarint, IsCutVarint, Is
 use Rattle.otlp_wire.specs.Reading.{Begins, VarintFaults}
 use Rattle.otlp_wire.specs.Fields.{going_on, first_varint}
 
--- the place of the first byte that goes no further
+-- the index of the first byte that goes no further
 record EndsAt (bytes : List ℕ) (last : ℕ) : Type 0 where
   inside : last < length bytes
   goes_on : IsFollowed bytes last
@@ -57,7 +57,7 @@ not_long front rest n v long =
           omega (arith, v.tenth, rw (get_or_append_left front rest 0 9 nine) at long.tenth))
     ]
 
--- what stands at the front
+-- what is at the front
 abbrev pub VarintIs : List ℕ → Result (ℕ × List ℕ) WireError → Type 0
 VarintIs bytes (Ok x) = Begins (λ front. IsVarint front x.0) bytes x.1
 VarintIs bytes (Err e) = VarintFaults bytes e
@@ -88,7 +88,7 @@ one_varint_result bytes (Ok x) (Err e) p q = absurd (no_fault bytes x.0 x.1 e p 
 one_varint_result bytes (Err d) (Ok y) p q = absurd (no_fault bytes y.0 y.1 d q p)
 one_varint_result bytes (Err d) (Err e) p q = ap (λ f. Err f) (one_fault bytes d e p q)
 
--- a varint ends at the place i
+-- a varint ends at the index i
 pub ends_at : (bytes : List ℕ) (i v : ℕ) → i < length bytes → i ≤ 9 → IsFollowed bytes i → slice_index bytes i < 128 → (i ≡ 9 → slice_index bytes i ≤ 1)
     → v ≡ sevens (take (i + 1) bytes) → Begins (λ front. IsVarint front v) bytes (drop (i + 1) bytes)
 ends_at bytes i v below nine goes_on last tenth value = (
@@ -162,7 +162,7 @@ too_long bytes many long = record {
   tenth = long;
 }
 
--- what `first_varint` names stands at the front
+-- what `first_varint` returns is at the front
 pub first_varint_is : (bytes : List ℕ) → VarintIs bytes (first_varint bytes)
 unfolding first_varint
 first_varint_is bytes =

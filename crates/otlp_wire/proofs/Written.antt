@@ -45,7 +45,7 @@ shortest_within (suc most) n below =
       | inr large ↦ one_more n large (shortest_within most (n / 128) (omega arith))
     ]
 
--- a byte counts by its place
+-- a byte counts by its index
 sevens-at_least : (bytes : List ℕ) (i : ℕ) → get_or bytes i 0 % 128 * 128 ^ i ≤ sevens bytes
 sevens-at_least [] i = omega arith
 sevens-at_least (byte ∷ bytes) zero = omega arith

@@ -1,4 +1,4 @@
--- The one reading of bytes, from the left: each reader takes what stands at the front off, or names what
+-- The one reading of bytes, from the left: each reader takes what is at the front off, or names what
 -- is wrong with it.
 use Rattle.std.specs.Prelude.{◌≡◌, ℕ, zero, suc, ◌+◌, ◌/◌, ◌%◌, ◌==◌, ◌&&◌, nat_lt, if◌then◌else◌, List, [], ◌∷◌, length, take, drop, slice_index, Option, Some, None, Result, Ok, Err, MatchOption, MatchResult}
 use Rattle.byteorder.specs.Endian.{little_number}
@@ -73,7 +73,7 @@ reading_in most [] = record { fields = []; end = None }
 reading_in zero (byte ∷ bytes) = record { fields = []; end = None }
 reading_in (suc most) (byte ∷ bytes) = and_then (λ rest. reading_in most rest) (first_field (byte ∷ bytes))
 
--- the fields of the longest front of the bytes that spells fields
+-- the fields of the longest front of the bytes that encodes fields
 unfoldable pub fields_of : List ℕ → List Entry
 fields_of bytes = (reading_in (length bytes) bytes).fields
 

@@ -1,4 +1,4 @@
--- The fields that bytes spell, and the first error.
+-- The fields that bytes encode, and the first error.
 use Rattle.std.specs.Prelude.{◌≡◌, ℕ, ◌/◌, ◌%◌, ◌<◌, List, [], ◌∷◌, ◌++◌, length, Option, Some, None, ◌⊎◌}
 use Rattle.otlp_wire.specs.declared.parts.WireError.{WireError}
 use Rattle.otlp_wire.specs.declared.parts.WireError.TheVariants.{Cut, BadVarint, BadWireType, BadTag}
@@ -45,6 +45,6 @@ Reads bytes [] None = bytes ≡ []
 Reads bytes [] (Some e) = (0 < length bytes) × Faults bytes e
 Reads bytes (f ∷ fs) end = (rest : List ℕ) × Begins (λ front. IsField front f) bytes rest × Reads rest fs end
 
--- the bytes are the spellings of these fields, joined
+-- the bytes are the encodings of these fields, joined
 abbrev pub Spells : List ℕ → List Entry → Type 0
 Spells bytes fs = Reads bytes fs None

@@ -1,4 +1,4 @@
--- A field and its spellings (protobuf encoding, "Message Structure").
+-- A field and its encodings (protobuf encoding, "Message Structure").
 use Rattle.std.specs.Prelude.{◌≡◌, ℕ, ◌+◌, ◌*◌, ◌^◌, ◌<◌, List, ◌++◌, length}
 use Rattle.byteorder.specs.Endian.{little_number, little_bytes}
 use Rattle.otlp_wire.specs.declared.parts.Wire.{Wire}
@@ -19,7 +19,7 @@ pub record Entry : Type 0 where
   pub number : ℕ
   pub value : FieldValue
 
--- what the code's types stand for, without where the bytes lie in memory
+-- the values and fields of the code, without where the bytes lie in memory
 abbrev pub value_of : Wire → FieldValue
 value_of (wire.Varint n) = Varint n
 value_of (wire.Fixed64 n) = Fixed64 n
@@ -63,7 +63,7 @@ Fits (Fixed64 n) = n < 2 ^ 64
 Fits (Bytes part) = length part < 2 ^ 64
 Fits (Fixed32 n) = n < 2 ^ 32
 
--- the shortest spelling of a value, and of a field
+-- the shortest encoding of a value, and of a field
 abbrev pub value_spelling : FieldValue → List ℕ
 value_spelling (Varint n) = varint n
 value_spelling (Fixed64 n) = little_bytes 8 n

@@ -25,8 +25,8 @@ pub fn some_reading()
     ensures { (bytes : List ℕ) → Reads bytes (fields_of bytes) (end_of bytes) }
 {}
 
-/// The fields of bytes that spell fields come before those of any bytes after them. So `fields_of`
-/// has the fields of the longest front that spells fields.
+/// The fields of bytes that encode fields come before those of any bytes after them. So `fields_of`
+/// has the fields of the longest front that encodes fields.
 pub fn joined_reading()
     ensures fields { (front rest : List ℕ) (fs : List Entry)
         → Spells front fs → fields_of (front ++ rest) ≡ fs ++ fields_of rest }

@@ -1,4 +1,4 @@
-//! The protobuf wire format: the fields that bytes spell, and the bytes that spell a field.
+//! The protobuf wire format: the fields that bytes encode, and the bytes that encode a field.
 #![tactic(auto)]
 
 mod laws;

@@ -12,7 +12,7 @@ use crate::varint::take_varint;
 use byteorder::{ByteOrder, LittleEndian};
 use std::marker::Model;
 
-/// The fields that bytes spell, in order, and then the first error, if there is one. After an error
+/// The fields that bytes encode, in order, and then the first error, if there is one. After an error
 /// nothing more comes.
 #[derive(Debug, Drop)]
 pub struct Fields<'a> {

@@ -10,7 +10,7 @@ use std::alloc::AllocError;
 /// The most bytes that a varint of 64 bits has.
 const MAX_LEN: usize = 10;
 
-/// The place of the last of them.
+/// The index of the last of them.
 const LAST: usize = MAX_LEN - 1;
 
 /// The greatest value of the last of them, whose lowest bit is the 64th.

@@ -1,4 +1,4 @@
-//! The bytes of a field, in its shortest spelling. After an `Err` the target is as it was.
+//! The bytes of a field, in its shortest encoding. After an `Err` the target is as it was.
 
 ghost use Rattle.std.specs.Prelude.{◌≡◌, ◌+◌, ◌<◌, ◌≤◌, ◌++◌, length, vec_len, vec_capacity, OnOk, OnErr};
 ghost use Rattle.otlp_wire.specs.Wire as spec;

@@ -1,4 +1,4 @@
-//! Cells by the bytes that they are stored in, the lowest byte of a number first (Arrow columnar format, "Fixed-size
+//! Cells by the bytes that they are stored in, little-endian (Arrow columnar format, "Fixed-size
 //! primitive layout").
 
 ghost use Rattle.std.specs.Prelude.{◌≡◌, ◌⊎◌, length};

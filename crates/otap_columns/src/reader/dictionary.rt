@@ -69,7 +69,7 @@ impl Dictionary {
         self.id == id && self.kind == kind
     }
 
-    /// The value at a place; `None` where it is null, or there is none.
+    /// The value at an index; `None` where it is null, or there is none.
     pub(crate) fn value(&self, place: usize) -> Option<&[u8]>
         ensures { option_copied result ≡ slice_index_or self.now.values place None }
     {
@@ -154,7 +154,7 @@ impl Dictionary {
         Ok(())
     }
 
-    /// Appends a value. Where there are too many bytes there is no room for it.
+    /// Appends a value. Where there would be too many bytes, it returns out of memory.
     fn push(&mut self, value: Option<&[u8]>) -> Result<(), AllocError>
         requires { length self.old.values < dictionary_limit }
         ensures ok { OnOk result (self.new ≡ record self.old { values = self.old.values ++ option_copied value.entry ∷ [] }) }

@@ -11,14 +11,14 @@ use std::alloc::AllocError;
 /// The most bytes that the values of a dictionary have together. No memory is so large.
 pub(crate) const MAX_KEPT: usize = 1 << 48;
 
-/// Where a value ends, and whether it is there: one that is null has no bytes.
+/// Where a value ends, and whether it is valid: one that is null has no bytes.
 #[derive(Clone, Copy, Debug)]
 pub(crate) struct End {
     pub(crate) place: usize,
     pub(crate) there: bool,
 }
 
-/// The value at a place; `None` where it is null, or there is none.
+/// The value at an index; `None` where it is null, or there is none.
 pub(crate) fn value_in<'v>(bytes: &'v [u8], ends: &[End], place: usize) -> Option<&'v [u8]>
     requires { AreEnds 0 ends.now (length bytes.now) }
     ensures { option_copied result ≡ slice_index_or (values_by_ends bytes.now 0 ends.now) place None }
@@ -41,7 +41,7 @@ fn part(bytes: &[u8], from: usize, to: usize) -> &[u8]
     &bytes[from..to]
 }
 
-/// Where the value at a place begins.
+/// Where the value at an index begins.
 fn start(ends: &[End], place: usize) -> usize
     requires { place < length ends.now }
     ensures { result ≡ start_of 0 ends.now place }
@@ -53,7 +53,7 @@ fn start(ends: &[End], place: usize) -> usize
     before.place
 }
 
-/// Appends the bytes of a value, and whether it is there. Where the bytes would be too many, there is no room for it.
+/// Appends the bytes of a value, and whether it is valid. Where there would be too many bytes, it returns out of memory.
 pub(crate) fn keep(kept: &mut Vec<u8>, value: Option<&[u8]>) -> Result<bool, AllocError>
     requires { vec_len kept.old ≤ kept_limit }
     ensures bytes { OnOk result (kept.new.items ≡ kept.old.items ++ bytes_or_none (option_copied value.entry)) }

@@ -31,7 +31,7 @@ pub(crate) fn known_columns(
     Ok(known)
 }
 
-/// The place of the array of each column, if it has one.
+/// The index of the array of each column, if it has one.
 pub(crate) fn places(
     alloc: Global,
     kind: Kind,
@@ -81,7 +81,7 @@ pub(crate) fn columns_fit(kind: Kind, arrays: &Arrays, known: &[Option<u32>]) ->
     true
 }
 
-/// The type of the elements of the list whose array is at a place.
+/// The type of the elements of the list whose array is at an index.
 fn elements(arrays: &Arrays, place: usize) -> Option<ArrowType>
     requires { place < max_fields }
     ensures { result ≡ elements_at arrays.now place }

@@ -16,7 +16,7 @@ use arrow_schema::ArrowType;
 use otap_dicts::Ladder;
 use std::alloc::{AllocError, Global};
 
-/// Appends a dictionary batch of the values of a ladder from a place on.
+/// Appends a dictionary batch of the values of a ladder from an index on.
 pub(crate) fn add_dictionary(
     alloc: Global,
     to: &mut Vec<u8>,
@@ -41,7 +41,7 @@ pub(crate) fn add_dictionary(
     batch.finish_dictionary(to, id, delta)
 }
 
-/// The values of a ladder from a place on, as a column.
+/// The values of a ladder from an index on, as a column.
 fn values_column(
     alloc: Global,
     width: Width,

@@ -1,4 +1,4 @@
-//! The bytes that are written for a cell, the lowest byte of a number first (Arrow columnar format, "Fixed-size primitive
+//! The bytes that are written for a cell, little-endian (Arrow columnar format, "Fixed-size primitive
 //! layout").
 
 ghost use Rattle.std.specs.Prelude.{◌≡◌, ◌+◌, ◌<◌, ◌≤◌, ◌^◌, ℕ, [], ◌∷◌, ◌++◌, Some, length, option_map, true, OnOk};

@@ -104,7 +104,7 @@ fn values_for(
     Ok(built)
 }
 
-/// A column that is written as indexes: the places of its values. The nulls before the first place and after the last one are
+/// A column that is written as indexes of its values. The nulls before the first index and after the last one are
 /// added at once.
 fn indexes_for(
     alloc: Global,
@@ -128,7 +128,7 @@ fn indexes_for(
     Ok(built)
 }
 
-/// How many rows there are before the first one that has a place.
+/// How many rows there are before the first one that has an index.
 fn unplaced_rows(places: &[Option<u32>]) -> usize
     ensures within { result ≤ length places.now }
     ensures none { (row : ℕ) → row < result → slice_index_or places.now row None ≡ None }

@@ -7,7 +7,7 @@ ghost use Rattle.otap_columns.specs.WrittenGroups.{IsWithin, group_in};
 
 use otap_cells::Kind;
 
-/// A column by its place in the table, and the name of its field.
+/// A column by its index in the table, and the name of its field.
 #[derive(Clone, Copy, Debug)]
 pub(crate) struct Member {
     pub(crate) column: u32,

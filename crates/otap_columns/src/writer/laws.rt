@@ -15,7 +15,7 @@ ghost use Rattle.otap_columns.specs.Schemas.{Forms, FormsFit, slots_for};
 ghost use Rattle.otap_columns.specs.WrittenRows.{AreSlotParts, HasValues};
 
 /// For every list of tables, the payloads that the policy gives them are read as just these tables: no record has a defect,
-/// and the table that a payload stands for has the cells, the codings and the ids of the one that was written. Its sub-stream
+/// and the table of a payload has the cells, the codings and the ids of the one that was written. Its sub-stream
 /// has the schema of the columns' forms.
 pub fn far_end_reads()
     ensures { (kind : Kind) (tables : List Table) (payloads : List PayloadIn) → AreWrittenAs kind tables payloads → EachAfter (IsReadAs kind) [] [] tables payloads }

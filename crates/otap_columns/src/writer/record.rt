@@ -44,14 +44,14 @@ fn add_opening(
     write_schema(to, &schema)
 }
 
-/// Whether the values of a column are written from a place on.
+/// Whether the values of a column are written from an index on.
 fn is_sent(opening: bool, form: ColumnForm, ladder: &Ladder, from: u32) -> bool
     ensures { result ≡ is_sent opening form (drop from ladder.now.values) }
 {
     is_dictionary(form) && (opening || from < ladder.count())
 }
 
-/// Appends the values of a column from a place on, where it is a dictionary and has some.
+/// Appends the values of a column from an index on, where it is a dictionary and has some.
 fn add_head(
     alloc: Global,
     to: &mut Vec<u8>,

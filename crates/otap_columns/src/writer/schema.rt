@@ -63,7 +63,7 @@ fn add_member(
     schema.push(leaf_field(alloc, kind, forms, member)?)
 }
 
-/// A struct is there where one of its columns is.
+/// A struct is in the schema where one of its columns is.
 fn add_struct(
     alloc: Global,
     schema: &mut SchemaSpec,
@@ -227,7 +227,7 @@ fn item_of(base: Base) -> Option<ArrowType>
     }
 }
 
-/// The id of a column's dictionary is its place among the columns.
+/// The id of a column's dictionary is the column's index.
 fn dict_of(column: u32, form: ColumnForm) -> Option<DictSpec>
     ensures { result ≡ dict_for column form }
 {

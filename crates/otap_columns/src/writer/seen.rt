@@ -28,7 +28,7 @@ use std::marker::Model;
 pub(crate) struct SeenColumn {
     pub(crate) ladder: Ladder,
     pub(crate) wide: bool,
-    /// Of each row of the last table, up to the last one in which the column was set, the place of its value in the dictionary. Left
+    /// Of each row of the last table, up to the last one in which the column was set, the index of its value in the dictionary. Left
     /// open where the column isn't one.
     pub(crate) places: Vec<Option<u32>>,
 }
@@ -55,7 +55,7 @@ impl SeenColumn {
         }
     }
 
-    /// Observes a column of one more table. Where memory runs out it stands for no list of tables.
+    /// Observes a column of one more table. Where memory runs out, the state may be that of no list of tables.
     pub(crate) fn observe(
         &mut self,
         alloc: Global,
@@ -83,7 +83,7 @@ impl SeenColumn {
         Ok(())
     }
 
-    /// The form of the column after the tables that it stands for.
+    /// The form of the column after the tables in which it was observed.
     pub(crate) fn form(&self, kind: Kind, column: u32) -> ColumnForm
         requires { column < width_of kind }
         ensures { (tables : List Table) → IsSeenAfter kind tables column self.now → result ≡ form_at kind tables column }
@@ -179,7 +179,7 @@ fn needs_wide(alloc: Global, table: &LogicalTable, column: u32) -> Result<bool, 
     has_wide_id(alloc, table, column)
 }
 
-/// Observes the cells of a column from the first one that was set to the last one, and notes their places. Once the column is
+/// Observes the cells of a column from the first one that was set to the last one, and notes their indexes. Once the column is
 /// plain no cell is looked at, and a cell that is the same as the one before isn't looked up.
 fn observe_values(
     ladder: &mut Ladder,
@@ -215,7 +215,7 @@ fn observe_values(
     Ok(())
 }
 
-/// Observes a cell after another one, the place of whose value is known.
+/// Observes a cell after another one, whose value has a known index.
 fn observe_after(
     ladder: &mut Ladder,
     base: Base,

@@ -9,13 +9,13 @@ use crate::jobs::reply::Reply;
 use otap_capture::Frame;
 use std::alloc::{AllocError, Global};
 
-/// A job that replies to frames, one after the other. It stands for the frames that it has taken and
-/// the replies that it has made to them.
+/// A job that replies to frames, one after the other. Its state is the one after the frames that it has
+/// taken and the replies that it has made to them.
 pub(crate) trait Job {
     /// Which job it is.
     ghost command: { Self → Command };
 
-    /// The histories that its state stands for.
+    /// The histories after which it has its state.
     ghost stands: { Self → History };
 
     /// The reply to the next frame, whose number counts the frames before it.

@@ -70,7 +70,7 @@ fn reply_of(
     }
 }
 
-/// The reply to a frame that is refused.
+/// The reply to a refused frame.
 pub(crate) fn refused(alloc: Global, number: u64, refusal: Refusal) -> Result<Reply, AllocError>
     ensures { IfOk result (λ reply. reply ≡ refuses (refusal_line number refusal)) }
 {

@@ -1,4 +1,4 @@
-//! The replies to batches that are refused.
+//! The replies to refused batches.
 ghost use Rattle.std.specs.Prelude.{◌≡◌, IfOk, Some};
 ghost use Rattle.otap_gateway.specs.Refused.{refused_unread, unread_name, refused_batch};
 
@@ -23,7 +23,7 @@ pub(crate) fn unread_name(refusal: BatchRefusal) -> &'static str
     defect_name(refusal.defect())
 }
 
-/// The reply to a batch that is refused in a stage, by the name of the cause and the payload type
+/// The reply to a batch that a stage refuses, by the name of the cause and the payload type
 /// of the payload that it is in.
 pub(crate) fn refused_batch(
     alloc: Global,

@@ -1,4 +1,4 @@
-//! The replies to requests that are refused.
+//! The replies to refused requests.
 ghost use Rattle.std.specs.Prelude.{◌≡◌, IfOk};
 ghost use Rattle.otlp_codec.specs.Refusals.{refusal_of};
 ghost use Rattle.otap_gateway.specs.EncodingSteps.{NamesDefect};

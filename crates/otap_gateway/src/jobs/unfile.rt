@@ -110,7 +110,7 @@ fn close_message(message: &mut Backward, kind: Kind, id: u32) -> Result<(), Allo
     message.put_signed_row(1, i64::from(id))
 }
 
-/// The line of a file that is refused. Out of memory is passed on.
+/// The line of a refused file. Out of memory is passed on.
 pub(crate) fn refusal_line(alloc: Global, refusal: FileRefusal) -> Result<Vec<u8>, AllocError>
     ensures text { IfOk result (λ line. line.items ≡ refused_file refusal) }
     ensures known { IfOk result (λ line. IsOfFile refusal) }

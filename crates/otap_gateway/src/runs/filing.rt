@@ -1,4 +1,4 @@
-//! The run of `file`: frames that are refused have their lines, and the file is written at the end of the capture.
+//! The run of `file`: refused frames have their lines, and the file is written at the end of the capture.
 
 ghost use Rattle.std.specs.Prelude.{◌≡◌, IfOk};
 ghost use Rattle.otap_gateway.specs.declared.jobs.ending.Ending.TheVariants as ending;

@@ -26,7 +26,7 @@ pub(crate) trait Handler {
     /// Which job it is.
     ghost task: { Self → Task };
 
-    /// The histories that its state stands for.
+    /// The histories after which it has its state.
     ghost histories: { Self → History };
 
     /// Writes the reply to the next frame, whose number counts the frames before it. Where something stops it, the reply

@@ -57,7 +57,7 @@ pub(crate) fn reset_line(alloc: Global, number: u64) -> Result<String, AllocErro
     Ok(format!(in alloc; "frame {number}: reset\n")?)
 }
 
-/// The line for a batch that is refused, with a dash for an id or a payload type that is none.
+/// The line for a refused batch, with a dash for an id or a payload type that is none.
 pub(crate) fn refused_line(
     alloc: Global,
     number: u64,
@@ -100,7 +100,7 @@ pub(crate) fn or_dash(alloc: Global, number: Option<i64>) -> Result<String, Allo
     }
 }
 
-/// The line for a request that is refused.
+/// The line for a refused request.
 pub(crate) fn request_line(alloc: Global, number: u64, cause: &str) -> Result<Vec<u8>, AllocError>
     ensures { IfOk result (λ line. line.items ≡ request_line number cause.now) }
 {

@@ -39,7 +39,7 @@ resource_passes bytes =
     let pairs = part_of resource_step (λ s. s.pairs) 1 (many_in pair_in) (λ r f. refl) no_resource (fields_of bytes) in
     λ i. record { schema_url = url i; dropped = dropped i; pairs = pairs i }
 
--- what is made of two fields of bytes, 3 and 1, in whatever order they stand
+-- what is made of two fields of bytes, 3 and 1, in whatever order they come
 record Makes {A : Type 0} (make : List ℕ → List ℕ → A) (url part : A → FieldValue → A) : Type 0 where
   by_url : (u b : List ℕ) (v : FieldValue) → url (make u b) v ≡ make (bytes_in u v) b
   by_part : (u b : List ℕ) (v : FieldValue) → part (make u b) v ≡ make u (bytes_in b v)

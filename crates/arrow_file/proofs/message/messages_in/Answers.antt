@@ -10,7 +10,7 @@ use Rattle.arrow_file.proofs.message.messages_in.Goals as goal
 pub unwrap-offset-requires : goal.unwrap-offset-requires
 unwrap-offset-requires c = rw (c.offset_at.ensures, slice_get-blocks_in c.args.blocks.now c.loop-place.place (omega arith)) refl
 
--- what isn't there is None
+-- what is absent is None
 absent : {A : Type 0} (found : Option A) (P : Type 0) → ((x : A) → found ≡ Some x → ⊥) → IfNone found P → P
 absent None P none h = h
 absent (Some x) P none h = absurd (none x refl)

@@ -7,7 +7,7 @@ use Rattle.arrow_ipc.specs.Laying.{pairs_bytes}
 use Rattle.arrow_ipc.proofs.TablesBuilt.{batch_stands}
 use Rattle.arrow_ipc.proofs.write.add_batch.Goals as goal
 
--- a vector that was added before still stands, with the bytes that were made of its structs
+-- a vector that was added before is still there, with the bytes that were made of its structs
 still : (old new parts bytes : List ℕ) (place : ℕ) → parts ≡ bytes → Grows old new → StaysAt (IsParts 16 parts) old place → StaysAt (IsParts 16 bytes) new place
 still old new parts bytes place same g s = subst (λ (made : List ℕ). StaysAt (IsParts 16 made) new place) same (stands_on (IsParts 16 parts) old new place g s)
 

@@ -12,7 +12,7 @@ decreases-add_field l = 2 * field_count l.field.now
 abbrev pub decreases-add_fields : goal.decreases-add_fields
 decreases-add_fields l = 2 * count_of l.fields.now + 1
 
--- the fields so far stand, and what is left still fits
+-- the fields so far are written, and what is left still fits
 abbrev pub invariant-add_fields-loop-field : goal.invariant-add_fields-loop-field
 invariant-add_fields-loop-field l = record {
   stand : AllStand (take l.field-index l.fields) l.places.items l.builder;

@@ -2,7 +2,7 @@ use Rattle.std.proofs.Common.{◌≡◌, ℕ, ◌+◌, List, ◌++◌, take, dro
 use Rattle.std.proofs.Math.Seq.{take-add}
 use Rattle.otlp_messages.proofs.backward.move_to_front.Goals as goal
 
--- one more piece is moved, and what stands after it is as before
+-- one more piece is moved, and what follows it is as before
 moved_on : (start place size : ℕ) (old now new : List ℕ) → take place now ≡ take place (drop start old) → drop place now ≡ drop place old
     → take (place + size) new ≡ take place now ++ take size (drop (start + place) now) → take (place + size) new ≡ take (place + size) (drop start old)
 moved_on start place size old now new front rest moved =
