@@ -18,6 +18,10 @@ kept_limit = 2 ^ 48
 abbrev pub held_unit : ℕ
 held_unit = 8
 
+-- what a reader holds for all dictionaries is below this, whatever it has read
+abbrev pub reader_held_limit : ℕ
+reader_held_limit = 2 ^ 58
+
 -- how much the far end holds at most for a dictionary that is written: the bytes of its values, and a unit for each
 abbrev pub held_most : ℕ
 held_most = byte_limit + held_unit * value_limit

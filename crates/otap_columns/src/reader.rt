@@ -1,4 +1,4 @@
-ghost use Rattle.std.specs.Prelude.{◌≡◌, ◌<◌, ◌^◌, [], true, false, is_err, length, Some, OnOk, IfOk, IfErr, IfSome, IfNone, List, IsOk};
+ghost use Rattle.std.specs.Prelude.{◌≡◌, ◌<◌, [], true, false, is_err, length, Some, OnOk, IfOk, IfErr, IfSome, IfNone, List, IsOk};
 ghost use Rattle.std.specs.Option.{option_copied};
 ghost use Rattle.arrow_ipc.specs.declared.messages.IpcMessage.{IpcMessage};
 ghost use Rattle.arrow_ipc.specs.Fronts.{front_of};
@@ -25,14 +25,14 @@ use otap_cells::{Base, Coding, Kind, base_of, coding_of};
 use std::alloc::Global;
 use std::marker::Model;
 
-/// Reads the records of a sub-stream. A contract sees its sub-stream, which is the one after the messages that it stands
-/// for.
+/// Reads the records of a sub-stream. A contract sees its sub-stream, which is the one after the messages that were
+/// read.
 #[derive(Debug, Drop)]
 pub struct Reader {
     alloc: Global,
     kind: Kind,
     arrays: Arrays,
-    /// The place of the array of each column of the kind.
+    /// The index of the array of each column of the kind.
     places: Vec<Option<usize>>,
     dictionaries: Vec<Dictionary>,
     /// The offset of the record batch in the last record.
@@ -54,6 +54,7 @@ impl Model for Reader {
 
 impl Reader {
     ghost use Rattle.otap_columns.specs.Dictionaries.{held_weight};
+    ghost use Rattle.otap_columns.specs.Limits.{reader_held_limit};
     ghost use Rattle.otap_columns.specs.Records.{IsRead, Refuses};
     ghost use Rattle.otap_columns.specs.Views.{StandsFor, StandsForRecord, Shows, Takes};
     ghost use Rattle.otap_columns.specs.Substreams.{logical};
@@ -74,7 +75,7 @@ impl Reader {
         Ok(reader)
     }
 
-    /// Takes a further record. After a refusal, out of memory among them, the reader is broken.
+    /// Takes a further record. After any refusal, out of memory too, the reader is broken.
     pub fn take(&mut self, bytes: &[u8]) -> Result<(), ColumnRefusal>
         requires { self.old.broken ≡ false }
         ensures takes { OnOk result (Takes self.old bytes.now self.new) }
@@ -100,7 +101,7 @@ impl Reader {
     /// What the dictionaries hold: the bytes of each value, and 8 for each.
     pub fn held(&self) -> u64
         ensures value { result ≡ held_weight self.now.substream.dictionaries }
-        ensures few { result < 2 ^ 58 }
+        ensures few { result < reader_held_limit }
     {
         dictionaries::held(&self.dictionaries)
     }
@@ -255,7 +256,7 @@ impl Reader {
         }
     }
 
-    /// The column of the field at a place, whose cells hold a base.
+    /// The column of the field at an index, whose cells hold a base.
     fn field<'v>(&'v self, batch: &BatchView<'v>, place: usize, base: Base) -> ResolvedColumn<'v>
         requires { IsOk (arrays_check batch.now self.now.substream.arrays) }
         ensures field { IsFieldColumn self.now.substream batch.now place result }
@@ -285,7 +286,7 @@ impl Reader {
         }
     }
 
-    /// The place of the array of a column.
+    /// The index of the array of a column.
     fn place_of(&self, column: u32) -> Option<usize>
         requires { column < width_of self.now.kind }
         ensures { result ≡ place_at self.now.kind self.now.substream.arrays column }
