@@ -87,7 +87,7 @@ parents_run table.NumberExemplarAttrs e = refl
 parents_run table.HistExemplarAttrs e = refl
 parents_run _ e = absurd cc
 
--- the value of an attribute stands from the third column on
+-- the value of an attribute begins at the third column
 pub has_value : (kind : Kind) → has_attributes kind ≡ true → HasValueAt kind 2
 unfolding attrs deep_attrs
 has_value table.ResourceAttrs e = record { bases = refl }

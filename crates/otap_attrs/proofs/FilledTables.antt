@@ -1,4 +1,4 @@
--- The tables below a main one, of which those with rows stand in a request: what the table of a kind is, and what holds of all.
+-- The tables below a main one, of which those with rows are in a request: what the table of a kind is, and what holds of all.
 use Rattle.std.proofs.Common.{◌≡◌, ℕ, true, false, Bool, List, [], ◌∷◌, ◌++◌, length, map, refl, sym, ap, ◌∙◌, subst, arith, inl, inr, append-nil, append_assoc}
 use Rattle.std.specs.Prelude.{All, ◌==◌, not, if◌then◌else◌, filter, nat_eq, nat_lt, sum_by}
 use Rattle.std.specs.List.{AllByRecursion, IsDistinct, flat_map}
@@ -52,7 +52,7 @@ missing_named kind (t ∷ ts) far =
       | inr none ↦ rw none more
     ]
 
--- tables without rows may stand there or not
+-- tables without rows may be there or not
 pub filled_named : (kind : Kind) (ts : List Table) → apart (numbers ts) ≡ true → Formed ts → table_named kind (filled ts) ≡ table_named kind ts
 filled_named kind [] far formed = refl
 filled_named kind (t ∷ ts) far formed =

@@ -9,7 +9,7 @@ use Rattle.otap_cells.specs.Inside.{numbers}
 use Rattle.otap_attrs.specs.Defects.{OrphanIn}
 use Rattle.otap_attrs.specs.Indexing.{Lacks}
 
--- a number stands among ids where it stands among their numbers
+-- a number is among the numbers of ids where it is among the ids
 pub number_among : (ids : List (Option ℕ)) (n : ℕ) → Contains ids (Some n) → Contains (numbers ids) n
 number_among [] n (k, within, at) = absurd (omega arith)
 number_among (None ∷ ids) n (zero, within, at) = absurd (cc)

@@ -21,7 +21,7 @@ pub record HasOrphan (t : Table) (ids : List (Option ℕ)) : Type 0 where
   pub are : HasIds t 0 parents
   pub orphan : OrphanIn parents ids
 
--- a row has a wrong value, whose columns stand from this one on
+-- a row has a wrong value, whose columns begin at this one
 pub record WrongValue (t : Table) (column : ℕ) (wrong : RowRefusal) : Type 0 where
   pub row : ℕ
   pub there : row < length t.rows

@@ -13,7 +13,7 @@ use Rattle.otap_groups.specs.Found.{found}
 use Rattle.otap_groups.specs.Rows.{ChildRow, child_rows}
 use Rattle.otap_attrs.specs.Values.{pair_in}
 
--- the rows of attributes, with the parents that their ids stand for
+-- the rows of attributes, with the parents that are read from their ids
 abbrev pub attribute_rows_in : Table → List ChildRow
 attribute_rows_in t = child_rows [] (ids_in t 0) (map (drop 1) t.rows)
 

@@ -3,7 +3,7 @@ use Rattle.std.specs.Prelude.{ℕ, ◌<◌, All, List, Option, Some, Contains}
 use Rattle.std.specs.List.Sorted.{IsNonDecreasingBy}
 use Rattle.otap_groups.specs.declared.entry.ChildEntry.{ChildEntry}
 
--- entries stand by parent, and name rows of a table that has this number of them
+-- entries are in the order of their parents, and name rows of a table that has this number of them
 pub record IsByParent (entries : List ChildEntry) (count : ℕ) : Type 0 where
   pub rising : IsNonDecreasingBy (λ (e : ChildEntry). e.parent) entries
   pub below : All (λ (e : ChildEntry). e.place < count) entries

@@ -47,7 +47,7 @@ value_of_type kind cells =
 unfoldable pub value_in : List Cell → Value
 value_in cells = value_of_type (value_type_in cells) cells
 
--- the columns of a value stand from this one on
+-- the columns of a value begin at this one
 pub record HasValueAt (kind : Kind) (column : ℕ) : Type 0 where
   pub bases : map (λ (c : ColumnSpec). c.base) (take 7 (drop column (columns_of kind))) ≡ value_bases
 

@@ -95,7 +95,7 @@ pub fn add_parts<W: PartWriter>(
     requires rising { RisingParts 0 (map seen_placed parts.now) }
     requires parts { All (λ placed. W.CanWrite placed.part.now) parts.now }
     ensures ok { OnOk result (tables.new.items ≡ tables.old.items
-        ++ map beside_kind (where_rows (profile_table W.kind (stored_parts (coding_at W.kind 1) (again_of W.kind) W.cells_of 0 0 None (map seen_placed parts.now))))) }
+        ++ map beside_kind (where_rows (profile_table (W.kind writer.now) (stored_parts (coding_at (W.kind writer.now) 1) (again_of (W.kind writer.now)) W.cells_of 0 0 None (map seen_placed parts.now))))) }
     ensures err { OnErr result (tables.new.items ≡ tables.old.items) }
 {
     let table = write_parts(alloc, writer, parts)?;

@@ -11,8 +11,8 @@ use otap_cells::LogicalTable;
 use otlp_model::{Items, Pair};
 use std::alloc::{AllocError, Global};
 
-/// Appends the rows of the pairs of a parent, whose number stands there as it is. After want of memory the table's former rows
-/// stand first; which rows follow them isn't told.
+/// Appends the rows of the pairs of a parent, whose number is stored as it is. Where memory runs out, the table's former rows
+/// come first; which rows follow them isn't said.
 pub fn add_pairs(
     alloc: Global,
     table: &mut LogicalTable,

@@ -42,8 +42,8 @@ impl Model for PairIndex {
     ghost invariant = { λ s. IsByParent s.entries.items (length s.weights.items) };
 }
 
-/// Finds the pairs of each parent in a table of attributes whose parents are to stand among these, and tells what is wrong with
-/// it. Takes n log n for n rows and parents.
+/// Finds the pairs of each parent in a table of attributes whose parents are to be among these, or returns what is wrong
+/// with it. Takes n log n for n rows and parents.
 pub fn index_pairs<R: Rows>(
     alloc: Global,
     kind: Kind,

@@ -26,8 +26,8 @@ pub fn has_orphan(
     Ok(found)
 }
 
-/// Whether each parent stands among ids at the place that it counts, or else at or after the place where the last
-/// search ended. Where ids are counted from 0, or where parents and ids rise, each that is there does.
+/// Whether each parent is among ids at the place that it counts, or else at or after the place where the last
+/// search ended. Where ids are counted from 0, or where parents and ids rise, each that is there is found so.
 fn finds_all(ids: &[Option<u32>], parents: &[Option<u32>]) -> bool
     ensures { result ≡ true → OrphanIn parents.now ids.now → ⊥ }
 {

@@ -56,8 +56,8 @@ fn place_pair<'a>(alloc: Global, parent: u32, pair: &'a Pair) -> Result<PlacedPa
     })
 }
 
-/// Appends the row of a pair of a parent, whose number stands there as it is. After want of memory the former rows stand
-/// first; whether a row follows them isn't told.
+/// Appends the row of a pair of a parent, whose number is stored as it is. Where memory runs out, the former rows come
+/// first; whether a row follows them isn't said.
 pub(crate) fn add_pair(
     table: &mut LogicalTable,
     parent: u32,
@@ -105,8 +105,8 @@ fn attribute<'a>(kind: u32, key: &'a [u8], int: i64, bits: u64, bytes: &'a [u8])
     }
 }
 
-/// Appends the row of what an attribute of a parent says. The parent's number stands there as it is. After want of memory the
-/// former rows stand first; whether a row follows them isn't told.
+/// Appends the row of what an attribute of a parent says. The parent's number is stored as it is. Where memory runs out, the
+/// former rows come first; whether a row follows them isn't said.
 pub(crate) fn add_attribute(
     table: &mut LogicalTable,
     parent: u32,
@@ -149,7 +149,7 @@ fn is_null(cell: CellView<'_>) -> bool
     matches!(cell, CellView::Null)
 }
 
-/// The cell of a parent, whose number stands there as it is.
+/// The cell of a parent, whose number is stored as it is.
 fn parent_cell<'a>(parent: u32) -> CellView<'a>
     ensures value { seen result ≡ number (pos parent) }
     ensures fits { IsCellOf (base.Id true) (seen result) }

@@ -58,7 +58,7 @@ impl From<IdFault> for RowRefusal {
 impl From<IdsRefusal> for RowRefusal {
     ghost from_gives = { λ inner refusal. refusal ≡ refusal_of_ids inner };
 
-    /// Want of memory is a refusal of its own.
+    /// Out of memory is a refusal of its own.
     fn from(inner: IdsRefusal) -> RowRefusal {
         match inner {
             IdsRefusal::Memory(error) => RowRefusal::Memory(error),
@@ -70,7 +70,7 @@ impl From<IdsRefusal> for RowRefusal {
 impl From<CborRefusal> for RowRefusal {
     ghost from_gives = { λ inner refusal. refusal ≡ refusal_of_cbor inner };
 
-    /// Want of memory is a refusal of its own.
+    /// Out of memory is a refusal of its own.
     fn from(inner: CborRefusal) -> RowRefusal {
         match inner {
             CborRefusal::Memory(error) => RowRefusal::Memory(error),

@@ -21,7 +21,7 @@ use otap_cells::{
 use otlp_model::{Value, capped_len};
 use std::alloc::{AllocError, Global};
 
-/// The value of a row, whose columns stand from this one on. Cells of other types than the value's are passed over.
+/// The value of a row, whose columns begin at this one. Cells of other types than the value's are passed over.
 #[tactic(auto, using(crate::proofs::ValueColumns::value_text, crate::proofs::ValueColumns::value_type, crate::proofs::ValueColumns::value_width, crate::proofs::ValueColumns::small_width, crate::proofs::ValueColumns::value_cell), unfolding(crate::specs::Values::value_in))]
 pub fn value_at<R: Rows>(
     alloc: Global,
@@ -116,7 +116,7 @@ fn value_row<'a>(
     [CellView::Num(kind), text, int, double, flag, octets, nested]
 }
 
-/// What the value of a row weighs, whose columns stand from this one on, or `CAP` where it is more. It builds nothing.
+/// What the value of a row weighs, whose columns begin at this one, or `CAP` where it is more. It builds nothing.
 #[tactic(auto, using(crate::proofs::ValueColumns::value_type, crate::proofs::ValueColumns::value_width, crate::proofs::ValueColumns::small_width, crate::proofs::ValueColumns::value_cell, crate::proofs::ValueCells::weight_of_text, crate::proofs::ValueCells::weight_of_octets, crate::proofs::ValueCells::weight_of_map, crate::proofs::ValueCells::weight_of_array, crate::proofs::ValueCells::weight_of_other))]
 pub fn weight_at<R: Rows>(rows: &R, column: u32, row: u64) -> u64
     requires columns { HasValueAt (R.table rows.now).kind column }
@@ -131,7 +131,7 @@ pub fn weight_at<R: Rows>(rows: &R, column: u32, row: u64) -> u64
     }
 }
 
-/// Tells what is wrong with the cells of a row's value, whose columns stand from this one on: a type above 7, a nested value
+/// Returns what is wrong with the cells of a row's value, whose columns begin at this one: a type above 7, a nested value
 /// that is no map or no array where its type says so, or one that can't be read.
 #[tactic(auto, using(crate::proofs::ValueColumns::value_type, crate::proofs::ValueColumns::value_width, crate::proofs::ValueColumns::small_width, crate::proofs::ValueColumns::value_cell))]
 pub fn check_value<R: Rows>(rows: &R, column: u32, row: u64) -> Result<(), RowRefusal>

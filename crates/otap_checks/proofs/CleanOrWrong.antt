@@ -47,7 +47,7 @@ use Rattle.otap_checks.proofs.GivenColumns.{nothing_wrong, one_given}
 
 -- ---- the ids of columns
 
--- the numbers of a column stand for no ids
+-- the numbers of a column give no ids
 abbrev pub IsUnknown : Table → ℕ → Type 0
 IsUnknown t column = (ids : List (Option ℕ)) → HasIds t column ids → ⊥
 

@@ -1,4 +1,4 @@
--- What is refused where nothing is wrong with the rows: only want of memory, or the weight of the request.
+-- What is refused where nothing is wrong with the rows: only out of memory, or the weight of the request.
 use Rattle.std.proofs.Common.{◌≡◌, ◌<◌, ℕ, subst}
 use Rattle.otlp_model.specs.Limits.{weight_limit}
 use Rattle.otap_attrs.specs.declared.refusal.CheckRefusal.TheVariants as check

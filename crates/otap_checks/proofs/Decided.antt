@@ -13,7 +13,7 @@ use Rattle.otap_attrs.specs.Defects.{OrphanIn}
 
 -- ---- ids
 
--- a number stands twice
+-- a number comes twice
 pub twice_or_not : (ids : List (Option ℕ)) → Twice ids ⊎ (Twice ids → ⊥)
 twice_or_not [] = inr (λ twice. absurd (omega (arith, twice.1)))
 twice_or_not (None ∷ ids) = twice_or_not ids

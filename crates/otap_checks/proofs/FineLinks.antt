@@ -1,4 +1,4 @@
--- Nothing is wrong with the ids of written tables, where the ids of their parents stand in another table.
+-- Nothing is wrong with the ids of written tables, where the ids of their parents are in another table.
 use Rattle.std.proofs.Common.{◌≡◌, ℕ, ◌<◌, ◌≤◌, ◌^◌, true, List, length, Option, Some, refl}
 use Rattle.std.specs.Prelude.{Contains}
 use Rattle.std.specs.List.{flat_map}

@@ -48,7 +48,7 @@ nothing_wrong tables t link given own parents why.TwoValues is = is
 nothing_wrong tables t link given own parents why.BadKind is = is
 nothing_wrong tables t link given own parents (why.Memory error) is = is
 
--- two rows with one id are told from the ids of the column
+-- two rows with one id show in the ids of the column
 pub own_once : (t : Table) (own : Option ℕ) (column : ℕ) (ids : List (Option ℕ)) → own ≡ Some column → HasIds t column ids → (Twice ids → ⊥) → DuplicateOf t own → ⊥
 own_once t own column ids is are once dup =
     let here : Duplicate t column = subst (DuplicateOf t) is dup in

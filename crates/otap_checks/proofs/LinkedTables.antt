@@ -18,7 +18,7 @@ abbrev pub IsIdOrNone : Kind → Option ℕ → Type 0
 IsIdOrNone kind None = Unit {0}
 IsIdOrNone kind (Some column) = is_id_at kind column ≡ true
 
--- parents stand in a column of ids, and their ids in another table's column, which isn't one of parents
+-- parents are in a column of ids, and their ids in another table's column, which isn't one of parents
 pub record IsAbove (kind : Kind) (p : Parents) : Type 0 where
   pub column : is_id_at kind p.column ≡ true
   pub at : is_id_at p.of p.at ≡ true

@@ -6,6 +6,7 @@ use Rattle.otap_cells.specs.GivenIds.{HasIds}
 use Rattle.otap_cells.specs.Tables.{Table, profile_table}
 use Rattle.otap_groups.specs.Children.{children}
 use Rattle.otap_groups.specs.Rows.{child_rows, main_rows}
+use Rattle.otap_attrs.specs.Index.{pairs_in}
 use Rattle.otap_checks.specs.Reading.{Disagrees, part_rows_in}
 use Rattle.otap_attrs.proofs.TablePairs.{ids_are}
 
@@ -17,6 +18,11 @@ pub no_parts : {C : Type 0} (item : Option ℕ → List Cell → C) (kind : Kind
 unfolding child_rows
 no_parts item kind None = refl
 no_parts item kind (Some parent) = refl
+
+pub no_pairs : (kind : Kind) (parent : Option ℕ) → [] ≡ pairs_in (profile_table kind []) parent
+unfolding child_rows
+no_pairs kind None = refl
+no_pairs kind (Some parent) = refl
 
 no_rows : (ids resource_ids scope_ids : List (Option ℕ)) → length (main_rows ids resource_ids scope_ids []) ≡ 0
 unfolding main_rows

@@ -1,4 +1,4 @@
--- Pairs that are written for parents are found again, in whatever order their rows stand.
+-- Pairs that are written for parents are found again, in whatever order their rows come.
 use Rattle.std.proofs.Common.{◌≡◌, ℕ, ◌≤◌, ◌^◌, true, List, [], ◌∷◌, Option, length, map, drop, ap, ◌∙◌, subst}
 use Rattle.std.specs.Prelude.{All, IsTrue}
 use Rattle.std.specs.List.{AllByRecursion, flat_map}

@@ -124,7 +124,7 @@ module _ (fits : ℕ → Bool) (main : Table) (parents ids : List (Option ℕ)) 
   ]
 
 module _ (fits : ℕ → Bool) (t main : Table) (parents ids : List (Option ℕ)) (are : HasIds t 1 parents) (known : HasIds main 0 ids) where
-  -- which ids there are doesn't depend on how they are told
+  -- which ids there are doesn't depend on how they are read
   pub same_ids : WrongParent fits t main → NamesOther fits main parents ids
   same_ids w =
       subst (NamesOther fits main parents) (one_given main 0 w.ids ids w.known known)

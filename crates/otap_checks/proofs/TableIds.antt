@@ -10,22 +10,19 @@ use Rattle.otap_cells.specs.declared.ids.IdFault.TheVariants as fault
 use Rattle.otap_cells.specs.Ids.{fits_after, undone_after}
 use Rattle.otap_cells.specs.Named.{table_named}
 use Rattle.otap_cells.specs.declared.payload.Kind.{Kind}
-use Rattle.otap_cells.specs.Tables.{Table, coding_in, greatest_in, profile_table}
+use Rattle.otap_cells.specs.Tables.{Table, coding_in, greatest_in}
 use Rattle.otap_cells.specs.ColumnIds.{HasNullParent, stored_in}
 use Rattle.otap_cells.specs.Continuing.{continues_in}
 use Rattle.otap_cells.specs.GivenIds.{HasIds, ids_in}
 use Rattle.otap_cells.proofs.IdLaws.{stands_fits, undone_stands}
-use Rattle.otap_groups.specs.Rows.{MainRow, main_rows, main_row_at, child_rows, cells_are, id_at}
-use Rattle.otap_groups.specs.Children.{children}
+use Rattle.otap_groups.specs.Rows.{MainRow, main_rows, main_row_at, cells_are, id_at}
 use Rattle.otap_groups.specs.Disagree.{DifferBy, Disagree}
 use Rattle.otap_attrs.specs.declared.refusal.RowRefusal.{RowRefusal}
 use Rattle.otap_attrs.specs.declared.refusal.RowRefusal.TheVariants as why
-use Rattle.otap_attrs.specs.Values.{pair_in}
 use Rattle.otap_checks.specs.declared.links.TableLink.{TableLink}
 use Rattle.otap_checks.specs.Links.{links_of}
 use Rattle.otap_checks.specs.IdDefects.{IdDefect}
 use Rattle.otap_checks.specs.Given.{AreGiven}
-use Rattle.otap_attrs.specs.Index.{pairs_in}
 use Rattle.otap_checks.specs.Reading.{main_rows_in, Disagrees}
 use Rattle.otap_attrs.proofs.TablePairs.{ids_are}
 
@@ -36,11 +33,6 @@ pub main_rows_are : (t : Table) (ids resource_ids scope_ids : List (Option ℕ))
     → main_rows ids resource_ids scope_ids t.rows ≡ main_rows_in t
 main_rows_are t ids resource_ids scope_ids own resource scope =
     λ i. main_rows (ids_are t 0 ids own i) (ids_are t 1 resource_ids resource i) (ids_are t 4 scope_ids scope i) t.rows
-
--- a missing table has no pairs
-pub no_pairs : (kind : Kind) (parent : Option ℕ) → pairs_in (profile_table kind []) parent ≡ children (λ id cells. pair_in cells) (child_rows [] [] []) parent
-unfolding child_rows
-no_pairs kind parent = refl
 
 -- ---- rows that differ
 

@@ -1,4 +1,4 @@
--- What may be wrong with the ids of a batch. What rests on ids is wrong only where the stored numbers stand for ids.
+-- What may be wrong with the ids of a batch. What rests on ids is wrong only where the stored numbers give ids.
 use Rattle.std.specs.Prelude.{◌≡◌, ℕ, true, false, List, Option, None, Some, Contains}
 use Rattle.otlp_model.specs.declared.request.Signal.{Signal}
 use Rattle.otap_attrs.specs.declared.refusal.RowRefusal.{RowRefusal}

@@ -5,7 +5,6 @@ pub mod Inside
 pub mod Known
 pub mod Links
 pub mod Measured
-pub mod Pairing
 pub mod Reading
 pub mod Refusing
 pub mod Regrouping

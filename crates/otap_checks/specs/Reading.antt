@@ -1,4 +1,4 @@
--- The rows of tables, with the ids that their columns stand for, and what rests on them.
+-- The rows of tables, with the ids that their columns give, and what rests on them.
 use Rattle.std.specs.Prelude.{◌≡◌, ℕ, true, List, [], Option, map, drop, ◌⊎◌}
 use Rattle.otap_cells.specs.Columns.{is_id_at}
 use Rattle.otap_cells.specs.GivenIds.{HasIds, ids_in}

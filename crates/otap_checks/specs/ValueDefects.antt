@@ -10,7 +10,7 @@ use Rattle.otap_attrs.specs.Defects.{WrongValue}
 abbrev pub WrongValueOf : List Table → Kind → ℕ → Kind → RowRefusal → Type 0
 WrongValueOf tables kind column named wrong = (named ≡ kind) × WrongValue (table_named kind tables) column wrong
 
--- nothing is wrong with the values of the table of a kind, whose columns stand from this one on
+-- nothing is wrong with the values of the table of a kind, whose columns begin at this one
 abbrev pub HasFineValuesAt : ℕ → List Table → Kind → Type 0
 HasFineValuesAt column tables kind = (wrong : RowRefusal) → WrongValue (table_named kind tables) column wrong → ⊥
 

@@ -60,9 +60,9 @@ pub fn groups_within<R: Rows, S: RowReader, P: Lookup<Child = Pair>>(
 ) -> Result<Grouped<S::Item>, RegroupRefusal>
     ensures groups { IfOk result (λ made. made.groups ≡ regrouped (P.finds main.now.resources) (P.finds main.now.scopes) (S.item main.now.items)
         (main_rows main.now.front.ids.now main.now.front.resource_ids.now main.now.front.scope_ids.now (R.table main.now.front.rows.now).rows)) }
-    ensures tree { IfOk result (λ made. made.tree ≡ total part_weight (weigh_resource_group (P.weigh main.now.resources) (P.weigh main.now.scopes) (S.weigh main.now.items)) made.groups) }
+    ensures tree { IfOk result (λ made. made.tree ≡ total part_weight (weigh_resource_group P.weigh P.weigh S.weigh) made.groups) }
     ensures light { IfOk result (λ made. made.tree ≤ weight_limit) }
-    ensures refused { IfErr result (RefusesRegroup Nothing (total part_weight (weigh_resource_group (P.weigh main.now.resources) (P.weigh main.now.scopes) (S.weigh main.now.items))
+    ensures refused { IfErr result (RefusesRegroup Nothing (total part_weight (weigh_resource_group P.weigh P.weigh S.weigh)
         (regrouped (P.finds main.now.resources) (P.finds main.now.scopes) (S.item main.now.items)
         (main_rows main.now.front.ids.now main.now.front.resource_ids.now main.now.front.scope_ids.now (R.table main.now.front.rows.now).rows)))) }
 {

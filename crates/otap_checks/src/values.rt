@@ -11,7 +11,7 @@ use crate::checking::refused;
 use otap_attrs::{CheckRefusal, RowRefusal, check_value};
 use otap_cells::{Kind, Rows, TableSet};
 
-/// Tells what is wrong with the values of the table of a kind, whose columns stand from this one on. It builds nothing.
+/// Returns what is wrong with the values of the table of a kind, whose columns begin at this one. It builds nothing.
 pub fn check_values<R: Rows>(set: &TableSet<R>, kind: Kind, column: u32) -> Result<(), CheckRefusal>
     requires { HasValueAt kind column }
     ensures ok { OnOk result ((why : RowRefusal) → WrongValue (table_named kind set.now) column why → ⊥) }

@@ -1,4 +1,4 @@
--- Requests that are found in two ways tell the same where the ways are alike.
+-- Requests that are found in two ways say the same where the ways are alike.
 use Rattle.std.proofs.Common.{ℕ, List, [], ◌∷◌, Option, None, Some, map, refl}
 use Rattle.std.specs.Prelude.{filter}
 use Rattle.std.specs.List.{AllZip, flat_map}
@@ -61,7 +61,7 @@ module _ {I : Type 0} (SameOne : I → I → Type 0) (d d' e e' : Option ℕ →
   unfolding regrouped
   alike_regrouped rows = alike_groups (runs same_resource rows)
 
--- entries that are alike tell the same
+-- entries that are alike say the same
 pub alike_told : {I : Type 0} (SameOne : I → I → Type 0) (kind : I → Item) → ((a b : I) → SameOne a b → SameItem (kind a) (kind b)) → (xs ys : List (ItemEntry I))
     → AllZip (SameEntry SameOne) xs ys → AllZip (SameEntry SameItem) (map (told_as kind) xs) (map (told_as kind) ys)
 alike_told SameOne kind same [] [] alike = tt

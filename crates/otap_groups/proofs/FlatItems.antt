@@ -109,7 +109,7 @@ module _ {I : Type 0} where
       let d = scopes_entries resource groups in
       omega (arith, a, b, c, d)
 
-  -- a request tells as many entries as it has items
+  -- a request has as many entries as it has items
   pub length_entries : (groups : List (ResourceGroup I)) → length (item_entries groups) ≡ length (items_of groups)
   length_entries [] = refl
   length_entries (group ∷ groups) =

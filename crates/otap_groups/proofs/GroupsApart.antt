@@ -24,7 +24,7 @@ use Rattle.otap_groups.proofs.RunningIds.{item_ids, running_once, running_there}
 
 -- ---- elements and their places
 
--- this element stands at this place
+-- this element is at this place
 abbrev At : {A : Type 0} → List A → ℕ → A → Type 0
 At [] k y = ⊥
 At (x ∷ xs) zero y = x ≡ y

@@ -1,4 +1,4 @@
--- The groups of rows tell the same, in whatever order the pairs of a parent are found.
+-- The groups of rows say the same, in whatever order the pairs of a parent are found.
 use Rattle.std.proofs.Common.{ℕ, List, Option, map, subst}
 use Rattle.otlp_model.specs.Same.{SameItem, SameOften, SameTelemetry}
 use Rattle.otlp_model.specs.Telemetry.{Item, item_entries, groups_with_items, told_as}

@@ -1,4 +1,4 @@
--- What holds of each id column of a kind, told from its list of columns.
+-- What holds of each id column of a kind, read from its list of columns.
 use Rattle.std.proofs.Common.{◌≡◌, ℕ, zero, suc, ◌+◌, true, false, List, [], ◌∷◌, get_or, subst, arith, inl, inr}
 use Rattle.std.specs.Prelude.{if◌then◌else◌, ◌⊎◌}
 use Rattle.std.specs.List.{AllByRecursion}

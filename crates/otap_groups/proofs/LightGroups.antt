@@ -1,4 +1,4 @@
--- What the groups of rows weigh: no more than those that the rows were written for, in whatever order their parts stand.
+-- What the groups of rows weigh: no more than those that the rows were written for, in whatever order their parts come.
 use Rattle.std.proofs.Common.{◌≡◌, ℕ, ◌+◌, ◌≤◌, Bool, cond, List, [], ◌∷◌, Option, None, Some, length, map, refl, sym, ◌∙◌, arith, inl, inr}
 use Rattle.std.specs.Prelude.{filter, nat_lt, sum_by}
 use Rattle.std.specs.List.Sorted.{IsPermutation}

@@ -1,4 +1,4 @@
--- Running ids: each stands once, and there is one for each row. Those of items and of parts run.
+-- Running ids: each comes once, and there is one for each row. Those of items and of parts run.
 use Rattle.std.proofs.Common.{◌≡◌, ℕ, zero, suc, ◌+◌, ◌≤◌, ◌<◌, List, [], ◌∷◌, Option, Some, length, map, refl, ap, subst, arith, inl, inr, eq-eqb, ne_eqb}
 use Rattle.std.specs.Prelude.{Contains}
 use Rattle.std.proofs.lemmas.Bool.{cases_eq}

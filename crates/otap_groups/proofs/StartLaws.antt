@@ -1,4 +1,4 @@
--- Where the entries of parents begin: what stands between two starts is what one parent has.
+-- Where the entries of parents begin: what is between two starts is what one parent has.
 use Rattle.std.proofs.Common.{◌≡◌, ◌∙◌, ℕ, ◌+◌, ◌-◌, ◌<◌, ◌≤◌, true, false, List, length, get_or, take, drop, inl, inr, sym, ap, arith, length-drop}
 use Rattle.std.specs.Prelude.{◌⊎◌, nat_lt, nat_le}
 use Rattle.std.specs.List.Sorted.{IsNonDecreasingBy}
@@ -43,7 +43,7 @@ part_between parent es rest from to is low high =
           rw e (is_above _ _ (high.after (from + k) d far inside))),
     )
 
--- the starts that are told once the entries before a place were looked at
+-- the starts that are known once the entries before a place were looked at
 pub record StartsBefore (es : List ChildEntry) (starts : List ℕ) (place : ℕ) : Type 0 where
   pub told : AreStarts es starts
   pub low : (k : ℕ) (d : ChildEntry) → k < place → (get_or es k d).parent < length starts

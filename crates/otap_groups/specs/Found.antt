@@ -25,7 +25,3 @@ found item ids cells entries parent = map (λ (e : ChildEntry). child_at item id
 abbrev pub finds_in : {L C : Type 0} → (L → Option ℕ → List C) → Option L → Option ℕ → List C
 finds_in finds None parent = []
 finds_in finds (Some lookup) parent = finds lookup parent
-
-abbrev pub weighs_in : {L C : Type 0} → (L → C → ℕ) → Option L → C → ℕ
-weighs_in weigh None child = 0
-weighs_in weigh (Some lookup) child = weigh lookup child

@@ -11,7 +11,7 @@ use Rattle.otap_groups.specs.Rows.{MainRow, cells_are, same_resource, same_scope
 abbrev pub part : {A : Type 0} → (ℕ → A) → ℕ → ℕ → List A
 part row from count = map row (range_with_len from count)
 
--- which rows stand in one group
+-- which rows are in one group
 abbrev pub same_at : Level → MainRow → MainRow → Bool
 same_at level.Resource = same_resource
 same_at level.Scope = same_scope

@@ -6,7 +6,7 @@ use Rattle.otap_cells.specs.declared.profile.Base.TheVariants as base
 use Rattle.otap_cells.specs.Continuing.{has_attributes}
 use Rattle.otap_cells.specs.Columns.{base_at, coding_at, is_id_at, width_of}
 
--- tables of items: in front stand their ids, and the cells of resource and scope
+-- tables of items: in front are their ids, and the cells of resource and scope
 pub record IsMain (kind : Kind) : Type 0 where
   pub wide : 9 ≤ width_of kind
   pub id : is_id_at kind 0 ≡ true
@@ -22,7 +22,7 @@ pub record IsMain (kind : Kind) : Type 0 where
   pub resource_ids_rise : coding_at kind 1 ≡ coding.Delta
   pub scope_ids_rise : coding_at kind 4 ≡ coding.Delta
 
--- tables of parts: in front stand their ids and those of their parents
+-- tables of parts: in front are their ids and those of their parents
 pub record IsPart (kind : Kind) : Type 0 where
   pub wide : 2 ≤ width_of kind
   pub other : has_attributes kind ≡ false

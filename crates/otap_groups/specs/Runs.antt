@@ -1,4 +1,4 @@
--- Longest runs: neighbours that are the same stand in one run.
+-- Longest runs: neighbours that are the same are in one run.
 use Rattle.std.specs.Prelude.{Bool, List, [], ◌∷◌, if◌then◌else◌}
 
 -- an element before some runs: it joins the first of them where it is the same as that run's first element

@@ -1,4 +1,4 @@
--- Tables and their rows: what is stored for ids, and which rows a table stands for.
+-- Tables and their rows: what is stored for ids, and which rows a table has.
 use Rattle.std.specs.Prelude.{◌≡◌, ℕ, ◌-◌, ◌≤◌, pos, Bool, List, [], ◌∷◌, ◌++◌, Option, None, Some, map, drop}
 use Rattle.otlp_model.specs.declared.groups.ResourceGroup.{ResourceGroup}
 use Rattle.otap_cells.specs.declared.payload.Kind.{Kind}

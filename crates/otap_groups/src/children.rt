@@ -5,7 +5,7 @@ ghost use Rattle.otap_groups.specs.declared.entry.ChildEntry.{ChildEntry};
 ghost use Rattle.otap_groups.specs.Rows.{child_rows};
 ghost use Rattle.otap_groups.specs.Children.{children};
 ghost use Rattle.otap_groups.specs.Inside.{AreStarts};
-ghost use Rattle.otap_groups.specs.Found.{child_entries, finds_in, found, weighs_in};
+ghost use Rattle.otap_groups.specs.Found.{child_entries, finds_in, found};
 
 use crate::entry::ChildEntry;
 use crate::front::id_at;
@@ -15,7 +15,7 @@ use crate::starts::{part_of, starts_of};
 use otlp_model::{Items, add_capped};
 use std::alloc::{AllocError, Global};
 
-/// The rows of a table, found by their parents: the children of a parent stand in the order of their rows.
+/// The rows of a table, found by their parents: the children of a parent come in the order of their rows.
 #[derive(Drop)]
 pub struct Children<'a, C: RowReader> {
     pub reader: C,
@@ -69,7 +69,7 @@ impl<C: RowReader> Lookup for Children<'_, C> {
 
     ghost finds = { λ s. found (C.item s.reader) s.ids.now (C.cells s.reader) s.entries.items };
 
-    ghost weigh = { λ s. C.weigh s.reader };
+    ghost weigh = { C.weigh };
 
     fn of(&self, alloc: Global, parent: Option<u32>) -> Result<Items<C::Item>, AllocError> {
         let mut children = Items::new(alloc);
@@ -101,7 +101,7 @@ impl<L: Lookup> Lookup for Option<L> {
 
     ghost finds = { λ s parent. finds_in L.finds s parent };
 
-    ghost weigh = { λ s. weighs_in L.weigh s };
+    ghost weigh = { L.weigh };
 
     fn of(&self, alloc: Global, parent: Option<u32>) -> Result<Items<L::Child>, AllocError> {
         match self {

@@ -50,7 +50,7 @@ impl<R: Rows> FrontColumns<'_, R> {
         Ok(found)
     }
 
-    /// Whether rows of one id have cells beside it that aren't equal. Rows of one id stand together among the entries, so
+    /// Whether rows of one id have cells beside it that aren't equal. Rows of one id are together among the entries, so
     /// neighbours are compared.
     fn differ(&self, alloc: Global, level: Level) -> Result<bool, AllocError>
         ensures yes { IfOk result (λ found. found ≡ true → DifferBy (id_by level) (cells_by level)

@@ -49,7 +49,7 @@ impl<R: Rows> FrontColumns<'_, R> {
         end
     }
 
-    /// Whether two rows stand in one group.
+    /// Whether two rows are in one group.
     fn same(&self, level: Level, a: usize, b: usize) -> bool
         requires agree { Disagree (main_rows self.now.ids.now self.now.resource_ids.now self.now.scope_ids.now (R.table self.now.rows.now).rows) → ⊥ }
         requires a { a < length (R.table self.now.rows.now).rows }

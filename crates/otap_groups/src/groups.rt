@@ -32,7 +32,7 @@ impl<R: Rows, S: RowReader, P: Lookup<Child = Pair>> Main<'_, R, S, P> {
     /// The groups of the request, which weigh at most the limit. It goes over the rows once.
     #[tactic(auto, unfolding(crate::specs::Runs::runs, crate::specs::Groups::regrouped, crate::specs::Rows::main_rows))]
     pub fn groups(&self, alloc: Global) -> Result<Items<ResourceGroup<S::Item>>, AllocError>
-        requires light { total part_weight (weigh_resource_group (P.weigh self.now.resources) (P.weigh self.now.scopes) (S.weigh self.now.items))
+        requires light { total part_weight (weigh_resource_group P.weigh P.weigh S.weigh)
             (regrouped (P.finds self.now.resources) (P.finds self.now.scopes) (S.item self.now.items)
             (main_rows self.now.front.ids.now self.now.front.resource_ids.now self.now.front.scope_ids.now (R.table self.now.front.rows.now).rows)) ≤ weight_limit }
         ensures { IfOk result (λ groups. groups ≡ regrouped (P.finds self.now.resources) (P.finds self.now.scopes) (S.item self.now.items)

@@ -31,7 +31,7 @@ pub fn groups_come_back<I>()
         → regrouped resources scopes item (numbered_rows cells_of 0 (flat_items groups)) ≡ groups_with_items groups }
 {}
 
-/// Law: the groups of these rows tell the same as the groups that have items, where the items that are read tell the same, and the
+/// Law: the groups of these rows say the same as the groups that have items, where the items that are read say the same, and the
 /// pairs are found in whatever order: `resources`, `scopes` and `item` find them in the order in which they were written.
 pub fn groups_tell_the_same<I>()
     ensures { (kind : I → Item) (cells_of : I → List Cell) (resources found_resources scopes found_scopes : Option ℕ → List Pair)

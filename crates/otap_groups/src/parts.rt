@@ -16,17 +16,25 @@ use crate::flat::Placed;
 use otap_cells::{Coding, Kind, LogicalTable, coding_of};
 use std::alloc::{AllocError, Global};
 
-/// Writes the rows of the parts of parents.
-pub trait PartWriter {
+/// The parts of parents.
+pub trait PartsOf {
     type Parent;
 
     type Part;
 
-    /// The kind of the table.
-    ghost kind: { Kind };
-
     /// The parts of a parent.
     ghost parts: { Self.Parent → List Self.Part };
+
+    fn parts<'a>(&self, parent: &'a Self::Parent) -> &'a [Self::Part]
+        ensures { result.now ≡ parts parent.now };
+}
+
+/// Writes the rows of parts, whatever they are parts of.
+pub trait PartWriter {
+    type Part;
+
+    /// The kind of the table.
+    ghost kind: { Self → Kind };
 
     /// The own cells of a part.
     ghost cells_of: { Self.Part → List Cell };
@@ -35,15 +43,12 @@ pub trait PartWriter {
     ghost CanWrite: { Self.Part → Type 0 };
 
     fn kind(&self) -> Kind
-        ensures value { result ≡ kind }
+        ensures value { result ≡ kind self.now }
         ensures part { IsPart result };
-
-    fn parts<'a>(&self, parent: &'a Self::Parent) -> &'a [Self::Part]
-        ensures { result.now ≡ parts parent.now };
 
     /// Whether a part's row continues the run of the row before it.
     fn goes_on(&self, before: &Self::Part, part: &Self::Part) -> bool
-        ensures { result ≡ again_of kind (cells_of before.now) (cells_of part.now) };
+        ensures { result ≡ again_of (kind self.now) (cells_of before.now) (cells_of part.now) };
 
     /// Appends a row: the numbers stored for both ids, and the cells of the part. Where memory runs out, the former rows
     /// come first; whether a row follows them isn't said.
@@ -54,7 +59,7 @@ pub trait PartWriter {
         parent: u32,
         part: &Self::Part,
     ) -> Result<(), AllocError>
-        requires kind { table.old.kind ≡ kind }
+        requires kind { table.old.kind ≡ kind self.now }
         requires part { CanWrite part.now }
         ensures ok { OnOk result (table.new ≡ record table.old { rows = table.old.rows ++ (id_cell id ∷ id_cell parent ∷ cells_of part.now) ∷ [] }) }
         ensures err { OnErr result (take (length table.old.rows) table.new.rows ≡ table.old.rows) }
@@ -62,19 +67,19 @@ pub trait PartWriter {
 }
 
 /// The parts of some parents in order, each with the place of its parent.
-pub fn parts_of<'a, W: PartWriter>(
+pub fn parts_of<'a, P: PartsOf>(
     alloc: Global,
-    writer: &W,
-    parents: &[Placed<'a, W::Parent>],
-) -> Result<Vec<Placed<'a, W::Part>>, AllocError>
+    below: &P,
+    parents: &[Placed<'a, P::Parent>],
+) -> Result<Vec<Placed<'a, P::Part>>, AllocError>
     requires few { length parents.now ≤ wide_ids }
-    ensures parts { IfOk result (λ found. map seen_placed found.items ≡ placed (map (λ p. W.parts p.part.now) parents.now)) }
+    ensures parts { IfOk result (λ found. map seen_placed found.items ≡ placed (map (λ p. P.parts p.part.now) parents.now)) }
     ensures rising { IfOk result (λ found. RisingParts 0 (map seen_placed found.items)) }
 {
     let mut found = Vec::new(alloc);
     'parents: for place in 0..parents.len() {
         let parent = &parents[place];
-        add_parts(&mut found, place as u32, writer.parts(parent.part))?;
+        add_parts(&mut found, place as u32, below.parts(parent.part))?;
     }
     Ok(found)
 }
@@ -100,7 +105,7 @@ pub fn write_parts<W: PartWriter>(
 ) -> Result<LogicalTable, AllocError>
     requires rising { RisingParts 0 (map seen_placed parts.now) }
     requires parts { All (λ p. W.CanWrite p.part.now) parts.now }
-    ensures { IfOk result (λ table. table ≡ profile_table W.kind (stored_parts (coding_at W.kind 1) (again_of W.kind) W.cells_of 0 0 None (map seen_placed parts.now))) }
+    ensures { IfOk result (λ table. table ≡ profile_table (W.kind writer.now) (stored_parts (coding_at (W.kind writer.now) 1) (again_of (W.kind writer.now)) W.cells_of 0 0 None (map seen_placed parts.now))) }
 {
     let kind = writer.kind();
     let coding = coding_of(kind, 1);
@@ -120,7 +125,7 @@ pub fn write_parts<W: PartWriter>(
 
 /// Whether a part's row continues the run of the row before it.
 fn goes_on<W: PartWriter>(writer: &W, before: Option<&W::Part>, part: &W::Part) -> bool
-    ensures { result ≡ goes_on_after (again_of W.kind) (option_map (λ p. W.cells_of p.now) before.entry) (W.cells_of part.now) }
+    ensures { result ≡ goes_on_after (again_of (W.kind writer.now)) (option_map (λ p. W.cells_of p.now) before.entry) (W.cells_of part.now) }
 {
     match before {
         Some(before) => writer.goes_on(before, part),

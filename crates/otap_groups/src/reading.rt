@@ -19,7 +19,7 @@ pub trait RowReader: Drop {
     ghost item: { Self → Option ℕ → List Cell → Self.Item };
 
     /// What an item weighs.
-    ghost weigh: { Self → Self.Item → ℕ };
+    ghost weigh: { Self.Item → ℕ };
 
     /// The item of a row that has this id.
     fn read(&self, alloc: Global, id: Option<u32>, row: usize) -> Result<Self::Item, AllocError>
@@ -29,7 +29,7 @@ pub trait RowReader: Drop {
     /// What the item of a row weighs, or `CAP` where it is more. It builds nothing.
     fn weight(&self, id: Option<u32>, row: usize) -> u64
         requires { row < length (cells self.now) }
-        ensures { result ≡ min (weigh self.now (item self.now id (slice_index_or (cells self.now) row []))) count_cap };
+        ensures { result ≡ min (weigh (item self.now id (slice_index_or (cells self.now) row []))) count_cap };
 }
 
 /// Finds the children of a parent.
@@ -40,12 +40,12 @@ pub trait Lookup: Drop {
     ghost finds: { Self → Option ℕ → List Self.Child };
 
     /// What a child weighs.
-    ghost weigh: { Self → Self.Child → ℕ };
+    ghost weigh: { Self.Child → ℕ };
 
     fn of(&self, alloc: Global, parent: Option<u32>) -> Result<Items<Self::Child>, AllocError>
         ensures { IfOk result (λ children. children ≡ finds self.now parent) };
 
     /// What the children weigh, with 32 for each, or `CAP` where it is more. It builds nothing.
     fn weight_of(&self, parent: Option<u32>) -> u64
-        ensures { result ≡ min (total part_weight (weigh self.now) (finds self.now parent)) count_cap };
+        ensures { result ≡ min (total part_weight weigh (finds self.now parent)) count_cap };
 }

@@ -46,7 +46,7 @@ fn starts_up_to_last(alloc: Global, entries: &[ChildEntry]) -> Result<Vec<usize>
     Ok(starts)
 }
 
-/// The part of the entries that has this parent, found at its start where that is told.
+/// The part of the entries that has this parent, found at its start where that is known.
 pub(crate) fn part_of<'a>(
     entries: &'a [ChildEntry],
     starts: &[usize],

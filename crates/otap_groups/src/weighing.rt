@@ -1,5 +1,5 @@
 //! What the rows of a request weigh, without making them.
-ghost use Rattle.std.specs.Prelude.{◌≡◌, ◌∷◌, [], ℕ, min, All};
+ghost use Rattle.std.specs.Prelude.{◌≡◌, ◌∷◌, [], ℕ, min, sum_by, All};
 ghost use Rattle.otlp_model.specs.Limits.{count_cap};
 ghost use Rattle.otlp_model.specs.declared.groups.Resource.{Resource};
 ghost use Rattle.otlp_model.specs.declared.groups.Scope.{Scope};
@@ -38,6 +38,33 @@ pub trait RowWeights {
     fn item(&self, item: &Self::Item) -> u64
         requires { CanWriteItem item.now }
         ensures { result ≡ min (of_item item.now) count_cap };
+}
+
+/// What a part's row weighs with the rows below it: a number for each part.
+pub trait PartWeights {
+    type Part;
+
+    /// The row of a part, and the rows of its own parts.
+    ghost of_part: { Self.Part → ℕ };
+
+    /// What can be written.
+    ghost CanWrite: { Self.Part → Type 0 };
+
+    fn part(&self, part: &Self::Part) -> u64
+        requires { CanWrite part.now }
+        ensures { result ≡ min (of_part part.now) count_cap };
+}
+
+/// What the rows of parts weigh, or `CAP` where it is more. It makes no table.
+pub fn part_rows_weight<W: PartWeights>(weights: &W, parts: &[W::Part]) -> u64
+    requires { All W.CanWrite parts.now }
+    ensures { result ≡ min (sum_by W.of_part parts.now) count_cap }
+{
+    let mut weight = 0;
+    'parts: for part in parts {
+        weight = add_capped(weight, weights.part(part));
+    }
+    weight
 }
 
 /// What the rows of a request weigh, or `CAP` where it is more. It makes no table. Groups without items have no rows.

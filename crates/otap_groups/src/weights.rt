@@ -19,7 +19,7 @@ impl<R: Rows, S: RowReader, P: Lookup<Child = Pair>> Main<'_, R, S, P> {
     /// What the groups of the request weigh, with 32 for each, or `CAP` where it is more. It builds nothing.
     #[tactic(auto, unfolding(crate::specs::Runs::runs, crate::specs::Groups::regrouped, crate::specs::Rows::main_rows))]
     pub fn weight(&self) -> u64
-        ensures { result ≡ min (total part_weight (weigh_resource_group (P.weigh self.now.resources) (P.weigh self.now.scopes) (S.weigh self.now.items))
+        ensures { result ≡ min (total part_weight (weigh_resource_group P.weigh P.weigh S.weigh)
             (regrouped (P.finds self.now.resources) (P.finds self.now.scopes) (S.item self.now.items)
             (main_rows self.now.front.ids.now self.now.front.resource_ids.now self.now.front.scope_ids.now (R.table self.now.front.rows.now).rows))) count_cap }
     {
@@ -38,7 +38,7 @@ impl<R: Rows, S: RowReader, P: Lookup<Child = Pair>> Main<'_, R, S, P> {
     fn group_weight(&self, from: usize, to: usize) -> u64
         requires some { from < to }
         requires within { to ≤ length (R.table self.now.front.rows.now).rows }
-        ensures { result ≡ min (weigh_resource_group (P.weigh self.now.resources) (P.weigh self.now.scopes) (S.weigh self.now.items)
+        ensures { result ≡ min (weigh_resource_group P.weigh P.weigh S.weigh
             (resource_group (P.finds self.now.resources) (P.finds self.now.scopes) (S.item self.now.items)
             (part (main_row_at self.now.front.ids.now self.now.front.resource_ids.now self.now.front.scope_ids.now (R.table self.now.front.rows.now).rows) from (to - from)))) count_cap }
     {
@@ -52,7 +52,7 @@ impl<R: Rows, S: RowReader, P: Lookup<Child = Pair>> Main<'_, R, S, P> {
     fn scope_groups_weight(&self, from: usize, to: usize) -> u64
         requires some { from < to }
         requires within { to ≤ length (R.table self.now.front.rows.now).rows }
-        ensures { result ≡ min (total part_weight (weigh_scope_group (P.weigh self.now.scopes) (S.weigh self.now.items))
+        ensures { result ≡ min (total part_weight (weigh_scope_group P.weigh S.weigh)
             (map (scope_group (P.finds self.now.scopes) (S.item self.now.items))
             (runs same_scope (part (main_row_at self.now.front.ids.now self.now.front.resource_ids.now self.now.front.scope_ids.now (R.table self.now.front.rows.now).rows) from (to - from))))) count_cap }
     {
@@ -70,7 +70,7 @@ impl<R: Rows, S: RowReader, P: Lookup<Child = Pair>> Main<'_, R, S, P> {
     fn scope_group_weight(&self, from: usize, to: usize) -> u64
         requires some { from < to }
         requires within { to ≤ length (R.table self.now.front.rows.now).rows }
-        ensures { result ≡ min (weigh_scope_group (P.weigh self.now.scopes) (S.weigh self.now.items)
+        ensures { result ≡ min (weigh_scope_group P.weigh S.weigh
             (scope_group (P.finds self.now.scopes) (S.item self.now.items)
             (part (main_row_at self.now.front.ids.now self.now.front.resource_ids.now self.now.front.scope_ids.now (R.table self.now.front.rows.now).rows) from (to - from)))) count_cap }
     {
@@ -80,7 +80,7 @@ impl<R: Rows, S: RowReader, P: Lookup<Child = Pair>> Main<'_, R, S, P> {
     #[tactic(auto, using(crate::proofs::PartSteps::part_next, crate::proofs::PartSteps::part_over, crate::proofs::PartSteps::own_at))]
     fn items_weight(&self, from: usize, to: usize) -> u64
         requires { to ≤ length (R.table self.now.front.rows.now).rows }
-        ensures { result ≡ min (total part_weight (S.weigh self.now.items) (map (item_of_row (S.item self.now.items))
+        ensures { result ≡ min (total part_weight S.weigh (map (item_of_row (S.item self.now.items))
             (part (main_row_at self.now.front.ids.now self.now.front.resource_ids.now self.now.front.scope_ids.now (R.table self.now.front.rows.now).rows) from (to - from)))) count_cap }
     {
         let mut weight = 0;
@@ -93,7 +93,7 @@ impl<R: Rows, S: RowReader, P: Lookup<Child = Pair>> Main<'_, R, S, P> {
 
     fn resource_weight(&self, place: usize) -> u64
         requires { place < length (R.table self.now.front.rows.now).rows }
-        ensures { result ≡ min (weigh_resource (P.weigh self.now.resources) (resource_at (P.finds self.now.resources)
+        ensures { result ≡ min (weigh_resource P.weigh (resource_at (P.finds self.now.resources)
             (main_row_at self.now.front.ids.now self.now.front.resource_ids.now self.now.front.scope_ids.now (R.table self.now.front.rows.now).rows place))) count_cap }
     {
         let id = id_at(self.front.resource_ids, place);
@@ -105,7 +105,7 @@ impl<R: Rows, S: RowReader, P: Lookup<Child = Pair>> Main<'_, R, S, P> {
 
     fn scope_weight(&self, place: usize) -> u64
         requires { place < length (R.table self.now.front.rows.now).rows }
-        ensures { result ≡ min (weigh_scope (P.weigh self.now.scopes) (scope_at (P.finds self.now.scopes)
+        ensures { result ≡ min (weigh_scope P.weigh (scope_at (P.finds self.now.scopes)
             (main_row_at self.now.front.ids.now self.now.front.resource_ids.now self.now.front.scope_ids.now (R.table self.now.front.rows.now).rows place))) count_cap }
     {
         let id = id_at(self.front.scope_ids, place);

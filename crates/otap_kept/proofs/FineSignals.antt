@@ -24,8 +24,7 @@ use Rattle.otap_checks.specs.Reading.{part_rows_in}
 use Rattle.otap_checks.specs.RowDefects.{RowDefect}
 use Rattle.otap_checks.specs.Rules.{rule, rules_of}
 use Rattle.otap_checks.specs.Shapes.{WrongParent, fits_of}
-use Rattle.otap_metrics.proofs.MetricColumns.{points_are_parts}
-use Rattle.otap_hist.proofs.HistColumns.{hists_are_parts, summaries_are_parts}
+use Rattle.otap_points.proofs.PointColumns.{hists_are_parts, points_are_parts, summaries_are_parts}
 use Rattle.otap_kept.specs.declared.whose.Whose.{Whose}
 use Rattle.otap_kept.specs.Accepted.{AreAccepted}
 use Rattle.otap_kept.specs.Kept.{is_kept, is_ordered, kept, kept_of, kept_rows, links_below}

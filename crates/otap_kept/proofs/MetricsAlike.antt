@@ -9,9 +9,8 @@ use Rattle.otlp_model.specs.declared.metrics.Exemplar.{Exemplar}
 use Rattle.otlp_model.specs.declared.value.Pair.{Pair}
 use Rattle.otap_cells.specs.Cells.{Cell, nat_in, cell_at}
 use Rattle.otap_cells.specs.Scalars.{flag_in, int_in}
+use Rattle.otap_points.specs.Points.{hist_point_of, point_of, sum_point_of}
 use Rattle.otap_metrics.specs.Metrics.{Below, metric_of, shape_of}
-use Rattle.otap_metrics.specs.Points.{point_of}
-use Rattle.otap_hist.specs.Points.{hist_point_of, sum_point_of}
 
 pub same_point : (cells : List Cell) (xs ys : List Pair) (es fs : List Exemplar) → SameOften xs ys → AllZip SameExemplar es fs → SamePoint (point_of cells xs es) (point_of cells ys fs)
 unfolding point_of

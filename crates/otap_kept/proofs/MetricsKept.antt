@@ -5,7 +5,6 @@ use Rattle.std.proofs.lemmas.List.{length-map}
 use Rattle.otlp_model.specs.Same.{SameHistPoint, SameMetric, SamePoint, SameSumPoint}
 use Rattle.otlp_model.specs.Telemetry.{metric, told_as}
 use Rattle.otlp_model.specs.Weight.{weight_of_hist_point, weight_of_metric, weight_of_point, weight_of_sum_point}
-use Rattle.otlp_model.specs.declared.metrics.Metric.{Metric}
 use Rattle.otlp_model.specs.declared.request.Signal.TheVariants as signal
 use Rattle.otlp_model.specs.declared.value.Pair.{Pair}
 use Rattle.otap_cells.specs.declared.payload.Kind.TheVariants as table
@@ -19,13 +18,11 @@ use Rattle.otap_attrs.specs.Index.{pairs_in}
 use Rattle.otap_checks.specs.Links.{items, links_of, parts}
 use Rattle.otap_checks.specs.Reading.{main_rows_in, part_rows_in}
 use Rattle.otap_checks.proofs.MainKinds.{metrics_are_main}
+use Rattle.otap_points.specs.Found.{hist_points_in, points_in, summary_points_in}
+use Rattle.otap_points.specs.Points.{hist_point_of, point_of, sum_point_of}
+use Rattle.otap_points.proofs.PointColumns.{exemplars_are_parts, hist_exemplars_are_parts, hists_are_parts, points_are_parts, summaries_are_parts}
 use Rattle.otap_metrics.specs.Metrics.{Below, metric_of}
-use Rattle.otap_metrics.specs.Points.{point_of}
-use Rattle.otap_metrics.specs.Requests.{points_in, regrouped_metrics}
-use Rattle.otap_metrics.proofs.MetricColumns.{exemplars_are_parts, points_are_parts}
-use Rattle.otap_hist.specs.Points.{hist_point_of, sum_point_of}
-use Rattle.otap_hist.specs.Requests.{hist_points_in, summary_points_in}
-use Rattle.otap_hist.proofs.HistColumns.{exemplars_are_parts as hist_exemplars_are_parts, hists_are_parts, summaries_are_parts}
+use Rattle.otap_metrics.specs.Requests.{metric_in, regrouped_metrics}
 use Rattle.otap_kept.specs.declared.whose.Whose.{Whose}
 use Rattle.otap_kept.specs.declared.whose.Whose.TheVariants as whose
 use Rattle.otap_kept.specs.Accepted.{AreAccepted}
@@ -48,9 +45,6 @@ use Rattle.otap_kept.proofs.RowsTold.{entry_of_row}
 -- what is found below a metric in tables
 abbrev below_in : List Table → Option ℕ → Below
 below_in ts id = record { points = points_in ts id; hist_points = hist_points_in ts id; summary_points = summary_points_in ts id }
-
-abbrev metric_in : List Table → Option ℕ → List Cell → Metric
-metric_in ts id cells = metric_of cells (below_in ts id)
 
 module _ (by : Whose) (pair : Pair) (tables : List Table) where
   abbrev rows : List MainRow

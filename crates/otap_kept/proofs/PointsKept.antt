@@ -20,8 +20,8 @@ use Rattle.otap_groups.specs.Rows.{ChildRow}
 use Rattle.otap_attrs.specs.Index.{pairs_in}
 use Rattle.otap_checks.specs.Links.{links_of, parts}
 use Rattle.otap_checks.specs.Reading.{part_rows_in}
-use Rattle.otap_metrics.specs.Points.{exemplar_of}
-use Rattle.otap_metrics.specs.Requests.{exemplars_in}
+use Rattle.otap_points.specs.Found.{exemplars_in}
+use Rattle.otap_points.specs.Points.{exemplar_of}
 use Rattle.otap_metrics.proofs.MetricsTold.{exemplar_weighs, same_exemplar}
 use Rattle.otap_kept.specs.Accepted.{AreAccepted}
 use Rattle.otap_kept.specs.Rows.{former_ids, own_cells, parts_under}

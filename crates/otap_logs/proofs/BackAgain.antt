@@ -1,4 +1,4 @@
--- The tables of a request tell what the request tells.
+-- The tables of a request say what the request says.
 use Rattle.std.proofs.Common.{◌≡◌, ◌≤◌, ◌^◌, List, length, refl, sym, ap, ◌∙◌, subst, arith}
 use Rattle.std.specs.Prelude.{All}
 use Rattle.std.proofs.lemmas.List.{length-map}

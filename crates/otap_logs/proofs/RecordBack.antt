@@ -7,7 +7,7 @@ use Rattle.otap_attrs.specs.Values.{value_cells, value_in}
 use Rattle.otap_logs.specs.Records.{record_cells, record_of, last_cells}
 use Rattle.std.proofs.lemmas.List.{get_or-append-add}
 
--- what stands after seven cells
+-- what comes after seven cells
 after_seven : (value rest : List Cell) (k : ℕ) → length value ≡ 7 → get_or (value ++ rest) (7 + k) null ≡ get_or rest k null
 after_seven value rest k long =
     let at : length value + k ≡ 7 + k = ap (λ n. n + k) long in

@@ -1,4 +1,4 @@
--- A record's own cells stand in its row after the nine of the front.
+-- A record's own cells come in its row after the nine of the front.
 use Rattle.std.proofs.Common.{◌≡◌, ℕ, ◌+◌, ◌^◌, ◌<◌, List, [], ◌∷◌, map, drop, length, get_or, ◌∙◌, sym, ap, arith}
 use Rattle.std.specs.Prelude.{min, sum}
 use Rattle.std.proofs.lemmas.List.{get_or-map, get_or-drop, length-map, drop-drop}
@@ -52,7 +52,7 @@ capped : (a b c d e f n x y : ℕ) → e ≡ min x (2 ^ 63) → f ≡ min y (2 ^
     → n ≡ min (a + b + c + d + x + y) (2 ^ 63)
 capped a b c d e f n x y of_e of_f of_n = omega arith
 
--- what a record weighs, told from the bytes of its cells and from what is below it
+-- what a record weighs, by the bytes of its cells and by what is below it
 pub record_weighs : (rows : List (List Cell)) (row : ℕ) (pairs : List Pair) (text trace span name : List ℕ) (body below total_weight : ℕ) (weigh : Pair → ℕ)
     → row < length (map (drop 9) rows)
     → text ≡ bytes_in (cell_in rows 14 row) → trace ≡ bytes_in (cell_in rows 11 row) → span ≡ bytes_in (cell_in rows 12 row) → name ≡ bytes_in (cell_in rows 24 row)

@@ -19,7 +19,7 @@ ghost use Rattle.otap_attrs.specs.declared.refusal.RowRefusal.{RowRefusal};
 ghost use Rattle.otap_logs.specs.Requests.{WrongLogs, regrouped_logs};
 ghost use Rattle.otap_logs.specs.Tables.{tables_of_logs};
 
-/// Law: the request that the tables of a request make tells what the request tells.
+/// Law: the request that the tables of a request make says what the request says.
 pub fn tables_tell_the_same()
     ensures { (groups : List (ResourceGroup LogRecord)) → IsReal (Logs groups) → IsProfile (Logs groups) → weight_of (Logs groups) ≤ weight_limit
         → Same (Logs groups) (Logs (regrouped_logs (tables_of_logs groups))) }
@@ -37,7 +37,7 @@ pub fn tables_can_be_written()
         → All IsProfileTable (tables_of_logs groups) }
 {}
 
-/// Law: the tables of a request stand in the order of the signal's kinds: its main table, and of the others those that have
+/// Law: the tables of a request are in the order of the signal's kinds: its main table, and of the others those that have
 /// rows.
 pub fn tables_by_type()
     ensures { (groups : List (ResourceGroup LogRecord)) → map (λ t. t.kind) (tables_of_logs groups)

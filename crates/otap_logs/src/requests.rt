@@ -1,41 +1,35 @@
 //! The request of the tables of a batch.
-ghost use Rattle.std.specs.Prelude.{◌≡◌, ◌≤◌, drop, map, min, IfErr, IfOk, OnOk};
+ghost use Rattle.std.specs.Prelude.{◌≡◌, ◌≤◌, min, IfErr, IfOk, OnOk};
 ghost use Rattle.otlp_model.specs.declared.request.Signal.TheVariants as signal;
 ghost use Rattle.otlp_model.specs.Weight.{weight_of};
 ghost use Rattle.otlp_model.specs.declared.request.Request.TheVariants.{Logs};
 ghost use Rattle.otap_cells.specs.declared.payload.Kind.{Kind};
 ghost use Rattle.otap_cells.specs.declared.payload.Kind.TheVariants as table;
 ghost use Rattle.otap_cells.specs.Named.{table_named};
-ghost use Rattle.otap_groups.specs.Found.{found};
 ghost use Rattle.otap_groups.specs.Rows.{main_rows};
 ghost use Rattle.otap_attrs.specs.declared.refusal.RowRefusal.{RowRefusal};
-ghost use Rattle.otap_attrs.specs.Values.{pair_in};
-ghost use Rattle.otap_checks.specs.Pairing.{cells_or};
 ghost use Rattle.otap_checks.specs.Refusing.{RefusesCheck};
 ghost use Rattle.otap_checks.specs.Regrouping.{RefusesRegroup};
 ghost use Rattle.otap_groups.specs.Groups.{regrouped};
 ghost use Rattle.otlp_model.specs.Limits.{weight_limit, count_cap};
 ghost use Rattle.otap_checks.specs.Known.{KnowsAll};
-ghost use Rattle.otap_logs.specs.Records.{record_of};
 ghost use Rattle.otap_logs.specs.Requests.{WrongLogs, regrouped_logs};
 
 use crate::reading::Records;
 use otap_attrs::CheckRefusal;
 use otap_cells::{Kind, Rows, TableSet};
 use otap_checks::{
-    Grouped, KnownIds, RegroupRefusal, TablePairs, checked_ids, find_pairs, front_of, groups_within,
+    Grouped, KnownIds, PairRows, RegroupRefusal, checked_ids, find_pairs, front_of, groups_within,
 };
-use otap_groups::{Children, Main};
+use otap_groups::{Lookup, Main, RowReader};
 use otlp_model::{Items, LogRecord, ResourceGroup, Signal};
 use std::alloc::{AllocError, Global};
 
+/// Reads records with their pairs.
+type LogReader<'a, R> = Records<'a, R, PairRows<'a, R>>;
+
 /// The main rows of logs, with their records and all pairs.
-type LogRows<'a, R> = Main<
-    'a,
-    R,
-    Records<'a, R, Children<'a, TablePairs<'a, R>>>,
-    Children<'a, TablePairs<'a, R>>,
->;
+type LogRows<'a, R> = Main<'a, R, LogReader<'a, R>, PairRows<'a, R>>;
 
 /// Looks at the rows of a batch of logs, and returns what their request weighs, or `CAP` where it is more. It builds nothing.
 /// Takes n log n for n rows.
@@ -103,9 +97,8 @@ fn main_of<'a, R: Rows>(
     requires known { KnowsAll signal.Logs set.now known.now.columns.items }
     requires table { table_named table.Logs set.now ≡ R.table rows.now }
     requires kind { (R.table rows.now).kind ≡ table.Logs }
-    ensures { IfOk result (λ main. regrouped (λ parent. found (λ id cells. pair_in cells) main.resources.ids.now (cells_or (λ p. map (drop 1) (R.table p.rows.now).rows) main.resources.reader.pairs) main.resources.entries.items parent)
-        (λ parent. found (λ id cells. pair_in cells) main.scopes.ids.now (cells_or (λ p. map (drop 1) (R.table p.rows.now).rows) main.scopes.reader.pairs) main.scopes.entries.items parent)
-        (λ id own. record_of own (found (λ id cells. pair_in cells) main.items.pairs.ids.now (cells_or (λ p. map (drop 1) (R.table p.rows.now).rows) main.items.pairs.reader.pairs) main.items.pairs.entries.items id))
+    ensures { IfOk result (λ main. regrouped (⟦<PairRows<'a, R> as Lookup>⟧.finds main.resources) (⟦<PairRows<'a, R> as Lookup>⟧.finds main.scopes)
+        (⟦<LogReader<'a, R> as RowReader>⟧.item main.items)
         (main_rows main.front.ids.now main.front.resource_ids.now main.front.scope_ids.now (R.table main.front.rows.now).rows)
         ≡ regrouped_logs set.now) }
 {

@@ -25,7 +25,10 @@ use Rattle.otap_checks.proofs.GivenColumns.{one_given}
 use Rattle.otap_checks.specs.Shapes.{WrongParent, WrongType, has_numbers, is_type, type_at}
 use Rattle.otap_checks.proofs.MainKinds.{metrics_are_main}
 use Rattle.otap_metrics.specs.Metrics.{metric_cells, points_of, shape_number}
-use Rattle.otap_metrics.proofs.NamedTables.{size_of_stored}
+
+size_of_stored : (step r s : ℕ) (fs : List (FlatIn Metric)) → length (stored_rows metric_cells step r s fs) ≡ length fs
+size_of_stored step r s [] = refl
+size_of_stored step r s (f ∷ fs) = ap suc (size_of_stored 1 f.resource_id f.scope_id fs)
 
 -- ---- the shapes of rows
 

@@ -28,9 +28,10 @@ use Rattle.otap_groups.proofs.RealGroups.{real_groups}
 use Rattle.otap_groups.proofs.WritableGroups.{all_items_can, all_resources_can, all_scopes_can}
 use Rattle.otap_checks.proofs.PairsAgain.{AreBack, IsBackResource, IsBackScope, pairs_agree, pairs_back, unsorted}
 use Rattle.otap_metrics.specs.Metrics.{Below, hist_points_of, metric_cells, metric_of, points_of, summary_points_of}
-use Rattle.otap_metrics.specs.Points.{exemplar_cells, exemplar_of, point_cells, point_of}
+use Rattle.otap_points.specs.Points.{exemplar_cells, exemplar_of, point_cells, point_of}
+use Rattle.otap_points.proofs.PointsBack.{IsBackExemplar, IsBackPoint}
 use Rattle.otap_metrics.specs.Tables.{all_exemplars, all_points, exemplar_lists, exemplar_pairs, hist_lists, point_lists, point_pairs, summary_lists}
-use Rattle.otap_metrics.proofs.MetricsBack.{IsBackExemplar, IsBackMetric, IsBackPoint, below_of, metric_again}
+use Rattle.otap_metrics.proofs.MetricsBack.{IsBackMetric, below_of, metric_again}
 
 -- ---- what is found
 

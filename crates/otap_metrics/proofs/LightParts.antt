@@ -4,7 +4,7 @@ use Rattle.std.specs.Prelude.{All}
 use Rattle.std.specs.List.{flat_map}
 use Rattle.std.proofs.lemmas.List.Elements.{All-nil}
 use Rattle.otlp_model.specs.Limits.{weight_limit}
-use Rattle.otlp_model.specs.Profile.{IsProfileExemplar, IsProfileMetric, IsProfilePoint, IsProfileShape}
+use Rattle.otlp_model.specs.Profile.{IsProfileExemplar, IsProfilePoint, IsProfileShape}
 use Rattle.otlp_model.specs.Weight.{total, weight_of_exemplar, weight_of_metric, weight_of_point, weight_of_resource_group, weight_of_scope_group, weight_of_shape}
 use Rattle.otlp_model.specs.declared.groups.ScopeGroup.{ScopeGroup}
 use Rattle.otlp_model.specs.declared.groups.ResourceGroup.{ResourceGroup}
@@ -17,7 +17,7 @@ use Rattle.otlp_model.proofs.Totals.{few_parts, parts_can}
 use Rattle.otap_groups.specs.Flat.{items_of}
 use Rattle.otap_metrics.specs.Metrics.{points_of}
 use Rattle.otap_metrics.specs.Tables.{all_exemplars, all_points}
-use Rattle.otap_metrics.specs.Writable.{CanWriteExemplar, CanWriteMetric, CanWritePoint}
+use Rattle.otap_points.specs.Writable.{CanWriteExemplar, CanWritePoint}
 
 -- ---- any parts
 
@@ -99,12 +99,9 @@ point_can point is few = record {
 points_can : (points : List Point) → All IsProfilePoint points → total 32 weight_of_point points ≤ weight_limit → All CanWritePoint points
 points_can = parts_can IsProfilePoint CanWritePoint weight_of_point weight_limit point_can
 
-shape_can : (shape : Shape) → IsProfileShape shape → weight_of_shape shape ≤ weight_limit → All CanWritePoint (points_of shape)
+pub shape_can : (shape : Shape) → IsProfileShape shape → weight_of_shape shape ≤ weight_limit → All CanWritePoint (points_of shape)
 shape_can shapes.Empty is few = All-nil CanWritePoint
 shape_can (shapes.Gauge points) is few = points_can points is.at few
 shape_can (shapes.Sum points temporality monotonic) is few = points_can points is.at few
 shape_can (shapes.Histogram points temporality) is few = All-nil CanWritePoint
 shape_can (shapes.Summary points) is few = All-nil CanWritePoint
-
-pub metric_can : (metric : Metric) → IsProfileMetric metric → weight_of_metric metric ≤ weight_limit → CanWriteMetric metric
-metric_can metric is few = shape_can metric.shape is.shape (omega arith)

@@ -21,6 +21,7 @@ use Rattle.otlp_model.specs.declared.value.Pair.{Pair}
 use Rattle.otap_cells.specs.declared.payload.Kind.TheVariants as table
 use Rattle.otap_cells.specs.Cells.{Cell, nat_in, cell_at}
 use Rattle.otap_cells.specs.Scalars.{flag_in, int_in}
+use Rattle.otap_cells.specs.Named.{table_named}
 use Rattle.otap_cells.specs.Tables.{Table}
 use Rattle.otap_groups.specs.Children.{Agree, children, numbered}
 use Rattle.otap_groups.specs.Flat.{flat_items, numbered_rows, part_rows, placed, resource_pairs, scope_pairs}
@@ -35,14 +36,23 @@ use Rattle.otap_attrs.specs.Index.{pairs_in}
 use Rattle.otap_checks.specs.Reading.{main_rows_in, part_rows_in}
 use Rattle.otap_checks.proofs.PairsAgain.{sorted_alike, sorted_weigh, unsorted}
 use Rattle.otap_checks.proofs.RowsAgain.{main_rows_again, part_rows_again}
-use Rattle.otap_checks.proofs.MainKinds.{metrics_are_main}
 use Rattle.otap_metrics.specs.Metrics.{Below, metric_cells, metric_of, shape_of}
-use Rattle.otap_metrics.specs.Points.{exemplar_cells, exemplar_of, point_cells, point_of}
-use Rattle.otap_metrics.specs.Requests.{exemplar_in, exemplars_in, point_in, regrouped_metrics}
-use Rattle.otap_metrics.specs.Tables.{HoldMetrics, exemplar_lists, exemplar_pairs, hist_lists, point_lists, point_pairs, summary_lists}
+use Rattle.otap_points.specs.Points.{exemplar_cells, exemplar_of, point_cells, point_of}
+use Rattle.otap_points.specs.Found.{exemplar_in, exemplars_in, point_in, points_in}
+use Rattle.otap_points.proofs.PointColumns.{exemplars_are_parts, points_are_parts}
+use Rattle.otap_metrics.specs.Tables.{exemplar_lists, exemplar_pairs, hist_lists, point_lists, point_pairs, summary_lists}
 use Rattle.otap_metrics.proofs.FewParts.{few_all_exemplars, few_all_points, few_exemplar_lists, few_exemplar_pairs, few_metrics, few_point_lists, few_point_pairs, few_resource_pairs, few_scope_pairs}
 use Rattle.otap_metrics.proofs.FoundParts.{exemplars_found, groups_again, metric_found, metrics_read, points_found, resources_agree, scopes_agree, unsorted_back}
-use Rattle.otap_metrics.proofs.MetricColumns.{exemplars_are_parts, points_are_parts}
+use Rattle.otap_checks.proofs.MainKinds.{metrics_are_main}
+use Rattle.otap_metrics.proofs.NamedTables.{HoldMetrics}
+
+-- the request that tables make, where the points of histograms and summaries are found in these ways
+abbrev pub regrouped_with : (Option ℕ → List HistPoint) → (Option ℕ → List SumPoint) → List Table → List (ResourceGroup Metric)
+regrouped_with hists summaries tables = regrouped
+    (pairs_in (table_named table.ResourceAttrs tables))
+    (pairs_in (table_named table.ScopeAttrs tables))
+    (λ id cells. metric_of cells (record { points = points_in tables id; hist_points = hists id; summary_points = summaries id }))
+    (main_rows_in (table_named table.Metrics tables))
 
 -- ---- parts that are read alike
 
@@ -185,8 +195,7 @@ module _ (groups : List (ResourceGroup Metric)) (light : weight_of (Metrics grou
   metric_with hists summaries id cells = metric_of cells (record { points = points_with n np x xp id; hist_points = hists id; summary_points = summaries id })
 
   regrouped_is : (tables : List Table) → HoldMetrics groups tables → (hists : Option ℕ → List HistPoint) (summaries : Option ℕ → List SumPoint)
-      → regrouped (pairs_in r) (pairs_in s) (metric_with hists summaries) (numbered_rows metric_cells 0 (flat_items groups)) ≡ regrouped_metrics hists summaries tables
-  unfolding regrouped_metrics
+      → regrouped (pairs_in r) (pairs_in s) (metric_with hists summaries) (numbered_rows metric_cells 0 (flat_items groups)) ≡ regrouped_with hists summaries tables
   regrouped_is tables hold hists summaries = λ i. regrouped (pairs_in (sym hold.resources i)) (pairs_in (sym hold.scopes i))
       (λ id cells. metric_of cells (record {
         points = points_with (sym hold.points i) (sym hold.of_points i) (sym hold.exemplars i) (sym hold.of_exemplars i) id;
@@ -199,7 +208,7 @@ pub same_again : (groups : List (ResourceGroup Metric)) (tables : List Table) (h
     → IsReal (Metrics groups) → IsProfile (Metrics groups) → weight_of (Metrics groups) ≤ weight_limit → HoldMetrics groups tables
     → Agree hists 0 (hist_lists groups) → Agree summaries 0 (summary_lists groups)
     → ((id : Option ℕ) → AllZip SameHistPoint (hists id) (found_hists id)) → ((id : Option ℕ) → AllZip SameSumPoint (summaries id) (found_summaries id))
-    → Same (Metrics groups) (Metrics (regrouped_metrics found_hists found_summaries tables))
+    → Same (Metrics groups) (Metrics (regrouped_with found_hists found_summaries tables))
 same_again groups tables hists found_hists summaries found_summaries real is light hold of_hists of_summaries alike_hists alike_summaries =
     let back = groups_again groups real is in
     let found : SameTelemetry (telemetry (Metrics (groups_with_items groups)))
@@ -209,7 +218,7 @@ same_again groups tables hists found_hists summaries found_summaries real is lig
     (resources_agree groups back) (scopes_agree groups back)
     (sorted_alike table.ResourceAttrs (resource_pairs groups) refl (few_resource_pairs groups light)) (sorted_alike table.ScopeAttrs (scope_pairs groups) refl (few_scope_pairs groups light))
     (λ id cells. same_metric cells _ _ (record { points = points_alike groups light id; hist_points = alike_hists id; summary_points = alike_summaries id })) in
-    subst (λ (xs : List (ItemEntry Item)). SameTelemetry xs (telemetry (Metrics (regrouped_metrics found_hists found_summaries tables)))) (telemetry_kept (Metrics groups))
+    subst (λ (xs : List (ItemEntry Item)). SameTelemetry xs (telemetry (Metrics (regrouped_with found_hists found_summaries tables)))) (telemetry_kept (Metrics groups))
     (subst (λ (gs : List (ResourceGroup Metric)). SameTelemetry (telemetry (Metrics (groups_with_items groups))) (telemetry (Metrics gs)))
     (regrouped_is groups light tables hold found_hists found_summaries) found)
 
@@ -218,7 +227,7 @@ pub light_tables : (groups : List (ResourceGroup Metric)) (tables : List Table) 
     → Agree hists 0 (hist_lists groups) → Agree summaries 0 (summary_lists groups)
     → ((id : Option ℕ) → total 32 weight_of_hist_point (hists id) ≡ total 32 weight_of_hist_point (found_hists id))
     → ((id : Option ℕ) → total 32 weight_of_sum_point (summaries id) ≡ total 32 weight_of_sum_point (found_summaries id))
-    → weight_of (Metrics (regrouped_metrics found_hists found_summaries tables)) ≤ weight_of (Metrics groups)
+    → weight_of (Metrics (regrouped_with found_hists found_summaries tables)) ≤ weight_of (Metrics groups)
 light_tables groups tables hists found_hists summaries found_summaries real is light hold of_hists of_summaries weigh_hists weigh_summaries =
     let back = groups_again groups real is in
     let found = regrouped_weigh weight_of_metric (unsorted (resource_pairs groups)) (pairs_in (r groups light)) (unsorted (scope_pairs groups)) (pairs_in (s groups light))
@@ -226,7 +235,7 @@ light_tables groups tables hists found_hists summaries found_summaries real is l
     (sorted_weigh table.ResourceAttrs (resource_pairs groups) refl (few_resource_pairs groups light)) (sorted_weigh table.ScopeAttrs (scope_pairs groups) refl (few_scope_pairs groups light))
     (λ id cells. metric_weighs cells _ _ (record { points = points_weigh groups light id; hist_points = weigh_hists id; summary_points = weigh_summaries id }))
     (numbered_rows metric_cells 0 (flat_items groups)) in
-    let here : total 32 (weight_of_resource_group weight_of_metric) (groups_with_items groups) ≡ weight_of (Metrics (regrouped_metrics found_hists found_summaries tables)) =
+    let here : total 32 (weight_of_resource_group weight_of_metric) (groups_with_items groups) ≡ weight_of (Metrics (regrouped_with found_hists found_summaries tables)) =
     ap (total 32 (weight_of_resource_group weight_of_metric)) (sym (unsorted_back groups back hists summaries of_hists of_summaries)) ∙ found
     ∙ ap (total 32 (weight_of_resource_group weight_of_metric)) (regrouped_is groups light tables hold found_hists found_summaries) in
     let most = kept_weigh weight_of_metric groups in

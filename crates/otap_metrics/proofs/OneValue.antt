@@ -12,8 +12,8 @@ use Rattle.otap_cells.specs.Cells.{Cell, cell_at}
 use Rattle.otap_groups.specs.Flat.{PlacedIn, placed}
 use Rattle.otap_groups.specs.Stored.{part_table, stored_parts}
 use Rattle.otap_checks.specs.Measured.{HasTwoValues, IsThere}
-use Rattle.otap_metrics.specs.Numbers.{double_value, int_value}
-use Rattle.otap_metrics.specs.Points.{exemplar_cells, point_cells}
+use Rattle.otap_points.specs.Numbers.{double_value, int_value}
+use Rattle.otap_points.specs.Points.{exemplar_cells, point_cells}
 
 number_alone : (n : Number) → IsThere (int_value n) → IsThere (double_value n) → ⊥
 number_alone numbers.Missing int double = int

@@ -1,18 +1,13 @@
--- The parts of a request that its tables are written from.
-use Rattle.std.proofs.Common.{◌≡◌, ◌<◌, ◌≤◌, ◌^◌, List, [], ◌∷◌, ◌++◌, None, length, map, refl, sym, ap, ◌∙◌, subst, arith}
-use Rattle.std.specs.Prelude.{All}
+-- What is written of a request of metrics, as the tables that it is written as.
+use Rattle.std.proofs.Common.{◌≡◌, ℕ, ◌<◌, ◌≤◌, ◌^◌, List, [], ◌∷◌, ◌++◌, None, length, map, refl, sym, ap, ◌∙◌, arith}
 use Rattle.std.specs.List.{flat_map}
 use Rattle.std.proofs.lemmas.List.{length-map}
-use Rattle.std.proofs.lemmas.List.Elements.{All-weaker}
-use Rattle.lists.proofs.Every.{all_joined, map_over}
+use Rattle.lists.proofs.Every.{map_over}
+use Rattle.otlp_model.specs.declared.groups.Resource.{Resource}
+use Rattle.otlp_model.specs.declared.groups.Scope.{Scope}
 use Rattle.otlp_model.specs.declared.groups.ResourceGroup.{ResourceGroup}
-use Rattle.otlp_model.specs.declared.metrics.Exemplar.{Exemplar}
 use Rattle.otlp_model.specs.declared.metrics.Metric.{Metric}
-use Rattle.otlp_model.specs.declared.metrics.Point.{Point}
-use Rattle.otlp_model.specs.declared.request.Request.TheVariants.{Metrics}
 use Rattle.otlp_model.specs.declared.value.Pair.{Pair}
-use Rattle.otlp_model.specs.Limits.{weight_limit}
-use Rattle.otlp_model.specs.Weight.{total, weight_of, weight_of_metric, weight_of_pair}
 use Rattle.otap_cells.specs.declared.payload.Kind.{Kind}
 use Rattle.otap_cells.specs.declared.payload.Kind.TheVariants as table
 use Rattle.otap_cells.specs.Cells.{Cell}
@@ -22,180 +17,137 @@ use Rattle.otap_cells.specs.Sets.{IsSet, tables_in}
 use Rattle.otap_cells.specs.Tables.{Table, profile_table}
 use Rattle.otap_groups.specs.declared.flat.Flat.{Flat}
 use Rattle.otap_groups.specs.declared.flat.Placed.{Placed}
-use Rattle.otap_groups.specs.Flat.{flat_items, items_of, placed, resources_of, scopes_of, resource_pairs, scope_pairs}
+use Rattle.otap_groups.specs.Flat.{FlatIn, PlacedIn, flat_items, items_of, placed, resources_of, scopes_of}
 use Rattle.otap_groups.specs.Stored.{main_table, part_table, stored_parts, stored_rows}
 use Rattle.otap_groups.specs.Views.{seen_flat, seen_placed}
-use Rattle.otap_groups.proofs.FlatItems.{all_items, all_parts, items_of_rows, parts_of_rows}
-use Rattle.otap_groups.proofs.WritableGroups.{all_items_can, all_resources_can, all_scopes_can, few_items, few_resources, few_scopes, IsLightResource, IsLightScope}
+use Rattle.otap_groups.proofs.FlatItems.{items_of_rows, parts_of_rows}
 use Rattle.otap_attrs.specs.Tables.{attribute_table, beside_kind, where_rows}
 use Rattle.otap_attrs.proofs.FilledTables.{added, added_all, filled, filled_set, filled_tables}
-use Rattle.otap_metrics.specs.Metrics.{metric_cells, points_of}
-use Rattle.otap_metrics.specs.Points.{exemplar_cells, point_cells}
-use Rattle.otap_metrics.specs.Tables.{all_exemplars, all_points, exemplar_lists, exemplar_pairs, point_lists, point_pairs, tables_below, tables_of_metrics}
-use Rattle.otap_metrics.specs.Writable.{CanWriteExemplar, CanWriteMetric, CanWritePoint}
-use Rattle.otap_metrics.proofs.LightParts.{few_exemplars, few_points}
-use Rattle.otap_metrics.proofs.WrittenWeight.{CanWrite}
+use Rattle.otap_attrs.proofs.FoundLists.{found_table}
+use Rattle.otap_checks.specs.Written.{table_of, tables_written}
+use Rattle.otap_checks.proofs.SeenParts.{table_seen}
+use Rattle.otap_points.specs.Points.{exemplar_cells, hist_point_cells, point_cells, sum_point_cells}
+use Rattle.otap_metrics.specs.Metrics.{metric_cells}
+use Rattle.otap_metrics.specs.Tables.{below_metrics, exemplar_lists, exemplar_pairs, hist_exemplar_lists, hist_exemplar_pairs, hist_lists, hist_pairs, point_lists, point_pairs, summary_lists, summary_pairs, tables_of_metrics}
 
--- ---- the lists, as they are found
+-- ---- what is found, by what it is seen as
 
-module _ (gs : List (ResourceGroup Metric)) where
-  pub points_placed : (ms : List (Placed Metric)) (ps : List (Placed Point)) → map (λ (p : Placed Metric). p.part.now) ms ≡ items_of gs
-      → map seen_placed ps ≡ placed (map (λ (p : Placed Metric). points_of p.part.now.shape) ms) → map seen_placed ps ≡ placed (point_lists gs)
-  points_placed ms ps items is =
-      is ∙ ap placed (map_over (λ (p : Placed Metric). p.part.now) (λ (metric : Metric). points_of metric.shape) ms ∙ ap (map (λ (metric : Metric). points_of metric.shape)) items)
+pub found_few : {B X : Type 0} (deref : B → X) (found : List B) (xs : List X) (n : ℕ) → map deref found ≡ xs → length xs ≤ n → length found ≤ n
+found_few deref found xs n is few =
+    let a = length-map found deref in
+    let b = ap length is in
+    omega (arith, a, b, few)
 
-  pub exemplars_placed : (ps : List (Placed Point)) (es : List (Placed Exemplar)) → map seen_placed ps ≡ placed (point_lists gs)
-      → map seen_placed es ≡ placed (map (λ (p : Placed Point). p.part.now.exemplars) ps) → map seen_placed es ≡ placed (exemplar_lists gs)
-  exemplars_placed ps es points is =
-      is ∙ ap placed (map_over (λ (p : Placed Point). p.part.now) (λ (point : Point). point.exemplars) ps
-      ∙ ap (map (λ (point : Point). point.exemplars)) (parts_of_rows ps (point_lists gs) points))
+pub rows_few : (gs : List (ResourceGroup Metric)) (rows : List (Flat Metric)) → map seen_flat rows ≡ flat_items gs → length (items_of gs) < 2 ^ 32 → length rows < 2 ^ 32
+rows_few gs rows is few =
+    let a = found_few (λ (f : Flat Metric). f.item.now) rows (items_of gs) 4294967295 (items_of_rows rows gs is) (omega (arith, few)) in
+    omega (arith, a)
 
--- ---- how many there are
+pub metrics_seen : (gs : List (ResourceGroup Metric)) (rows : List (Flat Metric)) (metrics : List (Placed Metric)) → map seen_flat rows ≡ flat_items gs
+    → map (λ (p : Placed Metric). p.part.now) metrics ≡ map (λ (f : Flat Metric). f.item.now) rows → map (λ (p : Placed Metric). p.part.now) metrics ≡ items_of gs
+metrics_seen gs rows metrics is same = same ∙ items_of_rows rows gs is
 
-module _ (groups gs : List (ResourceGroup Metric)) (same : gs ≡ groups) (few : weight_of (Metrics groups) ≤ weight_limit) where
-  light : weight_of (Metrics gs) ≤ weight_limit
-  light = subst (λ gs. weight_of (Metrics gs) ≤ weight_limit) (sym same) few
+-- parts of parents
+module _ {P C : Type 0} (parts : P → List C) (ps : List P) (parents : List (Placed P)) (found : List (Placed C))
+    (are : map (λ (p : Placed P). p.part.now) parents ≡ ps) (is : map seen_placed found ≡ placed (map (λ (p : Placed P). parts p.part.now) parents)) where
+  pub parts_placed : map seen_placed found ≡ placed (map parts ps)
+  parts_placed = is ∙ ap placed (map_over (λ (p : Placed P). p.part.now) parts parents ∙ ap (map parts) are)
 
-  pub items_few : length (items_of gs) < 2 ^ 32
-  items_few = omega (arith, light, few_items weight_of_metric gs)
+  pub parts_seen : map (λ (p : Placed C). p.part.now) found ≡ flat_map (λ (cs : List C). cs) (map parts ps)
+  parts_seen = parts_of_rows found (map parts ps) parts_placed
 
-  pub rows_few : (rows : List (Flat Metric)) → map seen_flat rows ≡ flat_items gs → length rows < 2 ^ 32
-  rows_few rows is =
-      let a = length-map rows (λ (f : Flat Metric). f.item.now) in
-      let b = ap length (items_of_rows rows gs is) in
-      let c = items_few in
-      omega (arith, a, b, c)
+  pub parts_table : (kind : Kind) (cells_of : C → List Cell)
+      → profile_table kind (stored_parts (coding_at kind 1) (again_of kind) cells_of 0 0 None (map seen_placed found)) ≡ part_table kind cells_of (map parts ps)
+  unfolding part_table
+  parts_table kind cells_of = ap (λ (ps : List (PlacedIn C)). profile_table kind (stored_parts (coding_at kind 1) (again_of kind) cells_of 0 0 None ps)) parts_placed
 
-  pub metrics_few : (ms : List (Placed Metric)) → map (λ (p : Placed Metric). p.part.now) ms ≡ items_of gs → length ms ≤ 2 ^ 32
-  metrics_few ms is =
-      let a = length-map ms (λ (p : Placed Metric). p.part.now) in
-      let b = ap length is in
-      let c = items_few in
-      omega (arith, a, b, c)
+  -- where the writer knows its kind
+  pub table_of_kind : (kind other : Kind) (cells_of : C → List Cell) → other ≡ kind
+      → profile_table other (stored_parts (coding_at other 1) (again_of other) cells_of 0 0 None (map seen_placed found)) ≡ part_table kind cells_of (map parts ps)
+  table_of_kind kind other cells_of same =
+      ap (λ (k : Kind). profile_table k (stored_parts (coding_at k 1) (again_of k) cells_of 0 0 None (map seen_placed found))) same ∙ parts_table kind cells_of
 
-  pub resources_few : length (resources_of gs) ≤ 2 ^ 32
-  resources_few = omega (arith, light, few_resources weight_of_metric gs)
-
-  pub scopes_few : length (scopes_of gs) ≤ 2 ^ 32
-  scopes_few = omega (arith, light, few_scopes weight_of_metric gs)
-
-  pub points_few : (ps : List (Placed Point)) → map seen_placed ps ≡ placed (point_lists gs) → length ps ≤ 2 ^ 32
-  points_few ps is =
-      let a = length-map ps (λ (p : Placed Point). p.part.now) in
-      let b = ap length (parts_of_rows ps (point_lists gs) is) in
-      omega (arith, light, few_points gs, a, b)
-
-  pub exemplars_few : (es : List (Placed Exemplar)) → map seen_placed es ≡ placed (exemplar_lists gs) → length es ≤ 2 ^ 32
-  exemplars_few es is =
-      let a = length-map es (λ (p : Placed Exemplar). p.part.now) in
-      let b = ap length (parts_of_rows es (exemplar_lists gs) is) in
-      omega (arith, light, few_exemplars gs, a, b)
-
--- ---- what can be written
-
-module _ (gs : List (ResourceGroup Metric)) (can : All CanWrite gs) where
-  all_metrics : All CanWriteMetric (items_of gs)
-  all_metrics = all_items_can IsLightResource IsLightScope CanWriteMetric gs can
-
-  pub rows_can : (rows : List (Flat Metric)) → map seen_flat rows ≡ flat_items gs → All (λ (f : Flat Metric). CanWriteMetric f.item.now) rows
-  rows_can rows is = all_items CanWriteMetric rows gs is all_metrics
-
-  pub resources_can : All IsLightResource (resources_of gs)
-  resources_can = all_resources_can IsLightResource IsLightScope CanWriteMetric gs can
-
-  pub scopes_can : All IsLightScope (scopes_of gs)
-  scopes_can = all_scopes_can IsLightResource IsLightScope CanWriteMetric gs can
-
-  all_points_can : All CanWritePoint (all_points gs)
-  all_points_can = all_joined CanWritePoint (λ (metric : Metric). points_of metric.shape) (items_of gs) all_metrics
-
-  all_exemplars_can : All CanWriteExemplar (all_exemplars gs)
-  all_exemplars_can = all_joined CanWriteExemplar (λ (point : Point). point.exemplars) (all_points gs)
-      (All-weaker CanWritePoint (λ (point : Point). All CanWriteExemplar point.exemplars) (λ point can. can.exemplars) (all_points gs) all_points_can)
-
-  pub points_can : (ps : List (Placed Point)) → map seen_placed ps ≡ placed (point_lists gs) → All (λ (p : Placed Point). CanWritePoint p.part.now) ps
-  points_can ps is = all_parts CanWritePoint ps (point_lists gs) is all_points_can
-
-  pub exemplars_can : (es : List (Placed Exemplar)) → map seen_placed es ≡ placed (exemplar_lists gs) → All (λ (p : Placed Exemplar). CanWriteExemplar p.part.now) es
-  exemplars_can es is = all_parts CanWriteExemplar es (exemplar_lists gs) is all_exemplars_can
-
-  pub point_pairs_can : (ps : List (Placed Point)) → map seen_placed ps ≡ placed (point_lists gs)
-      → All (λ (p : Placed Point). total 32 weight_of_pair p.part.now.pairs ≤ weight_limit) ps
-  point_pairs_can ps is =
-      All-weaker (λ (p : Placed Point). CanWritePoint p.part.now) (λ (p : Placed Point). total 32 weight_of_pair p.part.now.pairs ≤ weight_limit) (λ p can. can.pairs) ps (points_can ps is)
-
-  pub exemplar_pairs_can : (es : List (Placed Exemplar)) → map seen_placed es ≡ placed (exemplar_lists gs)
-      → All (λ (p : Placed Exemplar). total 32 weight_of_pair p.part.now.pairs ≤ weight_limit) es
-  exemplar_pairs_can es is =
-      All-weaker (λ (p : Placed Exemplar). CanWriteExemplar p.part.now) (λ (p : Placed Exemplar). total 32 weight_of_pair p.part.now.pairs ≤ weight_limit) (λ p can. can.pairs) es
-      (exemplars_can es is)
-
--- ---- the tables
-
-abbrev pub stored : {C : Type 0} → Kind → (C → List Cell) → List (Placed C) → Table
-stored kind cells_of ps = profile_table kind (stored_parts (coding_at kind 1) (again_of kind) cells_of 0 0 None (map seen_placed ps))
-
-pub part_table_is : {C : Type 0} (kind : Kind) (cells_of : C → List Cell) (ps : List (Placed C)) (lists : List (List C)) → map seen_placed ps ≡ placed lists
-    → stored kind cells_of ps ≡ part_table kind cells_of lists
-unfolding part_table
-part_table_is kind cells_of ps lists is = ap (λ qs. profile_table kind (stored_parts (coding_at kind 1) (again_of kind) cells_of 0 0 None qs)) is
-
-pub attribute_table_is : {C : Type 0} (kind : Kind) (pairs : C → List Pair) (ps : List (Placed C)) (lists : List (List C)) → map seen_placed ps ≡ placed lists
-    → attribute_table kind (map (λ (p : Placed C). pairs p.part.now) ps) ≡ attribute_table kind (map pairs (flat_map (λ (xs : List C). xs) lists))
-attribute_table_is {C = C} kind pairs ps lists is = ap (attribute_table kind) (map_over (λ (p : Placed C). p.part.now) pairs ps ∙ ap (map pairs) (parts_of_rows ps lists is))
-
-pub main_is : (rows : List (Flat Metric)) (gs : List (ResourceGroup Metric)) (main : Table) → map seen_flat rows ≡ flat_items gs
+pub main_is : (gs : List (ResourceGroup Metric)) (rows : List (Flat Metric)) (main : Table) → map seen_flat rows ≡ flat_items gs
     → main ≡ profile_table table.Metrics (stored_rows metric_cells 0 0 0 (map seen_flat rows)) → main ≡ main_table table.Metrics metric_cells gs
 unfolding main_table
-main_is rows gs main is made = made ∙ ap (λ fs. profile_table table.Metrics (stored_rows metric_cells 0 0 0 fs)) is
+main_is gs rows main is made = made ∙ ap (λ (fs : List (FlatIn Metric)). profile_table table.Metrics (stored_rows metric_cells 0 0 0 fs)) is
 
--- what was added, one table after the other
-module _ (gs : List (ResourceGroup Metric)) (main : Table) (p q : List (Placed Point)) (e f : List (Placed Exemplar)) (ps : map seen_placed p ≡ placed (point_lists gs)) (qs : map seen_placed q ≡ placed (point_lists gs))
-    (es : map seen_placed e ≡ placed (exemplar_lists gs)) (fs : map seen_placed f ≡ placed (exemplar_lists gs))
-    (none s0 s1 s2 s3 s4 s5 s6 : List (Kind × Table)) (e0 : none ≡ []) (e1 : s0 ≡ none ++ (table.Metrics, main) ∷ [])
-    (a1 : s1 ≡ s0 ++ map beside_kind (where_rows (attribute_table table.ResourceAttrs (resource_pairs gs))))
-    (a2 : s2 ≡ s1 ++ map beside_kind (where_rows (attribute_table table.ScopeAttrs (scope_pairs gs))))
-    (a3 : s3 ≡ s2 ++ map beside_kind (where_rows (stored table.NumberPoints point_cells p)))
-    (a4 : s4 ≡ s3 ++ map beside_kind (where_rows (attribute_table table.NumberPointAttrs (map (λ (p : Placed Point). p.part.now.pairs) q))))
-    (a5 : s5 ≡ s4 ++ map beside_kind (where_rows (stored table.NumberExemplars exemplar_cells e)))
-    (a6 : s6 ≡ s5 ++ map beside_kind (where_rows (attribute_table table.NumberExemplarAttrs (map (λ (p : Placed Exemplar). p.part.now.pairs) f))))
-    (kind : main.kind ≡ table.Metrics) where
-  abbrev r : Table
-  r = attribute_table table.ResourceAttrs (resource_pairs gs)
+pub pairs_table : {B X : Type 0} (kind : Kind) (deref : B → X) (pairs : X → List Pair) (found : List B) (xs : List X)
+    → map deref found ≡ xs → attribute_table kind (map (λ b. pairs (deref b)) found) ≡ attribute_table kind (map pairs xs)
+pairs_table kind deref pairs found xs is = found_table kind deref pairs found xs _ is refl
 
-  abbrev s : Table
-  s = attribute_table table.ScopeAttrs (scope_pairs gs)
+-- ---- the set
 
-  abbrev n : Table
-  n = part_table table.NumberPoints point_cells (point_lists gs)
+abbrev pub Items : Type 0
+Items = List (Kind × Table)
 
-  abbrev np : Table
-  np = attribute_table table.NumberPointAttrs (point_pairs gs)
+pub pushed : (main r s n y h np yp hp x e xp ep : Table) (i0 i1 i2 i3 i4 i5 i6 i7 i8 i9 i10 i11 i12 i13 : Items) → i0 ≡ [] → i1 ≡ i0 ++ (table.Metrics, main) ∷ [] → main.kind ≡ table.Metrics
+    → i2 ≡ i1 ++ map beside_kind (where_rows r)
+    → i3 ≡ i2 ++ map beside_kind (where_rows s)
+    → i4 ≡ i3 ++ map beside_kind (where_rows n)
+    → i5 ≡ i4 ++ map beside_kind (where_rows y)
+    → i6 ≡ i5 ++ map beside_kind (where_rows h)
+    → i7 ≡ i6 ++ map beside_kind (where_rows np)
+    → i8 ≡ i7 ++ map beside_kind (where_rows yp)
+    → i9 ≡ i8 ++ map beside_kind (where_rows hp)
+    → i10 ≡ i9 ++ map beside_kind (where_rows x)
+    → i11 ≡ i10 ++ map beside_kind (where_rows e)
+    → i12 ≡ i11 ++ map beside_kind (where_rows xp)
+    → i13 ≡ i12 ++ map beside_kind (where_rows ep)
+    → i13 ≡ map beside_kind (main ∷ filled (r ∷ s ∷ n ∷ y ∷ h ∷ np ∷ yp ∷ hp ∷ x ∷ e ∷ xp ∷ ep ∷ []))
+pushed main r s n y h np yp hp x e xp ep i0 i1 i2 i3 i4 i5 i6 i7 i8 i9 i10 i11 i12 i13 e0 e1 km e2 e3 e4 e5 e6 e7 e8 e9 e10 e11 e12 e13 =
+    let b12 = added i12 i13 i13 ep [] e13 (added_all i13) in
+    let b11 = added i11 i12 i13 xp (ep ∷ []) e12 b12 in
+    let b10 = added i10 i11 i13 e (xp ∷ ep ∷ []) e11 b11 in
+    let b9 = added i9 i10 i13 x (e ∷ xp ∷ ep ∷ []) e10 b10 in
+    let b8 = added i8 i9 i13 hp (x ∷ e ∷ xp ∷ ep ∷ []) e9 b9 in
+    let b7 = added i7 i8 i13 yp (hp ∷ x ∷ e ∷ xp ∷ ep ∷ []) e8 b8 in
+    let b6 = added i6 i7 i13 np (yp ∷ hp ∷ x ∷ e ∷ xp ∷ ep ∷ []) e7 b7 in
+    let b5 = added i5 i6 i13 h (np ∷ yp ∷ hp ∷ x ∷ e ∷ xp ∷ ep ∷ []) e6 b6 in
+    let b4 = added i4 i5 i13 y (h ∷ np ∷ yp ∷ hp ∷ x ∷ e ∷ xp ∷ ep ∷ []) e5 b5 in
+    let b3 = added i3 i4 i13 n (y ∷ h ∷ np ∷ yp ∷ hp ∷ x ∷ e ∷ xp ∷ ep ∷ []) e4 b4 in
+    let b2 = added i2 i3 i13 s (n ∷ y ∷ h ∷ np ∷ yp ∷ hp ∷ x ∷ e ∷ xp ∷ ep ∷ []) e3 b3 in
+    let b1 = added i1 i2 i13 r (s ∷ n ∷ y ∷ h ∷ np ∷ yp ∷ hp ∷ x ∷ e ∷ xp ∷ ep ∷ []) e2 b2 in
+    let front : i1 ≡ beside_kind main ∷ [] = e1 ∙ ap (λ (xs : Items). xs ++ (table.Metrics, main) ∷ []) e0 ∙ (λ i. (sym km i, main) ∷ []) in
+    b1 ∙ ap (λ (xs : Items). xs ++ map beside_kind (filled (r ∷ s ∷ n ∷ y ∷ h ∷ np ∷ yp ∷ hp ∷ x ∷ e ∷ xp ∷ ep ∷ []))) front
 
-  abbrev x : Table
-  x = part_table table.NumberExemplars exemplar_cells (exemplar_lists gs)
+module _ (gs : List (ResourceGroup Metric)) (items : Items) (main n y h np yp hp x e xp ep : Table)
+    (are : items ≡ map beside_kind (main ∷ filled (attribute_table table.ResourceAttrs (map (λ (resource : Resource). resource.pairs) (resources_of gs))
+    ∷ attribute_table table.ScopeAttrs (map (λ (scope : Scope). scope.pairs) (scopes_of gs))
+    ∷ n ∷ y ∷ h ∷ np ∷ yp ∷ hp ∷ x ∷ e ∷ xp ∷ ep ∷ [])))
+    (is_main : main ≡ main_table table.Metrics metric_cells gs)
+    (is_n : n ≡ part_table table.NumberPoints point_cells (point_lists gs))
+    (is_y : y ≡ part_table table.SummaryPoints sum_point_cells (summary_lists gs))
+    (is_h : h ≡ part_table table.HistPoints hist_point_cells (hist_lists gs))
+    (is_np : np ≡ attribute_table table.NumberPointAttrs (point_pairs gs))
+    (is_yp : yp ≡ attribute_table table.SummaryPointAttrs (summary_pairs gs))
+    (is_hp : hp ≡ attribute_table table.HistPointAttrs (hist_pairs gs))
+    (is_x : x ≡ part_table table.NumberExemplars exemplar_cells (exemplar_lists gs))
+    (is_e : e ≡ part_table table.HistExemplars exemplar_cells (hist_exemplar_lists gs))
+    (is_xp : xp ≡ attribute_table table.NumberExemplarAttrs (exemplar_pairs gs))
+    (is_ep : ep ≡ attribute_table table.HistExemplarAttrs (hist_exemplar_pairs gs)) where
+  items_are : items ≡ map beside_kind (main_table table.Metrics metric_cells gs ∷ filled (map table_of (below_metrics gs)))
+  items_are =
+      are ∙ (λ i. map beside_kind (is_main i ∷ filled (attribute_table table.ResourceAttrs (map (λ (resource : Resource). resource.pairs) (resources_of gs))
+      ∷ attribute_table table.ScopeAttrs (map (λ (scope : Scope). scope.pairs) (scopes_of gs))
+      ∷ (is_n ∙ sym (table_seen point_cells table.NumberPoints (point_lists gs))) i
+      ∷ (is_y ∙ sym (table_seen sum_point_cells table.SummaryPoints (summary_lists gs))) i
+      ∷ (is_h ∙ sym (table_seen hist_point_cells table.HistPoints (hist_lists gs))) i
+      ∷ is_np i
+      ∷ is_yp i
+      ∷ is_hp i
+      ∷ (is_x ∙ sym (table_seen exemplar_cells table.NumberExemplars (exemplar_lists gs))) i
+      ∷ (is_e ∙ sym (table_seen exemplar_cells table.HistExemplars (hist_exemplar_lists gs))) i
+      ∷ is_xp i
+      ∷ is_ep i ∷ [])))
 
-  abbrev xp : Table
-  xp = attribute_table table.NumberExemplarAttrs (exemplar_pairs gs)
+  tables_are : tables_in (λ t. t) items ≡ tables_of_metrics gs
+  unfolding tables_of_metrics tables_written
+  tables_are = filled_tables (main_table table.Metrics metric_cells gs) (map table_of (below_metrics gs)) items items_are
 
-  all_added : s6 ≡ s0 ++ map beside_kind (filled (tables_below gs))
-  all_added =
-      added s0 s1 s6 r (s ∷ n ∷ np ∷ x ∷ xp ∷ []) a1 (added s1 s2 s6 s (n ∷ np ∷ x ∷ xp ∷ []) a2
-      (added s2 s3 s6 n (np ∷ x ∷ xp ∷ []) (a3 ∙ ap (λ t. s2 ++ map beside_kind (where_rows t)) (part_table_is table.NumberPoints point_cells p (point_lists gs) ps))
-      (added s3 s4 s6 np (x ∷ xp ∷ [])
-      (a4 ∙ ap (λ t. s3 ++ map beside_kind (where_rows t)) (attribute_table_is table.NumberPointAttrs (λ (point : Point). point.pairs) q (point_lists gs) qs))
-      (added s4 s5 s6 x (xp ∷ []) (a5 ∙ ap (λ t. s4 ++ map beside_kind (where_rows t)) (part_table_is table.NumberExemplars exemplar_cells e (exemplar_lists gs) es))
-      (added s5 s6 s6 xp []
-      (a6 ∙ ap (λ t. s5 ++ map beside_kind (where_rows t)) (attribute_table_is table.NumberExemplarAttrs (λ (exemplar : Exemplar). exemplar.pairs) f (exemplar_lists gs) fs))
-      (added_all s6))))))
+  pub written : (groups : List (ResourceGroup Metric)) → gs ≡ groups → tables_in (λ t. t) items ≡ tables_of_metrics groups
+  written groups same = tables_are ∙ ap tables_of_metrics same
 
-  are : s6 ≡ map beside_kind (main ∷ filled (tables_below gs))
-  are = all_added ∙ (λ i. (e1 ∙ ap (λ xs. xs ++ (table.Metrics, main) ∷ []) e0 ∙ ap (λ k. (k, main) ∷ []) (sym kind)) i ++ map beside_kind (filled (tables_below gs)))
-
-  pub are_tables : (groups : List (ResourceGroup Metric)) → gs ≡ groups → main ≡ main_table table.Metrics metric_cells gs → tables_in (λ t. t) s6 ≡ tables_of_metrics groups
-  unfolding tables_of_metrics
-  are_tables groups same is = filled_tables main (tables_below gs) s6 are ∙ ap (λ m. m ∷ filled (tables_below gs)) is ∙ ap tables_of_metrics same
-
-  pub is_set : IsSet (λ t. t) s6
-  unfolding part_table attribute_table
-  is_set = filled_set main (tables_below gs) s6 are (rw kind refl)
+  pub written_set : IsSet (λ t. t) items
+  unfolding main_table part_table attribute_table
+  written_set = filled_set (main_table table.Metrics metric_cells gs) (map table_of (below_metrics gs)) items items_are refl

@@ -1,22 +1,11 @@
--- Words of private contracts: what of a request of metrics can be written.
-use Rattle.std.specs.Prelude.{◌≤◌, All}
-use Rattle.otlp_model.specs.Limits.{weight_limit, part_weight}
-use Rattle.otlp_model.specs.Profile.{IsTraceId, IsSpanId}
-use Rattle.otlp_model.specs.Weight.{total, weight_of_pair}
-use Rattle.otlp_model.specs.declared.metrics.Exemplar.{Exemplar}
+-- Words of private contracts: which metrics can be written.
+use Rattle.std.specs.Prelude.{All}
 use Rattle.otlp_model.specs.declared.metrics.Metric.{Metric}
-use Rattle.otlp_model.specs.declared.metrics.Point.{Point}
-use Rattle.otap_metrics.specs.Metrics.{points_of}
+use Rattle.otap_points.specs.Writable.{CanWriteHistPoint, CanWritePoint, CanWriteSumPoint}
+use Rattle.otap_metrics.specs.Metrics.{hist_points_of, points_of, summary_points_of}
 
--- what can be written: ids have their lengths, and the attributes of each weigh no more than the limit
-pub record CanWriteExemplar (exemplar : Exemplar) : Type 0 where
-  pub trace_id : IsTraceId exemplar.trace_id
-  pub span_id : IsSpanId exemplar.span_id
-  pub pairs : total part_weight weight_of_pair exemplar.pairs ≤ weight_limit
-
-pub record CanWritePoint (point : Point) : Type 0 where
-  pub pairs : total part_weight weight_of_pair point.pairs ≤ weight_limit
-  pub exemplars : All CanWriteExemplar point.exemplars
-
-abbrev pub CanWriteMetric : Metric → Type 0
-CanWriteMetric metric = All CanWritePoint (points_of metric.shape)
+-- each of its points can be written
+pub record CanWriteMetric (metric : Metric) : Type 0 where
+  pub points : All CanWritePoint (points_of metric.shape)
+  pub hist_points : All CanWriteHistPoint (hist_points_of metric.shape)
+  pub summary_points : All CanWriteSumPoint (summary_points_of metric.shape)

@@ -2,18 +2,15 @@
 #![tactic(auto)]
 
 mod columns;
-mod indexes;
 pub mod laws;
-mod numbers;
 mod reading;
 pub mod reading_laws;
 mod requests;
+mod shapes;
 mod weights;
 mod writing;
 
-pub use indexes::index_exemplars;
-pub use numbers::{double_value, id_cell, int_value};
-pub use reading::{Exemplars, Metrics, Points};
-pub use requests::regroup_with;
+pub use reading::Metrics;
+pub use requests::{check_rows, regroup, request_of};
 pub use weights::table_weight;
-pub use writing::{exemplar_cells_weight, tables_of};
+pub use writing::tables_of;

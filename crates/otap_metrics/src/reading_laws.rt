@@ -1,14 +1,22 @@
-//! What tables of metrics mean, by their cells and ids, as a function that does nothing: it ensures a law for all tables.
-ghost use Rattle.std.specs.Prelude.{◌≡◌, ℕ, All, List, Option};
-ghost use Rattle.otlp_model.specs.declared.histograms.HistPoint.{HistPoint};
-ghost use Rattle.otlp_model.specs.declared.histograms.SumPoint.{SumPoint};
+//! What tables of metrics mean, by their cells and ids, as functions that do nothing: each ensures a law for all tables.
+ghost use Rattle.std.specs.Prelude.{◌≡◌, All, List};
+ghost use Rattle.otap_attrs.specs.declared.refusal.RowRefusal.{RowRefusal};
 ghost use Rattle.otap_cells.specs.GivenIds.{ReadAs};
 ghost use Rattle.otap_cells.specs.Tables.{Table};
+ghost use Rattle.otap_cells.specs.declared.payload.Kind.{Kind};
+ghost use Rattle.otap_checks.specs.Deciding.{CleanOrWrong, HaveByteCells};
 ghost use Rattle.otap_checks.specs.Reading.{HasAllIds};
-ghost use Rattle.otap_metrics.specs.Requests.{regrouped_metrics};
+ghost use Rattle.otap_metrics.specs.Requests.{WrongMetrics, regrouped_metrics};
 
-/// Law: tables that read as others, whose ids are given, make their request.
+/// Law: nothing is wrong with the rows of tables, or something is.
+pub fn clean_or_wrong()
+    ensures { (tables : List Table) → HaveByteCells tables → CleanOrWrong (WrongMetrics tables) }
+{}
+
+/// Law: tables that read as others, whose ids are given, make their request, and nothing is wrong with them that isn't wrong
+/// with the others.
 pub fn cells_and_ids_decide()
-    ensures { (tables others : List Table) → ReadAs tables others → All HasAllIds others
-        → (hists : Option ℕ → List HistPoint) (summaries : Option ℕ → List SumPoint) → regrouped_metrics hists summaries tables ≡ regrouped_metrics hists summaries others }
+    ensures wrong { (tables others : List Table) → ReadAs tables others → All HasAllIds others
+        → (kind : Kind) (why : RowRefusal) → WrongMetrics tables kind why → WrongMetrics others kind why }
+    ensures request { (tables others : List Table) → ReadAs tables others → All HasAllIds others → regrouped_metrics tables ≡ regrouped_metrics others }
 {}

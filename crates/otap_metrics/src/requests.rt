@@ -1,109 +1,262 @@
-//! The request of the tables of a batch of metrics, where the points of histograms and summaries are found in given ways.
-ghost use Rattle.std.specs.Prelude.{◌≡◌, ◌≤◌, ℕ, Option, IfErr, IfOk};
-ghost use Rattle.otlp_model.specs.Limits.{weight_limit};
-ghost use Rattle.otlp_model.specs.Weight.{weight_of, weight_of_hist_point, weight_of_pair, weight_of_sum_point};
+//! The request of the tables of a batch.
+ghost use Rattle.std.specs.Prelude.{◌≡◌, ◌≤◌, ℕ, Option, min, IfErr, IfOk, OnOk};
+ghost use Rattle.otlp_model.specs.Limits.{weight_limit, count_cap};
+ghost use Rattle.otlp_model.specs.Weight.{weight_of, weight_of_exemplar, weight_of_hist_point, weight_of_point, weight_of_sum_point};
 ghost use Rattle.otlp_model.specs.declared.histograms.HistPoint.{HistPoint};
 ghost use Rattle.otlp_model.specs.declared.histograms.SumPoint.{SumPoint};
+ghost use Rattle.otlp_model.specs.declared.metrics.Exemplar.{Exemplar};
 ghost use Rattle.otlp_model.specs.declared.metrics.Point.{Point};
 ghost use Rattle.otlp_model.specs.declared.request.Request.TheVariants.{Metrics};
 ghost use Rattle.otlp_model.specs.declared.request.Signal.TheVariants as signal;
-ghost use Rattle.otlp_model.specs.declared.value.Pair.{Pair};
 ghost use Rattle.otap_cells.specs.declared.payload.Kind.{Kind};
 ghost use Rattle.otap_cells.specs.declared.payload.Kind.TheVariants as table;
 ghost use Rattle.otap_cells.specs.Named.{table_named};
+ghost use Rattle.otap_groups.specs.Groups.{regrouped};
+ghost use Rattle.otap_groups.specs.Rows.{main_rows};
 ghost use Rattle.otap_attrs.specs.declared.refusal.RowRefusal.{RowRefusal};
-ghost use Rattle.otap_attrs.specs.Index.{pairs_in};
 ghost use Rattle.otap_checks.specs.Known.{KnowsAll};
-ghost use Rattle.otap_checks.specs.Refusing.{Nothing};
+ghost use Rattle.otap_checks.specs.Refusing.{Nothing, RefusesCheck};
 ghost use Rattle.otap_checks.specs.Regrouping.{RefusesRegroup};
-ghost use Rattle.otap_checks.specs.RowDefects.{RowDefect};
-ghost use Rattle.otap_metrics.specs.Requests.{points_in, regrouped_metrics};
+ghost use Rattle.otap_points.specs.Found.{hist_exemplars_in, hist_points_in, point_exemplars_in, points_in, summary_points_in};
+ghost use Rattle.otap_metrics.specs.Requests.{WrongMetrics, regrouped_metrics};
 
-use crate::indexes::{index_exemplars, index_points};
-use crate::reading::Metrics as MetricRows;
+use crate::reading;
+use otap_attrs::CheckRefusal;
 use otap_cells::{Kind, Rows, TableSet};
-use otap_checks::{Grouped, KnownIds, RegroupRefusal, find_pairs, front_of, groups_within};
-use otap_groups::{Lookup, Main};
-use otlp_model::{HistPoint, Items, Metric, Pair, Point, SumPoint};
-use std::alloc::Global;
+use otap_checks::{
+    Grouped, KnownIds, PairRows, RegroupRefusal, checked_ids, find_pairs, front_of, groups_within,
+};
+use otap_groups::{Lookup, Main, RowReader};
+use otap_points::{
+    find_hist_exemplars, find_hist_points, find_point_exemplars, find_points, find_summary_points,
+};
+use otlp_model::{Exemplar, HistPoint, Items, Metric, Point, ResourceGroup, Signal, SumPoint};
+use std::alloc::{AllocError, Global};
 
-/// The request of a batch whose rows have nothing wrong, and what it weighs, where that is at most the limit. It is built only
-/// then. The points of histograms and summaries are found by their metrics' ids. Takes n log n for n rows, and time in proportion
-/// to them where ids and parents rise or count from 0.
-pub fn regroup_with<R: Rows, H: Lookup<Child = HistPoint>, S: Lookup<Child = SumPoint>>(
-    alloc: Global,
-    set: &TableSet<R>,
-    known: &KnownIds,
-    hists: H,
-    summaries: S,
-) -> Result<Grouped<Metric>, RegroupRefusal>
-    requires clean { (kind : Kind) (why : RowRefusal) → RowDefect signal.Metrics set.now kind why → ⊥ }
-    requires known { KnowsAll signal.Metrics set.now known.now.columns.items }
-    requires hists_weighed { (point : HistPoint) → H.weigh hists point ≡ weight_of_hist_point point }
-    requires summaries_weighed { (point : SumPoint) → S.weigh summaries point ≡ weight_of_sum_point point }
-    ensures groups { IfOk result (λ made. made.groups ≡ regrouped_metrics (H.finds hists) (S.finds summaries) set.now) }
+/// The main rows of metrics, with their metrics and all pairs, where their points are found in given ways.
+type MetricRows<'a, R, N, H, S> = Main<'a, R, reading::Metrics<'a, R, N, H, S>, PairRows<'a, R>>;
+
+/// Looks at the rows of a batch of metrics, and returns what their request weighs, or `CAP` where it is more. It builds nothing.
+/// Takes n log n for n rows.
+pub fn check_rows<R: Rows>(alloc: Global, set: &TableSet<R>) -> Result<u64, CheckRefusal>
+    ensures clean { OnOk result ((kind : Kind) (why : RowRefusal) → WrongMetrics set.now kind why → ⊥) }
+    ensures weight { IfOk result (λ weight. weight ≡ min (weight_of (Metrics (regrouped_metrics set.now))) count_cap) }
+    ensures refused { IfErr result (RefusesCheck (WrongMetrics set.now)) }
+{
+    let known = checked_ids(alloc, set, Signal::Metrics)?;
+    let Some(rows) = set.get(Kind::Metrics) else {
+        return Ok(0);
+    };
+    let of_points = find_point_exemplars(alloc, set, &known)?;
+    let of_hists = find_hist_exemplars(alloc, set, &known)?;
+    let weight = weigh_points(alloc, set, rows, &known, of_points, of_hists)?;
+    Ok(weight)
+}
+
+/// The request of a batch of metrics and what it weighs, where nothing is wrong with the rows and it weighs at most the limit.
+/// It is built only then. Takes n log n for n rows, and time in proportion to them where ids and parents rise or count from 0.
+pub fn regroup<R: Rows>(alloc: Global, set: &TableSet<R>) -> Result<Grouped<Metric>, RegroupRefusal>
+    ensures clean { OnOk result ((kind : Kind) (why : RowRefusal) → WrongMetrics set.now kind why → ⊥) }
+    ensures groups { IfOk result (λ made. made.groups ≡ regrouped_metrics set.now) }
     ensures tree { IfOk result (λ made. made.tree ≡ weight_of (Metrics made.groups)) }
     ensures light { IfOk result (λ made. made.tree ≤ weight_limit) }
-    ensures refused { IfErr result (RefusesRegroup Nothing (weight_of (Metrics (regrouped_metrics (H.finds hists) (S.finds summaries) set.now)))) }
+    ensures refused { IfErr result (RefusesRegroup (WrongMetrics set.now) (weight_of (Metrics (regrouped_metrics set.now)))) }
 {
+    let known = checked_ids(alloc, set, Signal::Metrics)?;
     let Some(rows) = set.get(Kind::Metrics) else {
         return Ok(Grouped {
             groups: Items::new(alloc),
             tree: 0,
         });
     };
-    let of_exemplars = find_pairs(alloc, set, Kind::NumberExemplarAttrs, known)?;
-    let exemplars = index_exemplars(alloc, set, Kind::NumberExemplars, known, of_exemplars)?;
-    let of_points = find_pairs(alloc, set, Kind::NumberPointAttrs, known)?;
-    let points = index_points(alloc, set, known, of_points, exemplars)?;
-    let items = MetricRows {
-        rows,
-        points,
-        hist_points: hists,
-        summary_points: summaries,
-    };
-    let resources = find_pairs(alloc, set, Kind::ResourceAttrs, known)?;
-    let scopes = find_pairs(alloc, set, Kind::ScopeAttrs, known)?;
-    let made = main_groups(alloc, set, known, items, resources, scopes)?;
+    let of_points = find_point_exemplars(alloc, set, &known)?;
+    let of_hists = find_hist_exemplars(alloc, set, &known)?;
+    let made = group_points(alloc, set, rows, &known, of_points, of_hists)?;
     Ok(made)
 }
 
-/// The groups of the main rows of a batch whose rows have nothing wrong.
-fn main_groups<
+/// The request of a batch of metrics whose rows have nothing wrong, and which weighs at most the limit. Takes n log n for n rows.
+pub fn request_of<R: Rows>(
+    alloc: Global,
+    set: &TableSet<R>,
+) -> Result<Items<ResourceGroup<Metric>>, AllocError>
+    requires clean { (kind : Kind) (why : RowRefusal) → WrongMetrics set.now kind why → ⊥ }
+    requires light { weight_of (Metrics (regrouped_metrics set.now)) ≤ weight_limit }
+    ensures { IfOk result (λ groups. groups ≡ regrouped_metrics set.now) }
+{
+    match regroup(alloc, set) {
+        Ok(made) => Ok(made.groups),
+        Err(RegroupRefusal::Rows(CheckRefusal::Memory(error))) => Err(error),
+        Err(_) => unreachable!(),
+    }
+}
+
+/// What the request of a batch whose rows have nothing wrong weighs, where exemplars are found in given ways.
+fn weigh_points<'a, R: Rows, X: Lookup<Child = Exemplar>, Y: Lookup<Child = Exemplar>>(
+    alloc: Global,
+    set: &'a TableSet<R>,
+    rows: &'a R,
+    known: &'a KnownIds,
+    of_points: X,
+    of_hists: Y,
+) -> Result<u64, AllocError>
+    requires clean { (kind : Kind) (why : RowRefusal) → WrongMetrics set.now kind why → ⊥ }
+    requires known { KnowsAll signal.Metrics set.now known.now.columns.items }
+    requires table { table_named table.Metrics set.now ≡ R.table rows.now }
+    requires kind { (R.table rows.now).kind ≡ table.Metrics }
+    requires of_points { (parent : Option ℕ) → X.finds of_points parent ≡ point_exemplars_in set.now parent }
+    requires of_hists { (parent : Option ℕ) → Y.finds of_hists parent ≡ hist_exemplars_in set.now parent }
+    requires points_weighed { (exemplar : Exemplar) → X.weigh exemplar ≡ weight_of_exemplar exemplar }
+    requires hists_weighed { (exemplar : Exemplar) → Y.weigh exemplar ≡ weight_of_exemplar exemplar }
+    ensures { IfOk result (λ weight. weight ≡ min (weight_of (Metrics (regrouped_metrics set.now))) count_cap) }
+{
+    let points = find_points(alloc, set, known, of_points)?;
+    let hist_points = find_hist_points(alloc, set, known, of_hists)?;
+    let summary_points = find_summary_points(alloc, set, known)?;
+    let weight = weight_with(alloc, set, rows, known, points, hist_points, summary_points)?;
+    Ok(weight)
+}
+
+/// The request of a batch whose rows have nothing wrong, where exemplars are found in given ways.
+fn group_points<'a, R: Rows, X: Lookup<Child = Exemplar>, Y: Lookup<Child = Exemplar>>(
+    alloc: Global,
+    set: &'a TableSet<R>,
+    rows: &'a R,
+    known: &'a KnownIds,
+    of_points: X,
+    of_hists: Y,
+) -> Result<Grouped<Metric>, RegroupRefusal>
+    requires clean { (kind : Kind) (why : RowRefusal) → WrongMetrics set.now kind why → ⊥ }
+    requires known { KnowsAll signal.Metrics set.now known.now.columns.items }
+    requires table { table_named table.Metrics set.now ≡ R.table rows.now }
+    requires kind { (R.table rows.now).kind ≡ table.Metrics }
+    requires of_points { (parent : Option ℕ) → X.finds of_points parent ≡ point_exemplars_in set.now parent }
+    requires of_hists { (parent : Option ℕ) → Y.finds of_hists parent ≡ hist_exemplars_in set.now parent }
+    requires points_weighed { (exemplar : Exemplar) → X.weigh exemplar ≡ weight_of_exemplar exemplar }
+    requires hists_weighed { (exemplar : Exemplar) → Y.weigh exemplar ≡ weight_of_exemplar exemplar }
+    ensures groups { IfOk result (λ made. made.groups ≡ regrouped_metrics set.now) }
+    ensures tree { IfOk result (λ made. made.tree ≡ weight_of (Metrics made.groups)) }
+    ensures light { IfOk result (λ made. made.tree ≤ weight_limit) }
+    ensures refused { IfErr result (RefusesRegroup Nothing (weight_of (Metrics (regrouped_metrics set.now)))) }
+{
+    let points = find_points(alloc, set, known, of_points)?;
+    let hist_points = find_hist_points(alloc, set, known, of_hists)?;
+    let summary_points = find_summary_points(alloc, set, known)?;
+    let made = groups_with(alloc, set, rows, known, points, hist_points, summary_points)?;
+    Ok(made)
+}
+
+/// What the request of a batch whose rows have nothing wrong weighs, where the points are found in given ways.
+fn weight_with<
     'a,
     R: Rows,
-    P: Lookup<Child = Pair>,
     N: Lookup<Child = Point>,
     H: Lookup<Child = HistPoint>,
     S: Lookup<Child = SumPoint>,
 >(
     alloc: Global,
-    set: &TableSet<R>,
+    set: &'a TableSet<R>,
+    rows: &'a R,
     known: &'a KnownIds,
-    items: MetricRows<'a, R, N, H, S>,
-    resources: P,
-    scopes: P,
-) -> Result<Grouped<Metric>, RegroupRefusal>
-    requires clean { (kind : Kind) (why : RowRefusal) → RowDefect signal.Metrics set.now kind why → ⊥ }
+    points: N,
+    hist_points: H,
+    summary_points: S,
+) -> Result<u64, AllocError>
+    requires clean { (kind : Kind) (why : RowRefusal) → WrongMetrics set.now kind why → ⊥ }
     requires known { KnowsAll signal.Metrics set.now known.now.columns.items }
-    requires table { table_named table.Metrics set.now ≡ R.table items.rows.now }
-    requires resources { (parent : Option ℕ) → P.finds resources parent ≡ pairs_in (table_named table.ResourceAttrs set.now) parent }
-    requires scopes { (parent : Option ℕ) → P.finds scopes parent ≡ pairs_in (table_named table.ScopeAttrs set.now) parent }
-    requires points { (parent : Option ℕ) → N.finds items.points parent ≡ points_in set.now parent }
-    requires resources_weighed { (pair : Pair) → P.weigh resources pair ≡ weight_of_pair pair }
-    requires scopes_weighed { (pair : Pair) → P.weigh scopes pair ≡ weight_of_pair pair }
-    ensures groups { IfOk result (λ made. made.groups ≡ regrouped_metrics (H.finds items.entry.hist_points) (S.finds items.entry.summary_points) set.now) }
+    requires table { table_named table.Metrics set.now ≡ R.table rows.now }
+    requires kind { (R.table rows.now).kind ≡ table.Metrics }
+    requires points { (parent : Option ℕ) → N.finds points parent ≡ points_in set.now parent }
+    requires hist_points { (parent : Option ℕ) → H.finds hist_points parent ≡ hist_points_in set.now parent }
+    requires summary_points { (parent : Option ℕ) → S.finds summary_points parent ≡ summary_points_in set.now parent }
+    requires points_weighed { (point : Point) → N.weigh point ≡ weight_of_point point }
+    requires hist_points_weighed { (point : HistPoint) → H.weigh point ≡ weight_of_hist_point point }
+    requires summary_points_weighed { (point : SumPoint) → S.weigh point ≡ weight_of_sum_point point }
+    ensures { IfOk result (λ weight. weight ≡ min (weight_of (Metrics (regrouped_metrics set.now))) count_cap) }
+{
+    let main = main_of(alloc, set, rows, known, points, hist_points, summary_points)?;
+    Ok(main.weight())
+}
+
+/// The request of a batch whose rows have nothing wrong, where the points are found in given ways.
+fn groups_with<
+    'a,
+    R: Rows,
+    N: Lookup<Child = Point>,
+    H: Lookup<Child = HistPoint>,
+    S: Lookup<Child = SumPoint>,
+>(
+    alloc: Global,
+    set: &'a TableSet<R>,
+    rows: &'a R,
+    known: &'a KnownIds,
+    points: N,
+    hist_points: H,
+    summary_points: S,
+) -> Result<Grouped<Metric>, RegroupRefusal>
+    requires clean { (kind : Kind) (why : RowRefusal) → WrongMetrics set.now kind why → ⊥ }
+    requires known { KnowsAll signal.Metrics set.now known.now.columns.items }
+    requires table { table_named table.Metrics set.now ≡ R.table rows.now }
+    requires kind { (R.table rows.now).kind ≡ table.Metrics }
+    requires points { (parent : Option ℕ) → N.finds points parent ≡ points_in set.now parent }
+    requires hist_points { (parent : Option ℕ) → H.finds hist_points parent ≡ hist_points_in set.now parent }
+    requires summary_points { (parent : Option ℕ) → S.finds summary_points parent ≡ summary_points_in set.now parent }
+    requires points_weighed { (point : Point) → N.weigh point ≡ weight_of_point point }
+    requires hist_points_weighed { (point : HistPoint) → H.weigh point ≡ weight_of_hist_point point }
+    requires summary_points_weighed { (point : SumPoint) → S.weigh point ≡ weight_of_sum_point point }
+    ensures groups { IfOk result (λ made. made.groups ≡ regrouped_metrics set.now) }
     ensures tree { IfOk result (λ made. made.tree ≡ weight_of (Metrics made.groups)) }
     ensures light { IfOk result (λ made. made.tree ≤ weight_limit) }
-    ensures refused { IfErr result (RefusesRegroup Nothing (weight_of (Metrics (regrouped_metrics (H.finds items.entry.hist_points) (S.finds items.entry.summary_points) set.now)))) }
+    ensures refused { IfErr result (RefusesRegroup Nothing (weight_of (Metrics (regrouped_metrics set.now)))) }
 {
-    let front = front_of(items.rows, known);
-    let main = Main {
-        front,
-        items,
-        resources,
-        scopes,
-    };
+    let main = main_of(alloc, set, rows, known, points, hist_points, summary_points)?;
     let made = groups_within(alloc, &main)?;
     Ok(made)
+}
+
+/// The main rows of a batch whose rows have nothing wrong, with their metrics and all pairs.
+fn main_of<
+    'a,
+    R: Rows,
+    N: Lookup<Child = Point>,
+    H: Lookup<Child = HistPoint>,
+    S: Lookup<Child = SumPoint>,
+>(
+    alloc: Global,
+    set: &'a TableSet<R>,
+    rows: &'a R,
+    known: &'a KnownIds,
+    points: N,
+    hist_points: H,
+    summary_points: S,
+) -> Result<MetricRows<'a, R, N, H, S>, AllocError>
+    requires clean { (kind : Kind) (why : RowRefusal) → WrongMetrics set.now kind why → ⊥ }
+    requires known { KnowsAll signal.Metrics set.now known.now.columns.items }
+    requires table { table_named table.Metrics set.now ≡ R.table rows.now }
+    requires kind { (R.table rows.now).kind ≡ table.Metrics }
+    requires points { (parent : Option ℕ) → N.finds points parent ≡ points_in set.now parent }
+    requires hist_points { (parent : Option ℕ) → H.finds hist_points parent ≡ hist_points_in set.now parent }
+    requires summary_points { (parent : Option ℕ) → S.finds summary_points parent ≡ summary_points_in set.now parent }
+    requires points_weighed { (point : Point) → N.weigh point ≡ weight_of_point point }
+    requires hist_points_weighed { (point : HistPoint) → H.weigh point ≡ weight_of_hist_point point }
+    requires summary_points_weighed { (point : SumPoint) → S.weigh point ≡ weight_of_sum_point point }
+    ensures { IfOk result (λ main. regrouped (⟦<PairRows<'a, R> as Lookup>⟧.finds main.resources) (⟦<PairRows<'a, R> as Lookup>⟧.finds main.scopes)
+        (⟦<reading::Metrics<'a, R, N, H, S> as RowReader>⟧.item main.items)
+        (main_rows main.front.ids.now main.front.resource_ids.now main.front.scope_ids.now (R.table main.front.rows.now).rows)
+        ≡ regrouped_metrics set.now) }
+{
+    let front = front_of(rows, known);
+    let resources = find_pairs(alloc, set, Kind::ResourceAttrs, known)?;
+    let scopes = find_pairs(alloc, set, Kind::ScopeAttrs, known)?;
+    Ok(Main {
+        front,
+        items: reading::Metrics {
+            rows,
+            points,
+            hist_points,
+            summary_points,
+        },
+        resources,
+        scopes,
+    })
 }

@@ -6,32 +6,24 @@ ghost use Rattle.otlp_model.specs.Weight.{weight_of};
 ghost use Rattle.otlp_model.specs.declared.request.Request.TheVariants.{Metrics};
 ghost use Rattle.otap_cells.specs.declared.payload.Kind.TheVariants as table;
 ghost use Rattle.otap_groups.specs.Weighing.{cells_weight};
-ghost use Rattle.otap_metrics.specs.Metrics.{is_monotonic, metric_cells, points_of, temporality_of, shape_number};
-ghost use Rattle.otap_metrics.specs.Points.{exemplar_cells, point_cells};
+ghost use Rattle.otap_metrics.specs.Metrics.{is_monotonic, metric_cells, temporality_of, shape_number};
 ghost use Rattle.otap_metrics.specs.Tables.{tables_of_metrics};
-ghost use Rattle.otap_metrics.specs.Writable.{CanWriteExemplar, CanWriteMetric, CanWritePoint};
+ghost use Rattle.otap_metrics.specs.Writable.{CanWriteMetric};
 
-use crate::numbers::{double_value, id_cell, int_value};
+use crate::shapes::{HistPointsOf, NumberPointsOf, SumPointsOf};
 use otap_attrs::{add_attributes, add_parts, add_resources, add_scopes};
-use otap_cells::{
-    Kind, LogicalTable, TableSet, bits_cell, flag_cell, int_cell, number_cell, octets_cell,
-    text_cell,
+use otap_cells::{Kind, LogicalTable, TableSet, flag_cell, int_cell, number_cell, text_cell};
+use otap_groups::{FrontCells, RowWriter, flatten, items_of, parts_of, write_rows};
+use otap_points::{
+    ExemplarWriter, HistPointExemplars, HistPointWriter, PointExemplars, PointWriter,
+    SumPointWriter,
 };
-use otap_groups::{FrontCells, PartWriter, RowWriter, flatten, items_of, parts_of, write_rows};
-use otlp_model::{Exemplar, Items, Metric, Point, ResourceGroup, Shape, sum_capped};
+use otlp_model::{Items, Metric, ResourceGroup, Shape, sum_capped};
 use std::alloc::{AllocError, Global};
 
 /// Writes the rows of metrics.
 #[derive(Clone, Copy, Debug)]
 pub(crate) struct MetricWriter;
-
-/// Writes the rows of the points of gauges and sums.
-#[derive(Clone, Copy, Debug)]
-pub(crate) struct PointWriter;
-
-/// Writes the rows of their exemplars.
-#[derive(Clone, Copy, Debug)]
-pub(crate) struct ExemplarWriter;
 
 impl RowWriter for MetricWriter {
     type Item = Metric;
@@ -72,94 +64,6 @@ impl RowWriter for MetricWriter {
     }
 }
 
-impl PartWriter for PointWriter {
-    type Parent = Metric;
-
-    type Part = Point;
-
-    ghost kind = { table.NumberPoints };
-
-    ghost parts = { λ metric. points_of metric.shape };
-
-    ghost cells_of = { point_cells };
-
-    ghost CanWrite = { CanWritePoint };
-
-    fn kind(&self) -> Kind {
-        Kind::NumberPoints
-    }
-
-    fn parts<'a>(&self, metric: &'a Metric) -> &'a [Point] {
-        points_of(&metric.shape)
-    }
-
-    fn goes_on(&self, _before: &Point, _point: &Point) -> bool {
-        false
-    }
-
-    fn push(
-        &self,
-        table: &mut LogicalTable,
-        id: u32,
-        parent: u32,
-        point: &Point,
-    ) -> Result<(), AllocError> {
-        table.push_cells(&[
-            id_cell(id),
-            id_cell(parent),
-            bits_cell(point.start),
-            bits_cell(point.time),
-            int_value(&point.value),
-            double_value(&point.value),
-            number_cell(point.flags),
-        ])
-    }
-}
-
-impl PartWriter for ExemplarWriter {
-    type Parent = Point;
-
-    type Part = Exemplar;
-
-    ghost kind = { table.NumberExemplars };
-
-    ghost parts = { λ point. point.exemplars };
-
-    ghost cells_of = { exemplar_cells };
-
-    ghost CanWrite = { CanWriteExemplar };
-
-    fn kind(&self) -> Kind {
-        Kind::NumberExemplars
-    }
-
-    fn parts<'a>(&self, point: &'a Point) -> &'a [Exemplar] {
-        point.exemplars.as_slice()
-    }
-
-    fn goes_on(&self, _before: &Exemplar, _exemplar: &Exemplar) -> bool {
-        false
-    }
-
-    fn push(
-        &self,
-        table: &mut LogicalTable,
-        id: u32,
-        parent: u32,
-        exemplar: &Exemplar,
-    ) -> Result<(), AllocError> {
-        table.push_cells(&[
-            id_cell(id),
-            id_cell(parent),
-            bits_cell(exemplar.time),
-            int_value(&exemplar.value),
-            double_value(&exemplar.value),
-            octets_cell(&exemplar.span_id),
-            octets_cell(&exemplar.trace_id),
-        ])
-    }
-}
-
 /// The bytes of a metric's own cells, or `CAP` where they are more.
 pub(crate) fn metric_cells_weight(metric: &Metric) -> u64
     ensures { result ≡ min (cells_weight (metric_cells metric.now)) count_cap }
@@ -168,16 +72,6 @@ pub(crate) fn metric_cells_weight(metric: &Metric) -> u64
         metric.name.len() as u64,
         metric.description.len() as u64,
         metric.unit.len() as u64,
-    ])
-}
-
-/// The bytes of an exemplar's own cells, or `CAP` where they are more.
-pub fn exemplar_cells_weight(exemplar: &Exemplar) -> u64
-    ensures { result ≡ min (cells_weight (exemplar_cells exemplar.now)) count_cap }
-{
-    sum_capped(&[
-        exemplar.span_id.len() as u64,
-        exemplar.trace_id.len() as u64,
     ])
 }
 
@@ -212,19 +106,8 @@ fn is_monotonic(shape: &Shape) -> bool
     }
 }
 
-/// The points of a gauge or a sum.
-pub(crate) fn points_of(shape: &Shape) -> &[Point]
-    ensures { result.now ≡ points_of shape.now }
-{
-    match shape {
-        Shape::Gauge(points) => points.as_slice(),
-        Shape::Sum { points, .. } => points.as_slice(),
-        Shape::Empty | Shape::Histogram { .. } | Shape::Summary(_) => &[],
-    }
-}
-
-/// The tables of a request of metrics: its metrics, then what is below them where there are rows, by their payload types. The
-/// points of histograms and summaries aren't among them. Takes n log n for n attributes.
+/// The tables of a request of metrics: its metrics, then the tables below them, where they have rows, by their payload types.
+/// Takes n log n for n attributes.
 pub fn tables_of(
     alloc: Global,
     groups: &Items<ResourceGroup<Metric>>,
@@ -237,15 +120,34 @@ pub fn tables_of(
     let rows = flatten(alloc, groups)?;
     let main = write_rows(alloc, &MetricWriter, &rows)?;
     let metrics = items_of(alloc, &rows)?;
-    let points = parts_of(alloc, &PointWriter, &metrics)?;
-    let exemplars = parts_of(alloc, &ExemplarWriter, &points)?;
+    let points = parts_of(alloc, &NumberPointsOf, &metrics)?;
+    let summary_points = parts_of(alloc, &SumPointsOf, &metrics)?;
+    let hist_points = parts_of(alloc, &HistPointsOf, &metrics)?;
+    let exemplars = parts_of(alloc, &PointExemplars, &points)?;
+    let hist_exemplars = parts_of(alloc, &HistPointExemplars, &hist_points)?;
     let mut tables = Vec::new(alloc);
     tables.push((Kind::Metrics, main))?;
     add_resources(alloc, &mut tables, groups)?;
     add_scopes(alloc, &mut tables, groups)?;
     add_parts(alloc, &mut tables, &PointWriter, &points)?;
+    add_parts(
+        alloc,
+        &mut tables,
+        &SumPointWriter { alloc },
+        &summary_points,
+    )?;
+    add_parts(alloc, &mut tables, &HistPointWriter { alloc }, &hist_points)?;
     add_attributes(alloc, &mut tables, Kind::NumberPointAttrs, &points)?;
-    add_parts(alloc, &mut tables, &ExemplarWriter, &exemplars)?;
+    add_attributes(alloc, &mut tables, Kind::SummaryPointAttrs, &summary_points)?;
+    add_attributes(alloc, &mut tables, Kind::HistPointAttrs, &hist_points)?;
+    add_parts(alloc, &mut tables, &ExemplarWriter::of_points(), &exemplars)?;
+    add_parts(
+        alloc,
+        &mut tables,
+        &ExemplarWriter::of_hist_points(),
+        &hist_exemplars,
+    )?;
     add_attributes(alloc, &mut tables, Kind::NumberExemplarAttrs, &exemplars)?;
+    add_attributes(alloc, &mut tables, Kind::HistExemplarAttrs, &hist_exemplars)?;
     Ok(TableSet { tables })
 }

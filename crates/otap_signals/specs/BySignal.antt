@@ -7,10 +7,10 @@ use Rattle.otlp_model.specs.declared.request.Signal.{Signal}
 use Rattle.otlp_model.specs.declared.request.Signal.TheVariants as signals
 use Rattle.otap_cells.specs.Tables.{Table}
 use Rattle.otap_checks.specs.RowDefects.{RowDefect}
-use Rattle.otap_hist.specs.Requests.{regrouped_whole}
-use Rattle.otap_hist.specs.Tables.{whole_tables}
 use Rattle.otap_logs.specs.Requests.{regrouped_logs}
 use Rattle.otap_logs.specs.Tables.{tables_of_logs}
+use Rattle.otap_metrics.specs.Requests.{regrouped_metrics}
+use Rattle.otap_metrics.specs.Tables.{tables_of_metrics}
 use Rattle.otap_spans.specs.Requests.{regrouped_spans}
 use Rattle.otap_spans.specs.Tables.{tables_of_spans}
 use Rattle.otap_signals.specs.Meanings.{Meaning, SignalRows}
@@ -20,13 +20,13 @@ use Rattle.otap_signals.specs.Signals.{ComesBack}
 abbrev pub request_in : Signal → List Table → Request
 request_in signals.Traces tables = requests.Traces (regrouped_spans tables)
 request_in signals.Logs tables = requests.Logs (regrouped_logs tables)
-request_in signals.Metrics tables = requests.Metrics (regrouped_whole tables)
+request_in signals.Metrics tables = requests.Metrics (regrouped_metrics tables)
 
 -- THE TABLES that a request is written as
 abbrev pub tables_of_request : Request → List Table
 tables_of_request (requests.Traces groups) = tables_of_spans groups
 tables_of_request (requests.Logs groups) = tables_of_logs groups
-tables_of_request (requests.Metrics groups) = whole_tables groups
+tables_of_request (requests.Metrics groups) = tables_of_metrics groups
 
 -- what tables of a signal mean
 abbrev pub meaning_by : Signal → Meaning

@@ -1,18 +1,17 @@
-//! Metrics. The points of histograms and summaries have a crate of their own, so the calls of two crates are joined here.
+//! Metrics.
 ghost use Rattle.std.specs.Prelude.{◌≡◌};
 ghost use Rattle.otap_signals.specs.Instances.{metrics};
 
 use crate::signal_tables::SignalTables;
 use otap_cells::{LogicalTable, Rows, TableSet};
 use otap_checks::{Grouped, RegroupRefusal};
-use otap_hist::laws::{
+use otap_metrics::laws::{
     each_metric_has_a_row, tables_are_light, tables_by_type, tables_can_be_written,
-    tables_have_no_defects, tables_tell_the_same, tables_weigh_together,
+    tables_have_no_defects, tables_tell_the_same,
 };
-use otap_hist::reading_laws::cells_and_ids_decide;
-use otap_hist::{add_tables, points_weight, regroup};
-use otap_metrics::{table_weight, tables_of};
-use otlp_model::{Items, Metric, Request, ResourceGroup, add_capped};
+use otap_metrics::reading_laws::cells_and_ids_decide;
+use otap_metrics::{regroup, table_weight, tables_of};
+use otlp_model::{Items, Metric, Request, ResourceGroup};
 use std::alloc::{AllocError, Global};
 
 /// Metrics.
@@ -31,17 +30,14 @@ impl SignalTables for MetricSignal {
     }
 
     fn table_weight(groups: &Items<ResourceGroup<Metric>>) -> u64 {
-        tables_weigh_together();
-        add_capped(table_weight(groups), points_weight(groups))
+        table_weight(groups)
     }
 
     fn tables_of(
         alloc: Global,
         groups: &Items<ResourceGroup<Metric>>,
     ) -> Result<TableSet<LogicalTable>, AllocError> {
-        let set = tables_of(alloc, groups)?;
-        let all = add_tables(alloc, groups, set)?;
-        Ok(all)
+        tables_of(alloc, groups)
     }
 
     fn regroup<R: Rows>(

@@ -1,5 +1,5 @@
--- The own cells of spans, events and links stand in their rows after those of the front.
-use Rattle.std.proofs.Common.{◌≡◌, ℕ, ◌+◌, ◌^◌, ◌<◌, List, [], ◌∷◌, Option, None, Some, map, drop, length, ◌∙◌, refl, sym, ap, arith}
+-- The own cells of spans, events and links come in their rows after those of the front.
+use Rattle.std.proofs.Common.{◌≡◌, ℕ, ◌+◌, ◌^◌, ◌<◌, List, [], ◌∷◌, map, drop, length, ◌∙◌, sym, ap, arith}
 use Rattle.std.specs.Prelude.{min, sum}
 use Rattle.std.proofs.lemmas.List.{length-map}
 use Rattle.lists.proofs.Numbers.{capped_fourth}
@@ -12,7 +12,6 @@ use Rattle.otap_cells.specs.Cells.{Cell, bytes_in, nat_in, cell_at}
 use Rattle.otlp_model.proofs.Totals.{below_weighs}
 use Rattle.otap_cells.specs.Scalars.{int_in, bits_in}
 use Rattle.otap_cells.specs.Tables.{cell_in}
-use Rattle.otap_groups.specs.Found.{finds_in, weighs_in}
 use Rattle.otap_spans.specs.Records.{end_time, event_of, link_of, span_of}
 use Rattle.otap_cells.proofs.OwnCells.{length_own, own_cell, own_cells}
 
@@ -77,7 +76,7 @@ link_read link rows row pairs inside is_trace is_span is_state is_flags are_pair
       dropped = (is_dropped ∙ ap nat_in (sym (own_cell 2 rows row 3 within))) i;
     }
 
--- ---- weights, told from the bytes of cells and from what is below
+-- ---- weights, by the bytes of cells and by what is below
 
 span_sum : (a b c d e f p v l n x y z : ℕ) → p ≡ min x (2 ^ 63) → v ≡ min y (2 ^ 63) → l ≡ min z (2 ^ 63)
     → n ≡ min (sum (a ∷ b ∷ c ∷ d ∷ e ∷ f ∷ p ∷ v ∷ l ∷ [])) (2 ^ 63) → n ≡ min (a + b + c + d + e + f + x + y + z) (2 ^ 63)
@@ -88,8 +87,8 @@ pub span_weighs : (rows : List (List Cell)) (row : ℕ) (pairs : List Pair) (eve
     → trace ≡ bytes_in (cell_in rows 11 row) → span ≡ bytes_in (cell_in rows 12 row) → parent ≡ bytes_in (cell_in rows 14 row)
     → state ≡ bytes_in (cell_in rows 13 row) → name ≡ bytes_in (cell_in rows 15 row) → message ≡ bytes_in (cell_in rows 21 row)
     → ((pair : Pair) → weigh_pair pair ≡ weight_of_pair pair) → of_pairs ≡ min (total 32 weigh_pair pairs) (2 ^ 63)
-    → total 32 weigh_event events ≡ total 32 weight_of_event events → of_events ≡ min (total 32 weigh_event events) (2 ^ 63)
-    → total 32 weigh_link links ≡ total 32 weight_of_link links → of_links ≡ min (total 32 weigh_link links) (2 ^ 63)
+    → ((event : Event) → weigh_event event ≡ weight_of_event event) → of_events ≡ min (total 32 weigh_event events) (2 ^ 63)
+    → ((link : Link) → weigh_link link ≡ weight_of_link link) → of_links ≡ min (total 32 weigh_link links) (2 ^ 63)
     → total_weight ≡ min (sum (length trace ∷ length span ∷ length parent ∷ length state ∷ length name ∷ length message ∷ of_pairs ∷ of_events ∷ of_links ∷ [])) (2 ^ 63)
     → total_weight ≡ min (weight_of_span (span_of (own_cells 9 rows row) pairs events links)) (2 ^ 63)
 unfolding span_of
@@ -98,8 +97,8 @@ span_weighs rows row pairs events links trace span parent state name message of_
     let within : row < length rows = simp length-map at inside in
     span_sum (length trace) (length span) (length parent) (length state) (length name) (length message) of_pairs of_events of_links total_weight
     (total 32 weight_of_pair pairs) (total 32 weight_of_event events) (total 32 weight_of_link links)
-    (below_weighs of_pairs weigh_pair weight_of_pair pairs same_pairs is_pairs) (is_events ∙ ap (λ n. min n (2 ^ 63)) same_events)
-    (is_links ∙ ap (λ n. min n (2 ^ 63)) same_links) is_total
+    (below_weighs of_pairs weigh_pair weight_of_pair pairs same_pairs is_pairs) (below_weighs of_events weigh_event weight_of_event events same_events is_events)
+    (below_weighs of_links weigh_link weight_of_link links same_links is_links) is_total
     ∙ (λ i. min (length_own 9 rows row 2 trace within is_trace i + length_own 9 rows row 3 span within is_span i + length_own 9 rows row 5 parent within is_parent i
     + length_own 9 rows row 4 state within is_state i + length_own 9 rows row 6 name within is_name i + length_own 9 rows row 12 message within is_message i
     + total 32 weight_of_pair pairs + total 32 weight_of_event events + total 32 weight_of_link links) (2 ^ 63))
@@ -127,9 +126,3 @@ link_weighs rows row pairs trace span state of_pairs total_weight weigh inside i
     capped_fourth (length trace) (length span) (length state) of_pairs total_weight (total 32 weight_of_pair pairs) (below_weighs of_pairs weigh weight_of_pair pairs same is_pairs) is_total
     ∙ (λ i. min (length_own 2 rows row 0 trace within is_trace i + length_own 2 rows row 1 span within is_span i + length_own 2 rows row 2 state within is_state i
     + total 32 weight_of_pair pairs) (2 ^ 63))
-
--- what is found in a table that may be missing weighs as it is told
-pub found_weigh : {L C : Type 0} (weigh : L → C → ℕ) (finds : L → Option ℕ → List C) (weight : C → ℕ) (lookup : Option L) → ((l : L) (part : C) → weigh l part ≡ weight part)
-    → (id : Option ℕ) → total 32 (weighs_in weigh lookup) (finds_in finds lookup id) ≡ total 32 weight (finds_in finds lookup id)
-found_weigh weigh finds weight None same id = refl
-found_weigh {C = C} weigh finds weight (Some l) same id = ap (λ (w : C → ℕ). total 32 w (finds l id)) (λ i part. same l part i)

@@ -1,4 +1,4 @@
--- The tables of a request tell what the request tells.
+-- The tables of a request say what the request says.
 use Rattle.std.proofs.Common.{◌≡◌, ℕ, ◌*◌, ◌<◌, ◌≤◌, ◌^◌, List, Option, length, map, refl, sym, ap, ◌∙◌, subst, arith}
 use Rattle.std.specs.Prelude.{All}
 use Rattle.std.specs.List.{AllByRecursion, AllZip, flat_map}
@@ -152,7 +152,7 @@ abbrev pub unsorted_span : List (ResourceGroup Span) → Option ℕ → List Cel
 unsorted_span groups id cells = span_of cells (unsorted (span_pairs groups) id)
     (unsorted_events (event_lists groups) (event_pairs groups) id) (unsorted_links (link_lists groups) (link_pairs groups) id)
 
--- what stands below a span
+-- what is below a span
 abbrev Below : Type 0
 Below = List Pair × (List Event × List Link)
 

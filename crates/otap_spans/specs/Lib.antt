@@ -1,4 +1,3 @@
-pub mod Inside
 pub mod Records
 pub mod Requests
 pub mod Tables

@@ -1,73 +1,58 @@
-//! What is found below the rows of spans: events and links, in tables that may be missing.
-ghost use Rattle.std.specs.Prelude.{◌≡◌, ℕ, Option, drop, map, IfOk};
-ghost use Rattle.otlp_model.specs.Weight.{weight_of_pair};
-ghost use Rattle.otlp_model.specs.declared.value.Pair.{Pair};
+//! What is found below the rows of spans: events and links.
+ghost use Rattle.std.specs.Prelude.{◌≡◌, ℕ, Option, IfOk};
+ghost use Rattle.otlp_model.specs.declared.request.Signal.TheVariants as signal;
 ghost use Rattle.otap_cells.specs.declared.payload.Kind.TheVariants as table;
 ghost use Rattle.otap_cells.specs.Named.{table_named};
-ghost use Rattle.otap_groups.specs.Found.{finds_in};
-ghost use Rattle.otap_checks.specs.Known.{Knows};
-ghost use Rattle.otap_attrs.specs.Index.{pairs_in};
-ghost use Rattle.otap_spans.specs.Inside.{events_by, links_by};
+ghost use Rattle.otap_checks.specs.Known.{KnowsAll};
 ghost use Rattle.otap_spans.specs.Requests.{events_in, links_in};
 
 use crate::reading::{Events, Links};
 use otap_cells::{Kind, Rows, TableSet};
-use otap_checks::{KnownIds, TablePairs};
+use otap_checks::{KnownIds, PairRows, find_pairs, index_rows};
 use otap_groups::{Children, Lookup};
-use otlp_model::Pair;
 use std::alloc::{AllocError, Global};
 
-/// The pairs of parents, in a table of attributes.
-pub type PairRows<'a, R> = Children<'a, TablePairs<'a, R>>;
-
-/// The events of spans, with their pairs.
+/// The events of spans, with their pairs; `None` without a table.
 pub type EventRows<'a, R> = Option<Children<'a, Events<'a, R, PairRows<'a, R>>>>;
 
-/// The links of spans, with their pairs.
+/// The links of spans, with their pairs; `None` without a table.
 pub type LinkRows<'a, R> = Option<Children<'a, Links<'a, R, PairRows<'a, R>>>>;
 
-/// Finds the events of a span, whose pairs are found by a lookup. A table that isn't there has none.
-pub(crate) fn index_events<'a, R: Rows, P: Lookup<Child = Pair>>(
+/// Finds the events of spans by their parents. Takes n log n for n rows, and time in proportion to them where ids and parents
+/// rise or count from 0.
+pub(crate) fn find_events<'a, R: Rows>(
     alloc: Global,
     set: &'a TableSet<R>,
     known: &'a KnownIds,
-    pairs: P,
-) -> Result<Option<Children<'a, Events<'a, R, P>>>, AllocError>
-    requires known { Knows (table_named table.SpanEvents set.now) table.SpanEvents known.now.columns.items }
-    requires weighed { (pair : Pair) → P.weigh pairs pair ≡ weight_of_pair pair }
-    requires pairs { (id : Option ℕ) → P.finds pairs id ≡ pairs_in (table_named table.EventAttrs set.now) id }
-    ensures { IfOk result (λ made. (parent : Option ℕ)
-        → finds_in (λ e. events_by (P.finds e.reader.pairs) e.ids.now (map (drop 2) (R.table e.reader.rows.now).rows) e.entries.items) made parent
+) -> Result<EventRows<'a, R>, AllocError>
+    requires { KnowsAll signal.Traces set.now known.now.columns.items }
+    ensures { IfOk result (λ made. (parent : Option ℕ) → ⟦<EventRows<'a, R> as Lookup>⟧.finds made parent
         ≡ events_in (table_named table.SpanEvents set.now) (table_named table.EventAttrs set.now) parent) }
 {
-    let Some(rows) = set.get(Kind::SpanEvents) else {
+    let kind = Kind::SpanEvents;
+    let Some(rows) = set.get(kind) else {
         return Ok(None);
     };
-    let ids = known.of(Kind::SpanEvents, 0);
-    let parents = known.of(Kind::SpanEvents, 1);
-    let made = Children::new(alloc, Events { rows, pairs }, ids, parents)?;
+    let pairs = find_pairs(alloc, set, Kind::EventAttrs, known)?;
+    let made = index_rows(alloc, set, kind, known, Events { rows, pairs })?;
     Ok(Some(made))
 }
 
-/// Finds the links of a span, whose pairs are found by a lookup. A table that isn't there has none.
-pub(crate) fn index_links<'a, R: Rows, P: Lookup<Child = Pair>>(
+/// Finds the links of spans by their parents, in the same way.
+pub(crate) fn find_links<'a, R: Rows>(
     alloc: Global,
     set: &'a TableSet<R>,
     known: &'a KnownIds,
-    pairs: P,
-) -> Result<Option<Children<'a, Links<'a, R, P>>>, AllocError>
-    requires known { Knows (table_named table.SpanLinks set.now) table.SpanLinks known.now.columns.items }
-    requires weighed { (pair : Pair) → P.weigh pairs pair ≡ weight_of_pair pair }
-    requires pairs { (id : Option ℕ) → P.finds pairs id ≡ pairs_in (table_named table.LinkAttrs set.now) id }
-    ensures { IfOk result (λ made. (parent : Option ℕ)
-        → finds_in (λ l. links_by (P.finds l.reader.pairs) l.ids.now (map (drop 2) (R.table l.reader.rows.now).rows) l.entries.items) made parent
+) -> Result<LinkRows<'a, R>, AllocError>
+    requires { KnowsAll signal.Traces set.now known.now.columns.items }
+    ensures { IfOk result (λ made. (parent : Option ℕ) → ⟦<LinkRows<'a, R> as Lookup>⟧.finds made parent
         ≡ links_in (table_named table.SpanLinks set.now) (table_named table.LinkAttrs set.now) parent) }
 {
-    let Some(rows) = set.get(Kind::SpanLinks) else {
+    let kind = Kind::SpanLinks;
+    let Some(rows) = set.get(kind) else {
         return Ok(None);
     };
-    let ids = known.of(Kind::SpanLinks, 0);
-    let parents = known.of(Kind::SpanLinks, 1);
-    let made = Children::new(alloc, Links { rows, pairs }, ids, parents)?;
+    let pairs = find_pairs(alloc, set, Kind::LinkAttrs, known)?;
+    let made = index_rows(alloc, set, kind, known, Links { rows, pairs })?;
     Ok(Some(made))
 }

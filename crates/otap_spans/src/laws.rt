@@ -19,7 +19,7 @@ ghost use Rattle.otap_attrs.specs.declared.refusal.RowRefusal.{RowRefusal};
 ghost use Rattle.otap_spans.specs.Requests.{WrongSpans, regrouped_spans};
 ghost use Rattle.otap_spans.specs.Tables.{tables_of_spans};
 
-/// Law: the request that the tables of a request make tells what the request tells.
+/// Law: the request that the tables of a request make says what the request says.
 pub fn tables_tell_the_same()
     ensures { (groups : List (ResourceGroup Span)) → IsReal (Traces groups) → IsProfile (Traces groups) → weight_of (Traces groups) ≤ weight_limit
         → Same (Traces groups) (Traces (regrouped_spans (tables_of_spans groups))) }
@@ -37,7 +37,7 @@ pub fn tables_can_be_written()
         → All IsProfileTable (tables_of_spans groups) }
 {}
 
-/// Law: the tables of a request stand in the order of the signal's kinds: its main table, and of the others those that have
+/// Law: the tables of a request are in the order of the signal's kinds: its main table, and of the others those that have
 /// rows.
 pub fn tables_by_type()
     ensures { (groups : List (ResourceGroup Span)) → map (λ t. t.kind) (tables_of_spans groups)

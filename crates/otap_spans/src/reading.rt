@@ -1,7 +1,8 @@
 //! Spans, events and links, read from the rows of their tables.
-ghost use Rattle.std.specs.Prelude.{◌≡◌, ℕ, Option, map, drop};
-ghost use Rattle.otlp_model.specs.Limits.{part_weight};
-ghost use Rattle.otlp_model.specs.Weight.{total, weight_of_event, weight_of_link, weight_of_pair, weight_of_span};
+ghost use Rattle.std.specs.Prelude.{◌≡◌, map, drop};
+ghost use Rattle.otlp_model.specs.Weight.{weight_of_event, weight_of_link, weight_of_pair, weight_of_span};
+ghost use Rattle.otlp_model.specs.declared.spans.Event.{Event};
+ghost use Rattle.otlp_model.specs.declared.spans.Link.{Link};
 ghost use Rattle.otlp_model.specs.declared.value.Pair.{Pair};
 ghost use Rattle.otap_cells.specs.declared.payload.Kind.TheVariants as table;
 ghost use Rattle.otap_spans.specs.Records.{event_of, link_of, span_of};
@@ -26,9 +27,9 @@ pub struct Spans<
     pub events: E,
     pub links: L,
     ghost of_spans: { (R.table rows.now).kind ≡ table.Spans },
-    ghost pairs_weighed: { (pair : Pair) → P.weigh pairs pair ≡ weight_of_pair pair },
-    ghost events_weighed: { (id : Option ℕ) → total part_weight (E.weigh events) (E.finds events id) ≡ total part_weight weight_of_event (E.finds events id) },
-    ghost links_weighed: { (id : Option ℕ) → total part_weight (L.weigh links) (L.finds links id) ≡ total part_weight weight_of_link (L.finds links id) },
+    ghost pairs_weighed: { (pair : Pair) → P.weigh pair ≡ weight_of_pair pair },
+    ghost events_weighed: { (event : Event) → E.weigh event ≡ weight_of_event event },
+    ghost links_weighed: { (link : Link) → L.weigh link ≡ weight_of_link link },
 }
 
 impl<R: Rows, P: Lookup<Child = Pair>, E: Lookup<Child = Event>, L: Lookup<Child = Link>> RowReader
@@ -39,7 +40,7 @@ impl<R: Rows, P: Lookup<Child = Pair>, E: Lookup<Child = Event>, L: Lookup<Child
 
     ghost item = { λ s id own. span_of own (P.finds s.pairs id) (E.finds s.events id) (L.finds s.links id) };
 
-    ghost weigh = { λ s. weight_of_span };
+    ghost weigh = { weight_of_span };
 
     #[tactic(auto, unfolding(otap_cells::specs::Columns::spans))]
     fn read(&self, alloc: Global, id: Option<u32>, row: usize) -> Result<Span, AllocError> {
@@ -92,7 +93,7 @@ pub struct Events<'a, R: Rows, P: Lookup<Child = Pair>> {
     pub rows: &'a R,
     pub pairs: P,
     ghost of_events: { (R.table rows.now).kind ≡ table.SpanEvents },
-    ghost weighed: { (pair : Pair) → P.weigh pairs pair ≡ weight_of_pair pair },
+    ghost weighed: { (pair : Pair) → P.weigh pair ≡ weight_of_pair pair },
 }
 
 impl<R: Rows, P: Lookup<Child = Pair>> RowReader for Events<'_, R, P> {
@@ -102,7 +103,7 @@ impl<R: Rows, P: Lookup<Child = Pair>> RowReader for Events<'_, R, P> {
 
     ghost item = { λ s id own. event_of own (P.finds s.pairs id) };
 
-    ghost weigh = { λ s. weight_of_event };
+    ghost weigh = { weight_of_event };
 
     #[tactic(auto, unfolding(otap_cells::specs::Columns::span_events))]
     fn read(&self, alloc: Global, id: Option<u32>, row: usize) -> Result<Event, AllocError> {
@@ -131,7 +132,7 @@ pub struct Links<'a, R: Rows, P: Lookup<Child = Pair>> {
     pub rows: &'a R,
     pub pairs: P,
     ghost of_links: { (R.table rows.now).kind ≡ table.SpanLinks },
-    ghost weighed: { (pair : Pair) → P.weigh pairs pair ≡ weight_of_pair pair },
+    ghost weighed: { (pair : Pair) → P.weigh pair ≡ weight_of_pair pair },
 }
 
 impl<R: Rows, P: Lookup<Child = Pair>> RowReader for Links<'_, R, P> {
@@ -141,7 +142,7 @@ impl<R: Rows, P: Lookup<Child = Pair>> RowReader for Links<'_, R, P> {
 
     ghost item = { λ s id own. link_of own (P.finds s.pairs id) };
 
-    ghost weigh = { λ s. weight_of_link };
+    ghost weigh = { weight_of_link };
 
     #[tactic(auto, unfolding(otap_cells::specs::Columns::span_links))]
     fn read(&self, alloc: Global, id: Option<u32>, row: usize) -> Result<Link, AllocError> {

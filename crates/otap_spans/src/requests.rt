@@ -1,5 +1,5 @@
 //! The request of the tables of a batch.
-ghost use Rattle.std.specs.Prelude.{◌≡◌, ◌≤◌, drop, map, min, IfErr, IfOk, OnOk};
+ghost use Rattle.std.specs.Prelude.{◌≡◌, ◌≤◌, min, IfErr, IfOk, OnOk};
 ghost use Rattle.otlp_model.specs.declared.request.Signal.TheVariants as signal;
 ghost use Rattle.otlp_model.specs.Limits.{weight_limit, count_cap};
 ghost use Rattle.otlp_model.specs.Weight.{weight_of};
@@ -8,34 +8,29 @@ ghost use Rattle.otap_cells.specs.declared.payload.Kind.{Kind};
 ghost use Rattle.otap_cells.specs.declared.payload.Kind.TheVariants as table;
 ghost use Rattle.otap_cells.specs.Named.{table_named};
 ghost use Rattle.otap_groups.specs.Groups.{regrouped};
-ghost use Rattle.otap_groups.specs.Found.{finds_in};
 ghost use Rattle.otap_groups.specs.Rows.{main_rows};
 ghost use Rattle.otap_attrs.specs.declared.refusal.RowRefusal.{RowRefusal};
 ghost use Rattle.otap_checks.specs.Refusing.{RefusesCheck};
 ghost use Rattle.otap_checks.specs.Regrouping.{RefusesRegroup};
 ghost use Rattle.otap_checks.specs.Known.{KnowsAll};
-ghost use Rattle.otap_spans.specs.Inside.{events_by, links_by, pairs_by};
-ghost use Rattle.otap_spans.specs.Records.{span_of};
 ghost use Rattle.otap_spans.specs.Requests.{WrongSpans, regrouped_spans};
 
-use crate::below::{EventRows, LinkRows, PairRows, index_events, index_links};
+use crate::below::{EventRows, LinkRows, find_events, find_links};
 use crate::reading::Spans;
 use otap_attrs::CheckRefusal;
 use otap_cells::{Kind, Rows, TableSet};
 use otap_checks::{
-    Grouped, KnownIds, RegroupRefusal, checked_ids, find_pairs, front_of, groups_within,
+    Grouped, KnownIds, PairRows, RegroupRefusal, checked_ids, find_pairs, front_of, groups_within,
 };
-use otap_groups::Main;
+use otap_groups::{Lookup, Main, RowReader};
 use otlp_model::{Items, ResourceGroup, Signal, Span};
 use std::alloc::{AllocError, Global};
 
+/// Reads spans with their pairs, events and links.
+type SpanReader<'a, R> = Spans<'a, R, PairRows<'a, R>, EventRows<'a, R>, LinkRows<'a, R>>;
+
 /// The main rows of spans, with their spans and all pairs.
-type SpanRows<'a, R> = Main<
-    'a,
-    R,
-    Spans<'a, R, PairRows<'a, R>, EventRows<'a, R>, LinkRows<'a, R>>,
-    PairRows<'a, R>,
->;
+type SpanRows<'a, R> = Main<'a, R, SpanReader<'a, R>, PairRows<'a, R>>;
 
 /// Looks at the rows of a batch of spans, and returns what their request weighs, or `CAP` where it is more. It builds nothing.
 /// Takes n log n for n rows.
@@ -100,15 +95,8 @@ fn main_of<'a, R: Rows>(
     requires known { KnowsAll signal.Traces set.now known.now.columns.items }
     requires table { table_named table.Spans set.now ≡ R.table rows.now }
     requires kind { (R.table rows.now).kind ≡ table.Spans }
-    ensures { IfOk result (λ main. regrouped
-        (pairs_by (λ p. map (drop 1) (R.table p.rows.now).rows) main.resources.ids.now main.resources.reader.pairs main.resources.entries.items)
-        (pairs_by (λ p. map (drop 1) (R.table p.rows.now).rows) main.scopes.ids.now main.scopes.reader.pairs main.scopes.entries.items)
-        (λ id own. span_of own
-        (pairs_by (λ p. map (drop 1) (R.table p.rows.now).rows) main.items.pairs.ids.now main.items.pairs.reader.pairs main.items.pairs.entries.items id)
-        (finds_in (λ e. events_by (pairs_by (λ p. map (drop 1) (R.table p.rows.now).rows) e.reader.pairs.ids.now e.reader.pairs.reader.pairs e.reader.pairs.entries.items)
-        e.ids.now (map (drop 2) (R.table e.reader.rows.now).rows) e.entries.items) main.items.events id)
-        (finds_in (λ l. links_by (pairs_by (λ p. map (drop 1) (R.table p.rows.now).rows) l.reader.pairs.ids.now l.reader.pairs.reader.pairs l.reader.pairs.entries.items)
-        l.ids.now (map (drop 2) (R.table l.reader.rows.now).rows) l.entries.items) main.items.links id))
+    ensures { IfOk result (λ main. regrouped (⟦<PairRows<'a, R> as Lookup>⟧.finds main.resources) (⟦<PairRows<'a, R> as Lookup>⟧.finds main.scopes)
+        (⟦<SpanReader<'a, R> as RowReader>⟧.item main.items)
         (main_rows main.front.ids.now main.front.resource_ids.now main.front.scope_ids.now (R.table main.front.rows.now).rows)
         ≡ regrouped_spans set.now) }
 {
@@ -116,10 +104,8 @@ fn main_of<'a, R: Rows>(
     let resources = find_pairs(alloc, set, Kind::ResourceAttrs, known)?;
     let scopes = find_pairs(alloc, set, Kind::ScopeAttrs, known)?;
     let pairs = find_pairs(alloc, set, Kind::SpanAttrs, known)?;
-    let event_pairs = find_pairs(alloc, set, Kind::EventAttrs, known)?;
-    let events = index_events(alloc, set, known, event_pairs)?;
-    let link_pairs = find_pairs(alloc, set, Kind::LinkAttrs, known)?;
-    let links = index_links(alloc, set, known, link_pairs)?;
+    let events = find_events(alloc, set, known)?;
+    let links = find_links(alloc, set, known)?;
     Ok(Main {
         front,
         items: Spans {

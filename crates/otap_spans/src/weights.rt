@@ -1,5 +1,5 @@
 //! What the tables of a request of spans weigh, without making them.
-ghost use Rattle.std.specs.Prelude.{◌≡◌, ◌≤◌, ◌+◌, All, min, sum_by};
+ghost use Rattle.std.specs.Prelude.{◌≡◌, ◌≤◌, ◌+◌, min};
 ghost use Rattle.otlp_model.specs.Limits.{weight_limit, count_cap, part_weight};
 ghost use Rattle.otlp_model.specs.Profile.{IsProfile};
 ghost use Rattle.otlp_model.specs.Weight.{total, weight_of, weight_of_pair};
@@ -14,7 +14,7 @@ ghost use Rattle.otap_spans.specs.Weighing.{below_weight, event_weight, link_wei
 
 use crate::writers::{event_weight, link_weight, span_weight};
 use otap_attrs::attributes_weight;
-use otap_groups::{RowWeights, rows_weight};
+use otap_groups::{PartWeights, RowWeights, part_rows_weight, rows_weight};
 use otlp_model::{
     Event, Items, Link, Resource, ResourceGroup, Scope, Span, add_capped, sum_capped,
 };
@@ -67,35 +67,43 @@ fn below_weight(span: &Span) -> u64
 {
     sum_capped(&[
         attributes_weight(&span.pairs),
-        events_weight(span.events.as_slice()),
-        links_weight(span.links.as_slice()),
+        part_rows_weight(&EventWeights, span.events.as_slice()),
+        part_rows_weight(&LinkWeights, span.links.as_slice()),
     ])
 }
 
-/// What the rows of events and of their attributes weigh, or `CAP` where it is more.
-fn events_weight(events: &[Event]) -> u64
-    requires { All CanWriteEvent events.now }
-    ensures { result ≡ min (sum_by event_weight events.now) count_cap }
-{
-    let mut weight = 0;
-    'events: for event in events {
+/// Weighs the rows of events and of their attributes.
+#[derive(Clone, Copy, Debug)]
+struct EventWeights;
+
+impl PartWeights for EventWeights {
+    type Part = Event;
+
+    ghost of_part = { event_weight };
+
+    ghost CanWrite = { CanWriteEvent };
+
+    fn part(&self, event: &Event) -> u64 {
         let own = event_weight(event);
         let pairs = attributes_weight(&event.pairs);
-        weight = add_capped(weight, sum_capped(&[32, own, pairs]));
+        sum_capped(&[32, own, pairs])
     }
-    weight
 }
 
-/// What the rows of links and of their attributes weigh, or `CAP` where it is more.
-fn links_weight(links: &[Link]) -> u64
-    requires { All CanWriteLink links.now }
-    ensures { result ≡ min (sum_by link_weight links.now) count_cap }
-{
-    let mut weight = 0;
-    'links: for link in links {
+/// Weighs the rows of links and of their attributes.
+#[derive(Clone, Copy, Debug)]
+struct LinkWeights;
+
+impl PartWeights for LinkWeights {
+    type Part = Link;
+
+    ghost of_part = { link_weight };
+
+    ghost CanWrite = { CanWriteLink };
+
+    fn part(&self, link: &Link) -> u64 {
         let own = link_weight(link);
         let pairs = attributes_weight(&link.pairs);
-        weight = add_capped(weight, sum_capped(&[32, own, pairs]));
+        sum_capped(&[32, own, pairs])
     }
-    weight
 }

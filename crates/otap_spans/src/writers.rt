@@ -9,7 +9,7 @@ ghost use Rattle.otap_spans.specs.Writable.{CanWriteEvent, CanWriteLink, CanWrit
 use otap_cells::{
     CellView, Kind, LogicalTable, bits_cell, int_cell, number_cell, octets_cell, text_cell,
 };
-use otap_groups::{FrontCells, PartWriter, RowWriter};
+use otap_groups::{FrontCells, PartWriter, PartsOf, RowWriter};
 use otlp_model::{Event, Link, Span, sum_capped};
 use std::alloc::AllocError;
 
@@ -68,14 +68,22 @@ impl RowWriter for SpanWriter {
 #[derive(Clone, Copy, Debug)]
 pub(crate) struct EventWriter;
 
-impl PartWriter for EventWriter {
+impl PartsOf for EventWriter {
     type Parent = Span;
 
     type Part = Event;
 
-    ghost kind = { table.SpanEvents };
-
     ghost parts = { λ span. span.events };
+
+    fn parts<'a>(&self, span: &'a Span) -> &'a [Event] {
+        span.events.as_slice()
+    }
+}
+
+impl PartWriter for EventWriter {
+    type Part = Event;
+
+    ghost kind = { λ s. table.SpanEvents };
 
     ghost cells_of = { event_cells };
 
@@ -83,10 +91,6 @@ impl PartWriter for EventWriter {
 
     fn kind(&self) -> Kind {
         Kind::SpanEvents
-    }
-
-    fn parts<'a>(&self, span: &'a Span) -> &'a [Event] {
-        span.events.as_slice()
     }
 
     fn goes_on(&self, before: &Event, event: &Event) -> bool {
@@ -114,14 +118,22 @@ impl PartWriter for EventWriter {
 #[derive(Clone, Copy, Debug)]
 pub(crate) struct LinkWriter;
 
-impl PartWriter for LinkWriter {
+impl PartsOf for LinkWriter {
     type Parent = Span;
 
     type Part = Link;
 
-    ghost kind = { table.SpanLinks };
-
     ghost parts = { λ span. span.links };
+
+    fn parts<'a>(&self, span: &'a Span) -> &'a [Link] {
+        span.links.as_slice()
+    }
+}
+
+impl PartWriter for LinkWriter {
+    type Part = Link;
+
+    ghost kind = { λ s. table.SpanLinks };
 
     ghost cells_of = { link_cells };
 
@@ -129,10 +141,6 @@ impl PartWriter for LinkWriter {
 
     fn kind(&self) -> Kind {
         Kind::SpanLinks
-    }
-
-    fn parts<'a>(&self, span: &'a Span) -> &'a [Link] {
-        span.links.as_slice()
     }
 
     fn goes_on(&self, before: &Link, link: &Link) -> bool {

@@ -55,7 +55,7 @@ returns-clause-ok c =
     c.in_ok-push_row.ensures.ok c.in_ok-set.ensures.ok c.parent_cell.ensures.value c.in_ok-fill.ensures.ok c.bytes_cell.ensures c.in_ok-fill-2.ensures.ok c.number_cell.ensures.value
     c.in_ok-fill-3.ensures.ok c.value_column.ensures c.value_cell.ensures
 
--- ---- after want of memory
+-- ---- out of memory
 
 pub returns-in_err-fill-clause-err : goal.returns-in_err-fill-clause-err
 returns-in_err-fill-clause-err c =

@@ -13,5 +13,5 @@ returns-clause-parts g c = grind (arith, common_steps)
 pub returns-clause-rising : goal.returns-clause-rising
 unfolding placed
 returns-clause-rising g c =
-    let is : map seen_placed c.parents.found.items ≡ placed (map (λ p. g.W.PartWriter.parts p.part.now) c.args.parents.now) = grind (arith, common_steps) in
-    subst (λ ps. RisingParts 0 ps) (sym is) (rising_placed (map (λ p. g.W.PartWriter.parts p.part.now) c.args.parents.now))
+    let is : map seen_placed c.parents.found.items ≡ placed (map (λ p. g.P.PartsOf.parts p.part.now) c.args.parents.now) = grind (arith, common_steps) in
+    subst (λ ps. RisingParts 0 ps) (sym is) (rising_placed (map (λ p. g.P.PartsOf.parts p.part.now) c.args.parents.now))

@@ -5,5 +5,5 @@ use Rattle.otap_groups.proofs.parts.parts_of.Given as goal
 
 abbrev pub invariant-parents : goal.invariant-parents
 invariant-parents g l =
-    map seen_placed l.found.items ++ placed_from l.place (map (λ p. g.W.PartWriter.parts p.part.now) (drop l.place l.parents))
-    ≡ placed_from 0 (map (λ p. g.W.PartWriter.parts p.part.now) l.parents)
+    map seen_placed l.found.items ++ placed_from l.place (map (λ p. g.P.PartsOf.parts p.part.now) (drop l.place l.parents))
+    ≡ placed_from 0 (map (λ p. g.P.PartsOf.parts p.part.now) l.parents)

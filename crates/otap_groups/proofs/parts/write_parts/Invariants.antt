@@ -9,9 +9,9 @@ use Rattle.otap_groups.proofs.parts.write_parts.Given as goal
 
 abbrev pub invariant-parts : goal.invariant-parts
 invariant-parts g l = record {
-  table : l.table ≡ profile_table g.W.PartWriter.kind l.table.rows;
-  rows : l.table.rows ++ stored_parts (coding_at g.W.PartWriter.kind 1) (again_of g.W.PartWriter.kind) g.W.PartWriter.cells_of l.step l.parent
+  table : l.table ≡ profile_table (g.W.PartWriter.kind l.writer) l.table.rows;
+  rows : l.table.rows ++ stored_parts (coding_at (g.W.PartWriter.kind l.writer) 1) (again_of (g.W.PartWriter.kind l.writer)) g.W.PartWriter.cells_of l.step l.parent
       (option_map (λ p. g.W.PartWriter.cells_of p.now) l.before) (map seen_placed (drop l.placed-index l.parts))
-      ≡ stored_parts (coding_at g.W.PartWriter.kind 1) (again_of g.W.PartWriter.kind) g.W.PartWriter.cells_of 0 0 None (map seen_placed l.parts);
+      ≡ stored_parts (coding_at (g.W.PartWriter.kind l.writer) 1) (again_of (g.W.PartWriter.kind l.writer)) g.W.PartWriter.cells_of 0 0 None (map seen_placed l.parts);
   rising : RisingParts l.parent (map seen_placed (drop l.placed-index l.parts));
 }

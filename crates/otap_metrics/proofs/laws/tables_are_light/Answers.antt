@@ -1,4 +1,4 @@
-use Rattle.otap_metrics.proofs.MetricsTold.{light_tables}
+use Rattle.otap_metrics.proofs.MetricsAgain.{light_tables}
 use Rattle.otap_metrics.proofs.laws.tables_are_light.Goals as goal
 
 pub returns : goal.returns

@@ -1,4 +1,4 @@
-use Rattle.otap_metrics.proofs.MetricsTold.{same_again}
+use Rattle.otap_metrics.proofs.MetricsAgain.{same_again}
 use Rattle.otap_metrics.proofs.laws.tables_tell_the_same.Goals as goal
 
 pub returns : goal.returns

@@ -1,4 +1,5 @@
-use Rattle.otap_metrics.proofs.WrittenWeight.{all_can, weighed}
+use Rattle.otap_metrics.proofs.LightHists.{all_can}
+use Rattle.otap_metrics.proofs.WrittenWeight.{weighed}
 use Rattle.otap_metrics.proofs.weights.table_weight.Goals as goal
 
 pub rows_weight-requires : goal.rows_weight-requires

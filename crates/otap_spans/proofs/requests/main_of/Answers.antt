@@ -12,7 +12,6 @@ use Rattle.otap_checks.proofs.Regrouped.{request_is}
 use Rattle.otap_checks.proofs.RulesFit.{known_at}
 use Rattle.otap_spans.specs.Records.{span_of}
 use Rattle.otap_spans.specs.Requests.{regrouped_spans, span_in}
-use Rattle.otap_spans.proofs.SpanPlaces.{found_weigh}
 use Rattle.otap_spans.proofs.requests.main_of.Goals as goal
 
 pub front_of-front-requires-clause-main : goal.front_of-front-requires-clause-main
@@ -36,28 +35,12 @@ pub find_pairs-requires-3-clause-known : goal.find_pairs-requires-3-clause-known
 unfolding links_of
 find_pairs-requires-3-clause-known g c = known_at signal.Traces c.args.set.now c.args.known.now.columns.items c.requires.known 3 table.SpanAttrs (omega arith) refl
 
-pub find_pairs-requires-4-clause-known : goal.find_pairs-requires-4-clause-known
-unfolding links_of
-find_pairs-requires-4-clause-known g c = known_at signal.Traces c.args.set.now c.args.known.now.columns.items c.requires.known 6 table.EventAttrs (omega arith) refl
-
-pub find_pairs-requires-5-clause-known : goal.find_pairs-requires-5-clause-known
-unfolding links_of
-find_pairs-requires-5-clause-known g c = known_at signal.Traces c.args.set.now c.args.known.now.columns.items c.requires.known 7 table.LinkAttrs (omega arith) refl
-
-pub index_events-requires-clause-known : goal.index_events-requires-clause-known
-unfolding links_of
-index_events-requires-clause-known g c = known_at signal.Traces c.args.set.now c.args.known.now.columns.items c.requires.known 4 table.SpanEvents (omega arith) refl
-
-pub index_links-requires-clause-known : goal.index_links-requires-clause-known
-unfolding links_of
-index_links-requires-clause-known g c = known_at signal.Traces c.args.set.now c.args.known.now.columns.items c.requires.known 5 table.SpanLinks (omega arith) refl
-
 pub invariant_of-result : goal.invariant_of-result
 invariant_of-result g c = record {
   of_spans = c.requires.kind;
   pairs_weighed = λ pair. refl;
-  events_weighed = λ id. found_weigh _ _ _ c.in_ok-events.events (λ l part. refl) id;
-  links_weighed = λ id. found_weigh _ _ _ c.in_ok-links.links (λ l part. refl) id;
+  events_weighed = λ event. refl;
+  links_weighed = λ link. refl;
 }
 
 pub invariant_of-result-2-clause-agree : goal.invariant_of-result-2-clause-agree

@@ -7,8 +7,8 @@ use Rattle.otap_groups.proofs.children.ChildrenLookup.weight_of.Given as goal
 abbrev pub invariant-entries : goal.invariant-entries
 invariant-entries g l = record {
   capped : l.weight ≤ 2 ^ 63;
-  weight : min (l.weight + total 32 (g.C.RowReader.weigh l.self.reader)
+  weight : min (l.weight + total 32 g.C.RowReader.weigh
       (map (λ (e : ChildEntry). child_at (g.C.RowReader.item l.self.reader) l.self.ids.now (g.C.RowReader.cells l.self.reader) e.place) (drop l.entry-index l.entries))) (2 ^ 63)
-      ≡ min (total 32 (g.C.RowReader.weigh l.self.reader)
+      ≡ min (total 32 g.C.RowReader.weigh
       (map (λ (e : ChildEntry). child_at (g.C.RowReader.item l.self.reader) l.self.ids.now (g.C.RowReader.cells l.self.reader) e.place) l.entries)) (2 ^ 63);
 }

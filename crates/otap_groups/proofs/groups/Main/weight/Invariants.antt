@@ -11,10 +11,10 @@ abbrev pub invariant-groups : goal.invariant-groups
 invariant-groups g l = record {
   within : l.at ≤ l.to;
   capped : l.weight ≤ 2 ^ 63;
-  so_far : min (l.weight + total 32 (weigh_resource_group (g.P.Lookup.weigh l.self.resources) (g.P.Lookup.weigh l.self.scopes) (g.S.RowReader.weigh l.self.items)) (map
+  so_far : min (l.weight + total 32 (weigh_resource_group g.P.Lookup.weigh g.P.Lookup.weigh g.S.RowReader.weigh) (map
       (resource_group (g.P.Lookup.finds l.self.resources) (g.P.Lookup.finds l.self.scopes) (g.S.RowReader.item l.self.items)) (runs same_resource (part
       (main_row_at l.self.front.ids.now l.self.front.resource_ids.now l.self.front.scope_ids.now (g.R.Rows.table l.self.front.rows.now).rows) l.at (l.to - l.at))))) (2 ^ 63)
-      ≡ min (total 32 (weigh_resource_group (g.P.Lookup.weigh l.self.resources) (g.P.Lookup.weigh l.self.scopes) (g.S.RowReader.weigh l.self.items)) (map
+      ≡ min (total 32 (weigh_resource_group g.P.Lookup.weigh g.P.Lookup.weigh g.S.RowReader.weigh) (map
       (resource_group (g.P.Lookup.finds l.self.resources) (g.P.Lookup.finds l.self.scopes) (g.S.RowReader.item l.self.items)) (runs same_resource (part
       (main_row_at l.self.front.ids.now l.self.front.resource_ids.now l.self.front.scope_ids.now (g.R.Rows.table l.self.front.rows.now).rows) 0 l.to)))) (2 ^ 63);
 }

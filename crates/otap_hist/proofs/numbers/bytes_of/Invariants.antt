@@ -1,6 +1,0 @@
-use Rattle.std.proofs.Common.{◌≡◌, ◌++◌, drop}
-use Rattle.otap_hist.specs.Lists.{bytes_of}
-use Rattle.otap_hist.proofs.numbers.bytes_of.Given as goal
-
-abbrev pub invariant-numbers : goal.invariant-numbers
-invariant-numbers l = l.bytes.items ++ bytes_of (drop l.number-index l.numbers) ≡ bytes_of l.numbers

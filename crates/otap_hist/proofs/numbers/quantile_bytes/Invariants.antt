@@ -1,7 +1,0 @@
-use Rattle.std.proofs.Common.{◌≡◌, ◌++◌, drop, map}
-use Rattle.otlp_model.specs.declared.histograms.Quantile.{Quantile}
-use Rattle.otap_hist.specs.Lists.{bytes_of}
-use Rattle.otap_hist.proofs.numbers.quantile_bytes.Given as goal
-
-abbrev pub invariant-quantiles : goal.invariant-quantiles
-invariant-quantiles l = l.bytes.items ++ bytes_of (map (λ (q : Quantile). q.quantile) (drop l.quantile-index l.quantiles)) ≡ bytes_of (map (λ (q : Quantile). q.quantile) l.quantiles)

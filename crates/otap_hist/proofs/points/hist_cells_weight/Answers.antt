@@ -1,5 +1,0 @@
-use Rattle.otap_hist.proofs.HistRows.{hist_sum}
-use Rattle.otap_hist.proofs.points.hist_cells_weight.Goals as goal
-
-pub returns : goal.returns
-returns c = hist_sum c.args.point.now _ _ _ _ _ c.len.ensures c.len-2.ensures c.list_weight.ensures c.list_weight-2.ensures c.add_capped.ensures

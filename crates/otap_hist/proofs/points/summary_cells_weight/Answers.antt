@@ -1,5 +1,0 @@
-use Rattle.otap_hist.proofs.HistRows.{summary_sum}
-use Rattle.otap_hist.proofs.points.summary_cells_weight.Goals as goal
-
-pub returns : goal.returns
-returns c = summary_sum c.args.point.now _ _ _ c.len.ensures c.list_weight-list.ensures c.add_capped.ensures

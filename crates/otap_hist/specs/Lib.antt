@@ -1,6 +1,0 @@
-pub mod Inside
-pub mod Lists
-pub mod Points
-pub mod Requests
-pub mod Tables
-pub mod Writable

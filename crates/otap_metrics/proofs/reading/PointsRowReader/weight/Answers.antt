@@ -1,8 +1,0 @@
-use Rattle.otap_metrics.proofs.MetricPlaces.{point_weighs}
-use Rattle.otap_metrics.proofs.reading.PointsRowReader.weight.Goals as goal
-
-pub returns : goal.returns
-returns g c =
-    point_weighs _ (g.P.Lookup.finds c.args.self.now.pairs c.args.id) (g.X.Lookup.finds c.args.self.now.exemplars c.args.id) _ _ _
-    (g.P.Lookup.weigh c.args.self.now.pairs) (g.X.Lookup.weigh c.args.self.now.exemplars)
-    c.args.self.now.pairs_weighed c.weight_of.ensures c.args.self.now.exemplars_weighed c.weight_of-2.ensures c.sum_capped.ensures

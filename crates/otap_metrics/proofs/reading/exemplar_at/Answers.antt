@@ -1,7 +1,0 @@
-use Rattle.otap_metrics.proofs.MetricPlaces.{exemplar_read}
-use Rattle.otap_metrics.proofs.reading.exemplar_at.Goals as goal
-
-pub returns : goal.returns
-returns g c =
-    exemplar_read _ (g.R.Rows.table c.args.rows.now).rows c.args.row _
-    c.requires.row c.bits_in.ensures c.measured_at-value.ensures c.in_ok-octets_in.ensures c.in_ok-octets_in-2.ensures c.in_ok-of.ensures

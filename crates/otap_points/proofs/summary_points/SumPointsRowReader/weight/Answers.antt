@@ -1,0 +1,9 @@
+use Rattle.std.proofs.Common.{refl}
+use Rattle.otap_points.proofs.PointPlaces.{summary_weighs}
+use Rattle.otap_points.proofs.summary_points.SumPointsRowReader.weight.Goals as goal
+
+pub returns : goal.returns
+returns g c =
+    summary_weighs (g.R.Rows.table c.args.self.now.rows.now).rows c.args.row (g.P.Lookup.finds c.args.self.now.pairs c.args.id)
+    c.bytes_in.result.now c.bytes_in-2.result.now _ _ _ _ _ g.P.Lookup.weigh c.requires
+    c.bytes_in.ensures refl c.bytes_in-2.ensures refl c.quantiles_weight.ensures c.args.self.now.weighed c.weight_of.ensures c.sum_capped.ensures

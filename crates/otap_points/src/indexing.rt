@@ -1,0 +1,156 @@
+//! Points and exemplars, found by what they are below.
+ghost use Rattle.std.specs.Prelude.{◌≡◌, ℕ, Option, true, IfOk};
+ghost use Rattle.otlp_model.specs.Weight.{weight_of_exemplar};
+ghost use Rattle.otlp_model.specs.declared.metrics.Exemplar.{Exemplar};
+ghost use Rattle.otlp_model.specs.declared.request.Signal.TheVariants as signal;
+ghost use Rattle.otap_cells.specs.Columns.{columns_of, exemplars};
+ghost use Rattle.otap_cells.specs.Continuing.{has_attributes};
+ghost use Rattle.otap_cells.specs.Named.{table_named};
+ghost use Rattle.otap_groups.specs.Kinds.{IsPart};
+ghost use Rattle.otap_checks.specs.Known.{Knows, KnowsAll};
+ghost use Rattle.otap_points.specs.Found.{exemplars_in, hist_exemplars_in, hist_points_in, point_exemplars_in, points_in, summary_points_in};
+
+use crate::exemplars::Exemplars;
+use crate::hist_points::HistPoints;
+use crate::number_points::Points;
+use crate::summary_points::SumPoints;
+use otap_cells::{Kind, Rows, TableSet};
+use otap_checks::{KnownIds, PairRows, find_pairs, index_rows};
+use otap_groups::{Children, Lookup};
+use otlp_model::Exemplar;
+use std::alloc::{AllocError, Global};
+
+/// The exemplars of points, with their pairs; `None` without a table.
+pub type ExemplarRows<'a, R> = Option<Children<'a, Exemplars<'a, R, PairRows<'a, R>>>>;
+
+/// The points of gauges and sums, with their pairs, and with exemplars that are found in a given way; `None` without a table.
+pub type PointRows<'a, R, X> = Option<Children<'a, Points<'a, R, PairRows<'a, R>, X>>>;
+
+/// The points of histograms, in the same way.
+pub type HistPointRows<'a, R, X> = Option<Children<'a, HistPoints<'a, R, PairRows<'a, R>, X>>>;
+
+/// The points of summaries, with their pairs; `None` without a table.
+pub type SumPointRows<'a, R> = Option<Children<'a, SumPoints<'a, R, PairRows<'a, R>>>>;
+
+/// Finds the exemplars of the points of gauges and sums by their parents. Takes n log n for n rows, and time in proportion to them
+/// where ids and parents rise or count from 0.
+pub fn find_point_exemplars<'a, R: Rows>(
+    alloc: Global,
+    set: &'a TableSet<R>,
+    known: &'a KnownIds,
+) -> Result<ExemplarRows<'a, R>, AllocError>
+    requires { KnowsAll signal.Metrics set.now known.now.columns.items }
+    ensures { IfOk result (λ made. (parent : Option ℕ) → ⟦<ExemplarRows<'a, R> as Lookup>⟧.finds made parent ≡ point_exemplars_in set.now parent) }
+{
+    let kind = Kind::NumberExemplars;
+    let made = find_exemplars(alloc, set, kind, Kind::NumberExemplarAttrs, known)?;
+    Ok(made)
+}
+
+/// Finds the exemplars of the points of histograms, in the same way.
+pub fn find_hist_exemplars<'a, R: Rows>(
+    alloc: Global,
+    set: &'a TableSet<R>,
+    known: &'a KnownIds,
+) -> Result<ExemplarRows<'a, R>, AllocError>
+    requires { KnowsAll signal.Metrics set.now known.now.columns.items }
+    ensures { IfOk result (λ made. (parent : Option ℕ) → ⟦<ExemplarRows<'a, R> as Lookup>⟧.finds made parent ≡ hist_exemplars_in set.now parent) }
+{
+    let kind = Kind::HistExemplars;
+    let made = find_exemplars(alloc, set, kind, Kind::HistExemplarAttrs, known)?;
+    Ok(made)
+}
+
+/// Finds the points of gauges and sums by their parents, in the same way.
+pub fn find_points<'a, R: Rows, X: Lookup<Child = Exemplar>>(
+    alloc: Global,
+    set: &'a TableSet<R>,
+    known: &'a KnownIds,
+    exemplars: X,
+) -> Result<PointRows<'a, R, X>, AllocError>
+    requires known { KnowsAll signal.Metrics set.now known.now.columns.items }
+    requires exemplars { (parent : Option ℕ) → X.finds exemplars parent ≡ point_exemplars_in set.now parent }
+    requires weighed { (exemplar : Exemplar) → X.weigh exemplar ≡ weight_of_exemplar exemplar }
+    ensures { IfOk result (λ made. (parent : Option ℕ) → ⟦<PointRows<'a, R, X> as Lookup>⟧.finds made parent ≡ points_in set.now parent) }
+{
+    let kind = Kind::NumberPoints;
+    let Some(rows) = set.get(kind) else {
+        return Ok(None);
+    };
+    let pairs = find_pairs(alloc, set, Kind::NumberPointAttrs, known)?;
+    let points = Points {
+        rows,
+        pairs,
+        exemplars,
+    };
+    let made = index_rows(alloc, set, kind, known, points)?;
+    Ok(Some(made))
+}
+
+/// Finds the points of histograms, in the same way.
+pub fn find_hist_points<'a, R: Rows, X: Lookup<Child = Exemplar>>(
+    alloc: Global,
+    set: &'a TableSet<R>,
+    known: &'a KnownIds,
+    exemplars: X,
+) -> Result<HistPointRows<'a, R, X>, AllocError>
+    requires known { KnowsAll signal.Metrics set.now known.now.columns.items }
+    requires exemplars { (parent : Option ℕ) → X.finds exemplars parent ≡ hist_exemplars_in set.now parent }
+    requires weighed { (exemplar : Exemplar) → X.weigh exemplar ≡ weight_of_exemplar exemplar }
+    ensures { IfOk result (λ made. (parent : Option ℕ) → ⟦<HistPointRows<'a, R, X> as Lookup>⟧.finds made parent ≡ hist_points_in set.now parent) }
+{
+    let kind = Kind::HistPoints;
+    let Some(rows) = set.get(kind) else {
+        return Ok(None);
+    };
+    let pairs = find_pairs(alloc, set, Kind::HistPointAttrs, known)?;
+    let points = HistPoints {
+        rows,
+        pairs,
+        exemplars,
+    };
+    let made = index_rows(alloc, set, kind, known, points)?;
+    Ok(Some(made))
+}
+
+/// Finds the points of summaries by their parents, in the same way.
+pub fn find_summary_points<'a, R: Rows>(
+    alloc: Global,
+    set: &'a TableSet<R>,
+    known: &'a KnownIds,
+) -> Result<SumPointRows<'a, R>, AllocError>
+    requires { KnowsAll signal.Metrics set.now known.now.columns.items }
+    ensures { IfOk result (λ made. (parent : Option ℕ) → ⟦<SumPointRows<'a, R> as Lookup>⟧.finds made parent ≡ summary_points_in set.now parent) }
+{
+    let kind = Kind::SummaryPoints;
+    let Some(rows) = set.get(kind) else {
+        return Ok(None);
+    };
+    let pairs = find_pairs(alloc, set, Kind::SummaryPointAttrs, known)?;
+    let made = index_rows(alloc, set, kind, known, SumPoints { rows, pairs })?;
+    Ok(Some(made))
+}
+
+/// Finds the exemplars of points by their parents, in a table of exemplars, with the attributes in another.
+fn find_exemplars<'a, R: Rows>(
+    alloc: Global,
+    set: &'a TableSet<R>,
+    kind: Kind,
+    attributes: Kind,
+    known: &'a KnownIds,
+) -> Result<ExemplarRows<'a, R>, AllocError>
+    requires part { IsPart kind }
+    requires columns { columns_of kind ≡ exemplars }
+    requires known { Knows (table_named kind set.now) kind known.now.columns.items }
+    requires attributes { has_attributes attributes ≡ true }
+    requires pairs { Knows (table_named attributes set.now) attributes known.now.columns.items }
+    ensures { IfOk result (λ made. (parent : Option ℕ) → ⟦<ExemplarRows<'a, R> as Lookup>⟧.finds made parent
+        ≡ exemplars_in (table_named kind set.now) (table_named attributes set.now) parent) }
+{
+    let Some(rows) = set.get(kind) else {
+        return Ok(None);
+    };
+    let pairs = find_pairs(alloc, set, attributes, known)?;
+    let made = index_rows(alloc, set, kind, known, Exemplars { rows, pairs })?;
+    Ok(Some(made))
+}
